@@ -30,7 +30,7 @@ names_of_both a b x y e f = let h = names_both a b in cc
 
 names_of_declarators : (live : List (List ℕ)) (ds : List DeclaratorTree) → called_names (declarator_labels live ds) ≡ declarators_calls ds
 names_of_declarators live [] = refl
-names_of_declarators live (d ∷ ds) = ap (λ x. option_to_list (called_of d.source) ++ x) (names_of_declarators (live ++ d.name.word ∷ []) ds)
+names_of_declarators live (d ∷ ds) = ap (λ x. option_to_list (called_of d.rvalue) ++ x) (names_of_declarators (live ++ d.name.word ∷ []) ds)
 
 names_of_init : (live : List (List ℕ)) (i : InitTree) → called_names (init_labels live i) ≡ init_calls i
 names_of_init live no_init = refl

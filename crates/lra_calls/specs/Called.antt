@@ -9,7 +9,7 @@ use Rattle.lra_calls.specs.declared.called.Caller.{Caller as CodeCaller}
 
 abbrev pub declarators_calls : List DeclaratorTree → List Identifier
 declarators_calls [] = []
-declarators_calls (d ∷ ds) = option_to_list (called_of d.source) ++ declarators_calls ds
+declarators_calls (d ∷ ds) = option_to_list (called_of d.rvalue) ++ declarators_calls ds
 
 abbrev pub init_calls : InitTree → List Identifier
 init_calls no_init = []

@@ -34,11 +34,11 @@ fn add_name(alloc: Global, name: &Identifier, calls: &mut Vec<Identifier>) -> Re
     Ok(())
 }
 
-fn add_source(alloc: Global, source: &Rvalue, calls: &mut Vec<Identifier>) -> Result<(), AllocError>
+fn add_rvalue(alloc: Global, rvalue: &Rvalue, calls: &mut Vec<Identifier>) -> Result<(), AllocError>
     ensures { IfOk result (λ _. calls.new.items ≡ calls.old.items ++
-        option_to_list (called_in (rvalue_view source.now))) }
+        option_to_list (called_in (rvalue_view rvalue.now))) }
 {
-    match source {
+    match rvalue {
         Rvalue::Value(_) => Ok(()),
         Rvalue::Result(call) => add_name(alloc, &call.name, calls),
     }
@@ -46,15 +46,15 @@ fn add_source(alloc: Global, source: &Rvalue, calls: &mut Vec<Identifier>) -> Re
 
 fn add_given(
     alloc: Global,
-    source: &Option<Rvalue>,
+    rvalue: &Option<Rvalue>,
     calls: &mut Vec<Identifier>,
 ) -> Result<(), AllocError>
     ensures { IfOk result (λ _. calls.new.items ≡ calls.old.items ++
-        option_to_list (called_of (option_map rvalue_view source.now))) }
+        option_to_list (called_of (option_map rvalue_view rvalue.now))) }
 {
-    match source {
+    match rvalue {
         None => Ok(()),
-        Some(source) => add_source(alloc, source, calls),
+        Some(rvalue) => add_rvalue(alloc, rvalue, calls),
     }
 }
 
@@ -63,7 +63,7 @@ fn add_assign(alloc: Global, assign: &Assign, calls: &mut Vec<Identifier>) -> Re
         option_to_list (called_by (assign_view assign.now))) }
 {
     match assign {
-        Assign::Set(_, source) => add_source(alloc, source, calls),
+        Assign::Set(_, rvalue) => add_rvalue(alloc, rvalue, calls),
         Assign::Update(_, _, _) => Ok(()),
         Assign::After(_, _) => Ok(()),
         Assign::Before(_, _, _) => Ok(()),
@@ -78,9 +78,9 @@ fn add_declaration(
     ensures { IfOk result (λ _. calls.new.items ≡ calls.old.items ++
         declarators_calls (declarator_view declaration.now.first ∷ map declarator_view declaration.now.rest.items)) }
 {
-    add_given(alloc, &declaration.first.source, calls)?;
+    add_given(alloc, &declaration.first.rvalue, calls)?;
     'declarators: for declarator in &declaration.rest {
-        add_given(alloc, &declarator.source, calls)?;
+        add_given(alloc, &declarator.rvalue, calls)?;
     }
     Ok(())
 }
@@ -143,7 +143,7 @@ fn add_stmt(alloc: Global, stmt: &Stmt, calls: &mut Vec<Identifier>) -> Result<(
         }
         Stmt::Break(_) => Ok(()),
         Stmt::Continue(_) => Ok(()),
-        Stmt::Return(_, source) => add_given(alloc, source, calls),
+        Stmt::Return(_, rvalue) => add_given(alloc, rvalue, calls),
         Stmt::Assert(_, _) => Ok(()),
         Stmt::Assume(_, _) => Ok(()),
     }

@@ -9,13 +9,13 @@ use Rattle.lra_program.specs.Program.{Cond, BlockItems, no_more, Function, Progr
 use Rattle.lra_program.specs.Sites.{live_behind}
 use Rattle.lra_meaning.specs.Scope.{Scope, with_local, with_declarators, inner, for_scope}
 use Rattle.lra_tree.specs.Functions.{function_named}
-use Rattle.lra_meaning.specs.NameFaults.{use_faults, unary_faults, term_faults, expr_faults, negation_faults, test_faults, conjunction_faults, cond_faults, called_faults, call_faults, source_faults}
+use Rattle.lra_meaning.specs.NameFaults.{use_faults, unary_faults, term_faults, expr_faults, negation_faults, test_faults, conjunction_faults, cond_faults, called_faults, call_faults, rvalue_faults}
 use Rattle.lra_meaning.specs.NameFaults.{assign_faults, given_faults, declarators_faults, init_faults, test_of_for_faults, step_faults, Around, return_faults, stmt_faults, items_faults}
-use Rattle.lra_meaning.specs.Resolve.{function_place, resolve_unary, resolve_term, resolve_expr, resolve_negation, resolve_test, all_of, any_of, resolve_cond, resolve_call, resolve_source}
+use Rattle.lra_meaning.specs.Resolve.{function_place, resolve_unary, resolve_term, resolve_expr, resolve_negation, resolve_test, all_of, any_of, resolve_cond, resolve_call, resolve_rvalue}
 use Rattle.lra_meaning.specs.Resolve.{resolve_given, resolve_assign, resolve_declarators, resolve_init, resolve_for_test, resolve_step, init_count, step_count, stmt_count, declarator_count}
 use Rattle.lra_meaning.specs.Resolve.{resolve_stmt, resolve_items}
-use Rattle.lra_program.specs.WellFormed.{IsGoodExpr, IsGoodCond, IsGoodCall, IsGoodSource, IsGoodGiven, IsGoodStmt, AreGoodItems}
-use Rattle.lra_formed.specs.Literals.{IsSmallUnary, IsSmallTerm, IsSmallExpr, IsSmallNegation, IsSmallTest, IsSmallConjunction, IsSmallCond, IsSmallCall, IsSmallSource, IsSmallGiven, IsSmallAssign}
+use Rattle.lra_program.specs.WellFormed.{IsGoodExpr, IsGoodCond, IsGoodCall, IsGoodRvalue, IsGoodGiven, IsGoodStmt, AreGoodItems}
+use Rattle.lra_formed.specs.Literals.{IsSmallUnary, IsSmallTerm, IsSmallExpr, IsSmallNegation, IsSmallTest, IsSmallConjunction, IsSmallCond, IsSmallCall, IsSmallRvalue, IsSmallGiven, IsSmallAssign}
 use Rattle.lra_formed.specs.Literals.{IsSmallDeclarator, IsSmallInit, IsSmallForTest, IsSmallStep, IsSmallStmt, AreSmallItems}
 use Rattle.lra_formed.proofs.Faultless.{none_left, none_right, none_if, is_not, Sees, sees_local, sees_inner, variable_lives, called_is}
 
@@ -104,17 +104,17 @@ module _ (P : Program) where
           arguments = good_arguments live s sees c.arguments small (none_right front back e);
         }
 
-    good_source : (at live : ℕ) (s : Scope) (x : tree.RvalueTree) → Sees P live s → IsSmallSource x → source_faults F s x ≡ [] → IsGoodSource P at live (resolve_source F s at x)
-    good_source at live s (tree.expression x) sees small e = good_expr live s sees x small e
-    good_source at live s (tree.result c) sees small e = good_call at live s c true sees small e
+    good_rvalue : (at live : ℕ) (s : Scope) (x : tree.RvalueTree) → Sees P live s → IsSmallRvalue x → rvalue_faults F s x ≡ [] → IsGoodRvalue P at live (resolve_rvalue F s at x)
+    good_rvalue at live s (tree.expression x) sees small e = good_expr live s sees x small e
+    good_rvalue at live s (tree.result c) sees small e = good_call at live s c true sees small e
 
     good_given : (at live : ℕ) (s : Scope) (x : Option tree.RvalueTree) → Sees P live s → IsSmallGiven x → given_faults F s x ≡ [] → IsGoodGiven P at live (resolve_given F s at x)
     good_given at live s None sees small e = tt
-    good_given at live s (Some x) sees small e = good_source at live s x sees small e
+    good_given at live s (Some x) sees small e = good_rvalue at live s x sees small e
 
     good_assign : (b : Bool) (at live : ℕ) (s : Scope) (a : tree.AssignTree) → Sees P live s → IsSmallAssign a → assign_faults F s a ≡ [] → IsGoodStmt P b live (resolve_assign F s at a)
     good_assign b at live s (tree.set x e) sees small none =
-        (variable_lives P live s x sees (none_left (use_faults s x) (source_faults F s e) none), good_source at live s e sees small (none_right (use_faults s x) (source_faults F s e) none))
+        (variable_lives P live s x sees (none_left (use_faults s x) (rvalue_faults F s e) none), good_rvalue at live s e sees small (none_right (use_faults s x) (rvalue_faults F s e) none))
     good_assign b at live s (tree.update x op e) sees small none =
         let lives = variable_lives P live s x sees (none_left (use_faults s x) (expr_faults s e) none) in
         (lives, (lives, good_expr live s sees e small (none_right (use_faults s x) (expr_faults s e) none)))
@@ -129,7 +129,7 @@ module _ (P : Program) where
         let t = with_local s d.name.word in
         let after = sees_local P live s d.name.word sees in
         let front = none_left _ (declarators_faults F t ds) e in (
-          good_given n (suc live) t d.source after small.0 (none_right _ (given_faults F t d.source) front),
+          good_given n (suc live) t d.rvalue after small.0 (none_right _ (given_faults F t d.rvalue) front),
           good_declarators b (suc n) (suc live) t ds rest after small.1 (none_right _ (declarators_faults F t ds) e) good,
         )
 
@@ -162,7 +162,7 @@ module _ (P : Program) where
     good_return : (r b : Bool) (n live : ℕ) (s : Scope) (at : Place) (x : Option tree.RvalueTree) → Sees P live s → IsSmallGiven x → return_faults (around r b) s at x ≡ [] →
         IsGoodGiven P n live (resolve_given F s n x)
     good_return r b n live s at None sees small e = tt
-    good_return r b n live s at (Some x) sees small e = good_source n live s x sees small (none_right _ (source_faults F s x) e)
+    good_return r b n live s at (Some x) sees small e = good_rvalue n live s x sees small (none_right _ (rvalue_faults F s x) e)
 
     mutual
       good_stmt : (r b : Bool) (n live : ℕ) (s : Scope) (t : tree.StmtTree) → Sees P live s → IsSmallStmt t → stmt_faults (around r b) s t ≡ [] → IsGoodStmt P b live (resolve_stmt F s n t)

@@ -13,9 +13,9 @@ use Rattle.lra_tree.specs.Functions.{functions_in, functions_of, is_main}
 use Rattle.lra_meaning.specs.NameFaults.{global_names}
 use Rattle.lra_tree.specs.Labels.{Labelled, plain_label, label_with, called_of, assign_label, with_names, declarator_labels, init_labels, step_labels, stmt_labels, items_labels, live_in_for}
 use Rattle.lra_tree.specs.Labels.{function_labels, labels_of, label_at}
-use Rattle.lra_meaning.specs.Resolve.{resolve_call, resolve_source, resolve_given, resolve_assign, resolve_declarators, resolve_init, resolve_step, init_count, step_count, stmt_count, items_count}
+use Rattle.lra_meaning.specs.Resolve.{resolve_call, resolve_rvalue, resolve_given, resolve_assign, resolve_declarators, resolve_init, resolve_step, init_count, step_count, stmt_count, items_count}
 use Rattle.lra_meaning.specs.Resolve.{declarator_count, resolve_stmt, resolve_items, resolve_function, global_value, globals_in, resolve_parts, main_of, resolve}
-use Rattle.lra_program.specs.Sites.{Site, Event, comes, one_call_more, greatest_calls, plain_site, live_behind, source_events, given_events, stmt_events, items_events, function_events, call_events}
+use Rattle.lra_program.specs.Sites.{Site, Event, comes, one_call_more, greatest_calls, plain_site, live_behind, rvalue_events, given_events, stmt_events, items_events, function_events, call_events}
 use Rattle.lra_program.specs.Sites.{sites_in, sites_of}
 use Rattle.lra_findings.specs.ReportText.{shown_names}
 use Rattle.lra_meaning.specs.LiveNames.{globals_named, live_in_call_at, live_at, names_outside, live_names}
@@ -109,19 +109,19 @@ module _ (outside : List (List ℕ)) (ls : List Labelled) where
         EachPoint HasAsMany (inside path live (resolve_call F s n c))
     call_in n live s c l h at = calls live (resolve_call F s n c) (ap (λ (o : Option Labelled). width_of path + length (live_in_call_at o)) at ∙ h)
 
-    source_has : (n live : ℕ) (s : Scope) (x : tree.RvalueTree) (l : Labelled) → width_of path + length l.live_in_call ≡ live → label_at ls n ≡ Some l
-        → EachPoint HasAsMany (source_events inside path live (resolve_source F s n x))
-    source_has n live s (tree.expression e) l h at = tt
-    source_has n live s (tree.result c) l h at = call_in n live s c l h at
+    rvalue_has : (n live : ℕ) (s : Scope) (x : tree.RvalueTree) (l : Labelled) → width_of path + length l.live_in_call ≡ live → label_at ls n ≡ Some l
+        → EachPoint HasAsMany (rvalue_events inside path live (resolve_rvalue F s n x))
+    rvalue_has n live s (tree.expression e) l h at = tt
+    rvalue_has n live s (tree.result c) l h at = call_in n live s c l h at
 
     given_has : (n live : ℕ) (s : Scope) (x : Option tree.RvalueTree) (l : Labelled) → width_of path + length l.live_in_call ≡ live → label_at ls n ≡ Some l
         → EachPoint HasAsMany (given_events inside path live (resolve_given F s n x))
     given_has n live s None l h at = tt
-    given_has n live s (Some x) l h at = source_has n live s x l h at
+    given_has n live s (Some x) l h at = rvalue_has n live s x l h at
 
     assign_has : (n live : ℕ) (s : Scope) (a : tree.AssignTree) (names : List (List ℕ)) → width_of path + length names ≡ live → label_at ls n ≡ Some (assign_label names a)
         → EachPoint HasAsMany (stmt_events inside path live (resolve_assign F s n a))
-    assign_has n live s (tree.set x e) names h at = (point_has n live false (assign_label names (tree.set x e)) h at, source_has n live s e (assign_label names (tree.set x e)) h at)
+    assign_has n live s (tree.set x e) names h at = (point_has n live false (assign_label names (tree.set x e)) h at, rvalue_has n live s e (assign_label names (tree.set x e)) h at)
     assign_has n live s (tree.update x op e) names h at = (point_has n live false (assign_label names (tree.update x op e)) h at, tt)
     assign_has n live s (tree.after x step) names h at = (point_has n live false (assign_label names (tree.after x step)) h at, tt)
     assign_has n live s (tree.before p step x) names h at = (point_has n live false (assign_label names (tree.before p step x)) h at, tt)
@@ -134,13 +134,13 @@ module _ (outside : List (List ℕ)) (ls : List Labelled) where
     declarators_have n live more s (d ∷ ds) rest names h e stand back =
         let t = with_local s d.name.word in
         let longer = names ++ d.name.word ∷ [] in
-        let l : Labelled = record { place = d.name.place; called = called_of d.source; live = names; live_in_call = longer } in
+        let l : Labelled = record { place = d.name.place; called = called_of d.rvalue; live = names; live_in_call = longer } in
         let k = length-append names (d.name.word ∷ []) in
         let j : width_of path + length longer ≡ suc live = omega (arith, h) in
         let same : suc live + length ds ≡ more = omega (arith, e) in (
           point_has n live false l h stand.0,
-          each_then HasAsMany (given_events inside path (suc live) (resolve_given F t n d.source)) (items_events inside path (suc live) (resolve_declarators F t (suc n) ds rest))
-              (given_has n (suc live) t d.source l j stand.0) (declarators_have (suc n) (suc live) more t ds rest longer j same stand.1 back),
+          each_then HasAsMany (given_events inside path (suc live) (resolve_given F t n d.rvalue)) (items_events inside path (suc live) (resolve_declarators F t (suc n) ds rest))
+              (given_has n (suc live) t d.rvalue l j stand.0) (declarators_have (suc n) (suc live) more t ds rest longer j same stand.1 back),
         )
 
     -- how a `for` begins

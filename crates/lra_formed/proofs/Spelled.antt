@@ -13,9 +13,9 @@ use Rattle.lra_tree.specs.Lexeme.{SpellsToken, name, number, mark_of, reserved, 
 use Rattle.lra_tree.specs.Tokens as lexical
 use Rattle.lra_tree.specs.Texts.{Piece, Pieces, plain, Texts, ◌⋅◌, further, separated}
 use Rattle.lra_tree.specs.Texts as text
-use Rattle.lra_tree.specs.Grammar.{IsUnary, IsTerm, IsExpr, IsNegation, IsTest, IsConjunction, IsCond, InParens, IsCall, IsSource, IsAssign, IsGiven, IsDeclarator, IsDeclaration, IsInit, IsForTest}
+use Rattle.lra_tree.specs.Grammar.{IsUnary, IsTerm, IsExpr, IsNegation, IsTest, IsConjunction, IsCond, InParens, IsCall, IsRvalue, IsAssign, IsGiven, IsDeclarator, IsDeclaration, IsInit, IsForTest}
 use Rattle.lra_tree.specs.Grammar.{IsForStep, IsReturned, IsStmt, AreItems, IsSigned, IsGlobal, IsPart, AreParts, Spells}
-use Rattle.lra_formed.specs.Literals.{IsSmallUnary, IsSmallTerm, IsSmallExpr, IsSmallNegation, IsSmallTest, IsSmallConjunction, IsSmallCond, IsSmallCall, IsSmallSource, IsSmallGiven, IsSmallAssign}
+use Rattle.lra_formed.specs.Literals.{IsSmallUnary, IsSmallTerm, IsSmallExpr, IsSmallNegation, IsSmallTest, IsSmallConjunction, IsSmallCond, IsSmallCall, IsSmallRvalue, IsSmallGiven, IsSmallAssign}
 use Rattle.lra_formed.specs.Literals.{IsSmallDeclarator, IsSmallDeclaration, IsSmallInit, IsSmallForTest, IsSmallStep, IsSmallStmt, AreSmallItems, IsSmallGlobal, IsSmallPart, HasSmallLiterals}
 
 -- tokens -----------------------------------------------------------------------------------------------------------
@@ -141,26 +141,26 @@ small_call : (o l : ℕ) (c : tree.CallTree) (z : Pieces) → IsCall o l c z →
 small_call o l c z (x, y, e, called, (x2, y2, e2, opening, (x3, y3, e3, s, closing))) h =
     small_separated (IsExpr l) IsSmallExpr (small_expr l) c.arguments x3 s (front x3 y3 y2 e3 (back x2 y2 y e2 (back x y z e h)))
 
-small_source : (l : ℕ) (a : tree.RvalueTree) (z : Pieces) → IsSource l a z → AreSmall z → IsSmallSource a
-small_source l (tree.expression a) z s h = small_expr l a z s h
-small_source l (tree.result c) z s h = small_call 0 l c z s h
+small_rvalue : (l : ℕ) (a : tree.RvalueTree) (z : Pieces) → IsRvalue l a z → AreSmall z → IsSmallRvalue a
+small_rvalue l (tree.expression a) z s h = small_expr l a z s h
+small_rvalue l (tree.result c) z s h = small_call 0 l c z s h
 
 small_assign : (o l : ℕ) (a : tree.AssignTree) (z : Pieces) → IsAssign o l a z → AreSmall z → IsSmallAssign a
-small_assign o l (tree.set v a) z (x, y, e, target, (x2, y2, e2, sign, s)) h = small_source l a y2 s (back x2 y2 y e2 (back x y z e h))
+small_assign o l (tree.set v a) z (x, y, e, target, (x2, y2, e2, sign, s)) h = small_rvalue l a y2 s (back x2 y2 y e2 (back x y z e h))
 small_assign o l (tree.update v op a) z (x, y, e, target, (x2, y2, e2, sign, s)) h = small_expr l a y2 s (back x2 y2 y e2 (back x y z e h))
 small_assign o l (tree.after v step) z s h = tt
 small_assign o l (tree.before at step v) z s h = tt
 
 small_given : (l : ℕ) (a : Option tree.RvalueTree) (z : Pieces) → IsGiven l a z → AreSmall z → IsSmallGiven a
 small_given l None z s h = tt
-small_given l (Some a) z (x, y, e, sign, s) h = small_source l a y s (back x y z e h)
+small_given l (Some a) z (x, y, e, sign, s) h = small_rvalue l a y s (back x y z e h)
 
 small_returned : (l : ℕ) (a : Option tree.RvalueTree) (z : Pieces) → IsReturned l a z → AreSmall z → IsSmallGiven a
 small_returned l None z s h = tt
-small_returned l (Some a) z s h = small_source l a z s h
+small_returned l (Some a) z s h = small_rvalue l a z s h
 
 small_declarator : (l : ℕ) (d : tree.DeclaratorTree) (z : Pieces) → IsDeclarator l d z → AreSmall z → IsSmallDeclarator d
-small_declarator l d z (x, y, e, declared, s) h = small_given l d.source y s (back x y z e h)
+small_declarator l d z (x, y, e, declared, s) h = small_given l d.rvalue y s (back x y z e h)
 
 small_declaration : (l : ℕ) (d : tree.DeclarationTree) (z : Pieces) → IsDeclaration l d z → AreSmall z → IsSmallDeclaration d
 small_declaration l d z (x, y, e, type, (x2, y2, e2, s, closing)) h = small_separated (IsDeclarator l) IsSmallDeclarator (small_declarator l) (d.first ∷ d.rest) x2 s

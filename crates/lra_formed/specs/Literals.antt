@@ -63,22 +63,22 @@ abbrev mutual
 abbrev pub IsSmallCall : CallTree → Type 0
 IsSmallCall c = AllByRecursion IsSmallExpr c.arguments
 
-abbrev pub IsSmallSource : RvalueTree → Type 0
-IsSmallSource (expression e) = IsSmallExpr e
-IsSmallSource (result c) = IsSmallCall c
+abbrev pub IsSmallRvalue : RvalueTree → Type 0
+IsSmallRvalue (expression e) = IsSmallExpr e
+IsSmallRvalue (result c) = IsSmallCall c
 
 abbrev pub IsSmallGiven : Option RvalueTree → Type 0
 IsSmallGiven None = ⊤
-IsSmallGiven (Some e) = IsSmallSource e
+IsSmallGiven (Some e) = IsSmallRvalue e
 
 abbrev pub IsSmallAssign : AssignTree → Type 0
-IsSmallAssign (set x e) = IsSmallSource e
+IsSmallAssign (set x e) = IsSmallRvalue e
 IsSmallAssign (update x op e) = IsSmallExpr e
 IsSmallAssign (after x s) = ⊤
 IsSmallAssign (before at s x) = ⊤
 
 abbrev pub IsSmallDeclarator : DeclaratorTree → Type 0
-IsSmallDeclarator d = IsSmallGiven d.source
+IsSmallDeclarator d = IsSmallGiven d.rvalue
 
 abbrev pub IsSmallDeclaration : DeclarationTree → Type 0
 IsSmallDeclaration d = AllByRecursion IsSmallDeclarator (d.first ∷ d.rest)

@@ -10,7 +10,7 @@ use Rattle.lra_graph.specs.declared.points.Limit.TheVariants.{Calls}
 use Rattle.lra_graph.specs.declared.frame.Frame.{Frame}
 use Rattle.lra_graph.specs.Limits.{Progress, passed, stopped, walk}
 use Rattle.lra_program.specs.WellFormed.{IsWellFormed}
-use Rattle.lra_graph.specs.Building.{inside, callee_frame, CallStands, ItemsStand, WritesItems, WritesSource, WritesBody}
+use Rattle.lra_graph.specs.Building.{inside, callee_frame, CallStands, ItemsStand, WritesItems, WritesRvalue, WritesBody}
 use Rattle.lra_graph.proofs.Walking.{walk_then, walk_stop}
 use Rattle.lra_graph.proofs.Writing.{Pointed, result_written}
 use Rattle.lra_graph.proofs.Standing.{callee_stands}
@@ -57,7 +57,7 @@ module _ (P : Program) (path : List ℕ) (r : Frame) (S : List Site) (c : Call) 
 
   pub invoked : (V U : List Site) (q e n : ℕ) (h g : Node) → length c.arguments ≡ fn.parameters → WritesItems P p (inner k) S b h V → n ≡ live_behind (r.live + k) b → e ≡ length V
       → Pointed V (record { path = p; label = fn.end; live = n; asserts = false }) U
-      → g ≡ call_node q e r.base r.live x c.arguments k h → WritesSource P path r q x S (result c) g U
+      → g ≡ call_node q e r.base r.live x c.arguments k h → WritesRvalue P path r q x S (result c) g U
   invoked V U q e n h g fits y same i pointed a =
       let y' = subst (λ z. WritesItems P (c.label ∷ path) (inner fn.parameters) S z h V) body
       (subst (λ z. WritesItems P (c.label ∷ path) (inner z) S b h V) wide (subst (λ z. WritesItems P z (inner k) S b h V) within y)) in
@@ -112,7 +112,7 @@ module _ (P : Program) (path : List ℕ) (r : Frame) (x : Option ℕ) (c : Call)
         w.written.walked (end_seen (stopped l) e)
 
     pub end_written : (U : List Site) (q e k : ℕ) (g : Node) → length c.arguments ≡ fn.parameters → k ≡ fn.parameters → e ≡ length V → walk V (plain_site p fn.end n ∷ []) ≡ passed U
-        → g ≡ call_node q e r.base r.live x c.arguments k h → WritesSource P path r q x S (result c) g U
+        → g ≡ call_node q e r.base r.live x c.arguments k h → WritesRvalue P path r q x S (result c) g U
     end_written U q e k g fits wide i pointed a =
         let params = ap (λ (z : Function). z.parameters) same in
         invoked P path r S c w.fn (r.calls_left - 1) x (c.label ∷ path) w.fn.parameters w.fn.body (one_less r.calls_left w.some_left) w.found refl refl refl V U q e n h g (fits ∙ params)

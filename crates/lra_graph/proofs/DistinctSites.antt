@@ -5,10 +5,10 @@ use Rattle.std.specs.List.{AllByRecursion}
 use Rattle.std.proofs.lemmas.Option.{same_Some, none-some, slice_get-get_or}
 use Rattle.lra_program.specs.Program.{Call, Rvalue, value, result, Stmt, absent, nothing, block, assign, call, if, loop, for, break, continue, return, assert, assume, BlockItems, no_more, declaration}
 use Rattle.lra_program.specs.Program.{statement, Function, Program}
-use Rattle.lra_program.specs.Sites.{Site, Event, comes, one_call_more, live_behind, source_events, given_events, stmt_events, items_events, function_events, call_events, events_of, sites_in, sites_of}
+use Rattle.lra_program.specs.Sites.{Site, Event, comes, one_call_more, live_behind, rvalue_events, given_events, stmt_events, items_events, function_events, call_events, events_of, sites_in, sites_of}
 use Rattle.lra_program.specs.Sites.{greatest_calls}
 use Rattle.lra_operations.specs.Agree.{AreDistinct}
-use Rattle.lra_program.specs.WellFormed.{stmt_numbers, items_numbers, function_numbers, IsGoodCall, IsGoodSource, IsGoodGiven, IsGoodStmt, AreGoodItems, IsGoodFunction, IsWellFormed}
+use Rattle.lra_program.specs.WellFormed.{stmt_numbers, items_numbers, function_numbers, IsGoodCall, IsGoodRvalue, IsGoodGiven, IsGoodStmt, AreGoodItems, IsGoodFunction, IsWellFormed}
 use Rattle.lra_graph.proofs.DistinctLists.{IsIn, AllDiffer, in_left, in_right, in_either, differ_join, differ_left, differ_right, differ_apart, differ_range, differ_piece, one_place, longer}
 use Rattle.lra_graph.proofs.DistinctLists.{one_before}
 
@@ -82,13 +82,13 @@ module _ (P : Program) where
   Inside inside = (path : List ℕ) (live at here : ℕ) (c : Call) → IsGoodCall P at here c → (labels : List ℕ) × Spread (at ∷ path) labels (keys_in (inside path live c))
 
   module _ (inside : List ℕ → ℕ → Call → List Event) (calls : Inside inside) (path : List ℕ) where
-    spread_source : (at here live : ℕ) (e : Rvalue) → IsGoodSource P at here e → (labels : List ℕ) × Spread (at ∷ path) labels (keys_in (source_events inside path live e))
-    spread_source at here live (value e) good = ([], spread_none (at ∷ path) [])
-    spread_source at here live (result c) good = calls path live at here c good
+    spread_rvalue : (at here live : ℕ) (e : Rvalue) → IsGoodRvalue P at here e → (labels : List ℕ) × Spread (at ∷ path) labels (keys_in (rvalue_events inside path live e))
+    spread_rvalue at here live (value e) good = ([], spread_none (at ∷ path) [])
+    spread_rvalue at here live (result c) good = calls path live at here c good
 
     spread_given : (at here live : ℕ) (o : Option Rvalue) → IsGoodGiven P at here o → (labels : List ℕ) × Spread (at ∷ path) labels (keys_in (given_events inside path live o))
     spread_given at here live None good = ([], spread_none (at ∷ path) [])
-    spread_given at here live (Some e) good = spread_source at here live e good
+    spread_given at here live (Some e) good = spread_rvalue at here live e good
 
     mutual
       spread_stmt : (b : Bool) (here live : ℕ) (s : Stmt) → IsGoodStmt P b here s → AllDiffer (stmt_numbers s) → Spread path (stmt_numbers s) (keys_in (stmt_events inside path live s))
@@ -96,7 +96,7 @@ module _ (P : Program) where
       spread_stmt b here live (nothing at) good d = spread_alone at path
       spread_stmt b here live (block items end) good d = rw keys_append (spread_join path (items_numbers items) (end ∷ []) (keys_in (items_events inside path live items)) ((end ∷ path) ∷ [])
           (differ_apart (items_numbers items) (end ∷ []) d) (spread_items b here live items good (differ_left (items_numbers items) (end ∷ []) d)) (spread_alone end path))
-      spread_stmt b here live (assign at x e) good d = let y = spread_source at here live e good.1 in spread_point at path y.0 (keys_in (source_events inside path live e)) y.1
+      spread_stmt b here live (assign at x e) good d = let y = spread_rvalue at here live e good.1 in spread_point at path y.0 (keys_in (rvalue_events inside path live e)) y.1
       spread_stmt b here live (call at c) good d = let y = calls path live at here c good in spread_point at path y.0 (keys_in (inside path live c)) y.1
       spread_stmt b here live (if at c s t) good d = rw keys_append
           (spread_parts at path (stmt_numbers s) (stmt_numbers t) (keys_in (stmt_events inside path live s)) (keys_in (stmt_events inside path live t)) d
@@ -130,10 +130,10 @@ module _ (P : Program) where
           → Spread path (items_numbers items) (keys_in (items_events inside path live items))
       spread_items b here live no_more good d = spread_none path []
       spread_items b here live (declaration e items) good d =
-          let y = spread_given e.label (suc here) (suc live) e.source good.0 in
-          rw keys_append (spread_join path (e.label ∷ []) (items_numbers items) ((e.label ∷ path) ∷ keys_in (given_events inside path (suc live) e.source))
+          let y = spread_given e.label (suc here) (suc live) e.rvalue good.0 in
+          rw keys_append (spread_join path (e.label ∷ []) (items_numbers items) ((e.label ∷ path) ∷ keys_in (given_events inside path (suc live) e.rvalue))
           (keys_in (items_events inside path (suc live) items)) (head_apart e.label (items_numbers items) d.0)
-          (spread_point e.label path y.0 (keys_in (given_events inside path (suc live) e.source)) y.1) (spread_items b (suc here) (suc live) items good.1 d.1))
+          (spread_point e.label path y.0 (keys_in (given_events inside path (suc live) e.rvalue)) y.1) (spread_items b (suc here) (suc live) items good.1 d.1))
       spread_items b here live (statement s items) good d = rw keys_append
           (spread_join path (stmt_numbers s) (items_numbers items) (keys_in (stmt_events inside path live s)) (keys_in (items_events inside path live items))
           (differ_apart (stmt_numbers s) (items_numbers items) d) (spread_stmt b here live s good.0 (differ_left (stmt_numbers s) (items_numbers items) d))

@@ -5,7 +5,7 @@ use Rattle.lra_program.specs.Program.{Expr, Cond, Call, Rvalue, value, result, D
 use Rattle.lra_program.specs.Program.{BlockItems, no_more, declaration, statement, Function, Program}
 use Rattle.lra_program.specs.Value.{Drawn, index_of, truth_of}
 use Rattle.lra_program.specs.Step.{State, Op, append, give, give_any, push, keep, test, run_op, run_any, tested, Here, Back, Item, run, declare, all, end_of, turn, cut, mark, leave_call, Config, Turn}
-use Rattle.lra_program.specs.Step.{to_turn, Called, to_mark, target_of, go, go_by, go_on, enter, do_source, do_leave, do_break, do_continue, do_stmt, do_declare, next}
+use Rattle.lra_program.specs.Step.{to_turn, Called, to_mark, target_of, go, go_by, go_on, enter, do_rvalue, do_leave, do_break, do_continue, do_stmt, do_declare, next}
 use Rattle.lra_program.specs.Run.{Steps, label_on, IsFailing}
 use Rattle.lra_operations.specs.Graph.{Exit, broken, continued, returned, How, normal, jump, Node, empty, point, act, check, seq, choose, leave, Rounds, Ends, Comes, FailsAt}
 use Rattle.lra_program.specs.Sites.{Site}
@@ -66,9 +66,9 @@ pub record Does (P : Program) (T : List Site) (f : Frame) (n : ℕ) (i : Item) (
 
 -- the same of what a variable gets
 pub record GivesDoes (P : Program) (T : List Site) (f : Frame) (n : ℕ) (x : Option ℕ) (a : Rvalue) (g : Node) : Type 0 where
-  pub ends : (k : List Item) (s t : State) → length s.store ≡ n → Ends g s normal t → (e : Config) × (do_source P x a k f.here s ≡ Some e) × RunsTo P e (config k f.here t)
-  pub comes : (k : List Item) (s : State) (q : ℕ) (t : State) → length s.store ≡ n → Comes g s q t → (e : Config) × (do_source P x a k f.here s ≡ Some e) × Stands P T e q (HasState t)
-  pub fails : (k : List Item) (s : State) (q : ℕ) → length s.store ≡ n → FailsAt g s q → (e : Config) × (do_source P x a k f.here s ≡ Some e) × Stands P T e q IsFalse
+  pub ends : (k : List Item) (s t : State) → length s.store ≡ n → Ends g s normal t → (e : Config) × (do_rvalue P x a k f.here s ≡ Some e) × RunsTo P e (config k f.here t)
+  pub comes : (k : List Item) (s : State) (q : ℕ) (t : State) → length s.store ≡ n → Comes g s q t → (e : Config) × (do_rvalue P x a k f.here s ≡ Some e) × Stands P T e q (HasState t)
+  pub fails : (k : List Item) (s : State) (q : ℕ) → length s.store ≡ n → FailsAt g s q → (e : Config) × (do_rvalue P x a k f.here s ≡ Some e) × Stands P T e q IsFalse
   pub quiet : (s : State) (j : Exit) (t : State) → length s.store ≡ n → Ends g s (jump j) t → ⊥
 
 go_is : (k : List Item) (h : Here) (o : Option State) (t : State) → o ≡ Some t → go k h o ≡ Some (config k h t)
@@ -242,9 +242,9 @@ module _ (P : Program) (T : List Site) (spot : Spot) where
   }
 
   -- a statement that only gives a variable its value
-  does_source : (i : Stmt) (x : Option ℕ) (a : Rvalue) (g : Node) → ((k : List Item) (s : State) → length s.store ≡ spot.live → do_stmt P i k spot.frame.here s ≡ do_source P x a k spot.frame.here s)
+  does_rvalue : (i : Stmt) (x : Option ℕ) (a : Rvalue) (g : Node) → ((k : List Item) (s : State) → length s.store ≡ spot.live → do_stmt P i k spot.frame.here s ≡ do_rvalue P x a k spot.frame.here s)
       → GivesDoes P T spot.frame spot.live x a g → Does P T spot.frame spot.live (run i) g
-  does_source i x a g same y = record {
+  does_rvalue i x a g same y = record {
     ends = λ k s h t e m l z w. by_how k s h t e l z w;
     comes = λ k s q t m l z. let r = y.comes k s q t l z in later P T (config (run i ∷ k) spot.frame.here s) r.0 q (HasState t)
         (one_step P (config (run i ∷ k) spot.frame.here s) r.0 (same k s l ∙ r.1)) r.2;
@@ -279,7 +279,7 @@ module _ (P : Program) (T : List Site) (spot : Spot) where
       matches k = record { loops = λ m z. absurd (none-some m z); backs = refl }
 
       enters : (k : List Item) (s u : State) → length s.store ≡ spot.live → run_op (push spot.frame.here.base b.arguments) s ≡ Some u
-          → do_source P x (result b) k spot.frame.here s ≡ Some (config (all fn.body ∷ call_behind fn x k) (callee spot.frame spot.live x b).here u)
+          → do_rvalue P x (result b) k spot.frame.here s ≡ Some (config (all fn.body ∷ call_behind fn x k) (callee spot.frame spot.live x b).here u)
       enters k s u l o = subst (λ w. enter w b x k spot.frame.here s ≡ Some (config (all fn.body ∷ call_behind fn x k) (callee spot.frame spot.live x b).here u)) (sym found)
           (rw l (go_is (all fn.body ∷ call_behind fn x k) (callee spot.frame spot.live x b).here (run_op (push spot.frame.here.base b.arguments) s) u o))
 
@@ -313,7 +313,7 @@ module _ (P : Program) (T : List Site) (spot : Spot) where
           (go_on_is (run_any x z.cut) (λ v. go k spot.frame.here (run_op (keep spot.live) v)) z.set z.sets ∙ go_is k spot.frame.here (run_op (keep spot.live) z.set) t z.back)))
 
       by_end : (k : List Item) (s t : State) → length s.store ≡ spot.live → EndsCall spot r' x b.arguments fn.parameters g s normal t → (e : Config)
-          × (do_source P x (result b) k spot.frame.here s ≡ Some e) × RunsTo P e (config k spot.frame.here t)
+          × (do_rvalue P x (result b) k spot.frame.here s ≡ Some e) × RunsTo P e (config k spot.frame.here t)
       by_end k s t l (u, o, inl (a, z)) = (
         config (all fn.body ∷ call_behind fn x k) (callee spot.frame spot.live x b).here u,
         enters k s u l o,
@@ -324,7 +324,7 @@ module _ (P : Program) (T : List Site) (spot : Spot) where
       by_end k s t l (u, o, inr (inr (kind, a, d, z))) = absurd (not_jump kind (sym a))
 
       by_place : (k : List Item) (s : State) (q' : ℕ) (t : State) → length s.store ≡ spot.live → Comes (call_node spot.next r' spot.frame.here.base spot.live x b.arguments fn.parameters g) s q' t
-          → (e : Config) × (do_source P x (result b) k spot.frame.here s ≡ Some e) × Stands P T e q' (HasState t)
+          → (e : Config) × (do_rvalue P x (result b) k spot.frame.here s ≡ Some e) × Stands P T e q' (HasState t)
       by_place k s q' t l (inl z) = absurd z
       by_place k s q' t l (inr (u, o, inl z)) = (
         config (all fn.body ∷ call_behind fn x k) (callee spot.frame spot.live x b).here u,
@@ -349,7 +349,7 @@ module _ (P : Program) (T : List Site) (spot : Spot) where
       by_place k s q' t l (inr (u, o, inr (m, z, inr (m', w, inl w')))) = absurd w'
 
       by_failure : (k : List Item) (s : State) (q' : ℕ) → length s.store ≡ spot.live → FailsAt (call_node spot.next r' spot.frame.here.base spot.live x b.arguments fn.parameters g) s q'
-          → (e : Config) × (do_source P x (result b) k spot.frame.here s ≡ Some e) × Stands P T e q' IsFalse
+          → (e : Config) × (do_rvalue P x (result b) k spot.frame.here s ≡ Some e) × Stands P T e q' IsFalse
       by_failure k s q' l (inl z) = absurd z
       by_failure k s q' l (inr (u, o, inl z)) = (
         config (all fn.body ∷ call_behind fn x k) (callee spot.frame spot.live x b).here u,
@@ -581,9 +581,9 @@ module _ (P : Program) (T : List Site) (spot : Spot) where
     ];
   }
     where
-      starts : (k : List Item) (s : State) (e : Config) → back_of (to_mark k) ≡ Some b → do_source P b.target (result v) (leave_call ∷ k) spot.frame.here s ≡ Some e
+      starts : (k : List Item) (s : State) (e : Config) → back_of (to_mark k) ≡ Some b → do_rvalue P b.target (result v) (leave_call ∷ k) spot.frame.here s ≡ Some e
           → next P (config (run (return at (Some (result v))) ∷ k) spot.frame.here s) ≡ Some e
-      starts k s e back z = subst (λ w. do_source P w (result v) (leave_call ∷ k) spot.frame.here s ≡ Some e) (sym (target_back (to_mark k) b back)) z
+      starts k s e back z = subst (λ w. do_rvalue P w (result v) (leave_call ∷ k) spot.frame.here s ≡ Some e) (sym (target_back (to_mark k) b back)) z
 
   -- in `main` nothing follows
   does_stop : (i : Item) → spot.frame.back ≡ None → Does P T spot.frame spot.live i (leave spot.live returned)
@@ -616,12 +616,12 @@ module _ (P : Program) (T : List Site) (spot : Spot) where
     ];
   }
     where
-      starts : (k : List Item) (s : State) (e : Config) → to_mark k ≡ None → do_source P None (result v) (leave_call ∷ k) spot.frame.here s ≡ Some e
+      starts : (k : List Item) (s : State) (e : Config) → to_mark k ≡ None → do_rvalue P None (result v) (leave_call ∷ k) spot.frame.here s ≡ Some e
           → next P (config (run (return at (Some (result v))) ∷ k) spot.frame.here s) ≡ Some e
-      starts k s e i z = subst (λ w. do_source P (target_of w) (result v) (leave_call ∷ k) spot.frame.here s ≡ Some e) (sym i) z
+      starts k s e i z = subst (λ w. do_rvalue P (target_of w) (result v) (leave_call ∷ k) spot.frame.here s ≡ Some e) (sym i) z
 
   -- a declarator that gives its variable a value
-  does_given : (d : Declarator) (a : Rvalue) (g : Node) → d.source ≡ Some a → GivesDoes P T spot.frame (suc spot.live) (Some spot.live) a g →
+  does_given : (d : Declarator) (a : Rvalue) (g : Node) → d.rvalue ≡ Some a → GivesDoes P T spot.frame (suc spot.live) (Some spot.live) a g →
       Does P T spot.frame spot.live (declare d) (seq (act spot.next append) g)
   does_given d a g same y = record {
     ends = λ k s h t e mm l z w. by_how k s h t e l (act_seq spot.next append g s h t z) w;
@@ -637,10 +637,10 @@ module _ (P : Program) (T : List Site) (spot : Spot) where
     ];
   }
     where
-      starts : (k : List Item) (s u : State) (e : Config) → length s.store ≡ spot.live → run_op append s ≡ Some u → do_source P (Some spot.live) a k spot.frame.here u ≡ Some e
+      starts : (k : List Item) (s u : State) (e : Config) → length s.store ≡ spot.live → run_op append s ≡ Some u → do_rvalue P (Some spot.live) a k spot.frame.here u ≡ Some e
           → next P (config (declare d ∷ k) spot.frame.here s) ≡ Some e
       starts k s u e l o z = subst (λ w. do_declare P w k spot.frame.here s ≡ Some e) (sym same)
-          (go_on_is (run_op append s) (do_source P (Some (length s.store)) a k spot.frame.here) u o ∙ subst (λ w. do_source P (Some w) a k spot.frame.here u ≡ Some e) (sym l) z)
+          (go_on_is (run_op append s) (do_rvalue P (Some (length s.store)) a k spot.frame.here) u o ∙ subst (λ w. do_rvalue P (Some w) a k spot.frame.here u ≡ Some e) (sym l) z)
 
       by_how : (k : List Item) (s : State) (h : How) (t : State) (e : Config) → length s.store ≡ spot.live → (m : State) × (run_op append s ≡ Some m) × Ends g m h t →
           landing h spot.frame.here k t ≡ Some e
@@ -710,9 +710,9 @@ mutual
       (λ k s l. rw l refl) (λ k. refl) (λ k. refl) (length_all d) (does_all d) (does_end P T (move spot n' q') spot.live end i)
   does_one {P = P} {T = T} (as_absent {s = spot}) = does_empty P T spot (run absent) (λ k s. refl)
   does_one {P = P} {T = T} (as_assign {s = spot} {at = at} {x = x} {e = e} {g = g} i d) = does_point P T spot at (run (assign at x e)) g i (λ k. refl)
-      (does_source P T spot (assign at x e) (Some (index_of spot.frame.here.base x)) e g (λ k s l. refl) (does_gives d))
+      (does_rvalue P T spot (assign at x e) (Some (index_of spot.frame.here.base x)) e g (λ k s l. refl) (does_gives d))
   does_one {P = P} {T = T} (as_call {s = spot} {at = at} {c = c} {g = g} i d) = does_point P T spot at (run (call at c)) g i (λ k. refl)
-      (does_source P T spot (call at c) None (result c) g (λ k s l. refl) (does_gives d))
+      (does_rvalue P T spot (call at c) None (result c) g (λ k s l. refl) (does_gives d))
   does_one {P = P} {T = T} (as_if {s = spot} {at = at} {c = c} {a = a} {b = b} {g = g} {h = h} i d e) =
       does_point P T spot at (run (if at c a b)) (choose spot.next spot.frame.here.base c g h) i (λ k. refl)
       (does_if P T spot at c a b g h (does_one d) (does_one e))
@@ -756,7 +756,7 @@ mutual
       does_two P T spot (all (statement a b)) (run a) (all b) spot.live g h (λ k s l. refl) (λ k. refl) (λ k. refl) (length_one d)
       (does_one d) (does_all e)
 
-  pub does_declares : {P : Program} {T : List Site} {spot : Spot} {r : ℕ} {o : Option Rvalue} {g : Node} {q : ℕ} (d : Declarator) → Declares P T spot r o g q → d.source ≡ o
+  pub does_declares : {P : Program} {T : List Site} {spot : Spot} {r : ℕ} {o : Option Rvalue} {g : Node} {q : ℕ} (d : Declarator) → Declares P T spot r o g q → d.rvalue ≡ o
       → Does P T spot.frame spot.live (declare d) g
   does_declares {P = P} {T = T} d (as_fresh {s = spot}) same = does_act P T spot append (declare d) (λ k s. ap (λ w. do_declare P w k spot.frame.here s) same)
   does_declares {P = P} {T = T} d (as_given {s = spot} {e = e} {g = g} x) same = does_given P T spot d e g same (does_gives x)

@@ -8,7 +8,7 @@ use Rattle.lra_program.specs.Value.{index_of}
 use Rattle.lra_program.specs.Step.{append, give, give_any, keep}
 use Rattle.lra_operations.specs.Graph.{returned, Node, empty, point, act, seq, choose, leave}
 use Rattle.lra_tree.specs.Labels.{Labelled}
-use Rattle.lra_program.specs.Sites.{Site, Event, comes, one_call_more, plain_site, live_behind, source_events, given_events, stmt_events, items_events, function_events, call_events, events_of}
+use Rattle.lra_program.specs.Sites.{Site, Event, comes, one_call_more, plain_site, live_behind, rvalue_events, given_events, stmt_events, items_events, function_events, call_events, events_of}
 use Rattle.lra_operations.specs.Inlined.{return_node, call_node, loop_node}
 use Rattle.lra_operations.specs.Agree.{IsGraph}
 use Rattle.lra_program.specs.WellFormed.{IsWellFormed}
@@ -17,7 +17,7 @@ use Rattle.lra_graph.specs.declared.points.Limit.TheVariants.{Variables, Points,
 use Rattle.lra_graph.specs.declared.frame.Frame.{Frame}
 use Rattle.lra_graph.specs.declared.frame.Back.{Back}
 use Rattle.lra_graph.specs.Limits.{Progress, passed, stopped, walk}
-use Rattle.lra_graph.specs.Building.{inside, StmtStands, ItemsStand, GivenStands, CallStands, WritesStmt, WritesItems, WritesSource, WritesDeclared, WritesReturn}
+use Rattle.lra_graph.specs.Building.{inside, StmtStands, ItemsStand, GivenStands, CallStands, WritesStmt, WritesItems, WritesRvalue, WritesDeclared, WritesReturn}
 use Rattle.lra_graph.proofs.Walking.{not_passed, passed_same, chosen_then, chosen_passed}
 use Rattle.lra_graph.proofs.Writing.{absent_written, nothing_written, block_written, assign_written, call_written, if_written, rounds_written, loop_written, break_written, continue_written}
 use Rattle.lra_graph.proofs.Writing.{assert_written, assume_written, for_written, return_written, return_any_written, return_value_written, return_call_written, end_any_written, end_value_written}
@@ -44,28 +44,28 @@ walk_parts S (comes s ∷ es) fs U e =
 walk_parts S (one_call_more at ∷ es) fs U e = absurd (not_passed (Calls at) U e)
 
 module _ (P : Program) where
-  abbrev HasSource : List ℕ → Frame → ℕ → Option ℕ → List Site → List Site → Rvalue → Type 0
-  HasSource path r q x S U e = (g : Node) × WritesSource P path r q x S e g U
+  abbrev HasRvalue : List ℕ → Frame → ℕ → Option ℕ → List Site → List Site → Rvalue → Type 0
+  HasRvalue path r q x S U e = (g : Node) × WritesRvalue P path r q x S e g U
 
   -- calls that may make so many calls more are written out
   abbrev HaveCalls : ℕ → Type 0
   HaveCalls more = (c : Call) (path : List ℕ) (r : Frame) (q : ℕ) (x : Option ℕ) (S U : List Site) → r.calls_left ≡ more → CallStands P r c
-      → walk S (inside P path r path r.live c) ≡ passed U → HasSource path r q x S U (result c)
+      → walk S (inside P path r path r.live c) ≡ passed U → HasRvalue path r q x S U (result c)
 
   module _ (more : ℕ) (calls : HaveCalls more) where
-    source : (e : Rvalue) (path : List ℕ) (r : Frame) (q : ℕ) (x : Option ℕ) (S U : List Site) → r.calls_left ≡ more → GivenStands P r (Some e)
-        → walk S (source_events (inside P path r) path r.live e) ≡ passed U → HasSource path r q x S U e
-    source (value e) path r q x S U left stands w =
+    rvalue : (e : Rvalue) (path : List ℕ) (r : Frame) (q : ℕ) (x : Option ℕ) (S U : List Site) → r.calls_left ≡ more → GivenStands P r (Some e)
+        → walk S (rvalue_events (inside P path r) path r.live e) ≡ passed U → HasRvalue path r q x S U e
+    rvalue (value e) path r q x S U left stands w =
         let g = act q (give r.base x e) in
-        (g, subst (λ V. WritesSource P path r q x S (value e) g V) (passed_same S U w) (value_written P path r S q x e g refl))
-    source (result c) path r q x S U left stands w = calls c path r q x S U left (result_stands P r c stands) w
+        (g, subst (λ V. WritesRvalue P path r q x S (value e) g V) (passed_same S U w) (value_written P path r S q x e g refl))
+    rvalue (result c) path r q x S U left stands w = calls c path r q x S U left (result_stands P r c stands) w
 
     given : (o : Option Rvalue) (path : List ℕ) (r : Frame) (q : ℕ) (S U : List Site) → r.calls_left ≡ more → GivenStands P (record r { live = suc r.live }) o
         → walk S (given_events (inside P path r) path (suc r.live) o) ≡ passed U → (g : Node) × WritesDeclared P path r q S o g U
     given None path r q S U left stands w =
         (act q append, subst (λ V. WritesDeclared P path r q S None (act q append) V) (passed_same S U w) (fresh_written P path r S q (act q append) refl))
     given (Some e) path r q S U left stands w =
-        let (h, y) = source e path (record r { live = suc r.live }) q (Some r.live) S U left stands w in
+        let (h, y) = rvalue e path (record r { live = suc r.live }) q (Some r.live) S U left stands w in
         (seq (act q append) h, given_written P path r S U q (suc r.live) e h (seq (act q append) h) refl y refl)
 
     abbrev HasReturn : List ℕ → Frame → ℕ → List Site → List Site → Option Rvalue → Type 0
@@ -116,8 +116,8 @@ module _ (P : Program) where
           let tail = seq (point (length V)) (act (length V) (keep r.live)) in
           (seq h tail, block_written P path r S V U (length V) n end b h tail (seq h tail) x refl refl e refl refl)
       stmt (assign at v e) path r S U left stands w =
-          let (V, a, f) = walk_parts S (plain_site path at r.live ∷ []) (source_events (inside P path r) path r.live e) U w in
-          let (h, y) = source e path r (length S) (Some (index_of r.base v)) V U left (assign_stands P r at v e stands) f in
+          let (V, a, f) = walk_parts S (plain_site path at r.live ∷ []) (rvalue_events (inside P path r) path r.live e) U w in
+          let (h, y) = rvalue e path r (length S) (Some (index_of r.base v)) V U left (assign_stands P r at v e stands) f in
           let g = seq (point (length S)) h in
           (g, assign_written P path r S V U (length S) at (index_of r.base v) v e h g refl a refl y refl)
       stmt (call at c) path r S U left stands w =
@@ -175,9 +175,9 @@ module _ (P : Program) where
       items no_more path r S U left stands w = (empty, subst (λ V. WritesItems P path r S no_more empty V) (passed_same S U w) (none_written P path r S))
       items (declaration d b) path r S U left stands w =
           let rest = items_events (inside P path r) path (suc r.live) b in
-          let (V, a, e) = walk_parts S (plain_site path d.label r.live ∷ []) (given_events (inside P path r) path (suc r.live) d.source ++ rest) U w in
-          let (W, f, i) = walk_parts V (given_events (inside P path r) path (suc r.live) d.source) rest U e in
-          let (h, x) = given d.source path r (length S) V W left (declared_stands P r (suc r.live) d b refl stands) f in
+          let (V, a, e) = walk_parts S (plain_site path d.label r.live ∷ []) (given_events (inside P path r) path (suc r.live) d.rvalue ++ rest) U w in
+          let (W, f, i) = walk_parts V (given_events (inside P path r) path (suc r.live) d.rvalue) rest U e in
+          let (h, x) = given d.rvalue path r (length S) V W left (declared_stands P r (suc r.live) d b refl stands) f in
           let (k, y) = items b path (record r { live = suc r.live }) W U left (behind_stand P r (suc r.live) d b refl stands) i in
           let first = seq (point (length S)) h in
           (seq first k, declaration_written P path r S V W U (length S) (suc r.live) d b h first k (seq first k) refl refl a x y refl refl)

@@ -34,7 +34,7 @@ Item = program.BlockItems → program.BlockItems
 
 module _ (P : program.Program) (path : List ℕ) (r : Frame) (S : List Site) where
   module _ (item : Item) (d : program.Declarator) (is : (b : program.BlockItems) → item b ≡ declaration d b) where
-    pub declared_item : (V W : List Site) (q n : ℕ) (h g : Node) → q ≡ length S → n ≡ suc r.live → Pointed S (site P path r d.label r.live false) V → WritesDeclared P path r q V d.source h W
+    pub declared_item : (V W : List Site) (q n : ℕ) (h g : Node) → q ≡ length S → n ≡ suc r.live → Pointed S (site P path r d.label r.live false) V → WritesDeclared P path r q V d.rvalue h W
         → g ≡ seq (point q) h → WritesItem P path r S item g n W
     declared_item V W q n h g number same at given form = record {
       live = λ b. ap (λ z. live_behind z b) same ∙ sym (ap (λ z. live_behind r.live z) (is b));
@@ -47,10 +47,10 @@ module _ (P : program.Program) (path : List ℕ) (r : Frame) (S : List Site) whe
     declared_stops x h b = declaration_at_point P path r S (item b) d b (is b) x h
 
     pub given_stops : (V : List Site) (n : ℕ) → Pointed S (site P path r d.label r.live false) V → n ≡ suc r.live → (x : Limit)
-        → walk V (given_events (inside P path r) path n d.source) ≡ stopped x → StopsItem P path r S item x
+        → walk V (given_events (inside P path r) path n d.rvalue) ≡ stopped x → StopsItem P path r S item x
     given_stops V n at same x h b = declaration_at_given P path r S (item b) d b (is b) V n at same x h
 
-    pub given_item_stands : (n : ℕ) → n ≡ suc r.live → ItemStands P r item → GivenStands P (record r { live = n }) d.source
+    pub given_item_stands : (n : ℕ) → n ≡ suc r.live → ItemStands P r item → GivenStands P (record r { live = n }) d.rvalue
     given_item_stands n same (b, s) = declared_stands P r n d b same (subst (λ z. ItemsStand P r z) (is b) s)
 
   module _ (item : Item) (a : program.Stmt) (is : (b : program.BlockItems) → item b ≡ statement a b) where

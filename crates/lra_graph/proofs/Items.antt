@@ -24,19 +24,19 @@ module _ (P : program.Program) (path : List ℕ) (r : Frame) (S : List Site) (al
   module _ (d : program.Declarator) (b : program.BlockItems) (e : all ≡ declaration d b) where
     pub declaration_at_point : (x : Limit) → walk S (plain_site path d.label r.live ∷ []) ≡ stopped x → walk S (items_events (inside P path r) path r.live all) ≡ stopped x
     declaration_at_point x h = items_stopped (declaration d b) (stopped x) e
-        (walk_stop S (plain_site path d.label r.live ∷ []) (given_events (inside P path r) path (suc r.live) d.source ++ items_events (inside P path r) path (suc r.live) b) x h)
+        (walk_stop S (plain_site path d.label r.live ∷ []) (given_events (inside P path r) path (suc r.live) d.rvalue ++ items_events (inside P path r) path (suc r.live) b) x h)
 
     module _ (V : List Site) (n : ℕ) (point : walk S (plain_site path d.label r.live ∷ []) ≡ passed V) (same : n ≡ suc r.live) where
-      pub declaration_at_given : (x : Limit) → walk V (given_events (inside P path r) path n d.source) ≡ stopped x → walk S (items_events (inside P path r) path r.live all) ≡ stopped x
+      pub declaration_at_given : (x : Limit) → walk V (given_events (inside P path r) path n d.rvalue) ≡ stopped x → walk S (items_events (inside P path r) path r.live all) ≡ stopped x
       declaration_at_given x h = items_stopped (declaration d b) (stopped x) e
-          (middle_stopped S V (plain_site path d.label r.live ∷ []) (given_events (inside P path r) path (suc r.live) d.source) (items_events (inside P path r) path (suc r.live) b) x point
-          (subst (λ z. walk V (given_events (inside P path r) path z d.source) ≡ stopped x) same h))
+          (middle_stopped S V (plain_site path d.label r.live ∷ []) (given_events (inside P path r) path (suc r.live) d.rvalue) (items_events (inside P path r) path (suc r.live) b) x point
+          (subst (λ z. walk V (given_events (inside P path r) path z d.rvalue) ≡ stopped x) same h))
 
-      pub declaration_at_others : (W : List Site) (x : Limit) → walk V (given_events (inside P path r) path (suc r.live) d.source) ≡ passed W
+      pub declaration_at_others : (W : List Site) (x : Limit) → walk V (given_events (inside P path r) path (suc r.live) d.rvalue) ≡ passed W
           → walk W (items_events (inside P path r) path n b) ≡ stopped x
           → walk S (items_events (inside P path r) path r.live all) ≡ stopped x
       declaration_at_others W x g h = items_stopped (declaration d b) (stopped x) e
-          (third_stopped S V W (plain_site path d.label r.live ∷ []) (given_events (inside P path r) path (suc r.live) d.source) (items_events (inside P path r) path (suc r.live) b) x point
+          (third_stopped S V W (plain_site path d.label r.live ∷ []) (given_events (inside P path r) path (suc r.live) d.rvalue) (items_events (inside P path r) path (suc r.live) b) x point
           g (subst (λ z. walk W (items_events (inside P path r) path z b) ≡ stopped x) same h))
 
   -- behind a statement

@@ -5,7 +5,7 @@ use Rattle.lra_operations.specs.Graph as graph
 use Rattle.lra_program.specs.declared.program.Slot.{Slot}
 use Rattle.lra_program.specs.declared.program.Cond.{Cond}
 use Rattle.lra_program.specs.declared.program.Rvalue.{Rvalue}
-use Rattle.lra_program.specs.declared.program.Rvalue.TheVariants as code_source
+use Rattle.lra_program.specs.declared.program.Rvalue.TheVariants as code_rvalue
 use Rattle.lra_program.specs.declared.program.Expr.{Expr}
 use Rattle.lra_program.specs.declared.program.Declarator.{Declarator}
 use Rattle.lra_program.specs.declared.program.Call.{Call}
@@ -89,8 +89,8 @@ shown_assert at c = search (rules, stmt_lemmas)
 pub shown_assume : (at : ℕ) (c : Cond) → stmt_view (code.Assume at c) ≡ program.assume at (cond_view c)
 shown_assume at c = search (rules, stmt_lemmas)
 
-pub shown_result : (o : Option Rvalue) (x : Rvalue) (c : Call) → o ≡ Some x → x ≡ code_source.Result c → given_view o ≡ Some (program.result (call_view c))
+pub shown_result : (o : Option Rvalue) (x : Rvalue) (c : Call) → o ≡ Some x → x ≡ code_rvalue.Result c → given_view o ≡ Some (program.result (call_view c))
 shown_result o x c e f = ap given_view e ∙ ap (λ (y : Rvalue). Some (rvalue_view y)) f
 
-pub shown_value : (o : Option Rvalue) (x : Rvalue) (v : Expr) → o ≡ Some x → x ≡ code_source.Value v → given_view o ≡ Some (program.value (expr_view v))
+pub shown_value : (o : Option Rvalue) (x : Rvalue) (v : Expr) → o ≡ Some x → x ≡ code_rvalue.Value v → given_view o ≡ Some (program.value (expr_view v))
 shown_value o x v e f = ap given_view e ∙ ap (λ (y : Rvalue). Some (rvalue_view y)) f

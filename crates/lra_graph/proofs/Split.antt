@@ -5,7 +5,7 @@ use Rattle.lra_program.specs.Program.{Cond, Call, Rvalue, value, result, Declara
 use Rattle.lra_program.specs.Program.{no_more, declaration, statement, Function, Program}
 use Rattle.lra_program.specs.Value.{index_of, truth_of}
 use Rattle.lra_program.specs.Step.{State, Op, append, give, give_any, push, keep, test, run_op, run_any, Here, Back, Item, run, declare, all, end_of, turn, cut, mark, leave_call, Config, to_turn}
-use Rattle.lra_program.specs.Step.{to_mark, target_of, go, enter, do_source, do_leave, do_break, do_continue, do_declare, next}
+use Rattle.lra_program.specs.Step.{to_mark, target_of, go, enter, do_rvalue, do_leave, do_break, do_continue, do_declare, next}
 use Rattle.lra_program.specs.Run.{Steps, label_on, IsFailing}
 use Rattle.lra_operations.specs.Graph.{Exit, broken, continued, returned, normal, jump, Node, point, act, check, seq, choose, leave, Ends, Comes, FailsAt}
 use Rattle.lra_program.specs.Sites.{Site}
@@ -186,7 +186,7 @@ module _ (P : Program) (T : List Site) (c : Config) (p : ℕ) (on : label_on c.i
 
   splits_gives : (spot : Spot) (r : ℕ) (x : Option ℕ) (a : Rvalue) (g : Node) (q : ℕ) (k : List Item) (s : State) (j : ℕ) (e : Config) → Gives P T spot r x a g q → length s.store ≡ spot.live →
       j < fuel
-      → do_source P x a k spot.frame.here s ≡ Some e → Steps P j e c → Splits P T c p spot.frame.here k (suc j) g s
+      → do_rvalue P x a k spot.frame.here s ≡ Some e → Steps P j e c → Splits P T c p spot.frame.here k (suc j) g s
   splits_gives _ _ _ _ _ _ k s j e (as_value {s = spot} {x = x} {e = v}) l less y rest = splits_act P T c p on spot.next (give spot.frame.here.base x v) spot.frame.here k s j e y rest
   splits_gives _ _ _ _ _ _ k s j e (as_result {s = spot} {r = r} {x = x} {c = b} {fn = fn} {g = g'} {n = n'} {q = r'} found i d has) l less y rest =
       let y' : enter (Some fn) b x k spot.frame.here s ≡ Some e = subst (λ o. enter o b x k spot.frame.here s ≡ Some e) found y in
@@ -376,18 +376,18 @@ module _ (P : Program) (T : List Site) (c : Config) (p : ℕ) (on : label_on c.i
       splits_loop spot r at b a step g h r' q' i d e k s count m l less t
 
   -- a declarator: the point, the new variable, and what it gets
-  splits_declare : (spot : Spot) (d : Declarator) (g : Node) (q' : ℕ) → Has T spot d.label → Declares P T spot (suc spot.next) d.source g q' → (k : List Item) (s : State) (count : ℕ)
+  splits_declare : (spot : Spot) (d : Declarator) (g : Node) (q' : ℕ) → Has T spot d.label → Declares P T spot (suc spot.next) d.rvalue g q' → (k : List Item) (s : State) (count : ℕ)
       → length s.store ≡ spot.live → count < suc fuel
       → Steps P count (config (declare d ∷ k) spot.frame.here s) c → Cut spot.frame.here k count (seq (point spot.next) g) s
   splits_declare spot d g q' i x k s count l less t = splits_point P T c p on spot d.label false (declare d) g k s count i l refl (λ z. absurd z) t
-      (λ j e j' y w. splits_more P T c p on spot.frame.here k (suc j) count g s (omega arith) (by_source spot (suc spot.next) d.source g q' x k s j e l (omega arith) y w))
+      (λ j e j' y w. splits_more P T c p on spot.frame.here k (suc j) count g s (omega arith) (by_rvalue spot (suc spot.next) d.rvalue g q' x k s j e l (omega arith) y w))
     where
-      by_source : (spot : Spot) (r : ℕ) (o : Option Rvalue) (g : Node) (q' : ℕ) → Declares P T spot r o g q' → (k : List Item) (s : State) (j : ℕ) (e : Config) → length s.store ≡ spot.live → j < fuel
+      by_rvalue : (spot : Spot) (r : ℕ) (o : Option Rvalue) (g : Node) (q' : ℕ) → Declares P T spot r o g q' → (k : List Item) (s : State) (j : ℕ) (e : Config) → length s.store ≡ spot.live → j < fuel
           → do_declare P o k spot.frame.here s ≡ Some e → Steps P j e c → Cut spot.frame.here k (suc j) g s
-      by_source _ _ _ _ _ (as_fresh {s = spot}) k s j e l less y w = splits_act P T c p on spot.next append spot.frame.here k s j e y w
-      by_source _ _ _ _ _ (as_given {s = spot} {r = r} {e = b} {g = g} {q = q'} d) k s j e l less y w =
-          let x = go_on_some (run_op append s) (do_source P (Some (length s.store)) b k spot.frame.here) e y in
-          let y' : do_source P (Some spot.live) b k spot.frame.here x.0 ≡ Some e = subst (λ v. do_source P (Some v) b k spot.frame.here x.0 ≡ Some e) l x.2 in
+      by_rvalue _ _ _ _ _ (as_fresh {s = spot}) k s j e l less y w = splits_act P T c p on spot.next append spot.frame.here k s j e y w
+      by_rvalue _ _ _ _ _ (as_given {s = spot} {r = r} {e = b} {g = g} {q = q'} d) k s j e l less y w =
+          let x = go_on_some (run_op append s) (do_rvalue P (Some (length s.store)) b k spot.frame.here) e y in
+          let y' : do_rvalue P (Some spot.live) b k spot.frame.here x.0 ≡ Some e = subst (λ v. do_rvalue P (Some v) b k spot.frame.here x.0 ≡ Some e) l x.2 in
           after_act spot.next append g spot.frame.here k (suc j) s x.0 x.1
           (splits_gives (move spot (suc spot.live) spot.next) r (Some spot.live) b g q' k x.0 j e d (length_append s x.0 x.1 ∙ ap suc l) less y' w)
 
@@ -478,8 +478,8 @@ module _ (P : Program) (T : List Site) (c : Config) (p : ℕ) (on : label_on c.i
   splits_one _ _ _ _ (as_return_call {s = spot} {at = at} {c = v} {b = b} {g = g} {q = q'} i i' has d) k s count m l less t = splits_point P T c p on spot at false (run (return at (Some (result v))))
       (seq g (seq (act spot.next (keep b.length)) (leave spot.live returned))) k s count has l refl (λ z. absurd z) t
       (λ j e j' y w.
-      let y' : do_source P b.target (result v) (leave_call ∷ k) spot.frame.here s ≡ Some e =
-      subst (λ x. do_source P x (result v) (leave_call ∷ k) spot.frame.here s ≡ Some e) (target_is spot.frame k b i m) y in
+      let y' : do_rvalue P b.target (result v) (leave_call ∷ k) spot.frame.here s ≡ Some e =
+      subst (λ x. do_rvalue P x (result v) (leave_call ∷ k) spot.frame.here s ≡ Some e) (target_is spot.frame k b i m) y in
       splits_more P T c p on spot.frame.here k (suc j) count (seq g (seq (act spot.next (keep b.length)) (leave spot.live returned))) s (omega arith)
       (splits_seq P T c p on spot.frame.here k (leave_call ∷ k) (suc j) g (seq (act spot.next (keep b.length)) (leave spot.live returned)) s (skip_one spot.frame.here leave_call k refl refl)
       (splits_gives spot (suc spot.next) b.target (result v) g q' (leave_call ∷ k) s j e d l (omega arith) y' w)
@@ -495,8 +495,8 @@ module _ (P : Program) (T : List Site) (c : Config) (p : ℕ) (on : label_on c.i
       splits_point P T c p on spot at false (run (return at (Some (result v)))) (seq g (leave spot.live returned)) k s
       count has l refl (λ z. absurd z) t
       (λ j e j' y w.
-      let y' : do_source P None (result v) (leave_call ∷ k) spot.frame.here s ≡ Some e =
-      subst (λ o. do_source P (target_of o) (result v) (leave_call ∷ k) spot.frame.here s ≡ Some e) (no_mark spot.frame k i m) y in
+      let y' : do_rvalue P None (result v) (leave_call ∷ k) spot.frame.here s ≡ Some e =
+      subst (λ o. do_rvalue P (target_of o) (result v) (leave_call ∷ k) spot.frame.here s ≡ Some e) (no_mark spot.frame k i m) y in
       splits_more P T c p on spot.frame.here k (suc j) count (seq g (leave spot.live returned)) s (omega arith)
       (splits_seq P T c p on spot.frame.here k (leave_call ∷ k) (suc j) g (leave spot.live returned) s (skip_one spot.frame.here leave_call k refl refl)
       (splits_gives spot (suc spot.next) None (result v) g q' (leave_call ∷ k) s j e d l (omega arith) y' w)

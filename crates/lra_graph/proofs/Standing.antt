@@ -48,7 +48,7 @@ module _ (P : Program) (r : Frame) where
   result_stands c x = stands_as r _ _ (λ l n g. g) x
 
   -- one variable more
-  pub declared_stands : (n : ℕ) (d : Declarator) (b : BlockItems) → n ≡ suc r.live → ItemsStand P r (declaration d b) → GivenStands P (record r { live = n }) d.source
+  pub declared_stands : (n : ℕ) (d : Declarator) (b : BlockItems) → n ≡ suc r.live → ItemsStand P r (declaration d b) → GivenStands P (record r { live = n }) d.rvalue
   declared_stands n d b same x = record {
     in_loop = x.in_loop;
     own = suc x.own;

@@ -7,7 +7,7 @@ use Rattle.lra_program.specs.Value.{index_of}
 use Rattle.lra_program.specs.Step as step
 use Rattle.lra_program.specs.Step.{append, give, give_any, keep, test}
 use Rattle.lra_operations.specs.Graph.{Exit, broken, continued, returned, Node, empty, point, act, check, seq, choose, leave}
-use Rattle.lra_program.specs.Sites.{Site, comes, plain_site, live_behind, source_events, given_events, stmt_events, items_events, function_events, call_events}
+use Rattle.lra_program.specs.Sites.{Site, comes, plain_site, live_behind, rvalue_events, given_events, stmt_events, items_events, function_events, call_events}
 use Rattle.lra_operations.specs.Inlined as inlined
 use Rattle.lra_operations.specs.Inlined.{spot_of, Has, HasSite, callee, Inl, InlAll, Declares, Loops, Gives, as_nothing, as_block, as_absent, as_assign, as_call, as_if, as_loop}
 use Rattle.lra_operations.specs.Inlined.{as_for, as_break, as_continue}
@@ -16,7 +16,7 @@ use Rattle.lra_operations.specs.Inlined.{is_loop, as_value, as_result, loop_node
 use Rattle.lra_graph.specs.declared.frame.Frame.{Frame}
 use Rattle.lra_graph.specs.declared.frame.Back.{Back}
 use Rattle.lra_graph.specs.Limits.{walk, passed}
-use Rattle.lra_graph.specs.Building.{receiver, any_left, value_left, call_left, back_parts, IsFrame, Begins, inside, WritesStmt, WritesItems, WritesSource, WritesLoop, WritesDeclared, WritesReturn}
+use Rattle.lra_graph.specs.Building.{receiver, any_left, value_left, call_left, back_parts, IsFrame, Begins, inside, WritesStmt, WritesItems, WritesRvalue, WritesLoop, WritesDeclared, WritesReturn}
 use Rattle.lra_graph.specs.Building.{LeavesLoop}
 use Rattle.lra_graph.proofs.Walking.{walk_then, begins_walk, point_there, one_longer}
 
@@ -87,18 +87,18 @@ module _ (P : Program) (path : List ℕ) (r : Frame) where
   inl_as T f n k k' s h u e y = subst (λ z. Inl P T (spot_of f n z) s h u) e y
 
   pub assign_written : (S V U : List Site) (q at place : ℕ) (x : Slot) (s : Rvalue) (h g : Node) → q ≡ length S → Pointed S (site at N false) V → place ≡ index_of r.base x
-      → WritesSource P path r q (Some place) V s h U
+      → WritesRvalue P path r q (Some place) V s h U
       → g ≡ seq (point q) h → WritesStmt P path r S (assign at x s) g U
   assign_written S V U q at place x s h g i e j y a = record {
-    walked = walk_then S (plain_site path at N ∷ []) (source_events (inside P path r) path N s) V (passed U) e y.walked;
+    walked = walk_then S (plain_site path at N ∷ []) (rvalue_events (inside P path r) path N s) V (passed U) e y.walked;
     placed = λ T f b is.
-        let b' = begins_join V U T (begins_walk V (source_events (inside P path r) path N s) U y.walked) b in
+        let b' = begins_join V U T (begins_walk V (rvalue_events (inside P path r) path N s) U y.walked) b in
         let y' = gives_as T f N q (length S) (length V) (suc (length S)) (Some place) (Some (index_of f.here.base x)) s h (length U) i (one_longer S V (site at N false) e)
         (ap (λ z. Some z) j ∙ ap (λ z. Some (index_of z x)) (sym is.base)) (y.placed T f b is) in
         rw (a, i) (as_assign (has_point S V T f at N false e b' is) y');
   }
 
-  pub call_written : (S V U : List Site) (q at : ℕ) (c : Call) (h g : Node) → q ≡ length S → Pointed S (site at N false) V → WritesSource P path r q None V (result c) h U
+  pub call_written : (S V U : List Site) (q at : ℕ) (c : Call) (h g : Node) → q ≡ length S → Pointed S (site at N false) V → WritesRvalue P path r q None V (result c) h U
       → g ≡ seq (point q) h → WritesStmt P path r S (call at c) g U
   call_written S V U q at c h g i e y a = record {
     walked = walk_then S (plain_site path at N ∷ []) (inside P path r path N c) V (passed U) e y.walked;
@@ -235,7 +235,7 @@ module _ (P : Program) (path : List ℕ) (r : Frame) where
           (as_return_value z.1 low' has));
     }
 
-    pub return_call_written : (U : List Site) (c : Call) (h k g : Node) → WritesSource P path r q b.target S (result c) h U → k ≡ seq (act q (keep b.length)) (leave N returned) → g ≡ seq h k
+    pub return_call_written : (U : List Site) (c : Call) (h k g : Node) → WritesRvalue P path r q b.target S (result c) h U → k ≡ seq (act q (keep b.length)) (leave N returned) → g ≡ seq h k
         → WritesReturn P path r q S (Some (result c)) g U
     return_call_written U c h k g y a a' = record {
       walked = y.walked;
@@ -253,7 +253,7 @@ module _ (P : Program) (path : List ℕ) (r : Frame) where
     pub end_value_written : (e : Expr) (g : Node) → g ≡ leave N returned → WritesReturn P path r q S (Some (value e)) g S
     end_value_written e g a = record { walked = refl; placed = λ T f bs is at long has. rw (a, long) (as_end_value (no_back_there f.back (is.back ∙ back)) has) }
 
-    pub end_call_written : (U : List Site) (c : Call) (h g : Node) → WritesSource P path r q None S (result c) h U → g ≡ seq h (leave N returned) → WritesReturn P path r q S (Some (result c)) g U
+    pub end_call_written : (U : List Site) (c : Call) (h g : Node) → WritesRvalue P path r q None S (result c) h U → g ≡ seq h (leave N returned) → WritesReturn P path r q S (Some (result c)) g U
     end_call_written U c h g y a = record {
       walked = y.walked;
       placed = λ T f bs is at long has.
@@ -271,7 +271,7 @@ module _ (P : Program) (path : List ℕ) (r : Frame) where
     value_back x None e = end_value_written V q e x (leave N returned) refl
     value_back x (Some b) e = return_value_written V q b e (low b e) x (value_left (Some b) q r.base x N) refl
 
-    call_back : (U : List Site) (c : Call) (h : Node) (o : Option Back) → r.back ≡ o → WritesSource P path r q (receiver o) V (result c) h U
+    call_back : (U : List Site) (c : Call) (h : Node) (o : Option Back) → r.back ≡ o → WritesRvalue P path r q (receiver o) V (result c) h U
         → WritesReturn P path r q V (Some (result c)) (call_left o q h N) U
     call_back U c h None e y = end_call_written V q e U c h (call_left None q h N) y refl
     call_back U c h (Some b) e y = return_call_written V q b e (low b e) U c h (seq (act q (keep b.length)) (leave N returned)) (call_left (Some b) q h N) y refl refl
@@ -283,7 +283,7 @@ module _ (P : Program) (path : List ℕ) (r : Frame) where
       pub value_returned : (x : Expr) → g ≡ seq (point q) (value_left r.back q r.base x N) → WritesStmt P path r S (return at (Some (value x))) g V
       value_returned x a = return_written S V V q at (Some (value x)) (value_left r.back q r.base x N) g i pointed (value_back x r.back refl) a
 
-      pub call_returned : (U : List Site) (c : Call) (h : Node) → WritesSource P path r q (receiver r.back) V (result c) h U → g ≡ seq (point q) (call_left r.back q h N)
+      pub call_returned : (U : List Site) (c : Call) (h : Node) → WritesRvalue P path r q (receiver r.back) V (result c) h U → g ≡ seq (point q) (call_left r.back q h N)
           → WritesStmt P path r S (return at (Some (result c))) g U
       call_returned U c h y a = return_written S V U q at (Some (result c)) (call_left r.back q h N) g i pointed (call_back U c h r.back refl y) a
 
@@ -300,20 +300,20 @@ module _ (P : Program) (path : List ℕ) (r : Frame) where
   }
 
   pub declaration_written : (S V W U : List Site) (q n : ℕ) (d : Declarator) (b : BlockItems) (h j k g : Node) → q ≡ length S → n ≡ suc N → Pointed S (site d.label N false) V
-      → WritesDeclared P path r q V d.source h W
+      → WritesDeclared P path r q V d.rvalue h W
       → WritesItems P path (record r { live = n }) W b k U → j ≡ seq (point q) h → g ≡ seq j k → WritesItems P path r S (declaration d b) g U
   declaration_written S V W U q n d b h j k g i same e x y a a' =
       let y' = subst (λ z. WritesItems P path (record r { live = z }) W b k U) same y in
-      let mid = given_events (inside P path r) path (suc N) d.source in
+      let mid = given_events (inside P path r) path (suc N) d.rvalue in
       let rest = items_events (inside P path r) path (suc N) b in
       record {
         walked = walk_then S (plain_site path d.label N ∷ []) (mid ++ rest) V (passed U) e (walk_then V mid rest W (passed U) x.walked y'.walked);
         placed = λ T f bs is.
             let bs' = begins_join W U T (begins_walk W rest U y'.walked) bs in
             let bs'' = begins_join V W T (begins_walk V mid W x.walked) bs' in
-            let x' : Declares P T (spot_of f N (length S)) (suc (length S)) d.source h (length W) =
-            subst (λ z. Declares P T (spot_of f N (length S)) z d.source h (length W)) (one_longer S V (site d.label N false) e)
-            (subst (λ z. Declares P T (spot_of f N z) (length V) d.source h (length W)) i (x.placed T f bs' is)) in
+            let x' : Declares P T (spot_of f N (length S)) (suc (length S)) d.rvalue h (length W) =
+            subst (λ z. Declares P T (spot_of f N (length S)) z d.rvalue h (length W)) (one_longer S V (site d.label N false) e)
+            (subst (λ z. Declares P T (spot_of f N z) (length V) d.rvalue h (length W)) i (x.placed T f bs' is)) in
             rw (a', a, i) (as_declaration (has_point S V T f d.label N false e bs'' is) x'
             (y'.placed T f bs (with_live (suc N) is)));
       }
@@ -321,13 +321,13 @@ module _ (P : Program) (path : List ℕ) (r : Frame) where
   pub fresh_written : (S : List Site) (q : ℕ) (g : Node) → g ≡ act q append → WritesDeclared P path r q S None g S
   fresh_written S q g a = record { walked = refl; placed = λ T f b is. rw a as_fresh }
 
-  pub given_written : (S U : List Site) (q n : ℕ) (e : Rvalue) (h g : Node) → n ≡ suc N → WritesSource P path (record r { live = n }) q (Some r.live) S e h U → g ≡ seq (act q append) h
+  pub given_written : (S U : List Site) (q n : ℕ) (e : Rvalue) (h g : Node) → n ≡ suc N → WritesRvalue P path (record r { live = n }) q (Some r.live) S e h U → g ≡ seq (act q append) h
       → WritesDeclared P path r q S (Some e) g U
   given_written S U q n e h g same y a =
-      let y' = subst (λ z. WritesSource P path (record r { live = z }) q (Some r.live) S e h U) same y in
+      let y' = subst (λ z. WritesRvalue P path (record r { live = z }) q (Some r.live) S e h U) same y in
       record { walked = y'.walked; placed = λ T f b is. rw a (as_given (y'.placed T f b (with_live (suc N) is))) }
 
-  pub value_written : (S : List Site) (q : ℕ) (x : Option ℕ) (e : Expr) (g : Node) → g ≡ act q (give r.base x e) → WritesSource P path r q x S (value e) g S
+  pub value_written : (S : List Site) (q : ℕ) (x : Option ℕ) (e : Expr) (g : Node) → g ≡ act q (give r.base x e) → WritesRvalue P path r q x S (value e) g S
   value_written S q x e g a = record { walked = refl; placed = λ T f b is. rw (a, ← is.base) as_value }
 
   -- a call that may still be made
@@ -336,7 +336,7 @@ module _ (P : Program) (path : List ℕ) (r : Frame) where
       → WritesItems P (c.label ∷ path) (record { base = r.live; live = r.live + fn.parameters; calls_left = more; loop_length = None; back = Some (record { target = x; length = r.live }) }) S
       fn.body h V
       → n ≡ live_behind (N + fn.parameters) fn.body → k ≡ length V → Pointed V (record { path = c.label ∷ path; label = fn.end; live = n; asserts = false }) U
-      → g ≡ call_node q k r.base N x c.arguments fn.parameters h → WritesSource P path r q x S (result c) g U
+      → g ≡ call_node q k r.base N x c.arguments fn.parameters h → WritesRvalue P path r q x S (result c) g U
   result_written S V U q k n more x c fn h g left found wide y same i e a =
       let m = live_behind (N + fn.parameters) fn.body in
       let last : Site = record { path = c.label ∷ path; label = fn.end; live = m; asserts = false } in

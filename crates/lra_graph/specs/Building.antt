@@ -7,7 +7,7 @@ use Rattle.lra_program.specs.Program.{Function, Program}
 use Rattle.lra_program.specs.Step as step
 use Rattle.lra_program.specs.Step.{give, give_any, keep}
 use Rattle.lra_operations.specs.Graph.{Exit, broken, continued, returned, Node, act, leave, seq, point}
-use Rattle.lra_program.specs.Sites.{Site, Event, live_behind, source_events, given_events, stmt_events, items_events}
+use Rattle.lra_program.specs.Sites.{Site, Event, live_behind, rvalue_events, given_events, stmt_events, items_events}
 use Rattle.lra_program.specs.Sites.{call_events}
 use Rattle.lra_operations.specs.Inlined as inlined
 use Rattle.lra_program.specs.WellFormed.{IsGoodCall, IsGoodGiven, IsGoodStmt, AreGoodItems}
@@ -105,8 +105,8 @@ module _ (P : Program) (path : List ℕ) (r : Frame) where
       (λ T f. inlined.InlAll P T (inlined.spot_of f r.live (length S)) b g (live_behind r.live b) (length U))
 
   -- what a variable gets, from the point q on
-  abbrev pub WritesSource : ℕ → Option ℕ → List Site → Rvalue → Node → List Site → Type 0
-  WritesSource q x S e g U = Writes path r (source_events inside path r.live e) S U
+  abbrev pub WritesRvalue : ℕ → Option ℕ → List Site → Rvalue → Node → List Site → Type 0
+  WritesRvalue q x S e g U = Writes path r (rvalue_events inside path r.live e) S U
       (λ T f. inlined.Gives P T (inlined.spot_of f r.live q) (length S) x e g (length U))
 
   -- a loop behind its own point q

@@ -6,7 +6,7 @@ use Rattle.lra_operations.specs.declared.graph.Site as code_site
 use Rattle.lra_program.specs.Program.{Cond, Call, Rvalue, Stmt, block, assign, call, if, loop, for, return}
 use Rattle.lra_program.specs.Program.{result, BlockItems, Program}
 use Rattle.lra_operations.specs.Graph.{Exit}
-use Rattle.lra_program.specs.Sites.{Site, Event, comes, plain_site, source_events, given_events, stmt_events}
+use Rattle.lra_program.specs.Sites.{Site, Event, comes, plain_site, rvalue_events, given_events, stmt_events}
 use Rattle.lra_program.specs.Sites.{items_events, call_events}
 use Rattle.lra_program.specs.ProgramViews.{cond_view, stmt_view, program_view}
 use Rattle.lra_operations.specs.GraphViews.{node_view, site_view}
@@ -109,8 +109,8 @@ module _ (at : Around) where
     abbrev pub StopsGiven : ℕ → Option Rvalue → Limit → Type 0
     StopsGiven live o = Stops (given_events inside at.path.now live o)
 
-    abbrev pub StopsSource : Rvalue → Limit → Type 0
-    StopsSource e = Stops (source_events inside at.path.now at.frame.live e)
+    abbrev pub StopsRvalue : Rvalue → Limit → Type 0
+    StopsRvalue e = Stops (rvalue_events inside at.path.now at.frame.live e)
 
     abbrev pub StopsCall : Call → Limit → Type 0
     StopsCall c = Stops (call_events program_around at.frame.calls_left at.path.now at.frame.live c)
@@ -155,9 +155,9 @@ module _ (at : Around) where
           (points_in after)
 
       -- behind the point q, for the variable x
-      abbrev pub IsSource : ℕ → Option ℕ → Rvalue → code.Node → Type 0
-      IsSource q x e g =
-          building.WritesSource program_around at.path.now at.frame q x (points_in before) e (node_view g)
+      abbrev pub IsRvalue : ℕ → Option ℕ → Rvalue → code.Node → Type 0
+      IsRvalue q x e g =
+          building.WritesRvalue program_around at.path.now at.frame q x (points_in before) e (node_view g)
           (points_in after)
 
       -- g is the call's tree, where h is its callee's body, wherever that begins
@@ -165,7 +165,7 @@ module _ (at : Around) where
       IsCall q x c h n g =
           (S : List Site)
           → building.WritesBody program_around at.path.now at.frame x c S (node_view h) n (points_in before)
-          → building.WritesSource program_around at.path.now at.frame q x S (result c) (node_view g) (points_in after)
+          → building.WritesRvalue program_around at.path.now at.frame q x S (result c) (node_view g) (points_in after)
 
       abbrev pub IsDeclared : ℕ → Option Rvalue → code.Node → Type 0
       IsDeclared q o g =

@@ -17,9 +17,9 @@ ghost use Rattle.lra_operations.specs.GraphViews.{exit_view};
 ghost use Rattle.lra_graph.specs.Limits.{OnLimit};
 ghost use Rattle.lra_graph.specs.Inlining.{points_in, program_around, own_events, assertion_events, Passes, Stops};
 ghost use Rattle.lra_graph.specs.Inlining.{StmtStands, ItemsStand, ItemStands, GivenStands, DeclaredStands, CallStands};
-ghost use Rattle.lra_graph.specs.Inlining.{RoundStands, StopsStmt, StopsItems, StopsItem, StopsGiven, StopsSource};
+ghost use Rattle.lra_graph.specs.Inlining.{RoundStands, StopsStmt, StopsItems, StopsItem, StopsGiven, StopsRvalue};
 ghost use Rattle.lra_graph.specs.Inlining.{StopsCall, StopsRound, IsSimple, IsLone, IsStmt, IsPlain, IsExit, AreItems};
-ghost use Rattle.lra_graph.specs.Inlining.{IsItem, IsSource};
+ghost use Rattle.lra_graph.specs.Inlining.{IsItem, IsRvalue};
 ghost use Rattle.lra_graph.specs.Inlining.{IsDeclared, IsLoop, for_of};
 
 use crate::forms::{
@@ -233,13 +233,13 @@ fn inline_simple(
     ensures limit { OnLimit result (StopsStmt around.now sites.old (stmt_view stmt.now)) }
 {
     match stmt {
-        Stmt::Assign(label, slot, source) => inline_assign(around, *label, *slot, source, sites),
+        Stmt::Assign(label, slot, rvalue) => inline_assign(around, *label, *slot, rvalue, sites),
         Stmt::Call(label, call) => {
             let point = own_point(around, *label, sites)?;
             let given = inline_call(around, point, None, call, sites)?;
             finish(behind_point(around.alloc, point, given))
         }
-        Stmt::Return(label, source) => inline_return(around, *label, source, sites),
+        Stmt::Return(label, rvalue) => inline_return(around, *label, rvalue, sites),
         _ => inline_lone(around, stmt, sites),
     }
 }
@@ -270,19 +270,19 @@ fn inline_assign(
     around: &Around<'_>,
     label: usize,
     slot: Slot,
-    source: &Rvalue,
+    rvalue: &Rvalue,
     sites: &mut Vec<Site>,
 ) -> Result<Node, GraphError>
     requires well { IsWellFormed (program_around around.now) }
-    requires stands { StmtStands around.now (resolved.assign label (slot_view slot) (rvalue_view source.now)) }
+    requires stands { StmtStands around.now (resolved.assign label (slot_view slot) (rvalue_view rvalue.now)) }
     ensures written { IfOk result (IsStmt around.now sites.old sites.new
-        (resolved.assign label (slot_view slot) (rvalue_view source.now))) }
+        (resolved.assign label (slot_view slot) (rvalue_view rvalue.now))) }
     ensures limit { OnLimit result (StopsStmt around.now sites.old
-        (resolved.assign label (slot_view slot) (rvalue_view source.now))) }
+        (resolved.assign label (slot_view slot) (rvalue_view rvalue.now))) }
 {
     let point = own_point(around, label, sites)?;
     let target = Some(store_index(around.frame.base, slot));
-    let given = inline_source(around, point, target, source, sites)?;
+    let given = inline_rvalue(around, point, target, rvalue, sites)?;
     finish(behind_point(around.alloc, point, given))
 }
 
@@ -356,7 +356,7 @@ fn inline_item(
     match item {
         BlockItem::Declaration(declarator) => {
             let point = own_point(around, declarator.label, sites)?;
-            let given = inline_declared(around, point, &declarator.source, sites)?;
+            let given = inline_declared(around, point, &declarator.rvalue, sites)?;
             let declared = behind_point(around.alloc, point, given)?;
             Ok((declared, around.frame.live + 1))
         }
@@ -372,26 +372,26 @@ fn inline_item(
 fn inline_declared(
     around: &Around<'_>,
     point: usize,
-    source: &Option<Rvalue>,
+    rvalue: &Option<Rvalue>,
     sites: &mut Vec<Site>,
 ) -> Result<Node, GraphError>
     requires well { IsWellFormed (program_around around.now) }
     requires few { around.now.frame.live ≤ 24 }
-    requires stands { DeclaredStands around.now (given_view source.now) }
-    ensures written { IfOk result (IsDeclared around.now sites.old sites.new point (given_view source.now)) }
+    requires stands { DeclaredStands around.now (given_view rvalue.now) }
+    ensures written { IfOk result (IsDeclared around.now sites.old sites.new point (given_view rvalue.now)) }
     ensures limit { OnLimit result (StopsGiven around.now sites.old (around.now.frame.live + 1)
-        (given_view source.now)) }
+        (given_view rvalue.now)) }
 {
-    match source {
+    match rvalue {
         None => Ok(Node::Act(point, Op::Append)),
-        Some(source) => {
+        Some(rvalue) => {
             let place = around.frame.live;
             let frame = Frame {
                 live: place + 1,
                 ..around.frame
             };
             let behind_it = Around { frame, ..*around };
-            let given = inline_source(&behind_it, point, Some(place), source, sites)?;
+            let given = inline_rvalue(&behind_it, point, Some(place), rvalue, sites)?;
             finish(behind(around.alloc, point, Op::Append, given))
         }
     }
@@ -492,16 +492,16 @@ fn inline_for(
 fn inline_return(
     around: &Around<'_>,
     label: usize,
-    source: &Option<Rvalue>,
+    rvalue: &Option<Rvalue>,
     sites: &mut Vec<Site>,
 ) -> Result<Node, GraphError>
     requires well { IsWellFormed (program_around around.now) }
-    requires stands { StmtStands around.now (resolved.return label (given_view source.now)) }
+    requires stands { StmtStands around.now (resolved.return label (given_view rvalue.now)) }
     ensures written { IfOk result (IsStmt around.now sites.old sites.new
-        (resolved.return label (given_view source.now))) }
-    ensures limit { OnLimit result (StopsStmt around.now sites.old (resolved.return label (given_view source.now))) }
+        (resolved.return label (given_view rvalue.now))) }
+    ensures limit { OnLimit result (StopsStmt around.now sites.old (resolved.return label (given_view rvalue.now))) }
 {
-    match source {
+    match rvalue {
         None => return_any(around, label, sites),
         Some(Rvalue::Value(value)) => return_value(around, label, value, sites),
         Some(Rvalue::Result(call)) => {
@@ -515,20 +515,20 @@ fn inline_return(
 
 /// What the target gets, where there is one.
 #[cycle(inline)]
-fn inline_source(
+fn inline_rvalue(
     around: &Around<'_>,
     point: usize,
     target: Option<usize>,
-    source: &Rvalue,
+    rvalue: &Rvalue,
     sites: &mut Vec<Site>,
 ) -> Result<Node, GraphError>
     requires well { IsWellFormed (program_around around.now) }
     requires few { around.now.frame.live ≤ 25 }
-    requires stands { GivenStands around.now (Some (rvalue_view source.now)) }
-    ensures written { IfOk result (IsSource around.now sites.old sites.new point target (rvalue_view source.now)) }
-    ensures limit { OnLimit result (StopsSource around.now sites.old (rvalue_view source.now)) }
+    requires stands { GivenStands around.now (Some (rvalue_view rvalue.now)) }
+    ensures written { IfOk result (IsRvalue around.now sites.old sites.new point target (rvalue_view rvalue.now)) }
+    ensures limit { OnLimit result (StopsRvalue around.now sites.old (rvalue_view rvalue.now)) }
 {
-    match source {
+    match rvalue {
         Rvalue::Value(value) => {
             let value = value.copy(around.alloc)?;
             Ok(Node::Act(point, Op::Give(around.frame.base, target, value)))
@@ -549,7 +549,7 @@ fn inline_call(
     requires well { IsWellFormed (program_around around.now) }
     requires few { around.now.frame.live ≤ 25 }
     requires stands { CallStands around.now (call_view call.now) }
-    ensures written { IfOk result (IsSource around.now sites.old sites.new point target
+    ensures written { IfOk result (IsRvalue around.now sites.old sites.new point target
         (resolved.result (call_view call.now))) }
     ensures limit { OnLimit result (StopsCall around.now sites.old (call_view call.now)) }
 {

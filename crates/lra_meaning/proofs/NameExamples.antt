@@ -41,8 +41,8 @@ shadowed = main_of (declaration (declared_as (x_at 22) None)
     (statement (block (declaration (declared_as (x_at 32) None) (statement (assign (set (x_at 35) (expression (number 1)))) no_items)) (at 42))
     (statement (assign (set (x_at 44) (expression (number 2)))) no_items))) 51
 
-shadowed_body : (resolve shadowed).main.body ≡ program.declaration (record { label = 1; source = None })
-    (program.statement (program.block (program.declaration (record { label = 2; source = None })
+shadowed_body : (resolve shadowed).main.body ≡ program.declaration (record { label = 1; rvalue = None })
+    (program.statement (program.block (program.declaration (record { label = 2; rvalue = None })
     (program.statement (program.assign 3 (program.local 1) (program.value (program.literal 1))) program.no_more)) 4)
     (program.statement (program.assign 5 (program.local 0) (program.value (program.literal 2))) program.no_more))
 shadowed_body = refl
@@ -55,7 +55,7 @@ abbrev one_for : FileTree
 one_for = main_of (statement (for (at 17) (declared (declared_as (x_at 26) (Some (expression (number 0))))) (Some (tested (compare (use_of (x_at 31)) operators.below (number 3))))
     (Some (after (x_at 36) increment)) (nothing (at 41))) no_items) 43
 
-one_for_body : (resolve one_for).main.body ≡ program.statement (program.for 1 (program.declaration (record { label = 2; source = Some (program.value (program.literal 0)) }) program.no_more)
+one_for_body : (resolve one_for).main.body ≡ program.statement (program.for 1 (program.declaration (record { label = 2; rvalue = Some (program.value (program.literal 0)) }) program.no_more)
     (program.compare operators.below (program.read (program.local 0)) (program.literal 3)) (program.nothing 4)
     (program.assign 3 (program.local 0) (program.value (program.binary operators.plus (program.read (program.local 0)) (program.literal 1))))) program.no_more
 one_for_body = refl

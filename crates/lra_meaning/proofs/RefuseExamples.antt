@@ -31,11 +31,11 @@ limits t = limit_fault (labels_of t) 0 (events_of (resolve t))
 -- so many variables, the last named last
 abbrev variables : ℕ → List DeclaratorTree
 variables zero = []
-variables (suc n) = record { name = name_at (118 ∷ n ∷ []) 22; source = None } ∷ variables n
+variables (suc n) = record { name = name_at (118 ∷ n ∷ []) 22; rvalue = None } ∷ variables n
 
 -- int main(void){ long v1,..,v25;} : all live at the `}`
 abbrev with_variables : ℕ → FileTree
-with_variables n = main_of (declaration (record { first = record { name = name_at (codes "v") 22; source = None }; rest = variables n }) no_items) 113
+with_variables n = main_of (declaration (record { first = record { name = name_at (codes "v") 22; rvalue = None }; rest = variables n }) no_items) 113
 
 too_many_variables : limits (with_variables 24) ≡ Some (record { cause = TooManyVariables; place = at 113 })
 too_many_variables = refl
@@ -45,7 +45,7 @@ variables_enough = refl
 
 -- int main(void){ long v1,..,vN; for(long i=0;;) ; }
 abbrev with_for : ℕ → FileTree
-with_for n = main_of (declaration (record { first = record { name = name_at (codes "v") 22; source = None }; rest = variables n })
+with_for n = main_of (declaration (record { first = record { name = name_at (codes "v") 22; rvalue = None }; rest = variables n })
     (statement (for (at 114) (declared (declared_as (name_at (codes "i") 123) (Some (expression (number_of 0))))) None None (nothing (at 130))) no_items)) 132
 
 -- i is the 25th: the first point where it lives is that of the word `for`, which comes before its declarator's
@@ -60,7 +60,7 @@ abbrev with_callee : ℕ → FileTree
 with_callee n = record {
   parts = function (void_of (codes "f") 6 (name_at (codes "d") 13 ∷ []) (statement (nothing (at 16)) no_items) 17)
       ∷ function (function_of (codes "main") 23 []
-      (declaration (record { first = record { name = name_at (codes "v") 40; source = None }; rest = variables n })
+      (declaration (record { first = record { name = name_at (codes "v") 40; rvalue = None }; rest = variables n })
       (statement (call (call_of (name_at (codes "f") 132) (number_of 0 ∷ []))) no_items)) 138)
       ∷ [];
   end = at 139;

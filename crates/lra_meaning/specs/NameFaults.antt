@@ -80,12 +80,12 @@ abbrev pub call_faults : List FunctionTree → Scope → CallTree → Bool → L
 call_faults F s c used = called_faults (function_named F c.name.word) c.name (length c.arguments) used ++
     flat_map (expr_faults s) c.arguments
 
-abbrev pub source_faults : List FunctionTree → Scope → RvalueTree → List Refusal
-source_faults F s (expression e) = expr_faults s e
-source_faults F s (result c) = call_faults F s c true
+abbrev pub rvalue_faults : List FunctionTree → Scope → RvalueTree → List Refusal
+rvalue_faults F s (expression e) = expr_faults s e
+rvalue_faults F s (result c) = call_faults F s c true
 
 abbrev pub assign_faults : List FunctionTree → Scope → AssignTree → List Refusal
-assign_faults F s (set x e) = use_faults s x ++ source_faults F s e
+assign_faults F s (set x e) = use_faults s x ++ rvalue_faults F s e
 assign_faults F s (update x op e) = use_faults s x ++ expr_faults s e
 assign_faults F s (after x step) = use_faults s x
 assign_faults F s (before at step x) = use_faults s x
@@ -94,13 +94,13 @@ assign_faults F s (before at step x) = use_faults s x
 
 abbrev pub given_faults : List FunctionTree → Scope → Option RvalueTree → List Refusal
 given_faults F s None = []
-given_faults F s (Some e) = source_faults F s e
+given_faults F s (Some e) = rvalue_faults F s e
 
 abbrev pub declarators_faults : List FunctionTree → Scope → List DeclaratorTree → List Refusal
 declarators_faults F s [] = []
 declarators_faults F s (d ∷ ds) =
     let t = with_local s d.name.word in
-    fault_if (is_declared s d.name.word) DuplicateName d.name.place ++ given_faults F t d.source ++
+    fault_if (is_declared s d.name.word) DuplicateName d.name.place ++ given_faults F t d.rvalue ++
     declarators_faults F t ds
 
 abbrev pub init_faults : List FunctionTree → Scope → InitTree → List Refusal
@@ -129,7 +129,7 @@ in_a_loop a = record a { in_loop = true }
 
 abbrev pub return_faults : Around → Scope → Place → Option RvalueTree → List Refusal
 return_faults a s at None = []
-return_faults a s at (Some e) = fault_if (not a.has_result) BadCall at ++ source_faults a.functions s e
+return_faults a s at (Some e) = fault_if (not a.has_result) BadCall at ++ rvalue_faults a.functions s e
 
 abbrev mutual
   pub stmt_faults : Around → Scope → StmtTree → List Refusal

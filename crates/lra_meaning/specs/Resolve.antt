@@ -90,20 +90,20 @@ resolve_call F s n c = record {
   arguments = map (resolve_expr s) c.arguments;
 }
 
-abbrev pub resolve_source : List tree.FunctionTree → Scope → ℕ → tree.RvalueTree → Rvalue
-resolve_source F s n (tree.expression e) = value (resolve_expr s e)
-resolve_source F s n (tree.result c) = result (resolve_call F s n c)
+abbrev pub resolve_rvalue : List tree.FunctionTree → Scope → ℕ → tree.RvalueTree → Rvalue
+resolve_rvalue F s n (tree.expression e) = value (resolve_expr s e)
+resolve_rvalue F s n (tree.result c) = result (resolve_call F s n c)
 
 abbrev pub resolve_given : List tree.FunctionTree → Scope → ℕ → Option tree.RvalueTree → Option Rvalue
 resolve_given F s n None = None
-resolve_given F s n (Some e) = Some (resolve_source F s n e)
+resolve_given F s n (Some e) = Some (resolve_rvalue F s n e)
 
 abbrev pub step_operator : tree.StepTree → Operator
 step_operator tree.increment = plus
 step_operator tree.decrement = minus
 
 abbrev pub resolve_assign : List tree.FunctionTree → Scope → ℕ → tree.AssignTree → Stmt
-resolve_assign F s n (tree.set x e) = assign n (variable s x) (resolve_source F s n e)
+resolve_assign F s n (tree.set x e) = assign n (variable s x) (resolve_rvalue F s n e)
 resolve_assign F s n (tree.update x op e) = assign n (variable s x)
     (value (binary op (read (variable s x)) (resolve_expr s e)))
 resolve_assign F s n (tree.after x step) = assign n (variable s x)
@@ -117,7 +117,7 @@ abbrev pub resolve_declarators : List tree.FunctionTree → Scope → ℕ → Li
 resolve_declarators F s n [] items = items
 resolve_declarators F s n (d ∷ ds) items =
     let t = with_local s d.name.word in
-    declaration (record { label = n; source = resolve_given F t n d.source }) (resolve_declarators F t (suc n) ds items)
+    declaration (record { label = n; rvalue = resolve_given F t n d.rvalue }) (resolve_declarators F t (suc n) ds items)
 
 abbrev pub resolve_init : List tree.FunctionTree → Scope → ℕ → tree.InitTree → BlockItems
 resolve_init F s n tree.no_init = no_more

@@ -126,7 +126,7 @@ mutual
   pub data InlAll (P : Program) (T : List Site) : Spot → BlockItems → Node → ℕ → ℕ → Type 0 where
     as_none : {s : Spot} → InlAll P T s no_more empty s.live s.next
     as_declaration : {s : Spot} {d : Declarator} {b : BlockItems} {g h : Node} {r n q : ℕ} →
-        Has T s d.label → Declares P T s (suc s.next) d.source g r → InlAll P T (move s (suc s.live) r) b h n q
+        Has T s d.label → Declares P T s (suc s.next) d.rvalue g r → InlAll P T (move s (suc s.live) r) b h n q
         → InlAll P T s (declaration d b) (seq (seq (point s.next) g) h) n q
     as_statement : {s : Spot} {a : Stmt} {b : BlockItems} {g h : Node} {r n q : ℕ} →
         Inl P T s a g r → InlAll P T (at_point s r) b h n q

@@ -8,12 +8,12 @@ ghost use Rattle.lra_tree.specs.declared.tokens.Mark.TheVariants.{Break, Continu
 ghost use Rattle.lra_readers.specs.Tests.{first, is_loop, is_jump};
 ghost use Rattle.lra_readers.specs.Reading.{Gives};
 ghost use Rattle.lra_readers.specs.Expressions.{cond_at};
-ghost use Rattle.lra_readers.specs.Statements.{source_at, assign_at, up_to, init_of, init_at, for_of, for_head_at};
+ghost use Rattle.lra_readers.specs.Statements.{rvalue_at, assign_at, up_to, init_of, init_at, for_of, for_head_at};
 ghost use Rattle.lra_readers.specs.Statements.{read_jump, read_return};
 ghost use Rattle.lra_parse.specs.Heads.{head_view};
 
 use lra_base::Place;
-use lra_phrases::{read_assign, read_cond, read_declaration, read_source};
+use lra_phrases::{read_assign, read_cond, read_declaration, read_rvalue};
 use lra_readers::{Stopped, expect, expect_at, next_is, tail};
 use lra_tree::{Assign, Cond, Init, Mark, Rvalue, Stmt, Token};
 use std::alloc::Global;
@@ -170,14 +170,14 @@ fn read_returned(
 ) -> Result<(Option<Rvalue>, &[Token]), Stopped>
     ensures shorter { IfOk result (λ r. length r.1.now ≤ length rest.now) }
     ensures gives { Gives (λ r. (option_map rvalue_view r.0, r.1.now)) result
-        (up_to Semicolon (source_at depth) rest.now) }
+        (up_to Semicolon (rvalue_at depth) rest.now) }
 {
     if next_is(rest, Mark::Semicolon) {
         return Ok((None, tail(rest)));
     }
-    let (source, behind) = read_source(alloc, rest, depth)?;
+    let (rvalue, behind) = read_rvalue(alloc, rest, depth)?;
     let end = expect(behind, Mark::Semicolon)?;
-    Ok((Some(source), end))
+    Ok((Some(rvalue), end))
 }
 
 /// `return;`, or with what it gives.
@@ -186,6 +186,6 @@ pub fn read_return(alloc: Global, rest: &[Token], depth: usize) -> Result<(Stmt,
     ensures gives { Gives (λ r. (stmt_view r.0, r.1.now)) result (read_return depth rest.now) }
 {
     let (place, word) = expect_at(rest, Mark::Return)?;
-    let (source, after) = read_returned(alloc, word, depth)?;
-    Ok((Stmt::Return(place, source), after))
+    let (rvalue, after) = read_returned(alloc, word, depth)?;
+    Ok((Stmt::Return(place, rvalue), after))
 }

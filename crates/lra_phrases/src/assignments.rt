@@ -8,7 +8,7 @@ ghost use Rattle.lra_readers.specs.Statements.{skip, commas, update_operator, ne
 ghost use Rattle.lra_readers.specs.Statements.{assign_at, type_words, given, declarator_at, declaration_of};
 ghost use Rattle.lra_readers.specs.Statements.{declaration_at};
 
-use crate::calls::read_source;
+use crate::calls::read_rvalue;
 use crate::expressions::read_expr;
 use lra_base::{Cause, Operator, Place};
 use lra_readers::{Stopped, expect, next_is, read_name, stop, tail};
@@ -84,8 +84,8 @@ pub fn read_assign_rest(
     ensures gives { Gives (λ r. (assign_view r.0, r.1.now)) result (assign_rest depth name rest.now) }
 {
     if next_is(rest, Mark::Assign) {
-        let (source, after) = read_source(alloc, tail(rest), depth)?;
-        return Ok((Assign::Set(name, source), after));
+        let (rvalue, after) = read_rvalue(alloc, tail(rest), depth)?;
+        return Ok((Assign::Set(name, rvalue), after));
     }
     match update_operator(rest) {
         Some(operator) => {
@@ -135,11 +135,11 @@ fn read_declarator(
 {
     let (name, behind) = read_name(alloc, rest)?;
     if next_is(behind, Mark::Assign) {
-        let (source, after) = read_source(alloc, tail(behind), depth)?;
-        let source = Some(source);
-        return Ok((Declarator { name, source }, after));
+        let (rvalue, after) = read_rvalue(alloc, tail(behind), depth)?;
+        let rvalue = Some(rvalue);
+        return Ok((Declarator { name, rvalue }, after));
     }
-    Ok((Declarator { name, source: None }, behind))
+    Ok((Declarator { name, rvalue: None }, behind))
 }
 
 /// Declarators with commas between them.

@@ -4,7 +4,7 @@ ghost use Rattle.std.specs.Prelude.{◌≡◌, ◌<◌, ◌≤◌, [], ◌∷◌
 ghost use Rattle.lra_tree.specs.Views.{expr_view, call_view, rvalue_view};
 ghost use Rattle.lra_readers.specs.Reading.{Gives, map_read};
 ghost use Rattle.lra_readers.specs.Expressions.{expr_at};
-ghost use Rattle.lra_readers.specs.Statements.{commas, listed, arguments_at, call_rest, source_rest, source_at};
+ghost use Rattle.lra_readers.specs.Statements.{commas, listed, arguments_at, call_rest, rvalue_rest, rvalue_at};
 
 use crate::expressions::{read_expr, read_factors, read_summands};
 use lra_readers::{Stopped, expect, next_is, next_is_name, read_name, tail};
@@ -71,14 +71,14 @@ pub fn read_call(
 }
 
 /// A call, or an expression, behind the name that it begins with.
-fn read_source_rest(
+fn read_rvalue_rest(
     alloc: Global,
     name: Identifier,
     rest: &[Token],
     depth: usize,
 ) -> Result<(Rvalue, &[Token]), Stopped>
     ensures shorter { IfOk result (λ r. length r.1.now ≤ length rest.now) }
-    ensures gives { Gives (λ r. (rvalue_view r.0, r.1.now)) result (source_rest depth name rest.now) }
+    ensures gives { Gives (λ r. (rvalue_view r.0, r.1.now)) result (rvalue_rest depth name rest.now) }
 {
     if next_is(rest, Mark::OpenParen) {
         let (call, closed) = read_call(alloc, name, rest, depth)?;
@@ -90,17 +90,17 @@ fn read_source_rest(
 }
 
 /// What a variable gets, or a `return` gives: a call or an expression.
-pub fn read_source(
+pub fn read_rvalue(
     alloc: Global,
     rest: &[Token],
     depth: usize,
 ) -> Result<(Rvalue, &[Token]), Stopped>
     ensures shorter { IfOk result (λ r. length r.1.now ≤ length rest.now) }
-    ensures gives { Gives (λ r. (rvalue_view r.0, r.1.now)) result (source_at depth rest.now) }
+    ensures gives { Gives (λ r. (rvalue_view r.0, r.1.now)) result (rvalue_at depth rest.now) }
 {
     if next_is_name(rest) {
         let (name, behind) = read_name(alloc, rest)?;
-        return read_source_rest(alloc, name, behind, depth);
+        return read_rvalue_rest(alloc, name, behind, depth);
     }
     let (expr, after) = read_expr(alloc, rest, depth)?;
     Ok((Rvalue::Value(expr), after))

@@ -28,10 +28,10 @@ abbrev pub main_alone : BlockItems → ℕ → Program
 main_alone body end = record { globals = []; functions = []; main = record { parameters = 0; body = body; end = end } }
 
 abbrev fresh : ℕ → Declarator
-fresh at = record { label = at; source = None }
+fresh at = record { label = at; rvalue = None }
 
 abbrev set_to : ℕ → Expr → Declarator
-set_to at e = record { label = at; source = Some (value e) }
+set_to at e = record { label = at; rvalue = Some (value e) }
 
 abbrev x : Expr
 x = read (local 0)
@@ -127,7 +127,7 @@ called_twice = record {
   functions = inc ∷ [];
   main = record {
     parameters = 0;
-    body = declaration (record { label = 4; source = Some (result (record { label = 4; function = 0; arguments = literal 1 ∷ [] })) })
+    body = declaration (record { label = 4; rvalue = Some (result (record { label = 4; function = 0; arguments = literal 1 ∷ [] })) })
         (statement (assign 5 (local 0) (result (record { label = 5; function = 0; arguments = x ∷ [] }))) (statement (assert 6 (compare equal x (literal 3))) no_more));
     end = 7;
   };
@@ -162,7 +162,7 @@ handed_on = record {
   globals = [];
   functions = record { parameters = 0; body = statement (return 1 (Some (result (record { label = 1; function = 1; arguments = [] })))) no_more; end = 2 }
       ∷ record { parameters = 0; body = no_more; end = 3 } ∷ [];
-  main = record { parameters = 0; body = declaration (record { label = 4; source = Some (result (record { label = 4; function = 0; arguments = [] })) }) no_more; end = 5 };
+  main = record { parameters = 0; body = declaration (record { label = 4; rvalue = Some (result (record { label = 4; function = 0; arguments = [] })) }) no_more; end = 5 };
 }
 
 handed_on_run : visited handed_on (pos 1 ∷ pos 2 ∷ pos 3 ∷ []) ≡ ([], 4, []) ∷ (4 ∷ [], 1, pos 1 ∷ []) ∷ (1 ∷ 4 ∷ [], 3, pos 1 ∷ []) ∷ ([], 5, pos 2 ∷ []) ∷ []
@@ -173,7 +173,7 @@ abbrev bare_return : Program
 bare_return = record {
   globals = [];
   functions = record { parameters = 0; body = statement (return 1 None) no_more; end = 2 } ∷ [];
-  main = record { parameters = 0; body = declaration (record { label = 3; source = Some (result (record { label = 3; function = 0; arguments = [] })) }) no_more; end = 4 };
+  main = record { parameters = 0; body = declaration (record { label = 3; rvalue = Some (result (record { label = 3; function = 0; arguments = [] })) }) no_more; end = 4 };
 }
 
 bare_return_run : visited bare_return (pos 1 ∷ pos 2 ∷ []) ≡ ([], 3, []) ∷ (3 ∷ [], 1, pos 1 ∷ []) ∷ ([], 4, pos 2 ∷ []) ∷ []

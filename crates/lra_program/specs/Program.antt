@@ -35,10 +35,10 @@ pub data Rvalue : Type 0 where
   value : Expr → Rvalue
   result : Call → Rvalue
 
--- `NAME` or `NAME = source` in a declaration
+-- `NAME` or `NAME = rvalue` in a declaration
 pub record Declarator : Type 0 where
   pub label : ℕ
-  pub source : Option Rvalue
+  pub rvalue : Option Rvalue
 
 mutual
   pub data Stmt : Type 0 where

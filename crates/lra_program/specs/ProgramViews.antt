@@ -12,7 +12,7 @@ use Rattle.lra_program.specs.declared.program.Cond.TheFolds.{fold-Cond}
 use Rattle.lra_program.specs.declared.program.Cond.TheOpen.{Cond-F}
 use Rattle.lra_program.specs.declared.program.Call.{Call}
 use Rattle.lra_program.specs.declared.program.Rvalue.{Rvalue}
-use Rattle.lra_program.specs.declared.program.Rvalue.TheVariants as source
+use Rattle.lra_program.specs.declared.program.Rvalue.TheVariants as rvalue
 use Rattle.lra_program.specs.declared.program.Declarator.{Declarator}
 use Rattle.lra_program.specs.declared.program.BlockItem.TheFolds.{fold-BlockItem, fold-Stmt, fold-BlockItems}
 use Rattle.lra_program.specs.declared.program.BlockItem.TheOpen.{BlockItem-F, Stmt-F, BlockItems-F}
@@ -78,14 +78,14 @@ abbrev pub call_view : Call → program.Call
 call_view c = record { label = c.label; function = c.function; arguments = map expr_view c.arguments.items }
 
 abbrev pub rvalue_view : Rvalue → program.Rvalue
-rvalue_view (source.Value e) = program.value (expr_view e)
-rvalue_view (source.Result c) = program.result (call_view c)
+rvalue_view (rvalue.Value e) = program.value (expr_view e)
+rvalue_view (rvalue.Result c) = program.result (call_view c)
 
 abbrev pub given_view : Option Rvalue → Option program.Rvalue
 given_view = option_map rvalue_view
 
 abbrev pub declarator_view : Declarator → program.Declarator
-declarator_view d = record { label = d.label; source = given_view d.source }
+declarator_view d = record { label = d.label; rvalue = given_view d.rvalue }
 
 -- statements: an item of a block is what it puts before the items behind it -----------------------
 

@@ -33,20 +33,20 @@ live_behind live (statement s items) = live_behind live items
 
 -- a call's points, on a path with so many live variables
 module _ (inside : List ℕ → ℕ → Call → List Event) (path : List ℕ) where
-  abbrev pub source_events : ℕ → Rvalue → List Event
-  source_events live (value e) = []
-  source_events live (result c) = inside path live c
+  abbrev pub rvalue_events : ℕ → Rvalue → List Event
+  rvalue_events live (value e) = []
+  rvalue_events live (result c) = inside path live c
 
   abbrev pub given_events : ℕ → Option Rvalue → List Event
   given_events live None = []
-  given_events live (Some e) = source_events live e
+  given_events live (Some e) = rvalue_events live e
 
   abbrev mutual
     pub stmt_events : ℕ → Stmt → List Event
     stmt_events live absent = []
     stmt_events live (nothing at) = plain_site path at live ∷ []
     stmt_events live (block items end) = items_events live items ++ plain_site path end (live_behind live items) ∷ []
-    stmt_events live (assign at x e) = plain_site path at live ∷ source_events live e
+    stmt_events live (assign at x e) = plain_site path at live ∷ rvalue_events live e
     stmt_events live (call at c) = plain_site path at live ∷ inside path live c
     stmt_events live (if at c a b) = plain_site path at live ∷ stmt_events live a ++ stmt_events live b
     stmt_events live (loop at c a step) = for_order (plain_site path at live) [] (stmt_events live step)
@@ -62,7 +62,7 @@ module _ (inside : List ℕ → ℕ → Call → List Event) (path : List ℕ) w
 
     pub items_events : ℕ → BlockItems → List Event
     items_events live no_more = []
-    items_events live (declaration d items) = plain_site path d.label live ∷ given_events (suc live) d.source ++
+    items_events live (declaration d items) = plain_site path d.label live ∷ given_events (suc live) d.rvalue ++
         items_events (suc live) items
     items_events live (statement s items) = stmt_events live s ++ items_events live items
 

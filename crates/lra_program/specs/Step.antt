@@ -153,9 +153,9 @@ enter (Some f) c x k h s =
     mark (record { target = x; here = h; length = length s.store }) ∷ k)
     (record { path = c.label ∷ h.path; base = length s.store }) (run_op (push h.base c.arguments) s)
 
-abbrev pub do_source : Program → Option ℕ → Rvalue → List Item → Here → State → Option Config
-do_source P x (value e) k h s = go k h (run_op (give h.base x e) s)
-do_source P x (result c) k h s = enter (slice_get P.functions c.function) c x k h s
+abbrev pub do_rvalue : Program → Option ℕ → Rvalue → List Item → Here → State → Option Config
+do_rvalue P x (value e) k h s = go k h (run_op (give h.base x e) s)
+do_rvalue P x (result c) k h s = enter (slice_get P.functions c.function) c x k h s
 
 abbrev pub go_on : Option State → (State → Option Config) → Option Config
 go_on None f = None
@@ -176,14 +176,14 @@ do_leave (Some m) s = go_on s (λ t. go m.rest m.back.here (run_op (keep m.back.
 abbrev pub do_return : Program → Option Rvalue → List Item → Here → State → Option Config
 do_return P None k h s = do_leave (to_mark k) (run_any (target_of (to_mark k)) s)
 do_return P (Some (value e)) k h s = do_leave (to_mark k) (run_op (give h.base (target_of (to_mark k)) e) s)
-do_return P (Some (result c)) k h s = do_source P (target_of (to_mark k)) (result c) (leave_call ∷ k) h s
+do_return P (Some (result c)) k h s = do_rvalue P (target_of (to_mark k)) (result c) (leave_call ∷ k) h s
 
 abbrev pub do_stmt : Program → Stmt → List Item → Here → State → Option Config
 do_stmt P absent k h s = go k h (Some s)
 do_stmt P (nothing at) k h s = go k h (Some s)
 do_stmt P (block body end) k h s = go (all body ∷ end_of end (length s.store) ∷ k) h (Some s)
-do_stmt P (assign at x e) k h s = do_source P (Some (index_of h.base x)) e k h s
-do_stmt P (call at c) k h s = do_source P None (result c) k h s
+do_stmt P (assign at x e) k h s = do_rvalue P (Some (index_of h.base x)) e k h s
+do_stmt P (call at c) k h s = do_rvalue P None (result c) k h s
 do_stmt P (if at c a b) k h s = go_by (run a ∷ k) (run b ∷ k) h s.store (truth_of c h.base s.store s.draws)
 do_stmt P (loop at c a step) k h s = go_by (run a ∷ turn step (loop at c a step) (length s.store) ∷ k) k h s.store
     (truth_of c h.base s.store s.draws)
@@ -194,10 +194,10 @@ do_stmt P (return at e) k h s = do_return P e k h s
 do_stmt P (assert at c) k h s = go k h (run_op (test h.base c true) s)
 do_stmt P (assume at c) k h s = go k h (run_op (test h.base c true) s)
 
--- a new variable; its value is given by the declarator's source, where it has one
+-- a new variable; its value is given by the declarator's rvalue, where it has one
 abbrev pub do_declare : Program → Option Rvalue → List Item → Here → State → Option Config
 do_declare P None k h s = go k h (run_op append s)
-do_declare P (Some e) k h s = go_on (run_op append s) (do_source P (Some (length s.store)) e k h)
+do_declare P (Some e) k h s = go_on (run_op append s) (do_rvalue P (Some (length s.store)) e k h)
 
 abbrev pub do_all : BlockItems → List Item → Here → State → Option Config
 do_all no_more k h s = go k h (Some s)
@@ -207,7 +207,7 @@ do_all (statement a b) k h s = go (run a ∷ all b ∷ k) h (Some s)
 abbrev pub next_at : Program → List Item → Here → State → Option Config
 next_at P [] h s = None
 next_at P (run a ∷ k) h s = do_stmt P a k h s
-next_at P (declare d ∷ k) h s = do_declare P d.source k h s
+next_at P (declare d ∷ k) h s = do_declare P d.rvalue k h s
 next_at P (all a ∷ k) h s = do_all a k h s
 next_at P (end_of at n ∷ k) h s = go k h (run_op (keep n) s)
 next_at P (turn step again n ∷ k) h s = go (run step ∷ run again ∷ k) h (Some s)

@@ -73,13 +73,13 @@ module _ (P : Program) where
     pub width : length c.arguments ≡ callee.parameters
     pub arguments : AllByRecursion (IsGoodExpr live) c.arguments
 
-  abbrev pub IsGoodSource : ℕ → ℕ → Rvalue → Type 0
-  IsGoodSource at live (value e) = IsGoodExpr live e
-  IsGoodSource at live (result c) = IsGoodCall at live c
+  abbrev pub IsGoodRvalue : ℕ → ℕ → Rvalue → Type 0
+  IsGoodRvalue at live (value e) = IsGoodExpr live e
+  IsGoodRvalue at live (result c) = IsGoodCall at live c
 
   abbrev pub IsGoodGiven : ℕ → ℕ → Option Rvalue → Type 0
   IsGoodGiven at live None = ⊤
-  IsGoodGiven at live (Some e) = IsGoodSource at live e
+  IsGoodGiven at live (Some e) = IsGoodRvalue at live e
 
   abbrev mutual
     -- `break` and `continue` stand in a loop's body
@@ -87,7 +87,7 @@ module _ (P : Program) where
     IsGoodStmt in_loop live absent = ⊤
     IsGoodStmt in_loop live (nothing at) = ⊤
     IsGoodStmt in_loop live (block items end) = AreGoodItems in_loop live items
-    IsGoodStmt in_loop live (assign at x e) = IsLive live x × IsGoodSource at live e
+    IsGoodStmt in_loop live (assign at x e) = IsLive live x × IsGoodRvalue at live e
     IsGoodStmt in_loop live (call at c) = IsGoodCall at live c
     IsGoodStmt in_loop live (if at c a b) = IsGoodCond live c × IsGoodStmt in_loop live a × IsGoodStmt in_loop live b
     IsGoodStmt in_loop live (loop at c a step) = IsGoodCond live c × IsGoodStmt true live a × IsGoodStmt false live step
@@ -103,7 +103,7 @@ module _ (P : Program) where
     -- a declarator's variable lives in what it gets
     pub AreGoodItems : Bool → ℕ → BlockItems → Type 0
     AreGoodItems in_loop live no_more = ⊤
-    AreGoodItems in_loop live (declaration d items) = IsGoodGiven d.label (suc live) d.source ×
+    AreGoodItems in_loop live (declaration d items) = IsGoodGiven d.label (suc live) d.rvalue ×
         AreGoodItems in_loop (suc live) items
     AreGoodItems in_loop live (statement s items) = IsGoodStmt in_loop live s × AreGoodItems in_loop live items
 

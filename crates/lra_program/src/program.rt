@@ -117,14 +117,14 @@ impl Drop for Rvalue {
 /// A declarator under its label, and what its variable gets, if anything.
 pub struct Declarator {
     pub label: usize,
-    pub source: Option<Rvalue>,
+    pub rvalue: Option<Rvalue>,
 }
 
 impl Drop for Declarator {
     fn drop(self) {
         let Declarator {
             label: _,
-            source: _,
+            rvalue: _,
         } = self;
     }
 }

@@ -16,7 +16,7 @@ use Rattle.lra_tree.specs.Texts.{Pieces, Texts, ◌⋅◌, ◌∣◌, empty, ope
 use Rattle.lra_tree.specs.Trees.{RvalueTree, expression, result, StepTree, increment, decrement, AssignTree, set, update, after, before, DeclaratorTree, DeclarationTree}
 use Rattle.lra_base.specs.OperatorViews.{operator_view}
 use Rattle.lra_tree.specs.Views.{step_view}
-use Rattle.lra_tree.specs.Grammar.{IsExpr, IsSource, update_mark, step_mark, IsAssign, IsType, IsDeclarator, IsDeclaration}
+use Rattle.lra_tree.specs.Grammar.{IsExpr, IsRvalue, update_mark, step_mark, IsAssign, IsType, IsDeclarator, IsDeclaration}
 use Rattle.lra_readers.specs.Tests.{is_mark}
 use Rattle.lra_readers.specs.Reading.{Text, Read, Parse, ◌>>=◌, seq, expect, take_by, has, one_of}
 use Rattle.lra_readers.specs.Statements.{skip, update_operators, update_operator, step_marks, next_step, assign_rest, assign_at, type_words, given, declarator_at, declaration_of, declaration_at}
@@ -28,7 +28,7 @@ use Rattle.lra_readers.proofs.Chain.{regroup, joined_left, joined_right, AfterLa
 use Rattle.lra_readers.proofs.Parts.{token, exact_behind, exact_ended}
 use Rattle.lra_readers.proofs.ExactExpressions.{AfterExpr, some_expr, Of, first_opened, exact_expr}
 use Rattle.lra_readers.proofs.ExactLists.{exact_skip, AfterCommas, exact_commas}
-use Rattle.lra_readers.proofs.ExactSources.{AfterSource, some_source, exact_source}
+use Rattle.lra_readers.proofs.ExactRvalues.{AfterRvalue, some_rvalue, exact_rvalue}
 
 -- operators --------------------------------------------------------------------------------------------------------
 
@@ -85,13 +85,13 @@ exact_step n o low =
 -- assignments ------------------------------------------------------------------------------------------------------
 
 abbrev pub AfterAssign : AssignTree → Option Token → Type 0
-AfterAssign (set x e) o = AfterSource e o
+AfterAssign (set x e) o = AfterRvalue e o
 AfterAssign (update x op e) o = AfterExpr e o
 AfterAssign (after x s) o = ⊤
 AfterAssign (before at s x) o = ⊤
 
 abbrev SetText : ℕ → Identifier → AssignTree → Texts
-SetText l x b = opens mark.Assign 0 ⋅ Of (set x) (IsSource l) b
+SetText l x b = opens mark.Assign 0 ⋅ Of (set x) (IsRvalue l) b
 
 abbrev UpdateText : ℕ → Identifier → AssignTree → Texts
 UpdateText l x b z = Both (λ op z. spells (mark_of_update op) z) (λ op b. Of (update x (operator_view op)) (IsExpr l) b) b z
@@ -128,8 +128,8 @@ step_no_set x b z o (s, f, e) = rw e (step_not s.0 s.1).1
 
 pub exact_assign_rest : (n d l : ℕ) → d + l ≡ n → (x : Identifier) → Exact n IsInner (assign_rest d x) Any (RestText l x) (RestText l x) AfterAssign
 exact_assign_rest n d l h x =
-    let sets = exact_behind mark.Assign 0 (omega arith) (mapped (exact_source n d l h) (set x) AfterAssign (λ e o f. f) (λ e o f. f))
-    (set x (some_source l).0, (some_source l).1, ((some_source l).0, refl, (some_source l).2)) in
+    let sets = exact_behind mark.Assign 0 (omega arith) (mapped (exact_rvalue n d l h) (set x) AfterAssign (λ e o f. f) (λ e o f. f))
+    (set x (some_rvalue l).0, (some_rvalue l).1, ((some_rvalue l).0, refl, (some_rvalue l).2)) in
     let updates = then (exact_update n) (λ op. mapped (exact_expr n d l h) (update x (operator_view op)) AfterAssign (λ e o f. f) (λ e o f. f)) (UpdateText l x)
     (λ op b y o s f. tt)
     (λ op z v. (update x (operator_view op) (some_expr l).0, (some_expr l).1, (op, (z, (some_expr l).1, refl, v, ((some_expr l).0, refl, (some_expr l).2)))))
@@ -277,27 +277,27 @@ exact_type {n} {A} {p} {S = S} {F = F} P some no_int no_long =
 
 abbrev AfterGiven : Option RvalueTree → Option Token → Type 0
 AfterGiven None o = is_mark mark.Assign o ≡ false
-AfterGiven (Some e) o = AfterSource e o
+AfterGiven (Some e) o = AfterRvalue e o
 
 abbrev AfterDeclarator : DeclaratorTree → Option Token → Type 0
-AfterDeclarator d o = AfterGiven d.source o
+AfterDeclarator d o = AfterGiven d.rvalue o
 
-abbrev with_source : Identifier → RvalueTree → DeclaratorTree
-with_source x e = record { name = x; source = Some e }
+abbrev with_rvalue : Identifier → RvalueTree → DeclaratorTree
+with_rvalue x e = record { name = x; rvalue = Some e }
 
 abbrev alone_name : Identifier → DeclaratorTree
-alone_name x = record { name = x; source = None }
+alone_name x = record { name = x; rvalue = None }
 
 abbrev GivenText : ℕ → Identifier → DeclaratorTree → Texts
-GivenText l x b z = (opens mark.Assign 0 ⋅ Of (with_source x) (IsSource l) b) z ⊎ ((b ≡ alone_name x) × (z ≡ []))
+GivenText l x b z = (opens mark.Assign 0 ⋅ Of (with_rvalue x) (IsRvalue l) b) z ⊎ ((b ≡ alone_name x) × (z ≡ []))
 
 not_given : (x : Identifier) (b : DeclaratorTree) (z : Pieces) (o : Option Token) → b ≡ alone_name x → z ≡ [] → (z ≡ [] → AfterDeclarator b o) → is_mark mark.Assign (first_or z o) ≡ false
 not_given x b z o e f h = rw f (let g : AfterDeclarator (alone_name x) o = subst (λ (c : DeclaratorTree). AfterDeclarator c o) e (h f) in g)
 
 exact_given : (n d l : ℕ) → d + l ≡ n → (x : Identifier) → Exact n IsInner (given d x) Any (GivenText l x) (GivenText l x) AfterDeclarator
 exact_given n d l h x =
-    let some = exact_behind mark.Assign 0 (omega arith) (mapped (exact_source n d l h) (with_source x) AfterDeclarator (λ e o f. f) (λ e o f. f))
-    (with_source x (some_source l).0, (some_source l).1, ((some_source l).0, refl, (some_source l).2)) in
+    let some = exact_behind mark.Assign 0 (omega arith) (mapped (exact_rvalue n d l h) (with_rvalue x) AfterDeclarator (λ e o f. f) (λ e o f. f))
+    (with_rvalue x (some_rvalue l).0, (some_rvalue l).1, ((some_rvalue l).0, refl, (some_rvalue l).2)) in
     branch (is_mark mark.Assign) (entry (widen some (GivenText l x) (λ b z s. inl s)) (λ o. ⊤ × (is_mark mark.Assign o ≡ true)) (λ o i. tt))
     (widen (exact_done n IsInner (alone_name x) (λ o. ⊤ × (is_mark mark.Assign o ≡ false)) (λ b z. (b ≡ alone_name x) × (z ≡ [])) AfterDeclarator (λ o i. i.1)) (GivenText l x) (λ b z s. inr s))
     (λ b z o s f. first_opened (λ i. is_mark mark.Assign i ≡ true) mark.Assign 0 s.0 s.1 z o s.2 s.3 (λ at. refl))
@@ -307,7 +307,7 @@ to_declarator : (l : ℕ) (b : DeclaratorTree) (z : Pieces) → Both (λ x. name
 to_declarator l b z (x, (u, v, e, s, inl (p, q, f, m, (a, g, t)))) = subst (λ (c : DeclaratorTree). IsDeclarator l c z) g (u, v, e, s, (p, q, f, m, t))
 to_declarator l b z (x, (u, v, e, s, inr (g, f))) = subst (λ (c : DeclaratorTree). IsDeclarator l c z) (sym g) (u, v, e, s, f)
 
-from_given : (l : ℕ) (x : Identifier) (m : Option RvalueTree) (z : Pieces) → IsDeclarator l (record { name = x; source = m }) z → Both (λ x. name x 0) (GivenText l) (record { name = x; source = m }) z
+from_given : (l : ℕ) (x : Identifier) (m : Option RvalueTree) (z : Pieces) → IsDeclarator l (record { name = x; rvalue = m }) z → Both (λ x. name x 0) (GivenText l) (record { name = x; rvalue = m }) z
 from_given l x None z (u, v, e, s, t) = (x, (u, v, e, s, inr (refl, t)))
 from_given l x (Some a) z (u, v, e, s, (p, q, f, m, t)) = (x, (u, v, e, s, inl (p, q, f, m, (a, refl, t))))
 
@@ -318,7 +318,7 @@ exact_declarator : (n d l : ℕ) → d + l ≡ n → Exact n IsInner (declarator
 exact_declarator n d l h =
     let t = then (exact_name n 0 (omega arith)) (exact_given n d l h) (λ b z. Both (λ x. name x 0) (GivenText l) b z)
     (λ x b y o s f. tt) (λ x z v. (alone_name x, [], (x, (z, [], refl, v, inr (refl, refl))))) (λ x b u v s r. (x, (u, v, refl, s, r))) in
-    retell t (IsDeclarator l) (λ b z s. to_declarator l b z s) (λ b z s. from_given l b.name b.source z s)
+    retell t (IsDeclarator l) (λ b z s. to_declarator l b z s) (λ b z s. from_given l b.name b.rvalue z s)
 
 abbrev Declared : ℕ → DeclarationTree → Texts
 Declared l b = Of declaration_of (λ ds. separated (IsDeclarator l) (ds.0 ∷ ds.1)) b
@@ -335,7 +335,7 @@ given_stops (Some (expression e)) at = ((((tt, refl), refl), (λ i. refl)), (((t
 given_stops (Some (result c)) at = (tt, tt)
 
 last_stops : (ds : List DeclaratorTree) (d : DeclaratorTree) (at : Place) → AfterLast AfterDeclarator (AfterDeclarator d) ds (Some (token mark.Semicolon at))
-last_stops [] d at = (given_stops d.source at).0
+last_stops [] d at = (given_stops d.rvalue at).0
 last_stops (e ∷ ds) d at = last_stops ds e at
 
 declared_begins : (l : ℕ) (m : Mark) (b : DeclarationTree) (x : Pieces) (o : Option Token) → (Declared l b ⋅ spells mark.Semicolon) x → is_mark m (first_or x o) ≡ false
@@ -346,7 +346,7 @@ declaration_first l d z k (x, y, e, (u, v, f, s, r), t) = first_opened (λ i. is
 
 pub exact_declaration : (n d l : ℕ) → d + l ≡ n → Exact n IsInner (declaration_at d) Any (IsDeclaration l) (IsDeclaration l) Free
 exact_declaration n d l h =
-    let list = exact_commas (exact_declarator n d l h) (some_declarator l) (λ a at. (given_stops a.source at).1) in
+    let list = exact_commas (exact_declarator n d l h) (some_declarator l) (λ a at. (given_stops a.rvalue at).1) in
     let made = mapped list declaration_of (λ b o. AfterCommas AfterDeclarator (b.first, b.rest) o) (λ i o f. f) (λ i o f. f) in
     let whole = exact_ended mark.Semicolon made (λ b at. (last_stops b.rest b.first at, refl)) in
     let some = some_declarator l in

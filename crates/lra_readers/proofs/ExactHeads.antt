@@ -10,10 +10,10 @@ use Rattle.lra_tree.specs.declared.trees.Step.{Step}
 use Rattle.lra_tree.specs.declared.trees.Step.TheVariants as step
 use Rattle.lra_tree.specs.Texts.{Pieces, Texts, ◌⋅◌, empty, opens, mark as spells}
 use Rattle.lra_tree.specs.Trees.{TestTree, opposite, value, compare, group_of, ConjunctionTree, test, and, CondTree, conjunction, or, RvalueTree, AssignTree, InitTree, no_init, declared, assigned}
-use Rattle.lra_tree.specs.Grammar.{IsTest, IsConjunction, IsCond, IsSource, IsAssign, IsDeclaration, IsInit, IsForTest, IsForStep, IsReturned}
+use Rattle.lra_tree.specs.Grammar.{IsTest, IsConjunction, IsCond, IsRvalue, IsAssign, IsDeclaration, IsInit, IsForTest, IsForStep, IsReturned}
 use Rattle.lra_readers.specs.Tests.{is_mark}
 use Rattle.lra_readers.specs.Reading.{Parse}
-use Rattle.lra_readers.specs.Statements.{source_at, up_to, init_of, init_at, for_head_at}
+use Rattle.lra_readers.specs.Statements.{rvalue_at, up_to, init_of, init_at, for_head_at}
 use Rattle.lra_readers.proofs.Marks.{is_mark_self}
 use Rattle.lra_readers.proofs.Exact.{Exact, Any, Free, Both, first_or, first_or-both, then}
 use Rattle.lra_readers.proofs.Forms.{rename, widen, retell, entry, mapped, branch, exact_done}
@@ -22,7 +22,7 @@ use Rattle.lra_readers.proofs.Chain.{regroup}
 use Rattle.lra_readers.proofs.Parts.{token, exact_behind, exact_ended}
 use Rattle.lra_readers.proofs.ExactExpressions.{Of, first_opened}
 use Rattle.lra_readers.proofs.ExactConditions.{cond_stops, exact_cond}
-use Rattle.lra_readers.proofs.ExactSources.{Inside, front, expr_inside, source_stops, source_no_stop, exact_source}
+use Rattle.lra_readers.proofs.ExactRvalues.{Inside, front, expr_inside, rvalue_stops, rvalue_no_stop, exact_rvalue}
 use Rattle.lra_readers.proofs.ExactAssignments.{mark_of_step, assign_no_mark, assign_stops, assign_closes, exact_assign, declaration_first, exact_declaration}
 
 -- first tokens -------------------------------------------------------------------------------------------------------
@@ -90,15 +90,15 @@ exact_up_to {n} {A} {p} {S = S} {F = F} m P inside fine =
 
 -- what a `return` gives -------------------------------------------------------------------------------------------------
 
-pub exact_returned : (n d l : ℕ) → d + l ≡ n → Exact n IsInner (up_to mark.Semicolon (source_at d)) Any (λ e. OptionText (IsSource l) e ⋅ spells mark.Semicolon)
-    (λ e. OptionText (IsSource l) e ⋅ spells mark.Semicolon) Free
-exact_returned n d l h = exact_up_to mark.Semicolon (exact_source n d l h) (source_no_stop l) source_stops
+pub exact_returned : (n d l : ℕ) → d + l ≡ n → Exact n IsInner (up_to mark.Semicolon (rvalue_at d)) Any (λ e. OptionText (IsRvalue l) e ⋅ spells mark.Semicolon)
+    (λ e. OptionText (IsRvalue l) e ⋅ spells mark.Semicolon) Free
+exact_returned n d l h = exact_up_to mark.Semicolon (exact_rvalue n d l h) (rvalue_no_stop l) rvalue_stops
 
-pub to_returned : (l : ℕ) (e : Option RvalueTree) (z : Pieces) → OptionText (IsSource l) e z → IsReturned l e z
+pub to_returned : (l : ℕ) (e : Option RvalueTree) (z : Pieces) → OptionText (IsRvalue l) e z → IsReturned l e z
 to_returned l None z s = s
 to_returned l (Some a) z s = s
 
-pub from_returned : (l : ℕ) (e : Option RvalueTree) (z : Pieces) → IsReturned l e z → OptionText (IsSource l) e z
+pub from_returned : (l : ℕ) (e : Option RvalueTree) (z : Pieces) → IsReturned l e z → OptionText (IsRvalue l) e z
 from_returned l None z s = s
 from_returned l (Some a) z s = s
 

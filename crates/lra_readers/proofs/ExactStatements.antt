@@ -12,7 +12,7 @@ use Rattle.lra_tree.specs.declared.trees.Step.TheVariants as step
 use Rattle.lra_tree.specs.Texts.{Pieces, Texts, ◌⋅◌, opens, mark as spells, opens_at, name}
 use Rattle.lra_tree.specs.Trees.{CondTree, CallTree, AssignTree, increment, after, InitTree, StmtTree, block, nothing, assign, call, if_only, if_else, while, for, break, continue, return, assert}
 use Rattle.lra_tree.specs.Trees.{assume}
-use Rattle.lra_tree.specs.Grammar.{InParens, IsSource, IsAssign, TakesElse, IsStmt}
+use Rattle.lra_tree.specs.Grammar.{InParens, IsRvalue, IsAssign, TakesElse, IsStmt}
 use Rattle.lra_readers.specs.Tests.{is_mark}
 use Rattle.lra_readers.specs.Reading.{Parse, seq, next_name, has}
 use Rattle.lra_readers.specs.Expressions.{in_parens, cond_at}
@@ -25,7 +25,7 @@ use Rattle.lra_readers.proofs.Chain.{regroup}
 use Rattle.lra_readers.proofs.Parts.{token, exact_behind, exact_ended}
 use Rattle.lra_readers.proofs.ExactExpressions.{Of, first_opened}
 use Rattle.lra_readers.proofs.ExactConditions.{some_cond, exact_cond, exact_parens}
-use Rattle.lra_readers.proofs.ExactSources.{CallText, exact_call_rest, call_out, call_in}
+use Rattle.lra_readers.proofs.ExactRvalues.{CallText, exact_call_rest, call_out, call_in}
 use Rattle.lra_readers.proofs.ExactAssignments.{mark_of_step, RestText, rest_assign, rest_no_open, BeforeText, NamedText, from_assign, exact_assign_rest, exact_assign, placed_first, assign_no_mark}
 use Rattle.lra_readers.proofs.ExactAssignments.{assign_stops}
 use Rattle.lra_readers.proofs.ExactHeads.{OptionText, exact_returned, to_returned, from_returned, HeadText, some_head, exact_head, head_rest, rest_head}
@@ -86,7 +86,7 @@ abbrev pub JumpText : ℕ → Mark → (Place → StmtTree) → StmtTree → Tex
 JumpText o m make b = Of make (λ at. opens_at m at o ⋅ spells mark.Semicolon) b
 
 abbrev pub ReturnText : ℕ → ℕ → StmtTree → Texts
-ReturnText o l b z = Both (λ at z. opens_at mark.Return at o z) (λ at b. Of (return at) (λ e. OptionText (IsSource l) e ⋅ spells mark.Semicolon) b) b z
+ReturnText o l b z = Both (λ at z. opens_at mark.Return at o z) (λ at b. Of (return at) (λ e. OptionText (IsRvalue l) e ⋅ spells mark.Semicolon) b) b z
 
 abbrev pub CheckText : ℕ → ℕ → Mark → (Place → CondTree → StmtTree) → StmtTree → Texts
 CheckText o l m make b z = Both (λ at z. opens_at m at o z) (λ at b. Of (make at) (λ c. InParens l c ⋅ spells mark.Semicolon) b) b z

@@ -8,7 +8,7 @@ pub mod Parts
 pub mod ExactExpressions
 pub mod ExactConditions
 pub mod ExactLists
-pub mod ExactSources
+pub mod ExactRvalues
 pub mod ExactAssignments
 pub mod ExactHeads
 pub mod ExactStatements

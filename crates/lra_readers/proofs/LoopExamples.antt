@@ -138,7 +138,7 @@ inner = main_head (mark_token mark.For 17 ∷ mark_token mark.OpenParen 20 ∷ m
     ∷ mark_token mark.CloseBrace 51 ∷ mark_token mark.CloseBrace 53 ∷ [])
 
 abbrev one_name : List ℕ → ℕ → DeclarationTree
-one_name word column = record { first = record { name = record { word = word; place = in_line column }; source = None }; rest = [] }
+one_name word column = record { first = record { name = record { word = word; place = in_line column }; rvalue = None }; rest = [] }
 
 abbrev inner_tree : FileTree
 inner_tree = main_of (statement (for (in_line 17) (declared (one_name (codes "i") 26)) None None

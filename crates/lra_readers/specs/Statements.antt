@@ -52,16 +52,16 @@ abbrev pub call_rest : ℕ → Identifier → Parse CallTree
 call_rest d x = behind mark.OpenParen (map_read (call_of x) (arguments_at d))
 
 -- behind a unary that an expression begins with
-abbrev pub source_from : ℕ → UnaryTree → Parse RvalueTree
-source_from d a = seq (factors (unary_at d) (unary a)) (λ t. map_read expression (summands (unary_at d) (term t)))
+abbrev pub rvalue_from : ℕ → UnaryTree → Parse RvalueTree
+rvalue_from d a = seq (factors (unary_at d) (unary a)) (λ t. map_read expression (summands (unary_at d) (term t)))
 
 -- behind a name
-abbrev pub source_rest : ℕ → Identifier → Parse RvalueTree
-source_rest d x T = cond (is_mark mark.OpenParen (first T)) (map_read result (call_rest d x) T)
-    (source_from d (variable x) T)
+abbrev pub rvalue_rest : ℕ → Identifier → Parse RvalueTree
+rvalue_rest d x T = cond (is_mark mark.OpenParen (first T)) (map_read result (call_rest d x) T)
+    (rvalue_from d (variable x) T)
 
-abbrev pub source_at : ℕ → Parse RvalueTree
-source_at d T = cond (has (next_name (first T))) (seq (take_by next_name) (source_rest d) T)
+abbrev pub rvalue_at : ℕ → Parse RvalueTree
+rvalue_at d T = cond (has (next_name (first T))) (seq (take_by next_name) (rvalue_rest d) T)
     (map_read expression (expr_at d) T)
 
 -- assignments ------------------------------------------------------------------------------------------------------
@@ -84,7 +84,7 @@ next_step o = option_map (λ s. (s, place_of o)) (one_of step_marks o)
 -- behind the name of the variable
 abbrev pub assign_rest : ℕ → Identifier → Parse AssignTree
 assign_rest d x T =
-    cond (is_mark mark.Assign (first T)) (behind mark.Assign (map_read (set x) (source_at d)) T)
+    cond (is_mark mark.Assign (first T)) (behind mark.Assign (map_read (set x) (rvalue_at d)) T)
     (cond (has (update_operator (first T))) (seq (take_by update_operator)
     (λ op. map_read (update x (operator_view op)) (expr_at d)) T)
     (map_read (λ s. after x (step_view s.0)) (take_by next_step) T))
@@ -105,8 +105,8 @@ type_words = seq (expect mark.Long (tt {0})) (λ _ T. Ok (tt {0}, skip mark.Int 
 abbrev pub given : ℕ → Identifier → Parse DeclaratorTree
 given d x T =
     cond (is_mark mark.Assign (first T)) (behind mark.Assign
-    (map_read (λ e. record { name = x; source = Some e }) (source_at d)) T)
-    (done_with (record { name = x; source = None }) T)
+    (map_read (λ e. record { name = x; rvalue = Some e }) (rvalue_at d)) T)
+    (done_with (record { name = x; rvalue = None }) T)
 
 abbrev pub declarator_at : ℕ → Parse DeclaratorTree
 declarator_at d = seq (take_by next_name) (given d)
@@ -188,7 +188,7 @@ abbrev pub read_jump : Mark → (Place → StmtTree) → Parse StmtTree
 read_jump m make = map_read make (ended mark.Semicolon (expect_at m))
 
 abbrev pub read_return : ℕ → Parse StmtTree
-read_return d = seq (expect_at mark.Return) (λ at. map_read (return at) (up_to mark.Semicolon (source_at d)))
+read_return d = seq (expect_at mark.Return) (λ at. map_read (return at) (up_to mark.Semicolon (rvalue_at d)))
 
 -- `assert` and `assume`
 abbrev pub read_check : ℕ → Mark → (Place → CondTree → StmtTree) → Parse StmtTree

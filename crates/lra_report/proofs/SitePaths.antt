@@ -4,7 +4,7 @@ use Rattle.std.specs.Prelude.{⊤}
 use Rattle.std.specs.List.{AllByRecursion}
 use Rattle.lra_program.specs.Program.{Call, Rvalue, value, result, Stmt, absent, nothing, block, assign, call, if, loop, for, break, continue, return, assert, assume, BlockItems, no_more, declaration}
 use Rattle.lra_program.specs.Program.{statement, Function, Program}
-use Rattle.lra_program.specs.Sites.{Site, Event, comes, one_call_more, greatest_calls, plain_site, live_behind, source_events, given_events, stmt_events, items_events, function_events}
+use Rattle.lra_program.specs.Sites.{Site, Event, comes, one_call_more, greatest_calls, plain_site, live_behind, rvalue_events, given_events, stmt_events, items_events, function_events}
 use Rattle.lra_program.specs.Sites.{call_events, events_of, sites_in, sites_of}
 use Rattle.lra_report.proofs.Every.{every_append}
 
@@ -14,13 +14,13 @@ IsShallow (one_call_more at) = ⊤
 
 -- where the calls inside are so
 module _ (inside : List ℕ → ℕ → Call → List Event) (path : List ℕ) (here : length path ≤ greatest_calls) (deeper : (live : ℕ) (c : Call) → AllByRecursion IsShallow (inside path live c)) where
-  source_shallow : (live : ℕ) (e : Rvalue) → AllByRecursion IsShallow (source_events inside path live e)
-  source_shallow live (value e) = tt
-  source_shallow live (result c) = deeper live c
+  rvalue_shallow : (live : ℕ) (e : Rvalue) → AllByRecursion IsShallow (rvalue_events inside path live e)
+  rvalue_shallow live (value e) = tt
+  rvalue_shallow live (result c) = deeper live c
 
   given_shallow : (live : ℕ) (e : Option Rvalue) → AllByRecursion IsShallow (given_events inside path live e)
   given_shallow live None = tt
-  given_shallow live (Some e) = source_shallow live e
+  given_shallow live (Some e) = rvalue_shallow live e
 
   mutual
     stmt_shallow : (live : ℕ) (t : Stmt) → AllByRecursion IsShallow (stmt_events inside path live t)
@@ -28,7 +28,7 @@ module _ (inside : List ℕ → ℕ → Call → List Event) (path : List ℕ) (
     stmt_shallow live (nothing at) = (here, tt)
     stmt_shallow live (block items end) =
         every_append IsShallow (items_events inside path live items) (plain_site path end (live_behind live items) ∷ []) (items_shallow live items) (here, tt)
-    stmt_shallow live (assign at x e) = (here, source_shallow live e)
+    stmt_shallow live (assign at x e) = (here, rvalue_shallow live e)
     stmt_shallow live (call at c) = (here, deeper live c)
     stmt_shallow live (if at c a b) = (here, every_append IsShallow (stmt_events inside path live a) (stmt_events inside path live b) (stmt_shallow live a) (stmt_shallow live b))
     stmt_shallow live (loop at c a step) = (here, every_append IsShallow (stmt_events inside path live step) (stmt_events inside path live a) (stmt_shallow live step) (stmt_shallow live a))
@@ -48,7 +48,7 @@ module _ (inside : List ℕ → ℕ → Call → List Event) (path : List ℕ) (
     items_shallow : (live : ℕ) (items : BlockItems) → AllByRecursion IsShallow (items_events inside path live items)
     items_shallow live no_more = tt
     items_shallow live (declaration d items) =
-        (here, every_append IsShallow (given_events inside path (suc live) d.source) (items_events inside path (suc live) items) (given_shallow (suc live) d.source) (items_shallow (suc live) items))
+        (here, every_append IsShallow (given_events inside path (suc live) d.rvalue) (items_events inside path (suc live) items) (given_shallow (suc live) d.rvalue) (items_shallow (suc live) items))
     items_shallow live (statement t items) =
         every_append IsShallow (stmt_events inside path live t) (items_events inside path live items) (stmt_shallow live t) (items_shallow live items)
 

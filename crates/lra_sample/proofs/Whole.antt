@@ -127,7 +127,7 @@ whole_written ls = ap (λ t. written (head_items ++ four_declared []) ++ t)
 abbrev pub declared_tree : ℕ → Place → ItemsTree → ItemsTree
 declared_tree x at rest = declaration (record {
   first = record
-      { name = var x at; source = Some (expression (number 0)) };
+      { name = var x at; rvalue = Some (expression (number 0)) };
   rest = [];
 }) rest
 

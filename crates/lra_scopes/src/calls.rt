@@ -5,12 +5,12 @@ ghost use Rattle.std.specs.Prelude.{None, option_map, IfOk};
 ghost use Rattle.lra_program.specs.Program.{assign as assign_stmt, binary, literal, read, value};
 ghost use Rattle.lra_base.specs.OperatorViews.{operator_view};
 ghost use Rattle.lra_tree.specs.Views.{step_view, expr_view as tree_expr_view, call_view as tree_call_view};
-ghost use Rattle.lra_tree.specs.Views.{rvalue_view as tree_source_view, assign_view};
+ghost use Rattle.lra_tree.specs.Views.{rvalue_view as tree_rvalue_view, assign_view};
 ghost use Rattle.lra_program.specs.ProgramViews.{slot_view, expr_view, call_view, rvalue_view, given_view, stmt_view};
 ghost use Rattle.lra_tree.specs.Functions.{function_named};
-ghost use Rattle.lra_meaning.specs.NameFaults.{use_faults, expr_faults, called_faults, call_faults, source_faults};
+ghost use Rattle.lra_meaning.specs.NameFaults.{use_faults, expr_faults, called_faults, call_faults, rvalue_faults};
 ghost use Rattle.lra_meaning.specs.NameFaults.{given_faults, assign_faults};
-ghost use Rattle.lra_meaning.specs.Resolve.{variable, function_place, resolve_expr, resolve_call, resolve_source};
+ghost use Rattle.lra_meaning.specs.Resolve.{variable, function_place, resolve_expr, resolve_call, resolve_rvalue};
 ghost use Rattle.lra_meaning.specs.Resolve.{resolve_given, resolve_assign, step_operator};
 ghost use Rattle.lra_scopes.specs.Calls.{functions_at, argument_faults, resolve_argument};
 ghost use Rattle.lra_scopes.specs.Outcome.{TellsOf};
@@ -72,7 +72,7 @@ fn resolve_arguments(
 
 /// A call under a label, whose result is used or not.
 ///
-/// Refused at the first fault, with the causes of `resolve_source`; a missing result is one only where it is used.
+/// Refused at the first fault, with the causes of `resolve_rvalue`; a missing result is one only where it is used.
 #[tactic(auto, using(crate::proofs::CallLaws::call_rules))]
 pub fn resolve_call(
     alloc: Global,
@@ -99,18 +99,18 @@ pub fn resolve_call(
 ///
 /// Refused at the first fault: `UnknownName` where a variable or the called function isn't known, `BadCall` where that
 /// has another number of parameters or no result. `Memory` where memory runs out.
-pub fn resolve_source(
+pub fn resolve_rvalue(
     alloc: Global,
     functions: &Functions<'_>,
     scope: &Scope,
     label: usize,
-    source: &Rvalue,
+    rvalue: &Rvalue,
 ) -> Result<lra_program::Rvalue, SourceError>
-    ensures told { TellsOf (source_faults (functions_at functions.now) scope.now (tree_source_view source.now)) result }
-    ensures found { IfOk result (λ e. rvalue_view e ≡ resolve_source (functions_at functions.now) scope.now label
-        (tree_source_view source.now)) }
+    ensures told { TellsOf (rvalue_faults (functions_at functions.now) scope.now (tree_rvalue_view rvalue.now)) result }
+    ensures found { IfOk result (λ e. rvalue_view e ≡ resolve_rvalue (functions_at functions.now) scope.now label
+        (tree_rvalue_view rvalue.now)) }
 {
-    match source {
+    match rvalue {
         Rvalue::Value(expr) => {
             let value = resolve_expr(alloc, scope, expr)?;
             Ok(lra_program::Rvalue::Value(value))
@@ -124,24 +124,24 @@ pub fn resolve_source(
 
 /// What a declarator gives its variable, or a `return` gives, if anything.
 ///
-/// Refused at the first fault, as by `resolve_source`. `Memory` where memory runs out.
+/// Refused at the first fault, as by `resolve_rvalue`. `Memory` where memory runs out.
 pub fn resolve_given(
     alloc: Global,
     functions: &Functions<'_>,
     scope: &Scope,
     label: usize,
-    source: &Option<Rvalue>,
+    rvalue: &Option<Rvalue>,
 ) -> Result<Option<lra_program::Rvalue>, SourceError>
     ensures told { TellsOf (given_faults (functions_at functions.now) scope.now
-        (option_map tree_source_view source.now)) result }
+        (option_map tree_rvalue_view rvalue.now)) result }
     ensures found { IfOk result (λ e. given_view e ≡ resolve_given (functions_at functions.now) scope.now label
-        (option_map tree_source_view source.now)) }
+        (option_map tree_rvalue_view rvalue.now)) }
 {
-    match source {
+    match rvalue {
         None => Ok(None),
-        Some(source) => {
-            let source = resolve_source(alloc, functions, scope, label, source)?;
-            Ok(Some(source))
+        Some(rvalue) => {
+            let rvalue = resolve_rvalue(alloc, functions, scope, label, rvalue)?;
+            Ok(Some(rvalue))
         }
     }
 }
@@ -192,16 +192,16 @@ fn resolve_set(
     scope: &Scope,
     label: usize,
     x: &Identifier,
-    source: &Rvalue,
+    rvalue: &Rvalue,
 ) -> Result<lra_program::Stmt, SourceError>
-    ensures told { TellsOf (use_faults scope.now x.now ++ source_faults (functions_at functions.now) scope.now
-        (tree_source_view source.now)) result }
+    ensures told { TellsOf (use_faults scope.now x.now ++ rvalue_faults (functions_at functions.now) scope.now
+        (tree_rvalue_view rvalue.now)) result }
     ensures found { IfOk result (λ s. stmt_view s ≡ assign_stmt label (variable scope.now x.now)
-        (resolve_source (functions_at functions.now) scope.now label (tree_source_view source.now))) }
+        (resolve_rvalue (functions_at functions.now) scope.now label (tree_rvalue_view rvalue.now))) }
 {
     let slot = resolve_variable(scope, x)?;
-    let source = resolve_source(alloc, functions, scope, label, source)?;
-    Ok(lra_program::Stmt::Assign(label, slot, source))
+    let rvalue = resolve_rvalue(alloc, functions, scope, label, rvalue)?;
+    Ok(lra_program::Stmt::Assign(label, slot, rvalue))
 }
 
 /// `x op= e`
@@ -221,8 +221,8 @@ fn resolve_update(
 {
     let slot = resolve_variable(scope, x)?;
     let operand = resolve_expr(alloc, scope, expr)?;
-    let source = build_update(alloc, slot, operator, operand)?;
-    Ok(lra_program::Stmt::Assign(label, slot, source))
+    let rvalue = build_update(alloc, slot, operator, operand)?;
+    Ok(lra_program::Stmt::Assign(label, slot, rvalue))
 }
 
 /// `x++`, `x--`, and with the sign in front.
@@ -238,13 +238,13 @@ fn resolve_increment(
         (value (binary (step_operator (step_view step)) (read (variable scope.now x.now)) (literal 1)))) }
 {
     let slot = resolve_variable(scope, x)?;
-    let source = build_step(alloc, slot, step)?;
-    Ok(lra_program::Stmt::Assign(label, slot, source))
+    let rvalue = build_step(alloc, slot, step)?;
+    Ok(lra_program::Stmt::Assign(label, slot, rvalue))
 }
 
 /// An assignment under its label: `x += e` and `x++` read `x` first.
 ///
-/// Refused at the first fault, that of `x` before those of the source, with the causes of `resolve_source`. `Memory`
+/// Refused at the first fault, that of `x` before those of the rvalue, with the causes of `resolve_rvalue`. `Memory`
 /// where memory runs out.
 pub fn resolve_assign(
     alloc: Global,
@@ -258,7 +258,7 @@ pub fn resolve_assign(
         (assign_view assign.now)) }
 {
     match assign {
-        Assign::Set(x, source) => resolve_set(alloc, functions, scope, label, x, source),
+        Assign::Set(x, rvalue) => resolve_set(alloc, functions, scope, label, x, rvalue),
         Assign::Update(x, operator, expr) => {
             resolve_update(alloc, scope, label, x, *operator, expr)
         }

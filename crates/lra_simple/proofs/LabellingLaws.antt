@@ -36,7 +36,7 @@ labels_of_last : (live : List (List ℕ)) (ds : List DeclaratorTree) (d : Declar
 labels_of_last live [] d = ap (λ (x : List (List ℕ)). declarator_labels x (d ∷ [])) (sym (append-nil live))
 labels_of_last live (x ∷ xs) d =
     let more : List (List ℕ) = live ++ x.name.word ∷ [] in
-    ap (λ (ls : List Labelled). record { place = x.name.place; called = called_of x.source; live = live; live_in_call = more } ∷ ls)
+    ap (λ (ls : List Labelled). record { place = x.name.place; called = called_of x.rvalue; live = live; live_in_call = more } ∷ ls)
     (labels_of_last more xs d ∙ ap (λ (ns : List (List ℕ)). declarator_labels more xs ++ declarator_labels ns (d ∷ [])) (names_of_more live x xs))
 
 names_of_last : (live : List (List ℕ)) (ds : List DeclaratorTree) (d : DeclaratorTree) → with_names live (ds ++ d ∷ []) ≡ with_names (with_names live ds) (d ∷ [])

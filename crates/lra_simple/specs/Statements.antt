@@ -17,7 +17,7 @@ around_of a = record { functions = functions_at a.functions.now; has_result = a.
 -- of one declarator
 abbrev pub declarator_faults : List FunctionTree → Scope → DeclaratorTree → List Refusal
 declarator_faults F s d = faults.fault_if (is_declared s d.name.word) DuplicateName d.name.place
-    ++ faults.given_faults F (with_local s d.name.word) d.source
+    ++ faults.given_faults F (with_local s d.name.word) d.rvalue
 
 -- a choice, with a second branch or without one
 abbrev pub choice_tree : Place → CondTree → StmtTree → Option StmtTree → StmtTree

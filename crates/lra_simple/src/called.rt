@@ -20,26 +20,26 @@ pub fn place_of_assign(assign: &Assign) -> Place
     }
 }
 
-/// A copy of the name that the source calls, if it is a call.
-fn copy_callee(alloc: Global, source: &Rvalue) -> Result<Option<Identifier>, AllocError>
-    ensures { IfOk result (λ c. c ≡ called_in (rvalue_view source.now)) }
+/// A copy of the name that the rvalue calls, if it is a call.
+fn copy_callee(alloc: Global, rvalue: &Rvalue) -> Result<Option<Identifier>, AllocError>
+    ensures { IfOk result (λ c. c ≡ called_in (rvalue_view rvalue.now)) }
 {
-    Ok(match source {
+    Ok(match rvalue {
         Rvalue::Value(_) => None,
         Rvalue::Result(call) => Some(call.name.copy(alloc)?),
     })
 }
 
-/// A copy of the name that the source calls, if there is a source, and it is a call.
+/// A copy of the name that the rvalue calls, if there is one, and it is a call.
 pub fn copy_given_callee(
     alloc: Global,
-    source: &Option<Rvalue>,
+    rvalue: &Option<Rvalue>,
 ) -> Result<Option<Identifier>, AllocError>
-    ensures { IfOk result (λ c. c ≡ called_of (option_map rvalue_view source.now)) }
+    ensures { IfOk result (λ c. c ≡ called_of (option_map rvalue_view rvalue.now)) }
 {
-    match source {
+    match rvalue {
         None => Ok(None),
-        Some(source) => copy_callee(alloc, source),
+        Some(rvalue) => copy_callee(alloc, rvalue),
     }
 }
 
@@ -51,7 +51,7 @@ pub fn copy_assigned_callee(
     ensures { IfOk result (λ c. c ≡ called_by (assign_view assign.now)) }
 {
     match assign {
-        Assign::Set(_, source) => copy_callee(alloc, source),
+        Assign::Set(_, rvalue) => copy_callee(alloc, rvalue),
         Assign::Update(_, _, _) => Ok(None),
         Assign::After(_, _) => Ok(None),
         Assign::Before(_, _, _) => Ok(None),

@@ -34,9 +34,9 @@ fn resolve_declarator(
     ensures found { IfOk result (λ d. program_declarator_view d
         ≡ record {
           label = labels.old.next;
-          source = resolve_given (functions_at functions.now)
+          rvalue = resolve_given (functions_at functions.now)
               (with_local scope.old declarator.now.name.word) labels.old.next
-              (option_map rvalue_view declarator.now.source);
+              (option_map rvalue_view declarator.now.rvalue);
         }) }
     ensures declared { OnOk result (scope.new ≡ with_local scope.old declarator.now.name.word) }
     ensures counted { OnOk result (labels.new.next ≡ suc labels.old.next) }
@@ -46,10 +46,10 @@ fn resolve_declarator(
         return refuse(Cause::DuplicateName, declarator.name.place);
     }
     scope.declare(alloc, &declarator.name.word)?;
-    let called = copy_given_callee(alloc, &declarator.source)?;
+    let called = copy_given_callee(alloc, &declarator.rvalue)?;
     let label = labels.add_declarator(alloc, &declarator.name, called)?;
-    let source = resolve_given(alloc, functions, scope, label, &declarator.source)?;
-    Ok(lra_program::Declarator { label, source })
+    let rvalue = resolve_given(alloc, functions, scope, label, &declarator.rvalue)?;
+    Ok(lra_program::Declarator { label, rvalue })
 }
 
 /// Resolves a declarator into a further item.

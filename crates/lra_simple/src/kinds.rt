@@ -42,7 +42,7 @@ pub fn resolve_simple(
         Stmt::Call(call) => resolve_call_alone(around, scope, labels, call),
         Stmt::Break(place) => resolve_break(around, labels, *place),
         Stmt::Continue(place) => resolve_continue(around, labels, *place),
-        Stmt::Return(place, source) => resolve_return(around, scope, labels, *place, source),
+        Stmt::Return(place, rvalue) => resolve_return(around, scope, labels, *place, rvalue),
         Stmt::Assert(place, cond) => resolve_assert(around, scope, labels, *place, cond),
         Stmt::Assume(place, cond) => resolve_assume(around, scope, labels, *place, cond),
         _ => unreachable!(),

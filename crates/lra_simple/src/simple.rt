@@ -131,22 +131,22 @@ pub fn resolve_return(
     scope: &Scope,
     labels: &mut Labelling,
     place: Place,
-    source: &Option<Rvalue>,
+    rvalue: &Option<Rvalue>,
 ) -> Result<lra_program::Stmt, SourceError>
-    ensures told { TellsOf (return_faults (around_of around.now) scope.now place (option_map rvalue_view source.now))
+    ensures told { TellsOf (return_faults (around_of around.now) scope.now place (option_map rvalue_view rvalue.now))
         result }
     ensures found { IfOk result (λ s. stmt_view s ≡ return_of labels.old.next
         (resolve_given (functions_at around.now.functions.now) scope.now labels.old.next
-        (option_map rvalue_view source.now))) }
+        (option_map rvalue_view rvalue.now))) }
     ensures counted { OnOk result (labels.new.next ≡ suc labels.old.next) }
     ensures adds { OnOk result (Adds labels.old labels.new
-        (label_with place (called_of (option_map rvalue_view source.now)) labels.old.live ∷ [])) }
+        (label_with place (called_of (option_map rvalue_view rvalue.now)) labels.old.live ∷ [])) }
 {
-    if source.is_some() && !around.has_result {
+    if rvalue.is_some() && !around.has_result {
         return refuse(Cause::BadCall, place);
     }
-    let called = copy_given_callee(around.alloc, source)?;
+    let called = copy_given_callee(around.alloc, rvalue)?;
     let label = labels.add(place, called)?;
-    let source = resolve_given(around.alloc, around.functions, scope, label, source)?;
-    Ok(lra_program::Stmt::Return(label, source))
+    let rvalue = resolve_given(around.alloc, around.functions, scope, label, rvalue)?;
+    Ok(lra_program::Stmt::Return(label, rvalue))
 }

@@ -14,7 +14,7 @@ use Rattle.lra_operations.specs.Inlined.{Frame, Spot, callee, Inl, InlAll, Decla
 use Rattle.lra_operations.specs.Inlined.{as_return, as_return_value, as_return_call, as_end, as_end_value, as_end_call, as_assert, as_assume, as_none, as_declaration, as_statement, as_fresh, as_given}
 use Rattle.lra_operations.specs.Inlined.{is_loop, as_value, as_result, loop_node, call_node, return_node, main_frame}
 use Rattle.lra_operations.specs.Agree.{IsGraph}
-use Rattle.lra_program.specs.WellFormed.{IsLive, IsGoodSource, IsGoodGiven, IsGoodStmt, AreGoodItems, IsGoodFunction, IsWellFormed}
+use Rattle.lra_program.specs.WellFormed.{IsLive, IsGoodRvalue, IsGoodGiven, IsGoodStmt, AreGoodItems, IsGoodFunction, IsWellFormed}
 use Rattle.lra_change.specs.Changes.{dims_behind, PlaceFits, OpFits}
 use Rattle.lra_iter.specs.Fits.{live_behind, JumpsWith, TreeFits}
 
@@ -316,7 +316,7 @@ module _ (P : Program) (T : List Site) (few : AllFew T) (well : IsWellFormed P) 
 
     fit_gives : {spot : Spot} {r : ℕ} {x : Option ℕ} {e : Rvalue} {g : Node} {q : ℕ} → Gives P T spot r x e g q → (at own : ℕ) → Standing P spot.frame spot.live own → Few spot.live →
         PlaceFits x spot.live →
-        IsGoodSource P at own e → Fit spot.frame spot.live spot.live g
+        IsGoodRvalue P at own e → Fit spot.frame spot.live spot.live g
     fit_gives (as_value {s = spot} {x = x} {e = e}) at own st fw place good = give_fit spot.next spot.frame.here.base x e place
     fit_gives (as_result {s = spot} {x = x} {c = c} {fn = fn} {g = g} {n = n'} {q = r'} i j d k) at own st fw place good =
         let fw' : Few n' = few r' _ k in

@@ -112,11 +112,11 @@ fn alone(alloc: Global, name: &str, line: u32) -> Result<BlockItem, AllocError> 
 
 /// `int x = f();`
 fn declared(alloc: Global, name: &str, line: u32) -> Result<BlockItem, AllocError> {
-    let source = Rvalue::Result(call(alloc, name, line, 30)?);
+    let rvalue = Rvalue::Result(call(alloc, name, line, 30)?);
     Ok(BlockItem::Declaration(Declaration {
         first: Declarator {
             name: identifier(alloc, "x", line, 26)?,
-            source: Some(source),
+            rvalue: Some(rvalue),
         },
         rest: Vec::new(alloc),
     }))
@@ -126,8 +126,8 @@ fn declared(alloc: Global, name: &str, line: u32) -> Result<BlockItem, AllocErro
 fn repeated(alloc: Global, name: &str, line: u32) -> Result<BlockItem, AllocError> {
     let place = Place { line, column: 32 };
     let nothing = Box::new(alloc, Stmt::Nothing(place))?;
-    let source = Rvalue::Result(call(alloc, name, line, 40)?);
-    let step = Assign::Set(identifier(alloc, "x", line, 38)?, source);
+    let rvalue = Rvalue::Result(call(alloc, name, line, 40)?);
+    let step = Assign::Set(identifier(alloc, "x", line, 38)?, rvalue);
     Ok(BlockItem::Statement(Stmt::For(place, Init::Nothing, None, Some(step), nothing)))
 }
 

@@ -80,7 +80,7 @@ fn call(alloc: Allocator, line: u32, column: u32) -> Result<Call, AllocError> {
 fn declarator(alloc: Allocator, line: u32, column: u32) -> Result<Declarator, AllocError> {
     Ok(Declarator {
         name: identifier(alloc, "x", line, column)?,
-        source: None,
+        rvalue: None,
     })
 }
 
@@ -122,8 +122,8 @@ fn item(alloc: Allocator, line: u32, body: Body) -> Result<BlockItem, AllocError
         }
         Body::Call => Ok(BlockItem::Statement(Stmt::Call(call(alloc, line, STATEMENT)?))),
         Body::Return => {
-            let source = Rvalue::Result(call(alloc, line, SECOND)?);
-            Ok(BlockItem::Statement(Stmt::Return(place, Some(source))))
+            let rvalue = Rvalue::Result(call(alloc, line, SECOND)?);
+            Ok(BlockItem::Statement(Stmt::Return(place, Some(rvalue))))
         }
     }
 }

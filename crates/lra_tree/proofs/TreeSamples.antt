@@ -33,7 +33,7 @@ abbrev pub call_of : Identifier → List ExprTree → CallTree
 call_of f es = record { name = f; arguments = es }
 
 abbrev pub declared_as : Identifier → Option RvalueTree → DeclarationTree
-declared_as x e = record { first = record { name = x; source = e }; rest = [] }
+declared_as x e = record { first = record { name = x; rvalue = e }; rest = [] }
 
 abbrev pub function_of : List ℕ → ℕ → List Identifier → ItemsTree → ℕ → FunctionTree
 function_of word c parameters body end = record { has_result = true; name = name_at word c; parameters = parameters; body = body; end = at end }

@@ -93,9 +93,9 @@ InParens l c = mark mark.OpenParen ⋅ IsCond l c ⋅ mark mark.CloseParen
 abbrev pub IsCall : ℕ → ℕ → CallTree → Texts
 IsCall o l c = name c.name o ⋅ mark mark.OpenParen ⋅ separated (IsExpr l) c.arguments ⋅ mark mark.CloseParen
 
-abbrev pub IsSource : ℕ → RvalueTree → Texts
-IsSource l (expression e) = IsExpr l e
-IsSource l (result c) = IsCall 0 l c
+abbrev pub IsRvalue : ℕ → RvalueTree → Texts
+IsRvalue l (expression e) = IsExpr l e
+IsRvalue l (result c) = IsCall 0 l c
 
 abbrev pub update_mark : operators.Operator → Mark
 update_mark operators.plus = mark.PlusAssign
@@ -109,7 +109,7 @@ step_mark increment = mark.Increment
 step_mark decrement = mark.Decrement
 
 abbrev pub IsAssign : ℕ → ℕ → AssignTree → Texts
-IsAssign o l (set x e) = name x o ⋅ mark mark.Assign ⋅ IsSource l e
+IsAssign o l (set x e) = name x o ⋅ mark mark.Assign ⋅ IsRvalue l e
 IsAssign o l (update x op e) = name x o ⋅ mark (update_mark op) ⋅ IsExpr l e
 IsAssign o l (after x s) = name x o ⋅ mark (step_mark s)
 IsAssign o l (before at s x) = opens_at (step_mark s) at o ⋅ name x 0
@@ -122,10 +122,10 @@ IsType = mark mark.Long ⋅ (mark mark.Long ∣ empty) ⋅ (mark mark.Int ∣ em
 
 abbrev pub IsGiven : ℕ → Option RvalueTree → Texts
 IsGiven l None = empty
-IsGiven l (Some e) = mark mark.Assign ⋅ IsSource l e
+IsGiven l (Some e) = mark mark.Assign ⋅ IsRvalue l e
 
 abbrev pub IsDeclarator : ℕ → DeclaratorTree → Texts
-IsDeclarator l d = name d.name 0 ⋅ IsGiven l d.source
+IsDeclarator l d = name d.name 0 ⋅ IsGiven l d.rvalue
 
 abbrev pub IsDeclaration : ℕ → DeclarationTree → Texts
 IsDeclaration l d = IsType ⋅ separated (IsDeclarator l) (d.first ∷ d.rest) ⋅ mark mark.Semicolon
@@ -159,7 +159,7 @@ IsForStep l (Some a) = IsAssign 0 l a
 
 abbrev pub IsReturned : ℕ → Option RvalueTree → Texts
 IsReturned l None = empty
-IsReturned l (Some e) = IsSource l e
+IsReturned l (Some e) = IsRvalue l e
 
 abbrev mutual
   pub IsStmt : ℕ → ℕ → StmtTree → Texts

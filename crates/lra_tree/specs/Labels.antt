@@ -57,7 +57,7 @@ abbrev pub declarator_labels : List (List ℕ) → List DeclaratorTree → List 
 declarator_labels live [] = []
 declarator_labels live (d ∷ ds) =
     let more = live ++ d.name.word ∷ [] in
-    record { place = d.name.place; called = called_of d.source; live = live; live_in_call = more } ∷
+    record { place = d.name.place; called = called_of d.rvalue; live = live; live_in_call = more } ∷
     declarator_labels more ds
 
 abbrev pub assign_label : List (List ℕ) → AssignTree → Labelled

@@ -71,7 +71,7 @@ pub data AssignTree : Type 0 where
 
 pub record DeclaratorTree : Type 0 where
   pub name : Identifier
-  pub source : Option RvalueTree
+  pub rvalue : Option RvalueTree
 
 -- one declarator at least
 pub record DeclarationTree : Type 0 where

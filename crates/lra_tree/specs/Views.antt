@@ -20,7 +20,7 @@ use Rattle.lra_tree.specs.declared.trees.Conjunction.{Conjunction}
 use Rattle.lra_tree.specs.declared.trees.Cond.{Cond}
 use Rattle.lra_tree.specs.declared.trees.Call.{Call}
 use Rattle.lra_tree.specs.declared.trees.Rvalue.{Rvalue}
-use Rattle.lra_tree.specs.declared.trees.Rvalue.TheVariants as source
+use Rattle.lra_tree.specs.declared.trees.Rvalue.TheVariants as rvalue
 use Rattle.lra_tree.specs.declared.trees.Step.{Step}
 use Rattle.lra_tree.specs.declared.trees.Step.TheVariants as step
 use Rattle.lra_tree.specs.declared.trees.Assign.{Assign}
@@ -166,8 +166,8 @@ abbrev pub call_view : Call → tree.CallTree
 call_view c = record { name = c.name; arguments = map expr_view c.arguments.items.items }
 
 abbrev pub rvalue_view : Rvalue → tree.RvalueTree
-rvalue_view (source.Value e) = tree.expression (expr_view e)
-rvalue_view (source.Result c) = tree.result (call_view c)
+rvalue_view (rvalue.Value e) = tree.expression (expr_view e)
+rvalue_view (rvalue.Result c) = tree.result (call_view c)
 
 abbrev pub assign_view : Assign → tree.AssignTree
 assign_view (assign.Set x e) = tree.set x (rvalue_view e)
@@ -176,7 +176,7 @@ assign_view (assign.After x s) = tree.after x (step_view s)
 assign_view (assign.Before at s x) = tree.before at (step_view s) x
 
 abbrev pub declarator_view : Declarator → tree.DeclaratorTree
-declarator_view d = record { name = d.name; source = option_map rvalue_view d.source }
+declarator_view d = record { name = d.name; rvalue = option_map rvalue_view d.rvalue }
 
 abbrev pub declaration_view : Declaration → tree.DeclarationTree
 declaration_view d = record { first = declarator_view d.first; rest = map declarator_view d.rest.items }

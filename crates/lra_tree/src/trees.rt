@@ -290,7 +290,7 @@ pub enum Step {
 
 /// An assignment.
 pub enum Assign {
-    /// `x = source`
+    /// `x = rvalue`
     Set(Identifier, Rvalue),
     /// `x op= e`
     Update(Identifier, Operator, Expr),
@@ -314,12 +314,12 @@ impl Drop for Assign {
 /// A variable that is declared, and what it gets, if anything.
 pub struct Declarator {
     pub name: Identifier,
-    pub source: Option<Rvalue>,
+    pub rvalue: Option<Rvalue>,
 }
 
 impl Drop for Declarator {
     fn drop(self) {
-        let Declarator { name: _, source: _ } = self;
+        let Declarator { name: _, rvalue: _ } = self;
     }
 }
 

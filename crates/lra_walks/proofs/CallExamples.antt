@@ -38,7 +38,7 @@ abbrev calling : Program
 calling = record {
   globals = [];
   functions = f_alone ∷ [];
-  main = record { parameters = 0; body = declaration (record { label = 6; source = Some (program.result called) }) no_more; end = 7 };
+  main = record { parameters = 0; body = declaration (record { label = 6; rvalue = Some (program.result called) }) no_more; end = 7 };
 }
 
 -- both variables live where f returns, and r alone behind the call

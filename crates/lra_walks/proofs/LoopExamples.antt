@@ -54,7 +54,7 @@ counting = record {
   functions = [];
   main = record {
     parameters = 0;
-    body = declaration (record { label = 1; source = Some (program.value (literal 0)) })
+    body = declaration (record { label = 1; rvalue = Some (program.value (literal 0)) })
         (statement (loop 2 is_small (program.assign 3 (local 0) (program.value (binary plus i (literal 1)))) absent) no_more);
     end = 4;
   };

@@ -529,7 +529,7 @@ asserted = (
 )
 
 abbrev zero_at : ℕ → program.Declarator
-zero_at at = record { label = at; source = Some (program.value (literal 0)) }
+zero_at at = record { label = at; rvalue = Some (program.value (literal 0)) }
 
 abbrev inner_block : program.Stmt
 inner_block = program.block (program.statement (program.if 6 (compare operators.at_least b_is (literal 3)) (program.break 7) program.absent)

@@ -72,7 +72,7 @@ mod tests {
         let mut items = Vec::new(rt.alloc());
         items.push(BlockItem::Declaration(Declarator {
             label: 1,
-            source: None,
+            rvalue: None,
         }))?;
         let two = Rvalue::Value(Expr::Literal(2));
         items.push(BlockItem::Statement(Stmt::Assign(2, Slot::Local(0), two)))?;

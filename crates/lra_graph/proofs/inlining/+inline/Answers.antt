@@ -3,7 +3,7 @@ use Rattle.std.proofs.Common.{rules, ◌≡◌, ◌+◌, ◌++◌, ◌∷◌, []
 use Rattle.lra_program.specs.Program.{result, block, assign, call, if, loop, return}
 use Rattle.lra_program.specs.Step.{give}
 use Rattle.lra_operations.specs.Graph.{act}
-use Rattle.lra_program.specs.Sites.{plain_site, live_behind, stmt_events, source_events, given_events, items_events, call_events}
+use Rattle.lra_program.specs.Sites.{plain_site, live_behind, stmt_events, rvalue_events, given_events, items_events, call_events}
 use Rattle.lra_program.specs.ProgramViews.{slot_view, expr_view, cond_view, call_view, rvalue_view, given_view, stmt_view, item_view, items_of, declarator_view}
 use Rattle.lra_operations.specs.GraphViews.{node_view}
 use Rattle.lra_graph.specs.Limits.{walk, stopped}
@@ -82,7 +82,7 @@ pub inline_item-returns-in_err-given-in-Declaration-clause-limit : goal.inline_i
 inline_item-returns-in_err-given-in-Declaration-clause-limit t c =
     let here = c.args.around.now in
     err_stopped c.from_residual-in_err-given-in-Declaration.result _ (λ x. walk (points_in c.own_point.new.sites) (given_events (inside here) here.path.now (here.frame.live + 1) (given_view
-    c.in-Declaration.declarator.source)) ≡ stopped x) (λ x. StopsItem (program_around here) here.path.now here.frame (points_in c.args.sites.now) (item_view c.args.item.now) x)
+    c.in-Declaration.declarator.rvalue)) ≡ stopped x) (λ x. StopsItem (program_around here) here.path.now here.frame (points_in c.args.sites.now) (item_view c.args.item.now) x)
     c.from_residual-in_err-given-in-Declaration.ensures.1 (given_stops (program_around here) here.path.now here.frame (points_in c.args.sites.now) (item_view c.args.item.now)
     (declarator_view c.in-Declaration.declarator) (item_declared c.args.item.now c.in-Declaration.declarator c.in-Declaration.is) (points_in c.own_point.new.sites) (here.frame.live + 1)
     c.in_ok-point-in-Declaration.ensures.walked (omega arith)) c.in_err-given-in-Declaration.ensures.limit
@@ -147,16 +147,16 @@ inline_items-returns-clause-written t c =
 pub inline_declared-overflow_add-frame : goal.inline_declared-overflow_add-frame
 inline_declared-overflow_add-frame t c = let h = c.requires.few in record { fits = omega arith }
 
-pub inline_declared-inline_source-requires : goal.inline_declared-inline_source-requires
-inline_declared-inline_source-requires t c =
+pub inline_declared-inline_rvalue-requires : goal.inline_declared-inline_rvalue-requires
+inline_declared-inline_rvalue-requires t c =
     let here = c.args.around.now in
     (lighter (program_around here) here.frame.calls_left t 3 4 c.decreases (omega arith), (c.requires.well, ((let h = c.requires.few in omega arith), rw c.in-Some.is at c.requires.stands)))
 
 pub inline_declared-returns-in_err-given-in-Some-clause-limit : goal.inline_declared-returns-in_err-given-in-Some-clause-limit
 inline_declared-returns-in_err-given-in-Some-clause-limit t c =
     let here = c.args.around.now in
-    rw c.in-Some.is (err_limit c.from_residual.result _ (points_in c.args.sites.now) (points_in c.args.sites.now) (source_events (inside here) here.path.now (here.frame.live + 1)
-    (rvalue_view c.in-Some.source)) (source_events (inside here) here.path.now (here.frame.live + 1) (rvalue_view c.in-Some.source)) c.from_residual.ensures.1 (λ x h. h)
+    rw c.in-Some.is (err_limit c.from_residual.result _ (points_in c.args.sites.now) (points_in c.args.sites.now) (rvalue_events (inside here) here.path.now (here.frame.live + 1)
+    (rvalue_view c.in-Some.rvalue)) (rvalue_events (inside here) here.path.now (here.frame.live + 1) (rvalue_view c.in-Some.rvalue)) c.from_residual.ensures.1 (λ x h. h)
     c.in_err-given-in-Some.ensures.limit)
 
 pub inline_declared-returns-in-None-clause-written : goal.inline_declared-returns-in-None-clause-written
@@ -274,8 +274,8 @@ inline_loop-returns-clause-written t c =
     (λ g a. rounds_written (program_around here) here.path.now here.frame _ _ _ c.args.point (cond_view c.args.cond.now) (stmt_view c.args.body.now) (stmt_view c.args.step.now) _ _ (node_view g)
     c.in_ok-step.ensures.written c.in_ok-body.ensures.written a)
 
-pub inline_source-inline_call-requires : goal.inline_source-inline_call-requires
-inline_source-inline_call-requires t c =
+pub inline_rvalue-inline_call-requires : goal.inline_rvalue-inline_call-requires
+inline_rvalue-inline_call-requires t c =
     let here = c.args.around.now in (
       lighter (program_around here) here.frame.calls_left t 2 3 c.decreases (omega arith),
       (
@@ -288,17 +288,17 @@ inline_source-inline_call-requires t c =
       ),
     )
 
-pub inline_source-returns-in_ok-value-in-Value-clause-written : goal.inline_source-returns-in_ok-value-in-Value-clause-written
-inline_source-returns-in_ok-value-in-Value-clause-written t c =
+pub inline_rvalue-returns-in_ok-value-in-Value-clause-written : goal.inline_rvalue-returns-in_ok-value-in-Value-clause-written
+inline_rvalue-returns-in_ok-value-in-Value-clause-written t c =
     let here = c.args.around.now in
     rw c.in-Value.is (value_written (program_around here) here.path.now here.frame _ c.args.point c.args.target (expr_view c.in-Value.value) _ (shown_act c.args.point _ ∙ ap (λ z. act
     c.args.point (give here.frame.base c.args.target z)) c.in_ok-value-in-Value.ensures))
 
-pub inline_source-returns-in-Result-clause-written : goal.inline_source-returns-in-Result-clause-written
-inline_source-returns-in-Result-clause-written t c = rw c.in-Result.is c.inline_call.ensures.written
+pub inline_rvalue-returns-in-Result-clause-written : goal.inline_rvalue-returns-in-Result-clause-written
+inline_rvalue-returns-in-Result-clause-written t c = rw c.in-Result.is c.inline_call.ensures.written
 
-pub inline_source-returns-in-Result-clause-limit : goal.inline_source-returns-in-Result-clause-limit
-inline_source-returns-in-Result-clause-limit t c = rw c.in-Result.is c.inline_call.ensures.limit
+pub inline_rvalue-returns-in-Result-clause-limit : goal.inline_rvalue-returns-in-Result-clause-limit
+inline_rvalue-returns-in-Result-clause-limit t c = rw c.in-Result.is c.inline_call.ensures.limit
 
 pub inline_block-inline_items-requires : goal.inline_block-inline_items-requires
 inline_block-inline_items-requires t c =
@@ -335,15 +335,15 @@ pub inline_assign-returns-in_err-point-clause-limit : goal.inline_assign-returns
 inline_assign-returns-in_err-point-clause-limit t c =
     let here = c.args.around.now in
     first_limit c.from_residual.result _ (points_in c.args.sites.now) (own_events here c.args.label)
-    (source_events (inside here) here.path.now here.frame.live (rvalue_view c.args.source.now)) c.from_residual.ensures.1 c.in_err-point.ensures.limit
+    (rvalue_events (inside here) here.path.now here.frame.live (rvalue_view c.args.rvalue.now)) c.from_residual.ensures.1 c.in_err-point.ensures.limit
 
 pub inline_assign-store_index-requires : goal.inline_assign-store_index-requires
 inline_assign-store_index-requires t c =
     let here = c.args.around.now in
-    assigned_fits (program_around here) here.frame c.args.label (slot_view c.args.slot) (rvalue_view c.args.source.now) c.requires.stands c.in_ok-point.ensures.few
+    assigned_fits (program_around here) here.frame c.args.label (slot_view c.args.slot) (rvalue_view c.args.rvalue.now) c.requires.stands c.in_ok-point.ensures.few
 
-pub inline_assign-inline_source-requires : goal.inline_assign-inline_source-requires
-inline_assign-inline_source-requires t c =
+pub inline_assign-inline_rvalue-requires : goal.inline_assign-inline_rvalue-requires
+inline_assign-inline_rvalue-requires t c =
     let here = c.args.around.now in (
       part_falls (program_around here) here.frame.calls_left t 3 4 c.decreases (omega arith),
       (
@@ -351,7 +351,7 @@ inline_assign-inline_source-requires t c =
         (
           omega (arith, c.in_ok-point.ensures.few),
           assign_stands (program_around here)
-              here.frame c.args.label (slot_view c.args.slot) (rvalue_view c.args.source.now) c.requires.stands,
+              here.frame c.args.label (slot_view c.args.slot) (rvalue_view c.args.rvalue.now) c.requires.stands,
         ),
       ),
     )
@@ -360,13 +360,13 @@ pub inline_assign-returns-in_err-given-clause-limit : goal.inline_assign-returns
 inline_assign-returns-in_err-given-clause-limit t c =
     let here = c.args.around.now in
     second_limit c.from_residual-in_err-given.result _ (points_in c.args.sites.now) (points_in c.own_point.new.sites) (own_events here c.args.label)
-    (source_events (inside here) here.path.now here.frame.live (rvalue_view c.args.source.now)) c.in_ok-point.ensures.walked c.from_residual-in_err-given.ensures.1 c.in_err-given.ensures.limit
+    (rvalue_events (inside here) here.path.now here.frame.live (rvalue_view c.args.rvalue.now)) c.in_ok-point.ensures.walked c.from_residual-in_err-given.ensures.1 c.in_err-given.ensures.limit
 
 pub inline_assign-returns-clause-written : goal.inline_assign-returns-clause-written
 inline_assign-returns-clause-written t c =
     let here = c.args.around.now in
     made_ok c.finish.result c.behind_point.result _ _ c.finish.ensures.tree c.behind_point.ensures
-    (λ g a. assign_written (program_around here) here.path.now here.frame _ _ _ c.in_ok-point.point c.args.label c.store_index.result (slot_view c.args.slot) (rvalue_view c.args.source.now) _
+    (λ g a. assign_written (program_around here) here.path.now here.frame _ _ _ c.in_ok-point.point c.args.label c.store_index.result (slot_view c.args.slot) (rvalue_view c.args.rvalue.now) _
     (node_view g)
     c.in_ok-point.ensures.number c.in_ok-point.ensures.walked c.store_index.ensures c.in_ok-given.ensures.written a)
 
@@ -449,12 +449,12 @@ inline_stmt-returns-in-Block-clause-limit t c =
 pub inline_simple-inline_assign-requires : goal.inline_simple-inline_assign-requires
 inline_simple-inline_assign-requires t c =
     let here = c.args.around.now in (
-      assign_falls (program_around here) here.frame.calls_left t (stmt_view c.args.stmt.now) c.in-Assign.label (slot_view c.in-Assign.slot) (rvalue_view c.in-Assign.source) c.decreases (ap
-          stmt_view c.in-Assign.is ∙ shown_assign c.in-Assign.label c.in-Assign.slot c.in-Assign.source),
+      assign_falls (program_around here) here.frame.calls_left t (stmt_view c.args.stmt.now) c.in-Assign.label (slot_view c.in-Assign.slot) (rvalue_view c.in-Assign.rvalue) c.decreases (ap
+          stmt_view c.in-Assign.is ∙ shown_assign c.in-Assign.label c.in-Assign.slot c.in-Assign.rvalue),
       (
         c.requires.well,
         (subst (StmtStands (program_around here) here.frame) (ap stmt_view
-            c.in-Assign.is ∙ shown_assign c.in-Assign.label c.in-Assign.slot c.in-Assign.source) c.requires.stands),
+            c.in-Assign.is ∙ shown_assign c.in-Assign.label c.in-Assign.slot c.in-Assign.rvalue) c.requires.stands),
       ),
     )
 
@@ -462,14 +462,14 @@ pub inline_simple-returns-in-Assign-clause-written : goal.inline_simple-returns-
 inline_simple-returns-in-Assign-clause-written t c =
     let here = c.args.around.now in
     stmt_handed (program_around here) here.path.now here.frame (points_in c.args.sites.now) c.inline_assign.result node_view _ (stmt_view c.args.stmt.now) (assign c.in-Assign.label
-    (slot_view c.in-Assign.slot) (rvalue_view c.in-Assign.source)) (ap stmt_view c.in-Assign.is ∙ shown_assign c.in-Assign.label c.in-Assign.slot c.in-Assign.source)
+    (slot_view c.in-Assign.slot) (rvalue_view c.in-Assign.rvalue)) (ap stmt_view c.in-Assign.is ∙ shown_assign c.in-Assign.label c.in-Assign.slot c.in-Assign.rvalue)
     c.inline_assign.ensures.written
 
 pub inline_simple-returns-in-Assign-clause-limit : goal.inline_simple-returns-in-Assign-clause-limit
 inline_simple-returns-in-Assign-clause-limit t c =
     let here = c.args.around.now in
     stmt_limit (program_around here) here.path.now here.frame (points_in c.args.sites.now) c.inline_assign.result (stmt_view c.args.stmt.now) (assign c.in-Assign.label (slot_view
-    c.in-Assign.slot) (rvalue_view c.in-Assign.source)) (ap stmt_view c.in-Assign.is ∙ shown_assign c.in-Assign.label c.in-Assign.slot c.in-Assign.source) c.inline_assign.ensures.limit
+    c.in-Assign.slot) (rvalue_view c.in-Assign.rvalue)) (ap stmt_view c.in-Assign.is ∙ shown_assign c.in-Assign.label c.in-Assign.slot c.in-Assign.rvalue) c.inline_assign.ensures.limit
 
 pub inline_stmt-inline_if-requires : goal.inline_stmt-inline_if-requires
 inline_stmt-inline_if-requires t c =
@@ -532,12 +532,12 @@ inline_stmt-returns-in-For-clause-limit t c =
 pub inline_simple-inline_return-requires : goal.inline_simple-inline_return-requires
 inline_simple-inline_return-requires t c =
     let here = c.args.around.now in (
-      return_falls (program_around here) here.frame.calls_left t (stmt_view c.args.stmt.now) c.in-Return.label (given_view c.in-Return.source) c.decreases (ap stmt_view c.in-Return.is ∙
-          shown_return c.in-Return.label c.in-Return.source),
+      return_falls (program_around here) here.frame.calls_left t (stmt_view c.args.stmt.now) c.in-Return.label (given_view c.in-Return.rvalue) c.decreases (ap stmt_view c.in-Return.is ∙
+          shown_return c.in-Return.label c.in-Return.rvalue),
       (
         c.requires.well,
         (subst (StmtStands (program_around here) here.frame) (ap stmt_view c.in-Return.is ∙ shown_return c.in-Return.label
-            c.in-Return.source) c.requires.stands),
+            c.in-Return.rvalue) c.requires.stands),
       ),
     )
 
@@ -545,13 +545,13 @@ pub inline_simple-returns-in-Return-clause-written : goal.inline_simple-returns-
 inline_simple-returns-in-Return-clause-written t c =
     let here = c.args.around.now in
     stmt_handed (program_around here) here.path.now here.frame (points_in c.args.sites.now) c.inline_return.result node_view _ (stmt_view c.args.stmt.now) (return c.in-Return.label
-    (given_view c.in-Return.source)) (ap stmt_view c.in-Return.is ∙ shown_return c.in-Return.label c.in-Return.source) c.inline_return.ensures.written
+    (given_view c.in-Return.rvalue)) (ap stmt_view c.in-Return.is ∙ shown_return c.in-Return.label c.in-Return.rvalue) c.inline_return.ensures.written
 
 pub inline_simple-returns-in-Return-clause-limit : goal.inline_simple-returns-in-Return-clause-limit
 inline_simple-returns-in-Return-clause-limit t c =
     let here = c.args.around.now in
     stmt_limit (program_around here) here.path.now here.frame (points_in c.args.sites.now) c.inline_return.result (stmt_view c.args.stmt.now) (return c.in-Return.label (given_view
-    c.in-Return.source)) (ap stmt_view c.in-Return.is ∙ shown_return c.in-Return.label c.in-Return.source) c.inline_return.ensures.limit
+    c.in-Return.rvalue)) (ap stmt_view c.in-Return.is ∙ shown_return c.in-Return.label c.in-Return.rvalue) c.inline_return.ensures.limit
 
 pub inline_call-enter_call-requires : goal.inline_call-enter_call-requires
 inline_call-enter_call-requires t c = c.requires.few
@@ -614,7 +614,7 @@ pub inline_declared-returns-in_ok-given-in-Some-clause-written : goal.inline_dec
 inline_declared-returns-in_ok-given-in-Some-clause-written t c =
     let here = c.args.around.now in
     rw c.in-Some.is (made_ok c.finish.result c.behind.result _ _ c.finish.ensures.tree c.behind.ensures
-    (λ g a. given_written (program_around here) here.path.now here.frame _ _ c.args.point (here.frame.live + 1) (rvalue_view c.in-Some.source) _ (node_view g)
+    (λ g a. given_written (program_around here) here.path.now here.frame _ _ c.args.point (here.frame.live + 1) (rvalue_view c.in-Some.rvalue) _ (node_view g)
     (omega arith) c.in_ok-given-in-Some.ensures.written a))
 
 pub inline_block-returns-clause-limit : goal.inline_block-returns-clause-limit
@@ -649,40 +649,40 @@ inline_return-return_any-requires t c =
 pub inline_return-returns-in-None-clause-written : goal.inline_return-returns-in-None-clause-written
 inline_return-returns-in-None-clause-written t c =
     let here = c.args.around.now in
-    stmt_handed (program_around here) here.path.now here.frame (points_in c.args.sites.now) c.return_any.result node_view _ (return c.args.label (given_view c.args.source.now))
+    stmt_handed (program_around here) here.path.now here.frame (points_in c.args.sites.now) c.return_any.result node_view _ (return c.args.label (given_view c.args.rvalue.now))
     (return c.args.label None)
     (ap (λ o. return c.args.label (given_view o)) c.in-None.is) c.return_any.ensures.written
 
 pub inline_return-returns-in-None-clause-limit : goal.inline_return-returns-in-None-clause-limit
 inline_return-returns-in-None-clause-limit t c =
     let here = c.args.around.now in
-    stmt_limit (program_around here) here.path.now here.frame (points_in c.args.sites.now) c.return_any.result (return c.args.label (given_view c.args.source.now)) (return c.args.label None)
+    stmt_limit (program_around here) here.path.now here.frame (points_in c.args.sites.now) c.return_any.result (return c.args.label (given_view c.args.rvalue.now)) (return c.args.label None)
     (ap (λ o. return c.args.label (given_view o)) c.in-None.is) c.return_any.ensures.limit
 
 pub inline_return-return_value-requires : goal.inline_return-return_value-requires
 inline_return-return_value-requires t c =
     let here = c.args.around.now in
     subst (λ z. StmtStands (program_around here) here.frame (return c.args.label z))
-    (shown_value c.args.source.now c.in-Some-Value.field-0 c.in-Some-Value.value c.in-Some-Value.is (rw c.in-Some-Value.is at c.in-Some-Value.field-0-is)) c.requires.stands
+    (shown_value c.args.rvalue.now c.in-Some-Value.field-0 c.in-Some-Value.value c.in-Some-Value.is (rw c.in-Some-Value.is at c.in-Some-Value.field-0-is)) c.requires.stands
 
 pub inline_return-returns-in-Some-Value-clause-written : goal.inline_return-returns-in-Some-Value-clause-written
 inline_return-returns-in-Some-Value-clause-written t c =
     let here = c.args.around.now in
-    stmt_handed (program_around here) here.path.now here.frame (points_in c.args.sites.now) c.return_value.result node_view _ (return c.args.label (given_view c.args.source.now)) _
+    stmt_handed (program_around here) here.path.now here.frame (points_in c.args.sites.now) c.return_value.result node_view _ (return c.args.label (given_view c.args.rvalue.now)) _
     (ap (λ o. return c.args.label o)
-    (shown_value c.args.source.now c.in-Some-Value.field-0 c.in-Some-Value.value c.in-Some-Value.is (rw c.in-Some-Value.is at c.in-Some-Value.field-0-is))) c.return_value.ensures.written
+    (shown_value c.args.rvalue.now c.in-Some-Value.field-0 c.in-Some-Value.value c.in-Some-Value.is (rw c.in-Some-Value.is at c.in-Some-Value.field-0-is))) c.return_value.ensures.written
 
 pub inline_return-returns-in-Some-Value-clause-limit : goal.inline_return-returns-in-Some-Value-clause-limit
 inline_return-returns-in-Some-Value-clause-limit t c =
     let here = c.args.around.now in
-    stmt_limit (program_around here) here.path.now here.frame (points_in c.args.sites.now) c.return_value.result (return c.args.label (given_view c.args.source.now)) _ (ap (λ o. return c.args.label o)
-    (shown_value c.args.source.now c.in-Some-Value.field-0 c.in-Some-Value.value c.in-Some-Value.is (rw c.in-Some-Value.is at c.in-Some-Value.field-0-is))) c.return_value.ensures.limit
+    stmt_limit (program_around here) here.path.now here.frame (points_in c.args.sites.now) c.return_value.result (return c.args.label (given_view c.args.rvalue.now)) _ (ap (λ o. return c.args.label o)
+    (shown_value c.args.rvalue.now c.in-Some-Value.field-0 c.in-Some-Value.value c.in-Some-Value.is (rw c.in-Some-Value.is at c.in-Some-Value.field-0-is))) c.return_value.ensures.limit
 
 pub inline_return-returns-in_err-point-in-Some-Result-clause-limit : goal.inline_return-returns-in_err-point-in-Some-Result-clause-limit
 inline_return-returns-in_err-point-in-Some-Result-clause-limit t c =
     let here = c.args.around.now in
-    let is = (shown_result c.args.source.now c.in-Some-Result.field-0 c.in-Some-Result.call c.in-Some-Result.is (rw c.in-Some-Result.is at c.in-Some-Result.field-0-is)) in
-    stmt_limit (program_around here) here.path.now here.frame (points_in c.args.sites.now) c.from_residual.result (return c.args.label (given_view c.args.source.now))
+    let is = (shown_result c.args.rvalue.now c.in-Some-Result.field-0 c.in-Some-Result.call c.in-Some-Result.is (rw c.in-Some-Result.is at c.in-Some-Result.field-0-is)) in
+    stmt_limit (program_around here) here.path.now here.frame (points_in c.args.sites.now) c.from_residual.result (return c.args.label (given_view c.args.rvalue.now))
     (return c.args.label (Some (result (call_view c.in-Some-Result.call))))
     (ap (λ o. return c.args.label o) is) (first_limit c.from_residual.result _ (points_in c.args.sites.now) (own_events here c.args.label)
     ((inside here) here.path.now here.frame.live (call_view c.in-Some-Result.call)) c.from_residual.ensures.1 c.in_err-point-in-Some-Result.ensures.limit)
@@ -690,15 +690,15 @@ inline_return-returns-in_err-point-in-Some-Result-clause-limit t c =
 pub inline_return-inline_call-requires : goal.inline_return-inline_call-requires
 inline_return-inline_call-requires t c =
     let here = c.args.around.now in
-    let is = (shown_result c.args.source.now c.in-Some-Result.field-0 c.in-Some-Result.call c.in-Some-Result.is (rw c.in-Some-Result.is at c.in-Some-Result.field-0-is)) in (
+    let is = (shown_result c.args.rvalue.now c.in-Some-Result.field-0 c.in-Some-Result.call c.in-Some-Result.is (rw c.in-Some-Result.is at c.in-Some-Result.field-0-is)) in (
       part_falls (program_around here) here.frame.calls_left t 2 5 c.decreases (omega arith),
       (
         c.requires.well,
         (
           omega (arith, c.in_ok-point-in-Some-Result.ensures.few),
           result_stands (program_around here) here.frame (call_view c.in-Some-Result.call)
-              (given_seen (program_around here) here.frame (given_view c.args.source.now) _ is
-              (return_stands (program_around here) here.frame c.args.label (given_view c.args.source.now) c.requires.stands)),
+              (given_seen (program_around here) here.frame (given_view c.args.rvalue.now) _ is
+              (return_stands (program_around here) here.frame c.args.label (given_view c.args.rvalue.now) c.requires.stands)),
         ),
       ),
     )
@@ -706,9 +706,9 @@ inline_return-inline_call-requires t c =
 pub inline_return-returns-in_err-given-in-Some-Result-clause-limit : goal.inline_return-returns-in_err-given-in-Some-Result-clause-limit
 inline_return-returns-in_err-given-in-Some-Result-clause-limit t c =
     let here = c.args.around.now in
-    let is = (shown_result c.args.source.now c.in-Some-Result.field-0 c.in-Some-Result.call c.in-Some-Result.is (rw c.in-Some-Result.is at c.in-Some-Result.field-0-is)) in
+    let is = (shown_result c.args.rvalue.now c.in-Some-Result.field-0 c.in-Some-Result.call c.in-Some-Result.is (rw c.in-Some-Result.is at c.in-Some-Result.field-0-is)) in
     let call = call_view c.in-Some-Result.call in
-    stmt_limit (program_around here) here.path.now here.frame (points_in c.args.sites.now) c.from_residual-in_err-given-in-Some-Result.result (return c.args.label (given_view c.args.source.now))
+    stmt_limit (program_around here) here.path.now here.frame (points_in c.args.sites.now) c.from_residual-in_err-given-in-Some-Result.result (return c.args.label (given_view c.args.rvalue.now))
     (return c.args.label (Some (result (call_view c.in-Some-Result.call))))
     (ap (λ o. return c.args.label o) is) (second_limit c.from_residual-in_err-given-in-Some-Result.result _ (points_in c.args.sites.now) (points_in c.own_point.new.sites)
     (own_events here c.args.label) ((inside here) here.path.now here.frame.live call) c.in_ok-point-in-Some-Result.ensures.walked c.from_residual-in_err-given-in-Some-Result.ensures.1
@@ -717,9 +717,9 @@ inline_return-returns-in_err-given-in-Some-Result-clause-limit t c =
 pub inline_return-returns-in_ok-given-in-Some-Result-clause-written : goal.inline_return-returns-in_ok-given-in-Some-Result-clause-written
 inline_return-returns-in_ok-given-in-Some-Result-clause-written t c =
     let here = c.args.around.now in
-    let is = (shown_result c.args.source.now c.in-Some-Result.field-0 c.in-Some-Result.call c.in-Some-Result.is (rw c.in-Some-Result.is at c.in-Some-Result.field-0-is)) in
+    let is = (shown_result c.args.rvalue.now c.in-Some-Result.field-0 c.in-Some-Result.call c.in-Some-Result.is (rw c.in-Some-Result.is at c.in-Some-Result.field-0-is)) in
     let call = call_view c.in-Some-Result.call in
-    stmt_handed (program_around here) here.path.now here.frame (points_in c.args.sites.now) c.finish.result node_view _ (return c.args.label (given_view c.args.source.now))
+    stmt_handed (program_around here) here.path.now here.frame (points_in c.args.sites.now) c.finish.result node_view _ (return c.args.label (given_view c.args.rvalue.now))
     (return c.args.label (Some (result (call_view c.in-Some-Result.call)))) (ap (λ o. return c.args.label o) is)
     (made_ok c.finish.result c.leave_call.result _ _ c.finish.ensures.tree c.leave_call.ensures (λ g a. call_returned (program_around here) here.path.now here.frame (points_in c.own_point.new.sites)
     c.in_ok-point-in-Some-Result.point c.requires.stands.back_low (points_in c.args.sites.now) c.args.label (node_view g) c.in_ok-point-in-Some-Result.ensures.number

@@ -47,8 +47,8 @@ decreases-inline_if l = weight (program_around l.around.now) l.around.now.frame.
 abbrev pub decreases-inline_return : goal.decreases-inline_return
 decreases-inline_return l = weight (program_around l.around.now) l.around.now.frame.calls_left 5
 
-abbrev pub decreases-inline_source : goal.decreases-inline_source
-decreases-inline_source l = weight (program_around l.around.now) l.around.now.frame.calls_left 3
+abbrev pub decreases-inline_rvalue : goal.decreases-inline_rvalue
+decreases-inline_rvalue l = weight (program_around l.around.now) l.around.now.frame.calls_left 3
 
 abbrev pub decreases-inline_call : goal.decreases-inline_call
 decreases-inline_call l = weight (program_around l.around.now) l.around.now.frame.calls_left 2

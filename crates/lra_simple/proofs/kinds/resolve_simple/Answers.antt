@@ -66,14 +66,14 @@ returns-in-Continue-clause-counted c = one_counted c.resolve_continue.result c.a
     (ap stmt_count (continue_is c.args.stmt.now c.in-Continue.place c.in-Continue.is)) c.resolve_continue.ensures.counted
 
 pub returns-in-Return-clause-told : goal.returns-in-Return-clause-told
-returns-in-Return-clause-told c = rw (return_is c.args.stmt.now c.in-Return.place c.in-Return.source c.in-Return.is) c.resolve_return.ensures.told
+returns-in-Return-clause-told c = rw (return_is c.args.stmt.now c.in-Return.place c.in-Return.rvalue c.in-Return.is) c.resolve_return.ensures.told
 
 pub returns-in-Return-clause-found : goal.returns-in-Return-clause-found
-returns-in-Return-clause-found c = rw (return_is c.args.stmt.now c.in-Return.place c.in-Return.source c.in-Return.is) c.resolve_return.ensures.found
+returns-in-Return-clause-found c = rw (return_is c.args.stmt.now c.in-Return.place c.in-Return.rvalue c.in-Return.is) c.resolve_return.ensures.found
 
 pub returns-in-Return-clause-counted : goal.returns-in-Return-clause-counted
 returns-in-Return-clause-counted c = one_counted c.resolve_return.result c.args.labels.now.next c.resolve_return.new.labels.next _
-    (ap stmt_count (return_is c.args.stmt.now c.in-Return.place c.in-Return.source c.in-Return.is)) c.resolve_return.ensures.counted
+    (ap stmt_count (return_is c.args.stmt.now c.in-Return.place c.in-Return.rvalue c.in-Return.is)) c.resolve_return.ensures.counted
 
 pub returns-in-Assert-clause-told : goal.returns-in-Assert-clause-told
 returns-in-Assert-clause-told c = rw (assert_is c.args.stmt.now c.in-Assert.place c.in-Assert.cond c.in-Assert.is) c.resolve_assert.ensures.told
@@ -122,7 +122,7 @@ returns-in-Continue-clause-adds c =
 
 pub returns-in-Return-clause-adds : goal.returns-in-Return-clause-adds
 returns-in-Return-clause-adds c =
-    rw (return_is c.args.stmt.now c.in-Return.place c.in-Return.source c.in-Return.is)
+    rw (return_is c.args.stmt.now c.in-Return.place c.in-Return.rvalue c.in-Return.is)
     c.resolve_return.ensures.adds
 
 pub returns-in-Assert-clause-adds : goal.returns-in-Assert-clause-adds

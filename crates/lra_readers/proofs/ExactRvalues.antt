@@ -14,11 +14,11 @@ use Rattle.lra_tree.specs.Texts.{Pieces, Texts, ◌⋅◌, opens, mark as spells
 use Rattle.lra_tree.specs.Trees.{UnaryTree, negated, positive, literal, variable, input, group, TermTree, unary, times, over, modulo, ExprTree, term, plus, minus, CallTree, RvalueTree, expression}
 use Rattle.lra_tree.specs.Trees.{result}
 use Rattle.lra_tree.specs.Views.{further_factor, further_term}
-use Rattle.lra_tree.specs.Grammar.{IsUnary, IsTerm, IsExpr, IsCall, IsSource}
+use Rattle.lra_tree.specs.Grammar.{IsUnary, IsTerm, IsExpr, IsCall, IsRvalue}
 use Rattle.lra_readers.specs.Tests.{is_mark}
 use Rattle.lra_readers.specs.Reading.{next_name, has}
 use Rattle.lra_readers.specs.Expressions.{unary_at}
-use Rattle.lra_readers.specs.Statements.{listed, arguments_at, call_of, call_rest, source_from, source_rest, source_at}
+use Rattle.lra_readers.specs.Statements.{listed, arguments_at, call_of, call_rest, rvalue_from, rvalue_rest, rvalue_at}
 use Rattle.lra_readers.proofs.Exact.{Exact, Any, Free, Both, first_or, first_or-both, then}
 use Rattle.lra_readers.proofs.Forms.{rename, widen, entry, follows, noted, mapped, branch, where_told}
 use Rattle.lra_readers.proofs.Tokens.{IsInner, exact_expect, exact_name, some_place}
@@ -124,7 +124,7 @@ call_out o l x c u v m (p, q, e, s, (es, f, t)) = subst (λ (k : CallTree). IsCa
 pub call_in : (l : ℕ) (c : CallTree) (v : Pieces) → (spells mark.OpenParen ⋅ ArgumentsText l c.arguments) v → CallText l c.name c v
 call_in l c v (p, q, e, s, t) = (p, q, e, s, (c.arguments, refl, t))
 
--- sources --------------------------------------------------------------------------------------------------------------
+-- rvalues --------------------------------------------------------------------------------------------------------------
 
 abbrev IsName : TermTree → Type 0
 IsName (unary (variable x)) = ⊤
@@ -143,9 +143,9 @@ IsNameAlone (term t) = IsName t
 IsNameAlone (plus e t) = ⊥
 IsNameAlone (minus e t) = ⊥
 
-abbrev pub AfterSource : RvalueTree → Option Token → Type 0
-AfterSource (expression e) o = AfterExpr e o × (IsNameAlone e → is_mark mark.OpenParen o ≡ false)
-AfterSource (result c) o = ⊤
+abbrev pub AfterRvalue : RvalueTree → Option Token → Type 0
+AfterRvalue (expression e) o = AfterExpr e o × (IsNameAlone e → is_mark mark.OpenParen o ≡ false)
+AfterRvalue (result c) o = ⊤
 
 -- what may follow an expression, and what its beginning tells of that
 abbrev AfterPlain : RvalueTree → Option Token → Type 0
@@ -156,11 +156,11 @@ abbrev Noted : RvalueTree → Option Token → Type 0
 Noted (expression e) o = IsNameAlone e → is_mark mark.OpenParen o ≡ false
 Noted (result c) o = ⊤
 
-both_after : (b : RvalueTree) (o : Option Token) → AfterPlain b o × Noted b o → AfterSource b o
+both_after : (b : RvalueTree) (o : Option Token) → AfterPlain b o × Noted b o → AfterRvalue b o
 both_after (expression e) o f = f
 both_after (result c) o f = tt
 
-after_both : (b : RvalueTree) (o : Option Token) → AfterSource b o → AfterPlain b o × Noted b o
+after_both : (b : RvalueTree) (o : Option Token) → AfterRvalue b o → AfterPlain b o × Noted b o
 after_both (expression e) o f = f
 after_both (result c) o f = (tt, tt)
 
@@ -195,8 +195,8 @@ FromTerm l t b = Of expression (λ e z. ExprSteps l e (term t) z) b
 abbrev FromName : ℕ → Identifier → RvalueTree → Texts
 FromName l x b z = Both (λ t z. TermSteps l t (unary (variable x)) z) (FromTerm l) b z
 
-abbrev SourceRest : ℕ → Identifier → RvalueTree → Texts
-SourceRest l x b z = Of result (CallText l x) b z ⊎ FromName l x b z
+abbrev RvalueRest : ℕ → Identifier → RvalueTree → Texts
+RvalueRest l x b z = Of result (CallText l x) b z ⊎ FromName l x b z
 
 abbrev NotOpen : Option Token → Type 0
 NotOpen o = is_mark mark.OpenParen o ≡ false
@@ -214,10 +214,10 @@ plain_after : (e : ExprTree) (b : RvalueTree) (o : Option Token) → expression 
 plain_after e b o g f = let r : AfterPlain (expression e) o = subst (λ (c : RvalueTree). AfterPlain c o) (sym g) f in r
 
 -- an expression that is a name alone is followed by no parenthesis
-alone_after : (e : ExprTree) (b : RvalueTree) (o : Option Token) → expression e ≡ b → AfterSource b o → IsNameAlone e → NotOpen o
-alone_after e b o g f = let r : AfterSource (expression e) o = subst (λ (c : RvalueTree). AfterSource c o) (sym g) f in r.1
+alone_after : (e : ExprTree) (b : RvalueTree) (o : Option Token) → expression e ≡ b → AfterRvalue b o → IsNameAlone e → NotOpen o
+alone_after e b o g f = let r : AfterRvalue (expression e) o = subst (λ (c : RvalueTree). AfterRvalue c o) (sym g) f in r.1
 
-from_no_open : (l : ℕ) (x : Identifier) (b : RvalueTree) (z : Pieces) (o : Option Token) → FromName l x b z → (z ≡ [] → AfterSource b o) → NotOpen (first_or z o)
+from_no_open : (l : ℕ) (x : Identifier) (b : RvalueTree) (z : Pieces) (o : Option Token) → FromName l x b z → (z ≡ [] → AfterRvalue b o) → NotOpen (first_or z o)
 from_no_open l x b z o (t, (u, v, e, s, (a, g, r))) f =
     let behind_terms : u ≡ [] → t ≡ unary (variable x) → NotOpen (first_or v o) = λ i j.
     first_of_steps sum_mark term further_term (IsTerm l) a (term t) v o NotOpen r sum_no_open
@@ -229,7 +229,7 @@ module _ (n d l : ℕ) (h : d + l ≡ n) where
   term_follows : (t : TermTree) (b : RvalueTree) (y : Pieces) (o : Option Token) → FromTerm l t b y → (y ≡ [] → AfterPlain b o) → AfterTerm t (first_or y o)
   term_follows t b y o (e, g, s) f = expr_follows n l (term t) e y o s (λ i. plain_after e b o g (f i))
 
-  exact_from : (x : Identifier) → Exact n IsInner (source_from d (variable x)) Any (FromName l x) (FromName l x) AfterPlain
+  exact_from : (x : Identifier) → Exact n IsInner (rvalue_from d (variable x)) Any (FromName l x) (FromName l x) AfterPlain
   exact_from x =
       let U = exact_unary n d l h in
       then (exact_factors n l (unary_at d) U (unary (variable x))) (λ t. mapped (exact_summands n l (unary_at d) U (term t)) expression AfterPlain (λ e o f. f) (λ e o f. f)) (FromName l x)
@@ -237,28 +237,28 @@ module _ (n d l : ℕ) (h : d + l ≡ n) where
       (λ t z v. (expression (term t), [], (t, (z, [], refl, v, (term t, refl, none)))))
       (λ t b u v s r. (t, (u, v, refl, s, r)))
 
-  exact_source_rest : (x : Identifier) → Exact n IsInner (source_rest d x) Any (SourceRest l x) (SourceRest l x) AfterSource
-  exact_source_rest x =
-      let calls = mapped (exact_call_rest n d l h x) result AfterSource (λ c o f. tt) (λ c o f. tt) in
+  exact_rvalue_rest : (x : Identifier) → Exact n IsInner (rvalue_rest d x) Any (RvalueRest l x) (RvalueRest l x) AfterRvalue
+  exact_rvalue_rest x =
+      let calls = mapped (exact_call_rest n d l h x) result AfterRvalue (λ c o f. tt) (λ c o f. tt) in
       let from = noted (entry (exact_from x) (λ o. ⊤ × NotOpen o) (λ o i. tt)) Noted (λ b z o s i. name_noted l x b z o s i.1) in
-      branch (is_mark mark.OpenParen) (entry (widen calls (SourceRest l x) (λ b z s. inl s)) (λ o. ⊤ × (is_mark mark.OpenParen o ≡ true)) (λ o i. tt))
-      (widen (follows from AfterSource both_after after_both) (SourceRest l x) (λ b z s. inr s))
+      branch (is_mark mark.OpenParen) (entry (widen calls (RvalueRest l x) (λ b z s. inl s)) (λ o. ⊤ × (is_mark mark.OpenParen o ≡ true)) (λ o i. tt))
+      (widen (follows from AfterRvalue both_after after_both) (RvalueRest l x) (λ b z s. inr s))
       (λ b z o s f. first_opened (λ i. is_mark mark.OpenParen i ≡ true) mark.OpenParen 0 s.2.0 s.2.1 z o s.2.2 s.2.3 (λ at. refl))
       (λ b z o s f. from_no_open l x b z o s f)
 
-abbrev NamedSource : ℕ → RvalueTree → Texts
-NamedSource l b z = Both (λ x. name x 0) (SourceRest l) b z
+abbrev NamedRvalue : ℕ → RvalueTree → Texts
+NamedRvalue l b z = Both (λ x. name x 0) (RvalueRest l) b z
 
 -- an expression that begins with no name
-abbrev OtherSource : ℕ → RvalueTree → Texts
-OtherSource l b z = Of expression (IsExpr l) b z × (has (next_name (first_or z None)) ≡ false)
+abbrev OtherRvalue : ℕ → RvalueTree → Texts
+OtherRvalue l b z = Of expression (IsExpr l) b z × (has (next_name (first_or z None)) ≡ false)
 
-named_out : (l : ℕ) (b : RvalueTree) (z : Pieces) → NamedSource l b z → IsSource l b z
-named_out l b z (x, (u, v, e, s, inl (c, g, t))) = subst (λ (k : RvalueTree). IsSource l k z) g (subst (IsCall 0 l c) (sym e) (call_out 0 l x c u v s t))
+named_out : (l : ℕ) (b : RvalueTree) (z : Pieces) → NamedRvalue l b z → IsRvalue l b z
+named_out l b z (x, (u, v, e, s, inl (c, g, t))) = subst (λ (k : RvalueTree). IsRvalue l k z) g (subst (IsCall 0 l c) (sym e) (call_out 0 l x c u v s t))
 named_out l b z (x, (u, v, e, s, inr (t, (p, q, f, m, (a, g, r))))) =
     let first : IsTerm l t (u ++ p) = whole_term l t (unary (variable x)) u p s m in
     let all : IsExpr l a ((u ++ p) ++ q) = whole_expr l a (term t) (u ++ p) q first r in
-    subst (λ (k : RvalueTree). IsSource l k z) g (subst (IsExpr l a) (sym (e ∙ ap (λ (w : Pieces). u ++ w) f ∙ sym (append_assoc u p q))) all)
+    subst (λ (k : RvalueTree). IsRvalue l k z) g (subst (IsExpr l a) (sym (e ∙ ap (λ (w : Pieces). u ++ w) f ∙ sym (append_assoc u p q))) all)
 
 -- a unary that is no name begins with none
 unary_no_name : (l : ℕ) (a : UnaryTree) (v w z : Pieces) → z ≡ v ++ w → IsUnary l a v → (IsName (unary a) → ⊥) → has (next_name (first_or z None)) ≡ false
@@ -270,7 +270,7 @@ unary_no_name l input v w z e (x, y, f, s, t) g = first_opened (λ i. has (next_
 unary_no_name l (group i) v w z e (x, y, f, s, t) g = first_opened (λ i. has (next_name i) ≡ false) mark.OpenParen (l + 1) x (y ++ w) z None (e ∙ regroup v w x y f) s (λ at. refl)
 
 by_first : (l : ℕ) (e : ExprTree) (a : UnaryTree) (z p q : Pieces) → IsExpr l e z → z ≡ p ++ q → IsUnary l a p → Both (λ t z. TermSteps l t (unary a) z) (FromTerm l) (expression e) q
-    → NamedSource l (expression e) z ⊎ OtherSource l (expression e) z
+    → NamedRvalue l (expression e) z ⊎ OtherRvalue l (expression e) z
 by_first l e (variable x) z p q h f s r = inl (x, (p, q, f, s, inr r))
 by_first l e (negated u) z p q h f s r = inr ((e, refl, h), unary_no_name l (negated u) p q z f s (λ g. g))
 by_first l e (positive u) z p q h f s r = inr ((e, refl, h), unary_no_name l (positive u) p q z f s (λ g. g))
@@ -278,9 +278,9 @@ by_first l e (literal i) z p q h f s r = inr ((e, refl, h), unary_no_name l (lit
 by_first l e input z p q h f s r = inr ((e, refl, h), unary_no_name l input p q z f s (λ g. g))
 by_first l e (group i) z p q h f s r = inr ((e, refl, h), unary_no_name l (group i) p q z f s (λ g. g))
 
-source_sides : (l : ℕ) (b : RvalueTree) (z : Pieces) → IsSource l b z → NamedSource l b z ⊎ OtherSource l b z
-source_sides l (result c) z (u, v, e, m, t) = inl (c.name, (u, v, e, m, inl (c, refl, call_in l c v t)))
-source_sides l (expression e) z h =
+rvalue_sides : (l : ℕ) (b : RvalueTree) (z : Pieces) → IsRvalue l b z → NamedRvalue l b z ⊎ OtherRvalue l b z
+rvalue_sides l (result c) z (u, v, e, m, t) = inl (c.name, (u, v, e, m, inl (c, refl, call_in l c v t)))
+rvalue_sides l (expression e) z h =
     let p = split_expr l e z h in
     let q = split_term l p.0 p.1.0 p.1.3 in
     by_first l e q.0 z q.1.0 (q.1.1 ++ p.1.1) h (p.1.2 ∙ regroup p.1.0 p.1.1 q.1.0 q.1.1 q.1.2) q.1.3 (p.0, (q.1.1, p.1.1, refl, q.1.4, (e, refl, p.1.4)))
@@ -302,35 +302,35 @@ not_alone l (term t) z s k j = let f = alone_begins l t z j s in cc
 not_alone l (plus e t) z s k j = absurd j
 not_alone l (minus e t) z s k j = absurd j
 
-other_noted : (l : ℕ) (b : RvalueTree) (z : Pieces) (o : Option Token) → OtherSource l b z → Noted b o
+other_noted : (l : ℕ) (b : RvalueTree) (z : Pieces) (o : Option Token) → OtherRvalue l b z → Noted b o
 other_noted l b z o ((e, g, s), k) = subst (λ (c : RvalueTree). Noted c o) g (λ j. absurd (not_alone l e z s k j))
 
-other_begins : (l : ℕ) (b : RvalueTree) (z : Pieces) (o : Option Token) → OtherSource l b z → has (next_name (first_or z o)) ≡ false
+other_begins : (l : ℕ) (b : RvalueTree) (z : Pieces) (o : Option Token) → OtherRvalue l b z → has (next_name (first_or z o)) ≡ false
 other_begins l b z o ((e, g, s), k) = ap (λ (i : Option Token). has (next_name i)) (begun_first z o (expr_begun l e z s)) ∙ k
 
-named_begins : (l : ℕ) (b : RvalueTree) (z : Pieces) (o : Option Token) → NamedSource l b z → has (next_name (first_or z o)) ≡ true
+named_begins : (l : ℕ) (b : RvalueTree) (z : Pieces) (o : Option Token) → NamedRvalue l b z → has (next_name (first_or z o)) ≡ true
 named_begins l b z o (x, (u, v, e, s, r)) = rw (e, s) refl
 
-pub some_source : (l : ℕ) → (e : RvalueTree) × (x : Pieces) × IsSource l e x
-some_source l = (expression (some_expr l).0, (some_expr l).1, (some_expr l).2)
+pub some_rvalue : (l : ℕ) → (e : RvalueTree) × (x : Pieces) × IsRvalue l e x
+some_rvalue l = (expression (some_expr l).0, (some_expr l).1, (some_expr l).2)
 
-pub exact_source : (n d l : ℕ) → d + l ≡ n → Exact n IsInner (source_at d) Any (IsSource l) (IsSource l) AfterSource
-exact_source n d l h =
-    let named = then (exact_name n 0 (omega arith)) (exact_source_rest n d l h) (NamedSource l)
+pub exact_rvalue : (n d l : ℕ) → d + l ≡ n → Exact n IsInner (rvalue_at d) Any (IsRvalue l) (IsRvalue l) AfterRvalue
+exact_rvalue n d l h =
+    let named = then (exact_name n 0 (omega arith)) (exact_rvalue_rest n d l h) (NamedRvalue l)
     (λ x b y o s f. tt)
     (λ x z v. (expression (term (unary (variable x))), [], (x, (z, [], refl, v, inr (unary (variable x), ([], [], refl, none, (term (unary (variable x)), refl, none)))))))
     (λ x b u v s r. (x, (u, v, refl, s, r))) in
     let exprs = where_told (mapped (exact_expr n d l h) expression AfterPlain (λ e o f. f) (λ e o f. f)) (λ o. has (next_name o)) false (λ b z s. begun_long z (expr_begun l s.0 z s.2)) in
-    let others = follows (noted exprs Noted (λ b z o s i. other_noted l b z o s)) AfterSource both_after after_both in
-    let t = branch (λ o. has (next_name o)) (entry (widen named (IsSource l) (λ b z s. named_out l b z s)) (λ o. ⊤ × (has (next_name o) ≡ true)) (λ o i. tt))
-    (entry (widen others (IsSource l) (λ b z s. subst (λ (k : RvalueTree). IsSource l k z) s.1 s.2)) (λ o. ⊤ × (has (next_name o) ≡ false)) (λ o i. (i.1, tt)))
+    let others = follows (noted exprs Noted (λ b z o s i. other_noted l b z o s)) AfterRvalue both_after after_both in
+    let t = branch (λ o. has (next_name o)) (entry (widen named (IsRvalue l) (λ b z s. named_out l b z s)) (λ o. ⊤ × (has (next_name o) ≡ true)) (λ o i. tt))
+    (entry (widen others (IsRvalue l) (λ b z s. subst (λ (k : RvalueTree). IsRvalue l k z) s.1 s.2)) (λ o. ⊤ × (has (next_name o) ≡ false)) (λ o i. (i.1, tt)))
     (λ b z o s f. named_begins l b z o s) (λ b z o s f. other_begins l b z o s) in
-    rename t (IsSource l) (λ b z s. elim s [ inl k ↦ named_out l b z k | inr k ↦ subst (λ (c : RvalueTree). IsSource l c z) k.0.1 k.0.2 ]) (λ b z s. source_sides l b z s)
+    rename t (IsRvalue l) (λ b z s. elim s [ inl k ↦ named_out l b z k | inr k ↦ subst (λ (c : RvalueTree). IsRvalue l c z) k.0.1 k.0.2 ]) (λ b z s. rvalue_sides l b z s)
 
-pub source_stops : (e : RvalueTree) (at : Place) → AfterSource e (Some (token mark.Semicolon at))
-source_stops (expression e) at = (((tt, refl), refl), (λ i. refl))
-source_stops (result c) at = tt
+pub rvalue_stops : (e : RvalueTree) (at : Place) → AfterRvalue e (Some (token mark.Semicolon at))
+rvalue_stops (expression e) at = (((tt, refl), refl), (λ i. refl))
+rvalue_stops (result c) at = tt
 
-pub source_no_stop : (l : ℕ) (a : RvalueTree) (z : Pieces) (k : Option Token) → IsSource l a z → is_mark mark.Semicolon (first_or z k) ≡ false
-source_no_stop l (expression a) z k s = (expr_inside l a z k s).0
-source_no_stop l (result c) z k (x, y, e, s, t) = rw (e, s) refl
+pub rvalue_no_stop : (l : ℕ) (a : RvalueTree) (z : Pieces) (k : Option Token) → IsRvalue l a z → is_mark mark.Semicolon (first_or z k) ≡ false
+rvalue_no_stop l (expression a) z k s = (expr_inside l a z k s).0
+rvalue_no_stop l (result c) z k (x, y, e, s, t) = rw (e, s) refl
