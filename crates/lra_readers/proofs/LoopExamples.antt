@@ -189,6 +189,24 @@ nearest_read = refl
 pub nearest_found : IsTree Spells (ended_at nearest 56) nearest_tree
 nearest_found = tree_found (ended_at nearest 56) [] nearest_tree (ends nearest 56 refl) nearest_read
 
+-- int main(void){ if(1) { while(2) if(3) ; } else ; }: braces leave the `else` to the outer `if`
+abbrev braced : Text
+braced = main_head (mark_token mark.If 17 ∷ mark_token mark.OpenParen 19 ∷ token_at (Number 1) 20 ∷ mark_token mark.CloseParen 21 ∷ mark_token mark.OpenBrace 23
+    ∷ mark_token mark.While 25 ∷ mark_token mark.OpenParen 30 ∷ token_at (Number 2) 31 ∷ mark_token mark.CloseParen 32
+    ∷ mark_token mark.If 34 ∷ mark_token mark.OpenParen 36 ∷ token_at (Number 3) 37 ∷ mark_token mark.CloseParen 38 ∷ mark_token mark.Semicolon 40
+    ∷ mark_token mark.CloseBrace 42 ∷ mark_token mark.Else 44 ∷ mark_token mark.Semicolon 49 ∷ mark_token mark.CloseBrace 51 ∷ [])
+
+abbrev braced_tree : FileTree
+braced_tree = main_of (statement (if_else (in_line 17) (nonzero 1)
+    (block (statement (while (in_line 25) (nonzero 2) (if_only (in_line 34) (nonzero 3) (nothing (in_line 40)))) no_items) (in_line 42)) (nothing (in_line 49))) no_items) 51
+
+braced_read : file_at 63 (ended_at braced 52) ≡ Ok (braced_tree, [])
+unfolding loop unary_at tests levels
+braced_read = refl
+
+pub braced_found : IsTree Spells (ended_at braced 52) braced_tree
+braced_found = tree_found (ended_at braced 52) [] braced_tree (ends braced 52 refl) braced_read
+
 -- levels: a loop's body opens one, from its first token on -------------------------------------------------------------
 
 -- `for(;;)` n times
@@ -222,3 +240,20 @@ too_low_stops = refl
 
 pub body_too_deep : IsTextFault Spells (ended_at too_low 467) TooDeep (in_line 465)
 body_too_deep = text_fault (ended_at too_low 467) (record { cause = TooDeep; left = 3 }) (ends too_low 467 refl) too_low_stops (mark_token mark.Semicolon 465) refl
+
+-- so does a parenthesis: `(` n times
+abbrev parens : ℕ → ℕ → Text
+parens zero column = []
+parens (suc n) column = mark_token mark.OpenParen column ∷ parens n (column + 1)
+
+-- int main(void){ long x; x = and 64 times `(`: the last one opens level 65, since the body of `main` is level 1
+abbrev too_nested : Text
+too_nested =
+    main_head (mark_token mark.Long 17 ∷ token_at (Name (codes "x")) 22 ∷ mark_token mark.Semicolon 23 ∷ token_at (Name (codes "x")) 25 ∷ mark_token mark.Assign 27 ∷ parens 64 29)
+
+too_nested_stops : file_at 63 (ended_at too_nested 93) ≡ Err (record { cause = TooDeep; left = 2 })
+unfolding loop unary_at tests levels
+too_nested_stops = refl
+
+pub expression_too_deep : IsTextFault Spells (ended_at too_nested 93) TooDeep (in_line 92)
+expression_too_deep = text_fault (ended_at too_nested 93) (record { cause = TooDeep; left = 2 }) (ends too_nested 93 refl) too_nested_stops (mark_token mark.OpenParen 92) refl

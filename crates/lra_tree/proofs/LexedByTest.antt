@@ -11,7 +11,6 @@ use Rattle.lra_tree.specs.Lexeme.{Lexeme, word, number_word, mark_word, SpellsTo
 use Rattle.lra_tree.specs.Tokens.{is_blank}
 use Rattle.lra_tree.specs.Faults.{greatest_level}
 use Rattle.lra_tree.proofs.LongestByTest.{begins_gap, ends_there}
-use Rattle.lra_tree.proofs.LowByTest.{and_first, and_second}
 use Rattle.lra_tree.proofs.Lexemes.{Item, skip, lexeme, written, AreReadBefore}
 
 -- how a source is written out --------------------------------------------------------------------------------------
@@ -53,6 +52,14 @@ is_written rest (lexeme c cs k o ∷ xs) =
     (is_spelled (c ∷ cs) k && not (begins_gap c)) && ((ends_there (c ∷ cs) (written xs ++ rest) && nat_le o greatest_level) && is_written rest xs)
 
 -- what it tells ----------------------------------------------------------------------------------------------------
+
+pub and_first : (a b : Bool) → (a && b) ≡ true → a ≡ true
+and_first true b e = refl
+and_first false b e = e
+
+pub and_second : (a b : Bool) → (a && b) ≡ true → b ≡ true
+and_second true b e = e
+and_second false b e = cc
 
 is_off : (b : Bool) → not b ≡ true → b ≡ false
 is_off true e = cc

@@ -9,7 +9,6 @@ pub mod TokenExamples
 -- Trees, and what they stand for.
 mod ViewExamples
 pub mod TreeSamples
--- First faults at their places.
-pub mod LowByTest
+-- Trees, their tokens and levels.
 mod GrammarExamples
 pub mod FirstTokens

@@ -5,7 +5,6 @@ use Rattle.std.specs.List.{list_all}
 use Rattle.std.proofs.lemmas.Slice.Eq.{bytes_eq-Decides}
 use Rattle.std.proofs.lemmas.List.Folds.{list_all-append}
 use Rattle.std.proofs.lemmas.List.{append-nil}
-use Rattle.lra_tree.proofs.LowByTest.{and_first, and_second}
 use Rattle.lra_base.specs.declared.refusals.Place.{Place}
 use Rattle.lra_base.specs.declared.refusals.Cause.TheVariants.{BadByte, BadLiteral}
 use Rattle.lra_tree.specs.declared.tokens.Kind.{Kind}
@@ -17,7 +16,7 @@ use Rattle.lra_tree.specs.Lexeme.{mark_word, name, number, mark_of, reserved}
 use Rattle.lra_tree.specs.Tokens.{place_behind, blank, line_comment, block_comment, skipped_line, gap, token, Lex, IsTokenFault}
 use Rattle.lra_tree.proofs.LongestByTest.{no_gap, longest_by, as_token, is_open, no_lexeme}
 use Rattle.lra_tree.proofs.Lexemes.{Item, ◌⨾◌, all_lexed, faulty}
-use Rattle.lra_tree.proofs.LexedByTest.{space, sign, word_of, are_read_by}
+use Rattle.lra_tree.proofs.LexedByTest.{space, sign, word_of, are_read_by, and_first, and_second}
 
 abbrev at : ℕ → ℕ → Place
 at l c = record { line = l; column = c }
