@@ -10,7 +10,7 @@ use Rattle.std.proofs.lemmas.List.Elements.{All-contains, Contains-append_cases,
 use Rattle.lra_linear.specs.Canonical.{IsCanonical}
 use Rattle.lra_linear.specs.Cones.{AreDual, Generated, Solves, all_rows, both_ways}
 use Rattle.lra_linear.specs.Descriptions.{Given, system_of}
-use Rattle.lra_linear.specs.Saturation.{TightToo}
+use Rattle.lra_linear.proofs.Saturation.{TightToo}
 use Rattle.lra_linear.specs.Vectors.{dot, entry, negated, product}
 use Rattle.lra_linear.proofs.CanonicalForms.{one_spelling}
 use Rattle.lra_linear.proofs.Combinations.{generated_row}

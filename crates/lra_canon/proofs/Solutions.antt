@@ -8,7 +8,7 @@ use Rattle.std.proofs.lemmas.Bool.{cases_lt}
 use Rattle.std.proofs.lemmas.Int.{ints}
 use Rattle.std.proofs.lemmas.Nat.Gcd.{dvd-zero}
 use Rattle.lra_linear.specs.Cones.{AreDual, Generated, Solves, all_rows, both_ways}
-use Rattle.lra_linear.specs.DoubleDescription.{kept, pairs, step_rows}
+use Rattle.lra_linear.proofs.DoubleDescription.{kept, pairs, step_rows}
 use Rattle.lra_linear.specs.Echelon.{pivot, Spanned, IsEchelon}
 use Rattle.lra_linear.specs.LowestTerms.{IsPrimitive}
 use Rattle.lra_linear.specs.Vectors.{behind_zero, dot, entry, negated, product, signed_sum, sum_of, units, zeros}
@@ -20,9 +20,8 @@ use Rattle.lra_linear.proofs.LowestTerms.{same_multiple}
 use Rattle.lra_linear.proofs.Membership.{contains_cases, contains_head, contains_none, contains_tail}
 use Rattle.lra_linear.proofs.Pivots.{pivot_is}
 use Rattle.lra_linear.proofs.Products.{blend_length, dot_plus, dot_same, dot_scale, dot_zero, entry_past, negated_dot, negated_length, product_comm, row_same}
-use Rattle.lra_linear.proofs.Ring.{ring, v, ⊖, ◌⊕◌, ◌⊗◌}
+use Rattle.lra_linear.proofs.Ring.{ring, v, ⊖, ◌⊕◌, ◌⊗◌, mul_nonnegative}
 use Rattle.lra_linear.proofs.Signs.{between_opposites, cancel_same, divide_nonnegative, no_product}
-use Rattle.lra_linear.proofs.Ring.{mul_nonnegative}
 use Rattle.lra_linear.proofs.Spans.{all_zero}
 use Rattle.lra_canon.specs.Reduced.{IsForm, SolvesAll, SameSolutions, IsAlong, IsReducedBy, IsOneReduced}
 

@@ -15,9 +15,9 @@ use Rattle.lra_linear.specs.Vectors.{entry, dot, product, blend}
 use Rattle.lra_linear.specs.Cones.{all_rows, AreDual}
 use Rattle.lra_linear.specs.LowestTerms.{IsLowest}
 use Rattle.lra_linear.specs.Canonical.{IsCanonical}
-use Rattle.lra_linear.specs.DoubleDescription.{pair}
+use Rattle.lra_linear.proofs.DoubleDescription.{pair}
 use Rattle.lra_linear.specs.Descriptions.{Given, system_of}
-use Rattle.lra_linear.specs.Saturation.{NotAdjacent}
+use Rattle.lra_linear.proofs.Saturation.{NotAdjacent}
 use Rattle.lra_linear.proofs.CanonicalForms.{no_repeat}
 use Rattle.lra_linear.proofs.Membership.{NoRepeat, contains_none, contains_cases, contains_head, contains_tail, filter_has, filter_from}
 use Rattle.lra_cone.specs.declared.pairs.Pair.{Pair}

@@ -1,15 +1,13 @@
 -- The generators that are shown of a cone are the canonical ones of its rows.
-use Rattle.std.proofs.Common.{◌≡◌, ℕ, suc, ◌+◌, Bool, true, false, List, [], ◌∷◌, ◌++◌, length, replicate, refl, ap, sym, ◌∙◌, subst, arith, pos, ℤ, neg_ℤ, ◌<ℤ◌, ◌≤ℤ◌, inl, inr}
-use Rattle.std.proofs.Common.{◌⊎◌}
+use Rattle.std.proofs.Common.{◌≡◌, ℕ, suc, ◌+◌, Bool, true, false, List, [], ◌∷◌, ◌++◌, length, replicate, refl, ap, sym, ◌∙◌, subst, arith, pos, ℤ, neg_ℤ, ◌<ℤ◌, ◌≤ℤ◌, inl, inr, ◌⊎◌}
 use Rattle.std.specs.List.{Contains}
 use Rattle.std.proofs.lemmas.Int.{ints}
 use Rattle.std.proofs.lemmas.List.{length-append, length-replicate}
 use Rattle.std.proofs.lemmas.List.Elements.{Contains-append_cases, Contains-append_left, Contains-append_right}
 use Rattle.lra_linear.specs.Vectors.{entry, dot, product, negated}
 use Rattle.lra_linear.specs.Canonical.{IsCanonical}
-use Rattle.lra_linear.specs.Cones.{Generated, both_ways, all_rows, AreDual}
+use Rattle.lra_linear.specs.Cones.{Generated, both_ways, all_rows, AreDual, with_row}
 use Rattle.lra_linear.specs.Descriptions.{Given, Con, Gen, inequality, given_as, system_of}
-use Rattle.lra_linear.specs.DoubleDescription.{with_row}
 use Rattle.lra_linear.specs.Points.{IsPoint, SameSet, IsEmptySet}
 use Rattle.lra_linear.specs.Polyhedra.{positivity, falsity}
 use Rattle.lra_linear.proofs.Descriptions.{con_solves, con_cons, con_tail, dual_same_points}

@@ -8,9 +8,9 @@ use Rattle.lra_linear.specs.Vectors.{entry, dot, product, negated, signed_sum}
 use Rattle.lra_linear.specs.Cones.{Generated, Solves, both_ways, all_rows, AreDual}
 use Rattle.lra_linear.specs.LowestTerms.{IsPrimitive, IsLowest}
 use Rattle.lra_linear.specs.Canonical.{IsCanonical}
-use Rattle.lra_linear.specs.DoubleDescription.{pair, StepOf}
+use Rattle.lra_linear.proofs.DoubleDescription.{pair, StepOf}
 use Rattle.lra_linear.specs.Descriptions.{HoldsWith}
-use Rattle.lra_linear.specs.Saturation.{NotAdjacent, TightToo, Beside, AdjacentStep}
+use Rattle.lra_linear.proofs.Saturation.{NotAdjacent, TightToo, Beside, AdjacentStep}
 use Rattle.lra_linear.specs.ConeStrain.{IsMet}
 use Rattle.lra_linear.proofs.AdjacentPairs.{adjacent_pairs_suffice}
 use Rattle.lra_linear.proofs.CanonicalForms.{lines_are_all, ray_extreme}

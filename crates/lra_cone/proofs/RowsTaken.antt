@@ -3,7 +3,6 @@ use Rattle.std.proofs.Common.{◌≡◌, ℕ, suc, ◌<◌, ◌+◌, List, [], �
 use Rattle.std.specs.List.{Contains}
 use Rattle.std.proofs.lemmas.List.{append_assoc, append-nil, take_more, length-take-le, take_all, get_or_default}
 use Rattle.std.proofs.lemmas.List.Elements.{Contains-append_cases, Contains-append_left, Contains-append_right}
-use Rattle.lra_linear.specs.ConeStrain.{ConeStrains}
 use Rattle.lra_linear.specs.declared.Cause.{Cause}
 use Rattle.lra_linear.specs.declared.Cause.TheVariants.{Excess, TooMany}
 use Rattle.lra_linear.specs.Descriptions.{Given, system_of}
@@ -18,7 +17,7 @@ use Rattle.lra_cone.specs.Cones.{Shape, IsCone}
 use Rattle.lra_cone.specs.Strains.{IsConeError, cause_of}
 use Rattle.lra_cone.specs.Losses.{IfLost}
 use Rattle.lra_cone.specs.Conversions.{IsConversion}
-use Rattle.lra_cone.proofs.StrainLemmas.{strain_cause}
+use Rattle.lra_cone.proofs.StrainLemmas.{ConeStrains, strain_cause}
 use Rattle.lra_cone.proofs.Stepped.{constraints_push}
 
 -- a strain of a list is one of each longer list

@@ -10,10 +10,10 @@ use Rattle.std.proofs.lemmas.Int.{ints}
 use Rattle.std.proofs.lemmas.List.Elements.{Contains-append_cases, Contains-append_left, Contains-append_right, Contains-get_or}
 use Rattle.lra_bits.specs.Matrix.{Matrix, unmarked}
 use Rattle.lra_linear.specs.Vectors.{product, negated}
-use Rattle.lra_linear.specs.Cones.{all_rows, both_ways}
+use Rattle.lra_linear.specs.Cones.{all_rows, both_ways, with_row}
 use Rattle.lra_linear.specs.Canonical.{IsCanonical}
 use Rattle.lra_linear.specs.ConeStrain.{IsMet, row_limit}
-use Rattle.lra_linear.specs.DoubleDescription.{with_row, LineCase}
+use Rattle.lra_linear.proofs.DoubleDescription.{LineCase}
 use Rattle.lra_linear.specs.Descriptions.{Given, system_of}
 use Rattle.lra_linear.proofs.FlatRows.{flats_from, member_primitive}
 use Rattle.lra_linear.proofs.LineCase.{line_case_kept, line_case_dual}

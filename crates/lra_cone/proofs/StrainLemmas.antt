@@ -10,7 +10,9 @@ use Rattle.lra_linear.specs.declared.Excess as E
 use Rattle.lra_linear.specs.Vectors.{entry, product, negated}
 use Rattle.lra_linear.specs.CheckedArithmetic.{checked_blend}
 use Rattle.lra_linear.specs.Cones.{all_rows, both_ways}
-use Rattle.lra_linear.specs.ConeStrain.{ConeStrains, row_limit}
+use Rattle.lra_linear.specs.ConeStrain.{HasTooMany, PairPasses, ProductPasses, row_limit}
+use Rattle.lra_linear.specs.declared.Cause.{Cause}
+use Rattle.lra_linear.specs.declared.Cause.TheVariants as cause
 use Rattle.lra_linear.specs.Descriptions.{Given}
 use Rattle.lra_linear.specs.Echelon.{IsEchelon}
 use Rattle.lra_linear.proofs.Combinations.{generated_row, generated_same}
@@ -316,6 +318,11 @@ place_in rows place r x = subst (Contains rows) x.is (Contains-get_or rows place
 member_in : (s : Shape) (family : Family) (place : ℕ) (r : List ℤ) → IsMember s family place r → Contains (all_rows s.lines s.rays) r
 member_in s Lines place r x = Contains-append_right s.rays (both_ways s.lines) r (in_lines s.lines r (place_in s.lines place r x))
 member_in s Rays place r x = Contains-append_left s.rays (both_ways s.lines) r (place_in s.rays place r x)
+
+-- what strains a cone of lines and rays when the row c is taken in
+abbrev pub ConeStrains : ℕ → Bool → List ℤ → List (List ℤ) → List (List ℤ) → Cause → Type 0
+ConeStrains w equal c lines rays (cause.Excess e) = ProductPasses c (all_rows lines rays) e ⊎ PairPasses c (all_rows lines rays) e
+ConeStrains w equal c lines rays (cause.TooMany count) = HasTooMany w equal c lines rays count
 
 pub strain_cause : (s : Shape) (equal : Bool) (c : List ℤ) (strained : Strained) → IsStrain s equal c strained → ConeStrains (suc s.dims) equal c s.lines s.rays (cause_of strained)
 strain_cause s equal c (Product member e) x = inl (record { row = x.row; has = member_in s member.family member.place x.row x.is; passes = x.passes })

@@ -8,7 +8,8 @@ use Rattle.std.proofs.lemmas.List.{take-map, get_or_default}
 use Rattle.std.proofs.lemmas.List.Elements.{Contains-append_cases, Contains-append_left}
 use Rattle.lra_linear.specs.Vectors.{entry, product, negated}
 use Rattle.lra_linear.specs.LowestTerms.{IsPrimitive}
-use Rattle.lra_linear.specs.DoubleDescription.{with_row, Flat, Flats, LineCase}
+use Rattle.lra_linear.specs.Cones.{with_row}
+use Rattle.lra_linear.proofs.DoubleDescription.{Flat, Flats, LineCase}
 use Rattle.lra_linear.specs.Descriptions.{Given, system_of}
 use Rattle.lra_linear.proofs.FlatRows.{flat_dot}
 use Rattle.lra_linear.proofs.Membership.{contains_none, contains_cases, contains_head, contains_tail}

@@ -8,7 +8,7 @@ use Rattle.std.proofs.lemmas.Int.{ints}
 use Rattle.lra_bits.specs.Matrix.{unmarked}
 use Rattle.lra_bits.specs.TruthValues.{IsSubset, both}
 use Rattle.lra_linear.specs.Vectors.{entry, dot, product, negated}
-use Rattle.lra_linear.specs.DoubleDescription.{with_row}
+use Rattle.lra_linear.specs.Cones.{with_row}
 use Rattle.lra_linear.specs.Descriptions.{Given, system_of}
 use Rattle.lra_linear.proofs.Membership.{contains_cases, contains_head, contains_tail, contains_none}
 use Rattle.lra_linear.proofs.Products.{negated_dot}

@@ -33,13 +33,6 @@ impl GivenRow {
     {
         &self.row
     }
-
-    /// Whether it is an equality, or a line.
-    pub fn is_equal(&self) -> bool
-        ensures { result ≡ self.now.equal }
-    {
-        self.equal
-    }
 }
 
 /// What is told of a row that was left out.

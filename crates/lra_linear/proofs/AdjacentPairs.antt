@@ -9,8 +9,8 @@ use Rattle.std.proofs.lemmas.List.Elements.{Contains-append_cases, Contains-appe
 use Rattle.std.specs.List.{Contains}
 use borrow.Author.Differences.{down, up}
 use Rattle.lra_linear.specs.Cones.{Generated, Solves}
-use Rattle.lra_linear.specs.DoubleDescription.{kept, pair, pairs, step_rows}
-use Rattle.lra_linear.specs.Saturation.{AdjacentStep, TightToo}
+use Rattle.lra_linear.proofs.DoubleDescription.{kept, pair, pairs, step_rows}
+use Rattle.lra_linear.proofs.Saturation.{AdjacentStep, TightToo, tight_sum}
 use Rattle.lra_linear.specs.Vectors.{blend, dot, entry, sum_of}
 use Rattle.lra_linear.proofs.AllPairs.{kept_only, pairs_only, step_rows_are}
 use Rattle.lra_linear.proofs.Combinations.{generated_divided, generated_plus, generated_row, generated_same, generated_times}
@@ -18,7 +18,6 @@ use Rattle.lra_linear.proofs.LinearMaps.{generated_through, sum_nonneg}
 use Rattle.lra_linear.proofs.Membership.{contains_cases, contains_head, contains_tail}
 use Rattle.lra_linear.proofs.Products.{blend_length, dot_linear, dot_plus, dot_same, dot_scale, entry_blend}
 use Rattle.lra_linear.proofs.Ring.{mul_nonnegative, ring, v, ⊖, ◌⊕◌, ◌⊗◌}
-use Rattle.lra_linear.proofs.Saturation.{tight_sum}
 use Rattle.lra_linear.proofs.Signs.{above_zero, add_nonnegative, as_nat, cases_sign, compare_two, divide_nonnegative, neg_nat, positive_is_nonnegative, positive_nat}
 use Rattle.lra_linear.proofs.Step.{step_complete}
 

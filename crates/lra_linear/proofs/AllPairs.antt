@@ -5,7 +5,7 @@ use Rattle.std.proofs.lemmas.Int.{ints}
 use Rattle.std.proofs.lemmas.List.Elements.{Contains-append_cases, Contains-append_left, Contains-append_right}
 use Rattle.std.specs.List.{Contains}
 use Rattle.lra_linear.specs.Cones.{Generated}
-use Rattle.lra_linear.specs.DoubleDescription.{StepOf, kept, pair, pairs, pairs_of, step_rows}
+use Rattle.lra_linear.proofs.DoubleDescription.{StepOf, kept, pair, pairs, pairs_of, step_rows}
 use Rattle.lra_linear.specs.Vectors.{blend, dot, entry}
 use Rattle.lra_linear.proofs.Combinations.{generated_plus, generated_row, generated_same, generated_times}
 use Rattle.lra_linear.proofs.Membership.{contains_cases, contains_head, contains_tail}

@@ -5,7 +5,7 @@ use Rattle.std.specs.List.{Contains}
 use Rattle.lra_linear.specs.Canonical.{IsCanonical}
 use Rattle.lra_linear.specs.Cones.{AreDual, Generated, all_rows, both_ways}
 use Rattle.lra_linear.specs.Echelon.{IsEchelon, Spanned}
-use Rattle.lra_linear.specs.Saturation.{IsExtreme}
+use Rattle.lra_linear.proofs.Saturation.{IsExtreme}
 use Rattle.lra_linear.specs.Vectors.{entry, signed_sum, sum_of}
 use Rattle.lra_linear.proofs.Combinations.{generated_divided, generated_plus, generated_row, generated_same, generated_times}
 use Rattle.lra_linear.proofs.ExtremeRays.{Free, Parts, extreme_found, needed_splits, pointed_sum_zero}

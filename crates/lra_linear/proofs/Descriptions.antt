@@ -4,9 +4,8 @@ use Rattle.std.proofs.Common.{Bool, List, [], ap, arith, cond, false, inl, inr, 
 use Rattle.std.proofs.lemmas.Int.{ints}
 use Rattle.std.proofs.lemmas.List.Elements.{Contains-append_cases, Contains-append_left, Contains-append_right}
 use Rattle.std.specs.List.{Contains}
-use Rattle.lra_linear.specs.Cones.{AreDual, Described, Generated, Solves, all_rows, both_ways}
+use Rattle.lra_linear.specs.Cones.{AreDual, Described, Generated, Solves, all_rows, both_ways, with_row}
 use Rattle.lra_linear.specs.Descriptions.{Con, Gen, Given, Holds, HoldsWith, lines_of, rays_of, system_of}
-use Rattle.lra_linear.specs.DoubleDescription.{with_row}
 use Rattle.lra_linear.specs.Points.{SameSet}
 use Rattle.lra_linear.specs.Vectors.{dot, entry, negated, product}
 use Rattle.lra_linear.proofs.Combinations.{generated_row}

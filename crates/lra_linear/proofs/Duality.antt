@@ -4,7 +4,7 @@ use Rattle.std.proofs.Common.{List, ap, arith, inl, inr, length, neg_ℤ, pos, s
 use Rattle.std.proofs.lemmas.Int.{ints}
 use Rattle.std.specs.List.{Contains}
 use Rattle.lra_linear.specs.Cones.{AreDual, Generated, Solves}
-use Rattle.lra_linear.specs.DoubleDescription.{LineStepOf, StepOf}
+use Rattle.lra_linear.proofs.DoubleDescription.{LineStepOf, StepOf}
 use Rattle.lra_linear.specs.Vectors.{blend, dot, entry}
 use Rattle.lra_linear.proofs.Combinations.{generated_divided, generated_more, generated_plus, generated_row, generated_same, generated_times}
 use Rattle.lra_linear.proofs.Elimination.{consequences_after}

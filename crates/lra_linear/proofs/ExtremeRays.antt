@@ -3,7 +3,7 @@
 use Rattle.std.proofs.Common.{List, [], ap, arith, inl, inr, neg_ℤ, pos, refl, suc, sym, zero, ℕ, ℤ, ◌*ℤ◌, ◌*◌, ◌++◌, ◌+ℤ◌, ◌+◌, ◌<◌, ◌∙◌, ◌∷◌, ◌≡◌}
 use Rattle.std.specs.List.{Contains}
 use Rattle.lra_linear.specs.Cones.{Generated}
-use Rattle.lra_linear.specs.Saturation.{Beside, IsExtreme}
+use Rattle.lra_linear.proofs.Saturation.{Beside, IsExtreme}
 use Rattle.lra_linear.specs.Vectors.{entry, sum_of}
 use Rattle.lra_linear.proofs.Combinations.{generated_divided, generated_more, generated_plus, generated_row, generated_same, generated_times}
 use Rattle.lra_linear.proofs.LinearMaps.{generated_left, generated_right, generated_through, sum_generated}

@@ -6,7 +6,7 @@ use Rattle.std.proofs.lemmas.List.Elements.{Contains-append_cases, Contains-appe
 use Rattle.std.specs.Int.{◌∣◌}
 use Rattle.std.specs.List.{Contains}
 use Rattle.lra_linear.specs.Cones.{Generated, both_ways}
-use Rattle.lra_linear.specs.DoubleDescription.{Flat, Flats}
+use Rattle.lra_linear.proofs.DoubleDescription.{Flat, Flats}
 use Rattle.lra_linear.specs.Echelon.{Before, IsEchelon}
 use Rattle.lra_linear.specs.LowestTerms.{IsPrimitive}
 use Rattle.lra_linear.specs.Vectors.{dot, entry, negated}

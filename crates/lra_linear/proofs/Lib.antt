@@ -11,6 +11,7 @@ pub mod Combinations
 pub mod LinearMaps
 pub mod Lines
 -- Steps of the double description method
+pub mod DoubleDescription
 pub mod Step
 pub mod Elimination
 pub mod Duality

@@ -5,7 +5,7 @@ use Rattle.std.proofs.lemmas.List.Elements.{Contains-append_cases, Contains-appe
 use Rattle.std.specs.List.{Contains}
 use Rattle.lra_linear.specs.Canonical.{IsCanonical}
 use Rattle.lra_linear.specs.Cones.{AreDual, Generated, all_rows, both_ways}
-use Rattle.lra_linear.specs.DoubleDescription.{Flat, Flats, LineCase, StepOf}
+use Rattle.lra_linear.proofs.DoubleDescription.{Flat, Flats, LineCase, StepOf}
 use Rattle.lra_linear.specs.LowestTerms.{IsPrimitive}
 use Rattle.lra_linear.specs.Vectors.{dot, entry, negated}
 use Rattle.lra_linear.proofs.Combinations.{generated_row, generated_same, generated_times, generated_zero}

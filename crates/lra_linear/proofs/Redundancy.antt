@@ -5,7 +5,7 @@ use Rattle.std.proofs.lemmas.Int.{ints}
 use Rattle.std.proofs.lemmas.List.Elements.{Contains-append_cases, Contains-append_left, Contains-append_right}
 use Rattle.std.specs.List.{Contains}
 use Rattle.lra_linear.specs.Cones.{AreDual, Generated, Solves, all_rows, both_ways}
-use Rattle.lra_linear.specs.Saturation.{TightToo}
+use Rattle.lra_linear.proofs.Saturation.{TightToo, room, tight_sum}
 use Rattle.lra_linear.specs.Vectors.{blend, dot, entry, signed_sum, sum_of}
 use Rattle.lra_linear.proofs.CanonicalForms.{parts_of}
 use Rattle.lra_linear.proofs.Combinations.{generated_divided, generated_more, generated_plus, generated_row, generated_same, generated_times}
@@ -14,7 +14,6 @@ use Rattle.lra_linear.proofs.Lines.{described_generated, lines_generated}
 use Rattle.lra_linear.proofs.Membership.{contains_head, contains_middle, contains_tail}
 use Rattle.lra_linear.proofs.Products.{blend_length, dot_linear, dot_same, dot_scale, entry_blend}
 use Rattle.lra_linear.proofs.Ring.{ring, v, ⊖, ◌⊕◌, ◌⊗◌}
-use Rattle.lra_linear.proofs.Saturation.{room, tight_sum}
 use Rattle.lra_linear.proofs.Signs.{as_nat, compare_two, positive_nat}
 
 -- from m (k r - t) = own r + s

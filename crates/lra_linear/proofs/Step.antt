@@ -6,7 +6,7 @@ use Rattle.std.proofs.Math.IntN.{+ℤ_assoc, +ℤ_comm}
 use Rattle.std.proofs.lemmas.Int.{ints}
 use Rattle.std.specs.List.{Contains}
 use Rattle.lra_linear.specs.Cones.{Generated, Solves}
-use Rattle.lra_linear.specs.DoubleDescription.{StepOf}
+use Rattle.lra_linear.proofs.DoubleDescription.{StepOf}
 use Rattle.lra_linear.specs.Vectors.{dot, entry, sum_of}
 use Rattle.lra_linear.proofs.Combinations.{generated_divided, generated_plus, generated_row, generated_same, generated_times, generated_zero}
 use Rattle.lra_linear.proofs.LinearMaps.{bent, generated_bent, generated_nonneg, generated_through}

@@ -1,17 +1,14 @@
 -- What strains a cone of lines and rays when a further row c is taken in: a product of c with one of its rows passes
 -- the range, or the combination of two of them; or the cone with c has more rays than a description may have. A
 -- coefficient past the range is no strain by itself, only in such a product or combination.
-use Rattle.std.specs.Prelude.{◌≡◌, ◌≢◌, ℕ, ◌<◌, ◌⊎◌, ℤ, pos, neg_ℤ, ◌<ℤ◌, Bool, List, length, Ok, Err}
+use Rattle.std.specs.Prelude.{◌≡◌, ◌≢◌, ℕ, ◌<◌, ℤ, pos, neg_ℤ, ◌<ℤ◌, Bool, List, length, Ok, Err}
 use Rattle.std.specs.List.{Contains}
 use Rattle.lra_linear.specs.declared.Excess as E
-use Rattle.lra_linear.specs.declared.Cause.{Cause}
-use Rattle.lra_linear.specs.declared.Cause.TheVariants.{Excess, TooMany}
 use Rattle.lra_linear.specs.Vectors.{product, negated}
 use Rattle.lra_linear.specs.CheckedArithmetic.{checked_product, checked_blend}
 use Rattle.lra_linear.specs.LowestTerms.{IsLowest}
-use Rattle.lra_linear.specs.Cones.{all_rows, AreDual}
+use Rattle.lra_linear.specs.Cones.{all_rows, AreDual, with_row}
 use Rattle.lra_linear.specs.Canonical.{IsCanonical}
-use Rattle.lra_linear.specs.DoubleDescription.{with_row}
 
 -- the most inequalities, and the most points and rays together, of a description; equalities and lines are not counted,
 -- the positivity row is where it isn't redundant
@@ -62,8 +59,3 @@ pub record HasTooMany (w : ℕ) (equal : Bool) (c : List ℤ) (lines rays : List
   pub canonical : IsCanonical new_lines new_rays
   pub are : length new_rays ≡ count
   pub long : row_limit < count
-
-abbrev pub ConeStrains : ℕ → Bool → List ℤ → List (List ℤ) → List (List ℤ) → Cause → Type 0
-ConeStrains w equal c lines rays (Excess e) = ProductPasses c (all_rows lines rays) e ⊎
-    PairPasses c (all_rows lines rays) e
-ConeStrains w equal c lines rays (TooMany count) = HasTooMany w equal c lines rays count

@@ -1,7 +1,7 @@
 -- Convex cones of vectors of whole numbers, by inequalities and by generators (Minkowski 1896, Weyl 1935, Farkas 1902).
 -- A vector counts as generated where some positive whole multiple of it is a sum of the rows with whole factors, so no
 -- fraction is needed. A line is a row that may be taken with a factor of either sign.
-use Rattle.std.specs.Prelude.{◌≡◌, ℕ, ◌<◌, ℤ, pos, ◌+ℤ◌, ◌*ℤ◌, ◌≤ℤ◌, List, [], ◌∷◌, ◌++◌, length}
+use Rattle.std.specs.Prelude.{◌≡◌, ℕ, ◌<◌, ℤ, pos, ◌+ℤ◌, ◌*ℤ◌, ◌≤ℤ◌, Bool, cond, List, [], ◌∷◌, ◌++◌, length}
 use Rattle.std.specs.List.{Contains}
 use Rattle.lra_linear.specs.Vectors.{entry, dot, negated, sum_of, signed_sum}
 
@@ -15,6 +15,10 @@ pub record Generated (rows : List (List ℤ)) (u : ℕ → ℤ) : Type 0 where
 -- each row of the system has a product with u that is not negative
 abbrev pub Solves : List (List ℤ) → (ℕ → ℤ) → Type 0
 Solves system u = (c : List ℤ) → Contains system c → pos 0 ≤ℤ dot c u
+
+-- the system with a further row; an equality is its two inequalities
+abbrev pub with_row : Bool → List ℤ → List (List ℤ) → List (List ℤ)
+with_row equal c system = cond equal (c ∷ negated c ∷ system) (c ∷ system)
 
 -- some positive multiple of u is a sum of lines, with factors of either sign, and of rays, with factors that are not
 -- negative

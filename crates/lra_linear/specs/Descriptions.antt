@@ -2,8 +2,7 @@
 use Rattle.std.specs.Prelude.{◌≡◌, ◌⊎◌, ℤ, pos, ◌≤ℤ◌, ◌<ℤ◌, Bool, true, false, cond, List, [], ◌∷◌}
 use Rattle.std.specs.List.{Contains}
 use Rattle.lra_linear.specs.Vectors.{entry, product}
-use Rattle.lra_linear.specs.Cones.{Described}
-use Rattle.lra_linear.specs.DoubleDescription.{with_row}
+use Rattle.lra_linear.specs.Cones.{Described, with_row}
 use Rattle.lra_linear.specs.Points.{PointSet}
 
 -- A row of a description. A constraint c0, .., cn is an inequality or, with `equal`, an equality. A generator is a

@@ -8,9 +8,6 @@ pub mod LowestTerms
 pub mod Cones
 pub mod Echelon
 pub mod Canonical
--- Steps of the double description method
-pub mod DoubleDescription
-pub mod Saturation
 -- Polyhedra as sets of rational points
 pub mod Points
 pub mod Descriptions

@@ -20,10 +20,9 @@ use Rattle.lra_linear.specs.declared.Excess as E
 use Rattle.lra_linear.specs.declared.Cause.{Cause}
 use Rattle.lra_linear.specs.declared.Cause.TheVariants.{Excess, TooMany}
 use Rattle.lra_linear.specs.Vectors.{product}
-use Rattle.lra_linear.specs.Cones.{both_ways, all_rows, AreDual}
+use Rattle.lra_linear.specs.Cones.{both_ways, all_rows, AreDual, with_row}
 use Rattle.lra_linear.specs.Echelon.{IsEchelonOf}
 use Rattle.lra_linear.specs.Canonical.{IsCanonical, IsCanonicalOf}
-use Rattle.lra_linear.specs.DoubleDescription.{with_row}
 use Rattle.lra_linear.specs.Descriptions.{Given, rows_of, system_of}
 use Rattle.lra_linear.specs.Reduction.{ReductionPasses}
 use Rattle.lra_linear.specs.ConeStrain.{row_limit, ProductPasses, PairPasses, IsPairOf, HasTooMany}

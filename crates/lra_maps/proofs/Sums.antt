@@ -1,15 +1,12 @@
 -- Sums of joined and of mapped lists of rows.
-use Rattle.std.proofs.Common.{◌≡◌, ℕ, zero, suc, ◌<◌, Bool, true, false, List, [], ◌∷◌, ◌++◌, length, map, drop, ap}
-use Rattle.std.proofs.Common.{refl, sym, ◌∙◌, subst, ℤ, pos, neg_ℤ, ◌+ℤ◌, ◌*ℤ◌, ◌<ℤ◌, ◌≤ℤ◌, arith}
+use Rattle.std.proofs.Common.{◌≡◌, ℕ, zero, suc, ◌<◌, Bool, true, false, List, [], ◌∷◌, ◌++◌, length, map, drop, ap, refl, sym, ◌∙◌, subst, ℤ, pos, neg_ℤ, ◌+ℤ◌, ◌*ℤ◌, ◌<ℤ◌, ◌≤ℤ◌, arith}
 use Rattle.std.specs.List.{Contains}
 use Rattle.std.proofs.lemmas.Int.{ints}
-use Rattle.lra_linear.specs.Cones.{Generated}
+use Rattle.lra_linear.specs.Cones.{Generated, with_row}
 use Rattle.lra_linear.specs.Descriptions.{Given, line, system_of}
-use Rattle.lra_linear.specs.DoubleDescription.{with_row}
 use Rattle.lra_linear.specs.Points.{SamePoint}
 use Rattle.lra_linear.specs.Vectors.{blend, entry, negated, sum_of, zeros}
-use Rattle.lra_linear.proofs.Combinations.{generated_divided, generated_plus, generated_same, generated_times}
-use Rattle.lra_linear.proofs.Combinations.{generated_zero}
+use Rattle.lra_linear.proofs.Combinations.{generated_divided, generated_plus, generated_same, generated_times, generated_zero}
 use Rattle.lra_linear.proofs.Membership.{contains_head, contains_tail}
 use Rattle.lra_linear.proofs.Products.{blend_length, entry_blend, entry_negated}
 use Rattle.lra_linear.proofs.Ring.{ring, v, ⊖, ◌⊕◌, ◌⊗◌}

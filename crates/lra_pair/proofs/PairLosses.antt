@@ -7,7 +7,7 @@ use Rattle.lra_linear.specs.declared.Cause.{Cause}
 use Rattle.lra_linear.specs.declared.Cause.TheVariants.{Excess, TooMany}
 use Rattle.lra_linear.specs.Canonical.{IsCanonicalOf}
 use Rattle.lra_linear.specs.Descriptions.{Given, Con, inequality, system_of}
-use Rattle.lra_linear.specs.DoubleDescription.{with_row}
+use Rattle.lra_linear.specs.Cones.{with_row, AreDual, all_rows}
 use Rattle.lra_linear.specs.Vectors.{negated}
 use Rattle.lra_linear.proofs.Combinations.{generated_row}
 use Rattle.lra_linear.proofs.Descriptions.{con_none, system_has, system_has_negated}
@@ -15,7 +15,6 @@ use Rattle.lra_linear.proofs.LinearMaps.{generated_through}
 use Rattle.lra_linear.specs.OperationStrain.{with_positivity, FromRowsStrains, FromGeneratorsStrains}
 use Rattle.lra_linear.specs.Points.{PointSet, IsWithin}
 use Rattle.lra_linear.specs.Polyhedra.{Polyhedron, IsPolyhedronOf, positivity}
-use Rattle.lra_linear.specs.Cones.{AreDual, all_rows}
 use Rattle.lra_linear.specs.Strain.{Loss, Strains, IsStrained, OwnReductionPasses, OwnTooMany}
 use Rattle.lra_linear.proofs.Membership.{contains_head, contains_tail, contains_none, contains_cases}
 use Rattle.lra_sys.specs.Listed.{given_by}

@@ -9,7 +9,7 @@ use Rattle.lra_linear.specs.ConeStrain.{row_limit}
 use Rattle.lra_linear.specs.Descriptions.{Given, inequality, lines_of, rays_of, system_of}
 use Rattle.lra_linear.specs.Kinds.{is_equality}
 use Rattle.lra_linear.specs.Polyhedra.{HasPoint, IsPolyhedron, Polyhedron, positivity}
-use Rattle.lra_linear.specs.Saturation.{TightToo}
+use Rattle.lra_linear.proofs.Saturation.{TightToo}
 use Rattle.lra_linear.specs.Vectors.{entry, product}
 use Rattle.lra_linear.specs.declared.ConKind.{ConKind}
 use Rattle.lra_linear.specs.declared.ConKind.TheVariants.{Ge}

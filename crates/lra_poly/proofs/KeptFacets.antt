@@ -9,7 +9,7 @@ use Rattle.lra_linear.specs.ConeStrain.{row_limit}
 use Rattle.lra_linear.specs.Descriptions.{Given, inequality, given_as, lines_of, rays_of, system_of}
 use Rattle.lra_linear.specs.Polyhedra.{HasPoint, Polyhedron, positivity}
 use Rattle.lra_linear.specs.RowOrder.{Ascends, inequality_cmp}
-use Rattle.lra_linear.specs.Saturation.{TightToo}
+use Rattle.lra_linear.proofs.Saturation.{TightToo}
 use Rattle.lra_linear.specs.Vectors.{dot, entry, negated, product}
 use Rattle.lra_linear.proofs.Descriptions.{dual_flipped, in_all_rows, in_system}
 use Rattle.lra_linear.proofs.FlatRows.{generated_flat}

@@ -12,7 +12,7 @@ use Rattle.lra_linear.specs.Descriptions.{Con, Given, lines_of, rays_of, system_
 use Rattle.lra_linear.specs.Echelon.{Spanned}
 use Rattle.lra_linear.specs.Points.{IsPoint, IsWithin}
 use Rattle.lra_linear.specs.Polyhedra.{HasPoint, Polyhedron}
-use Rattle.lra_linear.specs.Saturation.{Beside, IsExtreme, TightToo}
+use Rattle.lra_linear.proofs.Saturation.{Beside, IsExtreme, TightToo, room}
 use Rattle.lra_linear.specs.SetOperations.{ValidOn}
 use Rattle.lra_linear.specs.Vectors.{blend, dot, entry, negated, product, signed_sum}
 use Rattle.lra_linear.specs.Widening.{is_tight_as, is_valid, saturates}
@@ -26,7 +26,6 @@ use Rattle.lra_linear.proofs.OneSpelling.{cone_solved}
 use Rattle.lra_linear.proofs.Polyhedra.{con_gen, generators_lines, generators_rays}
 use Rattle.lra_linear.proofs.Products.{blend_length, dot_negated, dot_plus, dot_same, dot_scale, dot_zero, entry_blend, entry_negated, negated_dot, negated_length, product_comm}
 use Rattle.lra_linear.proofs.Ring.{ring, v, ◌⊕◌, ◌⊗◌}
-use Rattle.lra_linear.proofs.Saturation.{room}
 use Rattle.lra_linear.proofs.SetOperations.{has_vertex, valid_on_rows}
 use Rattle.lra_linear.proofs.Signs.{between_opposites, no_product, opposite_of_zero, zero_at_least}
 use Rattle.lra_linear.proofs.Spans.{spanned_through}

@@ -6,12 +6,12 @@ use Rattle.std.proofs.lemmas.List.Elements.{Contains-append_cases, Contains-appe
 use Rattle.std.specs.List.{Contains}
 use Rattle.lra_linear.specs.Cones.{AreDual, Generated, Solves, both_ways}
 use Rattle.lra_linear.specs.Descriptions.{Con, Given, system_of}
-use Rattle.lra_linear.specs.DoubleDescription.{kept, pairs, step_rows}
+use Rattle.lra_linear.proofs.DoubleDescription.{kept, pairs, step_rows}
 use Rattle.lra_linear.specs.Echelon.{Spanned}
 use Rattle.lra_linear.specs.LowestTerms.{IsPrimitive}
 use Rattle.lra_linear.specs.Points.{IsPoint}
 use Rattle.lra_linear.specs.Polyhedra.{HasPoint, IsPolyhedronOf, Polyhedron, positivity}
-use Rattle.lra_linear.specs.Saturation.{Beside, IsExtreme}
+use Rattle.lra_linear.proofs.Saturation.{Beside, IsExtreme}
 use Rattle.lra_linear.specs.Vectors.{behind_zero, dot, entry, negated, product, signed_sum, sum_of, units, zeros}
 use Rattle.lra_linear.proofs.AllPairs.{kept_only, pairs_only, step_rows_are}
 use Rattle.lra_linear.proofs.CanonicalForms.{ray_extreme}

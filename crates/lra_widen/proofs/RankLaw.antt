@@ -11,7 +11,7 @@ use Rattle.lra_linear.specs.Descriptions.{Con, Given, Holds, HoldsWith, given_as
 use Rattle.lra_linear.specs.Echelon.{Spanned}
 use Rattle.lra_linear.specs.Points.{IsPoint, IsWithin}
 use Rattle.lra_linear.specs.Polyhedra.{HasPoint, IsPolyhedron, IsWithoutPoint, Polyhedron, falsity}
-use Rattle.lra_linear.specs.Saturation.{Beside}
+use Rattle.lra_linear.proofs.Saturation.{Beside}
 use Rattle.lra_linear.specs.Vectors.{dot, entry, negated, product}
 use Rattle.lra_linear.specs.Widening.{is_tight, is_tight_as, saturates}
 use Rattle.lra_linear.proofs.CanonicalForms.{ray_extreme, spanned_in_cone}

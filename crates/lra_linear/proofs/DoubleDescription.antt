@@ -2,16 +2,11 @@
 -- Fukuda and Prodon 1996): what a further inequality or equality makes of the lines and rays of a cone. Said of what
 -- the new rows generate and contain, so that each way of listing them is a step: all pairs, adjacent pairs, rows in
 -- lowest terms.
-use Rattle.std.specs.Prelude.{◌≡◌, ℕ, ◌<◌, ◌⊎◌, ℤ, pos, ◌+ℤ◌, ◌*ℤ◌, neg_ℤ, ◌≤ℤ◌, ◌<ℤ◌, int_lt, int_le, Bool, cond, List}
-use Rattle.std.specs.Prelude.{[], ◌∷◌, ◌++◌, length}
+use Rattle.std.specs.Prelude.{◌≡◌, ℕ, ◌<◌, ◌⊎◌, ℤ, pos, ◌+ℤ◌, ◌*ℤ◌, neg_ℤ, ◌≤ℤ◌, ◌<ℤ◌, int_lt, int_le, Bool, cond, List, [], ◌∷◌, ◌++◌, length}
 use Rattle.std.specs.List.{Contains}
 use Rattle.lra_linear.specs.Vectors.{entry, dot, negated, blend}
 use Rattle.lra_linear.specs.LowestTerms.{IsPrimitive}
 use Rattle.lra_linear.specs.Cones.{Generated}
-
--- the system with a further row; an equality is its two inequalities
-abbrev pub with_row : Bool → List ℤ → List (List ℤ) → List (List ℤ)
-with_row equal c system = cond equal (c ∷ negated c ∷ system) (c ∷ system)
 
 -- ---- the inequality c, where each line has product 0 with it
 -- Each row with a product that is not negative can be generated, as can each pair with products of opposite signs,
