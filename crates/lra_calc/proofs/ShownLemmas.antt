@@ -14,12 +14,13 @@ use Rattle.lra_sys.specs.declared.system.GenKind.TheVariants as gen
 use Rattle.lra_sys.specs.Listed.{Listed, given_by, is_line, constraints, generators, FitsKind, FitKinds}
 use Rattle.lra_linear.specs.Kinds.{is_equality}
 use Rattle.lra_show.specs.Shown.{report_row, report_generator}
+use Rattle.lra_show.specs.ShownDescriptions.{generator_kind, shown_constraint, shown_generator}
 use Rattle.lra_program.specs.Rows.{Row}
 use Rattle.lra_findings.specs.Report.{Generator}
 use Rattle.lra_findings.specs.ReportText.{text_line, rows_text, generators_text, generator_text}
 use Rattle.lra_report.specs.Rows.{shown_rows, shown_generators}
 use Rattle.lra_report.specs.Lines.{generator_line}
-use Rattle.lra_calc.specs.ShownSets.{variables_from, variables, shown_constraint, kind_at, kind_by, shown_generator, empty_or, polyhedron_text, generator_at}
+use Rattle.lra_calc.specs.ShownSets.{variables_from, variables, empty_or, polyhedron_text, generator_at}
 
 -- ---- lists
 row_is : (r : List ℤ) (k : ConKind) → shown_constraint (record { row = r; equal = is_equality k }) ≡ report_row r k
@@ -31,14 +32,14 @@ rows_are [] kinds = refl
 rows_are (r ∷ rows) [] = refl
 rows_are (r ∷ rows) (k ∷ kinds) = ap (λ (x : Row). x ∷ map shown_constraint (given_by is_equality rows kinds)) (row_is r k) ∙ ap (λ (xs : List Row). report_row r k ∷ xs) (rows_are rows kinds)
 
-point_at : (z : ℤ) → pos 0 <ℤ z → kind_at z ≡ gen.Point
+point_at : (z : ℤ) → pos 0 <ℤ z → generator_kind false z ≡ gen.Point
 point_at (pos zero) h = absurd (omega (arith, ints))
 point_at (pos (suc n)) h = refl
-point_at (negsuc n) h = refl
+point_at (negsuc n) h = absurd (omega (arith, ints, h))
 
-kind_is : (r : List ℤ) (k : GenKind) → FitsKind k r → kind_by (record { row = r; equal = is_line k }) ≡ k
+kind_is : (r : List ℤ) (k : GenKind) → FitsKind k r → generator_kind (is_line k) (entry r 0) ≡ k
 kind_is r gen.Point f = point_at (entry r 0) f
-kind_is r gen.Ray f = ap kind_at f
+kind_is r gen.Ray f = ap (generator_kind false) f
 kind_is r gen.Line f = refl
 
 generators_are : (rows : List (List ℤ)) (kinds : List GenKind) → FitKinds rows kinds → map shown_generator (given_by is_line rows kinds) ≡ shown_generators rows kinds

@@ -6,3 +6,7 @@ use Rattle.lra_linear.specs.declared.ConKind.TheVariants as con
 abbrev pub is_equality : ConKind → Bool
 is_equality con.Ge = false
 is_equality con.Eq = true
+
+abbrev pub constraint_kind : Bool → ConKind
+constraint_kind false = con.Ge
+constraint_kind true = con.Eq

@@ -1,16 +1,16 @@
 -- What a polyhedron and a head of one hold, and which stores they have.
-use Rattle.std.specs.Prelude.{◌≡◌, ◌&&◌, ℤ, pos, int_le, Bool, true, false, not, cond, map, List, [], ◌∷◌, length}
+use Rattle.std.specs.Prelude.{◌≡◌, ◌&&◌, ℤ, pos, int_le, Bool, false, not, cond, map, List, [], ◌∷◌, length}
 use Rattle.std.specs.List.{list_all, list_any}
 use Rattle.std.specs.Ordering.{int_eq}
 use Rattle.lra_domain.specs.declared.Included.{Included}
 use Rattle.lra_domain.specs.declared.Included.TheVariants.{Yes, No, Wide}
 use Rattle.lra_linear.specs.declared.Excess as E
 use Rattle.lra_linear.specs.Descriptions.{Con, Given, rows_of}
+use Rattle.lra_linear.specs.Kinds.{constraint_kind}
 use Rattle.lra_linear.specs.OperationStrain.{InclusionStrains}
 use Rattle.lra_linear.specs.Points.{IsWithin}
 use Rattle.lra_linear.specs.Polyhedra.{Polyhedron}
 use Rattle.lra_linear.specs.declared.ConKind.{ConKind}
-use Rattle.lra_linear.specs.declared.ConKind.TheVariants as con
 use Rattle.lra_sys.specs.Listed.{Listed}
 
 -- what a loop's head holds: the polyhedron that was reached, and the given rows that no growth has struck
@@ -31,13 +31,9 @@ is_negative (c ∷ cs) = not (int_le (pos 0) c) && list_all (λ x. int_eq x (pos
 abbrev pub is_absurd : Given → Bool
 is_absurd r = not r.equal && is_negative r.row
 
-abbrev pub kind_of : Bool → ConKind
-kind_of false = con.Ge
-kind_of true = con.Eq
-
 -- the constraints as a list of rows with their kinds
 abbrev pub listed : Polyhedron → Listed ConKind
-listed p = record { dims = p.dims; rows = rows_of p.rows; kinds = map (λ r. kind_of r.equal) p.rows }
+listed p = record { dims = p.dims; rows = rows_of p.rows; kinds = map (λ r. constraint_kind r.equal) p.rows }
 
 -- the constraints are the one part; none where one of them holds at no point, as in a polyhedron without a point
 abbrev pub polyhedron_parts : Polyhedron → List (Listed ConKind)

@@ -9,7 +9,7 @@ use Rattle.lra_linear.specs.declared.ConKind.TheVariants.{Ge, Eq}
 use Rattle.lra_linear.specs.Cones.{all_rows, both_ways}
 use Rattle.lra_linear.specs.Descriptions.{Given, given_as, HoldsWith, Con}
 use Rattle.lra_linear.specs.Echelon.{Leads, IsEchelon}
-use Rattle.lra_linear.specs.Kinds.{is_equality}
+use Rattle.lra_linear.specs.Kinds.{constraint_kind, is_equality}
 use Rattle.lra_linear.specs.Points.{IsPoint}
 use Rattle.lra_linear.specs.Polyhedra.{Polyhedron, IsPolyhedron, HasPoint, falsity}
 use Rattle.lra_linear.specs.Range.{InRange}
@@ -23,26 +23,27 @@ use Rattle.lra_sys.specs.declared.system.GenKind.TheVariants.{Point, Ray, Line}
 use Rattle.lra_sys.specs.Listed.{Listed, given_by, is_line, constraints, generators, FitsKind, FitKinds}
 use Rattle.lra_program.specs.Rows.{Row, RowHolds}
 use Rattle.lra_show.specs.Shown.{report_row, report_generator}
+use Rattle.lra_show.specs.ShownDescriptions.{generator_kind, shown_constraint, shown_generator}
 use Rattle.lra_report.specs.Rows.{shown_rows, shown_generators}
 use Rattle.lra_report.specs.Spelled.{IsSpelledRow, IsSpelledGenerator, IsSpelledPart}
 use Rattle.lra_report.proofs.Every.{every_append}
 use Rattle.lra_report.proofs.CanonicalLists.{spelled_equality, spelled_inequality, spelled_point, spelled_ray, spelled_line}
 use Rattle.lra_findings.specs.Report.{Generator, Part, Invariant}
 use Rattle.lra_findings.specs.Parts as parts
-use Rattle.lra_states.specs.Polyhedra.{row_kind, generator_kind, shown_row, shown_generator, part_if_any, shown_polyhedron, TellsPolyhedron, polyhedron_of}
+use Rattle.lra_states.specs.Polyhedra.{part_if_any, shown_polyhedron, TellsPolyhedron, polyhedron_of}
 use Rattle.lra_states.proofs.RowsHold.{row_holds, row_held}
 use Rattle.lra_states.proofs.SamePoints.{as_row, within_con, con_within, generated_gen, gen_generated}
 
 -- ---- the lists of a report are those of the polyhedron
-kind_again : (k : ConKind) → row_kind (is_equality k) ≡ k
+kind_again : (k : ConKind) → constraint_kind (is_equality k) ≡ k
 kind_again Ge = refl
 kind_again Eq = refl
 
-pub rows_again : (rows : List (List ℤ)) (kinds : List ConKind) → shown_rows rows kinds ≡ map shown_row (given_by is_equality rows kinds)
+pub rows_again : (rows : List (List ℤ)) (kinds : List ConKind) → shown_rows rows kinds ≡ map shown_constraint (given_by is_equality rows kinds)
 rows_again [] kinds = refl
 rows_again (r ∷ rows) [] = refl
 rows_again (r ∷ rows) (k ∷ kinds) =
-    ap (λ (q : ConKind). report_row r q ∷ shown_rows rows kinds) (sym (kind_again k)) ∙ ap (λ rest. report_row r (row_kind (is_equality k)) ∷ rest) (rows_again rows kinds)
+    ap (λ (q : ConKind). report_row r q ∷ shown_rows rows kinds) (sym (kind_again k)) ∙ ap (λ rest. report_row r (constraint_kind (is_equality k)) ∷ rest) (rows_again rows kinds)
 
 point_again : (z : ℤ) → pos 0 <ℤ z → Point ≡ generator_kind false z
 point_again (pos zero) h = absurd (omega (arith, ints, h))
@@ -79,9 +80,9 @@ row_wide : (n : ℕ) (row : List ℤ) (k : ConKind) → length row ≡ suc n →
 row_wide n [] k e = absurd (omega (arith, e))
 row_wide n (c ∷ cs) k e = omega (arith, e)
 
-rows_wide : (n : ℕ) (rows : List Given) → ((g : Given) → Contains rows g → length g.row ≡ suc n) → AllByRecursion (λ (r : Row). length r.coefficients ≡ n) (map shown_row rows)
+rows_wide : (n : ℕ) (rows : List Given) → ((g : Given) → Contains rows g → length g.row ≡ suc n) → AllByRecursion (λ (r : Row). length r.coefficients ≡ n) (map shown_constraint rows)
 rows_wide n [] h = tt
-rows_wide n (g ∷ rows) h = (row_wide n g.row (row_kind g.equal) (h g (contains_head g rows)), rows_wide n rows (λ x k. h x (contains_tail g x rows k)))
+rows_wide n (g ∷ rows) h = (row_wide n g.row (constraint_kind g.equal) (h g (contains_head g rows)), rows_wide n rows (λ x k. h x (contains_tail g x rows k)))
 
 generator_wide : (n : ℕ) (row : List ℤ) (k : GenKind) → length row ≡ suc n → length (report_generator row k).numbers ≡ n
 generator_wide n [] k e = absurd (omega (arith, e))
@@ -94,7 +95,7 @@ generators_wide n (g ∷ gs) h =
 
 -- ---- texts
 -- a fact on each row that is shown
-shown_each : (P : Row → Type 0) (b : Bool) (rows : List (List ℤ)) → ((r : List ℤ) → Contains rows r → P (report_row r (row_kind b))) → AllByRecursion P (map shown_row (given_as b rows))
+shown_each : (P : Row → Type 0) (b : Bool) (rows : List (List ℤ)) → ((r : List ℤ) → Contains rows r → P (report_row r (constraint_kind b))) → AllByRecursion P (map shown_constraint (given_as b rows))
 shown_each P b [] h = tt
 shown_each P b (r ∷ rows) h = (h r (contains_head r rows), shown_each P b rows (λ x k. h x (contains_tail r x rows k)))
 
@@ -119,7 +120,7 @@ leads_of (x ∷ rows) (p ∷ ps) e r k = elim (contains_cases x r rows k) [ inl 
 abbrev AreSmall : List Given → Type 0
 AreSmall list = (g : Given) → Contains list g → AllByRecursion InRange g.row
 
-rows_spelled : (p : Polyhedron) → HasPoint p → AreSmall p.rows → AllByRecursion IsSpelledRow (map shown_row p.rows)
+rows_spelled : (p : Polyhedron) → HasPoint p → AreSmall p.rows → AllByRecursion IsSpelledRow (map shown_constraint p.rows)
 rows_spelled p h small =
     let es = given_as true h.equalities in
     let is = given_as false h.inequalities in
@@ -129,8 +130,8 @@ rows_spelled p h small =
     spelled_equality r q leads (small' (record { row = r; equal = true }) (Contains-append_left es is (record { row = r; equal = true }) (member_of true h.equalities r k)))) in
     let second = shown_each IsSpelledRow false h.inequalities (λ r k.
     spelled_inequality r (small' (record { row = r; equal = false }) (Contains-append_right es is (record { row = r; equal = false }) (member_of false h.inequalities r k)))) in
-    subst (λ (rows : List Given). AllByRecursion IsSpelledRow (map shown_row rows)) (sym h.rows_are)
-    (subst (AllByRecursion IsSpelledRow) (sym (map-append shown_row es is)) (every_append IsSpelledRow (map shown_row es) (map shown_row is) first second))
+    subst (λ (rows : List Given). AllByRecursion IsSpelledRow (map shown_constraint rows)) (sym h.rows_are)
+    (subst (AllByRecursion IsSpelledRow) (sym (map-append shown_constraint es is)) (every_append IsSpelledRow (map shown_constraint es) (map shown_constraint is) first second))
 
 -- of three lists
 each_of_three : (P : Generator → Type 0) (xs ys zs : List Given) → AllByRecursion P (map shown_generator xs) → AllByRecursion P (map shown_generator ys) → AllByRecursion P (map shown_generator zs)
@@ -167,7 +168,7 @@ divide [] h = tt
 divide (g ∷ gs) h = (h.0.divides, divide gs h.1)
 
 abbrev pub part_of : Polyhedron → Part
-part_of p = record { rows = map shown_row p.rows; generators = map shown_generator p.generators }
+part_of p = record { rows = map shown_constraint p.rows; generators = map shown_generator p.generators }
 
 pub row_is_point : (n : ℕ) (x : parts.RationalPoint) → parts.IsPoint n x → IsPoint n (as_row x)
 row_is_point n x i = record { width = ap suc i.width; divisor = omega (arith, ints, i.divides) }
@@ -208,26 +209,26 @@ has_point p h =
     point_there p h r k long above ((con_gen p (inr h)).1 r point generated)
 
 -- ---- stores
-each_holds : (rows : List Given) (s : List ℤ) → Con rows (pos 1 ∷ s) → AllByRecursion (λ (r : Row). RowHolds r s) (map shown_row rows)
+each_holds : (rows : List Given) (s : List ℤ) → Con rows (pos 1 ∷ s) → AllByRecursion (λ (r : Row). RowHolds r s) (map shown_constraint rows)
 each_holds [] s h = tt
 each_holds (g ∷ rows) s h = (one g.row g.equal (h g (contains_head g rows)), each_holds rows s (λ x k. h x (contains_tail g x rows k)))
   where
-    one : (row : List ℤ) (b : Bool) → HoldsWith b (product row (pos 1 ∷ s)) → RowHolds (report_row row (row_kind b)) s
+    one : (row : List ℤ) (b : Bool) → HoldsWith b (product row (pos 1 ∷ s)) → RowHolds (report_row row (constraint_kind b)) s
     one row true h = row_holds row Eq s h
     one row false h = row_holds row Ge s h
 
-each_held : (rows : List Given) (s : List ℤ) → AllByRecursion (λ (r : Row). RowHolds r s) (map shown_row rows) → Con rows (pos 1 ∷ s)
+each_held : (rows : List Given) (s : List ℤ) → AllByRecursion (λ (r : Row). RowHolds r s) (map shown_constraint rows) → Con rows (pos 1 ∷ s)
 each_held [] s h g i = absurd (contains_none g i)
 each_held (x ∷ rows) s h g i = elim (contains_cases x g rows i) [
   | inl e ↦ subst (λ (y : Given). HoldsWith y.equal (product y.row (pos 1 ∷ s))) e (one x.row x.equal h.0)
   | inr d ↦ each_held rows s h.1 g d
 ]
   where
-    one : (row : List ℤ) (b : Bool) → RowHolds (report_row row (row_kind b)) s → HoldsWith b (product row (pos 1 ∷ s))
+    one : (row : List ℤ) (b : Bool) → RowHolds (report_row row (constraint_kind b)) s → HoldsWith b (product row (pos 1 ∷ s))
     one row true h = row_held row Eq s h
     one row false h = row_held row Ge s h
 
-one_held : (rows : List Given) (s : List ℤ) → AllByRecursion (λ (r : Row). RowHolds r s) (map shown_row rows) ⊎ ⊥ → Con rows (pos 1 ∷ s)
+one_held : (rows : List Given) (s : List ℤ) → AllByRecursion (λ (r : Row). RowHolds r s) (map shown_constraint rows) ⊎ ⊥ → Con rows (pos 1 ∷ s)
 one_held rows s (inl h) = each_held rows s h
 one_held rows s (inr h) = absurd h
 
@@ -298,7 +299,7 @@ pub some_shown : (rows : Listed ConKind) (gens : Listed GenKind) (part : Part) �
 some_shown rows gens part fit long some of_rows of_generators =
     let is : part ≡ part_of (polyhedron_of rows gens) =
     ap (λ (rs : List Row). record { rows = rs; generators = part.generators }) (of_rows ∙ rows_again rows.rows rows.kinds)
-    ∙ ap (λ (gs : List Generator). record { rows = map shown_row (constraints rows); generators = gs }) (of_generators ∙ generators_again gens.rows gens.kinds fit) in
+    ∙ ap (λ (gs : List Generator). record { rows = map shown_constraint (constraints rows); generators = gs }) (of_generators ∙ generators_again gens.rows gens.kinds fit) in
     ap (λ (p : Part). p ∷ []) is ∙ sym (any_listed gens.rows gens.kinds (part_of (polyhedron_of rows gens)) long some)
 
 -- what is said of the polyhedron's state, of one that is the same

@@ -3,40 +3,41 @@ use Rattle.std.proofs.Common.{◌≡◌, ◌∙◌, ℕ, zero, suc, ℤ, pos, ne
 use Rattle.std.specs.Prelude.{get_or}
 use Rattle.std.proofs.lemmas.Int.{ints}
 use Rattle.lra_linear.specs.Descriptions.{Given, IsGenerator, AreGenerators, lines_of, rays_of, HoldsWith, Holds, Con, Gen}
+use Rattle.lra_linear.specs.Kinds.{constraint_kind}
 use Rattle.lra_linear.specs.Vectors.{entry, product, sum_of, signed_sum}
 use Rattle.lra_linear.proofs.Membership.{contains_none, contains_head, contains_tail, contains_cases}
 use Rattle.lra_sys.specs.declared.system.GenKind.{GenKind}
 use Rattle.lra_sys.specs.declared.system.GenKind.TheVariants.{Line}
 use Rattle.lra_show.specs.Shown.{report_row, report_generator, report_generator_kind}
+use Rattle.lra_show.specs.ShownDescriptions.{generator_kind, shown_constraint, shown_generator}
 use Rattle.lra_findings.specs.Report.{Generator}
 use Rattle.lra_findings.specs.Parts.{RationalPoint, RowHoldsAt, IsWithin, IsFactor, AreFactors, IsGenerated}
-use Rattle.lra_states.specs.Polyhedra.{row_kind, generator_kind, shown_row, shown_generator}
 
 -- a point as a row of the lists
 abbrev pub as_row : RationalPoint → List ℤ
 as_row x = pos x.divisor ∷ x.numerators
 
 -- ---- rows
-row_to : (row : List ℤ) (b : Bool) (x : RationalPoint) → RowHoldsAt (report_row row (row_kind b)) x → HoldsWith b (product row (as_row x))
+row_to : (row : List ℤ) (b : Bool) (x : RationalPoint) → RowHoldsAt (report_row row (constraint_kind b)) x → HoldsWith b (product row (as_row x))
 row_to [] true x h = refl
 row_to [] false x h = omega (arith, ints)
 row_to (c ∷ cs) true x h = h
 row_to (c ∷ cs) false x h = h
 
-row_from : (row : List ℤ) (b : Bool) (x : RationalPoint) → HoldsWith b (product row (as_row x)) → RowHoldsAt (report_row row (row_kind b)) x
+row_from : (row : List ℤ) (b : Bool) (x : RationalPoint) → HoldsWith b (product row (as_row x)) → RowHoldsAt (report_row row (constraint_kind b)) x
 row_from [] true x h = omega (arith, ints)
 row_from [] false x h = omega (arith, ints)
 row_from (c ∷ cs) true x h = h
 row_from (c ∷ cs) false x h = h
 
-pub within_con : (rows : List Given) (x : RationalPoint) → IsWithin (map shown_row rows) x → Con rows (as_row x)
+pub within_con : (rows : List Given) (x : RationalPoint) → IsWithin (map shown_constraint rows) x → Con rows (as_row x)
 within_con [] x h g k = absurd (contains_none g k)
 within_con (r ∷ rows) x h g k = elim (contains_cases r g rows k) [
   | inl e ↦ subst (λ (z : Given). Holds z (as_row x)) e (row_to r.row r.equal x h.0)
   | inr d ↦ within_con rows x h.1 g d
 ]
 
-pub con_within : (rows : List Given) (x : RationalPoint) → Con rows (as_row x) → IsWithin (map shown_row rows) x
+pub con_within : (rows : List Given) (x : RationalPoint) → Con rows (as_row x) → IsWithin (map shown_constraint rows) x
 con_within [] x h = tt
 con_within (r ∷ rows) x h = (row_from r.row r.equal x (h r (contains_head r rows)), con_within rows x (λ g k. h g (contains_tail r g rows k)))
 

@@ -1,37 +1,16 @@
 -- How a polyhedron is shown: by its constraints and by its generators, which tell the same points.
-use Rattle.std.specs.Prelude.{◌≡◌, zero, suc, ℤ, pos, negsuc, Bool, true, false, List, [], ◌∷◌, length, map}
+use Rattle.std.specs.Prelude.{◌≡◌, ℤ, pos, List, [], ◌∷◌, length, map}
 use Rattle.std.specs.List.{AllByRecursion}
 use Rattle.lra_linear.specs.declared.ConKind.{ConKind}
-use Rattle.lra_linear.specs.declared.ConKind.TheVariants.{Ge, Eq}
 use Rattle.lra_linear.specs.Descriptions.{Given, Con}
 use Rattle.lra_linear.specs.Polyhedra.{Polyhedron}
-use Rattle.lra_linear.specs.Vectors.{entry}
 use Rattle.lra_sys.specs.declared.system.GenKind.{GenKind}
-use Rattle.lra_sys.specs.declared.system.GenKind.TheVariants.{Point, Ray, Line}
 use Rattle.lra_sys.specs.Listed.{Listed, constraints, generators}
 use Rattle.lra_base.specs.declared.options.Domain.TheVariants.{Poly}
-use Rattle.lra_show.specs.Shown.{report_row, report_generator}
-use Rattle.lra_program.specs.Rows.{Row}
-use Rattle.lra_findings.specs.Report.{Generator, Part, Invariant, Holds}
+use Rattle.lra_show.specs.ShownDescriptions.{shown_constraint, shown_generator}
+use Rattle.lra_findings.specs.Report.{Part, Invariant, Holds}
 use Rattle.lra_findings.specs.Parts.{Tells}
 use Rattle.lra_report.specs.Listing.{HasWidth}
-
-abbrev pub row_kind : Bool → ConKind
-row_kind false = Ge
-row_kind true = Eq
-
--- a line, or what its column 0 tells: a point's is above 0
-abbrev pub generator_kind : Bool → ℤ → GenKind
-generator_kind true z = Line
-generator_kind false (pos zero) = Ray
-generator_kind false (pos (suc n)) = Point
-generator_kind false (negsuc n) = Ray
-
-abbrev pub shown_row : Given → Row
-shown_row g = report_row g.row (row_kind g.equal)
-
-abbrev pub shown_generator : Given → Generator
-shown_generator g = report_generator g.row (generator_kind g.equal (entry g.row 0))
 
 -- no part where there is no generator
 abbrev pub part_if_any : List Given → Part → Invariant
@@ -40,7 +19,7 @@ part_if_any (g ∷ gs) part = part ∷ []
 
 abbrev pub shown_polyhedron : Polyhedron → Invariant
 shown_polyhedron p = part_if_any p.generators
-    (record { rows = map shown_row p.rows; generators = map shown_generator p.generators })
+    (record { rows = map shown_constraint p.rows; generators = map shown_generator p.generators })
 
 -- the state tells the polyhedron
 pub record TellsPolyhedron (p : Polyhedron) (state : Invariant) : Type 0 where
