@@ -8,7 +8,7 @@ use Rattle.lra_linear.specs.Vectors.{entry, product}
 use Rattle.lra_linear.proofs.LowestTerms.{same_multiple}
 use Rattle.lra_linear.proofs.Ring.{mul_nonnegative, ring, v, ⊖, ◌⊕◌, ◌⊗◌}
 use Rattle.lra_linear.proofs.Signs.{cancel_same, divide_nonnegative}
-use Rattle.lra_poly.specs.FirstPlaces.{FirstAt}
+use Rattle.lra_sys.specs.FirstPlaces.{FirstAt}
 use Rattle.lra_poly.specs.Inclusions.{Meets, Violates, Passes, MeetsAll, ViolatesFirst, IsInclusion}
 use Rattle.lra_poly.specs.Maxima.{StaysInRange, PassesRange, Improves, DoesNotImprove, HasValue, IsAtMost, IsBelow, OfPoint, IsGreatest, IsMaximum}
 use Rattle.lra_poly.specs.declared.inclusion.Inclusion.{Inclusion}

@@ -74,11 +74,11 @@ behind x (g ∷ gs) rest a =
 pub answer_is : (rows : List Given) (x : List ℤ) (a : H.Holds) → IsAnswer rows x a → script.membership rows x ≡ answered a
 answer_is rows x Yes a = ap (λ (gs : List Given). script.membership gs x) (sym (append-nil rows)) ∙ behind x rows [] a
 answer_is rows x (No place) a =
-    ap (λ (gs : List Given). script.membership gs x) a.is ∙ behind x a.earlier (a.constraint ∷ a.later) a.before
-    ∙ decided_no a.constraint x (checked_product a.constraint.row x) (script.membership a.later x) refl a.here.0 a.here.1
+    ap (λ (gs : List Given). script.membership gs x) a.is ∙ behind x a.earlier (a.member ∷ a.later) a.before
+    ∙ decided_no a.member x (checked_product a.member.row x) (script.membership a.later x) refl a.here.0 a.here.1
 answer_is rows x (Wide place) a =
-    ap (λ (gs : List Given). script.membership gs x) a.is ∙ behind x a.earlier (a.constraint ∷ a.later) a.before
-    ∙ decided_wide a.constraint (checked_product a.constraint.row x) (script.membership a.later x) a.here
+    ap (λ (gs : List Given). script.membership gs x) a.is ∙ behind x a.earlier (a.member ∷ a.later) a.before
+    ∙ decided_wide a.member (checked_product a.member.row x) (script.membership a.later x) a.here
 
 pub point_is : (x : List ℤ) (n : ℕ) → length x ≡ suc n → get_or x 0 (pos 0) ∷ take (length x - 1) (drop 1 x) ≡ x
 point_is [] n e = cc
@@ -96,7 +96,7 @@ passes_later g gs x h w = (
   suc w.0,
   record {
     earlier = g ∷ w.1.earlier;
-    constraint = w.1.constraint;
+    member = w.1.member;
     later = w.1.later;
     is = ap (λ (fs : List Given). g ∷ fs) w.1.is;
     at = let a = w.1.at in omega (arith, a);
@@ -132,7 +132,7 @@ first_tells g gs x (Err f) m e told = (
   0,
   record {
     earlier = [];
-    constraint = g;
+    member = g;
     later = gs;
     is = refl;
     at = refl;

@@ -14,7 +14,8 @@ use Rattle.lra_linear.specs.Descriptions.{Given, Con as points_of}
 use Rattle.lra_linear.specs.Polyhedra.{Polyhedron}
 use Rattle.lra_sys.specs.declared.system.GenKind.{GenKind}
 use Rattle.lra_sys.specs.declared.system.GenKind.TheVariants as gen
-use Rattle.lra_sys.specs.Membership.{IsWide, FirstAt}
+use Rattle.lra_sys.specs.FirstPlaces.{FirstAt}
+use Rattle.lra_sys.specs.Membership.{HoldsInRange, IsWide}
 use Rattle.lra_poly.specs.Inclusions.{IsInclusion}
 use Rattle.lra_poly.specs.declared.inclusion.Inclusion.{Inclusion}
 use Rattle.lra_poly.specs.declared.inclusion.Inclusion.TheVariants as inclusion
@@ -176,7 +177,7 @@ membership (g ∷ gs) x = decided g.equal (checked_product g.row x) (membership 
 -- of the constraints, tried in order, the first that doesn't hold in the range is one whose product with the point
 -- passes it: a product of two entries or a partial sum does, columns from 0 up
 abbrev pub PassesFirst : List Given → List ℤ → Type 0
-PassesFirst rows x = (place : ℕ) × FirstAt (IsWide x) x 0 rows place
+PassesFirst rows x = (place : ℕ) × FirstAt (HoldsInRange x) (IsWide x) rows place
 
 -- what the answer says of the set of points with these constraints; it is wide exactly where their products with the
 -- point pass

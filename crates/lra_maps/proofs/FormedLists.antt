@@ -25,7 +25,7 @@ use Rattle.lra_sys.specs.Listed.{Listed, constraints, generators, given_by}
 use Rattle.lra_sys.specs.declared.system.GenKind.{GenKind}
 use Rattle.lra_cone.specs.Conversions.{dual_kind}
 use Rattle.lra_cone.proofs.ConstraintLists.{dual_given}
-use Rattle.lra_poly.proofs.FirstMembers.{front, given_more, given_split, member}
+use Rattle.lra_sys.proofs.FirstMembers.{front, given_more, given_split, member}
 use Rattle.lra_poly.proofs.JoinedLists.{given_joined}
 use Rattle.lra_poly.proofs.PolyLemmas.{if_exact}
 use Rattle.lra_poly.specs.Outcomes.{IfExact, IfFlagged}

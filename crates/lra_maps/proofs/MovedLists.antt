@@ -8,7 +8,7 @@ use Rattle.lra_linear.proofs.Membership.{contains_cases, contains_head, contains
 use Rattle.lra_sys.specs.Listed.{Listed, given_by}
 use Rattle.lra_canon.specs.Echelons.{HaveWidth}
 use Rattle.lra_pair.proofs.OwnRows.{all_width}
-use Rattle.lra_poly.proofs.FirstMembers.{front, given_more, member}
+use Rattle.lra_sys.proofs.FirstMembers.{front, given_more, member}
 use Rattle.lra_maps.proofs.TakenBack.{mapped_from}
 
 lines_joined : (xs ys : List Given) → lines_of (xs ++ ys) ≡ lines_of xs ++ lines_of ys

@@ -10,7 +10,7 @@ use Rattle.lra_linear.specs.Vectors.{behind_zero, cleared, units, zeros}
 use Rattle.lra_sys.specs.Listed.{FitKinds, FitsKind, Listed, generators, given_by, is_line}
 use Rattle.lra_sys.specs.declared.system.GenKind.{GenKind}
 use Rattle.lra_sys.specs.declared.system.GenKind.TheVariants.{Line, Point}
-use Rattle.lra_poly.proofs.FirstMembers.{front, given_more, member}
+use Rattle.lra_sys.proofs.FirstMembers.{front, given_more, member}
 use Rattle.lra_poly.proofs.JoinedLists.{given_joined, kinds_joined}
 use Rattle.lra_maps.proofs.Sums.{zeros_width}
 

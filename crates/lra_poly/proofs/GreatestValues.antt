@@ -25,7 +25,7 @@ use Rattle.lra_poly.specs.Maxima.{DoesNotImprove, Improves, IsAtMost, IsGreatest
 use Rattle.lra_poly.specs.Maxima.{TellsMaximum}
 use Rattle.lra_poly.specs.declared.maximum.Maximum.{Maximum}
 use Rattle.lra_poly.specs.declared.maximum.Maximum.TheVariants.{Empty, Wide, Unbounded, At}
-use Rattle.lra_poly.proofs.FirstMembers.{err_from}
+use Rattle.lra_sys.proofs.FirstMembers.{err_from}
 use Rattle.lra_poly.proofs.InclusionLemmas.{has_member}
 use Rattle.lra_poly.proofs.PolyLemmas.{empty_where_none, zeros_length}
 

@@ -1,4 +1,3 @@
-pub mod FirstMembers
 pub mod InclusionLemmas
 pub mod MaximumLemmas
 pub mod PolyLemmas

@@ -26,7 +26,7 @@ use Rattle.lra_sys.specs.declared.system.GenKind.TheVariants.{Point}
 use Rattle.lra_poly.specs.Maxima.{OfPoint, IsAtMost, IsBelow, HasValue, IsGreatest, IsMaximum, StaysInRange}
 use Rattle.lra_poly.specs.Maxima.{DoesNotImprove}
 use Rattle.lra_poly.specs.declared.maximum.Maximum.TheVariants.{At}
-use Rattle.lra_poly.proofs.FirstMembers.{front, first_at, one_more, none_yet, all_gone_through}
+use Rattle.lra_sys.proofs.FirstMembers.{front, first_at, one_more, none_yet, all_gone_through}
 
 -- ---- a checked product
 pub value_of_ok : (form row : List ℤ) (z : ℤ) → checked_product form row ≡ Ok z → z ≡ product form row

@@ -14,7 +14,7 @@ use Rattle.lra_sys.specs.Listed.{given_by, is_line}
 use Rattle.lra_sys.specs.declared.system.GenKind.{GenKind}
 use Rattle.lra_poly.specs.Saturations.{column, saturated, saturation_of}
 use Rattle.lra_poly.proofs.SaturationLemmas.{given_length}
-use Rattle.lra_poly.proofs.FirstMembers.{front, front_length, given_more, given_split, member}
+use Rattle.lra_sys.proofs.FirstMembers.{front, front_length, given_more, given_split, member}
 
 -- ---- lines and others
 parted : {K : Type 0} (equal : K → Bool) (f : List Given → List (List ℤ)) → ((xs : List Given) (g : Given) → f (xs ++ g ∷ []) ≡ f xs ++ f (g ∷ [])) → (rows : List (List ℤ)) (kinds : List K)

@@ -13,7 +13,7 @@ use Rattle.lra_sys.specs.declared.membership.Holds as H
 use Rattle.lra_sys.specs.declared.membership.Holds.TheVariants as holds
 use Rattle.lra_poly.specs.declared.inclusion.Inclusion.{Inclusion}
 use Rattle.lra_poly.specs.declared.inclusion.Inclusion.TheVariants.{Yes, No, Wide}
-use Rattle.lra_poly.specs.FirstPlaces.{FirstAt}
+use Rattle.lra_sys.specs.FirstPlaces.{FirstAt}
 
 -- ---- a generator and a row
 -- the product stays in the range, and the row holds with the generator

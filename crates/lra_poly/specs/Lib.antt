@@ -1,7 +1,6 @@
 -- Operations on closed polyhedra.
 pub mod Rows
 pub mod Outcomes
-pub mod FirstPlaces
 pub mod Inclusions
 pub mod Maxima
 pub mod Residues

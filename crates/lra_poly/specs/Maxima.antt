@@ -12,7 +12,7 @@ use Rattle.lra_linear.specs.Polyhedra.{Polyhedron}
 use Rattle.lra_linear.specs.Vectors.{entry, product}
 use Rattle.lra_poly.specs.declared.maximum.Maximum.{Maximum}
 use Rattle.lra_poly.specs.declared.maximum.Maximum.TheVariants.{Empty, Wide, Unbounded, At}
-use Rattle.lra_poly.specs.FirstPlaces.{FirstAt}
+use Rattle.lra_sys.specs.FirstPlaces.{FirstAt}
 
 -- ---- a form and a generator
 abbrev pub StaysInRange : List ℤ → Given → Type 0

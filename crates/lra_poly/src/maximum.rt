@@ -11,7 +11,7 @@ ghost use Rattle.lra_linear.specs.Descriptions.{Given};
 ghost use Rattle.lra_linear.specs.Range.{InRange};
 ghost use Rattle.lra_linear.specs.Vectors.{entry, product};
 ghost use Rattle.lra_sys.specs.Listed.{generators};
-ghost use Rattle.lra_poly.specs.FirstPlaces.{FirstAt};
+ghost use Rattle.lra_sys.specs.FirstPlaces.{FirstAt};
 ghost use Rattle.lra_poly.specs.Maxima.{StaysInRange, PassesRange, Improves, DoesNotImprove};
 ghost use Rattle.lra_poly.specs.Maxima.{IsAtMost, IsBelow, IsGreatest, IsMaximum};
 ghost use Rattle.lra_poly.specs.Rows.{form_row};

@@ -1,3 +1,4 @@
+pub mod FirstMembers
 pub mod Places
 pub mod Generators
 pub mod MembershipExamples

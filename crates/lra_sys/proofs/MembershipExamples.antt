@@ -29,7 +29,7 @@ outside = pos 1 ∷ pos 3 ∷ pos 2 ∷ []
 is_outside : IsAnswer both outside (No 1)
 is_outside = record {
   earlier = first ∷ [];
-  constraint = second;
+  member = second;
   later = [];
   is = refl;
   at = refl;
@@ -44,7 +44,7 @@ far = pos 1 ∷ pos 170141183460469231731687303715884105727 ∷ pos 170141183460
 is_wide : IsAnswer both far (Wide 1)
 is_wide = record {
   earlier = first ∷ [];
-  constraint = second;
+  member = second;
   later = [];
   is = refl;
   at = refl;

@@ -1,3 +1,4 @@
 -- Lists of constraints and of generators, and membership of a point.
 pub mod Listed
+pub mod FirstPlaces
 pub mod Membership

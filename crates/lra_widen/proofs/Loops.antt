@@ -5,7 +5,7 @@ use Rattle.std.proofs.lemmas.List.Elements.{filter-append}
 use Rattle.std.specs.List.{filter}
 use Rattle.lra_linear.specs.Descriptions.{Given}
 use Rattle.lra_sys.specs.Listed.{Listed, given_by}
-use Rattle.lra_poly.proofs.FirstMembers.{front, member}
+use Rattle.lra_sys.proofs.FirstMembers.{front, member}
 
 front_more : {K : Type 0} (equal : K → Bool) (rows : List (List ℤ)) (kinds : List K) (i : ℕ) (r : List ℤ) (k : K) → length kinds ≡ length rows → i < length rows → r ≡ get_or rows i r →
     front equal rows kinds (suc i) ≡ front equal rows kinds i ++ member equal kinds i r k ∷ []

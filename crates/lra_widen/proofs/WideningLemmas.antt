@@ -19,7 +19,7 @@ use Rattle.lra_linear.proofs.Widening.{limited_con, standard_con, valid_decides}
 use Rattle.lra_poly.specs.declared.inclusion.Inclusion.TheVariants.{Wide, Yes}
 use Rattle.lra_poly.specs.declared.outcome.Outcome.{Outcome}
 use Rattle.lra_poly.specs.declared.outcome.Outcome.TheVariants.{Exact, Flagged}
-use Rattle.lra_poly.specs.FirstPlaces.{FirstAt}
+use Rattle.lra_sys.specs.FirstPlaces.{FirstAt}
 use Rattle.lra_poly.specs.Inclusions.{IsInclusion, Meets, MeetsAll, Passes, Violates, ViolatesFirst}
 use Rattle.lra_pair.specs.KeptRows.{IsOfSome}
 use Rattle.lra_poly.specs.Outcomes.{IfExact, IfFlagged}

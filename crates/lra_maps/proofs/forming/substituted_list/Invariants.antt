@@ -5,7 +5,7 @@ use Rattle.lra_linear.specs.Descriptions.{Given}
 use Rattle.lra_linear.specs.Kinds.{is_equality}
 use Rattle.lra_linear.specs.OperationStrain.{FormingPasses, substituted_rows}
 use Rattle.lra_sys.specs.Listed.{constraints, given_by}
-use Rattle.lra_poly.proofs.FirstMembers.{front}
+use Rattle.lra_sys.proofs.FirstMembers.{front}
 use Rattle.lra_poly.specs.Outcomes.{IfExact, IfFlagged}
 use Rattle.lra_maps.proofs.forming.substituted_list.Given as goal
 

@@ -1,7 +1,7 @@
 use Rattle.std.proofs.Common.{◌≡◌}
 use Rattle.lra_linear.specs.Descriptions.{lines_of}
 use Rattle.lra_linear.specs.Kinds.{is_equality}
-use Rattle.lra_poly.proofs.FirstMembers.{front}
+use Rattle.lra_sys.proofs.FirstMembers.{front}
 use Rattle.lra_poly.proofs.facets.equalities_among.Given as goal
 
 abbrev pub invariant-loop-place : goal.invariant-loop-place

@@ -4,7 +4,7 @@ use Rattle.lra_linear.specs.Kinds.{is_equality}
 use Rattle.lra_cone.specs.Cones.{saturation_of as by_rays}
 use Rattle.lra_sys.specs.Listed.{given_by}
 use Rattle.lra_poly.specs.Saturations.{saturation_of}
-use Rattle.lra_poly.proofs.FirstMembers.{front}
+use Rattle.lra_sys.proofs.FirstMembers.{front}
 use Rattle.lra_poly.proofs.facets.inequality_saturation.Given as goal
 
 abbrev pub invariant-loop-place : goal.invariant-loop-place

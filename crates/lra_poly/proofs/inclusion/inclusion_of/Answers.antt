@@ -5,9 +5,9 @@ use Rattle.lra_linear.specs.Descriptions.{Given}
 use Rattle.lra_sys.specs.declared.membership.Holds.TheVariants as holds
 use Rattle.lra_sys.specs.declared.system.GenKind.TheVariants.{Point}
 use Rattle.lra_sys.specs.Listed.{constraints, is_line}
-use Rattle.lra_poly.specs.FirstPlaces.{FirstAt}
+use Rattle.lra_sys.specs.FirstPlaces.{FirstAt}
 use Rattle.lra_poly.specs.Inclusions.{Meets, MeetsAll, Passes, ViolatesFirst}
-use Rattle.lra_poly.proofs.FirstMembers.{first_at, one_more, all_gone_through}
+use Rattle.lra_sys.proofs.FirstMembers.{first_at, one_more, all_gone_through}
 use Rattle.lra_poly.proofs.InclusionLemmas.{reply_seen, seen_generators}
 use Rattle.lra_poly.proofs.inclusion.inclusion_of.Goals as goal
 

@@ -1,7 +1,7 @@
 use Rattle.std.specs.List.{All}
 use Rattle.lra_sys.specs.Listed.{constraints, is_line}
 use Rattle.lra_poly.specs.Inclusions.{MeetsAll}
-use Rattle.lra_poly.proofs.FirstMembers.{front}
+use Rattle.lra_sys.proofs.FirstMembers.{front}
 use Rattle.lra_poly.proofs.inclusion.inclusion_of.Given as goal
 
 abbrev pub invariant-loop-place : goal.invariant-loop-place

@@ -4,10 +4,10 @@ use Rattle.std.specs.List.{All}
 use Rattle.lra_linear.specs.Descriptions.{Given}
 use Rattle.lra_sys.specs.Listed.{is_line}
 use Rattle.lra_sys.specs.declared.system.GenKind.TheVariants.{Point}
-use Rattle.lra_poly.specs.FirstPlaces.{FirstAt}
+use Rattle.lra_sys.specs.FirstPlaces.{FirstAt}
 use Rattle.lra_poly.specs.Maxima.{DoesNotImprove, Improves, StaysInRange}
 use Rattle.lra_poly.specs.Rows.{form_row}
-use Rattle.lra_poly.proofs.FirstMembers.{all_gone_through, at_member, first_at, member, one_more}
+use Rattle.lra_sys.proofs.FirstMembers.{all_gone_through, at_member, first_at, member, one_more}
 use Rattle.lra_poly.proofs.InclusionLemmas.{seen_generators}
 use Rattle.lra_poly.proofs.MaximumLemmas.{both_seen}
 use Rattle.lra_poly.proofs.maximum.first_improving.Goals as goal

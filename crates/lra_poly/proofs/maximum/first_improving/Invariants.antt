@@ -2,7 +2,7 @@ use Rattle.std.specs.List.{All}
 use Rattle.lra_sys.specs.Listed.{is_line}
 use Rattle.lra_poly.specs.Maxima.{DoesNotImprove}
 use Rattle.lra_poly.specs.Rows.{form_row}
-use Rattle.lra_poly.proofs.FirstMembers.{front}
+use Rattle.lra_sys.proofs.FirstMembers.{front}
 use Rattle.lra_poly.proofs.maximum.first_improving.Given as goal
 
 abbrev pub invariant-loop-place : goal.invariant-loop-place

@@ -4,10 +4,10 @@ use Rattle.std.specs.List.{All}
 use Rattle.lra_linear.specs.Descriptions.{Given}
 use Rattle.lra_sys.specs.Listed.{is_line}
 use Rattle.lra_sys.specs.declared.system.GenKind.TheVariants.{Point}
-use Rattle.lra_poly.specs.FirstPlaces.{FirstAt}
+use Rattle.lra_sys.specs.FirstPlaces.{FirstAt}
 use Rattle.lra_poly.specs.Maxima.{StaysInRange, PassesRange}
 use Rattle.lra_poly.specs.Rows.{form_row}
-use Rattle.lra_poly.proofs.FirstMembers.{first_at, one_more, all_gone_through, ok_of}
+use Rattle.lra_sys.proofs.FirstMembers.{first_at, one_more, all_gone_through, ok_of}
 use Rattle.lra_poly.proofs.MaximumLemmas.{many, seen_rows}
 use Rattle.lra_poly.proofs.maximum.first_wide.Goals as goal
 

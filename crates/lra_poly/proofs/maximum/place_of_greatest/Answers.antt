@@ -5,7 +5,7 @@ use Rattle.lra_sys.specs.Listed.{is_line}
 use Rattle.lra_sys.specs.declared.system.GenKind.TheVariants.{Point}
 use Rattle.lra_poly.specs.Maxima.{StaysInRange}
 use Rattle.lra_poly.specs.Rows.{form_row}
-use Rattle.lra_poly.proofs.FirstMembers.{at_member}
+use Rattle.lra_sys.proofs.FirstMembers.{at_member}
 use Rattle.lra_poly.proofs.MaximumLemmas.{best_found, best_kept, best_taken, many, rows_seen}
 use Rattle.lra_poly.proofs.maximum.place_of_greatest.Goals.{then-exceeds, else-exceeds}
 use Rattle.lra_poly.proofs.maximum.place_of_greatest.Goals as goal

@@ -4,7 +4,7 @@ use Rattle.lra_linear.specs.Polyhedra.{positivity}
 use Rattle.lra_cone.specs.Cones.{saturation_of as by_rays}
 use Rattle.lra_sys.specs.Listed.{given_by, is_line}
 use Rattle.lra_poly.specs.Saturations.{saturation_of}
-use Rattle.lra_poly.proofs.FirstMembers.{front}
+use Rattle.lra_sys.proofs.FirstMembers.{front}
 use Rattle.lra_poly.proofs.start.ray_saturation.Given as goal
 
 abbrev pub invariant-loop-place : goal.invariant-loop-place

@@ -5,7 +5,7 @@ use Rattle.lra_linear.specs.declared.ConKind.TheVariants.{Ge}
 use Rattle.lra_linear.specs.Descriptions.{Given}
 use Rattle.lra_linear.specs.Kinds.{is_equality}
 use Rattle.lra_linear.specs.OperationStrain.{valid_on}
-use Rattle.lra_poly.proofs.FirstMembers.{front, member}
+use Rattle.lra_sys.proofs.FirstMembers.{front, member}
 use Rattle.lra_sys.specs.Listed.{constraints}
 use Rattle.lra_widen.specs.Rank.{kept}
 use Rattle.lra_widen.specs.Validity.{IsValidity}

@@ -2,7 +2,7 @@
 use Rattle.std.proofs.Common.{arith, ap, sym, ◌∙◌, ◌≡◌, ◌+◌, [], length}
 use Rattle.lra_linear.specs.declared.ConKind.TheVariants.{Ge}
 use Rattle.lra_linear.specs.Kinds.{is_equality}
-use Rattle.lra_poly.proofs.FirstMembers.{front, member}
+use Rattle.lra_sys.proofs.FirstMembers.{front, member}
 use Rattle.lra_sys.specs.Listed.{constraints}
 use Rattle.lra_widen.specs.Rank.{held, holds_in_range}
 use Rattle.lra_widen.proofs.Loops.{front_seen, front_step, kept_step}

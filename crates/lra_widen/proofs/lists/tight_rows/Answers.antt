@@ -4,7 +4,7 @@ use Rattle.std.specs.List.{filter}
 use Rattle.lra_linear.specs.declared.ConKind.TheVariants.{Ge}
 use Rattle.lra_linear.specs.Kinds.{is_equality}
 use Rattle.lra_linear.specs.Widening.{is_tight}
-use Rattle.lra_poly.proofs.FirstMembers.{front, member}
+use Rattle.lra_sys.proofs.FirstMembers.{front, member}
 use Rattle.lra_sys.specs.Listed.{constraints}
 use Rattle.lra_widen.proofs.Loops.{front_seen, front_step, kept_step}
 use Rattle.lra_widen.proofs.lists.tight_rows.Goals as goal

@@ -4,7 +4,7 @@ use Rattle.std.specs.List.{filter}
 use Rattle.lra_linear.specs.declared.ConKind.TheVariants.{Ge}
 use Rattle.lra_linear.specs.Descriptions.{Given}
 use Rattle.lra_linear.specs.Kinds.{is_equality}
-use Rattle.lra_poly.proofs.FirstMembers.{front, member}
+use Rattle.lra_sys.proofs.FirstMembers.{front, member}
 use Rattle.lra_widen.specs.Rank.{is_free}
 use Rattle.lra_poly.specs.Saturations.{saturated}
 use Rattle.lra_widen.proofs.Loops.{count_few, count_step, front_seen, front_step}

@@ -2,7 +2,7 @@ use Rattle.std.proofs.Common.{◌≡◌, ◌≤◌, List, length, map}
 use Rattle.std.specs.List.{filter}
 use Rattle.lra_linear.specs.Descriptions.{Given}
 use Rattle.lra_linear.specs.Kinds.{is_equality}
-use Rattle.lra_poly.proofs.FirstMembers.{front}
+use Rattle.lra_sys.proofs.FirstMembers.{front}
 use Rattle.lra_widen.specs.Rank.{is_free}
 use Rattle.lra_poly.specs.Saturations.{saturated}
 use Rattle.lra_widen.proofs.ranking.count_free.Given as goal

@@ -7,7 +7,7 @@ use Rattle.std.proofs.lemmas.List.Elements.{All-nil, All-push, All-contains, Con
 use Rattle.lra_linear.specs.Descriptions.{Given}
 use Rattle.lra_linear.proofs.Membership.{contains_head}
 use Rattle.lra_sys.specs.Listed.{given_by}
-use Rattle.lra_poly.specs.FirstPlaces.{FirstAt}
+use Rattle.lra_sys.specs.FirstPlaces.{FirstAt}
 
 -- the member at a place, and those before it
 abbrev pub front : {K : Type 0} → (K → Bool) → List (List ℤ) → List K → ℕ → List Given
