@@ -1,6 +1,6 @@
 //! Reduced echelon forms.
 
-ghost use Rattle.std.specs.Prelude.{◌≡◌, ◌≤◌, ◌<◌, ◌↔◌, ◌++◌, ℕ, [], length, slice_index_or};
+ghost use Rattle.std.specs.Prelude.{◌≡◌, ◌≤◌, ◌<◌, ◌↔◌, ℕ, [], length, slice_index_or};
 ghost use Rattle.std.specs.Prelude.{IsTrue, IfOk, IfErr, OnOk, OnErr};
 ghost use Rattle.std.specs.List.{All};
 ghost use Rattle.lra_linear.specs.Echelon.{Before, IsEchelonOf, pivot};
@@ -11,7 +11,7 @@ ghost use Rattle.lra_canon.specs.Echelons.{IsInserted, IsInsertionExcess, IsExte
 ghost use Rattle.lra_canon.specs.Echelons.{HaveOneWidth, IsFirstRowExcess, IsEchelonExcess};
 
 use crate::reduction::{clear, reduced};
-use lra_row::{Row, RowError};
+use lra_row::{Row, RowError, push_copies};
 use std::alloc::{AllocError, Global};
 
 // Whether column p comes before column q in the order 1, 2, 3 and on, column 0 last.
@@ -64,15 +64,6 @@ fn cleared(alloc: Global, rows: &[Row], line: &Row) -> Result<Vec<Row>, RowError
         out.push(next)?;
     }
     Ok(out)
-}
-
-fn push_copies(rows: &mut Vec<Row>, more: &[Row]) -> Result<(), AllocError>
-    ensures { OnOk result (rows.new.items ≡ rows.old.items ++ more.now) }
-{
-    for row in more {
-        rows.push(row.copy()?)?;
-    }
-    Ok(())
 }
 
 // The line in its place in the form, and the rows before it cleared.

@@ -10,4 +10,4 @@ mod redundancy;
 pub use forms::echelon;
 pub use order::{Order, canonical_order};
 pub use reduction::reduce;
-pub use redundancy::drop_redundant;
+pub use redundancy::{drop_redundant, remove_marked};

@@ -52,8 +52,8 @@ fn redundant(alloc: Global, rows: &[Row], saturation: &SatMatrix) -> Result<BitR
     Ok(gone)
 }
 
-// Takes out the rows that are marked; the others keep their order.
-fn remove_marked(rows: &mut Vec<Row>, gone: &BitRow)
+/// Takes out the rows that are marked; the others keep their order.
+pub fn remove_marked(rows: &mut Vec<Row>, gone: &BitRow)
     requires { length gone.now ≡ length rows.old.items }
     ensures { rows.new.items ≡ unmarked gone.now rows.old.items }
 {

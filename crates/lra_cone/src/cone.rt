@@ -18,9 +18,9 @@ ghost use Rattle.lra_cone.specs.Flat.{AreFlat, IsFlatError};
 use crate::line_step::{Flat, flat_lines, flat_rays, flat_saturation, turned};
 use crate::products::{last_across, products};
 use crate::ray_step::{Cut, RAY_LIMIT, cut_rays};
-use crate::saturation::remove_rows;
 use crate::strained::{ConeError, Family, Strained};
 use lra_bits::SatMatrix;
+use lra_canon::remove_marked;
 use lra_row::Row;
 use lra_sys::{ConKind, ConSys};
 use std::alloc::{AllocError, Global};
@@ -254,7 +254,7 @@ impl Cone {
         self.rays.reserve(new_rays.len())?;
         self.taken.push(row.copy()?, kind)?;
         let _ = self.rays.append(&mut new_rays);
-        remove_rows(&mut self.rays, &gone);
+        remove_marked(&mut self.rays, &gone);
         self.saturation = saturation;
         Ok(())
     }

@@ -12,12 +12,11 @@ ghost use Rattle.lra_cone.specs.Strains.{strained_pair, IsFlatteningError};
 ghost use Rattle.lra_cone.specs.declared.strained.Family.TheVariants.{Lines, Rays};
 ghost use Rattle.lra_linear.specs.Kinds.{is_equality};
 
-use crate::products::opposite;
 use crate::saturation::{all_true, lengthened, one_more, push_lengthened};
 use crate::strained::{ConeError, Family, Member, Strained};
 use lra_bits::SatMatrix;
 use lra_linear::Excess;
-use lra_row::{Row, RowError};
+use lra_row::{Row, RowError, opposite, push_copies};
 use lra_sys::ConKind;
 use std::alloc::{AllocError, Global};
 
@@ -126,16 +125,6 @@ pub fn push_flattened(
                 return Err(ConeError::Strained(strained));
             }
         }
-    }
-    Ok(())
-}
-
-// The rows again, behind what is there.
-pub fn push_copies(out: &mut Vec<Row>, rows: &[Row]) -> Result<(), AllocError>
-    ensures { OnOk result (out.new.items ≡ out.old.items ++ rows.now) }
-{
-    for row in rows {
-        out.push(row.copy()?)?;
     }
     Ok(())
 }

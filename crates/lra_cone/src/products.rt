@@ -1,6 +1,6 @@
 //! The products of a row with the rows of a cone.
 
-ghost use Rattle.std.specs.Prelude.{◌≡◌, neg_ℤ, length, map, IfOk, IfErr};
+ghost use Rattle.std.specs.Prelude.{◌≡◌, length, map, IfOk, IfErr};
 ghost use Rattle.std.specs.List.{All};
 ghost use Rattle.lra_linear.specs.Range.{InRange};
 ghost use Rattle.lra_linear.specs.Vectors.{product};
@@ -47,13 +47,4 @@ pub fn last_across(products: &[i128]) -> Option<usize>
         }
     }
     last
-}
-
-// The number times -1.
-pub fn opposite(number: i128) -> i128
-    requires { InRange number }
-    ensures value { result ≡ neg_ℤ number }
-    ensures in_range { InRange result }
-{
-    -number
 }

@@ -13,11 +13,10 @@ ghost use Rattle.lra_cone.specs.Strains.{IsPairError, ArePairsError, IsCutError}
 ghost use Rattle.lra_cone.specs.declared.strained.Family.TheVariants.{Rays};
 
 use crate::pairs::{Pair, adjacent_pairs};
-use crate::products::opposite;
 use crate::saturation::{lengthened, one_more, push_lengthened, tight};
 use crate::strained::{ConeError, Family, Member, Strained};
 use lra_bits::{BitRow, SatMatrix};
-use lra_row::{Row, RowError};
+use lra_row::{Row, RowError, opposite};
 use lra_sys::ConKind;
 use std::alloc::{AllocError, Global};
 

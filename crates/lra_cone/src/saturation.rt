@@ -2,11 +2,9 @@
 
 ghost use Rattle.std.specs.Prelude.{◌≡◌, ◌+◌, ◌++◌, ◌∷◌, [], pos, suc, length, map, replicate, true, IfOk, OnOk};
 ghost use Rattle.std.specs.Ordering.{int_eq};
-ghost use Rattle.lra_bits.specs.Matrix.{unmarked};
 ghost use Rattle.lra_cone.specs.Steps.{lengthened_rows};
 
 use lra_bits::{BitRow, SatMatrix};
-use lra_row::Row;
 use std::alloc::{AllocError, Global};
 
 // So many truth values, all true.
@@ -71,19 +69,4 @@ pub fn push_lengthened(
         wider.add_row(row)?;
     }
     Ok(())
-}
-
-// Takes out the rows that are marked as gone; the others keep their order.
-pub fn remove_rows(rows: &mut Vec<Row>, gone: &BitRow)
-    requires { length gone.now ≡ length rows.old.items }
-    ensures { rows.new.items ≡ unmarked gone.now rows.old.items }
-{
-    let mut kept = 0;
-    for k in 0..rows.len() {
-        if !gone.get(k) {
-            rows.swap(kept, k);
-            kept += 1;
-        }
-    }
-    rows.truncate(kept);
 }

@@ -11,5 +11,5 @@ mod row;
 
 pub use error::RowError;
 pub use lra_linear::{Excess, Operation};
-pub use number::{add, floor_div, gcd, mul, ratio_cmp};
-pub use row::Row;
+pub use number::{add, floor_div, gcd, mul, opposite, ratio_cmp};
+pub use row::{Row, push_copies};

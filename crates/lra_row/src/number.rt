@@ -122,7 +122,7 @@ pub fn sum_of(left: i128, right: i128) -> Result<i128, Excess>
     })
 }
 
-// The number times -1.
+/// The number times -1.
 pub fn opposite(a: i128) -> i128
     requires { InRange a }
     ensures value { result ≡ neg_ℤ a }

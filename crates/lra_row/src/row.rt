@@ -1,7 +1,7 @@
 //! Rows of exact numbers.
 
 ghost use Rattle.std.specs.Prelude.{◌≡◌, ◌≤◌, ◌<◌, ℕ, ℤ, pos, neg_ℤ, ◌+ℤ◌, ◌*ℤ◌, ◌<ℤ◌, length, List, ◌∷◌, ◌+◌, IfOk};
-ghost use Rattle.std.specs.Prelude.{IfErr};
+ghost use Rattle.std.specs.Prelude.{◌++◌, IfErr, OnOk};
 ghost use Rattle.std.specs.List.{All};
 ghost use Rattle.std.specs.Cmp.{IsTotalOrder};
 ghost use Rattle.std.specs.FinMap.{IsAntisymmetric};
@@ -211,4 +211,14 @@ impl Row {
     {
         entries::compare(self.entries.as_slice(), other.entries.as_slice())
     }
+}
+
+/// Puts copies of the rows behind what is there.
+pub fn push_copies(rows: &mut Vec<Row>, more: &[Row]) -> Result<(), AllocError>
+    ensures { OnOk result (rows.new.items ≡ rows.old.items ++ more.now) }
+{
+    for row in more {
+        rows.push(row.copy()?)?;
+    }
+    Ok(())
 }

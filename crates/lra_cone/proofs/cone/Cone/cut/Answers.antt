@@ -47,8 +47,8 @@ cut_rays-requires-clause-widths c =
     let er : products ≡ map (product row) s.rays = c.requires.of_rays ∙ ap (λ (x : Shape). map (product row) x.rays) (sym c.self.view_is) in
     rays_have_one_width s c.deref.result.now k c.deref.ensures.value
 
-pub remove_rows-requires : goal.remove_rows-requires
-remove_rows-requires c =
+pub remove_marked-requires : goal.remove_marked-requires
+remove_marked-requires c =
     let i = c.self.inside in
     let s : Shape = record { dims = i.taken.dims; taken = constraints i.taken; lines = i.lines.items; rays = i.rays.items } in
     let k : IsCone s = c.self.invariant.0 in
@@ -81,7 +81,7 @@ invariant_of-self-2 c =
     let flat : (l : List ℤ) → Contains s.lines l → product row l ≡ pos 0 = λ l m. All-contains (λ y. product row y ≡ pos 0) s.lines l
     (subst (λ (z : Shape). All (λ y. product row y ≡ pos 0) z.lines) (sym c.self.view_is) c.requires.flat) m in
     let fresh = unmarked cut.gone (s.rays ++ cut.rays.items) in
-    let new : c.remove_rows.new.rows.items ≡ fresh = c.remove_rows.ensures ∙ ap (unmarked cut.gone) added in
+    let new : c.remove_marked.new.rows.items ≡ fresh = c.remove_marked.ensures ∙ ap (unmarked cut.gone) added in
     let case = cut_taken s g products i.saturation cut k er c.self.invariant.1 x in
     let met = ray_met s g fresh k w flat case in
     let kinds = c.in_ok-push.ensures.kinds in
@@ -113,14 +113,14 @@ returns-clause-ok c =
     let flat : (l : List ℤ) → Contains s.lines l → product row l ≡ pos 0 = λ l m. All-contains (λ y. product row y ≡ pos 0) s.lines l
     (subst (λ (z : Shape). All (λ y. product row y ≡ pos 0) z.lines) (sym c.self.view_is) c.requires.flat) m in
     let fresh = unmarked cut.gone (s.rays ++ cut.rays.items) in
-    let new : c.remove_rows.new.rows.items ≡ fresh = c.remove_rows.ensures ∙ ap (unmarked cut.gone) added in
+    let new : c.remove_marked.new.rows.items ≡ fresh = c.remove_marked.ensures ∙ ap (unmarked cut.gone) added in
     let case = cut_taken s g products i.saturation cut k er c.self.invariant.1 x in
     let met = ray_met s g fresh k w flat case in
     let kinds = c.in_ok-push.ensures.kinds in
     let rows = c.in_ok-push.ensures.rows ∙ ap (λ (y : List ℤ). i.taken.rows ++ y ∷ []) c.in_ok-copy.ensures in
     let taken = ap (λ (y : List (List ℤ)). given_by is_equality y c.push.new.self.kinds) rows ∙ ap (λ (y : List ConKind). given_by is_equality (i.taken.rows ++ row ∷ []) y) kinds ∙
     constraints_push is_equality i.taken.rows i.taken.kinds row c.args.kind c.self.invariant.2 in
-    subst (λ (z : Shape). IsTakenIn z g (record { dims = c.push.new.self.dims; taken = constraints c.push.new.self; lines = s.lines; rays = c.remove_rows.new.rows.items })) c.self.view_is
+    subst (λ (z : Shape). IsTakenIn z g (record { dims = c.push.new.self.dims; taken = constraints c.push.new.self; lines = s.lines; rays = c.remove_marked.new.rows.items })) c.self.view_is
     (record { dims = c.in_ok-push.ensures.dims; taken = taken; met = subst (λ (y : List (List ℤ)). IsMet (suc s.dims) g.equal row (all_rows s.lines s.rays) (all_rows s.lines y)) (sym new) met })
 
 pub returns-in_err-made-clause-strained : goal.returns-in_err-made-clause-strained
