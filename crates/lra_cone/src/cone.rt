@@ -1,13 +1,14 @@
 //! Cones.
 
 ghost use Rattle.std.specs.Prelude.{◌≡◌, ◌≢◌, ◌++◌, ◌∷◌, [], suc, pos, ◌<◌, ◌≤◌, slice_index_or};
-ghost use Rattle.std.specs.Prelude.{◌^◌, Some, length, map, IfOk, IfErr, OnOk, OnErr};
+ghost use Rattle.std.specs.Prelude.{Some, length, map, IfOk, IfErr, OnOk, OnErr};
 ghost use Rattle.std.specs.List.{All};
 ghost use Rattle.lra_linear.specs.Range.{InRange};
 ghost use Rattle.lra_linear.specs.Vectors.{product};
 ghost use Rattle.lra_linear.specs.OperationStrain.{unit_row};
 ghost use Rattle.lra_linear.specs.Cones.{all_rows};
 ghost use Rattle.lra_linear.specs.ConeStrain.{IsMet};
+ghost use Rattle.lra_sys.specs.Dimensions.{too_many_dimensions};
 ghost use Rattle.lra_sys.specs.Listed.{constraints};
 ghost use Rattle.lra_linear.specs.Kinds.{is_equality};
 ghost use Rattle.lra_cone.specs.Cones.{Shape, IsCone, IsTakenIn, saturation_of, whole_space};
@@ -65,7 +66,7 @@ impl Model for Cone {
 impl Cone {
     /// All vectors of n + 1 columns: no row is taken in.
     pub fn whole(alloc: Global, n: usize) -> Result<Cone, AllocError>
-        requires { n < 2 ^ 62 }
+        requires { n < too_many_dimensions }
         ensures { IfOk result (λ cone. cone ≡ whole_space n) }
     {
         let mut lines = Vec::with_capacity(alloc, n + 1)?;
@@ -262,7 +263,7 @@ impl Cone {
 
 /// The row of n + 1 columns with 1 in this column and 0 elsewhere.
 pub fn unit(alloc: Global, n: usize, column: usize) -> Result<Row, AllocError>
-    requires small { n < 2 ^ 62 }
+    requires small { n < too_many_dimensions }
     requires column { column ≤ n }
     ensures { IfOk result (λ row. row ≡ unit_row n column) }
 {

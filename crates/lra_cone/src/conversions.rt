@@ -1,7 +1,8 @@
 //! Rows taken in one by one; those that strain the cone are left out.
 
-ghost use Rattle.std.specs.Prelude.{◌≡◌, ◌++◌, ◌∷◌, [], List, suc, length, ◌<◌, ◌^◌, IfOk, OnOk};
+ghost use Rattle.std.specs.Prelude.{◌≡◌, ◌++◌, ◌∷◌, [], List, suc, length, ◌<◌, IfOk, OnOk};
 ghost use Rattle.lra_linear.specs.Descriptions.{Given};
+ghost use Rattle.lra_sys.specs.Dimensions.{too_many_dimensions};
 ghost use Rattle.lra_sys.specs.Listed.{constraints};
 ghost use Rattle.lra_linear.specs.Kinds.{is_equality};
 ghost use Rattle.lra_cone.specs.Conversions.{IsConversion};
@@ -52,7 +53,7 @@ impl Conversion {
 
 /// Takes the rows into the cone in their order. One that strains it is left out, and the next is tried.
 pub fn take_rows(alloc: Global, start: Cone, rows: &ConSys) -> Result<Conversion, AllocError>
-    requires small { rows.now.dims < 2 ^ 62 }
+    requires small { rows.now.dims < too_many_dimensions }
     requires dims { rows.now.dims ≡ start.dims }
     ensures dims { IfOk result (λ c. c.cone.dims ≡ start.dims) }
     ensures kept_dims { IfOk result (λ c. c.kept.dims ≡ start.dims) }

@@ -21,5 +21,6 @@ pub use conversions::{Conversion, take_rows};
 pub use lists::{constrain, dual_rows, generate, has_point, nothing, positive_cone, valid_list};
 pub use losses::{GivenRow, Loss};
 pub use lra_sys::ConKind;
+pub use ray_step::RAY_LIMIT;
 pub use shown::{constraint_list, generator_list};
 pub use strained::{ConeError, Family, Member, Strained};

@@ -1,6 +1,6 @@
 //! Conversions of lists of constraints and of generators.
 
-ghost use Rattle.std.specs.Prelude.{◌≡◌, ◌≢◌, ◌↔◌, ◌∷◌, [], suc, length, map, ◌<◌, ◌^◌, IsTrue, IsFalse, IfOk};
+ghost use Rattle.std.specs.Prelude.{◌≡◌, ◌≢◌, ◌↔◌, ◌∷◌, [], suc, length, map, ◌<◌, IsTrue, IsFalse, IfOk};
 ghost use Rattle.std.specs.List.{All, Contains};
 ghost use Rattle.lra_linear.specs.Descriptions.{Given, Con, Gen, inequality};
 ghost use Rattle.lra_linear.specs.OperationStrain.{unit_row, with_positivity};
@@ -8,6 +8,7 @@ ghost use Rattle.lra_linear.specs.Points.{IsWithin, SameSet};
 ghost use Rattle.lra_linear.specs.Polyhedra.{positivity};
 ghost use Rattle.lra_linear.specs.Strain.{Strains};
 ghost use Rattle.lra_linear.specs.Vectors.{negated};
+ghost use Rattle.lra_sys.specs.Dimensions.{too_many_dimensions};
 ghost use Rattle.lra_sys.specs.Listed.{constraints, generators, FitKinds};
 ghost use Rattle.lra_linear.specs.Kinds.{is_equality};
 ghost use Rattle.lra_linear.specs.declared.ConKind.TheVariants.{Ge};
@@ -22,15 +23,12 @@ use crate::conversions::{Conversion, take_rows};
 use crate::losses::Loss;
 use crate::shown::{constraint_list, generator_list};
 use lra_row::Row;
-use lra_sys::{ConKind, ConSys, GenKind, GenSys};
+use lra_sys::{ConKind, ConSys, GenKind, GenSys, TOO_MANY_DIMENSIONS};
 use std::alloc::{AllocError, Global};
-
-// No memory holds a row of so many columns.
-const TOO_MANY_DIMENSIONS: usize = 1 << 62;
 
 /// The cone of the points of n dimensions: the positivity row, which says that column 0 is at least 0, is taken in.
 pub fn positive_cone(alloc: Global, n: usize) -> Result<Cone, AllocError>
-    requires { n < 2 ^ 62 }
+    requires { n < too_many_dimensions }
     ensures dims { IfOk result (λ cone. cone.dims ≡ n) }
     ensures taken { IfOk result (λ cone. cone.taken ≡ inequality (positivity n) ∷ []) }
 {
@@ -85,7 +83,7 @@ fn dual_kind(kind: GenKind) -> ConKind
 
 /// The generators as rows of the cone of what is valid on them.
 pub fn dual_rows(alloc: Global, given: &GenSys) -> Result<ConSys, AllocError>
-    requires { given.now.dims < 2 ^ 62 }
+    requires { given.now.dims < too_many_dimensions }
     ensures dims { IfOk result (λ rows. rows.dims ≡ given.now.dims) }
     ensures rows { IfOk result (λ rows. rows.rows ≡ given.now.rows) }
     ensures kinds { IfOk result (λ rows. rows.kinds ≡ map dual_kind given.now.kinds) }
@@ -162,7 +160,7 @@ pub fn has_point(kinds: &[GenKind]) -> bool
 
 /// The one row -1 >= 0, which holds at no point.
 pub fn nothing(alloc: Global, n: usize) -> Result<ConSys, AllocError>
-    requires { n < 2 ^ 62 }
+    requires { n < too_many_dimensions }
     ensures dims { IfOk result (λ list. list.dims ≡ n) }
     ensures rows { IfOk result (λ list. list.rows ≡ negated (unit_row n 0) ∷ []) }
     ensures kinds { IfOk result (λ list. list.kinds ≡ Ge ∷ []) }
@@ -179,7 +177,7 @@ pub fn valid_list(
     conversion: &Conversion,
     rows: &ConSys,
 ) -> Result<ConSys, AllocError>
-    requires small { rows.now.dims < 2 ^ 62 }
+    requires small { rows.now.dims < too_many_dimensions }
     requires dims { conversion.now.cone.dims ≡ rows.now.dims }
     ensures cone { IsCone conversion.now.cone }
     ensures dims { IfOk result (λ list. list.dims ≡ rows.now.dims) }

@@ -20,7 +20,7 @@ use lra_row::{Row, RowError, opposite};
 use lra_sys::ConKind;
 use std::alloc::{AllocError, Global};
 
-// The most rays of a cone.
+/// The most rays of a cone, and the most inequalities of a description.
 pub const RAY_LIMIT: usize = 4096;
 
 // Marks the rays whose product isn't as the kind asks; so many further places behind them are not marked.

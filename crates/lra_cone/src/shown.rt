@@ -1,6 +1,6 @@
 //! The lists that are shown of a cone.
 
-ghost use Rattle.std.specs.Prelude.{◌≡◌, ◌++◌, ◌<◌, ◌^◌, suc, pos, int_lt, length, replicate, IfOk, OnOk};
+ghost use Rattle.std.specs.Prelude.{◌≡◌, ◌++◌, ◌<◌, suc, pos, int_lt, length, replicate, IfOk, OnOk};
 ghost use Rattle.std.specs.List.{All};
 ghost use Rattle.std.specs.List.Sorted.{IsPermutation, IsSorted};
 ghost use Rattle.std.specs.Ordering.{is_eq};
@@ -8,6 +8,7 @@ ghost use Rattle.lra_linear.specs.Vectors.{entry};
 ghost use Rattle.lra_linear.specs.RowOrder.{row_cmp};
 ghost use Rattle.lra_linear.specs.Polyhedra.{positivity};
 ghost use Rattle.lra_cone.specs.Conversions.{points_of, directions_of, without, ShowsGenerators, ShowsConstraints};
+ghost use Rattle.lra_sys.specs.Dimensions.{too_many_dimensions};
 
 use lra_canon::{Order, canonical_order};
 use lra_row::Row;
@@ -125,7 +126,7 @@ pub fn generator_list(
     lines: &[Row],
     rays: &[Row],
 ) -> Result<GenSys, AllocError>
-    requires small { n < 2 ^ 62 }
+    requires small { n < too_many_dimensions }
     requires lines { All (λ r. length r ≡ suc n) lines.now }
     requires rays { All (λ r. length r ≡ suc n) rays.now }
     ensures dims { IfOk result (λ list. list.dims ≡ n) }
@@ -151,7 +152,7 @@ pub fn constraint_list(
     left_out: &Row,
     n: usize,
 ) -> Result<ConSys, AllocError>
-    requires small { n < 2 ^ 62 }
+    requires small { n < too_many_dimensions }
     requires lines { All (λ r. length r ≡ suc n) lines.now }
     requires rays { All (λ r. length r ≡ suc n) rays.now }
     requires left_out { left_out.now ≡ positivity n }

@@ -1,6 +1,6 @@
 //! Generators and constraints formed anew by a form, which takes the place of a coordinate.
 
-ghost use Rattle.std.specs.Prelude.{◌≡◌, ◌≢◌, ◌<◌, ◌^◌, suc, List, take, length, IfOk, IfErr};
+ghost use Rattle.std.specs.Prelude.{◌≡◌, ◌≢◌, ◌<◌, suc, List, take, length, IfOk, IfErr};
 ghost use Rattle.std.specs.List.{Contains};
 ghost use Rattle.lra_linear.specs.CheckedArithmetic.{checked_product, checked_substitution};
 ghost use Rattle.lra_linear.specs.Descriptions.{Given};
@@ -8,16 +8,16 @@ ghost use Rattle.lra_linear.specs.Kinds.{is_equality};
 ghost use Rattle.lra_linear.specs.OperationStrain.{FormingPasses, mapped, substituted_rows};
 ghost use Rattle.lra_linear.specs.SetOperations.{assigned};
 ghost use Rattle.lra_row.specs.Rows.{IsExcessOf};
+ghost use Rattle.lra_sys.specs.Dimensions.{too_many_dimensions};
 ghost use Rattle.lra_sys.specs.Listed.{constraints, generators, given_by, FitKinds};
 ghost use Rattle.lra_poly.specs.Outcomes.{IfExact, IfFlagged};
 ghost use Rattle.lra_maps.specs.Forming.{IsLossAt};
 
-use crate::lists::TOO_MANY_DIMENSIONS;
 use lra_cone::{Loss, dual_rows};
 use lra_linear::{Cause, Excess};
 use lra_poly::Outcome;
 use lra_row::{Row, RowError};
-use lra_sys::{ConSys, GenSys};
+use lra_sys::{ConSys, GenSys, TOO_MANY_DIMENSIONS};
 use std::alloc::{AllocError, Global};
 
 // The first rows of the list.
@@ -57,7 +57,7 @@ fn generator_loss(
     place: usize,
     excess: Excess,
 ) -> Result<Loss, AllocError>
-    requires small { list.now.dims < 2 ^ 62 }
+    requires small { list.now.dims < too_many_dimensions }
     requires place { place < length list.now.rows }
     ensures { IfOk result (IsLossAt (generators list.now) list.now.rows place excess) }
 {

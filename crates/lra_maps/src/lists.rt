@@ -1,19 +1,17 @@
 //! Generators as the operations take them in.
 
-ghost use Rattle.std.specs.Prelude.{◌≡◌, ◌++◌, ◌∷◌, [], ◌<◌, ◌≤◌, ◌+◌, ◌^◌, suc, take, length, map, List, ℤ, pos, true};
+ghost use Rattle.std.specs.Prelude.{◌≡◌, ◌++◌, ◌∷◌, [], ◌<◌, ◌≤◌, ◌+◌, suc, take, length, map, List, ℤ, pos, true};
 ghost use Rattle.std.specs.Prelude.{IfOk};
 ghost use Rattle.lra_linear.specs.Descriptions.{given_as, line};
 ghost use Rattle.lra_linear.specs.OperationStrain.{as_directions, shortened, unit_row};
 ghost use Rattle.lra_linear.specs.Vectors.{cleared, entry, units, zeros};
+ghost use Rattle.lra_sys.specs.Dimensions.{too_many_dimensions};
 ghost use Rattle.lra_sys.specs.Listed.{generators, FitKinds, FitsKind, is_line};
 
 use lra_cone::unit;
 use lra_row::Row;
-use lra_sys::{GenKind, GenSys};
+use lra_sys::{GenKind, GenSys, TOO_MANY_DIMENSIONS};
 use std::alloc::{AllocError, Global};
-
-// From so many dimensions on there is no memory for a row.
-pub const TOO_MANY_DIMENSIONS: usize = 1 << 62;
 
 // The generators, then a line along a dimension.
 pub fn with_line(alloc: Global, list: &GenSys, x: usize) -> Result<GenSys, AllocError>
@@ -118,7 +116,7 @@ fn longer(alloc: Global, row: &Row, k: usize) -> Result<Row, AllocError>
 
 // The generators with k more columns of zeros.
 fn longer_list(alloc: Global, list: &GenSys, k: usize) -> Result<GenSys, AllocError>
-    requires small { list.now.dims + k < 2 ^ 62 }
+    requires small { list.now.dims + k < too_many_dimensions }
     requires kinds { FitKinds list.now.rows list.now.kinds }
     ensures dims { IfOk result (λ all. all.dims ≡ list.now.dims + k) }
     ensures generators { IfOk result (λ all. generators all ≡
@@ -136,7 +134,7 @@ fn longer_list(alloc: Global, list: &GenSys, k: usize) -> Result<GenSys, AllocEr
 // The generators, then a line along each of the dimensions behind the first n.
 fn with_new_lines(alloc: Global, list: GenSys, n: usize, k: usize) -> Result<GenSys, AllocError>
     requires dims { list.dims ≡ n + k }
-    requires small { n + k < 2 ^ 62 }
+    requires small { n + k < too_many_dimensions }
     requires kinds { FitKinds list.rows list.kinds }
     ensures dims { IfOk result (λ all. all.dims ≡ n + k) }
     ensures generators { IfOk result (λ all. generators all ≡
@@ -153,7 +151,7 @@ fn with_new_lines(alloc: Global, list: GenSys, n: usize, k: usize) -> Result<Gen
 
 // The generators with k more dimensions, in which the coordinates may be anything.
 pub fn embedded(alloc: Global, list: &GenSys, k: usize) -> Result<GenSys, AllocError>
-    requires small { list.now.dims + k < 2 ^ 62 }
+    requires small { list.now.dims + k < too_many_dimensions }
     requires kinds { FitKinds list.now.rows list.now.kinds }
     ensures dims { IfOk result (λ all. all.dims ≡ list.now.dims + k) }
     ensures generators { IfOk result (λ all. generators all ≡

@@ -1,6 +1,6 @@
 //! Operations that change a polyhedron.
 
-ghost use Rattle.std.specs.Prelude.{◌≡◌, ◌⊎◌, ◌<◌, ◌≤◌, ◌-◌, ◌+◌, ◌^◌, suc, IfOk, OnErr, OnOk};
+ghost use Rattle.std.specs.Prelude.{◌≡◌, ◌⊎◌, ◌<◌, ◌≤◌, ◌-◌, ◌+◌, suc, IfOk, OnErr, OnOk};
 ghost use Rattle.lra_linear.specs.Descriptions.{Con, Gen};
 ghost use Rattle.lra_linear.specs.OperationStrain.{FromGeneratorsStrains, EmbedStrains, ForgetStrains};
 ghost use Rattle.lra_linear.specs.OperationStrain.{RemoveLastStrains, TimeElapseStrains};
@@ -8,6 +8,7 @@ ghost use Rattle.lra_linear.specs.Points.{IsEmptySet, IsWithin};
 ghost use Rattle.lra_linear.specs.Polyhedra.{IsPolyhedron, IsPolyhedronOf};
 ghost use Rattle.lra_linear.specs.SetOperations.{Embed, Forget, RemoveLast, TimeElapse};
 ghost use Rattle.lra_poly.specs.Outcomes.{IfExact, IfFlagged};
+ghost use Rattle.lra_sys.specs.Dimensions.{too_many_dimensions};
 ghost use Rattle.lra_sys.specs.Listed.{generators, FitKinds};
 
 use crate::lists::{embedded, shortened, with_directions, with_line};
@@ -67,7 +68,7 @@ pub fn remove_last(p: &mut Poly, k: usize) -> Result<Outcome, AllocError>
 /// Adds k dimensions, the last ones, in which the coordinates may be anything: becomes the set of its points with any
 /// coordinates behind them. Where it is flagged it has at least those.
 pub fn embed(p: &mut Poly, k: usize) -> Result<Outcome, AllocError>
-    requires { p.old.dims + k < 2 ^ 62 }
+    requires { p.old.dims + k < too_many_dimensions }
     ensures dims { OnOk result (p.new.dims ≡ p.old.dims + k) }
     ensures exact { IfOk result (IfExact
         (IsPolyhedronOf (p.old.dims + k) (Embed p.old.dims (Con p.old.rows)) p.new)) }

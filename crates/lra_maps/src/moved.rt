@@ -1,6 +1,6 @@
 //! Images and preimages by a form that can be taken back: both lists of a polyhedron are moved, with no conversion.
 
-ghost use Rattle.std.specs.Prelude.{◌≡◌, ◌↔◌, ◌<◌, ◌^◌, IsTrue, suc, pos, negsuc, map, length, slice_set, IfOk, IfSome};
+ghost use Rattle.std.specs.Prelude.{◌≡◌, ◌↔◌, ◌<◌, IsTrue, suc, pos, negsuc, map, length, slice_set, IfOk, IfSome};
 ghost use Rattle.lra_canon.specs.Echelons.{HaveWidth};
 ghost use Rattle.lra_linear.specs.Descriptions.{Con, lines_of, rays_of};
 ghost use Rattle.lra_linear.specs.Echelon.{IsEchelonOf};
@@ -10,16 +10,16 @@ ghost use Rattle.lra_linear.specs.SetOperations.{Image, Preimage, assigned};
 ghost use Rattle.lra_linear.specs.Vectors.{entry, negated, substituted};
 ghost use Rattle.lra_maps.specs.Moving.{TakesBack, IsSubstitutedList, IsAssignedList};
 ghost use Rattle.lra_pair.specs.OwnLists.{AreReducedBy};
+ghost use Rattle.lra_sys.specs.Dimensions.{too_many_dimensions};
 ghost use Rattle.lra_sys.specs.Listed.{constraints, generators};
 
 use crate::forming::assigned_row;
-use crate::lists::TOO_MANY_DIMENSIONS;
 use lra_canon::echelon;
 use lra_cone::{constraint_list, generator_list, unit};
 use lra_pair::{Own, all_reduced};
 use lra_poly::Poly;
 use lra_row::{Row, RowError};
-use lra_sys::{ConKind, ConSys, GenKind, GenSys};
+use lra_sys::{ConKind, ConSys, GenKind, GenSys, TOO_MANY_DIMENSIONS};
 use std::alloc::{AllocError, Global};
 
 fn is_one(row: &Row, column: usize) -> bool
@@ -137,7 +137,7 @@ fn substituted_canonical(
     column: usize,
     form: &Row,
 ) -> Result<ConSys, RowError>
-    requires small { list.now.dims < 2 ^ 62 }
+    requires small { list.now.dims < too_many_dimensions }
     requires column { column < suc list.now.dims }
     requires width { length form.now ≡ suc list.now.dims }
     ensures dims { IfOk result (λ made. made.dims ≡ list.now.dims) }
@@ -158,7 +158,7 @@ fn assigned_canonical(
     column: usize,
     form: &Row,
 ) -> Result<GenSys, RowError>
-    requires small { list.now.dims < 2 ^ 62 }
+    requires small { list.now.dims < too_many_dimensions }
     requires column { column < suc list.now.dims }
     requires width { length form.now ≡ suc list.now.dims }
     ensures dims { IfOk result (λ made. made.dims ≡ list.now.dims) }

@@ -1,6 +1,6 @@
 //! The canonical list of a list's own kind, from the cone that its rows were taken into.
 
-ghost use Rattle.std.specs.Prelude.{◌≡◌, ◌↔◌, ◌++◌, ◌∷◌, [], ℕ, List, ℤ, true, ◌+◌, ◌<◌, ◌≤◌, ◌^◌, suc, length};
+ghost use Rattle.std.specs.Prelude.{◌≡◌, ◌↔◌, ◌++◌, ◌∷◌, [], ℕ, List, ℤ, true, ◌+◌, ◌<◌, ◌≤◌, suc, length};
 ghost use Rattle.std.specs.Prelude.{IsTrue, IfOk, IfErr, OnOk, slice_index_or};
 ghost use Rattle.std.specs.List.{All};
 ghost use Rattle.lra_bits.specs.TruthValues.{value_at};
@@ -12,10 +12,11 @@ ghost use Rattle.lra_canon.specs.Reduced.{IsForm, IsReductionExcess};
 ghost use Rattle.lra_canon.specs.Echelons.{HaveWidth};
 ghost use Rattle.lra_pair.specs.OwnLists.{TellsTight, AreParts, AreReducedBy, AnyReductionExcess};
 ghost use Rattle.lra_pair.specs.OwnLists.{IsOwnCause, IsOwnList, IsOwnExcess, tight_value};
+ghost use Rattle.lra_sys.specs.Dimensions.{too_many_dimensions};
 
 use lra_bits::{BitRow, SatMatrix};
 use lra_canon::{drop_redundant, echelon, reduce};
-use lra_cone::Cone;
+use lra_cone::{Cone, RAY_LIMIT};
 use lra_linear::Cause;
 use lra_row::{Row, RowError};
 use std::alloc::{AllocError, Global};
@@ -164,7 +165,7 @@ pub struct Own {
 /// The canonical description of what the rows taken into the cone generate: of constraints the canonical equalities and
 /// inequalities, of generators the canonical lines and rays. Or names a number that passes the range in it.
 pub fn own_list(alloc: Global, cone: &Cone) -> Result<Own, RowError>
-    requires { cone.now.dims < 2 ^ 62 }
+    requires { cone.now.dims < too_many_dimensions }
     ensures ok { IfOk result (λ own. IsOwnList cone.now own.lines.items own.rays.items) }
     ensures excess { IfErr result (IsOwnExcess cone.now) }
 {
@@ -179,13 +180,10 @@ pub fn own_list(alloc: Global, cone: &Cone) -> Result<Own, RowError>
     Ok(Own { lines, rays })
 }
 
-// The most inequalities of a description, and the most points and rays together.
-const RAY_LIMIT: usize = 4096;
-
 /// The canonical description of what the rows taken into the cone generate, within the limit of a description; or why
 /// there is none: a number passes the range in it, or it has too many rays.
 pub fn limited_list(alloc: Global, cone: &Cone) -> Result<Result<Own, Cause>, AllocError>
-    requires { cone.now.dims < 2 ^ 62 }
+    requires { cone.now.dims < too_many_dimensions }
     ensures list { IfOk result (λ list. IfOk list (λ own. IsOwnList cone.now own.lines.items own.rays.items)) }
     ensures few { IfOk result (λ list. IfOk list (λ own. length own.rays.items ≤ row_limit)) }
     ensures cause { IfOk result (λ list. IfErr list (IsOwnCause cone.now)) }

@@ -1,11 +1,12 @@
 //! Both canonical lists of a polyhedron.
 
-ghost use Rattle.std.specs.Prelude.{◌≡◌, ◌∷◌, ◌++◌, ◌<◌, ◌^◌, [], List, suc, length, drop, IfOk, IfSome, OnOk};
+ghost use Rattle.std.specs.Prelude.{◌≡◌, ◌∷◌, ◌++◌, ◌<◌, [], List, suc, length, drop, IfOk, IfSome, OnOk};
 ghost use Rattle.std.specs.List.{Contains};
 ghost use Rattle.lra_linear.specs.Descriptions.{AreGenerators, Con, Gen, Given, inequality};
 ghost use Rattle.lra_linear.specs.OperationStrain.{FromRowsStrains, FromGeneratorsStrains};
 ghost use Rattle.lra_linear.specs.Points.{IsEmptySet, IsWithin};
 ghost use Rattle.lra_linear.specs.Polyhedra.{IsPolyhedron, IsPolyhedronOf, falsity};
+ghost use Rattle.lra_sys.specs.Dimensions.{too_many_dimensions};
 ghost use Rattle.lra_sys.specs.Listed.{constraints, generators, FitKinds};
 ghost use Rattle.lra_cone.specs.Cones.{IsCone};
 ghost use Rattle.lra_linear.specs.Strain.{Strains};
@@ -22,7 +23,7 @@ use lra_cone::{
     positive_cone, take_rows, unit, valid_list,
 };
 use lra_linear::Cause;
-use lra_sys::{ConSys, GenSys};
+use lra_sys::{ConSys, GenSys, TOO_MANY_DIMENSIONS};
 use std::alloc::{AllocError, Global};
 use std::marker::Model;
 
@@ -84,12 +85,9 @@ impl Pair {
     }
 }
 
-// No memory holds a row of so many columns.
-const TOO_MANY_DIMENSIONS: usize = 1 << 62;
-
 // The polyhedron without a point.
 fn empty(alloc: Global, n: usize) -> Result<Pair, AllocError>
-    requires { n < 2 ^ 62 }
+    requires { n < too_many_dimensions }
     ensures dims { IfOk result (λ p. p.dims ≡ n) }
     ensures rows { IfOk result (λ p. p.rows ≡ inequality (falsity n) ∷ []) }
     ensures generators { IfOk result (λ p. p.generators ≡ []) }
@@ -102,7 +100,7 @@ fn empty(alloc: Global, n: usize) -> Result<Pair, AllocError>
 
 /// All points of n dimensions.
 pub fn universe(alloc: Global, n: usize) -> Result<Pair, AllocError>
-    requires { n < 2 ^ 62 }
+    requires { n < too_many_dimensions }
     ensures { IfOk result (IsPolyhedronOf n (Con [])) }
 {
     let cone = positive_cone(alloc, n)?;
@@ -115,7 +113,7 @@ pub fn universe(alloc: Global, n: usize) -> Result<Pair, AllocError>
 
 // The polyhedron of the rows that were taken into the cone, of which this is the own list.
 fn of_rows(alloc: Global, n: usize, cone: &Cone, own: &Own) -> Result<Pair, AllocError>
-    requires small { n < 2 ^ 62 }
+    requires small { n < too_many_dimensions }
     requires dims { cone.now.dims ≡ n }
     requires positive { IsPositive n cone.now.taken }
     requires own { IsOwnList cone.now own.now.lines.items own.now.rays.items }
@@ -137,7 +135,7 @@ fn of_rows(alloc: Global, n: usize, cone: &Cone, own: &Own) -> Result<Pair, Allo
 
 // The polyhedron of the generators that were taken into the cone, some of them points, of which this is the own list.
 fn of_generators(alloc: Global, n: usize, cone: &Cone, own: &Own) -> Result<Pair, AllocError>
-    requires small { n < 2 ^ 62 }
+    requires small { n < too_many_dimensions }
     requires dims { cone.now.dims ≡ n }
     requires columns { AreGenerators cone.now.taken }
     requires some { ¬ (IsEmptySet n (Gen cone.now.taken)) }
@@ -189,7 +187,7 @@ fn of_taken_rows(
     cone: &Cone,
     mut losses: Vec<Loss>,
 ) -> Result<(Pair, Vec<Loss>), AllocError>
-    requires small { n < 2 ^ 62 }
+    requires small { n < too_many_dimensions }
     requires dims { cone.now.dims ≡ n }
     requires positive { IsPositive n cone.now.taken }
     ensures dims { IfOk result (λ r. r.0.dims ≡ n) }
@@ -217,7 +215,7 @@ fn of_taken_rows(
 /// The polyhedron of the constraints that were taken into a cone behind the positivity row, and of further ones that
 /// are taken in after them; and what was lost of these, as by `from_rows`.
 pub fn from_cone(alloc: Global, start: Cone, rows: &ConSys) -> Result<(Pair, Vec<Loss>), AllocError>
-    requires small { rows.now.dims < 2 ^ 62 }
+    requires small { rows.now.dims < too_many_dimensions }
     requires dims { start.dims ≡ rows.now.dims }
     requires positive { IsPositive rows.now.dims start.taken }
     ensures dims { IfOk result (λ r. r.0.dims ≡ rows.now.dims) }
@@ -305,7 +303,7 @@ fn of_taken_generators(
     cone: &Cone,
     list: &ConSys,
 ) -> Result<(Pair, Vec<Loss>), AllocError>
-    requires small { n < 2 ^ 62 }
+    requires small { n < too_many_dimensions }
     requires dims { cone.now.dims ≡ n }
     requires list_dims { list.now.dims ≡ n }
     requires columns { AreGenerators cone.now.taken }
@@ -332,7 +330,7 @@ fn of_taken_generators(
 
 // The generators, some of them points, taken into a cone, and constraints that hold at each of them.
 fn take_points(alloc: Global, given: &GenSys) -> Result<(Conversion, ConSys), AllocError>
-    requires small { given.now.dims < 2 ^ 62 }
+    requires small { given.now.dims < too_many_dimensions }
     requires kinds { FitKinds given.now.rows given.now.kinds }
     requires many { length given.now.kinds ≡ length given.now.rows }
     requires point { Contains given.now.kinds Point }
@@ -348,7 +346,7 @@ fn take_points(alloc: Global, given: &GenSys) -> Result<(Conversion, ConSys), Al
 
 // The polyhedron of generators, some of them points, and what was lost.
 fn from_points(alloc: Global, given: &GenSys) -> Result<(Pair, Vec<Loss>), AllocError>
-    requires small { given.now.dims < 2 ^ 62 }
+    requires small { given.now.dims < too_many_dimensions }
     requires kinds { FitKinds given.now.rows given.now.kinds }
     requires many { length given.now.kinds ≡ length given.now.rows }
     requires point { Contains given.now.kinds Point }
@@ -375,7 +373,7 @@ fn from_points(alloc: Global, given: &GenSys) -> Result<(Pair, Vec<Loss>), Alloc
 // The polyhedron of the generators that were taken into the cone, some of them points; none where a number passes in
 // the canonical ones, or there are too many.
 fn by_own_list(alloc: Global, n: usize, cone: &Cone) -> Result<Option<Pair>, AllocError>
-    requires small { n < 2 ^ 62 }
+    requires small { n < too_many_dimensions }
     requires dims { cone.now.dims ≡ n }
     requires columns { AreGenerators cone.now.taken }
     requires some { ¬ (IsEmptySet n (Gen cone.now.taken)) }
@@ -398,7 +396,7 @@ pub fn with_generators(
     start: Cone,
     more: &GenSys,
 ) -> Result<Option<Pair>, AllocError>
-    requires small { more.now.dims < 2 ^ 62 }
+    requires small { more.now.dims < too_many_dimensions }
     requires dims { start.dims ≡ more.now.dims }
     requires kinds { FitKinds more.now.rows more.now.kinds }
     requires columns { AreGenerators start.taken }

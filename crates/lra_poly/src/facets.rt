@@ -1,12 +1,13 @@
 //! The cone of what is valid on a polyhedron's generators, from its two lists, with no conversion.
 
-ghost use Rattle.std.specs.Prelude.{◌≡◌, ◌≢◌, ◌↔◌, ◌+◌, ◌<◌, ◌≤◌, ◌^◌, ◌∷◌, ◌++◌, [], length, List, IsTrue, IfOk};
+ghost use Rattle.std.specs.Prelude.{◌≡◌, ◌≢◌, ◌↔◌, ◌+◌, ◌<◌, ◌≤◌, ◌∷◌, ◌++◌, [], length, List, IsTrue, IfOk};
 ghost use Rattle.std.specs.Prelude.{IfSome};
 ghost use Rattle.lra_linear.specs.ConeStrain.{row_limit};
 ghost use Rattle.lra_linear.specs.Descriptions.{Given, lines_of, rays_of};
 ghost use Rattle.lra_linear.specs.Kinds.{is_equality};
 ghost use Rattle.lra_linear.specs.Polyhedra.{IsPolyhedron};
 ghost use Rattle.lra_cone.specs.Cones.{IsCone, saturation_of as by_rays};
+ghost use Rattle.lra_sys.specs.Dimensions.{too_many_dimensions};
 ghost use Rattle.lra_sys.specs.Listed.{constraints, generators, FitKinds};
 ghost use Rattle.lra_poly.specs.Saturations.{saturation_of, IsCovered, IsCoveredAt};
 
@@ -128,7 +129,7 @@ fn facets(
     by_generators: &GenSys,
     saturation: &SatMatrix,
 ) -> Result<(Vec<Row>, SatMatrix), AllocError>
-    requires small { list.now.dims < 2 ^ 62 }
+    requires small { list.now.dims < too_many_dimensions }
     requires dims { by_generators.now.dims ≡ list.now.dims }
     requires polyhedron { IsPolyhedron (record {
       dims = list.now.dims;
@@ -175,7 +176,7 @@ pub fn facet_cone(
       generators = generators by_generators.now;
     }) }
     requires saturation { saturation.now ≡ saturation_of (constraints list.now) (generators by_generators.now) }
-    ensures small { IfOk result (λ cone. IfSome cone (λ _. list.now.dims < 2 ^ 62)) }
+    ensures small { IfOk result (λ cone. IfSome cone (λ _. list.now.dims < too_many_dimensions)) }
     ensures dims { IfOk result (λ cone. IfSome cone (λ c. c.dims ≡ list.now.dims)) }
     ensures taken { IfOk result (λ cone. IfSome cone (λ c. c.taken ≡ generators by_generators.now)) }
     ensures some { IfOk result (λ cone. IfSome cone (λ _. generators by_generators.now ≢ [])) }

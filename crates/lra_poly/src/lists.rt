@@ -8,7 +8,7 @@ ghost use Rattle.lra_poly.specs.Rows.{form_row, test_row};
 
 use lra_lin::{LinExpr, Test};
 use lra_row::Row;
-use lra_sys::{ConSys, GenSys};
+use lra_sys::{ConSys, GenSys, TOO_MANY_DIMENSIONS};
 use std::alloc::{AllocError, Global};
 
 // The constraints of the first list, then those of the second.
@@ -58,9 +58,6 @@ pub fn row_of_form(alloc: Global, form: &LinExpr) -> Result<Row, AllocError>
     let row = Row::from_slice(alloc, numbers.as_slice())?;
     Ok(row)
 }
-
-// No memory holds a row of so many columns.
-const TOO_MANY_DIMENSIONS: usize = 1 << 62;
 
 // The constraint of the test, alone.
 pub fn tested(alloc: Global, test: &Test) -> Result<ConSys, AllocError>

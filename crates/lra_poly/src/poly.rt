@@ -1,6 +1,6 @@
 //! Closed polyhedra.
 
-ghost use Rattle.std.specs.Prelude.{◌≡◌, ◌↔◌, ◌<◌, ◌^◌, ◌∷◌, ◌++◌, [], length, drop, IsTrue, IfOk, IfSome, IsSome};
+ghost use Rattle.std.specs.Prelude.{◌≡◌, ◌↔◌, ◌<◌, ◌∷◌, ◌++◌, [], length, drop, IsTrue, IfOk, IfSome, IsSome};
 ghost use Rattle.std.specs.Prelude.{OnErr};
 ghost use Rattle.lra_linear.specs.Descriptions.{AreGenerators, Con, Gen, Holds};
 ghost use Rattle.lra_linear.specs.OperationStrain.{FromRowsStrains, FromGeneratorsStrains};
@@ -8,6 +8,7 @@ ghost use Rattle.lra_linear.specs.OperationStrain.{AddTestStrains, MeetStrains, 
 ghost use Rattle.lra_linear.specs.Points.{IsEmptySet, IsWithin};
 ghost use Rattle.lra_linear.specs.Polyhedra.{IsPolyhedron, IsPolyhedronOf};
 ghost use Rattle.lra_linear.specs.SetOperations.{Meet, Union, Hull};
+ghost use Rattle.lra_sys.specs.Dimensions.{too_many_dimensions};
 ghost use Rattle.lra_sys.specs.Listed.{constraints, generators, FitKinds};
 ghost use Rattle.lra_pair.specs.KeptRows.{IsOfSome};
 ghost use Rattle.lra_pair.specs.OwnLists.{IsPositive};
@@ -84,7 +85,7 @@ fn of_pair(alloc: Global, pair: &Pair) -> Result<Poly, AllocError>
 
 // The polyhedron of the constraints that were taken into the cone behind the positivity row, and of further ones.
 fn of_cone(alloc: Global, cone: Cone, more: &ConSys) -> Result<(Poly, Outcome), AllocError>
-    requires small { more.now.dims < 2 ^ 62 }
+    requires small { more.now.dims < too_many_dimensions }
     requires dims { cone.dims ≡ more.now.dims }
     requires positive { IsPositive more.now.dims cone.taken }
     ensures dims { IfOk result (λ r. r.0.dims ≡ more.now.dims) }
@@ -102,7 +103,7 @@ fn of_cone(alloc: Global, cone: Cone, more: &ConSys) -> Result<(Poly, Outcome), 
 
 // The polyhedron of the generators that were taken into the cone, and of further ones, where none of these is left out.
 fn of_facets(alloc: Global, cone: Cone, more: &GenSys) -> Result<Option<Poly>, AllocError>
-    requires small { more.now.dims < 2 ^ 62 }
+    requires small { more.now.dims < too_many_dimensions }
     requires dims { cone.dims ≡ more.now.dims }
     requires kinds { FitKinds more.now.rows more.now.kinds }
     requires columns { AreGenerators cone.taken }
@@ -122,7 +123,7 @@ fn of_facets(alloc: Global, cone: Cone, more: &GenSys) -> Result<Option<Poly>, A
 impl Poly {
     /// All points of n dimensions.
     pub fn universe(alloc: Global, n: usize) -> Result<Poly, AllocError>
-        requires { n < 2 ^ 62 }
+        requires { n < too_many_dimensions }
         ensures { IfOk result (IsPolyhedronOf n (Con [])) }
     {
         let pair = lra_pair::universe(alloc, n)?;
@@ -132,7 +133,7 @@ impl Poly {
 
     /// No point, in n dimensions.
     pub fn empty(alloc: Global, n: usize) -> Result<Poly, AllocError>
-        requires { n < 2 ^ 62 }
+        requires { n < too_many_dimensions }
         ensures dims { IfOk result (λ p. p.dims ≡ n) }
         ensures none { IfOk result (λ p. IsEmptySet n (Con p.rows)) }
         ensures canonical { IfOk result IsPolyhedron }

@@ -1,6 +1,6 @@
 //! The cone of a polyhedron from its two lists, with no conversion.
 
-ghost use Rattle.std.specs.Prelude.{◌≡◌, ◌∷◌, ◌+◌, ◌<◌, ◌≤◌, ◌^◌, suc, pos, length, List, IsTrue, IfOk, IfSome};
+ghost use Rattle.std.specs.Prelude.{◌≡◌, ◌∷◌, ◌+◌, ◌<◌, ◌≤◌, suc, pos, length, List, IsTrue, IfOk, IfSome};
 ghost use Rattle.std.specs.Ordering.{int_eq};
 ghost use Rattle.lra_linear.specs.ConeStrain.{row_limit};
 ghost use Rattle.lra_linear.specs.Descriptions.{Given, inequality, lines_of, rays_of};
@@ -8,19 +8,17 @@ ghost use Rattle.lra_linear.specs.Polyhedra.{IsPolyhedron, positivity};
 ghost use Rattle.lra_linear.specs.Vectors.{entry};
 ghost use Rattle.lra_bits.specs.TruthValues.{value_at};
 ghost use Rattle.lra_cone.specs.Cones.{saturation_of as by_rays};
+ghost use Rattle.lra_sys.specs.Dimensions.{too_many_dimensions};
 ghost use Rattle.lra_sys.specs.Listed.{constraints, generators};
 ghost use Rattle.lra_poly.specs.Saturations.{column, saturation_of};
 
 use crate::inclusion::goes_both_ways;
 use crate::lists::joined_rows;
 use lra_bits::{BitRow, SatMatrix};
-use lra_cone::{Cone, unit};
+use lra_cone::{Cone, RAY_LIMIT, unit};
 use lra_row::Row;
-use lra_sys::{ConKind, ConSys, GenSys};
+use lra_sys::{ConKind, ConSys, GenSys, TOO_MANY_DIMENSIONS};
 use std::alloc::{AllocError, Global};
-
-// No memory holds a row of so many columns.
-const TOO_MANY_DIMENSIONS: usize = 1 << 62;
 
 // The lines among the generators.
 fn lines_among(alloc: Global, list: &GenSys) -> Result<Vec<Row>, AllocError>
@@ -118,7 +116,7 @@ fn ray_saturation(
 
 // The constraints, behind the positivity row.
 fn behind_positivity(alloc: Global, list: &ConSys) -> Result<ConSys, AllocError>
-    requires { list.now.dims < 2 ^ 62 }
+    requires { list.now.dims < too_many_dimensions }
     ensures dims { IfOk result (λ taken. taken.dims ≡ list.now.dims) }
     ensures taken { IfOk result (λ taken. constraints taken ≡
         inequality (positivity list.now.dims) ∷ constraints list.now) }
@@ -130,12 +128,9 @@ fn behind_positivity(alloc: Global, list: &ConSys) -> Result<ConSys, AllocError>
     joined_rows(&first, list)
 }
 
-// The most rays of a cone.
-const RAY_LIMIT: usize = 4096;
-
 // Whether a cone of n dimensions may be made of so many generators.
 pub fn fits(n: usize, count: usize) -> bool
-    ensures small { IsTrue result → n < 2 ^ 62 }
+    ensures small { IsTrue result → n < too_many_dimensions }
     ensures some { IsTrue result → 0 < count }
     ensures few { IsTrue result → count ≤ row_limit }
 {
@@ -163,7 +158,7 @@ pub fn cone_of(
       generators = generators by_generators.now;
     }) }
     requires saturation { saturation.now ≡ saturation_of (constraints list.now) (generators by_generators.now) }
-    ensures small { IfOk result (λ cone. IfSome cone (λ _. list.now.dims < 2 ^ 62)) }
+    ensures small { IfOk result (λ cone. IfSome cone (λ _. list.now.dims < too_many_dimensions)) }
     ensures dims { IfOk result (λ cone. IfSome cone (λ c. c.dims ≡ list.now.dims)) }
     ensures taken { IfOk result (λ cone. IfSome cone (λ c. c.taken ≡
         inequality (positivity list.now.dims) ∷ constraints list.now)) }

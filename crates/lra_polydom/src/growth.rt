@@ -13,7 +13,7 @@ use crate::lists::some_passes;
 use crate::widening::{joined, widened};
 use lra_domain::{Exactness, Mode};
 use lra_poly::Poly;
-use lra_sys::ConSys;
+use lra_sys::{ConSys, TOO_MANY_DIMENSIONS};
 use lra_widen::held_on_both;
 use std::alloc::{AllocError, Global};
 
@@ -24,9 +24,6 @@ pub struct Growth {
     pub given: ConSys,
     pub exactness: Exactness,
 }
-
-// No memory holds a row of so many columns.
-const TOO_MANY_DIMENSIONS: usize = 1 << 62;
 
 // All points, and the given rows that hold on them.
 pub fn given_up(alloc: Global, p: &Poly, given: &ConSys) -> Result<Growth, AllocError>

@@ -6,4 +6,4 @@ mod system;
 
 pub use lra_linear::ConKind;
 pub use membership::Holds;
-pub use system::{ConSys, GenKind, GenSys};
+pub use system::{ConSys, GenKind, GenSys, TOO_MANY_DIMENSIONS};

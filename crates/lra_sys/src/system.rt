@@ -1,13 +1,17 @@
 //! Rows of one width, each with a kind.
 
-ghost use Rattle.std.specs.Prelude.{◌≡◌, ◌++◌, ◌∷◌, [], suc, ◌<◌, ◌^◌, length, IfOk, OnOk, OnErr};
+ghost use Rattle.std.specs.Prelude.{◌≡◌, ◌++◌, ◌∷◌, [], suc, ◌<◌, length, IfOk, OnOk, OnErr};
 ghost use Rattle.std.specs.List.{All};
 ghost use Rattle.lra_linear.specs.Range.{InRange};
+ghost use Rattle.lra_sys.specs.Dimensions.{too_many_dimensions};
 
 use lra_linear::ConKind;
 use lra_row::Row;
 use std::alloc::{AllocError, Global};
 use std::marker::Model;
+
+/// No memory holds a row of so many columns.
+pub const TOO_MANY_DIMENSIONS: usize = 1 << 62;
 
 /// What a generator is. Column 0 of a point is its divisor, at least 1; rays and lines have 0 there. A list takes any
 /// row.
@@ -58,7 +62,7 @@ impl<K: Copy> Model for System<K> {
 impl<K: Copy> System<K> {
     /// No row, for n dimensions.
     pub fn new(alloc: Global, n: usize) -> Self
-        requires { n < 2 ^ 62 }
+        requires { n < too_many_dimensions }
         ensures dims { result.dims ≡ n }
         ensures rows { result.rows ≡ [] }
         ensures kinds { result.kinds ≡ [] }

@@ -22,11 +22,8 @@ use lra_cone::Loss;
 use lra_linear::{Cause, ConKind, Excess};
 use lra_poly::{Outcome, Poly, saturated};
 use lra_row::Row;
-use lra_sys::ConSys;
+use lra_sys::{ConSys, TOO_MANY_DIMENSIONS};
 use std::alloc::{AllocError, Global};
-
-// No memory holds a row of so many columns.
-const TOO_MANY_DIMENSIONS: usize = 1 << 62;
 
 // No constraint in n dimensions.
 pub fn no_rows(alloc: Global, n: usize) -> Result<ConSys, AllocError>
