@@ -1,3 +1,4 @@
+pub mod AllTrue
 pub mod Packing
 pub mod Pairs
 pub mod Removal

@@ -5,6 +5,10 @@ use Rattle.std.specs.Prelude.{◌≡◌, ℕ, Bool, true, false, ◌&&◌, List,
 abbrev pub value_at : List Bool → ℕ → Bool
 value_at values k = slice_index_or values k false
 
+abbrev pub are_true : List Bool → Bool
+are_true [] = true
+are_true (x ∷ xs) = x && are_true xs
+
 -- where a value of the first list is true, that of the second is
 abbrev pub IsSubset : List Bool → List Bool → Type 0
 IsSubset xs ys = (k : ℕ) → value_at xs k ≡ true → value_at ys k ≡ true

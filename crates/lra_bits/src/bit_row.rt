@@ -2,7 +2,7 @@
 
 ghost use Rattle.std.specs.Prelude.{◌≡◌, ℕ, ◌<◌, ◌≤◌, ◌↔◌, Bool, true, false, List, length, replicate, slice_set, IfOk};
 ghost use Rattle.std.specs.Prelude.{IsTrue};
-ghost use Rattle.lra_bits.specs.TruthValues.{value_at, IsSubset, both};
+ghost use Rattle.lra_bits.specs.TruthValues.{value_at, are_true, IsSubset, both};
 ghost use Rattle.lra_bits.specs.Words.{bit_of, unpacked, words_needed, ArePacked};
 
 use crate::words;
@@ -67,6 +67,18 @@ impl BitRow {
         ensures { result ≡ value_at self.now k }
     {
         (self.words[k / WORD] >> (k % WORD)) & 1 == 1
+    }
+
+    /// Whether all values are true.
+    pub fn are_true(&self) -> bool
+        ensures { result ≡ are_true self.now }
+    {
+        for k in 0..self.width() {
+            if !self.get(k) {
+                return false;
+            }
+        }
+        true
     }
 
     /// Puts a truth value at a place.

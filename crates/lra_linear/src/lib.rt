@@ -1,7 +1,7 @@
 //! Linear mathematics over lists of whole numbers: definitions and lemmas, and the few types that they speak of.
 #![tactic(auto)]
 
-ghost use Rattle.std.specs.Prelude.{◌↔◌, IsTrue};
+ghost use Rattle.std.specs.Prelude.{◌≡◌, ◌↔◌, IsTrue};
 ghost use Rattle.lra_linear.specs.Descriptions.{HoldsWith};
 ghost use Rattle.lra_linear.specs.Kinds.{is_equality};
 
@@ -35,6 +35,13 @@ pub enum ConKind {
 }
 
 impl ConKind {
+    /// Whether it asks for 0.
+    pub fn is_equality(self) -> bool
+        ensures { result ≡ is_equality self }
+    {
+        self == ConKind::Eq
+    }
+
     /// Whether a value is as the kind asks.
     pub fn accepts(self, value: i128) -> bool
         ensures { IsTrue result ↔ HoldsWith (is_equality self) value }

@@ -1,9 +1,7 @@
 //! The canonical list of a list's own kind, from the cone that its rows were taken into.
 
-ghost use Rattle.std.specs.Prelude.{◌≡◌, ◌↔◌, ◌++◌, ◌∷◌, [], ℕ, List, ℤ, true, ◌+◌, ◌<◌, ◌≤◌, suc, length};
-ghost use Rattle.std.specs.Prelude.{IsTrue, IfOk, IfErr, OnOk, slice_index_or};
-ghost use Rattle.std.specs.List.{All};
-ghost use Rattle.lra_bits.specs.TruthValues.{value_at};
+ghost use Rattle.std.specs.Prelude.{◌≡◌, ◌++◌, ◌∷◌, [], ℕ, List, ℤ, ◌+◌, ◌<◌, ◌≤◌, length};
+ghost use Rattle.std.specs.Prelude.{IfOk, IfErr, OnOk, slice_index_or};
 ghost use Rattle.lra_cone.specs.Cones.{IsCone};
 ghost use Rattle.lra_cone.specs.Steps.{IsFilled};
 ghost use Rattle.lra_linear.specs.ConeStrain.{row_limit};
@@ -50,17 +48,6 @@ fn tight_where(
     Ok(bits)
 }
 
-fn are_true(bits: &BitRow) -> bool
-    ensures { IsTrue result ↔ ((k : ℕ) → k < length bits.now → value_at bits.now k ≡ true) }
-{
-    for k in 0..bits.width() {
-        if !bits.get(k) {
-            return false;
-        }
-    }
-    true
-}
-
 // The rows that are tight at all rays, and the others with where they are tight.
 #[derive(Drop)]
 struct Parts {
@@ -79,7 +66,7 @@ impl Parts {
             AreParts rays lines rows self.old.tight.items self.old.loose.items self.old.saturation.rows →
             AreParts rays lines (rows ++ row ∷ []) self.new.tight.items self.new.loose.items self.new.saturation.rows) }
     {
-        if are_true(&bits) {
+        if bits.are_true() {
             self.tight.push(row)?;
         } else {
             self.loose.push(row)?;

@@ -4,11 +4,10 @@ ghost use Rattle.std.specs.Prelude.{◌≡◌, ◌≢◌, ◌↔◌, ◌+◌, �
 ghost use Rattle.std.specs.Prelude.{IfSome};
 ghost use Rattle.lra_linear.specs.ConeStrain.{row_limit};
 ghost use Rattle.lra_linear.specs.Descriptions.{Given, lines_of, rays_of};
-ghost use Rattle.lra_linear.specs.Kinds.{is_equality};
 ghost use Rattle.lra_linear.specs.Polyhedra.{IsPolyhedron};
 ghost use Rattle.lra_cone.specs.Cones.{IsCone, saturation_of as by_rays};
 ghost use Rattle.lra_sys.specs.Dimensions.{too_many_dimensions};
-ghost use Rattle.lra_sys.specs.Listed.{constraints, generators, FitKinds};
+ghost use Rattle.lra_sys.specs.Listed.{constraints, generators};
 ghost use Rattle.lra_poly.specs.Saturations.{saturation_of, IsCovered, IsCoveredAt};
 
 use crate::saturation::saturated;
@@ -19,13 +18,6 @@ use lra_row::Row;
 use lra_sys::{ConKind, ConSys, GenSys};
 use std::alloc::{AllocError, Global};
 
-// Whether a constraint of the kind is an equality.
-fn is_equality(kind: ConKind) -> bool
-    ensures { result ≡ is_equality kind }
-{
-    kind == ConKind::Eq
-}
-
 // The equalities among the constraints.
 fn equalities_among(alloc: Global, list: &ConSys) -> Result<Vec<Row>, AllocError>
     ensures { IfOk result (λ lines. lines.items ≡ lines_of (constraints list.now)) }
@@ -34,7 +26,7 @@ fn equalities_among(alloc: Global, list: &ConSys) -> Result<Vec<Row>, AllocError
     let mut lines = Vec::new(alloc);
     for place in 0..rows.len() {
         let row = &rows[place];
-        if is_equality(kinds[place]) {
+        if kinds[place].is_equality() {
             lines.push(row.copy()?)?;
         }
     }
@@ -49,7 +41,7 @@ fn inequalities_among(alloc: Global, list: &ConSys) -> Result<Vec<Row>, AllocErr
     let mut rays = Vec::new(alloc);
     for place in 0..rows.len() {
         let row = &rows[place];
-        if !is_equality(kinds[place]) {
+        if !kinds[place].is_equality() {
             rays.push(row.copy()?)?;
         }
     }
@@ -70,7 +62,7 @@ fn inequality_saturation(
     let kinds = list.kinds();
     let mut matrix = SatMatrix::new(alloc, saturation.width());
     for place in 0..kinds.len() {
-        if !is_equality(kinds[place]) {
+        if !kinds[place].is_equality() {
             matrix.add_row(saturation.row(place).copy()?)?;
         }
     }
@@ -85,7 +77,7 @@ fn covers(kinds: &[ConKind], saturation: &SatMatrix, values: &BitRow, place: usi
     requires width { length values.now ≡ saturation.now.width }
     ensures { IsTrue result ↔ IsCoveredAt kinds.now saturation.now.rows values.now place }
 {
-    if is_equality(kinds[place]) {
+    if kinds[place].is_equality() {
         return false;
     }
     values.subset(saturation.row(place))

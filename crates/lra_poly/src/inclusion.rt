@@ -1,17 +1,17 @@
 //! Inclusion of polyhedra.
 
-ghost use Rattle.std.specs.Prelude.{◌≡◌, ◌↔◌, IsTrue, length};
+ghost use Rattle.std.specs.Prelude.{◌≡◌, length};
 ghost use Rattle.std.specs.List.{All};
 ghost use Rattle.lra_linear.specs.Descriptions.{Given};
 ghost use Rattle.lra_linear.specs.Kinds.{is_equality};
 ghost use Rattle.lra_linear.specs.Widening.{holds_with};
 ghost use Rattle.lra_linear.specs.Vectors.{product};
-ghost use Rattle.lra_sys.specs.Listed.{given_by, is_line, constraints, generators};
+ghost use Rattle.lra_sys.specs.Listed.{given_by, constraints, generators};
 ghost use Rattle.lra_poly.specs.Inclusions.{IsReply, IsInclusion};
 
 use lra_linear::ConKind;
 use lra_row::Row;
-use lra_sys::{ConSys, GenKind, GenSys, Holds};
+use lra_sys::{ConSys, GenSys, Holds};
 
 /// Whether each point of one polyhedron is in another. The generators of the one are tried in their order, with each
 /// the constraints of the other in theirs; the first pair that doesn't hold decides. Where its product passes the range
@@ -23,9 +23,10 @@ pub enum Inclusion {
     Wide(usize, usize),
 }
 
-// Whether a constraint of the kind holds with a generator, of which its product is the value.
+/// Whether a constraint of the kind holds with a generator, of which its product is the value; with a line it holds as
+/// an equality.
 #[tactic(auto, using(crate::proofs::InclusionLemmas::with_line, crate::proofs::InclusionLemmas::with_ray))]
-fn accepts(kind: ConKind, line: bool, value: i128) -> bool
+pub fn accepts(kind: ConKind, line: bool, value: i128) -> bool
     ensures { (r g : Given) → r.equal ≡ is_equality kind → g.equal ≡ line → value ≡ product r.row g.row →
         holds_with r g ≡ result }
 {
@@ -55,13 +56,6 @@ fn reply(generator: &Row, line: bool, rows: &[Row], kinds: &[ConKind]) -> Holds
     Holds::Yes
 }
 
-// Whether a generator of the kind may be taken with either sign.
-pub fn goes_both_ways(kind: GenKind) -> bool
-    ensures { result ≡ is_line kind }
-{
-    kind == GenKind::Line
-}
-
 // Whether each of the generators meets each of the constraints.
 pub fn inclusion_of(by_generators: &GenSys, list: &ConSys) -> Inclusion
     requires { list.now.dims ≡ by_generators.now.dims }
@@ -69,7 +63,7 @@ pub fn inclusion_of(by_generators: &GenSys, list: &ConSys) -> Inclusion
 {
     let (rows, kinds) = (by_generators.rows(), by_generators.kinds());
     for (place, generator) in rows.iter().enumerate() {
-        let line = goes_both_ways(kinds[place]);
+        let line = kinds[place].goes_both_ways();
         match reply(generator, line, list.rows(), list.kinds()) {
             Holds::Yes => {}
             Holds::No(_) => return Inclusion::No(place),

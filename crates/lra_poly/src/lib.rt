@@ -12,7 +12,7 @@ mod poly;
 mod saturation;
 mod start;
 
-pub use inclusion::Inclusion;
+pub use inclusion::{Inclusion, accepts};
 pub use law::polyhedra_have_one_spelling;
 pub use lists::row_of_form;
 pub use maximum::Maximum;

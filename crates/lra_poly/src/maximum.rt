@@ -16,7 +16,6 @@ ghost use Rattle.lra_poly.specs.Maxima.{StaysInRange, PassesRange, Improves, Doe
 ghost use Rattle.lra_poly.specs.Maxima.{IsAtMost, IsBelow, IsGreatest, IsMaximum};
 ghost use Rattle.lra_poly.specs.Rows.{form_row};
 
-use crate::inclusion::goes_both_ways;
 use lra_lin::LinExpr;
 use lra_row::{Row, add, gcd, mul, ratio_cmp};
 use lra_sys::GenSys;
@@ -130,7 +129,7 @@ fn first_improving(form: &LinExpr, list: &GenSys) -> Option<usize>
 {
     let (rows, kinds) = (list.rows(), list.kinds());
     for (place, row) in rows.iter().enumerate() {
-        if improves(form, row, goes_both_ways(kinds[place])) {
+        if improves(form, row, kinds[place].goes_both_ways()) {
             return Some(place);
         }
     }

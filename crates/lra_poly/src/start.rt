@@ -12,7 +12,6 @@ ghost use Rattle.lra_sys.specs.Dimensions.{too_many_dimensions};
 ghost use Rattle.lra_sys.specs.Listed.{constraints, generators};
 ghost use Rattle.lra_poly.specs.Saturations.{column, saturation_of};
 
-use crate::inclusion::goes_both_ways;
 use crate::lists::joined_rows;
 use lra_bits::{BitRow, SatMatrix};
 use lra_cone::{Cone, RAY_LIMIT, unit};
@@ -28,7 +27,7 @@ fn lines_among(alloc: Global, list: &GenSys) -> Result<Vec<Row>, AllocError>
     let mut lines = Vec::new(alloc);
     for place in 0..rows.len() {
         let row = &rows[place];
-        if goes_both_ways(kinds[place]) {
+        if kinds[place].goes_both_ways() {
             lines.push(row.copy()?)?;
         }
     }
@@ -43,7 +42,7 @@ fn rays_among(alloc: Global, list: &GenSys) -> Result<Vec<Row>, AllocError>
     let mut rays = Vec::new(alloc);
     for place in 0..rows.len() {
         let row = &rows[place];
-        if !goes_both_ways(kinds[place]) {
+        if !kinds[place].goes_both_ways() {
             rays.push(row.copy()?)?;
         }
     }
@@ -107,7 +106,7 @@ fn ray_saturation(
     let mut matrix = SatMatrix::new(alloc, width);
     for place in 0..rows.len() {
         let first = is_direction(&rows[place]);
-        if !goes_both_ways(kinds[place]) {
+        if !kinds[place].goes_both_ways() {
             matrix.add_row(values_of(alloc, saturation, place, first, width)?)?;
         }
     }

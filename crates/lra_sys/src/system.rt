@@ -4,6 +4,7 @@ ghost use Rattle.std.specs.Prelude.{◌≡◌, ◌++◌, ◌∷◌, [], suc, ◌
 ghost use Rattle.std.specs.List.{All};
 ghost use Rattle.lra_linear.specs.Range.{InRange};
 ghost use Rattle.lra_sys.specs.Dimensions.{too_many_dimensions};
+ghost use Rattle.lra_sys.specs.Listed.{is_line};
 
 use lra_linear::ConKind;
 use lra_row::Row;
@@ -20,6 +21,15 @@ pub enum GenKind {
     Point,
     Ray,
     Line,
+}
+
+impl GenKind {
+    /// Whether a generator of the kind may be taken with either sign.
+    pub fn goes_both_ways(self) -> bool
+        ensures { result ≡ is_line self }
+    {
+        self == GenKind::Line
+    }
 }
 
 /// Constraints.

@@ -5,6 +5,7 @@ use Rattle.std.proofs.lemmas.List.{length-map, take_all}
 use Rattle.std.specs.Bool.{beq}
 use Rattle.std.specs.List.{All, list_all, list_any}
 use Rattle.std.specs.Ordering.{int_eq}
+use Rattle.lra_bits.specs.TruthValues.{are_true}
 use Rattle.lra_linear.specs.Descriptions.{Given}
 use Rattle.lra_linear.specs.Polyhedra.{Polyhedron}
 use Rattle.lra_linear.specs.Vectors.{product}
@@ -12,7 +13,7 @@ use Rattle.lra_linear.specs.Widening.{is_tight, is_tight_as, saturates}
 use Rattle.lra_sys.specs.Listed.{Listed, given_by}
 use Rattle.lra_widen.specs.Rank.{is_free}
 use Rattle.lra_poly.specs.Saturations.{saturated}
-use Rattle.lra_widen.specs.Saturated.{are_true, same_values}
+use Rattle.lra_widen.specs.Saturated.{same_values}
 
 -- ---- all, and the same
 pub all_saturate : (generators : List Given) (r : Given) → are_true (saturated generators r.row) ≡ list_all (saturates r) generators

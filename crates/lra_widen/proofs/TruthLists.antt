@@ -1,22 +1,10 @@
--- Lists of truth values: all true, and the same.
+-- Lists of truth values that are the same.
 use Rattle.std.proofs.Common.{Bool, List, [], arith, false, length, refl, suc, sym, true, zero, ℕ, ◌<◌, ◌≤◌, ◌∷◌, ◌≡◌}
 use Rattle.std.specs.Prelude.{◌&&◌, ◌↔◌, IsTrue, slice_index_or}
 use Rattle.std.specs.Bool.{beq}
 use Rattle.std.specs.List.{list_any}
 use Rattle.lra_bits.specs.TruthValues.{IsSubset, value_at}
-use Rattle.lra_widen.specs.Saturated.{are_true, same_values}
-
--- ---- all true
-pub one_false : (xs : List Bool) (k : ℕ) → k < length xs → false ≡ value_at xs k → false ≡ are_true xs
-one_false [] k h e = absurd (omega (arith, h))
-one_false (false ∷ xs) k h e = refl
-one_false (true ∷ xs) zero h e = cc
-one_false (true ∷ xs) (suc k) h e = one_false xs k (omega (arith, h)) e
-
-pub none_false : (xs : List Bool) (k : ℕ) → length xs ≤ k → ((j : ℕ) → j < k → value_at xs j ≡ true) → true ≡ are_true xs
-none_false [] k h all = refl
-none_false (x ∷ xs) zero h all = absurd (omega (arith, h))
-none_false (x ∷ xs) (suc k) h all = rw (all 0 (omega arith)) (none_false xs k (omega (arith, h)) (λ j l. all (suc j) (omega (arith, l))))
+use Rattle.lra_widen.specs.Saturated.{same_values}
 
 -- ---- the same
 pub same_from : (xs ys : List Bool) → length xs ≡ length ys → IsSubset xs ys → IsSubset ys xs → true ≡ same_values xs ys

@@ -2,10 +2,6 @@
 use Rattle.std.specs.Prelude.{Bool, true, ◌&&◌, List, [], ◌∷◌}
 use Rattle.std.specs.Bool.{beq}
 
-abbrev pub are_true : List Bool → Bool
-are_true [] = true
-are_true (x ∷ xs) = x && are_true xs
-
 -- of lists of one length: whether they have the same values
 abbrev pub same_values : List Bool → List Bool → Bool
 same_values [] ys = true

@@ -24,13 +24,6 @@ fn one_if(wanted: bool) -> usize
     if wanted { 1 } else { 0 }
 }
 
-// Whether the kind is that of an equality.
-fn is_equality(kind: ConKind) -> bool
-    ensures { result ≡ is_equality kind }
-{
-    kind == ConKind::Eq
-}
-
 // How many equalities are among the constraints.
 fn count_equalities(list: &ConSys) -> usize
     ensures { result ≡ length (filter (λ g. g.equal) (constraints list.now)) }
@@ -38,7 +31,7 @@ fn count_equalities(list: &ConSys) -> usize
     let (rows, kinds) = (list.rows(), list.kinds());
     let mut count = 0;
     for place in 0..rows.len() {
-        count += one_if(is_equality(kinds[place]));
+        count += one_if(kinds[place].is_equality());
     }
     count
 }

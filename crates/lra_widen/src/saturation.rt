@@ -2,9 +2,10 @@
 
 ghost use Rattle.std.specs.Prelude.{◌≡◌, ◌||◌, IfOk, length, map};
 ghost use Rattle.std.specs.List.{All, list_any};
+ghost use Rattle.lra_bits.specs.TruthValues.{are_true};
 ghost use Rattle.lra_sys.specs.Listed.{constraints, generators};
 ghost use Rattle.lra_poly.specs.Saturations.{saturated};
-ghost use Rattle.lra_widen.specs.Saturated.{are_true, same_values};
+ghost use Rattle.lra_widen.specs.Saturated.{same_values};
 
 use lra_bits::BitRow;
 use lra_poly::saturated;
@@ -27,18 +28,6 @@ pub fn all_saturated(
         classes.push(saturated(alloc, &rows[place], list)?)?;
     }
     Ok(classes)
-}
-
-// Whether all values are true.
-fn are_true(bits: &BitRow) -> bool
-    ensures { result ≡ are_true bits.now }
-{
-    for k in 0..bits.width() {
-        if !bits.get(k) {
-            return false;
-        }
-    }
-    true
 }
 
 // Whether the two lists, of one width, are the same.
@@ -67,5 +56,5 @@ pub fn is_full_or_among(bits: &BitRow, classes: &[BitRow]) -> bool
     requires { All (λ class. length bits.now ≡ length class) classes.now }
     ensures { result ≡ (are_true bits.now || list_any (same_values bits.now) classes.now) }
 {
-    are_true(bits) || is_among(bits, classes)
+    bits.are_true() || is_among(bits, classes)
 }

@@ -2,18 +2,15 @@
 
 ghost use Rattle.std.specs.Prelude.{◌≡◌, ◌&&◌, ◌++◌, ◌⊎◌, suc, length};
 ghost use Rattle.std.specs.Option.{MatchOption};
-ghost use Rattle.lra_linear.specs.Descriptions.{Given};
 ghost use Rattle.lra_linear.specs.Kinds.{is_equality};
-ghost use Rattle.lra_linear.specs.Vectors.{product};
-ghost use Rattle.lra_linear.specs.Widening.{holds_with};
-ghost use Rattle.lra_sys.specs.Listed.{is_line, generators};
+ghost use Rattle.lra_sys.specs.Listed.{generators};
 ghost use Rattle.lra_widen.specs.Rank.{holds_in_range};
 ghost use Rattle.lra_widen.specs.Validity.{IsValidity};
 
 use lra_linear::{ConKind, Excess};
-use lra_poly::Poly;
+use lra_poly::{Poly, accepts};
 use lra_row::Row;
-use lra_sys::{GenKind, GenSys};
+use lra_sys::GenSys;
 
 // Whether a row holds with each of the generators.
 #[derive(Clone, Copy, Debug, PartialEq, Eq)]
@@ -36,26 +33,6 @@ impl Validity {
     }
 }
 
-// Whether a constraint of the kind holds with a generator, of which its product is the value.
-#[tactic(auto, using(lra_poly::proofs::InclusionLemmas::with_line, lra_poly::proofs::InclusionLemmas::with_ray))]
-fn accepts(kind: ConKind, line: bool, value: i128) -> bool
-    ensures { (r g : Given) → r.equal ≡ is_equality kind → g.equal ≡ line → value ≡ product r.row g.row →
-        holds_with r g ≡ result }
-{
-    if line {
-        ConKind::Eq.accepts(value)
-    } else {
-        kind.accepts(value)
-    }
-}
-
-// Whether a generator of the kind may be taken with either sign.
-fn goes_both_ways(kind: GenKind) -> bool
-    ensures { result ≡ is_line kind }
-{
-    kind == GenKind::Line
-}
-
 // Whether the constraint holds with each of the generators.
 pub fn validity_of(row: &Row, kind: ConKind, list: &GenSys) -> Validity
     requires { length row.now ≡ suc list.now.dims }
@@ -65,7 +42,7 @@ pub fn validity_of(row: &Row, kind: ConKind, list: &GenSys) -> Validity
     for (place, generator) in rows.iter().enumerate() {
         match row.dot(generator) {
             Ok(product) => {
-                if !accepts(kind, goes_both_ways(kinds[place]), product) {
+                if !accepts(kind, kinds[place].goes_both_ways(), product) {
                     return Validity::Fails;
                 }
             }
