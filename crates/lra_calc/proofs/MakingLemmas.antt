@@ -15,7 +15,7 @@ use Rattle.lra_script.specs.LineForms as form
 use Rattle.lra_poly.specs.Outcomes.{IfExact, IfFlagged}
 use Rattle.lra_poly.specs.declared.outcome.Outcome.{Outcome}
 use Rattle.lra_poly.specs.declared.outcome.Outcome.TheVariants.{Exact, Flagged}
-use Rattle.lra_script.specs.Views.{constraint_of, generator_of, IsDivided}
+use Rattle.lra_script.specs.Views.{constraint_of, generator_view, IsDivided}
 use Rattle.lra_script.specs.declared.rows.Constraint.{Constraint}
 use Rattle.lra_script.specs.declared.rows.Generator.{Generator}
 use Rattle.lra_script.proofs.AllOf.{rest_at}
@@ -41,11 +41,11 @@ all_wide n (c ∷ cs) e =
 abbrev pub IsWide : ℕ → Generator → Type 0
 IsWide n g = length g.numbers ≡ script.numbers_needed n g.kind
 
-pub all_generators_wide : (n : ℕ) (gs : List Generator) → script.wrong_generator n (map generator_of gs) ≡ None → All (IsWide n) gs
+pub all_generators_wide : (n : ℕ) (gs : List Generator) → script.wrong_generator n (map generator_view gs) ≡ None → All (IsWide n) gs
 all_generators_wide n [] e = All-nil (IsWide n)
 all_generators_wide n (g ∷ gs) e =
     let needed = script.numbers_needed n g.kind in
-    let p = not_found (nat_eq (length g.numbers) needed) (script.WrongDimension (length g.numbers) needed) (script.wrong_generator n (map generator_of gs)) e in
+    let p = not_found (nat_eq (length g.numbers) needed) (script.WrongDimension (length g.numbers) needed) (script.wrong_generator n (map generator_view gs)) e in
     All-cons (IsWide n) g gs (same_width (length g.numbers) needed p.0) (all_generators_wide n gs p.1)
 
 -- ---- systems
@@ -108,9 +108,9 @@ wide_by n x y e h = ap (λ (c : Constraint). length c.row) e ∙ h
 pub wide_here : (n : ℕ) (rows : List Constraint) (i : ℕ) (x : Constraint) → script.wrong_row n (map constraint_of rows) ≡ None → i < length rows → x ≡ get_or rows i x → length x.row ≡ suc n
 wide_here n rows i x widths h e = wide_by n x (get_or rows i x) e (all_wide n rows widths i x h)
 
-pub generator_fits : (n : ℕ) (gs : List Generator) (i : ℕ) (x : Generator) (row : List ℤ) → script.wrong_generator n (map generator_of gs) ≡ None → All (λ g. IsDivided g.kind g.numbers) gs →
+pub generator_fits : (n : ℕ) (gs : List Generator) (i : ℕ) (x : Generator) (row : List ℤ) → script.wrong_generator n (map generator_view gs) ≡ None → All (λ g. IsDivided g.kind g.numbers) gs →
     i < length gs →
-    x ≡ get_or gs i x → form.given_of (generator_of x) ≡ record { row = row; equal = is_line x.kind } → (length row ≡ suc n) × FitsKind x.kind row
+    x ≡ get_or gs i x → form.given_of (generator_view x) ≡ record { row = row; equal = is_line x.kind } → (length row ≡ suc n) × FitsKind x.kind row
 generator_fits n gs i x row widths divided h e is =
     row_fits n x.kind x.numbers row is (subst (IsWide n) (sym e) (all_generators_wide n gs widths i x h)) (subst (λ (g : Generator). IsDivided g.kind g.numbers) (sym e) (divided i x h))
 

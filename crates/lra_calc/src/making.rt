@@ -9,7 +9,7 @@ ghost use Rattle.lra_sys.specs.Listed.{is_line, constraints as constraints_of, g
 ghost use Rattle.lra_poly.specs.Outcomes.{IfExact, IfFlagged};
 ghost use Rattle.lra_poly.specs.Rows.{form_row};
 ghost use Rattle.lra_script.specs.LineForms.{greatest_dims, as_given, given_of};
-ghost use Rattle.lra_script.specs.Views.{constraint_of, generator_of, IsDivided};
+ghost use Rattle.lra_script.specs.Views.{constraint_of, generator_view, IsDivided};
 ghost use Rattle.lra_calc.specs.MadeSets as sets;
 ghost use Rattle.lra_calc.specs.Script as script;
 ghost use Rattle.lra_calc.specs.Views.{fault_of, is_flagged};
@@ -70,7 +70,7 @@ fn numbers_needed(n: usize, kind: GenKind) -> usize
 /// The fault of the first generator that has not as many numbers as its kind needs in n dimensions.
 pub fn wrong_generator(n: usize, generators: &[Generator]) -> Option<Fault>
     requires { n ≤ greatest_dims }
-    ensures { option_map fault_of result ≡ script.wrong_generator n (map generator_of generators.now) }
+    ensures { option_map fault_of result ≡ script.wrong_generator n (map generator_view generators.now) }
 {
     for generator in generators {
         let count = generator.numbers.width();
@@ -125,7 +125,7 @@ fn behind_zero(alloc: Global, numbers: &Row) -> Result<Row, AllocError>
 /// The row of a generator, column 0 first.
 fn row_of(alloc: Global, generator: &Generator) -> Result<Row, AllocError>
     ensures { IfOk result (λ row.
-        given_of (generator_of generator.now) ≡ record { row = row; equal = is_line generator.now.kind }) }
+        given_of (generator_view generator.now) ≡ record { row = row; equal = is_line generator.now.kind }) }
 {
     match generator.kind {
         GenKind::Point => generator.numbers.copy(),
@@ -140,10 +140,10 @@ fn generators_of_written(
     generators: &[Generator],
 ) -> Result<GenSys, AllocError>
     requires few { n ≤ greatest_dims }
-    requires widths { script.wrong_generator n (map generator_of generators.now) ≡ None }
+    requires widths { script.wrong_generator n (map generator_view generators.now) ≡ None }
     requires divided { All (λ g. IsDivided g.kind g.numbers) generators.now }
     ensures dims { IfOk result (λ s. s.dims ≡ n) }
-    ensures made { IfOk result (λ s. generators_of s ≡ map (λ g. given_of (generator_of g)) generators.now) }
+    ensures made { IfOk result (λ s. generators_of s ≡ map (λ g. given_of (generator_view g)) generators.now) }
     ensures fit { IfOk result (λ s. FitKinds s.rows s.kinds) }
 {
     let mut system = GenSys::new(alloc, n);
@@ -195,11 +195,11 @@ pub fn make_of_generators(
     generators: &[Generator],
 ) -> Result<Made, AllocError>
     requires few { n ≤ greatest_dims }
-    requires widths { script.wrong_generator n (map generator_of generators.now) ≡ None }
+    requires widths { script.wrong_generator n (map generator_view generators.now) ≡ None }
     requires divided { All (λ g. IsDivided g.kind g.numbers) generators.now }
     ensures dims { IfOk result (λ m. m.polyhedron.dims ≡ n) }
     ensures made { IfOk result (λ m.
-        sets.IsMadeOfGenerators n (map given_of (map generator_of generators.now)) m.is_flagged m.polyhedron) }
+        sets.IsMadeOfGenerators n (map given_of (map generator_view generators.now)) m.is_flagged m.polyhedron) }
 {
     let generators = generators_of_written(alloc, n, generators)?;
     let (polyhedron, outcome) = Poly::from_generators(alloc, &generators)?;

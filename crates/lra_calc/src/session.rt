@@ -4,7 +4,7 @@ ghost use Rattle.std.specs.Prelude.{◌≡◌, ◌≤◌, ◌++◌, Some, map, s
 ghost use Rattle.std.specs.List.{All};
 ghost use Rattle.lra_script.specs.LineForms as form;
 ghost use Rattle.lra_script.specs.LineForms.{greatest_dims};
-ghost use Rattle.lra_script.specs.Views.{constraint_of, generator_of, recipe_said, question_said, said};
+ghost use Rattle.lra_script.specs.Views.{constraint_of, generator_view, recipe_said, question_said, said};
 ghost use Rattle.lra_script.specs.Views.{IsLine, IsRecipe, IsQuestion, IsDivided, HasDivisor};
 ghost use Rattle.lra_calc.specs.Script as script;
 ghost use Rattle.lra_calc.specs.Views.{session_of, made_of, answer_of, IsSession, IsUnknown, Gives};
@@ -96,7 +96,7 @@ impl Session {
         requires session { IsSession self.now }
         requires divided { All (λ g. IsDivided g.kind g.numbers) generators.now }
         ensures gives { Gives made_of result
-            (script.MadeBy (session_of self.now) (form.Gen (map generator_of generators.now))) }
+            (script.MadeBy (session_of self.now) (form.Gen (map generator_view generators.now))) }
         ensures dims { IfOk result (λ m. m.polyhedron.dims ≡ self.now.dims) }
     {
         if let Some(fault) = wrong_generator(self.dims, generators) {

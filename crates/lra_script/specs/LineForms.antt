@@ -3,6 +3,7 @@ use Rattle.std.specs.Prelude.{ℕ, zero, suc, ◌^◌, ℤ, pos, negsuc, nat_le,
 use Rattle.std.specs.Prelude.{codes, bytes_eq}
 use Rattle.std.specs.Prelude.{if◌then◌else◌, Option, Some, None, option_map, option_and_then}
 use Rattle.std.specs.List.{slice_split}
+use Rattle.std.specs.Option.{option_or}
 use Rattle.lra_linear.specs.Descriptions.{Given, generator, line}
 use Rattle.lra_sys.specs.declared.system.GenKind.{GenKind}
 use Rattle.lra_sys.specs.declared.system.GenKind.TheVariants as gen
@@ -56,11 +57,6 @@ pub data Line : Type 0 where
 abbrev pub with_first : {A : Type 0} → Option A → Option (List A) → Option (List A)
 with_first None rest = None
 with_first (Some x) rest = option_map (λ xs. x ∷ xs) rest
-
--- the first of two that is one
-abbrev pub or_else : {A : Type 0} → Option A → Option A → Option A
-or_else (Some x) later = Some x
-or_else None later = later
 
 -- all of these, where each is one
 abbrev pub all_of : {A B : Type 0} → (A → Option B) → List A → Option (List B)
@@ -207,7 +203,7 @@ abbrev pub recipe_of : List ℕ → List (List ℕ) → Option Recipe
 recipe_of word rest =
     if bytes_eq word (codes "con") then option_map Con (parts_of row_of rest)
     else (if bytes_eq word (codes "gen") then option_map Gen (parts_of generator_of rest)
-    else or_else (pair_recipe word rest) (change_recipe word rest))
+    else option_or (pair_recipe word rest) (change_recipe word rest))
 
 abbrev pub make_line : List ℕ → List (List ℕ) → Option Line
 make_line word [] = None
@@ -249,4 +245,4 @@ abbrev pub line_of : List (List ℕ) → Option Line
 line_of [] = None
 line_of (word ∷ rest) =
     if bytes_eq word (codes "dims") then option_map Dims (lone_number rest)
-    else or_else (make_line word rest) (option_map Ask (question_of word rest))
+    else option_or (make_line word rest) (option_map Ask (question_of word rest))

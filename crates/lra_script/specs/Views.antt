@@ -29,15 +29,15 @@ constraint_of c = record { row = c.row; equal = is_equality c.kind }
 abbrev pub constraints_of : Option (Vec Constraint Global) → Option (List Given)
 constraints_of r = option_map (λ v. map constraint_of v.items) r
 
-abbrev pub generator_of : G.Generator → form.Generator
-generator_of g = record { kind = g.kind; numbers = g.numbers }
+abbrev pub generator_view : G.Generator → form.Generator
+generator_view g = record { kind = g.kind; numbers = g.numbers }
 
 abbrev pub generators_of : Option (Vec G.Generator Global) → Option (List form.Generator)
-generators_of r = option_map (λ v. map generator_of v.items) r
+generators_of r = option_map (λ v. map generator_view v.items) r
 
 abbrev pub recipe_said : Recipe → form.Recipe
 recipe_said (recipe.Con rows) = form.Con (map constraint_of rows.items)
-recipe_said (recipe.Gen generators) = form.Gen (map generator_of generators.items)
+recipe_said (recipe.Gen generators) = form.Gen (map generator_view generators.items)
 recipe_said (recipe.Combine how first second) = form.Combine how (string_bytes first) (string_bytes second)
 recipe_said (recipe.Widen first second) = form.Widen (string_bytes first) (string_bytes second)
 recipe_said (recipe.Limited first second given) =
@@ -45,8 +45,8 @@ recipe_said (recipe.Limited first second given) =
 recipe_said (recipe.Map how from k numbers) = form.Map how (string_bytes from) k numbers.items
 recipe_said (recipe.Forget from k) = form.Forget (string_bytes from) k
 
-abbrev pub recipe_of : Option Recipe → Option form.Recipe
-recipe_of r = option_map recipe_said r
+abbrev pub recipe_view : Option Recipe → Option form.Recipe
+recipe_view r = option_map recipe_said r
 
 abbrev pub question_said : Question → form.Question
 question_said (question.Show name) = form.Show (string_bytes name)
@@ -54,16 +54,16 @@ question_said (question.Holds name point) = form.Holds (string_bytes name) point
 question_said (question.Include first second) = form.Include (string_bytes first) (string_bytes second)
 question_said (question.Maximise name numbers) = form.Maximise (string_bytes name) numbers.items
 
-abbrev pub question_of : Option Question → Option form.Question
-question_of r = option_map question_said r
+abbrev pub question_view : Option Question → Option form.Question
+question_view r = option_map question_said r
 
 abbrev pub said : Line → form.Line
 said (code.Dims n) = form.Dims n
 said (code.Make name r) = form.Make (string_bytes name) (recipe_said r)
 said (code.Ask q) = form.Ask (question_said q)
 
-abbrev pub line_of : Option Line → Option form.Line
-line_of r = option_map said r
+abbrev pub line_view : Option Line → Option form.Line
+line_view r = option_map said r
 
 -- a divisor that is there is at least 1
 abbrev pub HasDivisor : List ℤ → Type 0

@@ -2,7 +2,7 @@
 
 ghost use Rattle.std.specs.Prelude.{◌≡◌, IfOk, IfSome, option_map};
 ghost use Rattle.lra_script.specs.LineForms as form;
-ghost use Rattle.lra_script.specs.Views.{texts, line_of, IsLine};
+ghost use Rattle.lra_script.specs.Views.{texts, line_view, IsLine};
 
 use crate::numbers::{lone_number, name_of};
 use crate::questions::{Question, read_question};
@@ -32,14 +32,14 @@ impl Drop for Line {
 }
 
 fn dims_line(words: &[&[u8]]) -> Option<Line>
-    ensures line { line_of result ≡ option_map form.Dims (form.lone_number (texts words.now)) }
+    ensures line { line_view result ≡ option_map form.Dims (form.lone_number (texts words.now)) }
     ensures sound { IfSome result IsLine }
 {
     Some(Line::Dims(lone_number(words)?))
 }
 
 fn make_line(alloc: Global, word: &[u8], rest: &[&[u8]]) -> Result<Option<Line>, AllocError>
-    ensures line { IfOk result (λ r. line_of r ≡ form.make_line word.now (texts rest.now)) }
+    ensures line { IfOk result (λ r. line_view r ≡ form.make_line word.now (texts rest.now)) }
     ensures sound { IfOk result (λ r. IfSome r IsLine) }
 {
     let [name, rest @ ..] = rest else {
@@ -56,7 +56,7 @@ fn make_line(alloc: Global, word: &[u8], rest: &[&[u8]]) -> Result<Option<Line>,
 
 fn ask_line(alloc: Global, word: &[u8], rest: &[&[u8]]) -> Result<Option<Line>, AllocError>
     ensures line { IfOk result (λ r.
-        line_of r ≡ option_map form.Ask (form.question_of word.now (texts rest.now))) }
+        line_view r ≡ option_map form.Ask (form.question_of word.now (texts rest.now))) }
     ensures sound { IfOk result (λ r. IfSome r IsLine) }
 {
     match read_question(alloc, word, rest)? {
@@ -67,7 +67,7 @@ fn ask_line(alloc: Global, word: &[u8], rest: &[&[u8]]) -> Result<Option<Line>, 
 
 /// What the words say, where they are a line.
 pub fn read_line(alloc: Global, words: &[&[u8]]) -> Result<Option<Line>, AllocError>
-    ensures line { IfOk result (λ r. line_of r ≡ form.line_of (texts words.now)) }
+    ensures line { IfOk result (λ r. line_view r ≡ form.line_of (texts words.now)) }
     ensures sound { IfOk result (λ r. IfSome r IsLine) }
 {
     let [word, rest @ ..] = words else {

@@ -2,7 +2,7 @@
 
 ghost use Rattle.std.specs.Prelude.{◌≡◌, IfOk, IfSome};
 ghost use Rattle.lra_script.specs.LineForms as form;
-ghost use Rattle.lra_script.specs.Views.{texts, question_of, IsQuestion};
+ghost use Rattle.lra_script.specs.Views.{texts, question_view, IsQuestion};
 
 use crate::numbers::{coefficients_of, name_of, numbers_of};
 use crate::rows::has_divisor;
@@ -35,7 +35,7 @@ impl Drop for Question {
 }
 
 fn show_question(alloc: Global, words: &[&[u8]]) -> Result<Option<Question>, AllocError>
-    ensures question { IfOk result (λ r. question_of r ≡ form.show_question (texts words.now)) }
+    ensures question { IfOk result (λ r. question_view r ≡ form.show_question (texts words.now)) }
     ensures sound { IfOk result (λ r. IfSome r IsQuestion) }
 {
     let [name] = words else {
@@ -48,7 +48,7 @@ fn show_question(alloc: Global, words: &[&[u8]]) -> Result<Option<Question>, All
 }
 
 fn holds_question(alloc: Global, words: &[&[u8]]) -> Result<Option<Question>, AllocError>
-    ensures question { IfOk result (λ r. question_of r ≡ form.holds_question (texts words.now)) }
+    ensures question { IfOk result (λ r. question_view r ≡ form.holds_question (texts words.now)) }
     ensures sound { IfOk result (λ r. IfSome r IsQuestion) }
 {
     let [name, numbers @ ..] = words else {
@@ -67,7 +67,7 @@ fn holds_question(alloc: Global, words: &[&[u8]]) -> Result<Option<Question>, Al
 }
 
 fn include_question(alloc: Global, words: &[&[u8]]) -> Result<Option<Question>, AllocError>
-    ensures question { IfOk result (λ r. question_of r ≡ form.include_question (texts words.now)) }
+    ensures question { IfOk result (λ r. question_view r ≡ form.include_question (texts words.now)) }
     ensures sound { IfOk result (λ r. IfSome r IsQuestion) }
 {
     let [first, second] = words else {
@@ -83,7 +83,7 @@ fn include_question(alloc: Global, words: &[&[u8]]) -> Result<Option<Question>, 
 }
 
 fn maximise_question(alloc: Global, words: &[&[u8]]) -> Result<Option<Question>, AllocError>
-    ensures question { IfOk result (λ r. question_of r ≡ form.maximise_question (texts words.now)) }
+    ensures question { IfOk result (λ r. question_view r ≡ form.maximise_question (texts words.now)) }
     ensures sound { IfOk result (λ r. IfSome r IsQuestion) }
 {
     let [name, numbers @ ..] = words else {
@@ -104,7 +104,7 @@ pub fn read_question(
     word: &[u8],
     rest: &[&[u8]],
 ) -> Result<Option<Question>, AllocError>
-    ensures question { IfOk result (λ r. question_of r ≡ form.question_of word.now (texts rest.now)) }
+    ensures question { IfOk result (λ r. question_view r ≡ form.question_of word.now (texts rest.now)) }
     ensures sound { IfOk result (λ r. IfSome r IsQuestion) }
 {
     if word == b"show".as_slice() {

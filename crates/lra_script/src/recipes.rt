@@ -1,8 +1,9 @@
 //! How lines make sets.
 
 ghost use Rattle.std.specs.Prelude.{◌≡◌, ◌≤◌, IfOk, IfSome, option_map, string_bytes};
+ghost use Rattle.std.specs.Option.{option_or};
 ghost use Rattle.lra_script.specs.LineForms as form;
-ghost use Rattle.lra_script.specs.Views.{texts, recipe_of, IsRecipe};
+ghost use Rattle.lra_script.specs.Views.{texts, recipe_view, IsRecipe};
 
 use crate::numbers::{coefficients_of, lone_number, name_of, small_number};
 use crate::rows::{Constraint, Generator, rows_of, written_generators};
@@ -63,7 +64,7 @@ impl Drop for Recipe {
 
 fn con_recipe(alloc: Global, words: &[&[u8]]) -> Result<Option<Recipe>, AllocError>
     ensures recipe { IfOk result (λ r.
-        recipe_of r ≡ option_map form.Con (form.parts_of form.row_of (texts words.now))) }
+        recipe_view r ≡ option_map form.Con (form.parts_of form.row_of (texts words.now))) }
     ensures sound { IfOk result (λ r. IfSome r IsRecipe) }
 {
     match rows_of(alloc, words)? {
@@ -74,7 +75,7 @@ fn con_recipe(alloc: Global, words: &[&[u8]]) -> Result<Option<Recipe>, AllocErr
 
 fn gen_recipe(alloc: Global, words: &[&[u8]]) -> Result<Option<Recipe>, AllocError>
     ensures recipe { IfOk result (λ r.
-        recipe_of r ≡ option_map form.Gen (form.parts_of form.generator_of (texts words.now))) }
+        recipe_view r ≡ option_map form.Gen (form.parts_of form.generator_of (texts words.now))) }
     ensures sound { IfOk result (λ r. IfSome r IsRecipe) }
 {
     match written_generators(alloc, words)? {
@@ -88,7 +89,7 @@ fn combine_recipe(
     how: Combination,
     words: &[&[u8]],
 ) -> Result<Option<Recipe>, AllocError>
-    ensures recipe { IfOk result (λ r. recipe_of r ≡ form.combine_recipe how (texts words.now)) }
+    ensures recipe { IfOk result (λ r. recipe_view r ≡ form.combine_recipe how (texts words.now)) }
     ensures sound { IfOk result (λ r. IfSome r IsRecipe) }
 {
     let [first, second] = words else {
@@ -104,7 +105,7 @@ fn combine_recipe(
 }
 
 fn widen_recipe(alloc: Global, words: &[&[u8]]) -> Result<Option<Recipe>, AllocError>
-    ensures recipe { IfOk result (λ r. recipe_of r ≡ form.widen_recipe (texts words.now)) }
+    ensures recipe { IfOk result (λ r. recipe_view r ≡ form.widen_recipe (texts words.now)) }
     ensures sound { IfOk result (λ r. IfSome r IsRecipe) }
 {
     let [first, second] = words else {
@@ -120,7 +121,7 @@ fn widen_recipe(alloc: Global, words: &[&[u8]]) -> Result<Option<Recipe>, AllocE
 }
 
 fn limited_recipe(alloc: Global, words: &[&[u8]]) -> Result<Option<Recipe>, AllocError>
-    ensures recipe { IfOk result (λ r. recipe_of r ≡ form.limited_recipe (texts words.now)) }
+    ensures recipe { IfOk result (λ r. recipe_view r ≡ form.limited_recipe (texts words.now)) }
     ensures sound { IfOk result (λ r. IfSome r IsRecipe) }
 {
     let [first, second, rest @ ..] = words else {
@@ -146,7 +147,7 @@ fn map_behind(
     words: &[&[u8]],
 ) -> Result<Option<Recipe>, AllocError>
     ensures recipe { IfOk result (λ r.
-        recipe_of r ≡ form.map_behind how (string_bytes from) (texts words.now)) }
+        recipe_view r ≡ form.map_behind how (string_bytes from) (texts words.now)) }
     ensures sound { IfOk result (λ r. IfSome r IsRecipe) }
 {
     let [word, numbers @ ..] = words else {
@@ -162,7 +163,7 @@ fn map_behind(
 }
 
 fn map_recipe(alloc: Global, how: Mapping, words: &[&[u8]]) -> Result<Option<Recipe>, AllocError>
-    ensures recipe { IfOk result (λ r. recipe_of r ≡ form.map_recipe how (texts words.now)) }
+    ensures recipe { IfOk result (λ r. recipe_view r ≡ form.map_recipe how (texts words.now)) }
     ensures sound { IfOk result (λ r. IfSome r IsRecipe) }
 {
     let [from, rest @ ..] = words else {
@@ -175,7 +176,7 @@ fn map_recipe(alloc: Global, how: Mapping, words: &[&[u8]]) -> Result<Option<Rec
 }
 
 fn forget_recipe(alloc: Global, words: &[&[u8]]) -> Result<Option<Recipe>, AllocError>
-    ensures recipe { IfOk result (λ r. recipe_of r ≡ form.forget_recipe (texts words.now)) }
+    ensures recipe { IfOk result (λ r. recipe_view r ≡ form.forget_recipe (texts words.now)) }
     ensures sound { IfOk result (λ r. IfSome r IsRecipe) }
 {
     let [from, rest @ ..] = words else {
@@ -192,7 +193,7 @@ fn forget_recipe(alloc: Global, words: &[&[u8]]) -> Result<Option<Recipe>, Alloc
 
 /// What a line of this first word says behind the name, where its set is made of two others.
 fn pair_recipe(alloc: Global, word: &[u8], rest: &[&[u8]]) -> Result<Option<Recipe>, AllocError>
-    ensures recipe { IfOk result (λ r. recipe_of r ≡ form.pair_recipe word.now (texts rest.now)) }
+    ensures recipe { IfOk result (λ r. recipe_view r ≡ form.pair_recipe word.now (texts rest.now)) }
     ensures sound { IfOk result (λ r. IfSome r IsRecipe) }
 {
     if word == b"meet".as_slice() {
@@ -212,7 +213,7 @@ fn pair_recipe(alloc: Global, word: &[u8], rest: &[&[u8]]) -> Result<Option<Reci
 
 /// What a line of this first word says behind the name, where its set is made of others.
 fn recipe_of_sets(alloc: Global, word: &[u8], rest: &[&[u8]]) -> Result<Option<Recipe>, AllocError>
-    ensures recipe { IfOk result (λ r. recipe_of r ≡ form.or_else
+    ensures recipe { IfOk result (λ r. recipe_view r ≡ option_or
         (form.pair_recipe word.now (texts rest.now)) (form.change_recipe word.now (texts rest.now))) }
     ensures sound { IfOk result (λ r. IfSome r IsRecipe) }
 {
@@ -224,7 +225,7 @@ fn recipe_of_sets(alloc: Global, word: &[u8], rest: &[&[u8]]) -> Result<Option<R
 
 /// What a line of this first word says behind the name, where its set is made of one other.
 fn change_recipe(alloc: Global, word: &[u8], rest: &[&[u8]]) -> Result<Option<Recipe>, AllocError>
-    ensures recipe { IfOk result (λ r. recipe_of r ≡ form.change_recipe word.now (texts rest.now)) }
+    ensures recipe { IfOk result (λ r. recipe_view r ≡ form.change_recipe word.now (texts rest.now)) }
     ensures sound { IfOk result (λ r. IfSome r IsRecipe) }
 {
     if word == b"image".as_slice() {
@@ -240,7 +241,7 @@ fn change_recipe(alloc: Global, word: &[u8], rest: &[&[u8]]) -> Result<Option<Re
 
 /// What a line of this first word says behind the name.
 pub fn read_recipe(alloc: Global, word: &[u8], rest: &[&[u8]]) -> Result<Option<Recipe>, AllocError>
-    ensures recipe { IfOk result (λ r. recipe_of r ≡ form.recipe_of word.now (texts rest.now)) }
+    ensures recipe { IfOk result (λ r. recipe_view r ≡ form.recipe_of word.now (texts rest.now)) }
     ensures sound { IfOk result (λ r. IfSome r IsRecipe) }
 {
     if word == b"con".as_slice() {

@@ -6,7 +6,7 @@ ghost use Rattle.std.specs.List.{slice_split, All};
 ghost use Rattle.lra_linear.specs.Kinds.{is_equality};
 ghost use Rattle.lra_script.specs.LineForms as form;
 ghost use Rattle.lra_script.specs.LineForms.{all_of};
-ghost use Rattle.lra_script.specs.Views.{texts, constraint_of, constraints_of, generator_of, generators_of};
+ghost use Rattle.lra_script.specs.Views.{texts, constraint_of, constraints_of, generator_view, generators_of};
 ghost use Rattle.lra_script.specs.Views.{HasDivisor, IsDivided};
 
 use crate::numbers::numbers_of;
@@ -142,7 +142,7 @@ fn is_divided(kind: GenKind, numbers: &[i128]) -> bool
 }
 
 fn written_generator(alloc: Global, words: &[&[u8]]) -> Result<Option<Generator>, AllocError>
-    ensures generator { IfOk result (λ r. option_map generator_of r ≡ form.generator_of (texts words.now)) }
+    ensures generator { IfOk result (λ r. option_map generator_view r ≡ form.generator_of (texts words.now)) }
     ensures divided { IfOk result (λ r. IfSome r (λ g. IsDivided g.kind g.numbers)) }
 {
     let [word, numbers @ ..] = words else {

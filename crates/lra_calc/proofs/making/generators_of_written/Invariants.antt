@@ -1,13 +1,13 @@
 use Rattle.std.proofs.Common.{◌≡◌, ◌++◌, drop, length, map}
 use Rattle.lra_sys.specs.Listed.{generators, FitKinds}
 use Rattle.lra_script.specs.LineForms.{given_of}
-use Rattle.lra_script.specs.Views.{generator_of}
+use Rattle.lra_script.specs.Views.{generator_view}
 use Rattle.lra_calc.proofs.making.generators_of_written.Given as goal
 
 abbrev pub invariant-loop-generator : goal.invariant-loop-generator
 invariant-loop-generator l = record {
   dims : l.system.dims ≡ l.n;
   kinds : length l.system.rows ≡ length l.system.kinds;
-  made : generators l.system ++ map (λ g. given_of (generator_of g)) (drop l.generator-index l.generators) ≡ map (λ g. given_of (generator_of g)) l.generators;
+  made : generators l.system ++ map (λ g. given_of (generator_view g)) (drop l.generator-index l.generators) ≡ map (λ g. given_of (generator_view g)) l.generators;
   fit : FitKinds l.system.rows l.system.kinds;
 }

@@ -3,15 +3,15 @@ use Rattle.std.proofs.Common.{map, ◌∙◌}
 use Rattle.lra_linear.specs.Descriptions.{Gen as generated_by}
 use Rattle.lra_linear.specs.OperationStrain.{FromGeneratorsStrains}
 use Rattle.lra_script.specs.LineForms.{given_of}
-use Rattle.lra_script.specs.Views.{generator_of}
+use Rattle.lra_script.specs.Views.{generator_view}
 use Rattle.lra_calc.proofs.MakingLemmas.{made_as_told, map_map}
 use Rattle.lra_calc.proofs.making.make_of_generators.Goals as goal
 
 pub returns-clause-made : goal.returns-clause-made
 returns-clause-made c =
     let n = c.args.n in
-    let given = map given_of (map generator_of c.args.generators.now) in
-    let made = c.in_ok-generators.ensures.made ∙ map_map given_of generator_of c.args.generators.now in
+    let given = map given_of (map generator_view c.args.generators.now) in
+    let made = c.in_ok-generators.ensures.made ∙ map_map given_of generator_view c.args.generators.now in
     let exact = rw (c.in_ok-generators.ensures.dims, made) at c.in_ok-polyhedron.ensures.exact in
     let within = rw (c.in_ok-generators.ensures.dims, made) at c.in_ok-polyhedron.ensures.within in
     let strain = rw (c.in_ok-generators.ensures.dims, made) at c.in_ok-polyhedron.ensures.strain in

@@ -8,6 +8,6 @@ use Rattle.lra_script.proofs.rows.all_generators.Given as goal
 
 abbrev pub invariant-loop-part : goal.invariant-loop-part
 invariant-loop-part l = record {
-  so_far : onto (map view.generator_of l.generators.items) (all_of generator_of (map (λ p. texts p.now) (drop l.part-index l.parts))) ≡ all_of generator_of (map (λ p. texts p.now) l.parts);
+  so_far : onto (map view.generator_view l.generators.items) (all_of generator_of (map (λ p. texts p.now) (drop l.part-index l.parts))) ≡ all_of generator_of (map (λ p. texts p.now) l.parts);
   divided : All (λ g. IsDivided g.kind g.numbers) l.generators.items;
 }
