@@ -173,7 +173,7 @@ fn assigned_canonical(
 
 // The image under the assignment of the form to the column, which the other form takes back. Or names a number that
 // passes the range.
-fn moved(p: &Poly, column: usize, form: &Row, back: &Row) -> Result<Poly, RowError>
+fn move_lists(p: &Poly, column: usize, form: &Row, back: &Row) -> Result<Poly, RowError>
     requires back { TakesBack column (suc p.now.dims) form.now back.now }
     requires above { 0 < column }
     requires some { ¬ (IsEmptySet p.now.dims (Con p.now.rows)) }
@@ -190,7 +190,7 @@ fn moved(p: &Poly, column: usize, form: &Row, back: &Row) -> Result<Poly, RowErr
 }
 
 // The same; none where a number passes the range.
-fn moved_in_range(
+fn move_lists_in_range(
     p: &Poly,
     column: usize,
     form: &Row,
@@ -202,7 +202,7 @@ fn moved_in_range(
     ensures { IfOk result (λ image. IfSome image
         (IsPolyhedronOf p.now.dims (Image p.now.dims column form.now (Con p.now.rows)))) }
 {
-    match moved(p, column, form, back) {
+    match move_lists(p, column, form, back) {
         Ok(image) => Ok(Some(image)),
         Err(RowError::Memory) => Err(AllocError),
         Err(RowError::Excess(_)) => Ok(None),
@@ -223,7 +223,7 @@ pub fn moved_image(p: &Poly, column: usize, form: &Row) -> Result<Option<Poly>, 
     }
     match taken_back(p.allocator(), form, column)? {
         Some(back) => {
-            let image = moved_in_range(p, column, form, &back)?;
+            let image = move_lists_in_range(p, column, form, &back)?;
             Ok(image)
         }
         None => Ok(None),
@@ -244,7 +244,7 @@ pub fn moved_preimage(p: &Poly, column: usize, form: &Row) -> Result<Option<Poly
     }
     match taken_back(p.allocator(), form, column)? {
         Some(back) => {
-            let preimage = moved_in_range(p, column, &back, form)?;
+            let preimage = move_lists_in_range(p, column, &back, form)?;
             Ok(preimage)
         }
         None => Ok(None),

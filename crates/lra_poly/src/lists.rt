@@ -60,7 +60,7 @@ pub fn row_of_form(alloc: Global, form: &LinExpr) -> Result<Row, AllocError>
 }
 
 // The constraint of the test, alone.
-pub fn tested(alloc: Global, test: &Test) -> Result<ConSys, AllocError>
+pub fn list_test(alloc: Global, test: &Test) -> Result<ConSys, AllocError>
     ensures dims { IfOk result (λ list. list.dims ≡ length test.now.expr.coefficients) }
     ensures rows { IfOk result (λ list. constraints list ≡ test_row test.now.kind test.now.expr ∷ []) }
 {

@@ -20,7 +20,7 @@ ghost use Rattle.lra_poly.specs.Saturations.{saturation_of};
 
 use crate::facets::facet_cone;
 use crate::inclusion::{Inclusion, inclusion_of};
-use crate::lists::{joined_generators, joined_rows, tested};
+use crate::lists::{joined_generators, joined_rows, list_test};
 use crate::maximum::{Maximum, maximum_of};
 use crate::outcome::{Outcome, outcome_of};
 use crate::saturation::saturation_matrix;
@@ -313,7 +313,7 @@ impl Poly {
 
     // The polyhedron of the constraints and of these, converted from nothing. Where it is flagged it has at least their
     // points.
-    fn narrowed_anew(&self, more: &ConSys) -> Result<(Poly, Outcome), AllocError>
+    fn meet_rows_anew(&self, more: &ConSys) -> Result<(Poly, Outcome), AllocError>
         requires { more.now.dims ≡ self.now.dims }
         ensures dims { IfOk result (λ r. r.0.dims ≡ self.now.dims) }
         ensures exact { IfOk result (λ r.
@@ -329,7 +329,7 @@ impl Poly {
     }
 
     // The same, where these are taken in after those, by the lists at hand.
-    fn narrowed(&self, more: &ConSys) -> Result<(Poly, Outcome), AllocError>
+    fn meet_rows(&self, more: &ConSys) -> Result<(Poly, Outcome), AllocError>
         requires { more.now.dims ≡ self.now.dims }
         ensures dims { IfOk result (λ r. r.0.dims ≡ self.now.dims) }
         ensures exact { IfOk result (λ r.
@@ -350,7 +350,7 @@ impl Poly {
                 Ok((made, outcome))
             }
             None => {
-                let (made, outcome) = self.narrowed_anew(more)?;
+                let (made, outcome) = self.meet_rows_anew(more)?;
                 Ok((made, outcome))
             }
         }
@@ -373,7 +373,7 @@ impl Poly {
         if self.meets(more) {
             return Ok(Outcome::Exact);
         }
-        let (made, outcome) = self.narrowed(more)?;
+        let (made, outcome) = self.meet_rows(more)?;
         match &outcome {
             Outcome::Exact => *self = made,
             Outcome::Flagged(_) => {
@@ -416,7 +416,7 @@ impl Poly {
         ensures strain { IfOk result (IfFlagged (AddTestStrains self.old (test_row test.now.kind test.now.expr))) }
         ensures unchanged { OnErr result (self.new ≡ self.old) }
     {
-        let row = tested(self.alloc, test)?;
+        let row = list_test(self.alloc, test)?;
         let outcome = self.narrow(&row)?;
         Ok(outcome)
     }
@@ -443,7 +443,7 @@ impl Poly {
     }
 
     // The same, converted from nothing. Where it is flagged it has at least their points.
-    fn united_anew(&self, other: &Poly) -> Result<(Poly, Outcome), AllocError>
+    fn unite_anew(&self, other: &Poly) -> Result<(Poly, Outcome), AllocError>
         requires { other.now.dims ≡ self.now.dims }
         ensures dims { IfOk result (λ r. r.0.dims ≡ self.now.dims) }
         ensures canonical { IfOk result (λ r. IsPolyhedron r.0) }
@@ -460,7 +460,7 @@ impl Poly {
     }
 
     // The polyhedron of the generators of both. Where it is flagged it has at least their points.
-    fn united(&self, other: &Poly) -> Result<(Poly, Outcome), AllocError>
+    fn unite(&self, other: &Poly) -> Result<(Poly, Outcome), AllocError>
         requires { other.now.dims ≡ self.now.dims }
         ensures dims { IfOk result (λ r. r.0.dims ≡ self.now.dims) }
         ensures canonical { IfOk result (λ r. IsPolyhedron r.0) }
@@ -474,7 +474,7 @@ impl Poly {
         match self.grown(other)? {
             Some(made) => Ok((made, Outcome::Exact)),
             None => {
-                let (made, outcome) = self.united_anew(other)?;
+                let (made, outcome) = self.unite_anew(other)?;
                 Ok((made, outcome))
             }
         }
@@ -496,7 +496,7 @@ impl Poly {
         if other.lies_in(self) {
             return Ok(Outcome::Exact);
         }
-        let (made, outcome) = self.united(other)?;
+        let (made, outcome) = self.unite(other)?;
         *self = made;
         Ok(outcome)
     }

@@ -5,8 +5,8 @@ use Rattle.lra_maps.proofs.BackImages.{back_of, preimage_if_moved}
 use Rattle.lra_maps.proofs.TakenBack.{taken_forth}
 use Rattle.lra_maps.proofs.moved.moved_preimage.Goals as goal
 
-pub moved_in_range-requires-clause-back : goal.moved_in_range-requires-clause-back
-moved_in_range-requires-clause-back c =
+pub move_lists_in_range-requires-clause-back : goal.move_lists_in_range-requires-clause-back
+move_lists_in_range-requires-clause-back c =
     let p = c.args.p.now in
     taken_forth c.args.column (suc p.dims) c.args.form.now c.in-Some.back
     (back_of p c.args.column c.args.form.now c.in-Some.back c.in_ok-back.field-0 c.requires.width c.in-Some.is

@@ -1,10 +1,10 @@
--- Goals of `moved`: the image under the assignment of the form to the column, which the other form takes back.
+-- Goals of `move_lists`: the image under the assignment of the form to the column, which the other form takes back.
 use Rattle.std.proofs.Common.{subst, sym}
 use Rattle.lra_linear.specs.Descriptions.{Con}
 use Rattle.lra_linear.specs.Polyhedra.{IsPolyhedronOf}
 use Rattle.lra_linear.specs.SetOperations.{Image}
 use Rattle.lra_maps.proofs.MovedPolyhedra.{is_moving, moved_image}
-use Rattle.lra_maps.proofs.moved.moved.Goals as goal
+use Rattle.lra_maps.proofs.moved.move_lists.Goals as goal
 
 pub from_canonical-requires-clause-canonical : goal.from_canonical-requires-clause-canonical
 from_canonical-requires-clause-canonical c =

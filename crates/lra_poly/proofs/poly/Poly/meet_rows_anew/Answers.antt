@@ -1,4 +1,4 @@
--- Goals of `Poly::narrowed_anew`: the polyhedron of the constraints and of these, converted from nothing.
+-- Goals of `Poly::meet_rows_anew`: the polyhedron of the constraints and of these, converted from nothing.
 use Rattle.std.proofs.Common.{◌≡◌, ◌++◌, ◌∙◌, ap, List, ℕ, subst}
 use Rattle.lra_linear.specs.Descriptions.{Con, Given}
 use Rattle.lra_linear.specs.OperationStrain.{FromRowsStrains}
@@ -6,7 +6,7 @@ use Rattle.lra_linear.specs.Points.{IsWithin}
 use Rattle.lra_linear.specs.Polyhedra.{IsPolyhedronOf, Polyhedron}
 use Rattle.lra_sys.specs.Listed.{constraints}
 use Rattle.lra_poly.specs.Outcomes.{IfExact, IfFlagged}
-use Rattle.lra_poly.proofs.poly.Poly.narrowed_anew.Goals as goal
+use Rattle.lra_poly.proofs.poly.Poly.meet_rows_anew.Goals as goal
 
 pub returns-clause-exact : goal.returns-clause-exact
 returns-clause-exact c =

@@ -1,4 +1,4 @@
--- Goals of `Poly::united_anew`: the same, converted from nothing.
+-- Goals of `Poly::unite_anew`: the same, converted from nothing.
 use Rattle.std.proofs.Common.{◌≡◌, ◌++◌, ◌∙◌, List, ℕ, ap, subst}
 use Rattle.lra_linear.specs.Descriptions.{Con, Gen, Given}
 use Rattle.lra_linear.specs.OperationStrain.{FromGeneratorsStrains}
@@ -7,7 +7,7 @@ use Rattle.lra_linear.specs.Polyhedra.{Polyhedron, IsPolyhedronOf}
 use Rattle.lra_sys.specs.Listed.{generators}
 use Rattle.lra_poly.specs.Outcomes.{IfExact, IfFlagged}
 use Rattle.lra_poly.proofs.PolyLemmas.{joined_seen}
-use Rattle.lra_poly.proofs.poly.Poly.united_anew.Goals as goal
+use Rattle.lra_poly.proofs.poly.Poly.unite_anew.Goals as goal
 
 pub returns-clause-exact : goal.returns-clause-exact
 returns-clause-exact c =

@@ -1,10 +1,10 @@
--- Goals of `tested`: the constraint of the test, alone.
+-- Goals of `list_test`: the constraint of the test, alone.
 use Rattle.std.proofs.Common.{◌≡◌, ◌∙◌, ◌++◌, ◌∷◌, [], List, ℤ, ap, length, refl, sym}
 use Rattle.lra_linear.specs.Kinds.{is_equality}
 use Rattle.lra_sys.specs.Listed.{given_by}
 use Rattle.lra_poly.specs.Rows.{form_row, test_row}
 use Rattle.lra_poly.proofs.JoinedLists.{row_added}
-use Rattle.lra_poly.proofs.lists.tested.Goals as goal
+use Rattle.lra_poly.proofs.lists.list_test.Goals as goal
 
 pub returns-clause-rows : goal.returns-clause-rows
 returns-clause-rows c =

@@ -1,11 +1,11 @@
--- Goals of `Poly::narrowed`: the same, where these are taken in after those, by the lists at hand.
+-- Goals of `Poly::meet_rows`: the same, where these are taken in after those, by the lists at hand.
 use Rattle.std.proofs.Common.{◌≡◌, ◌∷◌, ◌++◌, drop, List, ℕ, ap, subst}
 use Rattle.lra_linear.specs.Descriptions.{Con, Given, inequality}
 use Rattle.lra_linear.specs.Points.{IsWithin}
 use Rattle.lra_linear.specs.Polyhedra.{Polyhedron, positivity}
 use Rattle.lra_sys.specs.Listed.{constraints}
 use Rattle.lra_poly.proofs.KeptCones.{kept_rows}
-use Rattle.lra_poly.proofs.poly.Poly.narrowed.Goals as goal
+use Rattle.lra_poly.proofs.poly.Poly.meet_rows.Goals as goal
 
 pub returns-in_ok-made-in-Some-clause-within : goal.returns-in_ok-made-in-Some-clause-within
 returns-in_ok-made-in-Some-clause-within c =
