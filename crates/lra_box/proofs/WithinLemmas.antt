@@ -1,11 +1,12 @@
 -- Being within is kept by the tables of a test.
-use Rattle.std.proofs.Common.{◌≡◌, ℕ, zero, suc, ℤ, List, [], ◌∷◌, Option, None, Some, true, refl, ap, arith}
+use Rattle.std.proofs.Common.{◌≡◌, ℕ, zero, suc, ℤ, List, [], ◌∷◌, length, Option, None, Some, true, refl, ap, arith}
 use Rattle.std.specs.Prelude.{slice_set, slice_index_or}
-use Rattle.std.proofs.lemmas.Int.{ints}
+use Rattle.std.proofs.lemmas.Int.{ints, clamps}
 use Rattle.std.proofs.lemmas.Bool.{false≢true}
 use Rattle.lra_box.specs.declared.interval.Interval.{Interval}
 use Rattle.lra_box.specs.Bounds.{open_interval, crossed, crossed_ends}
-use Rattle.lra_box.specs.Tables.{LowWithin, HighWithin, IntervalsWithin, BoundsWithin}
+use Rattle.lra_box.specs.Content.{BoundsFit}
+use Rattle.lra_box.specs.Tables.{lesser_low, greater_high, joined_intervals, joined_bounds, LowWithin, HighWithin, IntervalsWithin, BoundsWithin}
 use Rattle.lra_box.specs.Covering.{low_within_refl, high_within_refl, intervals_within_refl, within_refl}
 
 -- one interval within another
@@ -80,3 +81,49 @@ within_both (Some is) (Some js) p q = ap Some (intervals_both is js p q)
 
 pub equal_within : (a b : Option (List Interval)) → a ≡ b → BoundsWithin a b × BoundsWithin b a
 equal_within a b e = rw e (within_refl b, within_refl b)
+
+-- joins ----------------------------------------------------------------------------------------
+
+low_left : (a b : Option ℤ) → LowWithin a (lesser_low a b)
+low_left None b = tt
+low_left (Some a) None = tt
+low_left (Some a) (Some b) = omega (arith, ints, clamps)
+
+low_right : (a b : Option ℤ) → LowWithin b (lesser_low a b)
+low_right None b = tt
+low_right (Some a) None = tt
+low_right (Some a) (Some b) = omega (arith, ints, clamps)
+
+high_left : (a b : Option ℤ) → HighWithin a (greater_high a b)
+high_left None b = tt
+high_left (Some a) None = tt
+high_left (Some a) (Some b) = omega (arith, ints, clamps)
+
+high_right : (a b : Option ℤ) → HighWithin b (greater_high a b)
+high_right None b = tt
+high_right (Some a) None = tt
+high_right (Some a) (Some b) = omega (arith, ints, clamps)
+
+joined_left : (is js : List Interval) → length is ≡ length js → IntervalsWithin is (joined_intervals is js)
+joined_left [] js e = tt
+joined_left (i ∷ is) [] e = absurd (omega arith)
+joined_left (i ∷ is) (j ∷ js) e = (low_left i.low j.low, high_left i.high j.high, joined_left is js (omega arith))
+
+joined_right : (is js : List Interval) → length is ≡ length js → IntervalsWithin js (joined_intervals is js)
+joined_right [] [] e = tt
+joined_right [] (j ∷ js) e = absurd (omega arith)
+joined_right (i ∷ is) [] e = absurd (omega arith)
+joined_right (i ∷ is) (j ∷ js) e = (low_right i.low j.low, high_right i.high j.high, joined_right is js (omega arith))
+
+-- the join of bounds of as many dimensions is wider than both
+pub left_within : (n : ℕ) (a b : Option (List Interval)) → BoundsFit n a → BoundsFit n b →
+    BoundsWithin a (joined_bounds a b)
+left_within n None b f g = tt
+left_within n (Some is) None f g = intervals_within_refl is
+left_within n (Some is) (Some js) f g = joined_left is js (omega arith)
+
+pub right_within : (n : ℕ) (a b : Option (List Interval)) → BoundsFit n a → BoundsFit n b →
+    BoundsWithin b (joined_bounds a b)
+right_within n None b f g = within_refl b
+right_within n (Some is) None f g = tt
+right_within n (Some is) (Some js) f g = joined_right is js (omega arith)

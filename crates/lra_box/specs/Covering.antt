@@ -5,7 +5,6 @@ use Rattle.std.proofs.lemmas.Int.{ints, clamps}
 use Rattle.lra_box.specs.declared.interval.Interval.{Interval}
 use Rattle.lra_box.specs.declared.interval.Side.TheVariants.{Low, High}
 use Rattle.lra_box.specs.Bounds.{BoundHolds, InBounds, open_interval}
-use Rattle.lra_box.specs.Content.{BoundsFit}
 use Rattle.lra_box.specs.Tables.{has_bounds, lesser_low, greater_high, joined_intervals, joined_bounds, LowWithin}
 use Rattle.lra_box.specs.Tables.{HighWithin, IntervalsWithin, BoundsWithin}
 
@@ -91,26 +90,6 @@ within_trans (Some is) (Some js) (Some ks) p q = intervals_within_trans is js ks
 
 -- ---- joins
 
-low_left : (a b : Option ℤ) → LowWithin a (lesser_low a b)
-low_left None b = tt
-low_left (Some a) None = tt
-low_left (Some a) (Some b) = omega (arith, ints, clamps)
-
-low_right : (a b : Option ℤ) → LowWithin b (lesser_low a b)
-low_right None b = tt
-low_right (Some a) None = tt
-low_right (Some a) (Some b) = omega (arith, ints, clamps)
-
-high_left : (a b : Option ℤ) → HighWithin a (greater_high a b)
-high_left None b = tt
-high_left (Some a) None = tt
-high_left (Some a) (Some b) = omega (arith, ints, clamps)
-
-high_right : (a b : Option ℤ) → HighWithin b (greater_high a b)
-high_right None b = tt
-high_right (Some a) None = tt
-high_right (Some a) (Some b) = omega (arith, ints, clamps)
-
 low_least : (a b c : Option ℤ) → LowWithin a c → LowWithin b c → LowWithin (lesser_low a b) c
 low_least a b None p q = tt
 low_least None b (Some c) p q = absurd p
@@ -123,17 +102,6 @@ high_least None b (Some c) p q = absurd p
 high_least (Some a) None (Some c) p q = absurd q
 high_least (Some a) (Some b) (Some c) p q = omega (arith, ints, clamps)
 
-joined_left : (is js : List Interval) → length is ≡ length js → IntervalsWithin is (joined_intervals is js)
-joined_left [] js e = tt
-joined_left (i ∷ is) [] e = absurd (omega arith)
-joined_left (i ∷ is) (j ∷ js) e = (low_left i.low j.low, high_left i.high j.high, joined_left is js (omega arith))
-
-joined_right : (is js : List Interval) → length is ≡ length js → IntervalsWithin js (joined_intervals is js)
-joined_right [] [] e = tt
-joined_right [] (j ∷ js) e = absurd (omega arith)
-joined_right (i ∷ is) [] e = absurd (omega arith)
-joined_right (i ∷ is) (j ∷ js) e = (low_right i.low j.low, high_right i.high j.high, joined_right is js (omega arith))
-
 joined_least : (is js ks : List Interval) → IntervalsWithin is ks → IntervalsWithin js ks →
     IntervalsWithin (joined_intervals is js) ks
 joined_least [] js ks p q = p
@@ -142,19 +110,6 @@ joined_least (i ∷ is) [] (k ∷ ks) p q = absurd q
 joined_least (i ∷ is) (j ∷ js) [] p q = absurd p
 joined_least (i ∷ is) (j ∷ js) (k ∷ ks) p q =
     (low_least i.low j.low k.low p.0 q.0, high_least i.high j.high k.high p.1 q.1, joined_least is js ks p.2 q.2)
-
--- the join of bounds of as many dimensions is wider than both
-pub left_within : (n : ℕ) (a b : Option (List Interval)) → BoundsFit n a → BoundsFit n b →
-    BoundsWithin a (joined_bounds a b)
-left_within n None b f g = tt
-left_within n (Some is) None f g = intervals_within_refl is
-left_within n (Some is) (Some js) f g = joined_left is js (omega arith)
-
-pub right_within : (n : ℕ) (a b : Option (List Interval)) → BoundsFit n a → BoundsFit n b →
-    BoundsWithin b (joined_bounds a b)
-right_within n None b f g = within_refl b
-right_within n (Some is) None f g = tt
-right_within n (Some is) (Some js) f g = joined_right is js (omega arith)
 
 -- what is wider than both is wider than their join
 pub least_within : (a b c : Option (List Interval)) → BoundsWithin a c → BoundsWithin b c →

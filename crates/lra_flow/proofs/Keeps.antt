@@ -17,7 +17,7 @@ use Rattle.lra_flow.specs.Condition as condition
 use Rattle.lra_flow.specs.Condition.{IsPushed}
 use Rattle.lra_flow.specs.Conditions.{testing, Leaves}
 use Rattle.lra_flow.specs.Pass.{Result, Pass}
-use Rattle.lra_flow.specs.Sound.{ChangesKeep, Covers}
+use Rattle.lra_flow.proofs.Covers.{ChangesKeep, Covers}
 use Rattle.lra_flow.proofs.Keeping.{LeadsAll, op_leads, store_is}
 use Rattle.lra_flow.proofs.CondKeeping.{cond_keeps}
 use Rattle.lra_flow.proofs.Sound.{covers}

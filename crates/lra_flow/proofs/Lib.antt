@@ -6,6 +6,7 @@ pub mod FormLemmas
 pub mod Keeping
 pub mod CondKeeping
 -- The values of a derivation have all stores of the runs.
+pub mod Covers
 pub mod Sound
 pub mod Keeps
 -- The values of a derivation have no more parts than the options say.

@@ -13,8 +13,8 @@ use Rattle.lra_operations.specs.Graph.{Exit, broken, continued, returned, normal
 use Rattle.lra_base.specs.declared.options.Options.{Options}
 use Rattle.lra_flow.specs.Operations.{dropping}
 use Rattle.lra_flow.specs.Changes.{AreJoined}
-use Rattle.lra_flow.specs.Pass.{Entry, value, failing, Result, noted, first_of_call, values_behind, in_turn, behind, jumps, GoesRound, Grows, Narrows, mode_at, Pass}
-use Rattle.lra_flow.specs.Sound.{jumps_of, ChangesKeep, Covers}
+use Rattle.lra_flow.specs.Pass.{Entry, value, failing, Result, noted, jumps_of, first_of_call, values_behind, in_turn, behind, jumps, GoesRound, Grows, Narrows, mode_at, Pass}
+use Rattle.lra_flow.proofs.Covers.{ChangesKeep, Covers}
 
 left_jump : {V : Type 0} (k : Exit) (r s : Result V) (v : V) (f : Option ℕ) (u : V) → Contains (jumps_of k r) u → Contains (jumps_of k (in_turn r s v f)) u
 left_jump broken r s v f u h = Contains-append_left r.breaks s.breaks u h

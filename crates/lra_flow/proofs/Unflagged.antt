@@ -11,7 +11,7 @@ use Rattle.lra_domain.specs.Meaning.{worse}
 use Rattle.lra_flow.specs.Operations.{defined, dropping, straining}
 use Rattle.lra_flow.specs.Changes.{first_values}
 use Rattle.lra_flow.specs.Pass.{Result, noted}
-use Rattle.lra_flow.specs.Analysis.{Written, Derivation, Unflagged, Strains}
+use Rattle.lra_flow.specs.Analysis.{Written, Derivation, Strains}
 use Rattle.lra_flow.proofs.Transfer.{Matters, Transfers, done, passes}
 
 -- all exact, no flag
@@ -51,7 +51,7 @@ strained_ones m laws = record {
 }
 
 -- a derivation without a flag is the written iteration
-pub unflagged_is_written : {V H : Type 0} (m : Meaning V H) → Laws m → (set : Options) (P : Program) (g : Node) (r : Result V) → Derivation m set P g r → Unflagged r → Written m set P g r
+pub unflagged_is_written : {V H : Type 0} (m : Meaning V H) → Laws m → (set : Options) (P : Program) (g : Node) (r : Result V) → Derivation m set P g r → r.flag ≡ None → Written m set P g r
 unflagged_is_written {V} {H} m laws set P g r (none, first, e, universal, values, pass) is =
     let p = passes V H (dropping m) (defined m) (λ e. e ≡ Exact) (λ f. f ≡ None) none_flagged (exact_ones m laws) set g (noted 0 e None) first r is pass in
     let k = exact_before 0 e None p.0 in

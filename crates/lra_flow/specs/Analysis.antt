@@ -25,9 +25,6 @@ Written m set P g r = Iteration (defined m) set P g r
 abbrev pub Derivation : {V H : Type 0} → Meaning V H → Options → Program → Node → Result V → Type 0
 Derivation m set P g r = Iteration (dropping m) set P g r
 
-abbrev pub Unflagged : {V : Type 0} → Result V → Type 0
-Unflagged r = r.flag ≡ None
-
 -- an operation of this point strains on the operands that the written iteration has there
 abbrev pub Strains : {V H : Type 0} → Meaning V H → Options → Program → Node → ℕ → Type 0
 Strains {V} m set P g q = (r : Result V) × Iteration (straining m) set P g r × (r.flag ≡ Some q)

@@ -8,4 +8,3 @@ pub mod Conditions
 pub mod Given
 pub mod Pass
 pub mod Analysis
-pub mod Sound

@@ -39,6 +39,12 @@ noted q e (Some p) = Some p
 noted q Exact None = None
 noted q Flagged None = Some q
 
+-- the values of the jumps of this kind
+abbrev pub jumps_of : {V : Type 0} → Exit → Result V → List V
+jumps_of broken r = r.breaks
+jumps_of continued r = r.continues
+jumps_of returned r = r.returns
+
 -- without a jump
 abbrev pub goes_on : {V : Type 0} → List (Entry V) → V → Option ℕ → Result V
 goes_on xs v f = record { entries = xs; normal = v; breaks = []; continues = []; returns = []; flag = f }

@@ -17,11 +17,11 @@ use Rattle.lra_graph.specs.declared.points.Limit.TheVariants.{Variables, Points,
 use Rattle.lra_graph.specs.declared.frame.Frame.{Frame}
 use Rattle.lra_graph.specs.declared.frame.Back.{Back}
 use Rattle.lra_graph.specs.Limits.{Progress, passed, stopped, walk}
-use Rattle.lra_graph.specs.Building.{inside, StmtStands, ItemsStand, GivenStands, CallStands, WritesStmt, WritesItems, WritesRvalue, WritesDeclared, WritesReturn}
+use Rattle.lra_graph.specs.Building.{inside, StmtStands, ItemsStand, GivenStands, CallStands, WritesStmt, WritesItems, WritesRvalue, WritesDeclared}
 use Rattle.lra_graph.proofs.Walking.{not_passed, passed_same, chosen_then, chosen_passed}
 use Rattle.lra_graph.proofs.Writing.{absent_written, nothing_written, block_written, assign_written, call_written, if_written, rounds_written, loop_written, break_written, continue_written}
 use Rattle.lra_graph.proofs.Writing.{assert_written, assume_written, for_written, return_written, return_any_written, return_value_written, return_call_written, end_any_written, end_value_written}
-use Rattle.lra_graph.proofs.Writing.{end_call_written, none_written, statement_written, declaration_written, fresh_written, given_written, value_written}
+use Rattle.lra_graph.proofs.Writing.{WritesReturn, end_call_written, none_written, statement_written, declaration_written, fresh_written, given_written, value_written}
 use Rattle.lra_graph.proofs.Calling.{no_call_more, invoked}
 use Rattle.lra_graph.proofs.Standing.{block_stands, assign_stands, call_stands, true_stands, false_stands, return_stands, first_stands, others_stand, result_stands, declared_stands, behind_stand}
 use Rattle.lra_graph.proofs.Standing.{body_stands, step_stands, init_stands, for_again, callee_stands, main_stands, the_callee, break_stands, continue_stands}

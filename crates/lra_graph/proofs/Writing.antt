@@ -16,7 +16,7 @@ use Rattle.lra_operations.specs.Inlined.{is_loop, as_value, as_result, loop_node
 use Rattle.lra_graph.specs.declared.frame.Frame.{Frame}
 use Rattle.lra_graph.specs.declared.frame.Back.{Back}
 use Rattle.lra_graph.specs.Limits.{walk, passed}
-use Rattle.lra_graph.specs.Building.{receiver, any_left, value_left, call_left, back_parts, IsFrame, Begins, inside, WritesStmt, WritesItems, WritesRvalue, WritesLoop, WritesDeclared, WritesReturn}
+use Rattle.lra_graph.specs.Building.{receiver, any_left, value_left, call_left, back_parts, IsFrame, Begins, inside, WritesStmt, WritesItems, WritesRvalue, WritesLoop, WritesDeclared, Writes}
 use Rattle.lra_graph.specs.Building.{LeavesLoop}
 use Rattle.lra_graph.proofs.Walking.{walk_then, begins_walk, point_there, one_longer}
 
@@ -50,6 +50,11 @@ module _ (P : Program) (path : List ℕ) (r : Frame) where
 
   abbrev N : ℕ
   N = r.live
+
+  -- a return behind its point q
+  abbrev pub WritesReturn : ℕ → List Site → Option Rvalue → Node → List Site → Type 0
+  WritesReturn q S o g U = Writes path r (given_events (inside P path r) path N o) S U
+      (λ T f. (at : ℕ) → length S ≡ suc q → Has T (spot_of f N q) at → Inl P T (spot_of f N q) (return at o) (seq (point q) g) (length U))
 
   has_point : (S U T : List Site) (f : inlined.Frame) (at n : ℕ) (asserts : Bool) → Pointed S (site at n asserts) U → Begins U T → IsFrame path r f → HasSite T (spot_of f n (length S)) at asserts
   has_point S U T f at n asserts e b is = rw is.path (point_there S U T (site at n asserts) e b)
@@ -199,7 +204,7 @@ module _ (P : Program) (path : List ℕ) (r : Frame) where
             (loops_as T f m q (length S) (length W) (length W) (loop at c s t) k (length U) i refl (y'.placed T f b (with_live m is) at has)));
       }
 
-  pub return_written : (S V U : List Site) (q at : ℕ) (o : Option Rvalue) (h g : Node) → q ≡ length S → Pointed S (site at N false) V → WritesReturn P path r q V o h U → g ≡ seq (point q) h
+  pub return_written : (S V U : List Site) (q at : ℕ) (o : Option Rvalue) (h g : Node) → q ≡ length S → Pointed S (site at N false) V → WritesReturn q V o h U → g ≡ seq (point q) h
       → WritesStmt P path r S (return at o) g U
   return_written S V U q at o h g i e x a = record {
     walked = walk_then S (plain_site path at N ∷ []) (given_events (inside P path r) path N o) V (passed U) e x.walked;
@@ -216,7 +221,7 @@ module _ (P : Program) (path : List ℕ) (r : Frame) where
       (subst (λ z. Inl P T (spot_of f N q) s (seq (point q) (return_node q (op z) m N)) u) a y)
 
   module _ (S : List Site) (q : ℕ) (b : Back) (back : r.back ≡ Some b) (low : b.length ≤ N) where
-    pub return_any_written : (g : Node) → g ≡ return_node q (give_any b.target) b.length N → WritesReturn P path r q S None g S
+    pub return_any_written : (g : Node) → g ≡ return_node q (give_any b.target) b.length N → WritesReturn q S None g S
     return_any_written g a = record {
       walked = refl;
       placed = λ T f bs is at long has.
@@ -225,7 +230,7 @@ module _ (P : Program) (path : List ℕ) (r : Frame) where
           rw (a, long) (return_as T f q (return at None) give_any (suc q) z.0.target b.target z.0.length b.length z.2 z.3 (as_return z.1 low' has));
     }
 
-    pub return_value_written : (e : Expr) (g : Node) → g ≡ return_node q (give r.base b.target e) b.length N → WritesReturn P path r q S (Some (value e)) g S
+    pub return_value_written : (e : Expr) (g : Node) → g ≡ return_node q (give r.base b.target e) b.length N → WritesReturn q S (Some (value e)) g S
     return_value_written e g a = record {
       walked = refl;
       placed = λ T f bs is at long has.
@@ -236,7 +241,7 @@ module _ (P : Program) (path : List ℕ) (r : Frame) where
     }
 
     pub return_call_written : (U : List Site) (c : Call) (h k g : Node) → WritesRvalue P path r q b.target S (result c) h U → k ≡ seq (act q (keep b.length)) (leave N returned) → g ≡ seq h k
-        → WritesReturn P path r q S (Some (result c)) g U
+        → WritesReturn q S (Some (result c)) g U
     return_call_written U c h k g y a a' = record {
       walked = y.walked;
       placed = λ T f bs is at long has.
@@ -247,13 +252,13 @@ module _ (P : Program) (path : List ℕ) (r : Frame) where
     }
 
   module _ (S : List Site) (q : ℕ) (back : r.back ≡ None) where
-    pub end_any_written : (g : Node) → g ≡ leave N returned → WritesReturn P path r q S None g S
+    pub end_any_written : (g : Node) → g ≡ leave N returned → WritesReturn q S None g S
     end_any_written g a = record { walked = refl; placed = λ T f bs is at long has. rw (a, long) (as_end (no_back_there f.back (is.back ∙ back)) has) }
 
-    pub end_value_written : (e : Expr) (g : Node) → g ≡ leave N returned → WritesReturn P path r q S (Some (value e)) g S
+    pub end_value_written : (e : Expr) (g : Node) → g ≡ leave N returned → WritesReturn q S (Some (value e)) g S
     end_value_written e g a = record { walked = refl; placed = λ T f bs is at long has. rw (a, long) (as_end_value (no_back_there f.back (is.back ∙ back)) has) }
 
-    pub end_call_written : (U : List Site) (c : Call) (h g : Node) → WritesRvalue P path r q None S (result c) h U → g ≡ seq h (leave N returned) → WritesReturn P path r q S (Some (result c)) g U
+    pub end_call_written : (U : List Site) (c : Call) (h g : Node) → WritesRvalue P path r q None S (result c) h U → g ≡ seq h (leave N returned) → WritesReturn q S (Some (result c)) g U
     end_call_written U c h g y a = record {
       walked = y.walked;
       placed = λ T f bs is at long has.
@@ -263,16 +268,16 @@ module _ (P : Program) (path : List ℕ) (r : Frame) where
 
   -- a whole `return`, in a called function or in `main`
   module _ (V : List Site) (q : ℕ) (low : (b : Back) → r.back ≡ Some b → b.length ≤ N) where
-    any_back : (o : Option Back) → r.back ≡ o → WritesReturn P path r q V None (any_left o q N) V
+    any_back : (o : Option Back) → r.back ≡ o → WritesReturn q V None (any_left o q N) V
     any_back None e = end_any_written V q e (leave N returned) refl
     any_back (Some b) e = return_any_written V q b e (low b e) (any_left (Some b) q N) refl
 
-    value_back : (x : Expr) (o : Option Back) → r.back ≡ o → WritesReturn P path r q V (Some (value x)) (value_left o q r.base x N) V
+    value_back : (x : Expr) (o : Option Back) → r.back ≡ o → WritesReturn q V (Some (value x)) (value_left o q r.base x N) V
     value_back x None e = end_value_written V q e x (leave N returned) refl
     value_back x (Some b) e = return_value_written V q b e (low b e) x (value_left (Some b) q r.base x N) refl
 
     call_back : (U : List Site) (c : Call) (h : Node) (o : Option Back) → r.back ≡ o → WritesRvalue P path r q (receiver o) V (result c) h U
-        → WritesReturn P path r q V (Some (result c)) (call_left o q h N) U
+        → WritesReturn q V (Some (result c)) (call_left o q h N) U
     call_back U c h None e y = end_call_written V q e U c h (call_left None q h N) y refl
     call_back U c h (Some b) e y = return_call_written V q b e (low b e) U c h (seq (act q (keep b.length)) (leave N returned)) (call_left (Some b) q h N) y refl refl
 

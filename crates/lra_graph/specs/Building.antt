@@ -6,7 +6,7 @@ use Rattle.lra_program.specs.Program.{Expr, Cond, Call, Rvalue, Stmt, loop, brea
 use Rattle.lra_program.specs.Program.{Function, Program}
 use Rattle.lra_program.specs.Step as step
 use Rattle.lra_program.specs.Step.{give, give_any, keep}
-use Rattle.lra_operations.specs.Graph.{Exit, broken, continued, returned, Node, act, leave, seq, point}
+use Rattle.lra_operations.specs.Graph.{Exit, broken, continued, returned, Node, act, leave, seq}
 use Rattle.lra_program.specs.Sites.{Site, Event, live_behind, rvalue_events, given_events, stmt_events, items_events}
 use Rattle.lra_program.specs.Sites.{call_events}
 use Rattle.lra_operations.specs.Inlined as inlined
@@ -120,12 +120,6 @@ module _ (P : Program) (path : List ℕ) (r : Frame) where
   abbrev pub WritesDeclared : ℕ → List Site → Option Rvalue → Node → List Site → Type 0
   WritesDeclared q S o g U = Writes path r (given_events inside path (suc r.live) o) S U
       (λ T f. inlined.Declares P T (inlined.spot_of f r.live q) (length S) o g (length U))
-
-  -- a return behind its point q
-  abbrev pub WritesReturn : ℕ → List Site → Option Rvalue → Node → List Site → Type 0
-  WritesReturn q S o g U = Writes path r (given_events inside path r.live o) S U
-      (λ T f. (at : ℕ) → length S ≡ suc q → inlined.Has T (inlined.spot_of f r.live q) at
-      → inlined.Inl P T (inlined.spot_of f r.live q) (return at o) (seq (point q) g) (length U))
 
 -- the body of the function that a call names, from the points S to V, behind which n live
 pub record WritesBody (P : Program) (path : List ℕ) (r : Frame) (x : Option ℕ) (c : Call) (S : List Site) (g : Node)

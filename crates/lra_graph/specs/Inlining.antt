@@ -176,8 +176,3 @@ module _ (at : Around) where
       IsLoop q c a step g =
           building.WritesLoop program_around at.path.now at.frame q (points_in before) c a step
           (node_view g) (points_in after)
-
-      abbrev pub IsReturn : ℕ → Option Rvalue → code.Node → Type 0
-      IsReturn q o g =
-          building.WritesReturn program_around at.path.now at.frame q (points_in before) o (node_view g)
-          (points_in after)

@@ -19,7 +19,7 @@ use Rattle.lra_flow.specs.Operations.{dropping}
 use Rattle.lra_flow.specs.Changes.{first_values, AreDone}
 use Rattle.lra_flow.specs.Pass.{Result, noted, Pass}
 use Rattle.lra_flow.specs.Analysis.{Solves, IsUnreachable}
-use Rattle.lra_flow.specs.Sound.{Covers}
+use Rattle.lra_flow.proofs.Covers.{Covers}
 use Rattle.lra_flow.proofs.Keeps.{pass_covers}
 use Rattle.lra_iter.specs.Counts.{failing_at, AreCounted}
 use Rattle.lra_iter.specs.Sound.{begun, HoldsInTree}

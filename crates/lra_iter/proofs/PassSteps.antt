@@ -19,8 +19,7 @@ use Rattle.lra_operations.specs.Graph as graph
 use Rattle.lra_base.specs.declared.options.Options.{Options}
 use Rattle.lra_flow.specs.Operations.{dropping}
 use Rattle.lra_flow.specs.Conditions.{Leaves}
-use Rattle.lra_flow.specs.Pass.{Entry, Result, noted, goes_on, jumps, in_turn, behind, Pass, Narrows}
-use Rattle.lra_flow.specs.Sound.{jumps_of}
+use Rattle.lra_flow.specs.Pass.{jumps_of, Entry, Result, noted, goes_on, jumps, in_turn, behind, Pass, Narrows}
 use Rattle.lra_iter.specs.Fits.{live_behind, JumpsWith, TreeFits}
 use Rattle.lra_iter.specs.declared.outcome.Outcome.{Outcome}
 use Rattle.lra_iter.specs.Outcome.{headed, seen, AllHave, AreMet, Catches, JumpsFit, HasGrown, IsPassed, LeavesWith}

@@ -54,8 +54,3 @@ AreBelow n (choose q base c a b) = (q < n) × AreBelow n a × AreBelow n b
 AreBelow n (iterate q base c a) = (q < n) × AreBelow n a
 AreBelow n (catch q j a) = (q < n) × AreBelow n a
 AreBelow n (leave m j) = ⊤
-
--- the first flagged point, where there is one, is below n
-abbrev pub IsBelow : ℕ → Option ℕ → Type 0
-IsBelow n None = ⊤
-IsBelow n (Some q) = q < n

@@ -3,7 +3,7 @@
 ghost use Rattle.std.specs.Prelude.{◌≡◌, IfOk};
 ghost use Rattle.lra_operations.specs.Graph.{broken, continued, returned};
 ghost use Rattle.lra_operations.specs.GraphViews.{exit_view};
-ghost use Rattle.lra_flow.specs.Sound.{jumps_of};
+ghost use Rattle.lra_flow.specs.Pass.{jumps_of};
 ghost use Rattle.lra_iter.specs.Outcome.{seen, AllHave, Catches};
 
 use crate::outcome::{Outcome, join_all, note};

@@ -9,7 +9,8 @@ use Rattle.lra_domain.specs.declared.Included.TheVariants.{Yes, No, Wide}
 use Rattle.lra_domain.specs.Meaning.{Meaning}
 use Rattle.lra_domain.specs.Laws.{PlainLaws}
 use Rattle.lra_set.specs.Lists.{EachPart}
-use Rattle.lra_set.specs.ListLemmas.{each_map, each_append, each_left, each_right}
+use Rattle.lra_set.specs.ListLemmas.{each_map}
+use Rattle.lra_set.proofs.PartLists.{each_append, each_left, each_right}
 use Rattle.lra_set.specs.Values.{SetHas}
 use Rattle.lra_set.specs.declared.joins.Settling.TheVariants.{Strained, Further}
 use Rattle.lra_set.specs.Outcomes.{Told, both, PartFits, HaveDims, IsReduced, AreMerged, BecameOne, LastTwoMeet, SettlesOnce, IsSettled}

@@ -7,7 +7,8 @@ use Rattle.lra_domain.specs.Actions.{Action, Leads, dims_after}
 use Rattle.lra_domain.specs.Meaning.{Meaning, Meets, Joins}
 use Rattle.lra_domain.specs.Laws.{Laws, PlainLaws}
 use Rattle.lra_set.specs.Lists.{EachPart, SomePart, PartByPart}
-use Rattle.lra_set.specs.ListLemmas.{each_map, some_of_each, each_append, each_left, each_right, some_left, some_right}
+use Rattle.lra_set.specs.ListLemmas.{each_map, some_of_each}
+use Rattle.lra_set.proofs.PartLists.{each_append, each_left, each_right, some_left, some_right}
 use Rattle.lra_set.specs.Content.{Parts, filled, with_filled}
 use Rattle.lra_set.specs.Reduction.{Leaves}
 use Rattle.lra_set.specs.Joins.{Settles, SettleStrains}

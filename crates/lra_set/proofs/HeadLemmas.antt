@@ -15,7 +15,8 @@ use Rattle.lra_domain.specs.Rank.{RankBelow}
 use Rattle.lra_domain.specs.Meaning.{Meaning, Grew, Values}
 use Rattle.lra_domain.specs.Laws.{Laws, PlainLaws}
 use Rattle.lra_set.specs.Lists.{EachPart, SomePart}
-use Rattle.lra_set.specs.ListLemmas.{each_map, some_map, some_left, some_right}
+use Rattle.lra_set.specs.ListLemmas.{each_map, some_map}
+use Rattle.lra_set.proofs.PartLists.{some_left, some_right}
 use Rattle.lra_set.specs.Content.{Parts, Form, many, one, whole, Head, filled, with_filled}
 use Rattle.lra_set.specs.Joins.{Merges, MergeStrains, Settles}
 use Rattle.lra_set.specs.Values.{PartsInside, IsWhole}

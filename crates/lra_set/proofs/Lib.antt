@@ -1,3 +1,4 @@
+pub mod PartLists
 pub mod ReductionLemmas
 pub mod SettleLemmas
 pub mod TellLemmas

@@ -8,7 +8,8 @@ use Rattle.lra_domain.specs.declared.Included.TheVariants.{Yes, No, Wide}
 use Rattle.lra_domain.specs.Meaning.{Meaning}
 use Rattle.lra_domain.specs.Laws.{PlainLaws}
 use Rattle.lra_set.specs.Lists.{EachPart, SomePart}
-use Rattle.lra_set.specs.ListLemmas.{each_map, some_map, some_of_each, each_append, some_left, some_right}
+use Rattle.lra_set.specs.ListLemmas.{each_map, some_map, some_of_each}
+use Rattle.lra_set.proofs.PartLists.{each_append, some_left, some_right}
 use Rattle.lra_set.specs.Reduction.{Goes, Leaves, LeavesStrains, Reduces, ReduceStrains}
 use Rattle.lra_set.specs.Values.{PartsInside}
 use Rattle.lra_set.specs.Outcomes.{Told, either, all_decided, AreTold, kept, IsReduced}

@@ -15,7 +15,7 @@ use Rattle.lra_set.specs.declared.changes.Change.{Change}
 use Rattle.lra_set.specs.declared.changes.Change.TheVariants.{Assign, Forget, Test, Embed, RemoveLast}
 use Rattle.lra_set.specs.Changes.{ChangeFits, action_of}
 use Rattle.lra_set.specs.Lists.{EachPart, SomePart}
-use Rattle.lra_set.specs.ListLemmas.{each_append}
+use Rattle.lra_set.proofs.PartLists.{each_append}
 use Rattle.lra_set.specs.Content.{Parts, Form}
 use Rattle.lra_set.specs.Heads.{FormStarts}
 use Rattle.lra_set.specs.Growth.{StartsAnew}

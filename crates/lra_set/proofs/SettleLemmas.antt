@@ -6,7 +6,8 @@ use Rattle.lra_domain.specs.declared.Exactness.TheVariants.{Exact, Flagged}
 use Rattle.lra_domain.specs.Meaning.{Meaning, Joins}
 use Rattle.lra_domain.specs.Laws.{PlainLaws}
 use Rattle.lra_set.specs.Lists.{EachPart, SomePart}
-use Rattle.lra_set.specs.ListLemmas.{each_map, each_append, each_left, each_right, some_left, some_right}
+use Rattle.lra_set.specs.ListLemmas.{each_map}
+use Rattle.lra_set.proofs.PartLists.{each_append, each_left, each_right, some_left, some_right}
 use Rattle.lra_set.specs.Reduction.{Reduces}
 use Rattle.lra_set.specs.Joins.{JoinsOnStrains, LastTwoJoin, LastTwoStrain, Settles, SettleStrains}
 use Rattle.lra_set.specs.Values.{PartsInside}

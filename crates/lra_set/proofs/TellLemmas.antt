@@ -7,7 +7,7 @@ use Rattle.std.specs.List.{remove}
 use Rattle.lra_domain.specs.declared.Included.{Included}
 use Rattle.lra_domain.specs.declared.Included.TheVariants.{Yes, No, Wide}
 use Rattle.lra_domain.specs.Meaning.{Meaning}
-use Rattle.lra_set.specs.ListLemmas.{each_left, each_right}
+use Rattle.lra_set.proofs.PartLists.{each_left, each_right}
 use Rattle.lra_set.specs.Reduction.{Goes, GoesStrains}
 use Rattle.lra_set.specs.Outcomes.{Told, AreTold, HaveDims, kept}
 

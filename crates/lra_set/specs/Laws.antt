@@ -60,10 +60,6 @@ pub with_filled_rows : {V R : Type 0} (rows : List R) (p : V) (qs : List V) → 
 with_filled_rows [] p qs n = absurd (n refl)
 with_filled_rows (r ∷ rows) p qs n = refl
 
-pub with_filled_none : {V R : Type 0} (rows : List R) (p : V) (qs : List V) → rows ≡ [] → with_filled rows p qs ≡ qs
-with_filled_none [] p qs e = refl
-with_filled_none (r ∷ rows) p qs e = let wrong : ⊥ = cc in absurd wrong
-
 -- heads, by their stores --------------------------------------------------------------------------
 
 -- a head that starts with parts has their stores, and no others

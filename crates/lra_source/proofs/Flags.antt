@@ -1,5 +1,6 @@
 -- The first flagged point of a program's iteration is a point of the program.
 use Rattle.std.proofs.Common.{◌≡◌, ℕ, zero, suc, ◌-◌, ◌<◌, List, [], ◌∷◌, length, Option, Some, None, Bool, refl, sym, subst}
+use Rattle.std.specs.Prelude.{⊤}
 use Rattle.std.proofs.lemmas.Option.{slice_get_within}
 use Rattle.lra_domain.specs.declared.Exactness.{Exactness}
 use Rattle.lra_domain.specs.declared.Exactness.TheVariants.{Exact, Flagged}
@@ -14,7 +15,12 @@ use Rattle.lra_base.specs.declared.options.Options.{Options}
 use Rattle.lra_flow.specs.Operations.{Operations}
 use Rattle.lra_flow.specs.Pass.{Result, noted, jumps, behind, Through, GoesRound, Grows, Narrows, Pass}
 use Rattle.lra_flow.specs.Analysis.{Iteration}
-use Rattle.lra_iter.specs.Numbers.{AreBelow, IsBelow}
+use Rattle.lra_iter.specs.Numbers.{AreBelow}
+
+-- the first flagged point, where there is one, is below n
+abbrev IsBelow : ℕ → Option ℕ → Type 0
+IsBelow n None = ⊤
+IsBelow n (Some q) = q < n
 
 -- trees --------------------------------------------------------------------------------------------------------------
 

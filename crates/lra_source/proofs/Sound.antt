@@ -19,7 +19,7 @@ use Rattle.lra_program.specs.Assertions.{assertions_from}
 use Rattle.lra_base.specs.declared.options.Options.{Options}
 use Rattle.lra_flow.specs.Pass.{failing, Result}
 use Rattle.lra_flow.specs.Analysis.{Derivation, Solves, IsUnreachable}
-use Rattle.lra_flow.specs.Sound.{Covers}
+use Rattle.lra_flow.proofs.Covers.{Covers}
 use Rattle.lra_iter.proofs.Covering.{begun_covers}
 
 -- runs -----------------------------------------------------------------------------------------------------------------

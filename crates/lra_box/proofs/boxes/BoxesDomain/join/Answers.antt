@@ -2,7 +2,8 @@
 use Rattle.std.proofs.Common.{◌≡◌, refl, ap, sym, ◌∙◌}
 use Rattle.lra_box.specs.Content.{Content, BoundsFit, seen}
 use Rattle.lra_box.proofs.BoundLemmas.{joined_fit}
-use Rattle.lra_box.specs.Covering.{within_refl, left_within, right_within}
+use Rattle.lra_box.specs.Covering.{within_refl}
+use Rattle.lra_box.proofs.WithinLemmas.{left_within, right_within}
 use Rattle.lra_box.proofs.SoundLemmas.{joined_sound}
 use Rattle.lra_box.proofs.boxes.BoxesDomain.join.Goals as goal
 

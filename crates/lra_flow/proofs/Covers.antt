@@ -4,15 +4,9 @@ use Rattle.std.specs.List.{Contains}
 use Rattle.lra_domain.specs.Meaning.{Meaning}
 use Rattle.lra_domain.specs.declared.Exactness.{Exactness}
 use Rattle.lra_program.specs.Step.{State, Op, run_op}
-use Rattle.lra_operations.specs.Graph.{Exit, broken, continued, returned, normal, jump, Node, Ends, Comes, FailsAt}
+use Rattle.lra_operations.specs.Graph.{Exit, normal, jump, Node, Ends, Comes, FailsAt}
 use Rattle.lra_flow.specs.Operations.{dropping}
-use Rattle.lra_flow.specs.Pass.{value, failing, Result, Changes}
-
--- the values of the jumps of this kind
-abbrev pub jumps_of : {V : Type 0} → Exit → Result V → List V
-jumps_of broken r = r.breaks
-jumps_of continued r = r.continues
-jumps_of returned r = r.returns
+use Rattle.lra_flow.specs.Pass.{value, failing, Result, Changes, jumps_of}
 
 -- one of the values has the store
 abbrev pub SomeHas : {V H : Type 0} → Meaning V H → List V → List ℤ → Type 0
