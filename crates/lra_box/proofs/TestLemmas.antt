@@ -4,7 +4,7 @@ use Rattle.std.specs.Prelude.{◌+ℤ◌, ◌*ℤ◌, ◌≤ℤ◌, neg_ℤ, int
 use Rattle.std.proofs.lemmas.Int.{ints}
 use Rattle.std.proofs.lemmas.Bool.{false≢true}
 use Rattle.lra_linear.specs.Vectors.{product}
-use Rattle.lra_lin.specs.Form.{Form, form_value, Passes}
+use Rattle.lra_lin.specs.Form.{Form, form_value, HoldsAt}
 use Rattle.lra_linear.specs.declared.ConKind.TheVariants.{Eq}
 use Rattle.lra_lin.proofs.FormLemmas.{product_negated}
 use Rattle.lra_domain.specs.declared.Exactness.{Exactness}
@@ -92,7 +92,7 @@ pub equal_tested : (f : Form) (old mid new : Option (List Interval)) (e1 e2 e : 
     → TestedTo (ge_tested (neg_ℤ f.constant) (map neg_ℤ f.coefficients) mid) (RefinePasses (neg_ℤ f.constant) (map neg_ℤ f.coefficients) (length (map neg_ℤ f.coefficients)) mid)
     (λ s. pos 0 ≤ℤ (neg_ℤ f.constant +ℤ product (map neg_ℤ f.coefficients) s)) mid new e2
     → (e ≡ Exact → (e1 ≡ Exact) × (e2 ≡ Exact)) → (e ≡ Flagged → (e1 ≡ Flagged) ⊎ ((e1 ≡ Exact) × (e2 ≡ Flagged)))
-    → TestedTo (tested Eq f old) (TestPasses Eq f old) (Passes Eq f) old new e
+    → TestedTo (tested Eq f old) (TestPasses Eq f old) (HoldsAt Eq f) old new e
 equal_tested f old mid new e1 e2 e one two both either = record {
   exact = λ k. let w = both k in two.exact w.1 ∙ ap (ge_tested (neg_ℤ f.constant) (map neg_ℤ f.coefficients)) (one.exact w.0);
   flagged = λ k. strained (either k);

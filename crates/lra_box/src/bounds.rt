@@ -4,7 +4,7 @@ ghost use Rattle.std.specs.Prelude.{◌≡◌, ◌+◌, ◌-◌, pos, neg_ℤ, �
 ghost use Rattle.std.specs.Prelude.{IsTrue, ◌↔◌, None, Some, length, map, replicate, slice_set, take, List};
 ghost use Rattle.lra_linear.specs.Range.{InRange};
 ghost use Rattle.lra_linear.specs.Vectors.{product};
-ghost use Rattle.lra_lin.specs.Form.{Passes};
+ghost use Rattle.lra_lin.specs.Form.{HoldsAt};
 ghost use Rattle.lra_box.specs.declared.interval.Interval.{Interval};
 ghost use Rattle.lra_box.specs.Bounds.{form, open_interval};
 ghost use Rattle.lra_box.specs.Content.{seen, BoundsFit, BoundsSound};
@@ -143,7 +143,7 @@ fn test_eq(
     requires opposites { All InRange opposite.old }
     requires sound { BoundsSound (seen bounds.old) }
     ensures tested { let e = form constant factors.old in TestedTo (tested ConKind.Eq e (seen bounds.old))
-        (TestPasses ConKind.Eq e (seen bounds.old)) (Passes ConKind.Eq e) (seen bounds.old) (seen bounds.new) result }
+        (TestPasses ConKind.Eq e (seen bounds.old)) (HoldsAt ConKind.Eq e) (seen bounds.old) (seen bounds.new) result }
 {
     let one = test_ge(bounds, constant, factors);
     let two = test_ge(bounds, -constant, opposite);
@@ -155,7 +155,7 @@ pub fn test_in(alloc: Global, bounds: &mut Bounds, t: &Test) -> Result<Exactness
     requires width { BoundsFit (length t.now.expr.coefficients) (seen bounds.old) }
     requires sound { BoundsSound (seen bounds.old) }
     ensures tested { IfOk result (λ e. TestedTo (tested t.now.kind t.now.expr (seen bounds.old))
-        (TestPasses t.now.kind t.now.expr (seen bounds.old)) (Passes t.now.kind t.now.expr) (seen bounds.old)
+        (TestPasses t.now.kind t.now.expr (seen bounds.old)) (HoldsAt t.now.kind t.now.expr) (seen bounds.old)
         (seen bounds.new) e) }
     ensures err { OnErr result (seen bounds.new ≡ seen bounds.old) }
 {

@@ -1,6 +1,6 @@
 -- What the least changes of a program do to stores.
 use Rattle.std.specs.Prelude.{◌≡◌, ℕ, ◌+◌, ◌-◌, ℤ, List, ◌++◌, length, take, slice_set}
-use Rattle.lra_lin.specs.Form.{Form, form_value, Passes}
+use Rattle.lra_lin.specs.Form.{Form, form_value, HoldsAt}
 use Rattle.lra_linear.specs.declared.ConKind.{ConKind}
 
 -- every store of the first is one of the second
@@ -19,7 +19,7 @@ pub data Action : Type 0 where
 abbrev pub Leads : Action → List ℤ → List ℤ → Type 0
 Leads (assign x e) s t = t ≡ slice_set s x (form_value e s)
 Leads (forget x) s t = (k : ℤ) × (t ≡ slice_set s x k)
-Leads (test kind e) s t = Passes kind e s × (t ≡ s)
+Leads (test kind e) s t = HoldsAt kind e s × (t ≡ s)
 Leads (embed k) s t = (added : List ℤ) × (length added ≡ k) × (t ≡ s ++ added)
 Leads (remove_last k) s t = t ≡ take (length s - k) s
 

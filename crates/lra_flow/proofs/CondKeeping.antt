@@ -11,7 +11,7 @@ use Rattle.lra_program.specs.Program.{Expr, literal, Cond, compare, nonzero, opp
 use Rattle.lra_program.specs.Value.{Drawn, is_zero, compares, value_of, truth_of}
 use Rattle.lra_lin.specs.Form.{Form, form_value}
 use Rattle.lra_lin.specs.declared.test.Test.{Test}
-use Rattle.lra_flow.specs.Linear.{IsPassed, comparison_test, difference_form}
+use Rattle.lra_flow.specs.Linear.{TestHolds, comparison_test, difference_form}
 use Rattle.lra_flow.specs.Condition.{opposite_comparison, push, IsPushed, IsAtom, IsTestedBy}
 use Rattle.lra_flow.specs.Operations.{dropping}
 use Rattle.lra_flow.specs.Conditions.{tested, testing}
@@ -37,7 +37,7 @@ zero_differs (pos (suc n)) = grind (arith, ints)
 zero_differs (negsuc n) = refl
 
 -- a test that is passed changes nothing
-tested_leads : (t : Test) (store : List ℤ) → IsPassed t store → Leads (tested t) store store
+tested_leads : (t : Test) (store : List ℤ) → TestHolds t store → Leads (tested t) store store
 tested_leads t store h = (h, refl)
 
 -- whether the answer of a test
@@ -75,7 +75,8 @@ module _ (V H : Type 0) (m : Meaning V H) (laws : Laws m) (base : ℕ) (store : 
   kept : (v w : V × Exactness) → w ≡ v → Keeps v → Keeps w
   kept v w e h = subst (λ (x : V × Exactness). Keeps x) (sym e) h
 
-  test_keeps : (live : ℕ) (o : Option Test) (v w : V × Exactness) → ((t : Test) → o ≡ Some t → IsPassed t store) → IsTestedBy (V × Exactness) (testing (dropping m)) live base o v w → Keeps v → Keeps w
+  test_keeps : (live : ℕ) (o : Option Test) (v w : V × Exactness) → ((t : Test) → o ≡ Some t → TestHolds t store) → IsTestedBy (V × Exactness) (testing (dropping m)) live base o v w → Keeps v →
+      Keeps w
   test_keeps live None v w passes is h = kept v w is h
   test_keeps live (Some t) v w passes (e, done, worst) h = done.0.stores store store h (tested_leads t store (passes t refl))
 
@@ -88,8 +89,8 @@ module _ (V H : Type 0) (m : Meaning V H) (laws : Laws m) (base : ℕ) (store : 
   differs_keeps less more w d x y (Some t) None is so same also v first second e joined h = laws.covered_stores more.0 w.0 joined.0.right store (kept v more second h)
   differs_keeps less more w d x y (Some t) (Some u) is so same also v first second e joined h =
       elim ((differs_by_tests d t u store x y is same also).0 so) [
-        | inl a ↦ laws.covered_stores less.0 w.0 joined.0.left store (test_keeps (length store) (Some t) v less (λ r k. let it : t ≡ r = cc in subst (λ (z : Test). IsPassed z store) it a) first h)
-        | inr b ↦ laws.covered_stores more.0 w.0 joined.0.right store (test_keeps (length store) (Some u) v more (λ r k. let it : u ≡ r = cc in subst (λ (z : Test). IsPassed z store) it b) second h)
+        | inl a ↦ laws.covered_stores less.0 w.0 joined.0.left store (test_keeps (length store) (Some t) v less (λ r k. let it : t ≡ r = cc in subst (λ (z : Test). TestHolds z store) it a) first h)
+        | inr b ↦ laws.covered_stores more.0 w.0 joined.0.right store (test_keeps (length store) (Some u) v more (λ r k. let it : u ≡ r = cc in subst (λ (z : Test). TestHolds z store) it b) second h)
       ]
 
   atom_keeps : (op : Comparison) (d : Form) (x y : ℤ) (v w : V × Exactness) → form_value d store ≡ x -ℤ y → IsTrue (compares op x y)

@@ -14,7 +14,7 @@ use Rattle.lra_linear.proofs.Ring.{ring, v, ⊖, ◌⊕◌, ◌⊗◌}
 use Rattle.lra_base.specs.Operators.{Operator, plus, minus, times, over, modulo, Comparison, below, at_most, above, at_least, equal, differs}
 use Rattle.lra_program.specs.Program.{Expr, literal, read, input, negate, binary, compare}
 use Rattle.lra_program.specs.Value.{◌>>=◌, word, is_word, is_zero, index_of, apply, compares, value_of, truth_of}
-use Rattle.lra_flow.specs.Linear.{fitting, entrywise, combined, scaled, is_constant, operator_form, constant_form, variable_form, form_of, FormsAreRight, IsPassed, negated_form, less_one}
+use Rattle.lra_flow.specs.Linear.{fitting, entrywise, combined, scaled, is_constant, operator_form, constant_form, variable_form, form_of, FormsAreRight, TestHolds, negated_form, less_one}
 use Rattle.lra_flow.specs.Linear.{at_least_zero, comparison_test, difference_form, TestsAreRight, DiffersIsRight}
 
 -- what led to something
@@ -278,9 +278,9 @@ from_form : (o : Option Form) (t : Test) → at_least_zero o ≡ Some t → (f :
 from_form None t e = cc
 from_form (Some f) t e = (f, refl, cc)
 
-passes_same : (f : Form) (t : Test) (store : List ℤ) (z : ℤ) → inequality_of f ≡ t → form_value f store ≡ z → (pos 0 ≤ℤ z) ↔ IsPassed t store
+passes_same : (f : Form) (t : Test) (store : List ℤ) (z : ℤ) → inequality_of f ≡ t → form_value f store ≡ z → (pos 0 ≤ℤ z) ↔ TestHolds t store
 passes_same f t store z e is =
-    (λ h. subst (λ (x : Test). IsPassed x store) e (subst (λ (y : ℤ). pos 0 ≤ℤ y) (sym is) h), λ h. subst (λ (y : ℤ). pos 0 ≤ℤ y) is (subst (λ (x : Test). IsPassed x store) (sym e) h))
+    (λ h. subst (λ (x : Test). TestHolds x store) e (subst (λ (y : ℤ). pos 0 ≤ℤ y) (sym is) h), λ h. subst (λ (y : ℤ). pos 0 ≤ℤ y) is (subst (λ (x : Test). TestHolds x store) (sym e) h))
 
 -- over whole numbers
 lt_decides : (x y w : ℤ) → w ≡ x -ℤ y → IsTrue (int_lt x y) ↔ (pos 0 ≤ℤ ((pos 0 -ℤ w) -ℤ pos 1))
@@ -305,7 +305,7 @@ both_ways : {A B C : Type 0} → A ↔ B → B ↔ C → A ↔ C
 both_ways f g = (λ h. g.0 (f.0 h), λ h. f.1 (g.1 h))
 
 -- of a difference d that has the value of x - y
-pub test_is_right : (op : Comparison) (d : Form) (t : Test) (store : List ℤ) (x y : ℤ) → form_value d store ≡ x -ℤ y → comparison_test op d ≡ Some t → IsTrue (compares op x y) ↔ IsPassed t store
+pub test_is_right : (op : Comparison) (d : Form) (t : Test) (store : List ℤ) (x y : ℤ) → form_value d store ≡ x -ℤ y → comparison_test op d ≡ Some t → IsTrue (compares op x y) ↔ TestHolds t store
 test_is_right below d t store x y e is =
     let (f, of, same) = from_form (fitting (opposite_form d)) t is in
     both_ways (lt_decides x y (form_value d store) e) (passes_same f t store _ same (opposite_value d f store of))
@@ -323,11 +323,11 @@ test_is_right at_least d t store x y e is =
     both_ways (ge_decides x y (form_value d store) e) (passes_same d t store _ (rw it same) refl)
 test_is_right equal d t store x y e is =
     let same : record { expr = d; kind = Eq } ≡ t = cc in
-    both_ways (eq_decides x y (form_value d store) e) (λ h. subst (λ (z : Test). IsPassed z store) same h, λ h. subst (λ (z : Test). IsPassed z store) (sym same) h)
+    both_ways (eq_decides x y (form_value d store) e) (λ h. subst (λ (z : Test). TestHolds z store) same h, λ h. subst (λ (z : Test). TestHolds z store) (sym same) h)
 test_is_right differs d t store x y e is = cc
 
 pub differs_by_tests : (d : Form) (less more : Test) (store : List ℤ) (x y : ℤ) → form_value d store ≡ x -ℤ y → comparison_test below d ≡ Some less → comparison_test above d ≡ Some more
-    → IsTrue (compares differs x y) ↔ (IsPassed less store ⊎ IsPassed more store)
+    → IsTrue (compares differs x y) ↔ (TestHolds less store ⊎ TestHolds more store)
 differs_by_tests d less more store x y e is also =
     let one = test_is_right below d less store x y e is in
     let two = test_is_right above d more store x y e also in
@@ -367,10 +367,10 @@ pub tests_are_right : TestsAreRight
 tests_are_right base op a b d t store draws left so is test ran =
     let c = compared base op a b store draws left so ran in
     let right = test_is_right op d t store c.x c.y (difference_is_right base a b d store draws c.middle c.last c.x c.y is c.has_x c.has_y) test in
-    subst (λ (w : Bool). IsTrue w ↔ IsPassed t store) c.is right
+    subst (λ (w : Bool). IsTrue w ↔ TestHolds t store) c.is right
 
 pub differs_is_right : DiffersIsRight
 differs_is_right base a b d less more store draws left so is one two ran =
     let c = compared base differs a b store draws left so ran in
     let right = differs_by_tests d less more store c.x c.y (difference_is_right base a b d store draws c.middle c.last c.x c.y is c.has_x c.has_y) one two in
-    subst (λ (w : Bool). IsTrue w ↔ (IsPassed less store ⊎ IsPassed more store)) c.is right
+    subst (λ (w : Bool). IsTrue w ↔ (TestHolds less store ⊎ TestHolds more store)) c.is right

@@ -7,7 +7,7 @@ use Rattle.lra_program.specs.Value.{value_of, truth_of}
 use Rattle.lra_linear.specs.declared.ConKind.TheVariants.{Ge}
 use Rattle.lra_lin.specs.Form.{Form}
 use Rattle.lra_lin.specs.declared.test.Test.{Test}
-use Rattle.lra_flow.specs.Linear.{IsPassed, form_of, comparison_test}
+use Rattle.lra_flow.specs.Linear.{TestHolds, form_of, comparison_test}
 use Rattle.lra_flow.specs.Condition.{atom, one_or, push, Actions, IsCond}
 use Rattle.lra_flow.specs.Given.{given_rows}
 
@@ -53,7 +53,7 @@ abbrev ends : List ℤ
 ends = negsuc 9223372036854775807 ∷ pos 9223372036854775807 ∷ []
 
 test_past_words : (truth_of (compare below x y) 0 ends [] ≡ Some (true, [])) × (value_of (binary minus x y) 0 ends [] ≡ None)
-    × IsPassed (record { expr = form (negsuc 0) (negsuc 0 ∷ pos 1 ∷ []); kind = Ge }) ends
+    × TestHolds (record { expr = form (negsuc 0) (negsuc 0 ∷ pos 1 ∷ []); kind = Ge }) ends
 test_past_words = (refl, refl, le_z_yes tt)
 
 -- !(x < y && x) is !(x < y), or x < y and then x == 0: catches an `&&` that stays

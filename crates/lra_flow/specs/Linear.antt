@@ -4,7 +4,7 @@ use Rattle.std.specs.Prelude.{◌≡◌, ℕ, ℤ, pos, ◌+ℤ◌, ◌-ℤ◌, 
 use Rattle.std.specs.Prelude.{replicate, slice_set, Option, Some, None, negsuc, length, IsTrue, ◌↔◌, ◌⊎◌}
 use Rattle.std.specs.List.{list_all}
 use Rattle.lra_linear.specs.declared.ConKind.TheVariants.{Ge, Eq}
-use Rattle.lra_lin.specs.Form.{Form, form_value, opposite_form, Passes}
+use Rattle.lra_lin.specs.Form.{Form, form_value, opposite_form, HoldsAt}
 use Rattle.lra_lin.specs.declared.test.Test.{Test}
 use Rattle.lra_base.specs.Operators.{Operator, plus, minus, times, over, modulo, Comparison, below, at_most, above}
 use Rattle.lra_base.specs.Operators.{at_least, equal, differs}
@@ -68,9 +68,9 @@ FormsAreRight = (base : ℕ) (e : Expr) (f : Form) (store draws left : List ℤ)
 
 -- tests ------------------------------------------------------------------------------------------------------------
 
--- the store passes the test
-abbrev pub IsPassed : Test → List ℤ → Type 0
-IsPassed t store = Passes t.kind t.expr store
+-- the test holds at the store
+abbrev pub TestHolds : Test → List ℤ → Type 0
+TestHolds t store = HoldsAt t.kind t.expr store
 
 abbrev pub at_least_zero : Option Form → Option Test
 at_least_zero None = None
@@ -101,7 +101,7 @@ difference_form live base a b = form_of live base (binary minus a b)
 abbrev pub TestsAreRight : Type 0
 TestsAreRight = (base : ℕ) (op : Comparison) (a b : Expr) (d : Form) (t : Test) (store draws left : List ℤ) (v : Bool)
     → difference_form (length store) base a b ≡ Some d → comparison_test op d ≡ Some t
-    → truth_of (compare op a b) base store draws ≡ Some (v, left) → (IsTrue v ↔ IsPassed t store)
+    → truth_of (compare op a b) base store draws ≡ Some (v, left) → (IsTrue v ↔ TestHolds t store)
 
 -- and `!=` is true exactly where the test of `<` or that of `>` passes
 abbrev pub DiffersIsRight : Type 0
@@ -109,4 +109,4 @@ DiffersIsRight = (base : ℕ) (a b : Expr) (d : Form) (less more : Test) (store 
     → difference_form (length store) base a b ≡ Some d → comparison_test below d ≡ Some less →
     comparison_test above d ≡ Some more
     → truth_of (compare differs a b) base store draws ≡ Some (v, left) →
-    (IsTrue v ↔ (IsPassed less store ⊎ IsPassed more store))
+    (IsTrue v ↔ (TestHolds less store ⊎ TestHolds more store))

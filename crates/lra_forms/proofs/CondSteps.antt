@@ -1,8 +1,8 @@
 -- Steps of the proofs on tests and conditions.
-use Rattle.std.proofs.Common.{rules, Box, Vec, Global, ◌≡◌, ℕ, ℤ, pos, negsuc, List, [], ◌∷◌, Option, Some, None, true, false, length, map, refl, sym, ap, ◌∙◌, subst, arith}
-use Rattle.std.specs.Prelude.{◌+ℤ◌, ◌-ℤ◌, neg_ℤ, replicate}
+use Rattle.std.proofs.Common.{rules, Box, Vec, Global, ◌≡◌, ℕ, ℤ, pos, List, [], ◌∷◌, Option, Some, None, true, false, length, refl, sym, ap, ◌∙◌, subst, arith}
+use Rattle.std.specs.Prelude.{◌-ℤ◌, replicate}
 use Rattle.std.proofs.lemmas.Int.{ints}
-use Rattle.lra_lin.specs.Form.{Form, opposite_form}
+use Rattle.lra_lin.specs.Form.{Form}
 use Rattle.lra_base.specs.Operators.{minus}
 use Rattle.lra_program.specs.Program.{Expr, binary, Cond}
 use Rattle.lra_program.specs.declared.program.Cond as declared_cond
@@ -21,23 +21,10 @@ minus_zeros [] = refl
 minus_zeros (c ∷ cs) = let e : c -ℤ pos 0 ≡ c = omega (arith, ints) in ap (λ (x : ℤ). x ∷ entrywise (λ x y. x -ℤ y) cs (replicate (length cs) (pos 0))) e ∙
     ap (λ (xs : List ℤ). c ∷ xs) (minus_zeros cs)
 
-zeros_minus : (cs : List ℤ) → entrywise (λ x y. x -ℤ y) (replicate (length cs) (pos 0)) cs ≡ map neg_ℤ cs
-zeros_minus [] = refl
-zeros_minus (c ∷ cs) = let e : pos 0 -ℤ c ≡ neg_ℤ c = omega (arith, ints) in ap (λ (x : ℤ). x ∷ entrywise (λ x y. x -ℤ y) (replicate (length cs) (pos 0)) cs) e ∙
-    ap (λ (xs : List ℤ). neg_ℤ c ∷ xs) (zeros_minus cs)
-
 -- d - 1
 pub less_one_is : (d one : Form) (o : Option Form) → one ≡ constant_form (length d.coefficients) (pos 1) → o ≡ combined (λ x y. x -ℤ y) d one → o ≡ less_one d
 less_one_is d one o is h =
     h ∙ ap (combined (λ x y. x -ℤ y) d) is ∙ ap (λ (cs : List ℤ). fitting (record { constant = d.constant -ℤ pos 1; coefficients = cs })) (minus_zeros d.coefficients)
-
--- -1 - d
-pub opposite_is : (d one : Form) (o : Option Form) → one ≡ constant_form (length d.coefficients) (negsuc 0) → o ≡ combined (λ x y. x -ℤ y) one d → o ≡ fitting (opposite_form d)
-opposite_is d one o is h =
-    let number : negsuc 0 -ℤ d.constant ≡ neg_ℤ d.constant +ℤ negsuc 0 = omega (arith, ints) in
-    h ∙ ap (λ (f : Form). combined (λ x y. x -ℤ y) f d) is ∙
-    ap (λ (cs : List ℤ). fitting (record { constant = negsuc 0 -ℤ d.constant; coefficients = cs })) (zeros_minus d.coefficients) ∙
-    ap (λ (z : ℤ). fitting (record { constant = z; coefficients = map neg_ℤ d.coefficients })) number
 
 -- differences -------------------------------------------------------------------------------------------------------------
 

@@ -2,11 +2,14 @@
 use Rattle.std.proofs.Common.{rules, ◌≡◌, ◌+◌, ◌<◌, map, drop, drop-cons, get_or, length, ℕ, zero, suc, ℤ, pos, ◌++◌, List, [], ◌∷◌, Option, Some, None, Bool, true, false, refl, sym, ap, subst, ◌∙◌}
 use Rattle.std.proofs.Common.{append_assoc, FitsSigned, arith}
 use Rattle.std.specs.Int.{w64}
+use Rattle.std.proofs.lemmas.Bool.{and_from, and_parts}
 use Rattle.std.proofs.lemmas.Int.{ints}
+use Rattle.std.proofs.lemmas.List.Elements.{All-nil, All-cons, All-head, All-tail}
 use Rattle.std.specs.Prelude.{◌&&◌, if◌then◌else◌, replicate}
-use Rattle.std.specs.List.{list_all}
+use Rattle.std.specs.List.{All, list_all}
+use Rattle.std.specs.Option.{SomeIff}
 use Rattle.lra_program.specs.Value.{◌>>=◌, word, is_word}
-use Rattle.lra_lin.specs.Form.{Form}
+use Rattle.lra_lin.specs.Form.{Form, FormFits}
 use Rattle.lra_base.specs.Operators.{Operator}
 use Rattle.lra_program.specs.Program.{Expr, binary}
 use Rattle.lra_program.specs.declared.program.Operation.{Operation}
@@ -41,6 +44,30 @@ zeros_words (suc n) = zeros_words n
 
 word_fits : (z : ℤ) → FitsSigned w64 z → is_word z ≡ true
 word_fits z h = grind (arith, ints)
+
+fits_word : (z : ℤ) → is_word z ≡ true → FitsSigned w64 z
+fits_word z h = grind (arith, ints)
+
+-- a list of words, by test and by what it says
+all_words : (cs : List ℤ) → list_all is_word cs ≡ true → All (FitsSigned w64) cs
+all_words [] h = All-nil (FitsSigned w64)
+all_words (c ∷ cs) h = let both = and_parts (is_word c) (list_all is_word cs) h in All-cons (FitsSigned w64) c cs (fits_word c both.0) (all_words cs both.1)
+
+words_all : (cs : List ℤ) → All (FitsSigned w64) cs → list_all is_word cs ≡ true
+words_all [] h = refl
+words_all (c ∷ cs) h = and_from (is_word c) (list_all is_word cs) (word_fits c (All-head (FitsSigned w64) c cs h)) (words_all cs (All-tail (FitsSigned w64) c cs h))
+
+-- a form that is given exactly where its numbers have 64 bits
+pub fitting_is : (f : Form) (o : Option Form) → SomeIff o (FormFits f) f → o ≡ linear.fitting f
+fitting_is f None no = decide (is_word f.constant && list_all is_word f.coefficients) refl
+  where
+    decide : (b : Bool) → is_word f.constant && list_all is_word f.coefficients ≡ b → None ≡ linear.fitting f
+    decide false e = rw e refl
+    decide true e =
+        let both = and_parts (is_word f.constant) (list_all is_word f.coefficients) e in
+        absurd (no (record { constant_fits = fits_word f.constant both.0; coefficients_fit = all_words f.coefficients both.1 }))
+fitting_is f (Some g) (fits, same) =
+    rw (and_from (is_word f.constant) (list_all is_word f.coefficients) (word_fits f.constant fits.constant_fits) (words_all f.coefficients fits.coefficients_fit)) (ap Some same)
 
 form_if : (b : Bool) (f : Form) → b ≡ true → Some f ≡ (if b then Some f else None)
 form_if true f e = refl

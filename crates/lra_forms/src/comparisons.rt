@@ -1,10 +1,9 @@
 //! The test of a comparison, and the comparison that is true where it is false.
 
 ghost use Rattle.std.specs.Prelude.{◌≡◌, ◌<◌, ◌^◌, length, IfOk};
-ghost use Rattle.lra_lin.specs.Form.{opposite_form};
 ghost use Rattle.lra_base.specs.OperatorViews.{comparison_view};
 ghost use Rattle.lra_program.specs.ProgramViews.{expr_view};
-ghost use Rattle.lra_flow.specs.Linear.{difference_form, comparison_test, fitting, less_one, at_least_zero};
+ghost use Rattle.lra_flow.specs.Linear.{difference_form, comparison_test, less_one, at_least_zero};
 ghost use Rattle.lra_flow.specs.Condition.{opposite_comparison};
 
 use crate::forms::{constant_of, form_of_expression, multiple_of, sum_of_forms};
@@ -21,16 +20,6 @@ fn less_one_of(alloc: Global, d: &LinExpr) -> Result<Option<LinExpr>, AllocError
 {
     let one = constant_of(alloc, d.coefficients().len(), &1)?;
     let form = sum_of_forms(alloc, true, d, &one)?;
-    Ok(form)
-}
-
-/// Minus the form, minus one, where all its numbers have 64 bits.
-fn opposite_form_of(alloc: Global, d: &LinExpr) -> Result<Option<LinExpr>, AllocError>
-    requires { length d.now.coefficients < 2 ^ 62 }
-    ensures { IfOk result (λ o. o ≡ fitting (opposite_form d.now)) }
-{
-    let minus_one = constant_of(alloc, d.coefficients().len(), &-1)?;
-    let form = sum_of_forms(alloc, true, &minus_one, d)?;
     Ok(form)
 }
 
@@ -54,7 +43,7 @@ pub fn test_of(alloc: Global, op: Comparison, d: &LinExpr) -> Result<Option<Test
 {
     match op {
         Comparison::Below => {
-            let form = opposite_form_of(alloc, d)?;
+            let form = d.opposite(alloc)?;
             Ok(at_least_zero_of(form))
         }
         Comparison::AtMost => {

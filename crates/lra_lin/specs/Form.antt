@@ -32,9 +32,9 @@ abbrev pub KindHolds : ConKind → ℤ → Type 0
 KindHolds Ge v = pos 0 ≤ℤ v
 KindHolds Eq v = v ≡ pos 0
 
--- the store passes the test
-abbrev pub Passes : ConKind → Form → List ℤ → Type 0
-Passes kind f s = KindHolds kind (form_value f s)
+-- the test holds at the store
+abbrev pub HoldsAt : ConKind → Form → List ℤ → Type 0
+HoldsAt kind f s = KindHolds kind (form_value f s)
 
 -- -f - 1
 abbrev pub opposite_form : Form → Form

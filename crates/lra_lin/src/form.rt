@@ -1,6 +1,8 @@
-ghost use Rattle.std.specs.Prelude.{◌≡◌, ◌↔◌, ◌+ℤ◌, ◌*ℤ◌, IfOk, IfSome, IsNone};
+ghost use Rattle.std.specs.Prelude.{◌≡◌, ◌↔◌, ◌+ℤ◌, ◌*ℤ◌, neg_ℤ, map, FitsSigned, IfOk, IfSome, IsNone, MatchOption};
+ghost use Rattle.std.specs.Int.{w64};
+ghost use Rattle.std.specs.List.{All};
 ghost use Rattle.std.specs.Option.{SomeIff};
-ghost use Rattle.lra_lin.specs.Form.{AddsInRange, form_value, SummingPasses};
+ghost use Rattle.lra_lin.specs.Form.{AddsInRange, FormFits, form_value, opposite_form, SummingPasses};
 
 use lra_row::{add, mul};
 use std::alloc::{AllocError, Global};
@@ -69,6 +71,35 @@ impl LinExpr {
     {
         sum_of(self.constant, self.coefficients.as_slice(), point)
     }
+
+    /// Minus the form, minus one: at least 0 exactly where the form is below 0. `None` exactly where a number of it
+    /// passes i64.
+    pub fn opposite(&self, alloc: Global) -> Result<Option<Self>, AllocError>
+        ensures { IfOk result (λ o. SomeIff o (FormFits (opposite_form self.now)) (opposite_form self.now)) }
+    {
+        let Some(coefficients) = negated(alloc, self.coefficients.as_slice())? else {
+            return Ok(None);
+        };
+        let form = LinExpr::new(alloc, -1 - self.constant, coefficients.as_slice())?;
+        Ok(Some(form))
+    }
+}
+
+/// The numbers times -1, or `None` where one of these passes i64.
+fn negated(alloc: Global, coefficients: &[i64]) -> Result<Option<Vec<i64>>, AllocError>
+    ensures { IfOk result (λ o. MatchOption o (¬ All (FitsSigned w64) (map neg_ℤ coefficients.now))
+        (λ all. All (FitsSigned w64) (map neg_ℤ coefficients.now) × (all.items ≡ map neg_ℤ coefficients.now))) }
+{
+    let mut all = Vec::new(alloc);
+    let mut left = coefficients;
+    while let Some((coefficient, later)) = left.split_first() {
+        let Some(number) = coefficient.checked_neg() else {
+            return Ok(None);
+        };
+        all.push(number)?;
+        left = later;
+    }
+    Ok(Some(all))
 }
 
 /// The sum with a product, or `None` exactly where one of the two passes the range.

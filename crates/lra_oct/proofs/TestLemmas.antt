@@ -30,7 +30,7 @@ use Rattle.lra_oct.specs.declared.forms.Shape.{Shape}
 use Rattle.lra_oct.specs.declared.forms.Shape.TheVariants.{Constant, One, Two, Other}
 use Rattle.lra_oct.specs.Forms.{shape}
 use Rattle.lra_oct.specs.Content.{content, CellsFit, has_store, BoundsWithin}
-use Rattle.lra_oct.specs.Tables.{at_least, quotient, intervals, bounded, BoundsTo, TestsTo, TestPasses, opposite_form}
+use Rattle.lra_oct.specs.Tables.{at_least, quotient, intervals, bounded, BoundsTo, TestsTo, TestPasses, minus_form}
 use Rattle.lra_oct.specs.Closed.{ClosedTo}
 use Rattle.lra_oct.specs.Answers.{MatrixFits, TestedTo}
 use Rattle.lra_oct.specs.Meaning.{octagon_meaning}
@@ -203,7 +203,7 @@ zero_both k p q v is_v is_zero is_q = (omega (arith, ints), omega (arith, ints))
 
 -- an equality as two tests
 pub meets_eq : (n : ℕ) (e : Form) (old mid new : Option Cells) (x y z : Exactness) → CellsFit n old → TestedTo n e (shape e) old mid x
-    → TestedTo n (opposite_form e) (shape (opposite_form e)) mid new y
+    → TestedTo n (minus_form e) (shape (minus_form e)) mid new y
     → (z ≡ Exact → (x ≡ Exact) × (y ≡ Exact)) → (z ≡ Flagged → (x ≡ Flagged) ⊎ ((x ≡ Exact) × (y ≡ Flagged)))
     → Meets octagon_meaning (test Eq e) (content n old) z (content n new)
 meets_eq n e old mid new x y z fit one two both either = record {

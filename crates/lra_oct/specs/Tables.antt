@@ -139,15 +139,16 @@ TestsTo n e (Two m i j) (Some old) new = IsClosure n (entries n (at_least i j (q
 TestsTo n e Other (Some old) new =
     BoundsTo n old (ge_tested e.constant e.coefficients (Some (intervals n (entries n old)))) new
 
-abbrev pub opposite_form : Form → Form
-opposite_form e = record { constant = neg_ℤ e.constant; coefficients = map neg_ℤ e.coefficients }
+-- -e
+abbrev pub minus_form : Form → Form
+minus_form e = record { constant = neg_ℤ e.constant; coefficients = map neg_ℤ e.coefficients }
 
 -- `e = 0` is `e >= 0`, then `-e >= 0`
 abbrev pub Tests : ConKind → ℕ → Form → Option Cells → Option Cells → Type 0
 Tests Ge n e old new = TestsTo n e (shape e) old new
 Tests Eq n e old new =
     (between : Option Cells) × TestsTo n e (shape e) old between
-    × TestsTo n (opposite_form e) (shape (opposite_form e)) between new
+    × TestsTo n (minus_form e) (shape (minus_form e)) between new
 
 -- ---- all changes
 
@@ -209,7 +210,7 @@ TestPasses Ge n e old = FirstTestPasses n e (shape e) old
 TestPasses Eq n e old =
     FirstTestPasses n e (shape e) old
     ⊎ ((between : Option Cells) × TestsTo n e (shape e) old between
-    × FirstTestPasses n (opposite_form e) (shape (opposite_form e)) between)
+    × FirstTestPasses n (minus_form e) (shape (minus_form e)) between)
 
 abbrev pub SomeAssignPasses : ℕ → ℕ → Form → Option Cells → Type 0
 SomeAssignPasses n x e None = ⊥

@@ -4,7 +4,7 @@ use Rattle.std.specs.Prelude.{neg_ℤ}
 use Rattle.std.specs.Int.{w64}
 use Rattle.std.proofs.lemmas.Int.{to_z-of_z}
 use Rattle.lra_lin.proofs.FormLemmas.{fits_later}
-use Rattle.lra_lin.proofs.test.negated.Goals as goal
+use Rattle.lra_lin.proofs.form.negated.Goals as goal
 
 pub loop-coefficient-preserved : goal.loop-coefficient-preserved
 loop-coefficient-preserved c =

@@ -2,7 +2,7 @@ use Rattle.std.proofs.Common.{◌≡◌, ◌↔◌, ◌++◌, length, map, FitsS
 use Rattle.std.specs.Prelude.{neg_ℤ}
 use Rattle.std.specs.Int.{w64}
 use Rattle.std.specs.List.{All}
-use Rattle.lra_lin.proofs.test.negated.Given as goal
+use Rattle.lra_lin.proofs.form.negated.Given as goal
 
 abbrev pub invariant-loop-coefficient : goal.invariant-loop-coefficient
 invariant-loop-coefficient l = record {
