@@ -6,11 +6,12 @@ use Rattle.lra_linear.specs.Range.{InRange}
 use Rattle.lra_lin.specs.Form.{Form, form_value}
 use Rattle.lra_domain.specs.declared.Exactness.{Exactness}
 use Rattle.lra_domain.specs.declared.Exactness.TheVariants.{Exact, Flagged}
+use Rattle.lra_domain.specs.Bounds.{AtMost}
 use Rattle.lra_box.specs.declared.interval.Interval.{Interval}
 use Rattle.lra_box.specs.declared.interval.Side.TheVariants.{Low, High}
 use Rattle.lra_box.specs.declared.ends.Bound.{Bound}
 use Rattle.lra_box.specs.Bounds.{InInterval, AllSound, end_sum, SumPasses, IsBound, open_interval}
-use Rattle.lra_box.specs.Tables.{LowWithin, HighWithin}
+use Rattle.lra_box.specs.Tables.{LowWithin}
 use Rattle.lra_box.specs.Answers.{AssignedTo}
 use Rattle.lra_box.proofs.SumLemmas.{end_sum_holds}
 use Rattle.lra_box.proofs.BoxLemmas.{assign_keeps, bound_holds}
@@ -39,7 +40,7 @@ pub low_covers : (table : Option ℤ) (passes : Type 0) (b : Bound) (e : Exactne
 low_covers table passes b Exact e is = rw (is.exact e) (low_within_refl table)
 low_covers table passes b Flagged e is = rw (is.flagged e).1 tt
 
-pub high_covers : (table : Option ℤ) (passes : Type 0) (b : Bound) (e : Exactness) → b.exactness ≡ e → IsBound table passes b → HighWithin table b.value
+pub high_covers : (table : Option ℤ) (passes : Type 0) (b : Bound) (e : Exactness) → b.exactness ≡ e → IsBound table passes b → AtMost table b.value
 high_covers table passes b Exact e is = rw (is.exact e) (high_within_refl table)
 high_covers table passes b Flagged e is = rw (is.flagged e).1 tt
 

@@ -6,13 +6,14 @@ use Rattle.std.specs.Int.{int_min, int_max}
 use Rattle.lra_domain.specs.declared.Mode.{Mode}
 use Rattle.lra_domain.specs.declared.Mode.TheVariants.{Join, Widen, Limited}
 use Rattle.lra_domain.specs.Rank.{RankFits}
+use Rattle.lra_domain.specs.Bounds.{AtMost, finite, greater, stable}
 use Rattle.lra_box.specs.declared.interval.Interval.{Interval}
 use Rattle.lra_box.specs.declared.interval.Side.{Side}
 use Rattle.lra_box.specs.declared.interval.Side.TheVariants.{Low, High}
 use Rattle.lra_box.specs.Bounds.{BoundHolds, InBounds, open_interval}
 use Rattle.lra_box.specs.Content.{Content, BoundsFit}
-use Rattle.lra_box.specs.Tables.{has_bounds, on_bounds, joined_intervals, joined_bounds, widened_low, widened_high, widened_intervals, widened_bounds, grown_bounds, LowWithin, HighWithin}
-use Rattle.lra_box.specs.Tables.{IntervalsWithin, BoundsWithin, finite, finite_bounds, rank_number, rank_of, lesser_low, greater_high}
+use Rattle.lra_box.specs.Tables.{has_bounds, on_bounds, joined_intervals, joined_bounds, widened_low, widened_intervals, widened_bounds, grown_bounds, LowWithin}
+use Rattle.lra_box.specs.Tables.{IntervalsWithin, BoundsWithin, finite_bounds, rank_number, rank_of, lesser_low}
 use Rattle.lra_box.proofs.BoxLemmas.{in_joined_left, in_joined_right, in_set}
 
 pub widen_low_old : (a b : Option ℤ) (x : ℤ) → BoundHolds Low a x → BoundHolds Low (widened_low a b) x
@@ -20,7 +21,7 @@ widen_low_old None b x h = tt
 widen_low_old (Some a) None x h = tt
 widen_low_old (Some a) (Some b) x h = elim (int_lt b a) as (λ v. BoundHolds Low (cond v None (Some a)) x) [ true ↦ tt | false ↦ h ]
 
-pub widen_high_old : (a b : Option ℤ) (x : ℤ) → BoundHolds High a x → BoundHolds High (widened_high a b) x
+pub widen_high_old : (a b : Option ℤ) (x : ℤ) → BoundHolds High a x → BoundHolds High (stable a b) x
 widen_high_old None b x h = tt
 widen_high_old (Some a) None x h = tt
 widen_high_old (Some a) (Some b) x h = elim (int_lt a b) as (λ v. BoundHolds High (cond v None (Some a)) x) [ true ↦ tt | false ↦ h ]
@@ -34,7 +35,7 @@ widen_low_new None b x h = tt
 widen_low_new (Some a) None x h = tt
 widen_low_new (Some a) (Some b) x h = by_test (int_lt b a) a x Low (λ e. grind (arith, ints))
 
-widen_high_new : (a b : Option ℤ) (x : ℤ) → BoundHolds High b x → BoundHolds High (widened_high a b) x
+widen_high_new : (a b : Option ℤ) (x : ℤ) → BoundHolds High b x → BoundHolds High (stable a b) x
 widen_high_new None b x h = tt
 widen_high_new (Some a) None x h = tt
 widen_high_new (Some a) (Some b) x h = by_test (int_lt a b) a x High (λ e. grind (arith, ints))
@@ -135,7 +136,7 @@ low_falls (Some a) (Some b) =
     elim (int_lt (int_min a b) a) as (λ v. int_lt (int_min a b) a ≡ v → (finite (cond v None (Some a)) ≤ 1) × ((finite (cond v None (Some a)) < 1) ⊎ (a ≤ℤ b)))
     [ true ↦ λ e. (omega arith, inl (omega arith)) | false ↦ λ e. (omega arith, inr (grind (arith, ints, clamps))) ] refl
 
-high_falls : (a b : Option ℤ) → (finite (widened_high a (greater_high a b)) ≤ finite a) × ((finite (widened_high a (greater_high a b)) < finite a) ⊎ HighWithin b a)
+high_falls : (a b : Option ℤ) → (finite (stable a (greater a b)) ≤ finite a) × ((finite (stable a (greater a b)) < finite a) ⊎ AtMost b a)
 high_falls None b = (omega arith, inr tt)
 high_falls (Some a) None = (omega arith, inl (omega arith))
 high_falls (Some a) (Some b) =

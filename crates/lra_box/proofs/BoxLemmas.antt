@@ -9,8 +9,9 @@ use Rattle.lra_box.specs.declared.interval.Side.{Side}
 use Rattle.lra_box.specs.declared.interval.Side.TheVariants.{Low, High}
 use Rattle.lra_domain.specs.declared.Exactness.{Exactness}
 use Rattle.lra_domain.specs.declared.Exactness.TheVariants.{Exact, Flagged}
+use Rattle.lra_domain.specs.Bounds.{greater}
 use Rattle.lra_box.specs.Bounds.{BoundHolds, InInterval, InBounds, end_sum, SumPasses, IsBound}
-use Rattle.lra_box.specs.Tables.{lesser_low, greater_high, joined_intervals}
+use Rattle.lra_box.specs.Tables.{lesser_low, joined_intervals}
 use Rattle.lra_box.proofs.SumLemmas.{end_sum_holds}
 
 -- a computed bound holds where the table's does
@@ -55,12 +56,12 @@ low_right None b x h = tt
 low_right (Some a) None x h = tt
 low_right (Some a) (Some b) x h = omega (arith, ints, clamps)
 
-pub high_left : (a b : Option ℤ) (x : ℤ) → BoundHolds High a x → BoundHolds High (greater_high a b) x
+pub high_left : (a b : Option ℤ) (x : ℤ) → BoundHolds High a x → BoundHolds High (greater a b) x
 high_left None b x h = tt
 high_left (Some a) None x h = tt
 high_left (Some a) (Some b) x h = omega (arith, ints, clamps)
 
-high_right : (a b : Option ℤ) (x : ℤ) → BoundHolds High b x → BoundHolds High (greater_high a b) x
+high_right : (a b : Option ℤ) (x : ℤ) → BoundHolds High b x → BoundHolds High (greater a b) x
 high_right None b x h = tt
 high_right (Some a) None x h = tt
 high_right (Some a) (Some b) x h = omega (arith, ints, clamps)

@@ -8,28 +8,29 @@ use Rattle.std.proofs.Math.Nat.{le-div_iff_mul-le}
 use Rattle.lra_box.specs.declared.interval.Interval.{Interval}
 use Rattle.lra_box.specs.declared.interval.Side.TheVariants.{High}
 use Rattle.lra_box.specs.Bounds.{crossed, times, end_product, end_sum}
-use Rattle.lra_box.specs.Tables.{LowWithin, HighWithin, IntervalsWithin, BoundsWithin}
+use Rattle.lra_box.specs.Tables.{LowWithin, IntervalsWithin, BoundsWithin}
 use Rattle.lra_box.specs.Refine.{raised, lowered, tightened, place_refined, refine_place, refined, some_occurs, ge_tested}
 use Rattle.lra_box.proofs.ProductLemmas.{mul_grows, mul_falls}
 use Rattle.lra_box.proofs.WithinLemmas.{OneWithin, set_within, at_within, crossed_within}
+use Rattle.lra_domain.specs.Bounds.{AtMost}
 
-times_up : (n : ℕ) (a b : Option ℤ) → HighWithin a b → HighWithin (times (pos n) a) (times (pos n) b)
+times_up : (n : ℕ) (a b : Option ℤ) → AtMost a b → AtMost (times (pos n) a) (times (pos n) b)
 times_up n a None w = tt
 times_up n None (Some b) w = absurd w
 times_up n (Some a) (Some b) w = mul_grows n a b w
 
-times_down : (n : ℕ) (a b : Option ℤ) → LowWithin a b → HighWithin (times (negsuc n) a) (times (negsuc n) b)
+times_down : (n : ℕ) (a b : Option ℤ) → LowWithin a b → AtMost (times (negsuc n) a) (times (negsuc n) b)
 times_down n a None w = tt
 times_down n None (Some b) w = absurd w
 times_down n (Some a) (Some b) w = mul_falls n b a w
 
-product_within : (c : ℤ) (i j : Interval) → OneWithin i j → HighWithin (end_product High c i) (end_product High c j)
+product_within : (c : ℤ) (i j : Interval) → OneWithin i j → AtMost (end_product High c i) (end_product High c j)
 product_within (pos zero) i j w = omega (arith, ints)
 product_within (pos (suc n)) i j w = times_up (suc n) i.high j.high w.1
 product_within (negsuc n) i j w = times_down n i.low j.low w.0
 
 -- the greatest value over narrower intervals is no greater
-sum_within : (a b : ℤ) (cs : List ℤ) (is js : List Interval) → a ≤ℤ b → IntervalsWithin is js → HighWithin (end_sum High a cs is) (end_sum High b cs js)
+sum_within : (a b : ℤ) (cs : List ℤ) (is js : List Interval) → a ≤ℤ b → IntervalsWithin is js → AtMost (end_sum High a cs is) (end_sum High b cs js)
 sum_within a b [] is js l w = l
 sum_within a b (c ∷ cs) [] [] l w = l
 sum_within a b (c ∷ cs) [] (j ∷ js) l w = absurd w
@@ -37,8 +38,8 @@ sum_within a b (c ∷ cs) (i ∷ is) [] l w = absurd w
 sum_within a b (c ∷ cs) (i ∷ is) (j ∷ js) l w =
     both (λ p q m. sum_within (a +ℤ p) (b +ℤ q) cs is js (omega (arith, ints)) w.2) (end_product High c i) (end_product High c j) (product_within c i j (w.0, w.1))
   where
-    both : ((p q : ℤ) → p ≤ℤ q → HighWithin (end_sum High (a +ℤ p) cs is) (end_sum High (b +ℤ q) cs js)) → (o p : Option ℤ) → HighWithin o p
-        → HighWithin (option_and_then (λ p. end_sum High (a +ℤ p) cs is) o) (option_and_then (λ p. end_sum High (b +ℤ p) cs js) p)
+    both : ((p q : ℤ) → p ≤ℤ q → AtMost (end_sum High (a +ℤ p) cs is) (end_sum High (b +ℤ q) cs js)) → (o p : Option ℤ) → AtMost o p
+        → AtMost (option_and_then (λ p. end_sum High (a +ℤ p) cs is) o) (option_and_then (λ p. end_sum High (b +ℤ p) cs js) p)
     both later o None h = tt
     both later None (Some q) h = absurd h
     both later (Some p) (Some q) h = later p q h
@@ -64,7 +65,7 @@ raised_within o None a b w h = below o
 raised_within None (Some y) a b w h = absurd w
 raised_within (Some x) (Some y) a b w h = omega (arith, ints, clamps)
 
-lowered_within : (o p : Option ℤ) (a b : ℤ) → HighWithin o p → a ≤ℤ b → lowered o a ≤ℤ lowered p b
+lowered_within : (o p : Option ℤ) (a b : ℤ) → AtMost o p → a ≤ℤ b → lowered o a ≤ℤ lowered p b
 lowered_within o None a b w h = above o
   where
     above : (o : Option ℤ) → lowered o a ≤ℤ b
@@ -78,7 +79,7 @@ raised_in o None a w = tt
 raised_in None (Some y) a w = absurd w
 raised_in (Some x) (Some y) a w = omega (arith, ints, clamps)
 
-lowered_in : (o p : Option ℤ) (a : ℤ) → HighWithin o p → HighWithin (Some (lowered o a)) p
+lowered_in : (o p : Option ℤ) (a : ℤ) → AtMost o p → AtMost (Some (lowered o a)) p
 lowered_in o None a w = tt
 lowered_in None (Some y) a w = absurd w
 lowered_in (Some x) (Some y) a w = omega (arith, ints, clamps)
@@ -90,7 +91,7 @@ tightened_in (pos zero) (Some m) i j w = w
 tightened_in (pos (suc n)) (Some m) i j w = (raised_in i.low j.low _ w.0, w.1)
 tightened_in (negsuc n) (Some m) i j w = (w.0, lowered_in i.high j.high _ w.1)
 
-tightened_within : (c : ℤ) (o p : Option ℤ) (i j : Interval) → HighWithin o p → OneWithin i j → OneWithin (tightened c o i) (tightened c p j)
+tightened_within : (c : ℤ) (o p : Option ℤ) (i j : Interval) → AtMost o p → OneWithin i j → OneWithin (tightened c o i) (tightened c p j)
 tightened_within c o None i j h w = tightened_in c o i j w
 tightened_within c None (Some q) i j h w = absurd h
 tightened_within (pos zero) (Some m) (Some q) i j h w = w

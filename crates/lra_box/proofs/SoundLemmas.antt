@@ -6,11 +6,12 @@ use Rattle.std.proofs.lemmas.Int.{ints, clamps}
 use Rattle.lra_linear.specs.Range.{InRange}
 use Rattle.lra_domain.specs.declared.Mode.{Mode}
 use Rattle.lra_domain.specs.declared.Mode.TheVariants.{Join, Widen, Limited}
+use Rattle.lra_domain.specs.Bounds.{greater, stable}
 use Rattle.lra_box.specs.declared.interval.Interval.{Interval}
 use Rattle.lra_box.specs.declared.interval.Side.TheVariants.{Low, High}
 use Rattle.lra_box.specs.Bounds.{BoundHolds, InInterval, InBounds, open_interval, crossed, crossed_ends, IsSound, AllSound}
 use Rattle.lra_box.specs.Content.{BoundsSound, seen}
-use Rattle.lra_box.specs.Tables.{has_bounds, lesser_low, greater_high, joined_intervals, joined_bounds, widened_low, widened_high, widened_intervals, widened_bounds, grown_bounds}
+use Rattle.lra_box.specs.Tables.{has_bounds, lesser_low, joined_intervals, joined_bounds, widened_low, widened_intervals, widened_bounds, grown_bounds}
 use Rattle.lra_box.proofs.BoxLemmas.{low_left, high_left}
 use Rattle.lra_box.proofs.BoundLemmas.{widen_low_old, widen_high_old}
 
@@ -69,7 +70,7 @@ low_range None b p q = tt
 low_range (Some a) None p q = tt
 low_range (Some a) (Some b) p q = grind (arith, ints, clamps)
 
-high_range : (a b : Option ℤ) → IfSome a InRange → IfSome b InRange → IfSome (greater_high a b) InRange
+high_range : (a b : Option ℤ) → IfSome a InRange → IfSome b InRange → IfSome (greater a b) InRange
 high_range None b p q = tt
 high_range (Some a) None p q = tt
 high_range (Some a) (Some b) p q = grind (arith, ints, clamps)
@@ -81,7 +82,7 @@ joined_all_sound (i ∷ is) (j ∷ js) h k =
     let x = some_number i h.0.1 in (
       (
         (low_range i.low j.low h.0.0.0 k.0.0.0, high_range i.high j.high h.0.0.1 k.0.0.1),
-        not_crossed (record { low = lesser_low i.low j.low; high = greater_high i.high j.high }) x.0 (low_left i.low j.low x.0 x.1.0, high_left i.high j.high x.0 x.1.1),
+        not_crossed (record { low = lesser_low i.low j.low; high = greater i.high j.high }) x.0 (low_left i.low j.low x.0 x.1.0, high_left i.high j.high x.0 x.1.1),
       ),
       joined_all_sound is js h.1 k.1,
     )
@@ -95,7 +96,7 @@ widen_low_range None b p = tt
 widen_low_range (Some a) None p = tt
 widen_low_range (Some a) (Some b) p = by_test (int_lt b a) a p
 
-widen_high_range : (a b : Option ℤ) → IfSome a InRange → IfSome (widened_high a b) InRange
+widen_high_range : (a b : Option ℤ) → IfSome a InRange → IfSome (stable a b) InRange
 widen_high_range None b p = tt
 widen_high_range (Some a) None p = tt
 widen_high_range (Some a) (Some b) p = by_test (int_lt a b) a p
@@ -107,7 +108,7 @@ widened_all_sound (i ∷ is) (j ∷ js) h =
     let x = some_number i h.0.1 in (
       (
         (widen_low_range i.low j.low h.0.0.0, widen_high_range i.high j.high h.0.0.1),
-        not_crossed (record { low = widened_low i.low j.low; high = widened_high i.high j.high }) x.0
+        not_crossed (record { low = widened_low i.low j.low; high = stable i.high j.high }) x.0
             (widen_low_old i.low j.low x.0 x.1.0, widen_high_old i.high j.high x.0 x.1.1),
       ),
       widened_all_sound is js h.1,

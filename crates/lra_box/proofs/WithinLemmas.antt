@@ -6,12 +6,13 @@ use Rattle.std.proofs.lemmas.Bool.{false≢true}
 use Rattle.lra_box.specs.declared.interval.Interval.{Interval}
 use Rattle.lra_box.specs.Bounds.{open_interval, crossed, crossed_ends}
 use Rattle.lra_box.specs.Content.{BoundsFit}
-use Rattle.lra_box.specs.Tables.{lesser_low, greater_high, joined_intervals, joined_bounds, LowWithin, HighWithin, IntervalsWithin, BoundsWithin}
+use Rattle.lra_box.specs.Tables.{lesser_low, joined_intervals, joined_bounds, LowWithin, IntervalsWithin, BoundsWithin}
 use Rattle.lra_box.specs.Covering.{low_within_refl, high_within_refl, intervals_within_refl, within_refl}
+use Rattle.lra_domain.specs.Bounds.{AtMost, greater}
 
 -- one interval within another
 abbrev pub OneWithin : Interval → Interval → Type 0
-OneWithin i j = LowWithin i.low j.low × HighWithin i.high j.high
+OneWithin i j = LowWithin i.low j.low × AtMost i.high j.high
 
 pub set_within : (is js : List Interval) (k : ℕ) (i j : Interval) → IntervalsWithin is js → OneWithin i j → IntervalsWithin (slice_set is k i) (slice_set js k j)
 set_within [] [] k i j h w = h
@@ -36,7 +37,7 @@ set_one (a ∷ is) (suc k) i w = (low_within_refl a.low, high_within_refl a.high
 pub crossed_within : (i j : Interval) → OneWithin i j → crossed j ≡ true → crossed i ≡ true
 crossed_within i j w h = ends i.low i.high j.low j.high w.0 w.1 h
   where
-    ends : (a b c d : Option ℤ) → LowWithin a c → HighWithin b d → crossed_ends c d ≡ true → crossed_ends a b ≡ true
+    ends : (a b c d : Option ℤ) → LowWithin a c → AtMost b d → crossed_ends c d ≡ true → crossed_ends a b ≡ true
     ends a b None d p q h = absurd (false≢true h)
     ends a b (Some c) None p q h = absurd (false≢true h)
     ends None b (Some c) (Some d) p q h = absurd p
@@ -49,7 +50,7 @@ low_both None (Some b) p q = absurd p
 low_both (Some a) None p q = absurd q
 low_both (Some a) (Some b) p q = ap Some (omega (arith, ints))
 
-high_both : (a b : Option ℤ) → HighWithin a b → HighWithin b a → a ≡ b
+high_both : (a b : Option ℤ) → AtMost a b → AtMost b a → a ≡ b
 high_both None None p q = refl
 high_both None (Some b) p q = absurd p
 high_both (Some a) None p q = absurd q
@@ -94,12 +95,12 @@ low_right None b = tt
 low_right (Some a) None = tt
 low_right (Some a) (Some b) = omega (arith, ints, clamps)
 
-high_left : (a b : Option ℤ) → HighWithin a (greater_high a b)
+high_left : (a b : Option ℤ) → AtMost a (greater a b)
 high_left None b = tt
 high_left (Some a) None = tt
 high_left (Some a) (Some b) = omega (arith, ints, clamps)
 
-high_right : (a b : Option ℤ) → HighWithin b (greater_high a b)
+high_right : (a b : Option ℤ) → AtMost b (greater a b)
 high_right None b = tt
 high_right (Some a) None = tt
 high_right (Some a) (Some b) = omega (arith, ints, clamps)

@@ -5,8 +5,9 @@ use Rattle.std.proofs.lemmas.Int.{ints, clamps}
 use Rattle.lra_box.specs.declared.interval.Interval.{Interval}
 use Rattle.lra_box.specs.declared.interval.Side.TheVariants.{Low, High}
 use Rattle.lra_box.specs.Bounds.{BoundHolds, InBounds, open_interval}
-use Rattle.lra_box.specs.Tables.{has_bounds, lesser_low, greater_high, joined_intervals, joined_bounds, LowWithin}
-use Rattle.lra_box.specs.Tables.{HighWithin, IntervalsWithin, BoundsWithin}
+use Rattle.lra_box.specs.Tables.{has_bounds, lesser_low, joined_intervals, joined_bounds, LowWithin}
+use Rattle.lra_box.specs.Tables.{IntervalsWithin, BoundsWithin}
+use Rattle.lra_domain.specs.Bounds.{AtMost, greater}
 
 -- bounds that are all absent hold of every number
 pub in_open : (s : List ℤ) (n : ℕ) → length s ≡ n → InBounds (replicate n open_interval) s
@@ -21,7 +22,7 @@ low_wider a None x w h = tt
 low_wider None (Some b) x w h = absurd w
 low_wider (Some a) (Some b) x w h = omega (arith, ints)
 
-high_wider : (a b : Option ℤ) (x : ℤ) → HighWithin a b → BoundHolds High a x → BoundHolds High b x
+high_wider : (a b : Option ℤ) (x : ℤ) → AtMost a b → BoundHolds High a x → BoundHolds High b x
 high_wider a None x w h = tt
 high_wider None (Some b) x w h = absurd w
 high_wider (Some a) (Some b) x w h = omega (arith, ints)
@@ -46,7 +47,7 @@ pub low_within_refl : (a : Option ℤ) → LowWithin a a
 low_within_refl None = tt
 low_within_refl (Some a) = omega (arith, ints)
 
-pub high_within_refl : (a : Option ℤ) → HighWithin a a
+pub high_within_refl : (a : Option ℤ) → AtMost a a
 high_within_refl None = tt
 high_within_refl (Some a) = omega (arith, ints)
 
@@ -56,7 +57,7 @@ low_within_trans a None (Some c) p q = absurd q
 low_within_trans None (Some b) (Some c) p q = absurd p
 low_within_trans (Some a) (Some b) (Some c) p q = omega (arith, ints)
 
-pub high_within_trans : (a b c : Option ℤ) → HighWithin a b → HighWithin b c → HighWithin a c
+pub high_within_trans : (a b c : Option ℤ) → AtMost a b → AtMost b c → AtMost a c
 high_within_trans a b None p q = tt
 high_within_trans a None (Some c) p q = absurd q
 high_within_trans None (Some b) (Some c) p q = absurd p
@@ -96,7 +97,7 @@ low_least None b (Some c) p q = absurd p
 low_least (Some a) None (Some c) p q = absurd q
 low_least (Some a) (Some b) (Some c) p q = omega (arith, ints, clamps)
 
-high_least : (a b c : Option ℤ) → HighWithin a c → HighWithin b c → HighWithin (greater_high a b) c
+high_least : (a b c : Option ℤ) → AtMost a c → AtMost b c → AtMost (greater a b) c
 high_least a b None p q = tt
 high_least None b (Some c) p q = absurd p
 high_least (Some a) None (Some c) p q = absurd q

@@ -1,12 +1,13 @@
 -- The tables of boxes: what each call makes of the bounds, and when it may be flagged.
 use Rattle.std.specs.Prelude.{ℕ, ◌+◌, ◌*◌, ◌-◌, ℤ, ◌≤ℤ◌, int_lt, cond, List, [], ◌∷◌, ◌++◌, take, replicate, slice_set}
 use Rattle.std.specs.Prelude.{Option, None, Some, ◌⊎◌}
-use Rattle.std.specs.Int.{int_min, int_max}
+use Rattle.std.specs.Int.{int_min}
 use Rattle.lra_lin.specs.Form.{Form}
 use Rattle.lra_domain.specs.Actions.{Action, assign, forget, test, embed, remove_last}
 use Rattle.lra_domain.specs.declared.Mode.{Mode}
 use Rattle.lra_domain.specs.declared.Mode.TheVariants.{Join, Widen, Limited}
 use Rattle.lra_domain.specs.declared.Rank.{Rank}
+use Rattle.lra_domain.specs.Bounds.{AtMost, finite, greater, stable}
 use Rattle.lra_box.specs.declared.interval.Interval.{Interval}
 use Rattle.lra_box.specs.declared.interval.Side.TheVariants.{Low, High}
 use Rattle.lra_box.specs.Bounds.{open_interval, InBounds, end_sum, SumPasses}
@@ -39,15 +40,10 @@ lesser_low None b = None
 lesser_low (Some a) None = None
 lesser_low (Some a) (Some b) = Some (int_min a b)
 
-abbrev pub greater_high : Option ℤ → Option ℤ → Option ℤ
-greater_high None b = None
-greater_high (Some a) None = None
-greater_high (Some a) (Some b) = Some (int_max a b)
-
 abbrev pub joined_intervals : List Interval → List Interval → List Interval
 joined_intervals [] is = []
 joined_intervals (i ∷ is) [] = []
-joined_intervals (i ∷ is) (j ∷ js) = record { low = lesser_low i.low j.low; high = greater_high i.high j.high } ∷
+joined_intervals (i ∷ is) (j ∷ js) = record { low = lesser_low i.low j.low; high = greater i.high j.high } ∷
     joined_intervals is js
 
 abbrev pub joined_bounds : Option (List Interval) → Option (List Interval) → Option (List Interval)
@@ -61,16 +57,11 @@ LowWithin a None = Unit {0}
 LowWithin None (Some b) = ⊥
 LowWithin (Some a) (Some b) = b ≤ℤ a
 
-abbrev pub HighWithin : Option ℤ → Option ℤ → Type 0
-HighWithin a None = Unit {0}
-HighWithin None (Some b) = ⊥
-HighWithin (Some a) (Some b) = a ≤ℤ b
-
 abbrev pub IntervalsWithin : List Interval → List Interval → Type 0
 IntervalsWithin [] [] = Unit {0}
 IntervalsWithin [] (j ∷ js) = ⊥
 IntervalsWithin (i ∷ is) [] = ⊥
-IntervalsWithin (i ∷ is) (j ∷ js) = LowWithin i.low j.low × HighWithin i.high j.high × IntervalsWithin is js
+IntervalsWithin (i ∷ is) (j ∷ js) = LowWithin i.low j.low × AtMost i.high j.high × IntervalsWithin is js
 
 abbrev pub BoundsWithin : Option (List Interval) → Option (List Interval) → Type 0
 BoundsWithin None b = Unit {0}
@@ -78,10 +69,6 @@ BoundsWithin (Some is) None = ⊥
 BoundsWithin (Some is) (Some js) = IntervalsWithin is js
 
 -- how many bounds there are
-abbrev pub finite : Option ℤ → ℕ
-finite None = 0
-finite (Some b) = 1
-
 abbrev pub finite_bounds : List Interval → ℕ
 finite_bounds [] = 0
 finite_bounds (i ∷ is) = (finite i.low + finite i.high) + finite_bounds is
@@ -98,15 +85,10 @@ widened_low None b = None
 widened_low (Some a) None = None
 widened_low (Some a) (Some b) = cond (int_lt b a) None (Some a)
 
-abbrev pub widened_high : Option ℤ → Option ℤ → Option ℤ
-widened_high None b = None
-widened_high (Some a) None = None
-widened_high (Some a) (Some b) = cond (int_lt a b) None (Some a)
-
 abbrev pub widened_intervals : List Interval → List Interval → List Interval
 widened_intervals [] is = []
 widened_intervals (i ∷ is) [] = []
-widened_intervals (i ∷ is) (j ∷ js) = record { low = widened_low i.low j.low; high = widened_high i.high j.high } ∷
+widened_intervals (i ∷ is) (j ∷ js) = record { low = widened_low i.low j.low; high = stable i.high j.high } ∷
     widened_intervals is js
 
 abbrev pub widened_bounds : Option (List Interval) → Option (List Interval) → Option (List Interval)

@@ -15,8 +15,8 @@ ghost use Rattle.lra_box.specs.Answers.{AssignedTo, TestedTo};
 
 use crate::interval::Interval;
 use crate::intervals::{all_within, assign_bounds, count_bounds, join_all, widen_all};
-use crate::refine::{occurs, refine_all, worse};
-use lra_domain::{Exactness, Mode, Rank};
+use crate::refine::{occurs, refine_all};
+use lra_domain::{Exactness, Mode, Rank, worse};
 use lra_lin::{LinExpr, Test};
 use lra_linear::ConKind;
 use std::alloc::{AllocError, Global};

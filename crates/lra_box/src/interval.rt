@@ -4,8 +4,7 @@ ghost use Rattle.std.specs.Prelude.{◌≡◌, ◌↔◌, IsTrue, IfSome};
 ghost use Rattle.lra_linear.specs.Range.{InRange};
 ghost use Rattle.lra_box.specs.Bounds.{crossed, EndsInRange};
 ghost use Rattle.lra_box.specs.Refine.{raised, lowered, tightened};
-ghost use Rattle.lra_box.specs.Tables.{lesser_low, greater_high, widened_low, widened_high, LowWithin, HighWithin};
-ghost use Rattle.lra_box.specs.Tables.{finite};
+ghost use Rattle.lra_box.specs.Tables.{lesser_low, widened_low, LowWithin};
 
 /// The whole numbers from `low` to `high`; an end without a bound is open.
 #[derive(Clone, Copy, Debug, PartialEq, Eq)]
@@ -38,29 +37,11 @@ pub(crate) fn join_lows(a: Option<i128>, b: Option<i128>) -> Option<i128>
     }
 }
 
-pub(crate) fn join_highs(a: Option<i128>, b: Option<i128>) -> Option<i128>
-    ensures { result ≡ greater_high a b }
-{
-    match (a, b) {
-        (Some(a), Some(b)) => Some(a.max(b)),
-        _ => None,
-    }
-}
-
 pub(crate) fn widen_lows(a: Option<i128>, b: Option<i128>) -> Option<i128>
     ensures { result ≡ widened_low a b }
 {
     match (a, b) {
         (Some(a), Some(b)) => { if b < a { None } else { Some(a) } }
-        _ => None,
-    }
-}
-
-pub(crate) fn widen_highs(a: Option<i128>, b: Option<i128>) -> Option<i128>
-    ensures { result ≡ widened_high a b }
-{
-    match (a, b) {
-        (Some(a), Some(b)) => { if a < b { None } else { Some(a) } }
         _ => None,
     }
 }
@@ -72,25 +53,6 @@ pub(crate) fn low_within(a: Option<i128>, b: Option<i128>) -> bool
         (_, None) => true,
         (None, Some(_)) => false,
         (Some(a), Some(b)) => b <= a,
-    }
-}
-
-pub(crate) fn high_within(a: Option<i128>, b: Option<i128>) -> bool
-    ensures { IsTrue result ↔ HighWithin a b }
-{
-    match (a, b) {
-        (_, None) => true,
-        (None, Some(_)) => false,
-        (Some(a), Some(b)) => a <= b,
-    }
-}
-
-pub(crate) fn count_bound(bound: Option<i128>) -> u64
-    ensures { result ≡ finite bound }
-{
-    match bound {
-        None => 0,
-        Some(_) => 1,
     }
 }
 

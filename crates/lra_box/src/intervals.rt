@@ -7,11 +7,9 @@ ghost use Rattle.lra_box.specs.Tables.{joined_intervals, widened_intervals, Inte
 ghost use Rattle.lra_box.specs.Answers.{AssignedTo};
 
 use crate::ends::sum_end;
-use crate::interval::{
-    Interval, Side, count_bound, high_within, join_highs, join_lows, low_within, widen_highs,
-    widen_lows,
-};
+use crate::interval::{Interval, Side, join_lows, low_within, widen_lows};
 use lra_domain::Exactness;
+use lra_domain::bounds::{count_bound, is_at_most, join_highs, widen_highs};
 use std::alloc::{AllocError, Global};
 
 /// The intervals that hold both, one by one.
@@ -77,7 +75,7 @@ pub fn all_within(left: &[Interval], right: &[Interval]) -> bool
         ours.split_first(),
         theirs.split_first(),
     ) {
-        if !low_within(one.low, two.low) || !high_within(one.high, two.high) {
+        if !low_within(one.low, two.low) || !is_at_most(one.high, two.high) {
             return false;
         }
         ours = ours_left;

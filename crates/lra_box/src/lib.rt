@@ -13,4 +13,4 @@ pub use bounds::{opposite_row, wide_row};
 pub use boxes::Boxes;
 pub use ends::{Bound, sum_end};
 pub use interval::{Interval, Side, is_crossed};
-pub use refine::{Refined, refine_all, worse};
+pub use refine::{Refined, refine_all};

@@ -1,8 +1,8 @@
 //! A test refines the intervals, place by place.
 
-ghost use Rattle.std.specs.Prelude.{◌≡◌, ◌≢◌, ◌↔◌, pos, ◌<◌, length, IsTrue, None, Some, ◌⊎◌, All, if◌then◌else◌, ◌+ℤ◌};
+ghost use Rattle.std.specs.Prelude.{◌≡◌, ◌≢◌, ◌↔◌, pos, ◌<◌, length, IsTrue, None, Some, All, if◌then◌else◌, ◌+ℤ◌};
 ghost use Rattle.std.specs.Prelude.{◌≤ℤ◌, slice_index_or};
-ghost use Rattle.lra_domain.specs.declared.Exactness.TheVariants.{Exact, Flagged};
+ghost use Rattle.lra_domain.specs.declared.Exactness.TheVariants.{Exact};
 ghost use Rattle.lra_linear.specs.Range.{InRange};
 ghost use Rattle.lra_linear.specs.Vectors.{product};
 ghost use Rattle.lra_box.specs.Bounds.{AllSound, EndsInRange, open_interval};
@@ -11,7 +11,7 @@ ghost use Rattle.lra_box.specs.Answers.{TestedTo};
 
 use crate::ends::sum_end;
 use crate::interval::{Interval, Side, is_crossed, tighten};
-use lra_domain::Exactness;
+use lra_domain::{Exactness, worse};
 
 /// What tightening a place found.
 #[derive(Clone, Copy, Debug, PartialEq, Eq)]
@@ -51,17 +51,6 @@ fn tight_at(bounds: &[Interval], constant: i128, factors: &mut [i128], k: usize)
 pub struct Refined {
     pub is_crossed: bool,
     pub exactness: Exactness,
-}
-
-/// Flagged where one of the two is.
-pub fn worse(one: Exactness, two: Exactness) -> Exactness
-    ensures exact { result ≡ Exact → (one ≡ Exact) × (two ≡ Exact) }
-    ensures flagged { result ≡ Flagged → (one ≡ Flagged) ⊎ ((one ≡ Exact) × (two ≡ Flagged)) }
-{
-    match one {
-        Exactness::Flagged => Exactness::Flagged,
-        Exactness::Exact => two,
-    }
 }
 
 /// Whether some factor isn't 0.

@@ -11,9 +11,8 @@ ghost use Rattle.lra_flow.specs.Linear.{form_of};
 ghost use Rattle.lra_flow.specs.Changes.{set_to, append_set, push_all, drop_last};
 ghost use Rattle.lra_change.specs.Changes.{Does, ChangesTo, OpFits, dims_behind};
 
-use crate::comparisons::worse_of;
 use crate::conditions::leave;
-use lra_domain::{Domain, Exactness};
+use lra_domain::{Domain, Exactness, worse};
 use lra_forms::form_of_expression;
 use lra_operations::Op;
 use lra_program::Expr;
@@ -62,7 +61,7 @@ fn push_one<D: Domain>(
     let place = value.dims();
     let one = value.embed(1)?;
     let two = set(alloc, base, place, e, value)?;
-    Ok(worse_of(one, two))
+    Ok(worse(one, two))
 }
 
 /// The arguments, each a new variable with its value.
@@ -82,7 +81,7 @@ fn push_all_of<D: Domain>(
     };
     let one = push_one(alloc, base, first, value)?;
     let others = push_all_of(alloc, base, later, value)?;
-    Ok(worse_of(one, others))
+    Ok(worse(one, others))
 }
 
 /// Only the oldest `n` variables stay.

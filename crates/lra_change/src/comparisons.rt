@@ -5,25 +5,14 @@ ghost use Rattle.lra_base.specs.Operators.{below, differs};
 ghost use Rattle.lra_base.specs.OperatorViews.{comparison_view};
 ghost use Rattle.lra_program.specs.ProgramViews.{expr_view};
 ghost use Rattle.lra_flow.specs.Linear.{difference_form, comparison_test};
-ghost use Rattle.lra_domain.specs.Meaning.{worse};
 ghost use Rattle.lra_change.specs.Conditions.{Tests, Compares};
 
 use lra_base::Comparison;
-use lra_domain::{Domain, Exactness};
+use lra_domain::{Domain, Exactness, worse};
 use lra_forms::{difference_of, test_of};
 use lra_lin::LinExpr;
 use lra_program::Expr;
 use std::alloc::{AllocError, Global};
-
-/// Flagged where one of the two is.
-pub fn worse_of(one: Exactness, two: Exactness) -> Exactness
-    ensures { result ≡ worse one two }
-{
-    match one {
-        Exactness::Exact => two,
-        Exactness::Flagged => Exactness::Flagged,
-    }
-}
 
 /// What the comparison's test leaves of the value; all of it where there is none.
 fn leave_test<D: Domain>(
@@ -44,7 +33,7 @@ fn leave_test<D: Domain>(
         None => Ok(before),
         Some(test) => {
             let exactness = value.test(&test)?;
-            Ok(worse_of(before, exactness))
+            Ok(worse(before, exactness))
         }
     }
 }
@@ -86,7 +75,7 @@ fn leave_differs<D: Domain>(
     let two = leave_test(alloc, base, Comparison::Above, d, value, before)?;
     let joined = less.join(value)?;
     *value = less;
-    Ok(worse_of(worse_of(one, two), joined))
+    Ok(worse(worse(one, two), joined))
 }
 
 /// In what a condition is read: the allocator of what is built for it, and where the variables of its call begin.

@@ -5,8 +5,7 @@ ghost use Rattle.lra_flow.specs.Linear.{constant_form};
 ghost use Rattle.lra_flow.specs.Changes.{append_set, first_values};
 ghost use Rattle.lra_change.specs.Changes.{Does};
 
-use crate::comparisons::worse_of;
-use lra_domain::{Domain, Exactness};
+use lra_domain::{Domain, Exactness, worse};
 use lra_forms::constant_of;
 use std::alloc::{AllocError, Global};
 
@@ -26,7 +25,7 @@ fn append_constant<D: Domain>(
     let one = value.embed(1)?;
     let form = constant_of(alloc, place + 1, constant)?;
     let two = value.assign(place, &form)?;
-    Ok(worse_of(one, two))
+    Ok(worse(one, two))
 }
 
 /// The global variables, each with its first value.
@@ -45,5 +44,5 @@ pub fn append_globals<D: Domain>(
     };
     let one = append_constant(alloc, first, value)?;
     let others = append_globals(alloc, later, value)?;
-    Ok(worse_of(one, others))
+    Ok(worse(one, others))
 }

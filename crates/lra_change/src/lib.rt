@@ -8,7 +8,6 @@ mod globals;
 mod sides;
 
 pub use changes::change;
-pub use comparisons::worse_of;
 pub use conditions::leave;
 pub use globals::append_globals;
 pub use sides::{Kept, Sides, split};

@@ -8,9 +8,9 @@ ghost use Rattle.lra_flow.specs.Condition.{atom, opposite_comparison, push};
 ghost use Rattle.lra_forms.specs.Conditions.{in_turn_of, either_of};
 ghost use Rattle.lra_change.specs.Sides.{Splits, AreJoinedTo};
 
-use crate::comparisons::{Surroundings, leave_comparison, worse_of};
+use crate::comparisons::{Surroundings, leave_comparison};
 use lra_base::Comparison;
-use lra_domain::{Domain, Exactness};
+use lra_domain::{Domain, Exactness, worse};
 use lra_forms::opposite_of;
 use lra_program::{Cond, Expr};
 use std::alloc::{AllocError, Global};
@@ -42,7 +42,7 @@ pub fn join_kept<D: Domain>(one: Kept<D>, two: Kept<D>) -> Result<Kept<D>, Alloc
     let joined = value.join(&two.value)?;
     Ok(Kept {
         value,
-        exactness: worse_of(worse_of(exactness, two.exactness), joined),
+        exactness: worse(worse(exactness, two.exactness), joined),
     })
 }
 

@@ -6,10 +6,11 @@ use Rattle.std.proofs.lemmas.Int.{ints, clamps, by_lt_z}
 use Rattle.lra_dbm.specs.Entry.{◌⊑◌, EntryInRange}
 use Rattle.lra_dbm.specs.Tight.{Entries, opposite, IsStore, IsTight}
 use Rattle.lra_dbm.specs.Cells.{Cells, size, place, outside, entries, IsMatrix, Content, entry_at}
-use Rattle.lra_dbm.specs.Pointwise.{greater, greater_cells, stable, stable_cells, CellsWithin, finite, finite_cells}
+use Rattle.lra_dbm.specs.Pointwise.{greater_cells, stable_cells, CellsWithin, finite_cells}
 use Rattle.lra_dbm.specs.Closure.{LeastJoin}
 use Rattle.lra_dbm.proofs.EntryLemmas.{le_refl, le_same, le_none, le_trans, le_antisym}
 use Rattle.lra_dbm.proofs.CellLemmas.{place_there, entries_inside, inside_or_out}
+use Rattle.lra_domain.specs.Bounds.{finite, greater, stable}
 
 -- ---- single entries
 

@@ -1,15 +1,11 @@
 -- Entries of a matrix: a whole number, or none where the entry is infinite.
-use Rattle.std.specs.Prelude.{ℤ, pos, ◌+ℤ◌, ◌≤ℤ◌, Option, None, Some, Bool, false, not, cond, IfSome}
+use Rattle.std.specs.Prelude.{ℤ, pos, ◌+ℤ◌, Option, None, Some, Bool, false, not, cond, IfSome}
 use Rattle.std.specs.Int.{int_min, int_div_euclid}
 use Rattle.lra_linear.specs.Range.{InRange, in_range}
+use Rattle.lra_domain.specs.Bounds.{AtMost}
 
 infix 4 ◌⊑◌
 infixl 6 ◌⊞◌
-abbrev pub AtMost : Option ℤ → Option ℤ → Type 0
-AtMost a None = Unit {0}
-AtMost None (Some b) = ⊥
-AtMost (Some a) (Some b) = a ≤ℤ b
-
 -- at most; an infinite entry is above all
 pub record ◌⊑◌ (a b : Option ℤ) : Type 0 where
   pub at_most : AtMost a b

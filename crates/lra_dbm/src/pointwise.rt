@@ -2,49 +2,12 @@
 
 ghost use Rattle.std.specs.Prelude.{◌≡◌, ◌≤◌, ◌^◌, ◌*◌, ◌↔◌, ℕ, pos, Some, length, IsTrue, IfOk};
 ghost use Rattle.lra_dbm.specs.Cells.{size, entries, IsMatrix};
-ghost use Rattle.lra_dbm.specs.Pointwise.{greater, greater_cells, stable, stable_cells};
-ghost use Rattle.lra_dbm.specs.Pointwise.{CellsWithin, finite, finite_cells};
+ghost use Rattle.lra_dbm.specs.Pointwise.{greater_cells, stable_cells};
+ghost use Rattle.lra_dbm.specs.Pointwise.{CellsWithin, finite_cells};
 ghost use Rattle.lra_dbm.specs.Closure.{LeastJoin};
-ghost use Rattle.lra_dbm.specs.Entry.{◌⊑◌};
 
+use lra_domain::bounds::{count_bound, is_at_most, join_highs, widen_highs};
 use std::alloc::{AllocError, Global};
-
-fn greater(a: Option<i128>, b: Option<i128>) -> Option<i128>
-    ensures { result ≡ greater a b }
-{
-    match (a, b) {
-        (Some(a), Some(b)) => Some(a.max(b)),
-        _ => None,
-    }
-}
-
-fn stable(a: Option<i128>, b: Option<i128>) -> Option<i128>
-    ensures { result ≡ stable a b }
-{
-    match (a, b) {
-        (Some(a), Some(b)) => { if a < b { None } else { Some(a) } }
-        _ => None,
-    }
-}
-
-fn is_at_most(a: Option<i128>, b: Option<i128>) -> bool
-    ensures { IsTrue result ↔ (a ⊑ b) }
-{
-    match (a, b) {
-        (_, None) => true,
-        (None, Some(_)) => false,
-        (Some(a), Some(b)) => a <= b,
-    }
-}
-
-fn count_finite(a: Option<i128>) -> u64
-    ensures { result ≡ finite a }
-{
-    match a {
-        None => 0,
-        Some(_) => 1,
-    }
-}
 
 /// The greater of both, cell by cell.
 fn greater_all(
@@ -62,7 +25,7 @@ fn greater_all(
         ours.split_first(),
         theirs.split_first(),
     ) {
-        all.push(greater(*one, *two))?;
+        all.push(join_highs(*one, *two))?;
         ours = ours_left;
         theirs = theirs_left;
     }
@@ -85,7 +48,7 @@ fn stable_all(
         ours.split_first(),
         theirs.split_first(),
     ) {
-        all.push(stable(*one, *two))?;
+        all.push(widen_highs(*one, *two))?;
         ours = ours_left;
         theirs = theirs_left;
     }
@@ -119,7 +82,7 @@ fn count_all(cells: &[Option<i128>]) -> u64
 {
     let mut count = 0;
     for cell in cells {
-        count += count_finite(*cell);
+        count += count_bound(*cell);
     }
     count
 }

@@ -3,3 +3,4 @@ pub mod Parts
 pub mod Rank
 pub mod Meaning
 pub mod Laws
+pub mod Bounds

@@ -1,9 +1,12 @@
 //! What an abstract domain owes to the iteration that stands on it.
 #![tactic(auto)]
 
+pub mod bounds;
 pub mod domain;
+pub mod flags;
 
 pub use domain::{Domain, Plain};
+pub use flags::worse;
 
 /// Whether a result is the defined one, or only covers it because a number or a count passed its limit.
 #[derive(Clone, Copy, Debug, PartialEq, Eq)]

@@ -9,8 +9,7 @@ ghost use Rattle.lra_flow.specs.Changes.{AreJoined};
 ghost use Rattle.lra_flow.specs.Pass.{noted, goes_on, jumps, behind};
 ghost use Rattle.lra_iter.specs.Outcome.{entry_view, ended, seen, AllHave, AreGiven, AreInTurn, AreKept};
 
-use lra_change::worse_of;
-use lra_domain::{Domain, Exactness};
+use lra_domain::{Domain, Exactness, worse};
 use lra_operations::Exit;
 use std::alloc::{AllocError, Global};
 use std::mem;
@@ -330,5 +329,5 @@ pub fn join_all<D: Domain>(value: &mut D, others: &[D]) -> Result<Exactness, All
     };
     let one = value.join(other)?;
     let more = join_all(value, later)?;
-    Ok(worse_of(one, more))
+    Ok(worse(one, more))
 }

@@ -7,10 +7,10 @@ use Rattle.lra_domain.specs.declared.Mode.{Mode}
 use Rattle.lra_domain.specs.declared.Mode.TheVariants.{Join, Widen, Limited}
 use Rattle.lra_domain.specs.declared.Exactness.{Exactness}
 use Rattle.lra_domain.specs.declared.Exactness.TheVariants.{Exact, Flagged}
+use Rattle.lra_domain.specs.Bounds.{greater}
 use Rattle.lra_dbm.specs.Cells.{Cells, size, entries, forgotten, first_entries, IsMatrix}
 use Rattle.lra_dbm.specs.Cells.{Content as Matrix}
 use Rattle.lra_dbm.specs.Closure.{IsClosure}
-use Rattle.lra_dbm.specs.Pointwise.{greater}
 use Rattle.lra_dbm.proofs.PointwiseLemmas.{within_refl, left_within, right_within, old_within_stable, new_within_stable}
 use Rattle.lra_dbm.proofs.PointwiseLemmas.{greater_matrix, entries_greater, stable_matrix, stable_diagonal, stable_falls, finite_at_most}
 use Rattle.lra_dbm.proofs.Closures.{tight_has, tight_within}

@@ -20,11 +20,12 @@ use Rattle.lra_dbm.proofs.PointwiseLemmas.{within_entries}
 use Rattle.lra_box.specs.declared.interval.Interval.{Interval}
 use Rattle.lra_box.specs.declared.interval.Side.TheVariants.{Low, High}
 use Rattle.lra_box.specs.Bounds.{open_interval, crossed, BoundHolds, InInterval, InBounds, EndsInRange, AllSound}
-use Rattle.lra_box.specs.Tables.{LowWithin, HighWithin, IntervalsWithin}
+use Rattle.lra_box.specs.Tables.{LowWithin, IntervalsWithin}
 use Rattle.lra_box.proofs.WithinLemmas.{OneWithin, at_within}
 use Rattle.lra_box.proofs.RefineLemmas.{in_at}
 use Rattle.lra_oct.specs.Tables.{interval, intervals_from, intervals, some_crossed, upper_of, upper, bounded}
 use Rattle.lra_oct.proofs.FormLemmas.{plus_value, minus_value}
+use Rattle.lra_domain.specs.Bounds.{AtMost}
 
 both_parts : (is js ks : List Interval) → is ++ (js ++ ks) ≡ (is ++ js) ++ ks
 both_parts [] js ks = refl
@@ -101,7 +102,7 @@ in_intervals n m s h = in_from m s 0 n h.width (λ j l. let same : j ≡ 0 + j =
 
 -- ---- a narrower matrix has narrower intervals
 
-half_wider : (a b : Option ℤ) → a ⊑ b → HighWithin (half_of a) (half_of b)
+half_wider : (a b : Option ℤ) → a ⊑ b → AtMost (half_of a) (half_of b)
 half_wider a None h = tt
 half_wider None (Some b) h = absurd h.at_most
 half_wider (Some a) (Some b) h =
@@ -153,7 +154,7 @@ upper_holds is s j h l = side_holds (j % 2) (slice_index_or is (j / 2) open_inte
     (subst (λ z. InInterval (slice_index_or is (j / 2) open_interval) z) (sym (number_index s (j / 2)))
     (in_at is s (j / 2) h (omega arith)))
 
-high_wider : (a b : Option ℤ) → HighWithin a b → a ⊑ b
+high_wider : (a b : Option ℤ) → AtMost a b → a ⊑ b
 high_wider a None h = record { at_most = tt }
 high_wider None (Some b) h = absurd h
 high_wider (Some a) (Some b) h = record { at_most = h }

@@ -17,9 +17,9 @@ use crate::bounds::Bounds;
 use crate::closing::{equated, free};
 use crate::forms::{Shape, classify};
 use crate::unary::{close_within, intervals_of};
-use lra_box::{Interval, Side, sum_end, wide_row, worse};
+use lra_box::{Interval, Side, sum_end, wide_row};
 use lra_dbm::Matrix;
-use lra_domain::Exactness;
+use lra_domain::{Exactness, worse};
 use lra_lin::LinExpr;
 use std::alloc::{AllocError, Global};
 

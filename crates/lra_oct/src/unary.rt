@@ -9,9 +9,9 @@ ghost use Rattle.lra_oct.specs.Content.{seen, DimsFit};
 ghost use Rattle.lra_oct.specs.Entering.{BoundsOne, BoundsAll, BoundedTo};
 
 use crate::bounds::{Bounds, close};
-use lra_box::{Interval, is_crossed, worse};
+use lra_box::{Interval, is_crossed};
 use lra_dbm::{Matrix, opposite};
-use lra_domain::Exactness;
+use lra_domain::{Exactness, worse};
 use lra_row::add;
 use std::alloc::{AllocError, Global};
 

@@ -1,7 +1,6 @@
-//! Answers and exactness, taken together.
+//! Answers, taken together.
 
 ghost use Rattle.std.specs.Prelude.{◌≡◌};
-ghost use Rattle.lra_domain.specs.Meaning.{worse};
 ghost use Rattle.lra_set.specs.Outcomes.{all_decided, both, either};
 
 use lra_domain::{Exactness, Included};
@@ -25,16 +24,6 @@ pub fn both(one: Included, two: Included) -> Included
         (Included::No, _) | (_, Included::No) => Included::No,
         (Included::Yes, Included::Yes) => Included::Yes,
         _ => Included::Wide,
-    }
-}
-
-/// Flagged where one of two is.
-pub fn worse_of(one: Exactness, two: Exactness) -> Exactness
-    ensures { result ≡ worse one two }
-{
-    match one {
-        Exactness::Exact => two,
-        Exactness::Flagged => Exactness::Flagged,
     }
 }
 

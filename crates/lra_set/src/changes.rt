@@ -7,8 +7,7 @@ ghost use Rattle.lra_set.specs.Content.{filled};
 ghost use Rattle.lra_set.specs.Changes.{ChangeFits, action_of};
 ghost use Rattle.lra_set.specs.Outcomes.{AreChanged, HaveDims, IsAppended};
 
-use crate::answers::worse_of;
-use lra_domain::{Domain, Exactness, Plain};
+use lra_domain::{Domain, Exactness, Plain, worse};
 use lra_lin::{LinExpr, Test};
 use std::alloc::{AllocError, Global};
 
@@ -85,7 +84,7 @@ pub fn append_changed<D: Plain>(
     };
     let one = append_one(alloc, first, change, all)?;
     let others = append_changed(alloc, later, change, all)?;
-    Ok(worse_of(one, others))
+    Ok(worse(one, others))
 }
 
 /// How many dimensions there are after the change.

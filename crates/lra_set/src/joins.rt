@@ -5,10 +5,9 @@ ghost use Rattle.lra_set.specs.Lists.{EachPart};
 ghost use Rattle.lra_set.specs.Outcomes.{AreMerged, BecameOne, HaveDims, IsMerged, IsSettled, LastTwoMeet, PartFits};
 ghost use Rattle.lra_set.specs.Outcomes.{SettlesOnce};
 
-use crate::answers::worse_of;
 use crate::reduction::reduce;
 use crate::set::list_alone;
-use lra_domain::{Domain, Exactness, Plain};
+use lra_domain::{Domain, Exactness, Plain, worse};
 use std::alloc::{AllocError, Global};
 
 /// Joins the parts, in order, into the first.
@@ -22,7 +21,7 @@ fn join_on<D: Plain>(first: &mut D, others: &[D]) -> Result<Exactness, AllocErro
     };
     let one = first.join(next)?;
     let two = join_on(first, later)?;
-    Ok(worse_of(one, two))
+    Ok(worse(one, two))
 }
 
 /// The join of the parts, in order.

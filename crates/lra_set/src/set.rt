@@ -13,12 +13,11 @@ ghost use Rattle.lra_set.specs.Changes.{ChangeFits, action_of};
 ghost use Rattle.lra_set.specs.Outcomes.{HaveDims, PartFits};
 ghost use Rattle.lra_set.specs.Meaning.{set_meaning};
 
-use crate::answers::worse_of;
 use crate::changes::{Change, append_changed, dims_behind};
 use crate::heads::PowerSetHead;
 use crate::joins::settle;
 use crate::reduction::{all_lie_in, reduce};
-use lra_domain::{Domain, Exactness, Grown, Included, Mode, Plain, Rank};
+use lra_domain::{Domain, Exactness, Grown, Included, Mode, Plain, Rank, worse};
 use lra_lin::{LinExpr, Test};
 use lra_sys::ConSys;
 use std::alloc::{AllocError, Global};
@@ -206,7 +205,7 @@ impl<D: Plain> PowerSet<D> {
         let (settled, two) = settle(self.alloc, self.cap as usize, changed)?;
         self.dims = dims_behind(change, self.dims);
         self.parts = settled;
-        Ok(worse_of(one, two))
+        Ok(worse(one, two))
     }
 }
 

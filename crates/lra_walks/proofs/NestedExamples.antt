@@ -7,6 +7,7 @@ use Rattle.lra_lin.specs.Form.{Form}
 use Rattle.lra_linear.specs.declared.ConKind.TheVariants.{Ge}
 use Rattle.lra_domain.specs.Actions.{assign, test}
 use Rattle.lra_domain.specs.declared.Exactness.TheVariants.{Exact}
+use Rattle.lra_domain.specs.Bounds.{greater, stable}
 use Rattle.lra_program.specs.Program.{local, Expr, literal, read, input, binary, Cond, compare, nonzero}
 use Rattle.lra_base.specs.Operators.{plus, below, equal}
 use Rattle.lra_program.specs.Program as program
@@ -20,7 +21,7 @@ use Rattle.lra_box.specs.declared.interval.Interval.{Interval}
 use Rattle.lra_box.specs.declared.interval.Side.TheVariants.{Low, High}
 use Rattle.lra_box.specs.Bounds.{open_interval, crossed, form, IsSound}
 use Rattle.lra_box.specs.Content.{Content}
-use Rattle.lra_box.specs.Tables.{stepped, lesser_low, greater_high, widened_low, widened_high}
+use Rattle.lra_box.specs.Tables.{stepped, lesser_low, widened_low}
 use Rattle.lra_box.specs.Meaning.{StepsTo, box_meaning}
 use Rattle.lra_box.proofs.ExtremeLemmas.{end_is_extreme}
 use Rattle.lra_box.specs.Covering.{low_within_refl, high_within_refl}
@@ -223,8 +224,8 @@ abbrev inner_loop_found : Interval → Result Content
 inner_loop_found a = record { entries = inner_entries a; normal = two a (between 3 3); breaks = []; continues = []; returns = two a (between 0 2) ∷ []; flag = None }
 
 -- the inner loop where b begins with 0: its heads have b 0..0, 0..1 and 0.. , and it is narrowed to 0..3
-module _ (set : Options) (a : Interval) (sound : IsSound a) (order : crossed a ≡ false) (low_joined : lesser_low a.low a.low ≡ a.low) (high_joined : greater_high a.high a.high ≡ a.high)
-    (low_widened : widened_low a.low a.low ≡ a.low) (high_widened : widened_high a.high a.high ≡ a.high) where
+module _ (set : Options) (a : Interval) (sound : IsSound a) (order : crossed a ≡ false) (low_joined : lesser_low a.low a.low ≡ a.low) (high_joined : greater a.high a.high ≡ a.high)
+    (low_widened : widened_low a.low a.low ≡ a.low) (high_widened : stable a.high a.high ≡ a.high) where
   at_three : (x : Interval) (o : Option (List Interval)) → box_of o ≡ stepped (test Ge three) (two a x) → StepsTo (test Ge three) (two a x) (box_of o)
   at_three x o is = record { table = is; extremes = tt }
 
@@ -280,8 +281,8 @@ module _ (set : Options) (a : Interval) (sound : IsSound a) (order : crossed a �
   )
 
 -- nothing leaves the endless loop by its condition, so what comes behind it is what broke out
-inner_loop_pass : (a : Interval) → IsSound a → crossed a ≡ false → lesser_low a.low a.low ≡ a.low → greater_high a.high a.high ≡ a.high → widened_low a.low a.low ≡ a.low →
-    widened_high a.high a.high ≡ a.high
+inner_loop_pass : (a : Interval) → IsSound a → crossed a ≡ false → lesser_low a.low a.low ≡ a.low → greater a.high a.high ≡ a.high → widened_low a.low a.low ≡ a.low →
+    stable a.high a.high ≡ a.high
     → Pass Content Content boxes (narrowed 1) inner_loop None (two a (between 0 0)) (inner_loop_found a)
 inner_loop_pass a sound order low_joined high_joined low_widened high_widened = (
   two a (between 3 3),

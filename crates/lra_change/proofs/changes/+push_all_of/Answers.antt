@@ -12,5 +12,5 @@ returns-clause-pushes g t c =
     let n = m.dims c.args.value.now in
     let rest : c.args.es.now ≡ c.in-Some.first.now ∷ c.in-Some.later.now = search rules in
     let others = rw c.in_ok-one.ensures.dims at c.in_ok-others.ensures.pushes in
-    rw (rest, c.worse_of.ensures) (done_both m (append_set n (form_of (suc n) c.args.base (expr_view c.in-Some.first.now))) (push_all (suc n) c.args.base (map expr_view c.in-Some.later.now))
+    rw (rest, c.worse.ensures.is) (done_both m (append_set n (form_of (suc n) c.args.base (expr_view c.in-Some.first.now))) (push_all (suc n) c.args.base (map expr_view c.in-Some.later.now))
     c.args.value.now c.push_one.new.value c.push_all_of.new.value c.in_ok-one.one c.in_ok-others.others c.in_ok-one.ensures.pushes others)

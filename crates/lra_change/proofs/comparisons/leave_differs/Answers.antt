@@ -11,6 +11,6 @@ returns-clause-leaves g c = (
   (
     c.in_ok-joined.joined,
     (c.in_ok-joined.ensures.joins, c.in_ok-two.ensures.dims ∙ sym c.in_ok-less.ensures.dims, c.in_ok-joined.ensures.dims, c.in_ok-joined.ensures.capped),
-    rw (c.worse_of-2.ensures, c.worse_of.ensures) refl,
+    rw (c.worse-2.ensures.is, c.worse.ensures.is) refl,
   ),
 )

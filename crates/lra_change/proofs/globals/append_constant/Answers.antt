@@ -15,5 +15,5 @@ returns-clause-appends g c =
     let m = g.D.Domain.meaning in
     let form = rw c.dims-place.ensures at c.in_ok-form.ensures in
     let assigns = rw c.dims-place.ensures at c.in_ok-two.ensures.meets in
-    rw c.worse_of.ensures (appended m c.args.constant.now c.in_ok-form.form c.args.value.now c.embed.new.self c.assign.new.self c.in_ok-one.one c.in_ok-two.two
+    rw c.worse.ensures.is (appended m c.args.constant.now c.in_ok-form.form c.args.value.now c.embed.new.self c.assign.new.self c.in_ok-one.one c.in_ok-two.two
     c.in_ok-one.ensures.meets c.in_ok-one.ensures.dims c.in_ok-one.ensures.capped form assigns c.in_ok-two.ensures.dims c.in_ok-two.ensures.capped)

@@ -8,7 +8,7 @@ use Rattle.lra_set.proofs.changes.+append_changed.Goals as goal
 pub returns : goal.returns
 returns g t c =
     let cut : c.args.parts.now ≡ c.in-Some.first.now ∷ c.in-Some.later.now = grind (arith, common_steps) in
-    rw c.worse_of.ensures (append_more g.D.Domain.meaning g.met.D.Domain.laws g.met.D.Plain.plain (action_of c.args.change.now)
+    rw c.worse.ensures.is (append_more g.D.Domain.meaning g.met.D.Domain.laws g.met.D.Plain.plain (action_of c.args.change.now)
     c.args.all.now.items c.args.parts.now c.in-Some.first.now c.in-Some.later.now c.in_ok-one.one
     c.append_one.new.all.items c.in_ok-others.others c.append_changed.new.all.items cut c.in_ok-one.ensures
     c.in_ok-others.ensures)

@@ -48,7 +48,7 @@ pub returns-clause-meets : goal.returns-clause-meets
 returns-clause-meets g c =
     let none : c.new-changed.result.items ≡ [] = grind (arith, common_steps) in
     let told = rw c.as_slice.ensures.value at c.in_ok-one.ensures in
-    rw (← c.self.view_is) (rw c.worse_of.ensures (change_meets g.D.Domain.meaning g.met.D.Domain.laws g.met.D.Plain.plain
+    rw (← c.self.view_is) (rw c.worse.ensures.is (change_meets g.D.Domain.meaning g.met.D.Domain.laws g.met.D.Plain.plain
     (action_of c.args.change.now)
     (record { dims = c.self.inside.dims; cap = c.self.inside.cap; parts = c.self.inside.parts.items })
     (record { dims = c.dims_behind-self-inside.result; cap = c.self.inside.cap; parts = c.in_ok-settled.settled.items })
