@@ -42,14 +42,14 @@ fn catch_exit(alloc: Global, point: usize, exit: Exit, body: Node) -> Result<Nod
 }
 
 /// The point, then the tree.
-pub fn behind_point(alloc: Global, point: usize, node: Node) -> Result<Node, AllocError>
+pub fn put_point(alloc: Global, point: usize, node: Node) -> Result<Node, AllocError>
     ensures { IfOk result (λ g. node_view g ≡ graph.seq (graph.point point) (node_view node)) }
 {
     in_turn(alloc, Node::Point(point), node)
 }
 
 /// The operation, then the tree.
-pub fn behind(alloc: Global, point: usize, op: Op, node: Node) -> Result<Node, AllocError>
+pub fn put_act(alloc: Global, point: usize, op: Op, node: Node) -> Result<Node, AllocError>
     ensures { IfOk result (λ g. node_view g ≡ graph.seq (graph.act point (op_view op)) (node_view node)) }
 {
     in_turn(alloc, Node::Act(point, op), node)
@@ -65,7 +65,7 @@ pub fn close_block(
     ensures { IfOk result (λ g. node_view g
         ≡ graph.seq (node_view items) (graph.seq (graph.point point) (graph.act point (step.keep live)))) }
 {
-    let end = behind_point(alloc, point, Node::Act(point, Op::Keep(live)))?;
+    let end = put_point(alloc, point, Node::Act(point, Op::Keep(live)))?;
     in_turn(alloc, items, end)
 }
 
@@ -99,7 +99,7 @@ pub fn choice(
     let cond = cond.copy(alloc)?;
     let on_true = Box::new(alloc, on_true)?;
     let on_false = Box::new(alloc, on_false)?;
-    behind_point(
+    put_point(
         alloc,
         point,
         Node::Choose(point, base, cond, on_true, on_false),
@@ -136,11 +136,11 @@ pub fn cut_and_leave(
     ensures { IfOk result (λ g. node_view g
         ≡ graph.seq (graph.act point (step.keep length)) (graph.leave live (exit_view exit))) }
 {
-    behind(alloc, point, Op::Keep(length), Node::Leave(live, exit))
+    put_act(alloc, point, Op::Keep(length), Node::Leave(live, exit))
 }
 
 /// A `return` that gives its value, then cuts the store.
-pub fn returned(
+pub fn give_and_leave(
     alloc: Global,
     point: usize,
     op: Op,
@@ -150,7 +150,7 @@ pub fn returned(
     ensures { IfOk result (λ g. node_view g ≡ return_node point (op_view op) length live) }
 {
     let leave = cut_and_leave(alloc, point, length, live, Exit::Returned)?;
-    behind(alloc, point, op, leave)
+    put_act(alloc, point, op, leave)
 }
 
 /// The end of a called function: its body's variables go, the target gets any value, the parameters go.
@@ -167,9 +167,9 @@ fn call_end(
         (graph.seq (graph.act end (step.give_any target)) (graph.act end (step.keep live))))) }
 {
     let last = Node::Act(end, Op::Keep(live));
-    let given = behind(alloc, end, Op::GiveAny(target), last)?;
-    let cut = behind(alloc, end, Op::Keep(live + parameters), given)?;
-    behind_point(alloc, end, cut)
+    let given = put_act(alloc, end, Op::GiveAny(target), last)?;
+    let cut = put_act(alloc, end, Op::Keep(live + parameters), given)?;
+    put_point(alloc, end, cut)
 }
 
 /// What a call is: its arguments become the callee's first variables, behind the `live` that live at the call.
@@ -202,5 +202,5 @@ pub fn enclose_call(
     let whole = in_turn(alloc, body, end)?;
     let inside = catch_exit(alloc, place.point, Exit::Returned, whole)?;
     let arguments = copy_expressions(alloc, arguments)?;
-    behind(alloc, place.point, Op::Push(place.base, arguments), inside)
+    put_act(alloc, place.point, Op::Push(place.base, arguments), inside)
 }

@@ -14,6 +14,7 @@ ghost use Rattle.lra_program.specs.ProgramViews.{slot_view, expr_view, cond_view
 ghost use Rattle.lra_program.specs.ProgramViews.{stmt_view};
 ghost use Rattle.lra_program.specs.ProgramViews.{item_view, items_of};
 ghost use Rattle.lra_operations.specs.GraphViews.{exit_view};
+ghost use Rattle.lra_meaning.specs.Refuse.{greatest_live};
 ghost use Rattle.lra_graph.specs.Limits.{OnLimit};
 ghost use Rattle.lra_graph.specs.Inlining.{points_in, program_around, own_events, assertion_events, Passes, Stops};
 ghost use Rattle.lra_graph.specs.Inlining.{StmtStands, ItemsStand, ItemStands, GivenStands, DeclaredStands, CallStands};
@@ -23,8 +24,7 @@ ghost use Rattle.lra_graph.specs.Inlining.{IsItem, IsRvalue};
 ghost use Rattle.lra_graph.specs.Inlining.{IsDeclared, IsLoop, for_of};
 
 use crate::forms::{
-    add_part, behind, behind_point, choice, close_block, cut_and_leave, enclose_for, in_a_row,
-    rounds,
+    add_part, choice, close_block, cut_and_leave, enclose_for, in_a_row, put_act, put_point, rounds,
 };
 use crate::frame::{Around, Caller, Frame, Repeated};
 use crate::points::{GraphError, Limit, add_point, finish};
@@ -47,7 +47,7 @@ fn store_index(base: usize, slot: Slot) -> usize
 
 /// How many variables live behind the items, where the number fits.
 fn live_inside(live: usize, items: &[BlockItem]) -> Option<usize>
-    ensures { MatchOption result (24 < live_behind live (items_of (map item_view items.now)))
+    ensures { MatchOption result (greatest_live < live_behind live (items_of (map item_view items.now)))
         (λ n. n ≡ live_behind live (items_of (map item_view items.now))) }
 {
     let mut inside = live;
@@ -67,7 +67,7 @@ fn live_inside(live: usize, items: &[BlockItem]) -> Option<usize>
 fn own_point(around: &Around<'_>, label: usize, sites: &mut Vec<Site>) -> Result<usize, GraphError>
     ensures number { IfOk result (λ q. q ≡ length (points_in sites.old)) }
     ensures walked { IfOk result (λ _. Passes around.now sites.old sites.new (own_events around.now label)) }
-    ensures few { IfOk result (λ _. around.now.frame.live ≤ 24) }
+    ensures few { IfOk result (λ _. around.now.frame.live ≤ greatest_live) }
     ensures limit { OnLimit result (Stops around.now sites.old (own_events around.now label)) }
 {
     let live = around.frame.live;
@@ -99,7 +99,7 @@ fn leave_loop(
     match frame.loop_length {
         Some(length) => {
             let leave = cut_and_leave(around.alloc, point, length, frame.live, exit)?;
-            finish(behind_point(around.alloc, point, leave))
+            finish(put_point(around.alloc, point, leave))
         }
         None => unreachable!(),
     }
@@ -120,7 +120,7 @@ fn assertion(
     let point = add_point(around.alloc, around.path, label, frame.live, true, sites)?;
     let cond = cond.copy(around.alloc)?;
     let check = Node::Check(point, frame.base, cond);
-    finish(behind_point(around.alloc, point, check))
+    finish(put_point(around.alloc, point, check))
 }
 
 /// An assumption: only where its condition is true does the run go on.
@@ -136,7 +136,7 @@ fn assumption_of(
 {
     let point = own_point(around, label, sites)?;
     let test = Op::Test(around.frame.base, cond.copy(around.alloc)?, true);
-    finish(behind_point(around.alloc, point, Node::Act(point, test)))
+    finish(put_point(around.alloc, point, Node::Act(point, test)))
 }
 
 /// A `return` without a value.
@@ -237,7 +237,7 @@ fn inline_simple(
         Stmt::Call(label, call) => {
             let point = own_point(around, *label, sites)?;
             let given = inline_call(around, point, None, call, sites)?;
-            finish(behind_point(around.alloc, point, given))
+            finish(put_point(around.alloc, point, given))
         }
         Stmt::Return(label, rvalue) => inline_return(around, *label, rvalue, sites),
         _ => inline_lone(around, stmt, sites),
@@ -283,7 +283,7 @@ fn inline_assign(
     let point = own_point(around, label, sites)?;
     let target = Some(store_index(around.frame.base, slot));
     let given = inline_rvalue(around, point, target, rvalue, sites)?;
-    finish(behind_point(around.alloc, point, given))
+    finish(put_point(around.alloc, point, given))
 }
 
 /// A choice behind its point: its first branch's points come before those of the second.
@@ -357,7 +357,7 @@ fn inline_item(
         BlockItem::Declaration(declarator) => {
             let point = own_point(around, declarator.label, sites)?;
             let given = inline_declared(around, point, &declarator.rvalue, sites)?;
-            let declared = behind_point(around.alloc, point, given)?;
+            let declared = put_point(around.alloc, point, given)?;
             Ok((declared, around.frame.live + 1))
         }
         BlockItem::Statement(stmt) => {
@@ -376,7 +376,7 @@ fn inline_declared(
     sites: &mut Vec<Site>,
 ) -> Result<Node, GraphError>
     requires well { IsWellFormed (program_around around.now) }
-    requires few { around.now.frame.live ≤ 24 }
+    requires few { around.now.frame.live ≤ greatest_live }
     requires stands { DeclaredStands around.now (given_view rvalue.now) }
     ensures written { IfOk result (IsDeclared around.now sites.old sites.new point (given_view rvalue.now)) }
     ensures limit { OnLimit result (StopsGiven around.now sites.old (around.now.frame.live + 1)
@@ -392,7 +392,7 @@ fn inline_declared(
             };
             let behind_it = Around { frame, ..*around };
             let given = inline_rvalue(&behind_it, point, Some(place), rvalue, sites)?;
-            finish(behind(around.alloc, point, Op::Append, given))
+            finish(put_act(around.alloc, point, Op::Append, given))
         }
     }
 }

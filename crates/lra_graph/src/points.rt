@@ -3,6 +3,7 @@
 ghost use Rattle.std.specs.Prelude.{◌≡◌, ◌≤◌, ◌∷◌, ◌++◌, [], length, map, Ok, IfOk};
 ghost use Rattle.lra_program.specs.Sites.{comes};
 ghost use Rattle.lra_operations.specs.GraphViews.{site_view};
+ghost use Rattle.lra_meaning.specs.Refuse.{greatest_live};
 ghost use Rattle.lra_graph.specs.Limits.{walk, passed, stopped, OnLimit};
 
 use lra_operations::{Node, Path, Site};
@@ -72,7 +73,7 @@ pub fn add_point(
     ensures walked { IfOk result (λ _. walk (map site_view sites.old.items)
         (comes (record { path = path.now; label = label; live = live; asserts = asserts }) ∷ [])
         ≡ passed (map site_view sites.new.items)) }
-    ensures few { IfOk result (λ _. live ≤ 24) }
+    ensures few { IfOk result (λ _. live ≤ greatest_live) }
     ensures limit { OnLimit result (λ x. walk (map site_view sites.old.items)
         (comes (record { path = path.now; label = label; live = live; asserts = asserts }) ∷ [])
         ≡ stopped x) }

@@ -12,7 +12,7 @@ use lra_meaning::Labels;
 const START: Place = Place { line: 1, column: 1 };
 
 /// Where the name stands that the statement or declarator with this label calls.
-fn called_at(labels: &Labels, label: usize) -> Place
+fn find_called(labels: &Labels, label: usize) -> Place
     ensures { result ≡ called_place (label_at labels.now.labels label) }
 {
     match labels.get(label) {
@@ -39,7 +39,7 @@ pub fn refusal(limit: Limit, labels: &Labels) -> Refusal
         },
         Limit::Calls(label) => Refusal {
             cause: Cause::TooManyPoints,
-            place: called_at(labels, label),
+            place: find_called(labels, label),
         },
     }
 }

@@ -10,7 +10,7 @@ use Rattle.lra_flow.specs.Changes.{AreJoined}
 use Rattle.lra_flow.specs.Conditions.{Leaves}
 use Rattle.lra_flow.specs.Pass.{Result, noted, jumps, values_behind, behind, Through, GoesRound, Grows, Narrows, Pass}
 use Rattle.lra_flow.proofs.Transfer.{Matters, Transfers, passes}
-use Rattle.lra_iter.specs.Fits.{live_behind}
+use Rattle.lra_iter.specs.Fits.{live_after}
 use Rattle.lra_iter.specs.declared.outcome.Turn.{Turn}
 use Rattle.lra_iter.specs.Outcome.{seen, AreGiven, AreKept, IsKept, IsPassed, IsTurned, JumpsFit}
 use Rattle.lra_iter.proofs.PassSteps.{same_jumps_fit}
@@ -148,17 +148,17 @@ module _ {V H : Type 0} (m : Meaning V H) (set : Options) (g : Node) where
 
   -- a turn whose body was passed, now or before, from what the condition left
   pub turned : (q base : ℕ) (c : Cond) (f inside : Option ℕ) (v on : V) (e : Exactness) (turn : Turn V) → Leaves (dropping m) base c true v e on → inside ≡ noted q e f → m.dims on ≡ m.dims v
-      → live_behind g (m.dims v) ≡ m.dims v → turn.entered ≡ on → IsPassed m set g inside on (seen turn.outcome) → IsTurned m set q base c g f v turn
+      → live_after g (m.dims v) ≡ m.dims v → turn.entered ≡ on → IsPassed m set g inside on (seen turn.outcome) → IsTurned m set q base c g f v turn
   turned q base c f inside v on e turn leaves flagged wide closed same passed = record {
     round = (on, e, seen turn.outcome, leaves, subst (λ (x : Option ℕ). Pass V H (dropping m) set g x on (seen turn.outcome)) flagged passed.pass, refl);
-    dims = passed.dims ∙ ap (live_behind g) wide ∙ closed;
+    dims = passed.dims ∙ ap (live_after g) wide ∙ closed;
     jumps = subst (λ (n : ℕ). JumpsFit m g n (seen turn.outcome)) wide passed.jumps;
     kept = passed_kept inside turn.entered (seen turn.outcome) (subst (λ (x : V). IsPassed m set g inside x (seen turn.outcome)) (sym same) passed);
   }
 
   -- what is given again, given that the kept turn may be
   pub given_turned : (q base : ℕ) (c : Cond) (f inside : Option ℕ) (v on : V) (e : Exactness) (kept given : Option (Turn V)) (turn : Turn V) → Leaves (dropping m) base c true v e on
-      → inside ≡ noted q e f → m.dims on ≡ m.dims v → live_behind g (m.dims v) ≡ m.dims v → AreKept m set g f kept → (AreKept m set g inside kept → AreGiven m set g inside on given)
+      → inside ≡ noted q e f → m.dims on ≡ m.dims v → live_after g (m.dims v) ≡ m.dims v → AreKept m set g f kept → (AreKept m set g inside kept → AreGiven m set g inside on given)
       → given ≡ Some turn → IsTurned m set q base c g f v turn
   given_turned q base c f inside v on e kept given turn leaves flagged wide closed before gives is =
       let now : AreKept m set g inside kept = subst (λ (x : Option ℕ). AreKept m set g x kept) (sym flagged) (all_noted q e f kept before) in

@@ -11,7 +11,7 @@ use Rattle.lra_operations.specs.GraphViews.{node_view, row}
 use Rattle.lra_operations.specs.Graph as graph
 use Rattle.lra_base.specs.declared.options.Options.{Options}
 use Rattle.lra_flow.specs.Pass.{Entry, Result, goes_on, in_turn}
-use Rattle.lra_iter.specs.Fits.{live_behind, TreeFits}
+use Rattle.lra_iter.specs.Fits.{live_after, TreeFits}
 use Rattle.lra_iter.specs.declared.outcome.Found.{Found}
 use Rattle.lra_iter.specs.declared.outcome.Outcome.{Outcome}
 use Rattle.lra_iter.specs.Outcome.{ended, seen, AreInTurn, JumpsFit, IsPassed}
@@ -85,7 +85,7 @@ module _ {V H : Type 0} (m : Meaning V H) (set : Options) where
       → IsPassed m set (graph.seq a b) f v (in_turn s t t.normal t.flag)
   seq_passed a b f v s t one two = record {
     pass = (s, t, one.pass, two.pass, refl);
-    dims = two.dims ∙ ap (live_behind b) one.dims;
+    dims = two.dims ∙ ap (live_after b) one.dims;
     jumps = seq_fits m a b (m.dims v) s t _ t.normal t.flag refl one.jumps
         (subst (λ (n : ℕ). JumpsFit m b n t) one.dims two.jumps);
   }

@@ -20,7 +20,7 @@ use Rattle.lra_base.specs.declared.options.Options.{Options}
 use Rattle.lra_flow.specs.Operations.{dropping}
 use Rattle.lra_flow.specs.Conditions.{Leaves}
 use Rattle.lra_flow.specs.Pass.{jumps_of, Entry, Result, noted, goes_on, jumps, in_turn, behind, Pass, Narrows}
-use Rattle.lra_iter.specs.Fits.{live_behind, JumpsWith, TreeFits}
+use Rattle.lra_iter.specs.Fits.{live_after, JumpsWith, TreeFits}
 use Rattle.lra_iter.specs.declared.outcome.Outcome.{Outcome}
 use Rattle.lra_iter.specs.Outcome.{headed, seen, AllHave, AreMet, Catches, JumpsFit, HasGrown, IsPassed, LeavesWith}
 use Rattle.lra_iter.specs.Shapes.{node_size, row_size}
@@ -122,13 +122,13 @@ module _ {V H : Type 0} (m : Meaning V H) where
       fits returned u h = absurd (no_element u h)
 
   -- one behind the other
-  pub seq_fits : (a b : graph.Node) (n : ℕ) (s t r : Result V) (v : V) (f : Option ℕ) → r ≡ in_turn s t v f → JumpsFit m a n s → JumpsFit m b (live_behind a n) t → JumpsFit m (graph.seq a b) n r
+  pub seq_fits : (a b : graph.Node) (n : ℕ) (s t r : Result V) (v : V) (f : Option ℕ) → r ≡ in_turn s t v f → JumpsFit m a n s → JumpsFit m b (live_after a n) t → JumpsFit m (graph.seq a b) n r
   seq_fits a b n s t r v f is one two = subst (λ (x : Result V). JumpsFit m (graph.seq a b) n x) (sym is) fits
     where
       fits : (k : Exit) (u : V) → Contains (jumps_of k (in_turn s t v f)) u → JumpsWith (graph.seq a b) n k (m.dims u)
-      fits broken u h = in_both (λ x. JumpsWith a n broken (m.dims x)) (λ x. JumpsWith b (live_behind a n) broken (m.dims x)) s.breaks t.breaks u (one broken u) (two broken u) h
-      fits continued u h = in_both (λ x. JumpsWith a n continued (m.dims x)) (λ x. JumpsWith b (live_behind a n) continued (m.dims x)) s.continues t.continues u (one continued u) (two continued u) h
-      fits returned u h = in_both (λ x. JumpsWith a n returned (m.dims x)) (λ x. JumpsWith b (live_behind a n) returned (m.dims x)) s.returns t.returns u (one returned u) (two returned u) h
+      fits broken u h = in_both (λ x. JumpsWith a n broken (m.dims x)) (λ x. JumpsWith b (live_after a n) broken (m.dims x)) s.breaks t.breaks u (one broken u) (two broken u) h
+      fits continued u h = in_both (λ x. JumpsWith a n continued (m.dims x)) (λ x. JumpsWith b (live_after a n) continued (m.dims x)) s.continues t.continues u (one continued u) (two continued u) h
+      fits returned u h = in_both (λ x. JumpsWith a n returned (m.dims x)) (λ x. JumpsWith b (live_after a n) returned (m.dims x)) s.returns t.returns u (one returned u) (two returned u) h
 
   pub choose_fits : (q base : ℕ) (c : Cond) (a b : graph.Node) (n : ℕ) (s t r : Result V) (v : V) (f : Option ℕ) → r ≡ in_turn s t v f → JumpsFit m a n s → JumpsFit m b n t
       → JumpsFit m (graph.choose q base c a b) n r
@@ -199,7 +199,7 @@ module _ {V H : Type 0} (m : Meaning V H) where
   all_have n [] h = tt
   all_have n (v ∷ vs) h = (h v (0, omega arith, refl), all_have n vs (λ u i. h u (suc i.0, omega (arith, i.1), i.2)))
 
-  pub caught_have : (q : ℕ) (k : Exit) (a : graph.Node) (n : ℕ) (s : Result V) → TreeFits (graph.catch q k a) n → JumpsFit m a n s → m.dims s.normal ≡ live_behind a n
+  pub caught_have : (q : ℕ) (k : Exit) (a : graph.Node) (n : ℕ) (s : Result V) → TreeFits (graph.catch q k a) n → JumpsFit m a n s → m.dims s.normal ≡ live_after a n
       → AllHave m (m.dims s.normal) (jumps_of k s)
   caught_have q k a n s fits jumps dims = all_have (m.dims s.normal) (jumps_of k s) (λ u h. fits.1 (m.dims u) (jumps k u h) ∙ sym dims)
 
@@ -220,7 +220,7 @@ module _ {V H : Type 0} (m : Meaning V H) where
       → AreMet m q s t r → m.dims r.normal ≡ m.dims s.normal → IsPassed m set (graph.choose q base c a b) f v r
   choice_passed set q base c a b f v on off d e s t r holds wide one fails wide' two (w, i, joined, is) left = record {
     pass = (on, off, w, d, e, i, s, t, holds, one.pass, fails, two.pass, joined, is);
-    dims = left ∙ one.dims ∙ ap (live_behind a) wide;
+    dims = left ∙ one.dims ∙ ap (live_after a) wide;
     jumps = choose_fits q base c a b (m.dims v) s t r w (noted q i t.flag) is (subst (λ (n : ℕ). JumpsFit m a n s) wide one.jumps) (subst (λ (n : ℕ). JumpsFit m b n t) wide' two.jumps);
   }
 
@@ -228,7 +228,7 @@ module _ {V H : Type 0} (m : Meaning V H) where
   pub ends_meet : (set : Options) (q base : ℕ) (c : Cond) (a b : graph.Node) (f g : Option ℕ) (n : ℕ) (on off : V) (s t : Result V) → TreeFits (graph.choose q base c a b) n → m.dims on ≡ n
       → m.dims off ≡ n
       → IsPassed m set a f on s → IsPassed m set b g off t → m.dims s.normal ≡ m.dims t.normal
-  ends_meet set q base c a b f g n on off s t fits wide wide' one two = one.dims ∙ ap (live_behind a) wide ∙ sym fits.2 ∙ ap (live_behind b) (sym wide') ∙ sym two.dims
+  ends_meet set q base c a b f g n on off s t fits wide wide' one two = one.dims ∙ ap (live_after a) wide ∙ sym fits.2 ∙ ap (live_after b) (sym wide') ∙ sym two.dims
 
 -- from both that hold of a result
 pub if_both : {T E : Type 0} (R : outcome_or.Result T E) (P Q S : T → Type 0) → ((x : T) → P x → Q x → S x) → IfOk R P

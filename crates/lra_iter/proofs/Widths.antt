@@ -27,7 +27,7 @@ use Rattle.lra_flow.specs.Pass.{Entry, value, failing, Result, noted, jumps, fir
 use Rattle.lra_flow.specs.Analysis.{Derivation, Solves}
 use Rattle.lra_flow.proofs.Caps.{all_both}
 use Rattle.lra_change.specs.Changes.{dims_behind}
-use Rattle.lra_iter.specs.Fits.{live_behind}
+use Rattle.lra_iter.specs.Fits.{live_after}
 use Rattle.lra_iter.specs.Lives.{LiveAt, PointsHave, AreWide}
 
 -- operations ---------------------------------------------------------------------------------------------------------
@@ -162,19 +162,19 @@ module _ (V H : Type 0) (m : Meaning V H) where
           narrows_wide more first next t v r rest k (record { top = top; result = round_wide (noted q e s.flag) next t turn top })
 
     module _ (laws : Laws m) (set : Options) where
-      pass_wide : (g : Node) (f : Option ℕ) (v : V) (r : Result V) (n : ℕ) → Pass V H (dropping m) set g f v r → m.dims v ≡ n → PointsHave T g n → Wide (live_behind g n) r
+      pass_wide : (g : Node) (f : Option ℕ) (v : V) (r : Result V) (n : ℕ) → Pass V H (dropping m) set g f v r → m.dims v ≡ n → PointsHave T g n → Wide (live_after g n) r
       pass_wide empty f v r n is h p = wide_is n r _ is (record { normal = h; entries = tt })
       pass_wide (point q) f v r n is h p = wide_is n r _ is (record { normal = h; entries = (live_same q n (m.dims v) h p, tt) })
       pass_wide (act q op) f v r n (w, e, done, is) h p = wide_is (dims_behind op n) r _ is (record { normal = changes_dims op v e w done ∙ ap (dims_behind op) h; entries = tt })
       pass_wide (check q base c) f v r n (u, w, d, e, off, on, is) h p = wide_is n r _ is (record { normal = leaves_dims base c true v e w on ∙ h; entries = (tt, tt) })
       pass_wide (seq a b) f v r n (s, t, one, two, is) h p =
           let x = pass_wide a f v s n one h p.0 in
-          let y = pass_wide b s.flag s.normal t (live_behind a n) two x.normal p.1 in
-          wide_is (live_behind b (live_behind a n)) r _ is (record { normal = y.normal; entries = all_both EntryHas s.entries t.entries x.entries y.entries })
+          let y = pass_wide b s.flag s.normal t (live_after a n) two x.normal p.1 in
+          wide_is (live_after b (live_after a n)) r _ is (record { normal = y.normal; entries = all_both EntryHas s.entries t.entries x.entries y.entries })
       pass_wide (choose q base c a b) f v r n (on, off, w, d, e, i, s, t, is_on, one, is_off, two, joined, is) h p =
           let x = pass_wide a (noted q d f) on s n one (leaves_dims base c true v d on is_on ∙ h) p.0 in
           let y = pass_wide b (noted q e s.flag) off t n two (leaves_dims base c false v e off is_off ∙ h) p.1 in
-          wide_is (live_behind a n) r _ is (record { normal = joined.2 ∙ x.normal; entries = all_both EntryHas s.entries t.entries x.entries y.entries })
+          wide_is (live_after a n) r _ is (record { normal = joined.2 ∙ x.normal; entries = all_both EntryHas s.entries t.entries x.entries y.entries })
       pass_wide (iterate q base c a) f v r n (k, later, u, top, out, s, t, e, started, grown, narrowed, off, is) h p =
           let inside : (f' : Option ℕ) (v' : V) (r' : Result V) → Pass V H (dropping m) set a f' v' r' → m.dims v' ≡ n → Wide n r' =
           λ f' v' r' turn d. subst (λ (j : ℕ). Wide j r') p.2 (pass_wide a f' v' r' n turn d p.1) in
@@ -183,7 +183,7 @@ module _ (V H : Type 0) (m : Meaning V H) where
           wide_is n r _ is (record { normal = leaves_dims base c false top e out off ∙ y.top; entries = y.result.entries })
       pass_wide (catch q k a) f v r n (w, e, s, one, joined, is) h p =
           let x = pass_wide a f v s n one h p in
-          wide_is (live_behind a n) r _ is (behind_wide k s w (noted q e s.flag) (live_behind a n) (caught_dims k s e w joined ∙ x.normal) x.entries)
+          wide_is (live_after a n) r _ is (behind_wide k s w (noted q e s.flag) (live_after a n) (caught_dims k s e w joined ∙ x.normal) x.entries)
       pass_wide (leave l k) f v r n (w, nothing, is) h p = wide_is l r _ is (jump_wide k v w f l (laws.void_dims l set.parts w nothing))
 
     entry_has : (xs : List (Entry V)) (q : ℕ) (v : V) → AllByRecursion EntryHas xs → Contains xs (value q v) → LiveAt T q (m.dims v)

@@ -5,16 +5,16 @@ use Rattle.lra_operations.specs.Graph.{Exit, Node, empty, point, act, check, seq
 use Rattle.lra_change.specs.Changes.{dims_behind, OpFits}
 
 -- so many live behind a tree at whose beginning n live
-abbrev pub live_behind : Node → ℕ → ℕ
-live_behind empty n = n
-live_behind (point q) n = n
-live_behind (act q op) n = dims_behind op n
-live_behind (check q base c) n = n
-live_behind (seq a b) n = live_behind b (live_behind a n)
-live_behind (choose q base c a b) n = live_behind a n
-live_behind (iterate q base c a) n = n
-live_behind (catch q k a) n = live_behind a n
-live_behind (leave m k) n = m
+abbrev pub live_after : Node → ℕ → ℕ
+live_after empty n = n
+live_after (point q) n = n
+live_after (act q op) n = dims_behind op n
+live_after (check q base c) n = n
+live_after (seq a b) n = live_after b (live_after a n)
+live_after (choose q base c a b) n = live_after a n
+live_after (iterate q base c a) n = n
+live_after (catch q k a) n = live_after a n
+live_after (leave m k) n = m
 
 -- a jump of this kind may leave it with so many
 abbrev pub JumpsWith : Node → ℕ → Exit → ℕ → Type 0
@@ -22,7 +22,7 @@ JumpsWith empty n k m = ⊥
 JumpsWith (point q) n k m = ⊥
 JumpsWith (act q op) n k m = ⊥
 JumpsWith (check q base c) n k m = ⊥
-JumpsWith (seq a b) n k m = JumpsWith a n k m ⊎ JumpsWith b (live_behind a n) k m
+JumpsWith (seq a b) n k m = JumpsWith a n k m ⊎ JumpsWith b (live_after a n) k m
 JumpsWith (choose q base c a b) n k m = JumpsWith a n k m ⊎ JumpsWith b n k m
 JumpsWith (iterate q base c a) n k m = JumpsWith a n k m
 JumpsWith (catch q j a) n k m = (k ≢ j) × JumpsWith a n k m
@@ -34,8 +34,8 @@ TreeFits empty n = ⊤
 TreeFits (point q) n = ⊤
 TreeFits (act q op) n = OpFits op n
 TreeFits (check q base c) n = ⊤
-TreeFits (seq a b) n = TreeFits a n × (live_behind a n ≤ 2 ^ 30) × TreeFits b (live_behind a n)
-TreeFits (choose q base c a b) n = TreeFits a n × TreeFits b n × (live_behind b n ≡ live_behind a n)
-TreeFits (iterate q base c a) n = TreeFits a n × (live_behind a n ≡ n)
-TreeFits (catch q k a) n = TreeFits a n × ((m : ℕ) → JumpsWith a n k m → m ≡ live_behind a n)
+TreeFits (seq a b) n = TreeFits a n × (live_after a n ≤ 2 ^ 30) × TreeFits b (live_after a n)
+TreeFits (choose q base c a b) n = TreeFits a n × TreeFits b n × (live_after b n ≡ live_after a n)
+TreeFits (iterate q base c a) n = TreeFits a n × (live_after a n ≡ n)
+TreeFits (catch q k a) n = TreeFits a n × ((m : ℕ) → JumpsWith a n k m → m ≡ live_after a n)
 TreeFits (leave m k) n = m ≤ 2 ^ 30

@@ -3,7 +3,7 @@ use Rattle.std.specs.Prelude.{◌≡◌, ℕ, List, Some, slice_get}
 use Rattle.lra_domain.specs.Meaning.{Meaning}
 use Rattle.lra_operations.specs.Graph.{Node, empty, point, act, check, seq, choose, iterate, catch, leave}
 use Rattle.lra_program.specs.Sites.{Site}
-use Rattle.lra_iter.specs.Fits.{live_behind}
+use Rattle.lra_iter.specs.Fits.{live_after}
 
 -- a point of this number has so many live variables
 abbrev pub LiveAt : List Site → ℕ → ℕ → Type 0
@@ -15,9 +15,9 @@ PointsHave T empty n = Unit {0}
 PointsHave T (point q) n = LiveAt T q n
 PointsHave T (act q op) n = Unit {0}
 PointsHave T (check q base c) n = Unit {0}
-PointsHave T (seq a b) n = PointsHave T a n × PointsHave T b (live_behind a n)
+PointsHave T (seq a b) n = PointsHave T a n × PointsHave T b (live_after a n)
 PointsHave T (choose q base c a b) n = PointsHave T a n × PointsHave T b n
-PointsHave T (iterate q base c a) n = LiveAt T q n × PointsHave T a n × (live_behind a n ≡ n)
+PointsHave T (iterate q base c a) n = LiveAt T q n × PointsHave T a n × (live_after a n ≡ n)
 PointsHave T (catch q k a) n = PointsHave T a n
 PointsHave T (leave m k) n = Unit {0}
 

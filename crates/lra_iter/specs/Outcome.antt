@@ -13,7 +13,7 @@ use Rattle.lra_operations.specs.Graph.{Exit, Node}
 use Rattle.lra_base.specs.declared.options.Options.{Options}
 use Rattle.lra_flow.specs.Conditions.{Leaves}
 use Rattle.lra_flow.specs.Given.{given_rows}
-use Rattle.lra_iter.specs.Fits.{live_behind, JumpsWith}
+use Rattle.lra_iter.specs.Fits.{live_after, JumpsWith}
 use Rattle.lra_flow.specs.Operations.{dropping}
 use Rattle.lra_flow.specs.Changes.{AreJoined}
 use Rattle.lra_flow.specs.Pass.{jumps_of, Entry, value, failing, Result, noted, in_turn, values_behind, behind, Pass}
@@ -75,7 +75,7 @@ LeavesWith {V} m q base c top s r = (out : V) × (e : Exactness) × Leaves (drop
 pub record IsPassed {V H : Type 0} (m : Meaning V H) (set : Options) (g : Node) (f : Option ℕ) (v : V)
     (r : Result V) : Type 0 where
   pub pass : Pass V H (dropping m) set g f v r
-  pub dims : m.dims r.normal ≡ live_behind g (m.dims v)
+  pub dims : m.dims r.normal ≡ live_after g (m.dims v)
   pub jumps : JumpsFit m g (m.dims v) r
 
 -- a loop's head that starts with a value grows until it is stable, with this value and round at last

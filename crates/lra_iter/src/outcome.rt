@@ -304,7 +304,7 @@ impl<D: Drop> Turn<D> {
 
 /// The kept turn of a loop's body, where the same value enters it again: passed anew it would give the same, but for
 /// what is flagged so far.
-pub fn given_again<D: Domain>(kept: Option<Turn<D>>, on: &D, flag: Option<usize>) -> Option<Turn<D>>
+pub fn reuse_turn<D: Domain>(kept: Option<Turn<D>>, on: &D, flag: Option<usize>) -> Option<Turn<D>>
     ensures { (options : Options) (body : Node) → AreKept D.meaning options body flag kept →
         AreGiven D.meaning options body flag on.now result }
 {

@@ -12,7 +12,7 @@ ghost use Rattle.lra_flow.specs.Conditions.{Leaves};
 ghost use Rattle.lra_change.specs.Sides.{Splits};
 ghost use Rattle.lra_flow.specs.Operations.{dropping};
 ghost use Rattle.lra_flow.specs.Pass.{noted};
-ghost use Rattle.lra_iter.specs.Fits.{live_behind, TreeFits};
+ghost use Rattle.lra_iter.specs.Fits.{live_after, TreeFits};
 ghost use Rattle.lra_iter.specs.Outcome.{ended, headed, seen, AreKept, AreMet, HasGrown, IsKept, IsPassed};
 ghost use Rattle.lra_iter.specs.Outcome.{IsTurned, JumpsFit, LeavesWith, NarrowsTo};
 ghost use Rattle.lra_iter.specs.Memory.{MayRecall, Remembers, StaysKept};
@@ -21,7 +21,7 @@ use crate::catches::catch_jumps;
 use crate::heads::{grow_by, start};
 use crate::leaves::pass_leaf;
 use crate::memory::Memory;
-use crate::outcome::{Entry, Found, Outcome, Turn, given_again, note};
+use crate::outcome::{Entry, Found, Outcome, Turn, note, reuse_turn};
 use crate::shapes::{Choice, Loop, Row, Shape};
 use lra_base::Options;
 use lra_change::{Kept, Sides, leave, split};
@@ -181,7 +181,7 @@ fn round<D: Domain>(
     requires parts { 1 ≤ the_loop.now.options.now.parts }
     requires few { D.meaning.dims value.now ≤ 2 ^ 30 }
     requires fits { TreeFits (node_view the_loop.now.body.now) (D.meaning.dims value.now) }
-    requires closed { live_behind (node_view the_loop.now.body.now) (D.meaning.dims value.now) ≡
+    requires closed { live_after (node_view the_loop.now.body.now) (D.meaning.dims value.now) ≡
         D.meaning.dims value.now }
     requires kept { AreKept D.meaning the_loop.now.options.now (node_view the_loop.now.body.now) flag kept }
     requires remembers { Remembers D.meaning the_loop.now.options.now
@@ -192,7 +192,7 @@ fn round<D: Domain>(
         flag memory.old r.outcome.flag memory.new) }
 {
     let (on, inside) = enter(alloc, the_loop, value, flag)?;
-    if let Some(turn) = given_again(kept, &on, inside) {
+    if let Some(turn) = reuse_turn(kept, &on, inside) {
         return Ok(turn);
     }
     let entered = on.copy(alloc)?;
@@ -212,7 +212,7 @@ fn grow<D: Domain>(
     requires parts { 1 ≤ the_loop.now.options.now.parts }
     requires few { D.meaning.dims first.now ≤ 2 ^ 30 }
     requires fits { TreeFits (node_view the_loop.now.body.now) (D.meaning.dims first.now) }
-    requires closed { live_behind (node_view the_loop.now.body.now) (D.meaning.dims first.now) ≡
+    requires closed { live_after (node_view the_loop.now.body.now) (D.meaning.dims first.now) ≡
         D.meaning.dims first.now }
     requires remembers { Remembers D.meaning the_loop.now.options.now
         (node_view the_loop.now.body.now) flag memory.old }
@@ -254,7 +254,7 @@ fn narrow<D: Domain>(
     requires parts { 1 ≤ the_loop.now.options.now.parts }
     requires few { D.meaning.dims first.now ≤ 2 ^ 30 }
     requires fits { TreeFits (node_view the_loop.now.body.now) (D.meaning.dims first.now) }
-    requires closed { live_behind (node_view the_loop.now.body.now) (D.meaning.dims first.now) ≡
+    requires closed { live_after (node_view the_loop.now.body.now) (D.meaning.dims first.now) ≡
         D.meaning.dims first.now }
     requires dims { D.meaning.dims grown ≡ D.meaning.dims first.now }
     requires behind { D.meaning.dims turn.outcome.normal ≡ D.meaning.dims first.now }
@@ -297,7 +297,7 @@ fn pass_loop<D: Domain>(
     requires parts { 1 ≤ the_loop.now.options.now.parts }
     requires few { D.meaning.dims value ≤ 2 ^ 30 }
     requires fits { TreeFits (node_view the_loop.now.body.now) (D.meaning.dims value) }
-    requires closed { live_behind (node_view the_loop.now.body.now) (D.meaning.dims value) ≡ D.meaning.dims value }
+    requires closed { live_after (node_view the_loop.now.body.now) (D.meaning.dims value) ≡ D.meaning.dims value }
     requires remembers { Remembers D.meaning the_loop.now.options.now (iterate the_loop.now.point the_loop.now.base
         (cond_view the_loop.now.condition.now) (node_view the_loop.now.body.now)) flag memory.old }
     ensures passed { IfOk result (λ r. IsPassed D.meaning the_loop.now.options.now

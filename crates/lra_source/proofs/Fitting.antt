@@ -16,7 +16,7 @@ use Rattle.lra_operations.specs.Inlined.{is_loop, as_value, as_result, loop_node
 use Rattle.lra_operations.specs.Agree.{IsGraph}
 use Rattle.lra_program.specs.WellFormed.{IsLive, IsGoodRvalue, IsGoodGiven, IsGoodStmt, AreGoodItems, IsGoodFunction, IsWellFormed}
 use Rattle.lra_change.specs.Changes.{dims_behind, PlaceFits, OpFits}
-use Rattle.lra_iter.specs.Fits.{live_behind, JumpsWith, TreeFits}
+use Rattle.lra_iter.specs.Fits.{live_after, JumpsWith, TreeFits}
 
 -- how many live where a jump leads
 abbrev JumpFits : Frame → Exit → ℕ → Type 0
@@ -27,7 +27,7 @@ JumpFits f returned m = (b : Back) → f.back ≡ Some b → m ≡ b.length
 -- begun with n variables the tree fits, and ends with n' of them
 pub record Fit (f : Frame) (n n' : ℕ) (g : Node) : Type 0 where
   pub fits : TreeFits g n
-  pub behind : live_behind g n ≡ n'
+  pub behind : live_after g n ≡ n'
   pub jumps : (k : Exit) (m : ℕ) → JumpsWith g n k m → JumpFits f k m
 
 -- at most this many live anywhere
@@ -60,7 +60,7 @@ check_fit q base c = record { fits = tt; behind = refl; jumps = λ k m j. absurd
 
 seq_fit : {f : Frame} {n n1 n2 : ℕ} (a b : Node) → Few n1 → Fit f n n1 a → Fit f n1 n2 b → Fit f n n2 (seq a b)
 seq_fit {f = f} {n = n} {n1 = n1} {n2 = n2} a b few x y =
-    let z = fit_at f n1 (live_behind a n) n2 b (sym x.behind) y in
+    let z = fit_at f n1 (live_after a n) n2 b (sym x.behind) y in
     record {
       fits = (x.fits, subst (λ (m : ℕ). m ≤ 2 ^ 30) (sym x.behind) (few_is_small n1 few), z.fits);
       behind = z.behind;
@@ -151,10 +151,10 @@ in_loop f l = record f { loop = l }
 
 -- of a loop that begins with n variables, its body g and its step
 module _ (f : Frame) (n : ℕ) (g step : Node) (few : Few n) (x : Fit (in_loop f (Some n)) n n g) (y : Fit (in_loop f None) n n step) where
-  step_at : Fit (in_loop f None) (live_behind g n) n step
-  step_at = fit_at (in_loop f None) n (live_behind g n) n step (sym x.behind) y
+  step_at : Fit (in_loop f None) (live_after g n) n step
+  step_at = fit_at (in_loop f None) n (live_after g n) n step (sym x.behind) y
 
-  body_continues : (m : ℕ) → JumpsWith g n continued m → m ≡ live_behind g n
+  body_continues : (m : ℕ) → JumpsWith g n continued m → m ≡ live_after g n
   body_continues m j = sym (same_Some n m (x.jumps continued m j)) ∙ sym x.behind
 
   body_breaks : (q : ℕ) (m : ℕ) → JumpsWith (seq (catch q continued g) step) n broken m → m ≡ n

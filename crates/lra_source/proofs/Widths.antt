@@ -12,7 +12,7 @@ use Rattle.lra_operations.specs.Inlined.{as_continue, as_return, as_return_value
 use Rattle.lra_operations.specs.Inlined.{as_fresh, as_given, is_loop, as_value, as_result, loop_node, return_node, main_spot}
 use Rattle.lra_operations.specs.Agree.{IsGraph}
 use Rattle.lra_change.specs.Changes.{dims_behind}
-use Rattle.lra_iter.specs.Fits.{live_behind}
+use Rattle.lra_iter.specs.Fits.{live_after}
 use Rattle.lra_iter.specs.Lives.{LiveAt, PointsHave}
 
 -- trees --------------------------------------------------------------------------------------------------------------
@@ -23,7 +23,7 @@ live_at T spot at b has s there = ap (λ (x : Site). x.live) (same_Some _ s (sym
 -- begun with n variables, the tree has its points so and ends with n' variables
 pub record Lives (T : List Site) (n n' : ℕ) (g : Node) : Type 0 where
   pub points : PointsHave T g n
-  pub behind : live_behind g n ≡ n'
+  pub behind : live_after g n ≡ n'
 
 keep_is : (n m : ℕ) → m ≤ n → n - (n - m) ≡ m
 keep_is n m h = omega arith
@@ -31,7 +31,7 @@ keep_is n m h = omega arith
 module _ (T : List Site) where
   then_lives : {n n1 n2 : ℕ} (a b : Node) → Lives T n n1 a → Lives T n1 n2 b → Lives T n n2 (seq a b)
   then_lives {n = n} {n1 = n1} {n2 = n2} a b x y =
-      let z : Lives T (live_behind a n) n2 b = subst (λ (m : ℕ). Lives T m n2 b) (sym x.behind) y in
+      let z : Lives T (live_after a n) n2 b = subst (λ (m : ℕ). Lives T m n2 b) (sym x.behind) y in
       record { points = (x.points, z.points); behind = z.behind }
 
   at_point : {n : ℕ} (q : ℕ) → LiveAt T q n → Lives T n n (point q)

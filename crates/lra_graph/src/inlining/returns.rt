@@ -6,7 +6,7 @@ ghost use Rattle.lra_operations.specs.Graph.{seq, point as own};
 ghost use Rattle.lra_operations.specs.GraphViews.{node_view};
 ghost use Rattle.lra_graph.specs.Building.{receiver, any_left, value_left, call_left};
 
-use crate::forms::{behind_point, cut_and_leave, in_turn, returned};
+use crate::forms::{cut_and_leave, give_and_leave, in_turn, put_point};
 use crate::frame::{Around, Back};
 use lra_operations::{Exit, Node, Op};
 use lra_program::Expr;
@@ -32,10 +32,10 @@ pub fn leave_any(around: &Around<'_>, point: usize) -> Result<Node, AllocError>
     match frame.back {
         Some(back) => {
             let any = Op::GiveAny(back.target);
-            let left = returned(alloc, point, any, back.length, frame.live)?;
-            behind_point(alloc, point, left)
+            let left = give_and_leave(alloc, point, any, back.length, frame.live)?;
+            put_point(alloc, point, left)
         }
-        None => behind_point(alloc, point, Node::Leave(frame.live, Exit::Returned)),
+        None => put_point(alloc, point, Node::Leave(frame.live, Exit::Returned)),
     }
 }
 
@@ -49,10 +49,10 @@ pub fn leave_value(around: &Around<'_>, point: usize, value: &Expr) -> Result<No
     match frame.back {
         Some(back) => {
             let give = Op::Give(frame.base, back.target, value.copy(alloc)?);
-            let left = returned(alloc, point, give, back.length, frame.live)?;
-            behind_point(alloc, point, left)
+            let left = give_and_leave(alloc, point, give, back.length, frame.live)?;
+            put_point(alloc, point, left)
         }
-        None => behind_point(alloc, point, Node::Leave(frame.live, Exit::Returned)),
+        None => put_point(alloc, point, Node::Leave(frame.live, Exit::Returned)),
     }
 }
 
@@ -67,11 +67,11 @@ pub fn leave_call(around: &Around<'_>, point: usize, call: Node) -> Result<Node,
         Some(back) => {
             let leave = cut_and_leave(alloc, point, back.length, frame.live, Exit::Returned)?;
             let left = in_turn(alloc, call, leave)?;
-            behind_point(alloc, point, left)
+            put_point(alloc, point, left)
         }
         None => {
             let left = in_turn(alloc, call, Node::Leave(frame.live, Exit::Returned))?;
-            behind_point(alloc, point, left)
+            put_point(alloc, point, left)
         }
     }
 }

@@ -3,7 +3,7 @@
 ghost use Rattle.std.specs.Prelude.{◌≡◌, ◌≤◌, ℕ, List, map, slice_get, IfOk, None, Some};
 ghost use Rattle.lra_operations.specs.Agree.{IsGraph, Agrees};
 ghost use Rattle.lra_tree.specs.Labels.{Labelled};
-ghost use Rattle.lra_meaning.specs.Refuse.{limit_fault};
+ghost use Rattle.lra_meaning.specs.Refuse.{greatest_live, limit_fault};
 ghost use Rattle.lra_program.specs.Sites as points;
 ghost use Rattle.lra_program.specs.Sites.{events_of, sites_of};
 ghost use Rattle.lra_program.specs.WellFormed.{IsWellFormed};
@@ -26,7 +26,7 @@ pub fn build(alloc: Global, program: &Program) -> Result<Graph, GraphError>
     ensures agrees { IfOk result (λ g. Agrees (program_view program.now) (node_view g.tree)) }
     ensures sites { IfOk result (λ g. map site_view g.sites.items ≡ sites_of (program_view program.now)) }
     ensures few { IfOk result (λ _. (q : ℕ) (s : points.Site)
-        → slice_get (sites_of (program_view program.now)) q ≡ Some s → s.live ≤ 24) }
+        → slice_get (sites_of (program_view program.now)) q ≡ Some s → s.live ≤ greatest_live) }
     ensures within { IfOk result (λ _. (ls : List Labelled)
         → limit_fault ls 0 (events_of (program_view program.now)) ≡ None) }
     ensures limit { OnLimit result (λ x. (ls : List Labelled)

@@ -365,7 +365,7 @@ inline_assign-returns-in_err-given-clause-limit t c =
 pub inline_assign-returns-clause-written : goal.inline_assign-returns-clause-written
 inline_assign-returns-clause-written t c =
     let here = c.args.around.now in
-    made_ok c.finish.result c.behind_point.result _ _ c.finish.ensures.tree c.behind_point.ensures
+    made_ok c.finish.result c.put_point.result _ _ c.finish.ensures.tree c.put_point.ensures
     (λ g a. assign_written (program_around here) here.path.now here.frame _ _ _ c.in_ok-point.point c.args.label c.store_index.result (slot_view c.args.slot) (rvalue_view c.args.rvalue.now) _
     (node_view g)
     c.in_ok-point.ensures.number c.in_ok-point.ensures.walked c.store_index.ensures c.in_ok-given.ensures.written a)
@@ -613,7 +613,7 @@ inline_call-returns-clause-limit t c =
 pub inline_declared-returns-in_ok-given-in-Some-clause-written : goal.inline_declared-returns-in_ok-given-in-Some-clause-written
 inline_declared-returns-in_ok-given-in-Some-clause-written t c =
     let here = c.args.around.now in
-    rw c.in-Some.is (made_ok c.finish.result c.behind.result _ _ c.finish.ensures.tree c.behind.ensures
+    rw c.in-Some.is (made_ok c.finish.result c.put_act.result _ _ c.finish.ensures.tree c.put_act.ensures
     (λ g a. given_written (program_around here) here.path.now here.frame _ _ c.args.point (here.frame.live + 1) (rvalue_view c.in-Some.rvalue) _ (node_view g)
     (omega arith) c.in_ok-given-in-Some.ensures.written a))
 
@@ -849,7 +849,7 @@ inline_simple-returns-in_ok-given-in-Call-clause-written t c =
     let is = ap stmt_view c.in-Call.is ∙ shown_call c.in-Call.label c.in-Call.call in
     let call' = call_view c.in-Call.call in
     stmt_handed (program_around here) here.path.now here.frame (points_in c.args.sites.now) c.finish.result node_view _ (stmt_view c.args.stmt.now) (call c.in-Call.label call') is
-    (made_ok c.finish.result c.behind_point.result _ _ c.finish.ensures.tree c.behind_point.ensures
+    (made_ok c.finish.result c.put_point.result _ _ c.finish.ensures.tree c.put_point.ensures
     (λ g a. call_written (program_around here) here.path.now here.frame _ _ _ c.in_ok-point-in-Call.point c.in-Call.label call' _ (node_view g) c.in_ok-point-in-Call.ensures.number
     c.in_ok-point-in-Call.ensures.walked c.in_ok-given-in-Call.ensures.written a))
 

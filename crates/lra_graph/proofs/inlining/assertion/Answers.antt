@@ -10,7 +10,7 @@ use Rattle.lra_graph.proofs.inlining.assertion.Goals as goal
 pub returns-clause-written : goal.returns-clause-written
 returns-clause-written c =
     let here = c.args.around.now in
-    made_ok c.finish.result c.behind_point.result _ _ c.finish.ensures.tree c.behind_point.ensures
+    made_ok c.finish.result c.put_point.result _ _ c.finish.ensures.tree c.put_point.ensures
     (λ g a P. assert_written P here.path.now here.frame _ _ c.in_ok-point.point c.args.label _ (node_view g) c.in_ok-point.ensures.number c.in_ok-point.ensures.walked
     (a ∙ ap (λ (z : Node). seq (point c.in_ok-point.point) z) (shown_check c.in_ok-point.point here.frame.base c.in_ok-cond.cond
     ∙ ap (check c.in_ok-point.point here.frame.base) c.in_ok-cond.ensures)))

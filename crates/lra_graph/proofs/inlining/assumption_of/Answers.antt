@@ -11,7 +11,7 @@ use Rattle.lra_graph.proofs.inlining.assumption_of.Goals as goal
 pub returns-clause-written : goal.returns-clause-written
 returns-clause-written c =
     let here = c.args.around.now in
-    made_ok c.finish.result c.behind_point.result _ _ c.finish.ensures.tree c.behind_point.ensures
+    made_ok c.finish.result c.put_point.result _ _ c.finish.ensures.tree c.put_point.ensures
     (λ g a P. assume_written P here.path.now here.frame _ _ c.in_ok-point.point c.args.label _ (node_view g) c.in_ok-point.ensures.number c.in_ok-point.ensures.walked
     (a ∙ ap (λ (z : Node). seq (point c.in_ok-point.point) z)
     (shown_act c.in_ok-point.point _ ∙ ap (λ z. act c.in_ok-point.point (test here.frame.base z true)) c.in_ok-copy.ensures)))

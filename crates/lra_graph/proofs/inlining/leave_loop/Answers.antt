@@ -7,7 +7,7 @@ use Rattle.lra_graph.proofs.inlining.leave_loop.Goals as goal
 pub returns-clause-written : goal.returns-clause-written
 returns-clause-written c =
     let here = c.args.around.now in
-    made_ok c.finish.result c.behind_point.result _ _ c.finish.ensures.tree c.behind_point.ensures
+    made_ok c.finish.result c.put_point.result _ _ c.finish.ensures.tree c.put_point.ensures
     (λ g a. leaves_written here.path.now here.frame _ _ c.in_ok-point.point c.args.label c.in-Some.length _ _ (node_view g) c.in_ok-point.ensures.number c.in_ok-point.ensures.walked c.in-Some.is
     c.in_ok-leave-in-Some.ensures a)
 

@@ -1,7 +1,7 @@
--- Goals of `given_again`: the kept turn of a loop's body, where the same value enters it again.
+-- Goals of `reuse_turn`: the kept turn of a loop's body, where the same value enters it again.
 use Rattle.std.proofs.Common.{rules, ◌≡◌}
 use Rattle.lra_iter.proofs.Again.{same_given}
-use Rattle.lra_iter.proofs.outcome.given_again.Goals as goal
+use Rattle.lra_iter.proofs.outcome.reuse_turn.Goals as goal
 
 pub returns : goal.returns
 returns g c options body kept =

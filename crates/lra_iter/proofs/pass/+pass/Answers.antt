@@ -7,7 +7,7 @@ use Rattle.lra_operations.specs.Graph as graph
 use Rattle.lra_base.specs.declared.options.Options.{Options}
 use Rattle.std.proofs.lemmas.Result.{IfOk-weaker}
 use Rattle.lra_flow.specs.Pass.{noted}
-use Rattle.lra_iter.specs.Fits.{live_behind, TreeFits}
+use Rattle.lra_iter.specs.Fits.{live_after, TreeFits}
 use Rattle.lra_iter.specs.Outcome.{headed, seen, AreInTurn, AreKept, AreMet, HasGrown, IsKept, IsPassed, JumpsFit, LeavesWith}
 use Rattle.lra_iter.proofs.PassLoops.{grow_falls, head_starts, head_wide, head_stable, head_next}
 use Rattle.lra_iter.specs.declared.shapes.Shape.{Shape}
@@ -50,9 +50,9 @@ round-returns-in-Some-clause-turned g t c =
     let body = node_view l.body.now in
     let entered = c.in_ok-on.ensures.enters in
     given_turned m l.options.now body l.point l.base (cond_view l.condition.now) c.args.flag c.in_ok-on.inside
-    c.args.value.now c.in_ok-on.on entered.0 c.args.kept c.given_again.result
+    c.args.value.now c.in_ok-on.on entered.0 c.args.kept c.reuse_turn.result
     c.in-Some.turn entered.1 entered.2 c.in_ok-on.ensures.dims c.requires.closed c.requires.kept
-    (c.given_again.ensures l.options.now body) c.in-Some.is
+    (c.reuse_turn.ensures l.options.now body) c.in-Some.is
 
 pub round-returns-in-Some-clause-stays : goal.round-returns-in-Some-clause-stays
 round-returns-in-Some-clause-stays g t c =
@@ -61,8 +61,8 @@ round-returns-in-Some-clause-stays g t c =
     let body = node_view l.body.now in
     let entered = c.in_ok-on.ensures.enters in
     given_stays m l.options.now body l.point c.args.flag c.in_ok-on.inside entered.0 c.in_ok-on.on c.args.kept
-    c.given_again.result c.in-Some.turn c.args.memory.now entered.2 c.requires.kept
-    (c.given_again.ensures l.options.now body) c.in-Some.is
+    c.reuse_turn.result c.in-Some.turn c.args.memory.now entered.2 c.requires.kept
+    (c.reuse_turn.ensures l.options.now body) c.in-Some.is
 
 pub round-returns-clause-stays : goal.round-returns-clause-stays
 round-returns-clause-stays g t c =
@@ -106,8 +106,8 @@ grow-round-requires g t c =
     let few : m.dims c.head.head.value ≤ 2 ^ 30 = subst (λ n. n ≤ 2 ^ 30) (sym same) c.requires.few in
     let fits : TreeFits (node_view c.args.the_loop.now.body.now) (m.dims c.head.head.value) =
     subst (λ n. TreeFits body n) (sym same) c.requires.fits in
-    let closed : live_behind (node_view c.args.the_loop.now.body.now) (m.dims c.head.head.value) ≡
-    m.dims c.head.head.value = subst (λ n. live_behind body n ≡ n) (sym same) c.requires.closed in
+    let closed : live_after (node_view c.args.the_loop.now.body.now) (m.dims c.head.head.value) ≡
+    m.dims c.head.head.value = subst (λ n. live_after body n ≡ n) (sym same) c.requires.closed in
     let kept : AreKept m c.args.the_loop.now.options.now
     (node_view c.args.the_loop.now.body.now) c.head.head.flag c.head.kept =
     subst (λ f. AreKept m l.options.now body f c.head.kept) (sym here.valued.2)
@@ -324,8 +324,8 @@ narrow-round-requires g t c =
     let few : m.dims c.in_ok-next.next ≤ 2 ^ 30 = subst (λ n. n ≤ 2 ^ 30) (sym same) c.requires.few in
     let fits : TreeFits (node_view c.args.the_loop.now.body.now) (m.dims c.in_ok-next.next) =
     subst (λ n. TreeFits body n) (sym same) c.requires.fits in
-    let closed : live_behind (node_view c.args.the_loop.now.body.now) (m.dims c.in_ok-next.next) ≡
-    m.dims c.in_ok-next.next = subst (λ n. live_behind body n ≡ n) (sym same) c.requires.closed in
+    let closed : live_after (node_view c.args.the_loop.now.body.now) (m.dims c.in_ok-next.next) ≡
+    m.dims c.in_ok-next.next = subst (λ n. live_after body n ≡ n) (sym same) c.requires.closed in
     let kept : IsKept m c.args.the_loop.now.options.now
     (node_view c.args.the_loop.now.body.now) c.in_ok-next.so_far c.narrowing.last.entered
     (seen c.narrowing.last.outcome) =
@@ -416,9 +416,9 @@ pass_choice-pass-requires-2 g t c =
 pub pass_choice-meet_again-requires : goal.pass_choice-meet_again-requires
 pass_choice-meet_again-requires g t c =
     let k = c.args.choice.now in
-    c.in_ok-first.ensures.passed.dims ∙ ap (live_behind (node_view k.yes.now)) c.in_ok-sides.ensures.on_dims ∙
+    c.in_ok-first.ensures.passed.dims ∙ ap (live_after (node_view k.yes.now)) c.in_ok-sides.ensures.on_dims ∙
     sym c.requires.fits.2
-    ∙ ap (live_behind (node_view k.no.now)) (sym c.in_ok-sides.ensures.off_dims) ∙ sym c.in_ok-second.ensures.passed.dims
+    ∙ ap (live_after (node_view k.no.now)) (sym c.in_ok-sides.ensures.off_dims) ∙ sym c.in_ok-second.ensures.passed.dims
 
 pub pass_choice-returns-clause-passed : goal.pass_choice-returns-clause-passed
 pass_choice-returns-clause-passed g t c =
@@ -648,7 +648,7 @@ pass-pass_loop-requires g t c =
     let both : TreeFits (graph.iterate c.in-Loop.the_loop.point c.in-Loop.the_loop.base (cond_view c.in-Loop.the_loop.condition.now) (node_view c.in-Loop.the_loop.body.now)) (m.dims c.args.value) =
     subst (λ x. TreeFits x (m.dims c.args.value)) shape.0 c.requires.fits in
     let fits : TreeFits (node_view c.in-Loop.the_loop.body.now) (m.dims c.args.value) = both.0 in
-    let closed : live_behind (node_view c.in-Loop.the_loop.body.now) (m.dims c.args.value) ≡ m.dims c.args.value = both.1 in
+    let closed : live_after (node_view c.in-Loop.the_loop.body.now) (m.dims c.args.value) ≡ m.dims c.args.value = both.1 in
     let memory : Remembers m c.in-Loop.the_loop.options.now (graph.iterate c.in-Loop.the_loop.point c.in-Loop.the_loop.base (cond_view c.in-Loop.the_loop.condition.now)
     (node_view c.in-Loop.the_loop.body.now)) c.args.flag c.args.memory.now =
     remembers_given m c.args.options.now c.in-Loop.the_loop.options.now (node_view c.args.node.now) _ c.args.flag c.args.memory.now
