@@ -3,8 +3,9 @@ use Rattle.std.proofs.Common.{◌≡◌, ℕ, ◌+◌, ◌*◌, ◌-◌, ◌/◌
 use Rattle.std.specs.Prelude.{◌+ℤ◌, ◌-ℤ◌, neg_ℤ}
 use Rattle.std.proofs.lemmas.Int.{ints}
 use Rattle.std.proofs.lemmas.Bool.Decides.{eqb_tells}
+use Rattle.lra_linear.specs.Vectors.{entry}
 use Rattle.lra_dbm.specs.Entry.{◌⊑◌, ◌⊞◌, half_of, within_range, passes_range}
-use Rattle.lra_dbm.specs.Tight.{Entries, opposite, number_at, signed_value, with_sign, IsStore}
+use Rattle.lra_dbm.specs.Tight.{Entries, opposite, signed_value, with_sign, IsStore}
 use Rattle.lra_dbm.proofs.Ways.{IsTightlyClosed, Below}
 use Rattle.lra_dbm.specs.Cells.{Cells, cell, outside, entries, IsMatrix}
 use Rattle.lra_dbm.specs.Steps.{Progress, shortest, rounded, all_rounded, strengthened_at, row_strengthened, all_strengthened}
@@ -21,9 +22,9 @@ use Rattle.lra_dbm.proofs.Paths.{shortest_kept}
 pub signed_opposite : (s : List ℤ) (i : ℕ) → signed_value s (opposite i) ≡ neg_ℤ (signed_value s i)
 unfolding signed_value opposite
 signed_opposite s i = elim (parity_of (i % 2) (omega arith))
-    as (λ _. with_sign ((i + 1 - 2 * (i % 2)) % 2) (number_at s ((i + 1 - 2 * (i % 2)) / 2)) ≡ neg_ℤ (with_sign (i % 2) (number_at s (i / 2)))) [
+    as (λ _. with_sign ((i + 1 - 2 * (i % 2)) % 2) (entry s ((i + 1 - 2 * (i % 2)) / 2)) ≡ neg_ℤ (with_sign (i % 2) (entry s (i / 2)))) [
       | inl e ↦ (let r : (i + 1 - 2 * (i % 2)) % 2 ≡ 1 = omega arith in let q : (i + 1 - 2 * (i % 2)) / 2 ≡ i / 2 = omega arith in rw (r, q, e) refl)
-      | inr e ↦ (let r : (i + 1 - 2 * (i % 2)) % 2 ≡ 0 = omega arith in let q : (i + 1 - 2 * (i % 2)) / 2 ≡ i / 2 = omega arith in rw (r, q, e) (twice_negated (number_at s (i / 2))))
+      | inr e ↦ (let r : (i + 1 - 2 * (i % 2)) % 2 ≡ 0 = omega arith in let q : (i + 1 - 2 * (i % 2)) / 2 ≡ i / 2 = omega arith in rw (r, q, e) (twice_negated (entry s (i / 2))))
     ]
   where
     twice_negated : (x : ℤ) → x ≡ neg_ℤ (neg_ℤ x)

@@ -3,8 +3,9 @@ use Rattle.std.proofs.Common.{◌≡◌, ℕ, zero, suc, ◌+◌, ◌*◌, ◌/�
 use Rattle.std.specs.Prelude.{◌+ℤ◌, ◌-ℤ◌, ◌≤ℤ◌, ◌<ℤ◌, neg_ℤ}
 use Rattle.std.specs.Int.{int_div_euclid, int_min, int_max}
 use Rattle.std.proofs.lemmas.Int.{ints, clamps, by_lt_z}
+use Rattle.lra_linear.specs.Vectors.{entry}
 use Rattle.lra_dbm.specs.Entry.{◌⊑◌, ◌⊞◌, lesser}
-use Rattle.lra_dbm.specs.Tight.{Entries, opposite, number_at, signed_value, with_sign, IsStore, IsTight}
+use Rattle.lra_dbm.specs.Tight.{Entries, opposite, signed_value, with_sign, IsStore, IsTight}
 use Rattle.lra_dbm.proofs.Ways.{IsTightlyClosed}
 use Rattle.lra_dbm.proofs.EntryLemmas.{le_refl, le_same, le_trans, sum_grows, sum_swap, lesser_left, lesser_right, lesser_is, le_lesser}
 use borrow.Author.Count.{below_more}
@@ -134,7 +135,7 @@ shift_both a c None h = record { at_most = tt }
 shift_both a c (Some e) h = let p = h.at_most in record { at_most = omega (arith, ints) }
 
 -- the values of +x_0 to +x_(n-1), of which each is given
-values : (gs : List Given) (n a : ℕ) → ((t : ℕ) → t < n → (x : ℤ) × Has gs (2 * (a + t)) x) → (s : List ℤ) × (length s ≡ n) × ((t : ℕ) → t < n → Has gs (2 * (a + t)) (number_at s t))
+values : (gs : List Given) (n a : ℕ) → ((t : ℕ) → t < n → (x : ℤ) × Has gs (2 * (a + t)) x) → (s : List ℤ) × (length s ≡ n) × ((t : ℕ) → t < n → Has gs (2 * (a + t)) (entry s t))
 values gs zero a f = ([], refl, λ t h. absurd (omega arith))
 values gs (suc n) a f =
     let first = f 0 (omega arith) in
@@ -142,7 +143,7 @@ values gs (suc n) a f =
     let rest = values gs n (suc a) (λ t h. let r = f (suc t) (omega arith) in (r.0, rw (← shifted t) r.1)) in
     (first.0 ∷ rest.0, omega (arith, rest.1), each first.0 first.1 rest.0 rest.2)
   where
-    each : (x : ℤ) → Has gs (2 * (a + 0)) x → (s : List ℤ) → ((t : ℕ) → t < n → Has gs (2 * (suc a + t)) (number_at s t)) → (t : ℕ) → t < suc n → Has gs (2 * (a + t)) (number_at (x ∷ s) t)
+    each : (x : ℤ) → Has gs (2 * (a + 0)) x → (s : List ℤ) → ((t : ℕ) → t < n → Has gs (2 * (suc a + t)) (entry s t)) → (t : ℕ) → t < suc n → Has gs (2 * (a + t)) (entry (x ∷ s) t)
     each x h s g zero k = h
     each x h s g (suc t) k = let e : 2 * (a + suc t) ≡ 2 * (suc a + t) = omega arith in rw e (g t (omega arith))
 
@@ -246,13 +247,13 @@ module _ (m : Entries) (half : ℕ → Option ℤ) (tight : IsTightlyClosed m ha
       each all x g t h =
           below_more (λ t. (z : ℤ) × Has (extended all (2 * n) x) (2 * t) z) n (λ t k. let r = g t k in (r.0, inr (inr r.1))) (x, inl (refl, refl)) t (omega arith)
 
-  has_signed : (gs : List Given) → Fits m gs → (s : List ℤ) (n : ℕ) → ((t : ℕ) → t < n → Has gs (2 * t) (number_at s t)) → (i : ℕ) → i < 2 * n → Has gs i (signed_value s i)
+  has_signed : (gs : List Given) → Fits m gs → (s : List ℤ) (n : ℕ) → ((t : ℕ) → t < n → Has gs (2 * t) (entry s t)) → (i : ℕ) → i < 2 * n → Has gs i (signed_value s i)
   unfolding signed_value opposite
   has_signed gs f s n h i k =
       let negative_absurd : i / 2 < n = omega arith in
-      elim (parity_of (i % 2) (omega arith)) as (λ _. Has gs i (with_sign (i % 2) (number_at s (i / 2)))) [
+      elim (parity_of (i % 2) (omega arith)) as (λ _. Has gs i (with_sign (i % 2) (entry s (i / 2)))) [
         | inl e ↦ (let back : 2 * (i / 2) ≡ i = omega arith in rw e (rw back at (h (i / 2) negative_absurd)))
-        | inr e ↦ (let back : opposite (2 * (i / 2)) ≡ i = omega arith in rw e (rw back at (f.both (2 * (i / 2)) (number_at s (i / 2)) (h (i / 2) negative_absurd))))
+        | inr e ↦ (let back : opposite (2 * (i / 2)) ≡ i = omega arith in rw e (rw back at (f.both (2 * (i / 2)) (entry s (i / 2)) (h (i / 2) negative_absurd))))
       ]
 
   -- the values that are given are those of a store
@@ -260,7 +261,7 @@ module _ (m : Entries) (half : ℕ → Option ℤ) (tight : IsTightlyClosed m ha
   store_of n gs f =
       let r = covered n gs f in
       let vals = values r.0 n 0 (λ t h. let e : 2 * (0 + t) ≡ 2 * t = omega arith in rw e (r.3 t h)) in
-      let there : (t : ℕ) → t < n → Has r.0 (2 * t) (number_at vals.0 t) = λ t h. let e : 2 * (0 + t) ≡ 2 * t = omega arith in rw e at (vals.2 t h) in
+      let there : (t : ℕ) → t < n → Has r.0 (2 * t) (entry vals.0 t) = λ t h. let e : 2 * (0 + t) ≡ 2 * t = omega arith in rw e at (vals.2 t h) in
       let has : (i : ℕ) → i < 2 * n → Has r.0 i (signed_value vals.0 i) = has_signed r.0 r.1 vals.0 n there in (
         vals.0,
         record { width = vals.1; below = λ i j a b. r.1.below i j (signed_value vals.0 i) (signed_value vals.0 j) (has i a) (has j b) },

@@ -1,7 +1,8 @@
 -- Matrices over signed variables, their stores, and when a matrix is tight (Miné, 2006).
 -- A variable x_k stands twice: signed variable 2k is +x_k, and 2k + 1 is -x_k.
-use Rattle.std.specs.Prelude.{◌≡◌, ℕ, zero, suc, ◌+◌, ◌*◌, ◌-◌, ◌<◌, ◌%◌, ◌/◌, ℤ, pos, neg_ℤ, ◌-ℤ◌, ◌≤ℤ◌, Option, Some}
-use Rattle.std.specs.Prelude.{List, [], ◌∷◌, length}
+use Rattle.std.specs.Prelude.{◌≡◌, ℕ, zero, suc, ◌+◌, ◌*◌, ◌-◌, ◌<◌, ◌%◌, ◌/◌, ℤ, neg_ℤ, ◌-ℤ◌, ◌≤ℤ◌, Option, Some}
+use Rattle.std.specs.Prelude.{List, length}
+use Rattle.lra_linear.specs.Vectors.{entry}
 use Rattle.lra_dbm.specs.Entry.{◌⊑◌}
 
 -- the entry at i and j bounds v_j - v_i from above, for the signed variables v
@@ -12,19 +13,13 @@ Entries = ℕ → ℕ → Option ℤ
 unfoldable pub opposite : ℕ → ℕ
 opposite i = (i + 1) - 2 * (i % 2)
 
--- a store's number, and 0 past the end
-abbrev pub number_at : List ℤ → ℕ → ℤ
-number_at [] k = pos 0
-number_at (x ∷ xs) zero = x
-number_at (x ∷ xs) (suc k) = number_at xs k
-
 abbrev pub with_sign : ℕ → ℤ → ℤ
 with_sign zero x = x
 with_sign (suc k) x = neg_ℤ x
 
 -- the value of a signed variable
 unfoldable pub signed_value : List ℤ → ℕ → ℤ
-signed_value s i = with_sign (i % 2) (number_at s (i / 2))
+signed_value s i = with_sign (i % 2) (entry s (i / 2))
 
 -- the list is a store of the matrix: it has n numbers, and meets every entry
 pub record IsStore (n : ℕ) (m : Entries) (s : List ℤ) : Type 0 where

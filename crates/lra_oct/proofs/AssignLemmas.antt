@@ -8,7 +8,8 @@ use Rattle.std.proofs.lemmas.Int.{ints}
 use Rattle.std.proofs.lemmas.List.{get_or-set_same, get_or-set_other, get_or-replicate}
 use Rattle.std.proofs.lemmas.Bool.Decides.{eqb_tells}
 use Rattle.lra_linear.specs.Range.{InRange}
-use Rattle.lra_linear.specs.Vectors.{product}
+use Rattle.lra_linear.specs.Vectors.{entry, product}
+use Rattle.lra_linear.proofs.Products.{entry_set_same}
 use Rattle.lra_lin.specs.Form.{Form, form_value}
 use Rattle.lra_domain.specs.Actions.{assign}
 use Rattle.lra_domain.specs.Meaning.{Meets}
@@ -26,7 +27,7 @@ use Rattle.lra_box.proofs.SumLemmas.{end_sum_holds}
 use Rattle.lra_box.proofs.AssignLemmas.{low_covers, high_covers}
 use Rattle.lra_dbm.specs.Answers.{is_flagged}
 use Rattle.lra_dbm.specs.Entry.{◌⊑◌, ◌⊞◌}
-use Rattle.lra_dbm.specs.Tight.{Entries, opposite, number_at, with_sign, signed_value, IsStore}
+use Rattle.lra_dbm.specs.Tight.{Entries, opposite, with_sign, signed_value, IsStore}
 use Rattle.lra_dbm.specs.Cells.{Cells, entries, entered}
 use Rattle.lra_dbm.specs.Cells.{Content as Matrix}
 use Rattle.lra_dbm.specs.Closure.{IsClosure}
@@ -49,7 +50,7 @@ use Rattle.lra_oct.specs.Tables.{upper_of, upper, alone, intervals, form_interva
 use Rattle.lra_oct.specs.Closed.{EquatedTo}
 use Rattle.lra_oct.specs.Answers.{AssignedTo, ConfinedTo}
 use Rattle.lra_oct.specs.Meaning.{octagon_meaning}
-use Rattle.lra_oct.proofs.StoreLemmas.{number_set, signed_other, forgotten_store}
+use Rattle.lra_oct.proofs.StoreLemmas.{signed_other, forgotten_store}
 use Rattle.lra_oct.proofs.EnterLemmas.{entered_store}
 use Rattle.lra_oct.proofs.FormLemmas.{one_value, one_in_range, plus_value, minus_value}
 use Rattle.lra_oct.proofs.UnaryLemmas.{in_intervals, side_holds, length_intervals}
@@ -92,10 +93,10 @@ is_shift x flips (One m j) e = elim (eqb_tells m 1) [
 -- ---- x becomes another variable's signed variable plus a number
 
 set_plus : (s : List ℤ) (x : ℕ) (v : ℤ) → x < length s → signed_value (slice_set s x v) (2 * x) ≡ v
-set_plus s x v h = plus_value (slice_set s x v) x ∙ number_set s x v h
+set_plus s x v h = plus_value (slice_set s x v) x ∙ entry_set_same s x v h
 
 set_minus : (s : List ℤ) (x : ℕ) (v : ℤ) → x < length s → signed_value (slice_set s x v) (2 * x + 1) ≡ neg_ℤ v
-set_minus s x v h = minus_value (slice_set s x v) x ∙ ap neg_ℤ (number_set s x v h)
+set_minus s x v h = minus_value (slice_set s x v) x ∙ ap neg_ℤ (entry_set_same s x v h)
 
 one_times : (x p : ℤ) → p ≡ pos 1 *ℤ x → p ≡ x
 one_times x p e = e ∙ omega (arith, ints)
@@ -238,12 +239,12 @@ open_upper : (r : ℕ) → upper_of r open_interval ≡ None
 open_upper zero = refl
 open_upper (suc r) = refl
 
-alone_holds : (n x : ℕ) (i : Interval) (s : List ℤ) (v : ℤ) (j : ℕ) → x < n → j < 2 * n → number_at s x ≡ v → InInterval i v → Some (signed_value s j) ⊑ upper (alone n x i) j
+alone_holds : (n x : ℕ) (i : Interval) (s : List ℤ) (v : ℤ) (j : ℕ) → x < n → j < 2 * n → entry s x ≡ v → InInterval i v → Some (signed_value s j) ⊑ upper (alone n x i) j
 unfolding signed_value
 alone_holds n x i s v j place h is holds = elim (eqb_tells (j / 2) x) [
-  | inl e ↦ le_trans (le_same (ap (λ z. Some (with_sign (j % 2) (number_at s z))) e.1 ∙ ap (λ z. Some (with_sign (j % 2) z)) is))
+  | inl e ↦ le_trans (le_same (ap (λ z. Some (with_sign (j % 2) (entry s z))) e.1 ∙ ap (λ z. Some (with_sign (j % 2) z)) is))
       (le_trans (side_holds (j % 2) i v holds) (le_same (sym (ap (λ z. upper_of (j % 2) (slice_index_or (alone n x i) z open_interval)) e.1 ∙ ap (upper_of (j % 2)) (alone_at n x i place)))))
-  | inr e ↦ le_trans (le_none (Some (with_sign (j % 2) (number_at s (j / 2)))))
+  | inr e ↦ le_trans (le_none (Some (with_sign (j % 2) (entry s (j / 2)))))
       (le_same (sym (ap (upper_of (j % 2)) (alone_other n x (j / 2) i (omega arith) e.1) ∙ open_upper (j % 2))))
 ]
 
@@ -277,7 +278,7 @@ assigned_bound n x e old low high new u w z place width is_low is_high to both e
       let long = width ∙ sym (length_intervals n (entries n old)) in
       let wide : x < length s = (let q = h.width in omega arith) in
       to.2.stores (slice_set s x (form_value e s)) (forgotten_store n x (entries n old) (entries n to.0) s (form_value e s) to.1.entries h)
-      (λ j k. alone_holds n x (ends_of low high) (slice_set s x (form_value e s)) (form_value e s) j place k (number_set s x (form_value e s) wide) (
+      (λ j k. alone_holds n x (ends_of low high) (slice_set s x (form_value e s)) (form_value e s) j place k (entry_set_same s x (form_value e s) wide) (
         bound_holds Low _ _ low _ is_low (end_sum_holds Low e.constant e.coefficients (intervals n (entries n old)) s inside long),
         bound_holds High _ _ high _ is_high (end_sum_holds High e.constant e.coefficients (intervals n (entries n old)) s inside long),
       ));

@@ -10,7 +10,7 @@ use Rattle.std.specs.List.{All}
 use Rattle.lra_linear.specs.Range.{InRange}
 use Rattle.lra_linear.specs.Vectors.{entry, dot, product}
 use Rattle.lra_linear.proofs.Ring.{mul_add}
-use Rattle.lra_dbm.specs.Tight.{number_at, signed_value}
+use Rattle.lra_dbm.specs.Tight.{signed_value}
 use Rattle.lra_oct.specs.declared.forms.Shape.{Shape}
 use Rattle.lra_oct.specs.declared.forms.Shape.TheVariants.{Constant, One, Two, Other}
 use Rattle.lra_oct.specs.Forms.{Term, terms_at, terms_from, shape_of}
@@ -89,18 +89,13 @@ abbrev pub term_sum : List Term → List ℤ → ℤ
 term_sum [] s = pos 0
 term_sum (t ∷ ts) s = (pos t.magnitude *ℤ signed_value s t.signed) +ℤ term_sum ts s
 
-pub plus_value : (s : List ℤ) (k : ℕ) → signed_value s (2 * k) ≡ number_at s k
+pub plus_value : (s : List ℤ) (k : ℕ) → signed_value s (2 * k) ≡ entry s k
 unfolding signed_value
 plus_value s k = let a : (2 * k) % 2 ≡ 0 = omega arith in let b : (2 * k) / 2 ≡ k = omega arith in rw (a, b) refl
 
-pub minus_value : (s : List ℤ) (k : ℕ) → signed_value s (2 * k + 1) ≡ neg_ℤ (number_at s k)
+pub minus_value : (s : List ℤ) (k : ℕ) → signed_value s (2 * k + 1) ≡ neg_ℤ (entry s k)
 unfolding signed_value
 minus_value s k = let a : (2 * k + 1) % 2 ≡ 1 = omega arith in let b : (2 * k + 1) / 2 ≡ k = omega arith in rw (a, b) refl
-
-entry_number : (s : List ℤ) (j : ℕ) → entry s j ≡ number_at s j
-entry_number [] j = refl
-entry_number (x ∷ s) zero = refl
-entry_number (x ∷ s) (suc j) = entry_number s j
 
 zero_times : (x : ℤ) → pos 0 *ℤ x ≡ pos 0
 zero_times (pos x) = grind (arith, ints)
@@ -111,21 +106,21 @@ neg_times m (pos zero) = grind (arith, ints)
 neg_times m (pos (suc x)) = grind (arith, ints)
 neg_times m (negsuc x) = grind (arith, ints)
 
-one_term : (c : ℤ) (k : ℕ) (s : List ℤ) (x d : ℤ) (ts : List Term) → x ≡ number_at s k → d ≡ term_sum ts s →
+one_term : (c : ℤ) (k : ℕ) (s : List ℤ) (x d : ℤ) (ts : List Term) → x ≡ entry s k → d ≡ term_sum ts s →
     (c *ℤ x) +ℤ d ≡ term_sum (terms_at k c ts) s
 one_term (pos zero) k s x d ts e f = let z = zero_times x in omega (arith, ints, z, f)
 one_term (pos (suc m)) k s x d ts e f = rw (plus_value s k, e, f) refl
-one_term (negsuc m) k s x d ts e f = rw (minus_value s k, e, f, neg_times m (number_at s k)) refl
+one_term (negsuc m) k s x d ts e f = rw (minus_value s k, e, f, neg_times m (entry s k)) refl
 
-dot_terms : (cs : List ℤ) (k : ℕ) (s : List ℤ) (u : ℕ → ℤ) → ((j : ℕ) → u j ≡ number_at s (k + j)) →
+dot_terms : (cs : List ℤ) (k : ℕ) (s : List ℤ) (u : ℕ → ℤ) → ((j : ℕ) → u j ≡ entry s (k + j)) →
     dot cs u ≡ term_sum (terms_from k cs) s
 dot_terms [] k s u e = refl
 dot_terms (c ∷ cs) k s u e = one_term c k s (u 0) (dot cs (λ j. u (suc j))) (terms_from (suc k) cs)
-    (e 0 ∙ ap (number_at s) (omega arith))
-    (dot_terms cs (suc k) s (λ j. u (suc j)) (λ j. e (suc j) ∙ ap (number_at s) (omega arith)))
+    (e 0 ∙ ap (entry s) (omega arith))
+    (dot_terms cs (suc k) s (λ j. u (suc j)) (λ j. e (suc j) ∙ ap (entry s) (omega arith)))
 
 pub product_terms : (cs s : List ℤ) → product cs s ≡ term_sum (terms_from 0 cs) s
-product_terms cs s = dot_terms cs 0 s (entry s) (λ j. entry_number s j ∙ ap (number_at s) (omega arith))
+product_terms cs s = dot_terms cs 0 s (entry s) (λ j. ap (entry s) (omega arith))
 
 -- ---- shapes
 

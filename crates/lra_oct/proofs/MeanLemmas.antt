@@ -8,7 +8,7 @@ use Rattle.std.proofs.lemmas.Int.{ints}
 use Rattle.std.proofs.lemmas.Bool.{false≢true}
 use Rattle.std.proofs.lemmas.Bool.Decides.{eqb_tells, leb_tells}
 use Rattle.std.proofs.lemmas.List.{get_or-set_other, get_or-replicate}
-use Rattle.lra_linear.specs.Vectors.{product}
+use Rattle.lra_linear.specs.Vectors.{entry, product}
 use Rattle.lra_linear.specs.declared.ConKind.{ConKind}
 use Rattle.lra_linear.specs.declared.ConKind.TheVariants.{Ge, Eq}
 use Rattle.std.specs.List.{All}
@@ -17,7 +17,7 @@ use Rattle.lra_sys.specs.Listed.{Listed}
 use Rattle.lra_domain.specs.Parts.{SomePartHolds}
 use Rattle.lra_box.proofs.PartLemmas.{AllHold, hold_append, rows_hold, product_zeros, times_one, one_times, minus_times}
 use Rattle.lra_dbm.specs.Entry.{◌⊑◌, half_of}
-use Rattle.lra_dbm.specs.Tight.{Entries, opposite, number_at, with_sign, signed_value, IsStore}
+use Rattle.lra_dbm.specs.Tight.{Entries, opposite, with_sign, signed_value, IsStore}
 use Rattle.lra_dbm.specs.Cells.{Cells, entries}
 use Rattle.lra_dbm.proofs.EntryLemmas.{le_same, le_none, le_trans}
 use Rattle.lra_dbm.proofs.Strong.{opposite_twice, half_bounds}
@@ -35,7 +35,7 @@ no_times : (x : ℤ) → pos 0 *ℤ x ≡ pos 0
 no_times x = grind (arith, ints)
 
 product_set : (cs s : List ℤ) (k : ℕ) (f : ℤ) → k < length cs → length s ≡ length cs → slice_index_or cs k (pos 0) ≡ pos 0
-    → product (slice_set cs k f) s ≡ product cs s +ℤ (f *ℤ number_at s k)
+    → product (slice_set cs k f) s ≡ product cs s +ℤ (f *ℤ entry s k)
 product_set [] s k f h e z = absurd (omega arith)
 product_set (c ∷ cs) [] k f h e z = absurd (omega arith)
 product_set (c ∷ cs) (x ∷ xs) zero f h e z = let n = no_times x in let m : c *ℤ x ≡ pos 0 = rw z n in omega (arith, ints)
@@ -54,15 +54,15 @@ sign_times : (r : ℕ) (x : ℤ) → with_sign r (pos 1) *ℤ x ≡ with_sign r 
 sign_times zero x = one_times x
 sign_times (suc r) x = minus_times x
 
-signed_is : (s : List ℤ) (i : ℕ) → sign_of i *ℤ number_at s (i / 2) ≡ signed_value s i
+signed_is : (s : List ℤ) (i : ℕ) → sign_of i *ℤ entry s (i / 2) ≡ signed_value s i
 unfolding signed_value
-signed_is s i = let r : i - 2 * (i / 2) ≡ i % 2 = omega arith in rw r (sign_times (i % 2) (number_at s (i / 2)))
+signed_is s i = let r : i - 2 * (i / 2) ≡ i % 2 = omega arith in rw r (sign_times (i % 2) (entry s (i / 2)))
 
 one_set : (n i : ℕ) (s : List ℤ) → i < 2 * n → length s ≡ n → product (slice_set (replicate n (pos 0)) (i / 2) (sign_of i)) s ≡ signed_value s i
 one_set n i s h e =
     let w = length_zeros n in
     product_set (replicate n (pos 0)) s (i / 2) (sign_of i) (omega arith) (omega arith) (get_or-replicate n (i / 2) (pos 0) (pos 0) (omega arith))
-    ∙ ap (λ z. z +ℤ (sign_of i *ℤ number_at s (i / 2))) (product_zeros n s) ∙ zero_plus (sign_of i *ℤ number_at s (i / 2)) ∙ signed_is s i
+    ∙ ap (λ z. z +ℤ (sign_of i *ℤ entry s (i / 2))) (product_zeros n s) ∙ zero_plus (sign_of i *ℤ entry s (i / 2)) ∙ signed_is s i
   where
     zero_plus : (x : ℤ) → pos 0 +ℤ x ≡ x
     zero_plus x = omega (arith, ints)
@@ -86,7 +86,7 @@ two_row n i j q s h k ne e =
     row_start q (product (slice_set (slice_set (replicate n (pos 0)) (i / 2) (sign_of i)) (j / 2) (sign_of j)) s)
     ∙ ap (λ z. q +ℤ z) (product_set (slice_set (replicate n (pos 0)) (i / 2) (sign_of i)) s (j / 2) (sign_of j) (omega arith) (omega arith)
     (get_or-set_other (replicate n (pos 0)) (i / 2) (j / 2) (sign_of i) (pos 0) ne ∙ get_or-replicate n (j / 2) (pos 0) (pos 0) (omega arith))
-    ∙ ap (λ z. z +ℤ (sign_of j *ℤ number_at s (j / 2))) (one_set n i s h e) ∙ ap (λ z. signed_value s i +ℤ z) (signed_is s j))
+    ∙ ap (λ z. z +ℤ (sign_of j *ℤ entry s (j / 2))) (one_set n i s h e) ∙ ap (λ z. signed_value s i +ℤ z) (signed_is s j))
 
 -- i and j name one row: they are the same, or of different variables
 abbrev Apart : ℕ → ℕ → Type 0

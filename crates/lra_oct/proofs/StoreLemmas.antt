@@ -5,8 +5,10 @@ use Rattle.std.specs.Prelude.{◌==◌, ◌||◌, ◌-ℤ◌, nat_lt, slice_set}
 use Rattle.std.proofs.Math.ListN.{length-set}
 use Rattle.std.proofs.lemmas.Int.{ints}
 use Rattle.std.proofs.lemmas.Bool.Decides.{eqb_tells, leb_tells}
+use Rattle.lra_linear.specs.Vectors.{entry}
+use Rattle.lra_linear.proofs.Products.{entry_set_other}
 use Rattle.lra_dbm.specs.Entry.{◌⊑◌}
-use Rattle.lra_dbm.specs.Tight.{Entries, number_at, with_sign, signed_value, IsStore}
+use Rattle.lra_dbm.specs.Tight.{Entries, with_sign, signed_value, IsStore}
 use Rattle.lra_dbm.specs.Cells.{Cells, entries, outside, forgotten, first_entries}
 use Rattle.lra_dbm.proofs.EntryLemmas.{le_same, le_none, le_trans}
 use Rattle.lra_dbm.proofs.CellLemmas.{inside_or_out}
@@ -16,24 +18,12 @@ use Rattle.lra_oct.specs.Tables.{Becomes}
 
 -- ---- numbers of a store
 
-pub number_set : (s : List ℤ) (x : ℕ) (v : ℤ) → x < length s → number_at (slice_set s x v) x ≡ v
-number_set [] x v h = absurd (omega arith)
-number_set (y ∷ s) zero v h = refl
-number_set (y ∷ s) (suc x) v h = number_set s x v (omega arith)
-
-number_other : (s : List ℤ) (x k : ℕ) (v : ℤ) → k ≢ x → number_at (slice_set s x v) k ≡ number_at s k
-number_other [] x k v ne = refl
-number_other (y ∷ s) zero zero v ne = absurd (ne refl)
-number_other (y ∷ s) zero (suc k) v ne = refl
-number_other (y ∷ s) (suc x) zero v ne = refl
-number_other (y ∷ s) (suc x) (suc k) v ne = number_other s x k v (λ e. ne (ap suc e))
-
-number_append : (s t : List ℤ) (k : ℕ) → k < length s → number_at (s ++ t) k ≡ number_at s k
+number_append : (s t : List ℤ) (k : ℕ) → k < length s → entry (s ++ t) k ≡ entry s k
 number_append [] t k h = absurd (omega arith)
 number_append (y ∷ s) t zero h = refl
 number_append (y ∷ s) t (suc k) h = number_append s t k (omega arith)
 
-number_take : (m : ℕ) (s : List ℤ) (k : ℕ) → k < m → number_at (take m s) k ≡ number_at s k
+number_take : (m : ℕ) (s : List ℤ) (k : ℕ) → k < m → entry (take m s) k ≡ entry s k
 number_take zero s k h = absurd (omega arith)
 number_take (suc m) [] k h = refl
 number_take (suc m) (y ∷ s) zero h = refl
@@ -41,7 +31,7 @@ number_take (suc m) (y ∷ s) (suc k) h = number_take m s k (omega arith)
 
 pub signed_other : (s : List ℤ) (x i : ℕ) (v : ℤ) → i / 2 ≢ x → signed_value (slice_set s x v) i ≡ signed_value s i
 unfolding signed_value
-signed_other s x i v ne = ap (with_sign (i % 2)) (number_other s x (i / 2) v ne)
+signed_other s x i v ne = ap (with_sign (i % 2)) (entry_set_other s x (i / 2) v ne)
 
 signed_append : (s t : List ℤ) (i : ℕ) → i < 2 * length s → signed_value (s ++ t) i ≡ signed_value s i
 unfolding signed_value

@@ -6,8 +6,9 @@ use Rattle.std.specs.Prelude.{◌-ℤ◌, neg_ℤ, slice_index_or}
 use Rattle.std.specs.Option.{option_map}
 use Rattle.std.proofs.lemmas.Int.{ints}
 use Rattle.std.proofs.lemmas.Bool.Decides.{eqb_tells}
+use Rattle.lra_linear.specs.Vectors.{entry}
 use Rattle.lra_dbm.specs.Entry.{◌⊑◌, ◌⊞◌, half_of, EntryInRange}
-use Rattle.lra_dbm.specs.Tight.{Entries, opposite, number_at, with_sign, signed_value, IsStore}
+use Rattle.lra_dbm.specs.Tight.{Entries, opposite, with_sign, signed_value, IsStore}
 use Rattle.lra_dbm.specs.Cells.{Cells, entries, IsMatrix}
 use Rattle.lra_dbm.proofs.Lowering.{half_fits}
 use Rattle.lra_dbm.specs.Closure.{IsClosure}
@@ -76,16 +77,16 @@ unary_at n m s i x h l e = le_trans (le_same (ap (λ z. Some (z -ℤ neg_ℤ z))
     (h.below (opposite i) i (opposite_below n i l) l)
 
 in_interval : (n : ℕ) (m : Entries) (s : List ℤ) (k : ℕ) → IsStore n m s → k < n →
-    InInterval (interval m k) (number_at s k)
+    InInterval (interval m k) (entry s k)
 in_interval n m s k h l = (
-  half_low (m (opposite (2 * k + 1)) (2 * k + 1)) (number_at s k)
-      (unary_at n m s (2 * k + 1) (neg_ℤ (number_at s k)) h (omega arith) (minus_value s k)),
-  half_high (m (opposite (2 * k)) (2 * k)) (number_at s k)
-      (unary_at n m s (2 * k) (number_at s k) h (omega arith) (plus_value s k)),
+  half_low (m (opposite (2 * k + 1)) (2 * k + 1)) (entry s k)
+      (unary_at n m s (2 * k + 1) (neg_ℤ (entry s k)) h (omega arith) (minus_value s k)),
+  half_high (m (opposite (2 * k)) (2 * k)) (entry s k)
+      (unary_at n m s (2 * k) (entry s k) h (omega arith) (plus_value s k)),
 )
 
 in_from : (m : Entries) (t : List ℤ) (k n : ℕ) → length t ≡ n →
-    ((j : ℕ) → j < n → InInterval (interval m (k + j)) (number_at t j)) → InBounds (intervals_from m k n) t
+    ((j : ℕ) → j < n → InInterval (interval m (k + j)) (entry t j)) → InBounds (intervals_from m k n) t
 in_from m [] k zero e h = tt
 in_from m [] k (suc n) e h = absurd (omega arith)
 in_from m (x ∷ t) k zero e h = absurd (omega arith)
@@ -93,12 +94,12 @@ in_from m (x ∷ t) k (suc n) e h =
     let here : k + 0 ≡ k = omega arith in (
       subst (λ z. InInterval (interval m z) x) here (h 0 (omega arith)),
       in_from m t (suc k) n (omega arith) (λ j l. let later : k + suc j ≡ suc k + j = omega arith in subst
-          (λ z. InInterval (interval m z) (number_at t j)) later (h (suc j) (omega arith))),
+          (λ z. InInterval (interval m z) (entry t j)) later (h (suc j) (omega arith))),
     )
 
 pub in_intervals : (n : ℕ) (m : Entries) (s : List ℤ) → IsStore n m s → InBounds (intervals n m) s
 in_intervals n m s h = in_from m s 0 n h.width (λ j l. let same : j ≡ 0 + j = omega arith in subst
-    (λ z. InInterval (interval m z) (number_at s j)) same (in_interval n m s j h l))
+    (λ z. InInterval (interval m z) (entry s j)) same (in_interval n m s j h l))
 
 -- ---- a narrower matrix has narrower intervals
 
@@ -130,7 +131,7 @@ intervals_wider n cs ds w = wider_from (entries n cs) (entries n ds) 0 n (within
 
 -- ---- upper bounds of signed variables
 
-number_index : (s : List ℤ) (k : ℕ) → number_at s k ≡ slice_index_or s k (pos 0)
+number_index : (s : List ℤ) (k : ℕ) → entry s k ≡ slice_index_or s k (pos 0)
 number_index [] k = refl
 number_index (x ∷ s) zero = refl
 number_index (x ∷ s) (suc k) = number_index s k
@@ -150,7 +151,7 @@ side_holds (suc r) i x h = low_holds i.low x h.0
 pub upper_holds : (is : List Interval) (s : List ℤ) (j : ℕ) → InBounds is s → j < 2 * length is →
     Some (signed_value s j) ⊑ upper is j
 unfolding signed_value
-upper_holds is s j h l = side_holds (j % 2) (slice_index_or is (j / 2) open_interval) (number_at s (j / 2))
+upper_holds is s j h l = side_holds (j % 2) (slice_index_or is (j / 2) open_interval) (entry s (j / 2))
     (subst (λ z. InInterval (slice_index_or is (j / 2) open_interval) z) (sym (number_index s (j / 2)))
     (in_at is s (j / 2) h (omega arith)))
 
