@@ -1,10 +1,14 @@
 //! What is found of a whole program.
 
-ghost use Rattle.std.specs.Prelude.{◌≡◌, ◌≤◌, ◌^◌, map, length, IfOk};
+ghost use Rattle.std.specs.Prelude.{◌≡◌, ◌≤◌, ◌^◌, map, length, None, IfOk};
 ghost use Rattle.lra_program.specs.Program.{Program};
 ghost use Rattle.lra_operations.specs.GraphViews.{node_view, site_view};
 ghost use Rattle.lra_program.specs.Assertions.{assertions_from};
+ghost use Rattle.lra_domain.specs.declared.Exactness.{Exactness};
 ghost use Rattle.lra_flow.specs.Analysis.{Solves};
+ghost use Rattle.lra_flow.specs.Changes.{first_values};
+ghost use Rattle.lra_flow.specs.Pass.{noted};
+ghost use Rattle.lra_change.specs.Changes.{Does};
 ghost use Rattle.lra_iter.specs.Fits.{TreeFits};
 ghost use Rattle.lra_iter.specs.Lives.{PointsHave, AreWide};
 ghost use Rattle.lra_iter.specs.Outcome.{seen};
@@ -55,6 +59,23 @@ fn solution_of<D: Domain>(
     })
 }
 
+/// The globals at their first values, and the first flagged point so far.
+fn begin<D: Domain>(
+    alloc: Global,
+    options: &Options,
+    globals: &[i64],
+) -> Result<(D, Option<usize>), AllocError>
+    requires parts { 1 ≤ options.now.parts }
+    requires few { length globals.now ≤ 2 ^ 30 }
+    ensures begins { IfOk result (λ r. (whole : D) × (e : Exactness) × D.meaning.universal 0 options.now.parts whole ×
+        Does D.meaning (first_values 0 globals.now) whole e r.0 × (r.1 ≡ noted 0 e None)) }
+    ensures dims { IfOk result (λ r. D.meaning.dims r.0 ≡ length globals.now) }
+{
+    let mut value = D::universe(alloc, 0, options.parts)?;
+    let exactness = append_globals(alloc, globals, &mut value)?;
+    Ok((value, note(0, exactness, None)))
+}
+
 /// The iteration over a program's tree of operations, from its global variables at their first values.
 pub fn analyse<D: Domain>(
     alloc: Global,
@@ -76,10 +97,8 @@ pub fn analyse<D: Domain>(
     ensures assertions { IfOk result (λ s. map (λ v. v.0) s.verdicts.items ≡
         map (λ a. a.0) (assertions_from 0 (map site_view graph.now.sites.items))) }
 {
-    let mut value = D::universe(alloc, 0, options.parts)?;
-    let exactness = append_globals(alloc, globals, &mut value)?;
+    let (value, flag) = begin(alloc, options, globals)?;
     let mut memory = Memory::nothing(alloc);
-    let flag = note(0, exactness, None);
     let outcome = pass(alloc, options, &mut memory, &graph.tree, value, flag)?;
     let solution = solution_of(alloc, &graph.sites, outcome)?;
     Ok(solution)

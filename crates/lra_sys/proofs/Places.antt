@@ -21,5 +21,6 @@ fails_here g x p q v n = (ok_of p (checked_product g.row x) q, subst (λ (z : �
 -- ---- the set of points
 pub answer_tells : (list : List Given) (x : List ℤ) (answer : H.Holds) → IsAnswer list x answer → TellsMembership list x answer
 answer_tells list x Yes a = λ g k. (All-contains (HoldsInRange x) list g a k).1
-answer_tells list x (No place) a = λ con. a.here.1 (con a.member (subst (λ gs. Contains gs a.member) (sym a.is) (Contains-append_right a.earlier (a.member ∷ a.later) a.member (contains_head a.member a.later))))
+answer_tells list x (No place) a = λ con. a.here.1 (con a.member (subst (λ gs. Contains gs a.member) (sym a.is)
+    (Contains-append_right a.earlier (a.member ∷ a.later) a.member (contains_head a.member a.later))))
 answer_tells list x (Wide place) a = tt

@@ -1,6 +1,6 @@
 -- Goals of `analyse`: the iteration over a program's tree of operations, from its global variables at their first
 -- values.
-use Rattle.std.proofs.Common.{◌≡◌, length, map, sym, subst, arith}
+use Rattle.std.proofs.Common.{length, map, sym, subst}
 use Rattle.std.specs.List.{All}
 use Rattle.std.proofs.lemmas.List.Elements.{All-nil}
 use Rattle.lra_operations.specs.GraphViews.{node_view, site_view}
@@ -19,13 +19,13 @@ pass-requires-clause-remembers g c =
     let loops = numbered_loops (map site_view c.args.graph.now.sites.items) (node_view c.args.graph.now.tree) c.requires.numbered in (
       loops.0,
       loops.1,
-      subst (λ xs. All (IsRecalled g.D.Domain.meaning c.args.options.now loops.0 c.note-flag.result) xs) (sym c.nothing-memory.ensures) (All-nil _),
+      subst (λ xs. All (IsRecalled g.D.Domain.meaning c.args.options.now loops.0 c.in_ok-value.flag) xs) (sym c.nothing-memory.ensures) (All-nil _),
     )
 
 pub solution_of-requires : goal.solution_of-requires
 solution_of-requires g c =
     let graph = c.args.graph.now in
-    rw c.deref.ensures.value (pass_counted (dropping g.D.Domain.meaning) (map site_view graph.sites.items) c.args.options.now (node_view graph.tree) c.note-flag.result c.append_globals.new.value
+    rw c.deref.ensures.value (pass_counted (dropping g.D.Domain.meaning) (map site_view graph.sites.items) c.args.options.now (node_view graph.tree) c.in_ok-value.flag c.in_ok-value.value
     (seen c.in_ok-outcome.outcome)
     c.requires.numbered c.in_ok-outcome.ensures.passed.pass)
 
@@ -35,10 +35,10 @@ returns-clause-solved g c P same =
     let graph = c.args.graph.now in
     let result = seen c.in_ok-outcome.outcome in
     let solution = c.in_ok-solution.solution in
-    let done = rw c.in_ok-value.ensures.dims at c.in_ok-exactness.ensures.appends in
-    let pass = rw c.note-flag.ensures at c.in_ok-outcome.ensures.passed.pass in
-    let derived = derived_from m c.args.options.now P (node_view graph.tree) c.args.globals.now c.in_ok-value.value c.append_globals.new.value c.in_ok-exactness.exactness result same
-    c.in_ok-value.ensures.defined done pass in
+    let begun = c.in_ok-value.ensures.begins in
+    let pass = rw begun.4 at c.in_ok-outcome.ensures.passed.pass in
+    let derived = derived_from m c.args.options.now P (node_view graph.tree) c.args.globals.now begun.0 c.in_ok-value.value begun.1 result same
+    begun.2 begun.3 pass in
     solved m g.met.D.Domain.laws c.args.options.now P (node_view graph.tree) result solution.values.items solution.verdicts.items solution.flagged derived c.in_ok-solution.ensures.solves
 
 pub returns-clause-sound : goal.returns-clause-sound
@@ -47,13 +47,13 @@ returns-clause-sound g c =
     let graph = c.args.graph.now in
     let result = seen c.in_ok-outcome.outcome in
     let solution = c.in_ok-solution.solution in
-    let done = rw c.in_ok-value.ensures.dims at c.in_ok-exactness.ensures.appends in
-    let pass = rw c.note-flag.ensures at c.in_ok-outcome.ensures.passed.pass in
+    let begun = c.in_ok-value.ensures.begins in
+    let pass = rw begun.4 at c.in_ok-outcome.ensures.passed.pass in
     let counted = pass_counted (dropping m) (map site_view graph.sites.items) c.args.options.now
-    (node_view graph.tree) c.note-flag.result c.append_globals.new.value result c.requires.numbered c.in_ok-outcome.ensures.passed.pass in
+    (node_view graph.tree) c.in_ok-value.flag c.in_ok-value.value result c.requires.numbered c.in_ok-outcome.ensures.passed.pass in
     covered_holds m g.met.D.Domain.laws c.args.globals.now (node_view graph.tree) result (map site_view graph.sites.items) solution.values.items solution.verdicts.items solution.flagged
-    (begun_covers m g.met.D.Domain.laws c.args.options.now c.args.globals.now (node_view graph.tree) c.in_ok-value.value c.append_globals.new.value c.in_ok-exactness.exactness result
-    c.in_ok-value.ensures.defined done pass)
+    (begun_covers m g.met.D.Domain.laws c.args.options.now c.args.globals.now (node_view graph.tree) begun.0 c.in_ok-value.value begun.1 result
+    begun.2 begun.3 pass)
     counted c.in_ok-solution.ensures.solves
 
 pub returns-clause-wide : goal.returns-clause-wide
@@ -61,10 +61,6 @@ returns-clause-wide g c lives =
     let m = g.D.Domain.meaning in
     let graph = c.args.graph.now in
     let solution = c.in_ok-solution.solution in
-    let begins : m.dims c.append_globals.new.value ≡ length c.args.globals.now =
-    let one = c.in_ok-exactness.ensures.dims in
-    let whole = c.in_ok-value.ensures.dims in
-    omega (arith, one, whole) in
-    found_wide m g.met.D.Domain.laws (map site_view graph.sites.items) c.args.options.now (node_view graph.tree) c.note-flag.result c.append_globals.new.value (seen c.in_ok-outcome.outcome)
+    found_wide m g.met.D.Domain.laws (map site_view graph.sites.items) c.args.options.now (node_view graph.tree) c.in_ok-value.flag c.in_ok-value.value (seen c.in_ok-outcome.outcome)
     (length c.args.globals.now)
-    solution.values.items solution.verdicts.items solution.flagged c.in_ok-outcome.ensures.passed.pass begins c.in_ok-solution.ensures.solves lives
+    solution.values.items solution.verdicts.items solution.flagged c.in_ok-outcome.ensures.passed.pass c.in_ok-value.ensures.dims c.in_ok-solution.ensures.solves lives

@@ -22,7 +22,8 @@ returns-then-not-accepts c =
     let fp : FitsSigned w128 c.in-Ok.product = search rules in
     let x = c.args.den ∷ c.args.num.now in
     let a = simp to_z-of_z at c.if-not-accepts.ensures in
-    first_at (HoldsInRange x) (FailsInRange x) is_equality c.args.rows.now c.args.kinds.now c.loop-place.place c.index-rows-place.result Ge c.requires.kinds c.loop-place-test.true c.index-rows-place.is
+    first_at (HoldsInRange x) (FailsInRange x) is_equality c.args.rows.now c.args.kinds.now c.loop-place.place c.index-rows-place.result Ge c.requires.kinds c.loop-place-test.true
+    c.index-rows-place.is
     (simp to_z-of_z at c.loop-place.invariant)
     (fails_here (member is_equality c.args.kinds.now c.loop-place.place c.index-rows-place.result Ge) x c.in-Ok.product
     (simp to_z-of_z at c.in-Ok.ensures.exact) (simp to_z-of_z at c.in-Ok.ensures.value) (λ h. let t = a.1 h in cc))

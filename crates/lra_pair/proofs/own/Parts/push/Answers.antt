@@ -16,4 +16,5 @@ pub returns-in_ok-add_row-clause-parts : goal.returns-in_ok-add_row-clause-parts
 returns-in_ok-add_row-clause-parts c = λ rays lines rows told before.
     let old = c.args.self.now in
     part_loose rays lines rows old.tight.items old.loose.items c.push-else-are_true.new.self.items old.saturation.rows c.add_row.new.self.rows c.args.row c.args.bits told
-    (λ h. unlike c.are_true.result c.if-are_true.false (c.are_true.ensures ∙ sym (none_false c.args.bits (length c.args.bits) (omega arith) h))) c.in_ok-push-2.ensures.items (ap (λ (m : Matrix). m.rows) c.in_ok-add_row.ensures.added) before
+    (λ h. unlike c.are_true.result c.if-are_true.false (c.are_true.ensures ∙ sym (none_false c.args.bits (length c.args.bits) (omega arith) h))) c.in_ok-push-2.ensures.items
+    (ap (λ (m : Matrix). m.rows) c.in_ok-add_row.ensures.added) before

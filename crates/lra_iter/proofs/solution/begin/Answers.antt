@@ -1,0 +1,6 @@
+-- Goals of `begin`: the globals at their first values, and the first flagged point so far.
+use Rattle.lra_iter.proofs.solution.begin.Goals as goal
+
+pub returns-clause-begins : goal.returns-clause-begins
+returns-clause-begins g c =
+    (c.in_ok-value.value, c.in_ok-exactness.exactness, c.in_ok-value.ensures.defined, rw c.in_ok-value.ensures.dims at c.in_ok-exactness.ensures.appends, c.note.ensures)
