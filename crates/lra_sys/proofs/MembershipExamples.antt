@@ -1,5 +1,5 @@
 -- Worked examples of membership: x1 is at least 0, and x1 + x2 is at most 4.
-use Rattle.std.proofs.Common.{◌≡◌, List, [], ◌∷◌, pos, negsuc, refl, arith, ℤ}
+use Rattle.std.proofs.Common.{List, [], ◌∷◌, pos, negsuc, refl, arith, ℤ}
 use Rattle.std.proofs.lemmas.Int.{ints}
 use Rattle.std.proofs.lemmas.List.Elements.{All-nil, All-cons}
 use Rattle.lra_linear.specs.Descriptions.{Given, inequality}

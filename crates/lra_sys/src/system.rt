@@ -107,6 +107,18 @@ impl<K: Copy> System<K> {
         Ok(())
     }
 
+    /// Adds the same row again, the last.
+    pub fn push_copy(&mut self, row: &Row, kind: K) -> Result<(), AllocError>
+        requires { length row.now ≡ suc self.old.dims }
+        ensures dims { self.new.dims ≡ self.old.dims }
+        ensures rows { OnOk result (self.new.rows ≡ self.old.rows ++ row.now ∷ []) }
+        ensures kinds { OnOk result (self.new.kinds ≡ self.old.kinds ++ kind ∷ []) }
+        ensures unchanged { OnErr result (self.new ≡ self.old) }
+    {
+        let copied = row.copy()?;
+        self.push(copied, kind)
+    }
+
     /// The rows, in order.
     pub fn rows(&self) -> &[Row]
         ensures rows { result.now ≡ self.now.rows }
