@@ -34,7 +34,7 @@ common_bit xs ys k e =
     ap (λ w. bit_at w (k % 64) == 1) (common_word xs ys (k / 64) e) ∙ ap (λ d. d == 1) (bit_at_and x y (k % 64)) ∙
     both_bits (bit_at x (k % 64)) (bit_at y (k % 64)) (bit_at-lt x (k % 64)) (bit_at-lt y (k % 64))
 
-both_length : (xs ys : List Bool) → length xs ≡ length ys → length (both xs ys) ≡ length xs
+pub both_length : (xs ys : List Bool) → length xs ≡ length ys → length (both xs ys) ≡ length xs
 both_length [] ys e = refl
 both_length (x ∷ xs) [] e = absurd (omega (arith, e))
 both_length (x ∷ xs) (y ∷ ys) e = ap suc (both_length xs ys (omega (arith, e)))

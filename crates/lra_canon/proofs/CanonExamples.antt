@@ -14,7 +14,7 @@ use Rattle.lra_linear.specs.Vectors.{entry, product}
 use Rattle.lra_linear.proofs.Descriptions.{gen_generated}
 use Rattle.lra_linear.proofs.LinearMaps.{generated_nonneg}
 use Rattle.lra_linear.proofs.LowestTerms.{primitive_at}
-use Rattle.lra_linear.proofs.Membership.{contains_cases, contains_head, contains_none, contains_tail}
+use Rattle.lra_linear.proofs.Membership.{contains_cases, contains_head, contains_none, contains_tail, each_two}
 use Rattle.lra_linear.proofs.Ring.{ring, v, ◌⊕◌, ◌⊗◌}
 use Rattle.lra_linear.proofs.Signs.{as_nat}
 use Rattle.lra_bits.specs.Matrix.{Matrix}
@@ -82,9 +82,6 @@ each_of_three P a b c p q s r k = elim (contains_cases a r (b ∷ c ∷ []) k) [
   | inr m ↦ elim (contains_cases b r (c ∷ []) m) [ inl e ↦ subst P e q | inr n ↦ elim (contains_cases c r [] n) [ inl e ↦ subst P e s | inr o ↦ absurd (contains_none r o) ] ]
 ]
 
-each_of_two : {A : Type 0} (P : A → Type 0) (a b : A) → P a → P b → (g : A) → Contains (a ∷ b ∷ []) g → P g
-each_of_two P a b p q g k = elim (contains_cases a g (b ∷ []) k) [ inl e ↦ subst P e p | inr m ↦ elim (contains_cases b g [] m) [ inl e ↦ subst P e q | inr o ↦ absurd (contains_none g o) ] ]
-
 not_two : (a : ℤ) → a ≡ pos 1 → ¬ (a ≡ pos 0)
 not_two a e z = omega (arith, ints, e, z)
 
@@ -93,7 +90,7 @@ half_line_saturation = record {
   is_form = ([], tt);
   form_widths = λ k d h. absurd (omega (arith, h));
   row_widths = three_long;
-  widths = each_of_two (λ (g : Given). length g.row ≡ 2) (generator (pos 1 ∷ pos 0 ∷ [])) (generator (pos 0 ∷ pos 1 ∷ [])) refl refl;
+  widths = each_two (λ (g : Given). length g.row ≡ 2) (generator (pos 1 ∷ pos 0 ∷ [])) (generator (pos 0 ∷ pos 1 ∷ [])) refl refl;
   described = λ u l. (made u l, λ g. ((λ r k. absurd (contains_none r k)), met u g));
   reduced = λ r line k m. absurd (contains_none line m);
   lowest = each_of_three IsPrimitive (pos 0 ∷ pos 1 ∷ []) (pos 1 ∷ pos 0 ∷ []) (pos 1 ∷ pos 1 ∷ []) (primitive_at (pos 0 ∷ pos 1 ∷ []) 1 refl) (primitive_at (pos 1 ∷ pos 0 ∷ []) 0 refl)
@@ -162,7 +159,7 @@ half_line_saturation = record {
         (at (pos 1 ∷ pos 1 ∷ []) (omega (arith, ints)) (omega (arith, ints)))
       where
         at : (r : List ℤ) → pos 0 ≤ℤ product r (pos 1 ∷ pos 0 ∷ []) → pos 0 ≤ℤ product r (pos 0 ∷ pos 1 ∷ []) → pos 0 ≤ℤ product r u
-        at r p q = generated_nonneg r ((pos 1 ∷ pos 0 ∷ []) ∷ (pos 0 ∷ pos 1 ∷ []) ∷ []) (entry u) (each_of_two (λ (t : List ℤ). pos 0 ≤ℤ product r t) (pos 1 ∷ pos 0 ∷ []) (pos 0 ∷ pos 1 ∷ []) p q)
+        at r p q = generated_nonneg r ((pos 1 ∷ pos 0 ∷ []) ∷ (pos 0 ∷ pos 1 ∷ []) ∷ []) (entry u) (each_two (λ (t : List ℤ). pos 0 ≤ℤ product r t) (pos 1 ∷ pos 0 ∷ []) (pos 0 ∷ pos 1 ∷ []) p q)
             (gen_generated half_line (entry u) g)
 
 -- ---- orders

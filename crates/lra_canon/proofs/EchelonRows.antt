@@ -5,7 +5,7 @@ use Rattle.std.proofs.Common.{None}
 use Rattle.std.specs.List.{Contains}
 use Rattle.std.proofs.lemmas.Int.{ints}
 use Rattle.std.proofs.lemmas.List.{take_more, take_all}
-use Rattle.std.proofs.lemmas.List.Elements.{All-contains, Contains-append_cases, Contains-append_left, Contains-append_right, Contains-get_or}
+use Rattle.std.proofs.lemmas.List.Elements.{All-contains, Contains-append_cases, Contains-append_left, Contains-append_right}
 use Rattle.lra_linear.specs.Cones.{both_ways}
 use Rattle.lra_linear.specs.Echelon.{IsEchelon, IsEchelonOf, Spanned, pivot}
 use Rattle.lra_linear.specs.LowestTerms.{IsPrimitive}
@@ -13,27 +13,22 @@ use Rattle.lra_linear.specs.Vectors.{blend, entry, product, signed_sum}
 use Rattle.lra_linear.proofs.EchelonExtension.{ClearedRows, cleared_exist}
 use Rattle.lra_linear.proofs.FlatRows.{member_primitive, signed_primitive}
 use Rattle.lra_linear.proofs.Lines.{described_generated}
-use Rattle.lra_linear.proofs.Membership.{contains_cases, contains_head, contains_none, contains_tail}
+use Rattle.lra_linear.proofs.Membership.{all_from, contains_cases, contains_head, contains_none, contains_tail}
 use Rattle.lra_linear.proofs.Pivots.{echelon_apart, echelon_positive}
-use Rattle.lra_linear.proofs.Products.{entry_blend, entry_negated, negated_length, product_comm}
+use Rattle.lra_linear.proofs.Products.{entry_blend, entry_negated, product_comm}
 use Rattle.lra_linear.proofs.Ring.{ring, v, ⊖, ◌⊕◌, ◌⊗◌}
 use Rattle.lra_linear.proofs.Signs.{not_both, zero_at_least}
-use Rattle.lra_linear.proofs.Spans.{echelon_rows_at_most, echelon_unique, spanned_divided, spanned_head, spanned_linear, spanned_row, spanned_same, spanned_through}
+use Rattle.lra_linear.proofs.Spans.{echelon_rows_at_most, echelon_unique, spanned_divided, spanned_head, spanned_linear, spanned_more, spanned_row, spanned_same, spanned_through}
 use Rattle.lra_row.specs.declared.error.RowError.{RowError}
 use Rattle.lra_row.specs.declared.error.RowError.TheVariants.{Excess, Memory}
 use Rattle.lra_canon.specs.Reduced.{IsForm, SolvesAll, IsAlong, IsCleared, IsReducedBy}
 use Rattle.lra_canon.specs.Echelons.{SameEqualities, HaveWidth, IsOneForm, AreCleared, IsDirected, IsPlaced, IsInserted, IsExtended, IsExtensionExcess, Extends, IsFirstRowExcess, IsEchelonExcess}
 use Rattle.lra_canon.proofs.Chains.{chain_passes, split_at, step_length}
+use Rattle.lra_canon.proofs.EchelonSteps.{directed_width}
 use Rattle.lra_canon.proofs.Extension.{cleared_rows, placed_extension}
-use Rattle.lra_canon.proofs.Solutions.{all_widths, farkas, signed_spanned, solves_all, spanned_solved, sum_none}
+use Rattle.lra_canon.proofs.Solutions.{all_widths, farkas, have_width, signed_spanned, solves_all, spanned_solved, sum_none}
 
 -- ---- widths
-all_from : {A : Type 0} (P : A → Type 0) (xs : List A) → ((x : A) → Contains xs x → P x) → All P xs
-all_from P xs f = λ k d h. f (get_or xs k d) (Contains-get_or xs k d h)
-
-have_width : (w : ℕ) (rows : List (List ℤ)) → HaveWidth w rows → (r : List ℤ) → Contains rows r → length r ≡ w
-have_width w rows h r k = All-contains (λ (x : List ℤ). length x ≡ w) rows r h k
-
 cleared_widths : (w : ℕ) (line : List ℤ) (rows new : List (List ℤ)) → length line ≡ w → ((r : List ℤ) → Contains rows r → length r ≡ w) → AreCleared line rows new → (t : List ℤ) → Contains new t →
     length t ≡ w
 cleared_widths w line [] [] l h c t k = absurd (contains_none t k)
@@ -49,9 +44,6 @@ cleared_widths w line (r ∷ rows) (x ∷ new) l h c t k = elim (contains_cases 
     one (inr s) = step_length line r x (h r (contains_head r rows) ∙ sym l) s
 
 -- ---- the line of a row
-line_width : (rest line : List ℤ) → IsDirected rest (Some line) → length line ≡ length rest
-line_width rest line d = elim d.1 [ inl e ↦ ap length e | inr e ↦ ap length e ∙ negated_length rest ]
-
 line_zero : (rest line : List ℤ) → IsDirected rest (Some line) → (j : ℕ) → entry rest j ≡ pos 0 → entry line j ≡ pos 0
 line_zero rest line d j z = elim d.1 [
   | inl e ↦ ap (λ (x : List ℤ). entry x j) e ∙ z
@@ -96,9 +88,6 @@ row_spanned rows form row rest a h g =
     (omega arith))
     (spanned_linear rows (pos a.times) (negsuc 0) (entry rest) a.line g (h a.line a.on_line)))
 
-more_spanned : (x : List ℤ) (form : List (List ℤ)) (u : ℕ → ℤ) → Spanned form u → Spanned (x ∷ form) u
-more_spanned x form u g = spanned_through form (x ∷ form) u (λ t k. spanned_row (x ∷ form) t (contains_tail x t form k)) g
-
 -- ---- one more row
 pub record FormWith (form : List (List ℤ)) (row : List ℤ) (out : List (List ℤ)) : Type 0 where
   pub pivots : List ℕ
@@ -111,11 +100,11 @@ line_for_row : (form : List (List ℤ)) (row rest line : List ℤ) → IsAlong f
 line_for_row form row rest line a d u = (
   spanned_through (line ∷ form) (row ∷ form) u (λ t k. elim (contains_cases line t form k) [
     | inl e ↦ subst (λ (x : List ℤ). Spanned (row ∷ form) (entry x)) e (line_spanned (row ∷ form) rest line d
-        (reduced_spanned (row ∷ form) form row rest a (more_spanned row form) (spanned_head row form)))
+        (reduced_spanned (row ∷ form) form row rest a (spanned_more row form) (spanned_head row form)))
     | inr m ↦ spanned_row (row ∷ form) t (contains_tail row t form m)
   ]),
   spanned_through (row ∷ form) (line ∷ form) u (λ t k. elim (contains_cases row t form k) [
-    | inl e ↦ subst (λ (x : List ℤ). Spanned (line ∷ form) (entry x)) e (row_spanned (line ∷ form) form row rest a (more_spanned line form)
+    | inl e ↦ subst (λ (x : List ℤ). Spanned (line ∷ form) (entry x)) e (row_spanned (line ∷ form) form row rest a (spanned_more line form)
         (rest_spanned (line ∷ form) rest line d (spanned_head line form)))
     | inr m ↦ spanned_row (line ∷ form) t (contains_tail line t form m)
   ]),
@@ -153,7 +142,7 @@ extended_form form row out f w x = by_case x.extended
           pivots = f.0;
           echelon = subst (λ (rows : List (List ℤ)). IsEchelon rows f.0) (sym n.1) f.1;
           same = λ u. (
-            (λ g. more_spanned row form u (subst (λ (rows : List (List ℤ)). Spanned rows u) n.1 g)),
+            (λ g. spanned_more row form u (subst (λ (rows : List (List ℤ)). Spanned rows u) n.1 g)),
             (λ g. subst (λ (rows : List (List ℤ)). Spanned rows u) (sym n.1) (spanned_through (row ∷ form) form u (λ t k. elim (contains_cases row t form k) [
               | inl e ↦ subst (λ (y : List ℤ). Spanned form (entry y)) e (at form (λ z q. q))
               | inr m ↦ spanned_row form t m
@@ -161,7 +150,7 @@ extended_form form row out f w x = by_case x.extended
           );
         }
     by_case (inr (line, d, i)) =
-        let wide : (r : List ℤ) → Contains form r → length r ≡ length line = λ r k. w r k ∙ sym (line_width x.rest line d ∙ x.reduced.same_length) in
+        let wide : (r : List ℤ) → Contains form r → length r ≡ length line = λ r k. w r k ∙ sym (directed_width x.rest line d ∙ x.reduced.same_length) in
         subst (λ (rows : List (List ℤ)). FormWith form row rows) (sym i.result)
         (line_form form row x.rest line i.low i.new i.high f x.reduced d i.placed (low_cleared form line i.low i.new i.high f wide d.0 i.placed i.cleared))
 
@@ -171,7 +160,7 @@ extended_widths w form row out h l x = by_case x.extended
     by_case : (IsDirected x.rest None × (out ≡ form)) ⊎ ((line : List ℤ) × IsDirected x.rest (Some line) × IsInserted form line out) → HaveWidth w out
     by_case (inl n) = subst (λ (rows : List (List ℤ)). HaveWidth w rows) (sym n.1) h
     by_case (inr (line, d, i)) =
-        let wl : length line ≡ w = line_width x.rest line d ∙ x.reduced.same_length ∙ l in
+        let wl : length line ≡ w = directed_width x.rest line d ∙ x.reduced.same_length ∙ l in
         let inside : (r : List ℤ) → Contains (i.low ++ i.high) r → length r ≡ w = λ r k. have_width w form h r (subst (λ (rows : List (List ℤ)). Contains rows r) (sym i.placed.is) k) in
         subst (λ (rows : List (List ℤ)). HaveWidth w rows) (sym i.result) (all_from (λ (r : List ℤ). length r ≡ w) (i.new ++ line ∷ i.high)
         (λ t k. elim (Contains-append_cases i.new (line ∷ i.high) t k) [
@@ -205,7 +194,7 @@ span_push rows form row f u = (
     | inr m ↦ spanned_through rows (rows ++ row ∷ []) (entry t) (λ s n. spanned_row (rows ++ row ∷ []) s (Contains-append_left rows (row ∷ []) s n)) ((f.same (entry t)).0 (spanned_row form t m))
   ]),
   spanned_through (rows ++ row ∷ []) (row ∷ form) u (λ t k. elim (Contains-append_cases rows (row ∷ []) t k) [
-    | inl n ↦ more_spanned row form (entry t) ((f.same (entry t)).1 (spanned_row rows t n))
+    | inl n ↦ spanned_more row form (entry t) ((f.same (entry t)).1 (spanned_row rows t n))
     | inr n ↦ elim (contains_cases row t [] n) [ inl e ↦ subst (λ (y : List ℤ). Spanned (row ∷ form) (entry y)) e (spanned_head row form) | inr m ↦ absurd (contains_none t m) ]
   ]),
 )
@@ -321,7 +310,7 @@ extension_strains rows form i row (Excess e) h l g f (inr x) =
     let p = x.passes in
     let q = p.passes in
     let widths : (r : List ℤ) → Contains form r → length r ≡ w = λ r k. All-contains (λ (y : List ℤ). length y ≡ w) form r (form_width rows form i row h l g f) k in
-    let wl : length line ≡ w = line_width x.rest line x.directed ∙ x.reduced.same_length in
+    let wl : length line ≡ w = directed_width x.rest line x.directed ∙ x.reduced.same_length in
     let inside : (r : List ℤ) → Contains p.low r → Contains form r = λ r k. subst (λ (y : List (List ℤ)). Contains y r) (sym p.placed.is) (Contains-append_left p.low p.high r k) in
     let has : Contains form q.row = inside q.row (subst (λ (y : List (List ℤ)). Contains y q.row) (sym q.is) (Contains-append_right q.earlier (q.row ∷ q.later) q.row (contains_head q.row q.later))) in
     let new = cleared_exist line (pivot line) p.low (λ r k. (

@@ -10,21 +10,19 @@ use Rattle.std.proofs.lemmas.List.Elements.{Contains-append_right}
 use Rattle.lra_linear.specs.Echelon.{Before, IsEchelon, Leads, Spanned, lead_from, pivot}
 use Rattle.lra_linear.specs.LowestTerms.{IsPrimitive}
 use Rattle.lra_linear.specs.Vectors.{entry, negated}
-use Rattle.lra_linear.proofs.EchelonExtension.{ClearedRow, ClearedRows, echelon_insert, extension_span}
+use Rattle.lra_linear.proofs.EchelonExtension.{ClearedRow, ClearedRows, before_trans, echelon_insert, extension_span}
 use Rattle.lra_linear.proofs.Membership.{contains_cases, contains_head, contains_none, contains_tail}
 use Rattle.lra_linear.proofs.Pivots.{echelon_positive, pivot_is}
 use Rattle.lra_linear.proofs.Products.{entry_negated}
 use Rattle.lra_linear.proofs.Ring.{ring, v, ⊖, ◌⊕◌, ◌⊗◌}
 use Rattle.lra_linear.proofs.Signs.{as_nat, not_both, positive_is_nonnegative, positive_nat}
+use Rattle.lra_linear.proofs.Widening.{zero_said}
 use Rattle.lra_canon.specs.Echelons.{AreCleared, IsPlaced, StartsBehind}
 use Rattle.lra_canon.specs.Reduced.{IsForm, IsCleared}
 use Rattle.lra_canon.proofs.Chains.{step_entry}
 use Rattle.lra_canon.proofs.Solutions.{pivot_of_some}
 
 -- ---- the pivot of a row
-zero_of : (x : ℤ) → int_eq x (pos 0) ≡ true → x ≡ pos 0
-zero_of x e = (signed_Decides x (pos 0)).0 e
-
 other_of : (x : ℤ) → int_eq x (pos 0) ≡ false → ¬ (x ≡ pos 0)
 other_of x e z = absurd (true≢false (sym ((signed_Decides x (pos 0)).1 z) ∙ e))
 
@@ -42,12 +40,12 @@ lead_search (x ∷ xs) j = step (int_eq x (pos 0)) refl (lead_search xs (suc j))
     step true e (inl f) = inl (f.0, λ i. all i f.1)
       where
         all : (i : ℕ) → ((k : ℕ) → entry xs k ≡ pos 0) → entry (x ∷ xs) i ≡ pos 0
-        all zero h = zero_of x e
+        all zero h = zero_said x e
         all (suc i) h = h i
     step true e (inr f) = inr (suc f.0, f.1 ∙ omega arith, f.2, λ i l. all i l f.3)
       where
         all : (i : ℕ) → i < suc f.0 → ((k : ℕ) → k < f.0 → entry xs k ≡ pos 0) → entry (x ∷ xs) i ≡ pos 0
-        all zero l h = zero_of x e
+        all zero l h = zero_said x e
         all (suc i) l h = h i (omega (arith, l))
 
 before_found : (x : ℤ) (xs : List ℤ) (p j : ℕ) → Found xs 1 p → Before j p → entry (x ∷ xs) j ≡ pos 0
@@ -86,9 +84,6 @@ negated_leads r h =
     opposite z h = omega (arith, ints, h)
 
 -- ---- the order of the columns
-before_trans : (i j k : ℕ) → Before i j → Before j k → Before i k
-before_trans i j k h l = (h.0, elim l.1 [ inl m ↦ inl (elim h.1 [ inl n ↦ omega arith | inr n ↦ absurd (let z = l.0 in omega arith) ]) | inr m ↦ inr m ])
-
 -- of two columns one comes before the other, or they are one
 before_or : (i j : ℕ) → ¬ (Before i j) → (i ≡ j) ⊎ Before j i
 before_or zero zero n = inl refl
@@ -103,7 +98,7 @@ before_or (suc i) (suc j) n = elim (cases_lt j i) [
 ]
 
 -- ---- the rows of a form
-member_leads : (form : List (List ℤ)) (ps : List ℕ) → IsEchelon form ps → (r : List ℤ) → Contains form r → Leads r (pivot r)
+pub member_leads : (form : List (List ℤ)) (ps : List ℕ) → IsEchelon form ps → (r : List ℤ) → Contains form r → Leads r (pivot r)
 member_leads form ps e r k = leads_at_pivot r (echelon_positive form ps e r k)
 
 -- the pivots of the first rows, and of the others

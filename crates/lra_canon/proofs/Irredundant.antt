@@ -6,7 +6,7 @@ use Rattle.std.specs.List.{Contains}
 use Rattle.std.proofs.lemmas.Bool.{cases_lt}
 use Rattle.std.proofs.lemmas.Int.{ints}
 use Rattle.std.proofs.lemmas.List.{length-replicate, length-set}
-use Rattle.std.proofs.lemmas.List.Elements.{All-contains, Contains-append_cases, Contains-append_left, Contains-append_right, Contains-get_or}
+use Rattle.std.proofs.lemmas.List.Elements.{Contains-append_cases, Contains-append_left, Contains-append_right, Contains-get_or}
 use Rattle.lra_linear.specs.Canonical.{IsCanonical}
 use Rattle.lra_linear.specs.Cones.{AreDual, Generated, Solves, all_rows, both_ways}
 use Rattle.lra_linear.specs.Descriptions.{Given, system_of}
@@ -28,12 +28,9 @@ use Rattle.lra_bits.specs.Matrix.{Matrix, unmarked}
 use Rattle.lra_canon.specs.Echelons.{HaveWidth}
 use Rattle.lra_canon.specs.Irredundant.{Solutions, IsSaturation, IsCovered, AreMarks, IsIrredundant, WithoutRedundant}
 use Rattle.lra_canon.proofs.Marks.{one_mark, left_place, two_places}
-use Rattle.lra_canon.proofs.Solutions.{all_widths, farkas, pivot_of_some, solves_all}
+use Rattle.lra_canon.proofs.Solutions.{all_widths, farkas, have_width, pivot_of_some, solves_all}
 
 -- ---- the rows and the generators are the two descriptions of one cone
-have_width : (w : ℕ) (rows : List (List ℤ)) → HaveWidth w rows → (r : List ℤ) → Contains rows r → length r ≡ w
-have_width w rows h r k = All-contains (λ (x : List ℤ). length x ≡ w) rows r h k
-
 solves_solutions : (form rows : List (List ℤ)) (u : List ℤ) → Solves (all_rows form rows) (entry u) → Solutions form rows u
 solves_solutions form rows u s = (solves_all form rows u s, λ r k. s r (Contains-append_left rows (both_ways form) r k))
 

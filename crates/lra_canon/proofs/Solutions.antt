@@ -15,22 +15,23 @@ use Rattle.lra_linear.specs.Vectors.{behind_zero, dot, entry, negated, product, 
 use Rattle.lra_linear.proofs.AllPairs.{step_rows_are, kept_only, pairs_only}
 use Rattle.lra_linear.proofs.Combinations.{generated_same, generated_zero}
 use Rattle.lra_linear.proofs.Duality.{dual_step}
-use Rattle.lra_linear.proofs.Lines.{described_generated, generated_described, in_lines, in_lines_negated, signed_from, whole_described}
+use Rattle.lra_linear.proofs.Lines.{described_generated, generated_described, in_lines, in_lines_negated, signed_from, whole_described, zeros_length}
 use Rattle.lra_linear.proofs.LowestTerms.{same_multiple}
 use Rattle.lra_linear.proofs.Membership.{contains_cases, contains_head, contains_none, contains_tail}
+use Rattle.lra_linear.proofs.OneSpelling.{dot_zeros}
 use Rattle.lra_linear.proofs.Pivots.{pivot_is}
 use Rattle.lra_linear.proofs.Products.{blend_length, dot_plus, dot_same, dot_scale, dot_zero, entry_past, negated_dot, negated_length, product_comm, row_same}
 use Rattle.lra_linear.proofs.Ring.{ring, v, ⊖, ◌⊕◌, ◌⊗◌, mul_nonnegative}
 use Rattle.lra_linear.proofs.Signs.{between_opposites, cancel_same, divide_nonnegative, no_product}
 use Rattle.lra_linear.proofs.Spans.{all_zero}
+use Rattle.lra_canon.specs.Echelons.{HaveWidth}
 use Rattle.lra_canon.specs.Reduced.{IsForm, SolvesAll, SameSolutions, IsAlong, IsReducedBy, IsOneReduced}
 
--- ---- each system has a description
-zeros_length : (n : ℕ) → length (zeros n) ≡ n
-zeros_length zero = refl
-zeros_length (suc n) = ap suc (zeros_length n)
+pub have_width : (w : ℕ) (rows : List (List ℤ)) → HaveWidth w rows → (r : List ℤ) → Contains rows r → length r ≡ w
+have_width w rows h r k = All-contains (λ (x : List ℤ). length x ≡ w) rows r h k
 
-behind_zero_from : (rows : List (List ℤ)) (t : List ℤ) → Contains (behind_zero rows) t → (r : List ℤ) × Contains rows r × (t ≡ pos 0 ∷ r)
+-- ---- each system has a description
+pub behind_zero_from : (rows : List (List ℤ)) (t : List ℤ) → Contains (behind_zero rows) t → (r : List ℤ) × Contains rows r × (t ≡ pos 0 ∷ r)
 behind_zero_from [] t k = absurd (contains_none t k)
 behind_zero_from (r ∷ rows) t k = elim (contains_cases (pos 0 ∷ r) t (behind_zero rows) k) [
   | inl e ↦ (r, contains_head r rows, sym e)
@@ -44,17 +45,12 @@ behind_zero_to (x ∷ rows) r k = elim (contains_cases x r rows k) [
   | inr d ↦ contains_tail (pos 0 ∷ x) (pos 0 ∷ r) (behind_zero rows) (behind_zero_to rows r d)
 ]
 
-units_width : (n : ℕ) (t : List ℤ) → Contains (units n) t → length t ≡ n
+pub units_width : (n : ℕ) (t : List ℤ) → Contains (units n) t → length t ≡ n
 units_width zero t k = absurd (contains_none t k)
 units_width (suc n) t k = elim (contains_cases (pos 1 ∷ zeros n) t (behind_zero (units n)) k) [
   | inl e ↦ ap length (sym e) ∙ ap suc (zeros_length n)
   | inr d ↦ let i = behind_zero_from (units n) t d in ap length i.2 ∙ ap suc (units_width n i.0 i.1)
 ]
-
--- the product with a row of zeros, and with a unit row
-zeros_product : (n : ℕ) (u : ℕ → ℤ) → dot (zeros n) u ≡ pos 0
-zeros_product zero u = refl
-zeros_product (suc n) u = ap (λ z. (pos 0 *ℤ u 0) +ℤ z) (zeros_product n (λ j. u (suc j))) ∙ ring (v (pos 0) ⊗ v (u 0) ⊕ v (pos 0)) (v (pos 0)) (omega arith)
 
 -- a unit row for each column
 unit_at : (n j : ℕ) → j < n → (t : List ℤ) × Contains (units n) t × ((u : ℕ → ℤ) → dot t u ≡ u j)
@@ -62,7 +58,7 @@ unit_at zero j h = absurd (omega (arith, h))
 unit_at (suc n) zero h = (
   pos 1 ∷ zeros n,
   contains_head (pos 1 ∷ zeros n) (behind_zero (units n)),
-  λ u. ap (λ z. (pos 1 *ℤ u 0) +ℤ z) (zeros_product n (λ j. u (suc j))) ∙ ring (v (pos 1) ⊗ v (u 0) ⊕ v (pos 0)) (v (u 0)) (omega arith),
+  λ u. ap (λ z. (pos 1 *ℤ u 0) +ℤ z) (dot_zeros n (λ j. u (suc j))) ∙ ring (v (pos 1) ⊗ v (u 0) ⊕ v (pos 0)) (v (u 0)) (omega arith),
 )
 unit_at (suc n) (suc j) h =
     let i = unit_at n j (omega (arith, h)) in (
@@ -72,7 +68,7 @@ unit_at (suc n) (suc j) h =
     )
 
 -- no row but that of zeros is at least 0 with all unit rows in both directions
-units_none : (n : ℕ) (c : List ℤ) → length c ≡ n → Solves (both_ways (units n)) (entry c) → (j : ℕ) → entry c j ≡ pos 0
+pub units_none : (n : ℕ) (c : List ℤ) → length c ≡ n → Solves (both_ways (units n)) (entry c) → (j : ℕ) → entry c j ≡ pos 0
 units_none n c l s j = elim (cases_lt j n) [
   | inl h ↦
       let t = unit_at n j h in
@@ -83,7 +79,7 @@ units_none n c l s j = elim (cases_lt j n) [
 ]
 
 -- the whole space
-whole_dual : (n : ℕ) → AreDual n [] (both_ways (units n))
+pub whole_dual : (n : ℕ) → AreDual n [] (both_ways (units n))
 whole_dual n = record {
   system_widths = λ c k. absurd (contains_none c k);
   row_widths = λ t k.

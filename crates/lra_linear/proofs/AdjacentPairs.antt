@@ -182,7 +182,7 @@ support system (r ∷ rows) h (suc f ∷ fs) =
       ];
     }
 
-both_positive : (k a : ℕ) → 0 < k → 0 < a → 0 < k * a
+pub both_positive : (k a : ℕ) → 0 < k → 0 < a → 0 < k * a
 both_positive k a p q = grind arith
 
 -- ---- one step with pairs left out: what is told of the setting stands in `AdjacentStep`

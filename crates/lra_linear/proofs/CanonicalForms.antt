@@ -30,7 +30,7 @@ spanned_in_cone lines rays u g =
     (generated_right rays (both_ways lines) (signed_sum g.factors lines) (lines_generated lines g.factors)))
 
 -- and so does its opposite
-spanned_negative : (lines : List (List ℤ)) (u : ℕ → ℤ) → Spanned lines u → Spanned lines (λ j. neg_ℤ (u j))
+pub spanned_negative : (lines : List (List ℤ)) (u : ℕ → ℤ) → Spanned lines u → Spanned lines (λ j. neg_ℤ (u j))
 spanned_negative lines u g = spanned_same lines (λ j. (negsuc 0 *ℤ u j) +ℤ (pos 0 *ℤ u j)) (λ j. neg_ℤ (u j)) (λ j. ring (v (negsuc 0) ⊗ v (u j) ⊕ v (pos 0) ⊗ v (u j)) (⊖ (v (u j))) (omega arith))
     (spanned_linear lines (negsuc 0) (pos 0) u u g g)
 
@@ -142,7 +142,7 @@ ray_extreme lines rays r c k =
 abbrev pub SameCone : (lines rays lines' rays' : List (List ℤ)) → Type 0
 SameCone lines rays lines' rays' = (u : ℕ → ℤ) → (Generated (all_rows lines rays) u → Generated (all_rows lines' rays') u) × (Generated (all_rows lines' rays') u → Generated (all_rows lines rays) u)
 
-on_lines : (lines : List (List ℤ)) (l : ℕ → ℤ) → Generated (both_ways lines) l → Spanned lines l
+pub on_lines : (lines : List (List ℤ)) (l : ℕ → ℤ) → Generated (both_ways lines) l → Spanned lines l
 on_lines lines l g =
     let d = described_generated lines [] l g in
     record {

@@ -44,7 +44,7 @@ cleared_from r p (e ∷ es) (x ∷ ts) f t k = elim (contains_cases x t ts k) [
 ]
 
 -- the order of the columns is transitive
-before_trans : (i j k : ℕ) → Before i j → Before j k → Before i k
+pub before_trans : (i j k : ℕ) → Before i j → Before j k → Before i k
 before_trans i j k h l = (h.0, elim l.1 [ inl m ↦ inl (elim h.1 [ inl n ↦ omega arith | inr n ↦ absurd (let z = l.0 in omega arith) ]) | inr m ↦ inr m ])
 
 -- the form with the row in its place, and the rows before it cleared, is an echelon form

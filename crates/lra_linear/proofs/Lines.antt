@@ -140,7 +140,11 @@ signed_zero l s (inl e) j h = ap (λ (y : List ℤ). entry y j) e ∙ h
 signed_zero l s (inr e) j h = ap (λ (y : List ℤ). entry y j) e ∙ entry_negated l j ∙ ap neg_ℤ h
 
 -- ---- the whole space
-entry_zeros : (n j : ℕ) → entry (zeros n) j ≡ pos 0
+pub zeros_length : (n : ℕ) → length (zeros n) ≡ n
+zeros_length zero = refl
+zeros_length (suc n) = ap suc (zeros_length n)
+
+pub entry_zeros : (n j : ℕ) → entry (zeros n) j ≡ pos 0
 entry_zeros zero j = refl
 entry_zeros (suc n) zero = refl
 entry_zeros (suc n) (suc j) = entry_zeros n j

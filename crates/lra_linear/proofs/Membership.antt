@@ -1,10 +1,10 @@
 -- Members of a list, one element at a time (std has those of two lists that are joined); lists without repeats, and lists in order.
-use Rattle.std.proofs.Common.{Bool, List, [], ap, arith, cond, false, get_or, inl, inr, length, length-append, refl, subst, suc, sym, true, zero, ℕ, ◌++◌, ◌<◌, ◌∙◌, ◌∷◌, ◌≡◌, ◌≤◌, ◌⊎◌}
-use Rattle.std.specs.Prelude.{◌&&◌}
-use Rattle.std.proofs.lemmas.List.Elements.{Contains-append_cases, Contains-append_left, Contains-append_right}
-use Rattle.std.specs.List.{Contains, filter, list_all}
+use Rattle.std.proofs.Common.{Bool, List, [], ap, arith, cond, false, get_or, inl, inr, length, length-append, map, refl, subst, suc, sym, true, zero, ℕ, ◌++◌, ◌<◌, ◌∙◌, ◌∷◌, ◌≡◌, ◌≤◌, ◌⊎◌}
+use Rattle.std.proofs.lemmas.List.Elements.{Contains-append_cases, Contains-append_left, Contains-append_right, Contains-get_or}
+use Rattle.std.specs.List.{All, Contains, filter, list_all}
 use Rattle.std.specs.declared.cmp.Ordering.{Ordering}
 use Rattle.std.specs.declared.cmp.Ordering.TheVariants.{Less}
+use Rattle.std.proofs.lemmas.Bool.{and_parts}
 use Rattle.lra_linear.specs.RowOrder.{Ascends}
 
 -- nothing is in the empty list
@@ -25,6 +25,25 @@ at_cases y x xs (suc k) h e = inr (k, omega (arith, h), e)
 -- a member of a list is its first element, or a later one
 pub contains_cases : {A : Type 0} (y x : A) (xs : List A) → Contains (y ∷ xs) x → (y ≡ x) ⊎ Contains xs x
 contains_cases y x xs h = at_cases y x xs h.0 h.1 h.2
+
+-- what each member is, all are
+pub all_from : {A : Type 0} (P : A → Type 0) (xs : List A) → ((x : A) → Contains xs x → P x) → All P xs
+all_from P xs f = λ k d h. f (get_or xs k d) (Contains-get_or xs k d h)
+
+-- the members of a mapped list
+pub map_has : {A B : Type 0} (f : A → B) (xs : List A) (x : A) → Contains xs x → Contains (map f xs) (f x)
+map_has f [] x k = absurd (contains_none x k)
+map_has f (y ∷ xs) x k = elim (contains_cases y x xs k) [
+  | inl e ↦ subst (λ z. Contains (f y ∷ map f xs) (f z)) e (contains_head (f y) (map f xs))
+  | inr d ↦ contains_tail (f y) (f x) (map f xs) (map_has f xs x d)
+]
+
+pub map_from : {A B : Type 0} (f : A → B) (xs : List A) (y : B) → Contains (map f xs) y → (x : A) × Contains xs x × (f x ≡ y)
+map_from f [] y k = absurd (contains_none y k)
+map_from f (x ∷ xs) y k = elim (contains_cases (f x) y (map f xs) k) [
+  | inl e ↦ (x, contains_head x xs, e)
+  | inr d ↦ let i = map_from f xs y d in (i.0, contains_tail x i.0 xs i.1, i.2)
+]
 
 -- ---- splits
 pub contains_middle : {A : Type 0} (front : List A) (x : A) (back : List A) (t : A) → Contains (x ∷ front ++ back) t → Contains (front ++ x ∷ back) t
@@ -84,15 +103,11 @@ same_ascending cmp asym (x ∷ xs) (y ∷ ys) a b same =
     cc
 
 -- ---- tests of all members, and those that pass
-pub both_true : (a b : Bool) → (a && b) ≡ true → (a ≡ true) × (b ≡ true)
-both_true true b h = (refl, h)
-both_true false b h = cc
-
 -- what all pass, each member passes, and the other way round
 pub list_all_at : {A : Type 0} (test : A → Bool) (xs : List A) → list_all test xs ≡ true → (x : A) → Contains xs x → test x ≡ true
 list_all_at test [] h x k = absurd (contains_none x k)
 list_all_at test (y ∷ xs) h x k =
-    let both = both_true (test y) (list_all test xs) h in
+    let both = and_parts (test y) (list_all test xs) h in
     elim (contains_cases y x xs k) [ inl e ↦ ap test (sym e) ∙ both.0 | inr d ↦ list_all_at test xs both.1 x d ]
 
 pub list_all_from : {A : Type 0} (test : A → Bool) (xs : List A) → ((x : A) → Contains xs x → test x ≡ true) → list_all test xs ≡ true

@@ -31,7 +31,7 @@ given_from b (r ∷ rows) g k = elim (contains_cases (let x : Given = record { r
   | inr d ↦ let i = given_from b rows g d in (i.0, contains_tail r g.row rows i.1)
 ]
 
-given_has : (b : Bool) (rows : List (List ℤ)) (r : List ℤ) → Contains rows r → Contains (given_as b rows) (record { row = r; equal = b })
+pub given_has : (b : Bool) (rows : List (List ℤ)) (r : List ℤ) → Contains rows r → Contains (given_as b rows) (record { row = r; equal = b })
 given_has b [] r k = absurd (contains_none r k)
 given_has b (x ∷ rows) r k = elim (contains_cases x r rows k) [
   | inl e ↦ subst (λ y. Contains (given_as b (x ∷ rows)) (record { row = y; equal = b })) e (contains_head (let g : Given = record { row = x; equal = b } in g) (given_as b rows))
@@ -39,7 +39,7 @@ given_has b (x ∷ rows) r k = elim (contains_cases x r rows k) [
 ]
 
 -- ---- the positivity row holds at each point
-dot_zeros : (n : ℕ) (u : ℕ → ℤ) → dot (zeros n) u ≡ pos 0
+pub dot_zeros : (n : ℕ) (u : ℕ → ℤ) → dot (zeros n) u ≡ pos 0
 dot_zeros zero u = refl
 dot_zeros (suc n) u = ap (λ z. (pos 0 *ℤ u 0) +ℤ z) (dot_zeros n (λ j. u (suc j))) ∙ ring (v (pos 0) ⊗ v (u 0) ⊕ v (pos 0)) (v (pos 0)) (omega arith)
 

@@ -15,7 +15,7 @@ use Rattle.lra_linear.proofs.Signs.{no_product, not_both}
 
 -- ---- lines and rays of joined lists
 -- joined lists
-lines_of_append : (xs ys : List Given) → lines_of (xs ++ ys) ≡ lines_of xs ++ lines_of ys
+pub lines_of_append : (xs ys : List Given) → lines_of (xs ++ ys) ≡ lines_of xs ++ lines_of ys
 lines_of_append [] ys = refl
 lines_of_append (x ∷ xs) ys = by_kind x.equal (lines_of_append xs ys)
   where
@@ -24,7 +24,7 @@ lines_of_append (x ∷ xs) ys = by_kind x.equal (lines_of_append xs ys)
     by_kind true e = ap (λ l. x.row ∷ l) e
     by_kind false e = e
 
-rays_of_append : (xs ys : List Given) → rays_of (xs ++ ys) ≡ rays_of xs ++ rays_of ys
+pub rays_of_append : (xs ys : List Given) → rays_of (xs ++ ys) ≡ rays_of xs ++ rays_of ys
 rays_of_append [] ys = refl
 rays_of_append (x ∷ xs) ys = by_kind x.equal (rays_of_append xs ys)
   where

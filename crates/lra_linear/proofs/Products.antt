@@ -11,6 +11,10 @@ entry_negated [] j = refl
 entry_negated (x ∷ xs) zero = refl
 entry_negated (x ∷ xs) (suc j) = entry_negated xs j
 
+pub negated_twice : (l : List ℤ) → negated (negated l) ≡ l
+negated_twice [] = refl
+negated_twice (x ∷ l) = ap (λ y. y ∷ negated (negated l)) (ring (⊖ (⊖ (v x))) (v x) (omega arith)) ∙ ap (λ y. x ∷ y) (negated_twice l)
+
 pub negated_length : (r : List ℤ) → length (negated r) ≡ length r
 negated_length [] = refl
 negated_length (x ∷ xs) = ap suc (negated_length xs)

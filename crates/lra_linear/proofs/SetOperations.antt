@@ -1,6 +1,6 @@
 -- The set operations on descriptions: the meet has the constraints of both, the preimage the substituted ones, and the hull the
 -- generators of both (by Farkas 1902: what all valid inequalities allow is what the generators generate).
-use Rattle.std.proofs.Common.{List, [], ap, arith, inl, inr, length, map, pos, refl, subst, suc, sym, zero, ℕ, ℤ, ◌*ℤ◌, ◌++◌, ◌+ℤ◌, ◌<ℤ◌, ◌<◌, ◌∙◌, ◌∷◌, ◌≡◌, ◌≤ℤ◌, ◌⊎◌}
+use Rattle.std.proofs.Common.{List, [], ap, arith, inl, inr, length, pos, refl, subst, suc, sym, zero, ℕ, ℤ, ◌*ℤ◌, ◌++◌, ◌+ℤ◌, ◌<ℤ◌, ◌<◌, ◌∙◌, ◌∷◌, ◌≡◌, ◌≤ℤ◌, ◌⊎◌}
 use Rattle.std.specs.Prelude.{slice_set}
 use Rattle.std.proofs.lemmas.List.Elements.{Contains-append_cases, Contains-append_left, Contains-append_right}
 use Rattle.std.specs.List.{Contains}
@@ -14,7 +14,7 @@ use Rattle.lra_linear.specs.Vectors.{blend, cleared, entry, product, substituted
 use Rattle.lra_linear.proofs.Combinations.{generated_plus, generated_row, generated_same, generated_times}
 use Rattle.lra_linear.proofs.Descriptions.{gen_generated, generated_gen, in_all_rows, in_system, system_from, system_there}
 use Rattle.lra_linear.proofs.LinearMaps.{generated_nonneg, generated_through}
-use Rattle.lra_linear.proofs.Membership.{contains_cases, contains_head, contains_none, contains_tail}
+use Rattle.lra_linear.proofs.Membership.{map_from, map_has}
 use Rattle.lra_linear.proofs.OneSpelling.{columns_of, far, gone, gone_divisor, gone_entry, gone_product, some_member}
 use Rattle.lra_linear.proofs.Polyhedra.{generators_lines, generators_rays}
 use Rattle.lra_linear.proofs.Products.{blend_length, dot_linear, dot_same, entry_blend, product_comm}
@@ -29,7 +29,7 @@ meet_con n rows more = (
 
 -- ---- preimage
 -- the product with a vector one entry of which is put in
-product_set : (r x : List ℤ) (k : ℕ) (z : ℤ) → k < length x → product r (slice_set x k z) ≡ product (cleared k r) x +ℤ (entry r k *ℤ z)
+pub product_set : (r x : List ℤ) (k : ℕ) (z : ℤ) → k < length x → product r (slice_set x k z) ≡ product (cleared k r) x +ℤ (entry r k *ℤ z)
 product_set [] x k z h = ring (v (pos 0)) (v (pos 0) ⊕ v (pos 0) ⊗ v z) (omega arith)
 product_set (c ∷ cs) [] k z h = absurd (omega (arith, h))
 product_set (c ∷ cs) (y ∷ ys) zero z h = ring (v c ⊗ v z ⊕ v (product cs ys)) ((v (pos 0) ⊗ v y ⊕ v (product cs ys)) ⊕ v c ⊗ v z) (omega arith)
@@ -54,22 +54,6 @@ substituted_product k form r x e h =
     blend_product (pos 1) (entry r k) (cleared k r) form x (cleared_length r k ∙ e) ∙
     ring (v (pos 1) ⊗ v (product (cleared k r) x) ⊕ v (entry r k) ⊗ v (product form x)) (v (product (cleared k r) x) ⊕ v (entry r k) ⊗ v (product form x)) (omega arith) ∙
     sym (product_set r x k (product form x) h)
-
--- the rows of a mapped list
-map_has : (f : Given → Given) (xs : List Given) (g : Given) → Contains xs g → Contains (map f xs) (f g)
-map_has f [] g k = absurd (contains_none g k)
-map_has f (x ∷ xs) g k = elim (contains_cases x g xs k) [
-  | inl e ↦ subst (λ y. Contains (map f (x ∷ xs)) (f y)) e (contains_head (f x) (map f xs))
-  | inr d ↦ contains_tail (f x) (f g) (map f xs)
-      (map_has f xs g d)
-]
-
-map_from : (f : Given → Given) (xs : List Given) (t : Given) → Contains (map f xs) t → (g : Given) × Contains xs g × (f g ≡ t)
-map_from f [] t k = absurd (contains_none t k)
-map_from f (x ∷ xs) t k = elim (contains_cases (f x) t (map f xs) k) [
-  | inl e ↦ (x, contains_head x xs, e)
-  | inr d ↦ let i = map_from f xs t d in (i.0, contains_tail x i.0 xs i.1, i.2)
-]
 
 pub preimage_con : (n k : ℕ) (form : List ℤ) (rows : List Given) → k < suc n → length form ≡ suc n → ((g : Given) → Contains rows g → length g.row ≡ suc n) →
     SameSet n (Preimage k form (Con rows)) (Con (substituted_rows k form rows))
@@ -125,7 +109,7 @@ valid_on_rows n generators h c valid t k = elim (h.columns t k) [
     same = h.widths h.vertex h.has ∙ sym (h.widths t k)
 
 -- the rows of joined lists
-system_append : (xs ys : List Given) (t : List ℤ) → Contains (system_of (xs ++ ys)) t → Contains (system_of xs) t ⊎ Contains (system_of ys) t
+pub system_append : (xs ys : List Given) (t : List ℤ) → Contains (system_of (xs ++ ys)) t → Contains (system_of xs) t ⊎ Contains (system_of ys) t
 system_append xs ys t k =
     let f = system_from (xs ++ ys) t k in
     elim (Contains-append_cases xs ys f.given f.has) [
@@ -133,7 +117,7 @@ system_append xs ys t k =
       | inr b ↦ inr (system_there ys t (record { given = f.given; has = b; sign = f.sign }))
     ]
 
-system_append_in : (xs ys : List Given) (t : List ℤ) → Contains (system_of xs) t ⊎ Contains (system_of ys) t → Contains (system_of (xs ++ ys)) t
+pub system_append_in : (xs ys : List Given) (t : List ℤ) → Contains (system_of xs) t ⊎ Contains (system_of ys) t → Contains (system_of (xs ++ ys)) t
 system_append_in xs ys t (inl k) = let f = system_from xs t k in system_there (xs ++ ys) t (record { given = f.given; has = Contains-append_left xs ys f.given f.has; sign = f.sign })
 system_append_in xs ys t (inr k) = let f = system_from ys t k in system_there (xs ++ ys) t (record { given = f.given; has = Contains-append_right xs ys f.given f.has; sign = f.sign })
 

@@ -18,7 +18,7 @@ signed_sum_none [] j = refl
 signed_sum_none (z ∷ zs) j = refl
 
 -- rows that are 0 in a column have sums that are 0 there
-sum_zero : (zs : List ℤ) (rows : List (List ℤ)) (j : ℕ) → ((t : List ℤ) → Contains rows t → entry t j ≡ pos 0) → signed_sum zs rows j ≡ pos 0
+pub sum_zero : (zs : List ℤ) (rows : List (List ℤ)) (j : ℕ) → ((t : List ℤ) → Contains rows t → entry t j ≡ pos 0) → signed_sum zs rows j ≡ pos 0
 sum_zero [] rows j h = refl
 sum_zero (z ∷ zs) [] j h = refl
 sum_zero (z ∷ zs) (r ∷ rows) j h =
@@ -69,7 +69,7 @@ spanned_linear rows a b u w g h =
 pub spanned_head : (r : List ℤ) (rows : List (List ℤ)) → Spanned (r ∷ rows) (entry r)
 spanned_head r rows = record { multiple = 1; positive = omega arith; factors = pos 1 ∷ []; is_sum = λ j. ring (v (pos 1) ⊗ v (entry r j)) (v (pos 1) ⊗ v (entry r j) ⊕ v (pos 0)) (omega arith) }
 
-spanned_more : (r : List ℤ) (rows : List (List ℤ)) (u : ℕ → ℤ) → Spanned rows u → Spanned (r ∷ rows) u
+pub spanned_more : (r : List ℤ) (rows : List (List ℤ)) (u : ℕ → ℤ) → Spanned rows u → Spanned (r ∷ rows) u
 spanned_more r rows u g = record {
   multiple = g.multiple;
   positive = g.positive;
@@ -115,7 +115,7 @@ spanned_through rows target u h g =
 
 -- ---- echelon forms
 -- with 0 at the first pivot, it is in the span of the rest
-drop_head : (r : List ℤ) (rows : List (List ℤ)) (p : ℕ) (u : ℕ → ℤ) → pos 0 <ℤ entry r p → ((t : List ℤ) → Contains rows t → entry t p ≡ pos 0) → u p ≡ pos 0 → Spanned (r ∷ rows) u → Spanned rows u
+pub drop_head : (r : List ℤ) (rows : List (List ℤ)) (p : ℕ) (u : ℕ → ℤ) → pos 0 <ℤ entry r p → ((t : List ℤ) → Contains rows t → entry t p ≡ pos 0) → u p ≡ pos 0 → Spanned (r ∷ rows) u → Spanned rows u
 drop_head r rows p u h zeros e g = by_factors g.factors g.is_sum
   where
     by_factors : (zs : List ℤ) → ((j : ℕ) → pos g.multiple *ℤ u j ≡ signed_sum zs (r ∷ rows) j) → Spanned rows u
@@ -140,7 +140,7 @@ all_zero (r ∷ rows) (p ∷ ps) ech u g h j =
     all_zero rows ps ech.4 u (drop_head r rows p u ech.0.here (λ t k. ech.2 t k p (inr refl)) (h p (0, omega arith, refl)) g) (λ q k. h q (suc k.0, omega (arith, k.1), k.2)) j
 
 -- nothing in the span has an entry before the first pivot
-early : (r : List ℤ) (rows : List (List ℤ)) (p : ℕ) (ps : List ℕ) → IsEchelon (r ∷ rows) (p ∷ ps) → (u : ℕ → ℤ) → Spanned (r ∷ rows) u → (j : ℕ) → Before j p → u j ≡ pos 0
+pub early : (r : List ℤ) (rows : List (List ℤ)) (p : ℕ) (ps : List ℕ) → IsEchelon (r ∷ rows) (p ∷ ps) → (u : ℕ → ℤ) → Spanned (r ∷ rows) u → (j : ℕ) → Before j p → u j ≡ pos 0
 early r rows p ps ech u g j h = no_product g.multiple (u j) g.positive (g.is_sum j ∙ sum_zero g.factors (r ∷ rows) j
     (λ t k. elim (contains_cases r t rows k) [ inl e ↦ subst (λ y. entry y j ≡ pos 0) e (ech.0.before j h) | inr d ↦ ech.2 t d j (inl h) ]))
 

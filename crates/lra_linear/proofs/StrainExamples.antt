@@ -6,6 +6,7 @@ use Rattle.std.proofs.Common.{◌≤ℤ◌, ◌⊎◌}
 use Rattle.std.specs.Prelude.{is_ok, ◌&&◌}
 use Rattle.std.proofs.lemmas.Int.{ints}
 use Rattle.std.specs.List.{Contains, list_all}
+use Rattle.std.proofs.lemmas.Bool.{and_parts}
 use Rattle.lra_linear.specs.Canonical.{IsCanonical}
 use Rattle.lra_linear.specs.CheckedArithmetic.{checked_blend, checked_product}
 use Rattle.lra_linear.specs.ConeStrain.{PairAcross, PairPasses, ProductPasses}
@@ -26,8 +27,8 @@ use Rattle.lra_linear.proofs.Descriptions.{con_head}
 use Rattle.lra_linear.proofs.LinearMaps.{separated}
 use Rattle.lra_linear.proofs.Lines.{generated_described}
 use Rattle.lra_linear.proofs.LowestTerms.{primitive_at}
-use Rattle.lra_linear.proofs.Membership.{both_true, contains_cases, contains_head, contains_none, contains_tail, each_one, each_three, each_two, list_all_at, split_none, split_one, split_two}
-use Rattle.lra_linear.proofs.Products.{entry_past}
+use Rattle.lra_linear.proofs.Membership.{contains_cases, contains_head, contains_none, contains_tail, each_one, each_three, each_two, list_all_at, split_none, split_one, split_two}
+use Rattle.lra_linear.proofs.Products.{entry_past, negated_twice}
 use Rattle.lra_linear.proofs.Ring.{ring, v, ⊖, ◌⊕◌, ◌⊗◌}
 use Rattle.lra_linear.proofs.Signs.{as_nat}
 
@@ -46,10 +47,10 @@ ok_not_err (Err f) e h k = cc
 
 pub fits_not_strained : (c : List ℤ) (rows : List (List ℤ)) → fits c rows ≡ true → (e : E.Excess) → ¬ (ProductPasses c rows e ⊎ PairPasses c rows e)
 fits_not_strained c rows h e (inl p) =
-    let b = both_true (list_all (λ u. is_ok (checked_product c u)) rows) (list_all (λ u. list_all (λ d. is_ok (checked_blend (neg_ℤ (product c d)) (product c u) u d)) rows) rows) h in
+    let b = and_parts (list_all (λ u. is_ok (checked_product c u)) rows) (list_all (λ u. list_all (λ d. is_ok (checked_blend (neg_ℤ (product c d)) (product c u) u d)) rows) rows) h in
     ok_not_err (checked_product c p.row) e (list_all_at (λ u. is_ok (checked_product c u)) rows b.0 p.row p.has) p.passes
 fits_not_strained c rows h e (inr p) =
-    let b = both_true (list_all (λ u. is_ok (checked_product c u)) rows) (list_all (λ u. list_all (λ d. is_ok (checked_blend (neg_ℤ (product c d)) (product c u) u d)) rows) rows) h in
+    let b = and_parts (list_all (λ u. is_ok (checked_product c u)) rows) (list_all (λ u. list_all (λ d. is_ok (checked_blend (neg_ℤ (product c d)) (product c u) u d)) rows) rows) h in
     ok_not_err (checked_blend (neg_ℤ (product c p.down)) (product c p.up) p.up p.down) e
     (list_all_at (λ d. is_ok (checked_blend (neg_ℤ (product c d)) (product c p.up) p.up d)) rows
     (list_all_at (λ u. list_all (λ d. is_ok (checked_blend (neg_ℤ (product c d)) (product c u) u d)) rows) rows b.1 p.up p.across.has_up) p.down p.across.has_down)
@@ -311,10 +312,6 @@ pub image_strains : (p : Polyhedron) (earlier later : List Given) → p.generato
 image_strains p earlier later k = inl (record { later = later; is = k; excess = record { op = Product; left = pos 2; right = pos greatest }; is_cause = refl; passes = twice_passes })
 
 -- ---- a line isn't taken with itself
-negated_twice : (l : List ℤ) → negated (negated l) ≡ l
-negated_twice [] = refl
-negated_twice (x ∷ l) = ap (λ y. y ∷ negated (negated l)) (ring (⊖ (⊖ (v x))) (v x) (omega arith)) ∙ ap (λ y. x ∷ y) (negated_twice l)
-
 pub line_with_itself : (c : List ℤ) (rows : List (List ℤ)) (l : List ℤ) → ¬ (PairAcross c rows l (negated l))
 line_with_itself c rows l p = p.apart (sym (negated_twice l))
 

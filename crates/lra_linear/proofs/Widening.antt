@@ -6,6 +6,7 @@ use Rattle.std.proofs.lemmas.List.Elements.{Contains-append_cases, Contains-appe
 use Rattle.std.specs.Cmp.{signed_Decides}
 use Rattle.std.specs.List.{Contains, list_all}
 use Rattle.std.specs.Ordering.{int_eq}
+use Rattle.std.proofs.lemmas.Bool.{and_parts}
 use Rattle.lra_linear.specs.Descriptions.{Con, Gen, Given, Holds, HoldsWith, system_of}
 use Rattle.lra_linear.specs.OperationStrain.{tight_on, valid_on}
 use Rattle.lra_linear.specs.Points.{IsPoint, SameSet}
@@ -15,7 +16,7 @@ use Rattle.lra_linear.specs.Vectors.{dot, entry, negated, product}
 use Rattle.lra_linear.specs.Widening.{Limited, Standard, StandardFrom, holds_with, is_tight, is_valid}
 use Rattle.lra_linear.proofs.Descriptions.{gen_generated, holds_at_least, system_from, system_has, system_has_negated}
 use Rattle.lra_linear.proofs.LinearMaps.{generated_nonneg}
-use Rattle.lra_linear.proofs.Membership.{both_true, contains_none, filter_from, filter_has, list_all_at, list_all_from}
+use Rattle.lra_linear.proofs.Membership.{contains_none, filter_from, filter_has, list_all_at, list_all_from}
 use Rattle.lra_linear.proofs.Polyhedra.{con_gen}
 use Rattle.lra_linear.proofs.Products.{dot_negated, negated_dot}
 use Rattle.lra_linear.proofs.SetOperations.{HasVertex, has_vertex, valid_on_rows}
@@ -23,7 +24,7 @@ use Rattle.lra_linear.proofs.Signs.{between_opposites, opposite_of_zero}
 
 -- ---- tests of numbers
 -- what the tests say
-zero_said : (z : ℤ) → int_eq z (pos 0) ≡ true → z ≡ pos 0
+pub zero_said : (z : ℤ) → int_eq z (pos 0) ≡ true → z ≡ pos 0
 zero_said z e = (signed_Decides z (pos 0)).0 e
 
 at_least_said : (z : ℤ) → int_le (pos 0) z ≡ true → pos 0 ≤ℤ z
@@ -130,7 +131,7 @@ limited_con p q given h k = (
     | inl a ↦ (standard_con p.dims p q some).0 x i l.0 g a
     | inr b ↦
         let f = filter_from (λ r. is_valid p r && is_valid q r) given g b in
-        let t = both_true (is_valid p g) (is_valid q g) f.1 in
+        let t = and_parts (is_valid p g) (is_valid q g) f.1 in
         l.1 g f.0 ((valid_decides p h g).0 t.0) ((valid_decides q k g).0 t.1)
   ],
   λ x i c. (

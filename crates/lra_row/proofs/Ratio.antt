@@ -1,5 +1,5 @@
 -- the comparison of two fractions, by one step of division
-use Rattle.std.proofs.Common.{ℕ, zero, suc, ◌≡◌, arith, ◌<◌, ◌*◌, ap, subst, sym, ◌∙◌, pos, negsuc, ℤ, ◌+ℤ◌, ◌*ℤ◌, neg_ℤ, ◌≤ℤ◌, ◌<ℤ◌, inl, inr, ◌⊎◌}
+use Rattle.std.proofs.Common.{zero, suc, ◌≡◌, arith, ap, subst, sym, ◌∙◌, pos, negsuc, ℤ, ◌+ℤ◌, ◌*ℤ◌, neg_ℤ, ◌≤ℤ◌, ◌<ℤ◌, inl, inr, ◌⊎◌}
 use Rattle.std.specs.Int.{int_div_euclid, int_rem_euclid}
 use Rattle.std.specs.Ordering.{int_cmp, MatchOrdering}
 use Rattle.std.specs.declared.cmp.Ordering.{Ordering}
@@ -8,6 +8,7 @@ use Rattle.std.specs.Cmp.{int_ranks, int_cmp_is}
 use Rattle.std.proofs.lemmas.Int.{ints}
 use Rattle.lra_linear.proofs.Ring.{v, ◌⊕◌, ◌⊗◌, ⊖}
 use Rattle.lra_linear.proofs.Ring.{ring, mul_nonnegative}
+use Rattle.lra_linear.proofs.Signs.{times_positive}
 
 pub euclid : (n d : ℤ) → pos 0 <ℤ d → (int_div_euclid n d *ℤ d) +ℤ int_rem_euclid n d ≡ n
 euclid (pos a) (pos zero) h = absurd (omega (arith, ints, h))
@@ -24,18 +25,10 @@ cmp_along x y x' y' l e g = int_cmp_is x' y' (int_cmp x y) (carry (int_cmp x y) 
     carry Equal h = e h
     carry Greater h = g h
 
-nat_mul_positive : (a b : ℕ) → 0 < a → 0 < b → 0 < a * b
-nat_mul_positive a b h k = grind arith
-
-mul_positive : (a b : ℤ) → pos 0 <ℤ a → pos 0 <ℤ b → pos 0 <ℤ (a *ℤ b)
-mul_positive (pos a) (pos b) h k = omega (arith, ints, nat_mul_positive a b (omega (arith, ints, h)) (omega (arith, ints, k)))
-mul_positive (pos a) (negsuc b) h k = absurd (omega (arith, ints, k))
-mul_positive (negsuc a) b h k = absurd (omega (arith, ints, h))
-
 below : (a b : ℤ) → a <ℤ b → pos 0 ≤ℤ ((b +ℤ neg_ℤ a) +ℤ negsuc 0)
 below a b h = omega (arith, ints)
 
-apart : (a b : ℤ) → a <ℤ b → pos 0 <ℤ (b +ℤ neg_ℤ a)
+pub apart : (a b : ℤ) → a <ℤ b → pos 0 <ℤ (b +ℤ neg_ℤ a)
 apart a b h = omega (arith, ints)
 
 more : (x a b d : ℤ) → pos 0 <ℤ a → pos 0 ≤ℤ b → pos 0 ≤ℤ d → x <ℤ (x +ℤ (a +ℤ (b +ℤ d)))
@@ -45,11 +38,11 @@ ordered : (p q r s d1 d2 : ℤ) → p <ℤ q → r <ℤ d1 → pos 0 ≤ℤ s �
 ordered p q r s d1 d2 h rd s0 e1 e2 =
     let f = d1 +ℤ neg_ℤ r in
     let e = (q +ℤ neg_ℤ p) +ℤ negsuc 0 in
-    let dd : pos 0 ≤ℤ (d1 *ℤ d2) = omega (arith, ints, mul_positive d1 d2 e1 e2) in
+    let dd : pos 0 ≤ℤ (d1 *ℤ d2) = omega (arith, ints, times_positive d1 d2 e1 e2) in
     let d0 : pos 0 ≤ℤ d1 = omega (arith, ints) in
     subst (λ (z : ℤ). (((p *ℤ d1) +ℤ r) *ℤ d2) <ℤ z)
     (ring ((v p ⊗ v d1 ⊕ v r) ⊗ v d2 ⊕ ((v d1 ⊕ ⊖ (v r)) ⊗ v d2 ⊕ (((v q ⊕ ⊖ (v p)) ⊕ v (negsuc 0)) ⊗ (v d1 ⊗ v d2) ⊕ v s ⊗ v d1))) ((v q ⊗ v d2 ⊕ v s) ⊗ v d1) (omega arith))
-    (more (((p *ℤ d1) +ℤ r) *ℤ d2) (f *ℤ d2) (e *ℤ (d1 *ℤ d2)) (s *ℤ d1) (mul_positive f d2 (apart r d1 rd) e2) (mul_nonnegative e (d1 *ℤ d2) (below p q h) dd) (mul_nonnegative s d1 s0 d0))
+    (more (((p *ℤ d1) +ℤ r) *ℤ d2) (f *ℤ d2) (e *ℤ (d1 *ℤ d2)) (s *ℤ d1) (times_positive f d2 (apart r d1 rd) e2) (mul_nonnegative e (d1 *ℤ d2) (below p q h) dd) (mul_nonnegative s d1 s0 d0))
 
 pub rem_bounds : (n d : ℤ) → pos 0 <ℤ d → (pos 0 ≤ℤ int_rem_euclid n d) × (int_rem_euclid n d <ℤ d)
 rem_bounds (pos a) (pos zero) h = absurd (omega (arith, ints, h))
@@ -101,7 +94,7 @@ times_zero a = omega (arith, ints)
 
 zero_left : (s d1 d2 : ℤ) → pos 0 <ℤ d1 → pos 0 ≤ℤ s → int_cmp (pos 0) s ≡ int_cmp (d2 *ℤ pos 0) (d1 *ℤ s)
 zero_left s d1 d2 e1 s0 = cmp_along (pos 0) s (d2 *ℤ pos 0) (d1 *ℤ s)
-    (λ h. subst (λ (x : ℤ). x <ℤ (d1 *ℤ s)) (sym (times_zero d2)) (mul_positive d1 s e1 h))
+    (λ h. subst (λ (x : ℤ). x <ℤ (d1 *ℤ s)) (sym (times_zero d2)) (times_positive d1 s e1 h))
     (λ e. times_zero d2 ∙ sym (times_zero d1) ∙ ap (λ x. d1 *ℤ x) e)
     (λ h. absurd (omega (arith, ints, h)))
 
@@ -109,7 +102,7 @@ zero_right : (r d1 d2 : ℤ) → pos 0 <ℤ d2 → pos 0 ≤ℤ r → int_cmp r 
 zero_right r d1 d2 e2 r0 = cmp_along r (pos 0) (d2 *ℤ r) (d1 *ℤ pos 0)
     (λ h. absurd (omega (arith, ints, h)))
     (λ e. ap (λ x. d2 *ℤ x) e ∙ times_zero d2 ∙ sym (times_zero d1))
-    (λ h. subst (λ (x : ℤ). x <ℤ (d2 *ℤ r)) (sym (times_zero d1)) (mul_positive d2 r e2 h))
+    (λ h. subst (λ (x : ℤ). x <ℤ (d2 *ℤ r)) (sym (times_zero d1)) (times_positive d2 r e2 h))
 
 -- one of them is 0
 pub ratio_end : (r s d1 d2 : ℤ) → pos 0 <ℤ d1 → pos 0 <ℤ d2 → pos 0 ≤ℤ r → pos 0 ≤ℤ s → (r ≡ pos 0) ⊎ (s ≡ pos 0) → int_cmp r s ≡ int_cmp (d2 *ℤ r) (d1 *ℤ s)

@@ -30,7 +30,7 @@ negated_in_range [] h = All-nil InRange
 negated_in_range (x ∷ xs) h = All-cons InRange (neg_ℤ x) (negated xs) (opposite_in_range x (All-head InRange x xs h)) (negated_in_range xs (All-tail InRange x xs h))
 
 -- ---- division by a positive number that divides each entry
-quotient_signed : (x : ℤ) (g : ℕ) → int_div x (pos g) ≡ signed_quotient g x
+pub quotient_signed : (x : ℤ) (g : ℕ) → int_div x (pos g) ≡ signed_quotient g x
 quotient_signed (pos n) g = refl
 quotient_signed (negsuc n) g = refl
 
