@@ -18,7 +18,7 @@ use Rattle.lra_linear.proofs.Descriptions.{system_from, system_has, gen_generate
 use Rattle.lra_linear.proofs.Combinations.{generated_row}
 use Rattle.lra_linear.proofs.LinearMaps.{generated_nonneg}
 use Rattle.lra_linear.proofs.Membership.{contains_head, contains_tail, contains_none, contains_cases}
-use Rattle.lra_linear.proofs.OneSpelling.{given_from, falsity_never}
+use Rattle.lra_linear.proofs.OneSpelling.{given_from, falsity_never, given_has}
 use Rattle.lra_linear.proofs.Lines.{signed_zero}
 use Rattle.lra_linear.proofs.Products.{negated_dot, dot_negated}
 use Rattle.lra_linear.proofs.Signs.{between_opposites}
@@ -95,13 +95,6 @@ constraints_shown s n given list k d t h =
     (subst (λ (l : List Given). AreDual (suc s.dims) (system_of l) (all_rows s.lines s.rays)) t k.dual)) k.canonical h
 
 -- ---- the same points
-given_in : (b : Bool) (rows : List (List ℤ)) (r : List ℤ) → Contains rows r → Contains (given_as b rows) (record { row = r; equal = b })
-given_in b [] r k = absurd (contains_none r k)
-given_in b (x ∷ rows) r k = elim (contains_cases x r rows k) [
-  | inl e ↦ subst (λ (y : List ℤ). Contains (given_as b (x ∷ rows)) (record { row = y; equal = b })) e (contains_head (let g : Given = record { row = x; equal = b } in g) (given_as b rows))
-  | inr d ↦ contains_tail (let g : Given = record { row = x; equal = b } in g) (let g : Given = record { row = r; equal = b } in g) (given_as b rows) (given_in b rows r d)
-]
-
 system_whole : (lines rays : List (List ℤ)) → system_of (given_as true lines ++ given_as false rays) ≡ both_ways lines ++ rays
 system_whole lines rays = system_append (given_as true lines) (given_as false rays) ∙ ap (λ (x : List (List ℤ)). x ++ system_of (given_as false rays)) (system_lines lines) ∙
     ap (λ (x : List (List ℤ)). both_ways lines ++ x) (system_rays rays)
@@ -128,7 +121,7 @@ shown_points n system rows h = (
           | inl e ↦ subst (λ b. HoldsWith b (product g.row x)) (sym f.0) (subst (λ (r : List ℤ). pos 0 ≤ℤ product r x) (sym e) (at_points n x point))
           | inr j ↦ subst (λ b. HoldsWith b (product g.row x)) (sym f.0) (con (record { row = g.row; equal = false })
               (subst (λ (l : List Given). Contains l (record { row = g.row; equal = false })) (sym h.are)
-              (Contains-append_right (given_as true h.equalities) (given_as false h.inequalities) (record { row = g.row; equal = false }) (given_in false h.inequalities g.row j))))
+              (Contains-append_right (given_as true h.equalities) (given_as false h.inequalities) (record { row = g.row; equal = false }) (given_has false h.inequalities g.row j))))
         ]
   ]),
   (λ x point con g m. elim (Contains-append_cases (given_as true h.equalities) (given_as false h.inequalities) g (subst (λ (l : List Given). Contains l g) h.are m)) [
@@ -136,7 +129,7 @@ shown_points n system rows h = (
     | inr i ↦
         let f = given_from false h.inequalities g i in
         subst (λ b. HoldsWith b (product g.row x)) (sym f.0) (con (record { row = g.row; equal = false })
-        (Contains-append_right (given_as true h.equalities) (given_as false h.facets) (record { row = g.row; equal = false }) (given_in false h.facets g.row (h.shown g.row f.1).0)))
+        (Contains-append_right (given_as true h.equalities) (given_as false h.facets) (record { row = g.row; equal = false }) (given_has false h.facets g.row (h.shown g.row f.1).0)))
   ]),
 )
 

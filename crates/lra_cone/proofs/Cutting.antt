@@ -62,7 +62,7 @@ no_repeat_append (x ∷ xs) ys n m h = (
   no_repeat_append xs ys n.1 m (λ y k. h y (contains_tail x y xs k)),
 )
 
-no_repeat_filter : {A : Type 0} (test : A → Bool) (xs : List A) → NoRepeat xs → NoRepeat (filter test xs)
+pub no_repeat_filter : {A : Type 0} (test : A → Bool) (xs : List A) → NoRepeat xs → NoRepeat (filter test xs)
 no_repeat_filter test [] n = tt
 no_repeat_filter test (x ∷ xs) n = by_test (test x) (λ k. n.0 (filter_from test xs x k).0) (no_repeat_filter test xs n.1)
   where

@@ -104,9 +104,6 @@ flat_line lines rays nonneg l m =
     between_opposites (entry l 0) (entry (negated l) 0) (entry_negated l 0) (nonneg l (Contains-append_right rays (both_ways lines) l (in_lines lines l m)))
     (nonneg (negated l) (Contains-append_right rays (both_ways lines) (negated l) (in_lines_negated lines l m)))
 
-line_column : (s : Shape) (kept : List Given) → IsCone s → s.taken ≡ inequality (positivity s.dims) ∷ kept → (l : List ℤ) → Contains s.lines l → entry l 0 ≡ pos 0
-line_column s kept k e l m = flat_line s.lines s.rays (at_least_zero s kept k e) l m
-
 pub zero_between : (z : ℤ) → pos 0 ≤ℤ z → z ≤ℤ pos 0 → z ≡ pos 0
 zero_between z h k = omega (arith, ints, h, k)
 

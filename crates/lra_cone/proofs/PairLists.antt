@@ -12,17 +12,13 @@ use Rattle.lra_bits.specs.TruthValues.{both}
 use Rattle.lra_linear.specs.Descriptions.{HoldsWith}
 use Rattle.lra_linear.specs.LowestTerms.{IsLowest}
 use Rattle.lra_linear.proofs.Membership.{contains_none, contains_cases, contains_head, contains_tail}
+use Rattle.lra_bits.proofs.Pairs.{both_length}
 use Rattle.lra_cone.specs.declared.pairs.Pair.{Pair}
 use Rattle.lra_cone.specs.Pairs.{HasThird, NoThird, TellsAdjacent, both_tight, IsAdjacentPair, AreApart, IsBefore, ArePairs, pair_sum, AreCombined, tight_rows}
 use Rattle.lra_cone.specs.Steps.{is_inside, inside_count}
 use Rattle.lra_cone.specs.declared.strained.ConeError as C
 use Rattle.lra_cone.specs.declared.strained.ConeError.TheVariants as of_cone
 use Rattle.lra_cone.specs.Strains.{IsPairError, ArePairsError}
-
-both_length : (xs ys : List Bool) → length xs ≡ length ys → length (both xs ys) ≡ length xs
-both_length [] ys e = refl
-both_length (x ∷ xs) [] e = absurd (omega (arith, e))
-both_length (x ∷ xs) (y ∷ ys) e = ap suc (both_length xs ys (omega (arith, e)))
 
 pub tight_width : (n : ℕ) (u d t : List Bool) → length u ≡ n → length d ≡ n → t ≡ both u d → length t ≡ n
 tight_width n u d t hu hd e = ap length e ∙ both_length u d (hu ∙ sym hd) ∙ hu
@@ -63,7 +59,7 @@ pairs_skip products rows up down ps h a = record {
   ];
 }
 
-not_below : (z : ℤ) → pos 0 ≤ℤ z → z <ℤ pos 0 → ⊥
+pub not_below : (z : ℤ) → pos 0 ≤ℤ z → z <ℤ pos 0 → ⊥
 not_below z h k = omega (arith, ints, h, k)
 
 pub pairs_skip_side : (products : List ℤ) (rows : List (List Bool)) (up down : ℕ) (ps : List Pair) → pos 0 ≤ℤ get_or products down (pos 0) → ArePairs products rows up down ps →

@@ -26,6 +26,7 @@ use Rattle.lra_linear.proofs.Products.{entry_blend, blend_length, row_same, dot_
 use Rattle.lra_linear.proofs.Redundancy.{drop_keeps, redundant_tight, kept_pointed, pair_pointed}
 use Rattle.lra_linear.proofs.Ring.{ring, v, ⊖, ◌⊕◌, ◌⊗◌, mul_nonnegative}
 use Rattle.lra_linear.proofs.Signs.{as_nat, no_product, no_factor, cancel_same, positive_is_nonnegative, between_opposites, zero_at_least, cases_sign, above_zero}
+use Rattle.lra_cone.proofs.PairLists.{not_below}
 
 -- ---- the step
 -- t is two adjacent rays on both sides of c combined, in lowest terms
@@ -75,9 +76,6 @@ first_zero a b z y ha hb hz hy e =
 
 turned_above : (z : ℤ) → z <ℤ pos 0 → pos 0 <ℤ neg_ℤ z
 turned_above z h = omega (arith, ints, h)
-
-not_both_sides : (z : ℤ) → pos 0 ≤ℤ z → z <ℤ pos 0 → ⊥
-not_both_sides z h k = omega (arith, ints, h, k)
 
 -- a u + b d with factors that are not negative
 weighted : (rows : List (List ℤ)) (a b : ℤ) (u d : ℕ → ℤ) → pos 0 ≤ℤ a → pos 0 ≤ℤ b → Generated rows u → Generated rows d → Generated rows (λ j. (a *ℤ u j) +ℤ (b *ℤ d j))
@@ -327,7 +325,7 @@ module _ (w : ℕ) (c : List ℤ) (system lines rays : List (List ℤ)) (d : Are
         elim (x.from t mt) [
           | inl a ↦ elim (x.from q mq) [
             | inl b ↦ only_itself t q a.0 b.0 n later
-            | inr b ↦ only_itself t b.down a.0 b.has_down (λ e. not_both_sides (product c t) (holds_at_least equal (product c t) a.1) (subst (λ (y : List ℤ). product c y <ℤ pos 0) e b.below))
+            | inr b ↦ only_itself t b.down a.0 b.has_down (λ e. not_below (product c t) (holds_at_least equal (product c t) a.1) (subst (λ (y : List ℤ). product c y <ℤ pos 0) e b.below))
                 (λ s i e. (sum_tight q b s i (later s i e)).1)
           ]
           | inr a ↦ elim (x.from q mq) [

@@ -19,7 +19,7 @@ use Rattle.lra_linear.proofs.FlatRows.{flats_from, member_primitive}
 use Rattle.lra_linear.proofs.LineCase.{line_case_kept, line_case_dual}
 use Rattle.lra_linear.proofs.Lines.{signed_from, in_lines, in_lines_negated}
 use Rattle.lra_linear.proofs.Membership.{contains_cases, contains_head, contains_tail}
-use Rattle.lra_linear.proofs.Products.{negated_length, dot_negated}
+use Rattle.lra_linear.proofs.Products.{negated_length, dot_negated, negated_twice}
 use Rattle.lra_linear.proofs.Signs.{between_opposites}
 use Rattle.lra_cone.specs.Cones.{Shape, IsCone, tight_values, saturation_rows, saturation_of}
 use Rattle.lra_sys.specs.Listed.{given_by}
@@ -162,14 +162,10 @@ flatten_case s g place line of_lines of_rays lines rays k el er last t fl fr =
     (subst (λ (x : List ℤ). AreFlatLines line x s.lines lines) el fl) (subst (λ (x : List ℤ). AreFlatRays g.equal line x s.rays rays) er fr)
 
 -- the line is one direction, and its opposite the other
-pub twice : (r : List ℤ) → negated (negated r) ≡ r
-twice [] = refl
-twice (x ∷ r) = let e : neg_ℤ (neg_ℤ x) ≡ x = omega (arith, ints) in let f : negated (negated r) ≡ r = twice r in cc
-
 pub turned_down : (line : List ℤ) (place : ℕ) (p : ℤ) (across : Across) → IsTurned line place p across → across.down ≡ negated across.up
 turned_down line place p across t = elim t.sign [
   | inl s ↦ s.1 ∙ ap negated (sym s.0)
-  | inr s ↦ s.1 ∙ sym (twice line) ∙ ap negated (sym s.0)
+  | inr s ↦ s.1 ∙ sym (negated_twice line) ∙ ap negated (sym s.0)
 ]
 
 pub turned_up_width : (line : List ℤ) (place : ℕ) (p : ℤ) (across : Across) → IsTurned line place p across → length across.up ≡ length line

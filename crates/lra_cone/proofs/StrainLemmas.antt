@@ -20,7 +20,8 @@ use Rattle.lra_linear.proofs.LinearMaps.{generated_right}
 use Rattle.lra_linear.proofs.Lines.{in_lines, in_lines_negated}
 use Rattle.lra_linear.proofs.LowestTerms.{lowest_exists}
 use Rattle.lra_linear.proofs.Membership.{contains_split}
-use Rattle.lra_linear.proofs.Products.{entry_negated, dot_negated}
+use Rattle.lra_linear.proofs.Products.{entry_negated, dot_negated, negated_twice}
+use Rattle.lra_linear.proofs.Signs.{not_both}
 use Rattle.lra_cone.specs.declared.line_step.Across.{Across}
 use Rattle.lra_cone.specs.declared.pairs.Pair as Q
 use Rattle.lra_cone.specs.declared.strained.Family.{Family}
@@ -35,7 +36,7 @@ use Rattle.lra_cone.specs.Pairs.{IsAdjacentPair, ArePairs, pair_sum, AreCombined
 use Rattle.lra_cone.specs.Strains.{cause_of, StandsAt, IsMember, IsDirected, IsStrain, IsConeError, IsProductError, strained_pair, IsFlatteningError, NamesPair, IsCutError}
 use Rattle.lra_cone.proofs.Cutting.{inside_rays, cut_case, above_inside, below_inside}
 use Rattle.lra_cone.proofs.PairLists.{less_said}
-use Rattle.lra_cone.proofs.Stepped.{twice, turned_down, ray_met, ray_canonical, inside_length, combined_length}
+use Rattle.lra_cone.proofs.Stepped.{turned_down, ray_met, ray_canonical, inside_length, combined_length}
 
 -- ---- products
 pub product_lines : (s : Shape) (equal : Bool) (c : List ℤ) (rows : List (List ℤ)) (e : C.ConeError) → rows ≡ s.lines → IsProductError c rows Lines e → IsConeError s equal c e
@@ -70,9 +71,6 @@ later_zero (r ∷ rows) (p ∷ ps) i zero e h l = absurd (omega (arith, h))
 later_zero (r ∷ rows) (p ∷ ps) zero (suc at) e h l = (p, e.0.here, e.2 (get_or rows at []) (Contains-get_or rows at [] (omega (arith, l))) p (inr refl))
 later_zero (r ∷ rows) (p ∷ ps) (suc i) (suc at) e h l = later_zero rows ps i at e.4 (omega (arith, h)) (omega (arith, l))
 
-above_not : (z : ℤ) → pos 0 <ℤ z → z ≡ pos 0 → ⊥
-above_not z h e = omega (arith, ints, h, e)
-
 -- so they are no opposites, and not the same
 lines_apart : (s : Shape) → IsCone s → (i at : ℕ) (l : List ℤ) → i < at → at < length s.lines → (l ≡ get_or s.lines at []) ⊎ (l ≡ negated (get_or s.lines at [])) → get_or s.lines i [] ≢ l
 lines_apart s k i at l h m sign e =
@@ -81,7 +79,7 @@ lines_apart s k i at l h m sign e =
       | inl f ↦ ap (λ (y : List ℤ). entry y z.0) f ∙ z.2
       | inr f ↦ ap (λ (y : List ℤ). entry y z.0) f ∙ entry_negated (get_or s.lines at []) z.0 ∙ ap neg_ℤ z.2
     ] in
-    above_not (entry (get_or s.lines i []) z.0) z.1 (ap (λ (y : List ℤ). entry y z.0) e ∙ there)
+    not_both (entry (get_or s.lines i []) z.0) z.1 (ap (λ (y : List ℤ). entry y z.0) e ∙ there)
 
 take_short : {A : Type 0} (n : ℕ) (xs : List A) → length (take n xs) ≤ n
 take_short zero xs = omega arith
@@ -126,7 +124,7 @@ module _ (s : Shape) (k : IsCone s) (equal : Bool) (c : List ℤ) (at : ℕ) (li
       (down_sign (get_or s.lines at []) at (product c (get_or s.lines at [])) line t))
 
   opposite_down : negated line.down ≡ line.up
-  opposite_down = ap negated (turned_down (get_or s.lines at []) at (product c (get_or s.lines at [])) line t) ∙ twice line.up
+  opposite_down = ap negated (turned_down (get_or s.lines at []) at (product c (get_or s.lines at [])) line t) ∙ negated_twice line.up
 
   directed : (l : List ℤ) → (l ≡ get_or s.lines at []) ⊎ (l ≡ negated (get_or s.lines at [])) → IsDirected s Lines line.place l
   directed l sign = (get_or s.lines at [], record { inside = subst (λ (n : ℕ). n < length s.lines) (sym t.is_place) inside; is = ap (λ (n : ℕ). get_or s.lines n []) t.is_place }, sign)
@@ -199,7 +197,7 @@ module _ (s : Shape) (k : IsCone s) (equal : Bool) (c : List ℤ) (at : ℕ) (li
       (flattening_strain Rays x.place (get_or products x.place (pos 0)) r x.excess (record { inside = h; is = refl }) (Contains-append_left s.rays (both_ways s.lines) r m) value
       (λ q. off (subst (Contains (both_ways s.lines)) (sym q) (signed_in s.lines (get_or s.lines at []) line.up has_line
       (up_sign (get_or s.lines at []) at (product c (get_or s.lines at [])) line t))))
-      (λ q. off (subst (Contains (both_ways s.lines)) (turned_down (get_or s.lines at []) at (product c (get_or s.lines at [])) line t ∙ ap negated q ∙ twice r)
+      (λ q. off (subst (Contains (both_ways s.lines)) (turned_down (get_or s.lines at []) at (product c (get_or s.lines at [])) line t ∙ ap negated q ∙ negated_twice r)
       (signed_in s.lines (get_or s.lines at []) line.down has_line (down_sign (get_or s.lines at []) at (product c (get_or s.lines at [])) line t))))
       (ap (flattening line (get_or products x.place (pos 0))) (sym same) ∙ x.passes))
 
@@ -220,7 +218,7 @@ module _ (s : Shape) (k : IsCone s) (equal : Bool) (c : List ℤ) (at : ℕ) (li
       (flattening_strain Lines i (get_or products i (pos 0)) r x.excess (r, record { inside = has; is = refl }, inl refl) (Contains-append_right s.rays (both_ways s.lines) r (in_lines s.lines r m))
       (value i x.inside)
       (lines_apart s k i at line.up before inside up)
-      (λ q. lines_apart s k i at line.down before inside down (sym (twice r) ∙ ap negated (sym q) ∙ sym (turned_down (get_or s.lines at []) at (product c (get_or s.lines at [])) line t)))
+      (λ q. lines_apart s k i at line.down before inside down (sym (negated_twice r) ∙ ap negated (sym q) ∙ sym (turned_down (get_or s.lines at []) at (product c (get_or s.lines at [])) line t)))
       (ap (flattening line (get_or products i (pos 0))) (sym (same i x.inside)) ∙ x.passes))
 
   -- as the code hands them over

@@ -146,7 +146,7 @@ line_case equal c lines rays new_lines new_rays at line h t later pl pr fl fr =
     }
 
 -- ---- the matrix
-same_test : (x y : ℤ) → (x ≡ pos 0 → y ≡ pos 0) → (y ≡ pos 0 → x ≡ pos 0) → int_eq x (pos 0) ≡ int_eq y (pos 0)
+pub same_test : (x y : ℤ) → (x ≡ pos 0 → y ≡ pos 0) → (y ≡ pos 0 → x ≡ pos 0) → int_eq x (pos 0) ≡ int_eq y (pos 0)
 same_test x y h k = go (int_eq x (pos 0)) (int_eq y (pos 0)) refl refl
   where
     go : (a b : Bool) → int_eq x (pos 0) ≡ a → int_eq y (pos 0) ≡ b → a ≡ b

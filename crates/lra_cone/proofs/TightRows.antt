@@ -12,17 +12,12 @@ use Rattle.lra_linear.specs.Cones.{with_row}
 use Rattle.lra_linear.specs.Descriptions.{Given, system_of}
 use Rattle.lra_linear.proofs.Membership.{contains_cases, contains_head, contains_tail, contains_none}
 use Rattle.lra_linear.proofs.Products.{negated_dot}
+use Rattle.lra_linear.proofs.Widening.{zero_said}
+use Rattle.std.proofs.lemmas.Bool.{and_parts}
 use Rattle.lra_cone.specs.Cones.{tight_values, saturation_rows}
-
-zero_said : (z : ℤ) → int_eq z (pos 0) ≡ true → z ≡ pos 0
-zero_said z h = (Decides-int_eq z (pos 0)).0 h
 
 zero_yes : (z : ℤ) → z ≡ pos 0 → int_eq z (pos 0) ≡ true
 zero_yes z h = (Decides-int_eq z (pos 0)).1 h
-
-both_true : (a b : Bool) → (a && b) ≡ true → (a ≡ true) × (b ≡ true)
-both_true true b h = (refl, h)
-both_true false b h = absurd (let k : false ≡ true = h in cc)
 
 both_yes : (a b : Bool) → a ≡ true → b ≡ true → (a && b) ≡ true
 both_yes true b h k = k
@@ -70,7 +65,7 @@ pub subset_from : (taken : List Given) (u d r : List ℤ) → ((s : List ℤ) �
     IsSubset (both (tight_values taken u) (tight_values taken d)) (tight_values taken r)
 subset_from [] u d r h k e = e
 subset_from (g ∷ taken) u d r h zero e =
-    let b = both_true (int_eq (product g.row u) (pos 0)) (int_eq (product g.row d) (pos 0)) e in
+    let b = and_parts (int_eq (product g.row u) (pos 0)) (int_eq (product g.row d) (pos 0)) e in
     zero_yes (product g.row r) (h g.row (with_has g.equal g.row (system_of taken)) (zero_said (product g.row u) b.0) (zero_said (product g.row d) b.1))
 subset_from (g ∷ taken) u d r h (suc k) e = subset_from taken u d r (λ s m. h s (with_later g.equal g.row (system_of taken) s m)) k e
 

@@ -4,7 +4,7 @@ use Rattle.std.proofs.Common.{unsigned_abs, inl, inr, ◌⊎◌}
 use Rattle.std.specs.List.{Contains}
 use Rattle.std.proofs.lemmas.Bool.{cases_lt}
 use Rattle.std.proofs.lemmas.Int.{ints}
-use Rattle.std.proofs.lemmas.List.{append_assoc}
+use Rattle.std.proofs.lemmas.List.{append_assoc, length-set}
 use Rattle.lra_linear.specs.Vectors.{entry, dot, negated, zeros, behind_zero, units}
 use Rattle.lra_linear.specs.Cones.{Generated, both_ways, all_rows, AreDual}
 use Rattle.lra_linear.specs.Canonical.{IsCanonical}
@@ -13,12 +13,14 @@ use Rattle.lra_linear.specs.Echelon.{Before, IsEchelon}
 use Rattle.lra_linear.specs.OperationStrain.{unit_row}
 use Rattle.lra_linear.proofs.Combinations.{generated_row}
 use Rattle.lra_linear.proofs.LinearMaps.{generated_through}
-use Rattle.lra_linear.proofs.Lines.{signed_from, in_lines, in_lines_negated, generated_described, whole_described}
+use Rattle.lra_linear.proofs.Lines.{signed_from, in_lines, in_lines_negated, generated_described, whole_described, zeros_length, entry_zeros}
 use Rattle.lra_linear.proofs.LowestTerms.{primitive_at}
-use Rattle.lra_linear.proofs.Membership.{contains_none, contains_cases, contains_head, contains_tail, split_none}
+use Rattle.lra_linear.proofs.Membership.{contains_none, contains_cases, contains_head, contains_tail, split_none, map_has, map_from}
 use Rattle.lra_linear.proofs.Products.{negated_dot, negated_length, entry_past, entry_set_same, entry_set_other}
 use Rattle.lra_linear.proofs.Ring.{ring, v, ◌⊕◌, ◌⊗◌}
 use Rattle.lra_linear.proofs.Signs.{between_opposites}
+use Rattle.lra_linear.proofs.OneSpelling.{dot_zeros}
+use Rattle.lra_canon.proofs.Solutions.{behind_zero_from}
 use Rattle.lra_cone.specs.Cones.{IsCone, columns_from, unit_lines, whole_space}
 
 zeros_are : (n : ℕ) → replicate n (pos 0) ≡ zeros n
@@ -32,52 +34,19 @@ zeros_more n = zeros_are (n + 1) ∙ ap zeros (plus_one n)
     plus_one n = omega arith
 
 -- ---- unit rows
-zero_entry : (n j : ℕ) → entry (zeros n) j ≡ pos 0
-zero_entry zero j = refl
-zero_entry (suc n) zero = refl
-zero_entry (suc n) (suc j) = zero_entry n j
-
-zeros_length : (n : ℕ) → length (zeros n) ≡ n
-zeros_length zero = refl
-zeros_length (suc n) = ap suc (zeros_length n)
-
-set_length : (xs : List ℤ) (k : ℕ) (z : ℤ) → length (slice_set xs k z) ≡ length xs
-set_length [] k z = refl
-set_length (x ∷ xs) zero z = refl
-set_length (x ∷ xs) (suc k) z = ap suc (set_length xs k z)
-
 pub unit_length : (n j : ℕ) → length (unit_row n j) ≡ suc n
-unit_length n j = set_length (zeros (suc n)) j (pos 1) ∙ zeros_length (suc n)
+unit_length n j = length-set (zeros (suc n)) j (pos 1) ∙ zeros_length (suc n)
 
-unit_here : (n j : ℕ) → j < suc n → entry (unit_row n j) j ≡ pos 1
+pub unit_here : (n j : ℕ) → j < suc n → entry (unit_row n j) j ≡ pos 1
 unit_here n j h = entry_set_same (zeros (suc n)) j (pos 1) (omega (arith, h, zeros_length (suc n)))
 
-unit_other : (n j i : ℕ) → i ≢ j → entry (unit_row n j) i ≡ pos 0
-unit_other n j i h = entry_set_other (zeros (suc n)) j i (pos 1) h ∙ zero_entry (suc n) i
-
-dot_zeros : (n : ℕ) (u : ℕ → ℤ) → dot (zeros n) u ≡ pos 0
-dot_zeros zero u = refl
-dot_zeros (suc n) u = ap (λ z. (pos 0 *ℤ u 0) +ℤ z) (dot_zeros n (λ j. u (suc j))) ∙ ring (v (pos 0) ⊗ v (u 0) ⊕ v (pos 0)) (v (pos 0)) (omega arith)
+pub unit_other : (n j i : ℕ) → i ≢ j → entry (unit_row n j) i ≡ pos 0
+unit_other n j i h = entry_set_other (zeros (suc n)) j i (pos 1) h ∙ entry_zeros (suc n) i
 
 dot_unit : (n j : ℕ) (u : ℕ → ℤ) → j < n → dot (slice_set (zeros n) j (pos 1)) u ≡ u j
 dot_unit zero j u h = absurd (omega (arith, h))
 dot_unit (suc n) zero u h = ap (λ z. (pos 1 *ℤ u 0) +ℤ z) (dot_zeros n (λ j. u (suc j))) ∙ ring (v (pos 1) ⊗ v (u 0) ⊕ v (pos 0)) (v (u 0)) (omega arith)
 dot_unit (suc n) (suc j) u h = ap (λ z. (pos 0 *ℤ u 0) +ℤ z) (dot_unit n j (λ i. u (suc i)) (omega (arith, h))) ∙ ring (v (pos 0) ⊗ v (u 0) ⊕ v (u (suc j))) (v (u (suc j))) (omega arith)
-
--- ---- members of lists that are mapped
-map_has : {A B : Type 0} (f : A → B) (xs : List A) (x : A) → Contains xs x → Contains (map f xs) (f x)
-map_has f [] x k = absurd (contains_none x k)
-map_has f (y ∷ xs) x k = elim (contains_cases y x xs k) [
-  | inl e ↦ subst (λ z. Contains (f y ∷ map f xs) (f z)) e (contains_head (f y) (map f xs))
-  | inr m ↦ contains_tail (f y) (f x) (map f xs) (map_has f xs x m)
-]
-
-map_from : {A B : Type 0} (f : A → B) (xs : List A) (y : B) → Contains (map f xs) y → (x : A) × Contains xs x × (f x ≡ y)
-map_from f [] y k = absurd (contains_none y k)
-map_from f (x ∷ xs) y k = elim (contains_cases (f x) y (map f xs) k) [
-  | inl e ↦ (x, contains_head x xs, e)
-  | inr m ↦ let i = map_from f xs y m in (i.0, contains_tail x i.0 xs i.1, i.2)
-]
 
 -- ---- the columns
 column_has : (start n j : ℕ) → ((start ≤ j) × (j < start + n)) ⊎ (j ≡ 0) → Contains (columns_from start n) j
@@ -132,19 +101,12 @@ units_echelon w start (suc n) p h =
 
 -- ---- all vectors
 -- the unit rows, place by place
-behind_from : (rows : List (List ℤ)) (r : List ℤ) → Contains (behind_zero rows) r → (t : List ℤ) × Contains rows t × (r ≡ pos 0 ∷ t)
-behind_from [] r k = absurd (contains_none r k)
-behind_from (x ∷ rows) r k = elim (contains_cases (pos 0 ∷ x) r (behind_zero rows) k) [
-  | inl e ↦ (x, contains_head x rows, sym e)
-  | inr m ↦ let i = behind_from rows r m in (i.0, contains_tail x i.0 rows i.1, i.2)
-]
-
 unit_place : (w : ℕ) (r : List ℤ) → Contains (units w) r → (j : ℕ) × (j < w) × (r ≡ slice_set (zeros w) j (pos 1))
 unit_place zero r k = absurd (contains_none r k)
 unit_place (suc w) r k = elim (contains_cases (pos 1 ∷ zeros w) r (behind_zero (units w)) k) [
   | inl e ↦ (0, omega arith, sym e)
   | inr m ↦
-      let b = behind_from (units w) r m in
+      let b = behind_zero_from (units w) r m in
       let i = unit_place w b.0 b.1 in
       (suc i.0, omega (arith, i.1), b.2 ∙ ap (λ (x : List ℤ). pos 0 ∷ x) i.2)
 ]

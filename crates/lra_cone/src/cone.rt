@@ -223,7 +223,7 @@ impl Cone {
         if count > RAY_LIMIT {
             return Err(ConeError::Strained(Strained::TooMany(count)));
         }
-        self.taken.push(row.copy()?, kind)?;
+        self.taken.push_copy(row, kind)?;
         let Flat {
             lines,
             rays,
@@ -253,7 +253,7 @@ impl Cone {
             saturation,
         } = made;
         self.rays.reserve(new_rays.len())?;
-        self.taken.push(row.copy()?, kind)?;
+        self.taken.push_copy(row, kind)?;
         let _ = self.rays.append(&mut new_rays);
         remove_marked(&mut self.rays, &gone);
         self.saturation = saturation;

@@ -91,7 +91,7 @@ pub fn dual_rows(alloc: Global, given: &GenSys) -> Result<ConSys, AllocError>
     let mut rows = ConSys::new(alloc, given.dims());
     let (listed, kinds) = (given.rows(), given.kinds());
     for place in 0..listed.len() {
-        rows.push(listed[place].copy()?, dual_kind(kinds[place]))?;
+        rows.push_copy(&listed[place], dual_kind(kinds[place]))?;
     }
     Ok(rows)
 }

@@ -79,7 +79,7 @@ fn push_generators(list: &mut GenSys, rows: &[Row], kind: GenKind) -> Result<(),
     ensures kinds { OnOk result (list.new.kinds ≡ list.old.kinds ++ replicate (length rows.now) kind) }
 {
     for row in rows {
-        list.push(row.copy()?, kind)?;
+        list.push_copy(row, kind)?;
     }
     Ok(())
 }
@@ -91,7 +91,7 @@ fn push_constraints(list: &mut ConSys, rows: &[Row], kind: ConKind) -> Result<()
     ensures kinds { OnOk result (list.new.kinds ≡ list.old.kinds ++ replicate (length rows.now) kind) }
 {
     for row in rows {
-        list.push(row.copy()?, kind)?;
+        list.push_copy(row, kind)?;
     }
     Ok(())
 }

@@ -84,14 +84,14 @@ invariant_of-self-2 c =
     let new : c.remove_marked.new.rows.items ≡ fresh = c.remove_marked.ensures ∙ ap (unmarked cut.gone) added in
     let case = cut_taken s g products i.saturation cut k er c.self.invariant.1 x in
     let met = ray_met s g fresh k w flat case in
-    let kinds = c.in_ok-push.ensures.kinds in
-    let rows = c.in_ok-push.ensures.rows ∙ ap (λ (y : List ℤ). i.taken.rows ++ y ∷ []) c.in_ok-copy.ensures in
-    let taken = ap (λ (y : List (List ℤ)). given_by is_equality y c.push.new.self.kinds) rows ∙ ap (λ (y : List ConKind). given_by is_equality (i.taken.rows ++ row ∷ []) y) kinds ∙
+    let kinds = c.in_ok-push_copy.ensures.kinds in
+    let rows = c.in_ok-push_copy.ensures.rows in
+    let taken = ap (λ (y : List (List ℤ)). given_by is_equality y c.push_copy.new.self.kinds) rows ∙ ap (λ (y : List ConKind). given_by is_equality (i.taken.rows ++ row ∷ []) y) kinds ∙
     constraints_push is_equality i.taken.rows i.taken.kinds row c.args.kind c.self.invariant.2 in
-    let cone = cone_again s g s.lines fresh c.push.new.self.dims (constraints c.push.new.self) c.in_ok-push.ensures.dims taken
+    let cone = cone_again s g s.lines fresh c.push_copy.new.self.dims (constraints c.push_copy.new.self) c.in_ok-push_copy.ensures.dims taken
     (cone_of s g s.lines fresh k met (ray_canonical s g fresh k flat case) (cut_few s g products i.saturation cut er x)) in (
-      subst (λ (y : List (List ℤ)). IsCone (record { dims = c.push.new.self.dims; taken = constraints c.push.new.self; lines = s.lines; rays = y })) (sym new) cone,
-      cut_matrix s g products i.saturation cut k er c.self.invariant.1 x ∙ ap (λ (y : List Given). saturation_of y fresh) (sym taken) ∙ ap (saturation_of (constraints c.push.new.self)) (sym new),
+      subst (λ (y : List (List ℤ)). IsCone (record { dims = c.push_copy.new.self.dims; taken = constraints c.push_copy.new.self; lines = s.lines; rays = y })) (sym new) cone,
+      cut_matrix s g products i.saturation cut k er c.self.invariant.1 x ∙ ap (λ (y : List Given). saturation_of y fresh) (sym taken) ∙ ap (saturation_of (constraints c.push_copy.new.self)) (sym new),
       grind (arith, common_steps, ap length rows, ap length kinds, c.self.invariant.2),
     )
 
@@ -116,12 +116,12 @@ returns-clause-ok c =
     let new : c.remove_marked.new.rows.items ≡ fresh = c.remove_marked.ensures ∙ ap (unmarked cut.gone) added in
     let case = cut_taken s g products i.saturation cut k er c.self.invariant.1 x in
     let met = ray_met s g fresh k w flat case in
-    let kinds = c.in_ok-push.ensures.kinds in
-    let rows = c.in_ok-push.ensures.rows ∙ ap (λ (y : List ℤ). i.taken.rows ++ y ∷ []) c.in_ok-copy.ensures in
-    let taken = ap (λ (y : List (List ℤ)). given_by is_equality y c.push.new.self.kinds) rows ∙ ap (λ (y : List ConKind). given_by is_equality (i.taken.rows ++ row ∷ []) y) kinds ∙
+    let kinds = c.in_ok-push_copy.ensures.kinds in
+    let rows = c.in_ok-push_copy.ensures.rows in
+    let taken = ap (λ (y : List (List ℤ)). given_by is_equality y c.push_copy.new.self.kinds) rows ∙ ap (λ (y : List ConKind). given_by is_equality (i.taken.rows ++ row ∷ []) y) kinds ∙
     constraints_push is_equality i.taken.rows i.taken.kinds row c.args.kind c.self.invariant.2 in
-    subst (λ (z : Shape). IsTakenIn z g (record { dims = c.push.new.self.dims; taken = constraints c.push.new.self; lines = s.lines; rays = c.remove_marked.new.rows.items })) c.self.view_is
-    (record { dims = c.in_ok-push.ensures.dims; taken = taken; met = subst (λ (y : List (List ℤ)). IsMet (suc s.dims) g.equal row (all_rows s.lines s.rays) (all_rows s.lines y)) (sym new) met })
+    subst (λ (z : Shape). IsTakenIn z g (record { dims = c.push_copy.new.self.dims; taken = constraints c.push_copy.new.self; lines = s.lines; rays = c.remove_marked.new.rows.items })) c.self.view_is
+    (record { dims = c.in_ok-push_copy.ensures.dims; taken = taken; met = subst (λ (y : List (List ℤ)). IsMet (suc s.dims) g.equal row (all_rows s.lines s.rays) (all_rows s.lines y)) (sym new) met })
 
 pub returns-in_err-made-clause-strained : goal.returns-in_err-made-clause-strained
 returns-in_err-made-clause-strained c =

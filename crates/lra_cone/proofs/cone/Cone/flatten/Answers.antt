@@ -56,11 +56,11 @@ invariant_of-self-2 c =
     let w : length row ≡ suc s.dims = c.requires.width ∙ ap (λ (x : Shape). suc x.dims) (sym c.self.view_is) in
     let many : c.len-count.result ≡ length rays = grind (arith, common_steps) in
     let few : length rays ≤ row_limit = omega (arith, c.if-count-gt-RAY_LIMIT.false, many) in
-    let kinds = c.in_ok-push.ensures.kinds in
-    let rows = c.in_ok-push.ensures.rows ∙ ap (λ (y : List ℤ). i.taken.rows ++ y ∷ []) c.in_ok-copy.ensures in
-    let taken = ap (λ (y : List (List ℤ)). given_by is_equality y c.push.new.self.kinds) rows ∙ ap (λ (y : List ConKind). given_by is_equality (i.taken.rows ++ row ∷ []) y) kinds ∙
+    let kinds = c.in_ok-push_copy.ensures.kinds in
+    let rows = c.in_ok-push_copy.ensures.rows in
+    let taken = ap (λ (y : List (List ℤ)). given_by is_equality y c.push_copy.new.self.kinds) rows ∙ ap (λ (y : List ConKind). given_by is_equality (i.taken.rows ++ row ∷ []) y) kinds ∙
     constraints_push is_equality i.taken.rows i.taken.kinds row c.args.kind c.self.invariant.2 in (
-      cone_again s g lines rays c.push.new.self.dims (constraints c.push.new.self) c.in_ok-push.ensures.dims taken
+      cone_again s g lines rays c.push_copy.new.self.dims (constraints c.push_copy.new.self) c.in_ok-push_copy.ensures.dims taken
           (cone_of s g lines rays k (line_met s g lines rays k w x) (line_canonical s g lines rays k x) few),
       f.is_matrix ∙ line_matrix s g lines rays k x ∙ ap (λ (y : List Given). saturation_of y rays) (sym taken),
       grind (arith, common_steps, ap length rows, ap length kinds, c.self.invariant.2),
@@ -80,12 +80,12 @@ returns-clause-ok c =
     let er = c.requires.of_rays ∙ ap (λ (x : Shape). map (product row) x.rays) (sym c.self.view_is) in
     let x = flatten_case s g c.args.place f.line c.args.of_lines.now c.args.of_rays.now lines rays k el er c.requires.last f.turned f.are_lines f.are_rays in
     let w : length row ≡ suc s.dims = c.requires.width ∙ ap (λ (x : Shape). suc x.dims) (sym c.self.view_is) in
-    let kinds = c.in_ok-push.ensures.kinds in
-    let rows = c.in_ok-push.ensures.rows ∙ ap (λ (y : List ℤ). i.taken.rows ++ y ∷ []) c.in_ok-copy.ensures in
-    let taken = ap (λ (y : List (List ℤ)). given_by is_equality y c.push.new.self.kinds) rows ∙ ap (λ (y : List ConKind). given_by is_equality (i.taken.rows ++ row ∷ []) y) kinds ∙
+    let kinds = c.in_ok-push_copy.ensures.kinds in
+    let rows = c.in_ok-push_copy.ensures.rows in
+    let taken = ap (λ (y : List (List ℤ)). given_by is_equality y c.push_copy.new.self.kinds) rows ∙ ap (λ (y : List ConKind). given_by is_equality (i.taken.rows ++ row ∷ []) y) kinds ∙
     constraints_push is_equality i.taken.rows i.taken.kinds row c.args.kind c.self.invariant.2 in
-    subst (λ (z : Shape). IsTakenIn z g (record { dims = c.push.new.self.dims; taken = constraints c.push.new.self; lines = lines; rays = rays })) c.self.view_is
-    (record { dims = c.in_ok-push.ensures.dims; taken = taken; met = line_met s g lines rays k w x })
+    subst (λ (z : Shape). IsTakenIn z g (record { dims = c.push_copy.new.self.dims; taken = constraints c.push_copy.new.self; lines = lines; rays = rays })) c.self.view_is
+    (record { dims = c.in_ok-push_copy.ensures.dims; taken = taken; met = line_met s g lines rays k w x })
 
 pub returns-in_err-flat-clause-strained : goal.returns-in_err-flat-clause-strained
 returns-in_err-flat-clause-strained c =
