@@ -42,7 +42,7 @@ fn resolve_called(
         used) result }
     ensures found { IfOk result (λ p. p ≡ function_place (functions_at functions.now) name.now.word) }
 {
-    match functions.named(&name.word) {
+    match functions.find(&name.word) {
         None => refuse(Cause::UnknownName, name.place),
         Some(signature) => {
             if is_bad_call(signature, count, used) {

@@ -29,7 +29,7 @@ pub fn resolve_variable(scope: &Scope, x: &Identifier) -> Result<Slot, SourceErr
 }
 
 /// A chain, or its only operand.
-fn chain(
+fn join_operands(
     alloc: Global,
     first: lra_program::Expr,
     rest: Vec<Operation>,
@@ -127,7 +127,7 @@ fn resolve_term(alloc: Global, scope: &Scope, term: &Term) -> Result<lra_program
         let operation = resolve_factor(alloc, scope, factor)?;
         rest.push(operation)?;
     }
-    chain(alloc, first, rest)
+    join_operands(alloc, first, rest)
 }
 
 /// A sum of products, from the left.
@@ -149,5 +149,5 @@ pub fn resolve_expr(
         let operation = resolve_summand(alloc, scope, summand)?;
         rest.push(operation)?;
     }
-    chain(alloc, first, rest)
+    join_operands(alloc, first, rest)
 }

@@ -108,7 +108,7 @@ impl<'a> Functions<'a> {
     }
 
     /// The first function of this name.
-    pub fn named(&self, name: &Word) -> Option<Signature>
+    pub fn find(&self, name: &Word) -> Option<Signature>
         ensures { result ≡ option_map (signature_at (function_place (functions_at self.now) name.now))
             (function_named (functions_at self.now) name.now) }
     {

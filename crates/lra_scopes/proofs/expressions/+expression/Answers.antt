@@ -39,15 +39,15 @@ resolve_term-returns-in_err-push-clause-told t c =
 
 pub resolve_term-returns-clause-told : goal.resolve_term-returns-clause-told
 resolve_term-returns-clause-told t c =
-    made_told _ c.chain.result (all_clean (faults_of_factor c.args.scope.now) c.deref-factor-items.result.now c.factors.factor-index _ c.factors.invariant.clean c.factors-test.false)
-    c.chain.ensures.memory
+    made_told _ c.join_operands.result (all_clean (faults_of_factor c.args.scope.now) c.deref-factor-items.result.now c.factors.factor-index _ c.factors.invariant.clean c.factors-test.false)
+    c.join_operands.ensures.memory
 
 pub resolve_term-returns-clause-found : goal.resolve_term-returns-clause-found
 resolve_term-returns-clause-found t c =
-    found_so c.chain.result expr_view _ _
+    found_so c.join_operands.result expr_view _ _
     (term_found c.args.scope.now c.args.term.now _ _ _ c.deref-factor-items.result.now c.factors.factor-index refl c.factors.invariant.first c.factors.invariant.found
     (omega arith) c.deref-factor-items.ensures.value)
-    c.chain.ensures.found
+    c.join_operands.ensures.found
 
 pub resolve_expr-returns-in_err-first-clause-told : goal.resolve_expr-returns-in_err-first-clause-told
 resolve_expr-returns-in_err-first-clause-told t c =
@@ -82,12 +82,12 @@ resolve_expr-returns-in_err-push-clause-told t c =
 
 pub resolve_expr-returns-clause-told : goal.resolve_expr-returns-clause-told
 resolve_expr-returns-clause-told t c =
-    made_told _ c.chain.result (all_clean (faults_of_summand c.args.scope.now) c.deref-summand-items.result.now c.summands.summand-index _ c.summands.invariant.clean c.summands-test.false)
-    c.chain.ensures.memory
+    made_told _ c.join_operands.result (all_clean (faults_of_summand c.args.scope.now) c.deref-summand-items.result.now c.summands.summand-index _ c.summands.invariant.clean c.summands-test.false)
+    c.join_operands.ensures.memory
 
 pub resolve_expr-returns-clause-found : goal.resolve_expr-returns-clause-found
 resolve_expr-returns-clause-found t c =
-    found_so c.chain.result expr_view _ _
+    found_so c.join_operands.result expr_view _ _
     (sum_found c.args.scope.now c.args.expr.now _ _ _ c.deref-summand-items.result.now c.summands.summand-index refl c.summands.invariant.first c.summands.invariant.found
     (omega arith) c.deref-summand-items.ensures.value)
-    c.chain.ensures.found
+    c.join_operands.ensures.found

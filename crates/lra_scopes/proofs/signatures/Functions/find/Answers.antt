@@ -8,7 +8,7 @@ use Rattle.lra_meaning.specs.Resolve.{function_place}
 use Rattle.lra_scopes.specs.Calls.{functions_at}
 use Rattle.lra_scopes.specs.Signatures.{signature_at}
 use Rattle.lra_scopes.proofs.SignatureLaws.{first_is}
-use Rattle.lra_scopes.proofs.signatures.Functions.named.Goals as goal
+use Rattle.lra_scopes.proofs.signatures.Functions.find.Goals as goal
 
 pub returns : goal.returns
 returns c =
