@@ -204,8 +204,6 @@ choice_found (Err x) n l c d t u e f h p q v w = tt {0}
 
 pub ruleset if_else_rules = (le-max_left, le-max_right)
 
-pub ruleset block_rules = (count_block, left_inner)
-
 pub ruleset init_rules = (count_declared, followed_end, length-map)
 
 pub ruleset items_rules = (followed_end, extends_self, extends_then, tells_front, tells_behind)

@@ -130,7 +130,7 @@ impl Labelling {
     }
 
     /// How many names live now.
-    pub fn living(&self) -> usize
+    pub fn live_count(&self) -> usize
         ensures { result ≡ length self.now.live }
     {
         self.count
@@ -152,7 +152,7 @@ impl Labelling {
         ensures labels { self.new.labels ≡ self.old.labels }
         ensures counted { self.new.next ≡ self.old.next }
     {
-        'names: while count < self.living() {
+        'names: while count < self.live_count() {
             self.forget();
         }
     }
