@@ -1,5 +1,5 @@
 -- Steps of the proofs on tests and conditions.
-use Rattle.std.proofs.Common.{rules, Box, Vec, Global, ◌≡◌, ℕ, ℤ, pos, List, [], ◌∷◌, Option, Some, None, true, false, length, refl, sym, ap, ◌∙◌, subst, arith}
+use Rattle.std.proofs.Common.{rules, Box, Vec, Global, ◌≡◌, ℕ, ℤ, pos, List, [], ◌∷◌, Option, Some, None, true, false, length, map, refl, sym, ap, ◌∙◌, subst, arith}
 use Rattle.std.specs.Prelude.{◌-ℤ◌, replicate}
 use Rattle.std.proofs.lemmas.Int.{ints}
 use Rattle.lra_lin.specs.Form.{Form}

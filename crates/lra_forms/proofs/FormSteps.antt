@@ -59,13 +59,13 @@ words_all (c ∷ cs) h = and_from (is_word c) (list_all is_word cs) (word_fits c
 
 -- a form that is given exactly where its numbers have 64 bits
 pub fitting_is : (f : Form) (o : Option Form) → SomeIff o (FormFits f) f → o ≡ linear.fitting f
-fitting_is f None no = decide (is_word f.constant && list_all is_word f.coefficients) refl
+fitting_is f None unfit = decide (is_word f.constant && list_all is_word f.coefficients) refl
   where
     decide : (b : Bool) → is_word f.constant && list_all is_word f.coefficients ≡ b → None ≡ linear.fitting f
     decide false e = rw e refl
     decide true e =
         let both = and_parts (is_word f.constant) (list_all is_word f.coefficients) e in
-        absurd (no (record { constant_fits = fits_word f.constant both.0; coefficients_fit = all_words f.coefficients both.1 }))
+        absurd (unfit (record { constant_fits = fits_word f.constant both.0; coefficients_fit = all_words f.coefficients both.1 }))
 fitting_is f (Some g) (fits, same) =
     rw (and_from (is_word f.constant) (list_all is_word f.coefficients) (word_fits f.constant fits.constant_fits) (words_all f.coefficients fits.coefficients_fit)) (ap Some same)
 
