@@ -8,9 +8,10 @@ use Rattle.lra_linear.specs.Points.{PointSet, IsWithin}
 use Rattle.lra_linear.specs.Descriptions.{Given, Con as points_of}
 use Rattle.lra_linear.specs.Polyhedra.{Polyhedron, IsPolyhedron, IsPolyhedronOf}
 use Rattle.lra_linear.specs.Strain.{Loss}
-use Rattle.lra_sys.specs.declared.system.GenKind.{GenKind}
-use Rattle.lra_sys.specs.declared.system.GenKind.TheVariants as gen
-use Rattle.lra_sys.specs.Listed.{Listed, given_by, is_line, FitsKind, FitKinds}
+use Rattle.lra_linear.specs.declared.GenKind.{GenKind}
+use Rattle.lra_linear.specs.declared.GenKind.TheVariants as gen
+use Rattle.lra_linear.specs.Kinds.{is_line}
+use Rattle.lra_sys.specs.Listed.{Listed, given_by, FitsKind, FitKinds}
 use Rattle.lra_script.specs.LineForms as form
 use Rattle.lra_poly.specs.Outcomes.{IfExact, IfFlagged}
 use Rattle.lra_poly.specs.declared.outcome.Outcome.{Outcome}

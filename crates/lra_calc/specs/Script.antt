@@ -12,8 +12,8 @@ use Rattle.lra_linear.specs.declared.Excess.{Excess}
 use Rattle.lra_linear.specs.CheckedArithmetic.{checked_product}
 use Rattle.lra_linear.specs.Descriptions.{Given, Con as points_of}
 use Rattle.lra_linear.specs.Polyhedra.{Polyhedron}
-use Rattle.lra_sys.specs.declared.system.GenKind.{GenKind}
-use Rattle.lra_sys.specs.declared.system.GenKind.TheVariants as gen
+use Rattle.lra_linear.specs.declared.GenKind.{GenKind}
+use Rattle.lra_linear.specs.declared.GenKind.TheVariants as gen
 use Rattle.lra_sys.specs.FirstPlaces.{FirstAt}
 use Rattle.lra_sys.specs.Membership.{HoldsInRange, IsWide}
 use Rattle.lra_poly.specs.Inclusions.{IsInclusion}

@@ -24,12 +24,12 @@ use Rattle.lra_linear.proofs.Products.{negated_dot, dot_negated}
 use Rattle.lra_linear.proofs.Signs.{between_opposites}
 use Rattle.lra_canon.proofs.Orders.{ascends}
 use Rattle.lra_canon.specs.declared.order.Order.TheVariants.{Inequalities}
-use Rattle.lra_sys.specs.Listed.{Listed, generators, constraints, given_by, is_line, FitsKind, FitKinds}
-use Rattle.lra_linear.specs.Kinds.{is_equality}
+use Rattle.lra_sys.specs.Listed.{Listed, generators, constraints, given_by, FitsKind, FitKinds}
+use Rattle.lra_linear.specs.Kinds.{is_equality, is_line}
 use Rattle.lra_linear.specs.declared.ConKind.{ConKind}
 use Rattle.lra_linear.specs.declared.ConKind.TheVariants.{Ge, Eq}
-use Rattle.lra_sys.specs.declared.system.GenKind.{GenKind}
-use Rattle.lra_sys.specs.declared.system.GenKind.TheVariants.{Point, Ray, Line}
+use Rattle.lra_linear.specs.declared.GenKind.{GenKind}
+use Rattle.lra_linear.specs.declared.GenKind.TheVariants.{Point, Ray, Line}
 use Rattle.lra_linear.specs.Strain.{Loss, Strains}
 use Rattle.lra_cone.specs.Cones.{Shape, IsCone, whole_space}
 use Rattle.lra_cone.specs.Losses.{IfLost}

@@ -20,9 +20,10 @@ use Rattle.lra_linear.proofs.Products.{entry_negated, negated_dot}
 use Rattle.lra_linear.proofs.Signs.{between_opposites}
 use Rattle.lra_canon.proofs.Orders.{ascends}
 use Rattle.lra_canon.specs.declared.order.Order.TheVariants.{Generators}
-use Rattle.lra_sys.specs.Listed.{Listed, generators, given_by, is_line, FitsKind, FitKinds}
-use Rattle.lra_sys.specs.declared.system.GenKind.{GenKind}
-use Rattle.lra_sys.specs.declared.system.GenKind.TheVariants.{Point, Ray, Line}
+use Rattle.lra_linear.specs.Kinds.{is_line}
+use Rattle.lra_sys.specs.Listed.{Listed, generators, given_by, FitsKind, FitKinds}
+use Rattle.lra_linear.specs.declared.GenKind.{GenKind}
+use Rattle.lra_linear.specs.declared.GenKind.TheVariants.{Point, Ray, Line}
 use Rattle.lra_cone.specs.Cones.{Shape, IsCone}
 use Rattle.lra_cone.specs.Conversions.{points_of, ListsGenerators, ShowsGenerators, HasGenerators, AreGeneratorsOf}
 use Rattle.lra_cone.proofs.Reordered.{InParts, in_parts, parts_once, once_left, once_right, dual_again, canonical_again, parted, directions_from}

@@ -17,8 +17,8 @@ use Rattle.lra_linear.specs.Polyhedra.{positivity}
 use Rattle.lra_sys.specs.Listed.{Listed}
 use Rattle.lra_linear.specs.declared.ConKind.{ConKind}
 use Rattle.lra_linear.specs.declared.ConKind.TheVariants.{Ge, Eq}
-use Rattle.lra_sys.specs.declared.system.GenKind.{GenKind}
-use Rattle.lra_sys.specs.declared.system.GenKind.TheVariants.{Point, Ray, Line}
+use Rattle.lra_linear.specs.declared.GenKind.{GenKind}
+use Rattle.lra_linear.specs.declared.GenKind.TheVariants.{Point, Ray, Line}
 use Rattle.lra_linear.proofs.CanonicalForms.{no_repeat}
 use Rattle.lra_linear.proofs.Combinations.{generated_row}
 use Rattle.lra_linear.proofs.LinearMaps.{generated_through}

@@ -8,8 +8,8 @@ use Rattle.std.specs.Ordering.{is_eq}
 use Rattle.lra_sys.specs.Listed.{Listed}
 use Rattle.lra_linear.specs.declared.ConKind.{ConKind}
 use Rattle.lra_linear.specs.declared.ConKind.TheVariants.{Ge, Eq}
-use Rattle.lra_sys.specs.declared.system.GenKind.{GenKind}
-use Rattle.lra_sys.specs.declared.system.GenKind.TheVariants.{Point, Ray, Line}
+use Rattle.lra_linear.specs.declared.GenKind.{GenKind}
+use Rattle.lra_linear.specs.declared.GenKind.TheVariants.{Point, Ray, Line}
 use Rattle.lra_linear.specs.Strain.{Loss, Strains}
 use Rattle.lra_linear.specs.Vectors.{entry, product}
 use Rattle.lra_linear.specs.Cones.{all_rows, AreDual}

@@ -12,7 +12,7 @@ ghost use Rattle.lra_sys.specs.Dimensions.{too_many_dimensions};
 ghost use Rattle.lra_sys.specs.Listed.{constraints, generators, FitKinds};
 ghost use Rattle.lra_linear.specs.Kinds.{is_equality};
 ghost use Rattle.lra_linear.specs.declared.ConKind.TheVariants.{Ge};
-ghost use Rattle.lra_sys.specs.declared.system.GenKind.TheVariants.{Point};
+ghost use Rattle.lra_linear.specs.declared.GenKind.TheVariants.{Point};
 ghost use Rattle.lra_cone.specs.Cones.{IsCone};
 ghost use Rattle.lra_cone.specs.Conversions.{AreGeneratorsOf, AreConstraintsOf, dual_kind};
 ghost use Rattle.lra_cone.specs.Conversions.{IsValid, ShowsValid, ShowsConstraints};

@@ -6,7 +6,8 @@ use Rattle.std.specs.Fmt.{digits}
 use Rattle.lra_base.specs.declared.options.Domain.{Domain}
 use Rattle.lra_base.specs.declared.options.Domain.TheVariants.{Poly, Box}
 use Rattle.lra_base.specs.declared.options.Options.{Options}
-use Rattle.lra_findings.specs.Report.{Place, point, ray, line, Generator, Part, PointReport, Verdict, Report}
+use Rattle.lra_findings.specs.Report.{Place, Generator, Part, PointReport, Verdict, Report}
+use Rattle.lra_linear.specs.declared.GenKind.TheVariants.{Point, Ray, Line}
 use Rattle.lra_linear.specs.declared.ConKind.TheVariants.{Ge, Eq}
 use Rattle.lra_program.specs.Rows.{Row}
 use Rattle.lra_findings.specs.ReportText.{text_line, row_text, generator_text, state_text, flag_text, report_text, shown_names, path_text}
@@ -25,13 +26,13 @@ abbrev pub is_positive : ℤ → List ℤ → Row
 is_positive c cs = record { kind = Ge; constant = c; coefficients = cs }
 
 abbrev pub a_point : ℕ → List ℤ → Generator
-a_point d zs = record { kind = point; divisor = d; numbers = zs }
+a_point d zs = record { kind = Point; divisor = d; numbers = zs }
 
 abbrev pub a_ray : List ℤ → Generator
-a_ray zs = record { kind = ray; divisor = 0; numbers = zs }
+a_ray zs = record { kind = Ray; divisor = 0; numbers = zs }
 
 abbrev pub a_line : List ℤ → Generator
-a_line zs = record { kind = line; divisor = 0; numbers = zs }
+a_line zs = record { kind = Line; divisor = 0; numbers = zs }
 
 abbrev pub rows_alone : List Row → Part
 rows_alone rows = record { rows = rows; generators = [] }

@@ -5,7 +5,9 @@ use Rattle.std.specs.Prelude.{◌≡◌, ◌↔◌, ℕ, ◌<◌, ℤ, pos, ◌+
 use Rattle.std.specs.List.{AllByRecursion}
 use Rattle.lra_base.specs.declared.options.Domain.{Domain}
 use Rattle.lra_base.specs.declared.options.Domain.TheVariants.{Poly, Box, Oct}
-use Rattle.lra_findings.specs.Report.{GeneratorKind, point, ray, line, Generator, Part}
+use Rattle.lra_findings.specs.Report.{Generator, Part}
+use Rattle.lra_linear.specs.declared.GenKind.{GenKind}
+use Rattle.lra_linear.specs.declared.GenKind.TheVariants.{Point, Ray, Line}
 use Rattle.lra_linear.specs.Descriptions.{HoldsWith}
 use Rattle.lra_linear.specs.Kinds.{is_equality}
 use Rattle.lra_linear.specs.Vectors.{product}
@@ -29,10 +31,10 @@ abbrev pub IsWithin : List Row → RationalPoint → Type 0
 IsWithin rows x = AllByRecursion (λ r. RowHoldsAt r x) rows
 
 -- a line is taken with a factor of either sign
-abbrev pub IsFactor : GeneratorKind → ℤ → Type 0
-IsFactor point z = pos 0 ≤ℤ z
-IsFactor ray z = pos 0 ≤ℤ z
-IsFactor line z = ⊤
+abbrev pub IsFactor : GenKind → ℤ → Type 0
+IsFactor Point z = pos 0 ≤ℤ z
+IsFactor Ray z = pos 0 ≤ℤ z
+IsFactor Line z = ⊤
 
 -- one factor for each generator
 abbrev pub AreFactors : List Generator → List ℤ → Type 0
@@ -59,10 +61,10 @@ abbrev pub HasPoint : ℕ → Part → Type 0
 HasPoint n part = (x : RationalPoint) × IsPoint n x × IsWithin part.rows x
 
 -- points divide; rays and lines don't
-abbrev pub DividesAs : GeneratorKind → ℕ → Type 0
-DividesAs point d = 0 < d
-DividesAs ray d = d ≡ 0
-DividesAs line d = d ≡ 0
+abbrev pub DividesAs : GenKind → ℕ → Type 0
+DividesAs Point d = 0 < d
+DividesAs Ray d = d ≡ 0
+DividesAs Line d = d ≡ 0
 
 -- A part over n variables as the domain has it. Without generators over boxes and octagons the text, which writes those
 -- that are there, agrees with the JSON, which goes by the domain.

@@ -4,18 +4,14 @@ use Rattle.std.specs.Prelude.{◌⊎◌, ℕ, ℤ, List, [], ◌∷◌, Bool, Op
 use Rattle.std.specs.List.{AllByRecursion}
 pub use Rattle.lra_base.specs.declared.refusals.Place.{Place}
 use Rattle.lra_base.specs.declared.options.Options.{Options}
+use Rattle.lra_linear.specs.declared.GenKind.{GenKind}
 use Rattle.lra_program.specs.Program.{Program}
 use Rattle.lra_program.specs.Run.{Point, At, Fails}
 use Rattle.lra_program.specs.Rows.{Row, RowHolds}
 
 -- a point divides its numbers by `divisor`; a ray and a line have the divisor 0
-pub data GeneratorKind : Type 0 where
-  point : GeneratorKind
-  ray : GeneratorKind
-  line : GeneratorKind
-
 pub record Generator : Type 0 where
-  pub kind : GeneratorKind
+  pub kind : GenKind
   pub divisor : ℕ
   pub numbers : List ℤ
 

@@ -6,9 +6,11 @@ use Rattle.std.specs.List.{flat_map}
 use Rattle.std.specs.Fmt.{decimal, signed_decimal}
 use Rattle.lra_base.specs.declared.options.Options.{Options}
 use Rattle.lra_base.specs.DomainNames.{domain_name}
-use Rattle.lra_findings.specs.Report.{Place, GeneratorKind, point, ray, line, Generator, Part, Invariant, PointReport}
+use Rattle.lra_findings.specs.Report.{Place, Generator, Part, Invariant, PointReport}
 use Rattle.lra_findings.specs.Report.{Verdict, Report}
 use Rattle.lra_linear.specs.declared.ConKind.{ConKind}
+use Rattle.lra_linear.specs.declared.GenKind.{GenKind}
+use Rattle.lra_linear.specs.declared.GenKind.TheVariants.{Point, Ray, Line}
 use Rattle.lra_linear.specs.declared.ConKind.TheVariants.{Ge, Eq}
 use Rattle.lra_program.specs.Rows.{Row}
 
@@ -104,20 +106,20 @@ coordinate_text z divisor =
     fraction_text (int_div z (pos g)) (divisor / g)
 
 -- a ray's and a line's numbers are whole
-abbrev pub value_text : GeneratorKind → ℕ → ℤ → List ℕ
-value_text point divisor z = coordinate_text z divisor
-value_text ray divisor z = signed_decimal z
-value_text line divisor z = signed_decimal z
+abbrev pub value_text : GenKind → ℕ → ℤ → List ℕ
+value_text Point divisor z = coordinate_text z divisor
+value_text Ray divisor z = signed_decimal z
+value_text Line divisor z = signed_decimal z
 
 abbrev pub values_text : (ℤ → List ℕ) → List (List ℕ) → List ℤ → List ℕ
 values_text text [] zs = []
 values_text text (name ∷ names) [] = []
 values_text text (name ∷ names) (z ∷ zs) = codes " " ++ name ++ codes "=" ++ text z ++ values_text text names zs
 
-abbrev pub generator_kind_text : GeneratorKind → List ℕ
-generator_kind_text point = codes "point"
-generator_kind_text ray = codes "ray"
-generator_kind_text line = codes "line"
+abbrev pub generator_kind_text : GenKind → List ℕ
+generator_kind_text Point = codes "point"
+generator_kind_text Ray = codes "ray"
+generator_kind_text Line = codes "line"
 
 abbrev pub generator_text : List (List ℕ) → Generator → List ℕ
 generator_text names g = generator_kind_text g.kind ++ values_text (value_text g.kind g.divisor) names g.numbers

@@ -3,7 +3,7 @@
 
 ghost use Rattle.std.specs.Prelude.{◌≡◌, ◌↔◌, IsTrue};
 ghost use Rattle.lra_linear.specs.Descriptions.{HoldsWith};
-ghost use Rattle.lra_linear.specs.Kinds.{is_equality};
+ghost use Rattle.lra_linear.specs.Kinds.{is_equality, is_line};
 
 /// Which of the two operations of a product of rows passes the range.
 #[derive(Clone, Copy, Debug, PartialEq, Eq)]
@@ -50,5 +50,23 @@ impl ConKind {
             ConKind::Ge => value >= 0,
             ConKind::Eq => value == 0,
         }
+    }
+}
+
+/// What a generator is. Column 0 of a point is its divisor, at least 1; rays and lines have 0 there. A list takes any
+/// row.
+#[derive(Clone, Copy, Debug, PartialEq, Eq)]
+pub enum GenKind {
+    Point,
+    Ray,
+    Line,
+}
+
+impl GenKind {
+    /// Whether a generator of the kind may be taken with either sign.
+    pub fn goes_both_ways(self) -> bool
+        ensures { result ≡ is_line self }
+    {
+        self == GenKind::Line
     }
 }

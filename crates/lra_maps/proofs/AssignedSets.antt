@@ -12,7 +12,7 @@ use Rattle.lra_linear.specs.Vectors.{dot, entry, negated, product}
 use Rattle.lra_linear.proofs.Polyhedra.{con_gen}
 use Rattle.lra_linear.proofs.Products.{dot_negated, dot_plus, dot_same, dot_zero, entry_set_other}
 use Rattle.lra_sys.specs.Listed.{Listed, generators}
-use Rattle.lra_sys.specs.declared.system.GenKind.{GenKind}
+use Rattle.lra_linear.specs.declared.GenKind.{GenKind}
 use Rattle.lra_maps.proofs.MappedSets.{IsMapOf, mapped_from, mapped_in}
 use Rattle.lra_maps.proofs.OutcomeLemmas.{Takes}
 use Rattle.lra_maps.proofs.ShortenedSets.{widths_of}

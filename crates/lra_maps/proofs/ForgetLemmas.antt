@@ -19,7 +19,7 @@ use Rattle.lra_linear.proofs.Ring.{ring, v, ⊖, ◌⊕◌, ◌⊗◌}
 use Rattle.lra_linear.proofs.Signs.{as_nat, positive_nat, times_positive}
 use Rattle.lra_cone.proofs.WholeSpace.{unit_length}
 use Rattle.lra_sys.specs.Listed.{Listed, generators}
-use Rattle.lra_sys.specs.declared.system.GenKind.{GenKind}
+use Rattle.lra_linear.specs.declared.GenKind.{GenKind}
 use Rattle.lra_maps.proofs.ListLemmas.{line_seen}
 use Rattle.lra_maps.proofs.OutcomeLemmas.{Takes}
 use Rattle.lra_maps.proofs.Sums.{system_joined, with_line, zero_entry, zeros_width}

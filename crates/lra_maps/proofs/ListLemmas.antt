@@ -8,9 +8,10 @@ use Rattle.lra_linear.specs.Descriptions.{Given, line}
 use Rattle.lra_linear.specs.OperationStrain.{unit_row}
 use Rattle.lra_linear.specs.Vectors.{entry}
 use Rattle.lra_linear.proofs.Membership.{contains_head, contains_tail}
-use Rattle.lra_sys.specs.Listed.{FitKinds, FitsKind, Listed, generators, given_by, is_line}
-use Rattle.lra_sys.specs.declared.system.GenKind.{GenKind}
-use Rattle.lra_sys.specs.declared.system.GenKind.TheVariants.{Line, Point, Ray}
+use Rattle.lra_linear.specs.Kinds.{is_line}
+use Rattle.lra_sys.specs.Listed.{FitKinds, FitsKind, Listed, generators, given_by}
+use Rattle.lra_linear.specs.declared.GenKind.{GenKind}
+use Rattle.lra_linear.specs.declared.GenKind.TheVariants.{Line, Point, Ray}
 use Rattle.lra_poly.proofs.JoinedLists.{given_joined, kinds_joined}
 use Rattle.lra_maps.proofs.Sums.{mapped_by}
 

@@ -29,7 +29,7 @@ use Rattle.lra_linear.proofs.RowOrder.{inequality_cmp_total, never_both, row_cmp
 use Rattle.lra_linear.proofs.Signs.{positive_is_nonnegative, zero_at_least}
 use Rattle.lra_linear.specs.declared.ConKind.{ConKind}
 use Rattle.lra_sys.specs.Listed.{FitKinds, Listed, constraints, generators}
-use Rattle.lra_sys.specs.declared.system.GenKind.{GenKind}
+use Rattle.lra_linear.specs.declared.GenKind.{GenKind}
 use Rattle.lra_canon.specs.Echelons.{HaveWidth}
 use Rattle.lra_canon.specs.Reduced.{IsReducedBy}
 use Rattle.lra_canon.proofs.Orders.{tied_itself}

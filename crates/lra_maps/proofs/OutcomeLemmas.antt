@@ -8,7 +8,7 @@ use Rattle.lra_linear.specs.SetOperations.{Forget}
 use Rattle.lra_linear.specs.Strain.{Loss}
 use Rattle.lra_maps.specs.Forgetting.{IsForgotten}
 use Rattle.lra_sys.specs.Listed.{Listed, generators}
-use Rattle.lra_sys.specs.declared.system.GenKind.{GenKind}
+use Rattle.lra_linear.specs.declared.GenKind.{GenKind}
 use Rattle.lra_poly.specs.Outcomes.{IfExact, IfFlagged}
 use Rattle.lra_poly.specs.declared.outcome.Outcome.{Outcome}
 use Rattle.lra_poly.specs.declared.outcome.Outcome.TheVariants.{Exact, Flagged}

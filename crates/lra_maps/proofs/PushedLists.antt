@@ -7,9 +7,10 @@ use Rattle.std.proofs.lemmas.List.{length-append, map-append, take_all}
 use Rattle.lra_linear.specs.Descriptions.{Given, given_as, line}
 use Rattle.lra_linear.specs.OperationStrain.{as_directions, unit_row}
 use Rattle.lra_linear.specs.Vectors.{behind_zero, cleared, units, zeros}
-use Rattle.lra_sys.specs.Listed.{FitKinds, FitsKind, Listed, generators, given_by, is_line}
-use Rattle.lra_sys.specs.declared.system.GenKind.{GenKind}
-use Rattle.lra_sys.specs.declared.system.GenKind.TheVariants.{Line, Point}
+use Rattle.lra_linear.specs.Kinds.{is_line}
+use Rattle.lra_sys.specs.Listed.{FitKinds, FitsKind, Listed, generators, given_by}
+use Rattle.lra_linear.specs.declared.GenKind.{GenKind}
+use Rattle.lra_linear.specs.declared.GenKind.TheVariants.{Line, Point}
 use Rattle.lra_sys.proofs.FirstMembers.{front, given_more, member}
 use Rattle.lra_poly.proofs.JoinedLists.{given_joined, kinds_joined}
 use Rattle.lra_maps.proofs.Sums.{zeros_width}

@@ -13,7 +13,7 @@ use Rattle.lra_linear.proofs.Polyhedra.{con_gen}
 use Rattle.lra_linear.proofs.Ring.{ring, v, ◌⊕◌, ◌⊗◌}
 use Rattle.lra_linear.proofs.SetOperations.{has_vertex}
 use Rattle.lra_sys.specs.Listed.{Listed, generators}
-use Rattle.lra_sys.specs.declared.system.GenKind.{GenKind}
+use Rattle.lra_linear.specs.declared.GenKind.{GenKind}
 use Rattle.lra_maps.proofs.MappedSets.{IsMapOf, mapped_from, mapped_in}
 use Rattle.lra_maps.proofs.OutcomeLemmas.{Takes}
 use Rattle.lra_maps.proofs.Sums.{IsLinear}

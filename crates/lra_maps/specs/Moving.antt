@@ -6,7 +6,7 @@ use Rattle.lra_linear.specs.SetOperations.{assigned}
 use Rattle.lra_linear.specs.Vectors.{entry, substituted}
 use Rattle.lra_linear.specs.declared.ConKind.{ConKind}
 use Rattle.lra_sys.specs.Listed.{Listed}
-use Rattle.lra_sys.specs.declared.system.GenKind.{GenKind}
+use Rattle.lra_linear.specs.declared.GenKind.{GenKind}
 use Rattle.lra_canon.specs.Echelons.{HaveWidth}
 use Rattle.lra_cone.specs.Conversions.{ShowsConstraints, ShowsGenerators}
 use Rattle.lra_pair.specs.OwnLists.{AreReducedBy}

@@ -6,7 +6,8 @@ ghost use Rattle.lra_linear.specs.Descriptions.{given_as, line};
 ghost use Rattle.lra_linear.specs.OperationStrain.{as_directions, shortened, unit_row};
 ghost use Rattle.lra_linear.specs.Vectors.{cleared, entry, units, zeros};
 ghost use Rattle.lra_sys.specs.Dimensions.{too_many_dimensions};
-ghost use Rattle.lra_sys.specs.Listed.{generators, FitKinds, FitsKind, is_line};
+ghost use Rattle.lra_linear.specs.Kinds.{is_line};
+ghost use Rattle.lra_sys.specs.Listed.{generators, FitKinds, FitsKind};
 
 use lra_cone::unit;
 use lra_row::Row;

@@ -11,8 +11,8 @@ use Rattle.lra_linear.specs.Strain.{Loss, Strains}
 use Rattle.lra_sys.specs.Listed.{Listed, constraints, generators, given_by, FitKinds}
 use Rattle.lra_linear.specs.Kinds.{is_equality}
 use Rattle.lra_linear.specs.declared.ConKind.{ConKind}
-use Rattle.lra_sys.specs.declared.system.GenKind.{GenKind}
-use Rattle.lra_sys.specs.declared.system.GenKind.TheVariants.{Point}
+use Rattle.lra_linear.specs.declared.GenKind.{GenKind}
+use Rattle.lra_linear.specs.declared.GenKind.TheVariants.{Point}
 use Rattle.lra_sys.proofs.Generators.{fitting_are_generators}
 use Rattle.lra_cone.specs.Cones.{Shape, IsCone, whole_space}
 use Rattle.lra_cone.specs.Conversions.{IsConversion, ShowsConstraints, ShowsValid, dual_kind}

@@ -18,14 +18,14 @@ use Rattle.lra_linear.proofs.Membership.{contains_head, contains_none, each_one,
 use Rattle.lra_linear.proofs.OneSpelling.{dual_same_cone, falsity_never, positivity_product}
 use Rattle.lra_linear.proofs.Polyhedra.{con_gen}
 use Rattle.lra_linear.proofs.Products.{dot_minus, entry_negated, negated_dot}
-use Rattle.lra_sys.specs.Listed.{Listed, constraints, generators, given_by, is_line, FitKinds}
-use Rattle.lra_linear.specs.Kinds.{is_equality}
+use Rattle.lra_sys.specs.Listed.{Listed, constraints, generators, given_by, FitKinds}
+use Rattle.lra_linear.specs.Kinds.{is_equality, is_line}
 use Rattle.lra_linear.specs.declared.ConKind.{ConKind}
 use Rattle.lra_linear.specs.declared.ConKind.TheVariants.{Ge}
 use Rattle.lra_linear.specs.OperationStrain.{unit_row}
 use Rattle.lra_linear.proofs.Lines.{in_lines}
 use Rattle.lra_pair.proofs.OwnRows.{all_width}
-use Rattle.lra_sys.specs.declared.system.GenKind.{GenKind}
+use Rattle.lra_linear.specs.declared.GenKind.{GenKind}
 use Rattle.lra_cone.specs.Cones.{Shape, IsCone}
 use Rattle.lra_cone.specs.Conversions.{HasGenerators, AreGeneratorsOf, HasConstraints, ShowsGenerators, ShowsConstraints}
 use Rattle.lra_cone.proofs.ConstraintLists.{listed_hold, nothing_is, same_constraints}

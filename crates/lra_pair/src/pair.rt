@@ -10,7 +10,7 @@ ghost use Rattle.lra_sys.specs.Dimensions.{too_many_dimensions};
 ghost use Rattle.lra_sys.specs.Listed.{constraints, generators, FitKinds};
 ghost use Rattle.lra_cone.specs.Cones.{IsCone};
 ghost use Rattle.lra_linear.specs.Strain.{Strains};
-ghost use Rattle.lra_sys.specs.declared.system.GenKind.TheVariants.{Point};
+ghost use Rattle.lra_linear.specs.declared.GenKind.TheVariants.{Point};
 ghost use Rattle.lra_cone.specs.Conversions.{IsConversion};
 ghost use Rattle.lra_cone.specs.Losses.{IfLost};
 ghost use Rattle.lra_pair.specs.KeptRows.{IsOfSome};

@@ -19,7 +19,7 @@ use Rattle.lra_cone.specs.Conversions.{dual_kind}
 use Rattle.lra_cone.proofs.ConstraintLists.{dual_given}
 use Rattle.lra_cone.proofs.TightRows.{rows_append, subset_from, subset_said}
 use Rattle.lra_sys.specs.Listed.{Listed, constraints, generators, given_by}
-use Rattle.lra_sys.specs.declared.system.GenKind.{GenKind}
+use Rattle.lra_linear.specs.declared.GenKind.{GenKind}
 use Rattle.lra_poly.specs.Saturations.{IsCovered, IsCoveredAt, saturated, saturation_of}
 use Rattle.lra_sys.proofs.FirstMembers.{front}
 use Rattle.lra_poly.proofs.KeptCones.{fewer_rays, with_some}

@@ -18,11 +18,11 @@ use Rattle.lra_poly.specs.declared.inclusion.Inclusion.{Inclusion}
 use Rattle.lra_poly.specs.declared.inclusion.Inclusion.TheVariants.{Yes, No, Wide}
 use Rattle.lra_sys.specs.FirstPlaces.{FirstAt}
 use Rattle.lra_poly.specs.Inclusions.{Meets, MeetsAll, IsInclusion, IsReply, TellsInclusion}
-use Rattle.lra_linear.specs.Kinds.{is_equality}
+use Rattle.lra_linear.specs.Kinds.{is_equality, is_line}
 use Rattle.lra_linear.specs.declared.ConKind.{ConKind}
 use Rattle.lra_sys.specs.declared.membership.Holds as H
-use Rattle.lra_sys.specs.declared.system.GenKind.{GenKind}
-use Rattle.lra_sys.specs.Listed.{Listed, constraints, generators, given_by, is_line}
+use Rattle.lra_linear.specs.declared.GenKind.{GenKind}
+use Rattle.lra_sys.specs.Listed.{Listed, constraints, generators, given_by}
 use Rattle.lra_sys.proofs.FirstMembers.{err_from}
 
 pub has_member : {A : Type 0} (Before Here : A → Type 0) (list : List A) (place : ℕ) (f : FirstAt Before Here list place) → Contains list f.member

@@ -5,7 +5,7 @@ use Rattle.lra_linear.specs.Descriptions.{Given}
 use Rattle.lra_linear.specs.Kinds.{is_equality}
 use Rattle.lra_linear.specs.declared.ConKind.{ConKind}
 use Rattle.lra_sys.specs.Listed.{Listed, constraints, given_by, FitKinds}
-use Rattle.lra_sys.specs.declared.system.GenKind.{GenKind}
+use Rattle.lra_linear.specs.declared.GenKind.{GenKind}
 
 pub given_joined : {K : Type 0} (equal : K → Bool) (rows more : List (List ℤ)) (kinds also : List K) → length rows ≡ length kinds →
     given_by equal (rows ++ more) (kinds ++ also) ≡ given_by equal rows kinds ++ given_by equal more also

@@ -24,8 +24,9 @@ use Rattle.lra_poly.specs.declared.outcome.Outcome.TheVariants.{Exact, Flagged}
 use Rattle.lra_poly.specs.Outcomes.{IfExact, IfFlagged, first_loss}
 use Rattle.lra_cone.specs.Losses.{IfLost}
 use Rattle.lra_pair.proofs.OwnRows.{none_of}
-use Rattle.lra_sys.specs.Listed.{Listed, generators, given_by, is_line}
-use Rattle.lra_sys.specs.declared.system.GenKind.{GenKind}
+use Rattle.lra_linear.specs.Kinds.{is_line}
+use Rattle.lra_sys.specs.Listed.{Listed, generators, given_by}
+use Rattle.lra_linear.specs.declared.GenKind.{GenKind}
 use Rattle.std.specs.Prelude.{◌↔◌, ◌==◌, IsTrue}
 
 -- ---- without a point

@@ -10,8 +10,9 @@ use Rattle.lra_linear.specs.Vectors.{entry, product}
 use Rattle.lra_linear.proofs.OneSpelling.{positivity_product}
 use Rattle.lra_cone.specs.Cones.{saturation_of as by_rays, saturation_rows, tight_values}
 use Rattle.lra_cone.specs.Steps.{IsFilled}
-use Rattle.lra_sys.specs.Listed.{given_by, is_line}
-use Rattle.lra_sys.specs.declared.system.GenKind.{GenKind}
+use Rattle.lra_linear.specs.Kinds.{is_line}
+use Rattle.lra_sys.specs.Listed.{given_by}
+use Rattle.lra_linear.specs.declared.GenKind.{GenKind}
 use Rattle.lra_poly.specs.Saturations.{column, saturated, saturation_of}
 use Rattle.lra_poly.proofs.SaturationLemmas.{given_length}
 use Rattle.lra_sys.proofs.FirstMembers.{front, front_length, given_more, given_split, member}

@@ -7,7 +7,7 @@ use Rattle.lra_linear.specs.Vectors.{entry}
 use Rattle.lra_linear.specs.LowestTerms.{IsPrimitive}
 use Rattle.lra_linear.specs.Echelon.{Leads}
 use Rattle.lra_linear.specs.declared.ConKind.TheVariants as con
-use Rattle.lra_sys.specs.declared.system.GenKind.TheVariants as gen
+use Rattle.lra_linear.specs.declared.GenKind.TheVariants as gen
 use Rattle.lra_sys.specs.Listed.{FitsKind}
 use Rattle.lra_show.specs.Shown.{report_row, report_generator}
 use Rattle.lra_findings.specs.ReportText.{is_turned}

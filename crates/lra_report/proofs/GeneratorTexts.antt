@@ -18,7 +18,9 @@ use Rattle.lra_linear.proofs.LowestTerms.{same_multiple, signed_quotient_is}
 use Rattle.lra_linear.proofs.Products.{row_same}
 use Rattle.lra_linear.proofs.Signs.{cancel_same}
 use Rattle.lra_linear.proofs.Ring.{v as atom, ◌⊗◌, ring}
-use Rattle.lra_findings.specs.Report.{GeneratorKind, point, ray, line, Generator}
+use Rattle.lra_findings.specs.Report.{Generator}
+use Rattle.lra_linear.specs.declared.GenKind.{GenKind}
+use Rattle.lra_linear.specs.declared.GenKind.TheVariants.{Point, Ray, Line}
 use Rattle.lra_findings.specs.ReportText.{greatest_divisor, fraction_text, coordinate_text, value_text, values_text, generator_kind_text, generator_text}
 use Rattle.lra_report.specs.Spelled.{IsSpelledGenerator}
 use Rattle.lra_report.proofs.Fronts.{is_visible, Ends, first_same, rest_same, both_same}
@@ -205,34 +207,34 @@ point_same d e ys zs sd se py pz h =
     columns zero = commuted (pos e) (pos d)
     columns (suc j) = crossed_entry d e ys zs j h
 
-generator_by : (k : GeneratorKind) (d e : ℕ) (ys zs : List ℤ) → d ≡ e → ys ≡ zs → (let x : Generator = record { kind = k; divisor = d; numbers = ys } in x) ≡
+generator_by : (k : GenKind) (d e : ℕ) (ys zs : List ℤ) → d ≡ e → ys ≡ zs → (let x : Generator = record { kind = k; divisor = d; numbers = ys } in x) ≡
     record { kind = k; divisor = e; numbers = zs }
 generator_by k d e ys zs p q = ap (λ x. record { kind = k; divisor = x; numbers = ys }) p ∙ ap (λ x. record { kind = k; divisor = e; numbers = x }) q
 
 other_kind : {A : Type 0} (a b : ℕ) (t u : List ℕ) → nat_eq a b ≡ false → a ∷ t ≡ b ∷ u → A
 other_kind a b t u h e = absurd (eqb-false a b h (first_same e))
 
-generator_cases : (ns : List (List ℕ)) (k l : GeneratorKind) (d e : ℕ) (ys zs : List ℤ) (u w : List ℕ) → length ys ≡ length ns → length zs ≡ length ns →
+generator_cases : (ns : List (List ℕ)) (k l : GenKind) (d e : ℕ) (ys zs : List ℤ) (u w : List ℕ) → length ys ≡ length ns → length zs ≡ length ns →
     IsSpelledGenerator (record { kind = k; divisor = d; numbers = ys }) → IsSpelledGenerator (record { kind = l; divisor = e; numbers = zs }) →
     generator_kind_text k ++ (values_text (value_text k d) ns ys ++ (10 ∷ u)) ≡ generator_kind_text l ++ (values_text (value_text l e) ns zs ++ (10 ∷ w)) →
     ((let x : Generator = record { kind = k; divisor = d; numbers = ys } in x) ≡ record { kind = l; divisor = e; numbers = zs }) × (u ≡ w)
-generator_cases ns point point d e ys zs u w ly lz hy hz eq =
+generator_cases ns Point Point d e ys zs u w ly lz hy hz eq =
     let s = point_values ns d e ys zs u w hy.divides hz.divides (short_in_range (pos d) hy.divisor_in) (short_in_range (pos e) hz.divisor_in) ly lz hy.numbers_in hz.numbers_in
     (append_cancel_left (codes "point") _ _ eq) in
     let t = point_same d e ys zs hy.divides hz.divides hy.reduced hz.reduced s.0 in
-    (generator_by point d e ys zs t.0 t.1, s.1)
-generator_cases ns ray ray d e ys zs u w ly lz hy hz eq =
+    (generator_by Point d e ys zs t.0 t.1, s.1)
+generator_cases ns Ray Ray d e ys zs u w ly lz hy hz eq =
     let s = whole_values ns ys zs u w ly lz hy.numbers_in hz.numbers_in (append_cancel_left (codes "ray") _ _ eq) in
-    (generator_by ray d e ys zs (hy.divides ∙ sym hz.divides) s.0, s.1)
-generator_cases ns line line d e ys zs u w ly lz hy hz eq =
+    (generator_by Ray d e ys zs (hy.divides ∙ sym hz.divides) s.0, s.1)
+generator_cases ns Line Line d e ys zs u w ly lz hy hz eq =
     let s = whole_values ns ys zs u w ly lz hy.numbers_in hz.numbers_in (append_cancel_left (codes "line") _ _ eq) in
-    (generator_by line d e ys zs (hy.divides ∙ sym hz.divides) s.0, s.1)
-generator_cases ns point ray d e ys zs u w ly lz hy hz eq = other_kind 112 114 _ _ refl eq
-generator_cases ns point line d e ys zs u w ly lz hy hz eq = other_kind 112 108 _ _ refl eq
-generator_cases ns ray point d e ys zs u w ly lz hy hz eq = other_kind 114 112 _ _ refl eq
-generator_cases ns ray line d e ys zs u w ly lz hy hz eq = other_kind 114 108 _ _ refl eq
-generator_cases ns line point d e ys zs u w ly lz hy hz eq = other_kind 108 112 _ _ refl eq
-generator_cases ns line ray d e ys zs u w ly lz hy hz eq = other_kind 108 114 _ _ refl eq
+    (generator_by Line d e ys zs (hy.divides ∙ sym hz.divides) s.0, s.1)
+generator_cases ns Point Ray d e ys zs u w ly lz hy hz eq = other_kind 112 114 _ _ refl eq
+generator_cases ns Point Line d e ys zs u w ly lz hy hz eq = other_kind 112 108 _ _ refl eq
+generator_cases ns Ray Point d e ys zs u w ly lz hy hz eq = other_kind 114 112 _ _ refl eq
+generator_cases ns Ray Line d e ys zs u w ly lz hy hz eq = other_kind 114 108 _ _ refl eq
+generator_cases ns Line Point d e ys zs u w ly lz hy hz eq = other_kind 108 112 _ _ refl eq
+generator_cases ns Line Ray d e ys zs u w ly lz hy hz eq = other_kind 108 114 _ _ refl eq
 
 pub generator_same : (ns : List (List ℕ)) (g h : Generator) (u w : List ℕ) → length g.numbers ≡ length ns → length h.numbers ≡ length ns → IsSpelledGenerator g → IsSpelledGenerator h →
     generator_text ns g ++ (10 ∷ u) ≡ generator_text ns h ++ (10 ∷ w) → (g ≡ h) × (u ≡ w)

@@ -3,14 +3,15 @@ use Rattle.std.proofs.Common.{◌≡◌, ℕ, ℤ, pos, negsuc, List, [], ◌∷
 use Rattle.std.specs.Fmt.{digits}
 use Rattle.lra_linear.specs.declared.ConKind.TheVariants.{Eq}
 use Rattle.lra_program.specs.Rows.{Row}
-use Rattle.lra_findings.specs.Report.{point, Generator}
+use Rattle.lra_findings.specs.Report.{Generator}
+use Rattle.lra_linear.specs.declared.GenKind.TheVariants.{Point}
 use Rattle.lra_findings.specs.ReportText.{row_text, generator_text, shown_names}
 
 abbrev is_zero : ℤ → List ℤ → Row
 is_zero c cs = record { kind = Eq; constant = c; coefficients = cs }
 
 abbrev point_of : ℕ → List ℤ → Generator
-point_of d zs = record { kind = point; divisor = d; numbers = zs }
+point_of d zs = record { kind = Point; divisor = d; numbers = zs }
 
 -- x - 3 = 0 and 3 - x = 0: an equality is directed
 equality_and_opposite : row_text (codes "x" ∷ []) (is_zero (negsuc 2) (pos 1 ∷ [])) ≡ row_text (codes "x" ∷ []) (is_zero (pos 3) (negsuc 0 ∷ []))

@@ -3,7 +3,7 @@ use Rattle.std.specs.Prelude.{ℤ, List, [], ◌∷◌, Option, Some, None}
 use Rattle.std.specs.List.{AllByRecursion}
 use Rattle.lra_linear.specs.Range.{InRange}
 use Rattle.lra_linear.specs.declared.ConKind.{ConKind}
-use Rattle.lra_sys.specs.declared.system.GenKind.{GenKind}
+use Rattle.lra_linear.specs.declared.GenKind.{GenKind}
 use Rattle.lra_sys.specs.Listed.{Listed, FitKinds}
 use Rattle.lra_show.specs.Shown.{report_row, report_generator}
 use Rattle.lra_program.specs.Rows.{Row}

@@ -13,8 +13,10 @@ use Rattle.lra_tree.specs.Grammar.{Spells}
 use Rattle.lra_tree.specs.Faults.{Language}
 use Rattle.lra_meaning.specs.Refuse.{Accepts}
 use Rattle.lra_base.specs.declared.options.Options.{Options}
-use Rattle.lra_findings.specs.Report.{GeneratorKind, point, ray, line, Generator, Part, PointReport, Report}
+use Rattle.lra_findings.specs.Report.{Generator, Part, PointReport, Report}
 use Rattle.lra_linear.specs.declared.ConKind.{ConKind}
+use Rattle.lra_linear.specs.declared.GenKind.{GenKind}
+use Rattle.lra_linear.specs.declared.GenKind.TheVariants.{Point, Ray, Line}
 use Rattle.lra_linear.specs.declared.ConKind.TheVariants.{Ge, Eq}
 use Rattle.lra_program.specs.Rows.{Row}
 use Rattle.lra_findings.specs.ReportText.{is_turned, report_text}
@@ -33,10 +35,10 @@ pub record IsSpelledRow (r : Row) : Type 0 where
   pub in_range : IsRowInRange r
 
 -- only 1 divides the divisor of a point and all its numbers
-abbrev pub IsReduced : GeneratorKind → ℕ → List ℤ → Type 0
-IsReduced point d zs = IsPrimitive (pos d ∷ zs)
-IsReduced ray d zs = ⊤
-IsReduced line d zs = ⊤
+abbrev pub IsReduced : GenKind → ℕ → List ℤ → Type 0
+IsReduced Point d zs = IsPrimitive (pos d ∷ zs)
+IsReduced Ray d zs = ⊤
+IsReduced Line d zs = ⊤
 
 pub record IsSpelledGenerator (g : Generator) : Type 0 where
   pub divides : DividesAs g.kind g.divisor

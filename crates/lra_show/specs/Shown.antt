@@ -1,10 +1,9 @@
 -- Rows of constraints and of generators, as a report shows them.
 use Rattle.std.specs.Prelude.{ℕ, zero, suc, ℤ, pos, negsuc, nat_abs, Bool, true, false, List, [], ◌∷◌}
 use Rattle.lra_linear.specs.declared.ConKind.{ConKind}
-use Rattle.lra_sys.specs.declared.GenKind.{GenKind}
-use Rattle.lra_sys.specs.declared.GenKind.TheVariants as gen
+use Rattle.lra_linear.specs.declared.GenKind.{GenKind}
 use Rattle.lra_program.specs.Rows.{Row}
-use Rattle.lra_findings.specs.Report.{GeneratorKind, point, ray, line, Generator}
+use Rattle.lra_findings.specs.Report.{Generator}
 use Rattle.lra_findings.specs.ReportText.{form_text, terms_text}
 
 -- the constant stands in column 0
@@ -12,15 +11,10 @@ abbrev pub report_row : List ℤ → ConKind → Row
 report_row [] kind = record { kind = kind; constant = pos 0; coefficients = [] }
 report_row (c ∷ cs) kind = record { kind = kind; constant = c; coefficients = cs }
 
-abbrev pub report_generator_kind : GenKind → GeneratorKind
-report_generator_kind gen.Point = point
-report_generator_kind gen.Ray = ray
-report_generator_kind gen.Line = line
-
 -- the divisor stands in column 0: a point's is above 0, a ray's and a line's is 0
 abbrev pub report_generator : List ℤ → GenKind → Generator
-report_generator [] kind = record { kind = report_generator_kind kind; divisor = 0; numbers = [] }
-report_generator (d ∷ zs) kind = record { kind = report_generator_kind kind; divisor = nat_abs d; numbers = zs }
+report_generator [] kind = record { kind = kind; divisor = 0; numbers = [] }
+report_generator (d ∷ zs) kind = record { kind = kind; divisor = nat_abs d; numbers = zs }
 
 -- the terms from a coefficient on, where none or some stand before them
 abbrev pub rest_text : Bool → List ℤ → List (List ℕ) → List ℕ

@@ -3,8 +3,8 @@ use Rattle.std.specs.Prelude.{zero, suc, ℤ, pos, negsuc, Bool, true, false}
 use Rattle.lra_linear.specs.Descriptions.{Given}
 use Rattle.lra_linear.specs.Kinds.{constraint_kind}
 use Rattle.lra_linear.specs.Vectors.{entry}
-use Rattle.lra_sys.specs.declared.system.GenKind.{GenKind}
-use Rattle.lra_sys.specs.declared.system.GenKind.TheVariants as gen
+use Rattle.lra_linear.specs.declared.GenKind.{GenKind}
+use Rattle.lra_linear.specs.declared.GenKind.TheVariants as gen
 use Rattle.lra_program.specs.Rows.{Row}
 use Rattle.lra_findings.specs.Report.{Generator}
 use Rattle.lra_show.specs.Shown.{report_row, report_generator}

@@ -6,7 +6,7 @@ ghost use Rattle.lra_linear.specs.Range.{InRange};
 ghost use Rattle.lra_linear.specs.Vectors.{entry};
 ghost use Rattle.lra_sys.specs.Listed.{FitsKind};
 ghost use Rattle.lra_findings.specs.ReportText as report;
-ghost use Rattle.lra_show.specs.Shown.{report_generator, report_generator_kind};
+ghost use Rattle.lra_show.specs.Shown.{report_generator};
 
 use crate::names::Names;
 use lra_row::{Row, gcd};
@@ -53,7 +53,7 @@ fn push_value(text: &mut String, row: &Row, kind: GenKind, column: usize) -> Res
     requires inside { column < length row.now }
     requires fits { FitsKind kind row.now }
     ensures { OnOk result (string_bytes text.new ≡ string_bytes text.old ++
-        report.value_text (report_generator_kind kind) (nat_abs (entry row.now 0)) (entry row.now column)) }
+        report.value_text kind (nat_abs (entry row.now 0)) (entry row.now column)) }
 {
     let number = row.get(column);
     match kind {
@@ -71,7 +71,7 @@ fn push_values(
 ) -> Result<(), AllocError>
     requires { FitsKind kind row.now }
     ensures { OnOk result (string_bytes text.new ≡ string_bytes text.old ++
-        report.values_text (report.value_text (report_generator_kind kind) (nat_abs (entry row.now 0)))
+        report.values_text (report.value_text kind (nat_abs (entry row.now 0)))
         (map string_bytes names.now) (drop 1 row.now)) }
 {
     let columns = names.len().min(row.width().saturating_sub(1));

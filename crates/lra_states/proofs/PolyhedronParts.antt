@@ -9,7 +9,7 @@ use Rattle.lra_linear.specs.Polyhedra.{Polyhedron, IsPolyhedron, HasPoint, falsi
 use Rattle.lra_linear.specs.declared.ConKind.{ConKind}
 use Rattle.lra_linear.proofs.Membership.{contains_head}
 use Rattle.lra_linear.proofs.OneSpelling.{falsity_never}
-use Rattle.lra_sys.specs.declared.system.GenKind.{GenKind}
+use Rattle.lra_linear.specs.declared.GenKind.{GenKind}
 use Rattle.lra_sys.specs.Listed.{Listed, constraints, generators}
 use Rattle.lra_polydom.specs.Content.{is_absurd, listed, polyhedron_parts}
 use Rattle.lra_polydom.specs.Covering.{empty_parts, parts_empty}

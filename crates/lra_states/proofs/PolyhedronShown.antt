@@ -9,7 +9,7 @@ use Rattle.lra_linear.specs.declared.ConKind.TheVariants.{Ge, Eq}
 use Rattle.lra_linear.specs.Cones.{all_rows, both_ways}
 use Rattle.lra_linear.specs.Descriptions.{Given, given_as, HoldsWith, Con}
 use Rattle.lra_linear.specs.Echelon.{Leads, IsEchelon}
-use Rattle.lra_linear.specs.Kinds.{constraint_kind, is_equality}
+use Rattle.lra_linear.specs.Kinds.{constraint_kind, is_equality, is_line}
 use Rattle.lra_linear.specs.Points.{IsPoint}
 use Rattle.lra_linear.specs.Polyhedra.{Polyhedron, IsPolyhedron, HasPoint, falsity}
 use Rattle.lra_linear.specs.Range.{InRange}
@@ -18,9 +18,9 @@ use Rattle.lra_linear.proofs.Combinations.{generated_row}
 use Rattle.lra_linear.proofs.Membership.{contains_none, contains_head, contains_tail, contains_cases}
 use Rattle.lra_linear.proofs.OneSpelling.{falsity_never}
 use Rattle.lra_linear.proofs.Polyhedra.{con_gen, cone_gen, generators_are_generators}
-use Rattle.lra_sys.specs.declared.system.GenKind.{GenKind}
-use Rattle.lra_sys.specs.declared.system.GenKind.TheVariants.{Point, Ray, Line}
-use Rattle.lra_sys.specs.Listed.{Listed, given_by, is_line, constraints, generators, FitsKind, FitKinds}
+use Rattle.lra_linear.specs.declared.GenKind.{GenKind}
+use Rattle.lra_linear.specs.declared.GenKind.TheVariants.{Point, Ray, Line}
+use Rattle.lra_sys.specs.Listed.{Listed, given_by, constraints, generators, FitsKind, FitKinds}
 use Rattle.lra_program.specs.Rows.{Row, RowHolds}
 use Rattle.lra_show.specs.Shown.{report_row, report_generator}
 use Rattle.lra_show.specs.ShownDescriptions.{generator_kind, shown_constraint, shown_generator}

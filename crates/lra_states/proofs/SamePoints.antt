@@ -6,9 +6,9 @@ use Rattle.lra_linear.specs.Descriptions.{Given, IsGenerator, AreGenerators, lin
 use Rattle.lra_linear.specs.Kinds.{constraint_kind}
 use Rattle.lra_linear.specs.Vectors.{entry, product, sum_of, signed_sum}
 use Rattle.lra_linear.proofs.Membership.{contains_none, contains_head, contains_tail, contains_cases}
-use Rattle.lra_sys.specs.declared.system.GenKind.{GenKind}
-use Rattle.lra_sys.specs.declared.system.GenKind.TheVariants.{Line}
-use Rattle.lra_show.specs.Shown.{report_row, report_generator, report_generator_kind}
+use Rattle.lra_linear.specs.declared.GenKind.{GenKind}
+use Rattle.lra_linear.specs.declared.GenKind.TheVariants.{Line}
+use Rattle.lra_show.specs.Shown.{report_row, report_generator}
 use Rattle.lra_show.specs.ShownDescriptions.{generator_kind, shown_constraint, shown_generator}
 use Rattle.lra_findings.specs.Report.{Generator}
 use Rattle.lra_findings.specs.Parts.{RationalPoint, RowHoldsAt, IsWithin, IsFactor, AreFactors, IsGenerated}
@@ -42,7 +42,7 @@ con_within [] x h = tt
 con_within (r ∷ rows) x h = (row_from r.row r.equal x (h r (contains_head r rows)), con_within rows x (λ g k. h g (contains_tail r g rows k)))
 
 -- ---- columns of generators
-kind_of_report : (row : List ℤ) (k : GenKind) → (report_generator row k).kind ≡ report_generator_kind k
+kind_of_report : (row : List ℤ) (k : GenKind) → (report_generator row k).kind ≡ k
 kind_of_report [] k = refl
 kind_of_report (d ∷ zs) k = refl
 
@@ -78,12 +78,12 @@ numbers_are (g ∷ gs) j =
 
 -- ---- factors
 -- a point's and a ray's factor isn't negative
-kind_nonneg : (w z : ℤ) → IsFactor (report_generator_kind (generator_kind false w)) z → pos 0 ≤ℤ z
+kind_nonneg : (w z : ℤ) → IsFactor (generator_kind false w) z → pos 0 ≤ℤ z
 kind_nonneg (pos zero) z h = h
 kind_nonneg (pos (suc n)) z h = h
 kind_nonneg (negsuc n) z h = h
 
-nonneg_kind : (w z : ℤ) → pos 0 ≤ℤ z → IsFactor (report_generator_kind (generator_kind false w)) z
+nonneg_kind : (w z : ℤ) → pos 0 ≤ℤ z → IsFactor (generator_kind false w) z
 nonneg_kind (pos zero) z h = h
 nonneg_kind (pos (suc n)) z h = h
 nonneg_kind (negsuc n) z h = h

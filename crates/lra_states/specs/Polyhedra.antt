@@ -4,7 +4,7 @@ use Rattle.std.specs.List.{AllByRecursion}
 use Rattle.lra_linear.specs.declared.ConKind.{ConKind}
 use Rattle.lra_linear.specs.Descriptions.{Given, Con}
 use Rattle.lra_linear.specs.Polyhedra.{Polyhedron}
-use Rattle.lra_sys.specs.declared.system.GenKind.{GenKind}
+use Rattle.lra_linear.specs.declared.GenKind.{GenKind}
 use Rattle.lra_sys.specs.Listed.{Listed, constraints, generators}
 use Rattle.lra_base.specs.declared.options.Domain.TheVariants.{Poly}
 use Rattle.lra_show.specs.ShownDescriptions.{shown_constraint, shown_generator}

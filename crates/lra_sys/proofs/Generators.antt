@@ -2,9 +2,10 @@
 use Rattle.std.proofs.Common.{List, [], ◌∷◌, inl, inr, refl, subst, ℤ}
 use Rattle.lra_linear.specs.Descriptions.{Given, IsGenerator, AreGenerators}
 use Rattle.lra_linear.proofs.Membership.{contains_none, contains_cases}
-use Rattle.lra_sys.specs.declared.system.GenKind.{GenKind}
-use Rattle.lra_sys.specs.declared.system.GenKind.TheVariants as gen
-use Rattle.lra_sys.specs.Listed.{Listed, given_by, is_line, generators, FitsKind, FitKinds}
+use Rattle.lra_linear.specs.declared.GenKind.{GenKind}
+use Rattle.lra_linear.specs.declared.GenKind.TheVariants as gen
+use Rattle.lra_linear.specs.Kinds.{is_line}
+use Rattle.lra_sys.specs.Listed.{Listed, given_by, generators, FitsKind, FitKinds}
 
 is_generator : (kind : GenKind) (r : List ℤ) → FitsKind kind r → IsGenerator (record { row = r; equal = is_line kind })
 is_generator gen.Point r h = inl (refl, h)

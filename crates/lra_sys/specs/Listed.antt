@@ -1,11 +1,11 @@
 -- Rows with their kinds, as the descriptions of sets of points that they are.
-use Rattle.std.specs.Prelude.{◌≡◌, ℕ, ℤ, pos, ◌<ℤ◌, Bool, true, false, List, [], ◌∷◌}
+use Rattle.std.specs.Prelude.{◌≡◌, ℕ, ℤ, pos, ◌<ℤ◌, Bool, List, [], ◌∷◌}
 use Rattle.lra_linear.specs.Vectors.{entry}
 use Rattle.lra_linear.specs.Descriptions.{Given}
-use Rattle.lra_linear.specs.Kinds.{is_equality}
+use Rattle.lra_linear.specs.Kinds.{is_equality, is_line}
 use Rattle.lra_linear.specs.declared.ConKind.{ConKind}
-use Rattle.lra_sys.specs.declared.system.GenKind.{GenKind}
-use Rattle.lra_sys.specs.declared.system.GenKind.TheVariants as gen
+use Rattle.lra_linear.specs.declared.GenKind.{GenKind}
+use Rattle.lra_linear.specs.declared.GenKind.TheVariants as gen
 
 -- what a contract sees of a list of rows of n + 1 columns, each with a kind
 pub record Listed (K : Type 0) : Type 0 where
@@ -20,11 +20,6 @@ given_by equal (r ∷ rows) (k ∷ kinds) = record { row = r; equal = equal k } 
 
 abbrev pub constraints : Listed ConKind → List Given
 constraints s = given_by is_equality s.rows s.kinds
-
-abbrev pub is_line : GenKind → Bool
-is_line gen.Point = false
-is_line gen.Ray = false
-is_line gen.Line = true
 
 abbrev pub generators : Listed GenKind → List Given
 generators s = given_by is_line s.rows s.kinds

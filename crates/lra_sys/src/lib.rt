@@ -4,6 +4,6 @@
 mod membership;
 mod system;
 
-pub use lra_linear::ConKind;
+pub use lra_linear::{ConKind, GenKind};
 pub use membership::Holds;
-pub use system::{ConSys, GenKind, GenSys, TOO_MANY_DIMENSIONS};
+pub use system::{ConSys, GenSys, TOO_MANY_DIMENSIONS};

@@ -4,33 +4,14 @@ ghost use Rattle.std.specs.Prelude.{◌≡◌, ◌++◌, ◌∷◌, [], suc, ◌
 ghost use Rattle.std.specs.List.{All};
 ghost use Rattle.lra_linear.specs.Range.{InRange};
 ghost use Rattle.lra_sys.specs.Dimensions.{too_many_dimensions};
-ghost use Rattle.lra_sys.specs.Listed.{is_line};
 
-use lra_linear::ConKind;
+use lra_linear::{ConKind, GenKind};
 use lra_row::Row;
 use std::alloc::{AllocError, Global};
 use std::marker::Model;
 
 /// No memory holds a row of so many columns.
 pub const TOO_MANY_DIMENSIONS: usize = 1 << 62;
-
-/// What a generator is. Column 0 of a point is its divisor, at least 1; rays and lines have 0 there. A list takes any
-/// row.
-#[derive(Clone, Copy, Debug, PartialEq, Eq)]
-pub enum GenKind {
-    Point,
-    Ray,
-    Line,
-}
-
-impl GenKind {
-    /// Whether a generator of the kind may be taken with either sign.
-    pub fn goes_both_ways(self) -> bool
-        ensures { result ≡ is_line self }
-    {
-        self == GenKind::Line
-    }
-}
 
 /// Constraints.
 pub type ConSys = System<ConKind>;

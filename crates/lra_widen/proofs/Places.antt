@@ -7,7 +7,7 @@ use Rattle.lra_linear.specs.declared.Cause.TheVariants as cause
 use Rattle.lra_linear.specs.declared.ConKind.{ConKind}
 use Rattle.lra_linear.specs.declared.Excess as E
 use Rattle.lra_linear.specs.Descriptions.{Given}
-use Rattle.lra_linear.specs.Kinds.{is_equality}
+use Rattle.lra_linear.specs.Kinds.{is_equality, is_line}
 use Rattle.lra_linear.specs.Polyhedra.{Polyhedron}
 use Rattle.lra_linear.specs.Strain.{Loss}
 use Rattle.lra_linear.proofs.Membership.{contains_head, contains_tail}
@@ -16,9 +16,9 @@ use Rattle.lra_sys.specs.FirstPlaces.{FirstAt}
 use Rattle.lra_poly.specs.Inclusions.{IsInclusion, Meets, MeetsAll, Passes}
 use Rattle.lra_sys.proofs.FirstMembers.{member}
 use Rattle.lra_poly.proofs.InclusionLemmas.{has_member}
-use Rattle.lra_sys.specs.Listed.{Listed, constraints, generators, given_by, is_line}
-use Rattle.lra_sys.specs.declared.system.GenKind.{GenKind}
-use Rattle.lra_sys.specs.declared.system.GenKind.TheVariants.{Point}
+use Rattle.lra_sys.specs.Listed.{Listed, constraints, generators, given_by}
+use Rattle.lra_linear.specs.declared.GenKind.{GenKind}
+use Rattle.lra_linear.specs.declared.GenKind.TheVariants.{Point}
 use Rattle.lra_widen.specs.Validity.{IsValidity}
 use Rattle.lra_widen.specs.Widenings.{PassesOnBoth}
 use Rattle.lra_widen.specs.declared.validity.Validity.TheVariants as told

@@ -1,5 +1,5 @@
 use Rattle.std.proofs.Common.{◌≢◌, ℕ, ◌<◌, slice_index_or}
-use Rattle.lra_sys.specs.declared.system.GenKind.TheVariants.{Point}
+use Rattle.lra_linear.specs.declared.GenKind.TheVariants.{Point}
 use Rattle.lra_cone.proofs.lists.has_point.Given as goal
 
 abbrev pub invariant-loop-place : goal.invariant-loop-place

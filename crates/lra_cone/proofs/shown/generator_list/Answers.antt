@@ -5,7 +5,7 @@ use Rattle.std.specs.List.{All}
 use Rattle.std.proofs.lemmas.Grind.{common_steps}
 use Rattle.lra_cone.specs.Conversions.{points_of}
 use Rattle.lra_cone.proofs.Reordered.{points_widths, directions_widths, put_together, none_before}
-use Rattle.lra_sys.specs.declared.system.GenKind.TheVariants.{Point, Ray}
+use Rattle.lra_linear.specs.declared.GenKind.TheVariants.{Point, Ray}
 use Rattle.lra_cone.proofs.shown.generator_list.Goals as goal
 
 pub push_generators-requires : goal.push_generators-requires

@@ -3,7 +3,7 @@ use Rattle.std.proofs.Common.{◌∙◌, ap, length, suc, sym}
 use Rattle.lra_linear.specs.OperationStrain.{unit_row}
 use Rattle.lra_cone.proofs.WholeSpace.{unit_length}
 use Rattle.lra_sys.specs.Listed.{Listed}
-use Rattle.lra_sys.specs.declared.system.GenKind.{GenKind}
+use Rattle.lra_linear.specs.declared.GenKind.{GenKind}
 use Rattle.lra_maps.proofs.ForgetLemmas.{unit_level}
 use Rattle.lra_maps.proofs.ListLemmas.{line_added, line_fits, unit_seen}
 use Rattle.lra_maps.proofs.lists.with_line.Goals as goal

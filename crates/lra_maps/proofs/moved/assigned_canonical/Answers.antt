@@ -1,6 +1,6 @@
 -- Goals of `assigned_canonical`: the generators with the form's value in the column, as a canonical list.
 use Rattle.std.proofs.Common.{◌+◌, arith, ◌∙◌}
-use Rattle.lra_sys.specs.Listed.{is_line}
+use Rattle.lra_linear.specs.Kinds.{is_line}
 use Rattle.lra_linear.specs.SetOperations.{assigned}
 use Rattle.lra_maps.proofs.MovedLists.{KeepsWidth, lines_wide, rays_wide}
 use Rattle.lra_maps.proofs.TakenBack.{assigned_width}

@@ -1,8 +1,8 @@
 -- Goals of `assigned_parts`: the generators with the form's value in the column, lines apart.
 use Rattle.std.proofs.Common.{◌≡◌, ◌∙◌, ap, length, rules, sym}
 use Rattle.lra_linear.specs.SetOperations.{assigned}
-use Rattle.lra_sys.specs.Listed.{is_line}
-use Rattle.lra_sys.specs.declared.system.GenKind.TheVariants.{Point}
+use Rattle.lra_linear.specs.Kinds.{is_line}
+use Rattle.lra_linear.specs.declared.GenKind.TheVariants.{Point}
 use Rattle.lra_maps.proofs.MovedLists.{part_line, part_ray}
 use Rattle.lra_maps.proofs.moved.assigned_parts.Goals as goal
 use Rattle.lra_maps.proofs.moved.assigned_parts.Goals.{in-Line+in_ok-push-in-Line, in-Point+in_ok-push-in-Point, in-Ray+in_ok-push-in-Ray}

@@ -1,5 +1,5 @@
 use Rattle.lra_linear.specs.SetOperations.{assigned}
-use Rattle.lra_sys.specs.Listed.{is_line}
+use Rattle.lra_linear.specs.Kinds.{is_line}
 use Rattle.lra_maps.proofs.MovedLists.{ArePartsOf}
 use Rattle.lra_maps.proofs.moved.assigned_parts.Given as goal
 

@@ -3,7 +3,8 @@
 use Rattle.std.proofs.Common.{◌∙◌, List, ap, refl, sym}
 use Rattle.lra_linear.specs.Descriptions.{Given}
 use Rattle.lra_cone.specs.Cones.{Shape, saturation_of as by_rays}
-use Rattle.lra_sys.specs.Listed.{constraints, generators, is_line}
+use Rattle.lra_linear.specs.Kinds.{is_line}
+use Rattle.lra_sys.specs.Listed.{constraints, generators}
 use Rattle.lra_poly.proofs.FacetLemmas.{seen, taken_generators}
 use Rattle.lra_poly.proofs.StartLemmas.{some_given}
 use Rattle.lra_poly.proofs.facets.facet_cone.Goals as goal

@@ -3,8 +3,9 @@ use Rattle.std.proofs.Common.{arith, ap, sym, ◌∙◌, ◌≡◌, length, List
 use Rattle.std.specs.List.{All}
 use Rattle.lra_linear.specs.Descriptions.{Given}
 use Rattle.lra_sys.specs.declared.membership.Holds.TheVariants as holds
-use Rattle.lra_sys.specs.declared.system.GenKind.TheVariants.{Point}
-use Rattle.lra_sys.specs.Listed.{constraints, is_line}
+use Rattle.lra_linear.specs.declared.GenKind.TheVariants.{Point}
+use Rattle.lra_linear.specs.Kinds.{is_line}
+use Rattle.lra_sys.specs.Listed.{constraints}
 use Rattle.lra_sys.specs.FirstPlaces.{FirstAt}
 use Rattle.lra_poly.specs.Inclusions.{Meets, MeetsAll, Passes, ViolatesFirst}
 use Rattle.lra_sys.proofs.FirstMembers.{first_at, one_more, all_gone_through}

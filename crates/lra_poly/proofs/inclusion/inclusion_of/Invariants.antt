@@ -1,5 +1,6 @@
 use Rattle.std.specs.List.{All}
-use Rattle.lra_sys.specs.Listed.{constraints, is_line}
+use Rattle.lra_linear.specs.Kinds.{is_line}
+use Rattle.lra_sys.specs.Listed.{constraints}
 use Rattle.lra_poly.specs.Inclusions.{MeetsAll}
 use Rattle.lra_sys.proofs.FirstMembers.{front}
 use Rattle.lra_poly.proofs.inclusion.inclusion_of.Given as goal

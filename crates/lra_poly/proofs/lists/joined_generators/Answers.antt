@@ -1,6 +1,6 @@
 -- Goals of `joined_generators`: the generators of the first list, then those of the second.
 use Rattle.std.proofs.Common.{arith, ap, sym, ◌∙◌, length}
-use Rattle.lra_sys.specs.Listed.{is_line}
+use Rattle.lra_linear.specs.Kinds.{is_line}
 use Rattle.lra_poly.proofs.JoinedLists.{joined_given, joined_kinds}
 use Rattle.lra_poly.proofs.lists.joined_generators.Goals as goal
 

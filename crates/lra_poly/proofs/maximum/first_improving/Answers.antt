@@ -2,8 +2,8 @@
 use Rattle.std.proofs.Common.{◌≡◌, ◌∙◌, ap, arith, false, length, List, refl, sym, true}
 use Rattle.std.specs.List.{All}
 use Rattle.lra_linear.specs.Descriptions.{Given}
-use Rattle.lra_sys.specs.Listed.{is_line}
-use Rattle.lra_sys.specs.declared.system.GenKind.TheVariants.{Point}
+use Rattle.lra_linear.specs.Kinds.{is_line}
+use Rattle.lra_linear.specs.declared.GenKind.TheVariants.{Point}
 use Rattle.lra_sys.specs.FirstPlaces.{FirstAt}
 use Rattle.lra_poly.specs.Maxima.{DoesNotImprove, Improves, StaysInRange}
 use Rattle.lra_poly.specs.Rows.{form_row}

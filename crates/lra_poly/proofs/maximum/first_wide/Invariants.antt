@@ -1,5 +1,5 @@
 use Rattle.std.specs.List.{All}
-use Rattle.lra_sys.specs.Listed.{is_line}
+use Rattle.lra_linear.specs.Kinds.{is_line}
 use Rattle.lra_poly.specs.Maxima.{StaysInRange}
 use Rattle.lra_poly.specs.Rows.{form_row}
 use Rattle.lra_sys.proofs.FirstMembers.{front}

@@ -1,8 +1,9 @@
 -- Goals of `maximum_of`: the greatest value on the points of the generators.
 use Rattle.std.proofs.Common.{◌<◌, ap, length, subst, sym, ℕ}
 use Rattle.std.specs.List.{All}
-use Rattle.lra_sys.specs.Listed.{generators, is_line}
-use Rattle.lra_sys.specs.declared.system.GenKind.TheVariants.{Point}
+use Rattle.lra_linear.specs.Kinds.{is_line}
+use Rattle.lra_sys.specs.Listed.{generators}
+use Rattle.lra_linear.specs.declared.GenKind.TheVariants.{Point}
 use Rattle.lra_poly.specs.Maxima.{StaysInRange}
 use Rattle.lra_poly.specs.Rows.{form_row}
 use Rattle.lra_sys.proofs.FirstMembers.{at_member}

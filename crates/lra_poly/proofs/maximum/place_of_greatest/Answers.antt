@@ -1,8 +1,8 @@
 -- Goals of `place_of_greatest`: the first point at which the form's value is the greatest.
 use Rattle.std.proofs.Common.{arith, refl}
 use Rattle.std.specs.List.{All}
-use Rattle.lra_sys.specs.Listed.{is_line}
-use Rattle.lra_sys.specs.declared.system.GenKind.TheVariants.{Point}
+use Rattle.lra_linear.specs.Kinds.{is_line}
+use Rattle.lra_linear.specs.declared.GenKind.TheVariants.{Point}
 use Rattle.lra_poly.specs.Maxima.{StaysInRange}
 use Rattle.lra_poly.specs.Rows.{form_row}
 use Rattle.lra_sys.proofs.FirstMembers.{at_member}

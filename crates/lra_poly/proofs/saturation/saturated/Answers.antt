@@ -1,6 +1,6 @@
 -- Goals of `saturated`: for each of the generators, whether the row has product 0 with it.
 use Rattle.std.proofs.Common.{arith}
-use Rattle.lra_sys.specs.Listed.{is_line}
+use Rattle.lra_linear.specs.Kinds.{is_line}
 use Rattle.lra_poly.proofs.SaturationLemmas.{filled_saturated}
 use Rattle.lra_poly.proofs.saturation.saturated.Goals as goal
 

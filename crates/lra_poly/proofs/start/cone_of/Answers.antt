@@ -1,7 +1,8 @@
 -- Goals of `cone_of`: the cone of the constraints, by these generators; none where there is no generator, or are
 -- more than a cone may have.
 use Rattle.lra_linear.specs.ConeStrain.{row_limit}
-use Rattle.lra_sys.specs.Listed.{constraints, generators, is_line}
+use Rattle.lra_linear.specs.Kinds.{is_line}
+use Rattle.lra_sys.specs.Listed.{constraints, generators}
 use Rattle.lra_poly.proofs.KeptCones.{start_cone}
 use Rattle.lra_poly.proofs.StartLemmas.{few_given, matrix_width, some_given, start_matrix}
 use Rattle.lra_poly.proofs.start.cone_of.Goals as goal

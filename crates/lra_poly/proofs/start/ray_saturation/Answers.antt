@@ -3,7 +3,7 @@ use Rattle.std.proofs.Common.{◌≡◌, ◌∙◌, ◌∷◌, ap, length, sym}
 use Rattle.lra_bits.specs.Matrix.{Matrix}
 use Rattle.lra_linear.specs.Descriptions.{inequality}
 use Rattle.lra_linear.specs.Polyhedra.{positivity}
-use Rattle.lra_sys.specs.declared.system.GenKind.TheVariants.{Point}
+use Rattle.lra_linear.specs.declared.GenKind.TheVariants.{Point}
 use Rattle.lra_poly.proofs.StartLemmas.{matrix_more, matrix_left}
 use Rattle.lra_poly.proofs.start.ray_saturation.Goals.{then-not-goes_both_ways+in_ok-values_of+in_ok-add_row, else-not-goes_both_ways}
 use Rattle.lra_poly.proofs.start.ray_saturation.Goals as goal

@@ -2,7 +2,8 @@ use Rattle.std.proofs.Common.{◌≡◌, ◌∷◌, List, length, suc}
 use Rattle.lra_linear.specs.Descriptions.{Given, inequality, rays_of}
 use Rattle.lra_linear.specs.Polyhedra.{positivity}
 use Rattle.lra_cone.specs.Cones.{saturation_of as by_rays}
-use Rattle.lra_sys.specs.Listed.{given_by, is_line}
+use Rattle.lra_linear.specs.Kinds.{is_line}
+use Rattle.lra_sys.specs.Listed.{given_by}
 use Rattle.lra_poly.specs.Saturations.{saturation_of}
 use Rattle.lra_sys.proofs.FirstMembers.{front}
 use Rattle.lra_poly.proofs.start.ray_saturation.Given as goal

@@ -1,6 +1,6 @@
 -- Goals of `push_generators`: appends the lines of the generators.
 use Rattle.std.proofs.Common.{arith, get_or}
-use Rattle.lra_sys.specs.declared.system.GenKind.TheVariants as gen
+use Rattle.lra_linear.specs.declared.GenKind.TheVariants as gen
 use Rattle.lra_show.proofs.NamesShown.{drop_front}
 use Rattle.lra_show.specs.Shown.{report_generator}
 use Rattle.lra_report.specs.Lines.{generator_line}

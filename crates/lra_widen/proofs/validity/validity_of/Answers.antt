@@ -5,9 +5,8 @@ use Rattle.std.specs.List.{All, Contains}
 use Rattle.std.proofs.lemmas.Int.{to_z-of_z}
 use Rattle.lra_linear.specs.CheckedArithmetic.{checked_product}
 use Rattle.lra_linear.specs.Descriptions.{Given}
-use Rattle.lra_linear.specs.Kinds.{is_equality}
-use Rattle.lra_sys.specs.declared.system.GenKind.TheVariants.{Point}
-use Rattle.lra_sys.specs.Listed.{is_line}
+use Rattle.lra_linear.specs.Kinds.{is_equality, is_line}
+use Rattle.lra_linear.specs.declared.GenKind.TheVariants.{Point}
 use Rattle.lra_poly.specs.Inclusions.{Meets, Violates}
 use Rattle.lra_sys.proofs.FirstMembers.{member, first_at, one_more, all_gone_through, ok_of}
 use Rattle.lra_poly.proofs.InclusionLemmas.{has_member, seen_generators}

@@ -1,8 +1,7 @@
 use Rattle.std.specs.List.{All}
-use Rattle.lra_linear.specs.Kinds.{is_equality}
+use Rattle.lra_linear.specs.Kinds.{is_equality, is_line}
 use Rattle.lra_poly.specs.Inclusions.{Meets}
 use Rattle.lra_sys.proofs.FirstMembers.{front}
-use Rattle.lra_sys.specs.Listed.{is_line}
 use Rattle.lra_widen.proofs.validity.validity_of.Given as goal
 
 abbrev pub invariant-loop-place : goal.invariant-loop-place
