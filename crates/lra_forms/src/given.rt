@@ -20,21 +20,6 @@ use lra_row::Row;
 use lra_sys::{ConKind, ConSys};
 use std::alloc::{AllocError, Global};
 
-/// The row `form + more >= 0`, where `more` is 0 or 1.
-fn row_of_form(alloc: Global, form: &LinExpr, more: bool) -> Result<Row, AllocError>
-    ensures { IfOk result (λ r. r ≡ row_of form.now (if more then pos 1 else pos 0)) }
-{
-    let mut numbers = Vec::new(alloc);
-    numbers.push(form.constant() as i128 + more as i128)?;
-    let mut left = form.coefficients();
-    while let Some((coefficient, behind)) = left.split_first() {
-        numbers.push(*coefficient as i128)?;
-        left = behind;
-    }
-    let row = Row::from_slice(alloc, numbers.as_slice())?;
-    Ok(row)
-}
-
 /// The number times -1 comes last.
 fn push_negated(numbers: &mut Vec<i128>, number: &i64) -> Result<(), AllocError>
     ensures items { OnOk result (numbers.new.items ≡ numbers.old.items ++ neg_ℤ number.now ∷ []) }
@@ -74,8 +59,8 @@ fn give_test(
     let Some(test) = test_of(alloc, op, d)? else {
         return Ok(());
     };
-    rows.push(row_of_form(alloc, &test.expr, false)?, ConKind::Ge)?;
-    rows.push(row_of_form(alloc, &test.expr, true)?, ConKind::Ge)?;
+    rows.push(test.expr.to_row_plus(alloc, false)?, ConKind::Ge)?;
+    rows.push(test.expr.to_row_plus(alloc, true)?, ConKind::Ge)?;
     Ok(())
 }
 
@@ -85,7 +70,7 @@ fn give_difference(alloc: Global, d: &LinExpr, rows: &mut ConSys) -> Result<(), 
     ensures { OnOk result (HasMore rows.old rows.new (row_of d.now (pos 0) ∷
         opposite_row d.now ∷ [])) }
 {
-    rows.push(row_of_form(alloc, d, false)?, ConKind::Ge)?;
+    rows.push(d.to_row_plus(alloc, false)?, ConKind::Ge)?;
     rows.push(opposite_row_of(alloc, d)?, ConKind::Ge)?;
     Ok(())
 }

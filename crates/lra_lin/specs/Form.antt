@@ -13,6 +13,10 @@ pub record Form : Type 0 where
   pub constant : ℤ
   pub coefficients : List ℤ
 
+-- the row of a form: the constant in column 0, then the coefficients
+abbrev pub form_row : Form → List ℤ
+form_row f = f.constant ∷ f.coefficients
+
 -- the value of a form at a store
 abbrev pub form_value : Form → List ℤ → ℤ
 form_value f s = f.constant +ℤ product f.coefficients s

@@ -1,10 +1,12 @@
-ghost use Rattle.std.specs.Prelude.{◌≡◌, ◌↔◌, ◌+ℤ◌, ◌*ℤ◌, neg_ℤ, map, FitsSigned, IfOk, IfSome, IsNone, MatchOption};
+ghost use Rattle.std.specs.Prelude.{◌≡◌, ◌↔◌, ◌∷◌, pos, ◌+ℤ◌, ◌*ℤ◌, neg_ℤ, map, FitsSigned, IfOk, IfSome, IsNone};
+ghost use Rattle.std.specs.Prelude.{MatchOption, if◌then◌else◌};
 ghost use Rattle.std.specs.Int.{w64};
 ghost use Rattle.std.specs.List.{All};
 ghost use Rattle.std.specs.Option.{SomeIff};
-ghost use Rattle.lra_lin.specs.Form.{AddsInRange, FormFits, form_value, opposite_form, SummingPasses};
+ghost use Rattle.lra_linear.specs.Range.{InRange};
+ghost use Rattle.lra_lin.specs.Form.{AddsInRange, FormFits, form_row, form_value, opposite_form, SummingPasses};
 
-use lra_row::{add, mul};
+use lra_row::{Row, add, mul};
 use std::alloc::{AllocError, Global};
 use std::marker::Model;
 
@@ -63,6 +65,22 @@ impl LinExpr {
         self.coefficients.as_slice()
     }
 
+    /// The row of the form: its constant in column 0, then the coefficients.
+    pub fn to_row(&self, alloc: Global) -> Result<Row, AllocError>
+        ensures { IfOk result (λ r. r ≡ form_row self.now) }
+    {
+        row_with(alloc, self.constant as i128, self.coefficients.as_slice())
+    }
+
+    /// The row of the form, or of the form and 1 `more`.
+    pub fn to_row_plus(&self, alloc: Global, more: bool) -> Result<Row, AllocError>
+        ensures { IfOk result (λ r. r ≡
+            (self.now.constant +ℤ (if more then pos 1 else pos 0)) ∷ self.now.coefficients) }
+    {
+        let first = self.constant as i128 + more as i128;
+        row_with(alloc, first, self.coefficients.as_slice())
+    }
+
     /// The form's value at the store `point`, summed from the constant on in column order; `None` exactly where a
     /// product or a partial sum passes the range -(2^127 - 1) to 2^127 - 1.
     pub fn eval(&self, point: &[i64]) -> Option<i128>
@@ -83,6 +101,22 @@ impl LinExpr {
         let form = LinExpr::new(alloc, -1 - self.constant, coefficients.as_slice())?;
         Ok(Some(form))
     }
+}
+
+/// The row with this number in column 0, then the coefficients.
+fn row_with(alloc: Global, first: i128, coefficients: &[i64]) -> Result<Row, AllocError>
+    requires { InRange first }
+    ensures { IfOk result (λ r. r ≡ first ∷ coefficients.now) }
+{
+    let mut numbers = Vec::new(alloc);
+    numbers.push(first)?;
+    let mut left = coefficients;
+    while let Some((coefficient, behind)) = left.split_first() {
+        numbers.push(*coefficient as i128)?;
+        left = behind;
+    }
+    let row = Row::from_slice(alloc, numbers.as_slice())?;
+    Ok(row)
 }
 
 /// The numbers times -1, or `None` where one of these passes i64.

@@ -10,8 +10,7 @@ use Rattle.lra_linear.specs.Vectors.{entry, product}
 use Rattle.lra_linear.proofs.Descriptions.{gen_generated, generated_gen}
 use Rattle.lra_linear.proofs.Polyhedra.{con_gen}
 use Rattle.lra_linear.proofs.Ring.{ring, v, ◌⊗◌}
-use Rattle.lra_lin.specs.Form.{Form}
-use Rattle.lra_poly.specs.Rows.{form_row}
+use Rattle.lra_lin.specs.Form.{Form, form_row}
 use Rattle.lra_poly.proofs.PolyLemmas.{same_polyhedron}
 use Rattle.lra_maps.specs.Moving.{TakesBack}
 use Rattle.lra_maps.proofs.AssignedSets.{assigning, assigning_linear, set_entry}

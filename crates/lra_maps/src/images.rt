@@ -8,14 +8,14 @@ ghost use Rattle.lra_linear.specs.Polyhedra.{IsPolyhedronOf};
 ghost use Rattle.lra_linear.specs.SetOperations.{Forget, Image, Preimage};
 ghost use Rattle.lra_maps.specs.Forgetting.{IsForgotten};
 ghost use Rattle.lra_poly.specs.Outcomes.{IfExact, IfFlagged};
-ghost use Rattle.lra_poly.specs.Rows.{form_row};
+ghost use Rattle.lra_lin.specs.Form.{form_row};
 ghost use Rattle.lra_sys.specs.Listed.{generators, FitKinds};
 
 use crate::forming::{assigned_list, first_told, substituted_list};
 use crate::maps::forget;
 use crate::moved::{moved_image, moved_preimage};
 use lra_lin::LinExpr;
-use lra_poly::{Outcome, Poly, row_of_form};
+use lra_poly::{Outcome, Poly};
 use lra_row::Row;
 use lra_sys::GenSys;
 use std::alloc::AllocError;
@@ -96,7 +96,7 @@ pub fn image(p: &mut Poly, x: usize, form: &LinExpr) -> Result<Outcome, AllocErr
     ensures forgotten { IfOk result (IfFlagged (λ _. IsForgotten (suc x) p.old p.new)) }
     ensures unchanged { OnErr result (p.new ≡ p.old) }
 {
-    let row = row_of_form(p.allocator(), form)?;
+    let row = form.to_row(p.allocator())?;
     match moved_image(p, x + 1, &row)? {
         Some(made) => {
             *p = made;
@@ -141,7 +141,7 @@ pub fn preimage(p: &mut Poly, x: usize, form: &LinExpr) -> Result<Outcome, Alloc
     ensures strain { IfOk result (IfFlagged (PreimageStrains (suc x) (form_row form.now) p.old)) }
     ensures unchanged { OnErr result (p.new ≡ p.old) }
 {
-    let row = row_of_form(p.allocator(), form)?;
+    let row = form.to_row(p.allocator())?;
     match moved_preimage(p, x + 1, &row)? {
         Some(made) => {
             *p = made;

@@ -1,12 +1,8 @@
--- The rows of forms and of tests: the constant in column 0, then the coefficients.
-use Rattle.std.specs.Prelude.{ℤ, List, ◌∷◌}
-use Rattle.lra_lin.specs.Form.{Form}
+-- The constraints of tests.
+use Rattle.lra_lin.specs.Form.{Form, form_row}
 use Rattle.lra_linear.specs.declared.ConKind.{ConKind}
 use Rattle.lra_linear.specs.Descriptions.{Given}
 use Rattle.lra_linear.specs.Kinds.{is_equality}
-
-abbrev pub form_row : Form → List ℤ
-form_row f = f.constant ∷ f.coefficients
 
 -- the constraint that a test asks for
 abbrev pub test_row : ConKind → Form → Given

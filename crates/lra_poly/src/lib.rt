@@ -14,7 +14,6 @@ mod start;
 
 pub use inclusion::{Inclusion, accepts};
 pub use law::polyhedra_have_one_spelling;
-pub use lists::row_of_form;
 pub use maximum::Maximum;
 pub use outcome::Outcome;
 pub use poly::Poly;

@@ -1,13 +1,10 @@
 //! Lists that the operations take in.
 
 ghost use Rattle.std.specs.Prelude.{◌≡◌, ◌++◌, ◌∷◌, [], suc, length, IfOk};
-ghost use Rattle.std.specs.List.{All};
-ghost use Rattle.lra_linear.specs.Range.{InRange};
 ghost use Rattle.lra_sys.specs.Listed.{constraints, generators, FitKinds};
-ghost use Rattle.lra_poly.specs.Rows.{form_row, test_row};
+ghost use Rattle.lra_poly.specs.Rows.{test_row};
 
-use lra_lin::{LinExpr, Test};
-use lra_row::Row;
+use lra_lin::Test;
 use lra_sys::{ConSys, GenSys, TOO_MANY_DIMENSIONS};
 use std::alloc::{AllocError, Global};
 
@@ -44,21 +41,6 @@ pub fn joined_generators(first: &GenSys, second: &GenSys) -> Result<GenSys, Allo
     Ok(all)
 }
 
-/// The form as a row: the constant in column 0, then the coefficients.
-pub fn row_of_form(alloc: Global, form: &LinExpr) -> Result<Row, AllocError>
-    ensures { IfOk result (λ row. row ≡ form_row form.now) }
-{
-    let mut numbers = Vec::new(alloc);
-    numbers.push(form.constant() as i128)?;
-    let mut left = form.coefficients();
-    while let Some((coefficient, behind)) = left.split_first() {
-        numbers.push(*coefficient as i128)?;
-        left = behind;
-    }
-    let row = Row::from_slice(alloc, numbers.as_slice())?;
-    Ok(row)
-}
-
 // The constraint of the test, alone.
 pub fn list_test(alloc: Global, test: &Test) -> Result<ConSys, AllocError>
     ensures dims { IfOk result (λ list. list.dims ≡ length test.now.expr.coefficients) }
@@ -69,7 +51,7 @@ pub fn list_test(alloc: Global, test: &Test) -> Result<ConSys, AllocError>
         return Err(AllocError);
     }
     let mut list = ConSys::new(alloc, n);
-    let row = row_of_form(alloc, &test.expr)?;
+    let row = test.expr.to_row(alloc)?;
     list.push(row, test.kind)?;
     Ok(list)
 }

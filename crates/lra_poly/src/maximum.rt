@@ -5,7 +5,7 @@ ghost use Rattle.std.specs.Prelude.{Ok, IsErr, IsOk, IsTrue, MatchOption, slice_
 ghost use Rattle.std.specs.Int.{IsGcd};
 ghost use Rattle.std.specs.List.{All};
 ghost use Rattle.std.specs.Option.{SomeIff};
-ghost use Rattle.lra_lin.specs.Form.{AddsInRange};
+ghost use Rattle.lra_lin.specs.Form.{AddsInRange, form_row};
 ghost use Rattle.lra_linear.specs.CheckedArithmetic.{checked_product, checked_product_from};
 ghost use Rattle.lra_linear.specs.Descriptions.{Given};
 ghost use Rattle.lra_linear.specs.Range.{InRange};
@@ -14,7 +14,6 @@ ghost use Rattle.lra_sys.specs.Listed.{generators};
 ghost use Rattle.lra_sys.specs.FirstPlaces.{FirstAt};
 ghost use Rattle.lra_poly.specs.Maxima.{StaysInRange, PassesRange, Improves, DoesNotImprove};
 ghost use Rattle.lra_poly.specs.Maxima.{IsAtMost, IsBelow, IsGreatest, IsMaximum};
-ghost use Rattle.lra_poly.specs.Rows.{form_row};
 
 use lra_lin::LinExpr;
 use lra_row::{Row, add, gcd, mul, ratio_cmp};

@@ -15,7 +15,8 @@ ghost use Rattle.lra_pair.specs.OwnLists.{IsPositive};
 ghost use Rattle.lra_poly.specs.Inclusions.{IsInclusion, TellsInclusion};
 ghost use Rattle.lra_poly.specs.Maxima.{IsMaximum, TellsMaximum};
 ghost use Rattle.lra_poly.specs.Outcomes.{IfExact, IfFlagged};
-ghost use Rattle.lra_poly.specs.Rows.{form_row, test_row};
+ghost use Rattle.lra_lin.specs.Form.{form_row};
+ghost use Rattle.lra_poly.specs.Rows.{test_row};
 ghost use Rattle.lra_poly.specs.Saturations.{saturation_of};
 
 use crate::facets::facet_cone;

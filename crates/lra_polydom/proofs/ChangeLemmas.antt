@@ -5,7 +5,7 @@ use Rattle.std.proofs.lemmas.List.{length-append}
 use Rattle.std.specs.Prelude.{slice_set}
 use Rattle.lra_domain.specs.Actions.{Action, Leads, assign, dims_after, embed, forget, remove_last, test}
 use Rattle.lra_domain.specs.Meaning.{Joins, Meets}
-use Rattle.lra_lin.specs.Form.{Form, KindHolds, form_value}
+use Rattle.lra_lin.specs.Form.{Form, KindHolds, form_value, form_row}
 use Rattle.lra_linear.specs.Descriptions.{Con, Holds, HoldsWith}
 use Rattle.lra_linear.specs.Kinds.{is_equality}
 use Rattle.lra_linear.specs.declared.ConKind.{ConKind}
@@ -18,7 +18,7 @@ use Rattle.lra_linear.specs.Vectors.{entry, product}
 use Rattle.lra_linear.proofs.Products.{entry_set_other}
 use Rattle.lra_linear.proofs.Ring.{ring, v, ◌⊗◌}
 use Rattle.lra_poly.specs.Outcomes.{IfExact, IfFlagged}
-use Rattle.lra_poly.specs.Rows.{form_row, test_row}
+use Rattle.lra_poly.specs.Rows.{test_row}
 use Rattle.lra_poly.specs.declared.outcome.Outcome.{Outcome}
 use Rattle.lra_polydom.specs.Content.{PolyhedronHas}
 use Rattle.lra_polydom.specs.Covering.{covered_from, store_point}

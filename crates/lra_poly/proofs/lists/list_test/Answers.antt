@@ -2,7 +2,8 @@
 use Rattle.std.proofs.Common.{◌≡◌, ◌∙◌, ◌++◌, ◌∷◌, [], List, ℤ, ap, length, refl, sym}
 use Rattle.lra_linear.specs.Kinds.{is_equality}
 use Rattle.lra_sys.specs.Listed.{given_by}
-use Rattle.lra_poly.specs.Rows.{form_row, test_row}
+use Rattle.lra_lin.specs.Form.{form_row}
+use Rattle.lra_poly.specs.Rows.{test_row}
 use Rattle.lra_poly.proofs.JoinedLists.{row_added}
 use Rattle.lra_poly.proofs.lists.list_test.Goals as goal
 

@@ -3,7 +3,7 @@ use Rattle.std.proofs.Common.{rules, FitsSigned}
 use Rattle.std.specs.Int.{w128}
 use Rattle.std.proofs.lemmas.Int.{to_z-of_z, quot_is, quot_fits}
 use Rattle.lra_linear.specs.Vectors.{entry, product}
-use Rattle.lra_poly.specs.Rows.{form_row}
+use Rattle.lra_lin.specs.Form.{form_row}
 use Rattle.lra_poly.proofs.MaximumLemmas.{in_lowest_terms}
 use Rattle.lra_poly.proofs.maximum.at.Goals as goal
 

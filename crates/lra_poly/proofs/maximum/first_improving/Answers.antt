@@ -6,7 +6,7 @@ use Rattle.lra_linear.specs.Kinds.{is_line}
 use Rattle.lra_linear.specs.declared.GenKind.TheVariants.{Point}
 use Rattle.lra_sys.specs.FirstPlaces.{FirstAt}
 use Rattle.lra_poly.specs.Maxima.{DoesNotImprove, Improves, StaysInRange}
-use Rattle.lra_poly.specs.Rows.{form_row}
+use Rattle.lra_lin.specs.Form.{form_row}
 use Rattle.lra_sys.proofs.FirstMembers.{all_gone_through, at_member, first_at, member, one_more}
 use Rattle.lra_poly.proofs.InclusionLemmas.{seen_generators}
 use Rattle.lra_poly.proofs.MaximumLemmas.{both_seen}

@@ -1,7 +1,7 @@
 use Rattle.std.specs.List.{All}
 use Rattle.lra_linear.specs.Kinds.{is_line}
 use Rattle.lra_poly.specs.Maxima.{DoesNotImprove}
-use Rattle.lra_poly.specs.Rows.{form_row}
+use Rattle.lra_lin.specs.Form.{form_row}
 use Rattle.lra_sys.proofs.FirstMembers.{front}
 use Rattle.lra_poly.proofs.maximum.first_improving.Given as goal
 

@@ -6,7 +6,7 @@ use Rattle.lra_linear.specs.Kinds.{is_line}
 use Rattle.lra_linear.specs.declared.GenKind.TheVariants.{Point}
 use Rattle.lra_sys.specs.FirstPlaces.{FirstAt}
 use Rattle.lra_poly.specs.Maxima.{StaysInRange, PassesRange}
-use Rattle.lra_poly.specs.Rows.{form_row}
+use Rattle.lra_lin.specs.Form.{form_row}
 use Rattle.lra_sys.proofs.FirstMembers.{first_at, one_more, all_gone_through, ok_of}
 use Rattle.lra_poly.proofs.MaximumLemmas.{many, seen_rows}
 use Rattle.lra_poly.proofs.maximum.first_wide.Goals as goal

@@ -5,7 +5,7 @@ use Rattle.lra_linear.specs.Kinds.{is_line}
 use Rattle.lra_sys.specs.Listed.{generators}
 use Rattle.lra_linear.specs.declared.GenKind.TheVariants.{Point}
 use Rattle.lra_poly.specs.Maxima.{StaysInRange}
-use Rattle.lra_poly.specs.Rows.{form_row}
+use Rattle.lra_lin.specs.Form.{form_row}
 use Rattle.lra_sys.proofs.FirstMembers.{at_member}
 use Rattle.lra_poly.proofs.MaximumLemmas.{greatest_there, many, row_there, rows_seen}
 use Rattle.lra_poly.proofs.maximum.maximum_of.Goals as goal

@@ -4,7 +4,7 @@ use Rattle.std.specs.List.{All}
 use Rattle.lra_linear.specs.Kinds.{is_line}
 use Rattle.lra_linear.specs.declared.GenKind.TheVariants.{Point}
 use Rattle.lra_poly.specs.Maxima.{StaysInRange}
-use Rattle.lra_poly.specs.Rows.{form_row}
+use Rattle.lra_lin.specs.Form.{form_row}
 use Rattle.lra_sys.proofs.FirstMembers.{at_member}
 use Rattle.lra_poly.proofs.MaximumLemmas.{best_found, best_kept, best_taken, many, rows_seen}
 use Rattle.lra_poly.proofs.maximum.place_of_greatest.Goals.{then-exceeds, else-exceeds}

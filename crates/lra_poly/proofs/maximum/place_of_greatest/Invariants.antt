@@ -1,4 +1,4 @@
-use Rattle.lra_poly.specs.Rows.{form_row}
+use Rattle.lra_lin.specs.Form.{form_row}
 use Rattle.lra_poly.proofs.MaximumLemmas.{BestOfFront}
 use Rattle.lra_poly.proofs.maximum.place_of_greatest.Given as goal
 

@@ -2,7 +2,7 @@
 use Rattle.std.proofs.Common.{rules, FitsSigned}
 use Rattle.std.specs.Int.{w128}
 use Rattle.std.proofs.lemmas.Int.{to_z-of_z}
-use Rattle.lra_poly.specs.Rows.{form_row}
+use Rattle.lra_lin.specs.Form.{form_row}
 use Rattle.lra_poly.proofs.MaximumLemmas.{value_of_ok, value_in_range}
 use Rattle.lra_poly.proofs.maximum.value_with.Goals as goal
 

@@ -1,12 +1,11 @@
-use Rattle.std.proofs.Common.{◌≡◌, ◌++◌, length}
+use Rattle.std.proofs.Common.{◌≡◌, ◌∷◌, ◌++◌, length}
 use Rattle.std.specs.List.{All}
 use Rattle.lra_linear.specs.Range.{InRange}
-use Rattle.lra_poly.specs.Rows.{form_row}
-use Rattle.lra_poly.proofs.lists.row_of_form.Given as goal
+use Rattle.lra_lin.proofs.form.row_with.Given as goal
 
 abbrev pub invariant-loop-coefficient : goal.invariant-loop-coefficient
 invariant-loop-coefficient l = record {
-  items : l.numbers.items ++ l.left ≡ form_row l.form;
+  items : l.numbers.items ++ l.left ≡ l.first ∷ l.coefficients;
   range : All InRange l.numbers.items;
 }
 

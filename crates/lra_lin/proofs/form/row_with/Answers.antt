@@ -1,8 +1,8 @@
--- Goals of `row_of_form`: the row `form + more >= 0`, where `more` is 0 or 1.
+-- Goals of `row_with`: the row with a number in column 0, then the coefficients.
 use Rattle.std.proofs.Common.{rules, ◌≡◌, [], ◌∷◌, ◌++◌, ◌∙◌, append_assoc}
 use Rattle.lra_linear.specs.Range.{InRange}
 use Rattle.std.proofs.lemmas.List.Elements.{All-push}
-use Rattle.lra_forms.proofs.given.row_of_form.Goals as goal
+use Rattle.lra_lin.proofs.form.row_with.Goals as goal
 
 pub loop-coefficient-preserved : goal.loop-coefficient-preserved
 loop-coefficient-preserved c =
