@@ -50,9 +50,9 @@ brought step (Err f) t e = absurd (cc)
 line_keeps : (number : ℕ) (s t : Session) (line : Line) → AfterLine number s line (Ok t) → IsFlagged s → IsFlagged t
 line_keeps number s t (Dims n) h k = absurd (cc)
 line_keeps number s t (Make name recipe) h k =
-    let b = brought (λ m. made_as number name m s) h.given t h.is in subst IsFlagged (sym b.2) (k.0, flag_kept number k.0 b.0.flagged s.flagged k.1)
+    let b = brought (λ m. made_as number name m s) h.outcome t h.is in subst IsFlagged (sym b.2) (k.0, flag_kept number k.0 b.0.flagged s.flagged k.1)
 line_keeps number s t (Ask question) h k =
-    let b = brought (λ a. printed_by number a s) h.given t h.is in subst IsFlagged (sym b.2) (k.0, flag_kept number k.0 b.0.wide s.flagged k.1)
+    let b = brought (λ a. printed_by number a s) h.outcome t h.is in subst IsFlagged (sym b.2) (k.0, flag_kept number k.0 b.0.wide s.flagged k.1)
 
 form_keeps : (number : ℕ) (s t : Session) (form : Option Line) → AfterForm number (Some s) form (Ok t) → IsFlagged s → IsFlagged t
 form_keeps number s t None h k = absurd (cc)
@@ -179,15 +179,15 @@ line_once : (number : ℕ) (s t u : Session) (line : Line) → (IsFlagged t → 
 line_once number s t u (Dims n) not_t not_u h k = absurd (cc)
 line_once number s t u (Make name recipe) not_t not_u h k =
     let step : Made → Session = λ m. made_as number name m s in
-    let b = brought step h.given t h.is in
-    let d = brought step k.given u k.is in
+    let b = brought step h.outcome t h.is in
+    let d = brought step k.outcome u k.is in
     let clear_b = unflagged number b.0.flagged s.flagged (λ f. not_t (subst IsFlagged (sym b.2) f)) in
     let clear_d = unflagged number d.0.flagged s.flagged (λ f. not_u (subst IsFlagged (sym d.2) f)) in
     b.2 ∙ ap step (made_once s recipe b.0 d.0 clear_b clear_d (subst (MadeBy s recipe) b.1 h.told) (subst (MadeBy s recipe) d.1 k.told)) ∙ sym d.2
 line_once number s t u (Ask question) not_t not_u h k =
     let step : Answer → Session = λ a. printed_by number a s in
-    let b = brought step h.given t h.is in
-    let d = brought step k.given u k.is in
+    let b = brought step h.outcome t h.is in
+    let d = brought step k.outcome u k.is in
     b.2 ∙ ap step (answered_once s question b.0 d.0 (subst (AnswerTo s question) b.1 h.told) (subst (AnswerTo s question) d.1 k.told)) ∙ sym d.2
 
 form_once : (number : ℕ) (s : Option Session) (t u : Session) (form : Option Line) → (IsFlagged t → ⊥) → (IsFlagged u → ⊥) → AfterForm number s form (Ok t) → AfterForm number s form (Ok u) → t ≡ u

@@ -145,9 +145,9 @@ behind_alike f g (Ok a) (Err y) e both = absurd e
 behind_alike f g (Err x) (Ok b) e both = absurd e
 behind_alike f g (Err x) (Err y) e both = e
 
-brings_alike : {A : Type 0} (P Q : Result A Fault → Type 0) (f g : A → Session) (r q : Result Session Fault) (h : Brings P f r) (k : Brings Q g q) → AgreesWith h.given k.given →
+brings_alike : {A : Type 0} (P Q : Result A Fault → Type 0) (f g : A → Session) (r q : Result Session Fault) (h : Brings P f r) (k : Brings Q g q) → AgreesWith h.outcome k.outcome →
     ((a b : A) → Alike (f a) (g b)) → AlikeResults r q
-brings_alike P Q f g r q h k agree both = alike_by r q (behind f h.given) (behind g k.given) h.is k.is (behind_alike f g h.given k.given agree both)
+brings_alike P Q f g r q h k agree both = alike_by r q (behind f h.outcome) (behind g k.outcome) h.is k.is (behind_alike f g h.outcome k.outcome agree both)
 
 -- where widenings agree
 pub line_alike_by : (number : ℕ) (s t : Session) (line : Line) (r q : Result Session Fault) → Alike s t →
@@ -156,11 +156,11 @@ pub line_alike_by : (number : ℕ) (s t : Session) (line : Line) (r q : Result S
 line_alike_by number s t (Dims n) r q a w h k = alike_by r q _ _ h k refl
 line_alike_by number s t (Make name recipe) r q a w h k =
     brings_alike (MadeBy s recipe) (MadeBy t recipe) (λ m. made_as number name m s) (λ m. made_as number name m t) r q h k
-    (recipe_agrees s t recipe h.given k.given a (w _ _ h.given k.given h.is k.is) h.told k.told)
+    (recipe_agrees s t recipe h.outcome k.outcome a (w _ _ h.outcome k.outcome h.is k.is) h.told k.told)
     (λ m l. both_made number name m l s t a)
 line_alike_by number s t (Ask question) r q a w h k =
     brings_alike (AnswerTo s question) (AnswerTo t question) (λ x. printed_by number x s) (λ x. printed_by number x t) r q h k
-    (question_agrees s t question h.given k.given a h.told k.told)
+    (question_agrees s t question h.outcome k.outcome a h.told k.told)
     (λ x y. both_printed number x y s t a)
 
 line_alike : (number : ℕ) (s t : Session) (line : Line) (r q : Result Session Fault) → Alike s t → IsToldResult r → IsToldResult q → AfterLine number s line r → AfterLine number t line q →
@@ -313,8 +313,8 @@ form_told number None (Some (Dims n)) r e h = told_as_made _ r h tt
 form_told number None (Some (Make name recipe)) r e h = told_as_made _ r h tt
 form_told number None (Some (Ask question)) r e h = told_as_made _ r h tt
 form_told number (Some s) (Some (Dims n)) r e h = told_as_made _ r h tt
-form_told number (Some s) (Some (Make name recipe)) r e h = told_as_made _ r h.is (behind_told _ h.given (recipe_told s recipe h.given e h.told))
-form_told number (Some s) (Some (Ask question)) r e h = told_as_made _ r h.is (behind_told _ h.given (question_told s question h.given h.told))
+form_told number (Some s) (Some (Make name recipe)) r e h = told_as_made _ r h.is (behind_told _ h.outcome (recipe_told s recipe h.outcome e h.told))
+form_told number (Some s) (Some (Ask question)) r e h = told_as_made _ r h.is (behind_told _ h.outcome (question_told s question h.outcome h.told))
 
 end_here : (number : ℕ) (s : Option Session) (r : Result Session Fault) (P : Option Session → Type 0) (e : End) → IsToldResult r → ((t : Option Session) → P t → IsToldEnd e) → GoesOn number s r P e →
     IsToldEnd e

@@ -50,8 +50,8 @@ shown_quadrant = (
     after = refl;
     goes_on = record {
       result = _;
-      after = record { given = Ok (record { flagged = false; polyhedron = quadrant }); told = plain_is_quadrant; is = refl };
-      goes_on = record { result = _; after = record { given = _; told = refl; is = refl }; goes_on = refl };
+      after = record { outcome = Ok (record { flagged = false; polyhedron = quadrant }); told = plain_is_quadrant; is = refl };
+      goes_on = record { result = _; after = record { outcome = _; told = refl; is = refl }; goes_on = refl };
     };
   },
   refl,
@@ -70,11 +70,11 @@ shown_empty = (
     goes_on = record {
       result = _;
       after = record {
-        given = Ok (record { flagged = false; polyhedron = nothing });
+        outcome = Ok (record { flagged = false; polyhedron = nothing });
         told = record { dimensions = refl; canonical = inl (refl, refl); points = (λ x p c. c, λ x p c. c) };
         is = refl;
       };
-      goes_on = record { result = _; after = record { given = _; told = refl; is = refl }; goes_on = refl };
+      goes_on = record { result = _; after = record { outcome = _; told = refl; is = refl }; goes_on = refl };
     };
   },
   refl,
@@ -101,7 +101,7 @@ strained_line p dims canonical within = (
     goes_on = record {
       result = _;
       after = record {
-        given = Ok (record { flagged = true; polyhedron = p });
+        outcome = Ok (record { flagged = true; polyhedron = p });
         told = record { dimensions = dims; canonical = canonical; within = within; loss = _; strains = inl third_row_strains };
         is = refl;
       };
@@ -127,8 +127,8 @@ some_answers = (
     after = refl;
     goes_on = record {
       result = _;
-      after = record { given = Ok (record { flagged = false; polyhedron = quadrant }); told = plain_is_quadrant; is = refl };
-      goes_on = record { result = _; after = record { given = _; told = refl; is = refl }; goes_on = record { result = _; after = record { given = _; told = refl; is = refl }; goes_on = refl } };
+      after = record { outcome = Ok (record { flagged = false; polyhedron = quadrant }); told = plain_is_quadrant; is = refl };
+      goes_on = record { result = _; after = record { outcome = _; told = refl; is = refl }; goes_on = record { result = _; after = record { outcome = _; told = refl; is = refl }; goes_on = refl } };
     };
   },
   refl,
@@ -155,11 +155,11 @@ wide_points generators made = (
     after = refl;
     goes_on = record {
       result = _;
-      after = record { given = Ok (record { flagged = false; polyhedron = ray_from generators }); told = made; is = refl };
+      after = record { outcome = Ok (record { flagged = false; polyhedron = ray_from generators }); told = made; is = refl };
       goes_on = record {
         result = _;
-        after = record { given = _; told = refl; is = refl };
-        goes_on = record { result = _; after = record { given = _; told = refl; is = refl }; goes_on = record { result = _; after = record { given = _; told = refl; is = refl }; goes_on = refl } };
+        after = record { outcome = _; told = refl; is = refl };
+        goes_on = record { result = _; after = record { outcome = _; told = refl; is = refl }; goes_on = record { result = _; after = record { outcome = _; told = refl; is = refl }; goes_on = refl } };
       };
     };
   },
@@ -179,15 +179,15 @@ made_again universe made = (
     after = refl;
     goes_on = record {
       result = _;
-      after = record { given = Ok (record { flagged = false; polyhedron = universe }); told = made; is = refl };
+      after = record { outcome = Ok (record { flagged = false; polyhedron = universe }); told = made; is = refl };
       goes_on = record {
         result = _;
         after = record {
-          given = Ok (record { flagged = false; polyhedron = nothing_on_a_line });
+          outcome = Ok (record { flagged = false; polyhedron = nothing_on_a_line });
           told = record { dimensions = refl; canonical = inl (refl, refl); points = (λ x p c. c, λ x p c. c) };
           is = refl;
         };
-        goes_on = record { result = _; after = record { given = _; told = refl; is = refl }; goes_on = refl };
+        goes_on = record { result = _; after = record { outcome = _; told = refl; is = refl }; goes_on = refl };
       };
     };
   },
@@ -203,25 +203,25 @@ refused_after_dims fault line = Gives (codes "dims 1" ∷ line ∷ []) (refused_
 wrong_dimensions : refused_after_dims (WrongDimension 3 2) (codes "con R >= 1 2 3") × refused_after_dims (WrongDimension 0 2) (codes "con P >= 1 2 ; >= ; >= 1 2 3")
     × refused_after_dims (WrongDimension 1 2) (codes "gen P ray 0 ; point 1") × refused_after_dims (WrongDimension 2 1) (codes "gen P point 1 0 ; line 0 1")
 wrong_dimensions = (
-  (_, record { result = Ok (started 1); after = refl; goes_on = record { result = _; after = record { given = _; told = refl; is = refl }; goes_on = refl } }, refl),
-  (_, record { result = Ok (started 1); after = refl; goes_on = record { result = _; after = record { given = _; told = refl; is = refl }; goes_on = refl } }, refl),
-  (_, record { result = Ok (started 1); after = refl; goes_on = record { result = _; after = record { given = _; told = refl; is = refl }; goes_on = refl } }, refl),
-  (_, record { result = Ok (started 1); after = refl; goes_on = record { result = _; after = record { given = _; told = refl; is = refl }; goes_on = refl } }, refl),
+  (_, record { result = Ok (started 1); after = refl; goes_on = record { result = _; after = record { outcome = _; told = refl; is = refl }; goes_on = refl } }, refl),
+  (_, record { result = Ok (started 1); after = refl; goes_on = record { result = _; after = record { outcome = _; told = refl; is = refl }; goes_on = refl } }, refl),
+  (_, record { result = Ok (started 1); after = refl; goes_on = record { result = _; after = record { outcome = _; told = refl; is = refl }; goes_on = refl } }, refl),
+  (_, record { result = Ok (started 1); after = refl; goes_on = record { result = _; after = record { outcome = _; told = refl; is = refl }; goes_on = refl } }, refl),
 )
 
 -- catches a name that is asked for behind the numbers, and a fault of form that is found last
 first_causes : refused_after_dims (UnknownName (codes "Z")) (codes "holds Z 1") × refused_after_dims (UnknownName (codes "Z")) (codes "show Z") × refused_after_dims BadLine (codes "holds Z 0")
     × refused_after_dims BadLine (codes "gen P ray 0 1 ; point 0 1")
 first_causes = (
-  (_, record { result = Ok (started 1); after = refl; goes_on = record { result = _; after = record { given = _; told = refl; is = refl }; goes_on = refl } }, refl),
-  (_, record { result = Ok (started 1); after = refl; goes_on = record { result = _; after = record { given = _; told = refl; is = refl }; goes_on = refl } }, refl),
+  (_, record { result = Ok (started 1); after = refl; goes_on = record { result = _; after = record { outcome = _; told = refl; is = refl }; goes_on = refl } }, refl),
+  (_, record { result = Ok (started 1); after = refl; goes_on = record { result = _; after = record { outcome = _; told = refl; is = refl }; goes_on = refl } }, refl),
   (_, record { result = Ok (started 1); after = refl; goes_on = record { result = _; after = refl; goes_on = refl } }, refl),
   (_, record { result = Ok (started 1); after = refl; goes_on = record { result = _; after = refl; goes_on = refl } }, refl),
 )
 
 -- catches a line count that leaves out comments
 skipped_count : Gives (codes "dims 1" ∷ codes "# P" ∷ [] ∷ codes "holds Z 1 0" ∷ []) (refused_at 4 (UnknownName (codes "Z")))
-skipped_count = (_, record { result = Ok (started 1); after = refl; goes_on = record { result = _; after = record { given = _; told = refl; is = refl }; goes_on = refl } }, refl)
+skipped_count = (_, record { result = Ok (started 1); after = refl; goes_on = record { result = _; after = record { outcome = _; told = refl; is = refl }; goes_on = refl } }, refl)
 
 -- catches `dims` that is not the first line, or stands twice
 dims_once : Gives (codes "con P" ∷ []) (refused_at 1 BadLine) × refused_after_dims BadLine (codes "dims 1")

@@ -190,12 +190,12 @@ right_gives view Told o r e h = subst (λ (x : Option script.Fault). Gives view 
 -- a line whose recipe or question is refused
 pub refused_brings : {A B C : Type 0} (view : A → B) (other : C → script.Session) (Told : Result B script.Fault → Type 0) (step : B → script.Session) (e : LineError) →
     Gives view (let r : Result A LineError = Err e in r) Told → Gives other (let r : Result C LineError = Err e in r) (script.Brings Told step)
-refused_brings view other Told step (Refused f) h = record { given = Err (fault_of f); told = h; is = refl }
+refused_brings view other Told step (Refused f) h = record { outcome = Err (fault_of f); told = h; is = refl }
 refused_brings view other Told step Memory h = tt
 
 -- and one that is carried out
 pub given_brings : {B : Type 0} (Told : Result B script.Fault → Type 0) (step : B → script.Session) (b : B) (t : script.Session) → Told (Ok b) → t ≡ step b → script.Brings Told step (Ok t)
-given_brings Told step b t h e = record { given = Ok b; told = h; is = ap Ok e }
+given_brings Told step b t h e = record { outcome = Ok b; told = h; is = ap Ok e }
 
 -- a line that is refused, and the end that it is of all lines
 pub refused_steps : (number : ℕ) (s : Option S.Session) (line : List ℕ) (f : Fault) → is_skipped line ≡ false →

@@ -234,9 +234,9 @@ behind step (Err fault) = Err fault
 -- the line has such a result, and behind it stands what the result brings
 pub record Brings {A : Type 0} (Told : Result A Fault → Type 0) (step : A → Session)
     (result : Result Session Fault) : Type 0 where
-  pub given : Result A Fault
-  pub told : Told given
-  pub is : result ≡ behind step given
+  pub outcome : Result A Fault
+  pub told : Told outcome
+  pub is : result ≡ behind step outcome
 
 -- what stands behind a line, or why it is refused
 abbrev pub AfterLine : ℕ → Session → Line → Result Session Fault → Type 0

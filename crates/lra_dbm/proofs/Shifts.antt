@@ -8,7 +8,7 @@ use Rattle.lra_dbm.specs.Entry.{◌⊞◌, EntryInRange, within_range, passes_ra
 use Rattle.lra_dbm.specs.Tight.{Entries, opposite}
 use Rattle.lra_dbm.specs.Cells.{Cells, size, entries, written, IsMatrix}
 use Rattle.lra_dbm.specs.Steps.{any_below}
-use Rattle.lra_dbm.specs.Shifting.{added_to, source, shifted, shifted_within, passes_at, ShiftPasses, ShiftedTo}
+use Rattle.lra_dbm.specs.Shifting.{added_to, origin, shifted, shifted_within, passes_at, ShiftPasses, ShiftedTo}
 use Rattle.lra_dbm.specs.Shifting.{RowGiven}
 use Rattle.lra_dbm.proofs.EntryLemmas.{le_same, le_trans}
 use Rattle.lra_dbm.proofs.Strong.{opposite_twice}
@@ -74,7 +74,7 @@ module _ (n i j : ℕ) (given : Entries) (old cells : Cells) (v : Option ℤ) (a
 
 -- ---- what a shift gives
 
-source_opposite : (flips : Bool) (x i : ℕ) → source flips x (opposite i) ≡ opposite (source flips x i)
+source_opposite : (flips : Bool) (x i : ℕ) → origin flips x (opposite i) ≡ opposite (origin flips x i)
 source_opposite flips x i = ap (λ z. cond (flips && z == x) (opposite (opposite i)) (opposite i)) (half_opposite i) ∙
     by_cases (flips && i / 2 == x)
   where
@@ -116,12 +116,12 @@ added_opposite x c i = elim (eqb_tells (i / 2) x) [
   | inr h ↦ added_other x c (opposite i) (λ e. h.1 (sym (half_opposite i) ∙ e)) ∙ ap neg_ℤ (sym (added_other x c i h.1))
 ]
 
-pub source_other : (flips : Bool) (x i : ℕ) → i / 2 ≢ x → source flips x i ≡ i
+pub source_other : (flips : Bool) (x i : ℕ) → i / 2 ≢ x → origin flips x i ≡ i
 source_other true x i ne = elim (eqb_tells (i / 2) x) as
-    (λ _. source true x i ≡ i) [ inl e ↦ absurd (ne e.1) | inr e ↦ rw e.0 refl ]
+    (λ _. origin true x i ≡ i) [ inl e ↦ absurd (ne e.1) | inr e ↦ rw e.0 refl ]
 source_other false x i ne = refl
 
-pub source_below : (n : ℕ) (flips : Bool) (x i : ℕ) → i < 2 * n → source flips x i < 2 * n
+pub source_below : (n : ℕ) (flips : Bool) (x i : ℕ) → i < 2 * n → origin flips x i < 2 * n
 source_below n flips x i h = by_cases (flips && i / 2 == x)
   where
     by_cases : (t : Bool) → cond t (opposite i) i < 2 * n
@@ -141,12 +141,12 @@ in_range_passes (Some v) fit = elim (leb_tells (suc (unsigned_abs v)) (2 ^ 127))
     ]
 
 pub shifted_diagonal : (n : ℕ) (flips : Bool) (x : ℕ) (c : ℤ) (old : Cells) (i : ℕ) → IsMatrix n old
-    → shifted_within flips x c (entries n old) i i ≡ entries n old (source flips x i) (source flips x i)
+    → shifted_within flips x c (entries n old) i i ≡ entries n old (origin flips x i) (origin flips x i)
 shifted_diagonal n flips x c old i is =
-    ap within_range (plus_nothing (entries n old (source flips x i) (source flips x i)) (added_to x c i))
-    ∙ within_range_same (entries n old (source flips x i) (source flips x i))
-    (in_range_passes (entries n old (source flips x i) (source flips x i))
-    (is.range (source flips x i) (source flips x i)))
+    ap within_range (plus_nothing (entries n old (origin flips x i) (origin flips x i)) (added_to x c i))
+    ∙ within_range_same (entries n old (origin flips x i) (origin flips x i))
+    (in_range_passes (entries n old (origin flips x i) (origin flips x i))
+    (is.range (origin flips x i) (origin flips x i)))
 
 module _ (n : ℕ) (flips : Bool) (x : ℕ) (c : ℤ) (old : Cells) (is : IsMatrix n old) where
   shift_twins : (a b : ℕ) → shifted flips x c (entries n old) a b ≡
@@ -157,9 +157,9 @@ module _ (n : ℕ) (flips : Bool) (x : ℕ) (c : ℤ) (old : Cells) (is : IsMatr
         source_opposite flips x b,
         added_opposite x c a,
         added_opposite x c b,
-        ← is.coherent (source flips x a) (source flips x b),
+        ← is.coherent (origin flips x a) (origin flips x b),
       )
-      (ap (λ d. entries n old (source flips x a) (source flips x b) ⊞ Some d) (same (added_to x c a) (added_to x c b)))
+      (ap (λ d. entries n old (origin flips x a) (origin flips x b) ⊞ Some d) (same (added_to x c a) (added_to x c b)))
     where
       same : (p q : ℤ) → q -ℤ p ≡ neg_ℤ p -ℤ neg_ℤ q
       same p q = omega (arith, ints)
@@ -224,7 +224,7 @@ module _ (n : ℕ) (flips : Bool) (x : ℕ) (c : ℤ) (old : Cells) (is : IsMatr
       ];
       diagonal = λ a. elim (inside_or_out n a a) [
         | inl h ↦ le_trans (le_same (both_given a a h.0 h.1 ∙ shifted_diagonal n flips x c old a is))
-            (is.diagonal (source flips x a))
+            (is.diagonal (origin flips x a))
         | inr far ↦ le_trans (le_same (far two ∙ sym (far old))) (is.diagonal a)
       ];
       range = λ a b. elim (inside_or_out n a b) [

@@ -11,12 +11,12 @@ abbrev pub added_to : ℕ → ℤ → ℕ → ℤ
 added_to x c i = cond (i == 2 * x) c (cond (i == 2 * x + 1) (neg_ℤ c) (pos 0))
 
 -- the signed variable whose place i takes; where x flips, its two change places
-abbrev pub source : Bool → ℕ → ℕ → ℕ
-source flips x i = cond (flips && i / 2 == x) (opposite i) i
+abbrev pub origin : Bool → ℕ → ℕ → ℕ
+origin flips x i = cond (flips && i / 2 == x) (opposite i) i
 
 -- the entries where x becomes x + c, or where it flips -x + c
 abbrev pub shifted : Bool → ℕ → ℤ → Entries → Entries
-shifted flips x c m i j = m (source flips x i) (source flips x j) ⊞ Some (added_to x c j -ℤ added_to x c i)
+shifted flips x c m i j = m (origin flips x i) (origin flips x j) ⊞ Some (added_to x c j -ℤ added_to x c i)
 
 -- the same, where a number that passes the range counts as infinite
 abbrev pub shifted_within : Bool → ℕ → ℤ → Entries → Entries

@@ -3,7 +3,7 @@
 ghost use Rattle.std.specs.Prelude.{◌≡◌, ◌≤◌, ◌<◌, ◌^◌, ◌*◌, length, unsigned_abs};
 ghost use Rattle.lra_dbm.specs.Cells.{size, entries, IsMatrix};
 ghost use Rattle.lra_dbm.specs.Steps.{any_below};
-ghost use Rattle.lra_dbm.specs.Shifting.{added_to, source, shifted, shifted_within, passes_at, ShiftedTo, RowGiven};
+ghost use Rattle.lra_dbm.specs.Shifting.{added_to, origin, shifted, shifted_within, passes_at, ShiftedTo, RowGiven};
 
 use crate::cells::{Sum, add_entries, entry, opposite, write};
 
@@ -33,10 +33,10 @@ fn added_to(shift: Shift, i: usize) -> i128
 
 /// The signed variable whose place `i` takes.
 #[tactic(auto, using(crate::proofs::CellLemmas::opposite_below))]
-fn source(n: usize, shift: Shift, i: usize) -> usize
+fn origin_of(n: usize, shift: Shift, i: usize) -> usize
     requires few { n ≤ 2 ^ 30 }
     requires row { i < 2 * n }
-    ensures source { result ≡ source shift.flips shift.x i }
+    ensures origin { result ≡ origin shift.flips shift.x i }
     ensures below { result < 2 * n }
 {
     if shift.flips && i / 2 == shift.x {
@@ -57,7 +57,7 @@ fn shifted_entry(n: usize, old: &[Option<i128>], shift: Shift, i: usize, j: usiz
     ensures value { result.value ≡ shifted_within shift.flips shift.x shift.c (entries n old.now) i j }
     ensures passes { result.passes ≡ passes_at shift.flips shift.x shift.c (entries n old.now) i j }
 {
-    let before = entry(n, old, source(n, shift, i), source(n, shift, j));
+    let before = entry(n, old, origin_of(n, shift, i), origin_of(n, shift, j));
     add_entries(before, Some(added_to(shift, j) - added_to(shift, i)))
 }
 

@@ -19,7 +19,7 @@ use Rattle.lra_tree.specs.Views.{step_view}
 use Rattle.lra_tree.specs.Grammar.{IsExpr, IsRvalue, update_mark, step_mark, IsAssign, IsType, IsDeclarator, IsDeclaration}
 use Rattle.lra_readers.specs.Tests.{is_mark}
 use Rattle.lra_readers.specs.Reading.{Text, Read, Parse, ◌>>=◌, seq, expect, take_by, has, one_of}
-use Rattle.lra_readers.specs.Statements.{skip, update_operators, update_operator, step_marks, next_step, assign_rest, assign_at, type_words, given, declarator_at, declaration_of, declaration_at}
+use Rattle.lra_readers.specs.Statements.{skip, update_operators, update_operator, step_marks, next_step, assign_rest, assign_at, type_words, declared_value, declarator_at, declaration_of, declaration_at}
 use Rattle.lra_readers.proofs.Marks.{is_mark_some}
 use Rattle.lra_readers.proofs.Exact.{Exact, Any, Free, Both, first_or, then}
 use Rattle.lra_readers.proofs.Forms.{widen, retell, entry, mapped, branch, same_where, exact_done, exact_take}
@@ -294,7 +294,7 @@ GivenText l x b z = (opens mark.Assign 0 ⋅ Of (with_rvalue x) (IsRvalue l) b) 
 not_given : (x : Identifier) (b : DeclaratorTree) (z : Pieces) (o : Option Token) → b ≡ alone_name x → z ≡ [] → (z ≡ [] → AfterDeclarator b o) → is_mark mark.Assign (first_or z o) ≡ false
 not_given x b z o e f h = rw f (let g : AfterDeclarator (alone_name x) o = subst (λ (c : DeclaratorTree). AfterDeclarator c o) e (h f) in g)
 
-exact_given : (n d l : ℕ) → d + l ≡ n → (x : Identifier) → Exact n IsInner (given d x) Any (GivenText l x) (GivenText l x) AfterDeclarator
+exact_given : (n d l : ℕ) → d + l ≡ n → (x : Identifier) → Exact n IsInner (declared_value d x) Any (GivenText l x) (GivenText l x) AfterDeclarator
 exact_given n d l h x =
     let some = exact_behind mark.Assign 0 (omega arith) (mapped (exact_rvalue n d l h) (with_rvalue x) AfterDeclarator (λ e o f. f) (λ e o f. f))
     (with_rvalue x (some_rvalue l).0, (some_rvalue l).1, ((some_rvalue l).0, refl, (some_rvalue l).2)) in

@@ -102,14 +102,14 @@ abbrev pub type_words : Parse (Unit {0})
 type_words = seq (expect mark.Long (tt {0})) (λ _ T. Ok (tt {0}, skip mark.Int (skip mark.Long T)))
 
 -- behind the name of the variable
-abbrev pub given : ℕ → Identifier → Parse DeclaratorTree
-given d x T =
+abbrev pub declared_value : ℕ → Identifier → Parse DeclaratorTree
+declared_value d x T =
     cond (is_mark mark.Assign (first T)) (behind mark.Assign
     (map_read (λ e. record { name = x; rvalue = Some e }) (rvalue_at d)) T)
     (done_with (record { name = x; rvalue = None }) T)
 
 abbrev pub declarator_at : ℕ → Parse DeclaratorTree
-declarator_at d = seq (take_by next_name) (given d)
+declarator_at d = seq (take_by next_name) (declared_value d)
 
 abbrev pub declaration_of : DeclaratorTree × List DeclaratorTree → DeclarationTree
 declaration_of ds = record { first = ds.0; rest = ds.1 }
