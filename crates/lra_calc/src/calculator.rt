@@ -65,7 +65,7 @@ fn perform(
 }
 
 /// What stands behind the line of a number, which may be skipped.
-fn after_line(
+fn take_line(
     alloc: Global,
     number: usize,
     session: Option<Session>,
@@ -93,7 +93,7 @@ fn run_lines(alloc: Global, lines: &[&[u8]]) -> Result<Option<Session>, CalcErro
 {
     let mut session = None;
     for (index, line) in lines.iter().enumerate() {
-        session = after_line(alloc, index + 1, session, without_return(line))?;
+        session = take_line(alloc, index + 1, session, without_return(line))?;
     }
     Ok(session)
 }

@@ -114,7 +114,7 @@ pub fn constraints_of_rows(
 }
 
 /// The numbers with a 0 before them.
-fn behind_zero(alloc: Global, numbers: &Row) -> Result<Row, AllocError>
+fn put_behind_zero(alloc: Global, numbers: &Row) -> Result<Row, AllocError>
     ensures { IfOk result (λ row. row ≡ pos 0 ∷ numbers.now) }
 {
     let mut entries = Vec::new(alloc);
@@ -130,7 +130,7 @@ fn row_of(alloc: Global, generator: &Generator) -> Result<Row, AllocError>
 {
     match generator.kind {
         GenKind::Point => generator.numbers.copy(),
-        GenKind::Ray | GenKind::Line => behind_zero(alloc, &generator.numbers),
+        GenKind::Ray | GenKind::Line => put_behind_zero(alloc, &generator.numbers),
     }
 }
 
@@ -165,7 +165,7 @@ pub fn form_of(alloc: Global, numbers: &[i64]) -> Result<LinExpr, AllocError>
 }
 
 /// What an operation made that had this outcome.
-pub fn made_with(polyhedron: Poly, outcome: Outcome) -> Made
+pub fn make_with(polyhedron: Poly, outcome: Outcome) -> Made
     ensures polyhedron { result.polyhedron ≡ polyhedron }
     ensures flagged { result.is_flagged ≡ is_flagged outcome }
     ensures canonical { IsPolyhedron polyhedron }
@@ -186,7 +186,7 @@ pub fn make_of_rows(alloc: Global, n: usize, rows: &[Constraint]) -> Result<Made
 {
     let constraints = constraints_of_rows(alloc, n, rows)?;
     let (polyhedron, outcome) = Poly::from_rows(alloc, &constraints)?;
-    Ok(made_with(polyhedron, outcome))
+    Ok(make_with(polyhedron, outcome))
 }
 
 /// The polyhedron of the points that the generators generate.
@@ -204,7 +204,7 @@ pub fn make_of_generators(
 {
     let generators = generators_of_written(alloc, n, generators)?;
     let (polyhedron, outcome) = Poly::from_generators(alloc, &generators)?;
-    Ok(made_with(polyhedron, outcome))
+    Ok(make_with(polyhedron, outcome))
 }
 
 /// The first set becomes what is made of both.
@@ -233,7 +233,7 @@ pub fn combine(how: Combination, first: &Poly, second: &Poly) -> Result<Made, Al
 {
     let mut set = first.copy()?;
     let outcome = combine_into(how, &mut set, second)?;
-    Ok(made_with(set, outcome))
+    Ok(make_with(set, outcome))
 }
 
 /// The set becomes what the form in place of the coordinate x, from 0, makes of it.
@@ -269,7 +269,7 @@ pub fn map_set(
 {
     let mut set = from.copy()?;
     let outcome = map_into(how, &mut set, coordinate - 1, form)?;
-    Ok(made_with(set, outcome))
+    Ok(make_with(set, outcome))
 }
 
 /// The set with any value of the coordinate of this number, from 1.
@@ -282,5 +282,5 @@ pub fn without_coordinate(from: &Poly, coordinate: usize) -> Result<Made, AllocE
 {
     let mut set = from.copy()?;
     let outcome = forget(&mut set, coordinate - 1)?;
-    Ok(made_with(set, outcome))
+    Ok(make_with(set, outcome))
 }

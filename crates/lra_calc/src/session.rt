@@ -31,7 +31,7 @@ pub struct Session {
 }
 
 /// The first flagged line behind a line, which is flagged or not.
-fn flagged_by(number: usize, is_flagged: bool, flagged: Option<usize>) -> Option<usize>
+fn find_flagged(number: usize, is_flagged: bool, flagged: Option<usize>) -> Option<usize>
     ensures { result ≡ script.flagged_by number is_flagged flagged }
 {
     if is_flagged {
@@ -303,7 +303,7 @@ impl Session {
         } = made;
         let name = String::from_str(alloc, name)?;
         self.made.insert(name, polyhedron)?;
-        self.flagged = flagged_by(number, is_flagged, self.flagged);
+        self.flagged = find_flagged(number, is_flagged, self.flagged);
         Ok(())
     }
 
@@ -315,7 +315,7 @@ impl Session {
         ensures sound { OnOk result (IsSession self.new) }
     {
         self.printed.push_str(answer.text.as_str())?;
-        self.flagged = flagged_by(number, answer.is_wide, self.flagged);
+        self.flagged = find_flagged(number, answer.is_wide, self.flagged);
         Ok(())
     }
 

@@ -7,7 +7,7 @@ ghost use Rattle.lra_calc.specs.MadeSets as sets;
 ghost use Rattle.lra_calc.specs.Script as script;
 ghost use Rattle.lra_calc.specs.Views.{made_of, Gives, TellsOutside, IsPlacedRefusal};
 
-use crate::making::{Made, constraints_of_rows, made_with};
+use crate::making::{Made, constraints_of_rows, make_with};
 use crate::refusal::{Fault, LineError};
 use crate::showing::generator_at;
 use lra_poly::Poly;
@@ -16,7 +16,7 @@ use lra_widen::{WidenError, limited, standard};
 use std::alloc::Global;
 
 /// Why the set was not widened, with its generator that is outside of the other.
-fn outside(alloc: Global, set: &Poly, error: WidenError) -> LineError
+fn tell_outside(alloc: Global, set: &Poly, error: WidenError) -> LineError
     requires few { set.now.dims ≤ greatest_dims }
     requires placed { IsPlacedRefusal (length set.now.generators) error }
     ensures { TellsOutside set.now error result }
@@ -39,8 +39,8 @@ pub fn widen(alloc: Global, first: &Poly, second: &Poly) -> Result<Made, LineErr
         (sets.IsWidened first.now.dims first.now second.now)) }
 {
     match standard(alloc, first, second) {
-        Ok((polyhedron, outcome)) => Ok(made_with(polyhedron, outcome)),
-        Err(error) => Err(outside(alloc, first, error)),
+        Ok((polyhedron, outcome)) => Ok(make_with(polyhedron, outcome)),
+        Err(error) => Err(tell_outside(alloc, first, error)),
     }
 }
 
@@ -60,7 +60,7 @@ pub fn limit(
 {
     let given = constraints_of_rows(alloc, first.dims(), given)?;
     match limited(alloc, first, second, &given) {
-        Ok((polyhedron, outcome)) => Ok(made_with(polyhedron, outcome)),
-        Err(error) => Err(outside(alloc, first, error)),
+        Ok((polyhedron, outcome)) => Ok(make_with(polyhedron, outcome)),
+        Err(error) => Err(tell_outside(alloc, first, error)),
     }
 }

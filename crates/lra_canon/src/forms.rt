@@ -10,7 +10,7 @@ ghost use Rattle.lra_canon.specs.Echelons.{IsClearedExcess};
 ghost use Rattle.lra_canon.specs.Echelons.{IsInserted, IsInsertionExcess, IsExtended, IsExtensionExcess, Extends};
 ghost use Rattle.lra_canon.specs.Echelons.{HaveOneWidth, IsFirstRowExcess, IsEchelonExcess};
 
-use crate::reduction::{clear, reduced};
+use crate::reduction::{clear, reduce_by};
 use lra_row::{Row, RowError, push_copies};
 use std::alloc::{AllocError, Global};
 
@@ -22,7 +22,7 @@ fn comes_before(p: usize, q: usize) -> bool
 }
 
 // The row or its negative, whichever is positive at its pivot; none of a row of zeros.
-fn directed(row: Row) -> Result<Option<Row>, AllocError>
+fn direct(row: Row) -> Result<Option<Row>, AllocError>
     requires wide { 0 < length row }
     ensures { IfOk result (IsDirected row) }
 {
@@ -52,7 +52,7 @@ fn rows_before(form: &[Row], column: usize) -> usize
 }
 
 // The rows with 0 at the line's pivot.
-fn cleared(alloc: Global, rows: &[Row], line: &Row) -> Result<Vec<Row>, RowError>
+fn clear_pivot(alloc: Global, rows: &[Row], line: &Row) -> Result<Vec<Row>, RowError>
     requires widths { All (λ r. length r ≡ length line.now) rows.now }
     requires wide { 0 < length line.now }
     ensures ok { IfOk result (λ out. AreCleared line.now rows.now out.items) }
@@ -67,7 +67,7 @@ fn cleared(alloc: Global, rows: &[Row], line: &Row) -> Result<Vec<Row>, RowError
 }
 
 // The line in its place in the form, and the rows before it cleared.
-fn inserted(alloc: Global, form: &[Row], line: Row) -> Result<Vec<Row>, RowError>
+fn insert(alloc: Global, form: &[Row], line: Row) -> Result<Vec<Row>, RowError>
     requires widths { All (λ r. length r ≡ length line) form.now }
     requires wide { 0 < length line }
     ensures ok { IfOk result (λ out. IsInserted form.now line out.items) }
@@ -75,24 +75,24 @@ fn inserted(alloc: Global, form: &[Row], line: Row) -> Result<Vec<Row>, RowError
 {
     let place = rows_before(form, line.pivot());
     let (low, high) = form.split_at(place);
-    let mut rows = cleared(alloc, low, &line)?;
+    let mut rows = clear_pivot(alloc, low, &line)?;
     rows.push(line)?;
     push_copies(&mut rows, high)?;
     Ok(rows)
 }
 
 // The form extended by the row.
-fn extended(alloc: Global, form: Vec<Row>, row: &Row) -> Result<Vec<Row>, RowError>
+fn extend(alloc: Global, form: Vec<Row>, row: &Row) -> Result<Vec<Row>, RowError>
     requires widths { All (λ r. length r ≡ length row.now) form.items }
     requires wide { 0 < length row.now }
     requires form { IsForm form.items }
     ensures ok { IfOk result (λ out. IsExtended form.items row.now out.items) }
     ensures excess { IfErr result (IsExtensionExcess form.items row.now) }
 {
-    let rest = reduced(row, &form)?;
-    match directed(rest)? {
+    let rest = reduce_by(row, &form)?;
+    match direct(rest)? {
         None => Ok(form),
-        Some(line) => inserted(alloc, &form, line),
+        Some(line) => insert(alloc, &form, line),
     }
 }
 
@@ -113,7 +113,7 @@ pub fn echelon(lines: &mut Vec<Row>) -> Result<(), RowError>
     let alloc = *lines.allocator();
     let mut form = Vec::new(alloc);
     for row in lines.iter() {
-        form = extended(alloc, form, row)?;
+        form = extend(alloc, form, row)?;
     }
     *lines = form;
     Ok(())

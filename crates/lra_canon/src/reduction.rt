@@ -37,7 +37,7 @@ pub(crate) fn clear(row: Row, line: &Row) -> Result<Row, RowError>
 
 // The row reduced by the form.
 #[tactic(auto, using(crate::proofs::Chains::partly_start))]
-pub(crate) fn reduced(row: &Row, form: &[Row]) -> Result<Row, RowError>
+pub(crate) fn reduce_by(row: &Row, form: &[Row]) -> Result<Row, RowError>
     requires widths { All (λ line. length line ≡ length row.now) form.now }
     requires wide { 0 < length row.now }
     requires form { IsForm form.now }
@@ -69,6 +69,6 @@ pub fn reduce(row: &mut Row, form: &[Row]) -> Result<(), RowError>
     ensures excess { IfErr result (IsReductionExcess form.now row.old) }
     ensures unchanged { OnErr result (row.new ≡ row.old) }
 {
-    *row = reduced(row, form)?;
+    *row = reduce_by(row, form)?;
     Ok(())
 }

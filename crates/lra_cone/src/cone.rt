@@ -16,8 +16,8 @@ ghost use Rattle.lra_cone.specs.Steps.{IsLastAcross};
 ghost use Rattle.lra_cone.specs.Strains.{IsConeError};
 ghost use Rattle.lra_cone.specs.Flat.{AreFlat, IsFlatError};
 
-use crate::line_step::{Flat, flat_lines, flat_rays, flat_saturation, turned};
-use crate::products::{last_across, products};
+use crate::line_step::{Flat, flat_lines, flat_rays, flat_saturation, orient_line};
+use crate::products::{last_across, multiply_all};
 use crate::ray_step::{Cut, RAY_LIMIT, cut_rays};
 use crate::strained::{ConeError, Family, Strained};
 use lra_bits::SatMatrix;
@@ -160,8 +160,8 @@ impl Cone {
         ensures unchanged { OnErr result (self.new ≡ self.old) }
     {
         let alloc = *self.lines.allocator();
-        let of_lines = products(alloc, row, &self.lines, Family::Lines)?;
-        let of_rays = products(alloc, row, &self.rays, Family::Rays)?;
+        let of_lines = multiply_all(alloc, row, &self.lines, Family::Lines)?;
+        let of_rays = multiply_all(alloc, row, &self.rays, Family::Rays)?;
         match last_across(&of_lines) {
             Some(place) => self.flatten(row, kind, place, &of_lines, &of_rays),
             None => self.cut(row, kind, &of_rays),
@@ -169,7 +169,7 @@ impl Cone {
     }
 
     // What comes of its lists with the line at the place across, by the products of a row with the lines and rays.
-    fn flattened(
+    fn find_flat(
         &self,
         kind: ConKind,
         place: usize,
@@ -188,7 +188,7 @@ impl Cone {
         ensures strained { IfErr result (IsFlatError self.now place of_lines.now of_rays.now) }
     {
         let alloc = *self.lines.allocator();
-        let line = turned(&self.lines, place, of_lines[place])?;
+        let line = orient_line(&self.lines, place, of_lines[place])?;
         let lines = flat_lines(alloc, &self.lines, of_lines, &line)?;
         let rays = flat_rays(alloc, &self.rays, of_rays, &line, kind)?;
         let saturation = flat_saturation(alloc, &self.saturation, kind)?;
@@ -218,7 +218,7 @@ impl Cone {
         ensures strained { IfErr result (IsConeError self.old (is_equality kind) row.now) }
         ensures unchanged { OnErr result (self.new ≡ self.old) }
     {
-        let flat = self.flattened(kind, place, of_lines, of_rays)?;
+        let flat = self.find_flat(kind, place, of_lines, of_rays)?;
         let count = flat.rays.len();
         if count > RAY_LIMIT {
             return Err(ConeError::Strained(Strained::TooMany(count)));

@@ -12,7 +12,7 @@ ghost use Rattle.lra_cone.specs.Strains.{strained_pair, IsFlatteningError};
 ghost use Rattle.lra_cone.specs.declared.strained.Family.TheVariants.{Lines, Rays};
 ghost use Rattle.lra_linear.specs.Kinds.{is_equality};
 
-use crate::saturation::{all_true, lengthened, one_more, push_lengthened};
+use crate::saturation::{all_true, lengthen, one_more, push_lengthened};
 use crate::strained::{ConeError, Family, Member, Strained};
 use lra_bits::SatMatrix;
 use lra_linear::Excess;
@@ -38,7 +38,7 @@ pub struct Flat {
 }
 
 // The line at the place, whose product with the row is this one.
-pub fn turned(lines: &[Row], place: usize, product: i128) -> Result<Across, AllocError>
+pub fn orient_line(lines: &[Row], place: usize, product: i128) -> Result<Across, AllocError>
     requires inside { place < length lines.now }
     requires in_range { InRange product }
     requires across { product ≢ pos 0 }
@@ -63,7 +63,7 @@ pub fn turned(lines: &[Row], place: usize, product: i128) -> Result<Across, Allo
 }
 
 // The row combined with the line so that its product is 0, in lowest terms.
-fn flattened(row: &Row, product: i128, line: &Across) -> Result<Row, RowError>
+fn flatten_row(row: &Row, product: i128, line: &Across) -> Result<Row, RowError>
     requires up_width { length line.now.up ≡ length row.now }
     requires down_width { length line.now.down ≡ length row.now }
     requires turned { line.now.down ≡ negated line.now.up }
@@ -116,7 +116,7 @@ pub fn push_flattened(
     ensures strained { IfErr result (IsFlatteningError line.now products.now rows.now family) }
 {
     for place in 0..rows.len() {
-        match flattened(&rows[place], products[place], line) {
+        match flatten_row(&rows[place], products[place], line) {
             Ok(flat) => out.push(flat)?,
             Err(RowError::Memory) => return Err(ConeError::Memory),
             Err(RowError::Excess(excess)) => {
@@ -184,7 +184,7 @@ fn push_line(alloc: Global, wider: &mut SatMatrix, width: usize) -> Result<(), A
     ensures { OnOk result (wider.new ≡ record wider.old
         { rows = wider.old.rows ++ (replicate width true ++ false ∷ []) ∷ [] }) }
 {
-    let of_line = lengthened(alloc, &all_true(alloc, width)?, false)?;
+    let of_line = lengthen(alloc, &all_true(alloc, width)?, false)?;
     wider.add_row(of_line)?;
     Ok(())
 }

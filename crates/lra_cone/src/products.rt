@@ -12,7 +12,7 @@ use lra_row::Row;
 use std::alloc::Global;
 
 // The products with each of the rows, or the first that passes the range.
-pub fn products(
+pub fn multiply_all(
     alloc: Global,
     c: &Row,
     rows: &[Row],

@@ -13,7 +13,7 @@ ghost use Rattle.lra_cone.specs.Strains.{IsPairError, ArePairsError, IsCutError}
 ghost use Rattle.lra_cone.specs.declared.strained.Family.TheVariants.{Rays};
 
 use crate::pairs::{Pair, adjacent_pairs};
-use crate::saturation::{lengthened, one_more, push_lengthened, tight};
+use crate::saturation::{lengthen, one_more, push_lengthened, mark_tight};
 use crate::strained::{ConeError, Family, Member, Strained};
 use lra_bits::{BitRow, SatMatrix};
 use lra_row::{Row, RowError, opposite};
@@ -24,7 +24,7 @@ use std::alloc::{AllocError, Global};
 pub const RAY_LIMIT: usize = 4096;
 
 // Marks the rays whose product isn't as the kind asks; so many further places behind them are not marked.
-pub fn outside(
+pub fn mark_outside(
     alloc: Global,
     products: &[i128],
     kind: ConKind,
@@ -64,7 +64,7 @@ fn ray(place: usize) -> Member
 }
 
 // The two rays combined so that the product is 0, in lowest terms.
-fn combined(pair: &Pair, rays: &[Row], products: &[i128]) -> Result<Row, ConeError>
+fn combine_pair(pair: &Pair, rays: &[Row], products: &[i128]) -> Result<Row, ConeError>
     requires up { pair.now.up < length rays.now }
     requires down { pair.now.down < length rays.now }
     requires each { length products.now ≡ length rays.now }
@@ -88,7 +88,7 @@ fn combined(pair: &Pair, rays: &[Row], products: &[i128]) -> Result<Row, ConeErr
 }
 
 // A ray for each pair.
-pub fn combinations(
+pub fn combine_pairs(
     alloc: Global,
     pairs: &[Pair],
     rays: &[Row],
@@ -104,7 +104,7 @@ pub fn combinations(
 {
     let mut rows = Vec::with_capacity(alloc, pairs.len())?;
     for pair in pairs {
-        match combined(pair, rays, products) {
+        match combine_pair(pair, rays, products) {
             Ok(row) => rows.push(row)?,
             Err(error) => return Err(error),
         }
@@ -123,7 +123,7 @@ pub fn push_tight(
         { rows = saturation.old.rows ++ tight_rows pairs.now }) }
 {
     for pair in pairs {
-        let row = lengthened(alloc, &pair.tight, true)?;
+        let row = lengthen(alloc, &pair.tight, true)?;
         saturation.add_row(row)?;
     }
     Ok(())
@@ -144,7 +144,7 @@ fn cut_saturation(
 {
     let width = one_more(saturation.width())?;
     let mut wider = SatMatrix::new(alloc, width);
-    push_lengthened(alloc, &mut wider, saturation, &tight(alloc, products)?)?;
+    push_lengthened(alloc, &mut wider, saturation, &mark_tight(alloc, products)?)?;
     push_tight(alloc, &mut wider, pairs)?;
     wider.remove_rows(gone);
     Ok(wider)
@@ -181,11 +181,11 @@ pub fn cut_rays(
     if count > RAY_LIMIT {
         return Err(ConeError::Strained(Strained::TooMany(count)));
     }
-    let new_rays = match combinations(alloc, &pairs, rays, products) {
+    let new_rays = match combine_pairs(alloc, &pairs, rays, products) {
         Ok(new_rays) => new_rays,
         Err(error) => return Err(error),
     };
-    let gone = outside(alloc, products, kind, pairs.len())?;
+    let gone = mark_outside(alloc, products, kind, pairs.len())?;
     let made = cut_saturation(alloc, saturation, products, &pairs, &gone)?;
     Ok(Cut {
         gone,

@@ -19,7 +19,7 @@ pub fn all_true(alloc: Global, width: usize) -> Result<BitRow, AllocError>
 }
 
 // True where the product is 0.
-pub fn tight(alloc: Global, products: &[i128]) -> Result<BitRow, AllocError>
+pub fn mark_tight(alloc: Global, products: &[i128]) -> Result<BitRow, AllocError>
     ensures { IfOk result (λ values. values ≡ map (λ p. int_eq p (pos 0)) products.now) }
 {
     let mut values = BitRow::new(alloc, products.len())?;
@@ -40,7 +40,7 @@ pub fn one_more(width: usize) -> Result<usize, AllocError>
 }
 
 // The values, and one more behind them.
-pub fn lengthened(alloc: Global, values: &BitRow, last: bool) -> Result<BitRow, AllocError>
+pub fn lengthen(alloc: Global, values: &BitRow, last: bool) -> Result<BitRow, AllocError>
     ensures { IfOk result (λ longer. longer ≡ values.now ++ last ∷ []) }
 {
     let width = values.width();
@@ -65,7 +65,7 @@ pub fn push_lengthened(
         { rows = wider.old.rows ++ lengthened_rows matrix.now.rows last.now }) }
 {
     for k in 0..matrix.height() {
-        let row = lengthened(alloc, matrix.row(k), last.get(k))?;
+        let row = lengthen(alloc, matrix.row(k), last.get(k))?;
         wider.add_row(row)?;
     }
     Ok(())

@@ -12,7 +12,7 @@ use lra_program::{Cond, Expr, copy_expressions};
 use std::alloc::{AllocError, Global};
 
 /// The one, then the other.
-pub fn in_turn(alloc: Global, first: Node, second: Node) -> Result<Node, AllocError>
+pub fn put_in_turn(alloc: Global, first: Node, second: Node) -> Result<Node, AllocError>
     ensures { IfOk result (λ g. node_view g ≡ graph.seq (node_view first) (node_view second)) }
 {
     let mut before = Vec::new(alloc);
@@ -29,7 +29,7 @@ pub fn add_part(parts: &mut Vec<Node>, part: Node) -> Result<(), AllocError>
 }
 
 /// The parts one after the other, behind the last of which nothing is done.
-pub fn in_a_row(alloc: Global, parts: Vec<Node>) -> Result<Node, AllocError>
+pub fn put_in_a_row(alloc: Global, parts: Vec<Node>) -> Result<Node, AllocError>
     ensures { IfOk result (λ g. node_view g ≡ row (map node_view parts.items) graph.empty) }
 {
     Ok(Node::Seq(parts, Box::new(alloc, Node::Empty)?))
@@ -45,14 +45,14 @@ fn catch_exit(alloc: Global, point: usize, exit: Exit, body: Node) -> Result<Nod
 pub fn put_point(alloc: Global, point: usize, node: Node) -> Result<Node, AllocError>
     ensures { IfOk result (λ g. node_view g ≡ graph.seq (graph.point point) (node_view node)) }
 {
-    in_turn(alloc, Node::Point(point), node)
+    put_in_turn(alloc, Node::Point(point), node)
 }
 
 /// The operation, then the tree.
 pub fn put_act(alloc: Global, point: usize, op: Op, node: Node) -> Result<Node, AllocError>
     ensures { IfOk result (λ g. node_view g ≡ graph.seq (graph.act point (op_view op)) (node_view node)) }
 {
-    in_turn(alloc, Node::Act(point, op), node)
+    put_in_turn(alloc, Node::Act(point, op), node)
 }
 
 /// A block: its items, then the point of its end, where its variables go.
@@ -66,7 +66,7 @@ pub fn close_block(
         ≡ graph.seq (node_view items) (graph.seq (graph.point point) (graph.act point (step.keep live)))) }
 {
     let end = put_point(alloc, point, Node::Act(point, Op::Keep(live)))?;
-    in_turn(alloc, items, end)
+    put_in_turn(alloc, items, end)
 }
 
 /// A `for` behind its point: its beginning, then its loop, then its variables go.
@@ -80,8 +80,8 @@ pub fn enclose_for(
     ensures { IfOk result (λ g. node_view g
         ≡ graph.seq (node_view init) (graph.seq (node_view rounds) (graph.act point (step.keep live)))) }
 {
-    let rest = in_turn(alloc, rounds, Node::Act(point, Op::Keep(live)))?;
-    in_turn(alloc, init, rest)
+    let rest = put_in_turn(alloc, rounds, Node::Act(point, Op::Keep(live)))?;
+    put_in_turn(alloc, init, rest)
 }
 
 /// The point, then the one where the condition is true, the other where it is false.
@@ -120,7 +120,7 @@ pub fn rounds(
 {
     let cond = cond.copy(alloc)?;
     let body = catch_exit(alloc, point, Exit::Continued, body)?;
-    let round = in_turn(alloc, body, step)?;
+    let round = put_in_turn(alloc, body, step)?;
     let all = Node::Iterate(point, base, cond, Box::new(alloc, round)?);
     catch_exit(alloc, point, Exit::Broken, all)
 }
@@ -199,7 +199,7 @@ pub fn enclose_call(
         (node_view body)) }
 {
     let end = call_end(alloc, place.end, place.live, parameters, place.target)?;
-    let whole = in_turn(alloc, body, end)?;
+    let whole = put_in_turn(alloc, body, end)?;
     let inside = catch_exit(alloc, place.point, Exit::Returned, whole)?;
     let arguments = copy_expressions(alloc, arguments)?;
     put_act(alloc, place.point, Op::Push(place.base, arguments), inside)

@@ -24,7 +24,7 @@ ghost use Rattle.lra_graph.specs.Inlining.{IsItem, IsRvalue};
 ghost use Rattle.lra_graph.specs.Inlining.{IsDeclared, IsLoop, for_of};
 
 use crate::forms::{
-    add_part, choice, close_block, cut_and_leave, enclose_for, in_a_row, put_act, put_point, rounds,
+    add_part, choice, close_block, cut_and_leave, enclose_for, put_in_a_row, put_act, put_point, rounds,
 };
 use crate::frame::{Around, Caller, Frame, Repeated};
 use crate::points::{GraphError, Limit, add_point, finish};
@@ -64,7 +64,7 @@ fn live_inside(live: usize, items: &[BlockItem]) -> Option<usize>
 }
 
 /// The point of a statement with this label, which is no assertion.
-fn own_point(around: &Around<'_>, label: usize, sites: &mut Vec<Site>) -> Result<usize, GraphError>
+fn open_point(around: &Around<'_>, label: usize, sites: &mut Vec<Site>) -> Result<usize, GraphError>
     ensures number { IfOk result (λ q. q ≡ length (points_in sites.old)) }
     ensures walked { IfOk result (λ _. Passes around.now sites.old sites.new (own_events around.now label)) }
     ensures few { IfOk result (λ _. around.now.frame.live ≤ greatest_live) }
@@ -79,7 +79,7 @@ fn lone_point(around: &Around<'_>, label: usize, sites: &mut Vec<Site>) -> Resul
     ensures written { IfOk result (IsPlain around.now sites.old sites.new (resolved.nothing label)) }
     ensures limit { OnLimit result (Stops around.now sites.old (own_events around.now label)) }
 {
-    let point = own_point(around, label, sites)?;
+    let point = open_point(around, label, sites)?;
     Ok(Node::Point(point))
 }
 
@@ -94,7 +94,7 @@ fn leave_loop(
     ensures written { IfOk result (IsExit around.now sites.old sites.new label (exit_view exit)) }
     ensures limit { OnLimit result (Stops around.now sites.old (own_events around.now label)) }
 {
-    let point = own_point(around, label, sites)?;
+    let point = open_point(around, label, sites)?;
     let frame = around.frame;
     match frame.loop_length {
         Some(length) => {
@@ -106,7 +106,7 @@ fn leave_loop(
 }
 
 /// An assertion: a test with a verdict.
-fn assertion(
+fn inline_assertion(
     around: &Around<'_>,
     label: usize,
     cond: &Cond,
@@ -134,7 +134,7 @@ fn assumption_of(
         (resolved.assume label (cond_view cond.now))) }
     ensures limit { OnLimit result (Stops around.now sites.old (own_events around.now label)) }
 {
-    let point = own_point(around, label, sites)?;
+    let point = open_point(around, label, sites)?;
     let test = Op::Test(around.frame.base, cond.copy(around.alloc)?, true);
     finish(put_point(around.alloc, point, Node::Act(point, test)))
 }
@@ -145,7 +145,7 @@ fn return_any(around: &Around<'_>, label: usize, sites: &mut Vec<Site>) -> Resul
     ensures written { IfOk result (IsStmt around.now sites.old sites.new (resolved.return label None)) }
     ensures limit { OnLimit result (StopsStmt around.now sites.old (resolved.return label None)) }
 {
-    let point = own_point(around, label, sites)?;
+    let point = open_point(around, label, sites)?;
     finish(leave_any(around, point))
 }
 
@@ -162,7 +162,7 @@ fn return_value(
     ensures limit { OnLimit result (StopsStmt around.now sites.old
         (resolved.return label (Some (resolved.value (expr_view value.now))))) }
 {
-    let point = own_point(around, label, sites)?;
+    let point = open_point(around, label, sites)?;
     finish(leave_value(around, point, value))
 }
 
@@ -178,7 +178,7 @@ fn inline_lone(around: &Around<'_>, stmt: &Stmt, sites: &mut Vec<Site>) -> Resul
         Stmt::Nothing(label) => lone_point(around, *label, sites),
         Stmt::Break(label) => leave_loop(around, *label, Exit::Broken, sites),
         Stmt::Continue(label) => leave_loop(around, *label, Exit::Continued, sites),
-        Stmt::Assert(label, cond) => assertion(around, *label, cond, sites),
+        Stmt::Assert(label, cond) => inline_assertion(around, *label, cond, sites),
         Stmt::Assume(label, cond) => assumption_of(around, *label, cond, sites),
         _ => unreachable!(),
     }
@@ -235,7 +235,7 @@ fn inline_simple(
     match stmt {
         Stmt::Assign(label, slot, rvalue) => inline_assign(around, *label, *slot, rvalue, sites),
         Stmt::Call(label, call) => {
-            let point = own_point(around, *label, sites)?;
+            let point = open_point(around, *label, sites)?;
             let given = inline_call(around, point, None, call, sites)?;
             finish(put_point(around.alloc, point, given))
         }
@@ -280,7 +280,7 @@ fn inline_assign(
     ensures limit { OnLimit result (StopsStmt around.now sites.old
         (resolved.assign label (slot_view slot) (rvalue_view rvalue.now))) }
 {
-    let point = own_point(around, label, sites)?;
+    let point = open_point(around, label, sites)?;
     let target = Some(store_index(around.frame.base, slot));
     let given = inline_rvalue(around, point, target, rvalue, sites)?;
     finish(put_point(around.alloc, point, given))
@@ -304,7 +304,7 @@ fn inline_if(
     ensures limit { OnLimit result (StopsStmt around.now sites.old
         (resolved.if label (cond_view cond.now) (stmt_view on_true.now) (stmt_view on_false.now))) }
 {
-    let point = own_point(around, label, sites)?;
+    let point = open_point(around, label, sites)?;
     let on_true = inline_stmt(around, on_true, sites)?;
     let on_false = inline_stmt(around, on_false, sites)?;
     let base = around.frame.base;
@@ -337,7 +337,7 @@ fn inline_items(
         add_part(&mut parts, part)?;
         live = after;
     }
-    let all = in_a_row(around.alloc, parts)?;
+    let all = put_in_a_row(around.alloc, parts)?;
     Ok((all, live))
 }
 
@@ -355,7 +355,7 @@ fn inline_item(
 {
     match item {
         BlockItem::Declaration(declarator) => {
-            let point = own_point(around, declarator.label, sites)?;
+            let point = open_point(around, declarator.label, sites)?;
             let given = inline_declared(around, point, &declarator.rvalue, sites)?;
             let declared = put_point(around.alloc, point, given)?;
             Ok((declared, around.frame.live + 1))
@@ -415,7 +415,7 @@ fn inline_while(
     ensures limit { OnLimit result (StopsStmt around.now sites.old
         (resolved.loop label (cond_view cond.now) (stmt_view body.now) (stmt_view step.now))) }
 {
-    let point = own_point(around, label, sites)?;
+    let point = open_point(around, label, sites)?;
     inline_loop(around, point, cond, body, step, sites)
 }
 
@@ -505,7 +505,7 @@ fn inline_return(
         None => return_any(around, label, sites),
         Some(Rvalue::Value(value)) => return_value(around, label, value, sites),
         Some(Rvalue::Result(call)) => {
-            let point = own_point(around, label, sites)?;
+            let point = open_point(around, label, sites)?;
             let target = receiver_of(around.frame.back);
             let given = inline_call(around, point, target, call, sites)?;
             finish(leave_call(around, point, given))

@@ -142,7 +142,7 @@ impl<D: Drop> Found<D> {
     }
 
     /// What a pass found comes behind, and its end is the end.
-    pub fn followed_by(self, outcome: Outcome<D>) -> Result<Outcome<D>, AllocError>
+    pub fn follow_with(self, outcome: Outcome<D>) -> Result<Outcome<D>, AllocError>
         ensures { IfOk result (λ r. AreInTurn self outcome.found r.found × (r.normal ≡ outcome.normal) ×
             (r.flag ≡ outcome.flag)) }
     {

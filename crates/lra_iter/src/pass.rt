@@ -62,7 +62,7 @@ fn meet_again<D: Domain>(
 }
 
 /// The first value joined with what a round left, and the first flagged point so far.
-fn narrowed<D: Domain>(
+fn join_round<D: Domain>(
     alloc: Global,
     point: usize,
     first: &D,
@@ -277,7 +277,7 @@ fn narrow<D: Domain>(
     let mut last = turn;
     let mut left = the_loop.options.narrow;
     'narrowing: while left > 0 {
-        let (next, so_far) = narrowed(alloc, the_loop.point, first, &last.outcome)?;
+        let (next, so_far) = join_round(alloc, the_loop.point, first, &last.outcome)?;
         top = next;
         last = round(alloc, memory, the_loop, &top, so_far, Some(last))?;
         left -= 1;
@@ -384,7 +384,7 @@ fn pass_row<D: Domain>(
             flag,
         } = so_far;
         let part = pass(alloc, the_row.options, memory, tree, normal, flag)?;
-        so_far = found.followed_by(part)?;
+        so_far = found.follow_with(part)?;
     }
     let Outcome {
         found,
@@ -392,7 +392,7 @@ fn pass_row<D: Domain>(
         flag,
     } = so_far;
     let end = pass(alloc, the_row.options, memory, the_row.last, normal, flag)?;
-    found.followed_by(end)
+    found.follow_with(end)
 }
 
 /// The pass from `value` over the tree.

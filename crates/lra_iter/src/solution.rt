@@ -20,7 +20,7 @@ ghost use Rattle.lra_iter.specs.Sound.{HoldsInTree};
 use crate::memory::Memory;
 use crate::outcome::{Outcome, note};
 use crate::pass::pass;
-use crate::tables::{held_in, numbered_in, tables_of};
+use crate::tables::{take_held, number_held, tables_of};
 use lra_base::Options;
 use lra_change::append_globals;
 use lra_domain::Domain;
@@ -53,8 +53,8 @@ fn solution_of<D: Domain>(
     let entries = outcome.found.into_entries();
     let tables = tables_of(alloc, sites.len(), entries)?;
     Ok(Solution {
-        values: held_in(alloc, tables.values)?,
-        verdicts: numbered_in(alloc, &tables.verdicts)?,
+        values: take_held(alloc, tables.values)?,
+        verdicts: number_held(alloc, &tables.verdicts)?,
         flagged,
     })
 }

@@ -50,14 +50,14 @@ pub fn tables_of<D: Domain>(
 }
 
 /// What the filled places hold.
-pub fn held_in<T: Drop>(alloc: Global, table: Vec<Option<T>>) -> Result<Vec<T>, AllocError>
+pub fn take_held<T: Drop>(alloc: Global, table: Vec<Option<T>>) -> Result<Vec<T>, AllocError>
     ensures { IfOk result (λ held. held.items ≡ flat_map option_to_list table.items) }
 {
     table.into_iter().flatten().collect(alloc)
 }
 
 /// What the filled places hold, with the places' numbers.
-pub fn numbered_in(alloc: Global, table: &[Option<bool>]) -> Result<Vec<(usize, bool)>, AllocError>
+pub fn number_held(alloc: Global, table: &[Option<bool>]) -> Result<Vec<(usize, bool)>, AllocError>
     ensures { IfOk result (λ numbered. numbered.items ≡ filled_from 0 table.now) }
 {
     let mut numbered = Vec::new(alloc);

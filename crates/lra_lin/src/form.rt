@@ -95,7 +95,7 @@ impl LinExpr {
     pub fn opposite(&self, alloc: Global) -> Result<Option<Self>, AllocError>
         ensures { IfOk result (λ o. SomeIff o (FormFits (opposite_form self.now)) (opposite_form self.now)) }
     {
-        let Some(coefficients) = negated(alloc, self.coefficients.as_slice())? else {
+        let Some(coefficients) = negate_coefficients(alloc, self.coefficients.as_slice())? else {
             return Ok(None);
         };
         let form = LinExpr::new(alloc, -1 - self.constant, coefficients.as_slice())?;
@@ -120,7 +120,7 @@ fn row_with(alloc: Global, first: i128, coefficients: &[i64]) -> Result<Row, All
 }
 
 /// The numbers times -1, or `None` where one of these passes i64.
-fn negated(alloc: Global, coefficients: &[i64]) -> Result<Option<Vec<i64>>, AllocError>
+fn negate_coefficients(alloc: Global, coefficients: &[i64]) -> Result<Option<Vec<i64>>, AllocError>
     ensures { IfOk result (λ o. MatchOption o (¬ All (FitsSigned w64) (map neg_ℤ coefficients.now))
         (λ all. All (FitsSigned w64) (map neg_ℤ coefficients.now) × (all.items ≡ map neg_ℤ coefficients.now))) }
 {

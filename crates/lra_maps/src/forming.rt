@@ -67,7 +67,7 @@ fn generator_loss(
 }
 
 // The generator with the form's value in the column, or the first number of that value that passes.
-pub fn assigned_row(alloc: Global, row: &Row, column: usize, form: &Row) -> Result<Row, RowError>
+pub fn assign_row(alloc: Global, row: &Row, column: usize, form: &Row) -> Result<Row, RowError>
     requires column { column < length row.now }
     requires width { length form.now ≡ length row.now }
     ensures ok { IfOk result (λ r. r ≡ assigned column form.now row.now) }
@@ -81,7 +81,7 @@ pub fn assigned_row(alloc: Global, row: &Row, column: usize, form: &Row) -> Resu
 }
 
 // The generators, each with the form's value as coordinate x; or what is told of the first with which a number passes.
-pub fn assigned_list(
+pub fn assign_list(
     alloc: Global,
     list: &GenSys,
     x: usize,
@@ -103,7 +103,7 @@ pub fn assigned_list(
     let mut all = GenSys::new(alloc, list.dims());
     let (rows, kinds) = (list.rows(), list.kinds());
     for place in 0..rows.len() {
-        match assigned_row(alloc, &rows[place], x + 1, form) {
+        match assign_row(alloc, &rows[place], x + 1, form) {
             Ok(row) => all.push(row, kinds[place])?,
             Err(RowError::Memory) => return Err(AllocError),
             Err(RowError::Excess(excess)) => {
@@ -125,7 +125,7 @@ pub fn first_told(first: Outcome, second: Outcome) -> Outcome
 
 // The constraints with the form put in for the coordinate x, without those with which a number passes; and what is told
 // of the first of those.
-pub fn substituted_list(
+pub fn substitute_list(
     alloc: Global,
     list: &ConSys,
     x: usize,

@@ -11,9 +11,9 @@ ghost use Rattle.lra_poly.specs.Outcomes.{IfExact, IfFlagged};
 ghost use Rattle.lra_lin.specs.Form.{form_row};
 ghost use Rattle.lra_sys.specs.Listed.{generators, FitKinds};
 
-use crate::forming::{assigned_list, first_told, substituted_list};
+use crate::forming::{assign_list, first_told, substitute_list};
 use crate::maps::forget;
-use crate::moved::{moved_image, moved_preimage};
+use crate::moved::{move_forward, move_back};
 use lra_lin::LinExpr;
 use lra_poly::{Outcome, Poly};
 use lra_row::Row;
@@ -57,7 +57,7 @@ fn replace_or_forget(p: &mut Poly, x: usize, list: &GenSys) -> Result<Outcome, A
 }
 
 // The image, where the generators are converted.
-fn converted_image(p: &mut Poly, x: usize, form: &Row) -> Result<Outcome, AllocError>
+fn convert_image(p: &mut Poly, x: usize, form: &Row) -> Result<Outcome, AllocError>
     requires column { x < p.old.dims }
     requires form { length form.now ≡ suc p.old.dims }
     ensures dims { p.new.dims ≡ p.old.dims }
@@ -69,7 +69,7 @@ fn converted_image(p: &mut Poly, x: usize, form: &Row) -> Result<Outcome, AllocE
     ensures forgotten { IfOk result (IfFlagged (λ _. IsForgotten (suc x) p.old p.new)) }
     ensures unchanged { OnErr result (p.new ≡ p.old) }
 {
-    match assigned_list(p.allocator(), p.generators(), x, form)? {
+    match assign_list(p.allocator(), p.generators(), x, form)? {
         Ok(list) => {
             let outcome = replace_or_forget(p, x, &list)?;
             Ok(outcome)
@@ -97,20 +97,20 @@ pub fn image(p: &mut Poly, x: usize, form: &LinExpr) -> Result<Outcome, AllocErr
     ensures unchanged { OnErr result (p.new ≡ p.old) }
 {
     let row = form.to_row(p.allocator())?;
-    match moved_image(p, x + 1, &row)? {
+    match move_forward(p, x + 1, &row)? {
         Some(made) => {
             *p = made;
             Ok(Outcome::Exact)
         }
         None => {
-            let outcome = converted_image(p, x, &row)?;
+            let outcome = convert_image(p, x, &row)?;
             Ok(outcome)
         }
     }
 }
 
 // The preimage, where the constraints are converted.
-fn converted_preimage(p: &mut Poly, x: usize, form: &Row) -> Result<Outcome, AllocError>
+fn convert_preimage(p: &mut Poly, x: usize, form: &Row) -> Result<Outcome, AllocError>
     requires column { x < p.old.dims }
     requires form { length form.now ≡ suc p.old.dims }
     ensures dims { OnOk result (p.new.dims ≡ p.old.dims) }
@@ -121,7 +121,7 @@ fn converted_preimage(p: &mut Poly, x: usize, form: &Row) -> Result<Outcome, All
     ensures strain { IfOk result (IfFlagged (PreimageStrains (suc x) form.now p.old)) }
     ensures unchanged { OnErr result (p.new ≡ p.old) }
 {
-    let (list, formed) = substituted_list(p.allocator(), p.rows(), x, form)?;
+    let (list, formed) = substitute_list(p.allocator(), p.rows(), x, form)?;
     let (made, outcome) = Poly::from_rows(p.allocator(), &list)?;
     *p = made;
     Ok(first_told(formed, outcome))
@@ -142,13 +142,13 @@ pub fn preimage(p: &mut Poly, x: usize, form: &LinExpr) -> Result<Outcome, Alloc
     ensures unchanged { OnErr result (p.new ≡ p.old) }
 {
     let row = form.to_row(p.allocator())?;
-    match moved_preimage(p, x + 1, &row)? {
+    match move_back(p, x + 1, &row)? {
         Some(made) => {
             *p = made;
             Ok(Outcome::Exact)
         }
         None => {
-            let outcome = converted_preimage(p, x, &row)?;
+            let outcome = convert_preimage(p, x, &row)?;
             Ok(outcome)
         }
     }

@@ -43,7 +43,7 @@ fn first_columns(alloc: Global, row: &Row, width: usize) -> Result<Row, AllocErr
 }
 
 // The generators with n dimensions, the first ones.
-pub fn shortened(alloc: Global, list: &GenSys, n: usize) -> Result<GenSys, AllocError>
+pub fn shorten(alloc: Global, list: &GenSys, n: usize) -> Result<GenSys, AllocError>
     requires dims { n ≤ list.now.dims }
     requires kinds { FitKinds list.now.rows list.now.kinds }
     ensures dims { IfOk result (λ all. all.dims ≡ n) }
@@ -104,7 +104,7 @@ pub fn with_directions(alloc: Global, first: &GenSys, second: &GenSys) -> Result
 }
 
 // The row with k zeros behind it.
-fn longer(alloc: Global, row: &Row, k: usize) -> Result<Row, AllocError>
+fn lengthen(alloc: Global, row: &Row, k: usize) -> Result<Row, AllocError>
     ensures { IfOk result (λ r. r ≡ row.now ++ zeros k) }
 {
     let mut numbers = Vec::from_slice(alloc, row.entries())?;
@@ -116,7 +116,7 @@ fn longer(alloc: Global, row: &Row, k: usize) -> Result<Row, AllocError>
 }
 
 // The generators with k more columns of zeros.
-fn longer_list(alloc: Global, list: &GenSys, k: usize) -> Result<GenSys, AllocError>
+fn lengthen_list(alloc: Global, list: &GenSys, k: usize) -> Result<GenSys, AllocError>
     requires small { list.now.dims + k < too_many_dimensions }
     requires kinds { FitKinds list.now.rows list.now.kinds }
     ensures dims { IfOk result (λ all. all.dims ≡ list.now.dims + k) }
@@ -127,7 +127,7 @@ fn longer_list(alloc: Global, list: &GenSys, k: usize) -> Result<GenSys, AllocEr
     let mut all = GenSys::new(alloc, list.dims() + k);
     let (rows, kinds) = (list.rows(), list.kinds());
     for place in 0..rows.len() {
-        all.push(longer(alloc, &rows[place], k)?, kinds[place])?;
+        all.push(lengthen(alloc, &rows[place], k)?, kinds[place])?;
     }
     Ok(all)
 }
@@ -151,7 +151,7 @@ fn with_new_lines(alloc: Global, list: GenSys, n: usize, k: usize) -> Result<Gen
 }
 
 // The generators with k more dimensions, in which the coordinates may be anything.
-pub fn embedded(alloc: Global, list: &GenSys, k: usize) -> Result<GenSys, AllocError>
+pub fn embed_list(alloc: Global, list: &GenSys, k: usize) -> Result<GenSys, AllocError>
     requires small { list.now.dims + k < too_many_dimensions }
     requires kinds { FitKinds list.now.rows list.now.kinds }
     ensures dims { IfOk result (λ all. all.dims ≡ list.now.dims + k) }
@@ -160,7 +160,7 @@ pub fn embedded(alloc: Global, list: &GenSys, k: usize) -> Result<GenSys, AllocE
         ++ given_as true (map (λ u. zeros (suc list.now.dims) ++ u) (units k))) }
     ensures kinds { IfOk result (λ all. FitKinds all.rows all.kinds) }
 {
-    let longer = longer_list(alloc, list, k)?;
+    let longer = lengthen_list(alloc, list, k)?;
     let all = with_new_lines(alloc, longer, list.dims(), k)?;
     Ok(all)
 }

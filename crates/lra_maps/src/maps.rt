@@ -11,7 +11,7 @@ ghost use Rattle.lra_poly.specs.Outcomes.{IfExact, IfFlagged};
 ghost use Rattle.lra_sys.specs.Dimensions.{too_many_dimensions};
 ghost use Rattle.lra_sys.specs.Listed.{generators, FitKinds};
 
-use crate::lists::{embedded, shortened, with_directions, with_line};
+use crate::lists::{embed_list, shorten, with_directions, with_line};
 use lra_poly::{Outcome, Poly};
 use lra_sys::GenSys;
 use std::alloc::AllocError;
@@ -60,7 +60,7 @@ pub fn remove_last(p: &mut Poly, k: usize) -> Result<Outcome, AllocError>
     ensures strain { IfOk result (IfFlagged (RemoveLastStrains k p.old)) }
     ensures unchanged { OnErr result (p.new ≡ p.old) }
 {
-    let list = shortened(p.allocator(), p.generators(), p.dims() - k)?;
+    let list = shorten(p.allocator(), p.generators(), p.dims() - k)?;
     let outcome = replace(p, &list)?;
     Ok(outcome)
 }
@@ -77,7 +77,7 @@ pub fn embed(p: &mut Poly, k: usize) -> Result<Outcome, AllocError>
     ensures strain { IfOk result (IfFlagged (EmbedStrains k p.old)) }
     ensures unchanged { OnErr result (p.new ≡ p.old) }
 {
-    let list = embedded(p.allocator(), p.generators(), k)?;
+    let list = embed_list(p.allocator(), p.generators(), k)?;
     let outcome = replace(p, &list)?;
     Ok(outcome)
 }

@@ -13,7 +13,7 @@ ghost use Rattle.lra_pair.specs.OwnLists.{AreReducedBy};
 ghost use Rattle.lra_sys.specs.Dimensions.{too_many_dimensions};
 ghost use Rattle.lra_sys.specs.Listed.{constraints, generators};
 
-use crate::forming::assigned_row;
+use crate::forming::assign_row;
 use lra_canon::echelon;
 use lra_cone::{constraint_list, generator_list, unit};
 use lra_pair::{Own, all_reduced};
@@ -49,7 +49,7 @@ fn opposite_but(alloc: Global, form: &Row, column: usize) -> Result<Row, AllocEr
 }
 
 // The form that takes the form back, where that has 1 or -1 at the column.
-fn taken_back(alloc: Global, form: &Row, column: usize) -> Result<Option<Row>, AllocError>
+fn take_back(alloc: Global, form: &Row, column: usize) -> Result<Option<Row>, AllocError>
     requires { column < length form.now }
     ensures { IfOk result (λ back. IfSome back (TakesBack column (length form.now) form.now)) }
 {
@@ -65,7 +65,7 @@ fn taken_back(alloc: Global, form: &Row, column: usize) -> Result<Option<Row>, A
 }
 
 // The constraints with the form put in for the column, equalities apart.
-fn substituted_parts(
+fn substitute_parts(
     alloc: Global,
     list: &ConSys,
     column: usize,
@@ -92,7 +92,7 @@ fn substituted_parts(
 }
 
 // The generators with the form's value in the column, lines apart.
-fn assigned_parts(alloc: Global, list: &GenSys, column: usize, form: &Row) -> Result<Own, RowError>
+fn assign_parts(alloc: Global, list: &GenSys, column: usize, form: &Row) -> Result<Own, RowError>
     requires column { column < suc list.now.dims }
     requires width { length form.now ≡ suc list.now.dims }
     ensures lines { IfOk result (λ parts. parts.lines.items ≡
@@ -104,7 +104,7 @@ fn assigned_parts(alloc: Global, list: &GenSys, column: usize, form: &Row) -> Re
     let mut rays = Vec::new(alloc);
     let (rows, kinds) = (list.rows(), list.kinds());
     for place in 0..rows.len() {
-        let row = assigned_row(alloc, &rows[place], column, form)?;
+        let row = assign_row(alloc, &rows[place], column, form)?;
         match kinds[place] {
             GenKind::Line => lines.push(row)?,
             GenKind::Point => rays.push(row)?,
@@ -115,7 +115,7 @@ fn assigned_parts(alloc: Global, list: &GenSys, column: usize, form: &Row) -> Re
 }
 
 // The lines in echelon form, and the rays reduced by it.
-fn remade(alloc: Global, parts: Own, width: usize) -> Result<Own, RowError>
+fn remake(alloc: Global, parts: Own, width: usize) -> Result<Own, RowError>
     requires wide { 0 < width }
     requires lines { HaveWidth width parts.lines.items }
     requires rays { HaveWidth width parts.rays.items }
@@ -131,7 +131,7 @@ fn remade(alloc: Global, parts: Own, width: usize) -> Result<Own, RowError>
 }
 
 // The constraints with the form put in for the column, as a canonical list. Or names a number that passes the range.
-fn substituted_canonical(
+fn substitute_canonically(
     alloc: Global,
     list: &ConSys,
     column: usize,
@@ -144,15 +144,15 @@ fn substituted_canonical(
     ensures made { IfOk result (IsSubstitutedList list.now.dims column form.now (constraints list.now)) }
 {
     let (n, _rows) = (list.dims(), list.rows());
-    let parts = substituted_parts(alloc, list, column, form)?;
-    let own = remade(alloc, parts, n + 1)?;
+    let parts = substitute_parts(alloc, list, column, form)?;
+    let own = remake(alloc, parts, n + 1)?;
     let positivity = unit(alloc, n, 0)?;
     let made = constraint_list(alloc, &own.lines, &own.rays, &positivity, n)?;
     Ok(made)
 }
 
 // The generators with the form's value in the column, as a canonical list. Or names a number that passes the range.
-fn assigned_canonical(
+fn assign_canonically(
     alloc: Global,
     list: &GenSys,
     column: usize,
@@ -165,8 +165,8 @@ fn assigned_canonical(
     ensures made { IfOk result (IsAssignedList list.now.dims column form.now (generators list.now)) }
 {
     let (n, _rows) = (list.dims(), list.rows());
-    let parts = assigned_parts(alloc, list, column, form)?;
-    let own = remade(alloc, parts, n + 1)?;
+    let parts = assign_parts(alloc, list, column, form)?;
+    let own = remake(alloc, parts, n + 1)?;
     let made = generator_list(alloc, n, &own.lines, &own.rays)?;
     Ok(made)
 }
@@ -183,8 +183,8 @@ fn move_lists(p: &Poly, column: usize, form: &Row, back: &Row) -> Result<Poly, R
     if p.dims() >= TOO_MANY_DIMENSIONS {
         return Err(RowError::Memory);
     }
-    let rows = substituted_canonical(alloc, p.rows(), column, back)?;
-    let by_generators = assigned_canonical(alloc, p.generators(), column, form)?;
+    let rows = substitute_canonically(alloc, p.rows(), column, back)?;
+    let by_generators = assign_canonically(alloc, p.generators(), column, form)?;
     let image = Poly::from_canonical(alloc, rows, by_generators)?;
     Ok(image)
 }
@@ -211,7 +211,7 @@ fn move_lists_in_range(
 
 /// The image under the assignment of the form to the column, by both lists. None where the form hasn't 1 or -1 at the
 /// column, where there is no point, or where a number passes the range.
-pub fn moved_image(p: &Poly, column: usize, form: &Row) -> Result<Option<Poly>, AllocError>
+pub fn move_forward(p: &Poly, column: usize, form: &Row) -> Result<Option<Poly>, AllocError>
     requires above { 0 < column }
     requires column { column < suc p.now.dims }
     requires width { length form.now ≡ suc p.now.dims }
@@ -221,7 +221,7 @@ pub fn moved_image(p: &Poly, column: usize, form: &Row) -> Result<Option<Poly>, 
     if p.is_empty() {
         return Ok(None);
     }
-    match taken_back(p.allocator(), form, column)? {
+    match take_back(p.allocator(), form, column)? {
         Some(back) => {
             let image = move_lists_in_range(p, column, form, &back)?;
             Ok(image)
@@ -231,7 +231,7 @@ pub fn moved_image(p: &Poly, column: usize, form: &Row) -> Result<Option<Poly>, 
 }
 
 /// The preimage under the assignment of the form to the column, by both lists; none as with the image.
-pub fn moved_preimage(p: &Poly, column: usize, form: &Row) -> Result<Option<Poly>, AllocError>
+pub fn move_back(p: &Poly, column: usize, form: &Row) -> Result<Option<Poly>, AllocError>
     requires above { 0 < column }
     requires column { column < suc p.now.dims }
     requires width { length form.now ≡ suc p.now.dims }
@@ -242,7 +242,7 @@ pub fn moved_preimage(p: &Poly, column: usize, form: &Row) -> Result<Option<Poly
     if p.is_empty() {
         return Ok(None);
     }
-    match taken_back(p.allocator(), form, column)? {
+    match take_back(p.allocator(), form, column)? {
         Some(back) => {
             let preimage = move_lists_in_range(p, column, &back, form)?;
             Ok(preimage)

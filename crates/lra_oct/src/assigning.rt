@@ -14,7 +14,7 @@ ghost use Rattle.lra_oct.specs.Answers.{AssignedTo, ConfinedTo};
 ghost use Rattle.lra_oct.specs.Meaning.{octagon_meaning};
 
 use crate::bounds::Bounds;
-use crate::closing::{equated, free};
+use crate::closing::{equate_and_close, free};
 use crate::forms::{Shape, classify};
 use crate::unary::{close_within, intervals_of};
 use lra_box::{Interval, Side, sum_end, wide_row};
@@ -137,7 +137,7 @@ fn assign_matrix(
     match assignment_of(x, classify(factors)) {
         Assignment::Equate(i) => {
             let copy = matrix.copy(alloc)?;
-            let assigned = equated(n, copy, x, i, constant);
+            let assigned = equate_and_close(n, copy, x, i, constant);
             Ok(assigned)
         }
         Assignment::Shift(flips) => {

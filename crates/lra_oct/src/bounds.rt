@@ -198,7 +198,7 @@ pub fn close(n: usize, matrix: Matrix) -> (Bounds, Exactness)
 
 #[tactic(auto, using(crate::proofs::MeetsLemmas::closed_value, crate::proofs::MeetsLemmas::no_value))]
 /// The closure of a head's matrix.
-pub fn closed_copy(
+pub fn copy_closed(
     alloc: Global,
     n: usize,
     bounds: &Bounds,

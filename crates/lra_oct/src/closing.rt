@@ -41,7 +41,7 @@ fn equate(n: usize, matrix: &mut Matrix, x: usize, i: usize, c: i128)
 
 #[tactic(auto, using(crate::proofs::EnterLemmas::equated_to))]
 /// Makes `x` equal to `v_i + c`, and closes.
-pub fn equated(n: usize, matrix: Matrix, x: usize, i: usize, c: i128) -> (Bounds, Exactness)
+pub fn equate_and_close(n: usize, matrix: Matrix, x: usize, i: usize, c: i128) -> (Bounds, Exactness)
     requires few { n ≤ 2 ^ 30 }
     requires place { x < n }
     requires row { i < 2 * n }
@@ -56,7 +56,7 @@ pub fn equated(n: usize, matrix: Matrix, x: usize, i: usize, c: i128) -> (Bounds
 }
 
 /// Enters `v_i + v_j + q >= 0`, and closes.
-pub fn bounded(n: usize, matrix: Matrix, i: usize, j: usize, q: i128) -> (Bounds, Exactness)
+pub fn bound_and_close(n: usize, matrix: Matrix, i: usize, j: usize, q: i128) -> (Bounds, Exactness)
     requires few { n ≤ 2 ^ 30 }
     requires row { i < 2 * n }
     requires column { j < 2 * n }

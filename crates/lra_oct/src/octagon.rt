@@ -9,7 +9,7 @@ ghost use Rattle.lra_oct.specs.Meaning.{octagon_meaning};
 
 use crate::assigning::assign_in;
 use crate::bounds::{
-    Bounds, closed_copy, copy_bounds, embed_in, forget_in, grow_bounds, is_same, is_within,
+    Bounds, copy_closed, copy_bounds, embed_in, forget_in, grow_bounds, is_same, is_within,
     join_bounds, rank_of, remove_in, universe,
 };
 use crate::parts::parts_of;
@@ -184,7 +184,7 @@ impl Domain for Octagon {
 
     /// The closure of the head's matrix.
     fn value(alloc: Global, head: &Octagon) -> Result<(Self, Exactness), AllocError> {
-        let (matrix, exactness) = closed_copy(alloc, head.dims, &head.matrix)?;
+        let (matrix, exactness) = copy_closed(alloc, head.dims, &head.matrix)?;
         let value = Octagon {
             alloc,
             dims: head.dims,

@@ -77,7 +77,7 @@ fn unless_implied(a: Option<i128>, b: Option<i128>, bound: Option<i128>) -> Opti
 }
 
 /// The `q` of the row `q + v_i + v_j >= 0`, if it is printed.
-fn printed(n: usize, matrix: &Matrix, i: usize, j: usize) -> Option<i128>
+fn find_printed(n: usize, matrix: &Matrix, i: usize, j: usize) -> Option<i128>
     requires few { n ≤ 2 ^ 30 }
     requires row { i < 2 * n }
     requires column { j < 2 * n }
@@ -114,8 +114,8 @@ fn is_equality(n: usize, matrix: &Matrix, i: usize, j: usize) -> bool
     requires is { IsMatrix n matrix.now.cells }
     ensures { result ≡ is_equality (entries n matrix.now.cells) i j }
 {
-    let one = printed(n, matrix, i, j);
-    let two = printed(n, matrix, opposite(n, i), opposite(n, j));
+    let one = find_printed(n, matrix, i, j);
+    let two = find_printed(n, matrix, opposite(n, i), opposite(n, j));
     makes_equality(one, two)
 }
 
@@ -139,7 +139,7 @@ fn push_row(
     if is_equality(n, matrix, i, j) != (kind == ConKind::Eq) {
         return Ok(());
     }
-    match printed(n, matrix, i, j) {
+    match find_printed(n, matrix, i, j) {
         None => Ok(()),
         Some(q) => system.push(pair_row(alloc, n, i, j, q)?, kind),
     }

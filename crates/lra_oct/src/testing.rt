@@ -18,7 +18,7 @@ ghost use Rattle.lra_oct.specs.Answers.{TestedTo};
 ghost use Rattle.lra_oct.specs.Meaning.{octagon_meaning};
 
 use crate::bounds::Bounds;
-use crate::closing::bounded;
+use crate::closing::bound_and_close;
 use crate::forms::{Shape, classify};
 use crate::unary::{close_within, intervals_of, some_crossed};
 use lra_box::{Interval, opposite_row, refine_all, wide_row};
@@ -57,7 +57,7 @@ fn test_pair(
     ensures closed { IfOk result (λ r. ClosedTo n (at_least i j q matrix.now.cells) (seen r.0) r.1) }
 {
     let copy = matrix.copy(alloc)?;
-    let tested = bounded(n, copy, i, j, q);
+    let tested = bound_and_close(n, copy, i, j, q);
     Ok(tested)
 }
 

@@ -4,5 +4,5 @@
 mod own;
 mod pair;
 
-pub use own::{Own, all_reduced, own_list};
+pub use own::{Own, all_reduced, find_own_list};
 pub use pair::{Pair, from_cone, from_generators, from_rows, universe, with_generators};

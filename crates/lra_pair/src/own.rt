@@ -77,7 +77,7 @@ impl Parts {
 }
 
 // The row taken in at the place, and at which rays, and lines behind them, it is tight.
-fn told_row(
+fn read_row(
     alloc: Global,
     cone: &Cone,
     width: usize,
@@ -96,7 +96,7 @@ fn told_row(
 }
 
 // The parts of the rows taken in.
-fn parted(alloc: Global, cone: &Cone) -> Result<Parts, AllocError>
+fn part_rows(alloc: Global, cone: &Cone) -> Result<Parts, AllocError>
     ensures cone { IsCone cone.now }
     ensures parts { IfOk result (λ p. AreParts cone.now.rays (length cone.now.lines) (rows_of cone.now.taken)
         p.tight.items p.loose.items p.saturation.rows) }
@@ -112,7 +112,7 @@ fn parted(alloc: Global, cone: &Cone) -> Result<Parts, AllocError>
     let taken = cone.taken();
     let (rows, _kinds) = (taken.rows(), taken.kinds());
     for place in 0..rows.len() {
-        let (row, bits) = told_row(alloc, cone, width, place)?;
+        let (row, bits) = read_row(alloc, cone, width, place)?;
         parts.push(row, bits)?;
     }
     Ok(parts)
@@ -151,7 +151,7 @@ pub struct Own {
 
 /// The canonical description of what the rows taken into the cone generate: of constraints the canonical equalities and
 /// inequalities, of generators the canonical lines and rays. Or names a number that passes the range in it.
-pub fn own_list(alloc: Global, cone: &Cone) -> Result<Own, RowError>
+pub fn find_own_list(alloc: Global, cone: &Cone) -> Result<Own, RowError>
     requires { cone.now.dims < too_many_dimensions }
     ensures ok { IfOk result (λ own. IsOwnList cone.now own.lines.items own.rays.items) }
     ensures excess { IfErr result (IsOwnExcess cone.now) }
@@ -160,7 +160,7 @@ pub fn own_list(alloc: Global, cone: &Cone) -> Result<Own, RowError>
         tight: mut lines,
         loose,
         mut saturation,
-    } = parted(alloc, cone)?;
+    } = part_rows(alloc, cone)?;
     echelon(&mut lines)?;
     let mut rays = all_reduced(alloc, &loose, &lines, cone.dims() + 1)?;
     drop_redundant(&mut rays, &mut saturation)?;
@@ -169,13 +169,13 @@ pub fn own_list(alloc: Global, cone: &Cone) -> Result<Own, RowError>
 
 /// The canonical description of what the rows taken into the cone generate, within the limit of a description; or why
 /// there is none: a number passes the range in it, or it has too many rays.
-pub fn limited_list(alloc: Global, cone: &Cone) -> Result<Result<Own, Cause>, AllocError>
+pub fn limit_own_list(alloc: Global, cone: &Cone) -> Result<Result<Own, Cause>, AllocError>
     requires { cone.now.dims < too_many_dimensions }
     ensures list { IfOk result (λ list. IfOk list (λ own. IsOwnList cone.now own.lines.items own.rays.items)) }
     ensures few { IfOk result (λ list. IfOk list (λ own. length own.rays.items ≤ row_limit)) }
     ensures cause { IfOk result (λ list. IfErr list (IsOwnCause cone.now)) }
 {
-    match own_list(alloc, cone) {
+    match find_own_list(alloc, cone) {
         Ok(own) => {
             let count = own.rays.len();
             if count > RAY_LIMIT {

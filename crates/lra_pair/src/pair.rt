@@ -17,7 +17,7 @@ ghost use Rattle.lra_pair.specs.KeptRows.{IsOfSome};
 ghost use Rattle.lra_pair.specs.OwnLists.{IsOwnList, IsOwnLoss, IsPositive, TellsOwnLoss};
 ghost use Rattle.lra_pair.specs.TakenPoints.{AreTaken};
 
-use crate::own::{Own, limited_list};
+use crate::own::{Own, limit_own_list};
 use lra_cone::{
     Cone, Conversion, Loss, constraint_list, dual_rows, generator_list, has_point, nothing,
     positive_cone, take_rows, unit, valid_list,
@@ -153,7 +153,7 @@ fn of_generators(alloc: Global, n: usize, cone: &Cone, own: &Own) -> Result<Pair
 }
 
 // What is told where there is no own list: the last of the rows taken in stands for them.
-fn own_loss(alloc: Global, cone: &Cone, cause: Cause) -> Result<Loss, AllocError>
+fn find_own_loss(alloc: Global, cone: &Cone, cause: Cause) -> Result<Loss, AllocError>
     requires { 0 < length cone.now.taken }
     ensures cone { IsCone cone.now }
     ensures loss { IfOk result (IsOwnLoss cone.now cause) }
@@ -175,7 +175,7 @@ fn push_own_loss(
     ensures cone { IsCone cone.now }
     ensures loss { OnOk result (TellsOwnLoss cone.now cause losses.old.items losses.new.items) }
 {
-    losses.push(own_loss(alloc, cone, cause)?)?;
+    losses.push(find_own_loss(alloc, cone, cause)?)?;
     Ok(())
 }
 
@@ -199,7 +199,7 @@ fn of_taken_rows(
     ensures strain { IfOk result (λ r. (first all kept : List Given) →
         IsConversion first all kept cone.now losses.items → IfLost (Strains (suc n) (first ++ all)) r.1.items) }
 {
-    match limited_list(alloc, cone)? {
+    match limit_own_list(alloc, cone)? {
         Ok(own) => {
             let pair = of_rows(alloc, n, cone, &own)?;
             Ok((pair, losses))
@@ -284,7 +284,7 @@ fn first_rows(alloc: Global, list: &ConSys) -> Result<ConSys, AllocError>
 }
 
 // The polyhedron of constraints that hold at each of the points, after a loss: of the first of them.
-fn widened(alloc: Global, list: &ConSys, losses: Vec<Loss>) -> Result<(Pair, Vec<Loss>), AllocError>
+fn enclose_points(alloc: Global, list: &ConSys, losses: Vec<Loss>) -> Result<(Pair, Vec<Loss>), AllocError>
     ensures dims { IfOk result (λ r. r.0.dims ≡ list.now.dims) }
     ensures canonical { IfOk result (λ r. IsPolyhedron r.0) }
     ensures within { IfOk result (λ r. IsWithin list.now.dims (Con (constraints list.now)) (Con r.0.rows)) }
@@ -316,14 +316,14 @@ fn of_taken_generators(
     ensures strain { IfOk result (λ r. IfLost (FromGeneratorsStrains n cone.now.taken) r.1.items) }
 {
     let mut losses = Vec::new(alloc);
-    match limited_list(alloc, cone)? {
+    match limit_own_list(alloc, cone)? {
         Ok(own) => {
             let pair = of_generators(alloc, n, cone, &own)?;
             Ok((pair, losses))
         }
         Err(cause) => {
             push_own_loss(&mut losses, alloc, cone, cause)?;
-            widened(alloc, list, losses)
+            enclose_points(alloc, list, losses)
         }
     }
 }
@@ -366,20 +366,20 @@ fn from_points(alloc: Global, given: &GenSys) -> Result<(Pair, Vec<Loss>), Alloc
     if losses.is_empty() {
         of_taken_generators(alloc, n, &cone, &list)
     } else {
-        widened(alloc, &list, losses)
+        enclose_points(alloc, &list, losses)
     }
 }
 
 // The polyhedron of the generators that were taken into the cone, some of them points; none where a number passes in
 // the canonical ones, or there are too many.
-fn by_own_list(alloc: Global, n: usize, cone: &Cone) -> Result<Option<Pair>, AllocError>
+fn convert_own_list(alloc: Global, n: usize, cone: &Cone) -> Result<Option<Pair>, AllocError>
     requires small { n < too_many_dimensions }
     requires dims { cone.now.dims ≡ n }
     requires columns { AreGenerators cone.now.taken }
     requires some { ¬ (IsEmptySet n (Gen cone.now.taken)) }
     ensures { IfOk result (λ pair. IfSome pair (IsPolyhedronOf n (Gen cone.now.taken))) }
 {
-    match limited_list(alloc, cone)? {
+    match limit_own_list(alloc, cone)? {
         Ok(own) => {
             let pair = of_generators(alloc, n, cone, &own)?;
             Ok(Some(pair))
@@ -415,7 +415,7 @@ pub fn with_generators(
     if !losses.is_empty() {
         return Ok(None);
     }
-    let pair = by_own_list(alloc, n, &cone)?;
+    let pair = convert_own_list(alloc, n, &cone)?;
     Ok(pair)
 }
 

@@ -10,7 +10,7 @@ ghost use Rattle.lra_sys.specs.Dimensions.{too_many_dimensions};
 ghost use Rattle.lra_sys.specs.Listed.{constraints, generators};
 ghost use Rattle.lra_poly.specs.Saturations.{saturation_of, IsCovered, IsCoveredAt};
 
-use crate::saturation::saturated;
+use crate::saturation::mark_saturated;
 use crate::start::{fits, leaves_room};
 use lra_bits::{BitRow, SatMatrix};
 use lra_cone::{Cone, dual_rows, unit};
@@ -142,7 +142,7 @@ fn facets(
     let n = list.dims();
     let (_rows, kinds) = (list.rows(), list.kinds());
     let positivity = unit(alloc, n, 0)?;
-    let directions = saturated(alloc, &positivity, by_generators)?;
+    let directions = mark_saturated(alloc, &positivity, by_generators)?;
     let rays = inequalities_among(alloc, list)?;
     let matrix = inequality_saturation(alloc, list, saturation)?;
     if is_covered(kinds, saturation, &directions) {

@@ -17,4 +17,4 @@ pub use law::polyhedra_have_one_spelling;
 pub use maximum::Maximum;
 pub use outcome::Outcome;
 pub use poly::Poly;
-pub use saturation::saturated;
+pub use saturation::mark_saturated;

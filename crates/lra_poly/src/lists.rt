@@ -9,7 +9,7 @@ use lra_sys::{ConSys, GenSys, TOO_MANY_DIMENSIONS};
 use std::alloc::{AllocError, Global};
 
 // The constraints of the first list, then those of the second.
-pub fn joined_rows(first: &ConSys, second: &ConSys) -> Result<ConSys, AllocError>
+pub fn join_rows(first: &ConSys, second: &ConSys) -> Result<ConSys, AllocError>
     requires { second.now.dims ≡ first.now.dims }
     ensures dims { IfOk result (λ all. all.dims ≡ first.now.dims) }
     ensures rows { IfOk result (λ all. constraints all ≡ constraints first.now ++ constraints second.now) }
@@ -24,7 +24,7 @@ pub fn joined_rows(first: &ConSys, second: &ConSys) -> Result<ConSys, AllocError
 }
 
 // The generators of the first list, then those of the second.
-pub fn joined_generators(first: &GenSys, second: &GenSys) -> Result<GenSys, AllocError>
+pub fn join_generators(first: &GenSys, second: &GenSys) -> Result<GenSys, AllocError>
     requires dims { second.now.dims ≡ first.now.dims }
     requires first { FitKinds first.now.rows first.now.kinds }
     requires second { FitKinds second.now.rows second.now.kinds }

@@ -65,7 +65,7 @@ fn product_from(sum: i128, factors: &[i64], numbers: &[i128]) -> Option<i128>
 }
 
 // The product of the form with the row, or `None` exactly where a number of it passes the range.
-fn product_with(form: &LinExpr, row: &Row) -> Option<i128>
+fn multiply_with(form: &LinExpr, row: &Row) -> Option<i128>
     ensures { MatchOption result (IsErr (checked_product (form_row form.now) row.now))
         (λ z. checked_product (form_row form.now) row.now ≡ Ok z) }
 {
@@ -88,7 +88,7 @@ fn value_with(form: &LinExpr, row: &Row) -> i128
     ensures value { result ≡ product (form_row form.now) row.now }
     ensures in_range { InRange result }
 {
-    match product_with(form, row) {
+    match multiply_with(form, row) {
         Some(value) => value,
         None => 0,
     }
@@ -102,7 +102,7 @@ fn first_wide(form: &LinExpr, list: &GenSys) -> Option<usize>
     let _kinds = list.kinds();
     let rows = list.rows();
     for (place, row) in rows.iter().enumerate() {
-        match product_with(form, row) {
+        match multiply_with(form, row) {
             Some(_) => {}
             None => return Some(place),
         }

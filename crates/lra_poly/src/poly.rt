@@ -21,7 +21,7 @@ ghost use Rattle.lra_poly.specs.Saturations.{saturation_of};
 
 use crate::facets::facet_cone;
 use crate::inclusion::{Inclusion, inclusion_of};
-use crate::lists::{joined_generators, joined_rows, list_test};
+use crate::lists::{join_generators, join_rows, list_test};
 use crate::maximum::{Maximum, maximum_of};
 use crate::outcome::{Outcome, outcome_of};
 use crate::saturation::saturation_matrix;
@@ -324,7 +324,7 @@ impl Poly {
         ensures strain { IfOk result (λ r.
             IfFlagged (FromRowsStrains self.now.dims (self.now.rows ++ constraints more.now)) r.1) }
     {
-        let list = joined_rows(&self.rows, more)?;
+        let list = join_rows(&self.rows, more)?;
         let (made, outcome) = Poly::from_rows(self.alloc, &list)?;
         Ok((made, outcome))
     }
@@ -424,7 +424,7 @@ impl Poly {
 
     // The polyhedron of the generators of both, of which the other's are taken in after the first's, by the lists at
     // hand; none where one of them isn't taken in, or there are no lists to go on from.
-    fn grown(&self, other: &Poly) -> Result<Option<Poly>, AllocError>
+    fn unite_onward(&self, other: &Poly) -> Result<Option<Poly>, AllocError>
         requires { other.now.dims ≡ self.now.dims }
         ensures { IfOk result (λ made. IfSome made
             (IsPolyhedronOf self.now.dims (Gen (self.now.generators ++ other.now.generators)))) }
@@ -455,7 +455,7 @@ impl Poly {
         ensures strain { IfOk result (λ r. IfFlagged
             (FromGeneratorsStrains self.now.dims (self.now.generators ++ other.now.generators)) r.1) }
     {
-        let all = joined_generators(&self.by_generators, &other.by_generators)?;
+        let all = join_generators(&self.by_generators, &other.by_generators)?;
         let (made, outcome) = Poly::from_generators(self.alloc, &all)?;
         Ok((made, outcome))
     }
@@ -472,7 +472,7 @@ impl Poly {
         ensures strain { IfOk result (λ r. IfFlagged
             (FromGeneratorsStrains self.now.dims (self.now.generators ++ other.now.generators)) r.1) }
     {
-        match self.grown(other)? {
+        match self.unite_onward(other)? {
             Some(made) => Ok((made, Outcome::Exact)),
             None => {
                 let (made, outcome) = self.unite_anew(other)?;

@@ -11,7 +11,7 @@ use lra_sys::{ConSys, GenSys};
 use std::alloc::{AllocError, Global};
 
 /// For each of the generators, whether the row has product 0 with it.
-pub fn saturated(alloc: Global, row: &Row, list: &GenSys) -> Result<BitRow, AllocError>
+pub fn mark_saturated(alloc: Global, row: &Row, list: &GenSys) -> Result<BitRow, AllocError>
     requires { length row.now ≡ suc list.now.dims }
     ensures { IfOk result (λ bits. bits ≡ saturated (generators list.now) row.now) }
 {
@@ -36,7 +36,7 @@ pub fn saturation_matrix(
     let (columns, _column_kinds) = (by_generators.rows(), by_generators.kinds());
     let mut matrix = SatMatrix::new(alloc, columns.len());
     for place in 0..rows.len() {
-        matrix.add_row(saturated(alloc, &rows[place], by_generators)?)?;
+        matrix.add_row(mark_saturated(alloc, &rows[place], by_generators)?)?;
     }
     Ok(matrix)
 }

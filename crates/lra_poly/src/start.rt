@@ -12,7 +12,7 @@ ghost use Rattle.lra_sys.specs.Dimensions.{too_many_dimensions};
 ghost use Rattle.lra_sys.specs.Listed.{constraints, generators};
 ghost use Rattle.lra_poly.specs.Saturations.{column, saturation_of};
 
-use crate::lists::joined_rows;
+use crate::lists::join_rows;
 use lra_bits::{BitRow, SatMatrix};
 use lra_cone::{Cone, RAY_LIMIT, unit};
 use lra_row::Row;
@@ -124,7 +124,7 @@ fn behind_positivity(alloc: Global, list: &ConSys) -> Result<ConSys, AllocError>
     let mut first = ConSys::new(alloc, n);
     let positivity = unit(alloc, n, 0)?;
     first.push(positivity, ConKind::Ge)?;
-    joined_rows(&first, list)
+    join_rows(&first, list)
 }
 
 // Whether a cone of n dimensions may be made of so many generators.

@@ -10,7 +10,7 @@ ghost use Rattle.lra_sys.specs.Listed.{constraints};
 ghost use Rattle.lra_polydom.specs.Growth.{HasGrown, IsStruck, head};
 
 use crate::lists::some_passes;
-use crate::widening::{joined, widened};
+use crate::widening::{join_values, widen_value};
 use lra_domain::{Exactness, Mode};
 use lra_poly::Poly;
 use lra_sys::{ConSys, TOO_MANY_DIMENSIONS};
@@ -26,7 +26,7 @@ pub struct Growth {
 }
 
 // All points, and the given rows that hold on them.
-pub fn given_up(alloc: Global, p: &Poly, given: &ConSys) -> Result<Growth, AllocError>
+pub fn give_up(alloc: Global, p: &Poly, given: &ConSys) -> Result<Growth, AllocError>
     requires { given.now.dims ≡ p.now.dims }
     ensures all { IfOk result (λ g. IsPolyhedronOf p.now.dims (Con []) g.value) }
     ensures dims { IfOk result (λ g. g.given.dims ≡ p.now.dims) }
@@ -46,7 +46,7 @@ pub fn given_up(alloc: Global, p: &Poly, given: &ConSys) -> Result<Growth, Alloc
 }
 
 // Flagged where the widening was, or, under the limited one, where a given row is struck for a product.
-fn struck(exactness: Exactness, mode: Mode, p: &Poly, r: &Poly, given: &ConSys) -> Exactness
+fn strike(exactness: Exactness, mode: Mode, p: &Poly, r: &Poly, given: &ConSys) -> Exactness
     requires given { given.now.dims ≡ p.now.dims }
     requires result { r.now.dims ≡ p.now.dims }
     ensures { IsStruck exactness mode p.now r.now (constraints given.now) result }
@@ -64,7 +64,7 @@ fn struck(exactness: Exactness, mode: Mode, p: &Poly, r: &Poly, given: &ConSys) 
 }
 
 // The growth by a join.
-fn grown_by_join(p: &Poly, next: &Poly, given: &ConSys) -> Result<Growth, AllocError>
+fn grow_by_join(p: &Poly, next: &Poly, given: &ConSys) -> Result<Growth, AllocError>
     requires next { next.now.dims ≡ p.now.dims }
     requires given { given.now.dims ≡ p.now.dims }
     ensures grown { IfOk result (λ g.
@@ -72,7 +72,7 @@ fn grown_by_join(p: &Poly, next: &Poly, given: &ConSys) -> Result<Growth, AllocE
     ensures dims { IfOk result (λ g. g.given.dims ≡ p.now.dims) }
 {
     let (_rows, _others) = (p.rows(), next.rows());
-    let (value, exactness) = joined(p, next)?;
+    let (value, exactness) = join_values(p, next)?;
     let left = given.copy()?;
     Ok(Growth {
         value,
@@ -82,7 +82,7 @@ fn grown_by_join(p: &Poly, next: &Poly, given: &ConSys) -> Result<Growth, AllocE
 }
 
 // The growth by a widening with the join; all points where the join is flagged.
-fn grown_by_widening(
+fn grow_by_widening(
     alloc: Global,
     p: &Poly,
     next: &Poly,
@@ -97,14 +97,14 @@ fn grown_by_widening(
     ensures dims { IfOk result (λ g. g.given.dims ≡ p.now.dims) }
 {
     let (_rows, _others, _given) = (p.rows(), next.rows(), given.rows());
-    let (join, exactness) = joined(p, next)?;
+    let (join, exactness) = join_values(p, next)?;
     if exactness == Exactness::Flagged {
-        let all = given_up(alloc, p, given)?;
+        let all = give_up(alloc, p, given)?;
         return Ok(all);
     }
-    let (value, widening) = widened(alloc, p, &join, given, mode)?;
+    let (value, widening) = widen_value(alloc, p, &join, given, mode)?;
     let left = held_on_both(alloc, p, &value, given)?;
-    let exactness = struck(widening, mode, p, &value, given);
+    let exactness = strike(widening, mode, p, &value, given);
     Ok(Growth {
         value,
         given: left,
@@ -113,7 +113,7 @@ fn grown_by_widening(
 }
 
 /// The growth by what isn't known to lie in the head's value.
-pub fn grown(
+pub fn grow_value(
     alloc: Global,
     p: &Poly,
     next: &Poly,
@@ -127,10 +127,10 @@ pub fn grown(
     ensures dims { IfOk result (λ g. g.given.dims ≡ p.now.dims) }
 {
     if mode == Mode::Join {
-        let growth = grown_by_join(p, next, given)?;
+        let growth = grow_by_join(p, next, given)?;
         Ok(growth)
     } else {
-        let growth = grown_by_widening(alloc, p, next, given, mode)?;
+        let growth = grow_by_widening(alloc, p, next, given, mode)?;
         Ok(growth)
     }
 }

@@ -13,7 +13,7 @@ ghost use Rattle.lra_polydom.specs.Growth.{head};
 ghost use Rattle.lra_polydom.specs.Heads.{IsLeft, head_rank};
 ghost use Rattle.lra_polydom.specs.Meaning.{polyhedron_meaning};
 
-use crate::growth::{given_up, grown};
+use crate::growth::{give_up, grow_value};
 use lra_domain::{Exactness, Mode, Rank};
 use lra_poly::Poly;
 use lra_sys::ConSys;
@@ -114,7 +114,7 @@ impl PolyhedronHead {
     }
 
     // What it becomes by next, which isn't in its value.
-    pub(crate) fn grown(
+    pub(crate) fn grow_value(
         &self,
         alloc: Global,
         next: &Poly,
@@ -129,14 +129,14 @@ impl PolyhedronHead {
         ensures fits { IfOk result (λ r. RankFits (head_rank r.0)) }
     {
         let (_rows, _others) = (self.value.rows(), next.rows());
-        let growth = grown(alloc, &self.value, next, &self.given, mode)?;
+        let growth = grow_value(alloc, &self.value, next, &self.given, mode)?;
         let exactness = growth.exactness;
         let new = PolyhedronHead::new(alloc, growth.value, growth.given)?;
         Ok((new, exactness))
     }
 
     // What it becomes where it isn't decided whether next lies in its value: all points.
-    pub(crate) fn given_up(&self, alloc: Global, next: &Poly) -> Result<PolyhedronHead, AllocError>
+    pub(crate) fn give_up(&self, alloc: Global, next: &Poly) -> Result<PolyhedronHead, AllocError>
         requires dims { next.now.dims ≡ self.now.value.dims }
         requires strains { (e : E.Excess) × InclusionStrains next.now self.now.value e }
         ensures grew { IfOk result (λ h. (mode : Mode) → Grew polyhedron_meaning self.now next.now mode Flagged h) }
@@ -146,7 +146,7 @@ impl PolyhedronHead {
         ensures fits { IfOk result (λ h. RankFits (head_rank h)) }
     {
         let (_rows, _others, _given) = (self.value.rows(), next.rows(), self.given.rows());
-        let all = given_up(alloc, &self.value, &self.given)?;
+        let all = give_up(alloc, &self.value, &self.given)?;
         let new = PolyhedronHead::new(alloc, all.value, all.given)?;
         Ok(new)
     }

@@ -177,12 +177,12 @@ impl Domain for Polyhedron {
         match included(&next.poly, head.value()) {
             Included::Yes => Ok(Grown::Stable),
             Included::No => {
-                let (new, exactness) = head.grown(alloc, &next.poly, mode)?;
+                let (new, exactness) = head.grow_value(alloc, &next.poly, mode)?;
                 *head = new;
                 Ok(Grown::Grew(exactness))
             }
             Included::Wide => {
-                let all = head.given_up(alloc, &next.poly)?;
+                let all = head.give_up(alloc, &next.poly)?;
                 *head = all;
                 Ok(Grown::Grew(Exactness::Flagged))
             }

@@ -15,7 +15,7 @@ use lra_widen::{WidenError, limited, standard};
 use std::alloc::{AllocError, Global};
 
 // The join with next.
-pub fn joined(p: &Poly, next: &Poly) -> Result<(Poly, Exactness), AllocError>
+pub fn join_values(p: &Poly, next: &Poly) -> Result<(Poly, Exactness), AllocError>
     requires { next.now.dims ≡ p.now.dims }
     ensures { IfOk result (λ r. IsJoined p.now next.now r.0 r.1) }
 {
@@ -27,7 +27,7 @@ pub fn joined(p: &Poly, next: &Poly) -> Result<(Poly, Exactness), AllocError>
 }
 
 // The standard widening by a polyhedron that the first lies in.
-fn standard_by(
+fn widen_standard(
     alloc: Global,
     p: &Poly,
     q: &Poly,
@@ -50,7 +50,7 @@ fn standard_by(
 }
 
 // The limited widening by a polyhedron that the first lies in.
-fn limited_by(
+fn widen_limited(
     alloc: Global,
     p: &Poly,
     q: &Poly,
@@ -73,7 +73,7 @@ fn limited_by(
 }
 
 // The widening of this mode by a polyhedron that the first lies in.
-pub fn widened(
+pub fn widen_value(
     alloc: Global,
     p: &Poly,
     q: &Poly,
@@ -89,11 +89,11 @@ pub fn widened(
     match mode {
         Mode::Join => unreachable!(),
         Mode::Widen => {
-            let made = standard_by(alloc, p, q, given)?;
+            let made = widen_standard(alloc, p, q, given)?;
             Ok(made)
         }
         Mode::Limited => {
-            let made = limited_by(alloc, p, q, given)?;
+            let made = widen_limited(alloc, p, q, given)?;
             Ok(made)
         }
     }

@@ -66,7 +66,7 @@ pub fn blend(alloc: Global, a: i128, b: i128, us: &[i128], vs: &[i128]) -> Resul
 }
 
 // The row times -1.
-pub fn negated(alloc: Global, xs: &[i128]) -> Result<Entries, AllocError>
+pub fn negate_entries(alloc: Global, xs: &[i128]) -> Result<Entries, AllocError>
     requires { All InRange xs.now }
     ensures { IfOk result (λ r. r.items ≡ negated xs.now) }
 {

@@ -187,7 +187,7 @@ impl Row {
     pub fn negate(&self) -> Result<Row, AllocError>
         ensures { IfOk result (λ row. row ≡ negated self.now) }
     {
-        let entries = entries::negated(*self.entries.allocator(), self.entries.as_slice())?;
+        let entries = entries::negate_entries(*self.entries.allocator(), self.entries.as_slice())?;
         Ok(Row { entries })
     }
 

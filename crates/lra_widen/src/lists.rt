@@ -20,7 +20,7 @@ use crate::validity::{holds_in_range, holds_on_both, validity_on_both};
 use lra_bits::BitRow;
 use lra_cone::Loss;
 use lra_linear::{Cause, ConKind, Excess};
-use lra_poly::{Outcome, Poly, saturated};
+use lra_poly::{Outcome, Poly, mark_saturated};
 use lra_row::Row;
 use lra_sys::{ConSys, TOO_MANY_DIMENSIONS};
 use std::alloc::{AllocError, Global};
@@ -79,7 +79,7 @@ fn is_tight(alloc: Global, p: &Poly, row: &Row, classes: &[BitRow]) -> Result<bo
     requires classes { classes.now ≡ map (λ s. saturated p.now.generators s.row) p.now.rows }
     ensures { IfOk result (λ b. (equal : Bool) → b ≡ is_tight p.now (record { row = row.now; equal = equal })) }
 {
-    let bits = saturated(alloc, row, p.generators())?;
+    let bits = mark_saturated(alloc, row, p.generators())?;
     let stays = is_full_or_among(&bits, classes);
     Ok(stays)
 }

@@ -13,7 +13,7 @@ use crate::lists::held_rows;
 use crate::saturation::{all_saturated, is_among};
 use lra_bits::BitRow;
 use lra_linear::ConKind;
-use lra_poly::{Poly, saturated};
+use lra_poly::{Poly, mark_saturated};
 use lra_sys::ConSys;
 use std::alloc::{AllocError, Global};
 
@@ -80,7 +80,7 @@ fn count_free(alloc: Global, p: &Poly, classes: &[BitRow]) -> Result<usize, Allo
     let (rows, kinds) = (list.rows(), list.kinds());
     let mut count = 0;
     for place in 0..rows.len() {
-        let bits = saturated(alloc, &rows[place], p.generators())?;
+        let bits = mark_saturated(alloc, &rows[place], p.generators())?;
         count += one_if(is_free(kinds[place], &bits, classes));
     }
     Ok(count)

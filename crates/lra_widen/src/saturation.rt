@@ -8,7 +8,7 @@ ghost use Rattle.lra_poly.specs.Saturations.{saturated};
 ghost use Rattle.lra_widen.specs.Saturated.{same_values};
 
 use lra_bits::BitRow;
-use lra_poly::saturated;
+use lra_poly::mark_saturated;
 use lra_sys::{ConSys, GenSys};
 use std::alloc::{AllocError, Global};
 
@@ -25,7 +25,7 @@ pub fn all_saturated(
     let (rows, _kinds) = (given.rows(), given.kinds());
     let mut classes = Vec::new(alloc);
     for place in 0..rows.len() {
-        classes.push(saturated(alloc, &rows[place], list)?)?;
+        classes.push(mark_saturated(alloc, &rows[place], list)?)?;
     }
     Ok(classes)
 }

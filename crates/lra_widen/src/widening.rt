@@ -19,7 +19,7 @@ use lra_sys::ConSys;
 use std::alloc::{AllocError, Global};
 
 // The widening of a polyhedron with a point by one that it lies in. A constraint that is lost is left out.
-fn widened_within(
+fn widen_within(
     alloc: Global,
     p: &Poly,
     q: &Poly,
@@ -44,7 +44,7 @@ fn widened_within(
 }
 
 // The widening of the first by the second, limited by the given constraints.
-fn widened(alloc: Global, p: &Poly, q: &Poly, given: &ConSys) -> Result<(Poly, Outcome), WidenError>
+fn widen_limited_by(alloc: Global, p: &Poly, q: &Poly, given: &ConSys) -> Result<(Poly, Outcome), WidenError>
     requires second { q.now.dims ≡ p.now.dims }
     requires given { given.now.dims ≡ p.now.dims }
     ensures widened { IfOk result (λ r. IsWidened p.now q.now (constraints given.now) r.0 r.1) }
@@ -66,7 +66,7 @@ fn widened(alloc: Global, p: &Poly, q: &Poly, given: &ConSys) -> Result<(Poly, O
                 let same = q.copy()?;
                 Ok((same, Outcome::Exact))
             } else {
-                let (made, outcome) = widened_within(alloc, p, q, given)?;
+                let (made, outcome) = widen_within(alloc, p, q, given)?;
                 Ok((made, outcome))
             }
         }
@@ -91,7 +91,7 @@ pub fn standard(alloc: Global, p: &Poly, q: &Poly) -> Result<(Poly, Outcome), Wi
     ensures known { IfOk result (λ r. LiesOrIsGivenUp p.now q.now r.0 r.1) }
 {
     let none = no_rows(alloc, p.dims())?;
-    let (made, outcome) = widened(alloc, p, q, &none)?;
+    let (made, outcome) = widen_limited_by(alloc, p, q, &none)?;
     Ok((made, outcome))
 }
 
@@ -119,6 +119,6 @@ pub fn limited(
     ensures known { IfOk result (λ r. LiesOrIsGivenUp p.now q.now r.0 r.1) }
 {
     let _rows = given.rows();
-    let (made, outcome) = widened(alloc, p, q, given)?;
+    let (made, outcome) = widen_limited_by(alloc, p, q, given)?;
     Ok((made, outcome))
 }

@@ -6,7 +6,7 @@ ghost use Rattle.lra_operations.specs.Graph.{seq, point as own};
 ghost use Rattle.lra_operations.specs.GraphViews.{node_view};
 ghost use Rattle.lra_graph.specs.Building.{receiver, any_left, value_left, call_left};
 
-use crate::forms::{cut_and_leave, give_and_leave, in_turn, put_point};
+use crate::forms::{cut_and_leave, give_and_leave, put_in_turn, put_point};
 use crate::frame::{Around, Back};
 use lra_operations::{Exit, Node, Op};
 use lra_program::Expr;
@@ -66,11 +66,11 @@ pub fn leave_call(around: &Around<'_>, point: usize, call: Node) -> Result<Node,
     match frame.back {
         Some(back) => {
             let leave = cut_and_leave(alloc, point, back.length, frame.live, Exit::Returned)?;
-            let left = in_turn(alloc, call, leave)?;
+            let left = put_in_turn(alloc, call, leave)?;
             put_point(alloc, point, left)
         }
         None => {
-            let left = in_turn(alloc, call, Node::Leave(frame.live, Exit::Returned))?;
+            let left = put_in_turn(alloc, call, Node::Leave(frame.live, Exit::Returned))?;
             put_point(alloc, point, left)
         }
     }

@@ -12,7 +12,7 @@ ghost use Rattle.lra_operations.specs.GraphViews.{node_view, site_view};
 ghost use Rattle.lra_graph.specs.Limits.{OnLimit, refusal_of};
 
 use super::inline_items;
-use crate::forms::in_turn;
+use crate::forms::put_in_turn;
 use crate::frame::{Around, Frame};
 use crate::points::{GREATEST_CALLS, GraphError, add_point};
 use lra_operations::{Graph, Node, Path};
@@ -51,7 +51,7 @@ pub fn build(alloc: Global, program: &Program) -> Result<Graph, GraphError>
     let mut sites = Vec::new(alloc);
     let (body, last) = inline_items(&around, &main.body.items, &mut sites)?;
     let end = add_point(alloc, &path, main.end, last, false, &mut sites)?;
-    let tree = in_turn(alloc, body, Node::Point(end))?;
+    let tree = put_in_turn(alloc, body, Node::Point(end))?;
     Ok(Graph { tree, sites })
 }
 

@@ -11,5 +11,5 @@ returns-clause-made c =
     let within = rw c.in_ok-set.ensures at c.in_ok-outcome.ensures.within in
     let strain = rw c.in_ok-set.ensures at c.in_ok-outcome.ensures.strain in
     let dims = rw c.in_ok-set.ensures at c.in_ok-outcome.ensures.dims in
-    made_as_told p.dims (combined c.args.how p.dims p q) (CombiningStrains c.args.how p q) c.combine_into.new.set c.made_with.result.polyhedron c.in_ok-outcome.outcome c.made_with.result.is_flagged
-    c.made_with.ensures.polyhedron c.made_with.ensures.flagged dims c.made_with.ensures.canonical exact within strain
+    made_as_told p.dims (combined c.args.how p.dims p q) (CombiningStrains c.args.how p q) c.combine_into.new.set c.make_with.result.polyhedron c.in_ok-outcome.outcome c.make_with.result.is_flagged
+    c.make_with.ensures.polyhedron c.make_with.ensures.flagged dims c.make_with.ensures.canonical exact within strain

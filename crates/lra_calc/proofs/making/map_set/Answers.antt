@@ -17,5 +17,5 @@ returns-clause-made c =
     let within = rw (c.in_ok-set.ensures, column) at c.in_ok-outcome.ensures.within in
     let strain = subst (λ (j : ℕ). IfFlagged (MappingStrains c.args.how j row p) c.in_ok-outcome.outcome) column (rw c.in_ok-set.ensures at c.in_ok-outcome.ensures.strain) in
     let dims = rw c.in_ok-set.ensures at c.in_ok-outcome.ensures.dims in
-    made_as_told p.dims (mapped c.args.how p.dims k row p) (MappingStrains c.args.how k row p) c.map_into.new.set c.made_with.result.polyhedron c.in_ok-outcome.outcome c.made_with.result.is_flagged
-    c.made_with.ensures.polyhedron c.made_with.ensures.flagged dims c.made_with.ensures.canonical exact within strain
+    made_as_told p.dims (mapped c.args.how p.dims k row p) (MappingStrains c.args.how k row p) c.map_into.new.set c.make_with.result.polyhedron c.in_ok-outcome.outcome c.make_with.result.is_flagged
+    c.make_with.ensures.polyhedron c.make_with.ensures.flagged dims c.make_with.ensures.canonical exact within strain

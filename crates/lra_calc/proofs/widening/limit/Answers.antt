@@ -17,15 +17,15 @@ returns-in-Ok-clause-gives c =
     let p = c.args.first.now in
     let q = c.args.second.now in
     let given = constraints c.in_ok-given.given in
-    subst (λ (gs : List Given). Widens p.dims p q (IsLimited p.dims gs p q) (Ok (made_of c.made_with.result))) c.in_ok-given.ensures.made
-    (made_widens p q c.in-Ok.polyhedron c.made_with.result.polyhedron (Limited p q given) (LimitedStrains p q given) c.in-Ok.outcome c.made_with.result.is_flagged c.made_with.ensures.polyhedron
-    c.made_with.ensures.flagged c.in-Ok.ensures.dims c.in-Ok.ensures.canonical c.in-Ok.ensures.exact c.in-Ok.ensures.within c.in-Ok.ensures.strain c.in-Ok.ensures.known)
+    subst (λ (gs : List Given). Widens p.dims p q (IsLimited p.dims gs p q) (Ok (made_of c.make_with.result))) c.in_ok-given.ensures.made
+    (made_widens p q c.in-Ok.polyhedron c.make_with.result.polyhedron (Limited p q given) (LimitedStrains p q given) c.in-Ok.outcome c.make_with.result.is_flagged c.make_with.ensures.polyhedron
+    c.make_with.ensures.flagged c.in-Ok.ensures.dims c.in-Ok.ensures.canonical c.in-Ok.ensures.exact c.in-Ok.ensures.within c.in-Ok.ensures.strain c.in-Ok.ensures.known)
 
-pub outside-requires-clause-placed : goal.outside-requires-clause-placed
-outside-requires-clause-placed c = refusal_placed c.args.first.now c.args.second.now c.in-Err.error c.in-Err.ensures.refused
+pub tell_outside-requires-clause-placed : goal.tell_outside-requires-clause-placed
+tell_outside-requires-clause-placed c = refusal_placed c.args.first.now c.args.second.now c.in-Err.error c.in-Err.ensures.refused
 
 pub returns-clause-gives : goal.returns-clause-gives
 returns-clause-gives c =
     let p = c.args.first.now in
     let q = c.args.second.now in
-    outside_widens p q (IsLimited p.dims (map constraint_of c.args.given.now) p q) c.in-Err.error c.outside.result c.in-Err.ensures.refused c.outside.ensures
+    outside_widens p q (IsLimited p.dims (map constraint_of c.args.given.now) p q) c.in-Err.error c.tell_outside.result c.in-Err.ensures.refused c.tell_outside.ensures

@@ -9,14 +9,14 @@ pub returns-in-Ok-clause-gives : goal.returns-in-Ok-clause-gives
 returns-in-Ok-clause-gives c =
     let p = c.args.first.now in
     let q = c.args.second.now in
-    made_widens p q c.in-Ok.polyhedron c.made_with.result.polyhedron (Standard p q) (StandardStrains p q) c.in-Ok.outcome c.made_with.result.is_flagged c.made_with.ensures.polyhedron
-    c.made_with.ensures.flagged c.in-Ok.ensures.dims c.in-Ok.ensures.canonical c.in-Ok.ensures.exact c.in-Ok.ensures.within c.in-Ok.ensures.strain c.in-Ok.ensures.known
+    made_widens p q c.in-Ok.polyhedron c.make_with.result.polyhedron (Standard p q) (StandardStrains p q) c.in-Ok.outcome c.make_with.result.is_flagged c.make_with.ensures.polyhedron
+    c.make_with.ensures.flagged c.in-Ok.ensures.dims c.in-Ok.ensures.canonical c.in-Ok.ensures.exact c.in-Ok.ensures.within c.in-Ok.ensures.strain c.in-Ok.ensures.known
 
-pub outside-requires-clause-placed : goal.outside-requires-clause-placed
-outside-requires-clause-placed c = refusal_placed c.args.first.now c.args.second.now c.in-Err.error c.in-Err.ensures.refused
+pub tell_outside-requires-clause-placed : goal.tell_outside-requires-clause-placed
+tell_outside-requires-clause-placed c = refusal_placed c.args.first.now c.args.second.now c.in-Err.error c.in-Err.ensures.refused
 
 pub returns-in-Err-clause-gives : goal.returns-in-Err-clause-gives
 returns-in-Err-clause-gives c =
     let p = c.args.first.now in
     let q = c.args.second.now in
-    outside_widens p q (IsWidened p.dims p q) c.in-Err.error c.outside.result c.in-Err.ensures.refused c.outside.ensures
+    outside_widens p q (IsWidened p.dims p q) c.in-Err.error c.tell_outside.result c.in-Err.ensures.refused c.tell_outside.ensures

@@ -4,8 +4,8 @@ use Rattle.std.proofs.lemmas.Result.{err_from_is_err_and}
 use Rattle.lra_canon.proofs.EchelonRows.{form_width, first_more, first_passes, extension_strains, form_end, same_equalities, one_form}
 use Rattle.lra_canon.proofs.forms.echelon.Goals as goal
 
-pub extended-requires-clause-widths : goal.extended-requires-clause-widths
-extended-requires-clause-widths c =
+pub extend-requires-clause-widths : goal.extend-requires-clause-widths
+extend-requires-clause-widths c =
     let e = c.deref-row-items.ensures.value in
     let l : c.loop-row.row-index < length c.args.lines.now.items = subst (λ (xs : List (List ℤ)). c.loop-row.row-index < length xs) e c.loop-row-test.true in
     let g = subst (λ (xs : List (List ℤ)). c.row-item.result ≡ get_or xs c.loop-row.row-index c.row-item.result) e c.row-item.is in

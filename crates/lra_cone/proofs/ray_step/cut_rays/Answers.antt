@@ -8,12 +8,12 @@ use Rattle.lra_cone.proofs.ray_step.cut_rays.Goals as goal
 pub overflow_add-count : goal.overflow_add-count
 overflow_add-count c = omega (arith, c.count_inside.ensures.most, c.requires.each, c.requires.few, c.len.ensures, c.in_ok-pairs.pairs.small)
 
-pub combinations-requires-clause-up : goal.combinations-requires-clause-up
-combinations-requires-clause-up c = pairs_up c.args.products.now c.args.saturation.now.rows
+pub combine_pairs-requires-clause-up : goal.combine_pairs-requires-clause-up
+combine_pairs-requires-clause-up c = pairs_up c.args.products.now c.args.saturation.now.rows
     (length c.args.rays.now) c.in_ok-pairs.pairs.items c.deref.result.now c.deref.ensures.value c.requires.each c.in_ok-pairs.ensures
 
-pub combinations-requires-clause-down : goal.combinations-requires-clause-down
-combinations-requires-clause-down c = pairs_down c.args.products.now c.args.saturation.now.rows
+pub combine_pairs-requires-clause-down : goal.combine_pairs-requires-clause-down
+combine_pairs-requires-clause-down c = pairs_down c.args.products.now c.args.saturation.now.rows
     (length c.args.rays.now) c.in_ok-pairs.pairs.items c.deref.result.now c.deref.ensures.value c.requires.each c.in_ok-pairs.ensures
 
 pub cut_saturation-requires-clause-tight : goal.cut_saturation-requires-clause-tight

@@ -16,9 +16,9 @@ pub remove_rows-requires : goal.remove_rows-requires
 remove_rows-requires c =
     let m = c.args.saturation.now in
     let pairs = c.args.pairs.now in
-    let made = matrix_made m c.push_lengthened.new.wider c.push_tight.new.saturation c.width.result c.args.products.now c.in_ok-tight.field-0 pairs pairs refl c.in_ok-tight.ensures
+    let made = matrix_made m c.push_lengthened.new.wider c.push_tight.new.saturation c.width.result c.args.products.now c.in_ok-mark_tight.field-0 pairs pairs refl c.in_ok-mark_tight.ensures
     c.width.ensures.width
-    (c.in_ok-push_lengthened.ensures ∙ ap (λ (x : Matrix). record x { rows = x.rows ++ lengthened_rows m.rows c.in_ok-tight.field-0 })
+    (c.in_ok-push_lengthened.ensures ∙ ap (λ (x : Matrix). record x { rows = x.rows ++ lengthened_rows m.rows c.in_ok-mark_tight.field-0 })
     (c.new-wider.ensures ∙ ap (λ (n : ℕ). record { width = n; rows = [] }) c.in_ok-width.ensures)) c.in_ok-push_tight.ensures in
     marks_match c.args.products.now m.rows c.push_tight.new.saturation.rows pairs c.args.gone.now c.requires.each c.requires.marks (ap (λ (x : Matrix). x.rows) made)
 
@@ -26,8 +26,8 @@ pub returns : goal.returns
 returns c =
     let m = c.args.saturation.now in
     let pairs = c.args.pairs.now in
-    let made = matrix_made m c.push_lengthened.new.wider c.push_tight.new.saturation c.width.result c.args.products.now c.in_ok-tight.field-0 pairs pairs refl c.in_ok-tight.ensures
+    let made = matrix_made m c.push_lengthened.new.wider c.push_tight.new.saturation c.width.result c.args.products.now c.in_ok-mark_tight.field-0 pairs pairs refl c.in_ok-mark_tight.ensures
     c.width.ensures.width
-    (c.in_ok-push_lengthened.ensures ∙ ap (λ (x : Matrix). record x { rows = x.rows ++ lengthened_rows m.rows c.in_ok-tight.field-0 })
+    (c.in_ok-push_lengthened.ensures ∙ ap (λ (x : Matrix). record x { rows = x.rows ++ lengthened_rows m.rows c.in_ok-mark_tight.field-0 })
     (c.new-wider.ensures ∙ ap (λ (n : ℕ). record { width = n; rows = [] }) c.in_ok-width.ensures)) c.in_ok-push_tight.ensures in
     c.remove_rows.ensures ∙ ap (λ (x : Matrix). record x { rows = unmarked c.args.gone.now x.rows }) made

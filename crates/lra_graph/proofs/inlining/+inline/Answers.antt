@@ -81,10 +81,10 @@ inline_item-inline_declared-requires t c =
 pub inline_item-returns-in_err-given-in-Declaration-clause-limit : goal.inline_item-returns-in_err-given-in-Declaration-clause-limit
 inline_item-returns-in_err-given-in-Declaration-clause-limit t c =
     let here = c.args.around.now in
-    err_stopped c.from_residual-in_err-given-in-Declaration.result _ (λ x. walk (points_in c.own_point.new.sites) (given_events (inside here) here.path.now (here.frame.live + 1) (given_view
+    err_stopped c.from_residual-in_err-given-in-Declaration.result _ (λ x. walk (points_in c.open_point.new.sites) (given_events (inside here) here.path.now (here.frame.live + 1) (given_view
     c.in-Declaration.declarator.rvalue)) ≡ stopped x) (λ x. StopsItem (program_around here) here.path.now here.frame (points_in c.args.sites.now) (item_view c.args.item.now) x)
     c.from_residual-in_err-given-in-Declaration.ensures.1 (given_stops (program_around here) here.path.now here.frame (points_in c.args.sites.now) (item_view c.args.item.now)
-    (declarator_view c.in-Declaration.declarator) (item_declared c.args.item.now c.in-Declaration.declarator c.in-Declaration.is) (points_in c.own_point.new.sites) (here.frame.live + 1)
+    (declarator_view c.in-Declaration.declarator) (item_declared c.args.item.now c.in-Declaration.declarator c.in-Declaration.is) (points_in c.open_point.new.sites) (here.frame.live + 1)
     c.in_ok-point-in-Declaration.ensures.walked (omega arith)) c.in_err-given-in-Declaration.ensures.limit
 
 pub inline_item-overflow_add-result : goal.inline_item-overflow_add-result
@@ -94,7 +94,7 @@ pub inline_item-returns-in_ok-declared-in-Declaration-clause-written : goal.inli
 inline_item-returns-in_ok-declared-in-Declaration-clause-written t c =
     let here = c.args.around.now in
     declared_item (program_around here) here.path.now here.frame (points_in c.args.sites.now) (item_view c.args.item.now) (declarator_view c.in-Declaration.declarator) (item_declared
-    c.args.item.now c.in-Declaration.declarator c.in-Declaration.is) (points_in c.own_point.new.sites) (points_in c.inline_declared.new.sites) c.in_ok-point-in-Declaration.point
+    c.args.item.now c.in-Declaration.declarator c.in-Declaration.is) (points_in c.open_point.new.sites) (points_in c.inline_declared.new.sites) c.in_ok-point-in-Declaration.point
     (here.frame.live + 1) (node_view c.in_ok-given-in-Declaration.given) (node_view c.in_ok-declared-in-Declaration.declared) c.in_ok-point-in-Declaration.ensures.number (omega arith)
     c.in_ok-point-in-Declaration.ensures.walked c.in_ok-given-in-Declaration.ensures.written c.in_ok-declared-in-Declaration.ensures
 
@@ -359,7 +359,7 @@ inline_assign-inline_rvalue-requires t c =
 pub inline_assign-returns-in_err-given-clause-limit : goal.inline_assign-returns-in_err-given-clause-limit
 inline_assign-returns-in_err-given-clause-limit t c =
     let here = c.args.around.now in
-    second_limit c.from_residual-in_err-given.result _ (points_in c.args.sites.now) (points_in c.own_point.new.sites) (own_events here c.args.label)
+    second_limit c.from_residual-in_err-given.result _ (points_in c.args.sites.now) (points_in c.open_point.new.sites) (own_events here c.args.label)
     (rvalue_events (inside here) here.path.now here.frame.live (rvalue_view c.args.rvalue.now)) c.in_ok-point.ensures.walked c.from_residual-in_err-given.ensures.1 c.in_err-given.ensures.limit
 
 pub inline_assign-returns-clause-written : goal.inline_assign-returns-clause-written
@@ -390,7 +390,7 @@ inline_if-inline_stmt-requires t c =
 pub inline_if-returns-in_err-on_true-clause-limit : goal.inline_if-returns-in_err-on_true-clause-limit
 inline_if-returns-in_err-on_true-clause-limit t c =
     let here = c.args.around.now in
-    middle_limit c.from_residual-in_err-on_true.result _ (points_in c.args.sites.now) (points_in c.own_point.new.sites) (own_events here c.args.label) (on_stmt here (stmt_view c.args.on_true.now))
+    middle_limit c.from_residual-in_err-on_true.result _ (points_in c.args.sites.now) (points_in c.open_point.new.sites) (own_events here c.args.label) (on_stmt here (stmt_view c.args.on_true.now))
     (on_stmt here (stmt_view c.args.on_false.now)) c.in_ok-point.ensures.walked c.from_residual-in_err-on_true.ensures.1 c.in_err-on_true.ensures.limit
 
 pub inline_if-inline_stmt-requires-2 : goal.inline_if-inline_stmt-requires-2
@@ -407,7 +407,7 @@ inline_if-inline_stmt-requires-2 t c =
 pub inline_if-returns-in_err-on_false-clause-limit : goal.inline_if-returns-in_err-on_false-clause-limit
 inline_if-returns-in_err-on_false-clause-limit t c =
     let here = c.args.around.now in
-    third_limit c.from_residual-in_err-on_false.result _ (points_in c.args.sites.now) (points_in c.own_point.new.sites) (points_in c.inline_stmt.new.sites) (own_events here c.args.label)
+    third_limit c.from_residual-in_err-on_false.result _ (points_in c.args.sites.now) (points_in c.open_point.new.sites) (points_in c.inline_stmt.new.sites) (own_events here c.args.label)
     (on_stmt here (stmt_view c.args.on_true.now)) (on_stmt here (stmt_view c.args.on_false.now)) c.in_ok-point.ensures.walked c.in_ok-on_true.ensures.written.walked
     c.from_residual-in_err-on_false.ensures.1 c.in_err-on_false.ensures.limit
 
@@ -710,7 +710,7 @@ inline_return-returns-in_err-given-in-Some-Result-clause-limit t c =
     let call = call_view c.in-Some-Result.call in
     stmt_limit (program_around here) here.path.now here.frame (points_in c.args.sites.now) c.from_residual-in_err-given-in-Some-Result.result (return c.args.label (given_view c.args.rvalue.now))
     (return c.args.label (Some (result (call_view c.in-Some-Result.call))))
-    (ap (λ o. return c.args.label o) is) (second_limit c.from_residual-in_err-given-in-Some-Result.result _ (points_in c.args.sites.now) (points_in c.own_point.new.sites)
+    (ap (λ o. return c.args.label o) is) (second_limit c.from_residual-in_err-given-in-Some-Result.result _ (points_in c.args.sites.now) (points_in c.open_point.new.sites)
     (own_events here c.args.label) ((inside here) here.path.now here.frame.live call) c.in_ok-point-in-Some-Result.ensures.walked c.from_residual-in_err-given-in-Some-Result.ensures.1
     c.in_err-given-in-Some-Result.ensures.limit)
 
@@ -721,7 +721,7 @@ inline_return-returns-in_ok-given-in-Some-Result-clause-written t c =
     let call = call_view c.in-Some-Result.call in
     stmt_handed (program_around here) here.path.now here.frame (points_in c.args.sites.now) c.finish.result node_view _ (return c.args.label (given_view c.args.rvalue.now))
     (return c.args.label (Some (result (call_view c.in-Some-Result.call)))) (ap (λ o. return c.args.label o) is)
-    (made_ok c.finish.result c.leave_call.result _ _ c.finish.ensures.tree c.leave_call.ensures (λ g a. call_returned (program_around here) here.path.now here.frame (points_in c.own_point.new.sites)
+    (made_ok c.finish.result c.leave_call.result _ _ c.finish.ensures.tree c.leave_call.ensures (λ g a. call_returned (program_around here) here.path.now here.frame (points_in c.open_point.new.sites)
     c.in_ok-point-in-Some-Result.point c.requires.stands.back_low (points_in c.args.sites.now) c.args.label (node_view g) c.in_ok-point-in-Some-Result.ensures.number
     c.in_ok-point-in-Some-Result.ensures.walked _ call (node_view c.in_ok-given-in-Some-Result.given)
     (rw c.receiver_of-target.ensures at c.in_ok-given-in-Some-Result.ensures.written) a))
@@ -752,13 +752,13 @@ inline_while-inline_loop-requires t c =
 pub inline_while-returns-clause-written : goal.inline_while-returns-clause-written
 inline_while-returns-clause-written t c =
     let here = c.args.around.now in
-    loop_handed (program_around here) here.path.now here.frame (points_in c.args.sites.now) c.inline_loop.result node_view _ (points_in c.own_point.new.sites) c.in_ok-point.point
+    loop_handed (program_around here) here.path.now here.frame (points_in c.args.sites.now) c.inline_loop.result node_view _ (points_in c.open_point.new.sites) c.in_ok-point.point
     c.args.label (cond_view c.args.cond.now) (stmt_view c.args.body.now) (stmt_view c.args.step.now) c.in_ok-point.ensures.number c.in_ok-point.ensures.walked c.inline_loop.ensures.written
 
 pub inline_while-returns-clause-limit : goal.inline_while-returns-clause-limit
 inline_while-returns-clause-limit t c =
     let here = c.args.around.now in
-    loop_limit (program_around here) here.path.now here.frame (points_in c.args.sites.now) c.inline_loop.result (points_in c.own_point.new.sites)
+    loop_limit (program_around here) here.path.now here.frame (points_in c.args.sites.now) c.inline_loop.result (points_in c.open_point.new.sites)
     c.args.label (cond_view c.args.cond.now) (stmt_view c.args.body.now) (stmt_view c.args.step.now) c.in_ok-point.ensures.walked c.inline_loop.ensures.limit
 
 pub inline_stmt-inline_while-requires : goal.inline_stmt-inline_while-requires
@@ -840,7 +840,7 @@ inline_simple-returns-in_err-given-in-Call-clause-limit t c =
     let is = ap stmt_view c.in-Call.is ∙ shown_call c.in-Call.label c.in-Call.call in
     let call' = call_view c.in-Call.call in
     stmt_limit (program_around here) here.path.now here.frame (points_in c.args.sites.now) c.from_residual-in_err-given-in-Call.result (stmt_view c.args.stmt.now) (call c.in-Call.label call') is
-    (second_limit c.from_residual-in_err-given-in-Call.result _ (points_in c.args.sites.now) (points_in c.own_point.new.sites) (own_events here c.in-Call.label)
+    (second_limit c.from_residual-in_err-given-in-Call.result _ (points_in c.args.sites.now) (points_in c.open_point.new.sites) (own_events here c.in-Call.label)
     ((inside here) here.path.now here.frame.live call') c.in_ok-point-in-Call.ensures.walked c.from_residual-in_err-given-in-Call.ensures.1 c.in_err-given-in-Call.ensures.limit)
 
 pub inline_simple-returns-in_ok-given-in-Call-clause-written : goal.inline_simple-returns-in_ok-given-in-Call-clause-written

@@ -70,14 +70,14 @@ returns-in-Continue-clause-limit c =
 pub returns-in-Assert-clause-written : goal.returns-in-Assert-clause-written
 returns-in-Assert-clause-written c =
     let here = c.args.around.now in
-    any_handed (program_around here) here.path.now here.frame (points_in c.args.sites.now) c.assertion.result node_view _ (stmt_view c.args.stmt.now) (assert c.in-Assert.label (cond_view
-    c.in-Assert.cond)) (ap stmt_view c.in-Assert.is ∙ shown_assert c.in-Assert.label c.in-Assert.cond) c.assertion.ensures.written
+    any_handed (program_around here) here.path.now here.frame (points_in c.args.sites.now) c.inline_assertion.result node_view _ (stmt_view c.args.stmt.now) (assert c.in-Assert.label (cond_view
+    c.in-Assert.cond)) (ap stmt_view c.in-Assert.is ∙ shown_assert c.in-Assert.label c.in-Assert.cond) c.inline_assertion.ensures.written
 
 pub returns-in-Assert-clause-limit : goal.returns-in-Assert-clause-limit
 returns-in-Assert-clause-limit c =
     let here = c.args.around.now in
-    stmt_limit (program_around here) here.path.now here.frame (points_in c.args.sites.now) c.assertion.result (stmt_view c.args.stmt.now) (assert c.in-Assert.label (cond_view
-    c.in-Assert.cond)) (ap stmt_view c.in-Assert.is ∙ shown_assert c.in-Assert.label c.in-Assert.cond) c.assertion.ensures.limit
+    stmt_limit (program_around here) here.path.now here.frame (points_in c.args.sites.now) c.inline_assertion.result (stmt_view c.args.stmt.now) (assert c.in-Assert.label (cond_view
+    c.in-Assert.cond)) (ap stmt_view c.in-Assert.is ∙ shown_assert c.in-Assert.label c.in-Assert.cond) c.inline_assertion.ensures.limit
 
 pub returns-in-Assume-clause-written : goal.returns-in-Assume-clause-written
 returns-in-Assume-clause-written c =

@@ -9,7 +9,7 @@ pub returns-clause-written : goal.returns-clause-written
 returns-clause-written c =
     let here = c.args.around.now in
     made_ok c.finish.result c.leave_any.result _ _ c.finish.ensures.tree c.leave_any.ensures
-    (λ g a. any_returned (program_around here) here.path.now here.frame (points_in c.own_point.new.sites) c.in_ok-point.point c.requires.back_low (points_in c.args.sites.now) c.args.label
+    (λ g a. any_returned (program_around here) here.path.now here.frame (points_in c.open_point.new.sites) c.in_ok-point.point c.requires.back_low (points_in c.args.sites.now) c.args.label
     (node_view g)
     c.in_ok-point.ensures.number c.in_ok-point.ensures.walked a)
 

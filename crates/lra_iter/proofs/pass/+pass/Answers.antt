@@ -528,13 +528,13 @@ pass_row-returns-clause-passed g t c =
     let set = c.args.the_row.now.options.now in
     let whole = row (map node_view c.args.the_row.now.trees.now) (node_view c.args.the_row.now.last.now) in
     let end = c.in_ok-end.end in
-    IfOk-weaker c.followed_by-2.result
+    IfOk-weaker c.follow_with-2.result
     (λ r. AreInTurn c.row.so_far.found end.found r.found × (r.normal ≡ end.normal) × (r.flag ≡ end.flag))
     (λ r. IsPassed m set whole c.args.flag c.args.value (seen r))
     (λ r taken. row_ends m set whole c.args.flag c.args.value _ c.row.so_far.found c.row.so_far.normal c.row.so_far.flag
     c.args.memory.now c.row.memory c.row.invariant (node_view c.args.the_row.now.last.now)
     (row_done c.args.the_row.now.trees.now c.row.tree-index c.args.the_row.now.last.now c.row-test.false)
-    end r.found r.normal r.flag c.in_ok-end.ensures.passed taken.0 taken.1 taken.2) c.followed_by-2.ensures
+    end r.found r.normal r.flag c.in_ok-end.ensures.passed taken.0 taken.1 taken.2) c.follow_with-2.ensures
 
 pub pass_row-returns-clause-stays : goal.pass_row-returns-clause-stays
 pass_row-returns-clause-stays g t c =
@@ -547,11 +547,11 @@ pass_row-returns-clause-stays g t c =
     (node_view c.args.the_row.now.last.now)
     (row_done c.args.the_row.now.trees.now c.row.tree-index c.args.the_row.now.last.now c.row-test.false)
     end.flag c.pass-2.new.memory c.in_ok-end.ensures.stays in
-    IfOk-weaker c.followed_by-2.result
+    IfOk-weaker c.follow_with-2.result
     (λ r. AreInTurn c.row.so_far.found end.found r.found × (r.normal ≡ end.normal) × (r.flag ≡ end.flag))
     (λ r. StaysKept m set whole c.args.flag c.args.memory.now r.flag c.pass-2.new.memory)
     (λ r taken. subst (λ x. StaysKept m set whole c.args.flag c.args.memory.now x c.pass-2.new.memory) (sym taken.2)
-    stays) c.followed_by-2.ensures
+    stays) c.follow_with-2.ensures
 
 -- a tree --------------------------------------------------------------------------------------------------------------
 

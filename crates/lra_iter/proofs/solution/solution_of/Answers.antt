@@ -15,10 +15,10 @@ pub returns-clause-solves : goal.returns-clause-solves
 returns-clause-solves g c =
     let sites = c.args.sites.now in
     let tabled = rw c.into_entries-entries.ensures at c.in_ok-tables.ensures in
-    let verdicts = rw c.deref.ensures.value at c.in_ok-numbered_in.ensures in
+    let verdicts = rw c.deref.ensures.value at c.in_ok-number_held.ensures in
     tables_solve g.D.Domain.meaning (map site_view sites) (seen c.args.outcome) (length sites) c.in_ok-tables.tables.values.items c.in_ok-tables.tables.verdicts.items
     (sym (length-map sites site_view)) c.requires
-    tabled c.in_ok-held_in.field-0.items c.in_ok-numbered_in.field-0.items c.args.outcome.flag c.in_ok-held_in.ensures verdicts refl
+    tabled c.in_ok-take_held.field-0.items c.in_ok-number_held.field-0.items c.args.outcome.flag c.in_ok-take_held.ensures verdicts refl
 
 pub returns-clause-points : goal.returns-clause-points
 returns-clause-points g c =
@@ -26,14 +26,14 @@ returns-clause-points g c =
     let tabled = rw c.into_entries-entries.ensures at c.in_ok-tables.ensures in
     let count = values_count g.D.Domain.meaning (map site_view sites) (seen c.args.outcome) (length sites) c.in_ok-tables.tables.values.items c.in_ok-tables.tables.verdicts.items
     (sym (length-map sites site_view)) c.requires
-    tabled c.in_ok-held_in.field-0.items c.in_ok-held_in.ensures in
+    tabled c.in_ok-take_held.field-0.items c.in_ok-take_held.ensures in
     rw (length-map sites site_view) at count
 
 pub returns-clause-assertions : goal.returns-clause-assertions
 returns-clause-assertions g c =
     let sites = c.args.sites.now in
     let tabled = rw c.into_entries-entries.ensures at c.in_ok-tables.ensures in
-    let verdicts = rw c.deref.ensures.value at c.in_ok-numbered_in.ensures in
+    let verdicts = rw c.deref.ensures.value at c.in_ok-number_held.ensures in
     verdicts_count g.D.Domain.meaning (map site_view sites) (seen c.args.outcome) (length sites) c.in_ok-tables.tables.values.items c.in_ok-tables.tables.verdicts.items
     (sym (length-map sites site_view)) c.requires
-    tabled c.in_ok-numbered_in.field-0.items verdicts
+    tabled c.in_ok-number_held.field-0.items verdicts

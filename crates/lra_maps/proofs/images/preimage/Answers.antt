@@ -11,12 +11,12 @@ use Rattle.lra_lin.specs.Form.{form_row}
 use Rattle.lra_maps.proofs.BackImages.{preimage_made, row_width}
 use Rattle.lra_maps.proofs.images.preimage.Goals as goal
 
-pub moved_preimage-requires-clause-width : goal.moved_preimage-requires-clause-width
-moved_preimage-requires-clause-width c =
+pub move_back-requires-clause-width : goal.move_back-requires-clause-width
+move_back-requires-clause-width c =
     row_width c.args.form.now c.in_ok-row.row c.args.p.now.dims c.in_ok-row.ensures c.requires.form
 
-pub converted_preimage-requires-clause-form : goal.converted_preimage-requires-clause-form
-converted_preimage-requires-clause-form c =
+pub convert_preimage-requires-clause-form : goal.convert_preimage-requires-clause-form
+convert_preimage-requires-clause-form c =
     row_width c.args.form.now c.in_ok-row.row c.args.p.now.dims c.in_ok-row.ensures c.requires.form
 
 pub returns-in-Some-clause-exact : goal.returns-in-Some-clause-exact
@@ -37,13 +37,13 @@ returns-in-Some-clause-dims c =
 pub returns-clause-exact : goal.returns-clause-exact
 returns-clause-exact c =
     let p = c.args.p.now in
-    subst (λ (f : List ℤ). IfExact (IsPolyhedronOf p.dims (Preimage (suc c.args.x) f (Con p.rows)) c.converted_preimage.new.p)
+    subst (λ (f : List ℤ). IfExact (IsPolyhedronOf p.dims (Preimage (suc c.args.x) f (Con p.rows)) c.convert_preimage.new.p)
     c.in_ok-outcome-in-None.outcome) c.in_ok-row.ensures c.in_ok-outcome-in-None.ensures.exact
 
 pub returns-clause-within : goal.returns-clause-within
 returns-clause-within c =
     let p = c.args.p.now in
-    subst (λ (f : List ℤ). IsWithin p.dims (Preimage (suc c.args.x) f (Con p.rows)) (Con c.converted_preimage.new.p.rows))
+    subst (λ (f : List ℤ). IsWithin p.dims (Preimage (suc c.args.x) f (Con p.rows)) (Con c.convert_preimage.new.p.rows))
     c.in_ok-row.ensures c.in_ok-outcome-in-None.ensures.within
 
 pub returns-clause-strain : goal.returns-clause-strain

@@ -8,15 +8,15 @@ use Rattle.lra_oct.specs.Tables.{assignment_of}
 use Rattle.lra_oct.proofs.AssignLemmas.{given_equate, given_shift, equate_below}
 use Rattle.lra_oct.proofs.assigning.assign_matrix.Goals as goal
 
-pub equated-assigned-requires-clause-row : goal.equated-assigned-requires-clause-row
-equated-assigned-requires-clause-row c =
+pub equate_and_close-assigned-requires-clause-row : goal.equate_and_close-assigned-requires-clause-row
+equate_and_close-assigned-requires-clause-row c =
     equate_below c.args.n c.args.x c.in-Equate.i c.args.factors.now c.requires.width c.requires.range (sym c.in-Equate.is ∙ c.assignment_of.ensures ∙ ap (assignment_of c.args.x) c.classify.ensures)
 
 pub returns-in_ok-copy-in-Equate-clause-assigned : goal.returns-in_ok-copy-in-Equate-clause-assigned
 returns-in_ok-copy-in-Equate-clause-assigned c =
     let is : Equate c.in-Equate.i ≡ assignment_of c.args.x (shape (form c.args.constant c.args.factors.now)) =
     sym c.in-Equate.is ∙ c.assignment_of.ensures ∙ ap (assignment_of c.args.x) c.classify.ensures in
-    given_equate c.args.n c.args.x c.in-Equate.i (form c.args.constant c.args.factors.now) c.args.matrix.now.cells (seen c.equated-assigned.result.0) c.equated-assigned.result.1
+    given_equate c.args.n c.args.x c.in-Equate.i (form c.args.constant c.args.factors.now) c.args.matrix.now.cells (seen c.equate_and_close-assigned.result.0) c.equate_and_close-assigned.result.1
     c.requires.place (equate_below c.args.n c.args.x c.in-Equate.i c.args.factors.now c.requires.width c.requires.range is) (search rules) is (search rules)
 
 pub returns-in_ok-shifted-in-Shift-clause-assigned : goal.returns-in_ok-shifted-in-Shift-clause-assigned

@@ -77,14 +77,14 @@ returns-clause-within c =
     let cone = c.in_ok-conversion.conversion.cone in
     let losses = c.in_ok-conversion.conversion.losses.items in
     let t = c.in_ok-conversion.ensures in
-    IfOk-weaker c.widened.result _ _
+    IfOk-weaker c.enclose_points.result _ _
     (λ r h. within_both c.args.given.now.dims c.in_ok-conversion.list.dims (Gen (generators c.args.given.now)) (Con (constraints c.in_ok-conversion.list)) (Con r.0.rows)
-    t.list_dims t.within h) c.widened.ensures.within
+    t.list_dims t.within h) c.enclose_points.ensures.within
 
 pub returns-clause-strain : goal.returns-clause-strain
 returns-clause-strain c =
     let cone = c.in_ok-conversion.conversion.cone in
     let losses = c.in_ok-conversion.conversion.losses.items in
     let t = c.in_ok-conversion.ensures in
-    IfOk-weaker c.widened.result _ _
-    (λ r e. lost_strain c.args.given.now.dims (generators c.args.given.now) c.in_ok-conversion.list cone losses r.1.items t e) c.widened.ensures.losses
+    IfOk-weaker c.enclose_points.result _ _
+    (λ r e. lost_strain c.args.given.now.dims (generators c.args.given.now) c.in_ok-conversion.list cone losses r.1.items t e) c.enclose_points.ensures.losses

@@ -13,11 +13,11 @@ push_own_loss-requires c = some_taken c.args.n c.args.cone.now.taken c.requires.
 
 pub returns-in_ok-push_own_loss-in-Err-clause-within : goal.returns-in_ok-push_own_loss-in-Err-clause-within
 returns-in_ok-push_own_loss-in-Err-clause-within c =
-    IfOk-weaker c.widened.result _ _ (λ r h. within_both c.args.n c.args.list.now.dims (Gen c.args.cone.now.taken) (Con (constraints c.args.list.now)) (Con r.0.rows) c.requires.list_dims
-    c.requires.within h) c.widened.ensures.within
+    IfOk-weaker c.enclose_points.result _ _ (λ r h. within_both c.args.n c.args.list.now.dims (Gen c.args.cone.now.taken) (Con (constraints c.args.list.now)) (Con r.0.rows) c.requires.list_dims
+    c.requires.within h) c.enclose_points.ensures.within
 
 pub returns-in_ok-push_own_loss-in-Err-clause-strain : goal.returns-in_ok-push_own_loss-in-Err-clause-strain
 returns-in_ok-push_own_loss-in-Err-clause-strain c =
     let cause = rw c.in-Err.is at c.in_ok-own.ensures.cause in
-    IfOk-weaker c.widened.result _ _ (λ r e. own_lost_strain c.args.n c.args.cone.now c.in-Err.cause c.new-losses.result.items c.push_own_loss.new.losses.items r.1.items
-    c.requires.dims c.push_own_loss.ensures.cone c.new-losses.ensures.items c.in_ok-push_own_loss-in-Err.ensures.loss e cause) c.widened.ensures.losses
+    IfOk-weaker c.enclose_points.result _ _ (λ r e. own_lost_strain c.args.n c.args.cone.now c.in-Err.cause c.new-losses.result.items c.push_own_loss.new.losses.items r.1.items
+    c.requires.dims c.push_own_loss.ensures.cone c.new-losses.ensures.items c.in_ok-push_own_loss-in-Err.ensures.loss e cause) c.enclose_points.ensures.losses

@@ -3,7 +3,7 @@ use Rattle.lra_pair.proofs.pair.push_own_loss.Goals as goal
 
 pub returns-clause-loss : goal.returns-clause-loss
 returns-clause-loss c = record {
-  loss = c.in_ok-own_loss.field-0;
+  loss = c.in_ok-find_own_loss.field-0;
   told = c.in_ok-push.ensures.items;
-  own = c.in_ok-own_loss.ensures.loss;
+  own = c.in_ok-find_own_loss.ensures.loss;
 }

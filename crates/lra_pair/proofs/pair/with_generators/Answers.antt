@@ -11,8 +11,8 @@ use Rattle.lra_pair.proofs.GeneratorPairs.{further_columns, further_taken}
 use Rattle.lra_pair.proofs.OwnRows.{none_of}
 use Rattle.lra_pair.proofs.pair.with_generators.Goals as goal
 
-pub by_own_list-requires-clause-columns : goal.by_own_list-requires-clause-columns
-by_own_list-requires-clause-columns c =
+pub convert_own_list-requires-clause-columns : goal.convert_own_list-requires-clause-columns
+convert_own_list-requires-clause-columns c =
     let more = c.args.more.now in
     let conversion = c.in_ok-conversion.conversion in
     let losses = conversion.losses.items in
@@ -22,8 +22,8 @@ by_own_list-requires-clause-columns c =
     c.in_ok-conversion.ensures.taken none in
     further_columns more c.args.start.taken conversion.cone.taken c.requires.kinds c.requires.columns taken
 
-pub by_own_list-requires-clause-some : goal.by_own_list-requires-clause-some
-by_own_list-requires-clause-some c =
+pub convert_own_list-requires-clause-some : goal.convert_own_list-requires-clause-some
+convert_own_list-requires-clause-some c =
     let more = c.args.more.now in
     let conversion = c.in_ok-conversion.conversion in
     let losses = conversion.losses.items in

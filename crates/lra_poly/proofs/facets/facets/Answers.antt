@@ -9,8 +9,8 @@ use Rattle.lra_sys.specs.Listed.{constraints, generators}
 use Rattle.lra_poly.proofs.FacetLemmas.{alone_matrix, alone_start, covered_matrix, covered_so, covered_start, matrix_rows, uncovered_so, values_width}
 use Rattle.lra_poly.proofs.facets.facets.Goals as goal
 
-pub saturated-requires : goal.saturated-requires
-saturated-requires c = ap length c.in_ok-positivity.ensures ∙ unit_length c.dims-n.result 0 ∙ ap suc (c.dims-n.ensures ∙ sym c.requires.dims)
+pub mark_saturated-requires : goal.mark_saturated-requires
+mark_saturated-requires c = ap length c.in_ok-positivity.ensures ∙ unit_length c.dims-n.result 0 ∙ ap suc (c.dims-n.ensures ∙ sym c.requires.dims)
 
 pub inequality_saturation-requires : goal.inequality_saturation-requires
 inequality_saturation-requires c =

@@ -16,9 +16,9 @@ returns-clause-named c =
     let old = session_of c.args.self.now in
     let key : string_bytes c.in_ok-name.name ≡ c.args.name.now = search rules in
     let name = string_bytes c.in_ok-name.name in
-    ap (λ (m : List ℕ → Option Polyhedron). let s : script.Session = record { dims = old.dims; made = m; printed = old.printed; flagged = c.flagged_by-self.result } in s) (fun_ext same)
+    ap (λ (m : List ℕ → Option Polyhedron). let s : script.Session = record { dims = old.dims; made = m; printed = old.printed; flagged = c.find_flagged-self.result } in s) (fun_ext same)
     ∙ ap (λ (f : Option ℕ). let s : script.Session = record { dims = old.dims; made = update bytes_eq old.made name (Some c.args.made.polyhedron); printed = old.printed; flagged = f } in s)
-    c.flagged_by-self.ensures
+    c.find_flagged-self.ensures
     ∙ ap (λ (n : List ℕ). script.made_as c.args.number n (made_of c.args.made) old) key
 
 pub returns-clause-sound : goal.returns-clause-sound

@@ -6,14 +6,14 @@ use Rattle.lra_cone.specs.Cones.{Shape}
 use Rattle.lra_cone.proofs.Stepped.{lines_have_width, rays_have_width, none_across}
 use Rattle.lra_cone.proofs.cone.Cone.add_row.Goals as goal
 
-pub products-requires : goal.products-requires
-products-requires c =
+pub multiply_all-requires : goal.multiply_all-requires
+multiply_all-requires c =
     let i = c.self.inside in
     let s : Shape = record { dims = i.taken.dims; taken = constraints i.taken; lines = i.lines.items; rays = i.rays.items } in
     record { widths = lines_have_width s (length c.args.row.now) c.deref.result.now c.self.invariant.0 (c.requires ∙ ap (λ (x : Shape). suc x.dims) (sym c.self.view_is)) c.deref.ensures.value }
 
-pub products-requires-2 : goal.products-requires-2
-products-requires-2 c =
+pub multiply_all-requires-2 : goal.multiply_all-requires-2
+multiply_all-requires-2 c =
     let i = c.self.inside in
     let s : Shape = record { dims = i.taken.dims; taken = constraints i.taken; lines = i.lines.items; rays = i.rays.items } in
     record { widths = rays_have_width s (length c.args.row.now) c.deref-2.result.now c.self.invariant.0 (c.requires ∙ ap (λ (x : Shape). suc x.dims) (sym c.self.view_is)) c.deref-2.ensures.value }

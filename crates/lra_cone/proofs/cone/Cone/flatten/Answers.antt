@@ -16,15 +16,15 @@ use Rattle.lra_cone.proofs.FlatCones.{flat_error}
 use Rattle.lra_cone.proofs.Stepped.{flatten_case, too_many_rays, constraints_push, cone_again, cone_of, line_met, line_canonical, line_matrix}
 use Rattle.lra_cone.proofs.cone.Cone.flatten.Goals as goal
 
-pub flattened-requires-clause-inside : goal.flattened-requires-clause-inside
-flattened-requires-clause-inside c =
+pub find_flat-requires-clause-inside : goal.find_flat-requires-clause-inside
+find_flat-requires-clause-inside c =
     omega (arith, c.requires.last.0, ap length c.requires.of_lines, length-map c.args.self.now.lines (product c.args.row.now))
 
-pub flattened-requires-clause-each_line : goal.flattened-requires-clause-each_line
-flattened-requires-clause-each_line c = ap length c.requires.of_lines ∙ length-map c.args.self.now.lines (product c.args.row.now)
+pub find_flat-requires-clause-each_line : goal.find_flat-requires-clause-each_line
+find_flat-requires-clause-each_line c = ap length c.requires.of_lines ∙ length-map c.args.self.now.lines (product c.args.row.now)
 
-pub flattened-requires-clause-each_ray : goal.flattened-requires-clause-each_ray
-flattened-requires-clause-each_ray c = ap length c.requires.of_rays ∙ length-map c.args.self.now.rays (product c.args.row.now)
+pub find_flat-requires-clause-each_ray : goal.find_flat-requires-clause-each_ray
+find_flat-requires-clause-each_ray c = ap length c.requires.of_rays ∙ length-map c.args.self.now.rays (product c.args.row.now)
 
 pub returns-then-count-gt-RAY_LIMIT-clause-strained : goal.returns-then-count-gt-RAY_LIMIT-clause-strained
 returns-then-count-gt-RAY_LIMIT-clause-strained c =
@@ -34,7 +34,7 @@ returns-then-count-gt-RAY_LIMIT-clause-strained c =
     let lines = c.in_ok-flat.flat.lines.items in
     let rays = c.in_ok-flat.flat.rays.items in
     let f = c.in_ok-flat.ensures.flat in
-    let k = c.flattened.ensures.cone in
+    let k = c.find_flat.ensures.cone in
     let x = flatten_case s g c.args.place f.line c.args.of_lines.now c.args.of_rays.now lines rays k c.requires.of_lines c.requires.of_rays c.requires.last f.turned f.are_lines f.are_rays in
     let many : c.len-count.result ≡ length rays = grind (arith, common_steps) in
     let long : row_limit < c.len-count.result = omega (arith, c.if-count-gt-RAY_LIMIT.true) in
@@ -94,5 +94,5 @@ returns-in_err-flat-clause-strained c =
     let inside : c.args.place < length s.lines = omega (arith, c.requires.last.0, ap length c.requires.of_lines, length-map s.lines (product row)) in
     let e = c.in_err-flat.field-0.0 in
     let r = err_from_is_err_and c.from_residual.result c.from_residual.ensures.1 in
-    rw (r.1, r.2) (flat_error s c.flattened.ensures.cone (is_equality c.args.kind) row c.args.place c.args.of_lines.now c.args.of_rays.now e c.requires.of_lines c.requires.of_rays inside
+    rw (r.1, r.2) (flat_error s c.find_flat.ensures.cone (is_equality c.args.kind) row c.args.place c.args.of_lines.now c.args.of_rays.now e c.requires.of_lines c.requires.of_rays inside
     c.in_err-flat.ensures.strained)

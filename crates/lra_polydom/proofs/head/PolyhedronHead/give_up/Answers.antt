@@ -1,0 +1,26 @@
+-- Goals of `PolyhedronHead::given_up`: what it becomes where it isn't decided whether next lies in its value.
+use Rattle.lra_linear.specs.Kinds.{is_equality}
+use Rattle.lra_sys.specs.Listed.{constraints}
+use Rattle.lra_widen.proofs.WideningLemmas.{seen_columns}
+use Rattle.lra_polydom.specs.Growth.{head}
+use Rattle.lra_polydom.proofs.GrowthLemmas.{grew_wide, left_up, wide_lower}
+use Rattle.lra_polydom.proofs.head.PolyhedronHead.give_up.Goals as goal
+
+pub returns-clause-grew : goal.returns-clause-grew
+returns-clause-grew c = λ mode.
+    rw (c.in_ok-new.ensures.content, ← c.self.view_is)
+    (grew_wide (head c.self.inside.value (constraints c.self.inside.given)) c.args.next.now mode (head c.in_ok-all.all.value (constraints c.in_ok-all.all.given)) c.rows-rows.ensures.canonical
+    c.rows-others.ensures.canonical (rw (← c.self.view_is) at c.requires.dims) (rw (← c.self.view_is) at c.requires.strains) c.in_ok-all.ensures.all c.in_ok-all.ensures.left)
+
+pub returns-clause-lower : goal.returns-clause-lower
+returns-clause-lower c =
+    let given = c.self.inside.given in
+    let columns = seen_columns is_equality c.self.inside.value.dims given.dims given c.rows-given.result.now c.rows-given.ensures.rows c.self.invariant.0 c.rows-given.ensures.widths in
+    rw (c.in_ok-new.ensures.content, ← c.self.view_is)
+    (wide_lower (head c.self.inside.value (constraints given)) c.args.next.now (head c.in_ok-all.all.value (constraints c.in_ok-all.all.given)) c.rows-rows.ensures.canonical columns
+    (rw (← c.self.view_is) at c.requires.strains) c.in_ok-all.ensures.all c.in_ok-all.ensures.left)
+
+pub returns-clause-left : goal.returns-clause-left
+returns-clause-left c = λ mode.
+    rw (c.in_ok-new.ensures.content, ← c.self.view_is)
+    (left_up mode (head c.self.inside.value (constraints c.self.inside.given)) (head c.in_ok-all.all.value (constraints c.in_ok-all.all.given)) c.in_ok-all.ensures.all c.in_ok-all.ensures.left)
