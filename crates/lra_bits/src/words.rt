@@ -6,7 +6,7 @@ ghost use Rattle.lra_bits.specs.Words.{common_words, AreWithin, AreCommonWithin}
 
 use std::alloc::{AllocError, Global};
 
-// The bits that are set in both.
+/// The bits that are set in both.
 pub fn common(alloc: Global, xs: &[u64], ys: &[u64]) -> Result<Vec<u64>, AllocError>
     requires { length xs.now ≡ length ys.now }
     ensures { IfOk result (λ words. words.items ≡ common_words xs.now ys.now) }
@@ -18,7 +18,7 @@ pub fn common(alloc: Global, xs: &[u64], ys: &[u64]) -> Result<Vec<u64>, AllocEr
     Ok(words)
 }
 
-// Each bit that is set in the first is set in the second.
+/// Each bit that is set in the first is set in the second.
 pub fn are_within(xs: &[u64], ys: &[u64]) -> bool
     requires { length xs.now ≡ length ys.now }
     ensures within { IsTrue result ↔ AreWithin xs.now ys.now }
@@ -27,7 +27,7 @@ pub fn are_within(xs: &[u64], ys: &[u64]) -> bool
     xs.iter().zip(ys).all(|(x, y)| x & y == *x)
 }
 
-// Each bit that is set in the first two is set in the third.
+/// Each bit that is set in the first two is set in the third.
 pub fn are_common_within(xs: &[u64], ys: &[u64], zs: &[u64]) -> bool
     requires second { length xs.now ≡ length ys.now }
     requires third { length xs.now ≡ length zs.now }

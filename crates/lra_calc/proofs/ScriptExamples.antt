@@ -159,7 +159,11 @@ wide_points generators made = (
       goes_on = record {
         result = _;
         after = record { outcome = _; told = refl; is = refl };
-        goes_on = record { result = _; after = record { outcome = _; told = refl; is = refl }; goes_on = record { result = _; after = record { outcome = _; told = refl; is = refl }; goes_on = refl } };
+        goes_on = record {
+          result = _;
+          after = record { outcome = _; told = refl; is = refl };
+          goes_on = record { result = _; after = record { outcome = _; told = refl; is = refl }; goes_on = refl };
+        };
       };
     };
   },

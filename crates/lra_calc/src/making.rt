@@ -9,7 +9,7 @@ ghost use Rattle.lra_linear.specs.Kinds.{is_line};
 ghost use Rattle.lra_sys.specs.Listed.{constraints as constraints_of, generators as generators_of, FitKinds};
 ghost use Rattle.lra_poly.specs.Outcomes.{IfExact, IfFlagged};
 ghost use Rattle.lra_lin.specs.Form.{form_row};
-ghost use Rattle.lra_script.specs.LineForms.{greatest_dims, as_given, given_of};
+ghost use Rattle.lra_script.specs.LineForms.{greatest_dims, given_of};
 ghost use Rattle.lra_script.specs.Views.{constraint_of, generator_view, IsDivided};
 ghost use Rattle.lra_calc.specs.MadeSets as sets;
 ghost use Rattle.lra_calc.specs.Script as script;

@@ -1,20 +1,11 @@
 //! Reductions of a row by an echelon form.
 
-ghost use Rattle.std.specs.Prelude.{◌≡◌, ◌<◌, length, neg_ℤ, IfOk, IfErr, OnOk, OnErr};
+ghost use Rattle.std.specs.Prelude.{◌≡◌, ◌<◌, length, IfOk, IfErr, OnOk, OnErr};
 ghost use Rattle.std.specs.List.{All};
-ghost use Rattle.lra_linear.specs.Range.{InRange};
 ghost use Rattle.lra_canon.specs.Reduced.{IsForm, SameSolutions, IsReducedBy, IsOneReduced, IsCleared};
 ghost use Rattle.lra_canon.specs.Reduced.{IsClearingExcess, IsChainEnd, IsFirstExcess, IsReductionExcess};
 
-use lra_row::{Row, RowError};
-
-// The number times -1.
-fn opposite(number: i128) -> i128
-    requires { InRange number }
-    ensures { result ≡ neg_ℤ number }
-{
-    -number
-}
+use lra_row::{Row, RowError, opposite};
 
 // The row with 0 at the line's pivot.
 pub(crate) fn clear(row: Row, line: &Row) -> Result<Row, RowError>

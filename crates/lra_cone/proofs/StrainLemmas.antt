@@ -10,7 +10,7 @@ use Rattle.lra_linear.specs.declared.Excess as E
 use Rattle.lra_linear.specs.Vectors.{entry, product, negated}
 use Rattle.lra_linear.specs.CheckedArithmetic.{checked_blend}
 use Rattle.lra_linear.specs.Cones.{all_rows, both_ways}
-use Rattle.lra_linear.specs.ConeStrain.{HasTooMany, PairPasses, ProductPasses, row_limit}
+use Rattle.lra_linear.specs.ConeStrain.{HasTooMany, PairPasses, ProductPasses}
 use Rattle.lra_linear.specs.declared.Cause.{Cause}
 use Rattle.lra_linear.specs.declared.Cause.TheVariants as cause
 use Rattle.lra_linear.specs.Descriptions.{Given}

@@ -20,7 +20,7 @@ use lra_row::{Row, RowError, opposite, push_copies};
 use lra_sys::ConKind;
 use std::alloc::{AllocError, Global};
 
-// The line at a place in both directions; `product`, that of the row with `up`, is above 0.
+/// The line at a place in both directions; `product`, that of the row with `up`, is above 0.
 #[derive(Drop)]
 pub struct Across {
     pub place: usize,
@@ -29,7 +29,7 @@ pub struct Across {
     pub product: i128,
 }
 
-// The lists of a cone and its matrix, with a line across: its other rows are combined with that line.
+/// The lists of a cone and its matrix, with a line across: its other rows are combined with that line.
 #[derive(Drop)]
 pub struct Flat {
     pub lines: Vec<Row>,
@@ -37,7 +37,7 @@ pub struct Flat {
     pub saturation: SatMatrix,
 }
 
-// The line at the place, whose product with the row is this one.
+/// The line at the place, whose product with the row is this one.
 pub fn orient_line(lines: &[Row], place: usize, product: i128) -> Result<Across, AllocError>
     requires inside { place < length lines.now }
     requires in_range { InRange product }
@@ -99,7 +99,7 @@ fn pair_strain(member: Member, product: i128, line: &Across, excess: Excess) -> 
     }
 }
 
-// Each row combined with the line, behind what is there.
+/// Each row combined with the line, behind what is there.
 pub fn push_flattened(
     out: &mut Vec<Row>,
     rows: &[Row],
@@ -129,7 +129,7 @@ pub fn push_flattened(
     Ok(())
 }
 
-// The lines: those before the one across combined with it, and those behind it again.
+/// The lines: those before the one across combined with it, and those behind it again.
 pub fn flat_lines(
     alloc: Global,
     lines: &[Row],
@@ -154,7 +154,7 @@ pub fn flat_lines(
     Ok(out)
 }
 
-// The rays: for an inequality the line, which becomes a ray, and then each combined with the line.
+/// The rays: for an inequality the line, which becomes a ray, and then each combined with the line.
 pub fn flat_rays(
     alloc: Global,
     rays: &[Row],
@@ -189,7 +189,7 @@ fn push_line(alloc: Global, wider: &mut SatMatrix, width: usize) -> Result<(), A
     Ok(())
 }
 
-// The matrix: the line is tight at all rows but the new one, and the others at the new one too.
+/// The matrix: the line is tight at all rows but the new one, and the others at the new one too.
 pub fn flat_saturation(
     alloc: Global,
     saturation: &SatMatrix,

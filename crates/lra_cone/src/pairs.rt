@@ -6,7 +6,7 @@ ghost use Rattle.lra_cone.specs.Pairs.{TellsAdjacent, ArePairs, both_tight};
 use lra_bits::{BitRow, SatMatrix};
 use std::alloc::{AllocError, Global};
 
-// Two rays, the product of the first above 0 and of the second below, and the rows that are tight at both.
+/// Two rays, the product of the first above 0 and of the second below, and the rows that are tight at both.
 #[derive(Drop)]
 pub struct Pair {
     pub up: usize,
@@ -53,7 +53,7 @@ fn push_pairs_of(
     Ok(())
 }
 
-// The adjacent pairs of rays on both sides.
+/// The adjacent pairs of rays on both sides.
 pub fn adjacent_pairs(
     alloc: Global,
     products: &[i128],

@@ -11,7 +11,7 @@ use crate::strained::{ConeError, Family, Member, Strained};
 use lra_row::Row;
 use std::alloc::Global;
 
-// The products with each of the rows, or the first that passes the range.
+/// The products with each of the rows, or the first that passes the range.
 pub fn multiply_all(
     alloc: Global,
     c: &Row,
@@ -36,7 +36,7 @@ pub fn multiply_all(
     Ok(products)
 }
 
-// The last place with a product other than 0.
+/// The last place with a product other than 0.
 pub fn last_across(products: &[i128]) -> Option<usize>
     ensures { IsLastAcross products.now (length products.now) result }
 {

@@ -13,7 +13,7 @@ ghost use Rattle.lra_cone.specs.Strains.{IsPairError, ArePairsError, IsCutError}
 ghost use Rattle.lra_cone.specs.declared.strained.Family.TheVariants.{Rays};
 
 use crate::pairs::{Pair, adjacent_pairs};
-use crate::saturation::{lengthen, one_more, push_lengthened, mark_tight};
+use crate::saturation::{lengthen, mark_tight, one_more, push_lengthened};
 use crate::strained::{ConeError, Family, Member, Strained};
 use lra_bits::{BitRow, SatMatrix};
 use lra_row::{Row, RowError, opposite};
@@ -23,7 +23,7 @@ use std::alloc::{AllocError, Global};
 /// The most rays of a cone, and the most inequalities of a description.
 pub const RAY_LIMIT: usize = 4096;
 
-// Marks the rays whose product isn't as the kind asks; so many further places behind them are not marked.
+/// Marks the rays whose product isn't as the kind asks; so many further places behind them are not marked.
 pub fn mark_outside(
     alloc: Global,
     products: &[i128],
@@ -40,7 +40,7 @@ pub fn mark_outside(
     Ok(gone)
 }
 
-// How many products are as the kind asks.
+/// How many products are as the kind asks.
 pub fn count_inside(products: &[i128], kind: ConKind) -> usize
     ensures count { result ≡ inside_count (is_equality kind) products.now }
     ensures most { result ≤ length products.now }
@@ -87,7 +87,7 @@ fn combine_pair(pair: &Pair, rays: &[Row], products: &[i128]) -> Result<Row, Con
     }
 }
 
-// A ray for each pair.
+/// A ray for each pair.
 pub fn combine_pairs(
     alloc: Global,
     pairs: &[Pair],
@@ -112,7 +112,7 @@ pub fn combine_pairs(
     Ok(rows)
 }
 
-// For each pair the rows that are tight at both, and the new row, behind what is there.
+/// For each pair the rows that are tight at both, and the new row, behind what is there.
 pub fn push_tight(
     alloc: Global,
     saturation: &mut SatMatrix,
@@ -150,8 +150,8 @@ fn cut_saturation(
     Ok(wider)
 }
 
-// What a row makes of the rays: those marked as gone go, and these come behind the others; and the matrix of the new
-// rays.
+/// What a row makes of the rays: those marked as gone go, and these come behind the others; and the matrix of the new
+/// rays.
 #[derive(Drop)]
 pub struct Cut {
     pub gone: BitRow,
@@ -159,7 +159,7 @@ pub struct Cut {
     pub saturation: SatMatrix,
 }
 
-// Takes the row with these products in.
+/// Takes the row with these products in.
 pub fn cut_rays(
     alloc: Global,
     rays: &[Row],

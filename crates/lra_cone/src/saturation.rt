@@ -7,7 +7,7 @@ ghost use Rattle.lra_cone.specs.Steps.{lengthened_rows};
 use lra_bits::{BitRow, SatMatrix};
 use std::alloc::{AllocError, Global};
 
-// So many truth values, all true.
+/// So many truth values, all true.
 pub fn all_true(alloc: Global, width: usize) -> Result<BitRow, AllocError>
     ensures { IfOk result (λ values. values ≡ replicate width true) }
 {
@@ -18,7 +18,7 @@ pub fn all_true(alloc: Global, width: usize) -> Result<BitRow, AllocError>
     Ok(values)
 }
 
-// True where the product is 0.
+/// True where the product is 0.
 pub fn mark_tight(alloc: Global, products: &[i128]) -> Result<BitRow, AllocError>
     ensures { IfOk result (λ values. values ≡ map (λ p. int_eq p (pos 0)) products.now) }
 {
@@ -29,7 +29,7 @@ pub fn mark_tight(alloc: Global, products: &[i128]) -> Result<BitRow, AllocError
     Ok(values)
 }
 
-// One more; no memory could hold a number of values past the greatest usize.
+/// One more; no memory could hold a number of values past the greatest usize.
 pub fn one_more(width: usize) -> Result<usize, AllocError>
     ensures { IfOk result (λ wider. wider ≡ width + 1) }
 {
@@ -39,7 +39,7 @@ pub fn one_more(width: usize) -> Result<usize, AllocError>
     }
 }
 
-// The values, and one more behind them.
+/// The values, and one more behind them.
 pub fn lengthen(alloc: Global, values: &BitRow, last: bool) -> Result<BitRow, AllocError>
     ensures { IfOk result (λ longer. longer ≡ values.now ++ last ∷ []) }
 {
@@ -52,7 +52,7 @@ pub fn lengthen(alloc: Global, values: &BitRow, last: bool) -> Result<BitRow, Al
     Ok(longer)
 }
 
-// Each row of the matrix with one more value, behind what is there.
+/// Each row of the matrix with one more value, behind what is there.
 pub fn push_lengthened(
     alloc: Global,
     wider: &mut SatMatrix,

@@ -3,7 +3,7 @@
 ghost use Rattle.std.specs.Prelude.{◌≡◌, ◌≤◌, ◌<◌, ◌^◌, ◌*◌, length, unsigned_abs};
 ghost use Rattle.lra_dbm.specs.Cells.{size, entries, IsMatrix};
 ghost use Rattle.lra_dbm.specs.Steps.{any_below};
-ghost use Rattle.lra_dbm.specs.Shifting.{added_to, origin, shifted, shifted_within, passes_at, ShiftedTo, RowGiven};
+ghost use Rattle.lra_dbm.specs.Shifting.{added_to, origin, shifted_within, passes_at, ShiftedTo, RowGiven};
 
 use crate::cells::{Sum, add_entries, entry, opposite, write};
 

@@ -15,7 +15,7 @@ use Rattle.lra_base.specs.OperatorViews.{comparison_view}
 use Rattle.lra_program.specs.ProgramViews.{all_of, any_of}
 use Rattle.lra_program.specs.Program.{Cond}
 use Rattle.lra_flow.specs.Linear as linear
-use Rattle.lra_flow.specs.Linear.{fitting, at_least_zero, difference_form, comparison_test}
+use Rattle.lra_flow.specs.Linear.{fitting, at_least_zero, comparison_test}
 use Rattle.lra_flow.specs.Condition.{push}
 use Rattle.lra_flow.specs.Given.{row_of, test_rows, atom_rows, pushed_rows}
 use Rattle.lra_forms.specs.Conditions.{in_turn_of, either_of}

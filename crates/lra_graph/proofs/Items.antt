@@ -1,7 +1,7 @@
 -- The items of a block, one by one: where all are stopped by one of them, and what weighs less.
 use Rattle.std.proofs.Common.{◌≡◌, ℕ, suc, ◌+◌, ◌*◌, ◌-◌, ◌<◌, List, [], ◌∷◌, ◌++◌, Some, slice_get, sym, subst, arith}
 use Rattle.lra_program.specs.Program as program
-use Rattle.lra_program.specs.Program.{no_more, declaration, statement}
+use Rattle.lra_program.specs.Program.{declaration, statement}
 use Rattle.lra_program.specs.Sites.{Site, plain_site, given_events, stmt_events, items_events}
 use Rattle.lra_graph.specs.declared.points.Limit.{Limit}
 use Rattle.lra_graph.specs.declared.frame.Frame.{Frame}

@@ -24,7 +24,8 @@ ghost use Rattle.lra_graph.specs.Inlining.{IsItem, IsRvalue};
 ghost use Rattle.lra_graph.specs.Inlining.{IsDeclared, IsLoop, for_of};
 
 use crate::forms::{
-    add_part, choice, close_block, cut_and_leave, enclose_for, put_in_a_row, put_act, put_point, rounds,
+    add_part, choice, close_block, cut_and_leave, enclose_for, put_act, put_in_a_row, put_point,
+    rounds,
 };
 use crate::frame::{Around, Caller, Frame, Repeated};
 use crate::points::{GraphError, Limit, add_point, finish};

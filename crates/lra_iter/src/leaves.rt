@@ -5,7 +5,7 @@ ghost use Rattle.lra_operations.specs.Graph.{act, check, leave, point as point_n
 ghost use Rattle.lra_program.specs.ProgramViews.{cond_view};
 ghost use Rattle.lra_operations.specs.GraphViews.{exit_view, op_view};
 ghost use Rattle.lra_base.specs.declared.options.Options.{Options};
-ghost use Rattle.lra_change.specs.Changes.{dims_behind, OpFits};
+ghost use Rattle.lra_change.specs.Changes.{OpFits};
 ghost use Rattle.lra_iter.specs.Fits.{TreeFits};
 ghost use Rattle.lra_iter.specs.Outcome.{seen, IsPassed};
 ghost use Rattle.lra_iter.specs.Shapes.{leaf_view};

@@ -20,7 +20,7 @@ ghost use Rattle.lra_iter.specs.Sound.{HoldsInTree};
 use crate::memory::Memory;
 use crate::outcome::{Outcome, note};
 use crate::pass::pass;
-use crate::tables::{take_held, number_held, tables_of};
+use crate::tables::{number_held, tables_of, take_held};
 use lra_base::Options;
 use lra_change::append_globals;
 use lra_domain::Domain;

@@ -115,7 +115,8 @@ spanned_through rows target u h g =
 
 -- ---- echelon forms
 -- with 0 at the first pivot, it is in the span of the rest
-pub drop_head : (r : List ℤ) (rows : List (List ℤ)) (p : ℕ) (u : ℕ → ℤ) → pos 0 <ℤ entry r p → ((t : List ℤ) → Contains rows t → entry t p ≡ pos 0) → u p ≡ pos 0 → Spanned (r ∷ rows) u → Spanned rows u
+pub drop_head : (r : List ℤ) (rows : List (List ℤ)) (p : ℕ) (u : ℕ → ℤ) → pos 0 <ℤ entry r p → ((t : List ℤ) → Contains rows t → entry t p ≡ pos 0) → u p ≡ pos 0 → Spanned (r ∷ rows) u →
+    Spanned rows u
 drop_head r rows p u h zeros e g = by_factors g.factors g.is_sum
   where
     by_factors : (zs : List ℤ) → ((j : ℕ) → pos g.multiple *ℤ u j ≡ signed_sum zs (r ∷ rows) j) → Spanned rows u

@@ -66,7 +66,7 @@ fn generator_loss(
     Ok(loss)
 }
 
-// The generator with the form's value in the column, or the first number of that value that passes.
+/// The generator with the form's value in the column, or the first number of that value that passes.
 pub fn assign_row(alloc: Global, row: &Row, column: usize, form: &Row) -> Result<Row, RowError>
     requires column { column < length row.now }
     requires width { length form.now ≡ length row.now }
@@ -80,7 +80,7 @@ pub fn assign_row(alloc: Global, row: &Row, column: usize, form: &Row) -> Result
     Ok(row)
 }
 
-// The generators, each with the form's value as coordinate x; or what is told of the first with which a number passes.
+/// The generators, each with the form's value as coordinate x; or what is told of the first with which a number passes.
 pub fn assign_list(
     alloc: Global,
     list: &GenSys,
@@ -115,7 +115,7 @@ pub fn assign_list(
     Ok(Ok(all))
 }
 
-// The first, or where that is exact the second.
+/// The first, or where that is exact the second.
 pub fn first_told(first: Outcome, second: Outcome) -> Outcome
     ensures exact { first ≡ Outcome.Exact → result ≡ second }
     ensures flagged { first ≢ Outcome.Exact → result ≡ first }
@@ -123,8 +123,8 @@ pub fn first_told(first: Outcome, second: Outcome) -> Outcome
     if first.is_exact() { second } else { first }
 }
 
-// The constraints with the form put in for the coordinate x, without those with which a number passes; and what is told
-// of the first of those.
+/// The constraints with the form put in for the coordinate x, without those with which a number passes; and what is
+/// told of the first of those.
 pub fn substitute_list(
     alloc: Global,
     list: &ConSys,

@@ -13,7 +13,7 @@ ghost use Rattle.lra_sys.specs.Listed.{generators, FitKinds};
 
 use crate::forming::{assign_list, first_told, substitute_list};
 use crate::maps::forget;
-use crate::moved::{move_forward, move_back};
+use crate::moved::{move_back, move_forward};
 use lra_lin::LinExpr;
 use lra_poly::{Outcome, Poly};
 use lra_row::Row;

@@ -14,7 +14,7 @@ use lra_row::Row;
 use lra_sys::{GenKind, GenSys, TOO_MANY_DIMENSIONS};
 use std::alloc::{AllocError, Global};
 
-// The generators, then a line along a dimension.
+/// The generators, then a line along a dimension.
 pub fn with_line(alloc: Global, list: &GenSys, x: usize) -> Result<GenSys, AllocError>
     requires dimension { x < list.now.dims }
     requires kinds { FitKinds list.now.rows list.now.kinds }
@@ -42,7 +42,7 @@ fn first_columns(alloc: Global, row: &Row, width: usize) -> Result<Row, AllocErr
     Ok(short)
 }
 
-// The generators with n dimensions, the first ones.
+/// The generators with n dimensions, the first ones.
 pub fn shorten(alloc: Global, list: &GenSys, n: usize) -> Result<GenSys, AllocError>
     requires dims { n ≤ list.now.dims }
     requires kinds { FitKinds list.now.rows list.now.kinds }
@@ -84,7 +84,7 @@ fn direction_kind(kind: GenKind) -> GenKind
     }
 }
 
-// The generators of the first, then those of the second as directions.
+/// The generators of the first, then those of the second as directions.
 pub fn with_directions(alloc: Global, first: &GenSys, second: &GenSys) -> Result<GenSys, AllocError>
     requires dims { second.now.dims ≡ first.now.dims }
     requires kinds { FitKinds first.now.rows first.now.kinds }
@@ -150,7 +150,7 @@ fn with_new_lines(alloc: Global, list: GenSys, n: usize, k: usize) -> Result<Gen
     Ok(all)
 }
 
-// The generators with k more dimensions, in which the coordinates may be anything.
+/// The generators with k more dimensions, in which the coordinates may be anything.
 pub fn embed_list(alloc: Global, list: &GenSys, k: usize) -> Result<GenSys, AllocError>
     requires small { list.now.dims + k < too_many_dimensions }
     requires kinds { FitKinds list.now.rows list.now.kinds }

@@ -41,7 +41,13 @@ fn equate(n: usize, matrix: &mut Matrix, x: usize, i: usize, c: i128)
 
 #[tactic(auto, using(crate::proofs::EnterLemmas::equated_to))]
 /// Makes `x` equal to `v_i + c`, and closes.
-pub fn equate_and_close(n: usize, matrix: Matrix, x: usize, i: usize, c: i128) -> (Bounds, Exactness)
+pub fn equate_and_close(
+    n: usize,
+    matrix: Matrix,
+    x: usize,
+    i: usize,
+    c: i128,
+) -> (Bounds, Exactness)
     requires few { n ≤ 2 ^ 30 }
     requires place { x < n }
     requires row { i < 2 * n }

@@ -9,7 +9,7 @@ ghost use Rattle.lra_oct.specs.Meaning.{octagon_meaning};
 
 use crate::assigning::assign_in;
 use crate::bounds::{
-    Bounds, copy_closed, copy_bounds, embed_in, forget_in, grow_bounds, is_same, is_within,
+    Bounds, copy_bounds, copy_closed, embed_in, forget_in, grow_bounds, is_same, is_within,
     join_bounds, rank_of, remove_in, universe,
 };
 use crate::parts::parts_of;

@@ -6,7 +6,7 @@ ghost use Rattle.lra_cone.specs.Cones.{IsCone};
 ghost use Rattle.lra_cone.specs.Steps.{IsFilled};
 ghost use Rattle.lra_linear.specs.ConeStrain.{row_limit};
 ghost use Rattle.lra_linear.specs.Descriptions.{rows_of};
-ghost use Rattle.lra_canon.specs.Reduced.{IsForm, IsReductionExcess};
+ghost use Rattle.lra_canon.specs.Reduced.{IsForm};
 ghost use Rattle.lra_canon.specs.Echelons.{HaveWidth};
 ghost use Rattle.lra_pair.specs.OwnLists.{TellsTight, AreParts, AreReducedBy, AnyReductionExcess};
 ghost use Rattle.lra_pair.specs.OwnLists.{IsOwnCause, IsOwnList, IsOwnExcess, tight_value};

@@ -284,7 +284,11 @@ fn first_rows(alloc: Global, list: &ConSys) -> Result<ConSys, AllocError>
 }
 
 // The polyhedron of constraints that hold at each of the points, after a loss: of the first of them.
-fn enclose_points(alloc: Global, list: &ConSys, losses: Vec<Loss>) -> Result<(Pair, Vec<Loss>), AllocError>
+fn enclose_points(
+    alloc: Global,
+    list: &ConSys,
+    losses: Vec<Loss>,
+) -> Result<(Pair, Vec<Loss>), AllocError>
     ensures dims { IfOk result (λ r. r.0.dims ≡ list.now.dims) }
     ensures canonical { IfOk result (λ r. IsPolyhedron r.0) }
     ensures within { IfOk result (λ r. IsWithin list.now.dims (Con (constraints list.now)) (Con r.0.rows)) }

@@ -5,7 +5,7 @@ ghost use Rattle.lra_tree.specs.Views.{assign_view, declarator_view, declaration
 ghost use Rattle.lra_readers.specs.Tests.{first};
 ghost use Rattle.lra_readers.specs.Reading.{Gives, map_read};
 ghost use Rattle.lra_readers.specs.Statements.{skip, commas, update_operator, next_step, assign_rest, step_first};
-ghost use Rattle.lra_readers.specs.Statements.{assign_at, type_words, declared_value, declarator_at, declaration_of};
+ghost use Rattle.lra_readers.specs.Statements.{assign_at, type_words, declarator_at, declaration_of};
 ghost use Rattle.lra_readers.specs.Statements.{declaration_at};
 
 use crate::calls::read_rvalue;

@@ -68,7 +68,7 @@ fn vanishes(xs: &[i128], ys: &[i128]) -> bool
     divides(FIFTH, xs, ys)
 }
 
-// Whether the product of the row with the generator is 0.
+/// Whether the product of the row with the generator is 0.
 pub fn saturates(row: &Row, generator: &Row) -> bool
     requires { length row.now ≡ length generator.now }
     ensures { result ≡ int_eq (product row.now generator.now) (pos 0) }

@@ -56,7 +56,7 @@ fn reply(generator: &Row, line: bool, rows: &[Row], kinds: &[ConKind]) -> Holds
     Holds::Yes
 }
 
-// Whether each of the generators meets each of the constraints.
+/// Whether each of the generators meets each of the constraints.
 pub fn inclusion_of(by_generators: &GenSys, list: &ConSys) -> Inclusion
     requires { list.now.dims ≡ by_generators.now.dims }
     ensures { IsInclusion (constraints list.now) (generators by_generators.now) result }

@@ -8,7 +8,7 @@ use lra_lin::Test;
 use lra_sys::{ConSys, GenSys, TOO_MANY_DIMENSIONS};
 use std::alloc::{AllocError, Global};
 
-// The constraints of the first list, then those of the second.
+/// The constraints of the first list, then those of the second.
 pub fn join_rows(first: &ConSys, second: &ConSys) -> Result<ConSys, AllocError>
     requires { second.now.dims ≡ first.now.dims }
     ensures dims { IfOk result (λ all. all.dims ≡ first.now.dims) }
@@ -23,7 +23,7 @@ pub fn join_rows(first: &ConSys, second: &ConSys) -> Result<ConSys, AllocError>
     Ok(all)
 }
 
-// The generators of the first list, then those of the second.
+/// The generators of the first list, then those of the second.
 pub fn join_generators(first: &GenSys, second: &GenSys) -> Result<GenSys, AllocError>
     requires dims { second.now.dims ≡ first.now.dims }
     requires first { FitKinds first.now.rows first.now.kinds }
@@ -41,7 +41,7 @@ pub fn join_generators(first: &GenSys, second: &GenSys) -> Result<GenSys, AllocE
     Ok(all)
 }
 
-// The constraint of the test, alone.
+/// The constraint of the test, alone.
 pub fn list_test(alloc: Global, test: &Test) -> Result<ConSys, AllocError>
     ensures dims { IfOk result (λ list. list.dims ≡ length test.now.expr.coefficients) }
     ensures rows { IfOk result (λ list. constraints list ≡ test_row test.now.kind test.now.expr ∷ []) }

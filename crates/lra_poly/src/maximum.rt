@@ -205,7 +205,7 @@ fn at(form: &LinExpr, point: &Row, place: usize) -> Maximum
     }
 }
 
-// The greatest value on the points of the generators. The first of them is a point.
+/// The greatest value on the points of the generators. The first of them is a point.
 pub fn maximum_of(form: &LinExpr, list: &GenSys) -> Maximum
     requires { 0 < length list.now.rows → pos 0 <ℤ entry (slice_index_or list.now.rows 0 []) 0 }
     ensures { IsMaximum (form_row form.now) (generators list.now) result }

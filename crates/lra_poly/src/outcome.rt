@@ -32,7 +32,7 @@ impl Outcome {
     }
 }
 
-// What is told of the losses: the first of them.
+/// What is told of the losses: the first of them.
 pub fn outcome_of(losses: Vec<Loss>) -> Outcome
     ensures { result ≡ first_loss losses.items }
 {

@@ -127,7 +127,7 @@ fn behind_positivity(alloc: Global, list: &ConSys) -> Result<ConSys, AllocError>
     join_rows(&first, list)
 }
 
-// Whether a cone of n dimensions may be made of so many generators.
+/// Whether a cone of n dimensions may be made of so many generators.
 pub fn fits(n: usize, count: usize) -> bool
     ensures small { IsTrue result → n < too_many_dimensions }
     ensures some { IsTrue result → 0 < count }
@@ -136,14 +136,15 @@ pub fn fits(n: usize, count: usize) -> bool
     n < TOO_MANY_DIMENSIONS && count > 0 && count <= RAY_LIMIT
 }
 
-// Whether a cone of so many rays may have one more.
+/// Whether a cone of so many rays may have one more.
 pub fn leaves_room(count: usize) -> bool
     ensures { IsTrue result → count + 1 ≤ row_limit }
 {
     count < RAY_LIMIT
 }
 
-// The cone of the constraints, by these generators; none where there is no generator, or are more than a cone may have.
+/// The cone of the constraints, by these generators; none where there is no generator, or are more than a cone may
+/// have.
 pub fn cone_of(
     alloc: Global,
     list: &ConSys,

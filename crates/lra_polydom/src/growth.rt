@@ -25,7 +25,7 @@ pub struct Growth {
     pub exactness: Exactness,
 }
 
-// All points, and the given rows that hold on them.
+/// All points, and the given rows that hold on them.
 pub fn give_up(alloc: Global, p: &Poly, given: &ConSys) -> Result<Growth, AllocError>
     requires { given.now.dims ≡ p.now.dims }
     ensures all { IfOk result (λ g. IsPolyhedronOf p.now.dims (Con []) g.value) }

@@ -55,7 +55,7 @@ fn are_same_kinds(kinds: &[ConKind], others: &[ConKind]) -> bool
     true
 }
 
-// Whether they have the same constraints in the same order.
+/// Whether they have the same constraints in the same order.
 pub fn are_same(one: &ConSys, two: &ConSys) -> bool
     ensures { IsTrue result ↔ (constraints one.now ≡ constraints two.now) }
 {
@@ -106,7 +106,7 @@ fn some_row_passes(rows: &[Row], list: &GenSys) -> bool
     false
 }
 
-// Whether the product of one of the constraints with one of the generators does.
+/// Whether the product of one of the constraints with one of the generators does.
 pub fn some_passes(given: &ConSys, list: &GenSys) -> bool
     requires { list.now.dims ≡ given.now.dims }
     ensures { result ≡ some_passes (generators list.now) (constraints given.now) }

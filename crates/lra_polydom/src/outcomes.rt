@@ -7,7 +7,7 @@ ghost use Rattle.lra_polydom.specs.Growth.{exactness_of};
 use lra_domain::{Exactness, Included};
 use lra_poly::{Inclusion, Outcome, Poly};
 
-// Exact where nothing was lost.
+/// Exact where nothing was lost.
 pub fn exactness_of(outcome: &Outcome) -> Exactness
     ensures { result ≡ exactness_of outcome.now }
 {
@@ -17,7 +17,7 @@ pub fn exactness_of(outcome: &Outcome) -> Exactness
     }
 }
 
-// Whether the first lies in the second.
+/// Whether the first lies in the second.
 #[tactic(auto, using(crate::proofs::InsideLemmas::outside))]
 pub fn included(p: &Poly, q: &Poly) -> Included
     requires { q.now.dims ≡ p.now.dims }

@@ -14,7 +14,7 @@ use lra_sys::ConSys;
 use lra_widen::{WidenError, limited, standard};
 use std::alloc::{AllocError, Global};
 
-// The join with next.
+/// The join with next.
 pub fn join_values(p: &Poly, next: &Poly) -> Result<(Poly, Exactness), AllocError>
     requires { next.now.dims ≡ p.now.dims }
     ensures { IfOk result (λ r. IsJoined p.now next.now r.0 r.1) }
@@ -72,7 +72,7 @@ fn widen_limited(
     }
 }
 
-// The widening of this mode by a polyhedron that the first lies in.
+/// The widening of this mode by a polyhedron that the first lies in.
 pub fn widen_value(
     alloc: Global,
     p: &Poly,

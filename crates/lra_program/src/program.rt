@@ -3,7 +3,7 @@
 //! ends of blocks from 1.
 
 ghost use Rattle.std.specs.Prelude.{◌≡◌, ◌∷◌, [], map, IfOk};
-ghost use Rattle.lra_program.specs.ProgramViews.{slot_view, expr_view, operation_view, cond_view};
+ghost use Rattle.lra_program.specs.ProgramViews.{expr_view, operation_view, cond_view};
 
 use lra_base::{Comparison, Operator};
 use std::alloc::{AllocError, Global};

@@ -19,7 +19,8 @@ use Rattle.lra_tree.specs.Views.{step_view}
 use Rattle.lra_tree.specs.Grammar.{IsExpr, IsRvalue, update_mark, step_mark, IsAssign, IsType, IsDeclarator, IsDeclaration}
 use Rattle.lra_readers.specs.Tests.{is_mark}
 use Rattle.lra_readers.specs.Reading.{Text, Read, Parse, ◌>>=◌, seq, expect, take_by, has, one_of}
-use Rattle.lra_readers.specs.Statements.{skip, update_operators, update_operator, step_marks, next_step, assign_rest, assign_at, type_words, declared_value, declarator_at, declaration_of, declaration_at}
+use Rattle.lra_readers.specs.Statements.{skip, update_operators, update_operator, step_marks, next_step, assign_rest, assign_at, type_words, declared_value, declarator_at, declaration_of}
+use Rattle.lra_readers.specs.Statements.{declaration_at}
 use Rattle.lra_readers.proofs.Marks.{is_mark_some}
 use Rattle.lra_readers.proofs.Exact.{Exact, Any, Free, Both, first_or, then}
 use Rattle.lra_readers.proofs.Forms.{widen, retell, entry, mapped, branch, same_where, exact_done, exact_take}

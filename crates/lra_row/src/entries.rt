@@ -22,7 +22,7 @@ use std::cmp::Ordering;
 /// The entries of a row: those of at most 8 columns stay inline.
 pub type Entries = SmallVec<i128, 8>;
 
-// The sum of `start` and the product of two rows.
+/// The sum of `start` and the product of two rows.
 pub fn product_from(start: i128, xs: &[i128], ys: &[i128]) -> Result<i128, Excess>
     requires { length xs.now ≡ length ys.now }
     ensures { result ≡ checked_product_from start xs.now ys.now }
@@ -34,7 +34,7 @@ pub fn product_from(start: i128, xs: &[i128], ys: &[i128]) -> Result<i128, Exces
     Ok(sum)
 }
 
-// The product of a row with the vector of a divisor and numerators.
+/// The product of a row with the vector of a divisor and numerators.
 pub fn product_at(xs: &[i128], divisor: i128, numerators: &[i128]) -> Result<i128, Excess>
     requires { length xs.now ≡ length numerators.now + 1 }
     ensures { result ≡ checked_product xs.now (divisor ∷ numerators.now) }
@@ -52,7 +52,7 @@ fn blend_entry(a: i128, b: i128, u: i128, v: i128) -> Result<i128, Excess>
     sum_of(left, right)
 }
 
-// a u + b v of two rows.
+/// a u + b v of two rows.
 pub fn blend(alloc: Global, a: i128, b: i128, us: &[i128], vs: &[i128]) -> Result<Entries, RowError>
     requires { length us.now ≡ length vs.now }
     ensures ok { IfOk result (λ r. checked_blend a b us.now vs.now ≡ Ok r.items) }
@@ -65,7 +65,7 @@ pub fn blend(alloc: Global, a: i128, b: i128, us: &[i128], vs: &[i128]) -> Resul
     Ok(entries)
 }
 
-// The row times -1.
+/// The row times -1.
 pub fn negate_entries(alloc: Global, xs: &[i128]) -> Result<Entries, AllocError>
     requires { All InRange xs.now }
     ensures { IfOk result (λ r. r.items ≡ negated xs.now) }
@@ -77,7 +77,7 @@ pub fn negate_entries(alloc: Global, xs: &[i128]) -> Result<Entries, AllocError>
     Ok(entries)
 }
 
-// The greatest number that divides each entry, 0 where all are 0.
+/// The greatest number that divides each entry, 0 where all are 0.
 pub fn divisor_of(xs: &[i128]) -> i128
     requires { All InRange xs.now }
     ensures divisor { IsRowGcd xs.now (unsigned_abs result) }
@@ -90,7 +90,7 @@ pub fn divisor_of(xs: &[i128]) -> i128
     divisor
 }
 
-// Divides each entry, all of which the positive divisor divides.
+/// Divides each entry, all of which the positive divisor divides.
 pub fn divide(xs: &mut [i128], divisor: i128)
     requires { pos 0 <ℤ divisor }
     ensures { xs.new ≡ map (λ x. int_div x divisor) xs.old }
@@ -100,7 +100,7 @@ pub fn divide(xs: &mut [i128], divisor: i128)
     }
 }
 
-// The first column other than 0 in the order 1, 2, 3 and on; 0 where there is none.
+/// The first column other than 0 in the order 1, 2, 3 and on; 0 where there is none.
 pub fn pivot_of(xs: &[i128]) -> usize
     ensures pivot { result ≡ pivot xs.now }
     ensures inside { 0 < length xs.now → result < length xs.now }
@@ -125,7 +125,7 @@ fn constant_last_entry(xs: &[i128], place: usize) -> i128
     }
 }
 
-// Compares two rows by columns 1, 2, 3 and on, and by column 0 last.
+/// Compares two rows by columns 1, 2, 3 and on, and by column 0 last.
 pub fn compare(xs: &[i128], ys: &[i128]) -> Ordering
     ensures { result ≡ row_cmp xs.now ys.now }
 {

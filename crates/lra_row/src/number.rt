@@ -96,7 +96,7 @@ pub fn ratio_cmp(n1: i128, d1: i128, n2: i128, d2: i128) -> Ordering
     ratio_cmp(d2, s, d1, r)
 }
 
-// The product, or the excess that names it.
+/// The product, or the excess that names it.
 pub fn product_of(left: i128, right: i128) -> Result<i128, Excess>
     ensures { MatchResult result
         (λ x. InRange (left *ℤ right) × (x ≡ left *ℤ right))
@@ -109,7 +109,7 @@ pub fn product_of(left: i128, right: i128) -> Result<i128, Excess>
     })
 }
 
-// The sum, or the excess that names it.
+/// The sum, or the excess that names it.
 pub fn sum_of(left: i128, right: i128) -> Result<i128, Excess>
     ensures { MatchResult result
         (λ x. InRange (left +ℤ right) × (x ≡ left +ℤ right))

@@ -6,7 +6,7 @@ use Rattle.std.specs.Int.{w128}
 use Rattle.std.specs.List.{All, list_all}
 use Rattle.std.specs.Char.{is_ascii_digit, is_ascii_uppercase, is_ascii_alphanumeric}
 use Rattle.std.specs.Str.{IsUtf8}
-use Rattle.std.specs.Str.Parse.{IsNumeral, AllDigits, ParsesSigned, digits_value, signed_digits_value, without_leading_sign, starts_with_minus}
+use Rattle.std.specs.Str.Parse.{IsNumeral, AllDigits, ParsesSigned, signed_digits_value, without_leading_sign}
 use Rattle.std.proofs.lemmas.Bool.Decides.{nat_tests}
 use Rattle.std.proofs.lemmas.List.Elements.{All-cons}
 use Rattle.std.proofs.lemmas.List.Sums.{AllPass-from_list_all}

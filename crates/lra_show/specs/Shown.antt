@@ -1,5 +1,5 @@
 -- Rows of constraints and of generators, as a report shows them.
-use Rattle.std.specs.Prelude.{ℕ, zero, suc, ℤ, pos, negsuc, nat_abs, Bool, true, false, List, [], ◌∷◌}
+use Rattle.std.specs.Prelude.{ℕ, ℤ, pos, nat_abs, Bool, true, false, List, [], ◌∷◌}
 use Rattle.lra_linear.specs.declared.ConKind.{ConKind}
 use Rattle.lra_linear.specs.declared.GenKind.{GenKind}
 use Rattle.lra_program.specs.Rows.{Row}

@@ -1,6 +1,5 @@
 -- What parts of a source add to its labels, one behind the other.
-use Rattle.std.proofs.Common.{◌≡◌, ℕ, suc, ◌+◌, ◌<◌, List, [], ◌∷◌, ◌++◌, length, map, take, get_or, refl, sym, ap, ◌∙◌, append_assoc, append-nil, subst, arith, Option, rules, Result, Ok, Err}
-use Rattle.std.specs.Result.{OnOk}
+use Rattle.std.proofs.Common.{◌≡◌, ℕ, suc, ◌+◌, ◌<◌, List, [], ◌∷◌, ◌++◌, length, map, take, get_or, refl, sym, ap, ◌∙◌, append_assoc, append-nil, subst, arith, Option, rules}
 use Rattle.std.proofs.lemmas.List.{map-append, map_more, take-append-le}
 use Rattle.std.proofs.Math.Seq.{take-length}
 use Rattle.lra_base.specs.declared.refusals.Place.{Place}
@@ -9,8 +8,8 @@ use Rattle.lra_tree.specs.declared.trees.BlockItem as code_item
 use Rattle.lra_tree.specs.declared.trees.Declaration.{Declaration}
 use Rattle.lra_tree.specs.declared.trees.Stmt.{Stmt}
 use Rattle.lra_tree.specs.Views.{item_view, declaration_view, stmt_view}
-use Rattle.lra_tree.specs.Trees.{AssignTree, DeclaratorTree, InitTree, no_init, declared, assigned, StmtTree, ItemsTree, no_items, declaration, statement, FunctionTree}
-use Rattle.lra_tree.specs.Labels.{Labelled, plain_label, with_names, called_of, declarator_labels, init_labels, step_labels, stmt_labels, items_labels, live_in_for, function_labels}
+use Rattle.lra_tree.specs.Trees.{AssignTree, DeclaratorTree, InitTree, no_init, declared, assigned, ItemsTree, no_items, declaration, statement, FunctionTree}
+use Rattle.lra_tree.specs.Labels.{Labelled, plain_label, with_names, called_of, declarator_labels, init_labels, step_labels, stmt_labels, items_labels, live_in_for}
 use Rattle.lra_meaning.specs.LabelTable.{with_live}
 use Rattle.lra_simple.specs.Labelling.{LabelsSoFar, Adds, Declares, Extends, Follows, Fills, for_front}
 

@@ -1,5 +1,5 @@
 -- How many labels the parts of statements have; how scopes are left; lists of items.
-use Rattle.std.proofs.Common.{◌≡◌, ℕ, suc, ◌+◌, List, [], ◌∷◌, ◌++◌, length, map, refl, sym, ap, ◌∙◌, append_assoc, append-nil, length-append, arith, Option, Some, None, option_map, rules, Vec, Box}
+use Rattle.std.proofs.Common.{◌≡◌, ℕ, suc, ◌+◌, List, [], ◌∷◌, ◌++◌, length, map, refl, sym, ap, ◌∙◌, append_assoc, append-nil, length-append, arith, Option, option_map, rules, Vec, Box}
 use Rattle.std.proofs.Common.{Global, Result, Ok, Err}
 use Rattle.std.specs.Result.{IfOk, OnOk}
 use Rattle.lra_base.specs.declared.error.SourceError.{SourceError}
@@ -7,7 +7,7 @@ use Rattle.std.proofs.lemmas.List.{length-map, map-append, take-append-le}
 use Rattle.std.proofs.Math.Seq.{take-length}
 use Rattle.std.proofs.Math.Nat.{le-max_left, le-max_right}
 use Rattle.lra_base.specs.declared.refusals.Place.{Place}
-use Rattle.lra_tree.specs.Trees.{CondTree, AssignTree, DeclaratorTree, DeclarationTree, InitTree, no_init, declared, assigned, StmtTree, block, if_only, while, if_else, for, ItemsTree, no_items}
+use Rattle.lra_tree.specs.Trees.{CondTree, AssignTree, DeclaratorTree, DeclarationTree, InitTree, no_init, declared, assigned, StmtTree, block, if_only, while, if_else, for, ItemsTree}
 use Rattle.lra_tree.specs.Trees.{declaration, statement, FunctionTree, nothing, assign, call, break, continue, return, assert, assume}
 use Rattle.lra_program.specs.declared.program.BlockItem.{BlockItem, the_lemmas}
 use Rattle.lra_program.specs.declared.program.BlockItem as program_item
@@ -29,7 +29,7 @@ use Rattle.lra_tree.specs.Views.{items_of, item_view, block_view, init_view, dec
 use Rattle.lra_program.specs.Program as program
 use Rattle.lra_program.specs.ProgramViews as view
 use Rattle.lra_meaning.specs.Scope.{Scope, with_local, with_declarators, inner, for_scope}
-use Rattle.lra_tree.specs.Labels.{with_names, declarator_labels, init_labels, step_labels, stmt_labels, items_labels, live_in_for}
+use Rattle.lra_tree.specs.Labels.{init_labels, step_labels, stmt_labels, live_in_for}
 use Rattle.lra_meaning.specs.Resolve.{resolve_stmt, resolve_items, stmt_count, items_count, init_count, step_count}
 use Rattle.lra_meaning.proofs.LabelCounts.{count_stmt, count_declarators, count_items, count_step}
 use Rattle.lra_scopes.specs.Scopes.{with_more, Extends, left_to}

@@ -5,11 +5,10 @@ use Rattle.std.specs.List.{AllByRecursion, Contains}
 use Rattle.std.proofs.lemmas.Option.{none-some, same_Some}
 use Rattle.lra_tree.specs.Trees.{FileTree}
 use Rattle.lra_tree.specs.Grammar.{Spells}
-use Rattle.lra_program.specs.Program.{Program}
 use Rattle.lra_program.specs.Run.{At, Fails}
 use Rattle.lra_meaning.specs.Resolve.{resolve}
 use Rattle.lra_program.specs.Sites.{Site, sites_of}
-use Rattle.lra_operations.specs.Agree.{IsGraph, point_of, Agrees}
+use Rattle.lra_operations.specs.Agree.{point_of, Agrees}
 use Rattle.lra_tree.specs.Labels.{Labelled, labels_of}
 use Rattle.lra_base.specs.declared.options.Domain.{Domain}
 use Rattle.lra_base.specs.declared.options.Options.{Options}
@@ -22,12 +21,7 @@ use Rattle.lra_meaning.specs.LiveNames.{globals_named}
 use Rattle.lra_flow.specs.Operations.{dropping}
 use Rattle.lra_domain.specs.Meaning.{Meaning}
 use Rattle.lra_domain.specs.Laws.{Laws}
-use Rattle.lra_operations.specs.Graph.{Node}
-use Rattle.lra_flow.specs.Pass.{Result}
-use Rattle.lra_flow.specs.Analysis.{Derivation, Solves}
-use Rattle.lra_flow.proofs.Unflagged.{unflagged_is_written, flagged_strains}
 use Rattle.lra_flow.proofs.Caps.{solved_capped}
-use Rattle.lra_states.specs.Shown.{AreShown}
 use Rattle.lra_listing.specs.Given.{told, told_of}
 use Rattle.lra_source.specs.Analysed.{IsAnalysed}
 use Rattle.lra_iter.specs.Numbers.{IsBelow}

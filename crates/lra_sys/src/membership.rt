@@ -2,7 +2,6 @@
 
 ghost use Rattle.std.specs.Prelude.{◌≡◌, ◌↔◌, IsTrue, suc, pos, ◌<ℤ◌, ◌∷◌, length};
 ghost use Rattle.std.specs.List.{All};
-ghost use Rattle.lra_linear.specs.Descriptions.{HoldsWith};
 ghost use Rattle.lra_sys.specs.Listed.{given_by, constraints};
 ghost use Rattle.lra_linear.specs.Kinds.{is_equality};
 ghost use Rattle.lra_sys.specs.Membership.{IsAnswer, TellsMembership};

@@ -9,7 +9,7 @@ use std::test::Fail;
 
 const MAX: i128 = i128::MAX;
 
-// The row with these numbers, where they are of the range.
+/// The row with these numbers, where they are of the range.
 pub fn row_of(alloc: Global, numbers: &[i128]) -> Result<Row, Fail> {
     let mut entries = Vec::with_capacity(alloc, numbers.len())?;
     for &number in numbers {

@@ -25,7 +25,7 @@ use lra_row::Row;
 use lra_sys::{ConSys, TOO_MANY_DIMENSIONS};
 use std::alloc::{AllocError, Global};
 
-// No constraint in n dimensions.
+/// No constraint in n dimensions.
 pub fn no_rows(alloc: Global, n: usize) -> Result<ConSys, AllocError>
     ensures dims { IfOk result (λ list. list.dims ≡ n) }
     ensures none { IfOk result (λ list. constraints list ≡ []) }
@@ -36,7 +36,7 @@ pub fn no_rows(alloc: Global, n: usize) -> Result<ConSys, AllocError>
     Ok(ConSys::new(alloc, n))
 }
 
-// All points of n dimensions.
+/// All points of n dimensions.
 pub fn universe(alloc: Global, n: usize) -> Result<Poly, AllocError>
     ensures { IfOk result (IsPolyhedronOf n (Con [])) }
 {
@@ -84,7 +84,7 @@ fn is_tight(alloc: Global, p: &Poly, row: &Row, classes: &[BitRow]) -> Result<bo
     Ok(stays)
 }
 
-// The constraints of the second that are tight on the first.
+/// The constraints of the second that are tight on the first.
 pub fn tight_rows(alloc: Global, p: &Poly, q: &Poly) -> Result<ConSys, AllocError>
     requires { q.now.dims ≡ p.now.dims }
     ensures dims { IfOk result (λ list. list.dims ≡ p.now.dims) }
@@ -102,7 +102,7 @@ pub fn tight_rows(alloc: Global, p: &Poly, q: &Poly) -> Result<ConSys, AllocErro
     Ok(tight)
 }
 
-// Puts the given constraints that hold in the range on both behind the others.
+/// Puts the given constraints that hold in the range on both behind the others.
 pub fn add_held(list: &mut ConSys, p: &Poly, q: &Poly, given: &ConSys) -> Result<(), AllocError>
     requires second { q.now.dims ≡ p.now.dims }
     requires given { given.now.dims ≡ p.now.dims }
@@ -133,7 +133,7 @@ pub fn held_on_both(alloc: Global, p: &Poly, q: &Poly, given: &ConSys) -> Result
     Ok(list)
 }
 
-// The given constraints that hold in the range.
+/// The given constraints that hold in the range.
 pub fn held_rows(alloc: Global, p: &Poly, given: &ConSys) -> Result<ConSys, AllocError>
     requires { given.now.dims ≡ p.now.dims }
     ensures dims { IfOk result (λ list. list.dims ≡ p.now.dims) }
@@ -162,7 +162,7 @@ fn product_loss(alloc: Global, row: &Row, kind: ConKind, excess: Excess) -> Resu
     Ok(loss)
 }
 
-// The loss of the first given constraint that isn't known to fail and a product of which passes the range.
+/// The loss of the first given constraint that isn't known to fail and a product of which passes the range.
 pub fn given_loss(alloc: Global, p: &Poly, q: &Poly, given: &ConSys) -> Result<Outcome, AllocError>
     requires second { q.now.dims ≡ p.now.dims }
     requires given { given.now.dims ≡ p.now.dims }
@@ -184,7 +184,7 @@ pub fn given_loss(alloc: Global, p: &Poly, q: &Poly, given: &ConSys) -> Result<O
     Ok(Outcome::Exact)
 }
 
-// The loss of the constraint of the second, at the place, whose product with the generator of the first passes.
+/// The loss of the constraint of the second, at the place, whose product with the generator of the first passes.
 pub fn inclusion_loss(
     alloc: Global,
     p: &Poly,

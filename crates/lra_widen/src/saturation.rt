@@ -12,7 +12,7 @@ use lra_poly::mark_saturated;
 use lra_sys::{ConSys, GenSys};
 use std::alloc::{AllocError, Global};
 
-// Which of the generators each of the constraints saturates.
+/// Which of the generators each of the constraints saturates.
 pub fn all_saturated(
     alloc: Global,
     given: &ConSys,
@@ -38,7 +38,7 @@ fn are_same(bits: &BitRow, other: &BitRow) -> bool
     bits.subset(other) && other.subset(bits)
 }
 
-// Whether the list is one of these, of its width.
+/// Whether the list is one of these, of its width.
 pub fn is_among(bits: &BitRow, classes: &[BitRow]) -> bool
     requires { All (λ class. length bits.now ≡ length class) classes.now }
     ensures { result ≡ list_any (same_values bits.now) classes.now }
@@ -51,7 +51,7 @@ pub fn is_among(bits: &BitRow, classes: &[BitRow]) -> bool
     false
 }
 
-// Whether all values are true, or the list is one of these.
+/// Whether all values are true, or the list is one of these.
 pub fn is_full_or_among(bits: &BitRow, classes: &[BitRow]) -> bool
     requires { All (λ class. length bits.now ≡ length class) classes.now }
     ensures { result ≡ (are_true bits.now || list_any (same_values bits.now) classes.now) }

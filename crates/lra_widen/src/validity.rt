@@ -12,7 +12,7 @@ use lra_poly::{Poly, accepts};
 use lra_row::Row;
 use lra_sys::GenSys;
 
-// Whether a row holds with each of the generators.
+/// Whether a row holds with each of the generators.
 #[derive(Clone, Copy, Debug, PartialEq, Eq)]
 pub enum Validity {
     Holds,
@@ -21,7 +21,7 @@ pub enum Validity {
 }
 
 impl Validity {
-    // The product that passes the range, if one does.
+    /// The product that passes the range, if one does.
     pub fn excess(self) -> Option<Excess>
         ensures { MatchOption result ((self ≡ Validity.Holds) ⊎ (self ≡ Validity.Fails)) (λ e. self ≡ Validity.Wide e) }
     {
@@ -33,7 +33,7 @@ impl Validity {
     }
 }
 
-// Whether the constraint holds with each of the generators.
+/// Whether the constraint holds with each of the generators.
 pub fn validity_of(row: &Row, kind: ConKind, list: &GenSys) -> Validity
     requires { length row.now ≡ suc list.now.dims }
     ensures { IsValidity (generators list.now) (record { row = row.now; equal = is_equality kind }) result }
@@ -52,7 +52,7 @@ pub fn validity_of(row: &Row, kind: ConKind, list: &GenSys) -> Validity
     Validity::Holds
 }
 
-// Whether it holds with each generator of the first, then of the second.
+/// Whether it holds with each generator of the first, then of the second.
 pub fn validity_on_both(row: &Row, kind: ConKind, p: &Poly, q: &Poly) -> Validity
     requires first { length row.now ≡ suc p.now.dims }
     requires second { length row.now ≡ suc q.now.dims }
@@ -66,7 +66,7 @@ pub fn validity_on_both(row: &Row, kind: ConKind, p: &Poly, q: &Poly) -> Validit
     }
 }
 
-// Whether it holds with each of the generators, and each product stays in the range.
+/// Whether it holds with each of the generators, and each product stays in the range.
 pub fn holds_in_range(row: &Row, kind: ConKind, p: &Poly) -> bool
     requires { length row.now ≡ suc p.now.dims }
     ensures { result ≡ holds_in_range p.now (record { row = row.now; equal = is_equality kind }) }
@@ -78,7 +78,7 @@ pub fn holds_in_range(row: &Row, kind: ConKind, p: &Poly) -> bool
     }
 }
 
-// Whether it does with those of the first and of the second.
+/// Whether it does with those of the first and of the second.
 pub fn holds_on_both(row: &Row, kind: ConKind, p: &Poly, q: &Poly) -> bool
     requires first { length row.now ≡ suc p.now.dims }
     requires second { length row.now ≡ suc q.now.dims }

@@ -44,7 +44,12 @@ fn widen_within(
 }
 
 // The widening of the first by the second, limited by the given constraints.
-fn widen_limited_by(alloc: Global, p: &Poly, q: &Poly, given: &ConSys) -> Result<(Poly, Outcome), WidenError>
+fn widen_limited_by(
+    alloc: Global,
+    p: &Poly,
+    q: &Poly,
+    given: &ConSys,
+) -> Result<(Poly, Outcome), WidenError>
     requires second { q.now.dims ≡ p.now.dims }
     requires given { given.now.dims ≡ p.now.dims }
     ensures widened { IfOk result (λ r. IsWidened p.now q.now (constraints given.now) r.0 r.1) }

@@ -1,5 +1,5 @@
 -- Words give one command or are refused, wherever in memory the names of the domains lie.
-use Rattle.std.proofs.Common.{◌≡◌, ◌∙◌, inl, inr, List, [], ◌∷◌, map, Option, Some, ap, refl, sym, subst, drop, codes}
+use Rattle.std.proofs.Common.{◌≡◌, ◌∙◌, List, [], ◌∷◌, map, Option, Some, ap, refl, sym, subst, drop, codes}
 use Rattle.std.specs.Prelude.{unwrap_or}
 use Rattle.std.specs.Borrow.{Bor}
 use Rattle.clap.specs.Faults.{built_fault}

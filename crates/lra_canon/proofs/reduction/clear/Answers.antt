@@ -17,4 +17,4 @@ returns-clause-ok c =
     let fb : FitsSigned w128 c.opposite-factor.result = search rules in
     let h = simp to_z-of_z at c.in_ok-next.ensures.made in
     inr (cleared_step c.args.line.now c.args.row c.in_ok-next.next c.lowest_terms.new.self c.pivot-column.result c.get-here.result c.get-leading.result c.opposite-factor.result
-    c.pivot-column.ensures.pivot c.get-here.ensures.entry c.get-leading.ensures.entry (simp to_z-of_z at c.opposite-factor.ensures) fx c.if-here-eq0.false h c.lowest_terms.ensures)
+    c.pivot-column.ensures.pivot c.get-here.ensures.entry c.get-leading.ensures.entry (simp to_z-of_z at c.opposite-factor.ensures.value) fx c.if-here-eq0.false h c.lowest_terms.ensures)
