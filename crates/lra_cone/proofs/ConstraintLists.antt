@@ -31,7 +31,7 @@ use Rattle.lra_linear.specs.declared.ConKind.TheVariants.{Ge, Eq}
 use Rattle.lra_linear.specs.declared.GenKind.{GenKind}
 use Rattle.lra_linear.specs.declared.GenKind.TheVariants.{Point, Ray, Line}
 use Rattle.lra_linear.specs.Strain.{Loss, Strains}
-use Rattle.lra_cone.specs.Cones.{Shape, IsCone, whole_space}
+use Rattle.lra_cone.specs.Cones.{Shape, IsCone}
 use Rattle.lra_cone.specs.Losses.{IfLost}
 use Rattle.lra_cone.specs.Conversions.{without, ShowsConstraints, HasConstraints, AreConstraintsOf, dual_kind, IsConversion, IsValid, ShowsValid}
 use Rattle.lra_cone.proofs.RayCase.{system_same}
@@ -260,24 +260,21 @@ nothing_constrained n given list losses f none er ek el =
     let same = same_constraints n (generators given) (constraints list) a in
     record { exact = λ _. same; within = same.1; strain = subst (IfLost (Strains (suc n) (generators given))) (sym el) tt; canonical = λ _. a }
 
-pub constrained : (n : ℕ) (given : Listed GenKind) (rows list : Listed ConKind) (start cone : Shape) (kept : List Given) (losses : List Loss) → length given.kinds ≡ length given.rows →
+pub constrained : (n : ℕ) (given : Listed GenKind) (rows list : Listed ConKind) (cone : Shape) (kept : List Given) (losses : List Loss) → length given.kinds ≡ length given.rows →
     FitKinds given.rows given.kinds → Contains given.kinds Point →
-    rows.rows ≡ given.rows → rows.kinds ≡ map dual_kind given.kinds → rows.dims ≡ n → start ≡ whole_space n → cone.dims ≡ start.dims → IsConversion start.taken (constraints rows) kept cone losses →
+    rows.rows ≡ given.rows → rows.kinds ≡ map dual_kind given.kinds → rows.dims ≡ n → cone.dims ≡ n → IsConversion [] (constraints rows) kept cone losses →
     IsCone cone →
     (losses ≡ [] → ShowsConstraints rows.dims cone.lines cone.rays list) → (losses ≢ [] → ShowsValid rows.dims (constraints rows) list) → Constrained n (generators given) (constraints list) losses
-constrained n given rows list start cone kept losses many f m er ek ed es dims c k shown valid =
+constrained n given rows list cone kept losses many f m er ek ed is_n c k shown valid =
     let all : constraints rows ≡ generators given = ap (λ (x : List (List ℤ)). given_by is_equality x rows.kinds) er ∙ ap (given_by is_equality given.rows) ek ∙ dual_given given.rows given.kinds in
-    let is_n : cone.dims ≡ n = dims ∙ ap (λ (s : Shape). s.dims) es in
-    let first : start.taken ≡ [] = ap (λ (s : Shape). s.taken) es in
     let canonical : losses ≡ [] → AreConstraintsOf n (generators given) (constraints list) = λ none.
-    let taken : cone.taken ≡ generators given = c.taken ∙ ap (λ (l : List Given). l ++ kept) first ∙ c.whole none ∙ all in
+    let taken : cone.taken ≡ generators given = c.taken ∙ c.whole none ∙ all in
     let h = constraints_shown cone n (generators given) list k is_n taken (subst (λ (i : ℕ). ShowsConstraints i cone.lines cone.rays list) ed (shown none)) in
     inr (some_point n given many f m h.dual.system_widths, h) in
     record {
       exact = λ none. same_constraints n (generators given) (constraints list) (canonical none);
       within = by_losses losses refl canonical valid all ed;
-      strain = subst (λ (l : List Given). IfLost (Strains (suc n) l) losses) all (subst (λ (l : List Given). IfLost (Strains (suc n) (l ++ constraints rows)) losses) first
-          (subst (λ (i : ℕ). IfLost (Strains (suc i) (start.taken ++ constraints rows)) losses) is_n c.strain));
+      strain = subst (λ (l : List Given). IfLost (Strains (suc n) l) losses) all (subst (λ (i : ℕ). IfLost (Strains (suc i) (constraints rows)) losses) is_n c.strain);
       canonical = canonical;
     }
   where

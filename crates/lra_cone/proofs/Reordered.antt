@@ -1,6 +1,7 @@
 -- Canonical descriptions whose rays stand in another order.
 use Rattle.std.proofs.Common.{◌≡◌, ◌≢◌, ℕ, suc, ◌+◌, ◌<◌, ◌≤◌, Bool, true, false, cond, List, [], ◌∷◌, ◌++◌, length, replicate, take, get_or, neg_ℤ, refl, ap, sym, ◌∙◌, subst, arith, pos, ℤ, ◌<ℤ◌}
 use Rattle.std.proofs.Common.{◌≤ℤ◌, int_lt, inl, inr, ◌⊎◌}
+use Rattle.std.specs.Prelude.{Result, Ok, Err, IfOk}
 use Rattle.std.specs.List.{Contains, All}
 use Rattle.std.specs.List.Sorted.{IsPermutation, IsSorted}
 use Rattle.std.specs.Ordering.{is_eq}
@@ -26,7 +27,7 @@ use Rattle.lra_linear.proofs.Membership.{NoRepeat, Split, at_most, contains_none
 use Rattle.lra_row.proofs.OrderLemmas.{row_cmp_ties}
 use Rattle.lra_linear.proofs.RowOrder.{row_cmp_total}
 use Rattle.lra_canon.proofs.Orders.{tied_itself}
-use Rattle.lra_cone.specs.Conversions.{points_of, directions_of, without, ListsGenerators, ShowsConstraints}
+use Rattle.lra_cone.specs.Conversions.{points_of, directions_of, without, ShowsGenerators, ShowsConstraints}
 use Rattle.lra_cone.proofs.PairLists.{less_said, not_less_said}
 use Rattle.lra_cone.proofs.RayCase.{other_place, beside_place, rows_same}
 
@@ -304,25 +305,25 @@ without_widths w row rays others h p = All-permutation (λ r. length r ≡ w) (w
     (All-from_contains (λ r. length r ≡ w) (without row rays) (λ r m. All-contains (λ r. length r ≡ w) rays r h (without_from row rays r m).0))
 
 -- ---- the list of generators, as it is put together
-pub put_together : (lines rays points directions : List (List ℤ)) (empty first second list : Listed GenKind) → IsPermutation (points_of rays) points →
-    IsPermutation (directions_of rays) directions → IsSorted row_cmp points → IsSorted row_cmp directions → points ≢ [] → empty.rows ≡ [] → empty.kinds ≡ [] →
-    first.rows ≡ empty.rows ++ points → first.kinds ≡ empty.kinds ++ replicate (length points) Point → second.rows ≡ first.rows ++ directions →
-    second.kinds ≡ first.kinds ++ replicate (length directions) Ray →
-    list.rows ≡ second.rows ++ lines → list.kinds ≡ second.kinds ++ replicate (length lines) Line → ListsGenerators lines rays list
-put_together lines rays points directions empty first second list p d sp sd some r0 k0 r1 k1 r2 k2 r3 k3 = record {
+pub put_together : {E : Type 0} (lines rays points directions listed_points listed_directions : List (List ℤ)) (result : Result (Listed GenKind) E) → IsPermutation (points_of rays) points →
+    IsPermutation (directions_of rays) directions → IsSorted row_cmp points → IsSorted row_cmp directions → points ≢ [] → listed_points ≡ points → listed_directions ≡ directions →
+    IfOk result (λ list. list.rows ≡ (listed_points ++ listed_directions) ++ lines) →
+    IfOk result (λ list. list.kinds ≡ (replicate (length listed_points) Point ++ replicate (length listed_directions) Ray) ++ replicate (length lines) Line) →
+    IfOk result (ShowsGenerators lines rays)
+put_together lines rays points directions listed_points listed_directions (Err e) p d sp sd some lp ld r k = tt
+put_together lines rays points directions listed_points listed_directions (Ok list) p d sp sd some lp ld r k = inr (record {
   points = points;
   directions = directions;
-  rows_are = r3 ∙ ap (λ (x : List (List ℤ)). x ++ lines) (r2 ∙ ap (λ (x : List (List ℤ)). x ++ directions) (r1 ∙ ap (λ (x : List (List ℤ)). x ++ points) r0));
-  kinds_are = k3 ∙ ap (λ (x : List GenKind). x ++ replicate (length lines) Line) (k2 ∙
-      ap (λ (x : List GenKind). x ++ replicate (length directions) Ray) (k1 ∙ ap (λ (x : List GenKind). x ++ replicate (length points) Point) k0));
+  rows_are = r ∙ ap (λ (x : List (List ℤ)). (x ++ listed_directions) ++ lines) lp ∙ ap (λ (x : List (List ℤ)). (points ++ x) ++ lines) ld;
+  kinds_are = k ∙ ap (λ (x : List (List ℤ)). (replicate (length x) Point ++ replicate (length listed_directions) Ray) ++ replicate (length lines) Line) lp ∙
+      ap (λ (x : List (List ℤ)). (replicate (length points) Point ++ replicate (length x) Ray) ++ replicate (length lines) Line) ld;
   points_are = p;
   directions_are = d;
   points_sorted = sp;
   directions_sorted = sd;
   some_point = some;
-}
+})
 
--- rows that in another order are none
 pub none_before : (xs ys : List (List ℤ)) → IsPermutation xs ys → length ys ≡ 0 → xs ≡ []
 none_before [] ys p e = refl
 none_before (x ∷ xs) [] p e = absurd (contains_none x (Contains-permutation (x ∷ xs) [] x p (contains_head x xs)))

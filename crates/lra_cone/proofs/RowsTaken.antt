@@ -148,8 +148,7 @@ taken_next equal first kept rows kinds i own eo n h r d new losses er c =
     subst (λ (l : List Given). IsConversion first l kept new losses) (given_pushed equal rows kinds i own eo n h before (before ++ g ∷ []) g r d er refl refl refl) c
 
 -- a constraint that is put behind the others
-pub constraints_pushed : (old new : Listed ConKind) (copied r : List ℤ) (k : ConKind) → length old.kinds ≡ length old.rows → copied ≡ r → new.rows ≡ old.rows ++ copied ∷ [] →
+pub constraints_pushed : (old new : Listed ConKind) (r : List ℤ) (k : ConKind) → length old.kinds ≡ length old.rows → new.rows ≡ old.rows ++ r ∷ [] →
     new.kinds ≡ old.kinds ++ k ∷ [] → constraints new ≡ constraints old ++ record { row = r; equal = is_equality k } ∷ []
-constraints_pushed old new copied r k n ec er ek =
-    ap (λ (x : List (List ℤ)). given_by is_equality x new.kinds) (er ∙ ap (λ (y : List ℤ). old.rows ++ y ∷ []) ec) ∙ ap (given_by is_equality (old.rows ++ r ∷ [])) ek ∙
-    constraints_push is_equality old.rows old.kinds r k (sym n)
+constraints_pushed old new r k n er ek =
+    ap (λ (x : List (List ℤ)). given_by is_equality x new.kinds) er ∙ ap (given_by is_equality (old.rows ++ r ∷ [])) ek ∙ constraints_push is_equality old.rows old.kinds r k (sym n)

@@ -12,6 +12,7 @@ ghost use Rattle.lra_sys.specs.Dimensions.{too_many_dimensions};
 ghost use Rattle.lra_sys.specs.Listed.{constraints};
 ghost use Rattle.lra_linear.specs.Kinds.{is_equality};
 ghost use Rattle.lra_cone.specs.Cones.{Shape, IsCone, IsTakenIn, saturation_of, whole_space};
+ghost use Rattle.lra_cone.specs.Pairs.{IsCut};
 ghost use Rattle.lra_cone.specs.Steps.{IsLastAcross};
 ghost use Rattle.lra_cone.specs.Strains.{IsConeError};
 ghost use Rattle.lra_cone.specs.Flat.{AreFlat, IsFlatError};
@@ -247,6 +248,19 @@ impl Cone {
     {
         let alloc = *self.lines.allocator();
         let made = cut_rays(alloc, &self.rays, &self.saturation, products, kind)?;
+        self.exchange_rays(row, kind, made)?;
+        Ok(())
+    }
+
+    // Takes a row in by what it makes of the rays, where its product with each line is 0.
+    fn exchange_rays(&mut self, row: &Row, kind: ConKind, made: Cut) -> Result<(), AllocError>
+        requires width { length row.now ≡ suc self.old.dims }
+        requires flat { All (λ l. product row.now l ≡ pos 0) self.old.lines }
+        requires cut { IsCut (is_equality kind) (map (product row.now) self.old.rays) self.old.rays
+            (saturation_of self.old.taken self.old.rays) made }
+        ensures ok { OnOk result (IsTakenIn self.old (record { row = row.now; equal = is_equality kind }) self.new) }
+        ensures unchanged { OnErr result (self.new ≡ self.old) }
+    {
         let Cut {
             gone,
             rays: mut new_rays,

@@ -38,7 +38,7 @@ impl Conversion {
         match self.cone.add_row(row, kind) {
             Ok(()) => {
                 let _kinds = self.kept.kinds();
-                self.kept.push(row.copy()?, kind)?;
+                self.kept.push_copy(row, kind)?;
                 Ok(())
             }
             Err(ConeError::Memory) => Err(AllocError),

@@ -15,7 +15,7 @@ ghost use Rattle.lra_linear.specs.declared.ConKind.TheVariants.{Ge};
 ghost use Rattle.lra_linear.specs.declared.GenKind.TheVariants.{Point};
 ghost use Rattle.lra_cone.specs.Cones.{IsCone};
 ghost use Rattle.lra_cone.specs.Conversions.{AreGeneratorsOf, AreConstraintsOf, dual_kind};
-ghost use Rattle.lra_cone.specs.Conversions.{IsValid, ShowsValid, ShowsConstraints};
+ghost use Rattle.lra_cone.specs.Conversions.{IsConversion, IsValid, ShowsValid, ShowsConstraints};
 ghost use Rattle.lra_cone.specs.Losses.{IfLost};
 
 use crate::cone::{Cone, unit};
@@ -196,6 +196,21 @@ pub fn valid_list(
     constraint_list(alloc, &valid_lines, &valid_rays, &positivity, n)
 }
 
+// The generators as rows, and the cone of what is valid on those that were taken in.
+fn take_generators(alloc: Global, given: &GenSys) -> Result<(ConSys, Conversion), AllocError>
+    requires { given.now.dims < too_many_dimensions }
+    ensures dims { IfOk result (λ r. (r.0.dims ≡ given.now.dims) × (r.1.cone.dims ≡ given.now.dims)) }
+    ensures rows { IfOk result (λ r. r.0.rows ≡ given.now.rows) }
+    ensures kinds { IfOk result (λ r. r.0.kinds ≡ map dual_kind given.now.kinds) }
+    ensures taken { IfOk result (λ r.
+        IsConversion [] (constraints r.0) (constraints r.1.kept) r.1.cone r.1.losses.items) }
+{
+    let rows = dual_rows(alloc, given)?;
+    let whole = Cone::whole(alloc, given.dims())?;
+    let conversion = take_rows(alloc, whole, &rows)?;
+    Ok((rows, conversion))
+}
+
 /// The constraints of the generators, and the generators that were not taken in. With such a one a number passes the
 /// range, or there are too many constraints; it counts none the less: of the constraints found without it those stay
 /// that are valid on it. Without a loss the constraints are in canonical order and have the same points, else at least
@@ -217,8 +232,7 @@ pub fn constrain(alloc: Global, given: &GenSys) -> Result<(ConSys, Vec<Loss>), A
     if !has_point(given.kinds()) {
         return Ok((nothing(alloc, n)?, Vec::new(alloc)));
     }
-    let rows = dual_rows(alloc, given)?;
-    let conversion = take_rows(alloc, Cone::whole(alloc, n)?, &rows)?;
+    let (rows, conversion) = take_generators(alloc, given)?;
     let list = valid_list(alloc, &conversion, &rows)?;
     let Conversion {
         cone: _,

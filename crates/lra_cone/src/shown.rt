@@ -9,6 +9,7 @@ ghost use Rattle.lra_linear.specs.RowOrder.{row_cmp};
 ghost use Rattle.lra_linear.specs.Polyhedra.{positivity};
 ghost use Rattle.lra_cone.specs.Conversions.{points_of, directions_of, without, ShowsGenerators, ShowsConstraints};
 ghost use Rattle.lra_sys.specs.Dimensions.{too_many_dimensions};
+ghost use Rattle.lra_sys.specs.declared.system.GenKind.TheVariants.{Point, Ray, Line};
 
 use lra_canon::{Order, canonical_order};
 use lra_row::Row;
@@ -118,6 +119,30 @@ fn ordered_directions(alloc: Global, rays: &[Row]) -> Result<Vec<Row>, AllocErro
     Ok(directions)
 }
 
+// These points, then these rays, then these lines.
+fn listed_generators(
+    alloc: Global,
+    n: usize,
+    points: &[Row],
+    directions: &[Row],
+    lines: &[Row],
+) -> Result<GenSys, AllocError>
+    requires small { n < too_many_dimensions }
+    requires points { All (λ r. length r ≡ suc n) points.now }
+    requires directions { All (λ r. length r ≡ suc n) directions.now }
+    requires lines { All (λ r. length r ≡ suc n) lines.now }
+    ensures dims { IfOk result (λ list. list.dims ≡ n) }
+    ensures rows { IfOk result (λ list. list.rows ≡ (points.now ++ directions.now) ++ lines.now) }
+    ensures kinds { IfOk result (λ list. list.kinds ≡ (replicate (length points.now) Point
+        ++ replicate (length directions.now) Ray) ++ replicate (length lines.now) Line) }
+{
+    let mut list = GenSys::new(alloc, n);
+    push_generators(&mut list, points, GenKind::Point)?;
+    push_generators(&mut list, directions, GenKind::Ray)?;
+    push_generators(&mut list, lines, GenKind::Line)?;
+    Ok(list)
+}
+
 /// The points, rays and lines, each in order, of a cone of n + 1 columns with these lines and rays; none where no ray
 /// is above 0 in column 0.
 pub fn generator_list(
@@ -137,11 +162,7 @@ pub fn generator_list(
         return Ok(GenSys::new(alloc, n));
     }
     let directions = ordered_directions(alloc, rays)?;
-    let mut list = GenSys::new(alloc, n);
-    push_generators(&mut list, &points, GenKind::Point)?;
-    push_generators(&mut list, &directions, GenKind::Ray)?;
-    push_generators(&mut list, lines, GenKind::Line)?;
-    Ok(list)
+    listed_generators(alloc, n, &points, &directions, lines)
 }
 
 /// The lines as equalities, then the rays but this one, in order, as inequalities.

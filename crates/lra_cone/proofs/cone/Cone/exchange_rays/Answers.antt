@@ -1,0 +1,98 @@
+-- Goals of `Cone::exchange_rays`: takes a row in by what it makes of the rays.
+use Rattle.std.proofs.Common.{arith, refl, sym, ◌∙◌, ap, length, subst, ◌≡◌, ◌++◌, ◌∷◌, List, ℤ, [], pos, map, suc, Bool, cond}
+use Rattle.std.specs.Prelude.{IsOk}
+use Rattle.std.specs.List.{All, Contains}
+use Rattle.std.proofs.lemmas.Grind.{common_steps}
+use Rattle.std.proofs.lemmas.List.{length-map}
+use Rattle.std.proofs.lemmas.List.Elements.{All-contains}
+use Rattle.lra_bits.specs.Matrix.{Matrix, unmarked}
+use Rattle.lra_linear.specs.Vectors.{product}
+use Rattle.lra_linear.specs.Cones.{all_rows}
+use Rattle.lra_linear.specs.ConeStrain.{IsMet}
+use Rattle.lra_linear.specs.Descriptions.{Given}
+use Rattle.lra_sys.specs.Listed.{constraints, given_by}
+use Rattle.lra_linear.specs.Kinds.{is_equality}
+use Rattle.lra_linear.specs.declared.ConKind.{ConKind}
+use Rattle.lra_cone.specs.Cones.{Shape, IsCone, IsTakenIn, saturation_of}
+use Rattle.lra_cone.specs.Pairs.{IsCut}
+use Rattle.lra_cone.proofs.Stepped.{cut_marks, cut_few, cut_taken, cut_matrix, ray_met, ray_canonical, constraints_push, cone_again, cone_of}
+use Rattle.lra_cone.proofs.cone.Cone.exchange_rays.Goals as goal
+
+pub remove_marked-requires : goal.remove_marked-requires
+remove_marked-requires c =
+    let i = c.self.inside in
+    let s : Shape = record { dims = i.taken.dims; taken = constraints i.taken; lines = i.lines.items; rays = i.rays.items } in
+    let k : IsCone s = c.self.invariant.0 in
+    let row = c.args.row.now in
+    let g : Given = record { row = row; equal = is_equality c.args.kind } in
+    let products = map (product row) s.rays in
+    let er : products ≡ map (product row) s.rays = refl in
+    let cut = c.args.made in
+    let x : IsCut g.equal products s.rays i.saturation cut = subst (λ (m : Matrix). IsCut g.equal products s.rays m cut) (sym c.self.invariant.1)
+    (subst (λ (z : Shape). IsCut g.equal (map (product row) z.rays) z.rays (saturation_of z.taken z.rays) cut) (sym c.self.view_is) c.requires.cut) in
+    let okay : IsOk c.append.result = c.append.ensures.succeeds (omega (arith, c.in_ok-reserve.ensures.ok, c.len.ensures)) in
+    let added : c.append.new.self.items ≡ s.rays ++ cut.rays.items = c.append.ensures.items ∙ ap (λ (b : Bool). cond b (c.reserve.new.self.items ++ cut.rays.items) c.reserve.new.self.items) okay ∙
+    ap (λ (y : List (List ℤ)). y ++ cut.rays.items) c.in_ok-reserve.ensures.items in
+    cut_marks (is_equality c.args.kind) products s.rays i.saturation cut c.append.new.self.items (ap length er ∙ length-map s.rays (product row)) x added
+
+pub invariant_of-self-2 : goal.invariant_of-self-2
+invariant_of-self-2 c =
+    let i = c.self.inside in
+    let s : Shape = record { dims = i.taken.dims; taken = constraints i.taken; lines = i.lines.items; rays = i.rays.items } in
+    let k : IsCone s = c.self.invariant.0 in
+    let row = c.args.row.now in
+    let g : Given = record { row = row; equal = is_equality c.args.kind } in
+    let products = map (product row) s.rays in
+    let er : products ≡ map (product row) s.rays = refl in
+    let cut = c.args.made in
+    let x : IsCut g.equal products s.rays i.saturation cut = subst (λ (m : Matrix). IsCut g.equal products s.rays m cut) (sym c.self.invariant.1)
+    (subst (λ (z : Shape). IsCut g.equal (map (product row) z.rays) z.rays (saturation_of z.taken z.rays) cut) (sym c.self.view_is) c.requires.cut) in
+    let okay : IsOk c.append.result = c.append.ensures.succeeds (omega (arith, c.in_ok-reserve.ensures.ok, c.len.ensures)) in
+    let added : c.append.new.self.items ≡ s.rays ++ cut.rays.items = c.append.ensures.items ∙ ap (λ (b : Bool). cond b (c.reserve.new.self.items ++ cut.rays.items) c.reserve.new.self.items) okay ∙
+    ap (λ (y : List (List ℤ)). y ++ cut.rays.items) c.in_ok-reserve.ensures.items in
+    let w : length row ≡ suc s.dims = c.requires.width ∙ ap (λ (z : Shape). suc z.dims) (sym c.self.view_is) in
+    let flat : (l : List ℤ) → Contains s.lines l → product row l ≡ pos 0 = λ l m. All-contains (λ y. product row y ≡ pos 0) s.lines l
+    (subst (λ (z : Shape). All (λ y. product row y ≡ pos 0) z.lines) (sym c.self.view_is) c.requires.flat) m in
+    let fresh = unmarked cut.gone (s.rays ++ cut.rays.items) in
+    let new : c.remove_marked.new.rows.items ≡ fresh = c.remove_marked.ensures ∙ ap (unmarked cut.gone) added in
+    let case = cut_taken s g products i.saturation cut k er c.self.invariant.1 x in
+    let met = ray_met s g fresh k w flat case in
+    let kinds = c.in_ok-push_copy.ensures.kinds in
+    let rows = c.in_ok-push_copy.ensures.rows in
+    let taken = ap (λ (y : List (List ℤ)). given_by is_equality y c.push_copy.new.self.kinds) rows ∙ ap (λ (y : List ConKind). given_by is_equality (i.taken.rows ++ row ∷ []) y) kinds ∙
+    constraints_push is_equality i.taken.rows i.taken.kinds row c.args.kind c.self.invariant.2 in
+    let cone = cone_again s g s.lines fresh c.push_copy.new.self.dims (constraints c.push_copy.new.self) c.in_ok-push_copy.ensures.dims taken
+    (cone_of s g s.lines fresh k met (ray_canonical s g fresh k flat case) (cut_few s g products i.saturation cut er x)) in (
+      subst (λ (y : List (List ℤ)). IsCone (record { dims = c.push_copy.new.self.dims; taken = constraints c.push_copy.new.self; lines = s.lines; rays = y })) (sym new) cone,
+      cut_matrix s g products i.saturation cut k er c.self.invariant.1 x ∙ ap (λ (y : List Given). saturation_of y fresh) (sym taken) ∙ ap (saturation_of (constraints c.push_copy.new.self)) (sym new),
+      grind (arith, common_steps, ap length rows, ap length kinds, c.self.invariant.2),
+    )
+
+pub returns-clause-ok : goal.returns-clause-ok
+returns-clause-ok c =
+    let i = c.self.inside in
+    let s : Shape = record { dims = i.taken.dims; taken = constraints i.taken; lines = i.lines.items; rays = i.rays.items } in
+    let k : IsCone s = c.self.invariant.0 in
+    let row = c.args.row.now in
+    let g : Given = record { row = row; equal = is_equality c.args.kind } in
+    let products = map (product row) s.rays in
+    let er : products ≡ map (product row) s.rays = refl in
+    let cut = c.args.made in
+    let x : IsCut g.equal products s.rays i.saturation cut = subst (λ (m : Matrix). IsCut g.equal products s.rays m cut) (sym c.self.invariant.1)
+    (subst (λ (z : Shape). IsCut g.equal (map (product row) z.rays) z.rays (saturation_of z.taken z.rays) cut) (sym c.self.view_is) c.requires.cut) in
+    let okay : IsOk c.append.result = c.append.ensures.succeeds (omega (arith, c.in_ok-reserve.ensures.ok, c.len.ensures)) in
+    let added : c.append.new.self.items ≡ s.rays ++ cut.rays.items = c.append.ensures.items ∙ ap (λ (b : Bool). cond b (c.reserve.new.self.items ++ cut.rays.items) c.reserve.new.self.items) okay ∙
+    ap (λ (y : List (List ℤ)). y ++ cut.rays.items) c.in_ok-reserve.ensures.items in
+    let w : length row ≡ suc s.dims = c.requires.width ∙ ap (λ (z : Shape). suc z.dims) (sym c.self.view_is) in
+    let flat : (l : List ℤ) → Contains s.lines l → product row l ≡ pos 0 = λ l m. All-contains (λ y. product row y ≡ pos 0) s.lines l
+    (subst (λ (z : Shape). All (λ y. product row y ≡ pos 0) z.lines) (sym c.self.view_is) c.requires.flat) m in
+    let fresh = unmarked cut.gone (s.rays ++ cut.rays.items) in
+    let new : c.remove_marked.new.rows.items ≡ fresh = c.remove_marked.ensures ∙ ap (unmarked cut.gone) added in
+    let case = cut_taken s g products i.saturation cut k er c.self.invariant.1 x in
+    let met = ray_met s g fresh k w flat case in
+    let kinds = c.in_ok-push_copy.ensures.kinds in
+    let rows = c.in_ok-push_copy.ensures.rows in
+    let taken = ap (λ (y : List (List ℤ)). given_by is_equality y c.push_copy.new.self.kinds) rows ∙ ap (λ (y : List ConKind). given_by is_equality (i.taken.rows ++ row ∷ []) y) kinds ∙
+    constraints_push is_equality i.taken.rows i.taken.kinds row c.args.kind c.self.invariant.2 in
+    subst (λ (z : Shape). IsTakenIn z g (record { dims = c.push_copy.new.self.dims; taken = constraints c.push_copy.new.self; lines = s.lines; rays = c.remove_marked.new.rows.items })) c.self.view_is
+    (record { dims = c.in_ok-push_copy.ensures.dims; taken = taken; met = subst (λ (y : List (List ℤ)). IsMet (suc s.dims) g.equal row (all_rows s.lines s.rays) (all_rows s.lines y)) (sym new) met })
