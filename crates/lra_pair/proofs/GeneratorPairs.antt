@@ -32,11 +32,12 @@ pub taken : (n : ℕ) (given : Listed GenKind) (rows list : Listed ConKind) (sta
     IsCone cone → list.dims ≡ rows.dims →
     (losses ≡ [] → ShowsConstraints rows.dims cone.lines cone.rays list) → (losses ≢ [] → ShowsValid rows.dims (constraints rows) list) → AreTaken n (generators given) list cone losses
 taken n given rows list start cone kept losses many f m er ek ed es dims c k el shown valid =
-    let x = constrained n given rows list start cone kept losses many f m er ek ed es dims c k shown valid in
     let all : constraints rows ≡ generators given = ap (λ (y : List (List ℤ)). given_by is_equality y rows.kinds) er ∙ ap (given_by is_equality given.rows) ek ∙ dual_given given.rows given.kinds in
     let first : start.taken ≡ [] = ap (λ (s : Shape). s.taken) es in
     let is_n : cone.dims ≡ n = dims ∙ ap (λ (s : Shape). s.dims) es in
-    let whole : losses ≡ [] → cone.taken ≡ generators given = λ none. c.taken ∙ ap (λ (l : List Given). l ++ kept) first ∙ c.whole none ∙ all in
+    let of_none = subst (λ (l : List Given). IsConversion l (constraints rows) kept cone losses) first c in
+    let x = constrained n given rows list cone kept losses many f m er ek ed is_n of_none k shown valid in
+    let whole : losses ≡ [] → cone.taken ≡ generators given = λ none. of_none.taken ∙ of_none.whole none ∙ all in
     record {
       list_dims = el ∙ ed;
       dims = is_n;

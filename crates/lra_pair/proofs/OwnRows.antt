@@ -132,10 +132,6 @@ pub some_excess : (form rows : List (List ℤ)) (i : ℕ) (r copied : List ℤ) 
 some_excess form rows i r copied (Excess e) h g c x = (r, (i, h, sym g), subst (λ (y : List ℤ). IsReductionExcess form y (Excess e)) c x)
 some_excess form rows i r copied Memory h g c x = tt
 
-pub unlike : (b : Bool) → b ≡ false → b ≡ true → ⊥
-unlike true e f = cc
-unlike false e f = cc
-
 pub reduced_more : (form rows : List (List ℤ)) (i : ℕ) (r t : List ℤ) (all new : List (List ℤ)) → i < length rows → r ≡ get_or rows i r → new ≡ all ++ t ∷ [] → IsReducedBy form r t →
     AreReducedBy form (take i rows) all → AreReducedBy form (take (i + 1) rows) new
 reduced_more form rows i r t all new h e f x a =

@@ -1,9 +1,9 @@
 -- Canonical constraints and canonical generators of one cone are a polyhedron's.
-use Rattle.std.proofs.Common.{◌≡◌, ◌≢◌, ℕ, zero, suc, Bool, true, false, List, [], ◌∷◌, ◌++◌, length, drop, refl, ap, sym, ◌∙◌, subst, arith, pos, ℤ, neg_ℤ, ◌<ℤ◌, ◌≤ℤ◌, inl, inr}
+use Rattle.std.proofs.Common.{◌≡◌, ◌≢◌, ℕ, suc, Bool, true, false, List, [], ◌∷◌, ◌++◌, length, drop, refl, ap, sym, ◌∙◌, subst, arith, pos, ℤ, neg_ℤ, ◌<ℤ◌, ◌≤ℤ◌, inl, inr}
 use Rattle.std.specs.List.{Contains, All}
 use Rattle.std.proofs.lemmas.Int.{ints}
 use Rattle.std.proofs.lemmas.List.Elements.{Contains-append_left, Contains-append_right}
-use Rattle.lra_linear.specs.Vectors.{entry, dot, product, negated, zeros}
+use Rattle.lra_linear.specs.Vectors.{entry, dot, product, negated}
 use Rattle.lra_linear.specs.Canonical.{IsCanonical, IsCanonicalOf}
 use Rattle.lra_linear.specs.LowestTerms.{IsPrimitive}
 use Rattle.lra_linear.specs.Cones.{AreDual, Generated, both_ways, all_rows}
@@ -23,7 +23,7 @@ use Rattle.lra_linear.specs.Kinds.{is_equality, is_line}
 use Rattle.lra_linear.specs.declared.ConKind.{ConKind}
 use Rattle.lra_linear.specs.declared.ConKind.TheVariants.{Ge}
 use Rattle.lra_linear.specs.OperationStrain.{unit_row}
-use Rattle.lra_linear.proofs.Lines.{in_lines}
+use Rattle.lra_linear.proofs.Lines.{in_lines, zeros_length}
 use Rattle.lra_pair.proofs.OwnRows.{all_width}
 use Rattle.lra_linear.specs.declared.GenKind.{GenKind}
 use Rattle.lra_cone.specs.Cones.{Shape, IsCone}
@@ -141,11 +141,7 @@ canonical_positivity n = record {
     below : (z : ℤ) → z ≡ neg_ℤ (pos 1) → z <ℤ pos 0
     below z e = omega (arith, ints, e)
 
-zeros_length : (n : ℕ) → length (zeros n) ≡ n
-zeros_length zero = refl
-zeros_length (suc n) = ap suc (zeros_length n)
-
-origin : (n : ℕ) → IsPoint n (positivity n)
+pub origin : (n : ℕ) → IsPoint n (positivity n)
 origin n = record { width = ap suc (zeros_length n); divisor = omega (arith, ints) }
 
 pub universe_pair : (cone : Shape) (n : ℕ) (list : Listed GenKind) (p : Polyhedron) → IsCone cone → cone.dims ≡ n → cone.taken ≡ inequality (positivity n) ∷ [] →

@@ -29,7 +29,7 @@ tight_from (x ∷ rays) r h =
     ap (λ (b : Bool). cond b (is_tight_at rays r) false) ((Decides-int_eq (product r x) (pos 0)).1 (h x (contains_head x rays))) ∙ tight_from rays r (λ t k. h t (contains_tail x t rays k))
 
 -- ---- the rows
-not_both : (b : Bool) → b ≡ false → b ≡ true → ⊥
+pub not_both : (b : Bool) → b ≡ false → b ≡ true → ⊥
 not_both true e f = cc
 not_both false e f = cc
 

@@ -278,7 +278,7 @@ fn first_rows(alloc: Global, list: &ConSys) -> Result<ConSys, AllocError>
     };
     let mut kept = ConSys::new(alloc, n);
     for place in 0..count {
-        kept.push(rows[place].copy()?, kinds[place])?;
+        kept.push_copy(&rows[place], kinds[place])?;
     }
     Ok(kept)
 }
