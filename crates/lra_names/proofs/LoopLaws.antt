@@ -1,21 +1,29 @@
--- What a loop is by its head and its body, and a choice with a second branch or without one.
-use Rattle.std.proofs.Common.{◌≡◌, ℕ, suc, ◌+◌, List, [], ◌∷◌, ◌++◌, length, take, refl, sym, ap, ◌∙◌, append_assoc, arith, Option, Some, None, subst}
+-- What a loop is by its head and its body, a choice with a second branch or without one, and a block; a refused statement.
+use Rattle.std.proofs.Common.{◌≡◌, ℕ, suc, ◌+◌, List, [], ◌∷◌, ◌++◌, length, take, refl, sym, ap, ◌∙◌, append_assoc, arith, rules, Option, Some, None, subst, Result, Ok, Err}
+use Rattle.std.specs.Result.{IsErrAnd}
 use Rattle.std.proofs.Math.Seq.{take-length}
 use Rattle.lra_base.specs.declared.refusals.Place.{Place}
 use Rattle.lra_base.specs.declared.error.SourceError.{SourceError}
-use Rattle.lra_tree.specs.Trees.{CondTree, StmtTree, if_only, if_else, FunctionTree}
+use Rattle.lra_tree.specs.Trees.{CondTree, StmtTree, block, if_only, if_else, ItemsTree, FunctionTree}
 use Rattle.lra_tree.specs.Labels.{Labelled, plain_label, stmt_labels}
-use Rattle.lra_meaning.specs.Scope.{Scope}
+use Rattle.lra_program.specs.declared.program.BlockItems.{BlockItems}
+use Rattle.lra_program.specs.declared.program.BlockItem.{the_lemmas}
+use Rattle.lra_program.specs.declared.program.Stmt.{Stmt}
+use Rattle.lra_program.specs.declared.program.Stmt as program_stmt
+use Rattle.lra_program.specs.Program as program
+use Rattle.lra_program.specs.ProgramViews.{stmt_view, items_view}
+use Rattle.lra_meaning.specs.Scope.{Scope, inner}
 use Rattle.lra_meaning.specs.NameFaults.{Around, in_a_loop, cond_faults, stmt_faults}
-use Rattle.lra_meaning.specs.Resolve.{resolve_stmt, stmt_count}
-use Rattle.lra_scopes.specs.Scopes.{left_to}
-use Rattle.lra_scopes.specs.Outcome.{Tells}
+use Rattle.lra_meaning.specs.Resolve.{resolve_stmt, resolve_items, stmt_count, items_count}
+use Rattle.lra_scopes.specs.Scopes.{Extends, left_to}
+use Rattle.lra_scopes.specs.Outcome.{Tells, TellsOf}
 use Rattle.lra_simple.specs.Labelling.{LabelsSoFar, Adds}
 use Rattle.lra_simple.specs.Statements.{choice_tree}
 use Rattle.lra_simple.specs.LoopHeads.{HeadTree, while_head, for_head, with_body, head_faults, body_scope, body_label, head_labels, body_live, loop_around}
+use Rattle.lra_names.specs.Resolved.{Resolves}
 use Rattle.lra_scopes.proofs.Telling.{tells_front, tells_behind}
 use Rattle.lra_scopes.proofs.Loops.{both_clean}
-use Rattle.lra_simple.proofs.StatementLaws.{left_for, count_for, count_if_else}
+use Rattle.lra_simple.proofs.StatementLaws.{left_for, left_inner, count_block, count_for, count_if_else}
 use Rattle.lra_simple.proofs.LabellingLaws.{left_of_for, adds_then}
 
 -- loops ----------------------------------------------------------------------------------------------------------------
@@ -39,9 +47,13 @@ pub count_of_loop : (n : ℕ) (h : HeadTree) (b : StmtTree) → body_label n h +
 count_of_loop n (while_head at c) b = omega arith
 count_of_loop n (for_head at i c e) b = let x = count_for at i c e b in omega (arith, x)
 
-pub scope_left : (s : Scope) (h : HeadTree) → left_to (length s.locals) s.outer (body_scope s h) ≡ s
+scope_left : (s : Scope) (h : HeadTree) → left_to (length s.locals) s.outer (body_scope s h) ≡ s
 scope_left s (while_head at c) = ap (λ (l : List (List ℕ)). record s { locals = l }) (take-length s.locals)
 scope_left s (for_head at i c e) = left_for s i
+
+pub loop_left : (s e f g : Scope) (h : HeadTree) (count outer : ℕ) → e ≡ body_scope s h → f ≡ e → count ≡ length s.locals → outer ≡ s.outer
+    → g ≡ left_to count outer f → g ≡ s
+loop_left s e f g h count outer entered same counted around left = rw (left, same, entered, counted, around) (scope_left s h)
 
 live_left : (live : List (List ℕ)) (h : HeadTree) → take (length live) (body_live live h) ≡ live
 live_left live (while_head at c) = take-length live
@@ -108,3 +120,24 @@ module _ (at : Place) (c : CondTree) (t : StmtTree) where
     pub clean_with : (o : Option StmtTree) (u : StmtTree) → o ≡ Some u → cond_faults s c ≡ [] → stmt_faults a s t ≡ [] → stmt_faults a s u ≡ []
         → stmt_faults a s (choice_tree at c t o) ≡ []
     clean_with o u is first own other = ap (stmt_faults a s) (with_other o u is) ∙ both_clean _ _ _ refl (both_clean _ _ _ refl first own) other
+
+-- blocks ---------------------------------------------------------------------------------------------------------------
+
+pub block_found : (code : BlockItems) (last : ℕ) (F : List FunctionTree) (s : Scope) (n : ℕ) (items : ItemsTree) (end : Place)
+    → items_view code ≡ resolve_items F (inner s) n items → last ≡ n + items_count items → stmt_view (program_stmt.Block code last) ≡ resolve_stmt F s n (block items end)
+block_found code last F s n items end found labelled =
+    let v : stmt_view (program_stmt.Block code last) ≡ program.block (items_view code) last = search (rules, the_lemmas) in
+    v ∙ ap (λ (x : program.BlockItems). program.block x last) found ∙ ap (program.block (resolve_items F (inner s) n items)) labelled
+
+pub block_left : (s e f g : Scope) (count outer : ℕ) → e ≡ inner s → Extends e f → count ≡ length s.locals → outer ≡ s.outer → g ≡ left_to count outer f → g ≡ s
+block_left s e f g count outer entered more counted around left = rw (left, counted, around) (left_inner s f (subst (λ (x : Scope). Extends x f) entered more))
+
+pub block_counted : (items : ItemsTree) (end : Place) (n m k j : ℕ) → m ≡ n + items_count items → k ≡ suc m → j ≡ k → j ≡ n + stmt_count (block items end)
+block_counted items end n m k j own last same = let e = count_block items end in omega (arith, e, own, last, same)
+
+-- refused --------------------------------------------------------------------------------------------------------------
+
+pub refused : {a : Around} {s behind : Scope} {old new : LabelsSoFar} {t : StmtTree} (r : Result Stmt SourceError) (e : SourceError)
+    → IsErrAnd r (λ y. y ≡ e) → TellsOf (stmt_faults a s t) r → Resolves a s old t r behind new
+refused (Ok v) e is told = absurd is
+refused (Err x) e is told = record { told = told; found = tt {0}; kept = tt {0}; counted = tt {0}; adds = tt {0} }

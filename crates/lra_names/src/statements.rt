@@ -3,17 +3,16 @@
 ghost use Rattle.std.specs.Prelude.{◌≡◌, ◌+◌, map, option_copied, IfOk, OnOk, IfErr};
 ghost use Rattle.lra_tree.specs.Trees.{ItemsTree, block as tree_block};
 ghost use Rattle.lra_tree.specs.Views.{stmt_view, block_view, item_view};
-ghost use Rattle.lra_program.specs.ProgramViews.{stmt_view as program_stmt_view, items_view};
-ghost use Rattle.lra_program.specs.ProgramViews.{item_view as program_item_view};
-ghost use Rattle.lra_meaning.specs.NameFaults.{stmt_faults, items_faults};
-ghost use Rattle.lra_meaning.specs.Resolve.{resolve_stmt, resolve_items, stmt_count, items_count};
+ghost use Rattle.lra_program.specs.ProgramViews.{items_view, item_view as program_item_view};
+ghost use Rattle.lra_meaning.specs.NameFaults.{items_faults};
+ghost use Rattle.lra_meaning.specs.Resolve.{resolve_items, items_count};
 ghost use Rattle.lra_scopes.specs.Calls.{functions_at};
 ghost use Rattle.lra_scopes.specs.Scopes.{Extends};
-ghost use Rattle.lra_tree.specs.Labels.{stmt_labels};
-ghost use Rattle.lra_simple.specs.Labelling.{Adds, Fills, Follows};
+ghost use Rattle.lra_simple.specs.Labelling.{Fills, Follows};
 ghost use Rattle.lra_simple.specs.Statements.{around_of, followed};
 ghost use Rattle.lra_simple.specs.LoopHeads.{choice_of, loop_tree};
 ghost use Rattle.lra_scopes.specs.Outcome.{Tells, TellsOf};
+ghost use Rattle.lra_names.specs.Resolved.{Resolves};
 
 use lra_base::SourceError;
 use lra_scopes::Scope;
@@ -30,12 +29,7 @@ fn resolve_stmt(
     labels: &mut Labelling,
     stmt: &Stmt,
 ) -> Result<lra_program::Stmt, SourceError>
-    ensures told { TellsOf (stmt_faults (around_of around.now) scope.old (stmt_view stmt.now)) result }
-    ensures found { IfOk result (λ s. program_stmt_view s
-        ≡ resolve_stmt (functions_at around.now.functions.now) scope.old labels.old.next (stmt_view stmt.now)) }
-    ensures kept { OnOk result (scope.new ≡ scope.old) }
-    ensures counted { OnOk result (labels.new.next ≡ labels.old.next + stmt_count (stmt_view stmt.now)) }
-    ensures adds { OnOk result (Adds labels.old labels.new (stmt_labels labels.old.live (stmt_view stmt.now))) }
+    ensures { Resolves (around_of around.now) scope.old labels.old (stmt_view stmt.now) result scope.new labels.new }
 {
     match stmt {
         Stmt::Block(block) => resolve_block(around, scope, labels, block),
@@ -70,16 +64,8 @@ fn resolve_choice(
     branch: &Stmt,
     other: Option<&Stmt>,
 ) -> Result<lra_program::Stmt, SourceError>
-    ensures told { TellsOf (stmt_faults (around_of around.now) scope.old
-        (choice_of asked.now branch.now (option_copied other.entry))) result }
-    ensures found { IfOk result (λ s. program_stmt_view s
-        ≡ resolve_stmt (functions_at around.now.functions.now) scope.old labels.old.next
-        (choice_of asked.now branch.now (option_copied other.entry))) }
-    ensures kept { OnOk result (scope.new ≡ scope.old) }
-    ensures counted { OnOk result (labels.new.next
-        ≡ labels.old.next + stmt_count (choice_of asked.now branch.now (option_copied other.entry))) }
-    ensures adds { OnOk result (Adds labels.old labels.new
-        (stmt_labels labels.old.live (choice_of asked.now branch.now (option_copied other.entry)))) }
+    ensures { Resolves (around_of around.now) scope.old labels.old
+        (choice_of asked.now branch.now (option_copied other.entry)) result scope.new labels.new }
 {
     let head = resolve_head(around.alloc, scope, labels, *asked.place, asked.cond)?;
     let branch = resolve_stmt(around, scope, labels, branch)?;
@@ -93,7 +79,6 @@ fn resolve_choice(
 }
 
 #[cycle(statement)]
-#[tactic(auto, using(crate::proofs::LoopLaws::scope_left))]
 fn resolve_loop(
     around: &Around<'_>,
     scope: &mut Scope,
@@ -101,18 +86,12 @@ fn resolve_loop(
     rounds: &Rounds<'_>,
     body: &Stmt,
 ) -> Result<lra_program::Stmt, SourceError>
-    ensures told { TellsOf (stmt_faults (around_of around.now) scope.old (loop_tree rounds.now body.now)) result }
-    ensures found { IfOk result (λ s. program_stmt_view s
-        ≡ resolve_stmt (functions_at around.now.functions.now) scope.old labels.old.next
-        (loop_tree rounds.now body.now)) }
-    ensures kept { OnOk result (scope.new ≡ scope.old) }
-    ensures counted { OnOk result (labels.new.next ≡ labels.old.next + stmt_count (loop_tree rounds.now body.now)) }
-    ensures adds { OnOk result (Adds labels.old labels.new
-        (stmt_labels labels.old.live (loop_tree rounds.now body.now))) }
+    ensures { Resolves (around_of around.now) scope.old labels.old (loop_tree rounds.now body.now) result
+        scope.new labels.new }
 {
     let count = scope.count();
     let outer = scope.outer();
-    let live = labels.living();
+    let live = labels.live_count();
     let head = resolve_loop_head(around, scope, labels, rounds)?;
     let body = resolve_stmt(&around.in_a_loop(), scope, labels, body)?;
     scope.leave(count, outer);
@@ -121,27 +100,18 @@ fn resolve_loop(
 }
 
 #[cycle(statement)]
-#[tactic(auto, using(lra_simple::proofs::StatementLaws::block_rules))]
 fn resolve_block(
     around: &Around<'_>,
     scope: &mut Scope,
     labels: &mut Labelling,
     block: &Block,
 ) -> Result<lra_program::Stmt, SourceError>
-    ensures told { TellsOf (stmt_faults (around_of around.now) scope.old
-        (tree_block (block_view block.now).0 (block_view block.now).1)) result }
-    ensures found { IfOk result (λ s. program_stmt_view s
-        ≡ resolve_stmt (functions_at around.now.functions.now) scope.old labels.old.next
-        (tree_block (block_view block.now).0 (block_view block.now).1)) }
-    ensures kept { OnOk result (scope.new ≡ scope.old) }
-    ensures counted { OnOk result (labels.new.next ≡ labels.old.next + stmt_count
-        (tree_block (block_view block.now).0 (block_view block.now).1)) }
-    ensures adds { OnOk result (Adds labels.old labels.new (stmt_labels labels.old.live
-        (tree_block (block_view block.now).0 (block_view block.now).1))) }
+    ensures { Resolves (around_of around.now) scope.old labels.old
+        (tree_block (block_view block.now).0 (block_view block.now).1) result scope.new labels.new }
 {
     let count = scope.count();
     let outer = scope.outer();
-    let live = labels.living();
+    let live = labels.live_count();
     scope.enter();
     let items = resolve_items(around, scope, labels, block)?;
     let end = labels.add(block.end, None)?;

@@ -13,12 +13,12 @@ use Rattle.lra_scopes.specs.Calls.{functions_at}
 use Rattle.lra_simple.specs.Statements.{around_of, followed}
 use Rattle.lra_simple.specs.LoopHeads.{rounds_view, loop_around}
 use Rattle.lra_scopes.proofs.Telling.{tells_front, tells_behind, exit_tells, rest_tells}
-use Rattle.lra_scopes.proofs.Loops.{parts_step, first_told, second_told, both_clean, made_told, found_so}
+use Rattle.lra_scopes.proofs.Loops.{parts_step, first_told, second_told, both_clean, made_told, found_so, wanting_told}
 use Rattle.std.proofs.lemmas.List.{at_drop_all}
 use Rattle.lra_simple.proofs.StatementLaws.{extends_self, extends_then, extends_declared, declaration_counted, statement_found, block_items, block_end, kept_so, block_is, absent_is, choice_found}
 use Rattle.lra_simple.proofs.StatementLaws.{if_is, if_else_is, while_is, for_is}
 use Rattle.lra_names.proofs.LoopLaws.{faults_of_loop, meaning_of_loop, count_of_loop, loops, without, with_other, count_without, count_with, labelled_without, labelled_with, front_told, other_told}
-use Rattle.lra_names.proofs.LoopLaws.{clean_without, clean_with}
+use Rattle.lra_names.proofs.LoopLaws.{clean_without, clean_with, loop_left, block_found, block_left, block_counted, refused}
 use Rattle.lra_simple.proofs.SimpleLaws.{rest_is_simple}
 use Rattle.lra_base.specs.declared.refusals.Place.{Place}
 use Rattle.lra_tree.specs.Labels.{plain_label}
@@ -112,36 +112,6 @@ resolve_items-returns-clause-counted t c =
     let b = ap items_count (block_items c.args.block.now c.deref-item-items.result.now c.deref-item-items.ensures.value) in
     let d = c.items.invariant.counted in omega (arith, a, b, d)
 
-pub resolve_stmt-returns-in-Block-clause-told : goal.resolve_stmt-returns-in-Block-clause-told
-resolve_stmt-returns-in-Block-clause-told t c =
-    rw (block_is c.args.stmt.now c.in-Block.block c.in-Block.is)
-    c.resolve_block.ensures.told
-
-pub resolve_stmt-returns-in-Block-clause-found : goal.resolve_stmt-returns-in-Block-clause-found
-resolve_stmt-returns-in-Block-clause-found t c =
-    rw (block_is c.args.stmt.now c.in-Block.block c.in-Block.is)
-    c.resolve_block.ensures.found
-
-pub resolve_stmt-returns-in-Block-clause-kept : goal.resolve_stmt-returns-in-Block-clause-kept
-resolve_stmt-returns-in-Block-clause-kept t c = c.resolve_block.ensures.kept
-
-pub resolve_stmt-returns-in-Block-clause-counted : goal.resolve_stmt-returns-in-Block-clause-counted
-resolve_stmt-returns-in-Block-clause-counted t c =
-    rw (block_is c.args.stmt.now c.in-Block.block c.in-Block.is)
-    c.resolve_block.ensures.counted
-
-pub resolve_stmt-returns-in-Block-clause-adds : goal.resolve_stmt-returns-in-Block-clause-adds
-resolve_stmt-returns-in-Block-clause-adds t c =
-    rw (block_is c.args.stmt.now c.in-Block.block c.in-Block.is)
-    c.resolve_block.ensures.adds
-
-pub resolve_block-returns-clause-adds : goal.resolve_block-returns-clause-adds
-resolve_block-returns-clause-adds t c =
-    blocks c.args.labels.now c.resolve_items.new.labels c.add.new.self c.keep_oldest.new.self (block_view c.args.block.now).0 (block_view c.args.block.now).1
-    c.living-live.result c.in_ok-items.ensures.fills
-    (subst (λ (at : Place). Adds c.resolve_items.new.labels c.add.new.self (plain_label at c.resolve_items.new.labels.live ∷ [])) (block_end c.args.block.now) c.in_ok-end.ensures.adds)
-    c.living-live.ensures c.keep_oldest.ensures.live c.keep_oldest.ensures.labels
-
 pub resolve_items-returns-clause-fills : goal.resolve_items-returns-clause-fills
 resolve_items-returns-clause-fills t c =
     let xs = c.deref-item-items.result.now in
@@ -158,241 +128,172 @@ pub add_item-returns-in_ok-push-in-Statement-clause-follows : goal.add_item-retu
 add_item-returns-in_ok-push-in-Statement-clause-follows t c =
     statement_follows c.args.labels.now c.resolve_stmt.new.labels c.args.item.now c.in-Statement.stmt c.in-Statement.is c.in_ok-stmt-in-Statement.ensures.adds
 
-pub resolve_stmt-returns-in-If-clause-told : goal.resolve_stmt-returns-in-If-clause-told
-resolve_stmt-returns-in-If-clause-told t c =
-    rw (if_is c.args.stmt.now c.in-If.place c.in-If.cond c.in-If.branch c.deref.result.now c.in-If.is c.deref.ensures)
-    c.resolve_choice.ensures.told
-
-pub resolve_stmt-returns-in-If-clause-found : goal.resolve_stmt-returns-in-If-clause-found
-resolve_stmt-returns-in-If-clause-found t c =
-    rw (if_is c.args.stmt.now c.in-If.place c.in-If.cond c.in-If.branch c.deref.result.now c.in-If.is c.deref.ensures)
-    c.resolve_choice.ensures.found
-
-pub resolve_stmt-returns-in-If-clause-kept : goal.resolve_stmt-returns-in-If-clause-kept
-resolve_stmt-returns-in-If-clause-kept t c = c.resolve_choice.ensures.kept
-
-pub resolve_stmt-returns-in-If-clause-counted : goal.resolve_stmt-returns-in-If-clause-counted
-resolve_stmt-returns-in-If-clause-counted t c =
-    rw (if_is c.args.stmt.now c.in-If.place c.in-If.cond c.in-If.branch c.deref.result.now c.in-If.is c.deref.ensures)
-    c.resolve_choice.ensures.counted
-
-pub resolve_stmt-returns-in-If-clause-adds : goal.resolve_stmt-returns-in-If-clause-adds
-resolve_stmt-returns-in-If-clause-adds t c =
-    rw (if_is c.args.stmt.now c.in-If.place c.in-If.cond c.in-If.branch c.deref.result.now c.in-If.is c.deref.ensures)
-    c.resolve_choice.ensures.adds
-
-pub resolve_stmt-returns-in-IfElse-clause-told : goal.resolve_stmt-returns-in-IfElse-clause-told
-resolve_stmt-returns-in-IfElse-clause-told t c =
-    rw (if_else_is c.args.stmt.now c.in-IfElse.place c.in-IfElse.cond c.in-IfElse.branch c.in-IfElse.other c.deref-in-IfElse.result.now c.deref-in-IfElse-2.result.now
-    c.in-IfElse.is c.deref-in-IfElse.ensures c.deref-in-IfElse-2.ensures)
-    c.resolve_choice-in-IfElse.ensures.told
-
-pub resolve_stmt-returns-in-IfElse-clause-found : goal.resolve_stmt-returns-in-IfElse-clause-found
-resolve_stmt-returns-in-IfElse-clause-found t c =
-    rw (if_else_is c.args.stmt.now c.in-IfElse.place c.in-IfElse.cond c.in-IfElse.branch c.in-IfElse.other c.deref-in-IfElse.result.now c.deref-in-IfElse-2.result.now
-    c.in-IfElse.is c.deref-in-IfElse.ensures c.deref-in-IfElse-2.ensures)
-    c.resolve_choice-in-IfElse.ensures.found
-
-pub resolve_stmt-returns-in-IfElse-clause-kept : goal.resolve_stmt-returns-in-IfElse-clause-kept
-resolve_stmt-returns-in-IfElse-clause-kept t c = c.resolve_choice-in-IfElse.ensures.kept
-
-pub resolve_stmt-returns-in-IfElse-clause-counted : goal.resolve_stmt-returns-in-IfElse-clause-counted
-resolve_stmt-returns-in-IfElse-clause-counted t c =
-    rw (if_else_is c.args.stmt.now c.in-IfElse.place c.in-IfElse.cond c.in-IfElse.branch c.in-IfElse.other c.deref-in-IfElse.result.now c.deref-in-IfElse-2.result.now
-    c.in-IfElse.is c.deref-in-IfElse.ensures c.deref-in-IfElse-2.ensures)
-    c.resolve_choice-in-IfElse.ensures.counted
-
-pub resolve_stmt-returns-in-IfElse-clause-adds : goal.resolve_stmt-returns-in-IfElse-clause-adds
-resolve_stmt-returns-in-IfElse-clause-adds t c =
-    rw (if_else_is c.args.stmt.now c.in-IfElse.place c.in-IfElse.cond c.in-IfElse.branch c.in-IfElse.other c.deref-in-IfElse.result.now c.deref-in-IfElse-2.result.now
-    c.in-IfElse.is c.deref-in-IfElse.ensures c.deref-in-IfElse-2.ensures)
-    c.resolve_choice-in-IfElse.ensures.adds
-
-pub resolve_stmt-returns-in-While-clause-told : goal.resolve_stmt-returns-in-While-clause-told
-resolve_stmt-returns-in-While-clause-told t c =
-    rw (while_is c.args.stmt.now c.in-While.place c.in-While.cond c.in-While.body c.deref-in-While.result.now c.in-While.is c.deref-in-While.ensures)
-    c.resolve_loop.ensures.told
-
-pub resolve_stmt-returns-in-While-clause-found : goal.resolve_stmt-returns-in-While-clause-found
-resolve_stmt-returns-in-While-clause-found t c =
-    rw (while_is c.args.stmt.now c.in-While.place c.in-While.cond c.in-While.body c.deref-in-While.result.now c.in-While.is c.deref-in-While.ensures)
-    c.resolve_loop.ensures.found
-
-pub resolve_stmt-returns-in-While-clause-kept : goal.resolve_stmt-returns-in-While-clause-kept
-resolve_stmt-returns-in-While-clause-kept t c = c.resolve_loop.ensures.kept
-
-pub resolve_stmt-returns-in-While-clause-counted : goal.resolve_stmt-returns-in-While-clause-counted
-resolve_stmt-returns-in-While-clause-counted t c =
-    rw (while_is c.args.stmt.now c.in-While.place c.in-While.cond c.in-While.body c.deref-in-While.result.now c.in-While.is c.deref-in-While.ensures)
-    c.resolve_loop.ensures.counted
-
-pub resolve_stmt-returns-in-While-clause-adds : goal.resolve_stmt-returns-in-While-clause-adds
-resolve_stmt-returns-in-While-clause-adds t c =
-    rw (while_is c.args.stmt.now c.in-While.place c.in-While.cond c.in-While.body c.deref-in-While.result.now c.in-While.is c.deref-in-While.ensures)
-    c.resolve_loop.ensures.adds
-
-pub resolve_stmt-returns-in-For-clause-told : goal.resolve_stmt-returns-in-For-clause-told
-resolve_stmt-returns-in-For-clause-told t c =
-    rw (for_is c.args.stmt.now c.in-For.place c.in-For.init c.in-For.test c.in-For.step c.in-For.body c.deref-in-For.result.now c.in-For.is c.deref-in-For.ensures)
-    c.resolve_loop-in-For.ensures.told
-
-pub resolve_stmt-returns-in-For-clause-found : goal.resolve_stmt-returns-in-For-clause-found
-resolve_stmt-returns-in-For-clause-found t c =
-    rw (for_is c.args.stmt.now c.in-For.place c.in-For.init c.in-For.test c.in-For.step c.in-For.body c.deref-in-For.result.now c.in-For.is c.deref-in-For.ensures)
-    c.resolve_loop-in-For.ensures.found
-
-pub resolve_stmt-returns-in-For-clause-kept : goal.resolve_stmt-returns-in-For-clause-kept
-resolve_stmt-returns-in-For-clause-kept t c = c.resolve_loop-in-For.ensures.kept
-
-pub resolve_stmt-returns-in-For-clause-counted : goal.resolve_stmt-returns-in-For-clause-counted
-resolve_stmt-returns-in-For-clause-counted t c =
-    rw (for_is c.args.stmt.now c.in-For.place c.in-For.init c.in-For.test c.in-For.step c.in-For.body c.deref-in-For.result.now c.in-For.is c.deref-in-For.ensures)
-    c.resolve_loop-in-For.ensures.counted
-
-pub resolve_stmt-returns-in-For-clause-adds : goal.resolve_stmt-returns-in-For-clause-adds
-resolve_stmt-returns-in-For-clause-adds t c =
-    rw (for_is c.args.stmt.now c.in-For.place c.in-For.init c.in-For.test c.in-For.step c.in-For.body c.deref-in-For.result.now c.in-For.is c.deref-in-For.ensures)
-    c.resolve_loop-in-For.ensures.adds
-
 pub resolve_stmt-resolve_simple-requires : goal.resolve_stmt-resolve_simple-requires
 resolve_stmt-resolve_simple-requires t c = record {
   simple = rest_is_simple c.args.stmt.now c.in_default.not-Block c.in_default.not-If c.in_default.not-IfElse c.in_default.not-While c.in_default.not-For;
 }
 
-pub resolve_stmt-returns-in_default-clause-told : goal.resolve_stmt-returns-in_default-clause-told
-resolve_stmt-returns-in_default-clause-told t c = c.resolve_simple.ensures.told
+pub resolve_stmt-returns-in-Block : goal.resolve_stmt-returns-in-Block
+resolve_stmt-returns-in-Block t c =
+    rw (block_is c.args.stmt.now c.in-Block.block c.in-Block.is) c.resolve_block.ensures
 
-pub resolve_stmt-returns-in_default-clause-found : goal.resolve_stmt-returns-in_default-clause-found
-resolve_stmt-returns-in_default-clause-found t c = c.resolve_simple.ensures.found
+pub resolve_stmt-returns-in-If : goal.resolve_stmt-returns-in-If
+resolve_stmt-returns-in-If t c =
+    rw (if_is c.args.stmt.now c.in-If.place c.in-If.cond c.in-If.branch c.deref.result.now c.in-If.is c.deref.ensures) c.resolve_choice.ensures
 
-pub resolve_stmt-returns-in_default-clause-counted : goal.resolve_stmt-returns-in_default-clause-counted
-resolve_stmt-returns-in_default-clause-counted t c = c.resolve_simple.ensures.counted
+pub resolve_stmt-returns-in-IfElse : goal.resolve_stmt-returns-in-IfElse
+resolve_stmt-returns-in-IfElse t c =
+    rw (if_else_is c.args.stmt.now c.in-IfElse.place c.in-IfElse.cond c.in-IfElse.branch c.in-IfElse.other c.deref-in-IfElse.result.now c.deref-in-IfElse-2.result.now
+    c.in-IfElse.is c.deref-in-IfElse.ensures c.deref-in-IfElse-2.ensures)
+    c.resolve_choice-in-IfElse.ensures
 
-pub resolve_stmt-returns-in_default-clause-adds : goal.resolve_stmt-returns-in_default-clause-adds
-resolve_stmt-returns-in_default-clause-adds t c = c.resolve_simple.ensures.adds
+pub resolve_stmt-returns-in-While : goal.resolve_stmt-returns-in-While
+resolve_stmt-returns-in-While t c =
+    rw (while_is c.args.stmt.now c.in-While.place c.in-While.cond c.in-While.body c.deref-in-While.result.now c.in-While.is c.deref-in-While.ensures) c.resolve_loop.ensures
 
-pub resolve_stmt-returns-in_default-clause-kept : goal.resolve_stmt-returns-in_default-clause-kept
-resolve_stmt-returns-in_default-clause-kept t c = kept_so c.resolve_simple.result refl
+pub resolve_stmt-returns-in-For : goal.resolve_stmt-returns-in-For
+resolve_stmt-returns-in-For t c =
+    rw (for_is c.args.stmt.now c.in-For.place c.in-For.init c.in-For.test c.in-For.step c.in-For.body c.deref-in-For.result.now c.in-For.is c.deref-in-For.ensures)
+    c.resolve_loop-in-For.ensures
 
-pub resolve_choice-returns-in_err-head-clause-told : goal.resolve_choice-returns-in_err-head-clause-told
-resolve_choice-returns-in_err-head-clause-told t c =
-    exit_tells _ c.from_residual.result _ c.from_residual.ensures.1
+pub resolve_stmt-returns-in_default : goal.resolve_stmt-returns-in_default
+resolve_stmt-returns-in_default t c = record {
+  told = c.resolve_simple.ensures.told;
+  found = c.resolve_simple.ensures.found;
+  kept = kept_so c.resolve_simple.result refl;
+  counted = c.resolve_simple.ensures.counted;
+  adds = c.resolve_simple.ensures.adds;
+}
+
+pub resolve_choice-returns-in_err-head : goal.resolve_choice-returns-in_err-head
+resolve_choice-returns-in_err-head t c =
+    refused c.from_residual.result _ c.from_residual.ensures.1
+    (exit_tells _ c.from_residual.result _ c.from_residual.ensures.1
     (front_told c.args.asked.now.place.now (cond_view c.args.asked.now.cond.now) (stmt_view c.args.branch.now) (around_of c.args.around.now) c.args.scope.now (other_of c.args.other) _
-    (tells_front _ _ _ c.in_err-head.ensures.told))
+    (tells_front _ _ _ c.in_err-head.ensures.told)))
 
-pub resolve_choice-returns-in_err-branch-clause-told : goal.resolve_choice-returns-in_err-branch-clause-told
-resolve_choice-returns-in_err-branch-clause-told t c =
-    exit_tells _ c.from_residual-in_err-branch.result _ c.from_residual-in_err-branch.ensures.1
+pub resolve_choice-returns-in_err-branch : goal.resolve_choice-returns-in_err-branch
+resolve_choice-returns-in_err-branch t c =
+    refused c.from_residual-in_err-branch.result _ c.from_residual-in_err-branch.ensures.1
+    (exit_tells _ c.from_residual-in_err-branch.result _ c.from_residual-in_err-branch.ensures.1
     (front_told c.args.asked.now.place.now (cond_view c.args.asked.now.cond.now) (stmt_view c.args.branch.now) (around_of c.args.around.now) c.args.scope.now (other_of c.args.other) _
-    (tells_behind _ _ _ c.in_ok-head.ensures.told c.in_err-branch.ensures.told))
+    (tells_behind _ _ _ c.in_ok-head.ensures.told c.in_err-branch.ensures.told)))
 
-pub resolve_choice-returns-in-None-clause-told : goal.resolve_choice-returns-in-None-clause-told
-resolve_choice-returns-in-None-clause-told t c =
-    made_told _ c.choose.result
-    (clean_without c.args.asked.now.place.now (cond_view c.args.asked.now.cond.now) (stmt_view c.args.branch.now) (around_of c.args.around.now) c.args.scope.now (other_of c.args.other)
-    (ap other_of c.in-None.is) c.in_ok-head.ensures.told c.in_ok-branch.ensures.told) c.choose.ensures.memory
+pub resolve_choice-returns-in-None : goal.resolve_choice-returns-in-None
+resolve_choice-returns-in-None t c =
+    record {
+      told = made_told _ c.choose.result
+          (clean_without c.args.asked.now.place.now (cond_view c.args.asked.now.cond.now) (stmt_view c.args.branch.now) (around_of c.args.around.now) c.args.scope.now (other_of c.args.other)
+          (ap other_of c.in-None.is) c.in_ok-head.ensures.told c.in_ok-branch.ensures.told) c.choose.ensures.memory;
+      found = found_so c.choose.result program_stmt_view _ _
+          (ap (resolve_stmt (functions_at c.args.around.now.functions.now) c.args.scope.now c.args.labels.now.next)
+          (sym (without c.args.asked.now.place.now (cond_view c.args.asked.now.cond.now) (stmt_view c.args.branch.now) (other_of c.args.other) (ap other_of c.in-None.is))))
+          (choice_found c.choose.result c.args.labels.now.next c.in_ok-head.head.label _ _ _ _ _ _ c.choose.ensures.found c.in_ok-head.ensures.label c.in_ok-head.ensures.found
+          (rw c.in_ok-head.ensures.counted at c.in_ok-branch.ensures.found) absent_is);
+      kept = kept_so c.choose.result c.in_ok-branch.ensures.kept;
+      counted = kept_so c.choose.result
+          (count_without c.args.asked.now.place.now (cond_view c.args.asked.now.cond.now) (stmt_view c.args.branch.now) c.args.labels.now.next _ _ (other_of c.args.other)
+          (ap other_of c.in-None.is) c.in_ok-head.ensures.counted c.in_ok-branch.ensures.counted);
+      adds = kept_so c.choose.result
+          (labelled_without c.args.asked.now.place.now (cond_view c.args.asked.now.cond.now) (stmt_view c.args.branch.now) c.args.labels.now _ _ (other_of c.args.other)
+          (ap other_of c.in-None.is) c.in_ok-head.ensures.adds c.in_ok-branch.ensures.adds);
+    }
 
-pub resolve_choice-returns-in-None-clause-found : goal.resolve_choice-returns-in-None-clause-found
-resolve_choice-returns-in-None-clause-found t c =
-    found_so c.choose.result program_stmt_view _ _
-    (ap (resolve_stmt (functions_at c.args.around.now.functions.now) c.args.scope.now c.args.labels.now.next)
-    (sym (without c.args.asked.now.place.now (cond_view c.args.asked.now.cond.now) (stmt_view c.args.branch.now) (other_of c.args.other) (ap other_of c.in-None.is))))
-    (choice_found c.choose.result c.args.labels.now.next c.in_ok-head.head.label _ _ _ _ _ _ c.choose.ensures.found c.in_ok-head.ensures.label c.in_ok-head.ensures.found
-    (rw c.in_ok-head.ensures.counted at c.in_ok-branch.ensures.found) absent_is)
-
-pub resolve_choice-returns-in-None-clause-kept : goal.resolve_choice-returns-in-None-clause-kept
-resolve_choice-returns-in-None-clause-kept t c = kept_so c.choose.result c.in_ok-branch.ensures.kept
-
-pub resolve_choice-returns-in-None-clause-counted : goal.resolve_choice-returns-in-None-clause-counted
-resolve_choice-returns-in-None-clause-counted t c =
-    kept_so c.choose.result
-    (count_without c.args.asked.now.place.now (cond_view c.args.asked.now.cond.now) (stmt_view c.args.branch.now) c.args.labels.now.next _ _ (other_of c.args.other)
-    (ap other_of c.in-None.is) c.in_ok-head.ensures.counted c.in_ok-branch.ensures.counted)
-
-pub resolve_choice-returns-in-None-clause-adds : goal.resolve_choice-returns-in-None-clause-adds
-resolve_choice-returns-in-None-clause-adds t c =
-    kept_so c.choose.result
-    (labelled_without c.args.asked.now.place.now (cond_view c.args.asked.now.cond.now) (stmt_view c.args.branch.now) c.args.labels.now _ _ (other_of c.args.other)
-    (ap other_of c.in-None.is) c.in_ok-head.ensures.adds c.in_ok-branch.ensures.adds)
-
-pub resolve_choice-returns-in_err-other-in-Some-clause-told : goal.resolve_choice-returns-in_err-other-in-Some-clause-told
-resolve_choice-returns-in_err-other-in-Some-clause-told t c =
-    exit_tells _ c.from_residual-in_err-other-in-Some.result _ c.from_residual-in_err-other-in-Some.ensures.1
+pub resolve_choice-returns-in_err-other-in-Some : goal.resolve_choice-returns-in_err-other-in-Some
+resolve_choice-returns-in_err-other-in-Some t c =
+    refused c.from_residual-in_err-other-in-Some.result _ c.from_residual-in_err-other-in-Some.ensures.1
+    (exit_tells _ c.from_residual-in_err-other-in-Some.result _ c.from_residual-in_err-other-in-Some.ensures.1
     (other_told c.args.asked.now.place.now (cond_view c.args.asked.now.cond.now) (stmt_view c.args.branch.now) (around_of c.args.around.now) c.args.scope.now (other_of c.args.other)
     (stmt_view c.in-Some.other.now) _ (ap other_of c.in-Some.is) c.in_ok-head.ensures.told c.in_ok-branch.ensures.told
-    (rw c.in_ok-branch.ensures.kept at c.in_err-other-in-Some.ensures.told))
+    (rw c.in_ok-branch.ensures.kept at c.in_err-other-in-Some.ensures.told)))
 
-pub resolve_choice-returns-in_ok-other-in-Some-clause-told : goal.resolve_choice-returns-in_ok-other-in-Some-clause-told
-resolve_choice-returns-in_ok-other-in-Some-clause-told t c =
-    made_told _ c.choose-in-Some.result
-    (clean_with c.args.asked.now.place.now (cond_view c.args.asked.now.cond.now) (stmt_view c.args.branch.now) (around_of c.args.around.now) c.args.scope.now (other_of c.args.other)
-    (stmt_view c.in-Some.other.now) (ap other_of c.in-Some.is) c.in_ok-head.ensures.told c.in_ok-branch.ensures.told
-    (rw c.in_ok-branch.ensures.kept at c.in_ok-other-in-Some.ensures.told)) c.choose-in-Some.ensures.memory
+pub resolve_choice-returns-in_ok-other-in-Some : goal.resolve_choice-returns-in_ok-other-in-Some
+resolve_choice-returns-in_ok-other-in-Some t c =
+    record {
+      told = made_told _ c.choose-in-Some.result
+          (clean_with c.args.asked.now.place.now (cond_view c.args.asked.now.cond.now) (stmt_view c.args.branch.now) (around_of c.args.around.now) c.args.scope.now (other_of c.args.other)
+          (stmt_view c.in-Some.other.now) (ap other_of c.in-Some.is) c.in_ok-head.ensures.told c.in_ok-branch.ensures.told
+          (rw c.in_ok-branch.ensures.kept at c.in_ok-other-in-Some.ensures.told)) c.choose-in-Some.ensures.memory;
+      found = found_so c.choose-in-Some.result program_stmt_view _ _
+          (ap (resolve_stmt (functions_at c.args.around.now.functions.now) c.args.scope.now c.args.labels.now.next)
+          (sym (with_other c.args.asked.now.place.now (cond_view c.args.asked.now.cond.now) (stmt_view c.args.branch.now) (other_of c.args.other) (stmt_view c.in-Some.other.now)
+          (ap other_of c.in-Some.is))))
+          (choice_found c.choose-in-Some.result c.args.labels.now.next c.in_ok-head.head.label _ _ _ _ _ _ c.choose-in-Some.ensures.found c.in_ok-head.ensures.label
+          c.in_ok-head.ensures.found (rw c.in_ok-head.ensures.counted at c.in_ok-branch.ensures.found)
+          (rw (c.in_ok-branch.ensures.kept, c.in_ok-branch.ensures.counted, c.in_ok-head.ensures.counted) at c.in_ok-other-in-Some.ensures.found));
+      kept = kept_so c.choose-in-Some.result (c.in_ok-other-in-Some.ensures.kept ∙ c.in_ok-branch.ensures.kept);
+      counted = kept_so c.choose-in-Some.result
+          (count_with c.args.asked.now.place.now (cond_view c.args.asked.now.cond.now) (stmt_view c.args.branch.now) c.args.labels.now.next _ _ _ (other_of c.args.other)
+          (stmt_view c.in-Some.other.now) (ap other_of c.in-Some.is) c.in_ok-head.ensures.counted c.in_ok-branch.ensures.counted c.in_ok-other-in-Some.ensures.counted);
+      adds = kept_so c.choose-in-Some.result
+          (labelled_with c.args.asked.now.place.now (cond_view c.args.asked.now.cond.now) (stmt_view c.args.branch.now) c.args.labels.now _ _ _ (other_of c.args.other)
+          (stmt_view c.in-Some.other.now) (ap other_of c.in-Some.is) c.in_ok-head.ensures.adds c.in_ok-branch.ensures.adds c.in_ok-other-in-Some.ensures.adds);
+    }
 
-pub resolve_choice-returns-in_ok-other-in-Some-clause-found : goal.resolve_choice-returns-in_ok-other-in-Some-clause-found
-resolve_choice-returns-in_ok-other-in-Some-clause-found t c =
-    found_so c.choose-in-Some.result program_stmt_view _ _
-    (ap (resolve_stmt (functions_at c.args.around.now.functions.now) c.args.scope.now c.args.labels.now.next)
-    (sym (with_other c.args.asked.now.place.now (cond_view c.args.asked.now.cond.now) (stmt_view c.args.branch.now) (other_of c.args.other) (stmt_view c.in-Some.other.now)
-    (ap other_of c.in-Some.is))))
-    (choice_found c.choose-in-Some.result c.args.labels.now.next c.in_ok-head.head.label _ _ _ _ _ _ c.choose-in-Some.ensures.found c.in_ok-head.ensures.label
-    c.in_ok-head.ensures.found (rw c.in_ok-head.ensures.counted at c.in_ok-branch.ensures.found)
-    (rw (c.in_ok-branch.ensures.kept, c.in_ok-branch.ensures.counted, c.in_ok-head.ensures.counted) at c.in_ok-other-in-Some.ensures.found))
-
-pub resolve_choice-returns-in_ok-other-in-Some-clause-kept : goal.resolve_choice-returns-in_ok-other-in-Some-clause-kept
-resolve_choice-returns-in_ok-other-in-Some-clause-kept t c = kept_so c.choose-in-Some.result (c.in_ok-other-in-Some.ensures.kept ∙ c.in_ok-branch.ensures.kept)
-
-pub resolve_choice-returns-in_ok-other-in-Some-clause-counted : goal.resolve_choice-returns-in_ok-other-in-Some-clause-counted
-resolve_choice-returns-in_ok-other-in-Some-clause-counted t c =
-    kept_so c.choose-in-Some.result
-    (count_with c.args.asked.now.place.now (cond_view c.args.asked.now.cond.now) (stmt_view c.args.branch.now) c.args.labels.now.next _ _ _ (other_of c.args.other)
-    (stmt_view c.in-Some.other.now) (ap other_of c.in-Some.is) c.in_ok-head.ensures.counted c.in_ok-branch.ensures.counted c.in_ok-other-in-Some.ensures.counted)
-
-pub resolve_choice-returns-in_ok-other-in-Some-clause-adds : goal.resolve_choice-returns-in_ok-other-in-Some-clause-adds
-resolve_choice-returns-in_ok-other-in-Some-clause-adds t c =
-    kept_so c.choose-in-Some.result
-    (labelled_with c.args.asked.now.place.now (cond_view c.args.asked.now.cond.now) (stmt_view c.args.branch.now) c.args.labels.now _ _ _ (other_of c.args.other)
-    (stmt_view c.in-Some.other.now) (ap other_of c.in-Some.is) c.in_ok-head.ensures.adds c.in_ok-branch.ensures.adds c.in_ok-other-in-Some.ensures.adds)
-
-pub resolve_loop-returns-in_err-head-clause-told : goal.resolve_loop-returns-in_err-head-clause-told
-resolve_loop-returns-in_err-head-clause-told t c =
-    first_told _ _ _ c.from_residual.result _
+pub resolve_loop-returns-in_err-head : goal.resolve_loop-returns-in_err-head
+resolve_loop-returns-in_err-head t c =
+    refused c.from_residual.result _ c.from_residual.ensures.1
+    (first_told _ _ _ c.from_residual.result _
     (faults_of_loop (around_of c.args.around.now) c.args.scope.now (rounds_view c.args.rounds.now) (stmt_view c.args.body.now))
-    c.from_residual.ensures.1 c.in_err-head.ensures.told
+    c.from_residual.ensures.1 c.in_err-head.ensures.told)
 
-pub resolve_loop-returns-in_err-body-clause-told : goal.resolve_loop-returns-in_err-body-clause-told
-resolve_loop-returns-in_err-body-clause-told t c =
-    second_told _ _ _ c.from_residual-in_err-body.result _
+pub resolve_loop-returns-in_err-body : goal.resolve_loop-returns-in_err-body
+resolve_loop-returns-in_err-body t c =
+    refused c.from_residual-in_err-body.result _ c.from_residual-in_err-body.ensures.1
+    (second_told _ _ _ c.from_residual-in_err-body.result _
     (faults_of_loop (around_of c.args.around.now) c.args.scope.now (rounds_view c.args.rounds.now) (stmt_view c.args.body.now))
     c.in_ok-head.ensures.told c.from_residual-in_err-body.ensures.1
-    (rw (c.in_a_loop.ensures, c.in_ok-head.ensures.entered) at c.in_err-body.ensures.told)
+    (rw (c.in_a_loop.ensures, c.in_ok-head.ensures.entered) at c.in_err-body.ensures.told))
 
-pub resolve_loop-returns-clause-told : goal.resolve_loop-returns-clause-told
-resolve_loop-returns-clause-told t c =
-    made_told _ c.into_loop.result
-    (both_clean _ _ _ (faults_of_loop (around_of c.args.around.now) c.args.scope.now (rounds_view c.args.rounds.now) (stmt_view c.args.body.now))
-    c.in_ok-head.ensures.told (rw (c.in_a_loop.ensures, c.in_ok-head.ensures.entered) at c.in_ok-body.ensures.told)) c.into_loop.ensures.memory
+pub resolve_loop-returns : goal.resolve_loop-returns
+resolve_loop-returns t c =
+    record {
+      told = made_told _ c.into_loop.result
+          (both_clean _ _ _ (faults_of_loop (around_of c.args.around.now) c.args.scope.now (rounds_view c.args.rounds.now) (stmt_view c.args.body.now))
+          c.in_ok-head.ensures.told (rw (c.in_a_loop.ensures, c.in_ok-head.ensures.entered) at c.in_ok-body.ensures.told)) c.into_loop.ensures.memory;
+      found = let F = functions_at c.args.around.now.functions.now in
+          let H = rounds_view c.args.rounds.now in
+          found_so c.into_loop.result program_stmt_view _ _
+          (c.in_ok-head.ensures.found (program_stmt_view c.in_ok-body.body)
+          ∙ ap (loop_around F c.args.scope.now c.args.labels.now.next H)
+          (rw (ap (λ (a : Around). a.functions) c.in_a_loop.ensures, c.in_ok-head.ensures.entered, c.in_ok-head.ensures.counted) at c.in_ok-body.ensures.found)
+          ∙ sym (meaning_of_loop F c.args.scope.now c.args.labels.now.next H (stmt_view c.args.body.now)))
+          c.into_loop.ensures.found;
+      kept = kept_so c.into_loop.result
+          (loop_left c.args.scope.now c.resolve_loop_head.new.scope c.resolve_stmt.new.scope c.leave.new.self (rounds_view c.args.rounds.now) c.count-count.result c.outer-outer.result
+          c.in_ok-head.ensures.entered c.in_ok-body.ensures.kept c.count-count.ensures c.outer-outer.ensures c.leave.ensures);
+      counted = kept_so c.into_loop.result
+          (c.keep_oldest.ensures.counted ∙ (rw c.in_ok-head.ensures.counted at c.in_ok-body.ensures.counted)
+          ∙ count_of_loop c.args.labels.now.next (rounds_view c.args.rounds.now) (stmt_view c.args.body.now));
+      adds = kept_so c.into_loop.result
+          (loops c.args.labels.now c.resolve_loop_head.new.labels c.resolve_stmt.new.labels c.keep_oldest.new.self (rounds_view c.args.rounds.now) (stmt_view c.args.body.now)
+          c.live_count-live.result c.in_ok-head.ensures.labelled c.in_ok-head.ensures.lives c.in_ok-body.ensures.adds c.live_count-live.ensures c.keep_oldest.ensures.live
+          c.keep_oldest.ensures.labels);
+    }
 
-pub resolve_loop-returns-clause-found : goal.resolve_loop-returns-clause-found
-resolve_loop-returns-clause-found t c =
-    let F = functions_at c.args.around.now.functions.now in
-    let H = rounds_view c.args.rounds.now in
-    found_so c.into_loop.result program_stmt_view _ _
-    (c.in_ok-head.ensures.found (program_stmt_view c.in_ok-body.body)
-    ∙ ap (loop_around F c.args.scope.now c.args.labels.now.next H)
-    (rw (ap (λ (a : Around). a.functions) c.in_a_loop.ensures, c.in_ok-head.ensures.entered, c.in_ok-head.ensures.counted) at c.in_ok-body.ensures.found)
-    ∙ sym (meaning_of_loop F c.args.scope.now c.args.labels.now.next H (stmt_view c.args.body.now)))
-    c.into_loop.ensures.found
+pub resolve_block-returns-in_err-items : goal.resolve_block-returns-in_err-items
+resolve_block-returns-in_err-items t c =
+    refused c.from_residual.result _ c.from_residual.ensures.1
+    (exit_tells _ c.from_residual.result _ c.from_residual.ensures.1 (rw c.enter.ensures at c.in_err-items.ensures.told))
 
-pub resolve_loop-returns-clause-counted : goal.resolve_loop-returns-clause-counted
-resolve_loop-returns-clause-counted t c =
-    kept_so c.into_loop.result
-    (c.keep_oldest.ensures.counted ∙ (rw c.in_ok-head.ensures.counted at c.in_ok-body.ensures.counted)
-    ∙ count_of_loop c.args.labels.now.next (rounds_view c.args.rounds.now) (stmt_view c.args.body.now))
+pub resolve_block-returns-in_err-end : goal.resolve_block-returns-in_err-end
+resolve_block-returns-in_err-end t c =
+    refused c.from_residual-in_err-end.result _ c.from_residual-in_err-end.ensures.1
+    (wanting_told _ c.from_residual-in_err-end.result _ c.in_err-end.ensures.memory c.from_residual-in_err-end.ensures.1)
 
-pub resolve_loop-returns-clause-adds : goal.resolve_loop-returns-clause-adds
-resolve_loop-returns-clause-adds t c =
-    kept_so c.into_loop.result
-    (loops c.args.labels.now c.resolve_loop_head.new.labels c.resolve_stmt.new.labels c.keep_oldest.new.self (rounds_view c.args.rounds.now) (stmt_view c.args.body.now)
-    c.living-live.result c.in_ok-head.ensures.labelled c.in_ok-head.ensures.lives c.in_ok-body.ensures.adds c.living-live.ensures c.keep_oldest.ensures.live
-    c.keep_oldest.ensures.labels)
+pub resolve_block-returns : goal.resolve_block-returns
+resolve_block-returns t c =
+    let items = (block_view c.args.block.now).0 in
+    record {
+      told = rw c.enter.ensures at c.in_ok-items.ensures.told;
+      found = block_found c.in_ok-items.items c.in_ok-end.end (functions_at c.args.around.now.functions.now) c.args.scope.now c.args.labels.now.next items (block_view c.args.block.now).1
+          (rw c.enter.ensures at c.in_ok-items.ensures.found) (c.in_ok-end.ensures.label ∙ c.in_ok-items.ensures.counted);
+      kept = block_left c.args.scope.now c.enter.new.self c.resolve_items.new.scope c.leave.new.self c.count-count.result c.outer-outer.result
+          c.enter.ensures c.in_ok-items.ensures.extended c.count-count.ensures c.outer-outer.ensures c.leave.ensures;
+      counted = block_counted items (block_view c.args.block.now).1 c.args.labels.now.next c.resolve_items.new.labels.next c.add.new.self.next c.keep_oldest.new.self.next
+          c.in_ok-items.ensures.counted c.in_ok-end.ensures.counted c.keep_oldest.ensures.counted;
+      adds = blocks c.args.labels.now c.resolve_items.new.labels c.add.new.self c.keep_oldest.new.self (block_view c.args.block.now).0 (block_view c.args.block.now).1
+          c.live_count-live.result c.in_ok-items.ensures.fills
+          (subst (λ (at : Place). Adds c.resolve_items.new.labels c.add.new.self (plain_label at c.resolve_items.new.labels.live ∷ [])) (block_end c.args.block.now) c.in_ok-end.ensures.adds)
+          c.live_count-live.ensures c.keep_oldest.ensures.live c.keep_oldest.ensures.labels;
+    }
