@@ -21,7 +21,7 @@ use Rattle.lra_iter.specs.declared.heads.Growing.{Growing}
 use Rattle.lra_iter.specs.declared.memory.Memory.{Memory}
 use Rattle.lra_iter.specs.Heads.{IsValued, GrowsBy}
 use Rattle.lra_iter.specs.Memory.{StaysKept}
-use Rattle.lra_iter.specs.Outcome.{headed, AllHave, AreKept, HasGrown, IsKept, JumpsFit, NarrowsTo}
+use Rattle.lra_iter.specs.Outcome.{headed, seen, AllHave, AreKept, HasGrown, IsKept, IsTurned, JumpsFit, NarrowsTo}
 
 -- the head grew from the first value: however it grows on, it is a growth of that; the last turn may be given again
 pub record GrowLoop {V H : Type 0} (m : Meaning V H) (set : Options) (q base : ℕ) (c : Cond) (a : graph.Node)
@@ -139,14 +139,14 @@ module _ {V H : Type 0} (m : Meaning V H) (set : Options) (q base : ℕ) (c : Co
           }
 
   -- a narrowing begins
-  pub narrow_starts : (first u entered : V) (s : Result V) (memory : Memory V) → m.dims u ≡ m.dims first →
-      m.dims s.normal ≡ m.dims first → JumpsFit m a (m.dims first) s → IsKept m set a s.flag entered s
-      → NarrowLoop m set q base c a first u s set.narrow u entered s memory memory
-  narrow_starts first u entered s memory dims behind jumps kept = record {
+  pub narrow_starts : (first : V) (f : Option ℕ) (u : V) (turn : Turn V) (memory : Memory V) → m.dims u ≡ m.dims first →
+      IsTurned m set q base c a f u turn
+      → NarrowLoop m set q base c a first u (seen turn.outcome) set.narrow u turn.entered (seen turn.outcome) memory memory
+  narrow_starts first f u turn memory dims turned = record {
     dims = dims;
-    behind = behind;
-    jumps = jumps;
-    kept = kept;
+    behind = turned.dims ∙ dims;
+    jumps = subst (λ (n : ℕ). JumpsFit m a n (seen turn.outcome)) dims turned.jumps;
+    kept = turned.kept;
     stays = λ loops has all. all;
     narrows = λ v r h. h;
   }

@@ -116,3 +116,7 @@ pub record IsTurned {V H : Type 0} (m : Meaning V H) (set : Options) (q base : �
   pub dims : m.dims turn.outcome.normal ≡ m.dims v
   pub jumps : JumpsFit m a (m.dims v) (seen turn.outcome)
   pub kept : IsKept m set a turn.outcome.flag turn.entered (seen turn.outcome)
+
+-- a turn from this value at the head, whatever was flagged before it
+abbrev pub HasTurned : {V H : Type 0} → Meaning V H → Options → ℕ → ℕ → Cond → Node → V → Turn V → Type 0
+HasTurned m set q base c a v turn = (f : Option ℕ) × IsTurned m set q base c a f v turn

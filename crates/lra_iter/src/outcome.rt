@@ -66,6 +66,13 @@ impl<D: Drop> Drop for Turn<D> {
     }
 }
 
+/// The value at a loop's head, and the turn that began with it.
+#[derive(Drop)]
+pub struct HeadTurn<D> {
+    pub value: D,
+    pub turn: Turn<D>,
+}
+
 impl<D: Domain> Entry<D> {
     /// The same entry again.
     fn copy(&self, alloc: Global) -> Result<Entry<D>, AllocError>

@@ -12,8 +12,8 @@ ghost use Rattle.lra_flow.specs.Conditions.{Leaves};
 ghost use Rattle.lra_change.specs.Sides.{Splits};
 ghost use Rattle.lra_flow.specs.Operations.{dropping};
 ghost use Rattle.lra_flow.specs.Pass.{noted};
-ghost use Rattle.lra_iter.specs.Fits.{live_after, TreeFits};
-ghost use Rattle.lra_iter.specs.Outcome.{ended, headed, seen, AreKept, AreMet, HasGrown, IsKept, IsPassed};
+ghost use Rattle.lra_iter.specs.Fits.{TreeFits};
+ghost use Rattle.lra_iter.specs.Outcome.{ended, headed, seen, AreKept, AreMet, HasGrown, HasTurned, IsKept, IsPassed};
 ghost use Rattle.lra_iter.specs.Outcome.{IsTurned, JumpsFit, LeavesWith, NarrowsTo};
 ghost use Rattle.lra_iter.specs.Memory.{MayRecall, Remembers, StaysKept};
 
@@ -21,7 +21,7 @@ use crate::catches::catch_jumps;
 use crate::heads::{grow_by, start};
 use crate::leaves::pass_leaf;
 use crate::memory::Memory;
-use crate::outcome::{Entry, Found, Outcome, Turn, note, reuse_turn};
+use crate::outcome::{Entry, Found, HeadTurn, Outcome, Turn, note, reuse_turn};
 use crate::shapes::{Choice, Loop, Row, Shape};
 use lra_base::Options;
 use lra_change::{Kept, Sides, leave, split};
@@ -127,19 +127,19 @@ fn finish<D: Domain>(
     memory: &mut Memory<D>,
     the_loop: &Loop<'_>,
     first: D,
-    top: D,
-    last: Turn<D>,
+    last: HeadTurn<D>,
 ) -> Result<Outcome<D>, AllocError>
-    requires { D.meaning.dims top ≤ 2 ^ 30 }
+    requires { D.meaning.dims last.value ≤ 2 ^ 30 }
     ensures left { IfOk result (λ r. LeavesWith D.meaning the_loop.now.point the_loop.now.base
-        (cond_view the_loop.now.condition.now) top (seen last.outcome) (seen r)) }
-    ensures dims { IfOk result (λ r. D.meaning.dims r.normal ≡ D.meaning.dims top) }
+        (cond_view the_loop.now.condition.now) last.value (seen last.turn.outcome) (seen r)) }
+    ensures dims { IfOk result (λ r. D.meaning.dims r.normal ≡ D.meaning.dims last.value) }
     ensures keeps { (options : Options) (loops : ℕ → graph.Node) → IfOk result (λ r.
-        MayRecall D.meaning options loops last.outcome.flag memory.old →
+        MayRecall D.meaning options loops last.turn.outcome.flag memory.old →
         IsKept D.meaning options (loops the_loop.now.point) r.flag first (seen r) →
         MayRecall D.meaning options loops r.flag memory.new) }
 {
-    let outcome = leave_loop(alloc, the_loop, top, last.into_outcome())?;
+    let HeadTurn { value, turn } = last;
+    let outcome = leave_loop(alloc, the_loop, value, turn.into_outcome())?;
     memory.end(alloc, the_loop.point, first, &outcome)?;
     Ok(outcome)
 }
@@ -180,9 +180,8 @@ fn round<D: Domain>(
 ) -> Result<Turn<D>, AllocError>
     requires parts { 1 ≤ the_loop.now.options.now.parts }
     requires few { D.meaning.dims value.now ≤ 2 ^ 30 }
-    requires fits { TreeFits (node_view the_loop.now.body.now) (D.meaning.dims value.now) }
-    requires closed { live_after (node_view the_loop.now.body.now) (D.meaning.dims value.now) ≡
-        D.meaning.dims value.now }
+    requires fits { TreeFits (iterate the_loop.now.point the_loop.now.base (cond_view the_loop.now.condition.now)
+        (node_view the_loop.now.body.now)) (D.meaning.dims value.now) }
     requires kept { AreKept D.meaning the_loop.now.options.now (node_view the_loop.now.body.now) flag kept }
     requires remembers { Remembers D.meaning the_loop.now.options.now
         (node_view the_loop.now.body.now) flag memory.old }
@@ -208,25 +207,21 @@ fn grow<D: Domain>(
     the_loop: &Loop<'_>,
     first: &D,
     flag: Option<usize>,
-) -> Result<(D, Turn<D>), AllocError>
+) -> Result<HeadTurn<D>, AllocError>
     requires parts { 1 ≤ the_loop.now.options.now.parts }
     requires few { D.meaning.dims first.now ≤ 2 ^ 30 }
-    requires fits { TreeFits (node_view the_loop.now.body.now) (D.meaning.dims first.now) }
-    requires closed { live_after (node_view the_loop.now.body.now) (D.meaning.dims first.now) ≡
-        D.meaning.dims first.now }
+    requires fits { TreeFits (iterate the_loop.now.point the_loop.now.base (cond_view the_loop.now.condition.now)
+        (node_view the_loop.now.body.now)) (D.meaning.dims first.now) }
     requires remembers { Remembers D.meaning the_loop.now.options.now
         (node_view the_loop.now.body.now) flag memory.old }
     ensures grows { IfOk result (λ r. HasGrown D.meaning the_loop.now.options.now the_loop.now.point the_loop.now.base
-        (cond_view the_loop.now.condition.now) (node_view the_loop.now.body.now) first.now flag r.0
-        (headed the_loop.now.point r.0 (seen r.1.outcome))) }
-    ensures dims { IfOk result (λ r. D.meaning.dims r.0 ≡ D.meaning.dims first.now) }
-    ensures behind { IfOk result (λ r. D.meaning.dims r.1.outcome.normal ≡ D.meaning.dims first.now) }
-    ensures jumps { IfOk result (λ r. JumpsFit D.meaning (node_view the_loop.now.body.now) (D.meaning.dims first.now)
-        (seen r.1.outcome)) }
-    ensures kept { IfOk result (λ r. IsKept D.meaning the_loop.now.options.now (node_view the_loop.now.body.now)
-        r.1.outcome.flag r.1.entered (seen r.1.outcome)) }
+        (cond_view the_loop.now.condition.now) (node_view the_loop.now.body.now) first.now flag r.value
+        (headed the_loop.now.point r.value (seen r.turn.outcome))) }
+    ensures dims { IfOk result (λ r. D.meaning.dims r.value ≡ D.meaning.dims first.now) }
+    ensures turned { IfOk result (λ r. HasTurned D.meaning the_loop.now.options.now the_loop.now.point
+        the_loop.now.base (cond_view the_loop.now.condition.now) (node_view the_loop.now.body.now) r.value r.turn) }
     ensures stays { IfOk result (λ r. StaysKept D.meaning the_loop.now.options.now (node_view the_loop.now.body.now)
-        flag memory.old r.1.outcome.flag memory.new) }
+        flag memory.old r.turn.outcome.flag memory.new) }
 {
     let mut head = start(alloc, the_loop, first, flag)?;
     let mut kept = None;
@@ -234,7 +229,10 @@ fn grow<D: Domain>(
         let turn = round(alloc, memory, the_loop, &head.value, head.flag, kept)?;
         let stable = grow_by(alloc, the_loop, &mut head, &turn.outcome)?;
         if stable {
-            return Ok((head.into_value(), turn));
+            return Ok(HeadTurn {
+                value: head.into_value(),
+                turn,
+            });
         }
         kept = Some(turn);
     }
@@ -248,33 +246,31 @@ fn narrow<D: Domain>(
     memory: &mut Memory<D>,
     the_loop: &Loop<'_>,
     first: &D,
-    grown: D,
-    turn: Turn<D>,
-) -> Result<(D, Turn<D>), AllocError>
+    grown: HeadTurn<D>,
+) -> Result<HeadTurn<D>, AllocError>
     requires parts { 1 ≤ the_loop.now.options.now.parts }
     requires few { D.meaning.dims first.now ≤ 2 ^ 30 }
-    requires fits { TreeFits (node_view the_loop.now.body.now) (D.meaning.dims first.now) }
-    requires closed { live_after (node_view the_loop.now.body.now) (D.meaning.dims first.now) ≡
-        D.meaning.dims first.now }
-    requires dims { D.meaning.dims grown ≡ D.meaning.dims first.now }
-    requires behind { D.meaning.dims turn.outcome.normal ≡ D.meaning.dims first.now }
-    requires jumps { JumpsFit D.meaning (node_view the_loop.now.body.now) (D.meaning.dims first.now)
-        (seen turn.outcome) }
-    requires kept { IsKept D.meaning the_loop.now.options.now (node_view the_loop.now.body.now)
-        turn.outcome.flag turn.entered (seen turn.outcome) }
+    requires fits { TreeFits (iterate the_loop.now.point the_loop.now.base (cond_view the_loop.now.condition.now)
+        (node_view the_loop.now.body.now)) (D.meaning.dims first.now) }
+    requires dims { D.meaning.dims grown.value ≡ D.meaning.dims first.now }
+    requires turned { HasTurned D.meaning the_loop.now.options.now the_loop.now.point the_loop.now.base
+        (cond_view the_loop.now.condition.now) (node_view the_loop.now.body.now) grown.value grown.turn }
     requires remembers { Remembers D.meaning the_loop.now.options.now
-        (node_view the_loop.now.body.now) turn.outcome.flag memory.old }
+        (node_view the_loop.now.body.now) grown.turn.outcome.flag memory.old }
     ensures narrows { IfOk result (λ r. NarrowsTo D.meaning the_loop.now.options.now the_loop.now.point
-        the_loop.now.base (cond_view the_loop.now.condition.now) (node_view the_loop.now.body.now) first.now grown
-        (headed the_loop.now.point grown (seen turn.outcome)) r.0 (headed the_loop.now.point r.0 (seen r.1.outcome))) }
-    ensures dims { IfOk result (λ r. D.meaning.dims r.0 ≡ D.meaning.dims first.now) }
+        the_loop.now.base (cond_view the_loop.now.condition.now) (node_view the_loop.now.body.now) first.now grown.value
+        (headed the_loop.now.point grown.value (seen grown.turn.outcome)) r.value
+        (headed the_loop.now.point r.value (seen r.turn.outcome))) }
+    ensures dims { IfOk result (λ r. D.meaning.dims r.value ≡ D.meaning.dims first.now) }
     ensures jumps { IfOk result (λ r. JumpsFit D.meaning (node_view the_loop.now.body.now) (D.meaning.dims first.now)
-        (seen r.1.outcome)) }
+        (seen r.turn.outcome)) }
     ensures stays { IfOk result (λ r. StaysKept D.meaning the_loop.now.options.now (node_view the_loop.now.body.now)
-        turn.outcome.flag memory.old r.1.outcome.flag memory.new) }
+        grown.turn.outcome.flag memory.old r.turn.outcome.flag memory.new) }
 {
-    let mut top = grown;
-    let mut last = turn;
+    let HeadTurn {
+        value: mut top,
+        turn: mut last,
+    } = grown;
     let mut left = the_loop.options.narrow;
     'narrowing: while left > 0 {
         let (next, so_far) = join_round(alloc, the_loop.point, first, &last.outcome)?;
@@ -282,7 +278,10 @@ fn narrow<D: Domain>(
         last = round(alloc, memory, the_loop, &top, so_far, Some(last))?;
         left -= 1;
     }
-    Ok((top, last))
+    Ok(HeadTurn {
+        value: top,
+        turn: last,
+    })
 }
 
 /// A loop: its head grows, is narrowed, and is left where the condition is false.
@@ -296,8 +295,8 @@ fn pass_loop<D: Domain>(
 ) -> Result<Outcome<D>, AllocError>
     requires parts { 1 ≤ the_loop.now.options.now.parts }
     requires few { D.meaning.dims value ≤ 2 ^ 30 }
-    requires fits { TreeFits (node_view the_loop.now.body.now) (D.meaning.dims value) }
-    requires closed { live_after (node_view the_loop.now.body.now) (D.meaning.dims value) ≡ D.meaning.dims value }
+    requires fits { TreeFits (iterate the_loop.now.point the_loop.now.base (cond_view the_loop.now.condition.now)
+        (node_view the_loop.now.body.now)) (D.meaning.dims value) }
     requires remembers { Remembers D.meaning the_loop.now.options.now (iterate the_loop.now.point the_loop.now.base
         (cond_view the_loop.now.condition.now) (node_view the_loop.now.body.now)) flag memory.old }
     ensures passed { IfOk result (λ r. IsPassed D.meaning the_loop.now.options.now
@@ -310,9 +309,9 @@ fn pass_loop<D: Domain>(
     if let Some(given) = memory.begin(alloc, the_loop.point, &value, flag)? {
         return Ok(given);
     }
-    let (grown, turn) = grow(alloc, memory, the_loop, &value, flag)?;
-    let (top, last) = narrow(alloc, memory, the_loop, &value, grown, turn)?;
-    finish(alloc, memory, the_loop, value, top, last)
+    let grown = grow(alloc, memory, the_loop, &value, flag)?;
+    let last = narrow(alloc, memory, the_loop, &value, grown)?;
+    finish(alloc, memory, the_loop, value, last)
 }
 
 /// The one side where the condition is true, the other where it is false.

@@ -1,6 +1,6 @@
 //! What a pass finds, by the numbers of the points.
 
-ghost use Rattle.std.specs.Prelude.{◌≡◌, map, replicate, flat_map, None, IfOk};
+ghost use Rattle.std.specs.Prelude.{◌≡◌, ◌<◌, length, map, replicate, flat_map, slice_set, None, Some, IfOk};
 ghost use Rattle.std.specs.Option.{option_to_list};
 ghost use Rattle.lra_iter.specs.Outcome.{entry_view};
 ghost use Rattle.lra_iter.specs.Counts.{AreApart};
@@ -28,6 +28,14 @@ fn empty_table<T: Drop>(alloc: Global, count: usize) -> Result<Vec<Option<T>>, A
     Ok(table)
 }
 
+/// The place holds this value from now on.
+fn fill<T: Drop>(table: &mut Vec<Option<T>>, place: usize, value: T)
+    requires { place < length table.old.items }
+    ensures { table.new.items ≡ slice_set table.old.items place (Some value) }
+{
+    table[place] = Some(value);
+}
+
 /// The entries at their numbers; an assertion is proved where its value is empty.
 pub fn tables_of<D: Domain>(
     alloc: Global,
@@ -42,8 +50,8 @@ pub fn tables_of<D: Domain>(
     let mut verdicts = empty_table(alloc, count)?;
     'entries: for entry in entries {
         match entry {
-            Entry::Value(point, value) => values[point] = Some(value),
-            Entry::Failing(point, value) => verdicts[point] = Some(value.is_empty()),
+            Entry::Value(point, value) => fill(&mut values, point, value),
+            Entry::Failing(point, value) => fill(&mut verdicts, point, value.is_empty()),
         }
     }
     Ok(Tables { values, verdicts })

@@ -8,7 +8,8 @@ use Rattle.lra_base.specs.declared.options.Options.{Options}
 use Rattle.std.proofs.lemmas.Result.{IfOk-weaker}
 use Rattle.lra_flow.specs.Pass.{noted}
 use Rattle.lra_iter.specs.Fits.{live_after, TreeFits}
-use Rattle.lra_iter.specs.Outcome.{headed, seen, AreInTurn, AreKept, AreMet, HasGrown, IsKept, IsPassed, JumpsFit, LeavesWith}
+use Rattle.lra_iter.specs.Outcome.{headed, seen, AreInTurn, AreKept, AreMet, HasGrown, HasTurned, IsKept, IsPassed, IsTurned}
+use Rattle.lra_iter.specs.Outcome.{LeavesWith}
 use Rattle.lra_iter.proofs.PassLoops.{grow_falls, head_starts, head_wide, head_stable, head_next}
 use Rattle.lra_iter.specs.declared.shapes.Shape.{Shape}
 use Rattle.lra_iter.specs.declared.shapes.Shape.TheVariants.{Leaf, Row, Choice, Loop, Catch}
@@ -35,7 +36,7 @@ round-pass-requires g t c =
     let same : m.dims c.in_ok-on.on ≡ m.dims c.args.value.now = c.in_ok-on.ensures.dims in
     let few : m.dims c.in_ok-on.on ≤ 2 ^ 30 = subst (λ n. n ≤ 2 ^ 30) (sym same) c.requires.few in
     let fits : TreeFits (node_view c.args.the_loop.now.body.now) (m.dims c.in_ok-on.on) =
-    subst (λ n. TreeFits (node_view c.args.the_loop.now.body.now) n) (sym same) c.requires.fits in
+    subst (λ n. TreeFits (node_view c.args.the_loop.now.body.now) n) (sym same) c.requires.fits.0 in
     let memory : Remembers m c.args.the_loop.now.options.now
     (node_view c.args.the_loop.now.body.now) c.in_ok-on.inside c.args.memory.now =
     remembers_later m l.options.now (node_view l.body.now) c.args.flag c.in_ok-on.inside c.args.memory.now
@@ -51,7 +52,7 @@ round-returns-in-Some-clause-turned g t c =
     let entered = c.in_ok-on.ensures.enters in
     given_turned m l.options.now body l.point l.base (cond_view l.condition.now) c.args.flag c.in_ok-on.inside
     c.args.value.now c.in_ok-on.on entered.0 c.args.kept c.reuse_turn.result
-    c.in-Some.turn entered.1 entered.2 c.in_ok-on.ensures.dims c.requires.closed c.requires.kept
+    c.in-Some.turn entered.1 entered.2 c.in_ok-on.ensures.dims c.requires.fits.1 c.requires.kept
     (c.reuse_turn.ensures l.options.now body) c.in-Some.is
 
 pub round-returns-in-Some-clause-stays : goal.round-returns-in-Some-clause-stays
@@ -82,7 +83,7 @@ round-returns-clause-turned g t c =
     turned m l.options.now body l.point l.base (cond_view l.condition.now) c.args.flag c.in_ok-on.inside
     c.args.value.now c.in_ok-on.on entered.0
     (record { entered = c.in_ok-entered.entered; outcome = c.in_ok-outcome.outcome }) entered.1 entered.2
-    c.in_ok-on.ensures.dims c.requires.closed c.in_ok-entered.ensures
+    c.in_ok-on.ensures.dims c.requires.fits.1 c.in_ok-entered.ensures
     done.passed
 
 -- a head that grows ---------------------------------------------------------------------------------------------------
@@ -104,10 +105,10 @@ grow-round-requires g t c =
     (cond_view l.condition.now) body c.args.first.now c.args.flag c.head.head c.head.kept c.args.memory.now c.head.memory
     here in
     let few : m.dims c.head.head.value ≤ 2 ^ 30 = subst (λ n. n ≤ 2 ^ 30) (sym same) c.requires.few in
-    let fits : TreeFits (node_view c.args.the_loop.now.body.now) (m.dims c.head.head.value) =
-    subst (λ n. TreeFits body n) (sym same) c.requires.fits in
-    let closed : live_after (node_view c.args.the_loop.now.body.now) (m.dims c.head.head.value) ≡
-    m.dims c.head.head.value = subst (λ n. live_after body n ≡ n) (sym same) c.requires.closed in
+    let fits : TreeFits (graph.iterate c.args.the_loop.now.point c.args.the_loop.now.base
+    (cond_view c.args.the_loop.now.condition.now) (node_view c.args.the_loop.now.body.now))
+    (m.dims c.head.head.value) =
+    subst (λ n. TreeFits (graph.iterate l.point l.base (cond_view l.condition.now) body) n) (sym same) c.requires.fits in
     let kept : AreKept m c.args.the_loop.now.options.now
     (node_view c.args.the_loop.now.body.now) c.head.head.flag c.head.kept =
     subst (λ f. AreKept m l.options.now body f c.head.kept) (sym here.valued.2)
@@ -145,24 +146,15 @@ grow-returns-then-stable-clause-dims g t c =
     ap m.dims same ∙ head_wide m l.options.now l.point l.base (cond_view l.condition.now) (node_view l.body.now)
     c.args.first.now c.args.flag c.head.head c.head.kept c.args.memory.now c.head.memory c.head.invariant
 
-pub grow-returns-then-stable-clause-behind : goal.grow-returns-then-stable-clause-behind
-grow-returns-then-stable-clause-behind g t c =
+pub grow-returns-then-stable-clause-turned : goal.grow-returns-then-stable-clause-turned
+grow-returns-then-stable-clause-turned g t c =
     let l = c.args.the_loop.now in
-    c.in_ok-turn.ensures.turned.dims ∙ head_wide g.D.Domain.meaning l.options.now l.point l.base
-    (cond_view l.condition.now) (node_view l.body.now)
-    c.args.first.now c.args.flag c.head.head c.head.kept c.args.memory.now c.head.memory c.head.invariant
-
-pub grow-returns-then-stable-clause-jumps : goal.grow-returns-then-stable-clause-jumps
-grow-returns-then-stable-clause-jumps g t c =
-    let m = g.D.Domain.meaning in
-    let l = c.args.the_loop.now in
-    let body = node_view l.body.now in
-    let same = head_wide m l.options.now l.point l.base (cond_view l.condition.now) body
-    c.args.first.now c.args.flag c.head.head c.head.kept c.args.memory.now c.head.memory c.head.invariant in
-    subst (λ n. JumpsFit m body n (seen c.in_ok-turn.turn.outcome)) same c.in_ok-turn.ensures.turned.jumps
-
-pub grow-returns-then-stable-clause-kept : goal.grow-returns-then-stable-clause-kept
-grow-returns-then-stable-clause-kept g t c = c.in_ok-turn.ensures.turned.kept
+    let same : c.into_value.result ≡ c.head.head.value = c.into_value.ensures ∙
+    c.in_ok-stable.ensures.same c.if-stable.true in (
+      c.head.head.flag,
+      subst (λ x. IsTurned g.D.Domain.meaning l.options.now l.point l.base (cond_view l.condition.now)
+          (node_view l.body.now) c.head.head.flag x c.in_ok-turn.turn) (sym same) c.in_ok-turn.ensures.turned,
+    )
 
 pub grow-returns-then-stable-clause-stays : goal.grow-returns-then-stable-clause-stays
 grow-returns-then-stable-clause-stays g t c =
@@ -240,15 +232,13 @@ pass_loop-narrow-requires g t c =
     let l = c.args.the_loop.now in
     let body = node_view l.body.now in
     let grown = c.in_ok-grown.ensures in
-    let dims : m.dims c.in_ok-grown.grown ≡ m.dims c.args.value = grown.dims in
-    let behind : m.dims c.in_ok-grown.turn.outcome.normal ≡ m.dims c.args.value = grown.behind in
-    let jumps : JumpsFit m (node_view c.args.the_loop.now.body.now) (m.dims c.args.value) (seen c.in_ok-grown.turn.outcome)
-    = grown.jumps in
-    let kept : IsKept m c.args.the_loop.now.options.now (node_view c.args.the_loop.now.body.now)
-    c.in_ok-grown.turn.outcome.flag c.in_ok-grown.turn.entered (seen c.in_ok-grown.turn.outcome) = grown.kept in
+    let dims : m.dims c.in_ok-grown.grown.value ≡ m.dims c.args.value = grown.dims in
+    let turned : HasTurned m c.args.the_loop.now.options.now c.args.the_loop.now.point c.args.the_loop.now.base
+    (cond_view c.args.the_loop.now.condition.now) (node_view c.args.the_loop.now.body.now)
+    c.in_ok-grown.grown.value c.in_ok-grown.grown.turn = grown.turned in
     let memory : Remembers m c.args.the_loop.now.options.now (node_view c.args.the_loop.now.body.now)
-    c.in_ok-grown.turn.outcome.flag c.grow.new.memory =
-    remembers_on m l.options.now body c.args.flag c.in_ok-grown.turn.outcome.flag c.in_ok-grown.turn.outcome.flag
+    c.in_ok-grown.grown.turn.outcome.flag c.grow.new.memory =
+    remembers_on m l.options.now body c.args.flag c.in_ok-grown.grown.turn.outcome.flag c.in_ok-grown.grown.turn.outcome.flag
     c.begin.new.self c.grow.new.memory
     (remembers_body m l.options.now l.point l.base (cond_view l.condition.now)
     body c.args.flag c.args.memory.now c.begin.new.self c.begin.ensures.kept c.requires.remembers)
@@ -256,23 +246,23 @@ pass_loop-narrow-requires g t c =
     search rules
 
 pub pass_loop-finish-requires : goal.pass_loop-finish-requires
-pass_loop-finish-requires g t c = subst (λ n. n ≤ 2 ^ 30) (sym c.in_ok-top.ensures.dims) c.requires.few
+pass_loop-finish-requires g t c = subst (λ n. n ≤ 2 ^ 30) (sym c.in_ok-last.ensures.dims) c.requires.few
 
 pub pass_loop-returns-clause-passed : goal.pass_loop-returns-clause-passed
 pass_loop-returns-clause-passed g t c =
     let m = g.D.Domain.meaning in
     let l = c.args.the_loop.now in
     let body = node_view l.body.now in
-    let top = c.in_ok-top.top in
-    let last = seen c.in_ok-top.last.outcome in
+    let top = c.in_ok-last.last.value in
+    let last = seen c.in_ok-last.last.turn.outcome in
     if_both c.finish.result (λ r. LeavesWith m l.point l.base (cond_view l.condition.now) top last (seen r))
     (λ r. m.dims r.normal ≡ m.dims top)
     (λ r. IsPassed m l.options.now (graph.iterate l.point l.base (cond_view l.condition.now) body) c.args.flag
     c.args.value (seen r))
     (λ r left dims. loop_passed m l.options.now l.point l.base (cond_view l.condition.now) body c.args.flag
-    c.args.value c.in_ok-grown.grown top (headed l.point c.in_ok-grown.grown (seen c.in_ok-grown.turn.outcome)) last
-    (seen r) c.in_ok-grown.ensures.grows c.in_ok-top.ensures.narrows left c.in_ok-top.ensures.dims dims
-    c.in_ok-top.ensures.jumps)
+    c.args.value c.in_ok-grown.grown.value top (headed l.point c.in_ok-grown.grown.value (seen c.in_ok-grown.grown.turn.outcome)) last
+    (seen r) c.in_ok-grown.ensures.grows c.in_ok-last.ensures.narrows left c.in_ok-last.ensures.dims dims
+    c.in_ok-last.ensures.jumps)
     c.finish.ensures.left c.finish.ensures.dims
 
 pub pass_loop-returns-clause-stays : goal.pass_loop-returns-clause-stays
@@ -280,25 +270,25 @@ pass_loop-returns-clause-stays g t c =
     let m = g.D.Domain.meaning in
     let l = c.args.the_loop.now in
     let body = node_view l.body.now in
-    let top = c.in_ok-top.top in
-    let last = c.in_ok-top.last.outcome in
-    let grown = c.in_ok-grown.turn.outcome in
+    let top = c.in_ok-last.last.value in
+    let last = c.in_ok-last.last.turn.outcome in
+    let grown = c.in_ok-grown.grown.turn.outcome in
     let passed = if_both c.finish.result
     (λ r. LeavesWith m l.point l.base (cond_view l.condition.now) top (seen last) (seen r))
     (λ r. m.dims r.normal ≡ m.dims top)
     (λ r. IsPassed m l.options.now (graph.iterate l.point l.base (cond_view l.condition.now) body) c.args.flag
     c.args.value (seen r))
     (λ r left dims. loop_passed m l.options.now l.point l.base (cond_view l.condition.now) body c.args.flag
-    c.args.value c.in_ok-grown.grown top (headed l.point c.in_ok-grown.grown (seen grown)) (seen last)
-    (seen r) c.in_ok-grown.ensures.grows c.in_ok-top.ensures.narrows left c.in_ok-top.ensures.dims dims
-    c.in_ok-top.ensures.jumps)
+    c.args.value c.in_ok-grown.grown.value top (headed l.point c.in_ok-grown.grown.value (seen grown)) (seen last)
+    (seen r) c.in_ok-grown.ensures.grows c.in_ok-last.ensures.narrows left c.in_ok-last.ensures.dims dims
+    c.in_ok-last.ensures.jumps)
     c.finish.ensures.left c.finish.ensures.dims in
     finish_stays m l.options.now l.point l.base (cond_view l.condition.now) body c.args.flag last.flag
     c.args.value c.finish.result c.args.memory.now c.narrow.new.memory c.finish.new.memory
     (stays_begun m l.options.now l.point l.base (cond_view l.condition.now) body c.args.flag last.flag
     c.args.memory.now c.begin.new.self c.narrow.new.memory c.begin.ensures.kept
     (stays_both m l.options.now body c.args.flag grown.flag grown.flag last.flag c.begin.new.self c.grow.new.memory
-    c.narrow.new.memory c.in_ok-grown.ensures.stays (λ none. none) c.in_ok-top.ensures.stays))
+    c.narrow.new.memory c.in_ok-grown.ensures.stays (λ none. none) c.in_ok-last.ensures.stays))
     passed (c.finish.ensures.keeps l.options.now)
 
 -- a stable head, narrowed ---------------------------------------------------------------------------------------------
@@ -307,8 +297,8 @@ pub narrow-narrowing-init : goal.narrow-narrowing-init
 narrow-narrowing-init g t c =
     let l = c.args.the_loop.now in
     narrow_starts g.D.Domain.meaning l.options.now l.point l.base (cond_view l.condition.now)
-    (node_view l.body.now) c.args.first.now c.args.grown c.args.turn.entered (seen c.args.turn.outcome)
-    c.args.memory.now c.requires.dims c.requires.behind c.requires.jumps c.requires.kept
+    (node_view l.body.now) c.args.first.now c.requires.turned.0 c.args.grown.value c.args.grown.turn c.args.memory.now
+    c.requires.dims c.requires.turned.1
 
 pub narrow-narrowed-requires : goal.narrow-narrowed-requires
 narrow-narrowed-requires g t c = c.narrowing.invariant.behind
@@ -322,10 +312,10 @@ narrow-round-requires g t c =
     let joined = c.in_ok-next.ensures in
     let same : m.dims c.in_ok-next.next ≡ m.dims c.args.first.now = joined.1.2 in
     let few : m.dims c.in_ok-next.next ≤ 2 ^ 30 = subst (λ n. n ≤ 2 ^ 30) (sym same) c.requires.few in
-    let fits : TreeFits (node_view c.args.the_loop.now.body.now) (m.dims c.in_ok-next.next) =
-    subst (λ n. TreeFits body n) (sym same) c.requires.fits in
-    let closed : live_after (node_view c.args.the_loop.now.body.now) (m.dims c.in_ok-next.next) ≡
-    m.dims c.in_ok-next.next = subst (λ n. live_after body n ≡ n) (sym same) c.requires.closed in
+    let fits : TreeFits (graph.iterate c.args.the_loop.now.point c.args.the_loop.now.base
+    (cond_view c.args.the_loop.now.condition.now) (node_view c.args.the_loop.now.body.now))
+    (m.dims c.in_ok-next.next) =
+    subst (λ n. TreeFits (graph.iterate l.point l.base (cond_view l.condition.now) body) n) (sym same) c.requires.fits in
     let kept : IsKept m c.args.the_loop.now.options.now
     (node_view c.args.the_loop.now.body.now) c.in_ok-next.so_far c.narrowing.last.entered
     (seen c.narrowing.last.outcome) =
@@ -334,7 +324,7 @@ narrow-round-requires g t c =
     (seen last.outcome) c.narrowing.invariant.kept) in
     let memory : Remembers m c.args.the_loop.now.options.now
     (node_view c.args.the_loop.now.body.now) c.in_ok-next.so_far c.narrowing.memory =
-    remembers_on m l.options.now body c.args.turn.outcome.flag last.outcome.flag c.in_ok-next.so_far c.args.memory.now
+    remembers_on m l.options.now body c.args.grown.turn.outcome.flag last.outcome.flag c.in_ok-next.so_far c.args.memory.now
     c.narrowing.memory c.requires.remembers c.narrowing.invariant.stays
     (later_noted l.point joined.0 last.outcome.flag c.in_ok-next.so_far joined.2) in
     search rules
@@ -347,13 +337,13 @@ narrow-narrowing-preserved g t c =
     let after = c.in_ok-last.last in
     let counts : c.narrowing.left ≡ suc (c.narrowing.left - 1) = omega arith in
     narrow_next g.D.Domain.meaning l.options.now l.point l.base (cond_view l.condition.now) body
-    c.args.first.now c.args.grown (seen c.args.turn.outcome) c.narrowing.left (c.narrowing.left - 1)
+    c.args.first.now c.args.grown.value (seen c.args.grown.turn.outcome) c.narrowing.left (c.narrowing.left - 1)
     c.narrowing.top c.in_ok-next.next before.entered after.entered (seen before.outcome)
     (seen after.outcome) c.in_ok-next.ensures.0 c.in_ok-next.so_far c.args.memory.now c.narrowing.memory
     c.round.new.memory c.narrowing.invariant counts c.in_ok-next.ensures.1 c.in_ok-next.ensures.2
     c.in_ok-last.ensures.turned.round c.in_ok-last.ensures.turned.dims c.in_ok-last.ensures.turned.jumps
     c.in_ok-last.ensures.turned.kept
-    (stays_both g.D.Domain.meaning l.options.now body c.args.turn.outcome.flag before.outcome.flag
+    (stays_both g.D.Domain.meaning l.options.now body c.args.grown.turn.outcome.flag before.outcome.flag
     c.in_ok-next.so_far after.outcome.flag c.args.memory.now c.narrowing.memory c.round.new.memory
     c.narrowing.invariant.stays
     (later_noted l.point c.in_ok-next.ensures.0 before.outcome.flag c.in_ok-next.so_far c.in_ok-next.ensures.2)
@@ -364,7 +354,7 @@ narrow-returns-clause-narrows g t c =
     let l = c.args.the_loop.now in
     let none : c.narrowing.left ≡ 0 = omega arith in
     narrow_ends g.D.Domain.meaning l.options.now l.point l.base (cond_view l.condition.now) (node_view l.body.now)
-    c.args.first.now c.args.grown (seen c.args.turn.outcome) c.narrowing.left c.narrowing.top c.narrowing.last.entered
+    c.args.first.now c.args.grown.value (seen c.args.grown.turn.outcome) c.narrowing.left c.narrowing.top c.narrowing.last.entered
     (seen c.narrowing.last.outcome) c.args.memory.now c.narrowing.memory c.narrowing.invariant none
 
 pub narrow-returns-clause-dims : goal.narrow-returns-clause-dims
@@ -645,10 +635,8 @@ pass-pass_loop-requires g t c =
     subst (λ (x : Shape). IsShape c.args.options.now c.args.node.now x) c.in-Loop.is c.of.ensures in
     let sized : node_size c.in-Loop.the_loop.body.now < node_size c.args.node.now = shape.1 in
     let parts : 1 ≤ c.in-Loop.the_loop.options.now.parts = subst (λ (s : Options). 1 ≤ s.parts) (sym shape.2) c.requires.parts in
-    let both : TreeFits (graph.iterate c.in-Loop.the_loop.point c.in-Loop.the_loop.base (cond_view c.in-Loop.the_loop.condition.now) (node_view c.in-Loop.the_loop.body.now)) (m.dims c.args.value) =
+    let fits : TreeFits (graph.iterate c.in-Loop.the_loop.point c.in-Loop.the_loop.base (cond_view c.in-Loop.the_loop.condition.now) (node_view c.in-Loop.the_loop.body.now)) (m.dims c.args.value) =
     subst (λ x. TreeFits x (m.dims c.args.value)) shape.0 c.requires.fits in
-    let fits : TreeFits (node_view c.in-Loop.the_loop.body.now) (m.dims c.args.value) = both.0 in
-    let closed : live_after (node_view c.in-Loop.the_loop.body.now) (m.dims c.args.value) ≡ m.dims c.args.value = both.1 in
     let memory : Remembers m c.in-Loop.the_loop.options.now (graph.iterate c.in-Loop.the_loop.point c.in-Loop.the_loop.base (cond_view c.in-Loop.the_loop.condition.now)
     (node_view c.in-Loop.the_loop.body.now)) c.args.flag c.args.memory.now =
     remembers_given m c.args.options.now c.in-Loop.the_loop.options.now (node_view c.args.node.now) _ c.args.flag c.args.memory.now

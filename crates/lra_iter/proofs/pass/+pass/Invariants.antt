@@ -18,7 +18,7 @@ decreases-grow-head g l = phased (2 ^ 64) l.head.left (g.D.Domain.meaning.rank l
 
 abbrev pub invariant-narrow-narrowing : goal.invariant-narrow-narrowing
 invariant-narrow-narrowing g l = NarrowLoop g.D.Domain.meaning l.the_loop.options.now l.the_loop.point l.the_loop.base
-    (cond_view l.the_loop.condition.now) (node_view l.the_loop.body.now) l.first l.fn.grown (seen l.fn.turn.outcome)
+    (cond_view l.the_loop.condition.now) (node_view l.the_loop.body.now) l.first l.fn.grown.value (seen l.fn.grown.turn.outcome)
     l.left l.top l.last.entered (seen l.last.outcome) l.fn.memory l.memory
 
 abbrev pub decreases-narrow-narrowing : goal.decreases-narrow-narrowing

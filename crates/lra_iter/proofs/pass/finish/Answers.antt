@@ -10,6 +10,6 @@ returns-clause-keeps g c options loops all kept =
     let l = c.args.the_loop.now in
     let left = rw c.into_outcome.ensures at c.in_ok-outcome.ensures.left in
     c.in_ok-end.ensures options loops
-    (recall_later m options loops c.args.last.outcome.flag c.in_ok-outcome.outcome.flag c.args.memory.now
-    (left_later m l.point l.base (cond_view l.condition.now) c.args.top (seen c.args.last.outcome) (seen c.in_ok-outcome.outcome) left) all)
+    (recall_later m options loops c.args.last.turn.outcome.flag c.in_ok-outcome.outcome.flag c.args.memory.now
+    (left_later m l.point l.base (cond_view l.condition.now) c.args.last.value (seen c.args.last.turn.outcome) (seen c.in_ok-outcome.outcome) left) all)
     kept
