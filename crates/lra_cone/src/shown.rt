@@ -9,7 +9,7 @@ ghost use Rattle.lra_linear.specs.RowOrder.{row_cmp};
 ghost use Rattle.lra_linear.specs.Polyhedra.{positivity};
 ghost use Rattle.lra_cone.specs.Conversions.{points_of, directions_of, without, ShowsGenerators, ShowsConstraints};
 ghost use Rattle.lra_sys.specs.Dimensions.{too_many_dimensions};
-ghost use Rattle.lra_sys.specs.declared.system.GenKind.TheVariants.{Point, Ray, Line};
+ghost use Rattle.lra_linear.specs.declared.GenKind.TheVariants.{Point, Ray, Line};
 
 use lra_canon::{Order, canonical_order};
 use lra_row::Row;

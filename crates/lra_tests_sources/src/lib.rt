@@ -1,13 +1,10 @@
-//! Tests of what reads words and sources, and of what writes reports: each public call that allocates, and values
-//! from outside.
+//! Tests of what reads sources, and of what writes reports: each public call that allocates, and values from outside.
 //!
 //! They stand apart from what they try, since a crate that has tests in it is proved twice.
 #![tactic(auto)]
 
 #[cfg(test)]
 mod calls;
-#[cfg(test)]
-mod edge;
 #[cfg(test)]
 mod json_reports;
 #[cfg(test)]
@@ -20,5 +17,3 @@ mod report;
 mod sample;
 #[cfg(test)]
 mod show;
-#[cfg(test)]
-mod words;

@@ -4,8 +4,8 @@ use Rattle.std.specs.List.{Contains}
 use Rattle.lra_linear.specs.OperationStrain.{unit_row}
 use Rattle.lra_linear.specs.Vectors.{negated}
 use Rattle.lra_sys.specs.Listed.{constraints}
-use Rattle.lra_sys.specs.declared.system.GenKind.{GenKind}
-use Rattle.lra_sys.specs.declared.system.GenKind.TheVariants.{Point}
+use Rattle.lra_linear.specs.declared.GenKind.{GenKind}
+use Rattle.lra_linear.specs.declared.GenKind.TheVariants.{Point}
 use Rattle.lra_cone.proofs.ConstraintLists.{nothing_constrained, constrained}
 use Rattle.lra_cone.proofs.lists.constrain.Goals as goal
 
