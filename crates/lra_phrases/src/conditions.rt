@@ -36,8 +36,8 @@ fn next_comparison(rest: &[Token]) -> Option<Comparison>
     }
 }
 
-// The condition of these parts.
-fn one_test(first: Test, tests: Vec<Test>, rest: Vec<Conjunction>) -> Cond
+/// The condition of these parts.
+fn build_cond(first: Test, tests: Vec<Test>, rest: Vec<Conjunction>) -> Cond
     ensures { cond_view result ≡ any_conjunction (conjunction
         (all_tests (test (test_view first)) (map test_view tests.items))) (map conjunction_view rest.items) }
 {
@@ -55,14 +55,14 @@ fn take_value(cond: Cond) -> Result<Expr, Cond>
     let (first, rest) = cond.into_parts();
     let (test, tests) = first.into_parts();
     if !rest.is_empty() {
-        return Err(one_test(test, tests, rest));
+        return Err(build_cond(test, tests, rest));
     }
     if !tests.is_empty() {
-        return Err(one_test(test, tests, rest));
+        return Err(build_cond(test, tests, rest));
     }
     match test.into_value() {
         Ok(expr) => Ok(expr),
-        Err(other) => Err(one_test(other, tests, rest)),
+        Err(other) => Err(build_cond(other, tests, rest)),
     }
 }
 
@@ -108,7 +108,7 @@ fn read_after_group(
 }
 
 /// What `!` stands before, if it is another `!`, and the text behind it.
-fn opposed_again(
+fn oppose_again(
     alloc: Global,
     negation: Negation,
     rest: &[Token],
@@ -120,7 +120,7 @@ fn opposed_again(
 }
 
 /// What `!` stands before, if it is a condition in parentheses, and the text behind them.
-fn group_opposed(alloc: Global, cond: Cond, rest: &[Token]) -> Result<(Negation, &[Token]), Stopped>
+fn oppose_group(alloc: Global, cond: Cond, rest: &[Token]) -> Result<(Negation, &[Token]), Stopped>
     ensures { MatchResult result (λ r. (negation_view r.0 ≡ negation_of (cond_view cond)) × (r.1.now ≡ rest.now))
         (λ e. e ≡ Stopped.Memory) }
 {
@@ -179,11 +179,11 @@ fn read_negation(
 {
     if next_is(rest, Mark::Not) {
         let (negation, after) = read_opposed(alloc, rest, depth)?;
-        return opposed_again(alloc, negation, after);
+        return oppose_again(alloc, negation, after);
     }
     if next_is(rest, Mark::OpenParen) {
         let (cond, closed) = read_closed(alloc, rest, depth)?;
-        return group_opposed(alloc, cond, closed);
+        return oppose_group(alloc, cond, closed);
     }
     let (unary, behind) = read_unary(alloc, rest, depth)?;
     Ok((Negation::Operand(unary), behind))

@@ -21,22 +21,22 @@ read_test-returns-then-next_is-clause-gives t c =
 
 pub read_negation-returns-then-next_is-clause-shorter : goal.read_negation-returns-then-next_is-clause-shorter
 read_negation-returns-then-next_is-clause-shorter t c =
-    negation_shorter c.opposed_again.result (opposite_again (negation_view c.in_ok-negation.negation)) c.in_ok-negation.after.now c.args.rest.now c.in_ok-negation.ensures.shorter
-    c.opposed_again.ensures
+    negation_shorter c.oppose_again.result (opposite_again (negation_view c.in_ok-negation.negation)) c.in_ok-negation.after.now c.args.rest.now c.in_ok-negation.ensures.shorter
+    c.oppose_again.ensures
 
 pub read_negation-returns-then-next_is-clause-gives : goal.read_negation-returns-then-next_is-clause-gives
 read_negation-returns-then-next_is-clause-gives t c =
-    negation_handed c.opposed_again.result (opposite_again (negation_view c.in_ok-negation.negation)) c.in_ok-negation.after.now (negation_at c.args.depth c.args.rest.now)
-    (again_gives c.args.depth c.args.rest.now c.in_ok-negation.after.now (negation_view c.in_ok-negation.negation) c.if-next_is.ensures c.in_ok-negation.ensures.gives) c.opposed_again.ensures
+    negation_handed c.oppose_again.result (opposite_again (negation_view c.in_ok-negation.negation)) c.in_ok-negation.after.now (negation_at c.args.depth c.args.rest.now)
+    (again_gives c.args.depth c.args.rest.now c.in_ok-negation.after.now (negation_view c.in_ok-negation.negation) c.if-next_is.ensures c.in_ok-negation.ensures.gives) c.oppose_again.ensures
 
 pub read_negation-returns-then-next_is-2-clause-shorter : goal.read_negation-returns-then-next_is-2-clause-shorter
 read_negation-returns-then-next_is-2-clause-shorter t c =
-    negation_shorter c.group_opposed.result (negation_of (cond_view c.in_ok-cond.cond)) c.in_ok-cond.closed.now c.args.rest.now c.in_ok-cond.ensures.shorter c.group_opposed.ensures
+    negation_shorter c.oppose_group.result (negation_of (cond_view c.in_ok-cond.cond)) c.in_ok-cond.closed.now c.args.rest.now c.in_ok-cond.ensures.shorter c.oppose_group.ensures
 
 pub read_negation-returns-then-next_is-2-clause-gives : goal.read_negation-returns-then-next_is-2-clause-gives
 read_negation-returns-then-next_is-2-clause-gives t c =
-    negation_handed c.group_opposed.result (negation_of (cond_view c.in_ok-cond.cond)) c.in_ok-cond.closed.now (negation_at c.args.depth c.args.rest.now)
-    (strict_gives c.args.depth c.args.rest.now c.in_ok-cond.closed.now (cond_view c.in_ok-cond.cond) c.if-next_is.ensures c.if-next_is-2.ensures c.in_ok-cond.ensures.gives) c.group_opposed.ensures
+    negation_handed c.oppose_group.result (negation_of (cond_view c.in_ok-cond.cond)) c.in_ok-cond.closed.now (negation_at c.args.depth c.args.rest.now)
+    (strict_gives c.args.depth c.args.rest.now c.in_ok-cond.closed.now (cond_view c.in_ok-cond.cond) c.if-next_is.ensures c.if-next_is-2.ensures c.in_ok-cond.ensures.gives) c.oppose_group.ensures
 
 pub read_negation-returns-clause-gives : goal.read_negation-returns-clause-gives
 read_negation-returns-clause-gives t c =
