@@ -19,16 +19,16 @@ use Rattle.lra_linear.proofs.Polyhedra.{con_gen, generators_are_generators}
 use Rattle.lra_linear.proofs.Products.{dot_linear, dot_negated, dot_same, entry_blend, entry_negated, product_comm}
 use Rattle.lra_linear.proofs.Ring.{mul_nonnegative, ring, v, ⊖, ◌⊕◌, ◌⊗◌}
 use Rattle.lra_linear.proofs.SetOperations.{has_vertex, valid_on_rows}
-use Rattle.lra_linear.specs.Kinds.{is_line}
-use Rattle.lra_sys.specs.Listed.{Listed, generators, given_by}
-use Rattle.lra_linear.specs.declared.GenKind.{GenKind}
+use Rattle.lra_linear.proofs.Lines.{zeros_length}
+use Rattle.lra_sys.specs.Listed.{Listed, generators, given_by, is_line}
+use Rattle.lra_sys.specs.declared.system.GenKind.{GenKind}
 use Rattle.lra_poly.specs.Maxima.{DoesNotImprove, Improves, IsAtMost, IsGreatestValue, IsMaximum, IsUnbounded, OfPoint}
 use Rattle.lra_poly.specs.Maxima.{TellsMaximum}
 use Rattle.lra_poly.specs.declared.maximum.Maximum.{Maximum}
 use Rattle.lra_poly.specs.declared.maximum.Maximum.TheVariants.{Empty, Wide, Unbounded, At}
 use Rattle.lra_sys.proofs.FirstMembers.{err_from}
 use Rattle.lra_poly.proofs.InclusionLemmas.{has_member}
-use Rattle.lra_poly.proofs.PolyLemmas.{empty_where_none, zeros_length}
+use Rattle.lra_poly.proofs.PolyLemmas.{empty_where_none}
 
 -- ---- the inequality that the form is at most num / den
 abbrev at_most_row : ℕ → List ℤ → ℤ → ℤ → List ℤ

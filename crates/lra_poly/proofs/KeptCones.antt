@@ -13,23 +13,14 @@ use Rattle.lra_sys.specs.Listed.{Listed, constraints}
 use Rattle.lra_linear.specs.Vectors.{entry, product}
 use Rattle.lra_linear.proofs.Combinations.{generated_row}
 use Rattle.lra_linear.proofs.Descriptions.{dual_flipped, system_from, system_there}
-use Rattle.lra_linear.proofs.Lines.{in_lines, in_lines_negated, signed_from}
-use Rattle.lra_linear.proofs.Membership.{contains_cases, contains_head, contains_none, contains_tail}
-use Rattle.lra_linear.proofs.OneSpelling.{columns_of, dual_same_cone, given_from, positivity_product}
+use Rattle.lra_linear.proofs.Lines.{in_lines, in_lines_negated, signed_from, zeros_length}
+use Rattle.lra_linear.proofs.Membership.{contains_cases, contains_head, contains_tail}
+use Rattle.lra_linear.proofs.OneSpelling.{columns_of, dual_same_cone, given_from, given_has, positivity_product}
 use Rattle.lra_linear.proofs.Polyhedra.{generators_lines, generators_rays}
 use Rattle.lra_linear.proofs.Products.{product_comm}
 use Rattle.lra_cone.specs.Cones.{IsCone, Shape}
 use Rattle.lra_pair.specs.OwnLists.{IsPositive}
-use Rattle.lra_poly.proofs.PolyLemmas.{rows_width, zeros_length}
-
--- a row of one kind
-pub given_there : (b : Bool) (rows : List (List ℤ)) (r : List ℤ) → Contains rows r → Contains (given_as b rows) (record { row = r; equal = b })
-given_there b [] r k = absurd (contains_none r k)
-given_there b (x ∷ rows) r k = elim (contains_cases x r rows k) [
-  | inl e ↦ subst (λ (y : List ℤ). Contains (given_as b (x ∷ rows)) (record { row = y; equal = b })) e
-      (contains_head (let g : Given = record { row = x; equal = b } in g) (given_as b rows))
-  | inr n ↦ contains_tail (let g : Given = record { row = x; equal = b } in g) (let g : Given = record { row = r; equal = b } in g) (given_as b rows) (given_there b rows r n)
-]
+use Rattle.lra_poly.proofs.PolyLemmas.{rows_width}
 
 -- ---- the rows with the positivity row, and the facets with the equalities
 -- the one list, and the other
@@ -41,7 +32,7 @@ facet_taken p h t k = elim (Contains-append_cases h.facets (both_ways h.equaliti
     | inr i ↦ contains_tail (positivity p.dims) t (system_of p.rows) (system_there p.rows t (record {
       given = inequality t;
       has = subst (λ (l : List Given). Contains l (inequality t)) (sym h.rows_are)
-          (Contains-append_right (given_as true h.equalities) (given_as false h.inequalities) (inequality t) (given_there false h.inequalities t i));
+          (Contains-append_right (given_as true h.equalities) (given_as false h.inequalities) (inequality t) (given_has false h.inequalities t i));
       sign = inl refl;
     }))
   ]
@@ -51,7 +42,7 @@ facet_taken p h t k = elim (Contains-append_cases h.facets (both_ways h.equaliti
       contains_tail (positivity p.dims) t (system_of p.rows) (system_there p.rows t (record {
         given = g;
         has = subst (λ (l : List Given). Contains l g) (sym h.rows_are)
-            (Contains-append_left (given_as true h.equalities) (given_as false h.inequalities) g (given_there true h.equalities s.line s.has));
+            (Contains-append_left (given_as true h.equalities) (given_as false h.inequalities) g (given_has true h.equalities s.line s.has));
         sign = elim s.sign [ inl q ↦ inl q | inr q ↦ inr (refl, q) ];
       }))
 ]

@@ -15,7 +15,7 @@ use Rattle.lra_linear.proofs.Descriptions.{dual_flipped, in_all_rows, in_system}
 use Rattle.lra_linear.proofs.FlatRows.{generated_flat}
 use Rattle.lra_linear.proofs.Lines.{in_lines, in_lines_negated, signed_from}
 use Rattle.lra_linear.proofs.Membership.{NoRepeat, contains_cases, contains_head, contains_none, contains_split, contains_tail}
-use Rattle.lra_linear.proofs.OneSpelling.{given_from, positivity_product}
+use Rattle.lra_linear.proofs.OneSpelling.{given_from, given_has, positivity_product}
 use Rattle.lra_linear.proofs.Polyhedra.{generators_lines, generators_rays}
 use Rattle.lra_linear.proofs.Products.{dot_negated, product_comm}
 use Rattle.lra_linear.proofs.Redundancy.{drop_keeps, redundant_tight}
@@ -25,7 +25,7 @@ use Rattle.lra_linear.proofs.Signs.{between_opposites}
 use Rattle.lra_cone.specs.Cones.{IsCone}
 use Rattle.lra_cone.proofs.RayCase.{beside_place, rows_same}
 use Rattle.lra_cone.proofs.Reordered.{canonical_again, dual_again}
-use Rattle.lra_poly.proofs.KeptCones.{given_there, positivity_generated}
+use Rattle.lra_poly.proofs.KeptCones.{positivity_generated}
 
 -- ---- the facets and the generators
 vectors_are : (p : Polyhedron) (h : HasPoint p) → all_rows (lines_of p.generators) (rays_of p.generators) ≡ all_rows h.lines (h.points ++ h.rays)
@@ -82,7 +82,7 @@ no_facet p h r m tight k =
     (subst (λ (l : List (List ℤ)). AreDual (suc p.dims) system (all_rows h.equalities l)) s.is (facets_dual p h)) c.pointed r i tight)
 
 -- ---- no row twice
-ascending_once : (rows : List (List ℤ)) → Ascends inequality_cmp rows → NoRepeat rows
+pub ascending_once : (rows : List (List ℤ)) → Ascends inequality_cmp rows → NoRepeat rows
 ascending_once [] a = tt
 ascending_once (x ∷ rows) a = ((λ k. never_both inequality_cmp inequality_cmp_total x x (a.0 x k) (a.0 x k)), ascending_once rows a.1)
 
@@ -97,12 +97,12 @@ once_end (y ∷ rows) x n fresh = (
 )
 
 -- ---- the constraints of both kinds
-lines_split : (equalities inequalities : List (List ℤ)) → lines_of (given_as true equalities ++ given_as false inequalities) ≡ equalities
+pub lines_split : (equalities inequalities : List (List ℤ)) → lines_of (given_as true equalities ++ given_as false inequalities) ≡ equalities
 lines_split [] [] = refl
 lines_split [] (r ∷ inequalities) = lines_split [] inequalities
 lines_split (r ∷ equalities) inequalities = ap (λ (l : List (List ℤ)). r ∷ l) (lines_split equalities inequalities)
 
-rays_split : (equalities inequalities : List (List ℤ)) → rays_of (given_as true equalities ++ given_as false inequalities) ≡ inequalities
+pub rays_split : (equalities inequalities : List (List ℤ)) → rays_of (given_as true equalities ++ given_as false inequalities) ≡ inequalities
 rays_split [] [] = refl
 rays_split [] (r ∷ inequalities) = ap (λ (l : List (List ℤ)). r ∷ l) (rays_split [] inequalities)
 rays_split (r ∷ equalities) inequalities = rays_split equalities inequalities
@@ -121,7 +121,7 @@ inequality_in p h r k = elim (Contains-append_cases (given_as true h.equalities)
 
 inequality_there : (p : Polyhedron) (h : HasPoint p) (r : List ℤ) → Contains h.inequalities r → Contains p.rows (inequality r)
 inequality_there p h r i = subst (λ (l : List Given). Contains l (inequality r)) (sym h.rows_are)
-    (Contains-append_right (given_as true h.equalities) (given_as false h.inequalities) (inequality r) (given_there false h.inequalities r i))
+    (Contains-append_right (given_as true h.equalities) (given_as false h.inequalities) (inequality r) (given_has false h.inequalities r i))
 
 -- ---- the cone
 of_facets : (p : Polyhedron) (h : HasPoint p) (rays : List (List ℤ)) → ((t : List ℤ) → Contains h.facets t → Contains rays t) → ((t : List ℤ) → Contains rays t → Contains h.facets t) →

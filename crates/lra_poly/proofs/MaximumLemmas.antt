@@ -3,10 +3,10 @@ use Rattle.std.proofs.Common.{◌≡◌, ℕ, zero, suc, ◌<◌, ◌≤◌, ◌
 use Rattle.std.proofs.Common.{subst, ℤ, pos, negsuc, neg_ℤ, ◌+ℤ◌, ◌*ℤ◌, ◌<ℤ◌, ◌≤ℤ◌, arith, Result, Ok, Err, IsErr, IsOk}
 use Rattle.std.proofs.Common.{unsigned_abs, int_div}
 use Rattle.std.specs.Int.{◌∣◌, IsGcd}
-use Rattle.std.specs.List.{All, Contains}
+use Rattle.std.specs.List.{All}
 use Rattle.std.proofs.lemmas.Int.{ints, unsigned_abs-mul}
 use Rattle.std.proofs.lemmas.List.{get_or_default}
-use Rattle.std.proofs.lemmas.List.Elements.{All-nil, All-cons, All-contains}
+use Rattle.std.proofs.lemmas.List.Elements.{All-contains}
 use Rattle.std.proofs.Math.Nat.{mul-div_cancel', dvd_of_mul-dvd-mul_right, mul-dvd-mul_right, one-dvd}
 use Rattle.std.proofs.lemmas.Nat.Gcd.{dvd_antisymm}
 use Rattle.lra_linear.specs.CheckedArithmetic.{checked_product}
@@ -14,16 +14,17 @@ use Rattle.lra_linear.specs.Descriptions.{Given}
 use Rattle.lra_linear.specs.LowestTerms.{IsPrimitive}
 use Rattle.lra_linear.specs.Vectors.{entry, product}
 use Rattle.lra_linear.proofs.CheckedArithmetic.{checked_product_value, checked_product_in_range}
-use Rattle.lra_linear.proofs.LowestTerms.{signed_quotient, signed_quotient_is}
-use Rattle.lra_linear.proofs.Membership.{contains_head, contains_tail}
+use Rattle.lra_linear.proofs.LowestTerms.{signed_quotient_is}
+use Rattle.lra_linear.proofs.Membership.{all_from}
 use Rattle.lra_linear.proofs.Ring.{mul_nonnegative, ring, v, ⊖, ◌⊕◌, ◌⊗◌}
-use Rattle.lra_linear.proofs.Signs.{as_nat, cancel_same, divide_nonnegative, positive_nat, positive_part}
+use Rattle.lra_linear.proofs.Signs.{as_nat, cancel_same, divide_nonnegative, positive_is_nonnegative, positive_nat, positive_part}
 use Rattle.lra_linear.proofs.Signs.{times_positive}
 use Rattle.lra_linear.specs.Range.{InRange}
-use Rattle.lra_linear.specs.Kinds.{is_line}
-use Rattle.lra_sys.specs.Listed.{Listed, generators, given_by}
-use Rattle.lra_linear.specs.declared.GenKind.{GenKind}
-use Rattle.lra_linear.specs.declared.GenKind.TheVariants.{Point}
+use Rattle.lra_row.proofs.Ratio.{apart}
+use Rattle.lra_row.proofs.RowLemmas.{quotient_signed}
+use Rattle.lra_sys.specs.Listed.{Listed, generators, given_by, is_line}
+use Rattle.lra_sys.specs.declared.system.GenKind.{GenKind}
+use Rattle.lra_sys.specs.declared.system.GenKind.TheVariants.{Point}
 use Rattle.lra_poly.specs.Maxima.{OfPoint, IsAtMost, IsBelow, HasValue, IsGreatest, IsMaximum, StaysInRange}
 use Rattle.lra_poly.specs.Maxima.{DoesNotImprove}
 use Rattle.lra_poly.specs.declared.maximum.Maximum.TheVariants.{At}
@@ -41,32 +42,21 @@ never_both (Ok x) e o = cc
 never_both (Err f) e o = cc
 
 -- ---- members
-pub all_from_members : {A : Type 0} (Q : A → Type 0) (xs : List A) → ((x : A) → Contains xs x → Q x) → All Q xs
-all_from_members Q [] h = All-nil Q
-all_from_members Q (x ∷ xs) h = All-cons Q x xs (h x (contains_head x xs))
-    (all_from_members Q xs (λ y k. h y (contains_tail x y xs k)))
-
 pub all_weaker : {A : Type 0} (P Q : A → Type 0) (xs : List A) → ((x : A) → P x → Q x) → All P xs → All Q xs
-all_weaker P Q xs f h = all_from_members Q xs (λ x k. f x (All-contains P xs x h k))
+all_weaker P Q xs f h = all_from Q xs (λ x k. f x (All-contains P xs x h k))
 
 -- ---- values at points, compared
-apart : (a b : ℤ) → pos 0 ≤ℤ (b +ℤ neg_ℤ a) → a ≤ℤ b
-apart a b h = omega (arith, ints, h)
+pub in_order : (a b : ℤ) → pos 0 ≤ℤ (b +ℤ neg_ℤ a) → a ≤ℤ b
+in_order a b h = omega (arith, ints, h)
 
 apart_below : (a b : ℤ) → pos 0 <ℤ (b +ℤ neg_ℤ a) → a <ℤ b
 apart_below a b h = omega (arith, ints, h)
 
-difference : (a b : ℤ) → a ≤ℤ b → pos 0 ≤ℤ (b +ℤ neg_ℤ a)
+pub difference : (a b : ℤ) → a ≤ℤ b → pos 0 ≤ℤ (b +ℤ neg_ℤ a)
 difference a b h = omega (arith, ints, h)
-
-difference_below : (a b : ℤ) → a <ℤ b → pos 0 <ℤ (b +ℤ neg_ℤ a)
-difference_below a b h = omega (arith, ints, h)
 
 sum_above : (a b : ℤ) → pos 0 ≤ℤ a → pos 0 <ℤ b → pos 0 <ℤ (a +ℤ b)
 sum_above a b h k = omega (arith, ints, h, k)
-
-at_least_zero : (a : ℤ) → pos 0 <ℤ a → pos 0 ≤ℤ a
-at_least_zero a h = omega (arith, ints, h)
 
 itself_at_most : (a : ℤ) → a ≤ℤ a
 itself_at_most a = omega (arith, ints)
@@ -75,20 +65,20 @@ below_at_most : (a b : ℤ) → a <ℤ b → a ≤ℤ b
 below_at_most a b h = omega (arith, ints, h)
 
 le_step : (k : ℕ) (a b : ℤ) → 0 < k → (pos k *ℤ a) ≤ℤ (pos k *ℤ b) → a ≤ℤ b
-le_step k a b p h = apart a b (divide_nonnegative k (b +ℤ neg_ℤ a) p
+le_step k a b p h = in_order a b (divide_nonnegative k (b +ℤ neg_ℤ a) p
     (subst (λ (z : ℤ). pos 0 ≤ℤ z) (ring (v (pos k) ⊗ v b ⊕ ⊖ (v (pos k) ⊗ v a)) (v (pos k) ⊗ (v b ⊕ ⊖ (v a)))
     (omega arith)) (difference (pos k *ℤ a) (pos k *ℤ b) h)))
 
 lt_step : (k : ℕ) (a b : ℤ) → 0 < k → (pos k *ℤ a) <ℤ (pos k *ℤ b) → a <ℤ b
 lt_step k a b p h = apart_below a b (positive_part k (b +ℤ neg_ℤ a) ((pos k *ℤ b) +ℤ neg_ℤ (pos k *ℤ a)) p
     (ring (v (pos k) ⊗ (v b ⊕ ⊖ (v a))) (v (pos k) ⊗ v b ⊕ ⊖ (v (pos k) ⊗ v a)) (omega arith))
-    (difference_below (pos k *ℤ a) (pos k *ℤ b) h))
+    (apart (pos k *ℤ a) (pos k *ℤ b) h))
 
 -- px / ex is at most po / eo, and that is below pn / en
 below_further : (px ex po eo pn en : ℤ) → pos 0 <ℤ ex → pos 0 <ℤ eo → pos 0 <ℤ en → (px *ℤ eo) ≤ℤ (po *ℤ ex) →
     (po *ℤ en) <ℤ (pn *ℤ eo) → (px *ℤ en) <ℤ (pn *ℤ ex)
 below_further px ex po eo pn en hx ho hn h k =
-    let n = as_nat eo (at_least_zero eo ho) in
+    let n = as_nat eo (positive_is_nonnegative eo ho) in
     let a = (po *ℤ ex) +ℤ neg_ℤ (px *ℤ eo) in
     let b = (pn *ℤ eo) +ℤ neg_ℤ (po *ℤ en) in
     apart_below (px *ℤ en) (pn *ℤ ex) (positive_part n.0 ((pn *ℤ ex) +ℤ neg_ℤ (px *ℤ en)) ((a *ℤ en) +ℤ (b *ℤ ex))
@@ -96,8 +86,8 @@ below_further px ex po eo pn en hx ho hn h k =
     (ap (λ (z : ℤ). z *ℤ ((pn *ℤ ex) +ℤ neg_ℤ (px *ℤ en))) (sym n.1)
     ∙ ring (v eo ⊗ (v pn ⊗ v ex ⊕ ⊖ (v px ⊗ v en))) ((v po ⊗ v ex ⊕ ⊖ (v px ⊗ v eo)) ⊗ v en ⊕
     (v pn ⊗ v eo ⊕ ⊖ (v po ⊗ v en)) ⊗ v ex) (omega arith))
-    (sum_above (a *ℤ en) (b *ℤ ex) (mul_nonnegative a en (difference (px *ℤ eo) (po *ℤ ex) h) (at_least_zero en hn))
-    (times_positive b ex (difference_below (po *ℤ en) (pn *ℤ eo) k) hx)))
+    (sum_above (a *ℤ en) (b *ℤ ex) (mul_nonnegative a en (difference (px *ℤ eo) (po *ℤ ex) h) (positive_is_nonnegative en hn))
+    (times_positive b ex (apart (po *ℤ en) (pn *ℤ eo) k) hx)))
 
 -- ---- the best point so far: each point among the first i has at most its value, each before it less
 pub record BestOfFront (form : List ℤ) (rows : List (List ℤ)) (kinds : List GenKind) (i best : ℕ) : Type 0 where
@@ -190,10 +180,6 @@ pub common_above : (n d g : ℤ) → IsGcd (unsigned_abs n) (unsigned_abs d) (un
     pos 0 <ℤ g
 common_above n d (pos g) h p k = let q = common_positive d g h.1 k in omega (arith, ints, q)
 common_above n d (negsuc g) h p k = absurd (omega (arith, ints, p))
-
-quotient_signed : (x : ℤ) (g : ℕ) → int_div x (pos g) ≡ signed_quotient g x
-quotient_signed (pos n) g = refl
-quotient_signed (negsuc n) g = refl
 
 quotient_times : (x : ℤ) (g : ℕ) → g ∣ unsigned_abs x → pos g *ℤ int_div x (pos g) ≡ x
 quotient_times x g d = ap (λ q. pos g *ℤ q) (quotient_signed x g) ∙ signed_quotient_is g x d

@@ -1,5 +1,5 @@
 -- What the operations' lists tell of sets of points.
-use Rattle.std.proofs.Common.{◌≡◌, ◌≢◌, ℕ, suc, Bool, true, false, zero, List, [], ◌∷◌, ◌++◌, length, ap, sym, ◌∙◌, subst, ℤ, pos, ◌≤ℤ◌, inl, inr, refl, ◌⊎◌, arith}
+use Rattle.std.proofs.Common.{◌≡◌, ◌≢◌, ℕ, suc, Bool, true, false, List, [], ◌∷◌, ◌++◌, length, ap, sym, ◌∙◌, subst, ℤ, pos, ◌≤ℤ◌, inl, inr, refl, arith}
 use Rattle.std.specs.List.{Contains}
 use Rattle.std.proofs.lemmas.List.Elements.{Contains-append_cases, Contains-append_left, Contains-append_right}
 use Rattle.lra_linear.specs.Cones.{both_ways}
@@ -9,16 +9,16 @@ use Rattle.lra_linear.specs.Points.{IsPoint, IsWithin, IsEmptySet, SameSet, Poin
 use Rattle.lra_linear.specs.Polyhedra.{Polyhedron, IsPolyhedron, IsPolyhedronOf, HasPoint, falsity}
 use Rattle.lra_linear.specs.SetOperations.{Meet, Union, Hull}
 use Rattle.lra_linear.specs.Strain.{Loss}
-use Rattle.lra_linear.specs.Vectors.{entry, product, zeros}
+use Rattle.lra_linear.specs.Vectors.{entry, product}
 use Rattle.lra_linear.proofs.Combinations.{generated_row}
-use Rattle.lra_linear.proofs.Descriptions.{con_cons, con_head, con_none, con_solves, solves_con, generated_gen, gen_generated, system_from, system_there}
+use Rattle.lra_linear.proofs.Descriptions.{con_cons, con_head, con_none, con_solves, solves_con, generated_gen, gen_generated, system_from}
 use Rattle.lra_linear.proofs.LinearMaps.{generated_nonneg, generated_through}
-use Rattle.lra_linear.proofs.Lines.{in_lines}
+use Rattle.lra_linear.proofs.Lines.{in_lines, zeros_length}
 use Rattle.lra_linear.proofs.Membership.{contains_head, contains_none, each_one}
 use Rattle.lra_linear.proofs.OneSpelling.{falsity_never, given_from}
 use Rattle.lra_linear.proofs.Polyhedra.{con_gen}
 use Rattle.lra_linear.proofs.Products.{negated_length}
-use Rattle.lra_linear.proofs.SetOperations.{has_vertex, meet_con, valid_on_rows}
+use Rattle.lra_linear.proofs.SetOperations.{has_vertex, meet_con, system_append, system_append_in, valid_on_rows}
 use Rattle.lra_poly.specs.declared.outcome.Outcome.{Outcome}
 use Rattle.lra_poly.specs.declared.outcome.Outcome.TheVariants.{Exact, Flagged}
 use Rattle.lra_poly.specs.Outcomes.{IfExact, IfFlagged, first_loss}
@@ -34,7 +34,12 @@ pub falsity_is_empty : (n : ℕ) (rows : List Given) → rows ≡ inequality (fa
 falsity_is_empty n rows e x is_point c =
     falsity_never n x is_point (c (inequality (falsity n)) (subst (λ (l : List Given). Contains l (inequality (falsity n))) (sym e) (contains_head (inequality (falsity n)) [])))
 
-some_generator : (p : Polyhedron) → HasPoint p → p.generators ≢ []
+-- one that isn't empty has a point
+pub with_point : (p : Polyhedron) → IsPolyhedron p → ¬ (IsEmptySet p.dims (Con p.rows)) → HasPoint p
+with_point p (inl none) some = absurd (some (falsity_is_empty p.dims p.rows none.0))
+with_point p (inr h) some = h
+
+pub some_generator : (p : Polyhedron) → HasPoint p → p.generators ≢ []
 some_generator p h e = contains_none (has_vertex p h).vertex (subst (λ (l : List Given). Contains (system_of l) (has_vertex p h).vertex) e (has_vertex p h).has)
 
 pub empty_where_none : (p : Polyhedron) → IsPolyhedron p → p.generators ≡ [] → IsEmptySet p.dims (Con p.rows)
@@ -181,19 +186,6 @@ test_strain p list t o e = if_flagged (FromRowsStrains p.dims list) (AddTestStra
     (subst (λ (l : List Given). FromRowsStrains p.dims l loss) e s))
 
 -- ---- the hull
--- the rows of joined lists
-joined_from : (xs ys : List Given) (t : List ℤ) → Contains (system_of (xs ++ ys)) t → Contains (system_of xs) t ⊎ Contains (system_of ys) t
-joined_from xs ys t k =
-    let f = system_from (xs ++ ys) t k in
-    elim (Contains-append_cases xs ys f.given f.has) [
-      | inl a ↦ inl (system_there xs t (record { given = f.given; has = a; sign = f.sign }))
-      | inr b ↦ inr (system_there ys t (record { given = f.given; has = b; sign = f.sign }))
-    ]
-
-joined_has : (xs ys : List Given) (t : List ℤ) → Contains (system_of xs) t ⊎ Contains (system_of ys) t → Contains (system_of (xs ++ ys)) t
-joined_has xs ys t (inl k) = let f = system_from xs t k in system_there (xs ++ ys) t (record { given = f.given; has = Contains-append_left xs ys f.given f.has; sign = f.sign })
-joined_has xs ys t (inr k) = let f = system_from ys t k in system_there (xs ++ ys) t (record { given = f.given; has = Contains-append_right xs ys f.given f.has; sign = f.sign })
-
 -- an inequality that is valid on a polyhedron holds with each of its generators
 pub valid_with : (p : Polyhedron) → IsPolyhedron p → (c : List ℤ) → ((y : List ℤ) → IsPoint p.dims y → Con p.rows y → pos 0 ≤ℤ product c y) → (t : List ℤ) → Contains (system_of p.generators) t →
     pos 0 ≤ℤ product c t
@@ -204,7 +196,7 @@ valid_with p (inr h) c valid t k = valid_on_rows p.dims p.generators (has_vertex
 pub gen_in_hull : (p q : Polyhedron) → IsPolyhedron p → IsPolyhedron q → q.dims ≡ p.dims → IsWithin p.dims (Gen (p.generators ++ q.generators)) (Hull p.dims (Union (Con p.rows) (Con q.rows)))
 gen_in_hull p q h k e x is_point g c width valid =
     generated_nonneg c (system_of (p.generators ++ q.generators)) (entry x)
-    (λ t m. elim (joined_from p.generators q.generators t m) [
+    (λ t m. elim (system_append p.generators q.generators t m) [
       | inl a ↦ valid_with p h c (λ y i s. valid y i (inl s)) t a
       | inr b ↦ valid_with q k c (λ y i s. valid y (subst (λ (n : ℕ). IsPoint n y) e i) (inr s)) t b
     ])
@@ -214,10 +206,10 @@ gen_in_hull p q h k e x is_point g c width valid =
 union_in_gen : (p q : Polyhedron) → IsPolyhedron p → IsPolyhedron q → q.dims ≡ p.dims → IsWithin p.dims (Union (Con p.rows) (Con q.rows)) (Gen (p.generators ++ q.generators))
 union_in_gen p q h k e x i (inl c) =
     generated_gen (p.generators ++ q.generators) (entry x) (generated_through (system_of (p.generators ++ q.generators)) (system_of p.generators) (entry x)
-    (λ t m. generated_row (system_of (p.generators ++ q.generators)) t (joined_has p.generators q.generators t (inl m))) (gen_generated p.generators (entry x) ((con_gen p h).0 x i c)))
+    (λ t m. generated_row (system_of (p.generators ++ q.generators)) t (system_append_in p.generators q.generators t (inl m))) (gen_generated p.generators (entry x) ((con_gen p h).0 x i c)))
 union_in_gen p q h k e x i (inr c) =
     generated_gen (p.generators ++ q.generators) (entry x) (generated_through (system_of (p.generators ++ q.generators)) (system_of q.generators) (entry x)
-    (λ t m. generated_row (system_of (p.generators ++ q.generators)) t (joined_has p.generators q.generators t (inr m)))
+    (λ t m. generated_row (system_of (p.generators ++ q.generators)) t (system_append_in p.generators q.generators t (inr m)))
     (gen_generated q.generators (entry x) ((con_gen q k).0 x (subst (λ (n : ℕ). IsPoint n x) (sym e) i) c)))
 
 -- where the one has a point, so has the hull
@@ -230,10 +222,6 @@ some_united p q (inr h) k e some empty =
     (inl ((con_gen p (inr h)).1 v.vertex is_point (generated_gen p.generators (entry v.vertex) (generated_row (system_of p.generators) v.vertex v.has)))))
 
 -- ---- the rows of a polyhedron have a column more than there are dimensions
-pub zeros_length : (n : ℕ) → length (zeros n) ≡ n
-zeros_length zero = refl
-zeros_length (suc n) = ap suc (zeros_length n)
-
 pub given_width : (p : Polyhedron) → IsPolyhedron p → (g : Given) → Contains p.rows g → length g.row ≡ suc p.dims
 given_width p (inl none) g k = each_one (λ (x : Given). length x.row ≡ suc p.dims) (inequality (falsity p.dims)) (ap suc (zeros_length p.dims)) g (subst (λ (l : List Given). Contains l g) none.0 k)
 given_width p (inr h) g k = elim (Contains-append_cases (given_as true h.equalities) (given_as false h.inequalities) g (subst (λ (l : List Given). Contains l g) h.rows_are k)) [

@@ -33,7 +33,7 @@ given_length equal [] kinds n = refl
 given_length equal (r ∷ rows) [] n = absurd (omega (arith, n))
 given_length equal (r ∷ rows) (k ∷ kinds) n = ap suc (given_length equal rows kinds (omega (arith, n)))
 
-rows_saturate : {K : Type 0} (equal : K → Bool) (generators : List Given) (rows : List (List ℤ)) (kinds : List K) → length kinds ≡ length rows →
+pub rows_saturate : {K : Type 0} (equal : K → Bool) (generators : List Given) (rows : List (List ℤ)) (kinds : List K) → length kinds ≡ length rows →
     map (saturated generators) rows ≡ map (λ (s : Given). saturated generators s.row) (given_by equal rows kinds)
 rows_saturate equal generators [] kinds n = refl
 rows_saturate equal generators (r ∷ rows) [] n = absurd (omega (arith, n))

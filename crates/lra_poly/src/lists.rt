@@ -18,7 +18,7 @@ pub fn join_rows(first: &ConSys, second: &ConSys) -> Result<ConSys, AllocError>
     let mut all = first.copy()?;
     let (rows, kinds) = (second.rows(), second.kinds());
     for place in 0..rows.len() {
-        all.push(rows[place].copy()?, kinds[place])?;
+        all.push_copy(&rows[place], kinds[place])?;
     }
     Ok(all)
 }
@@ -36,7 +36,7 @@ pub fn join_generators(first: &GenSys, second: &GenSys) -> Result<GenSys, AllocE
     let mut all = first.copy()?;
     let (given, kinds) = (second.rows(), second.kinds());
     for place in 0..given.len() {
-        all.push(given[place].copy()?, kinds[place])?;
+        all.push_copy(&given[place], kinds[place])?;
     }
     Ok(all)
 }
