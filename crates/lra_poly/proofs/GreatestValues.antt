@@ -20,8 +20,9 @@ use Rattle.lra_linear.proofs.Products.{dot_linear, dot_negated, dot_same, entry_
 use Rattle.lra_linear.proofs.Ring.{mul_nonnegative, ring, v, ⊖, ◌⊕◌, ◌⊗◌}
 use Rattle.lra_linear.proofs.SetOperations.{has_vertex, valid_on_rows}
 use Rattle.lra_linear.proofs.Lines.{zeros_length}
-use Rattle.lra_sys.specs.Listed.{Listed, generators, given_by, is_line}
-use Rattle.lra_sys.specs.declared.system.GenKind.{GenKind}
+use Rattle.lra_linear.specs.Kinds.{is_line}
+use Rattle.lra_sys.specs.Listed.{Listed, generators, given_by}
+use Rattle.lra_linear.specs.declared.GenKind.{GenKind}
 use Rattle.lra_poly.specs.Maxima.{DoesNotImprove, Improves, IsAtMost, IsGreatestValue, IsMaximum, IsUnbounded, OfPoint}
 use Rattle.lra_poly.specs.Maxima.{TellsMaximum}
 use Rattle.lra_poly.specs.declared.maximum.Maximum.{Maximum}

@@ -22,9 +22,10 @@ use Rattle.lra_linear.proofs.Signs.{times_positive}
 use Rattle.lra_linear.specs.Range.{InRange}
 use Rattle.lra_row.proofs.Ratio.{apart}
 use Rattle.lra_row.proofs.RowLemmas.{quotient_signed}
-use Rattle.lra_sys.specs.Listed.{Listed, generators, given_by, is_line}
-use Rattle.lra_sys.specs.declared.system.GenKind.{GenKind}
-use Rattle.lra_sys.specs.declared.system.GenKind.TheVariants.{Point}
+use Rattle.lra_linear.specs.Kinds.{is_line}
+use Rattle.lra_sys.specs.Listed.{Listed, generators, given_by}
+use Rattle.lra_linear.specs.declared.GenKind.{GenKind}
+use Rattle.lra_linear.specs.declared.GenKind.TheVariants.{Point}
 use Rattle.lra_poly.specs.Maxima.{OfPoint, IsAtMost, IsBelow, HasValue, IsGreatest, IsMaximum, StaysInRange}
 use Rattle.lra_poly.specs.Maxima.{DoesNotImprove}
 use Rattle.lra_poly.specs.declared.maximum.Maximum.TheVariants.{At}

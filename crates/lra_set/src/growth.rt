@@ -1,6 +1,8 @@
 //! How what stands behind a head starts, and grows.
 
-ghost use Rattle.std.specs.Prelude.{◌≡◌, ◌≢◌, ◌≤◌, ◌<◌, ℕ, List, Some, length, IfOk, OnErr};
+ghost use Rattle.std.specs.Prelude.{◌≡◌, ◌≢◌, ◌≤◌, ◌<◌, ◌⊎◌, ℕ, List, Some, true, false, length, IfOk, OnErr};
+ghost use Rattle.lra_domain.specs.declared.Exactness.{Exactness};
+ghost use Rattle.lra_domain.specs.declared.Grown.{Grown};
 ghost use Rattle.lra_domain.specs.declared.Mode.TheVariants.{Join};
 ghost use Rattle.lra_domain.specs.Rank.{RankFits};
 ghost use Rattle.lra_set.specs.Lists.{EachPart};
@@ -102,6 +104,18 @@ fn merge_exactly<D: Plain>(alloc: Global, parts: &[D]) -> Result<Option<D>, Allo
     }
 }
 
+/// Whether nothing is flagged: the head is stable, or grew without loss.
+fn is_exact(grown: Grown) -> bool
+    ensures exact { result ≡ true → (grown ≡ Grown.Stable) ⊎ (grown ≡ Grown.Grew Exactness.Exact) }
+    ensures flagged { result ≡ false → grown ≡ Grown.Grew Exactness.Flagged }
+{
+    match grown {
+        Grown::Stable => true,
+        Grown::Grew(Exactness::Exact) => true,
+        Grown::Grew(Exactness::Flagged) => false,
+    }
+}
+
 /// The parts become one, which grows by the other; nothing where a join of parts or its growth strains.
 fn start_and_grow<D: Plain>(
     alloc: Global,
@@ -121,11 +135,9 @@ fn start_and_grow<D: Plain>(
         None => Ok(None),
         Some(whole) => {
             let mut head = D::start(alloc, &whole, given)?;
-            match D::grow(&mut head, by, mode)? {
-                Grown::Stable => Ok(Some(head)),
-                Grown::Grew(Exactness::Exact) => Ok(Some(head)),
-                Grown::Grew(Exactness::Flagged) => Ok(None),
-            }
+            let grown = D::grow(&mut head, by, mode)?;
+            let exact = is_exact(grown);
+            if exact { Ok(Some(head)) } else { Ok(None) }
         }
     }
 }

@@ -16,7 +16,8 @@ returns-then-not-is_empty-2 c =
     more_tests (cond_view c.args.cond) (conjunction_view c.into_parts-first.result.0) (map conjunction_view c.into_parts-first.result.1.items) (test_view c.into_parts-test.result.0)
     (map test_view c.into_parts-test.result.1.items)
     c.into_parts-first.ensures c.into_parts-test.ensures (cond_view c.build_cond-then-not-is_empty-2.result)
-    (map_full test_view c.into_parts-test.result.1.items (full_is c.into_parts-test.result.1 c.is_empty-2.result c.is_empty-2.ensures c.if-not-is_empty-2.true)) c.build_cond-then-not-is_empty-2.ensures
+    (map_full test_view c.into_parts-test.result.1.items (full_is c.into_parts-test.result.1 c.is_empty-2.result c.is_empty-2.ensures c.if-not-is_empty-2.true))
+    c.build_cond-then-not-is_empty-2.ensures
 
 pub returns-in-Ok : goal.returns-in-Ok
 returns-in-Ok c =
