@@ -3,14 +3,17 @@ use Rattle.std.proofs.Common.{Bool, List, [], ap, arith, cond, false, inl, inr, 
 use Rattle.std.specs.Prelude.{◌&&◌, ◌||◌}
 use Rattle.std.proofs.lemmas.List.Elements.{filter-append}
 use Rattle.std.specs.List.{Contains, filter, list_any}
+use Rattle.std.proofs.lemmas.Bool.{and_parts}
+use Rattle.std.proofs.lemmas.List.{append-nil}
 use Rattle.lra_linear.specs.CheckedArithmetic.{checked_product}
 use Rattle.lra_linear.specs.Descriptions.{Given, given_as}
 use Rattle.lra_linear.specs.Polyhedra.{HasPoint, Polyhedron}
 use Rattle.lra_linear.specs.RowOrder.{Ascends, inequality_cmp}
 use Rattle.lra_linear.specs.Widening.{holds_with, is_tight_as, is_valid}
-use Rattle.lra_linear.proofs.Membership.{NoRepeat, both_true, contains_cases, contains_head, contains_none, contains_tail, filter_from, filter_has, list_all_at, list_all_from}
+use Rattle.lra_linear.proofs.Membership.{NoRepeat, contains_cases, contains_head, contains_none, contains_tail, filter_from, filter_has, list_all_at, list_all_from}
 use Rattle.lra_linear.proofs.OneSpelling.{given_from}
 use Rattle.lra_linear.proofs.RowOrder.{inequality_cmp_total, never_both}
+use Rattle.lra_cone.proofs.Cutting.{no_repeat_filter}
 use Rattle.lra_widen.specs.Rank.{fits, free, held, holds_in_range, is_free, kept}
 
 -- ---- members that pass two tests
@@ -54,13 +57,13 @@ kept_all p r given h = (both_tests (holds_in_range p) (holds_in_range r) given).
 pub kept_at : (p r : Polyhedron) (given : List Given) (g : Given) → Contains (kept p r given) g → Contains given g × (holds_in_range p g ≡ true) × (holds_in_range r g ≡ true)
 kept_at p r given g k =
     let f = filter_from (λ x. holds_in_range p x && holds_in_range r x) given g k in
-    let b = both_true (holds_in_range p g) (holds_in_range r g) f.1 in
+    let b = and_parts (holds_in_range p g) (holds_in_range r g) f.1 in
     (f.0, b.0, b.1)
 
 -- what holds in the range is valid
 pub holds_valid : (p : Polyhedron) (g : Given) → holds_in_range p g ≡ true → is_valid p g ≡ true
 holds_valid p g h = list_all_from (holds_with g) p.generators (λ t k.
-    (both_true (fits (checked_product g.row t.row)) (holds_with g t) (list_all_at (λ x. fits (checked_product g.row x.row) && holds_with g x) p.generators h t k)).1)
+    (and_parts (fits (checked_product g.row t.row)) (holds_with g t) (list_all_at (λ x. fits (checked_product g.row x.row) && holds_with g x) p.generators h t k)).1)
 
 -- ---- the rows of a polyhedron
 none_passes : (t : Given → Bool) (rows : List (List ℤ)) (b : Bool) → ((r : List ℤ) → t (record { row = r; equal = b }) ≡ false) → filter t (given_as b rows) ≡ []
@@ -71,30 +74,17 @@ all_pass : (rows : List (List ℤ)) → length (filter (λ (r : Given). r.equal)
 all_pass [] = refl
 all_pass (r ∷ rows) = ap suc (all_pass rows)
 
-append_nothing : {A : Type 0} (xs : List A) → xs ++ [] ≡ xs
-append_nothing [] = refl
-append_nothing (x ∷ xs) = ap (λ l. x ∷ l) (append_nothing xs)
-
 pub equalities_many : (p : Polyhedron) (h : HasPoint p) → length (filter (λ (r : Given). r.equal) p.rows) ≡ length h.equalities
 equalities_many p h =
     ap (λ l. length (filter (λ (r : Given). r.equal) l)) h.rows_are ∙
     ap length (filter-append (λ (r : Given). r.equal) (given_as true h.equalities) (given_as false h.inequalities)) ∙
     ap (λ l. length (filter (λ (r : Given). r.equal) (given_as true h.equalities) ++ l)) (none_passes (λ (r : Given). r.equal) h.inequalities false (λ r. refl)) ∙
-    ap length (append_nothing (filter (λ (r : Given). r.equal) (given_as true h.equalities))) ∙ all_pass h.equalities
+    ap length (append-nil (filter (λ (r : Given). r.equal) (given_as true h.equalities))) ∙ all_pass h.equalities
 
 free_rows : (p : Polyhedron) (h : HasPoint p) (rows : List Given) → free p rows ≡ filter (is_free p rows) (given_as false h.inequalities)
 free_rows p h rows =
     ap (filter (is_free p rows)) h.rows_are ∙ filter-append (is_free p rows) (given_as true h.equalities) (given_as false h.inequalities) ∙
     ap (λ l. l ++ filter (is_free p rows) (given_as false h.inequalities)) (none_passes (is_free p rows) h.equalities true (λ r. refl))
-
--- no row stands there twice
-filter_apart : {A : Type 0} (t : A → Bool) (xs : List A) → NoRepeat xs → NoRepeat (filter t xs)
-filter_apart t [] n = tt
-filter_apart {A = A} t (x ∷ xs) n = by_test (t x) (filter_apart t xs n.1)
-  where
-    by_test : (b : Bool) → NoRepeat (filter t xs) → NoRepeat (cond b (x ∷ filter t xs) (filter t xs))
-    by_test true i = (λ k. n.0 (filter_from t xs x k).0, i)
-    by_test false i = i
 
 given_apart : (rows : List (List ℤ)) → Ascends inequality_cmp rows → NoRepeat (given_as false rows)
 given_apart [] a = tt
@@ -104,7 +94,7 @@ given_apart (r ∷ rows) a = (
 )
 
 pub free_apart : (p : Polyhedron) (h : HasPoint p) (rows : List Given) → NoRepeat (free p rows)
-free_apart p h rows = subst NoRepeat (sym (free_rows p h rows)) (filter_apart (is_free p rows) (given_as false h.inequalities) (given_apart h.inequalities h.inequalities_ascend))
+free_apart p h rows = subst NoRepeat (sym (free_rows p h rows)) (no_repeat_filter (is_free p rows) (given_as false h.inequalities) (given_apart h.inequalities h.inequalities_ascend))
 
 not_said : (b : Bool) → not b ≡ true → b ≡ false
 not_said true e = cc
@@ -125,7 +115,7 @@ free_said p h rows f k =
       is_row = (filter_from (is_free p rows) p.rows f k).0;
       is_inequality = g.1;
       unequal = g.0;
-      alone = not_said (list_any (is_tight_as p.generators f) rows) (both_true (not f.equal) (not (list_any (is_tight_as p.generators f) rows)) m.1).1;
+      alone = not_said (list_any (is_tight_as p.generators f) rows) (and_parts (not f.equal) (not (list_any (is_tight_as p.generators f) rows)) m.1).1;
     }
 
 pub free_has : (p : Polyhedron) (rows : List Given) (s : Given) → Contains p.rows s → s.equal ≡ false → list_any (is_tight_as p.generators s) rows ≡ false → Contains (free p rows) s

@@ -1,18 +1,19 @@
 -- The number of rows of an echelon form: one whose span lies in that of another has no more rows than it, and spans as much where it
 -- has as many.
-use Rattle.std.proofs.Common.{List, [], ap, arith, inl, inr, length, neg_ℤ, pos, refl, subst, suc, sym, zero, ℕ, ℤ, ◌*ℤ◌, ◌*◌, ◌++◌, ◌+ℤ◌, ◌<ℤ◌, ◌<◌, ◌≤◌, ◌∙◌, ◌∷◌, ◌≡◌, ◌⊎◌}
+use Rattle.std.proofs.Common.{List, [], ap, arith, inl, inr, length, neg_ℤ, pos, refl, subst, suc, sym, zero, ℕ, ℤ, ◌*ℤ◌, ◌*◌, ◌++◌, ◌+ℤ◌, ◌<◌, ◌≤◌, ◌∙◌, ◌∷◌, ◌≡◌, ◌⊎◌}
 use Rattle.std.proofs.lemmas.Int.{ints}
 use Rattle.std.proofs.lemmas.Bool.{cases_lt}
 use Rattle.std.proofs.lemmas.List.{length-append}
 use Rattle.std.proofs.lemmas.List.Elements.{Contains-append_cases, Contains-append_left, Contains-append_right}
 use Rattle.std.specs.List.{Contains}
 use Rattle.lra_linear.specs.Echelon.{Before, IsEchelon, Leads, Spanned}
-use Rattle.lra_linear.specs.Vectors.{entry, signed_sum}
+use Rattle.lra_linear.specs.Vectors.{entry}
 use Rattle.lra_linear.proofs.Membership.{NoRepeat, contains_cases, contains_head, contains_none, contains_split, contains_tail}
 use Rattle.lra_linear.proofs.Products.{entry_past}
 use Rattle.lra_linear.proofs.Ring.{ring, v, ⊖, ◌⊕◌, ◌⊗◌}
-use Rattle.lra_linear.proofs.Signs.{as_nat, no_factor, no_product, not_both, positive_nat}
-use Rattle.lra_linear.proofs.Spans.{all_zero, spanned_divided, spanned_head, spanned_linear, spanned_row, spanned_same, spanned_through, spanned_zero}
+use Rattle.lra_linear.proofs.Signs.{as_nat, not_both, positive_nat}
+use Rattle.lra_linear.proofs.Spans.{all_zero, drop_head, early, spanned_divided, spanned_head, spanned_linear, spanned_more, spanned_row, spanned_same, spanned_zero}
+use Rattle.lra_linear.proofs.AdjacentPairs.{both_positive}
 
 -- ---- pairs of members
 -- Each member of the one list is related to one of the other, no two of them to the same: so the one is no longer, and where it is as
@@ -53,37 +54,6 @@ no_longer {A = A} {B = B} Related (x ∷ xs) ys n m =
     ]
 
 -- ---- spans and pivots
-sum_zero : (zs : List ℤ) (rows : List (List ℤ)) (p : ℕ) → ((t : List ℤ) → Contains rows t → entry t p ≡ pos 0) → signed_sum zs rows p ≡ pos 0
-sum_zero [] rows p h = refl
-sum_zero (z ∷ zs) [] p h = refl
-sum_zero (z ∷ zs) (r ∷ rows) p h =
-    ap (λ y. (z *ℤ y) +ℤ signed_sum zs rows p) (h r (contains_head r rows)) ∙ ap (λ y. (z *ℤ pos 0) +ℤ y) (sum_zero zs rows p (λ t k. h t (contains_tail r t rows k))) ∙
-    ring (v z ⊗ v (pos 0) ⊕ v (pos 0)) (v (pos 0)) (omega arith)
-
--- with 0 at the first pivot, it is in the span of the rest
-without_first : (r : List ℤ) (rows : List (List ℤ)) (p : ℕ) (u : ℕ → ℤ) → pos 0 <ℤ entry r p → ((t : List ℤ) → Contains rows t → entry t p ≡ pos 0) → u p ≡ pos 0 → Spanned (r ∷ rows) u →
-    Spanned rows u
-without_first r rows p u h zeros e g = by_factors g.factors g.is_sum
-  where
-    by_factors : (zs : List ℤ) → ((j : ℕ) → pos g.multiple *ℤ u j ≡ signed_sum zs (r ∷ rows) j) → Spanned rows u
-    by_factors [] s = record { multiple = g.multiple; positive = g.positive; factors = []; is_sum = s }
-    by_factors (z ∷ zs) s =
-        let at : z *ℤ entry r p ≡ pos 0 =
-        ring (v z ⊗ v (entry r p)) (v z ⊗ v (entry r p) ⊕ v (pos 0)) (omega arith) ∙ ap (λ y. (z *ℤ entry r p) +ℤ y) (sym (sum_zero zs rows p zeros)) ∙ sym (s p) ∙ ap (λ y. pos g.multiple *ℤ y) e ∙
-        ring (v (pos g.multiple) ⊗ v (pos 0)) (v (pos 0)) (omega arith) in
-        let zz : z ≡ pos 0 = no_factor z (entry r p) h at in
-        record {
-          multiple = g.multiple;
-          positive = g.positive;
-          factors = zs;
-          is_sum = λ j. s j ∙ ap (λ y. (y *ℤ entry r j) +ℤ signed_sum zs rows j) zz ∙ ring (v (pos 0) ⊗ v (entry r j) ⊕ v (signed_sum zs rows j)) (v (signed_sum zs rows j)) (omega arith);
-        }
-
--- what is spanned is 0 before the first pivot
-before_first : (r : List ℤ) (rows : List (List ℤ)) (p : ℕ) (ps : List ℕ) → IsEchelon (r ∷ rows) (p ∷ ps) → (u : ℕ → ℤ) → Spanned (r ∷ rows) u → (j : ℕ) → Before j p → u j ≡ pos 0
-before_first r rows p ps ech u g j h = no_product g.multiple (u j) g.positive (g.is_sum j ∙ sum_zero g.factors (r ∷ rows) j
-    (λ t k. elim (contains_cases r t rows k) [ inl e ↦ subst (λ y. entry y j ≡ pos 0) e (ech.0.before j h) | inr d ↦ ech.2 t d j (inl h) ]))
-
 -- of two columns the one comes before the other, unless they are the same
 pub which_first : (i j : ℕ) → (i ≡ j) ⊎ (Before i j ⊎ Before j i)
 which_first zero zero = inl refl
@@ -102,8 +72,8 @@ lead_is_pivot (r ∷ rows) [] ech u q g before here = absurd ech
 lead_is_pivot (r ∷ rows) (p ∷ ps) ech u q g before here = elim (which_first p q) [
   | inl e ↦ subst (Contains (p ∷ ps)) e (contains_head p ps)
   | inr d ↦ elim d [
-    | inl l ↦ contains_tail p q ps (lead_is_pivot rows ps ech.4 u q (without_first r rows p u ech.0.here (λ t k. ech.2 t k p (inr refl)) (before p l) g) before here)
-    | inr l ↦ absurd (here (before_first r rows p ps ech u g q l))
+    | inl l ↦ contains_tail p q ps (lead_is_pivot rows ps ech.4 u q (drop_head r rows p u ech.0.here (λ t k. ech.2 t k p (inr refl)) (before p l) g) before here)
+    | inr l ↦ absurd (here (early r rows p ps ech u g q l))
   ]
 ]
 
@@ -138,15 +108,9 @@ record Cleared (rows : List (List ℤ)) (ps : List ℕ) (u : ℕ → ℤ) : Type
   on_span : Spanned rows part
   zero : (q : ℕ) → Contains ps q → (pos times *ℤ u q) +ℤ neg_ℤ (part q) ≡ pos 0
 
-spanned_later : (r : List ℤ) (rows : List (List ℤ)) (u : ℕ → ℤ) → Spanned rows u → Spanned (r ∷ rows) u
-spanned_later r rows u g = spanned_through rows (r ∷ rows) u (λ t k. spanned_row (r ∷ rows) t (contains_tail r t rows k)) g
-
 -- a (m u - w) - ((m u - w) at p) r, where a is r at p
 clear_sum : (a m u w z r : ℤ) → ((a *ℤ m) *ℤ u) +ℤ neg_ℤ ((a *ℤ w) +ℤ (z *ℤ r)) ≡ (a *ℤ ((m *ℤ u) +ℤ neg_ℤ w)) +ℤ neg_ℤ (z *ℤ r)
 clear_sum a m u w z r = ring ((v a ⊗ v m) ⊗ v u ⊕ ⊖ (v a ⊗ v w ⊕ v z ⊗ v r)) (v a ⊗ (v m ⊗ v u ⊕ ⊖ (v w)) ⊕ ⊖ (v z ⊗ v r)) (omega arith)
-
-both_positive : (a b : ℕ) → 0 < a → 0 < b → 0 < a * b
-both_positive a b h k = grind arith
 
 cleared_exists : (rows : List (List ℤ)) (ps : List ℕ) → IsEchelon rows ps → (u : ℕ → ℤ) → Cleared rows ps u
 cleared_exists [] ps ech u = record { times = 1; positive = omega arith; part = λ j. pos 0; on_span = spanned_zero []; zero = λ q k. none ps ech q k }
@@ -167,7 +131,7 @@ cleared_exists (r ∷ rows) (p ∷ ps) ech u =
       times = a.0 * i.times;
       positive = both_positive a.0 i.times (positive_nat (entry r p) a.0 ech.0.here a.1) i.positive;
       part = w;
-      on_span = spanned_linear (r ∷ rows) (entry r p) z i.part (entry r) (spanned_later r rows i.part i.on_span) (spanned_head r rows);
+      on_span = spanned_linear (r ∷ rows) (entry r p) z i.part (entry r) (spanned_more r rows i.part i.on_span) (spanned_head r rows);
       zero = λ q k. elim (contains_cases p q ps k) [
         | inl e ↦ subst (λ y. (pos (a.0 * i.times) *ℤ u y) +ℤ neg_ℤ (w y) ≡ pos 0) e
             (sum p ∙ ring (v (entry r p) ⊗ v z ⊕ ⊖ (v z ⊗ v (entry r p))) (v (pos 0)) (omega arith))

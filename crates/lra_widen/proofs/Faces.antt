@@ -30,6 +30,7 @@ use Rattle.lra_linear.proofs.SetOperations.{has_vertex, valid_on_rows}
 use Rattle.lra_linear.proofs.Signs.{between_opposites, no_product, opposite_of_zero, zero_at_least}
 use Rattle.lra_linear.proofs.Spans.{spanned_through}
 use Rattle.lra_linear.proofs.Widening.{valid_decides}
+use Rattle.lra_cone.proofs.Taking.{same_test}
 
 -- the rows of the constraints, and of the generators, those of both signs in both directions
 abbrev pub con : (p : Polyhedron) → HasPoint p → List (List ℤ)
@@ -184,15 +185,6 @@ beq_from false false e = refl
 zero_tests : (y z : ℤ) → int_eq y (pos 0) ≡ int_eq z (pos 0) → y ≡ pos 0 → z ≡ pos 0
 zero_tests y z e f = (signed_Decides z (pos 0)).0 (sym e ∙ (signed_Decides y (pos 0)).1 f)
 
-same_tests : (y z : ℤ) → (y ≡ pos 0 → z ≡ pos 0) → (z ≡ pos 0 → y ≡ pos 0) → int_eq y (pos 0) ≡ int_eq z (pos 0)
-same_tests y z f g = by_value (int_eq y (pos 0)) (int_eq z (pos 0)) refl refl
-  where
-    by_value : (a b : Bool) → int_eq y (pos 0) ≡ a → int_eq z (pos 0) ≡ b → a ≡ b
-    by_value true true e h = refl
-    by_value false false e h = refl
-    by_value true false e h = let k = (signed_Decides z (pos 0)).1 (f ((signed_Decides y (pos 0)).0 e)) in cc
-    by_value false true e h = let k = (signed_Decides y (pos 0)).1 (g ((signed_Decides z (pos 0)).0 h)) in cc
-
 -- two rows saturate the same generators
 pub tight_as_said : (p : Polyhedron) (h : HasPoint p) (r s : Given) → is_tight_as p.generators r s ≡ true → (t : List ℤ) → Contains (gen p h) t → product r.row t ≡ pos 0 → product s.row t ≡ pos 0
 tight_as_said p h r s e t k z =
@@ -210,7 +202,7 @@ pub tight_as_from : (p : Polyhedron) (h : HasPoint p) (r s : Given) → ((t : Li
     ((t : List ℤ) → Contains (gen p h) t → product s.row t ≡ pos 0 → product r.row t ≡ pos 0) → is_tight_as p.generators r s ≡ true
 tight_as_from p h r s there back = list_all_from (λ g. beq (saturates r g) (saturates s g)) p.generators (λ g k.
     let m = in_gen p h g.row (system_has p.generators g k) in
-    beq_from (saturates r g) (saturates s g) (same_tests (product r.row g.row) (product s.row g.row) (there g.row m) (back g.row m)))
+    beq_from (saturates r g) (saturates s g) (same_test (product r.row g.row) (product s.row g.row) (there g.row m) (back g.row m)))
 
 -- a row saturates all
 pub flat_said : (p : Polyhedron) (h : HasPoint p) (r : Given) → list_all (saturates r) p.generators ≡ true → IsFlat (gen p h) r.row

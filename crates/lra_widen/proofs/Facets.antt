@@ -2,31 +2,28 @@
 -- exists by Minkowski 1896).
 use Rattle.std.proofs.Common.{List, [], ap, arith, inl, inr, length, neg_ℤ, negsuc, pos, refl, subst, suc, sym, zero, ℕ, ℤ, ◌*ℤ◌, ◌++◌, ◌+ℤ◌, ◌<ℤ◌, ◌<◌, ◌∙◌, ◌∷◌, ◌≡◌, ◌≢◌, ◌≤ℤ◌, ◌⊎◌}
 use Rattle.std.proofs.lemmas.Int.{ints}
-use Rattle.std.proofs.lemmas.List.Elements.{Contains-append_cases, Contains-append_left}
+use Rattle.std.proofs.lemmas.List.Elements.{Contains-append_left}
 use Rattle.std.specs.List.{Contains}
-use Rattle.lra_linear.specs.Cones.{AreDual, Generated, Solves, both_ways}
+use Rattle.lra_linear.specs.Cones.{Generated, Solves, both_ways}
 use Rattle.lra_linear.specs.Descriptions.{Con, Given, system_of}
-use Rattle.lra_linear.proofs.DoubleDescription.{kept, pairs, step_rows}
-use Rattle.lra_linear.specs.Echelon.{Spanned}
 use Rattle.lra_linear.specs.LowestTerms.{IsPrimitive}
 use Rattle.lra_linear.specs.Points.{IsPoint}
 use Rattle.lra_linear.specs.Polyhedra.{HasPoint, IsPolyhedronOf, Polyhedron, positivity}
 use Rattle.lra_linear.proofs.Saturation.{Beside, IsExtreme}
-use Rattle.lra_linear.specs.Vectors.{behind_zero, dot, entry, negated, product, signed_sum, sum_of, units, zeros}
-use Rattle.lra_linear.proofs.AllPairs.{kept_only, pairs_only, step_rows_are}
-use Rattle.lra_linear.proofs.CanonicalForms.{ray_extreme}
+use Rattle.lra_linear.specs.Vectors.{behind_zero, dot, entry, product, sum_of, zeros}
+use Rattle.lra_linear.proofs.CanonicalForms.{on_lines, ray_extreme}
 use Rattle.lra_linear.proofs.Combinations.{generated_divided, generated_plus, generated_same, generated_times, generated_zero}
 use Rattle.lra_linear.proofs.Descriptions.{con_solves, solves_con, system_from, system_has}
-use Rattle.lra_linear.proofs.Duality.{dual_step}
-use Rattle.lra_linear.proofs.LinearMaps.{generated_nonneg, generated_right, generated_through, sum_generated}
-use Rattle.lra_linear.proofs.Lines.{described_generated, generated_described, signed_from, whole_described}
+use Rattle.lra_linear.proofs.LinearMaps.{generated_right, generated_through, sum_generated}
+use Rattle.lra_linear.proofs.Lines.{entry_zeros, zeros_length}
 use Rattle.lra_linear.proofs.LowestTerms.{primitive_at, same_multiple}
 use Rattle.lra_linear.proofs.Membership.{contains_cases, contains_head, contains_none, contains_tail}
 use Rattle.lra_linear.proofs.OneSpelling.{columns_of, cone_solved, far, gone, gone_divisor, gone_product, positivity_product, rows_hold, some_member}
-use Rattle.lra_linear.proofs.Products.{blend_length, dot_negated, negated_dot, negated_length, product_comm, row_same}
+use Rattle.lra_linear.proofs.Products.{blend_length, negated_dot, negated_length, product_comm, row_same}
 use Rattle.lra_linear.proofs.Ring.{mul_nonnegative, ring, v, ⊖, ◌⊕◌, ◌⊗◌}
 use Rattle.lra_linear.proofs.Signs.{add_nonnegative, cancel_same, not_both, times_positive}
 use Rattle.lra_linear.proofs.Spans.{all_zero}
+use Rattle.lra_canon.proofs.Solutions.{description_exists}
 use Rattle.lra_widen.proofs.Dimension.{pivot_row}
 use Rattle.lra_widen.proofs.Faces.{IsAbove, above_generated, beside_back, con, equality_flat, facet_not_flat, gen, line_flat}
 
@@ -37,83 +34,6 @@ behind_from n (r ∷ rows) h t k = elim (contains_cases (pos 0 ∷ r) t (behind_
   | inl e ↦ ap length (sym e) ∙ ap suc (h r (contains_head r rows))
   | inr d ↦ behind_from n rows (λ s i. h s (contains_tail r s rows i)) t d
 ]
-
-zeros_length : (n : ℕ) → length (zeros n) ≡ n
-zeros_length zero = refl
-zeros_length (suc n) = ap suc (zeros_length n)
-
-units_length : (n : ℕ) (t : List ℤ) → Contains (units n) t → length t ≡ n
-units_length zero t k = absurd (contains_none t k)
-units_length (suc n) t k = elim (contains_cases (pos 1 ∷ zeros n) t (behind_zero (units n)) k) [
-  | inl e ↦ ap length (sym e) ∙ ap suc (zeros_length n)
-  | inr d ↦ behind_from n (units n) (units_length n) t d
-]
-
--- a row whose product with its negative is at least 0 is 0
-square : (x : ℤ) → pos 0 ≤ℤ (x *ℤ x)
-square (pos n) = mul_nonnegative (pos n) (pos n) (omega (arith, ints)) (omega (arith, ints))
-square (negsuc n) =
-    let h = mul_nonnegative (pos (suc n)) (pos (suc n)) (omega (arith, ints)) (omega (arith, ints)) in
-    subst (λ z. pos 0 ≤ℤ z) (ring (v (pos (suc n)) ⊗ v (pos (suc n))) (⊖ (v (pos (suc n))) ⊗ ⊖ (v (pos (suc n)))) (omega arith)) h
-
-square_zero : (x : ℤ) → x *ℤ x ≡ pos 0 → x ≡ pos 0
-square_zero (pos zero) e = refl
-square_zero (pos (suc n)) e = absurd (not_both (pos (suc n) *ℤ pos (suc n)) (times_positive (pos (suc n)) (pos (suc n)) (omega (arith, ints)) (omega (arith, ints))) e)
-square_zero (negsuc n) e =
-    absurd (not_both (pos (suc n) *ℤ pos (suc n)) (times_positive (pos (suc n)) (pos (suc n)) (omega (arith, ints)) (omega (arith, ints)))
-    (ring (v (pos (suc n)) ⊗ v (pos (suc n))) (⊖ (v (pos (suc n))) ⊗ ⊖ (v (pos (suc n)))) (omega arith) ∙ e))
-
-squares : (c : List ℤ) → pos 0 ≤ℤ product c c
-squares [] = omega (arith, ints)
-squares (x ∷ c) = add_nonnegative (x *ℤ x) (product c c) (square x) (squares c)
-
-no_squares : (c : List ℤ) → product c c ≤ℤ pos 0 → (j : ℕ) → entry c j ≡ pos 0
-no_squares [] h j = refl
-no_squares (x ∷ c) h zero = square_zero x (first (x *ℤ x) (product c c) (square x) (squares c) h)
-  where
-    first : (a b : ℤ) → pos 0 ≤ℤ a → pos 0 ≤ℤ b → (a +ℤ b) ≤ℤ pos 0 → a ≡ pos 0
-    first a b h k l = omega (arith, ints, h, k, l)
-no_squares (x ∷ c) h (suc j) = no_squares c (second (x *ℤ x) (product c c) (square x) h) j
-  where
-    second : (a b : ℤ) → pos 0 ≤ℤ a → (a +ℤ b) ≤ℤ pos 0 → b ≤ℤ pos 0
-    second a b h l = omega (arith, ints, h, l)
-
-none_valid : (w : ℕ) (c : List ℤ) → length c ≡ w → Solves (both_ways (units w)) (entry c) → (j : ℕ) → entry c j ≡ pos 0
-none_valid w c l h =
-    let low : pos 0 ≤ℤ product c (negated c) = generated_nonneg c (both_ways (units w)) (entry (negated c)) (λ r k. subst (λ z. pos 0 ≤ℤ z) (product_comm r c) (h r k))
-    (generated_described (units w) [] (entry (negated c)) (whole_described w (negated c) (negated_length c ∙ l))) in
-    no_squares c (turned (product c c) (product c (negated c)) (dot_negated c c) low)
-  where
-    turned : (z y : ℤ) → y ≡ neg_ℤ z → pos 0 ≤ℤ y → z ≤ℤ pos 0
-    turned z y e h = omega (arith, ints, e, h)
-
-whole_dual : (w : ℕ) → AreDual w [] (both_ways (units w))
-whole_dual w = record {
-  system_widths = λ c k. absurd (contains_none c k);
-  row_widths = λ t k. let s = signed_from (units w) t k in elim s.sign [
-    | inl e ↦ ap length e ∙ units_length w s.line s.has
-    | inr e ↦ ap length e ∙ negated_length s.line ∙ units_length w s.line s.has
-  ];
-  solutions = λ u l h. generated_described (units w) [] (entry u) (whole_described w u l);
-  consequences = λ c l h. generated_same [] (λ j. pos 0) (entry c) (λ j. sym (none_valid w c l h j)) (generated_zero []);
-  meets = λ r k c m. absurd (contains_none c m);
-}
-
-step_widths : (w : ℕ) (c : List ℤ) (rows : List (List ℤ)) → ((t : List ℤ) → Contains rows t → length t ≡ w) → (t : List ℤ) → Contains (step_rows c rows) t → length t ≡ w
-step_widths w c rows h t k = elim (Contains-append_cases (kept c rows) (pairs c rows rows) t k) [
-  | inl a ↦ h t (kept_only c rows t a).0
-  | inr b ↦
-      let p = pairs_only c rows rows t b in
-      ap length (sym p.is_pair) ∙ blend_length (neg_ℤ (dot c (entry p.down))) (dot c (entry p.up)) p.up p.down (h p.up p.has_up ∙ sym (h p.down p.has_down)) ∙ h p.up p.has_up
-]
-
-dual_exists : (w : ℕ) (system : List (List ℤ)) → ((c : List ℤ) → Contains system c → length c ≡ w) → (rows : List (List ℤ)) × AreDual w system rows
-dual_exists w [] h = (both_ways (units w), whole_dual w)
-dual_exists w (c ∷ system) h =
-    let i = dual_exists w system (λ x k. h x (contains_tail c x system k)) in (
-      step_rows c i.0,
-      dual_step w c system i.0 (step_rows c i.0) i.1 (h c (contains_head c system)) (step_widths w c i.0 i.1.row_widths) (step_rows_are c w i.0 i.1.row_widths),
-    )
 
 -- ---- an extreme ray is a multiple, that isn't 0, of a row of each list that generates it, up to a line
 on_line : (lines : List (List ℤ)) (r t : List ℤ) (b : Beside lines r t) → b.other ≡ 0 → Generated lines (entry t)
@@ -152,11 +72,6 @@ strong_found cone lines r x sub (t ∷ rows) h (suc f ∷ fs) l g k p e =
     by_other b zero q again = let i = again q in (i.0, contains_tail t i.0 rows i.1, i.2)
 
 -- ---- the positivity row stands beside no other facet
-zeros_entry : (n j : ℕ) → entry (zeros n) j ≡ pos 0
-zeros_entry zero j = refl
-zeros_entry (suc n) zero = refl
-zeros_entry (suc n) (suc j) = zeros_entry n j
-
 dot_flat : (cs : List ℤ) (u : ℕ → ℤ) → ((j : ℕ) → entry cs j ≡ pos 0) → dot cs u ≡ pos 0
 dot_flat [] u h = refl
 dot_flat (c ∷ cs) u h =
@@ -176,21 +91,6 @@ no_pivot_first p h k =
     not_both (entry f.0 0 *ℤ entry b.0 0) (times_positive (entry f.0 0) (entry b.0 0) f.2.here (h.divisors b.0 b.1))
     (sym (dot_first f.0 (entry b.0) (λ j l. f.2.before j (l, inr refl))) ∙ flat)
 
-spanned_line : (lines : List (List ℤ)) (l : ℕ → ℤ) → Generated (both_ways lines) l → Spanned lines l
-spanned_line lines l g =
-    let d = described_generated lines [] l g in
-    record {
-      multiple = d.multiple;
-      positive = d.positive;
-      factors = d.free;
-      is_sum = λ j. d.is_sum j ∙ ap (λ z. signed_sum d.free lines j +ℤ z) (nothing d.factors j) ∙
-          ring (v (signed_sum d.free lines j) ⊕ v (pos 0)) (v (signed_sum d.free lines j)) (omega arith);
-    }
-  where
-    nothing : (fs : List ℕ) (j : ℕ) → sum_of fs [] j ≡ pos 0
-    nothing [] j = refl
-    nothing (f ∷ fs) j = refl
-
 -- rows of a canonical list that stand beside one another are the same
 pub beside_same : (p : Polyhedron) (h : HasPoint p) (s t : List ℤ) (b : Beside (both_ways h.equalities) s t) → Contains h.facets s → length t ≡ suc p.dims → IsPrimitive t →
     ((q : ℕ) → Contains h.constraints_canonical.pivots q → entry t q ≡ pos 0) → t ≡ s
@@ -203,7 +103,7 @@ beside_same p h s t b k lt primitive zeros =
     ap (λ z. (pos b.times *ℤ z) +ℤ neg_ℤ (pos b.other *ℤ entry s q)) (zeros q i) ∙
     ap (λ z. (pos b.times *ℤ pos 0) +ℤ neg_ℤ (pos b.other *ℤ z)) (c.reduced s k q i) ∙
     ring (v (pos b.times) ⊗ v (pos 0) ⊕ ⊖ (v (pos b.other) ⊗ v (pos 0))) (v (pos 0)) (omega arith) in
-    let flat : (j : ℕ) → b.line j ≡ pos 0 = all_zero h.equalities c.pivots c.echelon b.line (spanned_line h.equalities b.line b.on_line) zero_at in
+    let flat : (j : ℕ) → b.line j ≡ pos 0 = all_zero h.equalities c.pivots c.echelon b.line (on_lines h.equalities b.line b.on_line) zero_at in
     let multiples : (j : ℕ) → pos b.times *ℤ entry t j ≡ pos b.other *ℤ entry s j = λ j. b.is_beside j ∙ ap (λ z. (pos b.other *ℤ entry s j) +ℤ z) (flat j) ∙
     ring (v (pos b.other) ⊗ v (entry s j) ⊕ v (pos 0)) (v (pos b.other) ⊗ v (entry s j)) (omega arith) in
     let mn : b.times ≡ b.other = same_multiple b.times b.other t s primitive (c.lowest s k) multiples in
@@ -214,7 +114,7 @@ positivity_beside p h s k b = beside_same p h s (positivity p.dims) b k (ap suc 
   where
     zeros : (q : ℕ) → Contains h.constraints_canonical.pivots q → entry (positivity p.dims) q ≡ pos 0
     zeros zero i = absurd (no_pivot_first p h i)
-    zeros (suc q) i = zeros_entry p.dims q
+    zeros (suc q) i = entry_zeros p.dims q
 
 -- ---- the rows of a polyhedron
 -- what is valid on all its points is at least 0 on each vector that solves the rows and the positivity row
@@ -276,7 +176,7 @@ pub facet_row : (r : Polyhedron) (k : HasPoint r) (rows : List Given) → IsPoly
 facet_row r k rows made widths f m other =
     let n = suc r.dims in
     let system = positivity r.dims ∷ system_of rows in
-    let d = dual_exists n system all_widths in
+    let d = description_exists n system all_widths in
     let in_con : Contains (con r k) f = Contains-append_left k.facets (both_ways k.equalities) f m in
     let lf : length f ≡ n = k.dual.system_widths f in_con in
     let gf : Generated system (entry f) = d.1.consequences f lf

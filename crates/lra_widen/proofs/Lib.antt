@@ -1,4 +1,4 @@
-mod TruthLists
+pub mod TruthLists
 mod Loops
 mod TightLists
 mod Dimension

@@ -1,25 +1,16 @@
 -- Lists of rows with their kinds, gone through place by place: those that pass a test, and how many.
-use Rattle.std.proofs.Common.{Bool, List, [], add-one, ap, arith, cond, false, get_or, length, refl, suc, sym, take, true, zero, ℕ, ℤ, ◌+◌, ◌++◌, ◌<◌, ◌∙◌, ◌∷◌, ◌≡◌, ◌≤◌}
+use Rattle.std.proofs.Common.{Bool, List, [], add-one, ap, arith, cond, false, get_or, length, refl, sym, take, true, ℕ, ℤ, ◌+◌, ◌++◌, ◌<◌, ◌∙◌, ◌∷◌, ◌≡◌, ◌≤◌}
 use Rattle.std.proofs.lemmas.List.{append_assoc, length-append, take_all}
 use Rattle.std.proofs.lemmas.List.Elements.{filter-append}
 use Rattle.std.specs.List.{filter}
 use Rattle.lra_linear.specs.Descriptions.{Given}
 use Rattle.lra_sys.specs.Listed.{Listed, given_by}
-use Rattle.lra_sys.proofs.FirstMembers.{front, member}
-
-front_more : {K : Type 0} (equal : K → Bool) (rows : List (List ℤ)) (kinds : List K) (i : ℕ) (r : List ℤ) (k : K) → length kinds ≡ length rows → i < length rows → r ≡ get_or rows i r →
-    front equal rows kinds (suc i) ≡ front equal rows kinds i ++ member equal kinds i r k ∷ []
-front_more equal [] kinds i r k n h e = absurd (omega (arith, h))
-front_more equal (x ∷ rows) [] i r k n h e = absurd (omega (arith, n))
-front_more equal (x ∷ rows) (kind ∷ kinds) zero r k n h e =
-    ap (λ (y : List ℤ). (let g : Given = record { row = y; equal = equal kind } in g) ∷ []) (sym e)
-front_more equal (x ∷ rows) (kind ∷ kinds) (suc i) r k n h e =
-    ap (λ (l : List Given). (let g : Given = record { row = x; equal = equal kind } in g) ∷ l) (front_more equal rows kinds i r k (omega (arith, n)) (omega (arith, h)) e)
+use Rattle.lra_sys.proofs.FirstMembers.{front, given_more, member}
 
 -- one more place
 pub front_step : {K : Type 0} (equal : K → Bool) (rows : List (List ℤ)) (kinds : List K) (i : ℕ) (r : List ℤ) (k : K) → length kinds ≡ length rows → i < length rows → r ≡ get_or rows i r →
     front equal rows kinds (i + 1) ≡ front equal rows kinds i ++ member equal kinds i r k ∷ []
-front_step equal rows kinds i r k n h e = ap (front equal rows kinds) (add-one i) ∙ front_more equal rows kinds i r k n h e
+front_step equal rows kinds i r k n h e = ap (front equal rows kinds) (add-one i) ∙ given_more equal rows kinds i r k n h e
 
 -- all places
 pub front_all : {K : Type 0} (equal : K → Bool) (rows : List (List ℤ)) (kinds : List K) (i : ℕ) → length kinds ≡ length rows → length rows ≤ i → front equal rows kinds i ≡ given_by equal rows kinds

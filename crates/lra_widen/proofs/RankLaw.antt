@@ -1,8 +1,7 @@
 -- The rank falls with each widening that isn't the old value: the affine hull grows or stays; if it stays, each inequality of the result
 -- that no given row stands for comes from one of the old value's, no two from the same, and not all are reached.
 use Rattle.std.proofs.Common.{Bool, List, [], ap, arith, false, inl, inr, length, pos, refl, subst, suc, sym, true, ℕ, ℤ, ◌*ℤ◌, ◌++◌, ◌<◌, ◌∙◌, ◌∷◌, ◌≡◌, ◌≢◌, ◌≤ℤ◌, ◌⊎◌}
-use Rattle.std.specs.Prelude.{◌||◌}
-use Rattle.std.proofs.lemmas.Bool.{cases_lt}
+use Rattle.std.proofs.lemmas.Bool.{cases_lt, or_cases}
 use Rattle.std.proofs.lemmas.Int.{ints}
 use Rattle.std.proofs.lemmas.List.Elements.{Contains-append_cases, Contains-append_left, Contains-append_right}
 use Rattle.std.specs.List.{Contains, filter, list_all, list_any}
@@ -107,10 +106,6 @@ source_free p r given c f s free from m = by_value (list_any (is_tight_as p.gene
         let none = free.alone in
         absurd (cc)
 
-either : (a b : Bool) → (a || b) ≡ true → (a ≡ true) ⊎ (b ≡ true)
-either true b e = inl refl
-either false b e = inr e
-
 -- which kind of row it is
 kind_of : (b : Bool) → (b ≡ true) ⊎ (b ≡ false)
 kind_of true = inl refl
@@ -161,7 +156,7 @@ source p r given c f m =
         let found = any_from (is_tight_as r.generators f) (kept p r given) g there same in
         let none = free.alone in
         absurd (cc)
-    by_row free shown g b above (inl e) = elim (either (list_all (saturates g) p.generators) (list_any (is_tight_as p.generators g) p.rows) e) [
+    by_row free shown g b above (inl e) = elim (or_cases (list_all (saturates g) p.generators) (list_any (is_tight_as p.generators g) p.rows) e) [
       | inl a ↦ absurd (apart_below p r c.h c.k c.hull f.row shown
           (λ t j. beside_back lines f.row g.row b above t (line_back p r c.h c.k c.hull b.line b.on_line t j) (flat_said p c.h g a t j)))
       | inr a ↦

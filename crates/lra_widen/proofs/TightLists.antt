@@ -13,6 +13,7 @@ use Rattle.lra_linear.specs.Widening.{is_tight, is_tight_as, saturates}
 use Rattle.lra_sys.specs.Listed.{Listed, given_by}
 use Rattle.lra_widen.specs.Rank.{is_free}
 use Rattle.lra_poly.specs.Saturations.{saturated}
+use Rattle.lra_poly.proofs.SaturationLemmas.{rows_saturate}
 use Rattle.lra_widen.specs.Saturated.{same_values}
 
 -- ---- all, and the same
@@ -30,13 +31,6 @@ any_saturates generators r [] = refl
 any_saturates generators r (s ∷ rows) =
     ap (λ b. b || list_any (same_values (saturated generators r.row)) (map (λ (s : Given). saturated generators s.row) rows)) (same_saturate generators r s) ∙
     ap (λ b. is_tight_as generators r s || b) (any_saturates generators r rows)
-
--- of rows with kinds
-pub rows_saturate : {K : Type 0} (equal : K → Bool) (generators : List Given) (rows : List (List ℤ)) (kinds : List K) → length kinds ≡ length rows →
-    map (saturated generators) rows ≡ map (λ (s : Given). saturated generators s.row) (given_by equal rows kinds)
-rows_saturate equal generators [] kinds n = refl
-rows_saturate equal generators (r ∷ rows) [] n = absurd (omega (arith, n))
-rows_saturate equal generators (r ∷ rows) (k ∷ kinds) n = ap (λ l. saturated generators r ∷ l) (rows_saturate equal generators rows kinds (omega (arith, n)))
 
 -- tightness
 pub tight_by_values : (p : Polyhedron) (r : Given) (bits : List Bool) (classes : List (List Bool)) → bits ≡ saturated p.generators r.row →

@@ -3,10 +3,11 @@ use Rattle.std.proofs.Common.{Bool, List, [], ap, arith, false, inl, inr, length
 use Rattle.std.specs.Prelude.{◌↔◌, ◌⊎◌, IsTrue}
 use Rattle.std.proofs.lemmas.List.Elements.{All-contains, Contains-append_cases, Contains-append_left, Contains-append_right}
 use Rattle.std.specs.List.{All, Contains, filter}
+use Rattle.std.proofs.lemmas.List.{append-nil}
 use Rattle.lra_linear.specs.Cones.{both_ways}
-use Rattle.lra_linear.specs.Descriptions.{Con, Given, given_as, system_of}
-use Rattle.lra_linear.specs.OperationStrain.{ConstraintsStrain, FromRowsStrains, LimitedStrains, ResultStrains, StandardStrains, tight_on, valid_on}
-use Rattle.lra_linear.specs.Points.{IsEmptySet, IsPoint, IsWithin, PointSet, SameSet}
+use Rattle.lra_linear.specs.Descriptions.{Con, Given, given_as}
+use Rattle.lra_linear.specs.OperationStrain.{ConstraintsStrain, FromRowsStrains, LimitedStrains, StandardStrains, tight_on, valid_on}
+use Rattle.lra_linear.specs.Points.{IsEmptySet, IsPoint, IsWithin, SameSet}
 use Rattle.lra_linear.specs.Polyhedra.{HasPoint, IsPolyhedron, IsPolyhedronOf, Polyhedron}
 use Rattle.lra_linear.specs.Strain.{Loss}
 use Rattle.lra_linear.specs.Widening.{Limited, Standard, StandardFrom, is_tight}
@@ -14,7 +15,6 @@ use Rattle.lra_linear.proofs.Descriptions.{con_none}
 use Rattle.lra_linear.proofs.Lines.{in_lines}
 use Rattle.lra_linear.proofs.Membership.{contains_cases, contains_none, filter_from}
 use Rattle.lra_linear.proofs.OneSpelling.{given_from}
-use Rattle.lra_linear.proofs.SetOperations.{has_vertex}
 use Rattle.lra_linear.proofs.Widening.{limited_con, standard_con, valid_decides}
 use Rattle.lra_poly.specs.declared.inclusion.Inclusion.TheVariants.{Wide, Yes}
 use Rattle.lra_poly.specs.declared.outcome.Outcome.{Outcome}
@@ -24,7 +24,7 @@ use Rattle.lra_poly.specs.Inclusions.{IsInclusion, Meets, MeetsAll, Passes, Viol
 use Rattle.lra_pair.specs.KeptRows.{IsOfSome}
 use Rattle.lra_poly.specs.Outcomes.{IfExact, IfFlagged}
 use Rattle.lra_poly.proofs.InclusionLemmas.{has_member}
-use Rattle.lra_poly.proofs.PolyLemmas.{falsity_is_empty, none_where_empty, same_polyhedron}
+use Rattle.lra_poly.proofs.PolyLemmas.{constraints_strain, if_exact, if_flagged, none_where_empty, same_polyhedron, some_generator, with_point}
 use Rattle.lra_sys.specs.Listed.{Listed, given_by}
 use Rattle.lra_widen.specs.Rank.{Falls, equalities_from, holds_in_range, kept}
 use Rattle.lra_widen.specs.Widenings.{HaveColumns, IsOutside, IsWidened, PassesOnBoth}
@@ -32,16 +32,9 @@ use Rattle.lra_widen.proofs.Counting.{holds_valid, kept_at}
 use Rattle.lra_widen.proofs.RankLaw.{not_inside, rank_falls}
 
 -- ---- with and without a point
-pub with_point : (p : Polyhedron) → IsPolyhedron p → ¬ (IsEmptySet p.dims (Con p.rows)) → HasPoint p
-with_point p (inl none) some = absurd (some (falsity_is_empty p.dims p.rows none.0))
-with_point p (inr h) some = h
-
 around_point : (p q : Polyhedron) → HasPoint p → IsPolyhedron q → q.dims ≡ p.dims → IsWithin p.dims (Con p.rows) (Con q.rows) → HasPoint q
 around_point p q h (inl none) d w = absurd (not_inside p q h none d w)
 around_point p q h (inr k) d w = k
-
-no_generators : (p : Polyhedron) → HasPoint p → p.generators ≢ []
-no_generators p h e = contains_none (has_vertex p h).vertex (subst (λ (l : List Given). Contains (system_of l) (has_vertex p h).vertex) e (has_vertex p h).has)
 
 -- ---- widths
 pub given_columns : {K : Type 0} (equal : K → Bool) (n : ℕ) (rows : List (List ℤ)) (kinds : List K) → All (λ r. length r ≡ suc n) rows → HaveColumns n (given_by equal rows kinds)
@@ -76,7 +69,7 @@ widened_empty p q r given hp hq d empty er =
       within = s.0;
       old = λ x i c. absurd (empty x i c);
       strain = tt;
-      keeps = λ h. absurd (no_generators p h e);
+      keeps = λ h. absurd (some_generator p h e);
     })
 
 -- ---- all points
@@ -124,7 +117,7 @@ widened_wide p q u given loss made x = widened_up p q u given loss made (passes_
 -- ---- the polyhedron of the tight rows and those kept
 limited_list : (p q : Polyhedron) (given : List Given) → HasPoint p → HasPoint q → IsWithin p.dims (Limited p q given) (Con (tight_on p q ++ kept p q given))
 limited_list p q given h k x i l g m = elim (Contains-append_cases (tight_on p q) (kept p q given) g m) [
-  | inl a ↦ (standard_con p.dims p q (no_generators p h)).0 x i l.0 g a
+  | inl a ↦ (standard_con p.dims p q (some_generator p h)).0 x i l.0 g a
   | inr b ↦
       let f = kept_at p q given g b in
       l.1 g f.0 ((valid_decides p h g).0 (holds_valid p g f.1)) ((valid_decides q k g).0 (holds_valid q g f.2))
@@ -135,14 +128,6 @@ old_list p q given h w x i c g m = elim (Contains-append_cases (tight_on p q) (k
   | inl a ↦ w x i c g (filter_from (is_tight p) q.rows g a).0
   | inr b ↦ (valid_decides p h g).0 (holds_valid p g (kept_at p q given g b).1) x i c
 ]
-
-exact_of : (P Q : Type 0) (o : Outcome) → (P → Q) → IfExact P o → IfExact Q o
-exact_of P Q Exact f h = f h
-exact_of P Q (Flagged loss) f h = tt
-
-flagged_of : (P Q : Loss → Type 0) (o : Outcome) → ((loss : Loss) → P loss → Q loss) → IfFlagged P o → IfFlagged Q o
-flagged_of P Q Exact f h = tt
-flagged_of P Q (Flagged loss) f h = f loss h
 
 -- the widths of these rows
 limited_columns : (p q : Polyhedron) (given : List Given) → HasPoint q → q.dims ≡ p.dims → HaveColumns p.dims given → HaveColumns p.dims (tight_on p q ++ kept p q given)
@@ -179,13 +164,6 @@ of_some p q made given o h k d w s columns exact strain =
     }
 
 -- ---- what is told where rows are lost
-result_strain : (n : ℕ) (P Q : PointSet) (list : Polyhedron → List Given) (loss : Loss) → SameSet n P Q → ResultStrains n Q list loss → ResultStrains n P list loss
-result_strain n P Q list loss s r = record { result = r.result; is_result = same_polyhedron n P Q r.result s r.is_result; strains = r.strains }
-
-constraints_strain : (n : ℕ) (P Q : PointSet) (taken : List Given) (loss : Loss) → SameSet n P Q → ConstraintsStrain n Q taken loss → ConstraintsStrain n P taken loss
-constraints_strain n P Q taken loss s (inl a) = inl a
-constraints_strain n P Q taken loss s (inr b) = inr (result_strain n P Q (λ p. p.generators) loss s b)
-
 -- what the polyhedron is made of, and what is told of it
 pub record IsMade (p q made : Polyhedron) (list given : List Given) (n : ℕ) (o lost : Outcome) : Type 0 where
   pub first : IsPolyhedron p
@@ -216,10 +194,10 @@ widened_made p q made list given n o lost x el =
     let all = Con (tight_on p q ++ valid_on p q given) in
     let c = limited_con p q given h k in
     of_some p q made given o h k x.dims x.within (some_limited p q made list given n o lost x) x.columns
-    (exact_of (IsPolyhedronOf n (Con list) made) (IsPolyhedronOf p.dims (Limited p q given) made) o
+    (if_exact (IsPolyhedronOf n (Con list) made) (IsPolyhedronOf p.dims (Limited p q given) made) o
     (λ m. same_polyhedron p.dims (Limited p q given) all made c
     (subst (λ (l : List Given). IsPolyhedronOf p.dims (Con l) made) e (subst (λ (j : ℕ). IsPolyhedronOf j (Con list) made) x.list_dims m))) x.exact)
-    (flagged_of (FromRowsStrains n list) (LimitedStrains p q given) o
+    (if_flagged (FromRowsStrains n list) (LimitedStrains p q given) o
     (λ loss f. inl (constraints_strain p.dims (Limited p q given) all (tight_on p q ++ valid_on p q given) loss c
     (subst (λ (l : List Given). FromRowsStrains p.dims l loss) e (subst (λ (j : ℕ). FromRowsStrains j list loss) x.list_dims f)))) x.strain)
 
@@ -238,13 +216,9 @@ not_exact b o h f e = let t = h.1 e in cc
 standard_limited : (n : ℕ) (p q : Polyhedron) → SameSet n (Standard p q) (Limited p q [])
 standard_limited n p q = (λ x i s. (s, λ g m a b. absurd (contains_none g m)), λ x i l. l.0)
 
-append_nothing : {A : Type 0} (xs : List A) → xs ++ [] ≡ xs
-append_nothing [] = refl
-append_nothing (x ∷ xs) = ap (λ l. x ∷ l) (append_nothing xs)
-
 pub standard_exact : (p q r : Polyhedron) (given : List Given) (o : Outcome) → given ≡ [] → IsWidened p q given r o → IfExact (IsPolyhedronOf p.dims (Standard p q) r) o
 standard_exact p q r given o e w =
-    exact_of (IsPolyhedronOf p.dims (Limited p q given) r) (IsPolyhedronOf p.dims (Standard p q) r) o
+    if_exact (IsPolyhedronOf p.dims (Limited p q given) r) (IsPolyhedronOf p.dims (Standard p q) r) o
     (λ h. same_polyhedron p.dims (Standard p q) (Limited p q []) r (standard_limited p.dims p q) (subst (λ (l : List Given). IsPolyhedronOf p.dims (Limited p q l) r) e h)) w.exact
 
 pub standard_within : (p q r : Polyhedron) (given : List Given) (o : Outcome) → given ≡ [] → IsWidened p q given r o → IsWithin p.dims (Standard p q) (Con r.rows)
@@ -253,7 +227,7 @@ standard_within p q r given o e w x i s = w.within x i (subst (λ (l : List Give
 standard_loss : (p q : Polyhedron) (loss : Loss) → LimitedStrains p q [] loss → StandardStrains p q loss
 standard_loss p q loss (inl a) =
     inl (constraints_strain p.dims (Standard p q) (Limited p q []) (tight_on p q) loss (standard_limited p.dims p q)
-    (subst (λ (l : List Given). ConstraintsStrain p.dims (Limited p q []) l loss) (append_nothing (tight_on p q)) a))
+    (subst (λ (l : List Given). ConstraintsStrain p.dims (Limited p q []) l loss) (append-nil (tight_on p q)) a))
 standard_loss p q loss (inr b) = inr (record {
   excess = b.excess;
   is_cause = b.is_cause;
@@ -272,7 +246,7 @@ standard_loss p q loss (inr b) = inr (record {
 
 pub standard_strain : (p q r : Polyhedron) (given : List Given) (o : Outcome) → given ≡ [] → IsWidened p q given r o → IfFlagged (StandardStrains p q) o
 standard_strain p q r given o e w =
-    flagged_of (LimitedStrains p q given) (StandardStrains p q) o (λ loss s. standard_loss p q loss (subst (λ (l : List Given). LimitedStrains p q l loss) e s)) w.strain
+    if_flagged (LimitedStrains p q given) (StandardStrains p q) o (λ loss s. standard_loss p q loss (subst (λ (l : List Given). LimitedStrains p q l loss) e s)) w.strain
 
 -- ---- the rank
 pub limited_falls : (p q r : Polyhedron) (given : List Given) (o : Outcome) → IsPolyhedron p → HaveColumns p.dims given → IsWidened p q given r o → r ≢ p → Falls p r given
@@ -338,7 +312,7 @@ seen_columns equal n m all rows er e h =
 pub some_equalities : (p : Polyhedron) (rows : List Given) (b : Bool) (n : ℕ) → IsPolyhedron p → rows ≡ p.rows → b ≡ false → IsTrue b ↔ IsEmptySet p.dims (Con p.rows) →
     n ≡ length (filter (λ (g : Given). g.equal) rows) → n ≡ equalities_from p.generators p
 some_equalities p rows b n hp er e h m =
-    m ∙ ap (λ l. length (filter (λ (g : Given). g.equal) l)) er ∙ sym (by_list p.generators (no_generators p (with_point p hp (λ s. let t = h.1 s in cc))))
+    m ∙ ap (λ l. length (filter (λ (g : Given). g.equal) l)) er ∙ sym (by_list p.generators (some_generator p (with_point p hp (λ s. let t = h.1 s in cc))))
   where
     by_list : (l : List Given) → l ≢ [] → equalities_from l p ≡ length (filter (λ (g : Given). g.equal) p.rows)
     by_list [] x = absurd (x refl)
