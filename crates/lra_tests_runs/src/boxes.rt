@@ -3,7 +3,6 @@
 use crate::checks::{Line, are_proved, have_lines};
 use crate::memory::{BOXES, PROVED};
 use lra_top::Status;
-use std::test::Fail;
 
 /// A loop that counts to ten.
 const COUNTING: &str = "int main(void){ long i=0; while(i<10) i=i+1; }";
@@ -251,36 +250,16 @@ static ROUNDED: [(&str, &str); 4] = [
 ];
 
 #[test]
-fn words_are_told(rt: HostRuntime) -> Result<(), Fail> {
-    have_lines(&rt, rt.alloc(), &WORDS)
+fn lines_over_boxes(rt: HostRuntime) {
+    have_lines(&rt, rt.alloc(), &WORDS);
+    are_proved(&rt, rt.alloc(), BOXES, &VALUES);
+    have_lines(&rt, rt.alloc(), &LOOPS);
+    are_proved(&rt, rt.alloc(), BOXES, &SCOPES);
+    are_proved(&rt, rt.alloc(), BOXES, &GLOBALS);
+    are_proved(&rt, rt.alloc(), BOXES, &CALLS);
 }
 
 #[test]
-fn values(rt: HostRuntime) -> Result<(), Fail> {
-    are_proved(&rt, rt.alloc(), BOXES, &VALUES)
-}
-
-#[test]
-fn loops(rt: HostRuntime) -> Result<(), Fail> {
-    have_lines(&rt, rt.alloc(), &LOOPS)
-}
-
-#[test]
-fn scopes(rt: HostRuntime) -> Result<(), Fail> {
-    are_proved(&rt, rt.alloc(), BOXES, &SCOPES)
-}
-
-#[test]
-fn globals(rt: HostRuntime) -> Result<(), Fail> {
-    are_proved(&rt, rt.alloc(), BOXES, &GLOBALS)
-}
-
-#[test]
-fn calls(rt: HostRuntime) -> Result<(), Fail> {
-    are_proved(&rt, rt.alloc(), BOXES, &CALLS)
-}
-
-#[test]
-fn octagons(rt: HostRuntime) -> Result<(), Fail> {
-    are_proved(&rt, rt.alloc(), "lra analyse --domain oct", &ROUNDED)
+fn lines_over_octagons(rt: HostRuntime) {
+    are_proved(&rt, rt.alloc(), "lra analyse --domain oct", &ROUNDED);
 }

@@ -2,9 +2,8 @@
 
 use crate::memory::{BOXES, SOUND, told, written};
 use lra_top::Status;
-use std::alloc::Global;
+use std::alloc::{AllocError, Global};
 use std::process::Abort;
-use std::test::Fail;
 
 /// Words, a source, the read and the write that are to fail, the status, and the whole text that is written.
 pub type Answer = (&'static str, &'static str, (u64, u64), Status, &'static str);
@@ -12,48 +11,42 @@ pub type Answer = (&'static str, &'static str, (u64, u64), Status, &'static str)
 /// Words, a source, the status, and lines of its report.
 pub type Line = (&'static str, &'static str, Status, &'static str);
 
+/// How a run ended, and whether its text is as it should be.
+pub type Ended = Result<(Status, bool), AllocError>;
+
 /// Checks how a run ended, and that its text was as it should be.
-pub fn agrees(rt: &impl Abort, end: (Status, bool), status: Status, words: &str, text: &str) {
-    assert_eq!(rt; end, (status, true), "{words}: {text}");
+pub fn agrees(rt: &impl Abort, ended: Ended, status: Status, words: &str, text: &str) {
+    assert!(rt; ended == Ok((status, true)), "{words}: {text}");
 }
 
 /// Checks whole texts.
-pub fn are_answers(rt: &impl Abort, alloc: Global, answers: &[Answer]) -> Result<(), Fail> {
+pub fn are_answers(rt: &impl Abort, alloc: Global, answers: &[Answer]) {
     for (words, source, fails, status, text) in answers {
-        let end = written(alloc, words, source.as_bytes(), *fails, text)?;
-        agrees(rt, end, *status, words, text);
+        let ended = written(alloc, words, source.as_bytes(), *fails, text);
+        agrees(rt, ended, *status, words, text);
     }
-    Ok(())
 }
 
 /// Checks that the sources are refused by these whole texts.
-pub fn are_refused(rt: &impl Abort, alloc: Global, sources: &[(&str, &str)]) -> Result<(), Fail> {
+pub fn are_refused(rt: &impl Abort, alloc: Global, sources: &[(&str, &str)]) {
     for (source, text) in sources {
-        let end = written(alloc, BOXES, source.as_bytes(), SOUND, text)?;
-        agrees(rt, end, Status::Refused, BOXES, text);
+        let ended = written(alloc, BOXES, source.as_bytes(), SOUND, text);
+        agrees(rt, ended, Status::Refused, BOXES, text);
     }
-    Ok(())
 }
 
 /// Checks lines of reports.
-pub fn have_lines(rt: &impl Abort, alloc: Global, lines: &[Line]) -> Result<(), Fail> {
+pub fn have_lines(rt: &impl Abort, alloc: Global, lines: &[Line]) {
     for (words, source, status, text) in lines {
-        let end = told(alloc, words, source.as_bytes(), text)?;
-        agrees(rt, end, *status, words, text);
+        let ended = told(alloc, words, source.as_bytes(), text);
+        agrees(rt, ended, *status, words, text);
     }
-    Ok(())
 }
 
 /// Checks lines of reports whose assertions these words prove.
-pub fn are_proved(
-    rt: &impl Abort,
-    alloc: Global,
-    words: &str,
-    lines: &[(&str, &str)],
-) -> Result<(), Fail> {
+pub fn are_proved(rt: &impl Abort, alloc: Global, words: &str, lines: &[(&str, &str)]) {
     for (source, text) in lines {
-        let end = told(alloc, words, source.as_bytes(), text)?;
-        agrees(rt, end, Status::Proved, words, text);
+        let ended = told(alloc, words, source.as_bytes(), text);
+        agrees(rt, ended, Status::Proved, words, text);
     }
-    Ok(())
 }

@@ -3,7 +3,6 @@
 use lra_edge::{MemSink, MemSource};
 use lra_top::{Status, run};
 use std::alloc::{AllocError, Global};
-use std::test::Fail;
 
 /// The words that ask for a report over boxes.
 pub const BOXES: &str = "lra analyse --domain box";
@@ -32,22 +31,26 @@ fn words_of(alloc: Global, line: &str) -> Result<Vec<String>, AllocError> {
 }
 
 /// The status beside what the sink holds.
-fn with_text(alloc: Global, status: Status, sink: &MemSink) -> Result<(Status, String), Fail> {
-    let text = str::from_utf8(sink.bytes())?;
+fn with_text(
+    alloc: Global,
+    status: Status,
+    sink: &MemSink,
+) -> Result<(Status, String), AllocError> {
+    let text = str::from_utf8(sink.bytes()).unwrap_or("not UTF-8");
     Ok((status, String::from_str(alloc, text)?))
 }
 
 /// How a run over these bytes ends, and what the sink, with room for so many bytes, then holds. The words stand between
 /// single spaces, the program's name first. The read and the write of these numbers, counted from 1, fail.
 ///
-/// Fails where memory runs out for the words or the text, and where the text isn't UTF-8.
+/// Fails where memory runs out for the words or the text. Where the sink holds other bytes than UTF-8, it tells so.
 pub fn ended_within(
     alloc: Global,
     words: &str,
     source: &[u8],
     (read, write): (u64, u64),
     room: usize,
-) -> Result<(Status, String), Fail> {
+) -> Result<(Status, String), AllocError> {
     let words = words_of(alloc, words)?;
     let mut source = MemSource::new(alloc, source, 10, &[read])?;
     let mut sink = MemSink::new(alloc, room, 10, &[write])?;
@@ -61,7 +64,7 @@ pub fn ended(
     words: &str,
     source: &[u8],
     fails: (u64, u64),
-) -> Result<(Status, String), Fail> {
+) -> Result<(Status, String), AllocError> {
     ended_within(alloc, words, source, fails, 200_000)
 }
 
@@ -72,7 +75,7 @@ pub fn told(
     words: &str,
     source: &[u8],
     lines: &str,
-) -> Result<(Status, bool), Fail> {
+) -> Result<(Status, bool), AllocError> {
     let (status, text) = ended(alloc, words, source, SOUND)?;
     Ok((status, text.contains(lines)))
 }
@@ -84,7 +87,7 @@ pub fn written(
     source: &[u8],
     fails: (u64, u64),
     whole: &str,
-) -> Result<(Status, bool), Fail> {
+) -> Result<(Status, bool), AllocError> {
     let (status, text) = ended(alloc, words, source, fails)?;
     Ok((status, text.as_bytes() == whole.as_bytes()))
 }

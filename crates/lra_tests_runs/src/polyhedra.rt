@@ -3,7 +3,6 @@
 use crate::checks::{Answer, Line, are_answers, have_lines};
 use crate::memory::{PROVED, SOUND};
 use lra_top::Status;
-use std::test::Fail;
 
 /// The program of Cousot and Halbwachs (1978).
 const SLOPES: &str =
@@ -205,21 +204,13 @@ static NAMED: [Line; 7] = [
 ];
 
 #[test]
-fn reports(rt: HostRuntime) -> Result<(), Fail> {
-    are_answers(&rt, rt.alloc(), &REPORTS)
+fn reports(rt: HostRuntime) {
+    are_answers(&rt, rt.alloc(), &REPORTS);
 }
 
 #[test]
-fn loops(rt: HostRuntime) -> Result<(), Fail> {
-    have_lines(&rt, rt.alloc(), &LOOPS)
-}
-
-#[test]
-fn states(rt: HostRuntime) -> Result<(), Fail> {
-    have_lines(&rt, rt.alloc(), &STATES)
-}
-
-#[test]
-fn named(rt: HostRuntime) -> Result<(), Fail> {
-    have_lines(&rt, rt.alloc(), &NAMED)
+fn lines_of_reports(rt: HostRuntime) {
+    have_lines(&rt, rt.alloc(), &LOOPS);
+    have_lines(&rt, rt.alloc(), &STATES);
+    have_lines(&rt, rt.alloc(), &NAMED);
 }

@@ -1,7 +1,6 @@
 //! Sources that are refused over any domain, by cause, each with the whole text that is written.
 
 use crate::checks::are_refused;
-use std::test::Fail;
 
 /// Bytes and literals that are none.
 static UNREADABLE: [(&str, &str); 5] = [
@@ -203,36 +202,12 @@ static NO_MAIN: [(&str, &str); 3] = [
 ];
 
 #[test]
-fn unreadable(rt: HostRuntime) -> Result<(), Fail> {
-    are_refused(&rt, rt.alloc(), &UNREADABLE)
-}
-
-#[test]
-fn unfinished(rt: HostRuntime) -> Result<(), Fail> {
-    are_refused(&rt, rt.alloc(), &UNFINISHED)
-}
-
-#[test]
-fn misshapen(rt: HostRuntime) -> Result<(), Fail> {
-    are_refused(&rt, rt.alloc(), &MISSHAPEN)
-}
-
-#[test]
-fn unknown_names(rt: HostRuntime) -> Result<(), Fail> {
-    are_refused(&rt, rt.alloc(), &UNKNOWN)
-}
-
-#[test]
-fn doubled_names(rt: HostRuntime) -> Result<(), Fail> {
-    are_refused(&rt, rt.alloc(), &DOUBLED)
-}
-
-#[test]
-fn misused(rt: HostRuntime) -> Result<(), Fail> {
-    are_refused(&rt, rt.alloc(), &MISUSED)
-}
-
-#[test]
-fn no_main(rt: HostRuntime) -> Result<(), Fail> {
-    are_refused(&rt, rt.alloc(), &NO_MAIN)
+fn sources_are_refused(rt: HostRuntime) {
+    are_refused(&rt, rt.alloc(), &UNREADABLE);
+    are_refused(&rt, rt.alloc(), &UNFINISHED);
+    are_refused(&rt, rt.alloc(), &MISSHAPEN);
+    are_refused(&rt, rt.alloc(), &UNKNOWN);
+    are_refused(&rt, rt.alloc(), &DOUBLED);
+    are_refused(&rt, rt.alloc(), &MISUSED);
+    are_refused(&rt, rt.alloc(), &NO_MAIN);
 }

@@ -1,9 +1,8 @@
 //! Worked scripts.
 
 use crate::memory::{SOUND, written};
-use std::alloc::Global;
+use std::alloc::{AllocError, Global};
 use std::process::Abort;
-use std::test::Fail;
 
 /// Scripts that are refused, and what is written.
 static REFUSED: [(&str, &str); 10] = [
@@ -194,31 +193,24 @@ static WIDENED: [(&str, &str); 12] = [
     ),
 ];
 
+/// Whether this is written for the script.
+fn is_written(alloc: Global, script: &str, expected: &str) -> Result<bool, AllocError> {
+    let (_status, same) = written(alloc, "lra calc", script.as_bytes(), SOUND, expected)?;
+    Ok(same)
+}
+
 /// Checks what is written for scripts.
-fn are_written(rt: &impl Abort, alloc: Global, scripts: &[(&str, &str)]) -> Result<(), Fail> {
+fn are_written(rt: &impl Abort, alloc: Global, scripts: &[(&str, &str)]) {
     for (script, expected) in scripts {
-        let (_status, same) = written(alloc, "lra calc", script.as_bytes(), SOUND, expected)?;
-        assert!(rt; same, "{script}");
+        let same = is_written(alloc, script, expected);
+        assert!(rt; same == Ok(true), "{script}");
     }
-    Ok(())
 }
 
 #[test]
-fn refused_scripts(rt: HostRuntime) -> Result<(), Fail> {
-    are_written(&rt, rt.alloc(), &REFUSED)
-}
-
-#[test]
-fn scripts(rt: HostRuntime) -> Result<(), Fail> {
-    are_written(&rt, rt.alloc(), &SHOWN)
-}
-
-#[test]
-fn mapped_scripts(rt: HostRuntime) -> Result<(), Fail> {
-    are_written(&rt, rt.alloc(), &MAPPED)
-}
-
-#[test]
-fn widened_scripts(rt: HostRuntime) -> Result<(), Fail> {
-    are_written(&rt, rt.alloc(), &WIDENED)
+fn scripts(rt: HostRuntime) {
+    are_written(&rt, rt.alloc(), &REFUSED);
+    are_written(&rt, rt.alloc(), &SHOWN);
+    are_written(&rt, rt.alloc(), &MAPPED);
+    are_written(&rt, rt.alloc(), &WIDENED);
 }
