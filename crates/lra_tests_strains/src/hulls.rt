@@ -4,7 +4,6 @@ use lra_tests_runs::memory::{SOUND, ended_within, written};
 use lra_top::Status;
 use std::alloc::{AllocError, Global};
 use std::fmt::Write;
-use std::test::Fail;
 
 /// Adds the point that has the entry on an axis, and 0 on the others.
 fn push_point(text: &mut String, n: usize, axis: usize, entry: &str) -> Result<(), AllocError> {
@@ -40,7 +39,7 @@ fn cross_polytope(alloc: Global, n: usize) -> Result<String, AllocError> {
 }
 
 /// Whether that script writes this.
-fn polytope_writes(alloc: Global, n: usize, expected: &str) -> Result<bool, Fail> {
+fn polytope_writes(alloc: Global, n: usize, expected: &str) -> Result<bool, AllocError> {
     let script = cross_polytope(alloc, n)?;
     let (_status, same) = written(alloc, "lra calc", script.as_bytes(), SOUND, expected)?;
     Ok(same)
@@ -53,12 +52,13 @@ static FACETS: [(usize, &str); 2] = [
 ];
 
 #[test]
-fn many_facets(rt: HostRuntime) -> Result<(), Fail> {
+fn many_facets(rt: HostRuntime) {
     for (n, expected) in FACETS.iter() {
-        let same = polytope_writes(rt.alloc(), *n, expected)?;
-        assert!(rt; same, "{n}");
+        assert!(rt;
+            polytope_writes(rt.alloc(), *n, expected) == Ok(true),
+            "{n}"
+        );
     }
-    Ok(())
 }
 
 /// Thirteen variables.
@@ -67,7 +67,7 @@ static NAMES: [&str; 13] = [
 ];
 
 /// Each of the variables may be from 0 to 1.
-fn cube(alloc: Global) -> Result<String, Fail> {
+fn cube(alloc: Global) -> Result<String, AllocError> {
     let mut source = String::from_str(alloc, "int main(void){ ")?;
     for name in NAMES.iter() {
         write!(
@@ -102,21 +102,19 @@ fn counts_of(text: &str) -> [usize; 4] {
     ]
 }
 
-/// How the run over the cube ends, and what is written.
-fn cube_report(alloc: Global) -> Result<(Status, String), Fail> {
+/// How the run over the cube ends, whether it is flagged at point 26, and what point 27 tells.
+fn cube_tells(alloc: Global) -> Result<(Status, bool, [usize; 4]), AllocError> {
     let source = cube(alloc)?;
-    ended_within(alloc, "lra analyse", source.as_bytes(), SOUND, 3_000_000)
+    let bytes = source.as_bytes();
+    let (end, text) = ended_within(alloc, "lra analyse", bytes, SOUND, 3_000_000)?;
+    let flagged = text.contains("\nflagged at point 26\n");
+    let counts = counts_of(behind(&text, "\npoint 27 main "));
+    Ok((end, flagged, counts))
 }
 
 /// With the thirteenth variable there would be 8,192 points: its rows are left out.
 #[test]
-fn a_list_of_points_has_a_limit(rt: HostRuntime) -> Result<(), Fail> {
-    let (end, text) = cube_report(rt.alloc())?;
-    let flagged = text.contains("\nflagged at point 26\n");
-    let counts = counts_of(behind(&text, "\npoint 27 main "));
-    assert_eq!(rt;
-        (end, flagged, counts),
-        (Status::Proved, true, [24, 4096, 0, 1])
-    );
-    Ok(())
+fn a_list_of_points_has_a_limit(rt: HostRuntime) {
+    let told = (Status::Proved, true, [24, 4096, 0, 1]);
+    assert!(rt; cube_tells(rt.alloc()) == Ok(told));
 }

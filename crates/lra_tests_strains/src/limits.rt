@@ -1,10 +1,9 @@
 //! The numbers of bytes, variables and points of a source, from both sides of their limits.
 
-use crate::pieces::{Pieces, agrees, are_proved, are_refused, joined};
-use lra_tests_runs::memory::{BOXES, PROVED, SOUND, ended, told, written};
+use crate::pieces::{Pieces, agrees, are_proved, are_refused, tells, writes};
+use lra_tests_runs::memory::{BOXES, PROVED, SOUND, ended, written};
 use lra_top::Status;
-use std::alloc::Global;
-use std::test::Fail;
+use std::alloc::{AllocError, Global};
 
 /// One variable more than a point may have.
 const MANY: Pieces = (
@@ -94,63 +93,49 @@ static SCRIPTS: [(Pieces, Status, &str); 3] = [
     ),
 ];
 
+/// Over polyhedra many variables are refused too.
 #[test]
-fn sources_past_a_limit_are_refused(rt: HostRuntime) -> Result<(), Fail> {
-    are_refused(&rt, rt.alloc(), &PAST)
-}
-
-#[test]
-fn sources_within_a_limit_are_analysed(rt: HostRuntime) -> Result<(), Fail> {
-    are_proved(&rt, rt.alloc(), BOXES, &WITHIN)
-}
-
-/// Over polyhedra too.
-#[test]
-fn many_variables_are_refused(rt: HostRuntime) -> Result<(), Fail> {
-    let source = joined(rt.alloc(), MANY)?;
+fn sources_past_a_limit_are_refused(rt: HostRuntime) {
+    are_refused(&rt, rt.alloc(), &PAST);
     let lines = "refused 12 TooManyVariables at 1:113\n";
-    let end = told(rt.alloc(), "lra analyse", source.as_bytes(), lines)?;
-    agrees(&rt, end, Status::Refused, "lra analyse", lines);
-    Ok(())
+    let ended = tells(rt.alloc(), "lra analyse", MANY, lines);
+    agrees(&rt, ended, Status::Refused, "lra analyse", lines);
 }
 
 #[test]
-fn scripts_have_a_longest(rt: HostRuntime) -> Result<(), Fail> {
-    for (pieces, status, text) in SCRIPTS.iter() {
-        let script = joined(rt.alloc(), *pieces)?;
-        let end = written(rt.alloc(), "lra calc", script.as_bytes(), SOUND, text)?;
-        agrees(&rt, end, *status, "lra calc", text);
-    }
-    Ok(())
+fn sources_within_a_limit_are_analysed(rt: HostRuntime) {
+    are_proved(&rt, rt.alloc(), BOXES, &WITHIN);
 }
 
 /// Whether a script of so many spaces writes this.
-fn spaces_write(alloc: Global, count: usize, expected: &str) -> Result<bool, Fail> {
+fn spaces_write(alloc: Global, count: usize, expected: &str) -> Result<bool, AllocError> {
     let script = vec![in alloc; b' '; count]?;
     let (_status, same) = written(alloc, "lra calc", &script, SOUND, expected)?;
     Ok(same)
 }
 
 #[test]
-fn lines_of_scripts_have_a_longest(rt: HostRuntime) -> Result<(), Fail> {
-    let longest = spaces_write(rt.alloc(), 65_536, "flagged 0\n")?;
-    let longer = spaces_write(rt.alloc(), 65_537, "refused 1 TooLong at 1:65537\n")?;
-    assert_eq!(rt; (longest, longer), (true, true));
-    Ok(())
+fn scripts_and_their_lines_have_a_longest(rt: HostRuntime) {
+    for (pieces, status, text) in SCRIPTS.iter() {
+        let ended = writes(rt.alloc(), "lra calc", *pieces, text);
+        agrees(&rt, ended, *status, "lra calc", text);
+    }
+    let longest = spaces_write(rt.alloc(), 65_536, "flagged 0\n");
+    let longer = spaces_write(rt.alloc(), 65_537, "refused 1 TooLong at 1:65537\n");
+    assert!(rt; [longest, longer] == [Ok(true), Ok(true)]);
 }
 
 /// How a run over this front of a source ends, and whether it is refused in its line.
-fn ends_in_front(alloc: Global, front: &[u8]) -> Result<(Status, bool), Fail> {
+fn ends_in_front(alloc: Global, front: &[u8]) -> Result<(Status, bool), AllocError> {
     let (end, text) = ended(alloc, BOXES, front, SOUND)?;
     Ok((end, text.starts_with("refused 4 Syntax at 1:")))
 }
 
 #[test]
-fn each_front_of_a_source_is_refused(rt: HostRuntime) -> Result<(), Fail> {
+fn each_front_of_a_source_is_refused(rt: HostRuntime) {
     let source = PROVED.as_bytes();
     for count in 1..source.len() {
-        let end = ends_in_front(rt.alloc(), &source[..count])?;
-        assert_eq!(rt; end, (Status::Refused, true), "{count}");
+        let ended = ends_in_front(rt.alloc(), &source[..count]);
+        assert!(rt; ended == Ok((Status::Refused, true)), "{count}");
     }
-    Ok(())
 }

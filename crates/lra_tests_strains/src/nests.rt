@@ -2,7 +2,6 @@
 
 use crate::pieces::{Pieces, are_proved, are_refused};
 use lra_tests_runs::memory::BOXES;
-use std::test::Fail;
 
 /// Sources that are too deep, or end at the greatest depth, and the whole text that is written.
 static DEEP: [(Pieces, &str); 12] = [
@@ -114,6 +113,9 @@ static NESTED: [(Pieces, &str); 7] = [
     ),
 ];
 
+/// The words that leave narrowing out.
+const UNNARROWED: &str = "lra analyse --domain box --narrow 0";
+
 /// Loops of the greatest depth.
 static LOOPS: [(Pieces, &str); 1] = [(
     ("int main(void){", "while(0)", 63, ";}"),
@@ -121,21 +123,12 @@ static LOOPS: [(Pieces, &str); 1] = [(
 )];
 
 #[test]
-fn deeper_sources_are_refused(rt: HostRuntime) -> Result<(), Fail> {
-    are_refused(&rt, rt.alloc(), &DEEP)
+fn deeper_sources_are_refused(rt: HostRuntime) {
+    are_refused(&rt, rt.alloc(), &DEEP);
 }
 
 #[test]
-fn deep_sources_are_analysed(rt: HostRuntime) -> Result<(), Fail> {
-    are_proved(&rt, rt.alloc(), BOXES, &NESTED)
-}
-
-#[test]
-fn deep_loops_are_analysed(rt: HostRuntime) -> Result<(), Fail> {
-    are_proved(
-        &rt,
-        rt.alloc(),
-        "lra analyse --domain box --narrow 0",
-        &LOOPS,
-    )
+fn deep_sources_are_analysed(rt: HostRuntime) {
+    are_proved(&rt, rt.alloc(), BOXES, &NESTED);
+    are_proved(&rt, rt.alloc(), UNNARROWED, &LOOPS);
 }

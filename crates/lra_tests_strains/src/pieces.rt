@@ -4,7 +4,6 @@ use lra_tests_runs::memory::{BOXES, SOUND, told, written};
 use lra_top::Status;
 use std::alloc::{AllocError, Global};
 use std::process::Abort;
-use std::test::Fail;
 
 /// A text, and so many copies of a second one between it and a third.
 pub type Pieces = (&'static str, &'static str, usize, &'static str);
@@ -19,32 +18,38 @@ pub fn joined(alloc: Global, (before, middle, count, after): Pieces) -> Result<S
     Ok(text)
 }
 
+/// How a run ended, and whether its text is as it should be.
+pub type Ended = Result<(Status, bool), AllocError>;
+
 /// Checks how a run ended, and that its text was as it should be.
-pub fn agrees(rt: &impl Abort, end: (Status, bool), status: Status, words: &str, text: &str) {
-    assert_eq!(rt; end, (status, true), "{words}: {text}");
+pub fn agrees(rt: &impl Abort, ended: Ended, status: Status, words: &str, text: &str) {
+    assert!(rt; ended == Ok((status, true)), "{words}: {text}");
+}
+
+/// How the run over a source ends, and whether this is all that it writes.
+pub fn writes(alloc: Global, words: &str, pieces: Pieces, text: &str) -> Ended {
+    let source = joined(alloc, pieces)?;
+    written(alloc, words, source.as_bytes(), SOUND, text)
+}
+
+/// How the run over a source ends, and whether these lines stand in what it writes.
+pub fn tells(alloc: Global, words: &str, pieces: Pieces, lines: &str) -> Ended {
+    let source = joined(alloc, pieces)?;
+    told(alloc, words, source.as_bytes(), lines)
 }
 
 /// Checks that the sources are refused by these whole texts.
-pub fn are_refused(rt: &impl Abort, alloc: Global, sources: &[(Pieces, &str)]) -> Result<(), Fail> {
+pub fn are_refused(rt: &impl Abort, alloc: Global, sources: &[(Pieces, &str)]) {
     for (pieces, text) in sources {
-        let source = joined(alloc, *pieces)?;
-        let end = written(alloc, BOXES, source.as_bytes(), SOUND, text)?;
-        agrees(rt, end, Status::Refused, BOXES, text);
+        let ended = writes(alloc, BOXES, *pieces, text);
+        agrees(rt, ended, Status::Refused, BOXES, text);
     }
-    Ok(())
 }
 
 /// Checks lines of reports whose assertions these words prove.
-pub fn are_proved(
-    rt: &impl Abort,
-    alloc: Global,
-    words: &str,
-    sources: &[(Pieces, &str)],
-) -> Result<(), Fail> {
+pub fn are_proved(rt: &impl Abort, alloc: Global, words: &str, sources: &[(Pieces, &str)]) {
     for (pieces, lines) in sources {
-        let source = joined(alloc, *pieces)?;
-        let end = told(alloc, words, source.as_bytes(), lines)?;
-        agrees(rt, end, Status::Proved, words, lines);
+        let ended = tells(alloc, words, *pieces, lines);
+        agrees(rt, ended, Status::Proved, words, lines);
     }
-    Ok(())
 }
