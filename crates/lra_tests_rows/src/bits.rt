@@ -4,7 +4,6 @@ ghost use Rattle.std.specs.Prelude.{◌≡◌, ◌+◌, length, IfOk, OnOk};
 
 use lra_bits::{BitRow, SatMatrix};
 use std::alloc::{AllocError, Global};
-use std::test::Fail;
 
 const WIDTHS: [usize; 6] = [0, 1, 63, 64, 65, 4096];
 
@@ -26,14 +25,11 @@ fn lie_in(alloc: Global, width: usize, inner: usize, outer: usize) -> Result<boo
     Ok(inner.subset(&outer))
 }
 
-#[test]
-fn rows_lie_in_others(rt: HostRuntime) -> Result<(), Fail> {
-    for width in WIDTHS {
-        let even = lie_in(rt.alloc(), width, 2, 3)?;
-        let sixth = lie_in(rt.alloc(), width, 6, 2)?;
-        assert_eq!(rt; (even, sixth), (width < 3, true));
-    }
-    Ok(())
+// Whether those of 2 lie in those of 3 as they should, and those of 6 in those of 2.
+fn lie_so(alloc: Global, width: usize) -> Result<bool, AllocError> {
+    let even = lie_in(alloc, width, 2, 3)?;
+    let sixth = lie_in(alloc, width, 6, 2)?;
+    Ok(even == (width < 3) && sixth)
 }
 
 // Whether what the multiples of the first two numbers have in common lies in those of the third.
@@ -44,14 +40,11 @@ fn common_lies_in(alloc: Global, width: usize, steps: [usize; 3]) -> Result<bool
     Ok(first.common_within(&second, &outer))
 }
 
-#[test]
-fn common_places_lie_in_others(rt: HostRuntime) -> Result<(), Fail> {
-    for width in WIDTHS {
-        let sixth = common_lies_in(rt.alloc(), width, [2, 3, 6])?;
-        let fourth = common_lies_in(rt.alloc(), width, [6, 2, 4])?;
-        assert_eq!(rt; (sixth, fourth), (true, width < 7));
-    }
-    Ok(())
+// Whether those of 2 and 3 have theirs in those of 6, and those of 6 and 2 in those of 4 as they should.
+fn common_lie_so(alloc: Global, width: usize) -> Result<bool, AllocError> {
+    let sixth = common_lies_in(alloc, width, [2, 3, 6])?;
+    let fourth = common_lies_in(alloc, width, [6, 2, 4])?;
+    Ok(sixth && fourth == (width < 7))
 }
 
 // Whether the row is true at the multiples of 6, and has so many places.
@@ -71,15 +64,6 @@ fn has_common(alloc: Global, width: usize) -> Result<bool, AllocError> {
     let common = even.common(&third)?;
     let packed = even.words().len() == width.div_ceil(64);
     Ok(packed && is_sixth(&common, width))
-}
-
-#[test]
-fn rows_have_common_places(rt: HostRuntime) -> Result<(), Fail> {
-    for width in WIDTHS {
-        let same = has_common(rt.alloc(), width)?;
-        assert!(rt; same, "{width}");
-    }
-    Ok(())
 }
 
 fn add_multiples(
@@ -119,10 +103,17 @@ fn keeps_second(alloc: Global, width: usize) -> Result<bool, AllocError> {
 }
 
 #[test]
-fn rows_are_removed(rt: HostRuntime) -> Result<(), Fail> {
+fn rows_lie_in_others(rt: HostRuntime) {
     for width in WIDTHS {
-        let kept = keeps_second(rt.alloc(), width)?;
-        assert!(rt; kept, "{width}");
+        assert!(rt; lie_so(rt.alloc(), width) == Ok(true), "{width}");
+        assert!(rt; common_lie_so(rt.alloc(), width) == Ok(true), "{width}");
     }
-    Ok(())
+}
+
+#[test]
+fn rows_are_met_and_removed(rt: HostRuntime) {
+    for width in WIDTHS {
+        assert!(rt; has_common(rt.alloc(), width) == Ok(true), "{width}");
+        assert!(rt; keeps_second(rt.alloc(), width) == Ok(true), "{width}");
+    }
 }

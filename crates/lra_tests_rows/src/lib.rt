@@ -1,17 +1,11 @@
-//! Tests of exact rows, canonical forms, cones and linear forms: each public call that allocates,
-//! and values from outside.
+//! Tests of exact rows, packed truth values, linear forms and lists: each public call that allocates, and values from
+//! outside.
 //!
 //! They stand apart from what they try, since a crate that has tests in it is proved twice.
 #![tactic(auto)]
 
 #[cfg(test)]
 mod bits;
-#[cfg(test)]
-mod canon;
-#[cfg(test)]
-mod cone;
-#[cfg(test)]
-mod cone_lists;
 #[cfg(test)]
 mod lin;
 #[cfg(test)]

@@ -23,12 +23,9 @@ fn great_values(alloc: Global) -> Result<[Option<i128>; 2], AllocError> {
 
 /// Values of forms at small stores, and sums at the limits of i64.
 #[test]
-fn values_of_forms(rt: HostRuntime) -> Result<(), AllocError> {
-    let small = small_values(rt.alloc())?;
-    let great = great_values(rt.alloc())?;
-    assert_eq!(rt; small, [Some(9), Some(3), Some(-8)]);
-    assert_eq!(rt; great, [Some(1i128 << 126), None]);
-    Ok(())
+fn values_of_forms(rt: HostRuntime) {
+    assert!(rt; small_values(rt.alloc()) == Ok([Some(9), Some(3), Some(-8)]));
+    assert!(rt; great_values(rt.alloc()) == Ok([Some(1i128 << 126), None]));
 }
 
 // The constant and the coefficient of what a test's opposite asks, if there is one.
@@ -48,15 +45,14 @@ fn opposite_of(
 
 /// The opposite of `x - 10 >= 0` is `9 - x >= 0`; there is none of an equality, nor where a coefficient is -2^63.
 #[test]
-fn opposites(rt: HostRuntime) -> Result<(), AllocError> {
+fn opposites(rt: HostRuntime) {
     for (kind, constant, coefficient, want) in [
         (ConKind::Ge, -10, 1, Some((9, -1))),
         (ConKind::Ge, i64::MIN, 3, Some((i64::MAX, -3))),
         (ConKind::Ge, 0, i64::MIN, None),
         (ConKind::Eq, 0, 1, None),
     ] {
-        let found = opposite_of(rt.alloc(), kind, constant, coefficient)?;
-        assert_eq!(rt; found, want);
+        let found = opposite_of(rt.alloc(), kind, constant, coefficient);
+        assert!(rt; found == Ok(want), "{constant} {coefficient}");
     }
-    Ok(())
 }

@@ -6,9 +6,8 @@ ghost use Rattle.lra_linear.specs.Range.{InRange};
 ghost use Rattle.lra_linear.specs.Vectors.{product};
 
 use lra_row::{Excess, Operation, Row, RowError, add, floor_div, gcd, mul, ratio_cmp};
-use std::alloc::Global;
+use std::alloc::{AllocError, Global};
 use std::cmp::Ordering;
-use std::test::Fail;
 
 const MAX: i128 = i128::MAX;
 
@@ -46,68 +45,74 @@ fn divisors_and_ratios(rt: HostRuntime) {
     assert_eq!(rt; (divisors, ratios), ([6, 0], want));
 }
 
-#[test]
-fn products(rt: HostRuntime) -> Result<(), Fail> {
-    let c = Row::from_slice(rt.alloc(), &[1, -2, 3])?;
-    let form = Row::from_slice(rt.alloc(), &[5, 1, -1])?;
-    assert_eq!(rt; c.dot(&form), Ok(0));
-    Ok(())
+// Whether 1 -2 3 and 5 1 -1 have the product 0.
+fn have_no_product(alloc: Global) -> Result<bool, AllocError> {
+    let c = Row::from_slice(alloc, &[1, -2, 3])?;
+    let form = Row::from_slice(alloc, &[5, 1, -1])?;
+    Ok(c.dot(&form) == Ok(0))
 }
 
-/// 2 3 1 stands after 1 -1 5.
-#[test]
-fn orders(rt: HostRuntime) -> Result<(), Fail> {
-    let row = Row::from_slice(rt.alloc(), &[1, 2, 3])?;
-    let form = Row::from_slice(rt.alloc(), &[5, 1, -1])?;
-    assert_eq!(rt; row.compare(&form), Ordering::Greater);
-    Ok(())
+// Whether 2 3 1 stands after 1 -1 5.
+fn are_ordered(alloc: Global) -> Result<bool, AllocError> {
+    let row = Row::from_slice(alloc, &[1, 2, 3])?;
+    let form = Row::from_slice(alloc, &[5, 1, -1])?;
+    Ok(row.compare(&form) == Ordering::Greater)
 }
 
 fn is_row(row: &Row, pivot: usize, entries: &[i128]) -> bool {
     row.entries() == entries && row.width() == entries.len() && row.pivot() == pivot
 }
 
+// Whether the row is made, with this pivot and these entries.
+fn makes(made: Result<Row, RowError>, pivot: usize, entries: &[i128]) -> bool {
+    match made {
+        Ok(row) => is_row(&row, pivot, entries),
+        Err(_) => false,
+    }
+}
+
 // Whether a form that is put in for a coordinate makes its row.
-fn substitutes(alloc: Global) -> Result<bool, Fail> {
+fn substitutes(alloc: Global) -> Result<bool, AllocError> {
     let row = Row::from_slice(alloc, &[1, 2, 3])?;
     let form = Row::from_slice(alloc, &[5, 1, -1])?;
-    let made = row.substitute(1, &form).map_err(|_| "no row")?;
-    Ok(is_row(&made, 1, &[11, 2, 1]))
+    Ok(makes(row.substitute(1, &form), 1, &[11, 2, 1]))
 }
 
 // Whether two rows on either side of a third make theirs.
-fn combines(alloc: Global) -> Result<bool, Fail> {
+fn combines(alloc: Global) -> Result<bool, AllocError> {
     let u = Row::from_slice(alloc, &[1, 1])?;
     let v = Row::from_slice(alloc, &[6, -1])?;
     let c = Row::from_slice(alloc, &[0, 2])?;
-    let made = Row::combine(&u, &v, &c).map_err(|_| "no row")?;
-    Ok(is_row(&made, 0, &[1, 0]))
+    Ok(makes(Row::combine(&u, &v, &c), 0, &[1, 0]))
 }
 
 // Whether a negated row in lowest terms is as it should be.
-fn lowers(alloc: Global) -> Result<bool, Fail> {
+fn lowers(alloc: Global) -> Result<bool, AllocError> {
     let mut even = Row::from_slice(alloc, &[4, 0, -6])?.negate()?;
     even.lowest_terms();
     Ok(is_row(&even, 2, &[-2, 0, 3]))
 }
 
 // Whether a row and its negative sum to nothing.
-fn blends(alloc: Global) -> Result<bool, Fail> {
+fn blends(alloc: Global) -> Result<bool, AllocError> {
     let nine = Row::from_slice(alloc, &[1, 2, 3, 4, 5, 6, 7, 8, 9])?;
     let other = nine.copy()?;
-    let zero = nine.negate()?.blend(1, 1, &other).map_err(|_| "no row")?;
-    Ok(is_row(&zero, 0, &[0, 0, 0, 0, 0, 0, 0, 0, 0]))
+    let zero = nine.negate()?.blend(1, 1, &other);
+    Ok(makes(zero, 0, &[0, 0, 0, 0, 0, 0, 0, 0, 0]))
 }
 
-/// Rows that are made, with their entries.
+/// Rows that are made and compared.
 #[test]
-fn rows(rt: HostRuntime) -> Result<(), Fail> {
-    let substituted = substitutes(rt.alloc())?;
-    let combined = combines(rt.alloc())?;
-    let lowered = lowers(rt.alloc())?;
-    let blended = blends(rt.alloc())?;
-    assert_eq!(rt; [substituted, combined, lowered, blended], [true; 4]);
-    Ok(())
+fn rows(rt: HostRuntime) {
+    let answers = [
+        have_no_product(rt.alloc()),
+        are_ordered(rt.alloc()),
+        substitutes(rt.alloc()),
+        combines(rt.alloc()),
+        lowers(rt.alloc()),
+        blends(rt.alloc()),
+    ];
+    assert!(rt; answers == [Ok(true); 6]);
 }
 
 // What passes the range, where no row is made for it.
@@ -120,7 +125,12 @@ fn passing(made: Result<Row, RowError>) -> Option<Excess> {
 }
 
 // What passes in the combination of two rows on either side of a third.
-fn combining(alloc: Global, u: &[i128], v: &[i128], c: &[i128]) -> Result<Option<Excess>, Fail>
+fn combining(
+    alloc: Global,
+    u: &[i128],
+    v: &[i128],
+    c: &[i128],
+) -> Result<Option<Excess>, AllocError>
     requires u_numbers { All InRange u.now }
     requires v_numbers { All InRange v.now }
     requires c_numbers { All InRange c.now }
@@ -139,67 +149,62 @@ fn excess(op: Operation, left: i128, right: i128) -> Option<Excess> {
     Some(Excess { op, left, right })
 }
 
+// A product that passes.
+fn product_of(left: i128, right: i128) -> Result<Option<Excess>, AllocError> {
+    Ok(excess(Operation::Product, left, right))
+}
+
+// A sum that passes.
+fn sum_of(left: i128, right: i128) -> Result<Option<Excess>, AllocError> {
+    Ok(excess(Operation::Sum, left, right))
+}
+
 /// A product that passes: in `c.u`, and in `c.v`.
 #[test]
-fn products_in_combinations(rt: HostRuntime) -> Result<(), Fail> {
-    let above = combining(rt.alloc(), &[MAX, 1], &[-1, 0], &[2, 0])?;
-    let below = combining(rt.alloc(), &[1, 0], &[-MAX, 0], &[2, 0])?;
-    let op = Operation::Product;
-    assert_eq!(rt; (above, below), (excess(op, 2, MAX), excess(op, 2, -MAX)));
-    Ok(())
+fn products_in_combinations(rt: HostRuntime) {
+    let above = combining(rt.alloc(), &[MAX, 1], &[-1, 0], &[2, 0]);
+    let below = combining(rt.alloc(), &[1, 0], &[-MAX, 0], &[2, 0]);
+    assert!(rt; above == product_of(2, MAX) && below == product_of(2, -MAX));
 }
 
 /// In each of the two multiples.
 #[test]
-fn products_of_combinations(rt: HostRuntime) -> Result<(), Fail> {
-    let first = combining(rt.alloc(), &[MAX, 1], &[0, -2], &[0, 1])?;
-    let second = combining(rt.alloc(), &[0, 2], &[-MAX, -1], &[0, 1])?;
-    let op = Operation::Product;
-    assert_eq!(rt; (first, second), (excess(op, 2, MAX), excess(op, 2, -MAX)));
-    Ok(())
+fn products_of_combinations(rt: HostRuntime) {
+    let first = combining(rt.alloc(), &[MAX, 1], &[0, -2], &[0, 1]);
+    let second = combining(rt.alloc(), &[0, 2], &[-MAX, -1], &[0, 1]);
+    assert!(rt; first == product_of(2, MAX) && second == product_of(2, -MAX));
 }
 
-/// A sum that passes: in `c.u`, and in `c.v`.
+/// A sum that passes: in `c.u`, in `c.v`, and of the two multiples.
 #[test]
-fn sums_in_combinations(rt: HostRuntime) -> Result<(), Fail> {
-    let above = combining(rt.alloc(), &[MAX, 1], &[-MAX, -1], &[1, 1])?;
-    let below = combining(rt.alloc(), &[1, 0], &[-MAX, -1], &[1, 1])?;
-    let op = Operation::Sum;
-    assert_eq!(rt; (above, below), (excess(op, MAX, 1), excess(op, -MAX, -1)));
-    Ok(())
+fn sums_in_combinations(rt: HostRuntime) {
+    let above = combining(rt.alloc(), &[MAX, 1], &[-MAX, -1], &[1, 1]);
+    let below = combining(rt.alloc(), &[1, 0], &[-MAX, -1], &[1, 1]);
+    assert!(rt; above == sum_of(MAX, 1) && below == sum_of(-MAX, -1));
+    let multiples = combining(rt.alloc(), &[MAX, 1], &[3, -1], &[0, 1]);
+    assert!(rt; multiples == sum_of(MAX, 3));
 }
 
-/// Of the two multiples.
-#[test]
-fn sums_of_combinations(rt: HostRuntime) -> Result<(), Fail> {
-    let found = combining(rt.alloc(), &[MAX, 1], &[3, -1], &[0, 1])?;
-    assert_eq!(rt; found, excess(Operation::Sum, MAX, 3));
-    Ok(())
+// What passes in two values of a row.
+fn passing_values(alloc: Global) -> Result<[Option<Excess>; 2], AllocError> {
+    let large = Row::from_slice(alloc, &[MAX, 2])?;
+    Ok([large.value_at(2, &[0]).err(), large.value_at(1, &[1]).err()])
 }
 
-#[test]
-fn excesses_of_values(rt: HostRuntime) -> Result<(), Fail> {
-    let large = Row::from_slice(rt.alloc(), &[MAX, 2])?;
-    let product = large.value_at(2, &[0]).err();
-    let sum = large.value_at(1, &[1]).err();
-    let want = (
-        excess(Operation::Product, MAX, 2),
-        excess(Operation::Sum, MAX, 2),
-    );
-    assert_eq!(rt; (product, sum), want);
-    Ok(())
-}
-
-#[test]
-fn excesses_of_substitutions(rt: HostRuntime) -> Result<(), Fail> {
-    let large = Row::from_slice(rt.alloc(), &[MAX, 2])?;
-    let form = Row::from_slice(rt.alloc(), &[1, MAX])?;
+// What passes in two substitutions.
+fn passing_substitutions(alloc: Global) -> Result<[Option<Excess>; 2], AllocError> {
+    let large = Row::from_slice(alloc, &[MAX, 2])?;
+    let form = Row::from_slice(alloc, &[1, MAX])?;
     let sum = passing(large.substitute(1, &form));
     let product = passing(form.substitute(1, &large));
-    let want = (
-        excess(Operation::Sum, MAX, 2),
-        excess(Operation::Product, MAX, MAX),
-    );
-    assert_eq!(rt; (sum, product), want);
-    Ok(())
+    Ok([sum, product])
+}
+
+#[test]
+fn excesses(rt: HostRuntime) {
+    let (product, sum) = (Operation::Product, Operation::Sum);
+    let values = [excess(product, MAX, 2), excess(sum, MAX, 2)];
+    assert!(rt; passing_values(rt.alloc()) == Ok(values));
+    let substitutions = [excess(sum, MAX, 2), excess(product, MAX, MAX)];
+    assert!(rt; passing_substitutions(rt.alloc()) == Ok(substitutions));
 }

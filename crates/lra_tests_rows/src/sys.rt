@@ -4,14 +4,13 @@ ghost use Rattle.std.specs.Prelude.{◌≡◌, IfOk};
 
 use lra_row::Row;
 use lra_sys::{ConKind, ConSys, GenKind, GenSys, Holds};
-use std::alloc::Global;
+use std::alloc::{AllocError, Global};
 use std::cmp::Ordering;
-use std::test::Fail;
 
 const MAX: i128 = i128::MAX;
 
 // The points with x1 at least 0 and x1 + x2 at most 4.
-fn quarter(alloc: Global) -> Result<ConSys, Fail>
+fn quarter(alloc: Global) -> Result<ConSys, AllocError>
     ensures { IfOk result (λ list. list.dims ≡ 2) }
 {
     let mut quarter = ConSys::new(alloc, 2);
@@ -20,25 +19,26 @@ fn quarter(alloc: Global) -> Result<ConSys, Fail>
     Ok(quarter)
 }
 
-/// 8 - 3 - 5 is 0, 4 - 3 - 2 is below 0, the first row decides, and 4 - MAX - MAX passes the range.
-#[test]
-fn membership(rt: HostRuntime) -> Result<(), Fail> {
-    let quarter = quarter(rt.alloc())?;
-    let found = [
+// Which of four points lie there.
+fn members(alloc: Global) -> Result<[Holds; 4], AllocError> {
+    let quarter = quarter(alloc)?;
+    Ok([
         quarter.holds_at(&[3, 5], 2),
         quarter.holds_at(&[3, 2], 1),
         quarter.holds_at(&[-1, MAX], 1),
         quarter.holds_at(&[MAX, MAX], 1),
-    ];
-    assert_eq!(rt;
-        found,
-        [Holds::Yes, Holds::No(1), Holds::No(0), Holds::Wide(1)]
-    );
-    Ok(())
+    ])
+}
+
+/// 8 - 3 - 5 is 0, 4 - 3 - 2 is below 0, the first row decides, and 4 - MAX - MAX passes the range.
+#[test]
+fn membership(rt: HostRuntime) {
+    let want = [Holds::Yes, Holds::No(1), Holds::No(0), Holds::Wide(1)];
+    assert!(rt; members(rt.alloc()) == Ok(want));
 }
 
 // The equality 2 x1 = 1, copied.
-fn line(alloc: Global) -> Result<ConSys, Fail>
+fn line(alloc: Global) -> Result<ConSys, AllocError>
     ensures { IfOk result (λ list. list.dims ≡ 1) }
 {
     let mut line = ConSys::new(alloc, 1);
@@ -47,19 +47,21 @@ fn line(alloc: Global) -> Result<ConSys, Fail>
     Ok(same)
 }
 
-#[test]
-fn equalities(rt: HostRuntime) -> Result<(), Fail> {
-    let line = line(rt.alloc())?;
+// How many rows it has, and which of two points lie there.
+fn members_of_line(alloc: Global) -> Result<(usize, [Holds; 2]), AllocError> {
+    let line = line(alloc)?;
     let found = [line.holds_at(&[1], 2), line.holds_at(&[1], 1)];
-    assert_eq!(rt;
-        (line.kinds().len(), found),
-        (1, [Holds::Yes, Holds::No(0)])
-    );
-    Ok(())
+    Ok((line.kinds().len(), found))
+}
+
+#[test]
+fn equalities(rt: HostRuntime) {
+    let want = (1, [Holds::Yes, Holds::No(0)]);
+    assert!(rt; members_of_line(rt.alloc()) == Ok(want));
 }
 
 // The half line from 0.
-fn half_line(alloc: Global) -> Result<GenSys, Fail> {
+fn half_line(alloc: Global) -> Result<GenSys, AllocError> {
     let mut ray = GenSys::new(alloc, 1);
     ray.push(Row::from_slice(alloc, &[1, 0])?, GenKind::Point)?;
     ray.push(Row::from_slice(alloc, &[0, 1])?, GenKind::Ray)?;
@@ -75,12 +77,15 @@ fn are_same(left: &[Row], right: &[Row]) -> bool {
     left.len() == right.len()
 }
 
-#[test]
-fn generators(rt: HostRuntime) -> Result<(), Fail> {
-    let ray = half_line(rt.alloc())?;
+// Whether its copy is the same.
+fn is_copied(alloc: Global) -> Result<bool, AllocError> {
+    let ray = half_line(alloc)?;
     let same = ray.copy()?;
     let kinds = same.kinds() == [GenKind::Point, GenKind::Ray].as_slice();
-    let rows = are_same(ray.rows(), same.rows());
-    assert_eq!(rt; (same.dims(), kinds, rows), (1, true, true));
-    Ok(())
+    Ok(kinds && same.dims() == 1 && are_same(ray.rows(), same.rows()))
+}
+
+#[test]
+fn generators(rt: HostRuntime) {
+    assert!(rt; is_copied(rt.alloc()) == Ok(true));
 }

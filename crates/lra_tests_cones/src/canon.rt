@@ -10,7 +10,6 @@ use lra_bits::{BitRow, SatMatrix};
 use lra_canon::{Order, canonical_order, drop_redundant, echelon, reduce};
 use lra_row::{Excess, Operation, Row, RowError};
 use std::alloc::{AllocError, Global};
-use std::test::Fail;
 
 const MAX: i128 = i128::MAX;
 
@@ -37,44 +36,46 @@ fn three(
 }
 
 fn has_rows(rows: &[Row], want: &[[i128; 3]]) -> bool {
+    for (row, numbers) in rows.iter().zip(want) {
+        if row.entries() != numbers.as_slice() {
+            return false;
+        }
+    }
     rows.len() == want.len()
-        && rows
-            .iter()
-            .zip(want)
-            .all(|(row, numbers)| row.entries() == numbers.as_slice())
 }
 
 // Whether the order puts the rows so.
-fn is_order(mut rows: Vec<Row>, order: Order, want: &[[i128; 3]]) -> Result<bool, AllocError> {
+fn is_order(
+    alloc: Global,
+    first: &[i128],
+    second: &[i128],
+    third: &[i128],
+    order: Order,
+    want: &[[i128; 3]],
+) -> Result<bool, AllocError>
+    requires first { All InRange first.now }
+    requires second { All InRange second.now }
+    requires third { All InRange third.now }
+    requires widths { (length first.now ≡ 3) × (length second.now ≡ 3) × (length third.now ≡ 3) }
+{
+    let mut rows = three(alloc, first, second, third)?;
     canonical_order(&mut rows, order)?;
     Ok(has_rows(&rows, want))
 }
 
-/// Inequalities with rows that another order would leave as they stand.
+/// Inequalities with rows that another order would leave as they stand; likewise generators, whose column 0 decides
+/// last; and lines, of which one has no other column.
 #[test]
-fn order_of_inequalities(rt: HostRuntime) -> Result<(), Fail> {
-    let rows = three(rt.alloc(), &[0, 0, 1], &[1, -1, 0], &[0, 1, 0])?;
+fn orders(rt: HostRuntime) {
     let want = [[0, 1, 0], [1, -1, 0], [0, 0, 1]];
-    assert!(rt; is_order(rows, Order::Inequalities, &want)?);
-    Ok(())
-}
-
-/// Likewise generators, whose column 0 decides last.
-#[test]
-fn order_of_generators(rt: HostRuntime) -> Result<(), Fail> {
-    let points = three(rt.alloc(), &[1, 0, 2], &[1, 0, 0], &[2, -1, 0])?;
+    let (order, alloc) = (Order::Inequalities, rt.alloc());
+    assert!(rt; is_order(alloc, &[0, 0, 1], &[1, -1, 0], &[0, 1, 0], order, &want) == Ok(true));
     let want = [[2, -1, 0], [1, 0, 0], [1, 0, 2]];
-    assert!(rt; is_order(points, Order::Generators, &want)?);
-    Ok(())
-}
-
-/// Likewise lines, of which one has no other column.
-#[test]
-fn order_of_lines(rt: HostRuntime) -> Result<(), Fail> {
-    let lines = three(rt.alloc(), &[1, 0, 0], &[0, 0, 1], &[0, 3, 1])?;
+    let order = Order::Generators;
+    assert!(rt; is_order(alloc, &[1, 0, 2], &[1, 0, 0], &[2, -1, 0], order, &want) == Ok(true));
     let want = [[0, 3, 1], [0, 0, 1], [1, 0, 0]];
-    assert!(rt; is_order(lines, Order::Pivots, &want)?);
-    Ok(())
+    let order = Order::Pivots;
+    assert!(rt; is_order(alloc, &[1, 0, 0], &[0, 0, 1], &[0, 3, 1], order, &want) == Ok(true));
 }
 
 // What passes, where it isn't memory.
@@ -86,53 +87,60 @@ fn excess_of(answer: Result<(), RowError>) -> Option<Excess> {
 }
 
 // Whether this is the echelon form.
-fn is_form(mut lines: Vec<Row>, want: &[[i128; 3]]) -> bool
-    requires { HaveOneWidth lines.items }
+fn is_form(
+    alloc: Global,
+    first: &[i128],
+    second: &[i128],
+    third: &[i128],
+    want: &[[i128; 3]],
+) -> Result<bool, AllocError>
+    requires first { All InRange first.now }
+    requires second { All InRange second.now }
+    requires third { All InRange third.now }
+    requires widths { (length first.now ≡ 3) × (length second.now ≡ 3) × (length third.now ≡ 3) }
 {
-    echelon(&mut lines).is_ok() && has_rows(&lines, want)
-}
-
-// The first number that passes, if one does.
-fn form_passes(mut lines: Vec<Row>) -> Option<Excess>
-    requires { HaveOneWidth lines.items }
-{
-    excess_of(echelon(&mut lines))
+    let mut lines = three(alloc, first, second, third)?;
+    Ok(echelon(&mut lines).is_ok() && has_rows(&lines, want))
 }
 
 /// All columns, column 0 last; and x1 = 2 x2 twice: the second row goes, the first is turned and cleared.
 #[test]
-fn forms(rt: HostRuntime) -> Result<(), Fail> {
-    let whole = three(rt.alloc(), &[0, 2, 1], &[0, 1, 2], &[1, 1, 1])?;
-    assert!(rt; is_form(whole, &[[0, 1, 0], [0, 0, 1], [1, 0, 0]]));
-    let point = three(rt.alloc(), &[0, -2, 4], &[0, 1, -2], &[3, 0, 6])?;
-    assert!(rt; is_form(point, &[[1, 1, 0], [1, 0, 2]]));
-    Ok(())
+fn forms(rt: HostRuntime) {
+    let alloc = rt.alloc();
+    let want = [[0, 1, 0], [0, 0, 1], [1, 0, 0]];
+    assert!(rt; is_form(alloc, &[0, 2, 1], &[0, 1, 2], &[1, 1, 1], &want) == Ok(true));
+    let want = [[1, 1, 0], [1, 0, 2]];
+    assert!(rt; is_form(alloc, &[0, -2, 4], &[0, 1, -2], &[3, 0, 6], &want) == Ok(true));
 }
 
-/// 2 times the greatest number passes as the second row is reduced by the first.
-#[test]
-fn excess_of_a_row(rt: HostRuntime) -> Result<(), Fail> {
-    let rows = three(rt.alloc(), &[0, 2, 1], &[MAX, 1, 0], &[0, 0, 1])?;
-    let want = Excess {
-        op: Operation::Product,
-        left: 2,
-        right: MAX,
-    };
-    assert_eq!(rt; form_passes(rows), Some(want));
-    Ok(())
+// The first number that passes, if one does.
+fn form_passes(
+    alloc: Global,
+    first: &[i128],
+    second: &[i128],
+    third: &[i128],
+) -> Result<Option<Excess>, AllocError>
+    requires first { All InRange first.now }
+    requires second { All InRange second.now }
+    requires third { All InRange third.now }
+    requires widths { (length first.now ≡ 3) × (length second.now ≡ 3) × (length third.now ≡ 3) }
+{
+    let mut lines = three(alloc, first, second, third)?;
+    Ok(excess_of(echelon(&mut lines)))
 }
 
-/// The greatest number and 1 pass as the first row is cleared at the pivot of the second.
+fn excess(op: Operation, left: i128, right: i128) -> Result<Option<Excess>, AllocError> {
+    Ok(Some(Excess { op, left, right }))
+}
+
+/// 2 times the greatest number passes as the second row is reduced by the first; the greatest number and 1 pass as the
+/// first row is cleared at the pivot of the second.
 #[test]
-fn excess_of_the_form(rt: HostRuntime) -> Result<(), Fail> {
-    let rows = three(rt.alloc(), &[MAX, 1, 1], &[-1, 0, 1], &[0, 0, 0])?;
-    let want = Excess {
-        op: Operation::Sum,
-        left: MAX,
-        right: 1,
-    };
-    assert_eq!(rt; form_passes(rows), Some(want));
-    Ok(())
+fn excesses_of_forms(rt: HostRuntime) {
+    let row = form_passes(rt.alloc(), &[0, 2, 1], &[MAX, 1, 0], &[0, 0, 1]);
+    assert!(rt; row == excess(Operation::Product, 2, MAX));
+    let form = form_passes(rt.alloc(), &[MAX, 1, 1], &[-1, 0, 1], &[0, 0, 0]);
+    assert!(rt; form == excess(Operation::Sum, MAX, 1));
 }
 
 // The form of the equality 2 x1 + x2 = 0.
@@ -166,43 +174,26 @@ fn reduction_passes(alloc: Global, numbers: &[i128]) -> Result<Option<Excess>, A
     Ok(excess_of(reduce(&mut row, &form)))
 }
 
-/// A row that is 0 at the pivot takes no step, but lowest terms.
+/// Rows by 2 x1 + x2 = 0: their entry of column 1 is cleared by the factors 2 and minus that entry; one that is 0 there
+/// takes no step, but lowest terms.
 #[test]
-fn no_reduction(rt: HostRuntime) -> Result<(), Fail> {
-    assert!(rt; is_reduced(rt.alloc(), &[4, 0, 6], &[2, 0, 3])?);
-    Ok(())
-}
-
-/// Rows by 2 x1 + x2 = 0: their entry of column 1 is cleared by the factors 2 and minus that entry.
-#[test]
-fn reductions(rt: HostRuntime) -> Result<(), Fail> {
+fn reductions(rt: HostRuntime) {
     let alloc = rt.alloc();
-    for is_so in [
-        is_reduced(alloc, &[1, 3, 4], &[2, 0, 5])?,
-        is_reduced(alloc, &[-1, -2, 0], &[-1, 0, 1])?,
-        is_reduced(alloc, &[0, 4, 2], &[0, 0, 0])?,
-    ] {
-        assert!(rt; is_so);
-    }
-    Ok(())
+    let answers = [
+        is_reduced(alloc, &[4, 0, 6], &[2, 0, 3]),
+        is_reduced(alloc, &[1, 3, 4], &[2, 0, 5]),
+        is_reduced(alloc, &[-1, -2, 0], &[-1, 0, 1]),
+        is_reduced(alloc, &[0, 4, 2], &[0, 0, 0]),
+    ];
+    assert!(rt; answers == [Ok(true), Ok(true), Ok(true), Ok(true)]);
 }
 
 /// A number passes in column 0, and one in column 1.
 #[test]
-fn excesses_of_reductions(rt: HostRuntime) -> Result<(), Fail> {
-    let first = reduction_passes(rt.alloc(), &[MAX, 1, 0])?;
-    let second = reduction_passes(rt.alloc(), &[0, MAX, 1])?;
-    for got in [first, second] {
-        assert_eq!(rt;
-            got,
-            Some(Excess {
-                op: Operation::Product,
-                left: 2,
-                right: MAX
-            })
-        );
-    }
-    Ok(())
+fn excesses_of_reductions(rt: HostRuntime) {
+    let want = excess(Operation::Product, 2, MAX);
+    assert!(rt; reduction_passes(rt.alloc(), &[MAX, 1, 0]) == want);
+    assert!(rt; reduction_passes(rt.alloc(), &[0, MAX, 1]) == want);
 }
 
 // Truth values, packed.
@@ -245,10 +236,15 @@ fn matrix_of(
 }
 
 fn has_bits(row: &BitRow, want: &[bool]) -> bool {
-    row.width() == want.len()
-        && (0..row.width())
-            .zip(want)
-            .all(|(k, value)| row.get(k) == *value)
+    if row.width() != want.len() {
+        return false;
+    }
+    for k in 0..want.len() {
+        if row.get(k) != want[k] {
+            return false;
+        }
+    }
+    true
 }
 
 // Whether these rows are left, the last of the matrix among them.
@@ -274,29 +270,30 @@ const SECOND: [bool; 3] = [true, false, true];
 
 const THIRD: [bool; 3] = [false, true, true];
 
-/// In the triangle with the corners (0, 0), (0, 2), (2, 0) the sides stay.
-#[test]
-fn sides(rt: HostRuntime) -> Result<(), Fail> {
-    let rows = three(rt.alloc(), &[0, 1, 0], &[0, 0, 1], &[2, -1, -1])?;
-    let matrix = matrix_of(rt.alloc(), &FIRST, &SECOND, &THIRD)?;
-    assert!(rt; leaves(rows, matrix, &[[0, 1, 0], [0, 0, 1], [2, -1, -1]], &THIRD)?);
-    Ok(())
+// In the triangle with the corners (0, 0), (0, 2), (2, 0) the sides stay.
+fn sides_stay(alloc: Global) -> Result<bool, AllocError> {
+    let rows = three(alloc, &[0, 1, 0], &[0, 0, 1], &[2, -1, -1])?;
+    let matrix = matrix_of(alloc, &FIRST, &SECOND, &THIRD)?;
+    leaves(rows, matrix, &[[0, 1, 0], [0, 0, 1], [2, -1, -1]], &THIRD)
 }
 
-/// x1 <= 3 is tight nowhere there, and goes.
-#[test]
-fn loose_rows(rt: HostRuntime) -> Result<(), Fail> {
-    let rows = three(rt.alloc(), &[3, -1, 0], &[0, 1, 0], &[0, 0, 1])?;
-    let matrix = matrix_of(rt.alloc(), &[false, false, false], &FIRST, &SECOND)?;
-    assert!(rt; leaves(rows, matrix, &[[0, 1, 0], [0, 0, 1]], &SECOND)?);
-    Ok(())
+// x1 <= 3 is tight nowhere there, and goes.
+fn loose_row_goes(alloc: Global) -> Result<bool, AllocError> {
+    let rows = three(alloc, &[3, -1, 0], &[0, 1, 0], &[0, 0, 1])?;
+    let matrix = matrix_of(alloc, &[false, false, false], &FIRST, &SECOND)?;
+    leaves(rows, matrix, &[[0, 1, 0], [0, 0, 1]], &SECOND)
 }
 
-/// Of x1 >= 0 twice one stays.
+// Of x1 >= 0 twice one stays.
+fn one_of_two_stays(alloc: Global) -> Result<bool, AllocError> {
+    let rows = three(alloc, &[0, 0, 1], &[0, 1, 0], &[0, 1, 0])?;
+    let matrix = matrix_of(alloc, &SECOND, &FIRST, &FIRST)?;
+    leaves(rows, matrix, &[[0, 0, 1], [0, 1, 0]], &FIRST)
+}
+
 #[test]
-fn doubles(rt: HostRuntime) -> Result<(), Fail> {
-    let rows = three(rt.alloc(), &[0, 0, 1], &[0, 1, 0], &[0, 1, 0])?;
-    let matrix = matrix_of(rt.alloc(), &SECOND, &FIRST, &FIRST)?;
-    assert!(rt; leaves(rows, matrix, &[[0, 0, 1], [0, 1, 0]], &FIRST)?);
-    Ok(())
+fn rows_that_say_nothing_new_go(rt: HostRuntime) {
+    assert!(rt; sides_stay(rt.alloc()) == Ok(true));
+    assert!(rt; loose_row_goes(rt.alloc()) == Ok(true));
+    assert!(rt; one_of_two_stays(rt.alloc()) == Ok(true));
 }

@@ -1,6 +1,6 @@
 use Rattle.std.specs.List.{All}
 use Rattle.lra_linear.specs.Range.{InRange}
-use Rattle.lra_tests_rows.proofs.cone.row_of.Given as goal
+use Rattle.lra_tests_cones.proofs.cone.row_of.Given as goal
 
 abbrev pub invariant-loop-number : goal.invariant-loop-number
 invariant-loop-number l = All InRange l.entries.items
