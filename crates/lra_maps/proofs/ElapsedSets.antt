@@ -2,7 +2,6 @@
 use Rattle.std.proofs.Common.{◌≡◌, ℕ, zero, suc, ◌<◌, List, [], ◌∷◌, ◌++◌, length, map, ap, refl, sym, ◌∙◌, subst, ℤ}
 use Rattle.std.proofs.Common.{pos, ◌+ℤ◌, ◌*ℤ◌, ◌<ℤ◌, ◌≤ℤ◌, arith, inl, inr, ◌⊎◌}
 use Rattle.std.specs.List.{Contains}
-use Rattle.std.proofs.lemmas.Int.{ints}
 use Rattle.std.proofs.lemmas.List.Elements.{Contains-append_cases}
 use Rattle.lra_linear.specs.Cones.{Generated}
 use Rattle.lra_linear.specs.Descriptions.{Con, Gen, Given, system_of}
@@ -21,13 +20,14 @@ use Rattle.lra_linear.proofs.Polyhedra.{con_gen}
 use Rattle.lra_linear.proofs.Products.{blend_length, dot_linear, dot_same, entry_blend, product_none}
 use Rattle.lra_linear.proofs.Ring.{ring, v, ◌⊕◌, ◌⊗◌}
 use Rattle.lra_linear.proofs.SetOperations.{has_vertex}
-use Rattle.lra_linear.proofs.Signs.{as_nat, divide_nonnegative, positive_nat, times_positive}
+use Rattle.lra_linear.proofs.Signs.{as_nat, divide_nonnegative, positive_is_nonnegative, positive_nat, times_positive}
+use Rattle.lra_linear.proofs.Lines.{zeros_length}
+use Rattle.lra_linear.proofs.Membership.{map_from}
+use Rattle.lra_cone.proofs.GeneratorLists.{system_append}
 use Rattle.lra_poly.specs.Outcomes.{IfExact, IfFlagged}
 use Rattle.lra_poly.specs.declared.outcome.Outcome.{Outcome}
-use Rattle.lra_poly.proofs.PolyLemmas.{falsity_is_empty, hull_holds, if_exact, if_flagged, rows_width, valid_with}
-use Rattle.lra_poly.proofs.PolyLemmas.{zeros_length}
-use Rattle.lra_maps.proofs.EmbeddedSets.{map_from}
-use Rattle.lra_maps.proofs.Sums.{IsLinear, generated_mapped, system_joined, system_mapped}
+use Rattle.lra_poly.proofs.PolyLemmas.{hull_holds, if_exact, if_flagged, rows_width, valid_with}
+use Rattle.lra_maps.proofs.Sums.{IsLinear, generated_mapped, system_mapped}
 
 -- ---- 0 in column 0
 abbrev pub level : (ℕ → ℤ) → ℕ → ℤ
@@ -69,13 +69,10 @@ cleared_product (c ∷ cs) [] = product_none (c ∷ cs) ∙ sym (product_none (p
 cleared_product (c ∷ cs) (x ∷ r) = ap (λ (z : ℤ). z +ℤ product cs r)
     (ring (v c ⊗ v (pos 0)) (v (pos 0) ⊗ v x) (omega arith))
 
-at_least_zero : (z : ℤ) → pos 0 <ℤ z → pos 0 ≤ℤ z
-at_least_zero z h = omega (arith, ints, h)
-
 -- ---- the list's system
 elapsed_system : (p q : Polyhedron) → system_of (p.generators ++ as_directions q.generators) ≡
     system_of p.generators ++ map (cleared 0) (system_of q.generators)
-elapsed_system p q = system_joined p.generators (as_directions q.generators) ∙
+elapsed_system p q = system_append p.generators (as_directions q.generators) ∙
     ap (λ (l : List (List ℤ)). system_of p.generators ++ l) (system_mapped (cleared 0) cleared_negated q.generators)
 
 -- ---- what is on the way is generated
@@ -95,9 +92,9 @@ way_generated : (rows more : List (List ℤ)) (x s q : List ℤ) (t : ℕ) → p
     Generated more (entry q) →
     Generated (rows ++ map (cleared 0) more) (entry x)
 way_generated rows more x s q t px ps pq same gs gq =
-    let a = as_nat (entry s 0) (at_least_zero (entry s 0) ps) in
-    let b = as_nat (entry q 0) (at_least_zero (entry q 0) pq) in
-    let c = as_nat (entry x 0) (at_least_zero (entry x 0) px) in
+    let a = as_nat (entry s 0) (positive_is_nonnegative (entry s 0) ps) in
+    let b = as_nat (entry q 0) (positive_is_nonnegative (entry q 0) pq) in
+    let c = as_nat (entry x 0) (positive_is_nonnegative (entry x 0) px) in
     let all = rows ++ map (cleared 0) more in
     let start = generated_times all c.0 (λ j. pos b.0 *ℤ entry s j)
     (generated_times all b.0 (entry s) (generated_left rows (map (cleared 0) more) (entry s) gs)) in
@@ -223,7 +220,7 @@ allows_steps : (n : ℕ) (p q : Polyhedron) (s : List ℤ) (c : List ℤ) → Is
     ((x : List ℤ) → IsPoint n x → OnTheWay n (Con p.rows) (Con q.rows) x → pos 0 ≤ℤ product c x) → (y : List ℤ) →
     IsPoint n y → Con q.rows y → pos 0 ≤ℤ product (cleared 0 c) y
 allows_steps n p q s c i inside valid y k within =
-    let a = as_nat (entry s 0) (at_least_zero (entry s 0) i.divisor) in
+    let a = as_nat (entry s 0) (positive_is_nonnegative (entry s 0) i.divisor) in
     let z = product c (cleared 0 y) in
     let scaled : pos 0 ≤ℤ (entry s 0 *ℤ z) = far (entry y 0 *ℤ product c s) (entry s 0 *ℤ z)
     (λ m. subst (λ (w : ℤ). pos 0 ≤ℤ w) (way_product c s y m (i.width ∙ sym k.width))
@@ -342,10 +339,6 @@ pub list_is : (p q : Polyhedron) (first second all : List Given) → all ≡ fir
     first ≡ p.generators → second ≡ q.generators → all ≡ p.generators ++ as_directions q.generators
 list_is p q first second all e ef es = e ∙ ap (λ (l : List Given). l ++ as_directions second) ef ∙
     ap (λ (l : List Given). p.generators ++ as_directions l) es
-
-pub point_of : (p : Polyhedron) → IsPolyhedron p → ¬ (IsEmptySet p.dims (Con p.rows)) → HasPoint p
-point_of p (inl none) some = absurd (some (falsity_is_empty p.dims p.rows none.0))
-point_of p (inr h) some = h
 
 pub direction_level : (r : List ℤ) → entry (cleared 0 r) 0 ≡ pos 0
 direction_level r = cleared_entry r 0

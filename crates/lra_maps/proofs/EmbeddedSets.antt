@@ -14,16 +14,16 @@ use Rattle.lra_linear.specs.Vectors.{entry, negated, units, zeros}
 use Rattle.lra_linear.proofs.Combinations.{generated_plus, generated_row, generated_same, generated_zero}
 use Rattle.lra_linear.proofs.Descriptions.{gen_generated, generated_gen}
 use Rattle.lra_linear.proofs.LinearMaps.{generated_left, generated_right}
-use Rattle.lra_linear.proofs.Lines.{generated_described, whole_described}
-use Rattle.lra_linear.proofs.Membership.{contains_cases, contains_head, contains_none, contains_tail}
+use Rattle.lra_linear.proofs.Lines.{entry_zeros, generated_described, whole_described}
+use Rattle.lra_linear.proofs.Membership.{map_from}
 use Rattle.lra_linear.proofs.Polyhedra.{con_gen}
 use Rattle.lra_linear.proofs.Ring.{ring, v, ◌⊕◌, ◌⊗◌}
 use Rattle.lra_sys.specs.Listed.{Listed, generators}
 use Rattle.lra_linear.specs.declared.GenKind.{GenKind}
+use Rattle.lra_cone.proofs.GeneratorLists.{system_append, system_lines}
 use Rattle.lra_maps.proofs.OutcomeLemmas.{Takes}
 use Rattle.lra_maps.proofs.ShortenedSets.{columns_linear, first_columns, short_divisor, short_entry, widths_of}
-use Rattle.lra_maps.proofs.Sums.{IsLinear, generated_linear, generated_mapped, mapped_by, system_joined, system_mapped}
-use Rattle.lra_maps.proofs.Sums.{zero_entry}
+use Rattle.lra_maps.proofs.Sums.{IsLinear, generated_linear, generated_mapped, mapped_by, system_mapped}
 
 -- ---- rows with zeros behind them
 zeros_negated : (k : ℕ) → zeros k ≡ negated (zeros k)
@@ -35,7 +35,7 @@ longer_negated k [] = zeros_negated k
 longer_negated k (x ∷ r) = ap (λ (l : List ℤ). neg_ℤ x ∷ l) (longer_negated k r)
 
 pub longer_entry : (k : ℕ) (r : List ℤ) (j : ℕ) → entry (r ++ zeros k) j ≡ entry r j
-longer_entry k [] j = zero_entry k j
+longer_entry k [] j = entry_zeros k j
 longer_entry k (x ∷ r) zero = refl
 longer_entry k (x ∷ r) (suc j) = longer_entry k r j
 
@@ -80,10 +80,6 @@ both_behind w (r ∷ rows) =
     ap (λ (l : List (List ℤ)). (zeros w ++ r) ∷ negated (zeros w ++ r) ∷ l) (both_behind w rows) ∙
     ap (λ (x : List ℤ). (zeros w ++ r) ∷ x ∷ map (λ u. zeros w ++ u) (both_ways rows)) (sym (behind_negated w r))
 
-lines_system : (rows : List (List ℤ)) → system_of (given_as true rows) ≡ both_ways rows
-lines_system [] = refl
-lines_system (r ∷ rows) = ap (λ (l : List (List ℤ)). r ∷ negated r ∷ l) (lines_system rows)
-
 -- the columns from w on
 abbrev later_columns : ℕ → (ℕ → ℤ) → ℕ → ℤ
 later_columns w u = behind w (λ i. u (w + i))
@@ -99,12 +95,12 @@ system_embedded : (p : Polyhedron) (k : ℕ) →
     system_of (embedded k p) ≡ map (λ r. r ++ zeros k) (system_of p.generators) ++
     map (λ u. zeros (suc p.dims) ++ u) (both_ways (units k))
 system_embedded p k =
-    system_joined (mapped_by (λ r. r ++ zeros k) p.generators)
+    system_append (mapped_by (λ r. r ++ zeros k) p.generators)
     (given_as true (map (λ u. zeros (suc p.dims) ++ u) (units k)))
     ∙ ap (λ (l : List (List ℤ)). l ++ system_of (given_as true (map (λ u. zeros (suc p.dims) ++ u) (units k))))
     (system_mapped (λ r. r ++ zeros k) (longer_negated k) p.generators)
     ∙ ap (λ (l : List (List ℤ)). map (λ r. r ++ zeros k) (system_of p.generators) ++ l)
-    (lines_system (map (λ u. zeros (suc p.dims) ++ u) (units k)) ∙ both_behind (suc p.dims) (units k))
+    (system_lines (map (λ u. zeros (suc p.dims) ++ u) (units k)) ∙ both_behind (suc p.dims) (units k))
 
 same_linear : IsLinear (λ u. u)
 same_linear = record { nothing = λ j. refl; plus = λ a x s j. refl; same = λ x y e j. e j }
@@ -134,14 +130,6 @@ embedded_in p k x e g =
     drop_length w k x e = length-drop w x ∙ ap (λ (n : ℕ). n - w) e ∙ less w k
 
 -- ---- and out of it
-pub map_from : (f : List ℤ → List ℤ) (rows : List (List ℤ)) (t : List ℤ) → Contains (map f rows) t → (r : List ℤ) ×
-    Contains rows r × (f r ≡ t)
-map_from f [] t k = absurd (contains_none t k)
-map_from f (r ∷ rows) t k = elim (contains_cases (f r) t (map f rows) k) [
-  | inl e ↦ (r, contains_head r rows, e)
-  | inr d ↦ let i = map_from f rows t d in (i.0, contains_tail r i.0 rows i.1, i.2)
-]
-
 first_behind : (w j : ℕ) (u : ℕ → ℤ) → first_columns w (behind w u) j ≡ pos 0
 first_behind zero j u = refl
 first_behind (suc w) zero u = refl

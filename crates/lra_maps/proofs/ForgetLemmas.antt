@@ -1,45 +1,30 @@
 -- A coordinate that may be anything: a line along it, beside the generators.
-use Rattle.std.proofs.Common.{◌≡◌, ◌≢◌, ℕ, zero, suc, ◌<◌, List, [], ◌∷◌, ◌++◌, length, ap, refl, sym, ◌∙◌, subst, ℤ}
-use Rattle.std.proofs.Common.{pos, neg_ℤ, ◌+ℤ◌, ◌*ℤ◌, ◌<ℤ◌, ◌≤ℤ◌, arith, ◌⊎◌, inl, inr}
+use Rattle.std.proofs.Common.{◌≡◌, ◌≢◌, ℕ, suc, ◌<◌, List, [], ◌∷◌, ◌++◌, length, ap, sym, ◌∙◌, subst, ℤ}
+use Rattle.std.proofs.Common.{pos, neg_ℤ, ◌+ℤ◌, ◌*ℤ◌, ◌<ℤ◌, arith, ◌⊎◌, inl, inr}
 use Rattle.std.proofs.lemmas.Int.{ints}
+use Rattle.std.proofs.lemmas.Bool.{cases_eq}
 use Rattle.lra_linear.specs.Cones.{Generated}
 use Rattle.lra_linear.specs.Descriptions.{Con, Gen, Given, line, system_of}
 use Rattle.lra_linear.specs.OperationStrain.{unit_row}
 use Rattle.lra_linear.specs.Points.{IsPoint, SameSet}
 use Rattle.lra_linear.specs.Polyhedra.{IsPolyhedron, Polyhedron}
 use Rattle.lra_linear.specs.SetOperations.{Forget, SameBut}
-use Rattle.lra_linear.specs.Vectors.{blend, entry, negated, sum_of, zeros}
+use Rattle.lra_linear.specs.Vectors.{blend, entry, negated, sum_of}
 use Rattle.lra_linear.proofs.Combinations.{generated_divided, generated_plus, generated_same, generated_times}
 use Rattle.lra_linear.proofs.Descriptions.{gen_generated, generated_gen}
 use Rattle.lra_linear.proofs.LinearMaps.{generated_left, generated_right, sum_generated}
 use Rattle.lra_linear.proofs.Lines.{line_times}
 use Rattle.lra_linear.proofs.Polyhedra.{con_gen}
-use Rattle.lra_linear.proofs.Products.{blend_length, entry_blend, entry_set_other, entry_set_same}
+use Rattle.lra_linear.proofs.Products.{blend_length, entry_blend}
 use Rattle.lra_linear.proofs.Ring.{ring, v, ⊖, ◌⊕◌, ◌⊗◌}
-use Rattle.lra_linear.proofs.Signs.{as_nat, positive_nat, times_positive}
-use Rattle.lra_cone.proofs.WholeSpace.{unit_length}
+use Rattle.lra_linear.proofs.Signs.{as_nat, positive_is_nonnegative, positive_nat, times_positive}
+use Rattle.lra_cone.proofs.WholeSpace.{unit_here, unit_length, unit_other}
+use Rattle.lra_cone.proofs.GeneratorLists.{system_append}
 use Rattle.lra_sys.specs.Listed.{Listed, generators}
 use Rattle.lra_linear.specs.declared.GenKind.{GenKind}
 use Rattle.lra_maps.proofs.ListLemmas.{line_seen}
 use Rattle.lra_maps.proofs.OutcomeLemmas.{Takes}
-use Rattle.lra_maps.proofs.Sums.{system_joined, with_line, zero_entry, zeros_width}
-
--- ---- the unit row
-pub unit_here : (n k : ℕ) → k < suc n → entry (unit_row n k) k ≡ pos 1
-unit_here n k h = let w = zeros_width (suc n) in entry_set_same (zeros (suc n)) k (pos 1) (omega (arith, h, w))
-
-pub unit_other : (n k j : ℕ) → j ≢ k → entry (unit_row n k) j ≡ pos 0
-unit_other n k j h = entry_set_other (zeros (suc n)) k j (pos 1) h ∙ zero_entry (suc n) j
-
-same_or_other : (j k : ℕ) → (j ≡ k) ⊎ (j ≢ k)
-same_or_other zero zero = inl refl
-same_or_other zero (suc k) = inr (λ e. omega (arith, e))
-same_or_other (suc j) zero = inr (λ e. omega (arith, e))
-same_or_other (suc j) (suc k) = elim (same_or_other j k)
-    [ inl e ↦ inl (ap suc e) | inr n ↦ inr (λ e. n (omega (arith, e))) ]
-
-at_least_zero : (z : ℤ) → pos 0 <ℤ z → pos 0 ≤ℤ z
-at_least_zero z h = omega (arith, ints, h)
+use Rattle.lra_maps.proofs.Sums.{with_line}
 
 -- ---- into the cone
 -- d x = e from + f unit, where the columns but k are those of from
@@ -58,14 +43,14 @@ forgotten_in : (n k : ℕ) (list : List Given) (x y : List ℤ) → k < suc n �
     Generated (system_of (list ++ line (unit_row n k) ∷ [])) (entry x)
 forgotten_in n k list x y low px py s g =
     let u = unit_row n k in
-    let d = as_nat (entry y 0) (at_least_zero (entry y 0) py) in
-    let e = as_nat (entry x 0) (at_least_zero (entry x 0) px) in
+    let d = as_nat (entry y 0) (positive_is_nonnegative (entry y 0) py) in
+    let e = as_nat (entry x 0) (positive_is_nonnegative (entry x 0) px) in
     let f = (entry y 0 *ℤ entry x k) +ℤ neg_ℤ (entry x 0 *ℤ entry y k) in
     let rows = system_of list ++ u ∷ negated u ∷ [] in
-    subst (λ (l : List (List ℤ)). Generated l (entry x)) (sym (system_joined list (line u ∷ [])))
+    subst (λ (l : List (List ℤ)). Generated l (entry x)) (sym (system_append list (line u ∷ [])))
     (generated_divided rows d.0 (entry x) (positive_nat (entry y 0) d.0 py d.1)
     (generated_same rows (λ j. (pos e.0 *ℤ entry y j) +ℤ (f *ℤ entry u j)) (λ j. pos d.0 *ℤ entry x j)
-    (λ j. ap (λ (z : ℤ). (z *ℤ entry y j) +ℤ (f *ℤ entry u j)) (sym e.1) ∙ column j (same_or_other j k) ∙
+    (λ j. ap (λ (z : ℤ). (z *ℤ entry y j) +ℤ (f *ℤ entry u j)) (sym e.1) ∙ column j (cases_eq j k) ∙
     ap (λ (z : ℤ). z *ℤ entry x j) d.1)
     (generated_plus rows (λ j. pos e.0 *ℤ entry y j) (λ j. f *ℤ entry u j)
     (generated_times rows e.0 (entry y) (generated_left (system_of list) (u ∷ negated u ∷ []) (entry y) g))

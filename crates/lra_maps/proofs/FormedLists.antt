@@ -2,9 +2,8 @@
 use Rattle.std.proofs.Common.{◌≡◌, ◌≢◌, ℕ, zero, suc, ◌<◌, ◌≤◌, ◌+◌, add-one, List, [], ◌∷◌, ◌++◌, length, map, take}
 use Rattle.std.proofs.Common.{drop}
 use Rattle.std.proofs.Common.{get_or, arith, ap, refl, sym, ◌∙◌, subst, ℤ, pos, Result, Err, inl, inr}
-use Rattle.std.specs.Prelude.{slice_set}
 use Rattle.std.specs.List.{Contains}
-use Rattle.std.proofs.lemmas.List.{map-append, take_all}
+use Rattle.std.proofs.lemmas.List.{length-set, map-append, take_all}
 use Rattle.std.proofs.lemmas.List.Elements.{Contains-append_cases, Contains-append_right}
 use Rattle.lra_linear.specs.CheckedArithmetic.{checked_substitution}
 use Rattle.lra_linear.specs.declared.Cause.TheVariants.{Excess}
@@ -16,7 +15,7 @@ use Rattle.lra_linear.specs.Kinds.{is_equality}
 use Rattle.lra_linear.specs.OperationStrain.{FormingPasses, substituted_rows}
 use Rattle.lra_linear.specs.Strain.{Loss}
 use Rattle.lra_linear.specs.Vectors.{cleared, entry, substituted}
-use Rattle.lra_linear.proofs.Membership.{contains_cases, contains_head, contains_none, contains_tail}
+use Rattle.lra_linear.proofs.Membership.{contains_cases, contains_head, contains_none, map_has}
 use Rattle.lra_linear.proofs.Products.{blend_length}
 use Rattle.lra_row.specs.Rows.{IsExcessOf}
 use Rattle.lra_row.specs.declared.error.RowError.{RowError}
@@ -25,8 +24,8 @@ use Rattle.lra_sys.specs.Listed.{Listed, constraints, generators, given_by}
 use Rattle.lra_linear.specs.declared.GenKind.{GenKind}
 use Rattle.lra_cone.specs.Conversions.{dual_kind}
 use Rattle.lra_cone.proofs.ConstraintLists.{dual_given}
+use Rattle.lra_cone.proofs.GeneratorLists.{given_append}
 use Rattle.lra_sys.proofs.FirstMembers.{front, given_more, given_split, member}
-use Rattle.lra_poly.proofs.JoinedLists.{given_joined}
 use Rattle.lra_poly.proofs.PolyLemmas.{if_exact}
 use Rattle.lra_poly.specs.Outcomes.{IfExact, IfFlagged}
 use Rattle.lra_poly.specs.declared.outcome.Outcome.{Outcome}
@@ -112,7 +111,7 @@ one_pushed : (all more : Listed ConKind) (t u : List ℤ) (k : ConKind) → leng
 one_pushed all more t u k n er ek et =
     ap (λ (l : List (List ℤ)). given_by is_equality l more.kinds) er
     ∙ ap (given_by is_equality (all.rows ++ t ∷ [])) ek
-    ∙ given_joined is_equality all.rows (t ∷ []) all.kinds (k ∷ []) n
+    ∙ given_append is_equality all.rows (t ∷ []) all.kinds (k ∷ []) n
     ∙ ap (λ (y : List ℤ). constraints all ++ (let g : Given = record { row = y; equal = is_equality k } in g) ∷ []) et
 
 pub substituted_whole : (k : ℕ) (form : List ℤ) (all more : Listed ConKind) (rows : List (List ℤ))
@@ -132,13 +131,6 @@ substituted_whole k form all more rows kinds i r t o m er ek et n h is =
     ∙ ap (substituted_rows k form) (sym (given_more is_equality rows kinds i r Ge n h is))
     ∙ ap (λ (j : ℕ). substituted_rows k form (front is_equality rows kinds j)) (sym (add-one i)))
 
-map_contains : (f : Given → Given) (xs : List Given) (g : Given) → Contains xs g → Contains (map f xs) (f g)
-map_contains f [] g m = absurd (contains_none g m)
-map_contains f (x ∷ xs) g m = elim (contains_cases x g xs m) [
-  | inl e ↦ subst (λ (y : Given). Contains (map f (x ∷ xs)) (f y)) e (contains_head (f x) (map f xs))
-  | inr d ↦ contains_tail (f x) (f g) (map f xs) (map_contains f xs g d)
-]
-
 pub substituted_among : (k : ℕ) (form : List ℤ) (all more : Listed ConKind) (rows : List (List ℤ))
     (kinds : List ConKind)
     (i : ℕ) (r t : List ℤ) → length all.rows ≡ length all.kinds → more.rows ≡ all.rows ++ t ∷ [] →
@@ -155,7 +147,7 @@ substituted_among k form all more rows kinds i r t m er ek et n h is among g has
       | inl a ↦ among g a
       | inr b ↦ elim (contains_cases new g [] b) [
         | inl e ↦ subst (Contains (substituted_rows k form (given_by is_equality rows kinds))) e
-            (map_contains (substituted_given k form) (given_by is_equality rows kinds)
+            (map_has (substituted_given k form) (given_by is_equality rows kinds)
             (member is_equality kinds i r Ge) (at_place rows kinds i r n h is))
         | inr none ↦ absurd (contains_none g none)
       ]
@@ -219,15 +211,10 @@ formed_seen k form n rows kinds i all seen o told ea eo h =
     subst (λ (s : Listed ConKind). AreFormed k form n rows kinds i s told) (sym ea)
     (subst (AreFormed k form n rows kinds i all) (sym eo) h)
 
-set_length : (r : List ℤ) (k : ℕ) (z : ℤ) → length (slice_set r k z) ≡ length r
-set_length [] k z = refl
-set_length (x ∷ r) zero z = refl
-set_length (x ∷ r) (suc k) z = ap suc (set_length r k z)
-
 pub substituted_length : (k : ℕ) (form r : List ℤ) → length form ≡ length r →
     length (substituted k form r) ≡ length r
 substituted_length k form r e =
-    blend_length (pos 1) (entry r k) (cleared k r) form (set_length r k (pos 0) ∙ sym e) ∙ set_length r k (pos 0)
+    blend_length (pos 1) (entry r k) (cleared k r) form (length-set r k (pos 0) ∙ sym e) ∙ length-set r k (pos 0)
 
 pub substituted_fits : (k : ℕ) (form r t : List ℤ) (n d : ℕ) → t ≡ substituted k form r → length form ≡ suc n →
     length r ≡ suc n → d ≡ n → length t ≡ suc d

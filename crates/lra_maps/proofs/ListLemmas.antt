@@ -12,7 +12,7 @@ use Rattle.lra_linear.specs.Kinds.{is_line}
 use Rattle.lra_sys.specs.Listed.{FitKinds, FitsKind, Listed, generators, given_by}
 use Rattle.lra_linear.specs.declared.GenKind.{GenKind}
 use Rattle.lra_linear.specs.declared.GenKind.TheVariants.{Line, Point, Ray}
-use Rattle.lra_poly.proofs.JoinedLists.{given_joined, kinds_joined}
+use Rattle.lra_cone.proofs.GeneratorLists.{fit_append, given_append}
 use Rattle.lra_maps.proofs.Sums.{mapped_by}
 
 -- ---- mapped row by row
@@ -87,7 +87,7 @@ pub line_added : (list all more : Listed GenKind) (row u : List ℤ) → all ≡
 line_added list all more row u ea mr mk er m =
     ap (λ (l : List (List ℤ)). given_by is_line l more.kinds) (mr ∙ ap (λ (s : Listed GenKind). s.rows ++ row ∷ []) ea)
     ∙ ap (given_by is_line (list.rows ++ row ∷ [])) (mk ∙ ap (λ (s : Listed GenKind). s.kinds ++ Line ∷ []) ea)
-    ∙ given_joined is_line list.rows (row ∷ []) list.kinds (Line ∷ []) (sym m)
+    ∙ given_append is_line list.rows (row ∷ []) list.kinds (Line ∷ []) (sym m)
     ∙ ap (λ (y : List ℤ). generators list ++ line y ∷ []) er
 
 pub line_fits : (list all more : Listed GenKind) (row u : List ℤ) → all ≡ list → more.rows ≡ all.rows ++ row ∷ [] →
@@ -97,7 +97,7 @@ pub line_fits : (list all more : Listed GenKind) (row u : List ℤ) → all ≡ 
 line_fits list all more row u ea mr mk er m fit level =
     subst (λ (l : List (List ℤ)). FitKinds l more.kinds) (sym (mr ∙ ap (λ (s : Listed GenKind). s.rows ++ row ∷ []) ea))
     (subst (FitKinds (list.rows ++ row ∷ [])) (sym (mk ∙ ap (λ (s : Listed GenKind). s.kinds ++ Line ∷ []) ea))
-    (kinds_joined list.rows (row ∷ []) list.kinds (Line ∷ []) (sym m) fit
+    (fit_append list.rows (row ∷ []) list.kinds (Line ∷ []) (sym m) fit
     (ap (λ (y : List ℤ). entry y 0) er ∙ level, tt)))
 
 pub line_seen : (all list given : List Given) (n m k : ℕ) → all ≡ list ++ line (unit_row m k) ∷ [] → list ≡ given →

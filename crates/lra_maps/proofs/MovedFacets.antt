@@ -1,31 +1,30 @@
 -- The positivity row, moved: it stays as it is, and the moved equalities don't change it.
 use Rattle.std.proofs.Common.{◌≡◌, ◌≢◌, ℕ, zero, suc, ◌<◌, List, [], ◌∷◌, length, ap, refl, sym, ◌∙◌, subst, ℤ, pos, neg_ℤ, ◌+ℤ◌, ◌*ℤ◌, ◌<ℤ◌, ◌≤ℤ◌, arith, inl, inr}
 use Rattle.std.specs.List.{Contains}
+use Rattle.std.proofs.lemmas.Bool.{cases_eq}
 use Rattle.lra_linear.specs.Cones.{AreDual, all_rows}
-use Rattle.lra_linear.specs.Echelon.{IsEchelon, IsEchelonOf, Leads, pivot}
+use Rattle.lra_linear.specs.Echelon.{IsEchelonOf, pivot}
 use Rattle.lra_linear.specs.Polyhedra.{positivity}
 use Rattle.lra_linear.specs.Vectors.{dot, entry, product, substituted}
-use Rattle.lra_linear.proofs.CanonicalForms.{spanned_in_cone}
+use Rattle.lra_linear.proofs.CanonicalForms.{spanned_in_cone, spanned_negative}
 use Rattle.lra_linear.proofs.LinearMaps.{generated_nonneg}
 use Rattle.lra_linear.proofs.LowestTerms.{primitive_at}
-use Rattle.lra_linear.proofs.Membership.{contains_cases, contains_none}
-use Rattle.lra_linear.proofs.Pivots.{pivot_is}
 use Rattle.lra_linear.proofs.Products.{dot_minus, product_comm, row_same}
 use Rattle.lra_linear.proofs.Ring.{ring, v, ◌⊕◌, ◌⊗◌}
 use Rattle.lra_linear.proofs.Signs.{between_opposites, not_both, times_positive}
 use Rattle.lra_linear.proofs.Spans.{spanned_row, spanned_zero}
+use Rattle.lra_linear.proofs.Lines.{entry_zeros, zeros_length}
 use Rattle.lra_canon.specs.Reduced.{IsReducedBy}
-use Rattle.lra_maps.proofs.TakenBack.{either, put_at, put_other, substituted_entry, substituted_width}
-use Rattle.lra_maps.proofs.MovedForms.{opposite_spanned}
+use Rattle.lra_canon.proofs.Extension.{member_leads}
+use Rattle.lra_maps.proofs.TakenBack.{put_at, put_other, substituted_entry, substituted_width}
 use Rattle.lra_maps.proofs.AssignedSets.{put}
-use Rattle.lra_maps.proofs.Sums.{zero_entry, zeros_width}
 
 positivity_entry : (n j : ℕ) → 0 < j → entry (positivity n) j ≡ pos 0
 positivity_entry n zero h = absurd (omega (arith, h))
-positivity_entry n (suc j) h = zero_entry n j
+positivity_entry n (suc j) h = entry_zeros n j
 
 pub positivity_width : (n : ℕ) → length (positivity n) ≡ suc n
-positivity_width n = ap suc (zeros_width n)
+positivity_width n = ap suc (zeros_length n)
 
 pub positivity_stays : (k n : ℕ) (g : List ℤ) → 0 < k → k < suc n → length g ≡ suc n → substituted k g (positivity n) ≡ positivity n
 positivity_stays k n g above low l =
@@ -33,7 +32,7 @@ positivity_stays k n g above low l =
     row_same (substituted k g (positivity n)) (positivity n) (substituted_width k g (positivity n) (wide ∙ sym l))
     (λ j. substituted_entry k g (positivity n) (omega (arith, wide, low)) (wide ∙ sym l) j ∙
     ap (λ (z : ℤ). put k (pos 0) (entry (positivity n)) j +ℤ (z *ℤ entry g j)) (positivity_entry n k above) ∙
-    elim (either j k) [
+    elim (cases_eq j k) [
       | inl e ↦ ap (λ (z : ℤ). z +ℤ (pos 0 *ℤ entry g j)) (subst (λ (i : ℕ). put k (pos 0) (entry (positivity n)) i ≡ pos 0) (sym e) (put_at k (pos 0) (entry (positivity n)))) ∙
           ring (v (pos 0) ⊕ v (pos 0) ⊗ v (entry g j)) (v (pos 0)) (omega arith) ∙ sym (subst (λ (i : ℕ). entry (positivity n) i ≡ pos 0) (sym e) (positivity_entry n k above))
       | inr o ↦ ap (λ (z : ℤ). z +ℤ (pos 0 *ℤ entry g j)) (put_other k (pos 0) (entry (positivity n)) j o) ∙
@@ -51,26 +50,17 @@ product_first (x ∷ t) r h = ap (λ (z : ℤ). (x *ℤ entry r 0) +ℤ z) (none
     none (y ∷ t) u z = ap (λ (a : ℤ). (y *ℤ a) +ℤ dot t (λ j. u (suc j))) (z 0) ∙ ap (λ (a : ℤ). (y *ℤ pos 0) +ℤ a) (none t (λ j. u (suc j)) (λ j. z (suc j))) ∙
         ring (v y ⊗ v (pos 0) ⊕ v (pos 0)) (v (pos 0)) (omega arith)
 
--- the rows of a form lead in the pivots
-leads_pivot : (form : List (List ℤ)) (ps : List ℕ) → IsEchelon form ps → (r : List ℤ) → Contains form r → Leads r (pivot r)
-leads_pivot [] ps e r k = absurd (contains_none r k)
-leads_pivot (x ∷ form) [] e r k = absurd e
-leads_pivot (x ∷ form) (p ∷ ps) e r k = elim (contains_cases x r form k) [
-  | inl i ↦ subst (λ (y : List ℤ). Leads y (pivot y)) i (subst (Leads x) (sym (pivot_is x p e.0)) e.0)
-  | inr m ↦ leads_pivot form ps e.4 r m
-]
-
 -- equalities that hold at a point have no pivot in column 0
 pub pivots_above : (w : ℕ) (eqs facets rows form : List (List ℤ)) (t : List ℤ) → AreDual w (all_rows eqs facets) rows → IsEchelonOf form eqs → Contains rows t → pos 0 <ℤ entry t 0 →
     (line : List ℤ) → Contains form line → pivot line ≢ 0
 pivots_above w eqs facets rows form t d is k above line m e =
-    let leads = leads_pivot form is.pivots is.echelon line m in
+    let leads = member_leads form is.pivots is.echelon line m in
     let rest : (j : ℕ) → 0 < j → entry line j ≡ pos 0 = λ j h. leads.before j (h, inr e) in
     let here : pos 0 <ℤ entry line 0 = subst (λ (i : ℕ). pos 0 <ℤ entry line i) e leads.here in
     let spanned = (is.same (entry line)).0 (spanned_row form line m) in
     let one = generated_nonneg t (all_rows eqs facets) (entry line) (λ c i. subst (λ (z : ℤ). pos 0 ≤ℤ z) (product_comm c t) (d.meets t k c i)) (spanned_in_cone eqs facets (entry line) spanned) in
     let other = generated_nonneg t (all_rows eqs facets) (λ j. neg_ℤ (entry line j)) (λ c i. subst (λ (z : ℤ). pos 0 ≤ℤ z) (product_comm c t) (d.meets t k c i))
-    (spanned_in_cone eqs facets (λ j. neg_ℤ (entry line j)) (opposite_spanned eqs (entry line) spanned)) in
+    (spanned_in_cone eqs facets (λ j. neg_ℤ (entry line j)) (spanned_negative eqs (entry line) spanned)) in
     never (entry t 0) (entry line 0) above here (sym (product_first t line rest) ∙ between_opposites (product t line) (dot t (λ j. neg_ℤ (entry line j))) (dot_minus t (entry line)) one other)
   where
     never : (a b : ℤ) → pos 0 <ℤ a → pos 0 <ℤ b → a *ℤ b ≡ pos 0 → ⊥

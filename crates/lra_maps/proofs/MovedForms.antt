@@ -8,14 +8,14 @@ use Rattle.lra_linear.specs.Canonical.{IsCanonical}
 use Rattle.lra_linear.specs.Cones.{Generated, all_rows, both_ways}
 use Rattle.lra_linear.specs.Echelon.{IsEchelon, IsEchelonOf, Spanned, pivot}
 use Rattle.lra_linear.specs.Vectors.{entry, negated, signed_sum}
-use Rattle.lra_linear.proofs.CanonicalForms.{spanned_in_cone}
+use Rattle.lra_linear.proofs.CanonicalForms.{spanned_in_cone, spanned_negative}
 use Rattle.lra_linear.proofs.Combinations.{generated_divided, generated_plus, generated_row, generated_same, generated_times, generated_zero}
 use Rattle.lra_linear.proofs.Lines.{signed_from}
-use Rattle.lra_linear.proofs.Membership.{contains_cases, contains_head, contains_middle, contains_none, contains_split, contains_tail}
+use Rattle.lra_linear.proofs.Membership.{contains_cases, contains_head, contains_middle, contains_none, contains_split, contains_tail, map_from}
 use Rattle.lra_linear.proofs.Pivots.{pivot_is}
 use Rattle.lra_linear.proofs.Products.{entry_negated}
 use Rattle.lra_linear.proofs.Ring.{ring, v, ⊖, ◌⊕◌, ◌⊗◌}
-use Rattle.lra_linear.proofs.Spans.{spanned_linear, spanned_row, spanned_same}
+use Rattle.lra_linear.proofs.Spans.{spanned_row, spanned_same}
 use Rattle.lra_canon.specs.Reduced.{IsAlong, IsReducedBy}
 use Rattle.lra_pair.specs.OwnLists.{AreReducedBy}
 use Rattle.lra_pair.proofs.TightRows.{reduced_from}
@@ -110,10 +110,6 @@ row_back f g m w lines form target r t h width k x =
     (generated_times all a.other (entry r) (generated_row all r (Contains-append_left target (both_ways lines) r k)))
     (line_back f g m w lines form target h.reversible h.widths h.is_form a.line a.on_line)))
 
-pub opposite_spanned : (form : List (List ℤ)) (u : ℕ → ℤ) → Spanned form u → Spanned form (λ j. neg_ℤ (u j))
-opposite_spanned form u s = spanned_same form (λ j. (neg_ℤ (pos 1) *ℤ u j) +ℤ (pos 0 *ℤ u j)) (λ j. neg_ℤ (u j))
-    (λ j. ring (⊖ (v (pos 1)) ⊗ v (u j) ⊕ v (pos 0) ⊗ v (u j)) (⊖ (v (u j))) (omega arith)) (spanned_linear form (neg_ℤ (pos 1)) (pos 0) u u s s)
-
 pub linear_minus : (g : (ℕ → ℤ) → ℕ → ℤ) → IsLinear g → (u : ℕ → ℤ) (j : ℕ) → g (λ i. neg_ℤ (u i)) j ≡ neg_ℤ (g u j)
 linear_minus g l u j = l.same (λ i. neg_ℤ (u i)) (λ i. neg_ℤ (pos 1) *ℤ u i) (λ i. ring (⊖ (v (u i))) (⊖ (v (pos 1)) ⊗ v (u i)) (omega arith)) j ∙
     linear_times g l (neg_ℤ (pos 1)) u j ∙ ring (⊖ (v (pos 1)) ⊗ v (g u j)) (⊖ (v (g u j))) (omega arith)
@@ -131,7 +127,7 @@ from_back f g m w lines form target r t h width x given =
     ring (v (pos a.other) ⊗ v (entry r j) ⊕ v (g a.line j) ⊕ ⊖ (v (g a.line j))) (v (pos a.other) ⊗ v (entry r j)) (omega arith))
     (generated_plus all (λ j. pos a.times *ℤ g (entry t) j) (g (λ i. neg_ℤ (a.line i)))
     (generated_times all a.times (g (entry t)) given)
-    (line_back f g m w lines form target h.reversible h.widths h.is_form (λ i. neg_ℤ (a.line i)) (opposite_spanned form a.line a.on_line))))
+    (line_back f g m w lines form target h.reversible h.widths h.is_form (λ i. neg_ℤ (a.line i)) (spanned_negative form a.line a.on_line))))
 
 opposite_back : (f g : (ℕ → ℤ) → ℕ → ℤ) (m : List ℤ → List ℤ) (w : ℕ) (lines form target : List (List ℤ)) (r t : List ℤ) → IsMoved f g m w lines form → length r ≡ w →
     IsReducedBy form (m r) t → Generated (all_rows lines target) (g (λ j. neg_ℤ (entry t j))) → Generated (all_rows lines target) (λ j. neg_ℤ (entry r j))
@@ -148,25 +144,18 @@ opposite_back f g m w lines form target r t h width x given =
     (generated_times all a.times (g (λ i. neg_ℤ (entry t i))) given)
     (line_back f g m w lines form target h.reversible h.widths h.is_form a.line a.on_line)))
 
-mapped_member : (m : List ℤ → List ℤ) (rows : List (List ℤ)) (t : List ℤ) → Contains (map m rows) t → (r : List ℤ) × Contains rows r × (m r ≡ t)
-mapped_member m [] t k = absurd (contains_none t k)
-mapped_member m (x ∷ rows) t k = elim (contains_cases (m x) t (map m rows) k) [
-  | inl e ↦ (x, contains_head x rows, e)
-  | inr n ↦ let i = mapped_member m rows t n in (i.0, contains_tail x i.0 rows i.1, i.2)
-]
-
 -- the cone of the new description, taken back, is that of the old one
 cone_back : (f g : (ℕ → ℤ) → ℕ → ℤ) (m : List ℤ → List ℤ) (w : ℕ) (lines form rays ts : List (List ℤ)) (u : ℕ → ℤ) → IsMoved f g m w lines form → ((t : List ℤ) → Contains rays t → length t ≡ w) →
     AreReducedBy form (map m rays) ts → Generated (all_rows form ts) u → Generated (all_rows lines rays) (g u)
 cone_back f g m w lines form rays ts u h widths are x = generated_linear g h.reversible.back_linear (all_rows form ts) (all_rows lines rays) u
     (λ t k. elim (Contains-append_cases ts (both_ways form) t k) [
-      | inl a ↦ let i = reduced_from form (map m rays) ts are t a in let j = mapped_member m rays i.0 i.1 in
+      | inl a ↦ let i = reduced_from form (map m rays) ts are t a in let j = map_from m rays i.0 i.1 in
           row_back f g m w lines form rays j.0 t h (widths j.0 j.1) j.1 (subst (λ (y : List ℤ). IsReducedBy form y t) (sym j.2) i.2)
       | inr a ↦ let l = signed_from form t a in
           line_back f g m w lines form rays h.reversible h.widths h.is_form (entry t) (elim l.sign [
             | inl e ↦ subst (λ (y : List ℤ). Spanned form (entry y)) (sym e) (spanned_row form l.line l.has)
             | inr e ↦ subst (λ (y : List ℤ). Spanned form (entry y)) (sym e) (spanned_same form (λ j. neg_ℤ (entry l.line j)) (entry (negated l.line)) (λ j. sym (entry_negated l.line j))
-                (opposite_spanned form (entry l.line) (spanned_row form l.line l.has)))
+                (spanned_negative form (entry l.line) (spanned_row form l.line l.has)))
           ])
     ]) x
 
@@ -219,7 +208,7 @@ canonical_moved f g m w lines rays form ts h widths c are = record {
       ap (entry t) (sym l.2) ∙ i.2.zeros l.0 l.1;
   lowest = λ t k. let i = reduced_from form (map m rays) ts are t k in elim i.2.lowest [ inl p ↦ p | inr z ↦ absurd (not_zero t k z) ];
   needed = needed;
-  pointed = λ t k x. let i = reduced_from form (map m rays) ts are t k in let j = mapped_member m rays i.0 i.1 in
+  pointed = λ t k x. let i = reduced_from form (map m rays) ts are t k in let j = map_from m rays i.0 i.1 in
       c.pointed j.0 j.1 (opposite_back f g m w lines form rays j.0 t h (widths j.0 j.1) (subst (λ (y : List ℤ). IsReducedBy form y t) (sym j.2) i.2)
       (cone_back f g m w lines form rays ts (λ j. neg_ℤ (entry t j)) h widths are x));
 }

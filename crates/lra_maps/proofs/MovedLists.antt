@@ -4,28 +4,12 @@ use Rattle.std.specs.List.{All, Contains}
 use Rattle.std.proofs.lemmas.List.{append-nil, map-append}
 use Rattle.std.proofs.lemmas.List.Elements.{All-contains}
 use Rattle.lra_linear.specs.Descriptions.{Given, lines_of, rays_of}
-use Rattle.lra_linear.proofs.Membership.{contains_cases, contains_head, contains_none, contains_tail}
+use Rattle.lra_linear.proofs.Membership.{contains_cases, contains_head, contains_none, contains_tail, map_from}
+use Rattle.lra_linear.proofs.Polyhedra.{lines_of_append, rays_of_append}
 use Rattle.lra_sys.specs.Listed.{Listed, given_by}
 use Rattle.lra_canon.specs.Echelons.{HaveWidth}
 use Rattle.lra_pair.proofs.OwnRows.{all_width}
 use Rattle.lra_sys.proofs.FirstMembers.{front, given_more, member}
-use Rattle.lra_maps.proofs.TakenBack.{mapped_from}
-
-lines_joined : (xs ys : List Given) → lines_of (xs ++ ys) ≡ lines_of xs ++ lines_of ys
-lines_joined [] ys = refl
-lines_joined (x ∷ xs) ys = go x.equal (lines_joined xs ys)
-  where
-    go : (b : Bool) → lines_of (xs ++ ys) ≡ lines_of xs ++ lines_of ys → cond b (x.row ∷ lines_of (xs ++ ys)) (lines_of (xs ++ ys)) ≡ cond b (x.row ∷ lines_of xs) (lines_of xs) ++ lines_of ys
-    go true e = ap (λ (l : List (List ℤ)). x.row ∷ l) e
-    go false e = e
-
-rays_joined : (xs ys : List Given) → rays_of (xs ++ ys) ≡ rays_of xs ++ rays_of ys
-rays_joined [] ys = refl
-rays_joined (x ∷ xs) ys = go x.equal (rays_joined xs ys)
-  where
-    go : (b : Bool) → rays_of (xs ++ ys) ≡ rays_of xs ++ rays_of ys → cond b (rays_of (xs ++ ys)) (x.row ∷ rays_of (xs ++ ys)) ≡ cond b (rays_of xs) (x.row ∷ rays_of xs) ++ rays_of ys
-    go true e = e
-    go false e = ap (λ (l : List (List ℤ)). x.row ∷ l) e
 
 -- the parts of the rows before the place
 pub record ArePartsOf {K : Type 0} (f : List ℤ → List ℤ) (equal : K → Bool) (rows : List (List ℤ)) (kinds : List K) (i : ℕ) (lines rays : List (List ℤ)) : Type 0 where
@@ -44,10 +28,10 @@ part_more {K = K} f equal rows kinds i lines rays lines' rays' r t k h n low is 
     record {
       lines_are = el ∙ ap (λ (l : List (List ℤ)). l ++ cond m.equal (t ∷ []) []) h.lines_are ∙ ap (λ (y : List ℤ). map f (lines_of fr) ++ cond m.equal (y ∷ []) []) et ∙
           ap (λ (l : List (List ℤ)). map f (lines_of fr) ++ l) (lines_one m.equal r) ∙
-          sym (map-append f (lines_of fr) (cond m.equal (r ∷ []) [])) ∙ ap (map f) (sym (lines_joined fr (m ∷ []))) ∙ ap (λ (l : List Given). map f (lines_of l)) (sym more);
+          sym (map-append f (lines_of fr) (cond m.equal (r ∷ []) [])) ∙ ap (map f) (sym (lines_of_append fr (m ∷ []))) ∙ ap (λ (l : List Given). map f (lines_of l)) (sym more);
       rays_are = er ∙ ap (λ (l : List (List ℤ)). l ++ cond m.equal [] (t ∷ [])) h.rays_are ∙ ap (λ (y : List ℤ). map f (rays_of fr) ++ cond m.equal [] (y ∷ [])) et ∙
           ap (λ (l : List (List ℤ)). map f (rays_of fr) ++ l) (rays_one m.equal r) ∙
-          sym (map-append f (rays_of fr) (cond m.equal [] (r ∷ []))) ∙ ap (map f) (sym (rays_joined fr (m ∷ []))) ∙ ap (λ (l : List Given). map f (rays_of l)) (sym more);
+          sym (map-append f (rays_of fr) (cond m.equal [] (r ∷ []))) ∙ ap (map f) (sym (rays_of_append fr (m ∷ []))) ∙ ap (λ (l : List Given). map f (rays_of l)) (sym more);
     }
   where
     lines_one : (b : Bool) (r : List ℤ) → cond b (f r ∷ []) [] ≡ map f (cond b (r ∷ []) [])
@@ -109,7 +93,7 @@ pub record KeepsWidth {K : Type 0} (m : List ℤ → List ℤ) (w : ℕ) (list :
 mapped_width : {K : Type 0} (m : List ℤ → List ℤ) (w : ℕ) (list : Listed K) (seen some : List (List ℤ)) → KeepsWidth m w list seen →
     ((t : List ℤ) → Contains some t → Contains list.rows t) → HaveWidth w (map m some)
 mapped_width m w list seen some h among = all_width w (map m some) (λ t k.
-    let i = mapped_from m some t k in
+    let i = map_from m some t k in
     ap length (sym i.2) ∙
     h.keeps i.0 (All-contains (λ (r : List ℤ). length r ≡ suc list.dims) seen i.0 h.widths (subst (λ (l : List (List ℤ)). Contains l i.0) (sym h.are) (among i.0 i.1))) ∙ sym h.width)
 

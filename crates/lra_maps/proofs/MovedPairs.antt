@@ -8,7 +8,7 @@ use Rattle.lra_linear.specs.Cones.{AreDual, Generated, all_rows, both_ways}
 use Rattle.lra_linear.specs.Echelon.{IsEchelonOf, Spanned}
 use Rattle.lra_linear.specs.SetOperations.{assigned}
 use Rattle.lra_linear.specs.Vectors.{entry, negated, product, substituted}
-use Rattle.lra_linear.proofs.CanonicalForms.{spanned_in_cone}
+use Rattle.lra_linear.proofs.CanonicalForms.{spanned_in_cone, spanned_negative}
 use Rattle.lra_linear.proofs.Combinations.{generated_divided, generated_plus, generated_row, generated_same, generated_times}
 use Rattle.lra_linear.proofs.Descriptions.{dual_flipped}
 use Rattle.lra_linear.proofs.Lines.{in_lines, signed_from}
@@ -20,7 +20,7 @@ use Rattle.lra_linear.proofs.Spans.{spanned_row, spanned_same}
 use Rattle.lra_pair.specs.OwnLists.{AreReducedBy}
 use Rattle.lra_pair.proofs.TightRows.{reduced_from, reduced_has}
 use Rattle.lra_maps.specs.Moving.{TakesBack}
-use Rattle.lra_maps.proofs.MovedForms.{linear_minus, opposite_spanned}
+use Rattle.lra_maps.proofs.MovedForms.{linear_minus}
 use Rattle.lra_maps.proofs.TakenBack.{dual_moved, substituted_entry, substituted_width, substituting, substituting_linear}
 use Rattle.lra_maps.proofs.AssignedSets.{set_negated}
 
@@ -31,7 +31,7 @@ signed_spanned lines t k =
     elim l.sign [
       | inl e ↦ subst (λ (y : List ℤ). Spanned lines (entry y)) (sym e) (spanned_row lines l.line l.has)
       | inr e ↦ subst (λ (y : List ℤ). Spanned lines (entry y)) (sym e) (spanned_same lines (λ j. neg_ℤ (entry l.line j)) (entry (negated l.line)) (λ j. sym (entry_negated l.line j))
-          (opposite_spanned lines (entry l.line) (spanned_row lines l.line l.has)))
+          (spanned_negative lines (entry l.line) (spanned_row lines l.line l.has)))
     ]
 
 -- the form and the reduced rows generate what the lines and the rows do
@@ -46,7 +46,7 @@ to_form lines rays form ts is are t k = elim (Contains-append_cases rays (both_w
       (λ j. ap (λ (z : ℤ). z +ℤ neg_ℤ (x.line j)) (x.is_sum j) ∙ ring (v (pos x.other) ⊗ v (entry t j) ⊕ v (x.line j) ⊕ ⊖ (v (x.line j))) (v (pos x.other) ⊗ v (entry t j)) (omega arith))
       (generated_plus all (λ j. pos x.times *ℤ entry i.0 j) (λ j. neg_ℤ (x.line j))
       (generated_times all x.times (entry i.0) (generated_row all i.0 (Contains-append_left ts (both_ways form) i.0 i.1)))
-      (spanned_in_cone form ts (λ j. neg_ℤ (x.line j)) (opposite_spanned form x.line x.on_line))))
+      (spanned_in_cone form ts (λ j. neg_ℤ (x.line j)) (spanned_negative form x.line x.on_line))))
   | inr a ↦ spanned_in_cone form ts (entry t) ((is.same (entry t)).1 (signed_spanned lines t a))
 ]
 

@@ -1,6 +1,6 @@
 -- The image of a polyhedron under an assignment that can be taken back: both canonical lists, moved and made canonical
 -- again.
-use Rattle.std.proofs.Common.{◌≡◌, ℕ, suc, ◌<◌, true, false, cond, List, [], ◌∷◌, ◌++◌, length, map, ap, refl, sym, ◌∙◌, subst, ℤ, pos, ◌<ℤ◌, ◌≤ℤ◌, inl, inr, ◌⊎◌}
+use Rattle.std.proofs.Common.{◌≡◌, ℕ, suc, ◌<◌, cond, List, [], ◌∷◌, ◌++◌, length, map, ap, refl, sym, ◌∙◌, subst, ℤ, pos, ◌<ℤ◌, ◌≤ℤ◌, inl, inr, ◌⊎◌}
 use Rattle.std.specs.List.{Contains}
 use Rattle.std.specs.List.Sorted.{IsPermutation}
 use Rattle.std.specs.Ordering.{is_eq}
@@ -8,12 +8,12 @@ use Rattle.std.specs.declared.cmp.Ordering.{Ordering}
 use Rattle.std.proofs.lemmas.List.Elements.{All-contains, Contains-append_cases, Contains-append_left, Contains-append_right}
 use Rattle.lra_linear.specs.Canonical.{IsCanonical}
 use Rattle.lra_linear.specs.Cones.{AreDual, Generated, all_rows, both_ways}
-use Rattle.lra_linear.specs.Descriptions.{Con, Given, given_as, lines_of, rays_of, system_of}
+use Rattle.lra_linear.specs.Descriptions.{Con, Given, lines_of, rays_of, system_of}
 use Rattle.lra_linear.specs.Echelon.{IsEchelonOf}
 use Rattle.lra_linear.specs.OperationStrain.{mapped}
 use Rattle.lra_linear.specs.Points.{IsEmptySet, IsPoint}
 use Rattle.lra_linear.specs.Polyhedra.{HasPoint, IsPolyhedron, IsPolyhedronOf, Polyhedron, positivity}
-use Rattle.lra_linear.specs.RowOrder.{Ascends, inequality_cmp, row_cmp}
+use Rattle.lra_linear.specs.RowOrder.{row_cmp}
 use Rattle.lra_linear.specs.SetOperations.{Image, assigned}
 use Rattle.lra_linear.specs.Vectors.{entry, substituted}
 use Rattle.lra_linear.proofs.CanonicalForms.{same_from_dual}
@@ -21,11 +21,11 @@ use Rattle.lra_linear.proofs.Combinations.{generated_row}
 use Rattle.lra_linear.proofs.Descriptions.{dual_flipped, gen_generated, generated_gen, in_all_rows, in_system}
 use Rattle.lra_linear.proofs.LinearMaps.{generated_nonneg, generated_through}
 use Rattle.lra_linear.proofs.Lines.{in_lines, signed_from}
-use Rattle.lra_linear.proofs.Membership.{NoRepeat, contains_cases, contains_head, contains_none, contains_tail}
+use Rattle.lra_linear.proofs.Membership.{NoRepeat, contains_cases, contains_head, contains_none, contains_tail, map_from, map_has}
 use Rattle.lra_linear.proofs.OneSpelling.{columns_of, positivity_product, some_member}
 use Rattle.lra_linear.proofs.Polyhedra.{con_gen, generators_lines, generators_rays}
 use Rattle.lra_linear.proofs.Products.{negated_length}
-use Rattle.lra_linear.proofs.RowOrder.{inequality_cmp_total, never_both, row_cmp_total}
+use Rattle.lra_linear.proofs.RowOrder.{row_cmp_total}
 use Rattle.lra_linear.proofs.Signs.{positive_is_nonnegative, zero_at_least}
 use Rattle.lra_linear.specs.declared.ConKind.{ConKind}
 use Rattle.lra_sys.specs.Listed.{FitKinds, Listed, constraints, generators}
@@ -39,23 +39,17 @@ use Rattle.lra_cone.proofs.GeneratorLists.{flat_rows, listed_have, nothing_gener
 use Rattle.lra_cone.proofs.Reordered.{canonical_again, dual_again}
 use Rattle.lra_pair.specs.OwnLists.{AreReducedBy}
 use Rattle.lra_pair.proofs.PairLists.{has_point}
+use Rattle.lra_poly.proofs.KeptFacets.{ascending_once, lines_split, rays_split}
+use Rattle.lra_poly.proofs.PolyLemmas.{with_point}
 use Rattle.lra_maps.specs.Moving.{IsAssignedList, IsSubstitutedList, TakesBack}
 use Rattle.lra_maps.proofs.AssignedSets.{assigned_generators, assigning}
-use Rattle.lra_maps.proofs.ElapsedSets.{point_of}
 use Rattle.lra_maps.proofs.MovedFacets.{pivots_above, positivity_reduced, positivity_stays, positivity_width}
 use Rattle.lra_maps.proofs.MovedForms.{canonical_moved}
 use Rattle.lra_maps.proofs.MovedPairs.{assigned_negated, from_form, map_all_rows, mapped_dual, moved_dual, to_form}
 use Rattle.lra_maps.proofs.Sums.{system_mapped}
-use Rattle.lra_maps.proofs.TakenBack.{assigned_reversible, assigned_width, first_stays, mapped_from, mapped_has, substituted_reversible, substituting}
+use Rattle.lra_maps.proofs.TakenBack.{assigned_reversible, assigned_width, first_stays, substituted_reversible, substituting}
 
 -- ---- the facets as a list: the inequalities, with the positivity row before them where it is one
-ascending_once : (rows : List (List ℤ)) → Ascends inequality_cmp rows → NoRepeat rows
-ascending_once [] a = tt
-ascending_once (x ∷ rows) a = (
-  λ k. never_both inequality_cmp inequality_cmp_total x x (a.0 x k) (a.0 x k),
-  ascending_once rows a.1,
-)
-
 -- some of them is the row, or all are others
 some_or_others : (P : List ℤ → Type 0) (r : List ℤ) (rows : List (List ℤ)) → ((t : List ℤ) → Contains rows t → (t ≡ r) ⊎ P t) → Contains rows r ⊎ ((t : List ℤ) → Contains rows t → P t)
 some_or_others P r [] h = inr (λ t k. absurd (contains_none t k))
@@ -93,17 +87,6 @@ facets_listed p h = elim (some_or_others (Contains h.inequalities) (positivity p
           (dual_flipped (suc p.dims) (all_rows h.equalities h.facets) (all_rows h.lines (h.points ++ h.rays)) h.dual));
     }
 
--- ---- the lists by kind
-lines_of_joined : (xs ys : List (List ℤ)) → lines_of (given_as true xs ++ given_as false ys) ≡ xs
-lines_of_joined [] [] = refl
-lines_of_joined [] (y ∷ ys) = lines_of_joined [] ys
-lines_of_joined (x ∷ xs) ys = ap (λ (l : List (List ℤ)). x ∷ l) (lines_of_joined xs ys)
-
-rays_of_joined : (xs ys : List (List ℤ)) → rays_of (given_as true xs ++ given_as false ys) ≡ ys
-rays_of_joined [] [] = refl
-rays_of_joined [] (y ∷ ys) = ap (λ (l : List (List ℤ)). y ∷ l) (rays_of_joined [] ys)
-rays_of_joined (x ∷ xs) ys = rays_of_joined xs ys
-
 -- ---- both lists moved
 -- the constraints with g put in, the generators with the value of f, both made canonical again
 pub record AreMoved (p : Polyhedron) (k : ℕ) (f g : List ℤ) (eqs ineqs lines rays : List (List ℤ)) : Type 0 where
@@ -134,8 +117,8 @@ moved : (p : Polyhedron) (h : HasPoint p) (k : ℕ) (f g : List ℤ) (eqs ineqs 
 moved p h k f g eqs ineqs lines rays m = record {
   column = m.column;
   back = m.back;
-  equalities = subst (λ (l : List (List ℤ)). IsEchelonOf eqs (map (substituted k g) l)) (ap lines_of h.rows_are ∙ lines_of_joined h.equalities h.inequalities) m.equalities;
-  inequalities = subst (λ (l : List (List ℤ)). AreReducedBy eqs (map (substituted k g) l) ineqs) (ap rays_of h.rows_are ∙ rays_of_joined h.equalities h.inequalities) m.inequalities;
+  equalities = subst (λ (l : List (List ℤ)). IsEchelonOf eqs (map (substituted k g) l)) (ap lines_of h.rows_are ∙ lines_split h.equalities h.inequalities) m.equalities;
+  inequalities = subst (λ (l : List (List ℤ)). AreReducedBy eqs (map (substituted k g) l) ineqs) (ap rays_of h.rows_are ∙ rays_split h.equalities h.inequalities) m.inequalities;
   lines_form = subst (λ (l : List (List ℤ)). IsEchelonOf lines (map (assigned k f) l)) (generators_lines p h) m.lines_form;
   rays_reduced = subst (λ (l : List (List ℤ)). AreReducedBy lines (map (assigned k f) l) rays) (generators_rays p h) m.rays_reduced;
   constraint_widths = m.constraint_widths;
@@ -189,7 +172,7 @@ facets_moved p h k f g eqs ineqs lines rays m = elim (facets_listed p h) [
         (all_rows (map (assigned k f) h.lines) (map (assigned k f) (h.points ++ h.rays))) eqs (assigned k f v.0)
         (mapped_dual k (suc p.dims) f g h.equalities h.facets h.lines (h.points ++ h.rays) m.back h.dual) m.equalities
         (Contains-append_left (map (assigned k f) (h.points ++ h.rays)) (both_ways (map (assigned k f) h.lines)) (assigned k f v.0)
-        (mapped_has (assigned k f) (h.points ++ h.rays) v.0 (Contains-append_left h.points h.rays v.0 v.1)))
+        (map_has (assigned k f) (h.points ++ h.rays) v.0 (Contains-append_left h.points h.rays v.0 v.1)))
         (subst (λ (z : ℤ). pos 0 <ℤ z) (sym (first_stays k f v.0 m.column)) (h.divisors v.0 v.1))))
 
     wide : (t : List ℤ) → Contains (all_rows eqs (positivity p.dims ∷ ineqs)) t → length t ≡ suc p.dims
@@ -225,7 +208,7 @@ columns_moved : (p : Polyhedron) (h : HasPoint p) (k : ℕ) (f g : List ℤ) (eq
 columns_moved p h k f g eqs ineqs lines rays m t i =
     subst (λ (z : ℤ). pos 0 ≤ℤ z) (positivity_product p.dims t)
     (generated_nonneg (positivity p.dims) (map (assigned k f) (all_rows h.lines (h.points ++ h.rays))) (entry t)
-    (λ r o. let x = mapped_from (assigned k f) (all_rows h.lines (h.points ++ h.rays)) r o in
+    (λ r o. let x = map_from (assigned k f) (all_rows h.lines (h.points ++ h.rays)) r o in
     subst (λ (z : ℤ). pos 0 ≤ℤ z) (sym (positivity_product p.dims r ∙ ap (λ (y : List ℤ). entry y 0) (sym x.2) ∙ first_stays k f x.0 m.column)) (nonneg x.0 (columns_of p h x.0 x.1)))
     (subst (λ (l : List (List ℤ)). Generated l (entry t)) (sym (map_all_rows (assigned k f) h.lines (h.points ++ h.rays) (λ x o. assigned_negated k f x)))
     (from_form (map (assigned k f) h.lines) (map (assigned k f) (h.points ++ h.rays)) lines rays m.lines_form m.rays_reduced t i)))
@@ -250,11 +233,11 @@ mapped_there : (p : Polyhedron) (h : HasPoint p) (k : ℕ) (f g : List ℤ) (eqs
     (u : ℕ → ℤ) → Generated (system_of (mapped k f p.generators)) u → Generated (all_rows lines rays) u
 mapped_there p h k f g eqs ineqs lines rays m u x =
     generated_through (all_rows lines rays) (map (assigned k f) (system_of p.generators)) u (λ t i.
-    let r = mapped_from (assigned k f) (system_of p.generators) t i in
+    let r = map_from (assigned k f) (system_of p.generators) t i in
     to_form (map (assigned k f) h.lines) (map (assigned k f) (h.points ++ h.rays)) lines rays m.lines_form m.rays_reduced t
     (subst (λ (l : List (List ℤ)). Contains l t) (map_all_rows (assigned k f) h.lines (h.points ++ h.rays) (λ y o. assigned_negated k f y))
     (subst (Contains (map (assigned k f) (all_rows h.lines (h.points ++ h.rays)))) r.2
-    (mapped_has (assigned k f) (all_rows h.lines (h.points ++ h.rays)) r.0 (in_cone p h r.0 r.1)))))
+    (map_has (assigned k f) (all_rows h.lines (h.points ++ h.rays)) r.0 (in_cone p h r.0 r.1)))))
     (subst (λ (l : List (List ℤ)). Generated l u) (system_mapped (assigned k f) (assigned_negated k f) p.generators) x)
 
 mapped_back : (p : Polyhedron) (h : HasPoint p) (k : ℕ) (f g : List ℤ) (eqs ineqs lines rays : List (List ℤ)) → Moved p h k f g eqs ineqs lines rays →
@@ -264,9 +247,9 @@ mapped_back p h k f g eqs ineqs lines rays m u x =
     let cone = all_rows (map (assigned k f) h.lines) (map (assigned k f) (h.points ++ h.rays)) in
     subst (λ (l : List (List ℤ)). Generated l u) (sym (system_mapped (assigned k f) (assigned_negated k f) p.generators))
     (generated_through source cone u (λ t i.
-    let r = mapped_from (assigned k f) (all_rows h.lines (h.points ++ h.rays)) t
+    let r = map_from (assigned k f) (all_rows h.lines (h.points ++ h.rays)) t
     (subst (λ (l : List (List ℤ)). Contains l t) (sym (map_all_rows (assigned k f) h.lines (h.points ++ h.rays) (λ y o. assigned_negated k f y))) i) in
-    generated_row source t (subst (Contains source) r.2 (mapped_has (assigned k f) (system_of p.generators) r.0 (from_cone p h r.0 r.1))))
+    generated_row source t (subst (Contains source) r.2 (map_has (assigned k f) (system_of p.generators) r.0 (from_cone p h r.0 r.1))))
     (generated_through cone (all_rows lines rays) u (from_form (map (assigned k f) h.lines) (map (assigned k f) (h.points ++ h.rays)) lines rays m.lines_form m.rays_reduced) x))
 
 -- ---- the polyhedron
@@ -283,7 +266,7 @@ some_listed p h k f g eqs ineqs lines rays list m (inl none) =
     } in
     absurd (nothing_generated p.dims (all_rows lines rays) t is_point (flat_rows lines rays (columns_moved p h k f g eqs ineqs lines rays m) none.2)
     (to_form (map (assigned k f) h.lines) (map (assigned k f) (h.points ++ h.rays)) lines rays m.lines_form m.rays_reduced t
-    (Contains-append_left (map (assigned k f) (h.points ++ h.rays)) (both_ways (map (assigned k f) h.lines)) t (mapped_has (assigned k f) (h.points ++ h.rays) v.0 here))))
+    (Contains-append_left (map (assigned k f) (h.points ++ h.rays)) (both_ways (map (assigned k f) h.lines)) t (map_has (assigned k f) (h.points ++ h.rays) v.0 here))))
 
 pub moved_polyhedron : (p : Polyhedron) (h : HasPoint p) (k : ℕ) (f g : List ℤ) (eqs ineqs lines rays : List (List ℤ)) (rows : Listed ConKind) (list : Listed GenKind) →
     AreMoved p k f g eqs ineqs lines rays → ShowsConstraints p.dims eqs ineqs rows → ShowsGenerators lines rays list →
@@ -362,7 +345,7 @@ moved_image p k f g rows list m =
     let c = m.constraints_moved in
     let r = m.generators_moved in
     subst (λ (n : ℕ). IsPolyhedronOf p.dims (Image p.dims k f (Con p.rows)) (record { dims = n; rows = constraints rows; generators = generators list }) × FitKinds list.rows list.kinds) (sym m.dims)
-    (moved_polyhedron p (point_of p m.canonical m.some) k f g c.lines c.rays r.lines r.rays rows list
+    (moved_polyhedron p (with_point p m.canonical m.some) k f g c.lines c.rays r.lines r.rays rows list
     (record {
       column = m.above;
       back = m.back;

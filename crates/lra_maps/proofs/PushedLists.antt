@@ -7,13 +7,13 @@ use Rattle.std.proofs.lemmas.List.{length-append, map-append, take_all}
 use Rattle.lra_linear.specs.Descriptions.{Given, given_as, line}
 use Rattle.lra_linear.specs.OperationStrain.{as_directions, unit_row}
 use Rattle.lra_linear.specs.Vectors.{behind_zero, cleared, units, zeros}
+use Rattle.lra_linear.proofs.Lines.{zeros_length}
 use Rattle.lra_linear.specs.Kinds.{is_line}
 use Rattle.lra_sys.specs.Listed.{FitKinds, FitsKind, Listed, generators, given_by}
 use Rattle.lra_linear.specs.declared.GenKind.{GenKind}
 use Rattle.lra_linear.specs.declared.GenKind.TheVariants.{Line, Point}
 use Rattle.lra_sys.proofs.FirstMembers.{front, given_more, member}
-use Rattle.lra_poly.proofs.JoinedLists.{given_joined, kinds_joined}
-use Rattle.lra_maps.proofs.Sums.{zeros_width}
+use Rattle.lra_cone.proofs.GeneratorLists.{fit_append, given_append}
 
 -- ---- one more
 pub many_more : {A B : Type 0} (xs more : List A) (ys also : List B) (x : A) (y : B) → length xs ≡ length ys →
@@ -26,14 +26,14 @@ pub fit_more : (rows more : List (List ℤ)) (kinds also : List GenKind) (r : Li
     also ≡ kinds ++ k ∷ [] → FitKinds more also
 fit_more rows more kinds also r k n h f em ea =
     subst (λ (l : List (List ℤ)). FitKinds l also) (sym em)
-    (subst (FitKinds (rows ++ r ∷ [])) (sym ea) (kinds_joined rows (r ∷ []) kinds (k ∷ []) n h (f, tt)))
+    (subst (FitKinds (rows ++ r ∷ [])) (sym ea) (fit_append rows (r ∷ []) kinds (k ∷ []) n h (f, tt)))
 
 given_pushed : (all more : Listed GenKind) (r : List ℤ) (k : GenKind) → length all.rows ≡ length all.kinds →
     more.rows ≡ all.rows ++ r ∷ [] → more.kinds ≡ all.kinds ++ k ∷ [] →
     generators more ≡ generators all ++ record { row = r; equal = is_line k } ∷ []
 given_pushed all more r k n er ek =
     ap (λ (l : List (List ℤ)). given_by is_line l more.kinds) er ∙ ap (given_by is_line (all.rows ++ r ∷ [])) ek ∙
-    given_joined is_line all.rows (r ∷ []) all.kinds (k ∷ []) n
+    given_append is_line all.rows (r ∷ []) all.kinds (k ∷ []) n
 
 -- ---- directions
 pub direction_added : (base : List Given) (all more : Listed GenKind) (rows : List (List ℤ)) (kinds : List GenKind)
@@ -69,7 +69,7 @@ zero_pushed row all more i ea em =
 
 pub longer_length : (r t : List ℤ) (k n : ℕ) → t ≡ r ++ zeros k → length r ≡ suc n → length t ≡ suc (n + k)
 longer_length r t k n e h =
-    let s = ap length e ∙ length-append r (zeros k) in let z = zeros_width k in omega (arith, s, z, h)
+    let s = ap length e ∙ length-append r (zeros k) in let z = zeros_length k in omega (arith, s, z, h)
 
 -- ---- lines along new dimensions
 set_behind : (w k i m j : ℕ) (z : ℤ) → m ≡ w + k → j ≡ w + i →

@@ -1,5 +1,5 @@
 -- Sums of joined and of mapped lists of rows.
-use Rattle.std.proofs.Common.{◌≡◌, ℕ, zero, suc, ◌<◌, Bool, true, false, List, [], ◌∷◌, ◌++◌, length, map, drop, ap, refl, sym, ◌∙◌, subst, ℤ, pos, neg_ℤ, ◌+ℤ◌, ◌*ℤ◌, ◌<ℤ◌, ◌≤ℤ◌, arith}
+use Rattle.std.proofs.Common.{◌≡◌, ℕ, ◌<◌, Bool, true, false, List, [], ◌∷◌, ◌++◌, length, map, drop, ap, refl, sym, ◌∙◌, subst, ℤ, pos, neg_ℤ, ◌+ℤ◌, ◌*ℤ◌, ◌<ℤ◌, ◌≤ℤ◌, arith}
 use Rattle.std.specs.List.{Contains}
 use Rattle.std.proofs.lemmas.Int.{ints}
 use Rattle.lra_linear.specs.Cones.{Generated, with_row}
@@ -11,21 +11,11 @@ use Rattle.lra_linear.proofs.Membership.{contains_head, contains_tail}
 use Rattle.lra_linear.proofs.Products.{blend_length, entry_blend, entry_negated}
 use Rattle.lra_linear.proofs.Ring.{ring, v, ⊖, ◌⊕◌, ◌⊗◌}
 use Rattle.lra_linear.proofs.Signs.{as_nat, positive_nat}
+use Rattle.lra_linear.proofs.Lines.{entry_zeros, zeros_length}
+use Rattle.lra_canon.proofs.Solutions.{sum_none}
+use Rattle.lra_cone.proofs.GeneratorLists.{system_append}
 
 -- ---- joined lists
-pub system_joined : (xs ys : List Given) → system_of (xs ++ ys) ≡ system_of xs ++ system_of ys
-system_joined [] ys = refl
-system_joined (x ∷ xs) ys = by_kind x.equal (system_joined xs ys)
-  where
-    by_kind : (b : Bool) → system_of (xs ++ ys) ≡ system_of xs ++ system_of ys →
-        with_row b x.row (system_of (xs ++ ys)) ≡ with_row b x.row (system_of xs) ++ system_of ys
-    by_kind true e = ap (λ (l : List (List ℤ)). x.row ∷ negated x.row ∷ l) e
-    by_kind false e = ap (λ (l : List (List ℤ)). x.row ∷ l) e
-
-sum_none : (fs : List ℕ) (j : ℕ) → sum_of fs [] j ≡ pos 0
-sum_none [] j = refl
-sum_none (f ∷ fs) j = refl
-
 sum_joined : (fs : List ℕ) (rows more : List (List ℤ)) (j : ℕ) →
     sum_of fs (rows ++ more) j ≡ sum_of fs rows j +ℤ sum_of (drop (length rows) fs) more j
 sum_joined fs [] more j = ring (v (sum_of fs more j)) (v (pos 0) ⊕ v (sum_of fs more j)) (omega arith) ∙
@@ -80,7 +70,7 @@ pub with_line : (list : List Given) (r : List ℤ) (u : ℕ → ℤ) → Generat
     WithLine (system_of list) r u
 with_line list r u g =
     let p = parts (system_of list) (r ∷ negated r ∷ []) u
-    (subst (λ (l : List (List ℤ)). Generated l u) (system_joined list (line r ∷ [])) g) in
+    (subst (λ (l : List (List ℤ)). Generated l u) (system_append list (line r ∷ [])) g) in
     record {
       multiple = p.multiple;
       positive = p.positive;
@@ -171,19 +161,10 @@ pub record RowOfSum (w : ℕ) (fs : List ℕ) (rows : List (List ℤ)) : Type 0 
   pub width : length row ≡ w
   pub entries : (j : ℕ) → entry row j ≡ sum_of fs rows j
 
-pub zero_entry : (n j : ℕ) → entry (zeros n) j ≡ pos 0
-zero_entry zero j = refl
-zero_entry (suc n) zero = refl
-zero_entry (suc n) (suc j) = zero_entry n j
-
-pub zeros_width : (n : ℕ) → length (zeros n) ≡ n
-zeros_width zero = refl
-zeros_width (suc n) = ap suc (zeros_width n)
-
 pub row_of_sum : (w : ℕ) (fs : List ℕ) (rows : List (List ℤ)) → ((r : List ℤ) → Contains rows r → length r ≡ w) →
     RowOfSum w fs rows
-row_of_sum w [] rows h = record { row = zeros w; width = zeros_width w; entries = zero_entry w }
-row_of_sum w (f ∷ fs) [] h = record { row = zeros w; width = zeros_width w; entries = zero_entry w }
+row_of_sum w [] rows h = record { row = zeros w; width = zeros_length w; entries = entry_zeros w }
+row_of_sum w (f ∷ fs) [] h = record { row = zeros w; width = zeros_length w; entries = entry_zeros w }
 row_of_sum w (f ∷ fs) (r ∷ rows) h =
     let i = row_of_sum w fs rows (λ t k. h t (contains_tail r t rows k)) in
     let e : length r ≡ length i.row = h r (contains_head r rows) ∙ sym i.width in

@@ -1,13 +1,14 @@
 -- Assignments of forms that can be taken back: with 1 or -1 at the coordinate. The generators of a polyhedron are mapped
 -- by the form, its constraints by the form that takes it back, and both stay dual.
-use Rattle.std.proofs.Common.{◌≡◌, ◌≢◌, ℕ, zero, suc, ◌<◌, List, [], ◌∷◌, length, map, ap, refl, sym, ◌∙◌, subst, ℤ, pos, negsuc, neg_ℤ, ◌+ℤ◌, ◌*ℤ◌, ◌≤ℤ◌, arith, inl, inr, ◌⊎◌}
+use Rattle.std.proofs.Common.{◌≡◌, ◌≢◌, ℕ, zero, suc, ◌<◌, List, [], ◌∷◌, length, map, ap, refl, sym, ◌∙◌, subst, ℤ, pos, negsuc, neg_ℤ, ◌+ℤ◌, ◌*ℤ◌, ◌≤ℤ◌, arith, inl, inr}
 use Rattle.std.specs.Prelude.{slice_set}
-use Rattle.std.specs.List.{Contains}
+use Rattle.std.proofs.lemmas.List.{length-set}
+use Rattle.std.proofs.lemmas.Bool.{cases_eq}
 use Rattle.lra_linear.specs.Cones.{AreDual}
 use Rattle.lra_linear.specs.SetOperations.{assigned}
 use Rattle.lra_linear.specs.Vectors.{cleared, dot, entry, negated, product, substituted}
 use Rattle.lra_linear.proofs.Combinations.{generated_same}
-use Rattle.lra_linear.proofs.Membership.{contains_cases, contains_head, contains_none, contains_tail}
+use Rattle.lra_linear.proofs.Membership.{map_from, map_has}
 use Rattle.lra_linear.proofs.Products.{blend_length, dot_same, entry_blend, entry_negated, entry_set_other, entry_set_same, negated_length, product_comm, row_same}
 use Rattle.lra_linear.proofs.Ring.{ring, v, ⊖, ◌⊕◌, ◌⊗◌}
 use Rattle.lra_linear.proofs.SetOperations.{substituted_product}
@@ -15,12 +16,6 @@ use Rattle.lra_maps.specs.Moving.{TakesBack}
 use Rattle.lra_maps.proofs.MovedForms.{IsReversible}
 use Rattle.lra_maps.proofs.Sums.{IsLinear, generated_mapped}
 use Rattle.lra_maps.proofs.AssignedSets.{assigning, assigning_linear, put, put_nothing, put_plus, put_same, set_entry}
-
-pub either : (j k : ℕ) → (j ≡ k) ⊎ (j ≢ k)
-either zero zero = inl refl
-either zero (suc k) = inr (λ e. omega (arith, e))
-either (suc j) zero = inr (λ e. omega (arith, e))
-either (suc j) (suc k) = elim (either j k) [ inl e ↦ inl (ap suc e) | inr n ↦ inr (λ e. n (omega (arith, e))) ]
 
 pub put_at : (k : ℕ) (z : ℤ) (u : ℕ → ℤ) → put k z u k ≡ z
 put_at zero z u = refl
@@ -60,13 +55,8 @@ taken_forth k w f g t = record {
       ap (λ (z : ℤ). neg_ℤ (z *ℤ neg_ℤ (entry f k *ℤ entry f j))) (sym t.same) ∙ ap (λ (z : ℤ). neg_ℤ (entry g k *ℤ z)) (sym (t.others j n));
 }
 
-cleared_width : (r : List ℤ) (k : ℕ) (z : ℤ) → length (slice_set r k z) ≡ length r
-cleared_width [] k z = refl
-cleared_width (x ∷ r) zero z = refl
-cleared_width (x ∷ r) (suc k) z = ap suc (cleared_width r k z)
-
 cleared_back : (k w : ℕ) (f g : List ℤ) → TakesBack k w f g → (j : ℕ) → entry (cleared k g) j ≡ neg_ℤ (entry f k) *ℤ entry (cleared k f) j
-cleared_back k w f g t j = elim (either j k) [
+cleared_back k w f g t j = elim (cases_eq j k) [
   | inl e ↦ subst (λ (i : ℕ). entry (cleared k g) i ≡ neg_ℤ (entry f k) *ℤ entry (cleared k f) i) (sym e)
       (entry_set_same g k (pos 0) (let a = t.column in let b = t.back_width in omega (arith, a, b)) ∙ ring (v (pos 0)) (⊖ (v (entry f k)) ⊗ v (pos 0)) (omega arith) ∙
       ap (λ (z : ℤ). neg_ℤ (entry f k) *ℤ z) (sym (entry_set_same f k (pos 0) (let a = t.column in let b = t.width in omega (arith, a, b)))))
@@ -81,7 +71,7 @@ value_back k w f g t u =
     let rest = dot (cleared k f) u in
     dot_put g k (dot f u) u ∙
     ap (λ (z : ℤ). z +ℤ (entry g k *ℤ dot f u)) (scaled_dot (neg_ℤ s) (cleared k g) (cleared k f) u
-    (cleared_width g k (pos 0) ∙ t.back_width ∙ sym t.width ∙ sym (cleared_width f k (pos 0))) (cleared_back k w f g t)) ∙
+    (length-set g k (pos 0) ∙ t.back_width ∙ sym t.width ∙ sym (length-set f k (pos 0))) (cleared_back k w f g t)) ∙
     ap (λ (z : ℤ). (neg_ℤ s *ℤ rest) +ℤ (z *ℤ dot f u)) t.same ∙
     ap (λ (z : ℤ). (neg_ℤ s *ℤ rest) +ℤ (s *ℤ z)) (dot_same f u (put k (u k) u) (λ j. sym (put_itself k u j)) ∙ dot_put f k (u k) u) ∙
     ring (⊖ (v s) ⊗ v rest ⊕ v s ⊗ (v rest ⊕ v s ⊗ v (u k))) ((v s ⊗ v s) ⊗ v (u k)) (omega arith) ∙
@@ -94,7 +84,7 @@ value_back k w f g t u =
     put_itself (suc k) u (suc j) = put_itself k (λ i. u (suc i)) j
 
 assigned_back : (k w : ℕ) (f g : List ℤ) → TakesBack k w f g → (u : ℕ → ℤ) (j : ℕ) → assigning k g (assigning k f u) j ≡ u j
-assigned_back k w f g t u j = elim (either j k) [
+assigned_back k w f g t u j = elim (cases_eq j k) [
   | inl e ↦ subst (λ (i : ℕ). put k (dot g (assigning k f u)) (assigning k f u) i ≡ u i) (sym e) (put_at k (dot g (assigning k f u)) (assigning k f u) ∙ value_back k w f g t u)
   | inr n ↦ put_other k (dot g (assigning k f u)) (assigning k f u) j n ∙ put_other k (dot f u) u j n
 ]
@@ -103,8 +93,8 @@ assigned_back k w f g t u j = elim (either j k) [
 pub assigned_twice : (k w : ℕ) (f g : List ℤ) → TakesBack k w f g → (r : List ℤ) → length r ≡ w → assigned k g (assigned k f r) ≡ r
 assigned_twice k w f g t r l =
     let a = t.column in
-    let wide : length (assigned k f r) ≡ length r = cleared_width r k (product f r) in
-    row_same (assigned k g (assigned k f r)) r (cleared_width (assigned k f r) k (product g (assigned k f r)) ∙ wide) (λ j.
+    let wide : length (assigned k f r) ≡ length r = length-set r k (product f r) in
+    row_same (assigned k g (assigned k f r)) r (length-set (assigned k f r) k (product g (assigned k f r)) ∙ wide) (λ j.
     set_entry k (product g (assigned k f r)) (assigned k f r) (omega (arith, l, a, wide)) j ∙
     (assigning_linear k g).same (entry (assigned k f r)) (assigning k f (entry r)) (λ i. set_entry k (product f r) r (omega (arith, l, a)) i) j ∙ assigned_back k w f g t (entry r) j)
 
@@ -133,7 +123,7 @@ substituting_linear k g = record {
 
 pub substituted_entry : (k : ℕ) (g r : List ℤ) → k < length r → length r ≡ length g → (j : ℕ) → entry (substituted k g r) j ≡ substituting k g (entry r) j
 substituted_entry k g r h l j =
-    entry_blend (pos 1) (entry r k) (cleared k r) g (cleared_width r k (pos 0) ∙ l) j ∙
+    entry_blend (pos 1) (entry r k) (cleared k r) g (length-set r k (pos 0) ∙ l) j ∙
     ap (λ (z : ℤ). (pos 1 *ℤ z) +ℤ (entry r k *ℤ entry g j)) (set_entry k (pos 0) r h j) ∙
     ring (v (pos 1) ⊗ v (put k (pos 0) (entry r) j) ⊕ v (entry r k) ⊗ v (entry g j)) (v (put k (pos 0) (entry r) j) ⊕ v (entry r k) ⊗ v (entry g j)) (omega arith)
 
@@ -143,7 +133,7 @@ substituted_back k w f g t u j =
     let s = entry f k in
     let here : substituting k f u k ≡ u k *ℤ s = ap (λ (z : ℤ). z +ℤ (u k *ℤ s)) (put_at k (pos 0) u) ∙ ring (v (pos 0) ⊕ v (u k) ⊗ v s) (v (u k) ⊗ v s) (omega arith) in
     ap (λ (z : ℤ). put k (pos 0) (substituting k f u) j +ℤ (z *ℤ entry g j)) here ∙
-    elim (either j k) [
+    elim (cases_eq j k) [
       | inl e ↦ subst (λ (i : ℕ). put k (pos 0) (substituting k f u) i +ℤ ((u k *ℤ s) *ℤ entry g i) ≡ u i) (sym e)
           (ap (λ (z : ℤ). z +ℤ ((u k *ℤ s) *ℤ entry g k)) (put_at k (pos 0) (substituting k f u)) ∙ ap (λ (z : ℤ). pos 0 +ℤ ((u k *ℤ s) *ℤ z)) t.same ∙
           ring (v (pos 0) ⊕ (v (u k) ⊗ v s) ⊗ v s) (v (u k) ⊗ (v s ⊗ v s)) (omega arith) ∙ ap (λ (z : ℤ). u k *ℤ z) t.unit ∙ ring (v (u k) ⊗ v (pos 1)) (v (u k)) (omega arith))
@@ -166,36 +156,22 @@ substituted_reversible k w f g t = record {
 }
 
 -- ---- both lists
-pub mapped_from : (m : List ℤ → List ℤ) (rows : List (List ℤ)) (t : List ℤ) → Contains (map m rows) t → (r : List ℤ) × Contains rows r × (m r ≡ t)
-mapped_from m [] t k = absurd (contains_none t k)
-mapped_from m (x ∷ rows) t k = elim (contains_cases (m x) t (map m rows) k) [
-  | inl e ↦ (x, contains_head x rows, e)
-  | inr n ↦ let i = mapped_from m rows t n in (i.0, contains_tail x i.0 rows i.1, i.2)
-]
-
-pub mapped_has : (m : List ℤ → List ℤ) (rows : List (List ℤ)) (r : List ℤ) → Contains rows r → Contains (map m rows) (m r)
-mapped_has m [] r k = absurd (contains_none r k)
-mapped_has m (x ∷ rows) r k = elim (contains_cases x r rows k) [
-  | inl e ↦ subst (λ (y : List ℤ). Contains (map m (x ∷ rows)) (m y)) e (contains_head (m x) (map m rows))
-  | inr n ↦ contains_tail (m x) (m r) (map m rows) (mapped_has m rows r n)
-]
-
 -- an assignment leaves column 0 as it is
 pub first_stays : (k : ℕ) (f r : List ℤ) → 0 < k → entry (assigned k f r) 0 ≡ entry r 0
 first_stays k f r above = entry_set_other r k 0 (product f r) (λ e. omega (arith, e, above))
 
 pub assigned_width : (k : ℕ) (f r : List ℤ) → length (assigned k f r) ≡ length r
-assigned_width k f r = cleared_width r k (product f r)
+assigned_width k f r = length-set r k (product f r)
 
 pub substituted_width : (k : ℕ) (g r : List ℤ) → length r ≡ length g → length (substituted k g r) ≡ length r
-substituted_width k g r l = blend_length (pos 1) (entry r k) (cleared k r) g (cleared_width r k (pos 0) ∙ l) ∙ cleared_width r k (pos 0)
+substituted_width k g r l = blend_length (pos 1) (entry r k) (cleared k r) g (length-set r k (pos 0) ∙ l) ∙ length-set r k (pos 0)
 
 -- the mapped system and the mapped rows are dual again
 pub dual_moved : (k w : ℕ) (f g : List ℤ) (system rows : List (List ℤ)) → TakesBack k w f g → AreDual w system rows → AreDual w (map (substituted k g) system) (map (assigned k f) rows)
 dual_moved k w f g system rows t d = record {
-  system_widths = λ c m. let i = mapped_from (substituted k g) system c m in
+  system_widths = λ c m. let i = map_from (substituted k g) system c m in
       ap length (sym i.2) ∙ substituted_width k g i.0 (d.system_widths i.0 i.1 ∙ sym t.back_width) ∙ d.system_widths i.0 i.1;
-  row_widths = λ r m. let i = mapped_from (assigned k f) rows r m in ap length (sym i.2) ∙ assigned_width k f i.0 ∙ d.row_widths i.0 i.1;
+  row_widths = λ r m. let i = map_from (assigned k f) rows r m in ap length (sym i.2) ∙ assigned_width k f i.0 ∙ d.row_widths i.0 i.1;
   solutions = λ u l s.
       let y = assigned k g u in
       let wide : length y ≡ w = assigned_width k g u ∙ l in
@@ -203,7 +179,7 @@ dual_moved k w f g system rows t d = record {
       (λ j. (assigning_linear k f).same (entry y) (assigning k g (entry u)) (λ i. set_entry k (product g u) u (low u l) i) j ∙ assigned_back k w g f (taken_forth k w f g t) (entry u) j)
       (generated_mapped (assigning k f) (assigning_linear k f) (assigned k f) rows (entry y) (λ r m j. set_entry k (product f r) r (low r (d.row_widths r m)) j)
       (d.solutions y wide (λ c m. subst (λ (z : ℤ). pos 0 ≤ℤ z) (substituted_product k g c u (d.system_widths c m ∙ sym t.back_width) (low u l))
-      (s (substituted k g c) (mapped_has (substituted k g) system c m)))));
+      (s (substituted k g c) (map_has (substituted k g) system c m)))));
   consequences = λ c l s.
       let y = substituted k f c in
       let wide : length y ≡ w = substituted_width k f c (l ∙ sym t.width) ∙ l in
@@ -213,10 +189,10 @@ dual_moved k w f g system rows t d = record {
       (λ r m j. substituted_entry k g r (low r (d.system_widths r m)) (d.system_widths r m ∙ sym t.back_width) j)
       (d.consequences y wide (λ r m. subst (λ (z : ℤ). pos 0 ≤ℤ z)
       (product_comm (assigned k f r) c ∙ sym (substituted_product k f c r (l ∙ sym t.width) (low r (d.row_widths r m))) ∙ product_comm (substituted k f c) r)
-      (s (assigned k f r) (mapped_has (assigned k f) rows r m)))));
+      (s (assigned k f r) (map_has (assigned k f) rows r m)))));
   meets = λ r m c n.
-      let i = mapped_from (assigned k f) rows r m in
-      let o = mapped_from (substituted k g) system c n in
+      let i = map_from (assigned k f) rows r m in
+      let o = map_from (substituted k g) system c n in
       subst (λ (y : List ℤ). pos 0 ≤ℤ product c y) i.2 (subst (λ (y : List ℤ). pos 0 ≤ℤ product y (assigned k f i.0)) o.2
       (subst (λ (z : ℤ). pos 0 ≤ℤ z) (sym (met o.0 i.0 (d.system_widths o.0 o.1) (d.row_widths i.0 i.1))) (d.meets i.0 i.1 o.0 o.1)));
 }
@@ -247,7 +223,7 @@ pub one_back : (k w : ℕ) (f : List ℤ) → k < w → length f ≡ w → entry
 one_back k w f h l e = record {
   column = h;
   width = l;
-  back_width = cleared_width (negated f) k (pos 1) ∙ negated_length f ∙ l;
+  back_width = length-set (negated f) k (pos 1) ∙ negated_length f ∙ l;
   unit = ap (λ (z : ℤ). z *ℤ z) e;
   same = entry_set_same (negated f) k (pos 1) (let n = negated_length f in omega (arith, n, l, h)) ∙ sym e;
   others = λ j n. entry_set_other (negated f) k j (pos 1) n ∙ entry_negated f j ∙ ap neg_ℤ (ring (v (entry f j)) (v (pos 1) ⊗ v (entry f j)) (omega arith)) ∙

@@ -33,7 +33,7 @@ fn first_rows(alloc: Global, list: &ConSys, count: usize) -> Result<ConSys, Allo
     let mut chosen = ConSys::new(alloc, n);
     let (rows, kinds) = (list.rows(), list.kinds());
     for place in 0..count {
-        chosen.push(rows[place].copy()?, kinds[place])?;
+        chosen.push_copy(&rows[place], kinds[place])?;
     }
     Ok(chosen)
 }

@@ -6,7 +6,8 @@ use Rattle.lra_linear.specs.Points.{IsWithin}
 use Rattle.lra_linear.specs.Polyhedra.{IsPolyhedronOf}
 use Rattle.lra_sys.specs.Listed.{generators}
 use Rattle.lra_poly.specs.Outcomes.{IfExact, IfFlagged}
-use Rattle.lra_maps.proofs.ElapsedSets.{elapse_exact, elapse_strain, elapse_within, list_is, point_of}
+use Rattle.lra_poly.proofs.PolyLemmas.{with_point}
+use Rattle.lra_maps.proofs.ElapsedSets.{elapse_exact, elapse_strain, elapse_within, list_is}
 use Rattle.lra_maps.proofs.maps.elapse.Goals as goal
 
 pub returns-clause-exact : goal.returns-clause-exact
@@ -20,8 +21,8 @@ returns-clause-exact c =
     c.generators.ensures.generators c.generators-2.ensures.generators in
     let d : c.in_ok-list.list.dims ≡ p.dims = c.in_ok-list.ensures.dims ∙ c.generators.ensures.dims in
     elapse_exact p q c.replace.new.p list c.in_ok-outcome.outcome
-    (point_of p c.generators.ensures.canonical c.requires.first)
-    (point_of q c.generators-2.ensures.canonical c.requires.second)
+    (with_point p c.generators.ensures.canonical c.requires.first)
+    (with_point q c.generators-2.ensures.canonical c.requires.second)
     c.requires.dims e (subst (λ (n : ℕ). IfExact (IsPolyhedronOf n (Gen list) c.replace.new.p) c.in_ok-outcome.outcome)
     d c.in_ok-outcome.ensures.exact)
 
@@ -49,7 +50,7 @@ returns-clause-strain c =
     (generators c.generators-2.result.now) list c.in_ok-list.ensures.generators
     c.generators.ensures.generators c.generators-2.ensures.generators in
     let d : c.in_ok-list.list.dims ≡ p.dims = c.in_ok-list.ensures.dims ∙ c.generators.ensures.dims in
-    elapse_strain p q list c.in_ok-outcome.outcome (point_of p c.generators.ensures.canonical c.requires.first)
-    (point_of q c.generators-2.ensures.canonical c.requires.second) c.requires.dims e
+    elapse_strain p q list c.in_ok-outcome.outcome (with_point p c.generators.ensures.canonical c.requires.first)
+    (with_point q c.generators-2.ensures.canonical c.requires.second) c.requires.dims e
     (subst (λ (n : ℕ). IfFlagged (FromGeneratorsStrains n list) c.in_ok-outcome.outcome) d
     c.in_ok-outcome.ensures.strain)
