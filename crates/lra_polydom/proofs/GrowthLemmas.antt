@@ -2,7 +2,7 @@
 use Rattle.std.proofs.Common.{◌≡◌, ◌≢◌, ◌∙◌, ℕ, ℤ, Bool, true, false, ◌⊎◌, List, [], ◌∷◌, ◌++◌, inl, inr, sym, refl, subst}
 use Rattle.std.specs.Prelude.{◌||◌, IsTrue}
 use Rattle.std.specs.List.{Contains}
-use Rattle.std.proofs.lemmas.Bool.{false≢true}
+use Rattle.std.proofs.lemmas.Bool.{false≢true, or_parts}
 use Rattle.std.proofs.lemmas.List.Elements.{Contains-append_right}
 use Rattle.lra_domain.specs.Meaning.{Grew}
 use Rattle.lra_domain.specs.Rank.{RankBelow}
@@ -37,7 +37,7 @@ use Rattle.lra_polydom.specs.Meaning.{polyhedron_meaning}
 use Rattle.lra_polydom.specs.Sets.{IsJoin, hull_of}
 use Rattle.lra_polydom.proofs.ChangeLemmas.{left_in_hull, right_in_hull}
 use Rattle.lra_polydom.proofs.OutcomeLemmas.{of_exact, of_flagged}
-use Rattle.lra_polydom.proofs.StrikeLemmas.{kept_valid, neither, some_product}
+use Rattle.lra_polydom.proofs.StrikeLemmas.{kept_valid, some_product}
 use Rattle.lra_polydom.proofs.UniverseLemmas.{all_no_row, up_falls}
 
 -- ---- joins
@@ -131,7 +131,7 @@ left_is : (mode : Mode) (p r : Polyhedron) (given : List Given) → mode ≢ how
 left_is how.Join p r given other none = absurd (other refl)
 left_is how.Widen p r given other none = refl
 left_is how.Limited p r given other none =
-    let n = neither (some_passes p.generators given) (some_passes r.generators given) (not_true (some_passes p.generators given || some_passes r.generators given) none) in
+    let n = or_parts (some_passes p.generators given) (some_passes r.generators given) (not_true (some_passes p.generators given || some_passes r.generators given) none) in
     kept_valid p r given n.0 n.1
 
 -- what the code finds

@@ -1,7 +1,7 @@
 mod ListLemmas
 mod OutcomeLemmas
 mod ChangeLemmas
-mod PartLemmas
+pub mod PartLemmas
 mod UniverseLemmas
 mod StrikeLemmas
 pub mod InsideLemmas

@@ -1,6 +1,6 @@
 -- Lists gone through place by place.
-use Rattle.std.proofs.Common.{◌≡◌, ◌∙◌, ◌<◌, ◌≤◌, ℕ, zero, suc, ℤ, Bool, true, false, List, [], ◌∷◌, length, ap, sym, refl, arith}
-use Rattle.std.specs.Prelude.{◌↔◌, ◌||◌, slice_index_or, IsTrue}
+use Rattle.std.proofs.Common.{◌≡◌, ◌∙◌, ℤ, Bool, true, false, List, [], ◌∷◌, length, ap, sym, refl, arith}
+use Rattle.std.specs.Prelude.{◌↔◌, ◌||◌, IsTrue}
 use Rattle.std.proofs.lemmas.Bool.{false≢true}
 use Rattle.std.specs.List.{list_any}
 use Rattle.lra_linear.specs.Descriptions.{Given}
@@ -15,12 +15,6 @@ pub any_given : {K : Type 0} (equal : K → Bool) (f : List ℤ → Bool) (rows 
 any_given equal f [] kinds e = refl
 any_given equal f (r ∷ rows) [] e = let wrong : ⊥ = cc in absurd wrong
 any_given equal f (r ∷ rows) (k ∷ kinds) e = ap (λ (b : Bool). f r || b) (any_given equal f rows kinds (omega (arith, e)))
-
--- none of the first ones passes it
-pub none_among : {A : Type 0} (t : A → Bool) (xs : List A) (k : ℕ) → length xs ≤ k → ((j : ℕ) (d : A) → j < k → j < length xs → t (slice_index_or xs j d) ≡ false) → false ≡ list_any t xs
-none_among t [] k h all = refl
-none_among t (x ∷ xs) zero h all = absurd (omega (arith, h))
-none_among t (x ∷ xs) (suc k) h all = rw (all 0 x (omega arith) (omega arith)) (none_among t xs k (omega (arith, h)) (λ j d l m. all (suc j) d (omega (arith, l)) (omega (arith, m))))
 
 -- ---- equal lists
 pub same_given : (rows others : List (List ℤ)) (kinds more : List ConKind) → length kinds ≡ length rows → length more ≡ length others →

@@ -16,7 +16,7 @@ use Rattle.lra_polydom.specs.Content.{PolyhedronHas, is_absurd, listed, polyhedr
 use Rattle.lra_polydom.specs.Covering.{empty_parts, parts_empty, store_point}
 
 -- ---- the list whose constraints they are
-kind_back : (kind : ConKind) → constraint_kind (is_equality kind) ≡ kind
+pub kind_back : (kind : ConKind) → constraint_kind (is_equality kind) ≡ kind
 kind_back con.Ge = refl
 kind_back con.Eq = refl
 

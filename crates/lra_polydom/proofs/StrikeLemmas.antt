@@ -1,7 +1,8 @@
 -- Given rows that are struck for their products: where no product passes, what is kept are the rows that are valid on both.
 use Rattle.std.proofs.Common.{◌≡◌, ◌∙◌, Bool, true, false, cond, List, [], ◌∷◌, Result, Ok, Err, ap, refl}
-use Rattle.std.specs.Prelude.{◌&&◌, ◌||◌, not}
+use Rattle.std.specs.Prelude.{◌&&◌, not}
 use Rattle.std.specs.List.{list_all}
+use Rattle.std.proofs.lemmas.Bool.{or_parts}
 use Rattle.lra_linear.specs.declared.Excess as E
 use Rattle.lra_linear.specs.CheckedArithmetic.{checked_product}
 use Rattle.lra_linear.specs.Descriptions.{Given}
@@ -13,11 +14,6 @@ use Rattle.lra_widen.proofs.Counting.{any_said}
 use Rattle.lra_polydom.specs.Growth.{row_passes, some_passes}
 
 -- ---- where none passes
-pub neither : (a b : Bool) → (a || b) ≡ false → (a ≡ false) × (b ≡ false)
-neither false false e = (refl, refl)
-neither false true e = let wrong : ⊥ = cc in absurd wrong
-neither true b e = let wrong : ⊥ = cc in absurd wrong
-
 tests_alike : (f h : Bool) → not f ≡ false → (f && h) ≡ h
 tests_alike true h e = refl
 tests_alike false h e = let wrong : ⊥ = cc in absurd wrong
@@ -26,15 +22,15 @@ in_range_alike : (generators : List Given) (r : Given) → row_passes generators
     list_all (λ g. fits (checked_product r.row g.row) && holds_with r g) generators ≡ list_all (holds_with r) generators
 in_range_alike [] r e = refl
 in_range_alike (g ∷ generators) r e =
-    let n = neither (not (fits (checked_product r.row g.row))) (row_passes generators r.row) e in
+    let n = or_parts (not (fits (checked_product r.row g.row))) (row_passes generators r.row) e in
     ap (λ (b : Bool). b && list_all (λ k. fits (checked_product r.row k.row) && holds_with r k) generators) (tests_alike (fits (checked_product r.row g.row)) (holds_with r g) n.0) ∙
     ap (λ (b : Bool). holds_with r g && b) (in_range_alike generators r n.1)
 
 pub kept_valid : (p r : Polyhedron) (given : List Given) → some_passes p.generators given ≡ false → some_passes r.generators given ≡ false → kept p r given ≡ valid_on p r given
 kept_valid p r [] e f = refl
 kept_valid p r (g ∷ given) e f =
-    let n = neither (row_passes p.generators g.row) (some_passes p.generators given) e in
-    let m = neither (row_passes r.generators g.row) (some_passes r.generators given) f in
+    let n = or_parts (row_passes p.generators g.row) (some_passes p.generators given) e in
+    let m = or_parts (row_passes r.generators g.row) (some_passes r.generators given) f in
     ap (λ (b : Bool). cond (b && holds_in_range r g) (g ∷ kept p r given) (kept p r given)) (in_range_alike p.generators g n.0) ∙
     ap (λ (b : Bool). cond (is_valid p g && b) (g ∷ kept p r given) (kept p r given)) (in_range_alike r.generators g m.0) ∙
     ap (λ l. cond (is_valid p g && is_valid r g) (g ∷ l) l) (kept_valid p r given n.1 m.1)

@@ -1,5 +1,5 @@
 -- The polyhedron of all points has no constraint. So a polyhedron with one is another, and its rank falls where it is given up.
-use Rattle.std.proofs.Common.{◌≡◌, ◌≢◌, ◌∙◌, ◌<◌, ◌≤◌, ℕ, zero, suc, ℤ, pos, ◌+ℤ◌, ◌*ℤ◌, ◌<ℤ◌, List, [], ◌∷◌, length, true, false, inl, inr, ap, sym, refl, subst, arith}
+use Rattle.std.proofs.Common.{◌≡◌, ◌≢◌, ◌∙◌, ◌<◌, ◌≤◌, ℕ, suc, ℤ, pos, ◌+ℤ◌, ◌*ℤ◌, ◌<ℤ◌, List, [], length, true, false, inl, inr, ap, sym, subst, arith}
 use Rattle.std.proofs.Math.ListN.{length-set}
 use Rattle.std.proofs.lemmas.Int.{ints}
 use Rattle.std.proofs.lemmas.Bool.{cases_lt}
@@ -11,38 +11,24 @@ use Rattle.lra_linear.specs.Descriptions.{Con, Given, Holds, HoldsWith, given_as
 use Rattle.lra_linear.specs.Echelon.{pivot}
 use Rattle.lra_linear.specs.Points.{IsPoint}
 use Rattle.lra_linear.specs.Polyhedra.{HasPoint, IsPolyhedron, IsPolyhedronOf, Polyhedron, positivity}
-use Rattle.lra_linear.specs.Vectors.{cleared, entry, product, zeros}
+use Rattle.lra_linear.specs.Vectors.{cleared, entry, product}
 use Rattle.lra_linear.proofs.Descriptions.{con_none}
-use Rattle.lra_linear.proofs.Lines.{in_lines}
+use Rattle.lra_linear.proofs.Lines.{in_lines, zeros_length}
 use Rattle.lra_linear.proofs.Membership.{contains_none}
 use Rattle.lra_linear.proofs.OneSpelling.{given_from, positivity_product}
 use Rattle.lra_linear.proofs.Pivots.{echelon_pivot, echelon_positive}
 use Rattle.lra_linear.proofs.Products.{entry_past, entry_set_other, product_comm}
 use Rattle.lra_linear.proofs.Ring.{ring, v, ◌⊕◌, ◌⊗◌}
 use Rattle.lra_linear.proofs.Signs.{not_both}
+use Rattle.lra_linear.proofs.SetOperations.{product_set}
+use Rattle.lra_pair.proofs.PairLists.{origin}
 use Rattle.lra_poly.proofs.PolyLemmas.{falsity_is_empty}
 use Rattle.lra_widen.specs.Rank.{Falls}
 use Rattle.lra_widen.specs.Widenings.{HaveColumns}
 use Rattle.lra_widen.proofs.Facets.{facet_row, no_pivot_first}
 use Rattle.lra_widen.proofs.RankLaw.{rank_falls}
 
--- ---- products with a row one entry of which is put in
-product_set : (r x : List ℤ) (k : ℕ) (z : ℤ) → k < length x → product r (slice_set x k z) ≡ product (cleared k r) x +ℤ (entry r k *ℤ z)
-product_set [] x k z h = ring (v (pos 0)) (v (pos 0) ⊕ v (pos 0) ⊗ v z) (omega arith)
-product_set (c ∷ cs) [] k z h = absurd (omega (arith, h))
-product_set (c ∷ cs) (y ∷ ys) zero z h = ring (v c ⊗ v z ⊕ v (product cs ys)) ((v (pos 0) ⊗ v y ⊕ v (product cs ys)) ⊕ v c ⊗ v z) (omega arith)
-product_set (c ∷ cs) (y ∷ ys) (suc k) z h =
-    ap (λ a. (c *ℤ y) +ℤ a) (product_set cs ys k z (omega (arith, h))) ∙
-    ring (v c ⊗ v y ⊕ (v (product (cleared k cs) ys) ⊕ v (entry cs k) ⊗ v z)) ((v c ⊗ v y ⊕ v (product (cleared k cs) ys)) ⊕ v (entry cs k) ⊗ v z) (omega arith)
-
-zeros_length : (n : ℕ) → length (zeros n) ≡ n
-zeros_length zero = refl
-zeros_length (suc n) = ap suc (zeros_length n)
-
 -- ---- no equality holds at all points
-origin : (n : ℕ) → IsPoint n (positivity n)
-origin n = record { width = ap suc (zeros_length n); divisor = omega (arith, ints) }
-
 -- the point with 1 as one coordinate and 0 as the others
 one_along : (n q : ℕ) → q ≢ 0 → IsPoint n (slice_set (positivity n) q (pos 1))
 one_along n q other = record {

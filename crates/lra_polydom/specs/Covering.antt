@@ -1,6 +1,7 @@
 -- Lemmas on parts and on what covers what.
 use Rattle.std.proofs.Common.{◌≡◌, ◌∙◌, ◌≤◌, ℕ, zero, suc, ℤ, pos, neg_ℤ, ◌+ℤ◌, ◌*ℤ◌, ◌<ℤ◌, ◌≤ℤ◌, Bool}
 use Rattle.std.proofs.Common.{true, false, cond, ◌⊎◌, inl, inr, List, [], ◌∷◌, length, ap, sym, refl, subst, arith}
+use Rattle.std.proofs.lemmas.Bool.{and_parts}
 use Rattle.std.proofs.lemmas.Int.{ints}
 use Rattle.std.specs.Prelude.{◌||◌, int_le, not}
 use Rattle.std.specs.Cmp.{signed_Decides}
@@ -11,7 +12,7 @@ use Rattle.lra_linear.specs.Points.{IsEmptySet, IsPoint, IsWithin, PointSet}
 use Rattle.lra_linear.specs.Polyhedra.{HasPoint, IsPolyhedron, Polyhedron, falsity}
 use Rattle.lra_linear.specs.SetOperations.{Hull}
 use Rattle.lra_linear.specs.Vectors.{dot, entry, negated, product, zeros}
-use Rattle.lra_linear.proofs.Membership.{both_true, contains_none}
+use Rattle.lra_linear.proofs.Membership.{contains_none}
 use Rattle.lra_linear.proofs.Products.{negated_dot, product_none}
 use Rattle.lra_linear.proofs.Ring.{ring, v, ⊖, ◌⊕◌, ◌⊗◌}
 use Rattle.lra_linear.proofs.SetOperations.{has_vertex}
@@ -27,7 +28,7 @@ use Rattle.lra_polydom.specs.Sets.{IsJoin}
 flat_dot : (cs : List ℤ) (u : ℕ → ℤ) → list_all (λ x. int_eq x (pos 0)) cs ≡ true → dot cs u ≡ pos 0
 flat_dot [] u h = refl
 flat_dot (c ∷ cs) u h =
-    let b = both_true (int_eq c (pos 0)) (list_all (λ x. int_eq x (pos 0)) cs) h in
+    let b = and_parts (int_eq c (pos 0)) (list_all (λ x. int_eq x (pos 0)) cs) h in
     ap (λ y. (y *ℤ u 0) +ℤ dot cs (λ j. u (suc j))) ((signed_Decides c (pos 0)).0 b.0) ∙
     ap (λ y. (pos 0 *ℤ u 0) +ℤ y) (flat_dot cs (λ j. u (suc j)) b.1) ∙
     ring (v (pos 0) ⊗ v (u 0) ⊕ v (pos 0)) (v (pos 0)) (omega arith)
@@ -42,7 +43,7 @@ below_zero c h = let e : false ≡ int_le (pos 0) c = sym (not_said (int_le (pos
 negative_product : (c x : List ℤ) → is_negative c ≡ true → pos 0 <ℤ entry x 0 → ¬ (pos 0 ≤ℤ product c x)
 negative_product [] x h d k = let wrong : ⊥ = cc in absurd wrong
 negative_product (c ∷ cs) x h d k =
-    let b = both_true (not (int_le (pos 0) c)) (list_all (λ y. int_eq y (pos 0)) cs) h in
+    let b = and_parts (not (int_le (pos 0) c)) (list_all (λ y. int_eq y (pos 0)) cs) h in
     let up = times_positive (neg_ℤ c) (entry x 0) (below_zero c b.0) d in
     let flat = flat_dot cs (λ j. entry x (suc j)) b.1 in
     let is : (c *ℤ entry x 0) +ℤ dot cs (λ j. entry x (suc j)) ≡ neg_ℤ (neg_ℤ c *ℤ entry x 0) =
@@ -56,7 +57,7 @@ negative_product (c ∷ cs) x h d k =
 pub absurd_empty : (n : ℕ) (rows : List Given) → list_any is_absurd rows ≡ true → IsEmptySet n (Con rows)
 absurd_empty n rows e x i c =
     let r = any_said is_absurd rows e in
-    let b = both_true (not r.0.equal) (is_negative r.0.row) r.2 in
+    let b = and_parts (not r.0.equal) (is_negative r.0.row) r.2 in
     negative_product r.0.row x b.1 i.divisor (as_inequality r.0.equal (product r.0.row x) b.0 (c r.0 r.1))
   where
     as_inequality : (b : Bool) (z : ℤ) → not b ≡ true → HoldsWith b z → pos 0 ≤ℤ z
