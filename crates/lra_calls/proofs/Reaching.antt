@@ -1,75 +1,21 @@
 -- What is come to by places is what functions reach; what the first call that comes back says of the source.
-use Rattle.std.proofs.Common.{◌≡◌, ℕ, suc, ◌+◌, ◌<◌, ◌≤◌, List, [], ◌∷◌, ◌++◌, length, map, take, drop, Option, Some, None, slice_get, option_to_list, refl, sym, ap, ◌∙◌, subst, arith, append_assoc}
+use Rattle.std.proofs.Common.{◌≡◌, ℕ, suc, ◌+◌, ◌<◌, ◌≤◌, List, [], ◌∷◌, ◌++◌, length, map, take, drop, Some, slice_get, refl, sym, ap, ◌∙◌, subst, arith, append_assoc}
 use Rattle.std.proofs.Common.{append-nil}
 use Rattle.std.specs.List.{Contains, AllByRecursion}
 use Rattle.std.proofs.lemmas.List.{map-append, length-map, take_all}
 use Rattle.std.proofs.lemmas.Option.{slice_get_within}
 use Rattle.lra_base.specs.declared.refusals.Place.{Place}
 use Rattle.lra_tree.specs.declared.trees.Identifier.{Identifier}
-use Rattle.lra_tree.specs.Trees.{AssignTree, DeclaratorTree, InitTree, no_init, declared, assigned, StmtTree, block, nothing, assign, call, if_only, if_else, while, for, break, continue, return}
-use Rattle.lra_tree.specs.Trees.{assert, assume, ItemsTree, no_items, declaration, statement, FunctionTree, FileTree}
+use Rattle.lra_tree.specs.Trees.{FunctionTree, FileTree}
 use Rattle.lra_tree.specs.Functions.{functions_of}
-use Rattle.lra_tree.specs.Labels.{Labelled, with_names, declarator_labels, init_labels, step_labels, stmt_labels, items_labels, live_in_for, called_of, called_by}
-use Rattle.lra_tree.specs.Reach.{called_names, calls_of, IsCalling, ReachesByCalls, there, by_call, calls_in, IsRecursive, IsFirstRecursive, NotRecursive}
+use Rattle.lra_tree.specs.Reach.{calls_of, IsCalling, ReachesByCalls, there, by_call, calls_in, IsRecursive, IsFirstRecursive, NotRecursive}
 use Rattle.lra_calls.specs.declared.called.Caller.{Caller as CodeCaller}
-use Rattle.lra_calls.specs.Called.{Caller, caller_of, caller_view, declarators_calls, init_calls, step_calls, stmt_calls, items_calls}
+use Rattle.lra_calls.specs.Called.{Caller, caller_of, caller_view}
 use Rattle.lra_calls.specs.Places.{places_of, row_at, rows_of}
 use Rattle.lra_calls.specs.Search.{Comes, begins, goes_on}
 use Rattle.lra_calls.specs.Recursion.{IsBack, IsFirstBack}
 use Rattle.lra_calls.proofs.Elements.{in_at, at_in, same_at, mapped_at, from_mapped, split_at, one_more, all_append, all_map, all_at}
 use Rattle.lra_calls.proofs.Placing.{named_at, place_in, row_in, in_row}
-
--- the called names among the labels ----------------------------------------------------------------------------------
-
-names_both : (a b : List Labelled) → called_names (a ++ b) ≡ called_names a ++ called_names b
-names_both [] b = refl
-names_both (l ∷ a) b = ap (λ x. option_to_list l.called ++ x) (names_both a b) ∙ sym (append_assoc (option_to_list l.called) (called_names a) (called_names b))
-
-names_of_both : (a b : List Labelled) (x y : List Identifier) → called_names a ≡ x → called_names b ≡ y → called_names (a ++ b) ≡ x ++ y
-names_of_both a b x y e f = let h = names_both a b in cc
-
-names_of_declarators : (live : List (List ℕ)) (ds : List DeclaratorTree) → called_names (declarator_labels live ds) ≡ declarators_calls ds
-names_of_declarators live [] = refl
-names_of_declarators live (d ∷ ds) = ap (λ x. option_to_list (called_of d.rvalue) ++ x) (names_of_declarators (live ++ d.name.word ∷ []) ds)
-
-names_of_init : (live : List (List ℕ)) (i : InitTree) → called_names (init_labels live i) ≡ init_calls i
-names_of_init live no_init = refl
-names_of_init live (declared d) = names_of_declarators live (d.first ∷ d.rest)
-names_of_init live (assigned a) = append-nil (option_to_list (called_by a))
-
-names_of_step : (live : List (List ℕ)) (e : Option AssignTree) → called_names (step_labels live e) ≡ step_calls e
-names_of_step live None = refl
-names_of_step live (Some a) = append-nil (option_to_list (called_by a))
-
-mutual
-  names_of_stmt : (live : List (List ℕ)) (t : StmtTree) → called_names (stmt_labels live t) ≡ stmt_calls t
-  names_of_stmt live (block items end) = names_of_items live items end
-  names_of_stmt live (nothing at) = refl
-  names_of_stmt live (assign a) = append-nil (option_to_list (called_by a))
-  names_of_stmt live (call c) = refl
-  names_of_stmt live (if_only at c t) = names_of_stmt live t
-  names_of_stmt live (if_else at c t e) = names_of_both (stmt_labels live t) (stmt_labels live e) (stmt_calls t) (stmt_calls e) (names_of_stmt live t) (names_of_stmt live e)
-  names_of_stmt live (while at c b) = names_of_stmt live b
-  names_of_stmt live (for at i c e b) =
-      let inside = live_in_for live i in
-      names_of_both (init_labels live i ++ step_labels inside e) (stmt_labels inside b) (init_calls i ++ step_calls e) (stmt_calls b)
-      (names_of_both (init_labels live i) (step_labels inside e) (init_calls i) (step_calls e) (names_of_init live i) (names_of_step inside e)) (names_of_stmt inside b)
-  names_of_stmt live (break at) = refl
-  names_of_stmt live (continue at) = refl
-  names_of_stmt live (return at e) = append-nil (option_to_list (called_of e))
-  names_of_stmt live (assert at c) = refl
-  names_of_stmt live (assume at c) = refl
-
-  names_of_items : (live : List (List ℕ)) (items : ItemsTree) (end : Place) → called_names (items_labels live items end) ≡ items_calls items
-  names_of_items live no_items end = refl
-  names_of_items live (declaration d items) end =
-      names_of_both (declarator_labels live (d.first ∷ d.rest)) (items_labels (with_names live (d.first ∷ d.rest)) items end) (declarators_calls (d.first ∷ d.rest)) (items_calls items)
-      (names_of_declarators live (d.first ∷ d.rest)) (names_of_items (with_names live (d.first ∷ d.rest)) items end)
-  names_of_items live (statement t items) end =
-      names_of_both (stmt_labels live t) (items_labels live items end) (stmt_calls t) (items_calls items) (names_of_stmt live t) (names_of_items live items end)
-
-calls_told : (f : FunctionTree) → calls_of f ≡ (caller_of f).calls
-calls_told f = names_of_items (map (λ (p : Identifier). p.word) f.parameters) f.body f.end
 
 -- each call of the functions in text order: the name of the function that holds it, and the called name
 abbrev pub calls_from : List Caller → List (List ℕ × Identifier)
@@ -78,8 +24,7 @@ calls_from (c ∷ cs) = map (λ (x : Identifier). (c.name, x)) c.calls ++ calls_
 
 calls_all : (fs : List FunctionTree) → calls_in fs ≡ calls_from (map caller_of fs)
 calls_all [] = refl
-calls_all (f ∷ fs) =
-    ap (λ xs. map (λ (c : Identifier). (f.name.word, c)) xs ++ calls_in fs) (calls_told f) ∙ ap (λ y. map (λ (c : Identifier). (f.name.word, c)) (caller_of f).calls ++ y) (calls_all fs)
+calls_all (f ∷ fs) = ap (λ y. map (λ (c : Identifier). (f.name.word, c)) (calls_of f) ++ y) (calls_all fs)
 
 -- what a place comes to, its function is reached by -------------------------------------------------------------------
 
@@ -102,7 +47,7 @@ calling t j k row c is h at =
         is_there = in_at (functions_of t) j f.0 f.1;
         name = ap (λ (y : Caller). y.name) (sym f.2);
         called = x.0;
-        calls = subst (λ xs. Contains xs x.0) (ap (λ (y : Caller). y.calls) f.2 ∙ sym (calls_told f.0)) x.1;
+        calls = subst (λ xs. Contains xs x.0) (ap (λ (y : Caller). y.calls) f.2) x.1;
         called_name = sym n.2 ∙ ap (λ (y : Caller). y.name) same;
       },
     )
@@ -126,10 +71,9 @@ row_met t start f g calls met k c at named =
     let cs = callers_of t in
     let j = at_in (functions_of t) calls.function calls.is_there in
     let d : slice_get cs j.0 ≡ Some (caller_of calls.function) = mapped_at caller_of (functions_of t) j.0 calls.function j.1 in
-    let there : Contains (caller_of calls.function).calls calls.called = subst (λ xs. Contains xs calls.called) (calls_told calls.function) calls.calls in
     let within : k < length (rows_of cs) = slice_get_within (rows_of cs) k (row_at cs c) (mapped_at (row_at cs) cs k c at) in
     goes_on j.0 k (row_at cs (caller_of calls.function)) within (met j.0 (caller_of calls.function) d calls.name) (mapped_at (row_at cs) cs j.0 (caller_of calls.function) d)
-    (row_in cs (caller_of calls.function).calls calls.called k there (place_in cs calls.called.word k c at (named ∙ sym calls.called_name)))
+    (row_in cs (caller_of calls.function).calls calls.called k calls.calls (place_in cs calls.called.word k c at (named ∙ sym calls.called_name)))
 
 reached_met : (t : FileTree) (start goal name : List ℕ) → ReachesByCalls t goal name → AreMet t start name → AreMet t start goal
 reached_met t start goal _ there met = met

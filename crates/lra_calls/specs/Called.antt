@@ -1,45 +1,28 @@
--- What statements call, in text order.
-use Rattle.std.specs.Prelude.{ℕ, List, [], ◌∷◌, ◌++◌, Option, Some, None, option_to_list}
+-- What functions call, in text order: the names that are called at their labels. Those of a part are taken as if no
+-- variable lived before it, which changes no call.
+use Rattle.std.specs.Prelude.{ℕ, List, [], Option}
+use Rattle.lra_base.specs.declared.refusals.Place.{Place}
 use Rattle.lra_tree.specs.declared.trees.Identifier.{Identifier}
-use Rattle.lra_tree.specs.Trees.{AssignTree, DeclaratorTree, InitTree, no_init, declared, assigned, StmtTree, block}
-use Rattle.lra_tree.specs.Trees.{nothing, assign, call, if_only, if_else, while, for, break, continue, return, assert}
-use Rattle.lra_tree.specs.Trees.{assume, ItemsTree, no_items, declaration, statement, FunctionTree}
-use Rattle.lra_tree.specs.Labels.{called_of, called_by}
+use Rattle.lra_tree.specs.Trees.{AssignTree, DeclaratorTree, InitTree, StmtTree, ItemsTree, FunctionTree}
+use Rattle.lra_tree.specs.Labels.{declarator_labels, init_labels, step_labels, stmt_labels, items_labels}
+use Rattle.lra_tree.specs.Reach.{called_names, calls_of}
 use Rattle.lra_calls.specs.declared.called.Caller.{Caller as CodeCaller}
 
 abbrev pub declarators_calls : List DeclaratorTree → List Identifier
-declarators_calls [] = []
-declarators_calls (d ∷ ds) = option_to_list (called_of d.rvalue) ++ declarators_calls ds
+declarators_calls ds = called_names (declarator_labels [] ds)
 
 abbrev pub init_calls : InitTree → List Identifier
-init_calls no_init = []
-init_calls (declared d) = declarators_calls (d.first ∷ d.rest)
-init_calls (assigned a) = option_to_list (called_by a)
+init_calls i = called_names (init_labels [] i)
 
 abbrev pub step_calls : Option AssignTree → List Identifier
-step_calls None = []
-step_calls (Some a) = option_to_list (called_by a)
+step_calls e = called_names (step_labels [] e)
 
-abbrev mutual
-  pub stmt_calls : StmtTree → List Identifier
-  stmt_calls (block items end) = items_calls items
-  stmt_calls (nothing at) = []
-  stmt_calls (assign a) = option_to_list (called_by a)
-  stmt_calls (call c) = c.name ∷ []
-  stmt_calls (if_only at c t) = stmt_calls t
-  stmt_calls (if_else at c t e) = stmt_calls t ++ stmt_calls e
-  stmt_calls (while at c b) = stmt_calls b
-  stmt_calls (for at i c e b) = init_calls i ++ step_calls e ++ stmt_calls b
-  stmt_calls (break at) = []
-  stmt_calls (continue at) = []
-  stmt_calls (return at e) = option_to_list (called_of e)
-  stmt_calls (assert at c) = []
-  stmt_calls (assume at c) = []
+abbrev pub stmt_calls : StmtTree → List Identifier
+stmt_calls t = called_names (stmt_labels [] t)
 
-  pub items_calls : ItemsTree → List Identifier
-  items_calls no_items = []
-  items_calls (declaration d items) = declarators_calls (d.first ∷ d.rest) ++ items_calls items
-  items_calls (statement t items) = stmt_calls t ++ items_calls items
+-- of a block's items, up to its end
+abbrev pub items_calls : ItemsTree → Place → List Identifier
+items_calls items end = called_names (items_labels [] items end)
 
 -- a function's name, and what it calls
 pub record Caller : Type 0 where
@@ -47,7 +30,7 @@ pub record Caller : Type 0 where
   pub calls : List Identifier
 
 abbrev pub caller_of : FunctionTree → Caller
-caller_of f = record { name = f.name.word; calls = items_calls f.body }
+caller_of f = record { name = f.name.word; calls = calls_of f }
 
 -- what the code's value stands for
 abbrev pub caller_view : CodeCaller → Caller

@@ -1,6 +1,7 @@
 //! What functions call, in text order.
 
 ghost use Rattle.std.specs.Prelude.{◌≡◌, [], ◌∷◌, ◌++◌, List, map, option_map, option_to_list, IfOk};
+ghost use Rattle.lra_base.specs.declared.refusals.Place.{Place};
 ghost use Rattle.lra_tree.specs.Trees.{ItemsTree, PartTree};
 ghost use Rattle.lra_tree.specs.Views.{rvalue_view, assign_view, declarator_view, init_view, item_view, stmt_view};
 ghost use Rattle.lra_tree.specs.Views.{block_view, function_view, part_view};
@@ -85,6 +86,7 @@ fn add_declaration(
     Ok(())
 }
 
+#[tactic(auto, using(crate::proofs::Naming::part_rules))]
 fn add_init(alloc: Global, init: &Init, calls: &mut Vec<Identifier>) -> Result<(), AllocError>
     ensures { IfOk result (λ _. calls.new.items ≡ calls.old.items ++ init_calls (init_view init.now)) }
 {
@@ -95,6 +97,7 @@ fn add_init(alloc: Global, init: &Init, calls: &mut Vec<Identifier>) -> Result<(
     }
 }
 
+#[tactic(auto, using(crate::proofs::Naming::part_rules))]
 fn add_step(
     alloc: Global,
     step: &Option<Assign>,
@@ -123,6 +126,7 @@ fn add_head(
 }
 
 #[cycle(statement)]
+#[tactic(auto, using(crate::proofs::Naming::stmt_rules))]
 fn add_stmt(alloc: Global, stmt: &Stmt, calls: &mut Vec<Identifier>) -> Result<(), AllocError>
     ensures { IfOk result (λ _. calls.new.items ≡ calls.old.items ++ stmt_calls (stmt_view stmt.now)) }
 {
@@ -151,8 +155,8 @@ fn add_stmt(alloc: Global, stmt: &Stmt, calls: &mut Vec<Identifier>) -> Result<(
 
 #[cycle(statement)]
 fn add_item(alloc: Global, item: &BlockItem, calls: &mut Vec<Identifier>) -> Result<(), AllocError>
-    ensures { IfOk result (λ _. (rest : ItemsTree) → calls.new.items ++ items_calls rest ≡
-        calls.old.items ++ items_calls (item_view item.now rest)) }
+    ensures { IfOk result (λ _. (rest : ItemsTree) (end : Place) → calls.new.items ++ items_calls rest end ≡
+        calls.old.items ++ items_calls (item_view item.now rest) end) }
 {
     match item {
         BlockItem::Declaration(declaration) => add_declaration(alloc, declaration, calls),
@@ -162,7 +166,8 @@ fn add_item(alloc: Global, item: &BlockItem, calls: &mut Vec<Identifier>) -> Res
 
 #[cycle(statement)]
 fn add_block(alloc: Global, block: &Block, calls: &mut Vec<Identifier>) -> Result<(), AllocError>
-    ensures { IfOk result (λ _. calls.new.items ≡ calls.old.items ++ items_calls (block_view block.now).0) }
+    ensures { IfOk result (λ _. calls.new.items ≡ calls.old.items ++
+        items_calls (block_view block.now).0 (block_view block.now).1) }
 {
     'items: for item in &block.items {
         add_item(alloc, item, calls)?;
