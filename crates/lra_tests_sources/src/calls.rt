@@ -8,7 +8,6 @@ use lra_tree::{
 };
 use std::alloc::{AllocError, Global};
 use std::process::Abort;
-use std::test::Fail;
 
 /// A name, and the names that the function of this name calls. A function's calls are, in this order, `f();`,
 /// `int x = f();` and `for (;; x = f());`, and name what they call at the columns 20, 30 and 40.
@@ -176,35 +175,22 @@ fn tree(alloc: Global, lines: &[Line]) -> Result<Tree, AllocError> {
     })
 }
 
-fn found(alloc: Global, lines: &[Line]) -> Result<Option<Place>, AllocError> {
+/// Whether this is the first recursive call.
+fn is_found(alloc: Global, lines: &[Line], expected: Option<Place>) -> Result<bool, AllocError> {
     let tree = tree(alloc, lines)?;
-    first_recursive(alloc, &tree)
+    Ok(first_recursive(alloc, &tree)? == expected)
 }
 
 /// Checks the first recursive calls of sources.
-fn are_found(
-    rt: &impl Abort,
-    alloc: Global,
-    sources: &[(&'static [Line], Option<Place>)],
-) -> Result<(), Fail> {
+fn are_found(rt: &impl Abort, alloc: Global, sources: &[(&'static [Line], Option<Place>)]) {
     for (lines, expected) in sources {
-        let found = found(alloc, lines)?;
-        assert!(rt; found == *expected);
+        assert!(rt; is_found(alloc, lines, *expected) == Ok(true));
     }
-    Ok(())
 }
 
 #[test]
-fn no_recursive_call_is_found(rt: HostRuntime) -> Result<(), Fail> {
-    are_found(&rt, rt.alloc(), &STRAIGHT)
-}
-
-#[test]
-fn a_recursive_call_is_found(rt: HostRuntime) -> Result<(), Fail> {
-    are_found(&rt, rt.alloc(), &ROUND)
-}
-
-#[test]
-fn the_first_recursive_call_is_found(rt: HostRuntime) -> Result<(), Fail> {
-    are_found(&rt, rt.alloc(), &ROUNDS)
+fn the_first_recursive_call_is_found(rt: HostRuntime) {
+    are_found(&rt, rt.alloc(), &STRAIGHT);
+    are_found(&rt, rt.alloc(), &ROUND);
+    are_found(&rt, rt.alloc(), &ROUNDS);
 }

@@ -1,4 +1,4 @@
-//! Tests of what reads sources, and of what writes reports: each public call that allocates, and values from outside.
+//! Tests of what reads sources: each public call that allocates, and values from outside.
 //!
 //! They stand apart from what they try, since a crate that has tests in it is proved twice.
 #![tactic(auto)]
@@ -6,14 +6,6 @@
 #[cfg(test)]
 mod calls;
 #[cfg(test)]
-mod json_reports;
-#[cfg(test)]
 mod lex;
 #[cfg(test)]
 mod names;
-#[cfg(test)]
-mod report;
-#[cfg(test)]
-mod sample;
-#[cfg(test)]
-mod show;

@@ -2,13 +2,13 @@
 
 use lra_base::{Cause, Place, Refusal, SourceError};
 use lra_names::resolve;
-use lra_program::{BlockItem as ProgramItem, Slot, Stmt as ProgramStmt};
+use lra_program::{BlockItem as ProgramItem, Program, Slot, Stmt as ProgramStmt};
 use lra_tree::{
     Arguments, Assign, Block, BlockItem, Call, Declaration, Declarator, Function, Global, Globals,
     Identifier, Init, Item, Parameters, Rvalue, Step, Stmt, Tree, Word,
 };
 use std::alloc::{AllocError, Global as Allocator};
-use std::test::Fail;
+use std::process::Abort;
 
 /// All that a function's block has.
 #[derive(Clone, Copy)]
@@ -105,6 +105,19 @@ fn endless(alloc: Allocator, line: u32) -> Result<Stmt, AllocError> {
     Ok(Stmt::For(Place { line, column }, Init::Nothing, None, None, body))
 }
 
+/// `x++;`
+fn count(alloc: Allocator, line: u32) -> Result<BlockItem, AllocError> {
+    let x = identifier(alloc, "x", line, STATEMENT)?;
+    Ok(BlockItem::Statement(Stmt::Assign(Assign::After(x, Step::Increment))))
+}
+
+/// `return f();`
+fn given_back(alloc: Allocator, line: u32) -> Result<BlockItem, AllocError> {
+    let rvalue = Rvalue::Result(call(alloc, line, SECOND)?);
+    let column = STATEMENT;
+    Ok(BlockItem::Statement(Stmt::Return(Place { line, column }, Some(rvalue))))
+}
+
 fn item(alloc: Allocator, line: u32, body: Body) -> Result<BlockItem, AllocError> {
     let place = Place {
         line,
@@ -116,15 +129,9 @@ fn item(alloc: Allocator, line: u32, body: Body) -> Result<BlockItem, AllocError
         Body::Continue => Ok(BlockItem::Statement(Stmt::Continue(place))),
         Body::Loop => Ok(BlockItem::Statement(endless(alloc, line)?)),
         Body::Declare => Ok(BlockItem::Declaration(declaration(alloc, line)?)),
-        Body::Count => {
-            let x = identifier(alloc, "x", line, STATEMENT)?;
-            Ok(BlockItem::Statement(Stmt::Assign(Assign::After(x, Step::Increment))))
-        }
+        Body::Count => count(alloc, line),
         Body::Call => Ok(BlockItem::Statement(Stmt::Call(call(alloc, line, STATEMENT)?))),
-        Body::Return => {
-            let rvalue = Rvalue::Result(call(alloc, line, SECOND)?);
-            Ok(BlockItem::Statement(Stmt::Return(place, Some(rvalue))))
-        }
+        Body::Return => given_back(alloc, line),
     }
 }
 
@@ -184,23 +191,36 @@ fn counts_up(item: &ProgramItem) -> bool {
     }
 }
 
-#[test]
-fn a_source_has_its_program(rt: HostRuntime) -> Result<(), Fail> {
+/// Whether it is the program of `int x;` and `int main() { x++; }`.
+fn is_counter(program: &Program) -> bool {
+    let Some(main) = program.functions.first() else {
+        return false;
+    };
+    let Some(item) = main.body.items.first() else {
+        return false;
+    };
+    let alone = program.functions.len() == 1 && main.body.items.len() == 1;
+    alone && program.main == 0 && main.end == 2 && counts_up(item)
+}
+
+fn has_program(alloc: Allocator) -> Result<bool, SourceError> {
     let main = Part::Function(true, "main", 0, Body::Count);
-    let resolution = resolve(rt.alloc(), &tree(rt.alloc(), Part::Global, main)?)?;
-    let program = &resolution.program;
-    assert_eq!(rt; (program.main, program.functions.len()), (0, 1));
-    let main = &program.functions[0];
-    assert_eq!(rt; (main.end, main.body.items.len()), (2, 1));
-    assert!(rt; counts_up(&main.body.items[0]));
-    Ok(())
+    let tree = tree(alloc, Part::Global, main)?;
+    Ok(is_counter(&resolve(alloc, &tree)?.program))
+}
+
+#[test]
+fn a_source_has_its_program(rt: HostRuntime) {
+    assert!(rt; has_program(rt.alloc()) == Ok(true));
 }
 
 /// `int main() { ; }`
 const MAIN: Part = Part::Function(true, "main", 0, Body::Nothing);
 
 /// Two lines of a source, and its first fault.
-static FAULTS: [(Part, Part, Cause, u32, u32); 14] = [
+type Fault = (Part, Part, Cause, u32, u32);
+
+static FAULTS: [Fault; 14] = [
     (
         Part::Prototype,
         Part::Function(true, "main", 0, Body::Count),
@@ -289,25 +309,34 @@ static FAULTS: [(Part, Part, Cause, u32, u32); 14] = [
     ),
 ];
 
-/// Why a source of these lines is refused, if it is.
-fn refusal_of(alloc: Allocator, first: Part, second: Part) -> Result<Option<Refusal>, AllocError> {
+/// Whether a source of these lines is refused so.
+fn is_refused(
+    alloc: Allocator,
+    first: Part,
+    second: Part,
+    refusal: Refusal,
+) -> Result<bool, AllocError> {
     let tree = tree(alloc, first, second)?;
     match resolve(alloc, &tree) {
-        Err(SourceError::Refused(refusal)) => Ok(Some(refusal)),
-        _ => Ok(None),
+        Ok(_) => Ok(false),
+        Err(error) => Ok(error == SourceError::Refused(refusal)),
     }
 }
 
-#[test]
-fn a_source_is_refused_at_its_first_fault(rt: HostRuntime) -> Result<(), Fail> {
-    for (first, second, cause, line, column) in FAULTS.iter() {
+/// Checks the first faults of sources.
+fn are_refused(rt: &impl Abort, alloc: Allocator, faults: &[Fault]) {
+    for (first, second, cause, line, column) in faults {
         let place = Place {
             line: *line,
             column: *column,
         };
-        let refused = refusal_of(rt.alloc(), *first, *second)?;
         let cause = *cause;
-        assert!(rt; refused == Some(Refusal { cause, place }));
+        let refused = is_refused(alloc, *first, *second, Refusal { cause, place });
+        assert!(rt; refused == Ok(true), "{cause:?}");
     }
-    Ok(())
+}
+
+#[test]
+fn a_source_is_refused_at_its_first_fault(rt: HostRuntime) {
+    are_refused(&rt, rt.alloc(), &FAULTS);
 }
