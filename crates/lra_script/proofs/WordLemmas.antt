@@ -14,6 +14,7 @@ use Rattle.std.proofs.lemmas.Str.{IsUtf8-from_ascii}
 use Rattle.std.proofs.lemmas.Str.Ascii.{IsAscii-from_all}
 use Rattle.std.proofs.lemmas.Str.Parse.{IsDigitsTest, numerals_by_value, without_leading_plus_none}
 use Rattle.lra_linear.specs.Range.{InRange, in_range}
+use Rattle.lra_linear.proofs.CheckedArithmetic.{in_range_yes}
 use Rattle.lra_script.specs.ScriptText.{is_name, is_number, number_of}
 
 both : (a b : Bool) → a && b ≡ true → (a ≡ true) × (b ≡ true)
@@ -92,16 +93,13 @@ parsed_past word (Err g) h p f e fits = p ((numeral_and_low word h).0, fits)
 pub ruleset parsed_rules = (parsed_fits, parsed_past, number_is_utf8)
 
 -- ---- the number of a word
-in_range_true : (z : ℤ) → InRange z → in_range z ≡ true
-in_range_true z h = grind (arith, nat_tests)
-
 in_range_false : (z : ℤ) → (InRange z → ⊥) → in_range z ≡ false
 in_range_false z h = grind (arith, nat_tests)
 
 pub number_from_value : (word : List ℕ) (r : Option ℤ) → is_number word ≡ true → SomeIff r (InRange (signed_digits_value 10 word)) (signed_digits_value 10 word) → r ≡ number_of word
 number_from_value word (Some n) h s =
     ap Some s.1 ∙ sym (ap (λ (b : Bool). cond (b && in_range (signed_digits_value 10 word)) (Some (signed_digits_value 10 word)) None) h ∙
-    ap (λ (b : Bool). cond b (Some (signed_digits_value 10 word)) None) (in_range_true (signed_digits_value 10 word) s.0))
+    ap (λ (b : Bool). cond b (Some (signed_digits_value 10 word)) None) (in_range_yes (signed_digits_value 10 word) s.0))
 number_from_value word None h s =
     sym (ap (λ (b : Bool). cond (b && in_range (signed_digits_value 10 word)) (Some (signed_digits_value 10 word)) None) h ∙
     ap (λ (b : Bool). cond b (Some (signed_digits_value 10 word)) None) (in_range_false (signed_digits_value 10 word) s))
