@@ -6,7 +6,6 @@ use lra_row::Row;
 use lra_show::{Names, names_at};
 use lra_sys::{ConKind, ConSys, GenKind, GenSys};
 use std::alloc::{AllocError, Global};
-use std::test::Fail;
 
 fn place(line: u32, column: u32) -> Place {
     Place { line, column }
@@ -54,16 +53,34 @@ fn x_is_3(alloc: Global) -> Result<Vec<Part>, AllocError> {
     one_part(alloc, rows)
 }
 
-/// The four points of `int main(void){ long x; x = 3; assert(x >= 3); }`.
-fn points_of_one_variable(alloc: Global) -> Result<Vec<PointReport>, AllocError> {
-    let mut points = Vec::new(alloc);
-    let start = one_part(alloc, ConSys::new(alloc, 0))?;
-    points.push(in_main(alloc, 1, place(1, 22), Names::new(alloc), start)?)?;
+/// The point where nothing is declared.
+fn start(alloc: Global) -> Result<PointReport, AllocError> {
+    let state = one_part(alloc, ConSys::new(alloc, 0))?;
+    in_main(alloc, 1, place(1, 22), Names::new(alloc), state)
+}
+
+/// A point where `x` is declared.
+fn with_x(
+    alloc: Global,
+    number: u32,
+    column: u32,
+    state: Vec<Part>,
+) -> Result<PointReport, AllocError> {
+    let names = x_alone(alloc)?;
+    in_main(alloc, number, place(1, column), names, state)
+}
+
+/// Adds the four points of `int main(void){ long x; x = 3; assert(x >= 3); }`.
+fn push_points_of_one_variable(
+    alloc: Global,
+    points: &mut Vec<PointReport>,
+) -> Result<(), AllocError> {
+    points.push(start(alloc)?)?;
     let declared = one_part(alloc, ConSys::new(alloc, 1))?;
-    points.push(in_main(alloc, 2, place(1, 25), x_alone(alloc)?, declared)?)?;
-    points.push(in_main(alloc, 3, place(1, 32), x_alone(alloc)?, x_is_3(alloc)?)?)?;
-    points.push(in_main(alloc, 4, place(1, 48), x_alone(alloc)?, x_is_3(alloc)?)?)?;
-    Ok(points)
+    points.push(with_x(alloc, 2, 25, declared)?)?;
+    points.push(with_x(alloc, 3, 32, x_is_3(alloc)?)?)?;
+    points.push(with_x(alloc, 4, 48, x_is_3(alloc)?)?)?;
+    Ok(())
 }
 
 /// The verdict on its assertion.
@@ -77,14 +94,9 @@ fn verdict_of_one_variable(alloc: Global) -> Result<Verdict, AllocError> {
     })
 }
 
-/// `int main(void){ long x; x = 3; assert(x >= 3); }` over boxes.
-#[test]
-fn one_variable(rt: HostRuntime) -> Result<(), Fail> {
-    let alloc = rt.alloc();
-    let points = points_of_one_variable(alloc)?;
-    let mut verdicts = Vec::new(alloc);
-    verdicts.push(verdict_of_one_variable(alloc)?)?;
-    let report = Report {
+/// Its report over boxes.
+fn report_of_one_variable(alloc: Global) -> Result<Report, AllocError> {
+    let mut report = Report {
         options: Options {
             domain: Domain::Box,
             parts: 1,
@@ -93,18 +105,33 @@ fn one_variable(rt: HostRuntime) -> Result<(), Fail> {
             limited: false,
         },
         flagged: None,
-        points,
-        verdicts,
+        points: Vec::new(alloc),
+        verdicts: Vec::new(alloc),
     };
-    let written = text(alloc, &report)?;
-    assert_eq!(rt; written.len(), 231);
-    assert_eq!(rt;
-        written.as_str(),
-        "analysis box parts 1 delay 1 narrow 1 limited no\nflagged 0\npoint 1 main 1:22\n  row true\n\
+    push_points_of_one_variable(alloc, &mut report.points)?;
+    report.verdicts.push(verdict_of_one_variable(alloc)?)?;
+    Ok(report)
+}
+
+const ONE_VARIABLE: &str =
+    "analysis box parts 1 delay 1 narrow 1 limited no\nflagged 0\npoint 1 main 1:22\n  row true\n\
             point 2 main 1:25\n  row true\npoint 3 main 1:32\n  row x = 3\npoint 4 main 1:48\n  row x = 3\n\
-            assert 3 main 1:32 proved\nverdicts proved 1 unknown 0\n"
-    );
-    Ok(())
+            assert 3 main 1:32 proved\nverdicts proved 1 unknown 0\n";
+
+/// Whether the report has this text.
+fn has_text(alloc: Global, report: &Report, expected: &str) -> Result<bool, AllocError> {
+    Ok(text(alloc, report)?.as_bytes() == expected.as_bytes())
+}
+
+fn writes_one_variable(alloc: Global) -> Result<bool, AllocError> {
+    has_text(alloc, &report_of_one_variable(alloc)?, ONE_VARIABLE)
+}
+
+/// `int main(void){ long x; x = 3; assert(x >= 3); }` over boxes.
+#[test]
+fn one_variable(rt: HostRuntime) {
+    assert!(rt; writes_one_variable(rt.alloc()) == Ok(true));
+    assert!(rt; ONE_VARIABLE.len() == 231);
 }
 
 fn below(alloc: Global) -> Result<Part, AllocError> {
@@ -143,22 +170,34 @@ fn path_to_inc(alloc: Global) -> Result<String, AllocError> {
     path_text(alloc, calls.as_slice())
 }
 
-/// A point of two parts in that call, and one in `main` that isn't reached.
-fn points_of_two_parts(alloc: Global) -> Result<Vec<PointReport>, AllocError> {
+/// The two parts.
+fn below_and_above(alloc: Global) -> Result<Vec<Part>, AllocError> {
     let mut state = Vec::new(alloc);
     state.push(below(alloc)?)?;
     state.push(above(alloc)?)?;
-    let mut points = Vec::new(alloc);
-    points.push(PointReport {
+    Ok(state)
+}
+
+/// A point of two parts in that call.
+fn in_call(alloc: Global) -> Result<PointReport, AllocError> {
+    Ok(PointReport {
         number: 1,
         point: point(alloc, 1),
         path: path_to_inc(alloc)?,
         place: place(1, 22),
         names: both_x(alloc)?,
-        state,
-    })?;
+        state: below_and_above(alloc)?,
+    })
+}
+
+/// Adds that point, and one in `main` that isn't reached.
+fn push_points_of_two_parts(
+    alloc: Global,
+    points: &mut Vec<PointReport>,
+) -> Result<(), AllocError> {
+    points.push(in_call(alloc)?)?;
     points.push(in_main(alloc, 2, place(3, 9), Names::new(alloc), Vec::new(alloc))?)?;
-    Ok(points)
+    Ok(())
 }
 
 /// The verdict on the first of them.
@@ -172,14 +211,9 @@ fn verdict_of_two_parts(alloc: Global) -> Result<Verdict, AllocError> {
     })
 }
 
-/// Two parts over polyhedra in a call, a point that isn't reached, and a flag.
-#[test]
-fn two_parts(rt: HostRuntime) -> Result<(), Fail> {
-    let alloc = rt.alloc();
-    let points = points_of_two_parts(alloc)?;
-    let mut verdicts = Vec::new(alloc);
-    verdicts.push(verdict_of_two_parts(alloc)?)?;
-    let report = Report {
+/// Their report over polyhedra, flagged.
+fn report_of_two_parts(alloc: Global) -> Result<Report, AllocError> {
+    let mut report = Report {
         options: Options {
             domain: Domain::Poly,
             parts: 2,
@@ -188,15 +222,25 @@ fn two_parts(rt: HostRuntime) -> Result<(), Fail> {
             limited: true,
         },
         flagged: Some(2),
-        points,
-        verdicts,
+        points: Vec::new(alloc),
+        verdicts: Vec::new(alloc),
     };
-    assert_eq!(rt;
-        text(alloc, &report)?.as_str(),
-        "analysis poly parts 2 delay 0 narrow 4 limited yes\nflagged at point 2\n\
+    push_points_of_two_parts(alloc, &mut report.points)?;
+    report.verdicts.push(verdict_of_two_parts(alloc)?)?;
+    Ok(report)
+}
+
+const TWO_PARTS: &str = "analysis poly parts 2 delay 0 narrow 4 limited yes\nflagged at point 2\n\
             point 1 main/inc@1:61 1:22\n  row x~1 - x <= -1\n  gen point x~1=0 x=1\n  gen ray x~1=0 x=1\n  gen line \
             x~1=1 x=1\n  or\n  row x~1 - x >= 1\n  gen point x~1=1/2 x=0\n  gen line x~1=1 x=1\n\
-            point 2 main 3:9\n  unreachable\nassert 1 main/inc@1:61 1:22 unknown\nverdicts proved 0 unknown 1\n"
-    );
-    Ok(())
+            point 2 main 3:9\n  unreachable\nassert 1 main/inc@1:61 1:22 unknown\nverdicts proved 0 unknown 1\n";
+
+fn writes_two_parts(alloc: Global) -> Result<bool, AllocError> {
+    has_text(alloc, &report_of_two_parts(alloc)?, TWO_PARTS)
+}
+
+/// Two parts over polyhedra in a call, a point that isn't reached, and a flag.
+#[test]
+fn two_parts(rt: HostRuntime) {
+    assert!(rt; writes_two_parts(rt.alloc()) == Ok(true));
 }

@@ -5,7 +5,6 @@ use lra_report::{Point, PointReport, Report, Verdict};
 use lra_sample::{program, summary};
 use lra_show::Names;
 use std::alloc::{AllocError, Global};
-use std::test::Fail;
 
 /// Seeds and sizes with the lines between the declarations and the assertion.
 static SOURCES: [(u64, u32, &str); 4] = [
@@ -30,28 +29,34 @@ fn source_of(alloc: Global, lines: &str) -> Result<Vec<u8>, AllocError> {
     Ok(text.into_bytes())
 }
 
+/// Whether the source has these lines.
+fn is_source(alloc: Global, seed: u64, size: u32, lines: &str) -> Result<bool, AllocError> {
+    let made = program(alloc, seed, size)?;
+    Ok(made.as_slice() == source_of(alloc, lines)?.as_slice())
+}
+
 #[test]
-fn sources(rt: HostRuntime) -> Result<(), Fail> {
-    let alloc = rt.alloc();
+fn sources(rt: HostRuntime) {
     for (seed, size, lines) in SOURCES.iter() {
-        let made = program(alloc, *seed, *size)?;
-        let expected = source_of(alloc, lines)?;
-        let same = made.as_slice() == expected.as_slice();
-        assert!(rt; same);
+        assert!(rt;
+            is_source(rt.alloc(), *seed, *size, lines) == Ok(true),
+            "{seed} {size}"
+        );
     }
-    Ok(())
 }
 
 /// Seeds with the bytes of their greatest sources.
 static LENGTHS: [(u64, usize); 2] = [(1, 9912), (2, 9647)];
 
+fn greatest_length(alloc: Global, seed: u64) -> Result<usize, AllocError> {
+    Ok(program(alloc, seed, 400)?.len())
+}
+
 #[test]
-fn greatest_sources(rt: HostRuntime) -> Result<(), Fail> {
-    let alloc = rt.alloc();
+fn greatest_sources(rt: HostRuntime) {
     for (seed, bytes) in LENGTHS.iter() {
-        assert_eq!(rt; program(alloc, *seed, 400)?.len(), *bytes);
+        assert!(rt; greatest_length(rt.alloc(), *seed) == Ok(*bytes), "{seed}");
     }
-    Ok(())
 }
 
 fn point(alloc: Global, label: usize) -> Point {
@@ -116,15 +121,20 @@ static SUMMARIES: [(u32, u32, &str); 2] = [
     ),
 ];
 
+/// Whether these lines are told of the report with so many points.
+fn is_told(alloc: Global, size: u32, count: u32, lines: &str) -> Result<bool, AllocError> {
+    let report = report(alloc, count)?;
+    let source = program(alloc, 0, size)?;
+    let told = summary(alloc, 0, size, source.as_slice(), &report)?;
+    Ok(told.as_bytes() == lines.as_bytes())
+}
+
 #[test]
-fn summaries(rt: HostRuntime) -> Result<(), Fail> {
-    let alloc = rt.alloc();
+fn summaries(rt: HostRuntime) {
     for (size, count, lines) in SUMMARIES.iter() {
-        let source = program(alloc, 0, *size)?;
-        let report = report(alloc, *count)?;
-        let told = summary(alloc, 0, *size, source.as_slice(), &report)?;
-        let same = told.as_str().as_bytes() == lines.as_bytes();
-        assert!(rt; same);
+        assert!(rt;
+            is_told(rt.alloc(), *size, *count, lines) == Ok(true),
+            "size {size}"
+        );
     }
-    Ok(())
 }
