@@ -109,12 +109,6 @@ pub fn head_by<D: Domain>(alloc: Global) -> Result<(D, [u64; 3]), AllocError> {
     Ok((last, [first, second, third]))
 }
 
-/// The rows of the parts, through the bound.
-pub fn parts_by<D: Domain>(alloc: Global, value: &D) -> Result<Vec<ConSys>, AllocError> {
-    let parts = value.parts(alloc)?;
-    Ok(parts)
-}
-
 fn is_row(row: &Row, numbers: &[i128; 3]) -> bool {
     for (column, number) in numbers.iter().enumerate() {
         if column >= row.width() || row.get(column) != *number {
@@ -134,56 +128,86 @@ pub fn has_rows(part: &ConSys, want: &[([i128; 3], ConKind)]) -> bool {
     part.rows().len() == want.len()
 }
 
-/// The rows are x = 3, y >= 3, y <= 10, in this order.
-#[test]
-fn values_of_boxes(rt: HostRuntime) -> Result<(), AllocError> {
-    let mut value = value_by::<Boxes>(rt.alloc())?;
-    assert_eq!(rt; compares_by(rt.alloc(), &mut value)?, [true; 5]);
-    assert_eq!(rt; resizes_by(&mut value)?, 3);
-    let parts = parts_by(rt.alloc(), &value)?;
-    assert_eq!(rt; parts.len(), 1);
-    let want = [
-        ([-3, 1, 0], ConKind::Eq),
-        ([-3, 0, 1], ConKind::Ge),
-        ([10, 0, -1], ConKind::Ge),
-    ];
+/// Whether the value has one part, with these rows, through the bound.
+pub fn shows_by<D: Domain>(
+    alloc: Global,
+    value: &D,
+    want: &[([i128; 3], ConKind)],
+) -> Result<bool, AllocError> {
+    let parts = value.parts(alloc)?;
     for part in &parts {
-        assert!(rt; has_rows(part, &want));
+        if !has_rows(part, want) {
+            return Ok(false);
+        }
     }
-    Ok(())
+    Ok(parts.len() == 1)
 }
 
-/// The head keeps its lower bound and loses its upper one by widening; its rank falls from 2 to 1.
-#[test]
-fn heads_of_boxes(rt: HostRuntime) -> Result<(), AllocError> {
-    let (value, ranks) = head_by::<Boxes>(rt.alloc())?;
-    assert_eq!(rt; ranks, [2, 2, 1]);
-    let parts = parts_by(rt.alloc(), &value)?;
-    assert_eq!(rt; parts.len(), 1);
+/// How many parts the value has, and how many rows the last of them, through the bound.
+fn counts_by<D: Domain>(alloc: Global, value: &D) -> Result<(usize, usize), AllocError> {
+    let parts = value.parts(alloc)?;
+    let mut rows = 0;
     for part in &parts {
-        assert_eq!(rt; part.rows().len(), 1);
+        rows = part.rows().len();
     }
-    Ok(())
+    Ok((parts.len(), rows))
+}
+
+/// The rows of the value: x = 3, y >= 3, y <= 10, in this order.
+pub const VALUE: [([i128; 3], ConKind); 3] = [
+    ([-3, 1, 0], ConKind::Eq),
+    ([-3, 0, 1], ConKind::Ge),
+    ([10, 0, -1], ConKind::Ge),
+];
+
+/// Whether all calls on the value answer as they should, through the bound.
+pub fn answers_by<D: Domain>(alloc: Global) -> Result<bool, AllocError> {
+    let mut value = value_by::<D>(alloc)?;
+    let compared = compares_by(alloc, &mut value)? == [true; 5];
+    let shown = shows_by(alloc, &value, &VALUE)?;
+    Ok(compared && shown && resizes_by(&mut value)? == 3)
+}
+
+/// A head keeps its lower bound and loses its upper one by widening; its rank falls from 2 to 1.
+fn has_head(alloc: Global) -> Result<bool, AllocError> {
+    let (value, ranks) = head_by::<Boxes>(alloc)?;
+    Ok(ranks == [2, 2, 1] && counts_by(alloc, &value)? == (1, 1))
+}
+
+#[test]
+fn boxes_by_hand(rt: HostRuntime) {
+    assert!(rt; answers_by::<Boxes>(rt.alloc()) == Ok(true));
+    assert!(rt; has_head(rt.alloc()) == Ok(true));
+}
+
+/// A coordinate, the constant and factors of the form that is assigned to it, and whether that is exact. x is without
+/// bounds in the end: the last sum ends there, and nothing behind it passes.
+type Assigned = (usize, i64, [i64; 2], Exactness);
+
+static ASSIGNED: [Assigned; 4] = [
+    (0, i64::MAX, [0, 0], Exactness::Exact),
+    (0, 0, [i64::MAX, 0], Exactness::Exact),
+    (0, 0, [i64::MAX, 0], Exactness::Flagged),
+    (1, 0, [1, i64::MAX], Exactness::Exact),
+];
+
+fn are_assigned(alloc: Global, rows: &[Assigned]) -> Result<bool, AllocError> {
+    let mut value = <Boxes as Domain>::universe(alloc, 2, 1)?;
+    for (x, constant, factors, want) in rows {
+        if value.dims() != 2 || *x >= 2 {
+            return Ok(false);
+        }
+        if set_by(alloc, &mut value, *x, *constant, factors)? != *want {
+            return Ok(false);
+        }
+    }
+    Ok(true)
 }
 
 /// A bound that passes the range goes, with a flag: (2^63 - 1)^3 is above 2^127.
 #[test]
-fn passing_the_range(rt: HostRuntime) -> Result<(), AllocError> {
-    let alloc = rt.alloc();
-    let mut value = <Boxes as Domain>::universe(alloc, 2, 1)?;
-    // x is without bounds in the end: the last sum ends there, and nothing behind it passes
-    let rows = [
-        (0, i64::MAX, [0, 0], Exactness::Exact),
-        (0, 0, [i64::MAX, 0], Exactness::Exact),
-        (0, 0, [i64::MAX, 0], Exactness::Flagged),
-        (1, 0, [1, i64::MAX], Exactness::Exact),
-    ];
-    for (x, constant, factors, want) in rows {
-        assert!(rt; value.dims() == 2 && x < 2);
-        let found = set_by(alloc, &mut value, x, constant, &factors)?;
-        assert_eq!(rt; found, want, "{x} by {constant}");
-    }
-    Ok(())
+fn passing_the_range(rt: HostRuntime) {
+    assert!(rt; are_assigned(rt.alloc(), &ASSIGNED) == Ok(true));
 }
 
 /// x and y from 0 to 2 * (2^63 - 1)^2, just below 2^127.
@@ -199,22 +223,23 @@ fn near_the_range<D: Domain>(alloc: Global) -> Result<D, AllocError>
     Ok(value)
 }
 
+const MOST: i128 = 170141183460469231694793815568465002498;
+
+/// Whether the sum of these factors is flagged and keeps this row of x.
+fn sum_keeps(alloc: Global, factors: &[i64; 2], kept: [i128; 3]) -> Result<bool, AllocError> {
+    let mut value = near_the_range::<Boxes>(alloc)?;
+    let flagged = set_by(alloc, &mut value, 0, 0, factors)? == Exactness::Flagged;
+    let want = [
+        (kept, ConKind::Ge),
+        ([0, 0, 1], ConKind::Ge),
+        ([MOST, 0, -1], ConKind::Ge),
+    ];
+    Ok(flagged && shows_by(alloc, &value, &want)?)
+}
+
 /// Of a sum only the bound goes that passes the range: the upper one of x + y, the lower one of -x - y.
 #[test]
-fn sums_passing_the_range(rt: HostRuntime) -> Result<(), AllocError> {
-    let most = 170141183460469231694793815568465002498;
-    for (factors, kept) in [([1, 1], [0, 1, 0]), ([-1, -1], [0, -1, 0])] {
-        let mut value = near_the_range::<Boxes>(rt.alloc())?;
-        let found = set_by(rt.alloc(), &mut value, 0, 0, &factors)?;
-        assert_eq!(rt; found, Exactness::Flagged);
-        let want = [
-            (kept, ConKind::Ge),
-            ([0, 0, 1], ConKind::Ge),
-            ([most, 0, -1], ConKind::Ge),
-        ];
-        for part in &parts_by(rt.alloc(), &value)? {
-            assert!(rt; has_rows(part, &want));
-        }
-    }
-    Ok(())
+fn sums_passing_the_range(rt: HostRuntime) {
+    assert!(rt; sum_keeps(rt.alloc(), &[1, 1], [0, 1, 0]) == Ok(true));
+    assert!(rt; sum_keeps(rt.alloc(), &[-1, -1], [0, -1, 0]) == Ok(true));
 }

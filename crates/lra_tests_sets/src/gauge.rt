@@ -34,12 +34,13 @@ fn grown(bound: u8, next: u8, mode: Mode) -> Result<(Grown, u8), AllocError> {
 
 /// A head whose inclusion strains is given up, though next lies in it; one whose join strains has no bound left.
 #[test]
-fn heads_grow(rt: HostRuntime) -> Result<(), AllocError> {
+fn heads_grow(rt: HostRuntime) {
     for &(bound, next, mode, want, after) in GROWTHS.iter() {
-        let (answer, then) = grown(bound, next, mode)?;
-        assert!(rt; answer == want && then == after, "{bound} by {next}");
+        assert!(rt;
+            grown(bound, next, mode) == Ok((want, after)),
+            "{bound} by {next}"
+        );
     }
-    Ok(())
 }
 
 /// The bounds of two values; whether the first lies in the second, where their sum is up to 100.
@@ -58,13 +59,24 @@ fn inclusions_strain(rt: HostRuntime) {
     }
 }
 
-/// Sums up to 60 are joined.
+/// The bounds of two values; what their join tells, and its bound: sums up to 60 are joined.
+static JOINS: [(u8, u8, Exactness, u8); 2] = [
+    (20, 40, Exactness::Exact, 40),
+    (40, 21, Exactness::Flagged, 255),
+];
+
+fn joined(bound: u8, other: u8) -> Result<(Exactness, u8), AllocError> {
+    let mut value = gauge(bound);
+    let answer = value.join(&gauge(other))?;
+    Ok((answer, value.bound))
+}
+
 #[test]
-fn joins_strain(rt: HostRuntime) -> Result<(), AllocError> {
-    let mut value = gauge(20);
-    let exact = value.join(&gauge(40))?;
-    assert!(rt; exact == Exactness::Exact && value.bound == 40);
-    let flagged = value.join(&gauge(21))?;
-    assert!(rt; flagged == Exactness::Flagged && value.bound == 255);
-    Ok(())
+fn joins_strain(rt: HostRuntime) {
+    for &(bound, other, want, after) in JOINS.iter() {
+        assert!(rt;
+            joined(bound, other) == Ok((want, after)),
+            "{bound} with {other}"
+        );
+    }
 }

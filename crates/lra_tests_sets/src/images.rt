@@ -2,13 +2,13 @@
 
 ghost use Rattle.std.specs.Prelude.{◌≡◌, length, IfOk};
 
-use crate::shapes::{Constraint, set_of, shows};
+use crate::shapes::{Constraint, Unfit, set_of, shows};
 use lra_lin::LinExpr;
 use lra_maps::{image, preimage};
 use lra_poly::Poly;
 use lra_sys::ConKind;
-use std::alloc::Global;
-use std::test::Fail;
+use std::alloc::{AllocError, Global};
+use std::process::Abort;
 
 const MAX: i128 = i128::MAX;
 
@@ -35,7 +35,7 @@ const STEEP: &[Constraint] = &[([-1, MAX, 0], ConKind::Ge)];
 // x1 is at least 0, and x2 is 0.
 const WAY: &[Constraint] = &[([0, 1, 0], ConKind::Ge), ([0, 0, 1], ConKind::Eq)];
 
-const IMAGES: &[Case] = &[
+static IMAGES: [Case; 7] = [
     Case {
         name: "x1 := x1 + 1 moves",
         set: HALF_LINE,
@@ -101,7 +101,7 @@ const IMAGES: &[Case] = &[
     },
 ];
 
-const PREIMAGES: &[Case] = &[
+static PREIMAGES: [Case; 5] = [
     Case {
         name: "x1 := x1 - 1 moves",
         set: HALF_LINE,
@@ -149,12 +149,12 @@ const PREIMAGES: &[Case] = &[
     },
 ];
 
-// Whether the set is the one that the case names.
-fn is_of(set: &Poly, case: &Case) -> bool {
-    shows(set, case.rows, case.generators)
+// Whether the set is the one that the case names, and as exact.
+fn is_told(set: &Poly, is_exact: bool, case: &Case) -> bool {
+    is_exact == case.is_exact && shows(set, case.rows, case.generators)
 }
 
-fn form_of(alloc: Global, numbers: &[i64; 3]) -> Result<LinExpr, Fail>
+fn form_of(alloc: Global, numbers: &[i64; 3]) -> Result<LinExpr, AllocError>
     ensures { IfOk result (λ form. length form.coefficients ≡ 2) }
 {
     let [constant, first, second] = *numbers;
@@ -162,34 +162,37 @@ fn form_of(alloc: Global, numbers: &[i64; 3]) -> Result<LinExpr, Fail>
     Ok(form)
 }
 
-/// The images, each as it was found by hand.
-#[test]
-fn images(rt: HostRuntime) -> Result<(), Fail> {
-    for case in IMAGES {
-        let mut set = set_of(rt.alloc(), case.set)?;
-        let form = form_of(rt.alloc(), &case.form)?;
-        if case.x >= 2 {
-            return Err("no such coordinate".into());
-        }
-        let outcome = image(&mut set, case.x, &form)?;
-        let holds = outcome.is_exact() == case.is_exact && is_of(&set, case);
-        assert!(rt; holds, "{}", case.name);
-    }
-    Ok(())
+fn has_image(alloc: Global, case: &Case) -> Result<bool, Unfit> {
+    let mut set = set_of(alloc, case.set)?;
+    let form = form_of(alloc, &case.form)?;
+    let outcome = image(&mut set, case.x.min(1), &form)?;
+    Ok(is_told(&set, outcome.is_exact(), case))
 }
 
-/// The preimages, each as it was found by hand.
-#[test]
-fn preimages(rt: HostRuntime) -> Result<(), Fail> {
-    for case in PREIMAGES {
-        let mut set = set_of(rt.alloc(), case.set)?;
-        let form = form_of(rt.alloc(), &case.form)?;
-        if case.x >= 2 {
-            return Err("no such coordinate".into());
-        }
-        let outcome = preimage(&mut set, case.x, &form)?;
-        let holds = outcome.is_exact() == case.is_exact && is_of(&set, case);
-        assert!(rt; holds, "{}", case.name);
+fn has_preimage(alloc: Global, case: &Case) -> Result<bool, Unfit> {
+    let mut set = set_of(alloc, case.set)?;
+    let form = form_of(alloc, &case.form)?;
+    let outcome = preimage(&mut set, case.x.min(1), &form)?;
+    Ok(is_told(&set, outcome.is_exact(), case))
+}
+
+fn have_images(rt: &impl Abort, alloc: Global, cases: &[Case]) {
+    for case in cases {
+        let name = case.name;
+        assert!(rt; has_image(alloc, case) == Ok(true), "{name}");
     }
-    Ok(())
+}
+
+fn have_preimages(rt: &impl Abort, alloc: Global, cases: &[Case]) {
+    for case in cases {
+        let name = case.name;
+        assert!(rt; has_preimage(alloc, case) == Ok(true), "{name}");
+    }
+}
+
+/// The images and preimages, each as it was found by hand.
+#[test]
+fn images(rt: HostRuntime) {
+    have_images(&rt, rt.alloc(), &IMAGES);
+    have_preimages(&rt, rt.alloc(), &PREIMAGES);
 }

@@ -2,15 +2,14 @@
 
 ghost use Rattle.std.specs.Prelude.{◌≡◌, IfOk};
 
-use crate::shapes::{row_of, shows};
+use crate::shapes::{Unfit, row_of, shows};
 use lra_maps::{embed, forget, remove_last, time_elapse};
 use lra_poly::Poly;
 use lra_sys::{ConKind, ConSys};
 use std::alloc::Global;
-use std::test::Fail;
 
 // The point of two equalities.
-fn point_of(alloc: Global, first: &[i128; 3], second: &[i128; 3]) -> Result<Poly, Fail>
+fn point_of(alloc: Global, first: &[i128; 3], second: &[i128; 3]) -> Result<Poly, Unfit>
     ensures { IfOk result (λ p. p.dims ≡ 2) }
 {
     let mut list = ConSys::new(alloc, 2);
@@ -21,45 +20,46 @@ fn point_of(alloc: Global, first: &[i128; 3], second: &[i128; 3]) -> Result<Poly
 }
 
 // The origin moved by steps of (1, 2).
-fn way_of(alloc: Global) -> Result<Poly, Fail>
+fn way_of(alloc: Global) -> Result<Poly, Unfit>
     ensures { IfOk result (λ p. p.dims ≡ 2) }
 {
     let step = point_of(alloc, &[-1, 1, 0], &[-2, 0, 1])?;
     let mut way = point_of(alloc, &[0, 1, 0], &[0, 0, 1])?;
     let outcome = time_elapse(&mut way, &step)?;
     if !outcome.is_exact() {
-        return Err("a generator is lost".into());
+        return Err(Unfit::Lost);
     }
     Ok(way)
 }
 
-/// It is a half line.
-#[test]
-fn half_line(rt: HostRuntime) -> Result<(), Fail> {
-    let way = way_of(rt.alloc())?;
-    assert!(rt; shows(&way, &[[0, 2, -1], [0, 0, 1]], &[[1, 0, 0], [0, 1, 2]]));
-    Ok(())
+// It is a half line.
+fn is_half_line(alloc: Global) -> Result<bool, Unfit> {
+    let way = way_of(alloc)?;
+    Ok(shows(&way, &[[0, 2, -1], [0, 0, 1]], &[[1, 0, 0], [0, 1, 2]]))
 }
 
 fn is_half_plane(p: &Poly) -> bool {
     shows(p, &[[0, 1, 0]], &[[1, 0, 0], [0, 1, 0], [0, 0, 1]])
 }
 
-/// Without its x2, and with a new one, it is a half plane.
-#[test]
-fn new_coordinate(rt: HostRuntime) -> Result<(), Fail> {
-    let mut way = way_of(rt.alloc())?;
+// Without its x2, and with a new one, it is a half plane.
+fn has_new_coordinate(alloc: Global) -> Result<bool, Unfit> {
+    let mut way = way_of(alloc)?;
     let removed = remove_last(&mut way, 1)?;
     let added = embed(&mut way, 1)?;
-    assert!(rt; removed.is_exact() && added.is_exact() && is_half_plane(&way));
-    Ok(())
+    Ok(removed.is_exact() && added.is_exact() && is_half_plane(&way))
 }
 
-/// As it is where its x2 may be anything.
-#[test]
-fn forgotten_coordinate(rt: HostRuntime) -> Result<(), Fail> {
-    let mut way = way_of(rt.alloc())?;
+// As it is where its x2 may be anything.
+fn forgets_coordinate(alloc: Global) -> Result<bool, Unfit> {
+    let mut way = way_of(alloc)?;
     let outcome = forget(&mut way, 1)?;
-    assert!(rt; outcome.is_exact() && is_half_plane(&way));
-    Ok(())
+    Ok(outcome.is_exact() && is_half_plane(&way))
+}
+
+#[test]
+fn half_line(rt: HostRuntime) {
+    assert!(rt; is_half_line(rt.alloc()) == Ok(true));
+    assert!(rt; has_new_coordinate(rt.alloc()) == Ok(true));
+    assert!(rt; forgets_coordinate(rt.alloc()) == Ok(true));
 }

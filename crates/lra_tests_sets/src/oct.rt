@@ -1,10 +1,10 @@
 ghost use Rattle.std.specs.Prelude.{◌≡◌, ◌<◌, length, IfOk};
 
+use crate::boxes::has_rows;
 use lra_domain::{Exactness, Included, Mode, Plain};
 use lra_lin::{LinExpr, Test};
 use lra_linear::ConKind;
 use lra_oct::Octagon;
-use lra_row::Row;
 use lra_sys::ConSys;
 use std::alloc::{AllocError, Global};
 
@@ -137,25 +137,6 @@ fn head_by<D: Plain>(alloc: Global) -> Result<([u64; 3], usize), AllocError> {
     Ok((ranks, rows_by::<D>(alloc, &head)?))
 }
 
-fn is_row(row: &Row, numbers: &[i128; 3]) -> bool {
-    for (column, number) in numbers.iter().enumerate() {
-        if column >= row.width() || row.get(column) != *number {
-            return false;
-        }
-    }
-    row.width() == 3
-}
-
-/// Whether the part has these rows, in this order.
-fn has_rows(part: &ConSys, want: &[([i128; 3], ConKind); 3]) -> bool {
-    for ((row, kind), (numbers, right)) in part.rows().iter().zip(part.kinds()).zip(want.iter()) {
-        if *kind != *right || !is_row(row, numbers) {
-            return false;
-        }
-    }
-    part.rows().len() == 3
-}
-
 /// Whether the value has one part, with these rows, through the bound.
 fn shows_by<D: Plain>(
     alloc: Global,
@@ -229,10 +210,7 @@ fn answers_by<D: Plain>(alloc: Global) -> Result<bool, AllocError> {
 /// x + y <= 1 and x <= y give x <= 0. A head of 0 that grows to 0 and 1 and is widened by 2 loses its upper bound: its
 /// rank falls from 4 to 3, and x >= 0 stays.
 #[test]
-fn octagons_by_hand(rt: HostRuntime) -> Result<(), AllocError> {
-    assert!(rt; answers_by::<Octagon>(rt.alloc())?);
-    let (ranks, rows) = head_by::<Octagon>(rt.alloc())?;
-    assert_eq!(rt; ranks, [4, 4, 3]);
-    assert_eq!(rt; rows, 1);
-    Ok(())
+fn octagons_by_hand(rt: HostRuntime) {
+    assert!(rt; answers_by::<Octagon>(rt.alloc()) == Ok(true));
+    assert!(rt; head_by::<Octagon>(rt.alloc()) == Ok(([4, 4, 3], 1)));
 }

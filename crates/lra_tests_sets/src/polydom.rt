@@ -2,41 +2,30 @@
 
 ghost use Rattle.std.specs.Prelude.{◌≡◌, IfOk};
 
-use crate::boxes::{
-    compares_by, has_rows, head_by, keep_by, parts_by, resizes_by, set_by, value_by,
-};
+use crate::boxes::{VALUE, answers_by, has_rows, head_by, keep_by, set_by, value_by};
 use lra_domain::{Domain, Exactness, Grown, Mode};
-use lra_linear::ConKind;
 use lra_polydom::{Polyhedron, PolyhedronHead};
 use lra_row::Row;
-use lra_sys::ConSys;
+use lra_sys::{ConKind, ConSys};
 use std::alloc::{AllocError, Global};
-use std::test::Fail;
 
 /// x = 3 and 3 <= y <= 10, from the point (3, 3) to the point (3, 10).
-#[test]
-fn values_of_polyhedra(rt: HostRuntime) -> Result<(), AllocError> {
-    let mut value = value_by::<Polyhedron>(rt.alloc())?;
-    assert_eq!(rt; compares_by(rt.alloc(), &mut value)?, [true; 5]);
-    let want = [
-        ([-3, 1, 0], ConKind::Eq),
-        ([-3, 0, 1], ConKind::Ge),
-        ([10, 0, -1], ConKind::Ge),
-    ];
-    assert!(rt; has_rows(value.rows(), &want) && value.generators().rows().len() == 2);
-    for part in &parts_by(rt.alloc(), &value)? {
-        assert!(rt; has_rows(part, &want));
-    }
-    assert_eq!(rt; resizes_by(&mut value)?, 3);
-    Ok(())
+fn is_segment(alloc: Global) -> Result<bool, AllocError> {
+    let value = value_by::<Polyhedron>(alloc)?;
+    Ok(has_rows(value.rows(), &VALUE) && value.generators().rows().len() == 2)
 }
 
-/// An equality, then two inequalities, then one: the last number of the rank counts these.
+/// A head has an equality, then two inequalities, then one: the last number of the rank counts these.
+fn has_head(alloc: Global) -> Result<bool, AllocError> {
+    let (value, ranks) = head_by::<Polyhedron>(alloc)?;
+    Ok(ranks == [0, 2, 1] && value.rows().rows().len() == 1)
+}
+
 #[test]
-fn heads_of_polyhedra(rt: HostRuntime) -> Result<(), AllocError> {
-    let (value, ranks) = head_by::<Polyhedron>(rt.alloc())?;
-    assert!(rt; ranks == [0, 2, 1] && value.rows().rows().len() == 1);
-    Ok(())
+fn polyhedra_by_hand(rt: HostRuntime) {
+    assert!(rt; answers_by::<Polyhedron>(rt.alloc()) == Ok(true));
+    assert!(rt; is_segment(rt.alloc()) == Ok(true));
+    assert!(rt; has_head(rt.alloc()) == Ok(true));
 }
 
 /// From 1 to the most.
@@ -50,7 +39,7 @@ fn up_to(alloc: Global, most: i64) -> Result<Polyhedron, AllocError>
 }
 
 /// The given rows of `x < 10`: x <= 9 and x <= 10.
-fn given_rows(alloc: Global) -> Result<ConSys, Fail>
+fn given_rows(alloc: Global) -> Result<ConSys, AllocError>
     ensures { IfOk result (λ list. list.dims ≡ 1) }
 {
     let mut list = ConSys::new(alloc, 1);
@@ -72,7 +61,7 @@ struct Turn {
 }
 
 /// A head of 0 under both given rows: joined, widened up to 9 and up to 10, and beyond.
-const TURNS: &[Turn] = &[
+static TURNS: [Turn; 5] = [
     Turn {
         mode: Mode::Join,
         most: 1,
@@ -123,7 +112,7 @@ fn are_rows(rows: &[Row], want: &[[i128; 2]]) -> bool {
 }
 
 /// The head of 0.
-fn first_head(alloc: Global) -> Result<PolyhedronHead, Fail>
+fn first_head(alloc: Global) -> Result<PolyhedronHead, AllocError>
     ensures { IfOk result (λ h. h.value.dims ≡ 1) }
 {
     let mut zero = <Polyhedron as Domain>::universe(alloc, 1, 1)?;
@@ -133,26 +122,31 @@ fn first_head(alloc: Global) -> Result<PolyhedronHead, Fail>
     Ok(head)
 }
 
-#[test]
-fn heads_grow(rt: HostRuntime) -> Result<(), Fail> {
-    let mut head = first_head(rt.alloc())?;
-    for turn in TURNS {
-        let next = up_to(rt.alloc(), turn.most)?;
-        assert!(rt; head.value().dims() == 1);
-        let answer = <Polyhedron as Domain>::grow(&mut head, &next, turn.mode)?;
-        let kept = head.given().rows().len();
-        assert!(rt;
-            answer == turn.answer && kept == turn.given,
-            "to {}",
-            turn.most
-        );
-        assert!(rt;
-            are_rows(head.value().rows().rows(), turn.rows),
-            "to {}",
-            turn.most
-        );
+/// Whether the head grows so, and has these rows then.
+fn grows(alloc: Global, head: &mut PolyhedronHead, turn: &Turn) -> Result<bool, AllocError> {
+    if head.value().dims() != 1 {
+        return Ok(false);
     }
-    Ok(())
+    let next = up_to(alloc, turn.most)?;
+    let answer = <Polyhedron as Domain>::grow(head, &next, turn.mode)?;
+    let kept = head.given().rows().len();
+    let rows = are_rows(head.value().rows().rows(), turn.rows);
+    Ok(answer == turn.answer && kept == turn.given && rows)
+}
+
+fn grows_by_turns(alloc: Global, turns: &[Turn]) -> Result<bool, AllocError> {
+    let mut head = first_head(alloc)?;
+    for turn in turns {
+        if !grows(alloc, &mut head, turn)? {
+            return Ok(false);
+        }
+    }
+    Ok(true)
+}
+
+#[test]
+fn heads_grow(rt: HostRuntime) {
+    assert!(rt; grows_by_turns(rt.alloc(), &TURNS) == Ok(true));
 }
 
 /// The one number 4 * (2^63 - 1), and the numbers x with (2^63 - 1) * x >= 1: their product passes 2^127.
@@ -169,14 +163,17 @@ fn far_apart(alloc: Global) -> Result<(Polyhedron, Polyhedron), AllocError>
 }
 
 /// A head whose inclusion isn't decided becomes all points, with a flag, though next lies in it.
-#[test]
-fn heads_are_given_up(rt: HostRuntime) -> Result<(), Fail> {
-    let (far, near) = far_apart(rt.alloc())?;
-    let given = ConSys::new(rt.alloc(), 1);
-    let mut head = <Polyhedron as Domain>::start(rt.alloc(), &near, &given)?;
+fn is_given_up(alloc: Global) -> Result<bool, AllocError> {
+    let (far, near) = far_apart(alloc)?;
+    let given = ConSys::new(alloc, 1);
+    let mut head = <Polyhedron as Domain>::start(alloc, &near, &given)?;
     let answer = <Polyhedron as Domain>::grow(&mut head, &far, Mode::Join)?;
-    assert!(rt; answer == Grown::Grew(Exactness::Flagged));
-    let (value, exactness) = <Polyhedron as Domain>::value(rt.alloc(), &head)?;
-    assert!(rt; exactness == Exactness::Exact && value.rows().rows().is_empty());
-    Ok(())
+    let (value, exactness) = <Polyhedron as Domain>::value(alloc, &head)?;
+    let all = exactness == Exactness::Exact && value.rows().rows().is_empty();
+    Ok(all && answer == Grown::Grew(Exactness::Flagged))
+}
+
+#[test]
+fn heads_are_given_up(rt: HostRuntime) {
+    assert!(rt; is_given_up(rt.alloc()) == Ok(true));
 }

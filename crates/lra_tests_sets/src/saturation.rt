@@ -1,10 +1,10 @@
 //! Which constraints are tight at which generators, and tests that change nothing; worked by hand in two dimensions.
 
-use crate::shapes::{Constraint, set_of};
+use crate::shapes::{Constraint, Unfit, set_of};
 use lra_lin::{LinExpr, Test};
 use lra_poly::Poly;
 use lra_sys::ConKind;
-use std::test::Fail;
+use std::alloc::Global;
 
 const STRIP: &[Constraint] = &[([0, 0, 1], ConKind::Ge), ([1, 0, -1], ConKind::Ge)];
 
@@ -32,31 +32,37 @@ fn has(p: &Poly, want: &[[bool; 3]]) -> bool {
     true
 }
 
-/// x2 >= 0 once more, and x2 >= -5, change nothing.
-#[test]
-fn tests_without_effect(rt: HostRuntime) -> Result<(), Fail> {
-    for constant in [0, 5] {
-        let mut strip = set_of(rt.alloc(), STRIP)?;
-        let expr = LinExpr::new(rt.alloc(), constant, &[0, 1])?;
-        let kind = ConKind::Ge;
-        let outcome = strip.add_test(&Test { expr, kind })?;
-        assert!(rt; outcome.is_exact() && has(&strip, OF_STRIP));
-    }
-    Ok(())
+// Whether a lower bound of x2 leaves the strip as it is.
+fn leaves_strip(alloc: Global, constant: i64) -> Result<bool, Unfit> {
+    let mut strip = set_of(alloc, STRIP)?;
+    let expr = LinExpr::new(alloc, constant, &[0, 1])?;
+    let kind = ConKind::Ge;
+    let outcome = strip.add_test(&Test { expr, kind })?;
+    Ok(outcome.is_exact() && has(&strip, OF_STRIP))
 }
 
-/// x1 >= 0 leaves the points (0, 0), (0, 1) and the ray along x1; its row, the first, is tight at both points and not
-/// at the ray.
+/// x2 >= 0 once more, and x2 >= -5, change nothing.
 #[test]
-fn half_strip(rt: HostRuntime) -> Result<(), Fail> {
-    let mut strip = set_of(rt.alloc(), STRIP)?;
-    let right = set_of(rt.alloc(), RIGHT)?;
+fn tests_without_effect(rt: HostRuntime) {
+    assert!(rt; leaves_strip(rt.alloc(), 0) == Ok(true));
+    assert!(rt; leaves_strip(rt.alloc(), 5) == Ok(true));
+}
+
+// x1 >= 0 leaves the points (0, 0), (0, 1) and the ray along x1; its row, the first, is tight at both points and not
+// at the ray.
+fn is_halved(alloc: Global) -> Result<bool, Unfit> {
+    let mut strip = set_of(alloc, STRIP)?;
+    let right = set_of(alloc, RIGHT)?;
     let outcome = strip.meet(&right)?;
     let want = [
         [true, true, false],
         [true, false, true],
         [false, true, true],
     ];
-    assert!(rt; outcome.is_exact() && has(&strip, &want));
-    Ok(())
+    Ok(outcome.is_exact() && has(&strip, &want))
+}
+
+#[test]
+fn half_strip(rt: HostRuntime) {
+    assert!(rt; is_halved(rt.alloc()) == Ok(true));
 }

@@ -1,12 +1,11 @@
 //! Sets of parts.
 ghost use Rattle.std.specs.Prelude.{◌≡◌, IfOk};
 
-use crate::boxes::{keep_by, parts_by};
+use crate::boxes::keep_by;
 use lra_box::Boxes;
 use lra_domain::{Domain, Exactness};
 use lra_set::PowerSet;
 use std::alloc::{AllocError, Global};
-use std::test::Fail;
 
 /// Where a form of one dimension isn't negative, as one part of at most two.
 fn half(alloc: Global, constant: i64, factor: i64) -> Result<PowerSet<Boxes>, AllocError>
@@ -17,19 +16,42 @@ fn half(alloc: Global, constant: i64, factor: i64) -> Result<PowerSet<Boxes>, Al
     Ok(set)
 }
 
-/// From 5 on, or up to 0; what comes in lies in one of these.
-#[test]
-fn parts_are_reduced(rt: HostRuntime) -> Result<(), Fail> {
-    let alloc = rt.alloc();
+/// Joins where a form isn't negative: how many parts there are then.
+fn join_half(
+    alloc: Global,
+    set: &mut PowerSet<Boxes>,
+    constant: i64,
+    factor: i64,
+) -> Result<usize, AllocError>
+    requires { set.old.dims ≡ 1 }
+    ensures { set.new.dims ≡ 1 }
+{
+    let other = half(alloc, constant, factor)?;
+    set.join(&other)?;
+    Ok(set.items().len())
+}
+
+/// From 5 on, or up to 0; from 7 on lies in from 5 on.
+fn keeps_both(alloc: Global, set: &mut PowerSet<Boxes>) -> Result<bool, AllocError>
+    requires { set.old.dims ≡ 1 }
+    ensures { set.new.dims ≡ 1 }
+{
+    let first = join_half(alloc, set, 0, -1)?;
+    let second = join_half(alloc, set, -7, 1)?;
+    Ok((first, second) == (2, 2))
+}
+
+/// Both parts stay where they are reduced, and from 5 on lies in from 2 on.
+fn is_reduced(alloc: Global) -> Result<bool, AllocError> {
     let mut set = half(alloc, -5, 1)?;
-    set.join(&half(alloc, 0, -1)?)?;
-    assert_eq!(rt; set.items().len(), 2, "both parts stay");
-    set.join(&half(alloc, -7, 1)?)?;
-    assert_eq!(rt; set.items().len(), 2, "from 7 on lies in from 5 on");
-    assert_eq!(rt; set.reduce(), Ok(Exactness::Exact));
-    assert_eq!(rt; (set.items().len(), set.cap()), (2, 2));
-    set.join(&half(alloc, -2, 1)?)?;
-    assert_eq!(rt; set.items().len(), 2, "from 5 on lies in from 2 on");
-    assert_eq!(rt; parts_by(alloc, &set)?.len(), 2);
-    Ok(())
+    let both = keeps_both(alloc, &mut set)?;
+    let exact = set.reduce()? == Exactness::Exact;
+    let stay = (set.items().len(), set.cap()) == (2, 2);
+    let last = join_half(alloc, &mut set, -2, 1)? == 2;
+    Ok(both && exact && stay && last && set.parts(alloc)?.len() == 2)
+}
+
+#[test]
+fn parts_are_reduced(rt: HostRuntime) {
+    assert!(rt; is_reduced(rt.alloc()) == Ok(true));
 }

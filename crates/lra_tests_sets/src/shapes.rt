@@ -5,24 +5,41 @@ ghost use Rattle.std.specs.Prelude.{◌≡◌, length, IfOk};
 use lra_poly::Poly;
 use lra_row::Row;
 use lra_sys::{ConKind, ConSys};
-use std::alloc::Global;
-use std::test::Fail;
+use std::alloc::{AllocError, Global};
 
 /// A constraint's three numbers, the constant first.
 pub type Constraint = ([i128; 3], ConKind);
 
-pub fn row_of(alloc: Global, numbers: &[i128; 3]) -> Result<Row, Fail>
+/// Why a set isn't made.
+#[derive(Clone, Copy, PartialEq, Eq)]
+pub enum Unfit {
+    Memory,
+    /// A number passes the range.
+    Range,
+    /// A row has another width.
+    Width,
+    /// A row or a generator is lost.
+    Lost,
+}
+
+impl From<AllocError> for Unfit {
+    fn from(_: AllocError) -> Unfit {
+        Unfit::Memory
+    }
+}
+
+pub fn row_of(alloc: Global, numbers: &[i128; 3]) -> Result<Row, Unfit>
     ensures { IfOk result (λ row. length row ≡ 3) }
 {
     let [constant, first, second] = *numbers;
     if constant == i128::MIN || first == i128::MIN || second == i128::MIN {
-        return Err("a number passes the range".into());
+        return Err(Unfit::Range);
     }
     let row = Row::from_slice(alloc, &[constant, first, second])?;
     Ok(row)
 }
 
-pub fn list_of(alloc: Global, constraints: &[Constraint]) -> Result<ConSys, Fail>
+pub fn list_of(alloc: Global, constraints: &[Constraint]) -> Result<ConSys, Unfit>
     ensures { IfOk result (λ list. list.dims ≡ 2) }
 {
     let mut list = ConSys::new(alloc, 2);
@@ -33,7 +50,7 @@ pub fn list_of(alloc: Global, constraints: &[Constraint]) -> Result<ConSys, Fail
 }
 
 /// The set where they hold.
-pub fn set_of(alloc: Global, constraints: &[Constraint]) -> Result<Poly, Fail>
+pub fn set_of(alloc: Global, constraints: &[Constraint]) -> Result<Poly, Unfit>
     ensures { IfOk result (λ p. p.dims ≡ 2) }
 {
     let list = list_of(alloc, constraints)?;

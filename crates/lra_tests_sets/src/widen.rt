@@ -1,11 +1,12 @@
 //! Worked widenings in one and two dimensions.
 
-use crate::shapes::{Constraint, list_of, set_of, shows};
+use crate::shapes::{Constraint, Unfit, list_of, set_of, shows};
 use lra_poly::Poly;
 use lra_row::Row;
 use lra_sys::{ConKind, ConSys};
 use lra_widen::{WidenError, limited, rank, standard};
-use std::test::Fail;
+use std::alloc::{AllocError, Global};
+use std::process::Abort;
 
 const HALF_LINE: &[Constraint] = &[([0, 0, 1], ConKind::Eq), ([0, 1, 0], ConKind::Ge)];
 
@@ -27,7 +28,7 @@ struct Case {
 
 // Without given rows the bound of x2 isn't kept. That x2 is at most 5 holds on both; that it is at most 0, not on the
 // strip.
-const CASES: &[Case] = &[
+static CASES: [Case; 2] = [
     Case {
         given: &[],
         wide: &[([0, 1, 0], ConKind::Ge), ([0, 0, 1], ConKind::Ge)],
@@ -50,42 +51,48 @@ const CASES: &[Case] = &[
     },
 ];
 
-/// The half line x2 = 0, x1 at least 0, widened by the strip with x2 from 0 to 1.
-#[test]
-fn widenings(rt: HostRuntime) -> Result<(), Fail> {
-    let line = set_of(rt.alloc(), HALF_LINE)?;
-    let strip = set_of(rt.alloc(), STRIP)?;
-    for case in CASES {
-        let given = list_of(rt.alloc(), case.given)?;
-        let Ok((wide, outcome)) = limited(rt.alloc(), &line, &strip, &given) else {
-            return Err("refused".into());
-        };
-        assert!(rt; outcome.is_exact() && shows(&wide, case.rows, case.generators));
+// Whether the half line x2 = 0, x1 at least 0, widened by the strip with x2 from 0 to 1, is as it should be.
+fn is_widened(alloc: Global, case: &Case) -> Result<bool, Unfit> {
+    let line = set_of(alloc, HALF_LINE)?;
+    let strip = set_of(alloc, STRIP)?;
+    let given = list_of(alloc, case.given)?;
+    match limited(alloc, &line, &strip, &given) {
+        Ok((wide, outcome)) => Ok(outcome.is_exact() && shows(&wide, case.rows, case.generators)),
+        Err(_) => Ok(false),
     }
-    Ok(())
 }
 
-/// Their ranks, before and after.
-#[test]
-fn ranks(rt: HostRuntime) -> Result<(), Fail> {
-    let line = set_of(rt.alloc(), HALF_LINE)?;
-    for case in CASES {
-        let given = list_of(rt.alloc(), case.given)?;
-        assert_eq!(rt; rank(rt.alloc(), &line, &given)?, case.before);
-        let wide = set_of(rt.alloc(), case.wide)?;
-        assert_eq!(rt; rank(rt.alloc(), &wide, &given)?, case.after);
-    }
-    Ok(())
+// The ranks before and after.
+fn ranks(alloc: Global, case: &Case) -> Result<[(u64, u64, u64); 2], Unfit> {
+    let line = set_of(alloc, HALF_LINE)?;
+    let wide = set_of(alloc, case.wide)?;
+    let given = list_of(alloc, case.given)?;
+    Ok([rank(alloc, &line, &given)?, rank(alloc, &wide, &given)?])
 }
 
-/// The line isn't in the point 0: its generators are that point and then the line, which is outside.
+fn are_widened(rt: &impl Abort, alloc: Global, cases: &[Case]) {
+    for case in cases {
+        assert!(rt; is_widened(alloc, case) == Ok(true));
+        assert!(rt; ranks(alloc, case) == Ok([case.before, case.after]));
+    }
+}
+
 #[test]
-fn outside(rt: HostRuntime) -> Result<(), Fail> {
-    let line = Poly::universe(rt.alloc(), 1)?;
-    let mut list = ConSys::new(rt.alloc(), 1);
-    list.push(Row::from_slice(rt.alloc(), &[0, 1])?, ConKind::Eq)?;
-    let (point, _) = Poly::from_rows(rt.alloc(), &list)?;
-    let answer = standard(rt.alloc(), &line, &point);
-    assert!(rt; matches!(answer, Err(WidenError::NotIncluded(1))));
-    Ok(())
+fn widenings(rt: HostRuntime) {
+    are_widened(&rt, rt.alloc(), &CASES);
+}
+
+// The line isn't in the point 0: its generators are that point and then the line, which is outside.
+fn is_outside(alloc: Global) -> Result<bool, AllocError> {
+    let line = Poly::universe(alloc, 1)?;
+    let mut list = ConSys::new(alloc, 1);
+    list.push(Row::from_slice(alloc, &[0, 1])?, ConKind::Eq)?;
+    let (point, _) = Poly::from_rows(alloc, &list)?;
+    let answer = standard(alloc, &line, &point);
+    Ok(matches!(answer, Err(WidenError::NotIncluded(1))))
+}
+
+#[test]
+fn outside(rt: HostRuntime) {
+    assert!(rt; is_outside(rt.alloc()) == Ok(true));
 }
