@@ -59,17 +59,17 @@ pub fn build(alloc: Global, program: &Program) -> Result<Graph, GraphError>
 mod tests {
     use super::*;
     use crate::points::Limit;
-    use lra_operations::Op;
+    use lra_operations::{Op, Site};
     use lra_program::{
         BlockItem, BlockItems, Call, Cond, Declarator, Expr, Function, Rvalue, Slot, Stmt,
     };
-    use std::test::Fail;
+    use std::alloc::AllocError;
 
     /// `int main(void){long x; x=2; if(x) assert(x);}`
-    fn small(rt: &HostRuntime) -> Result<Program, Fail>
+    fn small(alloc: Global) -> Result<Program, AllocError>
         ensures { IfOk result (λ p. IsWellFormed (program_view p)) }
     {
-        let mut items = Vec::new(rt.alloc());
+        let mut items = Vec::new(alloc);
         items.push(BlockItem::Declaration(Declarator {
             label: 1,
             rvalue: None,
@@ -77,18 +77,18 @@ mod tests {
         let two = Rvalue::Value(Expr::Literal(2));
         items.push(BlockItem::Statement(Stmt::Assign(2, Slot::Local(0), two)))?;
         let holds = Cond::Nonzero(Expr::Read(Slot::Local(0)));
-        let assertion = Box::new(rt.alloc(), Stmt::Assert(4, holds))?;
-        let absent = Box::new(rt.alloc(), Stmt::Absent)?;
+        let assertion = Box::new(alloc, Stmt::Assert(4, holds))?;
+        let absent = Box::new(alloc, Stmt::Absent)?;
         let holds = Cond::Nonzero(Expr::Read(Slot::Local(0)));
         items.push(BlockItem::Statement(Stmt::If(3, holds, assertion, absent)))?;
-        let mut functions = Vec::new(rt.alloc());
+        let mut functions = Vec::new(alloc);
         functions.push(Function {
             parameters: 0,
             body: BlockItems { items },
             end: 5,
         })?;
         Ok(Program {
-            globals: Vec::new(rt.alloc()),
+            globals: Vec::new(alloc),
             functions,
             main: 0,
         })
@@ -137,46 +137,59 @@ mod tests {
         Some(fresh && given && tested)
     }
 
-    #[test]
-    fn a_small_program_is_written_out(rt: HostRuntime) -> Result<(), Fail> {
-        let graph = build(rt.alloc(), &small(&rt)?)?;
-        assert_eq!(rt; is_small(&graph.tree), Some(true));
-        assert_eq!(rt; graph.sites.len(), 5);
-        let points = [
-            (1, 0, false),
-            (2, 1, false),
-            (3, 1, false),
-            (4, 1, true),
-            (5, 1, false),
-        ];
-        for (site, (label, live, asserts)) in graph.sites.iter().zip(points) {
-            assert_eq!(rt; site.label, label);
-            assert_eq!(rt; site.live, live);
-            assert_eq!(rt; site.asserts, asserts);
-            assert!(rt; site.path.as_slice().is_empty());
+    /// The label of each point of the small program, how many variables live there, and whether it is an assertion.
+    const POINTS: [(usize, usize, bool); 5] = [
+        (1, 0, false),
+        (2, 1, false),
+        (3, 1, false),
+        (4, 1, true),
+        (5, 1, false),
+    ];
+
+    fn is_site(site: &Site, (label, live, asserts): (usize, usize, bool)) -> bool {
+        let same = (site.label, site.live, site.asserts) == (label, live, asserts);
+        same && site.path.as_slice().is_empty()
+    }
+
+    fn are_sites(sites: &[Site], points: &[(usize, usize, bool)]) -> bool {
+        for (site, point) in sites.iter().zip(points) {
+            if !is_site(site, *point) {
+                return false;
+            }
         }
-        Ok(())
+        sites.len() == points.len()
+    }
+
+    fn writes_small_program(alloc: Global) -> Result<bool, GraphError> {
+        let program = small(alloc)?;
+        let graph = build(alloc, &program)?;
+        Ok(is_small(&graph.tree) == Some(true) && are_sites(&graph.sites, &POINTS))
+    }
+
+    #[test]
+    fn a_small_program_is_written_out(rt: HostRuntime) {
+        assert!(rt; writes_small_program(rt.alloc()) == Ok(true));
     }
 
     /// `void f(void){} int main(void){f();}`
-    fn calling(rt: &HostRuntime) -> Result<Program, Fail>
+    fn calling(alloc: Global) -> Result<Program, AllocError>
         ensures { IfOk result (λ p. IsWellFormed (program_view p)) }
     {
-        let mut functions = Vec::new(rt.alloc());
+        let mut functions = Vec::new(alloc);
         functions.push(Function {
             parameters: 0,
             body: BlockItems {
-                items: Vec::new(rt.alloc()),
+                items: Vec::new(alloc),
             },
             end: 1,
         })?;
-        let mut items = Vec::new(rt.alloc());
+        let mut items = Vec::new(alloc);
         items.push(BlockItem::Statement(Stmt::Call(
             2,
             Call {
                 label: 2,
                 function: 0,
-                arguments: Vec::new(rt.alloc()),
+                arguments: Vec::new(alloc),
             },
         )))?;
         functions.push(Function {
@@ -185,7 +198,7 @@ mod tests {
             end: 3,
         })?;
         Ok(Program {
-            globals: Vec::new(rt.alloc()),
+            globals: Vec::new(alloc),
             functions,
             main: 1,
         })
@@ -193,14 +206,14 @@ mod tests {
 
     /// How many points the items of `main` have, where so many calls may still be made on a path.
     fn count_points(
-        rt: &HostRuntime,
+        alloc: Global,
         program: &Program,
         calls_left: usize,
     ) -> Result<usize, GraphError>
         requires { IsWellFormed (program_view program.now) }
     {
         let main = &program.functions[program.main];
-        let path = Path::empty(rt.alloc());
+        let path = Path::empty(alloc);
         let globals = program.globals.len();
         let frame = Frame {
             base: globals,
@@ -210,22 +223,28 @@ mod tests {
             back: None,
         };
         let around = Around {
-            alloc: rt.alloc(),
+            alloc,
             program,
             path: &path,
             frame,
         };
-        let mut sites = Vec::new(rt.alloc());
+        let mut sites = Vec::new(alloc);
         let _written = inline_items(&around, &main.body.items, &mut sites)?;
         Ok(sites.len())
     }
 
+    /// How many points `main` has where one call may still be made on a path, and where none.
+    fn counts(alloc: Global) -> Result<[Result<usize, GraphError>; 2], AllocError> {
+        let program = calling(alloc)?;
+        Ok([
+            count_points(alloc, &program, 1),
+            count_points(alloc, &program, 0),
+        ])
+    }
+
     #[test]
-    fn a_call_past_the_limit_is_told(rt: HostRuntime) -> Result<(), Fail> {
-        let program = calling(&rt)?;
-        assert_eq!(rt; count_points(&rt, &program, 1), Ok(2));
+    fn a_call_past_the_limit_is_told(rt: HostRuntime) {
         let past = Err(GraphError::Passed(Limit::Calls(2)));
-        assert_eq!(rt; count_points(&rt, &program, 0), past);
-        Ok(())
+        assert!(rt; counts(rt.alloc()) == Ok([Ok(2), past]));
     }
 }
