@@ -12,7 +12,7 @@ use Rattle.lra_flow.specs.Pass.{Result, noted, jumps, values_behind, behind, Thr
 use Rattle.lra_flow.proofs.Transfer.{Matters, Transfers, passes}
 use Rattle.lra_iter.specs.Fits.{live_after}
 use Rattle.lra_iter.specs.declared.outcome.Turn.{Turn}
-use Rattle.lra_iter.specs.Outcome.{seen, AreGiven, AreKept, IsKept, IsPassed, IsTurned, JumpsFit}
+use Rattle.lra_iter.specs.Outcome.{headed, seen, AreGiven, AreKept, IsKept, IsPassed, IsTurned, JumpsFit}
 use Rattle.lra_iter.proofs.PassSteps.{same_jumps_fit}
 
 -- the same, with this flag
@@ -171,3 +171,11 @@ module _ {V H : Type 0} (m : Meaning V H) (set : Options) (g : Node) where
   same_given f on kept turn is same before =
       let held : IsKept m set g f turn.entered (seen turn.outcome) = subst (λ (x : Option (Turn V)). AreKept m set g f x) is before in
       (same, subst (λ (x : V). IsPassed m set g f x (record (seen turn.outcome) { flag = f })) same (kept_passed f turn.entered (seen turn.outcome) held))
+
+-- nothing was flagged before a turn where nothing is behind it
+pub turn_before : {V H : Type 0} (m : Meaning V H) (set : Options) (q base : ℕ) (c : Cond) (g : Node) (f : Option ℕ) (v : V) (turn : Turn V) → IsTurned m set q base c g f v turn
+    → turn.outcome.flag ≡ None → f ≡ None
+turn_before {V} {H} m set q base c g f v turn turned none = before turned.round
+  where
+    before : GoesRound V H (dropping m) q base c (Pass V H (dropping m) set g) f v (headed q v (seen turn.outcome)) → f ≡ None
+    before (on, e, s, leaves, pass, is) = none_noted q e f (none_before (dropping m) set g (noted q e f) on s (ap (λ (r : Result V). r.flag) (sym is) ∙ none) pass)

@@ -15,10 +15,9 @@ use Rattle.lra_flow.specs.Pass.{Result, noted, behind}
 use Rattle.lra_iter.specs.declared.memory.KeptLoop.{KeptLoop}
 use Rattle.lra_iter.specs.declared.memory.Memory.{Memory}
 use Rattle.lra_iter.specs.declared.outcome.Outcome.{Outcome}
-use Rattle.lra_iter.specs.Outcome.{ended, seen, AreMet, Catches, IsKept, IsPassed, AreGiven, AreKept, LeavesWith}
+use Rattle.lra_iter.specs.Outcome.{ended, seen, AreMet, Catches, IsKept, IsPassed, LeavesWith}
 use Rattle.lra_iter.specs.Memory.{IsRecalled, AreRecalled, MayRecall, Remembers, StaysKept}
-use Rattle.lra_iter.specs.declared.outcome.Turn.{Turn}
-use Rattle.lra_iter.proofs.Again.{none_noted, none_before, kept_passed, passed_kept, all_noted}
+use Rattle.lra_iter.proofs.Again.{none_noted, none_before, kept_passed, passed_kept}
 
 -- what is flagged later, if anything was before
 abbrev pub Later : Option ℕ → Option ℕ → Type 0
@@ -189,19 +188,6 @@ module _ {V H : Type 0} (m : Meaning V H) (set : Options) where
       → Remembers m set g f memory → Remembers m set' g' f memory
   remembers_given set' g g' f memory same options h = subst (λ (x : Options). Remembers m x g' f memory) (sym options)
       (subst (λ (z : Node). Remembers m set z f memory) same h)
-
-  -- a turn that is given again
-  pub given_stays : (g : Node) (q : ℕ) (f inside : Option ℕ) (e : Exactness) (on : V) (kept given : Option (Turn V))
-      (turn : Turn V) (memory : Memory V) → inside ≡ noted q e f → AreKept m set g f kept
-      → (AreKept m set g inside kept → AreGiven m set g inside on given) → given ≡ Some turn →
-      StaysKept m set g f memory turn.outcome.flag memory
-  given_stays g q f inside e on kept given turn memory flagged before gives is =
-      let now : AreKept m set g inside kept = subst (λ (x : Option ℕ). AreKept m set g x kept) (sym flagged)
-      (all_noted m set g q e f kept before) in
-      let found : AreGiven m set g inside on (Some turn) =
-      subst (λ (x : Option (Turn V)). AreGiven m set g inside on x) is (gives now) in
-      stays_since g f inside turn.outcome.flag memory memory (later_noted q e f inside flagged)
-      (stays_passed g inside on (seen turn.outcome) memory found.1)
 
   -- what is kept of the loop at this place, which began with the same value
   pub recalled : (loops : ℕ → Node) (point : ℕ) (f : Option ℕ) (kept : List (KeptLoop V)) (place : ℕ) (one : KeptLoop V)

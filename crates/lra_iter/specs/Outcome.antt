@@ -1,11 +1,13 @@
 -- What a pass in code gives, as the result of a pass.
-use Rattle.std.specs.Prelude.{◌≡◌, ℕ, false, List, [], ◌∷◌, map, Option, None, Some, ⊤}
+use Rattle.std.specs.Prelude.{◌≡◌, ℕ, true, false, List, [], ◌∷◌, map, Option, None, Some, ⊤}
 use Rattle.lra_domain.specs.Meaning.{Meaning}
 use Rattle.lra_iter.specs.declared.outcome.Entry as entry
 use Rattle.lra_iter.specs.declared.outcome.Entry.TheVariants.{Value, Failing}
 use Rattle.lra_iter.specs.declared.outcome.Found.{Found}
 use Rattle.lra_iter.specs.declared.outcome.Outcome.{Outcome}
 use Rattle.lra_iter.specs.declared.outcome.Turn.{Turn}
+use Rattle.lra_iter.specs.declared.outcome.Entered.{Entered}
+use Rattle.lra_iter.specs.declared.outcome.Entered.TheVariants.{Again, Anew}
 use Rattle.lra_domain.specs.declared.Exactness.{Exactness}
 use Rattle.std.specs.List.{Contains}
 use Rattle.lra_program.specs.Program.{Cond}
@@ -120,3 +122,9 @@ pub record IsTurned {V H : Type 0} (m : Meaning V H) (set : Options) (q base : �
 -- a turn from this value at the head, whatever was flagged before it
 abbrev pub HasTurned : {V H : Type 0} → Meaning V H → Options → ℕ → ℕ → Cond → Node → V → Turn V → Type 0
 HasTurned m set q base c a v turn = (f : Option ℕ) × IsTurned m set q base c a f v turn
+
+-- what comes into a loop's body from this value at its head: a turn that was kept, or what the condition leaves
+abbrev pub IsEntered : {V H : Type 0} → Meaning V H → Options → ℕ → ℕ → Cond → Node → Option ℕ → V → Entered V → Type 0
+IsEntered m set q base c a f v (Again turn) = IsTurned m set q base c a f v turn
+IsEntered m set q base c a f v (Anew on inside) = (e : Exactness) × Leaves (dropping m) base c true v e on ×
+    (inside ≡ noted q e f) × (m.dims on ≡ m.dims v)

@@ -66,6 +66,14 @@ impl<D: Drop> Drop for Turn<D> {
     }
 }
 
+/// What comes into a loop's body: the kept turn, where the same value entered it, or else the value and the first
+/// flagged point so far.
+#[derive(Drop)]
+pub enum Entered<D> {
+    Again(Turn<D>),
+    Anew(D, Option<usize>),
+}
+
 /// The value at a loop's head, and the turn that began with it.
 #[derive(Drop)]
 pub struct HeadTurn<D> {

@@ -8,20 +8,19 @@ ghost use Rattle.lra_base.specs.declared.options.Options.{Options};
 ghost use Rattle.lra_program.specs.ProgramViews.{cond_view};
 ghost use Rattle.lra_operations.specs.GraphViews.{node_view, row};
 ghost use Rattle.lra_flow.specs.Condition.{push};
-ghost use Rattle.lra_flow.specs.Conditions.{Leaves};
 ghost use Rattle.lra_change.specs.Sides.{Splits};
 ghost use Rattle.lra_flow.specs.Operations.{dropping};
 ghost use Rattle.lra_flow.specs.Pass.{noted};
 ghost use Rattle.lra_iter.specs.Fits.{TreeFits};
 ghost use Rattle.lra_iter.specs.Outcome.{ended, headed, seen, AreKept, AreMet, HasGrown, HasTurned, IsKept, IsPassed};
-ghost use Rattle.lra_iter.specs.Outcome.{IsTurned, JumpsFit, LeavesWith, NarrowsTo};
+ghost use Rattle.lra_iter.specs.Outcome.{IsEntered, IsTurned, JumpsFit, LeavesWith, NarrowsTo};
 ghost use Rattle.lra_iter.specs.Memory.{MayRecall, Remembers, StaysKept};
 
 use crate::catches::catch_jumps;
 use crate::heads::{grow_by, start};
 use crate::leaves::pass_leaf;
 use crate::memory::Memory;
-use crate::outcome::{Entry, Found, HeadTurn, Outcome, Turn, note, reuse_turn};
+use crate::outcome::{Entered, Entry, Found, HeadTurn, Outcome, Turn, note, reuse_turn};
 use crate::shapes::{Choice, Loop, Row, Shape};
 use lra_base::Options;
 use lra_change::{Kept, Sides, leave, split};
@@ -144,17 +143,21 @@ fn finish<D: Domain>(
     Ok(outcome)
 }
 
-/// What the value at a loop's head leaves where the condition is true, and the first flagged point so far.
+/// What comes into a loop's body from the value at its head: what the condition leaves, or the kept turn, where that
+/// entered it last.
 fn enter<D: Domain>(
     alloc: Global,
     the_loop: &Loop<'_>,
     value: &D,
     flag: Option<usize>,
-) -> Result<(D, Option<usize>), AllocError>
-    requires { D.meaning.dims value.now ≤ 2 ^ 30 }
-    ensures enters { IfOk result (λ r. (e : Exactness) × Leaves (dropping D.meaning) the_loop.now.base
-        (cond_view the_loop.now.condition.now) true value.now e r.0 × (r.1 ≡ noted the_loop.now.point e flag)) }
-    ensures dims { IfOk result (λ r. D.meaning.dims r.0 ≡ D.meaning.dims value.now) }
+    kept: Option<Turn<D>>,
+) -> Result<Entered<D>, AllocError>
+    requires few { D.meaning.dims value.now ≤ 2 ^ 30 }
+    requires fits { TreeFits (iterate the_loop.now.point the_loop.now.base (cond_view the_loop.now.condition.now)
+        (node_view the_loop.now.body.now)) (D.meaning.dims value.now) }
+    requires kept { AreKept D.meaning the_loop.now.options.now (node_view the_loop.now.body.now) flag kept }
+    ensures { IfOk result (IsEntered D.meaning the_loop.now.options.now the_loop.now.point the_loop.now.base
+        (cond_view the_loop.now.condition.now) (node_view the_loop.now.body.now) flag value.now) }
 {
     let mut on = value.copy(alloc)?;
     let exactness = leave(
@@ -165,7 +168,11 @@ fn enter<D: Domain>(
         &mut on,
         Exactness::Exact,
     )?;
-    Ok((on, note(the_loop.point, exactness, flag)))
+    let inside = note(the_loop.point, exactness, flag);
+    match reuse_turn(kept, &on, inside) {
+        Some(turn) => Ok(Entered::Again(turn)),
+        None => Ok(Entered::Anew(on, inside)),
+    }
 }
 
 /// Once round a loop from a value at its head. The body isn't passed anew where the same value entered it last.
@@ -190,13 +197,14 @@ fn round<D: Domain>(
     ensures stays { IfOk result (λ r. StaysKept D.meaning the_loop.now.options.now (node_view the_loop.now.body.now)
         flag memory.old r.outcome.flag memory.new) }
 {
-    let (on, inside) = enter(alloc, the_loop, value, flag)?;
-    if let Some(turn) = reuse_turn(kept, &on, inside) {
-        return Ok(turn);
+    match enter(alloc, the_loop, value, flag, kept)? {
+        Entered::Again(turn) => Ok(turn),
+        Entered::Anew(on, inside) => {
+            let entered = on.copy(alloc)?;
+            let outcome = pass(alloc, the_loop.options, memory, the_loop.body, on, inside)?;
+            Ok(Turn { entered, outcome })
+        }
     }
-    let entered = on.copy(alloc)?;
-    let outcome = pass(alloc, the_loop.options, memory, the_loop.body, on, inside)?;
-    Ok(Turn { entered, outcome })
 }
 
 /// A loop's head from its first value on, until what a round leaves lies in it: the value there, and its turn.

@@ -8,22 +8,22 @@ use Rattle.lra_base.specs.declared.options.Options.{Options}
 use Rattle.std.proofs.lemmas.Result.{IfOk-weaker}
 use Rattle.lra_flow.specs.Pass.{noted}
 use Rattle.lra_iter.specs.Fits.{live_after, TreeFits}
-use Rattle.lra_iter.specs.Outcome.{headed, seen, AreInTurn, AreKept, AreMet, HasGrown, HasTurned, IsKept, IsPassed, IsTurned}
-use Rattle.lra_iter.specs.Outcome.{LeavesWith}
+use Rattle.lra_iter.specs.Outcome.{headed, seen, AreInTurn, AreKept, AreMet, HasGrown, HasTurned, IsEntered, IsKept, IsPassed}
+use Rattle.lra_iter.specs.Outcome.{IsTurned, LeavesWith}
 use Rattle.lra_iter.proofs.PassLoops.{grow_falls, head_starts, head_wide, head_stable, head_next}
 use Rattle.lra_iter.specs.declared.shapes.Shape.{Shape}
 use Rattle.lra_iter.specs.declared.shapes.Shape.TheVariants.{Leaf, Row, Choice, Loop, Catch}
 use Rattle.lra_iter.specs.Shapes.{node_size, row_size, leaf_view, IsShape}
 use Rattle.lra_iter.proofs.PassLoops.{narrow_starts, narrow_next, narrow_ends}
 use Rattle.lra_iter.proofs.PassSteps.{caught_have, choice_passed, loop_passed, if_both, passed_given, caught_passed}
-use Rattle.lra_iter.proofs.Again.{all_noted, kept_noted, given_turned, turned}
+use Rattle.lra_iter.proofs.Again.{all_noted, kept_noted, turned, turn_before}
 use Rattle.lra_iter.proofs.PassRows.{row_at, tree_small, row_done, row_begins, next_fits, next_remembers, row_next}
 use Rattle.lra_iter.proofs.PassRows.{last_fits, last_remembers, row_ends, row_stays}
-use Rattle.lra_iter.proofs.KeptLoops.{later_noted, met_later, stays_both, stays_then, stays_since}
+use Rattle.lra_iter.proofs.KeptLoops.{later_noted, met_later, stays_same, stays_both, stays_then, stays_since}
 use Rattle.lra_iter.proofs.KeptLoops.{remembers_later, remembers_on, recalled_passed, remembers_body, stays_begun}
 use Rattle.lra_iter.proofs.KeptLoops.{stays_recalled, finish_stays, remembers_first}
 use Rattle.lra_iter.proofs.KeptLoops.{remembers_second, stays_choice, stays_given, stays_leaf, stays_caught}
-use Rattle.lra_iter.proofs.KeptLoops.{remembers_given, given_stays}
+use Rattle.lra_iter.proofs.KeptLoops.{remembers_given}
 use Rattle.lra_iter.specs.Memory.{Remembers, StaysKept}
 use Rattle.lra_iter.proofs.pass.+pass.Goals as goal
 
@@ -33,58 +33,56 @@ pub round-pass-requires : goal.round-pass-requires
 round-pass-requires g t c =
     let m = g.D.Domain.meaning in
     let l = c.args.the_loop.now in
-    let same : m.dims c.in_ok-on.on ≡ m.dims c.args.value.now = c.in_ok-on.ensures.dims in
-    let few : m.dims c.in_ok-on.on ≤ 2 ^ 30 = subst (λ n. n ≤ 2 ^ 30) (sym same) c.requires.few in
-    let fits : TreeFits (node_view c.args.the_loop.now.body.now) (m.dims c.in_ok-on.on) =
+    let entered = subst (λ r. IsEntered m l.options.now l.point l.base (cond_view l.condition.now)
+    (node_view l.body.now) c.args.flag c.args.value.now r) c.in-Anew.is c.in_ok-turn.ensures in
+    let same : m.dims c.in-Anew.on ≡ m.dims c.args.value.now = entered.3 in
+    let few : m.dims c.in-Anew.on ≤ 2 ^ 30 = subst (λ n. n ≤ 2 ^ 30) (sym same) c.requires.few in
+    let fits : TreeFits (node_view c.args.the_loop.now.body.now) (m.dims c.in-Anew.on) =
     subst (λ n. TreeFits (node_view c.args.the_loop.now.body.now) n) (sym same) c.requires.fits.0 in
     let memory : Remembers m c.args.the_loop.now.options.now
-    (node_view c.args.the_loop.now.body.now) c.in_ok-on.inside c.args.memory.now =
-    remembers_later m l.options.now (node_view l.body.now) c.args.flag c.in_ok-on.inside c.args.memory.now
-    (later_noted l.point c.in_ok-on.ensures.enters.0 c.args.flag c.in_ok-on.inside c.in_ok-on.ensures.enters.2)
-    c.requires.remembers in
+    (node_view c.args.the_loop.now.body.now) c.in-Anew.inside c.args.memory.now =
+    remembers_later m l.options.now (node_view l.body.now) c.args.flag c.in-Anew.inside c.args.memory.now
+    (later_noted l.point entered.0 c.args.flag c.in-Anew.inside entered.2) c.requires.remembers in
     search rules
 
-pub round-returns-in-Some-clause-turned : goal.round-returns-in-Some-clause-turned
-round-returns-in-Some-clause-turned g t c =
+pub round-returns-in-Again-clause-turned : goal.round-returns-in-Again-clause-turned
+round-returns-in-Again-clause-turned g t c =
+    let l = c.args.the_loop.now in
+    subst (λ r. IsEntered g.D.Domain.meaning l.options.now l.point l.base (cond_view l.condition.now)
+    (node_view l.body.now) c.args.flag c.args.value.now r) c.in-Again.is c.in_ok-turn.ensures
+
+pub round-returns-in-Again-clause-stays : goal.round-returns-in-Again-clause-stays
+round-returns-in-Again-clause-stays g t c =
     let m = g.D.Domain.meaning in
     let l = c.args.the_loop.now in
     let body = node_view l.body.now in
-    let entered = c.in_ok-on.ensures.enters in
-    given_turned m l.options.now body l.point l.base (cond_view l.condition.now) c.args.flag c.in_ok-on.inside
-    c.args.value.now c.in_ok-on.on entered.0 c.args.kept c.reuse_turn.result
-    c.in-Some.turn entered.1 entered.2 c.in_ok-on.ensures.dims c.requires.fits.1 c.requires.kept
-    (c.reuse_turn.ensures l.options.now body) c.in-Some.is
+    let turned = subst (λ r. IsEntered m l.options.now l.point l.base (cond_view l.condition.now) body
+    c.args.flag c.args.value.now r) c.in-Again.is c.in_ok-turn.ensures in
+    stays_same m l.options.now body c.args.flag c.in-Again.turn.outcome.flag c.args.memory.now
+    (turn_before m l.options.now l.point l.base (cond_view l.condition.now) body c.args.flag c.args.value.now
+    c.in-Again.turn turned)
 
-pub round-returns-in-Some-clause-stays : goal.round-returns-in-Some-clause-stays
-round-returns-in-Some-clause-stays g t c =
+pub round-returns-in_ok-outcome-in-Anew-clause-stays : goal.round-returns-in_ok-outcome-in-Anew-clause-stays
+round-returns-in_ok-outcome-in-Anew-clause-stays g t c =
+    let m = g.D.Domain.meaning in
+    let l = c.args.the_loop.now in
+    let entered = subst (λ r. IsEntered m l.options.now l.point l.base (cond_view l.condition.now)
+    (node_view l.body.now) c.args.flag c.args.value.now r) c.in-Anew.is c.in_ok-turn.ensures in
+    stays_since m l.options.now (node_view l.body.now) c.args.flag c.in-Anew.inside
+    c.in_ok-outcome-in-Anew.outcome.flag c.args.memory.now c.pass.new.memory
+    (later_noted l.point entered.0 c.args.flag c.in-Anew.inside entered.2) c.in_ok-outcome-in-Anew.ensures.stays
+
+pub round-returns-in_ok-outcome-in-Anew-clause-turned : goal.round-returns-in_ok-outcome-in-Anew-clause-turned
+round-returns-in_ok-outcome-in-Anew-clause-turned g t c =
     let m = g.D.Domain.meaning in
     let l = c.args.the_loop.now in
     let body = node_view l.body.now in
-    let entered = c.in_ok-on.ensures.enters in
-    given_stays m l.options.now body l.point c.args.flag c.in_ok-on.inside entered.0 c.in_ok-on.on c.args.kept
-    c.reuse_turn.result c.in-Some.turn c.args.memory.now entered.2 c.requires.kept
-    (c.reuse_turn.ensures l.options.now body) c.in-Some.is
-
-pub round-returns-clause-stays : goal.round-returns-clause-stays
-round-returns-clause-stays g t c =
-    let l = c.args.the_loop.now in
-    let entered = c.in_ok-on.ensures.enters in
-    stays_since g.D.Domain.meaning l.options.now (node_view l.body.now) c.args.flag c.in_ok-on.inside
-    c.in_ok-outcome.outcome.flag c.args.memory.now c.pass.new.memory
-    (later_noted l.point entered.0 c.args.flag c.in_ok-on.inside entered.2) c.in_ok-outcome.ensures.stays
-
-pub round-returns-clause-turned : goal.round-returns-clause-turned
-round-returns-clause-turned g t c =
-    let m = g.D.Domain.meaning in
-    let l = c.args.the_loop.now in
-    let body = node_view l.body.now in
-    let entered = c.in_ok-on.ensures.enters in
-    let done = c.in_ok-outcome.ensures in
-    turned m l.options.now body l.point l.base (cond_view l.condition.now) c.args.flag c.in_ok-on.inside
-    c.args.value.now c.in_ok-on.on entered.0
-    (record { entered = c.in_ok-entered.entered; outcome = c.in_ok-outcome.outcome }) entered.1 entered.2
-    c.in_ok-on.ensures.dims c.requires.fits.1 c.in_ok-entered.ensures
-    done.passed
+    let entered = subst (λ r. IsEntered m l.options.now l.point l.base (cond_view l.condition.now)
+    (node_view l.body.now) c.args.flag c.args.value.now r) c.in-Anew.is c.in_ok-turn.ensures in
+    turned m l.options.now body l.point l.base (cond_view l.condition.now) c.args.flag c.in-Anew.inside
+    c.args.value.now c.in-Anew.on entered.0
+    (record { entered = c.in_ok-entered-in-Anew.entered; outcome = c.in_ok-outcome-in-Anew.outcome }) entered.1 entered.2
+    entered.3 c.requires.fits.1 c.in_ok-entered-in-Anew.ensures c.in_ok-outcome-in-Anew.ensures.passed
 
 -- a head that grows ---------------------------------------------------------------------------------------------------
 
