@@ -59,8 +59,8 @@ fn next_is_built_in(rest: &[Token]) -> bool
     next_is(rest, Mark::Assume)
 }
 
-// What a part with this name begins with, behind a type or behind `void`.
-fn named(has_result: bool, name: Identifier) -> Lead
+/// What a part with this name begins with, behind a type or behind `void`.
+fn build_lead(has_result: bool, name: Identifier) -> Lead
     ensures { result ≡ named has_result name }
 {
     if has_result {
@@ -79,7 +79,7 @@ fn read_called(alloc: Global, has_result: bool, rest: &[Token]) -> Result<(Lead,
         return Ok((Lead::Bare, tail(rest)));
     }
     let (name, after) = read_name(alloc, rest)?;
-    Ok((named(has_result, name), after))
+    Ok((build_lead(has_result, name), after))
 }
 
 /// A type, and a name or a word in its place.
@@ -278,7 +278,7 @@ impl Signature {
     }
 }
 
-// What a function has, if there is a name, and each parameter has one.
+/// What a function has, if there is a name, and each parameter has one.
 fn signature_of(
     alloc: Global,
     head: Option<(bool, Identifier)>,

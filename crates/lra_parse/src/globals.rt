@@ -12,16 +12,16 @@ use lra_readers::{Stopped, expect, next_is, next_number, read_name, stop, tail};
 use lra_tree::{Global as Variable, Globals, Identifier, Item, Mark, Token};
 use std::alloc::Global;
 
-// A number of 63 bits.
-fn number(value: u64) -> i64
+/// A number of 63 bits as a signed one.
+fn to_signed(value: u64) -> i64
     requires { value < 9223372036854775808 }
     ensures { result ≡ pos value }
 {
     value as i64
 }
 
-// The opposite of a number of 63 bits.
-fn opposite(value: u64) -> i64
+/// The opposite of a number of 63 bits.
+fn negate(value: u64) -> i64
     requires { value < 9223372036854775808 }
     ensures { result ≡ opposite value }
 {
@@ -37,12 +37,12 @@ fn read_signed(rest: &[Token]) -> Result<(i64, &[Token]), Stopped>
     if next_is(rest, Mark::Minus) {
         let behind = expect(rest, Mark::Minus)?;
         return match next_number(behind) {
-            Some(value) => Ok((opposite(value), tail(behind))),
+            Some(value) => Ok((negate(value), tail(behind))),
             None => stop(Cause::Syntax, behind),
         };
     }
     match next_number(rest) {
-        Some(value) => Ok((number(value), tail(rest))),
+        Some(value) => Ok((to_signed(value), tail(rest))),
         None => stop(Cause::Syntax, rest),
     }
 }
