@@ -6,7 +6,7 @@ ghost use Rattle.lra_lex.specs.Front.{BeginsGap, HasNoGap, IsCloseAt, IsFirstClo
 use crate::bytes::{indent, is_blank, line_length, word_length};
 
 /// How many bytes there are up to the end of the first `*/`.
-fn closing(text: &[u8]) -> Option<usize>
+fn find_close(text: &[u8]) -> Option<usize>
     ensures found { IfSome result (IsFirstClose text.now) }
     ensures none { IfNone result ((k : ℕ) → k + 1 < length text.now → IsCloseAt text.now k → ⊥) }
 {
@@ -19,7 +19,7 @@ fn closing(text: &[u8]) -> Option<usize>
 }
 
 /// How many bytes a comment at the front has.
-fn comment(rest: &[u8]) -> Option<usize>
+fn comment_length(rest: &[u8]) -> Option<usize>
     requires { slice_index rest.now 0 ≡ 47 }
     ensures found { IfSome result (λ n. (fresh : Bool) → BeginsGap fresh rest.now n) }
     ensures none { IfNone result ((fresh : Bool) → HasNoGap fresh rest.now) }
@@ -34,7 +34,7 @@ fn comment(rest: &[u8]) -> Option<usize>
         return None;
     }
     let (_, text) = rest.split_at(2);
-    match closing(text) {
+    match find_close(text) {
         Some(length) => Some(length + 2),
         None => None,
     }
@@ -52,7 +52,7 @@ fn is_include(rest: &[u8]) -> bool
 }
 
 /// How many bytes a gap at the front has. `fresh` tells that only spaces and tabs stand before it on the line.
-pub fn gap(rest: &[u8], fresh: bool) -> Option<usize>
+pub fn gap_length(rest: &[u8], fresh: bool) -> Option<usize>
     requires { 0 < length rest.now }
     ensures found { IfSome result (BeginsGap fresh rest.now) }
     ensures none { IfNone result (HasNoGap fresh rest.now) }
@@ -61,7 +61,7 @@ pub fn gap(rest: &[u8], fresh: bool) -> Option<usize>
     if is_blank(first) {
         Some(1)
     } else if first == b'/' {
-        comment(rest)
+        comment_length(rest)
     } else if fresh && is_include(rest) {
         Some(line_length(rest))
     } else {

@@ -10,9 +10,9 @@ ghost use Rattle.lra_lex.specs.Front.{opens_comment, operator_at};
 ghost use Rattle.lra_lex.specs.Read.{found_tokens, BeginsFound, BeginsToken, FaultsAt, HasFault};
 
 use crate::bytes::{is_digit, is_letter, word_length};
-use crate::gaps::gap;
-use crate::literals::literal;
-use crate::marks::{is_further_word, mark, spelling_of};
+use crate::gaps::gap_length;
+use crate::literals::parse_literal;
+use crate::marks::{find_mark, is_further_word, spelling_of};
 use crate::spot::Spot;
 use lra_base::{Cause, Place, Refusal, SourceError};
 use lra_tree::{Kind, Mark, Token, Word};
@@ -39,7 +39,7 @@ fn word_kind(alloc: Global, word: &[u8]) -> Result<Kind, AllocError>
     requires { is_name_word word.now ≡ true }
     ensures { IfOk result (SpellsToken word.now) }
 {
-    match mark(word) {
+    match find_mark(word) {
         Some(mark) => Ok(Kind::Mark(mark)),
         None => {
             if is_further_word(word) {
@@ -52,7 +52,7 @@ fn word_kind(alloc: Global, word: &[u8]) -> Result<Kind, AllocError>
 }
 
 /// The length and kind of the word at the front.
-fn word_token(alloc: Global, rest: &[u8]) -> Result<(usize, Kind), AllocError>
+fn read_word(alloc: Global, rest: &[u8]) -> Result<(usize, Kind), AllocError>
     requires some { 0 < length rest.now }
     requires begins { is_letter (slice_index rest.now 0) ≡ true }
     ensures { IfOk result (λ t. BeginsToken rest.now t.0 t.1) }
@@ -63,7 +63,7 @@ fn word_token(alloc: Global, rest: &[u8]) -> Result<(usize, Kind), AllocError>
 }
 
 /// The length and kind of the literal at the front, if the word there is one.
-fn number_token(rest: &[u8]) -> Option<(usize, Kind)>
+fn read_number(rest: &[u8]) -> Option<(usize, Kind)>
     requires some { 0 < length rest.now }
     requires begins { is_digit (slice_index rest.now 0) ≡ true }
     ensures found { IfSome result (λ t. BeginsToken rest.now t.0 t.1) }
@@ -71,7 +71,7 @@ fn number_token(rest: &[u8]) -> Option<(usize, Kind)>
 {
     let length = word_length(rest);
     let (word, _) = rest.split_at(length);
-    match literal(word) {
+    match parse_literal(word) {
         Some(value) => Some((length, Kind::Number(value))),
         None => None,
     }
@@ -90,14 +90,14 @@ fn longest_operator(rest: &[u8]) -> Option<Mark>
 {
     let (pair, _) = rest.split_at(rest.len().min(2));
     let (single, _) = rest.split_at(1);
-    match mark(pair) {
+    match find_mark(pair) {
         Some(mark) => Some(mark),
-        None => mark(single),
+        None => find_mark(single),
     }
 }
 
 /// The length and kind of the operator at the front.
-fn operator_token(rest: &[u8]) -> Option<(usize, Kind)>
+fn read_operator(rest: &[u8]) -> Option<(usize, Kind)>
     requires some { 0 < length rest.now }
     requires no_word { is_word_byte (slice_index rest.now 0) ≡ false }
     requires no_comment { opens_comment rest.now ≡ false }
@@ -111,7 +111,7 @@ fn operator_token(rest: &[u8]) -> Option<(usize, Kind)>
 }
 
 /// The length and kind of the token at the front, where no gap is.
-fn token(alloc: Global, rest: &[u8], place: Place) -> Result<(usize, Kind), SourceError>
+fn read_token(alloc: Global, rest: &[u8], place: Place) -> Result<(usize, Kind), SourceError>
     requires some { 0 < length rest.now }
     requires unclosed { opens_comment rest.now ≡ true → IsUnclosed rest.now }
     ensures found { IfOk result (λ t. BeginsToken rest.now t.0 t.1) }
@@ -119,10 +119,10 @@ fn token(alloc: Global, rest: &[u8], place: Place) -> Result<(usize, Kind), Sour
 {
     let first = rest[0];
     if is_letter(first) {
-        return Ok(word_token(alloc, rest)?);
+        return Ok(read_word(alloc, rest)?);
     }
     if is_digit(first) {
-        return match number_token(rest) {
+        return match read_number(rest) {
             Some(token) => Ok(token),
             None => Err(SourceError::Refused(Refusal {
                 cause: Cause::BadLiteral,
@@ -133,7 +133,7 @@ fn token(alloc: Global, rest: &[u8], place: Place) -> Result<(usize, Kind), Sour
     if opens_comment(rest) {
         return Ok((rest.len(), Kind::Unclosed));
     }
-    match operator_token(rest) {
+    match read_operator(rest) {
         Some(token) => Ok(token),
         None => Err(SourceError::Refused(Refusal {
             cause: Cause::BadByte,
@@ -148,9 +148,9 @@ fn find(alloc: Global, rest: &[u8], spot: Spot) -> Result<Found, SourceError>
     ensures found { IfOk result (BeginsFound spot.fresh rest.now) }
     ensures refused { IfRefused result (FaultsAt spot.place spot.fresh rest.now) }
 {
-    match gap(rest, spot.fresh) {
+    match gap_length(rest, spot.fresh) {
         Some(length) => Ok(Found { length, kind: None }),
-        None => match token(alloc, rest, spot.place) {
+        None => match read_token(alloc, rest, spot.place) {
             Ok((length, kind)) => Ok(Found {
                 length,
                 kind: Some(kind),
@@ -188,7 +188,7 @@ pub fn tokens(alloc: Global, source: &[u8]) -> Result<Vec<Token>, SourceError>
         let found = find(alloc, rest, spot)?;
         let (bytes, behind) = rest.split_at(found.length);
         keep(&mut tokens, found.kind, spot.place)?;
-        spot = spot.behind(bytes);
+        spot = spot.advance(bytes);
         rest = behind;
     }
     keep(&mut tokens, Some(Kind::End), spot.place)?;

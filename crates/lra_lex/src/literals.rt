@@ -47,7 +47,8 @@ impl Radix {
         }
     }
 
-    fn number(self) -> u8
+    /// The base as a number.
+    fn base(self) -> u8
         ensures { result ≡ base_number (base_of self) }
     {
         match self {
@@ -89,14 +90,14 @@ fn digit_value(digit: u8) -> u8
 }
 
 /// The number that the digits write, if it is at most 2^63 - 1.
-fn number(radix: Radix, digits: &[u8]) -> Option<u64>
+fn parse_digits(radix: Radix, digits: &[u8]) -> Option<u64>
     ensures value { IfSome result (λ n. n ≡ number_behind (base_of radix) 0 digits.now) }
     ensures bounded { IfSome result (λ n. n ≤ greatest_literal) }
     ensures too_large { IfNone result (greatest_literal < number_behind (base_of radix) 0 digits.now) }
 {
     let mut number = 0u128;
     for digit in digits {
-        number = number * u128::from(radix.number()) + u128::from(digit_value(*digit));
+        number = number * u128::from(radix.base()) + u128::from(digit_value(*digit));
         if number > GREATEST {
             return None;
         }
@@ -120,7 +121,7 @@ fn is_well_cut(radix: Radix, digits: &[u8], suffix: &[u8]) -> bool
 }
 
 /// The value of the literal that the word is, if it is one.
-pub fn literal(word: &[u8]) -> Option<u64>
+pub fn parse_literal(word: &[u8]) -> Option<u64>
     requires { 0 < length word.now }
     ensures value { IfSome result (IsLiteral word.now) }
     ensures bounded { IfSome result (λ n. n ≤ greatest_literal) }
@@ -132,5 +133,5 @@ pub fn literal(word: &[u8]) -> Option<u64>
     if !is_well_cut(radix, digits, suffix) {
         return None;
     }
-    number(radix, digits)
+    parse_digits(radix, digits)
 }

@@ -141,7 +141,7 @@ pub fn spelling_of(mark: Mark) -> &'static [u8]
 }
 
 /// The operator, or reserved word that the grammar names, of this spelling.
-pub fn mark(spelling: &[u8]) -> Option<Mark>
+pub fn find_mark(spelling: &[u8]) -> Option<Mark>
     ensures { result ≡ found_mark spelling.now }
 {
     MARKS

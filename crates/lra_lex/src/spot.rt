@@ -16,7 +16,7 @@ pub struct Spot {
 
 impl Spot {
     /// The spot behind the bytes.
-    pub fn behind(self, bytes: &[u8]) -> Spot
+    pub fn advance(self, bytes: &[u8]) -> Spot
         requires lines { self.place.line + length bytes.now < 2 ^ 32 }
         requires columns { self.place.column + length bytes.now < 2 ^ 32 }
         ensures place { result.place ≡ place_from self.place bytes.now }

@@ -1,7 +1,7 @@
--- Goals of `token`: the length and kind of the token at the front, where no gap is.
+-- Goals of `read_token`: the length and kind of the token at the front, where no gap is.
 use Rattle.std.proofs.Common.{sym, ◌∙◌}
 use Rattle.lra_lex.proofs.TokenLemmas.{comment_is}
-use Rattle.lra_lex.proofs.lexer.token.Goals as goal
+use Rattle.lra_lex.proofs.lexer.read_token.Goals as goal
 
 pub returns-then-opens_comment-clause-found : goal.returns-then-opens_comment-clause-found
 returns-then-opens_comment-clause-found c = comment_is c.args.rest.now c.requires.some (c.requires.unclosed (sym c.opens_comment.ensures ∙ c.if-opens_comment.true))

@@ -1,6 +1,6 @@
 use Rattle.std.proofs.Common.{ℕ, ◌+◌, ◌<◌}
 use Rattle.lra_lex.specs.Front.{IsCloseAt}
-use Rattle.lra_lex.proofs.gaps.closing.Given as goal
+use Rattle.lra_lex.proofs.gaps.find_close.Given as goal
 
 abbrev pub invariant-loop-i : goal.invariant-loop-i
 invariant-loop-i l = (k : ℕ) → k + 1 < l.i → IsCloseAt l.text k → ⊥

@@ -1,9 +1,9 @@
--- Goals of `word_token`: the length and kind of the word at the front.
+-- Goals of `read_word`: the length and kind of the word at the front.
 use Rattle.std.proofs.Common.{ap, ◌∙◌, ℕ, take}
 use Rattle.std.proofs.lemmas.List.Sums.{prefix_len-le-length}
 use Rattle.lra_tree.specs.Lexeme.{is_word_byte}
 use Rattle.lra_lex.proofs.TokenLemmas.{word_at, word_token_is}
-use Rattle.lra_lex.proofs.lexer.word_token.Goals as goal
+use Rattle.lra_lex.proofs.lexer.read_word.Goals as goal
 
 pub split_at-requires : goal.split_at-requires
 split_at-requires c = rw c.word_length-length.ensures (prefix_len-le-length is_word_byte c.args.rest.now)

@@ -1,7 +1,7 @@
 use Rattle.std.proofs.Common.{◌≡◌, ◌≤◌, drop}
 use Rattle.lra_tree.specs.Lexeme.{greatest_literal, number_behind}
 use Rattle.lra_lex.specs.Literal.{base_of}
-use Rattle.lra_lex.proofs.literals.number.Given as goal
+use Rattle.lra_lex.proofs.literals.parse_digits.Given as goal
 
 abbrev pub invariant-loop-digit : goal.invariant-loop-digit
 invariant-loop-digit l = record {

@@ -1,7 +1,7 @@
 use Rattle.std.proofs.Common.{◌≡◌, ◌≤◌, ◌+◌, drop}
 use Rattle.lra_tree.specs.Tokens.{place_from}
 use Rattle.lra_lex.specs.Places.{fresh_behind}
-use Rattle.lra_lex.proofs.spot.Spot.behind.Given as goal
+use Rattle.lra_lex.proofs.spot.Spot.advance.Given as goal
 
 abbrev pub invariant-loop-byte : goal.invariant-loop-byte
 invariant-loop-byte l = record {

@@ -1,8 +1,8 @@
--- Goals of `number_token`: the length and kind of the literal at the front, if the word there is one.
+-- Goals of `read_number`: the length and kind of the literal at the front, if the word there is one.
 use Rattle.std.proofs.lemmas.List.Sums.{prefix_len-le-length}
 use Rattle.lra_tree.specs.Lexeme.{is_word_byte}
 use Rattle.lra_lex.proofs.TokenLemmas.{number_token_is, bad_literal}
-use Rattle.lra_lex.proofs.lexer.number_token.Goals as goal
+use Rattle.lra_lex.proofs.lexer.read_number.Goals as goal
 
 pub split_at-requires : goal.split_at-requires
 split_at-requires c = rw c.word_length-length.ensures (prefix_len-le-length is_word_byte c.args.rest.now)

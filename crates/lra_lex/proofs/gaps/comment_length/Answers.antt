@@ -1,7 +1,7 @@
--- Goals of `comment`: how many bytes a comment at the front has.
+-- Goals of `comment_length`: how many bytes a comment at the front has.
 use Rattle.std.proofs.Common.{arith}
 use Rattle.lra_lex.proofs.GapLemmas.{line_gap, block_gap, no_close}
-use Rattle.lra_lex.proofs.gaps.comment.Goals as goal
+use Rattle.lra_lex.proofs.gaps.comment_length.Goals as goal
 
 pub returns-then-rest-eq47-clause-found : goal.returns-then-rest-eq47-clause-found
 returns-then-rest-eq47-clause-found c = λ fresh. rw c.line_length.ensures (line_gap fresh c.args.rest.now (omega arith) c.requires c.if-rest-eq47.true)

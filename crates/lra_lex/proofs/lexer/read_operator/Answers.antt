@@ -1,8 +1,8 @@
--- Goals of `operator_token`: the length and kind of the operator at the front.
+-- Goals of `read_operator`: the length and kind of the operator at the front.
 use Rattle.std.proofs.Common.{sym}
 use Rattle.lra_lex.proofs.LexemeLemmas.{operator_none}
 use Rattle.lra_lex.proofs.TokenLemmas.{operator_token_is}
-use Rattle.lra_lex.proofs.lexer.operator_token.Goals as goal
+use Rattle.lra_lex.proofs.lexer.read_operator.Goals as goal
 
 pub returns-in-Some-clause-found : goal.returns-in-Some-clause-found
 returns-in-Some-clause-found c =

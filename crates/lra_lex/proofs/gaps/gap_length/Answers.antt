@@ -1,11 +1,11 @@
--- Goals of `gap`: how many bytes a gap at the front has.
+-- Goals of `gap_length`: how many bytes a gap at the front has.
 use Rattle.std.proofs.Common.{◌∙◌, ℕ, List, sym}
 use Rattle.std.specs.Prelude.{IfSome, Option, Some, None, Bool}
 use Rattle.lra_lex.specs.Front.{BeginsGap}
 use Rattle.lra_lex.proofs.RunLemmas.{differ}
 use Rattle.lra_lex.proofs.GapLemmas.{blank_gap, skip_gap, else_no_gap}
-use Rattle.lra_lex.proofs.gaps.gap.Goals as goal
-use Rattle.lra_lex.proofs.gaps.gap.Goals.{else-fresh-via-then-fresh+else-is_include, else-fresh-via-else-fresh}
+use Rattle.lra_lex.proofs.gaps.gap_length.Goals as goal
+use Rattle.lra_lex.proofs.gaps.gap_length.Goals.{else-fresh-via-then-fresh+else-is_include, else-fresh-via-else-fresh}
 
 pub returns-then-is_blank-clause-found : goal.returns-then-is_blank-clause-found
 returns-then-is_blank-clause-found c = blank_gap c.args.fresh c.args.rest.now c.requires (sym c.is_blank.ensures ∙ c.if-is_blank.true)
@@ -15,7 +15,7 @@ found_for fresh rest None h = tt
 found_for fresh rest (Some n) h = h fresh
 
 pub returns-then-first-eq47-clause-found : goal.returns-then-first-eq47-clause-found
-returns-then-first-eq47-clause-found c = found_for c.args.fresh c.args.rest.now c.comment.result c.comment.ensures.found
+returns-then-first-eq47-clause-found c = found_for c.args.fresh c.args.rest.now c.comment_length.result c.comment_length.ensures.found
 
 pub returns-then-is_include-clause-found : goal.returns-then-is_include-clause-found
 returns-then-is_include-clause-found c = rw c.line_length.ensures (skip_gap c.args.fresh c.args.rest.now c.if-fresh.true (c.is_include.ensures.0 c.if-is_include.true))
