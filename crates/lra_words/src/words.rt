@@ -30,7 +30,7 @@ fn refusal_of(error: &clap::Error) -> Refusal
     }
 }
 
-fn domain_named(name: &str) -> Option<Domain>
+fn find_domain(name: &str) -> Option<Domain>
     ensures { result ≡ domain_named name.now }
 {
     match name {
@@ -41,32 +41,32 @@ fn domain_named(name: &str) -> Option<Domain>
     }
 }
 
-fn domain(matches: &ArgMatches) -> Option<Domain>
+fn read_domain(matches: &ArgMatches) -> Option<Domain>
     ensures { result ≡ domain_at (codes "domain") (rows_of (found_of matches.now)) }
 {
-    domain_named(matches.get_str("domain")?)
+    find_domain(matches.get_str("domain")?)
 }
 
-fn number(matches: &ArgMatches, option: &str) -> Option<u32>
+fn read_number(matches: &ArgMatches, option: &str) -> Option<u32>
     ensures { result ≡ number_at option.now (2 ^ 32) (rows_of (found_of matches.now)) }
 {
     matches.get_one::<u32>(option)
 }
 
-fn flag(matches: &ArgMatches, option: &str) -> Option<bool>
+fn read_flag(matches: &ArgMatches, option: &str) -> Option<bool>
     ensures { result ≡ flag_at option.now (rows_of (found_of matches.now)) }
 {
     matches.get_one::<bool>(option)
 }
 
-fn analyse_options(matches: &ArgMatches) -> Option<Options>
+fn read_options(matches: &ArgMatches) -> Option<Options>
     ensures { result ≡ options_of (rows_of (found_of matches.now)) }
 {
-    let domain = domain(matches)?;
-    let parts = number(matches, "parts")?;
-    let delay = number(matches, "delay")?;
-    let narrow = number(matches, "narrow")?;
-    let limited = flag(matches, "limited")?;
+    let domain = read_domain(matches)?;
+    let parts = read_number(matches, "parts")?;
+    let delay = read_number(matches, "delay")?;
+    let narrow = read_number(matches, "narrow")?;
+    let limited = read_flag(matches, "limited")?;
     Some(Options {
         domain,
         parts,
@@ -76,34 +76,34 @@ fn analyse_options(matches: &ArgMatches) -> Option<Options>
     })
 }
 
-fn analyse_command(matches: &ArgMatches) -> Option<Command>
+fn read_analyse(matches: &ArgMatches) -> Option<Command>
     ensures { result ≡ analyse_of (rows_of (found_of matches.now)) }
 {
-    let options = analyse_options(matches)?;
-    let json = flag(matches, "json")?;
+    let options = read_options(matches)?;
+    let json = read_flag(matches, "json")?;
     Some(Command::Analyse { options, json })
 }
 
-fn seed(matches: &ArgMatches) -> Option<u64>
+fn read_seed(matches: &ArgMatches) -> Option<u64>
     ensures { result ≡ number_at (codes "seed") (2 ^ 64) (rows_of (found_of matches.now)) }
 {
     matches.get_one::<u64>("seed")
 }
 
-fn sample_command(matches: &ArgMatches) -> Option<Command>
+fn read_sample(matches: &ArgMatches) -> Option<Command>
     ensures { result ≡ sample_of (rows_of (found_of matches.now)) }
 {
-    let seed = seed(matches)?;
-    let size = number(matches, "size")?;
+    let seed = read_seed(matches)?;
+    let size = read_number(matches, "size")?;
     Some(Command::Sample { seed, size })
 }
 
-fn chosen_command(name: &str, matches: &ArgMatches) -> Option<Command>
+fn choose_command(name: &str, matches: &ArgMatches) -> Option<Command>
     ensures { result ≡ command_of (Some (name.now, rows_of (found_of matches.now))) }
 {
     match name {
-        "analyse" => analyse_command(matches),
-        "sample" => sample_command(matches),
+        "analyse" => read_analyse(matches),
+        "sample" => read_sample(matches),
         "calc" => Some(Command::Calc),
         _ => None,
     }
@@ -128,7 +128,7 @@ pub fn parse_command(alloc: Global, words: &[String]) -> Result<Command, Refusal
     let Some((name, inner)) = matches.subcommand() else {
         return Err(Refusal::Usage);
     };
-    match chosen_command(name, inner) {
+    match choose_command(name, inner) {
         Some(command) => Ok(command),
         None => Err(Refusal::Usage),
     }

@@ -1,8 +1,8 @@
--- Goals of `number`.
+-- Goals of `read_number`.
 use Rattle.std.specs.Str.Parse.{ExplainsUnsignedError, HasUnsignedDigitsIfOk, ParsesUnsigned}
 use Rattle.clap.specs.Words.{found_of}
 use Rattle.lra_words.proofs.Readings.{number_got}
-use Rattle.lra_words.proofs.words.number.Goals as goal
+use Rattle.lra_words.proofs.words.read_number.Goals as goal
 
 pub returns : goal.returns
 returns c = number_got (λ t r. ParsesUnsigned 32 10 t r × ExplainsUnsignedError 10 t r × HasUnsignedDigitsIfOk t r) 32 (λ t r h. h.0)

@@ -1,9 +1,9 @@
--- Goals of `seed`.
+-- Goals of `read_seed`.
 use Rattle.std.proofs.Common.{codes}
 use Rattle.std.specs.Str.Parse.{ExplainsUnsignedError, HasUnsignedDigitsIfOk, ParsesUnsigned}
 use Rattle.clap.specs.Words.{found_of}
 use Rattle.lra_words.proofs.Readings.{number_got}
-use Rattle.lra_words.proofs.words.seed.Goals as goal
+use Rattle.lra_words.proofs.words.read_seed.Goals as goal
 
 pub returns : goal.returns
 returns c = number_got (λ t r. ParsesUnsigned 64 10 t r × ExplainsUnsignedError 10 t r × HasUnsignedDigitsIfOk t r) 64 (λ t r h. h.0) (found_of c.args.matches.now)
