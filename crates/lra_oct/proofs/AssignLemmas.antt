@@ -31,7 +31,7 @@ use Rattle.lra_dbm.specs.Tight.{Entries, opposite, with_sign, signed_value, IsSt
 use Rattle.lra_dbm.specs.Cells.{Cells, entries, entered}
 use Rattle.lra_dbm.specs.Cells.{Content as Matrix}
 use Rattle.lra_dbm.specs.Closure.{IsClosure}
-use Rattle.lra_dbm.specs.Shifting.{added_to, source, shifted, ShiftedTo}
+use Rattle.lra_dbm.specs.Shifting.{added_to, origin, shifted, ShiftedTo}
 use Rattle.lra_dbm.proofs.EntryLemmas.{le_same, le_none, le_trans, sum_grows}
 use Rattle.lra_dbm.proofs.Lowering.{enter_matrix, le_within_range}
 use Rattle.lra_dbm.proofs.CellLemmas.{inside_or_out}
@@ -136,8 +136,8 @@ assigned_equate n x i e old new u place row one other fits by = record {
 
 -- ---- x becomes x + c or -x + c
 
-source_true : (x i : ℕ) → i / 2 ≡ x → source true x i ≡ opposite i
-source_true x i e = elim (eqb_tells (i / 2) x) as (λ _. source true x i ≡ opposite i) [ inl f ↦ rw f.0 refl | inr f ↦ absurd (f.1 e) ]
+source_true : (x i : ℕ) → i / 2 ≡ x → origin true x i ≡ opposite i
+source_true x i e = elim (eqb_tells (i / 2) x) as (λ _. origin true x i ≡ opposite i) [ inl f ↦ rw f.0 refl | inr f ↦ absurd (f.1 e) ]
 
 plus_half : (x : ℕ) → 2 * x / 2 ≡ x
 plus_half x = omega arith
@@ -146,32 +146,32 @@ minus_half : (x : ℕ) → (2 * x + 1) / 2 ≡ x
 minus_half x = omega arith
 
 -- the value of x's own signed variable, by the place from which it comes
-own_value : (flips : Bool) (s : List ℤ) (x i : ℕ) → i / 2 ≡ x → flips ≡ (i % 2 == 1) → (signed_value s i ≡ signed_value s (source flips x (2 * x)))
-    × (neg_ℤ (signed_value s i) ≡ signed_value s (source flips x (2 * x + 1)))
+own_value : (flips : Bool) (s : List ℤ) (x i : ℕ) → i / 2 ≡ x → flips ≡ (i % 2 == 1) → (signed_value s i ≡ signed_value s (origin flips x (2 * x)))
+    × (neg_ℤ (signed_value s i) ≡ signed_value s (origin flips x (2 * x + 1)))
 own_value flips s x i own sign = elim (in_pair x i own) [
   | inl p ↦ (let even : (i % 2 == 1) ≡ false = (let q : i % 2 ≡ 0 = omega arith in ap (λ z. z == 1) q) in
       let no = sign ∙ even in (
-        ap (signed_value s) p ∙ ap (λ t. signed_value s (source t x (2 * x))) (sym no),
-        ap (λ z. neg_ℤ (signed_value s z)) p ∙ ap neg_ℤ (plus_value s x) ∙ sym (minus_value s x) ∙ ap (λ t. signed_value s (source t x (2 * x + 1))) (sym no),
+        ap (signed_value s) p ∙ ap (λ t. signed_value s (origin t x (2 * x))) (sym no),
+        ap (λ z. neg_ℤ (signed_value s z)) p ∙ ap neg_ℤ (plus_value s x) ∙ sym (minus_value s x) ∙ ap (λ t. signed_value s (origin t x (2 * x + 1))) (sym no),
       ))
   | inr p ↦ (let odd : (i % 2 == 1) ≡ true = (let q : i % 2 ≡ 1 = omega arith in ap (λ z. z == 1) q) in
       let yes' = sign ∙ odd in (
-        ap (signed_value s) (p ∙ sym (opposite_plus x)) ∙ ap (signed_value s) (sym (source_true x (2 * x) (plus_half x))) ∙ ap (λ t. signed_value s (source t x (2 * x))) (sym yes'),
+        ap (signed_value s) (p ∙ sym (opposite_plus x)) ∙ ap (signed_value s) (sym (source_true x (2 * x) (plus_half x))) ∙ ap (λ t. signed_value s (origin t x (2 * x))) (sym yes'),
         ap (λ z. neg_ℤ (signed_value s z)) p ∙ sym (signed_opposite s (2 * x + 1)) ∙ ap (signed_value s) (sym (source_true x (2 * x + 1) (minus_half x)))
-            ∙ ap (λ t. signed_value s (source t x (2 * x + 1))) (sym yes'),
+            ∙ ap (λ t. signed_value s (origin t x (2 * x + 1))) (sym yes'),
       ))
 ]
 
 shifted_value : (flips : Bool) (s : List ℤ) (x i : ℕ) (c v : ℤ) (a : ℕ) → x < length s → i / 2 ≡ x → flips ≡ (i % 2 == 1) → v ≡ c +ℤ signed_value s i
-    → signed_value (slice_set s x v) a ≡ signed_value s (source flips x a) +ℤ added_to x c a
+    → signed_value (slice_set s x v) a ≡ signed_value s (origin flips x a) +ℤ added_to x c a
 shifted_value flips s x i c v a wide own sign is = elim (eqb_tells (a / 2) x) [
   | inr f ↦ signed_other s x a v f.1 ∙ plus_none (signed_value s a) ∙ ap (λ z. signed_value s z +ℤ pos 0) (sym (source_other flips x a f.1))
-      ∙ ap (λ z. signed_value s (source flips x a) +ℤ z) (sym (added_other x c a f.1))
+      ∙ ap (λ z. signed_value s (origin flips x a) +ℤ z) (sym (added_other x c a f.1))
   | inl f ↦ elim (in_pair x a f.1) [
     | inl p ↦ rw p (set_plus s x v wide ∙ is ∙ swap c (signed_value s i) ∙ ap (λ z. z +ℤ c) (own_value flips s x i own sign).0
-        ∙ ap (λ z. signed_value s (source flips x (2 * x)) +ℤ z) (sym (added_plus x c)))
+        ∙ ap (λ z. signed_value s (origin flips x (2 * x)) +ℤ z) (sym (added_plus x c)))
     | inr p ↦ rw p (set_minus s x v wide ∙ ap neg_ℤ is ∙ negated c (signed_value s i) ∙ ap (λ z. z +ℤ neg_ℤ c) (own_value flips s x i own sign).1
-        ∙ ap (λ z. signed_value s (source flips x (2 * x + 1)) +ℤ z) (sym (added_minus x c)))
+        ∙ ap (λ z. signed_value s (origin flips x (2 * x + 1)) +ℤ z) (sym (added_minus x c)))
   ]
 ]
   where
@@ -192,9 +192,9 @@ shifted_store : (n : ℕ) (flips : Bool) (x i : ℕ) (c v : ℤ) (old new : Cell
 shifted_store n flips x i c v old new p s place own sign to store is =
     let wide : x < length s = (let w = store.width in omega arith) in record {
       width = length-set {A = ℤ} s x v ∙ store.width;
-      below = λ a b h k. le_trans (le_same (difference_moves (signed_value (slice_set s x v) b) (signed_value (slice_set s x v) a) (signed_value s (source flips x b))
-          (signed_value s (source flips x a)) (added_to x c b) (added_to x c a) (shifted_value flips s x i c v b wide own sign is) (shifted_value flips s x i c v a wide own sign is)))
-          (le_trans (sum_grows (store.below (source flips x a) (source flips x b) (source_below n flips x a h) (source_below n flips x b k)) (le_same refl))
+      below = λ a b h k. le_trans (le_same (difference_moves (signed_value (slice_set s x v) b) (signed_value (slice_set s x v) a) (signed_value s (origin flips x b))
+          (signed_value s (origin flips x a)) (added_to x c b) (added_to x c a) (shifted_value flips s x i c v b wide own sign is) (shifted_value flips s x i c v a wide own sign is)))
+          (le_trans (sum_grows (store.below (origin flips x a) (origin flips x b) (source_below n flips x a h) (source_below n flips x b k)) (le_same refl))
           (le_trans (le_within_range (shifted flips x c (entries n old) a b)) (le_same (sym (to.entries a b h k)))));
     }
 
@@ -202,7 +202,7 @@ shifted_fits : (n : ℕ) (flips : Bool) (x : ℕ) (c : ℤ) (old new : Cells) (p
 shifted_fits n flips x c old new p fit to = record {
   is = to.is;
   diagonal = λ a. elim (inside_or_out n a a) [
-    | inl h ↦ to.entries a a h.0 h.1 ∙ shifted_diagonal n flips x c old a fit.is ∙ fit.diagonal (source flips x a)
+    | inl h ↦ to.entries a a h.0 h.1 ∙ shifted_diagonal n flips x c old a fit.is ∙ fit.diagonal (origin flips x a)
     | inr far ↦ far new ∙ sym (far old) ∙ fit.diagonal a
   ];
 }

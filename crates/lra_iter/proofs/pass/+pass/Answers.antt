@@ -298,8 +298,8 @@ narrow-narrowing-init g t c =
     (node_view l.body.now) c.args.first.now c.requires.turned.0 c.args.grown.value c.args.grown.turn c.args.memory.now
     c.requires.dims c.requires.turned.1
 
-pub narrow-narrowed-requires : goal.narrow-narrowed-requires
-narrow-narrowed-requires g t c = c.narrowing.invariant.behind
+pub narrow-join_round-requires : goal.narrow-join_round-requires
+narrow-join_round-requires g t c = c.narrowing.invariant.behind
 
 pub narrow-round-requires : goal.narrow-round-requires
 narrow-round-requires g t c =
