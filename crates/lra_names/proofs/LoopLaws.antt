@@ -20,7 +20,7 @@ use Rattle.lra_scopes.specs.Outcome.{Tells, TellsOf}
 use Rattle.lra_simple.specs.Labelling.{LabelsSoFar, Adds}
 use Rattle.lra_simple.specs.Statements.{choice_tree}
 use Rattle.lra_simple.specs.LoopHeads.{HeadTree, while_head, for_head, with_body, head_faults, body_scope, body_label, head_labels, body_live, loop_around}
-use Rattle.lra_names.specs.Resolved.{Resolves}
+use Rattle.lra_simple.specs.Resolved.{Resolves}
 use Rattle.lra_scopes.proofs.Telling.{tells_front, tells_behind}
 use Rattle.lra_scopes.proofs.Loops.{both_clean}
 use Rattle.lra_simple.proofs.StatementLaws.{left_for, left_inner, count_block, count_for, count_if_else}

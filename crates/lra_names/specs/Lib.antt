@@ -1,2 +1,1 @@
 pub mod Mains
-pub mod Resolved

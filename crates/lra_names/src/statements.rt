@@ -12,7 +12,7 @@ ghost use Rattle.lra_simple.specs.Labelling.{Fills, Follows};
 ghost use Rattle.lra_simple.specs.Statements.{around_of, followed};
 ghost use Rattle.lra_simple.specs.LoopHeads.{choice_of, loop_tree};
 ghost use Rattle.lra_scopes.specs.Outcome.{Tells, TellsOf};
-ghost use Rattle.lra_names.specs.Resolved.{Resolves};
+ghost use Rattle.lra_simple.specs.Resolved.{Resolves};
 
 use lra_base::SourceError;
 use lra_scopes::Scope;

@@ -1,5 +1,7 @@
--- A statement is simple where it is none with statements in it.
-use Rattle.std.proofs.Common.{◌≡◌, refl, sym, subst, Option, Box, Global}
+-- A statement is simple where it is none with statements in it; it is resolved by one label.
+use Rattle.std.proofs.Common.{◌≡◌, suc, refl, sym, subst, arith, Option, Box, Global, Result, Ok, Err}
+use Rattle.std.specs.Result.{IfOk, OnOk}
+use Rattle.lra_base.specs.declared.error.SourceError.{SourceError}
 use Rattle.lra_base.specs.declared.refusals.Place.{Place}
 use Rattle.lra_tree.specs.declared.trees.Stmt.{Stmt, Stmt-F, out-Stmt, roll-Stmt, roll-out-Stmt}
 use Rattle.lra_tree.specs.declared.trees.BlockItem.{BlockItem}
@@ -12,6 +14,15 @@ use Rattle.lra_tree.specs.declared.trees.Call.{Call}
 use Rattle.lra_tree.specs.declared.trees.Rvalue.{Rvalue}
 use Rattle.lra_tree.specs.Trees.{StmtTree}
 use Rattle.lra_tree.specs.Views.{stmt_view}
+use Rattle.lra_tree.specs.Labels.{stmt_labels}
+use Rattle.lra_program.specs.declared.program.Stmt.{Stmt as ProgramStmt}
+use Rattle.lra_program.specs.ProgramViews.{stmt_view as program_stmt_view}
+use Rattle.lra_meaning.specs.Scope.{Scope}
+use Rattle.lra_meaning.specs.NameFaults.{Around, stmt_faults}
+use Rattle.lra_meaning.specs.Resolve.{resolve_stmt, stmt_count}
+use Rattle.lra_scopes.specs.Outcome.{TellsOf}
+use Rattle.lra_simple.specs.Labelling.{LabelsSoFar, Adds}
+use Rattle.lra_simple.specs.Resolved.{Resolves}
 use Rattle.lra_simple.specs.Statements.{IsSimple}
 use Rattle.lra_simple.proofs.StatementLaws.{block_is, nothing_is, assign_is, call_is, break_is, continue_is, return_is, assert_is, assume_is, if_is, if_else_is, while_is, for_is}
 
@@ -67,3 +78,9 @@ module _ (s : Stmt) (simple : IsSimple (stmt_view s))
 
   pub no_other : ⊥
   no_other = opened_is_other (out-Stmt s) (sym (roll-out-Stmt s))
+
+pub by_one_label : {a : Around} {s : Scope} {old new : LabelsSoFar} {t u : StmtTree} (r : Result ProgramStmt SourceError) → t ≡ u → stmt_count u ≡ 1
+    → TellsOf (stmt_faults a s u) r → IfOk r (λ v. program_stmt_view v ≡ resolve_stmt a.functions s old.next u)
+    → OnOk r (new.next ≡ suc old.next) → OnOk r (Adds old new (stmt_labels old.live u)) → Resolves a s old t r s new
+by_one_label (Ok v) is one told found counted adds = rw is (record { told = told; found = found; kept = refl; counted = omega (arith, one, counted); adds = adds })
+by_one_label (Err e) is one told found counted adds = rw is (record { told = told; found = tt {0}; kept = tt {0}; counted = tt {0}; adds = tt {0} })

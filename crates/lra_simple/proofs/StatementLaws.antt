@@ -187,12 +187,6 @@ pub kept_so : {T : Type 0} {P : Type 0} (r : Result T SourceError) → P → OnO
 kept_so (Ok v) h = h
 kept_so (Err e) h = tt {0}
 
-pub counted_so : {T : Type 0} (r : Result T SourceError) (n m k count : ℕ) → k ≡ n + count → OnOk r (m ≡ k) → OnOk r (m ≡ n + count)
-counted_so r n m k count e h = rw (sym e) h
-
-pub one_counted : {T : Type 0} (r : Result T SourceError) (n m count : ℕ) → count ≡ 1 → OnOk r (m ≡ suc n) → OnOk r (m ≡ n + count)
-one_counted r n m count e h = counted_so r n m (suc n) count (omega (arith, e)) h
-
 -- what a statement means whose parts are there
 pub absent_is : view.stmt_view program_stmt.Absent ≡ program.absent
 absent_is = search (rules, the_lemmas)

@@ -1,3 +1,4 @@
 pub mod Labelling
 pub mod Statements
 pub mod LoopHeads
+pub mod Resolved

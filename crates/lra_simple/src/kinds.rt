@@ -1,15 +1,8 @@
 //! Statements without statements in them, by their kinds.
 
-ghost use Rattle.std.specs.Prelude.{◌≡◌, ◌+◌, IfOk, OnOk};
 ghost use Rattle.lra_tree.specs.Views.{stmt_view};
-ghost use Rattle.lra_program.specs.ProgramViews.{stmt_view as program_stmt_view};
-ghost use Rattle.lra_meaning.specs.NameFaults.{stmt_faults};
-ghost use Rattle.lra_meaning.specs.Resolve.{resolve_stmt, stmt_count};
-ghost use Rattle.lra_scopes.specs.Calls.{functions_at};
-ghost use Rattle.lra_tree.specs.Labels.{stmt_labels};
-ghost use Rattle.lra_simple.specs.Labelling.{Adds};
 ghost use Rattle.lra_simple.specs.Statements.{around_of, IsSimple};
-ghost use Rattle.lra_scopes.specs.Outcome.{TellsOf};
+ghost use Rattle.lra_simple.specs.Resolved.{Resolves};
 
 use crate::around::Around;
 use crate::heads::{resolve_assert, resolve_assume};
@@ -30,11 +23,7 @@ pub fn resolve_simple(
     stmt: &Stmt,
 ) -> Result<lra_program::Stmt, SourceError>
     requires simple { IsSimple (stmt_view stmt.now) }
-    ensures told { TellsOf (stmt_faults (around_of around.now) scope.now (stmt_view stmt.now)) result }
-    ensures found { IfOk result (λ s. program_stmt_view s
-        ≡ resolve_stmt (functions_at around.now.functions.now) scope.now labels.old.next (stmt_view stmt.now)) }
-    ensures counted { OnOk result (labels.new.next ≡ labels.old.next + stmt_count (stmt_view stmt.now)) }
-    ensures adds { OnOk result (Adds labels.old labels.new (stmt_labels labels.old.live (stmt_view stmt.now))) }
+    ensures { Resolves (around_of around.now) scope.now labels.old (stmt_view stmt.now) result scope.now labels.new }
 {
     match stmt {
         Stmt::Nothing(place) => resolve_nothing(labels, *place),

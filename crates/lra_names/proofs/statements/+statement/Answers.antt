@@ -157,13 +157,7 @@ resolve_stmt-returns-in-For t c =
     c.resolve_loop-in-For.ensures
 
 pub resolve_stmt-returns-in_default : goal.resolve_stmt-returns-in_default
-resolve_stmt-returns-in_default t c = record {
-  told = c.resolve_simple.ensures.told;
-  found = c.resolve_simple.ensures.found;
-  kept = kept_so c.resolve_simple.result refl;
-  counted = c.resolve_simple.ensures.counted;
-  adds = c.resolve_simple.ensures.adds;
-}
+resolve_stmt-returns-in_default t c = c.resolve_simple.ensures
 
 pub resolve_choice-returns-in_err-head : goal.resolve_choice-returns-in_err-head
 resolve_choice-returns-in_err-head t c =
