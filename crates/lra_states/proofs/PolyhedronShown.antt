@@ -16,11 +16,12 @@ use Rattle.lra_linear.specs.Range.{InRange}
 use Rattle.lra_linear.specs.Vectors.{entry, product}
 use Rattle.lra_linear.proofs.Combinations.{generated_row}
 use Rattle.lra_linear.proofs.Membership.{contains_none, contains_head, contains_tail, contains_cases}
-use Rattle.lra_linear.proofs.OneSpelling.{falsity_never}
+use Rattle.lra_linear.proofs.OneSpelling.{falsity_never, given_has, some_member}
 use Rattle.lra_linear.proofs.Polyhedra.{con_gen, cone_gen, generators_are_generators}
 use Rattle.lra_linear.specs.declared.GenKind.{GenKind}
 use Rattle.lra_linear.specs.declared.GenKind.TheVariants.{Point, Ray, Line}
 use Rattle.lra_sys.specs.Listed.{Listed, given_by, constraints, generators, FitsKind, FitKinds}
+use Rattle.lra_polydom.proofs.PartLemmas.{kind_back}
 use Rattle.lra_program.specs.Rows.{Row, RowHolds}
 use Rattle.lra_show.specs.Shown.{report_row, report_generator}
 use Rattle.lra_show.specs.ShownDescriptions.{generator_kind, shown_constraint, shown_generator}
@@ -35,15 +36,11 @@ use Rattle.lra_states.proofs.RowsHold.{row_holds, row_held}
 use Rattle.lra_states.proofs.SamePoints.{as_row, within_con, con_within, generated_gen, gen_generated}
 
 -- ---- the lists of a report are those of the polyhedron
-kind_again : (k : ConKind) → constraint_kind (is_equality k) ≡ k
-kind_again Ge = refl
-kind_again Eq = refl
-
 pub rows_again : (rows : List (List ℤ)) (kinds : List ConKind) → shown_rows rows kinds ≡ map shown_constraint (given_by is_equality rows kinds)
 rows_again [] kinds = refl
 rows_again (r ∷ rows) [] = refl
 rows_again (r ∷ rows) (k ∷ kinds) =
-    ap (λ (q : ConKind). report_row r q ∷ shown_rows rows kinds) (sym (kind_again k)) ∙ ap (λ rest. report_row r (constraint_kind (is_equality k)) ∷ rest) (rows_again rows kinds)
+    ap (λ (q : ConKind). report_row r q ∷ shown_rows rows kinds) (sym (kind_back k)) ∙ ap (λ rest. report_row r (constraint_kind (is_equality k)) ∷ rest) (rows_again rows kinds)
 
 point_again : (z : ℤ) → pos 0 <ℤ z → Point ≡ generator_kind false z
 point_again (pos zero) h = absurd (omega (arith, ints, h))
@@ -104,13 +101,6 @@ shown_each_generator : (P : Generator → Type 0) (b : Bool) (rows : List (List 
 shown_each_generator P b [] h = tt
 shown_each_generator P b (r ∷ rows) h = (h r (contains_head r rows), shown_each_generator P b rows (λ x k. h x (contains_tail r x rows k)))
 
-member_of : (b : Bool) (rows : List (List ℤ)) (r : List ℤ) → Contains rows r → Contains (given_as b rows) (record { row = r; equal = b })
-member_of b [] r k = absurd (contains_none r k)
-member_of b (x ∷ rows) r k = elim (contains_cases x r rows k) [
-  | inl e ↦ subst (λ (z : List ℤ). Contains (given_as b (x ∷ rows)) (record { row = z; equal = b })) e (contains_head (let g : Given = record { row = x; equal = b } in g) (given_as b rows))
-  | inr d ↦ contains_tail (let g : Given = record { row = x; equal = b } in g) (record { row = r; equal = b }) (given_as b rows) (member_of b rows r d)
-]
-
 leads_of : (rows : List (List ℤ)) (ps : List ℕ) → IsEchelon rows ps → (r : List ℤ) → Contains rows r → (p : ℕ) × Leads r p
 leads_of [] ps e r k = absurd (contains_none r k)
 leads_of (x ∷ rows) [] e r k = absurd e
@@ -127,9 +117,9 @@ rows_spelled p h small =
     let small' : AreSmall (es ++ is) = subst AreSmall h.rows_are small in
     let first = shown_each IsSpelledRow true h.equalities (λ r k.
     let (q, leads) = leads_of h.equalities h.constraints_canonical.pivots h.constraints_canonical.echelon r k in
-    spelled_equality r q leads (small' (record { row = r; equal = true }) (Contains-append_left es is (record { row = r; equal = true }) (member_of true h.equalities r k)))) in
+    spelled_equality r q leads (small' (record { row = r; equal = true }) (Contains-append_left es is (record { row = r; equal = true }) (given_has true h.equalities r k)))) in
     let second = shown_each IsSpelledRow false h.inequalities (λ r k.
-    spelled_inequality r (small' (record { row = r; equal = false }) (Contains-append_right es is (record { row = r; equal = false }) (member_of false h.inequalities r k)))) in
+    spelled_inequality r (small' (record { row = r; equal = false }) (Contains-append_right es is (record { row = r; equal = false }) (given_has false h.inequalities r k)))) in
     subst (λ (rows : List Given). AllByRecursion IsSpelledRow (map shown_constraint rows)) (sym h.rows_are)
     (subst (AllByRecursion IsSpelledRow) (sym (map-append shown_constraint es is)) (every_append IsSpelledRow (map shown_constraint es) (map shown_constraint is) first second))
 
@@ -151,15 +141,15 @@ generators_spelled p h small =
     let g : Given = record { row = r; equal = false } in
     subst (λ (q : GenKind). IsSpelledGenerator (report_generator r q)) (point_again (entry r 0) above)
     (spelled_point r above (h.generators_canonical.lowest r (Contains-append_left h.points h.rays r k))
-    (small' g (Contains-append_left (points ++ rays) lines g (Contains-append_left points rays g (member_of false h.points r k)))))) in
+    (small' g (Contains-append_left (points ++ rays) lines g (Contains-append_left points rays g (given_has false h.points r k)))))) in
     let of_rays = shown_each_generator IsSpelledGenerator false h.rays (λ r k.
     let flat = h.directions r (inl k) in
     let g : Given = record { row = r; equal = false } in
     subst (λ (q : GenKind). IsSpelledGenerator (report_generator r q)) (ap (generator_kind false) (sym flat))
-    (spelled_ray r flat (small' g (Contains-append_left (points ++ rays) lines g (Contains-append_right points rays g (member_of false h.rays r k)))))) in
+    (spelled_ray r flat (small' g (Contains-append_left (points ++ rays) lines g (Contains-append_right points rays g (given_has false h.rays r k)))))) in
     let of_lines = shown_each_generator IsSpelledGenerator true h.lines (λ r k.
     let g : Given = record { row = r; equal = true } in
-    spelled_line r (h.directions r (inr k)) (small' g (Contains-append_right (points ++ rays) lines g (member_of true h.lines r k)))) in
+    spelled_line r (h.directions r (inr k)) (small' g (Contains-append_right (points ++ rays) lines g (given_has true h.lines r k)))) in
     subst (λ (gs : List Given). AllByRecursion IsSpelledGenerator (map shown_generator gs)) (sym h.generators_are) (each_of_three IsSpelledGenerator points rays lines of_points of_rays of_lines)
 
 -- ---- points
@@ -193,13 +183,9 @@ point_there p h (pos d ∷ zs) k long above con = (
   con_within p.rows (record { divisor = d; numerators = zs }) con,
 )
 
-first_of : (points : List (List ℤ)) → points ≢ [] → (r : List ℤ) × Contains points r
-first_of [] some = absurd (some refl)
-first_of (r ∷ points) some = (r, contains_head r points)
-
 pub has_point : (p : Polyhedron) → HasPoint p → parts.HasPoint p.dims (part_of p)
 has_point p h =
-    let (r, k) = first_of h.points h.some_point in
+    let (r, k) = some_member h.points h.some_point in
     let member = Contains-append_left h.points h.rays r k in
     let above = h.divisors r k in
     let in_all = Contains-append_left (h.points ++ h.rays) (both_ways h.lines) r member in

@@ -104,9 +104,6 @@ add_left a b c d e = omega (arith, ints, e)
 add_right : (a b c d : ℤ) → b +ℤ c ≡ d → b +ℤ (a +ℤ c) ≡ a +ℤ d
 add_right a b c d e = omega (arith, ints, e)
 
-times_none : (x y : ℤ) → (pos 0 *ℤ x) +ℤ y ≡ y
-times_none x y = omega (arith, ints)
-
 record Halves (lines rays : List (List ℤ)) (total : ℕ → ℤ) : Type 0 where
   free : List ℤ
   factors : List ℕ
