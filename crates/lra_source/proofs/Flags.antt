@@ -18,7 +18,7 @@ use Rattle.lra_flow.specs.Analysis.{Iteration}
 use Rattle.lra_iter.specs.Numbers.{AreBelow}
 
 -- the first flagged point, where there is one, is below n
-abbrev IsBelow : ℕ → Option ℕ → Type 0
+abbrev pub IsBelow : ℕ → Option ℕ → Type 0
 IsBelow n None = ⊤
 IsBelow n (Some q) = q < n
 

@@ -19,12 +19,12 @@ use Rattle.lra_base.specs.declared.options.Options.{Options}
 use Rattle.lra_flow.specs.Operations.{dropping}
 use Rattle.lra_flow.specs.Pass.{Result}
 use Rattle.lra_flow.specs.Analysis.{Derivation, Solves}
-use Rattle.lra_iter.specs.Numbers.{values_in, checks_in, asserts_of, IsNumbered, IsBelow}
+use Rattle.lra_iter.specs.Numbers.{values_in, checks_in, asserts_of, IsNumbered}
 use Rattle.lra_iter.proofs.Counting.{Found, iteration_found, value_counted, failing_counted, counted_value, counted_failing}
 use Rattle.lra_listing.specs.Given.{IsAssertion}
 use Rattle.lra_states.specs.Shown.{AreShown}
 use Rattle.lra_source.proofs.Numbering.{numbered}
-use Rattle.lra_source.proofs.Flags.{graph_below, iteration_below}
+use Rattle.lra_source.proofs.Flags.{IsBelow, graph_below, iteration_below}
 use Rattle.lra_iter.proofs.Widths.{values_wide}
 use Rattle.lra_source.proofs.Widths.{graph_lives}
 

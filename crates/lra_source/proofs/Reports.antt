@@ -24,10 +24,9 @@ use Rattle.lra_domain.specs.Laws.{Laws}
 use Rattle.lra_flow.proofs.Caps.{solved_capped}
 use Rattle.lra_listing.specs.Given.{told, told_of}
 use Rattle.lra_source.specs.Analysed.{IsAnalysed}
-use Rattle.lra_iter.specs.Numbers.{IsBelow}
 use Rattle.lra_source.proofs.Numbering.{numbered}
 use Rattle.lra_iter.proofs.Counting.{iteration_fails_once}
-use Rattle.lra_source.proofs.Flags.{graph_below, iteration_below}
+use Rattle.lra_source.proofs.Flags.{IsBelow, graph_below, iteration_below}
 use Rattle.lra_formed.proofs.Named.{shown_as_many}
 use Rattle.lra_source.proofs.Handing.{contained, value_dims}
 use Rattle.lra_source.proofs.Sound.{value_there, proved_holds, IsListed, listed_all, judged_all, assertion_site}
