@@ -6,6 +6,10 @@
 #[cfg(test)]
 mod calls;
 #[cfg(test)]
+mod copies;
+#[cfg(test)]
 mod lex;
 #[cfg(test)]
 mod names;
+#[cfg(test)]
+mod words;

@@ -1,0 +1,49 @@
+//! Copies of resolved expressions and conditions.
+
+use lra_base::Operator;
+use lra_program::{Cond, Expr, Operation, copy_expressions};
+use std::test::Fail;
+
+fn is_literal(e: &Expr, value: u64) -> bool {
+    matches!(e, Expr::Literal(n) if *n == value)
+}
+
+/// Whether it is the sum of two literals.
+fn is_sum(e: &Expr, left: u64, right: u64) -> bool {
+    match e {
+        Expr::Chain(first, rest) => match rest.as_slice() {
+            [only] => is_literal(first, left) && is_literal(&only.operand, right),
+            _ => false,
+        },
+        _ => false,
+    }
+}
+
+fn is_opposed_input(c: &Cond) -> bool {
+    match c {
+        Cond::Opposite(inner) => matches!(&**inner, Cond::Nonzero(Expr::Input)),
+        _ => false,
+    }
+}
+
+#[test]
+fn copies_keep_the_literals(rt: HostRuntime) -> Result<(), Fail> {
+    let mut rest = Vec::new(rt.alloc());
+    rest.push(Operation {
+        operator: Operator::Plus,
+        operand: Expr::Literal(3),
+    })?;
+    let sum = Expr::Chain(Box::new(rt.alloc(), Expr::Literal(2))?, rest);
+    let copies = copy_expressions(rt.alloc(), &[sum])?;
+    assert_eq!(rt; copies.len(), 1);
+    assert!(rt; is_sum(&copies[0], 2, 3));
+    Ok(())
+}
+
+#[test]
+fn copies_keep_the_opposites(rt: HostRuntime) -> Result<(), Fail> {
+    let opposed = Cond::Opposite(Box::new(rt.alloc(), Cond::Nonzero(Expr::Input))?);
+    let copy = opposed.copy(rt.alloc())?;
+    assert!(rt; is_opposed_input(&copy));
+    Ok(())
+}
