@@ -1,13 +1,14 @@
 -- What is told of a cone's lists with a line across.
 use Rattle.std.proofs.Common.{◌≡◌, ℕ, ◌<◌, Bool, List, [], length, get_or, map, take, refl, pos, ℤ, inl, inr}
 use Rattle.lra_linear.specs.Vectors.{product}
-use Rattle.lra_cone.specs.declared.line_step.Across.{Across}
-use Rattle.lra_cone.specs.declared.strained.Family.TheVariants.{Lines, Rays}
-use Rattle.lra_cone.specs.declared.strained.ConeError as C
-use Rattle.lra_cone.specs.declared.strained.ConeError.TheVariants as of_cone
+use Rattle.lra_steps.specs.declared.line_step.Across.{Across}
+use Rattle.lra_steps.specs.declared.strained.Family.TheVariants.{Lines, Rays}
+use Rattle.lra_steps.specs.declared.strained.ConeError as C
+use Rattle.lra_steps.specs.declared.strained.ConeError.TheVariants as of_cone
 use Rattle.lra_cone.specs.Cones.{Shape, IsCone}
-use Rattle.lra_cone.specs.Steps.{IsTurned}
-use Rattle.lra_cone.specs.Strains.{IsConeError, IsFlatteningError}
+use Rattle.lra_steps.specs.Steps.{IsTurned}
+use Rattle.lra_steps.specs.Strains.{IsFlatteningError}
+use Rattle.lra_cone.specs.Strains.{IsConeError}
 use Rattle.lra_cone.specs.Flat.{IsFlatError}
 use Rattle.lra_cone.proofs.StrainLemmas.{turned_at, flat_front_error, flat_rays_error}
 

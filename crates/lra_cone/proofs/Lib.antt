@@ -1,8 +1,4 @@
 -- The lemmas, from bottom to top.
-pub mod PairLists
-pub mod Filling
-pub mod RowProducts
-pub mod Flattening
 pub mod TightRows
 pub mod RayCase
 pub mod Cutting
@@ -12,6 +8,3 @@ pub mod StrainLemmas
 pub mod FlatCones
 pub mod WholeSpace
 pub mod RowsTaken
-pub mod Reordered
-pub mod GeneratorLists
-pub mod ConstraintLists

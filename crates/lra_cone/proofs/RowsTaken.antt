@@ -1,24 +1,23 @@
 -- Rows taken in one by one: what is told of the losses stays so as further rows come.
-use Rattle.std.proofs.Common.{◌≡◌, ℕ, suc, ◌<◌, ◌+◌, List, [], ◌∷◌, ◌++◌, length, get_or, take, refl, ap, sym, ◌∙◌, subst, arith, ℤ, Bool, inl, inr}
+use Rattle.std.proofs.Common.{◌≡◌, ℕ, suc, ◌<◌, ◌+◌, List, [], ◌∷◌, ◌++◌, length, get_or, take, refl, ap, sym, ◌∙◌, subst, ℤ, Bool, inl, inr}
 use Rattle.std.specs.List.{Contains}
-use Rattle.std.proofs.lemmas.List.{append_assoc, append-nil, take_more, length-take-le, take_all, get_or_default}
+use Rattle.std.proofs.lemmas.List.{append_assoc, append-nil}
 use Rattle.std.proofs.lemmas.List.Elements.{Contains-append_cases, Contains-append_left, Contains-append_right}
 use Rattle.lra_linear.specs.declared.Cause.{Cause}
 use Rattle.lra_linear.specs.declared.Cause.TheVariants.{Excess, TooMany}
 use Rattle.lra_linear.specs.Descriptions.{Given, system_of}
 use Rattle.lra_linear.specs.Strain.{Loss, Strains, IsStrained}
 use Rattle.lra_linear.specs.Cones.{AreDual, all_rows}
-use Rattle.lra_sys.specs.Listed.{Listed, constraints, given_by}
-use Rattle.lra_linear.specs.Kinds.{is_equality}
-use Rattle.lra_linear.specs.declared.ConKind.{ConKind}
-use Rattle.lra_cone.specs.declared.strained.Strained.{Strained}
-use Rattle.lra_cone.specs.declared.strained.ConeError.TheVariants as of_cone
+use Rattle.lra_sys.specs.Listed.{given_by}
+use Rattle.lra_steps.specs.declared.strained.Strained.{Strained}
+use Rattle.lra_steps.specs.declared.strained.ConeError.TheVariants as of_cone
 use Rattle.lra_cone.specs.Cones.{Shape, IsCone}
-use Rattle.lra_cone.specs.Strains.{IsConeError, cause_of}
+use Rattle.lra_steps.specs.Strains.{cause_of}
+use Rattle.lra_cone.specs.Strains.{IsConeError}
 use Rattle.lra_cone.specs.Losses.{IfLost}
 use Rattle.lra_cone.specs.Conversions.{IsConversion}
 use Rattle.lra_cone.proofs.StrainLemmas.{ConeStrains, strain_cause}
-use Rattle.lra_cone.proofs.Stepped.{constraints_push}
+use Rattle.lra_sys.proofs.GivenRows.{given_pushed}
 
 -- a strain of a list is one of each longer list
 pub strains_longer : (w : ℕ) (all more : List Given) (loss : Loss) → Strains w all loss → Strains w (all ++ more) loss
@@ -115,28 +114,6 @@ conversion_left_out first all kept old new losses after loss g strained cause ta
     })
 
 -- ---- row by row
-pub given_more : {K : Type 0} (equal : K → Bool) (rows : List (List ℤ)) (kinds : List K) (i : ℕ) (r : List ℤ) (k : K) → length rows ≡ length kinds → i < length rows → r ≡ get_or rows i r →
-    k ≡ get_or kinds i k →
-    given_by equal (take (i + 1) rows) (take (i + 1) kinds) ≡ given_by equal (take i rows) (take i kinds) ++ record { row = r; equal = equal k } ∷ []
-given_more {K = K} equal rows kinds i r k n h er ek =
-    ap (λ (x : List (List ℤ)). given_by equal x (take (i + 1) kinds)) (take_more rows i r h ∙ ap (λ (y : List ℤ). take i rows ++ y ∷ []) (sym er)) ∙
-    ap (given_by equal (take i rows ++ r ∷ [])) (take_more kinds i k (omega (arith, n, h)) ∙ ap (λ (y : K). take i kinds ++ y ∷ []) (sym ek)) ∙
-    constraints_push equal (take i rows) (take i kinds) r k (length-take-le i rows (omega (arith, h)) ∙ sym (length-take-le i kinds (omega (arith, n, h))))
-
-pub all_given : {K : Type 0} (equal : K → Bool) (rows : List (List ℤ)) (kinds : List K) (i : ℕ) → length rows ≡ length kinds → i ≡ length rows →
-    given_by equal (take i rows) (take i kinds) ≡ given_by equal rows kinds
-all_given equal rows kinds i n e = ap (λ (x : List (List ℤ)). given_by equal x (take i kinds)) (take_all i rows (omega (arith, e))) ∙ ap (given_by equal rows) (take_all i kinds (omega (arith, e, n)))
-
--- a row that is put behind the others
-pub given_pushed : {K : Type 0} (equal : K → Bool) (rows : List (List ℤ)) (kinds : List K) (i : ℕ) (own : List (List ℤ)) → rows ≡ own → length kinds ≡ length own → i < length rows →
-    (before after : List Given) (g : Given) (r : List ℤ) (d : K) → r ≡ get_or rows i r → after ≡ before ++ g ∷ [] → g ≡ record { row = r; equal = equal (get_or kinds i d) } →
-    before ≡ given_by equal (take i rows) (take i kinds) →
-    after ≡ given_by equal (take (i + 1) rows) (take (i + 1) kinds)
-given_pushed {K = K} equal rows kinds i own eo n h before after g r d er ea eg eb =
-    let n' : length rows ≡ length kinds = ap length eo ∙ sym n in
-    ea ∙ ap (λ (l : List Given). l ++ g ∷ []) eb ∙ ap (λ (x : Given). given_by equal (take i rows) (take i kinds) ++ x ∷ []) eg ∙
-    sym (given_more equal rows kinds i r (get_or kinds i d) n' h er (get_or_default kinds i d (get_or kinds i d) (omega (arith, h, n'))))
-
 pub taken_next : {K : Type 0} (equal : K → Bool) (first kept : List Given) (rows : List (List ℤ)) (kinds : List K) (i : ℕ) (own : List (List ℤ)) → rows ≡ own → length kinds ≡ length own →
     i < length rows →
     (r : List ℤ) (d : K) (new : Shape) (losses : List Loss) → r ≡ get_or rows i r → IsConversion first
@@ -146,9 +123,3 @@ taken_next equal first kept rows kinds i own eo n h r d new losses er c =
     let g : Given = record { row = r; equal = equal (get_or kinds i d) } in
     let before = given_by equal (take i rows) (take i kinds) in
     subst (λ (l : List Given). IsConversion first l kept new losses) (given_pushed equal rows kinds i own eo n h before (before ++ g ∷ []) g r d er refl refl refl) c
-
--- a constraint that is put behind the others
-pub constraints_pushed : (old new : Listed ConKind) (r : List ℤ) (k : ConKind) → length old.kinds ≡ length old.rows → new.rows ≡ old.rows ++ r ∷ [] →
-    new.kinds ≡ old.kinds ++ k ∷ [] → constraints new ≡ constraints old ++ record { row = r; equal = is_equality k } ∷ []
-constraints_pushed old new r k n er ek =
-    ap (λ (x : List (List ℤ)). given_by is_equality x new.kinds) er ∙ ap (given_by is_equality (old.rows ++ r ∷ [])) ek ∙ constraints_push is_equality old.rows old.kinds r k (sym n)

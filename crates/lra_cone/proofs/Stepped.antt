@@ -22,12 +22,11 @@ use Rattle.lra_linear.proofs.Membership.{contains_cases, contains_head, contains
 use Rattle.lra_linear.proofs.Products.{negated_length, dot_negated, negated_twice}
 use Rattle.lra_linear.proofs.Signs.{between_opposites}
 use Rattle.lra_cone.specs.Cones.{Shape, IsCone, tight_values, saturation_rows, saturation_of}
-use Rattle.lra_sys.specs.Listed.{given_by}
-use Rattle.lra_cone.specs.declared.line_step.Across.{Across}
-use Rattle.lra_cone.specs.declared.pairs.Pair.{Pair}
-use Rattle.lra_cone.specs.declared.ray_step.Cut.{Cut}
-use Rattle.lra_cone.specs.Steps.{IsLastAcross, IsTurned, AreFlatLines, AreFlatRays, lengthened_rows, flat_matrix, outside_marks, is_inside, inside_count}
-use Rattle.lra_cone.specs.Pairs.{HaveOneWidth, IsAdjacentPair, ArePairs, AreCombined, tight_rows, IsCut}
+use Rattle.lra_steps.specs.declared.line_step.Across.{Across}
+use Rattle.lra_steps.specs.declared.pairs.Pair.{Pair}
+use Rattle.lra_steps.specs.declared.ray_step.Cut.{Cut}
+use Rattle.lra_steps.specs.Steps.{IsLastAcross, IsTurned, AreFlatLines, AreFlatRays, lengthened_rows, flat_matrix, outside_marks, is_inside, inside_count}
+use Rattle.lra_steps.specs.Pairs.{HaveOneWidth, IsAdjacentPair, ArePairs, AreCombined, tight_rows, IsCut}
 use Rattle.lra_cone.specs.Strains.{TooManyRays}
 use Rattle.lra_cone.proofs.RayCase.{RayCase, system_same, new_canonical, new_met}
 use Rattle.lra_cone.proofs.TightRows.{values_end, rows_length, rows_append, rows_unmarked, row_at, values_length}
@@ -202,14 +201,6 @@ too_many_rays s g lines rays count k w x e h = record {
   are = sym e;
   long = h;
 }
-
--- ---- the rows taken in, with one more
-pub constraints_push : {K : Type 0} (equal : K → Bool) (rows : List (List ℤ)) (kinds : List K) (r : List ℤ) (x : K) → length rows ≡ length kinds →
-    given_by equal (rows ++ r ∷ []) (kinds ++ x ∷ []) ≡ given_by equal rows kinds ++ record { row = r; equal = equal x } ∷ []
-constraints_push equal [] [] r x e = refl
-constraints_push equal [] (y ∷ kinds) r x e = absurd (omega (arith, e))
-constraints_push equal (q ∷ rows) [] r x e = absurd (omega (arith, e))
-constraints_push equal (q ∷ rows) (y ∷ kinds) r x e = ap (λ (z : List Given). record { row = q; equal = equal y } ∷ z) (constraints_push equal rows kinds r x (omega (arith, e)))
 
 -- ---- the case without a line, and its matrix
 pub cut_taken : (s : Shape) (g : Given) (products : List ℤ) (m : Matrix) (cut : Cut) → IsCone s → products ≡ map (product g.row) s.rays → m ≡ saturation_of s.taken s.rays →

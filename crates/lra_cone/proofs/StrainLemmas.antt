@@ -22,20 +22,22 @@ use Rattle.lra_linear.proofs.LowestTerms.{lowest_exists}
 use Rattle.lra_linear.proofs.Membership.{contains_split}
 use Rattle.lra_linear.proofs.Products.{entry_negated, dot_negated, negated_twice}
 use Rattle.lra_linear.proofs.Signs.{not_both}
-use Rattle.lra_cone.specs.declared.line_step.Across.{Across}
-use Rattle.lra_cone.specs.declared.pairs.Pair as Q
-use Rattle.lra_cone.specs.declared.strained.Family.{Family}
-use Rattle.lra_cone.specs.declared.strained.Family.TheVariants.{Lines, Rays}
-use Rattle.lra_cone.specs.declared.strained.Strained.{Strained}
-use Rattle.lra_cone.specs.declared.strained.Strained.TheVariants.{Product, Pair, TooMany}
-use Rattle.lra_cone.specs.declared.strained.ConeError as C
-use Rattle.lra_cone.specs.declared.strained.ConeError.TheVariants as of_cone
+use Rattle.lra_steps.specs.declared.line_step.Across.{Across}
+use Rattle.lra_steps.specs.declared.pairs.Pair as Q
+use Rattle.lra_steps.specs.declared.strained.Family.{Family}
+use Rattle.lra_steps.specs.declared.strained.Family.TheVariants.{Lines, Rays}
+use Rattle.lra_steps.specs.declared.strained.Strained.{Strained}
+use Rattle.lra_steps.specs.declared.strained.Strained.TheVariants.{Product, Pair, TooMany}
+use Rattle.lra_steps.specs.declared.strained.ConeError as C
+use Rattle.lra_steps.specs.declared.strained.ConeError.TheVariants as of_cone
 use Rattle.lra_cone.specs.Cones.{Shape, IsCone, saturation_rows, saturation_of}
-use Rattle.lra_cone.specs.Steps.{IsTurned, flattening, inside_count}
-use Rattle.lra_cone.specs.Pairs.{IsAdjacentPair, ArePairs, pair_sum, AreCombined}
-use Rattle.lra_cone.specs.Strains.{cause_of, StandsAt, IsMember, IsDirected, IsStrain, IsConeError, IsProductError, strained_pair, IsFlatteningError, NamesPair, IsCutError}
-use Rattle.lra_cone.proofs.Cutting.{inside_rays, cut_case, above_inside, below_inside}
-use Rattle.lra_cone.proofs.PairLists.{less_said}
+use Rattle.lra_steps.specs.Steps.{IsTurned, flattening, inside_count}
+use Rattle.lra_steps.specs.Pairs.{IsAdjacentPair, ArePairs, pair_sum, AreCombined}
+use Rattle.lra_steps.specs.Strains.{cause_of, StandsAt, IsProductError, strained_pair, IsFlatteningError, NamesPair, IsCutError}
+use Rattle.lra_cone.specs.Strains.{IsMember, IsDirected, IsStrain, IsConeError}
+use Rattle.lra_steps.proofs.Cuts.{above_inside, below_inside}
+use Rattle.lra_cone.proofs.Cutting.{inside_rays, cut_case}
+use Rattle.lra_steps.proofs.PairLists.{less_said}
 use Rattle.lra_cone.proofs.Stepped.{turned_down, ray_met, ray_canonical, inside_length, combined_length}
 
 -- ---- products

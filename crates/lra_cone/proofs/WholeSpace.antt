@@ -1,10 +1,10 @@
 -- The whole space, with the unit rows as its lines.
-use Rattle.std.proofs.Common.{◌≡◌, ◌≢◌, ℕ, zero, suc, ◌+◌, ◌-◌, ◌<◌, ◌≤◌, List, [], ◌∷◌, ◌++◌, length, map, replicate, slice_set, refl, ap, sym, ◌∙◌, subst, arith, pos, ℤ, ◌+ℤ◌, ◌*ℤ◌, ◌≤ℤ◌, ◌<ℤ◌}
+use Rattle.std.proofs.Common.{◌≡◌, ℕ, zero, suc, ◌+◌, ◌-◌, ◌<◌, ◌≤◌, List, [], ◌∷◌, ◌++◌, length, map, slice_set, refl, ap, sym, ◌∙◌, subst, arith, pos, ℤ, ◌+ℤ◌, ◌*ℤ◌, ◌≤ℤ◌, ◌<ℤ◌}
 use Rattle.std.proofs.Common.{unsigned_abs, inl, inr, ◌⊎◌}
 use Rattle.std.specs.List.{Contains}
 use Rattle.std.proofs.lemmas.Bool.{cases_lt}
 use Rattle.std.proofs.lemmas.Int.{ints}
-use Rattle.std.proofs.lemmas.List.{append_assoc, length-set}
+use Rattle.std.proofs.lemmas.List.{append_assoc}
 use Rattle.lra_linear.specs.Vectors.{entry, dot, negated, zeros, behind_zero, units}
 use Rattle.lra_linear.specs.Cones.{Generated, both_ways, all_rows, AreDual}
 use Rattle.lra_linear.specs.Canonical.{IsCanonical}
@@ -13,36 +13,18 @@ use Rattle.lra_linear.specs.Echelon.{Before, IsEchelon}
 use Rattle.lra_linear.specs.OperationStrain.{unit_row}
 use Rattle.lra_linear.proofs.Combinations.{generated_row}
 use Rattle.lra_linear.proofs.LinearMaps.{generated_through}
-use Rattle.lra_linear.proofs.Lines.{signed_from, in_lines, in_lines_negated, generated_described, whole_described, zeros_length, entry_zeros}
+use Rattle.lra_linear.proofs.Lines.{signed_from, in_lines, in_lines_negated, generated_described, whole_described}
 use Rattle.lra_linear.proofs.LowestTerms.{primitive_at}
 use Rattle.lra_linear.proofs.Membership.{contains_none, contains_cases, contains_head, contains_tail, split_none, map_has, map_from}
-use Rattle.lra_linear.proofs.Products.{negated_dot, negated_length, entry_past, entry_set_same, entry_set_other}
+use Rattle.lra_linear.proofs.Products.{negated_dot, negated_length, entry_past}
 use Rattle.lra_linear.proofs.Ring.{ring, v, ◌⊕◌, ◌⊗◌}
 use Rattle.lra_linear.proofs.Signs.{between_opposites}
 use Rattle.lra_linear.proofs.OneSpelling.{dot_zeros}
 use Rattle.lra_canon.proofs.Solutions.{behind_zero_from}
+use Rattle.lra_sys.proofs.UnitRows.{unit_here, unit_length, unit_other}
 use Rattle.lra_cone.specs.Cones.{IsCone, columns_from, unit_lines, whole_space}
 
-zeros_are : (n : ℕ) → replicate n (pos 0) ≡ zeros n
-zeros_are zero = refl
-zeros_are (suc n) = ap (λ (x : List ℤ). pos 0 ∷ x) (zeros_are n)
-
-pub zeros_more : (n : ℕ) → replicate (n + 1) (pos 0) ≡ zeros (suc n)
-zeros_more n = zeros_are (n + 1) ∙ ap zeros (plus_one n)
-  where
-    plus_one : (n : ℕ) → n + 1 ≡ suc n
-    plus_one n = omega arith
-
 -- ---- unit rows
-pub unit_length : (n j : ℕ) → length (unit_row n j) ≡ suc n
-unit_length n j = length-set (zeros (suc n)) j (pos 1) ∙ zeros_length (suc n)
-
-pub unit_here : (n j : ℕ) → j < suc n → entry (unit_row n j) j ≡ pos 1
-unit_here n j h = entry_set_same (zeros (suc n)) j (pos 1) (omega (arith, h, zeros_length (suc n)))
-
-pub unit_other : (n j i : ℕ) → i ≢ j → entry (unit_row n j) i ≡ pos 0
-unit_other n j i h = entry_set_other (zeros (suc n)) j i (pos 1) h ∙ entry_zeros (suc n) i
-
 dot_unit : (n j : ℕ) (u : ℕ → ℤ) → j < n → dot (slice_set (zeros n) j (pos 1)) u ≡ u j
 dot_unit zero j u h = absurd (omega (arith, h))
 dot_unit (suc n) zero u h = ap (λ z. (pos 1 *ℤ u 0) +ℤ z) (dot_zeros n (λ j. u (suc j))) ∙ ring (v (pos 1) ⊗ v (u 0) ⊕ v (pos 0)) (v (u 0)) (omega arith)

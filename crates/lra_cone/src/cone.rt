@@ -5,26 +5,27 @@ ghost use Rattle.std.specs.Prelude.{Some, length, map, IfOk, IfErr, OnOk, OnErr}
 ghost use Rattle.std.specs.List.{All};
 ghost use Rattle.lra_linear.specs.Range.{InRange};
 ghost use Rattle.lra_linear.specs.Vectors.{product};
-ghost use Rattle.lra_linear.specs.OperationStrain.{unit_row};
 ghost use Rattle.lra_linear.specs.Cones.{all_rows};
+ghost use Rattle.lra_linear.specs.Descriptions.{inequality};
+ghost use Rattle.lra_linear.specs.Polyhedra.{positivity};
 ghost use Rattle.lra_linear.specs.ConeStrain.{IsMet};
 ghost use Rattle.lra_sys.specs.Dimensions.{too_many_dimensions};
 ghost use Rattle.lra_sys.specs.Listed.{constraints};
 ghost use Rattle.lra_linear.specs.Kinds.{is_equality};
 ghost use Rattle.lra_cone.specs.Cones.{Shape, IsCone, IsTakenIn, saturation_of, whole_space};
-ghost use Rattle.lra_cone.specs.Pairs.{IsCut};
-ghost use Rattle.lra_cone.specs.Steps.{IsLastAcross};
+ghost use Rattle.lra_steps.specs.Pairs.{IsCut};
+ghost use Rattle.lra_steps.specs.Steps.{IsLastAcross};
 ghost use Rattle.lra_cone.specs.Strains.{IsConeError};
 ghost use Rattle.lra_cone.specs.Flat.{AreFlat, IsFlatError};
 
-use crate::line_step::{Flat, flat_lines, flat_rays, flat_saturation, orient_line};
-use crate::products::{last_across, multiply_all};
-use crate::ray_step::{Cut, RAY_LIMIT, cut_rays};
-use crate::strained::{ConeError, Family, Strained};
 use lra_bits::SatMatrix;
 use lra_canon::remove_marked;
 use lra_row::Row;
-use lra_sys::{ConKind, ConSys};
+use lra_steps::{
+    ConeError, Cut, Family, RAY_LIMIT, Strained, cut_rays, flat_lines, flat_rays, flat_saturation,
+    last_across, multiply_all, orient_line,
+};
+use lra_sys::{ConKind, ConSys, unit};
 use std::alloc::{AllocError, Global};
 use std::marker::Model;
 
@@ -62,6 +63,14 @@ impl Model for Cone {
         IsCone (record { dims = s.taken.dims; taken = constraints s.taken; lines = s.lines.items; rays = s.rays.items })
         × (s.saturation ≡ saturation_of (constraints s.taken) s.rays.items)
         × (length s.taken.rows ≡ length s.taken.kinds) };
+}
+
+// The lists of a cone and its matrix, with a line across: its other rows are combined with that line.
+#[derive(Drop)]
+struct Flat {
+    lines: Vec<Row>,
+    rays: Vec<Row>,
+    saturation: SatMatrix,
 }
 
 impl Cone {
@@ -275,14 +284,17 @@ impl Cone {
     }
 }
 
-/// The row of n + 1 columns with 1 in this column and 0 elsewhere.
-pub fn unit(alloc: Global, n: usize, column: usize) -> Result<Row, AllocError>
-    requires small { n < too_many_dimensions }
-    requires column { column ≤ n }
-    ensures { IfOk result (λ row. row ≡ unit_row n column) }
+/// The cone of the points of n dimensions: the positivity row, which says that column 0 is at least 0, is taken in.
+pub fn positive_cone(alloc: Global, n: usize) -> Result<Cone, AllocError>
+    requires { n < too_many_dimensions }
+    ensures dims { IfOk result (λ cone. cone.dims ≡ n) }
+    ensures taken { IfOk result (λ cone. cone.taken ≡ inequality (positivity n) ∷ []) }
 {
-    let mut numbers = vec![in alloc; 0i128; n + 1]?;
-    numbers[column] = 1;
-    let row = Row::from_slice(alloc, &numbers)?;
-    Ok(row)
+    let mut cone = Cone::whole(alloc, n)?;
+    let positivity = unit(alloc, n, 0)?;
+    // all numbers there are 0 or 1, so nothing strains
+    match cone.add_row(&positivity, ConKind::Ge) {
+        Ok(()) => Ok(cone),
+        Err(_) => Err(AllocError),
+    }
 }

@@ -9,8 +9,8 @@ ghost use Rattle.lra_cone.specs.Conversions.{IsConversion};
 
 use crate::cone::Cone;
 use crate::losses::Loss;
-use crate::strained::ConeError;
 use lra_row::Row;
+use lra_steps::ConeError;
 use lra_sys::{ConKind, ConSys};
 use std::alloc::{AllocError, Global};
 

@@ -23,7 +23,7 @@ use Rattle.lra_linear.proofs.SetOperations.{has_vertex}
 use Rattle.lra_linear.proofs.Signs.{as_nat, divide_nonnegative, positive_is_nonnegative, positive_nat, times_positive}
 use Rattle.lra_linear.proofs.Lines.{zeros_length}
 use Rattle.lra_linear.proofs.Membership.{map_from}
-use Rattle.lra_cone.proofs.GeneratorLists.{system_append}
+use Rattle.lra_pair.proofs.GeneratorLists.{system_append}
 use Rattle.lra_poly.specs.Outcomes.{IfExact, IfFlagged}
 use Rattle.lra_poly.specs.declared.outcome.Outcome.{Outcome}
 use Rattle.lra_poly.proofs.PolyLemmas.{hull_holds, if_exact, if_flagged, rows_width, valid_with}

@@ -20,7 +20,7 @@ use Rattle.lra_linear.proofs.Polyhedra.{con_gen}
 use Rattle.lra_linear.proofs.Ring.{ring, v, ◌⊕◌, ◌⊗◌}
 use Rattle.lra_sys.specs.Listed.{Listed, generators}
 use Rattle.lra_linear.specs.declared.GenKind.{GenKind}
-use Rattle.lra_cone.proofs.GeneratorLists.{system_append, system_lines}
+use Rattle.lra_pair.proofs.GeneratorLists.{system_append, system_lines}
 use Rattle.lra_maps.proofs.OutcomeLemmas.{Takes}
 use Rattle.lra_maps.proofs.ShortenedSets.{columns_linear, first_columns, short_divisor, short_entry, widths_of}
 use Rattle.lra_maps.proofs.Sums.{IsLinear, generated_linear, generated_mapped, mapped_by, system_mapped}

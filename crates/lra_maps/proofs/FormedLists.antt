@@ -22,9 +22,9 @@ use Rattle.lra_row.specs.declared.error.RowError.{RowError}
 use Rattle.lra_row.specs.declared.error.RowError.TheVariants as of_row
 use Rattle.lra_sys.specs.Listed.{Listed, constraints, generators, given_by}
 use Rattle.lra_linear.specs.declared.GenKind.{GenKind}
-use Rattle.lra_cone.specs.Conversions.{dual_kind}
-use Rattle.lra_cone.proofs.ConstraintLists.{dual_given}
-use Rattle.lra_cone.proofs.GeneratorLists.{given_append}
+use Rattle.lra_descriptions.specs.ShownLists.{dual_kind}
+use Rattle.lra_pair.proofs.ConstraintLists.{dual_given}
+use Rattle.lra_pair.proofs.GeneratorLists.{given_append}
 use Rattle.lra_sys.proofs.FirstMembers.{front, given_more, given_split, member}
 use Rattle.lra_poly.proofs.PolyLemmas.{if_exact}
 use Rattle.lra_poly.specs.Outcomes.{IfExact, IfFlagged}

@@ -33,10 +33,10 @@ use Rattle.lra_linear.specs.declared.GenKind.{GenKind}
 use Rattle.lra_canon.specs.Echelons.{HaveWidth}
 use Rattle.lra_canon.specs.Reduced.{IsReducedBy}
 use Rattle.lra_canon.proofs.Orders.{tied_itself}
-use Rattle.lra_cone.specs.Conversions.{ListsGenerators, ShowsConstraints, ShowsGenerators, without}
-use Rattle.lra_cone.proofs.ConstraintLists.{listed_hold}
-use Rattle.lra_cone.proofs.GeneratorLists.{flat_rows, listed_have, nothing_generated, system_of_generators}
-use Rattle.lra_cone.proofs.Reordered.{canonical_again, dual_again}
+use Rattle.lra_descriptions.specs.ShownLists.{ListsGenerators, ShowsConstraints, ShowsGenerators, without}
+use Rattle.lra_pair.proofs.ConstraintLists.{listed_hold}
+use Rattle.lra_pair.proofs.GeneratorLists.{flat_rows, listed_have, nothing_generated, system_of_generators}
+use Rattle.lra_pair.proofs.Reordered.{canonical_again, dual_again}
 use Rattle.lra_pair.specs.OwnLists.{AreReducedBy}
 use Rattle.lra_pair.proofs.PairLists.{has_point}
 use Rattle.lra_poly.proofs.KeptFacets.{ascending_once, lines_split, rays_split}

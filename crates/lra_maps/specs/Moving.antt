@@ -8,7 +8,7 @@ use Rattle.lra_linear.specs.declared.ConKind.{ConKind}
 use Rattle.lra_sys.specs.Listed.{Listed}
 use Rattle.lra_linear.specs.declared.GenKind.{GenKind}
 use Rattle.lra_canon.specs.Echelons.{HaveWidth}
-use Rattle.lra_cone.specs.Conversions.{ShowsConstraints, ShowsGenerators}
+use Rattle.lra_descriptions.specs.ShownLists.{ShowsConstraints, ShowsGenerators}
 use Rattle.lra_pair.specs.OwnLists.{AreReducedBy}
 
 -- The form f has 1 or -1 at column k, and g takes it back: where column k has the value of f, the value of g is what

@@ -13,7 +13,8 @@ ghost use Rattle.lra_sys.specs.Listed.{constraints, generators, given_by, FitKin
 ghost use Rattle.lra_poly.specs.Outcomes.{IfExact, IfFlagged};
 ghost use Rattle.lra_maps.specs.Forming.{IsLossAt};
 
-use lra_cone::{Loss, dual_rows};
+use lra_cone::Loss;
+use lra_descriptions::dual_rows;
 use lra_linear::{Cause, Excess};
 use lra_poly::Outcome;
 use lra_row::{Row, RowError};

@@ -9,9 +9,8 @@ ghost use Rattle.lra_sys.specs.Dimensions.{too_many_dimensions};
 ghost use Rattle.lra_linear.specs.Kinds.{is_line};
 ghost use Rattle.lra_sys.specs.Listed.{generators, FitKinds, FitsKind};
 
-use lra_cone::unit;
 use lra_row::Row;
-use lra_sys::{GenKind, GenSys, TOO_MANY_DIMENSIONS};
+use lra_sys::{GenKind, GenSys, TOO_MANY_DIMENSIONS, unit};
 use std::alloc::{AllocError, Global};
 
 /// The generators, then a line along a dimension.

@@ -15,11 +15,11 @@ ghost use Rattle.lra_sys.specs.Listed.{constraints, generators};
 
 use crate::forming::assign_row;
 use lra_canon::echelon;
-use lra_cone::{constraint_list, generator_list, unit};
+use lra_descriptions::{constraint_list, generator_list};
 use lra_pair::{Own, all_reduced};
 use lra_poly::Poly;
 use lra_row::{Row, RowError};
-use lra_sys::{ConKind, ConSys, GenKind, GenSys, TOO_MANY_DIMENSIONS};
+use lra_sys::{ConKind, ConSys, GenKind, GenSys, TOO_MANY_DIMENSIONS, unit};
 use std::alloc::{AllocError, Global};
 
 fn is_one(row: &Row, column: usize) -> bool

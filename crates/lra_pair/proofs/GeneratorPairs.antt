@@ -15,13 +15,14 @@ use Rattle.lra_linear.specs.declared.GenKind.{GenKind}
 use Rattle.lra_linear.specs.declared.GenKind.TheVariants.{Point}
 use Rattle.lra_sys.proofs.Generators.{fitting_are_generators}
 use Rattle.lra_cone.specs.Cones.{Shape, IsCone, whole_space}
-use Rattle.lra_cone.specs.Conversions.{IsConversion, ShowsConstraints, ShowsValid, dual_kind}
+use Rattle.lra_cone.specs.Conversions.{IsConversion}
+use Rattle.lra_descriptions.specs.ShownLists.{ShowsConstraints, ShowsValid, dual_kind}
 use Rattle.lra_linear.specs.Vectors.{entry}
 use Rattle.lra_linear.proofs.Descriptions.{gen_generated}
 use Rattle.lra_linear.proofs.Membership.{contains_none}
-use Rattle.lra_cone.proofs.GeneratorLists.{nothing_generated}
+use Rattle.lra_pair.proofs.GeneratorLists.{nothing_generated}
 use Rattle.lra_cone.specs.Losses.{IfLost}
-use Rattle.lra_cone.proofs.ConstraintLists.{constrained, dual_given, some_point}
+use Rattle.lra_pair.proofs.ConstraintLists.{constrained, dual_given, some_point}
 use Rattle.lra_pair.specs.OwnLists.{IsOwnCause, TellsOwnLoss}
 use Rattle.lra_pair.specs.TakenPoints.{AreTaken}
 use Rattle.lra_pair.proofs.PairLosses.{own_strain, from_generators_strain}

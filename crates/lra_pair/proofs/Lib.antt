@@ -1,3 +1,6 @@
+pub mod Reordered
+pub mod GeneratorLists
+pub mod ConstraintLists
 pub mod TightRows
 pub mod OwnRows
 pub mod OwnSaturation

@@ -20,7 +20,7 @@ use Rattle.lra_row.specs.declared.error.RowError.{RowError}
 use Rattle.lra_row.specs.declared.error.RowError.TheVariants.{Excess, Memory}
 use Rattle.lra_sys.specs.Listed.{given_by}
 use Rattle.lra_cone.specs.Cones.{Shape, IsCone, tight_values, saturation_rows, saturation_of}
-use Rattle.lra_cone.specs.Steps.{IsFilled}
+use Rattle.lra_steps.specs.Steps.{IsFilled}
 use Rattle.lra_cone.proofs.TightRows.{rows_length, row_at}
 use Rattle.lra_pair.specs.OwnLists.{loose_rows, TellsTight, AllTellTight, AreReducedBy, AreParts, AnyReductionExcess, IsOwnExcess, tight_value}
 use Rattle.lra_pair.proofs.TightRows.{tight_in, loose_in, rows_from, reduced_append}

@@ -27,9 +27,9 @@ use Rattle.lra_linear.proofs.Lines.{in_lines, zeros_length}
 use Rattle.lra_pair.proofs.OwnRows.{all_width}
 use Rattle.lra_linear.specs.declared.GenKind.{GenKind}
 use Rattle.lra_cone.specs.Cones.{Shape, IsCone}
-use Rattle.lra_cone.specs.Conversions.{HasGenerators, AreGeneratorsOf, HasConstraints, ShowsGenerators, ShowsConstraints}
-use Rattle.lra_cone.proofs.ConstraintLists.{listed_hold, nothing_is, same_constraints}
-use Rattle.lra_cone.proofs.GeneratorLists.{generators_shown, listed_generators, listed_have, flat_rows, nothing_generated, same_points}
+use Rattle.lra_descriptions.specs.ShownLists.{HasGenerators, AreGeneratorsOf, HasConstraints, ShowsGenerators, ShowsConstraints}
+use Rattle.lra_pair.proofs.ConstraintLists.{listed_hold, nothing_is, same_constraints}
+use Rattle.lra_pair.proofs.GeneratorLists.{generators_shown, listed_generators, listed_have, flat_rows, nothing_generated, same_points}
 use Rattle.lra_pair.specs.OwnLists.{IsOwnList, IsPositive}
 
 -- ---- both lists

@@ -3,6 +3,8 @@
 
 mod own;
 mod pair;
+mod valid;
 
 pub use own::{Own, all_reduced, find_own_list};
 pub use pair::{Pair, from_cone, from_generators, from_rows, universe, with_generators};
+pub use valid::valid_list;

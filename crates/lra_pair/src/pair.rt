@@ -18,12 +18,11 @@ ghost use Rattle.lra_pair.specs.OwnLists.{IsOwnList, IsOwnLoss, IsPositive, Tell
 ghost use Rattle.lra_pair.specs.TakenPoints.{AreTaken};
 
 use crate::own::{Own, limit_own_list};
-use lra_cone::{
-    Cone, Conversion, Loss, constraint_list, dual_rows, generator_list, has_point, nothing,
-    positive_cone, take_rows, unit, valid_list,
-};
+use crate::valid::valid_list;
+use lra_cone::{Cone, Conversion, Loss, positive_cone, take_rows};
+use lra_descriptions::{constraint_list, dual_rows, generator_list, has_point, nothing};
 use lra_linear::Cause;
-use lra_sys::{ConSys, GenSys, TOO_MANY_DIMENSIONS};
+use lra_sys::{ConSys, GenSys, TOO_MANY_DIMENSIONS, unit};
 use std::alloc::{AllocError, Global};
 use std::marker::Model;
 

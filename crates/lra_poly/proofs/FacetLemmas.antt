@@ -15,8 +15,8 @@ use Rattle.lra_linear.specs.declared.ConKind.{ConKind}
 use Rattle.lra_linear.specs.declared.ConKind.TheVariants.{Ge}
 use Rattle.lra_linear.proofs.Products.{product_comm}
 use Rattle.lra_cone.specs.Cones.{IsCone, Shape, saturation_of as by_rays, saturation_rows, tight_values}
-use Rattle.lra_cone.specs.Conversions.{dual_kind}
-use Rattle.lra_cone.proofs.ConstraintLists.{dual_given}
+use Rattle.lra_descriptions.specs.ShownLists.{dual_kind}
+use Rattle.lra_pair.proofs.ConstraintLists.{dual_given}
 use Rattle.lra_cone.proofs.TightRows.{rows_append, subset_from, subset_said}
 use Rattle.lra_sys.specs.Listed.{Listed, constraints, generators, given_by}
 use Rattle.lra_linear.specs.declared.GenKind.{GenKind}

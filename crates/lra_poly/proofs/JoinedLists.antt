@@ -6,7 +6,7 @@ use Rattle.lra_linear.specs.Kinds.{is_equality}
 use Rattle.lra_linear.specs.declared.ConKind.{ConKind}
 use Rattle.lra_sys.specs.Listed.{Listed, constraints, given_by, FitKinds}
 use Rattle.lra_linear.specs.declared.GenKind.{GenKind}
-use Rattle.lra_cone.proofs.GeneratorLists.{fit_append, given_append}
+use Rattle.lra_pair.proofs.GeneratorLists.{fit_append, given_append}
 
 -- as the code tells it
 pub joined_given : {K : Type 0} (equal : K → Bool) (first second all : Listed K) (rows : List (List ℤ)) (kinds : List K) (i : ℕ) → all.rows ≡ first.rows ++ take i rows →

@@ -24,7 +24,7 @@ use Rattle.lra_linear.proofs.SetOperations.{has_vertex}
 use Rattle.lra_linear.proofs.Signs.{between_opposites}
 use Rattle.lra_cone.specs.Cones.{IsCone}
 use Rattle.lra_cone.proofs.RayCase.{beside_place, rows_same}
-use Rattle.lra_cone.proofs.Reordered.{canonical_again, dual_again}
+use Rattle.lra_pair.proofs.Reordered.{canonical_again, dual_again}
 use Rattle.lra_poly.proofs.KeptCones.{positivity_generated}
 
 -- ---- the facets and the generators

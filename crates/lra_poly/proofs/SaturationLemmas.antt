@@ -6,7 +6,7 @@ use Rattle.lra_bits.specs.Matrix.{Matrix}
 use Rattle.lra_bits.specs.TruthValues.{value_at}
 use Rattle.lra_linear.specs.Descriptions.{Given}
 use Rattle.lra_linear.specs.Vectors.{product}
-use Rattle.lra_cone.specs.Steps.{IsFilled}
+use Rattle.lra_steps.specs.Steps.{IsFilled}
 use Rattle.lra_sys.specs.Listed.{Listed, given_by}
 use Rattle.lra_poly.specs.Saturations.{saturated, saturation_of}
 

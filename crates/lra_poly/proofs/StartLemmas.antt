@@ -9,7 +9,7 @@ use Rattle.lra_linear.specs.Polyhedra.{positivity}
 use Rattle.lra_linear.specs.Vectors.{entry, product}
 use Rattle.lra_linear.proofs.OneSpelling.{positivity_product}
 use Rattle.lra_cone.specs.Cones.{saturation_of as by_rays, saturation_rows, tight_values}
-use Rattle.lra_cone.specs.Steps.{IsFilled}
+use Rattle.lra_steps.specs.Steps.{IsFilled}
 use Rattle.lra_linear.specs.Kinds.{is_line}
 use Rattle.lra_sys.specs.Listed.{given_by}
 use Rattle.lra_linear.specs.declared.GenKind.{GenKind}

@@ -13,9 +13,10 @@ ghost use Rattle.lra_poly.specs.Saturations.{saturation_of, IsCovered, IsCovered
 use crate::saturation::mark_saturated;
 use crate::start::{fits, leaves_room};
 use lra_bits::{BitRow, SatMatrix};
-use lra_cone::{Cone, dual_rows, unit};
+use lra_cone::Cone;
+use lra_descriptions::dual_rows;
 use lra_row::Row;
-use lra_sys::{ConKind, ConSys, GenSys};
+use lra_sys::{ConKind, ConSys, GenSys, unit};
 use std::alloc::{AllocError, Global};
 
 // The equalities among the constraints.

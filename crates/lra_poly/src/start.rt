@@ -14,9 +14,9 @@ ghost use Rattle.lra_poly.specs.Saturations.{column, saturation_of};
 
 use crate::lists::join_rows;
 use lra_bits::{BitRow, SatMatrix};
-use lra_cone::{Cone, RAY_LIMIT, unit};
+use lra_cone::{Cone, RAY_LIMIT};
 use lra_row::Row;
-use lra_sys::{ConKind, ConSys, GenSys, TOO_MANY_DIMENSIONS};
+use lra_sys::{ConKind, ConSys, GenSys, TOO_MANY_DIMENSIONS, unit};
 use std::alloc::{AllocError, Global};
 
 // The lines among the generators.

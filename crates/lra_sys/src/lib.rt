@@ -3,7 +3,9 @@
 
 mod membership;
 mod system;
+mod units;
 
 pub use lra_linear::{ConKind, GenKind};
 pub use membership::Holds;
 pub use system::{ConSys, GenSys, TOO_MANY_DIMENSIONS};
+pub use units::unit;

@@ -1,7 +1,8 @@
 //! Worked cones.
 
 use lra_bits::BitRow;
-use lra_cone::{ConKind, Cone, ConeError, Family, Member, Strained, nothing};
+use lra_cone::{ConKind, Cone, ConeError, Family, Member, Strained};
+use lra_descriptions::nothing;
 use lra_linear::{Excess, Operation};
 use lra_row::Row;
 use std::alloc::{AllocError, AllocFailed, Global};

@@ -1,7 +1,9 @@
 //! Lists of constraints and the generators of their points.
 
 use crate::cone::{Unfit, row_of};
-use lra_cone::{ConKind, Loss, generate, nothing};
+use lra_cone::{ConKind, Loss};
+use lra_conversions::generate;
+use lra_descriptions::nothing;
 use lra_linear::{Cause, Excess, Operation};
 use lra_sys::{ConSys, GenKind, GenSys};
 use std::alloc::{AllocError, Global};

@@ -1,5 +1,5 @@
 -- Goals of `empty`: the polyhedron without a point.
-use Rattle.lra_cone.proofs.ConstraintLists.{nothing_is}
+use Rattle.lra_pair.proofs.ConstraintLists.{nothing_is}
 use Rattle.lra_pair.proofs.PairLists.{empty_lists}
 use Rattle.lra_pair.proofs.pair.empty.Goals as goal
 

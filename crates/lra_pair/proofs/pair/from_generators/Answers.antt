@@ -6,7 +6,7 @@ use Rattle.lra_linear.specs.Polyhedra.{falsity}
 use Rattle.lra_sys.specs.Listed.{generators}
 use Rattle.lra_linear.specs.declared.GenKind.{GenKind}
 use Rattle.lra_linear.specs.declared.GenKind.TheVariants.{Point}
-use Rattle.lra_cone.proofs.ConstraintLists.{no_point_given}
+use Rattle.lra_pair.proofs.ConstraintLists.{no_point_given}
 use Rattle.lra_pair.proofs.PairLists.{empty_pair}
 use Rattle.lra_pair.proofs.pair.from_generators.Goals as goal
 

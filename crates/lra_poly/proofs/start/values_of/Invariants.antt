@@ -1,6 +1,6 @@
 use Rattle.std.proofs.Common.{◌∷◌}
 use Rattle.lra_bits.specs.TruthValues.{value_at}
-use Rattle.lra_cone.specs.Steps.{IsFilled}
+use Rattle.lra_steps.specs.Steps.{IsFilled}
 use Rattle.lra_poly.specs.Saturations.{column}
 use Rattle.lra_poly.proofs.start.values_of.Given as goal
 

@@ -10,8 +10,9 @@ use Rattle.lra_linear.specs.Descriptions.{Given}
 use Rattle.lra_sys.specs.Listed.{constraints}
 use Rattle.lra_linear.specs.Kinds.{is_equality}
 use Rattle.lra_cone.specs.Cones.{Shape, IsCone, saturation_of}
-use Rattle.lra_cone.specs.Pairs.{IsCut}
-use Rattle.lra_cone.specs.Strains.{IsConeError, IsCutError}
+use Rattle.lra_steps.specs.Pairs.{IsCut}
+use Rattle.lra_steps.specs.Strains.{IsCutError}
+use Rattle.lra_cone.specs.Strains.{IsConeError}
 use Rattle.lra_cone.proofs.StrainLemmas.{cut_cone_error}
 use Rattle.lra_cone.proofs.TightRows.{rows_length}
 use Rattle.lra_cone.proofs.Stepped.{rays_have_one_width, saturation_equal}

@@ -14,8 +14,9 @@ use Rattle.lra_sys.specs.Listed.{constraints, given_by}
 use Rattle.lra_linear.specs.Kinds.{is_equality}
 use Rattle.lra_linear.specs.declared.ConKind.{ConKind}
 use Rattle.lra_cone.specs.Cones.{Shape, IsCone, IsTakenIn, saturation_of}
-use Rattle.lra_cone.specs.Pairs.{IsCut}
-use Rattle.lra_cone.proofs.Stepped.{cut_marks, cut_few, cut_taken, cut_matrix, ray_met, ray_canonical, constraints_push, cone_again, cone_of}
+use Rattle.lra_steps.specs.Pairs.{IsCut}
+use Rattle.lra_cone.proofs.Stepped.{cut_marks, cut_few, cut_taken, cut_matrix, ray_met, ray_canonical, cone_again, cone_of}
+use Rattle.lra_sys.proofs.GivenRows.{constraints_push}
 use Rattle.lra_cone.proofs.cone.Cone.exchange_rays.Goals as goal
 
 pub remove_marked-requires : goal.remove_marked-requires

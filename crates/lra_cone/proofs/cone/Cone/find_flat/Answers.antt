@@ -7,7 +7,7 @@ use Rattle.std.proofs.lemmas.List.Elements.{Contains-get_or}
 use Rattle.lra_sys.specs.Listed.{constraints}
 use Rattle.lra_linear.specs.Kinds.{is_equality}
 use Rattle.lra_cone.specs.Cones.{Shape}
-use Rattle.lra_cone.specs.Steps.{IsTurned, AreFlatLines, AreFlatRays, flat_matrix}
+use Rattle.lra_steps.specs.Steps.{IsTurned, AreFlatLines, AreFlatRays, flat_matrix}
 use Rattle.lra_cone.specs.Flat.{AreFlat, IsFlatError}
 use Rattle.lra_cone.proofs.FlatCones.{flat_lines_told, flat_rays_told}
 use Rattle.lra_cone.proofs.Stepped.{turned_down, turned_up_width, turned_down_width, line_width, all_lines_width, all_rays_width}

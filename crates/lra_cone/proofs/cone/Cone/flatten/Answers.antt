@@ -13,7 +13,8 @@ use Rattle.lra_linear.specs.ConeStrain.{row_limit}
 use Rattle.lra_cone.specs.Cones.{Shape, IsCone, IsTakenIn, saturation_of}
 use Rattle.lra_cone.specs.Flat.{AreFlat}
 use Rattle.lra_cone.proofs.FlatCones.{flat_error}
-use Rattle.lra_cone.proofs.Stepped.{flatten_case, too_many_rays, constraints_push, cone_again, cone_of, line_met, line_canonical, line_matrix}
+use Rattle.lra_cone.proofs.Stepped.{flatten_case, too_many_rays, cone_again, cone_of, line_met, line_canonical, line_matrix}
+use Rattle.lra_sys.proofs.GivenRows.{constraints_push}
 use Rattle.lra_cone.proofs.cone.Cone.flatten.Goals as goal
 
 pub find_flat-requires-clause-inside : goal.find_flat-requires-clause-inside

@@ -4,7 +4,8 @@ use Rattle.lra_linear.specs.Descriptions.{Given}
 use Rattle.lra_sys.specs.Listed.{constraints}
 use Rattle.lra_linear.specs.Kinds.{is_equality}
 use Rattle.lra_cone.specs.Strains.{IsConeError}
-use Rattle.lra_cone.proofs.RowsTaken.{conversion_more, conversion_left_out, constraints_pushed}
+use Rattle.lra_cone.proofs.RowsTaken.{conversion_more, conversion_left_out}
+use Rattle.lra_sys.proofs.GivenRows.{constraints_pushed}
 use Rattle.lra_cone.proofs.conversions.Conversion.take_row.Goals as goal
 
 pub returns-in_ok-push_copy-in-Ok-clause-taken : goal.returns-in_ok-push_copy-in-Ok-clause-taken

@@ -1,5 +1,5 @@
 -- Goals of `Poly::empty`: no point, in n dimensions.
-use Rattle.lra_cone.proofs.ConstraintLists.{nothing_is}
+use Rattle.lra_pair.proofs.ConstraintLists.{nothing_is}
 use Rattle.lra_pair.proofs.PairLists.{empty_lists}
 use Rattle.lra_sys.specs.Listed.{constraints}
 use Rattle.lra_poly.proofs.PolyLemmas.{falsity_is_empty}

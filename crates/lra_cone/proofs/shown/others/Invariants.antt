@@ -1,6 +1,0 @@
-use Rattle.std.proofs.Common.{◌≡◌, take}
-use Rattle.lra_cone.specs.Conversions.{without}
-use Rattle.lra_cone.proofs.shown.others.Given as goal
-
-abbrev pub invariant-loop-other : goal.invariant-loop-other
-invariant-loop-other l = l.others.items ≡ without l.row (take l.other-index l.rows)

@@ -1,9 +1,0 @@
-use Rattle.std.proofs.Common.{◌≡◌, ◌++◌, take, replicate}
-use Rattle.lra_cone.proofs.shown.push_generators.Given as goal
-
-abbrev pub invariant-loop-row : goal.invariant-loop-row
-invariant-loop-row l = record {
-  dims : l.list.dims ≡ l.fn.list.dims;
-  rows : l.list.rows ≡ l.fn.list.rows ++ take l.row-index l.rows;
-  kinds : l.list.kinds ≡ l.fn.list.kinds ++ replicate l.row-index l.kind;
-}

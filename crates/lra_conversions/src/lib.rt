@@ -1,0 +1,6 @@
+//! Lists of constraints converted to generators, and of generators to constraints, with their losses.
+#![tactic(auto)]
+
+mod conversions;
+
+pub use conversions::{constrain, generate};

@@ -1,0 +1,3 @@
+-- The lemmas, from bottom to top.
+pub mod Parted
+pub mod Validity

@@ -1,0 +1,21 @@
+-- Goals of `is_valid`: whether the product of the row with each of these is in the range and as both kinds ask.
+use Rattle.std.proofs.Common.{rules, FitsSigned, arith}
+use Rattle.std.specs.Int.{w128}
+use Rattle.std.proofs.lemmas.Int.{to_z-of_z}
+use Rattle.lra_linear.specs.Kinds.{is_equality}
+use Rattle.lra_descriptions.proofs.Validity.{valid_next, valid_all}
+use Rattle.lra_descriptions.proofs.lists.is_valid.Goals as goal
+
+pub loop-place-preserved : goal.loop-place-preserved
+loop-place-preserved c =
+    let fits : FitsSigned w128 c.in-Ok.product = search rules in
+    let first = simp to_z-of_z at c.accepts.ensures in
+    let second = simp to_z-of_z at c.accepts-else-not-accepts.ensures in
+    valid_next is_equality (is_equality c.args.kind) c.args.row.now c.rows-listed.result.now c.kinds-kinds.result.now c.loop-place.place c.args.list.now.rows c.rows-listed.ensures.rows
+    c.kinds-kinds.ensures.len (omega (arith, c.loop-place-test.true, c.loop-place.auto.place-end))
+    c.index-listed-place.result _ c.in-Ok.product c.index-listed-place.is c.in-Ok.ensures.value (first.0 c.if-not-accepts.false) (second.0 c.if-not-accepts-2.false) c.loop-place.invariant
+
+pub returns : goal.returns
+returns c = λ _.
+    valid_all is_equality (is_equality c.args.kind) c.args.row.now c.rows-listed.result.now c.args.list.now.rows c.kinds-kinds.result.now c.args.list.now.kinds c.loop-place.place
+    c.rows-listed.ensures.rows c.kinds-kinds.ensures.kinds c.kinds-kinds.ensures.len (omega (arith, c.loop-place-test.false, c.loop-place.auto.place-end)) c.loop-place.invariant

@@ -1,0 +1,2 @@
+-- The lists that are shown of a cone.
+pub mod ShownLists

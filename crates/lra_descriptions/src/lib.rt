@@ -1,0 +1,8 @@
+//! Lists that describe sets of points: as they are shown of a cone, and as they are taken into one.
+#![tactic(auto)]
+
+mod lists;
+mod shown;
+
+pub use lists::{dual_rows, has_point, nothing, valid_rows};
+pub use shown::{constraint_list, generator_list};

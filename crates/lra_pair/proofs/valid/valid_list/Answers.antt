@@ -1,0 +1,20 @@
+-- Goals of `valid_list`: the constraints of the cone; after a loss those of them that are valid on all rows, which
+-- were to be taken in.
+use Rattle.std.proofs.Common.{ap, sym, ◌∙◌, suc}
+use Rattle.lra_cone.proofs.Stepped.{lines_have_width, rays_have_width}
+use Rattle.lra_pair.proofs.valid.valid_list.Goals as goal
+
+pub constraint_list-requires-clause-lines : goal.constraint_list-requires-clause-lines
+constraint_list-requires-clause-lines c = lines_have_width c.args.conversion.now.cone (suc c.dims-n.result) c.lines-lines.result.now c.lines-lines.ensures.cone
+    (ap suc (c.dims-n.ensures ∙ sym c.requires.dims)) c.lines-lines.ensures.lines
+
+pub constraint_list-requires-clause-rays : goal.constraint_list-requires-clause-rays
+constraint_list-requires-clause-rays c = rays_have_width c.args.conversion.now.cone (suc c.dims-n.result) c.rays-rays.result.now c.rays-rays.ensures.cone
+    (ap suc (c.dims-n.ensures ∙ sym c.requires.dims)) c.rays-rays.ensures.rays
+
+pub valid_rows-requires : goal.valid_rows-requires
+valid_rows-requires c = lines_have_width c.args.conversion.now.cone (suc c.args.rows.now.dims) c.lines-lines.result.now c.lines-lines.ensures.cone
+    (ap suc (sym c.requires.dims)) c.lines-lines.ensures.lines
+
+pub valid_rows-requires-2 : goal.valid_rows-requires-2
+valid_rows-requires-2 c = rays_have_width c.args.conversion.now.cone (suc c.args.rows.now.dims) c.rays-rays.result.now c.rays-rays.ensures.cone (ap suc (sym c.requires.dims)) c.rays-rays.ensures.rays

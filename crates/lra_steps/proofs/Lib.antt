@@ -1,0 +1,6 @@
+-- The lemmas, from bottom to top.
+pub mod PairLists
+pub mod Filling
+pub mod RowProducts
+pub mod Flattening
+pub mod Cuts

@@ -1,0 +1,4 @@
+-- The parts of a step that takes a row in, adjacent pairs of rays, and what passes a limit.
+pub mod Steps
+pub mod Pairs
+pub mod Strains

@@ -1,0 +1,72 @@
+//! Pairs of adjacent rays on both sides of the row.
+
+ghost use Rattle.std.specs.Prelude.{◌≡◌, ◌<◌, ◌+◌, ◌<ℤ◌, pos, length, IfOk, OnOk, slice_index_or};
+ghost use Rattle.lra_steps.specs.Pairs.{TellsAdjacent, ArePairs, both_tight};
+
+use lra_bits::{BitRow, SatMatrix};
+use std::alloc::{AllocError, Global};
+
+/// Two rays, the product of the first above 0 and of the second below, and the rows that are tight at both.
+#[derive(Drop)]
+pub struct Pair {
+    pub up: usize,
+    pub down: usize,
+    pub tight: BitRow,
+}
+
+// No third ray is tight wherever both are. Takes no memory, since most pairs aren't adjacent.
+fn are_adjacent(saturation: &SatMatrix, up: usize, down: usize) -> bool
+    requires up { up < length saturation.now.rows }
+    requires down { down < length saturation.now.rows }
+    ensures { TellsAdjacent saturation.now.rows up down (both_tight saturation.now.rows up down) result }
+{
+    let (first, second) = (saturation.row(up), saturation.row(down));
+    for third in 0..saturation.height() {
+        if third != up && third != down && first.common_within(second, saturation.row(third)) {
+            return false;
+        }
+    }
+    true
+}
+
+// The adjacent pairs with the first ray at `up`, behind what is there.
+fn push_pairs_of(
+    pairs: &mut Vec<Pair>,
+    up: usize,
+    products: &[i128],
+    saturation: &SatMatrix,
+) -> Result<(), AllocError>
+    requires inside { up < length products.now }
+    requires each { length products.now ≡ length saturation.now.rows }
+    requires above { pos 0 <ℤ slice_index_or products.now up (pos 0) }
+    ensures { OnOk result (ArePairs products.now saturation.now.rows up 0 pairs.old.items →
+        ArePairs products.now saturation.now.rows (up + 1) 0 pairs.new.items) }
+{
+    for down in 0..products.len() {
+        if products[down] < 0 {
+            if are_adjacent(saturation, up, down) {
+                let tight = saturation.row(up).common(saturation.row(down))?;
+                pairs.push(Pair { up, down, tight })?;
+            }
+        }
+    }
+    Ok(())
+}
+
+/// The adjacent pairs of rays on both sides.
+pub fn adjacent_pairs(
+    alloc: Global,
+    products: &[i128],
+    saturation: &SatMatrix,
+) -> Result<Vec<Pair>, AllocError>
+    requires { length products.now ≡ length saturation.now.rows }
+    ensures { IfOk result (λ pairs. ArePairs products.now saturation.now.rows (length products.now) 0 pairs.items) }
+{
+    let mut pairs = Vec::new(alloc);
+    for up in 0..products.len() {
+        if products[up] > 0 {
+            push_pairs_of(&mut pairs, up, products, saturation)?;
+        }
+    }
+    Ok(pairs)
+}

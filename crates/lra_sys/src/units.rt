@@ -1,0 +1,20 @@
+//! Unit rows.
+
+ghost use Rattle.std.specs.Prelude.{◌≡◌, ◌<◌, ◌≤◌, IfOk};
+ghost use Rattle.lra_linear.specs.OperationStrain.{unit_row};
+ghost use Rattle.lra_sys.specs.Dimensions.{too_many_dimensions};
+
+use lra_row::Row;
+use std::alloc::{AllocError, Global};
+
+/// The row of n + 1 columns with 1 in this column and 0 elsewhere.
+pub fn unit(alloc: Global, n: usize, column: usize) -> Result<Row, AllocError>
+    requires small { n < too_many_dimensions }
+    requires column { column ≤ n }
+    ensures { IfOk result (λ row. row ≡ unit_row n column) }
+{
+    let mut numbers = vec![in alloc; 0i128; n + 1]?;
+    numbers[column] = 1;
+    let row = Row::from_slice(alloc, &numbers)?;
+    Ok(row)
+}
