@@ -16,8 +16,9 @@ ghost use Rattle.lra_calc.specs.Script as script;
 ghost use Rattle.lra_calc.specs.Views.{fault_of, is_flagged};
 
 use crate::refusal::Fault;
+use lra_images::{forget, image, preimage};
 use lra_lin::LinExpr;
-use lra_maps::{forget, image, preimage, time_elapse};
+use lra_maps::time_elapse;
 use lra_poly::{Outcome, Poly};
 use lra_row::Row;
 use lra_script::{Combination, Constraint, Generator, Mapping};

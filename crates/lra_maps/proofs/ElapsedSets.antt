@@ -27,7 +27,7 @@ use Rattle.lra_pair.proofs.GeneratorLists.{system_append}
 use Rattle.lra_poly.specs.Outcomes.{IfExact, IfFlagged}
 use Rattle.lra_poly.specs.declared.outcome.Outcome.{Outcome}
 use Rattle.lra_poly.proofs.PolyLemmas.{hull_holds, if_exact, if_flagged, rows_width, valid_with}
-use Rattle.lra_maps.proofs.Sums.{IsLinear, generated_mapped, system_mapped}
+use Rattle.lra_lists.proofs.Sums.{IsLinear, generated_mapped, system_mapped}
 
 -- ---- 0 in column 0
 abbrev pub level : (ℕ → ℤ) → ℕ → ℤ
@@ -339,9 +339,6 @@ pub list_is : (p q : Polyhedron) (first second all : List Given) → all ≡ fir
     first ≡ p.generators → second ≡ q.generators → all ≡ p.generators ++ as_directions q.generators
 list_is p q first second all e ef es = e ∙ ap (λ (l : List Given). l ++ as_directions second) ef ∙
     ap (λ (l : List Given). p.generators ++ as_directions l) es
-
-pub direction_level : (r : List ℤ) → entry (cleared 0 r) 0 ≡ pos 0
-direction_level r = cleared_entry r 0
 
 pub elapse_copied : (p q r : Polyhedron) → r ≡ q → q.dims ≡ p.dims → IsPolyhedron q → IsEmptySet q.dims (Con q.rows) →
     IsPolyhedronOf p.dims (TimeElapse p.dims (Con p.rows) (Con q.rows)) r

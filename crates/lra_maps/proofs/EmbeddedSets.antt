@@ -14,16 +14,18 @@ use Rattle.lra_linear.specs.Vectors.{entry, negated, units, zeros}
 use Rattle.lra_linear.proofs.Combinations.{generated_plus, generated_row, generated_same, generated_zero}
 use Rattle.lra_linear.proofs.Descriptions.{gen_generated, generated_gen}
 use Rattle.lra_linear.proofs.LinearMaps.{generated_left, generated_right}
-use Rattle.lra_linear.proofs.Lines.{entry_zeros, generated_described, whole_described}
+use Rattle.lra_linear.proofs.Lines.{generated_described, whole_described}
 use Rattle.lra_linear.proofs.Membership.{map_from}
 use Rattle.lra_linear.proofs.Polyhedra.{con_gen}
 use Rattle.lra_linear.proofs.Ring.{ring, v, ◌⊕◌, ◌⊗◌}
 use Rattle.lra_sys.specs.Listed.{Listed, generators}
 use Rattle.lra_linear.specs.declared.GenKind.{GenKind}
 use Rattle.lra_pair.proofs.GeneratorLists.{system_append, system_lines}
-use Rattle.lra_maps.proofs.OutcomeLemmas.{Takes}
-use Rattle.lra_maps.proofs.ShortenedSets.{columns_linear, first_columns, short_divisor, short_entry, widths_of}
-use Rattle.lra_maps.proofs.Sums.{IsLinear, generated_linear, generated_mapped, mapped_by, system_mapped}
+use Rattle.lra_lists.proofs.ListLemmas.{longer_entry, short_divisor}
+use Rattle.lra_lists.proofs.MappedSets.{widths_of}
+use Rattle.lra_poly.proofs.TakenGenerators.{Takes}
+use Rattle.lra_maps.proofs.ShortenedSets.{columns_linear, first_columns, short_entry}
+use Rattle.lra_lists.proofs.Sums.{IsLinear, generated_linear, generated_mapped, mapped_by, system_mapped}
 
 -- ---- rows with zeros behind them
 zeros_negated : (k : ℕ) → zeros k ≡ negated (zeros k)
@@ -33,11 +35,6 @@ zeros_negated (suc k) = ap (λ (l : List ℤ). pos 0 ∷ l) (zeros_negated k)
 longer_negated : (k : ℕ) (r : List ℤ) → negated r ++ zeros k ≡ negated (r ++ zeros k)
 longer_negated k [] = zeros_negated k
 longer_negated k (x ∷ r) = ap (λ (l : List ℤ). neg_ℤ x ∷ l) (longer_negated k r)
-
-pub longer_entry : (k : ℕ) (r : List ℤ) (j : ℕ) → entry (r ++ zeros k) j ≡ entry r j
-longer_entry k [] j = entry_zeros k j
-longer_entry k (x ∷ r) zero = refl
-longer_entry k (x ∷ r) (suc j) = longer_entry k r j
 
 -- ---- rows with zeros before them
 abbrev behind : ℕ → (ℕ → ℤ) → ℕ → ℤ

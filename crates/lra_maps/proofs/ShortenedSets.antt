@@ -1,26 +1,19 @@
 -- Fewer dimensions: the generators without their last columns.
-use Rattle.std.proofs.Common.{◌≡◌, ℕ, zero, suc, ◌≤◌, ◌+◌, ◌-◌, List, [], ◌∷◌, length, take, ap, refl, sym, ◌∙◌, subst}
-use Rattle.std.proofs.Common.{ℤ, pos, neg_ℤ, ◌+ℤ◌, ◌*ℤ◌, arith, inl, inr}
-use Rattle.std.specs.List.{Contains}
-use Rattle.lra_linear.specs.Descriptions.{Con, Gen, Given, system_of}
+use Rattle.std.proofs.Common.{◌≡◌, ℕ, zero, suc, ◌≤◌, ◌+◌, ◌-◌, List, [], ◌∷◌, take, ap, refl, sym, ◌∙◌, subst}
+use Rattle.std.proofs.Common.{ℤ, pos, neg_ℤ, ◌+ℤ◌, ◌*ℤ◌, arith}
+use Rattle.lra_linear.specs.Descriptions.{Con, Gen}
 use Rattle.lra_linear.specs.OperationStrain.{shortened}
 use Rattle.lra_linear.specs.Points.{IsPoint, SameSet}
 use Rattle.lra_linear.specs.Polyhedra.{IsPolyhedron, Polyhedron}
 use Rattle.lra_linear.specs.SetOperations.{RemoveLast}
 use Rattle.lra_linear.specs.Vectors.{entry, negated}
-use Rattle.lra_linear.proofs.Membership.{contains_none}
 use Rattle.lra_linear.proofs.Polyhedra.{con_gen}
 use Rattle.lra_linear.proofs.Ring.{ring, v, ◌⊕◌, ◌⊗◌}
-use Rattle.lra_linear.proofs.SetOperations.{has_vertex}
 use Rattle.lra_sys.specs.Listed.{Listed, generators}
 use Rattle.lra_linear.specs.declared.GenKind.{GenKind}
-use Rattle.lra_maps.proofs.MappedSets.{IsMapOf, mapped_from, mapped_in}
-use Rattle.lra_maps.proofs.OutcomeLemmas.{Takes}
-use Rattle.lra_maps.proofs.Sums.{IsLinear}
-
-pub short_divisor : (n : ℕ) (r : List ℤ) → entry (take (suc n) r) 0 ≡ entry r 0
-short_divisor n [] = refl
-short_divisor n (x ∷ r) = refl
+use Rattle.lra_lists.proofs.MappedSets.{IsMapOf, mapped_from, mapped_in, widths_of}
+use Rattle.lra_lists.proofs.Sums.{IsLinear}
+use Rattle.lra_poly.proofs.TakenGenerators.{Takes}
 
 -- the columns before w, and 0 from there on
 abbrev pub first_columns : ℕ → (ℕ → ℤ) → ℕ → ℤ
@@ -65,12 +58,6 @@ short_map n m = record {
   opposite = short_negated (suc n);
   entries = λ r l j. short_entry (suc n) r j;
 }
-
--- the rows of a polyhedron's generators
-pub widths_of : (p : Polyhedron) → IsPolyhedron p → (t : List ℤ) → Contains (system_of p.generators) t →
-    length t ≡ suc p.dims
-widths_of p (inl none) t k = absurd (contains_none t (subst (λ (l : List Given). Contains (system_of l) t) none.1 k))
-widths_of p (inr h) t k = (has_vertex p h).widths t k
 
 pub shortened_generators : (p : Polyhedron) (n k : ℕ) → IsPolyhedron p → p.dims ≡ n + k →
     SameSet n (RemoveLast n k (Con p.rows)) (Gen (shortened n p.generators))

@@ -1,11 +1,6 @@
-//! Images and preimages of polyhedra, and changes of their dimensions.
+//! Changes of the dimensions of polyhedra, and time-elapse.
 #![tactic(auto)]
 
-mod forming;
-mod images;
-mod lists;
 mod maps;
-mod moved;
 
-pub use images::{image, preimage};
-pub use maps::{embed, forget, remove_last, time_elapse};
+pub use maps::{embed, remove_last, time_elapse};

@@ -1,17 +1,17 @@
-//! Operations that change a polyhedron.
+//! Changes of the dimensions, and time-elapse.
 
-ghost use Rattle.std.specs.Prelude.{◌≡◌, ◌⊎◌, ◌<◌, ◌≤◌, ◌-◌, ◌+◌, suc, IfOk, OnErr, OnOk};
+ghost use Rattle.std.specs.Prelude.{◌≡◌, ◌⊎◌, ◌<◌, ◌≤◌, ◌-◌, ◌+◌, IfOk, OnErr, OnOk};
 ghost use Rattle.lra_linear.specs.Descriptions.{Con, Gen};
-ghost use Rattle.lra_linear.specs.OperationStrain.{FromGeneratorsStrains, EmbedStrains, ForgetStrains};
+ghost use Rattle.lra_linear.specs.OperationStrain.{FromGeneratorsStrains, EmbedStrains};
 ghost use Rattle.lra_linear.specs.OperationStrain.{RemoveLastStrains, TimeElapseStrains};
 ghost use Rattle.lra_linear.specs.Points.{IsEmptySet, IsWithin};
 ghost use Rattle.lra_linear.specs.Polyhedra.{IsPolyhedron, IsPolyhedronOf};
-ghost use Rattle.lra_linear.specs.SetOperations.{Embed, Forget, RemoveLast, TimeElapse};
+ghost use Rattle.lra_linear.specs.SetOperations.{Embed, RemoveLast, TimeElapse};
 ghost use Rattle.lra_poly.specs.Outcomes.{IfExact, IfFlagged};
 ghost use Rattle.lra_sys.specs.Dimensions.{too_many_dimensions};
 ghost use Rattle.lra_sys.specs.Listed.{generators, FitKinds};
 
-use crate::lists::{embed_list, shorten, with_directions, with_line};
+use lra_lists::{embed_list, shorten, with_directions};
 use lra_poly::{Outcome, Poly};
 use lra_sys::GenSys;
 use std::alloc::AllocError;
@@ -28,23 +28,6 @@ fn replace(p: &mut Poly, list: &GenSys) -> Result<Outcome, AllocError>
 {
     let (made, outcome) = Poly::from_generators(p.allocator(), list)?;
     *p = made;
-    Ok(outcome)
-}
-
-/// Lets the coordinate x be anything: becomes the set of the points that some value of x brings into it. Where it is
-/// flagged it has at least those.
-pub fn forget(p: &mut Poly, x: usize) -> Result<Outcome, AllocError>
-    requires { x < p.old.dims }
-    ensures dims { p.new.dims ≡ p.old.dims }
-    ensures exact { IfOk result (IfExact
-        (IsPolyhedronOf p.old.dims (Forget p.old.dims (suc x) (Con p.old.rows)) p.new)) }
-    ensures within { IfOk result (λ _.
-        IsWithin p.old.dims (Forget p.old.dims (suc x) (Con p.old.rows)) (Con p.new.rows)) }
-    ensures strain { IfOk result (IfFlagged (ForgetStrains (suc x) p.old)) }
-    ensures unchanged { OnErr result (p.new ≡ p.old) }
-{
-    let list = with_line(p.allocator(), p.generators(), x)?;
-    let outcome = replace(p, &list)?;
     Ok(outcome)
 }
 

@@ -10,3 +10,4 @@ pub mod StartLemmas
 pub mod KeptCones
 pub mod KeptFacets
 pub mod FacetLemmas
+pub mod TakenGenerators

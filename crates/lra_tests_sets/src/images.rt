@@ -3,8 +3,8 @@
 ghost use Rattle.std.specs.Prelude.{◌≡◌, length, IfOk};
 
 use crate::shapes::{Constraint, Unfit, set_of, shows};
+use lra_images::{image, preimage};
 use lra_lin::LinExpr;
-use lra_maps::{image, preimage};
 use lra_poly::Poly;
 use lra_sys::ConKind;
 use std::alloc::{AllocError, Global};

@@ -3,7 +3,8 @@
 ghost use Rattle.std.specs.Prelude.{◌≡◌, IfOk};
 
 use crate::shapes::{Unfit, row_of, shows};
-use lra_maps::{embed, forget, remove_last, time_elapse};
+use lra_images::forget;
+use lra_maps::{embed, remove_last, time_elapse};
 use lra_poly::Poly;
 use lra_sys::{ConKind, ConSys};
 use std::alloc::Global;

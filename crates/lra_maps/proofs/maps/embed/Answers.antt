@@ -4,7 +4,7 @@ use Rattle.lra_linear.specs.Descriptions.{Con}
 use Rattle.lra_linear.specs.OperationStrain.{embedded}
 use Rattle.lra_linear.specs.SetOperations.{Embed}
 use Rattle.lra_maps.proofs.EmbeddedSets.{embed_takes}
-use Rattle.lra_maps.proofs.OutcomeLemmas.{taken_exact, taken_flagged, taken_within}
+use Rattle.lra_poly.proofs.TakenGenerators.{taken_exact, taken_flagged, taken_within}
 use Rattle.lra_maps.proofs.maps.embed.Goals as goal
 
 pub returns-clause-exact : goal.returns-clause-exact

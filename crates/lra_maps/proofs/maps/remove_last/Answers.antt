@@ -3,7 +3,7 @@ use Rattle.std.proofs.Common.{◌-◌, ap, ℕ}
 use Rattle.lra_linear.specs.Descriptions.{Con}
 use Rattle.lra_linear.specs.OperationStrain.{shortened}
 use Rattle.lra_linear.specs.SetOperations.{RemoveLast}
-use Rattle.lra_maps.proofs.OutcomeLemmas.{taken_exact, taken_flagged, taken_within}
+use Rattle.lra_poly.proofs.TakenGenerators.{taken_exact, taken_flagged, taken_within}
 use Rattle.lra_maps.proofs.ShortenedSets.{remove_takes}
 use Rattle.lra_maps.proofs.maps.remove_last.Goals as goal
 

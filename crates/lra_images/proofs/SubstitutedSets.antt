@@ -1,0 +1,70 @@
+-- Preimages: the constraints with the form put in for one coordinate.
+use Rattle.std.proofs.Common.{◌≡◌, ℕ, suc, ◌<◌, List, length, arith, refl, sym, subst, ℤ, Option, None, Some, inl, inr}
+use Rattle.std.specs.Prelude.{IfNone, IfSome}
+use Rattle.std.specs.List.{Contains}
+use Rattle.lra_linear.specs.CheckedArithmetic.{checked_substitution}
+use Rattle.lra_linear.specs.Descriptions.{Con, Given}
+use Rattle.lra_linear.specs.OperationStrain.{FormingPasses, FromRowsStrains, PreimageStrains, substituted_rows}
+use Rattle.lra_linear.specs.Points.{IsWithin, SameSet}
+use Rattle.lra_linear.specs.Polyhedra.{IsPolyhedron, IsPolyhedronOf, Polyhedron}
+use Rattle.lra_linear.specs.SetOperations.{Preimage}
+use Rattle.lra_linear.specs.Strain.{Loss}
+use Rattle.lra_linear.proofs.SetOperations.{preimage_con}
+use Rattle.lra_poly.proofs.PolyLemmas.{constraints_strain, given_width, if_exact, if_flagged, same_polyhedron}
+use Rattle.lra_poly.specs.Outcomes.{IfExact, IfFlagged}
+use Rattle.lra_poly.specs.declared.outcome.Outcome.{Outcome}
+use Rattle.lra_poly.specs.declared.outcome.Outcome.TheVariants.{Flagged}
+
+-- a form of the polyhedron's dimensions, for a column of it
+pub record IsAssignment (p : Polyhedron) (k : ℕ) (form : List ℤ) : Type 0 where
+  pub canonical : IsPolyhedron p
+  pub column : k < suc p.dims
+  pub width : length form ≡ suc p.dims
+
+pub assignment_of : (p : Polyhedron) (x : ℕ) (form : List ℤ) → IsPolyhedron p → x < p.dims → length form ≡ suc p.dims →
+    IsAssignment p (suc x) form
+assignment_of p x form h low n = record { canonical = h; column = omega (arith, low); width = n }
+
+preimage_same : (p : Polyhedron) (k : ℕ) (form : List ℤ) → IsAssignment p k form →
+    SameSet p.dims (Preimage k form (Con p.rows)) (Con (substituted_rows k form p.rows))
+preimage_same p k form a = preimage_con p.dims k form p.rows a.column a.width (given_width p a.canonical)
+
+-- the polyhedron of the rows that were formed, if all were
+pub preimage_exact : (p made : Polyhedron) (k : ℕ) (form : List ℤ) (d : ℕ) (list : List Given)
+    (lost : Option Loss) (outcome told : Outcome) → IsAssignment p k form → d ≡ p.dims →
+    (lost ≡ None → told ≡ outcome) → ((loss : Loss) → lost ≡ Some loss → told ≡ Flagged loss) →
+    IfNone lost (list ≡ substituted_rows k form p.rows) → IfExact (IsPolyhedronOf d (Con list) made) outcome →
+    IfExact (IsPolyhedronOf p.dims (Preimage k form (Con p.rows)) made) told
+preimage_exact p made k form d list None outcome told a ed same first all h =
+    subst (IfExact (IsPolyhedronOf p.dims (Preimage k form (Con p.rows)) made)) (sym (same refl))
+    (if_exact (IsPolyhedronOf d (Con list) made) (IsPolyhedronOf p.dims (Preimage k form (Con p.rows)) made) outcome
+    (λ i. same_polyhedron p.dims (Preimage k form (Con p.rows)) (Con (substituted_rows k form p.rows)) made
+    (preimage_same p k form a)
+    (subst (λ (n : ℕ). IsPolyhedronOf n (Con (substituted_rows k form p.rows)) made) ed
+    (subst (λ (l : List Given). IsPolyhedronOf d (Con l) made) all i))) h)
+preimage_exact p made k form d list (Some loss) outcome told a ed same first all h =
+    subst (IfExact (IsPolyhedronOf p.dims (Preimage k form (Con p.rows)) made)) (sym (first loss refl)) tt
+
+pub preimage_within : (p made : Polyhedron) (k : ℕ) (form : List ℤ) (d : ℕ) (list : List Given) →
+    IsAssignment p k form → d ≡ p.dims →
+    ((g : Given) → Contains list g → Contains (substituted_rows k form p.rows) g) →
+    IsWithin d (Con list) (Con made.rows) → IsWithin p.dims (Preimage k form (Con p.rows)) (Con made.rows)
+preimage_within p made k form d list a ed among h x i s =
+    subst (λ (n : ℕ). IsWithin n (Con list) (Con made.rows)) ed h x i
+    (λ g m. (preimage_same p k form a).0 x i s g (among g m))
+
+pub preimage_strain : (p : Polyhedron) (k : ℕ) (form : List ℤ) (d : ℕ) (list : List Given)
+    (lost : Option Loss) (outcome told : Outcome) → IsAssignment p k form → d ≡ p.dims →
+    (lost ≡ None → told ≡ outcome) → ((loss : Loss) → lost ≡ Some loss → told ≡ Flagged loss) →
+    IfNone lost (list ≡ substituted_rows k form p.rows) →
+    IfSome lost (FormingPasses (λ g. checked_substitution k form g.row) p.rows) →
+    IfFlagged (FromRowsStrains d list) outcome → IfFlagged (PreimageStrains k form p) told
+preimage_strain p k form d list None outcome told a ed same first all lost h =
+    subst (IfFlagged (PreimageStrains k form p)) (sym (same refl))
+    (if_flagged (FromRowsStrains d list) (PreimageStrains k form p) outcome
+    (λ loss s. inr (constraints_strain p.dims (Preimage k form (Con p.rows)) (Con (substituted_rows k form p.rows))
+    (substituted_rows k form p.rows) loss (preimage_same p k form a)
+    (subst (λ (n : ℕ). FromRowsStrains n (substituted_rows k form p.rows) loss) ed
+    (subst (λ (l : List Given). FromRowsStrains d l loss) all s)))) h)
+preimage_strain p k form d list (Some loss) outcome told a ed same first all lost h =
+    subst (IfFlagged (PreimageStrains k form p)) (sym (first loss refl)) (inl lost)

@@ -1,0 +1,2 @@
+-- Images and preimages of polyhedra, and coordinates that are forgotten.
+pub mod Forgetting

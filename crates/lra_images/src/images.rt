@@ -1,0 +1,186 @@
+//! Images and preimages under a form, and coordinates that are forgotten.
+
+ghost use Rattle.std.specs.Prelude.{◌≡◌, ◌<◌, suc, length, None, Some, IfOk, OnErr, OnOk};
+ghost use Rattle.lra_linear.specs.Descriptions.{Con, Gen};
+ghost use Rattle.lra_linear.specs.OperationStrain.{ForgetStrains, FromGeneratorsStrains};
+ghost use Rattle.lra_linear.specs.OperationStrain.{ImageStrains, PreimageStrains};
+ghost use Rattle.lra_linear.specs.Points.{IsWithin};
+ghost use Rattle.lra_linear.specs.Polyhedra.{IsPolyhedronOf};
+ghost use Rattle.lra_linear.specs.SetOperations.{Forget, Image, Preimage};
+ghost use Rattle.lra_linear.specs.Strain as strain;
+ghost use Rattle.lra_images.specs.Forgetting.{IsForgotten};
+ghost use Rattle.lra_poly.specs.Outcomes.{IfExact, IfFlagged};
+ghost use Rattle.lra_lin.specs.Form.{form_row};
+ghost use Rattle.lra_sys.specs.Listed.{generators, FitKinds};
+
+use crate::moved::{move_back, move_forward};
+use lra_cone::Loss;
+use lra_lin::LinExpr;
+use lra_lists::{assign_list, substitute_list, with_line};
+use lra_poly::{Outcome, Poly};
+use lra_row::Row;
+use lra_sys::GenSys;
+use std::alloc::AllocError;
+
+/// Lets the coordinate x be anything: becomes the set of the points that some value of x brings into it. Where it is
+/// flagged it has at least those.
+pub fn forget(p: &mut Poly, x: usize) -> Result<Outcome, AllocError>
+    requires { x < p.old.dims }
+    ensures dims { p.new.dims ≡ p.old.dims }
+    ensures exact { IfOk result (IfExact
+        (IsPolyhedronOf p.old.dims (Forget p.old.dims (suc x) (Con p.old.rows)) p.new)) }
+    ensures within { IfOk result (λ _.
+        IsWithin p.old.dims (Forget p.old.dims (suc x) (Con p.old.rows)) (Con p.new.rows)) }
+    ensures strain { IfOk result (IfFlagged (ForgetStrains (suc x) p.old)) }
+    ensures unchanged { OnErr result (p.new ≡ p.old) }
+{
+    let list = with_line(p.allocator(), p.generators(), x)?;
+    let (made, outcome) = Poly::from_generators(p.allocator(), &list)?;
+    *p = made;
+    Ok(outcome)
+}
+
+// Lets the coordinate x be anything, or gives at least those points.
+fn give_up(p: &mut Poly, x: usize) -> Result<(), AllocError>
+    requires { x < p.old.dims }
+    ensures dims { p.new.dims ≡ p.old.dims }
+    ensures within { OnOk result
+        (IsWithin p.old.dims (Forget p.old.dims (suc x) (Con p.old.rows)) (Con p.new.rows)) }
+    ensures forgotten { OnOk result (IsForgotten (suc x) p.old p.new) }
+    ensures unchanged { OnErr result (p.new ≡ p.old) }
+{
+    let _outcome = forget(p, x)?;
+    Ok(())
+}
+
+// Becomes the polyhedron of generators that give no more than what some value of the coordinate x brings into it; where
+// that is flagged, the coordinate x is forgotten.
+fn replace_or_forget(p: &mut Poly, x: usize, list: &GenSys) -> Result<Outcome, AllocError>
+    requires column { x < p.old.dims }
+    requires dims { list.now.dims ≡ p.old.dims }
+    requires kinds { FitKinds list.now.rows list.now.kinds }
+    requires within { IsWithin p.old.dims (Gen (generators list.now)) (Forget p.old.dims (suc x) (Con p.old.rows)) }
+    ensures dims { p.new.dims ≡ p.old.dims }
+    ensures exact { IfOk result (IfExact (IsPolyhedronOf list.now.dims (Gen (generators list.now)) p.new)) }
+    ensures within { IfOk result (λ _. IsWithin list.now.dims (Gen (generators list.now)) (Con p.new.rows)) }
+    ensures strain { IfOk result (IfFlagged (FromGeneratorsStrains list.now.dims (generators list.now))) }
+    ensures forgotten { IfOk result (IfFlagged (λ _. IsForgotten (suc x) p.old p.new)) }
+    ensures unchanged { OnErr result (p.new ≡ p.old) }
+{
+    let (made, outcome) = Poly::from_generators(p.allocator(), list)?;
+    if outcome.is_exact() {
+        *p = made;
+    } else {
+        give_up(p, x)?;
+    }
+    Ok(outcome)
+}
+
+// The image, where the generators are converted.
+fn convert_image(p: &mut Poly, x: usize, form: &Row) -> Result<Outcome, AllocError>
+    requires column { x < p.old.dims }
+    requires form { length form.now ≡ suc p.old.dims }
+    ensures dims { p.new.dims ≡ p.old.dims }
+    ensures exact { IfOk result (IfExact
+        (IsPolyhedronOf p.old.dims (Image p.old.dims (suc x) form.now (Con p.old.rows)) p.new)) }
+    ensures within { IfOk result (λ _.
+        IsWithin p.old.dims (Image p.old.dims (suc x) form.now (Con p.old.rows)) (Con p.new.rows)) }
+    ensures strain { IfOk result (IfFlagged (ImageStrains (suc x) form.now p.old)) }
+    ensures forgotten { IfOk result (IfFlagged (λ _. IsForgotten (suc x) p.old p.new)) }
+    ensures unchanged { OnErr result (p.new ≡ p.old) }
+{
+    match assign_list(p.allocator(), p.generators(), x, form)? {
+        Ok(list) => {
+            let outcome = replace_or_forget(p, x, &list)?;
+            Ok(outcome)
+        }
+        Err(loss) => {
+            give_up(p, x)?;
+            Ok(Outcome::Flagged(loss))
+        }
+    }
+}
+
+/// Gives the coordinate x the form's value: becomes the set of its points, each with that value as coordinate x. Where
+/// it is flagged, the coordinate may be anything: it has at least those points. Where the form has 1 or -1 at x nothing
+/// is converted, unless a number passes the range or there is no point.
+pub fn image(p: &mut Poly, x: usize, form: &LinExpr) -> Result<Outcome, AllocError>
+    requires column { x < p.old.dims }
+    requires form { length form.now.coefficients ≡ p.old.dims }
+    ensures dims { p.new.dims ≡ p.old.dims }
+    ensures exact { IfOk result (IfExact
+        (IsPolyhedronOf p.old.dims (Image p.old.dims (suc x) (form_row form.now) (Con p.old.rows)) p.new)) }
+    ensures within { IfOk result (λ _.
+        IsWithin p.old.dims (Image p.old.dims (suc x) (form_row form.now) (Con p.old.rows)) (Con p.new.rows)) }
+    ensures strain { IfOk result (IfFlagged (ImageStrains (suc x) (form_row form.now) p.old)) }
+    ensures forgotten { IfOk result (IfFlagged (λ _. IsForgotten (suc x) p.old p.new)) }
+    ensures unchanged { OnErr result (p.new ≡ p.old) }
+{
+    let row = form.to_row(p.allocator())?;
+    match move_forward(p, x + 1, &row)? {
+        Some(made) => {
+            *p = made;
+            Ok(Outcome::Exact)
+        }
+        None => {
+            let outcome = convert_image(p, x, &row)?;
+            Ok(outcome)
+        }
+    }
+}
+
+// The loss, or where there is none the outcome.
+fn first_told(lost: Option<Loss>, outcome: Outcome) -> Outcome
+    ensures none { lost ≡ None → result ≡ outcome }
+    ensures some { (loss : strain.Loss) → lost ≡ Some loss → result ≡ Outcome.Flagged loss }
+{
+    match lost {
+        None => outcome,
+        Some(loss) => Outcome::Flagged(loss),
+    }
+}
+
+// The preimage, where the constraints are converted.
+fn convert_preimage(p: &mut Poly, x: usize, form: &Row) -> Result<Outcome, AllocError>
+    requires column { x < p.old.dims }
+    requires form { length form.now ≡ suc p.old.dims }
+    ensures dims { OnOk result (p.new.dims ≡ p.old.dims) }
+    ensures exact { IfOk result (IfExact
+        (IsPolyhedronOf p.old.dims (Preimage (suc x) form.now (Con p.old.rows)) p.new)) }
+    ensures within { IfOk result (λ _.
+        IsWithin p.old.dims (Preimage (suc x) form.now (Con p.old.rows)) (Con p.new.rows)) }
+    ensures strain { IfOk result (IfFlagged (PreimageStrains (suc x) form.now p.old)) }
+    ensures unchanged { OnErr result (p.new ≡ p.old) }
+{
+    let formed = substitute_list(p.allocator(), p.rows(), x, form)?;
+    let (made, outcome) = Poly::from_rows(p.allocator(), &formed.list)?;
+    *p = made;
+    Ok(first_told(formed.lost, outcome))
+}
+
+/// Becomes the set of the points that are brought into it when the coordinate x is given the form's value. Where it is
+/// flagged it has at least those: constraints with which a number passes are left out. Where the form has 1 or -1 at x
+/// nothing is converted, unless a number passes the range or there is no point.
+pub fn preimage(p: &mut Poly, x: usize, form: &LinExpr) -> Result<Outcome, AllocError>
+    requires column { x < p.old.dims }
+    requires form { length form.now.coefficients ≡ p.old.dims }
+    ensures dims { OnOk result (p.new.dims ≡ p.old.dims) }
+    ensures exact { IfOk result (IfExact
+        (IsPolyhedronOf p.old.dims (Preimage (suc x) (form_row form.now) (Con p.old.rows)) p.new)) }
+    ensures within { IfOk result (λ _.
+        IsWithin p.old.dims (Preimage (suc x) (form_row form.now) (Con p.old.rows)) (Con p.new.rows)) }
+    ensures strain { IfOk result (IfFlagged (PreimageStrains (suc x) (form_row form.now) p.old)) }
+    ensures unchanged { OnErr result (p.new ≡ p.old) }
+{
+    let row = form.to_row(p.allocator())?;
+    match move_back(p, x + 1, &row)? {
+        Some(made) => {
+            *p = made;
+            Ok(Outcome::Exact)
+        }
+        None => {
+            let outcome = convert_preimage(p, x, &row)?;
+            Ok(outcome)
+        }
+    }
+}

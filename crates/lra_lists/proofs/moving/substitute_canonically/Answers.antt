@@ -1,0 +1,37 @@
+-- Goals of `substitute_canonically`: the constraints with the form put in for the column, as a canonical list.
+use Rattle.std.proofs.Common.{◌+◌, arith, sym, ◌∙◌}
+use Rattle.lra_linear.specs.Kinds.{is_equality}
+use Rattle.lra_linear.specs.Vectors.{substituted}
+use Rattle.lra_lists.proofs.MovedLists.{KeepsWidth, lines_wide, rays_wide}
+use Rattle.lra_lists.proofs.TakenBack.{substituted_width}
+use Rattle.lra_lists.proofs.moving.substitute_canonically.Goals as goal
+
+pub remake-requires-clause-lines : goal.remake-requires-clause-lines
+remake-requires-clause-lines c =
+    let k = c.args.column in
+    let form = c.args.form.now in
+    let list = c.args.list.now in
+    let seen = c.rows-rows.result.now in
+    let keeps : KeepsWidth (substituted k form) (c.dims-n.result + 1) list seen = record {
+      width = omega arith;
+      are = c.rows-rows.ensures.rows;
+      widths = c.rows-rows.ensures.widths;
+      keeps = λ r l. substituted_width k form r (l ∙ sym c.requires.width) ∙ l;
+    } in
+    lines_wide (substituted k form) is_equality (c.dims-n.result + 1) list seen c.in_ok-parts.parts.lines.items keeps
+    c.in_ok-parts.ensures.lines
+
+pub remake-requires-clause-rays : goal.remake-requires-clause-rays
+remake-requires-clause-rays c =
+    let k = c.args.column in
+    let form = c.args.form.now in
+    let list = c.args.list.now in
+    let seen = c.rows-rows.result.now in
+    let keeps : KeepsWidth (substituted k form) (c.dims-n.result + 1) list seen = record {
+      width = omega arith;
+      are = c.rows-rows.ensures.rows;
+      widths = c.rows-rows.ensures.widths;
+      keeps = λ r l. substituted_width k form r (l ∙ sym c.requires.width) ∙ l;
+    } in
+    rays_wide (substituted k form) is_equality (c.dims-n.result + 1) list seen c.in_ok-parts.parts.rays.items keeps
+    c.in_ok-parts.ensures.rays

@@ -1,0 +1,18 @@
+-- Goals of `substitute_parts`: the constraints with the form put in for the column, equalities apart.
+use Rattle.std.proofs.Common.{◌≡◌, ◌∙◌, ap, length, sym}
+use Rattle.lra_linear.specs.Kinds.{is_equality}
+use Rattle.lra_linear.specs.Vectors.{substituted}
+use Rattle.lra_linear.specs.declared.ConKind.TheVariants.{Ge}
+use Rattle.lra_lists.proofs.MovedLists.{part_seen}
+use Rattle.lra_lists.proofs.moving.substitute_parts.Goals as goal
+
+pub loop-place-preserved : goal.loop-place-preserved
+loop-place-preserved c =
+    let rows = c.rows-rows.result.now in
+    let kinds = c.kinds-kinds.result.now in
+    let many : length kinds ≡ length rows = c.kinds-kinds.ensures.len ∙ ap length (sym c.rows-rows.ensures.rows) in
+    part_seen (substituted c.args.column c.args.form.now) is_equality rows kinds c.loop-place.place c.loop-place.parts.lines.items
+    c.loop-place.parts.rays.items c.push_part.new.parts.lines.items c.push_part.new.parts.rays.items
+    c.index-rows-place.result c.in_ok-row.row Ge c.is_equality.result c.loop-place.invariant many
+    c.loop-place-test.true c.index-rows-place.is c.in_ok-row.ensures.value c.is_equality.ensures
+    c.in_ok-push_part.ensures.lines c.in_ok-push_part.ensures.rays

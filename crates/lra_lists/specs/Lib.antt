@@ -1,0 +1,3 @@
+-- Lists of generators and constraints as images, preimages and changes of dimensions form them.
+pub mod Forming
+pub mod Moving
