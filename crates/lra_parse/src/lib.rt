@@ -5,6 +5,7 @@
 
 mod functions;
 mod globals;
+mod heads;
 mod loops;
 mod parser;
 mod statements;

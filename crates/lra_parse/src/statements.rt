@@ -1,25 +1,22 @@
 //! Statements. A function reads where `depth` levels of nesting are left.
 
-ghost use Rattle.std.specs.Prelude.{◌≡◌, ◌<◌, ◌≤◌, length, map, IfOk};
-ghost use Rattle.lra_tree.specs.Views.{cond_view, stmt_view, item_view, items_of, block_view};
+ghost use Rattle.std.specs.Prelude.{◌≡◌, ◌<◌, ◌≤◌, false, length, map, IfOk};
+ghost use Rattle.lra_tree.specs.Views.{stmt_view, item_view, items_of, block_view};
 ghost use Rattle.lra_tree.specs.Trees.{assert, assume};
-ghost use Rattle.lra_tree.specs.declared.tokens.Mark.TheVariants.{Assert, Assume, CloseBrace};
-ghost use Rattle.lra_readers.specs.Tests.{first};
+ghost use Rattle.lra_tree.specs.declared.tokens.Mark.TheVariants.{Assert, Assume, CloseBrace, If, While, For};
+ghost use Rattle.lra_readers.specs.Tests.{first, is_mark};
 ghost use Rattle.lra_readers.specs.Reading.{Gives, expect_at, map_read, has};
-ghost use Rattle.lra_readers.specs.Expressions.{in_parens, cond_at};
 ghost use Rattle.lra_readers.specs.Statements.{stmt_mark, begins_stmt, begins_item, read_nothing, named_rest};
-ghost use Rattle.lra_readers.specs.Statements.{read_assigned, read_check, read_if, else_part, read_while, read_for};
+ghost use Rattle.lra_readers.specs.Statements.{read_assigned, read_check};
 ghost use Rattle.lra_readers.specs.Statements.{simple_at, branch_at, block_at, item_at, items_at, body_of, put};
+ghost use Rattle.lra_parse.specs.Begun.{GoesOn, rest_of};
 
-use crate::loops::{
-    begins_jump, begins_loop, read_break, read_continue, read_for_head, read_return,
-};
-use lra_base::{Cause, Place};
-use lra_phrases::{
-    next_step, read_assign, read_assign_rest, read_call, read_cond, read_declaration,
-};
+use crate::heads::{Begun, begin_for, begin_if, begin_while, read_parens};
+use crate::loops::{begins_jump, begins_loop, read_break, read_continue, read_return};
+use lra_base::Cause;
+use lra_phrases::{next_step, read_assign, read_assign_rest, read_call, read_declaration};
 use lra_readers::{Stopped, expect, expect_at, next_is, next_is_name, read_name, stop, tail};
-use lra_tree::{Block, BlockItem, Cond, Identifier, Mark, Stmt, Token};
+use lra_tree::{Block, BlockItem, Identifier, Mark, Stmt, Token};
 use std::alloc::Global;
 
 // Whether the next token is a mark that begins a statement which is no block, no assignment and no call.
@@ -113,17 +110,6 @@ fn read_assigned(alloc: Global, rest: &[Token], depth: usize) -> Result<(Stmt, &
     Ok((Stmt::Assign(assign), after))
 }
 
-/// A condition in parentheses that open no level.
-fn read_parens(alloc: Global, rest: &[Token], depth: usize) -> Result<(Cond, &[Token]), Stopped>
-    ensures shorter { IfOk result (λ r. length r.1.now < length rest.now) }
-    ensures gives { Gives (λ r. (cond_view r.0, r.1.now)) result (in_parens (cond_at depth) rest.now) }
-{
-    let opened = expect(rest, Mark::OpenParen)?;
-    let (cond, behind) = read_cond(alloc, opened, depth)?;
-    let after = expect(behind, Mark::CloseParen)?;
-    Ok((cond, after))
-}
-
 /// `assert(..);`
 fn read_assert(alloc: Global, rest: &[Token], depth: usize) -> Result<(Stmt, &[Token]), Stopped>
     ensures shorter { IfOk result (λ r. length r.1.now < length rest.now) }
@@ -144,6 +130,53 @@ fn read_assume(alloc: Global, rest: &[Token], depth: usize) -> Result<(Stmt, &[T
     let (cond, closed) = read_parens(alloc, word, depth)?;
     let after = expect(closed, Mark::Semicolon)?;
     Ok((Stmt::Assume(place, cond), after))
+}
+
+/// A statement without branches that is no block.
+fn read_leaf(alloc: Global, rest: &[Token], depth: usize) -> Result<(Stmt, &[Token]), Stopped>
+    requires no_if { false ≡ is_mark If (first rest.now) }
+    requires no_while { false ≡ is_mark While (first rest.now) }
+    requires no_for { false ≡ is_mark For (first rest.now) }
+    ensures shorter { IfOk result (λ r. length r.1.now < length rest.now) }
+    ensures gives { Gives (λ r. (stmt_view r.0, r.1.now)) result (simple_at depth rest.now) }
+{
+    if next_is(rest, Mark::Semicolon) {
+        return read_nothing(rest);
+    }
+    if next_is(rest, Mark::Break) {
+        return read_break(rest);
+    }
+    if next_is(rest, Mark::Continue) {
+        return read_continue(rest);
+    }
+    if next_is(rest, Mark::Return) {
+        return read_return(alloc, rest, depth);
+    }
+    if next_is(rest, Mark::Assert) {
+        return read_assert(alloc, rest, depth);
+    }
+    if next_is(rest, Mark::Assume) {
+        return read_assume(alloc, rest, depth);
+    }
+    read_assigned(alloc, rest, depth)
+}
+
+/// A statement that is no block: whole, or up to its branch.
+fn begin_simple(alloc: Global, rest: &[Token], depth: usize) -> Result<(Begun, &[Token]), Stopped>
+    ensures shorter { IfOk result (λ r. length r.1.now < length rest.now) }
+    ensures gives { GoesOn (λ r. rest_of (branch_at depth) r.0 r.1.now) result (simple_at depth rest.now) }
+{
+    if next_is(rest, Mark::If) {
+        return begin_if(alloc, rest, depth);
+    }
+    if next_is(rest, Mark::While) {
+        return begin_while(alloc, rest, depth);
+    }
+    if next_is(rest, Mark::For) {
+        return begin_for(alloc, rest, depth);
+    }
+    let (stmt, after) = read_leaf(alloc, rest, depth)?;
+    Ok((Begun::Whole(stmt), after))
 }
 
 /// The block of these items, whose brace comes next.
@@ -189,65 +222,25 @@ fn read_block(alloc: Global, rest: &[Token], depth: usize) -> Result<(Block, &[T
     read_body(alloc, rest, depth - 1)
 }
 
-/// What comes behind the first branch of an `if`.
+/// The rest of a statement that is begun: its branches.
 #[cycle(statement)]
-fn read_else(
+fn finish(
     alloc: Global,
-    place: Place,
-    cond: Cond,
-    branch: Stmt,
+    begun: Begun,
     rest: &[Token],
     depth: usize,
 ) -> Result<(Stmt, &[Token]), Stopped>
     ensures shorter { IfOk result (λ r. length r.1.now ≤ length rest.now) }
-    ensures gives { Gives (λ r. (stmt_view r.0, r.1.now)) result
-        (else_part (branch_at depth) place (cond_view cond) (stmt_view branch) rest.now) }
+    ensures gives { Gives (λ r. (stmt_view r.0, r.1.now)) result (rest_of (branch_at depth) begun rest.now) }
 {
-    let first = Box::new(alloc, branch)?;
-    if next_is(rest, Mark::Else) {
-        let (other, after) = read_branch(alloc, tail(rest), depth)?;
-        let second = Box::new(alloc, other)?;
-        return Ok((Stmt::IfElse(place, cond, first, second), after));
+    match begun {
+        Begun::Whole(stmt) => Ok((stmt, rest)),
+        Begun::UpToBranch(head) => {
+            let (branch, behind) = read_branch(alloc, rest, depth)?;
+            let (next, after) = head.add(alloc, branch, behind)?;
+            finish(alloc, next, after, depth)
+        }
     }
-    Ok((Stmt::If(place, cond, first), rest))
-}
-
-/// An `if`, with its `else`.
-#[cycle(statement)]
-fn read_if(alloc: Global, rest: &[Token], depth: usize) -> Result<(Stmt, &[Token]), Stopped>
-    ensures shorter { IfOk result (λ r. length r.1.now < length rest.now) }
-    ensures gives { Gives (λ r. (stmt_view r.0, r.1.now)) result (read_if depth (branch_at depth) rest.now) }
-{
-    let (place, word) = expect_at(rest, Mark::If)?;
-    let (cond, closed) = read_parens(alloc, word, depth)?;
-    let (branch, behind) = read_branch(alloc, closed, depth)?;
-    read_else(alloc, place, cond, branch, behind, depth)
-}
-
-/// A `while`, with its body.
-#[cycle(statement)]
-fn read_while(alloc: Global, rest: &[Token], depth: usize) -> Result<(Stmt, &[Token]), Stopped>
-    ensures shorter { IfOk result (λ r. length r.1.now < length rest.now) }
-    ensures gives { Gives (λ r. (stmt_view r.0, r.1.now)) result (read_while depth (branch_at depth) rest.now) }
-{
-    let (place, word) = expect_at(rest, Mark::While)?;
-    let (cond, closed) = read_parens(alloc, word, depth)?;
-    let (branch, behind) = read_branch(alloc, closed, depth)?;
-    let body = Box::new(alloc, branch)?;
-    Ok((Stmt::While(place, cond, body), behind))
-}
-
-/// A `for`, with its body.
-#[cycle(statement)]
-fn read_for(alloc: Global, rest: &[Token], depth: usize) -> Result<(Stmt, &[Token]), Stopped>
-    ensures shorter { IfOk result (λ r. length r.1.now < length rest.now) }
-    ensures gives { Gives (λ r. (stmt_view r.0, r.1.now)) result (read_for depth (branch_at depth) rest.now) }
-{
-    let (place, word) = expect_at(rest, Mark::For)?;
-    let (head, closed) = read_for_head(alloc, word, depth)?;
-    let (branch, behind) = read_branch(alloc, closed, depth)?;
-    let body = Box::new(alloc, branch)?;
-    Ok((head.into_stmt(place, body), behind))
 }
 
 /// A statement that is no block.
@@ -256,34 +249,8 @@ fn read_simple(alloc: Global, rest: &[Token], depth: usize) -> Result<(Stmt, &[T
     ensures shorter { IfOk result (λ r. length r.1.now < length rest.now) }
     ensures gives { Gives (λ r. (stmt_view r.0, r.1.now)) result (simple_at depth rest.now) }
 {
-    if next_is(rest, Mark::Semicolon) {
-        return read_nothing(rest);
-    }
-    if next_is(rest, Mark::If) {
-        return read_if(alloc, rest, depth);
-    }
-    if next_is(rest, Mark::While) {
-        return read_while(alloc, rest, depth);
-    }
-    if next_is(rest, Mark::For) {
-        return read_for(alloc, rest, depth);
-    }
-    if next_is(rest, Mark::Break) {
-        return read_break(rest);
-    }
-    if next_is(rest, Mark::Continue) {
-        return read_continue(rest);
-    }
-    if next_is(rest, Mark::Return) {
-        return read_return(alloc, rest, depth);
-    }
-    if next_is(rest, Mark::Assert) {
-        return read_assert(alloc, rest, depth);
-    }
-    if next_is(rest, Mark::Assume) {
-        return read_assume(alloc, rest, depth);
-    }
-    read_assigned(alloc, rest, depth)
+    let (begun, behind) = begin_simple(alloc, rest, depth)?;
+    finish(alloc, begun, behind, depth)
 }
 
 /// An item of a block: a declaration or a statement.
