@@ -1,7 +1,9 @@
 //! Pairs of adjacent rays on both sides of the row.
 
-ghost use Rattle.std.specs.Prelude.{◌≡◌, ◌<◌, ◌+◌, ◌<ℤ◌, pos, length, IfOk, OnOk, slice_index_or};
-ghost use Rattle.lra_steps.specs.Pairs.{TellsAdjacent, ArePairs, both_tight};
+ghost use Rattle.std.specs.Prelude.{◌≡◌, ◌≢◌, ◌<◌, ◌+◌, ◌<ℤ◌, [], pos, length, slice_index_or};
+ghost use Rattle.std.specs.Prelude.{IfOk, OnOk, IsTrue, IsFalse};
+ghost use Rattle.lra_bits.specs.TruthValues.{IsSubset};
+ghost use Rattle.lra_steps.specs.Pairs.{TellsAdjacent, HasThird, ArePairs, both_tight};
 
 use lra_bits::{BitRow, SatMatrix};
 use std::alloc::{AllocError, Global};
@@ -14,15 +16,34 @@ pub struct Pair {
     pub tight: BitRow,
 }
 
-// No third ray is tight wherever both are. Takes no memory, since most pairs aren't adjacent.
-fn are_adjacent(saturation: &SatMatrix, up: usize, down: usize) -> bool
+// Whether a third ray, at this place, is tight wherever both are. Takes no memory, since most pairs aren't adjacent.
+fn keeps_apart(saturation: &SatMatrix, up: usize, down: usize, third: usize) -> bool
+    requires up { up < length saturation.now.rows }
+    requires down { down < length saturation.now.rows }
+    ensures yes { IsTrue result → HasThird saturation.now.rows up down (both_tight saturation.now.rows up down) }
+    ensures no { IsFalse result → third < length saturation.now.rows → third ≢ up → third ≢ down →
+        ¬ (IsSubset (both_tight saturation.now.rows up down) (slice_index_or saturation.now.rows third [])) }
+{
+    if third >= saturation.height() || third == up || third == down {
+        return false;
+    }
+    let (first, second) = (saturation.row(up), saturation.row(down));
+    first.common_within(second, saturation.row(third))
+}
+
+// No third ray is tight wherever both are. The one that kept the last two rays apart is tried first; the one that is found
+// becomes it.
+fn are_adjacent(saturation: &SatMatrix, up: usize, down: usize, known: &mut usize) -> bool
     requires up { up < length saturation.now.rows }
     requires down { down < length saturation.now.rows }
     ensures { TellsAdjacent saturation.now.rows up down (both_tight saturation.now.rows up down) result }
 {
-    let (first, second) = (saturation.row(up), saturation.row(down));
+    if keeps_apart(saturation, up, down, *known) {
+        return false;
+    }
     for third in 0..saturation.height() {
-        if third != up && third != down && first.common_within(second, saturation.row(third)) {
+        if keeps_apart(saturation, up, down, third) {
+            *known = third;
             return false;
         }
     }
@@ -42,9 +63,10 @@ fn push_pairs_of(
     ensures { OnOk result (ArePairs products.now saturation.now.rows up 0 pairs.old.items →
         ArePairs products.now saturation.now.rows (up + 1) 0 pairs.new.items) }
 {
+    let mut known = up;
     for down in 0..products.len() {
         if products[down] < 0 {
-            if are_adjacent(saturation, up, down) {
+            if are_adjacent(saturation, up, down, &mut known) {
                 let tight = saturation.row(up).common(saturation.row(down))?;
                 pairs.push(Pair { up, down, tight })?;
             }
