@@ -1,5 +1,5 @@
 -- Lemmas on the heads of sets.
-use Rattle.std.proofs.Common.{◌≡◌, ◌≢◌, ◌⊎◌, ℕ, ℤ, List, [], ◌∷◌, ◌++◌, length, Some, None, refl, ap, sym}
+use Rattle.std.proofs.Common.{◌≡◌, ◌≢◌, ◌⊎◌, ℕ, ℤ, List, [], ◌∷◌, ◌++◌, length, Option, Some, None, refl, ap, sym}
 use Rattle.std.proofs.Common.{subst, ◌∙◌, inl, inr, arith}
 use Rattle.lra_sys.specs.Listed.{Listed}
 use Rattle.lra_linear.specs.declared.ConKind.{ConKind}
@@ -336,6 +336,33 @@ many_unite {V} {H} m old new ps h next mode w was same fits dims cap rows form o
     (subst (λ (x : Head V H). HasGrown m (with_parts old.dims old.cap old.given ps) next mode (grew_by Exact) x)
     (sym (head_is new old.dims old.cap old.given (one h) dims cap rows form))
     (many_one m old.dims old.cap old.given ps h next mode w same all.2 out one_of))
+
+parts_same : {V H : Type 0} (ps qs : List V) → (let f : Form V H = many ps in f) ≡ many qs → ps ≡ qs
+parts_same ps qs e = cc
+
+-- the same of what the code has: other parts in which next doesn't lie, next's parts as a list, an answer that is told
+pub united : {V H : Type 0} (m : Meaning V H) {old new : Head V H} {ps rs qs : List V} {o : Option H} {h : H} (next : Parts V)
+    (mode : Mode) → mode ≢ Join → old.form ≡ many ps → next.dims ≡ old.dims → HeadFits m old → new.dims ≡ old.dims
+    → new.cap ≡ old.cap → new.given ≡ old.given → new.form ≡ one h → old.form ≡ many rs
+    → ¬ PartsInside m.inside next.parts rs → qs ≡ next.parts → o ≡ Some h → BecomesOne m new.given ps qs mode o
+    → HasGrown m old next mode (grew_by Exact) new
+united {V} {H} m {old} {new} {ps} {rs} {qs} {o} {h} next mode w was same fits dims cap rows form had out are is one_of =
+    many_unite m old new ps h next mode w was same fits dims cap rows form
+    (subst (λ (xs : List V). ¬ PartsInside m.inside next.parts xs) (parts_same rs ps (sym had ∙ was)) out)
+    (subst (λ (x : Listed ConKind). BecomesOne m x ps next.parts mode (Some h)) rows
+    (subst (λ (xs : List V). BecomesOne m new.given ps xs mode (Some h)) are
+    (subst (λ (x : Option H). BecomesOne m new.given ps qs mode x) is one_of)))
+
+pub not_united : {V H : Type 0} (m : Meaning V H) {old new : Head V H} {given : Listed ConKind} {ps rs qs : List V} {o : Option H}
+    (next : Parts V) (mode : Mode) → mode ≢ Join → old.form ≡ many ps → next.dims ≡ old.dims → HasAll m old new
+    → given ≡ old.given → old.form ≡ many rs → ¬ PartsInside m.inside next.parts rs → qs ≡ next.parts → o ≡ None
+    → BecomesOne m given ps qs mode o → HasGrown m old next mode (grew_by Flagged) new
+not_united {V} {H} m {old} {new} {given} {ps} {rs} {qs} {o} next mode w was same all rows had out are is one_of =
+    many_strains m old new ps next mode w was same all
+    (subst (λ (xs : List V). ¬ PartsInside m.inside next.parts xs) (parts_same rs ps (sym had ∙ was)) out)
+    (subst (λ (x : Listed ConKind). BecomesOne m x ps next.parts mode None) rows
+    (subst (λ (xs : List V). BecomesOne m given ps xs mode None) are
+    (subst (λ (x : Option H). BecomesOne m given ps qs mode x) is one_of)))
 
 -- the parts of a head that fits
 pub many_fit : {V H : Type 0} (m : Meaning V H) (h : Head V H) (ps : List V) → h.form ≡ many ps → HeadFits m h

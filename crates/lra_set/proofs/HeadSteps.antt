@@ -1,5 +1,5 @@
 -- Lemmas on the steps of the code of heads.
-use Rattle.std.proofs.Common.{◌≡◌, ℕ, List, subst, ◌∙◌}
+use Rattle.std.proofs.Common.{◌≡◌, ◌≤◌, ◌<◌, ◌^◌, ℕ, List, length, sym, ap, subst, ◌∙◌, arith}
 use Rattle.lra_sys.specs.Listed.{Listed}
 use Rattle.lra_linear.specs.declared.ConKind.{ConKind}
 use Rattle.lra_domain.specs.declared.Exactness.{Exactness}
@@ -73,4 +73,17 @@ fits_anew m n c given f g fits form = record {
   few = fits.few;
   rows = fits.rows;
   form = form_fits_as m given.dims n c g fits.rows form;
+}
+
+-- the head that starts with a set fits
+pub fits_starts : {V H : Type 0} (m : Meaning V H) {n k c d : ℕ} {given rows : Listed ConKind} {ps qs : List V} {f : Form V H}
+    → n ≡ k → c ≡ d → rows ≡ given → given.dims ≡ k → qs ≡ ps → k ≤ 2 ^ 30 → 1 ≤ c → c < 2 ^ 32 → length ps ≤ d
+    → ((cap : ℕ) → length qs ≤ cap → FormFits m given.dims cap f)
+    → HeadFits m (record { dims = n; cap = c; given = rows; form = f })
+fits_starts m {n} {k} {c} {d} {given} {rows} {ps} {qs} {f} dims cap rows_is same parts small some few less fits = record {
+  small = omega (arith, dims, small);
+  some = some;
+  few = few;
+  rows = ap (λ (x : Listed ConKind). x.dims) rows_is ∙ same ∙ sym dims;
+  form = form_fits_as m given.dims n c f (same ∙ sym dims) (fits c (omega (arith, cap, less, ap length parts)));
 }

@@ -1,7 +1,7 @@
 -- Goals of `PowerSetHead::start`: the head that starts with the set.
 use Rattle.std.proofs.Common.{◌∙◌}
 use Rattle.lra_set.specs.Forms.{form_of}
-use Rattle.lra_set.proofs.HeadSteps.{starts_as}
+use Rattle.lra_set.proofs.HeadSteps.{fits_starts, starts_as}
 use Rattle.lra_set.proofs.ValueLemmas.{set_starts}
 use Rattle.lra_set.proofs.heads.PowerSetHead.start.Goals as goal
 
@@ -16,3 +16,15 @@ returns-clause-starts g c =
     }) c.dims.ensures c.cap.ensures.cap c.in_ok-given.ensures
     (starts_as g.D.Domain.meaning c.args.given.now c.in_ok-parts.parts.items c.args.first.now.parts
     (form_of c.in_ok-held.held) (c.in_ok-parts.ensures ∙ c.items.ensures.parts) c.in_ok-held.ensures.starts)
+
+pub returns-clause-fit : goal.returns-clause-fit
+returns-clause-fit g c =
+    fits_starts g.D.Domain.meaning c.dims.ensures c.cap.ensures.cap c.in_ok-given.ensures c.requires
+    (c.in_ok-parts.ensures ∙ c.items.ensures.parts) c.items.ensures.few c.cap.ensures.some c.cap.type_inv c.items.ensures.capped
+    c.in_ok-held.ensures.fits
+
+pub invariant_of-result : goal.invariant_of-result
+invariant_of-result g c =
+    fits_starts g.D.Domain.meaning c.dims.ensures c.cap.ensures.cap c.in_ok-given.ensures c.requires
+    (c.in_ok-parts.ensures ∙ c.items.ensures.parts) c.items.ensures.few c.cap.ensures.some c.cap.type_inv c.items.ensures.capped
+    c.in_ok-held.ensures.fits
