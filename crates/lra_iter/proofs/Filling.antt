@@ -2,14 +2,14 @@
 use Rattle.std.proofs.Common.{◌≡◌, ℕ, zero, suc, ◌+◌, ◌≤◌, ◌<◌, List, [], ◌∷◌, ◌++◌, length, map, take, get_or, Option, Some, None, Bool, refl, sym, ap, ◌∙◌, subst, arith, append_assoc}
 use Rattle.std.specs.Prelude.{◌↔◌, IsTrue, slice_get, slice_set}
 use Rattle.std.specs.List.{Contains}
-use Rattle.std.proofs.lemmas.List.{map-append}
+use Rattle.std.proofs.lemmas.List.{map-append, take_more}
 use Rattle.std.proofs.lemmas.List.Elements.{Contains-append_left, Contains-push}
 use Rattle.std.proofs.lemmas.Option.{none-some, same_Some, slice_get-get_or}
 use Rattle.std.specs.Iterator.{Yields}
 use Rattle.std.specs.Vec.Iter.{into_iter_items, into_iter_len, into_iter_steps}
 use Rattle.std.specs.declared.vec.IntoIter.{IntoIter}
 use Rattle.std.proofs.lemmas.Iterator.Adapters.{YieldsList-from_vec}
-use Rattle.std.proofs.lemmas.Iterator.Consumers.{YieldsList-so_far, YieldsList-turn}
+use Rattle.std.proofs.lemmas.Iterator.Consumers.{YieldsList-end, YieldsList-so_far, YieldsList-turn}
 use Rattle.lra_domain.specs.Meaning.{Meaning}
 use Rattle.lra_flow.specs.Pass.{value, failing}
 use Rattle.lra_flow.specs.Pass as pass
@@ -33,6 +33,13 @@ vec_next all s items len front t yielded r u x is steps =
     let road = YieldsList-from_vec {s = s} all items len in
     let turn = YieldsList-turn road front t yielded r u x is steps in
     next_in all front x (sym (same_items front) ∙ YieldsList-so_far road front t yielded) turn.0 turn.1
+
+-- at its end each was yielded
+pub vec_all : {A Z : Type 0} (all : List A) (s : IntoIter A Z) → into_iter_items s ≡ all → into_iter_len s ≡ length all
+    → (front : List A) (t : IntoIter A Z) → Yields (into_iter_steps {X = A} {Z = Z}) s front t
+    → (r : Option A) (u : IntoIter A Z) → r ≡ None → into_iter_steps {X = A} {Z = Z} t r u → front ≡ all
+vec_all all s items len front t yielded r u is steps =
+    sym (same_items front) ∙ (YieldsList-end (YieldsList-from_vec {s = s} all items len) front t yielded r u is steps).0
 
 module _ {V : Type 0} (n : ℕ) (all front : List (Entry V)) (x : Entry V) (apart : AreApart n (map (entry_view {V = V}) all)) (next : Next all front x) where
   abbrev seen_front : List (pass.Entry V)
@@ -74,6 +81,12 @@ module _ {V : Type 0} (n : ℕ) (all front : List (Entry V)) (x : Entry V) (apar
         let few : failing_at p (seen_front ++ failing p v ∷ []) ≤ 1 = subst (λ (e : Entry V). failing_at p (seen_front ++ entry_view e ∷ []) ≤ 1) is one in
         subst (λ (es : List (pass.Entry V)). AreTabled m n es values (slice_set verdicts p (Some proved))) (seen_more (Failing p v) is)
         (failing_tabled m n seen_front values verdicts tabled p (failing_place p v is) v proved few so)
+
+-- one copy more
+pub copied_more : {X : Type 0} (xs ys : List X) (i : ℕ) (x y : X) → ys ≡ take i xs → i < length xs → x ≡ get_or xs i x → y ≡ x
+    → ys ++ y ∷ [] ≡ take (i + 1) xs
+copied_more {X} xs ys i x y so_far below at same = ap (λ (zs : List X). zs ++ y ∷ []) so_far
+    ∙ ap (λ (z : X). take i xs ++ z ∷ []) (same ∙ at) ∙ sym (take_more xs i x below)
 
 -- one place more
 pub filled_some : {A : Type 0} (n : ℕ) (t : List (Option A)) (k : ℕ) (x : A) → slice_get t k ≡ Some (Some x) → filled_from n (take (suc k) t) ≡ filled_from n (take k t) ++ (n + k, x) ∷ []

@@ -1,6 +1,6 @@
 -- Goals of the functions that call each other around `pass`: `round`, `grow`, `narrow`, `pass_loop`,
 -- `pass_choice`, `pass_row`, `pass`.
-use Rattle.std.proofs.Common.{rules, ◌≡◌, ◌≤◌, ◌-◌, ◌+◌, ◌^◌, ◌<◌, suc, Some, map, refl, sym, ap, subst, ◌∙◌, arith}
+use Rattle.std.proofs.Common.{rules, ◌≡◌, ◌≤◌, ◌-◌, ◌+◌, ◌*◌, ◌^◌, ◌<◌, suc, Some, map, refl, sym, ap, subst, ◌∙◌, arith}
 use Rattle.lra_program.specs.ProgramViews.{cond_view}
 use Rattle.lra_operations.specs.GraphViews.{node_view, exit_view, row}
 use Rattle.lra_operations.specs.Graph as graph
@@ -30,7 +30,7 @@ use Rattle.lra_iter.proofs.pass.+pass.Goals as goal
 -- once round ----------------------------------------------------------------------------------------------------------
 
 pub round-pass-requires : goal.round-pass-requires
-round-pass-requires g t c =
+round-pass-requires g t c κs within =
     let m = g.D.Domain.meaning in
     let l = c.args.the_loop.now in
     let entered = subst (λ r. IsEntered m l.options.now l.point l.base (cond_view l.condition.now)
@@ -43,7 +43,8 @@ round-pass-requires g t c =
     (node_view c.args.the_loop.now.body.now) c.in-Anew.inside c.args.memory.now =
     remembers_later m l.options.now (node_view l.body.now) c.args.flag c.in-Anew.inside c.args.memory.now
     (later_noted l.point entered.0 c.args.flag c.in-Anew.inside entered.2) c.requires.remembers in
-    search rules
+    let less : 4 * node_size c.args.the_loop.now.body.now < t = omega (arith, c.decreases) in
+    (less, (search rules, (search rules, (c.requires.parts, (few, (fits, memory))))))
 
 pub round-returns-in-Again-clause-turned : goal.round-returns-in-Again-clause-turned
 round-returns-in-Again-clause-turned g t c =
@@ -94,7 +95,7 @@ grow-head-init g t c =
     c.args.first.now c.args.flag c.in_ok-head.head c.args.memory.now begun.started begun.fits begun.valued begun.left
 
 pub grow-round-requires : goal.grow-round-requires
-grow-round-requires g t c =
+grow-round-requires g t c κs within =
     let m = g.D.Domain.meaning in
     let l = c.args.the_loop.now in
     let body = node_view l.body.now in
@@ -116,7 +117,8 @@ grow-round-requires g t c =
     remembers_on m l.options.now body c.args.flag here.so_far c.head.head.flag c.args.memory.now
     c.head.memory c.requires.remembers here.loop.stays
     (later_noted l.point here.valued.0 here.so_far c.head.head.flag here.valued.2) in
-    search rules
+    let less : 4 * node_size c.args.the_loop.now.body.now + 1 < t = omega (arith, c.decreases) in
+    (less, (search rules, (search rules, (c.requires.parts, (few, (fits, (kept, memory)))))))
 
 pub grow-grow_by-requires : goal.grow-grow_by-requires
 grow-grow_by-requires g t c = sym (c.in_ok-turn.ensures.turned.dims ∙ c.head.invariant.valued.1.1)
@@ -196,7 +198,7 @@ grow-head-preserved g t c =
 -- a loop, narrowed and left -----------------------------------------------------------------------
 
 pub pass_loop-grow-requires : goal.pass_loop-grow-requires
-pass_loop-grow-requires g t c =
+pass_loop-grow-requires g t c κs within =
     let m = g.D.Domain.meaning in
     let l = c.args.the_loop.now in
     let memory : Remembers m c.args.the_loop.now.options.now
@@ -204,7 +206,8 @@ pass_loop-grow-requires g t c =
     remembers_body m l.options.now l.point l.base (cond_view l.condition.now)
     (node_view l.body.now) c.args.flag c.args.memory.now c.begin.new.self c.begin.ensures.kept c.requires.remembers
     in
-    search rules
+    let less : 4 * node_size c.args.the_loop.now.body.now + 2 < t = omega (arith, c.decreases) in
+    (less, (search rules, (search rules, (c.requires.parts, (c.requires.few, (c.requires.fits, memory))))))
 
 pub pass_loop-returns-in-Some-clause-passed : goal.pass_loop-returns-in-Some-clause-passed
 pass_loop-returns-in-Some-clause-passed g t c =
@@ -225,7 +228,7 @@ pass_loop-returns-in-Some-clause-stays g t c =
     c.begin.ensures.kept passed
 
 pub pass_loop-narrow-requires : goal.pass_loop-narrow-requires
-pass_loop-narrow-requires g t c =
+pass_loop-narrow-requires g t c κs within =
     let m = g.D.Domain.meaning in
     let l = c.args.the_loop.now in
     let body = node_view l.body.now in
@@ -241,7 +244,8 @@ pass_loop-narrow-requires g t c =
     (remembers_body m l.options.now l.point l.base (cond_view l.condition.now)
     body c.args.flag c.args.memory.now c.begin.new.self c.begin.ensures.kept c.requires.remembers)
     grown.stays (λ none. none) in
-    search rules
+    let less : 4 * node_size c.args.the_loop.now.body.now + 2 < t = omega (arith, c.decreases) in
+    (less, (search rules, (search rules, (c.requires.parts, (c.requires.few, (c.requires.fits, (grown.dims, (grown.turned, memory))))))))
 
 pub pass_loop-finish-requires : goal.pass_loop-finish-requires
 pass_loop-finish-requires g t c = subst (λ n. n ≤ 2 ^ 30) (sym c.in_ok-last.ensures.dims) c.requires.few
@@ -302,7 +306,7 @@ pub narrow-join_round-requires : goal.narrow-join_round-requires
 narrow-join_round-requires g t c = c.narrowing.invariant.behind
 
 pub narrow-round-requires : goal.narrow-round-requires
-narrow-round-requires g t c =
+narrow-round-requires g t c κs within =
     let m = g.D.Domain.meaning in
     let l = c.args.the_loop.now in
     let body = node_view l.body.now in
@@ -325,7 +329,8 @@ narrow-round-requires g t c =
     remembers_on m l.options.now body c.args.grown.turn.outcome.flag last.outcome.flag c.in_ok-next.so_far c.args.memory.now
     c.narrowing.memory c.requires.remembers c.narrowing.invariant.stays
     (later_noted l.point joined.0 last.outcome.flag c.in_ok-next.so_far joined.2) in
-    search rules
+    let less : 4 * node_size c.args.the_loop.now.body.now + 1 < t = omega (arith, c.decreases) in
+    (less, (search rules, (search rules, (c.requires.parts, (few, (fits, (kept, memory)))))))
 
 pub narrow-narrowing-preserved : goal.narrow-narrowing-preserved
 narrow-narrowing-preserved g t c =
@@ -367,7 +372,7 @@ narrow-returns-clause-stays g t c = c.narrowing.invariant.stays
 -- a choice ------------------------------------------------------------------------------------------------------------
 
 pub pass_choice-pass-requires : goal.pass_choice-pass-requires
-pass_choice-pass-requires g t c =
+pass_choice-pass-requires g t c κs within =
     let m = g.D.Domain.meaning in
     let k = c.args.choice.now in
     let same : m.dims c.in_ok-sides.sides.on.value ≡ m.dims c.args.value = c.in_ok-sides.ensures.on_dims in
@@ -380,10 +385,11 @@ pass_choice-pass-requires g t c =
     (node_view k.no.now) c.args.flag c.note-on_flag.result c.args.flag c.args.flag c.args.memory.now
     c.args.memory.now c.requires.remembers (later_noted k.point c.in_ok-sides.sides.on.exactness c.args.flag
     c.note-on_flag.result c.note-on_flag.ensures) in
-    search rules
+    let less : 4 * node_size c.args.choice.now.yes.now < t = omega (arith, c.decreases) in
+    (less, (search rules, (search rules, (c.requires.parts, (few, (fits, memory))))))
 
 pub pass_choice-pass-requires-2 : goal.pass_choice-pass-requires-2
-pass_choice-pass-requires-2 g t c =
+pass_choice-pass-requires-2 g t c κs within =
     let m = g.D.Domain.meaning in
     let k = c.args.choice.now in
     let same : m.dims c.in_ok-sides.sides.off.value ≡ m.dims c.args.value = c.in_ok-sides.ensures.off_dims in
@@ -399,7 +405,8 @@ pass_choice-pass-requires-2 g t c =
     c.in_ok-first.ensures.stays
     (later_noted k.point c.in_ok-sides.sides.off.exactness c.in_ok-first.first.flag c.note-off_flag.result
     c.note-off_flag.ensures) in
-    search rules
+    let less : 4 * node_size c.args.choice.now.no.now < t = omega (arith, c.decreases) in
+    (less, (search rules, (search rules, (c.requires.parts, (few, (fits, memory))))))
 
 pub pass_choice-meet_again-requires : goal.pass_choice-meet_again-requires
 pass_choice-meet_again-requires g t c =
@@ -457,7 +464,7 @@ pass_row-row-init g t c =
     c.requires.fits begun.found begun.normal begun.flag
 
 pub pass_row-pass-requires : goal.pass_row-pass-requires
-pass_row-pass-requires g t c =
+pass_row-pass-requires g t c κs within =
     let m = g.D.Domain.meaning in
     let small : node_size c.tree-item.result ≤ row_size c.args.the_row.now.trees.now c.args.the_row.now.last.now =
     tree_small c.args.the_row.now.trees.now c.row.tree-index c.tree-item.result c.args.the_row.now.last.now
@@ -476,7 +483,8 @@ pass_row-pass-requires g t c =
     c.row.so_far.flag c.args.memory.now c.row.memory c.row.invariant _ _
     (row_at c.args.the_row.now.trees.now c.row.tree-index c.tree-item.result c.args.the_row.now.last.now c.row-test.true
     c.tree-item.is) c.requires.remembers in
-    search rules
+    let less : 4 * node_size c.tree-item.result < t = omega (arith, c.decreases, small) in
+    (less, (search rules, (search rules, (c.requires.parts, (few, (fits, memory))))))
 
 pub pass_row-row-preserved : goal.pass_row-row-preserved
 pass_row-row-preserved g t c =
@@ -492,7 +500,7 @@ pass_row-row-preserved g t c =
     c.in_ok-part.ensures.passed taken.0 taken.1 taken.2
 
 pub pass_row-pass-requires-2 : goal.pass_row-pass-requires-2
-pass_row-pass-requires-2 g t c =
+pass_row-pass-requires-2 g t c κs within =
     let m = g.D.Domain.meaning in
     let few : m.dims c.row.so_far.normal ≤ 2 ^ 30 = c.row.invariant.few in
     let fits : TreeFits (node_view c.args.the_row.now.last.now) (m.dims c.row.so_far.normal) =
@@ -508,7 +516,8 @@ pass_row-pass-requires-2 g t c =
     c.row.so_far.flag c.args.memory.now c.row.memory c.row.invariant (node_view c.args.the_row.now.last.now)
     (row_done c.args.the_row.now.trees.now c.row.tree-index c.args.the_row.now.last.now c.row-test.false)
     c.requires.remembers in
-    search rules
+    let less : 4 * node_size c.args.the_row.now.last.now < t = omega (arith, c.decreases) in
+    (less, (search rules, (search rules, (c.requires.parts, (few, (fits, memory))))))
 
 pub pass_row-returns-clause-passed : goal.pass_row-returns-clause-passed
 pass_row-returns-clause-passed g t c =
@@ -566,7 +575,7 @@ pass-returns-in-Leaf-clause-stays g t c =
     c.args.value c.pass_leaf.result c.args.memory.now shown c.pass_leaf.ensures
 
 pub pass-pass_row-requires : goal.pass-pass_row-requires
-pass-pass_row-requires g t c =
+pass-pass_row-requires g t c κs within =
     let m = g.D.Domain.meaning in
     let shape : IsShape c.args.options.now c.args.node.now (Row c.in-Row.the_row) =
     subst (λ (x : Shape). IsShape c.args.options.now c.args.node.now x) c.in-Row.is c.of.ensures in
@@ -577,7 +586,8 @@ pass-pass_row-requires g t c =
     let memory : Remembers m c.in-Row.the_row.options.now (row (map node_view c.in-Row.the_row.trees.now) (node_view c.in-Row.the_row.last.now)) c.args.flag c.args.memory.now =
     remembers_given m c.args.options.now c.in-Row.the_row.options.now (node_view c.args.node.now) _ c.args.flag c.args.memory.now
     shape.0 shape.2 c.requires.remembers in
-    search rules
+    let less : 4 * row_size c.in-Row.the_row.trees.now c.in-Row.the_row.last.now + 1 < t = omega (arith, c.decreases, sized) in
+    (less, (search rules, (search rules, (parts, (c.requires.few, (fits, memory))))))
 
 pub pass-returns-in-Row-clause-passed : goal.pass-returns-in-Row-clause-passed
 pass-returns-in-Row-clause-passed g t c =
@@ -595,7 +605,7 @@ pass-returns-in-Row-clause-stays g t c =
     c.pass_row.ensures.stays
 
 pub pass-pass_choice-requires : goal.pass-pass_choice-requires
-pass-pass_choice-requires g t c =
+pass-pass_choice-requires g t c κs within =
     let m = g.D.Domain.meaning in
     let shape : IsShape c.args.options.now c.args.node.now (Choice c.in-Choice.choice) =
     subst (λ (x : Shape). IsShape c.args.options.now c.args.node.now x) c.in-Choice.is c.of.ensures in
@@ -608,7 +618,8 @@ pass-pass_choice-requires g t c =
     (node_view c.in-Choice.choice.yes.now) (node_view c.in-Choice.choice.no.now)) c.args.flag c.args.memory.now =
     remembers_given m c.args.options.now c.in-Choice.choice.options.now (node_view c.args.node.now) _ c.args.flag c.args.memory.now
     shape.0 shape.2 c.requires.remembers in
-    search rules
+    let less : 4 * (node_size c.in-Choice.choice.yes.now + node_size c.in-Choice.choice.no.now) + 1 < t = omega (arith, c.decreases, sized) in
+    (less, (search rules, (search rules, (parts, (c.requires.few, (fits, memory))))))
 
 pub pass-returns-in-Choice-clause-passed : goal.pass-returns-in-Choice-clause-passed
 pass-returns-in-Choice-clause-passed g t c =
@@ -627,7 +638,7 @@ pass-returns-in-Choice-clause-stays g t c =
     c.args.flag c.pass_choice.result c.args.memory.now c.pass_choice.new.memory shape.0 shape.2 c.pass_choice.ensures.stays
 
 pub pass-pass_loop-requires : goal.pass-pass_loop-requires
-pass-pass_loop-requires g t c =
+pass-pass_loop-requires g t c κs within =
     let m = g.D.Domain.meaning in
     let shape : IsShape c.args.options.now c.args.node.now (Loop c.in-Loop.the_loop) =
     subst (λ (x : Shape). IsShape c.args.options.now c.args.node.now x) c.in-Loop.is c.of.ensures in
@@ -639,7 +650,8 @@ pass-pass_loop-requires g t c =
     (node_view c.in-Loop.the_loop.body.now)) c.args.flag c.args.memory.now =
     remembers_given m c.args.options.now c.in-Loop.the_loop.options.now (node_view c.args.node.now) _ c.args.flag c.args.memory.now
     shape.0 shape.2 c.requires.remembers in
-    search rules
+    let less : 4 * node_size c.in-Loop.the_loop.body.now + 3 < t = omega (arith, c.decreases, sized) in
+    (less, (search rules, (search rules, (parts, (c.requires.few, (fits, memory))))))
 
 pub pass-returns-in-Loop-clause-passed : goal.pass-returns-in-Loop-clause-passed
 pass-returns-in-Loop-clause-passed g t c =
@@ -658,7 +670,7 @@ pass-returns-in-Loop-clause-stays g t c =
     c.args.memory.now c.pass_loop.new.memory shape.0 shape.2 c.pass_loop.ensures.stays
 
 pub pass-pass-requires : goal.pass-pass-requires
-pass-pass-requires g t c =
+pass-pass-requires g t c κs within =
     let m = g.D.Domain.meaning in
     let shape : IsShape c.args.options.now c.args.node.now (Catch c.in-Catch.catch) =
     subst (λ (x : Shape). IsShape c.args.options.now c.args.node.now x) c.in-Catch.is c.of.ensures in
@@ -669,7 +681,8 @@ pass-pass-requires g t c =
     remembers_given m c.args.options.now c.args.options.now (node_view c.args.node.now)
     (graph.catch c.in-Catch.catch.point (exit_view c.in-Catch.catch.exit) (node_view c.in-Catch.catch.body.now)) c.args.flag
     c.args.memory.now shape.0 refl c.requires.remembers in
-    search rules
+    let less : 4 * node_size c.in-Catch.catch.body.now < t = omega (arith, c.decreases, sized) in
+    (less, (search rules, (search rules, (c.requires.parts, (c.requires.few, (fits, memory))))))
 
 pub pass-catch_jumps-requires : goal.pass-catch_jumps-requires
 pass-catch_jumps-requires g t c =

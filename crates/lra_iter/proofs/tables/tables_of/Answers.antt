@@ -1,7 +1,15 @@
 -- Goals of `tables_of`: the entries at their numbers; an assertion is proved where its value is empty.
-use Rattle.std.proofs.Common.{◌<◌, arith, ◌∙◌}
-use Rattle.lra_iter.proofs.Filling.{vec_next, value_place, failing_place, value_filled, failing_filled}
+use Rattle.std.proofs.Common.{◌<◌, arith, ◌∙◌, List, map, subst}
+use Rattle.lra_iter.proofs.Filling.{vec_all, vec_next, value_place, failing_place, value_filled, failing_filled}
+use Rattle.lra_iter.proofs.Tabled.{none_tabled}
+use Rattle.lra_iter.specs.declared.outcome.Entry.{Entry}
+use Rattle.lra_iter.specs.Outcome.{entry_view}
+use Rattle.lra_iter.specs.Tables.{AreTabled}
 use Rattle.lra_iter.proofs.tables.tables_of.Goals as goal
+
+pub entries-init : goal.entries-init
+entries-init g c = none_tabled g.D.Domain.meaning c.args.count c.in_ok-values.values.items c.in_ok-verdicts.verdicts.items
+    c.in_ok-values.ensures c.in_ok-verdicts.ensures
 
 pub fill-requires : goal.fill-requires
 fill-requires g c =
@@ -43,3 +51,12 @@ entries-preserved g c =
     g.D.Domain.meaning c.entries.values.items c.entries.verdicts.items c.entries.invariant c.in-Failing.point
     c.in-Failing.value c.in-Failing.is
     c.is_empty.result c.is_empty.ensures.parts)
+
+pub returns : goal.returns
+returns g c =
+    let items = c.args.entries.items in
+    let gives = c.into_iter-entry-iterator.ensures.into_iter_gives in
+    let all = vec_all items c.into_iter-entry-iterator.result gives.0 (gives.1 ∙ c.args.entries.ok.0) c.entries.yielded
+    c.entries.entry-iterator c.entries.yielded_by c.next.result c.next.new.self c.in-None.is c.next.ensures.steps in
+    subst (λ (es : List (Entry g.row.D.Denot)). AreTabled g.D.Domain.meaning c.args.count (map entry_view es)
+    c.entries.values.items c.entries.verdicts.items) all c.entries.invariant

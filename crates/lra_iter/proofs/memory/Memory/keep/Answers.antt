@@ -1,5 +1,5 @@
 -- Goals of `Memory::keep`: this pass takes the place of the same loop's last one.
-use Rattle.std.proofs.Common.{sym, subst}
+use Rattle.std.proofs.Common.{◌<◌, sym, subst}
 use Rattle.std.specs.List.{All}
 use Rattle.std.proofs.lemmas.List.Elements.{All-set, All-push}
 use Rattle.lra_iter.specs.Memory.{IsRecalled}
@@ -12,3 +12,6 @@ pub returns-in_ok-push-in-None : goal.returns-in_ok-push-in-None
 returns-in_ok-push-in-None g c options loops f all one =
     subst (λ xs. All (IsRecalled g.D.Domain.meaning options loops f) xs) (sym c.in_ok-push-in-None.ensures.items)
     (All-push (IsRecalled g.D.Domain.meaning options loops f) c.args.self.now.kept.items c.args.one all one)
+
+pub index_mut-requires : goal.index_mut-requires
+index_mut-requires g c = subst (λ n. c.in-Some.place < n) c.deref.ensures.len (c.find_kept.ensures.inside c.in-Some.place c.in-Some.is)
