@@ -1,7 +1,10 @@
 -- A turn of a loop, as the code takes it.
 use Rattle.std.proofs.Common.{◌≡◌, ℕ, zero, suc, ◌≤◌, ◌<◌, Bool, true, false, List, [], ◌∷◌, ◌++◌, length, map, Option, Some, None, Result, Ok, Err, IfOk, Bor, refl, sym, ap, subst, ◌∙◌, arith, inl}
 use Rattle.std.proofs.Common.{inr}
+use Rattle.std.specs.Result.{IsErrAnd}
 use Rattle.std.proofs.lemmas.List.{map_push}
+use Rattle.std.proofs.lemmas.Result.{err_from_is_err_and}
+use Rattle.lra_base.specs.declared.refusals.Cause.{Cause}
 use Rattle.lra_base.specs.declared.refusals.Cause.TheVariants.{Syntax}
 use Rattle.lra_tree.specs.declared.tokens.Mark.{Mark}
 use Rattle.lra_tree.specs.declared.tokens.Token.{Token}
@@ -9,10 +12,10 @@ use Rattle.lra_readers.specs.declared.reading.Fault.{Fault}
 use Rattle.lra_readers.specs.declared.reading.Stopped.{Stopped}
 use Rattle.lra_readers.specs.declared.reading.Stopped.TheVariants as stopped
 use Rattle.lra_readers.specs.Tests.{first, is_mark}
-use Rattle.lra_readers.specs.Reading.{Text, Read, Parse, stop, loop, expect, GivesErr, has, map_read, tail, turns, chain, chain_step, list_step, list_of}
+use Rattle.lra_readers.specs.Reading.{Text, Read, Parse, stop, seq, loop, expect, Gives, GivesErr, has, map_read, tail, turns, chain, chain_step, list_step, list_of}
 use Rattle.lra_readers.specs.Statements.{commas_from, commas, up_to}
 use Rattle.lra_tree.specs.declared.tokens.Mark.TheVariants as mark
-use Rattle.lra_readers.specs.Expressions.{behind}
+use Rattle.lra_readers.specs.Expressions.{behind, in_parens}
 use Rattle.lra_readers.proofs.Exact.{test, ok_is}
 
 module _ {A : Type 0} (more : Option Token → Bool) (step : A → Parse A) where
@@ -40,6 +43,38 @@ pub ok_shorter : {X : Type 0} (result : Result (X × Bor Text) Stopped) (T S : T
     → IfOk result (λ r. length r.1.now < length T) → IfOk result (λ r. length r.1.now < length S)
 ok_shorter (Ok x) T S less h = omega (arith, h)
 ok_shorter (Err e) T S less h = tt
+
+pub gives_same : {X Y : Type 0} (view : X → Y × Text) (result : Result X Stopped) (a b : Read Y) → b ≡ a → Gives view result a → Gives view result b
+gives_same view result a b e g = subst (λ r. Gives view result r) (sym e) g
+
+-- an exit by `?`
+pub exit_gives : {X Y : Type 0} (view : X → Y × Text) (result : Result X Stopped) (e : Stopped) (read : Read Y) → IsErrAnd result (λ s. s ≡ e) → GivesErr e read → Gives view result read
+exit_gives view result e read is g = let p = err_from_is_err_and result is in rw (p.1, p.2) g
+
+-- an exit at a fault here
+pub stop_gives : {X Y : Type 0} (view : X → Y × Text) (result : Result X Stopped) (c : Cause) (T : Text) (read : Read Y) → read ≡ stop c T
+    → result ≡ Err (stopped.Fault (record { cause = c; left = length T })) → Gives view result read
+stop_gives view result c T read e is = rw is e
+
+pub err_same : {Y : Type 0} (s : Stopped) (a b : Read Y) → b ≡ a → GivesErr s a → GivesErr s b
+err_same s a b e g = subst (λ r. GivesErr s r) (sym e) g
+
+-- the exit by `?` where the first of two stops
+pub seq_exit : {A B : Type 0} (p : Parse A) (q : A → Parse B) (T : Text) (s : Stopped) → GivesErr s (p T) → GivesErr s (seq p q T)
+seq_exit p q T stopped.Memory g = tt
+seq_exit p q T (stopped.Fault f) g = rw g refl
+
+-- and where the second does
+pub seq_then : {A B : Type 0} (p : Parse A) (q : A → Parse B) (T U : Text) (a : A) (s : Stopped) → p T ≡ Ok (a, U) → GivesErr s (q a U) → GivesErr s (seq p q T)
+seq_then p q T U a stopped.Memory e g = tt
+seq_then p q T U a (stopped.Fault f) e g = rw (e, g) refl
+
+pub seq_handed : {A B : Type 0} (p : Parse A) (q : A → Parse B) (T U : Text) (a : A) → p T ≡ Ok (a, U) → seq p q T ≡ q a U
+seq_handed p q T U a e = rw e refl
+
+pub map_exit : {A B : Type 0} (f : A → B) (p : Parse A) (T : Text) (s : Stopped) → GivesErr s (p T) → GivesErr s (map_read f p T)
+map_exit f p T stopped.Memory g = tt
+map_exit f p T (stopped.Fault d) g = rw g refl
 
 -- before the first turn
 pub turns_start : {A Y : Type 0} (more : Option Token → Bool) (step : A → Parse A) (all : List Y → A) (ys : List Y) (a : A) (T : Text)
@@ -120,6 +155,16 @@ expect_err {A} m a b T f e = elim (test (is_mark m (first T))) [
       let same : record { cause = Syntax; left = length T } ≡ f = cc in
       rw off (ap (λ (g : Fault). Err g) same)
 ]
+
+-- parentheses
+module _ {A : Type 0} (p : Parse A) where
+  pub parens_give : (T U R S : Text) (a : A) → expect mark.OpenParen (tt {0}) T ≡ Ok (tt {0}, U) → p U ≡ Ok (a, R) → expect mark.CloseParen (tt {0}) R ≡ Ok (tt {0}, S) → in_parens p T ≡ Ok (a, S)
+  parens_give T U R S a o g c = rw (o, g) (expect_value mark.CloseParen (tt {0}) a R S c)
+
+  pub parens_exit : (T U R : Text) (a : A) (s : Stopped) → expect mark.OpenParen (tt {0}) T ≡ Ok (tt {0}, U) → p U ≡ Ok (a, R) → GivesErr s (expect mark.CloseParen (tt {0}) R)
+      → GivesErr s (in_parens p T)
+  parens_exit T U R a stopped.Memory o g c = tt
+  parens_exit T U R a (stopped.Fault f) o g c = rw (o, g) (expect_err mark.CloseParen (tt {0}) a R f c)
 
 -- the exit by `?` where the mark doesn't come behind a part
 pub up_to_exit : {A : Type 0} (m : Mark) (p : Parse A) (T M : Text) (a : A) (e : Stopped) → false ≡ is_mark m (first T) → p T ≡ Ok (a, M) → GivesErr e (expect m (tt {0}) M) → GivesErr e (up_to m p T)

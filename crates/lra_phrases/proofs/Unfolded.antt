@@ -10,9 +10,11 @@ use Rattle.lra_tree.specs.declared.tokens.Token.{Token}
 use Rattle.lra_tree.specs.declared.trees.Identifier.{Identifier}
 use Rattle.lra_tree.specs.Trees.{UnaryTree, negated, positive, group, literal, variable, ExprTree, NegationTree, opposite, opposite_again, value_of_unary, CondTree}
 use Rattle.lra_readers.specs.Tests.{first, is_mark, is_kind}
-use Rattle.lra_readers.specs.Reading.{Text, Read, stop, ◌>>=◌, seq, map_read, tail, expect, take_by, taken, next_name, next_number, number_of, identifier_of, one_of}
-use Rattle.lra_readers.specs.Expressions.{behind, in_parens, unary_marks, unary_mark, unary_form, unary_at, expr_at, negated_at, positive_at, grouped_at, TestMark, at_not, at_open, test_mark}
-use Rattle.lra_readers.specs.Expressions.{test_form}
+use Rattle.lra_readers.specs.Reading.{Text, Read, stop, ◌>>=◌, seq, map_read, tail, expect, take_by, taken, next_name, next_number, number_of, identifier_of, one_of, GivesErr}
+use Rattle.lra_readers.specs.Expressions.{behind, in_parens, unary_marks, unary_mark, unary_form, unary_at, expr_at, negated_at, positive_at, grouped_at, read_input, TestMark, at_not, at_open, test_mark}
+use Rattle.lra_readers.specs.Expressions.{test_form, compared}
+use Rattle.lra_readers.specs.declared.reading.Stopped.{Stopped}
+use Rattle.lra_readers.specs.declared.reading.Stopped.TheVariants as stopped
 use Rattle.lra_readers.specs.Expressions.{negation_form, tests, test_at, negation_at, cond_at, opposed_at, closed_at, after_group, negation_of}
 use Rattle.lra_readers.proofs.Exact.{ok_is}
 use Rattle.lra_phrases.proofs.Turning.{expect_value}
@@ -43,11 +45,24 @@ pub grouped_some : (d : ℕ) (T : Text) → (d ≡ 0 → ⊥) → grouped_at d T
 grouped_some zero T h = absurd (h refl)
 grouped_some (suc d) T h = let e : d ≡ suc d - 1 = omega arith in ap (λ (k : ℕ). map_read group (in_parens (expr_at k)) T) e
 
-pub ruleset negated_rules = (negated_zero, negated_some)
+-- the forms of a unary: what is handed on, and the exit by `?`
+pub minus_is : (d : ℕ) (T : Text) → true ≡ is_mark mark.Minus (first T) → unary_at d T ≡ negated_at d T
+minus_is d T m = unary_is d T ∙ rw (sym m) refl
 
-pub ruleset positive_rules = (positive_zero, positive_some)
+pub plus_is : (d : ℕ) (T : Text) → false ≡ is_mark mark.Minus (first T) → true ≡ is_mark mark.Plus (first T) → unary_at d T ≡ positive_at d T
+plus_is d T m p = unary_is d T ∙ rw (sym m, sym p) refl
 
-pub ruleset grouped_rules = (grouped_zero, grouped_some)
+pub open_is : (d : ℕ) (T : Text) → false ≡ is_mark mark.Minus (first T) → false ≡ is_mark mark.Plus (first T) → true ≡ is_mark mark.OpenParen (first T) → unary_at d T ≡ grouped_at d T
+open_is d T m p o = unary_is d T ∙ rw (sym m, sym p, sym o) refl
+
+pub input_is : (d : ℕ) (T : Text) → false ≡ is_mark mark.Minus (first T) → false ≡ is_mark mark.Plus (first T) → false ≡ is_mark mark.OpenParen (first T) → true ≡ is_mark mark.Input (first T)
+    → unary_at d T ≡ read_input T
+input_is d T m p o i = unary_is d T ∙ rw (sym m, sym p, sym o, sym i) (rw (sym i) refl)
+
+pub name_exit : (d : ℕ) (T : Text) (s : Stopped) → false ≡ is_mark mark.Minus (first T) → false ≡ is_mark mark.Plus (first T) → false ≡ is_mark mark.OpenParen (first T)
+    → false ≡ is_mark mark.Input (first T) → next_number (first T) ≡ None → GivesErr s (take_by next_name T) → GivesErr s (unary_at d T)
+name_exit d T stopped.Memory m p o i n g = tt
+name_exit d T (stopped.Fault f) m p o i n g = unary_is d T ∙ rw (sym m, sym p, sym o, sym i) (rw n (rw g refl))
 
 -- the next token is a literal, or a name ------------------------------------------------------------------------------
 
@@ -158,9 +173,8 @@ pub closed_some : (d : ℕ) (T : Text) → (d ≡ 0 → ⊥) → closed_at d T �
 closed_some zero T h = absurd (h refl)
 closed_some (suc d) T h = let e : d ≡ suc d - 1 = omega arith in ap (λ (k : ℕ). in_parens (cond_at k) T) e
 
-pub ruleset opposed_rules = (opposed_zero, opposed_some)
-
-pub ruleset closed_rules = (closed_zero, closed_some)
+pub opposed_handed : (d : ℕ) (T U : Text) → (d ≡ 0 → ⊥) → expect mark.Not (tt {0}) T ≡ Ok (tt {0}, U) → opposed_at d T ≡ negation_at (d - 1) U
+opposed_handed d T U h e = opposed_some d T h ∙ rw e refl
 
 -- a table of one mark
 pub one_on : (m : Mark) (o : Option Token) → true ≡ is_mark m o → one_of ((m, tt {0}) ∷ []) o ≡ Some (tt {0})
@@ -182,3 +196,36 @@ strict_gives d T R c e o f = negation_is d T ∙ rw (sym e, sym o) (rw f refl)
 pub operand_gives : (d : ℕ) (T R : Text) (u : UnaryTree) → false ≡ is_mark mark.Not (first T) → false ≡ is_mark mark.OpenParen (first T) → unary_at d T ≡ Ok (u, R) →
     negation_at d T ≡ Ok (value_of_unary u, R)
 operand_gives d T R u e o f = negation_is d T ∙ rw (sym e, sym o) (rw f refl)
+
+-- the forms of a test and of a negation: what is handed on, and exits by `?`
+pub group_gives : (d : ℕ) (T R : Text) (c : CondTree) → false ≡ is_mark mark.Not (first T) → true ≡ is_mark mark.OpenParen (first T) → closed_at d T ≡ Ok (c, R) →
+    test_at d T ≡ after_group (unary_at d) c R
+group_gives d T R c e o f = test_is d T ∙ rw (sym e, sym o) (rw f refl)
+
+pub value_gives : (d : ℕ) (T R : Text) (x : ExprTree) → false ≡ is_mark mark.Not (first T) → false ≡ is_mark mark.OpenParen (first T) → expr_at d T ≡ Ok (x, R) →
+    test_at d T ≡ compared (unary_at d) x R
+value_gives d T R x e o f = test_is d T ∙ rw (sym e, sym o) (rw f refl)
+
+pub opposed_exit : (d : ℕ) (T : Text) (s : Stopped) → true ≡ is_mark mark.Not (first T) → GivesErr s (opposed_at d T) → GivesErr s (test_at d T)
+opposed_exit d T stopped.Memory e g = tt
+opposed_exit d T (stopped.Fault f) e g = test_is d T ∙ rw (sym e) (rw g refl)
+
+pub closed_exit : (d : ℕ) (T : Text) (s : Stopped) → false ≡ is_mark mark.Not (first T) → true ≡ is_mark mark.OpenParen (first T) → GivesErr s (closed_at d T) → GivesErr s (test_at d T)
+closed_exit d T stopped.Memory e o g = tt
+closed_exit d T (stopped.Fault f) e o g = test_is d T ∙ rw (sym e, sym o) (rw g refl)
+
+pub value_exit : (d : ℕ) (T : Text) (s : Stopped) → false ≡ is_mark mark.Not (first T) → false ≡ is_mark mark.OpenParen (first T) → GivesErr s (expr_at d T) → GivesErr s (test_at d T)
+value_exit d T stopped.Memory e o g = tt
+value_exit d T (stopped.Fault f) e o g = test_is d T ∙ rw (sym e, sym o) (rw g refl)
+
+pub again_exit : (d : ℕ) (T : Text) (s : Stopped) → true ≡ is_mark mark.Not (first T) → GivesErr s (opposed_at d T) → GivesErr s (negation_at d T)
+again_exit d T stopped.Memory e g = tt
+again_exit d T (stopped.Fault f) e g = negation_is d T ∙ rw (sym e) (rw g refl)
+
+pub strict_exit : (d : ℕ) (T : Text) (s : Stopped) → false ≡ is_mark mark.Not (first T) → true ≡ is_mark mark.OpenParen (first T) → GivesErr s (closed_at d T) → GivesErr s (negation_at d T)
+strict_exit d T stopped.Memory e o g = tt
+strict_exit d T (stopped.Fault f) e o g = negation_is d T ∙ rw (sym e, sym o) (rw g refl)
+
+pub operand_exit : (d : ℕ) (T : Text) (s : Stopped) → false ≡ is_mark mark.Not (first T) → false ≡ is_mark mark.OpenParen (first T) → GivesErr s (unary_at d T) → GivesErr s (negation_at d T)
+operand_exit d T stopped.Memory e o g = tt
+operand_exit d T (stopped.Fault f) e o g = negation_is d T ∙ rw (sym e, sym o) (rw g refl)

@@ -135,7 +135,6 @@ fn oppose_group(alloc: Global, cond: Cond, rest: &[Token]) -> Result<(Negation, 
 
 /// `!`, and what it stands before.
 #[cycle(condition)]
-#[tactic(auto, using(crate::proofs::Unfolded::opposed_rules))]
 fn read_opposed(
     alloc: Global,
     rest: &[Token],
@@ -153,7 +152,6 @@ fn read_opposed(
 
 /// A condition in parentheses that open a level.
 #[cycle(condition)]
-#[tactic(auto, using(crate::proofs::Unfolded::closed_rules))]
 fn read_closed(alloc: Global, rest: &[Token], depth: usize) -> Result<(Cond, &[Token]), Stopped>
     ensures shorter { IfOk result (λ r. length r.1.now ≤ length rest.now) }
     ensures gives { Gives (λ r. (cond_view r.0, r.1.now)) result (closed_at depth rest.now) }
@@ -168,7 +166,6 @@ fn read_closed(alloc: Global, rest: &[Token], depth: usize) -> Result<(Cond, &[T
 }
 
 #[cycle(condition)]
-#[tactic(auto, using(crate::proofs::Unfolded::negation_is))]
 fn read_negation(
     alloc: Global,
     rest: &[Token],
@@ -190,7 +187,6 @@ fn read_negation(
 }
 
 #[cycle(condition)]
-#[tactic(auto, using(crate::proofs::Unfolded::test_is))]
 fn read_test(alloc: Global, rest: &[Token], depth: usize) -> Result<(Test, &[Token]), Stopped>
     ensures shorter { IfOk result (λ r. length r.1.now ≤ length rest.now) }
     ensures gives { Gives (λ r. (test_view r.0, r.1.now)) result (test_at depth rest.now) }

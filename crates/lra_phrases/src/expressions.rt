@@ -54,7 +54,6 @@ fn read_input(rest: &[Token]) -> Result<(Unary, &[Token]), Stopped>
 
 /// A unary: a sign and a unary, a literal, a variable, `input()`, or an expression in parentheses.
 #[cycle(expression)]
-#[tactic(auto, using(crate::proofs::Unfolded::unary_is))]
 pub fn read_unary(alloc: Global, rest: &[Token], depth: usize) -> Result<(Unary, &[Token]), Stopped>
     ensures shorter { IfOk result (λ r. length r.1.now ≤ length rest.now) }
     ensures gives { Gives (λ r. (unary_view r.0, r.1.now)) result (unary_at depth rest.now) }
@@ -79,7 +78,6 @@ pub fn read_unary(alloc: Global, rest: &[Token], depth: usize) -> Result<(Unary,
 }
 
 #[cycle(expression)]
-#[tactic(auto, using(crate::proofs::Unfolded::negated_rules))]
 fn read_negated(alloc: Global, rest: &[Token], depth: usize) -> Result<(Unary, &[Token]), Stopped>
     ensures shorter { IfOk result (λ r. length r.1.now ≤ length rest.now) }
     ensures gives { Gives (λ r. (unary_view r.0, r.1.now)) result (negated_at depth rest.now) }
@@ -93,7 +91,6 @@ fn read_negated(alloc: Global, rest: &[Token], depth: usize) -> Result<(Unary, &
 }
 
 #[cycle(expression)]
-#[tactic(auto, using(crate::proofs::Unfolded::positive_rules))]
 fn read_positive(alloc: Global, rest: &[Token], depth: usize) -> Result<(Unary, &[Token]), Stopped>
     ensures shorter { IfOk result (λ r. length r.1.now ≤ length rest.now) }
     ensures gives { Gives (λ r. (unary_view r.0, r.1.now)) result (positive_at depth rest.now) }
@@ -107,7 +104,6 @@ fn read_positive(alloc: Global, rest: &[Token], depth: usize) -> Result<(Unary, 
 }
 
 #[cycle(expression)]
-#[tactic(auto, using(crate::proofs::Unfolded::grouped_rules))]
 fn read_group(alloc: Global, rest: &[Token], depth: usize) -> Result<(Unary, &[Token]), Stopped>
     ensures shorter { IfOk result (λ r. length r.1.now ≤ length rest.now) }
     ensures gives { Gives (λ r. (unary_view r.0, r.1.now)) result (grouped_at depth rest.now) }

@@ -1,17 +1,20 @@
 -- Goals of the functions that call each other around `condition`: `read_test`, `read_negation`, `read_conjunction`,
 -- `read_cond`.
-use Rattle.std.proofs.Common.{List, Ok, refl, sym, ap, ◌∙◌, arith, map}
+use Rattle.std.proofs.Common.{◌-◌, List, Ok, refl, sym, ap, ◌∙◌, arith, map}
 use Rattle.std.proofs.lemmas.Result.{err_from_is_err_and}
 use Rattle.lra_tree.specs.declared.tokens.Mark.TheVariants as mark
 use Rattle.lra_tree.specs.declared.trees.Test.{Test}
 use Rattle.lra_tree.specs.declared.trees.Conjunction.{Conjunction}
 use Rattle.lra_tree.specs.Trees.{NegationTree, opposite_again, TestTree, test, ConjunctionTree, and, CondTree, conjunction, or}
-use Rattle.lra_tree.specs.Views.{all_tests, any_conjunction, test_view, negation_view, conjunction_view, cond_view, unary_view}
+use Rattle.lra_tree.specs.Views.{all_tests, any_conjunction, test_view, negation_view, conjunction_view, cond_view, unary_view, expr_view}
+use Rattle.lra_base.specs.declared.refusals.Cause.TheVariants.{TooDeep}
 use Rattle.lra_readers.specs.Tests.{first}
-use Rattle.lra_readers.specs.Expressions.{next_and, next_or, test_at, negation_at, negation_of, conjunction_at, cond_at}
-use Rattle.lra_phrases.proofs.Turning.{chain_start, grown_turn, list_grown, chain_exit, chain_end}
+use Rattle.lra_readers.specs.Reading.{expect, chain_rest}
+use Rattle.lra_readers.specs.Expressions.{ended, next_and, next_or, test_at, negation_at, negation_of, conjunction_at, cond_at}
+use Rattle.lra_phrases.proofs.Turning.{exit_gives, gives_same, stop_gives, err_same, seq_exit, seq_then, parens_give, parens_exit, chain_start, grown_turn, list_grown, chain_exit, chain_end}
 use Rattle.lra_phrases.proofs.Viewed.{operand_is, opposite_is, conjunction_is, cond_is, and_push, or_push, negation_handed, negation_shorter}
-use Rattle.lra_phrases.proofs.Unfolded.{one_on, one_off, opposite_gives, again_gives, strict_gives, operand_gives}
+use Rattle.lra_phrases.proofs.Unfolded.{one_on, one_off, opposite_gives, again_gives, strict_gives, operand_gives, opposed_exit, closed_exit, value_exit, group_gives, value_gives, again_exit}
+use Rattle.lra_phrases.proofs.Unfolded.{strict_exit, operand_exit, opposed_zero, opposed_some, opposed_handed, closed_zero, closed_some}
 use Rattle.lra_phrases.proofs.conditions.+condition.Goals as goal
 
 pub read_test-returns-then-next_is-clause-gives : goal.read_test-returns-then-next_is-clause-gives
@@ -106,3 +109,91 @@ read_cond-returns-in_err-conjunction-clause-gives t c =
     rw (p.1, p.2) (chain_exit next_or refl (λ c k d. or c d) (conjunction_at c.args.depth) _ (tt {0}) c.conjunctions.left.now c.tail.result.now c.in_err-conjunction.field-0.0
     (cond_at c.args.depth c.args.rest.now)
     c.conjunctions.invariant.same (one_on mark.Or (first c.conjunctions.left.now) c.conjunctions-test.ensures) c.tail.ensures.value c.in_err-conjunction.ensures.gives)
+
+pub read_test-returns-in_err-negation-clause-gives : goal.read_test-returns-in_err-negation-clause-gives
+read_test-returns-in_err-negation-clause-gives t c = exit_gives _ c.from_residual.result _ _ c.from_residual.ensures.1
+    (opposed_exit c.args.depth c.args.rest.now c.in_err-negation.field-0.0 c.if-next_is.ensures c.in_err-negation.ensures.gives)
+
+pub read_test-returns-in_err-cond-clause-gives : goal.read_test-returns-in_err-cond-clause-gives
+read_test-returns-in_err-cond-clause-gives t c = exit_gives _ c.from_residual-in_err-cond.result _ _ c.from_residual-in_err-cond.ensures.1
+    (closed_exit c.args.depth c.args.rest.now c.in_err-cond.field-0.0 c.if-next_is.ensures c.if-next_is-2.ensures c.in_err-cond.ensures.gives)
+
+pub read_test-returns-in_err-expr-clause-gives : goal.read_test-returns-in_err-expr-clause-gives
+read_test-returns-in_err-expr-clause-gives t c = exit_gives _ c.from_residual-in_err-expr.result _ _ c.from_residual-in_err-expr.ensures.1
+    (value_exit c.args.depth c.args.rest.now c.in_err-expr.field-0.0 c.if-next_is.ensures c.if-next_is-2.ensures c.in_err-expr.ensures.gives)
+
+pub read_test-returns-then-next_is-2-clause-gives : goal.read_test-returns-then-next_is-2-clause-gives
+read_test-returns-then-next_is-2-clause-gives t c =
+    gives_same _ c.read_after_group.result _ _ (group_gives c.args.depth c.args.rest.now c.in_ok-cond.after.now (cond_view c.in_ok-cond.cond) c.if-next_is.ensures c.if-next_is-2.ensures
+    c.in_ok-cond.ensures.gives) c.read_after_group.ensures.gives
+
+pub read_test-returns-clause-gives : goal.read_test-returns-clause-gives
+read_test-returns-clause-gives t c =
+    gives_same _ c.read_compared.result _ _ (value_gives c.args.depth c.args.rest.now c.in_ok-expr.after.now (expr_view c.in_ok-expr.expr) c.if-next_is.ensures c.if-next_is-2.ensures
+    c.in_ok-expr.ensures.gives) c.read_compared.ensures.gives
+
+pub read_negation-returns-in_err-negation-clause-gives : goal.read_negation-returns-in_err-negation-clause-gives
+read_negation-returns-in_err-negation-clause-gives t c = exit_gives _ c.from_residual.result _ _ c.from_residual.ensures.1
+    (again_exit c.args.depth c.args.rest.now c.in_err-negation.field-0.0 c.if-next_is.ensures c.in_err-negation.ensures.gives)
+
+pub read_negation-returns-in_err-cond-clause-gives : goal.read_negation-returns-in_err-cond-clause-gives
+read_negation-returns-in_err-cond-clause-gives t c = exit_gives _ c.from_residual-in_err-cond.result _ _ c.from_residual-in_err-cond.ensures.1
+    (strict_exit c.args.depth c.args.rest.now c.in_err-cond.field-0.0 c.if-next_is.ensures c.if-next_is-2.ensures c.in_err-cond.ensures.gives)
+
+pub read_negation-returns-in_err-unary-clause-gives : goal.read_negation-returns-in_err-unary-clause-gives
+read_negation-returns-in_err-unary-clause-gives t c = exit_gives _ c.from_residual-in_err-unary.result _ _ c.from_residual-in_err-unary.ensures.1
+    (operand_exit c.args.depth c.args.rest.now c.in_err-unary.field-0.0 c.if-next_is.ensures c.if-next_is-2.ensures c.in_err-unary.ensures.gives)
+
+pub read_opposed-returns-then-depth-eq0-clause-gives : goal.read_opposed-returns-then-depth-eq0-clause-gives
+read_opposed-returns-then-depth-eq0-clause-gives t c =
+    stop_gives _ c.stop.result TooDeep c.args.rest.now _ (opposed_zero c.args.depth c.args.rest.now c.if-depth-eq0.true) c.stop.ensures
+
+pub read_opposed-returns-in_err-sign-clause-gives : goal.read_opposed-returns-in_err-sign-clause-gives
+read_opposed-returns-in_err-sign-clause-gives t c =
+    exit_gives _ c.from_residual.result _ _ c.from_residual.ensures.1
+    (err_same _ _ _ (opposed_some c.args.depth c.args.rest.now c.if-depth-eq0.false)
+    (seq_exit (expect mark.Not (tt {0})) (λ _. negation_at (c.args.depth - 1)) c.args.rest.now c.in_err-sign.field-0.0 c.in_err-sign.ensures.gives))
+
+pub read_opposed-returns-clause-gives : goal.read_opposed-returns-clause-gives
+read_opposed-returns-clause-gives t c =
+    gives_same _ c.read_negation.result _ _ (opposed_handed c.args.depth c.args.rest.now c.in_ok-sign.sign.now c.if-depth-eq0.false c.in_ok-sign.ensures.gives) c.read_negation.ensures.gives
+
+pub read_closed-returns-then-depth-eq0-clause-gives : goal.read_closed-returns-then-depth-eq0-clause-gives
+read_closed-returns-then-depth-eq0-clause-gives t c =
+    stop_gives _ c.stop.result TooDeep c.args.rest.now _ (closed_zero c.args.depth c.args.rest.now c.if-depth-eq0.true) c.stop.ensures
+
+pub read_closed-returns-in_err-opened-clause-gives : goal.read_closed-returns-in_err-opened-clause-gives
+read_closed-returns-in_err-opened-clause-gives t c =
+    exit_gives _ c.from_residual.result _ _ c.from_residual.ensures.1
+    (err_same _ _ _ (closed_some c.args.depth c.args.rest.now c.if-depth-eq0.false)
+    (seq_exit (expect mark.OpenParen (tt {0})) (λ _. ended mark.CloseParen (cond_at (c.args.depth - 1))) c.args.rest.now c.in_err-opened.field-0.0 c.in_err-opened.ensures.gives))
+
+pub read_closed-returns-in_err-cond-clause-gives : goal.read_closed-returns-in_err-cond-clause-gives
+read_closed-returns-in_err-cond-clause-gives t c =
+    exit_gives _ c.from_residual-in_err-cond.result _ _ c.from_residual-in_err-cond.ensures.1
+    (err_same _ _ _ (closed_some c.args.depth c.args.rest.now c.if-depth-eq0.false)
+    (seq_then (expect mark.OpenParen (tt {0})) (λ _. ended mark.CloseParen (cond_at (c.args.depth - 1))) c.args.rest.now c.in_ok-opened.opened.now (tt {0}) c.in_err-cond.field-0.0 c.in_ok-opened.ensures.gives
+    (seq_exit (cond_at (c.args.depth - 1)) (λ k. expect mark.CloseParen k) c.in_ok-opened.opened.now c.in_err-cond.field-0.0 c.in_err-cond.ensures.gives)))
+
+pub read_closed-returns-in_err-closed-clause-gives : goal.read_closed-returns-in_err-closed-clause-gives
+read_closed-returns-in_err-closed-clause-gives t c =
+    exit_gives _ c.from_residual-in_err-closed.result _ _ c.from_residual-in_err-closed.ensures.1
+    (err_same _ _ _ (closed_some c.args.depth c.args.rest.now c.if-depth-eq0.false)
+    (parens_exit (cond_at (c.args.depth - 1)) c.args.rest.now c.in_ok-opened.opened.now c.in_ok-cond.after.now (cond_view c.in_ok-cond.cond) c.in_err-closed.field-0.0 c.in_ok-opened.ensures.gives
+    c.in_ok-cond.ensures.gives c.in_err-closed.ensures.gives))
+
+pub read_closed-returns-clause-gives : goal.read_closed-returns-clause-gives
+read_closed-returns-clause-gives t c =
+    closed_some c.args.depth c.args.rest.now c.if-depth-eq0.false
+    ∙ parens_give (cond_at (c.args.depth - 1)) c.args.rest.now c.in_ok-opened.opened.now c.in_ok-cond.after.now c.in_ok-closed.closed.now (cond_view c.in_ok-cond.cond) c.in_ok-opened.ensures.gives
+    c.in_ok-cond.ensures.gives c.in_ok-closed.ensures.gives
+
+pub read_conjunction-returns-in_err-first-clause-gives : goal.read_conjunction-returns-in_err-first-clause-gives
+read_conjunction-returns-in_err-first-clause-gives t c =
+    exit_gives _ c.from_residual.result _ _ c.from_residual.ensures.1
+    (seq_exit (test_at c.args.depth) (λ i. chain_rest next_and (λ c k t. and c t) (test_at c.args.depth) (test i)) c.args.rest.now c.in_err-first.field-0.0 c.in_err-first.ensures.gives)
+
+pub read_cond-returns-in_err-first-clause-gives : goal.read_cond-returns-in_err-first-clause-gives
+read_cond-returns-in_err-first-clause-gives t c =
+    exit_gives _ c.from_residual.result _ _ c.from_residual.ensures.1
+    (seq_exit (conjunction_at c.args.depth) (λ i. chain_rest next_or (λ c k d. or c d) (conjunction_at c.args.depth) (conjunction i)) c.args.rest.now c.in_err-first.field-0.0 c.in_err-first.ensures.gives)

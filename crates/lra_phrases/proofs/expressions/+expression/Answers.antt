@@ -1,18 +1,20 @@
 -- Goals of the functions that call each other around `expression`: `read_unary`, `read_group`, `read_factors`,
 -- `read_summands`.
-use Rattle.std.proofs.Common.{List, Ok, refl, sym, ap, ◌∙◌, arith, map}
+use Rattle.std.proofs.Common.{◌-◌, List, Ok, refl, sym, ap, ◌∙◌, arith, map}
 use Rattle.std.proofs.lemmas.Result.{err_from_is_err_and}
+use Rattle.lra_base.specs.declared.refusals.Cause.TheVariants.{TooDeep}
+use Rattle.lra_tree.specs.declared.tokens.Mark.TheVariants as mark
 use Rattle.lra_tree.specs.declared.trees.Unary.{Unary, Literal}
 use Rattle.lra_tree.specs.declared.trees.Expr.{Expr}
 use Rattle.lra_tree.specs.declared.trees.Factor.{Factor}
 use Rattle.lra_tree.specs.declared.trees.Summand.{Summand}
-use Rattle.lra_tree.specs.Trees.{UnaryTree, TermTree, ExprTree, unary, term, group}
+use Rattle.lra_tree.specs.Trees.{UnaryTree, TermTree, ExprTree, unary, term, group, negated, positive}
 use Rattle.lra_tree.specs.Views.{unary_view, term_view, expr_view, factor_view, summand_view, product, sum_of, further_factor, further_term}
-use Rattle.lra_readers.specs.Reading.{Text, has, tail, chain_step}
-use Rattle.lra_readers.specs.Expressions.{factor_operator, sum_operator, unary_at, factors, term_of, summands}
-use Rattle.lra_phrases.proofs.Turning.{turns_start, pushed_turn, chain_exit, chain_end}
+use Rattle.lra_readers.specs.Reading.{Text, has, tail, chain_step, expect, map_read}
+use Rattle.lra_readers.specs.Expressions.{factor_operator, sum_operator, unary_at, expr_at, factors, term_of, summands, ended, in_parens}
+use Rattle.lra_phrases.proofs.Turning.{exit_gives, gives_same, stop_gives, err_same, seq_exit, seq_then, seq_handed, map_exit, parens_exit, turns_start, pushed_turn, chain_exit, chain_end}
 use Rattle.lra_phrases.proofs.Viewed.{literal_is, variable_is, group_is, factor_is, term_is, summand_is, expr_is, product_push, sum_push}
-use Rattle.lra_phrases.proofs.Unfolded.{literal_gives, variable_gives, grouped_gives}
+use Rattle.lra_phrases.proofs.Unfolded.{literal_gives, variable_gives, grouped_gives, minus_is, plus_is, open_is, input_is, name_exit, negated_zero, negated_some, positive_zero, positive_some, grouped_zero, grouped_some}
 use Rattle.lra_phrases.proofs.expressions.+expression.Goals as goal
 
 pub read_unary-returns-in-Some-clause-gives : goal.read_unary-returns-in-Some-clause-gives
@@ -22,6 +24,28 @@ read_unary-returns-in-Some-clause-gives t c = literal_gives c.args.depth c.args.
 pub read_unary-returns-clause-gives : goal.read_unary-returns-clause-gives
 read_unary-returns-clause-gives t c = variable_gives c.args.depth c.args.rest.now c.in_ok-name.after.now c.in_ok-name.name c.in_ok-name.ensures.gives ∙
     ap (λ (u : UnaryTree). Ok (u, c.in_ok-name.after.now)) (sym (variable_is c.in_ok-name.name))
+
+pub read_unary-returns-then-next_is-clause-gives : goal.read_unary-returns-then-next_is-clause-gives
+read_unary-returns-then-next_is-clause-gives t c =
+    gives_same _ c.read_negated.result _ _ (minus_is c.args.depth c.args.rest.now c.if-next_is.ensures) c.read_negated.ensures.gives
+
+pub read_unary-returns-then-next_is-2-clause-gives : goal.read_unary-returns-then-next_is-2-clause-gives
+read_unary-returns-then-next_is-2-clause-gives t c =
+    gives_same _ c.read_positive.result _ _ (plus_is c.args.depth c.args.rest.now c.if-next_is.ensures c.if-next_is-2.ensures) c.read_positive.ensures.gives
+
+pub read_unary-returns-then-next_is-3-clause-gives : goal.read_unary-returns-then-next_is-3-clause-gives
+read_unary-returns-then-next_is-3-clause-gives t c =
+    gives_same _ c.read_group.result _ _ (open_is c.args.depth c.args.rest.now c.if-next_is.ensures c.if-next_is-2.ensures c.if-next_is-3.ensures) c.read_group.ensures.gives
+
+pub read_unary-returns-then-next_is-4-clause-gives : goal.read_unary-returns-then-next_is-4-clause-gives
+read_unary-returns-then-next_is-4-clause-gives t c =
+    gives_same _ c.read_input.result _ _ (input_is c.args.depth c.args.rest.now c.if-next_is.ensures c.if-next_is-2.ensures c.if-next_is-3.ensures c.if-next_is-4.ensures) c.read_input.ensures.gives
+
+pub read_unary-returns-in_err-name-clause-gives : goal.read_unary-returns-in_err-name-clause-gives
+read_unary-returns-in_err-name-clause-gives t c =
+    exit_gives _ c.from_residual.result _ _ c.from_residual.ensures.1
+    (name_exit c.args.depth c.args.rest.now c.in_err-name.field-0.0 c.if-next_is.ensures c.if-next_is-2.ensures c.if-next_is-3.ensures c.if-next_is-4.ensures (sym c.in_default.ensures)
+    c.in_err-name.ensures.gives)
 
 pub read_group-returns-clause-gives : goal.read_group-returns-clause-gives
 read_group-returns-clause-gives t c =
@@ -93,3 +117,84 @@ read_summands-returns-in_err-term-clause-gives t c =
     rw (p.1, p.2) (chain_exit sum_operator refl further_term (term_of (unary_at c.args.depth))
     (sum_of (term (term_view c.args.first)) (map summand_view c.summands.summands.items)) c.in-Some.operator c.summands.left.now c.tail.result.now c.in_err-term.field-0.0 _
     c.summands.invariant.same (sym c.in-Some.ensures) c.tail.ensures.value c.in_err-term.ensures.gives)
+
+pub read_negated-returns-then-depth-eq0-clause-gives : goal.read_negated-returns-then-depth-eq0-clause-gives
+read_negated-returns-then-depth-eq0-clause-gives t c =
+    stop_gives _ c.stop.result TooDeep c.args.rest.now _ (negated_zero c.args.depth c.args.rest.now c.if-depth-eq0.true) c.stop.ensures
+
+pub read_negated-returns-in_err-sign-clause-gives : goal.read_negated-returns-in_err-sign-clause-gives
+read_negated-returns-in_err-sign-clause-gives t c =
+    exit_gives _ c.from_residual.result _ _ c.from_residual.ensures.1
+    (err_same _ _ _ (negated_some c.args.depth c.args.rest.now c.if-depth-eq0.false)
+    (seq_exit (expect mark.Minus (tt {0})) (λ _. map_read negated (unary_at (c.args.depth - 1))) c.args.rest.now c.in_err-sign.field-0.0 c.in_err-sign.ensures.gives))
+
+pub read_negated-returns-in_err-unary-clause-gives : goal.read_negated-returns-in_err-unary-clause-gives
+read_negated-returns-in_err-unary-clause-gives t c =
+    exit_gives _ c.from_residual-in_err-unary.result _ _ c.from_residual-in_err-unary.ensures.1
+    (err_same _ _ _ (negated_some c.args.depth c.args.rest.now c.if-depth-eq0.false)
+    (seq_then (expect mark.Minus (tt {0})) (λ _. map_read negated (unary_at (c.args.depth - 1))) c.args.rest.now c.in_ok-sign.sign.now (tt {0}) c.in_err-unary.field-0.0 c.in_ok-sign.ensures.gives
+    (map_exit negated (unary_at (c.args.depth - 1)) c.in_ok-sign.sign.now c.in_err-unary.field-0.0 c.in_err-unary.ensures.gives)))
+
+pub read_positive-returns-then-depth-eq0-clause-gives : goal.read_positive-returns-then-depth-eq0-clause-gives
+read_positive-returns-then-depth-eq0-clause-gives t c =
+    stop_gives _ c.stop.result TooDeep c.args.rest.now _ (positive_zero c.args.depth c.args.rest.now c.if-depth-eq0.true) c.stop.ensures
+
+pub read_positive-returns-in_err-sign-clause-gives : goal.read_positive-returns-in_err-sign-clause-gives
+read_positive-returns-in_err-sign-clause-gives t c =
+    exit_gives _ c.from_residual.result _ _ c.from_residual.ensures.1
+    (err_same _ _ _ (positive_some c.args.depth c.args.rest.now c.if-depth-eq0.false)
+    (seq_exit (expect mark.Plus (tt {0})) (λ _. map_read positive (unary_at (c.args.depth - 1))) c.args.rest.now c.in_err-sign.field-0.0 c.in_err-sign.ensures.gives))
+
+pub read_positive-returns-in_err-unary-clause-gives : goal.read_positive-returns-in_err-unary-clause-gives
+read_positive-returns-in_err-unary-clause-gives t c =
+    exit_gives _ c.from_residual-in_err-unary.result _ _ c.from_residual-in_err-unary.ensures.1
+    (err_same _ _ _ (positive_some c.args.depth c.args.rest.now c.if-depth-eq0.false)
+    (seq_then (expect mark.Plus (tt {0})) (λ _. map_read positive (unary_at (c.args.depth - 1))) c.args.rest.now c.in_ok-sign.sign.now (tt {0}) c.in_err-unary.field-0.0 c.in_ok-sign.ensures.gives
+    (map_exit positive (unary_at (c.args.depth - 1)) c.in_ok-sign.sign.now c.in_err-unary.field-0.0 c.in_err-unary.ensures.gives)))
+
+pub read_group-returns-then-depth-eq0-clause-gives : goal.read_group-returns-then-depth-eq0-clause-gives
+read_group-returns-then-depth-eq0-clause-gives t c =
+    stop_gives _ c.stop.result TooDeep c.args.rest.now _ (grouped_zero c.args.depth c.args.rest.now c.if-depth-eq0.true) c.stop.ensures
+
+pub read_group-returns-in_err-opened-clause-gives : goal.read_group-returns-in_err-opened-clause-gives
+read_group-returns-in_err-opened-clause-gives t c =
+    exit_gives _ c.from_residual.result _ _ c.from_residual.ensures.1
+    (err_same _ _ _ (grouped_some c.args.depth c.args.rest.now c.if-depth-eq0.false)
+    (map_exit group (in_parens (expr_at (c.args.depth - 1))) c.args.rest.now _
+    (seq_exit (expect mark.OpenParen (tt {0})) (λ _. ended mark.CloseParen (expr_at (c.args.depth - 1))) c.args.rest.now c.in_err-opened.field-0.0 c.in_err-opened.ensures.gives)))
+
+pub read_group-returns-in_err-expr-clause-gives : goal.read_group-returns-in_err-expr-clause-gives
+read_group-returns-in_err-expr-clause-gives t c =
+    exit_gives _ c.from_residual-in_err-expr.result _ _ c.from_residual-in_err-expr.ensures.1
+    (err_same _ _ _ (grouped_some c.args.depth c.args.rest.now c.if-depth-eq0.false)
+    (map_exit group (in_parens (expr_at (c.args.depth - 1))) c.args.rest.now _
+    (seq_then (expect mark.OpenParen (tt {0})) (λ _. ended mark.CloseParen (expr_at (c.args.depth - 1))) c.args.rest.now c.in_ok-opened.opened.now (tt {0}) c.in_err-expr.field-0.0 c.in_ok-opened.ensures.gives
+    (seq_exit (expr_at (c.args.depth - 1)) (λ e. expect mark.CloseParen e) c.in_ok-opened.opened.now c.in_err-expr.field-0.0 c.in_err-expr.ensures.gives))))
+
+pub read_group-returns-in_err-closed-clause-gives : goal.read_group-returns-in_err-closed-clause-gives
+read_group-returns-in_err-closed-clause-gives t c =
+    exit_gives _ c.from_residual-in_err-closed.result _ _ c.from_residual-in_err-closed.ensures.1
+    (err_same _ _ _ (grouped_some c.args.depth c.args.rest.now c.if-depth-eq0.false)
+    (map_exit group (in_parens (expr_at (c.args.depth - 1))) c.args.rest.now _
+    (parens_exit (expr_at (c.args.depth - 1)) c.args.rest.now c.in_ok-opened.opened.now c.in_ok-expr.after.now (expr_view c.in_ok-expr.expr) c.in_err-closed.field-0.0 c.in_ok-opened.ensures.gives
+    c.in_ok-expr.ensures.gives c.in_err-closed.ensures.gives)))
+
+pub read_term-returns-in_err-first-clause-gives : goal.read_term-returns-in_err-first-clause-gives
+read_term-returns-in_err-first-clause-gives t c =
+    exit_gives _ c.from_residual.result _ _ c.from_residual.ensures.1
+    (seq_exit (unary_at c.args.depth) (λ a. factors (unary_at c.args.depth) (unary a)) c.args.rest.now c.in_err-first.field-0.0 c.in_err-first.ensures.gives)
+
+pub read_term-returns-clause-gives : goal.read_term-returns-clause-gives
+read_term-returns-clause-gives t c =
+    gives_same _ c.read_factors.result _ _ (seq_handed (unary_at c.args.depth) (λ a. factors (unary_at c.args.depth) (unary a)) c.args.rest.now c.in_ok-first.after.now (unary_view c.in_ok-first.first) c.in_ok-first.ensures.gives)
+    c.read_factors.ensures.gives
+
+pub read_expr-returns-in_err-first-clause-gives : goal.read_expr-returns-in_err-first-clause-gives
+read_expr-returns-in_err-first-clause-gives t c =
+    exit_gives _ c.from_residual.result _ _ c.from_residual.ensures.1
+    (seq_exit (term_of (unary_at c.args.depth)) (λ t. summands (unary_at c.args.depth) (term t)) c.args.rest.now c.in_err-first.field-0.0 c.in_err-first.ensures.gives)
+
+pub read_expr-returns-clause-gives : goal.read_expr-returns-clause-gives
+read_expr-returns-clause-gives t c =
+    gives_same _ c.read_summands.result _ _ (seq_handed (term_of (unary_at c.args.depth)) (λ t. summands (unary_at c.args.depth) (term t)) c.args.rest.now c.in_ok-first.after.now (term_view c.in_ok-first.first) c.in_ok-first.ensures.gives)
+    c.read_summands.ensures.gives
