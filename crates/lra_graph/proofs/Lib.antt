@@ -31,7 +31,6 @@ pub mod Sizes
 pub mod Falling
 pub mod Items
 mod ItemRows
-mod CallingExample
 pub mod Programs
 -- Trees of sources.
 mod GraphExamples

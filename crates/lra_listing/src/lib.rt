@@ -5,6 +5,3 @@
 mod listing;
 
 pub use listing::{Outline, list};
-
-#[cfg(test)]
-mod tests;

@@ -5,4 +5,10 @@
 #![tactic(auto)]
 
 #[cfg(test)]
+mod graphs;
+#[cfg(test)]
+mod listings;
+#[cfg(test)]
 mod paths;
+#[cfg(test)]
+mod sources;

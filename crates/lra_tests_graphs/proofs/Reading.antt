@@ -1,0 +1,22 @@
+-- The programs of sources that are read are well-formed.
+use Rattle.std.proofs.Common.{◌≡◌, ℕ, List, [], sym, subst}
+use Rattle.lra_tree.specs.declared.tokens.Token.{Token}
+use Rattle.lra_tree.specs.Trees.{FileTree}
+use Rattle.lra_tree.specs.Tokens.{Lex}
+use Rattle.lra_tree.specs.Faults.{IsTree}
+use Rattle.lra_tree.specs.Grammar.{Spells}
+use Rattle.lra_meaning.specs.NameFaults.{name_faults}
+use Rattle.lra_meaning.specs.Resolve.{resolve}
+use Rattle.lra_program.specs.Program.{Program}
+use Rattle.lra_program.specs.WellFormed.{IsWellFormed}
+use Rattle.lra_formed.specs.Literals.{HasSmallLiterals}
+use Rattle.lra_formed.proofs.Spelled.{spelled_are_small}
+use Rattle.lra_formed.proofs.Whole.{well_formed}
+
+pub read_small : (source : List ℕ) (tokens given : List Token) (t : FileTree) → Lex source tokens → given ≡ tokens → IsTree Spells given t → HasSmallLiterals t
+read_small source tokens given t lexed same parsed =
+    let is : IsTree Spells tokens t = subst (λ (T : List Token). IsTree Spells T t) same parsed in
+    spelled_are_small source tokens t is.0 lexed is.1 is.2
+
+pub resolved_well : (t : FileTree) (P : Program) → HasSmallLiterals t → name_faults t ≡ [] → P ≡ resolve t → IsWellFormed P
+resolved_well t P small clean is = subst IsWellFormed (sym is) (well_formed t small clean)

@@ -1,0 +1,9 @@
+-- So far the first points have their states.
+use Rattle.std.proofs.Common.{map, take, Vec, Global}
+use Rattle.lra_operations.specs.GraphViews.{site_view}
+use Rattle.lra_findings.specs.Report.{Part}
+use Rattle.lra_listing.specs.Given.{AreInvariants}
+use Rattle.lra_tests_graphs.proofs.listings.states_at.Given as goal
+
+abbrev pub invariant-sites : goal.invariant-sites
+invariant-sites l = AreInvariants (map site_view (take l.site-index l.sites)) (map (λ (x : Vec Part Global). x.items) l.states.items)

@@ -1,0 +1,9 @@
+-- Goals of `program_of`: the program of such a tree, and the table of its labels.
+use Rattle.lra_tree.specs.Views.{tree_view}
+use Rattle.lra_program.specs.ProgramViews.{program_view}
+use Rattle.lra_tests_graphs.proofs.Reading.{resolved_well}
+use Rattle.lra_tests_graphs.proofs.sources.program_of.Goals as goal
+
+pub returns-clause-well : goal.returns-clause-well
+returns-clause-well c =
+    resolved_well (tree_view c.args.tree.now) (program_view c.in_ok-resolution.resolution.program) c.requires c.in_ok-resolution.ensures.told c.in_ok-resolution.ensures.found

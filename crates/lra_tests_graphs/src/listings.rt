@@ -1,0 +1,129 @@
+//! A worked report.
+
+ghost use Rattle.std.specs.Prelude.{◌≡◌, length, map, IfOk};
+ghost use Rattle.std.specs.List.{AllByRecursion};
+ghost use Rattle.lra_tree.specs.Views.{tree_view};
+ghost use Rattle.lra_tree.specs.Labels.{labels_of};
+ghost use Rattle.lra_meaning.specs.Resolve.{resolve};
+ghost use Rattle.lra_program.specs.Sites.{sites_of};
+ghost use Rattle.lra_operations.specs.GraphViews.{site_view};
+ghost use Rattle.lra_report.specs.Listing.{HasWidth};
+ghost use Rattle.lra_listing.specs.Given.{AreInvariants, AreVerdicts};
+
+use crate::sources::{program_of, tree_of};
+use lra_base::{Domain, Options, SourceError};
+use lra_graph::build;
+use lra_listing::{Outline, list};
+use lra_meaning::Labels;
+use lra_operations::Site;
+use lra_report::{Part, Report, text};
+use lra_row::Row;
+use lra_sys::{ConKind, ConSys};
+use lra_tree::Tree;
+use std::alloc::{AllocError, Global};
+
+/// A call and an assertion behind it.
+const SOURCE: &str =
+    "long g;\nlong f(long x) { return x; }\nint main(void) { long x = f(2); assert(x == 2); }\n";
+
+/// Its report where the two variables `x` are equal at the second point, and no run comes to another.
+const REPORT: &str =
+    "analysis box parts 1 delay 1 narrow 1 limited no\nflagged at point 2\npoint 1 main 3:23\n  \
+    unreachable\npoint 2 main/f@3:27 2:18\n  row x~1 - x = 0\npoint 3 main/f@3:27 2:28\n  unreachable\n\
+    point 4 main 3:33\n  unreachable\npoint 5 main 3:49\n  unreachable\nassert 4 main 3:33 proved\n\
+    verdicts proved 1 unknown 0\n";
+
+const OPTIONS: Options = Options {
+    domain: Domain::Box,
+    parts: 1,
+    delay: 1,
+    narrow: 1,
+    limited: false,
+};
+
+/// Of three variables the two newest are equal.
+fn x_is_x(alloc: Global) -> Result<Part, AllocError>
+    ensures { IfOk result (λ p. HasWidth 3 p) }
+{
+    let mut rows = ConSys::new(alloc, 3);
+    rows.push(Row::from_slice(alloc, &[0, 0, 1, -1])?, ConKind::Eq)?;
+    Ok(Part::new(rows, None))
+}
+
+/// What holds at a point where so many variables live: at the second that two are equal; no run comes to another.
+fn state_at(alloc: Global, index: usize, live: usize) -> Result<Vec<Part>, AllocError>
+    ensures { IfOk result (λ s. AllByRecursion (HasWidth live) s.items) }
+{
+    let mut state = Vec::new(alloc);
+    if index == 1 && live == 3 {
+        state.push(x_is_x(alloc)?)?;
+    }
+    Ok(state)
+}
+
+/// What holds at each point.
+fn states_at(alloc: Global, sites: &[Site]) -> Result<Vec<Vec<Part>>, AllocError>
+    ensures { IfOk result (λ s. AreInvariants (map site_view sites.now) (map (λ x. x.items) s.items)) }
+{
+    let mut states = Vec::new(alloc);
+    'sites: for site in sites {
+        let state = state_at(alloc, states.len(), site.live)?;
+        states.push(state)?;
+    }
+    Ok(states)
+}
+
+/// That each assertion is proved.
+fn verdicts_on(alloc: Global, sites: &[Site]) -> Result<Vec<(usize, bool)>, AllocError>
+    ensures { IfOk result (λ v. AreVerdicts (map site_view sites.now) v.items) }
+{
+    let mut verdicts = Vec::new(alloc);
+    'sites: for (index, site) in sites.iter().enumerate() {
+        if site.asserts {
+            verdicts.push((index, true))?;
+        }
+    }
+    Ok(verdicts)
+}
+
+/// The report of a source of five points in which no run comes to another than the second.
+#[tactic(auto, using(crate::proofs::Given::states_there, crate::proofs::Given::verdicts_there))]
+fn report_of(
+    alloc: Global,
+    tree: &Tree,
+    labels: &Labels,
+    sites: &[Site],
+) -> Result<Report, AllocError>
+    requires labels { labels.now.labels ≡ labels_of (tree_view tree.now) }
+    requires sites { map site_view sites.now ≡ sites_of (resolve (tree_view tree.now)) }
+    requires five { length sites.now ≡ 5 }
+{
+    let states = states_at(alloc, sites)?;
+    let verdicts = verdicts_on(alloc, sites)?;
+    let outline = Outline {
+        tree,
+        labels,
+        sites,
+    };
+    let report = list(alloc, &outline, OPTIONS, states, &verdicts, Some(1))?;
+    Ok(report)
+}
+
+fn writes_report(alloc: Global) -> Result<bool, SourceError> {
+    let tree = tree_of(alloc, SOURCE)?;
+    let resolution = program_of(alloc, &tree)?;
+    let Ok(graph) = build(alloc, &resolution.program) else {
+        return Ok(false);
+    };
+    let sites = graph.sites.as_slice();
+    if sites.len() != 5 {
+        return Ok(false);
+    }
+    let report = report_of(alloc, &tree, &resolution.labels, sites)?;
+    Ok(text(alloc, &report)?.as_str() == REPORT)
+}
+
+#[test]
+fn a_call_and_an_assertion(rt: HostRuntime) {
+    assert!(rt; writes_report(rt.alloc()) == Ok(true));
+}

@@ -1,0 +1,43 @@
+//! From the text of a source to its tree and its program.
+
+ghost use Rattle.std.specs.Prelude.{◌≡◌, IfOk};
+ghost use Rattle.lra_tree.specs.Views.{tree_view};
+ghost use Rattle.lra_tree.specs.Labels.{labels_of};
+ghost use Rattle.lra_meaning.specs.Resolve.{resolve};
+ghost use Rattle.lra_program.specs.ProgramViews.{program_view};
+ghost use Rattle.lra_program.specs.WellFormed.{IsWellFormed};
+ghost use Rattle.lra_formed.specs.Literals.{HasSmallLiterals};
+
+use lra_base::{Cause, Place, Refusal, SourceError};
+use lra_lex::tokens;
+use lra_names::{Resolution, resolve};
+use lra_parse::parse;
+use lra_tree::{GREATEST_LENGTH, Tree};
+use std::alloc::Global;
+
+/// The tree of a source.
+pub fn tree_of(alloc: Global, source: &str) -> Result<Tree, SourceError>
+    ensures { IfOk result (λ t. HasSmallLiterals (tree_view t)) }
+{
+    let bytes = source.as_bytes();
+    if bytes.len() > GREATEST_LENGTH {
+        return Err(SourceError::Refused(Refusal {
+            cause: Cause::TooLong,
+            place: Place { line: 1, column: 1 },
+        }));
+    }
+    let tokens = tokens(alloc, bytes)?;
+    let tree = parse(alloc, &tokens)?;
+    Ok(tree)
+}
+
+/// The program of such a tree, and the table of its labels.
+pub fn program_of(alloc: Global, tree: &Tree) -> Result<Resolution, SourceError>
+    requires { HasSmallLiterals (tree_view tree.now) }
+    ensures well { IfOk result (λ r. IsWellFormed (program_view r.program)) }
+    ensures program { IfOk result (λ r. program_view r.program ≡ resolve (tree_view tree.now)) }
+    ensures labels { IfOk result (λ r. r.labels.labels ≡ labels_of (tree_view tree.now)) }
+{
+    let resolution = resolve(alloc, tree)?;
+    Ok(resolution)
+}
