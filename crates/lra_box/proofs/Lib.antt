@@ -12,5 +12,6 @@ pub mod RefineLemmas
 pub mod RefineSteps
 pub mod TestLemmas
 pub mod PartLemmas
+pub mod TightenLemmas
 -- Worked examples: each table of specs/ on small boxes.
 mod BoxExamples
