@@ -1,9 +1,12 @@
 -- Products of rows and sums of two multiples, one column at a time.
-use Rattle.std.proofs.Common.{◌≡◌, List, [], ◌∷◌, ◌++◌, ap, ◌∙◌, refl, subst, ℤ, ◌+ℤ◌, ◌*ℤ◌, Result, Ok, Err, MatchResult, ◌⊎◌, inl, inr, append_assoc, append-nil}
+use Rattle.std.proofs.Common.{◌≡◌, ◌+◌, ◌-◌, List, [], ◌∷◌, ◌++◌, length, get_or, take, drop, ap, sym, ◌∙◌, refl, subst, arith, pos, ℤ, ◌+ℤ◌, ◌*ℤ◌, Result, Ok, Err, MatchResult, ◌⊎◌, inl, inr}
+use Rattle.std.proofs.Common.{append_assoc, append-nil}
+use Rattle.std.proofs.Math.IntN.{+ℤ_idl}
+use Rattle.std.proofs.lemmas.List.{take_all}
 use Rattle.lra_linear.specs.declared.Excess.{Excess}
 use Rattle.lra_linear.specs.declared.Operation.TheVariants.{Product, Sum}
 use Rattle.lra_linear.specs.Range.{InRange}
-use Rattle.lra_linear.specs.CheckedArithmetic.{checked_product_from, checked_entry, checked_blend, then_rest}
+use Rattle.lra_linear.specs.CheckedArithmetic.{checked_product_from, checked_product, checked_entry, checked_blend, then_rest}
 use Rattle.lra_linear.proofs.CheckedArithmetic.{in_range_yes, in_range_no}
 
 -- ---- products
@@ -22,6 +25,19 @@ pub column_taken : (s x y z n : ℤ) (xs ys xs' ys' : List ℤ) → xs ≡ x ∷
 column_taken s x y z n xs ys xs' ys' h k p q =
     rw (h, k, in_range_yes (x *ℤ y) p.0, in_range_yes (s +ℤ (x *ℤ y)) (subst (λ (n : ℤ). InRange (s +ℤ n)) p.1 q.0))
     (ap (λ (m : ℤ). checked_product_from m xs' ys') (q.1 ∙ ap (λ (m : ℤ). s +ℤ m) p.1))
+
+-- the first column, and then the others
+pub product_split : (xs ys : List ℤ) (y p : ℤ) (r : Result ℤ Excess) → length xs ≡ length ys + 1 → InRange (get_or xs 0 (pos 0) *ℤ y) → p ≡ get_or xs 0 (pos 0) *ℤ y →
+    r ≡ checked_product_from p (take (length xs - 1) (drop 1 xs)) ys → r ≡ checked_product xs (y ∷ ys)
+product_split [] ys y p r n h e c = absurd (omega (arith, n))
+product_split (x ∷ xs) ys y p r n h e c =
+    c ∙ ap (λ (t : List ℤ). checked_product_from p t ys) (take_all (length (x ∷ xs) - 1) xs (omega arith)) ∙
+    column_taken (pos 0) x y p p (x ∷ xs) (y ∷ ys) xs ys refl refl (h, e) (subst InRange (sym e ∙ sym (+ℤ_idl p)) h, sym (+ℤ_idl p))
+
+pub first_passes : (xs ys : List ℤ) (y : ℤ) (e : Excess) → length xs ≡ length ys + 1 → (¬ (InRange (get_or xs 0 (pos 0) *ℤ y))) ×
+    (e ≡ record { op = Product; left = get_or xs 0 (pos 0); right = y }) → Err e ≡ checked_product xs (y ∷ ys)
+first_passes [] ys y e n p = absurd (omega (arith, n))
+first_passes (x ∷ xs) ys y e n p = product_passes (pos 0) x y (x ∷ xs) (y ∷ ys) xs ys e refl refl p
 
 pub columns_end : (s : ℤ) (xs ys : List ℤ) → (xs ≡ []) ⊎ (ys ≡ []) → Ok s ≡ checked_product_from s xs ys
 columns_end s xs ys (inl e) = rw e refl
