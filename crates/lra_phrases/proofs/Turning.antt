@@ -1,6 +1,6 @@
 -- A turn of a loop, as the code takes it.
-use Rattle.std.proofs.Common.{◌≡◌, ℕ, zero, suc, ◌≤◌, ◌<◌, Bool, true, false, List, [], ◌∷◌, ◌++◌, length, map, Option, Some, None, Result, Ok, Err, IfOk, Bor, refl, sym, ap, subst, ◌∙◌, arith, inl}
-use Rattle.std.proofs.Common.{inr}
+use Rattle.std.proofs.Common.{◌≡◌, ℕ, zero, suc, ◌≤◌, ◌<◌, Bool, true, false, cond, List, [], ◌∷◌, ◌++◌, length, map, Option, Some, None, Result, Ok, Err, IfOk, Bor, refl, sym, ap, subst, ◌∙◌, arith}
+use Rattle.std.proofs.Common.{inl, inr}
 use Rattle.std.specs.Result.{IsErrAnd}
 use Rattle.std.proofs.lemmas.List.{map_push}
 use Rattle.std.proofs.lemmas.Result.{err_from_is_err_and}
@@ -71,6 +71,15 @@ seq_then p q T U a (stopped.Fault f) e g = rw (e, g) refl
 
 pub seq_handed : {A B : Type 0} (p : Parse A) (q : A → Parse B) (T U : Text) (a : A) → p T ≡ Ok (a, U) → seq p q T ≡ q a U
 seq_handed p q T U a e = rw e refl
+
+-- the side of a test that is taken
+pub on_side : {A : Type 0} (b : Bool) (x y : A) → true ≡ b → cond b x y ≡ x
+on_side true x y e = refl
+on_side false x y e = absurd cc
+
+pub off_side : {A : Type 0} (b : Bool) (x y : A) → false ≡ b → cond b x y ≡ y
+off_side true x y e = absurd cc
+off_side false x y e = refl
 
 pub map_exit : {A B : Type 0} (f : A → B) (p : Parse A) (T : Text) (s : Stopped) → GivesErr s (p T) → GivesErr s (map_read f p T)
 map_exit f p T stopped.Memory g = tt
@@ -156,6 +165,11 @@ expect_err {A} m a b T f e = elim (test (is_mark m (first T))) [
       rw off (ap (λ (g : Fault). Err g) same)
 ]
 
+-- items with commas between them, where the first stops
+pub commas_first : {I B : Type 0} (p : Parse I) (f : I × List I → B) (T : Text) (s : Stopped) → GivesErr s (p T) → GivesErr s (map_read f (commas p) T)
+commas_first p f T stopped.Memory g = tt
+commas_first p f T (stopped.Fault d) g = rw g refl
+
 -- parentheses
 module _ {A : Type 0} (p : Parse A) where
   pub parens_give : (T U R S : Text) (a : A) → expect mark.OpenParen (tt {0}) T ≡ Ok (tt {0}, U) → p U ≡ Ok (a, R) → expect mark.CloseParen (tt {0}) R ≡ Ok (tt {0}, S) → in_parens p T ≡ Ok (a, S)
@@ -170,6 +184,11 @@ module _ {A : Type 0} (p : Parse A) where
 pub up_to_exit : {A : Type 0} (m : Mark) (p : Parse A) (T M : Text) (a : A) (e : Stopped) → false ≡ is_mark m (first T) → p T ≡ Ok (a, M) → GivesErr e (expect m (tt {0}) M) → GivesErr e (up_to m p T)
 up_to_exit m p T M a stopped.Memory off g h = tt
 up_to_exit m p T M a (stopped.Fault f) off g h = rw (sym off, g) (expect_err m (tt {0}) (Some a) M f h)
+
+-- and where the part itself stops
+pub up_to_first : {A : Type 0} (m : Mark) (p : Parse A) (T : Text) (e : Stopped) → false ≡ is_mark m (first T) → GivesErr e (p T) → GivesErr e (up_to m p T)
+up_to_first m p T stopped.Memory off g = tt
+up_to_first m p T (stopped.Fault f) off g = rw (sym off, g) refl
 
 -- lists: a turn behind a mark
 module _ {I : Type 0} (m : Mark) (p : Parse I) where

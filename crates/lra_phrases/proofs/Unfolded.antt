@@ -1,5 +1,5 @@
 -- Readers with levels, one level unfolded.
-use Rattle.std.proofs.Common.{◌≡◌, ℕ, zero, suc, ◌-◌, true, false, List, [], ◌∷◌, Option, Some, None, Ok, Err, refl, sym, ap, ◌∙◌, arith}
+use Rattle.std.proofs.Common.{◌≡◌, ℕ, zero, suc, ◌-◌, true, false, List, [], ◌∷◌, Option, Some, None, Ok, Err, refl, sym, subst, ap, ◌∙◌, arith}
 use Rattle.lra_base.specs.declared.refusals.Cause.TheVariants.{TooDeep}
 use Rattle.lra_tree.specs.declared.tokens.Mark.TheVariants as mark
 use Rattle.lra_base.specs.declared.refusals.Place.{Place}
@@ -8,16 +8,17 @@ use Rattle.lra_tree.specs.declared.tokens.Kind.{Kind}
 use Rattle.lra_tree.specs.declared.tokens.Kind.TheVariants.{Name, Number, Mark as MarkOf, Reserved, Unclosed, End}
 use Rattle.lra_tree.specs.declared.tokens.Token.{Token}
 use Rattle.lra_tree.specs.declared.trees.Identifier.{Identifier}
-use Rattle.lra_tree.specs.Trees.{UnaryTree, negated, positive, group, literal, variable, ExprTree, NegationTree, opposite, opposite_again, value_of_unary, CondTree}
+use Rattle.lra_tree.specs.Trees.{UnaryTree, negated, positive, group, literal, variable, ExprTree, NegationTree, opposite, opposite_again, value_of_unary, CondTree, result}
 use Rattle.lra_readers.specs.Tests.{first, is_mark, is_kind}
-use Rattle.lra_readers.specs.Reading.{Text, Read, stop, ◌>>=◌, seq, map_read, tail, expect, take_by, taken, next_name, next_number, number_of, identifier_of, one_of, GivesErr}
-use Rattle.lra_readers.specs.Expressions.{behind, in_parens, unary_marks, unary_mark, unary_form, unary_at, expr_at, negated_at, positive_at, grouped_at, read_input, TestMark, at_not, at_open, test_mark}
-use Rattle.lra_readers.specs.Expressions.{test_form, compared}
+use Rattle.lra_readers.specs.Reading.{Text, Read, Parse, stop, ◌>>=◌, seq, map_read, tail, expect, take_by, taken, next_name, next_number, number_of, identifier_of, one_of, GivesErr}
+use Rattle.lra_readers.specs.Expressions.{behind, in_parens, unary_marks, unary_mark, unary_form, unary_at, expr_at, negated_at, positive_at, grouped_at, read_input, TestMark, at_not, at_open}
+use Rattle.lra_readers.specs.Expressions.{test_mark, test_form, compared, alone, from_unary}
 use Rattle.lra_readers.specs.declared.reading.Stopped.{Stopped}
 use Rattle.lra_readers.specs.declared.reading.Stopped.TheVariants as stopped
 use Rattle.lra_readers.specs.Expressions.{negation_form, tests, test_at, negation_at, cond_at, opposed_at, closed_at, after_group, negation_of}
 use Rattle.lra_readers.proofs.Exact.{ok_is}
-use Rattle.lra_phrases.proofs.Turning.{expect_value}
+use Rattle.lra_readers.specs.Statements.{call_rest, rvalue_at, rvalue_from, rvalue_rest, declared_value}
+use Rattle.lra_phrases.proofs.Turning.{expect_value, on_side, off_side}
 
 pub unary_is : (d : ℕ) (T : Text) → unary_at d T ≡ unary_form (negated_at d) (positive_at d) (grouped_at d) (unary_mark (first T)) T
 unfolding unary_at
@@ -197,6 +198,10 @@ pub operand_gives : (d : ℕ) (T R : Text) (u : UnaryTree) → false ≡ is_mark
     negation_at d T ≡ Ok (value_of_unary u, R)
 operand_gives d T R u e o f = negation_is d T ∙ rw (sym e, sym o) (rw f refl)
 
+-- behind a condition in parentheses that is an expression alone
+pub group_from : (u : Parse UnaryTree) (c : CondTree) (x : ExprTree) (g : UnaryTree) (T : Text) → alone c ≡ Some x → g ≡ group x → after_group u c T ≡ from_unary u g T
+group_from u c x g T a e = rw a (ap (λ (k : UnaryTree). from_unary u k T) (sym e))
+
 -- the forms of a test and of a negation: what is handed on, and exits by `?`
 pub group_gives : (d : ℕ) (T R : Text) (c : CondTree) → false ≡ is_mark mark.Not (first T) → true ≡ is_mark mark.OpenParen (first T) → closed_at d T ≡ Ok (c, R) →
     test_at d T ≡ after_group (unary_at d) c R
@@ -229,3 +234,18 @@ strict_exit d T (stopped.Fault f) e o g = negation_is d T ∙ rw (sym e, sym o) 
 pub operand_exit : (d : ℕ) (T : Text) (s : Stopped) → false ≡ is_mark mark.Not (first T) → false ≡ is_mark mark.OpenParen (first T) → GivesErr s (unary_at d T) → GivesErr s (negation_at d T)
 operand_exit d T stopped.Memory e o g = tt
 operand_exit d T (stopped.Fault f) e o g = negation_is d T ∙ rw (sym e, sym o) (rw g refl)
+
+-- behind a name ------------------------------------------------------------------------------------------------------
+
+pub call_is : (d : ℕ) (x : Identifier) (T : Text) → true ≡ is_mark mark.OpenParen (first T) → rvalue_rest d x T ≡ map_read result (call_rest d x) T
+call_is d x T e = on_side (is_mark mark.OpenParen (first T)) (map_read result (call_rest d x) T) (rvalue_from d (variable x) T) e
+
+pub no_call_is : (d : ℕ) (x : Identifier) (T : Text) (a : UnaryTree) → false ≡ is_mark mark.OpenParen (first T) → a ≡ variable x → rvalue_rest d x T ≡ rvalue_from d a T
+no_call_is d x T a e v =
+    off_side (is_mark mark.OpenParen (first T)) (map_read result (call_rest d x) T) (rvalue_from d (variable x) T) e ∙ ap (λ (k : UnaryTree). rvalue_from d k T) (sym v)
+
+-- behind the mark of an assignment, where what the variable gets stops
+pub declared_exit : (d : ℕ) (x : Identifier) (T U : Text) (s : Stopped) → true ≡ is_mark mark.Assign (first T) → U ≡ tail T → GivesErr s (rvalue_at d U) → GivesErr s (declared_value d x T)
+declared_exit d x T U stopped.Memory on u g = tt
+declared_exit d x T U (stopped.Fault f) on u g =
+    let e : rvalue_at d (tail T) ≡ Err f = subst (λ (W : Text). rvalue_at d W ≡ Err f) u g in rw (sym on) (rw e refl)

@@ -8,7 +8,7 @@ use Rattle.lra_readers.specs.Tests.{is_mark}
 use Rattle.lra_readers.specs.Reading.{list_step}
 use Rattle.lra_readers.specs.Expressions.{behind}
 use Rattle.lra_readers.specs.Statements.{declarator_at, declaration_of}
-use Rattle.lra_phrases.proofs.Turning.{turns_start, turn_off, list_grown, comma_turn, comma_exit, commas_gives, commas_exit}
+use Rattle.lra_phrases.proofs.Turning.{exit_gives, commas_first, turns_start, turn_off, list_grown, comma_turn, comma_exit, commas_gives, commas_exit}
 use Rattle.lra_phrases.proofs.assignments.read_declarators.Goals as goal
 
 pub declarators-init : goal.declarators-init
@@ -40,3 +40,7 @@ returns-in_err-declarator-clause-gives c =
     c.in_ok-first.ensures.gives
     (comma_exit mark.Comma (declarator_at c.args.depth) (map declarator_view c.declarators.declarators.items) c.declarators.left.now c.tail.result.now c.in_err-declarator.field-0.0 _
     c.declarators.invariant.same c.declarators-test.ensures c.tail.ensures.value c.in_err-declarator.ensures.gives))
+
+pub returns-in_err-first-clause-gives : goal.returns-in_err-first-clause-gives
+returns-in_err-first-clause-gives c = exit_gives _ c.from_residual.result _ _ c.from_residual.ensures.1
+    (commas_first (declarator_at c.args.depth) declaration_of c.args.rest.now c.in_err-first.field-0.0 c.in_err-first.ensures.gives)

@@ -4,7 +4,8 @@ use Rattle.std.proofs.lemmas.Result.{err_from_is_err_and}
 use Rattle.lra_tree.specs.Trees.{ExprTree}
 use Rattle.lra_tree.specs.Views.{expr_view}
 use Rattle.lra_readers.specs.Expressions.{expr_at}
-use Rattle.lra_phrases.proofs.Turning.{list_grown}
+use Rattle.lra_readers.specs.Statements.{listed}
+use Rattle.lra_phrases.proofs.Turning.{exit_gives, commas_first, list_grown}
 use Rattle.lra_phrases.proofs.Called.{many_start, many_turn, many_exit, many_gives}
 use Rattle.lra_phrases.proofs.calls.read_many.Goals as goal
 
@@ -32,3 +33,7 @@ returns-in_err-expr-clause-gives c =
     let p = err_from_is_err_and c.from_residual-in_err-expr.result c.from_residual-in_err-expr.ensures.1 in
     rw (p.1, p.2) (many_exit (expr_at c.args.depth) (map expr_view c.many.items.items) c.args.rest.now c.many.left.now c.tail.result.now c.in_err-expr.field-0.0 c.many.invariant.read
     c.many-test.ensures c.tail.ensures.value c.in_err-expr.ensures.gives)
+
+pub returns-in_err-first-clause-gives : goal.returns-in_err-first-clause-gives
+returns-in_err-first-clause-gives c = exit_gives _ c.from_residual.result _ _ c.from_residual.ensures.1
+    (commas_first (expr_at c.args.depth) listed c.args.rest.now c.in_err-first.field-0.0 c.in_err-first.ensures.gives)

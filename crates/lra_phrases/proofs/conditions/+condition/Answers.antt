@@ -172,7 +172,8 @@ pub read_closed-returns-in_err-cond-clause-gives : goal.read_closed-returns-in_e
 read_closed-returns-in_err-cond-clause-gives t c =
     exit_gives _ c.from_residual-in_err-cond.result _ _ c.from_residual-in_err-cond.ensures.1
     (err_same _ _ _ (closed_some c.args.depth c.args.rest.now c.if-depth-eq0.false)
-    (seq_then (expect mark.OpenParen (tt {0})) (λ _. ended mark.CloseParen (cond_at (c.args.depth - 1))) c.args.rest.now c.in_ok-opened.opened.now (tt {0}) c.in_err-cond.field-0.0 c.in_ok-opened.ensures.gives
+    (seq_then (expect mark.OpenParen (tt {0})) (λ _. ended mark.CloseParen (cond_at (c.args.depth - 1))) c.args.rest.now c.in_ok-opened.opened.now (tt {0})
+    c.in_err-cond.field-0.0 c.in_ok-opened.ensures.gives
     (seq_exit (cond_at (c.args.depth - 1)) (λ k. expect mark.CloseParen k) c.in_ok-opened.opened.now c.in_err-cond.field-0.0 c.in_err-cond.ensures.gives)))
 
 pub read_closed-returns-in_err-closed-clause-gives : goal.read_closed-returns-in_err-closed-clause-gives
@@ -196,4 +197,5 @@ read_conjunction-returns-in_err-first-clause-gives t c =
 pub read_cond-returns-in_err-first-clause-gives : goal.read_cond-returns-in_err-first-clause-gives
 read_cond-returns-in_err-first-clause-gives t c =
     exit_gives _ c.from_residual.result _ _ c.from_residual.ensures.1
-    (seq_exit (conjunction_at c.args.depth) (λ i. chain_rest next_or (λ c k d. or c d) (conjunction_at c.args.depth) (conjunction i)) c.args.rest.now c.in_err-first.field-0.0 c.in_err-first.ensures.gives)
+    (seq_exit (conjunction_at c.args.depth) (λ i. chain_rest next_or (λ c k d. or c d) (conjunction_at c.args.depth) (conjunction i)) c.args.rest.now
+    c.in_err-first.field-0.0 c.in_err-first.ensures.gives)

@@ -14,7 +14,8 @@ use Rattle.lra_readers.specs.Reading.{Text, has, tail, chain_step, expect, map_r
 use Rattle.lra_readers.specs.Expressions.{factor_operator, sum_operator, unary_at, expr_at, factors, term_of, summands, ended, in_parens}
 use Rattle.lra_phrases.proofs.Turning.{exit_gives, gives_same, stop_gives, err_same, seq_exit, seq_then, seq_handed, map_exit, parens_exit, turns_start, pushed_turn, chain_exit, chain_end}
 use Rattle.lra_phrases.proofs.Viewed.{literal_is, variable_is, group_is, factor_is, term_is, summand_is, expr_is, product_push, sum_push}
-use Rattle.lra_phrases.proofs.Unfolded.{literal_gives, variable_gives, grouped_gives, minus_is, plus_is, open_is, input_is, name_exit, negated_zero, negated_some, positive_zero, positive_some, grouped_zero, grouped_some}
+use Rattle.lra_phrases.proofs.Unfolded.{literal_gives, variable_gives, grouped_gives, minus_is, plus_is, open_is, input_is, name_exit, negated_zero}
+use Rattle.lra_phrases.proofs.Unfolded.{negated_some, positive_zero, positive_some, grouped_zero, grouped_some}
 use Rattle.lra_phrases.proofs.expressions.+expression.Goals as goal
 
 pub read_unary-returns-in-Some-clause-gives : goal.read_unary-returns-in-Some-clause-gives
@@ -168,7 +169,8 @@ read_group-returns-in_err-expr-clause-gives t c =
     exit_gives _ c.from_residual-in_err-expr.result _ _ c.from_residual-in_err-expr.ensures.1
     (err_same _ _ _ (grouped_some c.args.depth c.args.rest.now c.if-depth-eq0.false)
     (map_exit group (in_parens (expr_at (c.args.depth - 1))) c.args.rest.now _
-    (seq_then (expect mark.OpenParen (tt {0})) (λ _. ended mark.CloseParen (expr_at (c.args.depth - 1))) c.args.rest.now c.in_ok-opened.opened.now (tt {0}) c.in_err-expr.field-0.0 c.in_ok-opened.ensures.gives
+    (seq_then (expect mark.OpenParen (tt {0})) (λ _. ended mark.CloseParen (expr_at (c.args.depth - 1))) c.args.rest.now c.in_ok-opened.opened.now (tt {0})
+    c.in_err-expr.field-0.0 c.in_ok-opened.ensures.gives
     (seq_exit (expr_at (c.args.depth - 1)) (λ e. expect mark.CloseParen e) c.in_ok-opened.opened.now c.in_err-expr.field-0.0 c.in_err-expr.ensures.gives))))
 
 pub read_group-returns-in_err-closed-clause-gives : goal.read_group-returns-in_err-closed-clause-gives
@@ -186,7 +188,8 @@ read_term-returns-in_err-first-clause-gives t c =
 
 pub read_term-returns-clause-gives : goal.read_term-returns-clause-gives
 read_term-returns-clause-gives t c =
-    gives_same _ c.read_factors.result _ _ (seq_handed (unary_at c.args.depth) (λ a. factors (unary_at c.args.depth) (unary a)) c.args.rest.now c.in_ok-first.after.now (unary_view c.in_ok-first.first) c.in_ok-first.ensures.gives)
+    gives_same _ c.read_factors.result _ _ (seq_handed (unary_at c.args.depth) (λ a. factors (unary_at c.args.depth) (unary a)) c.args.rest.now
+    c.in_ok-first.after.now (unary_view c.in_ok-first.first) c.in_ok-first.ensures.gives)
     c.read_factors.ensures.gives
 
 pub read_expr-returns-in_err-first-clause-gives : goal.read_expr-returns-in_err-first-clause-gives
@@ -196,5 +199,6 @@ read_expr-returns-in_err-first-clause-gives t c =
 
 pub read_expr-returns-clause-gives : goal.read_expr-returns-clause-gives
 read_expr-returns-clause-gives t c =
-    gives_same _ c.read_summands.result _ _ (seq_handed (term_of (unary_at c.args.depth)) (λ t. summands (unary_at c.args.depth) (term t)) c.args.rest.now c.in_ok-first.after.now (term_view c.in_ok-first.first) c.in_ok-first.ensures.gives)
+    gives_same _ c.read_summands.result _ _ (seq_handed (term_of (unary_at c.args.depth)) (λ t. summands (unary_at c.args.depth) (term t)) c.args.rest.now
+    c.in_ok-first.after.now (term_view c.in_ok-first.first) c.in_ok-first.ensures.gives)
     c.read_summands.ensures.gives
