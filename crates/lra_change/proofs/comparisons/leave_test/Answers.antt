@@ -1,0 +1,17 @@
+-- Goals of `leave_test`: what the comparison's test leaves of the value.
+use Rattle.std.proofs.Common.{◌≡◌, None, Some, refl, sym, ◌∙◌}
+use Rattle.lra_base.specs.OperatorViews.{comparison_view}
+use Rattle.lra_flow.specs.Linear.{comparison_test}
+use Rattle.lra_change.proofs.comparisons.leave_test.Goals as goal
+
+pub returns-in-None-clause-leaves : goal.returns-in-None-clause-leaves
+returns-in-None-clause-leaves g c =
+    let none : comparison_test (comparison_view c.args.op) c.args.d.now ≡ None = sym c.in_ok-test_of.ensures ∙ c.in-None.is in
+    rw none refl
+
+pub returns-in_ok-exactness-in-Some-clause-leaves : goal.returns-in_ok-exactness-in-Some-clause-leaves
+returns-in_ok-exactness-in-Some-clause-leaves g c =
+    let some : comparison_test (comparison_view c.args.op) c.args.d.now ≡ Some c.in-Some.test =
+    sym c.in_ok-test_of.ensures ∙ c.in-Some.is in
+    let tested = c.in_ok-exactness-in-Some.ensures in
+    rw some (c.in_ok-exactness-in-Some.exactness, (tested.meets, tested.dims, tested.capped), c.worse.ensures.is)
