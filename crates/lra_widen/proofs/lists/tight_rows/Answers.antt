@@ -1,13 +1,31 @@
 -- Goals of `tight_rows`: the constraints of the second that are tight on the first.
-use Rattle.std.proofs.Common.{arith, ap, sym, ◌∙◌, ◌≡◌, ◌+◌, [], length}
+use Rattle.std.proofs.Common.{arith, ap, sym, ◌∙◌, ◌≡◌, ◌+◌, [], length, map, suc, List}
 use Rattle.std.specs.List.{filter}
 use Rattle.lra_linear.specs.declared.ConKind.TheVariants.{Ge}
+use Rattle.lra_linear.specs.Descriptions.{Given}
 use Rattle.lra_linear.specs.Kinds.{is_equality}
 use Rattle.lra_linear.specs.Widening.{is_tight}
 use Rattle.lra_sys.proofs.FirstMembers.{front, member}
 use Rattle.lra_sys.specs.Listed.{constraints}
+use Rattle.lra_poly.specs.Saturations.{saturated}
 use Rattle.lra_widen.proofs.Loops.{front_seen, front_step, kept_step}
 use Rattle.lra_widen.proofs.lists.tight_rows.Goals as goal
+
+pub is_tight-requires-clause-width : goal.is_tight-requires-clause-width
+is_tight-requires-clause-width c =
+    ap length c.index-rows-place.is ∙ c.rows-rows.ensures.widths c.loop-place.place c.index-rows-place.result c.loop-place-test.true ∙
+    ap suc (c.rows-list.ensures.dims ∙ c.requires)
+
+pub is_tight-requires-clause-classes : goal.is_tight-requires-clause-classes
+is_tight-requires-clause-classes c =
+    c.deref.ensures.value ∙ c.in_ok-classes.ensures ∙
+    ap (λ (l : List Given). map (λ (s : Given). saturated l s.row) (constraints c.rows-own.result.now)) c.generators-generators.ensures.generators ∙
+    ap (map (λ (s : Given). saturated c.args.p.now.generators s.row)) c.rows-own.ensures.rows
+
+pub push_if-requires : goal.push_if-requires
+push_if-requires c =
+    ap length c.index-rows-place.is ∙ c.rows-rows.ensures.widths c.loop-place.place c.index-rows-place.result c.loop-place-test.true ∙
+    ap suc (c.rows-list.ensures.dims ∙ c.requires ∙ sym c.loop-place.invariant.dims)
 
 pub loop-place-preserved : goal.loop-place-preserved
 loop-place-preserved c =
