@@ -1,7 +1,10 @@
 //! Conditions: chains of `&&` and of `||` over tests.
 
 ghost use Rattle.std.specs.Prelude.{◌≡◌, map, IfOk, IfErr};
-ghost use Rattle.lra_tree.specs.Views.{negation_view, test_view, conjunction_view, cond_view as tree_cond_view};
+ghost use Rattle.lra_base.specs.OperatorViews.{comparison_view};
+ghost use Rattle.lra_tree.specs.Trees.{compare};
+ghost use Rattle.lra_tree.specs.Views.{expr_view, negation_view, test_view, conjunction_view};
+ghost use Rattle.lra_tree.specs.Views.{cond_view as tree_cond_view};
 ghost use Rattle.lra_program.specs.ProgramViews.{cond_view, all_of, any_of};
 ghost use Rattle.lra_meaning.specs.NameFaults.{negation_faults, test_faults, conjunction_faults, cond_faults};
 ghost use Rattle.lra_meaning.specs.Resolve.{resolve_negation, resolve_test, resolve_cond};
@@ -10,8 +13,8 @@ ghost use Rattle.lra_scopes.specs.Outcome.{TellsOf};
 
 use crate::expressions::{resolve_expr, resolve_unary};
 use crate::scopes::Scope;
-use lra_base::SourceError;
-use lra_tree::{Cond, Conjunction, Negation, Test};
+use lra_base::{Comparison, SourceError};
+use lra_tree::{Cond, Conjunction, Expr, Negation, Test};
 use std::alloc::Global;
 
 /// A chain of `&&`, or its only operand.
@@ -44,6 +47,24 @@ fn join_any(
     } else {
         Ok(lra_program::Cond::Any(Box::new(alloc, first)?, rest))
     }
+}
+
+/// A comparison of two expressions.
+fn resolve_comparison(
+    alloc: Global,
+    scope: &Scope,
+    left: &Expr,
+    comparison: Comparison,
+    right: &Expr,
+) -> Result<lra_program::Cond, SourceError>
+    ensures told { TellsOf (test_faults scope.now
+        (compare (expr_view left.now) (comparison_view comparison) (expr_view right.now))) result }
+    ensures found { IfOk result (λ c. cond_view c ≡ resolve_test scope.now
+        (compare (expr_view left.now) (comparison_view comparison) (expr_view right.now))) }
+{
+    let left = resolve_expr(alloc, scope, left)?;
+    let right = resolve_expr(alloc, scope, right)?;
+    Ok(lra_program::Cond::Compare(comparison, left, right))
 }
 
 #[cycle(condition)]
@@ -83,9 +104,7 @@ fn resolve_test(alloc: Global, scope: &Scope, test: &Test) -> Result<lra_program
             Ok(lra_program::Cond::Nonzero(value))
         }
         Test::Compare(left, comparison, right) => {
-            let left = resolve_expr(alloc, scope, left)?;
-            let right = resolve_expr(alloc, scope, right)?;
-            Ok(lra_program::Cond::Compare(*comparison, left, right))
+            resolve_comparison(alloc, scope, left, *comparison, right)
         }
         Test::Group(inner) => resolve_cond(alloc, scope, inner),
     }

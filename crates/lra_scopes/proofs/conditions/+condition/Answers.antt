@@ -4,7 +4,7 @@ use Rattle.std.proofs.Common.{map, ap, arith, refl, ◌∙◌}
 use Rattle.lra_program.specs.ProgramViews.{cond_view}
 use Rattle.lra_meaning.specs.NameFaults.{negation_faults, test_faults}
 use Rattle.lra_scopes.proofs.Telling.{parts_clean}
-use Rattle.lra_scopes.proofs.Loops.{memory_told, only_told, first_told, second_told, both_clean, part_told, made_told, found_so, all_clean, rest_clean, parts_found}
+use Rattle.lra_scopes.proofs.Loops.{memory_told, only_told, first_told, part_told, made_told, found_so, all_clean, rest_clean, parts_found}
 use Rattle.lra_scopes.proofs.CondLaws.{faults_of_test, test_means, faults_of_conjunction, conjunction_means, code_conjunction_faults, code_cond_faults, conjunction_found, cond_found, again_is}
 use Rattle.lra_scopes.proofs.CondLaws.{operand_is, opposite_is, value_is, compare_is}
 use Rattle.lra_scopes.proofs.conditions.+condition.Goals as goal
@@ -134,18 +134,6 @@ resolve_test-returns-in_err-value-in-Value-clause-told t c =
     c.from_residual-in_err-value-in-Value.ensures.1
     c.in_err-value-in-Value.ensures.told
 
-pub resolve_test-returns-in_err-left-in-Compare-clause-told : goal.resolve_test-returns-in_err-left-in-Compare-clause-told
-resolve_test-returns-in_err-left-in-Compare-clause-told t c =
-    first_told _ _ _ c.from_residual-in_err-left-in-Compare.result _ (ap (test_faults c.args.scope.now)
-    (compare_is c.args.test.now c.in-Compare.left c.in-Compare.comparison c.in-Compare.right c.in-Compare.is)) c.from_residual-in_err-left-in-Compare.ensures.1
-    c.in_err-left-in-Compare.ensures.told
-
-pub resolve_test-returns-in_err-right-in-Compare-clause-told : goal.resolve_test-returns-in_err-right-in-Compare-clause-told
-resolve_test-returns-in_err-right-in-Compare-clause-told t c =
-    second_told _ _ _ c.from_residual-in_err-right-in-Compare.result _ (ap (test_faults c.args.scope.now)
-    (compare_is c.args.test.now c.in-Compare.left c.in-Compare.comparison c.in-Compare.right c.in-Compare.is)) c.in_ok-left-in-Compare.ensures.told
-    c.from_residual-in_err-right-in-Compare.ensures.1 c.in_err-right-in-Compare.ensures.told
-
 pub resolve_test-returns-in_ok-new-in-Opposite-clause-told : goal.resolve_test-returns-in_ok-new-in-Opposite-clause-told
 resolve_test-returns-in_ok-new-in-Opposite-clause-told t c =
     ap (test_faults c.args.scope.now) (opposite_is c.args.test.now c.in-Opposite.negation c.in-Opposite.is) ∙ c.in_ok-inner-in-Opposite.ensures.told
@@ -154,7 +142,10 @@ pub resolve_test-returns-in_ok-value-in-Value-clause-told : goal.resolve_test-re
 resolve_test-returns-in_ok-value-in-Value-clause-told t c =
     ap (test_faults c.args.scope.now) (value_is c.args.test.now c.in-Value.expr c.in-Value.is) ∙ c.in_ok-value-in-Value.ensures.told
 
-pub resolve_test-returns-in_ok-right-in-Compare-clause-told : goal.resolve_test-returns-in_ok-right-in-Compare-clause-told
-resolve_test-returns-in_ok-right-in-Compare-clause-told t c =
-    both_clean _ _ _ (ap (test_faults c.args.scope.now) (compare_is c.args.test.now c.in-Compare.left c.in-Compare.comparison c.in-Compare.right c.in-Compare.is))
-    c.in_ok-left-in-Compare.ensures.told c.in_ok-right-in-Compare.ensures.told
+pub resolve_test-returns-in-Compare-clause-told : goal.resolve_test-returns-in-Compare-clause-told
+resolve_test-returns-in-Compare-clause-told t c =
+    rw (compare_is c.args.test.now c.in-Compare.left c.in-Compare.comparison c.in-Compare.right c.in-Compare.is) c.resolve_comparison.ensures.told
+
+pub resolve_test-returns-in-Compare-clause-found : goal.resolve_test-returns-in-Compare-clause-found
+resolve_test-returns-in-Compare-clause-found t c =
+    rw (compare_is c.args.test.now c.in-Compare.left c.in-Compare.comparison c.in-Compare.right c.in-Compare.is) c.resolve_comparison.ensures.found
