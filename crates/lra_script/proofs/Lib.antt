@@ -2,6 +2,8 @@
 pub mod WordLemmas
 -- A list of answers, one for each element, or none.
 pub mod AllOf
+-- Names among words.
+pub mod Names
 -- Words that are cut at semicolons.
 pub mod Parts
 -- Worked examples: what lines say.
