@@ -1,5 +1,6 @@
 -- Names among the words of a line: what a line makes of words that are names, and of others.
-use Rattle.std.proofs.Common.{◌≡◌, ◌<◌, ◌≤◌, ℕ, suc, Bool, true, false, List, [], ◌∷◌, length, refl, ap, sym, ◌∙◌, arith, Option, Some, None, option_map, Bor, slice_index_or, string_bytes, map, take, drop, ◌-◌, Vec}
+use Rattle.std.proofs.Common.{◌≡◌, ◌<◌, ◌≤◌, ℕ, Bool, true, false, List, [], ◌∷◌, length, refl, ap, sym, ◌∙◌, arith, Option, Some, None, option_map, Bor, slice_index_or, string_bytes}
+use Rattle.std.proofs.Common.{map, take, drop, ◌-◌, Vec}
 use Rattle.std.specs.Prelude.{if◌then◌else◌, String}
 use Rattle.std.proofs.lemmas.Option.{same_Some, none-some}
 use Rattle.std.proofs.lemmas.List.{length-drop}
@@ -19,7 +20,8 @@ Words = List (Bor (List ℕ))
 abbrev IsNamed : List ℕ → Option (String Global) → Type 0
 IsNamed word o = option_map string_bytes o ≡ (if is_name word then Some word else None)
 
-choose : {A : Type 0} (b : Bool) (word : List ℕ) (s : String Global) (rest : Option A) → Some (string_bytes s) ≡ (if b then Some word else None) → ((if b then rest else None) ≡ rest) × (string_bytes s ≡ word)
+choose : {A : Type 0} (b : Bool) (word : List ℕ) (s : String Global) (rest : Option A) → Some (string_bytes s) ≡ (if b then Some word else None)
+    → ((if b then rest else None) ≡ rest) × (string_bytes s ≡ word)
 choose true word s rest e = (refl, same_Some (string_bytes s) word e)
 choose false word s rest e = absurd (none-some (string_bytes s) (sym e))
 
@@ -51,19 +53,23 @@ two (a ∷ []) d l h = absurd (omega (arith, l))
 two (a ∷ b ∷ []) d l h = refl
 two (a ∷ b ∷ c ∷ ws) d l h = absurd (omega (arith, h))
 
--- widenings ----------------------------------------------------------------------------------------------------------
+-- lines of two names, and of nothing else ------------------------------------------------------------------------------
 
-pub widen_first : (ws : Words) (d : Bor (List ℕ)) (o : Option (String Global)) → 2 ≤ length ws → length ws < 3 → IsNamed (slice_index_or ws 0 d).now o → o ≡ None → None ≡ form.widen_recipe (texts ws)
-widen_first ws d o l h n is = behind_none (slice_index_or ws 0 d).now o _ n is ∙ sym (ap form.widen_recipe (two ws d l h))
+module _ {A : Type 0} (of : List (List ℕ) → Option A) (make : List ℕ → List ℕ → A) (says : (x y : List ℕ) → of (x ∷ y ∷ []) ≡ with_name x (with_name y (Some (make x y)))) where
+  told : (ws : Words) (d : Bor (List ℕ)) → 2 ≤ length ws → length ws < 3
+      → with_name (slice_index_or ws 0 d).now (with_name (slice_index_or ws 1 d).now (Some (make (slice_index_or ws 0 d).now (slice_index_or ws 1 d).now))) ≡ of (texts ws)
+  told ws d l h = sym (ap of (two ws d l h) ∙ says (slice_index_or ws 0 d).now (slice_index_or ws 1 d).now)
 
-pub widen_second : (ws : Words) (d : Bor (List ℕ)) (o p : Option (String Global)) (s : String Global) → 2 ≤ length ws → length ws < 3 → IsNamed (slice_index_or ws 0 d).now o → o ≡ Some s
-    → IsNamed (slice_index_or ws 1 d).now p → p ≡ None → None ≡ form.widen_recipe (texts ws)
-widen_second ws d o p s l h n is m js = pair_none (slice_index_or ws 0 d).now (slice_index_or ws 1 d).now o p s _ n is m js ∙ sym (ap form.widen_recipe (two ws d l h))
+  pub pair_first : (ws : Words) (d : Bor (List ℕ)) (o : Option (String Global)) → 2 ≤ length ws → length ws < 3 → IsNamed (slice_index_or ws 0 d).now o → o ≡ None → None ≡ of (texts ws)
+  pair_first ws d o l h n is = behind_none (slice_index_or ws 0 d).now o _ n is ∙ told ws d l h
 
-pub widen_made : (ws : Words) (d : Bor (List ℕ)) (o p : Option (String Global)) (s t : String Global) → 2 ≤ length ws → length ws < 3 → IsNamed (slice_index_or ws 0 d).now o → o ≡ Some s
-    → IsNamed (slice_index_or ws 1 d).now p → p ≡ Some t → Some (form.Widen (string_bytes s) (string_bytes t)) ≡ form.widen_recipe (texts ws)
-widen_made ws d o p s t l h n is m js =
-    pair_made form.Widen (slice_index_or ws 0 d).now (slice_index_or ws 1 d).now o p s t n is m js ∙ sym (ap form.widen_recipe (two ws d l h))
+  pub pair_second : (ws : Words) (d : Bor (List ℕ)) (o p : Option (String Global)) (s : String Global) → 2 ≤ length ws → length ws < 3 → IsNamed (slice_index_or ws 0 d).now o → o ≡ Some s
+      → IsNamed (slice_index_or ws 1 d).now p → p ≡ None → None ≡ of (texts ws)
+  pair_second ws d o p s l h n is m js = pair_none (slice_index_or ws 0 d).now (slice_index_or ws 1 d).now o p s _ n is m js ∙ told ws d l h
+
+  pub pair_said : (ws : Words) (d : Bor (List ℕ)) (o p : Option (String Global)) (s t : String Global) → 2 ≤ length ws → length ws < 3 → IsNamed (slice_index_or ws 0 d).now o → o ≡ Some s
+      → IsNamed (slice_index_or ws 1 d).now p → p ≡ Some t → Some (make (string_bytes s) (string_bytes t)) ≡ of (texts ws)
+  pair_said ws d o p s t l h n is m js = pair_made make (slice_index_or ws 0 d).now (slice_index_or ws 1 d).now o p s t n is m js ∙ told ws d l h
 
 -- lines with words behind their names ---------------------------------------------------------------------------------
 

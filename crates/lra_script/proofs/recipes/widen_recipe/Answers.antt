@@ -1,6 +1,7 @@
 -- Goals of `widen_recipe`: two words, names or not.
-use Rattle.std.proofs.Common.{Bor, List, ℕ, []}
-use Rattle.lra_script.proofs.Names.{widen_first, widen_second, widen_made}
+use Rattle.std.proofs.Common.{Bor, List, ℕ, [], refl}
+use Rattle.lra_script.specs.LineForms as form
+use Rattle.lra_script.proofs.Names.{pair_first, pair_second, pair_said}
 use Rattle.lra_script.proofs.recipes.widen_recipe.Goals as goal
 
 abbrev nothing : Bor (List ℕ)
@@ -8,14 +9,14 @@ nothing = record { ref_ptr = (0, 0); now = [] }
 
 pub returns-in_default-2-clause-recipe : goal.returns-in_default-2-clause-recipe
 returns-in_default-2-clause-recipe c =
-    widen_first c.args.words.now nothing c.in_ok-first.field-0 c.in-len2.len_at_least c.in-len2.len_below c.in_ok-first.ensures c.in_default-2.is
+    pair_first form.widen_recipe form.Widen (λ x y. refl) c.args.words.now nothing c.in_ok-first.field-0 c.in-len2.len_at_least c.in-len2.len_below c.in_ok-first.ensures c.in_default-2.is
 
 pub returns-in_default-3-clause-recipe : goal.returns-in_default-3-clause-recipe
 returns-in_default-3-clause-recipe c =
-    widen_second c.args.words.now nothing c.in_ok-first.field-0 c.in_ok-second.field-0 c.in-Some.first c.in-len2.len_at_least c.in-len2.len_below c.in_ok-first.ensures c.in-Some.is
-    c.in_ok-second.ensures c.in_default-3.is
+    pair_second form.widen_recipe form.Widen (λ x y. refl) c.args.words.now nothing c.in_ok-first.field-0 c.in_ok-second.field-0 c.in-Some.first
+    c.in-len2.len_at_least c.in-len2.len_below c.in_ok-first.ensures c.in-Some.is c.in_ok-second.ensures c.in_default-3.is
 
 pub returns-clause-recipe : goal.returns-clause-recipe
 returns-clause-recipe c =
-    widen_made c.args.words.now nothing c.in_ok-first.field-0 c.in_ok-second.field-0 c.in-Some.first c.in-Some-2.second c.in-len2.len_at_least c.in-len2.len_below
-    c.in_ok-first.ensures c.in-Some.is c.in_ok-second.ensures c.in-Some-2.is
+    pair_said form.widen_recipe form.Widen (λ x y. refl) c.args.words.now nothing c.in_ok-first.field-0 c.in_ok-second.field-0 c.in-Some.first c.in-Some-2.second
+    c.in-len2.len_at_least c.in-len2.len_below c.in_ok-first.ensures c.in-Some.is c.in_ok-second.ensures c.in-Some-2.is
