@@ -9,13 +9,13 @@ use Rattle.lra_linear.proofs.LowestTerms.{same_multiple}
 use Rattle.lra_linear.proofs.Ring.{mul_nonnegative, ring, v, ⊖, ◌⊕◌, ◌⊗◌}
 use Rattle.lra_linear.proofs.Signs.{cancel_same, divide_nonnegative}
 use Rattle.lra_sys.specs.FirstPlaces.{FirstAt}
-use Rattle.lra_poly.specs.Inclusions.{Meets, Violates, Passes, MeetsAll, ViolatesFirst, IsInclusion}
-use Rattle.lra_poly.specs.Maxima.{StaysInRange, PassesRange, Improves, DoesNotImprove, HasValue, IsAtMost, IsBelow, OfPoint, IsGreatest, IsMaximum}
-use Rattle.lra_poly.specs.declared.inclusion.Inclusion.{Inclusion}
-use Rattle.lra_poly.specs.declared.inclusion.Inclusion.TheVariants as inclusion
-use Rattle.lra_poly.specs.declared.maximum.Maximum.{Maximum}
-use Rattle.lra_poly.specs.declared.maximum.Maximum.TheVariants as maximum
-use Rattle.lra_poly.proofs.MaximumLemmas.{never_both}
+use Rattle.lra_duality.specs.Inclusions.{Meets, Violates, Passes, MeetsAll, ViolatesFirst, IsInclusion}
+use Rattle.lra_duality.specs.Maxima.{StaysInRange, PassesRange, Improves, DoesNotImprove, HasValue, IsAtMost, IsBelow, OfPoint, IsGreatest, IsMaximum}
+use Rattle.lra_duality.specs.declared.inclusion.Inclusion.{Inclusion}
+use Rattle.lra_duality.specs.declared.inclusion.Inclusion.TheVariants as inclusion
+use Rattle.lra_duality.specs.declared.maximum.Maximum.{Maximum}
+use Rattle.lra_duality.specs.declared.maximum.Maximum.TheVariants as maximum
+use Rattle.lra_duality.proofs.MaximumLemmas.{never_both}
 use Rattle.lra_calc.specs.Views.{IsPlacedInclusion, IsPlacedMaximum}
 use Rattle.lra_calc.proofs.MakingLemmas.{all_tail}
 

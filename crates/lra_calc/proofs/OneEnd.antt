@@ -9,8 +9,8 @@ use Rattle.lra_linear.specs.Polyhedra.{Polyhedron}
 use Rattle.lra_linear.proofs.Polyhedra.{polyhedron_unique}
 use Rattle.lra_script.specs.ScriptText.{is_skipped, words}
 use Rattle.lra_script.specs.LineForms.{given_of, Line, Dims, Make, Ask, Recipe, Con, Gen, Combine, Widen, Limited, Map, Forget, Question, Show, Holds, Include, Maximise, line_of}
-use Rattle.lra_poly.specs.Inclusions.{IsInclusion}
-use Rattle.lra_poly.specs.Maxima.{IsMaximum}
+use Rattle.lra_duality.specs.Inclusions.{IsInclusion}
+use Rattle.lra_duality.specs.Maxima.{IsMaximum}
 use Rattle.lra_calc.specs.MadeSets.{IsMadeOf, IsMadeOfRows, IsMadeOfGenerators, combined, CombiningStrains, IsCombined, mapped, MappingStrains, IsMapped, IsForgotten}
 use Rattle.lra_calc.specs.MadeSets.{IsWidened, IsLimited, IsAllFlagged}
 use Rattle.lra_calc.specs.ShownSets.{include_text, is_wide_inclusion, maximise_text, is_wide_maximum}
@@ -20,8 +20,8 @@ use Rattle.lra_calc.specs.Script.{made_as, printed_by, behind}
 use Rattle.lra_calc.specs.Script.{AfterLine, AfterForm, End, GoesOn, Performs, SkipsOr, CarriesOut, stopped, last_session, IsUnflagged, AgreesWith}
 use Rattle.lra_linear.specs.Widening as widening
 use Rattle.lra_linear.specs.OperationStrain.{StandardStrains, LimitedStrains}
-use Rattle.lra_poly.specs.declared.inclusion.Inclusion.{Inclusion}
-use Rattle.lra_poly.specs.declared.inclusion.Inclusion.TheVariants as inclusion
+use Rattle.lra_duality.specs.declared.inclusion.Inclusion.{Inclusion}
+use Rattle.lra_duality.specs.declared.inclusion.Inclusion.TheVariants as inclusion
 use Rattle.lra_calc.proofs.OneRefusal.{AlikeResults, agrees_by, alike_by, alike_refl, line_alike_by, WideningsAgree}
 use Rattle.lra_calc.proofs.OneAnswer.{one_inclusion, one_maximum}
 

@@ -6,10 +6,10 @@ use Rattle.std.specs.List.{All}
 use Rattle.lra_tree.specs.Tokens.{greatest_length}
 use Rattle.lra_linear.specs.Descriptions.{Given}
 use Rattle.lra_linear.specs.Polyhedra.{Polyhedron}
-use Rattle.lra_poly.specs.Inclusions.{IsInclusion}
-use Rattle.lra_poly.specs.Maxima.{IsMaximum}
-use Rattle.lra_poly.specs.declared.inclusion.Inclusion.{Inclusion}
-use Rattle.lra_poly.specs.declared.inclusion.Inclusion.TheVariants as inclusion
+use Rattle.lra_duality.specs.Inclusions.{IsInclusion}
+use Rattle.lra_duality.specs.Maxima.{IsMaximum}
+use Rattle.lra_duality.specs.declared.inclusion.Inclusion.{Inclusion}
+use Rattle.lra_duality.specs.declared.inclusion.Inclusion.TheVariants as inclusion
 use Rattle.lra_script.specs.ScriptText.{is_skipped, words, lines}
 use Rattle.lra_script.specs.LineForms.{Generator, Line, Dims, Make, Ask, Recipe, Con, Gen, Combine, Widen, Limited, Map, Forget, Question, Show, Holds, Include, Maximise, line_of, given_of}
 use Rattle.lra_calc.specs.Script.{Fault, UnknownName, Session, Unless, WithSet, wrong_width, wrong_row, numbers_needed, wrong_generator, wrong_coordinate, Made, IsMade, WidenedBy, Widens, MadeBy}

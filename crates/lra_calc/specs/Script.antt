@@ -16,10 +16,10 @@ use Rattle.lra_linear.specs.declared.GenKind.{GenKind}
 use Rattle.lra_linear.specs.declared.GenKind.TheVariants as gen
 use Rattle.lra_sys.specs.FirstPlaces.{FirstAt}
 use Rattle.lra_sys.specs.Membership.{HoldsInRange, IsWide}
-use Rattle.lra_poly.specs.Inclusions.{IsInclusion}
-use Rattle.lra_poly.specs.declared.inclusion.Inclusion.{Inclusion}
-use Rattle.lra_poly.specs.declared.inclusion.Inclusion.TheVariants as inclusion
-use Rattle.lra_poly.specs.Maxima.{IsMaximum}
+use Rattle.lra_duality.specs.Inclusions.{IsInclusion}
+use Rattle.lra_duality.specs.declared.inclusion.Inclusion.{Inclusion}
+use Rattle.lra_duality.specs.declared.inclusion.Inclusion.TheVariants as inclusion
+use Rattle.lra_duality.specs.Maxima.{IsMaximum}
 use Rattle.lra_base.specs.declared.refusals.Place.{Place}
 use Rattle.lra_tree.specs.Tokens.{place_behind, greatest_length}
 use Rattle.lra_base.specs.declared.refusals.Cause.TheVariants as cause

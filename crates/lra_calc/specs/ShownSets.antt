@@ -8,10 +8,10 @@ use Rattle.lra_linear.specs.Polyhedra.{Polyhedron}
 use Rattle.lra_show.specs.ShownDescriptions.{shown_constraint, shown_generator}
 use Rattle.lra_findings.specs.Report.{Part}
 use Rattle.lra_findings.specs.ReportText.{text_line, part_text, generator_text, fraction_text}
-use Rattle.lra_poly.specs.declared.inclusion.Inclusion.{Inclusion}
-use Rattle.lra_poly.specs.declared.inclusion.Inclusion.TheVariants as inclusion
-use Rattle.lra_poly.specs.declared.maximum.Maximum.{Maximum}
-use Rattle.lra_poly.specs.declared.maximum.Maximum.TheVariants as maximum
+use Rattle.lra_duality.specs.declared.inclusion.Inclusion.{Inclusion}
+use Rattle.lra_duality.specs.declared.inclusion.Inclusion.TheVariants as inclusion
+use Rattle.lra_duality.specs.declared.maximum.Maximum.{Maximum}
+use Rattle.lra_duality.specs.declared.maximum.Maximum.TheVariants as maximum
 
 -- so many, from this number on
 abbrev pub variables_from : ℕ → ℕ → List (List ℕ)

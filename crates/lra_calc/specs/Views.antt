@@ -8,10 +8,10 @@ use Rattle.lra_sys.specs.declared.membership.Holds as H
 use Rattle.lra_sys.specs.declared.membership.Holds.TheVariants as holds
 use Rattle.lra_poly.specs.declared.outcome.Outcome.{Outcome}
 use Rattle.lra_poly.specs.declared.outcome.Outcome.TheVariants as outcome
-use Rattle.lra_poly.specs.declared.inclusion.Inclusion.{Inclusion}
-use Rattle.lra_poly.specs.declared.inclusion.Inclusion.TheVariants as inclusion
-use Rattle.lra_poly.specs.declared.maximum.Maximum.{Maximum}
-use Rattle.lra_poly.specs.declared.maximum.Maximum.TheVariants as maximum
+use Rattle.lra_duality.specs.declared.inclusion.Inclusion.{Inclusion}
+use Rattle.lra_duality.specs.declared.inclusion.Inclusion.TheVariants as inclusion
+use Rattle.lra_duality.specs.declared.maximum.Maximum.{Maximum}
+use Rattle.lra_duality.specs.declared.maximum.Maximum.TheVariants as maximum
 use Rattle.lra_widen.specs.declared.error.WidenError.{WidenError}
 use Rattle.lra_widen.specs.declared.error.WidenError.TheVariants as widen_error
 use Rattle.lra_script.specs.LineForms.{greatest_dims}

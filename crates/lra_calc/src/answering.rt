@@ -4,8 +4,8 @@ ghost use Rattle.std.specs.Prelude.{◌≡◌, ◌≤◌, ◌<◌, ◌<ℤ◌, �
 ghost use Rattle.std.specs.Prelude.{ℕ, ℤ};
 ghost use Rattle.lra_findings.specs.ReportText.{text_line};
 ghost use Rattle.lra_sys.specs.Listed.{constraints as constraints_of};
-ghost use Rattle.lra_poly.specs.Inclusions.{IsInclusion};
-ghost use Rattle.lra_poly.specs.Maxima.{IsMaximum};
+ghost use Rattle.lra_duality.specs.Inclusions.{IsInclusion};
+ghost use Rattle.lra_duality.specs.Maxima.{IsMaximum};
 ghost use Rattle.lra_script.specs.LineForms.{greatest_dims};
 ghost use Rattle.lra_script.specs.Views.{HasDivisor};
 ghost use Rattle.lra_calc.specs.ShownSets as shown;
@@ -14,7 +14,8 @@ ghost use Rattle.lra_calc.specs.Views.{answer_of, answered, IsPlacedInclusion, I
 
 use crate::making::form_of;
 use crate::showing::{fraction, generator_at, push_polyhedron};
-use lra_poly::{Inclusion, Maximum, Poly};
+use lra_duality::{Inclusion, Maximum};
+use lra_poly::Poly;
 use lra_sys::{ConSys, Holds};
 use std::alloc::{AllocError, Global};
 use std::fmt::Write;

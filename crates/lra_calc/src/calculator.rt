@@ -5,10 +5,10 @@ ghost use Rattle.std.specs.Prelude.{string_bytes, IfOk, IfSome, OnOk, option_map
 ghost use Rattle.lra_linear.specs.Points.{SameSet};
 ghost use Rattle.lra_linear.specs.Descriptions.{Con, Gen};
 ghost use Rattle.lra_linear.specs.Polyhedra.{Polyhedron, IsPolyhedron};
-ghost use Rattle.lra_poly.specs.Inclusions.{IsInclusion, TellsInclusion};
-ghost use Rattle.lra_poly.specs.Maxima.{IsMaximum, TellsMaximum};
-ghost use Rattle.lra_poly.specs.declared.inclusion.Inclusion.{Inclusion};
-ghost use Rattle.lra_poly.specs.declared.maximum.Maximum.{Maximum};
+ghost use Rattle.lra_duality.specs.Inclusions.{IsInclusion, TellsInclusion};
+ghost use Rattle.lra_duality.specs.Maxima.{IsMaximum, TellsMaximum};
+ghost use Rattle.lra_duality.specs.declared.inclusion.Inclusion.{Inclusion};
+ghost use Rattle.lra_duality.specs.declared.maximum.Maximum.{Maximum};
 ghost use Rattle.lra_script.specs.ScriptText as text;
 ghost use Rattle.lra_script.specs.LineForms as form;
 ghost use Rattle.lra_calc.specs.Script as spec;

@@ -1,6 +1,7 @@
 -- The lemmas, from bottom to top.
 pub mod TightRows
 pub mod RayCase
+pub mod Reordered
 pub mod Cutting
 pub mod Taking
 pub mod Stepped

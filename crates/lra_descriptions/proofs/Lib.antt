@@ -1,3 +1,4 @@
 -- The lemmas, from bottom to top.
+pub mod SeveralKinds
 pub mod Parted
 pub mod Validity

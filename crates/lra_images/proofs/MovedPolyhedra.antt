@@ -36,11 +36,11 @@ use Rattle.lra_canon.proofs.Orders.{tied_itself}
 use Rattle.lra_descriptions.specs.ShownLists.{ListsGenerators, ShowsConstraints, ShowsGenerators, without}
 use Rattle.lra_pair.proofs.ConstraintLists.{listed_hold}
 use Rattle.lra_pair.proofs.GeneratorLists.{flat_rows, listed_have, nothing_generated, system_of_generators}
-use Rattle.lra_pair.proofs.Reordered.{canonical_again, dual_again}
+use Rattle.lra_cone.proofs.Reordered.{canonical_again, dual_again}
 use Rattle.lra_pair.specs.OwnLists.{AreReducedBy}
 use Rattle.lra_pair.proofs.PairLists.{has_point}
-use Rattle.lra_poly.proofs.KeptFacets.{ascending_once, lines_split, rays_split}
-use Rattle.lra_poly.proofs.PolyLemmas.{with_point}
+use Rattle.lra_duality.proofs.KeptFacets.{ascending_once, lines_split, rays_split}
+use Rattle.lra_duality.proofs.PolyhedronLemmas.{with_point}
 use Rattle.lra_lists.specs.Moving.{IsAssignedList, IsSubstitutedList, TakesBack}
 use Rattle.lra_images.proofs.AssignedSets.{assigned_generators}
 use Rattle.lra_lists.proofs.Assigning.{assigning}

@@ -10,7 +10,8 @@ use Rattle.lra_linear.specs.Polyhedra.{IsPolyhedron, IsPolyhedronOf, Polyhedron}
 use Rattle.lra_linear.specs.SetOperations.{Preimage}
 use Rattle.lra_linear.specs.Strain.{Loss}
 use Rattle.lra_linear.proofs.SetOperations.{preimage_con}
-use Rattle.lra_poly.proofs.PolyLemmas.{constraints_strain, given_width, if_exact, if_flagged, same_polyhedron}
+use Rattle.lra_poly.proofs.PolyLemmas.{constraints_strain, if_exact, if_flagged, same_polyhedron}
+use Rattle.lra_duality.proofs.PolyhedronLemmas.{given_width}
 use Rattle.lra_poly.specs.Outcomes.{IfExact, IfFlagged}
 use Rattle.lra_poly.specs.declared.outcome.Outcome.{Outcome}
 use Rattle.lra_poly.specs.declared.outcome.Outcome.TheVariants.{Flagged}

@@ -17,7 +17,7 @@ use Rattle.lra_linear.proofs.Membership.{contains_cases, contains_head, contains
 use Rattle.lra_linear.proofs.Products.{blend_length}
 use Rattle.lra_sys.specs.Listed.{Listed, constraints, given_by}
 use Rattle.lra_sys.proofs.FirstMembers.{front, given_more, given_split, member}
-use Rattle.lra_pair.proofs.GeneratorLists.{given_append}
+use Rattle.lra_descriptions.proofs.SeveralKinds.{given_append}
 use Rattle.lra_lists.specs.Forming.{AreFormed}
 use Rattle.lra_lists.proofs.PushedLists.{many_more}
 

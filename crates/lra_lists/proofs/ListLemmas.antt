@@ -13,7 +13,7 @@ use Rattle.lra_linear.specs.Kinds.{is_line}
 use Rattle.lra_sys.specs.Listed.{FitKinds, FitsKind, Listed, generators, given_by}
 use Rattle.lra_linear.specs.declared.GenKind.{GenKind}
 use Rattle.lra_linear.specs.declared.GenKind.TheVariants.{Line, Point, Ray}
-use Rattle.lra_pair.proofs.GeneratorLists.{fit_append, given_append}
+use Rattle.lra_descriptions.proofs.SeveralKinds.{fit_append, given_append}
 use Rattle.lra_sys.proofs.UnitRows.{unit_other}
 use Rattle.lra_lists.proofs.Sums.{mapped_by}
 

@@ -16,7 +16,7 @@ use Rattle.lra_row.specs.declared.error.RowError.TheVariants as of_row
 use Rattle.lra_sys.specs.Listed.{Listed, constraints, generators, given_by}
 use Rattle.lra_sys.proofs.FirstMembers.{front, given_split, member}
 use Rattle.lra_descriptions.specs.ShownLists.{dual_kind}
-use Rattle.lra_pair.proofs.ConstraintLists.{dual_given}
+use Rattle.lra_descriptions.proofs.SeveralKinds.{dual_given}
 use Rattle.lra_lists.specs.Forming.{IsLossAt}
 
 default_other : {A : Type 0} (xs : List A) (i : ℕ) (d e : A) → i < length xs → get_or xs i d ≡ get_or xs i e

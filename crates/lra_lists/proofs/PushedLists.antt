@@ -13,7 +13,7 @@ use Rattle.lra_sys.specs.Listed.{FitKinds, FitsKind, Listed, generators, given_b
 use Rattle.lra_linear.specs.declared.GenKind.{GenKind}
 use Rattle.lra_linear.specs.declared.GenKind.TheVariants.{Line, Point}
 use Rattle.lra_sys.proofs.FirstMembers.{front, given_more, member}
-use Rattle.lra_pair.proofs.GeneratorLists.{fit_append, given_append}
+use Rattle.lra_descriptions.proofs.SeveralKinds.{fit_append, given_append}
 
 -- ---- one more
 pub many_more : {A B : Type 0} (xs more : List A) (ys also : List B) (x : A) (y : B) → length xs ≡ length ys →

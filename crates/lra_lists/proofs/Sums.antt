@@ -13,7 +13,7 @@ use Rattle.lra_linear.proofs.Ring.{ring, v, ⊖, ◌⊕◌, ◌⊗◌}
 use Rattle.lra_linear.proofs.Signs.{as_nat, positive_nat}
 use Rattle.lra_linear.proofs.Lines.{entry_zeros, zeros_length}
 use Rattle.lra_canon.proofs.Solutions.{sum_none}
-use Rattle.lra_pair.proofs.GeneratorLists.{system_append}
+use Rattle.lra_descriptions.proofs.SeveralKinds.{system_append}
 
 -- ---- joined lists
 sum_joined : (fs : List ℕ) (rows more : List (List ℤ)) (j : ℕ) →

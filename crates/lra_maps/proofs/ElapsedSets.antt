@@ -23,10 +23,11 @@ use Rattle.lra_linear.proofs.SetOperations.{has_vertex}
 use Rattle.lra_linear.proofs.Signs.{as_nat, divide_nonnegative, positive_is_nonnegative, positive_nat, times_positive}
 use Rattle.lra_linear.proofs.Lines.{zeros_length}
 use Rattle.lra_linear.proofs.Membership.{map_from}
-use Rattle.lra_pair.proofs.GeneratorLists.{system_append}
+use Rattle.lra_descriptions.proofs.SeveralKinds.{system_append}
 use Rattle.lra_poly.specs.Outcomes.{IfExact, IfFlagged}
 use Rattle.lra_poly.specs.declared.outcome.Outcome.{Outcome}
-use Rattle.lra_poly.proofs.PolyLemmas.{hull_holds, if_exact, if_flagged, rows_width, valid_with}
+use Rattle.lra_poly.proofs.PolyLemmas.{hull_holds, if_exact, if_flagged, valid_with}
+use Rattle.lra_duality.proofs.PolyhedronLemmas.{rows_width}
 use Rattle.lra_lists.proofs.Sums.{IsLinear, generated_mapped, system_mapped}
 
 -- ---- 0 in column 0

@@ -20,7 +20,7 @@ use Rattle.lra_linear.proofs.Polyhedra.{con_gen}
 use Rattle.lra_linear.proofs.Ring.{ring, v, ◌⊕◌, ◌⊗◌}
 use Rattle.lra_sys.specs.Listed.{Listed, generators}
 use Rattle.lra_linear.specs.declared.GenKind.{GenKind}
-use Rattle.lra_pair.proofs.GeneratorLists.{system_append, system_lines}
+use Rattle.lra_descriptions.proofs.SeveralKinds.{system_append, system_lines}
 use Rattle.lra_lists.proofs.ListLemmas.{longer_entry, short_divisor}
 use Rattle.lra_lists.proofs.MappedSets.{widths_of}
 use Rattle.lra_poly.proofs.TakenGenerators.{Takes}

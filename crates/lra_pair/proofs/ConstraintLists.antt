@@ -36,9 +36,10 @@ use Rattle.lra_cone.specs.Losses.{IfLost}
 use Rattle.lra_descriptions.specs.ShownLists.{without, ShowsConstraints, HasConstraints, AreConstraintsOf, dual_kind, IsValid, ShowsValid}
 use Rattle.lra_cone.specs.Conversions.{IsConversion}
 use Rattle.lra_cone.proofs.RayCase.{system_same}
-use Rattle.lra_pair.proofs.Reordered.{once_too, without_once}
+use Rattle.lra_pair.proofs.PartedRays.{once_too, without_once}
+use Rattle.lra_descriptions.proofs.SeveralKinds.{dual_given, system_append, system_rays, system_lines, given_append, given_same}
 use Rattle.lra_descriptions.proofs.Parted.{without_from, without_has}
-use Rattle.lra_pair.proofs.GeneratorLists.{system_append, system_rays, system_lines, given_append, given_same, nothing_generated, at_points}
+use Rattle.lra_pair.proofs.GeneratorLists.{nothing_generated, at_points}
 
 -- ---- the list
 pub listed_constraints : (n : ℕ) (lines rays : List (List ℤ)) (list : Listed ConKind) (h : ShowsConstraints n lines rays list) → constraints list ≡ given_as true lines ++ given_as false h.inequalities
@@ -49,17 +50,6 @@ listed_constraints n lines rays list h =
     given_append is_equality lines h.inequalities es gs (sym (length-replicate (length lines) Eq)) ∙
     ap (λ (x : List Given). x ++ given_by is_equality h.inequalities gs) (given_same is_equality lines Eq) ∙
     ap (λ (x : List Given). given_as true lines ++ x) (given_same is_equality h.inequalities Ge)
-
-pub dual_given : (rows : List (List ℤ)) (kinds : List GenKind) → given_by is_equality rows (map dual_kind kinds) ≡ given_by is_line rows kinds
-dual_given [] kinds = refl
-dual_given (r ∷ rows) [] = refl
-dual_given (r ∷ rows) (k ∷ kinds) = ap (λ (l : List Given). record { row = r; equal = is_equality (dual_kind k) } ∷ l) (dual_given rows kinds) ∙
-    ap (λ (b : Bool). record { row = r; equal = b } ∷ given_by is_line rows kinds) (same k)
-  where
-    same : (k : GenKind) → is_equality (dual_kind k) ≡ is_line k
-    same Point = refl
-    same Ray = refl
-    same Line = refl
 
 shown_from : (n : ℕ) (lines rays : List (List ℤ)) (list : Listed ConKind) (h : ShowsConstraints n lines rays list) (r : List ℤ) → Contains h.inequalities r → Contains rays r × (r ≢ positivity n)
 shown_from n lines rays list h r m =

@@ -1,19 +1,19 @@
 -- The generators that are shown of a cone are the canonical ones of its rows.
-use Rattle.std.proofs.Common.{◌≡◌, ℕ, suc, ◌+◌, Bool, true, false, List, [], ◌∷◌, ◌++◌, length, replicate, refl, ap, sym, ◌∙◌, subst, arith, pos, ℤ, neg_ℤ, ◌<ℤ◌, ◌≤ℤ◌, inl, inr, ◌⊎◌}
+use Rattle.std.proofs.Common.{◌≡◌, ℕ, suc, ◌+◌, true, false, List, [], ◌∷◌, ◌++◌, length, replicate, refl, ap, sym, ◌∙◌, subst, arith, pos, ℤ, neg_ℤ, ◌<ℤ◌, ◌≤ℤ◌, inl, inr, ◌⊎◌}
 use Rattle.std.specs.List.{Contains}
 use Rattle.std.proofs.lemmas.Int.{ints}
 use Rattle.std.proofs.lemmas.List.{length-append, length-replicate}
 use Rattle.std.proofs.lemmas.List.Elements.{Contains-append_cases, Contains-append_left, Contains-append_right}
 use Rattle.lra_linear.specs.Vectors.{entry, dot, product, negated}
 use Rattle.lra_linear.specs.Canonical.{IsCanonical}
-use Rattle.lra_linear.specs.Cones.{Generated, both_ways, all_rows, AreDual, with_row}
+use Rattle.lra_linear.specs.Cones.{Generated, both_ways, all_rows, AreDual}
 use Rattle.lra_linear.specs.Descriptions.{Given, Con, Gen, inequality, given_as, system_of}
 use Rattle.lra_linear.specs.Points.{IsPoint, SameSet, IsEmptySet}
 use Rattle.lra_linear.specs.Polyhedra.{positivity, falsity}
 use Rattle.lra_linear.proofs.Descriptions.{con_solves, con_cons, con_tail, dual_same_points}
 use Rattle.lra_linear.proofs.LinearMaps.{generated_nonneg}
 use Rattle.lra_linear.proofs.Lines.{signed_from, signed_zero, in_lines, in_lines_negated}
-use Rattle.lra_linear.proofs.Membership.{contains_head, contains_tail, contains_none}
+use Rattle.lra_linear.proofs.Membership.{contains_head, contains_none}
 use Rattle.lra_linear.proofs.OneSpelling.{positivity_product, falsity_never}
 use Rattle.lra_linear.proofs.Polyhedra.{con_gen}
 use Rattle.lra_linear.proofs.Products.{entry_negated, negated_dot}
@@ -21,52 +21,17 @@ use Rattle.lra_linear.proofs.Signs.{between_opposites}
 use Rattle.lra_canon.proofs.Orders.{ascends}
 use Rattle.lra_canon.specs.declared.order.Order.TheVariants.{Generators}
 use Rattle.lra_linear.specs.Kinds.{is_line}
-use Rattle.lra_sys.specs.Listed.{Listed, generators, given_by, FitsKind, FitKinds}
+use Rattle.lra_sys.specs.Listed.{Listed, generators, given_by, FitKinds}
 use Rattle.lra_linear.specs.declared.GenKind.{GenKind}
 use Rattle.lra_linear.specs.declared.GenKind.TheVariants.{Point, Ray, Line}
 use Rattle.lra_cone.specs.Cones.{Shape, IsCone}
 use Rattle.lra_descriptions.specs.ShownLists.{points_of, ListsGenerators, ShowsGenerators, HasGenerators, AreGeneratorsOf}
-use Rattle.lra_pair.proofs.Reordered.{InParts, in_parts, parts_once, once_left, once_right, dual_again, canonical_again}
+use Rattle.lra_cone.proofs.Reordered.{dual_again, canonical_again}
+use Rattle.lra_pair.proofs.PartedRays.{InParts, in_parts, parts_once, once_left, once_right}
+use Rattle.lra_descriptions.proofs.SeveralKinds.{system_append, system_rays, system_lines, given_append, given_same, fit_append, fit_same}
 use Rattle.lra_descriptions.proofs.Parted.{parted, directions_from}
 
--- ---- lists of several kinds
-pub system_append : (xs ys : List Given) → system_of (xs ++ ys) ≡ system_of xs ++ system_of ys
-system_append [] ys = refl
-system_append (x ∷ xs) ys = by_kind x.equal (system_append xs ys)
-  where
-    by_kind : (b : Bool) → system_of (xs ++ ys) ≡ system_of xs ++ system_of ys → with_row b x.row (system_of (xs ++ ys)) ≡ with_row b x.row (system_of xs) ++ system_of ys
-    by_kind true e = ap (λ (l : List (List ℤ)). x.row ∷ negated x.row ∷ l) e
-    by_kind false e = ap (λ (l : List (List ℤ)). x.row ∷ l) e
-
-pub system_rays : (rows : List (List ℤ)) → system_of (given_as false rows) ≡ rows
-system_rays [] = refl
-system_rays (r ∷ rows) = ap (λ (l : List (List ℤ)). r ∷ l) (system_rays rows)
-
-pub system_lines : (rows : List (List ℤ)) → system_of (given_as true rows) ≡ both_ways rows
-system_lines [] = refl
-system_lines (r ∷ rows) = ap (λ (l : List (List ℤ)). r ∷ negated r ∷ l) (system_lines rows)
-
-pub given_append : {K : Type 0} (equal : K → Bool) (xs ys : List (List ℤ)) (ks ls : List K) → length xs ≡ length ks →
-    given_by equal (xs ++ ys) (ks ++ ls) ≡ given_by equal xs ks ++ given_by equal ys ls
-given_append equal [] ys [] ls n = refl
-given_append equal [] ys (k ∷ ks) ls n = absurd (omega (arith, n))
-given_append equal (x ∷ xs) ys [] ls n = absurd (omega (arith, n))
-given_append equal (x ∷ xs) ys (k ∷ ks) ls n = ap (λ (l : List Given). record { row = x; equal = equal k } ∷ l) (given_append equal xs ys ks ls (omega (arith, n)))
-
-pub given_same : {K : Type 0} (equal : K → Bool) (rows : List (List ℤ)) (k : K) → given_by equal rows (replicate (length rows) k) ≡ given_as (equal k) rows
-given_same equal [] k = refl
-given_same equal (r ∷ rows) k = ap (λ (l : List Given). record { row = r; equal = equal k } ∷ l) (given_same equal rows k)
-
-pub fit_append : (xs ys : List (List ℤ)) (ks ls : List GenKind) → length xs ≡ length ks → FitKinds xs ks → FitKinds ys ls → FitKinds (xs ++ ys) (ks ++ ls)
-fit_append [] ys [] ls n f g = g
-fit_append [] ys (k ∷ ks) ls n f g = absurd (omega (arith, n))
-fit_append (x ∷ xs) ys [] ls n f g = absurd (omega (arith, n))
-fit_append (x ∷ xs) ys (k ∷ ks) ls n f g = (f.0, fit_append xs ys ks ls (omega (arith, n)) f.1 g)
-
-pub fit_same : (rows : List (List ℤ)) (k : GenKind) → ((r : List ℤ) → Contains rows r → FitsKind k r) → FitKinds rows (replicate (length rows) k)
-fit_same [] k f = tt
-fit_same (r ∷ rows) k f = (f r (contains_head r rows), fit_same rows k (λ t m. f t (contains_tail r t rows m)))
-
+-- ---- points, then rays, then lines
 as_many : {K : Type 0} (xs ys : List (List ℤ)) (j k : K) → length (xs ++ ys) ≡ length (replicate (length xs) j ++ replicate (length ys) k)
 as_many xs ys j k =
     length-append xs ys ∙ ap (λ (n : ℕ). n + length ys) (sym (length-replicate (length xs) j)) ∙ ap (λ (n : ℕ). length (replicate (length xs) j) + n) (sym (length-replicate (length ys) k)) ∙

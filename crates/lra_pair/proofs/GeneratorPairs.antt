@@ -22,7 +22,8 @@ use Rattle.lra_linear.proofs.Descriptions.{gen_generated}
 use Rattle.lra_linear.proofs.Membership.{contains_none}
 use Rattle.lra_pair.proofs.GeneratorLists.{nothing_generated}
 use Rattle.lra_cone.specs.Losses.{IfLost}
-use Rattle.lra_pair.proofs.ConstraintLists.{constrained, dual_given, some_point}
+use Rattle.lra_pair.proofs.ConstraintLists.{constrained, some_point}
+use Rattle.lra_descriptions.proofs.SeveralKinds.{dual_given}
 use Rattle.lra_pair.specs.OwnLists.{IsOwnCause, TellsOwnLoss}
 use Rattle.lra_pair.specs.TakenPoints.{AreTaken}
 use Rattle.lra_pair.proofs.PairLosses.{own_strain, from_generators_strain}

@@ -1,4 +1,4 @@
-pub mod Reordered
+pub mod PartedRays
 pub mod GeneratorLists
 pub mod ConstraintLists
 pub mod TightRows

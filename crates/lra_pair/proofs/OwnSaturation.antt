@@ -24,7 +24,7 @@ use Rattle.lra_canon.specs.Irredundant.{IsSaturation, IsIrredundant, Solutions}
 use Rattle.lra_canon.specs.Reduced.{IsForm, SolvesAll, IsReducedBy}
 use Rattle.lra_canon.proofs.Solutions.{farkas, all_widths, solves_all, spanned_solved, reduced_same}
 use Rattle.lra_cone.specs.Cones.{Shape, IsCone}
-use Rattle.lra_pair.proofs.GeneratorLists.{system_append, system_rays, system_lines}
+use Rattle.lra_descriptions.proofs.SeveralKinds.{system_append, system_rays, system_lines}
 use Rattle.lra_cone.proofs.Stepped.{line_tight}
 use Rattle.lra_pair.specs.OwnLists.{loose_rows, TellsTight, AllTellTight, AreReducedBy, IsOwnList}
 use Rattle.lra_pair.proofs.TightRows.{tight_said, tight_from, tight_in, loose_in, either_row, rows_has, rows_from, reduced_from, reduced_has, reduced_at}

@@ -1,57 +1,30 @@
 -- What the operations' lists tell of sets of points.
-use Rattle.std.proofs.Common.{◌≡◌, ◌≢◌, ℕ, suc, Bool, true, false, List, [], ◌∷◌, ◌++◌, length, ap, sym, ◌∙◌, subst, ℤ, pos, ◌≤ℤ◌, inl, inr, refl, arith}
+use Rattle.std.proofs.Common.{◌≡◌, ◌≢◌, ℕ, suc, drop, Bool, List, [], ◌∷◌, ◌++◌, length, ap, sym, ◌∙◌, subst, ℤ, pos, ◌≤ℤ◌, inl, inr, refl, arith}
 use Rattle.std.specs.List.{Contains}
-use Rattle.std.proofs.lemmas.List.Elements.{Contains-append_cases, Contains-append_left, Contains-append_right}
-use Rattle.lra_linear.specs.Cones.{both_ways}
-use Rattle.lra_linear.specs.Descriptions.{Con, Gen, Given, Holds, inequality, given_as, system_of}
+use Rattle.lra_linear.specs.Descriptions.{Con, Gen, Given, Holds, inequality, system_of}
 use Rattle.lra_linear.specs.OperationStrain.{ConstraintsStrain, FromRowsStrains, FromGeneratorsStrains, MeetStrains, AddTestStrains, HullStrains, ResultStrains}
 use Rattle.lra_linear.specs.Points.{IsPoint, IsWithin, IsEmptySet, SameSet, PointSet}
-use Rattle.lra_linear.specs.Polyhedra.{Polyhedron, IsPolyhedron, IsPolyhedronOf, HasPoint, falsity}
+use Rattle.lra_linear.specs.Polyhedra.{Polyhedron, IsPolyhedron, IsPolyhedronOf, positivity}
 use Rattle.lra_linear.specs.SetOperations.{Meet, Union, Hull}
 use Rattle.lra_linear.specs.Strain.{Loss}
 use Rattle.lra_linear.specs.Vectors.{entry, product}
 use Rattle.lra_linear.proofs.Combinations.{generated_row}
-use Rattle.lra_linear.proofs.Descriptions.{con_cons, con_head, con_none, con_solves, solves_con, generated_gen, gen_generated, system_from}
+use Rattle.lra_linear.proofs.Descriptions.{con_cons, con_head, con_none, con_solves, solves_con, generated_gen, gen_generated}
 use Rattle.lra_linear.proofs.LinearMaps.{generated_nonneg, generated_through}
-use Rattle.lra_linear.proofs.Lines.{in_lines, zeros_length}
-use Rattle.lra_linear.proofs.Membership.{contains_head, contains_none, each_one}
-use Rattle.lra_linear.proofs.OneSpelling.{falsity_never, given_from}
+use Rattle.lra_linear.proofs.Membership.{contains_none}
 use Rattle.lra_linear.proofs.Polyhedra.{con_gen}
-use Rattle.lra_linear.proofs.Products.{negated_length}
 use Rattle.lra_linear.proofs.SetOperations.{has_vertex, meet_con, system_append, system_append_in, valid_on_rows}
 use Rattle.lra_poly.specs.declared.outcome.Outcome.{Outcome}
 use Rattle.lra_poly.specs.declared.outcome.Outcome.TheVariants.{Exact, Flagged}
 use Rattle.lra_poly.specs.Outcomes.{IfExact, IfFlagged, first_loss}
+use Rattle.lra_duality.proofs.PolyhedronLemmas.{empty_where_none, none_where_empty, rows_width}
 use Rattle.lra_cone.specs.Losses.{IfLost}
+use Rattle.lra_pair.specs.OwnLists.{IsPositive}
 use Rattle.lra_pair.proofs.OwnRows.{none_of}
 use Rattle.lra_linear.specs.Kinds.{is_line}
 use Rattle.lra_sys.specs.Listed.{Listed, generators, given_by}
 use Rattle.lra_linear.specs.declared.GenKind.{GenKind}
 use Rattle.std.specs.Prelude.{◌↔◌, ◌==◌, IsTrue}
-
--- ---- without a point
-pub falsity_is_empty : (n : ℕ) (rows : List Given) → rows ≡ inequality (falsity n) ∷ [] → IsEmptySet n (Con rows)
-falsity_is_empty n rows e x is_point c =
-    falsity_never n x is_point (c (inequality (falsity n)) (subst (λ (l : List Given). Contains l (inequality (falsity n))) (sym e) (contains_head (inequality (falsity n)) [])))
-
--- one that isn't empty has a point
-pub with_point : (p : Polyhedron) → IsPolyhedron p → ¬ (IsEmptySet p.dims (Con p.rows)) → HasPoint p
-with_point p (inl none) some = absurd (some (falsity_is_empty p.dims p.rows none.0))
-with_point p (inr h) some = h
-
-pub some_generator : (p : Polyhedron) → HasPoint p → p.generators ≢ []
-some_generator p h e = contains_none (has_vertex p h).vertex (subst (λ (l : List Given). Contains (system_of l) (has_vertex p h).vertex) e (has_vertex p h).has)
-
-pub empty_where_none : (p : Polyhedron) → IsPolyhedron p → p.generators ≡ [] → IsEmptySet p.dims (Con p.rows)
-empty_where_none p (inl none) e = falsity_is_empty p.dims p.rows none.0
-empty_where_none p (inr h) e = absurd (some_generator p h e)
-
-pub none_where_empty : (p : Polyhedron) → IsPolyhedron p → IsEmptySet p.dims (Con p.rows) → p.generators ≡ []
-none_where_empty p (inl none) e = none.1
-none_where_empty p (inr h) e =
-    let v = has_vertex p h in
-    let is_point : IsPoint p.dims v.vertex = record { width = v.widths v.vertex v.has; divisor = v.divisor } in
-    absurd (e v.vertex is_point ((con_gen p (inr h)).1 v.vertex is_point (generated_gen p.generators (entry v.vertex) (generated_row (system_of p.generators) v.vertex v.has))))
 
 -- ---- other words for the exact result
 pub same_polyhedron : (n : ℕ) (P Q : PointSet) (p : Polyhedron) → SameSet n P Q → IsPolyhedronOf n Q p → IsPolyhedronOf n P p
@@ -162,6 +135,13 @@ meet_strain p q list o e = if_flagged (FromRowsStrains p.dims list) (MeetStrains
     (λ loss s. constraints_strain p.dims (Meet (Con p.rows) (Con q.rows)) (Con (p.rows ++ q.rows)) (p.rows ++ q.rows) loss (meet_con p.dims p.rows q.rows)
     (subst (λ (l : List Given). FromRowsStrains p.dims l loss) e s))
 
+-- what stands behind the positivity row
+pub kept_rows : (n : ℕ) (taken listed rows more : List Given) → taken ≡ inequality (positivity n) ∷ listed → listed ≡ rows → drop 1 taken ++ more ≡ rows ++ more
+kept_rows n taken listed rows more et el = ap (λ (l : List Given). drop 1 l ++ more) et ∙ ap (λ (l : List Given). l ++ more) el
+
+pub kept_positive : (n m : ℕ) (taken listed : List Given) → taken ≡ inequality (positivity n) ∷ listed → n ≡ m → IsPositive m taken
+kept_positive n m taken listed et e = (listed, et ∙ ap (λ (k : ℕ). inequality (positivity k) ∷ listed) e)
+
 -- ---- the meet with a test
 test_same : (n : ℕ) (P : PointSet) (t : Given) → SameSet n (Meet P (Holds t)) (Meet P (Con (t ∷ [])))
 test_same n P t = (λ x i h. (h.0, con_cons t [] x h.1 (con_none x)), λ x i h. (h.0, con_head t [] x h.1))
@@ -220,24 +200,6 @@ some_united p q (inr h) k e some empty =
     let is_point : IsPoint p.dims v.vertex = record { width = v.widths v.vertex v.has; divisor = v.divisor } in
     empty v.vertex is_point (union_in_gen p q (inr h) k e v.vertex is_point
     (inl ((con_gen p (inr h)).1 v.vertex is_point (generated_gen p.generators (entry v.vertex) (generated_row (system_of p.generators) v.vertex v.has)))))
-
--- ---- the rows of a polyhedron have a column more than there are dimensions
-pub given_width : (p : Polyhedron) → IsPolyhedron p → (g : Given) → Contains p.rows g → length g.row ≡ suc p.dims
-given_width p (inl none) g k = each_one (λ (x : Given). length x.row ≡ suc p.dims) (inequality (falsity p.dims)) (ap suc (zeros_length p.dims)) g (subst (λ (l : List Given). Contains l g) none.0 k)
-given_width p (inr h) g k = elim (Contains-append_cases (given_as true h.equalities) (given_as false h.inequalities) g (subst (λ (l : List Given). Contains l g) h.rows_are k)) [
-  | inl e ↦ h.dual.system_widths g.row
-      (Contains-append_right h.facets (both_ways h.equalities) g.row (in_lines h.equalities g.row (given_from true h.equalities g e).1))
-  | inr i ↦ h.dual.system_widths g.row
-      (Contains-append_left h.facets (both_ways h.equalities) g.row (h.shown g.row (given_from false h.inequalities g i).1).0)
-]
-
-pub rows_width : (p : Polyhedron) → IsPolyhedron p → (c : List ℤ) → Contains (system_of p.rows) c → length c ≡ suc p.dims
-rows_width p h c k =
-    let f = system_from p.rows c k in
-    elim f.sign [
-      | inl e ↦ ap length e ∙ given_width p h f.given f.has
-      | inr e ↦ ap length e.1 ∙ negated_length f.given.row ∙ given_width p h f.given f.has
-    ]
 
 -- constraints that hold at each point of a set hold on its hull
 pub hull_holds : (n : ℕ) (P : PointSet) (rows : List Given) → ((c : List ℤ) → Contains (system_of rows) c → length c ≡ suc n) → IsWithin n P (Con rows) → IsWithin n (Hull n P) (Con rows)

@@ -12,23 +12,21 @@ ghost use Rattle.lra_sys.specs.Dimensions.{too_many_dimensions};
 ghost use Rattle.lra_sys.specs.Listed.{constraints, generators, FitKinds};
 ghost use Rattle.lra_pair.specs.KeptRows.{IsOfSome};
 ghost use Rattle.lra_pair.specs.OwnLists.{IsPositive};
-ghost use Rattle.lra_poly.specs.Inclusions.{IsInclusion, TellsInclusion};
-ghost use Rattle.lra_poly.specs.Maxima.{IsMaximum, TellsMaximum};
+ghost use Rattle.lra_duality.specs.Inclusions.{IsInclusion, TellsInclusion};
+ghost use Rattle.lra_duality.specs.Maxima.{IsMaximum, TellsMaximum};
 ghost use Rattle.lra_poly.specs.Outcomes.{IfExact, IfFlagged};
 ghost use Rattle.lra_lin.specs.Form.{form_row};
-ghost use Rattle.lra_poly.specs.Rows.{test_row};
-ghost use Rattle.lra_poly.specs.Saturations.{saturation_of};
+ghost use Rattle.lra_duality.specs.Rows.{test_row};
+ghost use Rattle.lra_duality.specs.Saturations.{saturation_of};
 
-use crate::facets::facet_cone;
-use crate::inclusion::{Inclusion, inclusion_of};
-use crate::lists::{join_generators, join_rows, list_test};
-use crate::maximum::{Maximum, maximum_of};
 use crate::outcome::{Outcome, outcome_of};
-use crate::saturation::saturation_matrix;
-use crate::start::cone_of;
 use lra_bits::SatMatrix;
 use lra_cone::Cone;
 use lra_descriptions::nothing;
+use lra_duality::{
+    Inclusion, Maximum, cone_of, facet_cone, inclusion_of, join_generators, join_rows, list_test,
+    maximum_of, saturation_matrix,
+};
 use lra_lin::{LinExpr, Test};
 use lra_pair::Pair;
 use lra_sys::{ConSys, GenSys};
@@ -59,7 +57,7 @@ impl Model for Poly {
     ghost use Rattle.std.specs.Prelude.{◌≡◌};
     ghost use Rattle.lra_linear.specs.Polyhedra.{Polyhedron, IsPolyhedron};
     ghost use Rattle.lra_sys.specs.Listed.{constraints, generators, FitKinds};
-    ghost use Rattle.lra_poly.specs.Saturations.{saturation_of};
+    ghost use Rattle.lra_duality.specs.Saturations.{saturation_of};
 
     ghost Value = { Polyhedron };
 

@@ -18,7 +18,7 @@ use Rattle.lra_linear.specs.Vectors.{entry, product}
 use Rattle.lra_linear.proofs.Products.{entry_set_other}
 use Rattle.lra_linear.proofs.Ring.{ring, v, ◌⊗◌}
 use Rattle.lra_poly.specs.Outcomes.{IfExact, IfFlagged}
-use Rattle.lra_poly.specs.Rows.{test_row}
+use Rattle.lra_duality.specs.Rows.{test_row}
 use Rattle.lra_poly.specs.declared.outcome.Outcome.{Outcome}
 use Rattle.lra_polydom.specs.Content.{PolyhedronHas}
 use Rattle.lra_polydom.specs.Covering.{covered_from, store_point}

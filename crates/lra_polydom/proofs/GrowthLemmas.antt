@@ -22,9 +22,9 @@ use Rattle.lra_linear.specs.Widening.{Limited, Standard, StandardFrom}
 use Rattle.lra_linear.proofs.Descriptions.{con_none}
 use Rattle.lra_linear.proofs.Polyhedra.{polyhedron_unique}
 use Rattle.lra_poly.specs.Outcomes.{IfExact, IfFlagged}
-use Rattle.lra_poly.specs.declared.inclusion.Inclusion.TheVariants as inclusion
+use Rattle.lra_duality.specs.declared.inclusion.Inclusion.TheVariants as inclusion
 use Rattle.lra_poly.specs.declared.outcome.Outcome.{Outcome}
-use Rattle.lra_poly.proofs.InclusionLemmas.{inclusion_tells}
+use Rattle.lra_duality.proofs.InclusionLemmas.{inclusion_tells}
 use Rattle.lra_widen.specs.Rank.{Falls, IsBelow, kept, rank_of}
 use Rattle.lra_widen.specs.Widenings.{HaveColumns, IsOutside, IsRefusal}
 use Rattle.lra_widen.specs.declared.error.WidenError.{WidenError}

@@ -22,7 +22,7 @@ use Rattle.lra_linear.proofs.Ring.{ring, v, ◌⊕◌, ◌⊗◌}
 use Rattle.lra_linear.proofs.Signs.{not_both}
 use Rattle.lra_linear.proofs.SetOperations.{product_set}
 use Rattle.lra_pair.proofs.PairLists.{origin}
-use Rattle.lra_poly.proofs.PolyLemmas.{falsity_is_empty}
+use Rattle.lra_duality.proofs.PolyhedronLemmas.{falsity_is_empty}
 use Rattle.lra_widen.specs.Rank.{Falls}
 use Rattle.lra_widen.specs.Widenings.{HaveColumns}
 use Rattle.lra_widen.proofs.Facets.{facet_row, no_pivot_first}

@@ -17,7 +17,7 @@ use Rattle.lra_linear.proofs.Products.{negated_dot, product_none}
 use Rattle.lra_linear.proofs.Ring.{ring, v, ⊖, ◌⊕◌, ◌⊗◌}
 use Rattle.lra_linear.proofs.SetOperations.{has_vertex}
 use Rattle.lra_linear.proofs.Signs.{between_opposites, times_positive}
-use Rattle.lra_poly.proofs.PolyLemmas.{none_where_empty}
+use Rattle.lra_duality.proofs.PolyhedronLemmas.{none_where_empty}
 use Rattle.lra_widen.proofs.Counting.{any_said}
 use Rattle.lra_domain.specs.Actions.{Within}
 use Rattle.lra_linear.specs.Descriptions.{system_of}

@@ -9,7 +9,7 @@ use Rattle.lra_linear.specs.Polyhedra.{IsPolyhedronOf, Polyhedron}
 use Rattle.lra_linear.specs.SetOperations.{Embed, Forget, Hull, Image, Meet, RemoveLast, Union}
 use Rattle.lra_linear.specs.Strain.{Loss}
 use Rattle.lra_lin.specs.Form.{form_row}
-use Rattle.lra_poly.specs.Rows.{test_row}
+use Rattle.lra_duality.specs.Rows.{test_row}
 
 -- the points to which the change leads; dimension x is column x + 1
 abbrev pub reached : Action → Polyhedron → PointSet

@@ -5,7 +5,8 @@ ghost use Rattle.lra_polydom.specs.Content.{Answers};
 ghost use Rattle.lra_polydom.specs.Growth.{exactness_of};
 
 use lra_domain::{Exactness, Included};
-use lra_poly::{Inclusion, Outcome, Poly};
+use lra_duality::Inclusion;
+use lra_poly::{Outcome, Poly};
 
 /// Exact where nothing was lost.
 pub fn exactness_of(outcome: &Outcome) -> Exactness

@@ -3,8 +3,9 @@
 ghost use Rattle.std.specs.Prelude.{◌≡◌, IfOk};
 
 use crate::shapes::{Unfit, row_of, shows};
+use lra_duality::Inclusion;
 use lra_lin::{LinExpr, Test};
-use lra_poly::{Inclusion, Poly};
+use lra_poly::Poly;
 use lra_sys::{ConKind, ConSys};
 use std::alloc::Global;
 

@@ -11,11 +11,11 @@ use Rattle.lra_linear.specs.Kinds.{is_equality, is_line}
 use Rattle.lra_linear.specs.Polyhedra.{Polyhedron}
 use Rattle.lra_linear.specs.Strain.{Loss}
 use Rattle.lra_linear.proofs.Membership.{contains_head, contains_tail}
-use Rattle.lra_poly.specs.declared.inclusion.Inclusion.TheVariants.{Wide}
+use Rattle.lra_duality.specs.declared.inclusion.Inclusion.TheVariants.{Wide}
 use Rattle.lra_sys.specs.FirstPlaces.{FirstAt}
-use Rattle.lra_poly.specs.Inclusions.{IsInclusion, Meets, MeetsAll, Passes}
+use Rattle.lra_duality.specs.Inclusions.{IsInclusion, Meets, MeetsAll, Passes}
 use Rattle.lra_sys.proofs.FirstMembers.{member}
-use Rattle.lra_poly.proofs.InclusionLemmas.{has_member}
+use Rattle.lra_duality.proofs.InclusionLemmas.{has_member}
 use Rattle.lra_sys.specs.Listed.{Listed, constraints, generators, given_by}
 use Rattle.lra_linear.specs.declared.GenKind.{GenKind}
 use Rattle.lra_linear.specs.declared.GenKind.TheVariants.{Point}

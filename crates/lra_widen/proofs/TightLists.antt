@@ -12,8 +12,8 @@ use Rattle.lra_linear.specs.Vectors.{product}
 use Rattle.lra_linear.specs.Widening.{is_tight, is_tight_as, saturates}
 use Rattle.lra_sys.specs.Listed.{Listed, given_by}
 use Rattle.lra_widen.specs.Rank.{is_free}
-use Rattle.lra_poly.specs.Saturations.{saturated}
-use Rattle.lra_poly.proofs.SaturationLemmas.{rows_saturate}
+use Rattle.lra_duality.specs.Saturations.{saturated}
+use Rattle.lra_duality.proofs.SaturationLemmas.{rows_saturate}
 use Rattle.lra_widen.specs.Saturated.{same_values}
 
 -- ---- all, and the same

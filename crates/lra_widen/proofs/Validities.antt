@@ -10,7 +10,7 @@ use Rattle.lra_linear.specs.OperationStrain.{valid_on}
 use Rattle.lra_linear.specs.Polyhedra.{Polyhedron}
 use Rattle.lra_linear.specs.Widening.{holds_with, is_valid}
 use Rattle.lra_linear.proofs.Membership.{contains_head, contains_tail, list_all_at, list_all_from}
-use Rattle.lra_poly.specs.Inclusions.{Meets}
+use Rattle.lra_duality.specs.Inclusions.{Meets}
 use Rattle.lra_widen.specs.Rank.{fits, holds_in_range, kept}
 use Rattle.lra_widen.specs.Validity.{IsValidity}
 use Rattle.lra_widen.specs.declared.validity.Validity.{Validity}

@@ -16,15 +16,16 @@ use Rattle.lra_linear.proofs.Lines.{in_lines}
 use Rattle.lra_linear.proofs.Membership.{contains_cases, contains_none, filter_from}
 use Rattle.lra_linear.proofs.OneSpelling.{given_from}
 use Rattle.lra_linear.proofs.Widening.{limited_con, standard_con, valid_decides}
-use Rattle.lra_poly.specs.declared.inclusion.Inclusion.TheVariants.{Wide, Yes}
+use Rattle.lra_duality.specs.declared.inclusion.Inclusion.TheVariants.{Wide, Yes}
 use Rattle.lra_poly.specs.declared.outcome.Outcome.{Outcome}
 use Rattle.lra_poly.specs.declared.outcome.Outcome.TheVariants.{Exact, Flagged}
 use Rattle.lra_sys.specs.FirstPlaces.{FirstAt}
-use Rattle.lra_poly.specs.Inclusions.{IsInclusion, Meets, MeetsAll, Passes, Violates, ViolatesFirst}
+use Rattle.lra_duality.specs.Inclusions.{IsInclusion, Meets, MeetsAll, Passes, Violates, ViolatesFirst}
 use Rattle.lra_pair.specs.KeptRows.{IsOfSome}
 use Rattle.lra_poly.specs.Outcomes.{IfExact, IfFlagged}
-use Rattle.lra_poly.proofs.InclusionLemmas.{has_member}
-use Rattle.lra_poly.proofs.PolyLemmas.{constraints_strain, if_exact, if_flagged, none_where_empty, same_polyhedron, some_generator, with_point}
+use Rattle.lra_duality.proofs.InclusionLemmas.{has_member}
+use Rattle.lra_poly.proofs.PolyLemmas.{constraints_strain, if_exact, if_flagged, same_polyhedron}
+use Rattle.lra_duality.proofs.PolyhedronLemmas.{none_where_empty, some_generator, with_point}
 use Rattle.lra_sys.specs.Listed.{Listed, given_by}
 use Rattle.lra_widen.specs.Rank.{Falls, equalities_from, holds_in_range, kept}
 use Rattle.lra_widen.specs.Widenings.{HaveColumns, IsOutside, IsWidened, PassesOnBoth}

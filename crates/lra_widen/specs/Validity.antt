@@ -4,7 +4,7 @@ use Rattle.std.specs.Prelude.{◌≡◌, List, Err}
 use Rattle.std.specs.List.{All, Contains}
 use Rattle.lra_linear.specs.CheckedArithmetic.{checked_product}
 use Rattle.lra_linear.specs.Descriptions.{Given}
-use Rattle.lra_poly.specs.Inclusions.{Meets, Violates}
+use Rattle.lra_duality.specs.Inclusions.{Meets, Violates}
 use Rattle.lra_widen.specs.declared.validity.Validity.{Validity}
 use Rattle.lra_widen.specs.declared.validity.Validity.TheVariants.{Holds, Fails, Wide}
 

@@ -9,9 +9,9 @@ use Rattle.lra_linear.specs.Points.{IsWithin}
 use Rattle.lra_linear.specs.Polyhedra.{HasPoint, IsPolyhedron, IsPolyhedronOf, Polyhedron}
 use Rattle.lra_linear.specs.Strain as strain
 use Rattle.lra_linear.specs.Widening.{is_tight, Limited}
-use Rattle.lra_poly.specs.declared.inclusion.Inclusion.TheVariants.{Yes, No, Wide}
+use Rattle.lra_duality.specs.declared.inclusion.Inclusion.TheVariants.{Yes, No, Wide}
 use Rattle.lra_poly.specs.declared.outcome.Outcome.{Outcome}
-use Rattle.lra_poly.specs.Inclusions.{IsInclusion}
+use Rattle.lra_duality.specs.Inclusions.{IsInclusion}
 use Rattle.lra_poly.specs.Outcomes.{IfExact, IfFlagged}
 use Rattle.lra_widen.specs.Rank.{holds_in_range}
 use Rattle.lra_widen.specs.declared.error.WidenError.{WidenError}

@@ -6,14 +6,15 @@ ghost use Rattle.lra_linear.specs.Descriptions.{Given};
 ghost use Rattle.lra_linear.specs.Kinds.{is_equality};
 ghost use Rattle.lra_sys.specs.Listed.{constraints};
 ghost use Rattle.lra_widen.specs.Rank.{equalities_from, free, held, rank_of};
-ghost use Rattle.lra_poly.specs.Saturations.{saturated};
+ghost use Rattle.lra_duality.specs.Saturations.{saturated};
 ghost use Rattle.lra_widen.specs.Saturated.{same_values};
 
 use crate::lists::held_rows;
 use crate::saturation::{all_saturated, is_among};
 use lra_bits::BitRow;
+use lra_duality::mark_saturated;
 use lra_linear::ConKind;
-use lra_poly::{Poly, mark_saturated};
+use lra_poly::Poly;
 use lra_sys::ConSys;
 use std::alloc::{AllocError, Global};
 

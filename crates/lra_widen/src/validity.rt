@@ -7,8 +7,9 @@ ghost use Rattle.lra_sys.specs.Listed.{generators};
 ghost use Rattle.lra_widen.specs.Rank.{holds_in_range};
 ghost use Rattle.lra_widen.specs.Validity.{IsValidity};
 
+use lra_duality::accepts;
 use lra_linear::{ConKind, Excess};
-use lra_poly::{Poly, accepts};
+use lra_poly::Poly;
 use lra_row::Row;
 use lra_sys::GenSys;
 

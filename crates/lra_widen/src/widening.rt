@@ -14,7 +14,8 @@ ghost use Rattle.lra_widen.specs.Widenings.{LiesOrIsGivenUp};
 
 use crate::error::WidenError;
 use crate::lists::{add_held, given_loss, inclusion_loss, no_rows, tight_rows, universe};
-use lra_poly::{Inclusion, Outcome, Poly};
+use lra_duality::Inclusion;
+use lra_poly::{Outcome, Poly};
 use lra_sys::ConSys;
 use std::alloc::{AllocError, Global};
 

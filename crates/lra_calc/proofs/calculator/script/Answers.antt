@@ -3,8 +3,8 @@ use Rattle.std.proofs.Common.{arith, sym, subst, Err, None}
 use Rattle.lra_base.specs.declared.refusals.Place.{Place}
 use Rattle.lra_tree.proofs.Limit.{limit_is, taken}
 use Rattle.lra_linear.proofs.Polyhedra.{con_gen}
-use Rattle.lra_poly.proofs.GreatestValues.{maximum_tells}
-use Rattle.lra_poly.proofs.InclusionLemmas.{inclusion_tells}
+use Rattle.lra_duality.proofs.GreatestValues.{maximum_tells}
+use Rattle.lra_duality.proofs.InclusionLemmas.{inclusion_tells}
 use Rattle.lra_script.specs.ScriptText.{lines}
 use Rattle.lra_calc.specs.Script.{TooLong, Runs, AnswersTo}
 use Rattle.lra_calc.proofs.Limit.{answer_too_long, answer_not_long}

@@ -6,7 +6,7 @@ use Rattle.lra_linear.specs.Points.{IsWithin}
 use Rattle.lra_linear.specs.Polyhedra.{IsPolyhedronOf}
 use Rattle.lra_sys.specs.Listed.{generators}
 use Rattle.lra_poly.specs.Outcomes.{IfExact, IfFlagged}
-use Rattle.lra_poly.proofs.PolyLemmas.{with_point}
+use Rattle.lra_duality.proofs.PolyhedronLemmas.{with_point}
 use Rattle.lra_maps.proofs.ElapsedSets.{elapse_exact, elapse_strain, elapse_within, list_is}
 use Rattle.lra_maps.proofs.maps.elapse.Goals as goal
 

@@ -7,7 +7,7 @@ use Rattle.lra_linear.specs.Kinds.{is_equality}
 use Rattle.lra_linear.specs.Widening.{is_tight}
 use Rattle.lra_sys.proofs.FirstMembers.{front, member}
 use Rattle.lra_sys.specs.Listed.{constraints}
-use Rattle.lra_poly.specs.Saturations.{saturated}
+use Rattle.lra_duality.specs.Saturations.{saturated}
 use Rattle.lra_widen.proofs.Loops.{front_seen, front_step, kept_step}
 use Rattle.lra_widen.proofs.lists.tight_rows.Goals as goal
 

@@ -6,7 +6,7 @@ use Rattle.lra_linear.specs.Descriptions.{Given}
 use Rattle.lra_linear.specs.Kinds.{is_equality}
 use Rattle.lra_sys.proofs.FirstMembers.{front, member}
 use Rattle.lra_widen.specs.Rank.{is_free}
-use Rattle.lra_poly.specs.Saturations.{saturated}
+use Rattle.lra_duality.specs.Saturations.{saturated}
 use Rattle.lra_widen.proofs.Loops.{count_few, count_step, front_seen, front_step}
 use Rattle.lra_widen.proofs.TightLists.{bits_widths, free_by_values}
 use Rattle.lra_widen.proofs.ranking.count_free.Goals as goal

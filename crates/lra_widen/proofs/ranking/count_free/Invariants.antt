@@ -4,7 +4,7 @@ use Rattle.lra_linear.specs.Descriptions.{Given}
 use Rattle.lra_linear.specs.Kinds.{is_equality}
 use Rattle.lra_sys.proofs.FirstMembers.{front}
 use Rattle.lra_widen.specs.Rank.{is_free}
-use Rattle.lra_poly.specs.Saturations.{saturated}
+use Rattle.lra_duality.specs.Saturations.{saturated}
 use Rattle.lra_widen.proofs.ranking.count_free.Given as goal
 
 abbrev pub invariant-loop-place : goal.invariant-loop-place

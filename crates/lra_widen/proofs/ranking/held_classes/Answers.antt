@@ -2,7 +2,7 @@
 use Rattle.std.proofs.Common.{ap, map, ◌∙◌, List}
 use Rattle.lra_linear.specs.Descriptions.{Given}
 use Rattle.lra_sys.specs.Listed.{constraints}
-use Rattle.lra_poly.specs.Saturations.{saturated}
+use Rattle.lra_duality.specs.Saturations.{saturated}
 use Rattle.lra_widen.proofs.ranking.held_classes.Goals as goal
 
 pub returns : goal.returns

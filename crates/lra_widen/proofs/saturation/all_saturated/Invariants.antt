@@ -1,6 +1,6 @@
 use Rattle.std.proofs.Common.{◌≡◌, map, take}
 use Rattle.lra_sys.specs.Listed.{generators}
-use Rattle.lra_poly.specs.Saturations.{saturated}
+use Rattle.lra_duality.specs.Saturations.{saturated}
 use Rattle.lra_widen.proofs.saturation.all_saturated.Given as goal
 
 abbrev pub invariant-loop-place : goal.invariant-loop-place

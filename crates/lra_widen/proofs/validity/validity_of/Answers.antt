@@ -7,9 +7,9 @@ use Rattle.lra_linear.specs.CheckedArithmetic.{checked_product}
 use Rattle.lra_linear.specs.Descriptions.{Given}
 use Rattle.lra_linear.specs.Kinds.{is_equality, is_line}
 use Rattle.lra_linear.specs.declared.GenKind.TheVariants.{Point}
-use Rattle.lra_poly.specs.Inclusions.{Meets, Violates}
+use Rattle.lra_duality.specs.Inclusions.{Meets, Violates}
 use Rattle.lra_sys.proofs.FirstMembers.{member, first_at, one_more, all_gone_through, ok_of}
-use Rattle.lra_poly.proofs.InclusionLemmas.{has_member, seen_generators}
+use Rattle.lra_duality.proofs.InclusionLemmas.{has_member, seen_generators}
 use Rattle.lra_widen.proofs.validity.validity_of.Goals as goal
 
 pub returns-then-not-accepts : goal.returns-then-not-accepts

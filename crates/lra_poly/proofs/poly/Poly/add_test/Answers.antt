@@ -2,7 +2,7 @@
 use Rattle.std.proofs.Common.{◌≡◌, ◌++◌, ◌∷◌, [], List, ap}
 use Rattle.lra_linear.specs.Descriptions.{Con, Given}
 use Rattle.lra_sys.specs.Listed.{constraints}
-use Rattle.lra_poly.specs.Rows.{test_row}
+use Rattle.lra_duality.specs.Rows.{test_row}
 use Rattle.lra_poly.proofs.PolyLemmas.{test_exact, test_within, test_strain}
 use Rattle.lra_poly.proofs.poly.Poly.add_test.Goals as goal
 

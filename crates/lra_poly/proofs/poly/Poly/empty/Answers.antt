@@ -2,7 +2,7 @@
 use Rattle.lra_pair.proofs.ConstraintLists.{nothing_is}
 use Rattle.lra_pair.proofs.PairLists.{empty_lists}
 use Rattle.lra_sys.specs.Listed.{constraints}
-use Rattle.lra_poly.proofs.PolyLemmas.{falsity_is_empty}
+use Rattle.lra_duality.proofs.PolyhedronLemmas.{falsity_is_empty}
 use Rattle.lra_poly.proofs.poly.Poly.empty.Goals as goal
 
 pub invariant_of-result : goal.invariant_of-result

@@ -3,7 +3,7 @@ use Rattle.std.proofs.Common.{◌≡◌, ◌∙◌, ap, length, refl, suc, sym}
 use Rattle.lra_linear.specs.Polyhedra.{Polyhedron}
 use Rattle.lra_sys.specs.Listed.{constraints, generators}
 use Rattle.lra_lin.specs.Form.{form_row}
-use Rattle.lra_poly.proofs.GreatestValues.{maximum_tells, starts_with_point}
+use Rattle.lra_duality.proofs.GreatestValues.{maximum_tells, starts_with_point}
 use Rattle.lra_poly.proofs.poly.Poly.maximise.Goals as goal
 
 pub maximum_of-requires : goal.maximum_of-requires

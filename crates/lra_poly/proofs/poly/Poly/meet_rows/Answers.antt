@@ -4,7 +4,7 @@ use Rattle.lra_linear.specs.Descriptions.{Con, Given, inequality}
 use Rattle.lra_linear.specs.Points.{IsWithin}
 use Rattle.lra_linear.specs.Polyhedra.{Polyhedron, positivity}
 use Rattle.lra_sys.specs.Listed.{constraints}
-use Rattle.lra_poly.proofs.KeptCones.{kept_rows}
+use Rattle.lra_poly.proofs.PolyLemmas.{kept_rows}
 use Rattle.lra_poly.proofs.poly.Poly.meet_rows.Goals as goal
 
 pub returns-in_ok-made-in-Some-clause-within : goal.returns-in_ok-made-in-Some-clause-within

@@ -1,7 +1,7 @@
 -- Goals of `Poly::meets`: whether it is known that each point meets each of the constraints.
 use Rattle.lra_linear.specs.Polyhedra.{Polyhedron}
 use Rattle.lra_sys.specs.Listed.{constraints, generators}
-use Rattle.lra_poly.proofs.InclusionLemmas.{yes_within}
+use Rattle.lra_duality.proofs.InclusionLemmas.{yes_within}
 use Rattle.lra_poly.proofs.poly.Poly.meets.Goals as goal
 
 pub returns-in-Yes-clause-within : goal.returns-in-Yes-clause-within

@@ -1,0 +1,41 @@
+-- Goals of `facet_cone`: the cone of what is valid on the generators, by the constraints; none where there is no
+-- generator, or are as many constraints as a cone may have rays.
+use Rattle.std.proofs.Common.{◌∙◌, List, ap, refl, sym}
+use Rattle.lra_linear.specs.Descriptions.{Given}
+use Rattle.lra_cone.specs.Cones.{Shape, saturation_of as by_rays}
+use Rattle.lra_linear.specs.Kinds.{is_line}
+use Rattle.lra_sys.specs.Listed.{constraints, generators}
+use Rattle.lra_duality.proofs.FacetLemmas.{seen, taken_generators}
+use Rattle.lra_duality.proofs.StartLemmas.{some_given}
+use Rattle.lra_duality.proofs.facets.facet_cone.Goals as goal
+
+pub facets-requires-clause-some : goal.facets-requires-clause-some
+facets-requires-clause-some c =
+    let given = c.args.by_generators.now in
+    some_given is_line given.rows c.rows-columns.result.now given.kinds c.kinds-column_kinds.result.now c.rows-columns.ensures.rows c.kinds-column_kinds.ensures.kinds
+    c.kinds-column_kinds.ensures.len (c.fits.ensures.some c.if-not-fits.false)
+
+pub of_lists-cone-requires-clause-cone : goal.of_lists-cone-requires-clause-cone
+of_lists-cone-requires-clause-cone c =
+    let list = c.args.list.now in
+    let given = c.args.by_generators.now in
+    let rays = c.in_ok-rays.rays.items in
+    seen list.dims (constraints list) (generators given) c.in_ok-taken.taken c.in_ok-lines.lines.items rays rays (c.in_ok-taken.ensures.dims ∙ c.requires.dims)
+    (taken_generators given c.in_ok-taken.taken c.in_ok-taken.ensures.rows c.in_ok-taken.ensures.kinds) c.in_ok-lines.ensures refl c.in_ok-rays.ensures.cone
+
+pub of_lists-cone-requires-clause-saturation : goal.of_lists-cone-requires-clause-saturation
+of_lists-cone-requires-clause-saturation c =
+    let given = c.args.by_generators.now in
+    c.in_ok-rays.ensures.saturation ∙
+    ap (λ (l : List Given). by_rays l c.in_ok-rays.rays.items) (sym (taken_generators given c.in_ok-taken.taken c.in_ok-taken.ensures.rows c.in_ok-taken.ensures.kinds))
+
+pub returns-clause-taken : goal.returns-clause-taken
+returns-clause-taken c =
+    let given = c.args.by_generators.now in
+    ap (λ (s : Shape). s.taken) c.of_lists-cone.ensures ∙ taken_generators given c.in_ok-taken.taken c.in_ok-taken.ensures.rows c.in_ok-taken.ensures.kinds
+
+pub returns-clause-some : goal.returns-clause-some
+returns-clause-some c =
+    let given = c.args.by_generators.now in
+    some_given is_line given.rows c.rows-columns.result.now given.kinds c.kinds-column_kinds.result.now c.rows-columns.ensures.rows c.kinds-column_kinds.ensures.kinds
+    c.kinds-column_kinds.ensures.len (c.fits.ensures.some c.if-not-fits.false)

@@ -1,0 +1,31 @@
+-- Goals of `cone_of`: the cone of the constraints, by these generators; none where there is no generator, or are
+-- more than a cone may have.
+use Rattle.lra_linear.specs.ConeStrain.{row_limit}
+use Rattle.lra_linear.specs.Kinds.{is_line}
+use Rattle.lra_sys.specs.Listed.{constraints, generators}
+use Rattle.lra_duality.proofs.KeptCones.{start_cone}
+use Rattle.lra_duality.proofs.StartLemmas.{few_given, matrix_width, some_given, start_matrix}
+use Rattle.lra_duality.proofs.start.cone_of.Goals as goal
+
+pub ray_saturation-requires : goal.ray_saturation-requires
+ray_saturation-requires c =
+    let list = c.args.by_generators.now in
+    matrix_width is_line (constraints c.args.list.now) list.rows c.rows-columns.result.now list.kinds c.kinds-kinds.result.now c.args.saturation.now c.rows-columns.ensures.rows
+    c.kinds-kinds.ensures.kinds c.kinds-kinds.ensures.len c.requires.saturation
+
+pub of_lists-cone-requires-clause-cone : goal.of_lists-cone-requires-clause-cone
+of_lists-cone-requires-clause-cone c =
+    let list = c.args.by_generators.now in
+    let columns = c.rows-columns.result.now in
+    let kinds = c.kinds-kinds.result.now in
+    start_cone c.args.list.now.dims (constraints c.args.list.now) (generators list) c.in_ok-taken.taken c.in_ok-lines.lines.items c.in_ok-rays.rays.items c.requires.polyhedron
+    (some_given is_line list.rows columns list.kinds kinds c.rows-columns.ensures.rows c.kinds-kinds.ensures.kinds c.kinds-kinds.ensures.len (c.fits.ensures.some c.if-not-fits.false))
+    (few_given is_line list.rows columns list.kinds kinds row_limit c.rows-columns.ensures.rows c.kinds-kinds.ensures.kinds c.kinds-kinds.ensures.len
+    (c.fits.ensures.few c.if-not-fits.false))
+    c.in_ok-taken.ensures.dims c.in_ok-taken.ensures.taken c.in_ok-lines.ensures c.in_ok-rays.ensures
+
+pub of_lists-cone-requires-clause-saturation : goal.of_lists-cone-requires-clause-saturation
+of_lists-cone-requires-clause-saturation c =
+    let list = c.args.by_generators.now in
+    start_matrix c.args.list.now.dims list.dims (constraints c.args.list.now) (generators list) (constraints c.in_ok-taken.taken) c.in_ok-rays.rays.items c.in_ok-matrix.matrix c.requires.dims
+    c.in_ok-taken.ensures.taken c.in_ok-rays.ensures (c.in_ok-matrix.ensures (constraints c.args.list.now) c.requires.saturation)

@@ -1,0 +1,8 @@
+use Rattle.std.proofs.Common.{◌≡◌}
+use Rattle.lra_linear.specs.Descriptions.{rays_of}
+use Rattle.lra_linear.specs.Kinds.{is_line}
+use Rattle.lra_sys.proofs.FirstMembers.{front}
+use Rattle.lra_duality.proofs.start.rays_among.Given as goal
+
+abbrev pub invariant-loop-place : goal.invariant-loop-place
+invariant-loop-place l = l.rays.items ≡ rays_of (front is_line l.rows l.kinds l.place)

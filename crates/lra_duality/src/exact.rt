@@ -1,0 +1,80 @@
+//! Whether a product of rows is 0, also where it passes the range as it is computed.
+
+ghost use Rattle.std.specs.Prelude.{◌≡◌, ◌↔◌, pos, ◌<ℤ◌, ◌≤ℤ◌, ◌^◌, IsTrue, length};
+ghost use Rattle.std.specs.List.{All};
+ghost use Rattle.std.specs.Ordering.{int_eq};
+ghost use Rattle.lra_linear.specs.Range.{InRange};
+ghost use Rattle.lra_linear.specs.Vectors.{product};
+ghost use Rattle.lra_duality.specs.Residues.{IsMultiple, IsResidue};
+
+use lra_row::Row;
+
+// Primes below 2 ^ 63. The size of a product of rows stays below their product.
+const FIRST: i128 = 9_223_372_036_854_775_783;
+
+const SECOND: i128 = 9_223_372_036_854_775_643;
+
+const THIRD: i128 = 9_223_372_036_854_775_549;
+
+const FOURTH: i128 = 9_223_372_036_854_775_507;
+
+const FIFTH: i128 = 9_223_372_036_854_775_433;
+
+// What is left of the product of two rows when it is divided by the modulus.
+fn residue(xs: &[i128], ys: &[i128], modulus: i128) -> i128
+    requires widths { length xs.now ≡ length ys.now }
+    requires positive { pos 0 <ℤ modulus }
+    requires small { modulus <ℤ pos (2 ^ 63) }
+    ensures { IsResidue modulus (product xs.now ys.now) result }
+{
+    let mut sum = 0;
+    for place in 0..xs.len() {
+        let (x, y) = (&xs[place], &ys[place]);
+        let (a, b) = (x.rem_euclid(modulus), y.rem_euclid(modulus));
+        sum = (sum + a * b).rem_euclid(modulus);
+    }
+    sum
+}
+
+// Whether the modulus divides the product of two rows.
+fn divides(modulus: i128, xs: &[i128], ys: &[i128]) -> bool
+    requires widths { length xs.now ≡ length ys.now }
+    requires positive { pos 0 <ℤ modulus }
+    requires small { modulus <ℤ pos (2 ^ 63) }
+    ensures { IsTrue result ↔ IsMultiple modulus (product xs.now ys.now) }
+{
+    residue(xs, ys, modulus) == 0
+}
+
+// Whether the product of two rows is 0: where all the primes divide it, so does their product.
+fn vanishes(xs: &[i128], ys: &[i128]) -> bool
+    requires widths { length xs.now ≡ length ys.now }
+    requires xs_in { All InRange xs.now }
+    requires ys_in { All InRange ys.now }
+    ensures { IsTrue result ↔ (product xs.now ys.now ≡ pos 0) }
+{
+    if !divides(FIRST, xs, ys) {
+        return false;
+    }
+    if !divides(SECOND, xs, ys) {
+        return false;
+    }
+    if !divides(THIRD, xs, ys) {
+        return false;
+    }
+    if !divides(FOURTH, xs, ys) {
+        return false;
+    }
+    divides(FIFTH, xs, ys)
+}
+
+/// Whether the product of the row with the generator is 0.
+pub fn saturates(row: &Row, generator: &Row) -> bool
+    requires { length row.now ≡ length generator.now }
+    ensures { result ≡ int_eq (product row.now generator.now) (pos 0) }
+{
+    match row.dot(generator) {
+        Ok(product) => product == 0,
+        Err(_) => vanishes(row.entries(), generator.entries()),
+    }
+}

@@ -1,0 +1,176 @@
+//! The cone of a polyhedron from its two lists, with no conversion.
+
+ghost use Rattle.std.specs.Prelude.{◌≡◌, ◌∷◌, ◌+◌, ◌<◌, ◌≤◌, suc, pos, length, List, IsTrue, IfOk, IfSome};
+ghost use Rattle.std.specs.Ordering.{int_eq};
+ghost use Rattle.lra_linear.specs.ConeStrain.{row_limit};
+ghost use Rattle.lra_linear.specs.Descriptions.{Given, inequality, lines_of, rays_of};
+ghost use Rattle.lra_linear.specs.Polyhedra.{IsPolyhedron, positivity};
+ghost use Rattle.lra_linear.specs.Vectors.{entry};
+ghost use Rattle.lra_bits.specs.TruthValues.{value_at};
+ghost use Rattle.lra_cone.specs.Cones.{saturation_of as by_rays};
+ghost use Rattle.lra_sys.specs.Dimensions.{too_many_dimensions};
+ghost use Rattle.lra_sys.specs.Listed.{constraints, generators};
+ghost use Rattle.lra_duality.specs.Saturations.{column, saturation_of};
+
+use crate::lists::join_rows;
+use lra_bits::{BitRow, SatMatrix};
+use lra_cone::{Cone, RAY_LIMIT};
+use lra_row::Row;
+use lra_sys::{ConKind, ConSys, GenSys, TOO_MANY_DIMENSIONS, unit};
+use std::alloc::{AllocError, Global};
+
+// The lines among the generators.
+fn lines_among(alloc: Global, list: &GenSys) -> Result<Vec<Row>, AllocError>
+    ensures { IfOk result (λ lines. lines.items ≡ lines_of (generators list.now)) }
+{
+    let (rows, kinds) = (list.rows(), list.kinds());
+    let mut lines = Vec::new(alloc);
+    for place in 0..rows.len() {
+        let row = &rows[place];
+        if kinds[place].goes_both_ways() {
+            lines.push(row.copy()?)?;
+        }
+    }
+    Ok(lines)
+}
+
+// The points and rays among them.
+fn rays_among(alloc: Global, list: &GenSys) -> Result<Vec<Row>, AllocError>
+    ensures { IfOk result (λ rays. rays.items ≡ rays_of (generators list.now)) }
+{
+    let (rows, kinds) = (list.rows(), list.kinds());
+    let mut rays = Vec::new(alloc);
+    for place in 0..rows.len() {
+        let row = &rows[place];
+        if !kinds[place].goes_both_ways() {
+            rays.push(row.copy()?)?;
+        }
+    }
+    Ok(rays)
+}
+
+// At the generator at the place: the value of the positivity row first, then those of the constraints.
+fn value_of(saturation: &SatMatrix, place: usize, first: bool, k: usize) -> bool
+    requires inside { place < saturation.now.width }
+    requires row { k ≤ length saturation.now.rows }
+    ensures { result ≡ value_at (first ∷ column saturation.now place) k }
+{
+    if k == 0 {
+        first
+    } else {
+        saturation.row(k - 1).get(place)
+    }
+}
+
+// All of them.
+fn values_of(
+    alloc: Global,
+    saturation: &SatMatrix,
+    place: usize,
+    first: bool,
+    width: usize,
+) -> Result<BitRow, AllocError>
+    requires inside { place < saturation.now.width }
+    requires width { width ≡ suc (length saturation.now.rows) }
+    ensures { IfOk result (λ bits. bits ≡ first ∷ column saturation.now place) }
+{
+    let mut bits = BitRow::new(alloc, width)?;
+    for k in 0..width {
+        bits.set(k, value_of(saturation, place, first, k));
+    }
+    Ok(bits)
+}
+
+// Whether the positivity row is tight at the generator, as it is at rays and lines.
+fn is_direction(generator: &Row) -> bool
+    requires { 0 < length generator.now }
+    ensures { result ≡ int_eq (entry generator.now 0) (pos 0) }
+{
+    generator.get(0) == 0
+}
+
+// Which of the positivity row and the constraints are tight at which points and rays.
+fn ray_saturation(
+    alloc: Global,
+    list: &GenSys,
+    saturation: &SatMatrix,
+) -> Result<SatMatrix, AllocError>
+    requires { saturation.now.width ≡ length list.now.rows }
+    ensures { IfOk result (λ matrix. (rows : List Given) → saturation.now ≡ saturation_of rows (generators list.now) →
+        matrix ≡ by_rays (inequality (positivity list.now.dims) ∷ rows) (rays_of (generators list.now))) }
+{
+    let Some(width) = saturation.height().checked_add(1) else {
+        return Err(AllocError);
+    };
+    let (rows, kinds) = (list.rows(), list.kinds());
+    let mut matrix = SatMatrix::new(alloc, width);
+    for place in 0..rows.len() {
+        let first = is_direction(&rows[place]);
+        if !kinds[place].goes_both_ways() {
+            matrix.add_row(values_of(alloc, saturation, place, first, width)?)?;
+        }
+    }
+    Ok(matrix)
+}
+
+// The constraints, behind the positivity row.
+fn behind_positivity(alloc: Global, list: &ConSys) -> Result<ConSys, AllocError>
+    requires { list.now.dims < too_many_dimensions }
+    ensures dims { IfOk result (λ taken. taken.dims ≡ list.now.dims) }
+    ensures taken { IfOk result (λ taken. constraints taken ≡
+        inequality (positivity list.now.dims) ∷ constraints list.now) }
+{
+    let n = list.dims();
+    let mut first = ConSys::new(alloc, n);
+    let positivity = unit(alloc, n, 0)?;
+    first.push(positivity, ConKind::Ge)?;
+    join_rows(&first, list)
+}
+
+/// Whether a cone of n dimensions may be made of so many generators.
+pub fn fits(n: usize, count: usize) -> bool
+    ensures small { IsTrue result → n < too_many_dimensions }
+    ensures some { IsTrue result → 0 < count }
+    ensures few { IsTrue result → count ≤ row_limit }
+{
+    n < TOO_MANY_DIMENSIONS && count > 0 && count <= RAY_LIMIT
+}
+
+/// Whether a cone of so many rays may have one more.
+pub fn leaves_room(count: usize) -> bool
+    ensures { IsTrue result → count + 1 ≤ row_limit }
+{
+    count < RAY_LIMIT
+}
+
+/// The cone of the constraints, by these generators; none where there is no generator, or are more than a cone may
+/// have.
+pub fn cone_of(
+    alloc: Global,
+    list: &ConSys,
+    by_generators: &GenSys,
+    saturation: &SatMatrix,
+) -> Result<Option<Cone>, AllocError>
+    requires dims { by_generators.now.dims ≡ list.now.dims }
+    requires polyhedron { IsPolyhedron (record {
+      dims = list.now.dims;
+      rows = constraints list.now;
+      generators = generators by_generators.now;
+    }) }
+    requires saturation { saturation.now ≡ saturation_of (constraints list.now) (generators by_generators.now) }
+    ensures small { IfOk result (λ cone. IfSome cone (λ _. list.now.dims < too_many_dimensions)) }
+    ensures dims { IfOk result (λ cone. IfSome cone (λ c. c.dims ≡ list.now.dims)) }
+    ensures taken { IfOk result (λ cone. IfSome cone (λ c. c.taken ≡
+        inequality (positivity list.now.dims) ∷ constraints list.now)) }
+{
+    let (columns, _kinds) = (by_generators.rows(), by_generators.kinds());
+    if !fits(list.dims(), columns.len()) {
+        return Ok(None);
+    }
+    let taken = behind_positivity(alloc, list)?;
+    let lines = lines_among(alloc, by_generators)?;
+    let rays = rays_among(alloc, by_generators)?;
+    let matrix = ray_saturation(alloc, by_generators, saturation)?;
+    let cone = Cone::of_lists(taken, lines, rays, matrix);
+    Ok(Some(cone))
+}

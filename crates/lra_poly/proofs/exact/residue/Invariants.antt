@@ -1,7 +1,0 @@
-use Rattle.std.proofs.Common.{take}
-use Rattle.lra_linear.specs.Vectors.{product}
-use Rattle.lra_poly.specs.Residues.{IsResidue}
-use Rattle.lra_poly.proofs.exact.residue.Given as goal
-
-abbrev pub invariant-loop-place : goal.invariant-loop-place
-invariant-loop-place l = IsResidue l.fn.modulus (product (take l.place l.xs) (take l.place l.ys)) l.sum

@@ -1,9 +1,0 @@
-use Rattle.std.specs.List.{All}
-use Rattle.lra_linear.specs.Kinds.{is_line}
-use Rattle.lra_sys.specs.Listed.{constraints}
-use Rattle.lra_poly.specs.Inclusions.{MeetsAll}
-use Rattle.lra_sys.proofs.FirstMembers.{front}
-use Rattle.lra_poly.proofs.inclusion.inclusion_of.Given as goal
-
-abbrev pub invariant-loop-place : goal.invariant-loop-place
-invariant-loop-place l = All (MeetsAll (constraints l.list)) (front is_line l.rows l.kinds l.place)

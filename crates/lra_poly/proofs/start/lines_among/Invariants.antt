@@ -1,8 +1,0 @@
-use Rattle.std.proofs.Common.{◌≡◌}
-use Rattle.lra_linear.specs.Descriptions.{lines_of}
-use Rattle.lra_linear.specs.Kinds.{is_line}
-use Rattle.lra_sys.proofs.FirstMembers.{front}
-use Rattle.lra_poly.proofs.start.lines_among.Given as goal
-
-abbrev pub invariant-loop-place : goal.invariant-loop-place
-invariant-loop-place l = l.lines.items ≡ lines_of (front is_line l.rows l.kinds l.place)

@@ -1,8 +1,0 @@
-use Rattle.std.proofs.Common.{◌∷◌}
-use Rattle.lra_bits.specs.TruthValues.{value_at}
-use Rattle.lra_steps.specs.Steps.{IsFilled}
-use Rattle.lra_poly.specs.Saturations.{column}
-use Rattle.lra_poly.proofs.start.values_of.Given as goal
-
-abbrev pub invariant-loop-k : goal.invariant-loop-k
-invariant-loop-k l = IsFilled (value_at (l.first ∷ column l.saturation l.place)) l.fn.width l.k l.bits
