@@ -1,3 +1,4 @@
 -- Worked examples.
 mod NodeViewExamples
 mod DistinctExamples
+pub mod SizeLaws

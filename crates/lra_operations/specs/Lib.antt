@@ -3,3 +3,4 @@ pub mod Graph
 pub mod Inlined
 pub mod Agree
 pub mod GraphViews
+pub mod Sizes

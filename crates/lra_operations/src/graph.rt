@@ -1,10 +1,12 @@
 //! A program with its calls written out, as a tree of operations, and its points. Points are numbered from 0 here.
 
-ghost use Rattle.std.specs.Prelude.{◌≡◌, ◌∷◌, [], IfOk};
+ghost use Rattle.std.specs.Prelude.{◌≡◌, ◌+◌, ◌<◌, ◌∷◌, [], IfOk, IfSome};
+ghost use Rattle.lra_operations.specs.Sizes.{whole_size, hung_size};
 
 use lra_program::{Cond, Expr};
 use std::alloc::{AllocError, Global};
 use std::marker::Model;
+use std::mem;
 
 /// Why a tree is left before its end: by `break`, `continue`, `return`.
 #[derive(Clone, Copy, PartialEq, Eq, Debug)]
@@ -65,17 +67,70 @@ pub enum Node {
 }
 
 impl Drop for Node {
-    fn drop(self) {
+    /// Goes along the tree without a call for each level: what is left hangs in boxes of the tree itself.
+    fn drop(mut self) {
+        let mut rest = Node::Empty;
+        'trees: loop {
+            match self.take_apart(rest) {
+                Some((tree, others)) => {
+                    self = tree;
+                    rest = others;
+                }
+                None => return,
+            }
+        }
+    }
+}
+
+impl Node {
+    /// A tree of those in this one that is next, and what is left: the others hang before the rest, in the box of the
+    /// tree that is next. None where nothing is left.
+    fn take_apart(self, rest: Node) -> Option<(Node, Node)>
+        ensures { IfSome result (λ r. whole_size r.0 + hung_size r.1 < whole_size self + hung_size rest) }
+    {
         match self {
-            Node::Empty => {}
-            Node::Point(_) => {}
-            Node::Act(_, _) => {}
-            Node::Check(_, _, _) => {}
-            Node::Seq(_, _) => {}
-            Node::Choose(_, _, _, _, _) => {}
-            Node::Iterate(_, _, _, _) => {}
-            Node::Catch(_, _, _) => {}
-            Node::Leave(_, _) => {}
+            Node::Seq(trees, last) => {
+                let mut hook = last;
+                let tree = mem::replace(&mut *hook, rest);
+                Some((tree, Node::Seq(trees, hook)))
+            }
+            Node::Choose(point, base, condition, yes, no) => {
+                let mut hook = yes;
+                let tree = mem::replace(&mut *hook, rest);
+                Some((tree, Node::Choose(point, base, condition, hook, no)))
+            }
+            Node::Iterate(_, _, _, body) => Some((Box::into_inner(body), rest)),
+            Node::Catch(_, _, body) => Some((Box::into_inner(body), rest)),
+            Node::Empty => rest.take_next(),
+            Node::Point(_) => rest.take_next(),
+            Node::Act(_, _) => rest.take_next(),
+            Node::Check(_, _, _) => rest.take_next(),
+            Node::Leave(_, _) => rest.take_next(),
+        }
+    }
+
+    /// Of trees that hang before each other the one that is next, and the others.
+    fn take_next(self) -> Option<(Node, Node)>
+        ensures { IfSome result (λ r. whole_size r.0 + hung_size r.1 < 1 + hung_size self) }
+    {
+        match self {
+            Node::Seq(mut trees, rest) => match trees.pop() {
+                Some(tree) => Some((tree, Node::Seq(trees, rest))),
+                None => {
+                    trees.destroy_empty();
+                    Some((Node::Empty, Box::into_inner(rest)))
+                }
+            },
+            Node::Choose(_, _, _, rest, tree) => {
+                Some((Box::into_inner(tree), Box::into_inner(rest)))
+            }
+            Node::Iterate(_, _, _, tree) => Some((Box::into_inner(tree), Node::Empty)),
+            Node::Catch(_, _, tree) => Some((Box::into_inner(tree), Node::Empty)),
+            Node::Empty => None,
+            Node::Point(_) => None,
+            Node::Act(_, _) => None,
+            Node::Check(_, _, _) => None,
+            Node::Leave(_, _) => None,
         }
     }
 }
