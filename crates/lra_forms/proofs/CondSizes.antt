@@ -1,5 +1,5 @@
 -- The size of a condition.
-use Rattle.std.proofs.Common.{ℕ, ◌+◌, List, [], ◌∷◌, map}
+use Rattle.std.proofs.Common.{◌≡◌, ℕ, zero, suc, ◌+◌, ◌<◌, List, [], ◌∷◌, length, map, get_or, ap, arith}
 use Rattle.lra_program.specs.declared.program.Cond.{Cond}
 use Rattle.lra_program.specs.declared.program.Cond.TheFolds.{fold-Cond}
 use Rattle.lra_program.specs.declared.program.Cond.TheOpen.{Cond-F}
@@ -20,3 +20,16 @@ cond_size = fold-Cond ℕ size_step
 
 abbrev pub chain_size : Cond → List Cond → ℕ
 chain_size c cs = 1 + (cond_size c + row_size (map cond_size cs))
+
+-- one of a row is smaller than the row
+row_in : (cs : List Cond) (i : ℕ) (d : Cond) → i < length cs → cond_size (get_or cs i d) < 1 + row_size (map cond_size cs)
+row_in [] i d h = elim h [ ]
+row_in (c ∷ cs) zero d h = omega arith
+row_in (c ∷ cs) (suc i) d h = let inner = row_in cs i d (omega (arith, h)) in omega (arith, inner)
+
+-- one behind the first of a chain is smaller than the chain
+pub size_in : (c : Cond) (cs : List Cond) (i : ℕ) (x : Cond) → i < length cs → x ≡ get_or cs i x → cond_size x < chain_size c cs
+size_in c cs i x h is =
+    let inner = row_in cs i x h in
+    let same = ap cond_size is in
+    omega (arith, inner, same)

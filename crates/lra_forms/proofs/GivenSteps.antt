@@ -1,7 +1,7 @@
 -- Steps of the proofs on given rows.
-use Rattle.std.proofs.Common.{◌≡◌, ℕ, suc, ℤ, pos, negsuc, ◌*ℤ◌, List, [], ◌∷◌, ◌++◌, Option, Some, None, Bool, true, false, length, map, refl, sym, ap, ◌∙◌, append_assoc, append-nil}
+use Rattle.std.proofs.Common.{◌≡◌, ℕ, suc, ℤ, pos, negsuc, ◌*ℤ◌, List, [], ◌∷◌, ◌++◌, Option, Some, None, Bool, true, false, length, map, take, get_or, ◌+◌, ◌<◌, refl, sym, ap, subst, ◌∙◌, append_assoc, append-nil}
 use Rattle.std.specs.Prelude.{◌-ℤ◌, neg_ℤ}
-use Rattle.std.proofs.lemmas.List.{map-append, length-map}
+use Rattle.std.proofs.lemmas.List.{map-append, map_more, length-map}
 use Rattle.lra_flow.proofs.FormLemmas.{fitting_same}
 use Rattle.lra_flow.proofs.Keeping.{some_is}
 use Rattle.lra_lin.specs.Form.{Form, opposite_form}
@@ -12,9 +12,9 @@ use Rattle.lra_linear.specs.declared.ConKind.TheVariants.{Ge, Eq}
 use Rattle.lra_base.specs.declared.operators.Comparison as declared
 use Rattle.lra_base.specs.declared.operators.Comparison.TheVariants.{Below, AtMost, Above, AtLeast, Equal, Differs}
 use Rattle.lra_base.specs.OperatorViews.{comparison_view}
-use Rattle.lra_program.specs.ProgramViews.{all_of, any_of}
+use Rattle.lra_program.specs.declared.program.Cond as declared_cond
+use Rattle.lra_program.specs.ProgramViews.{all_of, any_of, cond_view}
 use Rattle.lra_program.specs.Program.{Cond}
-use Rattle.lra_flow.specs.Linear as linear
 use Rattle.lra_flow.specs.Linear.{fitting, at_least_zero, comparison_test}
 use Rattle.lra_flow.specs.Condition.{push}
 use Rattle.lra_flow.specs.Given.{row_of, test_rows, atom_rows, pushed_rows}
@@ -46,6 +46,27 @@ all_rows live base false c cs = ap (pushed_rows live base) (all_false c cs) ∙ 
 pub any_rows : (live base : ℕ) (wanted : Bool) (c : Cond) (cs : List Cond) → pushed_rows live base (push wanted (any_of c cs)) ≡ pushed_rows live base (in_turn_of wanted c cs)
 any_rows live base true c cs = ap (pushed_rows live base) (any_true c cs) ∙ either_rows live base true c cs
 any_rows live base false c cs = ap (pushed_rows live base) (any_false c cs)
+
+-- one more of a chain adds its rows
+rows_behind : (live base : ℕ) (wanted : Bool) (c : Cond) (cs : List Cond) (d : Cond) →
+    pushed_rows live base (in_turn_of wanted c (cs ++ d ∷ [])) ≡ pushed_rows live base (in_turn_of wanted c cs) ++ pushed_rows live base (push wanted d)
+rows_behind live base wanted c [] d = refl
+rows_behind live base wanted c (e ∷ es) d =
+    ap (λ (rs : List (List ℤ)). pushed_rows live base (push wanted c) ++ rs) (rows_behind live base wanted e es d) ∙
+    sym (append_assoc (pushed_rows live base (push wanted c)) (pushed_rows live base (in_turn_of wanted e es)) (pushed_rows live base (push wanted d)))
+
+pub chain_more : (base : ℕ) (wanted : Bool) (c : Cond) (cs : List declared_cond.Cond) (i : ℕ) (x : declared_cond.Cond) (s t u : Listed ConKind) →
+    i < length cs → x ≡ get_or cs i x → HasMore s t (pushed_rows s.dims base (in_turn_of wanted c (map cond_view (take i cs)))) →
+    HasMore t u (pushed_rows t.dims base (push wanted (cond_view x))) → HasMore s u (pushed_rows s.dims base (in_turn_of wanted c (map cond_view (take (i + 1) cs))))
+chain_more base wanted c cs i x s t u h is before one =
+    let here : map cond_view (take (i + 1) cs) ≡ map cond_view (take i cs) ++ cond_view x ∷ [] =
+    map_more cond_view cs i x h ∙ ap (λ (d : declared_cond.Cond). map cond_view (take i cs) ++ cond_view d ∷ []) (sym is) in
+    let rows : pushed_rows s.dims base (in_turn_of wanted c (map cond_view (take (i + 1) cs))) ≡
+    pushed_rows s.dims base (in_turn_of wanted c (map cond_view (take i cs))) ++ pushed_rows s.dims base (push wanted (cond_view x)) =
+    ap (λ (ds : List Cond). pushed_rows s.dims base (in_turn_of wanted c ds)) here ∙ rows_behind s.dims base wanted c (map cond_view (take i cs)) (cond_view x) in
+    let last : HasMore t u (pushed_rows s.dims base (push wanted (cond_view x))) =
+    subst (λ (n : ℕ). HasMore t u (pushed_rows n base (push wanted (cond_view x)))) before.dims one in
+    subst (HasMore s u) (sym rows) (more_both s t u _ _ before last)
 
 -- a test has as many coefficients as the difference
 from_form_wide : (o : Option Form) (n : ℕ) → ((f : Form) → o ≡ Some f → length f.coefficients ≡ n) → (t : Test) → Some t ≡ at_least_zero o → length t.expr.coefficients ≡ n

@@ -162,10 +162,9 @@ fn give_chain(
         (in_turn_of wanted (cond_view first.now) (map cond_view rest.now)))) }
 {
     give(alloc, base, first, wanted, rows)?;
-    let Some((next, later)) = rest.split_first() else {
-        return Ok(());
-    };
-    give_chain(alloc, base, next, later, wanted, rows)?;
+    'rest: for next in rest {
+        give(alloc, base, next, wanted, rows)?;
+    }
     Ok(())
 }
 
