@@ -1,4 +1,5 @@
 mod CompareSteps
 mod SideSteps
+mod ChainSteps
 mod ChangeSteps
 mod GlobalSteps

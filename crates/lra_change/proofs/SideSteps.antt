@@ -2,7 +2,6 @@
 use Rattle.std.proofs.Common.{rules, Box, Vec, Global, map, ◌≡◌, ℕ, List, ◌∷◌, Bool, true, false, sym, ap, subst, ◌∙◌}
 use Rattle.std.specs.Prelude.{not, IfOk}
 use Rattle.std.specs.Prelude as handed
-use Rattle.std.proofs.lemmas.Result.{IfOk-weaker}
 use Rattle.lra_base.specs.declared.operators.Comparison as declared_comparison
 use Rattle.lra_base.specs.OperatorViews.{comparison_view}
 use Rattle.lra_domain.specs.declared.Exactness.{Exactness}
@@ -58,17 +57,6 @@ module _ {V H E : Type 0} (m : Meaning V H) (base : ℕ) (R : handed.Result Exac
   pub leaves_as : (n : ℕ) (p p' : Pushed) → p' ≡ p → IfOk R (λ e. Pushes m n base p v before w e)
       → IfOk R (λ e. Pushes m n base p' v before w e)
   leaves_as n p p' is h = subst (λ (x : Pushed). IfOk R (λ e. Pushes m n base x v before w e)) (sym is) h
-
-  -- the others of a chain go on from what the first one leaves
-  pub turn_step : (n k : ℕ) (wanted : Bool) (c d : Cond) (ds cs : List Cond) (x : V) (one : Exactness) → cs ≡ d ∷ ds
-      → k ≡ n → Pushes m n base (push wanted c) v before x one
-      → IfOk R (λ e. Pushes m k base (in_turn_of wanted d ds) x one w e)
-      → IfOk R (λ e. Pushes m n base (in_turn_of wanted c cs) v before w e)
-  turn_step n k wanted c d ds cs x one is same first h =
-      subst (λ (ys : List Cond). IfOk R (λ e. Pushes m n base (in_turn_of wanted c ys) v before w e)) (sym is)
-      (IfOk-weaker R (λ e. Pushes m k base (in_turn_of wanted d ds) x one w e)
-      (λ e. Pushes m n base (in_turn_of wanted c (d ∷ ds)) v before w e)
-      (λ e rest. ((x, one), first, subst (λ (l : ℕ). Pushes m l base (in_turn_of wanted d ds) x one w e) same rest)) h)
 
 module _ {V H : Type 0} (m : Meaning V H) (base : ℕ) where
   -- so many variables live
@@ -126,17 +114,3 @@ module _ {V H : Type 0} (m : Meaning V H) (base : ℕ) where
     pushes_at (m.dims one.off.value) (m.dims from.value) (either_of wanted d ds) one.off right first.off_dims rest,
     join.is_joined,
   )
-
-  -- which is what a chain leaves
-  pub either_ends : {E : Type 0} (R : handed.Result Exactness E) (wanted : Bool) (c d : Cond) (ds cs : List Cond)
-      (from : Kept V) (one : Sides V) (right : Kept V) (w : V) → cs ≡ d ∷ ds
-      → Splits m base (push wanted c) (push (not wanted) c) from one
-      → Pushes m (m.dims one.off.value) base (either_of wanted d ds) one.off.value one.off.exactness right.value right.exactness
-      → IfOk R (λ e. AreJoinedTo m one.on right (record { value = w; exactness = e }))
-      → IfOk R (λ e. Pushes m (m.dims from.value) base (either_of wanted c cs) from.value from.exactness w e)
-  either_ends R wanted c d ds cs from one right w is first rest h =
-      subst (λ (ys : List Cond). IfOk R (λ e. Pushes m (m.dims from.value) base (either_of wanted c ys) from.value from.exactness w e))
-      (sym is)
-      (IfOk-weaker R (λ e. AreJoinedTo m one.on right (record { value = w; exactness = e }))
-      (λ e. Pushes m (m.dims from.value) base (either_of wanted c (d ∷ ds)) from.value from.exactness w e)
-      (λ e joined. either_step wanted c d ds from one right (record { value = w; exactness = e }) first rest joined) h)

@@ -1,6 +1,6 @@
 //! What a condition leaves of a value.
 
-ghost use Rattle.std.specs.Prelude.{◌≡◌, ◌<◌, ◌^◌, map, not, IfOk, OnOk};
+ghost use Rattle.std.specs.Prelude.{◌≡◌, ◌<◌, ◌^◌, ◌∷◌, [], map, length, slice_index_or, IfOk, OnOk};
 ghost use Rattle.lra_base.specs.OperatorViews.{comparison_view};
 ghost use Rattle.lra_program.specs.Program as resolved;
 ghost use Rattle.lra_program.specs.Program.{nonzero};
@@ -8,10 +8,10 @@ ghost use Rattle.lra_program.specs.ProgramViews.{all_of, any_of, cond_view, expr
 ghost use Rattle.lra_flow.specs.Condition.{atom, atom_of, push};
 ghost use Rattle.lra_forms.specs.Conditions.{in_turn_of, either_of};
 ghost use Rattle.lra_change.specs.Conditions.{Pushes};
-ghost use Rattle.lra_change.specs.Sides.{Splits, AreJoinedTo};
+ghost use Rattle.lra_change.specs.Sides.{AreJoinedBack, AllKeptHave, IsEitherSoFar};
 
 use crate::comparisons::{Surroundings, leave_comparison};
-use crate::sides::{Kept, Sides, divide, join_kept};
+use crate::sides::{Kept, divide, join_back};
 use lra_base::Comparison;
 use lra_domain::{Domain, Exactness};
 use lra_forms::opposite_of;
@@ -43,34 +43,68 @@ fn leave_nonzero<D: Domain>(
     leave_comparison(around, op, e, &zero, value, before)
 }
 
-/// Both sides of a condition, as `divide` does of a copy of the value.
-fn divide_copy<D: Domain>(
-    around: Surroundings,
-    condition: &Cond,
-    wanted: bool,
+/// A copy of the value, with what led to it.
+fn copy_kept<D: Domain>(
+    alloc: Global,
     value: &D,
-    before: Exactness,
-) -> Result<Sides<D>, AllocError>
-    requires { D.meaning.dims value.now < 2 ^ 62 }
-    ensures { IfOk result (λ s. Splits D.meaning around.base (push wanted (cond_view condition.now))
-        (push (not wanted) (cond_view condition.now)) (record { value = value.now; exactness = before }) s) }
+    exactness: Exactness,
+) -> Result<Kept<D>, AllocError>
+    ensures { IfOk result (λ k. k ≡ record { value = value.now; exactness = exactness }) }
 {
-    let copied = value.copy(around.alloc)?;
-    let from = Kept {
-        value: copied,
-        exactness: before,
-    };
-    divide(around.alloc, around.base, condition, wanted, from)
+    let value = value.copy(alloc)?;
+    Ok(Kept { value, exactness })
 }
 
-/// The value becomes the first joined with the second.
-fn join_into<D: Domain>(value: &mut D, one: Kept<D>, two: Kept<D>) -> Result<Exactness, AllocError>
-    requires { D.meaning.dims one.value ≡ D.meaning.dims two.value }
-    ensures joined { IfOk result (λ e. AreJoinedTo D.meaning one two
-        (record { value = value.new; exactness = e })) }
-    ensures dims { OnOk result (D.meaning.dims value.new ≡ D.meaning.dims one.value) }
+/// A chain whose operands before the last are divided: what each of them left, what is there for the last, and it.
+#[derive(Drop)]
+struct Apart<'a, D> {
+    lefts: Vec<Kept<D>>,
+    off: Kept<D>,
+    last: &'a Cond,
+}
+
+/// What each operand but the last leaves where those before it aren't so.
+fn divide_lefts<'a, D: Domain>(
+    around: Surroundings,
+    first: &'a Cond,
+    rest: &'a [Cond],
+    wanted: bool,
+    from: Kept<D>,
+) -> Result<Apart<'a, D>, AllocError>
+    requires { D.meaning.dims from.value < 2 ^ 62 }
+    ensures apart { IfOk result (λ a. IsEitherSoFar D.meaning around.base wanted (cond_view first.now)
+        (map cond_view rest.now) from a.lefts.items a.off (cond_view a.last.now) []) }
+    ensures last { IfOk result (λ a. a.last.now ≡ slice_index_or (first.now ∷ rest.now) (length rest.now) a.last.now) }
 {
-    let joined = join_kept(one, two)?;
+    let mut lefts = Vec::new(around.alloc);
+    let mut off = from;
+    let mut last = first;
+    'operands: for next in rest {
+        let sides = divide(around.alloc, around.base, last, wanted, off)?;
+        lefts.push(sides.on)?;
+        off = sides.off;
+        last = next;
+    }
+    Ok(Apart { lefts, off, last })
+}
+
+/// The value becomes the lefts joined with the right: each with what those behind it give.
+fn join_lefts<D: Domain>(
+    lefts: Vec<Kept<D>>,
+    right: D,
+    exactness: Exactness,
+    value: &mut D,
+) -> Result<Exactness, AllocError>
+    requires { AllKeptHave D.meaning (D.meaning.dims right) lefts.items }
+    ensures joined { IfOk result (λ e. AreJoinedBack D.meaning lefts.items
+        (record { value = right; exactness = exactness }) (record { value = value.new; exactness = e })) }
+    ensures dims { OnOk result (D.meaning.dims value.new ≡ D.meaning.dims right) }
+{
+    let last = Kept {
+        value: right,
+        exactness,
+    };
+    let joined = join_back(lefts, last)?;
     *value = joined.value;
     Ok(joined.exactness)
 }
@@ -167,11 +201,11 @@ fn leave_in_turn<D: Domain>(
         (in_turn_of wanted (cond_view first.now) (map cond_view rest.now)) value.old before value.new e) }
     ensures dims { OnOk result (D.meaning.dims value.new ≡ D.meaning.dims value.old) }
 {
-    let one = leave(around.alloc, around.base, first, wanted, value, before)?;
-    let Some((next, later)) = rest.split_first() else {
-        return Ok(one);
-    };
-    leave_in_turn(around, next, later, wanted, value, one)
+    let mut exactness = leave(around.alloc, around.base, first, wanted, value, before)?;
+    'rest: for next in rest {
+        exactness = leave(around.alloc, around.base, next, wanted, value, exactness)?;
+    }
+    Ok(exactness)
 }
 
 /// What the first of the conditions leaves, joined with what the others leave where it isn't so.
@@ -189,18 +223,13 @@ fn leave_either<D: Domain>(
         (either_of wanted (cond_view first.now) (map cond_view rest.now)) value.old before value.new e) }
     ensures dims { OnOk result (D.meaning.dims value.new ≡ D.meaning.dims value.old) }
 {
-    let Some((next, later)) = rest.split_first() else {
-        return leave(around.alloc, around.base, first, wanted, value, before);
-    };
-    let sides = divide_copy(around, first, wanted, value, before)?;
-    let left = sides.on;
-    let off = sides.off;
-    let so_far = off.exactness;
-    let mut right = off.value;
-    let two = leave_either(around, next, later, wanted, &mut right, so_far)?;
-    let other = Kept {
-        value: right,
-        exactness: two,
-    };
-    join_into(value, left, other)
+    let from = copy_kept(around.alloc, value, before)?;
+    let apart = divide_lefts(around, first, rest, wanted, from)?;
+    let Apart { lefts, off, last } = apart;
+    let Kept {
+        value: mut right,
+        exactness: so_far,
+    } = off;
+    let exactness = leave(around.alloc, around.base, last, wanted, &mut right, so_far)?;
+    join_lefts(lefts, right, exactness, value)
 }

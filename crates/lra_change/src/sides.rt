@@ -6,7 +6,7 @@ ghost use Rattle.lra_program.specs.Program.{nonzero};
 ghost use Rattle.lra_program.specs.ProgramViews.{expr_view, cond_view};
 ghost use Rattle.lra_flow.specs.Condition.{atom, opposite_comparison, push};
 ghost use Rattle.lra_forms.specs.Conditions.{in_turn_of, either_of};
-ghost use Rattle.lra_change.specs.Sides.{Splits, AreJoinedTo};
+ghost use Rattle.lra_change.specs.Sides.{Splits, AreJoinedTo, AreJoinedBack, AllKeptHave};
 
 use crate::comparisons::{Surroundings, leave_comparison};
 use lra_base::Comparison;
@@ -44,6 +44,41 @@ pub fn join_kept<D: Domain>(one: Kept<D>, two: Kept<D>) -> Result<Kept<D>, Alloc
         value,
         exactness: worse(worse(exactness, two.exactness), joined),
     })
+}
+
+/// Each of these joined with what those behind it give, the last with this one.
+pub fn join_back<D: Domain>(before: Vec<Kept<D>>, last: Kept<D>) -> Result<Kept<D>, AllocError>
+    requires { AllKeptHave D.meaning (D.meaning.dims last.value) before.items }
+    ensures { IfOk result (λ r. AreJoinedBack D.meaning before.items last r) }
+{
+    let mut left = before;
+    let mut joined = last;
+    'joins: while let Some(one) = left.pop() {
+        joined = join_kept(one, joined)?;
+    }
+    Ok(joined)
+}
+
+/// The side where the last operand is false, joined with those before it from the right.
+fn join_off<D: Domain>(before: Vec<Kept<D>>, last: Sides<D>) -> Result<Sides<D>, AllocError>
+    requires { AllKeptHave D.meaning (D.meaning.dims last.off.value) before.items }
+    ensures on { IfOk result (λ s. s.on ≡ last.on) }
+    ensures off { IfOk result (λ s. AreJoinedBack D.meaning before.items last.off s.off) }
+{
+    let Sides { on, off } = last;
+    let joined = join_back(before, off)?;
+    Ok(Sides { on, off: joined })
+}
+
+/// The side where the last operand is true, joined likewise.
+fn join_on<D: Domain>(before: Vec<Kept<D>>, last: Sides<D>) -> Result<Sides<D>, AllocError>
+    requires { AllKeptHave D.meaning (D.meaning.dims last.on.value) before.items }
+    ensures on { IfOk result (λ s. AreJoinedBack D.meaning before.items last.on s.on) }
+    ensures off { IfOk result (λ s. s.off ≡ last.off) }
+{
+    let Sides { on, off } = last;
+    let joined = join_back(before, on)?;
+    Ok(Sides { on: joined, off })
 }
 
 /// Both sides of a comparison.
@@ -133,21 +168,14 @@ fn split_all<D: Domain>(
     ensures { IfOk result (λ s. Splits D.meaning base (in_turn_of true (cond_view first.now) (map cond_view rest.now))
         (either_of false (cond_view first.now) (map cond_view rest.now)) from s) }
 {
-    let one = split(alloc, base, first, from)?;
-    let Some((next, later)) = rest.split_first() else {
-        return Ok(one);
-    };
-    let Sides { on, off } = one;
-    let others = split_all(alloc, base, next, later, on)?;
-    let Sides {
-        on: last,
-        off: more,
-    } = others;
-    let joined = join_kept(off, more)?;
-    Ok(Sides {
-        on: last,
-        off: joined,
-    })
+    let mut sides = split(alloc, base, first, from)?;
+    let mut before = Vec::new(alloc);
+    'rest: for next in rest {
+        let Sides { on, off } = sides;
+        before.push(off)?;
+        sides = split(alloc, base, next, on)?;
+    }
+    join_off(before, sides)
 }
 
 /// Both sides of a chain of `||`.
@@ -163,21 +191,14 @@ fn split_any<D: Domain>(
     ensures { IfOk result (λ s. Splits D.meaning base (either_of true (cond_view first.now) (map cond_view rest.now))
         (in_turn_of false (cond_view first.now) (map cond_view rest.now)) from s) }
 {
-    let one = split(alloc, base, first, from)?;
-    let Some((next, later)) = rest.split_first() else {
-        return Ok(one);
-    };
-    let Sides { on, off } = one;
-    let others = split_any(alloc, base, next, later, off)?;
-    let Sides {
-        on: more,
-        off: last,
-    } = others;
-    let joined = join_kept(on, more)?;
-    Ok(Sides {
-        on: joined,
-        off: last,
-    })
+    let mut sides = split(alloc, base, first, from)?;
+    let mut before = Vec::new(alloc);
+    'rest: for next in rest {
+        let Sides { on, off } = sides;
+        before.push(on)?;
+        sides = split(alloc, base, next, off)?;
+    }
+    join_on(before, sides)
 }
 
 /// The side where the condition is as wanted comes first, as if that were true.

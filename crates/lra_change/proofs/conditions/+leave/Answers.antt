@@ -1,5 +1,5 @@
 -- Goals of the functions that call each other around `leave`: `leave`, `leave_all`, `leave_any`, `leave_in_turn`, `leave_either`.
-use Rattle.std.proofs.Common.{rules, ◌≡◌, ◌∷◌, map, Bool, true, false, sym, ap, ◌∙◌}
+use Rattle.std.proofs.Common.{rules, arith, ◌≤◌, length, map, Bool, true, false, sym, ap, ◌∙◌}
 use Rattle.std.specs.Prelude.{not}
 use Rattle.lra_base.specs.OperatorViews.{comparison_view}
 use Rattle.lra_program.specs.Program.{nonzero}
@@ -7,7 +7,9 @@ use Rattle.lra_program.specs.ProgramViews.{all_of, any_of, cond_view, expr_view}
 use Rattle.lra_flow.specs.Condition.{atom, push}
 use Rattle.lra_forms.specs.Conditions.{in_turn_of, either_of}
 use Rattle.lra_forms.proofs.CondSteps.{all_true, any_false, all_false, any_true}
-use Rattle.lra_change.proofs.SideSteps.{compare_view, nonzero_view, opposite_shown, all_shown, any_shown, leaves_as, turn_step, either_ends}
+use Rattle.lra_change.proofs.SideSteps.{compare_view, nonzero_view, opposite_shown, all_shown, any_shown, leaves_as}
+use Rattle.lra_forms.proofs.CondSizes.{size_in}
+use Rattle.lra_change.proofs.ChainSteps.{turned_on, turned_all, either_all, size_among}
 use Rattle.lra_change.proofs.conditions.+leave.Goals as goal
 
 pub leave-returns-in-Compare-clause-leaves : goal.leave-returns-in-Compare-clause-leaves
@@ -95,21 +97,36 @@ leave_any-returns-else-wanted-clause-leaves g t c =
     (in_turn_of false first rest) (push c.args.wanted (any_of first rest))
     (ap (λ (b : Bool). push b (any_of first rest)) c.if-wanted.false ∙ any_false first rest) c.leave_in_turn.ensures.leaves
 
+pub leave_in_turn-rest-init : goal.leave_in_turn-rest-init
+leave_in_turn-rest-init g t c = record { pushes = c.in_ok-exactness.ensures.leaves; same = c.in_ok-exactness.ensures.dims }
+
+pub leave_in_turn-leave-requires-in-rest : goal.leave_in_turn-leave-requires-in-rest
+leave_in_turn-leave-requires-in-rest g t c κs within =
+    let smaller = size_in c.args.first.now c.args.rest.now c.rest.next-index c.next-item.result c.rest-test.true c.next-item.is in
+    let same = c.rest.invariant.same in
+    (omega (arith, c.decreases, smaller), (search rules, (search rules, omega (arith, same, c.requires))))
+
+pub leave_in_turn-rest-preserved : goal.leave_in_turn-rest-preserved
+leave_in_turn-rest-preserved g t c =
+    turned_on g.D.Domain.meaning c.args.around.base c.args.wanted (cond_view c.args.first.now) c.args.rest.now c.rest.next-index c.next-item.result c.args.value.now c.args.before
+    c.rest.value c.rest.exactness c.leave-in-rest.new.value c.in_ok-exactness-2.exactness c.rest-test.true c.next-item.is c.rest.invariant c.in_ok-exactness-2.ensures.leaves
+    c.in_ok-exactness-2.ensures.dims
+
 pub leave_in_turn-returns-clause-leaves : goal.leave_in_turn-returns-clause-leaves
 leave_in_turn-returns-clause-leaves g t c =
-    let m = g.D.Domain.meaning in
-    let rest : c.args.rest.now ≡ c.in-Some.next.now ∷ c.in-Some.later.now = search rules in
-    turn_step m c.args.around.base c.leave_in_turn.result c.args.value.now c.args.before c.leave_in_turn.new.value
-    (m.dims c.args.value.now) (m.dims c.leave.new.value) c.args.wanted (cond_view c.args.first.now)
-    (cond_view c.in-Some.next.now) (map cond_view c.in-Some.later.now) (map cond_view c.args.rest.now) c.leave.new.value
-    c.in_ok-one.one (ap (map cond_view) rest) c.in_ok-one.ensures.dims c.in_ok-one.ensures.leaves
-    c.leave_in_turn.ensures.leaves
+    let all : length c.args.rest.now ≤ c.rest.next-index = omega (arith, c.rest-test.false) in
+    turned_all g.D.Domain.meaning c.args.around.base c.args.wanted (cond_view c.args.first.now) c.args.rest.now c.rest.next-index c.args.value.now c.args.before c.rest.value
+    c.rest.exactness all c.rest.invariant
+
+pub leave_either-leave-requires : goal.leave_either-leave-requires
+leave_either-leave-requires g t c κs within =
+    let smaller = size_among c.args.first.now c.args.rest.now (length c.args.rest.now) c.in_ok-apart.apart.last.now (omega arith) c.in_ok-apart.ensures.last in
+    let same = c.in_ok-apart.ensures.apart.same in
+    (omega (arith, c.decreases, smaller), (search rules, (search rules, search rules)))
 
 pub leave_either-returns-clause-leaves : goal.leave_either-returns-clause-leaves
 leave_either-returns-clause-leaves g t c =
-    let rest : c.args.rest.now ≡ c.in-Some.next.now ∷ c.in-Some.later.now = search rules in
-    either_ends g.D.Domain.meaning c.args.around.base c.join_into.result c.args.wanted (cond_view c.args.first.now)
-    (cond_view c.in-Some.next.now) (map cond_view c.in-Some.later.now) (map cond_view c.args.rest.now)
-    (record { value = c.args.value.now; exactness = c.args.before }) c.in_ok-sides.sides
-    (record { value = c.leave_either.new.value; exactness = c.in_ok-two.two }) c.join_into.new.value
-    (ap (map cond_view) rest) c.in_ok-sides.ensures c.in_ok-two.ensures.leaves c.join_into.ensures.joined
+    either_all g.D.Domain.meaning c.args.around.base c.join_lefts.result c.args.wanted (cond_view c.args.first.now) (map cond_view c.args.rest.now)
+    (record { value = c.args.value.now; exactness = c.args.before }) c.in_ok-from.from c.in_ok-apart.apart.lefts.items c.in_ok-apart.apart.off (cond_view c.in_ok-apart.apart.last.now)
+    (record { value = c.leave.new.value; exactness = c.in_ok-exactness.exactness }) c.join_lefts.new.value c.in_ok-from.ensures c.in_ok-apart.ensures.apart
+    c.in_ok-exactness.ensures.leaves c.join_lefts.ensures.joined

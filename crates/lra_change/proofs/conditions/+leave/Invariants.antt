@@ -1,4 +1,6 @@
-use Rattle.std.proofs.Common.{◌+◌, ◌*◌}
+use Rattle.std.proofs.Common.{◌+◌, ◌*◌, map, take}
+use Rattle.lra_program.specs.ProgramViews.{cond_view}
+use Rattle.lra_change.proofs.ChainSteps.{IsInTurnSoFar}
 use Rattle.lra_forms.proofs.CondSizes.{cond_size, chain_size}
 use Rattle.lra_change.proofs.conditions.+leave.Given as goal
 
@@ -16,3 +18,6 @@ decreases-leave_in_turn g l = 2 * chain_size l.first.now l.rest.now
 
 abbrev pub decreases-leave_either : goal.decreases-leave_either
 decreases-leave_either g l = 2 * chain_size l.first.now l.rest.now
+
+abbrev pub invariant-leave_in_turn-rest : goal.invariant-leave_in_turn-rest
+invariant-leave_in_turn-rest g l = IsInTurnSoFar g.D.Domain.meaning l.around.base l.wanted (cond_view l.first) (map cond_view (take l.next-index l.rest)) l.fn.value l.fn.before l.value l.exactness

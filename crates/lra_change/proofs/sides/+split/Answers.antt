@@ -1,10 +1,12 @@
 -- Goals of the functions that call each other around `split`: `split`, `split_all`, `split_any`.
-use Rattle.std.proofs.Common.{rules, ◌≡◌, ◌∷◌, map, true, false, ap, ◌∙◌}
+use Rattle.std.proofs.Common.{rules, map, drop, ◌≤◌, length, true, false, ap, ◌∙◌, arith}
 use Rattle.lra_flow.specs.Condition.{push}
 use Rattle.lra_forms.specs.Conditions.{in_turn_of, either_of}
 use Rattle.lra_program.specs.ProgramViews.{cond_view}
 use Rattle.lra_forms.proofs.CondSteps.{all_true, any_false, all_false, any_true}
-use Rattle.lra_change.proofs.SideSteps.{all_shown, any_shown, sides_as, chain_all, chain_any}
+use Rattle.lra_change.proofs.SideSteps.{all_shown, any_shown, sides_as}
+use Rattle.lra_forms.proofs.CondSizes.{size_in}
+use Rattle.lra_change.proofs.ChainSteps.{divided_first, divided_on, all_divided, any_divided, taken_have}
 use Rattle.lra_change.proofs.sides.+split.Goals as goal
 
 pub split-returns-in-All : goal.split-returns-in-All
@@ -27,16 +29,48 @@ split-returns-in-Any g t c =
     (push true (cond_view c.args.condition.now)) (in_turn_of false first rest) (push false (cond_view c.args.condition.now))
     (ap (push true) shown ∙ any_true first rest) (ap (push false) shown ∙ any_false first rest) c.split_any.ensures
 
+pub split_all-rest-init : goal.split_all-rest-init
+split_all-rest-init g t c =
+    divided_first g.D.Domain.meaning c.args.base true (cond_view c.args.first.now) (map cond_view c.args.rest.now) c.args.from c.new-before.result.items c.in_ok-sides.sides.on
+    c.in_ok-sides.sides.off c.new-before.ensures.items c.in_ok-sides.ensures
+
+pub split_all-split-requires-in-rest : goal.split_all-split-requires-in-rest
+split_all-split-requires-in-rest g t c κs within =
+    let smaller = size_in c.args.first.now c.args.rest.now c.rest.next-index c.next-item.result c.rest-test.true c.next-item.is in
+    let same = taken_have g.D.Domain.meaning c.args.base true (cond_view c.args.first.now) (map cond_view c.args.rest.now) c.args.from c.rest.before.items c.rest.sides.on c.rest.sides.off
+    (map cond_view (drop c.rest.next-index c.args.rest.now)) c.rest.invariant in
+    (omega (arith, c.decreases, smaller), (search rules, (search rules, omega (arith, same, c.requires))))
+
+pub split_all-rest-preserved : goal.split_all-rest-preserved
+split_all-rest-preserved g t c =
+    divided_on g.D.Domain.meaning c.args.base true (cond_view c.args.first.now) c.args.rest.now c.rest.next-index c.next-item.result c.args.from c.rest.before.items c.push.new.self.items
+    c.rest.sides.on c.rest.sides.off c.in_ok-sides-2.sides.on c.in_ok-sides-2.sides.off c.rest-test.true c.next-item.is c.in_ok-push.ensures.items c.rest.invariant c.in_ok-sides-2.ensures
+
 pub split_all-returns : goal.split_all-returns
 split_all-returns g t c =
-    let rest : c.args.rest.now ≡ c.in-Some.next.now ∷ c.in-Some.later.now = search rules in
-    rw rest (chain_all g.D.Domain.meaning c.args.base (cond_view c.args.first.now) (cond_view c.in-Some.next.now)
-    (map cond_view c.in-Some.later.now) c.args.from c.in_ok-one.one c.in_ok-others.others c.in_ok-joined.joined
-    c.in_ok-one.ensures c.in_ok-others.ensures c.in_ok-joined.ensures)
+    let all : length c.args.rest.now ≤ c.rest.next-index = omega (arith, c.rest-test.false) in
+    all_divided g.D.Domain.meaning c.args.base c.join_off.result (cond_view c.args.first.now) c.args.rest.now c.rest.next-index c.args.from c.rest.before.items c.rest.sides all
+    c.rest.invariant c.join_off.ensures.on c.join_off.ensures.off
+
+pub split_any-rest-init : goal.split_any-rest-init
+split_any-rest-init g t c =
+    divided_first g.D.Domain.meaning c.args.base false (cond_view c.args.first.now) (map cond_view c.args.rest.now) c.args.from c.new-before.result.items c.in_ok-sides.sides.off
+    c.in_ok-sides.sides.on c.new-before.ensures.items c.in_ok-sides.ensures
+
+pub split_any-split-requires-in-rest : goal.split_any-split-requires-in-rest
+split_any-split-requires-in-rest g t c κs within =
+    let smaller = size_in c.args.first.now c.args.rest.now c.rest.next-index c.next-item.result c.rest-test.true c.next-item.is in
+    let same = taken_have g.D.Domain.meaning c.args.base false (cond_view c.args.first.now) (map cond_view c.args.rest.now) c.args.from c.rest.before.items c.rest.sides.off c.rest.sides.on
+    (map cond_view (drop c.rest.next-index c.args.rest.now)) c.rest.invariant in
+    (omega (arith, c.decreases, smaller), (search rules, (search rules, omega (arith, same, c.requires))))
+
+pub split_any-rest-preserved : goal.split_any-rest-preserved
+split_any-rest-preserved g t c =
+    divided_on g.D.Domain.meaning c.args.base false (cond_view c.args.first.now) c.args.rest.now c.rest.next-index c.next-item.result c.args.from c.rest.before.items c.push.new.self.items
+    c.rest.sides.off c.rest.sides.on c.in_ok-sides-2.sides.off c.in_ok-sides-2.sides.on c.rest-test.true c.next-item.is c.in_ok-push.ensures.items c.rest.invariant c.in_ok-sides-2.ensures
 
 pub split_any-returns : goal.split_any-returns
 split_any-returns g t c =
-    let rest : c.args.rest.now ≡ c.in-Some.next.now ∷ c.in-Some.later.now = search rules in
-    rw rest (chain_any g.D.Domain.meaning c.args.base (cond_view c.args.first.now) (cond_view c.in-Some.next.now)
-    (map cond_view c.in-Some.later.now) c.args.from c.in_ok-one.one c.in_ok-others.others c.in_ok-joined.joined
-    c.in_ok-one.ensures c.in_ok-others.ensures c.in_ok-joined.ensures)
+    let all : length c.args.rest.now ≤ c.rest.next-index = omega (arith, c.rest-test.false) in
+    any_divided g.D.Domain.meaning c.args.base c.join_on.result (cond_view c.args.first.now) c.args.rest.now c.rest.next-index c.args.from c.rest.before.items c.rest.sides all
+    c.rest.invariant c.join_on.ensures.on c.join_on.ensures.off
