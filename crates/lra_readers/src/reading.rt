@@ -1,6 +1,6 @@
 //! Tests of the next token, single tokens, and faults.
 
-ghost use Rattle.std.specs.Prelude.{◌≡◌, ℕ, ◌<◌, ◌≤◌, length, IfOk};
+ghost use Rattle.std.specs.Prelude.{◌≡◌, ℕ, ◌<◌, ◌≤◌, [], ◌∷◌, ◌++◌, length, IfOk};
 ghost use Rattle.lra_readers.specs.Tests.{is_mark, first};
 ghost use Rattle.lra_readers.specs.Reading.{Gives, expect, expect_at, has, next_name, next_number, tail, take_by};
 
@@ -142,4 +142,14 @@ pub fn read_name(alloc: Global, rest: &[Token]) -> Result<(Identifier, &[Token])
         },
         None => stop(Cause::Syntax, rest),
     }
+}
+
+/// Puts what a reader gave in a box behind the others of a list. Not inlined, so that a reader that calls itself holds no
+/// more than the box.
+#[inline(never)]
+pub fn push_boxed<T: Drop>(list: &mut Vec<T>, item: Box<T>) -> Result<(), AllocError>
+    ensures { IfOk result (λ _. list.new.items ≡ list.old.items ++ item.value ∷ []) }
+{
+    list.push(Box::into_inner(item))?;
+    Ok(())
 }
