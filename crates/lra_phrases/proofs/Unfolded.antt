@@ -207,9 +207,8 @@ pub group_gives : (d : ℕ) (T R : Text) (c : CondTree) → false ≡ is_mark ma
     test_at d T ≡ after_group (unary_at d) c R
 group_gives d T R c e o f = test_is d T ∙ rw (sym e, sym o) (rw f refl)
 
-pub value_gives : (d : ℕ) (T R : Text) (x : ExprTree) → false ≡ is_mark mark.Not (first T) → false ≡ is_mark mark.OpenParen (first T) → expr_at d T ≡ Ok (x, R) →
-    test_at d T ≡ compared (unary_at d) x R
-value_gives d T R x e o f = test_is d T ∙ rw (sym e, sym o) (rw f refl)
+pub value_gives : (d : ℕ) (T : Text) → false ≡ is_mark mark.Not (first T) → false ≡ is_mark mark.OpenParen (first T) → test_at d T ≡ seq (expr_at d) (compared (unary_at d)) T
+value_gives d T e o = test_is d T ∙ rw (sym e, sym o) refl
 
 pub opposed_exit : (d : ℕ) (T : Text) (s : Stopped) → true ≡ is_mark mark.Not (first T) → GivesErr s (opposed_at d T) → GivesErr s (test_at d T)
 opposed_exit d T stopped.Memory e g = tt
@@ -218,10 +217,6 @@ opposed_exit d T (stopped.Fault f) e g = test_is d T ∙ rw (sym e) (rw g refl)
 pub closed_exit : (d : ℕ) (T : Text) (s : Stopped) → false ≡ is_mark mark.Not (first T) → true ≡ is_mark mark.OpenParen (first T) → GivesErr s (closed_at d T) → GivesErr s (test_at d T)
 closed_exit d T stopped.Memory e o g = tt
 closed_exit d T (stopped.Fault f) e o g = test_is d T ∙ rw (sym e, sym o) (rw g refl)
-
-pub value_exit : (d : ℕ) (T : Text) (s : Stopped) → false ≡ is_mark mark.Not (first T) → false ≡ is_mark mark.OpenParen (first T) → GivesErr s (expr_at d T) → GivesErr s (test_at d T)
-value_exit d T stopped.Memory e o g = tt
-value_exit d T (stopped.Fault f) e o g = test_is d T ∙ rw (sym e, sym o) (rw g refl)
 
 pub again_exit : (d : ℕ) (T : Text) (s : Stopped) → true ≡ is_mark mark.Not (first T) → GivesErr s (opposed_at d T) → GivesErr s (negation_at d T)
 again_exit d T stopped.Memory e g = tt

@@ -1,19 +1,21 @@
 //! Conditions. A function reads where `depth` levels of nesting are left.
+//! What is read behind a parenthesis stands in boxes, so that a level takes little of the stack.
 
 ghost use Rattle.std.specs.Prelude.{◌≡◌, ◌≤◌, length, map, IfOk, MatchResult};
-ghost use Rattle.lra_tree.specs.Trees.{test, conjunction, opposite_again};
+ghost use Rattle.lra_tree.specs.Trees.{test, conjunction, group_of, opposite, opposite_again};
 ghost use Rattle.lra_tree.specs.Views.{all_tests, any_conjunction, expr_view, test_view, negation_view};
 ghost use Rattle.lra_tree.specs.Views.{conjunction_view, cond_view};
 ghost use Rattle.lra_readers.specs.Tests.{first};
-ghost use Rattle.lra_readers.specs.Reading.{Gives};
-ghost use Rattle.lra_readers.specs.Expressions.{next_comparison, unary_at, compared, alone, after_group, opposed_at};
+ghost use Rattle.lra_readers.specs.Reading.{Gives, seq};
+ghost use Rattle.lra_readers.specs.Expressions.{next_comparison, unary_at, expr_at, compared, alone};
+ghost use Rattle.lra_readers.specs.Expressions.{after_group, opposed_at};
 ghost use Rattle.lra_readers.specs.Expressions.{closed_at, test_at, negation_at, negation_of, conjunction_at, cond_at};
 
 use crate::expressions::{read_expr, read_factors, read_summands, read_unary};
 use lra_base::{Cause, Comparison};
-use lra_readers::{Stopped, expect, next_is, stop, tail};
+use lra_readers::{Stopped, expect, next_is, push_boxed, stop, tail};
 use lra_tree::{Cond, Conjunction, Expr, Mark, Negation, Test, Token, Unary};
-use std::alloc::Global;
+use std::alloc::{AllocError, Global};
 
 /// The comparison that the next token is.
 fn next_comparison(rest: &[Token]) -> Option<Comparison>
@@ -72,39 +74,103 @@ fn read_compared(
     left: Expr,
     rest: &[Token],
     depth: usize,
-) -> Result<(Test, &[Token]), Stopped>
+) -> Result<(Box<Test>, &[Token]), Stopped>
     ensures shorter { IfOk result (λ r. length r.1.now ≤ length rest.now) }
-    ensures gives { Gives (λ r. (test_view r.0, r.1.now)) result (compared (unary_at depth) (expr_view left) rest.now) }
+    ensures gives { Gives (λ r. (test_view r.0.value, r.1.now)) result
+        (compared (unary_at depth) (expr_view left) rest.now) }
 {
     match next_comparison(rest) {
         Some(comparison) => {
             let (right, after) = read_expr(alloc, tail(rest), depth)?;
-            Ok((Test::Compare(left, comparison, right), after))
+            let test = Box::new(alloc, Test::Compare(left, comparison, right))?;
+            Ok((test, after))
         }
-        None => Ok((Test::Value(left), rest)),
+        None => {
+            let test = Box::new(alloc, Test::Value(left))?;
+            Ok((test, rest))
+        }
     }
 }
 
+/// The test that is a condition in parentheses.
+fn box_group(alloc: Global, cond: Cond) -> Result<Box<Test>, AllocError>
+    ensures { IfOk result (λ test. test_view test.value ≡ group_of (cond_view cond)) }
+{
+    let group = Test::Group(Box::new(alloc, cond)?);
+    Ok(Box::new(alloc, group)?)
+}
+
 /// The test that begins with a condition in parentheses: an expression goes on if the condition is one.
+#[inline(never)]
 fn read_after_group(
     alloc: Global,
-    cond: Cond,
+    cond: Box<Cond>,
     rest: &[Token],
     depth: usize,
-) -> Result<(Test, &[Token]), Stopped>
+) -> Result<(Box<Test>, &[Token]), Stopped>
     ensures shorter { IfOk result (λ r. length r.1.now ≤ length rest.now) }
-    ensures gives { Gives (λ r. (test_view r.0, r.1.now)) result
-        (after_group (unary_at depth) (cond_view cond) rest.now) }
+    ensures gives { Gives (λ r. (test_view r.0.value, r.1.now)) result
+        (after_group (unary_at depth) (cond_view cond.value) rest.now) }
 {
-    match take_value(cond) {
+    match take_value(Box::into_inner(cond)) {
         Ok(expr) => {
             let unary = Unary::Group(Box::new(alloc, expr)?);
             let (term, factors) = read_factors(alloc, unary, rest, depth)?;
             let (expr, summands) = read_summands(alloc, term, factors, depth)?;
             read_compared(alloc, expr, summands, depth)
         }
-        Err(cond) => Ok((Test::Group(Box::new(alloc, cond)?), rest)),
+        Err(cond) => {
+            let test = box_group(alloc, cond)?;
+            Ok((test, rest))
+        }
     }
+}
+
+/// The test that begins with an expression outside parentheses.
+#[inline(never)]
+fn read_value(alloc: Global, rest: &[Token], depth: usize) -> Result<(Box<Test>, &[Token]), Stopped>
+    ensures shorter { IfOk result (λ r. length r.1.now ≤ length rest.now) }
+    ensures gives { Gives (λ r. (test_view r.0.value, r.1.now)) result
+        (seq (expr_at depth) (compared (unary_at depth)) rest.now) }
+{
+    let (expr, after) = read_expr(alloc, rest, depth)?;
+    read_compared(alloc, expr, after, depth)
+}
+
+/// The test that is what `!` stands before, turned round.
+#[inline(never)]
+fn oppose(alloc: Global, negation: Negation) -> Result<Box<Test>, AllocError>
+    ensures { IfOk result (λ test. test_view test.value ≡ opposite (negation_view negation)) }
+{
+    Ok(Box::new(alloc, Test::Opposite(negation))?)
+}
+
+/// The conjunction of these tests.
+#[inline(never)]
+fn build_conjunction(
+    alloc: Global,
+    first: Box<Test>,
+    rest: Vec<Test>,
+) -> Result<Box<Conjunction>, AllocError>
+    ensures { IfOk result (λ conjunction. conjunction_view conjunction.value ≡
+        all_tests (test (test_view first.value)) (map test_view rest.items)) }
+{
+    let first = Box::into_inner(first);
+    Ok(Box::new(alloc, Conjunction { first, rest })?)
+}
+
+/// The condition of these conjunctions.
+#[inline(never)]
+fn build_disjunction(
+    alloc: Global,
+    first: Box<Conjunction>,
+    rest: Vec<Conjunction>,
+) -> Result<Box<Cond>, AllocError>
+    ensures { IfOk result (λ cond. cond_view cond.value ≡
+        any_conjunction (conjunction (conjunction_view first.value)) (map conjunction_view rest.items)) }
+{
+    let first = Box::into_inner(first);
+    Ok(Box::new(alloc, Cond { first, rest })?)
 }
 
 /// What `!` stands before, if it is another `!`, and the text behind it.
@@ -120,11 +186,16 @@ fn oppose_again(
 }
 
 /// What `!` stands before, if it is a condition in parentheses, and the text behind them.
-fn oppose_group(alloc: Global, cond: Cond, rest: &[Token]) -> Result<(Negation, &[Token]), Stopped>
-    ensures { MatchResult result (λ r. (negation_view r.0 ≡ negation_of (cond_view cond)) × (r.1.now ≡ rest.now))
+#[inline(never)]
+fn oppose_group(
+    alloc: Global,
+    cond: Box<Cond>,
+    rest: &[Token],
+) -> Result<(Negation, &[Token]), Stopped>
+    ensures { MatchResult result (λ r. (negation_view r.0 ≡ negation_of (cond_view cond.value)) × (r.1.now ≡ rest.now))
         (λ e. e ≡ Stopped.Memory) }
 {
-    match take_value(cond) {
+    match take_value(Box::into_inner(cond)) {
         Ok(expr) => {
             let grouped = Unary::Group(Box::new(alloc, expr)?);
             Ok((Negation::Operand(grouped), rest))
@@ -152,15 +223,19 @@ fn read_opposed(
 
 /// A condition in parentheses that open a level.
 #[cycle(condition)]
-fn read_closed(alloc: Global, rest: &[Token], depth: usize) -> Result<(Cond, &[Token]), Stopped>
+fn read_closed(
+    alloc: Global,
+    rest: &[Token],
+    depth: usize,
+) -> Result<(Box<Cond>, &[Token]), Stopped>
     ensures shorter { IfOk result (λ r. length r.1.now ≤ length rest.now) }
-    ensures gives { Gives (λ r. (cond_view r.0, r.1.now)) result (closed_at depth rest.now) }
+    ensures gives { Gives (λ r. (cond_view r.0.value, r.1.now)) result (closed_at depth rest.now) }
 {
     if depth == 0 {
         return stop(Cause::TooDeep, rest);
     }
     let opened = expect(rest, Mark::OpenParen)?;
-    let (cond, after) = read_cond(alloc, opened, depth - 1)?;
+    let (cond, after) = read_disjunction(alloc, opened, depth - 1)?;
     let closed = expect(after, Mark::CloseParen)?;
     Ok((cond, closed))
 }
@@ -187,20 +262,20 @@ fn read_negation(
 }
 
 #[cycle(condition)]
-fn read_test(alloc: Global, rest: &[Token], depth: usize) -> Result<(Test, &[Token]), Stopped>
+fn read_test(alloc: Global, rest: &[Token], depth: usize) -> Result<(Box<Test>, &[Token]), Stopped>
     ensures shorter { IfOk result (λ r. length r.1.now ≤ length rest.now) }
-    ensures gives { Gives (λ r. (test_view r.0, r.1.now)) result (test_at depth rest.now) }
+    ensures gives { Gives (λ r. (test_view r.0.value, r.1.now)) result (test_at depth rest.now) }
 {
     if next_is(rest, Mark::Not) {
         let (negation, after) = read_opposed(alloc, rest, depth)?;
-        return Ok((Test::Opposite(negation), after));
+        let test = oppose(alloc, negation)?;
+        return Ok((test, after));
     }
     if next_is(rest, Mark::OpenParen) {
         let (cond, after) = read_closed(alloc, rest, depth)?;
         return read_after_group(alloc, cond, after, depth);
     }
-    let (expr, after) = read_expr(alloc, rest, depth)?;
-    read_compared(alloc, expr, after, depth)
+    read_value(alloc, rest, depth)
 }
 
 #[cycle(condition)]
@@ -208,38 +283,46 @@ fn read_conjunction(
     alloc: Global,
     rest: &[Token],
     depth: usize,
-) -> Result<(Conjunction, &[Token]), Stopped>
+) -> Result<(Box<Conjunction>, &[Token]), Stopped>
     ensures shorter { IfOk result (λ r. length r.1.now ≤ length rest.now) }
-    ensures gives { Gives (λ r. (conjunction_view r.0, r.1.now)) result (conjunction_at depth rest.now) }
+    ensures gives { Gives (λ r. (conjunction_view r.0.value, r.1.now)) result (conjunction_at depth rest.now) }
 {
     let (first, mut left) = read_test(alloc, rest, depth)?;
     let mut tests = Vec::new(alloc);
     'tests: while next_is(left, Mark::And) {
         let (test, after) = read_test(alloc, tail(left), depth)?;
-        tests.push(test)?;
+        push_boxed(&mut tests, test)?;
         left = after;
     }
-    Ok((Conjunction { first, rest: tests }, left))
+    let conjunction = build_conjunction(alloc, first, tests)?;
+    Ok((conjunction, left))
 }
 
-/// A condition.
 #[cycle(condition)]
-pub fn read_cond(alloc: Global, rest: &[Token], depth: usize) -> Result<(Cond, &[Token]), Stopped>
+fn read_disjunction(
+    alloc: Global,
+    rest: &[Token],
+    depth: usize,
+) -> Result<(Box<Cond>, &[Token]), Stopped>
     ensures shorter { IfOk result (λ r. length r.1.now ≤ length rest.now) }
-    ensures gives { Gives (λ r. (cond_view r.0, r.1.now)) result (cond_at depth rest.now) }
+    ensures gives { Gives (λ r. (cond_view r.0.value, r.1.now)) result (cond_at depth rest.now) }
 {
     let (first, mut left) = read_conjunction(alloc, rest, depth)?;
     let mut conjunctions = Vec::new(alloc);
     'conjunctions: while next_is(left, Mark::Or) {
         let (conjunction, after) = read_conjunction(alloc, tail(left), depth)?;
-        conjunctions.push(conjunction)?;
+        push_boxed(&mut conjunctions, conjunction)?;
         left = after;
     }
-    Ok((
-        Cond {
-            first,
-            rest: conjunctions,
-        },
-        left,
-    ))
+    let cond = build_disjunction(alloc, first, conjunctions)?;
+    Ok((cond, left))
+}
+
+/// A condition.
+pub fn read_cond(alloc: Global, rest: &[Token], depth: usize) -> Result<(Cond, &[Token]), Stopped>
+    ensures shorter { IfOk result (λ r. length r.1.now ≤ length rest.now) }
+    ensures gives { Gives (λ r. (cond_view r.0, r.1.now)) result (cond_at depth rest.now) }
+{
+    let (cond, after) = read_disjunction(alloc, rest, depth)?;
+    Ok((Box::into_inner(cond), after))
 }

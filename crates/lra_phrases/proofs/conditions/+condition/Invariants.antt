@@ -5,8 +5,8 @@ use Rattle.lra_readers.specs.Reading.{loop, has, chain_step}
 use Rattle.lra_readers.specs.Expressions.{next_and, next_or, test_at, conjunction_at, cond_at}
 use Rattle.lra_phrases.proofs.conditions.+condition.Given as goal
 
-abbrev pub decreases-read_cond : goal.decreases-read_cond
-decreases-read_cond l = 4 * l.depth + 3
+abbrev pub decreases-read_disjunction : goal.decreases-read_disjunction
+decreases-read_disjunction l = 4 * l.depth + 3
 
 abbrev pub decreases-read_conjunction : goal.decreases-read_conjunction
 decreases-read_conjunction l = 4 * l.depth + 2
@@ -27,21 +27,21 @@ abbrev pub invariant-read_conjunction-tests : goal.invariant-read_conjunction-te
 invariant-read_conjunction-tests l = record {
   room : length l.left ≤ length l.fn.rest;
   same : (n : ℕ) × (length l.left ≤ n)
-      × (loop (λ o. has (next_and o)) (chain_step next_and (λ c k t. and c t) (test_at l.fn.depth)) n (all_tests (test (test_view l.first)) (map test_view l.tests.items)) l.left
+      × (loop (λ o. has (next_and o)) (chain_step next_and (λ c k t. and c t) (test_at l.fn.depth)) n (all_tests (test (test_view l.first.value)) (map test_view l.tests.items)) l.left
       ≡ conjunction_at l.fn.depth l.fn.rest);
 }
 
 abbrev pub decreases-read_conjunction-tests : goal.decreases-read_conjunction-tests
 decreases-read_conjunction-tests l = length l.left
 
-abbrev pub invariant-read_cond-conjunctions : goal.invariant-read_cond-conjunctions
-invariant-read_cond-conjunctions l = record {
+abbrev pub invariant-read_disjunction-conjunctions : goal.invariant-read_disjunction-conjunctions
+invariant-read_disjunction-conjunctions l = record {
   room : length l.left ≤ length l.fn.rest;
   same : (n : ℕ) × (length l.left ≤ n)
       × (loop (λ o. has (next_or o)) (chain_step next_or (λ c k d. or c d) (conjunction_at l.fn.depth)) n
-      (any_conjunction (conjunction (conjunction_view l.first)) (map conjunction_view l.conjunctions.items)) l.left
+      (any_conjunction (conjunction (conjunction_view l.first.value)) (map conjunction_view l.conjunctions.items)) l.left
       ≡ cond_at l.fn.depth l.fn.rest);
 }
 
-abbrev pub decreases-read_cond-conjunctions : goal.decreases-read_cond-conjunctions
-decreases-read_cond-conjunctions l = length l.left
+abbrev pub decreases-read_disjunction-conjunctions : goal.decreases-read_disjunction-conjunctions
+decreases-read_disjunction-conjunctions l = length l.left
