@@ -27,12 +27,12 @@ branches_of (head.For at h) = 1
 
 abbrev pub branches_left : Begun → ℕ
 branches_left (begun.Whole s) = 0
-branches_left (begun.UpToBranch h) = branches_of h
+branches_left (begun.UpToBranch h) = branches_of h.value
 
 -- behind what is begun
 abbrev pub rest_of : Parse StmtTree → Begun → Parse StmtTree
-rest_of branch (begun.Whole s) = done_with (stmt_view s)
-rest_of branch (begun.UpToBranch h) = seq branch (behind_branch branch h)
+rest_of branch (begun.Whole s) = done_with (stmt_view s.value)
+rest_of branch (begun.UpToBranch h) = seq branch (behind_branch branch h.value)
 
 -- what a function returned goes on, by rest, to what reading gives, unless memory ran out
 abbrev pub GoesOn : {X Y : Type 0} → (X → Read Y) → Result X Stopped → Read Y → Type 0

@@ -2,7 +2,7 @@
 
 ghost use Rattle.std.specs.Prelude.{ℕ, ◌≡◌, ◌<◌, ◌≤◌, length, IfOk};
 ghost use Rattle.lra_tree.specs.Views.{cond_view, stmt_view};
-ghost use Rattle.lra_readers.specs.Reading.{Gives};
+ghost use Rattle.lra_readers.specs.Reading.{Gives, done_with, seq};
 ghost use Rattle.lra_readers.specs.Expressions.{in_parens, cond_at};
 ghost use Rattle.lra_readers.specs.Statements.{read_if, read_while, read_for, branch_at};
 ghost use Rattle.lra_parse.specs.Begun.{GoesOn, behind_branch, branches_left, branches_of, rest_of};
@@ -34,45 +34,77 @@ impl Drop for Head {
     }
 }
 
-/// A statement as far as it is read.
+/// A statement as far as it is read. In boxes, so that a level of nesting takes little of the stack.
 #[derive(Drop)]
 pub enum Begun {
-    Whole(Stmt),
-    UpToBranch(Head),
+    Whole(Box<Stmt>),
+    UpToBranch(Box<Head>),
+}
+
+/// What is begun with this statement.
+#[inline(never)]
+pub fn begin_whole(alloc: Global, stmt: Stmt) -> Result<Begun, AllocError>
+    ensures left { IfOk result (λ begun. branches_left begun ≡ 0) }
+    ensures rest { (depth : ℕ) → IfOk result (λ begun.
+        rest_of (branch_at depth) begun ≡ done_with (stmt_view stmt)) }
+{
+    Ok(Begun::Whole(Box::new(alloc, stmt)?))
+}
+
+/// What is begun with this head.
+fn begin_head(alloc: Global, head: Head) -> Result<Begun, AllocError>
+    ensures left { IfOk result (λ begun. branches_left begun ≡ branches_of head) }
+    ensures rest { (depth : ℕ) → IfOk result (λ begun.
+        rest_of (branch_at depth) begun ≡ seq (branch_at depth) (behind_branch (branch_at depth) head)) }
+{
+    Ok(Begun::UpToBranch(Box::new(alloc, head)?))
 }
 
 impl Head {
     /// What is begun with this head and the branch, and what comes behind: behind the `else` too, if the branch is the
     /// first of two.
-    pub fn add(
+    fn add(
         self,
         alloc: Global,
-        branch: Stmt,
+        branch: Box<Stmt>,
         rest: &[Token],
     ) -> Result<(Begun, &[Token]), AllocError>
         ensures shorter { IfOk result (λ r. length r.1.now ≤ length rest.now) }
         ensures fewer { IfOk result (λ r. branches_left r.0 < branches_of self) }
-        ensures gives { (depth : ℕ) → IfOk result (λ r.
-            behind_branch (branch_at depth) self (stmt_view branch) rest.now ≡ rest_of (branch_at depth) r.0 r.1.now) }
+        ensures gives { (depth : ℕ) → IfOk result (λ r. behind_branch (branch_at depth) self
+            (stmt_view branch.value) rest.now ≡ rest_of (branch_at depth) r.0 r.1.now) }
     {
-        let branch = Box::new(alloc, branch)?;
-        match self {
+        let stmt = match self {
             Head::If(place, cond) => {
                 if next_is(rest, Mark::Else) {
-                    return Ok((
-                        Begun::UpToBranch(Head::Else(place, cond, branch)),
-                        tail(rest),
-                    ));
+                    let begun = begin_head(alloc, Head::Else(place, cond, branch))?;
+                    return Ok((begun, tail(rest)));
                 }
-                Ok((Begun::Whole(Stmt::If(place, cond, branch)), rest))
+                Stmt::If(place, cond, branch)
             }
-            Head::Else(place, cond, first) => {
-                Ok((Begun::Whole(Stmt::IfElse(place, cond, first, branch)), rest))
-            }
-            Head::While(place, cond) => Ok((Begun::Whole(Stmt::While(place, cond, branch)), rest)),
-            Head::For(place, head) => Ok((Begun::Whole(head.into_stmt(place, branch)), rest)),
-        }
+            Head::Else(place, cond, first) => Stmt::IfElse(place, cond, first, branch),
+            Head::While(place, cond) => Stmt::While(place, cond, branch),
+            Head::For(place, head) => head.into_stmt(place, branch),
+        };
+        let begun = begin_whole(alloc, stmt)?;
+        Ok((begun, rest))
     }
+}
+
+/// What is begun with a head in its box and the branch.
+#[inline(never)]
+pub fn add_branch(
+    alloc: Global,
+    head: Box<Head>,
+    branch: Box<Stmt>,
+    rest: &[Token],
+) -> Result<(Begun, &[Token]), AllocError>
+    ensures shorter { IfOk result (λ r. length r.1.now ≤ length rest.now) }
+    ensures fewer { IfOk result (λ r. branches_left r.0 < branches_of head.value) }
+    ensures gives { (depth : ℕ) → IfOk result (λ r. behind_branch (branch_at depth) head.value
+        (stmt_view branch.value) rest.now ≡ rest_of (branch_at depth) r.0 r.1.now) }
+{
+    Box::into_inner(head).add(alloc, branch, rest)
 }
 
 /// A condition in parentheses that open no level.
@@ -94,7 +126,8 @@ pub fn begin_if(alloc: Global, rest: &[Token], depth: usize) -> Result<(Begun, &
 {
     let (place, word) = expect_at(rest, Mark::If)?;
     let (cond, closed) = read_parens(alloc, word, depth)?;
-    Ok((Begun::UpToBranch(Head::If(place, cond)), closed))
+    let begun = begin_head(alloc, Head::If(place, cond))?;
+    Ok((begun, closed))
 }
 
 /// A `while`, up to its branch.
@@ -109,7 +142,8 @@ pub fn begin_while(
 {
     let (place, word) = expect_at(rest, Mark::While)?;
     let (cond, closed) = read_parens(alloc, word, depth)?;
-    Ok((Begun::UpToBranch(Head::While(place, cond)), closed))
+    let begun = begin_head(alloc, Head::While(place, cond))?;
+    Ok((begun, closed))
 }
 
 /// A `for`, up to its branch.
@@ -120,5 +154,6 @@ pub fn begin_for(alloc: Global, rest: &[Token], depth: usize) -> Result<(Begun, 
 {
     let (place, word) = expect_at(rest, Mark::For)?;
     let (head, closed) = read_for_head(alloc, word, depth)?;
-    Ok((Begun::UpToBranch(Head::For(place, head)), closed))
+    let begun = begin_head(alloc, Head::For(place, head))?;
+    Ok((begun, closed))
 }

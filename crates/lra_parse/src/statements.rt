@@ -7,17 +7,19 @@ ghost use Rattle.lra_tree.specs.declared.tokens.Mark.TheVariants.{Assert, Assume
 ghost use Rattle.lra_readers.specs.Tests.{first, is_mark};
 ghost use Rattle.lra_readers.specs.Reading.{Gives, expect_at, map_read, has};
 ghost use Rattle.lra_readers.specs.Statements.{stmt_mark, begins_stmt, begins_item, read_nothing, named_rest};
-ghost use Rattle.lra_readers.specs.Statements.{read_assigned, read_check};
+ghost use Rattle.lra_readers.specs.Statements.{read_assigned, read_check, block_from, declaration_at, declared, stated};
 ghost use Rattle.lra_readers.specs.Statements.{simple_at, branch_at, block_at, item_at, items_at, body_of, put};
 ghost use Rattle.lra_parse.specs.Begun.{GoesOn, rest_of};
 
-use crate::heads::{Begun, begin_for, begin_if, begin_while, read_parens};
+use crate::heads::{Begun, add_branch, begin_for, begin_if, begin_while, begin_whole, read_parens};
 use crate::loops::{begins_jump, begins_loop, read_break, read_continue, read_return};
 use lra_base::Cause;
 use lra_phrases::{next_step, read_assign, read_assign_rest, read_call, read_declaration};
-use lra_readers::{Stopped, expect, expect_at, next_is, next_is_name, read_name, stop, tail};
+use lra_readers::{
+    Stopped, expect, expect_at, next_is, next_is_name, push_boxed, read_name, stop, tail,
+};
 use lra_tree::{Block, BlockItem, Identifier, Mark, Stmt, Token};
-use std::alloc::Global;
+use std::alloc::{AllocError, Global};
 
 // Whether the next token is a mark that begins a statement which is no block, no assignment and no call.
 fn begins_simple(rest: &[Token]) -> bool
@@ -162,6 +164,7 @@ fn read_leaf(alloc: Global, rest: &[Token], depth: usize) -> Result<(Stmt, &[Tok
 }
 
 /// A statement that is no block: whole, or up to its branch.
+#[inline(never)]
 fn begin_simple(alloc: Global, rest: &[Token], depth: usize) -> Result<(Begun, &[Token]), Stopped>
     ensures shorter { IfOk result (λ r. length r.1.now < length rest.now) }
     ensures gives { GoesOn (λ r. rest_of (branch_at depth) r.0 r.1.now) result (simple_at depth rest.now) }
@@ -176,7 +179,8 @@ fn begin_simple(alloc: Global, rest: &[Token], depth: usize) -> Result<(Begun, &
         return begin_for(alloc, rest, depth);
     }
     let (stmt, after) = read_leaf(alloc, rest, depth)?;
-    Ok((Begun::Whole(stmt), after))
+    let begun = begin_whole(alloc, stmt)?;
+    Ok((begun, after))
 }
 
 /// The block of these items, whose brace comes next.
@@ -189,12 +193,49 @@ fn read_close(items: Vec<BlockItem>, rest: &[Token]) -> Result<(Block, &[Token])
     Ok((Block { items, end }, behind))
 }
 
+/// The block as a statement.
+#[inline(never)]
+fn box_block(alloc: Global, block: Block) -> Result<Box<Stmt>, AllocError>
+    ensures { IfOk result (λ stmt. stmt_view stmt.value ≡ block_from (block_view block)) }
+{
+    Ok(Box::new(alloc, Stmt::Block(block))?)
+}
+
+/// The statement as an item.
+#[inline(never)]
+fn box_item(alloc: Global, stmt: Box<Stmt>) -> Result<Box<BlockItem>, AllocError>
+    ensures { IfOk result (λ item. item_view item.value ≡ put (stated (stmt_view stmt.value))) }
+{
+    let stmt = Box::into_inner(stmt);
+    Ok(Box::new(alloc, BlockItem::Statement(stmt))?)
+}
+
+/// A declaration as an item.
+#[inline(never)]
+fn read_declared(
+    alloc: Global,
+    rest: &[Token],
+    depth: usize,
+) -> Result<(Box<BlockItem>, &[Token]), Stopped>
+    ensures shorter { IfOk result (λ r. length r.1.now < length rest.now) }
+    ensures gives { Gives (λ r. (item_view r.0.value, r.1.now)) result
+        (map_read (λ d. put (declared d)) (declaration_at depth) rest.now) }
+{
+    let (declaration, after) = read_declaration(alloc, rest, depth)?;
+    let item = Box::new(alloc, BlockItem::Declaration(declaration))?;
+    Ok((item, after))
+}
+
 /// A branch, whose first token opens a level.
 #[cycle(statement)]
 #[tactic(auto, using(crate::proofs::Stated::branch_rules))]
-fn read_branch(alloc: Global, rest: &[Token], depth: usize) -> Result<(Stmt, &[Token]), Stopped>
+fn read_branch(
+    alloc: Global,
+    rest: &[Token],
+    depth: usize,
+) -> Result<(Box<Stmt>, &[Token]), Stopped>
     ensures shorter { IfOk result (λ r. length r.1.now < length rest.now) }
-    ensures gives { Gives (λ r. (stmt_view r.0, r.1.now)) result (branch_at depth rest.now) }
+    ensures gives { Gives (λ r. (stmt_view r.0.value, r.1.now)) result (branch_at depth rest.now) }
 {
     if depth == 0 {
         if begins_stmt(rest) {
@@ -204,7 +245,8 @@ fn read_branch(alloc: Global, rest: &[Token], depth: usize) -> Result<(Stmt, &[T
     }
     if next_is(rest, Mark::OpenBrace) {
         let (block, after) = read_block(alloc, rest, depth)?;
-        return Ok((Stmt::Block(block), after));
+        let stmt = box_block(alloc, block)?;
+        return Ok((stmt, after));
     }
     read_simple(alloc, rest, depth - 1)
 }
@@ -229,15 +271,15 @@ fn finish(
     begun: Begun,
     rest: &[Token],
     depth: usize,
-) -> Result<(Stmt, &[Token]), Stopped>
+) -> Result<(Box<Stmt>, &[Token]), Stopped>
     ensures shorter { IfOk result (λ r. length r.1.now ≤ length rest.now) }
-    ensures gives { Gives (λ r. (stmt_view r.0, r.1.now)) result (rest_of (branch_at depth) begun rest.now) }
+    ensures gives { Gives (λ r. (stmt_view r.0.value, r.1.now)) result (rest_of (branch_at depth) begun rest.now) }
 {
     match begun {
         Begun::Whole(stmt) => Ok((stmt, rest)),
         Begun::UpToBranch(head) => {
             let (branch, behind) = read_branch(alloc, rest, depth)?;
-            let (next, after) = head.add(alloc, branch, behind)?;
+            let (next, after) = add_branch(alloc, head, branch, behind)?;
             finish(alloc, next, after, depth)
         }
     }
@@ -245,9 +287,13 @@ fn finish(
 
 /// A statement that is no block.
 #[cycle(statement)]
-fn read_simple(alloc: Global, rest: &[Token], depth: usize) -> Result<(Stmt, &[Token]), Stopped>
+fn read_simple(
+    alloc: Global,
+    rest: &[Token],
+    depth: usize,
+) -> Result<(Box<Stmt>, &[Token]), Stopped>
     ensures shorter { IfOk result (λ r. length r.1.now < length rest.now) }
-    ensures gives { Gives (λ r. (stmt_view r.0, r.1.now)) result (simple_at depth rest.now) }
+    ensures gives { Gives (λ r. (stmt_view r.0.value, r.1.now)) result (simple_at depth rest.now) }
 {
     let (begun, behind) = begin_simple(alloc, rest, depth)?;
     finish(alloc, begun, behind, depth)
@@ -256,20 +302,26 @@ fn read_simple(alloc: Global, rest: &[Token], depth: usize) -> Result<(Stmt, &[T
 /// An item of a block: a declaration or a statement.
 #[cycle(statement)]
 #[tactic(auto, using(crate::proofs::Stated::item_rules))]
-fn read_item(alloc: Global, rest: &[Token], depth: usize) -> Result<(BlockItem, &[Token]), Stopped>
+fn read_item(
+    alloc: Global,
+    rest: &[Token],
+    depth: usize,
+) -> Result<(Box<BlockItem>, &[Token]), Stopped>
     ensures shorter { IfOk result (λ r. length r.1.now < length rest.now) }
-    ensures gives { Gives (λ r. (item_view r.0, r.1.now)) result (map_read put (item_at depth) rest.now) }
+    ensures gives { Gives (λ r. (item_view r.0.value, r.1.now)) result (map_read put (item_at depth) rest.now) }
 {
     if next_is(rest, Mark::Long) {
-        let (declaration, after) = read_declaration(alloc, rest, depth)?;
-        return Ok((BlockItem::Declaration(declaration), after));
+        return read_declared(alloc, rest, depth);
     }
     if next_is(rest, Mark::OpenBrace) {
         let (block, behind) = read_block(alloc, rest, depth)?;
-        return Ok((BlockItem::Statement(Stmt::Block(block)), behind));
+        let stmt = box_block(alloc, block)?;
+        let item = box_item(alloc, stmt)?;
+        return Ok((item, behind));
     }
     let (stmt, left) = read_simple(alloc, rest, depth)?;
-    Ok((BlockItem::Statement(stmt), left))
+    let item = box_item(alloc, stmt)?;
+    Ok((item, left))
 }
 
 /// Items with the braces round them.
@@ -282,7 +334,7 @@ pub fn read_body(alloc: Global, rest: &[Token], depth: usize) -> Result<(Block, 
     let mut items = Vec::new(alloc);
     'items: while begins_item(left) {
         let (item, after) = read_item(alloc, left, depth)?;
-        items.push(item)?;
+        push_boxed(&mut items, item)?;
         left = after;
     }
     read_close(items, left)

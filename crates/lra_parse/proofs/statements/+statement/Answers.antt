@@ -8,7 +8,7 @@ use Rattle.lra_tree.specs.declared.tokens.Token.{Token}
 use Rattle.lra_tree.specs.declared.trees.Block.{Block}
 use Rattle.lra_readers.specs.Reading.{Read, Gives}
 use Rattle.lra_phrases.proofs.Turning.{ok_shorter}
-use Rattle.lra_parse.proofs.Stated.{state_start, state_turn, body_exit, body_closes, block_stmt, branch_block, item_other, statement_item}
+use Rattle.lra_parse.proofs.Stated.{state_start, state_turn, body_exit, body_closes, branch_block, item_other}
 use Rattle.lra_parse.proofs.statements.+statement.Goals as goal
 
 pub read_body-items-init : goal.read_body-items-init
@@ -20,7 +20,7 @@ read_body-items-init t c = record {
 pub read_body-items-preserved : goal.read_body-items-preserved
 read_body-items-preserved t c = record {
   room = omega (arith, c.in_ok-item.ensures.shorter);
-  state = state_turn c.args.depth c.items.items.items c.push.new.self.items c.in_ok-item.item c.items.left.now c.in_ok-item.after.now _ c.in_ok-push.ensures.items c.items.invariant.state
+  state = state_turn c.args.depth c.items.items.items c.push_boxed.new.list.items c.in_ok-item.item.value c.items.left.now c.in_ok-item.after.now _ c.in_ok-push_boxed.ensures c.items.invariant.state
       c.items-test.ensures c.in_ok-item.ensures.gives c.in_ok-item.ensures.shorter;
 }
 
@@ -42,9 +42,9 @@ read_body-returns-clause-gives t c =
 pub read_branch-returns-then-next_is-clause-gives : goal.read_branch-returns-then-next_is-clause-gives
 read_branch-returns-then-next_is-clause-gives t c =
     branch_block c.args.depth c.args.rest.now c.in_ok-block.after.now (block_view c.in_ok-block.block) c.if-depth-eq0.false c.if-next_is.ensures c.in_ok-block.ensures.gives
-    ∙ ap (λ (s : StmtTree). Ok (s, c.in_ok-block.after.now)) (sym (block_stmt c.in_ok-block.block))
+    ∙ ap (λ (s : StmtTree). Ok (s, c.in_ok-block.after.now)) (sym c.in_ok-stmt.ensures)
 
 pub read_item-returns-clause-gives : goal.read_item-returns-clause-gives
 read_item-returns-clause-gives t c =
-    item_other c.args.depth c.args.rest.now c.in_ok-stmt.left.now (stmt_view c.in_ok-stmt.stmt) c.if-next_is.ensures c.if-next_is-2.ensures c.in_ok-stmt.ensures.gives
-    ∙ ap (λ (i : ItemsTree → ItemsTree). Ok (i, c.in_ok-stmt.left.now)) (sym (statement_item c.in_ok-stmt.stmt))
+    item_other c.args.depth c.args.rest.now c.in_ok-stmt-2.left.now (stmt_view c.in_ok-stmt-2.stmt.value) c.if-next_is.ensures c.if-next_is-2.ensures c.in_ok-stmt-2.ensures.gives
+    ∙ ap (λ (i : ItemsTree → ItemsTree). Ok (i, c.in_ok-stmt-2.left.now)) (sym c.in_ok-item-2.ensures)
