@@ -52,10 +52,14 @@ seed_rule = required (codes "seed") (number 0 (2 ^ 64 - 1))
 abbrev pub size_rule : Rule
 size_rule = required (codes "size") (number 0 400)
 
+-- with the three options that are numbers
+abbrev pub with_numbers : App → App
+with_numbers a = with_rule (with_rule (with_rule a parts_rule) delay_rule) narrow_rule
+
 abbrev pub analyse : ValueParser → App
 analyse domains =
-    with_rule (with_rule (with_rule (with_rule (with_rule (with_rule (new_app (codes "analyse"))
-    (domain_rule domains)) parts_rule) delay_rule) narrow_rule) limited_rule) json_rule
+    with_rule (with_rule (with_numbers (with_rule (new_app (codes "analyse")) (domain_rule domains)))
+    limited_rule) json_rule
 
 abbrev pub sample : App
 sample = with_rule (with_rule (new_app (codes "sample")) seed_rule) size_rule

@@ -4,11 +4,11 @@
 //! Each number is declared as a `u64` with its range, so that all numbers are written alike: decimal
 //! digits after at most one plus.
 ghost use Rattle.std.specs.Prelude.{◌≡◌, IfOk, false};
-ghost use Rattle.clap.specs.Words.{app_of, rule_of};
+ghost use Rattle.clap.specs.Words.{app_of, rule_of, with_subcommand};
 ghost use Rattle.clap.specs.declared.builder.command.Command.TheViews.{out-Command};
 ghost use Rattle.lra_words.specs.CommandLine.{DeclaresAnalyse, DeclaresCommandLine, DeclaresDomain};
 ghost use Rattle.lra_words.specs.CommandLine.{delay_rule, json_rule, limited_rule, narrow_rule};
-ghost use Rattle.lra_words.specs.CommandLine.{parts_rule, sample, seed_rule, size_rule};
+ghost use Rattle.lra_words.specs.CommandLine.{parts_rule, sample, seed_rule, size_rule, with_numbers};
 
 use clap::{Arg, ArgAction, Command, value_parser};
 use std::alloc::{AllocError, Global};
@@ -93,14 +93,23 @@ fn size_arg<'a>(alloc: Global) -> Arg<'a>
         .required(true)
 }
 
+/// The command so far, and the three options that are numbers.
+fn add_numbers<'a>(alloc: Global, command: Command<'a>) -> Result<Command<'a>, AllocError>
+    ensures app { IfOk result (λ c. app_of c ≡ with_numbers (app_of command.entry)) }
+    ensures local { IfOk result (λ c. (out-Command c).has_globals ≡ (out-Command command.entry).has_globals) }
+{
+    let command = command.arg(parts_arg(alloc))?;
+    let command = command.arg(delay_arg(alloc))?;
+    let command = command.arg(narrow_arg(alloc))?;
+    Ok(command)
+}
+
 fn analyse_command<'a>(alloc: Global) -> Result<Command<'a>, AllocError>
     ensures app { IfOk result (λ c. DeclaresAnalyse (app_of c)) }
     ensures local { IfOk result (λ c. (out-Command c).has_globals ≡ false) }
 {
     let command = Command::new(alloc, "analyse").arg(domain_arg(alloc))?;
-    let command = command.arg(parts_arg(alloc))?;
-    let command = command.arg(delay_arg(alloc))?;
-    let command = command.arg(narrow_arg(alloc))?;
+    let command = add_numbers(alloc, command)?;
     let command = command.arg(limited_arg(alloc))?;
     let command = command.arg(json_arg(alloc))?;
     Ok(command)
@@ -115,13 +124,19 @@ fn sample_command<'a>(alloc: Global) -> Result<Command<'a>, AllocError>
     Ok(command)
 }
 
+/// The command line so far, and the subcommand `sample`.
+fn add_sample<'a>(alloc: Global, app: Command<'a>) -> Result<Command<'a>, AllocError>
+    ensures { IfOk result (λ c. app_of c ≡ with_subcommand (app_of app.entry) sample.top) }
+{
+    app.subcommand(sample_command(alloc)?)
+}
+
 /// The command line with its subcommands `analyse`, `sample` and `calc`.
 pub(crate) fn declare<'a>(alloc: Global) -> Result<Command<'a>, AllocError>
     ensures { IfOk result (λ c. DeclaresCommandLine (app_of c)) }
 {
+    let analyse = analyse_command(alloc)?;
     let app = Command::new(alloc, "lra").subcommand_required(true);
-    let app = app.subcommand(analyse_command(alloc)?)?;
-    let app = app.subcommand(sample_command(alloc)?)?;
-    let app = app.subcommand(Command::new(alloc, "calc"))?;
-    Ok(app)
+    let app = add_sample(alloc, app.subcommand(analyse)?)?;
+    app.subcommand(Command::new(alloc, "calc"))
 }

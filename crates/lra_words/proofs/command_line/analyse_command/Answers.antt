@@ -1,14 +1,13 @@
 -- Goals of `analyse_command`.
-use Rattle.std.proofs.Common.{◌∙◌, ap₂}
+use Rattle.std.proofs.Common.{◌∙◌, ap, ap₂}
 use Rattle.clap.specs.Words.{with_rule}
+use Rattle.lra_words.specs.CommandLine.{with_numbers}
 use Rattle.lra_words.proofs.command_line.analyse_command.Goals as goal
 
 pub returns-clause-app : goal.returns-clause-app
 returns-clause-app c =
     let domain = c.domain_arg.ensures.rule in
     let one = c.in_ok-command.ensures.shape c.domain_arg.ensures.local ∙ ap₂ with_rule c.new.ensures.app domain.2 in
-    let two = c.in_ok-command-2.ensures.shape c.parts_arg.ensures.local ∙ ap₂ with_rule one c.parts_arg.ensures.rule in
-    let three = c.in_ok-command-3.ensures.shape c.delay_arg.ensures.local ∙ ap₂ with_rule two c.delay_arg.ensures.rule in
-    let four = c.in_ok-command-4.ensures.shape c.narrow_arg.ensures.local ∙ ap₂ with_rule three c.narrow_arg.ensures.rule in
-    let five = c.in_ok-command-5.ensures.shape c.limited_arg.ensures.local ∙ ap₂ with_rule four c.limited_arg.ensures.rule in
-    (domain.0, domain.1, c.in_ok-command-6.ensures.shape c.json_arg.ensures.local ∙ ap₂ with_rule five c.json_arg.ensures.rule)
+    let two = c.in_ok-command-2.ensures.app ∙ ap with_numbers one in
+    let three = c.in_ok-command-3.ensures.shape c.limited_arg.ensures.local ∙ ap₂ with_rule two c.limited_arg.ensures.rule in
+    (domain.0, domain.1, c.in_ok-command-4.ensures.shape c.json_arg.ensures.local ∙ ap₂ with_rule three c.json_arg.ensures.rule)
