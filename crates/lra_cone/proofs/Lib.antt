@@ -4,6 +4,7 @@ pub mod RayCase
 pub mod Reordered
 pub mod Cutting
 pub mod Taking
+pub mod TakenIn
 pub mod Stepped
 pub mod StrainLemmas
 pub mod FlatCones
