@@ -2,6 +2,7 @@
 pub mod PolyhedronLemmas
 pub mod InclusionLemmas
 pub mod MaximumLemmas
+pub mod BetterPoints
 pub mod GreatestValues
 pub mod Examples
 pub mod JoinedLists
