@@ -1,4 +1,5 @@
 pub mod LowestTerms
 pub mod NamesShown
 pub mod Terms
+pub mod RowTexts
 pub mod Values
