@@ -2,3 +2,4 @@
 pub mod LoopLaws
 -- Functions and the whole.
 pub mod FunctionLaws
+pub mod OneFunction
