@@ -12,7 +12,7 @@ use Rattle.lra_meaning.specs.Resolve.{resolve_stmt, resolve_items, items_count}
 use Rattle.lra_scopes.specs.Calls.{functions_at}
 use Rattle.lra_simple.specs.Statements.{around_of, followed}
 use Rattle.lra_simple.specs.LoopHeads.{rounds_view, loop_around}
-use Rattle.lra_scopes.proofs.Telling.{tells_front, tells_behind, exit_tells, rest_tells}
+use Rattle.lra_scopes.proofs.Telling.{tells_front, tells_behind, exit_tells, exit_tells_all, rest_tells}
 use Rattle.lra_scopes.proofs.Loops.{parts_step, first_told, second_told, both_clean, made_told, found_so, wanting_told}
 use Rattle.std.proofs.lemmas.List.{at_drop_all}
 use Rattle.lra_simple.proofs.StatementLaws.{extends_self, extends_then, extends_declared, declaration_counted, statement_found, block_items, block_end, kept_so, block_is, absent_is, choice_found}
@@ -24,6 +24,7 @@ use Rattle.lra_base.specs.declared.refusals.Place.{Place}
 use Rattle.lra_tree.specs.Labels.{plain_label}
 use Rattle.lra_simple.specs.Labelling.{Adds}
 use Rattle.lra_simple.proofs.LabellingLaws.{declaration_follows, statement_follows, reaches_none, reaches_step, reaches_all, blocks}
+use Rattle.lra_names.proofs.ItemLaws.{declaration_clean, declaration_found, declaration_told, kept_extends, statement_clean, statement_told}
 use Rattle.lra_names.proofs.statements.+statement.Goals as goal
 
 -- the second branch of a choice
@@ -291,3 +292,36 @@ resolve_block-returns t c =
           (subst (λ (at : Place). Adds c.resolve_items.new.labels c.add.new.self (plain_label at c.resolve_items.new.labels.live ∷ [])) (block_end c.args.block.now) c.in_ok-end.ensures.adds)
           c.live_count-live.ensures c.keep_oldest.ensures.live c.keep_oldest.ensures.labels;
     }
+
+pub add_item-returns-in_err-add_declaration-in-Declaration-clause-told : goal.add_item-returns-in_err-add_declaration-in-Declaration-clause-told
+add_item-returns-in_err-add_declaration-in-Declaration-clause-told t c =
+    let A = around_of c.args.around.now in
+    let item = c.args.item.now in
+    exit_tells_all (λ (rest : ItemsTree). items_faults A c.args.scope.now (item_view item rest)) c.from_residual.result _ c.from_residual.ensures.1
+    (declaration_told A c.args.scope.now item c.in-Declaration.declaration _ c.in-Declaration.is c.in_err-add_declaration-in-Declaration.ensures.told)
+
+pub add_item-returns-in_err-stmt-in-Statement-clause-told : goal.add_item-returns-in_err-stmt-in-Statement-clause-told
+add_item-returns-in_err-stmt-in-Statement-clause-told t c =
+    let A = around_of c.args.around.now in
+    let item = c.args.item.now in
+    exit_tells_all (λ (rest : ItemsTree). items_faults A c.args.scope.now (item_view item rest)) c.from_residual-in_err-stmt-in-Statement.result _
+    c.from_residual-in_err-stmt-in-Statement.ensures.1 (statement_told A c.args.scope.now item c.in-Statement.stmt _ c.in-Statement.is c.in_err-stmt-in-Statement.ensures.told)
+
+pub add_item-returns-in_ok-add_declaration-in-Declaration-clause-clean : goal.add_item-returns-in_ok-add_declaration-in-Declaration-clause-clean
+add_item-returns-in_ok-add_declaration-in-Declaration-clause-clean t c =
+    let more = c.in_ok-add_declaration-in-Declaration.ensures in
+    declaration_clean (around_of c.args.around.now) c.args.scope.now c.args.item.now c.in-Declaration.declaration c.add_declaration.new.scope c.in-Declaration.is more.told more.declared
+
+pub add_item-returns-in_ok-add_declaration-in-Declaration-clause-found : goal.add_item-returns-in_ok-add_declaration-in-Declaration-clause-found
+add_item-returns-in_ok-add_declaration-in-Declaration-clause-found t c =
+    let more = c.in_ok-add_declaration-in-Declaration.ensures in
+    declaration_found (functions_at c.args.around.now.functions.now) c.args.scope.now c.add_declaration.new.scope c.args.labels.now.next c.add_declaration.new.labels.next c.args.item.now
+    c.in-Declaration.declaration (map program_item_view c.args.items.now.items) (map program_item_view c.add_declaration.new.items.items) c.in-Declaration.is more.found more.declared more.counted
+
+pub add_item-returns-in_ok-push-in-Statement-clause-clean : goal.add_item-returns-in_ok-push-in-Statement-clause-clean
+add_item-returns-in_ok-push-in-Statement-clause-clean t c =
+    statement_clean (around_of c.args.around.now) c.args.scope.now c.args.item.now c.in-Statement.stmt c.resolve_stmt.new.scope c.in-Statement.is c.in_ok-stmt-in-Statement.ensures.told
+    c.in_ok-stmt-in-Statement.ensures.kept
+
+pub add_item-returns-in_ok-push-in-Statement-clause-extended : goal.add_item-returns-in_ok-push-in-Statement-clause-extended
+add_item-returns-in_ok-push-in-Statement-clause-extended t c = kept_extends c.args.scope.now c.resolve_stmt.new.scope c.in_ok-stmt-in-Statement.ensures.kept
