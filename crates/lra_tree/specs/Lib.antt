@@ -9,3 +9,4 @@ pub mod Faults
 pub mod Functions
 pub mod Labels
 pub mod Reach
+pub mod Branches

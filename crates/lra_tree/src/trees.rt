@@ -2,8 +2,11 @@
 //! its source is nested.
 //! A part keeps the places that refusals and points name, and no others.
 
-ghost use Rattle.std.specs.Prelude.{◌≡◌, ◌≢◌, map, IfOk, MatchResult};
+ghost use Rattle.std.specs.Prelude.{◌≡◌, ◌≢◌, ◌≤◌, ◌<◌, map, IfOk, MatchResult};
 ghost use Rattle.lra_tree.specs.Trees.{ExprTree, value, test, conjunction};
+ghost use Rattle.lra_tree.specs.Branches.{size_left};
+ghost use Rattle.lra_tree.specs.declared.trees.Stmt.{size-Stmt};
+ghost use Rattle.lra_tree.specs.declared.trees.BlockItem.{size-BlockItem};
 ghost use Rattle.lra_tree.specs.Views.{all_tests, any_conjunction, expr_view, test_view, conjunction_view, cond_view};
 
 use crate::tokens::Word;
@@ -371,24 +374,68 @@ pub enum Stmt {
 }
 
 impl Drop for Stmt {
-    #[cycle(statement_drop)]
     fn drop(self) {
+        let _branches = self.into_branches();
+    }
+}
+
+impl Stmt {
+    /// The statements directly in this one; all else of it is dropped. Never inlined, so that no room for the rest is
+    /// held while these statements are dropped.
+    #[inline(never)]
+    fn into_branches(self) -> Branches
+        ensures { size_left result ≤ size-Stmt self }
+    {
         match self {
-            Stmt::Block(_) => {}
-            Stmt::Nothing(_) => {}
-            Stmt::Assign(_) => {}
-            Stmt::Call(_) => {}
-            Stmt::If(_, _, _) => {}
-            Stmt::IfElse(_, _, _, _) => {}
-            Stmt::While(_, _, _) => {}
-            Stmt::For(_, _, _, _, _) => {}
-            Stmt::Break(_) => {}
-            Stmt::Continue(_) => {}
-            Stmt::Return(_, _) => {}
-            Stmt::Assert(_, _) => {}
-            Stmt::Assume(_, _) => {}
+            Stmt::Block(block) => Branches::Items(block),
+            Stmt::If(_, _, branch) => Branches::One(branch),
+            Stmt::IfElse(_, _, branch, other) => Branches::Two(branch, other),
+            Stmt::While(_, _, body) => Branches::One(body),
+            Stmt::For(_, _, _, _, body) => Branches::One(body),
+            Stmt::Nothing(_) => Branches::Nothing,
+            Stmt::Assign(_) => Branches::Nothing,
+            Stmt::Call(_) => Branches::Nothing,
+            Stmt::Break(_) => Branches::Nothing,
+            Stmt::Continue(_) => Branches::Nothing,
+            Stmt::Return(_, _) => Branches::Nothing,
+            Stmt::Assert(_, _) => Branches::Nothing,
+            Stmt::Assume(_, _) => Branches::Nothing,
         }
     }
+}
+
+/// The statements directly in a statement, which are to be dropped.
+enum Branches {
+    Nothing,
+    Items(Block),
+    One(Box<Stmt>),
+    Two(Box<Stmt>, Box<Stmt>),
+}
+
+impl Drop for Branches {
+    /// Goes along the last of them without a call.
+    #[cycle(statement_drop)]
+    fn drop(mut self) {
+        'branches: loop {
+            match self {
+                Branches::Nothing => return,
+                Branches::Items(_block) => return,
+                Branches::One(branch) => self = open_branch(branch),
+                Branches::Two(branch, other) => {
+                    let _first = open_branch(branch);
+                    self = open_branch(other);
+                }
+            }
+        }
+    }
+}
+
+/// The statements directly in a branch.
+#[inline(never)]
+fn open_branch(branch: Box<Stmt>) -> Branches
+    ensures { size_left result ≤ size-Stmt branch.value }
+{
+    Box::into_inner(branch).into_branches()
 }
 
 /// What a block has between its braces.
@@ -401,9 +448,19 @@ pub enum BlockItem {
 impl Drop for BlockItem {
     #[cycle(statement_drop)]
     fn drop(self) {
+        let _branches = self.into_branches();
+    }
+}
+
+impl BlockItem {
+    /// The statements directly in the statement that this is; all else of it is dropped.
+    #[inline(never)]
+    fn into_branches(self) -> Branches
+        ensures { size_left result < size-BlockItem self }
+    {
         match self {
-            BlockItem::Declaration(_) => {}
-            BlockItem::Statement(_) => {}
+            BlockItem::Declaration(_) => Branches::Nothing,
+            BlockItem::Statement(stmt) => stmt.into_branches(),
         }
     }
 }
