@@ -12,7 +12,9 @@ use Rattle.lra_flow.specs.Pass.{Result, noted, jumps, values_behind, behind, Thr
 use Rattle.lra_flow.proofs.Transfer.{Matters, Transfers, passes}
 use Rattle.lra_iter.specs.Fits.{live_after}
 use Rattle.lra_iter.specs.declared.outcome.Turn.{Turn}
-use Rattle.lra_iter.specs.Outcome.{headed, seen, AreGiven, AreKept, IsKept, IsPassed, IsTurned, JumpsFit}
+use Rattle.lra_iter.specs.Outcome.{seen, AreKept, EntersWith, IsEntered, IsKept, IsPassed, IsTurned, JumpsFit}
+use Rattle.lra_iter.specs.declared.outcome.Entered as entered
+use Rattle.lra_iter.specs.declared.outcome.Entered.TheVariants.{Again, Anew}
 use Rattle.lra_iter.proofs.PassSteps.{same_jumps_fit}
 
 -- the same, with this flag
@@ -156,14 +158,27 @@ module _ {V H : Type 0} (m : Meaning V H) (set : Options) (g : Node) where
     kept = passed_kept inside turn.entered (seen turn.outcome) (subst (λ (x : V). IsPassed m set g inside x (seen turn.outcome)) (sym same) passed);
   }
 
-  -- what is given again, given that the kept turn may be
-  pub given_turned : (q base : ℕ) (c : Cond) (f inside : Option ℕ) (v on : V) (e : Exactness) (kept given : Option (Turn V)) (turn : Turn V) → Leaves (dropping m) base c true v e on
-      → inside ≡ noted q e f → m.dims on ≡ m.dims v → live_after g (m.dims v) ≡ m.dims v → AreKept m set g f kept → (AreKept m set g inside kept → AreGiven m set g inside on given)
-      → given ≡ Some turn → IsTurned m set q base c g f v turn
-  given_turned q base c f inside v on e kept given turn leaves flagged wide closed before gives is =
-      let now : AreKept m set g inside kept = subst (λ (x : Option ℕ). AreKept m set g x kept) (sym flagged) (all_noted q e f kept before) in
-      let found : AreGiven m set g inside on (Some turn) = subst (λ (x : Option (Turn V)). AreGiven m set g inside on x) is (gives now) in
-      turned q base c f inside v on e turn leaves flagged wide closed found.0 found.1
+  -- what enters a loop's body with what the condition left
+  pub entered_with : (q base : ℕ) (c : Cond) (f inside : Option ℕ) (v on : V) (e : Exactness) (given : entered.Entered V) → Leaves (dropping m) base c true v e on
+      → inside ≡ noted q e f → m.dims on ≡ m.dims v → EntersWith m set g inside on given → IsEntered m set q base c g f v given
+  entered_with q base c f inside v on e (Again turn) leaves flagged wide (same, passed) = (
+    e,
+    subst (λ (x : V). Leaves (dropping m) base c true v e x) (sym same) leaves,
+    subst (λ (x : Option ℕ). IsPassed m set g x turn.entered (seen turn.outcome)) flagged
+        (subst (λ (x : V). IsPassed m set g inside x (seen turn.outcome)) (sym same) passed),
+    ap m.dims same ∙ wide,
+  )
+  entered_with q base c f inside v on e (Anew copied value flag) leaves flagged wide (one, two, three) = (
+    e,
+    subst (λ (x : V). Leaves (dropping m) base c true v e x) (sym two) leaves,
+    three ∙ flagged,
+    ap m.dims two ∙ wide,
+    one ∙ sym two,
+  )
+
+  -- the kept turns, with what is flagged behind the condition
+  pub kept_inside : (q : ℕ) (e : Exactness) (f inside : Option ℕ) (kept : Option (Turn V)) → inside ≡ noted q e f → AreKept m set g f kept → AreKept m set g inside kept
+  kept_inside q e f inside kept flagged before = subst (λ (x : Option ℕ). AreKept m set g x kept) (sym flagged) (all_noted q e f kept before)
 
   -- the kept turn, where the same value entered it
   pub same_given : (f : Option ℕ) (on : V) (kept : Option (Turn V)) (turn : Turn V) → kept ≡ Some turn → turn.entered ≡ on → AreKept m set g f kept
@@ -171,11 +186,3 @@ module _ {V H : Type 0} (m : Meaning V H) (set : Options) (g : Node) where
   same_given f on kept turn is same before =
       let held : IsKept m set g f turn.entered (seen turn.outcome) = subst (λ (x : Option (Turn V)). AreKept m set g f x) is before in
       (same, subst (λ (x : V). IsPassed m set g f x (record (seen turn.outcome) { flag = f })) same (kept_passed f turn.entered (seen turn.outcome) held))
-
--- nothing was flagged before a turn where nothing is behind it
-pub turn_before : {V H : Type 0} (m : Meaning V H) (set : Options) (q base : ℕ) (c : Cond) (g : Node) (f : Option ℕ) (v : V) (turn : Turn V) → IsTurned m set q base c g f v turn
-    → turn.outcome.flag ≡ None → f ≡ None
-turn_before {V} {H} m set q base c g f v turn turned none = before turned.round
-  where
-    before : GoesRound V H (dropping m) q base c (Pass V H (dropping m) set g) f v (headed q v (seen turn.outcome)) → f ≡ None
-    before (on, e, s, leaves, pass, is) = none_noted q e f (none_before (dropping m) set g (noted q e f) on s (ap (λ (r : Result V). r.flag) (sym is) ∙ none) pass)

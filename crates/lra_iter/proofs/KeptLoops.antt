@@ -4,11 +4,10 @@ use Rattle.std.proofs.Common.{refl, sym, ap, subst, ◌∙◌}
 use Rattle.std.specs.Prelude.{IfOk, slice_index_or, set}
 use Rattle.std.specs.Prelude as outcome_or
 use Rattle.std.specs.List.{All}
-use Rattle.std.proofs.lemmas.Result.{IfOk-weaker}
 use Rattle.lra_domain.specs.Meaning.{Meaning}
 use Rattle.lra_domain.specs.declared.Exactness.{Exactness}
 use Rattle.lra_program.specs.Program.{Cond}
-use Rattle.lra_operations.specs.Graph.{Exit, broken, continued, returned, Node, choose, iterate, catch}
+use Rattle.lra_operations.specs.Graph.{Exit, broken, continued, returned, Node, choose, iterate}
 use Rattle.lra_base.specs.declared.options.Options.{Options}
 use Rattle.lra_flow.specs.Operations.{dropping}
 use Rattle.lra_flow.specs.Pass.{Result, noted, behind}
@@ -156,38 +155,6 @@ module _ {V H : Type 0} (m : Meaning V H) (set : Options) where
     stays_choice f4 f5 new later one after two last loops has all =
         recall_later loops f4 f5 new last (two loops has.1
         (recall_later loops f2 f3 between after (one loops has.0 (recall_later loops f f1 old later all))))
-
-  -- what is handed on as the pass of a tree that is the other
-  pub stays_given : {E : Type 0} (set' : Options) (g g' : Node) (f : Option ℕ) (R : outcome_or.Result (Outcome V) E)
-      (old new : Memory V) → g ≡ g' → set' ≡ set → IfOk R (λ r. StaysKept m set' g' f old r.flag new)
-      → IfOk R (λ r. StaysKept m set g f old r.flag new)
-  stays_given set' g g' f R old new same options h =
-      subst (λ (x : Options). IfOk R (λ r. StaysKept m x g f old r.flag new)) options
-      (subst (λ (z : Node). IfOk R (λ r. StaysKept m set' z f old r.flag new)) (sym same) h)
-
-  -- of a leaf
-  pub stays_leaf : {E : Type 0} (g g' : Node) (f : Option ℕ) (v : V) (R : outcome_or.Result (Outcome V) E)
-      (memory : Memory V) → g ≡ g' → IfOk R (λ r. IsPassed m set g' f v (seen r))
-      → IfOk R (λ r. StaysKept m set g f memory r.flag memory)
-  stays_leaf g g' f v R memory same h = IfOk-weaker R (λ r. IsPassed m set g' f v (seen r))
-      (λ r. StaysKept m set g f memory r.flag memory)
-      (λ r p. stays_same g f r.flag memory (passed_later m set g' f v (seen r) p)) h
-
-  -- and of one whose jumps come out
-  pub stays_caught : {E : Type 0} (g : Node) (q : ℕ) (k : Exit) (a : Node) (f : Option ℕ)
-      (R : outcome_or.Result (Outcome V) E) (s : Result V) (old new : Memory V) → g ≡ catch q k a
-      → StaysKept m set a f old s.flag new → IfOk R (λ r. Catches m q k s (seen r)) →
-      IfOk R (λ r. StaysKept m set g f old r.flag new)
-  stays_caught g q k a f R s old new same inner h = IfOk-weaker R (λ r. Catches m q k s (seen r))
-      (λ r. StaysKept m set g f old r.flag new)
-      (λ r p. subst (λ z. StaysKept m set z f old r.flag new) (sym same)
-      (λ loops has all. recall_later loops s.flag r.flag new (caught_later m q k s (seen r) p)
-      (inner loops has all))) h
-
-  pub remembers_given : (set' : Options) (g g' : Node) (f : Option ℕ) (memory : Memory V) → g ≡ g' → set' ≡ set
-      → Remembers m set g f memory → Remembers m set' g' f memory
-  remembers_given set' g g' f memory same options h = subst (λ (x : Options). Remembers m x g' f memory) (sym options)
-      (subst (λ (z : Node). Remembers m set z f memory) same h)
 
   -- what is kept of the loop at this place, which began with the same value
   pub recalled : (loops : ℕ → Node) (point : ℕ) (f : Option ℕ) (kept : List (KeptLoop V)) (place : ℕ) (one : KeptLoop V)

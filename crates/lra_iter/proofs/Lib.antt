@@ -10,3 +10,7 @@ mod PassRows
 mod Again
 mod KeptLoops
 mod LoopNumbers
+mod OpenPlaces
+mod TurnSteps
+mod LoopPlaces
+mod Joining

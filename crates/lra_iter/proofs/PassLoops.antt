@@ -21,38 +21,8 @@ use Rattle.lra_iter.specs.declared.heads.Growing.{Growing}
 use Rattle.lra_iter.specs.declared.memory.Memory.{Memory}
 use Rattle.lra_iter.specs.Heads.{IsValued, GrowsBy}
 use Rattle.lra_iter.specs.Memory.{StaysKept}
+use Rattle.lra_iter.specs.Open.{GrowLoop, HeadLoop, NarrowLoop}
 use Rattle.lra_iter.specs.Outcome.{headed, seen, AllHave, AreKept, HasGrown, IsKept, IsTurned, JumpsFit, NarrowsTo}
-
--- the head grew from the first value: however it grows on, it is a growth of that; the last turn may be given again
-pub record GrowLoop {V H : Type 0} (m : Meaning V H) (set : Options) (q base : ℕ) (c : Cond) (a : graph.Node)
-    (first : V) (f : Option ℕ) (left : ℕ) (so_far : Option ℕ) (head : H)
-    (turn : Option (Turn V)) (old memory : Memory V) : Type 0 where
-  pub dims : m.head_dims head ≡ m.dims first
-  pub fits : RankFits (m.rank head)
-  pub kept : AreKept m set a so_far turn
-  pub stays : StaysKept m set a f old so_far memory
-  pub grows : (later : List H) (v : V) (r : Result V) →
-      Grows V H (dropping m) q base c (Pass V H (dropping m) set a) set.limited left so_far head later v r →
-      HasGrown m set q base c a first f v r
-
--- so it did up to this head, whose value is there
-pub record HeadLoop {V H : Type 0} (m : Meaning V H) (set : Options) (q base : ℕ) (c : Cond) (a : graph.Node)
-    (first : V) (f : Option ℕ) (growing : Growing V H) (turn : Option (Turn V)) (old memory : Memory V) : Type 0 where
-  pub so_far : Option ℕ
-  pub valued : IsValued m q so_far growing.head growing.value growing.flag
-  pub loop : GrowLoop m set q base c a first f growing.left so_far growing.head turn old memory
-
--- what is narrowed on is a narrowing from the round with which the head was stable; `entered` came into the body last
-pub record NarrowLoop {V H : Type 0} (m : Meaning V H) (set : Options) (q base : ℕ) (c : Cond) (a : graph.Node)
-    (first start : V) (round : Result V) (left : ℕ) (top entered : V) (last : Result V)
-    (old memory : Memory V) : Type 0 where
-  pub dims : m.dims top ≡ m.dims first
-  pub behind : m.dims last.normal ≡ m.dims first
-  pub jumps : JumpsFit m a (m.dims first) last
-  pub kept : IsKept m set a last.flag entered last
-  pub stays : StaysKept m set a round.flag old last.flag memory
-  pub narrows : (v : V) (r : Result V) → Narrows V H (dropping m) q base c (Pass V H (dropping m) set a) left first top
-      (headed q top last) v r → NarrowsTo m set q base c a first start (headed q start round) v r
 
 module _ {V H : Type 0} (m : Meaning V H) (set : Options) (q base : ℕ) (c : Cond) (a : graph.Node) where
   -- a head begins

@@ -1,10 +1,10 @@
 -- Trees that are passed one after the other, along a sequence of them: what was found so far, with whatever the rest
 -- finds behind it, is what a pass of the whole finds.
-use Rattle.std.proofs.Common.{◌≡◌, ℕ, suc, ◌+◌, ◌<◌, ◌≤◌, ◌^◌, List, [], ◌∷◌, length, map, drop, get_or, Option, refl}
-use Rattle.std.proofs.Common.{sym, ap, subst, ◌∙◌, arith, add-one, drop-cons}
+use Rattle.std.proofs.Common.{◌≡◌, ℕ, suc, ◌+◌, ◌≤◌, ◌^◌, List, [], ◌∷◌, map, Option, refl}
+use Rattle.std.proofs.Common.{sym, ap, subst, ◌∙◌, arith}
 use Rattle.std.specs.List.{sum_by}
-use Rattle.std.proofs.lemmas.List.{append_assoc, drop_all}
-use Rattle.std.proofs.lemmas.List.Sums.{get_or-le-sum_by}
+use Rattle.std.proofs.lemmas.List.{append_assoc}
+use Rattle.std.proofs.lemmas.List.Sums.{sum_by-cons}
 use Rattle.lra_domain.specs.Meaning.{Meaning}
 use Rattle.lra_operations.specs.declared.graph.Node.{Node}
 use Rattle.lra_operations.specs.GraphViews.{node_view, row}
@@ -17,7 +17,8 @@ use Rattle.lra_iter.specs.declared.outcome.Outcome.{Outcome}
 use Rattle.lra_iter.specs.Outcome.{ended, seen, AreInTurn, JumpsFit, IsPassed}
 use Rattle.lra_iter.specs.declared.memory.Memory.{Memory}
 use Rattle.lra_iter.specs.Memory.{HasLoops, MayRecall, Remembers, StaysKept}
-use Rattle.lra_iter.specs.Shapes.{node_size, row_size}
+use Rattle.lra_iter.specs.Open.{RowLoop}
+use Rattle.lra_iter.specs.Steps.{node_steps, row_steps}
 use Rattle.lra_iter.proofs.PassSteps.{seq_fits}
 
 same_lists : {V : Type 0} (v : V) (f : Option ℕ) (xs xs' : List (Entry V)) (bs bs' cs cs' rs rs' : List V) → xs ≡ xs' →
@@ -47,37 +48,27 @@ turns x y t v w u f g h = same_lists u h _ _ _ _ _ _ _ _ (sym (append_assoc x.en
     (sym (append_assoc x.breaks y.breaks t.breaks))
     (sym (append_assoc x.continues y.continues t.continues)) (sym (append_assoc x.returns y.returns t.returns))
 
--- the tree at this place, and those behind it
-trees_at : (gs : List Node) (i : ℕ) (x : Node) → i < length gs → x ≡ get_or gs i x → drop i gs ≡ x ∷ drop (i + 1) gs
-trees_at gs i x below at = drop-cons gs i x below ∙ ap (λ (y : Node). y ∷ drop (suc i) gs) (sym at) ∙ rw add-one refl
+-- the first, and those behind it
+pub row_first : (gs gs' : List Node) (x last : Node) → gs ≡ x ∷ gs' →
+    row (map node_view gs) (node_view last) ≡ graph.seq (node_view x) (row (map node_view gs') (node_view last))
+row_first gs gs' x last is = ap (λ (z : List Node). row (map node_view z) (node_view last)) is
 
-pub row_at : (gs : List Node) (i : ℕ) (x last : Node) → i < length gs → x ≡ get_or gs i x
-    → row (map node_view (drop i gs)) (node_view last) ≡
-    graph.seq (node_view x) (row (map node_view (drop (i + 1) gs)) (node_view last))
-row_at gs i x last below at = ap (λ (z : List Node). row (map node_view z) (node_view last)) (trees_at gs i x below at)
+pub row_last : (gs : List Node) (last : Node) → gs ≡ [] → row (map node_view gs) (node_view last) ≡ node_view last
+row_last gs last none = ap (λ (z : List Node). row (map node_view z) (node_view last)) none
 
-pub tree_small : (gs : List Node) (i : ℕ) (x last : Node) → i < length gs → x ≡ get_or gs i x →
-    node_size x ≤ row_size gs last
-tree_small gs i x last below at =
-    let one : node_size x ≤ sum_by node_size gs = subst (λ (y : Node). node_size y ≤ sum_by node_size gs) (sym at)
-    (get_or-le-sum_by node_size gs i x below) in
-    omega (arith, one)
+-- what they take
+pub steps_first : (n : ℕ) (gs gs' : List Node) (x last : Node) → gs ≡ x ∷ gs' →
+    row_steps n gs last ≡ suc (node_steps n x) + row_steps n gs' last
+steps_first n gs gs' x last is =
+    let same : sum_by (λ g. suc (node_steps n g)) gs ≡ suc (node_steps n x) + sum_by (λ g. suc (node_steps n g)) gs' =
+    ap (λ (z : List Node). sum_by (λ g. suc (node_steps n g)) z) is ∙ sum_by-cons (λ g. suc (node_steps n g)) x gs' in
+    omega (arith, same)
 
--- no tree but the last is left
-pub row_done : (gs : List Node) (i : ℕ) (last : Node) → length gs ≤ i →
-    row (map node_view (drop i gs)) (node_view last) ≡ node_view last
-row_done gs i last beyond = ap (λ (z : List Node). row (map node_view z) (node_view last)) (drop_all i gs beyond)
-
--- what stands behind what was found so far: it fits, and whatever its pass finds comes behind, as a pass of the whole
-pub record RowLoop {V H : Type 0} (m : Meaning V H) (set : Options) (g : graph.Node) (f : Option ℕ) (v : V)
-    (rest : graph.Node) (found : Found V) (behind : V) (so_far : Option ℕ)
-    (old memory : Memory V) : Type 0 where
-  pub few : m.dims behind ≤ 2 ^ 30
-  pub fits : TreeFits rest (m.dims behind)
-  pub stays : (loops : ℕ → graph.Node) → HasLoops loops g → MayRecall m set loops f old → HasLoops loops rest ×
-      MayRecall m set loops so_far memory
-  pub passes : (t : Result V) → IsPassed m set rest so_far behind t →
-      IsPassed m set g f v (in_turn (ended found behind so_far) t t.normal t.flag)
+pub steps_last : (n : ℕ) (gs : List Node) (last : Node) → gs ≡ [] → row_steps n gs last ≡ suc (node_steps n last)
+steps_last n gs last is =
+    let none : sum_by (λ g. suc (node_steps n g)) gs ≡ 0 =
+    ap (λ (z : List Node). sum_by (λ g. suc (node_steps n g)) z) is in
+    omega (arith, none)
 
 module _ {V H : Type 0} (m : Meaning V H) (set : Options) where
   seq_passed : (a b : graph.Node) (f : Option ℕ) (v : V) (s t : Result V) → IsPassed m set a f v s →

@@ -1,9 +1,9 @@
 -- Steps of the proofs on the pass.
-use Rattle.std.proofs.Common.{rules, Box, Vec, Global, map, ◌≡◌, ℕ, zero, suc, ◌+◌, ◌<◌, List, [], ◌∷◌, ◌++◌, Option, false, refl, sym, ap, subst, ◌∙◌, inl, inr, arith}
+use Rattle.std.proofs.Common.{rules, Box, Vec, Global, map, ◌≡◌, ℕ, zero, suc, ◌+◌, ◌*◌, ◌<◌, List, [], ◌∷◌, ◌++◌, Option, false, refl, sym, ap, subst, ◌∙◌, inl, inr, arith}
 use Rattle.std.specs.Prelude.{◌⊎◌, IfOk, true}
 use Rattle.std.specs.Prelude as outcome_or
-use Rattle.std.specs.List.{Contains, sum}
-use Rattle.std.proofs.lemmas.List.Sums.{sum-map}
+use Rattle.std.specs.List.{Contains, sum_by}
+use Rattle.std.proofs.lemmas.List.Sums.{sum_by-cons}
 use Rattle.std.proofs.lemmas.List.Elements.{Contains-append_cases}
 use Rattle.lra_domain.specs.Meaning.{Meaning}
 use Rattle.lra_domain.specs.declared.Exactness.{Exactness}
@@ -23,7 +23,7 @@ use Rattle.lra_flow.specs.Pass.{jumps_of, Entry, Result, noted, goes_on, jumps, 
 use Rattle.lra_iter.specs.Fits.{live_after, JumpsWith, TreeFits}
 use Rattle.lra_iter.specs.declared.outcome.Outcome.{Outcome}
 use Rattle.lra_iter.specs.Outcome.{headed, seen, AllHave, AreMet, Catches, JumpsFit, HasGrown, IsPassed, LeavesWith}
-use Rattle.lra_iter.specs.Shapes.{node_size, row_size}
+use Rattle.lra_iter.specs.Steps.{node_steps, row_steps}
 
 -- the views of the nine forms
 pub empty_view : node_view Empty ≡ graph.empty
@@ -53,53 +53,78 @@ catch_view q k a = search (rules, the_lemmas)
 pub leave_view : (n : ℕ) (k : declared_exit.Exit) → node_view (Leave n k) ≡ graph.leave n (exit_view k)
 leave_view n k = search (rules, the_lemmas)
 
--- the sizes of those with trees in them
-seq_sum : (gs : Vec Node Global) (last : Box Node Global) → node_size (Seq gs last) ≡ 1 + (sum (map node_size gs.items) + node_size last.value)
-seq_sum gs last = search (rules, the_lemmas)
+-- how many steps a pass of each takes
+pub empty_steps : (n : ℕ) → node_steps n Empty ≡ 1
+empty_steps n = search (rules, the_lemmas)
 
-seq_size : (gs : Vec Node Global) (last : Box Node Global) → node_size (Seq gs last) ≡ 1 + row_size gs.items last.value
-seq_size gs last = seq_sum gs last ∙ ap (λ k. 1 + (k + node_size last.value)) (sum-map node_size gs.items)
+pub point_steps : (n q : ℕ) → node_steps n (Point q) ≡ 1
+point_steps n q = search (rules, the_lemmas)
 
-choose_size : (q base : ℕ) (c : declared_cond.Cond) (a b : Box Node Global) → node_size (Choose q base c a b) ≡ 1 + (node_size a.value + node_size b.value)
-choose_size q base c a b = search (rules, the_lemmas)
+pub act_steps : (n q : ℕ) (o : declared_op.Op) → node_steps n (Act q o) ≡ 1
+act_steps n q o = search (rules, the_lemmas)
 
-iterate_size : (q base : ℕ) (c : declared_cond.Cond) (a : Box Node Global) → node_size (Iterate q base c a) ≡ 1 + node_size a.value
-iterate_size q base c a = search (rules, the_lemmas)
+pub check_steps : (n q base : ℕ) (c : declared_cond.Cond) → node_steps n (Check q base c) ≡ 1
+check_steps n q base c = search (rules, the_lemmas)
 
-catch_size : (q : ℕ) (k : declared_exit.Exit) (a : Box Node Global) → node_size (Catch q k a) ≡ 1 + node_size a.value
-catch_size q k a = search (rules, the_lemmas)
+pub leave_steps : (n l : ℕ) (k : declared_exit.Exit) → node_steps n (Leave l k) ≡ 1
+leave_steps n l k = search (rules, the_lemmas)
+
+each_step : {X : Type 0} (f : X → ℕ) (xs : List X) → sum_by suc (map f xs) ≡ sum_by (λ x. suc (f x)) xs
+each_step f [] = refl
+each_step f (x ∷ xs) = sum_by-cons suc (f x) (map f xs) ∙ ap (λ k. suc (f x) + k) (each_step f xs)
+    ∙ sym (sum_by-cons (λ y. suc (f y)) x xs)
+
+seq_sum : (n : ℕ) (gs : Vec Node Global) (last : Box Node Global) →
+    node_steps n (Seq gs last) ≡ 1 + (sum_by suc (map (node_steps n) gs.items) + suc (node_steps n last.value))
+seq_sum n gs last = search (rules, the_lemmas)
+
+seq_steps : (n : ℕ) (gs : Vec Node Global) (last : Box Node Global) →
+    node_steps n (Seq gs last) ≡ 1 + row_steps n gs.items last.value
+seq_steps n gs last = seq_sum n gs last ∙ ap (λ k. 1 + (k + suc (node_steps n last.value))) (each_step (node_steps n) gs.items)
+
+choose_steps : (n q base : ℕ) (c : declared_cond.Cond) (a b : Box Node Global) →
+    node_steps n (Choose q base c a b) ≡ 3 + (node_steps n a.value + node_steps n b.value)
+choose_steps n q base c a b = search (rules, the_lemmas)
+
+iterate_steps : (n q base : ℕ) (c : declared_cond.Cond) (a : Box Node Global) →
+    node_steps n (Iterate q base c a) ≡ 2 + n * suc (node_steps n a.value)
+iterate_steps n q base c a = search (rules, the_lemmas)
+
+catch_steps : (n q : ℕ) (k : declared_exit.Exit) (a : Box Node Global) →
+    node_steps n (Catch q k a) ≡ 2 + node_steps n a.value
+catch_steps n q k a = search (rules, the_lemmas)
 
 -- the same of a tree that is one of these forms, by the trees in it
-module _ (n y : Node) (xs : List Node) (gs : Vec Node Global) (last : Box Node Global) (one : xs ≡ gs.items) (two : y ≡ last.value) (is : n ≡ Seq gs last) where
-  pub seq_shown : node_view n ≡ row (map node_view xs) (node_view y)
+module _ (g y : Node) (xs : List Node) (gs : Vec Node Global) (last : Box Node Global) (one : xs ≡ gs.items) (two : y ≡ last.value) (is : g ≡ Seq gs last) where
+  pub seq_shown : node_view g ≡ row (map node_view xs) (node_view y)
   seq_shown = ap node_view is ∙ seq_view gs last ∙ ap (λ (z : List Node). row (map node_view z) (node_view last.value)) (sym one) ∙ ap (λ z. row (map node_view xs) (node_view z)) (sym two)
 
-  pub seq_sized : node_size n ≡ 1 + row_size xs y
-  seq_sized = ap node_size is ∙ seq_size gs last ∙ ap (λ (z : List Node). 1 + row_size z last.value) (sym one) ∙ ap (λ z. 1 + row_size xs z) (sym two)
+  pub seq_taken : (n : ℕ) → node_steps n g ≡ 1 + row_steps n xs y
+  seq_taken n = ap (node_steps n) is ∙ seq_steps n gs last ∙ ap (λ (z : List Node). 1 + row_steps n z last.value) (sym one) ∙ ap (λ z. 1 + row_steps n xs z) (sym two)
 
-module _ (n x y : Node) (a b : Box Node Global) (one : x ≡ a.value) (two : y ≡ b.value) where
-  module _ (q base : ℕ) (c : declared_cond.Cond) (is : n ≡ Choose q base c a b) where
-    pub choose_shown : node_view n ≡ graph.choose q base (cond_view c) (node_view x) (node_view y)
+module _ (g x y : Node) (a b : Box Node Global) (one : x ≡ a.value) (two : y ≡ b.value) where
+  module _ (q base : ℕ) (c : declared_cond.Cond) (is : g ≡ Choose q base c a b) where
+    pub choose_shown : node_view g ≡ graph.choose q base (cond_view c) (node_view x) (node_view y)
     choose_shown = ap node_view is ∙ choose_view q base c a b ∙ ap (λ z. graph.choose q base (cond_view c) (node_view z) (node_view b.value)) (sym one)
         ∙ ap (λ z. graph.choose q base (cond_view c) (node_view x) (node_view z)) (sym two)
 
-    pub choose_sized : node_size n ≡ 1 + (node_size x + node_size y)
-    choose_sized = ap node_size is ∙ choose_size q base c a b ∙ ap (λ z. 1 + (node_size z + node_size b.value)) (sym one) ∙ ap (λ z. 1 + (node_size x + node_size z)) (sym two)
+    pub choose_taken : (n : ℕ) → node_steps n g ≡ 3 + (node_steps n x + node_steps n y)
+    choose_taken n = ap (node_steps n) is ∙ choose_steps n q base c a b ∙ ap (λ z. 3 + (node_steps n z + node_steps n b.value)) (sym one) ∙ ap (λ z. 3 + (node_steps n x + node_steps n z)) (sym two)
 
-module _ (n x : Node) (a : Box Node Global) (one : x ≡ a.value) where
-  module _ (q base : ℕ) (c : declared_cond.Cond) (is : n ≡ Iterate q base c a) where
-    pub iterate_shown : node_view n ≡ graph.iterate q base (cond_view c) (node_view x)
+module _ (g x : Node) (a : Box Node Global) (one : x ≡ a.value) where
+  module _ (q base : ℕ) (c : declared_cond.Cond) (is : g ≡ Iterate q base c a) where
+    pub iterate_shown : node_view g ≡ graph.iterate q base (cond_view c) (node_view x)
     iterate_shown = ap node_view is ∙ iterate_view q base c a ∙ ap (λ z. graph.iterate q base (cond_view c) (node_view z)) (sym one)
 
-    pub iterate_sized : node_size n ≡ 1 + node_size x
-    iterate_sized = ap node_size is ∙ iterate_size q base c a ∙ ap (λ z. 1 + node_size z) (sym one)
+    pub iterate_taken : (n : ℕ) → node_steps n g ≡ 2 + n * suc (node_steps n x)
+    iterate_taken n = ap (node_steps n) is ∙ iterate_steps n q base c a ∙ ap (λ z. 2 + n * suc (node_steps n z)) (sym one)
 
-  module _ (q : ℕ) (k : declared_exit.Exit) (is : n ≡ Catch q k a) where
-    pub catch_shown : node_view n ≡ graph.catch q (exit_view k) (node_view x)
+  module _ (q : ℕ) (k : declared_exit.Exit) (is : g ≡ Catch q k a) where
+    pub catch_shown : node_view g ≡ graph.catch q (exit_view k) (node_view x)
     catch_shown = ap node_view is ∙ catch_view q k a ∙ ap (λ z. graph.catch q (exit_view k) (node_view z)) (sym one)
 
-    pub catch_sized : node_size n ≡ 1 + node_size x
-    catch_sized = ap node_size is ∙ catch_size q k a ∙ ap (λ z. 1 + node_size z) (sym one)
+    pub catch_taken : (n : ℕ) → node_steps n g ≡ 2 + node_steps n x
+    catch_taken n = ap (node_steps n) is ∙ catch_steps n q k a ∙ ap (λ z. 2 + node_steps n z) (sym one)
 
 no_element : {X : Type 0} (u : X) → Contains [] u → ⊥
 no_element u h = let below : h.0 < 0 = h.1 in omega arith
@@ -237,23 +262,12 @@ if_both (outcome_or.Ok x) P Q S f p q = f x p q
 if_both (outcome_or.Err e) P Q S f p q = tt
 
 -- what is handed on as the pass of a tree that is the other, passed with the same options
-module _ {V H E : Type 0} (m : Meaning V H) (set set' : Options) (g g' : graph.Node) (f : Option ℕ) (v : V)
-    (R : outcome_or.Result (Outcome V) E) (same : g ≡ g') where
-  pub passed_given : set' ≡ set → IfOk R (λ r. IsPassed m set' g' f v (seen r)) → IfOk R (λ r. IsPassed m set g f v (seen r))
-  passed_given options h = subst (λ (x : Options). IfOk R (λ r. IsPassed m x g f v (seen r))) options
-      (subst (λ (z : graph.Node). IfOk R (λ r. IsPassed m set' z f v (seen r))) (sym same) h)
-
-  -- and of one whose jumps come out
-  pub caught_passed : (q : ℕ) (k : Exit) (a : graph.Node) → g' ≡ graph.catch q k a → (s : Result V) → IsPassed m set a f v s
-      → IfOk R (λ r. Catches m q k s (seen r)) → IfOk R (λ r. m.dims r.normal ≡ m.dims s.normal)
-      → IfOk R (λ r. IsPassed m set g f v (seen r))
-  caught_passed q k a is s inner one two = if_both R (λ r. Catches m q k s (seen r)) (λ r. m.dims r.normal ≡ m.dims s.normal)
-      (λ r. IsPassed m set g f v (seen r))
-      (λ r catches dims. subst (λ (z : graph.Node). IsPassed m set z f v (seen r)) (sym (same ∙ is)) (record {
-        pass = catch_passes m set q k a f v s (seen r) inner.pass catches;
-        dims = dims ∙ inner.dims;
-        jumps = catch_fits m q k a (m.dims v) s (seen r) inner.jumps catches;
-      })) one two
+pub passed_given : {V H E : Type 0} (m : Meaning V H) (set set' : Options) (g g' : graph.Node) (f : Option ℕ) (v : V)
+    (R : outcome_or.Result (Outcome V) E) (same : g ≡ g') → set' ≡ set → IfOk R (λ r. IsPassed m set' g' f v (seen r)) →
+    IfOk R (λ r. IsPassed m set g f v (seen r))
+passed_given m set set' g g' f v R same options h =
+    subst (λ (x : Options). IfOk R (λ r. IsPassed m x g f v (seen r))) options
+    (subst (λ (z : graph.Node). IfOk R (λ r. IsPassed m set' z f v (seen r))) (sym same) h)
 
 -- nothing is done
 pub empty_passed : {V H : Type 0} (m : Meaning V H) (set : Options) (g : graph.Node) (f : Option ℕ) (v : V) (r : Result V)
@@ -263,6 +277,3 @@ empty_passed {V} {H} m set g f v r same is = subst (λ (z : graph.Node). IsPasse
   dims = ap (λ (x : Result V). m.dims x.normal) is;
   jumps = none_fits m graph.empty (m.dims v) [] v f r is;
 })
-
-pub less_by_one : (n k : ℕ) → n ≡ 1 + k → k < n
-less_by_one n k is = omega (arith, is)

@@ -9,3 +9,5 @@ pub mod Solved
 pub mod Sound
 pub mod Shapes
 pub mod Heads
+pub mod Open
+pub mod Steps

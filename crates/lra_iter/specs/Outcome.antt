@@ -111,6 +111,11 @@ abbrev pub AreGiven : {V H : Type 0} → Meaning V H → Options → Node → Op
 AreGiven m set g f v None = ⊤
 AreGiven m set g f v (Some turn) = (turn.entered ≡ v) × IsPassed m set g f v (seen turn.outcome)
 
+-- what enters a body with this value: a turn that was kept, or the value
+abbrev pub EntersWith : {V H : Type 0} → Meaning V H → Options → Node → Option ℕ → V → Entered V → Type 0
+EntersWith m set g f v (Again turn) = (turn.entered ≡ v) × IsPassed m set g f v (seen turn.outcome)
+EntersWith m set g f v (Anew entered on inside) = (entered ≡ v) × (on ≡ v) × (inside ≡ f)
+
 -- once round a loop from this value at its head: what entered the body, and what its pass gave
 pub record IsTurned {V H : Type 0} (m : Meaning V H) (set : Options) (q base : ℕ) (c : Cond) (a : Node) (f : Option ℕ)
     (v : V) (turn : Turn V) : Type 0 where
@@ -119,12 +124,9 @@ pub record IsTurned {V H : Type 0} (m : Meaning V H) (set : Options) (q base : �
   pub jumps : JumpsFit m a (m.dims v) (seen turn.outcome)
   pub kept : IsKept m set a turn.outcome.flag turn.entered (seen turn.outcome)
 
--- a turn from this value at the head, whatever was flagged before it
-abbrev pub HasTurned : {V H : Type 0} → Meaning V H → Options → ℕ → ℕ → Cond → Node → V → Turn V → Type 0
-HasTurned m set q base c a v turn = (f : Option ℕ) × IsTurned m set q base c a f v turn
-
 -- what comes into a loop's body from this value at its head: a turn that was kept, or what the condition leaves
 abbrev pub IsEntered : {V H : Type 0} → Meaning V H → Options → ℕ → ℕ → Cond → Node → Option ℕ → V → Entered V → Type 0
-IsEntered m set q base c a f v (Again turn) = IsTurned m set q base c a f v turn
-IsEntered m set q base c a f v (Anew on inside) = (e : Exactness) × Leaves (dropping m) base c true v e on ×
-    (inside ≡ noted q e f) × (m.dims on ≡ m.dims v)
+IsEntered m set q base c a f v (Again turn) = (e : Exactness) × Leaves (dropping m) base c true v e turn.entered ×
+    IsPassed m set a (noted q e f) turn.entered (seen turn.outcome) × (m.dims turn.entered ≡ m.dims v)
+IsEntered m set q base c a f v (Anew entered on inside) = (e : Exactness) × Leaves (dropping m) base c true v e on ×
+    (inside ≡ noted q e f) × (m.dims on ≡ m.dims v) × (entered ≡ on)

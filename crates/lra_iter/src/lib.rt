@@ -2,11 +2,15 @@
 #![tactic(auto)]
 
 mod catches;
+mod choices;
 mod heads;
 mod leaves;
+mod loops;
 mod memory;
 mod outcome;
 mod pass;
+mod places;
+mod rows;
 mod shapes;
 mod solution;
 mod tables;

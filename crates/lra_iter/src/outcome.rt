@@ -8,6 +8,7 @@ ghost use Rattle.lra_flow.specs.Operations.{dropping};
 ghost use Rattle.lra_flow.specs.Changes.{AreJoined};
 ghost use Rattle.lra_flow.specs.Pass.{noted, goes_on, jumps, behind};
 ghost use Rattle.lra_iter.specs.Outcome.{entry_view, ended, seen, AllHave, AreGiven, AreInTurn, AreKept};
+ghost use Rattle.lra_iter.specs.Outcome.{EntersWith};
 
 use lra_domain::{Domain, Exactness, worse};
 use lra_operations::Exit;
@@ -66,12 +67,12 @@ impl<D: Drop> Drop for Turn<D> {
     }
 }
 
-/// What comes into a loop's body: the kept turn, where the same value entered it, or else the value and the first
-/// flagged point so far.
+/// What comes into a loop's body: the kept turn, where the same value entered it, or else the value, twice, and the
+/// first flagged point so far.
 #[derive(Drop)]
 pub enum Entered<D> {
     Again(Turn<D>),
-    Anew(D, Option<usize>),
+    Anew(D, D, Option<usize>),
 }
 
 /// The value at a loop's head, and the turn that began with it.
@@ -305,6 +306,15 @@ impl<D: Drop> Outcome<D> {
 }
 
 impl<D: Drop> Turn<D> {
+    /// What entered the body, and what its pass gave.
+    pub fn into_parts(self) -> (D, Outcome<D>)
+        ensures entered { result.0 ≡ self.entered }
+        ensures outcome { result.1 ≡ self.outcome }
+    {
+        let Turn { entered, outcome } = self;
+        (entered, outcome)
+    }
+
     /// What its pass gave alone.
     pub fn into_outcome(self) -> Outcome<D>
         ensures { result ≡ self.outcome }
@@ -319,7 +329,7 @@ impl<D: Drop> Turn<D> {
 
 /// The kept turn of a loop's body, where the same value enters it again: passed anew it would give the same, but for
 /// what is flagged so far.
-pub fn reuse_turn<D: Domain>(kept: Option<Turn<D>>, on: &D, flag: Option<usize>) -> Option<Turn<D>>
+fn reuse_turn<D: Domain>(kept: Option<Turn<D>>, on: &D, flag: Option<usize>) -> Option<Turn<D>>
     ensures { (options : Options) (body : Node) → AreKept D.meaning options body flag kept →
         AreGiven D.meaning options body flag on.now result }
 {
@@ -333,16 +343,35 @@ pub fn reuse_turn<D: Domain>(kept: Option<Turn<D>>, on: &D, flag: Option<usize>)
     Some(turn)
 }
 
+/// The kept turn, where this value entered it, or else the value.
+pub fn enter_with<D: Domain>(
+    alloc: Global,
+    kept: Option<Turn<D>>,
+    on: D,
+    flag: Option<usize>,
+) -> Result<Entered<D>, AllocError>
+    ensures { (options : Options) (body : Node) → AreKept D.meaning options body flag kept →
+        IfOk result (EntersWith D.meaning options body flag on) }
+{
+    match reuse_turn(kept, &on, flag) {
+        Some(turn) => Ok(Entered::Again(turn)),
+        None => {
+            let entered = on.copy(alloc)?;
+            Ok(Entered::Anew(entered, on, flag))
+        }
+    }
+}
+
 /// The values joined one by one, from the left.
 pub fn join_all<D: Domain>(value: &mut D, others: &[D]) -> Result<Exactness, AllocError>
     requires { AllHave D.meaning (D.meaning.dims value.old) others.now }
     ensures joined { IfOk result (λ e. AreJoined (dropping D.meaning) value.old others.now e value.new) }
     ensures dims { OnOk result (D.meaning.dims value.new ≡ D.meaning.dims value.old) }
 {
-    let Some((other, later)) = others.split_first() else {
-        return Ok(Exactness::Exact);
-    };
-    let one = value.join(other)?;
-    let more = join_all(value, later)?;
-    Ok(worse(one, more))
+    let mut exactness = Exactness::Exact;
+    'others: for other in others {
+        let one = value.join(other)?;
+        exactness = worse(exactness, one);
+    }
+    Ok(exactness)
 }

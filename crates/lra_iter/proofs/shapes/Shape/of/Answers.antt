@@ -1,23 +1,28 @@
 -- Goals of `Shape::of`: the shape of a tree.
-use Rattle.std.proofs.Common.{refl, ap, ◌∙◌, ◌+◌}
+use Rattle.std.proofs.Common.{refl, ap, ◌∙◌}
 use Rattle.lra_operations.specs.GraphViews.{node_view}
-use Rattle.lra_iter.specs.Shapes.{node_size, row_size}
-use Rattle.lra_iter.proofs.PassSteps.{empty_view, point_view, act_view, check_view, leave_view, seq_shown, seq_sized}
-use Rattle.lra_iter.proofs.PassSteps.{choose_shown, choose_sized, iterate_shown, iterate_sized, catch_shown}
-use Rattle.lra_iter.proofs.PassSteps.{catch_sized, less_by_one}
+use Rattle.lra_iter.specs.Steps.{node_steps}
+use Rattle.lra_iter.proofs.PassSteps.{empty_view, point_view, act_view, check_view, leave_view, empty_steps, point_steps}
+use Rattle.lra_iter.proofs.PassSteps.{act_steps, check_steps, leave_steps, seq_shown, seq_taken, choose_shown, choose_taken}
+use Rattle.lra_iter.proofs.PassSteps.{iterate_shown, iterate_taken, catch_shown, catch_taken}
 use Rattle.lra_iter.proofs.shapes.Shape.of.Goals as goal
 
 pub returns-in-Empty : goal.returns-in-Empty
-returns-in-Empty c = ap node_view c.in-Empty.is ∙ empty_view
+returns-in-Empty c =
+    (ap node_view c.in-Empty.is ∙ empty_view, λ n. ap (node_steps n) c.in-Empty.is ∙ empty_steps n)
 
 pub returns-in-Point : goal.returns-in-Point
-returns-in-Point c = ap node_view c.in-Point.is ∙ point_view c.in-Point.point
+returns-in-Point c =
+    (ap node_view c.in-Point.is ∙ point_view c.in-Point.point, λ n. ap (node_steps n) c.in-Point.is ∙ point_steps n c.in-Point.point)
 
 pub returns-in-Act : goal.returns-in-Act
-returns-in-Act c = ap node_view c.in-Act.is ∙ act_view c.in-Act.point c.in-Act.op
+returns-in-Act c =
+    (ap node_view c.in-Act.is ∙ act_view c.in-Act.point c.in-Act.op, λ n. ap (node_steps n) c.in-Act.is ∙ act_steps n c.in-Act.point c.in-Act.op)
 
 pub returns-in-Check : goal.returns-in-Check
-returns-in-Check c = ap node_view c.in-Check.is ∙ check_view c.in-Check.point c.in-Check.base c.in-Check.condition
+returns-in-Check c =
+    let k = c.in-Check in
+    (ap node_view k.is ∙ check_view k.point k.base k.condition, λ n. ap (node_steps n) k.is ∙ check_steps n k.point k.base k.condition)
 
 pub returns-in-Seq : goal.returns-in-Seq
 returns-in-Seq c =
@@ -25,8 +30,7 @@ returns-in-Seq c =
     let y = c.deref.result.now in
     let xs = c.as_slice.result.now in (
       seq_shown n y xs c.in-Seq.trees c.in-Seq.last c.as_slice.ensures.value c.deref.ensures c.in-Seq.is,
-      less_by_one (node_size n) (row_size xs y)
-          (seq_sized n y xs c.in-Seq.trees c.in-Seq.last c.as_slice.ensures.value c.deref.ensures c.in-Seq.is),
+      seq_taken n y xs c.in-Seq.trees c.in-Seq.last c.as_slice.ensures.value c.deref.ensures c.in-Seq.is,
       refl,
     )
 
@@ -37,8 +41,7 @@ returns-in-Choose c =
     let x = c.deref-in-Choose.result.now in
     let y = c.deref-in-Choose-2.result.now in (
       choose_shown n x y k.yes k.no c.deref-in-Choose.ensures c.deref-in-Choose-2.ensures k.point k.base k.condition k.is,
-      less_by_one (node_size n) (node_size x + node_size y)
-          (choose_sized n x y k.yes k.no c.deref-in-Choose.ensures c.deref-in-Choose-2.ensures k.point k.base k.condition k.is),
+      choose_taken n x y k.yes k.no c.deref-in-Choose.ensures c.deref-in-Choose-2.ensures k.point k.base k.condition k.is,
       refl,
     )
 
@@ -48,8 +51,7 @@ returns-in-Iterate c =
     let l = c.in-Iterate in
     let x = c.deref-in-Iterate.result.now in (
       iterate_shown n x l.body c.deref-in-Iterate.ensures l.point l.base l.condition l.is,
-      less_by_one (node_size n) (node_size x)
-          (iterate_sized n x l.body c.deref-in-Iterate.ensures l.point l.base l.condition l.is),
+      iterate_taken n x l.body c.deref-in-Iterate.ensures l.point l.base l.condition l.is,
       refl,
     )
 
@@ -59,8 +61,9 @@ returns-in-Catch c =
     let k = c.in-Catch in
     let x = c.deref-in-Catch.result.now in (
       catch_shown n x k.body c.deref-in-Catch.ensures k.point k.exit k.is,
-      less_by_one (node_size n) (node_size x) (catch_sized n x k.body c.deref-in-Catch.ensures k.point k.exit k.is),
+      catch_taken n x k.body c.deref-in-Catch.ensures k.point k.exit k.is,
     )
 
 pub returns-in-Leave : goal.returns-in-Leave
-returns-in-Leave c = ap node_view c.in-Leave.is ∙ leave_view c.in-Leave.live c.in-Leave.exit
+returns-in-Leave c =
+    (ap node_view c.in-Leave.is ∙ leave_view c.in-Leave.live c.in-Leave.exit, λ n. ap (node_steps n) c.in-Leave.is ∙ leave_steps n c.in-Leave.live c.in-Leave.exit)

@@ -2,7 +2,7 @@
 -- the condition is false.
 use Rattle.std.proofs.Common.{ap, ◌∙◌}
 use Rattle.lra_iter.specs.Outcome.{headed, seen}
-use Rattle.lra_iter.proofs.pass.leave_loop.Goals as goal
+use Rattle.lra_iter.proofs.loops.leave_loop.Goals as goal
 
 pub returns-clause-left : goal.returns-clause-left
 returns-clause-left g c =

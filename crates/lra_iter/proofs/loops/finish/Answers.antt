@@ -2,7 +2,7 @@
 use Rattle.lra_program.specs.ProgramViews.{cond_view}
 use Rattle.lra_iter.specs.Outcome.{seen}
 use Rattle.lra_iter.proofs.KeptLoops.{recall_later, left_later}
-use Rattle.lra_iter.proofs.pass.finish.Goals as goal
+use Rattle.lra_iter.proofs.loops.finish.Goals as goal
 
 pub returns-clause-keeps : goal.returns-clause-keeps
 returns-clause-keeps g c options loops all kept =

@@ -2,11 +2,11 @@
 use Rattle.std.proofs.Common.{sym, ap, ◌∙◌}
 use Rattle.lra_flow.specs.Pass.{in_turn}
 use Rattle.lra_iter.specs.Outcome.{seen}
-use Rattle.lra_iter.proofs.pass.meet_again.Goals as goal
+use Rattle.lra_iter.proofs.choices.meet_again.Goals as goal
 
 pub returns-clause-joined : goal.returns-clause-joined
 returns-clause-joined g c =
-    let one = c.args.first in
+    let one = c.args.place.first in
     let two = c.args.second in
     let found = c.in_ok-append.ensures one.normal two.normal c.join.new.self one.flag two.flag c.note-both.result in (
       c.join.new.self,

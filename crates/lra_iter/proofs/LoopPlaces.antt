@@ -1,0 +1,444 @@
+-- Places at loops: what their bodies are passed from, and what comes behind a round.
+use Rattle.std.proofs.Common.{◌≡◌, ◌≤◌, ◌^◌, ℕ, suc, Option, Some, None, refl, sym, ap, subst, ◌∙◌}
+use Rattle.lra_domain.specs.Meaning.{Meaning}
+use Rattle.lra_domain.specs.Rank.{RankFits}
+use Rattle.lra_domain.specs.declared.Exactness.{Exactness}
+use Rattle.lra_program.specs.ProgramViews.{cond_view}
+use Rattle.lra_operations.specs.Graph.{Node, iterate}
+use Rattle.lra_operations.specs.GraphViews.{node_view}
+use Rattle.lra_base.specs.declared.options.Options.{Options}
+use Rattle.lra_flow.specs.Given.{given_rows}
+use Rattle.lra_flow.specs.Operations.{dropping}
+use Rattle.lra_flow.specs.Pass.{noted, mode_at}
+use Rattle.lra_iter.specs.declared.heads.Growing.{Growing}
+use Rattle.lra_iter.specs.declared.memory.Memory.{Memory}
+use Rattle.lra_iter.specs.declared.outcome.Entered.TheVariants.{Again as again, Anew}
+use Rattle.lra_iter.specs.declared.outcome.HeadTurn.{HeadTurn}
+use Rattle.lra_iter.specs.declared.outcome.Outcome.{Outcome}
+use Rattle.lra_iter.specs.declared.outcome.Turn.{Turn}
+use Rattle.lra_iter.specs.declared.places.GrowingPlace.{GrowingPlace}
+use Rattle.lra_iter.specs.declared.places.Narrowing.{Narrowing}
+use Rattle.lra_iter.specs.declared.places.NarrowingPlace.{NarrowingPlace}
+use Rattle.lra_iter.specs.declared.places.Next.TheVariants.{Again}
+use Rattle.lra_iter.specs.declared.places.Place.TheVariants.{Growing as GrowingAt, Narrowing as NarrowingAt}
+use Rattle.lra_iter.specs.declared.shapes.Loop.{Loop}
+use Rattle.lra_iter.specs.Fits.{live_after, TreeFits}
+use Rattle.lra_iter.specs.Heads.{IsValued, GrowsBy}
+use Rattle.lra_iter.specs.Memory.{AreRecalled, MayRecall, Remembers, StaysKept}
+use Rattle.lra_iter.specs.Outcome.{headed, seen, AreKept, IsEntered, IsKept, IsPassed, IsTurned, LeavesWith}
+use Rattle.lra_iter.specs.Open.{Due, HasEntered, IsGrowing, IsHead, IsLoopDue, IsMade, IsNarrowed}
+use Rattle.lra_iter.specs.Open.{IsNarrowing, IsWaiting, Leads, MayBePassed, NarrowLoop}
+use Rattle.lra_iter.proofs.Again.{all_noted, kept_noted, passed_kept, turned}
+use Rattle.lra_iter.proofs.KeptLoops.{later_noted, recalled_passed, remembers_body, remembers_later, remembers_on}
+use Rattle.lra_iter.proofs.KeptLoops.{stays_begun, stays_both, stays_passed, stays_recalled, stays_since, stays_then}
+use Rattle.lra_iter.proofs.PassLoops.{head_next, head_stable, head_starts, head_wide, narrow_ends, narrow_next, narrow_starts}
+use Rattle.lra_iter.proofs.PassSteps.{loop_passed}
+
+-- the loop's body is next
+abbrev at : {V : Type 0} → Loop → V → Option ℕ → Memory V → Due V
+at l value flag memory = record { tree = node_view l.body.now; value = value; flag = flag; memory = memory }
+
+module _ {V H : Type 0} (m : Meaning V H) (set : Options) where
+  -- a body that is entered from a value at the head
+  module _ (l : Loop) (whole : Due V) (may : MayBePassed m set whole)
+      (is : whole.tree ≡ iterate l.point l.base (cond_view l.condition.now) (node_view l.body.now)) where
+    loop_fits : TreeFits (iterate l.point l.base (cond_view l.condition.now) (node_view l.body.now)) (m.dims whole.value)
+    loop_fits = subst (λ (g : Node). TreeFits g (m.dims whole.value)) is may.fits
+
+    loop_remembers : Remembers m set (iterate l.point l.base (cond_view l.condition.now) (node_view l.body.now)) whole.flag
+        whole.memory
+    loop_remembers = subst (λ (g : Node). Remembers m set g whole.flag whole.memory) is may.remembers
+
+    module _ (top : V) (flag : Option ℕ) (memory : Memory V) (wide : m.dims top ≡ m.dims whole.value)
+        (remembers : Remembers m set (node_view l.body.now) flag memory) where
+      -- what the condition leaves is next
+      body_may : (value : V) (inside : Option ℕ) (entered : V) → IsEntered m l.options.now l.point l.base
+          (cond_view l.condition.now) (node_view l.body.now) flag top (Anew entered value inside) →
+          HasEntered m set l top flag entered (at l value inside memory) × MayBePassed m set (at l value inside memory)
+      body_may value inside entered has =
+          let dims : m.dims value ≡ m.dims whole.value = has.3 ∙ wide in (
+            record {
+              body = refl;
+              exactness = has.0;
+              on = has.1;
+              flagged = has.2;
+              dims = has.3;
+              same = has.4;
+            },
+            record {
+              few = subst (λ (n : ℕ). n ≤ 2 ^ 30) (sym dims) may.few;
+              fits = subst (λ (n : ℕ). TreeFits (node_view l.body.now) n) (sym dims) loop_fits.0;
+              remembers = remembers_later m set (node_view l.body.now) flag inside memory
+                  (later_noted l.point has.0 flag inside has.2) remembers;
+            },
+          )
+
+      -- or it was passed before
+      body_again : (turn : Turn V) (entered : V) (outcome : Outcome V) → l.options.now ≡ set →
+          IsEntered m l.options.now l.point l.base (cond_view l.condition.now)
+          (node_view l.body.now) flag top (again turn) → entered ≡ turn.entered → outcome ≡ turn.outcome →
+          (part : Due V) × (part.memory ≡ memory) × HasEntered m set l top flag entered part ×
+          IsMade m set part (seen outcome) memory
+      body_again turn entered outcome options has same given =
+          let inside = noted l.point has.0 flag in
+          let passed : IsPassed m set (node_view l.body.now) inside turn.entered (seen outcome) =
+          subst (λ (x : Options). IsPassed m x (node_view l.body.now) inside turn.entered (seen outcome)) options
+          (subst (λ (x : Outcome V). IsPassed m l.options.now (node_view l.body.now) inside turn.entered (seen x))
+          (sym given) has.2) in (
+            record { tree = node_view l.body.now; value = turn.entered; flag = inside; memory = memory },
+            refl,
+            record {
+              body = refl;
+              exactness = has.0;
+              on = has.1;
+              flagged = refl;
+              dims = has.3;
+              same = same;
+            },
+            record {
+              passed = passed;
+              stays = stays_passed m set (node_view l.body.now) inside turn.entered (seen outcome) memory passed;
+            },
+          )
+
+    -- what was passed from what entered the body is a turn
+    module _ (top : V) (flag : Option ℕ) (wide : m.dims top ≡ m.dims whole.value) (part : Due V) (entered : V)
+        (outcome : Outcome V) (new : Memory V) (has : HasEntered m set l top flag entered part)
+        (made : IsMade m set part (seen outcome) new) where
+      body_turned : IsTurned m set l.point l.base (cond_view l.condition.now) (node_view l.body.now) flag top
+          (record { entered = entered; outcome = outcome })
+      body_turned = turned m set (node_view l.body.now) l.point l.base (cond_view l.condition.now) flag part.flag top
+          part.value has.exactness (record { entered = entered; outcome = outcome }) has.on has.flagged has.dims
+          (subst (λ (n : ℕ). live_after (node_view l.body.now) n ≡ n) (sym wide) loop_fits.1) has.same
+          (subst (λ (g : Node). IsPassed m set g part.flag part.value (seen outcome)) has.body made.passed)
+
+      body_stays : StaysKept m set (node_view l.body.now) flag part.memory outcome.flag new
+      body_stays = stays_since m set (node_view l.body.now) flag part.flag outcome.flag part.memory new
+          (later_noted l.point has.exactness flag part.flag has.flagged)
+          (subst (λ (g : Node). StaysKept m set g part.flag part.memory outcome.flag new) has.body made.stays)
+
+  -- a head that begins ------------------------------------------------------------------------------------------------
+
+  module _ (l : Loop) (whole : Due V) (first : V) (flag : Option ℕ) (memory : Memory V)
+      (here : IsLoopDue m set l whole first flag memory) where
+    pub due_few : m.dims first ≤ 2 ^ 30
+    due_few = subst (λ (v : V). m.dims v ≤ 2 ^ 30) here.first_is here.may.few
+
+    due_remembers : Remembers m set (iterate l.point l.base (cond_view l.condition.now) (node_view l.body.now)) whole.flag
+        whole.memory
+    due_remembers = loop_remembers l whole here.may here.is
+
+    pub head_opens : (growing : Growing V H) (begun : Memory V) → begun.kept ≡ memory.kept →
+        (dropping m).started first (given_rows (m.dims first) l.base (cond_view l.condition.now)) growing.head →
+        RankFits (m.rank growing.head) → IsValued m l.point flag growing.head growing.value growing.flag →
+        growing.left ≡ l.options.now.delay → IsHead m set l whole first growing None begun
+    head_opens growing begun kept started fits valued left = record {
+      begun = begun;
+      loop = record {
+        options = here.options;
+        is = here.is;
+        first_is = sym here.first_is;
+        kept = kept ∙ ap (λ (x : Memory V). x.kept) (sym here.kept);
+      };
+      head = head_starts m set l.point l.base (cond_view l.condition.now) (node_view l.body.now) whole.value whole.flag
+          growing begun (subst (λ (v : V). (dropping m).started v
+          (given_rows (m.dims v) l.base (cond_view l.condition.now)) growing.head) (sym here.first_is) started) fits
+          (subst (λ (f : Option ℕ). IsValued m l.point f growing.head growing.value growing.flag) (sym here.flagged) valued)
+          (left ∙ ap (λ (x : Options). x.delay) here.options);
+    }
+
+    -- what is kept is given
+    pub loop_recalled : (given : Option (Outcome V)) (r : Outcome V) (new : Memory V) →
+        ((options : Options) (loops : ℕ → Node) → MayRecall m options loops flag memory →
+        AreRecalled m options (loops l.point) flag first given) → new.kept ≡ memory.kept → given ≡ Some r →
+        IsMade m set whole (seen r) new
+    loop_recalled given r new gives kept is =
+        let tree = iterate l.point l.base (cond_view l.condition.now) (node_view l.body.now) in
+        let remembers : Remembers m set tree flag memory =
+        subst (λ (f : Option ℕ). Remembers m set tree f memory) here.flagged
+        (subst (λ (x : Memory V). Remembers m set tree whole.flag x) here.kept due_remembers) in
+        let passed : IsPassed m set tree flag first (seen r) = recalled_passed m set l.point l.base
+        (cond_view l.condition.now) (node_view l.body.now) flag first memory given r remembers (gives set) is in
+        let there : IsPassed m set tree whole.flag whole.value (seen r) =
+        subst (λ (f : Option ℕ). IsPassed m set tree f whole.value (seen r)) (sym here.flagged)
+        (subst (λ (v : V). IsPassed m set tree flag v (seen r)) (sym here.first_is) passed) in
+        record {
+          passed = subst (λ (g : Node). IsPassed m set g whole.flag whole.value (seen r)) (sym here.is) there;
+          stays = subst (λ (g : Node). StaysKept m set g whole.flag whole.memory r.flag new) (sym here.is)
+              (stays_recalled m set l.point l.base (cond_view l.condition.now) (node_view l.body.now) whole.flag whole.value
+              (seen r) whole.memory new (kept ∙ ap (λ (x : Memory V). x.kept) (sym here.kept)) there);
+        }
+
+  -- a head that grows -------------------------------------------------------------------------------------------------
+
+  module _ (l : Loop) (whole : Due V) (first : V) (growing : Growing V H) (turn : Option (Turn V)) (memory : Memory V)
+      (may : MayBePassed m set whole) (here : IsHead m set l whole first growing turn memory) where
+    growing_wide : m.dims growing.value ≡ m.dims whole.value
+    growing_wide = head_wide m set l.point l.base (cond_view l.condition.now) (node_view l.body.now) whole.value whole.flag
+        growing turn here.begun memory here.head
+
+    pub growing_few : m.dims growing.value ≤ 2 ^ 30
+    growing_few = subst (λ (n : ℕ). n ≤ 2 ^ 30) (sym growing_wide) may.few
+
+    growing_remembers : Remembers m set (node_view l.body.now) growing.flag memory
+    growing_remembers = remembers_on m set (node_view l.body.now) whole.flag here.head.so_far growing.flag here.begun memory
+        (remembers_body m set l.point l.base (cond_view l.condition.now) (node_view l.body.now) whole.flag whole.memory
+        here.begun here.loop.kept (loop_remembers l whole may here.loop.is)) here.head.loop.stays
+        (later_noted l.point here.head.valued.0 here.head.so_far growing.flag here.head.valued.2)
+
+    pub growing_kept : AreKept m l.options.now (node_view l.body.now) growing.flag turn
+    growing_kept = subst (λ (x : Options). AreKept m x (node_view l.body.now) growing.flag turn) (sym here.loop.options)
+        (subst (λ (f : Option ℕ). AreKept m set (node_view l.body.now) f turn) (sym here.head.valued.2)
+        (all_noted m set (node_view l.body.now) l.point here.head.valued.0 here.head.so_far turn here.head.loop.kept))
+
+    -- the last turn needn't be given again
+    growing_on : IsHead m set l whole first growing None memory
+    growing_on = record {
+      begun = here.begun;
+      loop = here.loop;
+      head = record {
+        so_far = here.head.so_far;
+        valued = here.head.valued;
+        loop = record {
+          dims = here.head.loop.dims;
+          fits = here.head.loop.fits;
+          kept = tt;
+          stays = here.head.loop.stays;
+          grows = here.head.loop.grows;
+        };
+      };
+    }
+
+    pub growing_opens : (value : V) (inside : Option ℕ) (entered : V) → IsEntered m l.options.now l.point l.base
+        (cond_view l.condition.now) (node_view l.body.now) growing.flag growing.value (Anew entered value inside) → IsGrowing m set (record {
+          the_loop = l;
+          first = first;
+          growing = growing;
+          entered = entered;
+        }) whole (at l value inside memory) × MayBePassed m set (at l value inside memory)
+    growing_opens value inside entered has =
+        let now = body_may l whole may here.loop.is growing.value growing.flag memory growing_wide growing_remembers value
+        inside entered has in (record { head = growing_on; entered = now.0 }, now.1)
+
+    pub growing_again : (given : Turn V) (entered : V) (outcome : Outcome V) → IsEntered m l.options.now l.point l.base
+        (cond_view l.condition.now) (node_view l.body.now) growing.flag growing.value (again given) →
+        entered ≡ given.entered → outcome ≡ given.outcome → Leads m set whole (Again (GrowingAt (record {
+          the_loop = l;
+          first = first;
+          growing = growing;
+          entered = entered;
+        })) outcome) memory
+    growing_again given entered outcome has same is =
+        let now = body_again l whole may here.loop.is growing.value growing.flag memory growing_wide growing_remembers
+        given entered outcome here.loop.options has same is in (
+          now.0,
+          record {
+            head = subst (λ (x : Memory V). IsHead m set l whole first growing None x) (sym now.1) growing_on;
+            entered = now.2;
+          },
+          now.3,
+        )
+
+  -- behind its round
+  module _ (p : GrowingPlace V H) (whole part : Due V) (outcome : Outcome V) (new : Memory V)
+      (may : MayBePassed m set whole) (owed : IsGrowing m set p whole part)
+      (made : IsMade m set part (seen outcome) new) where
+    abbrev l : Loop
+    l = p.the_loop
+
+    abbrev body : Node
+    body = node_view p.the_loop.body.now
+
+    abbrev turn : Turn V
+    turn = record { entered = p.entered; outcome = outcome }
+
+    grown_turned : IsTurned m set l.point l.base (cond_view l.condition.now) body p.growing.flag p.growing.value turn
+    grown_turned = body_turned l whole may owed.head.loop.is p.growing.value p.growing.flag
+        (growing_wide l whole p.first p.growing None part.memory may owed.head) part p.entered outcome new owed.entered made
+
+    pub grown_wide : m.head_dims p.growing.head ≡ m.dims outcome.normal
+    grown_wide = sym (grown_turned.dims ∙ owed.head.head.valued.1.1)
+
+    grown_stays : StaysKept m set body whole.flag owed.head.begun outcome.flag new
+    grown_stays =
+        let at = owed.head.head in
+        stays_both m set body whole.flag at.so_far p.growing.flag outcome.flag owed.head.begun part.memory new at.loop.stays
+        (later_noted l.point at.valued.0 at.so_far p.growing.flag at.valued.2)
+        (body_stays l whole may owed.head.loop.is p.growing.value p.growing.flag
+        (growing_wide l whole p.first p.growing None part.memory may owed.head) part p.entered outcome new owed.entered made)
+
+    -- the head is stable
+    pub grown_stable : (value : V) → value ≡ p.growing.value →
+        (dropping m).stays p.growing.head outcome.normal (mode_at l.options.now.limited p.growing.left) →
+        IsNarrowed m set l whole p.first (record { value = value; turn = turn }) l.options.now.narrow new
+    grown_stable value same stays =
+        let at = owed.head.head in
+        let steady : (dropping m).stays p.growing.head outcome.normal (mode_at set.limited p.growing.left) =
+        subst (λ (x : Options). (dropping m).stays p.growing.head outcome.normal (mode_at x.limited p.growing.left))
+        owed.head.loop.options stays in
+        let grown = head_stable m set l.point l.base (cond_view l.condition.now) body whole.value whole.flag p.growing None
+        owed.head.begun part.memory at (seen outcome) grown_turned.round steady in
+        let narrowed = narrow_starts m set l.point l.base (cond_view l.condition.now) body whole.value p.growing.flag
+        p.growing.value turn new (growing_wide l whole p.first p.growing None part.memory may owed.head) grown_turned in
+        subst (λ (v : V). IsNarrowed m set l whole p.first (record { value = v; turn = turn }) l.options.now.narrow new)
+        (sym same) (record {
+          begun = owed.head.begun;
+          loop = owed.head.loop;
+          start = p.growing.value;
+          round = seen outcome;
+          grown = grown;
+          between = new;
+          grown_stays = grown_stays;
+          narrowed = subst (λ (x : Options). NarrowLoop m set l.point l.base (cond_view l.condition.now) body whole.value
+              p.growing.value (seen outcome) x.narrow p.growing.value p.entered (seen outcome) new new)
+              (sym owed.head.loop.options) narrowed;
+        })
+
+    -- it grew
+    pub grown_next : (e : Exactness) (after : Growing V H) →
+        GrowsBy m l.options.now.limited l.point e p.growing (seen outcome) after →
+        IsHead m set l whole p.first after (Some turn) new
+    grown_next e after by =
+        let flag = noted l.point e outcome.flag in
+        record {
+          begun = owed.head.begun;
+          loop = owed.head.loop;
+          head = head_next m set l.point l.base (cond_view l.condition.now) body whole.value whole.flag p.growing None
+              owed.head.begun part.memory owed.head.head (seen outcome) grown_turned.round e after (Some turn) new
+              (subst (λ (x : Options). GrowsBy m x.limited l.point e p.growing (seen outcome) after)
+              owed.head.loop.options by)
+              (kept_noted m set body l.point e outcome.flag p.entered (seen outcome) grown_turned.kept)
+              (stays_then m set body whole.flag outcome.flag flag owed.head.begun new grown_stays
+              (later_noted l.point e outcome.flag flag refl));
+        }
+
+  -- a stable head that is narrowed ------------------------------------------------------------------------------------
+
+  module _ (l : Loop) (whole : Due V) (first : V) (last : HeadTurn V) (left : ℕ) (memory : Memory V)
+      (may : MayBePassed m set whole) (here : IsNarrowed m set l whole first last left memory) where
+    narrowed_wide : m.dims last.value ≡ m.dims whole.value
+    narrowed_wide = here.narrowed.dims
+
+    pub narrowed_few : m.dims last.value ≤ 2 ^ 30
+    narrowed_few = subst (λ (n : ℕ). n ≤ 2 ^ 30) (sym narrowed_wide) may.few
+
+    pub narrowed_behind : m.dims last.turn.outcome.normal ≡ m.dims first
+    narrowed_behind = here.narrowed.behind ∙ ap m.dims (sym here.loop.first_is)
+
+    narrowed_stays : StaysKept m set (node_view l.body.now) whole.flag here.begun last.turn.outcome.flag memory
+    narrowed_stays = stays_both m set (node_view l.body.now) whole.flag here.round.flag here.round.flag
+        last.turn.outcome.flag here.begun here.between memory here.grown_stays (λ none. none) here.narrowed.stays
+
+    -- the last round comes out
+    pub narrowed_made : (r : Outcome V) (new : Memory V) → left ≡ 0 → LeavesWith m l.point l.base
+        (cond_view l.condition.now) last.value (seen last.turn.outcome) (seen r) → m.dims r.normal ≡ m.dims last.value →
+        ((options : Options) (loops : ℕ → Node) → MayRecall m options loops last.turn.outcome.flag memory →
+        IsKept m options (loops l.point) r.flag first (seen r) → MayRecall m options loops r.flag new) →
+        IsMade m set whole (seen r) new
+    narrowed_made r new none left_with dims keeps =
+        let tree = iterate l.point l.base (cond_view l.condition.now) (node_view l.body.now) in
+        let narrows = narrow_ends m set l.point l.base (cond_view l.condition.now) (node_view l.body.now) whole.value
+        here.start here.round left last.value last.turn.entered (seen last.turn.outcome) here.between memory here.narrowed
+        none in
+        let passed : IsPassed m set tree whole.flag whole.value (seen r) = loop_passed m set l.point l.base
+        (cond_view l.condition.now) (node_view l.body.now) whole.flag whole.value here.start last.value
+        (headed l.point here.start here.round) (seen last.turn.outcome) (seen r) here.grown narrows left_with narrowed_wide
+        dims here.narrowed.jumps in
+        let stays : StaysKept m set tree whole.flag whole.memory last.turn.outcome.flag memory = stays_begun m set l.point
+        l.base (cond_view l.condition.now) (node_view l.body.now) whole.flag last.turn.outcome.flag whole.memory here.begun
+        memory here.loop.kept narrowed_stays in
+        record {
+          passed = subst (λ (g : Node). IsPassed m set g whole.flag whole.value (seen r)) (sym here.loop.is) passed;
+          stays = subst (λ (g : Node). StaysKept m set g whole.flag whole.memory r.flag new) (sym here.loop.is)
+              (λ loops has all. keeps set loops (stays loops has all)
+              (subst (λ (g : Node). IsKept m set g r.flag first (seen r)) (sym has.0)
+              (subst (λ (v : V). IsKept m set tree r.flag v (seen r)) (sym here.loop.first_is)
+              (passed_kept m set tree whole.flag whole.value (seen r) passed))));
+        }
+
+    -- a round more
+    module _ (k : ℕ) (next : V) (e : Exactness) (flag : Option ℕ) (counts : left ≡ suc k)
+        (joined : (dropping m).joined first last.turn.outcome.normal e next)
+        (flagged : flag ≡ noted l.point e last.turn.outcome.flag) where
+      pub narrowed_kept : IsKept m set (node_view l.body.now) flag last.turn.entered (seen last.turn.outcome)
+      narrowed_kept = subst (λ (f : Option ℕ). IsKept m set (node_view l.body.now) f last.turn.entered
+          (seen last.turn.outcome)) (sym flagged)
+          (kept_noted m set (node_view l.body.now) l.point e last.turn.outcome.flag last.turn.entered
+          (seen last.turn.outcome) here.narrowed.kept)
+
+      pub narrowed_waits : IsWaiting m set (record { the_loop = l; first = first; top = next; left = k }) whole flag memory
+      narrowed_waits =
+          let there : (dropping m).joined whole.value last.turn.outcome.normal e next =
+          subst (λ (v : V). (dropping m).joined v last.turn.outcome.normal e next) here.loop.first_is joined in
+          record {
+            begun = here.begun;
+            loop = here.loop;
+            dims = there.2;
+            remembers = remembers_on m set (node_view l.body.now) whole.flag last.turn.outcome.flag flag here.begun memory
+                (remembers_body m set l.point l.base (cond_view l.condition.now) (node_view l.body.now) whole.flag
+                whole.memory here.begun here.loop.kept (loop_remembers l whole may here.loop.is)) narrowed_stays
+                (later_noted l.point e last.turn.outcome.flag flag flagged);
+            narrows = λ turn new turned stays. record {
+              begun = here.begun;
+              loop = here.loop;
+              start = here.start;
+              round = here.round;
+              grown = here.grown;
+              between = here.between;
+              grown_stays = here.grown_stays;
+              narrowed = narrow_next m set l.point l.base (cond_view l.condition.now) (node_view l.body.now) whole.value
+                  here.start here.round left k last.value next last.turn.entered turn.entered (seen last.turn.outcome)
+                  (seen turn.outcome) e flag here.between memory new here.narrowed counts there flagged turned.round
+                  turned.dims turned.jumps turned.kept
+                  (stays_both m set (node_view l.body.now) here.round.flag last.turn.outcome.flag flag turn.outcome.flag
+                  here.between memory new here.narrowed.stays
+                  (later_noted l.point e last.turn.outcome.flag flag flagged) stays);
+            };
+          }
+
+  module _ (n : Narrowing V) (whole : Due V) (flag : Option ℕ) (memory : Memory V) (may : MayBePassed m set whole)
+      (here : IsWaiting m set n whole flag memory) where
+    pub waiting_few : m.dims n.top ≤ 2 ^ 30
+    waiting_few = subst (λ (k : ℕ). k ≤ 2 ^ 30) (sym here.dims) may.few
+
+    pub waiting_kept : (kept : Turn V) → IsKept m set (node_view n.the_loop.body.now) flag kept.entered (seen kept.outcome) →
+        AreKept m n.the_loop.options.now (node_view n.the_loop.body.now) flag (Some kept)
+    waiting_kept kept is = subst (λ (x : Options). IsKept m x (node_view n.the_loop.body.now) flag kept.entered
+        (seen kept.outcome)) (sym here.loop.options) is
+
+    pub narrowing_opens : (value : V) (inside : Option ℕ) (entered : V) → IsEntered m n.the_loop.options.now
+        n.the_loop.point n.the_loop.base (cond_view n.the_loop.condition.now) (node_view n.the_loop.body.now) flag n.top
+        (Anew entered value inside) →
+        IsNarrowing m set (record { narrowing = n; entered = entered }) whole (at n.the_loop value inside memory) ×
+        MayBePassed m set (at n.the_loop value inside memory)
+    narrowing_opens value inside entered has =
+        let now = body_may n.the_loop whole may here.loop.is n.top flag memory here.dims here.remembers value inside entered
+        has in (record { flag = flag; waiting = here; entered = now.0 }, now.1)
+
+    pub narrowing_again : (given : Turn V) (entered : V) (outcome : Outcome V) → IsEntered m n.the_loop.options.now
+        n.the_loop.point n.the_loop.base (cond_view n.the_loop.condition.now) (node_view n.the_loop.body.now) flag n.top
+        (again given) → entered ≡ given.entered → outcome ≡ given.outcome →
+        Leads m set whole (Again (NarrowingAt (record { narrowing = n; entered = entered })) outcome) memory
+    narrowing_again given entered outcome has same is =
+        let now = body_again n.the_loop whole may here.loop.is n.top flag memory here.dims here.remembers given entered
+        outcome here.loop.options has same is in (
+          now.0,
+          record {
+            flag = flag;
+            waiting = subst (λ (x : Memory V). IsWaiting m set n whole flag x) (sym now.1) here;
+            entered = now.2;
+          },
+          now.3,
+        )
+
+  -- behind a round of it
+  pub narrowing_narrowed : (p : NarrowingPlace V) (whole part : Due V) (outcome : Outcome V) (new : Memory V) →
+      MayBePassed m set whole → IsNarrowing m set p whole part → IsMade m set part (seen outcome) new →
+      IsNarrowed m set p.narrowing.the_loop whole p.narrowing.first
+      (record { value = p.narrowing.top; turn = record { entered = p.entered; outcome = outcome } }) p.narrowing.left new
+  narrowing_narrowed p whole part outcome new may owed made =
+      let l = p.narrowing.the_loop in
+      let here = owed.waiting in
+      here.narrows (record { entered = p.entered; outcome = outcome }) new
+      (body_turned l whole may here.loop.is p.narrowing.top owed.flag here.dims part p.entered outcome new owed.entered made)
+      (body_stays l whole may here.loop.is p.narrowing.top owed.flag here.dims part p.entered outcome new owed.entered made)

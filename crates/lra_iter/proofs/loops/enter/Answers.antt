@@ -1,0 +1,24 @@
+-- Goals of `enter`: what comes into a loop's body from the value at its head.
+use Rattle.std.proofs.lemmas.Result.{IfOk-weaker}
+use Rattle.lra_program.specs.ProgramViews.{cond_view}
+use Rattle.lra_operations.specs.GraphViews.{node_view}
+use Rattle.lra_iter.specs.Outcome.{EntersWith, IsEntered}
+use Rattle.lra_iter.proofs.Again.{entered_with, kept_inside}
+use Rattle.lra_iter.proofs.loops.enter.Goals as goal
+
+pub returns : goal.returns
+returns g c =
+    let m = g.D.Domain.meaning in
+    let l = c.args.the_loop.now in
+    let body = node_view l.body.now in
+    let e = c.in_ok-exactness.exactness in
+    let on = c.leave.new.value in
+    let inside = c.note-inside.result in
+    let leaves = rw c.in_ok-on.ensures at c.in_ok-exactness.ensures.leaves in
+    let wide = rw c.in_ok-on.ensures at c.in_ok-exactness.ensures.dims in
+    IfOk-weaker c.enter_with.result (EntersWith m l.options.now body inside on)
+    (IsEntered m l.options.now l.point l.base (cond_view l.condition.now) body c.args.flag c.args.value.now)
+    (λ given enters. entered_with m l.options.now body l.point l.base (cond_view l.condition.now) c.args.flag inside
+    c.args.value.now on e given leaves c.note-inside.ensures wide enters)
+    (c.enter_with.ensures l.options.now body
+    (kept_inside m l.options.now body l.point e c.args.flag inside c.args.kept c.note-inside.ensures c.requires.kept))

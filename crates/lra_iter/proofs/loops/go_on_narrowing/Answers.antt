@@ -1,0 +1,22 @@
+-- Goals of `go_on_narrowing`: behind a round of a loop that is narrowed.
+use Rattle.std.proofs.Common.{◌^◌}
+use Rattle.lra_iter.proofs.LoopPlaces.{narrowing_narrowed}
+use Rattle.lra_iter.proofs.loops.go_on_narrowing.Goals as goal
+
+pub narrow_on-requires : goal.narrow_on-requires
+narrow_on-requires g c =
+    let given = c.requires in (
+      given.0,
+      given.1,
+      given.3,
+      narrowing_narrowed g.D.Domain.meaning given.0 c.args.place given.1 given.2 c.args.outcome
+          c.args.memory.now given.3 given.4 given.5,
+    )
+
+pub returns-clause-leads : goal.returns-clause-leads
+returns-clause-leads g c set whole part may owed made =
+    c.narrow_on.ensures.leads set whole may (narrowing_narrowed g.D.Domain.meaning set c.args.place whole part c.args.outcome
+    c.args.memory.now may owed made)
+
+pub returns-clause-falls : goal.returns-clause-falls
+returns-clause-falls g c set options = c.narrow_on.ensures.steps (2 ^ 64) set

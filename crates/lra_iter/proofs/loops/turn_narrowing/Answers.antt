@@ -1,0 +1,37 @@
+-- Goals of `turn_narrowing`: once round a loop that is narrowed, from the value at its head.
+use Rattle.std.proofs.Common.{subst}
+use Rattle.lra_program.specs.ProgramViews.{cond_view}
+use Rattle.lra_operations.specs.GraphViews.{node_view}
+use Rattle.lra_iter.specs.Outcome.{IsEntered}
+use Rattle.lra_iter.proofs.LoopPlaces.{waiting_few, waiting_kept, narrowing_again, narrowing_opens}
+use Rattle.lra_iter.proofs.loops.turn_narrowing.Goals as goal
+
+pub enter-requires : goal.enter-requires
+enter-requires g c =
+    let m = g.D.Domain.meaning in
+    let given = c.requires in
+    record {
+      few = waiting_few m given.0 c.args.narrowing given.1 c.args.flag given.2 given.3 given.4;
+      kept = waiting_kept m given.0 c.args.narrowing given.1 c.args.flag given.2 given.3 given.4 c.args.kept given.5;
+    }
+
+pub returns-in-Again-clause-leads : goal.returns-in-Again-clause-leads
+returns-in-Again-clause-leads g c set whole memory may waiting =
+    let m = g.D.Domain.meaning in
+    let n = c.args.narrowing in
+    let l = n.the_loop in
+    let entered = subst (λ r. IsEntered m l.options.now l.point l.base (cond_view l.condition.now)
+    (node_view l.body.now) c.args.flag n.top r) c.in-Again.is c.in_ok-turn.ensures in
+    let parts = c.into_parts-entered in
+    narrowing_again m set n whole c.args.flag memory may waiting c.in-Again.turn parts.result.0 parts.result.1
+    entered parts.ensures.entered parts.ensures.outcome
+
+pub returns-in-Anew-clause-leads : goal.returns-in-Anew-clause-leads
+returns-in-Anew-clause-leads g c set whole memory may waiting =
+    let m = g.D.Domain.meaning in
+    let n = c.args.narrowing in
+    let l = n.the_loop in
+    let entered = subst (λ r. IsEntered m l.options.now l.point l.base (cond_view l.condition.now)
+    (node_view l.body.now) c.args.flag n.top r) c.in-Anew.is c.in_ok-turn.ensures in
+    narrowing_opens m set n whole c.args.flag memory may waiting c.in-Anew.value c.in-Anew.flag
+    c.in-Anew.entered entered

@@ -1,0 +1,144 @@
+-- Goals of `go_on`: the next step at a place, behind what the tree under way there gave.
+use Rattle.std.proofs.Common.{◌≡◌, ◌<◌, ◌^◌, sym, subst, arith}
+use Rattle.std.specs.Prelude.{IfOk}
+use Rattle.std.proofs.lemmas.Result.{IfOk-weaker}
+use Rattle.lra_operations.specs.GraphViews.{exit_view}
+use Rattle.lra_iter.specs.Open.{IsMade, IsOpen}
+use Rattle.lra_iter.specs.Outcome.{seen, AreInTurn, AreMet, Catches}
+use Rattle.lra_iter.specs.Steps.{next_left, place_left}
+use Rattle.lra_iter.proofs.OpenPlaces.{branches_made, branches_meet, catch_made, jumps_have, last_made}
+use Rattle.lra_iter.proofs.PassSteps.{if_both}
+use Rattle.lra_iter.proofs.TurnSteps.{ends_less}
+use Rattle.lra_iter.proofs.pass.go_on.Goals as goal
+
+-- rows ----------------------------------------------------------------------------------------------------------------
+
+pub returns-in-Row-clause-leads : goal.returns-in-Row-clause-leads
+returns-in-Row-clause-leads g c set whole part may owed made =
+    let here = subst (λ p. IsOpen g.D.Domain.meaning set p whole part) c.in-Row.is owed in
+    c.go_on_row.ensures.leads set whole part c.args.memory.now may here made
+
+pub returns-in-Row-clause-falls : goal.returns-in-Row-clause-falls
+returns-in-Row-clause-falls g c set whole part owed =
+    let m = g.D.Domain.meaning in
+    subst (λ p. IfOk c.go_on_row.result (λ n. next_left m (2 ^ 64) set n < place_left m (2 ^ 64) set p)) (sym c.in-Row.is)
+    (c.go_on_row.ensures.falls (2 ^ 64) set)
+
+pub returns-in-Last-clause-leads : goal.returns-in-Last-clause-leads
+returns-in-Last-clause-leads g c set whole part may owed made =
+    let m = g.D.Domain.meaning in
+    let here = subst (λ p. IsOpen m set p whole part) c.in-Last.is owed in
+    c.passed.ensures.leads set whole c.args.memory.now (IfOk-weaker c.follow_with.result
+    (λ r. AreInTurn c.in-Last.found c.args.outcome.found r.found × (r.normal ≡ c.args.outcome.normal) ×
+    (r.flag ≡ c.args.outcome.flag)) (λ r. IsMade m set whole (seen r) c.args.memory.now)
+    (λ r taken. last_made m set c.in-Last.found whole part c.args.memory.now c.args.outcome r here made taken.0 taken.1 taken.2)
+    c.follow_with.ensures)
+
+pub returns-in-Last-clause-falls : goal.returns-in-Last-clause-falls
+returns-in-Last-clause-falls g c set whole part owed =
+    let m = g.D.Domain.meaning in
+    ends_less m set c.passed.result (2 ^ 64) (place_left m (2 ^ 64) set c.args.place)
+    (subst (λ p. 0 < place_left m (2 ^ 64) set p) (sym c.in-Last.is) (omega arith)) (c.passed.ensures.ends (2 ^ 64) set)
+
+-- choices -------------------------------------------------------------------------------------------------------------
+
+pub returns-in-Choice-clause-leads : goal.returns-in-Choice-clause-leads
+returns-in-Choice-clause-leads g c set whole part may owed made =
+    let here = subst (λ p. IsOpen g.D.Domain.meaning set p whole part) c.in-Choice.is owed in
+    c.go_on_choice.ensures.leads set whole part c.args.memory.now may here made
+
+pub returns-in-Choice-clause-falls : goal.returns-in-Choice-clause-falls
+returns-in-Choice-clause-falls g c set whole part owed =
+    let m = g.D.Domain.meaning in
+    subst (λ p. next_left m (2 ^ 64) set c.go_on_choice.result < place_left m (2 ^ 64) set p) (sym c.in-Choice.is)
+    (c.go_on_choice.ensures.falls (2 ^ 64) set)
+
+pub meet_again-requires : goal.meet_again-requires
+meet_again-requires g c =
+    let given = c.requires in
+    let here = subst (λ p. IsOpen g.D.Domain.meaning given.0 p given.1 given.2) c.in-Branch.is given.4 in
+    branches_meet g.D.Domain.meaning given.0 c.in-Branch.branch given.1 given.2 here c.args.outcome c.args.memory.now given.5
+    given.3
+
+pub returns-in-Branch-clause-leads : goal.returns-in-Branch-clause-leads
+returns-in-Branch-clause-leads g c set whole part may owed made =
+    let m = g.D.Domain.meaning in
+    let branch = c.in-Branch.branch in
+    let here = subst (λ p. IsOpen m set p whole part) c.in-Branch.is owed in
+    c.passed-in-Branch.ensures.leads set whole c.args.memory.now (if_both c.meet_again.result
+    (λ r. AreMet m branch.point (seen branch.first) (seen c.args.outcome) (seen r))
+    (λ r. m.dims r.normal ≡ m.dims branch.first.normal) (λ r. IsMade m set whole (seen r) c.args.memory.now)
+    (λ r met dims. branches_made m set branch whole part here c.args.outcome c.args.memory.now made r met dims)
+    c.meet_again.ensures.joined c.meet_again.ensures.dims)
+
+pub returns-in-Branch-clause-falls : goal.returns-in-Branch-clause-falls
+returns-in-Branch-clause-falls g c set whole part owed =
+    let m = g.D.Domain.meaning in
+    ends_less m set c.passed-in-Branch.result (2 ^ 64) (place_left m (2 ^ 64) set c.args.place)
+    (subst (λ p. 0 < place_left m (2 ^ 64) set p) (sym c.in-Branch.is) (omega arith))
+    (c.passed-in-Branch.ensures.ends (2 ^ 64) set)
+
+-- loops ---------------------------------------------------------------------------------------------------------------
+
+pub go_on_growing-requires : goal.go_on_growing-requires
+go_on_growing-requires g c =
+    let given = c.requires in
+    let here = subst (λ p. IsOpen g.D.Domain.meaning given.0 p given.1 given.2) c.in-Growing.is given.4 in
+    (given.0, given.1, given.2, given.3, here, given.5)
+
+pub returns-in-Growing-clause-leads : goal.returns-in-Growing-clause-leads
+returns-in-Growing-clause-leads g c set whole part may owed made =
+    let here = subst (λ p. IsOpen g.D.Domain.meaning set p whole part) c.in-Growing.is owed in
+    c.go_on_growing.ensures.leads set whole part may here made
+
+pub returns-in-Growing-clause-falls : goal.returns-in-Growing-clause-falls
+returns-in-Growing-clause-falls g c set whole part owed =
+    let m = g.D.Domain.meaning in
+    let here = subst (λ p. IsOpen m set p whole part) c.in-Growing.is owed in
+    subst (λ p. IfOk c.go_on_growing.result (λ n. next_left m (2 ^ 64) set n < place_left m (2 ^ 64) set p))
+    (sym c.in-Growing.is) (c.go_on_growing.ensures.falls set here.head.loop.options)
+
+pub go_on_narrowing-requires : goal.go_on_narrowing-requires
+go_on_narrowing-requires g c =
+    let given = c.requires in
+    let here = subst (λ p. IsOpen g.D.Domain.meaning given.0 p given.1 given.2) c.in-Narrowing.is given.4 in
+    (given.0, given.1, given.2, given.3, here, given.5)
+
+pub returns-in-Narrowing-clause-leads : goal.returns-in-Narrowing-clause-leads
+returns-in-Narrowing-clause-leads g c set whole part may owed made =
+    let here = subst (λ p. IsOpen g.D.Domain.meaning set p whole part) c.in-Narrowing.is owed in
+    c.go_on_narrowing.ensures.leads set whole part may here made
+
+pub returns-in-Narrowing-clause-falls : goal.returns-in-Narrowing-clause-falls
+returns-in-Narrowing-clause-falls g c set whole part owed =
+    let m = g.D.Domain.meaning in
+    let here = subst (λ p. IsOpen m set p whole part) c.in-Narrowing.is owed in
+    subst (λ p. IfOk c.go_on_narrowing.result (λ n. next_left m (2 ^ 64) set n < place_left m (2 ^ 64) set p))
+    (sym c.in-Narrowing.is) (c.go_on_narrowing.ensures.falls set here.waiting.loop.options)
+
+-- catches -------------------------------------------------------------------------------------------------------------
+
+pub catch_jumps-requires : goal.catch_jumps-requires
+catch_jumps-requires g c =
+    let given = c.requires in
+    let here = subst (λ p. IsOpen g.D.Domain.meaning given.0 p given.1 given.2) c.in-Catch.is given.4 in
+    jumps_have g.D.Domain.meaning given.0 c.in-Catch.point c.in-Catch.exit given.1 given.2 here c.args.outcome
+    c.args.memory.now given.5 given.3
+
+pub returns-in-Catch-clause-leads : goal.returns-in-Catch-clause-leads
+returns-in-Catch-clause-leads g c set whole part may owed made =
+    let m = g.D.Domain.meaning in
+    let q = c.in-Catch.point in
+    let exit = c.in-Catch.exit in
+    let here = subst (λ p. IsOpen m set p whole part) c.in-Catch.is owed in
+    c.passed-in-Catch.ensures.leads set whole c.args.memory.now (if_both c.catch_jumps.result
+    (λ r. Catches m q (exit_view exit) (seen c.args.outcome) (seen r)) (λ r. m.dims r.normal ≡ m.dims c.args.outcome.normal)
+    (λ r. IsMade m set whole (seen r) c.args.memory.now)
+    (λ r caught dims. catch_made m set q exit whole part here c.args.outcome c.args.memory.now made r caught dims)
+    c.catch_jumps.ensures.caught c.catch_jumps.ensures.dims)
+
+pub returns-in-Catch-clause-falls : goal.returns-in-Catch-clause-falls
+returns-in-Catch-clause-falls g c set whole part owed =
+    let m = g.D.Domain.meaning in
+    ends_less m set c.passed-in-Catch.result (2 ^ 64) (place_left m (2 ^ 64) set c.args.place)
+    (subst (λ p. 0 < place_left m (2 ^ 64) set p) (sym c.in-Catch.is) (omega arith)) (c.passed-in-Catch.ensures.ends (2 ^ 64) set)

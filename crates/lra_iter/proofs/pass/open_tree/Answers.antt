@@ -1,0 +1,143 @@
+-- Goals of `open_tree`: the first step into a tree.
+use Rattle.std.proofs.Common.{◌<◌, ◌^◌, refl, sym, subst, arith}
+use Rattle.std.specs.Prelude.{IfOk}
+use Rattle.lra_iter.specs.declared.shapes.Shape.{Shape}
+use Rattle.lra_iter.specs.declared.shapes.Shape.TheVariants.{Leaf, Row, Choice, Loop, Catch}
+use Rattle.lra_iter.specs.Fits.{TreeFits}
+use Rattle.std.proofs.lemmas.Result.{IfOk-weaker}
+use Rattle.lra_iter.specs.Open.{due, IsMade}
+use Rattle.lra_iter.specs.Outcome.{seen, IsPassed}
+use Rattle.lra_iter.specs.Shapes.{leaf_view, IsShape}
+use Rattle.lra_iter.specs.Steps.{most_rounds, next_left, tree_steps}
+use Rattle.lra_iter.proofs.OpenPlaces.{catch_leads, leaf_made}
+use Rattle.lra_iter.proofs.TurnSteps.{choice_less, ends_less}
+use Rattle.lra_iter.proofs.pass.open_tree.Goals as goal
+
+-- a leaf --------------------------------------------------------------------------------------------------------------
+
+pub pass_leaf-requires : goal.pass_leaf-requires
+pass_leaf-requires g c =
+    let tree = c.args.tree in
+    let shape : IsShape c.args.options.now tree.node.now (Leaf c.in-Leaf.leaf) =
+    subst (λ (x : Shape). IsShape c.args.options.now tree.node.now x) c.in-Leaf.is c.of.ensures in
+    let fits : TreeFits (leaf_view c.in-Leaf.leaf) (g.D.Domain.meaning.dims tree.value) =
+    subst (λ x. TreeFits x (g.D.Domain.meaning.dims tree.value)) shape.0 c.requires.may.fits in
+    record { parts = c.requires.parts; few = c.requires.may.few; fits = fits }
+
+pub returns-in-Leaf-clause-leads : goal.returns-in-Leaf-clause-leads
+returns-in-Leaf-clause-leads g c =
+    let m = g.D.Domain.meaning in
+    let set = c.args.options.now in
+    let tree = c.args.tree in
+    let whole = due tree c.args.memory.now in
+    let leaf = leaf_view c.in-Leaf.leaf in
+    let shape : IsShape set tree.node.now (Leaf c.in-Leaf.leaf) =
+    subst (λ (x : Shape). IsShape set tree.node.now x) c.in-Leaf.is c.of.ensures in
+    c.passed.ensures.leads set whole c.args.memory.now (IfOk-weaker c.pass_leaf.result
+    (λ r. IsPassed m set leaf tree.flag tree.value (seen r)) (λ r. IsMade m set whole (seen r) c.args.memory.now)
+    (λ r one. leaf_made m set whole leaf r shape.0 one) c.pass_leaf.ensures)
+
+pub returns-in-Leaf-clause-falls : goal.returns-in-Leaf-clause-falls
+returns-in-Leaf-clause-falls g c =
+    let m = g.D.Domain.meaning in
+    let set = c.args.options.now in
+    let tree = c.args.tree in
+    let shape : IsShape set tree.node.now (Leaf c.in-Leaf.leaf) =
+    subst (λ (x : Shape). IsShape set tree.node.now x) c.in-Leaf.is c.of.ensures in
+    let one = shape.1 (most_rounds (2 ^ 64) set) in
+    ends_less m set c.passed.result (2 ^ 64) (tree_steps m (2 ^ 64) set tree.node.now) (omega (arith, one))
+    (c.passed.ensures.ends (2 ^ 64) set)
+
+-- trees in a row ------------------------------------------------------------------------------------------------------
+
+pub returns-in-Row-clause-leads : goal.returns-in-Row-clause-leads
+returns-in-Row-clause-leads g c =
+    let tree = c.args.tree in
+    let shape : IsShape c.args.options.now tree.node.now (Row c.in-Row.row) =
+    subst (λ (x : Shape). IsShape c.args.options.now tree.node.now x) c.in-Row.is c.of.ensures in
+    c.open_row.ensures.leads c.args.options.now (due tree c.args.memory.now) shape.2 shape.0 refl refl c.requires.may
+
+pub returns-in-Row-clause-falls : goal.returns-in-Row-clause-falls
+returns-in-Row-clause-falls g c =
+    let tree = c.args.tree in
+    let shape : IsShape c.args.options.now tree.node.now (Row c.in-Row.row) =
+    subst (λ (x : Shape). IsShape c.args.options.now tree.node.now x) c.in-Row.is c.of.ensures in
+    let all = shape.1 (most_rounds (2 ^ 64) c.args.options.now) in
+    let left = c.open_row.ensures.steps (2 ^ 64) c.args.options.now in
+    omega (arith, all, left)
+
+-- a choice ------------------------------------------------------------------------------------------------------------
+
+pub returns-in-Choice-clause-leads : goal.returns-in-Choice-clause-leads
+returns-in-Choice-clause-leads g c =
+    let tree = c.args.tree in
+    let shape : IsShape c.args.options.now tree.node.now (Choice c.in-Choice.choice) =
+    subst (λ (x : Shape). IsShape c.args.options.now tree.node.now x) c.in-Choice.is c.of.ensures in
+    c.open_choice.ensures.leads c.args.options.now (due tree c.args.memory.now) shape.2 shape.0 refl refl c.requires.may
+
+pub returns-in-Choice-clause-falls : goal.returns-in-Choice-clause-falls
+returns-in-Choice-clause-falls g c =
+    let m = g.D.Domain.meaning in
+    let set = c.args.options.now in
+    let tree = c.args.tree in
+    let choice = c.in-Choice.choice in
+    let shape : IsShape set tree.node.now (Choice choice) =
+    subst (λ (x : Shape). IsShape set tree.node.now x) c.in-Choice.is c.of.ensures in
+    choice_less m set c.open_choice.result (2 ^ 64) (tree_steps m (2 ^ 64) set choice.yes.now)
+    (tree_steps m (2 ^ 64) set choice.no.now) (tree_steps m (2 ^ 64) set tree.node.now)
+    (shape.1 (most_rounds (2 ^ 64) set)) (c.open_choice.ensures.steps (2 ^ 64) set)
+
+-- a loop --------------------------------------------------------------------------------------------------------------
+
+pub open_loop-requires : goal.open_loop-requires
+open_loop-requires g c =
+    let tree = c.args.tree in
+    let shape : IsShape c.args.options.now tree.node.now (Loop c.in-Loop.the_loop) =
+    subst (λ (x : Shape). IsShape c.args.options.now tree.node.now x) c.in-Loop.is c.of.ensures in (
+      c.args.options.now,
+      due tree c.args.memory.now,
+      record { options = shape.2; is = shape.0; first_is = refl; flagged = refl; kept = refl; may = c.requires.may },
+    )
+
+pub returns-in-Loop-clause-leads : goal.returns-in-Loop-clause-leads
+returns-in-Loop-clause-leads g c =
+    let tree = c.args.tree in
+    let shape : IsShape c.args.options.now tree.node.now (Loop c.in-Loop.the_loop) =
+    subst (λ (x : Shape). IsShape c.args.options.now tree.node.now x) c.in-Loop.is c.of.ensures in
+    c.open_loop.ensures.leads c.args.options.now (due tree c.args.memory.now) (record {
+      options = shape.2;
+      is = shape.0;
+      first_is = refl;
+      flagged = refl;
+      kept = refl;
+      may = c.requires.may;
+    })
+
+pub returns-in-Loop-clause-falls : goal.returns-in-Loop-clause-falls
+returns-in-Loop-clause-falls g c =
+    let m = g.D.Domain.meaning in
+    let set = c.args.options.now in
+    let tree = c.args.tree in
+    let shape : IsShape set tree.node.now (Loop c.in-Loop.the_loop) =
+    subst (λ (x : Shape). IsShape set tree.node.now x) c.in-Loop.is c.of.ensures in
+    subst (λ n. IfOk c.open_loop.result (λ n'. next_left m (2 ^ 64) set n' < n))
+    (sym (shape.1 (most_rounds (2 ^ 64) set))) (c.open_loop.ensures.steps set shape.2)
+
+-- a catch -------------------------------------------------------------------------------------------------------------
+
+pub returns-in-Catch-clause-leads : goal.returns-in-Catch-clause-leads
+returns-in-Catch-clause-leads g c =
+    let tree = c.args.tree in
+    let catch = c.in-Catch.catch in
+    let shape : IsShape c.args.options.now tree.node.now (Catch catch) =
+    subst (λ (x : Shape). IsShape c.args.options.now tree.node.now x) c.in-Catch.is c.of.ensures in
+    catch_leads g.D.Domain.meaning c.args.options.now catch.point catch.exit catch.body.now tree.value tree.flag
+    (due tree c.args.memory.now) shape.0 refl refl c.requires.may
+
+pub returns-in-Catch-clause-falls : goal.returns-in-Catch-clause-falls
+returns-in-Catch-clause-falls g c =
+    let tree = c.args.tree in
+    let shape : IsShape c.args.options.now tree.node.now (Catch c.in-Catch.catch) =
+    subst (λ (x : Shape). IsShape c.args.options.now tree.node.now x) c.in-Catch.is c.of.ensures in
+    let all = shape.1 (most_rounds (2 ^ 64) c.args.options.now) in
+    omega (arith, all)

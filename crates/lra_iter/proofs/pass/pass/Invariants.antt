@@ -1,0 +1,12 @@
+use Rattle.std.proofs.Common.{◌^◌}
+use Rattle.lra_operations.specs.GraphViews.{node_view}
+use Rattle.lra_iter.specs.Open.{AreUnderWay}
+use Rattle.lra_iter.specs.Steps.{all_left}
+use Rattle.lra_iter.proofs.pass.pass.Given as goal
+
+abbrev pub invariant-steps : goal.invariant-steps
+invariant-steps g l = AreUnderWay g.D.Domain.meaning l.options l.places.open.items
+    (record { tree = node_view l.node; value = l.fn.value; flag = l.fn.flag; memory = l.fn.memory }) l.next l.memory
+
+abbrev pub decreases-steps : goal.decreases-steps
+decreases-steps g l = all_left g.D.Domain.meaning (2 ^ 64) l.options l.places.open.items l.next

@@ -1,0 +1,326 @@
+//! Loops: a head that grows, is narrowed, and is left where the condition is false.
+
+ghost use Rattle.std.specs.Prelude.{◌≡◌, ◌≤◌, ◌<◌, ◌^◌, ◌+◌, ◌*◌, ℕ, suc, Option, true, false, IfOk};
+ghost use Rattle.lra_domain.specs.declared.Exactness.{Exactness};
+ghost use Rattle.lra_operations.specs.Graph as graph;
+ghost use Rattle.lra_base.specs.declared.options.Options.{Options};
+ghost use Rattle.lra_program.specs.ProgramViews.{cond_view};
+ghost use Rattle.lra_operations.specs.GraphViews.{node_view};
+ghost use Rattle.lra_flow.specs.Operations.{dropping};
+ghost use Rattle.lra_flow.specs.Pass.{noted};
+ghost use Rattle.lra_iter.specs.Outcome.{ended, headed, seen, AreKept, IsEntered, IsKept, LeavesWith};
+ghost use Rattle.lra_iter.specs.Memory.{MayRecall};
+ghost use Rattle.lra_iter.specs.declared.places.Place.TheVariants.{Growing as growing_place};
+ghost use Rattle.lra_iter.specs.declared.places.Place.TheVariants.{Narrowing as narrowing_place};
+ghost use Rattle.lra_iter.specs.Open.{Due, IsMade, Leads, MayBePassed, IsGrowing, IsHead};
+ghost use Rattle.lra_iter.specs.Open.{IsLoopDue, IsNarrowed, IsNarrowing, IsWaiting};
+ghost use Rattle.lra_iter.specs.Steps.{next_left, place_left, most_rounds, rounds_left, tree_steps, turns_left};
+
+use crate::heads::{Growing, grow_by, start};
+use crate::memory::Memory;
+use crate::outcome::{Entered, Entry, Found, HeadTurn, Outcome, Turn, enter_with, note};
+use crate::places::{Entering, GrowingPlace, Narrowing, NarrowingPlace, Next, Place};
+use crate::shapes::Loop;
+use lra_change::leave;
+use lra_domain::{Domain, Exactness};
+use std::alloc::{AllocError, Global};
+
+/// The first value joined with what a round left, and the first flagged point so far.
+fn join_round<D: Domain>(
+    alloc: Global,
+    point: usize,
+    first: &D,
+    last: &Outcome<D>,
+) -> Result<(D, Option<usize>), AllocError>
+    requires { D.meaning.dims last.now.normal ≡ D.meaning.dims first.now }
+    ensures { IfOk result (λ r. (e : Exactness) × (dropping D.meaning).joined first.now last.now.normal e r.0 ×
+        (r.1 ≡ noted point e last.now.flag)) }
+{
+    let mut next = first.copy(alloc)?;
+    let exactness = next.join(&last.normal)?;
+    Ok((next, note(point, exactness, last.flag)))
+}
+
+/// The value at a loop's point comes before what its last round found.
+fn head_first<D: Domain>(
+    alloc: Global,
+    point: usize,
+    value: &D,
+    found: Found<D>,
+) -> Result<Found<D>, AllocError>
+    ensures { IfOk result (λ r. (v : D) (f : Option ℕ) → ended r v f ≡ headed point value.now (ended found v f)) }
+{
+    let mut all = found;
+    let at_head = value.copy(alloc)?;
+    all.entries.insert(0, Entry::Value(point, at_head))?;
+    Ok(all)
+}
+
+/// The value at the head and what its round found, and behind it what that value leaves where the condition is false.
+fn leave_loop<D: Domain>(
+    alloc: Global,
+    the_loop: &Loop<'_>,
+    top: D,
+    last: Outcome<D>,
+) -> Result<Outcome<D>, AllocError>
+    requires { D.meaning.dims top ≤ 2 ^ 30 }
+    ensures left { IfOk result (λ r. LeavesWith D.meaning the_loop.now.point the_loop.now.base
+        (cond_view the_loop.now.condition.now) top (seen last) (seen r)) }
+    ensures dims { IfOk result (λ r. D.meaning.dims r.normal ≡ D.meaning.dims top) }
+{
+    let found = head_first(alloc, the_loop.point, &top, last.found)?;
+    let mut out = top;
+    let exactness = leave(
+        alloc,
+        the_loop.base,
+        the_loop.condition,
+        false,
+        &mut out,
+        Exactness::Exact,
+    )?;
+    Ok(Outcome {
+        found,
+        normal: out,
+        flag: note(the_loop.point, exactness, last.flag),
+    })
+}
+
+/// The loop is left with the value at its head and its last round, and may be kept.
+fn finish<D: Domain>(
+    alloc: Global,
+    memory: &mut Memory<D>,
+    the_loop: &Loop<'_>,
+    first: D,
+    last: HeadTurn<D>,
+) -> Result<Outcome<D>, AllocError>
+    requires { D.meaning.dims last.value ≤ 2 ^ 30 }
+    ensures left { IfOk result (λ r. LeavesWith D.meaning the_loop.now.point the_loop.now.base
+        (cond_view the_loop.now.condition.now) last.value (seen last.turn.outcome) (seen r)) }
+    ensures dims { IfOk result (λ r. D.meaning.dims r.normal ≡ D.meaning.dims last.value) }
+    ensures keeps { (options : Options) (loops : ℕ → graph.Node) → IfOk result (λ r.
+        MayRecall D.meaning options loops last.turn.outcome.flag memory.old →
+        IsKept D.meaning options (loops the_loop.now.point) r.flag first (seen r) →
+        MayRecall D.meaning options loops r.flag memory.new) }
+{
+    let HeadTurn { value, turn } = last;
+    let outcome = leave_loop(alloc, the_loop, value, turn.into_outcome())?;
+    memory.end(alloc, the_loop.point, first, &outcome)?;
+    Ok(outcome)
+}
+
+/// What comes into a loop's body from the value at its head: what the condition leaves, or the kept turn, where that
+/// entered it last.
+fn enter<D: Domain>(
+    alloc: Global,
+    the_loop: &Loop<'_>,
+    value: &D,
+    flag: Option<usize>,
+    kept: Option<Turn<D>>,
+) -> Result<Entered<D>, AllocError>
+    requires few { D.meaning.dims value.now ≤ 2 ^ 30 }
+    requires kept { AreKept D.meaning the_loop.now.options.now (node_view the_loop.now.body.now) flag kept }
+    ensures { IfOk result (IsEntered D.meaning the_loop.now.options.now the_loop.now.point the_loop.now.base
+        (cond_view the_loop.now.condition.now) (node_view the_loop.now.body.now) flag value.now) }
+{
+    let mut on = value.copy(alloc)?;
+    let exactness = leave(
+        alloc,
+        the_loop.base,
+        the_loop.condition,
+        true,
+        &mut on,
+        Exactness::Exact,
+    )?;
+    let inside = note(the_loop.point, exactness, flag);
+    enter_with(alloc, kept, on, inside)
+}
+
+/// Once round a loop whose head grows, from its value.
+fn turn_growing<'a, D: Domain>(
+    alloc: Global,
+    the_loop: Loop<'a>,
+    first: D,
+    growing: Growing<D, D::Head>,
+    kept: Option<Turn<D>>,
+) -> Result<Next<'a, D, D::Head>, AllocError>
+    requires { (set : Options) × (whole : Due D) × (memory : Memory D) × MayBePassed D.meaning set whole ×
+        IsHead D.meaning set the_loop whole first growing kept memory }
+    ensures leads { (set : Options) (whole : Due D) (memory : Memory D) → MayBePassed D.meaning set whole →
+        IsHead D.meaning set the_loop.entry whole first growing kept memory →
+        IfOk result (λ next. Leads D.meaning set whole next memory) }
+    ensures steps { (b : ℕ) (set : Options) → IfOk result (λ next. next_left D.meaning b set next
+        < turns_left D.meaning b set the_loop.entry
+        (suc (set.narrow + rounds_left b growing.left (D.meaning.rank growing.head)))) }
+{
+    match enter(alloc, &the_loop, &growing.value, growing.flag, kept)? {
+        Entered::Again(turn) => {
+            let (entered, outcome) = turn.into_parts();
+            let place = GrowingPlace {
+                the_loop,
+                first,
+                growing,
+                entered,
+            };
+            Ok(Next::Again(Place::Growing(place), outcome))
+        }
+        Entered::Anew(entered, value, flag) => {
+            let place = GrowingPlace {
+                the_loop,
+                first,
+                growing,
+                entered,
+            };
+            let body = Entering {
+                node: the_loop.body,
+                value,
+                flag,
+            };
+            Ok(Next::Opens(Place::Growing(place), body))
+        }
+    }
+}
+
+/// A loop's head starts, unless what the loop gave for this value is kept.
+pub fn open_loop<'a, D: Domain>(
+    alloc: Global,
+    memory: &mut Memory<D>,
+    the_loop: Loop<'a>,
+    value: D,
+    flag: Option<usize>,
+) -> Result<Next<'a, D, D::Head>, AllocError>
+    requires { (set : Options) × (whole : Due D) × IsLoopDue D.meaning set the_loop whole value flag memory.old }
+    ensures leads { (set : Options) (whole : Due D) →
+        IsLoopDue D.meaning set the_loop.entry whole value flag memory.old →
+        IfOk result (λ next. Leads D.meaning set whole next memory.new) }
+    ensures steps { (set : Options) → the_loop.entry.options.now ≡ set → IfOk result (λ next.
+        next_left D.meaning (2 ^ 64) set next
+        < 2 + most_rounds (2 ^ 64) set * suc (tree_steps D.meaning (2 ^ 64) set the_loop.entry.body.now)) }
+{
+    if let Some(given) = memory.begin(alloc, the_loop.point, &value, flag)? {
+        return Ok(Next::Passed(given));
+    }
+    let growing = start(alloc, &the_loop, &value, flag)?;
+    turn_growing(alloc, the_loop, value, growing, None)
+}
+
+/// Once round a loop that is narrowed, from the value at its head.
+fn turn_narrowing<'a, D: Domain>(
+    alloc: Global,
+    narrowing: Narrowing<'a, D>,
+    flag: Option<usize>,
+    kept: Turn<D>,
+) -> Result<Next<'a, D, D::Head>, AllocError>
+    requires { (set : Options) × (whole : Due D) × (memory : Memory D) × MayBePassed D.meaning set whole ×
+        IsWaiting D.meaning set narrowing whole flag memory ×
+        IsKept D.meaning set (node_view narrowing.the_loop.body.now) flag kept.entered (seen kept.outcome) }
+    ensures leads { (set : Options) (whole : Due D) (memory : Memory D) → MayBePassed D.meaning set whole →
+        IsWaiting D.meaning set narrowing.entry whole flag memory →
+        IfOk result (λ next. Leads D.meaning set whole next memory) }
+    ensures steps { (b : ℕ) (set : Options) → IfOk result (λ next. next_left D.meaning b set next
+        < turns_left D.meaning b set narrowing.entry.the_loop (suc narrowing.entry.left)) }
+{
+    match enter(alloc, &narrowing.the_loop, &narrowing.top, flag, Some(kept))? {
+        Entered::Again(turn) => {
+            let (entered, outcome) = turn.into_parts();
+            let place = NarrowingPlace { narrowing, entered };
+            Ok(Next::Again(Place::Narrowing(place), outcome))
+        }
+        Entered::Anew(entered, value, flag) => {
+            let node = narrowing.the_loop.body;
+            let place = NarrowingPlace { narrowing, entered };
+            Ok(Next::Opens(Place::Narrowing(place), Entering { node, value, flag }))
+        }
+    }
+}
+
+/// The loop is left with its last round where no round of narrowing is left. Else the value at its head becomes the
+/// join of the first one with what that round left, and is passed anew.
+fn narrow_on<'a, D: Domain>(
+    alloc: Global,
+    memory: &mut Memory<D>,
+    the_loop: Loop<'a>,
+    first: D,
+    last: HeadTurn<D>,
+    left: u32,
+) -> Result<Next<'a, D, D::Head>, AllocError>
+    requires { (set : Options) × (whole : Due D) × MayBePassed D.meaning set whole ×
+        IsNarrowed D.meaning set the_loop whole first last left memory.old }
+    ensures leads { (set : Options) (whole : Due D) → MayBePassed D.meaning set whole →
+        IsNarrowed D.meaning set the_loop.entry whole first last left memory.old →
+        IfOk result (λ next. Leads D.meaning set whole next memory.new) }
+    ensures steps { (b : ℕ) (set : Options) → IfOk result (λ next. next_left D.meaning b set next
+        < turns_left D.meaning b set the_loop.entry left) }
+{
+    if left == 0 {
+        let outcome = finish(alloc, memory, &the_loop, first, last)?;
+        return Ok(Next::Passed(outcome));
+    }
+    let HeadTurn { value: _, turn } = last;
+    let (top, flag) = join_round(alloc, the_loop.point, &first, &turn.outcome)?;
+    let narrowing = Narrowing {
+        the_loop,
+        first,
+        top,
+        left: left - 1,
+    };
+    turn_narrowing(alloc, narrowing, flag, turn)
+}
+
+/// Behind a round of a loop whose head grows: it is narrowed if it is stable, and else turned again.
+pub fn go_on_growing<'a, D: Domain>(
+    alloc: Global,
+    memory: &mut Memory<D>,
+    place: GrowingPlace<'a, D, D::Head>,
+    outcome: Outcome<D>,
+) -> Result<Next<'a, D, D::Head>, AllocError>
+    requires { (set : Options) × (whole : Due D) × (part : Due D) × MayBePassed D.meaning set whole ×
+        IsGrowing D.meaning set place whole part × IsMade D.meaning set part (seen outcome) memory.old }
+    ensures leads { (set : Options) (whole part : Due D) → MayBePassed D.meaning set whole →
+        IsGrowing D.meaning set place.entry whole part → IsMade D.meaning set part (seen outcome) memory.old →
+        IfOk result (λ next. Leads D.meaning set whole next memory.new) }
+    ensures falls { (set : Options) → place.entry.the_loop.options.now ≡ set → IfOk result (λ next.
+        next_left D.meaning (2 ^ 64) set next < place_left D.meaning (2 ^ 64) set (growing_place place.entry)) }
+{
+    let GrowingPlace {
+        the_loop,
+        first,
+        mut growing,
+        entered,
+    } = place;
+    let turn = Turn { entered, outcome };
+    let stable = grow_by(alloc, &the_loop, &mut growing, &turn.outcome)?;
+    if stable {
+        let left = the_loop.options.narrow;
+        let value = growing.into_value();
+        let last = HeadTurn { value, turn };
+        return narrow_on(alloc, memory, the_loop, first, last, left);
+    }
+    turn_growing(alloc, the_loop, first, growing, Some(turn))
+}
+
+/// Behind a round of a loop that is narrowed.
+pub fn go_on_narrowing<'a, D: Domain>(
+    alloc: Global,
+    memory: &mut Memory<D>,
+    place: NarrowingPlace<'a, D>,
+    outcome: Outcome<D>,
+) -> Result<Next<'a, D, D::Head>, AllocError>
+    requires { (set : Options) × (whole : Due D) × (part : Due D) × MayBePassed D.meaning set whole ×
+        IsNarrowing D.meaning set place whole part × IsMade D.meaning set part (seen outcome) memory.old }
+    ensures leads { (set : Options) (whole part : Due D) → MayBePassed D.meaning set whole →
+        IsNarrowing D.meaning set place.entry whole part → IsMade D.meaning set part (seen outcome) memory.old →
+        IfOk result (λ next. Leads D.meaning set whole next memory.new) }
+    ensures falls { (set : Options) → place.entry.narrowing.the_loop.options.now ≡ set → IfOk result (λ next.
+        next_left D.meaning (2 ^ 64) set next < place_left D.meaning (2 ^ 64) set (narrowing_place place.entry)) }
+{
+    let NarrowingPlace { narrowing, entered } = place;
+    let Narrowing {
+        the_loop,
+        first,
+        top: value,
+        left,
+    } = narrowing;
+    let turn = Turn { entered, outcome };
+    let last = HeadTurn { value, turn };
+    narrow_on(alloc, memory, the_loop, first, last, left)
+}

@@ -1,0 +1,136 @@
+//! Where a pass is under way: the open places, from the outermost to the innermost, and what comes next. The pass goes
+//! along the tree by a list of these, and not by calls, so a tree may be as deep as memory allows.
+
+ghost use Rattle.std.specs.Prelude.{◌≡◌, ◌++◌, ◌∷◌, [], None, option_to_list, OnOk};
+
+use crate::heads::Growing;
+use crate::outcome::{Found, Outcome};
+use crate::shapes::{Choice, Loop, Row};
+use lra_change::Kept;
+use lra_operations::{Exit, Node};
+use std::alloc::{AllocError, Global};
+
+/// A tree that is to be passed: from this value, with the first flagged point so far.
+#[derive(Drop)]
+pub struct Entering<'a, D> {
+    pub node: &'a Node,
+    pub value: D,
+    pub flag: Option<usize>,
+}
+
+/// The trees behind one that is under way, and what those before it found.
+#[derive(Drop)]
+pub struct RowPlace<'a, D> {
+    pub behind: Row<'a>,
+    pub found: Found<D>,
+}
+
+/// A choice whose first branch is under way, and what its condition leaves for the second.
+#[derive(Drop)]
+pub struct ChoicePlace<'a, D> {
+    pub choice: Choice<'a>,
+    pub off: Kept<D>,
+}
+
+/// The point of a choice whose second branch is under way, and what the first one gave.
+#[derive(Drop)]
+pub struct BranchPlace<D> {
+    pub point: usize,
+    pub first: Outcome<D>,
+}
+
+/// A loop whose head grows and whose body is under way: its first value, its head, and what entered the body.
+#[derive(Drop)]
+pub struct GrowingPlace<'a, D, H> {
+    pub the_loop: Loop<'a>,
+    pub first: D,
+    pub growing: Growing<D, H>,
+    pub entered: D,
+}
+
+/// A loop that is narrowed: its first value, the value at its head, and how many rounds are left behind the one from
+/// that value.
+#[derive(Drop)]
+pub struct Narrowing<'a, D> {
+    pub the_loop: Loop<'a>,
+    pub first: D,
+    pub top: D,
+    pub left: u32,
+}
+
+/// A loop that is narrowed and whose body is under way, and what entered the body.
+#[derive(Drop)]
+pub struct NarrowingPlace<'a, D> {
+    pub narrowing: Narrowing<'a, D>,
+    pub entered: D,
+}
+
+/// A place where a tree is under way, and what is still to be done there.
+#[derive(Drop)]
+pub enum Place<'a, D, H> {
+    Row(RowPlace<'a, D>),
+    /// The last of trees one after the other is under way; this was found before it.
+    Last(Found<D>),
+    Choice(ChoicePlace<'a, D>),
+    Branch(BranchPlace<D>),
+    Growing(GrowingPlace<'a, D, H>),
+    Narrowing(NarrowingPlace<'a, D>),
+    /// Jumps of this kind come out at this point.
+    Catch(usize, Exit),
+}
+
+/// What comes next.
+#[derive(Drop)]
+pub enum Next<'a, D, H> {
+    /// The tree is passed.
+    Passed(Outcome<D>),
+    /// A place opens, and this tree in it is to be passed.
+    Opens(Place<'a, D, H>, Entering<'a, D>),
+    /// So it is, but the tree was passed from the same value before: it gives this.
+    Again(Place<'a, D, H>, Outcome<D>),
+}
+
+/// What a step leads to: the whole tree is passed, or this comes next.
+#[derive(Drop)]
+pub enum Step<'a, D, H> {
+    Ended(Outcome<D>),
+    Goes(Next<'a, D, H>),
+}
+
+/// The open places, from the outermost to the innermost.
+pub struct Places<'a, D, H> {
+    pub open: Vec<Place<'a, D, H>>,
+}
+
+impl<'a, D: Drop, H: Drop> Drop for Places<'a, D, H> {
+    fn drop(self) {
+        let Places { open: _ } = self;
+    }
+}
+
+impl<'a, D: Drop, H: Drop> Places<'a, D, H> {
+    /// None is open.
+    pub fn none(alloc: Global) -> Places<'a, D, H>
+        ensures { result.open.items ≡ [] }
+    {
+        Places {
+            open: Vec::new(alloc),
+        }
+    }
+
+    /// This one opens in the innermost.
+    pub fn push(&mut self, place: Place<'a, D, H>) -> Result<(), AllocError>
+        ensures { OnOk result (self.new.open.items ≡ self.old.open.items ++ place.entry ∷ []) }
+    {
+        self.open.push(place)?;
+        Ok(())
+    }
+
+    /// The innermost one is left, if one is open.
+    pub fn pop(&mut self) -> Option<Place<'a, D, H>>
+        ensures left { self.old.open.items ≡ self.new.open.items ++ option_to_list result }
+        ensures none { result ≡ None → self.old.open.items ≡ [] }
+    {
+        self.open.pop()
+    }
+}
