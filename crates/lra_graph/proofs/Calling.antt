@@ -1,5 +1,5 @@
 -- A call written out as the code has it: the callee's path, its body and the number of its parameters are known by equations.
-use Rattle.std.proofs.Common.{◌≡◌, ℕ, suc, ◌+◌, ◌-◌, ◌<◌, List, [], ◌∷◌, length, Option, Some, None, false, slice_get, refl, sym, ap, ◌∙◌, subst, arith}
+use Rattle.std.proofs.Common.{◌≡◌, ◌≢◌, ℕ, suc, ◌+◌, ◌-◌, ◌<◌, ◌≤◌, List, [], ◌∷◌, length, Option, Some, None, false, slice_get, refl, sym, ap, ◌∙◌, subst, arith}
 use Rattle.std.proofs.lemmas.Option.{same_Some}
 use Rattle.lra_program.specs.Program.{Call, result, BlockItems, Function, Program}
 use Rattle.lra_operations.specs.Graph.{Node}
@@ -11,11 +11,14 @@ use Rattle.lra_graph.specs.declared.frame.Frame.{Frame}
 use Rattle.lra_graph.specs.Limits.{Progress, passed, stopped, walk}
 use Rattle.lra_program.specs.WellFormed.{IsWellFormed}
 use Rattle.lra_graph.specs.Building.{inside, callee_frame, CallStands, ItemsStand, WritesItems, WritesRvalue, WritesBody}
+use Rattle.lra_program.specs.ProgramViews.{call_view}
+use Rattle.lra_graph.specs.declared.places.CalledFrom.{CalledFrom}
+use Rattle.lra_graph.specs.declared.places.Place.TheVariants as place
+use Rattle.lra_graph.specs.Open.{due, all_items, a_call, IsOpen}
+use Rattle.lra_graph.specs.Steps.{items_steps, body_steps, call_steps}
 use Rattle.lra_graph.proofs.Walking.{walk_then, walk_stop}
 use Rattle.lra_graph.proofs.Writing.{Pointed, result_written}
 use Rattle.lra_graph.proofs.Standing.{callee_stands}
-use Rattle.lra_graph.proofs.Sizes.{size_items, weight}
-use Rattle.lra_graph.proofs.Items.{callee_lighter}
 
 pub one_less : (n : ℕ) → (n ≡ 0 → ⊥) → n ≡ suc (n - 1)
 one_less n some = omega (arith, some)
@@ -66,6 +69,16 @@ module _ (P : Program) (path : List ℕ) (r : Frame) (S : List Site) (c : Call) 
       let a' : g ≡ call_node q e r.base r.live x c.arguments fn.parameters h = subst (λ z. g ≡ call_node q e r.base r.live x c.arguments z h) wide a in
       result_written P path r S V U q e n less x c fn h g left found fits y' (lives_as n same) i pointed' a'
 
+-- into a callee's body fewer steps are left
+body_falls : (P : Program) (left : ℕ) (c : Call) (fn : Function) (b : BlockItems) → left ≢ 0 → slice_get P.functions c.function ≡ Some fn → b ≡ fn.body
+    → 1 + (1 + items_steps (call_steps P (left - 1)) b) < call_steps P left c
+body_falls P left c fn b some found body =
+    let e : left ≡ suc (left - 1) = omega (arith, some) in
+    let inside = 1 + (1 + items_steps (call_steps P (left - 1)) b) in
+    let whole : inside < 3 + items_steps (call_steps P (left - 1)) b = omega arith in
+    subst (λ z. inside < call_steps P z c) (sym e) (subst (λ o. inside < 3 + body_steps (call_steps P (left - 1)) o) (sym found)
+    (subst (λ z. inside < 3 + items_steps (call_steps P (left - 1)) z) body whole))
+
 -- the callee's body as the code has it: its path, its frame and its items are known by equations
 pub record IsCallee (P : Program) (path : List ℕ) (r : Frame) (x : Option ℕ) (c : Call) (p : List ℕ) (f : Frame) (b : BlockItems) : Type 0 where
   pub fn : Function
@@ -76,12 +89,13 @@ pub record IsCallee (P : Program) (path : List ℕ) (r : Frame) (x : Option ℕ)
   pub body : b ≡ fn.body
 
 module _ (P : Program) (path : List ℕ) (r : Frame) (x : Option ℕ) (c : Call) (p : List ℕ) (f : Frame) (b : BlockItems) (is : IsCallee P path r x c p f b) where
-  pub callee_falls : (t : ℕ) → weight P r.calls_left 2 ≡ t → weight P f.calls_left (size_items b) < t
-  callee_falls t e = subst (λ (z : Frame). weight P z.calls_left (size_items b) < t) (sym is.frame) (callee_lighter P c.function r.calls_left t is.fn b e is.found is.some_left is.body)
-
   pub callee_body_stands : IsWellFormed P → CallStands P r c → ItemsStand P f b
   callee_body_stands well s = subst (λ z. ItemsStand P f z) (sym is.body) (subst (λ z. ItemsStand P z is.fn.body) (sym is.frame)
       (callee_stands P r r.live (r.calls_left - 1) (r.live + is.fn.parameters) x c is.fn well s is.found refl refl))
+
+  pub callee_falls : 1 + (1 + items_steps (call_steps P f.calls_left) b) < call_steps P r.calls_left c
+  callee_falls = subst (λ (z : Frame). 1 + (1 + items_steps (call_steps P z.calls_left) b) < call_steps P r.calls_left c) (sym is.frame)
+      (body_falls P r.calls_left c is.fn b is.some_left is.found is.body)
 
   pub callee_stopped : (S : List Site) (l : Limit) → walk S (items_events (inside P p f) p f.live b) ≡ stopped l → walk S (call_events P r.calls_left path r.live c) ≡ stopped l
   callee_stopped S l e =
@@ -97,6 +111,22 @@ module _ (P : Program) (path : List ℕ) (r : Frame) (x : Option ℕ) (c : Call)
         (subst (λ z. WritesItems P (c.label ∷ path) z S b h V) is.frame (subst (λ z. WritesItems P z f S b h V) is.within y));
     last = last ∙ ap (λ (z : Frame). live_behind z.live b) is.frame ∙ ap (λ z. live_behind (r.live + is.fn.parameters) z) is.body;
   }
+
+-- the place of a call opens, in which its callee's body is under way
+pub body_opens : (P : Program) (path : List ℕ) (r : Frame) (S : List Site) (p : List ℕ) (f : Frame) (b : BlockItems) (from : CalledFrom)
+    → IsCallee P path r from.caller.target (call_view from.call.now) p f b → from.path ≡ path → IsWellFormed P → CallStands P r (call_view from.call.now) → r.live ≤ 25
+    → IsOpen P (due (a_call from.caller (call_view from.call.now)) path r S) (due (all_items b) p f S) (record { frame = r; place = place.Callee from }) × ItemsStand P f b
+body_opens P path r S p f b from is at well stands few =
+    let x = from.caller.target in
+    let c = call_view from.call.now in (
+      record {
+        frame = refl;
+        path = is.within;
+        continues = record { is = refl; path = at; stands = stands; few = few; writes = λ g n V w. callee_written P path r x c p f b is S V g n w.0 w.1 };
+        stops = callee_stopped P path r x c p f b is S;
+      },
+      callee_body_stands P path r x c p f b is well stands,
+    )
 
 -- the call behind its callee's body
 module _ (P : Program) (path : List ℕ) (r : Frame) (x : Option ℕ) (c : Call) (S V : List Site) (h : Node) (n : ℕ) (w : WritesBody P path r x c S h n V) where

@@ -21,16 +21,16 @@ pub mod Handed
 pub mod Totals
 -- A program that passes no limit has a tree.
 pub mod Existing
--- What the code's values stand for, where parts stand, and why the writing ends.
+-- What the code's values stand for, and where parts stand.
 pub mod Shown
 pub mod LiveInside
 pub mod Standing
-pub mod Seen
 pub mod Lone
-pub mod Sizes
-pub mod Falling
+-- Open places: what opens, and what comes behind.
 pub mod Items
 mod ItemRows
+mod Opening
+mod OpenPlaces
 pub mod Programs
 -- Trees of sources.
 mod GraphExamples

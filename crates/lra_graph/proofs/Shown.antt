@@ -1,5 +1,5 @@
 -- What values of the code's types stand for, form by form.
-use Rattle.std.proofs.Common.{◌≡◌, ℕ, List, map, Option, Some, ap, sym, ◌∙◌, rules, Box, Global}
+use Rattle.std.proofs.Common.{◌≡◌, ℕ, map, Option, Some, ap, ◌∙◌, rules, Box, Global}
 use Rattle.lra_program.specs.Program as program
 use Rattle.lra_operations.specs.Graph as graph
 use Rattle.lra_program.specs.declared.program.Slot.{Slot}
@@ -9,7 +9,7 @@ use Rattle.lra_program.specs.declared.program.Rvalue.TheVariants as code_rvalue
 use Rattle.lra_program.specs.declared.program.Expr.{Expr}
 use Rattle.lra_program.specs.declared.program.Declarator.{Declarator}
 use Rattle.lra_program.specs.declared.program.Call.{Call}
-use Rattle.lra_program.specs.declared.program.BlockItem.{BlockItem, the_lemmas as item_lemmas}
+use Rattle.lra_program.specs.declared.program.BlockItem.{the_lemmas as item_lemmas}
 use Rattle.lra_program.specs.declared.program.BlockItem as code_item
 use Rattle.lra_program.specs.declared.program.BlockItems.{BlockItems, the_lemmas as items_lemmas}
 use Rattle.lra_program.specs.declared.program.Stmt.{Stmt, the_lemmas as stmt_lemmas}
@@ -65,14 +65,6 @@ shown_loop at c a b = search (rules, stmt_lemmas)
 pub shown_for : (at : ℕ) (init : BlockItems) (c : Cond) (p q : Box Stmt Global)
     → stmt_view (code.For at init c p q) ≡ program.for at (items_of (map item_view init.items.items)) (cond_view c) (stmt_view p.value) (stmt_view q.value)
 shown_for at init c p q = search (rules, stmt_lemmas)
-
--- as the code sees its parts, behind its references
-pub for_seen : (s : Stmt) (at : ℕ) (init : BlockItems) (c : Cond) (p q : Box Stmt Global) (items : List BlockItem) (a b : Stmt) → s ≡ code.For at init c p q → items ≡ init.items.items
-    → a ≡ p.value → b ≡ q.value → stmt_view s ≡ program.for at (items_of (map item_view items)) (cond_view c) (stmt_view a) (stmt_view b)
-for_seen s at init c p q items a b is e f g =
-    ap stmt_view is ∙ shown_for at init c p q ∙ ap (λ z. program.for at (items_of (map item_view z)) (cond_view c) (stmt_view p.value) (stmt_view q.value)) (sym e)
-    ∙ ap (λ z. program.for at (items_of (map item_view items)) (cond_view c) (stmt_view z) (stmt_view q.value)) (sym f)
-    ∙ ap (λ z. program.for at (items_of (map item_view items)) (cond_view c) (stmt_view a) (stmt_view z)) (sym g)
 
 pub shown_break : (at : ℕ) → stmt_view (code.Break at) ≡ program.break at
 shown_break at = search (rules, stmt_lemmas)

@@ -1,10 +1,10 @@
 -- Where a part of a well-formed program stands, its own parts stand.
-use Rattle.std.proofs.Common.{◌≡◌, ℕ, suc, ◌+◌, ◌≤◌, ◌<◌, length, Option, Some, None, Bool, true, false, slice_get, refl, sym, ap, ◌∙◌, subst, arith}
+use Rattle.std.proofs.Common.{◌≡◌, ℕ, suc, ◌+◌, ◌≤◌, length, Option, Some, None, Bool, true, false, slice_get, refl, sym, ap, ◌∙◌, arith}
 use Rattle.std.proofs.lemmas.Option.{none-some, same_Some}
-use Rattle.lra_program.specs.Program.{Slot, local, Cond, Call, Rvalue, result, Declarator, Stmt, block, assign, call, if, loop, for, break, continue, return, BlockItems, no_more, declaration}
+use Rattle.lra_program.specs.Program.{Slot, Cond, Call, Rvalue, result, Declarator, Stmt, block, assign, call, if, loop, for, break, continue, return, BlockItems, no_more, declaration}
 use Rattle.lra_program.specs.Program.{statement, Function, Program}
 use Rattle.lra_program.specs.Sites.{live_behind}
-use Rattle.lra_program.specs.WellFormed.{IsLive, IsWellFormed}
+use Rattle.lra_program.specs.WellFormed.{IsWellFormed}
 use Rattle.lra_graph.specs.declared.frame.Frame.{Frame}
 use Rattle.lra_graph.specs.declared.frame.Back.{Back}
 use Rattle.lra_graph.specs.Building.{Stands, StmtStands, ItemsStand, GivenStands, CallStands}
@@ -170,10 +170,3 @@ module _ (P : Program) (r : Frame) where
 
   pub continue_stands : (at : ℕ) → StmtStands P r (continue at) → (m : ℕ) × (r.loop_length ≡ Some m)
   continue_stands at x = x.loops x.good
-
-  -- an assigned variable stands in the store
-  pub assigned_fits : (at : ℕ) (v : Slot) (e : Rvalue) → StmtStands P r (assign at v e) → r.live ≤ 24 → (k : ℕ) → v ≡ local k → r.base + k < 18446744073709551616
-  assigned_fits at v e x few k same =
-      let live : IsLive P x.own (local k) = subst (λ z. IsLive P x.own z) same x.good.0 in
-      let w = x.within in
-      omega (arith, live)

@@ -1,17 +1,16 @@
 -- Where a part is stopped by a limit, the whole is.
-use Rattle.std.proofs.Common.{◌≡◌, ℕ, ◌<◌, false, List, [], ◌∷◌, ◌++◌, Result, Ok, Err, IfOk, sym, subst, append_assoc}
+use Rattle.std.proofs.Common.{◌≡◌, ℕ, List, [], ◌∷◌, ◌++◌, Result, Ok, Err, IfOk, sym, subst, append_assoc}
 use Rattle.std.specs.Result.{IsErrAnd}
 use Rattle.std.proofs.lemmas.Result.{err_from_is_err_and}
 use Rattle.lra_program.specs.Program.{Cond, Stmt, for, BlockItems, Program}
 use Rattle.lra_program.specs.Sites.{Site, Event, plain_site, live_behind, stmt_events, items_events}
 use Rattle.lra_graph.specs.declared.points.Limit.{Limit}
-use Rattle.lra_graph.specs.declared.points.Limit.TheVariants.{Variables}
 use Rattle.lra_graph.specs.declared.points.GraphError.{GraphError}
 use Rattle.lra_graph.specs.declared.points.GraphError.TheVariants.{Passed, Memory}
 use Rattle.lra_graph.specs.declared.frame.Frame.{Frame}
 use Rattle.lra_graph.specs.Limits.{passed, stopped, walk, OnError, OnLimit}
 use Rattle.lra_graph.specs.Building.{inside}
-use Rattle.lra_graph.proofs.Walking.{walk_then, walk_stop, too_many}
+use Rattle.lra_graph.proofs.Walking.{walk_then, walk_stop}
 
 pub error_as : (e : GraphError) (X Y : Limit → Type 0) → ((x : Limit) → X x → Y x) → OnError e X → OnError e Y
 error_as (Passed x) X Y f h = f x h
@@ -30,35 +29,11 @@ middle_stopped S V es fs gs x e f = walk_then S es (fs ++ gs) V (stopped x) e (w
 
 -- errors handed on --------------------------------------------------------------------------------------------------
 
-pub limit_by : {A : Type 0} (b : Result A GraphError) (d e : GraphError) (S V : List Site) (es fs : List Event) → b ≡ Err d → d ≡ e → ((x : Limit) → walk V fs ≡ stopped x → walk S es ≡ stopped x)
-    → OnError e (λ x. walk V fs ≡ stopped x) → OnLimit b (λ x. walk S es ≡ stopped x)
-limit_by b d e S V es fs i j f h = rw (i, j) (error_as e (λ x. walk V fs ≡ stopped x) (λ x. walk S es ≡ stopped x) f h)
-
 pub limit_to : {A : Type 0} (b : Result A GraphError) (d e : GraphError) (X Y : Limit → Type 0) → b ≡ Err d → d ≡ e → ((x : Limit) → X x → Y x) → OnError e X → OnLimit b Y
 limit_to b d e X Y i j f h = rw (i, j) (error_as e X Y f h)
 
 -- what the exit of a `?` answers where a part passed a limit (where the memory failed, nothing is owed)
 module _ {A : Type 0} (b : Result A GraphError) where
-  pub err_limit : (e : GraphError) (S V : List Site) (es fs : List Event) → IsErrAnd b (λ d. d ≡ e) → ((x : Limit) → walk V fs ≡ stopped x → walk S es ≡ stopped x)
-      → OnError e (λ x. walk V fs ≡ stopped x) → OnLimit b (λ x. walk S es ≡ stopped x)
-  err_limit e S V es fs h f o = let p = err_from_is_err_and b h in limit_by b p.0 e S V es fs p.1 p.2 f o
-
-  -- the limit that the first, or the second of two parts passes; the second, or the third of three
-  pub first_limit : (e : GraphError) (S : List Site) (es fs : List Event) → IsErrAnd b (λ d. d ≡ e) → OnError e (λ x. walk S es ≡ stopped x) → OnLimit b (λ x. walk S (es ++ fs) ≡ stopped x)
-  first_limit e S es fs h o = err_limit e S S (es ++ fs) es h (λ x k. walk_stop S es fs x k) o
-
-  pub second_limit : (e : GraphError) (S V : List Site) (es fs : List Event) → walk S es ≡ passed V → IsErrAnd b (λ d. d ≡ e) → OnError e (λ x. walk V fs ≡ stopped x)
-      → OnLimit b (λ x. walk S (es ++ fs) ≡ stopped x)
-  second_limit e S V es fs w h o = err_limit e S V (es ++ fs) fs h (λ x k. second_stopped S V es fs x w k) o
-
-  pub middle_limit : (e : GraphError) (S V : List Site) (es fs gs : List Event) → walk S es ≡ passed V → IsErrAnd b (λ d. d ≡ e) → OnError e (λ x. walk V fs ≡ stopped x)
-      → OnLimit b (λ x. walk S (es ++ (fs ++ gs)) ≡ stopped x)
-  middle_limit e S V es fs gs w h o = err_limit e S V (es ++ (fs ++ gs)) fs h (λ x k. middle_stopped S V es fs gs x w k) o
-
-  pub third_limit : (e : GraphError) (S V W : List Site) (es fs gs : List Event) → walk S es ≡ passed V → walk V fs ≡ passed W → IsErrAnd b (λ d. d ≡ e)
-      → OnError e (λ x. walk W gs ≡ stopped x) → OnLimit b (λ x. walk S (es ++ (fs ++ gs)) ≡ stopped x)
-  third_limit e S V W es fs gs w y h o = err_limit e S W (es ++ (fs ++ gs)) gs h (λ x k. third_stopped S V W es fs gs x w y k) o
-
   pub err_stopped : (e : GraphError) (X Y : Limit → Type 0) → IsErrAnd b (λ d. d ≡ e) → ((x : Limit) → X x → Y x) → OnError e X → OnLimit b Y
   err_stopped e X Y h f o = let p = err_from_is_err_and b h in limit_to b p.0 e X Y p.1 p.2 f o
 
@@ -103,12 +78,6 @@ module _ (P : Program) (path : List ℕ) (r : Frame) (S : List Site) (init : Blo
 
   abbrev last : ℕ
   last = live_behind r.live init
-
-  pub for_too_many : 24 < last → walk S whole ≡ stopped (Variables at)
-  for_too_many l = too_many S (record { path = path; label = at; live = last; asserts = false }) (begin ++ turns last ++ rounds last) l
-
-  pub for_at_point : (n : ℕ) (x : Limit) → n ≡ last → walk S (own n) ≡ stopped x → walk S whole ≡ stopped x
-  for_at_point n x same h = walk_stop S (own last) (begin ++ turns last ++ rounds last) x (subst (λ z. walk S (own z) ≡ stopped x) same h)
 
   pub for_at_begin : (V : List Site) (n : ℕ) (x : Limit) → n ≡ last → walk S (own n) ≡ passed V → walk V begin ≡ stopped x → walk S whole ≡ stopped x
   for_at_begin V n x same e h = middle_stopped S V (own last) (begin ++ turns last) (rounds last) x (subst (λ z. walk S (own z) ≡ passed V) same e) (walk_stop V begin (turns last) x h)

@@ -1,8 +1,7 @@
 -- Points are written one behind the other: what stands behind what, and where a limit stops all.
-use Rattle.std.proofs.Common.{◌≡◌, zero, suc, ◌<◌, List, [], ◌∷◌, ◌++◌, length, Some, Bool, true, false, slice_get, refl, sym, subst, arith, length-append}
+use Rattle.std.proofs.Common.{◌≡◌, zero, suc, List, [], ◌∷◌, ◌++◌, length, Some, Bool, true, false, slice_get, refl, sym, subst, arith, length-append}
 use Rattle.std.specs.Prelude.{nat_lt, if◌then◌else◌}
 use Rattle.std.proofs.lemmas.Option.{none-some}
-use Rattle.std.proofs.lemmas.Bool.{lt-ltb}
 use Rattle.lra_program.specs.Sites.{Site, Event, comes, one_call_more}
 use Rattle.lra_meaning.specs.Refuse.{greatest_live, greatest_points}
 use Rattle.lra_graph.specs.declared.points.Limit.{Limit}
@@ -80,7 +79,3 @@ point_there S U T s e b = b (length S) s (rw (point_added S U s e) (last_there S
 
 pub one_longer : (S U : List Site) (s : Site) → walk S (comes s ∷ []) ≡ passed U → length U ≡ suc (length S)
 one_longer S U s e = rw (point_added S U s e, length-append) (omega arith)
-
--- a point where too many variables live
-pub too_many : (S : List Site) (s : Site) (es : List Event) → greatest_live < s.live → walk S (comes s ∷ es) ≡ stopped (Variables s.label)
-too_many S s es l = rw (lt-ltb greatest_live s.live l) refl

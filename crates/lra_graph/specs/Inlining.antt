@@ -1,12 +1,12 @@
 -- What is owed for a part, by what stands around it in code, and by the points before it and behind it.
-use Rattle.std.specs.Prelude.{◌≡◌, ℕ, ◌+◌, ◌++◌, List, [], ◌∷◌, map, Option, true, ⊤, Vec}
+use Rattle.std.specs.Prelude.{◌≡◌, ℕ, List, [], ◌∷◌, map, Option, true, ⊤, Vec}
 use Rattle.std.specs.declared.alloc.Global.{Global}
 use Rattle.lra_operations.specs.declared.graph.Node as code
 use Rattle.lra_operations.specs.declared.graph.Site as code_site
-use Rattle.lra_program.specs.Program.{Cond, Call, Rvalue, Stmt, block, assign, call, if, loop, for, return}
+use Rattle.lra_program.specs.Program.{Call, Stmt, block, assign, call, if, loop, for, return}
 use Rattle.lra_program.specs.Program.{result, BlockItems, Program}
 use Rattle.lra_operations.specs.Graph.{Exit}
-use Rattle.lra_program.specs.Sites.{Site, Event, comes, plain_site, rvalue_events, given_events, stmt_events}
+use Rattle.lra_program.specs.Sites.{Site, Event, comes, plain_site, stmt_events}
 use Rattle.lra_program.specs.Sites.{items_events, call_events}
 use Rattle.lra_program.specs.ProgramViews.{cond_view, stmt_view, program_view}
 use Rattle.lra_operations.specs.GraphViews.{node_view, site_view}
@@ -15,6 +15,7 @@ use Rattle.lra_graph.specs.Building as building
 use Rattle.lra_graph.specs.declared.points.Limit.{Limit}
 use Rattle.lra_graph.specs.declared.frame.Around.{Around}
 use Rattle.lra_graph.specs.declared.frame.Repeated.{Repeated}
+use Rattle.lra_graph.specs.declared.frame.Source.{Source}
 
 abbrev pub Points : Type 0
 Points = Vec code_site.Site Global
@@ -22,9 +23,15 @@ Points = Vec code_site.Site Global
 abbrev pub points_in : Points → List Site
 points_in points = map site_view points.items
 
--- a `for`, by how it begins and what it repeats
-abbrev pub for_of : BlockItems → Repeated → Stmt
-for_of init r = for r.label init (cond_view r.cond.now) (stmt_view r.body.now) (stmt_view r.step.now)
+abbrev pub program_of : Source → Program
+program_of source = program_view source.program.now
+
+-- loops, by what they repeat
+abbrev pub loop_of : ℕ → Repeated → Stmt
+loop_of at r = loop at (cond_view r.cond.now) (stmt_view r.body.now) (stmt_view r.step.now)
+
+abbrev pub for_of : ℕ → BlockItems → Repeated → Stmt
+for_of at init r = for at init (cond_view r.cond.now) (stmt_view r.body.now) (stmt_view r.step.now)
 
 -- a statement with no statements in it
 abbrev pub IsSimple : Stmt → Type 0
@@ -73,19 +80,8 @@ module _ (at : Around) where
   abbrev pub ItemStands : (BlockItems → BlockItems) → Type 0
   ItemStands item = building.ItemStands program_around at.frame item
 
-  abbrev pub GivenStands : Option Rvalue → Type 0
-  GivenStands o = building.GivenStands program_around at.frame o
-
-  -- behind one variable more
-  abbrev pub DeclaredStands : Option Rvalue → Type 0
-  DeclaredStands o = building.GivenStands program_around (record at.frame { live = at.frame.live + 1 }) o
-
   abbrev pub CallStands : Call → Type 0
   CallStands c = building.CallStands program_around at.frame c
-
-  -- the body of a loop, and its step
-  abbrev pub RoundStands : Option ℕ → Stmt → Type 0
-  RoundStands length s = building.StmtStands program_around (record at.frame { loop_length = length }) s
 
   -- no call more may be made there, whatever points come before
   abbrev pub StopsAnywhere : Call → Limit → Type 0
@@ -106,24 +102,12 @@ module _ (at : Around) where
     abbrev pub StopsItem : (BlockItems → BlockItems) → Limit → Type 0
     StopsItem item = building.StopsItem program_around at.path.now at.frame (points_in before) item
 
-    abbrev pub StopsGiven : ℕ → Option Rvalue → Limit → Type 0
-    StopsGiven live o = Stops (given_events inside at.path.now live o)
-
-    abbrev pub StopsRvalue : Rvalue → Limit → Type 0
-    StopsRvalue e = Stops (rvalue_events inside at.path.now at.frame.live e)
-
-    abbrev pub StopsCall : Call → Limit → Type 0
-    StopsCall c = Stops (call_events program_around at.frame.calls_left at.path.now at.frame.live c)
-
     -- behind its callee's body, wherever that begins
     abbrev pub StopsBehind : Option ℕ → Call → code.Node → ℕ → Limit → Type 0
     StopsBehind x c g n l =
         (S : List Site) → building.WritesBody program_around at.path.now at.frame x c S (node_view g) n
         (points_in before)
         → walk S (call_events program_around at.frame.calls_left at.path.now at.frame.live c) ≡ stopped l
-
-    abbrev pub StopsRound : Stmt → Stmt → Limit → Type 0
-    StopsRound a step = Stops (on_stmt step ++ on_stmt a)
 
     module _ (after : Points) where
       -- the points behind it are those of these events
@@ -149,30 +133,9 @@ module _ (at : Around) where
       AreItems b g =
           building.WritesItems program_around at.path.now at.frame (points_in before) b (node_view g) (points_in after)
 
-      abbrev pub IsItem : (BlockItems → BlockItems) → code.Node → ℕ → Type 0
-      IsItem item g n =
-          building.WritesItem program_around at.path.now at.frame (points_in before) item (node_view g) n
-          (points_in after)
-
-      -- behind the point q, for the variable x
-      abbrev pub IsRvalue : ℕ → Option ℕ → Rvalue → code.Node → Type 0
-      IsRvalue q x e g =
-          building.WritesRvalue program_around at.path.now at.frame q x (points_in before) e (node_view g)
-          (points_in after)
-
       -- g is the call's tree, where h is its callee's body, wherever that begins
       abbrev pub IsCall : ℕ → Option ℕ → Call → code.Node → ℕ → code.Node → Type 0
       IsCall q x c h n g =
           (S : List Site)
           → building.WritesBody program_around at.path.now at.frame x c S (node_view h) n (points_in before)
           → building.WritesRvalue program_around at.path.now at.frame q x S (result c) (node_view g) (points_in after)
-
-      abbrev pub IsDeclared : ℕ → Option Rvalue → code.Node → Type 0
-      IsDeclared q o g =
-          building.WritesDeclared program_around at.path.now at.frame q (points_in before) o (node_view g)
-          (points_in after)
-
-      abbrev pub IsLoop : ℕ → Cond → Stmt → Stmt → code.Node → Type 0
-      IsLoop q c a step g =
-          building.WritesLoop program_around at.path.now at.frame q (points_in before) c a step
-          (node_view g) (points_in after)

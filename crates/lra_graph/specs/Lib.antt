@@ -3,3 +3,5 @@ pub mod Agreement
 pub mod Limits
 pub mod Building
 pub mod Inlining
+pub mod Open
+pub mod Steps

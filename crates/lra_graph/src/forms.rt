@@ -49,10 +49,19 @@ pub fn put_point(alloc: Global, point: usize, node: Node) -> Result<Node, AllocE
 }
 
 /// The operation, then the tree.
-pub fn put_act(alloc: Global, point: usize, op: Op, node: Node) -> Result<Node, AllocError>
+fn put_act(alloc: Global, point: usize, op: Op, node: Node) -> Result<Node, AllocError>
     ensures { IfOk result (λ g. node_view g ≡ graph.seq (graph.act point (op_view op)) (node_view node)) }
 {
     put_in_turn(alloc, Node::Act(point, op), node)
+}
+
+/// A declarator whose variable gets a value: its point, the new variable, and what gives the value.
+pub fn declare(alloc: Global, point: usize, given: Node) -> Result<Node, AllocError>
+    ensures { IfOk result (λ g. node_view g ≡ graph.seq (graph.point point)
+        (graph.seq (graph.act point step.append) (node_view given))) }
+{
+    let variable = put_act(alloc, point, Op::Append, given)?;
+    put_point(alloc, point, variable)
 }
 
 /// A block: its items, then the point of its end, where its variables go.

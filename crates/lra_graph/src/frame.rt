@@ -36,6 +36,13 @@ pub struct Around<'a> {
     pub frame: Frame,
 }
 
+/// The program that is written out.
+#[derive(Clone, Copy)]
+pub struct Source<'a> {
+    pub alloc: Global,
+    pub program: &'a Program,
+}
+
 /// What calls: its point, and the variable that gets the value, where there is one.
 #[derive(Clone, Copy)]
 pub struct Caller {
@@ -43,10 +50,9 @@ pub struct Caller {
     pub target: Option<usize>,
 }
 
-/// What a `for` repeats, and its label.
+/// What a loop repeats: its body, then its step, while its condition is true.
 #[derive(Clone, Copy)]
 pub struct Repeated<'a> {
-    pub label: usize,
     pub cond: &'a Cond,
     pub body: &'a Stmt,
     pub step: &'a Stmt,

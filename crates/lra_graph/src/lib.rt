@@ -7,6 +7,7 @@
 mod forms;
 mod frame;
 mod inlining;
+mod places;
 mod points;
 mod refused;
 

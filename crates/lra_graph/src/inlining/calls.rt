@@ -1,24 +1,26 @@
 //! What a call is but for its callee's body: where that stands, and what comes behind it.
 
 ghost use Rattle.std.specs.Prelude.{◌≡◌, ◌≢◌, ◌≤◌, ◌∷◌, length, Some, slice_get, IfOk};
-ghost use Rattle.lra_program.specs.ProgramViews.{call_view, function_view};
+ghost use Rattle.lra_program.specs.ProgramViews.{call_view, function_view, program_view};
 ghost use Rattle.lra_graph.specs.Limits.{OnLimit};
+ghost use Rattle.lra_graph.specs.Building as building;
 ghost use Rattle.lra_graph.specs.Building.{callee_frame};
-ghost use Rattle.lra_graph.specs.Inlining.{program_around, CallStands, IsCall, StopsAnywhere, StopsBehind};
+ghost use Rattle.lra_graph.specs.declared.frame.Frame.{Frame};
+ghost use Rattle.lra_graph.specs.Inlining.{CallStands, IsCall, StopsAnywhere, StopsBehind};
 
 use crate::forms::{CallPlace, enclose_call};
 use crate::frame::{Around, Back, Caller, Frame};
 use crate::points::{GraphError, Limit, add_point, finish};
 use lra_operations::{Node, Path, Site};
-use lra_program::{Call, Function};
+use lra_program::{Call, Function, Program};
 
 /// The function that the call names.
-pub fn callee<'a>(around: &Around<'a>, call: &Call) -> &'a Function
-    requires { CallStands around.now (call_view call.now) }
-    ensures { slice_get (program_around around.now).functions (call_view call.now).function
+pub fn callee<'a>(program: &'a Program, call: &Call) -> &'a Function
+    requires { (r : Frame) × building.CallStands (program_view program.now) r (call_view call.now) }
+    ensures { slice_get (program_view program.now).functions (call_view call.now).function
         ≡ Some (function_view result.now) }
 {
-    &around.program.functions[call.function]
+    &program.functions[call.function]
 }
 
 /// The path of the callee's body, and where that stands; or that the path may have no call more.
@@ -71,7 +73,7 @@ pub fn end_call(
         (call_view call.now) body.0 body.1) }
 {
     let (inside, last) = body;
-    let function = callee(around, call);
+    let function = callee(around.program, call);
     let end = add_point(around.alloc, path, function.end, last, false, sites)?;
     let place = CallPlace {
         point: caller.point,

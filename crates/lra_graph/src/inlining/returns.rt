@@ -1,19 +1,27 @@
-//! Returns behind their points: the store is cut to the caller's variables; in `main` the run ends.
+//! Returns: their points, behind which the store is cut to the caller's variables; in `main` the run ends.
 
-ghost use Rattle.std.specs.Prelude.{◌≡◌, IfOk};
-ghost use Rattle.lra_program.specs.ProgramViews.{expr_view};
+ghost use Rattle.std.specs.Prelude.{◌≡◌, IfOk, None, Some};
+ghost use Rattle.lra_program.specs.Program as resolved;
+ghost use Rattle.lra_program.specs.ProgramViews.{expr_view, call_view, given_view};
 ghost use Rattle.lra_operations.specs.Graph.{seq, point as own};
 ghost use Rattle.lra_operations.specs.GraphViews.{node_view};
 ghost use Rattle.lra_graph.specs.Building.{receiver, any_left, value_left, call_left};
+ghost use Rattle.lra_graph.specs.Limits.{OnLimit};
+ghost use Rattle.lra_graph.specs.Inlining.{StmtStands, StopsStmt};
+ghost use Rattle.lra_graph.specs.Open.{a_stmt, LeadsFrom};
+ghost use Rattle.lra_graph.specs.Steps.{FallsFrom};
 
+use super::lone::open_point;
 use crate::forms::{cut_and_leave, give_and_leave, put_in_turn, put_point};
-use crate::frame::{Around, Back};
-use lra_operations::{Exit, Node, Op};
-use lra_program::Expr;
-use std::alloc::AllocError;
+use crate::frame::{Around, Back, Caller, Frame};
+use crate::places::{Next, Open, Part, Place, close};
+use crate::points::GraphError;
+use lra_operations::{Exit, Node, Op, Site};
+use lra_program::{Call, Expr, Rvalue};
+use std::alloc::{AllocError, Global};
 
 /// What gets the value, where the caller takes it.
-pub fn receiver_of(back: Option<Back>) -> Option<usize>
+fn receiver_of(back: Option<Back>) -> Option<usize>
     ensures { result ≡ receiver back }
 {
     match back {
@@ -23,7 +31,7 @@ pub fn receiver_of(back: Option<Back>) -> Option<usize>
 }
 
 /// The point of a `return` without a value, and what leaves the call.
-pub fn leave_any(around: &Around<'_>, point: usize) -> Result<Node, AllocError>
+fn leave_any(around: &Around<'_>, point: usize) -> Result<Node, AllocError>
     ensures { IfOk result (λ g. node_view g
         ≡ seq (own point) (any_left around.now.frame.back point around.now.frame.live)) }
 {
@@ -40,7 +48,7 @@ pub fn leave_any(around: &Around<'_>, point: usize) -> Result<Node, AllocError>
 }
 
 /// The point of a `return` with a value that no call gives, and what leaves the call. In `main` nothing gets the value.
-pub fn leave_value(around: &Around<'_>, point: usize, value: &Expr) -> Result<Node, AllocError>
+fn leave_value(around: &Around<'_>, point: usize, value: &Expr) -> Result<Node, AllocError>
     ensures { IfOk result (λ g. node_view g ≡ seq (own point)
         (value_left around.now.frame.back point around.now.frame.base (expr_view value.now) around.now.frame.live)) }
 {
@@ -57,12 +65,10 @@ pub fn leave_value(around: &Around<'_>, point: usize, value: &Expr) -> Result<No
 }
 
 /// The point of a `return` whose value a call gives, that call, and what leaves the call around.
-pub fn leave_call(around: &Around<'_>, point: usize, call: Node) -> Result<Node, AllocError>
+pub fn leave_call(alloc: Global, frame: Frame, point: usize, call: Node) -> Result<Node, AllocError>
     ensures { IfOk result (λ g. node_view g ≡ seq (own point)
-        (call_left around.now.frame.back point (node_view call) around.now.frame.live)) }
+        (call_left frame.back point (node_view call) frame.live)) }
 {
-    let alloc = around.alloc;
-    let frame = around.frame;
     match frame.back {
         Some(back) => {
             let leave = cut_and_leave(alloc, point, back.length, frame.live, Exit::Returned)?;
@@ -73,5 +79,82 @@ pub fn leave_call(around: &Around<'_>, point: usize, call: Node) -> Result<Node,
             let left = put_in_turn(alloc, call, Node::Leave(frame.live, Exit::Returned))?;
             put_point(alloc, point, left)
         }
+    }
+}
+
+/// A `return` without a value.
+fn return_any<'a>(
+    here: &Around<'_>,
+    label: usize,
+    sites: &mut Vec<Site>,
+) -> Result<Next<'a>, GraphError>
+    requires { StmtStands here.now (resolved.return label None) }
+    ensures leads { IfOk result (LeadsFrom here.now sites.old sites.new (a_stmt (resolved.return label None))) }
+    ensures limit { OnLimit result (StopsStmt here.now sites.old (resolved.return label None)) }
+    ensures falls { IfOk result (FallsFrom here.now (a_stmt (resolved.return label None))) }
+{
+    let point = open_point(here, label, sites)?;
+    close(leave_any(here, point), here.frame.live)
+}
+
+/// A `return` with a value that no call gives.
+fn return_value<'a>(
+    here: &Around<'_>,
+    label: usize,
+    value: &Expr,
+    sites: &mut Vec<Site>,
+) -> Result<Next<'a>, GraphError>
+    requires { StmtStands here.now (resolved.return label (Some (resolved.value (expr_view value.now)))) }
+    ensures leads { IfOk result (LeadsFrom here.now sites.old sites.new
+        (a_stmt (resolved.return label (Some (resolved.value (expr_view value.now)))))) }
+    ensures limit { OnLimit result (StopsStmt here.now sites.old
+        (resolved.return label (Some (resolved.value (expr_view value.now))))) }
+    ensures falls { IfOk result (FallsFrom here.now
+        (a_stmt (resolved.return label (Some (resolved.value (expr_view value.now)))))) }
+{
+    let point = open_point(here, label, sites)?;
+    close(leave_value(here, point, value), here.frame.live)
+}
+
+/// A `return` whose value a call gives: its point, and that call; what leaves the call around comes behind it.
+fn return_call<'a>(
+    here: &Around<'_>,
+    label: usize,
+    call: &'a Call,
+    sites: &mut Vec<Site>,
+) -> Result<Next<'a>, GraphError>
+    requires { StmtStands here.now (resolved.return label (Some (resolved.result (call_view call.now)))) }
+    ensures leads { IfOk result (LeadsFrom here.now sites.old sites.new
+        (a_stmt (resolved.return label (Some (resolved.result (call_view call.now)))))) }
+    ensures limit { OnLimit result (StopsStmt here.now sites.old
+        (resolved.return label (Some (resolved.result (call_view call.now))))) }
+    ensures falls { IfOk result (FallsFrom here.now
+        (a_stmt (resolved.return label (Some (resolved.result (call_view call.now)))))) }
+{
+    let frame = here.frame;
+    let point = open_point(here, label, sites)?;
+    let place = Place::Returned(point);
+    let target = receiver_of(frame.back);
+    let part = Part::Call(Caller { point, target }, call);
+    Ok(Next::Opens(Open { frame, place }, frame, part))
+}
+
+/// A `return`: its point, and what leaves the call that runs, or `main`; a call that gives the value is made in both.
+pub fn open_return<'a>(
+    here: &Around<'_>,
+    label: usize,
+    rvalue: &'a Option<Rvalue>,
+    sites: &mut Vec<Site>,
+) -> Result<Next<'a>, GraphError>
+    requires { StmtStands here.now (resolved.return label (given_view rvalue.now)) }
+    ensures leads { IfOk result (LeadsFrom here.now sites.old sites.new
+        (a_stmt (resolved.return label (given_view rvalue.now)))) }
+    ensures limit { OnLimit result (StopsStmt here.now sites.old (resolved.return label (given_view rvalue.now))) }
+    ensures falls { IfOk result (FallsFrom here.now (a_stmt (resolved.return label (given_view rvalue.now)))) }
+{
+    match rvalue {
+        None => return_any(here, label, sites),
+        Some(Rvalue::Value(value)) => return_value(here, label, value, sites),
+        Some(Rvalue::Result(call)) => return_call(here, label, call, sites),
     }
 }

@@ -1,0 +1,12 @@
+-- Places are open, and what comes next leads to what the innermost has under way; each step leaves fewer to be taken.
+use Rattle.lra_graph.specs.Inlining.{points_in, program_of}
+use Rattle.lra_graph.specs.Open.{Due, Leads, AreUnderWay}
+use Rattle.lra_graph.specs.Steps.{all_left}
+use Rattle.lra_graph.proofs.inlining.write_out.Given as goal
+
+abbrev pub invariant-places : goal.invariant-places
+invariant-places l = (whole : Due) → Leads (program_of l.source) whole l.fn.first l.fn.path (points_in l.fn.sites)
+    → AreUnderWay (program_of l.source) whole l.places.items l.next l.path (points_in l.sites)
+
+abbrev pub decreases-places : goal.decreases-places
+decreases-places l = all_left (program_of l.source) l.places.items l.next
