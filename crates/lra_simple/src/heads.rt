@@ -369,7 +369,9 @@ impl Drop for LoopHead {
 }
 
 impl LoopHead {
-    /// The whole loop.
+    /// The whole loop. Not inlined, as the others that say so here: what resolves statements calls itself at each level,
+    /// and is to take little of the stack.
+    #[inline(never)]
     pub fn into_loop(
         self,
         alloc: Global,
@@ -386,6 +388,7 @@ impl LoopHead {
 }
 
 /// Takes the label of a loop, and resolves what stands before its body. A `for` begins a scope.
+#[inline(never)]
 pub fn resolve_loop_head(
     around: &Around<'_>,
     scope: &mut Scope,

@@ -16,6 +16,7 @@ use lra_scopes::Scope;
 use lra_tree::Stmt;
 
 /// A statement without statements in it.
+#[inline(never)]
 pub fn resolve_simple(
     around: &Around<'_>,
     scope: &Scope,
