@@ -144,8 +144,8 @@ pub fn read_name(alloc: Global, rest: &[Token]) -> Result<(Identifier, &[Token])
     }
 }
 
-/// Puts what a reader gave in a box behind the others of a list. Not inlined, so that a reader that calls itself holds no
-/// more than the box.
+/// Puts what a reader gave in a box behind the others of a list. Not inlined, so that a reader that calls itself holds
+/// no more than the box.
 #[inline(never)]
 pub fn push_boxed<T: Drop>(list: &mut Vec<T>, item: Box<T>) -> Result<(), AllocError>
     ensures { IfOk result (λ _. list.new.items ≡ list.old.items ++ item.value ∷ []) }

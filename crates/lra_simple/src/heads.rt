@@ -369,8 +369,8 @@ impl Drop for LoopHead {
 }
 
 impl LoopHead {
-    /// The whole loop. Not inlined, as the others that say so here: what resolves statements calls itself at each level,
-    /// and is to take little of the stack.
+    /// The whole loop. Not inlined, as the others that say so here: what resolves statements calls itself at each
+    /// level, and is to take little of the stack.
     #[inline(never)]
     pub fn into_loop(
         self,
