@@ -80,6 +80,7 @@ def refuse_each(words, source, status, told):
          not others and count > 0, others[:3])
 
 
-for row in RUNS:
-    refuse_each(*row)
-ended()
+if __name__ == '__main__':
+    for row in RUNS:
+        refuse_each(*row)
+    ended()

@@ -1,4 +1,5 @@
-"""What the scripts of this folder share: runs of the program on a stack of 1 MB within a limit of processor time.
+"""What the scripts of this folder share: runs of the program on a stack of 1 MB and in 4 GB of memory, within a limit of
+processor time.
 
 Each case prints one line. `ended()` ends with status 1 where a case disagreed. Expected values were written by hand.
 """
@@ -10,12 +11,14 @@ import sys
 HERE = os.path.dirname(os.path.abspath(__file__))
 PROGRAM = os.path.abspath(sys.argv[1] if len(sys.argv) > 1 else os.path.join(HERE, '../crates/lra/out/lra'))
 STACK = 1 << 20
+MEMORY = 4 << 30
 disagreed = 0
 
 
 def bounded():
-    """Gives the process a stack of 1 MB."""
+    """Gives the process a stack of 1 MB, and 4 GB of memory."""
     resource.setrlimit(resource.RLIMIT_STACK, (STACK, STACK))
+    resource.setrlimit(resource.RLIMIT_AS, (MEMORY, MEMORY))
 
 
 def spent():
