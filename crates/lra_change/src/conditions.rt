@@ -1,4 +1,5 @@
-//! What a condition leaves of a value.
+//! What a condition leaves of a value. What is never inlined holds nothing while the function for a condition inside
+//! this one runs.
 
 ghost use Rattle.std.specs.Prelude.{◌≡◌, ◌<◌, ◌^◌, ◌∷◌, [], map, length, slice_index_or, IfOk, OnOk};
 ghost use Rattle.lra_base.specs.OperatorViews.{comparison_view};
@@ -44,6 +45,7 @@ fn leave_nonzero<D: Domain>(
 }
 
 /// A copy of the value, with what led to it.
+#[inline(never)]
 fn copy_kept<D: Domain>(
     alloc: Global,
     value: &D,
@@ -64,6 +66,7 @@ struct Apart<'a, D> {
 }
 
 /// What each operand but the last leaves where those before it aren't so.
+#[inline(never)]
 fn divide_lefts<'a, D: Domain>(
     around: Surroundings,
     first: &'a Cond,
@@ -89,6 +92,7 @@ fn divide_lefts<'a, D: Domain>(
 }
 
 /// The value becomes the lefts joined with the right: each with what those behind it give.
+#[inline(never)]
 fn join_lefts<D: Domain>(
     lefts: Vec<Kept<D>>,
     right: D,

@@ -1,4 +1,5 @@
 //! What a condition leaves of a value where it is true, together with what it leaves where it is false.
+//! What is never inlined holds nothing while the function for a condition inside this one runs.
 
 ghost use Rattle.std.specs.Prelude.{◌≡◌, ◌<◌, ◌^◌, map, not, true, false, IfOk};
 ghost use Rattle.lra_base.specs.OperatorViews.{comparison_view};
@@ -60,6 +61,7 @@ pub fn join_back<D: Domain>(before: Vec<Kept<D>>, last: Kept<D>) -> Result<Kept<
 }
 
 /// The side where the last operand is false, joined with those before it from the right.
+#[inline(never)]
 fn join_off<D: Domain>(before: Vec<Kept<D>>, last: Sides<D>) -> Result<Sides<D>, AllocError>
     requires { AllKeptHave D.meaning (D.meaning.dims last.off.value) before.items }
     ensures on { IfOk result (λ s. s.on ≡ last.on) }
@@ -71,6 +73,7 @@ fn join_off<D: Domain>(before: Vec<Kept<D>>, last: Sides<D>) -> Result<Sides<D>,
 }
 
 /// The side where the last operand is true, joined likewise.
+#[inline(never)]
 fn join_on<D: Domain>(before: Vec<Kept<D>>, last: Sides<D>) -> Result<Sides<D>, AllocError>
     requires { AllKeptHave D.meaning (D.meaning.dims last.on.value) before.items }
     ensures on { IfOk result (λ s. AreJoinedBack D.meaning before.items last.on s.on) }
@@ -82,6 +85,7 @@ fn join_on<D: Domain>(before: Vec<Kept<D>>, last: Sides<D>) -> Result<Sides<D>, 
 }
 
 /// Both sides of a comparison.
+#[inline(never)]
 fn split_comparison<D: Domain>(
     alloc: Global,
     base: usize,
@@ -116,6 +120,7 @@ fn split_comparison<D: Domain>(
 }
 
 /// Both sides of `e != 0`.
+#[inline(never)]
 fn split_nonzero<D: Domain>(
     alloc: Global,
     base: usize,
