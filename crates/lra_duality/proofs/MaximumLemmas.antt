@@ -1,7 +1,7 @@
 -- The passes over the generators that find the greatest value of a form.
 use Rattle.std.proofs.Common.{◌≡◌, ℕ, zero, suc, ◌<◌, ◌≤◌, ◌+◌, ◌*◌, List, [], ◌∷◌, length, get_or, ap, refl, sym, ◌∙◌}
 use Rattle.std.proofs.Common.{subst, ℤ, pos, negsuc, neg_ℤ, ◌+ℤ◌, ◌*ℤ◌, ◌<ℤ◌, ◌≤ℤ◌, arith, Result, Ok, Err, IsErr, IsOk}
-use Rattle.std.proofs.Common.{unsigned_abs, int_div}
+use Rattle.std.proofs.Common.{unsigned_abs, int_div, Bool, true, false, cond}
 use Rattle.std.specs.Int.{◌∣◌, IsGcd}
 use Rattle.std.specs.List.{All}
 use Rattle.std.proofs.lemmas.Int.{ints, unsigned_abs-mul}
@@ -9,17 +9,18 @@ use Rattle.std.proofs.lemmas.List.{get_or_default}
 use Rattle.std.proofs.lemmas.List.Elements.{All-contains}
 use Rattle.std.proofs.Math.Nat.{mul-div_cancel', dvd_of_mul-dvd-mul_right, mul-dvd-mul_right, one-dvd}
 use Rattle.std.proofs.lemmas.Nat.Gcd.{dvd_antisymm}
-use Rattle.lra_linear.specs.CheckedArithmetic.{checked_product}
+use Rattle.lra_linear.specs.CheckedArithmetic.{checked_product, checked_product_from}
 use Rattle.lra_linear.specs.Descriptions.{Given}
 use Rattle.lra_linear.specs.LowestTerms.{IsPrimitive}
-use Rattle.lra_linear.specs.Vectors.{entry, product}
+use Rattle.lra_linear.specs.Vectors.{entry, negated, product}
+use Rattle.lra_linear.specs.declared.Excess.{Excess}
 use Rattle.lra_linear.proofs.CheckedArithmetic.{checked_product_value, checked_product_in_range}
 use Rattle.lra_linear.proofs.LowestTerms.{signed_quotient_is}
 use Rattle.lra_linear.proofs.Membership.{all_from}
 use Rattle.lra_linear.proofs.Ring.{mul_nonnegative, ring, v, ⊖, ◌⊕◌, ◌⊗◌}
 use Rattle.lra_linear.proofs.Signs.{as_nat, cancel_same, divide_nonnegative, positive_is_nonnegative, positive_nat, positive_part}
 use Rattle.lra_linear.proofs.Signs.{times_positive}
-use Rattle.lra_linear.specs.Range.{InRange}
+use Rattle.lra_linear.specs.Range.{InRange, in_range}
 use Rattle.lra_row.proofs.Ratio.{apart}
 use Rattle.lra_row.proofs.RowLemmas.{quotient_signed}
 use Rattle.lra_linear.specs.Kinds.{is_line}
@@ -296,3 +297,79 @@ pub greatest_there : (form : List ℤ) (list : List Given) (place : ℕ) (x r : 
     IsGreatest form list (product form r) (entry r 0) place
 greatest_there form list place x r e h = subst (λ (y : List ℤ). IsGreatest form list (product form y) (entry y 0) place)
     e h
+
+-- ---- opposites
+-- the range is as far below 0 as above
+in_range_turned : (z : ℤ) → in_range (neg_ℤ z) ≡ in_range z
+in_range_turned (pos zero) = refl
+in_range_turned (pos (suc n)) = refl
+in_range_turned (negsuc n) = refl
+
+-- both pass, or the second is the first with its sign turned
+abbrev Turned : Result ℤ Excess → Result ℤ Excess → Type 0
+Turned (Ok p) (Ok q) = q ≡ neg_ℤ p
+Turned (Ok p) (Err f) = ⊥
+Turned (Err e) (Ok q) = ⊥
+Turned (Err e) (Err f) = Unit {0}
+
+turned_tests : (r q : Result ℤ Excess) (b d : Bool) (e f g h : Excess) → Turned r q → Turned
+    (cond {A = Result ℤ Excess} b (cond {A = Result ℤ Excess} d r (Err e)) (Err f))
+    (cond {A = Result ℤ Excess} b (cond {A = Result ℤ Excess} d q (Err g)) (Err h))
+turned_tests r q true true e f g h t = t
+turned_tests r q true false e f g h t = tt
+turned_tests r q false d e f g h t = tt
+
+turned_from : (s : ℤ) (xs ys : List ℤ) →
+    Turned (checked_product_from s xs ys) (checked_product_from (neg_ℤ s) (negated xs) ys)
+turned_from s [] ys = refl
+turned_from s (x ∷ xs) [] = refl
+turned_from s (x ∷ xs) (y ∷ ys) =
+    let m : neg_ℤ x *ℤ y ≡ neg_ℤ (x *ℤ y) = ring (⊖ (v x) ⊗ v y) (⊖ (v x ⊗ v y)) (omega arith) in
+    let n : neg_ℤ s +ℤ neg_ℤ (x *ℤ y) ≡ neg_ℤ (s +ℤ (x *ℤ y)) =
+    ring (⊖ (v s) ⊕ ⊖ (v x ⊗ v y)) (⊖ (v s ⊕ v x ⊗ v y)) (omega arith) in
+    rw (m, n, in_range_turned (x *ℤ y), in_range_turned (s +ℤ (x *ℤ y)))
+    (turned_tests (checked_product_from (s +ℤ (x *ℤ y)) xs ys) (checked_product_from (neg_ℤ (s +ℤ (x *ℤ y))) (negated xs) ys)
+    (in_range (x *ℤ y)) (in_range (s +ℤ (x *ℤ y))) _ _ _ _ (turned_from (s +ℤ (x *ℤ y)) xs ys))
+
+turned_product : (xs ys : List ℤ) → Turned (checked_product xs ys) (checked_product (negated xs) ys)
+turned_product xs ys = turned_from (pos 0) xs ys
+
+ok_turned : (r q : Result ℤ Excess) (p : ℤ) → Turned r q → r ≡ Ok p → q ≡ Ok (neg_ℤ p)
+ok_turned (Ok z) (Ok y) p t e =
+    let same : z ≡ p = cc in ap (λ (x : ℤ). let r : Result ℤ Excess = Ok x in r) (t ∙ ap neg_ℤ same)
+ok_turned (Ok z) (Err f) p t e = absurd t
+ok_turned (Err f) q p t e = let wrong : ⊥ = cc in absurd wrong
+
+err_turned : (r q : Result ℤ Excess) → Turned r q → IsErr r → IsErr q
+err_turned (Ok z) q t e = let wrong : ⊥ = cc in absurd wrong
+err_turned (Err f) (Ok y) t e = absurd t
+err_turned (Err f) (Err g) t e = refl
+
+-- a product passes with a row exactly where it does with the row's opposite, and is that with its sign turned
+pub opposite_product : (form row : List ℤ) (z : ℤ) → checked_product form row ≡ Ok z →
+    checked_product (negated form) row ≡ Ok (neg_ℤ z)
+opposite_product form row z e =
+    ok_turned (checked_product form row) (checked_product (negated form) row) z (turned_product form row) e
+
+pub opposite_fails : (is_opposite : Bool) (form row : List ℤ) → IsErr (checked_product form row) →
+    IsErr (checked_product (cond is_opposite (negated form) form) row)
+opposite_fails true form row e =
+    err_turned (checked_product form row) (checked_product (negated form) row) (turned_product form row) e
+opposite_fails false form row e = e
+
+-- a quotient without a remainder lies in the range with the number
+no_less : (m k : ℕ) → 0 < k → m ≤ m * k
+no_less m zero h = absurd (omega (arith, h))
+no_less m (suc k) h = omega arith
+
+pub quotient_in_range : (z : ℤ) (g : ℤ) (q : ℤ) → InRange z → pos 0 <ℤ g → unsigned_abs g ∣ unsigned_abs z → q ≡ int_div z g → InRange q
+quotient_in_range z (pos g) q h above d e =
+    let whole = size q z g (ap (λ (x : ℤ). pos g *ℤ x) e ∙ quotient_times z g d) in
+    let up = no_less (unsigned_abs q) g (omega (arith, ints, above)) in
+    omega (arith, h, whole, up)
+quotient_in_range z (negsuc g) q h above d e = let wrong : ⊥ = omega (arith, ints, above) in absurd wrong
+
+pub quotient_above : (z : ℤ) (g : ℤ) (q : ℤ) → pos 0 <ℤ z → pos 0 <ℤ g → unsigned_abs g ∣ unsigned_abs z → q ≡ int_div z g → pos 0 <ℤ q
+quotient_above z (pos g) q up above d e =
+    positive_part g q z (positive_nat (pos g) g above refl) (ap (λ (x : ℤ). pos g *ℤ x) e ∙ quotient_times z g d) up
+quotient_above z (negsuc g) q up above d e = let wrong : ⊥ = omega (arith, ints, above) in absurd wrong

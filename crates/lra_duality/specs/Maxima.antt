@@ -1,6 +1,7 @@
 -- The greatest value of a form on a polyhedron, told by its generators in their order. The value of the form c0, .., cn
 -- at a point is its product with the point's row, divided by the point's divisor.
-use Rattle.std.specs.Prelude.{◌≡◌, ◌≢◌, ℕ, ◌⊎◌, ℤ, pos, ◌*ℤ◌, ◌<ℤ◌, ◌≤ℤ◌, true, false, List, [], ◌∷◌, IsOk, IsErr}
+use Rattle.std.specs.Prelude.{◌≡◌, ◌≢◌, ℕ, ◌⊎◌, ℤ, pos, ◌*ℤ◌, ◌<ℤ◌, ◌≤ℤ◌, Bool, true, false, cond, ⊤}
+use Rattle.std.specs.Prelude.{List, [], ◌∷◌, IsOk, IsErr}
 use Rattle.std.specs.List.{All}
 use Rattle.lra_linear.specs.declared.Excess as E
 use Rattle.lra_linear.specs.CheckedArithmetic.{checked_product}
@@ -9,10 +10,16 @@ use Rattle.lra_linear.specs.LowestTerms.{IsPrimitive}
 use Rattle.lra_linear.specs.OperationStrain.{MaximiseStrains}
 use Rattle.lra_linear.specs.Points.{IsPoint, IsEmptySet}
 use Rattle.lra_linear.specs.Polyhedra.{Polyhedron}
-use Rattle.lra_linear.specs.Vectors.{entry, product}
+use Rattle.lra_linear.specs.Range.{InRange}
+use Rattle.lra_linear.specs.Vectors.{entry, negated, product}
+use Rattle.lra_lin.specs.Form.{Form, form_row}
 use Rattle.lra_duality.specs.declared.maximum.Maximum.{Maximum}
 use Rattle.lra_duality.specs.declared.maximum.Maximum.TheVariants.{Empty, Wide, Unbounded, At}
 use Rattle.lra_sys.specs.FirstPlaces.{FirstAt}
+
+-- the form's row, or the row of its opposite: the least value of a form is, with its sign turned, the greatest of that
+abbrev pub directed : Form → Bool → List ℤ
+directed form is_opposite = cond is_opposite (negated (form_row form)) (form_row form)
 
 -- ---- a form and a generator
 abbrev pub StaysInRange : List ℤ → Given → Type 0
@@ -59,6 +66,13 @@ IsMaximum form generators (Unbounded place) =
 IsMaximum form generators (At num den place) =
     All (StaysInRange form) generators × All (DoesNotImprove form) generators
     × IsGreatest form generators num den place × IsPrimitive (num ∷ den ∷ [])
+
+-- a value that is told is of numbers in the range, the lower one above 0
+abbrev pub ValueInRange : Maximum → Type 0
+ValueInRange Empty = ⊤
+ValueInRange (Wide place) = ⊤
+ValueInRange (Unbounded place) = ⊤
+ValueInRange (At num den place) = InRange num × InRange den × (pos 0 <ℤ den)
 
 -- ---- what it says of the set of points
 -- some point has the value num / den, in lowest terms, and no point has more

@@ -13,10 +13,10 @@ ghost use Rattle.lra_linear.specs.Vectors.{entry, product};
 ghost use Rattle.lra_sys.specs.Listed.{generators};
 ghost use Rattle.lra_sys.specs.FirstPlaces.{FirstAt};
 ghost use Rattle.lra_duality.specs.Maxima.{StaysInRange, PassesRange, Improves, DoesNotImprove};
-ghost use Rattle.lra_duality.specs.Maxima.{IsAtMost, IsBelow, IsGreatest, IsMaximum};
+ghost use Rattle.lra_duality.specs.Maxima.{IsAtMost, IsBelow, IsGreatest, IsMaximum, ValueInRange, directed};
 
 use lra_lin::LinExpr;
-use lra_row::{Row, add, gcd, mul, ratio_cmp};
+use lra_row::{Row, add, gcd, mul, opposite, ratio_cmp};
 use lra_sys::GenSys;
 use std::cmp::Ordering;
 
@@ -81,28 +81,45 @@ fn multiply_with(form: &LinExpr, row: &Row) -> Option<i128>
     }
 }
 
-// The product of the form with a row with which it stays in the range.
-#[tactic(auto, using(crate::proofs::MaximumLemmas::value_of_ok, crate::proofs::MaximumLemmas::value_in_range))]
-fn value_with(form: &LinExpr, row: &Row) -> i128
-    requires { IsOk (checked_product (form_row form.now) row.now) }
-    ensures value { result ≡ product (form_row form.now) row.now }
-    ensures in_range { InRange result }
+// The product of the form, or of its opposite, with the row, or `None` exactly where a number of it passes the range.
+fn multiply_along(form: &LinExpr, is_opposite: bool, row: &Row) -> Option<i128>
+    ensures { MatchOption result (IsErr (checked_product (directed form.now is_opposite) row.now))
+        (λ z. checked_product (directed form.now is_opposite) row.now ≡ Ok z) }
 {
     match multiply_with(form, row) {
+        None => None,
+        Some(product) => {
+            if is_opposite {
+                return Some(opposite(product));
+            }
+            Some(product)
+        }
+    }
+}
+
+// The product of the form with a row with which it stays in the range.
+#[tactic(auto, using(crate::proofs::MaximumLemmas::value_of_ok, crate::proofs::MaximumLemmas::value_in_range))]
+fn value_with(form: &LinExpr, is_opposite: bool, row: &Row) -> i128
+    requires { IsOk (checked_product (directed form.now is_opposite) row.now) }
+    ensures value { result ≡ product (directed form.now is_opposite) row.now }
+    ensures in_range { InRange result }
+{
+    match multiply_along(form, is_opposite, row) {
         Some(value) => value,
         None => 0,
     }
 }
 
 // The first generator with which the product passes the range.
-fn first_wide(form: &LinExpr, list: &GenSys) -> Option<usize>
-    ensures { MatchOption result (All (StaysInRange (form_row form.now)) (generators list.now))
-        (FirstAt (StaysInRange (form_row form.now)) (PassesRange (form_row form.now)) (generators list.now)) }
+fn first_wide(form: &LinExpr, is_opposite: bool, list: &GenSys) -> Option<usize>
+    ensures { MatchOption result (All (StaysInRange (directed form.now is_opposite)) (generators list.now))
+        (FirstAt (StaysInRange (directed form.now is_opposite)) (PassesRange (directed form.now is_opposite))
+        (generators list.now)) }
 {
     let _kinds = list.kinds();
     let rows = list.rows();
     for (place, row) in rows.iter().enumerate() {
-        match multiply_with(form, row) {
+        match multiply_along(form, is_opposite, row) {
             Some(_) => {}
             None => return Some(place),
         }
@@ -111,24 +128,26 @@ fn first_wide(form: &LinExpr, list: &GenSys) -> Option<usize>
 }
 
 // Whether the form grows along the ray, or changes along the line.
-fn improves(form: &LinExpr, row: &Row, line: bool) -> bool
+fn improves(form: &LinExpr, is_opposite: bool, row: &Row, line: bool) -> bool
     requires width { 0 < length row.now }
-    requires in_range { IsOk (checked_product (form_row form.now) row.now) }
-    ensures { (g : Given) → g.row ≡ row.now → g.equal ≡ line → (IsTrue result ↔ Improves (form_row form.now) g) }
+    requires in_range { IsOk (checked_product (directed form.now is_opposite) row.now) }
+    ensures { (g : Given) → g.row ≡ row.now → g.equal ≡ line →
+        (IsTrue result ↔ Improves (directed form.now is_opposite) g) }
 {
-    let value = value_with(form, row);
+    let value = value_with(form, is_opposite, row);
     row.get(0) == 0 && (value > 0 || line && value != 0)
 }
 
 // The first ray along which the form grows, or line along which it changes.
-fn first_improving(form: &LinExpr, list: &GenSys) -> Option<usize>
-    requires { All (StaysInRange (form_row form.now)) (generators list.now) }
-    ensures { MatchOption result (All (DoesNotImprove (form_row form.now)) (generators list.now))
-        (FirstAt (DoesNotImprove (form_row form.now)) (Improves (form_row form.now)) (generators list.now)) }
+fn first_improving(form: &LinExpr, is_opposite: bool, list: &GenSys) -> Option<usize>
+    requires { All (StaysInRange (directed form.now is_opposite)) (generators list.now) }
+    ensures { MatchOption result (All (DoesNotImprove (directed form.now is_opposite)) (generators list.now))
+        (FirstAt (DoesNotImprove (directed form.now is_opposite)) (Improves (directed form.now is_opposite))
+        (generators list.now)) }
 {
     let (rows, kinds) = (list.rows(), list.kinds());
     for (place, row) in rows.iter().enumerate() {
-        if improves(form, row, kinds[place].goes_both_ways()) {
+        if improves(form, is_opposite, row, kinds[place].goes_both_ways()) {
             return Some(place);
         }
     }
@@ -136,38 +155,40 @@ fn first_improving(form: &LinExpr, list: &GenSys) -> Option<usize>
 }
 
 // Whether the row is a point at which the form's value is above that at the best point.
-fn exceeds(form: &LinExpr, row: &Row, best: &Row) -> bool
-    requires row_in_range { IsOk (checked_product (form_row form.now) row.now) }
-    requires best_in_range { IsOk (checked_product (form_row form.now) best.now) }
+fn exceeds(form: &LinExpr, is_opposite: bool, row: &Row, best: &Row) -> bool
+    requires row_in_range { IsOk (checked_product (directed form.now is_opposite) row.now) }
+    requires best_in_range { IsOk (checked_product (directed form.now is_opposite) best.now) }
     requires best_divisor { pos 0 <ℤ entry best.now 0 }
     requires row_width { 0 < length row.now }
     requires best_width { 0 < length best.now }
     ensures point { IsTrue result → pos 0 <ℤ entry row.now 0 }
     ensures above { IsTrue result →
-        IsBelow (form_row form.now) (product (form_row form.now) row.now) (entry row.now 0) best.now }
+        IsBelow (directed form.now is_opposite) (product (directed form.now is_opposite) row.now) (entry row.now 0)
+        best.now }
     ensures not_above { (result ≡ false) → pos 0 <ℤ entry row.now 0 →
-        IsAtMost (form_row form.now) (product (form_row form.now) best.now) (entry best.now 0) row.now }
+        IsAtMost (directed form.now is_opposite) (product (directed form.now is_opposite) best.now) (entry best.now 0)
+        row.now }
 {
-    let value = value_with(form, row);
-    let best_value = value_with(form, best);
+    let value = value_with(form, is_opposite, row);
+    let best_value = value_with(form, is_opposite, best);
     row.get(0) > 0 && ratio_cmp(value, row.get(0), best_value, best.get(0)) == Ordering::Greater
 }
 
 // The first point at which the form's value is the greatest. The first generator is a point.
-fn place_of_greatest(form: &LinExpr, list: &GenSys) -> usize
-    requires in_range { All (StaysInRange (form_row form.now)) (generators list.now) }
+fn place_of_greatest(form: &LinExpr, is_opposite: bool, list: &GenSys) -> usize
+    requires in_range { All (StaysInRange (directed form.now is_opposite)) (generators list.now) }
     requires some { 0 < length list.now.rows }
     requires point { pos 0 <ℤ entry (slice_index_or list.now.rows 0 []) 0 }
     ensures inside { result < length list.now.rows }
-    ensures greatest { IsGreatest (form_row form.now) (generators list.now)
-        (product (form_row form.now) (slice_index_or list.now.rows result []))
+    ensures greatest { IsGreatest (directed form.now is_opposite) (generators list.now)
+        (product (directed form.now is_opposite) (slice_index_or list.now.rows result []))
         (entry (slice_index_or list.now.rows result []) 0) result }
 {
     let _kinds = list.kinds();
     let rows = list.rows();
     let mut best = 0;
     for (place, row) in rows.iter().enumerate() {
-        if exceeds(form, row, &rows[best]) {
+        if exceeds(form, is_opposite, row, &rows[best]) {
             best = place;
         }
     }
@@ -186,16 +207,18 @@ fn common_divisor(value: i128, divisor: i128) -> i128
 }
 
 // The form's value at the point, in lowest terms.
-fn at(form: &LinExpr, point: &Row, place: usize) -> Maximum
-    requires in_range { IsOk (checked_product (form_row form.now) point.now) }
+fn at(form: &LinExpr, is_opposite: bool, point: &Row, place: usize) -> Maximum
+    requires in_range { IsOk (checked_product (directed form.now is_opposite) point.now) }
     requires divisor { pos 0 <ℤ entry point.now 0 }
     requires width { 0 < length point.now }
-    ensures { (list : List Given) → IsGreatest (form_row form.now) list
-        (product (form_row form.now) point.now) (entry point.now 0) place →
-        All (StaysInRange (form_row form.now)) list → All (DoesNotImprove (form_row form.now)) list →
-        IsMaximum (form_row form.now) list result }
+    ensures greatest { (list : List Given) → IsGreatest (directed form.now is_opposite) list
+        (product (directed form.now is_opposite) point.now) (entry point.now 0) place →
+        All (StaysInRange (directed form.now is_opposite)) list →
+        All (DoesNotImprove (directed form.now is_opposite)) list →
+        IsMaximum (directed form.now is_opposite) list result }
+    ensures range { ValueInRange result }
 {
-    let value = value_with(form, point);
+    let value = value_with(form, is_opposite, point);
     let divisor = point.get(0);
     let common = common_divisor(value, divisor);
     Maximum::At {
@@ -205,22 +228,23 @@ fn at(form: &LinExpr, point: &Row, place: usize) -> Maximum
     }
 }
 
-/// The greatest value on the points of the generators. The first of them is a point.
-pub fn maximum_of(form: &LinExpr, list: &GenSys) -> Maximum
+/// The greatest value of the form, or of its opposite, on the points of the generators. The first of them is a point.
+pub fn maximum_of(form: &LinExpr, is_opposite: bool, list: &GenSys) -> Maximum
     requires { 0 < length list.now.rows → pos 0 <ℤ entry (slice_index_or list.now.rows 0 []) 0 }
-    ensures { IsMaximum (form_row form.now) (generators list.now) result }
+    ensures maximum { IsMaximum (directed form.now is_opposite) (generators list.now) result }
+    ensures range { ValueInRange result }
 {
     let _kinds = list.kinds();
     if list.rows().is_empty() {
         return Maximum::Empty;
     }
-    match first_wide(form, list) {
+    match first_wide(form, is_opposite, list) {
         Some(place) => Maximum::Wide { place },
-        None => match first_improving(form, list) {
+        None => match first_improving(form, is_opposite, list) {
             Some(place) => Maximum::Unbounded { place },
             None => {
-                let place = place_of_greatest(form, list);
-                at(form, &list.rows()[place], place)
+                let place = place_of_greatest(form, is_opposite, list);
+                at(form, is_opposite, &list.rows()[place], place)
             }
         },
     }

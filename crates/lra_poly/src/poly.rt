@@ -8,12 +8,13 @@ ghost use Rattle.lra_linear.specs.OperationStrain.{AddTestStrains, MeetStrains, 
 ghost use Rattle.lra_linear.specs.Points.{IsEmptySet, IsWithin};
 ghost use Rattle.lra_linear.specs.Polyhedra.{IsPolyhedron, IsPolyhedronOf};
 ghost use Rattle.lra_linear.specs.SetOperations.{Meet, Union, Hull};
+ghost use Rattle.lra_linear.specs.Vectors.{negated};
 ghost use Rattle.lra_sys.specs.Dimensions.{too_many_dimensions};
 ghost use Rattle.lra_sys.specs.Listed.{constraints, generators, FitKinds};
 ghost use Rattle.lra_pair.specs.KeptRows.{IsOfSome};
 ghost use Rattle.lra_pair.specs.OwnLists.{IsPositive};
 ghost use Rattle.lra_duality.specs.Inclusions.{IsInclusion, TellsInclusion};
-ghost use Rattle.lra_duality.specs.Maxima.{IsMaximum, TellsMaximum};
+ghost use Rattle.lra_duality.specs.Maxima.{IsMaximum, TellsMaximum, ValueInRange};
 ghost use Rattle.lra_poly.specs.Outcomes.{IfExact, IfFlagged};
 ghost use Rattle.lra_lin.specs.Form.{form_row};
 ghost use Rattle.lra_duality.specs.Rows.{test_row};
@@ -281,9 +282,21 @@ impl Poly {
         requires { length form.now.coefficients ≡ self.now.dims }
         ensures first { IsMaximum (form_row form.now) self.now.generators result }
         ensures tells { TellsMaximum self.now (form_row form.now) result }
+        ensures range { ValueInRange result }
     {
         let _kinds = self.by_generators.kinds();
-        maximum_of(form, &self.by_generators)
+        maximum_of(form, false, &self.by_generators)
+    }
+
+    /// The greatest value of the form's opposite: with its sign turned, the least value of the form.
+    pub fn maximise_opposite(&self, form: &LinExpr) -> Maximum
+        requires { length form.now.coefficients ≡ self.now.dims }
+        ensures first { IsMaximum (negated (form_row form.now)) self.now.generators result }
+        ensures tells { TellsMaximum self.now (negated (form_row form.now)) result }
+        ensures range { ValueInRange result }
+    {
+        let _kinds = self.by_generators.kinds();
+        maximum_of(form, true, &self.by_generators)
     }
 
     // Whether it is known that each point is in the other.

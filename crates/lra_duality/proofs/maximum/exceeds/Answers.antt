@@ -2,13 +2,13 @@
 use Rattle.std.proofs.Common.{ℤ, pos, ◌<ℤ◌, sym, subst, arith}
 use Rattle.std.proofs.lemmas.Int.{ints}
 use Rattle.lra_linear.specs.Vectors.{entry, product}
-use Rattle.lra_lin.specs.Form.{form_row}
+use Rattle.lra_duality.specs.Maxima.{directed}
 use Rattle.lra_duality.proofs.BetterPoints.{stored_is, is_above, is_not_above}
 use Rattle.lra_duality.proofs.maximum.exceeds.Goals as goal
 
 pub returns-then-get-gt0-clause-above : goal.returns-then-get-gt0-clause-above
 returns-then-get-gt0-clause-above c =
-    let form = form_row c.args.form.now in
+    let form = directed c.args.form.now c.args.is_opposite in
     let row = c.args.row.now in
     let best = c.args.best.now in
     let value = c.value_with-value.ensures in
@@ -22,7 +22,7 @@ returns-then-get-gt0-clause-above c =
 
 pub returns-then-get-gt0-clause-not_above : goal.returns-then-get-gt0-clause-not_above
 returns-then-get-gt0-clause-not_above c =
-    let form = form_row c.args.form.now in
+    let form = directed c.args.form.now c.args.is_opposite in
     let row = c.args.row.now in
     let best = c.args.best.now in
     let value = c.value_with-value.ensures in

@@ -5,8 +5,7 @@ use Rattle.lra_linear.specs.Descriptions.{Given}
 use Rattle.lra_linear.specs.Kinds.{is_line}
 use Rattle.lra_linear.specs.declared.GenKind.TheVariants.{Point}
 use Rattle.lra_sys.specs.FirstPlaces.{FirstAt}
-use Rattle.lra_duality.specs.Maxima.{DoesNotImprove, Improves, StaysInRange}
-use Rattle.lra_lin.specs.Form.{form_row}
+use Rattle.lra_duality.specs.Maxima.{DoesNotImprove, Improves, StaysInRange, directed}
 use Rattle.lra_sys.proofs.FirstMembers.{all_gone_through, at_member, first_at, member, one_more}
 use Rattle.lra_duality.proofs.InclusionLemmas.{seen_generators}
 use Rattle.lra_duality.proofs.MaximumLemmas.{both_seen}
@@ -16,7 +15,7 @@ pub improves-requires-clause-in_range : goal.improves-requires-clause-in_range
 improves-requires-clause-in_range c =
     let rows = c.rows-rows.result.now in
     let kinds = c.kinds-kinds.result.now in
-    let stays = StaysInRange (form_row c.args.form.now) in
+    let stays = StaysInRange (directed c.args.form.now c.args.is_opposite) in
     let n : length kinds ≡ length rows = c.kinds-kinds.ensures.len ∙ ap length (sym c.rows-rows.ensures.rows) in
     at_member stays is_line rows kinds c.loop-place.place c.index-rows-place.result Point n c.loop-place-test.true
     c.index-rows-place.is
@@ -27,8 +26,8 @@ returns-then-improves c =
     let rows = c.rows-rows.result.now in
     let kinds = c.kinds-kinds.result.now in
     let given = member is_line kinds c.loop-place.place c.index-rows-place.result Point in
-    let before = DoesNotImprove (form_row c.args.form.now) in
-    let here = Improves (form_row c.args.form.now) in
+    let before = DoesNotImprove (directed c.args.form.now c.args.is_opposite) in
+    let here = Improves (directed c.args.form.now c.args.is_opposite) in
     let n : length kinds ≡ length rows = c.kinds-kinds.ensures.len ∙ ap length (sym c.rows-rows.ensures.rows) in
     seen_generators (λ (l : List Given). FirstAt before here l c.loop-place.place) c.args.list.now rows kinds
     c.rows-rows.ensures.rows c.kinds-kinds.ensures.kinds
@@ -42,7 +41,7 @@ loop-place-preserved c =
     let rows = c.rows-rows.result.now in
     let kinds = c.kinds-kinds.result.now in
     let given = member is_line kinds c.loop-place.place c.index-rows-place.result Point in
-    let before = DoesNotImprove (form_row c.args.form.now) in
+    let before = DoesNotImprove (directed c.args.form.now c.args.is_opposite) in
     let n : length kinds ≡ length rows = c.kinds-kinds.ensures.len ∙ ap length (sym c.rows-rows.ensures.rows) in
     one_more before is_line rows kinds c.loop-place.place c.index-rows-place.result Point n c.loop-place-test.true
     c.index-rows-place.is c.loop-place.invariant
@@ -52,7 +51,7 @@ pub returns : goal.returns
 returns c =
     let rows = c.rows-rows.result.now in
     let kinds = c.kinds-kinds.result.now in
-    let before = DoesNotImprove (form_row c.args.form.now) in
+    let before = DoesNotImprove (directed c.args.form.now c.args.is_opposite) in
     let n : length kinds ≡ length rows = c.kinds-kinds.ensures.len ∙ ap length (sym c.rows-rows.ensures.rows) in
     seen_generators (All before) c.args.list.now rows kinds c.rows-rows.ensures.rows c.kinds-kinds.ensures.kinds
     (all_gone_through before is_line rows kinds c.loop-place.place n (omega arith) c.loop-place.invariant)

@@ -5,8 +5,7 @@ use Rattle.lra_linear.specs.Descriptions.{Given}
 use Rattle.lra_linear.specs.Kinds.{is_line}
 use Rattle.lra_linear.specs.declared.GenKind.TheVariants.{Point}
 use Rattle.lra_sys.specs.FirstPlaces.{FirstAt}
-use Rattle.lra_duality.specs.Maxima.{StaysInRange, PassesRange}
-use Rattle.lra_lin.specs.Form.{form_row}
+use Rattle.lra_duality.specs.Maxima.{StaysInRange, PassesRange, directed}
 use Rattle.lra_sys.proofs.FirstMembers.{first_at, one_more, all_gone_through, ok_of}
 use Rattle.lra_duality.proofs.MaximumLemmas.{many, seen_rows}
 use Rattle.lra_duality.proofs.maximum.first_wide.Goals as goal
@@ -15,8 +14,8 @@ pub returns-in-None : goal.returns-in-None
 returns-in-None c =
     let list = c.args.list.now in
     let rows = c.rows-rows.result.now in
-    let stays = StaysInRange (form_row c.args.form.now) in
-    let passes = PassesRange (form_row c.args.form.now) in
+    let stays = StaysInRange (directed c.args.form.now c.args.is_opposite) in
+    let passes = PassesRange (directed c.args.form.now c.args.is_opposite) in
     let n = many list rows c.kinds-kinds.result.now c.rows-rows.ensures.rows c.kinds-kinds.ensures.kinds
     c.kinds-kinds.ensures.len in
     seen_rows (λ (l : List Given). FirstAt stays passes l c.loop-place.place) list rows c.rows-rows.ensures.rows
@@ -29,7 +28,7 @@ loop-place-preserved c =
     let rows = c.rows-rows.result.now in
     let n = many list rows c.kinds-kinds.result.now c.rows-rows.ensures.rows c.kinds-kinds.ensures.kinds
     c.kinds-kinds.ensures.len in
-    one_more (StaysInRange (form_row c.args.form.now)) is_line rows list.kinds c.loop-place.place
+    one_more (StaysInRange (directed c.args.form.now c.args.is_opposite)) is_line rows list.kinds c.loop-place.place
     c.index-rows-place.result Point n c.loop-place-test.true c.index-rows-place.is c.loop-place.invariant
     (ok_of c.in-Some.field-0 _ (sym c.in-Some.ensures))
 
@@ -37,7 +36,7 @@ pub returns : goal.returns
 returns c =
     let list = c.args.list.now in
     let rows = c.rows-rows.result.now in
-    let stays = StaysInRange (form_row c.args.form.now) in
+    let stays = StaysInRange (directed c.args.form.now c.args.is_opposite) in
     let n = many list rows c.kinds-kinds.result.now c.rows-rows.ensures.rows c.kinds-kinds.ensures.kinds
     c.kinds-kinds.ensures.len in
     seen_rows (All stays) list rows c.rows-rows.ensures.rows

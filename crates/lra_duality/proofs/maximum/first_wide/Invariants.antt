@@ -1,9 +1,8 @@
 use Rattle.std.specs.List.{All}
 use Rattle.lra_linear.specs.Kinds.{is_line}
-use Rattle.lra_duality.specs.Maxima.{StaysInRange}
-use Rattle.lra_lin.specs.Form.{form_row}
+use Rattle.lra_duality.specs.Maxima.{StaysInRange, directed}
 use Rattle.lra_sys.proofs.FirstMembers.{front}
 use Rattle.lra_duality.proofs.maximum.first_wide.Given as goal
 
 abbrev pub invariant-loop-place : goal.invariant-loop-place
-invariant-loop-place l = All (StaysInRange (form_row l.form)) (front is_line l.rows l.list.kinds l.place)
+invariant-loop-place l = All (StaysInRange (directed l.form l.is_opposite)) (front is_line l.rows l.list.kinds l.place)

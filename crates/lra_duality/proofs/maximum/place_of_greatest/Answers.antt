@@ -3,8 +3,7 @@ use Rattle.std.proofs.Common.{arith, refl}
 use Rattle.std.specs.List.{All}
 use Rattle.lra_linear.specs.Kinds.{is_line}
 use Rattle.lra_linear.specs.declared.GenKind.TheVariants.{Point}
-use Rattle.lra_duality.specs.Maxima.{StaysInRange}
-use Rattle.lra_lin.specs.Form.{form_row}
+use Rattle.lra_duality.specs.Maxima.{StaysInRange, directed}
 use Rattle.lra_sys.proofs.FirstMembers.{at_member}
 use Rattle.lra_duality.proofs.MaximumLemmas.{best_found, best_kept, best_taken, many, rows_seen}
 use Rattle.lra_duality.proofs.maximum.place_of_greatest.Goals.{then-exceeds, else-exceeds}
@@ -14,7 +13,7 @@ pub exceeds-requires-clause-row_in_range : goal.exceeds-requires-clause-row_in_r
 exceeds-requires-clause-row_in_range c =
     let list = c.args.list.now in
     let rows = c.rows-rows.result.now in
-    let stays = StaysInRange (form_row c.args.form.now) in
+    let stays = StaysInRange (directed c.args.form.now c.args.is_opposite) in
     let n = many list rows c.kinds-kinds.result.now c.rows-rows.ensures.rows c.kinds-kinds.ensures.kinds
     c.kinds-kinds.ensures.len in
     at_member stays is_line rows list.kinds c.loop-place.place c.index-rows-place.result Point n c.loop-place-test.true
@@ -25,7 +24,7 @@ pub exceeds-requires-clause-best_in_range : goal.exceeds-requires-clause-best_in
 exceeds-requires-clause-best_in_range c =
     let list = c.args.list.now in
     let rows = c.rows-rows.result.now in
-    let stays = StaysInRange (form_row c.args.form.now) in
+    let stays = StaysInRange (directed c.args.form.now c.args.is_opposite) in
     let n = many list rows c.kinds-kinds.result.now c.rows-rows.ensures.rows c.kinds-kinds.ensures.kinds
     c.kinds-kinds.ensures.len in
     at_member stays is_line rows list.kinds c.loop-place.best c.index-rows-best.result Point n
@@ -34,7 +33,7 @@ exceeds-requires-clause-best_in_range c =
 
 pub loop-place-preserved : goal.loop-place-preserved
 loop-place-preserved c =
-    let form = form_row c.args.form.now in
+    let form = directed c.args.form.now c.args.is_opposite in
     let list = c.args.list.now in
     let rows = c.rows-rows.result.now in
     let n = many list rows c.kinds-kinds.result.now c.rows-rows.ensures.rows c.kinds-kinds.ensures.kinds
@@ -56,5 +55,5 @@ returns-clause-greatest c =
     let rows = c.rows-rows.result.now in
     let n = many list rows c.kinds-kinds.result.now c.rows-rows.ensures.rows c.kinds-kinds.ensures.kinds
     c.kinds-kinds.ensures.len in
-    best_found (form_row c.args.form.now) list rows c.loop-place.place c.loop-place.best c.rows-rows.ensures.rows n
+    best_found (directed c.args.form.now c.args.is_opposite) list rows c.loop-place.place c.loop-place.best c.rows-rows.ensures.rows n
     (omega arith) c.loop-place.invariant

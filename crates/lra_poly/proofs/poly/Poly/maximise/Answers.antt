@@ -27,4 +27,4 @@ returns-clause-tells c =
     let width : length (form_row c.args.form.now) ≡ suc c.self.inside.rows.dims =
     ap suc (c.requires ∙ ap (λ (q : Polyhedron). q.dims) (sym c.self.view_is)) in
     rw (← c.self.view_is) (maximum_tells p (form_row c.args.form.now) c.maximum_of.result c.self.invariant.0 width
-    c.maximum_of.ensures)
+    c.maximum_of.ensures.maximum)
