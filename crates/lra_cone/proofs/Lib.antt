@@ -9,4 +9,5 @@ pub mod Stepped
 pub mod StrainLemmas
 pub mod FlatCones
 pub mod WholeSpace
+pub mod PositiveCone
 pub mod RowsTaken

@@ -15,7 +15,7 @@ use Rattle.lra_cone.specs.Cones.{Shape, IsCone}
 use Rattle.lra_steps.specs.Strains.{cause_of}
 use Rattle.lra_cone.specs.Strains.{IsConeError}
 use Rattle.lra_cone.specs.Losses.{IfLost}
-use Rattle.lra_cone.specs.Conversions.{IsConversion}
+use Rattle.lra_cone.specs.Conversions.{AreTried, IsConversion}
 use Rattle.lra_cone.proofs.StrainLemmas.{ConeStrains, strain_cause}
 use Rattle.lra_sys.proofs.GivenRows.{given_pushed}
 
@@ -43,6 +43,26 @@ strained_of w chosen further lines rays (Excess e) (inl x) = inl x
 strained_of w chosen further lines rays (Excess e) (inr x) = inr (inl x)
 strained_of w chosen further lines rays (TooMany count) x = inl x
 
+-- ---- rows that were tried, and one more
+tried_taken : (w : ℕ) (taken all kept : List Given) (losses : List Loss) (g : Given) → AreTried w taken all kept losses →
+    AreTried w taken (all ++ g ∷ []) (kept ++ g ∷ []) losses
+tried_taken w taken [] kept losses g (ek, el) = inl ([], ap (λ (l : List Given). l ++ g ∷ []) ek, (refl, el))
+tried_taken w taken (a ∷ all) kept losses g (inl (more, e, t)) =
+    inl (more ++ g ∷ [], ap (λ (l : List Given). l ++ g ∷ []) e, tried_taken w (taken ++ a ∷ []) all more losses g t)
+tried_taken w taken (a ∷ all) kept losses g (inr (loss, others, e, c, f, s, t)) =
+    inr (loss, others, e, c, f, s, tried_taken w taken all kept others g t)
+
+tried_left : (w : ℕ) (taken all kept : List Given) (losses : List Loss) (g : Given) (loss : Loss) → loss.chosen ≡ taken ++ kept → loss.further ≡ g →
+    Strains w ((taken ++ kept) ++ g ∷ []) loss → AreTried w taken all kept losses → AreTried w taken (all ++ g ∷ []) kept (losses ++ loss ∷ [])
+tried_left w taken [] kept losses g loss c f s (ek, el) =
+    let same : taken ++ kept ≡ taken = ap (λ (l : List Given). taken ++ l) ek ∙ append-nil taken in
+    inr (loss, [], ap (λ (l : List Loss). l ++ loss ∷ []) el, c ∙ same, f, subst (λ (l : List Given). Strains w (l ++ g ∷ []) loss) same s, (ek, refl))
+tried_left w taken (a ∷ all) kept losses g loss c f s (inl (more, e, t)) =
+    let same : taken ++ kept ≡ (taken ++ a ∷ []) ++ more = ap (λ (l : List Given). taken ++ l) e ∙ sym (append_assoc taken (a ∷ []) more) in
+    inl (more, e, tried_left w (taken ++ a ∷ []) all more losses g loss (c ∙ same) f (subst (λ (l : List Given). Strains w (l ++ g ∷ []) loss) same s) t)
+tried_left w taken (a ∷ all) kept losses g loss c f s (inr (l, others, e, d, x, y, t)) =
+    inr (l, others ++ loss ∷ [], ap (λ (ls : List Loss). ls ++ loss ∷ []) e, d, x, y, tried_left w taken all kept others g loss c f s t)
+
 -- ---- at the start no row is left out
 pub conversion_start : (s : Shape) (kept : List Given) (losses : List Loss) → kept ≡ [] → losses ≡ [] → IsConversion s.taken [] kept s losses
 conversion_start s kept losses ek el = record {
@@ -50,6 +70,7 @@ conversion_start s kept losses ek el = record {
   among = λ g k. subst (λ (l : List Given). Contains l g) ek k;
   whole = λ _. ek;
   strain = subst (IfLost (Strains (suc s.dims) (s.taken ++ []))) (sym el) tt;
+  tried = (ek, el);
 }
 
 -- ---- the row is taken in
@@ -64,6 +85,8 @@ conversion_more first all kept old new losses after g d t e c = record {
   ];
   whole = λ none. e ∙ ap (λ (l : List Given). l ++ g ∷ []) (c.whole none);
   strain = subst (λ (n : ℕ). IfLost (Strains (suc n) (first ++ (all ++ g ∷ []))) losses) (sym d) (longer_behind (suc old.dims) first all g losses c.strain);
+  tried = subst (λ (n : ℕ). AreTried (suc n) first (all ++ g ∷ []) after losses) (sym d)
+      (subst (λ (l : List Given). AreTried (suc old.dims) first (all ++ g ∷ []) l losses) (sym e) (tried_taken (suc old.dims) first all kept losses g c.tried));
 }
   where
     longer_behind : (w : ℕ) (first all : List Given) (g : Given) (losses : List Loss) → IfLost (Strains w (first ++ all)) losses → IfLost (Strains w (first ++ (all ++ g ∷ []))) losses
@@ -111,6 +134,10 @@ conversion_left_out first all kept old new losses after loss g strained cause ta
       whole = λ none. absurd (not_empty losses loss none);
       strain = subst (λ (l : List Given). IfLost (Strains (suc new.dims) l) (losses ++ loss ∷ [])) (append_assoc first all (g ∷ []))
           (subst (λ (f : Given). IfLost (Strains (suc new.dims) ((first ++ all) ++ f ∷ [])) (losses ++ loss ∷ [])) (ap (λ (l : Loss). l.further) el) told);
+      tried = tried_left (suc new.dims) first all kept losses g loss (ap (λ (l : Loss). l.chosen) el ∙ et ∙ here.taken) (ap (λ (l : Loss). l.further) el)
+          (subst (λ (f : Given). Strains (suc new.dims) ((first ++ kept) ++ f ∷ []) loss) (ap (λ (l : Loss). l.further) el)
+          (first_lost (first ++ kept) new loss k here.taken (ap (λ (l : Loss). l.chosen) el ∙ et)
+          (subst (λ (l : Loss). ConeStrains (suc new.dims) l.further.equal l.further.row new.lines new.rays l.cause) (sym el) strains))) here.tried;
     })
 
 -- ---- row by row

@@ -312,7 +312,7 @@ turned_at s c of_lines at line e h t =
     subst (λ z. IsTurned (get_or s.lines at []) at z line) (ap (λ (y : List ℤ). get_or y at (pos 0)) e ∙ get_or-map (product c) s.lines at [] (pos 0) h) t
 
 -- ---- without places: the cone strains
-place_in : (rows : List (List ℤ)) (place : ℕ) (r : List ℤ) → StandsAt rows place r → Contains rows r
+pub place_in : (rows : List (List ℤ)) (place : ℕ) (r : List ℤ) → StandsAt rows place r → Contains rows r
 place_in rows place r x = subst (Contains rows) x.is (Contains-get_or rows place [] x.inside)
 
 member_in : (s : Shape) (family : Family) (place : ℕ) (r : List ℤ) → IsMember s family place r → Contains (all_rows s.lines s.rays) r

@@ -25,7 +25,7 @@ use Rattle.lra_sys.proofs.UnitRows.{unit_here, unit_length, unit_other}
 use Rattle.lra_cone.specs.Cones.{IsCone, columns_from, unit_lines, whole_space}
 
 -- ---- unit rows
-dot_unit : (n j : ℕ) (u : ℕ → ℤ) → j < n → dot (slice_set (zeros n) j (pos 1)) u ≡ u j
+pub dot_unit : (n j : ℕ) (u : ℕ → ℤ) → j < n → dot (slice_set (zeros n) j (pos 1)) u ≡ u j
 dot_unit zero j u h = absurd (omega (arith, h))
 dot_unit (suc n) zero u h = ap (λ z. (pos 1 *ℤ u 0) +ℤ z) (dot_zeros n (λ j. u (suc j))) ∙ ring (v (pos 1) ⊗ v (u 0) ⊕ v (pos 0)) (v (u 0)) (omega arith)
 dot_unit (suc n) (suc j) u h = ap (λ z. (pos 0 *ℤ u 0) +ℤ z) (dot_unit n j (λ i. u (suc i)) (omega (arith, h))) ∙ ring (v (pos 0) ⊗ v (u 0) ⊕ v (u (suc j))) (v (u (suc j))) (omega arith)

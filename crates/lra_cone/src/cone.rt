@@ -292,9 +292,10 @@ pub fn positive_cone(alloc: Global, n: usize) -> Result<Cone, AllocError>
 {
     let mut cone = Cone::whole(alloc, n)?;
     let positivity = unit(alloc, n, 0)?;
-    // all numbers there are 0 or 1, so nothing strains
+    // all numbers there are 0, 1 or -1, and there is one ray, so nothing strains
     match cone.add_row(&positivity, ConKind::Ge) {
         Ok(()) => Ok(cone),
-        Err(_) => Err(AllocError),
+        Err(ConeError::Memory) => Err(AllocError),
+        Err(ConeError::Strained(_)) => unreachable!(),
     }
 }
