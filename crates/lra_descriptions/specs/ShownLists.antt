@@ -1,7 +1,7 @@
 -- The lists that are shown of a cone: its canonical generators, or its canonical constraints.
-use Rattle.std.specs.Prelude.{◌≡◌, ◌≢◌, ◌⊎◌, ℕ, suc, ℤ, pos, ◌<ℤ◌, int_lt, Bool, true, false, cond}
+use Rattle.std.specs.Prelude.{◌≡◌, ◌≢◌, ◌↔◌, ◌⊎◌, ℕ, suc, ℤ, pos, ◌<ℤ◌, int_lt, Bool, true, false, cond}
 use Rattle.std.specs.Prelude.{List, [], ◌∷◌, ◌++◌}
-use Rattle.std.specs.Prelude.{length, replicate}
+use Rattle.std.specs.Prelude.{length, replicate, IsOk}
 use Rattle.std.specs.List.{Contains}
 use Rattle.std.specs.List.Sorted.{IsPermutation, IsSorted}
 use Rattle.std.specs.Ordering.{is_eq}
@@ -10,6 +10,7 @@ use Rattle.lra_linear.specs.declared.ConKind.{ConKind}
 use Rattle.lra_linear.specs.declared.ConKind.TheVariants.{Ge, Eq}
 use Rattle.lra_linear.specs.declared.GenKind.{GenKind}
 use Rattle.lra_linear.specs.declared.GenKind.TheVariants.{Point, Ray, Line}
+use Rattle.lra_linear.specs.CheckedArithmetic.{checked_product}
 use Rattle.lra_linear.specs.Vectors.{entry, product}
 use Rattle.lra_linear.specs.Cones.{all_rows, AreDual}
 use Rattle.lra_linear.specs.Canonical.{IsCanonical}
@@ -114,10 +115,16 @@ abbrev pub IsValid : Bool → List ℤ → List Given → Type 0
 IsValid equal r list =
     (g : Given) → Contains list g → HoldsWith equal (product r g.row) × HoldsWith g.equal (product r g.row)
 
--- constraints that are valid on each of the rows
-pub record ShowsValid (n : ℕ) (given : List Given) (list : Listed ConKind) : Type 0 where
+-- and with each product in the range
+abbrev pub IsSeenValid : Bool → List ℤ → List Given → Type 0
+IsSeenValid equal r list = (g : Given) → Contains list g
+    → IsOk (checked_product r g.row) × HoldsWith equal (product r g.row) × HoldsWith g.equal (product r g.row)
+
+-- of these lines and rays those that are seen to be valid on each of the rows
+pub record ShowsValid (n : ℕ) (all_lines all_rays : List (List ℤ)) (given : List Given) (list : Listed ConKind)
+    : Type 0 where
   pub lines : List (List ℤ)
   pub rays : List (List ℤ)
   pub shown : ShowsConstraints n lines rays list
-  pub lines_valid : (r : List ℤ) → Contains lines r → IsValid true r given
-  pub rays_valid : (r : List ℤ) → Contains rays r → IsValid false r given
+  pub lines_valid : (r : List ℤ) → (Contains lines r ↔ (Contains all_lines r × IsSeenValid true r given))
+  pub rays_valid : (r : List ℤ) → (Contains rays r ↔ (Contains all_rays r × IsSeenValid false r given))

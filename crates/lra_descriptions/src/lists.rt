@@ -1,6 +1,6 @@
 //! Lists of constraints and of generators, as they are taken in and told.
 
-ghost use Rattle.std.specs.Prelude.{◌≡◌, ◌↔◌, ◌∷◌, [], suc, length, map, ◌<◌, IsTrue, IsFalse, IfOk};
+ghost use Rattle.std.specs.Prelude.{◌≡◌, ◌↔◌, ◌∷◌, [], ℤ, List, suc, length, map, ◌<◌, IsTrue, IsFalse, IfOk};
 ghost use Rattle.std.specs.List.{All, Contains};
 ghost use Rattle.lra_linear.specs.OperationStrain.{unit_row};
 ghost use Rattle.lra_linear.specs.Vectors.{negated};
@@ -9,7 +9,7 @@ ghost use Rattle.lra_sys.specs.Listed.{constraints};
 ghost use Rattle.lra_linear.specs.Kinds.{is_equality};
 ghost use Rattle.lra_linear.specs.declared.ConKind.TheVariants.{Ge};
 ghost use Rattle.lra_linear.specs.declared.GenKind.TheVariants.{Point};
-ghost use Rattle.lra_descriptions.specs.ShownLists.{dual_kind, IsValid};
+ghost use Rattle.lra_descriptions.specs.ShownLists.{dual_kind, IsSeenValid};
 
 use lra_row::Row;
 use lra_sys::{ConKind, ConSys, GenKind, GenSys, unit};
@@ -44,7 +44,7 @@ pub fn dual_rows(alloc: Global, given: &GenSys) -> Result<ConSys, AllocError>
 // Whether the product of the row with each of these is in the range and as both kinds ask.
 fn is_valid(row: &Row, kind: ConKind, list: &ConSys) -> bool
     requires { length row.now ≡ suc list.now.dims }
-    ensures { IsTrue result → IsValid (is_equality kind) row.now (constraints list.now) }
+    ensures { IsTrue result ↔ IsSeenValid (is_equality kind) row.now (constraints list.now) }
 {
     let (listed, kinds) = (list.rows(), list.kinds());
     for place in 0..listed.len() {
@@ -60,7 +60,7 @@ fn is_valid(row: &Row, kind: ConKind, list: &ConSys) -> bool
     true
 }
 
-/// Those of the rows that are valid on each of the list.
+/// Those of the rows that are seen to be valid on each of the list: with each product in the range.
 pub fn valid_rows(
     alloc: Global,
     rows: &[Row],
@@ -69,7 +69,8 @@ pub fn valid_rows(
 ) -> Result<Vec<Row>, AllocError>
     requires { All (λ r. length r ≡ suc list.now.dims) rows.now }
     ensures widths { IfOk result (λ valid. All (λ r. length r ≡ suc list.now.dims) valid.items) }
-    ensures valid { IfOk result (λ valid. All (λ r. IsValid (is_equality kind) r (constraints list.now)) valid.items) }
+    ensures valid { IfOk result (λ valid. (r : List ℤ) → (Contains valid.items r ↔
+        (Contains rows.now r × IsSeenValid (is_equality kind) r (constraints list.now)))) }
 {
     let mut valid = Vec::new(alloc);
     for row in rows {

@@ -1,6 +1,6 @@
 -- The constraints that are shown of a cone are the canonical ones of its rows, which are generators.
 use Rattle.std.proofs.Common.{◌≡◌, ◌≢◌, ℕ, suc, ◌≤◌, Bool, true, false, List, [], ◌∷◌, ◌++◌, length, replicate, map, refl, ap, sym, ◌∙◌, subst, arith, pos, negsuc, ℤ}
-use Rattle.std.proofs.Common.{neg_ℤ, ◌<ℤ◌, ◌≤ℤ◌, inl, inr, ◌⊎◌, zero}
+use Rattle.std.proofs.Common.{neg_ℤ, ◌<ℤ◌, ◌≤ℤ◌, inl, inr, ◌⊎◌, zero, ◌↔◌, Result, Ok, Err, IfOk}
 use Rattle.std.specs.List.{Contains}
 use Rattle.std.proofs.lemmas.Int.{ints}
 use Rattle.std.proofs.lemmas.List.{length-replicate}
@@ -33,7 +33,7 @@ use Rattle.lra_linear.specs.declared.GenKind.TheVariants.{Point, Ray, Line}
 use Rattle.lra_linear.specs.Strain.{Loss, Strains}
 use Rattle.lra_cone.specs.Cones.{Shape, IsCone}
 use Rattle.lra_cone.specs.Losses.{IfLost}
-use Rattle.lra_descriptions.specs.ShownLists.{without, ShowsConstraints, HasConstraints, AreConstraintsOf, dual_kind, IsValid, ShowsValid}
+use Rattle.lra_descriptions.specs.ShownLists.{without, ShowsConstraints, HasConstraints, AreConstraintsOf, dual_kind, IsSeenValid, IsValid, ShowsValid}
 use Rattle.lra_cone.specs.Conversions.{IsConversion}
 use Rattle.lra_cone.proofs.RayCase.{system_same}
 use Rattle.lra_pair.proofs.PartedRays.{once_too, without_once}
@@ -201,12 +201,32 @@ valid_at given false r x valid gen = generated_nonneg r (system_of given) (entry
       | inr e ↦ opposite (product r f.given.row) (product r t) (ap (product r) e.1 ∙ dot_negated r f.given.row) (subst (λ b. HoldsWith b (product r f.given.row)) e.0 (valid f.given f.has).1)
     ]
 
-pub valid_within : (n : ℕ) (given : List Given) (list : Listed ConKind) → ShowsValid n given list → IsWithin n (Gen given) (Con (constraints list))
-valid_within n given list h x point gen g m = elim (Contains-append_cases (given_as true h.lines) (given_as false h.shown.inequalities) g
+-- a list of those that are seen to be valid
+module _ {E : Type 0} (n : ℕ) (cone_lines cone_rays lines rays : List (List ℤ)) (given : List Given) (el : lines ≡ cone_lines) (er : rays ≡ cone_rays) where
+  pub shows_valid : (width : ℕ) (shown_lines shown_rays valid_lines valid_rays : List (List ℤ)) (result : Result (Listed ConKind) E) → width ≡ n → shown_lines ≡ valid_lines → shown_rays ≡ valid_rays →
+      ((r : List ℤ) → (Contains valid_lines r ↔ (Contains lines r × IsSeenValid true r given))) → ((r : List ℤ) → (Contains valid_rays r ↔ (Contains rays r × IsSeenValid false r given))) →
+      IfOk result (ShowsConstraints width shown_lines shown_rays) → IfOk result (ShowsValid n cone_lines cone_rays given)
+  shows_valid width shown_lines shown_rays valid_lines valid_rays (Err e) ew sl sr hl hr shown = tt
+  shows_valid width shown_lines shown_rays valid_lines valid_rays (Ok list) ew sl sr hl hr shown = record {
+    lines = valid_lines;
+    rays = valid_rays;
+    shown = subst (λ (y : List (List ℤ)). ShowsConstraints n valid_lines y list) sr (subst (λ (y : List (List ℤ)). ShowsConstraints n y shown_rays list) sl
+        (subst (λ (k : ℕ). ShowsConstraints k shown_lines shown_rays list) ew shown));
+    lines_valid = subst (λ (y : List (List ℤ)). (r : List ℤ) → (Contains valid_lines r ↔ (Contains y r × IsSeenValid true r given))) el hl;
+    rays_valid = subst (λ (y : List (List ℤ)). (r : List ℤ) → (Contains valid_rays r ↔ (Contains y r × IsSeenValid false r given))) er hr;
+  }
+
+-- what is seen to be valid is so
+seen_valid : (b : Bool) (r : List ℤ) (given : List Given) → IsSeenValid b r given → IsValid b r given
+seen_valid b r given s g m = let v = s g m in (v.1, v.2)
+
+pub valid_within : (n : ℕ) (cone : Shape) (given : List Given) (list : Listed ConKind) → ShowsValid n cone.lines cone.rays given list → IsWithin n (Gen given) (Con (constraints list))
+valid_within n cone given list h x point gen g m = elim (Contains-append_cases (given_as true h.lines) (given_as false h.shown.inequalities) g
     (subst (λ (l : List Given). Contains l g) (listed_constraints n h.lines h.rays list h.shown) m)) [
-      | inl i ↦ let f = given_from true h.lines g i in subst (λ b. HoldsWith b (product g.row x)) (sym f.0) (valid_at given true g.row x (h.lines_valid g.row f.1) gen)
+      | inl i ↦ let f = given_from true h.lines g i in subst (λ b. HoldsWith b (product g.row x)) (sym f.0)
+          (valid_at given true g.row x (seen_valid true g.row given ((h.lines_valid g.row).0 f.1).1) gen)
       | inr i ↦ let f = given_from false h.shown.inequalities g i in subst (λ b. HoldsWith b (product g.row x)) (sym f.0)
-          (valid_at given false g.row x (h.rays_valid g.row (shown_from n h.lines h.rays list h.shown g.row f.1).0) gen)
+          (valid_at given false g.row x (seen_valid false g.row given ((h.rays_valid g.row).0 (shown_from n h.lines h.rays list h.shown g.row f.1).0).1) gen)
     ]
 
 -- ---- what the code gives back
@@ -255,7 +275,8 @@ pub constrained : (n : ℕ) (given : Listed GenKind) (rows list : Listed ConKind
     FitKinds given.rows given.kinds → Contains given.kinds Point →
     rows.rows ≡ given.rows → rows.kinds ≡ map dual_kind given.kinds → rows.dims ≡ n → cone.dims ≡ n → IsConversion [] (constraints rows) kept cone losses →
     IsCone cone →
-    (losses ≡ [] → ShowsConstraints rows.dims cone.lines cone.rays list) → (losses ≢ [] → ShowsValid rows.dims (constraints rows) list) → Constrained n (generators given) (constraints list) losses
+    (losses ≡ [] → ShowsConstraints rows.dims cone.lines cone.rays list) → (losses ≢ [] → ShowsValid rows.dims cone.lines cone.rays (constraints rows) list) →
+    Constrained n (generators given) (constraints list) losses
 constrained n given rows list cone kept losses many f m er ek ed is_n c k shown valid =
     let all : constraints rows ≡ generators given = ap (λ (x : List (List ℤ)). given_by is_equality x rows.kinds) er ∙ ap (given_by is_equality given.rows) ek ∙ dual_given given.rows given.kinds in
     let canonical : losses ≡ [] → AreConstraintsOf n (generators given) (constraints list) = λ none.
@@ -269,12 +290,13 @@ constrained n given rows list cone kept losses many f m er ek ed is_n c k shown 
       canonical = canonical;
     }
   where
-    by_losses : (l : List Loss) → losses ≡ l → (losses ≡ [] → AreConstraintsOf n (generators given) (constraints list)) → (losses ≢ [] → ShowsValid rows.dims (constraints rows) list) →
+    by_losses : (l : List Loss) → losses ≡ l → (losses ≡ [] → AreConstraintsOf n (generators given) (constraints list)) →
+        (losses ≢ [] → ShowsValid rows.dims cone.lines cone.rays (constraints rows) list) →
         constraints rows ≡ generators given → rows.dims ≡ n → IsWithin n (Gen (generators given)) (Con (constraints list))
     by_losses [] e canonical valid all d = (same_constraints n (generators given) (constraints list) (canonical e)).1
     by_losses (x ∷ l) e canonical valid all d =
-        valid_within n (generators given) list (subst (λ (g : List Given). ShowsValid n g list) all
-        (subst (λ (i : ℕ). ShowsValid i (constraints rows) list) d (valid (λ z. some_loss x l (sym e ∙ z)))))
+        valid_within n cone (generators given) list (subst (λ (g : List Given). ShowsValid n cone.lines cone.rays g list) all
+        (subst (λ (i : ℕ). ShowsValid i cone.lines cone.rays (constraints rows) list) d (valid (λ z. some_loss x l (sym e ∙ z)))))
       where
         some_loss : (x : Loss) (l : List Loss) → x ∷ l ≡ [] → ⊥
         some_loss x l e = cc

@@ -32,7 +32,8 @@ pub taken : (n : ℕ) (given : Listed GenKind) (rows list : Listed ConKind) (sta
     FitKinds given.rows given.kinds → Contains given.kinds Point →
     rows.rows ≡ given.rows → rows.kinds ≡ map dual_kind given.kinds → rows.dims ≡ n → start ≡ whole_space n → cone.dims ≡ start.dims → IsConversion start.taken (constraints rows) kept cone losses →
     IsCone cone → list.dims ≡ rows.dims →
-    (losses ≡ [] → ShowsConstraints rows.dims cone.lines cone.rays list) → (losses ≢ [] → ShowsValid rows.dims (constraints rows) list) → AreTaken n (generators given) list cone losses
+    (losses ≡ [] → ShowsConstraints rows.dims cone.lines cone.rays list) → (losses ≢ [] → ShowsValid rows.dims cone.lines cone.rays (constraints rows) list) →
+    AreTaken n (generators given) list cone losses
 taken n given rows list start cone kept losses many f m er ek ed es dims c k el shown valid =
     let all : constraints rows ≡ generators given = ap (λ (y : List (List ℤ)). given_by is_equality y rows.kinds) er ∙ ap (given_by is_equality given.rows) ek ∙ dual_given given.rows given.kinds in
     let first : start.taken ≡ [] = ap (λ (s : Shape). s.taken) es in

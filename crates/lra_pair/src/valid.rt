@@ -11,7 +11,8 @@ use lra_descriptions::{constraint_list, valid_rows};
 use lra_sys::{ConKind, ConSys, unit};
 use std::alloc::{AllocError, Global};
 
-/// The constraints of the cone; after a loss those of them that are valid on all rows, which were to be taken in.
+/// The constraints of the cone; after a loss those of its lines and rays that are seen to be valid on all rows, which
+/// were to be taken in.
 pub fn valid_list(
     alloc: Global,
     conversion: &Conversion,
@@ -23,7 +24,9 @@ pub fn valid_list(
     ensures dims { IfOk result (λ list. list.dims ≡ rows.now.dims) }
     ensures exact { conversion.now.losses.items ≡ [] →
         IfOk result (ShowsConstraints rows.now.dims conversion.now.cone.lines conversion.now.cone.rays) }
-    ensures valid { conversion.now.losses.items ≢ [] → IfOk result (ShowsValid rows.now.dims (constraints rows.now)) }
+    ensures valid { conversion.now.losses.items ≢ [] →
+        IfOk result (ShowsValid rows.now.dims conversion.now.cone.lines conversion.now.cone.rays
+        (constraints rows.now)) }
 {
     let n = rows.dims();
     let (lines, rays) = (conversion.cone.lines(), conversion.cone.rays());
