@@ -21,3 +21,5 @@ pub mod Reduction
 pub mod ConeStrain
 pub mod Strain
 pub mod OperationStrain
+-- What values hold
+pub mod Formed
