@@ -56,28 +56,34 @@ shown_from n lines rays list h r m =
     without_from (positivity n) rays r (Contains-permutation h.inequalities (without (positivity n) rays) r (IsPermutation-sym (without (positivity n) rays) h.inequalities h.inequalities_are) m)
 
 -- of any canonical description
-pub listed_hold : (n : ℕ) (system lines rays : List (List ℤ)) (list : Listed ConKind) → AreDual (suc n) system (all_rows lines rays) → IsCanonical lines rays → ShowsConstraints n lines rays list →
-    HasConstraints n system (constraints list)
-listed_hold n system lines rays list dual canonical h =
+pub listed_facets : (n : ℕ) (system lines rays : List (List ℤ)) (list : Listed ConKind) → AreDual (suc n) system (all_rows lines rays) → IsCanonical lines rays → ShowsConstraints n lines rays list →
+    (c : HasConstraints n system (constraints list)) × (c.facets ≡ rays)
+listed_facets n system lines rays list dual canonical h =
     let others = without (positivity n) rays in
     let from : (r : List ℤ) → Contains h.inequalities r → Contains others r = λ r m. Contains-permutation h.inequalities others r (IsPermutation-sym others h.inequalities h.inequalities_are) m in
-    let to : (r : List ℤ) → Contains others r → Contains h.inequalities r = λ r m. Contains-permutation others h.inequalities r h.inequalities_are m in
-    record {
-      equalities = lines;
-      inequalities = h.inequalities;
-      facets = rays;
-      are = listed_constraints n lines rays list h;
-      shown = shown_from n lines rays list h;
-      all_shown = λ r m. elim (without_has (positivity n) rays r m) [ inl e ↦ inl e | inr i ↦ inr (to r i) ];
-      dual = dual;
-      canonical = canonical;
-      inequalities_ascend = ascends Inequalities h.inequalities tt
-          (once_too others h.inequalities (without_once (positivity n) rays (no_repeat lines rays canonical)) to from
-          (at_most_same (length h.inequalities) (length others) (length_permutation others h.inequalities h.inequalities_are))) h.sorted;
-    }
+    let to : (r : List ℤ) → Contains others r → Contains h.inequalities r = λ r m. Contains-permutation others h.inequalities r h.inequalities_are m in (
+      record {
+        equalities = lines;
+        inequalities = h.inequalities;
+        facets = rays;
+        are = listed_constraints n lines rays list h;
+        shown = shown_from n lines rays list h;
+        all_shown = λ r m. elim (without_has (positivity n) rays r m) [ inl e ↦ inl e | inr i ↦ inr (to r i) ];
+        dual = dual;
+        canonical = canonical;
+        inequalities_ascend = ascends Inequalities h.inequalities tt
+            (once_too others h.inequalities (without_once (positivity n) rays (no_repeat lines rays canonical)) to from
+            (at_most_same (length h.inequalities) (length others) (length_permutation others h.inequalities h.inequalities_are))) h.sorted;
+      },
+      refl,
+    )
   where
     at_most_same : (a b : ℕ) → a ≡ b → a ≤ b
     at_most_same a b e = omega (arith, e)
+
+pub listed_hold : (n : ℕ) (system lines rays : List (List ℤ)) (list : Listed ConKind) → AreDual (suc n) system (all_rows lines rays) → IsCanonical lines rays → ShowsConstraints n lines rays list →
+    HasConstraints n system (constraints list)
+listed_hold n system lines rays list dual canonical h = (listed_facets n system lines rays list dual canonical h).0
 
 pub constraints_shown : (s : Shape) (n : ℕ) (given : List Given) (list : Listed ConKind) → IsCone s → s.dims ≡ n → s.taken ≡ given → ShowsConstraints n s.lines s.rays list →
     HasConstraints n (system_of given) (constraints list)

@@ -61,7 +61,7 @@ listed_fit lines rays list h above flat =
     (fit_same lines Line (λ r m. flat r (inr m)))))
 
 -- ---- column 0 of a cone with the positivity row
-at_least_zero : (s : Shape) (kept : List Given) → IsCone s → s.taken ≡ inequality (positivity s.dims) ∷ kept → (t : List ℤ) → Contains (all_rows s.lines s.rays) t → pos 0 ≤ℤ entry t 0
+pub at_least_zero : (s : Shape) (kept : List Given) → IsCone s → s.taken ≡ inequality (positivity s.dims) ∷ kept → (t : List ℤ) → Contains (all_rows s.lines s.rays) t → pos 0 ≤ℤ entry t 0
 at_least_zero s kept k e t m =
     subst (λ z. pos 0 ≤ℤ z) (positivity_product s.dims t)
     (k.dual.meets t m (positivity s.dims) (subst (λ (l : List Given). Contains (system_of l) (positivity s.dims)) (sym e) (contains_head (positivity s.dims) (system_of kept))))
@@ -115,10 +115,10 @@ no_points s kept k e none x point con =
 
 -- ---- the list that is shown
 -- of any canonical description of which no row is below 0 in column 0
-pub listed_have : (n : ℕ) (system lines rays : List (List ℤ)) (list : Listed GenKind) → AreDual (suc n) system (all_rows lines rays) → IsCanonical lines rays →
+pub listed_counted : (n : ℕ) (system lines rays : List (List ℤ)) (list : Listed GenKind) → AreDual (suc n) system (all_rows lines rays) → IsCanonical lines rays →
     ((t : List ℤ) → Contains (all_rows lines rays) t → pos 0 ≤ℤ entry t 0) → ListsGenerators lines rays list →
-    HasGenerators n system (generators list) × FitKinds list.rows list.kinds
-listed_have n system lines rays list dual canonical nonneg h =
+    (g : HasGenerators n system (generators list)) × FitKinds list.rows list.kinds × (length (g.points ++ g.rays) ≡ length rays)
+listed_counted n system lines rays list dual canonical nonneg h =
     let parts : InParts rays h.points h.directions = in_parts rays h.points h.directions h.points_are h.directions_are in
     let once = parts_once lines rays h.points h.directions canonical parts in
     let flat : (r : List ℤ) → Contains h.directions r ⊎ Contains lines r → entry r 0 ≡ pos 0 = λ r m. elim m [
@@ -139,7 +139,13 @@ listed_have n system lines rays list dual canonical nonneg h =
         some_point = h.some_point;
       },
       listed_fit lines rays list h parts.above flat,
+      parts.many,
     )
+
+pub listed_have : (n : ℕ) (system lines rays : List (List ℤ)) (list : Listed GenKind) → AreDual (suc n) system (all_rows lines rays) → IsCanonical lines rays →
+    ((t : List ℤ) → Contains (all_rows lines rays) t → pos 0 ≤ℤ entry t 0) → ListsGenerators lines rays list →
+    HasGenerators n system (generators list) × FitKinds list.rows list.kinds
+listed_have n system lines rays list dual canonical nonneg h = let x = listed_counted n system lines rays list dual canonical nonneg h in (x.0, x.1)
 
 pub generators_shown : (s : Shape) (n : ℕ) (kept : List Given) (list : Listed GenKind) → IsCone s → s.dims ≡ n → s.taken ≡ inequality (positivity n) ∷ kept → ShowsGenerators s.lines s.rays list →
     AreGeneratorsOf n kept (generators list) × FitKinds list.rows list.kinds

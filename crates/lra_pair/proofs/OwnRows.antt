@@ -210,7 +210,7 @@ told_length rays lines [] (b ∷ bits) a = absurd a
 told_length rays lines (r ∷ rows) [] a = absurd a
 told_length rays lines (r ∷ rows) (b ∷ bits) a = ap suc (told_length rays lines rows bits a.1)
 
-reduced_length : (form rows ts : List (List ℤ)) → AreReducedBy form rows ts → length ts ≡ length rows
+pub reduced_length : (form rows ts : List (List ℤ)) → AreReducedBy form rows ts → length ts ≡ length rows
 reduced_length form [] [] a = refl
 reduced_length form [] (t ∷ ts) a = absurd a
 reduced_length form (r ∷ rows) [] a = absurd a

@@ -1,8 +1,10 @@
 //! Both canonical lists of a polyhedron.
 
-ghost use Rattle.std.specs.Prelude.{◌≡◌, ◌∷◌, ◌++◌, ◌<◌, [], List, suc, length, drop, IfOk, IfSome, OnOk};
+ghost use Rattle.std.specs.Prelude.{◌≡◌, ◌∷◌, ◌++◌, ◌<◌, ◌≤◌, [], List, suc, length, drop, IfOk, IfSome, OnOk};
 ghost use Rattle.std.specs.List.{Contains};
 ghost use Rattle.lra_linear.specs.Descriptions.{AreGenerators, Con, Gen, Given, inequality};
+ghost use Rattle.lra_linear.specs.ConeStrain.{row_limit};
+ghost use Rattle.lra_linear.specs.Formed.{KeepsLimit};
 ghost use Rattle.lra_linear.specs.OperationStrain.{FromRowsStrains, FromGeneratorsStrains};
 ghost use Rattle.lra_linear.specs.Points.{IsEmptySet, IsWithin};
 ghost use Rattle.lra_linear.specs.Polyhedra.{IsPolyhedron, IsPolyhedronOf, falsity};
@@ -43,6 +45,7 @@ impl Drop for Pair {
 
 impl Model for Pair {
     ghost use Rattle.std.specs.Prelude.{◌≡◌};
+    ghost use Rattle.lra_linear.specs.Formed.{KeepsLimit};
     ghost use Rattle.lra_linear.specs.Polyhedra.{Polyhedron, IsPolyhedron};
     ghost use Rattle.lra_sys.specs.Listed.{constraints, generators, FitKinds};
 
@@ -53,7 +56,9 @@ impl Model for Pair {
 
     ghost invariant = { λ s.
         IsPolyhedron (record { dims = s.rows.dims; rows = constraints s.rows; generators = generators s.by_generators })
-        × (s.by_generators.dims ≡ s.rows.dims) × FitKinds s.by_generators.rows s.by_generators.kinds };
+        × (s.by_generators.dims ≡ s.rows.dims) × FitKinds s.by_generators.rows s.by_generators.kinds
+        × KeepsLimit
+        (record { dims = s.rows.dims; rows = constraints s.rows; generators = generators s.by_generators }) };
 }
 
 impl Pair {
@@ -69,6 +74,7 @@ impl Pair {
         ensures dims { result.now.dims ≡ self.now.dims }
         ensures rows { constraints result.now ≡ self.now.rows }
         ensures canonical { IsPolyhedron self.now }
+        ensures limit { KeepsLimit self.now }
     {
         &self.rows
     }
@@ -79,6 +85,7 @@ impl Pair {
         ensures generators { generators result.now ≡ self.now.generators }
         ensures kinds { FitKinds result.now.rows result.now.kinds }
         ensures canonical { IsPolyhedron self.now }
+        ensures limit { KeepsLimit self.now }
     {
         &self.by_generators
     }
@@ -116,6 +123,7 @@ fn of_rows(alloc: Global, n: usize, cone: &Cone, own: &Own) -> Result<Pair, Allo
     requires dims { cone.now.dims ≡ n }
     requires positive { IsPositive n cone.now.taken }
     requires own { IsOwnList cone.now own.now.lines.items own.now.rays.items }
+    requires few { length own.now.rays.items ≤ row_limit }
     ensures { IfOk result (IsPolyhedronOf n (Con (drop 1 cone.now.taken))) }
 {
     let (lines, rays) = (cone.lines(), cone.rays());
@@ -139,6 +147,7 @@ fn of_generators(alloc: Global, n: usize, cone: &Cone, own: &Own) -> Result<Pair
     requires columns { AreGenerators cone.now.taken }
     requires some { ¬ (IsEmptySet n (Gen cone.now.taken)) }
     requires own { IsOwnList cone.now own.now.lines.items own.now.rays.items }
+    requires few { length own.now.rays.items ≤ row_limit }
     ensures { IfOk result (IsPolyhedronOf n (Gen cone.now.taken)) }
 {
     let (lines, rays) = (cone.lines(), cone.rays());

@@ -24,10 +24,11 @@ invariant_of-result c =
     let u = generators_made c.args.cone.now c.args.n c.lines-lines.result.now c.rays-rays.result.now c.deref.result.now c.deref-2.result.now c.args.own.now.lines.items c.args.own.now.rays.items
     c.in_ok-rows.rows c.in_ok-generators.generators c.lines-lines.ensures.cone c.requires.dims c.requires.columns c.requires.some c.requires.own c.lines-lines.ensures.lines
     c.rays-rays.ensures.rays c.in_ok-rows.ensures.shown c.deref.ensures.value c.deref-2.ensures.value c.in_ok-generators.ensures.shown c.in_ok-rows.ensures.dims c.in_ok-generators.ensures.dims
+    c.requires.few
     in
-    (u.0.canonical, u.1, u.2)
+    (u.0.canonical, u.1, u.2, u.3)
 
 pub returns : goal.returns
 returns c = (generators_made c.args.cone.now c.args.n c.lines-lines.result.now c.rays-rays.result.now c.deref.result.now c.deref-2.result.now c.args.own.now.lines.items c.args.own.now.rays.items
     c.in_ok-rows.rows c.in_ok-generators.generators c.lines-lines.ensures.cone c.requires.dims c.requires.columns c.requires.some c.requires.own c.lines-lines.ensures.lines c.rays-rays.ensures.rays
-    c.in_ok-rows.ensures.shown c.deref.ensures.value c.deref-2.ensures.value c.in_ok-generators.ensures.shown c.in_ok-rows.ensures.dims c.in_ok-generators.ensures.dims).0
+    c.in_ok-rows.ensures.shown c.deref.ensures.value c.deref-2.ensures.value c.in_ok-generators.ensures.shown c.in_ok-rows.ensures.dims c.in_ok-generators.ensures.dims c.requires.few).0

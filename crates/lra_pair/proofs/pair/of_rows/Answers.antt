@@ -30,12 +30,12 @@ invariant_of-result c =
     let some : c.in_ok-generators.generators.rows ≢ [] = search rules in
     let u = rows_made c.args.cone.now c.args.n c.lines-lines.result.now c.rays-rays.result.now c.deref.result.now c.deref-2.result.now c.args.own.now.lines.items c.args.own.now.rays.items
     c.in_ok-rows.rows c.in_ok-generators.generators c.lines-lines.ensures.cone c.requires.dims c.requires.positive c.requires.own c.lines-lines.ensures.lines c.rays-rays.ensures.rays
-    c.in_ok-generators.ensures.shown c.deref.ensures.value c.deref-2.ensures.value c.in_ok-rows.ensures.shown some c.in_ok-rows.ensures.dims c.in_ok-generators.ensures.dims in
-    (u.0.canonical, u.1, u.2)
+    c.in_ok-generators.ensures.shown c.deref.ensures.value c.deref-2.ensures.value c.in_ok-rows.ensures.shown some c.in_ok-rows.ensures.dims c.in_ok-generators.ensures.dims c.requires.few in
+    (u.0.canonical, u.1, u.2, u.3)
 
 pub returns : goal.returns
 returns c =
     let some : c.in_ok-generators.generators.rows ≢ [] = search rules in
     (rows_made c.args.cone.now c.args.n c.lines-lines.result.now c.rays-rays.result.now c.deref.result.now c.deref-2.result.now c.args.own.now.lines.items c.args.own.now.rays.items c.in_ok-rows.rows
     c.in_ok-generators.generators c.lines-lines.ensures.cone c.requires.dims c.requires.positive c.requires.own c.lines-lines.ensures.lines c.rays-rays.ensures.rays
-    c.in_ok-generators.ensures.shown c.deref.ensures.value c.deref-2.ensures.value c.in_ok-rows.ensures.shown some c.in_ok-rows.ensures.dims c.in_ok-generators.ensures.dims).0
+    c.in_ok-generators.ensures.shown c.deref.ensures.value c.deref-2.ensures.value c.in_ok-rows.ensures.shown some c.in_ok-rows.ensures.dims c.in_ok-generators.ensures.dims c.requires.few).0

@@ -14,7 +14,7 @@ pub invariant_of-result : goal.invariant_of-result
 invariant_of-result c =
     let u = universe_made c.in_ok-cone.cone c.args.n c.lines.result.now c.rays.result.now c.new.result c.in_ok-generators.generators c.lines.ensures.cone c.in_ok-cone.ensures.dims
     c.in_ok-cone.ensures.taken c.lines.ensures.lines c.rays.ensures.rays c.in_ok-generators.ensures.shown c.new.ensures.dims c.new.ensures.rows c.in_ok-generators.ensures.dims in
-    (u.0.canonical, u.1, u.2)
+    (u.0.canonical, u.1, u.2, u.3)
 
 pub returns : goal.returns
 returns c = (universe_made c.in_ok-cone.cone c.args.n c.lines.result.now c.rays.result.now c.new.result c.in_ok-generators.generators c.lines.ensures.cone c.in_ok-cone.ensures.dims
