@@ -1,15 +1,18 @@
 -- The image of a polyhedron under an assignment that can be taken back: both canonical lists, moved and made canonical
 -- again.
-use Rattle.std.proofs.Common.{◌≡◌, ℕ, suc, ◌<◌, cond, List, [], ◌∷◌, ◌++◌, length, map, ap, refl, sym, ◌∙◌, subst, ℤ, pos, ◌<ℤ◌, ◌≤ℤ◌, inl, inr, ◌⊎◌}
+use Rattle.std.proofs.Common.{◌≡◌, ℕ, suc, ◌<◌, ◌≤◌, arith, cond, List, [], ◌∷◌, ◌++◌, length, map, ap, refl, sym, ◌∙◌, subst, ℤ, pos, ◌<ℤ◌, ◌≤ℤ◌, inl, inr, ◌⊎◌}
 use Rattle.std.specs.List.{Contains}
 use Rattle.std.specs.List.Sorted.{IsPermutation}
 use Rattle.std.specs.Ordering.{is_eq}
 use Rattle.std.specs.declared.cmp.Ordering.{Ordering}
+use Rattle.std.proofs.lemmas.List.{length-map}
 use Rattle.std.proofs.lemmas.List.Elements.{All-contains, Contains-append_cases, Contains-append_left, Contains-append_right}
 use Rattle.lra_linear.specs.Canonical.{IsCanonical}
 use Rattle.lra_linear.specs.Cones.{AreDual, Generated, all_rows, both_ways}
+use Rattle.lra_linear.specs.ConeStrain.{row_limit}
 use Rattle.lra_linear.specs.Descriptions.{Con, Given, lines_of, rays_of, system_of}
 use Rattle.lra_linear.specs.Echelon.{IsEchelonOf}
+use Rattle.lra_linear.specs.Formed.{KeepsLimit}
 use Rattle.lra_linear.specs.OperationStrain.{mapped}
 use Rattle.lra_linear.specs.Points.{IsEmptySet, IsPoint}
 use Rattle.lra_linear.specs.Polyhedra.{HasPoint, IsPolyhedron, IsPolyhedronOf, Polyhedron, positivity}
@@ -21,7 +24,7 @@ use Rattle.lra_linear.proofs.Combinations.{generated_row}
 use Rattle.lra_linear.proofs.Descriptions.{dual_flipped, gen_generated, generated_gen, in_all_rows, in_system}
 use Rattle.lra_linear.proofs.LinearMaps.{generated_nonneg, generated_through}
 use Rattle.lra_linear.proofs.Lines.{in_lines, signed_from}
-use Rattle.lra_linear.proofs.Membership.{NoRepeat, contains_cases, contains_head, contains_none, contains_tail, map_from, map_has}
+use Rattle.lra_linear.proofs.Membership.{NoRepeat, at_most, contains_cases, contains_head, contains_none, contains_tail, map_from, map_has}
 use Rattle.lra_linear.proofs.OneSpelling.{columns_of, positivity_product, some_member}
 use Rattle.lra_linear.proofs.Polyhedra.{con_gen, generators_lines, generators_rays}
 use Rattle.lra_linear.proofs.Products.{negated_length}
@@ -34,13 +37,14 @@ use Rattle.lra_canon.specs.Echelons.{HaveWidth}
 use Rattle.lra_canon.specs.Reduced.{IsReducedBy}
 use Rattle.lra_canon.proofs.Orders.{tied_itself}
 use Rattle.lra_descriptions.specs.ShownLists.{ListsGenerators, ShowsConstraints, ShowsGenerators, without}
-use Rattle.lra_pair.proofs.ConstraintLists.{listed_hold}
-use Rattle.lra_pair.proofs.GeneratorLists.{flat_rows, listed_have, nothing_generated, system_of_generators}
+use Rattle.lra_pair.proofs.ConstraintLists.{listed_facets, listed_hold}
+use Rattle.lra_pair.proofs.GeneratorLists.{flat_rows, listed_counted, listed_have, nothing_generated, system_of_generators}
 use Rattle.lra_cone.proofs.Reordered.{canonical_again, dual_again}
 use Rattle.lra_pair.specs.OwnLists.{AreReducedBy}
-use Rattle.lra_pair.proofs.PairLists.{has_point}
+use Rattle.lra_pair.proofs.OwnRows.{reduced_length}
+use Rattle.lra_pair.proofs.PairLists.{few_lists, has_point}
 use Rattle.lra_duality.proofs.KeptFacets.{ascending_once, lines_split, rays_split}
-use Rattle.lra_duality.proofs.PolyhedronLemmas.{with_point}
+use Rattle.lra_duality.proofs.PolyhedronLemmas.{falsity_is_empty, with_point}
 use Rattle.lra_lists.specs.Moving.{IsAssignedList, IsSubstitutedList, TakesBack}
 use Rattle.lra_images.proofs.AssignedSets.{assigned_generators}
 use Rattle.lra_lists.proofs.Assigning.{assigning}
@@ -65,6 +69,7 @@ some_or_others P r (x ∷ rows) h = elim (h x (contains_head x rows)) [
 pub record Facets (p : Polyhedron) (h : HasPoint p) (listed : List (List ℤ)) : Type 0 where
   pub canonical : IsCanonical h.equalities listed
   pub dual : AreDual (suc p.dims) (all_rows h.equalities listed) (all_rows h.lines (h.points ++ h.rays))
+  pub few : length listed ≤ length h.facets
 
 facets_listed : (p : Polyhedron) (h : HasPoint p) → Facets p h h.inequalities ⊎ Facets p h (positivity p.dims ∷ h.inequalities)
 facets_listed p h = elim (some_or_others (Contains h.inequalities) (positivity p.dims) h.facets h.all_shown) [
@@ -86,6 +91,7 @@ facets_listed p h = elim (some_or_others (Contains h.inequalities) (positivity p
       dual = dual_flipped (suc p.dims) (all_rows h.lines (h.points ++ h.rays)) (all_rows h.equalities listed)
           (dual_again (suc p.dims) (all_rows h.lines (h.points ++ h.rays)) h.equalities h.facets listed to from
           (dual_flipped (suc p.dims) (all_rows h.equalities h.facets) (all_rows h.lines (h.points ++ h.rays)) h.dual));
+      few = at_most listed h.facets once from;
     }
 
 -- ---- both lists moved
@@ -131,6 +137,11 @@ record FacetsMoved (p : Polyhedron) (h : HasPoint p) (eqs ineqs lines rays facet
   canonical : IsCanonical eqs facets
   dual : AreDual (suc p.dims) (all_rows eqs facets) (all_rows lines rays)
   shows : (rows : Listed ConKind) → ShowsConstraints p.dims eqs ineqs rows → ShowsConstraints p.dims eqs facets rows
+  few : length facets ≤ length h.facets
+
+-- as many rows as before
+moved_length : (form : List (List ℤ)) (m : List ℤ → List ℤ) (rows ts : List (List ℤ)) → AreReducedBy form (map m rows) ts → length ts ≡ length rows
+moved_length form m rows ts are = reduced_length form (map m rows) ts are ∙ length-map rows m
 
 facets_moved_by : (p : Polyhedron) (h : HasPoint p) (k : ℕ) (f g : List ℤ) (eqs ineqs lines rays listed facets : List (List ℤ)) → Moved p h k f g eqs ineqs lines rays → Facets p h listed →
     AreReducedBy eqs (map (substituted k g) listed) facets → ((t : List ℤ) → Contains (all_rows eqs facets) t → length t ≡ suc p.dims) →
@@ -149,6 +160,7 @@ facets_moved_by p h k f g eqs ineqs lines rays listed facets m x are widths show
           (record { is_form = m.equalities; are_reduced = are; widths = widths })
           (record { is_form = m.lines_form; are_reduced = m.rays_reduced; widths = m.generator_widths });
       shows = shows;
+      few = subst (λ (c : ℕ). c ≤ length h.facets) (sym (moved_length eqs (substituted k g) listed facets are)) x.few;
     }
 
 facets_moved : (p : Polyhedron) (h : HasPoint p) (k : ℕ) (f g : List ℤ) (eqs ineqs lines rays : List (List ℤ)) → Moved p h k f g eqs ineqs lines rays →
@@ -306,6 +318,28 @@ moved_polyhedron p h k f g eqs ineqs lines rays rows list am sc sg =
       have.1,
     )
 
+-- the lists keep the limit that those of P keep
+moved_limit : (p : Polyhedron) (h : HasPoint p) (k : ℕ) (f g : List ℤ) (eqs ineqs lines rays : List (List ℤ)) (rows : Listed ConKind) (list : Listed GenKind) →
+    AreMoved p k f g eqs ineqs lines rays → ShowsConstraints p.dims eqs ineqs rows → ShowsGenerators lines rays list → length h.facets ≤ row_limit → length (h.points ++ h.rays) ≤ row_limit →
+    KeepsLimit (record { dims = p.dims; rows = constraints rows; generators = generators list })
+moved_limit p h k f g eqs ineqs lines rays rows list am sc sg few less =
+    let m = moved p h k f g eqs ineqs lines rays am in
+    let n = p.dims in
+    let w = suc n in
+    let x = facets_moved p h k f g eqs ineqs lines rays m in
+    let system = all_rows eqs x.0 in
+    let have = listed_counted n system lines rays list x.1.dual (generators_moved p h k f g eqs ineqs lines rays m) (columns_moved p h k f g eqs ineqs lines rays m)
+    (some_listed p h k f g eqs ineqs lines rays list m sg) in
+    let g0 = have.0 in
+    let shown = all_rows g0.lines (g0.points ++ g0.rays) in
+    let hold = listed_facets n shown eqs x.0 rows (dual_flipped w system shown g0.dual) x.1.canonical (x.1.shows rows sc) in
+    few_lists (record { dims = n; rows = constraints rows; generators = generators list }) system g0 hold.0 (length x.0) (length rays) (ap length hold.1) have.2
+    (within (length x.0) (length h.facets) x.1.few few)
+    (subst (λ (c : ℕ). c ≤ row_limit) (sym (moved_length lines (assigned k f) (h.points ++ h.rays) rays m.rays_reduced)) less)
+  where
+    within : (a b : ℕ) → a ≤ b → b ≤ row_limit → a ≤ row_limit
+    within a b e f = omega (arith, e, f)
+
 -- ---- as the code tells it
 -- the lists that are made of a polyhedron's
 pub record IsMoving (p : Polyhedron) (k : ℕ) (f g : List ℤ) (rows : Listed ConKind) (list : Listed GenKind) : Type 0 where
@@ -340,6 +374,19 @@ both_wide w lines rays hl hr t k = elim (Contains-append_cases rays (both_ways l
       elim l.sign [ inl e ↦ ap length e ∙ wide | inr e ↦ ap length e ∙ negated_length l.line ∙ wide ]
 ]
 
+are_moved : (p : Polyhedron) (k : ℕ) (f g : List ℤ) (rows : Listed ConKind) (list : Listed GenKind) (m : IsMoving p k f g rows list) →
+    AreMoved p k f g m.constraints_moved.lines m.constraints_moved.rays m.generators_moved.lines m.generators_moved.rays
+are_moved p k f g rows list m = let c = m.constraints_moved in let r = m.generators_moved in record {
+  column = m.above;
+  back = m.back;
+  equalities = c.is_form;
+  inequalities = c.are_reduced;
+  lines_form = r.is_form;
+  rays_reduced = r.are_reduced;
+  constraint_widths = both_wide (suc p.dims) c.lines c.rays c.line_widths c.ray_widths;
+  generator_widths = both_wide (suc p.dims) r.lines r.rays r.line_widths r.ray_widths;
+}
+
 pub moved_image : (p : Polyhedron) (k : ℕ) (f g : List ℤ) (rows : Listed ConKind) (list : Listed GenKind) → IsMoving p k f g rows list →
     IsPolyhedronOf p.dims (Image p.dims k f (Con p.rows)) (record { dims = rows.dims; rows = constraints rows; generators = generators list }) × FitKinds list.rows list.kinds
 moved_image p k f g rows list m =
@@ -347,13 +394,13 @@ moved_image p k f g rows list m =
     let r = m.generators_moved in
     subst (λ (n : ℕ). IsPolyhedronOf p.dims (Image p.dims k f (Con p.rows)) (record { dims = n; rows = constraints rows; generators = generators list }) × FitKinds list.rows list.kinds) (sym m.dims)
     (moved_polyhedron p (with_point p m.canonical m.some) k f g c.lines c.rays r.lines r.rays rows list
-    (record {
-      column = m.above;
-      back = m.back;
-      equalities = c.is_form;
-      inequalities = c.are_reduced;
-      lines_form = r.is_form;
-      rays_reduced = r.are_reduced;
-      constraint_widths = both_wide (suc p.dims) c.lines c.rays c.line_widths c.ray_widths;
-      generator_widths = both_wide (suc p.dims) r.lines r.rays r.line_widths r.ray_widths;
-    }) c.shown r.shown)
+    (are_moved p k f g rows list m) c.shown r.shown)
+
+pub image_limit : (p : Polyhedron) (k : ℕ) (f g : List ℤ) (rows : Listed ConKind) (list : Listed GenKind) → IsMoving p k f g rows list → KeepsLimit p →
+    KeepsLimit (record { dims = rows.dims; rows = constraints rows; generators = generators list })
+image_limit p k f g rows list m (inl none) = absurd (m.some (falsity_is_empty p.dims p.rows none.0))
+image_limit p k f g rows list m (inr (h, few, less)) =
+    let c = m.constraints_moved in
+    let r = m.generators_moved in
+    subst (λ (n : ℕ). KeepsLimit (record { dims = n; rows = constraints rows; generators = generators list })) (sym m.dims)
+    (moved_limit p h k f g c.lines c.rays r.lines r.rays rows list (are_moved p k f g rows list m) c.shown r.shown few less)

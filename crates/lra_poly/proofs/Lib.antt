@@ -1,2 +1,3 @@
 pub mod PolyLemmas
+pub mod FormedLemmas
 pub mod TakenGenerators

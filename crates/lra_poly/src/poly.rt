@@ -3,6 +3,7 @@
 ghost use Rattle.std.specs.Prelude.{◌≡◌, ◌↔◌, ◌<◌, ◌∷◌, ◌++◌, [], length, drop, IsTrue, IfOk, IfSome, IsSome};
 ghost use Rattle.std.specs.Prelude.{OnErr};
 ghost use Rattle.lra_linear.specs.Descriptions.{AreGenerators, Con, Gen, Holds};
+ghost use Rattle.lra_linear.specs.Formed.{IsFormed, KeepsLimit};
 ghost use Rattle.lra_linear.specs.OperationStrain.{FromRowsStrains, FromGeneratorsStrains};
 ghost use Rattle.lra_linear.specs.OperationStrain.{AddTestStrains, MeetStrains, HullStrains};
 ghost use Rattle.lra_linear.specs.Points.{IsEmptySet, IsWithin};
@@ -56,6 +57,7 @@ impl Drop for Poly {
 
 impl Model for Poly {
     ghost use Rattle.std.specs.Prelude.{◌≡◌};
+    ghost use Rattle.lra_linear.specs.Formed.{KeepsLimit};
     ghost use Rattle.lra_linear.specs.Polyhedra.{Polyhedron, IsPolyhedron};
     ghost use Rattle.lra_sys.specs.Listed.{constraints, generators, FitKinds};
     ghost use Rattle.lra_duality.specs.Saturations.{saturation_of};
@@ -68,7 +70,9 @@ impl Model for Poly {
     ghost invariant = { λ s.
         IsPolyhedron (record { dims = s.rows.dims; rows = constraints s.rows; generators = generators s.by_generators })
         × (s.by_generators.dims ≡ s.rows.dims) × FitKinds s.by_generators.rows s.by_generators.kinds
-        × (s.saturation ≡ saturation_of (constraints s.rows) (generators s.by_generators)) };
+        × (s.saturation ≡ saturation_of (constraints s.rows) (generators s.by_generators))
+        × KeepsLimit
+        (record { dims = s.rows.dims; rows = constraints s.rows; generators = generators s.by_generators }) };
 }
 
 // The polyhedron of the pair.
@@ -192,6 +196,11 @@ impl Poly {
           rows = constraints rows;
           generators = generators by_generators;
         }) }
+        requires limit { KeepsLimit (record {
+          dims = rows.dims;
+          rows = constraints rows;
+          generators = generators by_generators;
+        }) }
         requires dims { by_generators.dims ≡ rows.dims }
         requires kinds { FitKinds by_generators.rows by_generators.kinds }
         ensures { IfOk result (λ p. p ≡ record {
@@ -238,7 +247,9 @@ impl Poly {
         ensures dims { result.now.dims ≡ self.now.dims }
         ensures rows { constraints result.now ≡ self.now.rows }
         ensures canonical { IsPolyhedron self.now }
+        ensures formed { IsFormed self.now }
     {
+        let (_rows, _others) = (self.rows.rows(), self.by_generators.rows());
         &self.rows
     }
 
@@ -248,7 +259,9 @@ impl Poly {
         ensures generators { generators result.now ≡ self.now.generators }
         ensures kinds { FitKinds result.now.rows result.now.kinds }
         ensures canonical { IsPolyhedron self.now }
+        ensures formed { IsFormed self.now }
     {
+        let (_rows, _others) = (self.rows.rows(), self.by_generators.rows());
         &self.by_generators
     }
 

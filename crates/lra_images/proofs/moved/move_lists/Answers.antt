@@ -3,7 +3,7 @@ use Rattle.std.proofs.Common.{subst, sym}
 use Rattle.lra_linear.specs.Descriptions.{Con}
 use Rattle.lra_linear.specs.Polyhedra.{IsPolyhedronOf}
 use Rattle.lra_linear.specs.SetOperations.{Image}
-use Rattle.lra_images.proofs.MovedPolyhedra.{is_moving, moved_image}
+use Rattle.lra_images.proofs.MovedPolyhedra.{image_limit, is_moving, moved_image}
 use Rattle.lra_images.proofs.moved.move_lists.Goals as goal
 
 pub from_canonical-requires-clause-canonical : goal.from_canonical-requires-clause-canonical
@@ -27,6 +27,17 @@ from_canonical-requires-clause-kinds c =
     c.generators.ensures.dims c.generators.ensures.generators c.in_ok-rows.ensures.made
     c.in_ok-by_generators.ensures.made c.in_ok-rows.ensures.dims in
     (moved_image p c.args.column c.args.form.now c.args.back.now rows list m).1
+
+pub from_canonical-requires-clause-limit : goal.from_canonical-requires-clause-limit
+from_canonical-requires-clause-limit c =
+    let p = c.args.p.now in
+    let rows = c.in_ok-rows.rows in
+    let list = c.in_ok-by_generators.by_generators in
+    let m = is_moving p c.rows.result.now c.generators.result.now c.args.column c.args.form.now c.args.back.now rows list
+    c.rows.ensures.canonical c.requires.some c.requires.above c.requires.back c.rows.ensures.dims c.rows.ensures.rows
+    c.generators.ensures.dims c.generators.ensures.generators c.in_ok-rows.ensures.made
+    c.in_ok-by_generators.ensures.made c.in_ok-rows.ensures.dims in
+    image_limit p c.args.column c.args.form.now c.args.back.now rows list m c.rows.ensures.formed.limit
 
 pub returns : goal.returns
 returns c =

@@ -9,7 +9,7 @@ pub invariant_of-result : goal.invariant_of-result
 invariant_of-result c =
     let lists = empty_lists c.args.n c.in_ok-rows.rows c.new-by_generators.result c.in_ok-rows.ensures.dims c.in_ok-rows.ensures.rows c.in_ok-rows.ensures.kinds
     c.new-by_generators.ensures.dims c.new-by_generators.ensures.rows in
-    (lists.0, lists.1, lists.2, c.in_ok-saturation.ensures)
+    (lists.0, lists.1, lists.2, c.in_ok-saturation.ensures, lists.3)
 
 pub returns-clause-none : goal.returns-clause-none
 returns-clause-none c = falsity_is_empty c.args.n (constraints c.in_ok-rows.rows) (nothing_is c.args.n c.in_ok-rows.rows c.in_ok-rows.ensures.rows c.in_ok-rows.ensures.kinds)

@@ -1,0 +1,9 @@
+-- Goals of `Poly::rows`: the constraints, in canonical order.
+use Rattle.lra_poly.proofs.FormedLemmas.{formed_lists}
+use Rattle.lra_poly.proofs.poly.Poly.rows.Goals as goal
+
+pub returns-clause-formed : goal.returns-clause-formed
+returns-clause-formed c = rw (← c.self.view_is)
+    (formed_lists c.self.inside.rows c.self.inside.by_generators c.self.invariant.0 c.self.invariant.4
+    c.rows-rows.result.now c.rows-others.result.now c.rows-rows.ensures.rows c.rows-others.ensures.rows
+    c.rows-rows.ensures.in_range c.rows-others.ensures.in_range)
