@@ -1,6 +1,9 @@
 -- Goals of `PolyhedronDomain::parts`.
-use Rattle.std.proofs.Common.{◌≡◌, ◌∙◌, length, ap, sym}
-use Rattle.lra_polydom.specs.Content.{polyhedron_parts}
+use Rattle.std.proofs.Common.{◌≡◌, ◌∙◌, ◌↔◌, ◌∷◌, ◌++◌, [], List, ℤ, length, ap, subst, sym}
+use Rattle.lra_domain.specs.Parts.{SomePartHolds}
+use Rattle.lra_linear.specs.declared.ConKind.{ConKind}
+use Rattle.lra_polydom.specs.Content.{PolyhedronHas, polyhedron_parts}
+use Rattle.lra_sys.specs.Listed.{Listed}
 use Rattle.lra_polydom.proofs.PartLemmas.{no_parts, parts_mean, some_parts}
 use Rattle.lra_polydom.proofs.polyhedron.PolyhedronDomain.parts.Goals as goal
 
@@ -20,3 +23,13 @@ returns-clause-parts c =
     let lengths : length list.kinds ≡ length list.rows = ap length (sym c.kinds-kinds.ensures.kinds) ∙ c.kinds-kinds.ensures.len in
     rw (c.in_ok-push.ensures.items, c.new-parts.ensures.items, c.in_ok-copy.ensures, ← c.self.view_is)
     (some_parts c.self.inside.poly c.is_empty.result c.rows-rows.result.now c.is_empty.ensures c.if-is_empty.false c.rows-rows.ensures.dims c.rows-rows.ensures.rows lengths)
+
+pub returns-clause-mean : goal.returns-clause-mean
+returns-clause-mean c =
+    let p = c.self.inside.poly in
+    let list = c.rows-rows.result.now in
+    let lengths : length list.kinds ≡ length list.rows = ap length (sym c.kinds-kinds.ensures.kinds) ∙ c.kinds-kinds.ensures.len in
+    let is = some_parts p c.is_empty.result list c.is_empty.ensures c.if-is_empty.false c.rows-rows.ensures.dims c.rows-rows.ensures.rows lengths in
+    let told : c.push.new.self.items ≡ polyhedron_parts p = c.in_ok-push.ensures.items ∙ ap (λ (l : List (Listed ConKind)). l ++ c.in_ok-copy.field-0 ∷ []) c.new-parts.ensures.items ∙
+    ap (λ (x : Listed ConKind). x ∷ []) c.in_ok-copy.ensures ∙ is in
+    rw (← c.self.view_is) (subst (λ (l : List (Listed ConKind)). (s : List ℤ) → length s ≡ p.dims → (PolyhedronHas p s ↔ SomePartHolds l s)) (sym told) (parts_mean p))
