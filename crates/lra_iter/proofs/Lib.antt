@@ -11,6 +11,8 @@ mod Again
 mod KeptLoops
 mod LoopNumbers
 mod OpenPlaces
+mod RowLeaves
 mod TurnSteps
 mod LoopPlaces
+mod BoxedPlaces
 mod Joining

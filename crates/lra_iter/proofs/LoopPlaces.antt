@@ -19,15 +19,13 @@ use Rattle.lra_iter.specs.declared.outcome.Turn.{Turn}
 use Rattle.lra_iter.specs.declared.places.GrowingPlace.{GrowingPlace}
 use Rattle.lra_iter.specs.declared.places.Narrowing.{Narrowing}
 use Rattle.lra_iter.specs.declared.places.NarrowingPlace.{NarrowingPlace}
-use Rattle.lra_iter.specs.declared.places.Next.TheVariants.{Again}
-use Rattle.lra_iter.specs.declared.places.Place.TheVariants.{Growing as GrowingAt, Narrowing as NarrowingAt}
 use Rattle.lra_iter.specs.declared.shapes.Loop.{Loop}
 use Rattle.lra_iter.specs.Fits.{live_after, TreeFits}
 use Rattle.lra_iter.specs.Heads.{IsValued, GrowsBy}
 use Rattle.lra_iter.specs.Memory.{AreRecalled, MayRecall, Remembers, StaysKept}
 use Rattle.lra_iter.specs.Outcome.{headed, seen, AreKept, IsEntered, IsKept, IsPassed, IsTurned, LeavesWith}
 use Rattle.lra_iter.specs.Open.{Due, HasEntered, IsGrowing, IsHead, IsLoopDue, IsMade, IsNarrowed}
-use Rattle.lra_iter.specs.Open.{IsNarrowing, IsWaiting, Leads, MayBePassed, NarrowLoop}
+use Rattle.lra_iter.specs.Open.{IsNarrowing, IsWaiting, MayBePassed, NarrowLoop}
 use Rattle.lra_iter.proofs.Again.{all_noted, kept_noted, passed_kept, turned}
 use Rattle.lra_iter.proofs.KeptLoops.{later_noted, recalled_passed, remembers_body, remembers_later, remembers_on}
 use Rattle.lra_iter.proofs.KeptLoops.{stays_begun, stays_both, stays_passed, stays_recalled, stays_since, stays_then}
@@ -222,12 +220,12 @@ module _ {V H : Type 0} (m : Meaning V H) (set : Options) where
 
     pub growing_again : (given : Turn V) (entered : V) (outcome : Outcome V) → IsEntered m l.options.now l.point l.base
         (cond_view l.condition.now) (node_view l.body.now) growing.flag growing.value (again given) →
-        entered ≡ given.entered → outcome ≡ given.outcome → Leads m set whole (Again (GrowingAt (record {
+        entered ≡ given.entered → outcome ≡ given.outcome → (part : Due V) × IsGrowing m set (record {
           the_loop = l;
           first = first;
           growing = growing;
           entered = entered;
-        })) outcome) memory
+        }) whole part × IsMade m set part (seen outcome) memory
     growing_again given entered outcome has same is =
         let now = body_again l whole may here.loop.is growing.value growing.flag memory growing_wide growing_remembers
         given entered outcome here.loop.options has same is in (
@@ -418,7 +416,8 @@ module _ {V H : Type 0} (m : Meaning V H) (set : Options) where
     pub narrowing_again : (given : Turn V) (entered : V) (outcome : Outcome V) → IsEntered m n.the_loop.options.now
         n.the_loop.point n.the_loop.base (cond_view n.the_loop.condition.now) (node_view n.the_loop.body.now) flag n.top
         (again given) → entered ≡ given.entered → outcome ≡ given.outcome →
-        Leads m set whole (Again (NarrowingAt (record { narrowing = n; entered = entered })) outcome) memory
+        (part : Due V) × IsNarrowing m set (record { narrowing = n; entered = entered }) whole part ×
+        IsMade m set part (seen outcome) memory
     narrowing_again given entered outcome has same is =
         let now = body_again n.the_loop whole may here.loop.is n.top flag memory here.dims here.remembers given entered
         outcome here.loop.options has same is in (

@@ -1,5 +1,5 @@
 -- How many steps are left falls with each round of a loop.
-use Rattle.std.proofs.Common.{◌≡◌, ◌≢◌, ℕ, suc, ◌+◌, ◌-◌, ◌*◌, ◌<◌, ◌≤◌, ◌^◌, Bool, List, [], ◌∷◌, ◌++◌, Option, Some, arith, ap, subst, ◌∙◌}
+use Rattle.std.proofs.Common.{◌≡◌, ◌≢◌, ℕ, suc, ◌+◌, ◌-◌, ◌*◌, ◌<◌, ◌≤◌, ◌^◌, Bool, List, [], ◌∷◌, ◌++◌, Option, Some, Box, Global, arith, ap, subst, sym, ◌∙◌}
 use Rattle.std.specs.Prelude.{IfOk, option_to_list}
 use Rattle.std.specs.List.{sum_by}
 use Rattle.std.proofs.lemmas.List.Sums.{sum_by-append, sum_by-cons}
@@ -127,10 +127,11 @@ module _ {V H : Type 0} (m : Meaning V H) (b : ℕ) (set : Options) (ps : List (
       sum_by (place_left m b set) (ps ++ option_to_list x)) some ∙ one_more in
       omega (arith, none, same, less)
 
-  pub again_less : (r : Outcome V) → n ≡ Again p r → next_left m b set n' < place_left m b set p →
-      all_left m b set ps n' < all_left m b set ps n
-  again_less r is less =
-      let same : next_left m b set n ≡ place_left m b set p = ap (next_left m b set) is in
+  pub again_less : (c : Box (place.Place V H) Global) (r : Outcome V) → n ≡ Again c r → p ≡ c.value →
+      next_left m b set n' < place_left m b set p → all_left m b set ps n' < all_left m b set ps n
+  again_less c r is inside less =
+      let same : next_left m b set n ≡ place_left m b set p =
+      ap (next_left m b set) is ∙ ap (place_left m b set) (sym inside) in
       omega (arith, same, less)
 
   pub pushed_less : (all : List (place.Place V H)) (tree : Entering V) → n ≡ Opens p tree → all ≡ ps ++ p ∷ [] →

@@ -217,8 +217,8 @@ module _ {V H : Type 0} (m : Meaning V H) (set : Options) where
       whole.memory part.memory
   IsOpen (Choice k) whole part = IsChoice k whole part
   IsOpen (Branch b) whole part = IsBranch b whole part
-  IsOpen (GrowingAt g) whole part = IsGrowing g whole part
-  IsOpen (NarrowingAt n) whole part = IsNarrowing n whole part
+  IsOpen (GrowingAt g) whole part = IsGrowing g.value whole part
+  IsOpen (NarrowingAt n) whole part = IsNarrowing n.value whole part
   IsOpen (Catch q k) whole part = (whole.tree ≡ catch q (exit_view k) part.tree) × (part.value ≡ whole.value) ×
       (part.flag ≡ whole.flag) × (part.memory ≡ whole.memory)
 
@@ -231,7 +231,7 @@ module _ {V H : Type 0} (m : Meaning V H) (set : Options) where
   abbrev pub Leads : Due V → next.Next V H → Memory V → Type 0
   Leads whole (Passed r) memory = IsMade whole (seen r) memory
   Leads whole (Opens p tree) memory = IsOpen p whole (due tree memory) × MayBePassed (due tree memory)
-  Leads whole (Again p r) memory = (part : Due V) × IsOpen p whole part × IsMade part (seen r) memory
+  Leads whole (Again p r) memory = (part : Due V) × IsOpen p.value whole part × IsMade part (seen r) memory
 
   -- the loop: places are open, and what comes next leads to what the innermost has under way
   pub record AreUnderWay (places : List (place.Place V H)) (whole : Due V) (n : next.Next V H) (memory : Memory V)

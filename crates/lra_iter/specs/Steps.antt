@@ -57,14 +57,15 @@ module _ {V H : Type 0} (m : Meaning V H) (b : ℕ) (set : Options) where
   place_left (Last x) = 1
   place_left (Choice k) = 2 + tree_steps k.choice.no.now
   place_left (Branch k) = 1
-  place_left (Growing g) = turns_left g.the_loop (set.narrow + rounds_left b g.growing.left (m.rank g.growing.head))
-  place_left (Narrowing n) = turns_left n.narrowing.the_loop n.narrowing.left
+  place_left (Growing g) =
+      turns_left g.value.the_loop (set.narrow + rounds_left b g.value.growing.left (m.rank g.value.growing.head))
+  place_left (Narrowing n) = turns_left n.value.narrowing.the_loop n.value.narrowing.left
   place_left (Catch q k) = 1
 
   abbrev pub next_left : next.Next V H → ℕ
   next_left (Passed r) = 0
   next_left (Opens p tree) = place_left p + tree_steps tree.node.now
-  next_left (Again p r) = place_left p
+  next_left (Again p r) = place_left p.value
 
   abbrev pub all_left : List (place.Place V H) → next.Next V H → ℕ
   all_left places n = sum_by place_left places + next_left n

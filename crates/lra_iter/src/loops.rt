@@ -10,16 +10,14 @@ ghost use Rattle.lra_flow.specs.Operations.{dropping};
 ghost use Rattle.lra_flow.specs.Pass.{noted};
 ghost use Rattle.lra_iter.specs.Outcome.{ended, headed, seen, AreKept, IsEntered, IsKept, LeavesWith};
 ghost use Rattle.lra_iter.specs.Memory.{MayRecall};
-ghost use Rattle.lra_iter.specs.declared.places.Place.TheVariants.{Growing as growing_place};
-ghost use Rattle.lra_iter.specs.declared.places.Place.TheVariants.{Narrowing as narrowing_place};
 ghost use Rattle.lra_iter.specs.Open.{Due, IsMade, Leads, MayBePassed, IsGrowing, IsHead};
 ghost use Rattle.lra_iter.specs.Open.{IsLoopDue, IsNarrowed, IsNarrowing, IsWaiting};
-ghost use Rattle.lra_iter.specs.Steps.{next_left, place_left, most_rounds, rounds_left, tree_steps, turns_left};
+ghost use Rattle.lra_iter.specs.Steps.{next_left, most_rounds, rounds_left, tree_steps, turns_left};
 
 use crate::heads::{Growing, grow_by, start};
 use crate::memory::Memory;
 use crate::outcome::{Entered, Entry, Found, HeadTurn, Outcome, Turn, enter_with, note};
-use crate::places::{Entering, GrowingPlace, Narrowing, NarrowingPlace, Next, Place};
+use crate::places::{Entering, GrowingPlace, Narrowing, NarrowingPlace, Next};
 use crate::shapes::Loop;
 use lra_change::leave;
 use lra_domain::{Domain, Exactness};
@@ -161,7 +159,7 @@ fn turn_growing<'a, D: Domain>(
                 growing,
                 entered,
             };
-            Ok(Next::Again(Place::Growing(place), outcome))
+            place.again(alloc, outcome)
         }
         Entered::Anew(entered, value, flag) => {
             let place = GrowingPlace {
@@ -175,7 +173,7 @@ fn turn_growing<'a, D: Domain>(
                 value,
                 flag,
             };
-            Ok(Next::Opens(Place::Growing(place), body))
+            place.opens(alloc, body)
         }
     }
 }
@@ -223,12 +221,12 @@ fn turn_narrowing<'a, D: Domain>(
         Entered::Again(turn) => {
             let (entered, outcome) = turn.into_parts();
             let place = NarrowingPlace { narrowing, entered };
-            Ok(Next::Again(Place::Narrowing(place), outcome))
+            place.again(alloc, outcome)
         }
         Entered::Anew(entered, value, flag) => {
             let node = narrowing.the_loop.body;
             let place = NarrowingPlace { narrowing, entered };
-            Ok(Next::Opens(Place::Narrowing(place), Entering { node, value, flag }))
+            place.opens(alloc, Entering { node, value, flag })
         }
     }
 }
@@ -279,7 +277,8 @@ pub fn go_on_growing<'a, D: Domain>(
         IsGrowing D.meaning set place.entry whole part → IsMade D.meaning set part (seen outcome) memory.old →
         IfOk result (λ next. Leads D.meaning set whole next memory.new) }
     ensures falls { (set : Options) → place.entry.the_loop.options.now ≡ set → IfOk result (λ next.
-        next_left D.meaning (2 ^ 64) set next < place_left D.meaning (2 ^ 64) set (growing_place place.entry)) }
+        next_left D.meaning (2 ^ 64) set next < turns_left D.meaning (2 ^ 64) set place.entry.the_loop
+        (set.narrow + rounds_left (2 ^ 64) place.entry.growing.left (D.meaning.rank place.entry.growing.head))) }
 {
     let GrowingPlace {
         the_loop,
@@ -311,7 +310,8 @@ pub fn go_on_narrowing<'a, D: Domain>(
         IsNarrowing D.meaning set place.entry whole part → IsMade D.meaning set part (seen outcome) memory.old →
         IfOk result (λ next. Leads D.meaning set whole next memory.new) }
     ensures falls { (set : Options) → place.entry.narrowing.the_loop.options.now ≡ set → IfOk result (λ next.
-        next_left D.meaning (2 ^ 64) set next < place_left D.meaning (2 ^ 64) set (narrowing_place place.entry)) }
+        next_left D.meaning (2 ^ 64) set next
+        < turns_left D.meaning (2 ^ 64) set place.entry.narrowing.the_loop place.entry.narrowing.left) }
 {
     let NarrowingPlace { narrowing, entered } = place;
     let Narrowing {

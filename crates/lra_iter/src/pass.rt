@@ -54,7 +54,7 @@ fn open_tree<'a, D: Domain>(
     let Entering { node, value, flag } = tree;
     match Shape::of(options, node) {
         Shape::Leaf(leaf) => passed(pass_leaf(alloc, options, &leaf, value, flag)),
-        Shape::Row(row) => Ok(open_row(alloc, row, value, flag)),
+        Shape::Row(row) => open_row(alloc, row, value, flag),
         Shape::Choice(choice) => open_choice(alloc, choice, value, flag),
         Shape::Loop(the_loop) => open_loop(alloc, memory, the_loop, value, flag),
         Shape::Catch(catch) => {
@@ -73,7 +73,8 @@ fn go_on<'a, D: Domain>(
     outcome: Outcome<D>,
 ) -> Result<Next<'a, D, D::Head>, AllocError>
     requires { (set : Options) × (whole : Due D) × (part : Due D) × MayBePassed D.meaning set whole ×
-        IsOpen D.meaning set place whole part × IsMade D.meaning set part (seen outcome) memory.old }
+        IsOpen D.meaning set place whole part × IsMade D.meaning set part (seen outcome) memory.old ×
+        (1 ≤ set.parts) }
     ensures leads { (set : Options) (whole part : Due D) → MayBePassed D.meaning set whole →
         IsOpen D.meaning set place.entry whole part → IsMade D.meaning set part (seen outcome) memory.old →
         IfOk result (λ next. Leads D.meaning set whole next memory.new) }
@@ -82,12 +83,16 @@ fn go_on<'a, D: Domain>(
         < place_left D.meaning (2 ^ 64) set place.entry) }
 {
     match place {
-        Place::Row(row) => go_on_row(row, outcome),
+        Place::Row(row) => go_on_row(alloc, row, outcome),
         Place::Last(found) => passed(found.follow_with(outcome)),
         Place::Choice(choice) => Ok(go_on_choice(choice, outcome)),
         Place::Branch(branch) => passed(meet_again(branch, outcome)),
-        Place::Growing(growing) => go_on_growing(alloc, memory, growing, outcome),
-        Place::Narrowing(narrowing) => go_on_narrowing(alloc, memory, narrowing, outcome),
+        Place::Growing(growing) => {
+            go_on_growing(alloc, memory, Box::into_inner(growing), outcome)
+        }
+        Place::Narrowing(narrowing) => {
+            go_on_narrowing(alloc, memory, Box::into_inner(narrowing), outcome)
+        }
         Place::Catch(point, exit) => passed(catch_jumps(alloc, point, exit, outcome)),
     }
 }
@@ -149,7 +154,9 @@ fn take_step<'a, D: Domain>(
             Some(place) => goes(go_on(alloc, memory, place, outcome)),
             None => Ok(Step::Ended(outcome)),
         },
-        Next::Again(place, outcome) => goes(go_on(alloc, memory, place, outcome)),
+        Next::Again(place, outcome) => {
+            goes(go_on(alloc, memory, Box::into_inner(place), outcome))
+        }
         Next::Opens(place, tree) => goes(open_place(alloc, options, memory, places, place, tree)),
     }
 }

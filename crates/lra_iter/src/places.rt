@@ -1,7 +1,11 @@
 //! Where a pass is under way: the open places, from the outermost to the innermost, and what comes next. The pass goes
 //! along the tree by a list of these, and not by calls, so a tree may be as deep as memory allows.
 
-ghost use Rattle.std.specs.Prelude.{◌≡◌, ◌++◌, ◌∷◌, [], None, option_to_list, OnOk};
+ghost use Rattle.std.specs.Prelude.{◌≡◌, ◌++◌, ◌∷◌, [], None, option_to_list, Box, IfOk, OnOk};
+ghost use Rattle.std.specs.Global.{Global};
+ghost use Rattle.lra_iter.specs.declared.places.Next.TheVariants.{Again, Opens};
+ghost use Rattle.lra_iter.specs.declared.places.Place.TheVariants.{Growing as growing_place};
+ghost use Rattle.lra_iter.specs.declared.places.Place.TheVariants.{Narrowing as narrowing_place};
 
 use crate::heads::Growing;
 use crate::outcome::{Found, Outcome};
@@ -65,7 +69,8 @@ pub struct NarrowingPlace<'a, D> {
     pub entered: D,
 }
 
-/// A place where a tree is under way, and what is still to be done there.
+/// A place where a tree is under way, and what is still to be done there. What few of them have and is large is boxed,
+/// since places and what comes next are moved at each step.
 #[derive(Drop)]
 pub enum Place<'a, D, H> {
     Row(RowPlace<'a, D>),
@@ -73,8 +78,8 @@ pub enum Place<'a, D, H> {
     Last(Found<D>),
     Choice(ChoicePlace<'a, D>),
     Branch(BranchPlace<D>),
-    Growing(GrowingPlace<'a, D, H>),
-    Narrowing(NarrowingPlace<'a, D>),
+    Growing(Box<GrowingPlace<'a, D, H>>),
+    Narrowing(Box<NarrowingPlace<'a, D>>),
     /// Jumps of this kind come out at this point.
     Catch(usize, Exit),
 }
@@ -87,7 +92,7 @@ pub enum Next<'a, D, H> {
     /// A place opens, and this tree in it is to be passed.
     Opens(Place<'a, D, H>, Entering<'a, D>),
     /// So it is, but the tree was passed from the same value before: it gives this.
-    Again(Place<'a, D, H>, Outcome<D>),
+    Again(Box<Place<'a, D, H>>, Outcome<D>),
 }
 
 /// What a step leads to: the whole tree is passed, or this comes next.
@@ -95,6 +100,56 @@ pub enum Next<'a, D, H> {
 pub enum Step<'a, D, H> {
     Ended(Outcome<D>),
     Goes(Next<'a, D, H>),
+}
+
+impl<'a, D: Drop, H: Drop> GrowingPlace<'a, D, H> {
+    /// The place opens, and this tree in it is to be passed.
+    pub fn opens(self, alloc: Global, tree: Entering<'a, D>) -> Result<Next<'a, D, H>, AllocError>
+        ensures { IfOk result (λ n. (b : Box (GrowingPlace D H) Global) × (n ≡ Opens (growing_place b) tree.entry) ×
+            (b.value ≡ self.entry)) }
+    {
+        let place = Box::new(alloc, self)?;
+        Ok(Next::Opens(Place::Growing(place), tree))
+    }
+
+    /// So it is, but the tree gives this again.
+    pub fn again(self, alloc: Global, outcome: Outcome<D>) -> Result<Next<'a, D, H>, AllocError>
+        ensures { IfOk result (λ n. (b : Box (GrowingPlace D H) Global) × (p : Box (Place D H) Global) ×
+            (n ≡ Again p outcome) × (p.value ≡ growing_place b) × (b.value ≡ self.entry)) }
+    {
+        let place = Box::new(alloc, self)?;
+        let boxed = Box::new(alloc, Place::Growing(place))?;
+        Ok(Next::Again(boxed, outcome))
+    }
+}
+
+impl<'a, D: Drop> NarrowingPlace<'a, D> {
+    /// The place opens, and this tree in it is to be passed.
+    pub fn opens<H: Drop>(
+        self,
+        alloc: Global,
+        tree: Entering<'a, D>,
+    ) -> Result<Next<'a, D, H>, AllocError>
+        ensures { IfOk result (λ n. (b : Box (NarrowingPlace D) Global) × (n ≡ Opens (narrowing_place b) tree.entry) ×
+            (b.value ≡ self.entry)) }
+    {
+        let place = Box::new(alloc, self)?;
+        Ok(Next::Opens(Place::Narrowing(place), tree))
+    }
+
+    /// So it is, but the tree gives this again.
+    pub fn again<H: Drop>(
+        self,
+        alloc: Global,
+        outcome: Outcome<D>,
+    ) -> Result<Next<'a, D, H>, AllocError>
+        ensures { IfOk result (λ n. (b : Box (NarrowingPlace D) Global) × (p : Box (Place D H) Global) ×
+            (n ≡ Again p outcome) × (p.value ≡ narrowing_place b) × (b.value ≡ self.entry)) }
+    {
+        let place = Box::new(alloc, self)?;
+        let boxed = Box::new(alloc, Place::Narrowing(place))?;
+        Ok(Next::Again(boxed, outcome))
+    }
 }
 
 /// The open places, from the outermost to the innermost.

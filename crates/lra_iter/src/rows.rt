@@ -1,79 +1,175 @@
 //! Trees one after the other.
 
-ghost use Rattle.std.specs.Prelude.{◌≡◌, ◌<◌, ℕ, map, IfOk};
+ghost use Rattle.std.specs.Prelude.{◌≡◌, ◌<◌, ◌≤◌, ◌^◌, ◌∷◌, [], ℕ, List, map, IfOk};
 ghost use Rattle.lra_base.specs.declared.options.Options.{Options};
+ghost use Rattle.lra_operations.specs.declared.graph.Node.{Node};
 ghost use Rattle.lra_operations.specs.GraphViews.{node_view, row};
 ghost use Rattle.lra_iter.specs.declared.memory.Memory.{Memory};
 ghost use Rattle.lra_iter.specs.declared.places.Place.TheVariants.{Row as row_place};
-ghost use Rattle.lra_iter.specs.Outcome.{seen};
+ghost use Rattle.lra_iter.specs.Fits.{TreeFits};
+ghost use Rattle.lra_iter.specs.Outcome.{seen, AreInTurn, IsPassed};
 ghost use Rattle.lra_iter.specs.Open.{Due, IsMade, IsRow, Leads, MayBePassed, RowLoop};
+ghost use Rattle.lra_iter.specs.Shapes.{leaf_view};
 ghost use Rattle.lra_iter.specs.Steps.{most_rounds, next_left, place_left, row_steps};
 
+use crate::leaves::pass_leaf;
 use crate::outcome::Outcome;
 use crate::places::{Entering, Next, Place, RowPlace};
-use crate::shapes::Row;
+use crate::shapes::{Leaf, Row, Shape};
+use lra_base::Options;
 use lra_domain::Domain;
+use lra_operations::Node;
 use std::alloc::{AllocError, Global};
 
-/// The first of the trees is next, or the last one where it is the only one: what was found before it stays at its
-/// place.
-fn next_of_row<'a, D: Domain>(the_row: Row<'a>, so_far: Outcome<D>) -> Next<'a, D, D::Head>
-    ensures leads { (set : Options) (whole : Due D) (memory : Memory D) → the_row.entry.options.now ≡ set →
+/// What the pass of a tree with no tree in it finds comes behind what was found before it.
+fn pass_on<D: Domain>(
+    alloc: Global,
+    options: &Options,
+    leaf: &Leaf<'_>,
+    so_far: Outcome<D>,
+) -> Result<Outcome<D>, AllocError>
+    requires parts { 1 ≤ options.now.parts }
+    requires few { D.meaning.dims so_far.normal ≤ 2 ^ 30 }
+    requires fits { TreeFits (leaf_view leaf.now) (D.meaning.dims so_far.normal) }
+    ensures { IfOk result (λ r. (part : Outcome D) ×
+        IsPassed D.meaning options.now (leaf_view leaf.now) so_far.flag so_far.normal (seen part) ×
+        AreInTurn so_far.found part.found r.found × (r.normal ≡ part.normal) × (r.flag ≡ part.flag)) }
+{
+    let Outcome {
+        found,
+        normal,
+        flag,
+    } = so_far;
+    let part = pass_leaf(alloc, options, leaf, normal, flag)?;
+    found.follow_with(part)
+}
+
+/// The first of the trees behind which these stand is next: what was found before it stays at its place.
+fn open_first<'a, D: Domain>(
+    behind: Row<'a>,
+    node: &'a Node,
+    so_far: Outcome<D>,
+) -> Next<'a, D, D::Head>
+    ensures leads { (set : Options) (whole : Due D) (memory : Memory D) (gs : List Node) →
+        behind.entry.options.now ≡ set → gs ≡ node.now ∷ behind.entry.trees.now →
         MayBePassed D.meaning set whole → RowLoop D.meaning set whole.tree whole.flag whole.value
-        (row (map node_view the_row.entry.trees.now) (node_view the_row.entry.last.now)) so_far.found
+        (row (map node_view gs) (node_view behind.entry.last.now)) so_far.found
         so_far.normal so_far.flag whole.memory memory → Leads D.meaning set whole result memory }
-    ensures steps { (b : ℕ) (set : Options) → next_left D.meaning b set result
-        ≡ row_steps (most_rounds b set) the_row.entry.trees.now the_row.entry.last.now }
+    ensures steps { (b : ℕ) (set : Options) (gs : List Node) → gs ≡ node.now ∷ behind.entry.trees.now →
+        next_left D.meaning b set result ≡ row_steps (most_rounds b set) gs behind.entry.last.now }
 {
     let Outcome {
         found,
         normal: value,
         flag,
     } = so_far;
+    let place = Place::Row(RowPlace { behind, found });
+    Next::Opens(place, Entering { node, value, flag })
+}
+
+/// The last of the trees is passed, or next.
+fn next_of_last<'a, D: Domain>(
+    alloc: Global,
+    options: &'a Options,
+    node: &'a Node,
+    so_far: Outcome<D>,
+) -> Result<Next<'a, D, D::Head>, AllocError>
+    requires parts { 1 ≤ options.now.parts }
+    requires few { D.meaning.dims so_far.normal ≤ 2 ^ 30 }
+    requires fits { TreeFits (node_view node.now) (D.meaning.dims so_far.normal) }
+    ensures leads { (set : Options) (whole : Due D) (memory : Memory D) → options.now ≡ set →
+        MayBePassed D.meaning set whole → RowLoop D.meaning set whole.tree whole.flag whole.value
+        (node_view node.now) so_far.found so_far.normal so_far.flag whole.memory memory →
+        IfOk result (λ next. Leads D.meaning set whole next memory) }
+    ensures falls { (b : ℕ) (set : Options) → IfOk result (λ next. next_left D.meaning b set next
+        ≤ row_steps (most_rounds b set) [] node.now) }
+{
+    if let Shape::Leaf(leaf) = Shape::of(options, node) {
+        let outcome = pass_on(alloc, options, &leaf, so_far)?;
+        return Ok(Next::Passed(outcome));
+    }
+    let Outcome {
+        found,
+        normal: value,
+        flag,
+    } = so_far;
+    Ok(Next::Opens(Place::Last(found), Entering { node, value, flag }))
+}
+
+/// Trees with none in them are passed, up to the first that isn't such: that one is next.
+fn next_of_row<'a, D: Domain>(
+    alloc: Global,
+    the_row: Row<'a>,
+    begun: Outcome<D>,
+) -> Result<Next<'a, D, D::Head>, AllocError>
+    requires parts { 1 ≤ the_row.options.now.parts }
+    requires way { (whole : Due D) × (memory : Memory D) × MayBePassed D.meaning the_row.options.now whole ×
+        RowLoop D.meaning the_row.options.now whole.tree whole.flag whole.value
+        (row (map node_view the_row.trees.now) (node_view the_row.last.now)) begun.found begun.normal begun.flag
+        whole.memory memory }
+    ensures leads { (set : Options) (whole : Due D) (memory : Memory D) → the_row.entry.options.now ≡ set →
+        MayBePassed D.meaning set whole → RowLoop D.meaning set whole.tree whole.flag whole.value
+        (row (map node_view the_row.entry.trees.now) (node_view the_row.entry.last.now)) begun.found
+        begun.normal begun.flag whole.memory memory → IfOk result (λ next. Leads D.meaning set whole next memory) }
+    ensures falls { (b : ℕ) (set : Options) → IfOk result (λ next. next_left D.meaning b set next
+        ≤ row_steps (most_rounds b set) the_row.entry.trees.now the_row.entry.last.now) }
+{
     let Row {
         options,
         trees,
         last,
     } = the_row;
-    match trees.split_first() {
-        Some((node, trees)) => {
-            let behind = Row {
-                options,
-                trees,
-                last,
-            };
-            let place = Place::Row(RowPlace { behind, found });
-            Next::Opens(place, Entering { node, value, flag })
-        }
-        None => {
-            let node = last;
-            Next::Opens(Place::Last(found), Entering { node, value, flag })
-        }
+    let mut so_far = begun;
+    let mut left = trees;
+    'leaves: while let Some((node, behind)) = left.split_first() {
+        let Shape::Leaf(leaf) = Shape::of(options, node) else {
+            let trees = behind;
+            return Ok(open_first(
+                Row {
+                    options,
+                    trees,
+                    last,
+                },
+                node,
+                so_far,
+            ));
+        };
+        so_far = pass_on(alloc, options, &leaf, so_far)?;
+        left = behind;
     }
+    next_of_last(alloc, options, last, so_far)
 }
 
-/// The first of the trees is next.
+/// The first of the trees in which others stand is next, behind those before it.
 pub fn open_row<'a, D: Domain>(
     alloc: Global,
     the_row: Row<'a>,
     value: D,
     flag: Option<usize>,
-) -> Next<'a, D, D::Head>
+) -> Result<Next<'a, D, D::Head>, AllocError>
+    requires parts { 1 ≤ the_row.options.now.parts }
+    requires way { (whole : Due D) × MayBePassed D.meaning the_row.options.now whole ×
+        (whole.tree ≡ row (map node_view the_row.trees.now) (node_view the_row.last.now)) ×
+        (whole.value ≡ value) × (whole.flag ≡ flag) }
     ensures leads { (set : Options) (whole : Due D) → the_row.entry.options.now ≡ set →
         whole.tree ≡ row (map node_view the_row.entry.trees.now) (node_view the_row.entry.last.now) →
         whole.value ≡ value → whole.flag ≡ flag → MayBePassed D.meaning set whole →
-        Leads D.meaning set whole result whole.memory }
-    ensures steps { (b : ℕ) (set : Options) → next_left D.meaning b set result
-        ≡ row_steps (most_rounds b set) the_row.entry.trees.now the_row.entry.last.now }
+        IfOk result (λ next. Leads D.meaning set whole next whole.memory) }
+    ensures falls { (b : ℕ) (set : Options) → IfOk result (λ next. next_left D.meaning b set next
+        ≤ row_steps (most_rounds b set) the_row.entry.trees.now the_row.entry.last.now) }
 {
-    next_of_row(the_row, Outcome::nothing_yet(alloc, value, flag))
+    next_of_row(alloc, the_row, Outcome::nothing_yet(alloc, value, flag))
 }
 
 /// What the tree under way found comes behind what was found before it, and the next one begins with its end.
 pub fn go_on_row<'a, D: Domain>(
+    alloc: Global,
     place: RowPlace<'a, D>,
     outcome: Outcome<D>,
 ) -> Result<Next<'a, D, D::Head>, AllocError>
+    requires { (set : Options) × (whole : Due D) × (part : Due D) × (memory : Memory D) × (1 ≤ set.parts) ×
+        MayBePassed D.meaning set whole × IsRow D.meaning set place whole part ×
+        IsMade D.meaning set part (seen outcome) memory }
     ensures leads { (set : Options) (whole part : Due D) (memory : Memory D) → MayBePassed D.meaning set whole →
         IsRow D.meaning set place.entry whole part → IsMade D.meaning set part (seen outcome) memory →
         IfOk result (λ next. Leads D.meaning set whole next memory) }
@@ -82,5 +178,5 @@ pub fn go_on_row<'a, D: Domain>(
 {
     let RowPlace { behind, found } = place;
     let so_far = found.follow_with(outcome)?;
-    Ok(next_of_row(behind, so_far))
+    next_of_row(alloc, behind, so_far)
 }

@@ -1,10 +1,17 @@
 -- Goals of `turn_growing`: once round a loop whose head grows, from its value.
-use Rattle.std.proofs.Common.{subst}
+use Rattle.std.proofs.Common.{refl, subst}
 use Rattle.lra_program.specs.ProgramViews.{cond_view}
 use Rattle.lra_operations.specs.GraphViews.{node_view}
+use Rattle.lra_iter.specs.declared.heads.Growing.{Growing}
+use Rattle.lra_iter.specs.declared.places.GrowingPlace.{GrowingPlace}
+use Rattle.lra_iter.specs.declared.shapes.Loop.{Loop}
 use Rattle.lra_iter.specs.Outcome.{IsEntered}
 use Rattle.lra_iter.proofs.LoopPlaces.{growing_few, growing_kept, growing_again, growing_opens}
+use Rattle.lra_iter.proofs.BoxedPlaces.{growing_again_less, growing_leads, growing_less, growing_made}
 use Rattle.lra_iter.proofs.loops.turn_growing.Goals as goal
+
+abbrev place_of : {V H : Type 0} → Loop → V → Growing V H → V → GrowingPlace V H
+place_of l first growing entered = record { the_loop = l; first = first; growing = growing; entered = entered }
 
 pub enter-requires : goal.enter-requires
 enter-requires g c =
@@ -23,8 +30,15 @@ returns-in-Again-clause-leads g c set whole memory may head =
     let entered = subst (λ r. IsEntered m l.options.now l.point l.base (cond_view l.condition.now)
     (node_view l.body.now) growing.flag growing.value r) c.in-Again.is c.in_ok-turn.ensures in
     let parts = c.into_parts-entered in
-    growing_again m set l whole c.args.first growing c.args.kept memory may head c.in-Again.turn parts.result.0 parts.result.1
-    entered parts.ensures.entered parts.ensures.outcome
+    growing_made m set c.again.result (place_of l c.args.first growing parts.result.0) parts.result.1 whole memory
+    c.again.ensures (growing_again m set l whole c.args.first growing c.args.kept memory may head c.in-Again.turn
+    parts.result.0 parts.result.1 entered parts.ensures.entered parts.ensures.outcome)
+
+pub returns-in-Again-clause-steps : goal.returns-in-Again-clause-steps
+returns-in-Again-clause-steps g c b set =
+    let parts = c.into_parts-entered in
+    growing_again_less g.D.Domain.meaning set c.again.result
+    (place_of c.args.the_loop c.args.first c.args.growing parts.result.0) b parts.result.1 c.again.ensures
 
 pub returns-in-Anew-clause-leads : goal.returns-in-Anew-clause-leads
 returns-in-Anew-clause-leads g c set whole memory may head =
@@ -33,5 +47,13 @@ returns-in-Anew-clause-leads g c set whole memory may head =
     let growing = c.args.growing in
     let entered = subst (λ r. IsEntered m l.options.now l.point l.base (cond_view l.condition.now)
     (node_view l.body.now) growing.flag growing.value r) c.in-Anew.is c.in_ok-turn.ensures in
-    growing_opens m set l whole c.args.first growing c.args.kept memory may head c.in-Anew.value c.in-Anew.flag
-    c.in-Anew.entered entered
+    growing_leads m set c.opens.result (place_of l c.args.first growing c.in-Anew.entered)
+    (record { node = l.body; value = c.in-Anew.value; flag = c.in-Anew.flag }) whole memory c.opens.ensures
+    (growing_opens m set l whole c.args.first growing c.args.kept memory may head c.in-Anew.value c.in-Anew.flag
+    c.in-Anew.entered entered)
+
+pub returns-in-Anew-clause-steps : goal.returns-in-Anew-clause-steps
+returns-in-Anew-clause-steps g c b set =
+    let l = c.args.the_loop in
+    growing_less g.D.Domain.meaning set c.opens.result (place_of l c.args.first c.args.growing c.in-Anew.entered) b
+    (record { node = l.body; value = c.in-Anew.value; flag = c.in-Anew.flag }) refl c.opens.ensures

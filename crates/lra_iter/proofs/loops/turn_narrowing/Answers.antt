@@ -1,9 +1,10 @@
 -- Goals of `turn_narrowing`: once round a loop that is narrowed, from the value at its head.
-use Rattle.std.proofs.Common.{subst}
+use Rattle.std.proofs.Common.{refl, subst}
 use Rattle.lra_program.specs.ProgramViews.{cond_view}
 use Rattle.lra_operations.specs.GraphViews.{node_view}
 use Rattle.lra_iter.specs.Outcome.{IsEntered}
 use Rattle.lra_iter.proofs.LoopPlaces.{waiting_few, waiting_kept, narrowing_again, narrowing_opens}
+use Rattle.lra_iter.proofs.BoxedPlaces.{narrowing_again_less, narrowing_leads, narrowing_less, narrowing_made}
 use Rattle.lra_iter.proofs.loops.turn_narrowing.Goals as goal
 
 pub enter-requires : goal.enter-requires
@@ -23,8 +24,15 @@ returns-in-Again-clause-leads g c set whole memory may waiting =
     let entered = subst (λ r. IsEntered m l.options.now l.point l.base (cond_view l.condition.now)
     (node_view l.body.now) c.args.flag n.top r) c.in-Again.is c.in_ok-turn.ensures in
     let parts = c.into_parts-entered in
-    narrowing_again m set n whole c.args.flag memory may waiting c.in-Again.turn parts.result.0 parts.result.1
-    entered parts.ensures.entered parts.ensures.outcome
+    narrowing_made m set c.again.result (record { narrowing = n; entered = parts.result.0 }) parts.result.1 whole memory
+    c.again.ensures (narrowing_again m set n whole c.args.flag memory may waiting c.in-Again.turn parts.result.0
+    parts.result.1 entered parts.ensures.entered parts.ensures.outcome)
+
+pub returns-in-Again-clause-steps : goal.returns-in-Again-clause-steps
+returns-in-Again-clause-steps g c b set =
+    let parts = c.into_parts-entered in
+    narrowing_again_less g.D.Domain.meaning set c.again.result
+    (record { narrowing = c.args.narrowing; entered = parts.result.0 }) b parts.result.1 c.again.ensures
 
 pub returns-in-Anew-clause-leads : goal.returns-in-Anew-clause-leads
 returns-in-Anew-clause-leads g c set whole memory may waiting =
@@ -33,5 +41,12 @@ returns-in-Anew-clause-leads g c set whole memory may waiting =
     let l = n.the_loop in
     let entered = subst (λ r. IsEntered m l.options.now l.point l.base (cond_view l.condition.now)
     (node_view l.body.now) c.args.flag n.top r) c.in-Anew.is c.in_ok-turn.ensures in
-    narrowing_opens m set n whole c.args.flag memory may waiting c.in-Anew.value c.in-Anew.flag
-    c.in-Anew.entered entered
+    narrowing_leads m set c.opens.result (record { narrowing = n; entered = c.in-Anew.entered })
+    (record { node = l.body; value = c.in-Anew.value; flag = c.in-Anew.flag }) whole memory c.opens.ensures
+    (narrowing_opens m set n whole c.args.flag memory may waiting c.in-Anew.value c.in-Anew.flag c.in-Anew.entered entered)
+
+pub returns-in-Anew-clause-steps : goal.returns-in-Anew-clause-steps
+returns-in-Anew-clause-steps g c b set =
+    let n = c.args.narrowing in
+    narrowing_less g.D.Domain.meaning set c.opens.result (record { narrowing = n; entered = c.in-Anew.entered }) b
+    (record { node = n.the_loop.body; value = c.in-Anew.value; flag = c.in-Anew.flag }) refl c.opens.ensures

@@ -1,17 +1,25 @@
 -- Goals of `go_on`: the next step at a place, behind what the tree under way there gave.
-use Rattle.std.proofs.Common.{◌≡◌, ◌<◌, ◌^◌, sym, subst, arith}
+use Rattle.std.proofs.Common.{◌≡◌, ◌+◌, ◌<◌, ◌^◌, sym, subst, arith}
 use Rattle.std.specs.Prelude.{IfOk}
 use Rattle.std.proofs.lemmas.Result.{IfOk-weaker}
 use Rattle.lra_operations.specs.GraphViews.{exit_view}
-use Rattle.lra_iter.specs.Open.{IsMade, IsOpen}
+use Rattle.lra_iter.specs.declared.places.GrowingPlace.{GrowingPlace}
+use Rattle.lra_iter.specs.declared.places.NarrowingPlace.{NarrowingPlace}
+use Rattle.lra_iter.specs.Open.{IsGrowing, IsMade, IsNarrowing, IsOpen}
 use Rattle.lra_iter.specs.Outcome.{seen, AreInTurn, AreMet, Catches}
-use Rattle.lra_iter.specs.Steps.{next_left, place_left}
+use Rattle.lra_iter.specs.Steps.{next_left, place_left, rounds_left, turns_left}
 use Rattle.lra_iter.proofs.OpenPlaces.{branches_made, branches_meet, catch_made, jumps_have, last_made}
 use Rattle.lra_iter.proofs.PassSteps.{if_both}
 use Rattle.lra_iter.proofs.TurnSteps.{ends_less}
 use Rattle.lra_iter.proofs.pass.go_on.Goals as goal
 
 -- rows ----------------------------------------------------------------------------------------------------------------
+
+pub go_on_row-requires : goal.go_on_row-requires
+go_on_row-requires g c =
+    let given = c.requires in
+    let here = subst (λ p. IsOpen g.D.Domain.meaning given.0 p given.1 given.2) c.in-Row.is given.4 in
+    (given.0, given.1, given.2, c.args.memory.now, given.6, given.3, here, given.5)
 
 pub returns-in-Row-clause-leads : goal.returns-in-Row-clause-leads
 returns-in-Row-clause-leads g c set whole part may owed made =
@@ -82,39 +90,60 @@ returns-in-Branch-clause-falls g c set whole part owed =
 
 pub go_on_growing-requires : goal.go_on_growing-requires
 go_on_growing-requires g c =
+    let m = g.D.Domain.meaning in
     let given = c.requires in
-    let here = subst (λ p. IsOpen g.D.Domain.meaning given.0 p given.1 given.2) c.in-Growing.is given.4 in
-    (given.0, given.1, given.2, given.3, here, given.5)
+    let here = subst (λ p. IsOpen m given.0 p given.1 given.2) c.in-Growing.is given.4 in
+    (given.0, given.1, given.2, given.3, subst (λ x. IsGrowing m given.0 x given.1 given.2) (sym c.into_inner.ensures) here, given.5)
 
 pub returns-in-Growing-clause-leads : goal.returns-in-Growing-clause-leads
 returns-in-Growing-clause-leads g c set whole part may owed made =
-    let here = subst (λ p. IsOpen g.D.Domain.meaning set p whole part) c.in-Growing.is owed in
-    c.go_on_growing.ensures.leads set whole part may here made
+    let m = g.D.Domain.meaning in
+    let here = subst (λ p. IsOpen m set p whole part) c.in-Growing.is owed in
+    c.go_on_growing.ensures.leads set whole part may
+    (subst (λ x. IsGrowing m set x whole part) (sym c.into_inner.ensures) here) made
 
 pub returns-in-Growing-clause-falls : goal.returns-in-Growing-clause-falls
 returns-in-Growing-clause-falls g c set whole part owed =
     let m = g.D.Domain.meaning in
     let here = subst (λ p. IsOpen m set p whole part) c.in-Growing.is owed in
+    let inside = subst (λ x. IsGrowing m set x whole part) (sym c.into_inner.ensures) here in
+    let less = subst (λ (x : GrowingPlace _ _). IfOk c.go_on_growing.result (λ n. next_left m (2 ^ 64) set n <
+    turns_left m (2 ^ 64) set x.the_loop (set.narrow + rounds_left (2 ^ 64) x.growing.left (m.rank x.growing.head))))
+    c.into_inner.ensures (c.go_on_growing.ensures.falls set inside.head.loop.options) in
     subst (λ p. IfOk c.go_on_growing.result (λ n. next_left m (2 ^ 64) set n < place_left m (2 ^ 64) set p))
-    (sym c.in-Growing.is) (c.go_on_growing.ensures.falls set here.head.loop.options)
+    (sym c.in-Growing.is) less
 
 pub go_on_narrowing-requires : goal.go_on_narrowing-requires
 go_on_narrowing-requires g c =
+    let m = g.D.Domain.meaning in
     let given = c.requires in
-    let here = subst (λ p. IsOpen g.D.Domain.meaning given.0 p given.1 given.2) c.in-Narrowing.is given.4 in
-    (given.0, given.1, given.2, given.3, here, given.5)
+    let here = subst (λ p. IsOpen m given.0 p given.1 given.2) c.in-Narrowing.is given.4 in (
+      given.0,
+      given.1,
+      given.2,
+      given.3,
+      subst (λ x. IsNarrowing m given.0 x given.1 given.2)
+          (sym c.into_inner-in-Narrowing.ensures) here,
+      given.5,
+    )
 
 pub returns-in-Narrowing-clause-leads : goal.returns-in-Narrowing-clause-leads
 returns-in-Narrowing-clause-leads g c set whole part may owed made =
-    let here = subst (λ p. IsOpen g.D.Domain.meaning set p whole part) c.in-Narrowing.is owed in
-    c.go_on_narrowing.ensures.leads set whole part may here made
+    let m = g.D.Domain.meaning in
+    let here = subst (λ p. IsOpen m set p whole part) c.in-Narrowing.is owed in
+    c.go_on_narrowing.ensures.leads set whole part may
+    (subst (λ x. IsNarrowing m set x whole part) (sym c.into_inner-in-Narrowing.ensures) here) made
 
 pub returns-in-Narrowing-clause-falls : goal.returns-in-Narrowing-clause-falls
 returns-in-Narrowing-clause-falls g c set whole part owed =
     let m = g.D.Domain.meaning in
     let here = subst (λ p. IsOpen m set p whole part) c.in-Narrowing.is owed in
+    let inside = subst (λ x. IsNarrowing m set x whole part) (sym c.into_inner-in-Narrowing.ensures) here in
+    let less = subst (λ (x : NarrowingPlace _). IfOk c.go_on_narrowing.result (λ n. next_left m (2 ^ 64) set n <
+    turns_left m (2 ^ 64) set x.narrowing.the_loop x.narrowing.left))
+    c.into_inner-in-Narrowing.ensures (c.go_on_narrowing.ensures.falls set inside.waiting.loop.options) in
     subst (λ p. IfOk c.go_on_narrowing.result (λ n. next_left m (2 ^ 64) set n < place_left m (2 ^ 64) set p))
-    (sym c.in-Narrowing.is) (c.go_on_narrowing.ensures.falls set here.waiting.loop.options)
+    (sym c.in-Narrowing.is) less
 
 -- catches -------------------------------------------------------------------------------------------------------------
 

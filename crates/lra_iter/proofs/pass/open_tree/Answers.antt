@@ -1,15 +1,17 @@
 -- Goals of `open_tree`: the first step into a tree.
-use Rattle.std.proofs.Common.{◌<◌, ◌^◌, refl, sym, subst, arith}
+use Rattle.std.proofs.Common.{◌<◌, ◌≤◌, ◌^◌, refl, sym, subst, arith}
 use Rattle.std.specs.Prelude.{IfOk}
+use Rattle.lra_base.specs.declared.options.Options.{Options}
 use Rattle.lra_iter.specs.declared.shapes.Shape.{Shape}
 use Rattle.lra_iter.specs.declared.shapes.Shape.TheVariants.{Leaf, Row, Choice, Loop, Catch}
 use Rattle.lra_iter.specs.Fits.{TreeFits}
 use Rattle.std.proofs.lemmas.Result.{IfOk-weaker}
-use Rattle.lra_iter.specs.Open.{due, IsMade}
+use Rattle.lra_iter.specs.Open.{due, IsMade, MayBePassed}
 use Rattle.lra_iter.specs.Outcome.{seen, IsPassed}
 use Rattle.lra_iter.specs.Shapes.{leaf_view, IsShape}
 use Rattle.lra_iter.specs.Steps.{most_rounds, next_left, tree_steps}
 use Rattle.lra_iter.proofs.OpenPlaces.{catch_leads, leaf_made}
+use Rattle.lra_iter.proofs.RowLeaves.{row_less}
 use Rattle.lra_iter.proofs.TurnSteps.{choice_less, ends_less}
 use Rattle.lra_iter.proofs.pass.open_tree.Goals as goal
 
@@ -50,6 +52,22 @@ returns-in-Leaf-clause-falls g c =
 
 -- trees in a row ------------------------------------------------------------------------------------------------------
 
+pub open_row-requires : goal.open_row-requires
+open_row-requires g c =
+    let tree = c.args.tree in
+    let shape : IsShape c.args.options.now tree.node.now (Row c.in-Row.row) =
+    subst (λ (x : Shape). IsShape c.args.options.now tree.node.now x) c.in-Row.is c.of.ensures in
+    record {
+      parts = subst (λ (s : Options). 1 ≤ s.parts) (sym shape.2) c.requires.parts;
+      way = (
+        due tree c.args.memory.now,
+        subst (λ (s : Options). MayBePassed g.D.Domain.meaning s (due tree c.args.memory.now)) (sym shape.2) c.requires.may,
+        shape.0,
+        refl,
+        refl,
+      );
+    }
+
 pub returns-in-Row-clause-leads : goal.returns-in-Row-clause-leads
 returns-in-Row-clause-leads g c =
     let tree = c.args.tree in
@@ -59,12 +77,13 @@ returns-in-Row-clause-leads g c =
 
 pub returns-in-Row-clause-falls : goal.returns-in-Row-clause-falls
 returns-in-Row-clause-falls g c =
+    let m = g.D.Domain.meaning in
+    let set = c.args.options.now in
     let tree = c.args.tree in
-    let shape : IsShape c.args.options.now tree.node.now (Row c.in-Row.row) =
-    subst (λ (x : Shape). IsShape c.args.options.now tree.node.now x) c.in-Row.is c.of.ensures in
-    let all = shape.1 (most_rounds (2 ^ 64) c.args.options.now) in
-    let left = c.open_row.ensures.steps (2 ^ 64) c.args.options.now in
-    omega (arith, all, left)
+    let shape : IsShape set tree.node.now (Row c.in-Row.row) =
+    subst (λ (x : Shape). IsShape set tree.node.now x) c.in-Row.is c.of.ensures in
+    row_less m set c.open_row.result (2 ^ 64) _ (tree_steps m (2 ^ 64) set tree.node.now)
+    (shape.1 (most_rounds (2 ^ 64) set)) (c.open_row.ensures.falls (2 ^ 64) set)
 
 -- a choice ------------------------------------------------------------------------------------------------------------
 

@@ -1,7 +1,7 @@
 -- Goals of `take_step`: one step of a pass.
-use Rattle.std.proofs.Common.{◌≡◌, ◌<◌, ◌^◌, ◌++◌, ◌∷◌, []}
+use Rattle.std.proofs.Common.{◌≡◌, ◌<◌, ◌^◌, ◌++◌, ◌∷◌, [], subst, sym}
 use Rattle.lra_iter.specs.declared.places.Next.TheVariants.{Again, Opens}
-use Rattle.lra_iter.specs.Open.{due, Leads, Reaches}
+use Rattle.lra_iter.specs.Open.{due, IsOpen, Leads, Reaches}
 use Rattle.lra_iter.specs.Steps.{all_left, next_left, place_left, tree_steps, TakesFewer}
 use Rattle.lra_iter.proofs.OpenPlaces.{all_made, leads_on, popped, pushed, steps_both, steps_on, went_on}
 use Rattle.lra_iter.proofs.TurnSteps.{again_less, popped_less, pushed_less}
@@ -22,7 +22,7 @@ go_on-requires g c =
     let behind = popped g.D.Domain.meaning c.args.options.now c.args.places.now.open.items whole c.args.next c.args.memory.now
     c.requires.way.1 c.pop.new.self.open.items c.pop.result c.in-Some.place c.in-Passed.outcome c.in-Passed.is
     c.pop.ensures.left c.in-Some.is in
-    (c.args.options.now, behind.0, behind.1, behind.3, behind.4, behind.5)
+    (c.args.options.now, behind.0, behind.1, behind.3, behind.4, behind.5, c.requires.parts)
 
 pub returns-in-Some-clause-leads : goal.returns-in-Some-clause-leads
 returns-in-Some-clause-leads g c whole way =
@@ -53,10 +53,19 @@ returns-in-Some-clause-falls g c whole way =
 
 pub go_on-requires-in-Again : goal.go_on-requires-in-Again
 go_on-requires-in-Again g c =
+    let m = g.D.Domain.meaning in
+    let set = c.args.options.now in
     let way = c.requires.way.1 in
-    let here = leads_on g.D.Domain.meaning c.args.options.now c.args.places.now.open.items c.requires.way.0 c.args.next
-    c.args.memory.now way (Again c.in-Again.place c.in-Again.outcome) c.in-Again.is in
-    (c.args.options.now, way.part, here.0, way.begun, here.1, here.2)
+    let here = leads_on m set c.args.places.now.open.items c.requires.way.0 c.args.next
+    c.args.memory.now way (Again c.in-Again.place c.in-Again.outcome) c.in-Again.is in (
+      set,
+      way.part,
+      here.0,
+      way.begun,
+      subst (λ p. IsOpen m set p way.part here.0) (sym c.into_inner.ensures) here.1,
+      here.2,
+      c.requires.parts,
+    )
 
 pub returns-in-Again-clause-leads : goal.returns-in-Again-clause-leads
 returns-in-Again-clause-leads g c whole way =
@@ -69,7 +78,8 @@ returns-in-Again-clause-leads g c whole way =
     steps_on c.go_on-in-Again.result c.goes-in-Again.result (λ n. Leads m set way.part n new)
     (λ s. Reaches m set all whole s new) c.goes-in-Again.ensures
     (λ n leads. went_on m set all whole way.part n new way.owed way.begun leads)
-    (c.go_on-in-Again.ensures.leads set way.part here.0 way.begun here.1 here.2)
+    (c.go_on-in-Again.ensures.leads set way.part here.0 way.begun
+    (subst (λ p. IsOpen m set p way.part here.0) (sym c.into_inner.ensures) here.1) here.2)
 
 pub returns-in-Again-clause-falls : goal.returns-in-Again-clause-falls
 returns-in-Again-clause-falls g c whole way =
@@ -79,10 +89,12 @@ returns-in-Again-clause-falls g c whole way =
     let here = leads_on m set all whole c.args.next c.args.memory.now way (Again c.in-Again.place c.in-Again.outcome)
     c.in-Again.is in
     steps_on c.go_on-in-Again.result c.goes-in-Again.result
-    (λ n. next_left m (2 ^ 64) set n < place_left m (2 ^ 64) set c.in-Again.place)
+    (λ n. next_left m (2 ^ 64) set n < place_left m (2 ^ 64) set c.into_inner.result)
     (λ s. TakesFewer m (2 ^ 64) set all s (all_left m (2 ^ 64) set all c.args.next)) c.goes-in-Again.ensures
-    (λ n less. again_less m (2 ^ 64) set all c.in-Again.place c.args.next n c.in-Again.outcome c.in-Again.is less)
-    (c.go_on-in-Again.ensures.falls set way.part here.0 here.1)
+    (λ n less. again_less m (2 ^ 64) set all c.into_inner.result c.args.next n c.in-Again.place c.in-Again.outcome
+    c.in-Again.is c.into_inner.ensures less)
+    (c.go_on-in-Again.ensures.falls set way.part here.0
+    (subst (λ p. IsOpen m set p way.part here.0) (sym c.into_inner.ensures) here.1))
 
 -- a place opens -------------------------------------------------------------------------------------------------------
 

@@ -1,36 +1,85 @@
--- Goals of `next_of_row`: the first of the trees is next, or the last one.
-use Rattle.std.proofs.Common.{rules, ◌≡◌, ◌∷◌, arith}
+-- Goals of `next_of_row`: trees with none in them are passed, and the first other one is next.
+use Rattle.std.proofs.Common.{rules, ◌≡◌, ◌∷◌, refl, subst}
 use Rattle.std.proofs.lemmas.List.{nil_from_length}
 use Rattle.lra_iter.specs.declared.shapes.Row.{Row}
+use Rattle.lra_iter.specs.declared.shapes.Shape.{Shape}
+use Rattle.lra_iter.specs.declared.shapes.Shape.TheVariants.{Leaf}
+use Rattle.lra_iter.specs.Shapes.{leaf_view, IsShape}
 use Rattle.lra_iter.specs.Steps.{most_rounds}
-use Rattle.lra_iter.proofs.OpenPlaces.{row_leads, last_leads}
-use Rattle.lra_iter.proofs.PassRows.{steps_first, steps_last}
+use Rattle.lra_iter.proofs.RowLeaves.{first_fits, last_falls, leaf_followed, row_alone, steps_less, steps_within}
 use Rattle.lra_iter.proofs.rows.next_of_row.Goals as goal
 
-pub returns-in-Some-clause-leads : goal.returns-in-Some-clause-leads
-returns-in-Some-clause-leads g c set whole memory options may loop =
-    let so_far = c.args.so_far in
-    let behind : Row = record { options = c.args.the_row.options; trees = c.in-Some.trees; last = c.args.the_row.last } in
-    let first : c.args.the_row.trees.now ≡ c.in-Some.node.now ∷ c.in-Some.trees.now = search rules in
-    row_leads g.D.Domain.meaning set (record { behind = behind; found = so_far.found }) c.args.the_row.trees.now
-    c.in-Some.node.now so_far.normal so_far.flag whole memory options first may loop
+-- a tree in which others stand ----------------------------------------------------------------------------------------
 
-pub returns-in-Some-clause-steps : goal.returns-in-Some-clause-steps
-returns-in-Some-clause-steps g c b set =
-    let first : c.args.the_row.trees.now ≡ c.in-Some.node.now ∷ c.in-Some.trees.now = search rules in
-    let is = steps_first (most_rounds b set) c.args.the_row.trees.now c.in-Some.trees.now c.in-Some.node.now
-    c.args.the_row.last.now first in
-    omega (arith, is)
+pub returns-in_default-of : goal.returns-in_default-of
+returns-in_default-of g c =
+    let m = g.D.Domain.meaning in
+    let all = c.leaves.left.now in
+    let first : all ≡ c.in-Some.node.now ∷ c.in-Some.behind.now = search rules in
+    record {
+      leads = λ set whole memory options may loop. c.open_first.ensures.leads set whole memory all options first may
+          (c.leaves.invariant.owes set whole memory options may loop);
+      falls = λ b set. steps_within _ _ _ (c.open_first.ensures.steps b set all first)
+          (c.leaves.invariant.steps (most_rounds b set));
+    }
 
-pub returns-in-None-clause-leads : goal.returns-in-None-clause-leads
-returns-in-None-clause-leads g c set whole memory options may loop =
-    let so_far = c.args.so_far in
-    let none = nil_from_length c.args.the_row.trees.now c.in-None.ensures.cases in
-    last_leads g.D.Domain.meaning set c.args.the_row.trees.now so_far.found c.args.the_row.last.now so_far.normal
-    so_far.flag whole memory none may loop
+-- one with none in it -------------------------------------------------------------------------------------------------
 
-pub returns-in-None-clause-steps : goal.returns-in-None-clause-steps
-returns-in-None-clause-steps g c b set =
-    let none = nil_from_length c.args.the_row.trees.now c.in-None.ensures.cases in
-    let is = steps_last (most_rounds b set) c.args.the_row.trees.now c.args.the_row.last.now none in
-    omega (arith, is)
+pub pass_on-requires-clause-few : goal.pass_on-requires-clause-few
+pass_on-requires-clause-few g c =
+    let way = c.requires.way in
+    (c.leaves.invariant.owes c.args.the_row.options.now way.0 way.1 refl way.2 way.3).few
+
+pub pass_on-requires-clause-fits : goal.pass_on-requires-clause-fits
+pass_on-requires-clause-fits g c =
+    let way = c.requires.way in
+    let first : c.leaves.left.now ≡ c.in-Some.node.now ∷ c.in-Some.behind.now = search rules in
+    let shape : IsShape c.args.the_row.options.now c.in-Some.node.now (Leaf c.in-Leaf.leaf) =
+    subst (λ (x : Shape). IsShape c.args.the_row.options.now c.in-Some.node.now x) c.in-Leaf.is c.of.ensures in
+    first_fits g.D.Domain.meaning c.args.the_row.options.now c.leaves.left.now c.in-Some.behind.now c.in-Some.node.now
+    c.args.the_row.last.now (leaf_view c.in-Leaf.leaf) way.0 way.1 c.leaves.so_far first shape.0
+    (c.leaves.invariant.owes c.args.the_row.options.now way.0 way.1 refl way.2 way.3)
+
+pub leaves-preserved : goal.leaves-preserved
+leaves-preserved g c =
+    let first : c.leaves.left.now ≡ c.in-Some.node.now ∷ c.in-Some.behind.now = search rules in
+    let behind : Row = record {
+      options = c.args.the_row.options;
+      trees = c.in-Some.behind;
+      last = c.args.the_row.last;
+    } in
+    let shape : IsShape c.args.the_row.options.now c.in-Some.node.now (Leaf c.in-Leaf.leaf) =
+    subst (λ (x : Shape). IsShape c.args.the_row.options.now c.in-Some.node.now x) c.in-Leaf.is c.of.ensures in
+    record {
+      owes = λ set whole memory options may loop. leaf_followed g.D.Domain.meaning set behind c.leaves.left.now
+          c.in-Some.node.now (leaf_view c.in-Leaf.leaf) whole memory c.leaves.so_far c.in_ok-so_far.so_far options first
+          shape.0 may c.in_ok-so_far.ensures (c.leaves.invariant.owes set whole memory options may loop);
+      steps = λ n. steps_less n c.args.the_row.trees.now c.leaves.left.now c.in-Some.behind.now c.in-Some.node.now
+          c.args.the_row.last.now first (c.leaves.invariant.steps n);
+    }
+
+-- the last ------------------------------------------------------------------------------------------------------------
+
+pub next_of_last-requires-clause-few : goal.next_of_last-requires-clause-few
+next_of_last-requires-clause-few g c =
+    let way = c.requires.way in
+    (c.leaves.invariant.owes c.args.the_row.options.now way.0 way.1 refl way.2 way.3).few
+
+pub next_of_last-requires-clause-fits : goal.next_of_last-requires-clause-fits
+next_of_last-requires-clause-fits g c =
+    let way = c.requires.way in
+    let none = nil_from_length c.leaves.left.now c.in_default.ensures.cases in
+    (row_alone g.D.Domain.meaning c.args.the_row.options.now c.leaves.left.now c.args.the_row.last.now way.0 way.1
+    c.leaves.so_far none (c.leaves.invariant.owes c.args.the_row.options.now way.0 way.1 refl way.2 way.3)).fits
+
+pub returns-clause-leads : goal.returns-clause-leads
+returns-clause-leads g c set whole memory options may loop =
+    let none = nil_from_length c.leaves.left.now c.in_default.ensures.cases in
+    c.next_of_last.ensures.leads set whole memory options may (row_alone g.D.Domain.meaning set c.leaves.left.now
+    c.args.the_row.last.now whole memory c.leaves.so_far none (c.leaves.invariant.owes set whole memory options may loop))
+
+pub returns-clause-falls : goal.returns-clause-falls
+returns-clause-falls g c b set =
+    let none = nil_from_length c.leaves.left.now c.in_default.ensures.cases in
+    last_falls g.D.Domain.meaning b set c.next_of_last.result c.args.the_row.trees.now c.leaves.left.now
+    c.args.the_row.last.now none (c.leaves.invariant.steps (most_rounds b set)) (c.next_of_last.ensures.falls b set)

@@ -1,0 +1,155 @@
+-- Places of loops, which are boxed: what comes next at them, and what that takes.
+use Rattle.std.proofs.Common.{◌≡◌, ℕ, suc, ◌+◌, ◌*◌, ◌<◌, Box, Global, arith, ap, sym, subst}
+use Rattle.std.specs.Prelude.{IfOk}
+use Rattle.std.specs.Prelude as outcome_or
+use Rattle.std.proofs.Math.Nat.{suc-mul}
+use Rattle.std.proofs.lemmas.Result.{IfOk-weaker}
+use Rattle.lra_base.specs.declared.options.Options.{Options}
+use Rattle.lra_domain.specs.Meaning.{Meaning}
+use Rattle.lra_iter.specs.declared.memory.Memory.{Memory}
+use Rattle.lra_iter.specs.declared.outcome.Outcome.{Outcome}
+use Rattle.lra_iter.specs.declared.places.Entering.{Entering}
+use Rattle.lra_iter.specs.declared.places.GrowingPlace.{GrowingPlace}
+use Rattle.lra_iter.specs.declared.places.NarrowingPlace.{NarrowingPlace}
+use Rattle.lra_iter.specs.declared.places.Next as next
+use Rattle.lra_iter.specs.declared.places.Next.TheVariants.{Opens, Again}
+use Rattle.lra_iter.specs.declared.places.Place as place
+use Rattle.lra_iter.specs.declared.places.Place.TheVariants.{Growing, Narrowing}
+use Rattle.lra_iter.specs.Open.{Due, due, IsGrowing, IsMade, IsNarrowing, IsOpen, Leads, MayBePassed}
+use Rattle.lra_iter.specs.Outcome.{seen}
+use Rattle.lra_iter.specs.Steps.{next_left, place_left, rounds_left, tree_steps, turns_left}
+
+-- one round, and those that are left behind it
+round_more : (k t : ℕ) → (1 + k * suc t) + t < 1 + suc k * suc t
+round_more k t = omega (arith, suc-mul k (suc t))
+
+round_again : (k t : ℕ) → 1 + k * suc t < 1 + suc k * suc t
+round_again k t = omega (arith, suc-mul k (suc t))
+
+module _ {V H E : Type 0} (m : Meaning V H) (set : Options) (R : outcome_or.Result (next.Next V H) E) where
+  -- a loop whose head grows
+  module _ (g : GrowingPlace V H) where
+    abbrev OpensHere : Entering V → Type 0
+    OpensHere tree = IfOk R (λ n. (b : Box (GrowingPlace V H) Global) × (n ≡ Opens (Growing b) tree) × (b.value ≡ g))
+
+    abbrev AgainHere : Outcome V → Type 0
+    AgainHere r = IfOk R (λ n. (b : Box (GrowingPlace V H) Global) × (p : Box (place.Place V H) Global) ×
+        (n ≡ Again p r) × (p.value ≡ Growing b) × (b.value ≡ g))
+
+    pub growing_leads : (tree : Entering V) (whole : Due V) (memory : Memory V) → OpensHere tree →
+        IsGrowing m set g whole (due tree memory) × MayBePassed m set (due tree memory) →
+        IfOk R (λ n. Leads m set whole n memory)
+    growing_leads tree whole memory h leads = IfOk-weaker R
+        (λ n. (b : Box (GrowingPlace V H) Global) × (n ≡ Opens (Growing b) tree) × (b.value ≡ g))
+        (λ n. Leads m set whole n memory)
+        (λ n at. subst (λ (x : next.Next V H). Leads m set whole x memory) (sym at.1)
+        (subst (λ (x : GrowingPlace V H). IsGrowing m set x whole (due tree memory)) (sym at.2) leads.0, leads.1)) h
+
+    pub growing_made : (r : Outcome V) (whole : Due V) (memory : Memory V) → AgainHere r →
+        ((part : Due V) × IsGrowing m set g whole part × IsMade m set part (seen r) memory) →
+        IfOk R (λ n. Leads m set whole n memory)
+    growing_made r whole memory h made = IfOk-weaker R
+        (λ n. (b : Box (GrowingPlace V H) Global) × (p : Box (place.Place V H) Global) × (n ≡ Again p r) ×
+        (p.value ≡ Growing b) × (b.value ≡ g)) (λ n. Leads m set whole n memory)
+        (λ n at. subst (λ (x : next.Next V H). Leads m set whole x memory) (sym at.2) (
+          made.0,
+          subst (λ (x : place.Place V H). IsOpen m set x whole made.0) (sym at.3)
+              (subst (λ (x : GrowingPlace V H). IsGrowing m set x whole made.0) (sym at.4) made.1),
+          made.2,
+        )) h
+
+    abbrev GrowsOn : ℕ → Type 0
+    GrowsOn b = IfOk R (λ n. next_left m b set n < turns_left m b set g.the_loop
+        (suc (set.narrow + rounds_left b g.growing.left (m.rank g.growing.head))))
+
+    pub growing_less : (b : ℕ) (tree : Entering V) → tree.node.now ≡ g.the_loop.body.now → OpensHere tree → GrowsOn b
+    growing_less b tree body h = IfOk-weaker R
+        (λ n. (c : Box (GrowingPlace V H) Global) × (n ≡ Opens (Growing c) tree) × (c.value ≡ g))
+        (λ n. next_left m b set n < turns_left m b set g.the_loop
+        (suc (set.narrow + rounds_left b g.growing.left (m.rank g.growing.head))))
+        (λ n at.
+        let k = set.narrow + rounds_left b g.growing.left (m.rank g.growing.head) in
+        let t = tree_steps m b set g.the_loop.body.now in
+        let one : next_left m b set n ≡ place_left m b set (Growing at.0) + tree_steps m b set tree.node.now =
+        ap (next_left m b set) at.1 in
+        let two : place_left m b set (Growing at.0) ≡ 1 + k * suc t = ap (λ (x : GrowingPlace V H).
+        turns_left m b set x.the_loop (set.narrow + rounds_left b x.growing.left (m.rank x.growing.head))) at.2 in
+        let three : tree_steps m b set tree.node.now ≡ t = ap (tree_steps m b set) body in
+        omega (arith, one, two, three, round_more k t)) h
+
+    pub growing_again_less : (b : ℕ) (r : Outcome V) → AgainHere r → GrowsOn b
+    growing_again_less b r h = IfOk-weaker R
+        (λ n. (c : Box (GrowingPlace V H) Global) × (p : Box (place.Place V H) Global) × (n ≡ Again p r) ×
+        (p.value ≡ Growing c) × (c.value ≡ g)) (λ n. next_left m b set n < turns_left m b set g.the_loop
+        (suc (set.narrow + rounds_left b g.growing.left (m.rank g.growing.head))))
+        (λ n at.
+        let k = set.narrow + rounds_left b g.growing.left (m.rank g.growing.head) in
+        let t = tree_steps m b set g.the_loop.body.now in
+        let one : next_left m b set n ≡ place_left m b set at.1.value = ap (next_left m b set) at.2 in
+        let here : place_left m b set at.1.value ≡ place_left m b set (Growing at.0) = ap (place_left m b set) at.3 in
+        let two : place_left m b set (Growing at.0) ≡ 1 + k * suc t = ap (λ (x : GrowingPlace V H).
+        turns_left m b set x.the_loop (set.narrow + rounds_left b x.growing.left (m.rank x.growing.head))) at.4 in
+        omega (arith, one, here, two, round_again k t)) h
+
+  -- one that is narrowed
+  module _ (g : NarrowingPlace V) where
+    abbrev OpensThere : Entering V → Type 0
+    OpensThere tree = IfOk R (λ n. (b : Box (NarrowingPlace V) Global) × (n ≡ Opens (Narrowing b) tree) × (b.value ≡ g))
+
+    abbrev AgainThere : Outcome V → Type 0
+    AgainThere r = IfOk R (λ n. (b : Box (NarrowingPlace V) Global) × (p : Box (place.Place V H) Global) ×
+        (n ≡ Again p r) × (p.value ≡ Narrowing b) × (b.value ≡ g))
+
+    pub narrowing_leads : (tree : Entering V) (whole : Due V) (memory : Memory V) → OpensThere tree →
+        IsNarrowing m set g whole (due tree memory) × MayBePassed m set (due tree memory) →
+        IfOk R (λ n. Leads m set whole n memory)
+    narrowing_leads tree whole memory h leads = IfOk-weaker R
+        (λ n. (b : Box (NarrowingPlace V) Global) × (n ≡ Opens (Narrowing b) tree) × (b.value ≡ g))
+        (λ n. Leads m set whole n memory)
+        (λ n at. subst (λ (x : next.Next V H). Leads m set whole x memory) (sym at.1)
+        (subst (λ (x : NarrowingPlace V). IsNarrowing m set x whole (due tree memory)) (sym at.2) leads.0, leads.1)) h
+
+    pub narrowing_made : (r : Outcome V) (whole : Due V) (memory : Memory V) → AgainThere r →
+        ((part : Due V) × IsNarrowing m set g whole part × IsMade m set part (seen r) memory) →
+        IfOk R (λ n. Leads m set whole n memory)
+    narrowing_made r whole memory h made = IfOk-weaker R
+        (λ n. (b : Box (NarrowingPlace V) Global) × (p : Box (place.Place V H) Global) × (n ≡ Again p r) ×
+        (p.value ≡ Narrowing b) × (b.value ≡ g)) (λ n. Leads m set whole n memory)
+        (λ n at. subst (λ (x : next.Next V H). Leads m set whole x memory) (sym at.2) (
+          made.0,
+          subst (λ (x : place.Place V H). IsOpen m set x whole made.0) (sym at.3)
+              (subst (λ (x : NarrowingPlace V). IsNarrowing m set x whole made.0) (sym at.4) made.1),
+          made.2,
+        )) h
+
+    abbrev NarrowsOn : ℕ → Type 0
+    NarrowsOn b = IfOk R (λ n. next_left m b set n < turns_left m b set g.narrowing.the_loop (suc g.narrowing.left))
+
+    pub narrowing_less : (b : ℕ) (tree : Entering V) → tree.node.now ≡ g.narrowing.the_loop.body.now → OpensThere tree →
+        NarrowsOn b
+    narrowing_less b tree body h = IfOk-weaker R
+        (λ n. (c : Box (NarrowingPlace V) Global) × (n ≡ Opens (Narrowing c) tree) × (c.value ≡ g))
+        (λ n. next_left m b set n < turns_left m b set g.narrowing.the_loop (suc g.narrowing.left))
+        (λ n at.
+        let k = g.narrowing.left in
+        let t = tree_steps m b set g.narrowing.the_loop.body.now in
+        let one : next_left m b set n ≡ place_left m b set (Narrowing at.0) + tree_steps m b set tree.node.now =
+        ap (next_left m b set) at.1 in
+        let two : place_left m b set (Narrowing at.0) ≡ 1 + k * suc t = ap (λ (x : NarrowingPlace V).
+        turns_left m b set x.narrowing.the_loop x.narrowing.left) at.2 in
+        let three : tree_steps m b set tree.node.now ≡ t = ap (tree_steps m b set) body in
+        omega (arith, one, two, three, round_more k t)) h
+
+    pub narrowing_again_less : (b : ℕ) (r : Outcome V) → AgainThere r → NarrowsOn b
+    narrowing_again_less b r h = IfOk-weaker R
+        (λ n. (c : Box (NarrowingPlace V) Global) × (p : Box (place.Place V H) Global) × (n ≡ Again p r) ×
+        (p.value ≡ Narrowing c) × (c.value ≡ g))
+        (λ n. next_left m b set n < turns_left m b set g.narrowing.the_loop (suc g.narrowing.left))
+        (λ n at.
+        let k = g.narrowing.left in
+        let t = tree_steps m b set g.narrowing.the_loop.body.now in
+        let one : next_left m b set n ≡ place_left m b set at.1.value = ap (next_left m b set) at.2 in
+        let here : place_left m b set at.1.value ≡ place_left m b set (Narrowing at.0) = ap (place_left m b set) at.3 in
+        let two : place_left m b set (Narrowing at.0) ≡ 1 + k * suc t = ap (λ (x : NarrowingPlace V).
+        turns_left m b set x.narrowing.the_loop x.narrowing.left) at.4 in
+        omega (arith, one, here, two, round_again k t)) h

@@ -1,0 +1,136 @@
+-- Trees with none in them, that are passed along a row without a place of their own.
+use Rattle.std.proofs.Common.{◌≡◌, ℕ, ◌+◌, ◌<◌, ◌≤◌, List, [], ◌∷◌, map, sym, subst, arith}
+use Rattle.std.specs.Prelude.{IfOk}
+use Rattle.std.proofs.lemmas.Result.{IfOk-weaker}
+use Rattle.std.specs.Prelude as outcome_or
+use Rattle.lra_base.specs.declared.options.Options.{Options}
+use Rattle.lra_domain.specs.Meaning.{Meaning}
+use Rattle.lra_operations.specs.declared.graph.Node as node
+use Rattle.lra_operations.specs.Graph.{Node}
+use Rattle.lra_operations.specs.GraphViews.{node_view, row}
+use Rattle.lra_iter.specs.declared.memory.Memory.{Memory}
+use Rattle.lra_iter.specs.declared.outcome.Outcome.{Outcome}
+use Rattle.lra_iter.specs.declared.places.Next as next
+use Rattle.lra_iter.specs.declared.places.RowPlace.{RowPlace}
+use Rattle.lra_iter.specs.declared.shapes.Row.{Row}
+use Rattle.lra_iter.specs.Fits.{TreeFits}
+use Rattle.lra_iter.specs.Open.{Due, IsMade, MayBePassed, RowLoop}
+use Rattle.lra_iter.specs.Outcome.{seen, AreInTurn, IsPassed}
+use Rattle.lra_iter.specs.Steps.{most_rounds, next_left, row_steps}
+use Rattle.lra_iter.proofs.OpenPlaces.{last_made, leaf_made, row_followed, row_leads}
+use Rattle.lra_iter.proofs.PassRows.{next_fits, row_first, row_last, steps_first}
+
+-- what was found so far, and then by the pass of this tree
+abbrev pub Follows : {V H : Type 0} → Meaning V H → Options → Node → Outcome V → Outcome V → Type 0
+Follows {V} m set g so_far r = (part : Outcome V) × IsPassed m set g so_far.flag so_far.normal (seen part) ×
+    AreInTurn so_far.found part.found r.found × (r.normal ≡ part.normal) × (r.flag ≡ part.flag)
+
+-- whatever is owed where all trees are left, that much is owed where these are
+abbrev pub OwesLess : {V H : Type 0} → Meaning V H → Options → List node.Node → List node.Node → node.Node → Outcome V →
+    Outcome V → Type 0
+OwesLess {V} m options gs left last begun so_far = (set : Options) (whole : Due V) (memory : Memory V) →
+    options ≡ set → MayBePassed m set whole →
+    RowLoop m set whole.tree whole.flag whole.value (row (map node_view gs) (node_view last)) begun.found begun.normal
+    begun.flag whole.memory memory → RowLoop m set whole.tree whole.flag whole.value
+    (row (map node_view left) (node_view last)) so_far.found so_far.normal so_far.flag whole.memory memory
+
+-- one tree less takes fewer steps
+pub steps_less : (n : ℕ) (gs left left' : List node.Node) (x last : node.Node) → left ≡ x ∷ left' →
+    row_steps n left last ≤ row_steps n gs last → row_steps n left' last ≤ row_steps n gs last
+steps_less n gs left left' x last is less =
+    let first = steps_first n left left' x last is in
+    omega (arith, first, less)
+
+pub steps_within : (k n all : ℕ) → k ≡ n → n ≤ all → k ≤ all
+steps_within k n all is few = omega (arith, is, few)
+
+-- none but the last is left
+pub last_falls : {V H E : Type 0} (m : Meaning V H) (b : ℕ) (set : Options) (R : outcome_or.Result (next.Next V H) E)
+    (gs left : List node.Node) (last : node.Node) → left ≡ [] →
+    row_steps (most_rounds b set) left last ≤ row_steps (most_rounds b set) gs last →
+    IfOk R (λ n. next_left m b set n ≤ row_steps (most_rounds b set) [] last) →
+    IfOk R (λ n. next_left m b set n ≤ row_steps (most_rounds b set) gs last)
+last_falls m b set R gs left last none few h =
+    let less : row_steps (most_rounds b set) [] last ≤ row_steps (most_rounds b set) gs last =
+    subst (λ (x : List node.Node). row_steps (most_rounds b set) x last ≤ row_steps (most_rounds b set) gs last) none few in
+    IfOk-weaker R (λ n. next_left m b set n ≤ row_steps (most_rounds b set) [] last)
+    (λ n. next_left m b set n ≤ row_steps (most_rounds b set) gs last) (λ n here. omega (arith, less, here)) h
+
+module _ {V H : Type 0} (m : Meaning V H) (set : Options) where
+  -- what comes next in a row is less than what was left at its place
+  pub row_falls : {E : Type 0} (R : outcome_or.Result (next.Next V H) E) (b n : ℕ) →
+      IfOk R (λ x. next_left m b set x ≤ n) → IfOk R (λ x. next_left m b set x < 1 + n)
+  row_falls R b n h = IfOk-weaker R (λ x. next_left m b set x ≤ n) (λ x. next_left m b set x < 1 + n)
+      (λ x here. omega (arith, here)) h
+
+  pub row_less : {E : Type 0} (R : outcome_or.Result (next.Next V H) E) (b n all : ℕ) → all ≡ 1 + n →
+      IfOk R (λ x. next_left m b set x ≤ n) → IfOk R (λ x. next_left m b set x < all)
+  row_less R b n all is h = IfOk-weaker R (λ x. next_left m b set x ≤ n) (λ x. next_left m b set x < all)
+      (λ x here. omega (arith, here, is)) h
+
+  -- the row is owed with its own options
+  pub row_way : (r : Row) (so_far : Outcome V) (whole : Due V) (memory : Memory V) → r.options.now ≡ set →
+      MayBePassed m set whole → RowLoop m set whole.tree whole.flag whole.value
+      (row (map node_view r.trees.now) (node_view r.last.now)) so_far.found so_far.normal so_far.flag whole.memory memory →
+      (whole : Due V) × (memory : Memory V) × MayBePassed m r.options.now whole ×
+      RowLoop m r.options.now whole.tree whole.flag whole.value (row (map node_view r.trees.now) (node_view r.last.now))
+      so_far.found so_far.normal so_far.flag whole.memory memory
+  row_way r so_far whole memory same may loop = (
+    whole,
+    memory,
+    subst (λ (s : Options). MayBePassed m s whole) (sym same) may,
+    subst (λ (s : Options). RowLoop m s whole.tree whole.flag whole.value (row (map node_view r.trees.now)
+        (node_view r.last.now)) so_far.found so_far.normal so_far.flag whole.memory memory) (sym same) loop,
+  )
+
+  -- the first of those that are left fits
+  pub first_fits : (gs gs' : List node.Node) (n last : node.Node) (leaf : Node) (whole : Due V) (memory : Memory V)
+      (so_far : Outcome V) → gs ≡ n ∷ gs' → node_view n ≡ leaf →
+      RowLoop m set whole.tree whole.flag whole.value (row (map node_view gs) (node_view last)) so_far.found so_far.normal
+      so_far.flag whole.memory memory → TreeFits leaf (m.dims so_far.normal)
+  first_fits gs gs' n last leaf whole memory so_far first is loop =
+      subst (λ (g : Node). TreeFits g (m.dims so_far.normal)) is
+      (next_fits m set whole.tree whole.flag whole.value _ so_far.found so_far.normal so_far.flag whole.memory memory loop
+      _ _ (row_first gs gs' n last first))
+
+  -- the last alone is left
+  pub row_alone : (gs : List node.Node) (last : node.Node) (whole : Due V) (memory : Memory V) (so_far : Outcome V) →
+      gs ≡ [] → RowLoop m set whole.tree whole.flag whole.value (row (map node_view gs) (node_view last)) so_far.found
+      so_far.normal so_far.flag whole.memory memory → RowLoop m set whole.tree whole.flag whole.value (node_view last)
+      so_far.found so_far.normal so_far.flag whole.memory memory
+  row_alone gs last whole memory so_far none loop =
+      subst (λ (g : Node). RowLoop m set whole.tree whole.flag whole.value g so_far.found so_far.normal so_far.flag
+      whole.memory memory) (row_last gs last none) loop
+
+  -- the pass of a leaf is made
+  leaf_passed : (options : Options) (n : node.Node) (leaf : Node) (memory : Memory V) (so_far r : Outcome V) →
+      options ≡ set → node_view n ≡ leaf → (followed : Follows m options leaf so_far r) →
+      IsMade m set (record { tree = node_view n; value = so_far.normal; flag = so_far.flag; memory = memory })
+      (seen followed.0) memory
+  leaf_passed options n leaf memory so_far r same is followed =
+      leaf_made m set (record { tree = node_view n; value = so_far.normal; flag = so_far.flag; memory = memory }) leaf
+      followed.0 is (subst (λ (s : Options). IsPassed m s leaf so_far.flag so_far.normal (seen followed.0)) same followed.1)
+
+  -- it is the first of those that are left
+  pub leaf_followed : (behind : Row) (gs : List node.Node) (n : node.Node) (leaf : Node) (whole : Due V)
+      (memory : Memory V) (so_far r : Outcome V) → behind.options.now ≡ set → gs ≡ n ∷ behind.trees.now →
+      node_view n ≡ leaf → MayBePassed m set whole → Follows m behind.options.now leaf so_far r →
+      RowLoop m set whole.tree whole.flag whole.value (row (map node_view gs) (node_view behind.last.now)) so_far.found
+      so_far.normal so_far.flag whole.memory memory → RowLoop m set whole.tree whole.flag whole.value
+      (row (map node_view behind.trees.now) (node_view behind.last.now)) r.found r.normal r.flag whole.memory memory
+  leaf_followed behind gs n leaf whole memory so_far r same first is may followed loop =
+      let place : RowPlace V = record { behind = behind; found = so_far.found } in
+      let part : Due V = record { tree = node_view n; value = so_far.normal; flag = so_far.flag; memory = memory } in
+      let leads = row_leads m set place gs n so_far.normal so_far.flag whole memory same first may loop in
+      row_followed m set place whole part memory followed.0 r leads.0
+      (leaf_passed behind.options.now n leaf memory so_far r same is followed) followed.2 followed.3 followed.4
+
+  -- it is the last
+  pub last_followed : (options : Options) (n : node.Node) (leaf : Node) (whole : Due V) (memory : Memory V)
+      (so_far r : Outcome V) → options ≡ set → node_view n ≡ leaf → Follows m options leaf so_far r →
+      RowLoop m set whole.tree whole.flag whole.value (node_view n) so_far.found so_far.normal so_far.flag whole.memory
+      memory → IsMade m set whole (seen r) memory
+  last_followed options n leaf whole memory so_far r same is followed loop =
+      let part : Due V = record { tree = node_view n; value = so_far.normal; flag = so_far.flag; memory = memory } in
+      last_made m set so_far.found whole part memory followed.0 r loop
+      (leaf_passed options n leaf memory so_far r same is followed) followed.2 followed.3 followed.4
