@@ -18,7 +18,7 @@ leaf_view (Act q op) = graph.act q (op_view op.now)
 leaf_view (Check q base c) = graph.check q base (cond_view c.now)
 leaf_view (Leave n k) = graph.leave n (exit_view k)
 
--- the tree is of this shape, a pass of it takes so many steps more than the trees in it, and it is passed with these
+-- the tree is of this shape, a pass of it takes so many steps by those of the trees in it, and it is passed with these
 -- options
 abbrev pub IsShape : Options → Node → Shape → Type 0
 IsShape set g (Leaf x) = (node_view g ≡ leaf_view x) × ((n : ℕ) → node_steps n g ≡ 1)

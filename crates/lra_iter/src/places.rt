@@ -91,7 +91,7 @@ pub enum Next<'a, D, H> {
     Passed(Outcome<D>),
     /// A place opens, and this tree in it is to be passed.
     Opens(Place<'a, D, H>, Entering<'a, D>),
-    /// So it is, but the tree was passed from the same value before: it gives this.
+    /// A place opens for a tree that was passed from the same value before: it gives this again.
     Again(Box<Place<'a, D, H>>, Outcome<D>),
 }
 
@@ -112,7 +112,7 @@ impl<'a, D: Drop, H: Drop> GrowingPlace<'a, D, H> {
         Ok(Next::Opens(Place::Growing(place), tree))
     }
 
-    /// So it is, but the tree gives this again.
+    /// This place opens, for a tree that gives this again.
     pub fn again(self, alloc: Global, outcome: Outcome<D>) -> Result<Next<'a, D, H>, AllocError>
         ensures { IfOk result (λ n. (b : Box (GrowingPlace D H) Global) × (p : Box (Place D H) Global) ×
             (n ≡ Again p outcome) × (p.value ≡ growing_place b) × (b.value ≡ self.entry)) }
@@ -137,7 +137,7 @@ impl<'a, D: Drop> NarrowingPlace<'a, D> {
         Ok(Next::Opens(Place::Narrowing(place), tree))
     }
 
-    /// So it is, but the tree gives this again.
+    /// This place opens, for a tree that gives this again.
     pub fn again<H: Drop>(
         self,
         alloc: Global,
