@@ -11,6 +11,7 @@ mod Again
 mod KeptLoops
 mod LoopNumbers
 mod OpenPlaces
+mod FlatRows
 mod RowLeaves
 mod TurnSteps
 mod LoopPlaces

@@ -199,7 +199,8 @@ module _ {V H : Type 0} (m : Meaning V H) (set : Options) where
       so_far.flag whole.memory memory
   row_followed r whole part memory outcome so_far owed made turn one two =
       row_next m set whole.tree whole.flag whole.value _ r.found part.value part.flag whole.memory part.memory owed.loop
-      _ _ refl outcome so_far.found so_far.normal so_far.flag memory made.stays made.passed turn one two
+      _ _ refl (seen outcome) so_far.found so_far.normal so_far.flag memory made.stays made.passed
+      (λ u d. turn part.value outcome.normal u part.flag outcome.flag d) one two
 
   -- behind what the last found
   pub last_made : (found : Found V) (whole part : Due V) (memory : Memory V) (outcome all : Outcome V) →
@@ -208,7 +209,8 @@ module _ {V H : Type 0} (m : Meaning V H) (set : Options) where
       IsMade m set whole (seen all) memory
   last_made found whole part memory outcome all loop made turn one two = record {
     passed = row_ends m set whole.tree whole.flag whole.value _ found part.value part.flag whole.memory part.memory loop
-        _ refl outcome all.found all.normal all.flag made.passed turn one two;
+        _ refl (seen outcome) all.found all.normal all.flag made.passed
+        (λ u d. turn part.value outcome.normal u part.flag outcome.flag d) one two;
     stays = subst (λ (f : Option ℕ). StaysKept m set whole.tree whole.flag whole.memory f memory) (sym two)
         (row_stays m set whole.tree whole.flag whole.value _ found part.value part.flag whole.memory part.memory loop
         _ refl outcome.flag memory made.stays);

@@ -14,7 +14,7 @@ use Rattle.lra_flow.specs.Pass.{Entry, Result, goes_on, in_turn}
 use Rattle.lra_iter.specs.Fits.{live_after, TreeFits}
 use Rattle.lra_iter.specs.declared.outcome.Found.{Found}
 use Rattle.lra_iter.specs.declared.outcome.Outcome.{Outcome}
-use Rattle.lra_iter.specs.Outcome.{ended, seen, AreInTurn, JumpsFit, IsPassed}
+use Rattle.lra_iter.specs.Outcome.{ended, JumpsFit, IsPassed}
 use Rattle.lra_iter.specs.declared.memory.Memory.{Memory}
 use Rattle.lra_iter.specs.Memory.{HasLoops, MayRecall, Remembers, StaysKept}
 use Rattle.lra_iter.specs.Open.{RowLoop}
@@ -71,7 +71,7 @@ steps_last n gs last is =
     omega (arith, none)
 
 module _ {V H : Type 0} (m : Meaning V H) (set : Options) where
-  seq_passed : (a b : graph.Node) (f : Option ℕ) (v : V) (s t : Result V) → IsPassed m set a f v s →
+  pub seq_passed : (a b : graph.Node) (f : Option ℕ) (v : V) (s t : Result V) → IsPassed m set a f v s →
       IsPassed m set b s.flag s.normal t
       → IsPassed m set (graph.seq a b) f v (in_turn s t t.normal t.flag)
   seq_passed a b f v s t one two = record {
@@ -116,9 +116,9 @@ module _ {V H : Type 0} (m : Meaning V H) (set : Options) where
       pub next_remembers : Remembers m set g f old → Remembers m set next so_far memory
       next_remembers (loops, has, all) = let now = next_has loops has all in (loops, now.0.0, now.1)
 
-      pub row_next : (part : Outcome V) (all : Found V) (value : V) (flag : Option ℕ) (new : Memory V) →
-          StaysKept m set next so_far memory part.flag new → IsPassed m set next so_far behind (seen part) →
-          AreInTurn found part.found all
+      pub row_next : (part : Result V) (all : Found V) (value : V) (flag : Option ℕ) (new : Memory V) →
+          StaysKept m set next so_far memory part.flag new → IsPassed m set next so_far behind part →
+          ((u : V) (d : Option ℕ) → ended all u d ≡ in_turn (ended found behind so_far) part u d)
           → value ≡ part.normal → flag ≡ part.flag → RowLoop m set g f v others all value flag old new
       row_next part all value flag new stays one turn value-is flag-is =
           let fits : TreeFits (graph.seq next others) (m.dims behind) =
@@ -129,13 +129,12 @@ module _ {V H : Type 0} (m : Meaning V H) (set : Options) where
             fits = subst (λ (n : ℕ). TreeFits others n) (sym one.dims) fits.2;
             stays = λ loops has kept. (let now = next_has loops has kept in (now.0.1, stays loops now.0.0 now.1));
             passes = λ t two.
-                let both = subst (λ x. IsPassed m set x so_far behind (in_turn (seen part) t t.normal t.flag)) (sym is)
-                (seq_passed next others so_far behind (seen part) t one two) in
-                let same : in_turn (ended found behind so_far) (in_turn (seen part) t t.normal t.flag) t.normal t.flag ≡
+                let both = subst (λ x. IsPassed m set x so_far behind (in_turn part t t.normal t.flag)) (sym is)
+                (seq_passed next others so_far behind part t one two) in
+                let same : in_turn (ended found behind so_far) (in_turn part t t.normal t.flag) t.normal t.flag ≡
                 in_turn (ended all part.normal part.flag) t t.normal t.flag =
-                turns (ended found behind so_far) (seen part) t t.normal part.normal t.normal t.flag part.flag t.flag
-                ∙ ap (λ x. in_turn x t t.normal t.flag) (sym
-                (turn behind part.normal part.normal so_far part.flag part.flag)) in
+                turns (ended found behind so_far) part t t.normal part.normal t.normal t.flag part.flag t.flag
+                ∙ ap (λ x. in_turn x t t.normal t.flag) (sym (turn part.normal part.flag)) in
                 subst (λ x. IsPassed m set g f v x) same (loop.passes _ both);
           }))
 
@@ -153,14 +152,15 @@ module _ {V H : Type 0} (m : Meaning V H) (set : Options) where
       row_stays f' new stays loops has all = let now = loop.stays loops has all in stays loops
           (subst (λ x. HasLoops loops x) is now.0) now.1
 
-      pub row_ends : (part : Outcome V) (all : Found V) (value : V) (flag : Option ℕ) →
-          IsPassed m set last so_far behind (seen part) → AreInTurn found part.found all
-          → value ≡ part.normal → flag ≡ part.flag → IsPassed m set g f v (ended all value flag)
+      pub row_ends : (part : Result V) (all : Found V) (value : V) (flag : Option ℕ) →
+          IsPassed m set last so_far behind part →
+          ((u : V) (d : Option ℕ) → ended all u d ≡ in_turn (ended found behind so_far) part u d) →
+          value ≡ part.normal → flag ≡ part.flag → IsPassed m set g f v (ended all value flag)
       row_ends part all value flag one turn value-is flag-is =
-          let all_is : IsPassed m set g f v (in_turn (ended found behind so_far) (seen part) part.normal part.flag) =
-          loop.passes (seen part)
-          (subst (λ x. IsPassed m set x so_far behind (seen part)) (sym is) one) in
+          let all_is : IsPassed m set g f v (in_turn (ended found behind so_far) part part.normal part.flag) =
+          loop.passes part
+          (subst (λ x. IsPassed m set x so_far behind part) (sym is) one) in
           subst (λ (x : V). IsPassed m set g f v (ended all x flag)) (sym value-is)
           (subst (λ (x : Option ℕ). IsPassed m set g f v (ended all part.normal x)) (sym flag-is)
-          (subst (λ x. IsPassed m set g f v x) (sym (turn behind part.normal part.normal so_far part.flag part.flag))
+          (subst (λ x. IsPassed m set g f v x) (sym (turn part.normal part.flag))
           all_is))

@@ -1,5 +1,5 @@
--- Trees with none in them, that are passed along a row without a place of their own.
-use Rattle.std.proofs.Common.{◌≡◌, ℕ, ◌+◌, ◌<◌, ◌≤◌, List, [], ◌∷◌, map, sym, subst, arith}
+-- Flat trees, that are passed along a row without a place of their own.
+use Rattle.std.proofs.Common.{◌≡◌, ℕ, ◌+◌, ◌<◌, ◌≤◌, List, [], ◌∷◌, map, Option, refl, sym, subst, arith}
 use Rattle.std.specs.Prelude.{IfOk}
 use Rattle.std.proofs.lemmas.Result.{IfOk-weaker}
 use Rattle.std.specs.Prelude as outcome_or
@@ -8,22 +8,19 @@ use Rattle.lra_domain.specs.Meaning.{Meaning}
 use Rattle.lra_operations.specs.declared.graph.Node as node
 use Rattle.lra_operations.specs.Graph.{Node}
 use Rattle.lra_operations.specs.GraphViews.{node_view, row}
+use Rattle.lra_flow.specs.Pass.{Result}
 use Rattle.lra_iter.specs.declared.memory.Memory.{Memory}
 use Rattle.lra_iter.specs.declared.outcome.Outcome.{Outcome}
 use Rattle.lra_iter.specs.declared.places.Next as next
-use Rattle.lra_iter.specs.declared.places.RowPlace.{RowPlace}
 use Rattle.lra_iter.specs.declared.shapes.Row.{Row}
 use Rattle.lra_iter.specs.Fits.{TreeFits}
 use Rattle.lra_iter.specs.Open.{Due, IsMade, MayBePassed, RowLoop}
-use Rattle.lra_iter.specs.Outcome.{seen, AreInTurn, IsPassed}
+use Rattle.lra_iter.specs.Flat.{Follows}
+use Rattle.lra_iter.specs.Memory.{StaysKept}
+use Rattle.lra_iter.specs.Outcome.{seen, IsPassed}
 use Rattle.lra_iter.specs.Steps.{most_rounds, next_left, row_steps}
-use Rattle.lra_iter.proofs.OpenPlaces.{last_made, leaf_made, row_followed, row_leads}
-use Rattle.lra_iter.proofs.PassRows.{next_fits, row_first, row_last, steps_first}
-
--- what was found so far, and then by the pass of this tree
-abbrev pub Follows : {V H : Type 0} → Meaning V H → Options → Node → Outcome V → Outcome V → Type 0
-Follows {V} m set g so_far r = (part : Outcome V) × IsPassed m set g so_far.flag so_far.normal (seen part) ×
-    AreInTurn so_far.found part.found r.found × (r.normal ≡ part.normal) × (r.flag ≡ part.flag)
+use Rattle.lra_iter.proofs.KeptLoops.{stays_passed}
+use Rattle.lra_iter.proofs.PassRows.{next_fits, row_ends, row_first, row_last, row_next, row_stays, steps_first}
 
 -- whatever is owed where all trees are left, that much is owed where these are
 abbrev pub OwesLess : {V H : Type 0} → Meaning V H → Options → List node.Node → List node.Node → node.Node → Outcome V →
@@ -102,35 +99,39 @@ module _ {V H : Type 0} (m : Meaning V H) (set : Options) where
       subst (λ (g : Node). RowLoop m set whole.tree whole.flag whole.value g so_far.found so_far.normal so_far.flag
       whole.memory memory) (row_last gs last none) loop
 
-  -- the pass of a leaf is made
-  leaf_passed : (options : Options) (n : node.Node) (leaf : Node) (memory : Memory V) (so_far r : Outcome V) →
-      options ≡ set → node_view n ≡ leaf → (followed : Follows m options leaf so_far r) →
-      IsMade m set (record { tree = node_view n; value = so_far.normal; flag = so_far.flag; memory = memory })
-      (seen followed.0) memory
-  leaf_passed options n leaf memory so_far r same is followed =
-      leaf_made m set (record { tree = node_view n; value = so_far.normal; flag = so_far.flag; memory = memory }) leaf
-      followed.0 is (subst (λ (s : Options). IsPassed m s leaf so_far.flag so_far.normal (seen followed.0)) same followed.1)
+  -- it is passed with these options
+  passed_so : (options : Options) (n : node.Node) (g : Node) (so_far : Outcome V) (t : Result V) → options ≡ set →
+      node_view n ≡ g → IsPassed m options g so_far.flag so_far.normal t →
+      IsPassed m set (node_view n) so_far.flag so_far.normal t
+  passed_so options n g so_far t same is one = subst (λ (x : Node). IsPassed m set x so_far.flag so_far.normal t) (sym is)
+      (subst (λ (s : Options). IsPassed m s g so_far.flag so_far.normal t) same one)
 
-  -- it is the first of those that are left
-  pub leaf_followed : (behind : Row) (gs : List node.Node) (n : node.Node) (leaf : Node) (whole : Due V)
+  -- what follows is the first of those that are left
+  pub first_followed : (behind : Row) (gs : List node.Node) (n : node.Node) (g : Node) (whole : Due V)
       (memory : Memory V) (so_far r : Outcome V) → behind.options.now ≡ set → gs ≡ n ∷ behind.trees.now →
-      node_view n ≡ leaf → MayBePassed m set whole → Follows m behind.options.now leaf so_far r →
+      node_view n ≡ g → Follows m behind.options.now g so_far r →
       RowLoop m set whole.tree whole.flag whole.value (row (map node_view gs) (node_view behind.last.now)) so_far.found
       so_far.normal so_far.flag whole.memory memory → RowLoop m set whole.tree whole.flag whole.value
       (row (map node_view behind.trees.now) (node_view behind.last.now)) r.found r.normal r.flag whole.memory memory
-  leaf_followed behind gs n leaf whole memory so_far r same first is may followed loop =
-      let place : RowPlace V = record { behind = behind; found = so_far.found } in
-      let part : Due V = record { tree = node_view n; value = so_far.normal; flag = so_far.flag; memory = memory } in
-      let leads = row_leads m set place gs n so_far.normal so_far.flag whole memory same first may loop in
-      row_followed m set place whole part memory followed.0 r leads.0
-      (leaf_passed behind.options.now n leaf memory so_far r same is followed) followed.2 followed.3 followed.4
+  first_followed behind gs n g whole memory so_far r same first is followed loop =
+      let t = followed.0 in
+      let one = passed_so behind.options.now n g so_far t same is followed.1 in
+      row_next m set whole.tree whole.flag whole.value _ so_far.found so_far.normal so_far.flag whole.memory memory loop
+      _ _ (row_first gs behind.trees.now n behind.last.now first) t r.found r.normal r.flag memory
+      (stays_passed m set (node_view n) so_far.flag so_far.normal t memory one) one followed.2 followed.3 followed.4
 
   -- it is the last
-  pub last_followed : (options : Options) (n : node.Node) (leaf : Node) (whole : Due V) (memory : Memory V)
-      (so_far r : Outcome V) → options ≡ set → node_view n ≡ leaf → Follows m options leaf so_far r →
+  pub last_followed : (options : Options) (n : node.Node) (g : Node) (whole : Due V) (memory : Memory V)
+      (so_far r : Outcome V) → options ≡ set → node_view n ≡ g → Follows m options g so_far r →
       RowLoop m set whole.tree whole.flag whole.value (node_view n) so_far.found so_far.normal so_far.flag whole.memory
       memory → IsMade m set whole (seen r) memory
-  last_followed options n leaf whole memory so_far r same is followed loop =
-      let part : Due V = record { tree = node_view n; value = so_far.normal; flag = so_far.flag; memory = memory } in
-      last_made m set so_far.found whole part memory followed.0 r loop
-      (leaf_passed options n leaf memory so_far r same is followed) followed.2 followed.3 followed.4
+  last_followed options n g whole memory so_far r same is followed loop =
+      let t = followed.0 in
+      let one = passed_so options n g so_far t same is followed.1 in
+      record {
+        passed = row_ends m set whole.tree whole.flag whole.value _ so_far.found so_far.normal so_far.flag whole.memory
+            memory loop _ refl t r.found r.normal r.flag one followed.2 followed.3 followed.4;
+        stays = subst (λ (f : Option ℕ). StaysKept m set whole.tree whole.flag whole.memory f memory) (sym followed.4)
+            (row_stays m set whole.tree whole.flag whole.value _ so_far.found so_far.normal so_far.flag whole.memory
+            memory loop _ refl t.flag memory (stays_passed m set (node_view n) so_far.flag so_far.normal t memory one));
+      }

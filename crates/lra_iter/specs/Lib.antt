@@ -11,3 +11,4 @@ pub mod Shapes
 pub mod Heads
 pub mod Open
 pub mod Steps
+pub mod Flat

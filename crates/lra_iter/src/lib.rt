@@ -3,6 +3,7 @@
 
 mod catches;
 mod choices;
+mod flat;
 mod heads;
 mod leaves;
 mod loops;

@@ -7,42 +7,18 @@ ghost use Rattle.lra_operations.specs.GraphViews.{node_view, row};
 ghost use Rattle.lra_iter.specs.declared.memory.Memory.{Memory};
 ghost use Rattle.lra_iter.specs.declared.places.Place.TheVariants.{Row as row_place};
 ghost use Rattle.lra_iter.specs.Fits.{TreeFits};
-ghost use Rattle.lra_iter.specs.Outcome.{seen, AreInTurn, IsPassed};
+ghost use Rattle.lra_iter.specs.Outcome.{seen};
 ghost use Rattle.lra_iter.specs.Open.{Due, IsMade, IsRow, Leads, MayBePassed, RowLoop};
-ghost use Rattle.lra_iter.specs.Shapes.{leaf_view};
 ghost use Rattle.lra_iter.specs.Steps.{most_rounds, next_left, place_left, row_steps};
 
-use crate::leaves::pass_leaf;
+use crate::flat::Flat;
 use crate::outcome::Outcome;
 use crate::places::{Entering, Next, Place, RowPlace};
-use crate::shapes::{Leaf, Row, Shape};
+use crate::shapes::Row;
 use lra_base::Options;
 use lra_domain::Domain;
 use lra_operations::Node;
 use std::alloc::{AllocError, Global};
-
-/// What the pass of a tree with no tree in it finds comes behind what was found before it.
-fn pass_on<D: Domain>(
-    alloc: Global,
-    options: &Options,
-    leaf: &Leaf<'_>,
-    so_far: Outcome<D>,
-) -> Result<Outcome<D>, AllocError>
-    requires parts { 1 ≤ options.now.parts }
-    requires few { D.meaning.dims so_far.normal ≤ 2 ^ 30 }
-    requires fits { TreeFits (leaf_view leaf.now) (D.meaning.dims so_far.normal) }
-    ensures { IfOk result (λ r. (part : Outcome D) ×
-        IsPassed D.meaning options.now (leaf_view leaf.now) so_far.flag so_far.normal (seen part) ×
-        AreInTurn so_far.found part.found r.found × (r.normal ≡ part.normal) × (r.flag ≡ part.flag)) }
-{
-    let Outcome {
-        found,
-        normal,
-        flag,
-    } = so_far;
-    let part = pass_leaf(alloc, options, leaf, normal, flag)?;
-    found.follow_with(part)
-}
 
 /// The first of the trees behind which these stand is next: what was found before it stays at its place.
 fn open_first<'a, D: Domain>(
@@ -84,8 +60,8 @@ fn next_of_last<'a, D: Domain>(
     ensures falls { (b : ℕ) (set : Options) → IfOk result (λ next. next_left D.meaning b set next
         ≤ row_steps (most_rounds b set) [] node.now) }
 {
-    if let Shape::Leaf(leaf) = Shape::of(options, node) {
-        let outcome = pass_on(alloc, options, &leaf, so_far)?;
+    if let Some(flat) = Flat::of(options, node) {
+        let outcome = flat.pass_on(alloc, options, so_far)?;
         return Ok(Next::Passed(outcome));
     }
     let Outcome {
@@ -96,7 +72,7 @@ fn next_of_last<'a, D: Domain>(
     Ok(Next::Opens(Place::Last(found), Entering { node, value, flag }))
 }
 
-/// Trees with none in them are passed, up to the first that isn't such: that one is next.
+/// Flat trees are passed, up to the first that isn't flat: that one is next.
 fn next_of_row<'a, D: Domain>(
     alloc: Global,
     the_row: Row<'a>,
@@ -122,7 +98,7 @@ fn next_of_row<'a, D: Domain>(
     let mut so_far = begun;
     let mut left = trees;
     'leaves: while let Some((node, behind)) = left.split_first() {
-        let Shape::Leaf(leaf) = Shape::of(options, node) else {
+        let Some(flat) = Flat::of(options, node) else {
             let trees = behind;
             return Ok(open_first(
                 Row {
@@ -134,13 +110,13 @@ fn next_of_row<'a, D: Domain>(
                 so_far,
             ));
         };
-        so_far = pass_on(alloc, options, &leaf, so_far)?;
+        so_far = flat.pass_on(alloc, options, so_far)?;
         left = behind;
     }
     next_of_last(alloc, options, last, so_far)
 }
 
-/// The first of the trees in which others stand is next, behind those before it.
+/// The first of the trees that isn't flat is next, behind those before it.
 pub fn open_row<'a, D: Domain>(
     alloc: Global,
     the_row: Row<'a>,

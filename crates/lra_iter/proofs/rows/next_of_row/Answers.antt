@@ -1,15 +1,13 @@
--- Goals of `next_of_row`: trees with none in them are passed, and the first other one is next.
-use Rattle.std.proofs.Common.{rules, ◌≡◌, ◌∷◌, refl, subst}
+-- Goals of `next_of_row`: flat trees are passed, and the first other one is next.
+use Rattle.std.proofs.Common.{rules, ◌≡◌, ◌∷◌, refl}
 use Rattle.std.proofs.lemmas.List.{nil_from_length}
 use Rattle.lra_iter.specs.declared.shapes.Row.{Row}
-use Rattle.lra_iter.specs.declared.shapes.Shape.{Shape}
-use Rattle.lra_iter.specs.declared.shapes.Shape.TheVariants.{Leaf}
-use Rattle.lra_iter.specs.Shapes.{leaf_view, IsShape}
+use Rattle.lra_iter.specs.Flat.{flat_view}
 use Rattle.lra_iter.specs.Steps.{most_rounds}
-use Rattle.lra_iter.proofs.RowLeaves.{first_fits, last_falls, leaf_followed, row_alone, steps_less, steps_within}
+use Rattle.lra_iter.proofs.RowLeaves.{first_fits, last_falls, first_followed, row_alone, steps_less, steps_within}
 use Rattle.lra_iter.proofs.rows.next_of_row.Goals as goal
 
--- a tree in which others stand ----------------------------------------------------------------------------------------
+-- a tree that isn't flat ----------------------------------------------------------------------------------------------
 
 pub returns-in_default-of : goal.returns-in_default-of
 returns-in_default-of g c =
@@ -23,7 +21,7 @@ returns-in_default-of g c =
           (c.leaves.invariant.steps (most_rounds b set));
     }
 
--- one with none in it -------------------------------------------------------------------------------------------------
+-- a flat one ----------------------------------------------------------------------------------------------------------
 
 pub pass_on-requires-clause-few : goal.pass_on-requires-clause-few
 pass_on-requires-clause-few g c =
@@ -34,10 +32,8 @@ pub pass_on-requires-clause-fits : goal.pass_on-requires-clause-fits
 pass_on-requires-clause-fits g c =
     let way = c.requires.way in
     let first : c.leaves.left.now ≡ c.in-Some.node.now ∷ c.in-Some.behind.now = search rules in
-    let shape : IsShape c.args.the_row.options.now c.in-Some.node.now (Leaf c.in-Leaf.leaf) =
-    subst (λ (x : Shape). IsShape c.args.the_row.options.now c.in-Some.node.now x) c.in-Leaf.is c.of.ensures in
     first_fits g.D.Domain.meaning c.args.the_row.options.now c.leaves.left.now c.in-Some.behind.now c.in-Some.node.now
-    c.args.the_row.last.now (leaf_view c.in-Leaf.leaf) way.0 way.1 c.leaves.so_far first shape.0
+    c.args.the_row.last.now (flat_view c.in-Some-of.flat) way.0 way.1 c.leaves.so_far first c.in-Some-of.ensures.0
     (c.leaves.invariant.owes c.args.the_row.options.now way.0 way.1 refl way.2 way.3)
 
 pub leaves-preserved : goal.leaves-preserved
@@ -48,12 +44,10 @@ leaves-preserved g c =
       trees = c.in-Some.behind;
       last = c.args.the_row.last;
     } in
-    let shape : IsShape c.args.the_row.options.now c.in-Some.node.now (Leaf c.in-Leaf.leaf) =
-    subst (λ (x : Shape). IsShape c.args.the_row.options.now c.in-Some.node.now x) c.in-Leaf.is c.of.ensures in
     record {
-      owes = λ set whole memory options may loop. leaf_followed g.D.Domain.meaning set behind c.leaves.left.now
-          c.in-Some.node.now (leaf_view c.in-Leaf.leaf) whole memory c.leaves.so_far c.in_ok-so_far.so_far options first
-          shape.0 may c.in_ok-so_far.ensures (c.leaves.invariant.owes set whole memory options may loop);
+      owes = λ set whole memory options may loop. first_followed g.D.Domain.meaning set behind c.leaves.left.now
+          c.in-Some.node.now (flat_view c.in-Some-of.flat) whole memory c.leaves.so_far c.in_ok-so_far.so_far options first
+          c.in-Some-of.ensures.0 c.in_ok-so_far.ensures (c.leaves.invariant.owes set whole memory options may loop);
       steps = λ n. steps_less n c.args.the_row.trees.now c.leaves.left.now c.in-Some.behind.now c.in-Some.node.now
           c.args.the_row.last.now first (c.leaves.invariant.steps n);
     }

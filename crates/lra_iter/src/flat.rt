@@ -1,0 +1,144 @@
+//! Trees that are passed where they stand: those with no tree in them, and rows of such.
+
+ghost use Rattle.std.specs.Prelude.{◌≡◌, ◌≤◌, ◌^◌, true, map, IfOk, IfSome};
+ghost use Rattle.lra_operations.specs.GraphViews.{node_view, row};
+ghost use Rattle.lra_iter.specs.Fits.{TreeFits};
+ghost use Rattle.lra_iter.specs.Flat.{flat_view, AreLeaves, Follows, HasLeaves, IsLeaf};
+ghost use Rattle.lra_iter.specs.Shapes.{leaf_view};
+
+use crate::leaves::pass_leaf;
+use crate::outcome::Outcome;
+use crate::shapes::{Leaf, Row, Shape};
+use lra_base::Options;
+use lra_domain::Domain;
+use lra_operations::Node;
+use std::alloc::{AllocError, Global};
+
+/// A tree with no tree in it, or a row of such.
+#[derive(Clone, Copy)]
+pub enum Flat<'a> {
+    Leaf(Leaf<'a>),
+    Row(Row<'a>),
+}
+
+/// Whether no tree stands in the tree.
+fn is_leaf(options: &Options, node: &Node) -> bool
+    ensures { result ≡ true → IsLeaf node.now }
+{
+    match Shape::of(options, node) {
+        Shape::Leaf(_) => true,
+        _ => false,
+    }
+}
+
+/// Whether no tree stands in any of the row's trees.
+fn has_leaves(the_row: Row<'_>) -> bool
+    ensures { result ≡ true → HasLeaves the_row.entry }
+{
+    let Row {
+        options,
+        trees,
+        last,
+    } = the_row;
+    let mut left = trees;
+    'trees: while let Some((node, behind)) = left.split_first() {
+        if !is_leaf(options, node) {
+            return false;
+        }
+        left = behind;
+    }
+    is_leaf(options, last)
+}
+
+/// The tree, in which none stands.
+fn leaf_of<'a>(options: &'a Options, node: &'a Node) -> Leaf<'a>
+    requires { IsLeaf node.now }
+    ensures { node_view node.now ≡ leaf_view result }
+{
+    match Shape::of(options, node) {
+        Shape::Leaf(leaf) => leaf,
+        Shape::Row(_) => unreachable!(),
+        Shape::Choice(_) => unreachable!(),
+        Shape::Loop(_) => unreachable!(),
+        Shape::Catch(_) => unreachable!(),
+    }
+}
+
+/// What the pass of a tree with no tree in it finds comes behind what was found before it.
+fn pass_on<D: Domain>(
+    alloc: Global,
+    options: &Options,
+    leaf: &Leaf<'_>,
+    so_far: Outcome<D>,
+) -> Result<Outcome<D>, AllocError>
+    requires parts { 1 ≤ options.now.parts }
+    requires few { D.meaning.dims so_far.normal ≤ 2 ^ 30 }
+    requires fits { TreeFits (leaf_view leaf.now) (D.meaning.dims so_far.normal) }
+    ensures { IfOk result (Follows D.meaning options.now (leaf_view leaf.now) so_far) }
+{
+    let Outcome {
+        found,
+        normal,
+        flag,
+    } = so_far;
+    let part = pass_leaf(alloc, options, leaf, normal, flag)?;
+    found.follow_with(part)
+}
+
+/// So does what the pass of a row of such trees finds.
+fn pass_along<D: Domain>(
+    alloc: Global,
+    options: &Options,
+    the_row: Row<'_>,
+    begun: Outcome<D>,
+) -> Result<Outcome<D>, AllocError>
+    requires parts { 1 ≤ options.now.parts }
+    requires few { D.meaning.dims begun.normal ≤ 2 ^ 30 }
+    requires fits { TreeFits (row (map node_view the_row.trees.now) (node_view the_row.last.now))
+        (D.meaning.dims begun.normal) }
+    requires leaves { HasLeaves the_row }
+    ensures { IfOk result (Follows D.meaning options.now
+        (row (map node_view the_row.entry.trees.now) (node_view the_row.entry.last.now)) begun) }
+{
+    let mut so_far = begun;
+    let mut left = the_row.trees;
+    'leaves: while let Some((node, behind)) = left.split_first() {
+        let leaf = leaf_of(options, node);
+        so_far = pass_on(alloc, options, &leaf, so_far)?;
+        left = behind;
+    }
+    let last = leaf_of(options, the_row.last);
+    pass_on(alloc, options, &last, so_far)
+}
+
+impl<'a> Flat<'a> {
+    /// The tree, if it is passed where it stands.
+    pub fn of(options: &'a Options, node: &'a Node) -> Option<Flat<'a>>
+        ensures { IfSome result (λ x. (node_view node.now ≡ flat_view x) × AreLeaves x) }
+    {
+        match Shape::of(options, node) {
+            Shape::Leaf(leaf) => Some(Flat::Leaf(leaf)),
+            Shape::Row(the_row) if has_leaves(the_row) => Some(Flat::Row(the_row)),
+            _ => None,
+        }
+    }
+
+    /// What its pass finds comes behind what was found before it.
+    pub fn pass_on<D: Domain>(
+        self,
+        alloc: Global,
+        options: &Options,
+        so_far: Outcome<D>,
+    ) -> Result<Outcome<D>, AllocError>
+        requires parts { 1 ≤ options.now.parts }
+        requires few { D.meaning.dims so_far.normal ≤ 2 ^ 30 }
+        requires fits { TreeFits (flat_view self) (D.meaning.dims so_far.normal) }
+        requires leaves { AreLeaves self }
+        ensures { IfOk result (Follows D.meaning options.now (flat_view self.entry) so_far) }
+    {
+        match self {
+            Flat::Leaf(leaf) => pass_on(alloc, options, &leaf, so_far),
+            Flat::Row(the_row) => pass_along(alloc, options, the_row, so_far),
+        }
+    }
+}
