@@ -15,7 +15,6 @@ use Rattle.lra_linear.proofs.OneSpelling.{falsity_never, given_from}
 use Rattle.lra_linear.proofs.Polyhedra.{con_gen}
 use Rattle.lra_linear.proofs.Products.{negated_length}
 use Rattle.lra_linear.proofs.SetOperations.{has_vertex}
-use Rattle.lra_sys.specs.Listed.{generators}
 
 -- ---- without a point
 pub falsity_is_empty : (n : ℕ) (rows : List Given) → rows ≡ inequality (falsity n) ∷ [] → IsEmptySet n (Con rows)

@@ -1,9 +1,10 @@
 -- Generators parted into lines and others, and the columns of a matrix of tight rows.
-use Rattle.std.proofs.Common.{◌≡◌, ◌≢◌, ℕ, suc, ◌+◌, ◌<◌, ◌≤◌, add-one, Bool, true, false, cond, List, [], ◌∷◌, ◌++◌, length, take, drop, get_or, map, ap, refl, sym, ◌∙◌, subst, ℤ, pos, arith}
+use Rattle.std.proofs.Common.{◌≡◌, ◌≢◌, IsTrue, ℕ, suc, ◌+◌, ◌<◌, ◌≤◌, add-one, Bool, true, false, cond, List, [], ◌∷◌, ◌++◌, length, take, drop, get_or, map, ap, refl, sym, ◌∙◌, subst, ℤ, pos, arith}
 use Rattle.std.proofs.lemmas.List.{append-nil, ext_get_or, length-map, take_all, get_or-map}
 use Rattle.std.specs.Ordering.{int_eq}
 use Rattle.lra_bits.specs.Matrix.{Matrix}
 use Rattle.lra_bits.specs.TruthValues.{value_at}
+use Rattle.lra_linear.specs.ConeStrain.{row_limit}
 use Rattle.lra_linear.specs.Descriptions.{Given, inequality, lines_of, rays_of}
 use Rattle.lra_linear.specs.Polyhedra.{positivity}
 use Rattle.lra_linear.specs.Vectors.{entry, product}
@@ -11,8 +12,10 @@ use Rattle.lra_linear.proofs.OneSpelling.{positivity_product}
 use Rattle.lra_cone.specs.Cones.{saturation_of as by_rays, saturation_rows, tight_values}
 use Rattle.lra_steps.specs.Steps.{IsFilled}
 use Rattle.lra_linear.specs.Kinds.{is_line}
+use Rattle.lra_sys.specs.Dimensions.{too_many_dimensions}
 use Rattle.lra_sys.specs.Listed.{given_by}
 use Rattle.lra_linear.specs.declared.GenKind.{GenKind}
+use Rattle.lra_duality.specs.Onward.{MayGoOn, MayTurn}
 use Rattle.lra_duality.specs.Saturations.{column, saturated, saturation_of}
 use Rattle.lra_duality.proofs.SaturationLemmas.{given_length}
 use Rattle.lra_sys.proofs.FirstMembers.{front, front_length, given_more, given_split, member}
@@ -208,3 +211,25 @@ few_given equal rows seen kinds also most er ek n h =
     let l = given_length equal rows kinds (ap length (sym ek) ∙ n) in
     let s = ap length er in
     omega (arith, l, s, h)
+
+pub given_count : {K : Type 0} (equal : K → Bool) (rows seen : List (List ℤ)) (kinds also : List K) → seen ≡ rows → also ≡ kinds → length also ≡ length rows →
+    length seen ≡ length (given_by equal rows kinds)
+given_count equal rows seen kinds also er ek n = ap length er ∙ sym (given_length equal rows kinds (ap length (sym ek) ∙ n))
+
+-- ---- whether they make a cone
+never : (b : Bool) → b ≡ false → IsTrue b → ⊥
+never b f t = cc
+
+pub fitting : (n count : ℕ) (given : List Given) → n < too_many_dimensions → 0 < count → count ≤ row_limit → count ≡ length given → MayGoOn n given
+fitting n count given small some few e = record { small = small; some = subst (λ (i : ℕ). 0 < i) e some; few = subst (λ (i : ℕ). i ≤ row_limit) e few }
+
+pub not_fitting : (n count : ℕ) (given : List Given) (b : Bool) → (n < too_many_dimensions → 0 < count → count ≤ row_limit → IsTrue b) → b ≡ false → count ≡ length given →
+    ¬ (MayGoOn n given)
+not_fitting n count given b fits f e m =
+    never b f (fits m.small (subst (λ (i : ℕ). 0 < i) (sym e) m.some) (subst (λ (i : ℕ). i ≤ row_limit) (sym e) m.few))
+
+pub not_turning : (n : ℕ) (rows given : List Given) → ¬ (MayGoOn n given) → ¬ (MayTurn n rows given)
+not_turning n rows given fails m = fails m.on
+
+pub no_room : (n count : ℕ) (rows given : List Given) (b : Bool) → (count + 1 ≤ row_limit → IsTrue b) → b ≡ false → count ≡ length rows → ¬ (MayTurn n rows given)
+no_room n count rows given b leaves f e m = never b f (leaves (subst (λ (i : ℕ). i + 1 ≤ row_limit) (sym e) m.room))

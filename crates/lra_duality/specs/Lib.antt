@@ -4,5 +4,7 @@ pub mod Maxima
 pub mod Residues
 -- Which constraints are tight at which generators.
 pub mod Saturations
+-- Cones of the two lists.
+pub mod Onward
 -- The constraints of tests.
 pub mod Rows

@@ -1,13 +1,14 @@
 //! The cone of what is valid on a polyhedron's generators, from its two lists, with no conversion.
 
 ghost use Rattle.std.specs.Prelude.{◌≡◌, ◌≢◌, ◌↔◌, ◌+◌, ◌<◌, ◌≤◌, ◌∷◌, ◌++◌, [], length, List, IsTrue, IfOk};
-ghost use Rattle.std.specs.Prelude.{IfSome};
+ghost use Rattle.std.specs.Prelude.{IfSome, IfNone};
 ghost use Rattle.lra_linear.specs.ConeStrain.{row_limit};
 ghost use Rattle.lra_linear.specs.Descriptions.{Given, lines_of, rays_of};
 ghost use Rattle.lra_linear.specs.Polyhedra.{IsPolyhedron};
 ghost use Rattle.lra_cone.specs.Cones.{IsCone, saturation_of as by_rays};
 ghost use Rattle.lra_sys.specs.Dimensions.{too_many_dimensions};
 ghost use Rattle.lra_sys.specs.Listed.{constraints, generators};
+ghost use Rattle.lra_duality.specs.Onward.{MayTurn};
 ghost use Rattle.lra_duality.specs.Saturations.{saturation_of, IsCovered, IsCoveredAt};
 
 use crate::saturation::mark_saturated;
@@ -153,9 +154,9 @@ fn facets(
     Ok(whole)
 }
 
-/// The cone of what is valid on the generators, by the constraints; none where there is no generator, or are as many
-/// constraints as a cone may have rays. The positivity row is one of its rays where no inequality is tight wherever it
-/// is.
+/// The cone of what is valid on the generators, by the constraints; none where `cone_of` gives none, or there are as many
+/// constraints, equalities counted with them, as a cone may have rays. The positivity row is one of its rays where no
+/// inequality is tight wherever it is.
 pub fn facet_cone(
     alloc: Global,
     list: &ConSys,
@@ -173,6 +174,8 @@ pub fn facet_cone(
     ensures dims { IfOk result (λ cone. IfSome cone (λ c. c.dims ≡ list.now.dims)) }
     ensures taken { IfOk result (λ cone. IfSome cone (λ c. c.taken ≡ generators by_generators.now)) }
     ensures some { IfOk result (λ cone. IfSome cone (λ _. generators by_generators.now ≢ [])) }
+    ensures none { IfOk result (λ cone. IfNone cone
+        (¬ (MayTurn list.now.dims (constraints list.now) (generators by_generators.now)))) }
 {
     let (columns, _column_kinds) = (by_generators.rows(), by_generators.kinds());
     let (rows, _kinds) = (list.rows(), list.kinds());

@@ -1,6 +1,6 @@
 //! The cone of a polyhedron from its two lists, with no conversion.
 
-ghost use Rattle.std.specs.Prelude.{◌≡◌, ◌∷◌, ◌+◌, ◌<◌, ◌≤◌, suc, pos, length, List, IsTrue, IfOk, IfSome};
+ghost use Rattle.std.specs.Prelude.{◌≡◌, ◌∷◌, ◌+◌, ◌<◌, ◌≤◌, suc, pos, length, List, IsTrue, IfOk, IfSome, IfNone};
 ghost use Rattle.std.specs.Ordering.{int_eq};
 ghost use Rattle.lra_linear.specs.ConeStrain.{row_limit};
 ghost use Rattle.lra_linear.specs.Descriptions.{Given, inequality, lines_of, rays_of};
@@ -10,6 +10,7 @@ ghost use Rattle.lra_bits.specs.TruthValues.{value_at};
 ghost use Rattle.lra_cone.specs.Cones.{saturation_of as by_rays};
 ghost use Rattle.lra_sys.specs.Dimensions.{too_many_dimensions};
 ghost use Rattle.lra_sys.specs.Listed.{constraints, generators};
+ghost use Rattle.lra_duality.specs.Onward.{MayGoOn};
 ghost use Rattle.lra_duality.specs.Saturations.{column, saturation_of};
 
 use crate::lists::join_rows;
@@ -127,24 +128,26 @@ fn behind_positivity(alloc: Global, list: &ConSys) -> Result<ConSys, AllocError>
     join_rows(&first, list)
 }
 
-/// Whether a cone of n dimensions may be made of so many generators.
+/// Whether a cone of n dimensions may be made of so many generators, lines counted with them.
 pub fn fits(n: usize, count: usize) -> bool
     ensures small { IsTrue result → n < too_many_dimensions }
     ensures some { IsTrue result → 0 < count }
     ensures few { IsTrue result → count ≤ row_limit }
+    ensures fits { n < too_many_dimensions → 0 < count → count ≤ row_limit → IsTrue result }
 {
     n < TOO_MANY_DIMENSIONS && count > 0 && count <= RAY_LIMIT
 }
 
-/// Whether a cone of so many rays may have one more.
+/// Whether a cone may be made of so many constraints, equalities counted with them, and one more.
 pub fn leaves_room(count: usize) -> bool
-    ensures { IsTrue result → count + 1 ≤ row_limit }
+    ensures room { IsTrue result → count + 1 ≤ row_limit }
+    ensures leaves { count + 1 ≤ row_limit → IsTrue result }
 {
     count < RAY_LIMIT
 }
 
-/// The cone of the constraints, by these generators; none where there is no generator, or are more than a cone may
-/// have.
+/// The cone of the constraints, by these generators; none where there is no generator, or are more, lines counted with
+/// them, than a cone may have rays, or too many dimensions.
 pub fn cone_of(
     alloc: Global,
     list: &ConSys,
@@ -162,6 +165,8 @@ pub fn cone_of(
     ensures dims { IfOk result (λ cone. IfSome cone (λ c. c.dims ≡ list.now.dims)) }
     ensures taken { IfOk result (λ cone. IfSome cone (λ c. c.taken ≡
         inequality (positivity list.now.dims) ∷ constraints list.now)) }
+    ensures some { IfOk result (λ cone. IfSome cone (λ _. MayGoOn list.now.dims (generators by_generators.now))) }
+    ensures none { IfOk result (λ cone. IfNone cone (¬ (MayGoOn list.now.dims (generators by_generators.now)))) }
 {
     let (columns, _kinds) = (by_generators.rows(), by_generators.kinds());
     if !fits(list.dims(), columns.len()) {

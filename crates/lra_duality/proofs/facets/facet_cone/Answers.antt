@@ -1,12 +1,13 @@
--- Goals of `facet_cone`: the cone of what is valid on the generators, by the constraints; none where there is no
--- generator, or are as many constraints as a cone may have rays.
-use Rattle.std.proofs.Common.{◌∙◌, List, ap, refl, sym}
+-- Goals of `facet_cone`: the cone of what is valid on the generators, by the constraints; none where `cone_of` gives
+-- none, or there are as many constraints, equalities counted with them, as a cone may have rays.
+use Rattle.std.proofs.Common.{◌∙◌, ℕ, List, ap, refl, subst, sym}
 use Rattle.lra_linear.specs.Descriptions.{Given}
 use Rattle.lra_cone.specs.Cones.{Shape, saturation_of as by_rays}
-use Rattle.lra_linear.specs.Kinds.{is_line}
+use Rattle.lra_linear.specs.Kinds.{is_equality, is_line}
 use Rattle.lra_sys.specs.Listed.{constraints, generators}
+use Rattle.lra_duality.specs.Onward.{MayGoOn}
 use Rattle.lra_duality.proofs.FacetLemmas.{seen, taken_generators}
-use Rattle.lra_duality.proofs.StartLemmas.{some_given}
+use Rattle.lra_duality.proofs.StartLemmas.{given_count, no_room, not_fitting, not_turning, some_given}
 use Rattle.lra_duality.proofs.facets.facet_cone.Goals as goal
 
 pub facets-requires-clause-some : goal.facets-requires-clause-some
@@ -39,3 +40,19 @@ returns-clause-some c =
     let given = c.args.by_generators.now in
     some_given is_line given.rows c.rows-columns.result.now given.kinds c.kinds-column_kinds.result.now c.rows-columns.ensures.rows c.kinds-column_kinds.ensures.kinds
     c.kinds-column_kinds.ensures.len (c.fits.ensures.some c.if-not-fits.false)
+
+pub returns-then-not-fits-clause-none : goal.returns-then-not-fits-clause-none
+returns-then-not-fits-clause-none c =
+    let list = c.args.list.now in
+    let given = c.args.by_generators.now in
+    let count = given_count is_line given.rows c.rows-columns.result.now given.kinds c.kinds-column_kinds.result.now c.rows-columns.ensures.rows c.kinds-column_kinds.ensures.kinds
+    c.kinds-column_kinds.ensures.len in
+    not_turning list.dims (constraints list) (generators given)
+    (subst (λ (n : ℕ). ¬ (MayGoOn n (generators given))) c.dims.ensures
+    (not_fitting c.dims.result _ (generators given) c.fits.result c.fits.ensures.fits c.if-not-fits.true count))
+
+pub returns-then-not-leaves_room-clause-none : goal.returns-then-not-leaves_room-clause-none
+returns-then-not-leaves_room-clause-none c =
+    let list = c.args.list.now in
+    let count = given_count is_equality list.rows c.rows-rows.result.now list.kinds c.kinds-kinds.result.now c.rows-rows.ensures.rows c.kinds-kinds.ensures.kinds c.kinds-kinds.ensures.len in
+    no_room list.dims _ (constraints list) (generators c.args.by_generators.now) c.leaves_room.result c.leaves_room.ensures.leaves c.if-not-leaves_room.true count

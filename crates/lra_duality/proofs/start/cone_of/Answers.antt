@@ -1,10 +1,12 @@
--- Goals of `cone_of`: the cone of the constraints, by these generators; none where there is no generator, or are
--- more than a cone may have.
+-- Goals of `cone_of`: the cone of the constraints, by these generators; none where there is no generator, or are more,
+-- lines counted with them, than a cone may have rays, or too many dimensions.
+use Rattle.std.proofs.Common.{ℕ, subst}
 use Rattle.lra_linear.specs.ConeStrain.{row_limit}
 use Rattle.lra_linear.specs.Kinds.{is_line}
 use Rattle.lra_sys.specs.Listed.{constraints, generators}
+use Rattle.lra_duality.specs.Onward.{MayGoOn}
 use Rattle.lra_duality.proofs.KeptCones.{start_cone}
-use Rattle.lra_duality.proofs.StartLemmas.{few_given, matrix_width, some_given, start_matrix}
+use Rattle.lra_duality.proofs.StartLemmas.{few_given, fitting, given_count, matrix_width, not_fitting, some_given, start_matrix}
 use Rattle.lra_duality.proofs.start.cone_of.Goals as goal
 
 pub ray_saturation-requires : goal.ray_saturation-requires
@@ -29,3 +31,17 @@ of_lists-cone-requires-clause-saturation c =
     let list = c.args.by_generators.now in
     start_matrix c.args.list.now.dims list.dims (constraints c.args.list.now) (generators list) (constraints c.in_ok-taken.taken) c.in_ok-rays.rays.items c.in_ok-matrix.matrix c.requires.dims
     c.in_ok-taken.ensures.taken c.in_ok-rays.ensures (c.in_ok-matrix.ensures (constraints c.args.list.now) c.requires.saturation)
+
+pub returns-clause-some : goal.returns-clause-some
+returns-clause-some c =
+    let list = c.args.by_generators.now in
+    let count = given_count is_line list.rows c.rows-columns.result.now list.kinds c.kinds-kinds.result.now c.rows-columns.ensures.rows c.kinds-kinds.ensures.kinds c.kinds-kinds.ensures.len in
+    subst (λ (n : ℕ). MayGoOn n (generators list)) c.dims.ensures
+    (fitting c.dims.result _ (generators list) (c.fits.ensures.small c.if-not-fits.false) (c.fits.ensures.some c.if-not-fits.false) (c.fits.ensures.few c.if-not-fits.false) count)
+
+pub returns-then-not-fits-clause-none : goal.returns-then-not-fits-clause-none
+returns-then-not-fits-clause-none c =
+    let list = c.args.by_generators.now in
+    let count = given_count is_line list.rows c.rows-columns.result.now list.kinds c.kinds-kinds.result.now c.rows-columns.ensures.rows c.kinds-kinds.ensures.kinds c.kinds-kinds.ensures.len in
+    subst (λ (n : ℕ). ¬ (MayGoOn n (generators list))) c.dims.ensures
+    (not_fitting c.dims.result _ (generators list) c.fits.result c.fits.ensures.fits c.if-not-fits.true count)
