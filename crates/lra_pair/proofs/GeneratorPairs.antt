@@ -88,12 +88,14 @@ own_lost_strain n s cause losses after told d k none t et x =
     (subst (λ (m : ℕ). Strains (suc m) s.taken t.loss) d (own_strain s s.taken cause t.loss k refl t.own x)))
 
 -- ---- further generators
+pub further_rows : (more : Listed GenKind) (rows : Listed ConKind) → rows.rows ≡ more.rows → rows.kinds ≡ map dual_kind more.kinds → constraints rows ≡ generators more
+further_rows more rows er ek = ap (λ (y : List (List ℤ)). given_by is_equality y rows.kinds) er ∙ ap (given_by is_equality more.rows) ek ∙ dual_given more.rows more.kinds
+
 -- where nothing was lost, all are taken in
 pub further_taken : (more : Listed GenKind) (rows : Listed ConKind) (start cone : Shape) (kept : List Given) (losses : List Loss) → rows.rows ≡ more.rows → rows.kinds ≡ map dual_kind more.kinds →
     IsConversion start.taken (constraints rows) kept cone losses → losses ≡ [] → cone.taken ≡ start.taken ++ generators more
 further_taken more rows start cone kept losses er ek c none =
-    c.taken ∙ ap (λ (l : List Given). start.taken ++ l) (c.whole none ∙ ap (λ (y : List (List ℤ)). given_by is_equality y rows.kinds) er ∙ ap (given_by is_equality more.rows) ek ∙
-    dual_given more.rows more.kinds)
+    c.taken ∙ ap (λ (l : List Given). start.taken ++ l) (c.whole none ∙ further_rows more rows er ek)
 
 pub further_columns : (more : Listed GenKind) (first taken : List Given) → FitKinds more.rows more.kinds → AreGenerators first → taken ≡ first ++ generators more → AreGenerators taken
 further_columns more first taken f columns e = subst AreGenerators (sym e)

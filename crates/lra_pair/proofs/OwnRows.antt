@@ -1,5 +1,5 @@
 -- The rows of a cone as the code goes through them, and the numbers that pass as they are reduced.
-use Rattle.std.proofs.Common.{◌≡◌, ℕ, zero, suc, ◌+◌, ◌<◌, ◌≤◌, Bool, true, false, cond, nat_lt, ◌==◌, List, [], ◌∷◌, ◌++◌, length, get_or, take, refl, ap, sym, ◌∙◌, subst, arith, pos, ℤ, inl, inr}
+use Rattle.std.proofs.Common.{◌≡◌, ◌≢◌, ℕ, zero, suc, ◌+◌, ◌<◌, ◌≤◌, Bool, true, false, cond, nat_lt, ◌==◌, List, [], ◌∷◌, ◌++◌, length, get_or, take, refl, ap, sym, ◌∙◌, subst, arith, pos, ℤ, inl, inr}
 use Rattle.std.specs.List.{Contains}
 use Rattle.std.specs.Ordering.{int_eq}
 use Rattle.std.proofs.lemmas.Bool.{eqb-true}
@@ -227,6 +227,9 @@ none_of {A = A} xs n b l e t = nothing xs (l ∙ eqb-true n 0 (sym e ∙ t))
     nothing : (xs : List A) → length xs ≡ 0 → xs ≡ []
     nothing [] h = refl
     nothing (x ∷ xs) h = absurd (omega (arith, h))
+
+pub some_of : {A : Type 0} (xs : List A) (n : ℕ) (b : Bool) → length xs ≡ n → b ≡ (n == 0) → b ≡ false → xs ≢ []
+some_of {A = A} xs n b l e f h = let z : n ≡ 0 = sym l ∙ ap length h in let s : b ≡ (0 == 0) = e ∙ ap (λ (m : ℕ). m == 0) z in cc
 
 pub no_rows : (xs own : List (List ℤ)) (b : Bool) → b ≡ (length xs == 0) → b ≡ true → xs ≡ own → own ≡ []
 no_rows xs own b e t s = sym s ∙ none_of xs (length xs) b refl e t

@@ -1,5 +1,6 @@
 -- What is told of lost rows.
-use Rattle.std.proofs.Common.{◌≡◌, ℕ, zero, suc, ◌<◌, Bool, true, false, List, [], ◌∷◌, ◌++◌, length, get_or, drop, take, refl, ap, sym, ◌∙◌, subst, arith, ℤ, inl, inr}
+use Rattle.std.proofs.Common.{◌≡◌, ◌≢◌, ℕ, zero, suc, ◌<◌, Bool, true, false, List, [], ◌∷◌, ◌++◌, length, get_or, drop, take, refl, ap, sym, ◌∙◌, subst, arith, ℤ, inl, inr, Option, Some, None}
+use Rattle.std.specs.Option.{IfNone}
 use Rattle.std.specs.List.{Contains}
 use Rattle.std.proofs.lemmas.List.{append-nil, get_or_default}
 use Rattle.std.proofs.lemmas.List.Elements.{Contains-append_cases, Contains-append_left, Contains-append_right}
@@ -24,6 +25,7 @@ use Rattle.lra_cone.specs.Losses.{IfLost}
 use Rattle.lra_cone.proofs.TightRows.{with_later}
 use Rattle.lra_pair.specs.KeptRows.{IsOfSome}
 use Rattle.lra_pair.specs.OwnLists.{IsOwnLoss, IsOwnCause, IsPositive, TellsOwnLoss}
+use Rattle.lra_pair.specs.TriedRows.{IsMadeOf, IsOfTried, StrainsWhenTried}
 
 -- ---- a row of a list once more
 row_again : (list : List Given) (g : Given) → Contains list g → (t : List ℤ) → Contains (with_row g.equal g.row (system_of list)) t → Contains (system_of list) t
@@ -222,3 +224,44 @@ some_taken n d rows kept s start losses p e first c h =
       among = λ g m. still_among front kept rows c.among g (subst (λ (l : List Given). Contains l g) (taken_behind n rows kept s start losses first c) (h.among g m));
       made = subst (λ (m : ℕ). IsPolyhedronOf m (Con h.rows) p) e h.made;
     }
+
+-- ---- rows that were tried
+pub of_tried : (n d : ℕ) (rows kept : List Given) (s start : Shape) (losses after : List Loss) (p : Polyhedron) → d ≡ n → s.dims ≡ start.dims → start.dims ≡ n →
+    IsConversion start.taken rows kept s losses → IsMadeOf d s losses p after → IsOfTried n start.taken rows p after
+of_tried n d rows kept s start losses after p e same dims c h = record {
+  cone = s;
+  dims = same ∙ dims;
+  kept = kept;
+  left = losses;
+  conversion = c;
+  made = subst (λ (m : ℕ). IsMadeOf m s losses p after) e h;
+}
+
+pub behind_positivity : (n d : ℕ) (taken : List Given) → d ≡ n → taken ≡ inequality (positivity d) ∷ [] → taken ≡ with_positivity n []
+behind_positivity n d taken e first = first ∙ ap (λ (m : ℕ). inequality (positivity m) ∷ []) e
+
+pub one_left_out : (n : ℕ) (first all kept rows : List Given) (s : Shape) (losses : List Loss) → s.dims ≡ n → rows ≡ all → IsConversion first rows kept s losses → losses ≢ [] →
+    StrainsWhenTried n first all
+one_left_out n first all kept rows s losses d e c some = record {
+  cone = s;
+  dims = d;
+  kept = kept;
+  left = losses;
+  conversion = subst (λ (l : List Given). IsConversion first l kept s losses) e c;
+  strains = inl some;
+}
+
+pub list_strains : (n : ℕ) (first all kept rows : List Given) (s : Shape) (losses : List Loss) → s.dims ≡ n → rows ≡ all → IsConversion first rows kept s losses → losses ≡ [] →
+    (cause : Cause) × IsOwnCause s cause → StrainsWhenTried n first all
+list_strains n first all kept rows s losses d e c none h = record {
+  cone = s;
+  dims = d;
+  kept = kept;
+  left = losses;
+  conversion = subst (λ (l : List Given). IsConversion first l kept s losses) e c;
+  strains = inr (none, h);
+}
+
+pub if_none : {A : Type 0} (o : Option A) (P Q : Type 0) → (P → Q) → IfNone o P → IfNone o Q
+if_none None P Q f h = f h
+if_none (Some x) P Q f h = tt

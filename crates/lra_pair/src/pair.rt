@@ -1,23 +1,26 @@
 //! Both canonical lists of a polyhedron.
 
-ghost use Rattle.std.specs.Prelude.{◌≡◌, ◌∷◌, ◌++◌, ◌<◌, ◌≤◌, [], List, suc, length, drop, IfOk, IfSome, OnOk};
+ghost use Rattle.std.specs.Prelude.{◌≡◌, ◌∷◌, ◌++◌, ◌<◌, ◌≤◌, [], List, suc, length, drop, IfOk, IfSome, IfNone};
+ghost use Rattle.std.specs.Prelude.{OnOk};
 ghost use Rattle.std.specs.List.{Contains};
 ghost use Rattle.lra_linear.specs.Descriptions.{AreGenerators, Con, Gen, Given, inequality};
 ghost use Rattle.lra_linear.specs.ConeStrain.{row_limit};
 ghost use Rattle.lra_linear.specs.Formed.{KeepsLimit};
-ghost use Rattle.lra_linear.specs.OperationStrain.{FromRowsStrains, FromGeneratorsStrains};
+ghost use Rattle.lra_linear.specs.OperationStrain.{FromRowsStrains, FromGeneratorsStrains, with_positivity};
 ghost use Rattle.lra_linear.specs.Points.{IsEmptySet, IsWithin};
 ghost use Rattle.lra_linear.specs.Polyhedra.{IsPolyhedron, IsPolyhedronOf, falsity};
 ghost use Rattle.lra_sys.specs.Dimensions.{too_many_dimensions};
 ghost use Rattle.lra_sys.specs.Listed.{constraints, generators, FitKinds};
 ghost use Rattle.lra_cone.specs.Cones.{IsCone};
 ghost use Rattle.lra_linear.specs.Strain.{Strains};
+ghost use Rattle.lra_linear.specs.declared.Cause as told;
 ghost use Rattle.lra_linear.specs.declared.GenKind.TheVariants.{Point};
 ghost use Rattle.lra_cone.specs.Conversions.{IsConversion};
 ghost use Rattle.lra_cone.specs.Losses.{IfLost};
 ghost use Rattle.lra_pair.specs.KeptRows.{IsOfSome};
-ghost use Rattle.lra_pair.specs.OwnLists.{IsOwnList, IsOwnLoss, IsPositive, TellsOwnLoss};
+ghost use Rattle.lra_pair.specs.OwnLists.{IsOwnCause, IsOwnList, IsOwnLoss, IsPositive, TellsOwnLoss};
 ghost use Rattle.lra_pair.specs.TakenPoints.{AreTaken};
+ghost use Rattle.lra_pair.specs.TriedRows.{IsMadeOf, IsOfTried, StrainsWhenTried};
 
 use crate::own::{Own, limit_own_list};
 use crate::valid::valid_list;
@@ -206,6 +209,7 @@ fn of_taken_rows(
     ensures some { IfOk result (λ r. IsOfSome n (drop 1 cone.now.taken) r.0) }
     ensures strain { IfOk result (λ r. (first all kept : List Given) →
         IsConversion first all kept cone.now losses.items → IfLost (Strains (suc n) (first ++ all)) r.1.items) }
+    ensures made { IfOk result (λ r. IsMadeOf n cone.now losses.items r.0 r.1.items) }
 {
     match limit_own_list(alloc, cone)? {
         Ok(own) => {
@@ -235,6 +239,7 @@ pub fn from_cone(alloc: Global, start: Cone, rows: &ConSys) -> Result<(Pair, Vec
     ensures some { IfOk result (λ r. IsOfSome rows.now.dims (drop 1 start.taken ++ constraints rows.now) r.0) }
     ensures strain { IfOk result (λ r.
         IfLost (FromRowsStrains rows.now.dims (drop 1 start.taken ++ constraints rows.now)) r.1.items) }
+    ensures tried { IfOk result (λ r. IsOfTried rows.now.dims start.taken (constraints rows.now) r.0 r.1.items) }
 {
     let n = rows.dims();
     let conversion = take_rows(alloc, start, rows)?;
@@ -256,6 +261,8 @@ pub fn from_rows(alloc: Global, rows: &ConSys) -> Result<(Pair, Vec<Loss>), Allo
     ensures within { IfOk result (λ r. IsWithin rows.now.dims (Con (constraints rows.now)) (Con r.0.rows)) }
     ensures some { IfOk result (λ r. IsOfSome rows.now.dims (constraints rows.now) r.0) }
     ensures strain { IfOk result (λ r. IfLost (FromRowsStrains rows.now.dims (constraints rows.now)) r.1.items) }
+    ensures tried { IfOk result (λ r. IsOfTried rows.now.dims (with_positivity rows.now.dims []) (constraints rows.now)
+        r.0 r.1.items) }
 {
     let n = rows.dims();
     if n >= TOO_MANY_DIMENSIONS {
@@ -389,7 +396,8 @@ fn convert_own_list(alloc: Global, n: usize, cone: &Cone) -> Result<Option<Pair>
     requires dims { cone.now.dims ≡ n }
     requires columns { AreGenerators cone.now.taken }
     requires some { ¬ (IsEmptySet n (Gen cone.now.taken)) }
-    ensures { IfOk result (λ pair. IfSome pair (IsPolyhedronOf n (Gen cone.now.taken))) }
+    ensures pair { IfOk result (λ pair. IfSome pair (IsPolyhedronOf n (Gen cone.now.taken))) }
+    ensures none { IfOk result (λ pair. IfNone pair ((cause : told.Cause) × IsOwnCause cone.now cause)) }
 {
     match limit_own_list(alloc, cone)? {
         Ok(own) => {
@@ -413,8 +421,10 @@ pub fn with_generators(
     requires kinds { FitKinds more.now.rows more.now.kinds }
     requires columns { AreGenerators start.taken }
     requires some { ¬ (IsEmptySet more.now.dims (Gen (start.taken ++ generators more.now))) }
-    ensures { IfOk result (λ pair. IfSome pair
+    ensures pair { IfOk result (λ pair. IfSome pair
         (IsPolyhedronOf more.now.dims (Gen (start.taken ++ generators more.now)))) }
+    ensures none { IfOk result (λ pair. IfNone pair
+        (StrainsWhenTried more.now.dims start.taken (generators more.now))) }
 {
     let n = more.dims();
     let rows = dual_rows(alloc, more)?;

@@ -8,7 +8,8 @@ use Rattle.lra_linear.specs.Polyhedra.{IsPolyhedronOf}
 use Rattle.lra_sys.specs.Listed.{constraints}
 use Rattle.lra_cone.specs.Losses.{IfLost}
 use Rattle.lra_pair.specs.KeptRows.{IsOfSome}
-use Rattle.lra_pair.proofs.PairLosses.{none_behind, positive_alone}
+use Rattle.lra_pair.specs.TriedRows.{IsOfTried}
+use Rattle.lra_pair.proofs.PairLosses.{behind_positivity, none_behind, positive_alone}
 use Rattle.lra_pair.proofs.pair.from_rows.Goals as goal
 
 pub from_cone-requires-clause-positive : goal.from_cone-requires-clause-positive
@@ -37,3 +38,9 @@ returns-clause-some c =
     let d = c.args.rows.now.dims in
     let same = none_behind d c.dims-n.result c.in_ok-positive_cone.field-0.taken (constraints c.args.rows.now) c.dims-n.ensures c.in_ok-positive_cone.ensures.taken in
     IfOk-weaker c.from_cone.result _ _ (λ r h. subst (λ (l : List Given). IsOfSome d l r.0) same h) c.from_cone.ensures.some
+
+pub returns-clause-tried : goal.returns-clause-tried
+returns-clause-tried c =
+    let d = c.args.rows.now.dims in
+    let first = behind_positivity d c.dims-n.result c.in_ok-positive_cone.field-0.taken c.dims-n.ensures c.in_ok-positive_cone.ensures.taken in
+    IfOk-weaker c.from_cone.result _ _ (λ r h. subst (λ (l : List Given). IsOfTried d l (constraints c.args.rows.now) r.0 r.1.items) first h) c.from_cone.ensures.tried

@@ -1,14 +1,15 @@
 -- Goals of `with_generators`: the polyhedron of the generators that were taken into a cone, and of further ones
 -- that are taken in after them, some of all of them points.
-use Rattle.std.proofs.Common.{◌≡◌, arith, length, subst, sym, IfSome, List, ℕ, []}
+use Rattle.std.proofs.Common.{◌≡◌, ◌≢◌, ◌∙◌, arith, length, subst, sym, IfSome, List, ℕ, []}
 use Rattle.std.specs.Vec.{vec_len}
 use Rattle.std.proofs.lemmas.Grind.{common_steps}
 use Rattle.lra_linear.specs.Descriptions.{Given, Gen}
 use Rattle.lra_linear.specs.Points.{IsEmptySet}
 use Rattle.lra_linear.specs.Polyhedra.{IsPolyhedronOf}
-use Rattle.lra_sys.specs.Listed.{constraints}
-use Rattle.lra_pair.proofs.GeneratorPairs.{further_columns, further_taken}
-use Rattle.lra_pair.proofs.OwnRows.{none_of}
+use Rattle.lra_sys.specs.Listed.{constraints, generators}
+use Rattle.lra_pair.proofs.GeneratorPairs.{further_columns, further_rows, further_taken}
+use Rattle.lra_pair.proofs.OwnRows.{none_of, some_of}
+use Rattle.lra_pair.proofs.PairLosses.{if_none, list_strains, one_left_out}
 use Rattle.lra_pair.proofs.pair.with_generators.Goals as goal
 
 pub convert_own_list-requires-clause-columns : goal.convert_own_list-requires-clause-columns
@@ -34,8 +35,8 @@ convert_own_list-requires-clause-some c =
     subst (λ (n : ℕ). ¬ (IsEmptySet n (Gen conversion.cone.taken))) (sym c.dims-n.ensures)
     (subst (λ (l : List Given). ¬ (IsEmptySet more.dims (Gen l))) (sym taken) c.requires.some)
 
-pub returns : goal.returns
-returns c =
+pub returns-clause-pair : goal.returns-clause-pair
+returns-clause-pair c =
     let more = c.args.more.now in
     let conversion = c.in_ok-conversion.conversion in
     let losses = conversion.losses.items in
@@ -45,4 +46,25 @@ returns c =
     c.in_ok-conversion.ensures.taken none in
     let pair = c.in_ok-pair.pair in
     subst (λ (l : List Given). IfSome pair (IsPolyhedronOf more.dims (Gen l))) taken
-    (subst (λ (n : ℕ). IfSome pair (IsPolyhedronOf n (Gen conversion.cone.taken))) c.dims-n.ensures c.in_ok-pair.ensures)
+    (subst (λ (n : ℕ). IfSome pair (IsPolyhedronOf n (Gen conversion.cone.taken))) c.dims-n.ensures c.in_ok-pair.ensures.pair)
+
+pub returns-then-not-is_empty-clause-none : goal.returns-then-not-is_empty-clause-none
+returns-then-not-is_empty-clause-none c =
+    let more = c.args.more.now in
+    let conversion = c.in_ok-conversion.conversion in
+    let losses = conversion.losses.items in
+    let same : length losses ≡ vec_len conversion.losses = grind (arith, common_steps) in
+    let some : losses ≢ [] = some_of losses (vec_len conversion.losses) c.is_empty.result same c.is_empty.ensures c.if-not-is_empty.true in
+    one_left_out more.dims c.args.start.taken (generators more) (constraints conversion.kept) (constraints c.in_ok-rows.rows) conversion.cone losses
+    (c.in_ok-conversion.ensures.dims ∙ c.requires.dims) (further_rows more c.in_ok-rows.rows c.in_ok-rows.ensures.rows c.in_ok-rows.ensures.kinds) c.in_ok-conversion.ensures.taken some
+
+pub returns-clause-none : goal.returns-clause-none
+returns-clause-none c =
+    let more = c.args.more.now in
+    let conversion = c.in_ok-conversion.conversion in
+    let losses = conversion.losses.items in
+    let same : length losses ≡ vec_len conversion.losses = grind (arith, common_steps) in
+    let none : losses ≡ [] = none_of losses (vec_len conversion.losses) c.is_empty.result same c.is_empty.ensures c.if-not-is_empty.false in
+    if_none c.in_ok-pair.pair _ _ (list_strains more.dims c.args.start.taken (generators more) (constraints conversion.kept) (constraints c.in_ok-rows.rows) conversion.cone losses
+    (c.in_ok-conversion.ensures.dims ∙ c.requires.dims) (further_rows more c.in_ok-rows.rows c.in_ok-rows.ensures.rows c.in_ok-rows.ensures.kinds) c.in_ok-conversion.ensures.taken none)
+    c.in_ok-pair.ensures.none
