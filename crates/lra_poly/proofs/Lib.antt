@@ -1,3 +1,4 @@
 pub mod PolyLemmas
 pub mod FormedLemmas
+pub mod MetRows
 pub mod TakenGenerators

@@ -1,2 +1,3 @@
 -- Operations on closed polyhedra.
 pub mod Outcomes
+pub mod Narrowed

@@ -5,7 +5,7 @@ ghost use Rattle.std.specs.Prelude.{OnErr};
 ghost use Rattle.lra_linear.specs.Descriptions.{AreGenerators, Con, Gen, Holds};
 ghost use Rattle.lra_linear.specs.Formed.{IsFormed, KeepsLimit};
 ghost use Rattle.lra_linear.specs.OperationStrain.{FromRowsStrains, FromGeneratorsStrains};
-ghost use Rattle.lra_linear.specs.OperationStrain.{AddTestStrains, MeetStrains, HullStrains};
+ghost use Rattle.lra_linear.specs.OperationStrain.{AddTestStrains, MeetStrains, HullStrains, with_positivity};
 ghost use Rattle.lra_linear.specs.Points.{IsEmptySet, IsWithin};
 ghost use Rattle.lra_linear.specs.Polyhedra.{IsPolyhedron, IsPolyhedronOf};
 ghost use Rattle.lra_linear.specs.SetOperations.{Meet, Union, Hull};
@@ -17,6 +17,8 @@ ghost use Rattle.lra_pair.specs.OwnLists.{IsPositive};
 ghost use Rattle.lra_duality.specs.Inclusions.{IsInclusion, TellsInclusion};
 ghost use Rattle.lra_duality.specs.Maxima.{IsMaximum, TellsMaximum, ValueInRange};
 ghost use Rattle.lra_poly.specs.Outcomes.{IfExact, IfFlagged};
+ghost use Rattle.lra_poly.specs.Narrowed.{IsMetWith, IsNarrowed, IsSeenWithin, IsTried};
+ghost use Rattle.lra_poly.specs.declared.outcome.Outcome.TheVariants.{Exact};
 ghost use Rattle.lra_lin.specs.Form.{form_row};
 ghost use Rattle.lra_duality.specs.Rows.{test_row};
 ghost use Rattle.lra_duality.specs.Saturations.{saturation_of};
@@ -100,6 +102,7 @@ fn of_cone(alloc: Global, cone: Cone, more: &ConSys) -> Result<(Poly, Outcome), 
         IsWithin more.now.dims (Con (drop 1 cone.taken ++ constraints more.now)) (Con r.0.rows)) }
     ensures strain { IfOk result (λ r.
         IfFlagged (FromRowsStrains more.now.dims (drop 1 cone.taken ++ constraints more.now)) r.1) }
+    ensures tried { IfOk result (λ r. IsTried more.now.dims cone.taken (constraints more.now) r.0 r.1) }
 {
     let (pair, losses) = lra_pair::from_cone(alloc, cone, more)?;
     let made = of_pair(alloc, &pair)?;
@@ -163,6 +166,8 @@ impl Poly {
         ensures within { IfOk result (λ r. IsWithin rows.now.dims (Con (constraints rows.now)) (Con r.0.rows)) }
         ensures some { IfOk result (λ r. IsOfSome rows.now.dims (constraints rows.now) r.0) }
         ensures strain { IfOk result (λ r. IfFlagged (FromRowsStrains rows.now.dims (constraints rows.now)) r.1) }
+        ensures tried { IfOk result (λ r.
+            IsTried rows.now.dims (with_positivity rows.now.dims []) (constraints rows.now) r.0 r.1) }
     {
         let (pair, losses) = lra_pair::from_rows(alloc, rows)?;
         let made = of_pair(alloc, &pair)?;
@@ -315,7 +320,8 @@ impl Poly {
     // Whether it is known that each point is in the other.
     fn lies_in(&self, other: &Poly) -> bool
         requires { other.now.dims ≡ self.now.dims }
-        ensures { IsTrue result → IsWithin self.now.dims (Con self.now.rows) (Con other.now.rows) }
+        ensures within { IsTrue result → IsWithin self.now.dims (Con self.now.rows) (Con other.now.rows) }
+        ensures first { IsTrue result ↔ IsSeenWithin self.now other.now.rows }
     {
         match self.included(other) {
             Inclusion::Yes => true,
@@ -328,6 +334,7 @@ impl Poly {
     fn meets(&self, list: &ConSys) -> bool
         requires { list.now.dims ≡ self.now.dims }
         ensures within { IsTrue result → IsWithin self.now.dims (Con self.now.rows) (Con (constraints list.now)) }
+        ensures first { IsTrue result ↔ IsSeenWithin self.now (constraints list.now) }
         ensures canonical { IsPolyhedron self.now }
     {
         match inclusion_of(&self.by_generators, list) {
@@ -348,6 +355,8 @@ impl Poly {
             IsWithin self.now.dims (Con (self.now.rows ++ constraints more.now)) (Con r.0.rows)) }
         ensures strain { IfOk result (λ r.
             IfFlagged (FromRowsStrains self.now.dims (self.now.rows ++ constraints more.now)) r.1) }
+        ensures tried { IfOk result (λ r. IsTried self.now.dims (with_positivity self.now.dims [])
+            (self.now.rows ++ constraints more.now) r.0 r.1) }
     {
         let list = join_rows(&self.rows, more)?;
         let (made, outcome) = Poly::from_rows(self.alloc, &list)?;
@@ -364,6 +373,7 @@ impl Poly {
             IsWithin self.now.dims (Con (self.now.rows ++ constraints more.now)) (Con r.0.rows)) }
         ensures strain { IfOk result (λ r.
             IfFlagged (FromRowsStrains self.now.dims (self.now.rows ++ constraints more.now)) r.1) }
+        ensures met { IfOk result (λ r. IsMetWith self.now (constraints more.now) r.0 r.1) }
     {
         match cone_of(
             self.alloc,
@@ -395,6 +405,9 @@ impl Poly {
         ensures strain { IfOk result
             (IfFlagged (FromRowsStrains self.old.dims (self.old.rows ++ constraints more.now))) }
         ensures unchanged { OnErr result (self.new ≡ self.old) }
+        ensures met { IsSeenWithin self.old (constraints more.now) →
+            (self.new ≡ self.old) × IfOk result (λ o. o ≡ Exact) }
+        ensures kept { IfOk result (IsNarrowed self.old (constraints more.now) self.new) }
     {
         if self.meets(more) {
             return Ok(Outcome::Exact);
@@ -412,7 +425,8 @@ impl Poly {
     }
 
     /// Becomes the meet with the other: the points of both. Where it is flagged it has at least those, and no point
-    /// that it hadn't before.
+    /// that it hadn't before: the rows that strained when they were tried are left out. Where each point is seen to be in
+    /// the other, nothing changes.
     pub fn meet(&mut self, other: &Poly) -> Result<Outcome, AllocError>
         requires { other.now.dims ≡ self.old.dims }
         ensures dims { self.new.dims ≡ self.old.dims }
@@ -423,6 +437,9 @@ impl Poly {
         ensures inside { IfOk result (λ _. IsWithin self.old.dims (Con self.new.rows) (Con self.old.rows)) }
         ensures strain { IfOk result (IfFlagged (MeetStrains self.old other.now)) }
         ensures unchanged { OnErr result (self.new ≡ self.old) }
+        ensures met { IsSeenWithin self.old other.now.rows →
+            (self.new ≡ self.old) × IfOk result (λ o. o ≡ Exact) }
+        ensures kept { IfOk result (IsNarrowed self.old other.now.rows self.new) }
     {
         let rows = other.rows();
         let outcome = self.narrow(rows)?;
@@ -430,7 +447,7 @@ impl Poly {
     }
 
     /// Keeps the points that pass the test. Where it is flagged it has at least those, and no point that it hadn't
-    /// before.
+    /// before. Where each point is seen to pass, nothing changes.
     pub fn add_test(&mut self, test: &Test) -> Result<Outcome, AllocError>
         requires { length test.now.expr.coefficients ≡ self.old.dims }
         ensures dims { self.new.dims ≡ self.old.dims }
@@ -441,6 +458,9 @@ impl Poly {
         ensures inside { IfOk result (λ _. IsWithin self.old.dims (Con self.new.rows) (Con self.old.rows)) }
         ensures strain { IfOk result (IfFlagged (AddTestStrains self.old (test_row test.now.kind test.now.expr))) }
         ensures unchanged { OnErr result (self.new ≡ self.old) }
+        ensures met { IsSeenWithin self.old (test_row test.now.kind test.now.expr ∷ []) →
+            (self.new ≡ self.old) × IfOk result (λ o. o ≡ Exact) }
+        ensures kept { IfOk result (IsNarrowed self.old (test_row test.now.kind test.now.expr ∷ []) self.new) }
     {
         let row = list_test(self.alloc, test)?;
         let outcome = self.narrow(&row)?;
@@ -516,6 +536,8 @@ impl Poly {
         ensures within { IfOk result (λ _. IsWithin self.old.dims
             (Hull self.old.dims (Union (Con self.old.rows) (Con other.now.rows))) (Con self.new.rows)) }
         ensures strain { IfOk result (IfFlagged (HullStrains self.old other.now)) }
+        ensures met { IsSeenWithin other.now self.old.rows →
+            (self.new ≡ self.old) × IfOk result (λ o. o ≡ Exact) }
         ensures unchanged { OnErr result (self.new ≡ self.old) }
     {
         let (_rows, _others) = (self.rows(), other.rows());

@@ -1,8 +1,9 @@
 -- Goals of `Poly::add_test`: keeps the points that pass the test.
-use Rattle.std.proofs.Common.{◌≡◌, ◌++◌, ◌∷◌, [], List, ap}
+use Rattle.std.proofs.Common.{◌≡◌, ◌++◌, ◌∷◌, [], List, ap, subst, sym}
 use Rattle.lra_linear.specs.Descriptions.{Con, Given}
 use Rattle.lra_sys.specs.Listed.{constraints}
 use Rattle.lra_duality.specs.Rows.{test_row}
+use Rattle.lra_poly.specs.Narrowed.{IsNarrowed, IsSeenWithin}
 use Rattle.lra_poly.proofs.PolyLemmas.{test_exact, test_within, test_strain}
 use Rattle.lra_poly.proofs.poly.Poly.add_test.Goals as goal
 
@@ -29,3 +30,9 @@ returns-clause-strain c =
     let list = p.rows ++ constraints c.in_ok-row.row in
     let e : list ≡ p.rows ++ row ∷ [] = ap (λ (l : List Given). p.rows ++ l) c.in_ok-row.ensures.rows in
     test_strain p list row c.in_ok-outcome.outcome e c.in_ok-outcome.ensures.strain
+
+pub returns-clause-met : goal.returns-clause-met
+returns-clause-met c = λ seen. c.in_ok-outcome.ensures.met (subst (IsSeenWithin c.args.self.now) (sym c.in_ok-row.ensures.rows) seen)
+
+pub returns-clause-kept : goal.returns-clause-kept
+returns-clause-kept c = subst (λ (l : List Given). IsNarrowed c.args.self.now l c.narrow.new.self c.in_ok-outcome.outcome) c.in_ok-row.ensures.rows c.in_ok-outcome.ensures.kept

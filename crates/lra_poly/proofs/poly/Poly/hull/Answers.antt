@@ -3,17 +3,18 @@ use Rattle.std.proofs.Common.{◌++◌, refl}
 use Rattle.lra_linear.specs.Descriptions.{Con}
 use Rattle.lra_linear.specs.Polyhedra.{IsPolyhedronOf}
 use Rattle.lra_linear.specs.SetOperations.{Union, Hull}
+use Rattle.lra_poly.proofs.MetRows.{never}
 use Rattle.lra_poly.proofs.PolyLemmas.{hull_exact, hull_inside, hull_within, hull_strain}
 use Rattle.lra_poly.proofs.poly.Poly.hull.Goals as goal
 
 pub returns-then-lies_in-clause-exact : goal.returns-then-lies_in-clause-exact
-returns-then-lies_in-clause-exact c = hull_inside c.args.self.now c.args.other.now c.rows-rows.ensures.canonical c.requires (c.if-lies_in.ensures refl)
+returns-then-lies_in-clause-exact c = hull_inside c.args.self.now c.args.other.now c.rows-rows.ensures.canonical c.requires (c.if-lies_in.ensures.within refl)
 
 pub returns-then-lies_in-clause-within : goal.returns-then-lies_in-clause-within
 returns-then-lies_in-clause-within c =
     let p = c.args.self.now in
     let q = c.args.other.now in
-    let h : IsPolyhedronOf p.dims (Hull p.dims (Union (Con p.rows) (Con q.rows))) p = hull_inside p q c.rows-rows.ensures.canonical c.requires (c.if-lies_in.ensures refl) in
+    let h : IsPolyhedronOf p.dims (Hull p.dims (Union (Con p.rows) (Con q.rows))) p = hull_inside p q c.rows-rows.ensures.canonical c.requires (c.if-lies_in.ensures.within refl) in
     h.points.0
 
 pub returns-clause-exact : goal.returns-clause-exact
@@ -34,3 +35,6 @@ returns-clause-strain c =
     let p = c.args.self.now in
     let q = c.args.other.now in
     hull_strain p q (p.generators ++ q.generators) c.in_ok-made.outcome c.rows-rows.ensures.canonical c.rows-others.ensures.canonical c.requires refl c.in_ok-made.ensures.strain
+
+pub returns-clause-met : goal.returns-clause-met
+returns-clause-met c = λ seen. absurd (never c.lies_in.result c.if-lies_in.false (c.lies_in.ensures.first.1 seen))

@@ -1,7 +1,8 @@
 -- Goals of `Poly::meet`: becomes the meet with the other.
-use Rattle.std.proofs.Common.{◌≡◌, ◌++◌, List, ap}
+use Rattle.std.proofs.Common.{◌≡◌, ◌++◌, List, ap, subst, sym}
 use Rattle.lra_linear.specs.Descriptions.{Con, Given}
 use Rattle.lra_sys.specs.Listed.{constraints}
+use Rattle.lra_poly.specs.Narrowed.{IsNarrowed, IsSeenWithin}
 use Rattle.lra_poly.proofs.PolyLemmas.{meet_exact, meet_within, meet_strain}
 use Rattle.lra_poly.proofs.poly.Poly.meet.Goals as goal
 
@@ -28,3 +29,9 @@ returns-clause-strain c =
     let list = p.rows ++ constraints c.rows-rows.result.now in
     let e : list ≡ p.rows ++ more = ap (λ (l : List Given). p.rows ++ l) c.rows-rows.ensures.rows in
     meet_strain p c.args.other.now list c.in_ok-outcome.outcome e c.in_ok-outcome.ensures.strain
+
+pub returns-clause-met : goal.returns-clause-met
+returns-clause-met c = λ seen. c.in_ok-outcome.ensures.met (subst (IsSeenWithin c.args.self.now) (sym c.rows-rows.ensures.rows) seen)
+
+pub returns-clause-kept : goal.returns-clause-kept
+returns-clause-kept c = subst (λ (l : List Given). IsNarrowed c.args.self.now l c.narrow.new.self c.in_ok-outcome.outcome) c.rows-rows.ensures.rows c.in_ok-outcome.ensures.kept

@@ -1,7 +1,8 @@
 -- Goals of `Poly::narrow`: takes these constraints in.
-use Rattle.std.proofs.Common.{refl, sym, ◌++◌}
+use Rattle.std.proofs.Common.{refl, sym, ◌++◌, inl, inr}
 use Rattle.lra_linear.specs.Descriptions.{Con}
 use Rattle.lra_sys.specs.Listed.{constraints}
+use Rattle.lra_poly.proofs.MetRows.{never, settled_exact, settled_made, settled_old}
 use Rattle.lra_poly.proofs.PolyLemmas.{within_same, exact_inside, made_inside, old_inside, meet_inside, met_exact}
 use Rattle.lra_poly.proofs.poly.Poly.narrow.Goals.{in-Exact, in-Flagged+then-lies_in, in-Flagged+else-lies_in}
 use Rattle.lra_poly.proofs.poly.Poly.narrow.Goals as goal
@@ -37,6 +38,29 @@ returns-clause-inside c =
       | in-Exact w ↦ exact_inside n n list p.rows c.match-outcome.self c.in_ok-made.made c.in_ok-made.outcome w.in-Exact.is w.self-is refl
           c.in_ok-made.ensures.exact (meet_inside n p.rows more list refl)
       | in-Flagged+then-lies_in w ↦ made_inside n p.rows c.match-outcome.self c.in_ok-made.made w.self-is
-          (sym c.in_ok-made.ensures.dims) (w.if-lies_in.ensures refl)
+          (sym c.in_ok-made.ensures.dims) (w.if-lies_in.ensures.within refl)
       | in-Flagged+else-lies_in w ↦ old_inside n c.match-outcome.self p w.self-is
     ]
+
+pub returns-then-meets-clause-kept : goal.returns-then-meets-clause-kept
+returns-then-meets-clause-kept c = inl (c.if-meets.ensures.first.0 refl, refl, refl)
+
+pub returns-clause-met : goal.returns-clause-met
+returns-clause-met c = λ seen. absurd (never c.meets.result c.if-meets.false (c.meets.ensures.first.1 seen))
+
+pub returns-clause-kept : goal.returns-clause-kept
+returns-clause-kept c =
+    let p = c.args.self.now in
+    let made = c.in_ok-made.made in
+    let new = c.match-outcome.self in
+    let o = c.in_ok-made.outcome in
+    inr (record {
+      unmet = λ seen. never c.meets.result c.if-meets.false (c.meets.ensures.first.1 seen);
+      made = made;
+      is_met = c.in_ok-made.ensures.met;
+      settled = elim c.match-outcome.branch [
+        | in-Exact w ↦ settled_exact p made new o w.in-Exact.is w.self-is
+        | in-Flagged+then-lies_in w ↦ settled_made p made new o w.in-Flagged.field-0 w.in-Flagged.is (w.if-lies_in.ensures.first.0 refl) w.self-is
+        | in-Flagged+else-lies_in w ↦ settled_old p made new o w.in-Flagged.field-0 w.in-Flagged.is (λ seen. never _ refl (w.if-lies_in.ensures.first.1 seen)) w.self-is
+      ];
+    })

@@ -1,0 +1,88 @@
+-- Inclusions that are answered by Yes, and what is kept of rows that are met with a polyhedron.
+use Rattle.std.proofs.Common.{◌≡◌, ◌∙◌, ◌↔◌, ℕ, List, ◌∷◌, ◌++◌, ap, refl, subst, sym, Bool, true, false, IsTrue, inl, inr, []}
+use Rattle.std.specs.List.{Contains}
+use Rattle.std.proofs.lemmas.List.Elements.{All-contains, Contains-append_right}
+use Rattle.lra_linear.specs.Descriptions.{Given, inequality}
+use Rattle.lra_linear.specs.OperationStrain.{with_positivity}
+use Rattle.lra_linear.specs.Polyhedra.{Polyhedron, positivity}
+use Rattle.lra_linear.specs.Strain.{Loss}
+use Rattle.lra_linear.proofs.Membership.{contains_head}
+use Rattle.lra_sys.specs.FirstPlaces.{FirstAt}
+use Rattle.lra_duality.specs.Inclusions.{IsInclusion, Meets, MeetsAll, Passes, ViolatesFirst, Violates}
+use Rattle.lra_duality.specs.declared.inclusion.Inclusion.{Inclusion}
+use Rattle.lra_duality.specs.declared.inclusion.Inclusion.TheVariants.{Yes, No, Wide}
+use Rattle.lra_duality.proofs.MaximumLemmas.{never_both}
+use Rattle.lra_duality.specs.Onward.{MayGoOn}
+use Rattle.lra_pair.specs.TriedRows.{IsOfTried}
+use Rattle.lra_poly.specs.Narrowed.{IsMetWith, IsSeenWithin, IsSettled, IsTried}
+use Rattle.lra_poly.specs.Outcomes.{first_loss}
+use Rattle.lra_poly.specs.declared.outcome.Outcome.{Outcome}
+use Rattle.lra_poly.specs.declared.outcome.Outcome.TheVariants.{Exact, Flagged}
+
+at_place : {A : Type 0} (P Q R : A → Type 0) (list : List A) (place : ℕ) (f : FirstAt P Q list place) → ((x : A) → Contains list x → R x) → R f.member
+at_place P Q R list place f h = h f.member (subst (λ l. Contains l f.member) (sym f.is) (Contains-append_right f.earlier (f.member ∷ f.later) f.member (contains_head f.member f.later)))
+
+pub only_yes : (rows generators : List Given) (answer : Inclusion) → IsInclusion rows generators answer → IsInclusion rows generators Yes → answer ≡ Yes
+only_yes rows generators Yes told seen = refl
+only_yes rows generators (No place) told seen =
+    let g = told.member in
+    let meets : MeetsAll rows g = at_place (MeetsAll rows) (ViolatesFirst rows) (MeetsAll rows) generators place told (λ x has. All-contains (MeetsAll rows) generators x seen has) in
+    let first = told.here.first in
+    let met : Meets g first.member = at_place (Meets g) (Violates g) (Meets g) rows told.here.place first (λ x has. All-contains (Meets g) rows x meets has) in
+    let holds = met.1 in
+    let refuted = first.here.1 in
+    let wrong : ⊥ = cc in absurd wrong
+only_yes rows generators (Wide place row) told seen =
+    let g = told.member in
+    let meets : MeetsAll rows g = at_place (MeetsAll rows) (λ x. FirstAt (Meets x) (Passes x) rows row) (MeetsAll rows) generators place told
+    (λ x has. All-contains (MeetsAll rows) generators x seen has) in
+    let met : Meets g told.here.member = at_place (Meets g) (Passes g) (Meets g) rows row told.here (λ x has. All-contains (Meets g) rows x meets has) in
+    absurd (never_both _ told.here.here met.0)
+
+pub never : (b : Bool) → b ≡ false → IsTrue b → ⊥
+never b f t = cc
+
+-- what the code answers by the first pair that decides
+pub is_yes : (rows generators : List Given) (answer : Inclusion) (told : IsInclusion rows generators answer) → answer ≡ Yes →
+    (IsTrue true ↔ IsInclusion rows generators Yes)
+is_yes rows generators answer told e = (λ _. subst (IsInclusion rows generators) e told, λ _. refl)
+
+pub is_other : (rows generators : List Given) (answer other : Inclusion) → IsInclusion rows generators answer → answer ≡ other → (other ≡ Yes → ⊥) →
+    (IsTrue false ↔ IsInclusion rows generators Yes)
+is_other rows generators answer other told e apart = (
+  λ t. absurd (never false refl t),
+  λ seen. absurd (apart (sym e ∙ only_yes rows generators answer told seen)),
+)
+
+pub no_is_not_yes : (place : ℕ) → No place ≡ Yes → ⊥
+no_is_not_yes place e = cc
+
+pub wide_is_not_yes : (place row : ℕ) → Wide place row ≡ Yes → ⊥
+wide_is_not_yes place row e = cc
+
+-- ---- rows that were tried
+pub tried_of : (n : ℕ) (first all : List Given) (made pair : Polyhedron) (o : Outcome) (losses : List Loss) → made ≡ pair → o ≡ first_loss losses → IsOfTried n first all pair losses →
+    IsTried n first all made o
+tried_of n first all made pair o losses e told of = record { losses = losses; told = told; of = subst (λ (p : Polyhedron). IsOfTried n first all p losses) (sym e) of }
+
+pub met_onward : (p view : Polyhedron) (taken more : List Given) (d : ℕ) (made : Polyhedron) (o : Outcome) → view ≡ p → MayGoOn view.dims view.generators →
+    taken ≡ inequality (positivity view.dims) ∷ view.rows → d ≡ p.dims → IsTried d taken more made o → IsMetWith p more made o
+met_onward p view taken more d made o e may et ed t = inl (
+  subst (λ (q : Polyhedron). MayGoOn q.dims q.generators) e may,
+  subst (λ (n : ℕ). IsTried n (with_positivity p.dims p.rows) more made o) ed
+      (subst (λ (l : List Given). IsTried d l more made o) (et ∙ ap (λ (q : Polyhedron). with_positivity q.dims q.rows) e) t),
+)
+
+pub met_anew : (p view : Polyhedron) (more : List Given) (made : Polyhedron) (o : Outcome) → view ≡ p → ¬ (MayGoOn view.dims view.generators) →
+    IsTried p.dims (with_positivity p.dims []) (p.rows ++ more) made o → IsMetWith p more made o
+met_anew p view more made o e fails t = inr (subst (λ (q : Polyhedron). ¬ (MayGoOn q.dims q.generators)) e fails, t)
+
+-- ---- the new value
+pub settled_exact : (old made new : Polyhedron) (o : Outcome) → o ≡ Exact → new ≡ made → IsSettled old made o new
+settled_exact old made new o e same = subst (λ (x : Outcome). IsSettled old made x new) (sym e) same
+
+pub settled_made : (old made new : Polyhedron) (o : Outcome) (loss : Loss) → o ≡ Flagged loss → IsSeenWithin made old.rows → new ≡ made → IsSettled old made o new
+settled_made old made new o loss e seen same = subst (λ (x : Outcome). IsSettled old made x new) (sym e) (inl (seen, same))
+
+pub settled_old : (old made new : Polyhedron) (o : Outcome) (loss : Loss) → o ≡ Flagged loss → ¬ (IsSeenWithin made old.rows) → new ≡ old → IsSettled old made o new
+settled_old old made new o loss e unseen same = subst (λ (x : Outcome). IsSettled old made x new) (sym e) (inr (unseen, same))
