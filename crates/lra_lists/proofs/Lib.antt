@@ -8,3 +8,4 @@ pub mod FormedLists
 pub mod MovedForms
 pub mod TakenBack
 pub mod MovedLists
+pub mod MovingLosses

@@ -1,13 +1,16 @@
 //! Both lists of a polyhedron under a form that can be taken back, each made canonical anew.
 
 ghost use Rattle.std.specs.Prelude.{◌≡◌, ◌↔◌, ◌<◌, ◌++◌, ◌∷◌, [], IsTrue, cond, suc, pos, negsuc, map, length};
-ghost use Rattle.std.specs.Prelude.{slice_set, IfOk, IfSome, OnOk};
+ghost use Rattle.std.specs.Prelude.{slice_set, Err, IfErr, IfOk, IfSome, IfNone, OnOk};
 ghost use Rattle.lra_canon.specs.Echelons.{HaveWidth};
-ghost use Rattle.lra_linear.specs.Descriptions.{lines_of, rays_of};
+ghost use Rattle.std.specs.List.{Contains};
+ghost use Rattle.lra_linear.specs.CheckedArithmetic.{checked_product, checked_substitution};
+ghost use Rattle.lra_linear.specs.Descriptions.{Given, lines_of, rays_of};
 ghost use Rattle.lra_linear.specs.Echelon.{IsEchelonOf};
 ghost use Rattle.lra_linear.specs.SetOperations.{assigned};
 ghost use Rattle.lra_linear.specs.Vectors.{entry, negated, substituted};
 ghost use Rattle.lra_lists.specs.Moving.{TakesBack, IsSubstitutedList, IsAssignedList};
+ghost use Rattle.lra_lists.specs.Moving.{AssignmentPasses, CanonicalPasses, HasUnit, OnExcess, SubstitutionPasses};
 ghost use Rattle.lra_pair.specs.OwnLists.{AreReducedBy};
 ghost use Rattle.lra_sys.specs.Dimensions.{too_many_dimensions};
 ghost use Rattle.lra_sys.specs.Listed.{constraints, generators};
@@ -46,10 +49,11 @@ fn opposite_but(alloc: Global, form: &Row, column: usize) -> Result<Row, AllocEr
     Ok(row)
 }
 
-/// The form that takes the form back, where that has 1 or -1 at the column.
+/// The form that takes the form back; none where that has neither 1 nor -1 at the column.
 pub fn take_back(alloc: Global, form: &Row, column: usize) -> Result<Option<Row>, AllocError>
     requires { column < length form.now }
-    ensures { IfOk result (λ back. IfSome back (TakesBack column (length form.now) form.now)) }
+    ensures back { IfOk result (λ back. IfSome back (TakesBack column (length form.now) form.now)) }
+    ensures none { IfOk result (λ back. IfNone back (¬ (HasUnit column form.now))) }
 {
     if is_minus_one(form, column) {
         let same = form.copy()?;
@@ -88,6 +92,8 @@ fn substitute_parts(
         map (substituted column form.now) (lines_of (constraints list.now))) }
     ensures rays { IfOk result (λ parts. parts.rays.items ≡
         map (substituted column form.now) (rays_of (constraints list.now))) }
+    ensures excess { IfErr result (OnExcess (λ e. (g : Given) × Contains (constraints list.now) g ×
+        (checked_substitution column form.now g.row ≡ Err e))) }
 {
     let mut parts = Own {
         lines: Vec::new(alloc),
@@ -109,6 +115,8 @@ fn assign_parts(alloc: Global, list: &GenSys, column: usize, form: &Row) -> Resu
         map (assigned column form.now) (lines_of (generators list.now))) }
     ensures rays { IfOk result (λ parts. parts.rays.items ≡
         map (assigned column form.now) (rays_of (generators list.now))) }
+    ensures excess { IfErr result (OnExcess (λ e. (g : Given) × Contains (generators list.now) g ×
+        (checked_product form.now g.row ≡ Err e))) }
 {
     let mut parts = Own {
         lines: Vec::new(alloc),
@@ -131,6 +139,7 @@ fn remake(alloc: Global, parts: Own, width: usize) -> Result<Own, RowError>
     ensures reduced { IfOk result (λ made. AreReducedBy made.lines.items parts.rays.items made.rays.items) }
     ensures line_widths { IfOk result (λ made. HaveWidth width made.lines.items) }
     ensures ray_widths { IfOk result (λ made. HaveWidth width made.rays.items) }
+    ensures excess { IfErr result (OnExcess (CanonicalPasses parts.lines.items parts.rays.items)) }
 {
     let Own { mut lines, rays } = parts;
     echelon(&mut lines)?;
@@ -150,6 +159,7 @@ pub fn substitute_canonically(
     requires width { length form.now ≡ suc list.now.dims }
     ensures dims { IfOk result (λ made. made.dims ≡ list.now.dims) }
     ensures made { IfOk result (IsSubstitutedList list.now.dims column form.now (constraints list.now)) }
+    ensures excess { IfErr result (OnExcess (SubstitutionPasses column form.now (constraints list.now))) }
 {
     let (n, _rows) = (list.dims(), list.rows());
     let parts = substitute_parts(alloc, list, column, form)?;
@@ -171,6 +181,7 @@ pub fn assign_canonically(
     requires width { length form.now ≡ suc list.now.dims }
     ensures dims { IfOk result (λ made. made.dims ≡ list.now.dims) }
     ensures made { IfOk result (IsAssignedList list.now.dims column form.now (generators list.now)) }
+    ensures excess { IfErr result (OnExcess (AssignmentPasses column form.now (generators list.now))) }
 {
     let (n, _rows) = (list.dims(), list.rows());
     let parts = assign_parts(alloc, list, column, form)?;
