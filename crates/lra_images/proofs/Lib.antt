@@ -6,3 +6,4 @@ pub mod MovedPairs
 pub mod MovedFacets
 pub mod MovedPolyhedra
 pub mod BackImages
+pub mod KeptLists

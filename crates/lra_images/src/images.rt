@@ -9,6 +9,7 @@ ghost use Rattle.lra_linear.specs.Polyhedra.{IsPolyhedronOf};
 ghost use Rattle.lra_linear.specs.SetOperations.{Forget, Image, Preimage};
 ghost use Rattle.lra_linear.specs.Strain as strain;
 ghost use Rattle.lra_images.specs.Forgetting.{IsForgotten};
+ghost use Rattle.lra_lists.specs.Moving.{StaysBackFor, StaysFor};
 ghost use Rattle.lra_poly.specs.Outcomes.{IfExact, IfFlagged};
 ghost use Rattle.lra_lin.specs.Form.{form_row};
 ghost use Rattle.lra_sys.specs.Listed.{generators, FitKinds};
@@ -114,6 +115,7 @@ pub fn image(p: &mut Poly, x: usize, form: &LinExpr) -> Result<Outcome, AllocErr
         IsWithin p.old.dims (Image p.old.dims (suc x) (form_row form.now) (Con p.old.rows)) (Con p.new.rows)) }
     ensures strain { IfOk result (IfFlagged (ImageStrains (suc x) (form_row form.now) p.old)) }
     ensures forgotten { IfOk result (IfFlagged (λ _. IsForgotten (suc x) p.old p.new)) }
+    ensures stays { IfOk result (IfFlagged (λ _. StaysFor (suc x) (form_row form.now) p.old)) }
     ensures unchanged { OnErr result (p.new ≡ p.old) }
 {
     let row = form.to_row(p.allocator())?;
@@ -170,6 +172,7 @@ pub fn preimage(p: &mut Poly, x: usize, form: &LinExpr) -> Result<Outcome, Alloc
     ensures within { IfOk result (λ _.
         IsWithin p.old.dims (Preimage (suc x) (form_row form.now) (Con p.old.rows)) (Con p.new.rows)) }
     ensures strain { IfOk result (IfFlagged (PreimageStrains (suc x) (form_row form.now) p.old)) }
+    ensures stays { IfOk result (IfFlagged (λ _. StaysBackFor (suc x) (form_row form.now) p.old)) }
     ensures unchanged { OnErr result (p.new ≡ p.old) }
 {
     let row = form.to_row(p.allocator())?;

@@ -1,11 +1,12 @@
 //! Images and preimages by a form that can be taken back: both lists of a polyhedron are moved, with no conversion.
 
-ghost use Rattle.std.specs.Prelude.{◌≡◌, ◌<◌, suc, length, IfOk, IfSome};
+ghost use Rattle.std.specs.Prelude.{◌≡◌, ◌<◌, ◌⊎◌, suc, length, IfErr, IfOk, IfSome, IfNone};
 ghost use Rattle.lra_linear.specs.Descriptions.{Con};
 ghost use Rattle.lra_linear.specs.Points.{IsEmptySet};
 ghost use Rattle.lra_linear.specs.Polyhedra.{IsPolyhedronOf};
 ghost use Rattle.lra_linear.specs.SetOperations.{Image, Preimage};
-ghost use Rattle.lra_lists.specs.Moving.{TakesBack};
+ghost use Rattle.lra_lists.specs.Moving.{AssignmentPasses, MovePasses, OnExcess, StaysBackFor, StaysFor};
+ghost use Rattle.lra_lists.specs.Moving.{SubstitutionPasses, TakesBack};
 
 use lra_lists::{assign_canonically, substitute_canonically, take_back};
 use lra_poly::Poly;
@@ -19,7 +20,9 @@ fn move_lists(p: &Poly, column: usize, form: &Row, back: &Row) -> Result<Poly, R
     requires back { TakesBack column (suc p.now.dims) form.now back.now }
     requires above { 0 < column }
     requires some { ¬ (IsEmptySet p.now.dims (Con p.now.rows)) }
-    ensures { IfOk result (IsPolyhedronOf p.now.dims (Image p.now.dims column form.now (Con p.now.rows))) }
+    ensures image { IfOk result (IsPolyhedronOf p.now.dims (Image p.now.dims column form.now (Con p.now.rows))) }
+    ensures excess { IfErr result (OnExcess (λ e.
+        SubstitutionPasses column back.now p.now.rows e ⊎ AssignmentPasses column form.now p.now.generators e)) }
 {
     let alloc = p.allocator();
     if p.dims() >= TOO_MANY_DIMENSIONS {
@@ -41,8 +44,9 @@ fn move_lists_in_range(
     requires back { TakesBack column (suc p.now.dims) form.now back.now }
     requires above { 0 < column }
     requires some { ¬ (IsEmptySet p.now.dims (Con p.now.rows)) }
-    ensures { IfOk result (λ image. IfSome image
+    ensures image { IfOk result (λ image. IfSome image
         (IsPolyhedronOf p.now.dims (Image p.now.dims column form.now (Con p.now.rows)))) }
+    ensures none { IfOk result (λ image. IfNone image (MovePasses column form.now back.now p.now)) }
 {
     match move_lists(p, column, form, back) {
         Ok(image) => Ok(Some(image)),
@@ -57,8 +61,9 @@ pub fn move_forward(p: &Poly, column: usize, form: &Row) -> Result<Option<Poly>,
     requires above { 0 < column }
     requires column { column < suc p.now.dims }
     requires width { length form.now ≡ suc p.now.dims }
-    ensures { IfOk result (λ image. IfSome image
+    ensures image { IfOk result (λ image. IfSome image
         (IsPolyhedronOf p.now.dims (Image p.now.dims column form.now (Con p.now.rows)))) }
+    ensures none { IfOk result (λ image. IfNone image (StaysFor column form.now p.now)) }
 {
     if p.is_empty() {
         return Ok(None);
@@ -77,8 +82,9 @@ pub fn move_back(p: &Poly, column: usize, form: &Row) -> Result<Option<Poly>, Al
     requires above { 0 < column }
     requires column { column < suc p.now.dims }
     requires width { length form.now ≡ suc p.now.dims }
-    ensures { IfOk result (λ preimage. IfSome preimage
+    ensures preimage { IfOk result (λ preimage. IfSome preimage
         (IsPolyhedronOf p.now.dims (Preimage column form.now (Con p.now.rows)))) }
+    ensures none { IfOk result (λ preimage. IfNone preimage (StaysBackFor column form.now p.now)) }
 {
     let _canonical = p.rows();
     if p.is_empty() {

@@ -1,8 +1,11 @@
 -- Goals of `move_lists`: the image under the assignment of the form to the column, which the other form takes back.
 use Rattle.std.proofs.Common.{subst, sym}
+use Rattle.std.proofs.lemmas.Result.{err_from_is_err_and}
 use Rattle.lra_linear.specs.Descriptions.{Con}
 use Rattle.lra_linear.specs.Polyhedra.{IsPolyhedronOf}
 use Rattle.lra_linear.specs.SetOperations.{Image}
+use Rattle.lra_sys.specs.Listed.{constraints, generators}
+use Rattle.lra_images.proofs.KeptLists.{generators_pass, rows_pass}
 use Rattle.lra_images.proofs.MovedPolyhedra.{image_limit, is_moving, moved_image}
 use Rattle.lra_images.proofs.moved.move_lists.Goals as goal
 
@@ -39,8 +42,8 @@ from_canonical-requires-clause-limit c =
     c.in_ok-by_generators.ensures.made c.in_ok-rows.ensures.dims in
     image_limit p c.args.column c.args.form.now c.args.back.now rows list m c.rows.ensures.formed.limit
 
-pub returns : goal.returns
-returns c =
+pub returns-clause-image : goal.returns-clause-image
+returns-clause-image c =
     let p = c.args.p.now in
     let rows = c.in_ok-rows.rows in
     let list = c.in_ok-by_generators.by_generators in
@@ -50,3 +53,16 @@ returns c =
     c.in_ok-by_generators.ensures.made c.in_ok-rows.ensures.dims in
     subst (IsPolyhedronOf p.dims (Image p.dims c.args.column c.args.form.now (Con p.rows))) (sym c.in_ok-image.ensures)
     (moved_image p c.args.column c.args.form.now c.args.back.now rows list m).0
+
+pub returns-in_err-rows-clause-excess : goal.returns-in_err-rows-clause-excess
+returns-in_err-rows-clause-excess c =
+    let p = err_from_is_err_and c.from_residual.result c.from_residual.ensures.1 in
+    let f = rows_pass c.args.column c.args.form.now c.args.back.now c.args.p.now (constraints c.rows.result.now) c.in_err-rows.field-0.0 c.rows.ensures.rows c.in_err-rows.ensures.excess in
+    rw (p.1, p.2) f
+
+pub returns-in_err-by_generators-clause-excess : goal.returns-in_err-by_generators-clause-excess
+returns-in_err-by_generators-clause-excess c =
+    let p = err_from_is_err_and c.from_residual-in_err-by_generators.result c.from_residual-in_err-by_generators.ensures.1 in
+    let f = generators_pass c.args.column c.args.form.now c.args.back.now c.args.p.now (generators c.generators.result.now) c.in_err-by_generators.field-0.0 c.generators.ensures.generators
+    c.in_err-by_generators.ensures.excess in
+    rw (p.1, p.2) f
