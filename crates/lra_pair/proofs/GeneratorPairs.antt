@@ -1,10 +1,11 @@
 -- What is known once generators have been taken in.
-use Rattle.std.proofs.Common.{◌≡◌, ◌≢◌, ℕ, suc, ◌<◌, List, [], ◌∷◌, ◌++◌, length, map, refl, ap, sym, ◌∙◌, subst, arith, ℤ, inl, inr}
+use Rattle.std.proofs.Common.{◌≡◌, ◌≢◌, ℕ, zero, suc, ◌<◌, ◌≤◌, Bool, take, Result, Ok, Err, IfOk, List, [], ◌∷◌, ◌++◌, length, map, refl, ap, sym, ◌∙◌, subst, arith, ℤ, inl, inr}
 use Rattle.std.specs.List.{Contains}
+use Rattle.std.proofs.lemmas.List.{take_all}
 use Rattle.std.proofs.lemmas.List.Elements.{Contains-append_cases}
 use Rattle.lra_linear.specs.declared.Cause.{Cause}
 use Rattle.lra_linear.specs.Descriptions.{Given, AreGenerators, Gen, system_of}
-use Rattle.lra_linear.specs.OperationStrain.{FromGeneratorsStrains}
+use Rattle.lra_linear.specs.OperationStrain.{FromGeneratorsStrains, with_positivity}
 use Rattle.lra_linear.specs.Points.{PointSet, IsWithin, IsEmptySet}
 use Rattle.lra_linear.specs.Polyhedra.{Polyhedron, IsPolyhedronOf}
 use Rattle.lra_linear.specs.Strain.{Loss, Strains}
@@ -25,7 +26,9 @@ use Rattle.lra_cone.specs.Losses.{IfLost}
 use Rattle.lra_pair.proofs.ConstraintLists.{constrained, some_point}
 use Rattle.lra_descriptions.proofs.SeveralKinds.{dual_given}
 use Rattle.lra_pair.specs.OwnLists.{IsOwnCause, TellsOwnLoss}
-use Rattle.lra_pair.specs.TakenPoints.{AreTaken}
+use Rattle.lra_pair.specs.TakenPoints.{AreTaken, IsMadeOfPoints, IsOfFirst, IsOfPoints, most_kept}
+use Rattle.lra_pair.specs.TriedRows.{IsOfTried}
+use Rattle.lra_pair.proofs.OwnRows.{given_length}
 use Rattle.lra_pair.proofs.PairLosses.{own_strain, from_generators_strain}
 
 pub taken : (n : ℕ) (given : Listed GenKind) (rows list : Listed ConKind) (start cone : Shape) (kept : List Given) (losses : List Loss) → length given.kinds ≡ length given.rows →
@@ -48,6 +51,11 @@ taken n given rows list start cone kept losses many f m er ek ed es dims c k el 
       strain = x.strain;
       whole = whole;
       columns = λ none. subst AreGenerators (sym (whole none)) (fitting_are_generators given f);
+      kept = kept;
+      conversion = subst (λ (l : List Given). IsConversion [] l kept cone losses) all of_none;
+      exact = λ none. subst (λ (m : ℕ). ShowsConstraints m cone.lines cone.rays list) ed (shown none);
+      valid = λ lost. subst (λ (l : List Given). ShowsValid n cone.lines cone.rays l list) all
+          (subst (λ (m : ℕ). ShowsValid m cone.lines cone.rays (constraints rows) list) ed (valid lost));
       some = λ none. subst (λ (l : List Given). ¬ (IsEmptySet n (Gen l))) (sym (whole none))
           (some_point n given many f m (λ t i. k.dual.system_widths t (subst (λ (l : List Given). Contains (system_of l) t) (sym (whole none)) i) ∙ ap suc is_n));
     }
@@ -100,3 +108,77 @@ further_taken more rows start cone kept losses er ek c none =
 pub further_columns : (more : Listed GenKind) (first taken : List Given) → FitKinds more.rows more.kinds → AreGenerators first → taken ≡ first ++ generators more → AreGenerators taken
 further_columns more first taken f columns e = subst AreGenerators (sym e)
     (λ g k. elim (Contains-append_cases first (generators more) g k) [ inl a ↦ columns g a | inr b ↦ fitting_are_generators more f g b ])
+
+-- ---- the first constraints
+given_take : {K : Type 0} (equal : K → Bool) (at : ℕ) (rows : List (List ℤ)) (kinds : List K) → given_by equal (take at rows) (take at kinds) ≡ take at (given_by equal rows kinds)
+given_take equal zero rows kinds = refl
+given_take equal (suc at) [] kinds = refl
+given_take equal (suc at) (r ∷ rows) [] = refl
+given_take equal (suc at) (r ∷ rows) (k ∷ kinds) = ap (λ (l : List Given). (let g : Given = record { row = r; equal = equal k } in g) ∷ l) (given_take equal at rows kinds)
+
+pub take_short : (n most : ℕ) (xs : List Given) → length xs ≤ n → n ≤ most → take n xs ≡ take most xs
+take_short n most xs h m = take_all n xs h ∙ sym (take_all most xs (omega (arith, h, m)))
+
+-- all of them, where they are fewer
+pub all_first : (at count : ℕ) (list : Listed ConKind) (rows : List (List ℤ)) (kinds : List ConKind) → rows ≡ list.rows → kinds ≡ list.kinds → length kinds ≡ length list.rows → count ≤ at → at ≤ count →
+    count ≡ length rows → length rows ≤ most_kept → take at (constraints list) ≡ take most_kept (constraints list)
+all_first at count list rows kinds er ek n low high is few =
+    let many : length (constraints list) ≡ length list.rows = given_length is_equality list.rows list.kinds (sym n ∙ ap length ek) in
+    let seen : length rows ≡ length list.rows = ap length er in
+    take_short at most_kept (constraints list) (omega (arith, many, seen, low, is)) (at_most (omega (arith, high, is)) few)
+  where
+    at_most : {n m k : ℕ} → n ≤ m → m ≤ k → n ≤ k
+    at_most h g = omega (arith, h, g)
+
+pub so_many : (at count : ℕ) (list : Listed ConKind) → count ≤ at → at ≤ count → count ≡ most_kept → take at (constraints list) ≡ take most_kept (constraints list)
+so_many at count list low high is = ap (λ (n : ℕ). take n (constraints list)) (let same : at ≡ count = omega (arith, low, high) in same ∙ is)
+
+pub first_listed : (at : ℕ) (list kept : Listed ConKind) → kept.rows ≡ take at list.rows → kept.kinds ≡ take at list.kinds →
+    take at (constraints list) ≡ take most_kept (constraints list) → constraints kept ≡ take most_kept (constraints list)
+first_listed at list kept er ek same = ap (λ (y : List (List ℤ)). given_by is_equality y kept.kinds) er ∙ ap (given_by is_equality (take at list.rows)) ek ∙
+    given_take is_equality at list.rows list.kinds ∙ same
+
+pub of_first : (n d : ℕ) (list kept : List Given) (p : Polyhedron) (losses : List Loss) → d ≡ n → kept ≡ take most_kept list →
+    IsOfTried d (with_positivity d []) kept p losses → IsOfFirst n list p
+of_first n d list kept p losses e first t = record {
+  losses = losses;
+  tried = subst (λ (m : ℕ). IsOfTried m (with_positivity m []) (take most_kept list) p losses) e
+      (subst (λ (l : List Given). IsOfTried d (with_positivity d []) l p losses) first t);
+}
+
+-- ---- what becomes of the generators
+pub if_both : {X Y : Type 0} (r : Result X Y) (P Q R : X → Type 0) → ((x : X) → P x → Q x → R x) → IfOk r P → IfOk r Q → IfOk r R
+if_both (Ok x) P Q R f p q = f x p q
+if_both (Err y) P Q R f p q = tt
+
+pub list_lost : (n d : ℕ) (s : Shape) (list : List Given) (cause : Cause) (losses after told : List Loss) (p : Polyhedron) → d ≡ n → IsCone s → losses ≡ [] → IsOwnCause s cause →
+    TellsOwnLoss s cause losses after → told ≡ after → IsOfFirst d list p → IsMadeOfPoints n s list p told
+list_lost n d s list cause losses after told p e k none x t et h = inr (
+  record {
+    is_cone = k;
+    cause = cause;
+    is_cause = x;
+    told = subst (λ (l : List Loss). TellsOwnLoss s cause l told) none (subst (TellsOwnLoss s cause losses) (sym et) t);
+  },
+  subst (λ (m : ℕ). IsOfFirst m list p) e h,
+)
+
+pub all_taken : (n d : ℕ) (given : List Given) (list : Listed ConKind) (cone : Shape) (left losses : List Loss) (p : Polyhedron) → AreTaken n given list cone left → left ≡ [] → d ≡ n →
+    IsMadeOfPoints d cone (constraints list) p losses → IsOfPoints n given p losses
+all_taken n d given list cone left losses p t none e h = record {
+  cone = cone;
+  list = list;
+  left = left;
+  taken = t;
+  made = inl (none, subst (λ (m : ℕ). IsMadeOfPoints m cone (constraints list) p losses) e h);
+}
+
+pub some_lost : (n : ℕ) (given : List Given) (list : Listed ConKind) (cone : Shape) (left losses : List Loss) (p : Polyhedron) → AreTaken n given list cone left → left ≢ [] → losses ≡ left →
+    IsOfFirst list.dims (constraints list) p → IsOfPoints n given p losses
+some_lost n given list cone left losses p t lost e h = record {
+  cone = cone;
+  list = list;
+  left = left;
+  taken = t;
+  made = inr (lost, e, subst (λ (m : ℕ). IsOfFirst m (constraints list) p) t.list_dims h);
+}

@@ -149,7 +149,7 @@ width_more w form rows i r t all new h e f widths x a =
       ]
     ])
 
-given_length : {K : Type 0} (equal : K → Bool) (rows : List (List ℤ)) (kinds : List K) → length rows ≡ length kinds → length (given_by equal rows kinds) ≡ length rows
+pub given_length : {K : Type 0} (equal : K → Bool) (rows : List (List ℤ)) (kinds : List K) → length rows ≡ length kinds → length (given_by equal rows kinds) ≡ length rows
 given_length equal [] kinds n = refl
 given_length equal (r ∷ rows) [] n = absurd (omega (arith, n))
 given_length equal (r ∷ rows) (k ∷ kinds) n = ap suc (given_length equal rows kinds (omega (arith, n)))

@@ -1,7 +1,7 @@
 //! Both canonical lists of a polyhedron.
 
 ghost use Rattle.std.specs.Prelude.{◌≡◌, ◌∷◌, ◌++◌, ◌<◌, ◌≤◌, [], List, suc, length, drop, IfOk, IfSome, IfNone};
-ghost use Rattle.std.specs.Prelude.{OnOk};
+ghost use Rattle.std.specs.Prelude.{◌≢◌, take, OnOk};
 ghost use Rattle.std.specs.List.{Contains};
 ghost use Rattle.lra_linear.specs.Descriptions.{AreGenerators, Con, Gen, Given, inequality};
 ghost use Rattle.lra_linear.specs.ConeStrain.{row_limit};
@@ -19,7 +19,7 @@ ghost use Rattle.lra_cone.specs.Conversions.{IsConversion};
 ghost use Rattle.lra_cone.specs.Losses.{IfLost};
 ghost use Rattle.lra_pair.specs.KeptRows.{IsOfSome};
 ghost use Rattle.lra_pair.specs.OwnLists.{IsOwnCause, IsOwnList, IsOwnLoss, IsPositive, TellsOwnLoss};
-ghost use Rattle.lra_pair.specs.TakenPoints.{AreTaken};
+ghost use Rattle.lra_pair.specs.TakenPoints.{AreTaken, IsMadeOfPoints, IsOfFirst, IsOfPoints, most_kept};
 ghost use Rattle.lra_pair.specs.TriedRows.{IsMadeOf, IsOfTried, StrainsWhenTried};
 
 use crate::own::{Own, limit_own_list};
@@ -280,6 +280,7 @@ fn first_rows(alloc: Global, list: &ConSys) -> Result<ConSys, AllocError>
     ensures dims { IfOk result (λ kept. kept.dims ≡ list.now.dims) }
     ensures among { IfOk result (λ kept. (g : Given) → Contains (constraints kept) g →
         Contains (constraints list.now) g) }
+    ensures first { IfOk result (λ kept. constraints kept ≡ take most_kept (constraints list.now)) }
 {
     let n = list.dims();
     if n >= TOO_MANY_DIMENSIONS {
@@ -308,6 +309,7 @@ fn enclose_points(
     ensures canonical { IfOk result (λ r. IsPolyhedron r.0) }
     ensures within { IfOk result (λ r. IsWithin list.now.dims (Con (constraints list.now)) (Con r.0.rows)) }
     ensures losses { IfOk result (λ r. r.1.items ≡ losses.items) }
+    ensures first { IfOk result (λ r. IsOfFirst list.now.dims (constraints list.now) r.0) }
 {
     let kept = first_rows(alloc, list)?;
     let (pair, _) = from_rows(alloc, &kept)?;
@@ -333,6 +335,7 @@ fn of_taken_generators(
     ensures exact { IfOk result (λ r. r.1.items ≡ [] → IsPolyhedronOf n (Gen cone.now.taken) r.0) }
     ensures within { IfOk result (λ r. IsWithin n (Gen cone.now.taken) (Con r.0.rows)) }
     ensures strain { IfOk result (λ r. IfLost (FromGeneratorsStrains n cone.now.taken) r.1.items) }
+    ensures made { IfOk result (λ r. IsMadeOfPoints n cone.now (constraints list.now) r.0 r.1.items) }
 {
     let mut losses = Vec::new(alloc);
     match limit_own_list(alloc, cone)? {
@@ -374,6 +377,7 @@ fn from_points(alloc: Global, given: &GenSys) -> Result<(Pair, Vec<Loss>), Alloc
     ensures exact { IfOk result (λ r. r.1.items ≡ [] → IsPolyhedronOf given.now.dims (Gen (generators given.now)) r.0) }
     ensures within { IfOk result (λ r. IsWithin given.now.dims (Gen (generators given.now)) (Con r.0.rows)) }
     ensures strain { IfOk result (λ r. IfLost (FromGeneratorsStrains given.now.dims (generators given.now)) r.1.items) }
+    ensures made { IfOk result (λ r. IsOfPoints given.now.dims (generators given.now) r.0 r.1.items) }
 {
     let n = given.dims();
     let (conversion, list) = take_points(alloc, given)?;
@@ -451,6 +455,8 @@ pub fn from_generators(alloc: Global, given: &GenSys) -> Result<(Pair, Vec<Loss>
     ensures exact { IfOk result (λ r. r.1.items ≡ [] → IsPolyhedronOf given.now.dims (Gen (generators given.now)) r.0) }
     ensures within { IfOk result (λ r. IsWithin given.now.dims (Gen (generators given.now)) (Con r.0.rows)) }
     ensures strain { IfOk result (λ r. IfLost (FromGeneratorsStrains given.now.dims (generators given.now)) r.1.items) }
+    ensures made { IfOk result (λ r. r.1.items ≢ [] →
+        IsOfPoints given.now.dims (generators given.now) r.0 r.1.items) }
 {
     let n = given.dims();
     if n >= TOO_MANY_DIMENSIONS {

@@ -3,6 +3,7 @@ use Rattle.std.proofs.Common.{ℕ, subst}
 use Rattle.lra_linear.specs.Descriptions.{Con}
 use Rattle.lra_linear.specs.Points.{IsWithin}
 use Rattle.lra_sys.specs.Listed.{constraints}
+use Rattle.lra_pair.proofs.GeneratorPairs.{of_first}
 use Rattle.lra_pair.proofs.PairLosses.{first_within}
 use Rattle.lra_pair.proofs.pair.enclose_points.Goals as goal
 
@@ -14,3 +15,9 @@ returns-clause-within c =
     subst (λ (n : ℕ). IsWithin n (Con (constraints list)) (Con made.rows)) c.in_ok-kept.ensures.dims
     (first_within kept.dims (constraints kept) (constraints list) (Con made.rows)
     c.in_ok-kept.ensures.among c.in_ok-pair.ensures.within)
+
+pub returns-clause-first : goal.returns-clause-first
+returns-clause-first c =
+    let kept = c.in_ok-kept.kept in
+    let list = c.args.list.now in
+    of_first list.dims kept.dims (constraints list) (constraints kept) c.in_ok-pair.pair _ c.in_ok-kept.ensures.dims c.in_ok-kept.ensures.first c.in_ok-pair.ensures.tried

@@ -1,6 +1,7 @@
 -- Goals of `from_generators`: the polyhedron of the generators, and what was lost.
 use Rattle.std.proofs.Common.{◌∙◌, ap, subst, List, ℕ, ◌∷◌, []}
 use Rattle.std.specs.List.{Contains}
+use Rattle.std.proofs.lemmas.Result.{IfOk-weaker}
 use Rattle.lra_linear.specs.Descriptions.{Gen, inequality}
 use Rattle.lra_linear.specs.Polyhedra.{falsity}
 use Rattle.lra_sys.specs.Listed.{generators}
@@ -20,3 +21,9 @@ returns-then-not-has_point-clause-within c = (empty_pair c.args.given.now.dims (
     (c.in_ok-pair.ensures.rows ∙ ap (λ (n : ℕ). inequality (falsity n) ∷ []) c.dims-n.ensures) c.in_ok-pair.ensures.generators
     (no_point_given c.args.given.now.dims c.args.given.now c.requires (subst (λ (x : List GenKind). ¬ (Contains x Point)) c.kinds.ensures.kinds
     (c.has_point.ensures.no c.if-not-has_point.true)))).points.0
+
+pub returns-then-not-has_point-clause-made : goal.returns-then-not-has_point-clause-made
+returns-then-not-has_point-clause-made c = λ some. absurd (some c.new.ensures.items)
+
+pub returns-clause-made : goal.returns-clause-made
+returns-clause-made c = IfOk-weaker c.from_points.result _ _ (λ r h _. h) c.from_points.ensures.made
