@@ -1,4 +1,5 @@
 pub mod PolyLemmas
 pub mod FormedLemmas
 pub mod MetRows
+pub mod UnitedLists
 pub mod TakenGenerators

@@ -1,3 +1,4 @@
 -- Operations on closed polyhedra.
 pub mod Outcomes
 pub mod Narrowed
+pub mod United

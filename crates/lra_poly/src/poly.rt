@@ -1,7 +1,7 @@
 //! Closed polyhedra.
 
 ghost use Rattle.std.specs.Prelude.{◌≡◌, ◌↔◌, ◌<◌, ◌∷◌, ◌++◌, [], length, drop, IsTrue, IfOk, IfSome, IsSome};
-ghost use Rattle.std.specs.Prelude.{OnErr};
+ghost use Rattle.std.specs.Prelude.{IfNone, OnErr};
 ghost use Rattle.lra_linear.specs.Descriptions.{AreGenerators, Con, Gen, Holds};
 ghost use Rattle.lra_linear.specs.Formed.{IsFormed, KeepsLimit};
 ghost use Rattle.lra_linear.specs.OperationStrain.{FromRowsStrains, FromGeneratorsStrains};
@@ -14,10 +14,12 @@ ghost use Rattle.lra_sys.specs.Dimensions.{too_many_dimensions};
 ghost use Rattle.lra_sys.specs.Listed.{constraints, generators, FitKinds};
 ghost use Rattle.lra_pair.specs.KeptRows.{IsOfSome};
 ghost use Rattle.lra_pair.specs.OwnLists.{IsPositive};
+ghost use Rattle.lra_pair.specs.TriedRows.{StrainsWhenTried};
 ghost use Rattle.lra_duality.specs.Inclusions.{IsInclusion, TellsInclusion};
 ghost use Rattle.lra_duality.specs.Maxima.{IsMaximum, TellsMaximum, ValueInRange};
 ghost use Rattle.lra_poly.specs.Outcomes.{IfExact, IfFlagged};
 ghost use Rattle.lra_poly.specs.Narrowed.{IsMetWith, IsNarrowed, IsSeenWithin, IsTried};
+ghost use Rattle.lra_poly.specs.United.{AreTriedPoints, StopsOnward, UnitesAnew};
 ghost use Rattle.lra_poly.specs.declared.outcome.Outcome.TheVariants.{Exact};
 ghost use Rattle.lra_lin.specs.Form.{form_row};
 ghost use Rattle.lra_duality.specs.Rows.{test_row};
@@ -116,8 +118,10 @@ fn of_facets(alloc: Global, cone: Cone, more: &GenSys) -> Result<Option<Poly>, A
     requires kinds { FitKinds more.now.rows more.now.kinds }
     requires columns { AreGenerators cone.taken }
     requires some { ¬ (IsEmptySet more.now.dims (Gen (cone.taken ++ generators more.now))) }
-    ensures { IfOk result (λ made. IfSome made
+    ensures made { IfOk result (λ made. IfSome made
         (IsPolyhedronOf more.now.dims (Gen (cone.taken ++ generators more.now)))) }
+    ensures none { IfOk result (λ made. IfNone made
+        (StrainsWhenTried more.now.dims cone.taken (generators more.now))) }
 {
     match lra_pair::with_generators(alloc, cone, more)? {
         Some(pair) => {
@@ -184,6 +188,8 @@ impl Poly {
         ensures within { IfOk result (λ r. IsWithin given.now.dims (Gen (generators given.now)) (Con r.0.rows)) }
         ensures strain { IfOk result (λ r.
             IfFlagged (FromGeneratorsStrains given.now.dims (generators given.now)) r.1) }
+        ensures tried { IfOk result (λ r.
+            IfFlagged (λ _. AreTriedPoints given.now.dims (generators given.now) r.0 r.1) r.1) }
     {
         let (pair, losses) = lra_pair::from_generators(alloc, given)?;
         let made = of_pair(alloc, &pair)?;
@@ -425,8 +431,8 @@ impl Poly {
     }
 
     /// Becomes the meet with the other: the points of both. Where it is flagged it has at least those, and no point
-    /// that it hadn't before: the rows that strained when they were tried are left out. Where each point is seen to be in
-    /// the other, nothing changes.
+    /// that it hadn't before: the rows that strained when they were tried are left out. Where each point is seen to be
+    /// in the other, nothing changes.
     pub fn meet(&mut self, other: &Poly) -> Result<Outcome, AllocError>
         requires { other.now.dims ≡ self.old.dims }
         ensures dims { self.new.dims ≡ self.old.dims }
@@ -471,8 +477,9 @@ impl Poly {
     // hand; none where one of them isn't taken in, or there are no lists to go on from.
     fn unite_onward(&self, other: &Poly) -> Result<Option<Poly>, AllocError>
         requires { other.now.dims ≡ self.now.dims }
-        ensures { IfOk result (λ made. IfSome made
+        ensures made { IfOk result (λ made. IfSome made
             (IsPolyhedronOf self.now.dims (Gen (self.now.generators ++ other.now.generators)))) }
+        ensures none { IfOk result (λ made. IfNone made (StopsOnward self.now other.now)) }
     {
         match facet_cone(
             self.alloc,
@@ -499,6 +506,8 @@ impl Poly {
             IsWithin self.now.dims (Gen (self.now.generators ++ other.now.generators)) (Con r.0.rows)) }
         ensures strain { IfOk result (λ r. IfFlagged
             (FromGeneratorsStrains self.now.dims (self.now.generators ++ other.now.generators)) r.1) }
+        ensures tried { IfOk result (λ r. IfFlagged (λ _.
+            AreTriedPoints self.now.dims (self.now.generators ++ other.now.generators) r.0 r.1) r.1) }
     {
         let all = join_generators(&self.by_generators, &other.by_generators)?;
         let (made, outcome) = Poly::from_generators(self.alloc, &all)?;
@@ -516,6 +525,7 @@ impl Poly {
             IsWithin self.now.dims (Gen (self.now.generators ++ other.now.generators)) (Con r.0.rows)) }
         ensures strain { IfOk result (λ r. IfFlagged
             (FromGeneratorsStrains self.now.dims (self.now.generators ++ other.now.generators)) r.1) }
+        ensures anew { IfOk result (λ r. IfFlagged (λ _. UnitesAnew self.now other.now r.0 r.1) r.1) }
     {
         match self.unite_onward(other)? {
             Some(made) => Ok((made, Outcome::Exact)),
@@ -526,8 +536,9 @@ impl Poly {
         }
     }
 
-    /// Becomes the hull with the other: the least closed polyhedron that has the points of both. Where the other lies
-    /// in it, nothing changes. Where it is flagged it has at least its points.
+    /// Becomes the hull with the other: the least closed polyhedron that has the points of both. Where the other is
+    /// seen to lie in it, nothing changes. Where it is flagged it has at least its points: then the generators of both
+    /// were converted from nothing, since it can't be gone on from the lists at hand, or one strains behind them.
     pub fn hull(&mut self, other: &Poly) -> Result<Outcome, AllocError>
         requires { other.now.dims ≡ self.old.dims }
         ensures dims { self.new.dims ≡ self.old.dims }
@@ -536,6 +547,7 @@ impl Poly {
         ensures within { IfOk result (λ _. IsWithin self.old.dims
             (Hull self.old.dims (Union (Con self.old.rows) (Con other.now.rows))) (Con self.new.rows)) }
         ensures strain { IfOk result (IfFlagged (HullStrains self.old other.now)) }
+        ensures anew { IfOk result (λ o. IfFlagged (λ _. UnitesAnew self.old other.now self.new o) o) }
         ensures met { IsSeenWithin other.now self.old.rows →
             (self.new ≡ self.old) × IfOk result (λ o. o ≡ Exact) }
         ensures unchanged { OnErr result (self.new ≡ self.old) }

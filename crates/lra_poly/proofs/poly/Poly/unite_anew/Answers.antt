@@ -6,6 +6,7 @@ use Rattle.lra_linear.specs.Points.{IsWithin}
 use Rattle.lra_linear.specs.Polyhedra.{Polyhedron, IsPolyhedronOf}
 use Rattle.lra_sys.specs.Listed.{generators}
 use Rattle.lra_poly.specs.Outcomes.{IfExact, IfFlagged}
+use Rattle.lra_poly.specs.United.{AreTriedPoints}
 use Rattle.lra_poly.proofs.PolyLemmas.{joined_seen}
 use Rattle.lra_poly.proofs.poly.Poly.unite_anew.Goals as goal
 
@@ -41,3 +42,16 @@ returns-clause-strain c =
     let d : c.in_ok-all.all.dims ≡ p.dims = c.in_ok-all.ensures.dims ∙ c.self.invariant.1 ∙ ap (λ (x : Polyhedron). x.dims) c.self.view_is in
     subst (λ (l : List Given). IfFlagged (FromGeneratorsStrains p.dims l) c.in_ok-made.outcome) e
     (subst (λ (n : ℕ). IfFlagged (FromGeneratorsStrains n list) c.in_ok-made.outcome) d c.in_ok-made.ensures.strain)
+
+pub returns-clause-tried : goal.returns-clause-tried
+returns-clause-tried c =
+    let p = c.args.self.now in
+    let q = c.args.other.now in
+    let list = generators c.in_ok-all.all in
+    let made = c.in_ok-made.made in
+    let o = c.in_ok-made.outcome in
+    let e : list ≡ p.generators ++ q.generators = joined_seen list (generators c.self.inside.by_generators) (generators c.other.inside.by_generators) p.generators q.generators
+    c.in_ok-all.ensures.generators (ap (λ (x : Polyhedron). x.generators) c.self.view_is) (ap (λ (x : Polyhedron). x.generators) c.other.view_is) in
+    let d : c.in_ok-all.all.dims ≡ p.dims = c.in_ok-all.ensures.dims ∙ c.self.invariant.1 ∙ ap (λ (x : Polyhedron). x.dims) c.self.view_is in
+    subst (λ (l : List Given). IfFlagged (λ _. AreTriedPoints p.dims l made o) o) e
+    (subst (λ (n : ℕ). IfFlagged (λ _. AreTriedPoints n list made o) o) d c.in_ok-made.ensures.tried)

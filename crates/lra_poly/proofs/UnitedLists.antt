@@ -1,0 +1,43 @@
+-- What is told of generators that strain.
+use Rattle.std.proofs.Common.{◌≡◌, ◌≢◌, ◌∙◌, ℕ, List, [], ◌∷◌, ◌++◌, refl, subst, sym, inl, inr}
+use Rattle.lra_linear.specs.Descriptions.{Given}
+use Rattle.lra_linear.specs.Polyhedra.{Polyhedron}
+use Rattle.lra_linear.specs.Strain.{Loss}
+use Rattle.lra_duality.specs.Onward.{MayTurn}
+use Rattle.lra_pair.specs.TakenPoints.{IsOfPoints}
+use Rattle.lra_pair.specs.TriedRows.{StrainsWhenTried}
+use Rattle.lra_poly.specs.declared.outcome.Outcome.{Outcome}
+use Rattle.lra_poly.specs.declared.outcome.Outcome.TheVariants.{Exact, Flagged}
+use Rattle.lra_poly.specs.Outcomes.{IfFlagged, first_loss}
+use Rattle.lra_poly.specs.United.{AreTriedPoints, StopsOnward, UnitesAnew}
+
+some_told : (l : Loss) (losses : List Loss) → l ∷ losses ≢ []
+some_told l losses e = cc
+
+pub tried_points : (n : ℕ) (given : List Given) (made pair : Polyhedron) (o : Outcome) (losses : List Loss) → made ≡ pair → o ≡ first_loss losses →
+    (losses ≢ [] → IsOfPoints n given pair losses) → IfFlagged (λ _. AreTriedPoints n given made o) o
+tried_points n given made pair o losses em e h = subst (λ (x : Outcome). IfFlagged (λ _. AreTriedPoints n given made x) x) (sym e) (by_losses losses h)
+  where
+    by_losses : (losses : List Loss) → (losses ≢ [] → IsOfPoints n given pair losses) → IfFlagged (λ _. AreTriedPoints n given made (first_loss losses)) (first_loss losses)
+    by_losses [] h = tt
+    by_losses (l ∷ later) h = record {
+      losses = l ∷ later;
+      told = refl;
+      of = subst (λ (p : Polyhedron). IsOfPoints n given p (l ∷ later)) (sym em) (h (some_told l later));
+    }
+
+pub no_cone : (p q view : Polyhedron) → view ≡ p → ¬ (MayTurn view.dims view.rows view.generators) → StopsOnward p q
+no_cone p q view e fails = inl (subst (λ (x : Polyhedron). ¬ (MayTurn x.dims x.rows x.generators)) e fails)
+
+pub strains_behind : (p q : Polyhedron) (d : ℕ) (taken listed more : List Given) → d ≡ p.dims → taken ≡ listed → listed ≡ p.generators → more ≡ q.generators →
+    StrainsWhenTried d taken more → StopsOnward p q
+strains_behind p q d taken listed more ed et el em h = inr (subst (λ (n : ℕ). StrainsWhenTried n p.generators q.generators) ed
+    (subst (λ (l : List Given). StrainsWhenTried d l q.generators) (et ∙ el) (subst (StrainsWhenTried d taken) em h)))
+
+pub unites_anew : (p q made : Polyhedron) (o : Outcome) → StopsOnward p q → IfFlagged (λ _. AreTriedPoints p.dims (p.generators ++ q.generators) made o) o →
+    IfFlagged (λ _. UnitesAnew p q made o) o
+unites_anew p q made o stops h = by_outcome o h
+  where
+    by_outcome : (x : Outcome) → IfFlagged (λ _. AreTriedPoints p.dims (p.generators ++ q.generators) made o) x → IfFlagged (λ _. UnitesAnew p q made o) x
+    by_outcome Exact h = tt
+    by_outcome (Flagged loss) h = record { stops = stops; tried = h }

@@ -1,0 +1,25 @@
+-- What hulls make of two polyhedra where they are flagged.
+use Rattle.std.specs.Prelude.{◌≡◌, ◌⊎◌, ℕ, List, ◌++◌}
+use Rattle.lra_linear.specs.Descriptions.{Given}
+use Rattle.lra_linear.specs.Polyhedra.{Polyhedron}
+use Rattle.lra_linear.specs.Strain.{Loss}
+use Rattle.lra_pair.specs.TakenPoints.{IsOfPoints}
+use Rattle.lra_pair.specs.TriedRows.{StrainsWhenTried}
+use Rattle.lra_duality.specs.Onward.{MayTurn}
+use Rattle.lra_poly.specs.declared.outcome.Outcome.{Outcome}
+use Rattle.lra_poly.specs.Outcomes.{first_loss}
+
+-- the generators were tried from nothing, and the first loss is told
+pub record AreTriedPoints (n : ℕ) (given : List Given) (made : Polyhedron) (o : Outcome) : Type 0 where
+  pub losses : List Loss
+  pub told : o ≡ first_loss losses
+  pub of : IsOfPoints n given made losses
+
+-- the first's lists make no cone, or behind that the second's generators strain
+abbrev pub StopsOnward : Polyhedron → Polyhedron → Type 0
+StopsOnward p q = (¬ (MayTurn p.dims p.rows p.generators)) ⊎ StrainsWhenTried p.dims p.generators q.generators
+
+-- only then the generators of both are converted from nothing, which alone is flagged
+pub record UnitesAnew (p q made : Polyhedron) (o : Outcome) : Type 0 where
+  pub stops : StopsOnward p q
+  pub tried : AreTriedPoints p.dims (p.generators ++ q.generators) made o
