@@ -3,6 +3,8 @@ use Rattle.std.proofs.Common.{◌≡◌, ◌≢◌, ◌∙◌, ℕ, List, [], �
 use Rattle.lra_linear.specs.Descriptions.{Given}
 use Rattle.lra_linear.specs.Polyhedra.{Polyhedron}
 use Rattle.lra_linear.specs.Strain.{Loss}
+use Rattle.lra_linear.specs.declared.GenKind.{GenKind}
+use Rattle.lra_sys.specs.Listed.{Listed, generators}
 use Rattle.lra_duality.specs.Onward.{MayTurn}
 use Rattle.lra_pair.specs.TakenPoints.{IsOfPoints}
 use Rattle.lra_pair.specs.TriedRows.{StrainsWhenTried}
@@ -41,3 +43,9 @@ unites_anew p q made o stops h = by_outcome o h
     by_outcome : (x : Outcome) → IfFlagged (λ _. AreTriedPoints p.dims (p.generators ++ q.generators) made o) x → IfFlagged (λ _. UnitesAnew p q made o) x
     by_outcome Exact h = tt
     by_outcome (Flagged loss) h = record { stops = stops; tried = h }
+
+-- of the list that stands for the generators of an operation
+pub tried_as : (n : ℕ) (given : List Given) (list : Listed GenKind) (made : Polyhedron) (o : Outcome) → list.dims ≡ n → generators list ≡ given →
+    IfFlagged (λ _. AreTriedPoints list.dims (generators list) made o) o → IfFlagged (λ _. AreTriedPoints n given made o) o
+tried_as n given list made o ed eg h = subst (λ (l : List Given). IfFlagged (λ _. AreTriedPoints n l made o) o) eg
+    (subst (λ (d : ℕ). IfFlagged (λ _. AreTriedPoints d (generators list) made o) o) ed h)
