@@ -1,13 +1,15 @@
 //! Changes of the dimensions, and time-elapse.
 
-ghost use Rattle.std.specs.Prelude.{◌≡◌, ◌⊎◌, ◌<◌, ◌≤◌, ◌-◌, ◌+◌, IfOk, OnErr, OnOk};
+ghost use Rattle.std.specs.Prelude.{◌≡◌, ◌⊎◌, ◌<◌, ◌≤◌, ◌-◌, ◌+◌, ◌++◌, IfOk, OnErr, OnOk};
 ghost use Rattle.lra_linear.specs.Descriptions.{Con, Gen};
 ghost use Rattle.lra_linear.specs.OperationStrain.{FromGeneratorsStrains, EmbedStrains};
 ghost use Rattle.lra_linear.specs.OperationStrain.{RemoveLastStrains, TimeElapseStrains};
+ghost use Rattle.lra_linear.specs.OperationStrain.{as_directions, embedded, shortened};
 ghost use Rattle.lra_linear.specs.Points.{IsEmptySet, IsWithin};
 ghost use Rattle.lra_linear.specs.Polyhedra.{IsPolyhedron, IsPolyhedronOf};
 ghost use Rattle.lra_linear.specs.SetOperations.{Embed, RemoveLast, TimeElapse};
 ghost use Rattle.lra_poly.specs.Outcomes.{IfExact, IfFlagged};
+ghost use Rattle.lra_poly.specs.United.{AreTriedPoints};
 ghost use Rattle.lra_sys.specs.Dimensions.{too_many_dimensions};
 ghost use Rattle.lra_sys.specs.Listed.{generators, FitKinds};
 
@@ -23,6 +25,8 @@ fn replace(p: &mut Poly, list: &GenSys) -> Result<Outcome, AllocError>
     ensures exact { IfOk result (IfExact (IsPolyhedronOf list.now.dims (Gen (generators list.now)) p.new)) }
     ensures within { IfOk result (λ _. IsWithin list.now.dims (Gen (generators list.now)) (Con p.new.rows)) }
     ensures strain { IfOk result (IfFlagged (FromGeneratorsStrains list.now.dims (generators list.now))) }
+    ensures tried { IfOk result (λ o. IfFlagged
+        (λ _. AreTriedPoints list.now.dims (generators list.now) p.new o) o) }
     ensures canonical { OnOk result (IsPolyhedron p.new) }
     ensures unchanged { OnErr result (p.new ≡ p.old) }
 {
@@ -41,6 +45,8 @@ pub fn remove_last(p: &mut Poly, k: usize) -> Result<Outcome, AllocError>
     ensures within { IfOk result (λ _.
         IsWithin (p.old.dims - k) (RemoveLast (p.old.dims - k) k (Con p.old.rows)) (Con p.new.rows)) }
     ensures strain { IfOk result (IfFlagged (RemoveLastStrains k p.old)) }
+    ensures tried { IfOk result (λ o. IfFlagged
+        (λ _. AreTriedPoints (p.old.dims - k) (shortened (p.old.dims - k) p.old.generators) p.new o) o) }
     ensures unchanged { OnErr result (p.new ≡ p.old) }
 {
     let list = shorten(p.allocator(), p.generators(), p.dims() - k)?;
@@ -58,6 +64,8 @@ pub fn embed(p: &mut Poly, k: usize) -> Result<Outcome, AllocError>
     ensures within { IfOk result (λ _.
         IsWithin (p.old.dims + k) (Embed p.old.dims (Con p.old.rows)) (Con p.new.rows)) }
     ensures strain { IfOk result (IfFlagged (EmbedStrains k p.old)) }
+    ensures tried { IfOk result (λ o. IfFlagged
+        (λ _. AreTriedPoints (p.old.dims + k) (embedded k p.old) p.new o) o) }
     ensures unchanged { OnErr result (p.new ≡ p.old) }
 {
     let list = embed_list(p.allocator(), p.generators(), k)?;
@@ -76,6 +84,8 @@ fn elapse(p: &mut Poly, other: &Poly) -> Result<Outcome, AllocError>
     ensures within { IfOk result (λ _. IsWithin p.old.dims
         (TimeElapse p.old.dims (Con p.old.rows) (Con other.now.rows)) (Con p.new.rows)) }
     ensures strain { IfOk result (IfFlagged (TimeElapseStrains p.old other.now)) }
+    ensures tried { IfOk result (λ o. IfFlagged (λ _. AreTriedPoints p.old.dims
+        (p.old.generators ++ as_directions other.now.generators) p.new o) o) }
     ensures unchanged { OnErr result (p.new ≡ p.old) }
 {
     let list = with_directions(p.allocator(), p.generators(), other.generators())?;
@@ -94,6 +104,8 @@ pub fn time_elapse(p: &mut Poly, other: &Poly) -> Result<Outcome, AllocError>
     ensures within { IfOk result (λ _. IsWithin p.old.dims
         (TimeElapse p.old.dims (Con p.old.rows) (Con other.now.rows)) (Con p.new.rows)) }
     ensures strain { IfOk result (IfFlagged (TimeElapseStrains p.old other.now)) }
+    ensures tried { IfOk result (λ o. IfFlagged (λ _. AreTriedPoints p.old.dims
+        (p.old.generators ++ as_directions other.now.generators) p.new o) o) }
     ensures empty { IsEmptySet p.old.dims (Con p.old.rows) ⊎ IsEmptySet other.now.dims (Con other.now.rows) →
         IfOk result (λ outcome. outcome ≡ Outcome.Exact) }
     ensures unchanged { OnErr result (p.new ≡ p.old) }

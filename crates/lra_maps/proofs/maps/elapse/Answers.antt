@@ -8,6 +8,7 @@ use Rattle.lra_sys.specs.Listed.{generators}
 use Rattle.lra_poly.specs.Outcomes.{IfExact, IfFlagged}
 use Rattle.lra_duality.proofs.PolyhedronLemmas.{with_point}
 use Rattle.lra_maps.proofs.ElapsedSets.{elapse_exact, elapse_strain, elapse_within, list_is}
+use Rattle.lra_poly.proofs.UnitedLists.{tried_as}
 use Rattle.lra_maps.proofs.maps.elapse.Goals as goal
 
 pub returns-clause-exact : goal.returns-clause-exact
@@ -54,3 +55,15 @@ returns-clause-strain c =
     (with_point q c.generators-2.ensures.canonical c.requires.second) c.requires.dims e
     (subst (λ (n : ℕ). IfFlagged (FromGeneratorsStrains n list) c.in_ok-outcome.outcome) d
     c.in_ok-outcome.ensures.strain)
+
+pub returns-clause-tried : goal.returns-clause-tried
+returns-clause-tried c =
+    let p = c.args.p.now in
+    let q = c.args.other.now in
+    let list = generators c.in_ok-list.list in
+    let e : list ≡ p.generators ++ as_directions q.generators =
+    list_is p q (generators c.generators.result.now)
+    (generators c.generators-2.result.now) list c.in_ok-list.ensures.generators
+    c.generators.ensures.generators c.generators-2.ensures.generators in
+    let d : c.in_ok-list.list.dims ≡ p.dims = c.in_ok-list.ensures.dims ∙ c.generators.ensures.dims in
+    tried_as p.dims (p.generators ++ as_directions q.generators) c.in_ok-list.list c.replace.new.p c.in_ok-outcome.outcome d e c.in_ok-outcome.ensures.tried

@@ -5,6 +5,7 @@ use Rattle.lra_linear.specs.OperationStrain.{embedded}
 use Rattle.lra_linear.specs.SetOperations.{Embed}
 use Rattle.lra_maps.proofs.EmbeddedSets.{embed_takes}
 use Rattle.lra_poly.proofs.TakenGenerators.{taken_exact, taken_flagged, taken_within}
+use Rattle.lra_poly.proofs.UnitedLists.{tried_as}
 use Rattle.lra_maps.proofs.maps.embed.Goals as goal
 
 pub returns-clause-exact : goal.returns-clause-exact
@@ -34,3 +35,11 @@ returns-clause-strain c =
     (embed_takes p c.generators.result.now c.in_ok-list.list k c.generators.ensures.canonical c.generators.ensures.dims
     c.generators.ensures.generators c.in_ok-list.ensures.dims
     c.in_ok-list.ensures.generators) c.in_ok-outcome.ensures.strain
+
+pub returns-clause-tried : goal.returns-clause-tried
+returns-clause-tried c =
+    let p = c.args.p.now in
+    let k = c.args.k in
+    let takes = embed_takes p c.generators.result.now c.in_ok-list.list k c.generators.ensures.canonical c.generators.ensures.dims c.generators.ensures.generators c.in_ok-list.ensures.dims
+    c.in_ok-list.ensures.generators in
+    tried_as (p.dims + k) (embedded k p) c.in_ok-list.list c.replace.new.p c.in_ok-outcome.outcome takes.dimensions takes.are c.in_ok-outcome.ensures.tried

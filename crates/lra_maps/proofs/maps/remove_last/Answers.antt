@@ -5,6 +5,7 @@ use Rattle.lra_linear.specs.OperationStrain.{shortened}
 use Rattle.lra_linear.specs.SetOperations.{RemoveLast}
 use Rattle.lra_poly.proofs.TakenGenerators.{taken_exact, taken_flagged, taken_within}
 use Rattle.lra_maps.proofs.ShortenedSets.{remove_takes}
+use Rattle.lra_poly.proofs.UnitedLists.{tried_as}
 use Rattle.lra_maps.proofs.maps.remove_last.Goals as goal
 
 pub returns-clause-exact : goal.returns-clause-exact
@@ -36,3 +37,11 @@ returns-clause-strain c =
     (remove_takes p c.generators.result.now c.in_ok-list.list k _ c.generators.ensures.canonical c.requires
     c.generators.ensures.generators (ap (λ (d : ℕ). d - k) c.dims.ensures) c.in_ok-list.ensures.dims
     c.in_ok-list.ensures.generators) c.in_ok-outcome.ensures.strain
+
+pub returns-clause-tried : goal.returns-clause-tried
+returns-clause-tried c =
+    let p = c.args.p.now in
+    let k = c.args.k in
+    let takes = remove_takes p c.generators.result.now c.in_ok-list.list k _ c.generators.ensures.canonical c.requires c.generators.ensures.generators (ap (λ (d : ℕ). d - k) c.dims.ensures)
+    c.in_ok-list.ensures.dims c.in_ok-list.ensures.generators in
+    tried_as (p.dims - k) (shortened (p.dims - k) p.generators) c.in_ok-list.list c.replace.new.p c.in_ok-outcome.outcome takes.dimensions takes.are c.in_ok-outcome.ensures.tried
