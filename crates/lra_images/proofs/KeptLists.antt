@@ -1,15 +1,13 @@
 -- Why lists aren't moved.
-use Rattle.std.proofs.Common.{◌≡◌, ℕ, suc, ◌+◌, add-one, List, ℤ, inl, inr, ◌⊎◌, subst, Result, Err}
-use Rattle.lra_linear.specs.declared.Excess as E
-use Rattle.lra_linear.specs.Descriptions.{Con, Given}
-use Rattle.lra_linear.specs.Points.{IsEmptySet}
+use Rattle.std.proofs.Common.{◌≡◌, ℕ, suc, ◌+◌, add-one, List, ℤ, inl, inr, ◌⊎◌, subst}
+use Rattle.lra_linear.specs.Descriptions.{Given}
 use Rattle.lra_linear.specs.Polyhedra.{Polyhedron}
 use Rattle.lra_row.specs.declared.error.RowError.{RowError}
 use Rattle.lra_row.specs.declared.error.RowError.TheVariants.{Excess, Memory}
 use Rattle.lra_poly.specs.declared.outcome.Outcome.{Outcome}
 use Rattle.lra_poly.specs.declared.outcome.Outcome.TheVariants.{Exact, Flagged}
 use Rattle.lra_poly.specs.Outcomes.{IfFlagged}
-use Rattle.lra_lists.specs.Moving.{AssignmentPasses, HasUnit, MovePasses, OnExcess, StaysBackFor, StaysFor, SubstitutionPasses, TakesBack}
+use Rattle.lra_lists.specs.Moving.{AssignmentPasses, MovePasses, OnExcess, StaysBackFor, StaysFor, SubstitutionPasses, TakesBack}
 
 -- a number passes in one of the lists
 pub rows_pass : (k : ℕ) (form back : List ℤ) (p : Polyhedron) (rows : List Given) (error : RowError) → rows ≡ p.rows → OnExcess (SubstitutionPasses k back rows) error →

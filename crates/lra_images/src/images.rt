@@ -1,9 +1,9 @@
 //! Images and preimages under a form, and coordinates that are forgotten.
 
-ghost use Rattle.std.specs.Prelude.{◌≡◌, ◌<◌, suc, length, None, Some, IfOk, OnErr, OnOk};
-ghost use Rattle.lra_linear.specs.Descriptions.{Con, Gen};
+ghost use Rattle.std.specs.Prelude.{◌≡◌, ◌<◌, ◌∷◌, ◌++◌, [], suc, length, None, Some, IfOk, OnErr, OnOk};
+ghost use Rattle.lra_linear.specs.Descriptions.{Con, Gen, line};
 ghost use Rattle.lra_linear.specs.OperationStrain.{ForgetStrains, FromGeneratorsStrains};
-ghost use Rattle.lra_linear.specs.OperationStrain.{ImageStrains, PreimageStrains};
+ghost use Rattle.lra_linear.specs.OperationStrain.{ImageStrains, PreimageStrains, unit_row};
 ghost use Rattle.lra_linear.specs.Points.{IsWithin};
 ghost use Rattle.lra_linear.specs.Polyhedra.{IsPolyhedronOf};
 ghost use Rattle.lra_linear.specs.SetOperations.{Forget, Image, Preimage};
@@ -11,6 +11,7 @@ ghost use Rattle.lra_linear.specs.Strain as strain;
 ghost use Rattle.lra_images.specs.Forgetting.{IsForgotten};
 ghost use Rattle.lra_lists.specs.Moving.{StaysBackFor, StaysFor};
 ghost use Rattle.lra_poly.specs.Outcomes.{IfExact, IfFlagged};
+ghost use Rattle.lra_poly.specs.United.{AreTriedPoints};
 ghost use Rattle.lra_lin.specs.Form.{form_row};
 ghost use Rattle.lra_sys.specs.Listed.{generators, FitKinds};
 
@@ -33,6 +34,8 @@ pub fn forget(p: &mut Poly, x: usize) -> Result<Outcome, AllocError>
     ensures within { IfOk result (λ _.
         IsWithin p.old.dims (Forget p.old.dims (suc x) (Con p.old.rows)) (Con p.new.rows)) }
     ensures strain { IfOk result (IfFlagged (ForgetStrains (suc x) p.old)) }
+    ensures tried { IfOk result (λ o. IfFlagged (λ _. AreTriedPoints p.old.dims
+        (p.old.generators ++ line (unit_row p.old.dims (suc x)) ∷ []) p.new o) o) }
     ensures unchanged { OnErr result (p.new ≡ p.old) }
 {
     let list = with_line(p.allocator(), p.generators(), x)?;

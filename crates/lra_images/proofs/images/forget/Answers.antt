@@ -5,6 +5,7 @@ use Rattle.lra_linear.specs.OperationStrain.{unit_row}
 use Rattle.lra_linear.specs.SetOperations.{Forget}
 use Rattle.lra_images.proofs.ForgetLemmas.{forget_takes}
 use Rattle.lra_poly.proofs.TakenGenerators.{taken_exact, taken_flagged, taken_within}
+use Rattle.lra_poly.proofs.UnitedLists.{tried_as}
 use Rattle.lra_images.proofs.images.forget.Goals as goal
 
 pub returns-clause-exact : goal.returns-clause-exact
@@ -36,3 +37,10 @@ returns-clause-strain c =
     (forget_takes p c.generators.result.now c.in_ok-list.list c.args.x c.generators.ensures.canonical c.requires
     c.generators.ensures.dims c.generators.ensures.generators c.in_ok-list.ensures.dims
     c.in_ok-list.ensures.generators) c.in_ok-made.ensures.strain
+
+pub returns-clause-tried : goal.returns-clause-tried
+returns-clause-tried c =
+    let p = c.args.p.now in
+    let takes = forget_takes p c.generators.result.now c.in_ok-list.list c.args.x c.generators.ensures.canonical c.requires c.generators.ensures.dims c.generators.ensures.generators
+    c.in_ok-list.ensures.dims c.in_ok-list.ensures.generators in
+    tried_as p.dims (p.generators ++ line (unit_row p.dims (suc c.args.x)) ∷ []) c.in_ok-list.list c.in_ok-made.made c.in_ok-made.outcome takes.dimensions takes.are c.in_ok-made.ensures.tried
