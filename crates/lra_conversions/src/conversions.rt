@@ -1,6 +1,6 @@
 //! Conversions of lists of constraints and of generators.
 
-ghost use Rattle.std.specs.Prelude.{◌≡◌, [], suc, map, ◌<◌, IfOk};
+ghost use Rattle.std.specs.Prelude.{◌≡◌, ◌≢◌, [], suc, map, ◌<◌, IfOk};
 ghost use Rattle.std.specs.List.{Contains};
 ghost use Rattle.lra_linear.specs.Descriptions.{Given, Con, Gen};
 ghost use Rattle.lra_linear.specs.OperationStrain.{with_positivity};
@@ -9,8 +9,10 @@ ghost use Rattle.lra_linear.specs.Strain.{Strains};
 ghost use Rattle.lra_sys.specs.Dimensions.{too_many_dimensions};
 ghost use Rattle.lra_sys.specs.Listed.{constraints, generators, FitKinds};
 ghost use Rattle.lra_descriptions.specs.ShownLists.{AreGeneratorsOf, AreConstraintsOf, dual_kind};
-ghost use Rattle.lra_cone.specs.Conversions.{IsConversion};
+ghost use Rattle.lra_cone.specs.Cones.{Shape};
+ghost use Rattle.lra_cone.specs.Conversions.{AreTried, IsConversion};
 ghost use Rattle.lra_cone.specs.Losses.{IfLost};
+ghost use Rattle.lra_pair.specs.TakenPoints.{AreTaken};
 
 use lra_cone::{Cone, Conversion, Loss, positive_cone, take_rows};
 use lra_descriptions::{dual_rows, generator_list, has_point, nothing};
@@ -31,6 +33,8 @@ pub fn generate(alloc: Global, rows: &ConSys) -> Result<(ConSys, GenSys, Vec<Los
         IfLost (Strains (suc rows.now.dims) (with_positivity rows.now.dims (constraints rows.now))) r.2.items) }
     ensures canonical { IfOk result (λ r. AreGeneratorsOf rows.now.dims (constraints r.0) (generators r.1)) }
     ensures kinds { IfOk result (λ r. FitKinds r.1.rows r.1.kinds) }
+    ensures tried { IfOk result (λ r. AreTried (suc rows.now.dims) (with_positivity rows.now.dims [])
+        (constraints rows.now) (constraints r.0) r.2.items) }
 {
     let n = rows.dims();
     if n >= TOO_MANY_DIMENSIONS {
@@ -75,6 +79,8 @@ pub fn constrain(alloc: Global, given: &GenSys) -> Result<(ConSys, Vec<Loss>), A
     ensures strain { IfOk result (λ r. IfLost (Strains (suc given.now.dims) (generators given.now)) r.1.items) }
     ensures canonical { IfOk result (λ r. r.1.items ≡ [] →
         AreConstraintsOf given.now.dims (generators given.now) (constraints r.0)) }
+    ensures taken { IfOk result (λ r. r.1.items ≢ [] →
+        (cone : Shape) × AreTaken given.now.dims (generators given.now) r.0 cone r.1.items) }
 {
     let n = given.dims();
     if n >= TOO_MANY_DIMENSIONS {

@@ -1,5 +1,5 @@
 -- Goals of `constrain`: the constraints of the generators, and the generators that were not taken in.
-use Rattle.std.proofs.Common.{◌≡◌, ◌∙◌, ap, sym, subst, length, List, ℕ, ◌∷◌, []}
+use Rattle.std.proofs.Common.{◌≡◌, ◌∙◌, ap, refl, sym, subst, length, List, ℕ, ◌∷◌, []}
 use Rattle.std.specs.List.{Contains}
 use Rattle.lra_linear.specs.OperationStrain.{unit_row}
 use Rattle.lra_linear.specs.Vectors.{negated}
@@ -7,6 +7,8 @@ use Rattle.lra_sys.specs.Listed.{constraints}
 use Rattle.lra_linear.specs.declared.GenKind.{GenKind}
 use Rattle.lra_linear.specs.declared.GenKind.TheVariants.{Point}
 use Rattle.lra_pair.proofs.ConstraintLists.{nothing_constrained, constrained}
+use Rattle.lra_cone.specs.Cones.{whole_space}
+use Rattle.lra_pair.proofs.GeneratorPairs.{taken}
 use Rattle.lra_conversions.proofs.conversions.constrain.Goals as goal
 
 subst_none : {xs ys : List GenKind} → xs ≡ ys → ¬ (Contains xs Point) → ¬ (Contains ys Point)
@@ -54,3 +56,16 @@ returns-clause-canonical c = (constrained c.args.given.now.dims c.args.given.now
     (subst (λ (x : List GenKind). Contains x Point) c.kinds.ensures.kinds (c.has_point.ensures.yes c.if-not-has_point.false)) c.in_ok-rows.ensures.rows
     c.in_ok-rows.ensures.kinds c.in_ok-rows.ensures.dims.0 c.in_ok-rows.ensures.dims.1 c.in_ok-rows.ensures.taken c.in_ok-list.ensures.cone
     c.in_ok-list.ensures.exact c.in_ok-list.ensures.valid).canonical
+
+pub returns-then-not-has_point-clause-taken : goal.returns-then-not-has_point-clause-taken
+returns-then-not-has_point-clause-taken c = λ lost. absurd (lost c.new.ensures.items)
+
+pub returns-clause-taken : goal.returns-clause-taken
+returns-clause-taken c = λ _. (
+  c.in_ok-rows.conversion.cone,
+  taken c.args.given.now.dims c.args.given.now c.in_ok-rows.rows c.in_ok-list.list (whole_space c.args.given.now.dims) c.in_ok-rows.conversion.cone
+      (constraints c.in_ok-rows.conversion.kept) c.in_ok-rows.conversion.losses.items (ap length (sym c.kinds.ensures.kinds) ∙ c.kinds.ensures.len) c.requires
+      (subst (λ (x : List GenKind). Contains x Point) c.kinds.ensures.kinds (c.has_point.ensures.yes c.if-not-has_point.false)) c.in_ok-rows.ensures.rows
+      c.in_ok-rows.ensures.kinds c.in_ok-rows.ensures.dims.0 refl c.in_ok-rows.ensures.dims.1 c.in_ok-rows.ensures.taken c.in_ok-list.ensures.cone c.in_ok-list.ensures.dims
+      c.in_ok-list.ensures.exact c.in_ok-list.ensures.valid,
+)

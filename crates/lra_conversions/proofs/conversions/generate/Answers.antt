@@ -1,8 +1,11 @@
 -- Goals of `generate`: the rows kept, their points, rays and lines, and the rows left out.
-use Rattle.std.proofs.Common.{◌∙◌, ap, sym, suc}
+use Rattle.std.proofs.Common.{◌∙◌, ap, sym, subst, suc, ℕ, List}
 use Rattle.lra_sys.specs.Listed.{constraints, generators}
 use Rattle.lra_pair.proofs.GeneratorLists.{generated, same_points}
 use Rattle.lra_cone.proofs.Stepped.{lines_have_width, rays_have_width}
+use Rattle.lra_linear.specs.Descriptions.{Given}
+use Rattle.lra_cone.specs.Conversions.{AreTried}
+use Rattle.lra_pair.proofs.PairLosses.{behind_positivity}
 use Rattle.lra_conversions.proofs.conversions.generate.Goals as goal
 
 pub generator_list-requires-clause-lines : goal.generator_list-requires-clause-lines
@@ -31,3 +34,15 @@ returns-clause-kinds c = (generated c.in_ok-conversion.conversion.cone c.in_ok-p
     (constraints c.in_ok-conversion.conversion.kept) c.lines-lines.result.now c.rays-rays.result.now c.in_ok-generators.generators c.lines-lines.ensures.cone c.dims-n.ensures
     c.in_ok-conversion.ensures.dims c.in_ok-positive_cone.ensures.dims c.in_ok-positive_cone.ensures.taken c.in_ok-conversion.ensures.taken.taken c.lines-lines.ensures.lines c.rays-rays.ensures.rays
     c.in_ok-generators.ensures.shown).1
+
+pub returns-clause-tried : goal.returns-clause-tried
+returns-clause-tried c =
+    let n = c.args.rows.now.dims in
+    let conversion = c.in_ok-conversion.conversion in
+    let kept = constraints conversion.kept in
+    let rows = constraints c.args.rows.now in
+    let losses = conversion.losses.items in
+    let first = behind_positivity n c.dims-n.result c.in_ok-positive_cone.field-0.taken c.dims-n.ensures c.in_ok-positive_cone.ensures.taken in
+    let dims = c.in_ok-conversion.ensures.dims ∙ c.in_ok-positive_cone.ensures.dims ∙ c.dims-n.ensures in
+    subst (λ (l : List Given). AreTried (suc n) l rows kept losses) first
+    (subst (λ (m : ℕ). AreTried (suc m) c.in_ok-positive_cone.field-0.taken rows kept losses) dims c.in_ok-conversion.ensures.taken.tried)
