@@ -1,11 +1,12 @@
 -- Constraints formed of the rows of a list, place by place, without those in which a number passes.
 use Rattle.std.proofs.Common.{◌≡◌, ℕ, suc, ◌<◌, ◌≤◌, ◌+◌, add-one, List, [], ◌∷◌, ◌++◌, length, take, drop, get_or}
-use Rattle.std.proofs.Common.{arith, ap, sym, ◌∙◌, subst, ℤ, pos, Option, None, Some, Result, Ok, Err, inl, inr}
+use Rattle.std.proofs.Common.{arith, ap, sym, ◌∙◌, subst, ℤ, pos, Option, None, Some, Result, Ok, Err, inl, inr, ◌⊎◌}
 use Rattle.std.specs.Prelude.{IfNone, OnOk, false, is_none}
 use Rattle.std.specs.List.{Contains}
 use Rattle.std.proofs.lemmas.List.{length-set, map-append, take_all}
-use Rattle.std.proofs.lemmas.List.Elements.{Contains-append_cases, Contains-append_right}
+use Rattle.std.proofs.lemmas.List.Elements.{Contains-append_cases, Contains-append_left, Contains-append_right}
 use Rattle.lra_linear.specs.CheckedArithmetic.{checked_substitution}
+use Rattle.lra_linear.specs.declared.Excess as E
 use Rattle.lra_linear.specs.declared.ConKind.{ConKind}
 use Rattle.lra_linear.specs.declared.ConKind.TheVariants.{Ge}
 use Rattle.lra_linear.specs.Descriptions.{Given}
@@ -18,7 +19,7 @@ use Rattle.lra_linear.proofs.Products.{blend_length}
 use Rattle.lra_sys.specs.Listed.{Listed, constraints, given_by}
 use Rattle.lra_sys.proofs.FirstMembers.{front, given_more, given_split, member}
 use Rattle.lra_descriptions.proofs.SeveralKinds.{given_append}
-use Rattle.lra_lists.specs.Forming.{AreFormed}
+use Rattle.lra_lists.specs.Forming.{AllFormed, AreFormed, substituted_given}
 use Rattle.lra_lists.proofs.PushedLists.{many_more}
 
 if_none : (P Q : Type 0) (o : Option Loss) → (P → Q) → IfNone o P → IfNone o Q
@@ -26,9 +27,6 @@ if_none P Q None f h = f h
 if_none P Q (Some l) f h = tt
 
 -- ---- substituted rows
-abbrev substituted_given : ℕ → List ℤ → Given → Given
-substituted_given k form g = record { row = substituted k form g.row; equal = g.equal }
-
 one_pushed : (all more : Listed ConKind) (t u : List ℤ) (k : ConKind) → length all.rows ≡ length all.kinds →
     more.rows ≡ all.rows ++ t ∷ [] → more.kinds ≡ all.kinds ++ k ∷ [] → t ≡ u →
     constraints more ≡ constraints all ++ record { row = u; equal = is_equality k } ∷ []
@@ -87,6 +85,27 @@ substituted_among k form all more rows kinds i r t m er ek et n h is among g has
         (Contains-append_right (front is_equality rows kinds i) (member is_equality kinds i r Ge ∷ later)
         (member is_equality kinds i r Ge) (contains_head (member is_equality kinds i r Ge) later))
 
+-- one row more, which is formed or left out
+formed_more : (k : ℕ) (form : List ℤ) (rows : List (List ℤ)) (kinds : List ConKind) (i : ℕ) (r : List ℤ)
+    (all more : List Given) → length kinds ≡ length rows → i < length rows → r ≡ get_or rows i r →
+    AllFormed k form (front is_equality rows kinds i) all → ((g : Given) → Contains all g → Contains more g) →
+    Contains more (substituted_given k form (member is_equality kinds i r Ge))
+    ⊎ ((e : E.Excess) × (checked_substitution k form r ≡ Err e)) →
+    AllFormed k form (front is_equality rows kinds (i + 1)) more
+formed_more k form rows kinds i r all more n low is h grows here g has =
+    let m : Given = member is_equality kinds i r Ge in
+    let one : front is_equality rows kinds (i + 1) ≡ front is_equality rows kinds i ++ m ∷ [] =
+    ap (front is_equality rows kinds) (add-one i) ∙ given_more is_equality rows kinds i r Ge n low is in
+    elim (Contains-append_cases (front is_equality rows kinds i) (m ∷ []) g
+    (subst (λ (l : List Given). Contains l g) one has)) [
+      | inl a ↦ elim (h g a) [ inl b ↦ inl (grows (substituted_given k form g) b) | inr e ↦ inr e ]
+      | inr b ↦ elim (contains_cases m g [] b) [
+        | inl e ↦ subst (λ (x : Given). Contains more (substituted_given k form x)
+            ⊎ ((e : E.Excess) × (checked_substitution k form x.row ≡ Err e))) e here
+        | inr none ↦ absurd (contains_none g none)
+      ]
+    ]
+
 -- ---- the rows so far
 pub formed_pushed : (k : ℕ) (form : List ℤ) (n : ℕ) (rows : List (List ℤ)) (kinds : List ConKind) (i : ℕ)
     (all more : Listed ConKind) (o : Option Loss) (r t : List ℤ) → AreFormed k form n rows kinds i all o →
@@ -99,6 +118,13 @@ formed_pushed k form n rows kinds i all more o r t h ed er ek et m low is = reco
   whole = substituted_whole k form all more rows kinds i r t o h.many er ek et m low is h.whole;
   among = substituted_among k form all more rows kinds i r t h.many er ek et m low is h.among;
   is_lost = h.is_lost;
+  formed =
+      let pushed = one_pushed all more t (substituted k form r) (get_or kinds i Ge) h.many er ek et in
+      let new : Given = substituted_given k form (member is_equality kinds i r Ge) in
+      formed_more k form rows kinds i r (constraints all) (constraints more) m low is h.formed
+      (λ g c. subst (λ (l : List Given). Contains l g) (sym pushed) (Contains-append_left (constraints all) (new ∷ []) g c))
+      (inl (subst (λ (l : List Given). Contains l new) (sym pushed)
+      (Contains-append_right (constraints all) (new ∷ []) new (contains_head new []))));
 }
 
 pub formed_if_pushed : {T E : Type 0} (result : Result T E) (k : ℕ) (form : List ℤ) (n : ℕ) (rows : List (List ℤ))
@@ -114,19 +140,36 @@ formed_if_pushed (Err e) k form n rows kinds seen i all more o r t h ed er ek es
 
 -- one that is left out: the first, or a later one
 pub formed_lost : (k : ℕ) (form : List ℤ) (n : ℕ) (rows : List (List ℤ)) (kinds : List ConKind) (i : ℕ)
-    (all : Listed ConKind) (o told : Option Loss) (loss : Loss) → AreFormed k form n rows kinds i all o →
+    (all : Listed ConKind) (o told : Option Loss) (loss : Loss) (r : List ℤ) (x : E.Excess) →
+    AreFormed k form n rows kinds i all o →
     told ≡ Some loss → FormingPasses (λ g. checked_substitution k form g.row) (given_by is_equality rows kinds) loss →
+    length kinds ≡ length rows → i < length rows → r ≡ get_or rows i r → checked_substitution k form r ≡ Err x →
     AreFormed k form n rows kinds (i + 1) all told
-formed_lost k form n rows kinds i all o told loss h e passes =
-    subst (AreFormed k form n rows kinds (i + 1) all) (sym e)
-    (record { dims = h.dims; many = h.many; whole = tt; among = h.among; is_lost = passes })
+formed_lost k form n rows kinds i all o told loss r x h e passes m low is failed =
+    subst (AreFormed k form n rows kinds (i + 1) all) (sym e) (record {
+      dims = h.dims;
+      many = h.many;
+      whole = tt;
+      among = h.among;
+      is_lost = passes;
+      formed = formed_more k form rows kinds i r (constraints all) (constraints all) m low is h.formed (λ g c. c)
+          (inr (x, failed));
+    })
 
 pub formed_left : (k : ℕ) (form : List ℤ) (n : ℕ) (rows : List (List ℤ)) (kinds : List ConKind) (i : ℕ)
-    (all : Listed ConKind) (o : Option Loss) → AreFormed k form n rows kinds i all o → is_none o ≡ false →
-    AreFormed k form n rows kinds (i + 1) all o
-formed_left k form n rows kinds i all None h e = absurd (cc)
-formed_left k form n rows kinds i all (Some loss) h e =
-    record { dims = h.dims; many = h.many; whole = tt; among = h.among; is_lost = h.is_lost }
+    (all : Listed ConKind) (o : Option Loss) (r : List ℤ) (x : E.Excess) → AreFormed k form n rows kinds i all o →
+    is_none o ≡ false → length kinds ≡ length rows → i < length rows → r ≡ get_or rows i r →
+    checked_substitution k form r ≡ Err x → AreFormed k form n rows kinds (i + 1) all o
+formed_left k form n rows kinds i all None r x h e m low is failed = absurd (cc)
+formed_left k form n rows kinds i all (Some loss) r x h e m low is failed = record {
+  dims = h.dims;
+  many = h.many;
+  whole = tt;
+  among = h.among;
+  is_lost = h.is_lost;
+  formed = formed_more k form rows kinds i r (constraints all) (constraints all) m low is h.formed (λ g c. c)
+      (inr (x, failed));
+}
 
 pub substituted_length : (k : ℕ) (form r : List ℤ) → length form ≡ length r →
     length (substituted k form r) ≡ length r
@@ -154,3 +197,14 @@ all_substituted k form list all rows kinds i o er ek n h =
     ap (λ (l : List ConKind). substituted_rows k form (given_by is_equality rows l))
     (take_all i kinds (omega (arith, n, h))) ∙
     ap (substituted_rows k form) (listed_same list rows kinds er ek))
+
+pub none_formed : (k : ℕ) (form : List ℤ) (formed : List Given) → AllFormed k form [] formed
+none_formed k form formed g has = absurd (contains_none g has)
+
+pub all_formed : (k : ℕ) (form : List ℤ) (list all : Listed ConKind) (rows : List (List ℤ)) (kinds : List ConKind)
+    (i : ℕ) → rows ≡ list.rows → kinds ≡ list.kinds → length kinds ≡ length rows → length rows ≤ i →
+    AllFormed k form (front is_equality rows kinds i) (constraints all) → AllFormed k form (constraints list) (constraints all)
+all_formed k form list all rows kinds i er ek n h formed =
+    let same = ap (λ (l : List (List ℤ)). given_by is_equality l (take i kinds)) (take_all i rows h) ∙
+    ap (given_by is_equality rows) (take_all i kinds (omega (arith, n, h))) ∙ listed_same list rows kinds er ek in
+    subst (λ (l : List Given). AllFormed k form l (constraints all)) same formed

@@ -1,5 +1,5 @@
 -- Rows formed of the rows of a list by a form: which are formed, and what is told where a number passes in one.
-use Rattle.std.specs.Prelude.{◌≡◌, ℕ, ℤ, List, [], ◌++◌, ◌∷◌, get_or, length, take, Option, IfNone, IfSome}
+use Rattle.std.specs.Prelude.{◌≡◌, ◌⊎◌, ℕ, ℤ, List, [], ◌++◌, ◌∷◌, get_or, length, take, Option, IfNone, IfSome, Err}
 use Rattle.std.specs.List.{Contains}
 use Rattle.lra_linear.specs.declared.ConKind.{ConKind}
 use Rattle.lra_linear.specs.declared.Excess as E
@@ -9,6 +9,7 @@ use Rattle.lra_linear.specs.Descriptions.{Given}
 use Rattle.lra_linear.specs.Kinds.{is_equality}
 use Rattle.lra_linear.specs.OperationStrain.{FormingPasses, substituted_rows}
 use Rattle.lra_linear.specs.Strain.{Loss}
+use Rattle.lra_linear.specs.Vectors.{substituted}
 use Rattle.lra_sys.specs.Listed.{Listed, constraints, given_by}
 
 -- the loss of the row at the place of a list, with those before it taken, where this number passes
@@ -17,6 +18,15 @@ pub record IsLossAt (given : List Given) (rows : List (List ℤ)) (place : ℕ) 
   pub is : given ≡ loss.chosen ++ loss.further ∷ later
   pub is_row : loss.further.row ≡ get_or rows place []
   pub is_cause : loss.cause ≡ Excess e
+
+-- the row with the form put in for column k
+abbrev pub substituted_given : ℕ → List ℤ → Given → Given
+substituted_given k form g = record { row = substituted k form g.row; equal = g.equal }
+
+-- each of the rows is formed, or a number passes in it
+abbrev pub AllFormed : ℕ → List ℤ → List Given → List Given → Type 0
+AllFormed k form rows formed = (g : Given) → Contains rows g →
+    Contains formed (substituted_given k form g) ⊎ ((e : E.Excess) × (checked_substitution k form g.row ≡ Err e))
 
 -- the constraints that were formed of the rows before the place, with the form put in for column k, and what is told of
 -- the first that was left out
@@ -30,3 +40,4 @@ pub record AreFormed (k : ℕ) (form : List ℤ) (n : ℕ) (rows : List (List �
       Contains (substituted_rows k form (given_by is_equality rows kinds)) g
   pub is_lost : IfSome lost
       (FormingPasses (λ g. checked_substitution k form g.row) (given_by is_equality rows kinds))
+  pub formed : AllFormed k form (given_by is_equality (take i rows) (take i kinds)) (constraints all)

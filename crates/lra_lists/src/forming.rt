@@ -10,7 +10,7 @@ ghost use Rattle.lra_linear.specs.SetOperations.{assigned};
 ghost use Rattle.lra_row.specs.Rows.{IsExcessOf};
 ghost use Rattle.lra_sys.specs.Dimensions.{too_many_dimensions};
 ghost use Rattle.lra_sys.specs.Listed.{constraints, generators, given_by, FitKinds};
-ghost use Rattle.lra_lists.specs.Forming.{AreFormed, IsLossAt};
+ghost use Rattle.lra_lists.specs.Forming.{AllFormed, AreFormed, IsLossAt};
 
 use lra_cone::Loss;
 use lra_descriptions::dual_rows;
@@ -167,6 +167,8 @@ pub fn substitute_list(
         (constraints formed.list ≡ substituted_rows (suc x) form.now (constraints list.now))) }
     ensures among { IfOk result (λ formed. (g : Given) → Contains (constraints formed.list) g →
         Contains (substituted_rows (suc x) form.now (constraints list.now)) g) }
+    ensures formed { IfOk result (λ formed.
+        AllFormed (suc x) form.now (constraints list.now) (constraints formed.list)) }
     ensures lost { IfOk result (λ formed. IfSome formed.lost
         (FormingPasses (λ g. checked_substitution (suc x) form.now g.row) (constraints list.now))) }
 {
