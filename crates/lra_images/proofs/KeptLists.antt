@@ -1,6 +1,13 @@
--- Why lists aren't moved.
-use Rattle.std.proofs.Common.{◌≡◌, ℕ, suc, ◌+◌, add-one, List, ℤ, inl, inr, ◌⊎◌, subst}
+-- Why lists aren't moved, and what is left of those that are formed.
+use Rattle.std.proofs.Common.{◌≡◌, ℕ, suc, ◌+◌, add-one, List, ℤ, [], inl, inr, ◌⊎◌, subst}
+use Rattle.std.specs.List.{Contains}
+use Rattle.lra_linear.specs.declared.ConKind.{ConKind}
 use Rattle.lra_linear.specs.Descriptions.{Given}
+use Rattle.lra_linear.specs.OperationStrain.{substituted_rows, with_positivity}
+use Rattle.lra_sys.specs.Listed.{Listed, constraints}
+use Rattle.lra_lists.specs.Forming.{AllFormed}
+use Rattle.lra_poly.specs.Narrowed.{IsTried}
+use Rattle.lra_images.specs.FormedPreimages.{IsOfFormed}
 use Rattle.lra_linear.specs.Polyhedra.{Polyhedron}
 use Rattle.lra_row.specs.declared.error.RowError.{RowError}
 use Rattle.lra_row.specs.declared.error.RowError.TheVariants.{Excess, Memory}
@@ -36,3 +43,15 @@ stays_for p x form row er h = subst (λ (f : List ℤ). StaysFor (suc x) f p) er
 
 pub stays_back_for : (p : Polyhedron) (x : ℕ) (form row : List ℤ) → row ≡ form → StaysBackFor (x + 1) row p → StaysBackFor (suc x) form p
 stays_back_for p x form row er h = subst (λ (f : List ℤ). StaysBackFor (suc x) f p) er (subst (λ (k : ℕ). StaysBackFor k row p) (add-one x) h)
+
+-- ---- preimages of what can be formed
+pub of_formed : (k : ℕ) (form : List ℤ) (p made : Polyhedron) (list : Listed ConKind) (rows : List Given) (o : Outcome) → list.dims ≡ p.dims → rows ≡ p.rows →
+    ((g : Given) → Contains (constraints list) g → Contains (substituted_rows k form rows) g) → AllFormed k form rows (constraints list) →
+    IsTried list.dims (with_positivity list.dims []) (constraints list) made o → IsOfFormed k form p made
+of_formed k form p made list rows o ed er among formed tried = record {
+  rows = constraints list;
+  among = λ g has. subst (λ (l : List Given). Contains (substituted_rows k form l) g) er (among g has);
+  formed = subst (λ (l : List Given). AllFormed k form l (constraints list)) er formed;
+  outcome = o;
+  tried = subst (λ (n : ℕ). IsTried n (with_positivity n []) (constraints list) made o) ed tried;
+}

@@ -1,2 +1,4 @@
 -- Images and preimages of polyhedra, and coordinates that are forgotten.
 pub mod Forgetting
+-- Preimages.
+pub mod FormedPreimages

@@ -9,6 +9,7 @@ ghost use Rattle.lra_linear.specs.Polyhedra.{IsPolyhedronOf};
 ghost use Rattle.lra_linear.specs.SetOperations.{Forget, Image, Preimage};
 ghost use Rattle.lra_linear.specs.Strain as strain;
 ghost use Rattle.lra_images.specs.Forgetting.{IsForgotten};
+ghost use Rattle.lra_images.specs.FormedPreimages.{IsOfFormed};
 ghost use Rattle.lra_lists.specs.Moving.{StaysBackFor, StaysFor};
 ghost use Rattle.lra_poly.specs.Outcomes.{IfExact, IfFlagged};
 ghost use Rattle.lra_poly.specs.United.{AreTriedPoints};
@@ -155,6 +156,7 @@ fn convert_preimage(p: &mut Poly, x: usize, form: &Row) -> Result<Outcome, Alloc
     ensures within { IfOk result (λ _.
         IsWithin p.old.dims (Preimage (suc x) form.now (Con p.old.rows)) (Con p.new.rows)) }
     ensures strain { IfOk result (IfFlagged (PreimageStrains (suc x) form.now p.old)) }
+    ensures formed { IfOk result (λ _. IsOfFormed (suc x) form.now p.old p.new) }
     ensures unchanged { OnErr result (p.new ≡ p.old) }
 {
     let formed = substitute_list(p.allocator(), p.rows(), x, form)?;
@@ -176,6 +178,7 @@ pub fn preimage(p: &mut Poly, x: usize, form: &LinExpr) -> Result<Outcome, Alloc
         IsWithin p.old.dims (Preimage (suc x) (form_row form.now) (Con p.old.rows)) (Con p.new.rows)) }
     ensures strain { IfOk result (IfFlagged (PreimageStrains (suc x) (form_row form.now) p.old)) }
     ensures stays { IfOk result (IfFlagged (λ _. StaysBackFor (suc x) (form_row form.now) p.old)) }
+    ensures formed { IfOk result (IfFlagged (λ _. IsOfFormed (suc x) (form_row form.now) p.old p.new)) }
     ensures unchanged { OnErr result (p.new ≡ p.old) }
 {
     let row = form.to_row(p.allocator())?;

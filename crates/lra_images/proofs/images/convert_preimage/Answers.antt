@@ -7,6 +7,7 @@ use Rattle.lra_linear.specs.Descriptions.{Given}
 use Rattle.lra_linear.specs.OperationStrain.{FormingPasses, substituted_rows}
 use Rattle.lra_sys.specs.Listed.{constraints}
 use Rattle.lra_images.proofs.SubstitutedSets.{assignment_of, preimage_exact, preimage_strain, preimage_within}
+use Rattle.lra_images.proofs.KeptLists.{of_formed}
 use Rattle.lra_images.proofs.images.convert_preimage.Goals as goal
 
 pub returns-clause-exact : goal.returns-clause-exact
@@ -47,3 +48,7 @@ returns-clause-strain c =
     c.in_ok-formed.ensures.all)
     (subst (λ (l : List Given). IfSome c.in_ok-formed.formed.lost (FormingPasses (λ g. checked_substitution k row g.row) l))
     c.rows.ensures.rows c.in_ok-formed.ensures.lost) c.in_ok-made.ensures.strain)
+
+pub returns-clause-formed : goal.returns-clause-formed
+returns-clause-formed c = of_formed (suc c.args.x) c.args.form.now c.args.p.now c.in_ok-made.made c.in_ok-formed.formed.list (constraints c.rows.result.now) c.in_ok-made.outcome
+    (c.in_ok-formed.ensures.dims ∙ c.rows.ensures.dims) c.rows.ensures.rows c.in_ok-formed.ensures.among c.in_ok-formed.ensures.formed c.in_ok-made.ensures.tried

@@ -9,6 +9,7 @@ use Rattle.lra_linear.specs.SetOperations.{Preimage}
 use Rattle.lra_poly.specs.Outcomes.{IfExact, IfFlagged}
 use Rattle.lra_lin.specs.Form.{form_row}
 use Rattle.lra_images.proofs.BackImages.{preimage_made, row_width}
+use Rattle.lra_images.specs.FormedPreimages.{IsOfFormed}
 use Rattle.lra_images.proofs.KeptLists.{flagged_since, stays_back_for}
 use Rattle.lra_images.proofs.images.preimage.Goals as goal
 
@@ -56,3 +57,8 @@ pub returns-clause-stays : goal.returns-clause-stays
 returns-clause-stays c =
     let stays = rw c.in-None.is at c.in_ok-made.ensures.none in
     flagged_since _ c.in_ok-outcome-in-None.outcome (stays_back_for c.args.p.now c.args.x (form_row c.args.form.now) c.in_ok-row.row c.in_ok-row.ensures stays)
+
+pub returns-clause-formed : goal.returns-clause-formed
+returns-clause-formed c =
+    let formed = subst (λ (f : List ℤ). IsOfFormed (suc c.args.x) f c.args.p.now c.convert_preimage.new.p) c.in_ok-row.ensures c.in_ok-outcome-in-None.ensures.formed in
+    flagged_since _ c.in_ok-outcome-in-None.outcome formed
