@@ -9,3 +9,4 @@ pub mod RankLaw
 mod Validities
 mod Places
 pub mod WideningLemmas
+mod AlikeLemmas

@@ -1,5 +1,5 @@
 -- Tightness by lists of truth values.
-use Rattle.std.proofs.Common.{Bool, List, [], ap, arith, length, map, not, pos, refl, subst, suc, sym, take, zero, ℕ, ℤ, ◌∙◌, ◌∷◌, ◌≡◌, ◌≤◌}
+use Rattle.std.proofs.Common.{Bool, List, [], ap, arith, length, map, pos, refl, subst, suc, sym, take, zero, ℕ, ℤ, ◌∙◌, ◌∷◌, ◌≡◌, ◌≤◌}
 use Rattle.std.specs.Prelude.{◌&&◌, ◌||◌}
 use Rattle.std.proofs.lemmas.List.{length-map, take_all}
 use Rattle.std.specs.Bool.{beq}
@@ -11,7 +11,6 @@ use Rattle.lra_linear.specs.Polyhedra.{Polyhedron}
 use Rattle.lra_linear.specs.Vectors.{product}
 use Rattle.lra_linear.specs.Widening.{is_tight, is_tight_as, saturates}
 use Rattle.lra_sys.specs.Listed.{Listed, given_by}
-use Rattle.lra_widen.specs.Rank.{is_free}
 use Rattle.lra_duality.specs.Saturations.{saturated}
 use Rattle.lra_duality.proofs.SaturationLemmas.{rows_saturate}
 use Rattle.lra_widen.specs.Saturated.{same_values}
@@ -63,10 +62,3 @@ pub bits_widths : (generators : List Given) (r : List ℤ) (bits : List Bool) (c
     All (λ class. length bits ≡ length class) classes
 bits_widths generators r bits classes e h k d l =
     ap length e ∙ length-map generators (λ g. int_eq (product r g.row) (pos 0)) ∙ h k d l
-
--- freedom
-pub free_by_values : (p : Polyhedron) (r : Given) (bits : List Bool) (classes : List (List Bool)) (given : List Given) (equal : Bool) → bits ≡ saturated p.generators r.row →
-    classes ≡ map (λ (s : Given). saturated p.generators s.row) given → equal ≡ r.equal → (not equal && not (list_any (same_values bits) classes)) ≡ is_free p given r
-free_by_values p r bits classes given equal e f q =
-    ap (λ b. not b && not (list_any (same_values bits) classes)) q ∙ ap (λ l. not r.equal && not (list_any (same_values l) classes)) e ∙
-    ap (λ l. not r.equal && not (list_any (same_values (saturated p.generators r.row)) l)) f ∙ ap (λ b. not r.equal && not b) (any_saturates p.generators r given)

@@ -1,14 +1,14 @@
 -- What the parts of a widening tell of the whole.
-use Rattle.std.proofs.Common.{Bool, List, [], ap, arith, false, inl, inr, length, refl, subst, suc, sym, true, Err, IsOk, IsErr, Ok, Result, ℕ, ℤ, ◌++◌, ◌∙◌, ◌∷◌, ◌≡◌, ◌≢◌}
+use Rattle.std.proofs.Common.{Bool, List, [], ap, arith, false, inl, inr, length, refl, subst, suc, sym, true, Err, IsOk, IsErr, Ok, Result, ℕ, ℤ, ◌<◌, ◌++◌, ◌∙◌, ◌∷◌, ◌≡◌, ◌≢◌}
 use Rattle.std.specs.Prelude.{◌↔◌, ◌⊎◌, IsTrue}
 use Rattle.std.proofs.lemmas.List.Elements.{All-contains, Contains-append_cases, Contains-append_left, Contains-append_right}
 use Rattle.std.specs.List.{All, Contains, filter}
 use Rattle.std.proofs.lemmas.List.{append-nil}
 use Rattle.lra_linear.specs.Cones.{both_ways}
-use Rattle.lra_linear.specs.Descriptions.{Con, Given, given_as}
+use Rattle.lra_linear.specs.Descriptions.{Con, Given, given_as, inequality}
 use Rattle.lra_linear.specs.OperationStrain.{ConstraintsStrain, FromRowsStrains, LimitedStrains, StandardStrains, tight_on, valid_on}
 use Rattle.lra_linear.specs.Points.{IsEmptySet, IsPoint, IsWithin, SameSet}
-use Rattle.lra_linear.specs.Polyhedra.{HasPoint, IsPolyhedron, IsPolyhedronOf, Polyhedron}
+use Rattle.lra_linear.specs.Polyhedra.{HasPoint, IsPolyhedron, IsPolyhedronOf, Polyhedron, falsity}
 use Rattle.lra_linear.specs.Strain.{Loss}
 use Rattle.lra_linear.specs.Widening.{Limited, Standard, StandardFrom, is_tight}
 use Rattle.lra_linear.proofs.Descriptions.{con_none}
@@ -26,7 +26,9 @@ use Rattle.lra_poly.specs.Outcomes.{IfExact, IfFlagged}
 use Rattle.lra_duality.proofs.InclusionLemmas.{has_member}
 use Rattle.lra_poly.proofs.PolyLemmas.{constraints_strain, if_exact, if_flagged, same_polyhedron}
 use Rattle.lra_duality.proofs.PolyhedronLemmas.{none_where_empty, some_generator, with_point}
-use Rattle.lra_sys.specs.Listed.{Listed, given_by}
+use Rattle.lra_linear.specs.declared.ConKind.{ConKind}
+use Rattle.lra_linear.specs.Kinds.{is_equality}
+use Rattle.lra_sys.specs.Listed.{Listed, constraints, given_by}
 use Rattle.lra_widen.specs.Rank.{Falls, equalities_from, holds_in_range, kept}
 use Rattle.lra_widen.specs.Widenings.{HaveColumns, IsOutside, IsWidened, PassesOnBoth}
 use Rattle.lra_widen.proofs.Counting.{holds_valid, kept_at}
@@ -321,3 +323,12 @@ some_equalities p rows b n hp er e h m =
 
 pub no_equalities : (p : Polyhedron) (n : ℕ) → IsPolyhedron p → IsEmptySet p.dims (Con p.rows) → n ≡ suc p.dims → n ≡ equalities_from p.generators p
 no_equalities p n hp empty e = e ∙ sym (ap (λ l. equalities_from l p) (none_where_empty p hp empty))
+
+-- there is one constraint where there is no point
+pub one_row : (p : Polyhedron) (list : Listed ConKind) → IsPolyhedron p → IsEmptySet p.dims (Con p.rows) → constraints list ≡ p.rows → 0 < length list.rows
+one_row p list (inr h) empty e = absurd (some_generator p h (none_where_empty p (inr h) empty))
+one_row p list (inl none) empty e = by_rows list.rows list.kinds (e ∙ none.0)
+  where
+    by_rows : (rows : List (List ℤ)) (kinds : List ConKind) → given_by is_equality rows kinds ≡ inequality (falsity p.dims) ∷ [] → 0 < length rows
+    by_rows [] kinds h = let wrong : ⊥ = cc in absurd wrong
+    by_rows (r ∷ rows) kinds h = omega arith

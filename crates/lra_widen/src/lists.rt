@@ -11,12 +11,12 @@ ghost use Rattle.lra_duality.specs.declared.inclusion.Inclusion.TheVariants.{Wid
 ghost use Rattle.lra_duality.specs.Inclusions.{IsInclusion};
 ghost use Rattle.lra_poly.specs.Outcomes.{IfExact, IfFlagged};
 ghost use Rattle.lra_linear.specs.Widening.{is_tight};
-ghost use Rattle.lra_widen.specs.Rank.{held, kept};
+ghost use Rattle.lra_widen.specs.Rank.{kept};
 ghost use Rattle.lra_duality.specs.Saturations.{saturated};
 ghost use Rattle.lra_widen.specs.Widenings.{PassesOnBoth};
 
 use crate::saturation::{all_saturated, is_full_or_among};
-use crate::validity::{holds_in_range, holds_on_both, validity_on_both};
+use crate::validity::{holds_on_both, validity_on_both};
 use lra_bits::BitRow;
 use lra_cone::Loss;
 use lra_duality::mark_saturated;
@@ -131,22 +131,6 @@ pub fn held_on_both(alloc: Global, p: &Poly, q: &Poly, given: &ConSys) -> Result
 {
     let mut list = no_rows(alloc, p.dims())?;
     add_held(&mut list, p, q, given)?;
-    Ok(list)
-}
-
-/// The given constraints that hold in the range.
-pub fn held_rows(alloc: Global, p: &Poly, given: &ConSys) -> Result<ConSys, AllocError>
-    requires { given.now.dims ≡ p.now.dims }
-    ensures dims { IfOk result (λ list. list.dims ≡ p.now.dims) }
-    ensures rows { IfOk result (λ list. constraints list ≡ held p.now (constraints given.now)) }
-{
-    let (rows, kinds) = (given.rows(), given.kinds());
-    let mut list = no_rows(alloc, p.dims())?;
-    for place in 0..rows.len() {
-        let row = &rows[place];
-        let wanted = holds_in_range(row, kinds[place], p);
-        push_if(&mut list, row, kinds[place], wanted)?;
-    }
     Ok(list)
 }
 

@@ -1,22 +1,20 @@
 //! The rank of a polyhedron over given constraints.
 
-ghost use Rattle.std.specs.Prelude.{◌≡◌, ◌&&◌, cond, length, map, not, List, IfOk};
-ghost use Rattle.std.specs.List.{All, filter, list_any};
+ghost use Rattle.std.specs.Prelude.{◌≡◌, ◌&&◌, cond, length, map, not, suc};
+ghost use Rattle.std.specs.List.{filter, list_any};
 ghost use Rattle.lra_linear.specs.Descriptions.{Given};
 ghost use Rattle.lra_linear.specs.Kinds.{is_equality};
-ghost use Rattle.lra_sys.specs.Listed.{constraints};
-ghost use Rattle.lra_widen.specs.Rank.{equalities_from, free, held, rank_of};
-ghost use Rattle.lra_duality.specs.Saturations.{saturated};
-ghost use Rattle.lra_widen.specs.Saturated.{same_values};
+ghost use Rattle.lra_sys.specs.Listed.{constraints, generators};
+ghost use Rattle.lra_duality.specs.Saturations.{saturated, saturation_of};
+ghost use Rattle.lra_widen.specs.Rank.{equalities_from, free, held, holds_in_range, rank_of};
+ghost use Rattle.lra_widen.specs.Saturated.{same_values, vanishes};
 
-use crate::lists::held_rows;
-use crate::saturation::{all_saturated, is_among};
-use lra_bits::BitRow;
-use lra_duality::mark_saturated;
+use crate::validity::holds_in_range;
+use lra_bits::{BitRow, SatMatrix};
 use lra_linear::ConKind;
 use lra_poly::Poly;
-use lra_sys::ConSys;
-use std::alloc::{AllocError, Global};
+use lra_row::Row;
+use lra_sys::{ConSys, GenSys};
 
 // 1 for true, 0 for false.
 fn one_if(wanted: bool) -> usize
@@ -37,67 +35,128 @@ fn count_equalities(list: &ConSys) -> usize
     count
 }
 
-// The equalities, one more than the dimensions where there is no point.
-fn equalities(p: &Poly) -> Result<u64, AllocError>
-    ensures { IfOk result (λ n. n ≡ equalities_from p.now.generators p.now) }
+// The equalities, one more than the dimensions where there is no point: there the one constraint has so many columns.
+fn equalities(p: &Poly) -> u64
+    ensures { result ≡ equalities_from p.now.generators p.now }
 {
     let list = p.rows();
     if p.is_empty() {
-        match (p.dims() as u64).checked_add(1) {
-            Some(count) => Ok(count),
-            None => Err(AllocError),
-        }
+        list.rows()[0].entries().len() as u64
     } else {
-        Ok(count_equalities(list) as u64)
+        count_equalities(list) as u64
     }
 }
 
-// Of each given constraint that holds in the range, which generators it saturates.
-fn held_classes(alloc: Global, p: &Poly, given: &ConSys) -> Result<Vec<BitRow>, AllocError>
+// How many of the given constraints hold on it with each product in the range.
+fn count_held(p: &Poly, given: &ConSys) -> usize
     requires { given.now.dims ≡ p.now.dims }
-    ensures { IfOk result (λ classes. classes.items ≡
-        map (λ g. saturated p.now.generators g.row) (held p.now (constraints given.now))) }
+    ensures { result ≡ length (held p.now (constraints given.now)) }
 {
-    let list = held_rows(alloc, p, given)?;
-    let classes = all_saturated(alloc, &list, p.generators())?;
-    Ok(classes)
+    let (rows, kinds) = (given.rows(), given.kinds());
+    let mut count = 0;
+    for place in 0..rows.len() {
+        count += one_if(holds_in_range(&rows[place], kinds[place], p));
+    }
+    count
 }
 
-// Whether a constraint is an inequality that saturates what none of these do.
-fn is_free(kind: ConKind, bits: &BitRow, classes: &[BitRow]) -> bool
-    requires { All (λ class. length bits.now ≡ length class) classes.now }
-    ensures { result ≡ (not (is_equality kind) && not (list_any (same_values bits.now) classes.now)) }
+// Which of its constraints are tight at which of its generators.
+fn saturation(p: &Poly) -> &SatMatrix
+    ensures { result.now ≡ saturation_of p.now.rows p.now.generators }
 {
-    kind == ConKind::Ge && !is_among(bits, classes)
+    match p.saturation() {
+        Some(matrix) => matrix,
+        None => unreachable!(),
+    }
 }
 
-// How many inequalities saturate what none of these do.
-fn count_free(alloc: Global, p: &Poly, classes: &[BitRow]) -> Result<usize, AllocError>
-    requires { All (λ class. length p.now.generators ≡ length class) classes.now }
-    ensures { IfOk result (λ n. (given : List Given) →
-        classes.now ≡ map (λ g. saturated p.now.generators g.row) given → n ≡ length (free p.now given)) }
+// Whether the product of the two is 0 and stays in the range.
+fn vanishes(row: &Row, generator: &Row) -> bool
+    requires { length row.now ≡ length generator.now }
+    ensures { result ≡ vanishes row.now generator.now }
 {
-    let list = p.rows();
+    match row.dot(generator) {
+        Ok(product) => product == 0,
+        Err(_) => false,
+    }
+}
+
+// Whether the products of the row with the generators vanish exactly where the bits say so.
+fn vanishes_where(bits: &BitRow, row: &Row, list: &GenSys) -> bool
+    requires width { length row.now ≡ suc list.now.dims }
+    requires bits { length bits.now ≡ length (generators list.now) }
+    ensures { result ≡ same_values bits.now (map (λ g. vanishes row.now g.row) (generators list.now)) }
+{
+    let (rows, _kinds) = (list.rows(), list.kinds());
+    for place in 0..rows.len() {
+        if vanishes(row, &rows[place]) != bits.get(place) {
+            return false;
+        }
+    }
+    true
+}
+
+// Whether the constraint holds in the range, and saturates the generators where the bits say so and no others.
+fn holds_where(bits: &BitRow, row: &Row, kind: ConKind, p: &Poly) -> bool
+    requires width { length row.now ≡ suc p.now.dims }
+    requires bits { length bits.now ≡ length p.now.generators }
+    ensures { result ≡ (holds_in_range p.now (record { row = row.now; equal = is_equality kind })
+        && same_values bits.now (saturated p.now.generators row.now)) }
+{
+    vanishes_where(bits, row, p.generators()) && holds_in_range(row, kind, p)
+}
+
+// Whether one of the given constraints does.
+fn one_holds_where(bits: &BitRow, p: &Poly, given: &ConSys) -> bool
+    requires given { given.now.dims ≡ p.now.dims }
+    requires bits { length bits.now ≡ length p.now.generators }
+    ensures { result ≡ list_any (λ g. holds_in_range p.now g && same_values bits.now (saturated p.now.generators g.row))
+        (constraints given.now) }
+{
+    let (rows, kinds) = (given.rows(), given.kinds());
+    for place in 0..rows.len() {
+        if holds_where(bits, &rows[place], kinds[place], p) {
+            return true;
+        }
+    }
+    false
+}
+
+// Whether a constraint is an inequality that saturates what none of the given do that hold.
+fn is_free(kind: ConKind, bits: &BitRow, p: &Poly, given: &ConSys) -> bool
+    requires given { given.now.dims ≡ p.now.dims }
+    requires bits { length bits.now ≡ length p.now.generators }
+    ensures { result ≡ (not (is_equality kind) && not (list_any (λ g. holds_in_range p.now g
+        && same_values bits.now (saturated p.now.generators g.row)) (constraints given.now))) }
+{
+    kind == ConKind::Ge && !one_holds_where(bits, p, given)
+}
+
+// How many inequalities saturate what none of the given do that hold.
+fn count_free(p: &Poly, given: &ConSys) -> usize
+    requires { given.now.dims ≡ p.now.dims }
+    ensures { result ≡ length (free p.now (held p.now (constraints given.now))) }
+{
+    let (list, matrix) = (p.rows(), saturation(p));
     let (rows, kinds) = (list.rows(), list.kinds());
     let mut count = 0;
     for place in 0..rows.len() {
-        let bits = mark_saturated(alloc, &rows[place], p.generators())?;
-        count += one_if(is_free(kinds[place], &bits, classes));
+        count += one_if(is_free(kinds[place], matrix.row(place), p, given));
     }
-    Ok(count)
+    count
 }
 
 /// The rank of a polyhedron over given constraints: how many equalities it has (one more than its dimensions where it
 /// has no point); how many given constraints hold on it with each product in the range; and how many of its
-/// inequalities saturate other generators than each of these.
-pub fn rank(alloc: Global, p: &Poly, given: &ConSys) -> Result<(u64, u64, u64), AllocError>
+/// inequalities saturate other generators than each of these. It takes no memory.
+pub fn rank(p: &Poly, given: &ConSys) -> (u64, u64, u64)
     requires { given.now.dims ≡ p.now.dims }
-    ensures equalities { IfOk result (λ r. r.0 ≡ (rank_of p.now (constraints given.now)).equalities) }
-    ensures held { IfOk result (λ r. r.1 ≡ (rank_of p.now (constraints given.now)).held) }
-    ensures free { IfOk result (λ r. r.2 ≡ (rank_of p.now (constraints given.now)).free) }
+    ensures equalities { result.0 ≡ (rank_of p.now (constraints given.now)).equalities }
+    ensures held { result.1 ≡ (rank_of p.now (constraints given.now)).held }
+    ensures free { result.2 ≡ (rank_of p.now (constraints given.now)).free }
 {
-    let equalities = equalities(p)?;
-    let classes = held_classes(alloc, p, given)?;
-    let free = count_free(alloc, p, &classes)?;
-    Ok((equalities, classes.len() as u64, free as u64))
+    let equalities = equalities(p);
+    let held = count_held(p, given);
+    let free = count_free(p, given);
+    (equalities, held as u64, free as u64)
 }

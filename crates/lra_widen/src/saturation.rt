@@ -38,8 +38,8 @@ fn are_same(bits: &BitRow, other: &BitRow) -> bool
     bits.subset(other) && other.subset(bits)
 }
 
-/// Whether the list is one of these, of its width.
-pub fn is_among(bits: &BitRow, classes: &[BitRow]) -> bool
+// Whether the list is one of these, of its width.
+fn is_among(bits: &BitRow, classes: &[BitRow]) -> bool
     requires { All (λ class. length bits.now ≡ length class) classes.now }
     ensures { result ≡ list_any (same_values bits.now) classes.now }
 {

@@ -1,37 +1,60 @@
--- Goals of `count_free`: how many inequalities saturate what none of these do.
-use Rattle.std.proofs.Common.{arith, ap, sym, ◌∙◌, ◌≡◌, ◌+◌, length, List, refl}
+-- Goals of `count_free`: how many inequalities saturate what none of the given do that hold.
+use Rattle.std.proofs.Common.{arith, ap, map, refl, subst, sym, ◌∙◌, ◌≡◌, ◌+◌, ◌<◌, [], get_or, length, take, List, ℕ}
+use Rattle.std.specs.Prelude.{slice_index_or}
 use Rattle.std.specs.List.{filter}
+use Rattle.std.proofs.lemmas.List.{get_or_default, length-map, take_all}
+use Rattle.lra_bits.specs.Matrix.{Matrix}
 use Rattle.lra_linear.specs.declared.ConKind.TheVariants.{Ge}
 use Rattle.lra_linear.specs.Descriptions.{Given}
 use Rattle.lra_linear.specs.Kinds.{is_equality}
-use Rattle.lra_sys.proofs.FirstMembers.{front, member}
-use Rattle.lra_widen.specs.Rank.{is_free}
+use Rattle.lra_sys.proofs.FirstMembers.{member}
+use Rattle.lra_sys.specs.Listed.{constraints, given_by}
+use Rattle.lra_duality.proofs.SaturationLemmas.{given_length}
 use Rattle.lra_duality.specs.Saturations.{saturated}
-use Rattle.lra_widen.proofs.Loops.{count_few, count_step, front_seen, front_step}
-use Rattle.lra_widen.proofs.TightLists.{bits_widths, free_by_values}
+use Rattle.lra_widen.specs.Rank.{held, is_free}
+use Rattle.lra_widen.proofs.AlikeLemmas.{bits_at, free_by_bits, row_more}
+use Rattle.lra_widen.proofs.Loops.{count_few, count_step}
 use Rattle.lra_widen.proofs.ranking.count_free.Goals as goal
 
-pub is_free-requires : goal.is_free-requires
-is_free-requires c = bits_widths c.args.p.now.generators c.index-rows-place.result c.in_ok-bits.bits c.args.classes.now
-    (c.in_ok-bits.ensures ∙ ap (λ (l : List Given). saturated l c.index-rows-place.result) c.generators.ensures.generators) c.requires
+pub row-requires : goal.row-requires
+row-requires c =
+    let list = c.rows-list.result.now in
+    let long : length c.saturation-matrix.result.now.rows ≡ length c.rows-rows.result.now =
+    ap (λ (m : Matrix). length m.rows) c.saturation-matrix.ensures ∙ length-map c.args.p.now.rows (λ (s : Given). saturated c.args.p.now.generators s.row) ∙
+    ap length (sym c.rows-list.ensures.rows) ∙ given_length is_equality list.rows list.kinds (ap length (sym c.kinds-kinds.ensures.kinds) ∙ c.kinds-kinds.ensures.len) ∙
+    ap length (sym c.rows-rows.ensures.rows) in
+    subst (λ (n : ℕ). c.loop-place.place < n) (sym long) c.loop-place-test.true
+
+pub is_free-requires-clause-bits : goal.is_free-requires-clause-bits
+is_free-requires-clause-bits c = c.row.ensures.width ∙ ap (λ (m : Matrix). m.width) c.saturation-matrix.ensures
 
 pub loop-place-preserved : goal.loop-place-preserved
 loop-place-preserved c =
-    let rows = c.rows-rows.result.now in
+    let p = c.args.p.now in
+    let given = constraints c.args.given.now in
+    let rows = c.rows-list.result.now.rows in
     let kinds = c.kinds-kinds.result.now in
     let i = c.loop-place.place in
-    let r = c.index-rows-place.result in
+    let r = get_or rows i [] in
     let g : Given = member is_equality kinds i r Ge in
-    let many : length kinds ≡ length rows = c.kinds-kinds.ensures.len ∙ ap length (sym c.rows-rows.ensures.rows) in
+    let inside : i < length rows = subst (λ (n : ℕ). i < n) (ap length c.rows-rows.ensures.rows) c.loop-place-test.true in
+    let is : r ≡ get_or rows i r = get_or_default rows i [] r inside in
+    let own : p.rows ≡ given_by is_equality rows kinds = sym c.rows-list.ensures.rows ∙ ap (given_by is_equality rows) (sym c.kinds-kinds.ensures.kinds) in
+    let bits : c.row.result.now ≡ saturated p.generators r =
+    c.row.ensures.row ∙ ap (λ (m : Matrix). slice_index_or m.rows i []) c.saturation-matrix.ensures ∙
+    ap (λ (l : List Given). slice_index_or (map (λ (s : Given). saturated p.generators s.row) l) i []) own ∙ bits_at is_equality p.generators rows kinds i r c.kinds-kinds.ensures.len inside is in
     record {
       few = count_few c.loop-place.count c.one_if-count.result i c.is_free.result c.loop-place.invariant.few c.one_if-count.ensures;
-      counted = λ given e. count_step (is_free c.args.p.now given) c.loop-place.count c.one_if-count.result (front is_equality rows kinds i) (front is_equality rows kinds (i + 1)) g c.is_free.result
-          (front_step is_equality rows kinds i r Ge many c.loop-place-test.true c.index-rows-place.is)
-          (c.is_free.ensures ∙ free_by_values c.args.p.now g c.in_ok-bits.bits c.args.classes.now given g.equal
-          (c.in_ok-bits.ensures ∙ ap (λ (l : List Given). saturated l r) c.generators.ensures.generators) e refl) (c.loop-place.invariant.counted given e) c.one_if-count.ensures;
+      counted = count_step (is_free p (held p given)) c.loop-place.count c.one_if-count.result (take i p.rows) (take (i + 1) p.rows) g c.is_free.result
+          (row_more is_equality p.rows rows kinds i r Ge own c.kinds-kinds.ensures.len inside is)
+          (c.is_free.ensures ∙ free_by_bits p g c.row.result.now given g.equal bits refl) c.loop-place.invariant.counted c.one_if-count.ensures;
     }
 
 pub returns : goal.returns
-returns c = λ given e. c.loop-place.invariant.counted given e ∙ ap (λ l. length (filter (is_free c.args.p.now given) l))
-    (front_seen is_equality c.rows-list.result.now c.rows-rows.result.now c.kinds-kinds.result.now c.loop-place.place c.rows-rows.ensures.rows c.kinds-kinds.ensures.kinds c.kinds-kinds.ensures.len
-    (omega (arith, c.loop-place-test.false)) ∙ c.rows-list.ensures.rows)
+returns c =
+    let list = c.rows-list.result.now in
+    let long : length c.args.p.now.rows ≡ length c.rows-rows.result.now =
+    ap length (sym c.rows-list.ensures.rows) ∙ given_length is_equality list.rows list.kinds (ap length (sym c.kinds-kinds.ensures.kinds) ∙ c.kinds-kinds.ensures.len) ∙
+    ap length (sym c.rows-rows.ensures.rows) in
+    c.loop-place.invariant.counted ∙
+    ap (λ l. length (filter (is_free c.args.p.now (held c.args.p.now (constraints c.args.given.now))) l)) (take_all c.loop-place.place c.args.p.now.rows (omega (arith, long, c.loop-place-test.false)))

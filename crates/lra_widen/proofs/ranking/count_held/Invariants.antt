@@ -1,0 +1,12 @@
+use Rattle.std.proofs.Common.{◌≡◌, ◌≤◌, length}
+use Rattle.std.specs.List.{filter}
+use Rattle.lra_linear.specs.Kinds.{is_equality}
+use Rattle.lra_sys.proofs.FirstMembers.{front}
+use Rattle.lra_widen.specs.Rank.{holds_in_range}
+use Rattle.lra_widen.proofs.ranking.count_held.Given as goal
+
+abbrev pub invariant-loop-place : goal.invariant-loop-place
+invariant-loop-place l = record {
+  few : l.count ≤ l.place;
+  counted : l.count ≡ length (filter (holds_in_range l.p) (front is_equality l.rows l.kinds l.place));
+}
