@@ -1,5 +1,5 @@
 -- What the least changes of a program do to stores.
-use Rattle.std.specs.Prelude.{◌≡◌, ℕ, ◌+◌, ◌-◌, ℤ, List, ◌++◌, length, take, slice_set}
+use Rattle.std.specs.Prelude.{◌≡◌, ◌≤◌, ◌<◌, ℕ, ◌+◌, ◌-◌, ℤ, List, ◌++◌, length, take, slice_set}
 use Rattle.lra_lin.specs.Form.{Form, form_value, HoldsAt}
 use Rattle.lra_linear.specs.declared.ConKind.{ConKind}
 
@@ -30,3 +30,19 @@ dims_after (forget x) n = n
 dims_after (test kind e) n = n
 dims_after (embed k) n = n + k
 dims_after (remove_last k) n = n - k
+
+-- the change is one of stores of n numbers: its places are there, its form has so many coefficients
+abbrev pub ActionFits : Action → ℕ → Type 0
+ActionFits (assign x e) n = (x < n) × (length e.coefficients ≡ n)
+ActionFits (forget x) n = x < n
+ActionFits (test kind e) n = length e.coefficients ≡ n
+ActionFits (embed k) n = Unit {0}
+ActionFits (remove_last k) n = k ≤ n
+
+-- as a domain may say it that knows no points but stores: each store to which the change may lead is one of the second
+-- value; each store of the old head and of next is one of the new head
+abbrev pub KeepsStores : {V : Type 0} → (V → List ℤ → Type 0) → Action → V → V → Type 0
+KeepsStores has step v w = (s t : List ℤ) → has v s → Leads step s t → has w t
+
+abbrev pub HoldsStores : {V H : Type 0} → (V → List ℤ → Type 0) → (H → List ℤ → Type 0) → H → V → H → Type 0
+HoldsStores has head_has old next new = Within (head_has old) (head_has new) × Within (has next) (head_has new)

@@ -1,43 +1,75 @@
--- What every meaning keeps. The laws are of all contents, those among them that no value has.
-use Rattle.std.specs.Prelude.{◌≡◌, ◌↔◌, ◌≤◌, ℕ, ℤ, List, [], length}
+-- What every meaning keeps. What is said of stores, and of what is told of a form, is asked of contents that values and
+-- heads hold; what relates dimensions, caps, parts and answers to each other is asked of all contents.
+use Rattle.std.specs.Prelude.{◌≡◌, ◌≢◌, ◌↔◌, ◌≤◌, ℕ, ℤ, List, [], length, Option, None}
+use Rattle.lra_lin.specs.Form.{Form, form_value}
 use Rattle.lra_sys.specs.Listed.{Listed}
 use Rattle.lra_linear.specs.declared.ConKind.{ConKind}
-use Rattle.lra_domain.specs.Actions.{Within}
+use Rattle.lra_domain.specs.Actions.{Action, Leads, Within}
+use Rattle.lra_domain.specs.Bounds.{IsBetween}
 use Rattle.lra_domain.specs.declared.Mode.{Mode}
 use Rattle.lra_domain.specs.declared.Included.TheVariants.{Yes, No}
 use Rattle.lra_domain.specs.Meaning.{Meaning}
 
 pub record Laws {V H : Type 0} (m : Meaning V H) : Type 0 where
   -- a store has as many numbers as there are dimensions
-  pub sized : (v : V) (s : List ℤ) → m.has v s → length s ≡ m.dims v
-  pub head_sized : (h : H) (s : List ℤ) → m.head_has h s → length s ≡ m.head_dims h
+  pub sized : (v : V) (s : List ℤ) → m.formed v → m.has v s → length s ≡ m.dims v
+  pub head_sized : (h : H) (s : List ℤ) → m.head_formed h → m.head_has h s → length s ≡ m.head_dims h
   -- a universal value of n dimensions has them, and all lists of n numbers; a void one has them, and no store
   pub universal_dims : (n cap : ℕ) (v : V) → m.universal n cap v → m.dims v ≡ n
-  pub universal_stores : (n cap : ℕ) (v : V) → m.universal n cap v → (s : List ℤ) → length s ≡ n → m.has v s
+  pub universal_stores : (n cap : ℕ) (v : V) → m.formed v → m.universal n cap v
+      → (s : List ℤ) → length s ≡ n → m.has v s
   pub void_dims : (n cap : ℕ) (v : V) → m.void n cap v → m.dims v ≡ n
-  pub void_stores : (n cap : ℕ) (v : V) → m.void n cap v → (s : List ℤ) → ¬ m.has v s
+  pub void_stores : (n cap : ℕ) (v : V) → m.formed v → m.void n cap v → (s : List ℤ) → ¬ m.has v s
   -- a value has no more parts than its caps; a universal and a void one of some cap are capped by it
   pub capped_parts : (v : V) (c : ℕ) → m.capped v c → length (m.parts v) ≤ c
   pub universal_capped : (n cap : ℕ) (v : V) → 1 ≤ cap → m.universal n cap v → m.capped v cap
   pub void_capped : (n cap : ℕ) (v : V) → 1 ≤ cap → m.void n cap v → m.capped v cap
   -- a value without parts has no store
-  pub partless : (v : V) → m.parts v ≡ [] → (s : List ℤ) → ¬ m.has v s
+  pub partless : (v : V) → m.formed v → m.parts v ≡ [] → (s : List ℤ) → ¬ m.has v s
+  -- a form's value at each store lies within what is told of it; one thing is told; nothing of a value without parts
+  pub bounded_stores : (v : V) (f : Form) (l h : Option ℤ) (s : List ℤ) → m.formed v
+      → length f.coefficients ≡ m.dims v → m.bounded v f l h → m.has v s → IsBetween l h (form_value f s)
+  pub one_bounded : (v : V) (f : Form) (l h j k : Option ℤ) → m.formed v
+      → m.bounded v f l h → m.bounded v f j k → (l ≡ j) × (h ≡ k)
+  pub bounded_partless : (v : V) (f : Form) (l h : Option ℤ) → m.formed v
+      → m.parts v ≡ [] → m.bounded v f l h → (l ≡ None) × (h ≡ None)
   -- what is covered has no store beyond those of what covers it
-  pub covered_stores : (a b : V) → m.covered a b → Within (m.has a) (m.has b)
-  pub head_covered_stores : (a b : H) → m.head_covered a b → Within (m.head_has a) (m.head_has b)
+  pub covered_stores : (a b : V) → m.formed a → m.formed b → m.covered a b → Within (m.has a) (m.has b)
+  pub head_covered_stores : (a b : H) → m.head_formed a → m.head_formed b → m.head_covered a b
+      → Within (m.head_has a) (m.head_has b)
+  -- what has all points to which a change leads has all stores to which it does; a head that has the points of another
+  -- one and of next has their stores
+  pub kept_stores : (step : Action) (v w : V) → m.formed v → m.formed w → m.keeps step v w
+      → (s t : List ℤ) → m.has v s → Leads step s t → m.has w t
+  pub old_stores : (old : H) (next : V) (new : H) → m.head_formed old → m.head_formed new
+      → m.holds_both old next new → Within (m.head_has old) (m.head_has new)
+  pub next_stores : (old : H) (next : V) (new : H) → m.formed next → m.head_formed new
+      → m.holds_both old next new → Within (m.has next) (m.head_has new)
   -- the stores of what lies in a head are the head's
-  pub stays_stores : (h : H) (v : V) (mode : Mode) → m.stays h v mode → Within (m.has v) (m.head_has h)
-  -- an inclusion answers Yes only where next lies in the head, No only where it doesn't
+  pub stays_stores : (h : H) (v : V) (mode : Mode) → m.head_formed h → m.formed v → m.stays h v mode
+      → Within (m.has v) (m.head_has h)
+  -- an inclusion answers Yes only where next lies in the head, No only where it doesn't; this is asked of all contents
   pub answers_yes : (h : H) (v : V) (mode : Mode) → m.answers h v mode Yes → m.stays h v mode
   pub answers_no : (h : H) (v : V) (mode : Mode) → m.answers h v mode No → ¬ m.stays h v mode
   -- a head that is given up has all stores; it has a defined value, and each such value is universal
-  pub given_up_stores : (old : H) (mode : Mode) (new : H) → m.given_up old mode new
-      → (s : List ℤ) → length s ≡ m.head_dims old → m.head_has new s
-  pub given_up_valued : (old : H) (mode : Mode) (new : H) → m.given_up old mode new → (v : V) × m.valued new v
-  pub given_up_value : (old : H) (mode : Mode) (new : H) (v : V) → m.given_up old mode new → m.valued new v
-      → (cap : ℕ) × m.universal (m.head_dims old) cap v
+  pub given_up_stores : (old : H) (mode : Mode) (new : H) → m.head_formed old → m.head_formed new
+      → m.given_up old mode new → (s : List ℤ) → length s ≡ m.head_dims old → m.head_has new s
+  pub given_up_valued : (old : H) (mode : Mode) (new : H) → m.head_formed old → m.head_formed new
+      → m.given_up old mode new → (v : V) × m.valued new v
+  pub given_up_value : (old : H) (mode : Mode) (new : H) (v : V) → m.head_formed old → m.head_formed new
+      → m.given_up old mode new → m.valued new v → (cap : ℕ) × m.universal (m.head_dims old) cap v
 
--- what values of one part at most keep further, so that sets of them can be made
+-- that every definition of a meaning allows one thing: then the written iteration finds one value at each point
+pub record SingleLaws {V H : Type 0} (m : Meaning V H) : Type 0 where
+  pub one_universal : (n cap : ℕ) (v w : V) → m.universal n cap v → m.universal n cap w → v ≡ w
+  pub one_void : (n cap : ℕ) (v w : V) → m.void n cap v → m.void n cap w → v ≡ w
+  pub one_done : (step : Action) (a v w : V) → m.done step a v → m.done step a w → v ≡ w
+  pub one_joined : (a b v w : V) → m.joined a b v → m.joined a b w → v ≡ w
+  pub one_started : (v : V) (given : Listed ConKind) (g h : H) → m.started v given g → m.started v given h → g ≡ h
+  pub one_grown : (h : H) (v : V) (mode : Mode) (i j : H) → m.grown h v mode i → m.grown h v mode j → i ≡ j
+  pub one_valued : (h : H) (v w : V) → m.valued h v → m.valued h w → v ≡ w
+
+-- what values of one part at most keep further, so that sets of them can be made; over all contents
 pub record PlainLaws {V H : Type 0} (m : Meaning V H) : Type 0 where
   pub one_part : (v : V) → length (m.parts v) ≤ 1
   -- there is one universal value, whatever the cap; one join, one head that starts with a value, one value of a head
@@ -60,6 +92,9 @@ pub record PlainLaws {V H : Type 0} (m : Meaning V H) : Type 0 where
       → m.joined a b j → m.stays h a mode → m.stays h b mode → m.stays h j mode
   pub stays_value : (h : H) (v : V) (mode : Mode) → m.valued h v → m.stays h v mode
   pub stays_started : (h : H) (v : V) (given : Listed ConKind) (mode : Mode) → m.started v given h → m.stays h v mode
+  -- a head that is held started with a value that is; a universal value has a part
+  pub started_formed : (h : H) (v : V) (given : Listed ConKind) → m.started v given h → m.head_formed h → m.formed v
+  pub universal_filled : (n cap : ℕ) (v : V) → m.universal n cap v → m.parts v ≢ []
   -- a head that starts with a value has no store beyond it
   pub started_stores : (h : H) (v : V) (given : Listed ConKind) → m.started v given h → Within (m.head_has h) (m.has v)
   -- the first number of a rank is 1

@@ -2,5 +2,6 @@ pub mod Actions
 pub mod Parts
 pub mod Rank
 pub mod Meaning
-pub mod Laws
 pub mod Bounds
+pub mod Laws
+pub mod Backward

@@ -1,9 +1,10 @@
 -- What a domain's values and heads mean.
 -- The value that contracts see is the content of a value or a head: so equal contents are equal values.
-use Rattle.std.specs.Prelude.{◌≡◌, ℕ, ℤ, List, ◌⊎◌}
+use Rattle.std.specs.Prelude.{◌≡◌, ℕ, ℤ, List, Option, ◌⊎◌}
+use Rattle.lra_lin.specs.Form.{Form}
 use Rattle.lra_sys.specs.Listed.{Listed}
 use Rattle.lra_linear.specs.declared.ConKind.{ConKind}
-use Rattle.lra_domain.specs.Actions.{Action, Leads, Within}
+use Rattle.lra_domain.specs.Actions.{Action, Within}
 use Rattle.lra_domain.specs.declared.Mode.{Mode}
 use Rattle.lra_domain.specs.declared.Rank.{Rank}
 use Rattle.lra_domain.specs.declared.Exactness.{Exactness}
@@ -18,6 +19,8 @@ worse Flagged e = Flagged
 
 -- V: contents of values; H: contents of heads
 pub record Meaning (V H : Type 0) : Type 1 where
+  -- a value that is held has such a content
+  pub formed : V → Type 0
   -- the list is a store of the value
   pub has : V → List ℤ → Type 0
   -- how many dimensions it has
@@ -25,11 +28,15 @@ pub record Meaning (V H : Type 0) : Type 1 where
   -- the lists of rows that mean the value, part by part; it may have so many
   pub parts : V → List (Listed ConKind)
   pub capped : V → ℕ → Type 0
+  -- what the content tells of a form's values: a lower and an upper bound, each of them or none
+  pub bounded : V → Form → Option ℤ → Option ℤ → Type 0
   -- the first is covered by the second
   pub covered : V → V → Type 0
   -- the value of n dimensions and this cap that has all stores; that has none
   pub universal : ℕ → ℕ → V → Type 0
   pub void : ℕ → ℕ → V → Type 0
+  -- the second value has all points to which the change leads from those of the first
+  pub keeps : Action → V → V → Type 0
   -- the defined result of a change of the value; when the change may be flagged
   pub done : Action → V → V → Type 0
   pub strains : Action → V → Type 0
@@ -39,6 +46,8 @@ pub record Meaning (V H : Type 0) : Type 1 where
   -- the first is included in the second; when the answer may be Wide
   pub inside : V → V → Type 0
   pub inside_strains : V → V → Type 0
+  -- a head that is held has such a content
+  pub head_formed : H → Type 0
   -- the list is a store of the head
   pub head_has : H → List ℤ → Type 0
   pub head_dims : H → ℕ
@@ -51,6 +60,11 @@ pub record Meaning (V H : Type 0) : Type 1 where
   -- next is included in the head; what the inclusion may answer: Wide only where it strains
   pub stays : H → V → Mode → Type 0
   pub answers : H → V → Mode → Included → Type 0
+  -- the second head has all points of the first one and of next
+  pub holds_both : H → V → H → Type 0
+  -- of the first head's given rows the second has those that are left, as far as the domain uses them: a row that was
+  -- struck isn't given again
+  pub left : H → Mode → H → Type 0
   -- what a head may become where the inclusion answers Wide: a head with all stores, as a content
   pub given_up : H → Mode → H → Type 0
   -- the defined growth of the head by next; when its join or its widening may be flagged
@@ -63,8 +77,9 @@ pub record Meaning (V H : Type 0) : Type 1 where
 -- a change of the old value to the new one, with this exactness
 pub record Meets {V H : Type 0} (m : Meaning V H) (step : Action) (old : V) (exactness : Exactness) (new : V)
     : Type 0 where
-  -- each store to which the change may lead is kept
-  pub stores : (s t : List ℤ) → m.has old s → Leads step s t → m.has new t
+  pub formed : m.formed new
+  -- each point to which the change may lead is kept
+  pub keeps : m.keeps step old new
   -- the result covers the defined one; an exact one is it, a flagged one comes only from a strain
   pub covers : (v : V) → m.done step old v → m.covered v new
   pub exact : exactness ≡ Exact → m.done step old new
@@ -72,6 +87,7 @@ pub record Meets {V H : Type 0} (m : Meaning V H) (step : Action) (old : V) (exa
 
 -- a join of two values
 pub record Joins {V H : Type 0} (m : Meaning V H) (one two : V) (exactness : Exactness) (new : V) : Type 0 where
+  pub formed : m.formed new
   -- the result covers both operands, and the defined join
   pub left : m.covered one new
   pub right : m.covered two new
@@ -81,6 +97,7 @@ pub record Joins {V H : Type 0} (m : Meaning V H) (one two : V) (exactness : Exa
 
 -- a head that starts with a value
 pub record Starts {V H : Type 0} (m : Meaning V H) (first : V) (given : Listed ConKind) (head : H) : Type 0 where
+  pub formed : m.head_formed head
   pub stores : Within (m.has first) (m.head_has head)
   pub started : m.started first given head
 
@@ -94,8 +111,10 @@ GrowthStrains m old next mode =
 -- a head that grew by next
 pub record Grew {V H : Type 0} (m : Meaning V H) (old : H) (next : V) (mode : Mode) (exactness : Exactness) (new : H)
     : Type 0 where
-  pub kept : Within (m.head_has old) (m.head_has new)
-  pub added : Within (m.has next) (m.head_has new)
+  pub formed : m.head_formed new
+  -- it has the points of the old head and of next, and the given rows that are left, flagged or not
+  pub both : m.holds_both old next new
+  pub left : m.left old mode new
   -- the head covers the defined growth
   pub covers : (h : H) → m.grown old next mode h → m.head_covered h new
   -- an exact growth is the defined one, where the inclusion answers No
@@ -109,6 +128,7 @@ pub record Grew {V H : Type 0} (m : Meaning V H) (old : H) (next : V) (mode : Mo
 
 -- the value of a head
 pub record Values {V H : Type 0} (m : Meaning V H) (head : H) (exactness : Exactness) (new : V) : Type 0 where
+  pub formed : m.formed new
   pub stores : Within (m.head_has head) (m.has new)
   -- the value covers the defined one; an exact one is it, a flagged one comes only from a strain
   pub covers : (v : V) → m.valued head v → m.covered v new

@@ -1,7 +1,7 @@
-//! Upper bounds: `None` is no bound, above all.
+//! Upper bounds: `None` is no bound, above all; and lower ones, where it is below all.
 
 ghost use Rattle.std.specs.Prelude.{◌≡◌, ◌↔◌, IsTrue};
-ghost use Rattle.lra_domain.specs.Bounds.{AtMost, finite, greater, stable};
+ghost use Rattle.lra_domain.specs.Bounds.{AtMost, finite, greater, lesser_low, stable};
 
 /// The greater bound; none where one of the two is none.
 pub fn join_highs(a: Option<i128>, b: Option<i128>) -> Option<i128>
@@ -9,6 +9,16 @@ pub fn join_highs(a: Option<i128>, b: Option<i128>) -> Option<i128>
 {
     match (a, b) {
         (Some(a), Some(b)) => Some(a.max(b)),
+        _ => None,
+    }
+}
+
+/// The lesser lower bound; none where one of the two is none.
+pub fn join_lows(a: Option<i128>, b: Option<i128>) -> Option<i128>
+    ensures { result ≡ lesser_low a b }
+{
+    match (a, b) {
+        (Some(a), Some(b)) => Some(a.min(b)),
         _ => None,
     }
 }

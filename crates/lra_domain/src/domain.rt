@@ -21,22 +21,30 @@ use std::alloc::{AllocError, Global};
 /// equal, `Stable` leaves the head's, and a call that answers an error leaves its value's. Leave allocators and spare
 /// room out of the view.
 ///
-/// **Meaning.** Give one record, `meaning`: which stores a value or head `has`, how many dimensions, the `parts`
-/// (lists of rows), the defined result of each call as a relation on contents, when each call may strain, which
-/// content another `covers`, and the `rank` of a head.
+/// **Meaning.** Give one record, `meaning`: which contents values and heads hold (`formed`, `head_formed`), which
+/// stores a value or head `has`, how many dimensions, the `parts` (lists of rows), the defined result of each call as a
+/// relation on contents, when each call may strain, which content another `covers`, and the `rank` of a head. Every
+/// call gives a formed value or head, and `is_empty` and `rank` say it of the one at hand: what the type's invariant
+/// says belongs there.
 ///
-/// **Laws.** Give one record, `laws`, that this meaning keeps over all contents, also those that no value has: a
-/// store has as many numbers as there are dimensions (so say the length in `has`); what `universal` allows has `n`
-/// dimensions and all their stores, what `void` allows has `n` and no store, and a value without parts has no store;
-/// what is covered, or lies in a head, has no store beyond those of what covers it, or of the head; the value of a
-/// head that is given up is universal.
+/// **Laws.** Give one record, `laws`, that this meaning keeps; what it says of stores and of bounds it says of formed
+/// contents, what relates dimensions, caps, parts and answers of all. A store has as many numbers as there are
+/// dimensions; what `universal` allows has `n` dimensions and all their stores, what `void` allows has `n` and no
+/// store, and a value without parts has no store; what is covered, or lies in a head, has no store beyond those of what
+/// covers it, or of the head; what is `bounded` is one thing, within which a form's value at each store lies; the value
+/// of a head that is given up is universal.
 ///
-/// **Stores.** `universe` has all lists of `n` numbers, `empty` none. `assign` keeps each store with `x` replaced by
-/// the form's value there, `forget` each with `x` replaced by anything, `test` each that passes, `join` those of both
-/// operands, `embed` each with `k` numbers of any kind appended, `remove_last` each without its last `k` numbers.
-/// `start` keeps the first value's stores, `value` the head's; after `Grew` the head has all of the old head and of
-/// next; `Stable` comes only where next lies in the head. `included` says `Yes`, and `is_empty` true, only where it
-/// is so.
+/// **Points.** `universe` has all lists of `n` numbers, `empty` none. Say by `keeps` that a change's result has all
+/// points to which it leads: `assign` those with `x` replaced by the form's value there, `forget` those with `x`
+/// replaced by anything, `test` those that pass, `embed` those with `k` numbers of any kind appended, `remove_last`
+/// those without their last `k` numbers; and by `holds_both` that a grown head has all of the old head and of next.
+/// Points are stores, unless the domain knows others (a polyhedron's are rational); the laws `kept_stores`,
+/// `old_stores` and `next_stores` lead to stores. `join` covers both operands; `start` keeps the first value's stores,
+/// `value` the head's; `Stable` comes only where next lies in the head. `included` says `Yes`, and `is_empty` true,
+/// only where it is so.
+///
+/// **Bounds.** `bounds` tells a lower and an upper bound of a form's values, as `bounded` says of the content; it takes
+/// no memory.
 ///
 /// **Exactness.** Each result covers the defined one, and that of a join both operands. An `Exact` one is the defined
 /// one; a `Flagged` one comes only where the call strains on its operands. `included` answers `Yes` and `No` by what
@@ -45,7 +53,8 @@ use std::alloc::{AllocError, Global};
 /// **Heads.** `answers` tells what the inclusion of next in a head may answer: `Yes` only where next lies in it, `No`
 /// only where it doesn't, `Wide` only where it strains. `grow` answers `Stable` only with `Yes`, `Grew(Exact)` only
 /// with `No`. `Grew(Flagged)` comes with `Wide`, and then the head is given up: it has all stores, as a content that
-/// `given_up` allows; or with `No`, where the join or the widening strains.
+/// `given_up` allows; or with `No`, where the join or the widening strains. Which given rows are `left` is told of each
+/// growth, flagged or not.
 ///
 /// **Ranks.** After `Grew` in mode `Widen` or `Limited` the rank is lower than before, also when flagged: this is why
 /// an iteration ends. Each number of a rank is below 2^62, so that two ranks can be added, with carries.
@@ -70,6 +79,7 @@ pub trait Domain: Sized + Drop {
     fn universe(alloc: Global, n: usize, cap: u32) -> Result<Self, AllocError>
         requires few { n ≤ 2 ^ 30 }
         requires cap { 1 ≤ cap }
+        ensures formed { IfOk result (λ v. meaning.formed v) }
         ensures stores { IfOk result (λ v. (s : List ℤ) → (meaning.has v s ↔ (length s ≡ n))) }
         ensures defined { IfOk result (λ v. meaning.universal n cap v) }
         ensures dims { IfOk result (λ v. meaning.dims v ≡ n) };
@@ -78,6 +88,7 @@ pub trait Domain: Sized + Drop {
     fn empty(alloc: Global, n: usize, cap: u32) -> Result<Self, AllocError>
         requires few { n ≤ 2 ^ 30 }
         requires cap { 1 ≤ cap }
+        ensures formed { IfOk result (λ v. meaning.formed v) }
         ensures stores { IfOk result (λ v. (s : List ℤ) → ¬ meaning.has v s) }
         ensures defined { IfOk result (λ v. meaning.void n cap v) }
         ensures dims { IfOk result (λ v. meaning.dims v ≡ n) };
@@ -90,10 +101,16 @@ pub trait Domain: Sized + Drop {
     fn dims(&self) -> usize
         ensures { result ≡ meaning.dims self.now };
 
-    /// Whether the value has no part, and so no store.
+    /// Whether the value has no part, and so no store; a value that is held is formed.
     fn is_empty(&self) -> bool
+        ensures formed { meaning.formed self.now }
         ensures parts { IsTrue result ↔ (meaning.parts self.now ≡ []) }
         ensures stores { IsTrue result → (s : List ℤ) → ¬ meaning.has self.now s };
+
+    /// A lower and an upper bound of the form's values, as the content tells them; none where it tells none.
+    fn bounds(&self, e: &LinExpr) -> (Option<i128>, Option<i128>)
+        requires { length e.now.coefficients ≡ meaning.dims self.now }
+        ensures { meaning.bounded self.now e.now result.0 result.1 };
 
     /// Whether this value lies in the other.
     fn included(&self, other: &Self) -> Included
@@ -193,11 +210,12 @@ pub trait Domain: Sized + Drop {
         ensures dims { IfOk result (λ r. meaning.dims r.0 ≡ meaning.head_dims head.now) }
         ensures capped { IfOk result (λ r. CapsWithin (meaning.head_capped head.now) (meaning.capped r.0)) };
 
-    /// The rank of the head.
+    /// The rank of the head; a head that is held is formed.
     fn rank(head: &Self::Head) -> Rank
-        ensures { result ≡ meaning.rank head.now };
+        ensures formed { meaning.head_formed head.now }
+        ensures rank { result ≡ meaning.rank head.now };
 
-    /// What the meaning keeps, over all contents.
+    /// What the meaning keeps.
     ghost laws: { Laws meaning };
 }
 

@@ -1,10 +1,12 @@
 //! What an abstract domain owes to the iteration that stands on it.
 #![tactic(auto)]
 
+pub mod backward;
 pub mod bounds;
 pub mod domain;
 pub mod flags;
 
+pub use backward::Backward;
 pub use domain::{Domain, Plain};
 pub use flags::worse;
 

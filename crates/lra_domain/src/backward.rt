@@ -1,0 +1,49 @@
+//! Domains that go back.
+
+ghost use Rattle.std.specs.Prelude.{◌≡◌, ◌<◌, length, IfOk, OnErr};
+ghost use Rattle.lra_domain.specs.Actions.{assign, test};
+ghost use Rattle.lra_domain.specs.Backward.{GoesBack, MeetsBoth, Retracing};
+ghost use Rattle.lra_domain.specs.Parts.{CapsWithin};
+
+use crate::{Domain, Exactness};
+use lra_lin::{LinExpr, Test};
+use std::alloc::AllocError;
+
+/// A domain that also goes back: from what is so behind an assignment or a test to what was so before it.
+///
+/// Give one record, `retracing`: the defined results as relations on contents, and when each call may strain. Each call
+/// keeps every store from which its change may lead into the value, and `meet` each store of both. Each result covers
+/// the defined one; an `Exact` one is the defined one, a `Flagged` one comes only where the call strains on its
+/// operands. The other changes go back by `Domain` itself: a forgotten dimension is forgotten, embedded ones are
+/// removed, removed ones embedded. An `AllocError` can come from each call.
+pub trait Backward: Domain {
+    /// What the calls that go back give, and when they strain.
+    ghost retracing: { Retracing Self };
+
+    /// What was so before dimension `x` got the value of the form.
+    fn before_assign(&mut self, x: usize, e: &LinExpr) -> Result<Exactness, AllocError>
+        requires place { x < Self.meaning.dims self.old }
+        requires width { length e.now.coefficients ≡ Self.meaning.dims self.old }
+        ensures back { IfOk result (λ a. GoesBack Self.meaning retracing (assign x e.now) self.old a self.new) }
+        ensures dims { Self.meaning.dims self.new ≡ Self.meaning.dims self.old }
+        ensures capped { CapsWithin (Self.meaning.capped self.old) (Self.meaning.capped self.new) }
+        ensures err { OnErr result (self.new ≡ self.old) };
+
+    /// What was so before the test passed.
+    fn before_test(&mut self, t: &Test) -> Result<Exactness, AllocError>
+        requires { length t.now.expr.coefficients ≡ Self.meaning.dims self.old }
+        ensures back { IfOk result (λ a.
+            GoesBack Self.meaning retracing (test t.now.kind t.now.expr) self.old a self.new) }
+        ensures dims { Self.meaning.dims self.new ≡ Self.meaning.dims self.old }
+        ensures capped { CapsWithin (Self.meaning.capped self.old) (Self.meaning.capped self.new) }
+        ensures err { OnErr result (self.new ≡ self.old) };
+
+    /// Only stores that are in both need stay.
+    fn meet(&mut self, other: &Self) -> Result<Exactness, AllocError>
+        requires { Self.meaning.dims self.old ≡ Self.meaning.dims other.now }
+        ensures meets { IfOk result (λ a. MeetsBoth Self.meaning retracing self.old other.now a self.new) }
+        ensures dims { Self.meaning.dims self.new ≡ Self.meaning.dims self.old }
+        ensures capped { CapsWithin (λ c. Self.meaning.capped self.old c × Self.meaning.capped other.now c)
+            (Self.meaning.capped self.new) }
+        ensures err { OnErr result (self.new ≡ self.old) };
+}
