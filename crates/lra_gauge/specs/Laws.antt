@@ -1,5 +1,9 @@
 -- The laws of gauges.
 use Rattle.std.proofs.Common.{◌≡◌, ℕ, zero, suc, max, ◌<◌, ◌≤◌, ℤ, List, [], length, refl, sym, subst, ◌∙◌, arith}
+use Rattle.std.proofs.Common.{Option, None, pos, replicate}
+use Rattle.std.proofs.lemmas.List.{length-replicate}
+use Rattle.lra_domain.specs.Bounds.{IsBetween}
+use Rattle.lra_lin.specs.Form.{form_value}
 use Rattle.std.proofs.Math.Nat.{max-le}
 use Rattle.lra_domain.specs.Actions.{Within}
 use Rattle.lra_domain.specs.Laws.{Laws, PlainLaws}
@@ -38,27 +42,43 @@ partless_under n k zero b u e = refl
 partless_under n k (suc a) zero u e = absurd (omega arith)
 partless_under n k (suc a) (suc b) u e = cc
 
+nothing_told : (z : ℤ) (l h : Option ℤ) → (l ≡ None) × (h ≡ None) → IsBetween l h z
+nothing_told z l h is =
+    subst (λ (x : Option ℤ). IsBetween x h z) (sym is.0)
+    (subst (λ (x : Option ℤ). IsBetween None x z) (sym is.1) (tt, tt))
+
 pub gauge_laws : Laws gauge_meaning
 gauge_laws = record {
-  sized = λ v s h. h.0;
-  head_sized = λ h s own. own.0;
+  sized = λ v s fine h. h.0;
+  head_sized = λ h s fine own. own.0;
   universal_dims = λ n cap v is. is.0;
-  universal_stores = λ n cap v is s long. whole_has n v is s long;
+  universal_stores = λ n cap v fine is s long. whole_has n v is s long;
   void_dims = λ n cap v is. is.0;
-  void_stores = λ n cap v is s h. none_has n v is s h;
-  capped_parts = few_parts;
+  void_stores = λ n cap v fine is s h. none_has n v is s h;
+  capped_parts = λ v c some. few_parts v c some;
   universal_capped = λ n cap v some is. some;
   void_capped = λ n cap v some is. some;
-  partless = λ v e s h. partless_has v.dims v.bound e h.1;
-  covered_stores = under_has;
-  head_covered_stores = under_has;
-  stays_stores = λ h v mode u. under_has v h u;
+  partless = λ v fine e s h. partless_has v.dims v.bound e h.1;
+  bounded_stores = λ v f l h s fine wide is has. nothing_told (form_value f s) l h is;
+  one_bounded = λ v f l h j k fine is so. (is.0 ∙ sym so.0, is.1 ∙ sym so.1);
+  bounded_partless = λ v f l h fine e is. is;
+  covered_stores = λ a b fine too u. under_has a b u;
+  head_covered_stores = λ a b fine too u. under_has a b u;
+  kept_stores = λ step v w fine too k. k;
+  old_stores = λ old next new fine too k. k.0;
+  next_stores = λ old next new fine too k. k.1;
+  stays_stores = λ h v mode fine too u. under_has v h u;
   answers_yes = λ h v mode u. u;
   answers_no = λ h v mode u. u;
-  given_up_stores = λ old mode new is s long. whole_has old.dims new is s long;
-  given_up_valued = λ old mode new is. (new, refl);
-  given_up_value = λ old mode new v is e. (1, subst (λ (g : Gauge). IsGauge old.dims unbounded g) (sym e) is);
+  given_up_stores = λ old mode new fine too is s long. whole_has old.dims new is s long;
+  given_up_valued = λ old mode new fine too is. (new, refl);
+  given_up_value = λ old mode new v fine too is e. (1, subst (λ (g : Gauge). IsGauge old.dims unbounded g) (sym e) is);
 }
+
+-- what has all stores has its own one
+none_left : (n : ℕ) (v : Gauge) → IsGauge n unbounded v → gauge_parts v.dims v.bound ≡ [] → ⊥
+none_left n v is e = partless_has v.dims v.bound e
+    (whole_has n v is (replicate n (pos 0)) (length-replicate n (pos 0))).1
 
 under_refl : (a : Gauge) → Under a a
 under_refl a = (refl, omega arith)
@@ -88,6 +108,8 @@ gauge_plain = record {
   stays_joined = λ h a b j mode is u v. joined_under a b j h is u v;
   stays_value = λ h v mode e. same_under v h e;
   stays_started = λ h v given mode e. same_under v h (sym e);
+  started_formed = λ h v given e fine. tt;
+  universal_filled = λ n cap v is e. none_left n v is e;
   started_stores = λ h v given e. under_has h v (same_under h v e);
   rank_first = λ h. refl;
 }

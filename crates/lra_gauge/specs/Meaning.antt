@@ -1,9 +1,9 @@
 -- The meaning of gauges: a value has all stores of its dimensions or none, and bounds a number beside them that no
 -- change touches.
-use Rattle.std.specs.Prelude.{◌≡◌, ℕ, zero, suc, ◌-◌, ◌<◌, ◌≤◌, max, ℤ, List, [], ◌∷◌, length}
+use Rattle.std.specs.Prelude.{◌≡◌, ℕ, zero, suc, ◌-◌, ◌<◌, ◌≤◌, max, ℤ, List, [], ◌∷◌, length, None, ⊤}
 use Rattle.lra_sys.specs.Listed.{Listed}
 use Rattle.lra_linear.specs.declared.ConKind.{ConKind}
-use Rattle.lra_domain.specs.Actions.{dims_after}
+use Rattle.lra_domain.specs.Actions.{dims_after, HoldsStores, KeepsStores}
 use Rattle.lra_domain.specs.declared.Included.{Included}
 use Rattle.lra_domain.specs.declared.Included.TheVariants.{Yes, No, Wide}
 use Rattle.lra_domain.specs.Meaning.{Meaning}
@@ -34,19 +34,23 @@ gauge_parts n (suc bound) = record { dims = n; rows = []; kinds = [] } ∷ []
 
 abbrev pub gauge_meaning : Meaning Gauge Gauge
 gauge_meaning = record {
+  formed = λ v. ⊤;
   has = GaugeHas;
   dims = λ v. v.dims;
   parts = λ v. gauge_parts v.dims v.bound;
   capped = λ v c. 1 ≤ c;
+  bounded = λ v f l h. (l ≡ None) × (h ≡ None);
   covered = Under;
   universal = λ n cap v. IsGauge n unbounded v;
   void = λ n cap v. IsGauge n 0 v;
+  keeps = KeepsStores GaugeHas;
   done = λ step a b. IsGauge (dims_after step a.dims) a.bound b;
   strains = λ step a. ⊥;
   joined = λ a b c. IsGauge a.dims (max a.bound b.bound) c;
   join_strains = λ a b. Passes 60 a.bound b.bound;
   inside = Under;
   inside_strains = λ a b. Passes 100 b.bound a.bound;
+  head_formed = λ h. ⊤;
   head_has = GaugeHas;
   head_dims = λ h. h.dims;
   head_capped = λ h c. 1 ≤ c;
@@ -55,6 +59,8 @@ gauge_meaning = record {
   started = λ v given h. h ≡ v;
   stays = λ h a mode. Under a h;
   answers = λ h a mode i. GaugeAnswers h a i;
+  holds_both = HoldsStores GaugeHas GaugeHas;
+  left = λ old mode new. ⊤;
   given_up = λ old mode new. IsGauge old.dims unbounded new;
   grown = λ h a mode g. IsGauge h.dims (grown_bound mode h.bound a.bound) g;
   grow_strains = λ h a mode. GrowthPasses mode h.bound a.bound;

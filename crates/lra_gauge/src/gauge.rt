@@ -54,6 +54,11 @@ impl Domain for Gauge {
         self.bound == 0
     }
 
+    /// It tells no bounds of forms.
+    fn bounds(&self, _e: &LinExpr) -> (Option<i128>, Option<i128>) {
+        (None, None)
+    }
+
     fn included(&self, other: &Self) -> Included {
         compare(other.bound, self.bound)
     }
