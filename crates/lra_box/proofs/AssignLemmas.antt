@@ -13,7 +13,7 @@ use Rattle.lra_box.specs.declared.ends.Bound.{Bound}
 use Rattle.lra_box.specs.Bounds.{InInterval, AllSound, end_sum, SumPasses, IsBound, open_interval}
 use Rattle.lra_box.specs.Tables.{LowWithin}
 use Rattle.lra_box.specs.Answers.{AssignedTo}
-use Rattle.lra_box.proofs.SumLemmas.{end_sum_holds}
+use Rattle.lra_box.specs.Sums.{end_sum_holds}
 use Rattle.lra_box.proofs.BoxLemmas.{assign_keeps, bound_holds}
 use Rattle.lra_box.proofs.SoundLemmas.{some_store, not_crossed, set_sound}
 use Rattle.lra_box.proofs.ExtremeLemmas.{end_is_extreme}

@@ -6,14 +6,14 @@ use Rattle.std.specs.Int.{int_min, int_max}
 use Rattle.lra_domain.specs.declared.Mode.{Mode}
 use Rattle.lra_domain.specs.declared.Mode.TheVariants.{Join, Widen, Limited}
 use Rattle.lra_domain.specs.Rank.{RankFits}
-use Rattle.lra_domain.specs.Bounds.{AtMost, finite, greater, stable}
+use Rattle.lra_domain.specs.Bounds.{AtMost, finite, greater, stable, lesser_low}
 use Rattle.lra_box.specs.declared.interval.Interval.{Interval}
 use Rattle.lra_box.specs.declared.interval.Side.{Side}
 use Rattle.lra_box.specs.declared.interval.Side.TheVariants.{Low, High}
 use Rattle.lra_box.specs.Bounds.{BoundHolds, InBounds, open_interval}
 use Rattle.lra_box.specs.Content.{Content, BoundsFit}
 use Rattle.lra_box.specs.Tables.{has_bounds, on_bounds, joined_intervals, joined_bounds, widened_low, widened_intervals, widened_bounds, grown_bounds, LowWithin}
-use Rattle.lra_box.specs.Tables.{IntervalsWithin, BoundsWithin, finite_bounds, rank_number, rank_of, lesser_low}
+use Rattle.lra_box.specs.Tables.{IntervalsWithin, BoundsWithin, finite_bounds, rank_number, rank_of}
 use Rattle.lra_box.proofs.BoxLemmas.{in_joined_left, in_joined_right, in_set}
 
 pub widen_low_old : (a b : Option ℤ) (x : ℤ) → BoundHolds Low a x → BoundHolds Low (widened_low a b) x

@@ -9,10 +9,10 @@ use Rattle.lra_box.specs.declared.interval.Side.{Side}
 use Rattle.lra_box.specs.declared.interval.Side.TheVariants.{Low, High}
 use Rattle.lra_domain.specs.declared.Exactness.{Exactness}
 use Rattle.lra_domain.specs.declared.Exactness.TheVariants.{Exact, Flagged}
-use Rattle.lra_domain.specs.Bounds.{greater}
+use Rattle.lra_domain.specs.Bounds.{greater, lesser_low}
 use Rattle.lra_box.specs.Bounds.{BoundHolds, InInterval, InBounds, end_sum, SumPasses, IsBound}
-use Rattle.lra_box.specs.Tables.{lesser_low, joined_intervals}
-use Rattle.lra_box.proofs.SumLemmas.{end_sum_holds}
+use Rattle.lra_box.specs.Tables.{joined_intervals}
+use Rattle.lra_box.specs.Sums.{end_sum_holds}
 
 -- a computed bound holds where the table's does
 bound_at : (side : Side) (table : Option ℤ) (passes : Type 0) (e : Exactness) (b : Bound) (v : ℤ) → b.exactness ≡ e → IsBound table passes b → BoundHolds side table v → BoundHolds side b.value v

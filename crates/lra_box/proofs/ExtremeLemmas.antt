@@ -9,7 +9,7 @@ use Rattle.lra_box.specs.declared.interval.Interval.{Interval}
 use Rattle.lra_box.specs.declared.interval.Side.{Side}
 use Rattle.lra_box.specs.declared.interval.Side.TheVariants.{Low, High}
 use Rattle.lra_box.specs.Bounds.{BoundHolds, InInterval, InBounds, crossed, crossed_ends, AllSound, times, end_product, end_sum, IsExtreme}
-use Rattle.lra_box.proofs.SumLemmas.{end_sum_holds}
+use Rattle.lra_box.specs.Sums.{end_sum_holds}
 use Rattle.lra_box.proofs.SoundLemmas.{some_number, some_store}
 
 zero_product : (x : ℤ) → pos 0 *ℤ x ≡ pos 0

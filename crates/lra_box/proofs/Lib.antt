@@ -1,5 +1,5 @@
-pub mod ProductLemmas
-pub mod SumLemmas
+pub mod EndLemmas
+pub mod RowLemmas
 pub mod BoxLemmas
 pub mod BoundLemmas
 pub mod SoundLemmas

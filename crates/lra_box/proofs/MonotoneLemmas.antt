@@ -10,7 +10,7 @@ use Rattle.lra_box.specs.declared.interval.Side.TheVariants.{High}
 use Rattle.lra_box.specs.Bounds.{crossed, times, end_product, end_sum}
 use Rattle.lra_box.specs.Tables.{LowWithin, IntervalsWithin, BoundsWithin}
 use Rattle.lra_box.specs.Refine.{raised, lowered, tightened, place_refined, refine_place, refined, some_occurs, ge_tested}
-use Rattle.lra_box.proofs.ProductLemmas.{mul_grows, mul_falls}
+use Rattle.lra_box.specs.Products.{mul_grows, mul_falls}
 use Rattle.lra_box.proofs.WithinLemmas.{OneWithin, set_within, at_within, crossed_within}
 use Rattle.lra_domain.specs.Bounds.{AtMost}
 

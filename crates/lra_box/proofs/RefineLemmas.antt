@@ -8,7 +8,7 @@ use Rattle.std.proofs.Math.Nat.{le-div_iff_mul-le, div-lt_iff_lt-mul, mul_comm}
 use Rattle.lra_box.specs.declared.interval.Interval.{Interval}
 use Rattle.lra_box.specs.declared.interval.Side.TheVariants.{Low, High}
 use Rattle.lra_box.specs.Bounds.{open_interval, BoundHolds, InInterval, InBounds}
-use Rattle.lra_box.proofs.SumLemmas.{end_sum_holds}
+use Rattle.lra_box.specs.Sums.{end_sum_holds}
 use Rattle.lra_box.proofs.BoxLemmas.{in_length}
 use Rattle.std.proofs.Math.ListN.{length-set}
 use Rattle.std.proofs.Math.Nat.{suc-add}

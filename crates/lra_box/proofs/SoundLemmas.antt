@@ -6,12 +6,12 @@ use Rattle.std.proofs.lemmas.Int.{ints, clamps}
 use Rattle.lra_linear.specs.Range.{InRange}
 use Rattle.lra_domain.specs.declared.Mode.{Mode}
 use Rattle.lra_domain.specs.declared.Mode.TheVariants.{Join, Widen, Limited}
-use Rattle.lra_domain.specs.Bounds.{greater, stable}
+use Rattle.lra_domain.specs.Bounds.{greater, stable, lesser_low}
 use Rattle.lra_box.specs.declared.interval.Interval.{Interval}
 use Rattle.lra_box.specs.declared.interval.Side.TheVariants.{Low, High}
 use Rattle.lra_box.specs.Bounds.{BoundHolds, InInterval, InBounds, open_interval, crossed, crossed_ends, IsSound, AllSound}
 use Rattle.lra_box.specs.Content.{BoundsSound, seen}
-use Rattle.lra_box.specs.Tables.{has_bounds, lesser_low, joined_intervals, joined_bounds, widened_low, widened_intervals, widened_bounds, grown_bounds}
+use Rattle.lra_box.specs.Tables.{has_bounds, joined_intervals, joined_bounds, widened_low, widened_intervals, widened_bounds, grown_bounds}
 use Rattle.lra_box.proofs.BoxLemmas.{low_left, high_left}
 use Rattle.lra_box.proofs.BoundLemmas.{widen_low_old, widen_high_old}
 

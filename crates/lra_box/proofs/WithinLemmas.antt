@@ -6,9 +6,9 @@ use Rattle.std.proofs.lemmas.Bool.{false≢true}
 use Rattle.lra_box.specs.declared.interval.Interval.{Interval}
 use Rattle.lra_box.specs.Bounds.{open_interval, crossed, crossed_ends}
 use Rattle.lra_box.specs.Content.{BoundsFit}
-use Rattle.lra_box.specs.Tables.{lesser_low, joined_intervals, joined_bounds, LowWithin, IntervalsWithin, BoundsWithin}
+use Rattle.lra_box.specs.Tables.{joined_intervals, joined_bounds, LowWithin, IntervalsWithin, BoundsWithin}
 use Rattle.lra_box.specs.Covering.{low_within_refl, high_within_refl, intervals_within_refl, within_refl}
-use Rattle.lra_domain.specs.Bounds.{AtMost, greater}
+use Rattle.lra_domain.specs.Bounds.{AtMost, greater, lesser_low}
 
 -- one interval within another
 abbrev pub OneWithin : Interval → Interval → Type 0

@@ -20,6 +20,10 @@ abbrev pub BoundsSound : Option (List Interval) → Type 0
 BoundsSound None = Unit {0}
 BoundsSound (Some is) = AllSound is
 
+-- what a box holds: an interval for each dimension, none of them crossed
+abbrev pub BoxFormed : Content → Type 0
+BoxFormed b = BoundsFit b.dims b.bounds × BoundsSound b.bounds
+
 -- what the code's bounds are seen as
 abbrev pub seen : Option (Vec Interval Global) → Option (List Interval)
 seen o = option_map (λ v. v.items) o

@@ -5,9 +5,9 @@ use Rattle.std.proofs.lemmas.Int.{ints, clamps}
 use Rattle.lra_box.specs.declared.interval.Interval.{Interval}
 use Rattle.lra_box.specs.declared.interval.Side.TheVariants.{Low, High}
 use Rattle.lra_box.specs.Bounds.{BoundHolds, InBounds, open_interval}
-use Rattle.lra_box.specs.Tables.{has_bounds, lesser_low, joined_intervals, joined_bounds, LowWithin}
+use Rattle.lra_box.specs.Tables.{has_bounds, joined_intervals, joined_bounds, LowWithin}
 use Rattle.lra_box.specs.Tables.{IntervalsWithin, BoundsWithin}
-use Rattle.lra_domain.specs.Bounds.{AtMost, greater}
+use Rattle.lra_domain.specs.Bounds.{AtMost, greater, lesser_low}
 
 -- bounds that are all absent hold of every number
 pub in_open : (s : List ℤ) (n : ℕ) → length s ≡ n → InBounds (replicate n open_interval) s

@@ -1,9 +1,18 @@
 -- The laws of boxes.
 use Rattle.std.proofs.Common.{◌≡◌, ◌≤◌, ℕ, ℤ, List, [], length, Option, None, Some, refl, ap, sym, subst, ◌∙◌, arith}
+use Rattle.std.proofs.Common.{inl, inr, pos, replicate}
+use Rattle.std.proofs.lemmas.List.{length-replicate}
+use Rattle.lra_lin.specs.Form.{Form, form_value}
 use Rattle.lra_domain.specs.Actions.{Within}
-use Rattle.lra_domain.specs.Laws.{Laws, PlainLaws}
+use Rattle.lra_domain.specs.Bounds.{IsLowerBound, IsBetween, IsUpperBound}
+use Rattle.lra_domain.specs.Laws.{Laws, PlainLaws, SingleLaws}
 use Rattle.lra_box.specs.declared.interval.Interval.{Interval}
-use Rattle.lra_box.specs.Content.{Content}
+use Rattle.lra_box.specs.declared.interval.Side.{Side}
+use Rattle.lra_box.specs.declared.interval.Side.TheVariants.{Low, High}
+use Rattle.lra_box.specs.Bounds.{BoundHolds, InBounds}
+use Rattle.lra_box.specs.Content.{BoundsFit, BoxFormed, Content}
+use Rattle.lra_box.specs.Ends.{BoundsTell, IsEnd}
+use Rattle.lra_box.specs.Sums.{end_sum_holds}
 use Rattle.lra_box.specs.Tables.{has_bounds, BoundsWithin}
 use Rattle.lra_box.specs.Parts.{box_parts}
 use Rattle.lra_box.specs.Covering.{in_open, has_wider, within_refl, within_trans, least_within}
@@ -34,26 +43,92 @@ partless_within n k None b w e = refl
 partless_within n k (Some is) None w e = absurd w
 partless_within n k (Some is) (Some js) w e = cc
 
+-- ---- what is told of a form
+
+low_above : (o : Option ℤ) (z : ℤ) → BoundHolds Low o z → IsLowerBound o z
+low_above None z h = tt
+low_above (Some l) z h = h
+
+high_under : (o : Option ℤ) (z : ℤ) → BoundHolds High o z → IsUpperBound o z
+high_under None z h = tt
+high_under (Some u) z h = h
+
+-- the end that is told is on its side of the form's value at each store
+pub end_holds : (side : Side) (f : Form) (is : List Interval) (o : Option ℤ) (s : List ℤ)
+    → length f.coefficients ≡ length is → InBounds is s → IsEnd side f is o → BoundHolds side o (form_value f s)
+end_holds side f is o s wide inside (inl (fits, same)) =
+    subst (λ (x : Option ℤ). BoundHolds side x (form_value f s)) (sym same)
+    (end_sum_holds side f.constant f.coefficients is s inside wide)
+end_holds side f is o s wide inside (inr (passes, none)) =
+    subst (λ (x : Option ℤ). BoundHolds side x (form_value f s)) (sym none) tt
+
+pub ends_between : (f : Form) (is : List Interval) (l h : Option ℤ) (s : List ℤ)
+    → length f.coefficients ≡ length is → InBounds is s → IsEnd Low f is l → IsEnd High f is h
+    → IsBetween l h (form_value f s)
+ends_between f is l h s wide inside low high = (
+  low_above l (form_value f s) (end_holds Low f is l s wide inside low),
+  high_under h (form_value f s) (end_holds High f is h s wide inside high),
+)
+
+told_between : (n : ℕ) (b : Option (List Interval)) (f : Form) (l h : Option ℤ) (s : List ℤ) → BoundsFit n b
+    → length f.coefficients ≡ n → BoundsTell b f l h → has_bounds b s → IsBetween l h (form_value f s)
+told_between n None f l h s fit wide told has = absurd has
+told_between n (Some is) f l h s fit wide told has = ends_between f is l h s (wide ∙ sym fit) has told.0 told.1
+
+pub one_end : (side : Side) (f : Form) (is : List Interval) (o p : Option ℤ) → IsEnd side f is o → IsEnd side f is p
+    → o ≡ p
+one_end side f is o p (inl (fits, e)) (inl (too, d)) = e ∙ sym d
+one_end side f is o p (inl (fits, e)) (inr (passes, d)) = absurd (fits passes)
+one_end side f is o p (inr (passes, e)) (inl (fits, d)) = absurd (fits passes)
+one_end side f is o p (inr (passes, e)) (inr (too, d)) = e ∙ sym d
+
+one_told : (b : Option (List Interval)) (f : Form) (l h j k : Option ℤ) → BoundsTell b f l h → BoundsTell b f j k
+    → (l ≡ j) × (h ≡ k)
+one_told None f l h j k told so = (told.0 ∙ sym so.0, told.1 ∙ sym so.1)
+one_told (Some is) f l h j k told so = (one_end Low f is l j told.0 so.0, one_end High f is h k told.1 so.1)
+
+partless_told : (n : ℕ) (b : Option (List Interval)) (f : Form) (l h : Option ℤ) → box_parts n b ≡ []
+    → BoundsTell b f l h → (l ≡ None) × (h ≡ None)
+partless_told n None f l h e told = told
+partless_told n (Some is) f l h e told = let wrong : ⊥ = cc in absurd wrong
+
 pub box_laws : Laws box_meaning
 box_laws = record {
-  sized = λ v s h. h.0;
-  head_sized = λ h s own. own.0;
+  sized = λ v s fine h. h.0;
+  head_sized = λ h s fine own. own.0;
   universal_dims = λ n cap v e. ap (λ (c : Content). c.dims) e;
-  universal_stores = λ n cap v e s l. whole_has n v e s l;
+  universal_stores = λ n cap v fine e s l. whole_has n v e s l;
   void_dims = λ n cap v e. ap (λ (c : Content). c.dims) e;
-  void_stores = λ n cap v e s h. none_has n v e s h;
-  capped_parts = few_parts;
+  void_stores = λ n cap v fine e s h. none_has n v e s h;
+  capped_parts = λ v c some. few_parts v c some;
   universal_capped = λ n cap v some e. some;
   void_capped = λ n cap v some e. some;
-  partless = λ v e s h. partless_has v.dims v.bounds s e h.1;
-  covered_stores = box_wider;
-  head_covered_stores = box_wider;
-  stays_stores = λ h v mode w. box_wider v h w;
+  partless = λ v fine e s h. partless_has v.dims v.bounds s e h.1;
+  bounded_stores = λ v f l h s fine wide told has. told_between v.dims v.bounds f l h s fine.0 wide told has.1;
+  one_bounded = λ v f l h j k fine told so. one_told v.bounds f l h j k told so;
+  bounded_partless = λ v f l h fine e told. partless_told v.dims v.bounds f l h e told;
+  covered_stores = λ a b fine too w. box_wider a b w;
+  head_covered_stores = λ a b fine too w. box_wider a b w;
+  kept_stores = λ step v w fine too k. k;
+  old_stores = λ old next new fine too k. k.0;
+  next_stores = λ old next new fine too k. k.1;
+  stays_stores = λ h v mode fine too w. box_wider v h w;
   answers_yes = λ h v mode w. w;
   answers_no = λ h v mode w. w;
-  given_up_stores = λ old mode new e s l. whole_has old.dims new e s l;
-  given_up_valued = λ old mode new e. (new, refl);
-  given_up_value = λ old mode new v e is. (1, is ∙ e);
+  given_up_stores = λ old mode new fine too e s l. whole_has old.dims new e s l;
+  given_up_valued = λ old mode new fine too e. (new, refl);
+  given_up_value = λ old mode new v fine too e is. (1, is ∙ e);
+}
+
+pub box_single : SingleLaws box_meaning
+box_single = record {
+  one_universal = λ n cap v w e d. e ∙ sym d;
+  one_void = λ n cap v w e d. e ∙ sym d;
+  one_done = λ step a v w e d. e.table ∙ sym d.table;
+  one_joined = λ a b v w e d. e ∙ sym d;
+  one_started = λ v given g h e d. e ∙ sym d;
+  one_grown = λ h v mode i j e d. e ∙ sym d;
+  one_valued = λ h v w e d. e ∙ sym d;
 }
 
 box_within_refl : (a : Content) → BoxWithin a a
@@ -85,6 +160,9 @@ box_plain = record {
   stays_joined = λ h a b j mode e v w. joined_within a b j h e v w;
   stays_value = λ h v mode e. same_within v h e;
   stays_started = λ h v given mode e. same_within v h (sym e);
+  started_formed = λ h v given e fine. subst BoxFormed e fine;
+  universal_filled = λ n cap v is e. partless_has v.dims v.bounds (replicate n (pos 0)) e
+      (whole_has n v is (replicate n (pos 0)) (length-replicate n (pos 0))).1;
   started_stores = λ h v given e. box_wider h v (same_within h v e);
   rank_first = λ h. refl;
 }

@@ -1,12 +1,13 @@
 -- The meaning of boxes.
-use Rattle.std.specs.Prelude.{◌≡◌, ◌≤◌, ℕ, ℤ, List, length, replicate, Some, None}
-use Rattle.lra_domain.specs.Actions.{Action}
+use Rattle.std.specs.Prelude.{◌≡◌, ◌≤◌, ℕ, ℤ, List, length, replicate, Some, None, ⊤}
+use Rattle.lra_domain.specs.Actions.{Action, HoldsStores, KeepsStores}
 use Rattle.lra_domain.specs.declared.Included.{Included}
 use Rattle.lra_domain.specs.declared.Included.TheVariants.{Yes, No, Wide}
 use Rattle.lra_domain.specs.Meaning.{Meaning}
 use Rattle.lra_box.specs.Bounds.{open_interval}
 use Rattle.lra_box.specs.Extremes.{AssignsExtremes}
-use Rattle.lra_box.specs.Content.{Content}
+use Rattle.lra_box.specs.Content.{BoxFormed, Content}
+use Rattle.lra_box.specs.Ends.{BoundsTell}
 use Rattle.lra_box.specs.Tables.{has_bounds, stepped, StepPasses, joined_bounds, BoundsWithin, grown_bounds, rank_of}
 use Rattle.lra_box.specs.Parts.{box_parts}
 
@@ -35,19 +36,23 @@ BoxAnswers h a Wide = ⊥
 
 abbrev pub box_meaning : Meaning Content Content
 box_meaning = record {
+  formed = BoxFormed;
   has = BoxHas;
   dims = λ b. b.dims;
   parts = λ b. box_parts b.dims b.bounds;
   capped = λ b c. 1 ≤ c;
+  bounded = λ b f l h. BoundsTell b.bounds f l h;
   covered = BoxWithin;
   universal = λ n cap b. b ≡ whole n;
   void = λ n cap b. b ≡ record { dims = n; bounds = None };
+  keeps = KeepsStores BoxHas;
   done = StepsTo;
   strains = StepPasses;
   joined = λ a b c. c ≡ record a { bounds = joined_bounds a.bounds b.bounds };
   join_strains = λ a b. ⊥;
   inside = BoxWithin;
   inside_strains = λ a b. ⊥;
+  head_formed = BoxFormed;
   head_has = BoxHas;
   head_dims = λ b. b.dims;
   head_capped = λ b c. 1 ≤ c;
@@ -56,6 +61,8 @@ box_meaning = record {
   started = λ a given h. h ≡ a;
   stays = λ h a mode. BoxWithin a h;
   answers = λ h a mode i. BoxAnswers h a i;
+  holds_both = HoldsStores BoxHas BoxHas;
+  left = λ old mode new. ⊤;
   given_up = λ old mode new. new ≡ whole old.dims;
   grown = λ h a mode g. g ≡ record h { bounds = grown_bounds mode h.bounds a.bounds };
   grow_strains = λ h a mode. ⊥;

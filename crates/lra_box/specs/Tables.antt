@@ -1,13 +1,12 @@
 -- The tables of boxes: what each call makes of the bounds, and when it may be flagged.
 use Rattle.std.specs.Prelude.{ℕ, ◌+◌, ◌*◌, ◌-◌, ℤ, ◌≤ℤ◌, int_lt, cond, List, [], ◌∷◌, ◌++◌, take, replicate, slice_set}
 use Rattle.std.specs.Prelude.{Option, None, Some, ◌⊎◌}
-use Rattle.std.specs.Int.{int_min}
 use Rattle.lra_lin.specs.Form.{Form}
 use Rattle.lra_domain.specs.Actions.{Action, assign, forget, test, embed, remove_last}
 use Rattle.lra_domain.specs.declared.Mode.{Mode}
 use Rattle.lra_domain.specs.declared.Mode.TheVariants.{Join, Widen, Limited}
 use Rattle.lra_domain.specs.declared.Rank.{Rank}
-use Rattle.lra_domain.specs.Bounds.{AtMost, finite, greater, stable}
+use Rattle.lra_domain.specs.Bounds.{AtMost, finite, greater, lesser_low, stable}
 use Rattle.lra_box.specs.declared.interval.Interval.{Interval}
 use Rattle.lra_box.specs.declared.interval.Side.TheVariants.{Low, High}
 use Rattle.lra_box.specs.Bounds.{open_interval, InBounds, end_sum, SumPasses}
@@ -33,12 +32,6 @@ assigned x e is = slice_set is x (record {
 abbrev pub AssignPasses : Form → Option (List Interval) → Type 0
 AssignPasses e None = ⊥
 AssignPasses e (Some is) = SumPasses Low e.constant e.coefficients is ⊎ SumPasses High e.constant e.coefficients is
-
--- the bound that both keep
-abbrev pub lesser_low : Option ℤ → Option ℤ → Option ℤ
-lesser_low None b = None
-lesser_low (Some a) None = None
-lesser_low (Some a) (Some b) = Some (int_min a b)
 
 abbrev pub joined_intervals : List Interval → List Interval → List Interval
 joined_intervals [] is = []

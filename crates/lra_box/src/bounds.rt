@@ -12,8 +12,10 @@ ghost use Rattle.lra_box.specs.Refine.{ge_tested, tested, RefinePasses, TestPass
 ghost use Rattle.lra_box.specs.Tables.{on_bounds, joined_bounds, widened_bounds, grown_bounds, BoundsWithin};
 ghost use Rattle.lra_box.specs.Tables.{rank_number};
 ghost use Rattle.lra_box.specs.Answers.{AssignedTo, TestedTo};
+ghost use Rattle.lra_box.specs.Ends.{BoundsTell};
 
-use crate::interval::Interval;
+use crate::ends::form_end;
+use crate::interval::{Interval, Side};
 use crate::intervals::{all_within, assign_bounds, count_bounds, join_all, widen_all};
 use crate::refine::{occurs, refine_all};
 use lra_domain::{Exactness, Mode, Rank, worse};
@@ -251,6 +253,21 @@ pub fn grow_bounds(
     match mode {
         Mode::Join => Ok(joined),
         Mode::Widen | Mode::Limited => widen_bounds(alloc, one, &joined),
+    }
+}
+
+/// The least and the greatest value of the form within the bounds, as they are told.
+pub fn bounds_of(bounds: &Bounds, e: &LinExpr) -> (Option<i128>, Option<i128>)
+    requires { BoundsFit (length e.now.coefficients) (seen bounds.now) }
+    ensures { BoundsTell (seen bounds.now) e.now result.0 result.1 }
+{
+    match bounds {
+        None => (None, None),
+        Some(intervals) => {
+            let low = form_end(Side::Low, e, intervals.as_slice());
+            let high = form_end(Side::High, e, intervals.as_slice());
+            (low, high)
+        }
     }
 }
 

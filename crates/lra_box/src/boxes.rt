@@ -4,8 +4,8 @@ ghost use Rattle.std.specs.Prelude.{◌≡◌, ◌↔◌, ◌≤◌, ◌^◌, re
 ghost use Rattle.lra_box.specs.Meaning.{box_meaning};
 
 use crate::bounds::{
-    Bounds, assign_in, copy_bounds, embed_in, forget_in, grow_bounds, is_same, is_within,
-    join_bounds, rank_of, test_in, truncate_in, universe, wide_row,
+    Bounds, assign_in, bounds_of, copy_bounds, embed_in, forget_in, grow_bounds, is_same,
+    is_within, join_bounds, rank_of, test_in, truncate_in, universe, wide_row,
 };
 use crate::parts::system_of;
 use lra_domain::{Domain, Exactness, Grown, Included, Mode, Plain, Rank};
@@ -81,10 +81,16 @@ impl Domain for Boxes {
 
     /// Yes exactly where there is no part, and exactly where there is no store.
     fn is_empty(&self) -> bool
+        ensures formed { box_meaning.formed self.now }
         ensures parts { IsTrue result ↔ (box_meaning.parts self.now ≡ []) }
         ensures stores { IsTrue result ↔ ((s : List ℤ) → ¬ box_meaning.has self.now s) }
     {
         self.bounds.is_none()
+    }
+
+    /// The bounds that an assignment of the form would give.
+    fn bounds(&self, e: &LinExpr) -> (Option<i128>, Option<i128>) {
+        bounds_of(&self.bounds, e)
     }
 
     fn included(&self, other: &Self) -> Included {

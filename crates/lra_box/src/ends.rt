@@ -1,11 +1,14 @@
 //! The ends of a form's values over a box.
 
 ghost use Rattle.std.specs.Prelude.{◌≡◌, length, IfSome};
+ghost use Rattle.lra_domain.specs.declared.Exactness.TheVariants.{Exact};
 ghost use Rattle.lra_linear.specs.Range.{InRange};
 ghost use Rattle.lra_box.specs.Bounds.{times, TimesPasses, end_product, ProductPasses, end_sum, SumPasses, IsBound};
+ghost use Rattle.lra_box.specs.Ends.{IsEnd, PlusEnd};
 
 use crate::interval::{Interval, Side};
 use lra_domain::Exactness;
+use lra_lin::LinExpr;
 use lra_row::{add, mul};
 
 /// A bound, or none, and whether it is none because a number passed the range.
@@ -16,7 +19,8 @@ pub struct Bound {
 }
 
 fn times_bound(c: i128, end: Option<i128>) -> Bound
-    ensures { IsBound (times c end) (TimesPasses c end) result }
+    ensures bound { IsBound (times c end) (TimesPasses c end) result }
+    ensures fits { result.exactness ≡ Exact → ¬ TimesPasses c end }
 {
     match end {
         None => Bound {
@@ -37,7 +41,8 @@ fn times_bound(c: i128, end: Option<i128>) -> Bound
 }
 
 fn product_end(side: Side, c: i128, interval: Interval) -> Bound
-    ensures { IsBound (end_product side c interval) (ProductPasses side c interval) result }
+    ensures bound { IsBound (end_product side c interval) (ProductPasses side c interval) result }
+    ensures fits { result.exactness ≡ Exact → ¬ ProductPasses side c interval }
 {
     if c == 0 {
         return Bound {
@@ -92,4 +97,39 @@ pub fn sum_end(side: Side, constant: i128, coefficients: &[i128], bounds: &[Inte
         value: Some(sum),
         exactness: Exactness::Exact,
     }
+}
+
+/// A sum with the least or the greatest product of a coefficient with a number of the interval; none where there is no
+/// such product, or a number passes the range.
+pub fn plus_end(side: Side, sum: i128, factor: i128, interval: Interval) -> Option<i128>
+    ensures { PlusEnd side sum factor interval result }
+{
+    let product = product_end(side, factor, interval);
+    match product.value {
+        None => None,
+        Some(p) => add(sum, p),
+    }
+}
+
+/// The least or the greatest value of the form over the intervals, as an assignment sums it; none where it has none, or
+/// a number passes the range. Takes no memory.
+pub fn form_end(side: Side, e: &LinExpr, bounds: &[Interval]) -> Option<i128>
+    requires { length e.now.coefficients ≡ length bounds.now }
+    ensures { IsEnd side e.now bounds.now result }
+{
+    let mut sum = e.constant() as i128;
+    let mut factors = e.coefficients();
+    let mut intervals = bounds;
+    while let (Some((factor, factors_left)), Some((interval, intervals_left))) = (
+        factors.split_first(),
+        intervals.split_first(),
+    ) {
+        match plus_end(side, sum, *factor as i128, *interval) {
+            None => return None,
+            Some(more) => sum = more,
+        }
+        factors = factors_left;
+        intervals = intervals_left;
+    }
+    Some(sum)
 }

@@ -4,7 +4,7 @@ ghost use Rattle.std.specs.Prelude.{◌≡◌, ◌↔◌, IsTrue, IfSome};
 ghost use Rattle.lra_linear.specs.Range.{InRange};
 ghost use Rattle.lra_box.specs.Bounds.{crossed, EndsInRange};
 ghost use Rattle.lra_box.specs.Refine.{raised, lowered, tightened};
-ghost use Rattle.lra_box.specs.Tables.{lesser_low, widened_low, LowWithin};
+ghost use Rattle.lra_box.specs.Tables.{widened_low, LowWithin};
 
 /// The whole numbers from `low` to `high`; an end without a bound is open.
 #[derive(Clone, Copy, Debug, PartialEq, Eq)]
@@ -26,15 +26,6 @@ impl Interval {
         low: None,
         high: None,
     };
-}
-
-pub(crate) fn join_lows(a: Option<i128>, b: Option<i128>) -> Option<i128>
-    ensures { result ≡ lesser_low a b }
-{
-    match (a, b) {
-        (Some(a), Some(b)) => Some(a.min(b)),
-        _ => None,
-    }
 }
 
 pub(crate) fn widen_lows(a: Option<i128>, b: Option<i128>) -> Option<i128>

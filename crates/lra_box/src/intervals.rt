@@ -7,9 +7,9 @@ ghost use Rattle.lra_box.specs.Tables.{joined_intervals, widened_intervals, Inte
 ghost use Rattle.lra_box.specs.Answers.{AssignedTo};
 
 use crate::ends::sum_end;
-use crate::interval::{Interval, Side, join_lows, low_within, widen_lows};
+use crate::interval::{Interval, Side, low_within, widen_lows};
 use lra_domain::Exactness;
-use lra_domain::bounds::{count_bound, is_at_most, join_highs, widen_highs};
+use lra_domain::bounds::{count_bound, is_at_most, join_highs, join_lows, widen_highs};
 use std::alloc::{AllocError, Global};
 
 /// The intervals that hold both, one by one.

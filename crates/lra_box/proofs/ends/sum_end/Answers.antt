@@ -3,7 +3,7 @@
 use Rattle.std.proofs.Common.{rules, ◌≡◌, ◌∷◌, ◌∙◌, sym, Some, FitsSigned, to_z}
 use Rattle.std.specs.Int.{w128}
 use Rattle.std.proofs.lemmas.Int.{to_z-of_z}
-use Rattle.lra_box.proofs.SumLemmas.{sum_step}
+use Rattle.lra_box.specs.Sums.{sum_step}
 use Rattle.lra_box.specs.Bounds.{end_product}
 use Rattle.lra_box.proofs.ends.sum_end.Goals as goal
 

@@ -13,7 +13,8 @@ returns-clause-meets c =
     let row : c.as_slice.result.now ≡ c.args.e.now.coefficients = search rules in
     let to = rw (constant, row) at c.assign_in.ensures in
     rw (← c.self.view_is) (record {
-      stores = λ s t h l. rw l (length-set {A = ℤ} s c.args.x _ ∙ h.0, to.stores s h.1);
+      formed = (c.assign_in.ensures.fit c.self.inside.dims c.self.invariant.1, c.assign_in.ensures.sound);
+      keeps = λ s t h l. rw l (length-set {A = ℤ} s c.args.x _ ∙ h.0, to.stores s h.1);
       exact = λ e. record { table = rw (to.exact e) refl; extremes = to.extremes e };
       covers = λ v d. rw d.table (refl, to.covers);
       flagged = to.flagged;

@@ -14,7 +14,11 @@ invariant_of-self-2 c = (
 
 pub returns-clause-meets : goal.returns-clause-meets
 returns-clause-meets c = rw (c.in_ok-embed_in.ensures.ok, ← c.self.view_is) (record {
-  stores = λ s t h k. rw k.2 (length-append s k.0 ∙ both h.0 k.1, has_embedded c.args.k (seen c.self.inside.bounds) s k.0 k.1 h.1);
+  formed = (
+    embedded_fit c.self.inside.dims c.args.k (seen c.self.inside.bounds) c.self.invariant.1,
+    embedded_sound c.args.k (seen c.self.inside.bounds) c.self.invariant.2,
+  );
+  keeps = λ s t h k. rw k.2 (length-append s k.0 ∙ both h.0 k.1, has_embedded c.args.k (seen c.self.inside.bounds) s k.0 k.1 h.1);
   exact = λ e. record { table = refl; extremes = tt };
   covers = λ v d. rw d.table (refl, within_refl _);
   flagged = λ e. cc;

@@ -17,7 +17,11 @@ invariant_of-self c = (
 
 pub returns-clause-meets : goal.returns-clause-meets
 returns-clause-meets c = rw (c.forget_in.ensures, ← c.self.view_is) (record {
-  stores = λ s t h k. rw k.1 (length-set {A = ℤ} s c.args.x k.0 ∙ h.0, has_forgotten c.args.x _ s k.0 h.1);
+  formed = (
+    set_fit c.self.inside.dims c.args.x open_interval (seen c.self.inside.bounds) c.self.invariant.1,
+    forgotten_sound c.args.x (seen c.self.inside.bounds) c.self.invariant.2,
+  );
+  keeps = λ s t h k. rw k.1 (length-set {A = ℤ} s c.args.x k.0 ∙ h.0, has_forgotten c.args.x _ s k.0 h.1);
   exact = λ e. record { table = refl; extremes = tt };
   covers = λ v d. rw d.table (refl, within_refl _);
   flagged = λ e. cc;

@@ -29,8 +29,15 @@ returns-clause-grew c = λ a e.
     let same : c.next.inside.dims ≡ c.head.inside.dims = ap (λ (b : Content). b.dims) c.next.view_is ∙ sym c.requires ∙ sym (ap (λ (b : Content). b.dims) c.head.view_is) in
     let fit : BoundsFit c.head.inside.dims (seen c.next.inside.bounds) = rw (← same) c.next.invariant.1 in
     rw (c.in_ok-grown.ensures, ← c.head.view_is, ← c.next.view_is) (record {
-      kept = λ s h. (h.0, has_grown_old c.args.mode c.head.inside.dims _ _ s c.head.invariant.1 fit h.1);
-      added = λ s h. (h.0 ∙ same, has_grown_new c.args.mode c.head.inside.dims _ _ s c.head.invariant.1 fit h.1);
+      formed = (
+        grown_fit c.args.mode c.head.inside.dims (seen c.head.inside.bounds) (seen c.next.inside.bounds) c.head.invariant.1 fit,
+        grown_sound c.args.mode (seen c.head.inside.bounds) (seen c.next.inside.bounds) c.head.invariant.2 c.next.invariant.2,
+      );
+      both = (
+        λ s h. (h.0, has_grown_old c.args.mode c.head.inside.dims _ _ s c.head.invariant.1 fit h.1),
+        λ s h. (h.0 ∙ same, has_grown_new c.args.mode c.head.inside.dims _ _ s c.head.invariant.1 fit h.1),
+      );
+      left = tt;
       covers = λ h d. rw d (refl, within_refl _);
       moved = λ x w. absurd (false≢true (rw c.if-is_within.false at (c.is_within.ensures.1 w.1)));
       exact = λ x. refl;

@@ -20,6 +20,10 @@ returns-clause-joins c =
     let same : c.other.inside.dims ≡ c.self.inside.dims = ap (λ (b : Content). b.dims) c.other.view_is ∙ sym c.requires ∙ sym (ap (λ (b : Content). b.dims) c.self.view_is) in
     let fit : BoundsFit c.self.inside.dims (seen c.other.inside.bounds) = rw (← same) c.other.invariant.1 in
     rw (c.in_ok-joined.ensures, ← c.self.view_is, ← c.other.view_is) (record {
+      formed = (
+        joined_fit c.self.inside.dims (seen c.self.inside.bounds) (seen c.other.inside.bounds) c.self.invariant.1 fit,
+        joined_sound (seen c.self.inside.bounds) (seen c.other.inside.bounds) c.self.invariant.2 c.other.invariant.2,
+      );
       left = (refl, left_within c.self.inside.dims _ _ c.self.invariant.1 fit);
       right = (same, right_within c.self.inside.dims _ _ c.self.invariant.1 fit);
       exact = λ e. refl;

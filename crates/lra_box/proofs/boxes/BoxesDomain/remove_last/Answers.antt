@@ -15,7 +15,11 @@ invariant_of-self c =
 
 pub returns-clause-meets : goal.returns-clause-meets
 returns-clause-meets c = rw (c.truncate_in.ensures, ← c.self.view_is) (record {
-  stores = λ s t h k. rw k (taken_length c.self.inside.dims c.args.k s h.0, has_taken c.self.inside.dims c.args.k (seen c.self.inside.bounds) s c.self.invariant.1 h.1);
+  formed = (
+    taken_fit c.self.inside.dims (c.self.inside.dims - c.args.k) (seen c.self.inside.bounds) (omega arith) c.self.invariant.1,
+    taken_sound (c.self.inside.dims - c.args.k) (seen c.self.inside.bounds) c.self.invariant.2,
+  );
+  keeps = λ s t h k. rw k (taken_length c.self.inside.dims c.args.k s h.0, has_taken c.self.inside.dims c.args.k (seen c.self.inside.bounds) s c.self.invariant.1 h.1);
   exact = λ e. record { table = refl; extremes = tt };
   covers = λ v d. rw d.table (refl, within_refl _);
   flagged = λ e. cc;

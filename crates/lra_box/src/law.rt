@@ -1,0 +1,19 @@
+//! A law: the function does nothing, and its contract is the theorem.
+
+ghost use Rattle.std.specs.Prelude.{◌↔◌, ℕ, ℤ, List, length};
+ghost use Rattle.std.specs.List.{Contains};
+ghost use Rattle.lra_linear.specs.Echelon.{IsEchelon};
+ghost use Rattle.lra_linear.specs.RowOrder.{Ascends, inequality_cmp};
+ghost use Rattle.lra_box.specs.declared.interval.Interval.{Interval};
+ghost use Rattle.lra_box.specs.ExactRows.{IsEqualityRow, IsInequalityRow};
+ghost use Rattle.lra_box.specs.Parts.{equal_rows, unequal_rows};
+
+/// The rows of a box are in order, and are exactly its finite bounds; two equal ones are one equality.
+pub fn box_rows_are_bounds()
+    ensures echelon { (is : List Interval) → (pivots : List ℕ) × IsEchelon (equal_rows (length is) 0 is) pivots }
+    ensures ascend { (is : List Interval) → Ascends inequality_cmp (unequal_rows (length is) 0 is) }
+    ensures equalities { (is : List Interval) (r : List ℤ) →
+        (Contains (equal_rows (length is) 0 is) r ↔ IsEqualityRow (length is) is r) }
+    ensures inequalities { (is : List Interval) (r : List ℤ) →
+        (Contains (unequal_rows (length is) 0 is) r ↔ IsInequalityRow (length is) is r) }
+{}
