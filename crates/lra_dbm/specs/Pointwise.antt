@@ -1,5 +1,5 @@
 -- Two matrices of the same variables, cell by cell.
-use Rattle.std.specs.Prelude.{ℕ, ◌+◌, [], ◌∷◌}
+use Rattle.std.specs.Prelude.{ℕ, ◌+◌, ◌<◌, ◌^◌, ℤ, unsigned_abs, Option, None, Some, [], ◌∷◌}
 use Rattle.lra_dbm.specs.Entry.{◌⊑◌}
 use Rattle.lra_dbm.specs.Cells.{Cells}
 use Rattle.lra_domain.specs.Bounds.{finite, greater, stable}
@@ -27,3 +27,12 @@ CellsWithin (c ∷ cs) (d ∷ ds) = (c ⊑ d) × CellsWithin cs ds
 abbrev pub finite_cells : Cells → ℕ
 finite_cells [] = 0
 finite_cells (c ∷ cs) = finite c + finite_cells cs
+
+-- a finite entry is within half of the range, so that the sum of two doesn't pass it
+abbrev pub IsSmall : Option ℤ → Type 0
+IsSmall None = Unit {0}
+IsSmall (Some a) = unsigned_abs a < 2 ^ 126
+
+abbrev pub AreSmall : Cells → Type 0
+AreSmall [] = Unit {0}
+AreSmall (c ∷ cs) = IsSmall c × AreSmall cs

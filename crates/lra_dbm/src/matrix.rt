@@ -6,14 +6,14 @@ ghost use Rattle.lra_linear.specs.Range.{InRange};
 ghost use Rattle.lra_dbm.specs.Cells.{IsMatrix, entered, entry_at, outside, forgotten, first_entries, size};
 ghost use Rattle.lra_dbm.specs.Steps.{progress};
 ghost use Rattle.lra_dbm.specs.Closing.{Closes, closing};
-ghost use Rattle.lra_dbm.specs.Pointwise.{CellsWithin, greater_cells, stable_cells, finite_cells};
+ghost use Rattle.lra_dbm.specs.Pointwise.{AreSmall, CellsWithin, greater_cells, stable_cells, finite_cells};
 ghost use Rattle.lra_dbm.specs.Closure.{LeastJoin};
 ghost use Rattle.lra_dbm.specs.Answers.{is_empty, is_flagged};
 ghost use Rattle.lra_dbm.specs.Shifting.{ShiftedTo};
 
 use crate::cells::{enter, entry};
 use crate::clearing::{clear, grow, shrink};
-use crate::pointwise::{all_within, count_cells, join_cells, widen_cells};
+use crate::pointwise::{all_within, are_small, count_cells, join_cells, widen_cells};
 use crate::shifting::{Shift, shift_cells};
 use crate::steps::close;
 use lra_domain::Exactness;
@@ -81,6 +81,13 @@ impl Matrix {
         ensures { result ≡ entry_at self.now i j }
     {
         entry(self.dims, &self.cells, i, j)
+    }
+
+    /// Whether each finite entry is within half of the range, so that no sum of two passes it.
+    pub fn is_small(&self) -> bool
+        ensures { IsTrue result ↔ AreSmall self.now.cells }
+    {
+        are_small(&self.cells)
     }
 
     /// The entry at `i` and `j` and its coherent twin become the lesser of themselves and `k`.

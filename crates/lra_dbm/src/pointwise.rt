@@ -3,7 +3,7 @@
 ghost use Rattle.std.specs.Prelude.{◌≡◌, ◌≤◌, ◌^◌, ◌*◌, ◌↔◌, ℕ, pos, Some, length, IsTrue, IfOk};
 ghost use Rattle.lra_dbm.specs.Cells.{size, entries, IsMatrix};
 ghost use Rattle.lra_dbm.specs.Pointwise.{greater_cells, stable_cells};
-ghost use Rattle.lra_dbm.specs.Pointwise.{CellsWithin, finite_cells};
+ghost use Rattle.lra_dbm.specs.Pointwise.{AreSmall, CellsWithin, IsSmall, finite_cells};
 ghost use Rattle.lra_dbm.specs.Closure.{LeastJoin};
 
 use lra_domain::bounds::{count_bound, is_at_most, join_highs, widen_highs};
@@ -131,4 +131,28 @@ pub fn count_cells(n: usize, cells: &[Option<i128>]) -> u64
     ensures most { result ≤ size n }
 {
     count_all(cells)
+}
+
+/// Whether the entry, if it is finite, is within half of the range.
+fn is_small(entry: Option<i128>) -> bool
+    ensures { IsTrue result ↔ IsSmall entry }
+{
+    match entry {
+        None => true,
+        Some(number) => number.unsigned_abs() < 1 << 126,
+    }
+}
+
+/// Whether each is.
+pub fn are_small(cells: &[Option<i128>]) -> bool
+    ensures { IsTrue result ↔ AreSmall cells.now }
+{
+    let mut left = cells;
+    while let Some((cell, later)) = left.split_first() {
+        if !is_small(*cell) {
+            return false;
+        }
+        left = later;
+    }
+    true
 }
