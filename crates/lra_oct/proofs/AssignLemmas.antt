@@ -23,7 +23,7 @@ use Rattle.lra_box.specs.Tables.{IntervalsWithin}
 use Rattle.lra_box.specs.Covering.{intervals_within_refl}
 use Rattle.lra_box.proofs.WithinLemmas.{OneWithin, set_within}
 use Rattle.lra_box.proofs.BoxLemmas.{bound_holds}
-use Rattle.lra_box.proofs.SumLemmas.{end_sum_holds}
+use Rattle.lra_box.specs.Sums.{end_sum_holds}
 use Rattle.lra_box.proofs.AssignLemmas.{low_covers, high_covers}
 use Rattle.lra_dbm.specs.Answers.{is_flagged}
 use Rattle.lra_dbm.specs.Entry.{◌⊑◌, ◌⊞◌}
@@ -39,7 +39,6 @@ use Rattle.lra_dbm.proofs.Closed.{signed_opposite}
 use Rattle.lra_dbm.proofs.Clears.{in_pair, opposite_plus}
 use Rattle.lra_dbm.proofs.Shifts.{added_plus, added_minus, added_other, source_other, source_below, shifted_diagonal}
 use Rattle.lra_dbm.proofs.PointwiseLemmas.{within_refl, entries_within}
-use Rattle.lra_dbm.proofs.Closures.{same_entries_cells}
 use Rattle.lra_oct.specs.declared.assigning.Assignment.{Assignment}
 use Rattle.lra_oct.specs.declared.assigning.Assignment.TheVariants.{Equate, Shift, Bound}
 use Rattle.lra_oct.specs.declared.forms.Shape.{Shape}
@@ -50,10 +49,13 @@ use Rattle.lra_oct.specs.Tables.{upper_of, upper, alone, intervals, form_interva
 use Rattle.lra_oct.specs.Closed.{EquatedTo}
 use Rattle.lra_oct.specs.Answers.{AssignedTo, ConfinedTo}
 use Rattle.lra_oct.specs.Meaning.{octagon_meaning}
+use Rattle.lra_oct.specs.Single.{one_forgets}
 use Rattle.lra_oct.proofs.StoreLemmas.{signed_other, forgotten_store}
 use Rattle.lra_oct.proofs.EnterLemmas.{entered_store}
-use Rattle.lra_oct.proofs.FormLemmas.{one_value, one_in_range, plus_value, minus_value}
-use Rattle.lra_oct.proofs.UnaryLemmas.{in_intervals, side_holds, length_intervals}
+use Rattle.lra_oct.proofs.FormLemmas.{one_in_range}
+use Rattle.lra_oct.specs.FormValues.{one_value, plus_value, minus_value}
+use Rattle.lra_oct.proofs.UnaryLemmas.{side_holds}
+use Rattle.lra_oct.specs.StoreBounds.{in_intervals, length_intervals}
 use Rattle.lra_oct.proofs.TestLemmas.{none_below, closed_below}
 use Rattle.lra_oct.proofs.OtherLemmas.{bounds_below}
 
@@ -77,7 +79,7 @@ pub record IsShift (x : ℕ) (flips : Bool) (s : Shape) : Type 0 where
   pub own : signed / 2 ≡ x
   pub sign : flips ≡ (signed % 2 == 1)
 
-is_shift : (x : ℕ) (flips : Bool) (s : Shape) → Shift flips ≡ assignment_of x s → IsShift x flips s
+pub is_shift : (x : ℕ) (flips : Bool) (s : Shape) → Shift flips ≡ assignment_of x s → IsShift x flips s
 is_shift x flips Constant e = absurd (cc)
 is_shift x flips (Two m j k) e = absurd (cc)
 is_shift x flips Other e = absurd (cc)
@@ -100,9 +102,6 @@ set_minus s x v h = minus_value (slice_set s x v) x ∙ ap neg_ℤ (entry_set_sa
 
 one_times : (x p : ℤ) → p ≡ pos 1 *ℤ x → p ≡ x
 one_times x p e = e ∙ omega (arith, ints)
-
-one_forgets : (n x : ℕ) (old a b : Cells) → Forgets n x old a → Forgets n x old b → a ≡ b
-one_forgets n x old a b p q = same_entries_cells n a b p.is.full q.is.full (λ i j h k. p.entries i j ∙ sym (q.entries i j))
 
 entered_up : (a b v c : ℤ) → a ≡ v → v ≡ c +ℤ b → Some (a -ℤ b) ⊑ Some c
 entered_up a b v c e f = record { at_most = omega (arith, ints) }
@@ -162,7 +161,7 @@ own_value flips s x i own sign = elim (in_pair x i own) [
       ))
 ]
 
-shifted_value : (flips : Bool) (s : List ℤ) (x i : ℕ) (c v : ℤ) (a : ℕ) → x < length s → i / 2 ≡ x → flips ≡ (i % 2 == 1) → v ≡ c +ℤ signed_value s i
+pub shifted_value : (flips : Bool) (s : List ℤ) (x i : ℕ) (c v : ℤ) (a : ℕ) → x < length s → i / 2 ≡ x → flips ≡ (i % 2 == 1) → v ≡ c +ℤ signed_value s i
     → signed_value (slice_set s x v) a ≡ signed_value s (origin flips x a) +ℤ added_to x c a
 shifted_value flips s x i c v a wide own sign is = elim (eqb_tells (a / 2) x) [
   | inr f ↦ signed_other s x a v f.1 ∙ plus_none (signed_value s a) ∙ ap (λ z. signed_value s z +ℤ pos 0) (sym (source_other flips x a f.1))
@@ -187,7 +186,7 @@ shifted_value flips s x i c v a wide own sign is = elim (eqb_tells (a / 2) x) [
 difference_moves : (a b p q d e : ℤ) → a ≡ p +ℤ d → b ≡ q +ℤ e → Some (a -ℤ b) ≡ Some (p -ℤ q) ⊞ Some (d -ℤ e)
 difference_moves a b p q d e f g = ap Some (omega (arith, ints))
 
-shifted_store : (n : ℕ) (flips : Bool) (x i : ℕ) (c v : ℤ) (old new : Cells) (p : Bool) (s : List ℤ) → x < n → i / 2 ≡ x → flips ≡ (i % 2 == 1)
+pub shifted_store : (n : ℕ) (flips : Bool) (x i : ℕ) (c v : ℤ) (old new : Cells) (p : Bool) (s : List ℤ) → x < n → i / 2 ≡ x → flips ≡ (i % 2 == 1)
     → ShiftedTo n flips x c old new p → IsStore n (entries n old) s → v ≡ c +ℤ signed_value s i → IsStore n (entries n new) (slice_set s x v)
 shifted_store n flips x i c v old new p s place own sign to store is =
     let wide : x < length s = (let w = store.width in omega arith) in record {
@@ -310,7 +309,8 @@ assigned_bound n x e old low high new u w z place width is_low is_high to both e
 
 pub meets_nothing : (n x : ℕ) (e : Form) → Meets octagon_meaning (assign x e) (content n None) Exact (content n None)
 meets_nothing n x e = record {
-  stores = λ s t h k. absurd h;
+  formed = tt;
+  keeps = λ s t h k. absurd h;
   covers = λ v d. (d.0, none_below v.cells None d.1);
   exact = λ f. (refl, refl);
   flagged = λ f. absurd (cc);
@@ -326,7 +326,8 @@ assigned_as n x e k cs old new u p q to =
 meets_assign : (n x : ℕ) (e : Form) (old : Cells) (new : Option Cells) (u : Exactness) → AssignedTo n x e (assignment_of x (shape e)) old new u
     → Meets octagon_meaning (assign x e) (content n (Some old)) u (content n new)
 meets_assign n x e old new u to = record {
-  stores = λ s t h k. subst (λ (l : List ℤ). has_store n new l) (sym k) (to.stores s h);
+  formed = to.fit;
+  keeps = λ s t h k. subst (λ (l : List ℤ). has_store n new l) (sym k) (to.stores s h);
   covers = λ v d. (d.0, to.covers v.cells d.1);
   exact = λ f. (refl, to.exact f);
   flagged = to.flagged;

@@ -5,9 +5,13 @@ pub mod MeetsLemmas
 pub mod EnterLemmas
 pub mod FormLemmas
 pub mod UnaryLemmas
+pub mod ToldLemmas
 pub mod TestLemmas
 pub mod OtherLemmas
 pub mod AssignLemmas
+pub mod TightLemmas
+pub mod MarkLemmas
 pub mod PartLemmas
 pub mod MeanLemmas
+pub mod RowLemmas
 pub mod LeastLemmas

@@ -21,34 +21,38 @@ use Rattle.lra_oct.specs.Heads.{joined_cells, widened_cells, grown_cells, rank_n
 use Rattle.lra_oct.specs.Meaning.{octagon_meaning}
 use Rattle.lra_oct.specs.Laws.{octagon_wider, same_within}
 use Rattle.lra_oct.proofs.FitLemmas.{bounds_self}
-use Rattle.lra_oct.proofs.StoreLemmas.{becomes_forgotten, becomes_embedded, becomes_first, one_becomes}
+use Rattle.lra_oct.specs.Single.{one_becomes}
+use Rattle.lra_oct.proofs.StoreLemmas.{becomes_forgotten, becomes_embedded, becomes_first}
 
 exact_flagged : {A : Type 0} → Exact ≡ Flagged → A
 exact_flagged e = absurd (cc)
 
-covers_same : (n : ℕ) (a b : Option Cells) (v : Content) → v.dims ≡ n → v.cells ≡ b → OctagonWithin v (content n b)
+pub covers_same : (n : ℕ) (a b : Option Cells) (v : Content) → v.dims ≡ n → v.cells ≡ b → OctagonWithin v (content n b)
 covers_same n a b v e f = (e, subst (λ (o : Option Cells). BoundsWithin v.cells o) f (bounds_self v.cells))
 
-pub meets_forget : (n x : ℕ) (old new : Option Cells) → Becomes n (forgotten x) n old new → Meets octagon_meaning (forget x) (content n old) Exact (content n new)
-meets_forget n x old new b = record {
-  stores = λ s t h k. subst (λ (z : List ℤ). has_store n new z) (sym k.1) (becomes_forgotten n x old new s k.0 b h);
+pub meets_forget : (n x : ℕ) (old new : Option Cells) → CellsFit n new → Becomes n (forgotten x) n old new → Meets octagon_meaning (forget x) (content n old) Exact (content n new)
+meets_forget n x old new fit b = record {
+  formed = fit;
+  keeps = λ s t h k. subst (λ (z : List ℤ). has_store n new z) (sym k.1) (becomes_forgotten n x old new s k.0 b h);
   covers = λ v d. covers_same n v.cells new v d.0 (one_becomes n n (forgotten x) old v.cells new d.1 b);
   exact = λ e. (refl, b);
   flagged = λ e. exact_flagged e;
 }
 
-pub meets_embed : (n k : ℕ) (old new : Option Cells) → Becomes (n + k) (λ m. m) n old new → Meets octagon_meaning (embed k) (content n old) Exact (content (n + k) new)
-meets_embed n k old new b = record {
-  stores = λ s t h l. subst (λ (z : List ℤ). has_store (n + k) new z) (sym l.2) (becomes_embedded n k old new s l.0 l.1 b h);
+pub meets_embed : (n k : ℕ) (old new : Option Cells) → CellsFit (n + k) new → Becomes (n + k) (λ m. m) n old new → Meets octagon_meaning (embed k) (content n old) Exact (content (n + k) new)
+meets_embed n k old new fit b = record {
+  formed = fit;
+  keeps = λ s t h l. subst (λ (z : List ℤ). has_store (n + k) new z) (sym l.2) (becomes_embedded n k old new s l.0 l.1 b h);
   covers = λ v d. covers_same (n + k) v.cells new v d.0 (one_becomes (n + k) n (λ m. m) old v.cells new d.1 b);
   exact = λ e. (refl, b);
   flagged = λ e. exact_flagged e;
 }
 
-pub meets_remove : (n k : ℕ) (old new : Option Cells) → k ≤ n → Becomes (n - k) (first_entries (n - k)) n old new
+pub meets_remove : (n k : ℕ) (old new : Option Cells) → k ≤ n → CellsFit (n - k) new → Becomes (n - k) (first_entries (n - k)) n old new
     → Meets octagon_meaning (remove_last k) (content n old) Exact (content (n - k) new)
-meets_remove n k old new less b = record {
-  stores = λ s t h l. subst (λ (z : List ℤ). has_store (n - k) new z) (sym l) (becomes_first n k old new s less b h);
+meets_remove n k old new less fit b = record {
+  formed = fit;
+  keeps = λ s t h l. subst (λ (z : List ℤ). has_store (n - k) new z) (sym l) (becomes_first n k old new s less b h);
   covers = λ v d. covers_same (n - k) v.cells new v d.0 (one_becomes (n - k) n (first_entries (n - k)) old v.cells new d.1 b);
   exact = λ e. (refl, b);
   flagged = λ e. exact_flagged e;
@@ -66,15 +70,6 @@ right_bounds n None b f g = bounds_self b
 right_bounds n (Some cs) None f g = tt
 right_bounds n (Some cs) (Some ds) f g = right_within cs ds (f.is.full ∙ sym g.is.full)
 
-pub joins : (n : ℕ) (a b : Option Cells) → CellsFit n a → CellsFit n b → Joins octagon_meaning (content n a) (content n b) Exact (content n (joined_cells a b))
-joins n a b f g = record {
-  left = (refl, left_bounds n a b f g);
-  right = (refl, right_bounds n a b f g);
-  covers = λ v d. same_within v (content n (joined_cells a b)) d;
-  exact = λ e. refl;
-  flagged = λ e. exact_flagged e;
-}
-
 zero_greater : (o p : Option ℤ) → o ≡ Some (pos 0) → p ≡ Some (pos 0) → (greater o p) ≡ Some (pos 0)
 zero_greater o p e f = rw (e, f) refl
 
@@ -84,6 +79,16 @@ joined_fit n (Some cs) None f g = f
 joined_fit n (Some cs) (Some ds) f g = record {
   is = greater_matrix n cs ds f.is g.is;
   diagonal = λ i. entries_greater n cs ds i i ∙ zero_greater (entries n cs i i) (entries n ds i i) (f.diagonal i) (g.diagonal i);
+}
+
+pub joins : (n : ℕ) (a b : Option Cells) → CellsFit n a → CellsFit n b → Joins octagon_meaning (content n a) (content n b) Exact (content n (joined_cells a b))
+joins n a b f g = record {
+  formed = joined_fit n a b f g;
+  left = (refl, left_bounds n a b f g);
+  right = (refl, right_bounds n a b f g);
+  covers = λ v d. same_within v (content n (joined_cells a b)) d;
+  exact = λ e. refl;
+  flagged = λ e. exact_flagged e;
 }
 
 pub widened_fit : (n : ℕ) (a b : Option Cells) → CellsFit n a → CellsFit n b → CellsFit n (widened_cells a b)
@@ -156,6 +161,7 @@ below_closed n h (Some cs) (Some ds) e p q = tight_within n cs ds p.is p.tight q
 
 pub values : (n : ℕ) (h : Cells) (a : Option Cells) (e : Exactness) → IsMatrix n h → ClosedTo n h a e → Values octagon_meaning (content n (Some h)) e (content n a)
 values n h a e is closed = record {
+  formed = closed.fit;
   stores = λ s k. closed.stores s k;
   covers = λ v d. (d.0, below_closed n h v.cells a e d.1.1 closed);
   exact = λ x. (refl, (is, closed.exact x));
@@ -164,6 +170,7 @@ values n h a e is closed = record {
 
 pub no_value : (n : ℕ) → Values octagon_meaning (content n None) Exact (content n None)
 no_value n = record {
+  formed = tt;
   stores = λ s k. k;
   covers = λ v d. (d.0, subst (λ (o : Option Cells). BoundsWithin o None) (sym d.1) tt);
   exact = λ x. (refl, refl);
@@ -185,8 +192,12 @@ closed_value_of n b m k a e is same fit closed =
 pub grows : (mode : Mode) (n : ℕ) (h a : Option Cells) (x : Exactness) → x ≢ Flagged → CellsFit n h → CellsFit n a → ¬ BoundsWithin a h
     → Grew octagon_meaning (content n h) (content n a) mode x (content n (grown_cells mode h a))
 grows mode n h a x never f g w = record {
-  kept = octagon_wider (content n h) (content n (grown_cells mode h a)) (refl, grown_old mode n h a f g);
-  added = octagon_wider (content n a) (content n (grown_cells mode h a)) (refl, grown_new mode n h a f g);
+  formed = grown_fit mode n h a f g;
+  both = (
+    octagon_wider (content n h) (content n (grown_cells mode h a)) (refl, grown_old mode n h a f g),
+    octagon_wider (content n a) (content n (grown_cells mode h a)) (refl, grown_new mode n h a f g),
+  );
+  left = tt;
   covers = λ v d. same_within v (content n (grown_cells mode h a)) d;
   moved = λ e k. w k.1;
   exact = λ e. refl;

@@ -30,7 +30,8 @@ use Rattle.lra_oct.specs.Closed.{ClosedTo}
 use Rattle.lra_oct.specs.Entering.{BoundsAll, BoundedTo}
 use Rattle.lra_oct.specs.Answers.{TestedTo}
 use Rattle.lra_oct.proofs.TestLemmas.{none_below}
-use Rattle.lra_oct.proofs.UnaryLemmas.{in_intervals, intervals_wider, upper_holds, upper_wider, bounded_back, same_entries_closure}
+use Rattle.lra_oct.proofs.UnaryLemmas.{intervals_wider, upper_holds, upper_wider, bounded_back, same_entries_closure}
+use Rattle.lra_oct.specs.StoreBounds.{in_intervals}
 
 -- ---- a variable occurs
 

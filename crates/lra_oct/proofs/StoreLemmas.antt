@@ -12,7 +12,6 @@ use Rattle.lra_dbm.specs.Tight.{Entries, with_sign, signed_value, IsStore}
 use Rattle.lra_dbm.specs.Cells.{Cells, entries, outside, forgotten, first_entries}
 use Rattle.lra_dbm.proofs.EntryLemmas.{le_same, le_none, le_trans}
 use Rattle.lra_dbm.proofs.CellLemmas.{inside_or_out}
-use Rattle.lra_dbm.proofs.Closures.{same_entries_cells}
 use Rattle.lra_oct.specs.Content.{has_store}
 use Rattle.lra_oct.specs.Tables.{Becomes}
 
@@ -33,11 +32,11 @@ pub signed_other : (s : List ℤ) (x i : ℕ) (v : ℤ) → i / 2 ≢ x → sign
 unfolding signed_value
 signed_other s x i v ne = ap (with_sign (i % 2)) (entry_set_other s x (i / 2) v ne)
 
-signed_append : (s t : List ℤ) (i : ℕ) → i < 2 * length s → signed_value (s ++ t) i ≡ signed_value s i
+pub signed_append : (s t : List ℤ) (i : ℕ) → i < 2 * length s → signed_value (s ++ t) i ≡ signed_value s i
 unfolding signed_value
 signed_append s t i h = ap (with_sign (i % 2)) (number_append s t (i / 2) (omega arith))
 
-signed_take : (m : ℕ) (s : List ℤ) (i : ℕ) → i < 2 * m → signed_value (take m s) i ≡ signed_value s i
+pub signed_take : (m : ℕ) (s : List ℤ) (i : ℕ) → i < 2 * m → signed_value (take m s) i ≡ signed_value s i
 unfolding signed_value
 signed_take m s i h = ap (with_sign (i % 2)) (number_take m s (i / 2) (omega arith))
 
@@ -79,7 +78,7 @@ becomes_forgotten n x (Some old) (Some new) s v b h = forgotten_store n x (entri
 
 -- ---- variables that come or go
 
-embedded_store : (n k : ℕ) (old new : Cells) (s t : List ℤ) → length t ≡ k → ((i j : ℕ) → entries (n + k) new i j ≡ entries n old i j)
+pub embedded_store : (n k : ℕ) (old new : Cells) (s t : List ℤ) → length t ≡ k → ((i j : ℕ) → entries (n + k) new i j ≡ entries n old i j)
     → IsStore n (entries n old) s → IsStore (n + k) (entries (n + k) new) (s ++ t)
 embedded_store n k old new s t long e is = record {
   width = length-append s t ∙ (let w = is.width in omega (arith, w, long));
@@ -107,7 +106,7 @@ length_taken zero s h = refl
 length_taken (suc m) [] h = absurd (omega arith)
 length_taken (suc m) (y ∷ s) h = omega (arith, length_taken m s (omega arith))
 
-first_store : (n k : ℕ) (old new : Cells) (s : List ℤ) → k ≤ n → ((i j : ℕ) → entries k new i j ≡ first_entries k (entries n old) i j)
+pub first_store : (n k : ℕ) (old new : Cells) (s : List ℤ) → k ≤ n → ((i j : ℕ) → entries k new i j ≡ first_entries k (entries n old) i j)
     → IsStore n (entries n old) s → IsStore k (entries k new) (take k s)
 first_store n k old new s less e is = record {
   width = length_taken k s (let w = is.width in omega arith);
@@ -128,11 +127,3 @@ becomes_first n k None new s less b h = absurd h
 becomes_first n k (Some old) None s less b h = absurd b
 becomes_first n k (Some old) (Some new) s less b h =
     subst (λ (w : ℕ). IsStore (n - k) (entries (n - k) new) (take (w - k) s)) (sym h.width) (first_store n (n - k) old new s (omega arith) b.1 h)
-
--- ---- there is one such result
-
-pub one_becomes : (k n : ℕ) (f : Entries → Entries) (old a b : Option Cells) → Becomes k f n old a → Becomes k f n old b → a ≡ b
-one_becomes k n f None a b p q = p ∙ sym q
-one_becomes k n f (Some old) None b p q = absurd p
-one_becomes k n f (Some old) (Some cs) None p q = absurd q
-one_becomes k n f (Some old) (Some cs) (Some ds) p q = ap Some (same_entries_cells k cs ds p.0.full q.0.full (λ i j h l. p.1 i j ∙ sym (q.1 i j)))

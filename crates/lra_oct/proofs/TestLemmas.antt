@@ -36,7 +36,7 @@ use Rattle.lra_oct.specs.Answers.{MatrixFits, TestedTo}
 use Rattle.lra_oct.specs.Meaning.{octagon_meaning}
 use Rattle.lra_oct.proofs.EnterLemmas.{entered_store}
 use Rattle.lra_oct.proofs.FitLemmas.{bounds_self}
-use Rattle.lra_oct.proofs.FormLemmas.{constant_value, one_value, two_value}
+use Rattle.lra_oct.specs.FormValues.{constant_value, one_value, two_value}
 
 -- ---- entered bounds
 
@@ -181,7 +181,8 @@ same_fits n a b e fits = subst (λ (o : Option Cells). MatrixFits n o) (sym e) f
 
 pub meets_ge : (n : ℕ) (e : Form) (old new : Option Cells) (x : Exactness) → CellsFit n old → TestedTo n e (shape e) old new x → Meets octagon_meaning (test Ge e) (content n old) x (content n new)
 meets_ge n e old new x fit tested = record {
-  stores = λ s t h k. subst (λ (z : List ℤ). has_store n new z) (sym k.1) (tested.stores s h k.0);
+  formed = tested.fit;
+  keeps = λ s t h k. subst (λ (z : List ℤ). has_store n new z) (sym k.1) (tested.stores s h k.0);
   covers = λ v d. (d.0, tested.covers old v.cells (matrix_fits n old fit) (bounds_self old) d.1);
   exact = λ f. (refl, tested.exact f);
   flagged = tested.flagged;
@@ -207,7 +208,8 @@ pub meets_eq : (n : ℕ) (e : Form) (old mid new : Option Cells) (x y z : Exactn
     → (z ≡ Exact → (x ≡ Exact) × (y ≡ Exact)) → (z ≡ Flagged → (x ≡ Flagged) ⊎ ((x ≡ Exact) × (y ≡ Flagged)))
     → Meets octagon_meaning (test Eq e) (content n old) z (content n new)
 meets_eq n e old mid new x y z fit one two both either = record {
-  stores = λ s t h k.
+  formed = two.fit;
+  keeps = λ s t h k.
       let w = zero_both e.constant (product e.coefficients s) (product (map neg_ℤ e.coefficients) s) (form_value e s) refl k.0 (product_negated e.coefficients s) in
       subst (λ (l : List ℤ). has_store n new l) (sym k.1) (two.stores s (one.stores s h w.0) w.1);
   covers = λ v d. (

@@ -25,7 +25,6 @@ use Rattle.lra_box.specs.Tables.{LowWithin, IntervalsWithin}
 use Rattle.lra_box.proofs.WithinLemmas.{OneWithin, at_within}
 use Rattle.lra_box.proofs.RefineLemmas.{in_at}
 use Rattle.lra_oct.specs.Tables.{interval, intervals_from, intervals, some_crossed, upper_of, upper, bounded}
-use Rattle.lra_oct.proofs.FormLemmas.{plus_value, minus_value}
 use Rattle.lra_domain.specs.Bounds.{AtMost}
 
 both_parts : (is js ks : List Interval) → is ++ (js ++ ks) ≡ (is ++ js) ++ ks
@@ -58,48 +57,6 @@ pub intervals_end : (n : ℕ) (m : Entries) (k : ℕ) (is : List Interval) → k
     is ≡ intervals n m
 intervals_end n m k is e read = let none : n - k ≡ 0 = omega arith in sym
     (read.all_is ∙ ap (λ z. is ++ intervals_from m k z) none ∙ nothing_more is)
-
--- ---- the stores of a matrix lie in its intervals
-
-half_high : (o : Option ℤ) (x : ℤ) → Some (x -ℤ neg_ℤ x) ⊑ o → BoundHolds High (half_of o) x
-half_high None x h = tt
-half_high (Some a) x h = let p = h.at_most in let b = half_bounds a in omega (arith, ints)
-
-half_low : (o : Option ℤ) (x : ℤ) → Some (neg_ℤ x -ℤ neg_ℤ (neg_ℤ x)) ⊑ o →
-    BoundHolds Low (option_map neg_ℤ (half_of o)) x
-half_low None x h = tt
-half_low (Some a) x h = let p = h.at_most in let b = half_bounds a in omega (arith, ints)
-
-unary_at : (n : ℕ) (m : Entries) (s : List ℤ) (i : ℕ) (x : ℤ) → IsStore n m s → i < 2 * n → signed_value s i ≡ x →
-    Some (x -ℤ neg_ℤ x) ⊑ m (opposite i) i
-unary_at n m s i x h l e = le_trans (le_same (ap (λ z. Some (z -ℤ neg_ℤ z)) (sym e) ∙
-    ap (λ z. Some (signed_value s i -ℤ z)) (sym (signed_opposite s i))))
-    (h.below (opposite i) i (opposite_below n i l) l)
-
-in_interval : (n : ℕ) (m : Entries) (s : List ℤ) (k : ℕ) → IsStore n m s → k < n →
-    InInterval (interval m k) (entry s k)
-in_interval n m s k h l = (
-  half_low (m (opposite (2 * k + 1)) (2 * k + 1)) (entry s k)
-      (unary_at n m s (2 * k + 1) (neg_ℤ (entry s k)) h (omega arith) (minus_value s k)),
-  half_high (m (opposite (2 * k)) (2 * k)) (entry s k)
-      (unary_at n m s (2 * k) (entry s k) h (omega arith) (plus_value s k)),
-)
-
-in_from : (m : Entries) (t : List ℤ) (k n : ℕ) → length t ≡ n →
-    ((j : ℕ) → j < n → InInterval (interval m (k + j)) (entry t j)) → InBounds (intervals_from m k n) t
-in_from m [] k zero e h = tt
-in_from m [] k (suc n) e h = absurd (omega arith)
-in_from m (x ∷ t) k zero e h = absurd (omega arith)
-in_from m (x ∷ t) k (suc n) e h =
-    let here : k + 0 ≡ k = omega arith in (
-      subst (λ z. InInterval (interval m z) x) here (h 0 (omega arith)),
-      in_from m t (suc k) n (omega arith) (λ j l. let later : k + suc j ≡ suc k + j = omega arith in subst
-          (λ z. InInterval (interval m z) (entry t j)) later (h (suc j) (omega arith))),
-    )
-
-pub in_intervals : (n : ℕ) (m : Entries) (s : List ℤ) → IsStore n m s → InBounds (intervals n m) s
-in_intervals n m s h = in_from m s 0 n h.width (λ j l. let same : j ≡ 0 + j = omega arith in subst
-    (λ z. InInterval (interval m z) (entry s j)) same (in_interval n m s j h l))
 
 -- ---- a narrower matrix has narrower intervals
 
@@ -248,10 +205,3 @@ pub intervals_sound : (n : ℕ) (cells : Cells) (is : List Interval) → IsMatri
     is ≡ intervals n (entries n cells) → some_crossed is ≡ false → AllSound is
 intervals_sound n cells is fit e h = subst (λ z. AllSound z) (sym e)
     (sound_from n cells 0 n fit (ap some_crossed (sym e) ∙ h))
-
-length_from : (m : Entries) (k n : ℕ) → length (intervals_from m k n) ≡ n
-length_from m k zero = refl
-length_from m k (suc n) = ap suc (length_from m (suc k) n)
-
-pub length_intervals : (n : ℕ) (m : Entries) → length (intervals n m) ≡ n
-length_intervals n m = length_from m 0 n

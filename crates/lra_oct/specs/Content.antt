@@ -23,6 +23,10 @@ abbrev pub CellsFit : ℕ → Option Cells → Type 0
 CellsFit n None = Unit {0}
 CellsFit n (Some cells) = IsOctagon n cells
 
+-- what an octagon holds: its cells are a matrix of its variables, whose diagonal is 0
+abbrev pub OctagonFormed : Content → Type 0
+OctagonFormed a = CellsFit a.dims a.cells
+
 -- the matrix has as many variables
 abbrev pub DimsFit : ℕ → Option Matrix → Type 0
 DimsFit n None = Unit {0}

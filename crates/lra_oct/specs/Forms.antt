@@ -1,6 +1,7 @@
 -- Linear forms, by the variables that occur in them.
-use Rattle.std.specs.Prelude.{ℕ, suc, zero, ◌+◌, ◌*◌, ◌==◌, cond, ℤ, pos, negsuc, List, [], ◌∷◌}
+use Rattle.std.specs.Prelude.{ℕ, suc, zero, ◌+◌, ◌*◌, ◌<◌, ◌^◌, ◌==◌, cond, ℤ, pos, negsuc, List, [], ◌∷◌}
 use Rattle.lra_lin.specs.Form.{Form}
+use Rattle.lra_dbm.specs.Tight.{opposite}
 use Rattle.lra_oct.specs.declared.forms.Shape.{Shape}
 use Rattle.lra_oct.specs.declared.forms.Shape.TheVariants.{Constant, One, Two, Other}
 
@@ -32,3 +33,17 @@ shape_of (t ∷ u ∷ w ∷ ts) = Other
 
 abbrev pub shape : Form → Shape
 shape e = shape_of (terms e)
+
+-- the shape of the opposite form
+abbrev pub opposite_shape : Shape → Shape
+opposite_shape Constant = Constant
+opposite_shape (One m i) = One m (opposite i)
+opposite_shape (Two m i j) = Two m (opposite i) (opposite j)
+opposite_shape Other = Other
+
+-- its signed variables are below this number, and its magnitude is that of a number of the range other than 0
+abbrev pub ShapeFits : ℕ → Shape → Type 0
+ShapeFits b Constant = Unit {0}
+ShapeFits b (One m i) = (i < b) × (0 < m) × (m < 2 ^ 127)
+ShapeFits b (Two m i j) = (i < b) × (j < b) × (0 < m) × (m < 2 ^ 127)
+ShapeFits b Other = Unit {0}

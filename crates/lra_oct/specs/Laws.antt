@@ -1,16 +1,20 @@
 -- The laws of octagons.
-use Rattle.std.proofs.Common.{◌≡◌, ℕ, ◌≤◌, ℤ, List, [], length, Option, None, Some, refl, ap, sym, subst, ◌∙◌, arith}
+use Rattle.std.proofs.Common.{◌≡◌, ◌≢◌, ℕ, ◌≤◌, ℤ, List, [], length, Option, None, Some, refl, ap, sym, subst, ◌∙◌}
+use Rattle.std.proofs.Common.{arith}
 use Rattle.lra_domain.specs.Actions.{Within}
 use Rattle.lra_domain.specs.Laws.{Laws, PlainLaws}
+use Rattle.lra_lin.specs.Form.{Form}
 use Rattle.lra_dbm.specs.Cells.{Cells, entries}
 use Rattle.lra_dbm.proofs.Closures.{same_closure, closure_below, same_entries_cells, all_are_stores, within_stores}
 use Rattle.lra_dbm.proofs.PointwiseLemmas.{within_refl, within_trans, greater_within}
-use Rattle.lra_oct.specs.Content.{Content, has_store, OctagonHas, BoundsWithin, OctagonWithin, IsWhole}
+use Rattle.lra_oct.specs.Content.{Content, OctagonFormed, has_store, OctagonHas, BoundsWithin, OctagonWithin, IsWhole}
 use Rattle.lra_oct.specs.Heads.{joined_cells, ClosesTo}
 use Rattle.lra_oct.specs.Parts.{octagon_parts}
 use Rattle.lra_oct.specs.Meaning.{octagon_meaning}
+use Rattle.lra_oct.specs.Told.{CellsTell}
+use Rattle.lra_oct.specs.ToldLaws.{one_told, told_between}
 
-sized_stores : (n : ℕ) (o : Option Cells) (s : List ℤ) → has_store n o s → length s ≡ n
+pub sized_stores : (n : ℕ) (o : Option Cells) (s : List ℤ) → has_store n o s → length s ≡ n
 sized_stores n None s h = absurd h
 sized_stores n (Some cells) s h = h.width
 
@@ -40,27 +44,38 @@ octagon_wider a b w s h = has_wider b.dims a.cells b.cells s w.1 (subst (λ (n :
 void_has : (n : ℕ) (a : Content) → a ≡ record { dims = n; cells = None } → (s : List ℤ) → ¬ OctagonHas a s
 void_has n a e s h = subst (λ (c : Content). OctagonHas c s) e h
 
+partless_told : (n : ℕ) (o : Option Cells) (f : Form) (l h : Option ℤ) → octagon_parts n o ≡ [] → CellsTell n o f l h
+    → (l ≡ None) × (h ≡ None)
+partless_told n None f l h e told = told
+partless_told n (Some cells) f l h e told = let wrong : ⊥ = cc in absurd wrong
+
 pub octagon_laws : Laws octagon_meaning
 octagon_laws = record {
-  sized = λ v s h. sized_stores v.dims v.cells s h;
-  head_sized = λ h s own. sized_stores h.dims h.cells s own;
+  sized = λ v s fine h. sized_stores v.dims v.cells s h;
+  head_sized = λ h s fine own. sized_stores h.dims h.cells s own;
   universal_dims = λ n cap v w. w.0;
-  universal_stores = λ n cap v w s l. whole_stores v.dims v.cells s
+  universal_stores = λ n cap v fine w s l. whole_stores v.dims v.cells s
       (subst (λ (k : ℕ). IsWhole k v.cells) (sym w.0) w.1) (l ∙ sym w.0);
   void_dims = λ n cap v e. ap (λ (c : Content). c.dims) e;
-  void_stores = λ n cap v e s h. void_has n v e s h;
-  capped_parts = few_parts;
+  void_stores = λ n cap v fine e s h. void_has n v e s h;
+  capped_parts = λ v c some. few_parts v c some;
   universal_capped = λ n cap v some e. some;
   void_capped = λ n cap v some e. some;
-  partless = λ v e s h. partless_has v.dims v.cells s e h;
-  covered_stores = octagon_wider;
-  head_covered_stores = octagon_wider;
-  stays_stores = λ h v mode w. octagon_wider v h w;
+  partless = λ v fine e s h. partless_has v.dims v.cells s e h;
+  bounded_stores = λ v f l h s fine wide told has. told_between v.dims v.cells f l h s wide told has;
+  one_bounded = λ v f l h j k fine told so. one_told v.dims v.cells f l h j k told so;
+  bounded_partless = λ v f l h fine e told. partless_told v.dims v.cells f l h e told;
+  covered_stores = λ a b fine too w. octagon_wider a b w;
+  head_covered_stores = λ a b fine too w. octagon_wider a b w;
+  kept_stores = λ step v w fine too k. k;
+  old_stores = λ old next new fine too k. k.0;
+  next_stores = λ old next new fine too k. k.1;
+  stays_stores = λ h v mode fine too w. octagon_wider v h w;
   answers_yes = λ h v mode w. w;
   answers_no = λ h v mode w. w;
-  given_up_stores = λ old mode new e s l. absurd e;
-  given_up_valued = λ old mode new e. absurd e;
-  given_up_value = λ old mode new v e is. absurd e;
+  given_up_stores = λ old mode new fine too e s l. absurd e;
+  given_up_valued = λ old mode new fine too e. absurd e;
+  given_up_value = λ old mode new v fine too e is. absurd e;
 }
 
 bounds_refl : (a : Option Cells) → BoundsWithin a a
@@ -93,21 +108,25 @@ joined_within : (a b j c : Content)
 joined_within a b j c e v w =
     subst (λ (d : Content). OctagonWithin d c) (sym e) (v.0, least_bounds a.cells b.cells c.cells v.1 w.1)
 
+whole_filled : (k n : ℕ) (o : Option Cells) → IsWhole n o → octagon_parts k o ≢ []
+whole_filled k n None w e = absurd w
+whole_filled k n (Some cells) w e = cc
+
 partless_within : (n k : ℕ) (a b : Option Cells) → BoundsWithin a b → octagon_parts k b ≡ [] → octagon_parts n a ≡ []
 partless_within n k None b w e = refl
 partless_within n k (Some cs) None w e = absurd w
 partless_within n k (Some cs) (Some ds) w e = cc
 
-same_content : (v w : Content) (n : ℕ) → v.dims ≡ n → w.dims ≡ n → v.cells ≡ w.cells → v ≡ w
+pub same_content : (v w : Content) (n : ℕ) → v.dims ≡ n → w.dims ≡ n → v.cells ≡ w.cells → v ≡ w
 same_content v w n e f g = rw (e ∙ sym f, g) refl
 
-whole_cells : (n : ℕ) (a b : Option Cells) → IsWhole n a → IsWhole n b → a ≡ b
+pub whole_cells : (n : ℕ) (a b : Option Cells) → IsWhole n a → IsWhole n b → a ≡ b
 whole_cells n None b p q = absurd p
 whole_cells n (Some cs) None p q = absurd q
 whole_cells n (Some cs) (Some ds) p q = ap Some
     (same_entries_cells n cs ds p.0.full q.0.full (λ i j h k. p.1 i j ∙ sym (q.1 i j)))
 
-one_closed : (n : ℕ) (h a b : Option Cells) → ClosesTo n h a → ClosesTo n h b → a ≡ b
+pub one_closed : (n : ℕ) (h a b : Option Cells) → ClosesTo n h a → ClosesTo n h b → a ≡ b
 one_closed n None a b p q = p ∙ sym q
 one_closed n (Some cells) a b p q = same_closure n (entries n cells) a b p.1 q.1
 
@@ -132,6 +151,8 @@ octagon_plain = record {
   stays_joined = λ h a b j mode e v w. joined_within a b j h e v w;
   stays_value = λ h v mode e. (e.0, closed_within h.dims h.cells v.cells e.1);
   stays_started = λ h v given mode e. same_within v h (sym e);
+  started_formed = λ h v given e fine. subst OctagonFormed e fine;
+  universal_filled = λ n cap v w. whole_filled v.dims n v.cells w.1;
   started_stores = λ h v given e. octagon_wider h v (same_within h v e);
   rank_first = λ h. refl;
 }

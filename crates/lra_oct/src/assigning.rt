@@ -33,7 +33,7 @@ pub enum Assignment {
 }
 
 /// What an assignment of a form of this shape does.
-fn assignment_of(x: usize, shape: Shape) -> Assignment
+pub(crate) fn assignment_of(x: usize, shape: Shape) -> Assignment
     ensures { result ≡ assignment_of x shape }
 {
     match shape {

@@ -23,7 +23,7 @@ fn signed_of(k: usize, factor: i128) -> usize
 }
 
 /// The shape of a form with one more coefficient, of `x_k`.
-fn with_coefficient(shape: Shape, k: usize, factor: i128) -> Shape
+pub(crate) fn with_coefficient(shape: Shape, k: usize, factor: i128) -> Shape
     requires few { k < 2 ^ 60 }
     ensures { (ts : List Term) → shape ≡ shape_of ts → result ≡ shape_of (ts ++ terms_at k factor []) }
 {

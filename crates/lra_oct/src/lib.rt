@@ -5,9 +5,13 @@ mod assigning;
 mod bounds;
 mod closing;
 mod forms;
+mod law;
 mod octagon;
 mod parts;
+mod telling;
 mod testing;
+mod tightness;
 mod unary;
 
+pub use law::{exact_octagons_are_tight, octagon_rows_are_bounds};
 pub use octagon::Octagon;

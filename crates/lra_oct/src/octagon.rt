@@ -13,7 +13,9 @@ use crate::bounds::{
     join_bounds, rank_of, remove_in, universe,
 };
 use crate::parts::parts_of;
+use crate::telling::bounds_of;
 use crate::testing::test_in;
+use crate::tightness::{assignment_closes, makes_tight, passes_all, test_closes};
 use lra_domain::{Domain, Exactness, Grown, Included, Mode, Plain, Rank};
 use lra_lin::{LinExpr, Test};
 use lra_sys::ConSys;
@@ -21,10 +23,15 @@ use std::alloc::{AllocError, Global};
 use std::marker::Model;
 
 /// An octagon: empty, or a matrix of bounds. As a head it keeps a matrix that is never closed after its start.
+///
+/// A mark says that it is known to be tight: then a test that lowers no entry changes nothing, and costs neither a copy
+/// nor a closing. Where an entry is past half of the range it is closed all the same, since what closing forms of the
+/// entries may pass there and flag: so the mark moves no flag.
 pub struct Octagon {
     alloc: Global,
     dims: usize,
     matrix: Bounds,
+    is_tight: bool,
 }
 
 impl Drop for Octagon {
@@ -33,19 +40,23 @@ impl Drop for Octagon {
             alloc: _,
             dims: _,
             matrix: _,
+            is_tight: _,
         } = self;
     }
 }
 
 impl Model for Octagon {
     ghost use Rattle.std.specs.Prelude.{◌≤◌, ◌^◌};
+    ghost use Rattle.std.specs.Prelude.{IsTrue};
     ghost use Rattle.lra_oct.specs.Content.{Content, DimsFit, CellsFit, seen};
+    ghost use Rattle.lra_oct.specs.Least.{IsTightOrNone};
 
     ghost Value = { Content };
 
     ghost view = { λ o. record { dims = o.dims; cells = seen o.matrix } };
 
-    ghost invariant = { λ o. (o.dims ≤ 2 ^ 30) × DimsFit o.dims o.matrix × CellsFit o.dims (seen o.matrix) };
+    ghost invariant = { λ o. (o.dims ≤ 2 ^ 30) × DimsFit o.dims o.matrix × CellsFit o.dims (seen o.matrix)
+        × (IsTrue o.is_tight → IsTightOrNone o.dims (seen o.matrix)) };
 }
 
 impl Domain for Octagon {
@@ -63,6 +74,7 @@ impl Domain for Octagon {
             alloc,
             dims: n,
             matrix: Some(matrix),
+            is_tight: true,
         })
     }
 
@@ -71,6 +83,7 @@ impl Domain for Octagon {
             alloc,
             dims: n,
             matrix: None,
+            is_tight: true,
         })
     }
 
@@ -79,6 +92,7 @@ impl Domain for Octagon {
             alloc,
             dims: self.dims,
             matrix: copy_bounds(alloc, &self.matrix)?,
+            is_tight: self.is_tight,
         })
     }
 
@@ -88,11 +102,18 @@ impl Domain for Octagon {
 
     /// Yes exactly where there is no part; of a tight octagon, exactly where there is no store.
     fn is_empty(&self) -> bool
+        ensures formed { octagon_meaning.formed self.now }
         ensures parts { IsTrue result ↔ (octagon_meaning.parts self.now ≡ []) }
         ensures stores { IsTrue result → (s : List ℤ) → ¬ octagon_meaning.has self.now s }
         ensures tight { IsTightOctagon self.now → (IsTrue result ↔ ((s : List ℤ) → ¬ octagon_meaning.has self.now s)) }
     {
         self.matrix.is_none()
+    }
+
+    /// By the entries, which are closed where nothing was flagged, if the form has one coefficient of 1 or -1, or two;
+    /// else by the unary bounds, as over boxes.
+    fn bounds(&self, e: &LinExpr) -> (Option<i128>, Option<i128>) {
+        bounds_of(self.dims, &self.matrix, e)
     }
 
     /// Entry by entry; of a tight octagon, No only where a store lies beyond the other.
@@ -118,6 +139,7 @@ impl Domain for Octagon {
 
     fn assign(&mut self, x: usize, e: &LinExpr) -> Result<Exactness, AllocError> {
         let (assigned, exactness) = assign_in(self.alloc, self.dims, &self.matrix, x, e)?;
+        self.is_tight = makes_tight(exactness, self.is_tight, assignment_closes(x, e));
         self.matrix = assigned;
         Ok(exactness)
     }
@@ -128,7 +150,11 @@ impl Domain for Octagon {
     }
 
     fn test(&mut self, t: &Test) -> Result<Exactness, AllocError> {
+        if self.is_tight && passes_all(self.dims, &self.matrix, t) {
+            return Ok(Exactness::Exact);
+        }
         let (tested, exactness) = test_in(self.alloc, self.dims, &self.matrix, t)?;
+        self.is_tight = makes_tight(exactness, self.is_tight, test_closes(&t.expr));
         self.matrix = tested;
         Ok(exactness)
     }
@@ -144,6 +170,7 @@ impl Domain for Octagon {
         ensures least { OnOk result (LeastOctagon self.old other.now self.new) }
     {
         let joined = join_bounds(self.alloc, self.dims, &self.matrix, &other.matrix)?;
+        self.is_tight = self.is_tight && other.is_tight;
         self.matrix = joined;
         Ok(Exactness::Exact)
     }
@@ -170,6 +197,7 @@ impl Domain for Octagon {
             alloc,
             dims: first.dims,
             matrix: copy_bounds(alloc, &first.matrix)?,
+            is_tight: false,
         })
     }
 
@@ -178,6 +206,7 @@ impl Domain for Octagon {
             return Ok(Grown::Stable);
         }
         let grown = grow_bounds(head.alloc, head.dims, &head.matrix, &next.matrix, mode)?;
+        head.is_tight = false;
         head.matrix = grown;
         Ok(Grown::Grew(Exactness::Exact))
     }
@@ -189,6 +218,7 @@ impl Domain for Octagon {
             alloc,
             dims: head.dims,
             matrix,
+            is_tight: exactness == Exactness::Exact,
         };
         Ok((value, exactness))
     }

@@ -29,7 +29,7 @@ use lra_linear::ConKind;
 use std::alloc::{AllocError, Global};
 
 /// The quotient, rounded down.
-fn quotient(constant: i128, magnitude: u128) -> i128
+pub(crate) fn quotient(constant: i128, magnitude: u128) -> i128
     requires some { 0 < magnitude }
     requires magnitude { magnitude < 2 ^ 127 }
     requires constant { unsigned_abs constant ≤ 2 ^ 63 }

@@ -32,7 +32,7 @@ pub fn most(n: usize, matrix: &Matrix, i: usize) -> Option<i128>
 }
 
 /// The numbers of `x_k` that the matrix allows.
-fn interval_of(n: usize, matrix: &Matrix, k: usize) -> Interval
+pub(crate) fn interval_of(n: usize, matrix: &Matrix, k: usize) -> Interval
     requires few { n ≤ 2 ^ 30 }
     requires place { k < n }
     requires dims { matrix.now.dims ≡ n }

@@ -7,7 +7,8 @@ use Rattle.lra_box.specs.Bounds.{form}
 use Rattle.lra_box.proofs.SoundLemmas.{at_sound}
 use Rattle.lra_oct.specs.Content.{seen}
 use Rattle.lra_oct.specs.Tables.{some_crossed}
-use Rattle.lra_oct.proofs.UnaryLemmas.{intervals_sound, length_intervals}
+use Rattle.lra_oct.proofs.UnaryLemmas.{intervals_sound}
+use Rattle.lra_oct.specs.StoreBounds.{length_intervals}
 use Rattle.lra_oct.proofs.OtherLemmas.{tested_crossed, tested_refuted, tested_other}
 use Rattle.lra_oct.proofs.testing.test_refined.Goals as goal
 

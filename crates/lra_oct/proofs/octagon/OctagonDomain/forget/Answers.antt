@@ -1,7 +1,17 @@
 -- Goals of `OctagonDomain::forget`.
 use Rattle.lra_oct.specs.Content.{seen}
 use Rattle.lra_oct.proofs.MeetsLemmas.{meets_forget}
+use Rattle.lra_oct.proofs.TightLemmas.{forgotten_tight}
 use Rattle.lra_oct.proofs.octagon.OctagonDomain.forget.Goals as goal
 
 pub returns-clause-meets : goal.returns-clause-meets
-returns-clause-meets c = rw (← c.self.view_is) (meets_forget c.self.inside.dims c.args.x (seen c.self.inside.matrix) (seen c.forget_in.new.bounds) c.forget_in.ensures.becomes)
+returns-clause-meets c = rw (← c.self.view_is) (meets_forget c.self.inside.dims c.args.x (seen c.self.inside.matrix) (seen c.forget_in.new.bounds) c.forget_in.ensures.fit c.forget_in.ensures.becomes)
+
+pub invariant_of-self : goal.invariant_of-self
+invariant_of-self c = (
+  c.self.invariant.0,
+  c.forget_in.ensures.dims,
+  c.forget_in.ensures.fit,
+  λ is. forgotten_tight c.self.inside.dims c.args.x (seen c.self.inside.matrix) (seen c.forget_in.new.bounds) (rw (← c.self.view_is) at c.requires)
+      c.self.invariant.2 c.forget_in.ensures.becomes (c.self.invariant.3 is),
+)

@@ -1,5 +1,5 @@
 -- Goals of `OctagonDomain::grow`.
-use Rattle.std.proofs.Common.{◌≡◌, ap, sym, ◌∙◌}
+use Rattle.std.proofs.Common.{◌≡◌, ap, sym, ◌∙◌, false, true}
 use Rattle.std.proofs.lemmas.Bool.{false≢true}
 use Rattle.lra_oct.specs.Content.{Content, CellsFit, seen}
 use Rattle.lra_oct.proofs.MeetsLemmas.{rank_fits, grown_fit, grows, grows_lower}
@@ -16,6 +16,7 @@ invariant_of-head c =
       c.head.invariant.0,
       c.in_ok-grown.ensures.dims,
       rw c.in_ok-grown.ensures.grown (grown_fit c.args.mode c.head.inside.dims (seen c.head.inside.matrix) (seen c.next.inside.matrix) c.head.invariant.2 fit),
+      λ marked. absurd (let no : false ≡ true = marked in cc),
     )
 
 pub returns-clause-grew : goal.returns-clause-grew

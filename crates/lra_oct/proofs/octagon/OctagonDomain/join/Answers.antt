@@ -1,9 +1,12 @@
 -- Goals of `OctagonDomain::join`: of tight octagons, the least with the stores of both.
-use Rattle.std.proofs.Common.{◌≡◌, ap, sym, ◌∙◌}
+use Rattle.std.proofs.Common.{◌≡◌, ap, sym, ◌∙◌, false, true, IsTrue}
 use Rattle.lra_oct.specs.Content.{Content, CellsFit, seen}
+use Rattle.lra_oct.specs.Least.{IsTightOrNone}
 use Rattle.lra_oct.proofs.LeastLemmas.{least_octagon}
 use Rattle.lra_oct.proofs.MeetsLemmas.{joined_fit, joins}
+use Rattle.lra_oct.proofs.TightLemmas.{joined_tight}
 use Rattle.lra_oct.proofs.octagon.OctagonDomain.join.Goals as goal
+use Rattle.lra_oct.proofs.octagon.OctagonDomain.join.Goals.{then-self, else-self}
 
 pub invariant_of-self : goal.invariant_of-self
 invariant_of-self c =
@@ -13,6 +16,14 @@ invariant_of-self c =
       c.self.invariant.0,
       c.in_ok-joined.ensures.dims,
       rw c.in_ok-joined.ensures.joined (joined_fit c.self.inside.dims (seen c.self.inside.matrix) (seen c.other.inside.matrix) c.self.invariant.2 fit),
+      λ marked.
+          let both : IsTrue c.self.inside.is_tight × IsTrue c.other.inside.is_tight = elim c.if-self.branch [
+            | then-self w ↦ (w.if-self.true, rw w.self-is at marked)
+            | else-self w ↦ absurd (let no : false ≡ true = rw (w.self-is, w.if-self.false) at marked in cc)
+          ] in
+          let theirs : IsTightOrNone c.self.inside.dims (seen c.other.inside.matrix) = rw (← same) (c.other.invariant.3 both.1) in
+          rw c.in_ok-joined.ensures.joined (joined_tight c.self.inside.dims (seen c.self.inside.matrix) (seen c.other.inside.matrix) c.self.invariant.2 fit
+          (c.self.invariant.3 both.0) theirs),
     )
 
 pub returns-clause-joins : goal.returns-clause-joins
