@@ -29,8 +29,8 @@ use Rattle.lra_widen.specs.Rank.{Falls, IsBelow, kept, rank_of}
 use Rattle.lra_widen.specs.Widenings.{HaveColumns, IsOutside, IsRefusal}
 use Rattle.lra_widen.specs.declared.error.WidenError.{WidenError}
 use Rattle.lra_widen.specs.declared.error.WidenError.TheVariants.{NotIncluded}
-use Rattle.lra_polydom.specs.Content.{Covered, HeadContent}
-use Rattle.lra_polydom.specs.Covering.{covered_from, covered_has}
+use Rattle.lra_polydom.specs.Content.{Covered, HeadContent, IsHeadFormed}
+use Rattle.lra_polydom.specs.Covering.{covered_from}
 use Rattle.lra_polydom.specs.Growth.{HasGrown, IsJoined, IsStruck, IsWidening, StrikePasses, exactness_of, head, some_passes}
 use Rattle.lra_polydom.specs.Heads.{GrowthStrains, IsGrown, IsLeft, given_left, grown_set, head_rank}
 use Rattle.lra_polydom.specs.Meaning.{polyhedron_meaning}
@@ -296,11 +296,16 @@ wide_falls : (p next u : Polyhedron) (given left : List Given) (e : E.Excess) �
 wide_falls p next u given left e h columns x is kept_are = below_by_left p u given left kept_are (up_falls p u given h is columns (other_where_wide p next u e x is))
 
 -- ---- a head that grows
-pub grew : (h : HeadContent) (next : Polyhedron) (mode : Mode) (new : HeadContent) (e : Exactness) → IsPolyhedron h.value → IsPolyhedron next → next.dims ≡ h.value.dims →
+pub grew : (h : HeadContent) (next : Polyhedron) (mode : Mode) (new : HeadContent) (e : Exactness) → IsHeadFormed new → next.dims ≡ h.value.dims →
     ¬ (Covered next h.value) → HasGrown h next mode new e → Grew polyhedron_meaning h next mode e new
-grew h next mode new e hp hn d outside g = record {
-  kept = covered_has h.value new.value (covered_from h.value new.value hp (sym g.dims) g.old);
-  added = covered_has next new.value (covered_from next new.value hn (d ∙ sym g.dims) (subst (λ (n : ℕ). IsWithin n (Con next.rows) (Con new.value.rows)) (sym d) g.added));
+grew h next mode new e fine d outside g = record {
+  formed = fine;
+  both = record {
+    dims = (sym g.dims, d ∙ sym g.dims);
+    left = subst (λ (n : ℕ). IsWithin n (Con h.value.rows) (Con new.value.rows)) (sym g.dims) g.old;
+    right = subst (λ (n : ℕ). IsWithin n (Con next.rows) (Con new.value.rows)) (sym g.dims) g.added;
+  };
+  left = g.left;
   covers = λ k is. covered_from k.value new.value is.made.canonical (is.made.dimensions ∙ sym g.dims)
       (subst (λ (n : ℕ). IsWithin n (Con k.value.rows) (Con new.value.rows)) (sym is.made.dimensions) (g.covers k is));
   moved = λ f. outside;
@@ -322,12 +327,22 @@ grew_lower h next mode new e hn d outside g widens = rank_below new h (g.falls w
         (subst (λ (y : Polyhedron). IsWithin next.dims (Con next.rows) (Con y.rows)) same (subst (λ (n : ℕ). IsWithin n (Con next.rows) (Con new.value.rows)) (sym d) g.added)))
 
 -- a head that is given up
-pub grew_wide : (h : HeadContent) (next : Polyhedron) (mode : Mode) (new : HeadContent) → IsPolyhedron h.value → IsPolyhedron next → next.dims ≡ h.value.dims →
+pub left_up : (mode : Mode) (h new : HeadContent) → IsPolyhedronOf h.value.dims (Con []) new.value → new.given ≡ kept h.value new.value h.given → IsLeft h mode new
+left_up how.Join h new is e = inr (record { all = is; left = e })
+left_up how.Widen h new is e = e
+left_up how.Limited h new is e = e
+
+pub grew_wide : (h : HeadContent) (next : Polyhedron) (mode : Mode) (new : HeadContent) → IsHeadFormed new → next.dims ≡ h.value.dims →
     (e : E.Excess) × InclusionStrains next h.value e → IsPolyhedronOf h.value.dims (Con []) new.value → new.given ≡ kept h.value new.value h.given →
     Grew polyhedron_meaning h next mode degree.Flagged new
-grew_wide h next mode new hp hn d x is kept_are = record {
-  kept = covered_has h.value new.value (covered_from h.value new.value hp (sym is.dimensions) (λ y i c. is.points.0 y i (con_none y)));
-  added = covered_has next new.value (covered_from next new.value hn (d ∙ sym is.dimensions) (λ y i c. is.points.0 y (subst (λ (n : ℕ). IsPoint n y) d i) (con_none y)));
+grew_wide h next mode new fine d x is kept_are = record {
+  formed = fine;
+  both = record {
+    dims = (sym is.dimensions, d ∙ sym is.dimensions);
+    left = λ y i c. is.points.0 y (subst (λ (n : ℕ). IsPoint n y) is.dimensions i) (con_none y);
+    right = λ y i c. is.points.0 y (subst (λ (n : ℕ). IsPoint n y) is.dimensions i) (con_none y);
+  };
+  left = left_up mode h new is kept_are;
   covers = λ k g. covered_from k.value new.value g.made.canonical (g.made.dimensions ∙ sym is.dimensions)
       (λ y i c. is.points.0 y (subst (λ (n : ℕ). IsPoint n y) g.made.dimensions i) (con_none y));
   moved = λ f. let wrong : ⊥ = cc in absurd wrong;
@@ -338,11 +353,6 @@ grew_wide h next mode new hp hn d x is kept_are = record {
 pub wide_lower : (h : HeadContent) (next : Polyhedron) (new : HeadContent) → IsPolyhedron h.value → HaveColumns h.value.dims h.given → (e : E.Excess) × InclusionStrains next h.value e →
     IsPolyhedronOf h.value.dims (Con []) new.value → new.given ≡ kept h.value new.value h.given → RankBelow (head_rank new) (head_rank h)
 wide_lower h next new hp columns x is kept_are = rank_below new h (wide_falls h.value next new.value h.given new.given x.0 hp columns x.1 is kept_are)
-
-pub left_up : (mode : Mode) (h new : HeadContent) → IsPolyhedronOf h.value.dims (Con []) new.value → new.given ≡ kept h.value new.value h.given → IsLeft h mode new
-left_up how.Join h new is e = inr (record { all = is; left = e })
-left_up how.Widen h new is e = e
-left_up how.Limited h new is e = e
 
 pub flagged_alone : (a : Exactness) (P : Exactness → Type 0) → Grown.Grew degree.Flagged ≡ Grown.Grew a → P degree.Flagged → P a
 flagged_alone degree.Flagged P e h = h

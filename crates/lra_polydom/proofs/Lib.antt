@@ -1,5 +1,8 @@
 mod ListLemmas
 mod OutcomeLemmas
+mod BoundLemmas
+mod BackLemmas
+mod FormedLemmas
 mod ChangeLemmas
 pub mod PartLemmas
 mod UniverseLemmas

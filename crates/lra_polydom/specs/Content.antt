@@ -1,15 +1,17 @@
 -- What a polyhedron and a head of one hold, and which stores they have.
-use Rattle.std.specs.Prelude.{◌≡◌, ◌&&◌, ℤ, pos, int_le, Bool, false, not, cond, map, List, [], ◌∷◌, length}
-use Rattle.std.specs.List.{list_all, list_any}
+use Rattle.std.specs.Prelude.{◌≡◌, ◌&&◌, suc, ℤ, pos, int_le, Bool, false, not, cond, map, List, [], ◌∷◌, length}
+use Rattle.std.specs.List.{All, Contains, list_all, list_any}
 use Rattle.std.specs.Ordering.{int_eq}
 use Rattle.lra_domain.specs.declared.Included.{Included}
 use Rattle.lra_domain.specs.declared.Included.TheVariants.{Yes, No, Wide}
 use Rattle.lra_linear.specs.declared.Excess as E
 use Rattle.lra_linear.specs.Descriptions.{Con, Given, rows_of}
+use Rattle.lra_linear.specs.Formed.{IsFormed}
 use Rattle.lra_linear.specs.Kinds.{constraint_kind}
 use Rattle.lra_linear.specs.OperationStrain.{InclusionStrains}
 use Rattle.lra_linear.specs.Points.{IsWithin}
 use Rattle.lra_linear.specs.Polyhedra.{Polyhedron}
+use Rattle.lra_linear.specs.Range.{InRange}
 use Rattle.lra_linear.specs.declared.ConKind.{ConKind}
 use Rattle.lra_sys.specs.Listed.{Listed}
 
@@ -17,6 +19,11 @@ use Rattle.lra_sys.specs.Listed.{Listed}
 pub record HeadContent : Type 0 where
   pub value : Polyhedron
   pub given : List Given
+
+-- a head that is held: its value is, and each given row has a number for each dimension and a constant, in the range
+abbrev pub IsHeadFormed : HeadContent → Type 0
+IsHeadFormed h = IsFormed h.value
+    × ((g : Given) → Contains h.given g → (length g.row ≡ suc h.value.dims) × All InRange g.row)
 
 -- the list has a number for each dimension, and as a point it meets every constraint
 abbrev pub PolyhedronHas : Polyhedron → List ℤ → Type 0

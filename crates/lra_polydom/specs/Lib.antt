@@ -2,7 +2,11 @@
 pub mod Content
 pub mod Sets
 pub mod Heads
+pub mod Bounded
 pub mod Meaning
 pub mod Growth
 pub mod Covering
+pub mod Reach
+pub mod Rounding
+pub mod Retracing
 pub mod Laws

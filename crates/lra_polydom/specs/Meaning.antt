@@ -3,30 +3,36 @@ use Rattle.std.specs.Prelude.{◌≡◌, ◌≤◌, []}
 use Rattle.lra_domain.specs.Meaning.{Meaning}
 use Rattle.lra_linear.specs.declared.Excess as E
 use Rattle.lra_linear.specs.Descriptions.{Con}
+use Rattle.lra_linear.specs.Formed.{IsFormed}
 use Rattle.lra_linear.specs.OperationStrain.{HullStrains, InclusionStrains}
 use Rattle.lra_linear.specs.Points.{IsEmptySet}
 use Rattle.lra_linear.specs.Polyhedra.{IsPolyhedron, IsPolyhedronOf, Polyhedron}
 use Rattle.lra_linear.specs.Strain.{Loss}
 use Rattle.lra_sys.specs.Listed.{constraints}
-use Rattle.lra_polydom.specs.Content.{Answers, Covered, HeadContent, PolyhedronHas, polyhedron_parts}
-use Rattle.lra_polydom.specs.Heads.{GrowthStrains, IsGivenUp, IsGrown, head_rank}
-use Rattle.lra_polydom.specs.Sets.{ChangeStrains, IsChanged, IsJoin}
+use Rattle.lra_polydom.specs.Bounded.{PolyhedronBounded}
+use Rattle.lra_polydom.specs.Content.{Answers, Covered, HeadContent, IsHeadFormed, PolyhedronHas, polyhedron_parts}
+use Rattle.lra_polydom.specs.Heads.{GrowthStrains, IsGivenUp, IsGrown, IsLeft, head_rank}
+use Rattle.lra_polydom.specs.Sets.{ChangeStrains, HoldsPoints, IsChanged, IsJoin, KeepsPoints}
 
 abbrev pub polyhedron_meaning : Meaning Polyhedron HeadContent
 polyhedron_meaning = record {
+  formed = IsFormed;
   has = PolyhedronHas;
   dims = λ p. p.dims;
   parts = polyhedron_parts;
   capped = λ p c. 1 ≤ c;
+  bounded = PolyhedronBounded;
   covered = Covered;
   universal = λ n cap p. IsPolyhedronOf n (Con []) p;
   void = λ n cap p. (p.dims ≡ n) × IsEmptySet n (Con p.rows) × IsPolyhedron p;
+  keeps = KeepsPoints;
   done = IsChanged;
   strains = λ step p. (loss : Loss) × ChangeStrains step p loss;
   joined = IsJoin;
   join_strains = λ p q. (loss : Loss) × HullStrains p q loss;
   inside = Covered;
   inside_strains = λ p q. (e : E.Excess) × InclusionStrains p q e;
+  head_formed = IsHeadFormed;
   head_has = λ h. PolyhedronHas h.value;
   head_dims = λ h. h.value.dims;
   head_capped = λ h c. 1 ≤ c;
@@ -35,6 +41,8 @@ polyhedron_meaning = record {
   started = λ p given h. h ≡ record { value = p; given = constraints given };
   stays = λ h p mode. Covered p h.value;
   answers = λ h p mode i. Answers p h.value i;
+  holds_both = λ old next new. HoldsPoints old.value next new.value;
+  left = IsLeft;
   given_up = λ old mode new. IsGivenUp old new;
   grown = IsGrown;
   grow_strains = GrowthStrains;

@@ -1,10 +1,10 @@
 -- The least changes and joins as operations on sets of points, and when they strain.
-use Rattle.std.specs.Prelude.{◌-◌, suc}
-use Rattle.lra_domain.specs.Actions.{Action, assign, forget, test, embed, remove_last, dims_after}
+use Rattle.std.specs.Prelude.{◌≡◌, ◌-◌, suc}
+use Rattle.lra_domain.specs.Actions.{Action, ActionFits, assign, forget, test, embed, remove_last, dims_after}
 use Rattle.lra_linear.specs.Descriptions.{Con, Holds}
 use Rattle.lra_linear.specs.OperationStrain.{AddTestStrains, EmbedStrains, ForgetStrains, ImageStrains}
 use Rattle.lra_linear.specs.OperationStrain.{RemoveLastStrains}
-use Rattle.lra_linear.specs.Points.{PointSet}
+use Rattle.lra_linear.specs.Points.{IsWithin, PointSet}
 use Rattle.lra_linear.specs.Polyhedra.{IsPolyhedronOf, Polyhedron}
 use Rattle.lra_linear.specs.SetOperations.{Embed, Forget, Hull, Image, Meet, RemoveLast, Union}
 use Rattle.lra_linear.specs.Strain.{Loss}
@@ -29,6 +29,18 @@ ChangeStrains (remove_last k) p = RemoveLastStrains k p
 -- R is the polyhedron of these points
 abbrev pub IsChanged : Action → Polyhedron → Polyhedron → Type 0
 IsChanged step p r = IsPolyhedronOf (dims_after step p.dims) (reached step p) r
+
+-- R has all points to which the change leads from those of P, the rational ones among them; the change is one of P
+pub record KeepsPoints (step : Action) (p r : Polyhedron) : Type 0 where
+  pub fits : ActionFits step p.dims
+  pub dims : r.dims ≡ dims_after step p.dims
+  pub within : IsWithin (dims_after step p.dims) (reached step p) (Con r.rows)
+
+-- R has the points of P and of Q
+pub record HoldsPoints (p q r : Polyhedron) : Type 0 where
+  pub dims : (p.dims ≡ r.dims) × (q.dims ≡ r.dims)
+  pub left : IsWithin r.dims (Con p.rows) (Con r.rows)
+  pub right : IsWithin r.dims (Con q.rows) (Con r.rows)
 
 -- R is the hull of P and Q
 abbrev pub hull_of : Polyhedron → Polyhedron → PointSet

@@ -8,9 +8,9 @@ ghost use Rattle.lra_domain.specs.Rank.{RankBelow, RankFits};
 ghost use Rattle.lra_linear.specs.declared.Excess as E;
 ghost use Rattle.lra_linear.specs.OperationStrain.{InclusionStrains};
 ghost use Rattle.lra_sys.specs.Listed.{constraints};
-ghost use Rattle.lra_polydom.specs.Content.{Covered};
+ghost use Rattle.lra_polydom.specs.Content.{Covered, IsHeadFormed};
 ghost use Rattle.lra_polydom.specs.Growth.{head};
-ghost use Rattle.lra_polydom.specs.Heads.{IsLeft, head_rank};
+ghost use Rattle.lra_polydom.specs.Heads.{head_rank};
 ghost use Rattle.lra_polydom.specs.Meaning.{polyhedron_meaning};
 
 use crate::growth::{give_up, grow_value};
@@ -57,12 +57,12 @@ impl Model for PolyhedronHead {
 const TOO_MANY_ROWS: u64 = 1 << 62;
 
 // The rank over the given rows.
-fn rank_of(alloc: Global, value: &Poly, given: &ConSys) -> Result<Rank, AllocError>
+fn rank_of(value: &Poly, given: &ConSys) -> Result<Rank, AllocError>
     requires { given.now.dims ≡ value.now.dims }
     ensures rank { IfOk result (λ r. r ≡ head_rank (head value.now (constraints given.now))) }
     ensures fits { IfOk result RankFits }
 {
-    let (equalities, held, free) = rank(alloc, value, given)?;
+    let (equalities, held, free) = rank(value, given);
     if equalities >= TOO_MANY_ROWS || held >= TOO_MANY_ROWS || free >= TOO_MANY_ROWS {
         return Err(AllocError);
     }
@@ -76,16 +76,14 @@ fn rank_of(alloc: Global, value: &Poly, given: &ConSys) -> Result<Rank, AllocErr
 
 impl PolyhedronHead {
     // The head with this value and these given rows.
-    pub(crate) fn new(
-        alloc: Global,
-        value: Poly,
-        given: ConSys,
-    ) -> Result<PolyhedronHead, AllocError>
+    pub(crate) fn new(value: Poly, given: ConSys) -> Result<PolyhedronHead, AllocError>
         requires { given.dims ≡ value.dims }
         ensures content { IfOk result (λ h. h ≡ head value (constraints given)) }
         ensures fits { IfOk result (λ h. RankFits (head_rank h)) }
+        ensures formed { IfOk result IsHeadFormed }
     {
-        let rank = rank_of(alloc, &value, &given)?;
+        let (_formed, _rows) = (value.rows(), given.rows());
+        let rank = rank_of(&value, &given)?;
         Ok(PolyhedronHead { value, given, rank })
     }
 
@@ -107,9 +105,11 @@ impl PolyhedronHead {
 
     /// Its rank.
     pub fn rank(&self) -> Rank
+        ensures formed { IsHeadFormed self.now }
         ensures rank { result ≡ head_rank self.now }
         ensures fits { RankFits result }
     {
+        let (_formed, _rows) = (self.value.rows(), self.given.rows());
         self.rank
     }
 
@@ -123,7 +123,6 @@ impl PolyhedronHead {
         requires dims { next.now.dims ≡ self.now.value.dims }
         requires outside { ¬ (Covered next.now self.now.value) }
         ensures grew { IfOk result (λ r. Grew polyhedron_meaning self.now next.now mode r.1 r.0) }
-        ensures left { IfOk result (λ r. IsLeft self.now mode r.0) }
         ensures dims { IfOk result (λ r. r.0.value.dims ≡ self.now.value.dims) }
         ensures lower { IfOk result (λ r. mode ≢ Join → RankBelow (head_rank r.0) (head_rank self.now)) }
         ensures fits { IfOk result (λ r. RankFits (head_rank r.0)) }
@@ -131,7 +130,7 @@ impl PolyhedronHead {
         let (_rows, _others) = (self.value.rows(), next.rows());
         let growth = grow_value(alloc, &self.value, next, &self.given, mode)?;
         let exactness = growth.exactness;
-        let new = PolyhedronHead::new(alloc, growth.value, growth.given)?;
+        let new = PolyhedronHead::new(growth.value, growth.given)?;
         Ok((new, exactness))
     }
 
@@ -140,14 +139,13 @@ impl PolyhedronHead {
         requires dims { next.now.dims ≡ self.now.value.dims }
         requires strains { (e : E.Excess) × InclusionStrains next.now self.now.value e }
         ensures grew { IfOk result (λ h. (mode : Mode) → Grew polyhedron_meaning self.now next.now mode Flagged h) }
-        ensures left { IfOk result (λ h. (mode : Mode) → IsLeft self.now mode h) }
         ensures dims { IfOk result (λ h. h.value.dims ≡ self.now.value.dims) }
         ensures lower { IfOk result (λ h. RankBelow (head_rank h) (head_rank self.now)) }
         ensures fits { IfOk result (λ h. RankFits (head_rank h)) }
     {
         let (_rows, _others, _given) = (self.value.rows(), next.rows(), self.given.rows());
         let all = give_up(alloc, &self.value, &self.given)?;
-        let new = PolyhedronHead::new(alloc, all.value, all.given)?;
+        let new = PolyhedronHead::new(all.value, all.given)?;
         Ok(new)
     }
 }

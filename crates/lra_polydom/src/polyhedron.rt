@@ -4,16 +4,16 @@ ghost use Rattle.std.specs.Prelude.{◌≡◌, ◌≢◌, IfOk, OnErr, OnOk};
 ghost use Rattle.lra_domain.specs.Meaning.{Grew};
 ghost use Rattle.lra_domain.specs.Parts.{CapsWithin};
 ghost use Rattle.lra_domain.specs.Rank.{RankBelow, RankFits};
+ghost use Rattle.lra_linear.specs.Formed.{IsFormed};
 ghost use Rattle.lra_linear.specs.Polyhedra.{IsPolyhedron};
 ghost use Rattle.lra_sys.specs.Listed.{constraints, generators, FitKinds};
-ghost use Rattle.lra_polydom.specs.Heads.{IsLeft};
 ghost use Rattle.lra_polydom.specs.Meaning.{polyhedron_meaning};
 
 use crate::head::PolyhedronHead;
 use crate::lists::are_same;
-use crate::outcomes::{exactness_of, included};
-use lra_domain::{Domain, Exactness, Grown, Included, Mode, Plain, Rank};
-use lra_images::{forget, image};
+use crate::outcomes::{exactness_of, included, opposite_of, rounded_down};
+use lra_domain::{Backward, Domain, Exactness, Grown, Included, Mode, Plain, Rank};
+use lra_images::{forget, image, preimage};
 use lra_lin::{LinExpr, Test};
 use lra_maps::{embed, remove_last};
 use lra_poly::Poly;
@@ -47,6 +47,7 @@ impl Polyhedron {
         ensures dims { result.now.dims ≡ self.now.dims }
         ensures rows { constraints result.now ≡ self.now.rows }
         ensures canonical { IsPolyhedron self.now }
+        ensures formed { IsFormed self.now }
     {
         self.poly.rows()
     }
@@ -57,6 +58,7 @@ impl Polyhedron {
         ensures generators { generators result.now ≡ self.now.generators }
         ensures kinds { FitKinds result.now.rows result.now.kinds }
         ensures canonical { IsPolyhedron self.now }
+        ensures formed { IsFormed self.now }
     {
         self.poly.generators()
     }
@@ -73,11 +75,13 @@ impl Domain for Polyhedron {
 
     fn universe(alloc: Global, n: usize, _cap: u32) -> Result<Self, AllocError> {
         let poly = Poly::universe(alloc, n)?;
+        let _formed = poly.rows();
         Ok(Polyhedron { poly })
     }
 
     fn empty(alloc: Global, n: usize, _cap: u32) -> Result<Self, AllocError> {
         let poly = Poly::empty(alloc, n)?;
+        let _formed = poly.rows();
         Ok(Polyhedron { poly })
     }
 
@@ -96,6 +100,14 @@ impl Domain for Polyhedron {
         self.poly.is_empty()
     }
 
+    /// The least and the greatest value on the rational points, rounded inwards to whole numbers. None of the two where
+    /// a product of the form with a generator passes the range, or there is no point.
+    fn bounds(&self, e: &LinExpr) -> (Option<i128>, Option<i128>) {
+        let least = rounded_down(self.poly.maximise_opposite(e));
+        let greatest = rounded_down(self.poly.maximise(e));
+        (opposite_of(least), greatest)
+    }
+
     fn included(&self, other: &Self) -> Included {
         included(&self.poly, &other.poly)
     }
@@ -109,16 +121,19 @@ impl Domain for Polyhedron {
 
     fn assign(&mut self, x: usize, e: &LinExpr) -> Result<Exactness, AllocError> {
         let outcome = image(&mut self.poly, x, e)?;
+        let _formed = self.poly.rows();
         Ok(exactness_of(&outcome))
     }
 
     fn forget(&mut self, x: usize) -> Result<Exactness, AllocError> {
         let outcome = forget(&mut self.poly, x)?;
+        let _formed = self.poly.rows();
         Ok(exactness_of(&outcome))
     }
 
     fn test(&mut self, t: &Test) -> Result<Exactness, AllocError> {
         let outcome = self.poly.add_test(t)?;
+        let _formed = self.poly.rows();
         Ok(exactness_of(&outcome))
     }
 
@@ -126,16 +141,19 @@ impl Domain for Polyhedron {
     fn join(&mut self, other: &Self) -> Result<Exactness, AllocError> {
         let (_rows, _others) = (self.poly.rows(), other.poly.rows());
         let outcome = self.poly.hull(&other.poly)?;
+        let _formed = self.poly.rows();
         Ok(exactness_of(&outcome))
     }
 
     fn embed(&mut self, k: usize) -> Result<Exactness, AllocError> {
         let outcome = embed(&mut self.poly, k)?;
+        let _formed = self.poly.rows();
         Ok(exactness_of(&outcome))
     }
 
     fn remove_last(&mut self, k: usize) -> Result<Exactness, AllocError> {
         let outcome = remove_last(&mut self.poly, k)?;
+        let _formed = self.poly.rows();
         Ok(exactness_of(&outcome))
     }
 
@@ -150,8 +168,8 @@ impl Domain for Polyhedron {
         Ok(parts)
     }
 
-    fn start(alloc: Global, first: &Self, given: &ConSys) -> Result<PolyhedronHead, AllocError> {
-        let head = PolyhedronHead::new(alloc, first.poly.copy()?, given.copy()?)?;
+    fn start(_alloc: Global, first: &Self, given: &ConSys) -> Result<PolyhedronHead, AllocError> {
+        let head = PolyhedronHead::new(first.poly.copy()?, given.copy()?)?;
         Ok(head)
     }
 
@@ -172,7 +190,6 @@ impl Domain for Polyhedron {
             RankBelow (polyhedron_meaning.rank head.new) (polyhedron_meaning.rank head.old)) }
         ensures fits { OnOk result (RankFits (polyhedron_meaning.rank head.new)) }
         ensures err { OnErr result (head.new ≡ head.old) }
-        ensures left { IfOk result (λ g. (a : Exactness) → g ≡ Grown.Grew a → IsLeft head.old mode head.new) }
     {
         let alloc = next.poly.allocator();
         match included(&next.poly, head.value()) {
@@ -191,6 +208,7 @@ impl Domain for Polyhedron {
     }
 
     fn value(_alloc: Global, head: &PolyhedronHead) -> Result<(Self, Exactness), AllocError> {
+        let _formed = head.value().rows();
         let poly = head.value().copy()?;
         Ok((Polyhedron { poly }, Exactness::Exact))
     }
@@ -204,4 +222,29 @@ impl Plain for Polyhedron {
     ghost use Rattle.lra_polydom.specs.Laws.{polyhedron_plain};
 
     ghost plain = { polyhedron_plain };
+}
+
+impl Backward for Polyhedron {
+    ghost use Rattle.lra_polydom.specs.Retracing.{polyhedron_retracing};
+
+    ghost retracing = { polyhedron_retracing };
+
+    fn before_assign(&mut self, x: usize, e: &LinExpr) -> Result<Exactness, AllocError> {
+        let outcome = preimage(&mut self.poly, x, e)?;
+        let _formed = self.poly.rows();
+        Ok(exactness_of(&outcome))
+    }
+
+    /// The test itself: what passed it was there before.
+    fn before_test(&mut self, t: &Test) -> Result<Exactness, AllocError> {
+        let told = self.poly.add_test(t)?;
+        let _formed = self.poly.rows();
+        Ok(exactness_of(&told))
+    }
+
+    fn meet(&mut self, other: &Self) -> Result<Exactness, AllocError> {
+        let outcome = self.poly.meet(&other.poly)?;
+        let _formed = self.poly.rows();
+        Ok(exactness_of(&outcome))
+    }
 }

@@ -3,14 +3,15 @@ use Rattle.lra_linear.specs.Kinds.{is_equality}
 use Rattle.lra_sys.specs.Listed.{constraints}
 use Rattle.lra_widen.proofs.WideningLemmas.{seen_columns}
 use Rattle.lra_polydom.specs.Growth.{head}
-use Rattle.lra_polydom.proofs.GrowthLemmas.{grew_wide, left_up, wide_lower}
+use Rattle.lra_polydom.proofs.GrowthLemmas.{grew_wide, wide_lower}
 use Rattle.lra_polydom.proofs.head.PolyhedronHead.give_up.Goals as goal
 
 pub returns-clause-grew : goal.returns-clause-grew
 returns-clause-grew c = λ mode.
     rw (c.in_ok-new.ensures.content, ← c.self.view_is)
-    (grew_wide (head c.self.inside.value (constraints c.self.inside.given)) c.args.next.now mode (head c.in_ok-all.all.value (constraints c.in_ok-all.all.given)) c.rows-rows.ensures.canonical
-    c.rows-others.ensures.canonical (rw (← c.self.view_is) at c.requires.dims) (rw (← c.self.view_is) at c.requires.strains) c.in_ok-all.ensures.all c.in_ok-all.ensures.left)
+    (grew_wide (head c.self.inside.value (constraints c.self.inside.given)) c.args.next.now mode (head c.in_ok-all.all.value (constraints c.in_ok-all.all.given))
+    (rw c.in_ok-new.ensures.content at c.in_ok-new.ensures.formed) (rw (← c.self.view_is) at c.requires.dims) (rw (← c.self.view_is) at c.requires.strains)
+    c.in_ok-all.ensures.all c.in_ok-all.ensures.left)
 
 pub returns-clause-lower : goal.returns-clause-lower
 returns-clause-lower c =
@@ -19,8 +20,3 @@ returns-clause-lower c =
     rw (c.in_ok-new.ensures.content, ← c.self.view_is)
     (wide_lower (head c.self.inside.value (constraints given)) c.args.next.now (head c.in_ok-all.all.value (constraints c.in_ok-all.all.given)) c.rows-rows.ensures.canonical columns
     (rw (← c.self.view_is) at c.requires.strains) c.in_ok-all.ensures.all c.in_ok-all.ensures.left)
-
-pub returns-clause-left : goal.returns-clause-left
-returns-clause-left c = λ mode.
-    rw (c.in_ok-new.ensures.content, ← c.self.view_is)
-    (left_up mode (head c.self.inside.value (constraints c.self.inside.given)) (head c.in_ok-all.all.value (constraints c.in_ok-all.all.given)) c.in_ok-all.ensures.all c.in_ok-all.ensures.left)

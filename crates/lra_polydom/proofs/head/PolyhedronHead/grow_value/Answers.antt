@@ -8,14 +8,11 @@ pub returns-clause-grew : goal.returns-clause-grew
 returns-clause-grew c =
     rw (c.in_ok-new.ensures.content, ← c.self.view_is)
     (grew (head c.self.inside.value (constraints c.self.inside.given)) c.args.next.now c.args.mode (head c.in_ok-growth.growth.value (constraints c.in_ok-growth.growth.given))
-    c.in_ok-growth.growth.exactness c.rows-rows.ensures.canonical c.rows-others.ensures.canonical (rw (← c.self.view_is) at c.requires.dims) (rw (← c.self.view_is) at c.requires.outside)
-    c.in_ok-growth.ensures.grown)
+    c.in_ok-growth.growth.exactness (rw c.in_ok-new.ensures.content at c.in_ok-new.ensures.formed)
+    (rw (← c.self.view_is) at c.requires.dims) (rw (← c.self.view_is) at c.requires.outside) c.in_ok-growth.ensures.grown)
 
 pub returns-clause-lower : goal.returns-clause-lower
 returns-clause-lower c =
     rw (c.in_ok-new.ensures.content, ← c.self.view_is)
     (grew_lower (head c.self.inside.value (constraints c.self.inside.given)) c.args.next.now c.args.mode (head c.in_ok-growth.growth.value (constraints c.in_ok-growth.growth.given))
     c.in_ok-growth.growth.exactness c.rows-others.ensures.canonical (rw (← c.self.view_is) at c.requires.dims) (rw (← c.self.view_is) at c.requires.outside) c.in_ok-growth.ensures.grown)
-
-pub returns-clause-left : goal.returns-clause-left
-returns-clause-left c = rw (c.in_ok-new.ensures.content, ← c.self.view_is) c.in_ok-growth.ensures.grown.left
