@@ -8,12 +8,13 @@ use Rattle.lra_domain.specs.declared.Included.{Included}
 use Rattle.lra_domain.specs.declared.Included.TheVariants.{Yes, No, Wide}
 use Rattle.lra_domain.specs.Meaning.{Meaning}
 use Rattle.lra_domain.specs.Laws.{PlainLaws}
-use Rattle.lra_set.specs.Lists.{EachPart}
+use Rattle.lra_set.specs.Lists.{EachPart, SomePart}
 use Rattle.lra_set.specs.ListLemmas.{each_map}
 use Rattle.lra_set.proofs.PartLists.{each_append, each_left, each_right}
-use Rattle.lra_set.specs.Values.{SetHas}
+use Rattle.lra_set.specs.Values.{AreUndecided, IsUndecided, PartsInside, SetHas}
 use Rattle.lra_set.specs.declared.joins.Settling.TheVariants.{Strained, Further}
-use Rattle.lra_set.specs.Outcomes.{Told, both, PartFits, HaveDims, IsReduced, AreMerged, BecameOne, LastTwoMeet, SettlesOnce, IsSettled}
+use Rattle.lra_set.specs.Outcomes.{Told, both, either, HaveDims, IsReduced, AreMerged, BecameOne, LastTwoMeet, SettlesOnce, IsSettled}
+use Rattle.lra_set.specs.Content.{PartFits}
 use Rattle.lra_set.specs.Laws.{nil_front}
 use Rattle.lra_set.proofs.ReductionLemmas.{cover_trans, reduced_covers, reduced_exact, reduced_strains, reduced_each, reduced_fewer}
 use Rattle.lra_set.proofs.SettleLemmas.{meet_covers, meet_strains, merged_each, settled_on, settled_whole}
@@ -32,14 +33,58 @@ told_no A S i t e = subst (λ (j : Included). Told A S j) e t
 pub told_wide : (A S : Type 0) (i : Included) → Told A S i → i ≡ Wide → S
 told_wide A S i t e = subst (λ (j : Included). Told A S j) e t
 
-pub told_both : (A B S T : Type 0) (i j : Included) → Told A S i → Told B T j → Told (A × B) (S ⊎ T) (both i j)
-told_both A B S T No j a b = λ h. a h.0
-told_both A B S T Yes No a b = λ h. b h.1
-told_both A B S T Yes Yes a b = (a, b)
-told_both A B S T Yes Wide a b = inr b
-told_both A B S T Wide No a b = λ h. b h.1
-told_both A B S T Wide Yes a b = inl a
-told_both A B S T Wide Wide a b = inl a
+-- some of them strains, and each strains or isn't so
+abbrev pub Open : {V : Type 0} → (V → Type 0) → (V → Type 0) → List V → Type 0
+Open P S qs = SomePart S qs × EachPart (λ q. S q ⊎ ¬ P q) qs
+
+each_open : {V : Type 0} (P S : V → Type 0) (qs : List V) → ¬ SomePart P qs → EachPart (λ q. S q ⊎ ¬ P q) qs
+each_open P S [] n = tt
+each_open P S (q ∷ qs) n = (inr (λ h. n (inl h)), each_open P S qs (λ h. n (inr h)))
+
+neither : {A B : Type 0} → ¬ A → ¬ B → A ⊎ B → ⊥
+neither a b (inl h) = a h
+neither a b (inr h) = b h
+
+pub told_some : {V : Type 0} (P S : V → Type 0) (q : V) (qs : List V) (i j : Included) → Told (P q) (S q) i
+    → Told (SomePart P qs) (Open P S qs) j → Told (SomePart P (q ∷ qs)) (Open P S (q ∷ qs)) (either i j)
+told_some P S q qs Yes j a b = inl a
+told_some P S q qs No Yes a b = inr b
+told_some P S q qs No No a b = neither a b
+told_some P S q qs No Wide a b = (inr b.0, (inr a, b.1))
+told_some P S q qs Wide Yes a b = inr b
+told_some P S q qs Wide No a b = (inl a, (inl a, each_open P S qs b))
+told_some P S q qs Wide Wide a b = (inl a, (inl a, b.1))
+
+pub told_goes : {V : Type 0} (P S T U : V → Type 0) (before behind : List V) (i j : Included)
+    → Told (SomePart P before) (Open P S before) i → Told (SomePart T behind) (Open T U behind) j
+    → Told (SomePart P before ⊎ SomePart T behind)
+    ((SomePart S before ⊎ SomePart U behind) × EachPart (λ q. S q ⊎ ¬ P q) before × EachPart (λ q. U q ⊎ ¬ T q) behind)
+    (either i j)
+told_goes P S T U before behind Yes j a b = inl a
+told_goes P S T U before behind No Yes a b = inr b
+told_goes P S T U before behind No No a b = neither a b
+told_goes P S T U before behind No Wide a b = (inr b.0, each_open P S before a, b.1)
+told_goes P S T U before behind Wide Yes a b = inr b
+told_goes P S T U before behind Wide No a b = (inl a.0, a.1, each_open T U behind b)
+told_goes P S T U before behind Wide Wide a b = (inl a.0, a.1, b.1)
+
+pub told_all : {V H : Type 0} (m : Meaning V H) (p : V) (ps qs : List V) (i j : Included)
+    → Told (SomePart (m.inside p) qs) (IsUndecided m qs p) i → Told (PartsInside m.inside ps qs) (AreUndecided m ps qs) j
+    → Told (PartsInside m.inside (p ∷ ps) qs) (AreUndecided m (p ∷ ps) qs) (both i j)
+told_all m p ps qs No j a b = λ h. a h.0
+told_all m p ps qs Yes No a b = λ h. b h.1
+told_all m p ps qs Yes Yes a b = (a, b)
+told_all m p ps qs Yes Wide a b = (inr b.0, (inl a, b.1))
+told_all m p ps qs Wide No a b = λ h. b h.1
+told_all {V} {H} m p ps qs Wide Yes a b = (
+  inl a,
+  (
+    inr a,
+    each_map (λ x. SomePart (m.inside x) qs)
+        (λ x. SomePart (m.inside x) qs ⊎ IsUndecided m qs x) (λ x h. inl h) ps b,
+  ),
+)
+told_all m p ps qs Wide Wide a b = (inl a, (inr a, b.1))
 
 pub fits_dims : {V H : Type 0} (m : Meaning V H) (n : ℕ) (ps : List V) → EachPart (PartFits m n) ps → HaveDims m n ps
 fits_dims m n ps fit = each_map (PartFits m n) (λ p. m.dims p ≡ n) (λ p f. f.dims) ps fit
@@ -62,7 +107,7 @@ meet_fits {V} m pl n ps e qs t fit =
     let one = (each_right (PartFits m n) t.front (t.one ∷ []) early).0 in
     subst (λ (xs : List V). EachPart (PartFits m n) xs) (sym t.new)
     (each_append (PartFits m n) t.front (t.both ∷ []) (each_left (PartFits m n) t.front (t.one ∷ []) early)
-    (record { dims = t.dims ∙ one.dims; full = λ none. one.full (pl.partless_covered t.one t.both t.joined.left none) }, tt))
+    (record { formed = t.joined.formed; dims = t.dims ∙ one.dims; full = λ none. one.full (pl.partless_covered t.one t.both t.joined.left none) }, tt))
 
 pub meet_fewer : {V H : Type 0} (m : Meaning V H) (ps : List V) (e : Exactness) (qs : List V) → LastTwoMeet m ps e qs
     → length qs < length ps
@@ -86,6 +131,7 @@ merged_one m pl (p ∷ ps) e j t dims = record {
   alone = refl;
   covers = (t.first, t.others);
   fits = λ n fit. record {
+    formed = t.formed;
     dims = dims n (fits_dims m n (p ∷ ps) fit);
     full = λ none. fit.0.full (pl.partless_covered p j t.first none);
   };
@@ -160,7 +206,7 @@ pub strained_some : {V H : Type 0} (m : Meaning V H) (cap : ℕ) (ps qs : List V
 strained_some m cap ps qs (inl r) = let over = r.1 in omega (arith, over)
 strained_some m cap ps qs (inr (mid, r, over, t)) = meet_some m mid Flagged qs t
 
-strained_fit : {V H : Type 0} (m : Meaning V H) → PlainLaws m → (n cap : ℕ) (ps qs : List V)
+pub strained_fit : {V H : Type 0} (m : Meaning V H) → PlainLaws m → (n cap : ℕ) (ps qs : List V)
     → SettlesOnce m cap ps Strained qs → EachPart (PartFits m n) ps → EachPart (PartFits m n) qs
 strained_fit m pl n cap ps qs (inl r) fit = reduced_each m (PartFits m n) ps Flagged qs r.0 fit
 strained_fit m pl n cap ps qs (inr (mid, r, over, t)) fit =

@@ -1,13 +1,13 @@
 -- Lemmas on parts that are changed one by one.
-use Rattle.std.proofs.Common.{◌≡◌, ◌≢◌, ◌⊎◌, ℕ, zero, suc, ◌≤◌, ℤ, List, [], ◌∷◌, ◌++◌, length, refl, ap, sym, subst, ◌∙◌, inl, inr}
+use Rattle.std.proofs.Common.{◌≡◌, ◌≢◌, ◌⊎◌, ℕ, zero, suc, ◌≤◌, List, [], ◌∷◌, ◌++◌, length, refl, ap, sym, subst, ◌∙◌, inl, inr}
 use Rattle.std.proofs.Common.{arith, append_assoc, append-nil, length-append}
 use Rattle.lra_domain.specs.declared.Exactness.{Exactness}
 use Rattle.lra_domain.specs.declared.Exactness.TheVariants.{Exact, Flagged}
-use Rattle.lra_domain.specs.Actions.{Action, Leads, dims_after}
+use Rattle.lra_domain.specs.Actions.{Action, dims_after}
 use Rattle.lra_domain.specs.Meaning.{Meaning, Meets, Joins}
 use Rattle.lra_domain.specs.Laws.{Laws, PlainLaws}
 use Rattle.lra_set.specs.Lists.{EachPart, SomePart, PartByPart}
-use Rattle.lra_set.specs.ListLemmas.{each_map, some_of_each}
+use Rattle.lra_set.specs.ListLemmas.{each_map}
 use Rattle.lra_set.proofs.PartLists.{each_append, each_left, each_right, some_left, some_right}
 use Rattle.lra_set.specs.Content.{Parts, filled, with_filled}
 use Rattle.lra_set.specs.Reduction.{Leaves}
@@ -15,8 +15,8 @@ use Rattle.lra_set.specs.Joins.{Settles, SettleStrains}
 use Rattle.lra_set.specs.Values.{PartsInside, SetDone, SetStrains}
 use Rattle.lra_set.specs.Meaning.{set_meaning}
 use Rattle.lra_domain.specs.Meaning.{worse}
-use Rattle.lra_set.specs.Outcomes.{PartFits, HaveDims, IsAppended, IsSettled, AreChanged}
-use Rattle.lra_set.specs.Laws.{parts_within}
+use Rattle.lra_set.specs.Outcomes.{HaveDims, IsAppended, IsSettled, AreChanged}
+use Rattle.lra_set.specs.Content.{PartFits}
 use Rattle.lra_set.proofs.ReductionLemmas.{cover_trans, leaves_each}
 
 -- parts that aren't empty -------------------------------------------------------------------------------------------------
@@ -55,7 +55,7 @@ pub changed_none : {V H : Type 0} (m : Meaning V H) (step : Action) → AreChang
 changed_none m step = record {
   changed = [];
   left = refl;
-  stores = λ s t h lead. absurd h;
+  keeps = tt;
   covers = none m step;
   exact = λ e. tt;
   flagged = λ e. let wrong : ⊥ = cc in absurd wrong;
@@ -67,16 +67,6 @@ changed_none m step = record {
         → PartsInside m.covered (filled m vs) []
     none m step [] d = tt
     none m step (v ∷ vs) d = absurd d
-
-more_stores : {V H : Type 0} (m : Meaning V H) → Laws m → (step : Action) (p q : V) (ps qs : List V) (one two : Exactness)
-    → Meets m step p one q → AreChanged m step ps two qs → (s t : List ℤ) → SomePart (λ x. m.has x s) (p ∷ ps)
-    → Leads step s t → SomePart (λ x. m.has x t) (filled m (q ∷ []) ++ qs)
-more_stores m l step p q ps qs one two a c s t (inl h) lead =
-    let has = a.stores s t h lead in
-    some_left (λ x. m.has x t) (filled m (q ∷ [])) qs
-    (with_filled_some (λ x. m.has x t) (m.parts q) q (λ e. l.partless q e t has) has)
-more_stores m l step p q ps qs one two a c s t (inr h) lead =
-    some_right (λ x. m.has x t) (filled m (q ∷ [])) qs (c.stores s t h lead)
 
 more_covers : {V H : Type 0} (m : Meaning V H) → PlainLaws m → (step : Action) (p q : V) (ps qs : List V) (one two : Exactness)
     → Meets m step p one q → AreChanged m step ps two qs → (vs : List V) → PartByPart (m.done step) (p ∷ ps) vs
@@ -108,14 +98,14 @@ pub changed_more : {V H : Type 0} (m : Meaning V H) → Laws m → PlainLaws m �
 changed_more {V} m l pl step p q ps qs one two a dims c = record {
   changed = q ∷ c.changed;
   left = ap (λ (xs : List V). filled m (q ∷ []) ++ xs) c.left ∙ sym (with_filled_more (m.parts q) q (filled m c.changed));
-  stores = more_stores m l step p q ps qs one two a c;
+  keeps = (record { keeps = a.keeps; dims = dims; formed = a.formed }, c.keeps);
   covers = more_covers m pl step p q ps qs one two a c;
   exact = λ e. let both = worse_exact one two e in (a.exact both.0, c.exact both.1);
   flagged = λ e. more_flagged m step p q ps qs one two a c (worse_flagged one two e);
   few = omega (arith, c.few, with_filled_few (m.parts q) q, length-append (filled m (q ∷ [])) qs);
   fit = λ n d. each_append (PartFits m (dims_after step n)) (filled m (q ∷ [])) qs
       (with_filled_each (PartFits m (dims_after step n)) (m.parts q) q
-      (λ full. record { dims = dims ∙ ap (dims_after step) d.0; full = full })) (c.fit n d.1);
+      (λ full. record { formed = a.formed; dims = dims ∙ ap (dims_after step) d.0; full = full })) (c.fit n d.1);
 }
 
 -- the set -----------------------------------------------------------------------------------------------------------------
@@ -182,12 +172,17 @@ pub set_meets : {V H : Type 0} (m : Meaning V H) → Laws m → PlainLaws m → 
     → length old.parts ≤ old.cap → HaveDims m old.dims old.parts → AreChanged m step old.parts one qs
     → IsSettled m (dims_after step old.dims) old.cap qs two new.parts
     → Meets (set_meaning m) step old (worse one two) new
-set_meets m l pl step old new one two qs dims cap few alike c s = record {
-  stores = λ x t own lead. (
-    some_of_each (PartFits m (dims_after step old.dims)) (λ q. m.has q t) (length t ≡ new.dims)
-        (λ q fit has. l.sized q t has ∙ fit.dims ∙ sym dims) qs (c.fit old.dims alike) (c.stores x t own.1 lead),
-    parts_within m l qs new.parts s.parts t (c.stores x t own.1 lead),
+set_meets {V} m l pl step old new one two qs dims cap few alike c s = record {
+  formed = (
+    subst (λ (n : ℕ). EachPart (PartFits m n) new.parts) (sym dims) s.fit,
+    subst (λ (k : ℕ). length new.parts ≤ k) (sym cap) s.few,
   );
+  keeps = record {
+    dims = dims;
+    changed = c.changed;
+    kept = c.keeps;
+    covered = subst (λ (xs : List V). PartsInside m.covered xs new.parts) c.left s.parts;
+  };
   covers = λ v d. (d.dims ∙ sym dims, set_covers m pl step (dims_after step old.dims) old one two qs new.parts few c s v d);
   exact = λ e. set_exact m step (dims_after step old.dims) old new one two qs dims cap c s (worse_exact one two e);
   flagged = λ e. set_flagged m step (dims_after step old.dims) old one two qs new.parts c s (worse_flagged one two e);
@@ -198,6 +193,10 @@ pub set_joins : {V H : Type 0} (m : Meaning V H) (one two new : Parts V) (e : Ex
     → new.dims ≡ one.dims → new.cap ≡ one.cap → IsSettled m one.dims one.cap (one.parts ++ two.parts) e new.parts
     → Joins (set_meaning m) one two e new
 set_joins m one two new e same dims cap s = record {
+  formed = (
+    subst (λ (n : ℕ). EachPart (PartFits m n) new.parts) (sym dims) s.fit,
+    subst (λ (k : ℕ). length new.parts ≤ k) (sym cap) s.few,
+  );
   left = (sym dims, each_left (λ p. SomePart (m.covered p) new.parts) one.parts two.parts s.parts);
   right = (sym same ∙ sym dims, each_right (λ p. SomePart (m.covered p) new.parts) one.parts two.parts s.parts);
   covers = λ v d. (d.dims ∙ sym dims, s.covers d.joins v.parts d.settled);

@@ -14,7 +14,7 @@ use Rattle.lra_domain.specs.Rank.{RankBelow, RankFits}
 use Rattle.lra_domain.specs.Meaning.{Meaning, Starts, Grew, GrowthStrains}
 use Rattle.lra_domain.specs.Laws.{Laws, PlainLaws}
 use Rattle.lra_set.specs.Lists.{EachPart, SomePart}
-use Rattle.lra_set.specs.ListLemmas.{each_map, some_of_each}
+use Rattle.lra_set.specs.ListLemmas.{each_map}
 use Rattle.lra_set.specs.Content.{Form, many, one}
 use Rattle.lra_set.specs.Joins.{JoinsOn, Merges}
 use Rattle.lra_set.specs.Heads.{GrowsBy, FormCovered, Widens}
@@ -37,17 +37,18 @@ merge_same m pl (p ∷ ps) j k x y = on_same m pl p ps j k x y
 pub merged_exact : {V H : Type 0} (m : Meaning V H) (ps : List V) (e : Exactness) (j : V) → AreMerged m ps e j → e ≡ Exact
     → MergesExactly m ps (Some j)
 merged_exact m [] e j a x = absurd a
-merged_exact m (p ∷ ps) e j a x = (a.exact x, (a.first, a.others))
+merged_exact m (p ∷ ps) e j a x = (a.exact x, (a.first, a.others), a.formed)
 
 pub merged_strains : {V H : Type 0} (m : Meaning V H) (ps : List V) (e : Exactness) (j : V) → AreMerged m ps e j
     → e ≡ Flagged → MergesExactly m ps None
 merged_strains m [] e j a x = absurd a
 merged_strains m (p ∷ ps) e j a x = a.flagged x
 
-pub has_all : {V H : Type 0} (m : Meaning V H) → Laws m → (ps : List V) (j : V) → EachPart (λ p. m.covered p j) ps
-    → (s : List ℤ) → SomePart (λ p. m.has p s) ps → m.has j s
-has_all m l ps j each s own = some_of_each (λ p. m.covered p j) (λ p. m.has p s) (m.has j s)
-    (λ p c has. l.covered_stores p j c s has) ps each own
+pub has_all : {V H : Type 0} (m : Meaning V H) → Laws m → (ps : List V) (j : V) → EachPart m.formed ps → m.formed j
+    → EachPart (λ p. m.covered p j) ps → (s : List ℤ) → SomePart (λ p. m.has p s) ps → m.has j s
+has_all m l [] j fine own_fine each s own = absurd own
+has_all m l (p ∷ ps) j fine own_fine each s (inl own) = l.covered_stores p j fine.0 own_fine each.0 s own
+has_all m l (p ∷ ps) j fine own_fine each s (inr own) = has_all m l ps j fine.1 own_fine each.1 s own
 
 -- what lies in a single part's head ---------------------------------------------------------------------------------------
 
@@ -76,7 +77,7 @@ pub one_exact : {V H : Type 0} (m : Meaning V H) → Laws m → PlainLaws m → 
 one_exact m l pl old new k qs mode Stable merged same lies grew lower widens =
     (same refl, each_stays_under m pl old k qs mode merged.1 (l.answers_yes old k mode (lies refl)))
 one_exact m l pl old new k qs mode (grew_by e) merged same lies grew lower widens =
-    record { join = k; merged = merged.0; all = merged.1; grew = grew e refl; lower = lower e refl widens }
+    record { join = k; formed = merged.2; merged = merged.0; all = merged.1; grew = grew e refl; lower = lower e refl widens }
 
 pub one_none : {V H : Type 0} (m : Meaning V H) (old : H) (qs : List V) (mode : Mode) → qs ≡ []
     → OneAnswers m old qs mode (Some Stable) old
@@ -146,9 +147,9 @@ started_alike {V} {H} m pl given j g h i st e d = inr (inr (
 ))
 
 pub start_stays : {V H : Type 0} (m : Meaning V H) → Laws m → PlainLaws m → (given : Listed ConKind) (ps : List V)
-    (j k : V) (mode : Mode) (g h : H) → MergesExactly m ps (Some j) → Starts m j given g → h ≡ g
-    → m.answers g k mode Yes → StartsAndGrows m given ps k mode (Some h)
-start_stays {V} {H} m l pl given ps j k mode g h merged st e lies =
+    (j k : V) (mode : Mode) (g h : H) → EachPart m.formed ps → m.formed k → MergesExactly m ps (Some j)
+    → Starts m j given g → h ≡ g → m.answers g k mode Yes → StartsAndGrows m given ps k mode (Some h)
+start_stays {V} {H} m l pl given ps j k mode g h fine by_fine merged st e lies =
     let in_it = l.answers_yes g k mode lies in (
       j,
       g,
@@ -156,8 +157,8 @@ start_stays {V} {H} m l pl given ps j k mode g h merged st e lies =
       st.started,
       inl (in_it, e),
       (λ i grows. covers m pl given j k mode g h i in_it st.started e grows),
-      (λ s own. subst (λ (x : H). m.head_has x s) (sym e) (st.stores s (has_all m l ps j merged.1 s own))),
-      (λ s own. subst (λ (x : H). m.head_has x s) (sym e) (l.stays_stores g k mode in_it s own)),
+      (λ s own. subst (λ (x : H). m.head_has x s) (sym e) (st.stores s (has_all m l ps j fine merged.2 merged.1 s own))),
+      (λ s own. subst (λ (x : H). m.head_has x s) (sym e) (l.stays_stores g k mode st.formed by_fine in_it s own)),
     )
   where
     covers : {V H : Type 0} (m : Meaning V H) → PlainLaws m → (given : Listed ConKind) (j k : V) (mode : Mode) (g h i : H)
@@ -166,9 +167,9 @@ start_stays {V} {H} m l pl given ps j k mode g h merged st e lies =
     covers m pl given j k mode g h i in_it st e (inr grows) = absurd (grows.0 in_it)
 
 pub start_grown : {V H : Type 0} (m : Meaning V H) → Laws m → PlainLaws m → (given : Listed ConKind) (ps : List V)
-    (j k : V) (mode : Mode) (g h : H) → MergesExactly m ps (Some j) → Starts m j given g → Grew m g k mode Exact h
-    → StartsAndGrows m given ps k mode (Some h)
-start_grown {V} {H} m l pl given ps j k mode g h merged st grew =
+    (j k : V) (mode : Mode) (g h : H) → EachPart m.formed ps → m.formed k → MergesExactly m ps (Some j)
+    → Starts m j given g → Grew m g k mode Exact h → StartsAndGrows m given ps k mode (Some h)
+start_grown {V} {H} m l pl given ps j k mode g h fine by_fine merged st grew =
     let out = l.answers_no g k mode (grew.moved refl) in (
       j,
       g,
@@ -176,8 +177,8 @@ start_grown {V} {H} m l pl given ps j k mode g h merged st grew =
       st.started,
       inr (out, grew.exact refl),
       (λ i grows. covers m k mode g h i out grew grows),
-      (λ s own. grew.kept s (st.stores s (has_all m l ps j merged.1 s own))),
-      (λ s own. grew.added s own),
+      (λ s own. l.old_stores g k h st.formed grew.formed grew.both s (st.stores s (has_all m l ps j fine merged.2 merged.1 s own))),
+      (λ s own. l.next_stores g k h by_fine grew.formed grew.both s own),
     )
   where
     covers : {V H : Type 0} (m : Meaning V H) (k : V) (mode : Mode) (g h i : H) → ¬ m.stays g k mode
@@ -205,14 +206,14 @@ one_strains m given [] qs mode strains = strains
 one_strains m given (p ∷ ps) qs mode strains = inr (inl strains)
 
 pub one_first : {V H : Type 0} (m : Meaning V H) → Laws m → PlainLaws m → (given : Listed ConKind) (ps qs : List V)
-    (mode : Mode) (k : V) (h : H) → ps ≡ [] → MergesExactly m qs (Some k) → Starts m k given h
+    (mode : Mode) (k : V) (h : H) → EachPart m.formed qs → ps ≡ [] → MergesExactly m qs (Some k) → Starts m k given h
     → BecomesOne m given ps qs mode (Some h)
-one_first {V} {H} m l pl given ps qs mode k h none merged st =
+one_first {V} {H} m l pl given ps qs mode k h fine none merged st =
     subst (λ (xs : List V). BecomesOne m given xs qs mode (Some h)) (sym none) (
       (k, h, merged.0, st.started, refl),
       (λ f w. covers m pl given qs mode k h merged.0 st.started f w),
       (λ s own. absurd own),
-      (λ s own. st.stores s (has_all m l qs k merged.1 s own)),
+      (λ s own. st.stores s (has_all m l qs k fine merged.2 merged.1 s own)),
     )
   where
     covers : {V H : Type 0} (m : Meaning V H) → PlainLaws m → (given : Listed ConKind) (qs : List V) (mode : Mode) (k : V)
@@ -248,21 +249,21 @@ more_covers {V} {H} m pl given p ps qs mode j k g h joins started merged covers 
     subst (λ (z : Form V H). FormCovered m z (one h)) (sym e) (covers b grown)
 
 more_one : {V H : Type 0} (m : Meaning V H) → Laws m → PlainLaws m → (given : Listed ConKind) (p : V) (ps qs : List V)
-    (mode : Mode) (k : V) (o : Option H) → MergesExactly m qs (Some k) → StartsAndGrows m given (p ∷ ps) k mode o
-    → BecomesOne m given (p ∷ ps) qs mode o
-more_one m l pl given p ps qs mode k None merged g = more_none m given p ps qs mode k merged g
-more_one m l pl given p ps qs mode k (Some h) merged (j, g, joins, started, grows, covers, own, by) = (
+    (mode : Mode) (k : V) (o : Option H) → EachPart m.formed qs → MergesExactly m qs (Some k)
+    → StartsAndGrows m given (p ∷ ps) k mode o → BecomesOne m given (p ∷ ps) qs mode o
+more_one m l pl given p ps qs mode k None fine merged g = more_none m given p ps qs mode k merged g
+more_one m l pl given p ps qs mode k (Some h) fine merged (j, g, joins, started, grows, covers, own, by) = (
   (j, k, g, h, joins, started, merged.0, grows, refl),
   more_covers m pl given p ps qs mode j k g h joins started merged.0 covers,
   own,
-  (λ s has. by s (has_all m l qs k merged.1 s has)),
+  (λ s has. by s (has_all m l qs k fine merged.2 merged.1 s has)),
 )
 
 pub one_more : {V H : Type 0} (m : Meaning V H) → Laws m → PlainLaws m → (given : Listed ConKind) (ps qs : List V)
-    (mode : Mode) (k : V) (o : Option H) → 0 < length ps → MergesExactly m qs (Some k)
+    (mode : Mode) (k : V) (o : Option H) → EachPart m.formed qs → 0 < length ps → MergesExactly m qs (Some k)
     → StartsAndGrows m given ps k mode o → BecomesOne m given ps qs mode o
-one_more m l pl given [] qs mode k o some merged g = let wrong : ⊥ = omega (arith, some) in absurd wrong
-one_more m l pl given (p ∷ ps) qs mode k o some merged g = more_one m l pl given p ps qs mode k o merged g
+one_more m l pl given [] qs mode k o fine some merged g = let wrong : ⊥ = omega (arith, some) in absurd wrong
+one_more m l pl given (p ∷ ps) qs mode k o fine some merged g = more_one m l pl given p ps qs mode k o fine merged g
 
 -- dimensions and other small things ---------------------------------------------------------------------------------------
 
@@ -274,9 +275,9 @@ pub dims_of_some : {V H : Type 0} (m : Meaning V H) (ps : List V) (j k : V) → 
 dims_of_some {V} m ps j k dims e n all = subst (λ (x : V). m.dims x ≡ n) (some_is j k e) (dims n all)
 
 pub head_of_some : {V H : Type 0} (m : Meaning V H) (g h : H) (n : ℕ) → m.head_dims g ≡ n → RankFits (m.rank g)
-    → Some g ≡ Some h → (m.head_dims h ≡ n) × RankFits (m.rank h)
-head_of_some {V} {H} m g h n dims fits e =
-    subst (λ (x : H). (m.head_dims x ≡ n) × RankFits (m.rank x)) (some_is g h e) (dims, fits)
+    → m.head_formed g → Some g ≡ Some h → (m.head_dims h ≡ n) × RankFits (m.rank h) × m.head_formed h
+head_of_some {V} {H} m g h n dims fits fine e =
+    subst (λ (x : H). (m.head_dims x ≡ n) × RankFits (m.rank x) × m.head_formed x) (some_is g h e) (dims, fits, fine)
 
 pub merges_some : {V H : Type 0} (m : Meaning V H) (ps : List V) (o : Option V) (j : V) → o ≡ Some j → MergesExactly m ps o
     → MergesExactly m ps (Some j)
@@ -284,13 +285,23 @@ merges_some {V} m ps o j e t = subst (λ (x : Option V). MergesExactly m ps x) e
 
 -- the head stays as it was after a step that answers Stable
 pub stays_as : {V H : Type 0} (m : Meaning V H) → Laws m → PlainLaws m → (given : Listed ConKind) (ps : List V) (j k : V)
-    (mode : Mode) (g h : H) (o : Option V) → o ≡ Some j → MergesExactly m ps o → Starts m j given g → h ≡ g
-    → m.answers g k mode Yes → StartsAndGrows m given ps k mode (Some h)
-stays_as m l pl given ps j k mode g h o e t st same lies =
-    start_stays m l pl given ps j k mode g h (merges_some m ps o j e t) st same lies
+    (mode : Mode) (g h : H) (o : Option V) → EachPart m.formed ps → m.formed k → o ≡ Some j → MergesExactly m ps o
+    → Starts m j given g → h ≡ g → m.answers g k mode Yes → StartsAndGrows m given ps k mode (Some h)
+stays_as m l pl given ps j k mode g h o fine by_fine e t st same lies =
+    start_stays m l pl given ps j k mode g h fine by_fine (merges_some m ps o j e t) st same lies
 
 pub grown_as : {V H : Type 0} (m : Meaning V H) → Laws m → PlainLaws m → (given : Listed ConKind) (ps : List V) (j k : V)
-    (mode : Mode) (g h : H) (o : Option V) → o ≡ Some j → MergesExactly m ps o → Starts m j given g
-    → Grew m g k mode Exact h → StartsAndGrows m given ps k mode (Some h)
-grown_as m l pl given ps j k mode g h o e t st grew =
-    start_grown m l pl given ps j k mode g h (merges_some m ps o j e t) st grew
+    (mode : Mode) (g h : H) (o : Option V) → EachPart m.formed ps → m.formed k → o ≡ Some j → MergesExactly m ps o
+    → Starts m j given g → Grew m g k mode Exact h → StartsAndGrows m given ps k mode (Some h)
+grown_as m l pl given ps j k mode g h o fine by_fine e t st grew =
+    start_grown m l pl given ps j k mode g h fine by_fine (merges_some m ps o j e t) st grew
+
+-- a head that is held is so after each growth
+pub grown_formed : {V H : Type 0} (m : Meaning V H) (old new : H) (k : V) (mode : Mode) (g : Grown) → m.head_formed old
+    → (g ≡ Stable → new ≡ old) → ((a : Exactness) → g ≡ grew_by a → Grew m old k mode a new) → m.head_formed new
+grown_formed {V} {H} m old new k mode Stable fine same grew = subst m.head_formed (sym (same refl)) fine
+grown_formed m old new k mode (grew_by a) fine same grew = (grew a refl).formed
+
+pub merged_formed : {V H : Type 0} (m : Meaning V H) (ps : List V) (e : Exactness) (j : V) → AreMerged m ps e j → m.formed j
+merged_formed m [] e j a = absurd a
+merged_formed m (p ∷ ps) e j a = a.formed

@@ -15,8 +15,8 @@ use Rattle.lra_domain.specs.Rank.{RankBelow}
 use Rattle.lra_domain.specs.Meaning.{Meaning, Grew, Values}
 use Rattle.lra_domain.specs.Laws.{Laws, PlainLaws}
 use Rattle.lra_set.specs.Lists.{EachPart, SomePart}
-use Rattle.lra_set.specs.ListLemmas.{each_map, some_map}
-use Rattle.lra_set.proofs.PartLists.{some_left, some_right}
+use Rattle.lra_set.specs.ListLemmas.{each_map}
+use Rattle.lra_set.proofs.PartLists.{each_append, some_left, some_right}
 use Rattle.lra_set.specs.Content.{Parts, Form, many, one, whole, Head, filled, with_filled}
 use Rattle.lra_set.specs.Joins.{Merges, MergeStrains, Settles}
 use Rattle.lra_set.specs.Values.{PartsInside, IsWhole}
@@ -24,9 +24,12 @@ use Rattle.lra_set.specs.Heads.{FormHas, HeadHas, FormStarts, FormStays, OneStra
 use Rattle.lra_set.specs.Heads.{FormValued, FormValueStrains, FormGrown, HeadGrown, HeadGrowStrains, Widens}
 use Rattle.lra_set.specs.Heads.{WidenStrains, FormCovered, HeadCovered, HeadGivenUp, form_rank}
 use Rattle.lra_set.specs.Meaning.{set_meaning}
-use Rattle.lra_set.specs.Outcomes.{PartFits, HaveDims, IsSettled, Told}
+use Rattle.lra_set.specs.Outcomes.{HaveDims, IsSettled, Told}
+use Rattle.lra_set.specs.Content.{PartFits}
 use Rattle.lra_set.specs.Forms.{FormFits, HeadFits}
-use Rattle.lra_set.specs.Laws.{parts_within, started_has, whole_is_filled, with_filled_rows}
+use Rattle.lra_set.specs.Laws.{fits_formed, form_fine, parts_within, started_has, whole_is_filled, with_filled_rows}
+use Rattle.lra_set.specs.Values.{AreUndecided}
+use Rattle.lra_set.specs.Heads.{BeginsAsOne, FormLeft, GrowsBy}
 use Rattle.lra_set.specs.Growth.{StartsAnew, BecomesOne, HasAll, OneGrew, OneAnswers, SingleAnswers, LiesIn, HasGrown, valued_set}
 use Rattle.lra_set.proofs.AnswerLemmas.{fits_dims}
 use Rattle.lra_set.proofs.GrowthLemmas.{merge_same, merge_stays, has_all}
@@ -76,17 +79,19 @@ pub grown_stable : {V H : Type 0} (m : Meaning V H) (old : Head V H) (next : Par
 grown_stable m old next mode new same st = record {
   stable = λ e. same;
   stays = λ e. st;
-  grew = λ a e. let wrong : ⊥ = cc in absurd wrong;
+  grew = λ a e fo fn ff. let wrong : ⊥ = cc in absurd wrong;
   lower = λ a e. let wrong : ⊥ = cc in absurd wrong;
 }
 
 pub grown_grew : {V H : Type 0} (m : Meaning V H) (old : Head V H) (next : Parts V) (mode : Mode) (e : Exactness)
-    (new : Head V H) → Grew (set_meaning m) old next mode e new
+    (new : Head V H) → (HeadFits m old → EachPart (PartFits m old.dims) next.parts → HeadFits m new
+    → Grew (set_meaning m) old next mode e new)
     → (mode ≢ Join → RankBelow (form_rank m new.form) (form_rank m old.form)) → HasGrown m old next mode (grew_by e) new
 grown_grew m old next mode e new grew lower = record {
   stable = λ x. let wrong : ⊥ = cc in absurd wrong;
   stays = λ x. let wrong : ⊥ = cc in absurd wrong;
-  grew = λ a x. let same : e ≡ a = cc in subst (λ (d : Exactness). Grew (set_meaning m) old next mode d new) same grew;
+  grew = λ a x fo fn ff. let same : e ≡ a = cc in
+      subst (λ (d : Exactness). Grew (set_meaning m) old next mode d new) same (grew fo fn ff);
   lower = λ a x w. lower w;
 }
 
@@ -103,20 +108,67 @@ whole_below m (many (q ∷ qs)) p n = inl (omega arith)
 whole_below m (one h) p n = inl (omega arith)
 whole_below m (whole q) p n = absurd n
 
+-- the given rows that are left: the whole asks for none, a single part's head for its own, parts that became one for none
+left_whole : {V H : Type 0} (m : Meaning V H) (given : Listed ConKind) (old : Form V H) (mode : Mode) (p : V)
+    → FormLeft m given old mode (whole p)
+left_whole m given (many ps) Join p = tt
+left_whole m given (many ps) Widen p = tt
+left_whole m given (many ps) Limited p = tt
+left_whole m given (one g) Join p = tt
+left_whole m given (one g) Widen p = tt
+left_whole m given (one g) Limited p = tt
+left_whole m given (whole q) Join p = tt
+left_whole m given (whole q) Widen p = tt
+left_whole m given (whole q) Limited p = tt
+
+left_one : {V H : Type 0} (m : Meaning V H) (given : Listed ConKind) (g h : H) (mode : Mode) → mode ≢ Join
+    → m.left g mode h → FormLeft m given (one g) mode (one h)
+left_one m given g h Join w l = absurd (w refl)
+left_one m given g h Widen w l = l
+left_one m given g h Limited w l = l
+
+begins_as_one : {V H : Type 0} (m : Meaning V H) (given : Listed ConKind) (ps qs : List V) (h : H) (mode : Mode)
+    → Widens m given (many ps) qs mode (one h) → BeginsAsOne m given mode h
+begins_as_one m given [] qs h mode (k, i, merged, started, is) = let same : h ≡ i = cc in (k, i, started, inl same)
+begins_as_one {V} {H} m given (p ∷ ps) qs h mode (j, k, g, i, joined, started, merged, by, is) = (j, g, started, grows by)
+  where
+    same : h ≡ i
+    same = cc
+
+    grows : GrowsBy m g k mode i → (h ≡ g) ⊎ ((k : V) × m.grown g k mode h)
+    grows (inl (stays, stable)) = inl (same ∙ stable)
+    grows (inr (moves, grown)) = inr (k, subst (λ (x : H). m.grown g k mode x) (sym same) grown)
+
+left_many : {V H : Type 0} (m : Meaning V H) (given : Listed ConKind) (ps qs : List V) (h : H) (mode : Mode) → mode ≢ Join
+    → Widens m given (many ps) qs mode (one h) → FormLeft m given (many ps) mode (one h)
+left_many m given ps qs h Join w widens = absurd (w refl)
+left_many m given ps qs h Widen w widens = begins_as_one m given ps qs h Widen widens
+left_many m given ps qs h Limited w widens = begins_as_one m given ps qs h Limited widens
+
+left_anew : {V H : Type 0} (m : Meaning V H) (given : Listed ConKind) (old : Form V H) (rs : List V) (f : Form V H)
+    → FormStarts m given rs f → FormLeft m given old Join f
+left_anew {V} {H} m given old [] f e = subst (λ (x : Form V H). FormLeft m given old Join x) (sym e) tt
+left_anew {V} {H} m given old (r ∷ []) f (h, st, e) = subst (λ (x : Form V H). FormLeft m given old Join x) (sym e) (r, st)
+left_anew {V} {H} m given old (r ∷ q ∷ rs) f e = subst (λ (x : Form V H). FormLeft m given old Join x) (sym e) tt
+
 -- the head is given up: it has all stores
 whole_grown : {V H : Type 0} (m : Meaning V H) → (old : Head V H) (next : Parts V) (mode : Mode) (new : Head V H) (p : V)
-    → new.dims ≡ old.dims → new.cap ≡ old.cap → new.form ≡ whole p → IsWhole m old.dims p → next.dims ≡ old.dims
-    → NotWhole old.form
+    → new.dims ≡ old.dims → new.cap ≡ old.cap → new.given ≡ old.given → new.form ≡ whole p → IsWhole m old.dims p
+    → next.dims ≡ old.dims → NotWhole old.form
     → HeadAnswers m old next mode Wide ⊎ (HeadAnswers m old next mode No × HeadGrowStrains m old next mode)
     → HasGrown m old next mode (grew_by Flagged) new
-whole_grown {V} {H} m old next mode new p dims cap form all same other strains =
+whole_grown {V} {H} m old next mode new p dims cap rows form all same other strains =
     let every : (s : List ℤ) → length s ≡ old.dims → HeadHas m new s = λ s long. (
       long ∙ sym dims,
       subst (λ (f : Form V H). FormHas m f s) (sym form) tt,
     ) in
-    grown_grew m old next mode Flagged new (record {
-      kept = λ s own. every s own.0;
-      added = λ s own. every s (own.0 ∙ same);
+    grown_grew m old next mode Flagged new (λ fo fn ff. record {
+      formed = ff;
+      both = (λ s own. every s own.0, λ s own. every s (own.0 ∙ same));
+      left = (
+        rows,
+        subst (λ (f : Form V H). FormLeft m old.given old.form mode f) (sym form) (left_whole m old.given old.form mode p),
+      );
       covers = λ h g. (g.dims ∙ sym dims, inl (p, form));
       moved = λ e. let wrong : ⊥ = cc in absurd wrong;
       exact = λ e. let wrong : ⊥ = cc in absurd wrong;
@@ -134,9 +186,9 @@ whole_grown {V} {H} m old next mode new p dims cap form all same other strains =
     flagged m old next mode new p dims cap form all (inr out) = inr out
 
 -- the part with all stores fits
-pub whole_fits : {V H : Type 0} (m : Meaning V H) → Laws m → (n c : ℕ) (p : V) → m.universal n c p → m.dims p ≡ n
+pub whole_fits : {V H : Type 0} (m : Meaning V H) → PlainLaws m → (n c : ℕ) (p : V) → m.formed p → m.universal n c p → m.dims p ≡ n
     → IsWhole m n p × PartFits m n p
-whole_fits m l n c p u dims = ((c, u), record { dims = dims; full = whole_is_filled m l n p (c, u) })
+whole_fits m pl n c p fine u dims = ((c, u), record { formed = fine; dims = dims; full = whole_is_filled m pl n p (c, u) })
 
 -- widening: the head of a single part -------------------------------------------------------------------------------------
 
@@ -187,9 +239,17 @@ pub one_grew : {V H : Type 0} (m : Meaning V H) → Laws m → PlainLaws m → (
     → OneGrew m g next.parts mode e h
     → HasGrown m (with_one n c given g) next mode (grew_by e) (with_one n c given h)
 one_grew m l pl n c given g h next mode e w same dims o =
-    grown_grew m (with_one n c given g) next mode e (with_one n c given h) (record {
-      kept = λ s own. (own.0, o.grew.kept s own.1);
-      added = λ s own. (own.0 ∙ same, o.grew.added s (has_all m l next.parts o.join o.all s own.1));
+    grown_grew m (with_one n c given g) next mode e (with_one n c given h) (λ fo fn ff. record {
+      formed = ff;
+      both = (
+        λ s own. (own.0, l.old_stores g o.join h fo.form.2 o.grew.formed o.grew.both s own.1),
+        λ s own. (
+          own.0 ∙ same,
+          l.next_stores g o.join h o.formed o.grew.formed o.grew.both s
+              (has_all m l next.parts o.join (fits_formed m n next.parts fn) o.formed o.all s own.1),
+        ),
+      );
+      left = (refl, left_one m given g h mode w o.grew.left);
       covers = one_covers m pl n c given g h next mode e w o;
       moved = λ x. out_of_one m l pl n c given g next mode o.join w o.merged (o.grew.moved x);
       exact = λ x. record {
@@ -259,10 +319,10 @@ single_grown {V} {H} m l pl old new next mode g w same dims cap s =
 -- nothing is known of the single part's head, and the head is given up
 pub single_given_up : {V H : Type 0} (m : Meaning V H) → Laws m → (old between new : Head V H) (next : Parts V) (mode : Mode)
     (n cap : ℕ) (p : V) → mode ≢ Join → next.dims ≡ old.dims → SingleAnswers m old next.parts mode None between
-    → new.dims ≡ old.dims → new.cap ≡ old.cap → new.form ≡ whole p → n ≡ old.dims → m.universal n cap p
-    → HasGrown m old next mode (grew_by Flagged) new
-single_given_up {V} {H} m l old between new next mode n k p w same s dims cap form is all =
-    whole_grown m old next mode new p dims cap form (k, subst (λ (i : ℕ). m.universal i k p) is all) same (subst (λ (f : Form V H). NotWhole f) (sym s.was) tt)
+    → new.dims ≡ old.dims → new.cap ≡ old.cap → new.given ≡ old.given → new.form ≡ whole p → n ≡ old.dims
+    → m.universal n cap p → HasGrown m old next mode (grew_by Flagged) new
+single_given_up {V} {H} m l old between new next mode n k p w same s dims cap rows form is all =
+    whole_grown m old next mode new p dims cap rows form (k, subst (λ (i : ℕ). m.universal i k p) is all) same (subst (λ (f : Form V H). NotWhole f) (sym s.was) tt)
     (subst (λ (x : Head V H). HeadAnswers m x next mode Wide ⊎ (HeadAnswers m x next mode No × HeadGrowStrains m x next mode))
     (sym (head_is old old.dims old.cap old.given (one s.before) refl refl refl s.was))
     (one_fails m old.dims old.cap old.given s.before next mode w s.answers.0 (some_or m l s.before mode next.parts s.answers.1)))
@@ -281,9 +341,9 @@ many_stays {V} {H} m old ps next mode form st = grown_stable m old next mode old
 -- an inclusion in its parts strains, and the head is given up
 pub many_wide : {V H : Type 0} (m : Meaning V H) (old new : Head V H) (ps : List V) (next : Parts V) (mode : Mode)
     → old.form ≡ many ps → next.dims ≡ old.dims → HasAll m old new
-    → SomePart (λ q. SomePart (m.inside_strains q) ps) next.parts → HasGrown m old next mode (grew_by Flagged) new
+    → AreUndecided m next.parts ps → HasGrown m old next mode (grew_by Flagged) new
 many_wide {V} {H} m old new ps next mode form same a strains =
-    whole_grown m old next mode new a.part a.dims a.cap a.form (old.cap, a.all) same
+    whole_grown m old next mode new a.part a.dims a.cap a.rows a.form (old.cap, a.all) same
     (subst (λ (f : Form V H). NotWhole f) (sym form) tt)
     (inl (subst (λ (f : Form V H). FormStrains m f next.parts mode) (sym form) strains))
 
@@ -292,7 +352,7 @@ pub many_strains : {V H : Type 0} (m : Meaning V H) (old new : Head V H) (ps : L
     → mode ≢ Join → old.form ≡ many ps → next.dims ≡ old.dims → HasAll m old new → ¬ PartsInside m.inside next.parts ps
     → BecomesOne m old.given ps next.parts mode None → HasGrown m old next mode (grew_by Flagged) new
 many_strains {V} {H} m old new ps next mode w form same a out strains =
-    whole_grown m old next mode new a.part a.dims a.cap a.form (old.cap, a.all) same
+    whole_grown m old next mode new a.part a.dims a.cap a.rows a.form (old.cap, a.all) same
     (subst (λ (f : Form V H). NotWhole f) (sym form) tt)
     (inr (
       (λ st. out (subst (λ (f : Form V H). FormStays m f next.parts mode) form st.1)),
@@ -311,9 +371,10 @@ many_one : {V H : Type 0} (m : Meaning V H) (n c : ℕ) (given : Listed ConKind)
     → BecomesOne m given ps next.parts mode (Some h)
     → HasGrown m (with_parts n c given ps) next mode (grew_by Exact) (with_one n c given h)
 many_one m n c given ps h next mode w same not_one out (widens, covers, own, by) =
-    grown_grew m (with_parts n c given ps) next mode Exact (with_one n c given h) (record {
-      kept = λ s has. (has.0, own s has.1);
-      added = λ s has. (has.0 ∙ same, by s has.1);
+    grown_grew m (with_parts n c given ps) next mode Exact (with_one n c given h) (λ fo fn ff. record {
+      formed = ff;
+      both = (λ s has. (has.0, own s has.1), λ s has. (has.0 ∙ same, by s has.1));
+      left = (refl, left_many m given ps next.parts h mode w widens);
       covers = λ x g. (g.dims, covers x.form (grows_widens m (with_parts n c given ps) next.parts mode x.form w g.form));
       moved = λ e st. out st.1;
       exact = λ e. record {
@@ -411,22 +472,11 @@ valued_stays {V} m pl n (one h) ps qs w (p, v, e) fit (q, u, each) =
     )
 valued_stays m pl n (whole p) ps qs w v fit st = absurd w
 
--- where an inclusion in the parts of the value strains
+-- where an inclusion in the parts of the value isn't decided
 pub strains_valued : {V H : Type 0} (m : Meaning V H) (f : Form V H) (ps qs : List V) → NotWhole f → FormValued m f ps
-    → SomePart (λ q. SomePart (m.inside_strains q) ps) qs → FormStrains m f qs Join
-strains_valued {V} m (many rs) ps qs w v some = subst (λ (xs : List V). SomePart (λ q. SomePart (m.inside_strains q) xs) qs) v some
-strains_valued {V} m (one h) ps qs w (p, v, e) some = inr (
-  p,
-  v,
-  some_map (λ q. SomePart (m.inside_strains q) (filled m (p ∷ [])))
-      (λ q. m.inside_strains q p) (λ q x. in_filled (m.inside_strains q) (m.parts p) p x) qs
-      (subst (λ (xs : List V). SomePart (λ q. SomePart (m.inside_strains q) xs) qs) e some),
-)
-  where
-    in_filled : {V R : Type 0} (P : V → Type 0) (rows : List R) (p : V) → SomePart P (with_filled rows p []) → P p
-    in_filled P [] p some = absurd some
-    in_filled P (r ∷ rows) p (inl x) = x
-    in_filled P (r ∷ rows) p (inr none) = absurd none
+    → AreUndecided m qs ps → FormStrains m f qs Join
+strains_valued {V} m (many rs) ps qs w v some = subst (λ (xs : List V). AreUndecided m qs xs) v some
+strains_valued {V} m (one h) ps qs w (p, v, e) some = inr (p, v, subst (λ (xs : List V). AreUndecided m qs xs) e some)
 strains_valued m (whole p) ps qs w v some = absurd w
 
 pub lies_whole : {V H : Type 0} (m : Meaning V H) (h : Head V H) (p : V) (ps : List V) (next : Parts V) → h.form ≡ whole p
@@ -451,7 +501,7 @@ value_exact {V} {H} m f rs Flagged is strains = absurd (subst (λ (g : Form V H)
 
 lies_told : {V H : Type 0} (m : Meaning V H) → PlainLaws m → (h : Head V H) (ps : List V) (next : Parts V) (i : Included)
     → NotWhole h.form → next.dims ≡ h.dims → EachPart (PartFits m h.dims) next.parts → FormValued m h.form ps
-    → Told (PartsInside m.inside next.parts ps) (SomePart (λ q. SomePart (m.inside_strains q) ps) next.parts) i
+    → Told (PartsInside m.inside next.parts ps) (AreUndecided m next.parts ps) i
     → LiesIn m h ps next i
 lies_told m pl h ps next Yes w same fit v t = record {
   answers = (same, stays_valued m h.form ps next.parts v t);
@@ -469,7 +519,7 @@ lies_told m pl h ps next Wide w same fit v t = record {
 pub lies_many : {V H : Type 0} (m : Meaning V H) → PlainLaws m → (h : Head V H) (rs ps : List V) (next : Parts V)
     (e : Exactness) (i : Included) → h.form ≡ many rs → next.dims ≡ h.dims → EachPart (PartFits m h.dims) next.parts
     → Values (set_meaning m) h e (valued_set h ps)
-    → Told (PartsInside m.inside next.parts ps) (SomePart (λ q. SomePart (m.inside_strains q) ps) next.parts) i
+    → Told (PartsInside m.inside next.parts ps) (AreUndecided m next.parts ps) i
     → LiesIn m h ps next i
 lies_many {V} {H} m pl h rs ps next e i form same fit v t =
     lies_told m pl h ps next i (subst (λ (f : Form V H). NotWhole f) (sym form) tt) same fit
@@ -478,7 +528,7 @@ lies_many {V} {H} m pl h rs ps next e i form same fit v t =
 pub lies_one : {V H : Type 0} (m : Meaning V H) → PlainLaws m → (h : Head V H) (g : H) (ps : List V) (next : Parts V)
     (e : Exactness) (i : Included) → h.form ≡ one g → next.dims ≡ h.dims → EachPart (PartFits m h.dims) next.parts
     → Values (set_meaning m) h e (valued_set h ps) → e ≡ Exact
-    → Told (PartsInside m.inside next.parts ps) (SomePart (λ q. SomePart (m.inside_strains q) ps) next.parts) i
+    → Told (PartsInside m.inside next.parts ps) (AreUndecided m next.parts ps) i
     → LiesIn m h ps next i
 lies_one {V} {H} m pl h g ps next e i form same fit v is t =
     lies_told m pl h ps next i (subst (λ (f : Form V H). NotWhole f) (sym form) tt) same fit (v.exact is).form t
@@ -519,12 +569,20 @@ pub join_grew : {V H : Type 0} (m : Meaning V H) → Laws m → PlainLaws m → 
     → new.given ≡ old.given → Values (set_meaning m) old d (valued_set old ps) → LiesIn m old ps next No
     → StartsAnew m old.given old.dims old.cap ps next.parts e new.form → HasGrown m old next Join (grew_by e) new
 join_grew {V} {H} m l pl old next d e new ps same dims cap given v lies (rs, settled, starts) =
-    let comes : (s : List ℤ) → SomePart (λ p. m.has p s) (ps ++ next.parts) → FormHas m new.form s = λ s own.
-    started_has m l pl old.given rs new.form starts s (parts_within m l (ps ++ next.parts) rs settled.parts s own) in
+    let comes : EachPart (PartFits m old.dims) next.parts → HeadFits m new → (s : List ℤ)
+    → SomePart (λ p. m.has p s) (ps ++ next.parts) → FormHas m new.form s = λ fn ff s own.
+    started_has m l pl old.given rs new.form starts (form_fine m new.dims new.cap new.form ff.form) s
+    (parts_within m l (ps ++ next.parts) rs
+    (fits_formed m old.dims (ps ++ next.parts) (each_append (PartFits m old.dims) ps next.parts v.formed.0 fn))
+    (fits_formed m old.dims rs settled.fit) settled.parts s own) in
     let valued : FormValued m old.form ps = lies.valued refl in
-    grown_grew m old next Join e new (record {
-      kept = λ s own. (own.0 ∙ sym dims, comes s (some_left (λ p. m.has p s) ps next.parts (v.stores s own).1));
-      added = λ s own. (own.0 ∙ same ∙ sym dims, comes s (some_right (λ p. m.has p s) ps next.parts own.1));
+    grown_grew m old next Join e new (λ fo fn ff. record {
+      formed = ff;
+      both = (
+        λ s own. (own.0 ∙ sym dims, comes fn ff s (some_left (λ p. m.has p s) ps next.parts (v.stores s own).1)),
+        λ s own. (own.0 ∙ same ∙ sym dims, comes fn ff s (some_right (λ p. m.has p s) ps next.parts own.1)),
+      );
+      left = (given, left_anew m old.given old.form rs new.form starts);
       covers = λ x g. (g.dims ∙ sym dims, join_covers m pl old next e new ps rs valued settled starts x g);
       moved = λ x. lies.answers;
       exact = λ x. let k = settled.exact x in record {
@@ -543,7 +601,7 @@ join_stays m old next ps lies = grown_stable m old next Join old refl lies.answe
 pub join_wide : {V H : Type 0} (m : Meaning V H) (old new : Head V H) (next : Parts V) (ps : List V) → next.dims ≡ old.dims
     → HasAll m old new → LiesIn m old ps next Wide → HasGrown m old next Join (grew_by Flagged) new
 join_wide m old new next ps same a lies =
-    whole_grown m old next Join new a.part a.dims a.cap a.form (old.cap, a.all) same
+    whole_grown m old next Join new a.part a.dims a.cap a.rows a.form (old.cap, a.all) same
     (strains_open m old.form next.parts Join lies.answers) (inl lies.answers)
 
 -- the whole stays

@@ -6,10 +6,9 @@ use Rattle.lra_domain.specs.declared.Exactness.{Exactness}
 use Rattle.lra_domain.specs.declared.Included.{Included}
 use Rattle.lra_domain.specs.Meaning.{Meaning}
 use Rattle.lra_domain.specs.Rank.{RankFits}
-use Rattle.lra_domain.specs.Laws.{Laws}
-use Rattle.lra_set.specs.Lists.{SomePart}
+use Rattle.lra_domain.specs.Laws.{PlainLaws}
 use Rattle.lra_set.specs.Content.{Form, one, whole}
-use Rattle.lra_set.specs.Values.{PartsInside}
+use Rattle.lra_set.specs.Values.{AreUndecided, PartsInside}
 use Rattle.lra_set.specs.Heads.{FormStarts}
 use Rattle.lra_set.specs.Outcomes.{Told}
 use Rattle.lra_set.specs.Growth.{StartsAnew}
@@ -17,37 +16,37 @@ use Rattle.lra_set.specs.Forms.{FormFits, HeadFits}
 use Rattle.lra_set.proofs.HeadLemmas.{whole_fits}
 
 -- the head of a head that fits, given up, fits
-pub fits_whole : {V H : Type 0} (m : Meaning V H) → Laws m → (n c : ℕ) (given : Listed ConKind) (f : Form V H) (p : V) (cap : ℕ)
-    → HeadFits m (record { dims = n; cap = c; given = given; form = f }) → m.universal n cap p → m.dims p ≡ n
+pub fits_whole : {V H : Type 0} (m : Meaning V H) → PlainLaws m → (n c : ℕ) (given : Listed ConKind) (f : Form V H) (p : V) (cap : ℕ)
+    → HeadFits m (record { dims = n; cap = c; given = given; form = f }) → m.formed p → m.universal n cap p → m.dims p ≡ n
     → HeadFits m (record { dims = n; cap = c; given = given; form = whole p })
-fits_whole m l n c given f p cap fits all dims = record {
+fits_whole m pl n c given f p cap fits fine all dims = record {
   small = fits.small;
   some = fits.some;
   few = fits.few;
   rows = fits.rows;
-  form = whole_fits m l n cap p all dims;
+  form = whole_fits m pl n cap p fine all dims;
 }
 
-pub fits_whole_as : {V H : Type 0} (m : Meaning V H) → Laws m → (n i c : ℕ) (given : Listed ConKind) (f : Form V H) (p : V)
-    (cap : ℕ) → HeadFits m (record { dims = n; cap = c; given = given; form = f }) → i ≡ n → m.universal i cap p → m.dims p ≡ i
+pub fits_whole_as : {V H : Type 0} (m : Meaning V H) → PlainLaws m → (n i c : ℕ) (given : Listed ConKind) (f : Form V H) (p : V)
+    (cap : ℕ) → HeadFits m (record { dims = n; cap = c; given = given; form = f }) → i ≡ n → m.formed p → m.universal i cap p → m.dims p ≡ i
     → HeadFits m (record { dims = n; cap = c; given = given; form = whole p })
-fits_whole_as m l n i c given f p cap fits same all dims =
-    fits_whole m l n c given f p cap fits (subst (λ (k : ℕ). m.universal k cap p) same all) (dims ∙ same)
+fits_whole_as m pl n i c given f p cap fits same fine all dims =
+    fits_whole m pl n c given f p cap fits fine (subst (λ (k : ℕ). m.universal k cap p) same all) (dims ∙ same)
 
 pub fits_one : {V H : Type 0} (m : Meaning V H) (n c : ℕ) (given : Listed ConKind) (f : Form V H) (h : H)
     → HeadFits m (record { dims = n; cap = c; given = given; form = f }) → m.head_dims h ≡ n → RankFits (m.rank h)
-    → HeadFits m (record { dims = n; cap = c; given = given; form = one h })
-fits_one m n c given f h fits dims rank =
-    record { small = fits.small; some = fits.some; few = fits.few; rows = fits.rows; form = (dims, rank) }
+    → m.head_formed h → HeadFits m (record { dims = n; cap = c; given = given; form = one h })
+fits_one m n c given f h fits dims rank fine =
+    record { small = fits.small; some = fits.some; few = fits.few; rows = fits.rows; form = (dims, rank, fine) }
 
 -- facts on lists as the code has them
 pub told_lists : {V H : Type 0} (m : Meaning V H) (qs rs ps zs : List V) (i k : Included) → qs ≡ rs → ps ≡ zs → i ≡ k
-    → Told (PartsInside m.inside qs ps) (SomePart (λ q. SomePart (m.inside_strains q) ps) qs) i
-    → Told (PartsInside m.inside rs zs) (SomePart (λ q. SomePart (m.inside_strains q) zs) rs) k
+    → Told (PartsInside m.inside qs ps) (AreUndecided m qs ps) i
+    → Told (PartsInside m.inside rs zs) (AreUndecided m rs zs) k
 told_lists {V} m qs rs ps zs i k e d f t = subst
-    (λ (x : Included). Told (PartsInside m.inside rs zs) (SomePart (λ q. SomePart (m.inside_strains q) zs) rs) x) f
-    (subst (λ (xs : List V). Told (PartsInside m.inside xs zs) (SomePart (λ q. SomePart (m.inside_strains q) zs) xs) i) e
-    (subst (λ (xs : List V). Told (PartsInside m.inside qs xs) (SomePart (λ q. SomePart (m.inside_strains q) xs) qs) i) d t))
+    (λ (x : Included). Told (PartsInside m.inside rs zs) (AreUndecided m rs zs) x) f
+    (subst (λ (xs : List V). Told (PartsInside m.inside xs zs) (AreUndecided m xs zs) i) e
+    (subst (λ (xs : List V). Told (PartsInside m.inside qs xs) (AreUndecided m qs xs) i) d t))
 
 pub anew_as : {V H : Type 0} (m : Meaning V H) (given rows : Listed ConKind) (n k c d : ℕ) (ps qs rs : List V) (e : Exactness)
     (f : Form V H) → given ≡ rows → n ≡ k → c ≡ d → qs ≡ rs → StartsAnew m given n c ps qs e f

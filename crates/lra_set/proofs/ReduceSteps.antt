@@ -8,7 +8,8 @@ use Rattle.lra_domain.specs.Laws.{PlainLaws}
 use Rattle.lra_set.specs.Lists.{EachPart}
 use Rattle.lra_set.specs.Reduction.{Reduces, ReduceStrains}
 use Rattle.lra_set.specs.Values.{PartsInside}
-use Rattle.lra_set.specs.Outcomes.{PartFits, IsReduced}
+use Rattle.lra_set.specs.Outcomes.{IsReduced}
+use Rattle.lra_set.specs.Content.{PartFits}
 use Rattle.lra_set.proofs.ReductionLemmas.{reduced_covers, reduced_exact, reduced_strains, reduced_each, reduced_fewer}
 
 module _ {V H E : Type 0} (m : Meaning V H) (ps qs : List V) where

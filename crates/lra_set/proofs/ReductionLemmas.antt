@@ -1,5 +1,5 @@
 -- Lemmas on answers and reductions.
-use Rattle.std.proofs.Common.{◌≡◌, ◌⊎◌, suc, ◌≤◌, List, [], ◌∷◌, ◌++◌, length, refl, ap, sym, subst, ◌∙◌, inl, inr}
+use Rattle.std.proofs.Common.{◌≡◌, ◌⊎◌, suc, ◌≤◌, List, [], ◌∷◌, ◌++◌, length, refl, sym, subst, ◌∙◌, inl, inr}
 use Rattle.std.proofs.Common.{arith, append_assoc}
 use Rattle.lra_domain.specs.declared.Exactness.{Exactness}
 use Rattle.lra_domain.specs.declared.Exactness.TheVariants.{Exact, Flagged}
@@ -153,15 +153,6 @@ pub reduced_strains : {V H : Type 0} (m : Meaning V H) (ps : List V) (e : Exactn
 reduced_strains m ps e qs r x = kept_strains m [] ps r.answers r.told (sym r.exactness ∙ x)
 
 -- lists that are left -----------------------------------------------------------------------------------------------------
-
-pub leaves_same : {V H : Type 0} (m : Meaning V H) (before ps xs ys : List V) → Leaves m before ps xs
-    → Leaves m before ps ys → xs ≡ ys
-leaves_same m before [] xs ys a b = a ∙ sym b
-leaves_same m before (p ∷ ps) xs ys (inl a) (inl b) = leaves_same m (before ++ p ∷ []) ps xs ys a.1 b.1
-leaves_same m before (p ∷ ps) xs ys (inl a) (inr (s, stays, d, more)) = absurd (stays a.0)
-leaves_same m before (p ∷ ps) xs ys (inr (r, stays, e, rest)) (inl b) = absurd (stays b.0)
-leaves_same {V} m before (p ∷ ps) xs ys (inr (r, stays, e, rest)) (inr (s, stays_too, d, more)) =
-    e ∙ ap (λ (zs : List V). p ∷ zs) (leaves_same m (before ++ p ∷ []) ps r s rest more) ∙ sym d
 
 pub leaves_each : {V H : Type 0} (m : Meaning V H) (P : V → Type 0) (before ps zs : List V) → Leaves m before ps zs
     → EachPart P ps → EachPart P zs

@@ -22,22 +22,23 @@ use Rattle.lra_set.specs.Growth.{StartsAnew}
 use Rattle.lra_set.specs.Values.{PartsInside, SetHas}
 use Rattle.lra_set.specs.Meaning.{set_meaning}
 use Rattle.lra_domain.specs.Meaning.{worse}
-use Rattle.lra_set.specs.Outcomes.{PartFits, HaveDims, IsSettled, AreChanged}
+use Rattle.lra_set.specs.Outcomes.{HaveDims, IsSettled, AreChanged}
+use Rattle.lra_set.specs.Content.{PartFits}
 use Rattle.lra_set.specs.Laws.{parts_within, inside_covers, whole_is_filled}
 use Rattle.lra_set.proofs.AnswerLemmas.{fits_dims, fits_none}
 use Rattle.lra_set.proofs.ChangeLemmas.{Appended, set_meets, set_joins}
 
 -- a set that lies in another has no store beyond its
-pub inside_stores : {V H : Type 0} (m : Meaning V H) → Laws m → PlainLaws m → (a b : Parts V) → a.dims ≡ b.dims
-    → PartsInside m.inside a.parts b.parts → Within (SetHas m a) (SetHas m b)
-inside_stores m l pl a b same st s own =
-    (own.0 ∙ same, parts_within m l a.parts b.parts (inside_covers m pl a.parts b.parts st) s own.1)
+pub inside_stores : {V H : Type 0} (m : Meaning V H) → Laws m → PlainLaws m → (a b : Parts V)
+    → EachPart m.formed a.parts → EachPart m.formed b.parts → a.dims ≡ b.dims → PartsInside m.inside a.parts b.parts → Within (SetHas m a) (SetHas m b)
+inside_stores m l pl a b f g same st s own =
+    (own.0 ∙ same, parts_within m l a.parts b.parts f g (inside_covers m pl a.parts b.parts st) s own.1)
 
 -- the part with all stores fits
-pub universe_fits : {V H : Type 0} (m : Meaning V H) → Laws m → (n cap : ℕ) (p : V) (ps : List V) → ps ≡ p ∷ []
-    → m.universal n cap p → m.dims p ≡ n → EachPart (PartFits m n) ps
-universe_fits {V} m l n cap p ps alone u dims = subst (λ (xs : List V). EachPart (PartFits m n) xs) (sym alone)
-    (record { dims = dims; full = whole_is_filled m l n p (cap, u) }, tt)
+pub universe_fits : {V H : Type 0} (m : Meaning V H) → PlainLaws m → (n cap : ℕ) (p : V) (ps : List V) → ps ≡ p ∷ []
+    → m.formed p → m.universal n cap p → m.dims p ≡ n → EachPart (PartFits m n) ps
+universe_fits {V} m pl n cap p ps alone fine u dims = subst (λ (xs : List V). EachPart (PartFits m n) xs) (sym alone)
+    (record { formed = fine; dims = dims; full = whole_is_filled m pl n p (cap, u) }, tt)
 
 -- changes -----------------------------------------------------------------------------------------------------------------
 

@@ -1,5 +1,5 @@
 -- Lemmas on lists that are kept within their cap.
-use Rattle.std.proofs.Common.{◌≡◌, ◌⊎◌, ℕ, zero, suc, ◌≤◌, ◌<◌, List, [], ◌∷◌, ◌++◌, length, refl, ap, sym, subst, ◌∙◌, inl, inr}
+use Rattle.std.proofs.Common.{◌≡◌, ◌⊎◌, ℕ, zero, suc, ◌≤◌, ◌<◌, List, [], ◌∷◌, ◌++◌, length, refl, sym, subst, inl, inr}
 use Rattle.std.proofs.Common.{arith}
 use Rattle.lra_domain.specs.declared.Exactness.{Exactness}
 use Rattle.lra_domain.specs.declared.Exactness.TheVariants.{Exact, Flagged}
@@ -12,27 +12,11 @@ use Rattle.lra_set.specs.Reduction.{Reduces}
 use Rattle.lra_set.specs.Joins.{JoinsOnStrains, LastTwoJoin, LastTwoStrain, Settles, SettleStrains}
 use Rattle.lra_set.specs.Values.{PartsInside}
 use Rattle.lra_domain.specs.Meaning.{worse}
-use Rattle.lra_set.specs.Outcomes.{PartFits, IsReduced, IsMerged, LastTwoMeet, IsSettled}
-use Rattle.lra_set.proofs.ReductionLemmas.{cover_trans, reduced_covers, reduced_exact, reduced_strains, leaves_same}
+use Rattle.lra_set.specs.Outcomes.{IsReduced, IsMerged, LastTwoMeet, IsSettled}
+use Rattle.lra_set.specs.Content.{PartFits}
+use Rattle.lra_set.specs.Single.{join_same, leaves_same}
+use Rattle.lra_set.proofs.ReductionLemmas.{cover_trans, reduced_covers, reduced_exact, reduced_strains}
 use Rattle.lra_set.proofs.ReductionLemmas.{leaves_each, reduced_more, reduced_each}
-
--- ends of lists -----------------------------------------------------------------------------------------------------------
-
-none_behind : {V : Type 0} (xs : List V) (x : V) → ¬ (xs ++ x ∷ [] ≡ [])
-none_behind [] x e = cc
-none_behind (y ∷ xs) x e = cc
-
-head_same : {V : Type 0} (x y : V) (xs ys : List V) → x ∷ xs ≡ y ∷ ys → (x ≡ y) × (xs ≡ ys)
-head_same x y xs ys e = (cc, cc)
-
-pub same_ends : {V : Type 0} (xs ys : List V) (x y : V) → xs ++ x ∷ [] ≡ ys ++ y ∷ [] → (xs ≡ ys) × (x ≡ y)
-same_ends [] [] x y e = (refl, (head_same x y [] [] e).0)
-same_ends [] (b ∷ ys) x y e = absurd (none_behind ys y (sym (head_same x b [] (ys ++ y ∷ []) e).1))
-same_ends (a ∷ xs) [] x y e = absurd (none_behind xs x (head_same a y (xs ++ x ∷ []) [] e).1)
-same_ends {V} (a ∷ xs) (b ∷ ys) x y e =
-    let parts = head_same a b (xs ++ x ∷ []) (ys ++ y ∷ []) e in
-    let rest = same_ends xs ys x y parts.1 in
-    (ap (λ (z : V). z ∷ xs) parts.0 ∙ ap (λ (zs : List V). b ∷ zs) rest.0, rest.1)
 
 -- covering ----------------------------------------------------------------------------------------------------------------
 
@@ -86,17 +70,6 @@ meet_strains m ps qs t = record {
   strains = t.joined.flagged refl;
 }
 
--- the last two have one join
-pub join_same : {V H : Type 0} (m : Meaning V H) → PlainLaws m → (ps xs ys : List V) → LastTwoJoin m ps xs
-    → LastTwoJoin m ps ys → xs ≡ ys
-join_same {V} m pl ps xs ys a b =
-    let outer = same_ends (a.front ++ a.one ∷ []) (b.front ++ b.one ∷ []) a.two b.two (sym a.old ∙ b.old) in
-    let inner = same_ends a.front b.front a.one b.one outer.0 in
-    let joined : m.joined a.one a.two b.both = subst (λ (x : V). m.joined x a.two b.both) (sym inner.1)
-    (subst (λ (y : V). m.joined b.one y b.both) (sym outer.1) b.joined) in
-    let both : a.both ≡ b.both = pl.one_joined a.one a.two a.both b.both a.joined joined in
-    a.new ∙ ap (λ (zs : List V). zs ++ a.both ∷ []) inner.0 ∙ ap (λ (z : V). b.front ++ z ∷ []) both ∙ sym b.new
-
 -- what covers all parts covers what comes of them
 join_under : {V H : Type 0} (m : Meaning V H) → PlainLaws m → (j : V) (ps qs : List V) → LastTwoJoin m ps qs
     → EachPart (λ p. m.covered p j) ps → EachPart (λ p. m.covered p j) qs
@@ -149,7 +122,7 @@ on_covers {V} m pl n cap ps mid next e qs red over two s zero zs z =
 on_covers {V} m pl n cap ps mid next e qs red over two s (suc k) zs (left, after, red_too, over_too, join, more) =
     let one : left ≡ mid = leaves_same m [] ps left mid red_too red in
     let joined : LastTwoJoin m mid after = subst (λ (xs : List V). LastTwoJoin m xs after) one join in
-    let same : after ≡ next = join_same m pl mid after next joined two in
+    let same : after ≡ next = join_same m pl.one_joined mid after next joined two in
     s.covers k zs (subst (λ (xs : List V). Settles m cap k xs zs) same more)
 
 -- one join more
@@ -196,8 +169,8 @@ merged_each m pl ps mid j c each = each_map (λ p. SomePart (m.covered p) mid) (
 
 -- the part and the others, joined in order ------------------------------------------------------------------------------------
 
-pub merged_none : {V H : Type 0} (m : Meaning V H) → PlainLaws m → (a : V) → IsMerged m a [] Exact a
-merged_none m pl a = record { first = pl.covered_reflexive a; others = tt; exact = λ e. refl; flagged = λ e. cc }
+pub merged_none : {V H : Type 0} (m : Meaning V H) → PlainLaws m → (a : V) → m.formed a → IsMerged m a [] Exact a
+merged_none m pl a fine = record { formed = fine; first = pl.covered_reflexive a; others = tt; exact = λ e. refl; flagged = λ e. cc }
 
 worse_exact : (a b : Exactness) → worse a b ≡ Exact → (a ≡ Exact) × (b ≡ Exact)
 worse_exact Exact b e = (refl, e)
@@ -212,6 +185,7 @@ merge_flagged m a p b ps Flagged two j f e = inl (j.flagged refl)
 pub merged_more : {V H : Type 0} (m : Meaning V H) → PlainLaws m → (a p b : V) (ps : List V) (one two : Exactness) (j : V)
     → Joins m a p one b → IsMerged m b ps two j → IsMerged m a (p ∷ ps) (worse one two) j
 merged_more m pl a p b ps one two j t more = record {
+  formed = more.formed;
   first = pl.covered_transitive a b j t.left more.first;
   others = (pl.covered_transitive p b j t.right more.first, more.others);
   exact = λ e. let both = worse_exact one two e in (b, t.exact both.0, more.exact both.1);

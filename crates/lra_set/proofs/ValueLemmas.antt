@@ -13,8 +13,8 @@ use Rattle.lra_set.specs.Content.{Parts, Form, many, one, whole, Head, filled}
 use Rattle.lra_set.specs.Values.{PartsInside, IsWhole}
 use Rattle.lra_set.specs.Heads.{FormHas, FormStarts, FormValued, FormCapped, HeadCapped, counted, form_rank}
 use Rattle.lra_set.specs.Meaning.{set_meaning}
-use Rattle.lra_set.specs.Outcomes.{PartFits}
-use Rattle.lra_set.specs.Laws.{started_has}
+use Rattle.lra_set.specs.Content.{PartFits}
+use Rattle.lra_set.specs.Laws.{form_fine, started_has}
 use Rattle.lra_set.specs.Forms.{FormFits, HeadFits}
 use Rattle.lra_set.specs.Growth.{valued_set}
 use Rattle.lra_set.proofs.SettleLemmas.{covers_itself}
@@ -23,11 +23,17 @@ use Rattle.lra_set.proofs.ChangeLemmas.{with_filled_each, with_filled_some, with
 covers_same : {V H : Type 0} (m : Meaning V H) → PlainLaws m → (ps qs : List V) → ps ≡ qs → PartsInside m.covered ps qs
 covers_same {V} m pl ps qs e = subst (λ (xs : List V). PartsInside m.covered ps xs) e (covers_itself m pl ps)
 
+-- the parts of a value are no more than the cap, and fit
+pub record ValueFits {V H : Type 0} (m : Meaning V H) (n cap : ℕ) (ps : List V) : Type 0 where
+  pub fit : EachPart (PartFits m n) ps
+  pub few : length ps ≤ cap
+
 -- values ------------------------------------------------------------------------------------------------------------------
 
 pub many_values : {V H : Type 0} (m : Meaning V H) → PlainLaws m → (h : Head V H) (rs ps : List V) → h.form ≡ many rs
-    → ps ≡ rs → Values (set_meaning m) h Exact (valued_set h ps)
-many_values {V} {H} m pl h rs ps form e = record {
+    → ps ≡ rs → ValueFits m h.dims h.cap ps → Values (set_meaning m) h Exact (valued_set h ps)
+many_values {V} {H} m pl h rs ps form e fits = record {
+  formed = (fits.fit, fits.few);
   stores = λ s own. (
     own.0,
     subst (λ (xs : List V). SomePart (λ p. m.has p s) xs) (sym e) (subst (λ (f : Form V H). FormHas m f s) form own.1),
@@ -53,13 +59,15 @@ one_covers {V} m pl g e p qs ps v is (q, valued, d) =
     (with_filled_inside m.covered (m.parts q) (m.parts p) q p (pl.partless_covered q p covered) covered))
 
 pub one_values : {V H : Type 0} (m : Meaning V H) → Laws m → PlainLaws m → (h : Head V H) (g : H) (e : Exactness) (p : V)
-    (ps : List V) → h.form ≡ one g → Values m g e p → ps ≡ filled m (p ∷ []) → Values (set_meaning m) h e (valued_set h ps)
-one_values {V} {H} m l pl h g e p ps form v is = record {
+    (ps : List V) → h.form ≡ one g → Values m g e p → ps ≡ filled m (p ∷ []) → ValueFits m h.dims h.cap ps
+    → Values (set_meaning m) h e (valued_set h ps)
+one_values {V} {H} m l pl h g e p ps form v is fits = record {
+  formed = (fits.fit, fits.few);
   stores = λ s own.
       let has = v.stores s (subst (λ (f : Form V H). FormHas m f s) form own.1) in (
         own.0,
         subst (λ (xs : List V). SomePart (λ q. m.has q s) xs) (sym is)
-            (with_filled_some (λ q. m.has q s) (m.parts p) p (λ none. l.partless p none s has) has),
+            (with_filled_some (λ q. m.has q s) (m.parts p) p (λ none. l.partless p v.formed none s has) has),
       );
   covers = λ w val. (
     val.dims,
@@ -83,12 +91,14 @@ one_values {V} {H} m l pl h g e p ps form v is = record {
     })) (sym form) s
 
 pub whole_values : {V H : Type 0} (m : Meaning V H) → Laws m → PlainLaws m → (h : Head V H) (p q : V) (ps : List V)
-    → h.form ≡ whole p → IsWhole m h.dims p → q ≡ p → ps ≡ q ∷ [] → Values (set_meaning m) h Exact (valued_set h ps)
-whole_values {V} {H} m l pl h p q ps form all same is =
+    → h.form ≡ whole p → m.formed p → IsWhole m h.dims p → q ≡ p → ps ≡ q ∷ [] → ValueFits m h.dims h.cap ps
+    → Values (set_meaning m) h Exact (valued_set h ps)
+whole_values {V} {H} m l pl h p q ps form fine all same is fits =
     let alone : ps ≡ p ∷ [] = is ∙ ap (λ (x : V). x ∷ []) same in record {
+      formed = (fits.fit, fits.few);
       stores = λ s own. (
         own.0,
-        subst (λ (xs : List V). SomePart (λ x. m.has x s) xs) (sym alone) (inl (l.universal_stores h.dims all.0 p all.1 s own.0)),
+        subst (λ (xs : List V). SomePart (λ x. m.has x s) xs) (sym alone) (inl (l.universal_stores h.dims all.0 p fine all.1 s own.0)),
       );
       covers = λ v val. (
         val.dims,
@@ -104,24 +114,19 @@ whole_values {V} {H} m l pl h p q ps form all same is =
 
 -- parts that fit ----------------------------------------------------------------------------------------------------------
 
--- the parts of a value are no more than the cap, and fit
-pub record ValueFits {V H : Type 0} (m : Meaning V H) (n cap : ℕ) (ps : List V) : Type 0 where
-  pub fit : EachPart (PartFits m n) ps
-  pub few : length ps ≤ cap
-
 pub many_fits : {V H : Type 0} (m : Meaning V H) (n cap : ℕ) (f : Form V H) (rs ps : List V) → f ≡ many rs → ps ≡ rs
     → FormFits m n cap f → ValueFits m n cap ps
 many_fits {V} {H} m n cap f rs ps form e fits =
     let all = subst (λ (g : Form V H). FormFits m n cap g) form fits in
     subst (λ (xs : List V). ValueFits m n cap xs) (sym e) (record { fit = all.0; few = all.1 })
 
-pub one_fits : {V H : Type 0} (m : Meaning V H) (n cap : ℕ) (f : Form V H) (g : H) (p : V) (ps : List V) → f ≡ one g
+pub one_fits : {V H : Type 0} (m : Meaning V H) (n cap : ℕ) (f : Form V H) (g : H) (p : V) (ps : List V) → m.formed p → f ≡ one g
     → m.dims p ≡ m.head_dims g → ps ≡ filled m (p ∷ []) → 1 ≤ cap → FormFits m n cap f → ValueFits m n cap ps
-one_fits {V} {H} m n cap f g p ps form dims is some fits =
+one_fits {V} {H} m n cap f g p ps fine form dims is some fits =
     let all = subst (λ (x : Form V H). FormFits m n cap x) form fits in
     let few = with_filled_few (m.parts p) p in
     subst (λ (xs : List V). ValueFits m n cap xs) (sym is) (record {
-      fit = with_filled_each (PartFits m n) (m.parts p) p (λ full. record { dims = dims ∙ all.0; full = full });
+      fit = with_filled_each (PartFits m n) (m.parts p) p (λ full. record { formed = fine; dims = dims ∙ all.0; full = full });
       few = omega (arith, few, some);
     })
 
@@ -135,10 +140,12 @@ whole_fit {V} {H} m n cap f p q ps form same is some fits =
 -- heads that start, ranks and caps ----------------------------------------------------------------------------------------
 
 pub set_starts : {V H : Type 0} (m : Meaning V H) → Laws m → PlainLaws m → (first : Parts V) (given : Listed ConKind)
-    (h : Head V H) → h.dims ≡ first.dims → h.cap ≡ first.cap → h.given ≡ given → FormStarts m given first.parts h.form
+    (h : Head V H) → HeadFits m h → h.dims ≡ first.dims → h.cap ≡ first.cap → h.given ≡ given → FormStarts m given first.parts h.form
     → Starts (set_meaning m) first given h
-set_starts m l pl first given h dims cap rows starts = record {
-  stores = λ s own. (own.0 ∙ sym dims, started_has m l pl given first.parts h.form starts s own.1);
+set_starts m l pl first given h fits dims cap rows starts = record {
+  formed = fits;
+  stores = λ s own.
+      (own.0 ∙ sym dims, started_has m l pl given first.parts h.form starts (form_fine m h.dims h.cap h.form fits.form) s own.1);
   started = record { dims = dims; cap = cap; rows = rows; form = starts };
 }
 

@@ -1,5 +1,5 @@
 -- What sets of parts and their heads hold.
-use Rattle.std.specs.Prelude.{◌≢◌, ℕ, List, [], ◌∷◌}
+use Rattle.std.specs.Prelude.{◌≡◌, ◌≢◌, ℕ, List, [], ◌∷◌}
 use Rattle.lra_sys.specs.Listed.{Listed}
 use Rattle.lra_linear.specs.declared.ConKind.{ConKind}
 use Rattle.lra_domain.specs.Meaning.{Meaning}
@@ -37,3 +37,9 @@ with_filled (r ∷ rows) p qs = p ∷ qs
 abbrev pub filled : {V H : Type 0} → Meaning V H → List V → List V
 filled m [] = []
 filled m (p ∷ ps) = with_filled (m.parts p) p (filled m ps)
+
+-- a part that is held: it is formed, has these dimensions, and isn't empty
+pub record PartFits {V H : Type 0} (m : Meaning V H) (n : ℕ) (p : V) : Type 0 where
+  pub formed : m.formed p
+  pub dims : m.dims p ≡ n
+  pub full : IsFilled m p

@@ -3,9 +3,8 @@ use Rattle.std.specs.Prelude.{◌≡◌, ◌≢◌, ◌≤◌, ◌<◌, ◌^◌,
 use Rattle.lra_domain.specs.Meaning.{Meaning}
 use Rattle.lra_domain.specs.Rank.{RankFits}
 use Rattle.lra_set.specs.Lists.{EachPart}
-use Rattle.lra_set.specs.Content.{Form, many, one, whole, Head}
+use Rattle.lra_set.specs.Content.{Form, many, one, whole, Head, PartFits}
 use Rattle.lra_set.specs.Values.{IsWhole}
-use Rattle.lra_set.specs.Outcomes.{PartFits}
 use Rattle.lra_set.specs.declared.growth.Held.{Held}
 use Rattle.lra_set.specs.declared.growth.Held.TheVariants.{Many, One, Whole}
 
@@ -14,11 +13,11 @@ form_of (Many ps) = many ps.items
 form_of (One h) = one h
 form_of (Whole p) = whole p
 
--- its parts aren't empty, have its dimensions, and are no more than its cap, and not one; the head of a single part has
--- its dimensions
+-- its parts are held with its dimensions, and are no more than its cap, and not one; the head of a single part is held
+-- with its dimensions
 abbrev pub FormFits : {V H : Type 0} → Meaning V H → ℕ → ℕ → Form V H → Type 0
 FormFits m n cap (many ps) = EachPart (PartFits m n) ps × (length ps ≤ cap) × (length ps ≢ 1)
-FormFits m n cap (one h) = (m.head_dims h ≡ n) × RankFits (m.rank h)
+FormFits m n cap (one h) = (m.head_dims h ≡ n) × RankFits (m.rank h) × m.head_formed h
 FormFits m n cap (whole p) = IsWhole m n p × PartFits m n p
 
 -- what is so of every head

@@ -12,9 +12,10 @@ use Rattle.lra_domain.specs.declared.Grown.TheVariants.{Stable, Grew as grew_by}
 use Rattle.lra_domain.specs.Rank.{RankBelow}
 use Rattle.lra_domain.specs.Meaning.{Meaning, Grew, GrowthStrains, Values}
 use Rattle.lra_set.specs.Lists.{EachPart, SomePart}
-use Rattle.lra_set.specs.Content.{Form, many, one, whole, Parts, Head, filled}
+use Rattle.lra_set.specs.Content.{Form, many, one, whole, Parts, Head, PartFits, filled}
 use Rattle.lra_set.specs.Heads.{FormStarts, FormCovered, FormStays, FormValued, HeadAnswers, Widens, WidenStrains}
 use Rattle.lra_set.specs.Heads.{GrowsBy, form_rank}
+use Rattle.lra_set.specs.Forms.{HeadFits}
 use Rattle.lra_set.specs.Joins.{Merges, MergeStrains}
 use Rattle.lra_set.specs.Outcomes.{IsSettled}
 use Rattle.lra_set.specs.Meaning.{set_meaning}
@@ -22,7 +23,7 @@ use Rattle.lra_set.specs.Meaning.{set_meaning}
 -- the join of the parts, which covers each of them; or a join strains
 abbrev pub MergesExactly : {V H : Type 0} → Meaning V H → List V → Option V → Type 0
 MergesExactly m ps None = MergeStrains m ps
-MergesExactly m ps (Some j) = Merges m ps j × EachPart (λ p. m.covered p j) ps
+MergesExactly m ps (Some j) = Merges m ps j × EachPart (λ p. m.covered p j) ps × m.formed j
 
 -- next's parts come in, and the head starts anew
 abbrev pub StartsAnew : {V H : Type 0} → Meaning V H → Listed ConKind → ℕ → ℕ → List V → List V → Exactness → Form V H
@@ -57,6 +58,7 @@ StaysWithAll m old qs mode false new = SomePart (λ q. m.answers old q mode No �
 pub record OneGrew {V H : Type 0} (m : Meaning V H) (old : H) (qs : List V) (mode : Mode) (e : Exactness) (new : H)
     : Type 0 where
   pub join : V
+  pub formed : m.formed join
   pub merged : Merges m qs join
   pub all : EachPart (λ q. m.covered q join) qs
   pub grew : Grew m old join mode e new
@@ -104,6 +106,7 @@ pub record HasAll {V H : Type 0} (m : Meaning V H) (old new : Head V H) : Type 0
   pub all : m.universal old.dims old.cap part
   pub dims : new.dims ≡ old.dims
   pub cap : new.cap ≡ old.cap
+  pub rows : new.given ≡ old.given
   pub form : new.form ≡ whole part
 
 -- what a growth of a head leaves
@@ -111,5 +114,7 @@ pub record HasGrown {V H : Type 0} (m : Meaning V H) (old : Head V H) (next : Pa
     (new : Head V H) : Type 0 where
   pub stable : g ≡ Stable → new ≡ old
   pub stays : g ≡ Stable → FormStays m old.form next.parts mode
-  pub grew : (e : Exactness) → g ≡ grew_by e → Grew (set_meaning m) old next mode e new
+  -- of heads and a value that are held
+  pub grew : (e : Exactness) → g ≡ grew_by e → HeadFits m old → EachPart (PartFits m old.dims) next.parts
+      → HeadFits m new → Grew (set_meaning m) old next mode e new
   pub lower : (e : Exactness) → g ≡ grew_by e → mode ≢ Join → RankBelow (form_rank m new.form) (form_rank m old.form)

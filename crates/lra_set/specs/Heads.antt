@@ -11,7 +11,7 @@ use Rattle.lra_domain.specs.Meaning.{Meaning, GrowthStrains}
 use Rattle.lra_set.specs.Lists.{EachPart, SomePart}
 use Rattle.lra_set.specs.Content.{Parts, Form, many, one, whole, Head, filled}
 use Rattle.lra_set.specs.Joins.{JoinsOn, JoinsOnStrains, Merges, MergeStrains, Settles, SettleStrains}
-use Rattle.lra_set.specs.Values.{PartsInside, IsWhole}
+use Rattle.lra_set.specs.Values.{AreUndecided, PartsInside, IsWhole}
 
 -- stores, and how many parts there may be ---------------------------------------------------------
 
@@ -100,9 +100,9 @@ OneStrains {V} m h qs mode =
     ⊎ (MergeStrains m qs × SomePart (λ q. m.answers h q mode Wide) qs)
 
 abbrev pub FormStrains : {V H : Type 0} → Meaning V H → Form V H → List V → Mode → Type 0
-FormStrains m (many ps) qs mode = SomePart (λ q. SomePart (m.inside_strains q) ps) qs
+FormStrains m (many ps) qs mode = AreUndecided m qs ps
 FormStrains {V} m (one h) qs Join =
-    m.value_strains h ⊎ ((p : V) × m.valued h p × SomePart (λ q. m.inside_strains q p) qs)
+    m.value_strains h ⊎ ((p : V) × m.valued h p × AreUndecided m qs (filled m (p ∷ [])))
 FormStrains m (one h) qs Widen = OneStrains m h qs Widen
 FormStrains m (one h) qs Limited = OneStrains m h qs Limited
 FormStrains m (whole p) qs mode = ⊥
@@ -172,6 +172,26 @@ pub record HeadGivenUp {V H : Type 0} (m : Meaning V H) (old : Head V H) (mode :
   pub dims : new.dims ≡ old.dims
   pub cap : new.cap ≡ old.cap
   pub form : FormGivenUp m old.dims old.form mode new.form
+
+-- the given rows that are left ---------------------------------------------------------------------
+
+-- parts that become one start with all given rows, and grow without loss
+abbrev pub BeginsAsOne : {V H : Type 0} → Meaning V H → Listed ConKind → Mode → H → Type 0
+BeginsAsOne {V} {H} m given mode h =
+    (p : V) × (g : H) × m.started p given g × ((h ≡ g) ⊎ ((k : V) × m.grown g k mode h))
+
+-- In joining the head starts anew with its given rows, or is given up. Outside joining they are left as the single
+-- part's head leaves them.
+abbrev pub FormLeft : {V H : Type 0} → Meaning V H → Listed ConKind → Form V H → Mode → Form V H → Type 0
+FormLeft {V} m given old Join (one h) = (p : V) × m.started p given h
+FormLeft m given (one g) Widen (one h) = m.left g Widen h
+FormLeft m given (one g) Limited (one h) = m.left g Limited h
+FormLeft m given (many ps) Widen (one h) = BeginsAsOne m given Widen h
+FormLeft m given (many ps) Limited (one h) = BeginsAsOne m given Limited h
+FormLeft m given old mode new = Unit {0}
+
+abbrev pub HeadLeft : {V H : Type 0} → Meaning V H → Head V H → Mode → Head V H → Type 0
+HeadLeft m old mode new = (new.given ≡ old.given) × FormLeft m old.given old.form mode new.form
 
 -- which head covers another -----------------------------------------------------------------------
 

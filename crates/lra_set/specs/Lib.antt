@@ -5,9 +5,10 @@ pub mod Reduction
 pub mod Joins
 pub mod Values
 pub mod Heads
+pub mod Forms
 pub mod Meaning
 pub mod Outcomes
 pub mod Changes
-pub mod Forms
 pub mod Growth
 pub mod Laws
+pub mod Single

@@ -1,17 +1,17 @@
 -- What the steps of the code answer and leave, for their contracts.
 use Rattle.lra_domain.specs.Meaning.{worse}
-use Rattle.std.specs.Prelude.{◌≡◌, ◌≤◌, ◌<◌, ◌⊎◌, ℕ, ℤ, List, [], ◌∷◌, ◌++◌, length}
+use Rattle.std.specs.Prelude.{◌≡◌, ◌≤◌, ◌<◌, ◌⊎◌, ℕ, List, [], ◌∷◌, ◌++◌, length}
 use Rattle.lra_domain.specs.declared.Exactness.{Exactness}
 use Rattle.lra_domain.specs.declared.Exactness.TheVariants.{Exact, Flagged}
 use Rattle.lra_domain.specs.declared.Included.{Included}
 use Rattle.lra_domain.specs.declared.Included.TheVariants.{Yes, No, Wide}
-use Rattle.lra_domain.specs.Actions.{Action, Leads, dims_after}
+use Rattle.lra_domain.specs.Actions.{Action, dims_after}
 use Rattle.lra_domain.specs.Meaning.{Meaning, Joins, Meets}
 use Rattle.lra_set.specs.Lists.{EachPart, SomePart, PartByPart}
-use Rattle.lra_set.specs.Content.{IsFilled, filled}
+use Rattle.lra_set.specs.Content.{PartFits, filled}
 use Rattle.lra_set.specs.Reduction.{Goes, GoesStrains}
 use Rattle.lra_set.specs.Joins.{JoinsOn, JoinsOnStrains, Settles, SettleStrains}
-use Rattle.lra_set.specs.Values.{PartsInside}
+use Rattle.lra_set.specs.Values.{IsKept, PartsInside}
 use Rattle.lra_set.specs.declared.joins.Settling.{Settling}
 use Rattle.lra_set.specs.declared.joins.Settling.TheVariants.{Within, Strained, Further}
 
@@ -51,11 +51,6 @@ all_decided (i ∷ is) = worse (decided i) (all_decided is)
 abbrev pub HaveDims : {V H : Type 0} → Meaning V H → ℕ → List V → Type 0
 HaveDims m n ps = EachPart (λ p. m.dims p ≡ n) ps
 
--- the part has these dimensions, and isn't empty
-pub record PartFits {V H : Type 0} (m : Meaning V H) (n : ℕ) (p : V) : Type 0 where
-  pub dims : m.dims p ≡ n
-  pub full : IsFilled m p
-
 -- of each part it is told whether it goes
 abbrev pub AreTold : {V H : Type 0} → Meaning V H → List V → List V → List Included → Type 0
 AreTold m before [] [] = Unit {0}
@@ -81,6 +76,7 @@ pub record IsReduced {V H : Type 0} (m : Meaning V H) (ps : List V) (e : Exactne
 
 -- the part, joined with the others in order
 pub record IsMerged {V H : Type 0} (m : Meaning V H) (a : V) (ps : List V) (e : Exactness) (j : V) : Type 0 where
+  pub formed : m.formed j
   pub first : m.covered a j
   pub others : EachPart (λ p. m.covered p j) ps
   pub exact : e ≡ Exact → JoinsOn m a ps j
@@ -141,8 +137,8 @@ pub record AreChanged {V H : Type 0} (m : Meaning V H) (step : Action) (ps : Lis
     : Type 0 where
   pub changed : List V
   pub left : qs ≡ filled m changed
-  -- each store to which the change may lead is kept
-  pub stores : (s t : List ℤ) → SomePart (λ p. m.has p s) ps → Leads step s t → SomePart (λ q. m.has q t) qs
+  -- each part has all points to which the change may lead
+  pub keeps : PartByPart (IsKept m step) ps changed
   -- what is defined is covered
   pub covers : (vs : List V) → PartByPart (m.done step) ps vs → PartsInside m.covered (filled m vs) qs
   pub exact : e ≡ Exact → PartByPart (m.done step) ps changed

@@ -1,10 +1,16 @@
 -- What each call on sets of parts gives, and when it may be flagged.
-use Rattle.std.specs.Prelude.{◌≡◌, ◌≤◌, ℕ, ℤ, List, [], ◌∷◌, ◌++◌, length, ◌⊎◌}
+use Rattle.std.specs.Prelude.{◌≡◌, ◌≤◌, ℕ, ℤ, Option, None, List, [], ◌∷◌, ◌++◌, length, ◌⊎◌}
 use Rattle.lra_domain.specs.Actions.{Action, dims_after}
+use Rattle.lra_domain.specs.Bounds.{greater, lesser_low}
 use Rattle.lra_domain.specs.Meaning.{Meaning}
+use Rattle.lra_lin.specs.Form.{Form}
 use Rattle.lra_set.specs.Lists.{EachPart, SomePart, PartByPart}
-use Rattle.lra_set.specs.Content.{Parts, filled}
+use Rattle.lra_set.specs.Content.{PartFits, Parts, filled}
 use Rattle.lra_set.specs.Joins.{Settles, SettleStrains}
+
+-- a set that is held: each of its parts is held with its dimensions, and there are no more than its cap
+abbrev pub SetFormed : {V H : Type 0} → Meaning V H → Parts V → Type 0
+SetFormed m v = EachPart (PartFits m v.dims) v.parts × (length v.parts ≤ v.cap)
 
 -- a store of some part, with a number for each dimension
 abbrev pub SetHas : {V H : Type 0} → Meaning V H → Parts V → List ℤ → Type 0
@@ -21,8 +27,18 @@ PartsInside R ps qs = EachPart (λ p. SomePart (R p) qs) ps
 abbrev pub SetInside : {V H : Type 0} → Meaning V H → Parts V → Parts V → Type 0
 SetInside m a b = (a.dims ≡ b.dims) × PartsInside m.inside a.parts b.parts
 
+-- of the part it isn't told whether it lies in one of the others: that strains with one of them, and with each of them
+-- strains or isn't so
+abbrev pub IsUndecided : {V H : Type 0} → Meaning V H → List V → V → Type 0
+IsUndecided m qs p = SomePart (m.inside_strains p) qs × EachPart (λ q. m.inside_strains p q ⊎ ¬ m.inside p q) qs
+
+-- of some part it isn't told, and each of the others lies in one, or of it it isn't told either
+abbrev pub AreUndecided : {V H : Type 0} → Meaning V H → List V → List V → Type 0
+AreUndecided m ps qs =
+    SomePart (IsUndecided m qs) ps × EachPart (λ p. SomePart (m.inside p) qs ⊎ IsUndecided m qs p) ps
+
 abbrev pub SetInsideStrains : {V H : Type 0} → Meaning V H → Parts V → Parts V → Type 0
-SetInsideStrains m a b = SomePart (λ p. SomePart (m.inside_strains p) b.parts) a.parts
+SetInsideStrains m a b = AreUndecided m a.parts b.parts
 
 abbrev pub SetCovered : {V H : Type 0} → Meaning V H → Parts V → Parts V → Type 0
 SetCovered m a b = (a.dims ≡ b.dims) × PartsInside m.covered a.parts b.parts
@@ -52,6 +68,20 @@ pub record SetDone {V H : Type 0} (m : Meaning V H) (step : Action) (old new : P
   pub joins : ℕ
   pub settled : Settles m old.cap joins (filled m changed) new.parts
 
+-- the part has all points to which the action leads from the other, and is held with the dimensions behind it
+pub record IsKept {V H : Type 0} (m : Meaning V H) (step : Action) (p q : V) : Type 0 where
+  pub keeps : m.keeps step p q
+  pub dims : m.dims q ≡ dims_after step (m.dims p)
+  pub formed : m.formed q
+
+-- each part has, in its place, one with all points to which the action leads from it; these, but for those that are
+-- empty, are covered by the new parts
+pub record SetKeeps {V H : Type 0} (m : Meaning V H) (step : Action) (old new : Parts V) : Type 0 where
+  pub dims : new.dims ≡ dims_after step old.dims
+  pub changed : List V
+  pub kept : PartByPart (IsKept m step) old.parts changed
+  pub covered : PartsInside m.covered (filled m changed) new.parts
+
 -- the action strains on a part, or what comes behind it strains on the parts that it gives
 abbrev pub SetStrains : {V H : Type 0} → Meaning V H → Action → Parts V → Type 0
 SetStrains {V} m step old =
@@ -68,3 +98,11 @@ pub record SetJoined {V H : Type 0} (m : Meaning V H) (one two new : Parts V) : 
 
 abbrev pub SetJoinStrains : {V H : Type 0} → Meaning V H → Parts V → Parts V → Type 0
 SetJoinStrains m one two = (joins : ℕ) × SettleStrains m one.cap joins (one.parts ++ two.parts)
+
+-- the lowest of what the parts tell from below and the highest from above: none where a part tells none, and nothing of
+-- no parts
+abbrev pub PartsBounded : {V H : Type 0} → Meaning V H → List V → Form → Option ℤ → Option ℤ → Type 0
+PartsBounded m [] f l h = (l ≡ None) × (h ≡ None)
+PartsBounded m (p ∷ []) f l h = m.bounded p f l h
+PartsBounded m (p ∷ q ∷ ps) f l h = (j k i g : Option ℤ) × m.bounded p f j k × PartsBounded m (q ∷ ps) f i g
+    × (l ≡ lesser_low j i) × (h ≡ greater k g)

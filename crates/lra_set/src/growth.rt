@@ -1,13 +1,14 @@
 //! How what stands behind a head starts, and grows.
 
-ghost use Rattle.std.specs.Prelude.{◌≡◌, ◌≢◌, ◌≤◌, ◌<◌, ◌⊎◌, ℕ, List, Some, true, false, length, IfOk, OnErr};
+ghost use Rattle.std.specs.Prelude.{◌≡◌, ◌≢◌, ◌≤◌, ◌<◌, ◌⊎◌, ℕ, List, Some, true, false, length, IfOk, IfSome, OnErr};
 ghost use Rattle.lra_domain.specs.declared.Exactness.{Exactness};
 ghost use Rattle.lra_domain.specs.declared.Grown.{Grown};
 ghost use Rattle.lra_domain.specs.declared.Mode.TheVariants.{Join};
 ghost use Rattle.lra_domain.specs.Rank.{RankFits};
 ghost use Rattle.lra_set.specs.Lists.{EachPart};
 ghost use Rattle.lra_set.specs.Heads.{FormStarts};
-ghost use Rattle.lra_set.specs.Outcomes.{HaveDims, PartFits};
+ghost use Rattle.lra_set.specs.Outcomes.{HaveDims};
+ghost use Rattle.lra_set.specs.Content.{PartFits};
 ghost use Rattle.lra_set.specs.Forms.{FormFits, form_of};
 ghost use Rattle.lra_set.specs.Growth.{BecomesOne, MergesExactly, OneAnswers, OneValued, StartsAndGrows, StartsAnew};
 ghost use Rattle.lra_set.specs.Growth.{StaysWithAll};
@@ -92,8 +93,10 @@ pub fn start_anew<D: Plain>(
 /// The join of the parts in order, if it lost nothing.
 fn merge_exactly<D: Plain>(alloc: Global, parts: &[D]) -> Result<Option<D>, AllocError>
     requires some { 0 < length parts.now }
+    requires formed { EachPart D.meaning.formed parts.now }
     requires alike { (n : ℕ) × HaveDims D.meaning n parts.now }
     ensures merges { IfOk result (λ o. MergesExactly D.meaning parts.now o) }
+    ensures formed { IfOk result (λ o. IfSome o D.meaning.formed) }
     ensures dims { IfOk result (λ o. (j : D) → o ≡ Some j → (n : ℕ) → HaveDims D.meaning n parts.now →
         D.meaning.dims j ≡ n) }
 {
@@ -126,10 +129,10 @@ fn start_and_grow<D: Plain>(
 ) -> Result<Option<D::Head>, AllocError>
     requires some { 0 < length parts.now }
     requires fit { EachPart (PartFits D.meaning given.now.dims) parts.now }
-    requires by { D.meaning.dims by.now ≡ given.now.dims }
+    requires by { (D.meaning.dims by.now ≡ given.now.dims) × D.meaning.formed by.now }
     ensures grows { IfOk result (λ o. StartsAndGrows D.meaning given.now parts.now by.now mode o) }
     ensures fits { IfOk result (λ o. (h : D.Head) → o ≡ Some h →
-        (D.meaning.head_dims h ≡ given.now.dims) × RankFits (D.meaning.rank h)) }
+        (D.meaning.head_dims h ≡ given.now.dims) × RankFits (D.meaning.rank h) × D.meaning.head_formed h) }
 {
     match merge_exactly(alloc, parts)? {
         None => Ok(None),
@@ -156,7 +159,7 @@ pub fn become_one<D: Plain>(
     requires widens { mode ≢ Join }
     ensures becomes { IfOk result (λ o. BecomesOne D.meaning given.now parts.now next.now mode o) }
     ensures fits { IfOk result (λ o. (h : D.Head) → o ≡ Some h →
-        (D.meaning.head_dims h ≡ given.now.dims) × RankFits (D.meaning.rank h)) }
+        (D.meaning.head_dims h ≡ given.now.dims) × RankFits (D.meaning.rank h) × D.meaning.head_formed h) }
 {
     match merge_exactly(alloc, next)? {
         None => Ok(None),
@@ -173,7 +176,9 @@ pub fn become_one<D: Plain>(
 
 /// Whether each of the parts is told to lie in the head. Where one isn't, the head may have grown by it.
 fn stays_with_all<D: Plain>(head: &mut D::Head, parts: &[D], mode: Mode) -> Result<bool, AllocError>
-    requires { HaveDims D.meaning (D.meaning.head_dims head.old) parts.now }
+    requires held { D.meaning.head_formed head.old }
+    requires alike { HaveDims D.meaning (D.meaning.head_dims head.old) parts.now }
+    ensures formed { D.meaning.head_formed head.new }
     ensures stays { IfOk result (λ b. StaysWithAll D.meaning head.old parts.now mode b head.new) }
     ensures dims { D.meaning.head_dims head.new ≡ D.meaning.head_dims head.old }
     ensures fits { RankFits (D.meaning.rank head.old) → RankFits (D.meaning.rank head.new) }
@@ -199,8 +204,10 @@ pub fn grow_one<D: Plain>(
     next: &[D],
     mode: Mode,
 ) -> Result<Option<Grown>, AllocError>
+    requires held { D.meaning.head_formed head.old }
     requires next { EachPart (PartFits D.meaning (D.meaning.head_dims head.old)) next.now }
     requires widens { mode ≢ Join }
+    ensures formed { D.meaning.head_formed head.new }
     ensures answers { IfOk result (λ o. OneAnswers D.meaning head.old next.now mode o head.new) }
     ensures dims { D.meaning.head_dims head.new ≡ D.meaning.head_dims head.old }
     ensures fits { RankFits (D.meaning.rank head.old) → RankFits (D.meaning.rank head.new) }

@@ -6,7 +6,7 @@ ghost use Rattle.lra_domain.specs.Meaning.{Starts, Values};
 ghost use Rattle.lra_set.specs.Lists.{EachPart};
 ghost use Rattle.lra_set.specs.Meaning.{set_meaning};
 ghost use Rattle.lra_set.specs.Values.{PartsInside};
-ghost use Rattle.lra_set.specs.Outcomes.{PartFits};
+ghost use Rattle.lra_set.specs.Content.{PartFits};
 ghost use Rattle.lra_set.specs.Content.{one, many};
 ghost use Rattle.lra_set.specs.Forms.{HeadFits};
 ghost use Rattle.lra_set.specs.Growth.{HasAll, HasGrown, LiesIn, SingleAnswers, StartsAnew, valued_set};
@@ -61,7 +61,8 @@ impl<D: Plain> Model for PowerSetHead<D> {
 impl<D: Plain> PowerSetHead<D> {
     /// Its rank.
     pub fn rank(&self) -> Rank
-        ensures { result ≡ (set_meaning D.meaning).rank self.now }
+        ensures fits { HeadFits D.meaning self.now }
+        ensures rank { result ≡ (set_meaning D.meaning).rank self.now }
     {
         match &self.held {
             Held::Many(parts) => Rank {
@@ -246,6 +247,7 @@ impl<D: Plain> PowerSetHead<D> {
         ensures answers { IfOk result (λ o. SingleAnswers D.meaning self.old next.now.parts mode o self.new) }
         ensures dims { self.new.dims ≡ self.old.dims }
         ensures cap { self.new.cap ≡ self.old.cap }
+        ensures given { self.new.given ≡ self.old.given }
         ensures err { OnErr result (self.new ≡ self.old) }
     {
         match &mut self.held {

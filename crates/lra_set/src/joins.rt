@@ -2,7 +2,8 @@
 
 ghost use Rattle.std.specs.Prelude.{◌≡◌, ◌≤◌, ◌<◌, ℕ, List, [], length, IfOk, OnErr, OnOk, vec_len};
 ghost use Rattle.lra_set.specs.Lists.{EachPart};
-ghost use Rattle.lra_set.specs.Outcomes.{AreMerged, BecameOne, HaveDims, IsMerged, IsSettled, LastTwoMeet, PartFits};
+ghost use Rattle.lra_set.specs.Outcomes.{AreMerged, BecameOne, HaveDims, IsMerged, IsSettled, LastTwoMeet};
+ghost use Rattle.lra_set.specs.Content.{PartFits};
 ghost use Rattle.lra_set.specs.Outcomes.{SettlesOnce};
 
 use crate::reduction::reduce;
@@ -12,7 +13,8 @@ use std::alloc::{AllocError, Global};
 
 /// Joins the parts, in order, into the first.
 fn join_on<D: Plain>(first: &mut D, others: &[D]) -> Result<Exactness, AllocError>
-    requires { HaveDims D.meaning (D.meaning.dims first.old) others.now }
+    requires formed { D.meaning.formed first.old }
+    requires alike { HaveDims D.meaning (D.meaning.dims first.old) others.now }
     ensures merged { IfOk result (λ e. IsMerged D.meaning first.old others.now e first.new) }
     ensures dims { OnOk result (D.meaning.dims first.new ≡ D.meaning.dims first.old) }
 {
@@ -27,6 +29,7 @@ fn join_on<D: Plain>(first: &mut D, others: &[D]) -> Result<Exactness, AllocErro
 /// The join of the parts, in order.
 pub fn merge<D: Plain>(alloc: Global, parts: &[D]) -> Result<(D, Exactness), AllocError>
     requires some { 0 < length parts.now }
+    requires formed { EachPart D.meaning.formed parts.now }
     requires alike { (n : ℕ) × HaveDims D.meaning n parts.now }
     ensures merged { IfOk result (λ r. AreMerged D.meaning parts.now r.1 r.0) }
     ensures dims { IfOk result (λ r. (n : ℕ) → HaveDims D.meaning n parts.now → D.meaning.dims r.0 ≡ n) }
@@ -40,6 +43,7 @@ pub fn merge<D: Plain>(alloc: Global, parts: &[D]) -> Result<(D, Exactness), All
 /// All parts become one.
 pub fn into_one<D: Plain>(alloc: Global, parts: &[D]) -> Result<Vec<D>, AllocError>
     requires some { 0 < length parts.now }
+    requires formed { EachPart D.meaning.formed parts.now }
     requires alike { (n : ℕ) × HaveDims D.meaning n parts.now }
     ensures { IfOk result (λ one. BecameOne D.meaning parts.now one.items) }
 {

@@ -1,9 +1,9 @@
 //! The reduction of a list of parts.
 
 ghost use Rattle.std.specs.Prelude.{◌≡◌, ℕ, List, [], ◌⊎◌, length, IfOk, OnErr, OnOk, vec_len};
-ghost use Rattle.lra_set.specs.Lists.{SomePart};
-ghost use Rattle.lra_set.specs.Reduction.{Goes, GoesStrains};
-ghost use Rattle.lra_set.specs.Values.{PartsInside};
+ghost use Rattle.lra_set.specs.Lists.{EachPart, SomePart};
+ghost use Rattle.lra_set.specs.Reduction.{BelowStrains, Goes, GoesStrains};
+ghost use Rattle.lra_set.specs.Values.{AreUndecided, IsUndecided, PartsInside};
 ghost use Rattle.lra_set.specs.Outcomes.{AreTold, HaveDims, IsReduced, Told, kept};
 
 use crate::answers::{both, either, exactness_of};
@@ -14,7 +14,7 @@ use std::alloc::{AllocError, Global};
 pub fn lies_in_some<D: Plain>(part: &D, others: &[D]) -> Included
     requires { HaveDims D.meaning (D.meaning.dims part.now) others.now }
     ensures { Told (SomePart (D.meaning.inside part.now) others.now)
-        (SomePart (D.meaning.inside_strains part.now) others.now) result }
+        (IsUndecided D.meaning others.now part.now) result }
 {
     let Some((first, later)) = others.split_first() else {
         return Included::No;
@@ -26,7 +26,7 @@ pub fn lies_in_some<D: Plain>(part: &D, others: &[D]) -> Included
 pub fn all_lie_in<D: Plain>(parts: &[D], others: &[D]) -> Included
     requires { (n : ℕ) × HaveDims D.meaning n parts.now × HaveDims D.meaning n others.now }
     ensures { Told (PartsInside D.meaning.inside parts.now others.now)
-        (SomePart (λ p. SomePart (D.meaning.inside_strains p) others.now) parts.now) result }
+        (AreUndecided D.meaning parts.now others.now) result }
 {
     let Some((first, later)) = parts.split_first() else {
         return Included::Yes;
@@ -38,7 +38,7 @@ pub fn all_lie_in<D: Plain>(parts: &[D], others: &[D]) -> Included
 fn lies_below<D: Plain>(part: &D, other: &D) -> Included
     requires { D.meaning.dims part.now ≡ D.meaning.dims other.now }
     ensures { let m = D.meaning in let p = part.now in let q = other.now in
-        Told (m.inside p q × ¬ m.inside q p) (m.inside_strains p q ⊎ (m.inside p q × m.inside_strains q p)) result }
+        Told (m.inside p q × ¬ m.inside q p) (BelowStrains m p q) result }
 {
     match part.included(other) {
         Included::No => Included::No,
@@ -55,7 +55,8 @@ fn lies_below<D: Plain>(part: &D, other: &D) -> Included
 fn lies_below_some<D: Plain>(part: &D, others: &[D]) -> Included
     requires { HaveDims D.meaning (D.meaning.dims part.now) others.now }
     ensures { let m = D.meaning in let p = part.now in Told (SomePart (λ q. m.inside p q × ¬ m.inside q p) others.now)
-        (SomePart (λ q. m.inside_strains p q ⊎ (m.inside p q × m.inside_strains q p)) others.now) result }
+        (SomePart (BelowStrains m p) others.now ×
+        EachPart (λ q. BelowStrains m p q ⊎ ¬ (m.inside p q × ¬ m.inside q p)) others.now) result }
 {
     let Some((first, later)) = others.split_first() else {
         return Included::No;

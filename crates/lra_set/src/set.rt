@@ -8,15 +8,17 @@ ghost use Rattle.lra_domain.specs.Actions.{dims_after};
 ghost use Rattle.lra_domain.specs.Meaning.{Meets};
 ghost use Rattle.lra_set.specs.Lists.{EachPart, SomePart};
 ghost use Rattle.lra_set.specs.Reduction.{Reduces, ReduceStrains};
-ghost use Rattle.lra_set.specs.Values.{PartsInside};
+ghost use Rattle.lra_set.specs.Values.{PartsBounded, PartsInside};
 ghost use Rattle.lra_set.specs.Changes.{ChangeFits, action_of};
-ghost use Rattle.lra_set.specs.Outcomes.{HaveDims, PartFits};
+ghost use Rattle.lra_set.specs.Outcomes.{HaveDims};
+ghost use Rattle.lra_set.specs.Content.{PartFits};
 ghost use Rattle.lra_set.specs.Meaning.{set_meaning};
 
 use crate::changes::{Change, append_changed, dims_behind};
 use crate::heads::PowerSetHead;
 use crate::joins::settle;
 use crate::reduction::{all_lie_in, reduce};
+use lra_domain::bounds::{join_highs, join_lows};
 use lra_domain::{Domain, Exactness, Grown, Included, Mode, Plain, Rank, worse};
 use lra_lin::{LinExpr, Test};
 use lra_sys::ConSys;
@@ -47,7 +49,7 @@ impl<D: Plain> Model for PowerSet<D> {
     ghost use Rattle.std.specs.Prelude.{◌≤◌, ◌^◌, length};
     ghost use Rattle.lra_set.specs.Content.{Parts};
     ghost use Rattle.lra_set.specs.Lists.{EachPart};
-    ghost use Rattle.lra_set.specs.Outcomes.{PartFits};
+    ghost use Rattle.lra_set.specs.Content.{PartFits};
 
     ghost Value = { Parts D };
 
@@ -106,6 +108,22 @@ pub fn copy_alone<D: Plain>(alloc: Global, part: &D) -> Result<Vec<D>, AllocErro
 {
     let parts = list_alone(alloc, part.copy(alloc)?)?;
     Ok(parts)
+}
+
+/// The lowest of what the parts tell of the form from below and the highest from above; nothing of no parts.
+fn bounds_of<D: Plain>(parts: &[D], e: &LinExpr) -> (Option<i128>, Option<i128>)
+    requires { HaveDims D.meaning (length e.now.coefficients) parts.now }
+    ensures { PartsBounded D.meaning parts.now e.now result.0 result.1 }
+{
+    let Some((first, later)) = parts.split_first() else {
+        return (None, None);
+    };
+    let (low, high) = first.bounds(e);
+    if later.is_empty() {
+        return (low, high);
+    }
+    let (other_low, other_high) = bounds_of(later, e);
+    (join_lows(low, other_low), join_highs(high, other_high))
 }
 
 /// Appends the rows that mean the parts.
@@ -256,6 +274,11 @@ impl<D: Plain> Domain for PowerSet<D> {
         self.parts.is_empty()
     }
 
+    /// The lowest and the highest that the parts tell.
+    fn bounds(&self, e: &LinExpr) -> (Option<i128>, Option<i128>) {
+        bounds_of(self.parts.as_slice(), e)
+    }
+
     /// Yes where each part lies in some part of the other.
     fn included(&self, other: &Self) -> Included {
         all_lie_in(self.parts.as_slice(), other.parts.as_slice())
@@ -316,6 +339,7 @@ impl<D: Plain> Domain for PowerSet<D> {
     /// its parts in order, and that part grows by the join of next's parts in order. Where that can't be told, it is
     /// given up.
     fn grow(head: &mut PowerSetHead<D>, next: &Self, mode: Mode) -> Result<Grown, AllocError> {
+        let (_before, _next) = (head.dims(), next.items());
         let grown = head.grow(next, mode)?;
         let _dims = head.dims();
         Ok(grown)

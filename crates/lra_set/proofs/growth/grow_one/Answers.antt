@@ -1,8 +1,9 @@
 -- Goals of `grow_one`: the head of a single part grows by the join of next's parts.
 use Rattle.std.proofs.Common.{◌≡◌, sym, rules}
 use Rattle.lra_domain.specs.declared.Exactness.TheVariants.{Exact}
+use Rattle.lra_set.specs.Laws.{fits_formed}
 use Rattle.lra_set.proofs.AnswerLemmas.{fits_dims}
-use Rattle.lra_set.proofs.GrowthLemmas.{merged_exact, one_exact}
+use Rattle.lra_set.proofs.GrowthLemmas.{grown_formed, merged_exact, one_exact}
 use Rattle.lra_set.proofs.growth.grow_one.Goals as goal
 
 pub merge-requires-clause-alike : goal.merge-requires-clause-alike
@@ -10,6 +11,9 @@ merge-requires-clause-alike g c = (
   g.D.Domain.meaning.head_dims c.args.head.now,
   fits_dims g.D.Domain.meaning (g.D.Domain.meaning.head_dims c.args.head.now) c.args.next.now c.requires.next,
 )
+
+pub merge-requires-clause-formed : goal.merge-requires-clause-formed
+merge-requires-clause-formed g c = fits_formed g.D.Domain.meaning (g.D.Domain.meaning.head_dims c.args.head.now) c.args.next.now c.requires.next
 
 pub grow-requires : goal.grow-requires
 grow-requires g c = sym (c.in_ok-joined.ensures.dims (g.D.Domain.meaning.head_dims c.args.head.now)
@@ -25,6 +29,11 @@ returns-then-eq-clause-answers g c =
     c.in_ok-grown.ensures.stable c.in_ok-grown.ensures.stays c.in_ok-grown.ensures.grew c.in_ok-grown.ensures.lower
     c.requires.widens
 
-pub stays_with_all-requires : goal.stays_with_all-requires
-stays_with_all-requires g c =
+pub stays_with_all-requires-clause-alike : goal.stays_with_all-requires-clause-alike
+stays_with_all-requires-clause-alike g c =
     fits_dims g.D.Domain.meaning (g.D.Domain.meaning.head_dims c.args.head.now) c.args.next.now c.requires.next
+
+pub returns-then-eq-clause-formed : goal.returns-then-eq-clause-formed
+returns-then-eq-clause-formed g c =
+    grown_formed g.D.Domain.meaning c.args.head.now c.grow.new.head c.in_ok-joined.joined c.args.mode c.in_ok-grown.grown
+    c.requires.held c.in_ok-grown.ensures.stable c.in_ok-grown.ensures.grew

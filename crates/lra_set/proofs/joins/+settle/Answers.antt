@@ -1,7 +1,8 @@
 -- Goals of the functions that call each other around `settle`: `returns`, `into_one`, `join_last_two`, `settle`.
 use Rattle.std.proofs.Common.{◌<◌, length, arith, rules}
+use Rattle.lra_set.specs.Laws.{fits_formed}
 use Rattle.lra_set.proofs.SettleLemmas.{settled_ends}
-use Rattle.lra_set.proofs.AnswerLemmas.{fits_dims, further_fewer, further_fit, settled_further, settled_strained, strained_alike, strained_some}
+use Rattle.lra_set.proofs.AnswerLemmas.{fits_dims, further_fewer, further_fit, settled_further, settled_strained, strained_alike, strained_fit, strained_some}
 use Rattle.lra_set.proofs.joins.+settle.Goals as goal
 
 pub settle_once-requires-clause-alike : goal.settle_once-requires-clause-alike
@@ -16,6 +17,12 @@ pub into_one-requires-clause-some : goal.into_one-requires-clause-some
 into_one-requires-clause-some g t c =
     let once = rw c.in-Strained.is at c.in_ok-exactness.ensures in
     rw c.as_slice.ensures.value (strained_some g.D.Domain.meaning c.args.cap c.args.parts.items c.settle_once.new.parts.items once)
+
+pub into_one-requires-clause-formed : goal.into_one-requires-clause-formed
+into_one-requires-clause-formed g t c =
+    let once = rw c.in-Strained.is at c.in_ok-exactness.ensures in
+    rw c.as_slice.ensures.value (fits_formed g.D.Domain.meaning c.requires.fit.0 c.settle_once.new.parts.items
+    (strained_fit g.D.Domain.meaning g.met.D.Plain.plain c.requires.fit.0 c.args.cap c.args.parts.items c.settle_once.new.parts.items once c.requires.fit.1))
 
 pub into_one-requires-clause-alike : goal.into_one-requires-clause-alike
 into_one-requires-clause-alike g t c =

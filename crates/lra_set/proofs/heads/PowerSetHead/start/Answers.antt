@@ -13,7 +13,9 @@ returns-clause-starts g c =
       cap = c.cap.result;
       given = c.in_ok-given.given;
       form = form_of c.in_ok-held.held;
-    }) c.dims.ensures c.cap.ensures.cap c.in_ok-given.ensures
+    }) (fits_starts g.D.Domain.meaning c.dims.ensures c.cap.ensures.cap c.in_ok-given.ensures c.requires
+    (c.in_ok-parts.ensures ∙ c.items.ensures.parts) c.items.ensures.few c.cap.ensures.some c.cap.type_inv c.items.ensures.capped
+    c.in_ok-held.ensures.fits) c.dims.ensures c.cap.ensures.cap c.in_ok-given.ensures
     (starts_as g.D.Domain.meaning c.args.given.now c.in_ok-parts.parts.items c.args.first.now.parts
     (form_of c.in_ok-held.held) (c.in_ok-parts.ensures ∙ c.items.ensures.parts) c.in_ok-held.ensures.starts)
 

@@ -26,7 +26,7 @@ pub invariant_of-self : goal.invariant_of-self
 invariant_of-self g c =
     let head = c.in_ok-become_one.ensures.fits c.in-Some.head c.in-Some.is in
     fits_one g.D.Domain.meaning c.self.inside.dims c.self.inside.cap c.self.inside.given (form_of c.self.inside.held) c.in-Some.head
-    c.self.invariant (head.0 ∙ c.self.invariant.rows) head.1
+    c.self.invariant (head.0 ∙ c.self.invariant.rows) head.1 head.2
 
 pub returns-in-Some-clause-grown : goal.returns-in-Some-clause-grown
 returns-in-Some-clause-grown g c =

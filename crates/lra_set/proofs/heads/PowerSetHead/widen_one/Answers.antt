@@ -10,9 +10,9 @@ pub invariant_of-self : goal.invariant_of-self
 invariant_of-self g c =
     let own : c.self.inside.dims ≡ c.args.self.now.dims = rw (← c.self.view_is) refl in
     let later : c.self-2.inside.dims ≡ c.grow_single.new.self.dims = rw (← c.self-2.view_is) refl in
-    fits_whole_as g.D.Domain.meaning g.met.D.Domain.laws c.self-2.inside.dims c.self.inside.dims c.self-2.inside.cap c.self-2.inside.given
+    fits_whole_as g.D.Domain.meaning g.met.D.Plain.plain c.self-2.inside.dims c.self.inside.dims c.self-2.inside.cap c.self-2.inside.given
     (form_of c.self-2.inside.held) c.in_ok-all.all c.self.inside.cap c.self-2.invariant
-    (own ∙ sym c.grow_single.ensures.dims ∙ sym later) c.in_ok-all.ensures.defined c.in_ok-all.ensures.dims
+    (own ∙ sym c.grow_single.ensures.dims ∙ sym later) c.in_ok-all.ensures.formed c.in_ok-all.ensures.defined c.in_ok-all.ensures.dims
 
 pub returns-in-Some-clause-grown : goal.returns-in-Some-clause-grown
 returns-in-Some-clause-grown g c =
@@ -25,6 +25,7 @@ returns-in-None-clause-grown g c =
     let own : c.self.inside.dims ≡ c.args.self.now.dims = rw (← c.self.view_is) refl in
     let dims : c.self-2.inside.dims ≡ c.grow_single.new.self.dims = rw (← c.self-2.view_is) refl in
     let cap : c.self-2.inside.cap ≡ c.grow_single.new.self.cap = rw (← c.self-2.view_is) refl in
+    let given : c.self-2.inside.given ≡ c.grow_single.new.self.given = rw (← c.self-2.view_is) refl in
     single_given_up g.D.Domain.meaning g.met.D.Domain.laws c.args.self.now c.grow_single.new.self
     (record {
       dims = c.self-2.inside.dims;
@@ -33,4 +34,4 @@ returns-in-None-clause-grown g c =
       form = whole c.in_ok-all.all;
     }) c.args.next.now c.args.mode c.self.inside.dims c.self.inside.cap c.in_ok-all.all c.requires.widens c.requires.dims
     (rw c.in-None.is at c.in_ok-grown.ensures.answers) (dims ∙ c.grow_single.ensures.dims) (cap ∙ c.grow_single.ensures.cap)
-    refl own c.in_ok-all.ensures.defined
+    (given ∙ c.grow_single.ensures.given) refl own c.in_ok-all.ensures.defined

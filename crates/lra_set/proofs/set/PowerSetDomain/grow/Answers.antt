@@ -1,5 +1,6 @@
 -- Goals of `PowerSetDomain::grow`: in joining it becomes the set's join with next.
-use Rattle.std.proofs.Common.{◌∙◌}
+use Rattle.std.proofs.Common.{sym, ◌∙◌}
+use Rattle.lra_set.proofs.AnswerLemmas.{refit}
 use Rattle.lra_set.proofs.ValueLemmas.{head_capped, head_rank_fits}
 use Rattle.lra_set.proofs.set.PowerSetDomain.grow.Goals as goal
 
@@ -9,3 +10,8 @@ returns-clause-capped g c = λ k caps. head_capped g.D.Domain.meaning c.grow.new
 
 pub returns-clause-fits : goal.returns-clause-fits
 returns-clause-fits g c = head_rank_fits g.D.Domain.meaning c.grow.new.self c.dims-dims.ensures.fit
+
+pub returns-clause-grew : goal.returns-clause-grew
+returns-clause-grew g c = λ a e. c.in_ok-grown.ensures.grown.grew a e c.dims-before.ensures.fit
+    (refit g.D.Domain.meaning c.args.next.now.dims c.args.head.now.dims c.args.next.now.parts (sym c.requires)
+    c.items-next.ensures.fit) c.dims-dims.ensures.fit

@@ -9,6 +9,14 @@ invariant_of-result g c =
       c.requires.few,
       c.requires.cap,
       omega (arith, long, c.requires.cap),
-      universe_fits g.D.Domain.meaning g.met.D.Domain.laws c.args.n c.args.cap c.in_ok-universe.field-0 c.in_ok-parts.parts.items
-          c.in_ok-parts.ensures c.in_ok-universe.ensures.defined c.in_ok-universe.ensures.dims,
+      universe_fits g.D.Domain.meaning g.met.D.Plain.plain c.args.n c.args.cap c.in_ok-universe.field-0 c.in_ok-parts.parts.items
+          c.in_ok-parts.ensures c.in_ok-universe.ensures.formed c.in_ok-universe.ensures.defined c.in_ok-universe.ensures.dims,
+    )
+
+pub returns-clause-formed : goal.returns-clause-formed
+returns-clause-formed g c =
+    let long : length c.in_ok-parts.parts.items ≡ 1 = ap length c.in_ok-parts.ensures in (
+      universe_fits g.D.Domain.meaning g.met.D.Plain.plain c.args.n c.args.cap c.in_ok-universe.field-0 c.in_ok-parts.parts.items
+          c.in_ok-parts.ensures c.in_ok-universe.ensures.formed c.in_ok-universe.ensures.defined c.in_ok-universe.ensures.dims,
+      omega (arith, long, c.requires.cap),
     )

@@ -1,0 +1,15 @@
+-- Goals of the functions that call each other around `lies_below_some`: `returns`.
+use Rattle.std.proofs.Common.{◌≡◌, ◌∷◌, arith}
+use Rattle.std.proofs.lemmas.Grind.{common_steps}
+use Rattle.lra_set.specs.Reduction.{BelowStrains}
+use Rattle.lra_set.proofs.AnswerLemmas.{told_some}
+use Rattle.lra_set.proofs.reduction.+lies_below_some.Goals as goal
+
+pub returns : goal.returns
+returns g t c =
+    let m = g.D.Domain.meaning in
+    let p = c.args.part.now in
+    let cut : c.args.others.now ≡ c.in-Some.first.now ∷ c.in-Some.later.now = grind (arith, common_steps) in
+    rw (c.either.ensures, cut)
+    (told_some (λ q. m.inside p q × ¬ m.inside q p) (BelowStrains m p) c.in-Some.first.now c.in-Some.later.now
+    c.lies_below.result c.lies_below_some.result c.lies_below.ensures c.lies_below_some.ensures)
