@@ -174,7 +174,7 @@ module _ (V H : Type 0) (ops : Operations V H) (set : Options) (Good : V → Typ
 module _ {V H : Type 0} (m : Meaning V H) (laws : Laws m) (set : Options) (some : 1 ≤ set.parts) where
   caps_kept : Preserves (dropping m) set.parts (λ v. m.capped v set.parts) (λ h. m.head_capped h set.parts)
   caps_kept = record {
-    void = λ n v is. laws.void_capped n set.parts v some is;
+    void = λ n v is. laws.void_capped n set.parts v some is.0;
     changed = λ step v e w h g. h.2 set.parts g;
     joined = λ u v e w h g k. h.3 set.parts (g, k);
     started = λ v rows h is g. is.2 set.parts g;
@@ -187,7 +187,27 @@ module _ {V H : Type 0} (m : Meaning V H) (laws : Laws m) (set : Options) (some 
       → (v : V) → Contains values v → m.capped v set.parts
   solved_capped P tree r values verdicts flagged (whole, first, e, universal, begun, pass) solves v there =
       let begins = done_good V H (dropping m) set (λ x. m.capped x set.parts) (λ h. m.head_capped h set.parts) caps_kept (first_values 0 P.globals) whole e first begun
-      (laws.universal_capped 0 set.parts whole some universal) in
+      (laws.universal_capped 0 set.parts whole some universal.0) in
       let all = pass_good V H (dropping m) set (λ x. m.capped x set.parts) (λ h. m.head_capped h set.parts) caps_kept tree (noted 0 e None) first r pass begins in
       value_good V H (dropping m) set (λ x. m.capped x set.parts) (λ h. m.head_capped h set.parts) caps_kept r.entries there.0 v all.entries
+      ((solves.is_value there.0 v).0 (slice_get_read values (length values) there.0 v refl there.1 (sym there.2)))
+
+-- what a domain's operations give is held
+module _ {V H : Type 0} (m : Meaning V H) (set : Options) where
+  held_kept : Preserves (dropping m) set.parts m.formed m.head_formed
+  held_kept = record {
+    void = λ n v is. is.1;
+    changed = λ step v e w is fine. is.0.formed;
+    joined = λ u v e w is fine too. is.0.formed;
+    started = λ v rows h is fine. is.0.formed;
+    grown = λ h v mode e next is fine too. is.0.formed;
+    valued = λ h e v is fine. is.0.formed;
+  }
+
+  pub solved_formed : (P : Program) (tree : Node) (r : Result V) (values : List V) (verdicts : List (ℕ × Bool)) (flagged : Option ℕ) → Derivation m set P tree r → Solves m r values verdicts flagged
+      → (v : V) → Contains values v → m.formed v
+  solved_formed P tree r values verdicts flagged (whole, first, e, universal, begun, pass) solves v there =
+      let begins = done_good V H (dropping m) set m.formed m.head_formed held_kept (first_values 0 P.globals) whole e first begun universal.1 in
+      let all = pass_good V H (dropping m) set m.formed m.head_formed held_kept tree (noted 0 e None) first r pass begins in
+      value_good V H (dropping m) set m.formed m.head_formed held_kept r.entries there.0 v all.entries
       ((solves.is_value there.0 v).0 (slice_get_read values (length values) there.0 v refl there.1 (sym there.2)))

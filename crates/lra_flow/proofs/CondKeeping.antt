@@ -15,6 +15,7 @@ use Rattle.lra_flow.specs.Linear.{TestHolds, comparison_test, difference_form}
 use Rattle.lra_flow.specs.Condition.{opposite_comparison, push, IsPushed, IsAtom, IsTestedBy}
 use Rattle.lra_flow.specs.Operations.{dropping}
 use Rattle.lra_flow.specs.Conditions.{tested, testing}
+use Rattle.lra_flow.proofs.Covers.{Has, covered_has}
 use Rattle.lra_flow.proofs.FormLemmas.{bind_some, some_first, test_is_right, differs_by_tests, difference_is_right, compared}
 
 -- what `!` does to a comparison
@@ -70,7 +71,7 @@ module _ (V H : Type 0) (m : Meaning V H) (laws : Laws m) (base : ℕ) (store : 
   answered c draws rest so wanted e got = subst (λ (b : Bool). truth_of c base store draws ≡ Some (b, rest)) e got
 
   abbrev Keeps : V × Exactness → Type 0
-  Keeps v = m.has v.0 store
+  Keeps v = Has m v.0 store
 
   kept : (v w : V × Exactness) → w ≡ v → Keeps v → Keeps w
   kept v w e h = subst (λ (x : V × Exactness). Keeps x) (sym e) h
@@ -78,19 +79,21 @@ module _ (V H : Type 0) (m : Meaning V H) (laws : Laws m) (base : ℕ) (store : 
   test_keeps : (live : ℕ) (o : Option Test) (v w : V × Exactness) → ((t : Test) → o ≡ Some t → TestHolds t store) → IsTestedBy (V × Exactness) (testing (dropping m)) live base o v w → Keeps v →
       Keeps w
   test_keeps live None v w passes is h = kept v w is h
-  test_keeps live (Some t) v w passes (e, done, worst) h = done.0.stores store store h (tested_leads t store (passes t refl))
+  test_keeps live (Some t) v w passes (e, done, worst) h = (done.0.formed, laws.kept_stores (tested t) v.0 w.0 h.0 done.0.formed done.0.keeps store store h.1 (tested_leads t store (passes t refl)))
 
   -- one side of `!=` passes, or has no test
   differs_keeps : (less more w : V × Exactness) (d : Form) (x y : ℤ) (one two : Option Test) → form_value d store ≡ x -ℤ y → IsTrue (compares differs x y)
       → comparison_test below d ≡ one → comparison_test above d ≡ two → (v : V × Exactness) → IsTestedBy (V × Exactness) (testing (dropping m)) (length store) base one v less →
       IsTestedBy (V × Exactness) (testing (dropping m)) (length store) base two v more
       → (e : Exactness) → (dropping m).joined less.0 more.0 e w.0 → Keeps v → Keeps w
-  differs_keeps less more w d x y None two is so same also v first second e joined h = laws.covered_stores less.0 w.0 joined.0.left store (kept v less first h)
-  differs_keeps less more w d x y (Some t) None is so same also v first second e joined h = laws.covered_stores more.0 w.0 joined.0.right store (kept v more second h)
+  differs_keeps less more w d x y None two is so same also v first second e joined h = covered_has m laws less.0 w.0 joined.0.formed joined.0.left store (kept v less first h)
+  differs_keeps less more w d x y (Some t) None is so same also v first second e joined h = covered_has m laws more.0 w.0 joined.0.formed joined.0.right store (kept v more second h)
   differs_keeps less more w d x y (Some t) (Some u) is so same also v first second e joined h =
       elim ((differs_by_tests d t u store x y is same also).0 so) [
-        | inl a ↦ laws.covered_stores less.0 w.0 joined.0.left store (test_keeps (length store) (Some t) v less (λ r k. let it : t ≡ r = cc in subst (λ (z : Test). TestHolds z store) it a) first h)
-        | inr b ↦ laws.covered_stores more.0 w.0 joined.0.right store (test_keeps (length store) (Some u) v more (λ r k. let it : u ≡ r = cc in subst (λ (z : Test). TestHolds z store) it b) second h)
+        | inl a ↦ covered_has m laws less.0 w.0 joined.0.formed joined.0.left store
+            (test_keeps (length store) (Some t) v less (λ r k. let it : t ≡ r = cc in subst (λ (z : Test). TestHolds z store) it a) first h)
+        | inr b ↦ covered_has m laws more.0 w.0 joined.0.formed joined.0.right store
+            (test_keeps (length store) (Some u) v more (λ r k. let it : u ≡ r = cc in subst (λ (z : Test). TestHolds z store) it b) second h)
       ]
 
   atom_keeps : (op : Comparison) (d : Form) (x y : ℤ) (v w : V × Exactness) → form_value d store ≡ x -ℤ y → IsTrue (compares op x y)
@@ -143,15 +146,15 @@ module _ (V H : Type 0) (m : Meaning V H) (laws : Laws m) (base : ℕ) (store : 
   cond_keeps (both_of a b) false draws left v w ran (first, mid, second, one, off, two, (e, joined, worst)) h =
       let (r, got, to) = bind_some (truth_of a base store draws) (λ r. if r.0 then truth_of b base store r.1 else Some (false, r.1)) (false, left) ran in
       elim (and_false r.0 r.1 left (truth_of b base store r.1) to) [
-        | inl so ↦ laws.covered_stores first.0 w.0 joined.0.left store (cond_keeps a false draws r.1 v first (answered a draws r.1 r.0 false so got) one h)
-        | inr so ↦ laws.covered_stores second.0 w.0 joined.0.right store (cond_keeps b false r.1 left mid second so.1 two
+        | inl so ↦ covered_has m laws first.0 w.0 joined.0.formed joined.0.left store (cond_keeps a false draws r.1 v first (answered a draws r.1 r.0 false so got) one h)
+        | inr so ↦ covered_has m laws second.0 w.0 joined.0.formed joined.0.right store (cond_keeps b false r.1 left mid second so.1 two
             (cond_keeps a true draws r.1 v mid (answered a draws r.1 r.0 true so.0 got) off h))
       ]
   cond_keeps (either_of a b) true draws left v w ran (first, mid, second, one, off, two, (e, joined, worst)) h =
       let (r, got, to) = bind_some (truth_of a base store draws) (λ r. if r.0 then Some (true, r.1) else truth_of b base store r.1) (true, left) ran in
       elim (or_true r.0 r.1 left (truth_of b base store r.1) to) [
-        | inl so ↦ laws.covered_stores first.0 w.0 joined.0.left store (cond_keeps a true draws r.1 v first (answered a draws r.1 r.0 true so got) one h)
-        | inr so ↦ laws.covered_stores second.0 w.0 joined.0.right store (cond_keeps b true r.1 left mid second so.1 two
+        | inl so ↦ covered_has m laws first.0 w.0 joined.0.formed joined.0.left store (cond_keeps a true draws r.1 v first (answered a draws r.1 r.0 true so got) one h)
+        | inr so ↦ covered_has m laws second.0 w.0 joined.0.formed joined.0.right store (cond_keeps b true r.1 left mid second so.1 two
             (cond_keeps a false draws r.1 v mid (answered a draws r.1 r.0 false so.0 got) off h))
       ]
   cond_keeps (either_of a b) false draws left v w ran (mid, one, two) h =

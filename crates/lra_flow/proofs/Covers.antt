@@ -1,26 +1,44 @@
 -- What a pass with drops owes: its values have all stores of the tree's runs.
 use Rattle.std.specs.Prelude.{◌≡◌, ℕ, ℤ, List, Some}
 use Rattle.std.specs.List.{Contains}
+use Rattle.lra_domain.specs.Actions.{Within}
+use Rattle.lra_domain.specs.Laws.{Laws}
 use Rattle.lra_domain.specs.Meaning.{Meaning}
+use Rattle.lra_domain.specs.declared.Mode.{Mode}
 use Rattle.lra_domain.specs.declared.Exactness.{Exactness}
 use Rattle.lra_program.specs.Step.{State, Op, run_op}
 use Rattle.lra_operations.specs.Graph.{Exit, normal, jump, Node, Ends, Comes, FailsAt}
 use Rattle.lra_flow.specs.Operations.{dropping}
 use Rattle.lra_flow.specs.Pass.{value, failing, Result, Changes, jumps_of}
 
+-- the list is a store of a value that is held, or of a head that is
+abbrev pub Has : {V H : Type 0} → Meaning V H → V → List ℤ → Type 0
+Has m v store = m.formed v × m.has v store
+
+abbrev pub HeadHas : {V H : Type 0} → Meaning V H → H → List ℤ → Type 0
+HeadHas m h store = m.head_formed h × m.head_has h store
+
+-- what is covered, and lies in a head, has no store beyond those of what covers it, and of the head
+pub covered_has : {V H : Type 0} (m : Meaning V H) → Laws m → (v w : V) → m.formed w → m.covered v w → Within (Has m v) (Has m w)
+covered_has m laws v w fine covered s h = (fine, laws.covered_stores v w h.0 fine covered s h.1)
+
+pub stays_has : {V H : Type 0} (m : Meaning V H) → Laws m → (h : H) (v : V) (mode : Mode) → m.head_formed h → m.stays h v mode
+    → Within (Has m v) (HeadHas m h)
+stays_has m laws h v mode fine stays s own = (fine, laws.stays_stores h v mode fine own.0 stays s own.1)
+
 -- one of the values has the store
 abbrev pub SomeHas : {V H : Type 0} → Meaning V H → List V → List ℤ → Type 0
-SomeHas {V} m vs store = (w : V) × Contains vs w × m.has w store
+SomeHas {V} m vs store = (w : V) × Contains vs w × Has m w store
 
 -- a least change of a value keeps the stores to which the change leads
 abbrev pub ChangesKeep : {V H : Type 0} → Meaning V H → Type 0
 ChangesKeep {V} {H} m = (op : Op) (v : V) (e : Exactness) (w : V) → Changes V H (dropping m) op v e w → (s t : State) →
-    m.has v s.store → run_op op s ≡ Some t → m.has w t.store
+    Has m v s.store → run_op op s ≡ Some t → Has m w t.store
 
 -- the result has the stores of the tree's runs from this state: behind the tree, at its jumps, at its points and where
 -- an assertion fails
 pub record Covers {V H : Type 0} (m : Meaning V H) (g : Node) (s : State) (r : Result V) : Type 0 where
-  pub ends : (t : State) → Ends g s normal t → m.has r.normal t.store
+  pub ends : (t : State) → Ends g s normal t → Has m r.normal t.store
   pub leaves : (k : Exit) (t : State) → Ends g s (jump k) t → SomeHas m (jumps_of k r) t.store
-  pub comes : (p : ℕ) (t : State) → Comes g s p t → (w : V) × Contains r.entries (value p w) × m.has w t.store
-  pub fails : (p : ℕ) → FailsAt g s p → (w : V) × (t : State) × Contains r.entries (failing p w) × m.has w t.store
+  pub comes : (p : ℕ) (t : State) → Comes g s p t → (w : V) × Contains r.entries (value p w) × Has m w t.store
+  pub fails : (p : ℕ) → FailsAt g s p → (w : V) × (t : State) × Contains r.entries (failing p w) × Has m w t.store

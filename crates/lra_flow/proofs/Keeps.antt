@@ -17,15 +17,16 @@ use Rattle.lra_flow.specs.Condition as condition
 use Rattle.lra_flow.specs.Condition.{IsPushed}
 use Rattle.lra_flow.specs.Conditions.{testing, Leaves}
 use Rattle.lra_flow.specs.Pass.{Result, Pass}
-use Rattle.lra_flow.proofs.Covers.{ChangesKeep, Covers}
+use Rattle.lra_flow.proofs.Covers.{ChangesKeep, Covers, Has}
 use Rattle.lra_flow.proofs.Keeping.{LeadsAll, op_leads, store_is}
 use Rattle.lra_flow.proofs.CondKeeping.{cond_keeps}
 use Rattle.lra_flow.proofs.Sound.{covers}
 
 module _ (V H : Type 0) (m : Meaning V H) (laws : Laws m) where
-  done_keeps : (steps : List Action) (v : V) (e : Exactness) (w : V) → AreDone (dropping m) steps v e w → (s t : List ℤ) → m.has v s → LeadsAll steps s t → m.has w t
-  done_keeps [] v e w (same, exact) s t h led = subst (λ (x : V). m.has x t) (sym same) (subst (λ (x : List ℤ). m.has v x) (sym led) h)
-  done_keeps (step ∷ steps) v e w (x, c, d, one, rest, worst) s t h (u, led, later) = done_keeps steps x d w rest u t (one.0.stores s u h led) later
+  done_keeps : (steps : List Action) (v : V) (e : Exactness) (w : V) → AreDone (dropping m) steps v e w → (s t : List ℤ) → Has m v s → LeadsAll steps s t → Has m w t
+  done_keeps [] v e w (same, exact) s t h led = subst (λ (x : V). Has m x t) (sym same) (subst (λ (x : List ℤ). Has m v x) (sym led) h)
+  done_keeps (step ∷ steps) v e w (x, c, d, one, rest, worst) s t h (u, led, later) =
+      done_keeps steps x d w rest u t (one.0.formed, laws.kept_stores step v x h.0 one.0.formed one.0.keeps s u h.1 led) later
 
   tested_keeps : (base : ℕ) (c : Cond) (wanted : Bool) (s t : State) (o : Drawn Bool) → truth_of c base s.store s.draws ≡ o → step.tested wanted s.store o ≡ Some t
       → (left : List ℤ) × (truth_of c base s.store s.draws ≡ Some (wanted, left)) × (t.store ≡ s.store)
@@ -35,19 +36,19 @@ module _ (V H : Type 0) (m : Meaning V H) (laws : Laws m) where
   tested_keeps base c true s t (Some (false, left)) ran is = cc
   tested_keeps base c false s t (Some (true, left)) ran is = cc
 
-  op_keeps : (op : Op) (v : V) (e : Exactness) (w : V) → AreDone (dropping m) (actions_of (m.dims v) op) v e w → (s t : State) → m.has v s.store → run_op op s ≡ Some t
-      → ((base : ℕ) (c : Cond) (wanted : Bool) → op ≡ step.test base c wanted → ⊥) → m.has w t.store
+  op_keeps : (op : Op) (v : V) (e : Exactness) (w : V) → AreDone (dropping m) (actions_of (m.dims v) op) v e w → (s t : State) → Has m v s.store → run_op op s ≡ Some t
+      → ((base : ℕ) (c : Cond) (wanted : Bool) → op ≡ step.test base c wanted → ⊥) → Has m w t.store
   op_keeps op v e w done s t h ran other =
       done_keeps (actions_of (m.dims v) op) v e w done s.store t.store h
-      (subst (λ (n : ℕ). LeadsAll (actions_of n op) s.store t.store) (laws.sized v s.store h) (op_leads op s t ran other))
+      (subst (λ (n : ℕ). LeadsAll (actions_of n op) s.store t.store) (laws.sized v s.store h.0 h.1) (op_leads op s t ran other))
 
-  test_keeps : (base : ℕ) (c : Cond) (wanted : Bool) (v : V) (e : Exactness) (w : V) → Leaves (dropping m) base c wanted v e w → (s t : State) → m.has v s.store
-      → run_op (step.test base c wanted) s ≡ Some t → m.has w t.store
+  test_keeps : (base : ℕ) (c : Cond) (wanted : Bool) (v : V) (e : Exactness) (w : V) → Leaves (dropping m) base c wanted v e w → (s t : State) → Has m v s.store
+      → run_op (step.test base c wanted) s ≡ Some t → Has m w t.store
   test_keeps base c wanted v e w is s t h ran =
       let (left, got, same) = tested_keeps base c wanted s t (truth_of c base s.store s.draws) refl ran in
-      subst (λ (x : List ℤ). m.has w x) (sym same)
+      subst (λ (x : List ℤ). Has m w x) (sym same)
       (cond_keeps V H m laws base s.store c wanted s.draws left (v, Exact) (w, e) got
-      (subst (λ (n : ℕ). IsPushed (V × Exactness) (testing (dropping m)) n base (condition.push wanted c) (v, Exact) (w, e)) (sym (laws.sized v s.store h)) is) h)
+      (subst (λ (n : ℕ). IsPushed (V × Exactness) (testing (dropping m)) n base (condition.push wanted c) (v, Exact) (w, e)) (sym (laws.sized v s.store h.0 h.1)) is) h)
 
   pub changes_keep : ChangesKeep m
   changes_keep append v e w is s t h ran = op_keeps append v e w is s t h ran (λ base c wanted same. cc)
@@ -59,5 +60,5 @@ module _ (V H : Type 0) (m : Meaning V H) (laws : Laws m) where
 
 -- from one of its value's stores, a pass with drops covers the tree's runs
 pub pass_covers : {V H : Type 0} (m : Meaning V H) → Laws m → (set : Options) (g : Node) (f : Option ℕ) (v : V) (r : Result V) → Pass V H (dropping m) set g f v r
-    → (s : State) → m.has v s.store → Covers m g s r
+    → (s : State) → Has m v s.store → Covers m g s r
 pass_covers {V} {H} m laws set g f v r pass s h = covers V H m laws (changes_keep V H m laws) set g f v r pass s h

@@ -15,3 +15,5 @@ pub mod Caps
 mod PieceExamples
 -- Linear forms, and how conditions are pushed to their atoms.
 mod LinearExamples
+pub mod OneTree
+pub mod OneIteration

@@ -14,7 +14,7 @@ use Rattle.lra_base.specs.declared.options.Options.{Options}
 use Rattle.lra_flow.specs.Operations.{dropping}
 use Rattle.lra_flow.specs.Changes.{AreJoined}
 use Rattle.lra_flow.specs.Pass.{Entry, value, failing, Result, noted, jumps_of, first_of_call, values_behind, in_turn, behind, jumps, GoesRound, Grows, Narrows, mode_at, Pass}
-use Rattle.lra_flow.proofs.Covers.{ChangesKeep, Covers}
+use Rattle.lra_flow.proofs.Covers.{ChangesKeep, Covers, Has, HeadHas, covered_has, stays_has}
 
 left_jump : {V : Type 0} (k : Exit) (r s : Result V) (v : V) (f : Option ℕ) (u : V) → Contains (jumps_of k r) u → Contains (jumps_of k (in_turn r s v f)) u
 left_jump broken r s v f u h = Contains-append_left r.breaks s.breaks u h
@@ -62,25 +62,28 @@ behind_jump returned returned r v f n u h = absurd (n refl)
 module _ (V H : Type 0) (m : Meaning V H) (laws : Laws m) (keeps : ChangesKeep m) where
   -- joins
   joined_all : (v : V) (us : List V) (e : Exactness) (w : V) → AreJoined (dropping m) v us e w
-      → ((st : List ℤ) → m.has v st → m.has w st) × ((u : V) → Contains us u → (st : List ℤ) → m.has u st → m.has w st)
-  joined_all v [] e w h = (λ st k. subst (λ (x : V). m.has x st) (sym h.0) k, λ u k. absurd (omega (arith, k.1)))
+      → ((st : List ℤ) → Has m v st → Has m w st) × ((u : V) → Contains us u → (st : List ℤ) → Has m u st → Has m w st)
+  joined_all v [] e w h = (λ st k. subst (λ (x : V). Has m x st) (sym h.0) k, λ u k. absurd (omega (arith, k.1)))
   joined_all v (u ∷ us) e w (x, c, d, one, rest, is) =
       let r = joined_all x us d w rest in (
-        λ st k. r.0 st (laws.covered_stores v x one.0.left st k),
-        λ y there st k. elim (contains_cases u y us there) [ inl same ↦ r.0 st (laws.covered_stores u x one.0.right st (subst (λ (z : V). m.has z st) (sym same) k)) | inr later ↦ r.1 y later st k ],
+        λ st k. r.0 st (covered_has m laws v x one.0.formed one.0.left st k),
+        λ y there st k. elim (contains_cases u y us there) [
+          | inl same ↦ r.0 st (covered_has m laws u x one.0.formed one.0.right st (subst (λ (z : V). Has m z st) (sym same) k))
+          | inr later ↦ r.1 y later st k
+        ],
       )
 
   joined_call : (vs : List V) (n : V) (e : Exactness) (w : V) → AreJoined (dropping m) (first_of_call vs n).0 (first_of_call vs n).1 e w
-      → ((st : List ℤ) → m.has n st → m.has w st) × ((u : V) → Contains vs u → (st : List ℤ) → m.has u st → m.has w st)
+      → ((st : List ℤ) → Has m n st → Has m w st) × ((u : V) → Contains vs u → (st : List ℤ) → Has m u st → Has m w st)
   joined_call [] n e w h = joined_all n [] e w h
   joined_call (v ∷ vs) n e w h =
       let r = joined_all v (vs ++ n ∷ []) e w h in (
         λ st k. r.1 n (Contains-append_right vs (n ∷ []) n (contains_head n [])) st k,
-        λ u there st k. elim (contains_cases v u vs there) [ inl same ↦ r.0 st (subst (λ (z : V). m.has z st) (sym same) k) | inr later ↦ r.1 u (Contains-append_left vs (n ∷ []) u later) st k ],
+        λ u there st k. elim (contains_cases v u vs there) [ inl same ↦ r.0 st (subst (λ (z : V). Has m z st) (sym same) k) | inr later ↦ r.1 u (Contains-append_left vs (n ∷ []) u later) st k ],
       )
 
   joined_caught : (k : Exit) (r : Result V) (e : Exactness) (w : V) → AreJoined (dropping m) (values_behind k r).0 (values_behind k r).1 e w
-      → ((st : List ℤ) → m.has r.normal st → m.has w st) × ((u : V) → Contains (jumps_of k r) u → (st : List ℤ) → m.has u st → m.has w st)
+      → ((st : List ℤ) → Has m r.normal st → Has m w st) × ((u : V) → Contains (jumps_of k r) u → (st : List ℤ) → Has m u st → Has m w st)
   joined_caught broken r e w h = joined_all r.normal r.breaks e w h
   joined_caught continued r e w h = joined_all r.normal r.continues e w h
   joined_caught returned r e w h = joined_call r.returns r.normal e w h
@@ -90,37 +93,37 @@ abbrev Round : ℕ → Cond → Node → State → State → Type 0
 Round base c a u v = (w : State) × (run_op (test base c true) u ≡ Some w) × Ends a w normal v
 
 module _ (V H : Type 0) (m : Meaning V H) (laws : Laws m) (keeps : ChangesKeep m) (set : Options) (q base : ℕ) (c : Cond) (a : Node)
-    (inside : (f : Option ℕ) (v : V) (r : Result V) → Pass V H (dropping m) set a f v r → (s : State) → m.has v s.store → Covers m a s r) where
+    (inside : (f : Option ℕ) (v : V) (r : Result V) → Pass V H (dropping m) set a f v r → (s : State) → Has m v s.store → Covers m a s r) where
   round_keeps : (f : Option ℕ) (v : V) (r : Result V) → GoesRound V H (dropping m) q base c (Pass V H (dropping m) set a) f v r
-      → (s t : State) → m.has v s.store → Round base c a s t → m.has r.normal t.store
+      → (s t : State) → Has m v s.store → Round base c a s t → Has m r.normal t.store
   round_keeps f v r (w, e, x, on, pass, is) s t k (u, passes, ends) =
-      subst (λ (y : Result V). m.has y.normal t.store) (sym is) ((inside (noted q e f) w x pass u (keeps (test base c true) v e w on s u k passes)).ends t ends)
+      subst (λ (y : Result V). Has m y.normal t.store) (sym is) ((inside (noted q e f) w x pass u (keeps (test base c true) v e w on s u k passes)).ends t ends)
 
   -- a head that has all that its first one had, and is closed under rounds; its value and its last pass
   grows_keeps : (limited : Bool) (left : ℕ) (f : Option ℕ) (h : H) (later : List H) (v : V) (r : Result V) → Grows V H (dropping m) q base c (Pass V H (dropping m) set a) limited left f h later v r
-      → (last : H) × Within (m.head_has h) (m.head_has last) × Within (m.head_has last) (m.has v)
-      × ((s t : State) → m.head_has last s.store → Round base c a s t → m.head_has last t.store)
+      → (last : H) × Within (HeadHas m h) (HeadHas m last) × Within (HeadHas m last) (Has m v)
+      × ((s t : State) → HeadHas m last s.store → Round base c a s t → HeadHas m last t.store)
       × ((g : Option ℕ) × GoesRound V H (dropping m) q base c (Pass V H (dropping m) set a) g v r)
   grows_keeps limited left f h [] v r ((e, valued, turn), stays) = (
     h,
     λ st k. k,
-    valued.0.stores,
-    λ s t k one. laws.stays_stores h r.normal (mode_at limited left) (laws.answers_yes h r.normal (mode_at limited left) stays.0) t.store
-        (round_keeps (noted q e f) v r turn s t (valued.0.stores s.store k) one),
+    λ st k. (valued.0.formed, valued.0.stores st k.1),
+    λ s t k one. stays_has m laws h r.normal (mode_at limited left) k.0 (laws.answers_yes h r.normal (mode_at limited left) stays.0) t.store
+        (round_keeps (noted q e f) v r turn s t (valued.0.formed, valued.0.stores s.store k.1) one),
     (noted q e f, turn),
   )
   grows_keeps limited left f h (next ∷ later) v r (u, x, e, turn, grown, rest) =
       let i = grows_keeps limited (left - 1) (noted q e x.flag) next later v r rest in
-      (i.0, λ st k. i.1 st (grown.0.kept st k), i.2, i.3, i.4)
+      (i.0, λ st k. i.1 st (grown.0.formed, laws.old_stores h x.normal next k.0 grown.0.formed grown.0.both st k.1), i.2, i.3, i.4)
 
   -- narrowed, the value still has all that some rounds reach from the first one
   narrows_keeps : (more : ℕ) (first u : V) (x : Result V) (v : V) (r : Result V) → Narrows V H (dropping m) q base c (Pass V H (dropping m) set a) more first u x v r
-      → (s : State) → m.has first s.store
-      → ((n : ℕ) (t : State) → Rounds (Round base c a) n s t → m.has u t.store)
+      → (s : State) → Has m first s.store
+      → ((n : ℕ) (t : State) → Rounds (Round base c a) n s t → Has m u t.store)
       → ((g : Option ℕ) × GoesRound V H (dropping m) q base c (Pass V H (dropping m) set a) g u x)
-      → ((n : ℕ) (t : State) → Rounds (Round base c a) n s t → m.has v t.store) × ((g : Option ℕ) × GoesRound V H (dropping m) q base c (Pass V H (dropping m) set a) g v r)
+      → ((n : ℕ) (t : State) → Rounds (Round base c a) n s t → Has m v t.store) × ((g : Option ℕ) × GoesRound V H (dropping m) q base c (Pass V H (dropping m) set a) g v r)
   narrows_keeps zero first u x v r (same, is) s k all turned = (
-    λ n t rounds. subst (λ (y : V). m.has y t.store) (sym same) (all n t rounds),
+    λ n t rounds. subst (λ (y : V). Has m y t.store) (sym same) (all n t rounds),
     (
       turned.0,
       subst (λ (y : V). GoesRound V H (dropping m) q base c (Pass V H (dropping m) set a) turned.0 y r) (sym same)
@@ -130,27 +133,27 @@ module _ (V H : Type 0) (m : Meaning V H) (laws : Laws m) (keeps : ChangesKeep m
   narrows_keeps (suc more) first u x v r (next, y, e, joined, turn, rest) s k all turned =
       narrows_keeps more first next y v r rest s k reached (noted q e x.flag, turn)
     where
-      reached : (n : ℕ) (t : State) → Rounds (Round base c a) n s t → m.has next t.store
-      reached zero t is = laws.covered_stores first next joined.0.left t.store (subst (λ (z : State). m.has first z.store) (sym is) k)
-      reached (suc n) t (w, before, one) = laws.covered_stores x.normal next joined.0.right t.store (round_keeps turned.0 u x turned.1 w t (all n w before) one)
+      reached : (n : ℕ) (t : State) → Rounds (Round base c a) n s t → Has m next t.store
+      reached zero t is = covered_has m laws first next joined.0.formed joined.0.left t.store (subst (λ (z : State). Has m first z.store) (sym is) k)
+      reached (suc n) t (w, before, one) = covered_has m laws x.normal next joined.0.formed joined.0.right t.store (round_keeps turned.0 u x turned.1 w t (all n w before) one)
 
-  closed_rounds : (h : H) → ((s t : State) → m.head_has h s.store → Round base c a s t → m.head_has h t.store) → (s : State) → m.head_has h s.store
-      → (n : ℕ) (t : State) → Rounds (Round base c a) n s t → m.head_has h t.store
-  closed_rounds h closed s k zero t is = subst (λ (z : State). m.head_has h z.store) (sym is) k
+  closed_rounds : (h : H) → ((s t : State) → HeadHas m h s.store → Round base c a s t → HeadHas m h t.store) → (s : State) → HeadHas m h s.store
+      → (n : ℕ) (t : State) → Rounds (Round base c a) n s t → HeadHas m h t.store
+  closed_rounds h closed s k zero t is = subst (λ (z : State). HeadHas m h z.store) (sym is) k
   closed_rounds h closed s k (suc n) t (w, before, one) = closed w t (closed_rounds h closed s k n w before) one
 
 module _ (V H : Type 0) (m : Meaning V H) (laws : Laws m) (keeps : ChangesKeep m) where
-  pub covers : (set : Options) (g : Node) (f : Option ℕ) (v : V) (r : Result V) → Pass V H (dropping m) set g f v r → (s : State) → m.has v s.store → Covers m g s r
+  pub covers : (set : Options) (g : Node) (f : Option ℕ) (v : V) (r : Result V) → Pass V H (dropping m) set g f v r → (s : State) → Has m v s.store → Covers m g s r
   covers set empty f v r is s k = subst (λ (y : Result V). Covers m empty s y) (sym is) (record {
-    ends = λ t e. subst (λ (z : State). m.has v z.store) (sym e) k;
+    ends = λ t e. subst (λ (z : State). Has m v z.store) (sym e) k;
     leaves = λ j t e. absurd e;
     comes = λ p t e. absurd e;
     fails = λ p e. absurd e;
   })
   covers set (point q) f v r is s k = subst (λ (y : Result V). Covers m (point q) s y) (sym is) (record {
-    ends = λ t e. subst (λ (z : State). m.has v z.store) (sym e) k;
+    ends = λ t e. subst (λ (z : State). Has m v z.store) (sym e) k;
     leaves = λ j t e. absurd e;
-    comes = λ p t e. (v, subst (λ (x : ℕ). Contains (value q v ∷ []) (value x v)) (sym e.0) (contains_head (value q v) []), subst (λ (z : State). m.has v z.store) (sym e.1) k);
+    comes = λ p t e. (v, subst (λ (x : ℕ). Contains (value q v ∷ []) (value x v)) (sym e.0) (contains_head (value q v) []), subst (λ (z : State). Has m v z.store) (sym e.1) k);
     fails = λ p e. absurd e;
   })
   covers set (act q op) f v r (w, e, done, is) s k = subst (λ (y : Result V). Covers m (act q op) s y) (sym is) (record {
@@ -188,8 +191,8 @@ module _ (V H : Type 0) (m : Meaning V H) (laws : Laws m) (keeps : ChangesKeep m
       let l : (t : State) → run_op (test base c false) s ≡ Some t → Covers m b t y = λ t ran. covers set b (noted q e x.flag) off y two t (keeps (test base c false) v e off is_off s t k ran) in
       subst (λ (z : Result V). Covers m (choose q base c a b) s z) (sym is) (record {
         ends = λ t h. elim h [
-          | inl n ↦ laws.covered_stores x.normal w joined.0.left t.store ((j n.0 n.1).ends t n.2)
-          | inr n ↦ laws.covered_stores y.normal w joined.0.right t.store
+          | inl n ↦ covered_has m laws x.normal w joined.0.formed joined.0.left t.store ((j n.0 n.1).ends t n.2)
+          | inr n ↦ covered_has m laws y.normal w joined.0.formed joined.0.right t.store
               ((l n.0 n.1).ends t n.2)
         ];
         leaves = λ kind t h. elim h [
@@ -208,11 +211,11 @@ module _ (V H : Type 0) (m : Meaning V H) (laws : Laws m) (keeps : ChangesKeep m
   covers set (iterate q base c a) f v r (h, later, u, top, out, x, y, e, started, grown, narrowed, off, is) s k =
       let g = grows_keeps V H m laws keeps set q base c a (covers set a) set.limited set.delay f h later u x grown in
       let n = narrows_keeps V H m laws keeps set q base c a (covers set a) set.narrow v u x top y narrowed s k
-      (λ n t rounds. g.2 t.store (closed_rounds V H m laws keeps set q base c a (covers set a) g.0 g.3 s (g.1 s.store (started.0.stores s.store k)) n t rounds)) g.4 in
+      (λ n t rounds. g.2 t.store (closed_rounds V H m laws keeps set q base c a (covers set a) g.0 g.3 s (g.1 s.store (started.0.formed, started.0.stores s.store k.1)) n t rounds)) g.4 in
       let turn = n.1.1 in
       let w = turn.0 in
       let z = turn.2 in
-      let last : (t t' : State) → m.has top t.store → run_op (test base c true) t ≡ Some t' → Covers m a t' z =
+      let last : (t t' : State) → Has m top t.store → run_op (test base c true) t ≡ Some t' → Covers m a t' z =
       λ t t' has ran. covers set a (noted q turn.1 n.1.0) w z turn.4 t' (keeps (test base c true) top turn.1 w turn.3 t t' has ran) in
       subst (λ (o : Result V). Covers m (iterate q base c a) s o) (sym is)
       (subst (λ (o : Result V). Covers m (iterate q base c a) s (record o { normal = out; flag = noted q e y.flag })) (sym turn.5) (record {
@@ -222,7 +225,7 @@ module _ (V H : Type 0) (m : Meaning V H) (laws : Laws m) (keeps : ChangesKeep m
           | inl l ↦ (
             top,
             subst (λ (i : ℕ). Contains (value q top ∷ z.entries) (value i top)) (sym l.0) (contains_head (value q top) z.entries),
-            subst (λ (i : State). m.has top i.store) (sym l.1) (n.0 b.0 b.1 b.2),
+            subst (λ (i : State). Has m top i.store) (sym l.1) (n.0 b.0 b.1 b.2),
           )
           | inr l ↦ let o = (last b.1 l.0 (n.0 b.0 b.1 b.2) l.1).comes p t l.2 in (o.0, contains_tail (value q top) (value p o.0) z.entries o.1, o.2)
         ];
@@ -232,7 +235,7 @@ module _ (V H : Type 0) (m : Meaning V H) (laws : Laws m) (keeps : ChangesKeep m
       let i = covers set a f v x one s k in
       let j = joined_caught V H m laws keeps kind x e w joined in
       subst (λ (y : Result V). Covers m (catch q kind a) s y) (sym is) (record {
-        ends = λ t h. subst (λ (y : V). m.has y t.store) (sym (behind_normal kind x w (noted q e x.flag)))
+        ends = λ t h. subst (λ (y : V). Has m y t.store) (sym (behind_normal kind x w (noted q e x.flag)))
             (elim h [ inl l ↦ j.0 t.store (i.ends t l) | inr l ↦ let o = i.leaves kind t l in j.1 o.0 o.1 t.store o.2 ]);
         leaves = λ other t h. let o = i.leaves other t h.1 in (o.0, behind_jump kind other x w (noted q e x.flag) h.0 o.0 o.1, o.2);
         comes = λ p t h. let o = i.comes p t h in (o.0, subst (λ (y : List (Entry V)). Contains y (value p o.0)) (sym (behind_entries kind x w (noted q e x.flag))) o.1, o.2);
@@ -240,7 +243,7 @@ module _ (V H : Type 0) (m : Meaning V H) (laws : Laws m) (keeps : ChangesKeep m
       })
   covers set (leave n kind) f v r (w, nothing, is) s k = subst (λ (y : Result V). Covers m (leave n kind) s y) (sym is) (record {
     ends = λ t h. absurd h;
-    leaves = λ other t h. (v, subst (λ (i : Exit). Contains (jumps_of i (jumps kind v w f)) v) (sym h.0) (jump_there kind v w f), subst (λ (z : State). m.has v z.store) (sym h.1) k);
+    leaves = λ other t h. (v, subst (λ (i : Exit). Contains (jumps_of i (jumps kind v w f)) v) (sym h.0) (jump_there kind v w f), subst (λ (z : State). Has m v z.store) (sym h.1) k);
     comes = λ p t h. absurd h;
     fails = λ p h. absurd h;
   })

@@ -34,10 +34,11 @@ pub record Transfers {V H : Type 0} (Keeps : Exactness → Type 0) (a b : Operat
   pub stays : (h : H) (v : V) (mode : Mode) → a.stays h v mode → b.stays h v mode
   pub grown : (h : H) (v : V) (mode : Mode) (e : Exactness) (next : H) → Keeps e → a.grown h v mode e next → b.grown h v mode e next
   pub valued : (h : H) (e : Exactness) (v : V) → Keeps e → a.valued h e v → b.valued h e v
+  pub void : (n cap : ℕ) (v : V) → a.void n cap v → b.void n cap v
 
--- the second operations, with the first ones' dimensions and first values
+-- the second operations, with the first ones' dimensions
 abbrev pub aligned : {V H : Type 0} → Operations V H → Operations V H → Operations V H
-aligned a b = record b { dims = a.dims; universal = a.universal; void = a.void }
+aligned a b = record b { dims = a.dims }
 
 behind_flag : {V : Type 0} (k : Exit) (r : Result V) (v : V) (f : Option ℕ) → (behind k r v f).flag ≡ f
 behind_flag broken r v f = refl
@@ -171,4 +172,4 @@ module _ (V H : Type 0) (a b : Operations V H) (Keeps : Exactness → Type 0) (F
       let i = passes set x f v s p.1 one in
       (i.0, (w, e, s, i.1, joins (values_behind kind s).0 (values_behind kind s).1 e w p.0 joined, is))
   passes set (leave n kind) f v r k (w, nothing, is) =
-      (subst Fine (jump_flag kind v w f) (subst (λ (z : Result V). Fine z.flag) is k), (w, nothing, is))
+      (subst Fine (jump_flag kind v w f) (subst (λ (z : Result V). Fine z.flag) is k), (w, moves.void n set.parts w nothing, is))

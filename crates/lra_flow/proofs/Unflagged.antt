@@ -38,6 +38,7 @@ exact_ones m laws = record {
   stays = λ h v mode s. laws.answers_yes h v mode s.0;
   grown = λ h v mode e next k g. (k, laws.answers_no h v mode (g.0.moved k), g.0.exact k);
   valued = λ h e v k s. (k, s.0.exact k);
+  void = λ n cap v is. is.0;
 }
 
 strained_ones : {V H : Type 0} (m : Meaning V H) → Laws m → Transfers (λ e. Unit {0}) (dropping m) (straining m)
@@ -48,6 +49,7 @@ strained_ones m laws = record {
   stays = λ h v mode s. laws.answers_yes h v mode s.0;
   grown = λ h v mode e next k g. (λ is. (laws.answers_no h v mode (g.0.moved is), g.0.exact is), λ is. elim (g.0.flagged is) [ inl a ↦ inl a.0 | inr b ↦ inr b ]);
   valued = λ h e v k s. (s.0.exact, s.0.flagged);
+  void = λ n cap v is. is.0;
 }
 
 -- a derivation without a flag is the written iteration
@@ -55,10 +57,11 @@ pub unflagged_is_written : {V H : Type 0} (m : Meaning V H) → Laws m → (set 
 unflagged_is_written {V} {H} m laws set P g r (none, first, e, universal, values, pass) is =
     let p = passes V H (dropping m) (defined m) (λ e. e ≡ Exact) (λ f. f ≡ None) none_flagged (exact_ones m laws) set g (noted 0 e None) first r is pass in
     let k = exact_before 0 e None p.0 in
-    (none, first, e, universal, done V H (dropping m) (defined m) (λ e. e ≡ Exact) (λ f. f ≡ None) none_flagged (exact_ones m laws) (first_values 0 P.globals) none e first k.0 values, p.1)
+    (none, first, e, universal.0, done V H (dropping m) (defined m) (λ e. e ≡ Exact) (λ f. f ≡ None) none_flagged (exact_ones m laws) (first_values 0 P.globals) none e first k.0 values, p.1)
 
 -- the first flagged operation strains on the operands of the written iteration
 pub flagged_strains : {V H : Type 0} (m : Meaning V H) → Laws m → (set : Options) (P : Program) (g : Node) (r : Result V) (q : ℕ) → Derivation m set P g r → r.flag ≡ Some q → Strains m set P g q
 flagged_strains {V} {H} m laws set P g r q (none, first, e, universal, values, pass) is =
     let p = passes V H (dropping m) (straining m) (λ e. Unit {0}) (λ f. Unit {0}) any_matters (strained_ones m laws) set g (noted 0 e None) first r tt pass in
-    (r, (none, first, e, universal, done V H (dropping m) (straining m) (λ e. Unit {0}) (λ f. Unit {0}) any_matters (strained_ones m laws) (first_values 0 P.globals) none e first tt values, p.1), is)
+    let began = done V H (dropping m) (straining m) (λ e. Unit {0}) (λ f. Unit {0}) any_matters (strained_ones m laws) (first_values 0 P.globals) none e first tt values in
+    (r, (none, first, e, universal.0, began, p.1), is)

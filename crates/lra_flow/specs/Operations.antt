@@ -40,12 +40,13 @@ defined m = record {
 }
 
 -- an operation that strains on the operands that it has may be flagged; its result then covers the defined one.
--- Operands and results have the dimensions that they must have; a result has the caps that all its operands have
+-- Operands and results have the dimensions that they must have, and results are held; a result has the caps that all
+-- its operands have
 abbrev pub dropping : {V H : Type 0} → Meaning V H → Operations V H
 dropping m = record {
   dims = m.dims;
-  universal = m.universal;
-  void = m.void;
+  universal = λ n cap v. m.universal n cap v × m.formed v;
+  void = λ n cap v. m.void n cap v × m.formed v;
   changed = λ step v e w. Meets m step v e w × (m.dims w ≡ dims_after step (m.dims v)) ×
       CapsWithin (m.capped v) (m.capped w);
   joined = λ u v e w. Joins m u v e w × (m.dims v ≡ m.dims u) × (m.dims w ≡ m.dims u) ×

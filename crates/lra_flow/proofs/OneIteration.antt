@@ -1,0 +1,199 @@
+-- The written iteration finds one value at each point: where each operation has one result, so has a pass.
+use Rattle.std.proofs.Common.{◌≡◌, ◌∙◌, ℕ, zero, suc, ◌-◌, List, [], ◌∷◌, Option, None, Some, Bool, true, false, refl, sym, ap, subst}
+use Rattle.lra_sys.specs.Listed.{Listed}
+use Rattle.lra_linear.specs.declared.ConKind.{ConKind}
+use Rattle.lra_domain.specs.Actions.{Action}
+use Rattle.lra_domain.specs.Laws.{SingleLaws}
+use Rattle.lra_domain.specs.Meaning.{Meaning}
+use Rattle.lra_domain.specs.declared.Mode.{Mode}
+use Rattle.lra_domain.specs.declared.Exactness.{Exactness}
+use Rattle.lra_domain.specs.declared.Exactness.TheVariants.{Exact}
+use Rattle.lra_program.specs.Program.{Cond, Program}
+use Rattle.lra_base.specs.Operators.{Comparison, below, at_most, above, at_least, equal, differs}
+use Rattle.lra_program.specs.Step.{Op, append, give, give_any, push, keep, test}
+use Rattle.lra_operations.specs.Graph.{Node, empty, point, act, check, seq, choose, iterate, catch, leave}
+use Rattle.lra_lin.specs.Form.{Form}
+use Rattle.lra_lin.specs.declared.test.Test.{Test}
+use Rattle.lra_flow.specs.Linear.{comparison_test, difference_form}
+use Rattle.lra_flow.specs.Condition as condition
+use Rattle.lra_base.specs.declared.options.Options.{Options}
+use Rattle.lra_flow.specs.Operations.{Operations, defined}
+use Rattle.lra_flow.specs.Changes.{actions_of, first_values, AreDone, AreJoined}
+use Rattle.lra_flow.specs.Conditions.{testing, tested, Leaves}
+use Rattle.lra_flow.specs.Given.{given_rows}
+use Rattle.lra_flow.specs.Pass.{Result, noted, values_behind, Changes, Through, GoesRound, GoesFrom, Grows, Narrows, mode_at, Pass, value}
+use Rattle.lra_flow.specs.Analysis.{Written, Iteration}
+
+-- each operation has one exactness and one result; a head doesn't grow where it is stable
+pub record Single {V H : Type 0} (ops : Operations V H) : Type 0 where
+  pub universal : (n cap : ℕ) (v w : V) → ops.universal n cap v → ops.universal n cap w → v ≡ w
+  pub void : (n cap : ℕ) (v w : V) → ops.void n cap v → ops.void n cap w → v ≡ w
+  pub changed : (step : Action) (v : V) (e d : Exactness) (w x : V) → ops.changed step v e w → ops.changed step v d x → (e ≡ d) × (w ≡ x)
+  pub joined : (u v : V) (e d : Exactness) (w x : V) → ops.joined u v e w → ops.joined u v d x → (e ≡ d) × (w ≡ x)
+  pub started : (v : V) (rows : Listed ConKind) (g h : H) → ops.started v rows g → ops.started v rows h → g ≡ h
+  pub apart : (h : H) (v : V) (mode : Mode) (e : Exactness) (next : H) → ops.stays h v mode → ops.grown h v mode e next → ⊥
+  pub grown : (h : H) (v : V) (mode : Mode) (e d : Exactness) (i j : H) → ops.grown h v mode e i → ops.grown h v mode d j → (e ≡ d) × (i ≡ j)
+  pub valued : (h : H) (e d : Exactness) (v w : V) → ops.valued h e v → ops.valued h d w → (e ≡ d) × (v ≡ w)
+
+pub defined_single : {V H : Type 0} (m : Meaning V H) → SingleLaws m → Single (defined m)
+defined_single m laws = record {
+  universal = laws.one_universal;
+  void = laws.one_void;
+  changed = λ step v e d w x a b. (a.0 ∙ sym b.0, laws.one_done step v w x a.1 b.1);
+  joined = λ u v e d w x a b. (a.0 ∙ sym b.0, laws.one_joined u v w x a.1 b.1);
+  started = laws.one_started;
+  apart = λ h v mode e next s g. g.1 s;
+  grown = λ h v mode e d i j a b. (a.0 ∙ sym b.0, laws.one_grown h v mode i j a.2 b.2);
+  valued = λ h e d v w a b. (a.0 ∙ sym b.0, laws.one_valued h v w a.1 b.1);
+}
+
+module _ (V H : Type 0) (ops : Operations V H) (single : Single ops) where
+  pub one_done : (steps : List Action) (v : V) (e d : Exactness) (w x : V) → AreDone ops steps v e w → AreDone ops steps v d x → (e ≡ d) × (w ≡ x)
+  one_done [] v e d w x (a, b) (k, l) = (b ∙ sym l, a ∙ sym k)
+  one_done (step ∷ steps) v e d w x (m, a, b, one, rest, is) (n, k, l, two, others, same) =
+      let (y, z) = single.changed step v a k m n one two in
+      let (p, q) = one_done steps m b l w x rest (subst (λ (u : V). AreDone ops steps u l x) (sym z) others) in
+      (is ∙ rw (y, p) refl ∙ sym same, q)
+
+  one_join : (us : List V) (v : V) (e d : Exactness) (w x : V) → AreJoined ops v us e w → AreJoined ops v us d x → (e ≡ d) × (w ≡ x)
+  one_join [] v e d w x (a, b) (k, l) = (b ∙ sym l, a ∙ sym k)
+  one_join (u ∷ us) v e d w x (m, a, b, one, rest, is) (n, k, l, two, others, same) =
+      let (y, z) = single.joined v u a k m n one two in
+      let (p, q) = one_join us m b l w x rest (subst (λ (t : V). AreJoined ops t us l x) (sym z) others) in
+      (is ∙ rw (y, p) refl ∙ sym same, q)
+
+  -- a value, and the exactness of what led to it
+  abbrev Told : Type 0
+  Told = V × Exactness
+
+  one_test : (live base : ℕ) (t : Option Test) (v w x : Told) → condition.IsTestedBy Told (testing ops) live base t v w → condition.IsTestedBy Told (testing ops) live base t v x → w ≡ x
+  one_test live base None v w x a b = a ∙ sym b
+  one_test live base (Some t) v w x (e, one, is) (d, two, same) =
+      let (y, z) = single.changed (tested t) v.0 e d w.0 x.0 one two in
+      let last : w.1 ≡ x.1 = is ∙ rw y refl ∙ sym same in
+      let both : (w.0, w.1) ≡ (x.0, x.1) = rw (z, last) refl in both
+
+  one_or_joined : (u v w x : Told) → (testing ops).IsJoined u v w → (testing ops).IsJoined u v x → w ≡ x
+  one_or_joined u v w x (e, one, is) (d, two, same) =
+      let (y, z) = single.joined u.0 v.0 e d w.0 x.0 one two in
+      let last : w.1 ≡ x.1 = is ∙ rw y refl ∙ sym same in
+      let both : (w.0, w.1) ≡ (x.0, x.1) = rw (z, last) refl in both
+
+  one_atom : (live base : ℕ) (op : Comparison) (f : Option Form) (v w x : Told) → condition.IsAtom Told (testing ops) live base op f v w
+      → condition.IsAtom Told (testing ops) live base op f v x → w ≡ x
+  one_atom live base op None v w x a b = a ∙ sym b
+  one_atom live base differs (Some f) v w x (less, more, a, b, c) (under, over, k, l, m) =
+      let y = one_test live base (comparison_test below f) v less under a k in
+      let z = one_test live base (comparison_test above f) v more over b l in
+      one_or_joined less more w x c (rw (y, z) m)
+  one_atom live base below (Some f) v w x a b = one_test live base (comparison_test below f) v w x a b
+  one_atom live base at_most (Some f) v w x a b = one_test live base (comparison_test at_most f) v w x a b
+  one_atom live base above (Some f) v w x a b = one_test live base (comparison_test above f) v w x a b
+  one_atom live base at_least (Some f) v w x a b = one_test live base (comparison_test at_least f) v w x a b
+  one_atom live base equal (Some f) v w x a b = one_test live base (comparison_test equal f) v w x a b
+
+  one_pushed : (live base : ℕ) (p : condition.Pushed) (v w x : Told) → condition.IsPushed Told (testing ops) live base p v w → condition.IsPushed Told (testing ops) live base p v x → w ≡ x
+  one_pushed live base (condition.atom op a b) v w x k l = one_atom live base op (difference_form live base a b) v w x k l
+  one_pushed live base (condition.first_then p q) v w x (m, a, b) (n, k, l) =
+      let y = one_pushed live base p v m n a k in
+      one_pushed live base q m w x b (subst (λ (t : Told). condition.IsPushed Told (testing ops) live base q t x) (sym y) l)
+  one_pushed live base (condition.one_or p opposed q) v w x (left, m, right, a, b, c, e) (first, n, last, k, l, o, s) =
+      let y = one_pushed live base p v left first a k in
+      let z = one_pushed live base opposed v m n b l in
+      let i = one_pushed live base q m right last c (subst (λ (t : Told). condition.IsPushed Told (testing ops) live base q t last) (sym z) o) in
+      one_or_joined left right w x e (rw (y, i) s)
+
+  one_left : (base : ℕ) (c : Cond) (wanted : Bool) (v : V) (e d : Exactness) (w x : V) → Leaves ops base c wanted v e w → Leaves ops base c wanted v d x → (e ≡ d) × (w ≡ x)
+  one_left base c wanted v e d w x a b =
+      let y : (w, e) ≡ (x, d) = one_pushed (ops.dims v) base (condition.push wanted c) (v, Exact) (w, e) (x, d) a b in
+      (ap (λ (t : Told). t.1) y, ap (λ (t : Told). t.0) y)
+
+  one_change : (op : Op) (v : V) (e d : Exactness) (w x : V) → Changes V H ops op v e w → Changes V H ops op v d x → (e ≡ d) × (w ≡ x)
+  one_change append v e d w x a b = one_done (actions_of (ops.dims v) append) v e d w x a b
+  one_change (give base y z) v e d w x a b = one_done (actions_of (ops.dims v) (give base y z)) v e d w x a b
+  one_change (give_any y) v e d w x a b = one_done (actions_of (ops.dims v) (give_any y)) v e d w x a b
+  one_change (push base es) v e d w x a b = one_done (actions_of (ops.dims v) (push base es)) v e d w x a b
+  one_change (keep n) v e d w x a b = one_done (actions_of (ops.dims v) (keep n)) v e d w x a b
+  one_change (test base c wanted) v e d w x a b = one_left base c wanted v e d w x a b
+
+  -- what a body gives is one thing
+  abbrev IsOne : Through V → Type 0
+  IsOne body = (f : Option ℕ) (v : V) (r s : Result V) → body f v r → body f v s → r ≡ s
+
+  module _ (q base : ℕ) (c : Cond) (body : Through V) (one : IsOne body) where
+    one_round : IsOne (GoesRound V H ops q base c body)
+    one_round f v r s (w, e, a, on, inside, is) (x, d, b, off, within, same) =
+        let (y, z) = one_left base c true v e d w x on off in
+        let k = one (noted q e f) w a b inside (rw (y, z) within) in
+        is ∙ rw k refl ∙ sym same
+
+    one_from : (h : H) (f : Option ℕ) (v w : V) (r s : Result V) → GoesFrom V H ops q base c body h f v r → GoesFrom V H ops q base c body h f w s → (v ≡ w) × (r ≡ s)
+    one_from h f v w r s (e, a, b) (d, k, l) =
+        let (y, z) = single.valued h e d v w a k in
+        (z, one_round (noted q e f) v r s b (rw (y, z) l))
+
+    one_growth : (limited : Bool) (left : ℕ) (f : Option ℕ) (h : H) (later others : List H) (v w : V) (r s : Result V) → Grows V H ops q base c body limited left f h later v r
+        → Grows V H ops q base c body limited left f h others w s → (v ≡ w) × (r ≡ s)
+    one_growth limited left f h [] [] v w r s (a, b) (k, l) = one_from h f v w r s a k
+    one_growth limited left f h [] (i ∷ others) v w r s (a, b) (u, t, e, k, l, m) =
+        let (y, z) = one_from h f v u r t a k in
+        absurd (single.apart h t.normal (mode_at limited left) e i (rw (← z) b) l)
+    one_growth limited left f h (i ∷ later) [] v w r s (u, t, e, a, b, n) (k, l) =
+        let (y, z) = one_from h f u w t s a k in
+        absurd (single.apart h s.normal (mode_at limited left) e i l (rw (← z) b))
+    one_growth limited left f h (i ∷ later) (j ∷ others) v w r s (u, t, e, a, b, n) (x, p, d, k, l, m) =
+        let (y, z) = one_from h f u x t p a k in
+        let (o, g) = single.grown h t.normal (mode_at limited left) e d i j b (rw z l) in
+        one_growth limited (left - 1) (noted q e t.flag) i later others v w r s n (rw (z, o, g) m)
+
+    one_narrowing : (more : ℕ) (first u : V) (s : Result V) (v w : V) (r t : Result V) → Narrows V H ops q base c body more first u s v r → Narrows V H ops q base c body more first u s w t
+        → (v ≡ w) × (r ≡ t)
+    one_narrowing zero first u s v w r t (a, b) (k, l) = (a ∙ sym k, b ∙ sym l)
+    one_narrowing (suc more) first u s v w r t (next, i, e, joined, turn, rest) (other, j, d, added, round, last) =
+        let (y, z) = single.joined first s.normal e d next other joined added in
+        let k = one_round (noted q e s.flag) next i j turn (rw (y, z) round) in
+        one_narrowing more first next i v w r t rest (rw (z, k) last)
+
+  pub one_pass : (set : Options) (g : Node) → IsOne (Pass V H ops set g)
+  one_pass set empty f v r s is same = is ∙ sym same
+  one_pass set (point q) f v r s is same = is ∙ sym same
+  one_pass set (act q op) f v r s (w, e, a, is) (x, d, b, same) =
+      let (y, z) = one_change op v e d w x a b in is ∙ rw (y, z) refl ∙ sym same
+  one_pass set (check q base c) f v r s (u, w, d, e, off, on, is) (x, y, i, j, off', on', same) =
+      let (k, l) = one_left base c false v d i u x off off' in
+      let (m, n) = one_left base c true v e j w y on on' in
+      is ∙ rw (k, l, m, n) refl ∙ sym same
+  one_pass set (seq a b) f v r s (i, j, one, two, is) (k, l, one', two', same) =
+      let y = one_pass set a f v i k one one' in
+      let z = one_pass set b i.flag i.normal j l two (rw y two') in
+      is ∙ rw (y, z) refl ∙ sym same
+  one_pass set (choose q base c a b) f v r s (on, off, w, d, e, i, x, y, when, one, else, two, joined, is) (on', off', w', d', e', i', x', y', when', one', else', two', joined', same) =
+      let (k, l) = one_left base c true v d d' on on' when when' in
+      let m = one_pass set a (noted q d f) on x x' one (rw (k, l) one') in
+      let (n, o) = one_left base c false v e e' off off' else else' in
+      let p = one_pass set b (noted q e x.flag) off y y' two (rw (n, o, m) two') in
+      let (t, u) = single.joined x.normal y.normal i i' w w' joined (rw (m, p) joined') in
+      is ∙ rw (m, p, t, u) refl ∙ sym same
+  one_pass set (iterate q base c a) f v r s (h, later, u, top, out, x, y, e, started, grown, narrowed, off, is) (h', later', u', top', out', x', y', e', started', grown', narrowed', off', same) =
+      let k = single.started v (given_rows (ops.dims v) base c) h h' started started' in
+      let body = Pass V H ops set a in
+      let (l, m) = one_growth q base c body (one_pass set a) set.limited set.delay f h later later' u u' x x' grown (rw k grown') in
+      let (n, o) = one_narrowing q base c body (one_pass set a) set.narrow v u x top top' y y' narrowed (rw (l, m) narrowed') in
+      let (p, t) = one_left base c false top e e' out out' off (rw n off') in
+      is ∙ rw (o, p, t) refl ∙ sym same
+  one_pass set (catch q kind a) f v r s (w, e, x, one, joined, is) (w', e', x', one', joined', same) =
+      let k = one_pass set a f v x x' one one' in
+      let (l, m) = one_join (values_behind kind x).1 (values_behind kind x).0 e e' w w' joined (rw k joined') in
+      is ∙ rw (k, l, m) refl ∙ sym same
+  one_pass set (leave n kind) f v r s (w, nothing, is) (w', nothing', same) =
+      let k = single.void n set.parts w w' nothing nothing' in
+      is ∙ rw k refl ∙ sym same
+
+  pub one_iteration : (set : Options) (P : Program) (g : Node) (r s : Result V) → Iteration ops set P g r → Iteration ops set P g s → r ≡ s
+  one_iteration set P g r s (none, first, e, universal, values, pass) (none', first', e', universal', values', pass') =
+      let k = single.universal 0 set.parts none none' universal universal' in
+      let (l, m) = one_done (first_values 0 P.globals) none e e' first first' values (rw k values') in
+      one_pass set g (noted 0 e None) first r s pass (rw (l, m) pass')
+
+pub one_written : {V H : Type 0} (m : Meaning V H) → SingleLaws m → (set : Options) (P : Program) (g : Node) (r s : Result V) → Written m set P g r → Written m set P g s → r ≡ s
+one_written {V} {H} m laws set P g r s a b = one_iteration V H (defined m) (defined_single m laws) set P g r s a b
