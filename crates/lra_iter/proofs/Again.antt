@@ -117,6 +117,7 @@ same_ones ops = record {
   stays = λ h v mode s. s;
   grown = λ h v mode e next k s. s;
   valued = λ h e v k s. s;
+  void = λ n cap v s. s;
 }
 
 pub none_before : {V H : Type 0} (ops : Operations V H) (set : Options) (g : Node) (f : Option ℕ) (v : V) (r : Result V) → r.flag ≡ None → Pass V H ops set g f v r → f ≡ None

@@ -19,7 +19,8 @@ use Rattle.lra_flow.specs.Operations.{dropping}
 use Rattle.lra_flow.specs.Changes.{first_values, AreDone}
 use Rattle.lra_flow.specs.Pass.{Result, noted, Pass}
 use Rattle.lra_flow.specs.Analysis.{Solves, IsUnreachable}
-use Rattle.lra_flow.proofs.Covers.{Covers}
+use Rattle.lra_flow.proofs.Covers.{Covers, Has}
+use Rattle.lra_domain.specs.Actions.{assign, embed}
 use Rattle.lra_flow.proofs.Keeps.{pass_covers}
 use Rattle.lra_iter.specs.Counts.{failing_at, AreCounted}
 use Rattle.lra_iter.specs.Sound.{begun, HoldsInTree}
@@ -40,29 +41,30 @@ set_last [] z = refl
 set_last (x ∷ xs) z = ap (λ (ys : List ℤ). x ∷ ys) (set_last xs z)
 
 module _ {V H : Type 0} (m : Meaning V H) where
-  first_done : (zs : List ℤ) (live : ℕ) (v : V) (e : Exactness) (w : V) (s : List ℤ) → AreDone (dropping m) (first_values live zs) v e w → m.has v s → length s ≡ live → m.dims v ≡ live
-      → m.has w (s ++ zs) × (m.dims w ≡ live + length zs)
-  first_done [] live v e w s (same, exact) h l d =
-      (subst (λ (x : V). m.has x (s ++ [])) (sym same) (subst (λ (xs : List ℤ). m.has v xs) (sym (append-nil s)) h), ap (λ (x : V). m.dims x) same ∙ omega (arith, d))
-  first_done (z ∷ zs) live v e w s (x, c, c', one, (y, d, d', two, rest, worse'), worse) h l k =
+  first_done : Laws m → (zs : List ℤ) (live : ℕ) (v : V) (e : Exactness) (w : V) (s : List ℤ) → AreDone (dropping m) (first_values live zs) v e w → Has m v s → length s ≡ live → m.dims v ≡ live
+      → Has m w (s ++ zs) × (m.dims w ≡ live + length zs)
+  first_done laws [] live v e w s (same, exact) h l d =
+      (subst (λ (x : V). Has m x (s ++ [])) (sym same) (subst (λ (xs : List ℤ). Has m v xs) (sym (append-nil s)) h), ap (λ (x : V). m.dims x) same ∙ omega (arith, d))
+  first_done laws (z ∷ zs) live v e w s (x, c, c', one, (y, d, d', two, rest, worse'), worse) h l k =
       let u = s ++ z ∷ [] in
       let long : length u ≡ suc live = length-append s (z ∷ []) ∙ omega (arith, l) in
-      let has_x : m.has x u = one.0.stores s u h (z ∷ [], refl, refl) in
+      let has_x : Has m x u = (one.0.formed, laws.kept_stores (embed 1) v x h.0 one.0.formed one.0.keeps s u h.1 (z ∷ [], refl, refl)) in
       let led : u ≡ slice_set u live (form_value (linear.constant_form (suc live) z) u) =
       sym (rw (constant_value (suc live) z u) (subst (λ (n : ℕ). slice_set u n z ≡ u) l (set_last s z))) in
-      let has_y : m.has y u = two.0.stores u u has_x led in
+      let has_y : Has m y u = (two.0.formed, laws.kept_stores (assign live (linear.constant_form (suc live) z)) x y has_x.0 two.0.formed two.0.keeps u u has_x.1 led) in
       let dims_x : m.dims x ≡ suc live = one.1 ∙ omega (arith, k) in
       let dims_y : m.dims y ≡ suc live = two.1 ∙ dims_x in
-      let later = first_done zs (suc live) y d' w u rest has_y long dims_y in
-      (subst (λ (xs : List ℤ). m.has w xs) (append_assoc s (z ∷ []) zs) later.0, later.1 ∙ omega arith)
+      let later = first_done laws zs (suc live) y d' w u rest has_y long dims_y in
+      (subst (λ (xs : List ℤ). Has m w xs) (append_assoc s (z ∷ []) zs) later.0, later.1 ∙ omega arith)
 
   module _ (laws : Laws m) where
     -- from the globals on, whatever is drawn, a pass has the stores of the tree's runs
-    pub begun_covers : (set : Options) (globals : List ℤ) (tree : Node) (whole first : V) (e : Exactness) (r : Result V) → m.universal 0 set.parts whole →
+    pub begun_covers : (set : Options) (globals : List ℤ) (tree : Node) (whole first : V) (e : Exactness) (r : Result V) → m.universal 0 set.parts whole × m.formed whole →
         AreDone (dropping m) (first_values 0 globals) whole e first
         → Pass V H (dropping m) set tree (noted 0 e None) first r → (draws : List ℤ) → Covers m tree (begun globals draws) r
     begun_covers set globals tree whole first e r universal done pass draws =
-        let f = first_done globals 0 whole e first [] done (laws.universal_stores 0 set.parts whole universal [] refl) refl (laws.universal_dims 0 set.parts whole universal) in
+        let all = laws.universal_stores 0 set.parts whole universal.1 universal.0 [] refl in
+        let f = first_done laws globals 0 whole e first [] done (universal.1, all) refl (laws.universal_dims 0 set.parts whole universal.0) in
         pass_covers m laws set tree (noted 0 e None) first r pass (begun globals draws) f.0
 
     -- so values and verdicts hold in them
@@ -74,16 +76,18 @@ module _ {V H : Type 0} (m : Meaning V H) where
         stores : (q : ℕ) (draws : List ℤ) (t : State) → Comes tree (begun globals draws) q t → (v : V) × (slice_get values q ≡ Some v) × m.has v t.store × (m.dims v ≡ length t.store)
         stores q draws t comes =
             let (v, found, has) = (covers draws).comes q t comes in
-            (v, (solves.is_value q v).1 found, has, sym (laws.sized v t.store has))
+            (v, (solves.is_value q v).1 found, has.1, sym (laws.sized v t.store has.0 has.1))
 
         proved : (q : ℕ) (draws : List ℤ) → Contains verdicts (q, true) → FailsAt tree (begun globals draws) q → ⊥
         proved q draws listed fails =
             let (v, t, found, has) = (covers draws).fails q fails in
             let (u, seen, so) = solves.is_verdict q true listed in
             let few : failing_at q r.entries ≤ 1 = rw (counted.checks q) (asserts_few (slice_get T q)) in
-            laws.partless u (so.0 refl) t.store (subst (λ (x : V). m.has x t.store) (one_failing V q v u r.entries few found seen) has)
+            let own = subst (λ (x : V). Has m x t.store) (one_failing V q v u r.entries few found seen) has in
+            laws.partless u own.0 (so.0 refl) t.store own.1
 
         unreached : (q : ℕ) (v : V) (draws : List ℤ) (t : State) → slice_get values q ≡ Some v → IsUnreachable m v → Comes tree (begun globals draws) q t → ⊥
         unreached q v draws t there is comes =
-            let (w, found, has, wide) = stores q draws t comes in
-            laws.partless v is t.store (subst (λ (x : V). m.has x t.store) (sym (same_Some v w (sym there ∙ found))) has)
+            let (w, found, has) = (covers draws).comes q t comes in
+            let own = subst (λ (x : V). Has m x t.store) (sym (same_Some v w (sym there ∙ (solves.is_value q w).1 found))) has in
+            laws.partless v own.0 is t.store own.1

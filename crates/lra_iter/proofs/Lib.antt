@@ -17,3 +17,5 @@ mod TurnSteps
 mod LoopPlaces
 mod BoxedPlaces
 mod Joining
+-- The written iteration has one solution.
+pub mod OneSolution

@@ -28,6 +28,7 @@ solved m laws options P tree result values verdicts flagged derived solves = rec
 
 -- from the value that has all stores, by the globals' first values and a pass
 pub derived_from : {V H : Type 0} (m : Meaning V H) (options : Options) (P : Program) (tree : Node) (globals : List ℤ) (whole first : V) (e : Exactness) (result : Result V) → P.globals ≡ globals
-    → m.universal 0 options.parts whole → Does m (first_values 0 globals) whole e first → Pass V H (dropping m) options tree (noted 0 e None) first result → Derivation m options P tree result
+    → m.universal 0 options.parts whole × m.formed whole → Does m (first_values 0 globals) whole e first
+    → Pass V H (dropping m) options tree (noted 0 e None) first result → Derivation m options P tree result
 derived_from {V} {H} m options P tree globals whole first e result is universal done pass =
     (whole, first, e, universal, subst (λ (zs : List ℤ). Does m (first_values 0 zs) whole e first) (sym is) done, pass)

@@ -184,7 +184,7 @@ module _ (V H : Type 0) (m : Meaning V H) where
       pass_wide (catch q k a) f v r n (w, e, s, one, joined, is) h p =
           let x = pass_wide a f v s n one h p in
           wide_is (live_after a n) r _ is (behind_wide k s w (noted q e s.flag) (live_after a n) (caught_dims k s e w joined ∙ x.normal) x.entries)
-      pass_wide (leave l k) f v r n (w, nothing, is) h p = wide_is l r _ is (jump_wide k v w f l (laws.void_dims l set.parts w nothing))
+      pass_wide (leave l k) f v r n (w, nothing, is) h p = wide_is l r _ is (jump_wide k v w f l (laws.void_dims l set.parts w nothing.0))
 
     entry_has : (xs : List (Entry V)) (q : ℕ) (v : V) → AllByRecursion EntryHas xs → Contains xs (value q v) → LiveAt T q (m.dims v)
     entry_has [] q v h there = absurd (contains_none (value q v) there)
@@ -197,7 +197,7 @@ pub values_wide : {V H : Type 0} (m : Meaning V H) → Laws m → (T : List Site
 values_wide {V} {H} m laws T options P g r lives (none, first, e, universal, begun, pass) q v s found there =
     let n = length P.globals in
     let begins : m.dims first ≡ n = done_dims V H m (first_values 0 P.globals) none e first begun ∙ first_after P.globals 0 (m.dims none) ∙
-    (let zero_dims = laws.universal_dims 0 options.parts none universal in omega (arith, zero_dims)) in
+    (let zero_dims = laws.universal_dims 0 options.parts none universal.0 in omega (arith, zero_dims)) in
     let wide = pass_wide V H m T laws options g (noted 0 e None) first r n pass begins lives in
     entry_has V H m T r.entries q v wide.entries found s there
 

@@ -67,7 +67,8 @@ fn begin<D: Domain>(
 ) -> Result<(D, Option<usize>), AllocError>
     requires parts { 1 ≤ options.now.parts }
     requires few { length globals.now ≤ 2 ^ 30 }
-    ensures begins { IfOk result (λ r. (whole : D) × (e : Exactness) × D.meaning.universal 0 options.now.parts whole ×
+    ensures begins { IfOk result (λ r. (whole : D) × (e : Exactness) ×
+        (D.meaning.universal 0 options.now.parts whole × D.meaning.formed whole) ×
         Does D.meaning (first_values 0 globals.now) whole e r.0 × (r.1 ≡ noted 0 e None)) }
     ensures dims { IfOk result (λ r. D.meaning.dims r.0 ≡ length globals.now) }
 {

@@ -10,7 +10,7 @@ returns g c =
     let nothing = c.in_ok-nothing.nothing in
     let outcome = c.in_ok-outcome.outcome in
     record {
-      pass = (nothing, c.in_ok-nothing.ensures.defined, c.in_ok-outcome.ensures);
+      pass = (nothing, (c.in_ok-nothing.ensures.defined, c.in_ok-nothing.ensures.formed), c.in_ok-outcome.ensures);
       dims = jump_dims m c.args.live (exit_view c.args.exit) c.args.value nothing c.args.flag (seen outcome) c.in_ok-outcome.ensures c.in_ok-nothing.ensures.dims;
       jumps = jump_fits m c.args.live (exit_view c.args.exit) c.args.value nothing c.args.flag (seen outcome) c.in_ok-outcome.ensures;
     }
