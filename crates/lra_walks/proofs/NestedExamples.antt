@@ -7,7 +7,7 @@ use Rattle.lra_lin.specs.Form.{Form}
 use Rattle.lra_linear.specs.declared.ConKind.TheVariants.{Ge}
 use Rattle.lra_domain.specs.Actions.{assign, test}
 use Rattle.lra_domain.specs.declared.Exactness.TheVariants.{Exact}
-use Rattle.lra_domain.specs.Bounds.{greater, stable}
+use Rattle.lra_domain.specs.Bounds.{greater, stable, lesser_low}
 use Rattle.lra_program.specs.Program.{local, Expr, literal, read, input, binary, Cond, compare, nonzero}
 use Rattle.lra_base.specs.Operators.{plus, below, equal}
 use Rattle.lra_program.specs.Program as program
@@ -21,7 +21,7 @@ use Rattle.lra_box.specs.declared.interval.Interval.{Interval}
 use Rattle.lra_box.specs.declared.interval.Side.TheVariants.{Low, High}
 use Rattle.lra_box.specs.Bounds.{open_interval, crossed, form, IsSound}
 use Rattle.lra_box.specs.Content.{Content}
-use Rattle.lra_box.specs.Tables.{stepped, lesser_low, widened_low}
+use Rattle.lra_box.specs.Tables.{stepped, widened_low}
 use Rattle.lra_box.specs.Meaning.{StepsTo, box_meaning}
 use Rattle.lra_box.proofs.ExtremeLemmas.{end_is_extreme}
 use Rattle.lra_box.specs.Covering.{low_within_refl, high_within_refl}
