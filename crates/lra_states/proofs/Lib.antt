@@ -5,5 +5,6 @@ pub mod RowsSpelled
 pub mod SamePoints
 pub mod PolyhedronShown
 pub mod PolyhedronParts
+mod CanonicalLemmas
 pub mod StateSteps
 pub mod SetShown

@@ -10,7 +10,7 @@ use Rattle.lra_linear.specs.declared.ConKind.TheVariants.{Ge, Eq}
 use Rattle.lra_dbm.specs.Tight.{Entries, with_sign}
 use Rattle.lra_dbm.specs.Cells.{Cells, entries}
 use Rattle.lra_oct.specs.Content.{Content, OctagonHas}
-use Rattle.lra_oct.specs.Laws.{octagon_laws}
+use Rattle.lra_oct.specs.Laws.{sized_stores}
 use Rattle.lra_oct.specs.Meaning.{octagon_meaning}
 use Rattle.lra_oct.specs.Parts.{sign_of, pair_row, printed, is_equality, row_if_any, kind_row, RowsAt, rising, falling, rows_with, equal_rows, unequal_rows, octagon_system, octagon_parts}
 use Rattle.lra_oct.proofs.MeanLemmas.{stores_hold}
@@ -139,7 +139,7 @@ parts_directed n (Some cells) =
 -- stores --------------------------------------------------------------------------------------------------------------
 
 octagon_holds : (v : Content) (s : List ℤ) → OctagonHas v s → Holds (map shown_part (octagon_parts v.dims v.cells)) s
-octagon_holds v s h = parts_hold (octagon_parts v.dims v.cells) s (stores_hold v.dims v.cells s (octagon_laws.sized v s h) h)
+octagon_holds v s h = parts_hold (octagon_parts v.dims v.cells) s (stores_hold v.dims v.cells s (sized_stores v.dims v.cells s h) h)
 
 pub octagons_are_shown : ShowsRows octagon_meaning Oct
 octagons_are_shown = record {

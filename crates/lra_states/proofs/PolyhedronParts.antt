@@ -4,6 +4,7 @@ use Rattle.std.specs.Prelude.{Result, Ok, Err, IfOk}
 use Rattle.std.specs.List.{Contains, list_any}
 use Rattle.lra_base.specs.declared.options.Domain.TheVariants.{Poly}
 use Rattle.lra_linear.specs.Descriptions.{Given, Con}
+use Rattle.lra_states.specs.Canonical.{IsCanonicalState}
 use Rattle.lra_linear.specs.Points.{IsEmptySet}
 use Rattle.lra_linear.specs.Polyhedra.{Polyhedron, IsPolyhedron, HasPoint, falsity}
 use Rattle.lra_linear.specs.declared.ConKind.{ConKind}
@@ -62,3 +63,7 @@ module _ {E : Type 0} (p q : Polyhedron) (same : q ≡ p) where
       → IfOk x (λ s. IsShown polyhedron_meaning Poly p s.items)
   state_told canonical (Ok s) is t = shown_so p canonical s.items (is ∙ ap shown_polyhedron same) (subst (λ (r : Polyhedron). TellsPolyhedron r s.items) same t)
   state_told canonical (Err e) is t = tt
+
+  -- and by canonical lists
+  pub state_canonical : (x : Result (Vec Part Global) E) → IfOk x (λ s. IsCanonicalState Poly q.dims s.items) → IfOk x (λ s. IsCanonicalState Poly p.dims s.items)
+  state_canonical x h = subst (λ (r : Polyhedron). IfOk x (λ s. IsCanonicalState Poly r.dims s.items)) same h

@@ -2,3 +2,4 @@
 pub mod Shown
 pub mod Polyhedra
 pub mod Sets
+pub mod Canonical

@@ -3,9 +3,11 @@
 ghost use Rattle.std.specs.Prelude.{◌≡◌, IfOk};
 ghost use Rattle.std.specs.List.{AllByRecursion};
 ghost use Rattle.lra_base.specs.declared.options.Domain.TheVariants as options;
+ghost use Rattle.lra_linear.specs.Formed.{IsFormed};
 ghost use Rattle.lra_linear.specs.Polyhedra.{IsPolyhedron};
 ghost use Rattle.lra_sys.specs.Listed.{FitKinds};
 ghost use Rattle.lra_report.specs.Spelled.{IsSpelledPart};
+ghost use Rattle.lra_states.specs.Canonical.{IsCanonicalState};
 ghost use Rattle.lra_states.specs.Polyhedra.{shown_polyhedron, TellsPolyhedron, polyhedron_of};
 
 use crate::show::Show;
@@ -24,9 +26,11 @@ fn polyhedron_state(
     requires dims { generators.now.dims ≡ rows.now.dims }
     requires fit { FitKinds generators.now.rows generators.now.kinds }
     requires canonical { IsPolyhedron (polyhedron_of rows.now generators.now) }
+    requires formed { IsFormed (polyhedron_of rows.now generators.now) }
     ensures shown { IfOk result (λ s. s.items ≡ shown_polyhedron (polyhedron_of rows.now generators.now)) }
     ensures told { IfOk result (λ s. TellsPolyhedron (polyhedron_of rows.now generators.now) s.items) }
     ensures spelled { IfOk result (λ s. AllByRecursion IsSpelledPart s.items) }
+    ensures canonical { IfOk result (λ s. IsCanonicalState options.Poly rows.now.dims s.items) }
 {
     let (_rows, _generators) = (rows.rows(), generators.rows());
     if generators.kinds().is_empty() {

@@ -3,6 +3,7 @@
 ghost use Rattle.std.specs.Prelude.{◌≡◌, flat_map, IfOk};
 ghost use Rattle.std.specs.List.{AllByRecursion};
 ghost use Rattle.lra_report.specs.Spelled.{IsSpelledPart};
+ghost use Rattle.lra_states.specs.Canonical.{AreCanonicallyShown};
 ghost use Rattle.lra_states.specs.Shown.{AreShown};
 
 use crate::show::Show;
@@ -16,6 +17,7 @@ fn states_in_turn<D: Show>(alloc: Global, values: &[D]) -> Result<Vec<Part>, All
     ensures shown { IfOk result (λ s. s.items ≡ flat_map D.shown values.now) }
     ensures told { IfOk result (λ _. AreShown D.meaning D.named D.shown values.now) }
     ensures spelled { IfOk result (λ s. AllByRecursion IsSpelledPart s.items) }
+    ensures canonical { IfOk result (λ _. AreCanonicallyShown D.named D.meaning.dims D.shown values.now) }
 {
     let mut state = Vec::new(alloc);
     'values: for value in values {

@@ -5,6 +5,7 @@ ghost use Rattle.std.specs.List.{AllByRecursion};
 ghost use Rattle.lra_base.specs.declared.options.Domain as options;
 ghost use Rattle.lra_findings.specs.Report.{Invariant};
 ghost use Rattle.lra_report.specs.Spelled.{IsSpelledPart};
+ghost use Rattle.lra_states.specs.Canonical.{IsCanonicalState};
 ghost use Rattle.lra_states.specs.Shown.{IsShown};
 
 use lra_domain::Domain;
@@ -24,5 +25,6 @@ pub trait Show: Domain {
     fn show(&self, alloc: Global) -> Result<Vec<Part>, AllocError>
         ensures shown { IfOk result (λ s. s.items ≡ shown self.now) }
         ensures told { IfOk result (λ s. IsShown Self.meaning named self.now s.items) }
-        ensures spelled { IfOk result (λ s. AllByRecursion IsSpelledPart s.items) };
+        ensures spelled { IfOk result (λ s. AllByRecursion IsSpelledPart s.items) }
+        ensures canonical { IfOk result (λ s. IsCanonicalState named (Self.meaning.dims self.now) s.items) };
 }

@@ -3,6 +3,7 @@
 ghost use Rattle.std.specs.Prelude.{◌≡◌, map, IfOk};
 ghost use Rattle.std.specs.List.{AllByRecursion};
 ghost use Rattle.lra_report.specs.Spelled.{IsSpelledPart};
+ghost use Rattle.lra_states.specs.Canonical.{AreCanonicallyShown};
 ghost use Rattle.lra_states.specs.Shown.{AreShown};
 
 use crate::show::Show;
@@ -15,6 +16,7 @@ pub fn states_of<D: Show>(alloc: Global, values: &[D]) -> Result<Vec<Vec<Part>>,
     ensures told { IfOk result (λ _. AreShown D.meaning D.named D.shown values.now) }
     ensures spelled { IfOk result (λ states.
         AllByRecursion (AllByRecursion IsSpelledPart) (map (λ s. s.items) states.items)) }
+    ensures canonical { IfOk result (λ _. AreCanonicallyShown D.named D.meaning.dims D.shown values.now) }
 {
     let mut states = Vec::new(alloc);
     'values: for value in values {

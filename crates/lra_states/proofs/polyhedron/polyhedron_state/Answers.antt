@@ -9,6 +9,7 @@ use Rattle.lra_sys.specs.Listed.{Listed}
 use Rattle.lra_findings.specs.Report.{Part}
 use Rattle.lra_report.specs.Rows.{shown_rows, shown_generators}
 use Rattle.lra_states.specs.Polyhedra.{shown_polyhedron, polyhedron_of}
+use Rattle.lra_states.proofs.CanonicalLemmas.{shown_canonical}
 use Rattle.lra_states.proofs.PolyhedronShown.{none_shown, some_shown, told_so, spelled_so}
 use Rattle.lra_states.proofs.polyhedron.polyhedron_state.Goals as goal
 
@@ -55,3 +56,15 @@ returns-clause-spelled c =
     (subst (All (λ (r : List ℤ). length r ≡ suc gens.dims)) c.rows-generators.ensures.rows c.rows-generators.ensures.widths)
     (subst (All (All InRange)) c.rows-rows.ensures.rows c.rows-rows.ensures.in_range)
     (subst (All (All InRange)) c.rows-generators.ensures.rows c.rows-generators.ensures.in_range) c.push.new.self.items (returns-clause-shown c)
+
+pub returns-clause-canonical : goal.returns-clause-canonical
+returns-clause-canonical c =
+    let rows = c.args.rows.now in
+    let gens = c.args.generators.now in
+    let part = c.new-2.result in
+    let long : length gens.kinds ≡ length gens.rows = sym (ap length c.kinds.ensures.kinds) ∙ c.kinds.ensures.len in
+    let some : 0 < length gens.kinds = grind (arith, common_steps) in
+    shown_canonical (polyhedron_of rows gens) _ c.requires.formed (c.in_ok-push.ensures.items ∙ ap (λ (l : List Part). l ++ part ∷ []) c.new-state.ensures.items
+    ∙ some_shown rows gens part c.requires.fit long some
+    (c.new-2.ensures.rows ∙ ap (λ (l : Listed ConKind). shown_rows l.rows l.kinds) c.in_ok-copy.ensures)
+    (c.new-2.ensures.generators ∙ ap (λ (l : Listed GenKind). shown_generators l.rows l.kinds) c.in_ok-copy-2.ensures))

@@ -3,6 +3,7 @@ use Rattle.std.proofs.Common.{◌≡◌, take}
 use Rattle.std.specs.Prelude.{flat_map}
 use Rattle.std.specs.List.{AllByRecursion}
 use Rattle.lra_report.specs.Spelled.{IsSpelledPart}
+use Rattle.lra_states.specs.Canonical.{AreCanonicallyShown}
 use Rattle.lra_states.specs.Shown.{IsShown}
 use Rattle.lra_states.proofs.sets.states_in_turn.Given as goal
 
@@ -11,4 +12,5 @@ invariant-values g l = record {
   shown : l.state.items ≡ flat_map g.D.Show.shown (take l.value-index l.values);
   told : AllByRecursion (λ v. IsShown g.D.Domain.meaning g.D.Show.named v (g.D.Show.shown v)) (take l.value-index l.values);
   spelled : AllByRecursion IsSpelledPart l.state.items;
+  canonical : AreCanonicallyShown g.D.Show.named g.D.Domain.meaning.dims g.D.Show.shown (take l.value-index l.values);
 }

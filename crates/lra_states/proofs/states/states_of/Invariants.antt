@@ -2,6 +2,7 @@
 use Rattle.std.proofs.Common.{◌≡◌, map, take}
 use Rattle.std.specs.List.{AllByRecursion}
 use Rattle.lra_report.specs.Spelled.{IsSpelledPart}
+use Rattle.lra_states.specs.Canonical.{AreCanonicallyShown}
 use Rattle.lra_states.specs.Shown.{IsShown}
 use Rattle.lra_states.proofs.states.states_of.Given as goal
 
@@ -10,4 +11,5 @@ invariant-values g l = record {
   shown : map (λ s. s.items) l.states.items ≡ map g.D.Show.shown (take l.value-index l.values);
   told : AllByRecursion (λ v. IsShown g.D.Domain.meaning g.D.Show.named v (g.D.Show.shown v)) (take l.value-index l.values);
   spelled : AllByRecursion (AllByRecursion IsSpelledPart) (map (λ s. s.items) l.states.items);
+  canonical : AreCanonicallyShown g.D.Show.named g.D.Domain.meaning.dims g.D.Show.shown (take l.value-index l.values);
 }

@@ -1,7 +1,8 @@
 -- Goals of `PolyhedronShow::show`.
 use Rattle.std.proofs.Common.{◌∙◌, sym, subst}
+use Rattle.lra_linear.specs.Formed.{IsFormed}
 use Rattle.lra_linear.specs.Polyhedra.{IsPolyhedron}
-use Rattle.lra_states.proofs.PolyhedronParts.{lists_are, state_is, state_told}
+use Rattle.lra_states.proofs.PolyhedronParts.{lists_are, state_canonical, state_is, state_told}
 use Rattle.lra_states.proofs.polyhedron.PolyhedronShow.show.Goals as goal
 
 pub polyhedron_state-requires-clause-dims : goal.polyhedron_state-requires-clause-dims
@@ -10,6 +11,15 @@ polyhedron_state-requires-clause-dims c = c.generators.ensures.dims ∙ sym c.ro
 pub polyhedron_state-requires-clause-canonical : goal.polyhedron_state-requires-clause-canonical
 polyhedron_state-requires-clause-canonical c =
     subst IsPolyhedron (sym (lists_are c.args.self.now c.rows.result.now c.generators.result.now c.rows.ensures.dims c.rows.ensures.rows c.generators.ensures.generators)) c.rows.ensures.canonical
+
+pub polyhedron_state-requires-clause-formed : goal.polyhedron_state-requires-clause-formed
+polyhedron_state-requires-clause-formed c =
+    subst IsFormed (sym (lists_are c.args.self.now c.rows.result.now c.generators.result.now c.rows.ensures.dims c.rows.ensures.rows c.generators.ensures.generators)) c.rows.ensures.formed
+
+pub returns-clause-canonical : goal.returns-clause-canonical
+returns-clause-canonical c =
+    state_canonical c.args.self.now _ (lists_are c.args.self.now c.rows.result.now c.generators.result.now c.rows.ensures.dims c.rows.ensures.rows c.generators.ensures.generators)
+    c.polyhedron_state.result c.polyhedron_state.ensures.canonical
 
 pub returns-clause-shown : goal.returns-clause-shown
 returns-clause-shown c =
