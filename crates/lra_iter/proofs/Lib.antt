@@ -12,6 +12,7 @@ mod KeptLoops
 mod LoopNumbers
 mod OpenPlaces
 mod FlatRows
+mod LeafSteps
 mod RowLeaves
 mod TurnSteps
 mod LoopPlaces

@@ -21,7 +21,7 @@ use Rattle.lra_iter.specs.Open.{RowLoop}
 use Rattle.lra_iter.specs.Steps.{node_steps, row_steps}
 use Rattle.lra_iter.proofs.PassSteps.{seq_fits}
 
-same_lists : {V : Type 0} (v : V) (f : Option ℕ) (xs xs' : List (Entry V)) (bs bs' cs cs' rs rs' : List V) → xs ≡ xs' →
+pub same_lists : {V : Type 0} (v : V) (f : Option ℕ) (xs xs' : List (Entry V)) (bs bs' cs cs' rs rs' : List V) → xs ≡ xs' →
     bs ≡ bs' → cs ≡ cs' → rs ≡ rs'
     → ◌≡◌ {A = Result V} (record { entries = xs; normal = v; breaks = bs; continues = cs; returns = rs; flag = f })
     (record { entries = xs'; normal = v; breaks = bs'; continues = cs'; returns = rs'; flag = f })

@@ -21,8 +21,7 @@ use Rattle.lra_flow.specs.Operations.{dropping}
 use Rattle.lra_flow.specs.Conditions.{Leaves}
 use Rattle.lra_flow.specs.Pass.{jumps_of, Entry, Result, noted, goes_on, jumps, in_turn, behind, Pass, Narrows}
 use Rattle.lra_iter.specs.Fits.{live_after, JumpsWith, TreeFits}
-use Rattle.lra_iter.specs.declared.outcome.Outcome.{Outcome}
-use Rattle.lra_iter.specs.Outcome.{headed, seen, AllHave, AreMet, Catches, JumpsFit, HasGrown, IsPassed, LeavesWith}
+use Rattle.lra_iter.specs.Outcome.{headed, AllHave, AreMet, Catches, JumpsFit, HasGrown, IsPassed, LeavesWith}
 use Rattle.lra_iter.specs.Steps.{node_steps, row_steps}
 
 -- the views of the nine forms
@@ -208,16 +207,13 @@ module _ {V H : Type 0} (m : Meaning V H) where
   pub jump_fits : (l : ℕ) (j : Exit) (v w : V) (f : Option ℕ) (r : Result V) → r ≡ jumps j v w f → JumpsFit m (graph.leave l j) (m.dims v) r
   jump_fits l j v w f r is = subst (λ (x : Result V). JumpsFit m (graph.leave l j) (m.dims v) x) (sym is) (leave_fits l j (m.dims v) v w f refl)
 
-  jump_normal : (k : Exit) (v w : V) (f : Option ℕ) → (jumps k v w f).normal ≡ w
+  pub jump_normal : (k : Exit) (v w : V) (f : Option ℕ) → (jumps k v w f).normal ≡ w
   jump_normal broken v w f = refl
   jump_normal continued v w f = refl
   jump_normal returned v w f = refl
 
   pub jump_dims : (l : ℕ) (j : Exit) (v w : V) (f : Option ℕ) (r : Result V) → r ≡ jumps j v w f → m.dims w ≡ l → m.dims r.normal ≡ l
   jump_dims l j v w f r is dims = ap (λ (x : Result V). m.dims x.normal) is ∙ ap m.dims (jump_normal j v w f) ∙ dims
-
-  pub none_fits : (g : graph.Node) (n : ℕ) (xs : List (Entry V)) (v : V) (f : Option ℕ) (r : Result V) → r ≡ goes_on xs v f → JumpsFit m g n r
-  none_fits g n xs v f r is = subst (λ (x : Result V). JumpsFit m g n x) (sym is) (going_on_fits g n xs v f)
 
   -- what comes out has as many dimensions as the others
   all_have : (n : ℕ) (vs : List V) → ((u : V) → Contains vs u → m.dims u ≡ n) → AllHave m n vs
@@ -260,20 +256,3 @@ pub if_both : {T E : Type 0} (R : outcome_or.Result T E) (P Q S : T → Type 0) 
     → IfOk R Q → IfOk R S
 if_both (outcome_or.Ok x) P Q S f p q = f x p q
 if_both (outcome_or.Err e) P Q S f p q = tt
-
--- what is handed on as the pass of a tree that is the other, passed with the same options
-pub passed_given : {V H E : Type 0} (m : Meaning V H) (set set' : Options) (g g' : graph.Node) (f : Option ℕ) (v : V)
-    (R : outcome_or.Result (Outcome V) E) (same : g ≡ g') → set' ≡ set → IfOk R (λ r. IsPassed m set' g' f v (seen r)) →
-    IfOk R (λ r. IsPassed m set g f v (seen r))
-passed_given m set set' g g' f v R same options h =
-    subst (λ (x : Options). IfOk R (λ r. IsPassed m x g f v (seen r))) options
-    (subst (λ (z : graph.Node). IfOk R (λ r. IsPassed m set' z f v (seen r))) (sym same) h)
-
--- nothing is done
-pub empty_passed : {V H : Type 0} (m : Meaning V H) (set : Options) (g : graph.Node) (f : Option ℕ) (v : V) (r : Result V)
-    → g ≡ graph.empty → r ≡ goes_on [] v f → IsPassed m set g f v r
-empty_passed {V} {H} m set g f v r same is = subst (λ (z : graph.Node). IsPassed m set z f v r) (sym same) (record {
-  pass = is;
-  dims = ap (λ (x : Result V). m.dims x.normal) is;
-  jumps = none_fits m graph.empty (m.dims v) [] v f r is;
-})

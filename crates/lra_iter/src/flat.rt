@@ -1,12 +1,12 @@
 //! Trees that are passed where they stand: those with no tree in them, and rows of such.
 
-ghost use Rattle.std.specs.Prelude.{◌≡◌, ◌≤◌, ◌^◌, true, map, IfOk, IfSome};
+ghost use Rattle.std.specs.Prelude.{◌≡◌, ◌≤◌, ◌^◌, true, map, IfSome, OnOk};
 ghost use Rattle.lra_operations.specs.GraphViews.{node_view, row};
 ghost use Rattle.lra_iter.specs.Fits.{TreeFits};
 ghost use Rattle.lra_iter.specs.Flat.{flat_view, AreLeaves, Follows, HasLeaves, IsLeaf};
 ghost use Rattle.lra_iter.specs.Shapes.{leaf_view};
 
-use crate::leaves::pass_leaf;
+use crate::leaves::pass_on;
 use crate::outcome::Outcome;
 use crate::shapes::{Leaf, Row, Shape};
 use lra_base::Options;
@@ -64,51 +64,30 @@ fn leaf_of<'a>(options: &'a Options, node: &'a Node) -> Leaf<'a>
     }
 }
 
-/// What the pass of a tree with no tree in it finds comes behind what was found before it.
-fn pass_on<D: Domain>(
-    alloc: Global,
-    options: &Options,
-    leaf: &Leaf<'_>,
-    so_far: Outcome<D>,
-) -> Result<Outcome<D>, AllocError>
-    requires parts { 1 ≤ options.now.parts }
-    requires few { D.meaning.dims so_far.normal ≤ 2 ^ 30 }
-    requires fits { TreeFits (leaf_view leaf.now) (D.meaning.dims so_far.normal) }
-    ensures { IfOk result (Follows D.meaning options.now (leaf_view leaf.now) so_far) }
-{
-    let Outcome {
-        found,
-        normal,
-        flag,
-    } = so_far;
-    let part = pass_leaf(alloc, options, leaf, normal, flag)?;
-    found.follow_with(part)
-}
-
-/// So does what the pass of a row of such trees finds.
+/// What the pass of a row of trees with none in them finds comes behind what was found before it.
 fn pass_along<D: Domain>(
     alloc: Global,
     options: &Options,
     the_row: Row<'_>,
-    begun: Outcome<D>,
-) -> Result<Outcome<D>, AllocError>
+    so_far: &mut Outcome<D>,
+) -> Result<(), AllocError>
     requires parts { 1 ≤ options.now.parts }
-    requires few { D.meaning.dims begun.normal ≤ 2 ^ 30 }
+    requires few { D.meaning.dims so_far.old.normal ≤ 2 ^ 30 }
     requires fits { TreeFits (row (map node_view the_row.trees.now) (node_view the_row.last.now))
-        (D.meaning.dims begun.normal) }
+        (D.meaning.dims so_far.old.normal) }
     requires leaves { HasLeaves the_row }
-    ensures { IfOk result (Follows D.meaning options.now
-        (row (map node_view the_row.entry.trees.now) (node_view the_row.entry.last.now)) begun) }
+    ensures { OnOk result (Follows D.meaning options.now
+        (row (map node_view the_row.entry.trees.now) (node_view the_row.entry.last.now)) so_far.old so_far.new) }
 {
-    let mut so_far = begun;
     let mut left = the_row.trees;
     'leaves: while let Some((node, behind)) = left.split_first() {
         let leaf = leaf_of(options, node);
-        so_far = pass_on(alloc, options, &leaf, so_far)?;
+        pass_on(alloc, options, &leaf, so_far)?;
         left = behind;
     }
     let last = leaf_of(options, the_row.last);
-    pass_on(alloc, options, &last, so_far)
+    pass_on(alloc, options, &last, so_far)?;
+    Ok(())
 }
 
 impl<'a> Flat<'a> {
@@ -128,13 +107,13 @@ impl<'a> Flat<'a> {
         self,
         alloc: Global,
         options: &Options,
-        so_far: Outcome<D>,
-    ) -> Result<Outcome<D>, AllocError>
+        so_far: &mut Outcome<D>,
+    ) -> Result<(), AllocError>
         requires parts { 1 ≤ options.now.parts }
-        requires few { D.meaning.dims so_far.normal ≤ 2 ^ 30 }
-        requires fits { TreeFits (flat_view self) (D.meaning.dims so_far.normal) }
+        requires few { D.meaning.dims so_far.old.normal ≤ 2 ^ 30 }
+        requires fits { TreeFits (flat_view self) (D.meaning.dims so_far.old.normal) }
         requires leaves { AreLeaves self }
-        ensures { IfOk result (Follows D.meaning options.now (flat_view self.entry) so_far) }
+        ensures { OnOk result (Follows D.meaning options.now (flat_view self.entry) so_far.old so_far.new) }
     {
         match self {
             Flat::Leaf(leaf) => pass_on(alloc, options, &leaf, so_far),

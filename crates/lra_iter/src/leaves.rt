@@ -1,12 +1,13 @@
 //! The pass over trees with no tree in them.
 
-ghost use Rattle.std.specs.Prelude.{◌≡◌, ◌≤◌, ◌^◌, IfOk};
+ghost use Rattle.std.specs.Prelude.{◌≡◌, ◌≤◌, ◌^◌, IfOk, OnOk};
 ghost use Rattle.lra_operations.specs.Graph.{act, check, leave, point as point_node};
 ghost use Rattle.lra_program.specs.ProgramViews.{cond_view};
 ghost use Rattle.lra_operations.specs.GraphViews.{exit_view, op_view};
 ghost use Rattle.lra_base.specs.declared.options.Options.{Options};
 ghost use Rattle.lra_change.specs.Changes.{OpFits};
 ghost use Rattle.lra_iter.specs.Fits.{TreeFits};
+ghost use Rattle.lra_iter.specs.Flat.{Follows};
 ghost use Rattle.lra_iter.specs.Outcome.{seen, IsPassed};
 ghost use Rattle.lra_iter.specs.Shapes.{leaf_view};
 
@@ -23,15 +24,13 @@ use std::alloc::{AllocError, Global};
 fn pass_point<D: Domain>(
     alloc: Global,
     point: usize,
-    value: D,
-    flag: Option<usize>,
-) -> Result<Outcome<D>, AllocError>
-    ensures { (options : Options) → IfOk result (λ r. IsPassed D.meaning options (point_node point) flag value
-        (seen r)) }
+    so_far: &mut Outcome<D>,
+) -> Result<(), AllocError>
+    ensures { (options : Options) → OnOk result (Follows D.meaning options (point_node point) so_far.old so_far.new) }
 {
-    let mut entries = Vec::new(alloc);
-    entries.push(Entry::Value(point, value.copy(alloc)?))?;
-    Ok(Outcome::going_on(alloc, entries, value, flag))
+    let value = so_far.normal.copy(alloc)?;
+    so_far.found.entries.push(Entry::Value(point, value))?;
+    Ok(())
 }
 
 /// A least change.
@@ -39,18 +38,16 @@ fn pass_act<D: Domain>(
     alloc: Global,
     point: usize,
     op: &Op,
-    value: D,
-    flag: Option<usize>,
-) -> Result<Outcome<D>, AllocError>
-    requires few { D.meaning.dims value ≤ 2 ^ 30 }
-    requires fits { OpFits (op_view op.now) (D.meaning.dims value) }
-    ensures { (options : Options) → IfOk result (λ r. IsPassed D.meaning options
-        (act point (op_view op.now)) flag value (seen r)) }
+    so_far: &mut Outcome<D>,
+) -> Result<(), AllocError>
+    requires few { D.meaning.dims so_far.old.normal ≤ 2 ^ 30 }
+    requires fits { OpFits (op_view op.now) (D.meaning.dims so_far.old.normal) }
+    ensures { (options : Options) → OnOk result (Follows D.meaning options (act point (op_view op.now)) so_far.old
+        so_far.new) }
 {
-    let mut after = value;
-    let exactness = change(alloc, op, &mut after)?;
-    let flag = note(point, exactness, flag);
-    Ok(Outcome::going_on(alloc, Vec::new(alloc), after, flag))
+    let exactness = change(alloc, op, &mut so_far.normal)?;
+    so_far.flag = note(point, exactness, so_far.flag);
+    Ok(())
 }
 
 /// An assertion: where its condition is false, and then where it is true.
@@ -59,24 +56,23 @@ fn pass_check<D: Domain>(
     point: usize,
     base: usize,
     condition: &Cond,
-    value: D,
-    flag: Option<usize>,
-) -> Result<Outcome<D>, AllocError>
-    requires { D.meaning.dims value ≤ 2 ^ 30 }
-    ensures { (options : Options) → IfOk result (λ r. IsPassed D.meaning options
-        (check point base (cond_view condition.now)) flag value (seen r)) }
+    so_far: &mut Outcome<D>,
+) -> Result<(), AllocError>
+    requires { D.meaning.dims so_far.old.normal ≤ 2 ^ 30 }
+    ensures { (options : Options) → OnOk result (Follows D.meaning options
+        (check point base (cond_view condition.now)) so_far.old so_far.new) }
 {
     let from = Kept {
-        value,
+        value: so_far.normal.copy(alloc)?,
         exactness: Exactness::Exact,
     };
     let sides = split(alloc, base, condition, from)?;
     let on = sides.on;
     let off = sides.off;
-    let flag = note(point, on.exactness, note(point, off.exactness, flag));
-    let mut entries = Vec::new(alloc);
-    entries.push(Entry::Failing(point, off.value))?;
-    Ok(Outcome::going_on(alloc, entries, on.value, flag))
+    so_far.found.entries.push(Entry::Failing(point, off.value))?;
+    so_far.normal = on.value;
+    so_far.flag = note(point, on.exactness, note(point, off.exactness, so_far.flag));
+    Ok(())
 }
 
 /// A jump: it takes the value.
@@ -85,16 +81,36 @@ fn pass_leave<D: Domain>(
     options: &Options,
     live: usize,
     exit: Exit,
-    value: D,
-    flag: Option<usize>,
-) -> Result<Outcome<D>, AllocError>
+    so_far: &mut Outcome<D>,
+) -> Result<(), AllocError>
     requires parts { 1 ≤ options.now.parts }
     requires few { live ≤ 2 ^ 30 }
-    ensures { IfOk result (λ r. IsPassed D.meaning options.now (leave live (exit_view exit)) flag value (seen r)) }
+    ensures { OnOk result (Follows D.meaning options.now (leave live (exit_view exit)) so_far.old so_far.new) }
 {
     let nothing = D::empty(alloc, live, options.parts)?;
-    let outcome = Outcome::jumping(alloc, exit, value, nothing, flag)?;
-    Ok(outcome)
+    so_far.jump(exit, nothing)?;
+    Ok(())
+}
+
+/// What the pass of a tree with no tree in it finds comes behind what was found before it.
+pub fn pass_on<D: Domain>(
+    alloc: Global,
+    options: &Options,
+    leaf: &Leaf<'_>,
+    so_far: &mut Outcome<D>,
+) -> Result<(), AllocError>
+    requires parts { 1 ≤ options.now.parts }
+    requires few { D.meaning.dims so_far.old.normal ≤ 2 ^ 30 }
+    requires fits { TreeFits (leaf_view leaf.now) (D.meaning.dims so_far.old.normal) }
+    ensures { OnOk result (Follows D.meaning options.now (leaf_view leaf.now) so_far.old so_far.new) }
+{
+    match leaf {
+        Leaf::Empty => Ok(()),
+        Leaf::Point(point) => pass_point(alloc, *point, so_far),
+        Leaf::Act(point, op) => pass_act(alloc, *point, op, so_far),
+        Leaf::Check(point, base, condition) => pass_check(alloc, *point, *base, condition, so_far),
+        Leaf::Leave(live, exit) => pass_leave(alloc, options, *live, *exit, so_far),
+    }
 }
 
 /// The pass over a tree with no tree in it.
@@ -110,13 +126,7 @@ pub fn pass_leaf<D: Domain>(
     requires fits { TreeFits (leaf_view leaf.now) (D.meaning.dims value) }
     ensures { IfOk result (λ r. IsPassed D.meaning options.now (leaf_view leaf.now) flag value (seen r)) }
 {
-    match leaf {
-        Leaf::Empty => Ok(Outcome::going_on(alloc, Vec::new(alloc), value, flag)),
-        Leaf::Point(point) => pass_point(alloc, *point, value, flag),
-        Leaf::Act(point, op) => pass_act(alloc, *point, op, value, flag),
-        Leaf::Check(point, base, condition) => {
-            pass_check(alloc, *point, *base, condition, value, flag)
-        }
-        Leaf::Leave(live, exit) => pass_leave(alloc, options, *live, *exit, value, flag),
-    }
+    let mut outcome = Outcome::nothing_yet(alloc, value, flag);
+    pass_on(alloc, options, leaf, &mut outcome)?;
+    Ok(outcome)
 }

@@ -1,12 +1,12 @@
 //! What a pass over a tree of operations gives.
 
-ghost use Rattle.std.specs.Prelude.{◌≡◌, ℕ, [], Option, map, IfOk, OnOk};
+ghost use Rattle.std.specs.Prelude.{◌≡◌, ℕ, true, [], Option, IfOk, OnOk};
 ghost use Rattle.lra_operations.specs.Graph.{broken, continued, returned, Node};
 ghost use Rattle.lra_operations.specs.GraphViews.{exit_view};
 ghost use Rattle.lra_base.specs.declared.options.Options.{Options};
 ghost use Rattle.lra_flow.specs.Operations.{dropping};
 ghost use Rattle.lra_flow.specs.Changes.{AreJoined};
-ghost use Rattle.lra_flow.specs.Pass.{noted, goes_on, jumps, behind};
+ghost use Rattle.lra_flow.specs.Pass.{noted, goes_on, in_turn, jumps, behind};
 ghost use Rattle.lra_iter.specs.Outcome.{entry_view, ended, seen, AllHave, AreGiven, AreInTurn, AreKept};
 ghost use Rattle.lra_iter.specs.Outcome.{EntersWith};
 
@@ -157,11 +157,24 @@ impl<D: Drop> Found<D> {
         Ok(())
     }
 
+    /// Whether nothing is found.
+    fn is_nothing(&self) -> bool
+        ensures { result ≡ true → (v : D) (f : Option ℕ) → ended self.now v f ≡ goes_on [] v f }
+    {
+        self.entries.is_empty()
+            && self.breaks.is_empty()
+            && self.continues.is_empty()
+            && self.returns.is_empty()
+    }
+
     /// What a pass found comes behind, and its end is the end.
     pub fn follow_with(self, outcome: Outcome<D>) -> Result<Outcome<D>, AllocError>
         ensures { IfOk result (λ r. AreInTurn self outcome.found r.found × (r.normal ≡ outcome.normal) ×
             (r.flag ≡ outcome.flag)) }
     {
+        if self.is_nothing() {
+            return Ok(outcome);
+        }
         let mut all = self;
         let Outcome {
             mut found,
@@ -261,47 +274,18 @@ impl<D: Drop> Outcome<D> {
         }
     }
 
-    /// Without a jump.
-    pub fn going_on(
-        alloc: Global,
-        entries: Vec<Entry<D>>,
-        normal: D,
-        flag: Option<usize>,
-    ) -> Outcome<D>
-        ensures { seen result ≡ goes_on (map entry_view entries.items) normal flag }
-    {
-        let found = Found {
-            entries,
-            breaks: Vec::new(alloc),
-            continues: Vec::new(alloc),
-            returns: Vec::new(alloc),
-        };
-        Outcome {
-            found,
-            normal,
-            flag,
-        }
-    }
-
     /// The jump takes the value, and `nothing` goes on.
-    pub fn jumping(
-        alloc: Global,
-        exit: Exit,
-        value: D,
-        nothing: D,
-        flag: Option<usize>,
-    ) -> Result<Outcome<D>, AllocError>
-        ensures { IfOk result (λ r. seen r ≡ jumps (exit_view exit) value nothing flag) }
+    pub fn jump(&mut self, exit: Exit, nothing: D) -> Result<(), AllocError>
+        ensures { OnOk result (seen self.new ≡ in_turn (seen self.old)
+            (jumps (exit_view exit) self.old.normal nothing self.old.flag) nothing self.old.flag) }
     {
-        let mut taken = Vec::new(alloc);
-        taken.push(value)?;
-        let mut outcome = Outcome::going_on(alloc, Vec::new(alloc), nothing, flag);
+        let value = mem::replace(&mut self.normal, nothing);
         match exit {
-            Exit::Broken => outcome.found.breaks = taken,
-            Exit::Continued => outcome.found.continues = taken,
-            Exit::Returned => outcome.found.returns = taken,
+            Exit::Broken => self.found.breaks.push(value)?,
+            Exit::Continued => self.found.continues.push(value)?,
+            Exit::Returned => self.found.returns.push(value)?,
         }
-        Ok(outcome)
+        Ok(())
     }
 }
 

@@ -61,7 +61,8 @@ fn next_of_last<'a, D: Domain>(
         ≤ row_steps (most_rounds b set) [] node.now) }
 {
     if let Some(flat) = Flat::of(options, node) {
-        let outcome = flat.pass_on(alloc, options, so_far)?;
+        let mut outcome = so_far;
+        flat.pass_on(alloc, options, &mut outcome)?;
         return Ok(Next::Passed(outcome));
     }
     let Outcome {
@@ -110,7 +111,7 @@ fn next_of_row<'a, D: Domain>(
                 so_far,
             ));
         };
-        so_far = flat.pass_on(alloc, options, so_far)?;
+        flat.pass_on(alloc, options, &mut so_far)?;
         left = behind;
     }
     next_of_last(alloc, options, last, so_far)

@@ -1,10 +1,8 @@
 -- Goals of `pass_along`: one leaf more is passed, and the last.
 use Rattle.std.proofs.Common.{rules, ◌≡◌, ◌∷◌, map, ap, ◌∙◌}
 use Rattle.std.proofs.lemmas.List.{nil_from_length}
-use Rattle.std.proofs.lemmas.Result.{IfOk-weaker}
 use Rattle.lra_operations.specs.Graph.{seq}
 use Rattle.lra_operations.specs.GraphViews.{node_view, row}
-use Rattle.lra_iter.specs.Flat.{Follows}
 use Rattle.lra_iter.specs.Shapes.{leaf_view}
 use Rattle.lra_iter.proofs.FlatRows.{first_leaf, flat_ends, flat_next}
 use Rattle.lra_iter.proofs.PassRows.{row_first, row_last}
@@ -17,9 +15,9 @@ leaves-preserved g c =
     let others = row (map node_view c.in-Some.behind.now) (node_view last) in
     let first : l.left.now ≡ c.in-Some.node.now ∷ c.in-Some.behind.now = search rules in
     record {
-      loop = flat_next g.D.Domain.meaning c.args.options.now _ _ (leaf_view c.leaf_of-leaf.result) others c.args.begun l.so_far
-          c.in_ok-so_far.so_far (row_first l.left.now c.in-Some.behind.now c.in-Some.node.now last first
-          ∙ ap (λ x. seq x others) c.leaf_of-leaf.ensures) c.in_ok-so_far.ensures l.invariant.loop;
+      loop = flat_next g.D.Domain.meaning c.args.options.now _ _ (leaf_view c.leaf_of-leaf.result) others c.args.so_far.now l.so_far
+          c.pass_on.new.so_far (row_first l.left.now c.in-Some.behind.now c.in-Some.node.now last first
+          ∙ ap (λ x. seq x others) c.leaf_of-leaf.ensures) c.in_ok-pass_on.ensures l.invariant.loop;
       leaves = (first_leaf l.left.now c.in-Some.behind.now c.in-Some.node.now first l.invariant.leaves).1;
     }
 
@@ -32,7 +30,5 @@ returns g c =
     let all = row (map node_view c.args.the_row.trees.now) (node_view last) in
     let none = nil_from_length l.left.now c.in_default.ensures.cases in
     let is = row_last l.left.now last none ∙ c.leaf_of-last.ensures in
-    IfOk-weaker c.pass_on-2.result (λ r. Follows m set (leaf_view c.leaf_of-last.result) l.so_far r)
-    (λ r. Follows m set all c.args.begun r)
-    (λ r followed. flat_ends m set all _ (leaf_view c.leaf_of-last.result) c.args.begun l.so_far r is followed l.invariant.loop)
-    c.pass_on-2.ensures
+    flat_ends m set all _ (leaf_view c.leaf_of-last.result) c.args.so_far.now l.so_far c.pass_on-2.new.so_far is
+    c.in_ok-pass_on-2.ensures l.invariant.loop

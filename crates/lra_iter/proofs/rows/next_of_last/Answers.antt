@@ -8,7 +8,7 @@ use Rattle.lra_iter.proofs.rows.next_of_last.Goals as goal
 pub returns-in-Some-clause-leads : goal.returns-in-Some-clause-leads
 returns-in-Some-clause-leads g c set whole memory options may loop =
     last_followed g.D.Domain.meaning set c.args.options.now c.args.node.now (flat_view c.in-Some.flat) whole memory c.args.so_far
-    c.in_ok-outcome.outcome options c.in-Some.ensures.0 c.in_ok-outcome.ensures loop
+    c.pass_on.new.so_far options c.in-Some.ensures.0 c.in_ok-pass_on.ensures loop
 
 pub returns : goal.returns
 returns g c = record {

@@ -46,8 +46,8 @@ leaves-preserved g c =
     } in
     record {
       owes = λ set whole memory options may loop. first_followed g.D.Domain.meaning set behind c.leaves.left.now
-          c.in-Some.node.now (flat_view c.in-Some-of.flat) whole memory c.leaves.so_far c.in_ok-so_far.so_far options first
-          c.in-Some-of.ensures.0 c.in_ok-so_far.ensures (c.leaves.invariant.owes set whole memory options may loop);
+          c.in-Some.node.now (flat_view c.in-Some-of.flat) whole memory c.leaves.so_far c.pass_on.new.so_far options first
+          c.in-Some-of.ensures.0 c.in_ok-pass_on.ensures (c.leaves.invariant.owes set whole memory options may loop);
       steps = λ n. steps_less n c.args.the_row.trees.now c.leaves.left.now c.in-Some.behind.now c.in-Some.node.now
           c.args.the_row.last.now first (c.leaves.invariant.steps n);
     }
