@@ -1,5 +1,5 @@
 -- Words give one command or are refused, wherever in memory the names of the domains lie.
-use Rattle.std.proofs.Common.{◌≡◌, ◌∙◌, List, [], ◌∷◌, map, Option, Some, ap, refl, sym, subst, drop, codes}
+use Rattle.std.proofs.Common.{◌≡◌, ◌∙◌, ◌⊎◌, inl, inr, List, [], ◌∷◌, map, Option, Some, ap, refl, sym, subst, drop, codes}
 use Rattle.std.specs.Prelude.{unwrap_or}
 use Rattle.std.specs.Borrow.{Bor}
 use Rattle.clap.specs.Faults.{built_fault}
@@ -41,6 +41,22 @@ built_placed : (domains : ValueParser) → built (command_line (placed domains))
 unfolding clap_on_literals
 built_placed domains = refl
 
+takes_the_domains : TakesDomains the_domains
+unfolding the_domains named
+takes_the_domains = (
+  record {
+    ref_ptr = (0, 0);
+    now = map {B = Bor Text} (λ (name : Text). record { ref_ptr = (0, 0); now = name }) (codes "poly" ∷ (codes "box" ∷ (codes "oct" ∷ [])));
+  },
+  refl,
+  refl,
+)
+
+-- a list of kinds is empty or isn't
+no_fault : {A : Type 0} (ks : List A) → (ks ≡ []) ⊎ (ks ≡ [] → ⊥)
+no_fault [] = inl refl
+no_fault (k ∷ ks) = inr (λ e. cc)
+
 module _ (words : List Text) where
   fault_placed : (domains : ValueParser) → fault_of (command_line (placed domains)) words ≡ fault_of (command_line domains) words
   fault_placed domains =
@@ -75,3 +91,13 @@ module _ (words : List Text) where
       let (d, is, within) = words_give asks.0 asks.1 words asks.2 in
       let both : Some d ≡ Some c = sym is ∙ asks.3 in
       subst IsWithinRanges (ap (λ (o : Option Command). unwrap_or o d) both) within
+
+  -- they ask for one, or for none
+  pub each_asks : AsksNone words ⊎ ((c : Command) × Asks words c × IsWithinRanges c × ((d : Command) → Asks words d → d ≡ c))
+  each_asks = elim (no_fault (fault_of (command_line the_domains) words)) [
+    | inl none ↦
+        let (c, is, within) = words_give the_domains takes_the_domains words none in
+        let asks : Asks words c = (the_domains, takes_the_domains, none, is) in
+        inr (c, asks, within, λ d other. one_asked d c other asks)
+    | inr some ↦ inl (the_domains, takes_the_domains, some)
+  ]

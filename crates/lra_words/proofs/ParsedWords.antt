@@ -11,7 +11,7 @@ use Rattle.clap.specs.declared.error.kind.ErrorKind.TheVariants.{OutOfMemory}
 use Rattle.clap.specs.declared.parser.matches.ArgMatches.{ArgMatches}
 use Rattle.clap.specs.declared.parser.matches.ArgMatches.TheViews.{out-ArgMatches}
 use Rattle.clap.proofs.OnLiterals.{clap_on_literals}
-use Rattle.lra_words.specs.Chosen.{AsksNone, Asks, IsWithinRanges, command_of}
+use Rattle.lra_words.specs.Chosen.{AsksNone, IsUntaken, Asks, IsWithinRanges, command_of}
 use Rattle.lra_words.specs.CommandLine.{DeclaresCommandLine, TakesDomains, command_line}
 use Rattle.lra_words.specs.Refusals.{refusal}
 use Rattle.lra_words.specs.declared.chosen.Command.{Command}
@@ -33,12 +33,14 @@ not_memory k usage memory =
 
 -- a parse that failed for another cause than memory
 pub refused : (a : App) (words : List Text) (e : Error) → DeclaresCommandLine a → (is_simple_and_free a ≡ true → HasKind (fault_of a words) e)
-    → (takes a words ≡ true → kind_of e ≡ OutOfMemory) → refusal (kind_of e) ≡ Usage → AsksNone words
+    → (takes a words ≡ true → kind_of e ≡ OutOfMemory) → refusal (kind_of e) ≡ Usage → AsksNone words × IsUntaken words
 refused a words e declares kinds passes usage =
     let line_kinds = rw declares.2 at kinds in
     let line_passes = rw declares.2 at passes in
-    let has : HasKind (fault_of (command_line declares.0) words) e = line_kinds (line_is_simple_and_free declares.0) in
-    (declares.0, declares.1, λ f. none (fault_of (command_line declares.0) words) f has, λ t. not_memory (kind_of e) usage (line_passes t))
+    let has : HasKind (fault_of (command_line declares.0) words) e = line_kinds (line_is_simple_and_free declares.0) in (
+      (declares.0, declares.1, λ f. none (fault_of (command_line declares.0) words) f has),
+      (declares.0, declares.1, λ t. not_memory (kind_of e) usage (line_passes t)),
+    )
   where
     none : (ks : List ErrorKind) → ks ≡ [] → HasKind ks e → ⊥
     none [] f (inl o) = not_memory (kind_of e) usage o

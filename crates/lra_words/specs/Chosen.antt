@@ -1,5 +1,5 @@
 -- The command that the matches of the command line are.
-use Rattle.std.specs.Prelude.{◌≡◌, ◌≤◌, ◌^◌, ◌&&◌, ℕ, Bool, true, false, List, [], Option, Some}
+use Rattle.std.specs.Prelude.{◌≡◌, ◌≤◌, ◌^◌, ◌&&◌, ◌⊎◌, ℕ, Bool, true, false, List, [], Option, Some}
 use Rattle.std.specs.Prelude.{None, codes, if◌then◌else◌, nat_lt, option_and_then, option_map, ⊤}
 use Rattle.std.specs.Str.{bytes_eq}
 use Rattle.std.specs.Str.Parse.{digits_value, without_leading_plus}
@@ -99,6 +99,10 @@ IsWithinRanges Calc = ⊤
 abbrev pub AsksNone : List Text → Type 0
 AsksNone words = (domains : ValueParser) × TakesDomains domains
     × (fault_of (command_line domains) words ≡ [] → ⊥)
+
+-- nor does the command line take them
+abbrev pub IsUntaken : List Text → Type 0
+IsUntaken words = (domains : ValueParser) × TakesDomains domains
     × (takes (command_line domains) words ≡ true → ⊥)
 
 -- the words ask for this command: the command line takes them, and it is that of the matches
@@ -107,7 +111,13 @@ Asks words chosen = (domains : ValueParser) × TakesDomains domains
     × (fault_of (command_line domains) words ≡ [])
     × (command_of (subcommand_of (command_line domains) words) ≡ Some chosen)
 
+-- each list of words asks for no command, or for one, whose values lie in their ranges; never for both
+abbrev pub EachList : Type 0
+EachList = (words : List Text)
+    → (AsksNone words ⊎ ((c : Command) × Asks words c × IsWithinRanges c × ((d : Command) → Asks words d → d ≡ c)))
+    × ((c : Command) → Asks words c → AsksNone words → ⊥)
+
 -- the command that the words ask for, or none
 abbrev pub AsksFor : List Text → Option Command → Type 0
-AsksFor words None = AsksNone words
+AsksFor words None = AsksNone words × IsUntaken words
 AsksFor words (Some c) = Asks words c

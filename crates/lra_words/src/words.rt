@@ -1,7 +1,7 @@
 //! The command that a list of words gives.
 ghost use Rattle.std.specs.Prelude.{◌≡◌, ◌^◌, Err, IfOk, IfSome, Some, codes, map, string_bytes};
 ghost use Rattle.clap.specs.Words.{found_of, kind_of, rows_of};
-ghost use Rattle.lra_words.specs.Chosen.{Asks, AsksFor, AsksNone, IsWithinRanges, command_of, domain_at};
+ghost use Rattle.lra_words.specs.Chosen.{Asks, AsksFor, AsksNone, IsUntaken, IsWithinRanges, command_of, domain_at};
 ghost use Rattle.lra_words.specs.Chosen.{analyse_of, domain_named, flag_at, number_at, options_of, sample_of};
 ghost use Rattle.lra_words.specs.Refusals.{refusal};
 
@@ -114,7 +114,8 @@ fn choose_command(name: &str, matches: &ArgMatches) -> Option<Command>
 /// `Usage` comes exactly where the command line doesn't take the words, `Memory` only for want of
 /// memory. Nothing is printed.
 pub fn parse_command(alloc: Global, words: &[String]) -> Result<Command, Refusal>
-    ensures usage { result ≡ Err Refusal.Usage → AsksNone (map string_bytes words.now) }
+    ensures usage { result ≡ Err Refusal.Usage →
+        AsksNone (map string_bytes words.now) × IsUntaken (map string_bytes words.now) }
     ensures taken { IfOk result (λ c. Asks (map string_bytes words.now) c) }
     ensures ranges { IfOk result (λ c. IsWithinRanges c) }
 {
