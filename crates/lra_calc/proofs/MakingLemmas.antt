@@ -6,7 +6,8 @@ use Rattle.std.proofs.lemmas.Bool.Decides.{nat_tests}
 use Rattle.std.proofs.lemmas.List.Elements.{All-nil, All-cons}
 use Rattle.lra_linear.specs.Points.{PointSet, IsWithin}
 use Rattle.lra_linear.specs.Descriptions.{Given, Con as points_of}
-use Rattle.lra_linear.specs.Polyhedra.{Polyhedron, IsPolyhedron, IsPolyhedronOf}
+use Rattle.lra_linear.specs.Formed.{IsFormed}
+use Rattle.lra_linear.specs.Polyhedra.{Polyhedron, IsPolyhedronOf}
 use Rattle.lra_linear.specs.Strain.{Loss}
 use Rattle.lra_linear.specs.declared.GenKind.{GenKind}
 use Rattle.lra_linear.specs.declared.GenKind.TheVariants as gen
@@ -124,13 +125,13 @@ pushed_here equal v s t row kind items i x all same rows kinds h e is before =
     ∙ ap (λ (gs : List Given). given_by equal s.rows s.kinds ++ gs) (sym (rest_at v items i x x h e)) ∙ before)
 
 -- ---- a polyhedron, flagged where something was lost
-pub made_of : (n : ℕ) (P : PointSet) (Strains : Loss → Type 0) (p : Polyhedron) (outcome : Outcome) → p.dims ≡ n → IsPolyhedron p → IfExact (IsPolyhedronOf n P p) outcome →
+pub made_of : (n : ℕ) (P : PointSet) (Strains : Loss → Type 0) (p : Polyhedron) (outcome : Outcome) → p.dims ≡ n → IsFormed p → IfExact (IsPolyhedronOf n P p) outcome →
     IsWithin n P (points_of p.rows) → IfFlagged Strains outcome → IsMadeOf n P Strains (is_flagged outcome) p
-made_of n P Strains p Exact dims canonical exact within strain = exact
-made_of n P Strains p (Flagged loss) dims canonical exact within strain = record { dimensions = dims; canonical = canonical; within = within; loss = loss; strains = strain }
+made_of n P Strains p Exact dims fine exact within strain = exact
+made_of n P Strains p (Flagged loss) dims fine exact within strain = record { dimensions = dims; formed = fine; within = within; loss = loss; strains = strain }
 
 -- as the code tells it
-pub made_as_told : (n : ℕ) (P : PointSet) (Strains : Loss → Type 0) (p q : Polyhedron) (outcome : Outcome) (flagged : Bool) → q ≡ p → flagged ≡ is_flagged outcome → p.dims ≡ n → IsPolyhedron p →
+pub made_as_told : (n : ℕ) (P : PointSet) (Strains : Loss → Type 0) (p q : Polyhedron) (outcome : Outcome) (flagged : Bool) → q ≡ p → flagged ≡ is_flagged outcome → p.dims ≡ n → IsFormed p →
     IfExact (IsPolyhedronOf n P p) outcome → IsWithin n P (points_of p.rows) → IfFlagged Strains outcome → IsMadeOf n P Strains flagged q
 made_as_told n P Strains p q outcome flagged same tells dims canonical exact within strain =
     subst (λ (x : Polyhedron). IsMadeOf n P Strains flagged x) (sym same)

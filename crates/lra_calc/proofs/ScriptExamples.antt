@@ -5,7 +5,8 @@ use Rattle.std.specs.List.{flat_map}
 use Rattle.std.specs.Fmt.{digits}
 use Rattle.lra_linear.specs.Points.{IsWithin}
 use Rattle.lra_linear.specs.Descriptions.{Given, inequality, equality, generator, line, Con as points_of}
-use Rattle.lra_linear.specs.Polyhedra.{Polyhedron, IsPolyhedron, falsity}
+use Rattle.lra_linear.specs.Formed.{IsFormed}
+use Rattle.lra_linear.specs.Polyhedra.{Polyhedron, falsity}
 use Rattle.lra_linear.proofs.SpellingExamples.{quadrant, plain_is_quadrant}
 use Rattle.lra_linear.proofs.StrainExamples.{third_row_strains}
 use Rattle.lra_tree.specs.Tokens.{greatest_length}
@@ -89,11 +90,11 @@ unfolding digits
 shown_texts = (refl, refl)
 
 -- a list that strains: catches a flag that is forgotten
-strained_line : (p : Polyhedron) → p.dims ≡ 1 → IsPolyhedron p
+strained_line : (p : Polyhedron) → p.dims ≡ 1 → IsFormed p
     → IsWithin 1 (points_of (inequality (pos 170141183460469231731687303715884105727 ∷ pos 1 ∷ []) ∷ inequality (pos 0 ∷ pos 2 ∷ []) ∷ [])) (points_of p.rows)
     → Gives (codes "dims 1" ∷ codes "con P >= 170141183460469231731687303715884105727 1 ; >= 0 2" ∷ []) (Ok (text (codes "flagged at line 2" ∷ [])))
 unfolding digits
-strained_line p dims canonical within = (
+strained_line p dims fine within = (
   _,
   record {
     result = Ok (started 1);
@@ -102,7 +103,7 @@ strained_line p dims canonical within = (
       result = _;
       after = record {
         outcome = Ok (record { flagged = true; polyhedron = p });
-        told = record { dimensions = dims; canonical = canonical; within = within; loss = _; strains = inl third_row_strains };
+        told = record { dimensions = dims; formed = fine; within = within; loss = _; strains = inl third_row_strains };
         is = refl;
       };
       goes_on = refl;

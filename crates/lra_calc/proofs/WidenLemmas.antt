@@ -2,7 +2,8 @@
 use Rattle.std.proofs.Common.{◌≡◌, ◌∙◌, inl, inr, ℕ, Bool, true, List, [], length, refl, ap, sym, subst, Some, None, Result, Ok, Err}
 use Rattle.lra_linear.specs.Points.{PointSet, IsWithin}
 use Rattle.lra_linear.specs.Descriptions.{Given, Con as points_of}
-use Rattle.lra_linear.specs.Polyhedra.{Polyhedron, IsPolyhedron, IsPolyhedronOf}
+use Rattle.lra_linear.specs.Formed.{IsFormed}
+use Rattle.lra_linear.specs.Polyhedra.{Polyhedron, IsPolyhedronOf}
 use Rattle.lra_linear.specs.Strain.{Loss}
 use Rattle.lra_poly.specs.Outcomes.{IfExact, IfFlagged}
 use Rattle.lra_duality.specs.declared.inclusion.Inclusion.TheVariants as inclusion
@@ -27,7 +28,7 @@ not_exact Exact h = absurd h
 not_exact (Flagged loss) h = refl
 
 -- a widening that was made, as the code tells it
-pub made_widens : (p q r x : Polyhedron) (P : PointSet) (Strains : Loss → Type 0) (o : Outcome) (flagged : Bool) → x ≡ r → flagged ≡ is_flagged o → r.dims ≡ p.dims → IsPolyhedron r →
+pub made_widens : (p q r x : Polyhedron) (P : PointSet) (Strains : Loss → Type 0) (o : Outcome) (flagged : Bool) → x ≡ r → flagged ≡ is_flagged o → r.dims ≡ p.dims → IsFormed r →
     IfExact (IsPolyhedronOf p.dims P r) o → IsWithin p.dims P (points_of r.rows) → IfFlagged Strains o → LiesOrIsGivenUp p q r o
     → script.Widens p.dims p q (IsMadeOf p.dims P Strains) (Ok (record { flagged = flagged; polyhedron = x }))
 made_widens p q r x P Strains o flagged same tells dims canonical exact within strain (inl inside) = record {

@@ -3,7 +3,8 @@
 use Rattle.std.specs.Prelude.{◌≡◌, ℕ, ℤ, Bool, true, false, List, []}
 use Rattle.lra_linear.specs.Points.{PointSet, IsWithin}
 use Rattle.lra_linear.specs.Descriptions.{Given, Con as points_of, Gen as generated_by}
-use Rattle.lra_linear.specs.Polyhedra.{Polyhedron, IsPolyhedron, IsPolyhedronOf}
+use Rattle.lra_linear.specs.Formed.{IsFormed}
+use Rattle.lra_linear.specs.Polyhedra.{Polyhedron, IsPolyhedronOf}
 use Rattle.lra_linear.specs.SetOperations as sets
 use Rattle.lra_linear.specs.Strain.{Loss}
 use Rattle.lra_linear.specs.OperationStrain.{FromRowsStrains, FromGeneratorsStrains, MeetStrains, HullStrains}
@@ -15,10 +16,11 @@ use Rattle.lra_script.specs.declared.recipes.Combination.TheVariants.{Meet, Hull
 use Rattle.lra_script.specs.declared.recipes.Mapping.{Mapping}
 use Rattle.lra_script.specs.declared.recipes.Mapping.TheVariants.{Image, Preimage}
 
--- the canonical lists of a set that has all points of P; what was given strains
+-- the canonical lists of a set that has all points of P, within the limit of a description and with numbers of the
+-- range; what was given strains
 pub record IsFlaggedOf (n : ℕ) (P : PointSet) (Strains : Loss → Type 0) (p : Polyhedron) : Type 0 where
   pub dimensions : p.dims ≡ n
-  pub canonical : IsPolyhedron p
+  pub formed : IsFormed p
   pub within : IsWithin n P (points_of p.rows)
   pub loss : Loss
   pub strains : Strains loss

@@ -3,8 +3,9 @@
 ghost use Rattle.std.specs.Prelude.{◌≡◌, ◌≤◌, ◌<◌, ◌∷◌, suc, length, pos, map, None, IfOk, OnOk, option_map};
 ghost use Rattle.std.specs.List.{All};
 ghost use Rattle.lra_linear.specs.Descriptions.{Con as points_of};
+ghost use Rattle.lra_linear.specs.Formed.{IsFormed};
 ghost use Rattle.lra_linear.specs.Points.{IsWithin};
-ghost use Rattle.lra_linear.specs.Polyhedra.{IsPolyhedron, IsPolyhedronOf};
+ghost use Rattle.lra_linear.specs.Polyhedra.{IsPolyhedronOf};
 ghost use Rattle.lra_linear.specs.Kinds.{is_line};
 ghost use Rattle.lra_sys.specs.Listed.{constraints as constraints_of, generators as generators_of, FitKinds};
 ghost use Rattle.lra_poly.specs.Outcomes.{IfExact, IfFlagged};
@@ -169,9 +170,9 @@ pub fn form_of(alloc: Global, numbers: &[i64]) -> Result<LinExpr, AllocError>
 pub fn make_with(polyhedron: Poly, outcome: Outcome) -> Made
     ensures polyhedron { result.polyhedron ≡ polyhedron }
     ensures flagged { result.is_flagged ≡ is_flagged outcome }
-    ensures canonical { IsPolyhedron polyhedron }
+    ensures formed { IsFormed polyhedron }
 {
-    let _canonical = polyhedron.rows();
+    let _formed = polyhedron.rows();
     Made {
         is_flagged: !outcome.is_exact(),
         polyhedron,

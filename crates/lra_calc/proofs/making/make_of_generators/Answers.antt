@@ -17,4 +17,4 @@ returns-clause-made c =
     let strain = rw (c.in_ok-generators.ensures.dims, made) at c.in_ok-polyhedron.ensures.strain in
     let dims = rw c.in_ok-generators.ensures.dims at c.in_ok-polyhedron.ensures.dims in
     made_as_told n (generated_by given) (FromGeneratorsStrains n given) c.in_ok-polyhedron.polyhedron c.make_with.result.polyhedron c.in_ok-polyhedron.outcome c.make_with.result.is_flagged
-    c.make_with.ensures.polyhedron c.make_with.ensures.flagged dims c.in_ok-polyhedron.ensures.canonical exact within strain
+    c.make_with.ensures.polyhedron c.make_with.ensures.flagged dims c.make_with.ensures.formed exact within strain

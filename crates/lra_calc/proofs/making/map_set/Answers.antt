@@ -18,4 +18,4 @@ returns-clause-made c =
     let strain = subst (λ (j : ℕ). IfFlagged (MappingStrains c.args.how j row p) c.in_ok-outcome.outcome) column (rw c.in_ok-set.ensures at c.in_ok-outcome.ensures.strain) in
     let dims = rw c.in_ok-set.ensures at c.in_ok-outcome.ensures.dims in
     made_as_told p.dims (mapped c.args.how p.dims k row p) (MappingStrains c.args.how k row p) c.map_into.new.set c.make_with.result.polyhedron c.in_ok-outcome.outcome c.make_with.result.is_flagged
-    c.make_with.ensures.polyhedron c.make_with.ensures.flagged dims c.make_with.ensures.canonical exact within strain
+    c.make_with.ensures.polyhedron c.make_with.ensures.flagged dims c.make_with.ensures.formed exact within strain

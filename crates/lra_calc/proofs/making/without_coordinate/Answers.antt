@@ -17,4 +17,4 @@ returns-clause-made c =
     let strain = subst (λ (j : ℕ). IfFlagged (ForgetStrains j p) c.in_ok-outcome.outcome) column (rw c.in_ok-set.ensures at c.in_ok-outcome.ensures.strain) in
     let dims = rw c.in_ok-set.ensures at c.in_ok-outcome.ensures.dims in
     made_as_told p.dims (sets.Forget p.dims k (points_of p.rows)) (ForgetStrains k p) c.forget.new.p c.make_with.result.polyhedron c.in_ok-outcome.outcome c.make_with.result.is_flagged
-    c.make_with.ensures.polyhedron c.make_with.ensures.flagged dims c.make_with.ensures.canonical exact within strain
+    c.make_with.ensures.polyhedron c.make_with.ensures.flagged dims c.make_with.ensures.formed exact within strain
