@@ -22,6 +22,7 @@ use Rattle.lra_flow.specs.Analysis.{Derivation, Solves}
 use Rattle.lra_iter.specs.Numbers.{values_in, checks_in, asserts_of, IsNumbered}
 use Rattle.lra_iter.proofs.Counting.{Found, iteration_found, value_counted, failing_counted, counted_value, counted_failing}
 use Rattle.lra_listing.specs.Given.{IsAssertion}
+use Rattle.lra_states.specs.Canonical.{AreCanonicallyShown, IsCanonicalState}
 use Rattle.lra_states.specs.Shown.{AreShown}
 use Rattle.lra_source.proofs.Numbering.{numbered}
 use Rattle.lra_source.proofs.Flags.{IsBelow, graph_below, iteration_below}
@@ -63,6 +64,12 @@ asserts_counted true h = omega arith
 asserts_counted false h = absurd (let no : false ≡ true = h in cc)
 
 -- what is handed over ------------------------------------------------------------------------------------------------
+
+-- what holds of all members holds of that at a place
+at_place : {A : Type 0} (Q : A → Type 0) (xs : List A) (i : ℕ) (x : A) → AllByRecursion Q xs → slice_get xs i ≡ Some x → Q x
+at_place Q [] i x all at = absurd (none-some _ at)
+at_place Q (y ∷ ys) zero x all at = subst Q (same_Some _ _ at) all.0
+at_place Q (y ∷ ys) (suc i) x all at = at_place Q ys i x all.1 at
 
 module _ {V H : Type 0} (m : Meaning V H) (settings : Options) (P : Program) (g : Node) (r : Result V) (values : List V) (verdicts : List (ℕ × Bool)) (flagged : Option ℕ)
     (graph : IsGraph P g) (derived : Derivation m settings P g r) (solves : Solves m r values verdicts flagged) where
@@ -142,3 +149,13 @@ module _ {V H : Type 0} (m : Meaning V H) (settings : Options) (P : Program) (g 
         let (v, value_there, is) = image_of shown values q state got in
         let dims : m.dims v ≡ s.live = value_dims laws q v s value_there there in
         subst (λ (x : Invariant). AllByRecursion (HasWidth s.live) x) is (subst (λ (n : ℕ). AllByRecursion (HasWidth n) (shown v)) dims (are v (contained values q v value_there)).wide)
+
+    -- and is shown by canonical lists, as its value is
+    pub states_canonical : Laws m → (domain : Domain) → AreCanonicallyShown domain m.dims shown values
+        → (q : ℕ) (s : Site) (state : Invariant) → slice_get (sites_of P) q ≡ Some s → slice_get (map shown values) q ≡ Some state
+        → IsCanonicalState domain s.live state
+    states_canonical laws domain are q s state there got =
+        let (v, value_there, is) = image_of shown values q state got in
+        let dims : m.dims v ≡ s.live = value_dims laws q v s value_there there in
+        subst (IsCanonicalState domain s.live) is (subst (λ (n : ℕ). IsCanonicalState domain n (shown v)) dims
+        (at_place (λ (u : V). IsCanonicalState domain (m.dims u) (shown u)) values q v are value_there))

@@ -15,3 +15,4 @@ pub mod OneText
 pub mod ReportSteps
 pub mod Holding
 pub mod Sayings
+pub mod OneReport

@@ -12,6 +12,10 @@ use Rattle.lra_report.specs.Listing.{HasWidth, AreListed, Lists}
 use Rattle.lra_meaning.specs.LiveNames.{live_names, globals_named}
 use Rattle.lra_report.specs.Spelled.{IsSpelledPart, IsReadablePart, IsReadablePoint, IsSmallFlag, IsReadable}
 use Rattle.lra_formed.proofs.Named.{shown_as_many}
+use Rattle.lra_base.specs.declared.options.Domain.{Domain}
+use Rattle.lra_base.specs.declared.options.Options.{Options}
+use Rattle.lra_states.specs.Canonical.{IsCanonicalState}
+use Rattle.lra_source.specs.Answers.{AreCanonical}
 
 state_readable : (n : ℕ) (ps : Invariant) → AllByRecursion IsSpelledPart ps → AllByRecursion (HasWidth n) ps → AllByRecursion (IsReadablePart n) ps
 state_readable n [] h w = tt
@@ -41,3 +45,20 @@ readable t r flagged lists spelled flag low = record {
   points = points_readable (globals_named t.parts) (labels_of t) 1 (sites_of (resolve t)) r.points lists.points (shown_as_many t) spelled;
   flag = subst IsSmallFlag (sym flag) (small_flag flagged low);
 }
+
+-- states that are canonical at each point, as many variables as live there
+canonical_points : (domain : Domain) (o : List (List ℕ)) (ls : List Labelled) (number : ℕ) (ss : List Site) (ps : List PointReport) → AreListed o ls number ss ps
+    → ((k : ℕ) (s : Site) → slice_get ss k ≡ Some s → NamesAt o ls s)
+    → ((k : ℕ) (s : Site) (state : Invariant) → slice_get ss k ≡ Some s → slice_get (map (λ (p : PointReport). p.state) ps) k ≡ Some state → IsCanonicalState domain s.live state)
+    → AllByRecursion (λ (p : PointReport). IsCanonicalState domain (length p.names) p.state) ps
+canonical_points domain o ls n ss [] l f h = tt
+canonical_points domain o ls n [] (p ∷ ps) l f h = absurd l
+canonical_points domain o ls n (s ∷ ss) (p ∷ ps) l f h = (
+  subst (λ (m : ℕ). IsCanonicalState domain m p.state) (sym (ap (λ (x : PointReport). length x.names) l.0 ∙ f 0 s refl)) (h 0 s p.state refl refl),
+  canonical_points domain o ls (suc n) ss ps l.2 (λ k. f (suc k)) (λ k. h (suc k)),
+)
+
+pub canonical : (options : Options) (t : FileTree) (r : Report) → Lists t r
+    → ((k : ℕ) (s : Site) (state : Invariant) → slice_get (sites_of (resolve t)) k ≡ Some s → slice_get (map (λ (p : PointReport). p.state) r.points) k ≡ Some state
+    → IsCanonicalState options.domain s.live state) → AreCanonical options r
+canonical options t r lists each = canonical_points options.domain (globals_named t.parts) (labels_of t) 1 (sites_of (resolve t)) r.points lists.points (shown_as_many t) each

@@ -21,12 +21,13 @@ use Rattle.lra_iter.specs.Numbers.{IsNumbered}
 use Rattle.lra_iter.specs.Solved.{IsSolved}
 use Rattle.lra_listing.specs.Given.{AreInvariants, AreVerdicts, state_of, told_of, told}
 use Rattle.lra_report.specs.Spelled.{IsSpelledPart}
+use Rattle.lra_states.specs.Canonical.{AreCanonicallyShown}
 use Rattle.lra_states.specs.Shown.{AreShown}
 use Rattle.lra_source.specs.Stages.{HasGraph, IsToldOf}
 use Rattle.lra_source.proofs.Fitting.{tree_fits, few_globals}
 use Rattle.lra_source.proofs.Numbering.{numbered}
-use Rattle.lra_source.proofs.Handing.{states_as_many, of_assertions, of_all, states_wide, flag_there}
-use Rattle.lra_source.proofs.Readable.{readable}
+use Rattle.lra_source.proofs.Handing.{states_as_many, of_assertions, of_all, states_canonical, states_wide, flag_there}
+use Rattle.lra_source.proofs.Readable.{canonical, readable}
 
 -- what the iteration asks --------------------------------------------------------------------------------------------
 
@@ -76,6 +77,11 @@ pub shown_there : {V H : Type 0} (m : Meaning V H) (shown : V → Invariant) (do
 shown_there {V} m shown domain named values listed is same are =
     subst (λ (d : Domain). AreShown m d shown values) (sym is) (subst (λ (vs : List V). AreShown m named shown vs) same are)
 
+pub canonical_there : {V : Type 0} (dims : V → ℕ) (shown : V → Invariant) (domain named : Domain) (values listed : List V) → domain ≡ named → listed ≡ values
+    → AreCanonicallyShown named dims shown listed → AreCanonicallyShown domain dims shown values
+canonical_there {V} dims shown domain named values listed is same are =
+    subst (λ (d : Domain). AreCanonicallyShown d dims shown values) (sym is) (subst (λ (vs : List V). AreCanonicallyShown named dims shown vs) same are)
+
 -- what the listing asks ----------------------------------------------------------------------------------------------
 
 module _ {V H : Type 0} (m : Meaning V H) (t : FileTree) (g : Node) (sites : List Site) (has : HasGraph t g sites) (settings : Options)
@@ -103,9 +109,9 @@ module _ {V H : Type 0} (m : Meaning V H) (t : FileTree) (g : Node) (sites : Lis
 pub is_told : {V H : Type 0} (m : Meaning V H) (shown : V → Invariant) (o : Options) (t : FileTree) (g : Node) (sites : List Site)
     (values : List V) (verdicts : List (ℕ × Bool)) (flagged : Option ℕ) (states : List Invariant) (r : Report)
     → HasGraph t g sites → IsSolved m o (resolve t) g values verdicts flagged → states ≡ map shown values → AreShown m o.domain shown values
-    → AllByRecursion (AllByRecursion IsSpelledPart) states → r.options ≡ o → Lists t r → map state_of r.points ≡ states
+    → AllByRecursion (AllByRecursion IsSpelledPart) states → Laws m → AreCanonicallyShown o.domain m.dims shown values → r.options ≡ o → Lists t r → map state_of r.points ≡ states
     → map told_of r.verdicts ≡ map told verdicts → r.flagged ≡ option_map suc flagged → IsToldOf m shown o t r
-is_told m shown o t g sites values verdicts flagged states r has solved are are_shown spelled options lists same judged flag = record {
+is_told m shown o t g sites values verdicts flagged states r has solved are are_shown spelled laws lists_shown options lists same judged flag = record {
   names = has.names;
   straight = has.straight;
   within = has.within;
@@ -128,6 +134,9 @@ is_told m shown o t g sites values verdicts flagged states r has solved are are_
     flag = flag;
   };
   agrees = has.agrees;
+  canonical = canonical o t r lists (λ k s state there got.
+      states_canonical m o (resolve t) g solved.result values verdicts flagged has.is_graph solved.derived solved.solves shown laws o.domain lists_shown k s state there
+      (ap (λ (l : List Invariant). slice_get l k) (sym (same ∙ are)) ∙ got));
   readable = readable t r flagged lists (subst (AllByRecursion (AllByRecursion IsSpelledPart)) (sym same) spelled) flag low;
 }
   where

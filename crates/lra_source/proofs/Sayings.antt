@@ -52,9 +52,9 @@ module _ (d : Domain) (o : Options) (source : List ℕ) {V H : Type 0} (m : Mean
   tells P h = subst (λ (e : Domain). OverDomain e (Analyses o.parts P)) (sym is) (names (Analyses o.parts P) h)
 
   answers : (n : ℕ) → Answers n → ((P : Program) → Analyses n P V H m shown → TellsAnalysis o P r) → IsAnswered o source r
-  answers zero a told = record { report = a.report; analysed = told (resolve a.report.tree) a.analysed; readable = a.readable }
-  answers (suc zero) a told = record { report = a.report; analysed = told (resolve a.report.tree) a.analysed; readable = a.readable }
-  answers (suc (suc n)) a told = record { report = a.report; analysed = told (resolve a.report.tree) a.analysed; readable = a.readable }
+  answers zero a told = record { report = a.report; analysed = told (resolve a.report.tree) a.analysed; canonical = a.canonical; readable = a.readable }
+  answers (suc zero) a told = record { report = a.report; analysed = told (resolve a.report.tree) a.analysed; canonical = a.canonical; readable = a.readable }
+  answers (suc (suc n)) a told = record { report = a.report; analysed = told (resolve a.report.tree) a.analysed; canonical = a.canonical; readable = a.readable }
 
   pub over_domain : Answers o.parts → IsAnswered o source r
   over_domain a = answers o.parts a tells

@@ -19,7 +19,7 @@ use Rattle.lra_program.specs.Assertions.{assertions_from}
 use Rattle.lra_base.specs.declared.options.Options.{Options}
 use Rattle.lra_flow.specs.Pass.{failing, Result}
 use Rattle.lra_flow.specs.Analysis.{Derivation, Solves, IsUnreachable}
-use Rattle.lra_flow.proofs.Covers.{Covers}
+use Rattle.lra_flow.proofs.Covers.{Covers, Has}
 use Rattle.lra_iter.proofs.Covering.{begun_covers}
 
 -- runs -----------------------------------------------------------------------------------------------------------------
@@ -32,22 +32,27 @@ module _ (V H : Type 0) (m : Meaning V H) where
 
     module _ (derived : Derivation m set P g r) (agrees : Agrees P g) (values : List V) (verdicts : List (ℕ × Bool)) (flagged : Option ℕ) (solves : Solves m r values verdicts flagged) where
       -- where a run comes to a point, the value there has its store
-      pub value_there : (q : ℕ) (s : Site) (store : List ℤ) → slice_get (sites_of P) q ≡ Some s → At P (point_of s) store
-          → (v : V) × (slice_get values q ≡ Some v) × m.has v store × (length store ≡ m.dims v)
-      value_there q s store there at =
+      held_there : (q : ℕ) (s : Site) (store : List ℤ) → slice_get (sites_of P) q ≡ Some s → At P (point_of s) store
+          → (v : V) × (slice_get values q ≡ Some v) × Has m v store × (length store ≡ m.dims v)
+      held_there q s store there at =
           let (draws, words, t, comes, is) = (agrees.comes q s store there).0 at in
           let (v, found, has) = (derivation_covers derived draws).comes q t comes in
-          let there : m.has v store = subst (λ (xs : List ℤ). m.has v xs) is has in
-          (v, (solves.is_value q v).1 found, there, laws.sized v store there)
+          let there : Has m v store = subst (λ (xs : List ℤ). Has m v xs) is has in
+          (v, (solves.is_value q v).1 found, there, laws.sized v store there.0 there.1)
+
+      pub value_there : (q : ℕ) (s : Site) (store : List ℤ) → slice_get (sites_of P) q ≡ Some s → At P (point_of s) store
+          → (v : V) × (slice_get values q ≡ Some v) × m.has v store × (length store ≡ m.dims v)
+      value_there q s store there at = let h = held_there q s store there at in (h.0, h.1, h.2.1, h.3)
 
       -- no run comes where the value has no part
       pub none_comes : (q : ℕ) (s : Site) (v : V) (store : List ℤ) → slice_get (sites_of P) q ≡ Some s → slice_get values q ≡ Some v → IsUnreachable m v → At P (point_of s) store → ⊥
       none_comes q s v store there found none at =
-          let (w, got, has, long) = value_there q s store there at in
-          laws.partless v none store (subst (λ (x : V). m.has x store) (sym (same_Some v w (sym found ∙ got))) has)
+          let (w, got, has, long) = held_there q s store there at in
+          let own = subst (λ (x : V). Has m x store) (sym (same_Some v w (sym found ∙ got))) has in
+          laws.partless v own.0 none store own.1
 
       -- where a run fails an assertion, a value where its condition is false has its store
-      pub failing_there : (q : ℕ) (s : Site) → slice_get (sites_of P) q ≡ Some s → Fails P (point_of s) → (v : V) × (store : List ℤ) × Contains r.entries (failing q v) × m.has v store
+      pub failing_there : (q : ℕ) (s : Site) → slice_get (sites_of P) q ≡ Some s → Fails P (point_of s) → (v : V) × (store : List ℤ) × Contains r.entries (failing q v) × Has m v store
       failing_there q s there fails =
           let (draws, words, failed) = (agrees.fails q s there).0 fails in
           let (v, t, found, has) = (derivation_covers derived draws).fails q failed in
@@ -61,7 +66,8 @@ module _ (V H : Type 0) (m : Meaning V H) where
       proved_holds one q s proved there listed is fails =
           let (v, store, found, has) = failing_there q s there fails in
           let (u, seen, so) = solves.is_verdict q proved listed in
-          laws.partless u (so.0 is) store (subst (λ (x : V). m.has x store) (one q v u found seen) has)
+          let own = subst (λ (x : V). Has m x store) (one q v u found seen) has in
+          laws.partless u own.0 (so.0 is) store own.1
 
 -- reports ------------------------------------------------------------------------------------------------------------
 

@@ -133,6 +133,7 @@ module _ {V H : Type 0} (m : Meaning V H) (laws : Laws m) (shown : V → Invaria
           flag = whole.flag;
         };
         analysed = is.analysed;
+        canonical = is.canonical;
         readable = is.readable;
       }
 

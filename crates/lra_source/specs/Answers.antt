@@ -1,9 +1,10 @@
 -- What a source deserves: its one refusal (`Refuse`), or a report of it that tells the analysis.
-use Rattle.std.specs.Prelude.{ℕ, suc, List}
+use Rattle.std.specs.Prelude.{ℕ, suc, List, length}
+use Rattle.std.specs.List.{AllByRecursion}
 use Rattle.lra_base.specs.declared.options.Domain.{Domain}
 use Rattle.lra_base.specs.declared.options.Domain.TheVariants.{Poly, Box, Oct}
 use Rattle.lra_base.specs.declared.options.Options.{Options}
-use Rattle.lra_findings.specs.Report.{Invariant, Report}
+use Rattle.lra_findings.specs.Report.{Invariant, PointReport, Report}
 use Rattle.lra_meaning.specs.Resolve.{resolve}
 use Rattle.lra_program.specs.Program.{Program}
 use Rattle.lra_tree.specs.Grammar.{Spells}
@@ -17,15 +18,21 @@ use Rattle.lra_set.specs.Content.{Parts, Head}
 use Rattle.lra_set.specs.Meaning.{set_meaning}
 use Rattle.lra_states.specs.Polyhedra.{shown_polyhedron}
 use Rattle.lra_states.specs.Sets.{shown_set}
+use Rattle.lra_states.specs.Canonical.{IsCanonicalState}
 use Rattle.lra_states.specs.Shown.{shown_state}
 use Rattle.lra_source.specs.Analysed.{IsAnalysed}
 
--- a report of the source that tells an analysis over a domain with this meaning; it is told by its text, which has
--- numbers of the range and each part as wide as its point has names
+-- over polyhedra each state is shown by canonical lists, flagged or not
+abbrev pub AreCanonical : Options → Report → Type 0
+AreCanonical o r = AllByRecursion (λ (p : PointReport). IsCanonicalState o.domain (length p.names) p.state) r.points
+
+-- a report of the source that tells an analysis over a domain with this meaning, by canonical lists over polyhedra; it
+-- is told by its text, which has numbers of the range and each part as wide as its point has names
 pub record IsAnsweredOver {V H : Type 0} (m : Meaning V H) (shown : V → Invariant) (o : Options) (source : List ℕ)
     (r : Report) : Type 0 where
   pub report : IsReportOf Spells o source r
   pub analysed : IsAnalysed m shown o (resolve report.tree) r
+  pub canonical : AreCanonical o r
   pub readable : IsReadable r
 
 -- what is said of a domain's meaning, and of the states that show its values
@@ -55,4 +62,5 @@ TellsAnalysis o P r = Over o (λ V H m shown. IsAnalysed m shown o P r)
 pub record IsAnswered (o : Options) (source : List ℕ) (r : Report) : Type 0 where
   pub report : IsReportOf Spells o source r
   pub analysed : TellsAnalysis o (resolve report.tree) r
+  pub canonical : AreCanonical o r
   pub readable : IsReadable r

@@ -1,5 +1,5 @@
 -- What each source deserves; what follows of the tree of a well-formed program, and of a report that tells an analysis.
-use Rattle.std.specs.Prelude.{◌≡◌, ◌≤◌, ◌⊎◌, ℕ, List, length, slice_get, Some}
+use Rattle.std.specs.Prelude.{◌≡◌, ◌≤◌, ◌⊎◌, ℕ, List, length, slice_get, None, Some}
 use Rattle.lra_base.specs.declared.refusals.Cause.{Cause}
 use Rattle.lra_base.specs.declared.refusals.Place.{Place}
 use Rattle.lra_tree.specs.Trees.{FileTree}
@@ -63,6 +63,11 @@ AnalysedAreReports {V} m = (shown : V → Invariant) (o : Options) (settings : O
     → (x : IsAnalysed m shown settings (resolve t) r)
     → o.domain ≡ settings.domain → 1 ≤ settings.parts → settings.parts ≤ o.parts
     → Agrees (resolve t) x.tree → Lists t r → r.options ≡ o → Accepts Spells source t → IsReportOf Spells o source r
+
+-- two answers without a flag to one source under one list of options are the same report
+abbrev pub OneUnflaggedReport : Type 0
+OneUnflaggedReport = (o : Options) (source : List ℕ) (r s : Report)
+    → IsAnswered o source r → IsAnswered o source s → r.flagged ≡ None → s.flagged ≡ None → r ≡ s
 
 -- two answers to one source under one list of options that have the same text are the same report
 abbrev pub OneAnsweredText : Type 0

@@ -20,6 +20,7 @@ use Rattle.lra_tree.specs.Reach.{NotRecursive}
 use Rattle.lra_report.specs.Spelled.{IsReadable}
 use Rattle.lra_domain.specs.Meaning.{Meaning}
 use Rattle.lra_source.specs.Analysed.{IsAnalysed}
+use Rattle.lra_source.specs.Answers.{AreCanonical}
 use Rattle.lra_source.specs.Claims.{AreFew}
 
 -- a source that isn't too long, and its tree
@@ -41,7 +42,8 @@ pub record HasGraph (t : FileTree) (tree : Node) (sites : List Site) : Type 0 wh
   pub agrees : Agrees (resolve t) tree
   pub points : sites ≡ sites_of (resolve t)
 
--- a report that lists the points of such a tree, tells what an analysis of its program found, and is told by its text
+-- a report that lists the points of such a tree, tells what an analysis of its program found, by canonical lists over
+-- polyhedra, and is told by its text
 pub record IsToldOf {V H : Type 0} (m : Meaning V H) (shown : V → Invariant) (o : Options) (t : FileTree) (r : Report)
     : Type 0 where
   pub names : name_faults t ≡ []
@@ -51,4 +53,5 @@ pub record IsToldOf {V H : Type 0} (m : Meaning V H) (shown : V → Invariant) (
   pub lists : Lists t r
   pub analysed : IsAnalysed m shown o (resolve t) r
   pub agrees : Agrees (resolve t) analysed.tree
+  pub canonical : AreCanonical o r
   pub readable : IsReadable r

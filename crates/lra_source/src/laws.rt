@@ -5,7 +5,7 @@ ghost use Rattle.lra_meaning.specs.Refuse.{OneAnswer};
 ghost use Rattle.lra_flow.specs.Linear.{FormsAreRight, TestsAreRight, DiffersIsRight};
 ghost use Rattle.lra_source.specs.Soundness.{SolvedAreSound};
 ghost use Rattle.lra_source.specs.Claims.{EachAnswer, OneAnsweredText, TreesFit, TreesAreNumbered, AnalysedAreSound};
-ghost use Rattle.lra_source.specs.Claims.{AnalysedAreReports};
+ghost use Rattle.lra_source.specs.Claims.{AnalysedAreReports, OneUnflaggedReport};
 
 use lra_domain::Domain;
 
@@ -28,6 +28,13 @@ pub fn each_answer()
 /// Two reports that answer one source under one list of options and have the same text are the same report.
 pub fn one_answered_text()
     ensures { OneAnsweredText }
+{
+    one_answer();
+}
+
+/// Two reports that answer one source under one list of options, neither of them flagged, are the same report.
+pub fn one_unflagged_report()
+    ensures { OneUnflaggedReport }
 {
     one_answer();
 }

@@ -7,7 +7,7 @@ use Rattle.lra_meaning.specs.Resolve.{resolve}
 use Rattle.lra_program.specs.Sites.{sites_of}
 use Rattle.lra_report.specs.View.{report_of}
 use Rattle.lra_listing.specs.Given.{AreVerdicts, told}
-use Rattle.lra_source.proofs.ReportSteps.{fits, small_globals, is_numbered, few_points, shown_there, states_handed, verdicts_handed, flag_handed, is_told}
+use Rattle.lra_source.proofs.ReportSteps.{fits, small_globals, is_numbered, few_points, canonical_there, shown_there, states_handed, verdicts_handed, flag_handed, is_told}
 use Rattle.lra_source.proofs.answer.report_graph.Goals as goal
 
 pub analyse-requires-clause-few : goal.analyse-requires-clause-few
@@ -63,6 +63,7 @@ returns g c =
     values c.in_ok-solution.solution.verdicts.items c.in_ok-solution.solution.flagged (map (λ x. x.items) c.in_ok-states.states.items) (report_of c.in_ok-report.report) c.requires.graph
     (c.in_ok-solution.ensures.solved (resolve (tree_view c.args.tree.now)) c.requires.globals)
     shown (shown_there g.D.Domain.meaning g.D.Show.shown o.domain g.D.Show.named values _ c.requires.named c.deref.ensures.value c.in_ok-states.ensures.told)
-    c.in_ok-states.ensures.spelled
+    c.in_ok-states.ensures.spelled g.met.D.Domain.laws
+    (canonical_there g.D.Domain.meaning.dims g.D.Show.shown o.domain g.D.Show.named values _ c.requires.named c.deref.ensures.value c.in_ok-states.ensures.canonical)
     c.in_ok-report.ensures.options c.in_ok-report.ensures.lists c.in_ok-report.ensures.states
     (c.in_ok-report.ensures.verdicts ∙ ap (map told) c.deref-2.ensures.value) c.in_ok-report.ensures.flag

@@ -1,0 +1,143 @@
+-- Two answers to one source without a flag are the same report.
+use Rattle.std.proofs.Common.{◌≡◌, ◌∙◌, ℕ, zero, suc, List, [], ◌∷◌, map, Option, None, Some, Bool, refl, sym, ap, subst, inl, inr}
+use Rattle.std.specs.Prelude.{option_map}
+use Rattle.std.specs.List.{Contains}
+use Rattle.std.proofs.lemmas.Option.{none-some}
+use Rattle.lra_linear.proofs.Membership.{contains_head, contains_tail, contains_cases, contains_none}
+use Rattle.lra_domain.specs.Laws.{SingleLaws, PlainLaws}
+use Rattle.lra_box.specs.Laws.{box_single, box_plain}
+use Rattle.lra_oct.specs.Single.{octagon_single}
+use Rattle.lra_oct.specs.Laws.{octagon_plain}
+use Rattle.lra_polydom.specs.Laws.{polyhedron_single, polyhedron_plain}
+use Rattle.lra_set.specs.Content.{Parts, Head}
+use Rattle.lra_set.specs.Meaning.{set_meaning}
+use Rattle.lra_set.specs.Single.{set_single}
+use Rattle.lra_states.specs.Sets.{shown_set}
+use Rattle.lra_meaning.specs.LiveNames.{globals_named}
+use Rattle.lra_program.specs.Assertions.{assertions_from}
+use Rattle.lra_base.specs.declared.options.Domain.{Domain}
+use Rattle.lra_base.specs.declared.options.Domain.TheVariants.{Poly, Box, Oct}
+use Rattle.lra_domain.specs.Meaning.{Meaning}
+use Rattle.lra_tree.specs.Trees.{FileTree}
+use Rattle.lra_tree.specs.Labels.{Labelled, labels_of}
+use Rattle.lra_tree.specs.Grammar.{Spells}
+use Rattle.lra_meaning.specs.Refuse.{OneAnswer}
+use Rattle.lra_meaning.specs.Resolve.{resolve}
+use Rattle.lra_program.specs.Program.{Program}
+use Rattle.lra_program.specs.Sites.{Site, sites_of}
+use Rattle.lra_base.specs.declared.options.Options.{Options}
+use Rattle.lra_findings.specs.Report.{Invariant, PointReport, Report, Verdict}
+use Rattle.lra_report.specs.Listing.{AreListed, AreJudged, Lists, listed_point, listed_verdict}
+use Rattle.lra_listing.specs.Given.{told, told_of, state_of}
+use Rattle.lra_operations.specs.Graph.{Node}
+use Rattle.lra_flow.specs.Analysis.{Written}
+use Rattle.lra_flow.proofs.OneTree.{one_tree}
+use Rattle.lra_iter.proofs.OneSolution.{one_solution}
+use Rattle.lra_source.specs.Analysed.{IsAnalysed}
+use Rattle.lra_source.specs.Answers.{Saying, AloneOrSets, OverDomain, TellsAnalysis}
+use Rattle.lra_source.specs.Claims.{OneUnflaggedReport}
+use Rattle.lra_source.proofs.Numbering.{numbered}
+
+-- the points that are listed of the same sites with the same states
+same_points : (outside : List (List ℕ)) (ls : List Labelled) (n : ℕ) (T : List Site) (ps qs : List PointReport) → AreListed outside ls n T ps → AreListed outside ls n T qs
+    → map state_of ps ≡ map state_of qs → ps ≡ qs
+same_points outside ls n [] [] [] a b s = refl
+same_points outside ls n [] [] (q ∷ qs) a b s = absurd b
+same_points outside ls n [] (p ∷ ps) qs a b s = absurd a
+same_points outside ls n (t ∷ T) [] qs a b s = absurd a
+same_points outside ls n (t ∷ T) (p ∷ ps) [] a b s = absurd b
+same_points outside ls n (t ∷ T) (p ∷ ps) (q ∷ qs) a b s =
+    let one : p.state ≡ q.state = ap (λ (l : List Invariant). head_or l p.state) s in
+    let head : p ≡ q = a.0 ∙ ap (listed_point outside ls n t) one ∙ sym b.0 in
+    let tail : ps ≡ qs = same_points outside ls (suc n) T ps qs a.2 b.2 (ap rest_of s) in
+    rw (head, tail) refl
+  where
+    head_or : List Invariant → Invariant → Invariant
+    head_or [] d = d
+    head_or (x ∷ xs) d = x
+
+    rest_of : List Invariant → List Invariant
+    rest_of [] = []
+    rest_of (x ∷ xs) = xs
+
+-- the verdicts on the same assertions that say the same of each number
+same_verdicts : (ls : List Labelled) (xs : List (ℕ × Site)) (vs ws : List Verdict) → AreJudged ls xs vs → AreJudged ls xs ws
+    → ((n : ℕ) (a b : Bool) → Contains (map told_of vs) (n, a) → Contains (map told_of ws) (n, b) → a ≡ b) → vs ≡ ws
+same_verdicts ls [] [] [] a b same = refl
+same_verdicts ls [] [] (w ∷ ws) a b same = absurd b
+same_verdicts ls [] (v ∷ vs) ws a b same = absurd a
+same_verdicts ls (x ∷ xs) [] ws a b same = absurd a
+same_verdicts ls (x ∷ xs) (v ∷ vs) [] a b same = absurd b
+same_verdicts ls (x ∷ xs) (v ∷ vs) (w ∷ ws) a b same =
+    let number : w.number ≡ v.number = ap (λ (u : Verdict). u.number) b.0 ∙ sym (ap (λ (u : Verdict). u.number) a.0) in
+    let one : v.proved ≡ w.proved = same v.number v.proved w.proved (contains_head (told_of v) (map told_of vs))
+    (subst (λ n. Contains (map told_of (w ∷ ws)) (n, w.proved)) number (contains_head (told_of w) (map told_of ws))) in
+    let head : v ≡ w = a.0 ∙ ap (listed_verdict ls x.0 x.1) one ∙ sym b.0 in
+    let tail : vs ≡ ws = same_verdicts ls xs vs ws a.1 b.1 (λ n c d i j. same n c d (contains_tail (told_of v) (n, c) (map told_of vs) i) (contains_tail (told_of w) (n, d) (map told_of ws) j)) in
+    rw (head, tail) refl
+
+-- a verdict that is told is one of those that were found
+found_told : (vs : List (ℕ × Bool)) (n : ℕ) (b : Bool) → Contains (map told vs) (n, b) → (q : ℕ) × (n ≡ suc q) × Contains vs (q, b)
+found_told [] n b h = absurd (contains_none (n, b) h)
+found_told (v ∷ vs) n b h = elim (contains_cases (told v) (n, b) (map told vs) h) [
+  | inl is ↦
+      let last : v.1 ≡ b = ap (λ (t : ℕ × Bool). t.1) is in
+      let has : Contains (v ∷ vs) (v.0, v.1) = contains_head v vs in
+      (v.0, sym (ap (λ (t : ℕ × Bool). t.0) is), subst (λ (c : Bool). Contains (v ∷ vs) (v.0, c)) last has)
+  | inr later ↦ let (q, is, has) = found_told vs n b later in (q, is, contains_tail v (q, b) vs has)
+]
+
+one_flag : (f : Option ℕ) (told : Option ℕ) → told ≡ option_map suc f → told ≡ None → f ≡ None
+one_flag None told is none = refl
+one_flag (Some q) told is none = absurd (none-some _ (sym none ∙ is))
+
+-- two reports that tell the written iteration of one program show the same states, and the same of each assertion
+pub record SayTheSame (r s : Report) : Type 0 where
+  pub states : map state_of r.points ≡ map state_of s.points
+  pub verdicts : (n : ℕ) (a b : Bool) → Contains (map told_of r.verdicts) (n, a) → Contains (map told_of s.verdicts) (n, b) → a ≡ b
+
+pub one_analysis : {V H : Type 0} (m : Meaning V H) → SingleLaws m → (shown : V → Invariant) (o : Options) (P : Program) (r s : Report) → IsAnalysed m shown o P r → IsAnalysed m shown o P s
+    → r.flagged ≡ None → s.flagged ≡ None → SayTheSame r s
+one_analysis m laws shown o P r s a b e f =
+    let tree : b.tree ≡ a.tree = one_tree P b.tree a.tree b.is_graph a.is_graph in
+    let first : Written m o P a.tree a.result = a.written (one_flag a.flagged r.flagged a.flag e) in
+    let second : Written m o P a.tree b.result = subst (λ (g : Node). Written m o P g b.result) tree (b.written (one_flag b.flagged s.flagged b.flag f)) in
+    let one = one_solution m laws o P a.tree a.result b.result a.values b.values a.verdicts b.verdicts a.flagged b.flagged (numbered P a.tree a.is_graph) first second a.solves b.solves in
+    record {
+      states = a.states ∙ ap (map shown) one.0 ∙ sym b.states;
+      verdicts = λ n c d i j.
+          let (p, is, has) = found_told a.verdicts n c (subst (λ l. Contains l (n, c)) a.proved i) in
+          let (q, same, in_second) = found_told b.verdicts n d (subst (λ l. Contains l (n, d)) b.proved j) in
+          let equal : q ≡ p = cc in
+          one.1 p c d has (subst (λ k. Contains b.verdicts (k, d)) equal in_second);
+    }
+
+-- what follows of two things that are said of each domain with one value of each definition follows of those that are said
+-- over the options
+module _ (a b : Saying) (X : Type 0) (follows : (V H : Type 0) (m : Meaning V H) (shown : V → Invariant) → SingleLaws m → a V H m shown → b V H m shown → X) where
+  by_number : (n : ℕ) (V H : Type 0) (m : Meaning V H) (shown : V → Invariant) → SingleLaws m → PlainLaws m → AloneOrSets n a V H m shown → AloneOrSets n b V H m shown → X
+  by_number zero V H m shown l p h k = follows V H m shown l h k
+  by_number (suc zero) V H m shown l p h k = follows V H m shown l h k
+  by_number (suc (suc n)) V H m shown l p h k = follows (Parts V) (Head V H) (set_meaning m) (shown_set shown) (set_single m l p) h k
+
+  by_domain : (d : Domain) (n : ℕ) → OverDomain d (AloneOrSets n a) → OverDomain d (AloneOrSets n b) → X
+  by_domain Poly n h k = by_number n _ _ _ _ polyhedron_single polyhedron_plain h k
+  by_domain Box n h k = by_number n _ _ _ _ box_single box_plain h k
+  by_domain Oct n h k = by_number n _ _ _ _ octagon_single octagon_plain h k
+
+pub one_unflagged : OneAnswer Spells → OneUnflaggedReport
+one_unflagged one o source r s x y e f =
+    let t = x.report.tree in
+    let tree : y.report.tree ≡ t = (one source).0 y.report.tree t y.report.accepted x.report.accepted in
+    let other : TellsAnalysis o (resolve t) s = subst (λ (u : FileTree). TellsAnalysis o (resolve u) s) tree y.analysed in
+    let same : SayTheSame r s = by_domain (λ V H m shown. IsAnalysed m shown o (resolve t) r) (λ V H m shown. IsAnalysed m shown o (resolve t) s) (SayTheSame r s)
+    (λ V H m shown l a b. one_analysis m l shown o (resolve t) r s a b e f) o.domain o.parts x.analysed other in
+    let lists : Lists t s = subst (λ (u : FileTree). Lists u s) tree y.report.lists in
+    let points : r.points ≡ s.points = same_points (globals_named t.parts) (labels_of t) 1 (sites_of (resolve t)) r.points s.points x.report.lists.points lists.points same.states in
+    let verdicts : r.verdicts ≡ s.verdicts = same_verdicts (labels_of t) (assertions_from 1 (sites_of (resolve t))) r.verdicts s.verdicts x.report.lists.verdicts lists.verdicts same.verdicts in
+    one_record r s (x.report.options ∙ sym y.report.options) (e ∙ sym f) points verdicts
+  where
+    one_record : (r s : Report) → r.options ≡ s.options → r.flagged ≡ s.flagged → r.points ≡ s.points → r.verdicts ≡ s.verdicts → r ≡ s
+    one_record r s a b c d =
+        let is : record { options = r.options; flagged = r.flagged; points = r.points; verdicts = r.verdicts }
+        ≡ record { options = s.options; flagged = s.flagged; points = s.points; verdicts = s.verdicts } = rw (a, b, c, d) refl in is
