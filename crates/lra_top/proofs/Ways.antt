@@ -1,5 +1,5 @@
 -- From what words and their input deserve to what a call of `run` does.
-use Rattle.std.proofs.Common.{◌≡◌, ◌≤◌, ◌<◌, ◌+◌, ℕ, List, [], ◌++◌, length, refl, sym, arith, append-nil, subst, Bool, inl, inr}
+use Rattle.std.proofs.Common.{◌≡◌, ◌≤◌, ◌<◌, ◌+◌, ℕ, List, [], ◌++◌, length, refl, sym, arith, append-nil, subst, Bool, inl, inr, ◌⊎◌}
 use Rattle.std.specs.Prelude.{Option, Some, None, Result, Ok, Err, IfOk}
 use Rattle.std.specs.Io.KnownBytes.{Consumes, IsAtEnd}
 use Rattle.lra_base.specs.declared.options.Options.{Options}
@@ -14,14 +14,16 @@ use Rattle.lra_calc.specs.Script as script
 use Rattle.lra_sample.specs.Sample.{sample_source}
 use Rattle.lra_sample.specs.Summary.{summary_text}
 use Rattle.lra_sample.proofs.Samples.{accepted as all_accepted}
-use Rattle.lra_words.specs.Chosen.{Asks, AsksNone, AsksFor, default_options}
+use Rattle.lra_words.specs.Chosen.{Asks, AsksNone, IsUntaken, AsksFor, default_options}
 use Rattle.lra_words.specs.declared.chosen.Command.{Command}
 use Rattle.lra_words.specs.declared.chosen.Command.TheVariants.{Analyse, Sample, Calc}
 use Rattle.lra_words.proofs.OneCommand.{one_asked, asks_not_none, asks_within}
 use Rattle.lra_top.specs.SourceAnswer.{IsTooLong, IsUnrefused, written_report}
 use Rattle.lra_top.specs.SampleAnswer.{DeservesSample}
 use Rattle.lra_top.proofs.Answering.{IsAnswer}
-use Rattle.lra_top.specs.Ends.{EndsInUsage, EndsInRefusal, EndsInReport, EndsBySource, EndsInOutput, IsReportOrMemory, IsOutputOrMemory}
+use Rattle.lra_top.specs.Ends.{EndsInUsage, EndsInRefusal, EndsInReport, EndsBySource, EndsInOutput, EndsInSummary}
+use Rattle.lra_top.specs.Ends.{IsReportOrMemory, IsOutputOrMemory}
+use Rattle.lra_top.specs.ScriptAnswer.{DeservesScript}
 use Rattle.lra_top.specs.Run.{IsInput, usage_text, Reads, AsksReader, AsksNoReader, DeservesInput, Deserves, IsDeserved, ReadsInput}
 use Rattle.lra_top.specs.Prepared.{IsInputText}
 use Rattle.lra_top.proofs.SourceWays.{longer_source, source_answer, source_refused, source_reported, source_ended, source_unrefused, source_too_long}
@@ -142,15 +144,15 @@ pub reads_asked : {T E : Type 0} (words : List (List ℕ)) (asked : Option Comma
 reads_asked words asked c (Ok t) old new asks is read = λ d other reads. read (subst Reads (one_asked words d c other (subst (AsksFor words) is asks)) reads)
 reads_asked words asked c (Err e) old new asks is read = tt
 
-pub none_asked : (words : List (List ℕ)) (asked : Option Command) → AsksFor words asked → asked ≡ None → AsksNone words
-none_asked words asked asks is = let h : AsksNone words = subst (AsksFor words) is asks in h
+pub none_asked : (words : List (List ℕ)) (asked : Option Command) → AsksFor words asked → asked ≡ None → AsksNone words × IsUntaken words
+none_asked words asked asks is = let h : AsksNone words × IsUntaken words = subst (AsksFor words) is asks in h
 
 -- words that ask for none
 pub deserved_usage : (words : List (List ℕ)) (left : Option (List ℕ)) (text : List ℕ) (status : Status)
-    → AsksNone words → text ≡ usage_text → status ≡ Usage → IsDeserved words left text status
+    → AsksNone words × IsUntaken words → text ≡ usage_text → status ≡ Usage → IsDeserved words left text status
 deserved_usage words left text status none written s =
     let (bytes, input) = some_input left in
-    rw s (record { bytes = bytes; input = input; deserved = (none, written) })
+    rw s (record { bytes = bytes; input = input; deserved = (none.0, none.1, written) })
 
 pub ruleset preparing = (deserved_asked, deserved_usage)
 
@@ -225,6 +227,38 @@ pub sample_status : (words : List (List ℕ)) (left : Option (List ℕ)) (text :
 sample_status words left text status seed size d asks =
     let (tree, accepted) = all_accepted seed size (asks_within words (Sample seed size) asks) in
     source_reported default_options (summary_text seed size) (sample_source seed size) text status tree (sample_asked words left text status seed size d asks) accepted
+
+-- and reads nothing
+summarised : (words : List (List ℕ)) (bytes text : List ℕ) (status : Status) → Deserves words bytes text status → EndsInReport status → EndsInSummary status
+summarised words bytes text Proved d r = tt
+summarised words bytes text Unknown d r = tt
+summarised words bytes text Refused d r = r
+summarised words bytes text Usage d r = r
+summarised words bytes text ReadFault d r = d
+summarised words bytes text WriteFault d r = tt
+summarised words bytes text Memory d r = tt
+
+pub summary_status : (words : List (List ℕ)) (left : Option (List ℕ)) (text : List ℕ) (status : Status) (seed size : ℕ)
+    → IsDeserved words left text status → Asks words (Sample seed size) → EndsInSummary status
+summary_status words left text status seed size d asks =
+    summarised words d.bytes text status d.deserved (sample_status words left text status seed size d asks)
+
+pub sample_unread : (words : List (List ℕ)) (seed size : ℕ) → Asks words (Sample seed size) → AsksReader words → ⊥
+sample_unread words seed size asks (c, other, reads) = subst Reads (one_asked words c (Sample seed size) other asks) reads
+
+-- a script is refused or runs whole
+script_ends : (bytes text : List ℕ) (status : Status) → DeservesScript bytes text status → EndsInRefusal status ⊎ EndsInOutput status
+script_ends bytes text Proved d = inr tt
+script_ends bytes text Unknown d = absurd d
+script_ends bytes text Refused d = inl tt
+script_ends bytes text Usage d = absurd d
+script_ends bytes text ReadFault d = inl tt
+script_ends bytes text WriteFault d = inl tt
+script_ends bytes text Memory d = inl tt
+
+pub each_script_status : (words : List (List ℕ)) (left : Option (List ℕ)) (text : List ℕ) (status : Status) → IsDeserved words left text status
+    → Asks words Calc → EndsInRefusal status ⊎ EndsInOutput status
+each_script_status words left text status d asks = script_ends d.bytes text status (asked_input words d.bytes text status Calc asks d.deserved)
 
 -- no text is there
 pub no_text : (told : List ℕ) (status : Status) → EndsInRefusal status → EndsInReport status → EndsBySource told status

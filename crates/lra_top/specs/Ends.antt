@@ -35,6 +35,16 @@ EndsInReport ReadFault = Unit {0}
 EndsInReport WriteFault = Unit {0}
 EndsInReport Memory = Unit {0}
 
+-- a summary of a report is the text, if there is one: no input is read
+abbrev pub EndsInSummary : Status → Type 0
+EndsInSummary Proved = Unit {0}
+EndsInSummary Unknown = Unit {0}
+EndsInSummary Refused = ⊥
+EndsInSummary Usage = ⊥
+EndsInSummary ReadFault = ⊥
+EndsInSummary WriteFault = Unit {0}
+EndsInSummary Memory = Unit {0}
+
 -- the source is refused, and its refusal is the text; or it is accepted, and a report is; if there is a text
 abbrev pub EndsBySource : List ℕ → Status → Type 0
 EndsBySource source status = (HasRefusal source × EndsInRefusal status) ⊎ (IsAccepted source × EndsInReport status)

@@ -4,7 +4,7 @@ use Rattle.std.specs.Io.KnownBytes.{Appends, Consumes, IsAtEnd}
 use Rattle.lra_edge.specs.Causes.{AppendsPart}
 use Rattle.lra_findings.specs.ReportText.{text_line}
 use Rattle.lra_tree.specs.Tokens.{greatest_length}
-use Rattle.lra_words.specs.Chosen.{Asks, AsksNone}
+use Rattle.lra_words.specs.Chosen.{Asks, AsksNone, IsUntaken}
 use Rattle.lra_words.specs.declared.chosen.Command.{Command}
 use Rattle.lra_words.specs.declared.chosen.Command.TheVariants.{Analyse, Sample, Calc}
 use Rattle.lra_top.specs.SourceAnswer.{DeservesSource, written_report}
@@ -53,7 +53,7 @@ abbrev pub Deserves : List (List ℕ) → List ℕ → List ℕ → Status → T
 Deserves words bytes text Proved = DeservesCommand words bytes text Proved
 Deserves words bytes text Unknown = DeservesCommand words bytes text Unknown
 Deserves words bytes text Refused = DeservesCommand words bytes text Refused
-Deserves words bytes text Usage = AsksNone words × (text ≡ usage_text)
+Deserves words bytes text Usage = AsksNone words × IsUntaken words × (text ≡ usage_text)
 Deserves words bytes text ReadFault = ⊥
 Deserves words bytes text WriteFault = ⊥
 Deserves words bytes text Memory = ⊥

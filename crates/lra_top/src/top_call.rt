@@ -1,5 +1,5 @@
 // The top call.
-ghost use Rattle.std.specs.Prelude.{◌≡◌, ◌≢◌, ◌≤◌, ◌<◌, ◌+◌, ◌^◌, ℕ, Bool, List, length, map, string_bytes, IfOk};
+ghost use Rattle.std.specs.Prelude.{◌≡◌, ◌≢◌, ◌≤◌, ◌<◌, ◌+◌, ◌^◌, ◌⊎◌, ℕ, Bool, List, length, map, string_bytes, IfOk};
 ghost use Rattle.std.specs.Prelude.{IsErrOf, Some, Ok, Err};
 ghost use Rattle.std.specs.Io.KnownBytes.{Appends, Keeps};
 ghost use Rattle.lra_edge.specs.Causes.{Rose};
@@ -7,7 +7,7 @@ ghost use Rattle.lra_edge.specs.ReadEnd.{LosesFront};
 ghost use Rattle.lra_calc.specs.Script as script;
 ghost use Rattle.lra_words.specs.declared.chosen.Command.{Command};
 ghost use Rattle.lra_words.specs.declared.chosen.Command.TheVariants.{Analyse, Sample, Calc};
-ghost use Rattle.lra_words.specs.Chosen.{Asks, AsksNone, IsWithinRanges};
+ghost use Rattle.lra_words.specs.Chosen.{Asks, AsksNone, IsUntaken, IsWithinRanges};
 ghost use Rattle.lra_base.specs.declared.options.Options.{Options};
 ghost use Rattle.lra_base.specs.declared.refusals.Cause.{Cause};
 ghost use Rattle.lra_base.specs.declared.refusals.Place.{Place};
@@ -18,9 +18,10 @@ ghost use Rattle.lra_meaning.specs.Refuse.{Refuse, Accepts};
 ghost use Rattle.lra_top.specs.SourceAnswer.{IsTooLong, IsUnrefused, written_report};
 ghost use Rattle.lra_top.specs.ScriptAnswer.{DeservesScript};
 ghost use Rattle.lra_top.specs.Run.{usage_text, Reads, AsksReader, AsksNoReader, DeservesInput, IsDeserved, Writes};
+ghost use Rattle.lra_edge.specs.Causes.{AppendsPart};
 ghost use Rattle.lra_top.specs.Run.{WritesPart, ReadsInput};
 ghost use Rattle.lra_top.specs.Ends.{EndsInUsage, EndsInRefusal, EndsInReport, EndsBySource, EndsInOutput};
-ghost use Rattle.lra_top.specs.Ends.{IsReportOrMemory, IsOutputOrMemory};
+ghost use Rattle.lra_top.specs.Ends.{EndsInSummary, IsReportOrMemory, IsOutputOrMemory};
 ghost use Rattle.lra_top.specs.Headline.{IsReported, WritesReport, HoldsInAllRuns, IsWrittenUnlessFlagged};
 ghost use Rattle.lra_top.specs.Headline.{TellsSamePoints, WritesSummary};
 ghost use Rattle.lra_top.specs.Prepared.{IsInputText, PrepareCause};
@@ -205,7 +206,8 @@ pub fn run<S: Source, K: Sink>(
     ensures nothing_stored { result ≡ Status.Memory → Keeps (K.held sink.old) (K.held sink.new) }
 
     // Usage: exactly where the words ask for no command.
-    ensures usage { result ≡ Status.Usage → AsksNone (map string_bytes words.now) }
+    ensures usage { result ≡ Status.Usage →
+        AsksNone (map string_bytes words.now) × IsUntaken (map string_bytes words.now) }
     ensures untaken { AsksNone (map string_bytes words.now) → EndsInUsage result }
     // Nothing is read then, nor for a sample.
     ensures unread { AsksNoReader (map string_bytes words.now) → S.left source.new ≡ S.left source.old }
@@ -229,9 +231,11 @@ pub fn run<S: Source, K: Sink>(
     ensures each_source { (options : Options) (json : Bool) →
         Asks (map string_bytes words.now) (Analyse options json) →
         (bytes : List ℕ) → S.left source.old ≡ Some bytes → EndsBySource bytes result }
-    // A sample's source is accepted.
+    // A sample's source is accepted, and nothing is read.
     ensures sample_reported { (seed size : ℕ) → Asks (map string_bytes words.now) (Sample seed size) →
-        EndsInReport result }
+        EndsInSummary result }
+    // Each script is refused or runs whole.
+    ensures each_script { Asks (map string_bytes words.now) Calc → EndsInRefusal result ⊎ EndsInOutput result }
     ensures script_refused { Asks (map string_bytes words.now) Calc → (bytes : List ℕ) →
         S.left source.old ≡ Some bytes → script.NeverRuns bytes → EndsInRefusal result }
     ensures script_ran { Asks (map string_bytes words.now) Calc → (bytes : List ℕ) → S.left source.old ≡ Some bytes →
@@ -269,7 +273,8 @@ pub fn run<S: Source, K: Sink>(
         (Rose (S.faults source.old) (S.faults source.new) → ⊥) → (Rose (K.faults sink.old) (K.faults sink.new) → ⊥) →
         IsOutputOrMemory result }
     ensures room { ((text : List ℕ) (status : _) →
-        IsDeserved (map string_bytes words.now) (S.left source.old) text status → length text ≤ K.spare sink.old) →
+        IsDeserved (map string_bytes words.now) (S.left source.old) text status →
+        AppendsPart (K.held sink.old) (K.held sink.new) text → length text ≤ K.spare sink.old) →
         result ≢ Status.WriteFault }
 {
     let answer = match prepare(alloc, words, source) {

@@ -26,4 +26,4 @@ returns-in_ok-refuse_words-in-None-clause-deserved g c =
 
 pub returns-in_ok-refuse_words-in-None-clause-reads : goal.returns-in_ok-refuse_words-in-None-clause-reads
 returns-in_ok-refuse_words-in-None-clause-reads g c = λ command asks reads.
-    absurd (asks_not_none (map string_bytes c.args.words.now) command asks (none_asked (map string_bytes c.args.words.now) _ c.in_ok-command.ensures.asks c.in-None.is))
+    absurd (asks_not_none (map string_bytes c.args.words.now) command asks (none_asked (map string_bytes c.args.words.now) _ c.in_ok-command.ensures.asks c.in-None.is).0)

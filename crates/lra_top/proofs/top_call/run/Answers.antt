@@ -1,10 +1,12 @@
 -- Goals of `run`: `words` has the program's name first.
-use Rattle.std.proofs.Common.{◌<◌, ◌≤◌, length, arith, rules}
+use Rattle.std.proofs.Common.{◌<◌, ◌≤◌, length, map, arith, inl, rules}
+use Rattle.std.specs.Prelude.{string_bytes}
 use Rattle.std.specs.Io.KnownBytes.{Appends}
+use Rattle.lra_edge.specs.Causes.{AppendsPart}
 use Rattle.std.proofs.lemmas.Grind.{common_steps}
 use Rattle.lra_top.specs.declared.status.Status.TheVariants as status
-use Rattle.lra_top.proofs.Ways.{too_long_status, refused_status, accepted_status, source_status, sample_status, no_text, complete_status, complete_sample_status, script_refused_status, script_status}
-use Rattle.lra_top.proofs.Ways.{complete_script_status}
+use Rattle.lra_top.proofs.Ways.{too_long_status, refused_status, accepted_status, source_status, each_script_status, sample_unread, summary_status, no_text, complete_status, complete_sample_status, complete_script_status}
+use Rattle.lra_top.proofs.Ways.{script_refused_status, script_status}
 use Rattle.lra_top.specs.Headline.{HoldsInAllRuns, IsWrittenUnlessFlagged, TellsSamePoints}
 use Rattle.lra_top.proofs.Headline.{holds, is_written, same_points, writes_report, writes_summary}
 use Rattle.lra_top.proofs.top_call.run.Goals as goal
@@ -38,7 +40,23 @@ pub returns-clause-each_source : goal.returns-clause-each_source
 returns-clause-each_source g c = λ options json asks bytes tells. no_text bytes status.WriteFault tt tt
 
 pub returns-in-Ok-write_whole-clause-sample_reported : goal.returns-in-Ok-write_whole-clause-sample_reported
-returns-in-Ok-write_whole-clause-sample_reported g c = λ seed size asks. sample_status _ _ _ c.in-Ok.answer.status seed size c.in-Ok.ensures.deserved asks
+returns-in-Ok-write_whole-clause-sample_reported g c = λ seed size asks. summary_status _ _ _ c.in-Ok.answer.status seed size c.in-Ok.ensures.deserved asks
+
+pub returns-in-Err-ReadFault-clause-sample_reported : goal.returns-in-Err-ReadFault-clause-sample_reported
+returns-in-Err-ReadFault-clause-sample_reported g c = λ seed size asks.
+    sample_unread (map string_bytes c.args.words.now) seed size asks (c.in-Err-ReadFault.ensures.taken (search rules))
+
+pub returns-in-Ok-write_whole-clause-each_script : goal.returns-in-Ok-write_whole-clause-each_script
+returns-in-Ok-write_whole-clause-each_script g c = λ asks. each_script_status _ _ _ c.in-Ok.answer.status c.in-Ok.ensures.deserved asks
+
+pub returns-in-Err-ReadFault-clause-each_script : goal.returns-in-Err-ReadFault-clause-each_script
+returns-in-Err-ReadFault-clause-each_script g c = λ asks. inl tt
+
+pub returns-in-Err-Memory-clause-each_script : goal.returns-in-Err-Memory-clause-each_script
+returns-in-Err-Memory-clause-each_script g c = λ asks. inl tt
+
+pub returns-clause-each_script : goal.returns-clause-each_script
+returns-clause-each_script g c = λ asks. inl tt
 
 pub returns-in-Ok-write_whole-clause-complete_sample : goal.returns-in-Ok-write_whole-clause-complete_sample
 returns-in-Ok-write_whole-clause-complete_sample g c = λ seed size asks unread unwritten.
@@ -63,7 +81,8 @@ returns-in-Ok-write_whole-clause-complete_script g c = λ asks bytes tells never
 pub returns-clause-room : goal.returns-clause-room
 returns-clause-room g c = λ fits failed.
     let longer : g.K.Sink.spare c.args.sink.now < length c.in-Ok.answer.text.items = grind (arith, common_steps) in
-    let short : length c.in-Ok.answer.text.items ≤ g.K.Sink.spare c.args.sink.now = fits _ _ c.in-Ok.ensures.deserved in
+    let part : AppendsPart (g.K.Sink.held c.args.sink.now) (g.K.Sink.held c.write_whole.new.sink) c.in-Ok.answer.text.items = search rules in
+    let short : length c.in-Ok.answer.text.items ≤ g.K.Sink.spare c.args.sink.now = fits _ _ c.in-Ok.ensures.deserved part in
     omega arith
 
 pub returns-in-Ok-write_whole-clause-holds : goal.returns-in-Ok-write_whole-clause-holds
