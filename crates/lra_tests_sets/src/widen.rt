@@ -67,7 +67,7 @@ fn ranks(alloc: Global, case: &Case) -> Result<[(u64, u64, u64); 2], Unfit> {
     let line = set_of(alloc, HALF_LINE)?;
     let wide = set_of(alloc, case.wide)?;
     let given = list_of(alloc, case.given)?;
-    Ok([rank(alloc, &line, &given)?, rank(alloc, &wide, &given)?])
+    Ok([rank(&line, &given), rank(&wide, &given)])
 }
 
 fn are_widened(rt: &impl Abort, alloc: Global, cases: &[Case]) {
