@@ -26,7 +26,8 @@ on_excess P Q (Excess e) f h = f e h
 on_excess P Q Memory f h = tt
 
 -- at one of the rows
-pub some_passes : {K : Type 0} {A : Type 0} (equal : K → Bool) (check : List ℤ → Result A E.Excess) (rows seen : List (List ℤ)) (kinds also : List K) (place : ℕ) (r : List ℤ) (k : K) (error : RowError) →
+pub some_passes : {K : Type 0} {A : Type 0} (equal : K → Bool) (check : List ℤ →
+    Result A E.Excess) (rows seen : List (List ℤ)) (kinds also : List K) (place : ℕ) (r : List ℤ) (k : K) (error : RowError) →
     seen ≡ rows → also ≡ kinds → length also ≡ length rows → place < length seen → r ≡ get_or seen place r → IsExcessOf (check r) error →
     OnExcess (λ e. (g : Given) × Contains (given_by equal rows kinds) g × (check g.row ≡ Err e)) error
 some_passes equal check rows seen kinds also place r k Memory er ek n low is x = tt

@@ -120,7 +120,8 @@ pub take_short : (n most : ℕ) (xs : List Given) → length xs ≤ n → n ≤ 
 take_short n most xs h m = take_all n xs h ∙ sym (take_all most xs (omega (arith, h, m)))
 
 -- all of them, where they are fewer
-pub all_first : (at count : ℕ) (list : Listed ConKind) (rows : List (List ℤ)) (kinds : List ConKind) → rows ≡ list.rows → kinds ≡ list.kinds → length kinds ≡ length list.rows → count ≤ at → at ≤ count →
+pub all_first : (at count : ℕ) (list : Listed ConKind) (rows : List (List ℤ)) (kinds : List ConKind) → rows ≡ list.rows → kinds ≡ list.kinds → length kinds ≡ length list.rows → count ≤ at →
+    at ≤ count →
     count ≡ length rows → length rows ≤ most_kept → take at (constraints list) ≡ take most_kept (constraints list)
 all_first at count list rows kinds er ek n low high is few =
     let many : length (constraints list) ≡ length list.rows = given_length is_equality list.rows list.kinds (sym n ∙ ap length ek) in

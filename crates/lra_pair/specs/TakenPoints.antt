@@ -14,8 +14,8 @@ use Rattle.lra_descriptions.specs.ShownLists.{ShowsConstraints, ShowsValid}
 use Rattle.lra_pair.specs.TriedRows.{IsOfTried, OwnListStrains}
 
 -- The list's constraints hold at the points of the generators: they are those of the cone, after a loss each of its
--- lines and rays that is seen to be valid on all generators. What was lost strains; without a loss all of the generators
--- were taken in.
+-- lines and rays that is seen to be valid on all generators. What was lost strains; without a loss all of the
+-- generators were taken in.
 pub record AreTaken (n : ℕ) (given : List Given) (list : Listed ConKind) (cone : Shape)
     (losses : List Loss) : Type 0 where
   pub list_dims : list.dims ≡ n

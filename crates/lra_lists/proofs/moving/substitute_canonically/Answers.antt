@@ -49,6 +49,7 @@ pub returns-in_err-own-clause-excess : goal.returns-in_err-own-clause-excess
 returns-in_err-own-clause-excess c =
     let parts = c.in_ok-parts.parts in
     let p = err_from_is_err_and c.from_residual-in_err-own.result c.from_residual-in_err-own.ensures.1 in
-    let f = substitution_canonical c.args.column c.args.form.now (constraints c.args.list.now) parts.lines.items parts.rays.items c.in_err-own.field-0.0 c.in_ok-parts.ensures.lines c.in_ok-parts.ensures.rays
+    let f = substitution_canonical c.args.column c.args.form.now (constraints c.args.list.now) parts.lines.items parts.rays.items c.in_err-own.field-0.0 c.in_ok-parts.ensures.lines
+    c.in_ok-parts.ensures.rays
     c.in_err-own.ensures.excess in
     rw (p.1, p.2) f

@@ -25,6 +25,7 @@ returns-in_err-row-clause-excess c =
     let list = c.args.list.now in
     let many : length c.kinds-kinds.result.now ≡ length list.rows = c.kinds-kinds.ensures.len in
     let p = err_from_is_err_and c.from_residual.result c.from_residual.ensures.1 in
-    let f = some_passes is_equality (checked_substitution c.args.column c.args.form.now) list.rows c.rows-rows.result.now list.kinds c.kinds-kinds.result.now c.loop-place.place c.index-rows-place.result Ge
+    let f = some_passes is_equality (checked_substitution c.args.column c.args.form.now) list.rows c.rows-rows.result.now list.kinds c.kinds-kinds.result.now c.loop-place.place
+    c.index-rows-place.result Ge
     c.in_err-row.field-0.0 c.rows-rows.ensures.rows c.kinds-kinds.ensures.kinds many c.loop-place-test.true c.index-rows-place.is c.in_err-row.ensures.excess in
     rw (p.1, p.2) f
