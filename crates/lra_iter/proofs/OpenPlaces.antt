@@ -1,5 +1,5 @@
 -- Places that are open: one more and one less of them, and what comes next at rows, choices and catches.
-use Rattle.std.proofs.Common.{◌≡◌, ◌≤◌, ◌^◌, true, false, ℕ, List, [], ◌∷◌, ◌++◌, map, Option, Some, refl, sym, ap, subst, ◌∙◌}
+use Rattle.std.proofs.Common.{Box, Global, ◌≡◌, ◌≤◌, ◌^◌, true, false, ℕ, List, [], ◌∷◌, ◌++◌, map, Option, Some, refl, sym, ap, subst, ◌∙◌}
 use Rattle.std.specs.Prelude.{option_to_list, IfOk, MatchResult, OnOk}
 use Rattle.std.specs.Prelude as outcome_or
 use Rattle.lra_domain.specs.Meaning.{Meaning}
@@ -265,16 +265,22 @@ module _ {V H : Type 0} (m : Meaning V H) (set : Options) where
       sides.off.value) (sym first) splits.off) (splits.off_dims ∙ ap m.dims (sym first))
 
   -- behind it, the second
-  pub branch_leads : (k : ChoicePlace V) (first : Outcome V) (flag : Option ℕ) (whole part : Due V)
-      (memory : Memory V) → MayBePassed m set whole → IsChoice m set k whole part → IsMade m set part (seen first) memory →
+  pub branch_leads : (k : ChoicePlace V) (first : Outcome V) (b : Box (BranchPlace V) Global) (flag : Option ℕ)
+      (whole part : Due V) (memory : Memory V) → b.value ≡ record { point = k.choice.point; first = first } →
+      MayBePassed m set whole → IsChoice m set k whole part → IsMade m set part (seen first) memory →
       flag ≡ noted k.choice.point k.off.exactness first.flag →
-      OpensAt whole (Branch (record { point = k.choice.point; first = first })) k.choice.no.now k.off.value flag memory
-  branch_leads k first flag whole part memory may owed made flagged =
+      OpensAt whole (Branch b) k.choice.no.now k.off.value flag memory
+  branch_leads k first b flag whole part memory boxed may owed made flagged =
       let c = cond_view k.choice.condition.now in
       let fits = subst (λ (g : Node). TreeFits g (m.dims whole.value)) owed.is may.fits in
       let stays : StaysKept m set part.tree part.flag whole.memory first.flag memory =
       subst (λ (x : Memory V). StaysKept m set part.tree part.flag x first.flag memory) owed.kept made.stays in (
-        record {
+        subst (λ (x : BranchPlace V). IsBranch m set x whole (record {
+          tree = node_view k.choice.no.now;
+          value = k.off.value;
+          flag = flag;
+          memory = memory;
+        })) (sym boxed) (record {
           base = k.choice.base;
           condition = c;
           first = part;
@@ -289,7 +295,7 @@ module _ {V H : Type 0} (m : Meaning V H) (set : Options) where
           off = owed.off;
           off_dims = owed.off_dims;
           off_flagged = flagged;
-        },
+        }),
         record {
           few = subst (λ (n : ℕ). n ≤ 2 ^ 30) (sym owed.off_dims) may.few;
           fits = subst (λ (n : ℕ). TreeFits (node_view k.choice.no.now) n) (sym owed.off_dims) fits.1;

@@ -216,7 +216,7 @@ module _ {V H : Type 0} (m : Meaning V H) (set : Options) where
   IsOpen (Last x) whole part = RowLoop m set whole.tree whole.flag whole.value part.tree x part.value part.flag
       whole.memory part.memory
   IsOpen (Choice k) whole part = IsChoice k whole part
-  IsOpen (Branch b) whole part = IsBranch b whole part
+  IsOpen (Branch b) whole part = IsBranch b.value whole part
   IsOpen (GrowingAt g) whole part = IsGrowing g.value whole part
   IsOpen (NarrowingAt n) whole part = IsNarrowing n.value whole part
   IsOpen (Catch q k) whole part = (whole.tree ≡ catch q (exit_view k) part.tree) × (part.value ≡ whole.value) ×

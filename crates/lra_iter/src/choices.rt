@@ -62,14 +62,15 @@ pub fn open_choice<'a, D: Domain>(
 
 /// Behind the first branch, the one where the condition is false is next.
 pub fn go_on_choice<'a, D: Domain>(
+    alloc: Global,
     place: ChoicePlace<'a, D>,
     first: Outcome<D>,
-) -> Next<'a, D, D::Head>
+) -> Result<Next<'a, D, D::Head>, AllocError>
     ensures leads { (set : Options) (whole part : Due D) (memory : Memory D) → MayBePassed D.meaning set whole →
         IsChoice D.meaning set place.entry whole part → IsMade D.meaning set part (seen first) memory →
-        Leads D.meaning set whole result memory }
-    ensures falls { (b : ℕ) (set : Options) → next_left D.meaning b set result
-        < place_left D.meaning b set (choice_place place.entry) }
+        IfOk result (λ next. Leads D.meaning set whole next memory) }
+    ensures falls { (b : ℕ) (set : Options) → IfOk result (λ next. next_left D.meaning b set next
+        < place_left D.meaning b set (choice_place place.entry)) }
 {
     let ChoicePlace { choice, off } = place;
     let branch = Entering {
@@ -77,11 +78,9 @@ pub fn go_on_choice<'a, D: Domain>(
         value: off.value,
         flag: note(choice.point, off.exactness, first.flag),
     };
-    let place = BranchPlace {
-        point: choice.point,
-        first,
-    };
-    Next::Opens(Place::Branch(place), branch)
+    let point = choice.point;
+    let place = Box::new(alloc, BranchPlace { point, first })?;
+    Ok(Next::Opens(Place::Branch(place), branch))
 }
 
 /// Both branches of a choice, whose ends are joined at its point.

@@ -85,8 +85,8 @@ fn go_on<'a, D: Domain>(
     match place {
         Place::Row(row) => go_on_row(alloc, row, outcome),
         Place::Last(found) => passed(found.follow_with(outcome)),
-        Place::Choice(choice) => Ok(go_on_choice(choice, outcome)),
-        Place::Branch(branch) => passed(meet_again(branch, outcome)),
+        Place::Choice(choice) => go_on_choice(alloc, choice, outcome),
+        Place::Branch(branch) => passed(meet_again(Box::into_inner(branch), outcome)),
         Place::Growing(growing) => {
             go_on_growing(alloc, memory, Box::into_inner(growing), outcome)
         }

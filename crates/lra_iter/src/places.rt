@@ -77,7 +77,7 @@ pub enum Place<'a, D, H> {
     /// The last of trees one after the other is under way; this was found before it.
     Last(Found<D>),
     Choice(ChoicePlace<'a, D>),
-    Branch(BranchPlace<D>),
+    Branch(Box<BranchPlace<D>>),
     Growing(Box<GrowingPlace<'a, D, H>>),
     Narrowing(Box<NarrowingPlace<'a, D>>),
     /// Jumps of this kind come out at this point.

@@ -48,7 +48,7 @@ fn next_of_last<'a, D: Domain>(
     alloc: Global,
     options: &'a Options,
     node: &'a Node,
-    so_far: Outcome<D>,
+    mut so_far: Outcome<D>,
 ) -> Result<Next<'a, D, D::Head>, AllocError>
     requires parts { 1 ≤ options.now.parts }
     requires few { D.meaning.dims so_far.normal ≤ 2 ^ 30 }
@@ -61,9 +61,8 @@ fn next_of_last<'a, D: Domain>(
         ≤ row_steps (most_rounds b set) [] node.now) }
 {
     if let Some(flat) = Flat::of(options, node) {
-        let mut outcome = so_far;
-        flat.pass_on(alloc, options, &mut outcome)?;
-        return Ok(Next::Passed(outcome));
+        flat.pass_on(alloc, options, &mut so_far)?;
+        return Ok(Next::Passed(so_far));
     }
     let Outcome {
         found,
@@ -77,17 +76,17 @@ fn next_of_last<'a, D: Domain>(
 fn next_of_row<'a, D: Domain>(
     alloc: Global,
     the_row: Row<'a>,
-    begun: Outcome<D>,
+    mut so_far: Outcome<D>,
 ) -> Result<Next<'a, D, D::Head>, AllocError>
     requires parts { 1 ≤ the_row.options.now.parts }
     requires way { (whole : Due D) × (memory : Memory D) × MayBePassed D.meaning the_row.options.now whole ×
         RowLoop D.meaning the_row.options.now whole.tree whole.flag whole.value
-        (row (map node_view the_row.trees.now) (node_view the_row.last.now)) begun.found begun.normal begun.flag
+        (row (map node_view the_row.trees.now) (node_view the_row.last.now)) so_far.found so_far.normal so_far.flag
         whole.memory memory }
     ensures leads { (set : Options) (whole : Due D) (memory : Memory D) → the_row.entry.options.now ≡ set →
         MayBePassed D.meaning set whole → RowLoop D.meaning set whole.tree whole.flag whole.value
-        (row (map node_view the_row.entry.trees.now) (node_view the_row.entry.last.now)) begun.found
-        begun.normal begun.flag whole.memory memory → IfOk result (λ next. Leads D.meaning set whole next memory) }
+        (row (map node_view the_row.entry.trees.now) (node_view the_row.entry.last.now)) so_far.found
+        so_far.normal so_far.flag whole.memory memory → IfOk result (λ next. Leads D.meaning set whole next memory) }
     ensures falls { (b : ℕ) (set : Options) → IfOk result (λ next. next_left D.meaning b set next
         ≤ row_steps (most_rounds b set) the_row.entry.trees.now the_row.entry.last.now) }
 {
@@ -96,7 +95,6 @@ fn next_of_row<'a, D: Domain>(
         trees,
         last,
     } = the_row;
-    let mut so_far = begun;
     let mut left = trees;
     'leaves: while let Some((node, behind)) = left.split_first() {
         let Some(flat) = Flat::of(options, node) else {

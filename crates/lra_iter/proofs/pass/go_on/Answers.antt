@@ -5,7 +5,7 @@ use Rattle.std.proofs.lemmas.Result.{IfOk-weaker}
 use Rattle.lra_operations.specs.GraphViews.{exit_view}
 use Rattle.lra_iter.specs.declared.places.GrowingPlace.{GrowingPlace}
 use Rattle.lra_iter.specs.declared.places.NarrowingPlace.{NarrowingPlace}
-use Rattle.lra_iter.specs.Open.{IsGrowing, IsMade, IsNarrowing, IsOpen}
+use Rattle.lra_iter.specs.Open.{IsBranch, IsGrowing, IsMade, IsNarrowing, IsOpen}
 use Rattle.lra_iter.specs.Outcome.{seen, AreInTurn, AreMet, Catches}
 use Rattle.lra_iter.specs.Steps.{next_left, place_left, rounds_left, turns_left}
 use Rattle.lra_iter.proofs.OpenPlaces.{branches_made, branches_meet, catch_made, jumps_have, last_made}
@@ -58,21 +58,23 @@ returns-in-Choice-clause-leads g c set whole part may owed made =
 pub returns-in-Choice-clause-falls : goal.returns-in-Choice-clause-falls
 returns-in-Choice-clause-falls g c set whole part owed =
     let m = g.D.Domain.meaning in
-    subst (λ p. next_left m (2 ^ 64) set c.go_on_choice.result < place_left m (2 ^ 64) set p) (sym c.in-Choice.is)
-    (c.go_on_choice.ensures.falls (2 ^ 64) set)
+    subst (λ p. IfOk c.go_on_choice.result (λ n. next_left m (2 ^ 64) set n < place_left m (2 ^ 64) set p))
+    (sym c.in-Choice.is) (c.go_on_choice.ensures.falls (2 ^ 64) set)
 
 pub meet_again-requires : goal.meet_again-requires
 meet_again-requires g c =
+    let m = g.D.Domain.meaning in
     let given = c.requires in
-    let here = subst (λ p. IsOpen g.D.Domain.meaning given.0 p given.1 given.2) c.in-Branch.is given.4 in
-    branches_meet g.D.Domain.meaning given.0 c.in-Branch.branch given.1 given.2 here c.args.outcome c.args.memory.now given.5
-    given.3
+    let here = subst (λ p. IsOpen m given.0 p given.1 given.2) c.in-Branch.is given.4 in
+    branches_meet m given.0 c.into_inner.result given.1 given.2 (subst (λ x. IsBranch m given.0 x given.1 given.2)
+    (sym c.into_inner.ensures) here) c.args.outcome c.args.memory.now given.5 given.3
 
 pub returns-in-Branch-clause-leads : goal.returns-in-Branch-clause-leads
 returns-in-Branch-clause-leads g c set whole part may owed made =
     let m = g.D.Domain.meaning in
-    let branch = c.in-Branch.branch in
-    let here = subst (λ p. IsOpen m set p whole part) c.in-Branch.is owed in
+    let branch = c.into_inner.result in
+    let here = subst (λ x. IsBranch m set x whole part) (sym c.into_inner.ensures)
+    (subst (λ p. IsOpen m set p whole part) c.in-Branch.is owed) in
     c.passed-in-Branch.ensures.leads set whole c.args.memory.now (if_both c.meet_again.result
     (λ r. AreMet m branch.point (seen branch.first) (seen c.args.outcome) (seen r))
     (λ r. m.dims r.normal ≡ m.dims branch.first.normal) (λ r. IsMade m set whole (seen r) c.args.memory.now)
@@ -93,23 +95,23 @@ go_on_growing-requires g c =
     let m = g.D.Domain.meaning in
     let given = c.requires in
     let here = subst (λ p. IsOpen m given.0 p given.1 given.2) c.in-Growing.is given.4 in
-    (given.0, given.1, given.2, given.3, subst (λ x. IsGrowing m given.0 x given.1 given.2) (sym c.into_inner.ensures) here, given.5)
+    (given.0, given.1, given.2, given.3, subst (λ x. IsGrowing m given.0 x given.1 given.2) (sym c.into_inner-in-Growing.ensures) here, given.5)
 
 pub returns-in-Growing-clause-leads : goal.returns-in-Growing-clause-leads
 returns-in-Growing-clause-leads g c set whole part may owed made =
     let m = g.D.Domain.meaning in
     let here = subst (λ p. IsOpen m set p whole part) c.in-Growing.is owed in
     c.go_on_growing.ensures.leads set whole part may
-    (subst (λ x. IsGrowing m set x whole part) (sym c.into_inner.ensures) here) made
+    (subst (λ x. IsGrowing m set x whole part) (sym c.into_inner-in-Growing.ensures) here) made
 
 pub returns-in-Growing-clause-falls : goal.returns-in-Growing-clause-falls
 returns-in-Growing-clause-falls g c set whole part owed =
     let m = g.D.Domain.meaning in
     let here = subst (λ p. IsOpen m set p whole part) c.in-Growing.is owed in
-    let inside = subst (λ x. IsGrowing m set x whole part) (sym c.into_inner.ensures) here in
+    let inside = subst (λ x. IsGrowing m set x whole part) (sym c.into_inner-in-Growing.ensures) here in
     let less = subst (λ (x : GrowingPlace _ _). IfOk c.go_on_growing.result (λ n. next_left m (2 ^ 64) set n <
     turns_left m (2 ^ 64) set x.the_loop (set.narrow + rounds_left (2 ^ 64) x.growing.left (m.rank x.growing.head))))
-    c.into_inner.ensures (c.go_on_growing.ensures.falls set inside.head.loop.options) in
+    c.into_inner-in-Growing.ensures (c.go_on_growing.ensures.falls set inside.head.loop.options) in
     subst (λ p. IfOk c.go_on_growing.result (λ n. next_left m (2 ^ 64) set n < place_left m (2 ^ 64) set p))
     (sym c.in-Growing.is) less
 
