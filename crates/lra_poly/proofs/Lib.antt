@@ -2,4 +2,5 @@ pub mod PolyLemmas
 pub mod FormedLemmas
 pub mod MetRows
 pub mod UnitedLists
+pub mod FlaggedMeets
 pub mod TakenGenerators

@@ -2,3 +2,4 @@
 pub mod Outcomes
 pub mod Narrowed
 pub mod United
+pub mod StrainsBehind

@@ -1,9 +1,15 @@
-//! One spelling of each set of points.
+//! One spelling of each set of points, and what a flag of a meet tells.
 
-ghost use Rattle.std.specs.Prelude.{◌≡◌};
-ghost use Rattle.lra_linear.specs.Descriptions.{Con, Gen};
+ghost use Rattle.std.specs.Prelude.{◌≡◌, List};
+ghost use Rattle.lra_linear.specs.Descriptions.{Con, Gen, Given};
+ghost use Rattle.lra_linear.specs.OperationStrain.{with_positivity};
 ghost use Rattle.lra_linear.specs.Points.{SameSet};
 ghost use Rattle.lra_linear.specs.Polyhedra.{Polyhedron, IsPolyhedron};
+ghost use Rattle.lra_linear.specs.Strain as strain;
+ghost use Rattle.lra_duality.specs.Onward.{MayGoOn};
+ghost use Rattle.lra_poly.specs.declared.outcome.Outcome.TheVariants.{Flagged};
+ghost use Rattle.lra_poly.specs.Narrowed.{IsNarrowed};
+ghost use Rattle.lra_poly.specs.StrainsBehind.{StrainsBehind};
 
 /// Two polyhedra with the same points have the same constraints and the same generators, whatever made them; and the
 /// constraints of a polyhedron have the points that its generators have.
@@ -13,4 +19,13 @@ pub fn polyhedra_have_one_spelling()
     ensures one { (p q : Polyhedron) → IsPolyhedron p → IsPolyhedron q → q.dims ≡ p.dims →
         SameSet p.dims (Con p.rows) (Con q.rows) → p ≡ q }
     ensures both { (p : Polyhedron) → IsPolyhedron p → SameSet p.dims (Con p.rows) (Gen p.generators) }
+{}
+
+/// Where both lists of a polyhedron make a cone, a meet or a test is flagged only where a new row strains behind the
+/// polyhedron's own and those of the new ones that were taken in before it, or where the list of all of these strains.
+///
+/// Does nothing: its contract is the theorem.
+pub fn flagged_meets_go_on()
+    ensures { (p q : Polyhedron) (more : List Given) (loss : strain.Loss) → MayGoOn p.dims p.generators →
+        IsNarrowed p more q (Flagged loss) → StrainsBehind p.dims (with_positivity p.dims p.rows) more loss }
 {}

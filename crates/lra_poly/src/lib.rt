@@ -5,6 +5,6 @@ mod law;
 mod outcome;
 mod poly;
 
-pub use law::polyhedra_have_one_spelling;
+pub use law::{flagged_meets_go_on, polyhedra_have_one_spelling};
 pub use outcome::Outcome;
 pub use poly::Poly;
