@@ -10,3 +10,4 @@ mod Validities
 mod Places
 pub mod WideningLemmas
 mod AlikeLemmas
+pub mod StayingLemmas

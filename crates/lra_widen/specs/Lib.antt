@@ -3,3 +3,5 @@ pub mod Saturated
 pub mod Validity
 pub mod Rank
 pub mod Widenings
+-- What stays behind a flag.
+pub mod StayingRows

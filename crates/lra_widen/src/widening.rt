@@ -1,6 +1,6 @@
 //! The standard and the limited widening (after Halbwachs 1979).
 
-ghost use Rattle.std.specs.Prelude.{◌≡◌, ◌≢◌, ℕ, List, IfOk, IfErr};
+ghost use Rattle.std.specs.Prelude.{◌≡◌, ◌≢◌, ℕ, List, [], IfOk, IfErr};
 ghost use Rattle.lra_linear.specs.Descriptions.{Con, Given};
 ghost use Rattle.lra_linear.specs.OperationStrain.{LimitedStrains, StandardStrains};
 ghost use Rattle.lra_linear.specs.Points.{IsEmptySet, IsWithin};
@@ -11,6 +11,7 @@ ghost use Rattle.lra_poly.specs.Outcomes.{IfExact, IfFlagged};
 ghost use Rattle.lra_widen.specs.Rank.{Falls};
 ghost use Rattle.lra_widen.specs.Widenings.{HaveColumns, IsOutside, IsRefusal, IsWidened};
 ghost use Rattle.lra_widen.specs.Widenings.{LiesOrIsGivenUp};
+ghost use Rattle.lra_widen.specs.StayingRows.{IsOfStaying, StaysOrIsGivenUp};
 
 use crate::error::WidenError;
 use crate::lists::{add_held, given_loss, inclusion_loss, no_rows, tight_rows, universe};
@@ -30,7 +31,8 @@ fn widen_within(
     requires given { given.now.dims ≡ p.now.dims }
     requires some { ¬ (IsEmptySet p.now.dims (Con p.now.rows)) }
     requires within { IsWithin p.now.dims (Con p.now.rows) (Con q.now.rows) }
-    ensures { IfOk result (λ r. IsWidened p.now q.now (constraints given.now) r.0 r.1) }
+    ensures widened { IfOk result (λ r. IsWidened p.now q.now (constraints given.now) r.0 r.1) }
+    ensures staying { IfOk result (λ r. IsOfStaying p.now q.now (constraints given.now) r.0) }
 {
     let (_rows, _others, _given) = (p.rows(), q.rows(), given.rows());
     let mut list = tight_rows(alloc, p, q)?;
@@ -57,6 +59,7 @@ fn widen_limited_by(
     ensures refused { IfErr result (IsRefusal p.now q.now) }
     ensures inside { IfOk result (λ _. (place : ℕ) → ¬ (IsOutside p.now q.now place)) }
     ensures known { IfOk result (λ r. LiesOrIsGivenUp p.now q.now r.0 r.1) }
+    ensures staying { IfOk result (λ r. StaysOrIsGivenUp p.now q.now (constraints given.now) r.0 r.1) }
     ensures canonical { IsPolyhedron p.now }
 {
     let (_rows, _others) = (p.rows(), q.rows());
@@ -95,6 +98,7 @@ pub fn standard(alloc: Global, p: &Poly, q: &Poly) -> Result<(Poly, Outcome), Wi
     ensures refused { IfErr result (IsRefusal p.now q.now) }
     ensures inside { IfOk result (λ _. (place : ℕ) → ¬ (IsOutside p.now q.now place)) }
     ensures known { IfOk result (λ r. LiesOrIsGivenUp p.now q.now r.0 r.1) }
+    ensures staying { IfOk result (λ r. StaysOrIsGivenUp p.now q.now [] r.0 r.1) }
 {
     let none = no_rows(alloc, p.dims())?;
     let (made, outcome) = widen_limited_by(alloc, p, q, &none)?;
@@ -123,6 +127,7 @@ pub fn limited(
     ensures refused { IfErr result (IsRefusal p.now q.now) }
     ensures inside { IfOk result (λ _. (place : ℕ) → ¬ (IsOutside p.now q.now place)) }
     ensures known { IfOk result (λ r. LiesOrIsGivenUp p.now q.now r.0 r.1) }
+    ensures staying { IfOk result (λ r. StaysOrIsGivenUp p.now q.now (constraints given.now) r.0 r.1) }
 {
     let _rows = given.rows();
     let (made, outcome) = widen_limited_by(alloc, p, q, given)?;

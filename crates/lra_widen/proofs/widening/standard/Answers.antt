@@ -1,5 +1,8 @@
 -- Goals of `standard`: the standard widening of P by Q, which P lies in.
 use Rattle.lra_sys.specs.Listed.{constraints}
+use Rattle.std.proofs.Common.{List, subst}
+use Rattle.lra_linear.specs.Descriptions.{Given}
+use Rattle.lra_widen.specs.StayingRows.{StaysOrIsGivenUp}
 use Rattle.lra_widen.proofs.WideningLemmas.{standard_exact, standard_falls, standard_strain, standard_within}
 use Rattle.lra_widen.proofs.widening.standard.Goals as goal
 
@@ -15,3 +18,6 @@ returns-clause-strain c = standard_strain c.args.p.now c.args.q.now c.in_ok-made
 pub returns-clause-falls : goal.returns-clause-falls
 returns-clause-falls c = standard_falls c.args.p.now c.args.q.now c.in_ok-made.made (constraints c.in_ok-none.none) c.in_ok-made.outcome c.in_ok-none.ensures.none c.in_ok-made.ensures.canonical
     c.in_ok-made.ensures.widened
+
+pub returns-clause-staying : goal.returns-clause-staying
+returns-clause-staying c = subst (λ (l : List Given). StaysOrIsGivenUp c.args.p.now c.args.q.now l c.in_ok-made.made c.in_ok-made.outcome) c.in_ok-none.ensures.none c.in_ok-made.ensures.staying

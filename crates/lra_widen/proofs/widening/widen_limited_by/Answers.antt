@@ -4,6 +4,7 @@ use Rattle.lra_linear.specs.Descriptions.{Con}
 use Rattle.lra_linear.specs.Polyhedra.{IsPolyhedronOf}
 use Rattle.lra_sys.specs.Listed.{constraints}
 use Rattle.lra_widen.proofs.WideningLemmas.{wide_inside, widened_empty, widened_wide, yes_inside}
+use Rattle.lra_widen.proofs.StayingLemmas.{staying}
 use Rattle.lra_widen.proofs.widening.widen_limited_by.Goals as goal
 
 pub returns-in_ok-all-in-Wide-clause-widened : goal.returns-in_ok-all-in-Wide-clause-widened
@@ -39,3 +40,16 @@ returns-in_ok-same-in-Yes-clause-known c = inl c.in-Yes.ensures.first
 
 pub returns-in_ok-made-in-Yes-clause-known : goal.returns-in_ok-made-in-Yes-clause-known
 returns-in_ok-made-in-Yes-clause-known c = inl c.in-Yes.ensures.first
+
+pub returns-in_ok-all-in-Wide-clause-staying : goal.returns-in_ok-all-in-Wide-clause-staying
+returns-in_ok-all-in-Wide-clause-staying c = inl (record {
+  generator = c.in-Wide.generator;
+  row = c.in-Wide.row;
+  wide = c.in-Wide.ensures.first;
+  flagged = tt;
+  all = subst (λ (n : ℕ). IsPolyhedronOf n (Con []) c.in_ok-all-in-Wide.all) c.dims.ensures c.in_ok-all-in-Wide.ensures;
+})
+
+pub returns-in_ok-made-in-Yes-clause-staying : goal.returns-in_ok-made-in-Yes-clause-staying
+returns-in_ok-made-in-Yes-clause-staying c =
+    staying c.args.p.now c.args.q.now c.in_ok-made-in-Yes.made (constraints c.args.given.now) c.in_ok-made-in-Yes.outcome c.in_ok-made-in-Yes.ensures.staying

@@ -4,10 +4,11 @@ use Rattle.lra_linear.specs.Kinds.{is_equality}
 use Rattle.lra_sys.specs.Listed.{constraints}
 use Rattle.lra_widen.specs.Rank.{kept}
 use Rattle.lra_widen.proofs.WideningLemmas.{not_exact, seen_columns, widened_made, widened_passed}
+use Rattle.lra_widen.proofs.StayingLemmas.{of_staying}
 use Rattle.lra_widen.proofs.widening.widen_within.Goals as goal
 
-pub returns-then-is_exact : goal.returns-then-is_exact
-returns-then-is_exact c =
+pub returns-then-is_exact-clause-widened : goal.returns-then-is_exact-clause-widened
+returns-then-is_exact-clause-widened c =
     let p = c.args.p.now in
     let q = c.args.q.now in
     let given = constraints c.args.given.now in
@@ -27,8 +28,8 @@ returns-then-is_exact c =
       passes = c.in_ok-lost.ensures.flagged;
     }) (c.is_exact.ensures.0 c.if-is_exact.true)
 
-pub returns : goal.returns
-returns c =
+pub returns-clause-widened : goal.returns-clause-widened
+returns-clause-widened c =
     let p = c.args.p.now in
     let q = c.args.q.now in
     let given = constraints c.args.given.now in
@@ -47,3 +48,19 @@ returns c =
       same = c.in_ok-lost.ensures.exact;
       passes = c.in_ok-lost.ensures.flagged;
     }) (not_exact c.is_exact.result c.in_ok-lost.lost c.is_exact.ensures c.if-is_exact.false)
+
+pub returns-then-is_exact-clause-staying : goal.returns-then-is_exact-clause-staying
+returns-then-is_exact-clause-staying c =
+    let p = c.args.p.now in
+    let q = c.args.q.now in
+    let given = constraints c.args.given.now in
+    let rows = c.in_ok-add_held.ensures.rows ∙ ap (λ l. l ++ kept p q given) c.in_ok-list.ensures.rows in
+    of_staying p q c.in_ok-made.made given c.add_held.new.list c.in_ok-made.outcome c.in_ok-add_held.ensures.dims rows c.in_ok-made.ensures.tried
+
+pub returns-clause-staying : goal.returns-clause-staying
+returns-clause-staying c =
+    let p = c.args.p.now in
+    let q = c.args.q.now in
+    let given = constraints c.args.given.now in
+    let rows = c.in_ok-add_held.ensures.rows ∙ ap (λ l. l ++ kept p q given) c.in_ok-list.ensures.rows in
+    of_staying p q c.in_ok-made.made given c.add_held.new.list c.in_ok-made.outcome c.in_ok-add_held.ensures.dims rows c.in_ok-made.ensures.tried
