@@ -2,3 +2,5 @@ pub mod AllTrue
 pub mod Packing
 pub mod Pairs
 pub mod Removal
+pub mod Widening
+pub mod CommonPlaces

@@ -39,7 +39,7 @@ both_length [] ys e = refl
 both_length (x ∷ xs) [] e = absurd (omega (arith, e))
 both_length (x ∷ xs) (y ∷ ys) e = ap suc (both_length xs ys (omega (arith, e)))
 
-both_value : (xs ys : List Bool) (i : ℕ) → length xs ≡ length ys → value_at (both xs ys) i ≡ (value_at xs i && value_at ys i)
+pub both_value : (xs ys : List Bool) (i : ℕ) → length xs ≡ length ys → value_at (both xs ys) i ≡ (value_at xs i && value_at ys i)
 both_value [] ys i e = refl
 both_value (x ∷ xs) [] i e = absurd (omega (arith, e))
 both_value (x ∷ xs) (y ∷ ys) zero e = refl

@@ -1,5 +1,7 @@
 -- Matrices of truth values.
-use Rattle.std.specs.Prelude.{ℕ, Bool, cond, List, [], ◌∷◌}
+use Rattle.std.specs.Prelude.{◌≡◌, ◌≢◌, ℕ, ◌<◌, Bool, true, cond, List, [], ◌∷◌, length, slice_index_or}
+use Rattle.std.specs.Prelude.{Option, Some, None}
+use Rattle.lra_bits.specs.TruthValues.{value_at}
 
 -- rows of one width
 pub record Matrix : Type 0 where
@@ -11,3 +13,19 @@ abbrev pub unmarked : {A : Type 0} → List Bool → List A → List A
 unmarked marks [] = []
 unmarked [] (r ∷ rows) = r ∷ rows
 unmarked (m ∷ marks) (r ∷ rows) = cond m (unmarked marks rows) (r ∷ unmarked marks rows)
+
+-- of the first n of these rows, each that is marked is true at the place
+abbrev pub IsCommon : Matrix → List ℕ → List Bool → ℕ → ℕ → Type 0
+IsCommon m rows marked n k = (i : ℕ) → i < n → value_at marked (slice_index_or rows i 0) ≡ true →
+    value_at (slice_index_or m.rows (slice_index_or rows i 0) []) k ≡ true
+
+-- at none of the first n places but these two is each of these rows true that is marked
+abbrev pub NoneCommon : Matrix → List ℕ → List Bool → ℕ → ℕ → ℕ → Type 0
+NoneCommon m rows marked first second n = (k : ℕ) → k < n → k < m.width → k ≢ first → k ≢ second →
+    ¬ (IsCommon m rows marked (length rows) k)
+
+-- a place but these two where each of these rows is true that is marked, if there is one
+abbrev pub TellsCommon : Matrix → List ℕ → List Bool → ℕ → ℕ → Option ℕ → Type 0
+TellsCommon m rows marked first second None = NoneCommon m rows marked first second m.width
+TellsCommon m rows marked first second (Some k) =
+    (k < m.width) × (k ≢ first) × (k ≢ second) × IsCommon m rows marked (length rows) k

@@ -1,15 +1,13 @@
 //! Lists of truth values as words.
 
-ghost use Rattle.std.specs.Prelude.{◌≡◌, ℕ, ◌<◌, ◌≤◌, ◌↔◌, Bool, true, false, List, length, replicate, slice_set, IfOk};
-ghost use Rattle.std.specs.Prelude.{IsTrue};
+ghost use Rattle.std.specs.Prelude.{◌≡◌, ℕ, ◌<◌, ◌≤◌, ◌↔◌, ◌++◌, ◌∷◌, Bool, true, false, List, [], length};
+ghost use Rattle.std.specs.Prelude.{replicate, slice_set, IfOk, OnOk, OnErr, IsTrue};
 ghost use Rattle.lra_bits.specs.TruthValues.{value_at, are_true, IsSubset, both};
 ghost use Rattle.lra_bits.specs.Words.{bit_of, unpacked, words_needed, ArePacked};
 
-use crate::words;
+use crate::words::{self, WORD};
 use std::alloc::{AllocError, Global};
 use std::marker::Model;
-
-const WORD: usize = 64;
 
 /// A list of truth values, packed into words of 64 bits.
 #[derive(Drop)]
@@ -92,6 +90,35 @@ impl BitRow {
         } else {
             self.words[k / WORD] &= !bit;
         }
+    }
+
+    // One more value, false, behind the others.
+    fn widen(&mut self) -> Result<(), AllocError>
+        ensures widened { OnOk result (self.new ≡ self.old ++ false ∷ []) }
+        ensures unchanged { OnErr result (self.new ≡ self.old) }
+    {
+        let wider = match self.width.checked_add(1) {
+            Some(wider) => wider,
+            None => return Err(AllocError),
+        };
+        if self.width % WORD == 0 {
+            self.words.push(0)?;
+        }
+        self.width = wider;
+        Ok(())
+    }
+
+    /// Puts a truth value behind the others.
+    pub fn push(&mut self, v: bool) -> Result<(), AllocError>
+        ensures pushed { OnOk result (self.new ≡ self.old ++ v ∷ []) }
+        ensures unchanged { OnErr result (self.new ≡ self.old) }
+    {
+        let last = self.width;
+        self.widen()?;
+        if v {
+            self.set(last, true);
+        }
+        Ok(())
     }
 
     /// Each value that is true is true in the other list too.

@@ -2,9 +2,13 @@
 
 ghost use Rattle.std.specs.Prelude.{◌≡◌, ◌<◌, ◌++◌, ◌∷◌, [], length, IfOk, OnOk, OnErr, slice_index_or};
 ghost use Rattle.std.specs.List.{All};
-ghost use Rattle.lra_bits.specs.Matrix.{Matrix, unmarked};
+ghost use Rattle.std.specs.Prelude.{ℕ, ◌↔◌, ◌+◌, ◌*◌};
+ghost use Rattle.std.specs.Int.{bit_at};
+ghost use Rattle.lra_bits.specs.Matrix.{Matrix, unmarked, IsCommon, TellsCommon};
+ghost use Rattle.lra_bits.specs.Words.{words_needed};
 
 use crate::bit_row::BitRow;
+use crate::words::{WORD, without};
 use std::alloc::{AllocError, Global};
 use std::marker::Model;
 
@@ -92,6 +96,48 @@ impl SatMatrix {
             }
         }
         self.rows.truncate(kept);
+    }
+
+    // The word at `at` with the bits that are set in each of these rows that is marked.
+    fn common_word(&self, rows: &[usize], marked: &BitRow, at: usize) -> u64
+        requires rows { All (λ r. r < length self.now.rows) rows.now }
+        requires marked { All (λ r. r < length marked.now) rows.now }
+        requires at { at < words_needed self.now.width }
+        ensures { (j : ℕ) → j < 64 →
+            (bit_at result j ≡ 1) ↔ IsCommon self.now rows.now marked.now (length rows.now) (at * 64 + j) }
+    {
+        let mut word = u64::MAX;
+        for i in 0..rows.len() {
+            if marked.get(rows[i]) {
+                word &= self.rows[rows[i]].words()[at];
+            }
+        }
+        word
+    }
+
+    /// The first place but these two where each of these rows is true that is marked. Takes no memory.
+    pub fn find_common(
+        &self,
+        rows: &[usize],
+        marked: &BitRow,
+        first: usize,
+        second: usize,
+    ) -> Option<usize>
+        requires rows { All (λ r. r < length self.now.rows) rows.now }
+        requires marked { All (λ r. r < length marked.now) rows.now }
+        ensures { TellsCommon self.now rows.now marked.now first second result }
+    {
+        for at in 0..self.width.div_ceil(WORD) {
+            let word = self.common_word(rows, marked, at);
+            let others = without(without(word, at, first), at, second);
+            if others != 0 {
+                let bit = others.trailing_zeros() as usize;
+                if bit < self.width - at * WORD {
+                    return Some(at * WORD + bit);
+                }
+            }
+        }
+        None
     }
 }
 

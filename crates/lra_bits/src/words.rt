@@ -1,10 +1,14 @@
 //! Two lists of words, word by word.
 
-ghost use Rattle.std.specs.Prelude.{◌≡◌, ◌<◌, ◌^◌, ◌↔◌, length, IfOk, IsTrue};
+ghost use Rattle.std.specs.Prelude.{◌≡◌, ◌≢◌, ℕ, ◌<◌, ◌+◌, ◌*◌, ◌^◌, ◌↔◌, length, IfOk, IsTrue};
+ghost use Rattle.std.specs.Int.{bit_at};
 ghost use Rattle.std.specs.List.{All};
 ghost use Rattle.lra_bits.specs.Words.{common_words, AreWithin, AreCommonWithin};
 
 use std::alloc::{AllocError, Global};
+
+/// The bits of a word.
+pub const WORD: usize = 64;
 
 /// The bits that are set in both.
 pub fn common(alloc: Global, xs: &[u64], ys: &[u64]) -> Result<Vec<u64>, AllocError>
@@ -38,4 +42,15 @@ pub fn are_common_within(xs: &[u64], ys: &[u64], zs: &[u64]) -> bool
         .zip(ys)
         .zip(zs)
         .all(|((x, y), z)| (x & y) & z == x & y)
+}
+
+/// The word at `at` without the bit of this place, which may stand in another word.
+pub fn without(word: u64, at: usize, place: usize) -> u64
+    ensures { (j : ℕ) → j < 64 → (bit_at result j ≡ 1) ↔ ((bit_at word j ≡ 1) × (at * 64 + j ≢ place)) }
+{
+    if place / WORD == at {
+        word & !(1u64 << (place % WORD))
+    } else {
+        word
+    }
 }

@@ -1,0 +1,25 @@
+-- Goals of `SatMatrix::common_word`: the bits that are set in each of these rows that is marked.
+use Rattle.std.proofs.Common.{arith, ap, ◌∙◌, [], get_or, List, Bool}
+use Rattle.lra_bits.specs.Matrix.{Matrix}
+use Rattle.std.proofs.lemmas.List.{get_or_default}
+use Rattle.std.proofs.lemmas.Nat.Bits.{bit_at_ones}
+use Rattle.lra_bits.proofs.CommonPlaces.{word_skip, word_meet}
+use Rattle.lra_bits.proofs.sat_matrix.SatMatrix.common_word.Goals as goal
+use Rattle.lra_bits.proofs.sat_matrix.SatMatrix.common_word.Goals.{then-get, else-get}
+
+pub loop-i-init : goal.loop-i-init
+loop-i-init c = λ j h. ((λ t i l. absurd (omega (arith, l))), (λ t. bit_at_ones 64 j h))
+
+pub loop-i-preserved : goal.loop-i-preserved
+loop-i-preserved c =
+    let m = c.args.self.now in
+    let rows = c.args.rows.now in
+    let n = c.loop-i.i in
+    elim c.if-get.branch [
+      | then-get w ↦ rw (w.word-is)
+          (word_meet m rows c.args.marked.now c.args.at n c.loop-i.word w.index.result.now w.words.result.now
+          (w.index.ensures ∙ ap (λ (rs : List (List Bool)). get_or rs (get_or rows n 0) w.index.result.now) (ap (λ (x : Matrix). x.rows) c.self.view_is) ∙
+          get_or_default m.rows (get_or rows n 0) w.index.result.now [] (c.requires.rows n 0 c.loop-i-test.true))
+          w.words.ensures c.get.result c.get.ensures w.if-get.true c.loop-i.invariant)
+      | else-get w ↦ rw (w.word-is) (word_skip m rows c.args.marked.now c.args.at n c.loop-i.word c.get.result c.get.ensures w.if-get.false c.loop-i.invariant)
+    ]
