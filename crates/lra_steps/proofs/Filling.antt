@@ -26,32 +26,6 @@ filled_tight products k values e h =
     (subst (λ (m : ℕ). IsFilled (λ j. int_eq (get_or products j (pos 0)) (pos 0)) (length products) m values) e h) (length-map products (λ p. int_eq p (pos 0)))
     (λ j m. get_or-map (λ p. int_eq p (pos 0)) products j (pos 0) false m)
 
--- ---- one more value
-at_end : (values : List Bool) (last : Bool) → value_at (values ++ last ∷ []) (length values) ≡ last
-at_end [] last = refl
-at_end (x ∷ values) last = at_end values last
-
-before_end : (values : List Bool) (last : Bool) (j : ℕ) → j < length values → value_at (values ++ last ∷ []) j ≡ value_at values j
-before_end [] last j h = absurd (omega (arith, h))
-before_end (x ∷ values) last zero h = refl
-before_end (x ∷ values) last (suc j) h = before_end values last j (omega (arith, h))
-
-end_length : (values : List Bool) (last : Bool) → length (values ++ last ∷ []) ≡ length values + 1
-end_length [] last = refl
-end_length (x ∷ values) last = omega (arith, end_length values last)
-
-pub filled_longer : (values longer new : List Bool) (last : Bool) (k w : ℕ) → k ≡ length values → w ≡ length values → IsFilled (value_at values) (length values + 1) k longer →
-    new ≡ set longer w last → new ≡ values ++ last ∷ []
-filled_longer values longer new last k w e f h s =
-    s ∙ ext_get_or false (set longer w last) (values ++ last ∷ []) (length-set longer w last ∙ h.0 ∙ sym (end_length values last))
-    (λ j m. elim (cases_lt j (length values)) [
-      | inl b ↦ get_or-set_other longer w j last false (λ q. omega (arith, q, b, f)) ∙ h.1 j (omega (arith, b, e)) ∙ sym (before_end values last j b)
-      | inr g ↦
-          let q : j ≡ length values = omega (arith, g, m, length-set longer w last, h.0) in
-          ap (λ i. get_or (set longer w last) i false) (q ∙ sym f) ∙ get_or-set_same longer w last false (omega (arith, f, h.0)) ∙ sym (at_end values last) ∙
-          ap (value_at (values ++ last ∷ [])) (sym q)
-    ])
-
 -- ---- a further column
 lengthened_push : (rows : List (List Bool)) (last : List Bool) (r : List Bool) (b : Bool) → length last ≡ length rows →
     lengthened_rows (rows ++ r ∷ []) (last ++ b ∷ []) ≡ lengthened_rows rows last ++ (r ++ b ∷ []) ∷ []

@@ -4,3 +4,4 @@ pub mod Filling
 pub mod RowProducts
 pub mod Flattening
 pub mod Cuts
+pub mod Thirds

@@ -2,3 +2,4 @@
 pub mod Steps
 pub mod Pairs
 pub mod Strains
+pub mod Thirds

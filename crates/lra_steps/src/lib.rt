@@ -4,6 +4,7 @@
 //! adjacent pairs of rays are combined (Fukuda and Prodon 1996).
 #![tactic(auto)]
 
+mod columns;
 mod line_step;
 mod pairs;
 mod products;

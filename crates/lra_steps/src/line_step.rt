@@ -175,7 +175,7 @@ fn push_line(alloc: Global, wider: &mut SatMatrix, width: usize) -> Result<(), A
     ensures { OnOk result (wider.new ≡ record wider.old
         { rows = wider.old.rows ++ (replicate width true ++ false ∷ []) ∷ [] }) }
 {
-    let of_line = lengthen(alloc, &all_true(alloc, width)?, false)?;
+    let of_line = lengthen(&all_true(alloc, width)?, false)?;
     wider.add_row(of_line)?;
     Ok(())
 }
@@ -194,6 +194,6 @@ pub fn flat_saturation(
         push_line(alloc, &mut wider, width)?;
     }
     let tight = all_true(alloc, saturation.height())?;
-    push_lengthened(alloc, &mut wider, saturation, &tight)?;
+    push_lengthened(&mut wider, saturation, &tight)?;
     Ok(wider)
 }

@@ -1,10 +1,12 @@
 //! Pairs of adjacent rays on both sides of the row.
 
-ghost use Rattle.std.specs.Prelude.{◌≡◌, ◌≢◌, ◌<◌, ◌+◌, ◌<ℤ◌, [], pos, length, slice_index_or};
+ghost use Rattle.std.specs.Prelude.{◌≡◌, ◌≢◌, ◌<◌, ◌≤◌, ◌+◌, ◌<ℤ◌, [], pos, length, slice_index_or};
 ghost use Rattle.std.specs.Prelude.{IfOk, OnOk, IsTrue, IsFalse};
 ghost use Rattle.lra_bits.specs.TruthValues.{IsSubset};
 ghost use Rattle.lra_steps.specs.Pairs.{TellsAdjacent, HasThird, ArePairs, both_tight};
+ghost use Rattle.lra_steps.specs.Thirds.{AreColumns, ArePlaces, TellsThird};
 
+use crate::columns::{find_columns, true_places};
 use lra_bits::{BitRow, SatMatrix};
 use std::alloc::{AllocError, Global};
 
@@ -31,23 +33,57 @@ fn keeps_apart(saturation: &SatMatrix, up: usize, down: usize, third: usize) -> 
     first.common_within(second, saturation.row(third))
 }
 
-// No third ray is tight wherever both are. The one that kept the last two rays apart is tried first; the one that is found
-// becomes it.
-fn are_adjacent(saturation: &SatMatrix, up: usize, down: usize, known: &mut usize) -> bool
+// A third ray that is tight wherever both are, if there is one: by the columns if they are at hand, else ray by ray.
+fn find_third(
+    saturation: &SatMatrix,
+    columns: &SatMatrix,
+    places: &[usize],
+    up: usize,
+    down: usize,
+) -> Option<usize>
     requires up { up < length saturation.now.rows }
     requires down { down < length saturation.now.rows }
+    requires columns { AreColumns saturation.now (length columns.now.rows) columns.now }
+    requires places { ArePlaces (slice_index_or saturation.now.rows up []) (length columns.now.rows) places.now }
+    ensures { TellsThird saturation.now.rows up down (both_tight saturation.now.rows up down) result }
+{
+    if columns.height() == saturation.width() {
+        return columns.find_common(places, saturation.row(down), up, down);
+    }
+    for third in 0..saturation.height() {
+        if keeps_apart(saturation, up, down, third) {
+            return Some(third);
+        }
+    }
+    None
+}
+
+// No third ray is tight wherever both are. The one that kept the last two rays apart is tried first; the one that is
+// found becomes it.
+fn are_adjacent(
+    saturation: &SatMatrix,
+    columns: &SatMatrix,
+    places: &[usize],
+    up: usize,
+    down: usize,
+    known: &mut usize,
+) -> bool
+    requires up { up < length saturation.now.rows }
+    requires down { down < length saturation.now.rows }
+    requires columns { AreColumns saturation.now (length columns.now.rows) columns.now }
+    requires places { ArePlaces (slice_index_or saturation.now.rows up []) (length columns.now.rows) places.now }
     ensures { TellsAdjacent saturation.now.rows up down (both_tight saturation.now.rows up down) result }
 {
     if keeps_apart(saturation, up, down, *known) {
         return false;
     }
-    for third in 0..saturation.height() {
-        if keeps_apart(saturation, up, down, third) {
+    match find_third(saturation, columns, places, up, down) {
+        Some(third) => {
             *known = third;
-            return false;
+            false
         }
+        None => true,
     }
-    true
 }
 
 // The adjacent pairs with the first ray at `up`, behind what is there.
@@ -56,17 +92,21 @@ fn push_pairs_of(
     up: usize,
     products: &[i128],
     saturation: &SatMatrix,
+    columns: &SatMatrix,
 ) -> Result<(), AllocError>
     requires inside { up < length products.now }
     requires each { length products.now ≡ length saturation.now.rows }
+    requires columns { AreColumns saturation.now (length columns.now.rows) columns.now }
+    requires most { length columns.now.rows ≤ saturation.now.width }
     requires above { pos 0 <ℤ slice_index_or products.now up (pos 0) }
     ensures { OnOk result (ArePairs products.now saturation.now.rows up 0 pairs.old.items →
         ArePairs products.now saturation.now.rows (up + 1) 0 pairs.new.items) }
 {
+    let places = true_places(*pairs.allocator(), saturation.row(up), columns.height())?;
     let mut known = up;
     for down in 0..products.len() {
         if products[down] < 0 {
-            if are_adjacent(saturation, up, down, &mut known) {
+            if are_adjacent(saturation, columns, &places, up, down, &mut known) {
                 let tight = saturation.row(up).common(saturation.row(down))?;
                 pairs.push(Pair { up, down, tight })?;
             }
@@ -84,10 +124,11 @@ pub fn adjacent_pairs(
     requires { length products.now ≡ length saturation.now.rows }
     ensures { IfOk result (λ pairs. ArePairs products.now saturation.now.rows (length products.now) 0 pairs.items) }
 {
+    let columns = find_columns(alloc, products, saturation)?;
     let mut pairs = Vec::new(alloc);
     for up in 0..products.len() {
         if products[up] > 0 {
-            push_pairs_of(&mut pairs, up, products, saturation)?;
+            push_pairs_of(&mut pairs, up, products, saturation, &columns)?;
         }
     }
     Ok(pairs)

@@ -113,17 +113,13 @@ pub fn combine_pairs(
 }
 
 /// For each pair the rows that are tight at both, and the new row, behind what is there.
-pub fn push_tight(
-    alloc: Global,
-    saturation: &mut SatMatrix,
-    pairs: &[Pair],
-) -> Result<(), AllocError>
+pub fn push_tight(saturation: &mut SatMatrix, pairs: &[Pair]) -> Result<(), AllocError>
     requires width { All (λ p. suc (length p.tight) ≡ saturation.old.width) pairs.now }
     ensures { OnOk result (saturation.new ≡ record saturation.old
         { rows = saturation.old.rows ++ tight_rows pairs.now }) }
 {
     for pair in pairs {
-        let row = lengthen(alloc, &pair.tight, true)?;
+        let row = lengthen(&pair.tight, true)?;
         saturation.add_row(row)?;
     }
     Ok(())
@@ -144,8 +140,8 @@ fn cut_saturation(
 {
     let width = one_more(saturation.width())?;
     let mut wider = SatMatrix::new(alloc, width);
-    push_lengthened(alloc, &mut wider, saturation, &mark_tight(alloc, products)?)?;
-    push_tight(alloc, &mut wider, pairs)?;
+    push_lengthened(&mut wider, saturation, &mark_tight(alloc, products)?)?;
+    push_tight(&mut wider, pairs)?;
     wider.remove_rows(gone);
     Ok(wider)
 }

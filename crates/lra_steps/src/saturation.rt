@@ -40,21 +40,16 @@ pub fn one_more(width: usize) -> Result<usize, AllocError>
 }
 
 /// The values, and one more behind them.
-pub fn lengthen(alloc: Global, values: &BitRow, last: bool) -> Result<BitRow, AllocError>
+pub fn lengthen(values: &BitRow, last: bool) -> Result<BitRow, AllocError>
     ensures { IfOk result (λ longer. longer ≡ values.now ++ last ∷ []) }
 {
-    let width = values.width();
-    let mut longer = BitRow::new(alloc, one_more(width)?)?;
-    for k in 0..width {
-        longer.set(k, values.get(k));
-    }
-    longer.set(width, last);
+    let mut longer = values.copy()?;
+    longer.push(last)?;
     Ok(longer)
 }
 
 /// Each row of the matrix with one more value, behind what is there.
 pub fn push_lengthened(
-    alloc: Global,
     wider: &mut SatMatrix,
     matrix: &SatMatrix,
     last: &BitRow,
@@ -65,7 +60,7 @@ pub fn push_lengthened(
         { rows = wider.old.rows ++ lengthened_rows matrix.now.rows last.now }) }
 {
     for k in 0..matrix.height() {
-        let row = lengthen(alloc, matrix.row(k), last.get(k))?;
+        let row = lengthen(matrix.row(k), last.get(k))?;
         wider.add_row(row)?;
     }
     Ok(())

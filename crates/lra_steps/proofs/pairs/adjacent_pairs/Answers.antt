@@ -1,5 +1,6 @@
 -- Goals of `adjacent_pairs`: the adjacent pairs of rays on both sides.
-use Rattle.std.proofs.Common.{rules, FitsSigned, get_or, pos}
+use Rattle.std.proofs.Common.{◌≡◌, ℕ, arith, length, subst, rules, FitsSigned, get_or, pos}
+use Rattle.lra_steps.specs.Pairs.{ArePairs}
 use Rattle.std.specs.Int.{w128}
 use Rattle.std.proofs.lemmas.Int.{to_z-of_z}
 use Rattle.lra_steps.proofs.PairLists.{not_less_said, pairs_skip_row}
@@ -16,3 +17,8 @@ loop-up-preserved c =
       | else-products-up-gt0 w ↦ rw (w.pairs-is) (pairs_skip_row c.args.products.now c.args.saturation.now.rows c.loop-up.up c.loop-up.pairs.items
           (not_less_said (pos 0) (get_or products up (pos 0)) (simp to_z-of_z at w.if-products-up-gt0.false)) c.loop-up.invariant)
     ]
+
+pub returns : goal.returns
+returns c =
+    let all : c.loop-up.up ≡ length c.args.products.now = omega (arith, c.loop-up-test.false, c.loop-up.auto.up-end) in
+    subst (λ (n : ℕ). ArePairs c.args.products.now c.args.saturation.now.rows n 0 c.loop-up.pairs.items) all c.loop-up.invariant

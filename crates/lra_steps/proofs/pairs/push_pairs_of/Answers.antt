@@ -16,9 +16,9 @@ loop-down-preserved c = λ first.
     let before = c.loop-down.invariant first in
     elim c.if-products-down-lt0.branch [
       | then-products-down-lt0+then-are_adjacent+in_ok-tight+in_ok-push w ↦ rw (w.pairs-is)
-          (pairs_push products rows up down c.loop-down.pairs.items w.push.new.self.items _ w.row.result.now w.row-then-are_adjacent.result.now w.are_adjacent.result refl refl
-          w.in_ok-push.ensures.items c.requires.above (less_said (get_or products down (pos 0)) (pos 0) (simp to_z-of_z at w.if-products-down-lt0.true)) w.row.ensures.row
-          w.row-then-are_adjacent.ensures.row w.in_ok-tight.ensures w.are_adjacent.ensures w.if-are_adjacent.true before)
+          (pairs_push products rows up down c.loop-down.pairs.items w.push.new.self.items _ w.row-then-are_adjacent.result.now w.row-then-are_adjacent-2.result.now w.are_adjacent.result refl refl
+          w.in_ok-push.ensures.items c.requires.above (less_said (get_or products down (pos 0)) (pos 0) (simp to_z-of_z at w.if-products-down-lt0.true)) w.row-then-are_adjacent.ensures.row
+          w.row-then-are_adjacent-2.ensures.row w.in_ok-tight.ensures w.are_adjacent.ensures w.if-are_adjacent.true before)
       | then-products-down-lt0+else-are_adjacent w ↦ rw (w.pairs-is)
           (pairs_skip_third products rows up down c.loop-down.pairs.items w.are_adjacent.result w.are_adjacent.ensures w.if-are_adjacent.false before)
       | else-products-down-lt0 w ↦ rw (w.pairs-is) (pairs_skip_side products rows up down c.loop-down.pairs.items
