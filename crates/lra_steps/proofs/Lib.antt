@@ -5,3 +5,4 @@ pub mod RowProducts
 pub mod Flattening
 pub mod Cuts
 pub mod Thirds
+pub mod PairsBelow

@@ -3,3 +3,4 @@ pub mod Steps
 pub mod Pairs
 pub mod Strains
 pub mod Thirds
+pub mod Below

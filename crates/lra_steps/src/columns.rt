@@ -23,37 +23,23 @@ fn column(alloc: Global, matrix: &SatMatrix, place: usize) -> Result<BitRow, All
     Ok(values)
 }
 
-// How many columns are worth their cost: all where there are more pairs of rays on both sides than rows, else none.
-fn count_columns(products: &[i128], width: usize) -> usize
-    ensures { result ≤ width }
-{
-    let mut above = 0;
-    let mut below = 0;
-    for k in 0..products.len() {
-        if products[k] > 0 {
-            above += 1;
-        } else if products[k] < 0 {
-            below += 1;
-        }
-    }
-    if above > 0 && below > width / above {
-        width
-    } else {
-        0
-    }
-}
-
-/// The columns where there are many pairs of rays, else none.
+/// The columns where there are more pairs of rays on both sides than rows, else none: they cost more than few pairs.
 pub fn find_columns(
     alloc: Global,
-    products: &[i128],
+    above: usize,
+    below: usize,
     matrix: &SatMatrix,
 ) -> Result<SatMatrix, AllocError>
     ensures columns { IfOk result (λ columns. AreColumns matrix.now (length columns.rows) columns) }
     ensures most { IfOk result (λ columns. length columns.rows ≤ matrix.now.width) }
 {
     let mut columns = SatMatrix::new(alloc, matrix.height());
-    let count = count_columns(products, matrix.width());
+    let width = matrix.width();
+    let count = if above > 0 && below > width / above {
+        width
+    } else {
+        0
+    };
     for place in 0..count {
         let values = column(alloc, matrix, place)?;
         columns.add_row(values)?;

@@ -10,6 +10,7 @@ mod pairs;
 mod products;
 mod ray_step;
 mod saturation;
+mod sides;
 mod strained;
 
 pub use line_step::{Across, flat_lines, flat_rays, flat_saturation, orient_line};

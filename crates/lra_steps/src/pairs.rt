@@ -1,12 +1,15 @@
 //! Pairs of adjacent rays on both sides of the row.
 
-ghost use Rattle.std.specs.Prelude.{◌≡◌, ◌≢◌, ◌<◌, ◌≤◌, ◌+◌, ◌<ℤ◌, [], pos, length, slice_index_or};
-ghost use Rattle.std.specs.Prelude.{IfOk, OnOk, IsTrue, IsFalse};
+ghost use Rattle.std.specs.Prelude.{◌≡◌, ◌≢◌, ◌<◌, ◌≤◌, ◌+◌, ◌<ℤ◌, ℤ, List, [], pos, length};
+ghost use Rattle.std.specs.Prelude.{IfOk, OnOk, IsTrue, IsFalse, slice_index_or};
+ghost use Rattle.std.specs.List.{All};
 ghost use Rattle.lra_bits.specs.TruthValues.{IsSubset};
 ghost use Rattle.lra_steps.specs.Pairs.{TellsAdjacent, HasThird, ArePairs, both_tight};
+ghost use Rattle.lra_steps.specs.Below.{AreBelow};
 ghost use Rattle.lra_steps.specs.Thirds.{AreColumns, ArePlaces, TellsThird};
 
 use crate::columns::{find_columns, true_places};
+use crate::sides::{count_above, places_below};
 use lra_bits::{BitRow, SatMatrix};
 use std::alloc::{AllocError, Global};
 
@@ -86,30 +89,30 @@ fn are_adjacent(
     }
 }
 
-// The adjacent pairs with the first ray at `up`, behind what is there.
+// The adjacent pairs with the first ray at `up` and the second at one of these places, behind what is there.
 fn push_pairs_of(
     pairs: &mut Vec<Pair>,
     up: usize,
-    products: &[i128],
+    downs: &[usize],
     saturation: &SatMatrix,
     columns: &SatMatrix,
 ) -> Result<(), AllocError>
-    requires inside { up < length products.now }
-    requires each { length products.now ≡ length saturation.now.rows }
+    requires inside { up < length saturation.now.rows }
+    requires each { All (λ down. down < length saturation.now.rows) downs.now }
     requires columns { AreColumns saturation.now (length columns.now.rows) columns.now }
     requires most { length columns.now.rows ≤ saturation.now.width }
-    requires above { pos 0 <ℤ slice_index_or products.now up (pos 0) }
-    ensures { OnOk result (ArePairs products.now saturation.now.rows up 0 pairs.old.items →
-        ArePairs products.now saturation.now.rows (up + 1) 0 pairs.new.items) }
+    ensures { OnOk result ((products : List ℤ) →
+        pos 0 <ℤ slice_index_or products up (pos 0) → AreBelow products 0 (length products) downs.now →
+        ArePairs products saturation.now.rows up 0 pairs.old.items →
+        ArePairs products saturation.now.rows (up + 1) 0 pairs.new.items) }
 {
     let places = true_places(*pairs.allocator(), saturation.row(up), columns.height())?;
     let mut known = up;
-    for down in 0..products.len() {
-        if products[down] < 0 {
-            if are_adjacent(saturation, columns, &places, up, down, &mut known) {
-                let tight = saturation.row(up).common(saturation.row(down))?;
-                pairs.push(Pair { up, down, tight })?;
-            }
+    for i in 0..downs.len() {
+        let down = downs[i];
+        if are_adjacent(saturation, columns, &places, up, down, &mut known) {
+            let tight = saturation.row(up).common(saturation.row(down))?;
+            pairs.push(Pair { up, down, tight })?;
         }
     }
     Ok(())
@@ -124,11 +127,12 @@ pub fn adjacent_pairs(
     requires { length products.now ≡ length saturation.now.rows }
     ensures { IfOk result (λ pairs. ArePairs products.now saturation.now.rows (length products.now) 0 pairs.items) }
 {
-    let columns = find_columns(alloc, products, saturation)?;
+    let downs = places_below(alloc, products)?;
+    let columns = find_columns(alloc, count_above(products), downs.len(), saturation)?;
     let mut pairs = Vec::new(alloc);
     for up in 0..products.len() {
         if products[up] > 0 {
-            push_pairs_of(&mut pairs, up, products, saturation, &columns)?;
+            push_pairs_of(&mut pairs, up, &downs, saturation, &columns)?;
         }
     }
     Ok(pairs)
