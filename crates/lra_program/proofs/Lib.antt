@@ -1,5 +1,7 @@
 -- Worked examples: each definition of specs/ on programs and values whose answers are known.
 mod ValueExamples
 pub mod RunExamples
+pub mod TrailLaws
+mod TrailExamples
 mod WellFormedExamples
 mod ProgramViewExamples

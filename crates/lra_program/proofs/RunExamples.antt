@@ -52,7 +52,7 @@ no_draw = refl
 
 -- int main(void){ long x; x = 2; assert(x >= 3); }
 -- the run ends at the assertion: nothing behind it is reached
-abbrev failing : Program
+abbrev pub failing : Program
 failing = main_alone (declaration (fresh 1) (statement (assign 2 (local 0) (value (literal 2))) (statement (assert 3 (compare at_least x (literal 3))) no_more))) 4
 
 failing_run : visited failing (pos 7 ∷ []) ≡ ([], 1, []) ∷ ([], 2, pos 7 ∷ []) ∷ ([], 3, pos 2 ∷ []) ∷ []

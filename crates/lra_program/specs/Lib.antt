@@ -4,6 +4,7 @@ pub mod ProgramViews
 pub mod Value
 pub mod Step
 pub mod Run
+pub mod Trails
 -- Points, and programs that sources mean.
 pub mod Sites
 pub mod Assertions
