@@ -2,3 +2,5 @@
 mod NodeViewExamples
 mod DistinctExamples
 pub mod SizeLaws
+pub mod TrailLaws
+mod TrailExamples

@@ -1,0 +1,50 @@
+-- Trails of small trees.
+use Rattle.std.proofs.Common.{ℕ, suc, ℤ, pos, [], ◌∷◌, Some, inl, inr, refl}
+use Rattle.lra_base.specs.Operators.{plus, below}
+use Rattle.lra_program.specs.Program.{Cond, literal, read, binary, compare, local}
+use Rattle.lra_program.specs.Step.{State, give}
+use Rattle.lra_program.specs.Trails.{passes, Trail, Alone}
+use Rattle.lra_operations.specs.Graph.{broken, Node, point, act, seq, iterate, check, catch, leave}
+use Rattle.lra_operations.specs.Trails.{to_point, to_failure, to_end, stopped, Goes}
+
+abbrev x_is : ℤ → State
+x_is z = record { store = z ∷ []; draws = [] }
+
+abbrev starts : State → Trail ℕ
+starts s = record { state = s; met = [] }
+
+abbrev x_below : ℕ → Cond
+x_below n = compare below (read (local 0)) (literal n)
+
+-- while(x<2) x=x+1; : the points 0 of the loop and 1 of the assignment
+abbrev counting : Node
+counting = iterate 0 0 (x_below 2) (seq (point 1) (act 1 (give 0 (Some 0) (binary plus (read (local 0)) (literal 1)))))
+
+-- from x = 1: the loop's point, the assignment's, and the loop's again, where the test is false; the latest first
+counted : Goes (λ q. q) Alone counting (starts (x_is (pos 1))) to_end
+    (record { state = x_is (pos 2); met = passes 0 (x_is (pos 2)) ∷ passes 1 (x_is (pos 1)) ∷ passes 0 (x_is (pos 1)) ∷ [] })
+counted = (1, _, (_, refl, (_, (_, (refl, refl), (refl, refl)), (_, (refl, refl), (refl, refl)))), (_, (refl, refl), (refl, refl)))
+
+-- it comes to the assignment in the first round, past the loop's point alone
+in_the_round : Goes (λ q. q) Alone counting (starts (x_is (pos 1))) (stopped (to_point 1)) (record { state = x_is (pos 1); met = passes 0 (x_is (pos 1)) ∷ [] })
+in_the_round = (0, _, refl, inr (_, (_, (refl, refl), (refl, refl)), inl (refl, refl)))
+
+-- the loop's own point isn't met where the run is followed no further than there
+to_the_loop : Goes (λ q. q) Alone counting (starts (x_is (pos 5))) (stopped (to_point 0)) (starts (x_is (pos 5)))
+to_the_loop = (0, _, refl, inl (refl, refl))
+
+-- assert(x<2); a failure meets the assertion's point
+abbrev asserted : Node
+asserted = seq (point 7) (check 7 0 (x_below 2))
+
+failed : Goes (λ q. q) Alone asserted (starts (x_is (pos 5))) (stopped (to_failure 7)) (record { state = x_is (pos 5); met = passes 7 (x_is (pos 5)) ∷ [] })
+failed = inr (_, (refl, refl), (refl, refl, _, refl))
+
+-- ; break; : the jump comes out behind the loop, past the point before it
+left : Goes (λ q. q) Alone (catch 3 broken (seq (point 4) (leave 1 broken))) (starts (x_is (pos 0))) to_end (record { state = x_is (pos 0); met = passes 4 (x_is (pos 0)) ∷ [] })
+left = inr (inr (_, (refl, refl), (refl, refl)))
+
+-- points by other names
+named : Goes (λ q. suc q) Alone (seq (point 4) (point 5)) (starts (x_is (pos 0))) to_end
+    (record { state = x_is (pos 0); met = passes 6 (x_is (pos 0)) ∷ passes 5 (x_is (pos 0)) ∷ [] })
+named = (_, (refl, refl), (refl, refl))
