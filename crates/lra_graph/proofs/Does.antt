@@ -1,75 +1,27 @@
--- What the tree reaches, a run reaches.
-use Rattle.std.proofs.Common.{◌≡◌, ◌≢◌, ℕ, zero, suc, ◌+◌, ◌≤◌, ℤ, List, ◌∷◌, length, Option, Some, None, Bool, true, false, ◌⊎◌, inl, inr, refl, sym, ap, ◌∙◌, subst, slice_get}
+-- What the tree reaches, a run reaches, on the same trail.
+use Rattle.std.proofs.Common.{◌≡◌, ◌≢◌, ℕ, zero, suc, ◌+◌, ◌≤◌, ℤ, List, ◌∷◌, length, Option, Some, None, Bool, true, false, inl, inr, refl, sym, ap, ◌∙◌, subst, slice_get}
 use Rattle.std.proofs.lemmas.Option.{same_Some, none-some}
 use Rattle.lra_program.specs.Program.{Expr, Cond, Call, Rvalue, value, result, Declarator, Stmt, absent, nothing, block, assign, call, if, loop, for, break, continue, return, assert, assume}
 use Rattle.lra_program.specs.Program.{BlockItems, no_more, declaration, statement, Function, Program}
 use Rattle.lra_program.specs.Value.{Drawn, index_of, truth_of}
 use Rattle.lra_program.specs.Step.{State, Op, append, give, give_any, push, keep, test, run_op, run_any, tested, Here, Back, Item, run, declare, all, end_of, turn, cut, mark, leave_call, Config, Turn}
-use Rattle.lra_program.specs.Step.{to_turn, Called, to_mark, target_of, go, go_by, go_on, enter, do_rvalue, do_leave, do_break, do_continue, do_stmt, do_declare, next}
-use Rattle.lra_program.specs.Run.{Steps, label_on, IsFailing}
-use Rattle.lra_operations.specs.Graph.{Exit, broken, continued, returned, How, normal, jump, Node, empty, point, act, check, seq, choose, leave, Rounds, Ends, Comes, FailsAt}
+use Rattle.lra_program.specs.Step.{to_turn, Called, to_mark, target_of, go, go_by, go_on, enter, do_rvalue, do_leave, do_break, do_continue, do_stmt, do_declare, next, next_at}
+use Rattle.lra_program.specs.Run.{label_on, Point, IsFailing}
+use Rattle.lra_program.specs.Trails.{Met, passes, Trail, met_on, Becomes, Walks}
+use Rattle.lra_program.proofs.TrailLaws.{walk_on}
+use Rattle.lra_operations.specs.Graph.{Exit, broken, continued, returned, Node, empty, point, act, check, seq, choose, leave}
+use Rattle.lra_operations.specs.Trails.{Stop, by_jump, to_point, to_failure, Outcome, to_end, stopped, Goes, Tests, TrailRounds, Performs, Passes}
+use Rattle.lra_operations.specs.TrailsAgree.{KeepsWidth, point_at, point_or_none}
 use Rattle.lra_program.specs.Sites.{Site}
 use Rattle.lra_operations.specs.Inlined.{Frame, Spot, spot_of, move, Has, HasSite, callee, Inl, InlAll, Declares, Loops, Gives, as_nothing, as_block, as_absent, as_assign, as_call, as_if, as_loop}
-use Rattle.lra_operations.specs.Inlined.{as_for}
-use Rattle.lra_operations.specs.Inlined.{as_break}
+use Rattle.lra_operations.specs.Inlined.{as_for, as_break}
 use Rattle.lra_operations.specs.Inlined.{as_continue, as_return, as_return_value, as_return_call, as_end, as_end_value, as_end_call, as_assert, as_assume, as_none, as_declaration, as_statement}
 use Rattle.lra_operations.specs.Inlined.{as_fresh, as_given, is_loop, as_value, as_result, loop_node, call_node, return_node}
-use Rattle.lra_graph.proofs.Shapes.{seq_inv, act_inv, point_inv, leave_inv, point_seq, act_seq, check_inv, jump_inv, EndsBody, EndsCall, call_inv, Round, RoundOf, round_inv, LeavesRound, EndsLoop}
-use Rattle.lra_graph.proofs.Shapes.{loop_inv}
-use Rattle.lra_graph.proofs.Lengths.{JumpLength, Length, length_one, length_all, length_declarator, length_loop, length_test, length_push, length_append, grows_all, in_loop, mid_length, rounds_length}
+use Rattle.lra_graph.proofs.Shapes.{seq_inv, act_inv, leave_inv, point_seq, act_seq, jump_inv, EndsBody, GoesCall, call_returned, call_ended, call_stopped, call_at_end, call_inv, Round}
+use Rattle.lra_graph.proofs.Shapes.{EndsBodyRound, LeavesRound, EndsLoop, loop_done, loop_at, loop_broken, loop_left, loop_inv}
+use Rattle.lra_graph.proofs.Lengths.{LengthAt, Length, length_one, length_all, length_declarator, length_loop, length_test}
+use Rattle.lra_graph.proofs.Lengths.{length_push, length_append, grows_all, tests_length, in_loop, mid_length, rounds_length}
 use Rattle.lra_graph.proofs.Landing.{config, land, land_skip, Matches, matches_skip, mark_none, turn_length, back_of, land_broken, land_continued, land_returned}
-
-abbrev pub landing : How → Here → List Item → State → Option Config
-landing normal h k s = Some (config k h s)
-landing (jump j) h k s = land j h k s
-
-abbrev pub RunsTo : Program → Config → Config → Type 0
-RunsTo P c d = (n : ℕ) × Steps P n c d
-
-join_steps : (P : Program) (i : ℕ) (c d e : Config) → Steps P i c d → RunsTo P d e → RunsTo P c e
-join_steps P zero c d e x y = rw x y
-join_steps P (suc i) c d e (c', z, x) y = let r = join_steps P i c' d e x y in (suc r.0, (c', z, r.1))
-
-join : (P : Program) (c d e : Config) → RunsTo P c d → RunsTo P d e → RunsTo P c e
-join P c d e x y = join_steps P x.0 c d e x.1 y
-
-step_to : (P : Program) (c d e : Config) → next P c ≡ Some d → RunsTo P d e → RunsTo P c e
-step_to P c d e x y = (suc y.0, (d, x, y.1))
-
-one_step : (P : Program) (c d : Config) → next P c ≡ Some d → RunsTo P c d
-one_step P c d x = (1, (d, x, refl))
-
-abbrev pub HasState : State → Config → Type 0
-HasState t d = d.state ≡ t
-
-abbrev pub IsFalse : Config → Type 0
-IsFalse d = IsFailing d.items d.here d.state
-
--- a run from c stands at the point of this number, in a configuration with the property
-pub record Stands (P : Program) (T : List Site) (c : Config) (q : ℕ) (X : Config → Type 0) : Type 0 where
-  pub there : Config
-  pub label : ℕ
-  pub asserts : Bool
-  pub runs : RunsTo P c there
-  pub on : label_on there.items ≡ Some label
-  pub site : slice_get T q ≡ Some (record { path = there.here.path; label = label; live = length there.state.store; asserts = asserts })
-  pub meets : X there
-
-later : (P : Program) (T : List Site) (c d : Config) (q : ℕ) (X : Config → Type 0) → RunsTo P c d → Stands P T d q X → Stands P T c q X
-later P T c d q X x y = record { there = y.there; label = y.label; asserts = y.asserts; runs = join P c d y.there x y.runs; on = y.on; site = y.site; meets = y.meets }
-
--- with n variables, a run of the item does what the tree does, whatever waits below
-pub record Does (P : Program) (T : List Site) (f : Frame) (n : ℕ) (i : Item) (g : Node) : Type 0 where
-  pub ends : (k : List Item) (s : State) (h : How) (t : State) (e : Config) → Matches f k → length s.store ≡ n → Ends g s h t → landing h f.here k t ≡ Some e → RunsTo P (config (i ∷ k) f.here s) e
-  pub comes : (k : List Item) (s : State) (q : ℕ) (t : State) → Matches f k → length s.store ≡ n → Comes g s q t → Stands P T (config (i ∷ k) f.here s) q (HasState t)
-  pub fails : (k : List Item) (s : State) (q : ℕ) → Matches f k → length s.store ≡ n → FailsAt g s q → Stands P T (config (i ∷ k) f.here s) q IsFalse
-
--- the same of what a variable gets
-pub record GivesDoes (P : Program) (T : List Site) (f : Frame) (n : ℕ) (x : Option ℕ) (a : Rvalue) (g : Node) : Type 0 where
-  pub ends : (k : List Item) (s t : State) → length s.store ≡ n → Ends g s normal t → (e : Config) × (do_rvalue P x a k f.here s ≡ Some e) × RunsTo P e (config k f.here t)
-  pub comes : (k : List Item) (s : State) (q : ℕ) (t : State) → length s.store ≡ n → Comes g s q t → (e : Config) × (do_rvalue P x a k f.here s ≡ Some e) × Stands P T e q (HasState t)
-  pub fails : (k : List Item) (s : State) (q : ℕ) → length s.store ≡ n → FailsAt g s q → (e : Config) × (do_rvalue P x a k f.here s ≡ Some e) × Stands P T e q IsFalse
-  pub quiet : (s : State) (j : Exit) (t : State) → length s.store ≡ n → Ends g s (jump j) t → ⊥
 
 go_is : (k : List Item) (h : Here) (o : Option State) (t : State) → o ≡ Some t → go k h o ≡ Some (config k h t)
 go_is k h o t e = rw e refl
@@ -86,409 +38,6 @@ go_by_false : (a b : List Item) (h : Here) (store : List ℤ) (v : Drawn Bool) (
 go_by_false a b h store None t e = absurd (none-some t e)
 go_by_false a b h store (Some (true, ds)) t e = absurd (none-some t e)
 go_by_false a b h store (Some (false, ds)) t e = ap (λ (s : State). Some (config b h s)) (same_Some _ t e)
-
-module _ (P : Program) (T : List Site) (spot : Spot) where
-  D : Item → Node → Type 0
-  D i g = Does P T spot.frame spot.live i g
-
-  -- an item's point stands before what it does
-  does_point : (at : ℕ) (i : Item) (g : Node) → Has T spot at → ((k : List Item) → label_on (i ∷ k) ≡ Some at) → Does P T spot.frame spot.live i g →
-      Does P T spot.frame spot.live i (seq (point spot.next) g)
-  does_point at i g has lab x = record {
-    ends = λ k s h t e m l y z. x.ends k s h t e m l (point_seq spot.next g s h t y) z;
-    comes = λ k s q' t m l y. elim y as (λ _. Stands P T (config (i ∷ k) spot.frame.here s) q' (HasState t)) [
-      | inl z ↦ record { there = config (i ∷ k) spot.frame.here s; label = at; asserts = false; runs = (0, refl); on = lab k; site = rw (z.0, l) has; meets = sym z.1 }
-      | inr z ↦ x.comes k s q' t m l (rw z.1 at z.2)
-    ];
-    fails = λ k s q' m l y. elim y as (λ _. Stands P T (config (i ∷ k) spot.frame.here s) q' IsFalse) [
-      | inl z ↦ absurd z
-      | inr z ↦ x.fails k s q' m l (rw z.1 at z.2)
-    ];
-  }
-
-  does_act : (op : Op) (i : Item) → ((k : List Item) (s : State) → next P (config (i ∷ k) spot.frame.here s) ≡ go k spot.frame.here (run_op op s)) → Does P T spot.frame spot.live i (act spot.next op)
-  does_act op i same = record {
-    ends = λ k s h t e m l y z. let x = act_inv spot.next op s h t y in
-        let z' : config k spot.frame.here t ≡ e = same_Some (config k spot.frame.here t) e (subst (λ w. landing w spot.frame.here k t ≡ Some e) x.0 z) in
-        one_step P (config (i ∷ k) spot.frame.here s) e (rw (← z', same k s) (go_is k spot.frame.here (run_op op s) t x.1));
-    comes = λ k s q' t m l y. absurd y;
-    fails = λ k s q' m l y. absurd y;
-  }
-
-  -- an assertion, whose point is that of its verdict
-  does_assert : (at : ℕ) (b : Cond) → HasSite T spot at true → Does P T spot.frame spot.live (run (assert at b)) (seq (point spot.next) (check spot.next spot.frame.here.base b))
-  does_assert at b has = record {
-    ends = λ k s h t e m l y z. let x = check_inv spot.next spot.frame.here.base b s h t (point_seq spot.next (check spot.next spot.frame.here.base b) s h t y) in
-        let z' : config k spot.frame.here t ≡ e = same_Some (config k spot.frame.here t) e (subst (λ w. landing w spot.frame.here k t ≡ Some e) x.0 z) in
-        one_step P (config (run (assert at b) ∷ k) spot.frame.here s) e (rw (← z') (go_is k spot.frame.here (run_op (test spot.frame.here.base b true) s) t x.1));
-    comes = λ k s q' t m l y. elim y as (λ _. Stands P T (config (run (assert at b) ∷ k) spot.frame.here s) q' (HasState t)) [
-      | inl z ↦ record { there = config (run (assert at b) ∷ k) spot.frame.here s; label = at; asserts = true; runs = (0, refl); on = refl; site = rw (z.0, l) has; meets = sym z.1 }
-      | inr z ↦ absurd z.2
-    ];
-    fails = λ k s q' m l y. elim y as (λ _. Stands P T (config (run (assert at b) ∷ k) spot.frame.here s) q' IsFalse) [
-      | inl z ↦ absurd z
-      | inr z ↦ let w : FailsAt (check spot.next spot.frame.here.base b) s q' = rw z.1 at z.2 in
-          record { there = config (run (assert at b) ∷ k) spot.frame.here s; label = at; asserts = true; runs = (0, refl); on = refl; site = rw (w.0, l) has; meets = (w.1, w.2) }
-    ];
-  }
-
-  does_nothing : (at : ℕ) → Has T spot at → Does P T spot.frame spot.live (run (nothing at)) (point spot.next)
-  does_nothing at has = record {
-    ends = λ k s h t e m l y z. let x = point_inv spot.next s h t y in
-        let z' : config k spot.frame.here t ≡ e = same_Some (config k spot.frame.here t) e (subst (λ w. landing w spot.frame.here k t ≡ Some e) x.0 z) in
-        one_step P (config (run (nothing at) ∷ k) spot.frame.here s) e (rw (← z', x.1) refl);
-    comes = λ k s q' t m l z. record { there = config (run (nothing at) ∷ k) spot.frame.here s; label = at; asserts = false; runs = (0, refl); on = refl; site = rw (z.0, l) has; meets = sym z.1 };
-    fails = λ k s q' m l y. absurd y;
-  }
-
-  -- an item that does nothing and has no point
-  does_empty : (i : Item) → ((k : List Item) (s : State) → next P (config (i ∷ k) spot.frame.here s) ≡ Some (config k spot.frame.here s)) → Does P T spot.frame spot.live i empty
-  does_empty i same = record {
-    ends = λ k s h t e m l y z. empty_ends k s h t e y z;
-    comes = λ k s q' t m l y. absurd y;
-    fails = λ k s q' m l y. absurd y;
-  }
-    where
-      empty_ends : (k : List Item) (s : State) (h : How) (t : State) (e : Config) → Ends empty s h t → landing h spot.frame.here k t ≡ Some e → RunsTo P (config (i ∷ k) spot.frame.here s) e
-      empty_ends k s normal t e y z = one_step P (config (i ∷ k) spot.frame.here s) e (rw (← same_Some (config k spot.frame.here t) e z, y) (same k s))
-      empty_ends k s (jump j) t e y z = absurd y
-
-  -- two trees, whose items stand above k
-  does_seq : (i i' : Item) (n' : ℕ) (a b : Node) → ((k : List Item) → to_turn (i' ∷ k) ≡ to_turn k) → ((k : List Item) → to_mark (i' ∷ k) ≡ to_mark k) → Length spot.frame spot.live n' a
-      → Does P T spot.frame spot.live i a → Does P T spot.frame n' i' b → (k : List Item) (s : State) → Matches spot.frame k → length s.store ≡ spot.live
-      → ((h : How) (t : State) (e : Config) → Ends (seq a b) s h t → landing h spot.frame.here k t ≡ Some e → RunsTo P (config (i ∷ i' ∷ k) spot.frame.here s) e)
-      × ((q : ℕ) (t : State) → Comes (seq a b) s q t → Stands P T (config (i ∷ i' ∷ k) spot.frame.here s) q (HasState t))
-      × ((q : ℕ) → FailsAt (seq a b) s q → Stands P T (config (i ∷ i' ∷ k) spot.frame.here s) q IsFalse)
-  does_seq i i' n' a b sa sb len x y k s m l = (
-    λ h t e z w. elim (seq_inv a b s h t z) as (λ _. RunsTo P (config (i ∷ i' ∷ k) spot.frame.here s) e) [
-      | inl u ↦ x.ends (i' ∷ k) s (jump u.0) t e m' l u.2 (land_skip u.0 spot.frame.here i' k t (sa k) (sb k) ∙ subst (λ v. landing v spot.frame.here k t ≡ Some e) u.1 w)
-      | inr u ↦ join P (config (i ∷ i' ∷ k) spot.frame.here s) (config (i' ∷ k) spot.frame.here u.0) e (x.ends (i' ∷ k) s normal u.0 (config (i' ∷ k) spot.frame.here u.0) m' l u.1 refl)
-          (y.ends k u.0 h t e m (len.ends s u.0 normal l u.1) u.2 w)
-    ],
-    λ q t z. elim z as (λ _. Stands P T (config (i ∷ i' ∷ k) spot.frame.here s) q (HasState t)) [
-      | inl u ↦ x.comes (i' ∷ k) s q t m' l u
-      | inr u ↦ later P T (config (i ∷ i' ∷ k) spot.frame.here s) (config (i' ∷ k) spot.frame.here u.0) q (HasState t)
-          (x.ends (i' ∷ k) s normal u.0 (config (i' ∷ k) spot.frame.here u.0) m' l u.1 refl)
-          (y.comes k u.0 q t m (len.ends s u.0 normal l u.1) u.2)
-    ],
-    λ q z. elim z as (λ _. Stands P T (config (i ∷ i' ∷ k) spot.frame.here s) q IsFalse) [
-      | inl u ↦ x.fails (i' ∷ k) s q m' l u
-      | inr u ↦ later P T (config (i ∷ i' ∷ k) spot.frame.here s) (config (i' ∷ k) spot.frame.here u.0) q IsFalse (x.ends (i' ∷ k) s normal u.0 (config (i' ∷ k) spot.frame.here u.0) m' l u.1 refl)
-          (y.fails k u.0 q m (len.ends s u.0 normal l u.1) u.2)
-    ],
-  )
-    where
-      m' : Matches spot.frame (i' ∷ k)
-      m' = matches_skip spot.frame i' k (sa k) (sb k) m
-
-  -- an item that takes one step to two others
-  does_two : (i j j' : Item) (n' : ℕ) (a b : Node) → ((k : List Item) (s : State) → length s.store ≡ spot.live →
-      next P (config (i ∷ k) spot.frame.here s) ≡ Some (config (j ∷ j' ∷ k) spot.frame.here s))
-      → ((k : List Item) → to_turn (j' ∷ k) ≡ to_turn k) → ((k : List Item) → to_mark (j' ∷ k) ≡ to_mark k) → Length spot.frame spot.live n' a → Does P T spot.frame spot.live j a →
-      Does P T spot.frame n' j' b → Does P T spot.frame spot.live i (seq a b)
-  does_two i j j' n' a b nx sa sb len x y = record {
-    ends = λ k s h t e m l z w. step_to P (config (i ∷ k) spot.frame.here s) (config (j ∷ j' ∷ k) spot.frame.here s) e (nx k s l) ((does_seq j j' n' a b sa sb len x y k s m l).0 h t e z w);
-    comes = λ k s q t m l z. later P T (config (i ∷ k) spot.frame.here s) (config (j ∷ j' ∷ k) spot.frame.here s) q (HasState t)
-        (one_step P (config (i ∷ k) spot.frame.here s) (config (j ∷ j' ∷ k) spot.frame.here s) (nx k s l))
-        ((does_seq j j' n' a b sa sb len x y k s m l).1 q t z);
-    fails = λ k s q m l z. later P T (config (i ∷ k) spot.frame.here s) (config (j ∷ j' ∷ k) spot.frame.here s) q IsFalse
-        (one_step P (config (i ∷ k) spot.frame.here s) (config (j ∷ j' ∷ k) spot.frame.here s) (nx k s l))
-        ((does_seq j j' n' a b sa sb len x y k s m l).2 q z);
-  }
-
-  does_if : (at : ℕ) (b : Cond) (a a' : Stmt) (g h : Node) → Does P T spot.frame spot.live (run a) g → Does P T spot.frame spot.live (run a') h →
-      Does P T spot.frame spot.live (run (if at b a a')) (choose spot.next spot.frame.here.base b g h)
-  does_if at b a a' g h x y = record {
-    ends = λ k s how t e m l z w. elim z as (λ _. RunsTo P (config (run (if at b a a') ∷ k) spot.frame.here s) e) [
-      | inl u ↦ step_to P (config (run (if at b a a') ∷ k) spot.frame.here s) (config (run a ∷ k) spot.frame.here u.0) e (on_true k s u.0 u.1)
-          (x.ends k u.0 how t e m (length_test spot.frame.here.base b true s u.0 u.1 ∙ l) u.2 w)
-      | inr u ↦ step_to P (config (run (if at b a a') ∷ k) spot.frame.here s) (config (run a' ∷ k) spot.frame.here u.0) e (on_false k s u.0 u.1)
-          (y.ends k u.0 how t e m (length_test spot.frame.here.base b false s u.0 u.1 ∙ l) u.2 w)
-    ];
-    comes = λ k s p t m l z. elim z as (λ _. Stands P T (config (run (if at b a a') ∷ k) spot.frame.here s) p (HasState t)) [
-      | inl u ↦ into_first k s u.0 p (HasState t) u.1 (x.comes k u.0 p t m (length_test spot.frame.here.base b true s u.0 u.1 ∙ l) u.2)
-      | inr u ↦ into_other k s u.0 p (HasState t) u.1 (y.comes k u.0 p t m (length_test spot.frame.here.base b false s u.0 u.1 ∙ l) u.2)
-    ];
-    fails = λ k s p m l z. elim z as (λ _. Stands P T (config (run (if at b a a') ∷ k) spot.frame.here s) p IsFalse) [
-      | inl u ↦ into_first k s u.0 p IsFalse u.1 (x.fails k u.0 p m (length_test spot.frame.here.base b true s u.0 u.1 ∙ l) u.2)
-      | inr u ↦ into_other k s u.0 p IsFalse u.1 (y.fails k u.0 p m (length_test spot.frame.here.base b false s u.0 u.1 ∙ l) u.2)
-    ];
-  }
-    where
-      on_true : (k : List Item) (s u : State) → run_op (test spot.frame.here.base b true) s ≡ Some u →
-          next P (config (run (if at b a a') ∷ k) spot.frame.here s) ≡ Some (config (run a ∷ k) spot.frame.here u)
-      on_true k s u o = go_by_true (run a ∷ k) (run a' ∷ k) spot.frame.here s.store (truth_of b spot.frame.here.base s.store s.draws) u o
-
-      on_false : (k : List Item) (s u : State) → run_op (test spot.frame.here.base b false) s ≡ Some u →
-          next P (config (run (if at b a a') ∷ k) spot.frame.here s) ≡ Some (config (run a' ∷ k) spot.frame.here u)
-      on_false k s u o = go_by_false (run a ∷ k) (run a' ∷ k) spot.frame.here s.store (truth_of b spot.frame.here.base s.store s.draws) u o
-
-      into_first : (k : List Item) (s u : State) (p : ℕ) (X : Config → Type 0) → run_op (test spot.frame.here.base b true) s ≡ Some u → Stands P T (config (run a ∷ k) spot.frame.here u) p X
-          → Stands P T (config (run (if at b a a') ∷ k) spot.frame.here s) p X
-      into_first k s u p X o z = later P T (config (run (if at b a a') ∷ k) spot.frame.here s) (config (run a ∷ k) spot.frame.here u) p X
-          (one_step P (config (run (if at b a a') ∷ k) spot.frame.here s) (config (run a ∷ k) spot.frame.here u) (on_true k s u o)) z
-
-      into_other : (k : List Item) (s u : State) (p : ℕ) (X : Config → Type 0) → run_op (test spot.frame.here.base b false) s ≡ Some u → Stands P T (config (run a' ∷ k) spot.frame.here u) p X
-          → Stands P T (config (run (if at b a a') ∷ k) spot.frame.here s) p X
-      into_other k s u p X o z = later P T (config (run (if at b a a') ∷ k) spot.frame.here s) (config (run a' ∷ k) spot.frame.here u) p X
-          (one_step P (config (run (if at b a a') ∷ k) spot.frame.here s) (config (run a' ∷ k) spot.frame.here u) (on_false k s u o)) z
-
-  does_give : (r : ℕ) (x : Option ℕ) (v : Expr) → GivesDoes P T spot.frame spot.live x (value v) (act spot.next (give spot.frame.here.base x v))
-  does_give r x v = record {
-    ends = λ k s t l y. (config k spot.frame.here t, go_is k spot.frame.here (run_op (give spot.frame.here.base x v) s) t y, (0, refl));
-    comes = λ k s q' t l y. absurd y;
-    fails = λ k s q' l y. absurd y;
-    quiet = λ s j t l y. y;
-  }
-
-  -- a statement that only gives a variable its value
-  does_rvalue : (i : Stmt) (x : Option ℕ) (a : Rvalue) (g : Node) → ((k : List Item) (s : State) → length s.store ≡ spot.live → do_stmt P i k spot.frame.here s ≡ do_rvalue P x a k spot.frame.here s)
-      → GivesDoes P T spot.frame spot.live x a g → Does P T spot.frame spot.live (run i) g
-  does_rvalue i x a g same y = record {
-    ends = λ k s h t e m l z w. by_how k s h t e l z w;
-    comes = λ k s q t m l z. let r = y.comes k s q t l z in later P T (config (run i ∷ k) spot.frame.here s) r.0 q (HasState t)
-        (one_step P (config (run i ∷ k) spot.frame.here s) r.0 (same k s l ∙ r.1)) r.2;
-    fails = λ k s q m l z. let r = y.fails k s q l z in later P T (config (run i ∷ k) spot.frame.here s) r.0 q IsFalse (one_step P (config (run i ∷ k) spot.frame.here s) r.0 (same k s l ∙ r.1)) r.2;
-  }
-    where
-      by_how : (k : List Item) (s : State) (h : How) (t : State) (e : Config) → length s.store ≡ spot.live → Ends g s h t → landing h spot.frame.here k t ≡ Some e →
-          RunsTo P (config (run i ∷ k) spot.frame.here s) e
-      by_how k s normal t e l z w =
-          let r = y.ends k s t l z in
-          rw (← same_Some (config k spot.frame.here t) e w) (step_to P (config (run i ∷ k) spot.frame.here s) r.0 (config k spot.frame.here t) (same k s l ∙ r.1) r.2)
-      by_how k s (jump j) t e l z w = absurd (y.quiet s j t l z)
-
-  abbrev call_behind : Function → Option ℕ → List Item → List Item
-  call_behind fn x k = end_of fn.end (spot.live + fn.parameters) ∷ mark (record { target = x; here = spot.frame.here; length = spot.live }) ∷ k
-
-  does_call : (r r' : ℕ) (x : Option ℕ) (b : Call) (fn : Function) (g : Node) (n' : ℕ) → slice_get P.functions b.function ≡ Some fn → length b.arguments ≡ fn.parameters
-      → Length (callee spot.frame spot.live x b) (spot.live + fn.parameters) n' g → spot.live + fn.parameters ≤ n' → Has T (spot_of (callee spot.frame spot.live x b) n' r') fn.end →
-      Does P T (callee spot.frame spot.live x b) (spot.live + fn.parameters) (all fn.body) g
-      → GivesDoes P T spot.frame spot.live x (result b) (call_node spot.next r' spot.frame.here.base spot.live x b.arguments fn.parameters g)
-  does_call r r' x b fn g n' found i len up has y = record {
-    ends = λ k s t l z. by_end k s t l (call_inv spot r' x b.arguments fn.parameters g s normal t z);
-    comes = λ k s q' t l z. by_place k s q' t l z;
-    fails = λ k s q' l z. by_failure k s q' l z;
-    quiet = λ s j t l z. no_jump s j t l (call_inv spot r' x b.arguments fn.parameters g s (jump j) t z);
-  }
-    where
-      long : (s u : State) → length s.store ≡ spot.live → run_op (push spot.frame.here.base b.arguments) s ≡ Some u → length u.store ≡ spot.live + fn.parameters
-      long s u l o = length_push spot.frame.here.base b.arguments s u o ∙ rw (l, i) refl
-
-      matches : (k : List Item) → Matches (callee spot.frame spot.live x b) (end_of fn.end (spot.live + fn.parameters) ∷ mark (record { target = x; here = spot.frame.here; length = spot.live }) ∷ k)
-      matches k = record { loops = λ m z. absurd (none-some m z); backs = refl }
-
-      enters : (k : List Item) (s u : State) → length s.store ≡ spot.live → run_op (push spot.frame.here.base b.arguments) s ≡ Some u
-          → do_rvalue P x (result b) k spot.frame.here s ≡ Some (config (all fn.body ∷ call_behind fn x k) (callee spot.frame spot.live x b).here u)
-      enters k s u l o = subst (λ w. enter w b x k spot.frame.here s ≡ Some (config (all fn.body ∷ call_behind fn x k) (callee spot.frame spot.live x b).here u)) (sym found)
-          (rw l (go_is (all fn.body ∷ call_behind fn x k) (callee spot.frame spot.live x b).here (run_op (push spot.frame.here.base b.arguments) s) u o))
-
-      wrong : (kind : Exit) (t : State) → kind ≢ returned → JumpLength (callee spot.frame spot.live x b) kind t → ⊥
-      wrong broken t z w = none-some _ w.1
-      wrong continued t z w = none-some _ w.1
-      wrong returned t z w = z refl
-
-      jump_same : (a j : Exit) → jump a ≡ jump j → a ≡ j
-      jump_same a j e = cc
-
-      not_jump : (j : Exit) → jump j ≡ normal → ⊥
-      not_jump j e = cc
-
-      no_jump : (s : State) (j : Exit) (t : State) → length s.store ≡ spot.live → EndsCall spot r' x b.arguments fn.parameters g s (jump j) t → ⊥
-      no_jump s j t l (u, o, inl (a, z)) = not_jump j a
-      no_jump s j t l (u, o, inr (inl (a, z))) = not_jump j a
-      no_jump s j t l (u, o, inr (inr (kind, a, d, z))) = wrong kind t d (len.ends u t (jump kind) (long s u l o) z)
-
-      through_end : (k : List Item) (u t : State) → EndsBody r' spot.live x fn.parameters g u t → length u.store ≡ spot.live + fn.parameters
-          → RunsTo P (config (all fn.body ∷ call_behind fn x k) (callee spot.frame spot.live x b).here u) (config k spot.frame.here t)
-      through_end k u t z l =
-          join P (config (all fn.body ∷ call_behind fn x k) (callee spot.frame spot.live x b).here u) (config (call_behind fn x k) (callee spot.frame spot.live x b).here z.before)
-          (config k spot.frame.here t)
-          (y.ends (call_behind fn x k) u normal z.before (config (call_behind fn x k) (callee spot.frame spot.live x b).here z.before) (matches k) l z.body refl)
-          (step_to P (config (call_behind fn x k) (callee spot.frame spot.live x b).here z.before)
-          (config (mark (record { target = x; here = spot.frame.here; length = spot.live }) ∷ k) (callee spot.frame spot.live x b).here z.cut) (config k spot.frame.here t)
-          (go_is (mark (record { target = x; here = spot.frame.here; length = spot.live }) ∷ k) (callee spot.frame spot.live x b).here
-          (run_op (keep (spot.live + fn.parameters)) z.before) z.cut z.cuts)
-          (one_step P (config (mark (record { target = x; here = spot.frame.here; length = spot.live }) ∷ k) (callee spot.frame spot.live x b).here z.cut) (config k spot.frame.here t)
-          (go_on_is (run_any x z.cut) (λ v. go k spot.frame.here (run_op (keep spot.live) v)) z.set z.sets ∙ go_is k spot.frame.here (run_op (keep spot.live) z.set) t z.back)))
-
-      by_end : (k : List Item) (s t : State) → length s.store ≡ spot.live → EndsCall spot r' x b.arguments fn.parameters g s normal t → (e : Config)
-          × (do_rvalue P x (result b) k spot.frame.here s ≡ Some e) × RunsTo P e (config k spot.frame.here t)
-      by_end k s t l (u, o, inl (a, z)) = (
-        config (all fn.body ∷ call_behind fn x k) (callee spot.frame spot.live x b).here u,
-        enters k s u l o,
-        y.ends (call_behind fn x k) u (jump returned) t
-            (config k spot.frame.here t) (matches k) (long s u l o) z refl,
-      )
-      by_end k s t l (u, o, inr (inl (a, z))) = (config (all fn.body ∷ call_behind fn x k) (callee spot.frame spot.live x b).here u, enters k s u l o, through_end k u t z (long s u l o))
-      by_end k s t l (u, o, inr (inr (kind, a, d, z))) = absurd (not_jump kind (sym a))
-
-      by_place : (k : List Item) (s : State) (q' : ℕ) (t : State) → length s.store ≡ spot.live → Comes (call_node spot.next r' spot.frame.here.base spot.live x b.arguments fn.parameters g) s q' t
-          → (e : Config) × (do_rvalue P x (result b) k spot.frame.here s ≡ Some e) × Stands P T e q' (HasState t)
-      by_place k s q' t l (inl z) = absurd z
-      by_place k s q' t l (inr (u, o, inl z)) = (
-        config (all fn.body ∷ call_behind fn x k) (callee spot.frame spot.live x b).here u,
-        enters k s u l o,
-        y.comes (call_behind fn x k) u q' t (matches k) (long s u l o) z,
-      )
-      by_place k s q' t l (inr (u, o, inr (m, z, inl w))) = (
-        config (all fn.body ∷ call_behind fn x k) (callee spot.frame spot.live x b).here u,
-        enters k s u l o,
-        record {
-          there = config (call_behind fn x k) (callee spot.frame spot.live x b).here m;
-          label = fn.end;
-          asserts = false;
-          runs = y.ends (call_behind fn x k) u normal m (config (call_behind fn x k) (callee spot.frame spot.live x b).here m) (matches k) (long s u l o) z refl;
-          on = refl;
-          site = rw (w.0, len.ends u m normal (long s u l o) z) has;
-          meets = sym w.1;
-        },
-      )
-      by_place k s q' t l (inr (u, o, inr (m, z, inr (m', w, inr (m'', w', inr (m''', w'', w''')))))) = absurd w'''
-      by_place k s q' t l (inr (u, o, inr (m, z, inr (m', w, inr (m'', w', inl w''))))) = absurd w''
-      by_place k s q' t l (inr (u, o, inr (m, z, inr (m', w, inl w')))) = absurd w'
-
-      by_failure : (k : List Item) (s : State) (q' : ℕ) → length s.store ≡ spot.live → FailsAt (call_node spot.next r' spot.frame.here.base spot.live x b.arguments fn.parameters g) s q'
-          → (e : Config) × (do_rvalue P x (result b) k spot.frame.here s ≡ Some e) × Stands P T e q' IsFalse
-      by_failure k s q' l (inl z) = absurd z
-      by_failure k s q' l (inr (u, o, inl z)) = (
-        config (all fn.body ∷ call_behind fn x k) (callee spot.frame spot.live x b).here u,
-        enters k s u l o,
-        y.fails (call_behind fn x k) u q' (matches k) (long s u l o) z,
-      )
-      by_failure k s q' l (inr (u, o, inr (m, z, inr (m', w, inr (m'', w', inr (m''', w'', w''')))))) = absurd w'''
-      by_failure k s q' l (inr (u, o, inr (m, z, inr (m', w, inr (m'', w', inl w''))))) = absurd w''
-      by_failure k s q' l (inr (u, o, inr (m, z, inr (m', w, inl w')))) = absurd w'
-      by_failure k s q' l (inr (u, o, inr (m, z, inl w))) = absurd w
-
-not_normal : (j : Exit) → jump j ≡ normal → ⊥
-not_normal j e = cc
-
-module _ (P : Program) (T : List Site) (spot : Spot) (at : ℕ) (b : Cond) (a step : Stmt) (g h : Node) (has : Has T spot at) (body : Does P T (in_loop spot.frame (Some spot.live)) spot.live (run a) g)
-    (stepping : Does P T (in_loop spot.frame None) spot.live (run step) h)
-    (body_length : Length (in_loop spot.frame (Some spot.live)) spot.live spot.live g) (step_length : Length (in_loop spot.frame None) spot.live spot.live h) where
-  abbrev L : Item
-  L = run (loop at b a step)
-
-  abbrev behind : List Item → List Item
-  behind k = turn step (loop at b a step) spot.live ∷ k
-
-  goes_in : (k : List Item) (s w : State) → length s.store ≡ spot.live → run_op (test spot.frame.here.base b true) s ≡ Some w →
-      next P (config (L ∷ k) spot.frame.here s) ≡ Some (config (run a ∷ behind k) spot.frame.here w)
-  goes_in k s w l o = rw l (go_by_true (run a ∷ behind k) k spot.frame.here s.store (truth_of b spot.frame.here.base s.store s.draws) w o)
-
-  goes_out : (k : List Item) (s w : State) → run_op (test spot.frame.here.base b false) s ≡ Some w → next P (config (L ∷ k) spot.frame.here s) ≡ Some (config k spot.frame.here w)
-  goes_out k s w o = go_by_false (run a ∷ turn step (loop at b a step) (length s.store) ∷ k) k spot.frame.here s.store (truth_of b spot.frame.here.base s.store s.draws) w o
-
-  in_body : (k : List Item) → Matches spot.frame k → Matches (in_loop spot.frame (Some spot.live)) (behind k)
-  in_body k m = record { loops = λ w z. z; backs = m.backs }
-
-  in_step : (k : List Item) → Matches spot.frame k → Matches (in_loop spot.frame None) (L ∷ k)
-  in_step k m = record { loops = λ w z. absurd (none-some w z); backs = m.backs }
-
-  body_runs : (k : List Item) → Matches spot.frame k → (w mid : State) → length w.store ≡ spot.live → Ends g w normal mid ⊎ Ends g w (jump continued) mid
-      → RunsTo P (config (run a ∷ behind k) spot.frame.here w) (config (run step ∷ L ∷ k) spot.frame.here mid)
-  body_runs k m w mid l (inl e) = join P (config (run a ∷ behind k) spot.frame.here w) (config (behind k) spot.frame.here mid) (config (run step ∷ L ∷ k) spot.frame.here mid)
-      (body.ends (behind k) w normal mid (config (behind k) spot.frame.here mid) (in_body k m) l e refl)
-      (one_step P (config (behind k) spot.frame.here mid) (config (run step ∷ L ∷ k) spot.frame.here mid) refl)
-  body_runs k m w mid l (inr e) = join P (config (run a ∷ behind k) spot.frame.here w) (config (behind k) spot.frame.here mid) (config (run step ∷ L ∷ k) spot.frame.here mid)
-      (body.ends (behind k) w (jump continued) mid (config (behind k) spot.frame.here mid) (in_body k m) l e refl)
-      (one_step P (config (behind k) spot.frame.here mid) (config (run step ∷ L ∷ k) spot.frame.here mid) refl)
-
-  round_runs : (k : List Item) → Matches spot.frame k → (s v : State) → length s.store ≡ spot.live → RoundOf spot.next spot.frame.here.base b g h s v →
-      RunsTo P (config (L ∷ k) spot.frame.here s) (config (L ∷ k) spot.frame.here v)
-  round_runs k m s v l r =
-      let lw = length_test spot.frame.here.base b true s r.on r.tests ∙ l in
-      step_to P (config (L ∷ k) spot.frame.here s) (config (run a ∷ behind k) spot.frame.here r.on) (config (L ∷ k) spot.frame.here v) (goes_in k s r.on l r.tests)
-      (join P (config (run a ∷ behind k) spot.frame.here r.on) (config (run step ∷ L ∷ k) spot.frame.here r.mid) (config (L ∷ k) spot.frame.here v) (body_runs k m r.on r.mid lw r.body)
-      (stepping.ends (L ∷ k) r.mid normal v (config (L ∷ k) spot.frame.here v) (in_step k m) (mid_length spot.frame spot.live g h body_length step_length r.on r.mid lw r.body) r.steps refl))
-
-  rounds_run : (k : List Item) → Matches spot.frame k → (i : ℕ) (s v : State) → length s.store ≡ spot.live → Rounds (Round spot.next spot.frame.here.base b g h) i s v →
-      RunsTo P (config (L ∷ k) spot.frame.here s) (config (L ∷ k) spot.frame.here v)
-  rounds_run k m zero s v l r = (0, rw r refl)
-  rounds_run k m (suc i) s v l (u, r, o) =
-      join P (config (L ∷ k) spot.frame.here s) (config (L ∷ k) spot.frame.here u) (config (L ∷ k) spot.frame.here v) (rounds_run k m i s u l r)
-      (round_runs k m u v (rounds_length spot.frame spot.live g h body_length step_length spot.next spot.frame.here.base b i s u l r) (round_inv spot.next spot.frame.here.base b g h u v o))
-
-  -- out of the last round
-  leaves_run : (k : List Item) → Matches spot.frame k → (w : State) (j : Exit) (how : How) (t : State) (e : Config) → length w.store ≡ spot.live → LeavesRound g h w j t
-      → ((j ≡ broken) × (how ≡ normal)) ⊎ ((j ≢ broken) × (how ≡ jump j))
-      → landing how spot.frame.here k t ≡ Some e → RunsTo P (config (run a ∷ behind k) spot.frame.here w) e
-  leaves_run k m w broken how t e l (inl (d, y)) (inl (i, i')) z = body.ends (behind k) w (jump broken) t e (in_body k m) l y (subst (λ v. landing v spot.frame.here k t ≡ Some e) i' z)
-  leaves_run k m w broken how t e l y (inr (i, i')) z = absurd (i refl)
-  leaves_run k m w continued how t e l (inl (d, y)) i z = absurd (d refl)
-  leaves_run k m w continued how t e l (inr (mid, x, y)) i z = absurd (none-some _ (step_length.ends mid t (jump continued)
-      (mid_length spot.frame spot.live g h body_length step_length w mid l x) y).1)
-  leaves_run k m w broken how t e l (inr (mid, x, y)) (inl i) z = absurd (none-some _ (step_length.ends mid t (jump broken)
-      (mid_length spot.frame spot.live g h body_length step_length w mid l x) y).1)
-  leaves_run k m w returned how t e l y (inl (i, i')) z = absurd (not_broken i)
-    where
-      not_broken : returned ≡ broken → ⊥
-      not_broken i = cc
-  leaves_run k m w returned how t e l (inl (d, y)) (inr (i, i')) z = body.ends (behind k) w (jump returned) t e (in_body k m) l y (subst (λ v. landing v spot.frame.here k t ≡ Some e) i' z)
-  leaves_run k m w returned how t e l (inr (mid, x, y)) (inr (i, i')) z =
-      join P (config (run a ∷ behind k) spot.frame.here w) (config (run step ∷ L ∷ k) spot.frame.here mid) e (body_runs k m w mid l x)
-      (stepping.ends (L ∷ k) mid (jump returned) t e (in_step k m) (mid_length spot.frame spot.live g h body_length step_length w mid l x) y (subst (λ v. landing v spot.frame.here k t ≡ Some e) i' z))
-
-  loop_ends : (k : List Item) (s : State) (how : How) (t : State) (e : Config) → Matches spot.frame k → length s.store ≡ spot.live → EndsLoop spot.next spot.frame.here.base b g h s how t →
-      landing how spot.frame.here k t ≡ Some e
-      → RunsTo P (config (L ∷ k) spot.frame.here s) e
-  loop_ends k s how t e m l (i, u, r, inl (x, o)) z =
-      join P (config (L ∷ k) spot.frame.here s) (config (L ∷ k) spot.frame.here u) e (rounds_run k m i s u l r)
-      (rw (← same_Some (config k spot.frame.here t) e (subst (λ v. landing v spot.frame.here k t ≡ Some e) x z))
-      (one_step P (config (L ∷ k) spot.frame.here u) (config k spot.frame.here t) (goes_out k u t o)))
-  loop_ends k s how t e m l (i, u, r, inr (w, j, o, y, x)) z =
-      let lu = rounds_length spot.frame spot.live g h body_length step_length spot.next spot.frame.here.base b i s u l r in
-      join P (config (L ∷ k) spot.frame.here s) (config (L ∷ k) spot.frame.here u) e (rounds_run k m i s u l r)
-      (step_to P (config (L ∷ k) spot.frame.here u) (config (run a ∷ behind k) spot.frame.here w) e (goes_in k u w lu o)
-      (leaves_run k m w j how t e (length_test spot.frame.here.base b true u w o ∙ lu) y x z))
-
-  -- whole rounds, and then into the body
-  into_body : (k : List Item) → Matches spot.frame k → (i : ℕ) (s u w : State) (p : ℕ) (X : Config → Type 0) → length s.store ≡ spot.live → Rounds (Round spot.next spot.frame.here.base b g h) i s u
-      → run_op (test spot.frame.here.base b true) u ≡ Some w
-      → Stands P T (config (run a ∷ behind k) spot.frame.here w) p X → Stands P T (config (L ∷ k) spot.frame.here s) p X
-  into_body k m i s u w p X l r o z =
-      later P T (config (L ∷ k) spot.frame.here s) (config (L ∷ k) spot.frame.here u) p X (rounds_run k m i s u l r)
-      (later P T (config (L ∷ k) spot.frame.here u) (config (run a ∷ behind k) spot.frame.here w) p X
-      (one_step P (config (L ∷ k) spot.frame.here u) (config (run a ∷ behind k) spot.frame.here w)
-      (goes_in k u w (rounds_length spot.frame spot.live g h body_length step_length spot.next spot.frame.here.base b i s u l r) o)) z)
-
-  loop_comes : (k : List Item) (s : State) (p : ℕ) (t : State) → Matches spot.frame k → length s.store ≡ spot.live → Comes (loop_node spot.next spot.frame.here.base b g h) s p t →
-      Stands P T (config (L ∷ k) spot.frame.here s) p (HasState t)
-  loop_comes k s p t m l (i, u, r, inl (x, y)) = record {
-    there = config (L ∷ k) spot.frame.here u;
-    label = at;
-    asserts = false;
-    runs = rounds_run k m i s u l r;
-    on = refl;
-    site = rw (x, rounds_length spot.frame spot.live g h body_length step_length spot.next spot.frame.here.base b i s u l r) has;
-    meets = sym y;
-  }
-  loop_comes k s p t m l (i, u, r, inr (w, o, inl y)) =
-      into_body k m i s u w p (HasState t) l r o
-      (body.comes (behind k) w p t (in_body k m) (length_test spot.frame.here.base b true u w o ∙
-      rounds_length spot.frame spot.live g h body_length step_length spot.next spot.frame.here.base b i s u l r) y)
-  loop_comes k s p t m l (i, u, r, inr (w, o, inr (mid, x, y))) =
-      let lw = length_test spot.frame.here.base b true u w o ∙ rounds_length spot.frame spot.live g h body_length step_length spot.next spot.frame.here.base b i s u l r in
-      into_body k m i s u w p (HasState t) l r o (later P T (config (run a ∷ behind k) spot.frame.here w) (config (run step ∷ L ∷ k) spot.frame.here mid) p (HasState t) (body_runs k m w mid lw x)
-      (stepping.comes (L ∷ k) mid p t (in_step k m) (mid_length spot.frame spot.live g h body_length step_length w mid lw x) y))
-
-  loop_fails : (k : List Item) (s : State) (p : ℕ) → Matches spot.frame k → length s.store ≡ spot.live → FailsAt (loop_node spot.next spot.frame.here.base b g h) s p →
-      Stands P T (config (L ∷ k) spot.frame.here s) p IsFalse
-  loop_fails k s p m l (i, u, r, w, o, inl y) =
-      into_body k m i s u w p IsFalse l r o (body.fails (behind k) w p (in_body k m) (length_test spot.frame.here.base b true u w o ∙
-      rounds_length spot.frame spot.live g h body_length step_length spot.next spot.frame.here.base b i s u l r) y)
-  loop_fails k s p m l (i, u, r, w, o, inr (mid, x, y)) =
-      let lw = length_test spot.frame.here.base b true u w o ∙ rounds_length spot.frame spot.live g h body_length step_length spot.next spot.frame.here.base b i s u l r in
-      into_body k m i s u w p IsFalse l r o (later P T (config (run a ∷ behind k) spot.frame.here w) (config (run step ∷ L ∷ k) spot.frame.here mid) p IsFalse (body_runs k m w mid lw x)
-      (stepping.fails (L ∷ k) mid p (in_step k m) (mid_length spot.frame spot.live g h body_length step_length w mid lw x) y))
-
-  does_loop : Does P T spot.frame spot.live (run (loop at b a step)) (loop_node spot.next spot.frame.here.base b g h)
-  does_loop = record {
-    ends = λ k s how t e m l y z. loop_ends k s how t e m l (loop_inv spot.next spot.frame.here.base b g h s how t y) z;
-    comes = λ k s p t m l y. loop_comes k s p t m l y;
-    fails = λ k s p m l y. loop_fails k s p m l y;
-  }
 
 break_step : (o : Option Turn) (m : ℕ) (h : Here) (s t : State) (e : Config) → turn_length o ≡ Some m → run_op (keep m) s ≡ Some t → land_broken o h t ≡ Some e → do_break o h s ≡ Some e
 break_step None m h s t e a b d = absurd (none-some e d)
@@ -511,108 +60,506 @@ target_back (Some r) b e = ap (λ (w : Back). w.target) (same_Some r.back b e)
 no_landing : (o : Option Called) (t : State) (e : Config) → o ≡ None → land_returned o t ≡ Some e → ⊥
 no_landing o t e i z = none-some e (subst (λ w. land_returned w t ≡ Some e) i z)
 
-module _ (P : Program) (T : List Site) (spot : Spot) where
-  quiet_jump : (op : Op) (live : ℕ) (kind : Exit) (s : State) (p : ℕ) (t : State) → Comes (seq (act spot.next op) (leave live kind)) s p t → ⊥
-  quiet_jump op live kind s p t (inl z) = z
-  quiet_jump op live kind s p t (inr (m, x, z)) = z
+module _ (may : State → State → Type 0) (keeps : KeepsWidth may) (P : Program) (T : List Site) where
+  abbrev G : Node → Trail Point → Outcome → Trail Point → Type 0
+  G = Goes (point_at T) may
 
-  sure_jump : (op : Op) (live : ℕ) (kind : Exit) (s : State) (p : ℕ) → FailsAt (seq (act spot.next op) (leave live kind)) s p → ⊥
-  sure_jump op live kind s p (inl z) = z
-  sure_jump op live kind s p (inr (m, x, z)) = z
+  abbrev pub RunsTo : Config → List (Met Point) → Config → List (Met Point) → Type 0
+  RunsTo c xs d ys = (n : ℕ) × Walks may P n c xs d ys
 
-  does_break : (at m : ℕ) → spot.frame.loop ≡ Some m → Does P T spot.frame spot.live (run (break at)) (seq (act spot.next (keep m)) (leave spot.live broken))
-  does_break at m i = record {
-    ends = λ k s h t e mm l y z. let x = jump_inv spot.next (keep m) spot.live broken s h t y in
-        one_step P (config (run (break at) ∷ k) spot.frame.here s) e (break_step (to_turn k) m spot.frame.here s t e (mm.loops m i) x.1 (subst (λ w. landing w spot.frame.here k t ≡ Some e) x.0 z));
-    comes = λ k s p t mm l y. absurd (quiet_jump (keep m) spot.live broken s p t y);
-    fails = λ k s p mm l y. absurd (sure_jump (keep m) spot.live broken s p y);
-  }
+  join : (c d e : Config) (xs ys zs : List (Met Point)) → RunsTo c xs d ys → RunsTo d ys e zs → RunsTo c xs e zs
+  join c d e xs ys zs x y = walk_on may P x.0 y.0 c d e xs ys zs x.1 y.1
 
-  does_continue : (at m : ℕ) → spot.frame.loop ≡ Some m → Does P T spot.frame spot.live (run (continue at)) (seq (act spot.next (keep m)) (leave spot.live continued))
-  does_continue at m i = record {
-    ends = λ k s h t e mm l y z. let x = jump_inv spot.next (keep m) spot.live continued s h t y in
-        one_step P (config (run (continue at) ∷ k) spot.frame.here s) e (continue_step (to_turn k) m spot.frame.here s t e (mm.loops m i) x.1
-        (subst (λ w. landing w spot.frame.here k t ≡ Some e) x.0 z));
-    comes = λ k s p t mm l y. absurd (quiet_jump (keep m) spot.live continued s p t y);
-    fails = λ k s p mm l y. absurd (sure_jump (keep m) spot.live continued s p y);
-  }
+  met_same : (c d : Config) (xs ys zs : List (Met Point)) → zs ≡ ys → RunsTo c xs d ys → RunsTo c xs d zs
+  met_same c d xs ys zs e x = rw e x
 
-  -- a return that gives its value, or any
-  does_return : (i : Item) (op : Op) (b : Back) → spot.frame.back ≡ Some b
-      → ((k : List Item) (s : State) → target_of (to_mark k) ≡ b.target → next P (config (i ∷ k) spot.frame.here s) ≡ do_leave (to_mark k) (run_op op s))
-      → Does P T spot.frame spot.live i (return_node spot.next op b.length spot.live)
-  does_return i op b is same = record {
-    ends = λ k s h t e mm l y z.
-        let one = act_seq spot.next op (seq (act spot.next (keep b.length)) (leave spot.live returned)) s h t y in
-        let x = jump_inv spot.next (keep b.length) spot.live returned one.0 h t one.2 in
-        let back = mm.backs ∙ is in
-        one_step P (config (i ∷ k) spot.frame.here s) e (same k s (target_back (to_mark k) b back)
-        ∙ leave_step (to_mark k) b (run_op op s) one.0 t e back one.1 x.1 (subst (λ w. landing w spot.frame.here k t ≡ Some e) x.0 z));
-    comes = λ k s p t mm l y. elim y as (λ _. Stands P T (config (i ∷ k) spot.frame.here s) p (HasState t))
-        [ inl z ↦ absurd z | inr z ↦ absurd (quiet_jump (keep b.length) spot.live returned z.0 p t z.2) ];
-    fails = λ k s p mm l y. elim y as (λ _. Stands P T (config (i ∷ k) spot.frame.here s) p IsFalse) [ inl z ↦ absurd z | inr z ↦ absurd (sure_jump (keep b.length) spot.live returned z.0 p z.2) ];
-  }
+  -- a step from an item without a point, and from one with a point
+  step_plain : (c d : Config) (xs : List (Met Point)) → label_on c.items ≡ None → next P c ≡ Some d → RunsTo c xs d xs
+  step_plain c d xs lab x = (1, (c.state, d, subst (λ o. Becomes may o c.state c.state) (sym lab) refl, x, (refl, ap (λ o. met_on o c.here.path c.state xs) lab)))
 
-  does_return_call : (at : ℕ) (v : Call) (b : Back) (g : Node) → spot.frame.back ≡ Some b → GivesDoes P T spot.frame spot.live b.target (result v) g
-      → Does P T spot.frame spot.live (run (return at (Some (result v)))) (seq g (seq (act spot.next (keep b.length)) (leave spot.live returned)))
-  does_return_call at v b g is y = record {
-    ends = λ k s h t e mm l z w. elim (seq_inv g (seq (act spot.next (keep b.length)) (leave spot.live returned)) s h t z) as
-        (λ _. RunsTo P (config (run (return at (Some (result v))) ∷ k) spot.frame.here s) e) [
-          | inl u ↦ absurd (y.quiet s u.0 t l u.2)
-          | inr u ↦
-              let back = mm.backs ∙ is in
-              let r = y.ends (leave_call ∷ k) s u.0 l u.1 in
-              let x = jump_inv spot.next (keep b.length) spot.live returned u.0 h t u.2 in
-              step_to P (config (run (return at (Some (result v))) ∷ k) spot.frame.here s) r.0 e (starts k s r.0 back r.1)
-              (join P r.0 (config (leave_call ∷ k) spot.frame.here u.0) e r.2
-              (one_step P (config (leave_call ∷ k) spot.frame.here u.0) e (leave_step (to_mark k) b (Some u.0) u.0 t e back refl x.1 (subst (λ w. landing w spot.frame.here k t ≡ Some e) x.0 w))))
-        ];
-    comes = λ k s p t mm l z. elim z as (λ _. Stands P T (config (run (return at (Some (result v))) ∷ k) spot.frame.here s) p (HasState t)) [
-      | inl u ↦ let r = y.comes (leave_call ∷ k) s p t l u in
-          later P T (config (run (return at (Some (result v))) ∷ k) spot.frame.here s) r.0 p (HasState t)
-          (one_step P (config (run (return at (Some (result v))) ∷ k) spot.frame.here s) r.0 (starts k s r.0 (mm.backs ∙ is) r.1)) r.2
-      | inr u ↦ absurd (quiet_jump (keep b.length) spot.live returned u.0 p t u.2)
-    ];
-    fails = λ k s p mm l z. elim z as (λ _. Stands P T (config (run (return at (Some (result v))) ∷ k) spot.frame.here s) p IsFalse) [
-      | inl u ↦ let r = y.fails (leave_call ∷ k) s p l u in
-          later P T (config (run (return at (Some (result v))) ∷ k) spot.frame.here s) r.0 p IsFalse
-          (one_step P (config (run (return at (Some (result v))) ∷ k) spot.frame.here s) r.0 (starts k s r.0 (mm.backs ∙ is) r.1)) r.2
-      | inr u ↦ absurd (sure_jump (keep b.length) spot.live returned u.0 p u.2)
+  step_at : (is : List Item) (spot : Spot) (at : ℕ) (asserts : Bool) (a b : Trail Point) (d : Config) → HasSite T spot at asserts → label_on is ≡ Some at → Passes (point_at T) may spot.next a b
+      → next_at P is spot.frame.here b.state ≡ Some d → RunsTo (config is spot.frame.here a.state) a.met d b.met
+  step_at is spot at asserts a b d has lab (m, e) x = (1, (b.state, d, subst (λ o. Becomes may o a.state b.state) (sym lab) m, x, (refl, met ∙ sym e)))
+    where
+      met : met_on (label_on is) spot.frame.here.path a.state a.met ≡ passes (point_at T spot.next) a.state ∷ a.met
+      met = ap (λ o. met_on o spot.frame.here.path a.state a.met) lab ∙ ap (λ r. passes r a.state ∷ a.met) (sym (ap point_or_none has))
+
+  -- a run from c stands at the point of this number, on the trail
+  pub record Stands (c : Config) (xs : List (Met Point)) (q : ℕ) (b : Trail Point) : Type 0 where
+    pub there : Config
+    pub label : ℕ
+    pub asserts : Bool
+    pub runs : (n : ℕ) × Walks may P n c xs there b.met
+    pub on : label_on there.items ≡ Some label
+    pub site : slice_get T q ≡ Some (record { path = there.here.path; label = label; live = length there.state.store; asserts = asserts })
+    pub state : there.state ≡ b.state
+
+  -- it fails the assertion there
+  pub record Denied (c : Config) (xs : List (Met Point)) (q : ℕ) (b : Trail Point) : Type 0 where
+    pub there : Config
+    pub label : ℕ
+    pub asserts : Bool
+    pub before : List (Met Point)
+    pub runs : (n : ℕ) × Walks may P n c xs there before
+    pub on : label_on there.items ≡ Some label
+    pub site : slice_get T q ≡ Some (record { path = there.here.path; label = label; live = length there.state.store; asserts = asserts })
+    pub becomes : may there.state b.state
+    pub fails : IsFailing there.items there.here b.state
+    pub met : b.met ≡ passes (record { path = there.here.path; label = label }) there.state ∷ before
+
+  -- what a run from c owes for an outcome of a tree whose items stand above k
+  abbrev pub Fulfils : Here → List Item → Outcome → Trail Point → Config → List (Met Point) → Type 0
+  Fulfils h k to_end b c xs = RunsTo c xs (config k h b.state) b.met
+  Fulfils h k (stopped (by_jump j)) b c xs = (e : Config) → land j h k b.state ≡ Some e → RunsTo c xs e b.met
+  Fulfils h k (stopped (to_point q)) b c xs = Stands c xs q b
+  Fulfils h k (stopped (to_failure q)) b c xs = Denied c xs q b
+
+  pub later : (h : Here) (k : List Item) (u : Outcome) (b : Trail Point) (c d : Config) (xs ys : List (Met Point)) → RunsTo c xs d ys → Fulfils h k u b d ys → Fulfils h k u b c xs
+  later h k to_end b c d xs ys x y = join c d (config k h b.state) xs ys b.met x y
+  later h k (stopped (by_jump j)) b c d xs ys x y = λ e l. join c d e xs ys b.met x (y e l)
+  later h k (stopped (to_point q)) b c d xs ys x y =
+      record { there = y.there; label = y.label; asserts = y.asserts; runs = join c d y.there xs ys b.met x y.runs; on = y.on; site = y.site; state = y.state }
+  later h k (stopped (to_failure q)) b c d xs ys x y =
+      record {
+        there = y.there;
+        label = y.label;
+        asserts = y.asserts;
+        before = y.before;
+        runs = join c d y.there xs ys y.before x y.runs;
+        on = y.on;
+        site = y.site;
+        becomes = y.becomes;
+        fails = y.fails;
+        met = y.met;
+      }
+
+  -- a stop above more items is one above fewer
+  lower : (h : Here) (i : Item) (k : List Item) (z : Stop) (b : Trail Point) (c : Config) (xs : List (Met Point)) → to_turn (i ∷ k) ≡ to_turn k → to_mark (i ∷ k) ≡ to_mark k
+      → Fulfils h (i ∷ k) (stopped z) b c xs → Fulfils h k (stopped z) b c xs
+  lower h i k (by_jump j) b c xs sa sb x = λ e l. x e (land_skip j h i k b.state sa sb ∙ l)
+  lower h i k (to_point q) b c xs sa sb x = x
+  lower h i k (to_failure q) b c xs sa sb x = x
+
+  -- one that isn't a jump is one anywhere
+  across : (h h' : Here) (k k' : List Item) (z : Stop) (b : Trail Point) (c : Config) (xs : List (Met Point)) → ((j : Exit) → z ≢ by_jump j) → Fulfils h k (stopped z) b c xs →
+      Fulfils h' k' (stopped z) b c xs
+  across h h' k k' (by_jump j) b c xs n x = absurd (n j refl)
+  across h h' k k' (to_point q) b c xs n x = x
+  across h h' k k' (to_failure q) b c xs n x = x
+
+  -- the same, a step before: the state on top is what the point has left
+  abbrev pub Pends : Here → List Item → List Item → Outcome → Trail Point → Trail Point → Type 0
+  Pends h is k to_end a b = (e : Config) × (next_at P is h a.state ≡ Some e) × RunsTo e a.met (config k h b.state) b.met
+  Pends h is k (stopped (by_jump j)) a b = (d : Config) → land j h k b.state ≡ Some d → (e : Config) × (next_at P is h a.state ≡ Some e) × RunsTo e a.met d b.met
+  Pends h is k (stopped (to_point q)) a b = (e : Config) × (next_at P is h a.state ≡ Some e) × Stands e a.met q b
+  Pends h is k (stopped (to_failure q)) a b = (e : Config) × (next_at P is h a.state ≡ Some e) × Denied e a.met q b
+
+  pends : (h : Here) (is k : List Item) (u : Outcome) (a b : Trail Point) (e : Config) → next_at P is h a.state ≡ Some e → Fulfils h k u b e a.met → Pends h is k u a b
+  pends h is k to_end a b e x y = (e, x, y)
+  pends h is k (stopped (by_jump j)) a b e x y = λ d l. (e, x, y d l)
+  pends h is k (stopped (to_point q)) a b e x y = (e, x, y)
+  pends h is k (stopped (to_failure q)) a b e x y = (e, x, y)
+
+  -- with n variables, a run of the item does what the tree does, whatever waits below
+  pub record Does (f : Frame) (n : ℕ) (i : Item) (g : Node) : Type 0 where
+    pub runs : (k : List Item) (a : Trail Point) (u : Outcome) (b : Trail Point) → Matches f k → length a.state.store ≡ n → G g a u b → Fulfils f.here k u b (config (i ∷ k) f.here a.state) a.met
+
+  -- the same of its step
+  pub record Follows (f : Frame) (n : ℕ) (i : Item) (g : Node) : Type 0 where
+    pub runs : (k : List Item) (a : Trail Point) (u : Outcome) (b : Trail Point) → Matches f k → length a.state.store ≡ n → G g a u b → Pends f.here (i ∷ k) k u a b
+
+  -- and of what a variable gets
+  pub record GivesDoes (f : Frame) (n : ℕ) (x : Option ℕ) (v : Rvalue) (g : Node) : Type 0 where
+    pub runs : (k : List Item) (a : Trail Point) (u : Outcome) (b : Trail Point) → length a.state.store ≡ n → G g a u b
+        → (e : Config) × (do_rvalue P x v k f.here a.state ≡ Some e) × Fulfils f.here k u b e a.met
+
+  -- an item without a point does what its step does
+  does_plain : (f : Frame) (n : ℕ) (i : Item) (g : Node) → ((k : List Item) → label_on (i ∷ k) ≡ None) → Follows f n i g → Does f n i g
+  does_plain f n i g lab x = record { runs = λ k a u b m l y. by k u a b (x.runs k a u b m l y) }
+    where
+      by : (k : List Item) (u : Outcome) (a b : Trail Point) → Pends f.here (i ∷ k) k u a b → Fulfils f.here k u b (config (i ∷ k) f.here a.state) a.met
+      by k to_end a b (e, x, y) = later f.here k to_end b (config (i ∷ k) f.here a.state) e a.met a.met (step_plain (config (i ∷ k) f.here a.state) e a.met (lab k) x) y
+      by k (stopped (by_jump j)) a b z = λ d l. let (e, x, y) = z d l in join (config (i ∷ k) f.here a.state) e d a.met a.met b.met (step_plain (config (i ∷ k) f.here a.state) e a.met (lab k) x) y
+      by k (stopped (to_point q)) a b (e, x, y) = later f.here k (stopped (to_point q)) b (config (i ∷ k) f.here a.state) e a.met a.met (step_plain (config (i ∷ k) f.here a.state) e a.met (lab k) x) y
+      by k (stopped (to_failure q)) a b (e, x, y) = later f.here k (stopped (to_failure q)) b (config (i ∷ k) f.here a.state) e a.met a.met
+          (step_plain (config (i ∷ k) f.here a.state) e a.met (lab k) x) y
+
+  pub stands_here : (spot : Spot) (at : ℕ) (asserts : Bool) (is : List Item) (a b : Trail Point) → HasSite T spot at asserts → label_on is ≡ Some at → length a.state.store ≡ spot.live → b ≡ a
+      → Stands (config is spot.frame.here a.state) a.met spot.next b
+  stands_here spot at asserts is a b has lab l e =
+      rw e (record { there = config is spot.frame.here a.state; label = at; asserts = asserts; runs = (0, (refl, refl)); on = lab; site = rw l has; state = refl })
+
+  -- its point stands before what its step does
+  does_point : (spot : Spot) (at : ℕ) (i : Item) (g : Node) → Has T spot at → ((k : List Item) → label_on (i ∷ k) ≡ Some at) → Follows spot.frame spot.live i g
+      → Does spot.frame spot.live i (seq (point spot.next) g)
+  does_point spot at i g has lab x = record {
+    runs = λ k a u b m l y. elim (point_seq (point_at T) may spot.next g a u b y) as (λ _. Fulfils spot.frame.here k u b (config (i ∷ k) spot.frame.here a.state) a.met) [
+      | inl z ↦ rw z.0 (stands_here spot at false (i ∷ k) a b has (lab k) l z.1)
+      | inr z ↦ by k a z.0 u b z.1 (x.runs k z.0 u b m (keeps a.state z.0.state z.1.0 ∙ l) z.2)
     ];
   }
     where
-      starts : (k : List Item) (s : State) (e : Config) → back_of (to_mark k) ≡ Some b → do_rvalue P b.target (result v) (leave_call ∷ k) spot.frame.here s ≡ Some e
-          → next P (config (run (return at (Some (result v))) ∷ k) spot.frame.here s) ≡ Some e
-      starts k s e back z = subst (λ w. do_rvalue P w (result v) (leave_call ∷ k) spot.frame.here s ≡ Some e) (sym (target_back (to_mark k) b back)) z
+      by : (k : List Item) (a w : Trail Point) (u : Outcome) (b : Trail Point) → Passes (point_at T) may spot.next a w → Pends spot.frame.here (i ∷ k) k u w b
+          → Fulfils spot.frame.here k u b (config (i ∷ k) spot.frame.here a.state) a.met
+      by k a w to_end b v (e, x, y) =
+          later spot.frame.here k to_end b (config (i ∷ k) spot.frame.here a.state) e a.met w.met (step_at (i ∷ k) spot at false a w e has (lab k) v x) y
+      by k a w (stopped (by_jump j)) b v z = λ d l. let (e, x, y) = z d l in
+          join (config (i ∷ k) spot.frame.here a.state) e d a.met w.met b.met (step_at (i ∷ k) spot at false a w e has (lab k) v x) y
+      by k a w (stopped (to_point q)) b v (e, x, y) =
+          later spot.frame.here k (stopped (to_point q)) b (config (i ∷ k) spot.frame.here a.state) e a.met w.met (step_at (i ∷ k) spot at false a w e has (lab k) v x) y
+      by k a w (stopped (to_failure q)) b v (e, x, y) =
+          later spot.frame.here k (stopped (to_failure q)) b (config (i ∷ k) spot.frame.here a.state) e a.met w.met (step_at (i ∷ k) spot at false a w e has (lab k) v x) y
 
-  -- in `main` nothing follows
-  does_stop : (i : Item) → spot.frame.back ≡ None → Does P T spot.frame spot.live i (leave spot.live returned)
-  does_stop i is = record {
-    ends = λ k s h t e mm l y z. let x = leave_inv spot.live returned s h t y in absurd
-        (no_landing (to_mark k) t e (mark_none (to_mark k) (mm.backs ∙ is)) (subst (λ w. landing w spot.frame.here k t ≡ Some e) x.0 z));
-    comes = λ k s p t mm l y. absurd y;
-    fails = λ k s p mm l y. absurd y;
+  follows_act : (f : Frame) (n q : ℕ) (op : Op) (i : Item) → ((k : List Item) (s : State) → next P (config (i ∷ k) f.here s) ≡ go k f.here (run_op op s)) → Follows f n i (act q op)
+  follows_act f n q op i same = record {
+    runs = λ k a u b m l y. let x = act_inv (point_at T) may q op a u b y in
+        rw x.0 (config k f.here b.state, same k a.state ∙ go_is k f.here (run_op op a.state) b.state x.1.0, (0, (refl, sym x.1.1)));
   }
 
-  does_stop_call : (at : ℕ) (v : Call) (g : Node) → spot.frame.back ≡ None → GivesDoes P T spot.frame spot.live None (result v) g →
-      Does P T spot.frame spot.live (run (return at (Some (result v)))) (seq g (leave spot.live returned))
-  does_stop_call at v g is y = record {
-    ends = λ k s h t e mm l z w. elim (seq_inv g (leave spot.live returned) s h t z) as (λ _. RunsTo P (config (run (return at (Some (result v))) ∷ k) spot.frame.here s) e) [
-      | inl u ↦ absurd (y.quiet s u.0 t l u.2)
-      | inr u ↦ let x = leave_inv spot.live returned u.0 h t u.2 in absurd (no_landing (to_mark k) t e (mark_none (to_mark k) (mm.backs ∙ is))
-          (subst (λ w. landing w spot.frame.here k t ≡ Some e) x.0 w))
+  -- an assertion, whose point is that of its verdict
+  does_assert : (spot : Spot) (at : ℕ) (c : Cond) → HasSite T spot at true → Does spot.frame spot.live (run (assert at c)) (seq (point spot.next) (check spot.next spot.frame.here.base c))
+  does_assert spot at c has = record {
+    runs = λ k a u b m l y. elim (point_seq (point_at T) may spot.next (check spot.next spot.frame.here.base c) a u b y) as
+        (λ _. Fulfils spot.frame.here k u b (config (run (assert at c) ∷ k) spot.frame.here a.state) a.met) [
+          | inl z ↦ rw z.0 (stands_here spot at true (run (assert at c) ∷ k) a b has refl l z.1)
+          | inr z ↦ by k a z.0 u b l z.1 z.2
+        ];
+  }
+    where
+      by : (k : List Item) (a w : Trail Point) (u : Outcome) (b : Trail Point) → length a.state.store ≡ spot.live → Passes (point_at T) may spot.next a w →
+          G (check spot.next spot.frame.here.base c) w u b
+          → Fulfils spot.frame.here k u b (config (run (assert at c) ∷ k) spot.frame.here a.state) a.met
+      by k a w to_end b l v (o, e) = met_same (config (run (assert at c) ∷ k) spot.frame.here a.state) (config k spot.frame.here b.state) a.met w.met b.met e
+          (step_at (run (assert at c) ∷ k) spot at true a w (config k spot.frame.here b.state) has refl v (go_is k spot.frame.here (run_op (test spot.frame.here.base c true) w.state) b.state o))
+      by k a w (stopped (by_jump j)) b l v y = absurd y.0
+      by k a w (stopped (to_point q)) b l v y = absurd y.0
+      by k a w (stopped (to_failure q)) b l v (e, i, t, o) = rw (e, i) (record {
+        there = config (run (assert at c) ∷ k) spot.frame.here a.state;
+        label = at;
+        asserts = true;
+        before = a.met;
+        runs = (0, (refl, refl));
+        on = refl;
+        site = rw l has;
+        becomes = v.0;
+        fails = (t, o);
+        met = v.1 ∙ ap (λ r. passes r a.state ∷ a.met) (ap point_or_none has);
+      })
+
+  does_nothing : (spot : Spot) (at : ℕ) → Has T spot at → Does spot.frame spot.live (run (nothing at)) (point spot.next)
+  does_nothing spot at has = record { runs = λ k a u b m l y. by k a u b l y }
+    where
+      by : (k : List Item) (a : Trail Point) (u : Outcome) (b : Trail Point) → length a.state.store ≡ spot.live → G (point spot.next) a u b
+          → Fulfils spot.frame.here k u b (config (run (nothing at) ∷ k) spot.frame.here a.state) a.met
+      by k a to_end b l v = step_at (run (nothing at) ∷ k) spot at false a b (config k spot.frame.here b.state) has refl v refl
+      by k a (stopped (by_jump j)) b l v = absurd v.0
+      by k a (stopped (to_point q)) b l (e, i) = rw e (stands_here spot at false (run (nothing at) ∷ k) a b has refl l i)
+      by k a (stopped (to_failure q)) b l v = absurd v.0
+
+  -- an item that does nothing and has no point
+  follows_empty : (f : Frame) (n : ℕ) (i : Item) → ((k : List Item) (s : State) → next P (config (i ∷ k) f.here s) ≡ Some (config k f.here s)) → Follows f n i empty
+  follows_empty f n i same = record { runs = λ k a u b m l y. by k a u b y }
+    where
+      by : (k : List Item) (a : Trail Point) (u : Outcome) (b : Trail Point) → G empty a u b → Pends f.here (i ∷ k) k u a b
+      by k a to_end b y = (config k f.here a.state, same k a.state, (0, rw y (refl, refl)))
+      by k a (stopped z) b y = absurd y
+
+  -- two trees, whose items stand above k
+  does_seq : (f : Frame) (n n' : ℕ) (i i' : Item) (g g' : Node) → ((k : List Item) → to_turn (i' ∷ k) ≡ to_turn k) → ((k : List Item) → to_mark (i' ∷ k) ≡ to_mark k)
+      → Length (point_at T) may keeps f n n' g → Does f n i g → Does f n' i' g' → (k : List Item) (a : Trail Point) (u : Outcome) (b : Trail Point) → Matches f k → length a.state.store ≡ n
+      → G (seq g g') a u b → Fulfils f.here k u b (config (i ∷ i' ∷ k) f.here a.state) a.met
+  does_seq f n n' i i' g g' sa sb len x y k a u b m l z = elim (seq_inv (point_at T) may g g' a u b z) as (λ _. Fulfils f.here k u b (config (i ∷ i' ∷ k) f.here a.state) a.met) [
+    | inl w ↦ rw w.1 (lower f.here i' k w.0 b (config (i ∷ i' ∷ k) f.here a.state) a.met (sa k) (sb k) (x.runs (i' ∷ k) a (stopped w.0) b m' l w.2))
+    | inr w ↦ later f.here k u b (config (i ∷ i' ∷ k) f.here a.state) (config (i' ∷ k) f.here w.0.state) a.met w.0.met (x.runs (i' ∷ k) a to_end w.0 m' l w.1)
+        (y.runs k w.0 u b m (len.ends a w.0 to_end l w.1) w.2)
+  ]
+    where
+      m' : Matches f (i' ∷ k)
+      m' = matches_skip f i' k (sa k) (sb k) m
+
+  -- an item that takes one step to two others
+  does_two : (f : Frame) (n n' : ℕ) (i j j' : Item) (g g' : Node) → ((k : List Item) → label_on (i ∷ k) ≡ None)
+      → ((k : List Item) (s : State) → length s.store ≡ n → next P (config (i ∷ k) f.here s) ≡ Some (config (j ∷ j' ∷ k) f.here s))
+      → ((k : List Item) → to_turn (j' ∷ k) ≡ to_turn k) → ((k : List Item) → to_mark (j' ∷ k) ≡ to_mark k) → Length (point_at T) may keeps f n n' g → Does f n j g → Does f n' j' g' →
+      Does f n i (seq g g')
+  does_two f n n' i j j' g g' lab nx sa sb len x y = does_plain f n i (seq g g') lab (record {
+    runs = λ k a u b m l z. pends f.here (i ∷ k) k u a b (config (j ∷ j' ∷ k) f.here a.state) (nx k a.state l) (does_seq f n n' j j' g g' sa sb len x y k a u b m l z);
+  })
+
+  follows_if : (spot : Spot) (at : ℕ) (c : Cond) (s s' : Stmt) (g h : Node) → Does spot.frame spot.live (run s) g → Does spot.frame spot.live (run s') h →
+      Follows spot.frame spot.live (run (if at c s s')) (choose spot.next spot.frame.here.base c g h)
+  follows_if spot at c s s' g h x y = record {
+    runs = λ k a u b m l z. elim z as (λ _. Pends spot.frame.here (run (if at c s s') ∷ k) k u a b) [
+      | inl w ↦ pends spot.frame.here (run (if at c s s') ∷ k) k u a b (config (run s ∷ k) spot.frame.here w.0.state)
+          (go_by_true (run s ∷ k) (run s' ∷ k) spot.frame.here a.state.store (truth_of c spot.frame.here.base a.state.store a.state.draws) w.0.state w.1.0)
+          (moved k u b w.0 (run s) a w.1.1 (x.runs k w.0 u b m (length_test spot.frame.here.base c true a.state w.0.state w.1.0 ∙ l) w.2))
+      | inr w ↦ pends spot.frame.here (run (if at c s s') ∷ k) k u a b (config (run s' ∷ k) spot.frame.here w.0.state)
+          (go_by_false (run s ∷ k) (run s' ∷ k) spot.frame.here a.state.store (truth_of c spot.frame.here.base a.state.store a.state.draws) w.0.state w.1.0)
+          (moved k u b w.0 (run s') a w.1.1 (y.runs k w.0 u b m (length_test spot.frame.here.base c false a.state w.0.state w.1.0 ∙ l) w.2))
     ];
-    comes = λ k s p t mm l z. elim z as (λ _. Stands P T (config (run (return at (Some (result v))) ∷ k) spot.frame.here s) p (HasState t)) [
-      | inl u ↦ let r = y.comes (leave_call ∷ k) s p t l u in
-          later P T (config (run (return at (Some (result v))) ∷ k) spot.frame.here s) r.0 p (HasState t)
-          (one_step P (config (run (return at (Some (result v))) ∷ k) spot.frame.here s) r.0 (starts k s r.0 (mark_none (to_mark k) (mm.backs ∙ is)) r.1)) r.2
-      | inr u ↦ absurd u.2
-    ];
-    fails = λ k s p mm l z. elim z as (λ _. Stands P T (config (run (return at (Some (result v))) ∷ k) spot.frame.here s) p IsFalse) [
-      | inl u ↦ let r = y.fails (leave_call ∷ k) s p l u in
-          later P T (config (run (return at (Some (result v))) ∷ k) spot.frame.here s) r.0 p IsFalse
-          (one_step P (config (run (return at (Some (result v))) ∷ k) spot.frame.here s) r.0 (starts k s r.0 (mark_none (to_mark k) (mm.backs ∙ is)) r.1)) r.2
-      | inr u ↦ absurd u.2
+  }
+    where
+      moved : (k : List Item) (u : Outcome) (b w : Trail Point) (i : Item) (a : Trail Point) → w.met ≡ a.met → Fulfils spot.frame.here k u b (config (i ∷ k) spot.frame.here w.state) w.met
+          → Fulfils spot.frame.here k u b (config (i ∷ k) spot.frame.here w.state) a.met
+      moved k u b w i a e x = subst (λ xs. Fulfils spot.frame.here k u b (config (i ∷ k) spot.frame.here w.state) xs) e x
+
+  follows_give : (spot : Spot) (x : Option ℕ) (v : Expr) → GivesDoes spot.frame spot.live x (value v) (act spot.next (give spot.frame.here.base x v))
+  follows_give spot x v = record {
+    runs = λ k a u b l y. let z = act_inv (point_at T) may spot.next (give spot.frame.here.base x v) a u b y in
+        rw z.0 (config k spot.frame.here b.state, go_is k spot.frame.here (run_op (give spot.frame.here.base x v) a.state) b.state z.1.0, (0, (refl, sym z.1.1)));
+  }
+
+  -- a statement that only gives a variable its value
+  follows_rvalue : (spot : Spot) (i : Stmt) (x : Option ℕ) (v : Rvalue) (g : Node)
+      → ((k : List Item) (s : State) → length s.store ≡ spot.live → do_stmt P i k spot.frame.here s ≡ do_rvalue P x v k spot.frame.here s)
+      → GivesDoes spot.frame spot.live x v g → Follows spot.frame spot.live (run i) g
+  follows_rvalue spot i x v g same y = record {
+    runs = λ k a u b m l z. let r = y.runs k a u b l z in pends spot.frame.here (run i ∷ k) k u a b r.0 (same k a.state l ∙ r.1) r.2;
+  }
+
+  abbrev call_behind : Spot → Function → Option ℕ → List Item → List Item
+  call_behind spot fn x k = end_of fn.end (spot.live + fn.parameters) ∷ mark (record { target = x; here = spot.frame.here; length = spot.live }) ∷ k
+
+  does_call : (spot : Spot) (r' : ℕ) (x : Option ℕ) (c : Call) (fn : Function) (g : Node) (n' : ℕ) → slice_get P.functions c.function ≡ Some fn → length c.arguments ≡ fn.parameters
+      → Length (point_at T) may keeps (callee spot.frame spot.live x c) (spot.live + fn.parameters) n' g → spot.live + fn.parameters ≤ n' →
+      Has T (spot_of (callee spot.frame spot.live x c) n' r') fn.end
+      → Does (callee spot.frame spot.live x c) (spot.live + fn.parameters) (all fn.body) g
+      → GivesDoes spot.frame spot.live x (result c) (call_node spot.next r' spot.frame.here.base spot.live x c.arguments fn.parameters g)
+  does_call spot r' x c fn g n' found i len up has y = record {
+    runs = λ k a u b l z. let w = call_inv (point_at T) may spot r' x c.arguments fn.parameters g a u b z in
+        (config (all fn.body ∷ call_behind spot fn x k) (callee spot.frame spot.live x c).here w.0.state, enters k a w.0 l w.1, moved k u b a w.0 w.1.1 (by k w.0 u b (long a w.0 l w.1) w.2));
+  }
+    where
+      long : (a w : Trail Point) → length a.state.store ≡ spot.live → Performs (push spot.frame.here.base c.arguments) a w → length w.state.store ≡ spot.live + fn.parameters
+      long a w l o = length_push spot.frame.here.base c.arguments a.state w.state o.0 ∙ rw (l, i) refl
+
+      matches : (k : List Item) → Matches (callee spot.frame spot.live x c) (end_of fn.end (spot.live + fn.parameters) ∷ mark (record { target = x; here = spot.frame.here; length = spot.live }) ∷ k)
+      matches k = record { loops = λ m z. absurd (none-some m z); backs = refl }
+
+      enters : (k : List Item) (a w : Trail Point) → length a.state.store ≡ spot.live → Performs (push spot.frame.here.base c.arguments) a w
+          → do_rvalue P x (result c) k spot.frame.here a.state ≡ Some (config (all fn.body ∷ call_behind spot fn x k) (callee spot.frame spot.live x c).here w.state)
+      enters k a w l o = subst (λ v. enter v c x k spot.frame.here a.state ≡ Some (config (all fn.body ∷ call_behind spot fn x k) (callee spot.frame spot.live x c).here w.state)) (sym found)
+          (rw l (go_is (all fn.body ∷ call_behind spot fn x k) (callee spot.frame spot.live x c).here (run_op (push spot.frame.here.base c.arguments) a.state) w.state o.0))
+
+      moved : (k : List Item) (u : Outcome) (b a w : Trail Point) → w.met ≡ a.met →
+          Fulfils spot.frame.here k u b (config (all fn.body ∷ call_behind spot fn x k) (callee spot.frame spot.live x c).here w.state) w.met
+          → Fulfils spot.frame.here k u b (config (all fn.body ∷ call_behind spot fn x k) (callee spot.frame spot.live x c).here w.state) a.met
+      moved k u b a w e z = subst (λ xs. Fulfils spot.frame.here k u b (config (all fn.body ∷ call_behind spot fn x k) (callee spot.frame spot.live x c).here w.state) xs) e z
+
+      no_jump : (z : Stop) (w b : Trail Point) → z ≢ by_jump returned → LengthAt (callee spot.frame spot.live x c) n' (stopped z) b.state → (j : Exit) → z ≢ by_jump j
+      no_jump (by_jump broken) w b d v j e = none-some _ v.1
+      no_jump (by_jump continued) w b d v j e = none-some _ v.1
+      no_jump (by_jump returned) w b d v j e = d refl
+      no_jump (to_point q) w b d v j e = cc
+      no_jump (to_failure q) w b d v j e = cc
+
+      through_end : (k : List Item) (w b : Trail Point) → EndsBody (point_at T) may r' spot.live x fn.parameters g w b → length w.state.store ≡ spot.live + fn.parameters
+          → RunsTo (config (all fn.body ∷ call_behind spot fn x k) (callee spot.frame spot.live x c).here w.state) w.met (config k spot.frame.here b.state) b.met
+      through_end k w b z l =
+          let marked : List Item = mark (record { target = x; here = spot.frame.here; length = spot.live }) ∷ k in
+          let inner : Here = (callee spot.frame spot.live x c).here in
+          let one = y.runs (call_behind spot fn x k) w to_end z.before (matches k) l z.body in
+          let two = step_at (call_behind spot fn x k) (spot_of (callee spot.frame spot.live x c) n' r') fn.end false z.before z.past (config marked inner z.cut.state) has refl z.passed
+          (go_is marked inner (run_op (keep (spot.live + fn.parameters)) z.past.state) z.cut.state z.cuts.0) in
+          let three = step_plain (config marked inner z.cut.state) (config k spot.frame.here b.state) z.past.met refl
+          (go_on_is (run_any x z.cut.state) (λ v. go k spot.frame.here (run_op (keep spot.live) v)) z.set.state z.sets.0 ∙ go_is k spot.frame.here (run_op (keep spot.live) z.set.state) b.state
+          z.back.0) in
+          join (config (all fn.body ∷ call_behind spot fn x k) inner w.state) (config (call_behind spot fn x k) inner z.before.state) (config k spot.frame.here b.state) w.met z.before.met b.met one
+          (join (config (call_behind spot fn x k) inner z.before.state) (config marked inner z.cut.state) (config k spot.frame.here b.state) z.before.met z.past.met b.met two
+          (met_same (config marked inner z.cut.state) (config k spot.frame.here b.state) z.past.met z.past.met b.met (z.back.1 ∙ (z.sets.1 ∙ z.cuts.1)) three))
+
+      by : (k : List Item) (w : Trail Point) (u : Outcome) (b : Trail Point) → length w.state.store ≡ spot.live + fn.parameters → GoesCall (point_at T) may spot r' x c.arguments fn.parameters g w b u
+          → Fulfils spot.frame.here k u b (config (all fn.body ∷ call_behind spot fn x k) (callee spot.frame spot.live x c).here w.state) w.met
+      by k w _ b l (call_returned z) = y.runs (call_behind spot fn x k) w (stopped (by_jump returned)) b (matches k) l z (config k spot.frame.here b.state) refl
+      by k w _ b l (call_ended z) = through_end k w b z l
+      by k w _ b l (call_stopped v d z) =
+          across (callee spot.frame spot.live x c).here spot.frame.here (call_behind spot fn x k) k v b
+          (config (all fn.body ∷ call_behind spot fn x k) (callee spot.frame spot.live x c).here w.state) w.met
+          (no_jump v w b d (len.ends w b (stopped v) l z)) (y.runs (call_behind spot fn x k) w (stopped v) b (matches k) l z)
+      by k w _ b l (call_at_end z) = later spot.frame.here k (stopped (to_point r')) b (config (all fn.body ∷ call_behind spot fn x k) (callee spot.frame spot.live x c).here w.state)
+          (config (call_behind spot fn x k) (callee spot.frame spot.live x c).here b.state) w.met b.met (y.runs (call_behind spot fn x k) w to_end b (matches k) l z)
+          (stands_here (spot_of (callee spot.frame spot.live x c) n' r') fn.end false (call_behind spot fn x k) b b has refl (len.ends w b to_end l z) refl)
+
+  module _ (spot : Spot) (at : ℕ) (c : Cond) (s step : Stmt) (g h : Node) (has : Has T spot at) (body : Does (in_loop spot.frame (Some spot.live)) spot.live (run s) g)
+      (stepping : Does (in_loop spot.frame None) spot.live (run step) h)
+      (body_length : Length (point_at T) may keeps (in_loop spot.frame (Some spot.live)) spot.live spot.live g)
+      (step_length : Length (point_at T) may keeps (in_loop spot.frame None) spot.live spot.live h) where
+    abbrev L : Item
+    L = run (loop at c s step)
+
+    abbrev behind : List Item → List Item
+    behind k = turn step (loop at c s step) spot.live ∷ k
+
+    abbrev Entered : Bool → Trail Point → Trail Point → Type 0
+    Entered wanted a b = Tests (point_at T) may spot.next spot.frame.here.base c wanted a b
+
+    abbrev Rounds : ℕ → Trail Point → Trail Point → Type 0
+    Rounds n a b = TrailRounds (Round (point_at T) may spot.next spot.frame.here.base c g h) n a b
+
+    goes_in : (k : List Item) (a w : Trail Point) → length a.state.store ≡ spot.live → Entered true a w →
+        RunsTo (config (L ∷ k) spot.frame.here a.state) a.met (config (run s ∷ behind k) spot.frame.here w.state) w.met
+    goes_in k a w l (m, v, o) = met_same (config (L ∷ k) spot.frame.here a.state) (config (run s ∷ behind k) spot.frame.here w.state) a.met m.met w.met o.1
+        (step_at (L ∷ k) spot at false a m (config (run s ∷ behind k) spot.frame.here w.state) has refl v
+        (rw (keeps a.state m.state v.0 ∙ l) (go_by_true (run s ∷ behind k) k spot.frame.here m.state.store (truth_of c spot.frame.here.base m.state.store m.state.draws) w.state o.0)))
+
+    goes_out : (k : List Item) (a w : Trail Point) → Entered false a w → RunsTo (config (L ∷ k) spot.frame.here a.state) a.met (config k spot.frame.here w.state) w.met
+    goes_out k a w (m, v, o) = met_same (config (L ∷ k) spot.frame.here a.state) (config k spot.frame.here w.state) a.met m.met w.met o.1
+        (step_at (L ∷ k) spot at false a m (config k spot.frame.here w.state) has refl v
+        (go_by_false (run s ∷ turn step (loop at c s step) (length m.state.store) ∷ k) k spot.frame.here m.state.store (truth_of c spot.frame.here.base m.state.store m.state.draws) w.state o.0))
+
+    in_body : (k : List Item) → Matches spot.frame k → Matches (in_loop spot.frame (Some spot.live)) (behind k)
+    in_body k m = record { loops = λ w z. z; backs = m.backs }
+
+    in_step : (k : List Item) → Matches spot.frame k → Matches (in_loop spot.frame None) (L ∷ k)
+    in_step k m = record { loops = λ w z. absurd (none-some w z); backs = m.backs }
+
+    -- from the body's end to the step
+    turns : (k : List Item) (w mid : Trail Point) → RunsTo (config (run s ∷ behind k) spot.frame.here w.state) w.met (config (behind k) spot.frame.here mid.state) mid.met
+        → RunsTo (config (run s ∷ behind k) spot.frame.here w.state) w.met (config (run step ∷ L ∷ k) spot.frame.here mid.state) mid.met
+    turns k w mid x = join (config (run s ∷ behind k) spot.frame.here w.state) (config (behind k) spot.frame.here mid.state) (config (run step ∷ L ∷ k) spot.frame.here mid.state) w.met mid.met
+        mid.met x
+        (step_plain (config (behind k) spot.frame.here mid.state) (config (run step ∷ L ∷ k) spot.frame.here mid.state) mid.met refl refl)
+
+    body_runs : (k : List Item) → Matches spot.frame k → (w mid : Trail Point) → length w.state.store ≡ spot.live → EndsBodyRound (point_at T) may g w mid
+        → RunsTo (config (run s ∷ behind k) spot.frame.here w.state) w.met (config (run step ∷ L ∷ k) spot.frame.here mid.state) mid.met
+    body_runs k m w mid l (inl e) = turns k w mid (body.runs (behind k) w to_end mid (in_body k m) l e)
+    body_runs k m w mid l (inr e) = turns k w mid (body.runs (behind k) w (stopped (by_jump continued)) mid (in_body k m) l e (config (behind k) spot.frame.here mid.state) refl)
+
+    rounds_run : (k : List Item) → Matches spot.frame k → (i : ℕ) (a v : Trail Point) → length a.state.store ≡ spot.live → Rounds i a v →
+        RunsTo (config (L ∷ k) spot.frame.here a.state) a.met (config (L ∷ k) spot.frame.here v.state) v.met
+    rounds_run k m zero a v l r = (0, rw r (refl, refl))
+    rounds_run k m (suc i) a v l (u, r, (w, t, (mid, e, e'))) =
+        let lu = rounds_length (point_at T) may keeps spot.frame spot.live g h body_length step_length spot.next spot.frame.here.base c i a u l r in
+        let lw = tests_length (point_at T) may keeps spot.next spot.frame.here.base c true u w t ∙ lu in
+        join (config (L ∷ k) spot.frame.here a.state) (config (L ∷ k) spot.frame.here u.state) (config (L ∷ k) spot.frame.here v.state) a.met u.met v.met (rounds_run k m i a u l r)
+        (join (config (L ∷ k) spot.frame.here u.state) (config (run s ∷ behind k) spot.frame.here w.state) (config (L ∷ k) spot.frame.here v.state) u.met w.met v.met (goes_in k u w lu t)
+        (join (config (run s ∷ behind k) spot.frame.here w.state) (config (run step ∷ L ∷ k) spot.frame.here mid.state) (config (L ∷ k) spot.frame.here v.state) w.met mid.met v.met
+        (body_runs k m w mid lw e)
+        (stepping.runs (L ∷ k) mid to_end v (in_step k m) (mid_length (point_at T) may keeps spot.frame spot.live g h body_length step_length w mid lw e) e')))
+
+    -- a stop in the body or in the step, that isn't one of the loop's own jumps
+    carried : (k : List Item) (k' : List Item) (z : Stop) (b : Trail Point) (d : Config) (xs : List (Met Point)) → to_mark k' ≡ to_mark k → z ≢ by_jump broken → z ≢ by_jump continued
+        → Fulfils spot.frame.here k' (stopped z) b d xs → Fulfils spot.frame.here k (stopped z) b d xs
+    carried k k' (by_jump broken) b d xs e n n' x = absurd (n refl)
+    carried k k' (by_jump continued) b d xs e n n' x = absurd (n' refl)
+    carried k k' (by_jump returned) b d xs e n n' x = λ v l. x v (subst (λ o. land_returned o b.state ≡ Some v) (sym e) l)
+    carried k k' (to_point q) b d xs e n n' x = x
+    carried k k' (to_failure q) b d xs e n n' x = x
+
+    not_continued : (z : Stop) (mid b : Trail Point) → LengthAt (in_loop spot.frame None) spot.live (stopped z) b.state → (z ≢ by_jump broken) × (z ≢ by_jump continued)
+    not_continued (by_jump broken) mid b v = absurd (none-some _ v.1)
+    not_continued (by_jump continued) mid b v = absurd (none-some _ v.1)
+    not_continued (by_jump returned) mid b v = (λ e. cc, λ e. cc)
+    not_continued (to_point q) mid b v = (λ e. cc, λ e. cc)
+    not_continued (to_failure q) mid b v = (λ e. cc, λ e. cc)
+
+    -- out of the last round
+    leaves_run : (k : List Item) → Matches spot.frame k → (w : Trail Point) (z : Stop) (b : Trail Point) → length w.state.store ≡ spot.live → z ≢ by_jump broken →
+        LeavesRound (point_at T) may g h w z b
+        → Fulfils spot.frame.here k (stopped z) b (config (run s ∷ behind k) spot.frame.here w.state) w.met
+    leaves_run k m w z b l n (inl (n', y)) =
+        carried k (behind k) z b (config (run s ∷ behind k) spot.frame.here w.state) w.met refl n n' (body.runs (behind k) w (stopped z) b (in_body k m) l y)
+    leaves_run k m w z b l n (inr (mid, x, y)) =
+        let lm = mid_length (point_at T) may keeps spot.frame spot.live g h body_length step_length w mid l x in
+        later spot.frame.here k (stopped z) b (config (run s ∷ behind k) spot.frame.here w.state) (config (run step ∷ L ∷ k) spot.frame.here mid.state) w.met mid.met (body_runs k m w mid l x)
+        (carried k (L ∷ k) z b (config (run step ∷ L ∷ k) spot.frame.here mid.state) mid.met refl n (not_continued z mid b (step_length.ends mid b (stopped z) lm y)).1
+        (stepping.runs (L ∷ k) mid (stopped z) b (in_step k m) lm y))
+
+    breaks_run : (k : List Item) → Matches spot.frame k → (w b : Trail Point) → length w.state.store ≡ spot.live → LeavesRound (point_at T) may g h w (by_jump broken) b
+        → RunsTo (config (run s ∷ behind k) spot.frame.here w.state) w.met (config k spot.frame.here b.state) b.met
+    breaks_run k m w b l (inl (n, y)) = body.runs (behind k) w (stopped (by_jump broken)) b (in_body k m) l y (config k spot.frame.here b.state) refl
+    breaks_run k m w b l (inr (mid, x, y)) =
+        absurd ((not_continued (by_jump broken) mid b (step_length.ends mid b (stopped (by_jump broken))
+        (mid_length (point_at T) may keeps spot.frame spot.live g h body_length step_length w mid l x) y)).0 refl)
+
+    last_round : (k : List Item) → Matches spot.frame k → (a : Trail Point) (u : Outcome) (b : Trail Point) → length a.state.store ≡ spot.live
+        → EndsLoop (point_at T) may spot.next spot.frame.here.base c g h a b u → Fulfils spot.frame.here k u b (config (L ∷ k) spot.frame.here a.state) a.met
+    last_round k m a _ b l (loop_done t) = goes_out k a b t
+    last_round k m a _ b l (loop_at e) = stands_here spot at false (L ∷ k) a b has refl l e
+    last_round k m a _ b l (loop_broken w t y) =
+        join (config (L ∷ k) spot.frame.here a.state) (config (run s ∷ behind k) spot.frame.here w.state) (config k spot.frame.here b.state) a.met w.met b.met (goes_in k a w l t)
+        (breaks_run k m w b (tests_length (point_at T) may keeps spot.next spot.frame.here.base c true a w t ∙ l) y)
+    last_round k m a _ b l (loop_left w z t y n) =
+        later spot.frame.here k (stopped z) b (config (L ∷ k) spot.frame.here a.state) (config (run s ∷ behind k) spot.frame.here w.state) a.met w.met (goes_in k a w l t)
+        (leaves_run k m w z b (tests_length (point_at T) may keeps spot.next spot.frame.here.base c true a w t ∙ l) n y)
+
+    does_loop : Does spot.frame spot.live (run (loop at c s step)) (loop_node spot.next spot.frame.here.base c g h)
+    does_loop = record {
+      runs = λ k a u b m l y.
+          let r = loop_inv (point_at T) may spot.next spot.frame.here.base c g h a u b y in
+          later spot.frame.here k u b (config (L ∷ k) spot.frame.here a.state) (config (L ∷ k) spot.frame.here r.1.state) a.met r.1.met (rounds_run k m r.0 a r.1 l r.2)
+          (last_round k m r.1 u b (rounds_length (point_at T) may keeps spot.frame spot.live g h body_length step_length spot.next spot.frame.here.base c r.0 a r.1 l r.2) r.3);
+    }
+
+  follows_break : (spot : Spot) (at m : ℕ) → spot.frame.loop ≡ Some m → Follows spot.frame spot.live (run (break at)) (seq (act spot.next (keep m)) (leave spot.live broken))
+  follows_break spot at m i = record {
+    runs = λ k a u b mm l y. let x = jump_inv (point_at T) may spot.next (keep m) spot.live broken a u b y in
+        rw x.0 (λ e z. (e, break_step (to_turn k) m spot.frame.here a.state b.state e (mm.loops m i) x.1.0 z, (0, (refl, sym x.1.1))));
+  }
+
+  follows_continue : (spot : Spot) (at m : ℕ) → spot.frame.loop ≡ Some m → Follows spot.frame spot.live (run (continue at)) (seq (act spot.next (keep m)) (leave spot.live continued))
+  follows_continue spot at m i = record {
+    runs = λ k a u b mm l y. let x = jump_inv (point_at T) may spot.next (keep m) spot.live continued a u b y in
+        rw x.0 (λ e z. (e, continue_step (to_turn k) m spot.frame.here a.state b.state e (mm.loops m i) x.1.0 z, (0, (refl, sym x.1.1))));
+  }
+
+  -- a return that gives its value, or any
+  follows_return : (spot : Spot) (i : Item) (op : Op) (r : Back) → spot.frame.back ≡ Some r
+      → ((k : List Item) (s : State) → target_of (to_mark k) ≡ r.target → next P (config (i ∷ k) spot.frame.here s) ≡ do_leave (to_mark k) (run_op op s))
+      → Follows spot.frame spot.live i (return_node spot.next op r.length spot.live)
+  follows_return spot i op r is same = record {
+    runs = λ k a u b mm l y.
+        let one = act_seq (point_at T) may spot.next op (seq (act spot.next (keep r.length)) (leave spot.live returned)) a u b y in
+        let x = jump_inv (point_at T) may spot.next (keep r.length) spot.live returned one.0 u b one.2 in
+        let back = mm.backs ∙ is in
+        rw x.0 (λ e z. (
+          e,
+          same k a.state (target_back (to_mark k) r back) ∙ leave_step (to_mark k) r (run_op op a.state) one.0.state b.state e back one.1.0 x.1.0 z,
+          (0, (refl, sym (x.1.1 ∙ one.1.1))),
+        ));
+  }
+
+  follows_return_call : (spot : Spot) (at : ℕ) (v : Call) (r : Back) (g : Node) → spot.frame.back ≡ Some r → GivesDoes spot.frame spot.live r.target (result v) g
+      → Follows spot.frame spot.live (run (return at (Some (result v)))) (seq g (seq (act spot.next (keep r.length)) (leave spot.live returned)))
+  follows_return_call spot at v r g is y = record {
+    runs = λ k a u b mm l z. elim (seq_inv (point_at T) may g (seq (act spot.next (keep r.length)) (leave spot.live returned)) a u b z) as
+        (λ _. Pends spot.frame.here (run (return at (Some (result v))) ∷ k) k u a b) [
+          | inl w ↦ let q = y.runs (leave_call ∷ k) a (stopped w.0) b l w.2 in
+              rw w.1 (pends spot.frame.here (run (return at (Some (result v))) ∷ k) k (stopped w.0) a b q.0 (starts k a.state q.0 (mm.backs ∙ is) q.1)
+              (lower spot.frame.here leave_call k w.0 b q.0 a.met refl refl q.2))
+          | inr w ↦ let q = y.runs (leave_call ∷ k) a to_end w.0 l w.1 in
+              let x = jump_inv (point_at T) may spot.next (keep r.length) spot.live returned w.0 u b w.2 in
+              rw x.0 (λ e n. (
+                q.0,
+                starts k a.state q.0 (mm.backs ∙ is) q.1,
+                join q.0 (config (leave_call ∷ k) spot.frame.here w.0.state) e a.met w.0.met b.met q.2
+                    (met_same (config (leave_call ∷ k) spot.frame.here w.0.state) e w.0.met w.0.met b.met x.1.1
+                    (step_plain (config (leave_call ∷ k) spot.frame.here w.0.state) e w.0.met refl
+                    (leave_step (to_mark k) r (Some w.0.state) w.0.state b.state e (mm.backs ∙ is) refl x.1.0 n))),
+              ))
+        ];
+  }
+    where
+      starts : (k : List Item) (s : State) (e : Config) → back_of (to_mark k) ≡ Some r → do_rvalue P r.target (result v) (leave_call ∷ k) spot.frame.here s ≡ Some e
+          → next P (config (run (return at (Some (result v))) ∷ k) spot.frame.here s) ≡ Some e
+      starts k s e back z = subst (λ w. do_rvalue P w (result v) (leave_call ∷ k) spot.frame.here s ≡ Some e) (sym (target_back (to_mark k) r back)) z
+
+  -- in `main` nothing follows
+  follows_stop : (spot : Spot) (i : Item) → spot.frame.back ≡ None → Follows spot.frame spot.live i (leave spot.live returned)
+  follows_stop spot i is = record {
+    runs = λ k a u b mm l y. let x = leave_inv (point_at T) may spot.live returned a u b y in
+        rw x.0 (λ e z. absurd (no_landing (to_mark k) b.state e (mark_none (to_mark k) (mm.backs ∙ is)) z));
+  }
+
+  follows_stop_call : (spot : Spot) (at : ℕ) (v : Call) (g : Node) → spot.frame.back ≡ None → GivesDoes spot.frame spot.live None (result v) g →
+      Follows spot.frame spot.live (run (return at (Some (result v)))) (seq g (leave spot.live returned))
+  follows_stop_call spot at v g is y = record {
+    runs = λ k a u b mm l z. elim (seq_inv (point_at T) may g (leave spot.live returned) a u b z) as (λ _. Pends spot.frame.here (run (return at (Some (result v))) ∷ k) k u a b) [
+      | inl w ↦ let q = y.runs (leave_call ∷ k) a (stopped w.0) b l w.2 in
+          rw w.1 (pends spot.frame.here (run (return at (Some (result v))) ∷ k) k (stopped w.0) a b q.0 (starts k a.state q.0 (mark_none (to_mark k) (mm.backs ∙ is)) q.1)
+          (lower spot.frame.here leave_call k w.0 b q.0 a.met refl refl q.2))
+      | inr w ↦ let x = leave_inv (point_at T) may spot.live returned w.0 u b w.2 in
+          rw x.0 (λ e n. absurd (no_landing (to_mark k) b.state e (mark_none (to_mark k) (mm.backs ∙ is)) n))
     ];
   }
     where
@@ -621,151 +568,114 @@ module _ (P : Program) (T : List Site) (spot : Spot) where
       starts k s e i z = subst (λ w. do_rvalue P (target_of w) (result v) (leave_call ∷ k) spot.frame.here s ≡ Some e) (sym i) z
 
   -- a declarator that gives its variable a value
-  does_given : (d : Declarator) (a : Rvalue) (g : Node) → d.rvalue ≡ Some a → GivesDoes P T spot.frame (suc spot.live) (Some spot.live) a g →
-      Does P T spot.frame spot.live (declare d) (seq (act spot.next append) g)
-  does_given d a g same y = record {
-    ends = λ k s h t e mm l z w. by_how k s h t e l (act_seq spot.next append g s h t z) w;
-    comes = λ k s p t mm l z. elim z as (λ _. Stands P T (config (declare d ∷ k) spot.frame.here s) p (HasState t)) [
-      | inl u ↦ absurd u
-      | inr u ↦ let r = y.comes k u.0 p t (length_append s u.0 u.1 ∙ ap suc l) u.2 in
-          later P T (config (declare d ∷ k) spot.frame.here s) r.0 p (HasState t) (one_step P (config (declare d ∷ k) spot.frame.here s) r.0 (starts k s u.0 r.0 l u.1 r.1)) r.2
-    ];
-    fails = λ k s p mm l z. elim z as (λ _. Stands P T (config (declare d ∷ k) spot.frame.here s) p IsFalse) [
-      | inl u ↦ absurd u
-      | inr u ↦ let r = y.fails k u.0 p (length_append s u.0 u.1 ∙ ap suc l) u.2 in
-          later P T (config (declare d ∷ k) spot.frame.here s) r.0 p IsFalse (one_step P (config (declare d ∷ k) spot.frame.here s) r.0 (starts k s u.0 r.0 l u.1 r.1)) r.2
-    ];
+  follows_given : (spot : Spot) (d : Declarator) (v : Rvalue) (g : Node) → d.rvalue ≡ Some v → GivesDoes spot.frame (suc spot.live) (Some spot.live) v g →
+      Follows spot.frame spot.live (declare d) (seq (act spot.next append) g)
+  follows_given spot d v g same y = record {
+    runs = λ k a u b mm l z.
+        let one = act_seq (point_at T) may spot.next append g a u b z in
+        let r = y.runs k one.0 u b (length_append a.state one.0.state one.1.0 ∙ ap suc l) one.2 in
+        pends spot.frame.here (declare d ∷ k) k u a b r.0 (starts k a.state one.0.state r.0 l one.1.0 r.1) (subst (λ xs. Fulfils spot.frame.here k u b r.0 xs) one.1.1 r.2);
   }
     where
-      starts : (k : List Item) (s u : State) (e : Config) → length s.store ≡ spot.live → run_op append s ≡ Some u → do_rvalue P (Some spot.live) a k spot.frame.here u ≡ Some e
+      starts : (k : List Item) (s u : State) (e : Config) → length s.store ≡ spot.live → run_op append s ≡ Some u → do_rvalue P (Some spot.live) v k spot.frame.here u ≡ Some e
           → next P (config (declare d ∷ k) spot.frame.here s) ≡ Some e
       starts k s u e l o z = subst (λ w. do_declare P w k spot.frame.here s ≡ Some e) (sym same)
-          (go_on_is (run_op append s) (do_rvalue P (Some (length s.store)) a k spot.frame.here) u o ∙ subst (λ w. do_rvalue P (Some w) a k spot.frame.here u ≡ Some e) (sym l) z)
+          (go_on_is (run_op append s) (do_rvalue P (Some (length s.store)) v k spot.frame.here) u o ∙ subst (λ w. do_rvalue P (Some w) v k spot.frame.here u ≡ Some e) (sym l) z)
 
-      by_how : (k : List Item) (s : State) (h : How) (t : State) (e : Config) → length s.store ≡ spot.live → (m : State) × (run_op append s ≡ Some m) × Ends g m h t →
-          landing h spot.frame.here k t ≡ Some e
-          → RunsTo P (config (declare d ∷ k) spot.frame.here s) e
-      by_how k s normal t e l (u, o, z) w =
-          let r = y.ends k u t (length_append s u o ∙ ap suc l) z in
-          rw (← same_Some (config k spot.frame.here t) e w) (step_to P (config (declare d ∷ k) spot.frame.here s) r.0 (config k spot.frame.here t) (starts k s u r.0 l o r.1) r.2)
-      by_how k s (jump j) t e l (u, o, z) w = absurd (y.quiet u j t (length_append s u o ∙ ap suc l) z)
+  does_cut : (f : Frame) (n q m : ℕ) → Does f n (cut m) (act q (keep m))
+  does_cut f n q m = does_plain f n (cut m) (act q (keep m)) (λ k. refl) (follows_act f n q (keep m) (cut m) (λ k s. refl))
 
-  does_for : (at : ℕ) (init : BlockItems) (b : Cond) (a step : Stmt) (g h : Node) (n' : ℕ) → Length spot.frame spot.live n' g → Length spot.frame n' n' h → Does P T spot.frame spot.live (all init) g →
-      Does P T spot.frame n' (run (loop at b a step)) h
-      → Does P T spot.frame spot.live (run (for at init b a step)) (seq g (seq h (act spot.next (keep spot.live))))
-  does_for at init b a step g h n' lg lh x y = record {
-    ends = λ k s how t e mm l z w. step_to P (config (run (for at init b a step) ∷ k) spot.frame.here s) (config (all init ∷ run (loop at b a step) ∷ cut spot.live ∷ k) spot.frame.here s) e
-        (starts k s l)
-        (elim (seq_inv g (seq h (act spot.next (keep spot.live))) s how t z) as (λ _. RunsTo P (config (all init ∷ run (loop at b a step) ∷ cut spot.live ∷ k) spot.frame.here s) e) [
-          | inl u ↦ x.ends (run (loop at b a step) ∷ cut spot.live ∷ k) s (jump u.0) t e (deeper k mm) l u.2 (skips u.0 k t ∙ subst (λ v. landing v spot.frame.here k t ≡ Some e) u.1 w)
-          | inr u ↦ join P (config (all init ∷ run (loop at b a step) ∷ cut spot.live ∷ k) spot.frame.here s) (config (run (loop at b a step) ∷ cut spot.live ∷ k) spot.frame.here u.0) e
-              (x.ends (run (loop at b a step) ∷ cut spot.live ∷ k) s normal u.0 (config (run (loop at b a step) ∷ cut spot.live ∷ k) spot.frame.here u.0) (deeper k mm) l u.1 refl)
-              ((does_seq P T (move spot n' spot.next) (run (loop at b a step)) (cut spot.live) n' h (act spot.next (keep spot.live)) (λ k. refl) (λ k. refl) lh y
-              (does_act P T (move spot n' spot.next) (keep spot.live) (cut spot.live) (λ k s. refl)) k u.0 mm
-              (lg.ends s u.0 normal l u.1)).0
-              how t e u.2 w)
+  does_for : (spot : Spot) (at : ℕ) (init : BlockItems) (c : Cond) (s step : Stmt) (g h : Node) (n' : ℕ) → Length (point_at T) may keeps spot.frame spot.live n' g
+      → Length (point_at T) may keeps spot.frame n' n' h → Does spot.frame spot.live (all init) g → Does spot.frame n' (run (loop at c s step)) h
+      → Does spot.frame spot.live (run (for at init c s step)) (seq g (seq h (act spot.next (keep spot.live))))
+  does_for spot at init c s step g h n' lg lh x y = does_plain spot.frame spot.live (run (for at init c s step)) (seq g (seq h (act spot.next (keep spot.live)))) (λ k. refl) (record {
+    runs = λ k a u b mm l z. pends spot.frame.here (run (for at init c s step) ∷ k) k u a b (config (all init ∷ run (loop at c s step) ∷ cut spot.live ∷ k) spot.frame.here a.state)
+        (starts k a.state l)
+        (elim (seq_inv (point_at T) may g (seq h (act spot.next (keep spot.live))) a u b z) as
+        (λ _. Fulfils spot.frame.here k u b (config (all init ∷ run (loop at c s step) ∷ cut spot.live ∷ k) spot.frame.here a.state) a.met) [
+          | inl w ↦ rw w.1 (lower spot.frame.here (cut spot.live) k w.0 b _ a.met refl refl
+              (lower spot.frame.here (run (loop at c s step)) (cut spot.live ∷ k) w.0 b _ a.met refl refl (x.runs (run (loop at c s step) ∷ cut spot.live ∷ k) a (stopped w.0) b (deeper k mm) l w.2)))
+          | inr w ↦ later spot.frame.here k u b (config (all init ∷ run (loop at c s step) ∷ cut spot.live ∷ k) spot.frame.here a.state)
+              (config (run (loop at c s step) ∷ cut spot.live ∷ k) spot.frame.here w.0.state)
+              a.met w.0.met (x.runs (run (loop at c s step) ∷ cut spot.live ∷ k) a to_end w.0 (deeper k mm) l w.1)
+              (does_seq spot.frame n' n' (run (loop at c s step)) (cut spot.live) h (act spot.next (keep spot.live)) (λ k. refl) (λ k. refl) lh y (does_cut spot.frame n' spot.next spot.live) k
+              w.0 u b mm
+              (lg.ends a w.0 to_end l w.1) w.2)
         ]);
-    comes = λ k s p t mm l z. later P T (config (run (for at init b a step) ∷ k) spot.frame.here s) (config (all init ∷ run (loop at b a step) ∷ cut spot.live ∷ k) spot.frame.here s) p (HasState t)
-        (one_step P (config (run (for at init b a step) ∷ k) spot.frame.here s) (config (all init ∷ run (loop at b a step) ∷ cut spot.live ∷ k) spot.frame.here s) (starts k s l))
-        (elim z as (λ _. Stands P T (config (all init ∷ run (loop at b a step) ∷ cut spot.live ∷ k) spot.frame.here s) p (HasState t)) [
-          | inl u ↦ x.comes (run (loop at b a step) ∷ cut spot.live ∷ k) s p t (deeper k mm) l u
-          | inr u ↦ later P T (config (all init ∷ run (loop at b a step) ∷ cut spot.live ∷ k) spot.frame.here s) (config (run (loop at b a step) ∷ cut spot.live ∷ k) spot.frame.here u.0) p
-              (HasState t)
-              (x.ends (run (loop at b a step) ∷ cut spot.live ∷ k) s normal u.0 (config (run (loop at b a step) ∷ cut spot.live ∷ k) spot.frame.here u.0) (deeper k mm) l u.1 refl)
-              ((does_seq P T (move spot n' spot.next) (run (loop at b a step)) (cut spot.live) n' h (act spot.next (keep spot.live)) (λ k. refl) (λ k. refl) lh y
-              (does_act P T (move spot n' spot.next) (keep spot.live) (cut spot.live) (λ k s. refl)) k u.0 mm
-              (lg.ends s u.0 normal l u.1)).1 p t u.2)
-        ]);
-    fails = λ k s p mm l z. later P T (config (run (for at init b a step) ∷ k) spot.frame.here s) (config (all init ∷ run (loop at b a step) ∷ cut spot.live ∷ k) spot.frame.here s) p IsFalse
-        (one_step P (config (run (for at init b a step) ∷ k) spot.frame.here s) (config (all init ∷ run (loop at b a step) ∷ cut spot.live ∷ k) spot.frame.here s) (starts k s l))
-        (elim z as (λ _. Stands P T (config (all init ∷ run (loop at b a step) ∷ cut spot.live ∷ k) spot.frame.here s) p IsFalse) [
-          | inl u ↦ x.fails (run (loop at b a step) ∷ cut spot.live ∷ k) s p (deeper k mm) l u
-          | inr u ↦ later P T (config (all init ∷ run (loop at b a step) ∷ cut spot.live ∷ k) spot.frame.here s) (config (run (loop at b a step) ∷ cut spot.live ∷ k) spot.frame.here u.0) p IsFalse
-              (x.ends (run (loop at b a step) ∷ cut spot.live ∷ k) s normal u.0 (config (run (loop at b a step) ∷ cut spot.live ∷ k) spot.frame.here u.0) (deeper k mm) l u.1 refl)
-              ((does_seq P T (move spot n' spot.next) (run (loop at b a step)) (cut spot.live) n' h (act spot.next (keep spot.live)) (λ k. refl) (λ k. refl) lh y
-              (does_act P T (move spot n' spot.next) (keep spot.live) (cut spot.live) (λ k s. refl)) k u.0 mm
-              (lg.ends s u.0 normal l u.1)).2 p u.2)
-        ]);
-  }
+  })
     where
-      deeper : (k : List Item) → Matches spot.frame k → Matches spot.frame (run (loop at b a step) ∷ cut spot.live ∷ k)
-      deeper k m = matches_skip spot.frame (run (loop at b a step)) (cut spot.live ∷ k) refl refl (matches_skip spot.frame (cut spot.live) k refl refl m)
+      deeper : (k : List Item) → Matches spot.frame k → Matches spot.frame (run (loop at c s step) ∷ cut spot.live ∷ k)
+      deeper k m = matches_skip spot.frame (run (loop at c s step)) (cut spot.live ∷ k) refl refl (matches_skip spot.frame (cut spot.live) k refl refl m)
 
-      skips : (j : Exit) (k : List Item) (t : State) → land j spot.frame.here (run (loop at b a step) ∷ cut spot.live ∷ k) t ≡ land j spot.frame.here k t
-      skips j k t = land_skip j spot.frame.here (run (loop at b a step)) (cut spot.live ∷ k) t refl refl ∙ land_skip j spot.frame.here (cut spot.live) k t refl refl
+      starts : (k : List Item) (t : State) → length t.store ≡ spot.live → next P (config (run (for at init c s step) ∷ k) spot.frame.here t) ≡
+          Some (config (all init ∷ run (loop at c s step) ∷ cut spot.live ∷ k) spot.frame.here t)
+      starts k t l = rw l refl
 
-      starts : (k : List Item) (s : State) → length s.store ≡ spot.live → next P (config (run (for at init b a step) ∷ k) spot.frame.here s) ≡
-          Some (config (all init ∷ run (loop at b a step) ∷ cut spot.live ∷ k) spot.frame.here s)
-      starts k s l = rw l refl
+  -- a block's end
+  does_end : (spot : Spot) (n at : ℕ) → Has T spot at → Does spot.frame spot.live (end_of at n) (seq (point spot.next) (act spot.next (keep n)))
+  does_end spot n at has = does_point spot at (end_of at n) (act spot.next (keep n)) has (λ k. refl) (follows_act spot.frame spot.live spot.next (keep n) (end_of at n) (λ k s. refl))
 
--- a block's end
-does_end : (P : Program) (T : List Site) (spot : Spot) (n at : ℕ) → Has T spot at → Does P T spot.frame spot.live (end_of at n) (seq (point spot.next) (act spot.next (keep n)))
-does_end P T spot n at has = does_point P T spot at (end_of at n) (act spot.next (keep n)) has (λ k. refl) (does_act P T spot (keep n) (end_of at n) (λ k s. refl))
+  mutual
+    pub does_one : {spot : Spot} {s : Stmt} {g : Node} {q : ℕ} → Inl P T spot s g q → Does spot.frame spot.live (run s) g
+    does_one (as_nothing {s = spot} {at = at} i) = does_nothing spot at i
+    does_one (as_block {s = spot} {body = body} {end = end} {g = g} {n = n'} {q = q'} d i) =
+        does_two spot.frame spot.live n' (run (block body end)) (all body) (end_of end spot.live) g (seq (point q') (act q' (keep spot.live))) (λ k. refl)
+        (λ k s l. rw l refl) (λ k. refl) (λ k. refl) (length_all (point_at T) may keeps d) (does_all d) (does_end (move spot n' q') spot.live end i)
+    does_one (as_absent {s = spot}) = does_plain spot.frame spot.live (run absent) empty (λ k. refl) (follows_empty spot.frame spot.live (run absent) (λ k s. refl))
+    does_one (as_assign {s = spot} {at = at} {x = x} {e = e} {g = g} i d) = does_point spot at (run (assign at x e)) g i (λ k. refl)
+        (follows_rvalue spot (assign at x e) (Some (index_of spot.frame.here.base x)) e g (λ k s l. refl) (does_gives d))
+    does_one (as_call {s = spot} {at = at} {c = c} {g = g} i d) = does_point spot at (run (call at c)) g i (λ k. refl)
+        (follows_rvalue spot (call at c) None (result c) g (λ k s l. refl) (does_gives d))
+    does_one (as_if {s = spot} {at = at} {c = c} {a = s} {b = s'} {g = g} {h = h} i d e) =
+        does_point spot at (run (if at c s s')) (choose spot.next spot.frame.here.base c g h) i (λ k. refl)
+        (follows_if spot at c s s' g h (does_one d) (does_one e))
+    does_one (as_loop d) = does_loops d
+    does_one (as_for {s = spot} {at = at} {init = init} {c = c} {a = s} {step = step} {g = g} {h = h} {n = n'} d e) =
+        does_for spot at init c s step g h n' (length_all (point_at T) may keeps d) (length_loop (point_at T) may keeps e) (does_all d) (does_loops e)
+    does_one (as_break {s = spot} {at = at} {m = m} i k j) = does_point spot at (run (break at)) (seq (act spot.next (keep m)) (leave spot.live broken)) j
+        (λ k. refl) (follows_break spot at m i)
+    does_one (as_continue {s = spot} {at = at} {m = m} i k j) = does_point spot at (run (continue at))
+        (seq (act spot.next (keep m)) (leave spot.live continued)) j (λ k. refl) (follows_continue spot at m i)
+    does_one (as_return {s = spot} {at = at} {b = b} i k j) = does_point spot at (run (return at None))
+        (return_node spot.next (give_any b.target) b.length spot.live) j (λ k. refl)
+        (follows_return spot (run (return at None)) (give_any b.target) b i (λ k s z. ap (λ x. do_leave (to_mark k) (run_any x s)) z))
+    does_one (as_return_value {s = spot} {at = at} {e = e} {b = b} i k j) =
+        does_point spot at (run (return at (Some (value e)))) (return_node spot.next (give spot.frame.here.base b.target e) b.length spot.live) j (λ k. refl)
+        (follows_return spot (run (return at (Some (value e)))) (give spot.frame.here.base b.target e) b i
+        (λ k s z. ap (λ x. do_leave (to_mark k) (run_op (give spot.frame.here.base x e) s)) z))
+    does_one (as_return_call {s = spot} {at = at} {c = c} {b = b} {g = g} i k j d) =
+        does_point spot at (run (return at (Some (result c)))) (seq g (seq (act spot.next (keep b.length)) (leave spot.live returned))) j
+        (λ k. refl) (follows_return_call spot at c b g i (does_gives d))
+    does_one (as_end {s = spot} {at = at} i j) = does_point spot at (run (return at None)) (leave spot.live returned) j (λ k. refl)
+        (follows_stop spot (run (return at None)) i)
+    does_one (as_end_value {s = spot} {at = at} {e = e} i j) = does_point spot at (run (return at (Some (value e)))) (leave spot.live returned) j
+        (λ k. refl) (follows_stop spot (run (return at (Some (value e)))) i)
+    does_one (as_end_call {s = spot} {at = at} {c = c} {g = g} i j d) = does_point spot at (run (return at (Some (result c))))
+        (seq g (leave spot.live returned)) j (λ k. refl) (follows_stop_call spot at c g i (does_gives d))
+    does_one (as_assert {s = spot} {at = at} {c = c} i) = does_assert spot at c i
+    does_one (as_assume {s = spot} {at = at} {c = c} i) = does_point spot at (run (assume at c)) (act spot.next (test spot.frame.here.base c true)) i
+        (λ k. refl) (follows_act spot.frame spot.live spot.next (test spot.frame.here.base c true) (run (assume at c)) (λ k s. refl))
 
-mutual
-  pub does_one : {P : Program} {T : List Site} {spot : Spot} {a : Stmt} {g : Node} {q : ℕ} → Inl P T spot a g q → Does P T spot.frame spot.live (run a) g
-  does_one {P = P} {T = T} (as_nothing {s = spot} {at = at} i) = does_nothing P T spot at i
-  does_one {P = P} {T = T} (as_block {s = spot} {body = body} {end = end} {g = g} {n = n'} {q = q'} d i) =
-      does_two P T spot (run (block body end)) (all body) (end_of end spot.live) n' g (seq (point q') (act q' (keep spot.live)))
-      (λ k s l. rw l refl) (λ k. refl) (λ k. refl) (length_all d) (does_all d) (does_end P T (move spot n' q') spot.live end i)
-  does_one {P = P} {T = T} (as_absent {s = spot}) = does_empty P T spot (run absent) (λ k s. refl)
-  does_one {P = P} {T = T} (as_assign {s = spot} {at = at} {x = x} {e = e} {g = g} i d) = does_point P T spot at (run (assign at x e)) g i (λ k. refl)
-      (does_rvalue P T spot (assign at x e) (Some (index_of spot.frame.here.base x)) e g (λ k s l. refl) (does_gives d))
-  does_one {P = P} {T = T} (as_call {s = spot} {at = at} {c = c} {g = g} i d) = does_point P T spot at (run (call at c)) g i (λ k. refl)
-      (does_rvalue P T spot (call at c) None (result c) g (λ k s l. refl) (does_gives d))
-  does_one {P = P} {T = T} (as_if {s = spot} {at = at} {c = c} {a = a} {b = b} {g = g} {h = h} i d e) =
-      does_point P T spot at (run (if at c a b)) (choose spot.next spot.frame.here.base c g h) i (λ k. refl)
-      (does_if P T spot at c a b g h (does_one d) (does_one e))
-  does_one (as_loop d) = does_loops d
-  does_one {P = P} {T = T} (as_for {s = spot} {at = at} {init = init} {c = b} {a = a} {step = step} {g = g} {h = h} {n = n'} d e) =
-      does_for P T spot at init b a step g h n' (length_all d) (length_loop e) (does_all d) (does_loops e)
-  does_one {P = P} {T = T} (as_break {s = spot} {at = at} {m = m} i k j) = does_point P T spot at (run (break at)) (seq (act spot.next (keep m)) (leave spot.live broken)) j
-      (λ k. refl) (does_break P T spot at m i)
-  does_one {P = P} {T = T} (as_continue {s = spot} {at = at} {m = m} i k j) = does_point P T spot at (run (continue at))
-      (seq (act spot.next (keep m)) (leave spot.live continued)) j (λ k. refl) (does_continue P T spot at m i)
-  does_one {P = P} {T = T} (as_return {s = spot} {at = at} {b = b} i k j) = does_point P T spot at (run (return at None))
-      (return_node spot.next (give_any b.target) b.length spot.live) j (λ k. refl)
-      (does_return P T spot (run (return at None)) (give_any b.target) b i (λ k s z. ap (λ x. do_leave (to_mark k) (run_any x s)) z))
-  does_one {P = P} {T = T} (as_return_value {s = spot} {at = at} {e = e} {b = b} i k j) =
-      does_point P T spot at (run (return at (Some (value e)))) (return_node spot.next (give spot.frame.here.base b.target e) b.length spot.live) j (λ k. refl)
-      (does_return P T spot (run (return at (Some (value e)))) (give spot.frame.here.base b.target e) b i
-      (λ k s z. ap (λ x. do_leave (to_mark k) (run_op (give spot.frame.here.base x e) s)) z))
-  does_one {P = P} {T = T} (as_return_call {s = spot} {at = at} {c = c} {b = b} {g = g} i k j d) =
-      does_point P T spot at (run (return at (Some (result c)))) (seq g (seq (act spot.next (keep b.length)) (leave spot.live returned))) j
-      (λ k. refl) (does_return_call P T spot at c b g i (does_gives d))
-  does_one {P = P} {T = T} (as_end {s = spot} {at = at} i j) = does_point P T spot at (run (return at None)) (leave spot.live returned) j (λ k. refl)
-      (does_stop P T spot (run (return at None)) i)
-  does_one {P = P} {T = T} (as_end_value {s = spot} {at = at} {e = e} i j) = does_point P T spot at (run (return at (Some (value e)))) (leave spot.live returned) j
-      (λ k. refl)
-      (does_stop P T spot (run (return at (Some (value e)))) i)
-  does_one {P = P} {T = T} (as_end_call {s = spot} {at = at} {c = c} {g = g} i j d) = does_point P T spot at (run (return at (Some (result c))))
-      (seq g (leave spot.live returned)) j (λ k. refl)
-      (does_stop_call P T spot at c g i (does_gives d))
-  does_one {P = P} {T = T} (as_assert {s = spot} {at = at} {c = c} i) = does_assert P T spot at c i
-  does_one {P = P} {T = T} (as_assume {s = spot} {at = at} {c = c} i) = does_point P T spot at (run (assume at c)) (act spot.next (test spot.frame.here.base c true)) i
-      (λ k. refl)
-      (does_act P T spot (test spot.frame.here.base c true) (run (assume at c)) (λ k s. refl))
+    pub does_all : {spot : Spot} {b : BlockItems} {g : Node} {n q : ℕ} → InlAll P T spot b g n q → Does spot.frame spot.live (all b) g
+    does_all (as_none {s = spot}) = does_plain spot.frame spot.live (all no_more) empty (λ k. refl) (follows_empty spot.frame spot.live (all no_more) (λ k s. refl))
+    does_all (as_declaration {s = spot} {d = d} {b = b} {g = g} {h = h} i j e) =
+        does_two spot.frame spot.live (suc spot.live) (all (declaration d b)) (declare d) (all b) (seq (point spot.next) g) h (λ k. refl) (λ k s l. refl) (λ k. refl)
+        (λ k. refl) (length_declarator (point_at T) may keeps j)
+        (does_point spot d.label (declare d) g i (λ k. refl) (does_declares d j refl)) (does_all e)
+    does_all (as_statement {s = spot} {a = s} {b = b} {g = g} {h = h} d e) =
+        does_two spot.frame spot.live spot.live (all (statement s b)) (run s) (all b) g h (λ k. refl) (λ k s l. refl) (λ k. refl) (λ k. refl) (length_one (point_at T) may keeps d)
+        (does_one d) (does_all e)
 
-  pub does_all : {P : Program} {T : List Site} {spot : Spot} {a : BlockItems} {g : Node} {n q : ℕ} → InlAll P T spot a g n q → Does P T spot.frame spot.live (all a) g
-  does_all {P = P} {T = T} (as_none {s = spot}) = does_empty P T spot (all no_more) (λ k s. refl)
-  does_all {P = P} {T = T} (as_declaration {s = spot} {d = d} {b = b} {g = g} {h = h} i j e) =
-      does_two P T spot (all (declaration d b)) (declare d) (all b) (suc spot.live) (seq (point spot.next) g) h (λ k s l. refl) (λ k. refl)
-      (λ k. refl) (length_declarator j)
-      (does_point P T spot d.label (declare d) g i (λ k. refl) (does_declares d j refl)) (does_all e)
-  does_all {P = P} {T = T} (as_statement {s = spot} {a = a} {b = b} {g = g} {h = h} d e) =
-      does_two P T spot (all (statement a b)) (run a) (all b) spot.live g h (λ k s l. refl) (λ k. refl) (λ k. refl) (length_one d)
-      (does_one d) (does_all e)
+    pub does_declares : {spot : Spot} {r : ℕ} {o : Option Rvalue} {g : Node} {q : ℕ} (d : Declarator) → Declares P T spot r o g q → d.rvalue ≡ o
+        → Follows spot.frame spot.live (declare d) g
+    does_declares d (as_fresh {s = spot}) same = follows_act spot.frame spot.live spot.next append (declare d) (λ k s. ap (λ w. do_declare P w k spot.frame.here s) same)
+    does_declares d (as_given {s = spot} {e = e} {g = g} x) same = follows_given spot d e g same (does_gives x)
 
-  pub does_declares : {P : Program} {T : List Site} {spot : Spot} {r : ℕ} {o : Option Rvalue} {g : Node} {q : ℕ} (d : Declarator) → Declares P T spot r o g q → d.rvalue ≡ o
-      → Does P T spot.frame spot.live (declare d) g
-  does_declares {P = P} {T = T} d (as_fresh {s = spot}) same = does_act P T spot append (declare d) (λ k s. ap (λ w. do_declare P w k spot.frame.here s) same)
-  does_declares {P = P} {T = T} d (as_given {s = spot} {e = e} {g = g} x) same = does_given P T spot d e g same (does_gives x)
+    pub does_loops : {spot : Spot} {r : ℕ} {s : Stmt} {g : Node} {q : ℕ} → Loops P T spot r s g q → Does spot.frame spot.live (run s) g
+    does_loops (is_loop {s = spot} {at = at} {c = c} {a = s} {step = step} {g = g} {h = h} i d e) =
+        does_loop spot at c s step g h i (does_one e) (does_one d) (length_one (point_at T) may keeps e) (length_one (point_at T) may keeps d)
 
-  pub does_loops : {P : Program} {T : List Site} {spot : Spot} {r : ℕ} {a : Stmt} {g : Node} {q : ℕ} → Loops P T spot r a g q → Does P T spot.frame spot.live (run a) g
-  does_loops {P = P} {T = T} (is_loop {s = spot} {at = at} {c = c} {a = a} {step = step} {g = g} {h = h} i d e) =
-      does_loop P T spot at c a step g h i (does_one e) (does_one d) (length_one e) (length_one d)
-
-  pub does_gives : {P : Program} {T : List Site} {spot : Spot} {r : ℕ} {x : Option ℕ} {e : Rvalue} {g : Node} {q : ℕ} → Gives P T spot r x e g q → GivesDoes P T spot.frame spot.live x e g
-  does_gives {P = P} {T = T} (as_value {s = spot} {r = r} {x = x} {e = e}) = does_give P T spot r x e
-  does_gives {P = P} {T = T} (as_result {s = spot} {r = r} {x = x} {c = c} {fn = fn} {g = g} {n = n'} {q = r'} i j d k) =
-      does_call P T spot r r' x c fn g n' i j (length_all d) (grows_all d) k (does_all d)
+    pub does_gives : {spot : Spot} {r : ℕ} {x : Option ℕ} {e : Rvalue} {g : Node} {q : ℕ} → Gives P T spot r x e g q → GivesDoes spot.frame spot.live x e g
+    does_gives (as_value {s = spot} {x = x} {e = e}) = follows_give spot x e
+    does_gives (as_result {s = spot} {x = x} {c = c} {fn = fn} {g = g} {n = n'} {q = r'} i j d k) =
+        does_call spot r' x c fn g n' i j (length_all (point_at T) may keeps d) (grows_all d) k (does_all d)

@@ -1,16 +1,20 @@
--- What the tree of a whole program comes to, some run comes to.
-use Rattle.std.proofs.Common.{◌≡◌, ℕ, ℤ, List, [], ◌∷◌, length, false, inl, inr, refl, sym}
+-- What the tree of a whole program comes to, some run comes to, on the same trail.
+use Rattle.std.proofs.Common.{◌≡◌, ℕ, ℤ, List, [], ◌∷◌, length, false, inl, inr, refl}
 use Rattle.std.proofs.lemmas.Option.{none-some}
 use Rattle.lra_program.specs.Program.{Program}
 use Rattle.lra_program.specs.Step.{State, Item, all, end_of}
-use Rattle.lra_program.specs.Run.{start}
-use Rattle.lra_operations.specs.Graph.{normal, Node, seq, point, Comes, FailsAt}
+use Rattle.lra_program.specs.Run.{Point, start}
+use Rattle.lra_program.specs.Trails.{Trail}
+use Rattle.lra_operations.specs.Graph.{Node, seq, point}
+use Rattle.lra_operations.specs.Trails.{Stop, by_jump, to_point, to_failure, to_end, stopped, Goes}
+use Rattle.lra_operations.specs.TrailsAgree.{KeepsWidth, point_at}
 use Rattle.lra_program.specs.Sites.{Site, sites_of}
 use Rattle.lra_operations.specs.Inlined.{move, Has, InlAll, main_frame, main_spot}
 use Rattle.lra_operations.specs.Agree.{begins, IsGraph}
 use Rattle.lra_graph.proofs.Lengths.{length_all}
 use Rattle.lra_graph.proofs.Landing.{config, Matches}
-use Rattle.lra_graph.proofs.Does.{Stands, HasState, IsFalse, does_all}
+use Rattle.lra_graph.proofs.Split.{trail}
+use Rattle.lra_graph.proofs.Does.{Fulfils, Stands, Denied, later, stands_here, does_all}
 
 abbrev bottom : Program → List Item
 bottom P = end_of P.main.end (length P.globals) ∷ []
@@ -18,27 +22,23 @@ bottom P = end_of P.main.end (length P.globals) ∷ []
 bottom_matches : (P : Program) → Matches (main_frame P) (bottom P)
 bottom_matches P = record { loops = λ m e. absurd (none-some m e); backs = refl }
 
-module _ (P : Program) (T : List Site) (body : Node) (last live : ℕ) (d : InlAll P T (main_spot P) P.main.body body live last)
-    (has : Has T (move (main_spot P) live last) P.main.end) where
-  stands : (s : State) (q : ℕ) (t : State) → length s.store ≡ length P.globals → Comes (seq body (point last)) s q t → Stands P T (config (all P.main.body ∷ bottom P) (main_frame P).here s) q
-      (HasState t)
-  stands s q t l (inl x) = (does_all d).comes (bottom P) s q t (bottom_matches P) l x
-  stands s q t l (inr (m, e, x)) = record {
-    there = config (bottom P) (main_frame P).here m;
-    label = P.main.end;
-    asserts = false;
-    runs = (does_all d).ends (bottom P) s normal m (config (bottom P) (main_frame P).here m) (bottom_matches P) l e refl;
-    on = refl;
-    site = rw (x.0, (length_all d).ends s m normal l e) has;
-    meets = sym x.1;
-  }
+module _ (may : State → State → Type 0) (keeps : KeepsWidth may) where
+  module _ (P : Program) (T : List Site) (body : Node) (last live : ℕ) (d : InlAll P T (main_spot P) P.main.body body live last)
+      (has : Has T (move (main_spot P) live last) P.main.end) where
+    fulfils : (a : Trail Point) (z : Stop) (b : Trail Point) → length a.state.store ≡ length P.globals → Goes (point_at T) may (seq body (point last)) a (stopped z) b
+        → Fulfils may keeps P T (main_frame P).here (bottom P) (stopped z) b (config (all P.main.body ∷ bottom P) (main_frame P).here a.state) a.met
+    fulfils a z b l (inl x) = (does_all may keeps P T d).runs (bottom P) a (stopped z) b (bottom_matches P) l x
+    fulfils a (by_jump j) b l (inr (m, e, x)) = absurd x.0
+    fulfils a (to_point q) b l (inr (m, e, (i, x))) =
+        later may keeps P T (main_frame P).here (bottom P) (stopped (to_point q)) b (config (all P.main.body ∷ bottom P) (main_frame P).here a.state)
+        (config (bottom P) (main_frame P).here m.state) a.met m.met
+        ((does_all may keeps P T d).runs (bottom P) a to_end m (bottom_matches P) l e)
+        (rw i (stands_here may keeps P T (move (main_spot P) live last) P.main.end false (bottom P) m b has refl ((length_all (point_at T) may keeps d).ends a m to_end l e) x))
+    fulfils a (to_failure q) b l (inr (m, e, x)) = absurd x.0
 
-  failing : (s : State) (q : ℕ) → length s.store ≡ length P.globals → FailsAt (seq body (point last)) s q → Stands P T (config (all P.main.body ∷ bottom P) (main_frame P).here s) q IsFalse
-  failing s q l (inl x) = (does_all d).fails (bottom P) s q (bottom_matches P) l x
-  failing s q l (inr (m, e, x)) = absurd x
+  module _ (P : Program) (g : Node) (is : IsGraph P g) (draws : List ℤ) where
+    pub performed : (q : ℕ) (b : Trail Point) → Goes (point_at (sites_of P)) may g (trail (begins P draws) []) (stopped (to_point q)) b → Stands may keeps P (sites_of P) (start P draws) [] q b
+    performed q b x = fulfils P (sites_of P) is.body is.last is.live is.inlined is.ends (trail (begins P draws) []) (to_point q) b refl (rw is.parts at x)
 
-pub performed : (P : Program) (g : Node) → IsGraph P g → (draws : List ℤ) (q : ℕ) (t : State) → Comes g (begins P draws) q t → Stands P (sites_of P) (start P draws) q (HasState t)
-performed P g is draws q t x = stands P (sites_of P) is.body is.last is.live is.inlined is.ends (begins P draws) q t refl (rw is.parts at x)
-
-pub failed : (P : Program) (g : Node) → IsGraph P g → (draws : List ℤ) (q : ℕ) → FailsAt g (begins P draws) q → Stands P (sites_of P) (start P draws) q IsFalse
-failed P g is draws q x = failing P (sites_of P) is.body is.last is.live is.inlined is.ends (begins P draws) q refl (rw is.parts at x)
+    pub failed : (q : ℕ) (b : Trail Point) → Goes (point_at (sites_of P)) may g (trail (begins P draws) []) (stopped (to_failure q)) b → Denied may keeps P (sites_of P) (start P draws) [] q b
+    failed q b x = fulfils P (sites_of P) is.body is.last is.live is.inlined is.ends (trail (begins P draws) []) (to_failure q) b refl (rw is.parts at x)

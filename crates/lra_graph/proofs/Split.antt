@@ -5,520 +5,635 @@ use Rattle.lra_program.specs.Program.{Cond, Call, Rvalue, value, result, Declara
 use Rattle.lra_program.specs.Program.{no_more, declaration, statement, Function, Program}
 use Rattle.lra_program.specs.Value.{index_of, truth_of}
 use Rattle.lra_program.specs.Step.{State, Op, append, give, give_any, push, keep, test, run_op, run_any, Here, Back, Item, run, declare, all, end_of, turn, cut, mark, leave_call, Config, to_turn}
-use Rattle.lra_program.specs.Step.{to_mark, target_of, go, enter, do_rvalue, do_leave, do_break, do_continue, do_declare, next}
-use Rattle.lra_program.specs.Run.{Steps, label_on, IsFailing}
-use Rattle.lra_operations.specs.Graph.{Exit, broken, continued, returned, normal, jump, Node, point, act, check, seq, choose, leave, Ends, Comes, FailsAt}
+use Rattle.lra_program.specs.Step.{to_mark, target_of, go, enter, do_rvalue, do_leave, do_break, do_continue, do_declare, next, next_at}
+use Rattle.lra_program.specs.Run.{label_on, Point, IsFailing}
+use Rattle.lra_program.specs.Trails.{Met, passes, Trail, met_on, Becomes, Walks}
+use Rattle.lra_operations.specs.Graph.{Exit, broken, continued, returned, Node, point, act, check, seq, choose, leave}
+use Rattle.lra_operations.specs.Trails.{Stop, by_jump, to_point, to_failure, Outcome, to_end, stopped, Goes, Tests, Performs, Passes}
+use Rattle.lra_operations.specs.TrailsAgree.{KeepsWidth, point_at, point_or_none}
 use Rattle.lra_program.specs.Sites.{Site}
 use Rattle.lra_operations.specs.Inlined.{Frame, Spot, move, at_point, within, into_callee, Has, HasSite, callee, Inl, InlAll, Declares, Loops, Gives, as_nothing, as_block, as_absent, as_assign}
 use Rattle.lra_operations.specs.Inlined.{as_call, as_if, as_loop, as_for, as_break}
 use Rattle.lra_operations.specs.Inlined.{as_continue, as_return, as_return_value, as_return_call, as_end, as_end_value, as_end_call, as_assert, as_assume, as_none, as_declaration, as_statement}
 use Rattle.lra_operations.specs.Inlined.{as_fresh, as_given, is_loop, as_value, as_result, loop_node, call_node, return_node}
-use Rattle.lra_graph.proofs.Shapes.{call_returns, call_ends, Round, round_join, loop_join, loop_first, comes_first, fails_first, jump_join}
-use Rattle.lra_graph.proofs.Lengths.{LengthAt, length_declarator, length_one, length_all, length_test, length_push, length_append, in_loop, mid_length}
+use Rattle.lra_graph.proofs.Shapes.{call_ends, Round, EndsBodyRound, loop_join, loop_at, loop_done, loop_broken, loop_left, EndsLoop, loop_first, jump_join}
+use Rattle.lra_graph.proofs.Lengths.{Length, length_declarator, length_one, length_all, length_test, length_push, length_append, tests_length, mid_length, round_length}
 use Rattle.lra_graph.proofs.Landing.{config, land, land_skip, Matches, matches_skip, turn_some, mark_some, mark_none, go_some, go_on_some, go_by_some, lands_broken, lands_continued, lands_returned}
 
-returned_broken : returned ≡ broken → ⊥
+returned_broken : by_jump returned ≡ by_jump broken → ⊥
 returned_broken e = cc
 
-returned_continued : returned ≡ continued → ⊥
+returned_continued : by_jump returned ≡ by_jump continued → ⊥
 returned_continued e = cc
 
-broken_continued : broken ≡ continued → ⊥
+broken_continued : by_jump broken ≡ by_jump continued → ⊥
 broken_continued e = cc
 
--- the tree comes to a point of the configuration's path, with this label, and its state; and fails there, where the configuration does
-pub record Hit (T : List Site) (c : Config) (p : ℕ) (g : Node) (s : State) : Type 0 where
-  pub number : ℕ
-  pub asserts : Bool
-  pub site : slice_get T number ≡ Some (record { path = c.here.path; label = p; live = length c.state.store; asserts = asserts })
-  pub comes : Comes g s number c.state
-  pub fails : IsFailing c.items c.here c.state → FailsAt g s number
+abbrev pub trail : State → List (Met Point) → Trail Point
+trail s xs = record { state = s; met = xs }
 
--- what is so of all that comes to a point is so of the whole
-pub hit_as : (T : List Site) (c : Config) (p : ℕ) (a b : Node) (s t : State) → ((q : ℕ) → Comes a s q c.state → Comes b t q c.state) → ((q : ℕ) → FailsAt a s q → FailsAt b t q) → Hit T c p a s
-    → Hit T c p b t
-hit_as T c p a b s t f g h = record { number = h.number; asserts = h.asserts; site = h.site; comes = f h.number h.comes; fails = λ z. g h.number (h.fails z) }
+module _ (may : State → State → Type 0) (T : List Site) where
+  -- what the tree has to show where the program stands at the point of this number
+  abbrev pub Shows : (c : Config) (zs : List (Met Point)) (p number : ℕ) → Stop → Trail Point → Type 0
+  Shows c zs p number (by_jump j) b = ⊥
+  Shows c zs p number (to_point q) b = (q ≡ number) × (b ≡ trail c.state zs)
+  Shows c zs p number (to_failure q) b = (q ≡ number) × may c.state b.state × IsFailing c.items c.here b.state × (b.met ≡ passes (record { path = c.here.path; label = p }) c.state ∷ zs)
 
--- what n steps to c make of the tree that stands for the items above k
-pub data Splits (P : Program) (T : List Site) (c : Config) (p : ℕ) (h : Here) (k : List Item) (n : ℕ) (g : Node) (s : State) : Type 0 where
-  hits : Hit T c p g s → Splits P T c p h k n g s
-  ended : (j : ℕ) (m : State) → j < n → Ends g s normal m → Steps P j (config k h m) c → Splits P T c p h k n g s
-  jumped : (j : ℕ) (kind : Exit) (m : State) (d : Config) → j < n → Ends g s (jump kind) m → land kind h k m ≡ Some d → Steps P j d c → Splits P T c p h k n g s
+  -- the tree comes to a point of the configuration's path, with this label, and its state and trail; and fails there, where the configuration does
+  pub record Hit (c : Config) (zs : List (Met Point)) (p : ℕ) (g : Node) (a : Trail Point) : Type 0 where
+    pub number : ℕ
+    pub asserts : Bool
+    pub site : slice_get T number ≡ Some (record { path = c.here.path; label = p; live = length c.state.store; asserts = asserts })
+    pub leads : (z : Stop) (b : Trail Point) → Shows c zs p number z b → Goes (point_at T) may g a (stopped z) b
 
-pub hit_there : (T : List Site) (c : Config) (p : ℕ) (spot : Spot) (at : ℕ) (asserts : Bool) (is : List Item) (s : State) (g : Node) → label_on c.items ≡ Some p
-    → HasSite T spot at asserts → length s.store ≡ spot.live
-    → label_on is ≡ Some at → Comes g s spot.next s → (IsFailing is spot.frame.here s → FailsAt g s spot.next) → config is spot.frame.here s ≡ c → Hit T c p g s
-hit_there T c p spot at asserts is s g on has l lab x y e = subst (λ (d : Config). label_on d.items ≡ Some p → Hit T d p g s) e (λ o. record {
-  number = spot.next;
-  asserts = asserts;
-  site = rw (l, ← same_Some _ _ (sym lab ∙ o)) has;
-  comes = x;
-  fails = y;
-}) on
+  no_jump : (c : Config) (zs : List (Met Point)) (p number : ℕ) (z : Stop) (b : Trail Point) → Shows c zs p number z b → (j : Exit) → z ≢ by_jump j
+  no_jump c zs p number (by_jump k) b x j e = x
+  no_jump c zs p number (to_point q) b x j e = cc
+  no_jump c zs p number (to_failure q) b x j e = cc
+
+  -- what is so of all that comes to a point is so of the whole
+  pub hit_as : (c : Config) (zs : List (Met Point)) (p : ℕ) (g h : Node) (a b : Trail Point)
+      → ((z : Stop) (d : Trail Point) → ((j : Exit) → z ≢ by_jump j) → Goes (point_at T) may g a (stopped z) d → Goes (point_at T) may h b (stopped z) d) → Hit c zs p g a → Hit c zs p h b
+  hit_as c zs p g h a b f x =
+      record { number = x.number; asserts = x.asserts; site = x.site; leads = λ z d shows. f z d (no_jump c zs p x.number z d shows) (x.leads z d shows) }
+
+  pub named : (spot : Spot) (at : ℕ) (asserts : Bool) → HasSite T spot at asserts → point_at T spot.next ≡ record { path = spot.frame.here.path; label = at }
+  named spot at asserts has = ap point_or_none has
+
+  pub hit_there : (c : Config) (zs : List (Met Point)) (p : ℕ) (spot : Spot) (at : ℕ) (asserts : Bool) (is : List Item) (a : Trail Point) (g : Node) → label_on c.items ≡ Some p
+      → HasSite T spot at asserts → length a.state.store ≡ spot.live → label_on is ≡ Some at → Goes (point_at T) may g a (stopped (to_point spot.next)) a
+      → ((b : Trail Point) → Passes (point_at T) may spot.next a b → IsFailing is spot.frame.here b.state → Goes (point_at T) may g a (stopped (to_failure spot.next)) b)
+      → (config is spot.frame.here a.state ≡ c) × (a.met ≡ zs) → Hit c zs p g a
+  hit_there c zs p spot at asserts is a g on has l lab x y (e, f) = subst (λ ys. Hit c ys p g a) f (subst (λ (d : Config). label_on d.items ≡ Some p → Hit d a.met p g a) e (λ o. record {
+    number = spot.next;
+    asserts = asserts;
+    site = rw (l, ← same_Some _ _ (sym lab ∙ o)) has;
+    leads = shown (same_Some _ _ (sym lab ∙ o));
+  }) on)
+    where
+      shown : at ≡ p → (z : Stop) (b : Trail Point) → Shows (config is spot.frame.here a.state) a.met p spot.next z b → Goes (point_at T) may g a (stopped z) b
+      shown o (by_jump j) b v = absurd v
+      shown o (to_point q) b (i, j) = rw (i, j) x
+      shown o (to_failure q) b (i, m, v, j) =
+          let same : passes (record { path = spot.frame.here.path; label = p }) a.state ≡ passes (point_at T spot.next) a.state =
+          ap (λ l. let r : Point = record { path = spot.frame.here.path; label = l } in passes r a.state) (sym o) ∙ ap (λ r. passes r a.state) (sym (named spot at asserts has)) in
+          rw i (y b (m, j ∙ ap (λ w. w ∷ a.met) same) v)
+
+  pub hit_seq : (c : Config) (zs : List (Met Point)) (p : ℕ) (g h : Node) (a : Trail Point) → Hit c zs p g a → Hit c zs p (seq g h) a
+  hit_seq c zs p g h a x = hit_as c zs p g (seq g h) a a (λ z d n y. inl y) x
+
+  pub hit_then : (c : Config) (zs : List (Met Point)) (p : ℕ) (g h : Node) (a m : Trail Point) → Goes (point_at T) may g a to_end m → Hit c zs p h m → Hit c zs p (seq g h) a
+  hit_then c zs p g h a m e x = hit_as c zs p h (seq g h) m a (λ z d n y. inr (m, e, y)) x
 
 pub not_there : (c d : Config) (p : ℕ) → label_on c.items ≡ Some p → label_on d.items ≡ None → d ≡ c → ⊥
 not_there c d p on lab e = none-some p (sym lab ∙ (ap (λ (x : Config). label_on x.items) e ∙ on))
 
-pub hit_seq : (T : List Site) (c : Config) (p : ℕ) (a b : Node) (s : State) → Hit T c p a s → Hit T c p (seq a b) s
-hit_seq T c p a b s h = hit_as T c p a (seq a b) s s (λ q x. inl x) (λ q x. inl x) h
+module _ (may : State → State → Type 0) (keeps : KeepsWidth may) (P : Program) (T : List Site) (c : Config) (zs : List (Met Point)) (p : ℕ) (on : label_on c.items ≡ Some p) where
+  abbrev G : Node → Trail Point → Outcome → Trail Point → Type 0
+  G = Goes (point_at T) may
 
-pub hit_then : (T : List Site) (c : Config) (p : ℕ) (a b : Node) (s m : State) → Ends a s normal m → Hit T c p b m → Hit T c p (seq a b) s
-hit_then T c p a b s m e h = hit_as T c p b (seq a b) m s (λ q x. inr (m, e, x)) (λ q x. inr (m, e, x)) h
+  abbrev W : ℕ → Config → List (Met Point) → Type 0
+  W n d xs = Walks may P n d xs c zs
 
-module _ (P : Program) (T : List Site) (c : Config) (p : ℕ) (on : label_on c.items ≡ Some p) where
-  splits_more : (h : Here) (k : List Item) (n n' : ℕ) (g : Node) (s : State) → n ≤ n' → Splits P T c p h k n g s → Splits P T c p h k n' g s
-  splits_more h k n n' g s l (hits x) = hits x
-  splits_more h k n n' g s l (ended j m i e r) = ended j m (omega arith) e r
-  splits_more h k n n' g s l (jumped j kind m d i e a r) = jumped j kind m d (omega arith) e a r
+  abbrev H : Node → Trail Point → Type 0
+  H g a = Hit may T c zs p g a
+
+  hit_of : (g h : Node) (a b : Trail Point) → ((z : Stop) (d : Trail Point) → ((j : Exit) → z ≢ by_jump j) → G g a (stopped z) d → G h b (stopped z) d) → H g a → H h b
+  hit_of g h a b f x = hit_as may T c zs p g h a b f x
+
+  here : (spot : Spot) (at : ℕ) (asserts : Bool) (is : List Item) (a : Trail Point) (g : Node) → HasSite T spot at asserts → length a.state.store ≡ spot.live → label_on is ≡ Some at
+      → G g a (stopped (to_point spot.next)) a → ((b : Trail Point) → Passes (point_at T) may spot.next a b → IsFailing is spot.frame.here b.state → G g a (stopped (to_failure spot.next)) b)
+      → W zero (config is spot.frame.here a.state) a.met → H g a
+  here spot at asserts is a g has l lab x y e = hit_there may T c zs p spot at asserts is a g on has l lab x y e
+
+  len_one : {spot : Spot} {s : Stmt} {g : Node} {q : ℕ} → Inl P T spot s g q → Length (point_at T) may keeps spot.frame spot.live spot.live g
+  len_one d = length_one (point_at T) may keeps d
+
+  len_all : {spot : Spot} {s : BlockItems} {g : Node} {n q : ℕ} → InlAll P T spot s g n q → Length (point_at T) may keeps spot.frame spot.live n g
+  len_all d = length_all (point_at T) may keeps d
+
+  -- what n steps to c make of the tree that stands for the items above k
+  pub data Splits (h : Here) (k : List Item) (n : ℕ) (g : Node) (a : Trail Point) : Type 0 where
+    hits : Hit may T c zs p g a → Splits h k n g a
+    ended : (j : ℕ) (m : Trail Point) → j < n → Goes (point_at T) may g a to_end m → Walks may P j (config k h m.state) m.met c zs → Splits h k n g a
+    jumped : (j : ℕ) (kind : Exit) (m : Trail Point) (d : Config) → j < n → Goes (point_at T) may g a (stopped (by_jump kind)) m → land kind h k m.state ≡ Some d → Walks may P j d m.met c zs
+        → Splits h k n g a
+
+  splits_more : (h : Here) (k : List Item) (n n' : ℕ) (g : Node) (a : Trail Point) → n ≤ n' → Splits h k n g a → Splits h k n' g a
+  splits_more h k n n' g a l (hits x) = hits x
+  splits_more h k n n' g a l (ended j m i e r) = ended j m (omega arith) e r
+  splits_more h k n n' g a l (jumped j kind m d i e b r) = jumped j kind m d (omega arith) e b r
 
   -- one tree after another; the items of the second stand above k
-  splits_seq : (h : Here) (k k' : List Item) (n : ℕ) (a b : Node) (s : State) → ((j : Exit) (m : State) → land j h k' m ≡ land j h k m) → Splits P T c p h k' n a s
-      → ((j : ℕ) (m : State) → j < n → Ends a s normal m → Steps P j (config k' h m) c → Splits P T c p h k j b m) → Splits P T c p h k n (seq a b) s
-  splits_seq h k k' n a b s skip (hits x) then = hits (hit_seq T c p a b s x)
-  splits_seq h k k' n a b s skip (jumped j kind m d i e l r) then = jumped j kind m d i (inl e) (sym (skip kind m) ∙ l) r
-  splits_seq h k k' n a b s skip (ended j m i e r) then = after (then j m i e r)
+  splits_seq : (h : Here) (k k' : List Item) (n : ℕ) (f g : Node) (a : Trail Point) → ((j : Exit) (m : State) → land j h k' m ≡ land j h k m) → Splits h k' n f a
+      → ((j : ℕ) (m : Trail Point) → j < n → G f a to_end m → W j (config k' h m.state) m.met → Splits h k j g m) → Splits h k n (seq f g) a
+  splits_seq h k k' n f g a skip (hits x) then = hits (hit_seq may T c zs p f g a x)
+  splits_seq h k k' n f g a skip (jumped j kind m d i e l r) then = jumped j kind m d i (inl e) (sym (skip kind m.state) ∙ l) r
+  splits_seq h k k' n f g a skip (ended j m i e r) then = after (then j m i e r)
     where
-      after : Splits P T c p h k j b m → Splits P T c p h k n (seq a b) s
-      after (hits x) = hits (hit_then T c p a b s m e x)
+      after : Splits h k j g m → Splits h k n (seq f g) a
+      after (hits x) = hits (hit_then may T c zs p f g a m e x)
       after (ended j' m' i' e' r') = ended j' m' (omega arith) (m, e, e') r'
       after (jumped j' kind m' d i' e' l r') = jumped j' kind m' d (omega arith) (inr (m, e, e')) l r'
 
+  -- a step from an item with a point
+  pub record Enters (is : List Item) (spot : Spot) (j : ℕ) (a : Trail Point) : Type 0 where
+    pub past : Trail Point
+    pub goal : Config
+    pub passed : Passes (point_at T) may spot.next a past
+    pub long : length past.state.store ≡ spot.live
+    pub step : next_at P is spot.frame.here past.state ≡ Some goal
+    pub rest : Walks may P j goal past.met c zs
+
+  pub enters : (is : List Item) (spot : Spot) (at : ℕ) (asserts : Bool) (j : ℕ) (a : Trail Point) → HasSite T spot at asserts → length a.state.store ≡ spot.live → label_on is ≡ Some at
+      → W (suc j) (config is spot.frame.here a.state) a.met → Enters is spot j a
+  enters is spot at asserts j a has l lab (s, e, b, x, r) =
+      let m : may a.state s = subst (λ o. Becomes may o a.state s) lab b in
+      let same : met_on (label_on is) spot.frame.here.path a.state a.met ≡ passes (point_at T spot.next) a.state ∷ a.met =
+      ap (λ o. met_on o spot.frame.here.path a.state a.met) lab ∙ ap (λ r. passes r a.state ∷ a.met) (sym (named may T spot at asserts has)) in
+      record {
+        past = trail s (passes (point_at T spot.next) a.state ∷ a.met);
+        goal = e;
+        passed = (m, refl);
+        long = keeps a.state s m ∙ l;
+        step = x;
+        rest = subst (λ ys. W j e ys) same r;
+      }
+
+  -- from an item without
+  pub plain : (d : Config) (xs : List (Met Point)) (n : ℕ) → label_on d.items ≡ None → W n d xs → (j : ℕ) × (e : Config) × (n ≡ suc j) × (next P d ≡ Some e) × W j e xs
+  plain d xs zero lab r = absurd (not_there c d p on lab r.0)
+  plain d xs (suc j) lab (s, e, b, x, r) =
+      (j, e, refl, subst (λ t. next_at P d.items d.here t ≡ Some e) (subst (λ o. Becomes may o d.state s) lab b) x, subst (λ o. W j e (met_on o d.here.path d.state xs)) lab r)
+
+  past : (d e : Config) (xs : List (Met Point)) (n : ℕ) → label_on d.items ≡ None → next P d ≡ Some e → W n d xs → (j : ℕ) × (n ≡ suc j) × W j e xs
+  past d e xs n lab x r = let y = plain d xs n lab r in (y.0, y.2, rw (same_Some e y.1 (sym x ∙ y.3)) y.4)
+
   -- an item with a point of its own, which fails where the tree behind the point does
-  splits_point : (spot : Spot) (at : ℕ) (asserts : Bool) (a : Item) (g : Node) (k : List Item) (s : State) (count : ℕ) → HasSite T spot at asserts → length s.store ≡ spot.live →
-      label_on (a ∷ k) ≡ Some at
-      → (IsFailing (a ∷ k) spot.frame.here s → FailsAt g s spot.next) → Steps P count (config (a ∷ k) spot.frame.here s) c
-      → ((j : ℕ) (e : Config) → suc j ≡ count → next P (config (a ∷ k) spot.frame.here s) ≡ Some e → Steps P j e c → Splits P T c p spot.frame.here k count g s)
-      → Splits P T c p spot.frame.here k count (seq (point spot.next) g) s
-  splits_point spot at asserts a g k s zero has l lab fails r inner =
-      hits (hit_there T c p spot at asserts (a ∷ k) s (seq (point spot.next) g) on has l lab (inl (refl, refl)) (λ z. inr (s, refl, fails z)) r)
-  splits_point spot at asserts a g k s (suc j) has l lab fails (e, x, r) inner = after (inner j e refl x r)
+  splits_point : (spot : Spot) (at : ℕ) (asserts : Bool) (i : Item) (g : Node) (k : List Item) (a : Trail Point) (count : ℕ) → HasSite T spot at asserts → length a.state.store ≡ spot.live →
+      label_on (i ∷ k) ≡ Some at
+      → ((b : Trail Point) → IsFailing (i ∷ k) spot.frame.here b.state → G g b (stopped (to_failure spot.next)) b) → W count (config (i ∷ k) spot.frame.here a.state) a.met
+      → ((j : ℕ) (b : Trail Point) (e : Config) → suc j ≡ count → length b.state.store ≡ spot.live → next_at P (i ∷ k) spot.frame.here b.state ≡ Some e → W j e b.met
+      → Splits spot.frame.here k count g b)
+      → Splits spot.frame.here k count (seq (point spot.next) g) a
+  splits_point spot at asserts i g k a zero has l lab fails r inner =
+      hits (here spot at asserts (i ∷ k) a (seq (point spot.next) g) has l lab (inl (refl, refl)) (λ b m v. inr (b, m, fails b v)) r)
+  splits_point spot at asserts i g k a (suc j) has l lab fails r inner =
+      let x = enters (i ∷ k) spot at asserts j a has l lab r in
+      after x.past x.passed (inner j x.past x.goal refl x.long x.step x.rest)
     where
-      after : Splits P T c p spot.frame.here k (suc j) g s → Splits P T c p spot.frame.here k (suc j) (seq (point spot.next) g) s
-      after (hits y) = hits (hit_then T c p (point spot.next) g s s refl y)
-      after (ended j' m i y z) = ended j' m i (s, refl, y) z
-      after (jumped j' kind m d i y l z) = jumped j' kind m d i (inr (s, refl, y)) l z
+      after : (b : Trail Point) → Passes (point_at T) may spot.next a b → Splits spot.frame.here k (suc j) g b → Splits spot.frame.here k (suc j) (seq (point spot.next) g) a
+      after b m (hits y) = hits (hit_then may T c zs p (point spot.next) g a b m y)
+      after b m (ended j' m' i y z) = ended j' m' i (b, m, y) z
+      after b m (jumped j' kind m' d i y l z) = jumped j' kind m' d i (inr (b, m, y)) l z
 
-  splits_act : (q : ℕ) (op : Op) (h : Here) (k : List Item) (s : State) (j : ℕ) (e : Config) → go k h (run_op op s) ≡ Some e → Steps P j e c → Splits P T c p h k (suc j) (act q op) s
-  splits_act q op h k s j e x r = let y = go_some k h (run_op op s) e x in ended j y.0 (omega arith) y.1 (rw y.2 r)
+  splits_act : (q : ℕ) (op : Op) (h : Here) (k : List Item) (a : Trail Point) (j : ℕ) (e : Config) → go k h (run_op op a.state) ≡ Some e → W j e a.met → Splits h k (suc j) (act q op) a
+  splits_act q op h k a j e x r = let y = go_some k h (run_op op a.state) e x in ended j (trail y.0 a.met) (omega arith) (y.1, refl) (rw y.2 r)
 
-  -- an item without a point takes one step
-  past : (d e : Config) (n : ℕ) → label_on d.items ≡ None → next P d ≡ Some e → Steps P n d c → (j : ℕ) × (n ≡ suc j) × Steps P j e c
-  past d e zero lab x r = absurd (not_there c d p on lab r)
-  past d e (suc j) lab x (e', y, r) = (j, refl, rw (same_Some e e' (sym x ∙ y)) r)
+  pub record Tail (r : ℕ) (h : Here) (n : ℕ) (x : Option ℕ) (params : ℕ) (k : List Item) (count : ℕ) (a : Trail Point) : Type 0 where
+    pub left : ℕ
+    pub over : Trail Point
+    pub cut : Trail Point
+    pub set : Trail Point
+    pub final : Trail Point
+    pub fewer : suc left < count
+    pub passed : Passes (point_at T) may r a over
+    pub cuts : Performs (keep (n + params)) over cut
+    pub sets : Performs (give_any x) cut set
+    pub backs : Performs (keep n) set final
+    pub rest : Walks may P left (config k h final.state) final.met c zs
 
-pub record Tail (P : Program) (c : Config) (h : Here) (n : ℕ) (x : Option ℕ) (params : ℕ) (k : List Item) (count : ℕ) (s : State) : Type 0 where
-  pub left : ℕ
-  pub cut : State
-  pub set : State
-  pub final : State
-  pub fewer : suc left < count
-  pub cuts : run_op (keep (n + params)) s ≡ Some cut
-  pub sets : run_op (give_any x) cut ≡ Some set
-  pub backs : run_op (keep n) set ≡ Some final
-  pub rest : Steps P left (config k h final) c
+  abbrev call_items : Function → ℕ → Option ℕ → Here → List Item → List Item
+  call_items fn n x h k = end_of fn.end (n + fn.parameters) ∷ mark (record { target = x; here = h; length = n }) ∷ k
 
-abbrev call_items : Function → ℕ → Option ℕ → Here → List Item → List Item
-call_items fn n x h k = end_of fn.end (n + fn.parameters) ∷ mark (record { target = x; here = h; length = n }) ∷ k
+  -- runs of fewer steps are cut so
+  pub record Below (fuel : ℕ) : Type 0 where
+    pub one : (spot : Spot) (s : Stmt) (g : Node) (q : ℕ) → Inl P T spot s g q → (k : List Item) (a : Trail Point) (count : ℕ) → Matches spot.frame k → length a.state.store ≡ spot.live → count < fuel
+        → Walks may P count (config (run s ∷ k) spot.frame.here a.state) a.met c zs → Splits spot.frame.here k count g a
+    pub every : (spot : Spot) (s : BlockItems) (g : Node) (n q : ℕ) → InlAll P T spot s g n q → (k : List Item) (a : Trail Point) (count : ℕ) → Matches spot.frame k →
+        length a.state.store ≡ spot.live → count < fuel
+        → Walks may P count (config (all s ∷ k) spot.frame.here a.state) a.met c zs → Splits spot.frame.here k count g a
+    pub loops : (spot : Spot) (r : ℕ) (s : Stmt) (g : Node) (q : ℕ) → Loops P T spot r s g q → (k : List Item) (a : Trail Point) (count : ℕ) → Matches spot.frame k →
+        length a.state.store ≡ spot.live → count < fuel
+        → Walks may P count (config (run s ∷ k) spot.frame.here a.state) a.met c zs → Splits spot.frame.here k count g a
 
--- runs of fewer steps are cut so
-pub record Below (P : Program) (T : List Site) (c : Config) (p fuel : ℕ) : Type 0 where
-  pub one : (spot : Spot) (a : Stmt) (g : Node) (q : ℕ) → Inl P T spot a g q → (k : List Item) (s : State) (count : ℕ) → Matches spot.frame k → length s.store ≡ spot.live → count < fuel
-      → Steps P count (config (run a ∷ k) spot.frame.here s) c → Splits P T c p spot.frame.here k count g s
-  pub every : (spot : Spot) (a : BlockItems) (g : Node) (n q : ℕ) → InlAll P T spot a g n q → (k : List Item) (s : State) (count : ℕ) → Matches spot.frame k → length s.store ≡ spot.live → count < fuel
-      → Steps P count (config (all a ∷ k) spot.frame.here s) c → Splits P T c p spot.frame.here k count g s
-  pub loops : (spot : Spot) (r : ℕ) (a : Stmt) (g : Node) (q : ℕ) → Loops P T spot r a g q → (k : List Item) (s : State) (count : ℕ) → Matches spot.frame k → length s.store ≡ spot.live → count < fuel
-      → Steps P count (config (run a ∷ k) spot.frame.here s) c → Splits P T c p spot.frame.here k count g s
+  module _ (fuel : ℕ) (below : Below fuel) where
+    -- what a callee's body leaves: its end, and the call's
+    call_tail : (spot : Spot) (n : ℕ) (h : Here) (x : Option ℕ) (end params : ℕ) (k : List Item) (count : ℕ) (a : Trail Point) → Has T spot end → length a.state.store ≡ spot.live
+        → W count (config (end_of end (n + params) ∷ mark (record { target = x; here = h; length = n }) ∷ k) spot.frame.here a.state) a.met
+        → H (point spot.next) a ⊎ Tail spot.next h n x params k count a
+    call_tail spot n h x end params k zero a has l e = inl (here spot end false (end_of end (n + params) ∷ mark (record { target = x; here = h; length = n }) ∷ k) a (point spot.next)
+        has l refl (refl, refl) (λ b m v. absurd v) e)
+    call_tail spot n h x end params k (suc i) a has l r =
+        let y = enters (end_of end (n + params) ∷ mark (record { target = x; here = h; length = n }) ∷ k) spot end false i a has l refl r in
+        let cutting = go_some (mark (record { target = x; here = h; length = n }) ∷ k) spot.frame.here (run_op (keep (n + params)) y.past.state) y.goal y.step in
+        marked y.past y.passed cutting.0 cutting.1 (rw cutting.2 y.rest)
+      where
+        marked : (b : Trail Point) → Passes (point_at T) may spot.next a b → (short : State) → run_op (keep (n + params)) b.state ≡ Some short
+            → W i (config (mark (record { target = x; here = h; length = n }) ∷ k) spot.frame.here short) b.met → H (point spot.next) a ⊎ Tail spot.next h n x params k (suc i) a
+        marked b m short o rest =
+            let v = plain (config (mark (record { target = x; here = h; length = n }) ∷ k) spot.frame.here short) b.met i refl rest in
+            let few = v.2 in
+            let setting = go_on_some (run_any x short) (λ t. go k h (run_op (keep n) t)) v.1 v.3 in
+            let back = go_some k h (run_op (keep n) setting.0) v.1 setting.2 in
+            inr (record {
+              left = v.0;
+              over = b;
+              cut = trail short b.met;
+              set = trail setting.0 b.met;
+              final = trail back.0 b.met;
+              fewer = omega (arith, few);
+              passed = m;
+              cuts = (o, refl);
+              sets = (setting.1, refl);
+              backs = (back.1, refl);
+              rest = rw back.2 v.4;
+            })
 
-module _ (P : Program) (T : List Site) (c : Config) (p : ℕ) (on : label_on c.items ≡ Some p) (fuel : ℕ) (below : Below P T c p fuel) where
-  -- what a callee's body leaves: its end, and the call's
-  call_tail : (spot : Spot) (n : ℕ) (h : Here) (x : Option ℕ) (end params : ℕ) (k : List Item) (count : ℕ) (s : State) → Has T spot end → length s.store ≡ spot.live
-      → Steps P count (config (end_of end (n + params) ∷ mark (record { target = x; here = h; length = n }) ∷ k) spot.frame.here s) c
-      → Hit T c p (point spot.next) s ⊎ Tail P c h n x params k count s
-  call_tail spot n h x end params k zero s has l e = inl (hit_there T c p spot end false (end_of end (n + params) ∷ mark (record { target = x; here = h; length = n }) ∷ k) s (point spot.next)
-      on has l refl (refl, refl) (λ z. z) e)
-  call_tail spot n h x end params k (suc i) s has l (e, y, rest) =
-      let cutting = go_some (mark (record { target = x; here = h; length = n }) ∷ k) spot.frame.here (run_op (keep (n + params)) s) e y in
-      marked i cutting.0 cutting.1 (rw cutting.2 rest)
-    where
-      marked : (i : ℕ) (short : State) → run_op (keep (n + params)) s ≡ Some short → Steps P i (config (mark (record { target = x; here = h; length = n }) ∷ k) spot.frame.here short) c
-          → Hit T c p (point spot.next) s ⊎ Tail P c h n x params k (suc i) s
-      marked zero short o rest = absurd (not_there c _ p on refl rest)
-      marked (suc j) short o (e, y, rest) =
-          let setting = go_on_some (run_any x short) (λ t. go k h (run_op (keep n) t)) e y in
-          let back = go_some k h (run_op (keep n) setting.0) e setting.2 in
-          inr (record { left = j; cut = short; set = setting.0; final = back.0; fewer = omega arith; cuts = o; sets = setting.1; backs = back.1; rest = rw back.2 rest })
+    abbrev tree_of_call : Spot → ℕ → Option ℕ → Call → Function → Node → Node
+    tree_of_call spot r x b fn g = call_node spot.next r spot.frame.here.base spot.live x b.arguments fn.parameters g
 
-  splits_call : (spot : Spot) (r : ℕ) (x : Option ℕ) (b : Call) (fn : Function) (g : Node) (n' r' : ℕ) (k : List Item) (s : State) (j : ℕ) (e : Config)
-      → length b.arguments ≡ fn.parameters → InlAll P T (into_callee spot x b fn.parameters r) fn.body g n' r' → Has T (move (into_callee spot x b fn.parameters r) n' r') fn.end
-      → length s.store ≡ spot.live →
-      j < fuel
-      → enter (Some fn) b x k spot.frame.here s ≡ Some e → Steps P j e c → Splits P T c p spot.frame.here k (suc j)
-      (call_node spot.next r' spot.frame.here.base spot.live x b.arguments fn.parameters g) s
-  splits_call spot r x b fn g n' r' k s j e i d has l less y rest =
-      let y' : go (all fn.body ∷ call_items fn spot.live x spot.frame.here k) (callee spot.frame spot.live x b).here (run_op (push spot.frame.here.base b.arguments) s) ≡ Some e = rw (← l) y in
-      let entering = go_some (all fn.body ∷ call_items fn spot.live x spot.frame.here k) (callee spot.frame spot.live x b).here (run_op (push spot.frame.here.base b.arguments) s) e y' in
-      inside entering.0 entering.1 (rw entering.2 rest)
-    where
-      ended_inside : (u : State) → run_op (push spot.frame.here.base b.arguments) s ≡ Some u → (i : ℕ) (m : State) → i < j → Ends g u normal m
-          → Hit T c p (point r') m ⊎ Tail P c spot.frame.here spot.live x fn.parameters k i m →
-          Splits P T c p spot.frame.here k (suc j) (call_node spot.next r' spot.frame.here.base spot.live x b.arguments fn.parameters g) s
-      ended_inside u o i m z a (inl h) = hits (hit_as T c p (point r') (call_node spot.next r' spot.frame.here.base spot.live x b.arguments fn.parameters g) m s (λ v y. inr (u, o, inr (m, a, inl y)))
-          (λ v y. absurd y) h)
-      ended_inside u o i m z a (inr t) = let few = t.fewer in ended t.left t.final (omega arith)
-          (call_ends spot r' x b.arguments fn.parameters g s u t.final o
-          (record { before = m; cut = t.cut; set = t.set; body = a; cuts = t.cuts; sets = t.sets; back = t.backs })) t.rest
+    abbrev tree_of_loop : Spot → Cond → Node → Node → Node
+    tree_of_loop spot b g h = loop_node spot.next spot.frame.here.base b g h
 
-      after : (u : State) → run_op (push spot.frame.here.base b.arguments) s ≡ Some u → Splits P T c p (callee spot.frame spot.live x b).here (call_items fn spot.live x spot.frame.here k) j g u
-          → Splits P T c p spot.frame.here k (suc j) (call_node spot.next r' spot.frame.here.base spot.live x b.arguments fn.parameters g) s
-      after u o (hits h) = hits (hit_as T c p g (call_node spot.next r' spot.frame.here.base spot.live x b.arguments fn.parameters g) u s (λ v y. inr (u, o, inl y)) (λ v y. inr (u, o, inl y)) h)
-      after u o (jumped i' broken m d' z a l' t) = absurd (none-some d' l')
-      after u o (jumped i' continued m d' z a l' t) = absurd (none-some d' l')
-      after u o (jumped i' returned m d' z a l' t) = ended i' m (omega arith) (call_returns spot r' x b.arguments fn.parameters g s u m o a)
-          (rw (same_Some (config k spot.frame.here m) d' l') t)
-      after u o (ended i' m z a t) = ended_inside u o i' m z a (call_tail (move (into_callee spot x b fn.parameters r) n' r') spot.live spot.frame.here x fn.end fn.parameters k i' m has
-          ((length_all d).ends u m normal (length_push spot.frame.here.base b.arguments s u o ∙ rw (l, i) refl) a) t)
+    splits_call : (spot : Spot) (r : ℕ) (x : Option ℕ) (b : Call) (fn : Function) (g : Node) (n' r' : ℕ) (k : List Item) (a : Trail Point) (j : ℕ) (e : Config)
+        → length b.arguments ≡ fn.parameters → InlAll P T (into_callee spot x b fn.parameters r) fn.body g n' r' → Has T (move (into_callee spot x b fn.parameters r) n' r') fn.end
+        → length a.state.store ≡ spot.live → j < fuel → enter (Some fn) b x k spot.frame.here a.state ≡ Some e → W j e a.met
+        → Splits spot.frame.here k (suc j) (call_node spot.next r' spot.frame.here.base spot.live x b.arguments fn.parameters g) a
+    splits_call spot r x b fn g n' r' k a j e i d has l less y rest =
+        let y' : go (all fn.body ∷ call_items fn spot.live x spot.frame.here k) (callee spot.frame spot.live x b).here (run_op (push spot.frame.here.base b.arguments) a.state) ≡ Some e = rw (← l) y in
+        let entering = go_some (all fn.body ∷ call_items fn spot.live x spot.frame.here k) (callee spot.frame spot.live x b).here (run_op (push spot.frame.here.base b.arguments) a.state) e y' in
+        inside (trail entering.0 a.met) (entering.1, refl) (rw entering.2 rest)
+      where
+        ended_inside : (u : Trail Point) → Performs (push spot.frame.here.base b.arguments) a u → (i : ℕ) (m : Trail Point) → i < j → G g u to_end m
+            → H (point r') m ⊎ Tail r' spot.frame.here spot.live x fn.parameters k i m → Splits spot.frame.here k (suc j) (tree_of_call spot r' x b fn g) a
+        ended_inside u o i m z v (inl h) = hits (hit_of (point r') (tree_of_call spot r' x b fn g) m a (λ s d n w. inr (u, o, (n returned, inr (m, v, inl w)))) h)
+        ended_inside u o i m z v (inr t) = let few = t.fewer in ended t.left t.final (omega arith)
+            (call_ends (point_at T) may spot r' x b.arguments fn.parameters g a u t.final o
+            (record { before = m; past = t.over; cut = t.cut; set = t.set; body = v; passed = t.passed; cuts = t.cuts; sets = t.sets; back = t.backs })) t.rest
 
-      inside : (u : State) → run_op (push spot.frame.here.base b.arguments) s ≡ Some u →
-          Steps P j (config (all fn.body ∷ call_items fn spot.live x spot.frame.here k) (callee spot.frame spot.live x b).here u) c
-          → Splits P T c p spot.frame.here k (suc j) (call_node spot.next r' spot.frame.here.base spot.live x b.arguments fn.parameters g) s
-      inside u o t = after u o (below.every (into_callee spot x b fn.parameters r) fn.body g n' r' d (call_items fn spot.live x spot.frame.here k) u j
-          (record { loops = λ m z. absurd (none-some m z); backs = refl }) (length_push spot.frame.here.base b.arguments s u o ∙ rw (l, i) refl) less t)
+        long : (u : Trail Point) → Performs (push spot.frame.here.base b.arguments) a u → length u.state.store ≡ spot.live + fn.parameters
+        long u o = length_push spot.frame.here.base b.arguments a.state u.state o.0 ∙ rw (l, i) refl
 
-  splits_gives : (spot : Spot) (r : ℕ) (x : Option ℕ) (a : Rvalue) (g : Node) (q : ℕ) (k : List Item) (s : State) (j : ℕ) (e : Config) → Gives P T spot r x a g q → length s.store ≡ spot.live →
-      j < fuel
-      → do_rvalue P x a k spot.frame.here s ≡ Some e → Steps P j e c → Splits P T c p spot.frame.here k (suc j) g s
-  splits_gives _ _ _ _ _ _ k s j e (as_value {s = spot} {x = x} {e = v}) l less y rest = splits_act P T c p on spot.next (give spot.frame.here.base x v) spot.frame.here k s j e y rest
-  splits_gives _ _ _ _ _ _ k s j e (as_result {s = spot} {r = r} {x = x} {c = b} {fn = fn} {g = g'} {n = n'} {q = r'} found i d has) l less y rest =
-      let y' : enter (Some fn) b x k spot.frame.here s ≡ Some e = subst (λ o. enter o b x k spot.frame.here s ≡ Some e) found y in
-      splits_call spot r x b fn g' n' r' k s j e i d has l less y' rest
+        after : (u : Trail Point) → Performs (push spot.frame.here.base b.arguments) a u → Splits (callee spot.frame spot.live x b).here (call_items fn spot.live x spot.frame.here k) j g u
+            → Splits spot.frame.here k (suc j) (tree_of_call spot r' x b fn g) a
+        after u o (hits h) = hits (hit_of g (tree_of_call spot r' x b fn g) u a (λ s d n w. inr (u, o, (n returned, inl w))) h)
+        after u o (jumped i' broken m d' z v l' t) = absurd (none-some d' l')
+        after u o (jumped i' continued m d' z v l' t) = absurd (none-some d' l')
+        after u o (jumped i' returned m d' z v l' t) = ended i' m (omega arith) (u, o, inr (inl v)) (rw (same_Some (config k spot.frame.here m.state) d' l') t)
+        after u o (ended i' m z v t) = ended_inside u o i' m z v (call_tail (move (into_callee spot x b fn.parameters r) n' r') spot.live spot.frame.here x fn.end fn.parameters k i' m has
+            ((len_all d).ends u m to_end (long u o) v) t)
 
-  splits_loop : (spot : Spot) (r at : ℕ) (b : Cond) (a step : Stmt) (g h : Node) (r' q' : ℕ) → Has T spot at
-      → Inl P T (within spot None r) step h r' → Inl P T (within spot (Some spot.live) r') a g q' → (k : List Item) (s : State) (count : ℕ) → Matches spot.frame k → length s.store ≡ spot.live →
-      count < suc fuel
-      → Steps P count (config (run (loop at b a step) ∷ k) spot.frame.here s) c → Splits P T c p spot.frame.here k count (loop_node spot.next spot.frame.here.base b g h) s
-  splits_loop spot r at b a step g h r' q' has d e k s zero m l less t =
-      hits (hit_there T c p spot at false (run (loop at b a step) ∷ k) s (loop_node spot.next spot.frame.here.base b g h) on has l refl (0, s, refl, inl (refl, refl)) (λ z. absurd z) t)
-  splits_loop spot r at b a step g h r' q' has d e k s (suc j) m l less (next_one, y, rest) =
-      elim (go_by_some (run a ∷ turn step (loop at b a step) (length s.store) ∷ k) k spot.frame.here s.store (truth_of b spot.frame.here.base s.store s.draws) next_one y) [
-        | inl z ↦ round z.0 z.1 (subst (λ w. Steps P j (config (run a ∷ turn step (loop at b a step) w ∷ k) spot.frame.here z.0) c) l (rw z.2 rest))
-        | inr z ↦ ended j z.0 (omega arith) (inl (0, s, refl, z.1)) (rw z.2 rest)
-      ]
-    where
-      -- the loop again, behind a whole round
-      again : (on' mid v : State) → run_op (test spot.frame.here.base b true) s ≡ Some on' → Ends g on' normal mid ⊎ Ends g on' (jump continued) mid → Ends h mid normal v → (i : ℕ) → i < j
-          → Steps P i (config (run (loop at b a step) ∷ k) spot.frame.here v) c → Splits P T c p spot.frame.here k (suc j) (loop_node spot.next spot.frame.here.base b g h) s
-      again on' mid v o x x' i less' t = shift (below.loops spot r (loop at b a step) (loop_node spot.next spot.frame.here.base b g h) q' (is_loop has d e) k v i m long (omega arith) t)
-        where
-          whole : Round spot.next spot.frame.here.base b g h s v
-          whole = round_join spot.next spot.frame.here.base b g h s v (record { on = on'; mid = mid; tests = o; body = x; steps = x' })
+        inside : (u : Trail Point) → Performs (push spot.frame.here.base b.arguments) a u →
+            W j (config (all fn.body ∷ call_items fn spot.live x spot.frame.here k) (callee spot.frame spot.live x b).here u.state) a.met →
+            Splits spot.frame.here k (suc j) (tree_of_call spot r' x b fn g) a
+        inside u o t = after u o (below.every (into_callee spot x b fn.parameters r) fn.body g n' r' d (call_items fn spot.live x spot.frame.here k) u j
+            (record { loops = λ m z. absurd (none-some m z); backs = refl }) (long u o) less (rw o.1 t))
 
-          long : length v.store ≡ spot.live
-          long = (length_one d).ends mid v normal (mid_length spot.frame spot.live g h (length_one e) (length_one d) on' mid (length_test spot.frame.here.base b true s on' o ∙ l) x) x'
+    splits_gives : (spot : Spot) (r : ℕ) (x : Option ℕ) (v : Rvalue) (g : Node) (q : ℕ) (k : List Item) (a : Trail Point) (j : ℕ) (e : Config) → Gives P T spot r x v g q
+        → length a.state.store ≡ spot.live → j < fuel → do_rvalue P x v k spot.frame.here a.state ≡ Some e → W j e a.met → Splits spot.frame.here k (suc j) g a
+    splits_gives _ _ _ _ _ _ k a j e (as_value {s = spot} {x = x} {e = v}) l less y rest = splits_act spot.next (give spot.frame.here.base x v) spot.frame.here k a j e y rest
+    splits_gives _ _ _ _ _ _ k a j e (as_result {s = spot} {r = r} {x = x} {c = b} {fn = fn} {g = g'} {n = n'} {q = r'} found i d has) l less y rest =
+        let y' : enter (Some fn) b x k spot.frame.here a.state ≡ Some e = subst (λ o. enter o b x k spot.frame.here a.state ≡ Some e) found y in
+        splits_call spot r x b fn g' n' r' k a j e i d has l less y' rest
 
-          shift : Splits P T c p spot.frame.here k i (loop_node spot.next spot.frame.here.base b g h) v → Splits P T c p spot.frame.here k (suc j) (loop_node spot.next spot.frame.here.base b g h) s
-          shift (hits y') = hits (hit_as T c p (loop_node spot.next spot.frame.here.base b g h) (loop_node spot.next spot.frame.here.base b g h) v s
-              (λ w z. comes_first spot.next spot.frame.here.base b g h s v w c.state whole z)
-              (λ w z. fails_first spot.next spot.frame.here.base b g h s v w whole z) y')
-          shift (ended i' m' z e' t') = ended i' m' (omega arith) (loop_first spot.next spot.frame.here.base b g h s v normal m' whole e') t'
-          shift (jumped i' kind m' d' z e' l' t') = jumped i' kind m' d' (omega arith) (loop_first spot.next spot.frame.here.base b g h s v (jump kind) m' whole e') l' t'
+    splits_loop : (spot : Spot) (r at : ℕ) (b : Cond) (s step : Stmt) (g h : Node) (r' q' : ℕ) → Has T spot at
+        → Inl P T (within spot None r) step h r' → Inl P T (within spot (Some spot.live) r') s g q' → (k : List Item) (a : Trail Point) (count : ℕ) → Matches spot.frame k
+        → length a.state.store ≡ spot.live → count < suc fuel
+        → W count (config (run (loop at b s step) ∷ k) spot.frame.here a.state) a.met → Splits spot.frame.here k count (loop_node spot.next spot.frame.here.base b g h) a
+    splits_loop spot r at b s step g h r' q' has d e k a zero m l less t =
+        hits (here spot at false (run (loop at b s step) ∷ k) a (loop_node spot.next spot.frame.here.base b g h) has l refl
+        (loop_join (point_at T) may spot.next spot.frame.here.base b g h a 0 a _ a refl (loop_at refl))
+        (λ b m v. absurd v) t)
+    splits_loop spot r at b s step g h r' q' has d e k a (suc j) m l less t =
+        let x = enters (run (loop at b s step) ∷ k) spot at false j a has l refl t in
+        elim (go_by_some (run s ∷ turn step (loop at b s step) (length x.past.state.store) ∷ k) k spot.frame.here x.past.state.store
+        (truth_of b spot.frame.here.base x.past.state.store x.past.state.draws) x.goal x.step) [
+          | inl z ↦ round (trail z.0 x.past.met) (x.past, x.passed, (z.1, refl))
+              (subst (λ w. W j (config (run s ∷ turn step (loop at b s step) w ∷ k) spot.frame.here z.0) x.past.met) x.long (rw z.2 x.rest))
+          | inr z ↦ ended j (trail z.0 x.past.met) (omega arith) (last to_end (trail z.0 x.past.met) (loop_done (x.past, x.passed, (z.1, refl)))) (rw z.2 x.rest)
+        ]
+      where
+        last : (u : Outcome) (v : Trail Point) → EndsLoop (point_at T) may spot.next spot.frame.here.base b g h a v u → G (tree_of_loop spot b g h) a u v
+        last u v x = loop_join (point_at T) may spot.next spot.frame.here.base b g h a 0 a u v refl x
 
-      -- the step, behind the body
-      stepping : (on' mid : State) → run_op (test spot.frame.here.base b true) s ≡ Some on' → Ends g on' normal mid ⊎ Ends g on' (jump continued) mid → (i : ℕ) → i < j
-          → Steps P i (config (turn step (loop at b a step) spot.live ∷ k) spot.frame.here mid) c → Splits P T c p spot.frame.here k (suc j) (loop_node spot.next spot.frame.here.base b g h) s
-      stepping on' mid o x i less' t =
-          let moved = past P T c p on (config (turn step (loop at b a step) spot.live ∷ k) spot.frame.here mid) (config (run step ∷ run (loop at b a step) ∷ k) spot.frame.here mid) i refl refl t in
-          cases moved.0 (omega arith) (below.one (within spot None r) step h r' d (run (loop at b a step) ∷ k) mid moved.0 (record { loops = λ w z. absurd (none-some w z); backs = m.backs })
-          long (omega arith) moved.2)
-        where
-          long : length mid.store ≡ spot.live
-          long = mid_length spot.frame spot.live g h (length_one e) (length_one d) on' mid (length_test spot.frame.here.base b true s on' o ∙ l) x
+        -- the loop again, behind a whole round
+        again : (on' mid v : Trail Point) → Tests (point_at T) may spot.next spot.frame.here.base b true a on' → EndsBodyRound (point_at T) may g on' mid → G h mid to_end v → (i : ℕ) → i < j
+            → W i (config (run (loop at b s step) ∷ k) spot.frame.here v.state) v.met → Splits spot.frame.here k (suc j) (tree_of_loop spot b g h) a
+        again on' mid v o x x' i less' t = shift (below.loops spot r (loop at b s step) (tree_of_loop spot b g h) q' (is_loop has d e) k v i m long (omega arith) t)
+          where
+            whole : Round (point_at T) may spot.next spot.frame.here.base b g h a v
+            whole = (on', o, (mid, x, x'))
 
-          no_jump : (kind : Exit) (v : State) → kind ≢ returned → LengthAt (in_loop spot.frame None) spot.live (jump kind) v → ⊥
-          no_jump broken v z w = none-some _ w.1
-          no_jump continued v z w = none-some _ w.1
-          no_jump returned v z w = z refl
+            long : length v.state.store ≡ spot.live
+            long = round_length (point_at T) may keeps spot.frame spot.live g h (len_one e) (len_one d) spot.next spot.frame.here.base b a v l whole
 
-          cases : (i' : ℕ) → i' < j → Splits P T c p spot.frame.here (run (loop at b a step) ∷ k) i' h mid → Splits P T c p spot.frame.here k (suc j) (loop_node spot.next spot.frame.here.base b g h) s
-          cases i' less'' (hits y') = hits (hit_as T c p h (loop_node spot.next spot.frame.here.base b g h) mid s (λ w z. (0, s, refl, inr (on', o, inr (mid, x, z))))
-              (λ w z. (0, s, refl, on', o, inr (mid, x, z))) y')
-          cases i' less'' (ended i'' v z e' t') = again on' mid v o x e' i'' (omega arith) t'
-          cases i' less'' (jumped i'' broken v d' z e' l' t') = absurd (none-some _ ((length_one d).ends mid v (jump broken) long e').1)
-          cases i' less'' (jumped i'' continued v d' z e' l' t') = absurd (none-some _ ((length_one d).ends mid v (jump continued) long e').1)
-          cases i' less'' (jumped i'' returned v d' z e' l' t') = jumped i'' returned v d' (omega arith)
-              (loop_join spot.next spot.frame.here.base b g h s (jump returned) v (0, s, refl, inr (on', returned, o, inr (mid, x, e'), inr (returned_broken, refl)))) l' t'
+            shift : Splits spot.frame.here k i (tree_of_loop spot b g h) v → Splits spot.frame.here k (suc j) (tree_of_loop spot b g h) a
+            shift (hits y') = hits (hit_of (tree_of_loop spot b g h) (tree_of_loop spot b g h) v a
+                (λ z w n y. loop_first (point_at T) may spot.next spot.frame.here.base b g h a v (stopped z) w whole y) y')
+            shift (ended i' m' z e' t') = ended i' m' (omega arith) (loop_first (point_at T) may spot.next spot.frame.here.base b g h a v to_end m' whole e') t'
+            shift (jumped i' kind m' d' z e' l' t') =
+                jumped i' kind m' d' (omega arith) (loop_first (point_at T) may spot.next spot.frame.here.base b g h a v (stopped (by_jump kind)) m' whole e') l' t'
 
-      round : (on' : State) → run_op (test spot.frame.here.base b true) s ≡ Some on' → Steps P j (config (run a ∷ turn step (loop at b a step) spot.live ∷ k) spot.frame.here on') c
-          → Splits P T c p spot.frame.here k (suc j) (loop_node spot.next spot.frame.here.base b g h) s
-      round on' o t = cases (below.one (within spot (Some spot.live) r') a g q' e (turn step (loop at b a step) spot.live ∷ k) on' j (record { loops = λ w z. z; backs = m.backs })
-          (length_test spot.frame.here.base b true s on' o ∙ l) (omega arith) t)
-        where
-          cases : Splits P T c p spot.frame.here (turn step (loop at b a step) spot.live ∷ k) j g on' → Splits P T c p spot.frame.here k (suc j) (loop_node spot.next spot.frame.here.base b g h) s
-          cases (hits y') = hits (hit_as T c p g (loop_node spot.next spot.frame.here.base b g h) on' s (λ w z. (0, s, refl, inr (on', o, inl z))) (λ w z. (0, s, refl, on', o, inl z)) y')
-          cases (ended i m' z x t') = stepping on' m' o (inl x) i z t'
-          cases (jumped i broken m' d' z x l' t') = ended i m' (omega arith)
-              (loop_join spot.next spot.frame.here.base b g h s normal m' (0, s, refl, inr (on', broken, o, inl (broken_continued, x), inl (refl, refl))))
-              (rw (same_Some (config k spot.frame.here m') d' l') t')
-          cases (jumped i continued m' d' z x l' t') = stepping on' m' o (inr x) i z (rw (same_Some (config (turn step (loop at b a step) spot.live ∷ k) spot.frame.here m') d' l') t')
-          cases (jumped i returned m' d' z x l' t') = jumped i returned m' d' (omega arith)
-              (loop_join spot.next spot.frame.here.base b g h s (jump returned) m' (0, s, refl, inr (on', returned, o, inl (returned_continued, x), inr (returned_broken, refl)))) l' t'
+        -- the step, behind the body
+        stepping : (on' mid : Trail Point) → Tests (point_at T) may spot.next spot.frame.here.base b true a on' → EndsBodyRound (point_at T) may g on' mid → (i : ℕ) → i < j
+            → W i (config (turn step (loop at b s step) spot.live ∷ k) spot.frame.here mid.state) mid.met → Splits spot.frame.here k (suc j) (tree_of_loop spot b g h) a
+        stepping on' mid o x i less' t =
+            let moved = past (config (turn step (loop at b s step) spot.live ∷ k) spot.frame.here mid.state) (config (run step ∷ run (loop at b s step) ∷ k) spot.frame.here mid.state) mid.met i
+            refl refl t in
+            let few = moved.1 in
+            cases moved.0 (omega (arith, few)) (below.one (within spot None r) step h r' d (run (loop at b s step) ∷ k) mid moved.0 (record { loops = λ w z. absurd (none-some w z); backs = m.backs })
+            long (omega (arith, few)) moved.2)
+          where
+            long : length mid.state.store ≡ spot.live
+            long = mid_length (point_at T) may keeps spot.frame spot.live g h (len_one e) (len_one d) on' mid (tests_length (point_at T) may keeps spot.next spot.frame.here.base b true a on' o ∙ l) x
 
-  abbrev Cut : Here → List Item → ℕ → Node → State → Type 0
-  Cut h k n g s = Splits P T c p h k n g s
+            cases : (i' : ℕ) → i' < j → Splits spot.frame.here (run (loop at b s step) ∷ k) i' h mid → Splits spot.frame.here k (suc j) (tree_of_loop spot b g h) a
+            cases i' less'' (hits y') = hits (hit_of h (tree_of_loop spot b g h) mid a (λ z w n y. (n broken, (0, a, refl, inr (on', o, inr (mid, x, y))))) y')
+            cases i' less'' (ended i'' v z e' t') = again on' mid v o x e' i'' (omega arith) t'
+            cases i' less'' (jumped i'' broken v d' z e' l' t') = absurd (none-some _ ((len_one d).ends mid v (stopped (by_jump broken)) long e').1)
+            cases i' less'' (jumped i'' continued v d' z e' l' t') = absurd (none-some _ ((len_one d).ends mid v (stopped (by_jump continued)) long e').1)
+            cases i' less'' (jumped i'' returned v d' z e' l' t') = jumped i'' returned v d' (omega arith)
+                (last (stopped (by_jump returned)) v (loop_left on' (by_jump returned) o (inr (mid, x, e')) returned_broken)) l' t'
 
-  skip_one : (h : Here) (i : Item) (k : List Item) → to_turn (i ∷ k) ≡ to_turn k → to_mark (i ∷ k) ≡ to_mark k → (j : Exit) (m : State) → land j h (i ∷ k) m ≡ land j h k m
-  skip_one h i k e e' j m = land_skip j h i k m e e'
+        round : (on' : Trail Point) → Tests (point_at T) may spot.next spot.frame.here.base b true a on' →
+            W j (config (run s ∷ turn step (loop at b s step) spot.live ∷ k) spot.frame.here on'.state) on'.met
+            → Splits spot.frame.here k (suc j) (tree_of_loop spot b g h) a
+        round on' o t = cases (below.one (within spot (Some spot.live) r') s g q' e (turn step (loop at b s step) spot.live ∷ k) on' j (record { loops = λ w z. z; backs = m.backs })
+            (tests_length (point_at T) may keeps spot.next spot.frame.here.base b true a on' o ∙ l) (omega arith) t)
+          where
+            cases : Splits spot.frame.here (turn step (loop at b s step) spot.live ∷ k) j g on' → Splits spot.frame.here k (suc j) (tree_of_loop spot b g h) a
+            cases (hits y') = hits (hit_of g (tree_of_loop spot b g h) on' a (λ z w n y. (n broken, (0, a, refl, inr (on', o, inl (n continued, y))))) y')
+            cases (ended i m' z x t') = stepping on' m' o (inl x) i z t'
+            cases (jumped i broken m' d' z x l' t') = ended i m' (omega arith) (last to_end m' (loop_broken on' o (inl (broken_continued, x))))
+                (rw (same_Some (config k spot.frame.here m'.state) d' l') t')
+            cases (jumped i continued m' d' z x l' t') = stepping on' m' o (inr x) i z (rw (same_Some (config (turn step (loop at b s step) spot.live ∷ k) spot.frame.here m'.state) d' l') t')
+            cases (jumped i returned m' d' z x l' t') = jumped i returned m' d' (omega arith)
+                (last (stopped (by_jump returned)) m' (loop_left on' (by_jump returned) o (inl (returned_continued, x)) returned_broken)) l' t'
 
-  -- a block's end
-  end_tail : (spot : Spot) (n at : ℕ) (k : List Item) (s : State) (count : ℕ) → Has T spot at → length s.store ≡ spot.live → Steps P count (config (end_of at n ∷ k) spot.frame.here s) c
-      → Cut spot.frame.here k count (seq (point spot.next) (act spot.next (keep n))) s
-  end_tail spot n at k s zero has l t = hits (hit_there T c p spot at false (end_of at n ∷ k) s (seq (point spot.next) (act spot.next (keep n))) on has l refl (inl (refl, refl)) (λ z. absurd z) t)
-  end_tail spot n at k s (suc j) has l (e, y, t) = let x = go_some k spot.frame.here (run_op (keep n) s) e y in ended j x.0 (omega arith) (s, refl, x.1) (rw x.2 t)
+    skip_one : (h : Here) (i : Item) (k : List Item) → to_turn (i ∷ k) ≡ to_turn k → to_mark (i ∷ k) ≡ to_mark k → (j : Exit) (m : State) → land j h (i ∷ k) m ≡ land j h k m
+    skip_one h i k e e' j m = land_skip j h i k m e e'
 
-  -- the end of a `for`
-  cut_tail : (h : Here) (n q : ℕ) (k : List Item) (s : State) (count : ℕ) → Steps P count (config (cut n ∷ k) h s) c → Cut h k count (act q (keep n)) s
-  cut_tail h n q k s zero t = absurd (not_there c _ p on refl t)
-  cut_tail h n q k s (suc j) (e, y, t) = splits_act P T c p on q (keep n) h k s j e y t
+    -- a block's end
+    end_tail : (spot : Spot) (n at : ℕ) (k : List Item) (a : Trail Point) (count : ℕ) → Has T spot at → length a.state.store ≡ spot.live →
+        W count (config (end_of at n ∷ k) spot.frame.here a.state) a.met
+        → Splits spot.frame.here k count (seq (point spot.next) (act spot.next (keep n))) a
+    end_tail spot n at k a count has l t = splits_point spot at false (end_of at n) (act spot.next (keep n)) k a count has l refl (λ b v. absurd v) t
+        (λ j b e j' l' y w. splits_more spot.frame.here k (suc j) count (act spot.next (keep n)) b (omega arith) (splits_act spot.next (keep n) spot.frame.here k b j e y w))
 
-  after_act : (q : ℕ) (op : Op) (g : Node) (h : Here) (k : List Item) (n : ℕ) (s t : State) → run_op op s ≡ Some t → Cut h k n g t → Cut h k n (seq (act q op) g) s
-  after_act q op g h k n s t o (hits x) = hits (hit_then T c p (act q op) g s t o x)
-  after_act q op g h k n s t o (ended j m i e r) = ended j m i (t, o, e) r
-  after_act q op g h k n s t o (jumped j kind m d i e l r) = jumped j kind m d i (inr (t, o, e)) l r
+    -- the end of a `for`
+    cut_tail : (h : Here) (n q : ℕ) (k : List Item) (a : Trail Point) (count : ℕ) → W count (config (cut n ∷ k) h a.state) a.met → Splits h k count (act q (keep n)) a
+    cut_tail h n q k a count t =
+        let x = plain (config (cut n ∷ k) h a.state) a.met count refl t in
+        splits_more h k (suc x.0) count (act q (keep n)) a (omega arith) (splits_act q (keep n) h k a x.0 x.1 x.3 x.4)
 
-  choose_on : (q base : ℕ) (b : Cond) (g g' : Node) (h : Here) (k : List Item) (n : ℕ) (s t : State) → run_op (test base b true) s ≡ Some t → Cut h k n g t → Cut h k n (choose q base b g g') s
-  choose_on q base b g g' h k n s t o (hits x) = hits (hit_as T c p g (choose q base b g g') t s (λ w z. inl (t, o, z)) (λ w z. inl (t, o, z)) x)
-  choose_on q base b g g' h k n s t o (ended j m i e r) = ended j m i (inl (t, o, e)) r
-  choose_on q base b g g' h k n s t o (jumped j kind m d i e l r) = jumped j kind m d i (inl (t, o, e)) l r
+    after_act : (q : ℕ) (op : Op) (g : Node) (h : Here) (k : List Item) (n : ℕ) (a b : Trail Point) → Performs op a b → Splits h k n g b → Splits h k n (seq (act q op) g) a
+    after_act q op g h k n a b o (hits x) = hits (hit_then may T c zs p (act q op) g a b o x)
+    after_act q op g h k n a b o (ended j m i e r) = ended j m i (b, o, e) r
+    after_act q op g h k n a b o (jumped j kind m d i e l r) = jumped j kind m d i (inr (b, o, e)) l r
 
-  choose_off : (q base : ℕ) (b : Cond) (g g' : Node) (h : Here) (k : List Item) (n : ℕ) (s t : State) → run_op (test base b false) s ≡ Some t → Cut h k n g' t → Cut h k n (choose q base b g g') s
-  choose_off q base b g g' h k n s t o (hits x) = hits (hit_as T c p g' (choose q base b g g') t s (λ w z. inr (t, o, z)) (λ w z. inr (t, o, z)) x)
-  choose_off q base b g g' h k n s t o (ended j m i e r) = ended j m i (inr (t, o, e)) r
-  choose_off q base b g g' h k n s t o (jumped j kind m d i e l r) = jumped j kind m d i (inr (t, o, e)) l r
+    choose_on : (q base : ℕ) (b : Cond) (g g' : Node) (h : Here) (k : List Item) (n : ℕ) (a t : Trail Point) → Performs (test base b true) a t → Splits h k n g t →
+        Splits h k n (choose q base b g g') a
+    choose_on q base b g g' h k n a t o (hits x) = hits (hit_of g (choose q base b g g') t a (λ z w m y. inl (t, o, y)) x)
+    choose_on q base b g g' h k n a t o (ended j m i e r) = ended j m i (inl (t, o, e)) r
+    choose_on q base b g g' h k n a t o (jumped j kind m d i e l r) = jumped j kind m d i (inl (t, o, e)) l r
 
-  splits_break : (f : Frame) (q m live : ℕ) (k : List Item) (s : State) (j : ℕ) (e : Config) → f.loop ≡ Some m → Matches f k → do_break (to_turn k) f.here s ≡ Some e → Steps P j e c
-      → Cut f.here k (suc j) (seq (act q (keep m)) (leave live broken)) s
-  splits_break f q m live k s j e i mm y t =
-      let turning = turn_some (to_turn k) m (mm.loops m i) in
-      let y' : go turning.0.rest f.here (run_op (keep turning.0.length) s) ≡ Some e = subst (λ o. do_break o f.here s ≡ Some e) turning.1 y in
-      let x = go_some turning.0.rest f.here (run_op (keep turning.0.length) s) e y' in
-      let o : run_op (keep m) s ≡ Some x.0 = subst (λ w. run_op (keep w) s ≡ Some x.0) turning.2 x.1 in
-      jumped j broken x.0 e (omega arith) (jump_join q (keep m) live broken s x.0 o) (lands_broken (to_turn k) turning.0 f.here x.0 e turning.1 x.2) t
+    choose_off : (q base : ℕ) (b : Cond) (g g' : Node) (h : Here) (k : List Item) (n : ℕ) (a t : Trail Point) → Performs (test base b false) a t → Splits h k n g' t →
+        Splits h k n (choose q base b g g') a
+    choose_off q base b g g' h k n a t o (hits x) = hits (hit_of g' (choose q base b g g') t a (λ z w m y. inr (t, o, y)) x)
+    choose_off q base b g g' h k n a t o (ended j m i e r) = ended j m i (inr (t, o, e)) r
+    choose_off q base b g g' h k n a t o (jumped j kind m d i e l r) = jumped j kind m d i (inr (t, o, e)) l r
 
-  splits_continue : (f : Frame) (q m live : ℕ) (k : List Item) (s : State) (j : ℕ) (e : Config) → f.loop ≡ Some m → Matches f k → do_continue (to_turn k) f.here s ≡ Some e → Steps P j e c
-      → Cut f.here k (suc j) (seq (act q (keep m)) (leave live continued)) s
-  splits_continue f q m live k s j e i mm y t =
-      let turning = turn_some (to_turn k) m (mm.loops m i) in
-      let r : List Item = turn turning.0.step turning.0.again turning.0.length ∷ turning.0.rest in
-      let y' : go r f.here (run_op (keep turning.0.length) s) ≡ Some e = subst (λ o. do_continue o f.here s ≡ Some e) turning.1 y in
-      let x = go_some r f.here (run_op (keep turning.0.length) s) e y' in
-      let o : run_op (keep m) s ≡ Some x.0 = subst (λ w. run_op (keep w) s ≡ Some x.0) turning.2 x.1 in
-      jumped j continued x.0 e (omega arith) (jump_join q (keep m) live continued s x.0 o) (lands_continued (to_turn k) turning.0 f.here x.0 e turning.1 x.2) t
+    splits_break : (f : Frame) (q m live : ℕ) (k : List Item) (a : Trail Point) (j : ℕ) (e : Config) → f.loop ≡ Some m → Matches f k → do_break (to_turn k) f.here a.state ≡ Some e → W j e a.met
+        → Splits f.here k (suc j) (seq (act q (keep m)) (leave live broken)) a
+    splits_break f q m live k a j e i mm y t =
+        let turning = turn_some (to_turn k) m (mm.loops m i) in
+        let y' : go turning.0.rest f.here (run_op (keep turning.0.length) a.state) ≡ Some e = subst (λ o. do_break o f.here a.state ≡ Some e) turning.1 y in
+        let x = go_some turning.0.rest f.here (run_op (keep turning.0.length) a.state) e y' in
+        let o : run_op (keep m) a.state ≡ Some x.0 = subst (λ w. run_op (keep w) a.state ≡ Some x.0) turning.2 x.1 in
+        jumped j broken (trail x.0 a.met) e (omega arith) (jump_join (point_at T) may q (keep m) live broken a (trail x.0 a.met) (o, refl))
+        (lands_broken (to_turn k) turning.0 f.here x.0 e turning.1 x.2) t
 
-  -- back to the caller, from a state that a change may have made
-  splits_leave : (f : Frame) (q live : ℕ) (b : Back) (k : List Item) (s : State) (o : Option State) (j : ℕ) (e : Config) → f.back ≡ Some b → Matches f k → do_leave (to_mark k) o ≡ Some e
-      → Steps P j e c
-      → (u : State) × (o ≡ Some u) × Cut f.here k (suc j) (seq (act q (keep b.length)) (leave live returned)) u
-  splits_leave f q live b k s o j e i mm y t =
-      let marked = mark_some (to_mark k) b (mm.backs ∙ i) in
-      let y' : do_leave (Some (record { back = b; rest = marked.0 })) o ≡ Some e = subst (λ w. do_leave w o ≡ Some e) marked.1 y in
-      let x = go_on_some o (λ t. go marked.0 b.here (run_op (keep b.length) t)) e y' in
-      let z = go_some marked.0 b.here (run_op (keep b.length) x.0) e x.2 in
-      (x.0, x.1, jumped j returned z.0 e (omega arith) (jump_join q (keep b.length) live returned x.0 z.0 z.1) (lands_returned (to_mark k) (record { back = b; rest = marked.0 }) z.0 e marked.1 z.2) t)
+    splits_continue : (f : Frame) (q m live : ℕ) (k : List Item) (a : Trail Point) (j : ℕ) (e : Config) → f.loop ≡ Some m → Matches f k → do_continue (to_turn k) f.here a.state ≡ Some e → W j e a.met
+        → Splits f.here k (suc j) (seq (act q (keep m)) (leave live continued)) a
+    splits_continue f q m live k a j e i mm y t =
+        let turning = turn_some (to_turn k) m (mm.loops m i) in
+        let r : List Item = turn turning.0.step turning.0.again turning.0.length ∷ turning.0.rest in
+        let y' : go r f.here (run_op (keep turning.0.length) a.state) ≡ Some e = subst (λ o. do_continue o f.here a.state ≡ Some e) turning.1 y in
+        let x = go_some r f.here (run_op (keep turning.0.length) a.state) e y' in
+        let o : run_op (keep m) a.state ≡ Some x.0 = subst (λ w. run_op (keep w) a.state ≡ Some x.0) turning.2 x.1 in
+        jumped j continued (trail x.0 a.met) e (omega arith) (jump_join (point_at T) may q (keep m) live continued a (trail x.0 a.met) (o, refl))
+        (lands_continued (to_turn k) turning.0 f.here x.0 e turning.1 x.2) t
 
-  splits_return : (f : Frame) (q live : ℕ) (op : Op) (b : Back) (k : List Item) (s : State) (j : ℕ) (e : Config) → f.back ≡ Some b → Matches f k → do_leave (to_mark k) (run_op op s) ≡ Some e
-      → Steps P j e c
-      → Cut f.here k (suc j) (return_node q op b.length live) s
-  splits_return f q live op b k s j e i mm y t =
-      let x = splits_leave f q live b k s (run_op op s) j e i mm y t in
-      after_act q op (seq (act q (keep b.length)) (leave live returned)) f.here k (suc j) s x.0 x.1 x.2
+    -- back to the caller, from a state that a change may have made
+    splits_leave : (f : Frame) (q live : ℕ) (b : Back) (k : List Item) (xs : List (Met Point)) (o : Option State) (j : ℕ) (e : Config) → f.back ≡ Some b → Matches f k → do_leave (to_mark k) o ≡ Some e
+        → W j e xs
+        → (u : State) × (o ≡ Some u) × Splits f.here k (suc j) (seq (act q (keep b.length)) (leave live returned)) (trail u xs)
+    splits_leave f q live b k xs o j e i mm y t =
+        let marked = mark_some (to_mark k) b (mm.backs ∙ i) in
+        let y' : do_leave (Some (record { back = b; rest = marked.0 })) o ≡ Some e = subst (λ w. do_leave w o ≡ Some e) marked.1 y in
+        let x = go_on_some o (λ t. go marked.0 b.here (run_op (keep b.length) t)) e y' in
+        let z = go_some marked.0 b.here (run_op (keep b.length) x.0) e x.2 in (
+          x.0,
+          x.1,
+          jumped j returned (trail z.0 xs) e (omega arith) (jump_join (point_at T) may q (keep b.length) live returned (trail x.0 xs) (trail z.0 xs) (z.1, refl))
+              (lands_returned (to_mark k) (record { back = b; rest = marked.0 }) z.0 e marked.1 z.2) t,
+        )
 
-  -- a return behind a call that gave its value
-  leave_tail : (f : Frame) (q live : ℕ) (b : Back) (k : List Item) (s : State) (count : ℕ) → f.back ≡ Some b → Matches f k → Steps P count (config (leave_call ∷ k) f.here s) c
-      → Cut f.here k count (seq (act q (keep b.length)) (leave live returned)) s
-  leave_tail f q live b k s zero i mm t = absurd (not_there c _ p on refl t)
-  leave_tail f q live b k s (suc j) i mm (e, y, t) =
-      let x = splits_leave f q live b k s (Some s) j e i mm y t in
-      rw (same_Some s x.0 x.1) x.2
+    splits_return : (f : Frame) (q live : ℕ) (op : Op) (b : Back) (k : List Item) (a : Trail Point) (j : ℕ) (e : Config) → f.back ≡ Some b → Matches f k
+        → do_leave (to_mark k) (run_op op a.state) ≡ Some e → W j e a.met → Splits f.here k (suc j) (return_node q op b.length live) a
+    splits_return f q live op b k a j e i mm y t =
+        let x = splits_leave f q live b k a.met (run_op op a.state) j e i mm y t in
+        after_act q op (seq (act q (keep b.length)) (leave live returned)) f.here k (suc j) a (trail x.0 a.met) (x.1, refl) x.2
 
-  target_is : (f : Frame) (k : List Item) (b : Back) → f.back ≡ Some b → Matches f k → target_of (to_mark k) ≡ b.target
-  target_is f k b i mm = let marked = mark_some (to_mark k) b (mm.backs ∙ i) in rw marked.1 refl
+    -- a return behind a call that gave its value
+    leave_tail : (f : Frame) (q live : ℕ) (b : Back) (k : List Item) (a : Trail Point) (count : ℕ) → f.back ≡ Some b → Matches f k → W count (config (leave_call ∷ k) f.here a.state) a.met
+        → Splits f.here k count (seq (act q (keep b.length)) (leave live returned)) a
+    leave_tail f q live b k a count i mm t =
+        let v = plain (config (leave_call ∷ k) f.here a.state) a.met count refl t in
+        let few = v.2 in
+        let x = splits_leave f q live b k a.met (Some a.state) v.0 v.1 i mm v.3 v.4 in
+        splits_more f.here k (suc v.0) count (seq (act q (keep b.length)) (leave live returned)) a (omega (arith, few))
+        (subst (λ u. Splits f.here k (suc v.0) (seq (act q (keep b.length)) (leave live returned)) (trail u a.met)) (sym (same_Some a.state x.0 x.1)) x.2)
 
-  no_mark : (f : Frame) (k : List Item) → f.back ≡ None → Matches f k → to_mark k ≡ None
-  no_mark f k i mm = mark_none (to_mark k) (mm.backs ∙ i)
+    target_is : (f : Frame) (k : List Item) (b : Back) → f.back ≡ Some b → Matches f k → target_of (to_mark k) ≡ b.target
+    target_is f k b i mm = let marked = mark_some (to_mark k) b (mm.backs ∙ i) in rw marked.1 refl
 
-  land_two : (h : Here) (i i' : Item) (k : List Item) → to_turn (i ∷ i' ∷ k) ≡ to_turn (i' ∷ k) → to_mark (i ∷ i' ∷ k) ≡ to_mark (i' ∷ k) → to_turn (i' ∷ k) ≡ to_turn k → to_mark (i' ∷ k) ≡ to_mark k
-      → (j : Exit) (m : State) → land j h (i ∷ i' ∷ k) m ≡ land j h k m
-  land_two h i i' k a b d e j m = land_skip j h i (i' ∷ k) m a b ∙ land_skip j h i' k m d e
+    no_mark : (f : Frame) (k : List Item) → f.back ≡ None → Matches f k → to_mark k ≡ None
+    no_mark f k i mm = mark_none (to_mark k) (mm.backs ∙ i)
 
-  splits_for : (spot : Spot) (at : ℕ) (init : BlockItems) (b : Cond) (a step : Stmt) (g h : Node) (n' r q' : ℕ) → InlAll P T (at_point spot (suc spot.next)) init g n' r →
-      Loops P T (move spot n' spot.next) r (loop at b a step) h q'
-      → (k : List Item) (s : State) (count : ℕ)
-      → Matches spot.frame k → length s.store ≡ spot.live → count < fuel → Steps P count (config (all init ∷ run (loop at b a step) ∷ cut spot.live ∷ k) spot.frame.here s) c →
-      Cut spot.frame.here k count (seq g (seq h (act spot.next (keep spot.live)))) s
-  splits_for spot at init b a step g h n' r q' d e k s count m l less t =
-      splits_seq P T c p on spot.frame.here k (run (loop at b a step) ∷ cut spot.live ∷ k) count g (seq h (act spot.next (keep spot.live))) s
-      (land_two spot.frame.here (run (loop at b a step)) (cut spot.live) k refl refl refl refl)
-      (below.every (at_point spot (suc spot.next)) init g n' r d (run (loop at b a step) ∷ cut spot.live ∷ k) s count
-      (matches_skip spot.frame (run (loop at b a step)) (cut spot.live ∷ k) refl refl (matches_skip spot.frame (cut spot.live) k refl refl m)) l less t)
-      (λ j u i z w. splits_seq P T c p on spot.frame.here k (cut spot.live ∷ k) j h (act spot.next (keep spot.live)) u (skip_one spot.frame.here (cut spot.live) k refl refl)
-      (below.loops (move spot n' spot.next) r (loop at b a step) h q' e (cut spot.live ∷ k) u j (matches_skip spot.frame (cut spot.live) k refl refl m) ((length_all d).ends s u normal l z)
-      (omega arith) w)
-      (λ j' u' i' z' w'. cut_tail spot.frame.here spot.live spot.next k u' j' w'))
+    land_two : (h : Here) (i i' : Item) (k : List Item) → to_turn (i ∷ i' ∷ k) ≡ to_turn (i' ∷ k) → to_mark (i ∷ i' ∷ k) ≡ to_mark (i' ∷ k) → to_turn (i' ∷ k) ≡ to_turn k →
+        to_mark (i' ∷ k) ≡ to_mark k
+        → (j : Exit) (m : State) → land j h (i ∷ i' ∷ k) m ≡ land j h k m
+    land_two h i i' k a b d e j m = land_skip j h i (i' ∷ k) m a b ∙ land_skip j h i' k m d e
 
-  -- nothing follows in `main`
-  end_tail_of : (f : Frame) (k : List Item) (s : State) (count : ℕ) (g : Node) → to_mark k ≡ None → Steps P count (config (leave_call ∷ k) f.here s) c → Cut f.here k count g s
-  end_tail_of f k s zero g i t = absurd (not_there c _ p on refl t)
-  end_tail_of f k s (suc j) g i (e, y, t) = absurd (none-some e (subst (λ o. do_leave o (Some s) ≡ Some e) i y))
+    splits_for : (spot : Spot) (at : ℕ) (init : BlockItems) (b : Cond) (s step : Stmt) (g h : Node) (n' r q' : ℕ) → InlAll P T (at_point spot (suc spot.next)) init g n' r →
+        Loops P T (move spot n' spot.next) r (loop at b s step) h q'
+        → (k : List Item) (a : Trail Point) (count : ℕ)
+        → Matches spot.frame k → length a.state.store ≡ spot.live → count < fuel → W count (config (all init ∷ run (loop at b s step) ∷ cut spot.live ∷ k) spot.frame.here a.state) a.met →
+        Splits spot.frame.here k count (seq g (seq h (act spot.next (keep spot.live)))) a
+    splits_for spot at init b s step g h n' r q' d e k a count m l less t =
+        splits_seq spot.frame.here k (run (loop at b s step) ∷ cut spot.live ∷ k) count g (seq h (act spot.next (keep spot.live))) a
+        (land_two spot.frame.here (run (loop at b s step)) (cut spot.live) k refl refl refl refl)
+        (below.every (at_point spot (suc spot.next)) init g n' r d (run (loop at b s step) ∷ cut spot.live ∷ k) a count
+        (matches_skip spot.frame (run (loop at b s step)) (cut spot.live ∷ k) refl refl (matches_skip spot.frame (cut spot.live) k refl refl m)) l less t)
+        (λ j u i z w. splits_seq spot.frame.here k (cut spot.live ∷ k) j h (act spot.next (keep spot.live)) u (skip_one spot.frame.here (cut spot.live) k refl refl)
+        (below.loops (move spot n' spot.next) r (loop at b s step) h q' e (cut spot.live ∷ k) u j (matches_skip spot.frame (cut spot.live) k refl refl m) ((len_all d).ends a u to_end l z)
+        (omega arith) w)
+        (λ j' u' i' z' w'. cut_tail spot.frame.here spot.live spot.next k u' j' w'))
 
-  of_loop : (spot : Spot) (r : ℕ) (a : Stmt) (g : Node) (q : ℕ) → Loops P T spot r a g q → (k : List Item) (s : State) (count : ℕ) → Matches spot.frame k → length s.store ≡ spot.live →
-      count < suc fuel
-      → Steps P count (config (run a ∷ k) spot.frame.here s) c → Cut spot.frame.here k count g s
-  of_loop _ _ _ _ _ (is_loop {s = spot} {r = r} {at = at} {c = b} {a = a} {step = step} {g = g} {h = h} {m = r'} {q = q'} i d e) k s count m l less t =
-      splits_loop spot r at b a step g h r' q' i d e k s count m l less t
+    -- nothing follows in `main`
+    end_tail_of : (f : Frame) (k : List Item) (a : Trail Point) (count : ℕ) (g : Node) → to_mark k ≡ None → W count (config (leave_call ∷ k) f.here a.state) a.met → Splits f.here k count g a
+    end_tail_of f k a count g i t =
+        let v = plain (config (leave_call ∷ k) f.here a.state) a.met count refl t in
+        absurd (none-some v.1 (subst (λ o. do_leave o (Some a.state) ≡ Some v.1) i v.3))
 
-  -- a declarator: the point, the new variable, and what it gets
-  splits_declare : (spot : Spot) (d : Declarator) (g : Node) (q' : ℕ) → Has T spot d.label → Declares P T spot (suc spot.next) d.rvalue g q' → (k : List Item) (s : State) (count : ℕ)
-      → length s.store ≡ spot.live → count < suc fuel
-      → Steps P count (config (declare d ∷ k) spot.frame.here s) c → Cut spot.frame.here k count (seq (point spot.next) g) s
-  splits_declare spot d g q' i x k s count l less t = splits_point P T c p on spot d.label false (declare d) g k s count i l refl (λ z. absurd z) t
-      (λ j e j' y w. splits_more P T c p on spot.frame.here k (suc j) count g s (omega arith) (by_rvalue spot (suc spot.next) d.rvalue g q' x k s j e l (omega arith) y w))
-    where
-      by_rvalue : (spot : Spot) (r : ℕ) (o : Option Rvalue) (g : Node) (q' : ℕ) → Declares P T spot r o g q' → (k : List Item) (s : State) (j : ℕ) (e : Config) → length s.store ≡ spot.live → j < fuel
-          → do_declare P o k spot.frame.here s ≡ Some e → Steps P j e c → Cut spot.frame.here k (suc j) g s
-      by_rvalue _ _ _ _ _ (as_fresh {s = spot}) k s j e l less y w = splits_act P T c p on spot.next append spot.frame.here k s j e y w
-      by_rvalue _ _ _ _ _ (as_given {s = spot} {r = r} {e = b} {g = g} {q = q'} d) k s j e l less y w =
-          let x = go_on_some (run_op append s) (do_rvalue P (Some (length s.store)) b k spot.frame.here) e y in
-          let y' : do_rvalue P (Some spot.live) b k spot.frame.here x.0 ≡ Some e = subst (λ v. do_rvalue P (Some v) b k spot.frame.here x.0 ≡ Some e) l x.2 in
-          after_act spot.next append g spot.frame.here k (suc j) s x.0 x.1
-          (splits_gives (move spot (suc spot.live) spot.next) r (Some spot.live) b g q' k x.0 j e d (length_append s x.0 x.1 ∙ ap suc l) less y' w)
+    of_loop : (spot : Spot) (r : ℕ) (s : Stmt) (g : Node) (q : ℕ) → Loops P T spot r s g q → (k : List Item) (a : Trail Point) (count : ℕ) → Matches spot.frame k → length a.state.store ≡ spot.live →
+        count < suc fuel
+        → W count (config (run s ∷ k) spot.frame.here a.state) a.met → Splits spot.frame.here k count g a
+    of_loop _ _ _ _ _ (is_loop {s = spot} {r = r} {at = at} {c = b} {a = s} {step = step} {g = g} {h = h} {m = r'} {q = q'} i d e) k a count m l less t =
+        splits_loop spot r at b s step g h r' q' i d e k a count m l less t
 
-  splits_every : (spot : Spot) (a : BlockItems) (g : Node) (n q : ℕ) → InlAll P T spot a g n q → (k : List Item) (s : State) (count : ℕ) → Matches spot.frame k → length s.store ≡ spot.live
-      → count < suc fuel
-      → Steps P count (config (all a ∷ k) spot.frame.here s) c → Cut spot.frame.here k count g s
-  splits_every _ _ _ _ _ (as_none {s = spot}) k s count m l less t =
-      let x = past P T c p on (config (all no_more ∷ k) spot.frame.here s) (config k spot.frame.here s) count refl refl t in
-      ended x.0 s (omega arith) refl x.2
-  splits_every _ _ _ _ _ (as_declaration {s = spot} {d = a} {b = b} {g = g} {h = h} {r = r} {n = n'} {q = q'} i d e) k s count m l less t =
-      let x = past P T c p on (config (all (declaration a b) ∷ k) spot.frame.here s) (config (declare a ∷ all b ∷ k) spot.frame.here s) count refl refl t in
-      let few : x.0 < count = omega arith in
-      splits_more P T c p on spot.frame.here k x.0 count (seq (seq (point spot.next) g) h) s (omega arith)
-      (splits_seq P T c p on spot.frame.here k (all b ∷ k) x.0 (seq (point spot.next) g) h s (skip_one spot.frame.here (all b) k refl refl)
-      (splits_declare spot a g r i d (all b ∷ k) s x.0 l (omega arith) x.2)
-      (λ j u less' z w. below.every (move spot (suc spot.live) r) b h n' q' e k u j m ((length_declarator d).ends s u normal l z) (omega arith) w))
-  splits_every _ _ _ _ _ (as_statement {s = spot} {a = a} {b = b} {g = g} {h = h} {r = r} {n = n'} {q = q'} d e) k s count m l less t =
-      let x = past P T c p on (config (all (statement a b) ∷ k) spot.frame.here s) (config (run a ∷ all b ∷ k) spot.frame.here s) count refl refl t in
-      let few : x.0 < count = omega arith in
-      splits_more P T c p on spot.frame.here k x.0 count (seq g h) s (omega arith)
-      (splits_seq P T c p on spot.frame.here k (all b ∷ k) x.0 g h s (skip_one spot.frame.here (all b) k refl refl)
-      (below.one spot a g r d (all b ∷ k) s x.0 (matches_skip spot.frame (all b) k refl refl m) l (omega arith) x.2)
-      (λ j u i z w. below.every (at_point spot r) b h n' q' e k u j m ((length_one d).ends s u normal l z) (omega arith) w))
+    -- a declarator: the point, the new variable, and what it gets
+    splits_declare : (spot : Spot) (d : Declarator) (g : Node) (q' : ℕ) → Has T spot d.label → Declares P T spot (suc spot.next) d.rvalue g q' → (k : List Item) (a : Trail Point) (count : ℕ)
+        → length a.state.store ≡ spot.live → count < suc fuel
+        → W count (config (declare d ∷ k) spot.frame.here a.state) a.met → Splits spot.frame.here k count (seq (point spot.next) g) a
+    splits_declare spot d g q' i x k a count l less t = splits_point spot d.label false (declare d) g k a count i l refl (λ b v. absurd v) t
+        (λ j b e j' l' y w. splits_more spot.frame.here k (suc j) count g b (omega arith) (by_rvalue spot (suc spot.next) d.rvalue g q' x k b j e l' (omega arith) y w))
+      where
+        by_rvalue : (spot : Spot) (r : ℕ) (o : Option Rvalue) (g : Node) (q' : ℕ) → Declares P T spot r o g q' → (k : List Item) (a : Trail Point) (j : ℕ) (e : Config) →
+            length a.state.store ≡ spot.live → j < fuel
+            → do_declare P o k spot.frame.here a.state ≡ Some e → W j e a.met → Splits spot.frame.here k (suc j) g a
+        by_rvalue _ _ _ _ _ (as_fresh {s = spot}) k a j e l less y w = splits_act spot.next append spot.frame.here k a j e y w
+        by_rvalue _ _ _ _ _ (as_given {s = spot} {r = r} {e = b} {g = g} {q = q'} d) k a j e l less y w =
+            let x = go_on_some (run_op append a.state) (do_rvalue P (Some (length a.state.store)) b k spot.frame.here) e y in
+            let y' : do_rvalue P (Some spot.live) b k spot.frame.here x.0 ≡ Some e = subst (λ v. do_rvalue P (Some v) b k spot.frame.here x.0 ≡ Some e) l x.2 in
+            after_act spot.next append g spot.frame.here k (suc j) a (trail x.0 a.met) (x.1, refl)
+            (splits_gives (move spot (suc spot.live) spot.next) r (Some spot.live) b g q' k (trail x.0 a.met) j e d (length_append a.state x.0 x.1 ∙ ap suc l) less y' w)
 
-  splits_one : (spot : Spot) (a : Stmt) (g : Node) (q : ℕ) → Inl P T spot a g q → (k : List Item) (s : State) (count : ℕ) → Matches spot.frame k → length s.store ≡ spot.live → count < suc fuel
-      → Steps P count (config (run a ∷ k) spot.frame.here s) c → Cut spot.frame.here k count g s
-  splits_one _ _ _ _ (as_nothing {s = spot} {at = at} i) k s zero m l less t = hits (hit_there T c p spot at false (run (nothing at) ∷ k) s (point spot.next) on i l refl (refl, refl)
-      (λ z. absurd z) t)
-  splits_one _ _ _ _ (as_nothing {s = spot} i) k s (suc j) m l less (e, y, t) = ended j s (omega arith) refl (rw (same_Some (config k spot.frame.here s) e y) t)
-  splits_one _ _ _ _ (as_block {s = spot} {body = body} {end = end} {g = g} {n = n'} {q = q'} d i) k s count m l less t =
-      let x = past P T c p on (config (run (block body end) ∷ k) spot.frame.here s) (config (all body ∷ end_of end (length s.store) ∷ k) spot.frame.here s) count refl refl t in
-      let few : x.0 < count = omega arith in
-      splits_more P T c p on spot.frame.here k x.0 count (seq g (seq (point q') (act q' (keep spot.live)))) s (omega arith)
-      (splits_seq P T c p on spot.frame.here k (end_of end spot.live ∷ k) x.0 g (seq (point q') (act q' (keep spot.live))) s (skip_one spot.frame.here (end_of end spot.live) k refl refl)
-      (below.every spot body g n' q' d (end_of end spot.live ∷ k) s x.0 (matches_skip spot.frame (end_of end spot.live) k refl refl m) l (omega arith)
-      (subst (λ w. Steps P x.0 (config (all body ∷ end_of end w ∷ k) spot.frame.here s) c) l x.2))
-      (λ j u z a b. end_tail (move spot n' q') spot.live end k u j i ((length_all d).ends s u normal l a) b))
-  splits_one _ _ _ _ (as_absent {s = spot}) k s count m l less t =
-      let x = past P T c p on (config (run absent ∷ k) spot.frame.here s) (config k spot.frame.here s) count refl refl t in
-      ended x.0 s (omega arith) refl x.2
-  splits_one _ _ _ _ (as_assign {s = spot} {at = at} {x = x} {e = b} {g = g} {q = q'} i d) k s count m l less t =
-      splits_point P T c p on spot at false (run (assign at x b)) g k s count i l refl (λ z. absurd z) t
-      (λ j e j' y w. splits_more P T c p on spot.frame.here k (suc j) count g s (omega arith)
-      (splits_gives spot (suc spot.next) (Some (index_of spot.frame.here.base x)) b g q' k s j e d l (omega arith) y w))
-  splits_one _ _ _ _ (as_call {s = spot} {at = at} {c = b} {g = g} {q = q'} i d) k s count m l less t = splits_point P T c p on spot at false (run (call at b)) g k s count i l refl (λ z. absurd z) t
-      (λ j e j' y w. splits_more P T c p on spot.frame.here k (suc j) count g s (omega arith) (splits_gives spot (suc spot.next) None (result b) g q' k s j e d l (omega arith) y w))
-  splits_one _ _ _ _ (as_if {s = spot} {at = at} {c = b} {a = a} {b = a'} {g = g} {h = h} {r = r} {q = q'} i d d') k s count m l less t =
-      splits_point P T c p on spot at false (run (if at b a a')) (choose spot.next spot.frame.here.base b g h) k s count i l
-      refl (λ z. absurd z) t
-      (λ j e j' y w. elim (go_by_some (run a ∷ k) (run a' ∷ k) spot.frame.here s.store (truth_of b spot.frame.here.base s.store s.draws) e y) as
-      (λ z. Cut spot.frame.here k count (choose spot.next spot.frame.here.base b g h) s) [
-        | inl z ↦ splits_more P T c p on spot.frame.here k j count (choose spot.next spot.frame.here.base b g h) s (omega arith)
-            (choose_on spot.next spot.frame.here.base b g h spot.frame.here k j s z.0 z.1
-            (below.one (at_point spot (suc spot.next)) a g r d k z.0 j m (length_test spot.frame.here.base b true s z.0 z.1 ∙ l) (omega arith) (rw z.2 w)))
-        | inr z ↦ splits_more P T c p on spot.frame.here k j count (choose spot.next spot.frame.here.base b g h) s (omega arith)
-            (choose_off spot.next spot.frame.here.base b g h spot.frame.here k j s z.0 z.1
-            (below.one (at_point spot r) a' h q' d' k z.0 j m (length_test spot.frame.here.base b false s z.0 z.1 ∙ l) (omega arith) (rw z.2 w)))
-      ])
-  splits_one _ _ _ _ (as_loop {s = spot} {a = a} {g = g} {q = q'} d) k s count m l less t = of_loop spot (suc spot.next) a g q' d k s count m l less t
-  splits_one _ _ _ _ (as_for {s = spot} {at = at} {init = init} {c = b} {a = a} {step = step} {g = g} {h = h} {n = n'} {r = r} {q = q'} d e) k s count m l less t =
-      let x = past P T c p on (config (run (for at init b a step) ∷ k) spot.frame.here s) (config (all init ∷ run (loop at b a step) ∷ cut (length s.store) ∷ k) spot.frame.here s) count refl refl t in
-      splits_more P T c p on spot.frame.here k x.0 count (seq g (seq h (act spot.next (keep spot.live)))) s (omega arith)
-      (splits_for spot at init b a step g h n' r q' d e k s x.0 m l (omega arith) (subst (λ w. Steps P x.0 (config (all init ∷ run (loop at b a step) ∷ cut w ∷ k) spot.frame.here s) c) l x.2))
-  splits_one _ _ _ _ (as_break {s = spot} {at = at} {m = b} i i' has) k s count m l less t =
-      splits_point P T c p on spot at false (run (break at)) (seq (act spot.next (keep b)) (leave spot.live broken)) k s count has l
-      refl (λ z. absurd z) t
-      (λ j e j' y w. splits_more P T c p on spot.frame.here k (suc j) count (seq (act spot.next (keep b)) (leave spot.live broken)) s (omega arith)
-      (splits_break spot.frame spot.next b spot.live k s j e i m y w))
-  splits_one _ _ _ _ (as_continue {s = spot} {at = at} {m = b} i i' has) k s count m l less t =
-      splits_point P T c p on spot at false (run (continue at)) (seq (act spot.next (keep b)) (leave spot.live continued)) k s
-      count has l refl (λ z. absurd z) t
-      (λ j e j' y w. splits_more P T c p on spot.frame.here k (suc j) count (seq (act spot.next (keep b)) (leave spot.live continued)) s (omega arith)
-      (splits_continue spot.frame spot.next b spot.live k s j e i m y w))
-  splits_one _ _ _ _ (as_return {s = spot} {at = at} {b = b} i i' has) k s count m l less t =
-      splits_point P T c p on spot at false (run (return at None)) (return_node spot.next (give_any b.target) b.length spot.live) k s
-      count has l refl (λ z. absurd z) t
-      (λ j e j' y w.
-      let y' : do_leave (to_mark k) (run_any b.target s) ≡ Some e = subst (λ v. do_leave (to_mark k) (run_any v s) ≡ Some e) (target_is spot.frame k b i m) y in
-      splits_more P T c p on spot.frame.here k (suc j) count (return_node spot.next (give_any b.target) b.length spot.live) s (omega arith)
-      (splits_return spot.frame spot.next spot.live (give_any b.target) b k s j e i m y' w))
-  splits_one _ _ _ _ (as_return_value {s = spot} {at = at} {e = v} {b = b} i i' has) k s count m l less t = splits_point P T c p on spot at false (run (return at (Some (value v))))
-      (return_node spot.next (give spot.frame.here.base b.target v) b.length spot.live) k s count has l refl (λ z. absurd z) t
-      (λ j e j' y w.
-      let y' : do_leave (to_mark k) (run_op (give spot.frame.here.base b.target v) s) ≡ Some e =
-      subst (λ x. do_leave (to_mark k) (run_op (give spot.frame.here.base x v) s) ≡ Some e) (target_is spot.frame k b i m) y in
-      splits_more P T c p on spot.frame.here k (suc j) count (return_node spot.next (give spot.frame.here.base b.target v) b.length spot.live) s (omega arith)
-      (splits_return spot.frame spot.next spot.live (give spot.frame.here.base b.target v) b k s j e i m y' w))
-  splits_one _ _ _ _ (as_return_call {s = spot} {at = at} {c = v} {b = b} {g = g} {q = q'} i i' has d) k s count m l less t = splits_point P T c p on spot at false (run (return at (Some (result v))))
-      (seq g (seq (act spot.next (keep b.length)) (leave spot.live returned))) k s count has l refl (λ z. absurd z) t
-      (λ j e j' y w.
-      let y' : do_rvalue P b.target (result v) (leave_call ∷ k) spot.frame.here s ≡ Some e =
-      subst (λ x. do_rvalue P x (result v) (leave_call ∷ k) spot.frame.here s ≡ Some e) (target_is spot.frame k b i m) y in
-      splits_more P T c p on spot.frame.here k (suc j) count (seq g (seq (act spot.next (keep b.length)) (leave spot.live returned))) s (omega arith)
-      (splits_seq P T c p on spot.frame.here k (leave_call ∷ k) (suc j) g (seq (act spot.next (keep b.length)) (leave spot.live returned)) s (skip_one spot.frame.here leave_call k refl refl)
-      (splits_gives spot (suc spot.next) b.target (result v) g q' (leave_call ∷ k) s j e d l (omega arith) y' w)
-      (λ j'' u z a b'. leave_tail spot.frame spot.next spot.live b k u j'' i m b')))
-  splits_one _ _ _ _ (as_end {s = spot} {at = at} i has) k s count m l less t = splits_point P T c p on spot at false (run (return at None)) (leave spot.live returned) k s count has l refl
-      (λ z. absurd z) t
-      (λ j e j' y w. absurd (none-some e (subst (λ o. do_leave o (run_any (target_of o) s) ≡ Some e) (no_mark spot.frame k i m) y)))
-  splits_one _ _ _ _ (as_end_value {s = spot} {at = at} {e = v} i has) k s count m l less t =
-      splits_point P T c p on spot at false (run (return at (Some (value v)))) (leave spot.live returned) k s count has l
-      refl (λ z. absurd z) t
-      (λ j e j' y w. absurd (none-some e (subst (λ o. do_leave o (run_op (give spot.frame.here.base (target_of o) v) s) ≡ Some e) (no_mark spot.frame k i m) y)))
-  splits_one _ _ _ _ (as_end_call {s = spot} {at = at} {c = v} {g = g} {q = q'} i has d) k s count m l less t =
-      splits_point P T c p on spot at false (run (return at (Some (result v)))) (seq g (leave spot.live returned)) k s
-      count has l refl (λ z. absurd z) t
-      (λ j e j' y w.
-      let y' : do_rvalue P None (result v) (leave_call ∷ k) spot.frame.here s ≡ Some e =
-      subst (λ o. do_rvalue P (target_of o) (result v) (leave_call ∷ k) spot.frame.here s ≡ Some e) (no_mark spot.frame k i m) y in
-      splits_more P T c p on spot.frame.here k (suc j) count (seq g (leave spot.live returned)) s (omega arith)
-      (splits_seq P T c p on spot.frame.here k (leave_call ∷ k) (suc j) g (leave spot.live returned) s (skip_one spot.frame.here leave_call k refl refl)
-      (splits_gives spot (suc spot.next) None (result v) g q' (leave_call ∷ k) s j e d l (omega arith) y' w)
-      (λ j'' u z a b'. end_tail_of spot.frame k u j'' (leave spot.live returned) (no_mark spot.frame k i m) b')))
-  splits_one _ _ _ _ (as_assert {s = spot} {at = at} {c = b} i) k s count m l less t =
-      splits_point P T c p on spot at true (run (assert at b)) (check spot.next spot.frame.here.base b) k s count i l refl
-      (λ z. (refl, z.0, z.1)) t
-      (λ j e j' y w. let x = go_some k spot.frame.here (run_op (test spot.frame.here.base b true) s) e y in ended j x.0 (omega arith) x.1 (rw x.2 w))
-  splits_one _ _ _ _ (as_assume {s = spot} {at = at} {c = b} i) k s count m l less t =
-      splits_point P T c p on spot at false (run (assume at b)) (act spot.next (test spot.frame.here.base b true)) k s count i l refl
-      (λ z. absurd z) t
-      (λ j e j' y w. splits_more P T c p on spot.frame.here k (suc j) count (act spot.next (test spot.frame.here.base b true)) s (omega arith)
-      (splits_act P T c p on spot.next (test spot.frame.here.base b true) spot.frame.here k s j e y w))
+    splits_every : (spot : Spot) (b : BlockItems) (g : Node) (n q : ℕ) → InlAll P T spot b g n q → (k : List Item) (a : Trail Point) (count : ℕ) → Matches spot.frame k →
+        length a.state.store ≡ spot.live
+        → count < suc fuel
+        → W count (config (all b ∷ k) spot.frame.here a.state) a.met → Splits spot.frame.here k count g a
+    splits_every _ _ _ _ _ (as_none {s = spot}) k a count m l less t =
+        let x = past (config (all no_more ∷ k) spot.frame.here a.state) (config k spot.frame.here a.state) a.met count refl refl t in
+        ended x.0 a (omega arith) refl x.2
+    splits_every _ _ _ _ _ (as_declaration {s = spot} {d = d'} {b = b} {g = g} {h = h} {r = r} {n = n'} {q = q'} i d e) k a count m l less t =
+        let x = past (config (all (declaration d' b) ∷ k) spot.frame.here a.state) (config (declare d' ∷ all b ∷ k) spot.frame.here a.state) a.met count refl refl t in
+        let few : x.0 < count = omega arith in
+        splits_more spot.frame.here k x.0 count (seq (seq (point spot.next) g) h) a (omega arith)
+        (splits_seq spot.frame.here k (all b ∷ k) x.0 (seq (point spot.next) g) h a (skip_one spot.frame.here (all b) k refl refl)
+        (splits_declare spot d' g r i d (all b ∷ k) a x.0 l (omega arith) x.2)
+        (λ j u less' z w. below.every (move spot (suc spot.live) r) b h n' q' e k u j m ((length_declarator (point_at T) may keeps d).ends a u to_end l z) (omega arith) w))
+    splits_every _ _ _ _ _ (as_statement {s = spot} {a = s} {b = b} {g = g} {h = h} {r = r} {n = n'} {q = q'} d e) k a count m l less t =
+        let x = past (config (all (statement s b) ∷ k) spot.frame.here a.state) (config (run s ∷ all b ∷ k) spot.frame.here a.state) a.met count refl refl t in
+        let few : x.0 < count = omega arith in
+        splits_more spot.frame.here k x.0 count (seq g h) a (omega arith)
+        (splits_seq spot.frame.here k (all b ∷ k) x.0 g h a (skip_one spot.frame.here (all b) k refl refl)
+        (below.one spot s g r d (all b ∷ k) a x.0 (matches_skip spot.frame (all b) k refl refl m) l (omega arith) x.2)
+        (λ j u i z w. below.every (at_point spot r) b h n' q' e k u j m ((len_one d).ends a u to_end l z) (omega arith) w))
 
-module _ (P : Program) (T : List Site) (c : Config) (p : ℕ) (on : label_on c.items ≡ Some p) where
-  nothing_below : Below P T c p zero
+    -- a statement at its point, by what its step makes
+    at_its_point : (spot : Spot) (at : ℕ) (s : Stmt) (g : Node) (k : List Item) (a : Trail Point) (count : ℕ) → count < suc fuel → Has T spot at → length a.state.store ≡ spot.live →
+        label_on (run s ∷ k) ≡ Some at
+        → ((b : State) → IsFailing (run s ∷ k) spot.frame.here b → ⊥) → W count (config (run s ∷ k) spot.frame.here a.state) a.met
+        → ((j : ℕ) (b : Trail Point) (e : Config) → j < fuel → length b.state.store ≡ spot.live → next_at P (run s ∷ k) spot.frame.here b.state ≡ Some e → W j e b.met → Splits spot.frame.here k
+        (suc j) g b)
+        → Splits spot.frame.here k count (seq (point spot.next) g) a
+    at_its_point spot at s g k a count less has l lab sure t inner = splits_point spot at false (run s) g k a count has l lab (λ b v. absurd (sure b.state v)) t
+        (λ j b e j' l' y w. splits_more spot.frame.here k (suc j) count g b (omega arith) (inner j b e (omega arith) l' y w))
+
+    splits_one : (spot : Spot) (s : Stmt) (g : Node) (q : ℕ) → Inl P T spot s g q → (k : List Item) (a : Trail Point) (count : ℕ) → Matches spot.frame k → length a.state.store ≡ spot.live →
+        count < suc fuel
+        → W count (config (run s ∷ k) spot.frame.here a.state) a.met → Splits spot.frame.here k count g a
+    splits_one _ _ _ _ (as_nothing {s = spot} {at = at} i) k a zero m l less t = hits (here spot at false (run (nothing at) ∷ k) a (point spot.next) i l refl (refl, refl) (λ b m v. absurd v) t)
+    splits_one _ _ _ _ (as_nothing {s = spot} {at = at} i) k a (suc j) m l less t =
+        let x = enters (run (nothing at) ∷ k) spot at false j a i l refl t in
+        ended j x.past (omega arith) x.passed (rw (same_Some (config k spot.frame.here x.past.state) x.goal x.step) x.rest)
+    splits_one _ _ _ _ (as_block {s = spot} {body = body} {end = end} {g = g} {n = n'} {q = q'} d i) k a count m l less t =
+        let x = past (config (run (block body end) ∷ k) spot.frame.here a.state) (config (all body ∷ end_of end (length a.state.store) ∷ k) spot.frame.here a.state) a.met count refl refl t in
+        let t' = subst (λ w. W x.0 (config (all body ∷ end_of end w ∷ k) spot.frame.here a.state) a.met) l x.2 in
+        let few : x.0 < count = omega arith in
+        splits_more spot.frame.here k x.0 count (seq g (seq (point q') (act q' (keep spot.live)))) a (omega arith)
+        (splits_seq spot.frame.here k (end_of end spot.live ∷ k) x.0 g (seq (point q') (act q' (keep spot.live))) a (skip_one spot.frame.here (end_of end spot.live) k refl refl)
+        (below.every spot body g n' q' d (end_of end spot.live ∷ k) a x.0 (matches_skip spot.frame (end_of end spot.live) k refl refl m) l (omega arith) t')
+        (λ j u less' z w. end_tail (move spot n' q') spot.live end k u j i ((len_all d).ends a u to_end l z) w))
+    splits_one _ _ _ _ (as_absent {s = spot}) k a count m l less t =
+        let x = past (config (run absent ∷ k) spot.frame.here a.state) (config k spot.frame.here a.state) a.met count refl refl t in
+        ended x.0 a (omega arith) refl x.2
+    splits_one _ _ _ _ (as_assign {s = spot} {at = at} {x = x} {e = v} {g = g} {q = q'} i d) k a count m l less t = at_its_point spot at (assign at x v) g k a count less i l refl (λ b v. v) t
+        (λ j b e less' l' y w. splits_gives spot (suc spot.next) (Some (index_of spot.frame.here.base x)) v g q' k b j e d l' less' y w)
+    splits_one _ _ _ _ (as_call {s = spot} {at = at} {c = b} {g = g} {q = q'} i d) k a count m l less t = at_its_point spot at (call at b) g k a count less i l refl (λ b v. v) t
+        (λ j u e less' l' y w. splits_gives spot (suc spot.next) None (result b) g q' k u j e d l' less' y w)
+    splits_one _ _ _ _ (as_if {s = spot} {at = at} {c = b} {a = s} {b = s'} {g = g} {h = h} {r = r} {q = q'} i d d') k a count m l less t =
+        at_its_point spot at (if at b s s') (choose spot.next spot.frame.here.base b g h) k a count less i l refl (λ b v. v) t
+        (λ j u e less' l' y w. elim (go_by_some (run s ∷ k) (run s' ∷ k) spot.frame.here u.state.store (truth_of b spot.frame.here.base u.state.store u.state.draws) e y) as
+        (λ z. Splits spot.frame.here k (suc j) (choose spot.next spot.frame.here.base b g h) u) [
+          | inl z ↦ splits_more spot.frame.here k j (suc j) (choose spot.next spot.frame.here.base b g h) u (omega arith)
+              (choose_on spot.next spot.frame.here.base b g h spot.frame.here k j u (trail z.0 u.met) (z.1, refl)
+              (below.one (at_point spot (suc spot.next)) s g r d k (trail z.0 u.met) j m (length_test spot.frame.here.base b true u.state z.0 z.1 ∙ l') less' (rw z.2 w)))
+          | inr z ↦ splits_more spot.frame.here k j (suc j) (choose spot.next spot.frame.here.base b g h) u (omega arith)
+              (choose_off spot.next spot.frame.here.base b g h spot.frame.here k j u (trail z.0 u.met) (z.1, refl)
+              (below.one (at_point spot r) s' h q' d' k (trail z.0 u.met) j m (length_test spot.frame.here.base b false u.state z.0 z.1 ∙ l') less' (rw z.2 w)))
+        ])
+    splits_one _ _ _ _ (as_loop {s = spot} {a = s} {g = g} {q = q'} d) k a count m l less t = of_loop spot (suc spot.next) s g q' d k a count m l less t
+    splits_one _ _ _ _ (as_for {s = spot} {at = at} {init = init} {c = b} {a = s} {step = step} {g = g} {h = h} {n = n'} {r = r} {q = q'} d e) k a count m l less t =
+        let x = past (config (run (for at init b s step) ∷ k) spot.frame.here a.state) (config (all init ∷ run (loop at b s step) ∷ cut (length a.state.store) ∷ k) spot.frame.here a.state) a.met
+        count refl refl t in
+        splits_more spot.frame.here k x.0 count (seq g (seq h (act spot.next (keep spot.live)))) a (omega arith)
+        (splits_for spot at init b s step g h n' r q' d e k a x.0 m l (omega arith) (subst (λ w. W x.0 (config (all init ∷ run (loop at b s step) ∷ cut w ∷ k) spot.frame.here a.state) a.met) l x.2))
+    splits_one _ _ _ _ (as_break {s = spot} {at = at} {m = b} i i' has) k a count m l less t =
+        at_its_point spot at (break at) (seq (act spot.next (keep b)) (leave spot.live broken)) k a count less has l refl (λ b v. v) t
+        (λ j u e less' l' y w. splits_break spot.frame spot.next b spot.live k u j e i m y w)
+    splits_one _ _ _ _ (as_continue {s = spot} {at = at} {m = b} i i' has) k a count m l less t =
+        at_its_point spot at (continue at) (seq (act spot.next (keep b)) (leave spot.live continued)) k a count less has l refl (λ b v. v) t
+        (λ j u e less' l' y w. splits_continue spot.frame spot.next b spot.live k u j e i m y w)
+    splits_one _ _ _ _ (as_return {s = spot} {at = at} {b = b} i i' has) k a count m l less t =
+        at_its_point spot at (return at None) (return_node spot.next (give_any b.target) b.length spot.live) k a count less has l refl (λ b v. v) t
+        (λ j u e less' l' y w.
+        let y' : do_leave (to_mark k) (run_any b.target u.state) ≡ Some e = subst (λ v. do_leave (to_mark k) (run_any v u.state) ≡ Some e) (target_is spot.frame k b i m) y in
+        splits_return spot.frame spot.next spot.live (give_any b.target) b k u j e i m y' w)
+    splits_one _ _ _ _ (as_return_value {s = spot} {at = at} {e = v} {b = b} i i' has) k a count m l less t =
+        at_its_point spot at (return at (Some (value v))) (return_node spot.next (give spot.frame.here.base b.target v) b.length spot.live) k a count less has l refl (λ b v. v) t
+        (λ j u e less' l' y w.
+        let y' : do_leave (to_mark k) (run_op (give spot.frame.here.base b.target v) u.state) ≡ Some e =
+        subst (λ x. do_leave (to_mark k) (run_op (give spot.frame.here.base x v) u.state) ≡ Some e) (target_is spot.frame k b i m) y in
+        splits_return spot.frame spot.next spot.live (give spot.frame.here.base b.target v) b k u j e i m y' w)
+    splits_one _ _ _ _ (as_return_call {s = spot} {at = at} {c = v} {b = b} {g = g} {q = q'} i i' has d) k a count m l less t =
+        at_its_point spot at (return at (Some (result v))) (seq g (seq (act spot.next (keep b.length)) (leave spot.live returned))) k a count less has l refl (λ b v. v) t
+        (λ j u e less' l' y w.
+        let y' : do_rvalue P b.target (result v) (leave_call ∷ k) spot.frame.here u.state ≡ Some e =
+        subst (λ x. do_rvalue P x (result v) (leave_call ∷ k) spot.frame.here u.state ≡ Some e) (target_is spot.frame k b i m) y in
+        splits_seq spot.frame.here k (leave_call ∷ k) (suc j) g (seq (act spot.next (keep b.length)) (leave spot.live returned)) u (skip_one spot.frame.here leave_call k refl refl)
+        (splits_gives spot (suc spot.next) b.target (result v) g q' (leave_call ∷ k) u j e d l' less' y' w)
+        (λ j'' u' z f b'. leave_tail spot.frame spot.next spot.live b k u' j'' i m b'))
+    splits_one _ _ _ _ (as_end {s = spot} {at = at} i has) k a count m l less t = at_its_point spot at (return at None) (leave spot.live returned) k a count less has l refl (λ b v. v) t
+        (λ j u e less' l' y w. absurd (none-some e (subst (λ o. do_leave o (run_any (target_of o) u.state) ≡ Some e) (no_mark spot.frame k i m) y)))
+    splits_one _ _ _ _ (as_end_value {s = spot} {at = at} {e = v} i has) k a count m l less t =
+        at_its_point spot at (return at (Some (value v))) (leave spot.live returned) k a count less has l refl (λ b v. v) t
+        (λ j u e less' l' y w. absurd (none-some e (subst (λ o. do_leave o (run_op (give spot.frame.here.base (target_of o) v) u.state) ≡ Some e) (no_mark spot.frame k i m) y)))
+    splits_one _ _ _ _ (as_end_call {s = spot} {at = at} {c = v} {g = g} {q = q'} i has d) k a count m l less t =
+        at_its_point spot at (return at (Some (result v))) (seq g (leave spot.live returned)) k a count less has l refl (λ b v. v) t
+        (λ j u e less' l' y w.
+        let y' : do_rvalue P None (result v) (leave_call ∷ k) spot.frame.here u.state ≡ Some e =
+        subst (λ o. do_rvalue P (target_of o) (result v) (leave_call ∷ k) spot.frame.here u.state ≡ Some e) (no_mark spot.frame k i m) y in
+        splits_seq spot.frame.here k (leave_call ∷ k) (suc j) g (leave spot.live returned) u (skip_one spot.frame.here leave_call k refl refl)
+        (splits_gives spot (suc spot.next) None (result v) g q' (leave_call ∷ k) u j e d l' less' y' w)
+        (λ j'' u' z f b'. end_tail_of spot.frame k u' j'' (leave spot.live returned) (no_mark spot.frame k i m) b'))
+    splits_one _ _ _ _ (as_assert {s = spot} {at = at} {c = b} i) k a count m l less t =
+        splits_point spot at true (run (assert at b)) (check spot.next spot.frame.here.base b) k a count i l refl (λ u v. (refl, refl, v.0, v.1)) t
+        (λ j u e j' l' y w. let x = go_some k spot.frame.here (run_op (test spot.frame.here.base b true) u.state) e y in ended j (trail x.0 u.met) (omega arith) (x.1, refl) (rw x.2 w))
+    splits_one _ _ _ _ (as_assume {s = spot} {at = at} {c = b} i) k a count m l less t =
+        at_its_point spot at (assume at b) (act spot.next (test spot.frame.here.base b true)) k a count less i l refl (λ b v. v) t
+        (λ j u e less' l' y w. splits_act spot.next (test spot.frame.here.base b true) spot.frame.here k u j e y w)
+
+  nothing_below : Below zero
   nothing_below = record {
-    one = λ spot a g q d k s count m l less t. absurd (omega arith);
-    every = λ spot a g n q d k s count m l less t. absurd (omega arith);
-    loops = λ spot r a g q d k s count m l less t. absurd (omega arith);
+    one = λ spot s g q d k a count m l less t. absurd (omega arith);
+    every = λ spot s g n q d k a count m l less t. absurd (omega arith);
+    loops = λ spot r s g q d k a count m l less t. absurd (omega arith);
   }
 
-  pub all_below : (fuel : ℕ) → Below P T c p fuel
+  pub all_below : (fuel : ℕ) → Below fuel
   all_below zero = nothing_below
-  all_below (suc fuel) = record { one = splits_one P T c p on fuel (all_below fuel); every = splits_every P T c p on fuel (all_below fuel); loops = of_loop P T c p on fuel (all_below fuel) }
+  all_below (suc fuel) = record { one = splits_one fuel (all_below fuel); every = splits_every fuel (all_below fuel); loops = of_loop fuel (all_below fuel) }

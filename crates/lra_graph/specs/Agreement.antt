@@ -3,6 +3,8 @@ use Rattle.lra_program.specs.Program.{Program}
 use Rattle.lra_operations.specs.Graph.{Node}
 use Rattle.lra_program.specs.Sites.{sites_of}
 use Rattle.lra_operations.specs.Agree.{IsGraph, AreDistinct, Agrees}
+use Rattle.lra_operations.specs.TrailsAgree.{TrailsAgree}
+use Rattle.lra_program.specs.Trails.{Alone}
 use Rattle.lra_program.specs.WellFormed.{IsWellFormed}
 
 -- no two points of a well-formed program have one call path and label
@@ -12,3 +14,7 @@ WellFormedAreDistinct = (P : Program) → IsWellFormed P → AreDistinct (sites_
 -- each tree of a well-formed program agrees with its runs
 abbrev pub WellFormedAgree : Type 0
 WellFormedAgree = (P : Program) (g : Node) → IsWellFormed P → IsGraph P g → Agrees P g
+
+-- and has its trails
+abbrev pub WellFormedHaveTrails : Type 0
+WellFormedHaveTrails = (P : Program) (g : Node) → IsWellFormed P → IsGraph P g → TrailsAgree Alone P g

@@ -12,7 +12,8 @@ mod points;
 mod refused;
 
 ghost use Rattle.lra_operations.specs.Agree.{GraphsAgree};
-ghost use Rattle.lra_graph.specs.Agreement.{WellFormedAreDistinct, WellFormedAgree};
+ghost use Rattle.lra_operations.specs.TrailsAgree.{GraphsHaveTrails};
+ghost use Rattle.lra_graph.specs.Agreement.{WellFormedAreDistinct, WellFormedAgree, WellFormedHaveTrails};
 
 pub use inlining::build;
 pub use points::{GraphError, Limit};
@@ -25,4 +26,12 @@ pub fn graphs_agree()
     ensures theorem { GraphsAgree }
     ensures distinct { WellFormedAreDistinct }
     ensures well_formed { WellFormedAgree }
+{}
+
+/// They do so on the same trails: past the same points, in the same states, one behind the other.
+///
+/// Does nothing: its contract is the theorem.
+pub fn trails_agree()
+    ensures theorem { GraphsHaveTrails }
+    ensures well_formed { WellFormedHaveTrails }
 {}
