@@ -3,7 +3,7 @@
 ghost use Rattle.std.specs.Prelude.{◌≡◌, IfOk};
 
 use crate::shapes::{Unfit, row_of, shows};
-use lra_duality::Inclusion;
+use lra_duality::{Inclusion, Maximum};
 use lra_lin::{LinExpr, Test};
 use lra_poly::Poly;
 use lra_sys::{ConKind, ConSys};
@@ -95,6 +95,25 @@ fn is_met(alloc: Global) -> Result<bool, Unfit> {
 fn strip(rt: HostRuntime) {
     assert!(rt; is_strip(rt.alloc()) == Ok(true));
     assert!(rt; is_met(rt.alloc()) == Ok(true));
+}
+
+// The least values on a half plane of a form that rises into it, and of one that falls.
+fn are_least(alloc: Global) -> Result<bool, Unfit> {
+    let side = poly_of(alloc, &[], &[[-3, 1, 0]])?;
+    let rising = LinExpr::new(alloc, -1, &[2, 0])?;
+    let falling = LinExpr::new(alloc, 0, &[-1, 0])?;
+    let least = Maximum::At {
+        num: -5,
+        den: 1,
+        place: 0,
+    };
+    let told = side.maximise_opposite(&rising) == least;
+    Ok(told && side.maximise_opposite(&falling) == Maximum::Unbounded { place: 1 })
+}
+
+#[test]
+fn least_values(rt: HostRuntime) {
+    assert!(rt; are_least(rt.alloc()) == Ok(true));
 }
 
 // The half plane of the points with x1 at least 3.
