@@ -3,4 +3,5 @@ mod NodeViewExamples
 mod DistinctExamples
 pub mod SizeLaws
 pub mod TrailLaws
+pub mod TrailUses
 mod TrailExamples

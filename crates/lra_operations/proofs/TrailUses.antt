@@ -1,0 +1,224 @@
+-- Laws for the use of trees' trails: points by other names, and what was met before.
+use Rattle.std.proofs.Common.{◌≡◌, ℕ, zero, suc, List, [], ◌∷◌, ◌++◌, map, Bool, true, false, inl, inr, refl, sym, ap, ◌∙◌, subst, append_assoc}
+use Rattle.lra_program.specs.Program.{Cond}
+use Rattle.lra_program.specs.Step.{State, Op, test}
+use Rattle.lra_program.specs.Trails.{Met, passes, Trail}
+use Rattle.lra_operations.specs.Graph.{Node, empty, point, act, check, seq, choose, iterate, catch, leave}
+use Rattle.lra_operations.specs.Trails.{by_jump, Outcome, to_end, stopped, Goes, Tests, TrailRounds, Performs, Passes}
+
+-- points by other names ------------------------------------------------------------------------------------------------
+
+abbrev pub renamed_met : {A B : Type 0} → (A → B) → Met A → Met B
+renamed_met f (passes p s) = passes (f p) s
+
+abbrev pub renamed : {A B : Type 0} → (A → B) → Trail A → Trail B
+renamed f a = record { state = a.state; met = map (renamed_met f) a.met }
+
+module _ {A B : Type 0} (f : A → B) (name : ℕ → A) (may : State → State → Type 0) where
+  abbrev G : Node → Trail A → Outcome → Trail A → Type 0
+  G = Goes name may
+
+  abbrev R : Node → Trail B → Outcome → Trail B → Type 0
+  R = Goes (λ q. f (name q)) may
+
+  abbrev Turn : ℕ → ℕ → Cond → Node → Trail A → Trail A → Type 0
+  Turn q base c g u v = (w : Trail A) × Tests name may q base c true u w × G g w to_end v
+
+  abbrev RenamedTurn : ℕ → ℕ → Cond → Node → Trail B → Trail B → Type 0
+  RenamedTurn q base c g u v = (w : Trail B) × Tests (λ q. f (name q)) may q base c true u w × R g w to_end v
+
+  passes_renamed : (q : ℕ) (a b : Trail A) → Passes name may q a b → Passes (λ q. f (name q)) may q (renamed f a) (renamed f b)
+  passes_renamed q a b (m, e) = (m, ap (map (renamed_met f)) e)
+
+  tests_renamed : (q base : ℕ) (c : Cond) (w : Bool) (a b : Trail A) → Tests name may q base c w a b → Tests (λ q. f (name q)) may q base c w (renamed f a) (renamed f b)
+  tests_renamed q base c w a b (m, x, (o, e)) = (renamed f m, passes_renamed q a m x, (o, ap (map (renamed_met f)) e))
+
+  turns_renamed : (q base : ℕ) (c : Cond) (g : Node) → ((a b : Trail A) → G g a to_end b → R g (renamed f a) to_end (renamed f b)) → (n : ℕ) (a b : Trail A) → TrailRounds (Turn q base c g) n a b
+      → TrailRounds (RenamedTurn q base c g) n (renamed f a) (renamed f b)
+  turns_renamed q base c g each zero a b e = ap (renamed f) e
+  turns_renamed q base c g each (suc n) a b (m, r, (w, t, x)) = (renamed f m, turns_renamed q base c g each n a m r, (renamed f w, tests_renamed q base c true m w t, each w b x))
+
+  -- a trail by the one names is one by the others
+  pub goes_renamed : (g : Node) (a : Trail A) (u : Outcome) (b : Trail A) → G g a u b → R g (renamed f a) u (renamed f b)
+  goes_renamed empty a to_end b e = ap (renamed f) e
+  goes_renamed empty a (stopped z) b x = absurd x
+  goes_renamed (point q) a to_end b x = passes_renamed q a b x
+  goes_renamed (point q) a (stopped z) b (i, e) = (i, ap (renamed f) e)
+  goes_renamed (act q op) a to_end b (o, e) = (o, ap (map (renamed_met f)) e)
+  goes_renamed (act q op) a (stopped z) b x = absurd x
+  goes_renamed (check q base c) a to_end b (o, e) = (o, ap (map (renamed_met f)) e)
+  goes_renamed (check q base c) a (stopped z) b (i, e, t, o) = (i, ap (renamed f) e, t, o)
+  goes_renamed (seq g h) a to_end b (m, x, y) = (renamed f m, goes_renamed g a to_end m x, goes_renamed h m to_end b y)
+  goes_renamed (seq g h) a (stopped z) b (inl x) = inl (goes_renamed g a (stopped z) b x)
+  goes_renamed (seq g h) a (stopped z) b (inr (m, x, y)) = inr (renamed f m, goes_renamed g a to_end m x, goes_renamed h m (stopped z) b y)
+  goes_renamed (choose q base c g h) a u b (inl (m, (o, e), x)) = inl (renamed f m, (o, ap (map (renamed_met f)) e), goes_renamed g m u b x)
+  goes_renamed (choose q base c g h) a u b (inr (m, (o, e), x)) = inr (renamed f m, (o, ap (map (renamed_met f)) e), goes_renamed h m u b x)
+  goes_renamed (iterate q base c g) a to_end b (n, m, r, t) =
+      (n, renamed f m, turns_renamed q base c g (λ a b x. goes_renamed g a to_end b x) n a m r, tests_renamed q base c false m b t)
+  goes_renamed (iterate q base c g) a (stopped z) b (n, m, r, inl (i, e)) = (n, renamed f m, turns_renamed q base c g (λ a b x. goes_renamed g a to_end b x) n a m r, inl (i, ap (renamed f) e))
+  goes_renamed (iterate q base c g) a (stopped z) b (n, m, r, inr (w, t, x)) =
+      (n, renamed f m, turns_renamed q base c g (λ a b x. goes_renamed g a to_end b x) n a m r, inr (renamed f w, tests_renamed q base c true m w t, goes_renamed g w (stopped z) b x))
+  goes_renamed (catch q k g) a to_end b (inl x) = inl (goes_renamed g a to_end b x)
+  goes_renamed (catch q k g) a to_end b (inr x) = inr (goes_renamed g a (stopped (by_jump k)) b x)
+  goes_renamed (catch q k g) a (stopped z) b (d, x) = (d, goes_renamed g a (stopped z) b x)
+  goes_renamed (leave n k) a to_end b x = absurd x
+  goes_renamed (leave n k) a (stopped z) b (i, e) = (i, ap (renamed f) e)
+
+  -- the other way: a run by the others is one by the ones --------------------------------------------------------------
+
+  -- the trail in the ones' names
+  abbrev Named : Node → Trail A → Outcome → Trail B → Type 0
+  Named g a u b = (d : Trail A) × G g a u d × (b ≡ renamed f d)
+
+  tests_named : (q base : ℕ) (c : Cond) (w : Bool) (a : Trail A) (b : Trail B) → Tests (λ q. f (name q)) may q base c w (renamed f a) b →
+      (d : Trail A) × Tests name may q base c w a d × (b ≡ renamed f d)
+  tests_named q base c w a b (m, (x, i), (o, e)) = (
+    record { state = b.state; met = passes (name q) a.state ∷ a.met },
+    (record { state = m.state; met = passes (name q) a.state ∷ a.met }, (x, refl), (o, refl)),
+    ap (λ xs. let t : Trail B = record { state = b.state; met = xs } in t) (e ∙ i),
+  )
+
+  turns_named : (q base : ℕ) (c : Cond) (g : Node) → ((a : Trail A) (b : Trail B) → R g (renamed f a) to_end b → Named g a to_end b) → (n : ℕ) (a : Trail A) (b : Trail B)
+      → TrailRounds (RenamedTurn q base c g) n (renamed f a) b → (d : Trail A) × TrailRounds (Turn q base c g) n a d × (b ≡ renamed f d)
+  turns_named q base c g each zero a b e = (a, refl, e)
+  turns_named q base c g each (suc n) a b (m, r, (w, t, x)) =
+      let (d, y, i) = turns_named q base c g each n a m r in
+      let (v, t', j) = tests_named q base c true d w (subst (λ z. Tests (λ q. f (name q)) may q base c true z w) i t) in
+      let (e, x', k) = each v b (subst (λ z. R g z to_end b) j x) in
+      (e, (d, y, (v, t', x')), k)
+
+  performed_named : (op : Op) (a : Trail A) (b : Trail B) → Performs op (renamed f a) b → (d : Trail A) × Performs op a d × (b ≡ renamed f d)
+  performed_named op a b (o, e) = (record { state = b.state; met = a.met }, (o, refl), ap (λ xs. let t : Trail B = record { state = b.state; met = xs } in t) e)
+
+  pub goes_named : (g : Node) (a : Trail A) (u : Outcome) (b : Trail B) → R g (renamed f a) u b → Named g a u b
+  goes_named empty a to_end b e = (a, refl, e)
+  goes_named empty a (stopped z) b x = absurd x
+  goes_named (point q) a to_end b (m, e) =
+      (record { state = b.state; met = passes (name q) a.state ∷ a.met }, (m, refl), ap (λ xs. let t : Trail B = record { state = b.state; met = xs } in t) e)
+  goes_named (point q) a (stopped z) b (i, e) = (a, (i, refl), e)
+  goes_named (act q op) a to_end b x = performed_named op a b x
+  goes_named (act q op) a (stopped z) b x = absurd x
+  goes_named (check q base c) a to_end b x = performed_named (test base c true) a b x
+  goes_named (check q base c) a (stopped z) b (i, e, t, o) = (a, (i, refl, t, o), e)
+  goes_named (seq g h) a to_end b (m, x, y) =
+      let (d, x', i) = goes_named g a to_end m x in
+      let (e, y', j) = goes_named h d to_end b (subst (λ v. R h v to_end b) i y) in
+      (e, (d, x', y'), j)
+  goes_named (seq g h) a (stopped z) b (inl x) = let (d, x', i) = goes_named g a (stopped z) b x in (d, inl x', i)
+  goes_named (seq g h) a (stopped z) b (inr (m, x, y)) =
+      let (d, x', i) = goes_named g a to_end m x in
+      let (e, y', j) = goes_named h d (stopped z) b (subst (λ v. R h v (stopped z) b) i y) in
+      (e, inr (d, x', y'), j)
+  goes_named (choose q base c g h) a u b (inl (m, o, x)) =
+      let (d, o', i) = performed_named (test base c true) a m o in
+      let (e, x', j) = goes_named g d u b (subst (λ v. R g v u b) i x) in
+      (e, inl (d, o', x'), j)
+  goes_named (choose q base c g h) a u b (inr (m, o, x)) =
+      let (d, o', i) = performed_named (test base c false) a m o in
+      let (e, x', j) = goes_named h d u b (subst (λ v. R h v u b) i x) in
+      (e, inr (d, o', x'), j)
+  goes_named (iterate q base c g) a to_end b (n, m, r, t) =
+      let (d, r', i) = turns_named q base c g (λ a b x. goes_named g a to_end b x) n a m r in
+      let (e, t', j) = tests_named q base c false d b (subst (λ v. Tests (λ q. f (name q)) may q base c false v b) i t) in
+      (e, (n, d, r', t'), j)
+  goes_named (iterate q base c g) a (stopped z) b (n, m, r, inl (p, e)) =
+      let (d, r', i) = turns_named q base c g (λ a b x. goes_named g a to_end b x) n a m r in
+      (d, (n, d, r', inl (p, refl)), e ∙ i)
+  goes_named (iterate q base c g) a (stopped z) b (n, m, r, inr (w, t, x)) =
+      let (d, r', i) = turns_named q base c g (λ a b x. goes_named g a to_end b x) n a m r in
+      let (e, t', j) = tests_named q base c true d w (subst (λ v. Tests (λ q. f (name q)) may q base c true v w) i t) in
+      let (v, x', k) = goes_named g e (stopped z) b (subst (λ y. R g y (stopped z) b) j x) in
+      (v, (n, d, r', inr (e, t', x')), k)
+  goes_named (catch q k g) a to_end b (inl x) = let (d, x', i) = goes_named g a to_end b x in (d, inl x', i)
+  goes_named (catch q k g) a to_end b (inr x) = let (d, x', i) = goes_named g a (stopped (by_jump k)) b x in (d, inr x', i)
+  goes_named (catch q k g) a (stopped z) b (n, x) = let (d, x', i) = goes_named g a (stopped z) b x in (d, (n, x'), i)
+  goes_named (leave n k) a to_end b x = absurd x
+  goes_named (leave n k) a (stopped z) b (i, e) = (a, (i, refl), e)
+
+-- what was met before --------------------------------------------------------------------------------------------------
+
+module _ {A : Type 0} (name : ℕ → A) (may : State → State → Type 0) where
+  abbrev with : State → List (Met A) → Trail A
+  with t xs = record { state = t; met = xs }
+
+  -- the relation holds whatever was met before, and something new is met
+  abbrev pub Onward : (Trail A → Trail A → Type 0) → Trail A → Trail A → Type 0
+  Onward X a b = (new : List (Met A)) × (b.met ≡ new ++ a.met) × ((zs : List (Met A)) → X (with a.state zs) (with b.state (new ++ zs)))
+
+  onward_then : (X Y Z : Trail A → Trail A → Type 0) → ((a m b : Trail A) → X a m → Y m b → Z a b) → (a m b : Trail A) → Onward X a m → Onward Y m b → Onward Z a b
+  onward_then X Y Z f a m b (new, e, x) (newer, i, y) =
+      let joined : (zs : List (Met A)) → newer ++ (new ++ zs) ≡ (newer ++ new) ++ zs = λ zs. sym (append_assoc newer new zs) in (
+        newer ++ new,
+        i ∙ ap (λ v. newer ++ v) e ∙ joined a.met,
+        λ zs. f (with a.state zs) (with m.state (new ++ zs)) (with b.state ((newer ++ new) ++ zs)) (x zs) (subst (λ v. Y (with m.state (new ++ zs)) (with b.state v)) (joined zs) (y (new ++ zs))),
+      )
+
+  onward_as : (X Z : Trail A → Trail A → Type 0) → ((a b : Trail A) → X a b → Z a b) → (a b : Trail A) → Onward X a b → Onward Z a b
+  onward_as X Z f a b (new, e, x) = (new, e, λ zs. f (with a.state zs) (with b.state (new ++ zs)) (x zs))
+
+  stays_onward : (a b : Trail A) → b ≡ a → Onward (λ a b. b ≡ a) a b
+  stays_onward a b e = ([], ap (λ (t : Trail A). t.met) e, λ zs. ap (λ (t : Trail A). with t.state zs) e)
+
+  performs_onward : (op : Op) (a b : Trail A) → Performs op a b → Onward (Performs op) a b
+  performs_onward op a b (o, e) = ([], e, λ zs. (o, refl))
+
+  tests_onward : (q base : ℕ) (c : Cond) (w : Bool) (a b : Trail A) → Tests name may q base c w a b → Onward (Tests name may q base c w) a b
+  tests_onward q base c w a b (m, (x, e), (o, i)) = (passes (name q) a.state ∷ [], i ∙ e, λ zs. (with m.state (passes (name q) a.state ∷ zs), (x, refl), (o, refl)))
+
+  rounds_onward : (one : Trail A → Trail A → Type 0) → ((a b : Trail A) → one a b → Onward one a b) → (n : ℕ) (a b : Trail A) → TrailRounds one n a b → Onward (TrailRounds one n) a b
+  rounds_onward one each zero a b e = stays_onward a b e
+  rounds_onward one each (suc n) a b (m, r, x) =
+      onward_then (TrailRounds one n) one (TrailRounds one (suc n)) (λ a m b y z. (m, y, z)) a m b (rounds_onward one each n a m r) (each m b x)
+
+  abbrev Turning : ℕ → ℕ → Cond → Node → Trail A → Trail A → Type 0
+  Turning q base c g u v = (w : Trail A) × Tests name may q base c true u w × Goes name may g w to_end v
+
+  turns_onward : (q base : ℕ) (c : Cond) (g : Node) → ((a b : Trail A) → Goes name may g a to_end b → Onward (λ a b. Goes name may g a to_end b) a b) → (n : ℕ) (a b : Trail A)
+      → TrailRounds (Turning q base c g) n a b → Onward (TrailRounds (Turning q base c g) n) a b
+  turns_onward q base c g each n a b r = rounds_onward (Turning q base c g) (λ u v o. onward_then (Tests name may q base c true) (λ a b. Goes name may g a to_end b) (Turning q base c g)
+      (λ a m b y z. (m, y, z)) u o.0 v (tests_onward q base c true u o.0 o.1) (each o.0 v o.2)) n a b r
+
+  -- what is met doesn't depend on what was met before
+  pub goes_onward : (g : Node) (a : Trail A) (u : Outcome) (b : Trail A) → Goes name may g a u b → Onward (λ a b. Goes name may g a u b) a b
+  goes_onward empty a to_end b e = stays_onward a b e
+  goes_onward empty a (stopped z) b x = absurd x
+  goes_onward (point q) a to_end b (m, e) = (passes (name q) a.state ∷ [], e, λ zs. (m, refl))
+  goes_onward (point q) a (stopped z) b (i, e) = onward_as (λ a b. b ≡ a) (λ a b. Goes name may (point q) a (stopped z) b) (λ a b y. (i, y)) a b (stays_onward a b e)
+  goes_onward (act q op) a to_end b x = performs_onward op a b x
+  goes_onward (act q op) a (stopped z) b x = absurd x
+  goes_onward (check q base c) a to_end b x = performs_onward (test base c true) a b x
+  goes_onward (check q base c) a (stopped z) b (i, e, t, o) = ([], ap (λ (t : Trail A). t.met) e, λ zs. (i, ap (λ (t : Trail A). with t.state zs) e, t, o))
+  goes_onward (seq g h) a to_end b (m, x, y) = onward_then (λ a b. Goes name may g a to_end b) (λ a b. Goes name may h a to_end b) (λ a b. Goes name may (seq g h) a to_end b)
+      (λ a m b y z. (m, y, z)) a m b (goes_onward g a to_end m x) (goes_onward h m to_end b y)
+  goes_onward (seq g h) a (stopped z) b (inl x) = onward_as (λ a b. Goes name may g a (stopped z) b) (λ a b. Goes name may (seq g h) a (stopped z) b) (λ a b y. inl y) a b
+      (goes_onward g a (stopped z) b x)
+  goes_onward (seq g h) a (stopped z) b (inr (m, x, y)) =
+      onward_then (λ a b. Goes name may g a to_end b) (λ a b. Goes name may h a (stopped z) b) (λ a b. Goes name may (seq g h) a (stopped z) b)
+      (λ a m b y z. inr (m, y, z)) a m b (goes_onward g a to_end m x) (goes_onward h m (stopped z) b y)
+  goes_onward (choose q base c g h) a u b (inl (m, o, x)) =
+      onward_then (Performs (test base c true)) (λ a b. Goes name may g a u b) (λ a b. Goes name may (choose q base c g h) a u b)
+      (λ a m b y z. inl (m, y, z)) a m b (performs_onward (test base c true) a m o) (goes_onward g m u b x)
+  goes_onward (choose q base c g h) a u b (inr (m, o, x)) =
+      onward_then (Performs (test base c false)) (λ a b. Goes name may h a u b) (λ a b. Goes name may (choose q base c g h) a u b)
+      (λ a m b y z. inr (m, y, z)) a m b (performs_onward (test base c false) a m o) (goes_onward h m u b x)
+  goes_onward (iterate q base c g) a to_end b (n, m, r, t) =
+      onward_then (TrailRounds (Turning q base c g) n) (Tests name may q base c false) (λ a b. Goes name may (iterate q base c g) a to_end b)
+      (λ a m b y z. (n, m, y, z)) a m b (turns_onward q base c g (λ a b x. goes_onward g a to_end b x) n a m r) (tests_onward q base c false m b t)
+  goes_onward (iterate q base c g) a (stopped z) b (n, m, r, inl (i, e)) =
+      onward_then (TrailRounds (Turning q base c g) n) (λ a b. b ≡ a) (λ a b. Goes name may (iterate q base c g) a (stopped z) b)
+      (λ a m b y x. (n, m, y, inl (i, x))) a m b (turns_onward q base c g (λ a b x. goes_onward g a to_end b x) n a m r) (stays_onward m b e)
+  goes_onward (iterate q base c g) a (stopped z) b (n, m, r, inr (w, t, x)) =
+      onward_then (TrailRounds (Turning q base c g) n) (λ a b. (w : Trail A) × Tests name may q base c true a w × Goes name may g w (stopped z) b)
+      (λ a b. Goes name may (iterate q base c g) a (stopped z) b)
+      (λ a m b y x. (n, m, y, inr x)) a m b (turns_onward q base c g (λ a b x. goes_onward g a to_end b x) n a m r)
+      (onward_then (Tests name may q base c true) (λ a b. Goes name may g a (stopped z) b) (λ a b. (w : Trail A) × Tests name may q base c true a w × Goes name may g w (stopped z) b)
+      (λ a m b y z. (m, y, z)) m w b (tests_onward q base c true m w t) (goes_onward g w (stopped z) b x))
+  goes_onward (catch q k g) a to_end b (inl x) =
+      onward_as (λ a b. Goes name may g a to_end b) (λ a b. Goes name may (catch q k g) a to_end b) (λ a b y. inl y) a b (goes_onward g a to_end b x)
+  goes_onward (catch q k g) a to_end b (inr x) =
+      onward_as (λ a b. Goes name may g a (stopped (by_jump k)) b) (λ a b. Goes name may (catch q k g) a to_end b) (λ a b y. inr y) a b (goes_onward g a (stopped (by_jump k)) b x)
+  goes_onward (catch q k g) a (stopped z) b (d, x) =
+      onward_as (λ a b. Goes name may g a (stopped z) b) (λ a b. Goes name may (catch q k g) a (stopped z) b) (λ a b y. (d, y)) a b (goes_onward g a (stopped z) b x)
+  goes_onward (leave n k) a to_end b x = absurd x
+  goes_onward (leave n k) a (stopped z) b (i, e) =
+      onward_as (λ a b. b ≡ a) (λ a b. Goes name may (leave n k) a (stopped z) b) (λ a b y. (i, y)) a b (stays_onward a b e)
