@@ -4,7 +4,6 @@
 //! runs, and which tree stands for which program. Here it is proved that the two agree, and `build` makes the tree.
 #![tactic(auto)]
 
-mod forms;
 mod frame;
 mod inlining;
 mod places;

@@ -3,6 +3,7 @@
 //! Most of the crate is definitions: `specs/` is to be read from top to bottom, in the order of `specs/Lib.antt`.
 #![tactic(auto)]
 
+pub mod forms;
 mod graph;
 
 pub use graph::{Exit, Graph, Node, Op, Path, Site};

@@ -8,9 +8,9 @@ ghost use Rattle.lra_graph.specs.Building.{callee_frame};
 ghost use Rattle.lra_graph.specs.declared.frame.Frame.{Frame};
 ghost use Rattle.lra_graph.specs.Inlining.{CallStands, IsCall, StopsAnywhere, StopsBehind};
 
-use crate::forms::{CallPlace, enclose_call};
 use crate::frame::{Around, Back, Caller, Frame};
 use crate::points::{GraphError, Limit, add_point, finish};
+use lra_operations::forms::{CallPlace, enclose_call};
 use lra_operations::{Node, Path, Site};
 use lra_program::{Call, Function, Program};
 

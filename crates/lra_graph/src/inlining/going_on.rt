@@ -12,12 +12,14 @@ ghost use Rattle.lra_graph.specs.declared.places.Place.TheVariants as place;
 use super::calls::end_call;
 use super::parts::next_item;
 use super::returns::leave_call;
-use crate::forms::{add_part, choice, close_block, declare, enclose_for, put_point, rounds};
 use crate::frame::{Around, Frame, Source};
 use crate::places::{
     Branches, CalledFrom, Forked, ItemRow, Next, Open, Part, Place, Written, close,
 };
 use crate::points::{GraphError, add_point};
+use lra_operations::forms::{
+    add_part, choice, close_block, declare, enclose_for, put_point, rounds,
+};
 use lra_operations::{Path, Site};
 use std::alloc::Global;
 use std::mem;

@@ -9,9 +9,9 @@ ghost use Rattle.lra_graph.specs.Limits.{OnLimit};
 ghost use Rattle.lra_graph.specs.Inlining.{points_in, own_events, assertion_events, Passes, Stops, StmtStands};
 ghost use Rattle.lra_graph.specs.Inlining.{StopsStmt, IsLone, IsStmt, IsPlain, IsExit};
 
-use crate::forms::{cut_and_leave, put_point};
 use crate::frame::Around;
 use crate::points::{GraphError, add_point, finish};
+use lra_operations::forms::{cut_and_leave, put_point};
 use lra_operations::{Exit, Node, Op, Site};
 use lra_program::{Cond, Stmt};
 

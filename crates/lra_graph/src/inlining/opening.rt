@@ -18,10 +18,10 @@ ghost use Rattle.lra_graph.specs.declared.places.Forked.TheVariants as forked;
 
 use super::lone::{inline_lone, open_point};
 use super::returns::open_return;
-use crate::forms::{declare, put_point};
 use crate::frame::{Around, Caller, Frame, Repeated};
 use crate::places::{Branches, Forked, Next, Open, Part, Place, Written, close};
 use crate::points::{GraphError, Limit, add_point};
+use lra_operations::forms::{declare, put_point};
 use lra_operations::{Node, Op, Site};
 use lra_program::{BlockItem, Call, Cond, Declarator, Rvalue, Slot, Stmt};
 

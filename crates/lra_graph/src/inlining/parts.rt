@@ -15,10 +15,10 @@ ghost use Rattle.lra_graph.specs.Steps.{next_left, work_steps};
 
 use super::calls::{callee, enter_call};
 use super::opening::{open_declaration, open_rounds, open_stmt};
-use crate::forms::put_in_a_row;
 use crate::frame::{Around, Caller, Frame, Source};
 use crate::places::{CalledFrom, ItemRow, Next, Open, Part, Place, close};
 use crate::points::GraphError;
+use lra_operations::forms::put_in_a_row;
 use lra_operations::{Node, Path, Site};
 use lra_program::{BlockItem, Call};
 use std::alloc::Global;

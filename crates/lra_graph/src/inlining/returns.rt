@@ -12,10 +12,10 @@ ghost use Rattle.lra_graph.specs.Open.{a_stmt, LeadsFrom};
 ghost use Rattle.lra_graph.specs.Steps.{FallsFrom};
 
 use super::lone::open_point;
-use crate::forms::{cut_and_leave, give_and_leave, put_in_turn, put_point};
 use crate::frame::{Around, Back, Caller, Frame};
 use crate::places::{Next, Open, Part, Place, close};
 use crate::points::GraphError;
+use lra_operations::forms::{cut_and_leave, give_and_leave, put_in_turn, put_point};
 use lra_operations::{Exit, Node, Op, Site};
 use lra_program::{Call, Expr, Rvalue};
 use std::alloc::{AllocError, Global};

@@ -12,9 +12,9 @@ ghost use Rattle.lra_operations.specs.GraphViews.{node_view, site_view};
 ghost use Rattle.lra_graph.specs.Limits.{OnLimit, refusal_of};
 
 use super::inline_items;
-use crate::forms::put_in_turn;
 use crate::frame::{Around, Frame};
 use crate::points::{GREATEST_CALLS, GraphError, add_point};
+use lra_operations::forms::put_in_turn;
 use lra_operations::{Graph, Node, Path};
 use lra_program::Program;
 use std::alloc::Global;

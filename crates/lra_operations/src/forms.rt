@@ -1,4 +1,4 @@
-//! The forms of which a program's tree is made.
+//! The forms of which a program's tree is made, from their parts.
 
 ghost use Rattle.std.specs.Prelude.{◌≡◌, ◌+◌, ◌<◌, ◌^◌, ◌++◌, ◌∷◌, [], map, IfOk};
 ghost use Rattle.lra_program.specs.Step as step;
@@ -7,7 +7,7 @@ ghost use Rattle.lra_operations.specs.Inlined.{loop_node, call_node, return_node
 ghost use Rattle.lra_program.specs.ProgramViews.{expr_view, cond_view};
 ghost use Rattle.lra_operations.specs.GraphViews.{op_view, exit_view, node_view, row};
 
-use lra_operations::{Exit, Node, Op};
+use crate::{Exit, Node, Op};
 use lra_program::{Cond, Expr, copy_expressions};
 use std::alloc::{AllocError, Global};
 
