@@ -11,7 +11,7 @@ use Rattle.lra_operations.specs.Graph.{Node}
 use Rattle.lra_operations.specs.Trails.{to_point, to_failure}
 use Rattle.lra_program.specs.Sites.{Site, sites_of}
 use Rattle.lra_operations.specs.Agree.{begins, IsGraph, Reached, Failed, point_of, AreDistinct, GraphsAgree}
-use Rattle.lra_operations.specs.TrailsAgree.{KeepsWidth, point_at, point_or_none, Leads, TrailsAgree, GraphsHaveTrails}
+use Rattle.lra_operations.specs.TrailsAgree.{KeepsWidth, point_at, point_or_none, TreeGoes, TrailsAgree, GraphsHaveTrails}
 use Rattle.lra_operations.proofs.TrailLaws as trees
 use Rattle.lra_graph.proofs.Split.{trail}
 use Rattle.lra_graph.proofs.Reached.{reached}
@@ -30,19 +30,19 @@ not_empty : {x : Met Point} {xs : List (Met Point)} → x ∷ xs ≡ [] → ⊥
 not_empty e = cc
 
 module _ (may : State → State → Type 0) (keeps : KeepsWidth may) (P : Program) (g : Node) (distinct : AreDistinct (sites_of P)) (is : IsGraph P g) where
-  to_tree : (number : ℕ) (s : Site) (draws : List ℤ) (a : Trail Point) → slice_get (sites_of P) number ≡ Some s → Arrives may P draws (point_of s) a → Leads may P g draws (to_point number) a
+  to_tree : (number : ℕ) (s : Site) (draws : List ℤ) (a : Trail Point) → slice_get (sites_of P) number ≡ Some s → Arrives may P draws (point_of s) a → TreeGoes may P g draws (to_point number) a
   to_tree number s draws a at (n, c, w, on, same) =
       let hit = reached may keeps P g is c a.met (point_of s) draws n w on in
       let here = distinct hit.number number _ s hit.site at on.path refl in
-      subst (λ t. Leads may P g draws (to_point number) (trail t a.met)) same
-      (subst (λ q. Leads may P g draws (to_point q) (trail c.state a.met)) here (hit.leads (to_point hit.number) (trail c.state a.met) (refl, refl)))
+      subst (λ t. TreeGoes may P g draws (to_point number) (trail t a.met)) same
+      (subst (λ q. TreeGoes may P g draws (to_point q) (trail c.state a.met)) here (hit.leads (to_point hit.number) (trail c.state a.met) (refl, refl)))
 
-  to_false : (number : ℕ) (s : Site) (draws : List ℤ) (a : Trail Point) → slice_get (sites_of P) number ≡ Some s → Denies may P draws (point_of s) a → Leads may P g draws (to_failure number) a
+  to_false : (number : ℕ) (s : Site) (draws : List ℤ) (a : Trail Point) → slice_get (sites_of P) number ≡ Some s → Denies may P draws (point_of s) a → TreeGoes may P g draws (to_failure number) a
   to_false number s draws a at (n, c, xs, w, on, becomes, fails, met) =
       let hit = reached may keeps P g is c xs (point_of s) draws n w on in
       let here = distinct hit.number number _ s hit.site at on.path refl in
       let same = ap (λ (x : List ℕ). let p : Point = record { path = x; label = s.label } in passes p c.state ∷ xs) (sym on.path) in
-      subst (λ q. Leads may P g draws (to_failure q) a) here (hit.leads (to_failure hit.number) a (refl, becomes, fails, met ∙ same))
+      subst (λ q. TreeGoes may P g draws (to_failure q) a) here (hit.leads (to_failure hit.number) a (refl, becomes, fails, met ∙ same))
 
   -- a run that stands at the site stands at its point
   on_site : (number : ℕ) (s : Site) (c : Config) (label : ℕ) (r : Site) → slice_get (sites_of P) number ≡ Some s → slice_get (sites_of P) number ≡ Some r → c.here.path ≡ r.path → label ≡ r.label
@@ -51,12 +51,12 @@ module _ (may : State → State → Type 0) (keeps : KeepsWidth may) (P : Progra
       let h = same_Some _ _ (sym there ∙ at) in
       record { label = on ∙ ap Some lab ∙ ap (λ (z : Site). Some z.label) h; path = path ∙ ap (λ (z : Site). z.path) h }
 
-  to_run : (number : ℕ) (s : Site) (draws : List ℤ) (a : Trail Point) → slice_get (sites_of P) number ≡ Some s → Leads may P g draws (to_point number) a → Arrives may P draws (point_of s) a
+  to_run : (number : ℕ) (s : Site) (draws : List ℤ) (a : Trail Point) → slice_get (sites_of P) number ≡ Some s → TreeGoes may P g draws (to_point number) a → Arrives may P draws (point_of s) a
   to_run number s draws a at x =
       let y = performed may keeps P g is draws number a x in
       (y.runs.0, y.there, y.runs.1, on_site number s y.there y.label _ at y.site refl refl y.on, y.state)
 
-  to_denied : (number : ℕ) (s : Site) (draws : List ℤ) (a : Trail Point) → slice_get (sites_of P) number ≡ Some s → Leads may P g draws (to_failure number) a → Denies may P draws (point_of s) a
+  to_denied : (number : ℕ) (s : Site) (draws : List ℤ) (a : Trail Point) → slice_get (sites_of P) number ≡ Some s → TreeGoes may P g draws (to_failure number) a → Denies may P draws (point_of s) a
   to_denied number s draws a at x =
       let y = failed may keeps P g is draws number a x in
       let h = same_Some _ _ (sym y.site ∙ at) in (
@@ -70,7 +70,7 @@ module _ (may : State → State → Type 0) (keeps : KeepsWidth may) (P : Progra
         y.met ∙ ap (λ (z : Site). passes (point_of z) y.there.state ∷ y.before) h,
       )
 
-  wide : (number : ℕ) (s : Site) (draws : List ℤ) (a : Trail Point) → slice_get (sites_of P) number ≡ Some s → Leads may P g draws (to_point number) a → length a.state.store ≡ s.live
+  wide : (number : ℕ) (s : Site) (draws : List ℤ) (a : Trail Point) → slice_get (sites_of P) number ≡ Some s → TreeGoes may P g draws (to_point number) a → length a.state.store ≡ s.live
   wide number s draws a at x =
       let y = performed may keeps P g is draws number a x in
       ap (λ (t : State). length t.store) (sym y.state) ∙ ap (λ (z : Site). z.live) (same_Some _ _ (sym y.site ∙ at))
@@ -81,20 +81,20 @@ module _ (may : State → State → Type 0) (keeps : KeepsWidth may) (P : Progra
       (hit.number, _, hit.site, ap (λ (x : List ℕ). let q : Point = record { path = x; label = p.label } in q) (sym on.path))
 
   -- what is met was a point of the tree, on what was met before it
-  came_before : (number : ℕ) (draws : List ℤ) (a : Trail Point) (p : Point) (t : State) (xs : List (Met Point)) → Leads may P g draws (to_point number) a → a.met ≡ passes p t ∷ xs
-      → (earlier : ℕ) × (s : Site) × (slice_get (sites_of P) earlier ≡ Some s) × (p ≡ point_of s) × Leads may P g draws (to_point earlier) (trail t xs)
+  came_before : (number : ℕ) (draws : List ℤ) (a : Trail Point) (p : Point) (t : State) (xs : List (Met Point)) → TreeGoes may P g draws (to_point number) a → a.met ≡ passes p t ∷ xs
+      → (earlier : ℕ) × (s : Site) × (slice_get (sites_of P) earlier ≡ Some s) × (p ≡ point_of s) × TreeGoes may P g draws (to_point earlier) (trail t xs)
   came_before number draws a p t xs x met =
       let y = performed may keeps P g is draws number a x in
       by y.runs.0 y.there (last_met may P y.runs.0 (start P draws) y.there [] a.met y.runs.1)
     where
-      led : Arrives may P draws p (trail t xs) → (earlier : ℕ) × (s : Site) × (slice_get (sites_of P) earlier ≡ Some s) × (p ≡ point_of s) × Leads may P g draws (to_point earlier) (trail t xs)
+      led : Arrives may P draws p (trail t xs) → (earlier : ℕ) × (s : Site) × (slice_get (sites_of P) earlier ≡ Some s) × (p ≡ point_of s) × TreeGoes may P g draws (to_point earlier) (trail t xs)
       led v =
           let (earlier, s, at, same) = nowhere_else p draws (trail t xs) v in
           (earlier, s, at, same, to_tree earlier s draws (trail t xs) at (subst (λ q. Arrives may P draws q (trail t xs)) same v))
 
       by : (n : ℕ) (d : Config) → Quiet may P n (start P draws) d [] a.met ⊎ LastMet may P (start P draws) d [] a.met →
           (earlier : ℕ) × (s : Site) × (slice_get (sites_of P) earlier ≡ Some s) × (p ≡ point_of s)
-          × Leads may P g draws (to_point earlier) (trail t xs)
+          × TreeGoes may P g draws (to_point earlier) (trail t xs)
       by n d (inl (i, quiet)) = absurd (not_empty (sym met ∙ i))
       by n d (inr r) =
           let same = sym met ∙ r.met in
@@ -107,7 +107,7 @@ module _ (may : State → State → Type 0) (keeps : KeepsWidth may) (P : Progra
                 (met_state same),
           )
 
-  denied_at : (number : ℕ) (draws : List ℤ) (a : Trail Point) → Leads may P g draws (to_failure number) a → (b : Trail Point) × Leads may P g draws (to_point number) b × may b.state a.state
+  denied_at : (number : ℕ) (draws : List ℤ) (a : Trail Point) → TreeGoes may P g draws (to_failure number) a → (b : Trail Point) × TreeGoes may P g draws (to_point number) b × may b.state a.state
       × (a.met ≡ passes (point_at (sites_of P) number) b.state ∷ b.met)
   denied_at number draws a x =
       let y = failed may keeps P g is draws number a x in

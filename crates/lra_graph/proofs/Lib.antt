@@ -9,6 +9,7 @@ pub mod Does
 pub mod Reached
 pub mod Performed
 pub mod Agreement
+pub mod Pieces
 -- Points are distinct.
 pub mod DistinctLists
 pub mod DistinctSites

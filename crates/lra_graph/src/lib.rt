@@ -27,7 +27,7 @@ pub fn graphs_agree()
     ensures well_formed { WellFormedAgree }
 {}
 
-/// They do so on the same trails: past the same points, in the same states, one behind the other.
+/// On the way to each point and each failure, a program's tree and its runs pass the same points in the same states.
 ///
 /// Does nothing: its contract is the theorem.
 pub fn trails_agree()

@@ -10,7 +10,7 @@ use Rattle.lra_operations.specs.Graph.{Node}
 use Rattle.lra_operations.specs.Trails.{to_point, to_failure, Stop, stopped, Goes}
 use Rattle.lra_operations.specs.Agree.{begins, IsGraph, point_of, AreDistinct}
 
--- the point that has the number in the list; no trail asks for one that isn't there
+-- the point that has the number in the list; a program's tree has no others
 abbrev pub point_or_none : Option Site → Point
 point_or_none None = record { path = []; label = 0 }
 point_or_none (Some s) = point_of s
@@ -24,32 +24,32 @@ KeepsWidth may = (s t : State) → may s t → length t.store ≡ length s.store
 
 module _ (may : State → State → Type 0) (P : Program) (g : Node) where
   -- the tree of the program, begun with these draws, goes so far on this trail
-  abbrev pub Leads : List ℤ → Stop → Trail Point → Type 0
-  Leads draws z a = Goes (point_at (sites_of P)) may g (record { state = begins P draws; met = [] }) (stopped z) a
+  abbrev pub TreeGoes : List ℤ → Stop → Trail Point → Type 0
+  TreeGoes draws z a = Goes (point_at (sites_of P)) may g (record { state = begins P draws; met = [] }) (stopped z) a
 
   pub record TrailsAgree : Type 0 where
     -- a run comes to the point on the trail exactly where the tree does
     pub comes : (number : ℕ) (s : Site) (draws : List ℤ) (a : Trail Point) →
         slice_get (sites_of P) number ≡ Some s →
-        (Arrives may P draws (point_of s) a ↔ Leads draws (to_point number) a)
+        (Arrives may P draws (point_of s) a ↔ TreeGoes draws (to_point number) a)
     -- and fails there exactly where the tree does
     pub fails : (number : ℕ) (s : Site) (draws : List ℤ) (a : Trail Point) →
         slice_get (sites_of P) number ≡ Some s →
-        (Denies may P draws (point_of s) a ↔ Leads draws (to_failure number) a)
+        (Denies may P draws (point_of s) a ↔ TreeGoes draws (to_failure number) a)
     -- the store has as many variables as live there
     pub width : (number : ℕ) (s : Site) (draws : List ℤ) (a : Trail Point) →
-        slice_get (sites_of P) number ≡ Some s → Leads draws (to_point number) a → length a.state.store ≡ s.live
+        slice_get (sites_of P) number ≡ Some s → TreeGoes draws (to_point number) a → length a.state.store ≡ s.live
     -- no run is at another point
     pub others : (p : Point) (draws : List ℤ) (a : Trail Point) → Arrives may P draws p a → (number : ℕ) ×
         (s : Site) × (slice_get (sites_of P) number ≡ Some s) × (p ≡ point_of s)
     -- each point that was met is one to which the tree comes, on what was met before it
     pub before : (number : ℕ) (draws : List ℤ) (a : Trail Point) (p : Point) (t : State) (xs : List (Met Point)) →
-        Leads draws (to_point number) a → a.met ≡ passes p t ∷ xs → (earlier : ℕ) × (s : Site) ×
+        TreeGoes draws (to_point number) a → a.met ≡ passes p t ∷ xs → (earlier : ℕ) × (s : Site) ×
         (slice_get (sites_of P) earlier ≡ Some s) × (p ≡ point_of s) ×
-        Leads draws (to_point earlier) (record { state = t; met = xs })
+        TreeGoes draws (to_point earlier) (record { state = t; met = xs })
     -- before a failure the tree is at its point, which is met last
-    pub denied : (number : ℕ) (draws : List ℤ) (a : Trail Point) → Leads draws (to_failure number) a →
-        (b : Trail Point) × Leads draws (to_point number) b × may b.state a.state ×
+    pub denied : (number : ℕ) (draws : List ℤ) (a : Trail Point) → TreeGoes draws (to_failure number) a →
+        (b : Trail Point) × TreeGoes draws (to_point number) b × may b.state a.state ×
         (a.met ≡ passes (point_at (sites_of P) number) b.state ∷ b.met)
 
 -- each tree of a program, which runs alone, has the program's trails
