@@ -23,7 +23,7 @@ use crate::frame::{Around, Frame, Source};
 use crate::places::{Next, Open, Part, Written};
 use crate::points::GraphError;
 use going_on::go_on;
-use lra_operations::{Node, Path, Site};
+use lra_operations::{Path, Site};
 use lra_program::BlockItem;
 use parts::open_part;
 use std::alloc::AllocError;
@@ -95,12 +95,13 @@ fn inline_items<'a>(
     around: &Around<'a>,
     items: &'a [BlockItem],
     sites: &mut Vec<Site>,
-) -> Result<(Node, usize), GraphError>
+) -> Result<Written, GraphError>
     requires well { IsWellFormed (program_around around.now) }
     requires stands { ItemsStand around.now (items_of (map item_view items.now)) }
-    ensures last { IfOk result (λ r. r.1 ≡ live_behind around.now.frame.live (items_of (map item_view items.now))) }
-    ensures written { IfOk result (λ r. AreItems around.now sites.old sites.new
-        (items_of (map item_view items.now)) r.0) }
+    ensures last { IfOk result (λ w. w.live ≡ live_behind around.now.frame.live
+        (items_of (map item_view items.now))) }
+    ensures written { IfOk result (λ w. AreItems around.now sites.old sites.new
+        (items_of (map item_view items.now)) w.node) }
     ensures limit { OnLimit result (StopsItems around.now sites.old (items_of (map item_view items.now))) }
 {
     let source = Source {
@@ -109,6 +110,5 @@ fn inline_items<'a>(
     };
     let mut path = around.path.copy(around.alloc)?;
     let first = open_part(source, &mut path, sites, around.frame, Part::Items(items))?;
-    let all = write_out(source, &mut path, sites, first)?;
-    Ok((all.node, all.live))
+    write_out(source, &mut path, sites, first)
 }

@@ -49,8 +49,8 @@ pub fn build(alloc: Global, program: &Program) -> Result<Graph, GraphError>
         frame,
     };
     let mut sites = Vec::new(alloc);
-    let (body, last) = inline_items(&around, &main.body.items, &mut sites)?;
-    let end = add_point(alloc, &path, main.end, last, false, &mut sites)?;
-    let tree = put_in_turn(alloc, body, Node::Point(end))?;
+    let body = inline_items(&around, &main.body.items, &mut sites)?;
+    let end = add_point(alloc, &path, main.end, body.live, false, &mut sites)?;
+    let tree = put_in_turn(alloc, body.node, Node::Point(end))?;
     Ok(Graph { tree, sites })
 }

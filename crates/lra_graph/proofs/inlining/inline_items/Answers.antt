@@ -1,15 +1,32 @@
--- Goals of `inline_items`: the limit that the writing out passes is that of the items, on the path as it was copied.
-use Rattle.std.proofs.Common.{map}
+-- Goals of `inline_items`: what is written out is the items, on the path as it was copied.
+use Rattle.std.proofs.Common.{◌≡◌, map}
+use Rattle.lra_program.specs.Sites.{live_behind}
 use Rattle.lra_program.specs.ProgramViews.{item_view, items_of}
-use Rattle.lra_graph.specs.Inlining.{points_in, program_around, StopsItems}
-use Rattle.lra_graph.specs.Open.{due, all_items, Stops}
-use Rattle.lra_graph.proofs.Stopping.{err_stopped}
+use Rattle.lra_operations.specs.GraphViews.{node_view}
+use Rattle.lra_graph.specs.Inlining.{points_in, program_around, StopsItems, AreItems}
+use Rattle.lra_graph.specs.Open.{due, all_items, Stops, IsWritten}
+use Rattle.lra_graph.proofs.Stopping.{ok_through, limit_through}
 use Rattle.lra_graph.proofs.inlining.inline_items.Goals as goal
 
-pub returns-in_err-all-clause-limit : goal.returns-in_err-all-clause-limit
-returns-in_err-all-clause-limit c =
+pub returns-clause-last : goal.returns-clause-last
+returns-clause-last c =
     let here = c.args.around.now in
     let all = items_of (map item_view c.args.items.now) in
     let whole = due (all_items all) c.in_ok-path.path here.frame (points_in c.args.sites.now) in
-    err_stopped c.from_residual-in_err-all.result _ (Stops (program_around here) whole) (StopsItems here c.args.sites.now all) c.from_residual-in_err-all.ensures.1
-    (λ l h. rw c.in_ok-path.ensures at h) (c.in_err-all.ensures.limit whole c.in_ok-first.ensures.leads)
+    ok_through c.write_out.result (λ w. IsWritten (program_around here) whole (node_view w.node) w.live (points_in c.write_out.new.sites)) (λ w. w.live ≡ live_behind here.frame.live all)
+    (λ w h. h.1) (c.write_out.ensures.written whole c.in_ok-first.ensures.leads)
+
+pub returns-clause-written : goal.returns-clause-written
+returns-clause-written c =
+    let here = c.args.around.now in
+    let all = items_of (map item_view c.args.items.now) in
+    let whole = due (all_items all) c.in_ok-path.path here.frame (points_in c.args.sites.now) in
+    ok_through c.write_out.result (λ w. IsWritten (program_around here) whole (node_view w.node) w.live (points_in c.write_out.new.sites))
+    (λ w. AreItems here c.args.sites.now c.write_out.new.sites all w.node) (λ w h. rw c.in_ok-path.ensures at h.0) (c.write_out.ensures.written whole c.in_ok-first.ensures.leads)
+
+pub returns-clause-limit : goal.returns-clause-limit
+returns-clause-limit c =
+    let here = c.args.around.now in
+    let all = items_of (map item_view c.args.items.now) in
+    let whole = due (all_items all) c.in_ok-path.path here.frame (points_in c.args.sites.now) in
+    limit_through c.write_out.result (Stops (program_around here) whole) (StopsItems here c.args.sites.now all) (λ l h. rw c.in_ok-path.ensures at h) (c.write_out.ensures.limit whole c.in_ok-first.ensures.leads)

@@ -44,7 +44,7 @@ returns-in_err-body-clause-limit c = let p = err_from_is_err_and c.from_residual
 
 pub returns-in_err-end-clause-limit : goal.returns-in_err-end-clause-limit
 returns-in_err-end-clause-limit c = let p = err_from_is_err_and c.from_residual-in_err-end.result c.from_residual-in_err-end.ensures.1 in limit_to c.from_residual-in_err-end.result p.0 _
-    (λ x. walk (map site_view c.inline_items.new.sites.items) (plain_site c.empty-path.result c.index-main.result.now.end c.in_ok-body.last ∷ []) ≡ stopped x)
+    (λ x. walk (map site_view c.inline_items.new.sites.items) (plain_site c.empty-path.result c.index-main.result.now.end c.in_ok-body.body.live ∷ []) ≡ stopped x)
     (λ x. (ls : List Labelled) → limit_fault ls 0 (events_of (program_view c.args.program.now)) ≡ Some (refusal_of ls x)) p.1 p.2
     (λ x h. refused_at_end (program_view c.args.program.now) c.requires c.empty-path.result
     (record { base = c.len-globals.result; live = c.len-globals.result; calls_left = 32; loop_length = None; back = None }) (map site_view c.new-sites.result.items)
@@ -53,7 +53,7 @@ returns-in_err-end-clause-limit c = let p = err_from_is_err_and c.from_residual-
     (main_body c.args.program.now c.index-main.result.now (main_read c.args.program.now c.index-main.result.now c.requires c.index-main.ensures)
     ∙ sym (ap (λ z. items_of (map item_view z)) c.deref.ensures.value))
     (main_end c.args.program.now c.index-main.result.now (main_read c.args.program.now c.index-main.result.now c.requires c.index-main.ensures)) (map site_view c.inline_items.new.sites.items)
-    (node_view c.in_ok-body.body) c.in_ok-body.last x c.in_ok-body.ensures.last c.in_ok-body.ensures.written h) c.in_err-end.ensures.limit
+    (node_view c.in_ok-body.body.node) c.in_ok-body.body.live x c.in_ok-body.ensures.last c.in_ok-body.ensures.written h) c.in_err-end.ensures.limit
 
 pub returns-clause-graph : goal.returns-clause-graph
 returns-clause-graph c = made_graph (program_view c.args.program.now) c.requires c.empty-path.result
@@ -63,8 +63,8 @@ returns-clause-graph c = made_graph (program_view c.args.program.now) c.requires
     (main_body c.args.program.now c.index-main.result.now (main_read c.args.program.now c.index-main.result.now c.requires c.index-main.ensures)
     ∙ sym (ap (λ z. items_of (map item_view z)) c.deref.ensures.value))
     (main_end c.args.program.now c.index-main.result.now (main_read c.args.program.now c.index-main.result.now c.requires c.index-main.ensures)) (map site_view c.inline_items.new.sites.items)
-    (map site_view c.add_point.new.sites.items) c.in_ok-body.last c.in_ok-end.end (node_view c.in_ok-body.body) c.in_ok-body.ensures.last c.in_ok-body.ensures.written c.in_ok-end.ensures.walked
-    (node_view c.in_ok-tree.tree) c.in_ok-end.ensures.number (c.in_ok-tree.ensures ∙ ap (λ z. seq (node_view c.in_ok-body.body) z) (shown_point c.in_ok-end.end))
+    (map site_view c.add_point.new.sites.items) c.in_ok-body.body.live c.in_ok-end.end (node_view c.in_ok-body.body.node) c.in_ok-body.ensures.last c.in_ok-body.ensures.written c.in_ok-end.ensures.walked
+    (node_view c.in_ok-tree.tree) c.in_ok-end.ensures.number (c.in_ok-tree.ensures ∙ ap (λ z. seq (node_view c.in_ok-body.body.node) z) (shown_point c.in_ok-end.end))
 
 pub returns-clause-agrees : goal.returns-clause-agrees
 returns-clause-agrees c = graphs_agree (program_view c.args.program.now) (node_view c.in_ok-tree.tree) (distinct_sites (program_view c.args.program.now) c.requires)
@@ -75,8 +75,8 @@ returns-clause-agrees c = graphs_agree (program_view c.args.program.now) (node_v
     (main_body c.args.program.now c.index-main.result.now (main_read c.args.program.now c.index-main.result.now c.requires c.index-main.ensures)
     ∙ sym (ap (λ z. items_of (map item_view z)) c.deref.ensures.value))
     (main_end c.args.program.now c.index-main.result.now (main_read c.args.program.now c.index-main.result.now c.requires c.index-main.ensures)) (map site_view c.inline_items.new.sites.items)
-    (map site_view c.add_point.new.sites.items) c.in_ok-body.last c.in_ok-end.end (node_view c.in_ok-body.body) c.in_ok-body.ensures.last c.in_ok-body.ensures.written c.in_ok-end.ensures.walked
-    (node_view c.in_ok-tree.tree) c.in_ok-end.ensures.number (c.in_ok-tree.ensures ∙ ap (λ z. seq (node_view c.in_ok-body.body) z) (shown_point c.in_ok-end.end)))
+    (map site_view c.add_point.new.sites.items) c.in_ok-body.body.live c.in_ok-end.end (node_view c.in_ok-body.body.node) c.in_ok-body.ensures.last c.in_ok-body.ensures.written c.in_ok-end.ensures.walked
+    (node_view c.in_ok-tree.tree) c.in_ok-end.ensures.number (c.in_ok-tree.ensures ∙ ap (λ z. seq (node_view c.in_ok-body.body.node) z) (shown_point c.in_ok-end.end)))
 
 pub returns-clause-sites : goal.returns-clause-sites
 returns-clause-sites c = made_sites (program_view c.args.program.now) c.requires c.empty-path.result
@@ -86,7 +86,7 @@ returns-clause-sites c = made_sites (program_view c.args.program.now) c.requires
     (main_body c.args.program.now c.index-main.result.now (main_read c.args.program.now c.index-main.result.now c.requires c.index-main.ensures)
     ∙ sym (ap (λ z. items_of (map item_view z)) c.deref.ensures.value))
     (main_end c.args.program.now c.index-main.result.now (main_read c.args.program.now c.index-main.result.now c.requires c.index-main.ensures)) (map site_view c.inline_items.new.sites.items)
-    (map site_view c.add_point.new.sites.items) c.in_ok-body.last c.in_ok-end.end (node_view c.in_ok-body.body) c.in_ok-body.ensures.last c.in_ok-body.ensures.written c.in_ok-end.ensures.walked
+    (map site_view c.add_point.new.sites.items) c.in_ok-body.body.live c.in_ok-end.end (node_view c.in_ok-body.body.node) c.in_ok-body.ensures.last c.in_ok-body.ensures.written c.in_ok-end.ensures.walked
 
 pub returns-clause-few : goal.returns-clause-few
 returns-clause-few c = made_few (program_view c.args.program.now) c.requires c.empty-path.result
@@ -96,7 +96,7 @@ returns-clause-few c = made_few (program_view c.args.program.now) c.requires c.e
     (main_body c.args.program.now c.index-main.result.now (main_read c.args.program.now c.index-main.result.now c.requires c.index-main.ensures)
     ∙ sym (ap (λ z. items_of (map item_view z)) c.deref.ensures.value))
     (main_end c.args.program.now c.index-main.result.now (main_read c.args.program.now c.index-main.result.now c.requires c.index-main.ensures)) (map site_view c.inline_items.new.sites.items)
-    (map site_view c.add_point.new.sites.items) c.in_ok-body.last c.in_ok-end.end (node_view c.in_ok-body.body) c.in_ok-body.ensures.last c.in_ok-body.ensures.written c.in_ok-end.ensures.walked
+    (map site_view c.add_point.new.sites.items) c.in_ok-body.body.live c.in_ok-end.end (node_view c.in_ok-body.body.node) c.in_ok-body.ensures.last c.in_ok-body.ensures.written c.in_ok-end.ensures.walked
 
 pub returns-clause-within : goal.returns-clause-within
 returns-clause-within c = made_within (program_view c.args.program.now) c.requires c.empty-path.result
@@ -106,4 +106,4 @@ returns-clause-within c = made_within (program_view c.args.program.now) c.requir
     (main_body c.args.program.now c.index-main.result.now (main_read c.args.program.now c.index-main.result.now c.requires c.index-main.ensures)
     ∙ sym (ap (λ z. items_of (map item_view z)) c.deref.ensures.value))
     (main_end c.args.program.now c.index-main.result.now (main_read c.args.program.now c.index-main.result.now c.requires c.index-main.ensures)) (map site_view c.inline_items.new.sites.items)
-    (map site_view c.add_point.new.sites.items) c.in_ok-body.last c.in_ok-end.end (node_view c.in_ok-body.body) c.in_ok-body.ensures.last c.in_ok-body.ensures.written c.in_ok-end.ensures.walked
+    (map site_view c.add_point.new.sites.items) c.in_ok-body.body.live c.in_ok-end.end (node_view c.in_ok-body.body.node) c.in_ok-body.ensures.last c.in_ok-body.ensures.written c.in_ok-end.ensures.walked
