@@ -4,3 +4,4 @@ pub mod Pairs
 pub mod Removal
 pub mod Widening
 pub mod CommonPlaces
+pub mod WithinRows

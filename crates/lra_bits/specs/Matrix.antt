@@ -1,7 +1,7 @@
 -- Matrices of truth values.
 use Rattle.std.specs.Prelude.{◌≡◌, ◌≢◌, ℕ, ◌<◌, Bool, true, cond, List, [], ◌∷◌, length, slice_index_or}
 use Rattle.std.specs.Prelude.{Option, Some, None}
-use Rattle.lra_bits.specs.TruthValues.{value_at}
+use Rattle.lra_bits.specs.TruthValues.{value_at, both, IsSubset}
 
 -- rows of one width
 pub record Matrix : Type 0 where
@@ -29,3 +29,18 @@ abbrev pub TellsCommon : Matrix → List ℕ → List Bool → ℕ → ℕ → O
 TellsCommon m rows marked first second None = NoneCommon m rows marked first second m.width
 TellsCommon m rows marked first second (Some k) =
     (k < m.width) × (k ≢ first) × (k ≢ second) × IsCommon m rows marked (length rows) k
+
+-- the row at `place` is true wherever both of these are
+abbrev pub IsWithin : Matrix → ℕ → ℕ → ℕ → Type 0
+IsWithin m first second place =
+    IsSubset (both (slice_index_or m.rows first []) (slice_index_or m.rows second [])) (slice_index_or m.rows place [])
+
+-- none of the first n rows but these two is
+abbrev pub NoneWithin : Matrix → ℕ → ℕ → ℕ → Type 0
+NoneWithin m first second n = (k : ℕ) → k < n → k ≢ first → k ≢ second → ¬ (IsWithin m first second k)
+
+-- a row but these two that is true wherever both are, if there is one
+abbrev pub TellsWithin : Matrix → ℕ → ℕ → Option ℕ → Type 0
+TellsWithin m first second None = NoneWithin m first second (length m.rows)
+TellsWithin m first second (Some k) =
+    (k < length m.rows) × (k ≢ first) × (k ≢ second) × IsWithin m first second k

@@ -4,11 +4,11 @@ ghost use Rattle.std.specs.Prelude.{◌≡◌, ◌<◌, ◌++◌, ◌∷◌, [],
 ghost use Rattle.std.specs.List.{All};
 ghost use Rattle.std.specs.Prelude.{ℕ, ◌↔◌, ◌+◌, ◌*◌};
 ghost use Rattle.std.specs.Int.{bit_at};
-ghost use Rattle.lra_bits.specs.Matrix.{Matrix, unmarked, IsCommon, TellsCommon};
+ghost use Rattle.lra_bits.specs.Matrix.{Matrix, unmarked, IsCommon, TellsCommon, TellsWithin};
 ghost use Rattle.lra_bits.specs.Words.{words_needed};
 
 use crate::bit_row::BitRow;
-use crate::words::{WORD, without};
+use crate::words::{WORD, are_common_within_from, count_apart, without};
 use std::alloc::{AllocError, Global};
 use std::marker::Model;
 
@@ -96,6 +96,24 @@ impl SatMatrix {
             }
         }
         self.rows.truncate(kept);
+    }
+
+    /// A row but these two that is true wherever both are, if there is one. Takes no memory.
+    pub fn find_within(&self, first: usize, second: usize) -> Option<usize>
+        requires first { first < length self.now.rows }
+        requires second { second < length self.now.rows }
+        ensures { TellsWithin self.now first second result }
+    {
+        let (xs, ys) = (self.rows[first].words(), self.rows[second].words());
+        let from = count_apart(xs, ys);
+        for place in 0..self.rows.len() {
+            if place != first && place != second {
+                if are_common_within_from(xs, ys, self.rows[place].words(), from) {
+                    return Some(place);
+                }
+            }
+        }
+        None
     }
 
     // The word at `at` with the bits that are set in each of these rows that is marked.

@@ -1,6 +1,7 @@
 //! Two lists of words, word by word.
 
-ghost use Rattle.std.specs.Prelude.{◌≡◌, ◌≢◌, ℕ, ◌<◌, ◌+◌, ◌*◌, ◌^◌, ◌↔◌, length, IfOk, IsTrue};
+ghost use Rattle.std.specs.Prelude.{◌≡◌, ◌≢◌, ℕ, ◌<◌, ◌+◌, ◌*◌, ◌^◌, ◌↔◌, length, IfOk, IsTrue, slice_index};
+ghost use Rattle.std.specs.Int.Bits.{bit_and};
 ghost use Rattle.std.specs.Int.{bit_at};
 ghost use Rattle.std.specs.List.{All};
 ghost use Rattle.lra_bits.specs.Words.{common_words, AreWithin, AreCommonWithin};
@@ -53,4 +54,33 @@ pub fn without(word: u64, at: usize, place: usize) -> u64
     } else {
         word
     }
+}
+
+/// How many words at the front have no bit in common.
+pub fn count_apart(xs: &[u64], ys: &[u64]) -> usize
+    requires { length xs.now ≡ length ys.now }
+    ensures { (i : ℕ) → i < result → bit_and (slice_index xs.now i) (slice_index ys.now i) ≡ 0 }
+{
+    for i in 0..xs.len() {
+        if xs[i] & ys[i] != 0 {
+            return i;
+        }
+    }
+    xs.len()
+}
+
+/// As `are_common_within`, where so many words at the front have no bit in common: these aren't looked at.
+pub fn are_common_within_from(xs: &[u64], ys: &[u64], zs: &[u64], from: usize) -> bool
+    requires second { length xs.now ≡ length ys.now }
+    requires third { length xs.now ≡ length zs.now }
+    requires apart { (i : ℕ) → i < from → bit_and (slice_index xs.now i) (slice_index ys.now i) ≡ 0 }
+    ensures within { IsTrue result ↔ AreCommonWithin xs.now ys.now zs.now }
+    ensures fit { All (λ x. x < 2 ^ 64) xs.now }
+{
+    for i in from..xs.len() {
+        if (xs[i] & ys[i]) & zs[i] != xs[i] & ys[i] {
+            return false;
+        }
+    }
+    true
 }

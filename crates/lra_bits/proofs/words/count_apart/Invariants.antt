@@ -1,0 +1,7 @@
+use Rattle.std.proofs.Common.{◌≡◌, ◌<◌, ℕ}
+use Rattle.std.specs.Prelude.{slice_index}
+use Rattle.std.specs.Int.Bits.{bit_and}
+use Rattle.lra_bits.proofs.words.count_apart.Given as goal
+
+abbrev pub invariant-loop-i : goal.invariant-loop-i
+invariant-loop-i l = (j : ℕ) → j < l.i → bit_and (slice_index l.xs j) (slice_index l.ys j) ≡ 0
