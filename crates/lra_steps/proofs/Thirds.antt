@@ -4,10 +4,10 @@ use Rattle.std.specs.Prelude.{◌&&◌}
 use Rattle.std.specs.List.{All}
 use Rattle.std.proofs.lemmas.Bool.{cases_lt}
 use Rattle.std.proofs.lemmas.List.{get_or_past, get_or_append_left, length-append}
-use Rattle.lra_bits.specs.Matrix.{Matrix, IsCommon, TellsCommon}
+use Rattle.lra_bits.specs.Matrix.{Matrix, IsCommon, TellsCommon, TellsWithin}
 use Rattle.lra_bits.specs.TruthValues.{value_at, both, IsSubset}
 use Rattle.lra_bits.proofs.Pairs.{both_value}
-use Rattle.lra_steps.specs.Pairs.{TellsAdjacent, both_tight}
+use Rattle.lra_steps.specs.Pairs.{both_tight}
 use Rattle.lra_steps.specs.Steps.{IsFilled}
 use Rattle.lra_steps.specs.Thirds.{AreColumns, ArePlaces, TellsThird}
 
@@ -157,8 +157,6 @@ module _ (m columns : Matrix) (places : List ℕ) (up down : ℕ) (d : List Bool
   pub places_marked : All (λ c. c < length d) places
   places_marked k x l = omega (arith, tight.inside k x l, ld)
 
-pub found_apart : (rows : List (List Bool)) (up down : ℕ) (tight : List Bool) (r : Option ℕ) (k : ℕ) → r ≡ Some k → TellsThird rows up down tight r → TellsAdjacent rows up down tight false
-found_apart rows up down tight r k e h = subst (λ (x : Option ℕ). TellsThird rows up down tight x) e h
-
-pub none_adjacent : (rows : List (List Bool)) (up down : ℕ) (tight : List Bool) (r : Option ℕ) → r ≡ None → TellsThird rows up down tight r → TellsAdjacent rows up down tight true
-none_adjacent rows up down tight r e h = subst (λ (x : Option ℕ). TellsThird rows up down tight x) e h
+pub within_told : (m : Matrix) (up down : ℕ) (r : Option ℕ) → TellsWithin m up down r → TellsThird m.rows up down (both_tight m.rows up down) r
+within_told m up down None none = none
+within_told m up down (Some k) h = record { third = k; inside = h.0; not_up = h.1; not_down = h.2; covers = h.3 }

@@ -51,14 +51,10 @@ fn find_third(
     ensures { TellsThird saturation.now.rows up down (both_tight saturation.now.rows up down) result }
 {
     if columns.height() == saturation.width() {
-        return columns.find_common(places, saturation.row(down), up, down);
+        columns.find_common(places, saturation.row(down), up, down)
+    } else {
+        saturation.find_within(up, down)
     }
-    for third in 0..saturation.height() {
-        if keeps_apart(saturation, up, down, third) {
-            return Some(third);
-        }
-    }
-    None
 }
 
 // No third ray is tight wherever both are. The one that kept the last two rays apart is tried first; the one that is
