@@ -8,3 +8,4 @@ pub mod Marks
 pub mod Irredundant
 pub mod Orders
 pub mod CanonExamples
+pub mod Covers

@@ -24,8 +24,8 @@ fn covers(saturation: &SatMatrix, gone: &BitRow, place: usize, other: usize) -> 
     saturation.row(place).subset(saturation.row(other))
 }
 
-// Whether some row covers the row at `place`.
-fn is_covered(saturation: &SatMatrix, gone: &BitRow, place: usize) -> bool
+// Whether some row covers the row at `place`, row by row.
+fn has_cover(saturation: &SatMatrix, gone: &BitRow, place: usize) -> bool
     requires place { place < length saturation.now.rows }
     requires marks { length gone.now ≡ length saturation.now.rows }
     ensures { IsTrue result ↔ IsCovered saturation.now.rows gone.now place }
@@ -36,6 +36,18 @@ fn is_covered(saturation: &SatMatrix, gone: &BitRow, place: usize) -> bool
         }
     }
     false
+}
+
+// Whether some row covers the row at `place`. The marks are only looked at where some other row is true wherever it is.
+fn is_covered(saturation: &SatMatrix, gone: &BitRow, place: usize) -> bool
+    requires place { place < length saturation.now.rows }
+    requires marks { length gone.now ≡ length saturation.now.rows }
+    ensures { IsTrue result ↔ IsCovered saturation.now.rows gone.now place }
+{
+    match saturation.find_within(place, place) {
+        Some(_) => has_cover(saturation, gone, place),
+        None => false,
+    }
 }
 
 // Marks the rows that are covered by a row that isn't marked, one after the other.
