@@ -133,7 +133,7 @@ impl SatMatrix {
         word
     }
 
-    /// The first place but these two where each of these rows is true that is marked. Takes no memory.
+    /// A place but these two where each of these rows is true that is marked. Takes no memory.
     pub fn find_common(
         &self,
         rows: &[usize],

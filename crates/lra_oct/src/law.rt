@@ -11,8 +11,8 @@ ghost use Rattle.lra_oct.specs.Least.{IsTightOctagon};
 ghost use Rattle.lra_oct.specs.Meaning.{octagon_meaning};
 ghost use Rattle.lra_oct.specs.Parts.{equal_rows, unequal_rows};
 
-/// What is defined of tight octagons is tight: so an octagon that exact calls made of universal and empty ones is.
-/// Where it has no store it is empty, and its join with another such one is the least octagon with the stores of both.
+/// What is defined of tight octagons is tight: so an octagon that exact calls made of universal and empty ones is, and
+/// `is_empty`, `included` and `join` say of it what they say of tight ones.
 pub fn exact_octagons_are_tight()
     ensures universal { (n cap : ℕ) (a : Content) → octagon_meaning.universal n cap a → IsTightOctagon a }
     ensures void { (n cap : ℕ) (a : Content) → octagon_meaning.void n cap a → IsTightOctagon a }

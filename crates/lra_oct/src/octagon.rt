@@ -26,7 +26,7 @@ use std::marker::Model;
 ///
 /// A mark says that it is known to be tight: then a test that lowers no entry changes nothing, and costs neither a copy
 /// nor a closing. Where an entry is past half of the range it is closed all the same, since what closing forms of the
-/// entries may pass there and flag: so the mark moves no flag.
+/// entries may pass there and flag.
 pub struct Octagon {
     alloc: Global,
     dims: usize,

@@ -10,7 +10,7 @@ use Rattle.lra_operations.specs.Graph.{Node}
 use Rattle.lra_operations.specs.Trails.{to_point, to_failure, Stop, stopped, Goes}
 use Rattle.lra_operations.specs.Agree.{begins, IsGraph, point_of, AreDistinct}
 
--- the point that has the number in the list; a program's tree has no others
+-- the point that has the number in the list; where it has none, a point of no meaning
 abbrev pub point_or_none : Option Site → Point
 point_or_none None = record { path = []; label = 0 }
 point_or_none (Some s) = point_of s
@@ -52,6 +52,7 @@ module _ (may : State → State → Type 0) (P : Program) (g : Node) where
         (b : Trail Point) × TreeGoes draws (to_point number) b × may b.state a.state ×
         (a.met ≡ passes (point_at (sites_of P) number) b.state ∷ b.met)
 
--- each tree of a program, which runs alone, has the program's trails
+-- each tree of a program, which runs alone, has the program's trails. For other changes at points that keep the store's
+-- length it is the lemma from which this follows (`trails_agree` of lra_graph's proofs)
 abbrev pub GraphsHaveTrails : Type 0
 GraphsHaveTrails = (P : Program) (g : Node) → AreDistinct (sites_of P) → IsGraph P g → TrailsAgree Alone P g

@@ -190,7 +190,9 @@ pub struct CallPlace {
     pub end: usize,
     /// Where the caller's variables begin.
     pub base: usize,
+    /// How many variables live there.
     pub live: usize,
+    /// The variable that gets the result, if one does.
     pub target: Option<usize>,
 }
 

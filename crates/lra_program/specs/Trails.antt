@@ -36,7 +36,7 @@ module _ (may : State → State → Type 0) where
   Walks P (suc n) c xs d ys = (s : State) × (e : Config) × Becomes (label_on c.items) c.state s ×
       (next_at P c.items c.here s ≡ Some e) × Walks P n e (met_on (label_on c.items) c.here.path c.state xs) d ys
 
-  -- a run with these draws comes to the point on this trail
+  -- a run with these draws, any numbers, comes to the point on this trail
   abbrev pub Arrives : Program → List ℤ → Point → Trail Point → Type 0
   Arrives P draws p a = (n : ℕ) × (c : Config) × Walks P n (start P draws) [] c a.met × IsOn c p × (c.state ≡ a.state)
 
@@ -45,6 +45,6 @@ module _ (may : State → State → Type 0) where
   Denies P draws p a = (n : ℕ) × (c : Config) × (xs : List (Met Point)) × Walks P n (start P draws) [] c xs × IsOn c p ×
       may c.state a.state × IsFailing c.items c.here a.state × (a.met ≡ passes p c.state ∷ xs)
 
-  -- from the one, where the point is on top, to the other, past no further point
+  -- from the one, where the point is on top, to the other, past no further point; it may stand anywhere before that
   abbrev pub Piece : Program → Point → Config → Config → Type 0
   Piece P p c d = IsOn c p × (n : ℕ) × ((xs : List (Met Point)) → Walks P n c xs d (passes p c.state ∷ xs))

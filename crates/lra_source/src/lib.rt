@@ -14,5 +14,5 @@ mod reading;
 pub use answer::analyse_source;
 pub use laws::{
     analyses_are_right, each_answer, forms_are_right, one_answer, one_answered_text,
-    solved_are_sound, trees_fit,
+    one_unflagged_report, solved_are_sound, trees_fit,
 };

@@ -23,7 +23,8 @@ fn column(alloc: Global, matrix: &SatMatrix, place: usize) -> Result<BitRow, All
     Ok(values)
 }
 
-/// The columns where there are more pairs of rays on both sides than rows, else none: they cost more than few pairs.
+/// The columns, or none: they are made where there are more pairs of rays on both sides than rows, as they cost more
+/// than few pairs.
 pub fn find_columns(
     alloc: Global,
     above: usize,

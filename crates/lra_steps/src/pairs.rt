@@ -36,7 +36,8 @@ fn keeps_apart(saturation: &SatMatrix, up: usize, down: usize, third: usize) -> 
     first.common_within(second, saturation.row(third))
 }
 
-// A third ray that is tight wherever both are, if there is one: by the columns if they are at hand, else ray by ray.
+// Whether a third ray is tight wherever both are, and which may be tried first next time: by the columns if they are at
+// hand, else ray by ray.
 fn find_third(
     saturation: &SatMatrix,
     columns: &SatMatrix,

@@ -18,7 +18,7 @@ pub fn places_below(alloc: Global, products: &[i128]) -> Result<Vec<usize>, Allo
     Ok(places)
 }
 
-/// How many products are above 0.
+/// How many products are above 0; it decides what a step costs, and no result.
 pub fn count_above(products: &[i128]) -> usize {
     let mut count = 0;
     for k in 0..products.len() {

@@ -29,4 +29,5 @@ returns-clause-limit c =
     let here = c.args.around.now in
     let all = items_of (map item_view c.args.items.now) in
     let whole = due (all_items all) c.in_ok-path.path here.frame (points_in c.args.sites.now) in
-    limit_through c.write_out.result (Stops (program_around here) whole) (StopsItems here c.args.sites.now all) (λ l h. rw c.in_ok-path.ensures at h) (c.write_out.ensures.limit whole c.in_ok-first.ensures.leads)
+    limit_through c.write_out.result (Stops (program_around here) whole) (StopsItems here c.args.sites.now all) (λ l h. rw c.in_ok-path.ensures at h)
+    (c.write_out.ensures.limit whole c.in_ok-first.ensures.leads)

@@ -5,7 +5,8 @@ use Rattle.std.specs.Io.KnownBytes.{Appends}
 use Rattle.lra_edge.specs.Causes.{AppendsPart}
 use Rattle.std.proofs.lemmas.Grind.{common_steps}
 use Rattle.lra_top.specs.declared.status.Status.TheVariants as status
-use Rattle.lra_top.proofs.Ways.{too_long_status, refused_status, accepted_status, source_status, each_script_status, sample_unread, summary_status, no_text, complete_status, complete_sample_status, complete_script_status}
+use Rattle.lra_top.proofs.Ways.{too_long_status, refused_status, accepted_status, source_status, each_script_status, sample_unread, summary_status}
+use Rattle.lra_top.proofs.Ways.{no_text, complete_status, complete_sample_status, complete_script_status}
 use Rattle.lra_top.proofs.Ways.{script_refused_status, script_status}
 use Rattle.lra_top.specs.Headline.{HoldsInAllRuns, IsWrittenUnlessFlagged, TellsSamePoints}
 use Rattle.lra_top.proofs.Headline.{holds, is_written, same_points, writes_report, writes_summary}

@@ -63,7 +63,8 @@ returns-clause-graph c = made_graph (program_view c.args.program.now) c.requires
     (main_body c.args.program.now c.index-main.result.now (main_read c.args.program.now c.index-main.result.now c.requires c.index-main.ensures)
     ∙ sym (ap (λ z. items_of (map item_view z)) c.deref.ensures.value))
     (main_end c.args.program.now c.index-main.result.now (main_read c.args.program.now c.index-main.result.now c.requires c.index-main.ensures)) (map site_view c.inline_items.new.sites.items)
-    (map site_view c.add_point.new.sites.items) c.in_ok-body.body.live c.in_ok-end.end (node_view c.in_ok-body.body.node) c.in_ok-body.ensures.last c.in_ok-body.ensures.written c.in_ok-end.ensures.walked
+    (map site_view c.add_point.new.sites.items) c.in_ok-body.body.live c.in_ok-end.end (node_view c.in_ok-body.body.node)
+    c.in_ok-body.ensures.last c.in_ok-body.ensures.written c.in_ok-end.ensures.walked
     (node_view c.in_ok-tree.tree) c.in_ok-end.ensures.number (c.in_ok-tree.ensures ∙ ap (λ z. seq (node_view c.in_ok-body.body.node) z) (shown_point c.in_ok-end.end))
 
 pub returns-clause-agrees : goal.returns-clause-agrees
@@ -75,7 +76,8 @@ returns-clause-agrees c = graphs_agree (program_view c.args.program.now) (node_v
     (main_body c.args.program.now c.index-main.result.now (main_read c.args.program.now c.index-main.result.now c.requires c.index-main.ensures)
     ∙ sym (ap (λ z. items_of (map item_view z)) c.deref.ensures.value))
     (main_end c.args.program.now c.index-main.result.now (main_read c.args.program.now c.index-main.result.now c.requires c.index-main.ensures)) (map site_view c.inline_items.new.sites.items)
-    (map site_view c.add_point.new.sites.items) c.in_ok-body.body.live c.in_ok-end.end (node_view c.in_ok-body.body.node) c.in_ok-body.ensures.last c.in_ok-body.ensures.written c.in_ok-end.ensures.walked
+    (map site_view c.add_point.new.sites.items) c.in_ok-body.body.live c.in_ok-end.end (node_view c.in_ok-body.body.node)
+    c.in_ok-body.ensures.last c.in_ok-body.ensures.written c.in_ok-end.ensures.walked
     (node_view c.in_ok-tree.tree) c.in_ok-end.ensures.number (c.in_ok-tree.ensures ∙ ap (λ z. seq (node_view c.in_ok-body.body.node) z) (shown_point c.in_ok-end.end)))
 
 pub returns-clause-sites : goal.returns-clause-sites
@@ -86,7 +88,8 @@ returns-clause-sites c = made_sites (program_view c.args.program.now) c.requires
     (main_body c.args.program.now c.index-main.result.now (main_read c.args.program.now c.index-main.result.now c.requires c.index-main.ensures)
     ∙ sym (ap (λ z. items_of (map item_view z)) c.deref.ensures.value))
     (main_end c.args.program.now c.index-main.result.now (main_read c.args.program.now c.index-main.result.now c.requires c.index-main.ensures)) (map site_view c.inline_items.new.sites.items)
-    (map site_view c.add_point.new.sites.items) c.in_ok-body.body.live c.in_ok-end.end (node_view c.in_ok-body.body.node) c.in_ok-body.ensures.last c.in_ok-body.ensures.written c.in_ok-end.ensures.walked
+    (map site_view c.add_point.new.sites.items) c.in_ok-body.body.live c.in_ok-end.end (node_view c.in_ok-body.body.node)
+    c.in_ok-body.ensures.last c.in_ok-body.ensures.written c.in_ok-end.ensures.walked
 
 pub returns-clause-few : goal.returns-clause-few
 returns-clause-few c = made_few (program_view c.args.program.now) c.requires c.empty-path.result
@@ -96,7 +99,8 @@ returns-clause-few c = made_few (program_view c.args.program.now) c.requires c.e
     (main_body c.args.program.now c.index-main.result.now (main_read c.args.program.now c.index-main.result.now c.requires c.index-main.ensures)
     ∙ sym (ap (λ z. items_of (map item_view z)) c.deref.ensures.value))
     (main_end c.args.program.now c.index-main.result.now (main_read c.args.program.now c.index-main.result.now c.requires c.index-main.ensures)) (map site_view c.inline_items.new.sites.items)
-    (map site_view c.add_point.new.sites.items) c.in_ok-body.body.live c.in_ok-end.end (node_view c.in_ok-body.body.node) c.in_ok-body.ensures.last c.in_ok-body.ensures.written c.in_ok-end.ensures.walked
+    (map site_view c.add_point.new.sites.items) c.in_ok-body.body.live c.in_ok-end.end (node_view c.in_ok-body.body.node)
+    c.in_ok-body.ensures.last c.in_ok-body.ensures.written c.in_ok-end.ensures.walked
 
 pub returns-clause-within : goal.returns-clause-within
 returns-clause-within c = made_within (program_view c.args.program.now) c.requires c.empty-path.result
@@ -106,4 +110,5 @@ returns-clause-within c = made_within (program_view c.args.program.now) c.requir
     (main_body c.args.program.now c.index-main.result.now (main_read c.args.program.now c.index-main.result.now c.requires c.index-main.ensures)
     ∙ sym (ap (λ z. items_of (map item_view z)) c.deref.ensures.value))
     (main_end c.args.program.now c.index-main.result.now (main_read c.args.program.now c.index-main.result.now c.requires c.index-main.ensures)) (map site_view c.inline_items.new.sites.items)
-    (map site_view c.add_point.new.sites.items) c.in_ok-body.body.live c.in_ok-end.end (node_view c.in_ok-body.body.node) c.in_ok-body.ensures.last c.in_ok-body.ensures.written c.in_ok-end.ensures.walked
+    (map site_view c.add_point.new.sites.items) c.in_ok-body.body.live c.in_ok-end.end (node_view c.in_ok-body.body.node)
+    c.in_ok-body.ensures.last c.in_ok-body.ensures.written c.in_ok-end.ensures.walked
