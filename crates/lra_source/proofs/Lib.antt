@@ -1,13 +1,9 @@
-pub mod OneAnswer
 pub mod Fitting
 pub mod Sound
 pub mod Numbering
 pub mod Flags
 pub mod Reports
-pub mod EachAnswer
-pub mod ReadSteps
 pub mod StageSteps
-pub mod SomeAnswer
 pub mod Widths
 pub mod Handing
 pub mod Readable

@@ -23,7 +23,8 @@ use Rattle.lra_listing.specs.Given.{AreInvariants, AreVerdicts, state_of, told_o
 use Rattle.lra_report.specs.Spelled.{IsSpelledPart}
 use Rattle.lra_states.specs.Canonical.{AreCanonicallyShown}
 use Rattle.lra_states.specs.Shown.{AreShown}
-use Rattle.lra_source.specs.Stages.{HasGraph, IsToldOf}
+use Rattle.lra_front.specs.Stages.{HasGraph}
+use Rattle.lra_source.specs.Stages.{IsToldOf}
 use Rattle.lra_source.proofs.Fitting.{tree_fits, few_globals}
 use Rattle.lra_source.proofs.Numbering.{numbered}
 use Rattle.lra_source.proofs.Handing.{states_as_many, of_assertions, of_all, states_canonical, states_wide, flag_there}

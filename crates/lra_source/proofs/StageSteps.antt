@@ -1,132 +1,30 @@
--- What the stages behind the reading answer, as answers of the tree and of the source.
-use Rattle.std.proofs.Common.{◌≡◌, ℕ, ◌≤◌, List, [], ◌∷◌, Some, None, refl, sym, ap, ◌∙◌, subst, arith}
-use Rattle.std.specs.Prelude.{Option, Result, Ok, Err, IfOk, MatchOption}
-use Rattle.std.specs.Result.{IsErrAnd}
-use Rattle.lra_base.specs.declared.refusals.Refusal.{Refusal}
-use Rattle.lra_base.specs.declared.refusals.Place.{Place}
-use Rattle.lra_base.specs.Refused.{IfRefusal, IfRefused}
-use Rattle.lra_base.proofs.Refusing.{refused_by, exit_refused}
-use Rattle.lra_base.specs.declared.refusals.Cause.TheVariants.{Recursive}
-use Rattle.lra_tree.specs.Reach.{IsFirstRecursive, NotRecursive}
+-- What a tree's report is told to be, as the answer of its source.
+use Rattle.std.proofs.Common.{ℕ, ◌≤◌, List, refl, arith}
 use Rattle.lra_tree.specs.Trees.{FileTree}
-use Rattle.lra_program.specs.Program.{Program}
-use Rattle.lra_operations.specs.Graph.{Node}
-use Rattle.lra_program.specs.Sites.{Site, events_of, sites_of}
-use Rattle.lra_tree.specs.Labels.{Labelled, labels_of}
-use Rattle.lra_meaning.specs.Resolve.{resolve}
-use Rattle.lra_meaning.specs.NameFaults.{name_faults}
-use Rattle.lra_operations.specs.Agree.{IsGraph, Agrees}
-use Rattle.lra_program.specs.WellFormed.{IsWellFormed}
 use Rattle.lra_tree.specs.Grammar.{Spells}
 use Rattle.lra_base.specs.declared.options.Options.{Options}
 use Rattle.lra_findings.specs.Report.{Invariant, Report}
-use Rattle.lra_meaning.specs.Refuse.{limit_fault, RefusesTree, bad_name, recursive, past_limit, Refuse, Accepts}
-use Rattle.lra_report.specs.declared.report.Report as code
-use Rattle.lra_report.specs.View.{report_of}
-use Rattle.lra_scopes.specs.Outcome.{first_fault, Tells}
-use Rattle.lra_graph.specs.declared.points.Limit.{Limit}
-use Rattle.lra_graph.specs.declared.points.GraphError.{GraphError}
-use Rattle.lra_graph.specs.declared.points.GraphError.TheVariants.{Passed}
-use Rattle.lra_graph.specs.Limits.{refusal_of, OnError}
-use Rattle.lra_formed.proofs.Spelled.{spelled_are_small}
-use Rattle.lra_formed.proofs.Whole.{well_formed}
-use Rattle.lra_source.specs.Claims.{AreFew}
-use Rattle.lra_base.specs.declared.error.SourceError.{SourceError}
-use Rattle.lra_base.specs.declared.error.SourceError.TheVariants.{Refused, Memory}
+use Rattle.lra_meaning.specs.Refuse.{Accepts}
 use Rattle.lra_domain.specs.Meaning.{Meaning}
 use Rattle.lra_domain.specs.Laws.{Laws}
+use Rattle.lra_front.specs.Stages.{HasTree}
+use Rattle.lra_front.proofs.StageSteps.{accepted}
 use Rattle.lra_source.specs.Answers.{IsAnsweredOver}
-use Rattle.lra_source.specs.Stages.{HasTree, HasGraph, IsToldOf}
+use Rattle.lra_source.specs.Stages.{IsToldOf}
 use Rattle.lra_source.proofs.Reports.{sound, is_report}
-use Rattle.lra_source.proofs.ReadSteps.{tree_refused}
-
--- names --------------------------------------------------------------------------------------------------------------
-
-first_is : (fs : List Refusal) (r : Refusal) → first_fault fs ≡ Some r → (further : List Refusal) × (fs ≡ r ∷ further)
-first_is [] r e = let wrong : ⊥ = cc in absurd wrong
-first_is (f ∷ fs) r e = (fs, cc)
-
--- a tree whose names have a fault
-names_refused : (t : FileTree) (r : Refusal) → first_fault (name_faults t) ≡ Some r → RefusesTree t r.cause r.place
-names_refused t r e = let (further, is) = first_is (name_faults t) r e in bad_name r further is
-
--- and so with an error that tells the first of them
-told_refused : (t : FileTree) (e : SourceError) → Tells (name_faults t) e → IfRefusal (λ r. RefusesTree t r.cause r.place) e
-told_refused t (Refused r) told = names_refused t r told
-told_refused t Memory told = tt
-
-pub exit_named : {X : Type 0} (t : FileTree) (x : Result X SourceError) (e : SourceError) → IsErrAnd x (λ y. y ≡ e) → Tells (name_faults t) e
-    → IfRefused x (λ r. RefusesTree t r.cause r.place)
-exit_named t x e is told = exit_refused (λ r. RefusesTree t r.cause r.place) x e is (told_refused t e told)
-
--- recursion ----------------------------------------------------------------------------------------------------------
-
--- what a search for the first recursive call answers
-pub none_recursive : (t : FileTree) (x : Option Place) → MatchOption x (NotRecursive t) (IsFirstRecursive t) → x ≡ None → NotRecursive t
-none_recursive t x h is = subst (λ (y : Option Place). MatchOption y (NotRecursive t) (IsFirstRecursive t)) is h
-
-pub recursive_refused : (t : FileTree) (x : Option Place) (at : Place) → name_faults t ≡ [] → MatchOption x (NotRecursive t) (IsFirstRecursive t) → x ≡ Some at → RefusesTree t Recursive at
-recursive_refused t x at names h is = recursive at names (subst (λ (y : Option Place). MatchOption y (NotRecursive t) (IsFirstRecursive t)) is h)
-
-pub ruleset recursing = (none_recursive, recursive_refused)
-
--- trees of operations ------------------------------------------------------------------------------------------------
-
-pub has_graph : (t : FileTree) (P : Program) (g : Node) (sites : List Site) → P ≡ resolve t → name_faults t ≡ [] → NotRecursive t → IsWellFormed (resolve t) → IsGraph P g → Agrees P g →
-    sites ≡ sites_of P
-    → AreFew (sites_of P) → ((ls : List Labelled) → limit_fault ls 0 (events_of P) ≡ None) → HasGraph t g sites
-has_graph t P g sites is names straight well graph agrees points few within = record {
-  names = names;
-  straight = straight;
-  well = well;
-  within = subst (λ (Q : Program). limit_fault (labels_of t) 0 (events_of Q) ≡ None) is (within (labels_of t));
-  few = subst (λ (Q : Program). AreFew (sites_of Q)) is few;
-  is_graph = subst (λ (Q : Program). IsGraph Q g) is graph;
-  agrees = subst (λ (Q : Program). Agrees Q g) is agrees;
-  points = subst (λ (Q : Program). sites ≡ sites_of Q) is points;
-}
-
--- the limit that is passed, where that is the answer
-pub limit_passed : (P : Limit → Type 0) (e : GraphError) (x : Limit) → e ≡ Passed x → OnError e P → P x
-limit_passed P e x is h = subst (λ (y : GraphError). OnError y P) is h
-
--- a tree whose program passes a limit
-pub limit_refused : (t : FileTree) (P : Program) (x : Limit) (r : Refusal) (labels : List Labelled) → P ≡ resolve t → name_faults t ≡ [] → NotRecursive t
-    → ((ls : List Labelled) → limit_fault ls 0 (events_of P) ≡ Some (refusal_of ls x)) → labels ≡ labels_of t → r ≡ refusal_of labels x → RefusesTree t r.cause r.place
-limit_refused t P x r labels is names straight passed table told_by =
-    let same : r ≡ refusal_of (labels_of t) x = told_by ∙ ap (λ (ls : List Labelled). refusal_of ls x) table in
-    let there : limit_fault (labels_of t) 0 (events_of (resolve t)) ≡ Some (refusal_of (labels_of t) x) =
-    subst (λ (Q : Program). limit_fault (labels_of t) 0 (events_of Q) ≡ Some (refusal_of (labels_of t) x)) is (passed (labels_of t)) in
-    past_limit r names straight (there ∙ ap Some (sym same))
-
--- answers ------------------------------------------------------------------------------------------------------------
-
--- without faults of names the program of a source's tree is well-formed
-pub well : (source : List ℕ) (t : FileTree) → HasTree source t → name_faults t ≡ [] → IsWellFormed (resolve t)
-well source t has names = well_formed t (spelled_are_small source has.tokens t has.parsed.0 has.lexed has.parsed.1 has.parsed.2) names
 
 module _ {V H : Type 0} (m : Meaning V H) (laws : Laws m) (shown : V → Invariant) (o : Options) (source : List ℕ) (t : FileTree) (r : Report)
     (has : HasTree source t) (is : IsToldOf m shown o t r) (some : 1 ≤ o.parts) where
-  accepted : Accepts Spells source t
-  accepted = record {
-    tokens = has.tokens;
-    not_long = has.not_long;
-    lexed = has.lexed;
-    parsed = has.parsed;
-    names = is.names;
-    not_recursive = is.straight;
-    within = is.within;
-  }
-
   -- a source whose tree's report is told
   pub is_answered : IsAnsweredOver m shown o source r
   is_answered =
-      let whole = is_report m laws shown o t r is.lists is.analysed is.agrees o source refl some (omega arith) is.options accepted in
+      let taken : Accepts Spells source t = accepted source t has is.names is.straight is.within in
+      let whole = is_report m laws shown o t r is.lists is.analysed is.agrees o source refl some (omega arith) is.options taken in
       record {
         report = record {
           options = is.options;
           tree = t;
-          accepted = accepted;
+          accepted = taken;
           lists = is.lists;
           parts = whole.parts;
           sound = sound m laws shown o t r is.lists is.analysed is.agrees;
@@ -136,14 +34,3 @@ module _ {V H : Type 0} (m : Meaning V H) (laws : Laws m) (shown : V → Invaria
         canonical = is.canonical;
         readable = is.readable;
       }
-
--- and so with what a tree's answer is, whichever it is
-module _ (o : Options) (source : List ℕ) (t : FileTree) (has : HasTree source t) where
-  pub each_answered : {V H : Type 0} (m : Meaning V H) (laws : Laws m) (shown : V → Invariant) (x : Result code.Report SourceError) → 1 ≤ o.parts
-      → IfOk x (λ r. IsToldOf m shown o t (report_of r)) →
-      IfOk x (λ r. IsAnsweredOver m shown o source (report_of r))
-  each_answered m laws shown (Ok r) some is = is_answered m laws shown o source t (report_of r) has is some
-  each_answered m laws shown (Err e) some is = tt
-
-  pub each_refused : (x : Result code.Report SourceError) → IfRefused x (λ (r : Refusal). RefusesTree t r.cause r.place) → IfRefused x (λ (r : Refusal). Refuse Spells source r.cause r.place)
-  each_refused x = refused_by _ _ (λ r. tree_refused source t r.cause r.place has) x

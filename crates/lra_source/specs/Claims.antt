@@ -1,7 +1,5 @@
--- What each source deserves; what follows of the tree of a well-formed program, and of a report that tells an analysis.
-use Rattle.std.specs.Prelude.{◌≡◌, ◌≤◌, ◌⊎◌, ℕ, List, length, slice_get, None, Some}
-use Rattle.lra_base.specs.declared.refusals.Cause.{Cause}
-use Rattle.lra_base.specs.declared.refusals.Place.{Place}
+-- What follows of the tree of a well-formed program, and of a report that tells an analysis.
+use Rattle.std.specs.Prelude.{◌≡◌, ◌≤◌, ℕ, List, length, None}
 use Rattle.lra_tree.specs.Trees.{FileTree}
 use Rattle.lra_program.specs.Program.{Program}
 use Rattle.lra_operations.specs.Graph.{Node}
@@ -9,38 +7,18 @@ use Rattle.lra_base.specs.declared.options.Options.{Options}
 use Rattle.lra_findings.specs.Report.{Invariant, Report, IsSound}
 use Rattle.lra_findings.specs.ReportText.{report_text}
 use Rattle.lra_meaning.specs.Resolve.{resolve}
-use Rattle.lra_program.specs.Sites.{Site, sites_of}
+use Rattle.lra_program.specs.Sites.{sites_of}
 use Rattle.lra_operations.specs.Agree.{IsGraph, Agrees}
 use Rattle.lra_program.specs.WellFormed.{IsWellFormed}
 use Rattle.lra_tree.specs.Grammar.{Spells}
-use Rattle.lra_meaning.specs.Refuse.{greatest_live, Refuse, Accepts}
+use Rattle.lra_meaning.specs.Refuse.{Accepts}
 use Rattle.lra_report.specs.Listing.{Lists, IsReportOf}
 use Rattle.lra_iter.specs.Fits.{TreeFits}
 use Rattle.lra_iter.specs.Numbers.{AreBelow, IsNumbered}
 use Rattle.lra_domain.specs.Meaning.{Meaning}
+use Rattle.lra_front.specs.Claims.{AreFew}
 use Rattle.lra_source.specs.Analysed.{IsAnalysed}
 use Rattle.lra_source.specs.Answers.{IsAnswered}
-
--- the source is refused for some cause at some place; if it is too long, for that
-abbrev pub HasRefusal : List ℕ → Type 0
-HasRefusal source = (cause : Cause) × (at : Place) × Refuse Spells source cause at
-
--- the source is accepted, with tokens and a tree, and its program has a tree of operations that comes to the points
--- of its runs
-pub record IsAccepted (source : List ℕ) : Type 0 where
-  pub tree : FileTree
-  pub accepted : Accepts Spells source tree
-  pub operations : Node
-  pub is_graph : IsGraph (resolve tree) operations
-  pub agrees : Agrees (resolve tree) operations
-
--- every list of bytes is refused or accepted, and none is both
-abbrev pub EachAnswer : Type 0
-EachAnswer = (source : List ℕ) → (HasRefusal source ⊎ IsAccepted source) × (HasRefusal source → IsAccepted source → ⊥)
-
--- no more variables live at a point than are taken
-abbrev pub AreFew : List Site → Type 0
-AreFew T = (q : ℕ) (s : Site) → slice_get T q ≡ Some s → s.live ≤ greatest_live
 
 -- an iteration can be made over the tree of a well-formed program
 abbrev pub TreesFit : Type 0

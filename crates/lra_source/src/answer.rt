@@ -1,24 +1,22 @@
 //! From the bytes of a source to its report, or to its one refusal.
 
-ghost use Rattle.std.specs.Prelude.{◌≡◌, ◌≤◌, ◌<◌, ◌+◌, ◌^◌, [], length, map, IfOk};
+ghost use Rattle.std.specs.Prelude.{◌≡◌, ◌≤◌, ◌<◌, ◌+◌, ◌^◌, length, map, IfOk};
 ghost use Rattle.lra_base.specs.Refused.{IfRefused};
 ghost use Rattle.lra_tree.specs.Views.{tree_view};
 ghost use Rattle.lra_operations.specs.GraphViews.{node_view, site_view};
 ghost use Rattle.lra_tree.specs.Labels.{labels_of};
-ghost use Rattle.lra_meaning.specs.NameFaults.{name_faults};
 ghost use Rattle.lra_meaning.specs.Resolve.{resolve};
-ghost use Rattle.lra_program.specs.WellFormed.{IsWellFormed};
 ghost use Rattle.lra_tree.specs.Grammar.{Spells};
-ghost use Rattle.lra_meaning.specs.Refuse.{RefusesTree, Refuse};
+ghost use Rattle.lra_meaning.specs.Refuse.{Refuse};
 ghost use Rattle.lra_report.specs.View.{report_of};
 ghost use Rattle.lra_source.specs.Answers.{IsAnsweredOver, AloneOrSets, IsAnswered};
-ghost use Rattle.lra_source.specs.Stages.{HasGraph, IsToldOf};
+ghost use Rattle.lra_front.specs.Stages.{HasGraph};
+ghost use Rattle.lra_source.specs.Stages.{IsToldOf};
 
-use crate::program::{graph_of, program_of};
-use crate::reading::read_tree;
 use lra_base::{Domain, Options, SourceError};
 use lra_box::Boxes;
 use lra_domain::Plain;
+use lra_front::read_source;
 use lra_iter::analyse;
 use lra_listing::{Outline, list};
 use lra_meaning::Labels;
@@ -67,29 +65,6 @@ fn report_graph<D: Show>(
     Ok(report)
 }
 
-/// The report of a tree, or its refusal: its first fault of names, its first recursive call, or the first limit that
-/// its program passes.
-fn report_tree<D: Show>(alloc: Global, options: Options, tree: &Tree) -> Result<Report, SourceError>
-    requires parts { 1 ≤ options.parts }
-    requires named { options.domain ≡ D.named }
-    requires well { name_faults (tree_view tree.now) ≡ [] → IsWellFormed (resolve (tree_view tree.now)) }
-    ensures told { IfOk result (λ r. IsToldOf D.meaning D.shown options
-        (tree_view tree.now) (report_of r)) }
-    ensures refused { IfRefused result (λ r. RefusesTree (tree_view tree.now) r.cause r.place) }
-{
-    let resolution = program_of(alloc, tree)?;
-    let graph = graph_of(alloc, tree, &resolution)?;
-    let labels = &resolution.labels;
-    Ok(report_graph::<D>(
-        alloc,
-        options,
-        tree,
-        labels,
-        &resolution.program.globals,
-        &graph,
-    )?)
-}
-
 /// The report of a source over a domain that shows its values as the options name it, or its one refusal.
 fn analyse_over<D: Show>(
     alloc: Global,
@@ -103,8 +78,16 @@ fn analyse_over<D: Show>(
         (report_of r)) }
     ensures refused { IfRefused result (λ r. Refuse Spells bytes.now r.cause r.place) }
 {
-    let tree = read_tree(alloc, bytes)?;
-    report_tree::<D>(alloc, options, &tree)
+    let front = read_source(alloc, bytes)?;
+    let report = report_graph::<D>(
+        alloc,
+        options,
+        &front.tree,
+        &front.resolution.labels,
+        &front.resolution.program.globals,
+        &front.graph,
+    )?;
+    Ok(report)
 }
 
 /// The report of a source over the sets of a domain's values where the options allow more parts than one, else over the

@@ -1,29 +1,12 @@
 //! Laws: each of these does nothing, and its contract is the theorem.
 
-ghost use Rattle.lra_tree.specs.Grammar.{Spells};
-ghost use Rattle.lra_meaning.specs.Refuse.{OneAnswer};
 ghost use Rattle.lra_flow.specs.Linear.{FormsAreRight, TestsAreRight, DiffersIsRight};
 ghost use Rattle.lra_source.specs.Soundness.{SolvedAreSound};
-ghost use Rattle.lra_source.specs.Claims.{EachAnswer, OneAnsweredText, TreesFit, TreesAreNumbered, AnalysedAreSound};
+ghost use Rattle.lra_source.specs.Claims.{OneAnsweredText, TreesFit, TreesAreNumbered, AnalysedAreSound};
 ghost use Rattle.lra_source.specs.Claims.{AnalysedAreReports, OneUnflaggedReport};
 
 use lra_domain::Domain;
-
-/// A source is accepted with at most one tree, or refused for at most one cause at one place; never both.
-pub fn one_answer()
-    ensures { OneAnswer Spells }
-{
-    lra_lex::one_reading();
-    lra_readers::one_tree();
-}
-
-/// Every list of bytes is refused, one of more than 65,536 bytes for that, or accepted with its tree and the tree of
-/// operations of its program; never both.
-pub fn each_answer()
-    ensures { EachAnswer }
-{
-    one_answer();
-}
+use lra_front::one_answer;
 
 /// Two reports that answer one source under one list of options and have the same text are the same report.
 pub fn one_answered_text()

@@ -14,8 +14,8 @@ use Rattle.lra_tree.specs.Grammar.{Spells}
 use Rattle.lra_meaning.specs.Refuse.{Refuse, too_long, bad_token, bad_text, bad_tree, Accepts}
 use Rattle.lra_findings.specs.RefusalText.{refusal_text}
 use Rattle.lra_source.specs.Answers.{IsAnswered}
-use Rattle.lra_source.proofs.EachAnswer.{each_answer}
-use Rattle.lra_source.proofs.SomeAnswer.{some_answer}
+use Rattle.lra_front.proofs.EachAnswer.{each_answer}
+use Rattle.lra_front.proofs.SomeAnswer.{some_answer}
 use Rattle.lra_top.specs.SourceAnswer.{IsTooLong, IsUnrefused, IsReport, IsReportStatus, DeservesSource}
 use Rattle.lra_top.proofs.Answering.{IsAnswer}
 use Rattle.lra_top.specs.Ends.{EndsInRefusal, EndsInReport, EndsBySource}

@@ -1,6 +1,6 @@
 -- How a call ends, by its status.
 use Rattle.std.specs.Prelude.{◌⊎◌, ℕ, List}
-use Rattle.lra_source.specs.Claims.{HasRefusal, IsAccepted}
+use Rattle.lra_front.specs.Claims.{HasRefusal, IsAccepted}
 use Rattle.lra_top.specs.declared.status.Status.{Status}
 use Rattle.lra_top.specs.declared.status.Status.TheVariants.{Proved, Unknown, Refused, Usage, ReadFault, WriteFault}
 use Rattle.lra_top.specs.declared.status.Status.TheVariants.{Memory}

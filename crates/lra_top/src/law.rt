@@ -6,5 +6,5 @@ ghost use Rattle.lra_top.specs.SourceAnswer.{OneWrittenReport};
 pub fn one_written_report()
     ensures { OneWrittenReport }
 {
-    lra_source::one_answer();
+    lra_front::one_answer();
 }

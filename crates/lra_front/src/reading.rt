@@ -5,7 +5,7 @@ ghost use Rattle.lra_base.specs.Refused.{IfRefused};
 ghost use Rattle.lra_tree.specs.Views.{tree_view};
 ghost use Rattle.lra_tree.specs.Grammar.{Spells};
 ghost use Rattle.lra_meaning.specs.Refuse.{Refuse};
-ghost use Rattle.lra_source.specs.Stages.{HasTree};
+ghost use Rattle.lra_front.specs.Stages.{HasTree};
 
 use lra_base::{Cause, Refusal, SourceError};
 use lra_lex::tokens;

@@ -14,7 +14,7 @@ use Rattle.lra_base.specs.declared.error.SourceError.{SourceError}
 use Rattle.lra_base.specs.Refused.{IfRefusal, IfRefused}
 use Rattle.lra_base.proofs.Refusing.{refusal_by, exit_refused}
 use Rattle.lra_tree.proofs.Limit.{limit_is}
-use Rattle.lra_source.specs.Stages.{HasTree}
+use Rattle.lra_front.specs.Stages.{HasTree}
 
 within : (source : List ℕ) → length source ≤ 65536 → length source ≤ greatest_length
 within source l = rw limit_is l
@@ -53,3 +53,9 @@ pub exit_parsed : {X : Type 0} (source : List ℕ) (tokens given : List Token) (
 exit_parsed source tokens given x e l lexed same is fault =
     let there : IfRefusal (λ r. IsTextFault Spells tokens r.cause r.place) e = subst (λ (T : List Token). IfRefusal (λ r. IsTextFault Spells T r.cause r.place) e) same fault in
     exit_refused (λ r. Refuse Spells source r.cause r.place) x e is (refusal_by (λ r. IsTextFault Spells tokens r.cause r.place) _ (λ r. text_refused source tokens r.cause r.place l lexed) e there)
+
+-- and by those behind it
+pub exit_tree : {X : Type 0} (source : List ℕ) (t : FileTree) (x : Result X SourceError) (e : SourceError) → HasTree source t → IsErrAnd x (λ y. y ≡ e)
+    → IfRefusal (λ r. RefusesTree t r.cause r.place) e → IfRefused x (λ r. Refuse Spells source r.cause r.place)
+exit_tree source t x e has is fault =
+    exit_refused (λ r. Refuse Spells source r.cause r.place) x e is (refusal_by (λ r. RefusesTree t r.cause r.place) _ (λ r. tree_refused source t r.cause r.place has) e fault)

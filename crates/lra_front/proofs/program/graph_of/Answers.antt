@@ -1,6 +1,6 @@
 -- Goals of `graph_of`: the tree of operations of a program without recursion and its points; or the refusal for its
 -- first recursive call, or for the first limit that it passes.
-use Rattle.std.proofs.Common.{◌≡◌, List, map, Some, ◌∙◌}
+use Rattle.std.proofs.Common.{◌≡◌, List, map, Some}
 use Rattle.lra_tree.specs.Labels.{Labelled}
 use Rattle.lra_tree.specs.Views.{tree_view}
 use Rattle.lra_program.specs.ProgramViews.{program_view}
@@ -8,8 +8,8 @@ use Rattle.lra_operations.specs.GraphViews.{node_view, site_view}
 use Rattle.lra_program.specs.Sites.{events_of}
 use Rattle.lra_meaning.specs.Refuse.{limit_fault}
 use Rattle.lra_graph.specs.Limits.{refusal_of}
-use Rattle.lra_source.proofs.StageSteps.{has_graph, limit_passed, limit_refused}
-use Rattle.lra_source.proofs.program.graph_of.Goals as goal
+use Rattle.lra_front.proofs.StageSteps.{has_graph, limit_passed, limit_refused}
+use Rattle.lra_front.proofs.program.graph_of.Goals as goal
 
 pub returns-in-Ok-clause-graph : goal.returns-in-Ok-clause-graph
 returns-in-Ok-clause-graph c =

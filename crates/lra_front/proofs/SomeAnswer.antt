@@ -25,10 +25,10 @@ use Rattle.lra_calls.proofs.Deciding.{each_recursion}
 use Rattle.lra_graph.proofs.Agreement.{graphs_agree}
 use Rattle.lra_graph.proofs.DistinctSites.{distinct_sites}
 use Rattle.lra_graph.proofs.Existing.{has_graph}
-use Rattle.lra_source.specs.Stages.{HasTree}
-use Rattle.lra_source.specs.Claims.{HasRefusal, IsAccepted, EachAnswer}
-use Rattle.lra_source.proofs.ReadSteps.{tree_refused}
-use Rattle.lra_source.proofs.StageSteps.{well}
+use Rattle.lra_front.specs.Stages.{HasTree}
+use Rattle.lra_front.specs.Claims.{HasRefusal, IsAccepted, EachAnswer}
+use Rattle.lra_front.proofs.ReadSteps.{tree_refused}
+use Rattle.lra_front.proofs.StageSteps.{well, accepted}
 
 -- a list of tokens has a tree, or a first fault
 abbrev IsRead : List Token → Type 0
@@ -52,15 +52,7 @@ module _ (source : List ℕ) (t : FileTree) (has : HasTree source t) where
       let (g, is_graph) = has_graph (resolve t) fine (labels_of t) e in
       inr (record {
         tree = t;
-        accepted = record {
-          tokens = has.tokens;
-          not_long = has.not_long;
-          lexed = has.lexed;
-          parsed = has.parsed;
-          names = names;
-          not_recursive = straight;
-          within = e;
-        };
+        accepted = accepted source t has names straight e;
         operations = g;
         is_graph = is_graph;
         agrees = graphs_agree (resolve t) g (distinct_sites (resolve t) fine) is_graph;

@@ -3,7 +3,7 @@ use Rattle.lra_tree.specs.Grammar.{Spells}
 use Rattle.lra_meaning.specs.Refuse.{OneAnswer}
 use Rattle.lra_lex.proofs.OneReadingLemmas.{one_reading}
 use Rattle.lra_readers.proofs.Laws.{spelled_one, spelled_one_fault}
-use Rattle.lra_source.proofs.OneAnswer as law
+use Rattle.lra_front.proofs.OneAnswer as law
 
 pub each_answer : OneAnswer Spells
 each_answer = law.one_answer Spells one_reading spelled_one spelled_one_fault

@@ -10,8 +10,8 @@ use Rattle.lra_tree.specs.Grammar.{Spells}
 use Rattle.lra_meaning.specs.Refuse.{Refuse}
 use Rattle.lra_readers.specs.Files.{EndsOnce, AreSmall}
 use Rattle.lra_readers.proofs.Ended.{lexed_end, lexed_small}
-use Rattle.lra_source.proofs.ReadSteps.{long_refused, exit_lexed, exit_parsed, has_tree}
-use Rattle.lra_source.proofs.reading.read_tree.Goals as goal
+use Rattle.lra_front.proofs.ReadSteps.{long_refused, exit_lexed, exit_parsed, has_tree}
+use Rattle.lra_front.proofs.reading.read_tree.Goals as goal
 
 pub slice_bounds-place_behind-end : goal.slice_bounds-place_behind-end
 slice_bounds-place_behind-end c = taken 65536 c.args.bytes.now c.if-bytes-gt-GREATEST_LENGTH.true

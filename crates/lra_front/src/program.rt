@@ -11,7 +11,7 @@ ghost use Rattle.lra_program.specs.WellFormed.{IsWellFormed};
 ghost use Rattle.lra_tree.specs.Labels.{labels_of};
 ghost use Rattle.lra_tree.specs.Reach.{NotRecursive};
 ghost use Rattle.lra_meaning.specs.Refuse.{RefusesTree};
-ghost use Rattle.lra_source.specs.Stages.{HasGraph};
+ghost use Rattle.lra_front.specs.Stages.{HasGraph};
 
 use lra_base::{Cause, Refusal, SourceError};
 use lra_calls::first_recursive;

@@ -1,0 +1,18 @@
+-- Goals of `read_source`: all that is read of a source, or its one refusal; memory may be wanting.
+use Rattle.lra_tree.specs.Views.{tree_view}
+use Rattle.lra_front.proofs.ReadSteps.{exit_tree}
+use Rattle.lra_front.proofs.StageSteps.{well}
+use Rattle.lra_front.proofs.front.read_source.Goals as goal
+
+pub graph_of-requires-clause-well : goal.graph_of-requires-clause-well
+graph_of-requires-clause-well c = well c.args.bytes.now (tree_view c.in_ok-tree.tree) c.in_ok-tree.ensures.found c.in_ok-resolution.ensures.clean
+
+pub returns-in_err-resolution-clause-refused : goal.returns-in_err-resolution-clause-refused
+returns-in_err-resolution-clause-refused c =
+    exit_tree c.args.bytes.now (tree_view c.in_ok-tree.tree) c.from_residual-in_err-resolution.result _ c.in_ok-tree.ensures.found c.from_residual-in_err-resolution.ensures.1
+    c.in_err-resolution.ensures.refused
+
+pub returns-in_err-graph-clause-refused : goal.returns-in_err-graph-clause-refused
+returns-in_err-graph-clause-refused c =
+    exit_tree c.args.bytes.now (tree_view c.in_ok-tree.tree) c.from_residual-in_err-graph.result _ c.in_ok-tree.ensures.found c.from_residual-in_err-graph.ensures.1
+    c.in_err-graph.ensures.refused

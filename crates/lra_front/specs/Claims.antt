@@ -1,0 +1,32 @@
+-- What each source deserves: its one refusal, or its tree with the tree of operations of its program.
+use Rattle.std.specs.Prelude.{◌≡◌, ◌≤◌, ◌⊎◌, ℕ, List, slice_get, Some}
+use Rattle.lra_base.specs.declared.refusals.Cause.{Cause}
+use Rattle.lra_base.specs.declared.refusals.Place.{Place}
+use Rattle.lra_tree.specs.Trees.{FileTree}
+use Rattle.lra_operations.specs.Graph.{Node}
+use Rattle.lra_meaning.specs.Resolve.{resolve}
+use Rattle.lra_program.specs.Sites.{Site}
+use Rattle.lra_operations.specs.Agree.{IsGraph, Agrees}
+use Rattle.lra_tree.specs.Grammar.{Spells}
+use Rattle.lra_meaning.specs.Refuse.{greatest_live, Refuse, Accepts}
+
+-- the source is refused for some cause at some place; if it is too long, for that
+abbrev pub HasRefusal : List ℕ → Type 0
+HasRefusal source = (cause : Cause) × (at : Place) × Refuse Spells source cause at
+
+-- the source is accepted, with tokens and a tree, and its program has a tree of operations that comes to the points
+-- of its runs
+pub record IsAccepted (source : List ℕ) : Type 0 where
+  pub tree : FileTree
+  pub accepted : Accepts Spells source tree
+  pub operations : Node
+  pub is_graph : IsGraph (resolve tree) operations
+  pub agrees : Agrees (resolve tree) operations
+
+-- every list of bytes is refused or accepted, and none is both
+abbrev pub EachAnswer : Type 0
+EachAnswer = (source : List ℕ) → (HasRefusal source ⊎ IsAccepted source) × (HasRefusal source → IsAccepted source → ⊥)
+
+-- no more variables live at a point than are taken
+abbrev pub AreFew : List Site → Type 0
+AreFew T = (q : ℕ) (s : Site) → slice_get T q ≡ Some s → s.live ≤ greatest_live

@@ -1,0 +1,36 @@
+-- What is known of a source between the stages of its reading.
+use Rattle.std.specs.Prelude.{◌≡◌, ℕ, ◌≤◌, List, [], length, None}
+use Rattle.lra_tree.specs.declared.tokens.Token.{Token}
+use Rattle.lra_tree.specs.Trees.{FileTree}
+use Rattle.lra_tree.specs.Tokens.{Lex, greatest_length}
+use Rattle.lra_tree.specs.Faults.{IsTree}
+use Rattle.lra_tree.specs.Grammar.{Spells}
+use Rattle.lra_meaning.specs.NameFaults.{name_faults}
+use Rattle.lra_tree.specs.Labels.{labels_of}
+use Rattle.lra_meaning.specs.Resolve.{resolve}
+use Rattle.lra_operations.specs.Graph.{Node}
+use Rattle.lra_program.specs.Sites.{Site, events_of, sites_of}
+use Rattle.lra_operations.specs.Agree.{IsGraph, Agrees}
+use Rattle.lra_program.specs.WellFormed.{IsWellFormed}
+use Rattle.lra_meaning.specs.Refuse.{limit_fault}
+use Rattle.lra_tree.specs.Reach.{NotRecursive}
+use Rattle.lra_front.specs.Claims.{AreFew}
+
+-- a source that isn't too long, and its tree
+pub record HasTree (source : List ℕ) (t : FileTree) : Type 0 where
+  pub tokens : List Token
+  pub not_long : length source ≤ greatest_length
+  pub lexed : Lex source tokens
+  pub parsed : IsTree Spells tokens t
+
+-- a tree whose names have no fault, that has no recursion and whose program passes no limit, the tree of operations of
+-- that program, and its points
+pub record HasGraph (t : FileTree) (tree : Node) (sites : List Site) : Type 0 where
+  pub names : name_faults t ≡ []
+  pub straight : NotRecursive t
+  pub well : IsWellFormed (resolve t)
+  pub within : limit_fault (labels_of t) 0 (events_of (resolve t)) ≡ None
+  pub few : AreFew (sites_of (resolve t))
+  pub is_graph : IsGraph (resolve t) tree
+  pub agrees : Agrees (resolve t) tree
+  pub points : sites ≡ sites_of (resolve t)

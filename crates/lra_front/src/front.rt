@@ -1,0 +1,58 @@
+//! From the bytes of a source to all that is read of it.
+
+ghost use Rattle.std.specs.Prelude.{◌≡◌, ◌<◌, ◌+◌, ◌^◌, length, map, IfOk};
+ghost use Rattle.lra_base.specs.Refused.{IfRefused};
+ghost use Rattle.lra_tree.specs.Views.{tree_view};
+ghost use Rattle.lra_program.specs.ProgramViews.{program_view};
+ghost use Rattle.lra_operations.specs.GraphViews.{node_view, site_view};
+ghost use Rattle.lra_meaning.specs.Resolve.{resolve};
+ghost use Rattle.lra_tree.specs.Grammar.{Spells};
+ghost use Rattle.lra_tree.specs.Labels.{labels_of};
+ghost use Rattle.lra_meaning.specs.Refuse.{Refuse};
+ghost use Rattle.lra_front.specs.Stages.{HasTree, HasGraph};
+
+use crate::program::{graph_of, program_of};
+use crate::reading::read_tree;
+use lra_base::SourceError;
+use lra_names::Resolution;
+use lra_operations::Graph;
+use lra_tree::Tree;
+use std::alloc::Global;
+
+/// What is read of an accepted source: its tree, its program with the table of its labels, and the tree of operations
+/// of that with its points.
+pub struct Front {
+    pub tree: Tree,
+    pub resolution: Resolution,
+    pub graph: Graph,
+}
+
+impl Drop for Front {
+    fn drop(self) {
+        let Front {
+            tree: _,
+            resolution: _,
+            graph: _,
+        } = self;
+    }
+}
+
+/// All that is read of a source, or its one refusal; memory may be wanting.
+pub fn read_source(alloc: Global, bytes: &[u8]) -> Result<Front, SourceError>
+    requires { length bytes.now + 1 < 2 ^ 32 }
+    ensures tree { IfOk result (λ f. HasTree bytes.now (tree_view f.tree)) }
+    ensures program { IfOk result (λ f. program_view f.resolution.program ≡ resolve (tree_view f.tree)) }
+    ensures labels { IfOk result (λ f. f.resolution.labels.labels ≡ labels_of (tree_view f.tree)) }
+    ensures graph { IfOk result (λ f. HasGraph (tree_view f.tree) (node_view f.graph.tree)
+        (map site_view f.graph.sites.items)) }
+    ensures refused { IfRefused result (λ r. Refuse Spells bytes.now r.cause r.place) }
+{
+    let tree = read_tree(alloc, bytes)?;
+    let resolution = program_of(alloc, &tree)?;
+    let graph = graph_of(alloc, &tree, &resolution)?;
+    Ok(Front {
+        tree,
+        resolution,
+        graph,
+    })
+}

@@ -1,0 +1,16 @@
+//! From the bytes of a source to the tree of operations of its program and its points, or to its one refusal.
+//!
+//! [`read_source`] goes through the stages: tokens, tree, program, tree of operations; what is made of these stands in
+//! the crates above, and each stage can be called alone. `proofs/` joins the laws of the parts: one reading and one
+//! tree make one answer, and every list of bytes has one.
+#![tactic(auto)]
+
+mod front;
+mod laws;
+mod program;
+mod reading;
+
+pub use front::{Front, read_source};
+pub use laws::{each_answer, one_answer};
+pub use program::{graph_of, program_of};
+pub use reading::read_tree;
