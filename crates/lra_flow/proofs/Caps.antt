@@ -1,5 +1,5 @@
 -- What each operation of an iteration keeps, all its values have; so none has more parts than the options say.
-use Rattle.std.proofs.Common.{◌≡◌, ℕ, zero, suc, ◌-◌, ◌≤◌, ◌++◌, List, [], ◌∷◌, length, Option, Some, None, Bool, true, false, inl, inr, refl, sym, subst}
+use Rattle.std.proofs.Common.{◌≡◌, ℕ, zero, suc, ◌-◌, ◌≤◌, ◌++◌, List, [], ◌∷◌, length, Option, None, Bool, true, false, inl, inr, refl, sym, subst}
 use Rattle.std.specs.List.{AllByRecursion, Contains}
 use Rattle.std.proofs.lemmas.Option.{slice_get_read}
 use Rattle.lra_linear.proofs.Membership.{contains_none, contains_cases}
@@ -8,22 +8,15 @@ use Rattle.lra_linear.specs.declared.ConKind.{ConKind}
 use Rattle.lra_domain.specs.Actions.{Action}
 use Rattle.lra_domain.specs.declared.Mode.{Mode}
 use Rattle.lra_domain.specs.declared.Exactness.{Exactness}
-use Rattle.lra_domain.specs.declared.Exactness.TheVariants.{Exact}
 use Rattle.lra_domain.specs.Meaning.{Meaning}
 use Rattle.lra_domain.specs.Laws.{Laws}
 use Rattle.lra_program.specs.Program.{Cond, Program}
-use Rattle.lra_base.specs.Operators.{Comparison, below, above, differs}
-use Rattle.lra_program.specs.Step.{Op, append, give, give_any, push, keep, test}
 use Rattle.lra_operations.specs.Graph.{Exit, broken, continued, returned, Node, empty, point, act, check, seq, choose, iterate, catch, leave}
-use Rattle.lra_lin.specs.Form.{Form}
-use Rattle.lra_lin.specs.declared.test.Test.{Test}
-use Rattle.lra_flow.specs.Linear.{comparison_test, difference_form}
-use Rattle.lra_flow.specs.Condition as condition
 use Rattle.lra_base.specs.declared.options.Options.{Options}
 use Rattle.lra_flow.specs.Operations.{Operations, dropping}
-use Rattle.lra_flow.specs.Changes.{actions_of, first_values, AreDone, AreJoined}
-use Rattle.lra_flow.specs.Conditions.{testing, tested, Leaves}
-use Rattle.lra_flow.specs.Pass.{Entry, value, failing, Result, noted, goes_on, jumps, in_turn, first_of_call, values_behind, behind, Changes, Through, GoesRound, Grows, Narrows, Pass}
+use Rattle.lra_flow.specs.Moves.{Moves, stay, make, first_then, join_of, AreMade}
+use Rattle.lra_flow.specs.MovesOf.{guard, moves_of, first_values}
+use Rattle.lra_flow.specs.Pass.{Entry, value, failing, Result, noted, goes_on, jumps, in_turn, first_of_call, values_behind, behind, AreJoined, Leaves, Through, GoesRound, Grows, Narrows, Pass}
 use Rattle.lra_flow.specs.Analysis.{Derivation, Solves}
 
 -- what has no operand has the property, and each operation keeps it, where this many parts are asked for
@@ -40,9 +33,14 @@ all_both P [] ys h i = i
 all_both P (x ∷ xs) ys h i = (h.0, all_both P xs ys h.1 i)
 
 module _ (V H : Type 0) (ops : Operations V H) (set : Options) (Good : V → Type 0) (Fine : H → Type 0) (keeps : Preserves ops set.parts Good Fine) where
-  done_good : (steps : List Action) (v : V) (e : Exactness) (w : V) → AreDone ops steps v e w → Good v → Good w
-  done_good [] v e w (same, exact) g = subst Good (sym same) g
-  done_good (step ∷ steps) v e w (x, c, d, one, rest, worst) g = done_good steps x d w rest (keeps.changed step v c x one g)
+  made_good : (p : Moves) (v : V) (e : Exactness) (w : V) → AreMade ops p v e w → Good v → Good w
+  made_good stay v e w (same, exact) g = subst Good (sym same) g
+  made_good (make step) v e w is g = keeps.changed step v e w is g
+  made_good (first_then p q) v e w (x, c, d, one, two, worst) g = made_good q x d w two (made_good p v c x one g)
+  made_good (join_of p q) v e w (x, y, c, d, i, one, two, joined, worst) g = keeps.joined x y i w joined (made_good p v c x one g) (made_good q v d y two g)
+
+  leaves_good : (base : ℕ) (c : Cond) (wanted : Bool) (v : V) (e : Exactness) (w : V) → Leaves ops base c wanted v e w → Good v → Good w
+  leaves_good base c wanted v e w is g = made_good (guard (ops.dims v) base wanted c) v e w is g
 
   -- joins
   joined_good : (v : V) (us : List V) (e : Exactness) (w : V) → AreJoined ops v us e w → Good v → AllByRecursion Good us → Good w
@@ -52,34 +50,6 @@ module _ (V H : Type 0) (ops : Operations V H) (set : Options) (Good : V → Typ
   returned_good : (rs : List V) (n : V) (e : Exactness) (w : V) → AreJoined ops (first_of_call rs n).0 (first_of_call rs n).1 e w → Good n → AllByRecursion Good rs → Good w
   returned_good [] n e w is g gs = joined_good n [] e w is g tt
   returned_good (v ∷ vs) n e w is g gs = joined_good v (vs ++ n ∷ []) e w is gs.0 (all_both Good vs (n ∷ []) gs.1 (g, tt))
-
-  -- conditions
-  tested_good : (live base : ℕ) (o : Option Test) (v w : V × Exactness) → condition.IsTestedBy (V × Exactness) (testing ops) live base o v w → Good v.0 → Good w.0
-  tested_good live base None v w is g = subst (λ (x : V × Exactness). Good x.0) (sym is) g
-  tested_good live base (Some t) v w (e, done, worst) g = keeps.changed (tested t) v.0 e w.0 done g
-
-  atom_good : (live base : ℕ) (op : Comparison) (o : Option Form) (v w : V × Exactness) → condition.IsAtom (V × Exactness) (testing ops) live base op o v w → Good v.0 → Good w.0
-  atom_good live base op None v w is g = subst (λ (x : V × Exactness). Good x.0) (sym is) g
-  atom_good live base differs (Some d) v w (less, more, one, two, (e, joined, worst)) g =
-      keeps.joined less.0 more.0 e w.0 joined (tested_good live base (comparison_test below d) v less one g) (tested_good live base (comparison_test above d) v more two g)
-  atom_good live base op (Some d) v w is g = tested_good live base (comparison_test op d) v w is g
-
-  pushed_good : (live base : ℕ) (p : condition.Pushed) (v w : V × Exactness) → condition.IsPushed (V × Exactness) (testing ops) live base p v w → Good v.0 → Good w.0
-  pushed_good live base (condition.atom op a b) v w is g = atom_good live base op (difference_form live base a b) v w is g
-  pushed_good live base (condition.first_then a b) v w (x, one, two) g = pushed_good live base b x w two (pushed_good live base a v x one g)
-  pushed_good live base (condition.one_or a opposed b) v w (left, x, right, one, off, two, (e, joined, worst)) g =
-      keeps.joined left.0 right.0 e w.0 joined (pushed_good live base a v left one g) (pushed_good live base b x right two (pushed_good live base opposed v x off g))
-
-  leaves_good : (base : ℕ) (c : Cond) (wanted : Bool) (v : V) (e : Exactness) (w : V) → Leaves ops base c wanted v e w → Good v → Good w
-  leaves_good base c wanted v e w is g = pushed_good (ops.dims v) base (condition.push wanted c) (v, Exact) (w, e) is g
-
-  changes_good : (op : Op) (v : V) (e : Exactness) (w : V) → Changes V H ops op v e w → Good v → Good w
-  changes_good append v e w is g = done_good (actions_of (ops.dims v) append) v e w is g
-  changes_good (give base x y) v e w is g = done_good (actions_of (ops.dims v) (give base x y)) v e w is g
-  changes_good (give_any x) v e w is g = done_good (actions_of (ops.dims v) (give_any x)) v e w is g
-  changes_good (push base es) v e w is g = done_good (actions_of (ops.dims v) (push base es)) v e w is g
-  changes_good (keep n) v e w is g = done_good (actions_of (ops.dims v) (keep n)) v e w is g
-  changes_good (test base c wanted) v e w is g = leaves_good base c wanted v e w is g
 
   -- passes
   abbrev IsGood : Entry V → Type 0
@@ -146,7 +116,7 @@ module _ (V H : Type 0) (ops : Operations V H) (set : Options) (Good : V → Typ
   pub pass_good : (tree : Node) (f : Option ℕ) (v : V) (r : Result V) → Pass V H ops set tree f v r → Good v → AreGood r
   pass_good empty f v r is g = same_good r _ is (on_good [] v f tt g)
   pass_good (point q) f v r is g = same_good r _ is (on_good (value q v ∷ []) v f (g, tt) g)
-  pass_good (act q op) f v r (w, e, done, is) g = same_good r _ is (on_good [] w (noted q e f) tt (changes_good op v e w done g))
+  pass_good (act q op) f v r (w, e, done, is) g = same_good r _ is (on_good [] w (noted q e f) tt (made_good (moves_of (ops.dims v) op) v e w done g))
   pass_good (check q base c) f v r (u, w, d, e, off, on, is) g =
       same_good r _ is (on_good (failing q u ∷ []) w (noted q e (noted q d f)) (leaves_good base c false v d u off g, tt) (leaves_good base c true v e w on g))
   pass_good (seq a b) f v r (s, t, one, two, is) g =
@@ -186,7 +156,7 @@ module _ {V H : Type 0} (m : Meaning V H) (laws : Laws m) (set : Options) (some 
   pub solved_capped : (P : Program) (tree : Node) (r : Result V) (values : List V) (verdicts : List (ℕ × Bool)) (flagged : Option ℕ) → Derivation m set P tree r → Solves m r values verdicts flagged
       → (v : V) → Contains values v → m.capped v set.parts
   solved_capped P tree r values verdicts flagged (whole, first, e, universal, begun, pass) solves v there =
-      let begins = done_good V H (dropping m) set (λ x. m.capped x set.parts) (λ h. m.head_capped h set.parts) caps_kept (first_values 0 P.globals) whole e first begun
+      let begins = made_good V H (dropping m) set (λ x. m.capped x set.parts) (λ h. m.head_capped h set.parts) caps_kept (first_values 0 P.globals) whole e first begun
       (laws.universal_capped 0 set.parts whole some universal.0) in
       let all = pass_good V H (dropping m) set (λ x. m.capped x set.parts) (λ h. m.head_capped h set.parts) caps_kept tree (noted 0 e None) first r pass begins in
       value_good V H (dropping m) set (λ x. m.capped x set.parts) (λ h. m.head_capped h set.parts) caps_kept r.entries there.0 v all.entries
@@ -207,7 +177,7 @@ module _ {V H : Type 0} (m : Meaning V H) (set : Options) where
   pub solved_formed : (P : Program) (tree : Node) (r : Result V) (values : List V) (verdicts : List (ℕ × Bool)) (flagged : Option ℕ) → Derivation m set P tree r → Solves m r values verdicts flagged
       → (v : V) → Contains values v → m.formed v
   solved_formed P tree r values verdicts flagged (whole, first, e, universal, begun, pass) solves v there =
-      let begins = done_good V H (dropping m) set m.formed m.head_formed held_kept (first_values 0 P.globals) whole e first begun universal.1 in
+      let begins = made_good V H (dropping m) set m.formed m.head_formed held_kept (first_values 0 P.globals) whole e first begun universal.1 in
       let all = pass_good V H (dropping m) set m.formed m.head_formed held_kept tree (noted 0 e None) first r pass begins in
       value_good V H (dropping m) set m.formed m.head_formed held_kept r.entries there.0 v all.entries
       ((solves.is_value there.0 v).0 (slice_get_read values (length values) there.0 v refl there.1 (sym there.2)))

@@ -32,7 +32,7 @@ SomeHas {V} m vs store = (w : V) × Contains vs w × Has m w store
 
 -- a least change of a value keeps the stores to which the change leads
 abbrev pub ChangesKeep : {V H : Type 0} → Meaning V H → Type 0
-ChangesKeep {V} {H} m = (op : Op) (v : V) (e : Exactness) (w : V) → Changes V H (dropping m) op v e w → (s t : State) →
+ChangesKeep {V} m = (op : Op) (v : V) (e : Exactness) (w : V) → Changes (dropping m) op v e w → (s t : State) →
     Has m v s.store → run_op op s ≡ Some t → Has m w t.store
 
 -- the result has the stores of the tree's runs from this state: behind the tree, at its jumps, at its points and where

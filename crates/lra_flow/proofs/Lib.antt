@@ -3,8 +3,8 @@ pub mod Transfer
 pub mod Unflagged
 -- Forms and tests mean what their expressions and comparisons do.
 pub mod FormLemmas
-pub mod Keeping
 pub mod CondKeeping
+pub mod Keeping
 -- The values of a derivation have all stores of the runs.
 pub mod Covers
 pub mod Sound
@@ -13,7 +13,12 @@ pub mod Keeps
 pub mod Caps
 -- Single definitions on small operands.
 mod PieceExamples
--- Linear forms, and how conditions are pushed to their atoms.
 mod LinearExamples
+mod MovesExamples
+-- What moves do behind others, and written out as cases.
+pub mod Takes
+pub mod Cases
+-- Moves say what lists of actions and conditions said apart.
+mod MovesAgree
 pub mod OneTree
 pub mod OneIteration

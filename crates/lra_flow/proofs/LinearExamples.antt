@@ -1,14 +1,12 @@
--- Linear forms, tests and conditions. Which slip an example would catch stands beside it.
-use Rattle.std.proofs.Common.{◌≡◌, ℤ, pos, negsuc, List, [], ◌∷◌, Some, None, true, false, refl}
+-- Linear forms, tests and given rows. Which slip an example would catch stands beside it.
+use Rattle.std.proofs.Common.{◌≡◌, ℤ, pos, negsuc, List, [], ◌∷◌, Some, None, true, refl}
 use Rattle.std.specs.Int.Signed.{le_z_yes}
 use Rattle.lra_program.specs.Program.{local, Expr, literal, read, input, binary, compare, nonzero, opposite, both_of, either_of}
-use Rattle.lra_base.specs.Operators.{plus, minus, times, over, below, above, at_least, equal, differs}
+use Rattle.lra_base.specs.Operators.{plus, minus, times, over, below, above, at_least, differs}
 use Rattle.lra_program.specs.Value.{value_of, truth_of}
 use Rattle.lra_linear.specs.declared.ConKind.TheVariants.{Ge}
 use Rattle.lra_lin.specs.Form.{Form}
-use Rattle.lra_lin.specs.declared.test.Test.{Test}
 use Rattle.lra_flow.specs.Linear.{TestHolds, form_of, comparison_test}
-use Rattle.lra_flow.specs.Condition.{atom, one_or, push, Actions, IsCond}
 use Rattle.lra_flow.specs.Given.{given_rows}
 
 -- two live variables
@@ -56,13 +54,6 @@ test_past_words : (truth_of (compare below x y) 0 ends [] ≡ Some (true, [])) �
     × TestHolds (record { expr = form (negsuc 0) (negsuc 0 ∷ pos 1 ∷ []); kind = Ge }) ends
 test_past_words = (refl, refl, le_z_yes tt)
 
--- !(x < y && x) is !(x < y), or x < y and then x == 0: catches an `&&` that stays
-opposed : push true (opposite (both_of (compare below x y) (nonzero x))) ≡ one_or (atom at_least x y) (atom below x y) (atom equal x (literal 0))
-opposed = refl
-
-twice_opposed : push false (opposite (either_of (compare equal x y) (nonzero y))) ≡ one_or (atom equal x y) (atom differs x y) (atom differs y (literal 0))
-twice_opposed = refl
-
 -- x < 1 || y < 2: catches rows of the opposite of x < 1, of which the right side is told as well
 given_by_or : (given_rows 2 0 (either_of (compare below x (literal 1)) (compare below y (literal 2)))).rows ≡
     (pos 0 ∷ negsuc 0 ∷ pos 0 ∷ []) ∷ (pos 1 ∷ negsuc 0 ∷ pos 0 ∷ [])
@@ -83,21 +74,3 @@ given_wide = refl
 -- an atom that isn't linear gives none, and the others theirs
 given_beside_input : (given_rows 1 0 (both_of (compare below x input) (compare at_least x (literal 3)))).rows ≡ (negsuc 2 ∷ pos 1 ∷ []) ∷ (negsuc 1 ∷ pos 1 ∷ []) ∷ []
 given_beside_input = refl
-
--- with texts of tests as a domain, `x != y` is a join of two tests, in this order
-pub data Made : Type 0 where
-  all_stores : Made
-  tested : Test → Made → Made
-  joined : Made → Made → Made
-
-abbrev making : Actions Made
-making = record { IsTested = λ t v w. w ≡ tested t v; IsJoined = λ v w u. u ≡ joined v w }
-
-differs_joins : IsCond Made making 2 0 (compare differs x y) true all_stores
-    (joined (tested (record { expr = form (negsuc 0) (negsuc 0 ∷ pos 1 ∷ []); kind = Ge }) all_stores)
-    (tested (record { expr = form (negsuc 0) (pos 1 ∷ negsuc 0 ∷ []); kind = Ge }) all_stores))
-differs_joins = (_, _, refl, refl, refl)
-
--- an atom that isn't linear changes nothing
-input_changes_nothing : IsCond Made making 2 0 (nonzero input) true all_stores all_stores
-input_changes_nothing = refl

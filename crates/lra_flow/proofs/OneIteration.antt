@@ -1,5 +1,5 @@
 -- The written iteration finds one value at each point: where each operation has one result, so has a pass.
-use Rattle.std.proofs.Common.{◌≡◌, ◌∙◌, ℕ, zero, suc, ◌-◌, List, [], ◌∷◌, Option, None, Some, Bool, true, false, refl, sym, ap, subst}
+use Rattle.std.proofs.Common.{◌≡◌, ◌∙◌, ℕ, zero, suc, ◌-◌, List, [], ◌∷◌, Option, None, Bool, true, false, refl, sym, subst}
 use Rattle.lra_sys.specs.Listed.{Listed}
 use Rattle.lra_linear.specs.declared.ConKind.{ConKind}
 use Rattle.lra_domain.specs.Actions.{Action}
@@ -7,21 +7,14 @@ use Rattle.lra_domain.specs.Laws.{SingleLaws}
 use Rattle.lra_domain.specs.Meaning.{Meaning}
 use Rattle.lra_domain.specs.declared.Mode.{Mode}
 use Rattle.lra_domain.specs.declared.Exactness.{Exactness}
-use Rattle.lra_domain.specs.declared.Exactness.TheVariants.{Exact}
 use Rattle.lra_program.specs.Program.{Cond, Program}
-use Rattle.lra_base.specs.Operators.{Comparison, below, at_most, above, at_least, equal, differs}
-use Rattle.lra_program.specs.Step.{Op, append, give, give_any, push, keep, test}
 use Rattle.lra_operations.specs.Graph.{Node, empty, point, act, check, seq, choose, iterate, catch, leave}
-use Rattle.lra_lin.specs.Form.{Form}
-use Rattle.lra_lin.specs.declared.test.Test.{Test}
-use Rattle.lra_flow.specs.Linear.{comparison_test, difference_form}
-use Rattle.lra_flow.specs.Condition as condition
 use Rattle.lra_base.specs.declared.options.Options.{Options}
 use Rattle.lra_flow.specs.Operations.{Operations, defined}
-use Rattle.lra_flow.specs.Changes.{actions_of, first_values, AreDone, AreJoined}
-use Rattle.lra_flow.specs.Conditions.{testing, tested, Leaves}
+use Rattle.lra_flow.specs.Moves.{Moves, stay, make, first_then, join_of, AreMade}
+use Rattle.lra_flow.specs.MovesOf.{guard, moves_of, first_values}
 use Rattle.lra_flow.specs.Given.{given_rows}
-use Rattle.lra_flow.specs.Pass.{Result, noted, values_behind, Changes, Through, GoesRound, GoesFrom, Grows, Narrows, mode_at, Pass, value}
+use Rattle.lra_flow.specs.Pass.{Result, noted, values_behind, AreJoined, Leaves, Through, GoesRound, GoesFrom, Grows, Narrows, mode_at, Pass}
 use Rattle.lra_flow.specs.Analysis.{Written, Iteration}
 
 -- each operation has one exactness and one result; a head doesn't grow where it is stable
@@ -48,12 +41,21 @@ defined_single m laws = record {
 }
 
 module _ (V H : Type 0) (ops : Operations V H) (single : Single ops) where
-  pub one_done : (steps : List Action) (v : V) (e d : Exactness) (w x : V) → AreDone ops steps v e w → AreDone ops steps v d x → (e ≡ d) × (w ≡ x)
-  one_done [] v e d w x (a, b) (k, l) = (b ∙ sym l, a ∙ sym k)
-  one_done (step ∷ steps) v e d w x (m, a, b, one, rest, is) (n, k, l, two, others, same) =
-      let (y, z) = single.changed step v a k m n one two in
-      let (p, q) = one_done steps m b l w x rest (subst (λ (u : V). AreDone ops steps u l x) (sym z) others) in
-      (is ∙ rw (y, p) refl ∙ sym same, q)
+  pub one_made : (p : Moves) (v : V) (e d : Exactness) (w x : V) → AreMade ops p v e w → AreMade ops p v d x → (e ≡ d) × (w ≡ x)
+  one_made stay v e d w x (a, b) (k, l) = (b ∙ sym l, a ∙ sym k)
+  one_made (make step) v e d w x a b = single.changed step v e d w x a b
+  one_made (first_then p q) v e d w x (m, a, b, one, two, is) (n, k, l, first, last, same) =
+      let (y, z) = one_made p v a k m n one first in
+      let (i, j) = one_made q m b l w x two (rw z last) in
+      (is ∙ rw (y, i) refl ∙ sym same, j)
+  one_made (join_of p q) v e d w x (m, n, a, b, c, one, two, joined, is) (o, r, k, l, i, first, last, added, same) =
+      let (y, z) = one_made p v a k m o one first in
+      let (t, u) = one_made q v b l n r two last in
+      let (f, g) = single.joined m n c i w x joined (rw (z, u) added) in
+      (is ∙ rw (y, t, f) refl ∙ sym same, g)
+
+  one_left : (base : ℕ) (c : Cond) (wanted : Bool) (v : V) (e d : Exactness) (w x : V) → Leaves ops base c wanted v e w → Leaves ops base c wanted v d x → (e ≡ d) × (w ≡ x)
+  one_left base c wanted v e d w x a b = one_made (guard (ops.dims v) base wanted c) v e d w x a b
 
   one_join : (us : List V) (v : V) (e d : Exactness) (w x : V) → AreJoined ops v us e w → AreJoined ops v us d x → (e ≡ d) × (w ≡ x)
   one_join [] v e d w x (a, b) (k, l) = (b ∙ sym l, a ∙ sym k)
@@ -61,60 +63,6 @@ module _ (V H : Type 0) (ops : Operations V H) (single : Single ops) where
       let (y, z) = single.joined v u a k m n one two in
       let (p, q) = one_join us m b l w x rest (subst (λ (t : V). AreJoined ops t us l x) (sym z) others) in
       (is ∙ rw (y, p) refl ∙ sym same, q)
-
-  -- a value, and the exactness of what led to it
-  abbrev Told : Type 0
-  Told = V × Exactness
-
-  one_test : (live base : ℕ) (t : Option Test) (v w x : Told) → condition.IsTestedBy Told (testing ops) live base t v w → condition.IsTestedBy Told (testing ops) live base t v x → w ≡ x
-  one_test live base None v w x a b = a ∙ sym b
-  one_test live base (Some t) v w x (e, one, is) (d, two, same) =
-      let (y, z) = single.changed (tested t) v.0 e d w.0 x.0 one two in
-      let last : w.1 ≡ x.1 = is ∙ rw y refl ∙ sym same in
-      let both : (w.0, w.1) ≡ (x.0, x.1) = rw (z, last) refl in both
-
-  one_or_joined : (u v w x : Told) → (testing ops).IsJoined u v w → (testing ops).IsJoined u v x → w ≡ x
-  one_or_joined u v w x (e, one, is) (d, two, same) =
-      let (y, z) = single.joined u.0 v.0 e d w.0 x.0 one two in
-      let last : w.1 ≡ x.1 = is ∙ rw y refl ∙ sym same in
-      let both : (w.0, w.1) ≡ (x.0, x.1) = rw (z, last) refl in both
-
-  one_atom : (live base : ℕ) (op : Comparison) (f : Option Form) (v w x : Told) → condition.IsAtom Told (testing ops) live base op f v w
-      → condition.IsAtom Told (testing ops) live base op f v x → w ≡ x
-  one_atom live base op None v w x a b = a ∙ sym b
-  one_atom live base differs (Some f) v w x (less, more, a, b, c) (under, over, k, l, m) =
-      let y = one_test live base (comparison_test below f) v less under a k in
-      let z = one_test live base (comparison_test above f) v more over b l in
-      one_or_joined less more w x c (rw (y, z) m)
-  one_atom live base below (Some f) v w x a b = one_test live base (comparison_test below f) v w x a b
-  one_atom live base at_most (Some f) v w x a b = one_test live base (comparison_test at_most f) v w x a b
-  one_atom live base above (Some f) v w x a b = one_test live base (comparison_test above f) v w x a b
-  one_atom live base at_least (Some f) v w x a b = one_test live base (comparison_test at_least f) v w x a b
-  one_atom live base equal (Some f) v w x a b = one_test live base (comparison_test equal f) v w x a b
-
-  one_pushed : (live base : ℕ) (p : condition.Pushed) (v w x : Told) → condition.IsPushed Told (testing ops) live base p v w → condition.IsPushed Told (testing ops) live base p v x → w ≡ x
-  one_pushed live base (condition.atom op a b) v w x k l = one_atom live base op (difference_form live base a b) v w x k l
-  one_pushed live base (condition.first_then p q) v w x (m, a, b) (n, k, l) =
-      let y = one_pushed live base p v m n a k in
-      one_pushed live base q m w x b (subst (λ (t : Told). condition.IsPushed Told (testing ops) live base q t x) (sym y) l)
-  one_pushed live base (condition.one_or p opposed q) v w x (left, m, right, a, b, c, e) (first, n, last, k, l, o, s) =
-      let y = one_pushed live base p v left first a k in
-      let z = one_pushed live base opposed v m n b l in
-      let i = one_pushed live base q m right last c (subst (λ (t : Told). condition.IsPushed Told (testing ops) live base q t last) (sym z) o) in
-      one_or_joined left right w x e (rw (y, i) s)
-
-  one_left : (base : ℕ) (c : Cond) (wanted : Bool) (v : V) (e d : Exactness) (w x : V) → Leaves ops base c wanted v e w → Leaves ops base c wanted v d x → (e ≡ d) × (w ≡ x)
-  one_left base c wanted v e d w x a b =
-      let y : (w, e) ≡ (x, d) = one_pushed (ops.dims v) base (condition.push wanted c) (v, Exact) (w, e) (x, d) a b in
-      (ap (λ (t : Told). t.1) y, ap (λ (t : Told). t.0) y)
-
-  one_change : (op : Op) (v : V) (e d : Exactness) (w x : V) → Changes V H ops op v e w → Changes V H ops op v d x → (e ≡ d) × (w ≡ x)
-  one_change append v e d w x a b = one_done (actions_of (ops.dims v) append) v e d w x a b
-  one_change (give base y z) v e d w x a b = one_done (actions_of (ops.dims v) (give base y z)) v e d w x a b
-  one_change (give_any y) v e d w x a b = one_done (actions_of (ops.dims v) (give_any y)) v e d w x a b
-  one_change (push base es) v e d w x a b = one_done (actions_of (ops.dims v) (push base es)) v e d w x a b
-  one_change (keep n) v e d w x a b = one_done (actions_of (ops.dims v) (keep n)) v e d w x a b
-  one_change (test base c wanted) v e d w x a b = one_left base c wanted v e d w x a b
 
   -- what a body gives is one thing
   abbrev IsOne : Through V → Type 0
@@ -158,7 +106,7 @@ module _ (V H : Type 0) (ops : Operations V H) (single : Single ops) where
   one_pass set empty f v r s is same = is ∙ sym same
   one_pass set (point q) f v r s is same = is ∙ sym same
   one_pass set (act q op) f v r s (w, e, a, is) (x, d, b, same) =
-      let (y, z) = one_change op v e d w x a b in is ∙ rw (y, z) refl ∙ sym same
+      let (y, z) = one_made (moves_of (ops.dims v) op) v e d w x a b in is ∙ rw (y, z) refl ∙ sym same
   one_pass set (check q base c) f v r s (u, w, d, e, off, on, is) (x, y, i, j, off', on', same) =
       let (k, l) = one_left base c false v d i u x off off' in
       let (m, n) = one_left base c true v e j w y on on' in
@@ -192,7 +140,7 @@ module _ (V H : Type 0) (ops : Operations V H) (single : Single ops) where
   pub one_iteration : (set : Options) (P : Program) (g : Node) (r s : Result V) → Iteration ops set P g r → Iteration ops set P g s → r ≡ s
   one_iteration set P g r s (none, first, e, universal, values, pass) (none', first', e', universal', values', pass') =
       let k = single.universal 0 set.parts none none' universal universal' in
-      let (l, m) = one_done (first_values 0 P.globals) none e e' first first' values (rw k values') in
+      let (l, m) = one_made (first_values 0 P.globals) none e e' first first' values (rw k values') in
       one_pass set g (noted 0 e None) first r s pass (rw (l, m) pass')
 
 pub one_written : {V H : Type 0} (m : Meaning V H) → SingleLaws m → (set : Options) (P : Program) (g : Node) (r s : Result V) → Written m set P g r → Written m set P g s → r ≡ s

@@ -9,7 +9,8 @@ use Rattle.lra_program.specs.Program.{local, Expr, literal, read, input, binary,
 use Rattle.lra_base.specs.Operators.{plus, below, equal}
 use Rattle.lra_program.specs.Step.{give, push, keep}
 use Rattle.lra_operations.specs.Graph.{broken, returned}
-use Rattle.lra_flow.specs.Changes.{actions_of, first_values}
+use Rattle.lra_flow.specs.Moves.{stay, make, first_then}
+use Rattle.lra_flow.specs.MovesOf.{moves_of, first_values}
 use Rattle.lra_flow.specs.Given.{given_rows}
 use Rattle.lra_flow.specs.Pass.{Result, noted, values_behind, mode_at}
 
@@ -29,27 +30,28 @@ or_given : (given_rows 1 0 (either_of (compare below i (literal 10)) (compare be
 or_given = refl
 
 -- one variable is live: a call's parameter is new and gets i + 1
-push_example : actions_of 1 (push 0 (binary plus i (literal 1) ∷ [])) ≡ embed 1 ∷ assign 1 (form (pos 1) (pos 1 ∷ pos 0 ∷ [])) ∷ []
+push_example : moves_of 1 (push 0 (binary plus i (literal 1) ∷ [])) ≡ first_then (first_then (make (embed 1)) (make (assign 1 (form (pos 1) (pos 1 ∷ pos 0 ∷ []))))) stay
 push_example = refl
 
 -- a parameter that gets no linear form may be anything
-push_input : actions_of 1 (push 0 (input ∷ [])) ≡ embed 1 ∷ forget 1 ∷ []
+push_input : moves_of 1 (push 0 (input ∷ [])) ≡ first_then (first_then (make (embed 1)) (make (forget 1))) stay
 push_input = refl
 
 -- of three variables the newest two go; where none goes nothing is done
-keep_one : actions_of 3 (keep 1) ≡ remove_last 2 ∷ []
+keep_one : moves_of 3 (keep 1) ≡ make (remove_last 2)
 keep_one = refl
 
-keep_all : actions_of 3 (keep 3) ≡ []
+keep_all : moves_of 3 (keep 3) ≡ stay
 keep_all = refl
 
 -- a value without a variable that gets it changes nothing
-no_target : actions_of 1 (give 0 None input) ≡ []
+no_target : moves_of 1 (give 0 None input) ≡ stay
 no_target = refl
 
 -- two globals, -3 and 5
 globals_example : first_values 0 (negsuc 2 ∷ pos 5 ∷ [])
-    ≡ embed 1 ∷ assign 0 (form (negsuc 2) (pos 0 ∷ [])) ∷ embed 1 ∷ assign 1 (form (pos 5) (pos 0 ∷ pos 0 ∷ [])) ∷ []
+    ≡ first_then (first_then (make (embed 1)) (make (assign 0 (form (negsuc 2) (pos 0 ∷ [])))))
+    (first_then (first_then (make (embed 1)) (make (assign 1 (form (pos 5) (pos 0 ∷ pos 0 ∷ []))))) stay)
 globals_example = refl
 
 -- the first flagged point stays

@@ -1,26 +1,19 @@
 -- From an iteration by some operations to one by others, where each answer of the first that matters is one of the second.
-use Rattle.std.proofs.Common.{◌≡◌, ℕ, zero, suc, ◌-◌, List, [], ◌∷◌, Option, None, Some, Bool, true, false, refl, subst}
+use Rattle.std.proofs.Common.{◌≡◌, ℕ, zero, suc, ◌-◌, List, [], ◌∷◌, Option, Bool, true, false, refl, subst}
 use Rattle.lra_sys.specs.Listed.{Listed}
 use Rattle.lra_linear.specs.declared.ConKind.{ConKind}
 use Rattle.lra_domain.specs.Actions.{Action}
 use Rattle.lra_domain.specs.declared.Mode.{Mode}
 use Rattle.lra_domain.specs.declared.Exactness.{Exactness}
-use Rattle.lra_domain.specs.declared.Exactness.TheVariants.{Exact}
 use Rattle.lra_program.specs.Program.{Cond}
-use Rattle.lra_base.specs.Operators.{Comparison, below, above, differs}
-use Rattle.lra_program.specs.Step.{Op, append, give, give_any, push, keep, test}
 use Rattle.lra_operations.specs.Graph.{Exit, broken, continued, returned, Node, empty, point, act, check, seq, choose, iterate, catch, leave}
-use Rattle.lra_lin.specs.Form.{Form}
-use Rattle.lra_lin.specs.declared.test.Test.{Test}
-use Rattle.lra_flow.specs.Linear.{comparison_test, difference_form}
-use Rattle.lra_flow.specs.Condition as condition
 use Rattle.lra_base.specs.declared.options.Options.{Options}
 use Rattle.lra_domain.specs.Meaning.{worse}
 use Rattle.lra_flow.specs.Operations.{Operations}
-use Rattle.lra_flow.specs.Changes.{actions_of, AreDone, AreJoined}
-use Rattle.lra_flow.specs.Conditions.{testing, tested, Leaves}
+use Rattle.lra_flow.specs.Moves.{Moves, stay, make, first_then, join_of, AreMade}
+use Rattle.lra_flow.specs.MovesOf.{guard, moves_of}
 use Rattle.lra_flow.specs.Given.{given_rows}
-use Rattle.lra_flow.specs.Pass.{Result, noted, jumps, values_behind, behind, Changes, Through, GoesRound, GoesFrom, Grows, Narrows, mode_at, Pass}
+use Rattle.lra_flow.specs.Pass.{Result, noted, jumps, values_behind, behind, AreJoined, Leaves, Through, GoesRound, GoesFrom, Grows, Narrows, mode_at, Pass}
 
 -- the answers that matter: with this exactness, with this flag
 pub record Matters (Keeps : Exactness → Type 0) (Fine : Option ℕ → Type 0) : Type 0 where
@@ -51,62 +44,25 @@ jump_flag continued v nothing f = refl
 jump_flag returned v nothing f = refl
 
 module _ (V H : Type 0) (a b : Operations V H) (Keeps : Exactness → Type 0) (Fine : Option ℕ → Type 0) (matters : Matters Keeps Fine) (moves : Transfers Keeps a b) where
-  pub done : (steps : List Action) (v : V) (e : Exactness) (w : V) → Keeps e → AreDone a steps v e w → AreDone (aligned a b) steps v e w
-  done [] v e w k h = h
-  done (step ∷ steps) v e w k (m, c, d, one, rest, is) =
-      let p = matters.parts c d (subst Keeps is k) in
-      (m, c, d, moves.changed step v c m p.0 one, done steps m d w p.1 rest, is)
+  pub made : (p : Moves) (v : V) (e : Exactness) (w : V) → Keeps e → AreMade a p v e w → AreMade (aligned a b) p v e w
+  made stay v e w k h = h
+  made (make step) v e w k h = moves.changed step v e w k h
+  made (first_then p q) v e w k (x, c, d, one, two, is) =
+      let i = matters.parts c d (subst Keeps is k) in
+      (x, c, d, made p v c x i.0 one, made q x d w i.1 two, is)
+  made (join_of p q) v e w k (x, y, c, d, i, one, two, joined, is) =
+      let j = matters.parts (worse c d) i (subst Keeps is k) in
+      let l = matters.parts c d j.0 in
+      (x, y, c, d, i, made p v c x l.0 one, made q v d y l.1 two, moves.joined x y i w j.1 joined, is)
+
+  leaves : (base : ℕ) (c : Cond) (wanted : Bool) (v : V) (e : Exactness) (w : V) → Keeps e → Leaves a base c wanted v e w → Leaves (aligned a b) base c wanted v e w
+  leaves base c wanted v e w k h = made (guard (a.dims v) base wanted c) v e w k h
 
   joins : (v : V) (us : List V) (e : Exactness) (w : V) → Keeps e → AreJoined a v us e w → AreJoined (aligned a b) v us e w
   joins v [] e w k h = h
   joins v (u ∷ us) e w k (m, c, d, one, rest, is) =
       let p = matters.parts c d (subst Keeps is k) in
       (m, c, d, moves.joined v u c m p.0 one, joins m us d w p.1 rest, is)
-
-  -- conditions
-  tests : (live base : ℕ) (t : Option Test) (v w : V × Exactness) → Keeps w.1 → condition.IsTestedBy (V × Exactness) (testing a) live base t v w
-      → Keeps v.1 × condition.IsTestedBy (V × Exactness) (testing (aligned a b)) live base t v w
-  tests live base None v w k h = (subst (λ (x : V × Exactness). Keeps x.1) h k, h)
-  tests live base (Some t) v w k (e, is, worst) =
-      let p = matters.parts v.1 e (subst Keeps worst k) in
-      (p.0, (e, moves.changed (tested t) v.0 e w.0 p.1 is, worst))
-
-  atoms : (live base : ℕ) (op : Comparison) (d : Option Form) (v w : V × Exactness) → Keeps w.1 → condition.IsAtom (V × Exactness) (testing a) live base op d v w
-      → Keeps v.1 × condition.IsAtom (V × Exactness) (testing (aligned a b)) live base op d v w
-  atoms live base op None v w k h = (subst (λ (x : V × Exactness). Keeps x.1) h k, h)
-  atoms live base differs (Some d) v w k (less, more, one, two, (e, is, worst)) =
-      let p = matters.parts (worse less.1 more.1) e (subst Keeps worst k) in
-      let q = matters.parts less.1 more.1 p.0 in
-      let x = tests live base (comparison_test below d) v less q.0 one in
-      let y = tests live base (comparison_test above d) v more q.1 two in
-      (x.0, (less, more, x.1, y.1, (e, moves.joined less.0 more.0 e w.0 p.1 is, worst)))
-  atoms live base op (Some d) v w k h = tests live base (comparison_test op d) v w k h
-
-  pushed : (live base : ℕ) (p : condition.Pushed) (v w : V × Exactness) → Keeps w.1 → condition.IsPushed (V × Exactness) (testing a) live base p v w
-      → Keeps v.1 × condition.IsPushed (V × Exactness) (testing (aligned a b)) live base p v w
-  pushed live base (condition.atom op x y) v w k h = atoms live base op (difference_form live base x y) v w k h
-  pushed live base (condition.first_then p q) v w k (m, one, two) =
-      let y = pushed live base q m w k two in
-      let x = pushed live base p v m y.0 one in
-      (x.0, (m, x.1, y.1))
-  pushed live base (condition.one_or p opposed q) v w k (left, m, right, one, off, two, (e, is, worst)) =
-      let i = matters.parts (worse left.1 right.1) e (subst Keeps worst k) in
-      let j = matters.parts left.1 right.1 i.0 in
-      let z = pushed live base q m right j.1 two in
-      let y = pushed live base opposed v m z.0 off in
-      let x = pushed live base p v left j.0 one in
-      (x.0, (left, m, right, x.1, y.1, z.1, (e, moves.joined left.0 right.0 e w.0 i.1 is, worst)))
-
-  leaves : (base : ℕ) (c : Cond) (wanted : Bool) (v : V) (e : Exactness) (w : V) → Keeps e → Leaves a base c wanted v e w → Leaves (aligned a b) base c wanted v e w
-  leaves base c wanted v e w k h = (pushed (a.dims v) base (condition.push wanted c) (v, Exact) (w, e) k h).1
-
-  changes : (op : Op) (v : V) (e : Exactness) (w : V) → Keeps e → Changes V H a op v e w → Changes V H (aligned a b) op v e w
-  changes append v e w k h = done (actions_of (a.dims v) append) v e w k h
-  changes (give base x y) v e w k h = done (actions_of (a.dims v) (give base x y)) v e w k h
-  changes (give_any x) v e w k h = done (actions_of (a.dims v) (give_any x)) v e w k h
-  changes (push base es) v e w k h = done (actions_of (a.dims v) (push base es)) v e w k h
-  changes (keep n) v e w k h = done (actions_of (a.dims v) (keep n)) v e w k h
-  changes (test base c wanted) v e w k h = leaves base c wanted v e w k h
 
   module _ (q base : ℕ) (c : Cond) (body other : Through V) (follows : (f : Option ℕ) (v : V) (r : Result V) → Fine r.flag → body f v r → Fine f × other f v r) where
     round : (f : Option ℕ) (v : V) (r : Result V) → Fine r.flag → GoesRound V H a q base c body f v r → Fine f × GoesRound V H (aligned a b) q base c other f v r
@@ -146,7 +102,7 @@ module _ (V H : Type 0) (a b : Operations V H) (Keeps : Exactness → Type 0) (F
   passes set (point q) f v r k is = (subst (λ (x : Result V). Fine x.flag) is k, is)
   passes set (act q op) f v r k (w, e, h, is) =
       let p = matters.before q e f (subst (λ (x : Result V). Fine x.flag) is k) in
-      (p.1, (w, e, changes op v e w p.0 h, is))
+      (p.1, (w, e, made (moves_of (a.dims v) op) v e w p.0 h, is))
   passes set (check q base c) f v r k (u, w, d, e, off, on, is) =
       let p = matters.before q e (noted q d f) (subst (λ (x : Result V). Fine x.flag) is k) in
       let o = matters.before q d f p.1 in

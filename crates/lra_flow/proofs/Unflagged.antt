@@ -9,10 +9,10 @@ use Rattle.lra_operations.specs.Graph.{Node}
 use Rattle.lra_base.specs.declared.options.Options.{Options}
 use Rattle.lra_domain.specs.Meaning.{worse}
 use Rattle.lra_flow.specs.Operations.{defined, dropping, straining}
-use Rattle.lra_flow.specs.Changes.{first_values}
+use Rattle.lra_flow.specs.MovesOf.{first_values}
 use Rattle.lra_flow.specs.Pass.{Result, noted}
 use Rattle.lra_flow.specs.Analysis.{Written, Derivation, Strains}
-use Rattle.lra_flow.proofs.Transfer.{Matters, Transfers, done, passes}
+use Rattle.lra_flow.proofs.Transfer.{Matters, Transfers, made, passes}
 
 -- all exact, no flag
 exact_parts : (c d : Exactness) → worse c d ≡ Exact → (c ≡ Exact) × (d ≡ Exact)
@@ -57,11 +57,11 @@ pub unflagged_is_written : {V H : Type 0} (m : Meaning V H) → Laws m → (set 
 unflagged_is_written {V} {H} m laws set P g r (none, first, e, universal, values, pass) is =
     let p = passes V H (dropping m) (defined m) (λ e. e ≡ Exact) (λ f. f ≡ None) none_flagged (exact_ones m laws) set g (noted 0 e None) first r is pass in
     let k = exact_before 0 e None p.0 in
-    (none, first, e, universal.0, done V H (dropping m) (defined m) (λ e. e ≡ Exact) (λ f. f ≡ None) none_flagged (exact_ones m laws) (first_values 0 P.globals) none e first k.0 values, p.1)
+    (none, first, e, universal.0, made V H (dropping m) (defined m) (λ e. e ≡ Exact) (λ f. f ≡ None) none_flagged (exact_ones m laws) (first_values 0 P.globals) none e first k.0 values, p.1)
 
 -- the first flagged operation strains on the operands of the written iteration
 pub flagged_strains : {V H : Type 0} (m : Meaning V H) → Laws m → (set : Options) (P : Program) (g : Node) (r : Result V) (q : ℕ) → Derivation m set P g r → r.flag ≡ Some q → Strains m set P g q
 flagged_strains {V} {H} m laws set P g r q (none, first, e, universal, values, pass) is =
     let p = passes V H (dropping m) (straining m) (λ e. Unit {0}) (λ f. Unit {0}) any_matters (strained_ones m laws) set g (noted 0 e None) first r tt pass in
-    let began = done V H (dropping m) (straining m) (λ e. Unit {0}) (λ f. Unit {0}) any_matters (strained_ones m laws) (first_values 0 P.globals) none e first tt values in
+    let began = made V H (dropping m) (straining m) (λ e. Unit {0}) (λ f. Unit {0}) any_matters (strained_ones m laws) (first_values 0 P.globals) none e first tt values in
     (r, (none, first, e, universal.0, began, p.1), is)

@@ -7,14 +7,15 @@ use Rattle.lra_program.specs.Program.{Program}
 use Rattle.lra_operations.specs.Graph.{Node}
 use Rattle.lra_base.specs.declared.options.Options.{Options}
 use Rattle.lra_flow.specs.Operations.{Operations, defined, dropping, straining}
-use Rattle.lra_flow.specs.Changes.{first_values, AreDone}
+use Rattle.lra_flow.specs.Moves.{AreMade}
+use Rattle.lra_flow.specs.MovesOf.{first_values}
 use Rattle.lra_flow.specs.Pass.{value, failing, Result, noted, Pass}
 
 -- from the globals at their first values, which are set at the first point, through the program's tree
 abbrev pub Iteration : {V H : Type 0} → Operations V H → Options → Program → Node → Result V → Type 0
 Iteration {V} {H} ops set P g r =
     (none first : V) × (e : Exactness) × ops.universal 0 set.parts none ×
-    AreDone ops (first_values 0 P.globals) none e first
+    AreMade ops (first_values 0 P.globals) none e first
     × Pass V H ops set g (noted 0 e None) first r
 
 -- the written iteration

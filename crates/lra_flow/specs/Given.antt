@@ -1,14 +1,14 @@
--- The rows that a loop's condition gives to its head: from the condition's atoms in text order.
-use Rattle.std.specs.Prelude.{ℕ, ℤ, pos, neg_ℤ, ◌+ℤ◌, List, [], ◌∷◌, ◌++◌, map, Option, None, Some, true}
+-- The rows that a loop's condition gives to its head: from its comparisons in text order, `!` pushed to them.
+use Rattle.std.specs.Prelude.{ℕ, ℤ, pos, neg_ℤ, ◌+ℤ◌, List, [], ◌∷◌, ◌++◌, map, Option, None, Some, Bool, true, not}
 use Rattle.lra_sys.specs.Listed.{Listed}
 use Rattle.lra_linear.specs.declared.ConKind.{ConKind}
 use Rattle.lra_linear.specs.declared.ConKind.TheVariants.{Ge}
 use Rattle.lra_base.specs.Operators.{Comparison, equal, differs}
-use Rattle.lra_program.specs.Program.{Cond}
+use Rattle.lra_program.specs.Program.{literal, Cond, compare, nonzero, opposite, both_of, either_of}
 use Rattle.lra_lin.specs.Form.{Form}
 use Rattle.lra_lin.specs.declared.test.Test.{Test}
 use Rattle.lra_flow.specs.Linear.{comparison_test, difference_form}
-use Rattle.lra_flow.specs.Condition.{Pushed, atom, first_then, one_or, push}
+use Rattle.lra_flow.specs.MovesOf.{comparison_as}
 
 -- the row `form + more >= 0`
 abbrev pub row_of : Form → ℤ → List ℤ
@@ -22,21 +22,25 @@ abbrev pub test_rows : Option Test → List (List ℤ)
 test_rows None = []
 test_rows (Some t) = row_of t.expr (pos 0) ∷ row_of t.expr (pos 1) ∷ []
 
--- d the left side minus the right one; of `==` and `!=` the rows d >= 0 and -d >= 0; none of an atom that isn't linear
-abbrev pub atom_rows : Comparison → Option Form → List (List ℤ)
-atom_rows op None = []
-atom_rows equal (Some d) = row_of d (pos 0) ∷ opposite_row d ∷ []
-atom_rows differs (Some d) = row_of d (pos 0) ∷ opposite_row d ∷ []
-atom_rows op (Some d) = test_rows (comparison_test op d)
+-- d the left side minus the right one; of `==` and `!=` the rows d >= 0 and -d >= 0; none where it isn't linear
+abbrev pub comparison_rows : Comparison → Option Form → List (List ℤ)
+comparison_rows op None = []
+comparison_rows equal (Some d) = row_of d (pos 0) ∷ opposite_row d ∷ []
+comparison_rows differs (Some d) = row_of d (pos 0) ∷ opposite_row d ∷ []
+comparison_rows op (Some d) = test_rows (comparison_test op d)
 
-abbrev pub pushed_rows : ℕ → ℕ → Pushed → List (List ℤ)
-pushed_rows live base (atom op a b) = atom_rows op (difference_form live base a b)
-pushed_rows live base (first_then a b) = pushed_rows live base a ++ pushed_rows live base b
--- the opposite is no part of the text
-pushed_rows live base (one_or a opposed b) = pushed_rows live base a ++ pushed_rows live base b
+-- of the condition where it is to be so
+abbrev pub guard_rows : ℕ → ℕ → Bool → Cond → List (List ℤ)
+guard_rows live base wanted (compare op a b) =
+    comparison_rows (comparison_as wanted op) (difference_form live base a b)
+guard_rows live base wanted (nonzero e) =
+    comparison_rows (comparison_as wanted differs) (difference_form live base e (literal 0))
+guard_rows live base wanted (opposite c) = guard_rows live base (not wanted) c
+guard_rows live base wanted (both_of a b) = guard_rows live base wanted a ++ guard_rows live base wanted b
+guard_rows live base wanted (either_of a b) = guard_rows live base wanted a ++ guard_rows live base wanted b
 
 abbrev pub inequalities : ℕ → List (List ℤ) → Listed ConKind
 inequalities live rows = record { dims = live; rows = rows; kinds = map (λ row. Ge) rows }
 
 abbrev pub given_rows : ℕ → ℕ → Cond → Listed ConKind
-given_rows live base c = inequalities live (pushed_rows live base (push true c))
+given_rows live base c = inequalities live (guard_rows live base true c)

@@ -1,10 +1,9 @@
--- How an analysis sees expressions and conditions.
+-- How an analysis sees expressions.
 pub mod Linear
-pub mod Condition
 -- The iteration.
 pub mod Operations
-pub mod Changes
-pub mod Conditions
+pub mod Moves
+pub mod MovesOf
 pub mod Given
 pub mod Pass
 pub mod Analysis

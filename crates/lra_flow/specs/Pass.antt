@@ -7,13 +7,14 @@ use Rattle.lra_domain.specs.declared.Mode.TheVariants.{Join, Widen, Limited}
 use Rattle.lra_domain.specs.declared.Exactness.{Exactness}
 use Rattle.lra_domain.specs.declared.Exactness.TheVariants.{Exact, Flagged}
 use Rattle.lra_program.specs.Program.{Cond}
-use Rattle.lra_program.specs.Step.{Op, test}
+use Rattle.lra_program.specs.Step.{Op}
 use Rattle.lra_operations.specs.Graph.{Exit, broken, continued, returned, Node, empty, point, act, check, seq, choose}
 use Rattle.lra_operations.specs.Graph.{iterate, catch, leave}
 use Rattle.lra_base.specs.declared.options.Options.{Options}
 use Rattle.lra_flow.specs.Operations.{Operations}
-use Rattle.lra_flow.specs.Changes.{actions_of, AreDone, AreJoined}
-use Rattle.lra_flow.specs.Conditions.{Leaves}
+use Rattle.lra_domain.specs.Meaning.{worse}
+use Rattle.lra_flow.specs.Moves.{AreMade}
+use Rattle.lra_flow.specs.MovesOf.{guard, moves_of}
 use Rattle.lra_flow.specs.Given.{given_rows}
 
 -- what is found on the way
@@ -110,16 +111,25 @@ mode_at limited (suc left) = Join
 mode_at true zero = Limited
 mode_at false zero = Widen
 
+-- the values joined one by one, from the left
+abbrev pub AreJoined : {V H : Type 0} → Operations V H → V → List V → Exactness → V → Type 0
+AreJoined {V} ops v [] e w = (w ≡ v) × (e ≡ Exact)
+AreJoined {V} ops v (u ∷ us) e w = (m : V) × (c d : Exactness) × ops.joined v u c m × AreJoined ops m us d w ×
+    (e ≡ worse c d)
+
+-- from v the condition, wanted true or false, leaves w
+abbrev pub Leaves : {V H : Type 0} → Operations V H → ℕ → Cond → Bool → V → Exactness → V → Type 0
+Leaves ops base c wanted v e w = AreMade ops (guard (ops.dims v) base wanted c) v e w
+
+-- the least change makes w of v
+abbrev pub Changes : {V H : Type 0} → Operations V H → Op → V → Exactness → V → Type 0
+Changes ops op v e w = AreMade ops (moves_of (ops.dims v) op) v e w
+
 -- from the first flagged point so far and a value to a result
 abbrev pub Through : Type 0 → Type 1
 Through V = Option ℕ → V → Result V → Type 0
 
 module _ (V H : Type 0) (ops : Operations V H) where
-  -- a least change: a condition, or the changes that the domain has for it
-  abbrev pub Changes : Op → V → Exactness → V → Type 0
-  Changes (test base c wanted) v e w = Leaves ops base c wanted v e w
-  Changes op v e w = AreDone ops (actions_of (ops.dims v) op) v e w
-
   -- the loop at point q, by its condition and what its body does
   module _ (q base : ℕ) (c : Cond) (body : Through V) where
     -- one pass from a value of the loop's head
@@ -152,7 +162,7 @@ module _ (V H : Type 0) (ops : Operations V H) where
 abbrev pub Pass : (V H : Type 0) → Operations V H → Options → Node → Through V
 Pass V H ops set empty f v r = r ≡ goes_on [] v f
 Pass V H ops set (point q) f v r = r ≡ goes_on (value q v ∷ []) v f
-Pass V H ops set (act q op) f v r = (w : V) × (e : Exactness) × Changes V H ops op v e w ×
+Pass V H ops set (act q op) f v r = (w : V) × (e : Exactness) × Changes ops op v e w ×
     (r ≡ goes_on [] w (noted q e f))
 -- where the condition is false, and then where it is true
 Pass V H ops set (check q base c) f v r =

@@ -1,0 +1,59 @@
+-- Moves of conditions. Which slip an example would catch stands beside it.
+use Rattle.std.proofs.Common.{◌≡◌, ℤ, pos, negsuc, [], ◌∷◌, true, false, refl, inr}
+use Rattle.lra_program.specs.Program.{local, Expr, read, input, compare, nonzero, opposite, both_of, either_of}
+use Rattle.lra_base.specs.Operators.{below, equal, differs}
+use Rattle.lra_linear.specs.declared.ConKind.TheVariants.{Ge, Eq}
+use Rattle.lra_domain.specs.Actions.{Action, test, embed}
+use Rattle.lra_flow.specs.Moves.{stay, make, first_then, join_of, MayLead, cases, dims_moved}
+use Rattle.lra_flow.specs.MovesOf.{guard}
+
+-- two live variables
+abbrev x : Expr
+x = read (local 0)
+
+abbrev y : Expr
+y = read (local 1)
+
+-- c + a*x + b*y >= 0, or = 0
+abbrev at_least_0 : ℤ → ℤ → ℤ → Action
+at_least_0 c a b = test Ge (record { constant = c; coefficients = a ∷ b ∷ [] })
+
+abbrev is_0 : ℤ → ℤ → ℤ → Action
+is_0 c a b = test Eq (record { constant = c; coefficients = a ∷ b ∷ [] })
+
+-- x < y
+abbrev less : Action
+less = at_least_0 (negsuc 0) (negsuc 0) (pos 1)
+
+-- x != y joins x < y with x > y, in this order
+differs_joins : guard 2 0 true (compare differs x y) ≡ join_of (make less) (make (at_least_0 (negsuc 0) (pos 1) (negsuc 0)))
+differs_joins = refl
+
+-- !(x < y && x) is !(x < y), or x < y and then x == 0: catches an `&&` that stays, and a right side that is met where the left one is false
+opposed : guard 2 0 true (opposite (both_of (compare below x y) (nonzero x)))
+    ≡ join_of (make (at_least_0 (pos 0) (pos 1) (negsuc 0))) (first_then (make less) (make (is_0 (pos 0) (pos 1) (pos 0))))
+opposed = refl
+
+twice_opposed : guard 2 0 false (opposite (either_of (compare equal x y) (compare below x y)))
+    ≡ join_of (make (is_0 (pos 0) (pos 1) (negsuc 0)))
+    (first_then (join_of (make less) (make (at_least_0 (negsuc 0) (pos 1) (negsuc 0)))) (make less))
+twice_opposed = refl
+
+-- x == y and then x < y; a comparison that isn't linear does nothing
+in_turn : guard 2 0 true (both_of (compare equal x y) (compare below x input)) ≡ first_then (make (is_0 (pos 0) (pos 1) (negsuc 0))) stay
+in_turn = refl
+
+-- written out, a join has one case for each side, and what comes behind it is in both
+joined_then : cases (first_then (join_of (make (embed 1)) stay) (make less)) ≡ (embed 1 ∷ less ∷ []) ∷ (less ∷ []) ∷ []
+joined_then = refl
+
+opposed_cases : cases (guard 2 0 false (both_of (compare below x y) (nonzero x)))
+    ≡ (at_least_0 (pos 0) (pos 1) (negsuc 0) ∷ []) ∷ (less ∷ is_0 (pos 0) (pos 1) (pos 0) ∷ []) ∷ []
+opposed_cases = refl
+
+-- at x = 1, y = 1 the left side of x < y || x == y leads nowhere, and the right one stays
+right_leads : MayLead (join_of (make less) (make (is_0 (pos 0) (pos 1) (negsuc 0)))) (pos 1 ∷ pos 1 ∷ []) (pos 1 ∷ pos 1 ∷ [])
+right_leads = inr (refl, refl)
+
+two_more : dims_moved (first_then (make (embed 1)) (join_of (make (embed 1)) stay)) 2 ≡ 4
+two_more = refl
