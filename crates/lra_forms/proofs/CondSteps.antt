@@ -9,7 +9,8 @@ use Rattle.lra_program.specs.declared.program.Cond as declared_cond
 use Rattle.lra_program.specs.declared.program.Cond.{All, Any, the_lemmas}
 use Rattle.lra_program.specs.ProgramViews.{all_of, any_of, cond_view}
 use Rattle.lra_flow.specs.Linear.{entrywise, combined, fitting, constant_form, less_one, form_of, difference_form}
-use Rattle.lra_flow.specs.Condition.{first_then, one_or, push}
+use Rattle.lra_flow.specs.Moves.{Moves, first_then, join_of}
+use Rattle.lra_flow.specs.MovesOf.{guard}
 use Rattle.lra_flow.proofs.FormLemmas.{form_wide}
 use Rattle.lra_forms.specs.Conditions.{in_turn_of}
 use Rattle.lra_forms.specs.Conditions as chains
@@ -40,21 +41,22 @@ difference_is live base a b f g o h k is = rw (← h, ← k) is
 
 -- chains --------------------------------------------------------------------------------------------------------------------
 
-pub all_true : (c : Cond) (cs : List Cond) → push true (all_of c cs) ≡ in_turn_of true c cs
-all_true c [] = refl
-all_true c (d ∷ ds) = ap (first_then (push true c)) (all_true d ds)
+module _ (live base : ℕ) where
+  pub all_true : (c : Cond) (cs : List Cond) → guard live base true (all_of c cs) ≡ in_turn_of live base true c cs
+  all_true c [] = refl
+  all_true c (d ∷ ds) = ap (first_then (guard live base true c)) (all_true d ds)
 
-pub any_false : (c : Cond) (cs : List Cond) → push false (any_of c cs) ≡ in_turn_of false c cs
-any_false c [] = refl
-any_false c (d ∷ ds) = ap (first_then (push false c)) (any_false d ds)
+  pub any_false : (c : Cond) (cs : List Cond) → guard live base false (any_of c cs) ≡ in_turn_of live base false c cs
+  any_false c [] = refl
+  any_false c (d ∷ ds) = ap (first_then (guard live base false c)) (any_false d ds)
 
-pub all_false : (c : Cond) (cs : List Cond) → push false (all_of c cs) ≡ chains.either_of false c cs
-all_false c [] = refl
-all_false c (d ∷ ds) = ap (one_or (push false c) (push true c)) (all_false d ds)
+  pub all_false : (c : Cond) (cs : List Cond) → guard live base false (all_of c cs) ≡ chains.either_of live base false c cs
+  all_false c [] = refl
+  all_false c (d ∷ ds) = ap (λ (p : Moves). join_of (guard live base false c) (first_then (guard live base true c) p)) (all_false d ds)
 
-pub any_true : (c : Cond) (cs : List Cond) → push true (any_of c cs) ≡ chains.either_of true c cs
-any_true c [] = refl
-any_true c (d ∷ ds) = ap (one_or (push true c) (push false c)) (any_true d ds)
+  pub any_true : (c : Cond) (cs : List Cond) → guard live base true (any_of c cs) ≡ chains.either_of live base true c cs
+  any_true c [] = refl
+  any_true c (d ∷ ds) = ap (λ (p : Moves). join_of (guard live base true c) (first_then (guard live base false c) p)) (any_true d ds)
 
 -- a difference has a coefficient for each live variable
 pub difference_wide : (live base : ℕ) (a b : Expr) (d : Form) → Some d ≡ difference_form live base a b → length d.coefficients ≡ live

@@ -1,5 +1,6 @@
 -- Steps of the proofs on given rows.
-use Rattle.std.proofs.Common.{◌≡◌, ℕ, suc, ℤ, pos, negsuc, ◌*ℤ◌, List, [], ◌∷◌, ◌++◌, Option, Some, None, Bool, true, false, length, map, take, get_or, ◌+◌, ◌<◌, refl, sym, ap, subst, ◌∙◌, append_assoc, append-nil}
+use Rattle.std.proofs.Common.{◌≡◌, ℕ, suc, ℤ, pos, negsuc, ◌*ℤ◌, List, [], ◌∷◌, ◌++◌, Option, Some, None, Bool, length, map, take, get_or, ◌+◌, ◌<◌, refl, sym, ap, subst, ◌∙◌}
+use Rattle.std.proofs.Common.{append_assoc, append-nil}
 use Rattle.std.specs.Prelude.{◌-ℤ◌, neg_ℤ}
 use Rattle.std.proofs.lemmas.List.{map-append, map_more, length-map}
 use Rattle.lra_flow.proofs.FormLemmas.{fitting_same}
@@ -16,11 +17,8 @@ use Rattle.lra_program.specs.declared.program.Cond as declared_cond
 use Rattle.lra_program.specs.ProgramViews.{all_of, any_of, cond_view}
 use Rattle.lra_program.specs.Program.{Cond}
 use Rattle.lra_flow.specs.Linear.{fitting, at_least_zero, comparison_test}
-use Rattle.lra_flow.specs.Condition.{push}
-use Rattle.lra_flow.specs.Given.{row_of, test_rows, atom_rows, pushed_rows}
-use Rattle.lra_forms.specs.Conditions.{in_turn_of, either_of}
-use Rattle.lra_forms.specs.Given.{HasMore}
-use Rattle.lra_forms.proofs.CondSteps.{all_true, any_false, all_false, any_true}
+use Rattle.lra_flow.specs.Given.{row_of, test_rows, comparison_rows, guard_rows}
+use Rattle.lra_forms.specs.Given.{HasMore, chain_rows}
 
 -- more and more
 pub more_none : (s : Listed ConKind) → HasMore s s []
@@ -35,37 +33,30 @@ more_both s t u xs ys h k = record {
 }
 
 -- the rows of a chain don't tell `&&` from `||`
-either_rows : (live base : ℕ) (wanted : Bool) (c : Cond) (cs : List Cond) → pushed_rows live base (either_of wanted c cs) ≡ pushed_rows live base (in_turn_of wanted c cs)
-either_rows live base wanted c [] = refl
-either_rows live base wanted c (d ∷ ds) = ap (λ (rs : List (List ℤ)). pushed_rows live base (push wanted c) ++ rs) (either_rows live base wanted d ds)
+pub all_rows : (live base : ℕ) (wanted : Bool) (c : Cond) (cs : List Cond) → guard_rows live base wanted (all_of c cs) ≡ chain_rows live base wanted c cs
+all_rows live base wanted c [] = refl
+all_rows live base wanted c (d ∷ ds) = ap (λ (rs : List (List ℤ)). guard_rows live base wanted c ++ rs) (all_rows live base wanted d ds)
 
-pub all_rows : (live base : ℕ) (wanted : Bool) (c : Cond) (cs : List Cond) → pushed_rows live base (push wanted (all_of c cs)) ≡ pushed_rows live base (in_turn_of wanted c cs)
-all_rows live base true c cs = ap (pushed_rows live base) (all_true c cs)
-all_rows live base false c cs = ap (pushed_rows live base) (all_false c cs) ∙ either_rows live base false c cs
-
-pub any_rows : (live base : ℕ) (wanted : Bool) (c : Cond) (cs : List Cond) → pushed_rows live base (push wanted (any_of c cs)) ≡ pushed_rows live base (in_turn_of wanted c cs)
-any_rows live base true c cs = ap (pushed_rows live base) (any_true c cs) ∙ either_rows live base true c cs
-any_rows live base false c cs = ap (pushed_rows live base) (any_false c cs)
+pub any_rows : (live base : ℕ) (wanted : Bool) (c : Cond) (cs : List Cond) → guard_rows live base wanted (any_of c cs) ≡ chain_rows live base wanted c cs
+any_rows live base wanted c [] = refl
+any_rows live base wanted c (d ∷ ds) = ap (λ (rs : List (List ℤ)). guard_rows live base wanted c ++ rs) (any_rows live base wanted d ds)
 
 -- one more of a chain adds its rows
-rows_behind : (live base : ℕ) (wanted : Bool) (c : Cond) (cs : List Cond) (d : Cond) →
-    pushed_rows live base (in_turn_of wanted c (cs ++ d ∷ [])) ≡ pushed_rows live base (in_turn_of wanted c cs) ++ pushed_rows live base (push wanted d)
+rows_behind : (live base : ℕ) (wanted : Bool) (c : Cond) (cs : List Cond) (d : Cond) → chain_rows live base wanted c (cs ++ d ∷ []) ≡ chain_rows live base wanted c cs ++ guard_rows live base wanted d
 rows_behind live base wanted c [] d = refl
 rows_behind live base wanted c (e ∷ es) d =
-    ap (λ (rs : List (List ℤ)). pushed_rows live base (push wanted c) ++ rs) (rows_behind live base wanted e es d) ∙
-    sym (append_assoc (pushed_rows live base (push wanted c)) (pushed_rows live base (in_turn_of wanted e es)) (pushed_rows live base (push wanted d)))
+    ap (λ (rs : List (List ℤ)). guard_rows live base wanted c ++ rs) (rows_behind live base wanted e es d) ∙
+    sym (append_assoc (guard_rows live base wanted c) (chain_rows live base wanted e es) (guard_rows live base wanted d))
 
 pub chain_more : (base : ℕ) (wanted : Bool) (c : Cond) (cs : List declared_cond.Cond) (i : ℕ) (x : declared_cond.Cond) (s t u : Listed ConKind) →
-    i < length cs → x ≡ get_or cs i x → HasMore s t (pushed_rows s.dims base (in_turn_of wanted c (map cond_view (take i cs)))) →
-    HasMore t u (pushed_rows t.dims base (push wanted (cond_view x))) → HasMore s u (pushed_rows s.dims base (in_turn_of wanted c (map cond_view (take (i + 1) cs))))
+    i < length cs → x ≡ get_or cs i x → HasMore s t (chain_rows s.dims base wanted c (map cond_view (take i cs))) →
+    HasMore t u (guard_rows t.dims base wanted (cond_view x)) → HasMore s u (chain_rows s.dims base wanted c (map cond_view (take (i + 1) cs)))
 chain_more base wanted c cs i x s t u h is before one =
     let here : map cond_view (take (i + 1) cs) ≡ map cond_view (take i cs) ++ cond_view x ∷ [] =
     map_more cond_view cs i x h ∙ ap (λ (d : declared_cond.Cond). map cond_view (take i cs) ++ cond_view d ∷ []) (sym is) in
-    let rows : pushed_rows s.dims base (in_turn_of wanted c (map cond_view (take (i + 1) cs))) ≡
-    pushed_rows s.dims base (in_turn_of wanted c (map cond_view (take i cs))) ++ pushed_rows s.dims base (push wanted (cond_view x)) =
-    ap (λ (ds : List Cond). pushed_rows s.dims base (in_turn_of wanted c ds)) here ∙ rows_behind s.dims base wanted c (map cond_view (take i cs)) (cond_view x) in
-    let last : HasMore t u (pushed_rows s.dims base (push wanted (cond_view x))) =
-    subst (λ (n : ℕ). HasMore t u (pushed_rows n base (push wanted (cond_view x)))) before.dims one in
+    let rows : chain_rows s.dims base wanted c (map cond_view (take (i + 1) cs)) ≡ chain_rows s.dims base wanted c (map cond_view (take i cs)) ++ guard_rows s.dims base wanted (cond_view x) =
+    ap (λ (ds : List Cond). chain_rows s.dims base wanted c ds) here ∙ rows_behind s.dims base wanted c (map cond_view (take i cs)) (cond_view x) in
+    let last : HasMore t u (guard_rows s.dims base wanted (cond_view x)) = subst (λ (n : ℕ). HasMore t u (guard_rows n base wanted (cond_view x))) before.dims one in
     subst (HasMore s u) (sym rows) (more_both s t u _ _ before last)
 
 -- a test has as many coefficients as the difference
@@ -89,7 +80,7 @@ pub row_width : (f : Form) (more : ℤ) → length (row_of f more) ≡ suc (leng
 row_width f more = refl
 
 -- the rows of other comparisons than `==` and `!=`
-pub rows_by_test : (op : declared.Comparison) (d : Form) → (op ≡ Equal → ⊥) → (op ≡ Differs → ⊥) → atom_rows (comparison_view op) (Some d) ≡ test_rows (comparison_test (comparison_view op) d)
+pub rows_by_test : (op : declared.Comparison) (d : Form) → (op ≡ Equal → ⊥) → (op ≡ Differs → ⊥) → comparison_rows (comparison_view op) (Some d) ≡ test_rows (comparison_test (comparison_view op) d)
 rows_by_test Below d n m = refl
 rows_by_test AtMost d n m = refl
 rows_by_test Above d n m = refl

@@ -4,7 +4,7 @@ ghost use Rattle.std.specs.Prelude.{◌≡◌, ◌<◌, ◌^◌, length, IfOk};
 ghost use Rattle.lra_base.specs.OperatorViews.{comparison_view};
 ghost use Rattle.lra_program.specs.ProgramViews.{expr_view};
 ghost use Rattle.lra_flow.specs.Linear.{difference_form, comparison_test, less_one, at_least_zero};
-ghost use Rattle.lra_flow.specs.Condition.{opposite_comparison};
+ghost use Rattle.lra_flow.specs.MovesOf.{comparison_as, opposite_comparison};
 
 use crate::forms::{constant_of, form_of_expression, multiple_of, sum_of_forms};
 use lra_base::Comparison;
@@ -99,4 +99,11 @@ pub fn opposite_of(op: Comparison) -> Comparison
         Comparison::Equal => Comparison::Differs,
         Comparison::Differs => Comparison::Equal,
     }
+}
+
+/// The comparison, or its opposite where it isn't wanted.
+pub fn comparison_where(op: Comparison, wanted: bool) -> Comparison
+    ensures { comparison_view result ≡ comparison_as wanted (comparison_view op) }
+{
+    if wanted { op } else { opposite_of(op) }
 }

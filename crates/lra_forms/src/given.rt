@@ -7,12 +7,10 @@ ghost use Rattle.lra_linear.specs.Range.{InRange};
 ghost use Rattle.lra_base.specs.OperatorViews.{comparison_view};
 ghost use Rattle.lra_program.specs.ProgramViews.{expr_view, cond_view};
 ghost use Rattle.lra_flow.specs.Linear.{difference_form, comparison_test};
-ghost use Rattle.lra_flow.specs.Condition.{push};
-ghost use Rattle.lra_flow.specs.Given.{row_of, opposite_row, test_rows, atom_rows, pushed_rows, given_rows};
-ghost use Rattle.lra_forms.specs.Conditions.{in_turn_of};
-ghost use Rattle.lra_forms.specs.Given.{HasMore};
+ghost use Rattle.lra_flow.specs.Given.{row_of, opposite_row, test_rows, comparison_rows, guard_rows, given_rows};
+ghost use Rattle.lra_forms.specs.Given.{HasMore, chain_rows};
 
-use crate::comparisons::{difference_of, opposite_of, test_of};
+use crate::comparisons::{comparison_where, difference_of, test_of};
 use lra_base::Comparison;
 use lra_lin::LinExpr;
 use lra_program::{Cond, Expr};
@@ -85,7 +83,7 @@ fn give_comparison(
     rows: &mut ConSys,
 ) -> Result<(), AllocError>
     requires { rows.old.dims < 2 ^ 62 }
-    ensures { OnOk result (HasMore rows.old rows.new (atom_rows (comparison_view op)
+    ensures { OnOk result (HasMore rows.old rows.new (comparison_rows (comparison_view op)
         (difference_form rows.old.dims base (expr_view left.now) (expr_view right.now)))) }
 {
     let Some(d) = difference_of(alloc, rows.dims(), base, left, right)? else {
@@ -113,21 +111,17 @@ fn give(
     rows: &mut ConSys,
 ) -> Result<(), AllocError>
     requires { rows.old.dims < 2 ^ 62 }
-    ensures { OnOk result (HasMore rows.old rows.new (pushed_rows rows.old.dims base
-        (push wanted (cond_view condition.now)))) }
+    ensures { OnOk result (HasMore rows.old rows.new (guard_rows rows.old.dims base wanted
+        (cond_view condition.now))) }
 {
     match condition {
         Cond::Compare(op, left, right) => {
-            let op = if wanted { *op } else { opposite_of(*op) };
+            let op = comparison_where(*op, wanted);
             give_comparison(alloc, base, op, left, right, rows)?;
             Ok(())
         }
         Cond::Nonzero(e) => {
-            let op = if wanted {
-                Comparison::Differs
-            } else {
-                Comparison::Equal
-            };
+            let op = comparison_where(Comparison::Differs, wanted);
             let zero = Expr::Literal(0);
             give_comparison(alloc, base, op, e, &zero, rows)?;
             Ok(())
@@ -158,8 +152,8 @@ fn give_chain(
     rows: &mut ConSys,
 ) -> Result<(), AllocError>
     requires { rows.old.dims < 2 ^ 62 }
-    ensures { OnOk result (HasMore rows.old rows.new (pushed_rows rows.old.dims base
-        (in_turn_of wanted (cond_view first.now) (map cond_view rest.now)))) }
+    ensures { OnOk result (HasMore rows.old rows.new (chain_rows rows.old.dims base wanted
+        (cond_view first.now) (map cond_view rest.now))) }
 {
     give(alloc, base, first, wanted, rows)?;
     'rest: for next in rest {

@@ -5,6 +5,6 @@ mod comparisons;
 mod forms;
 mod given;
 
-pub use comparisons::{difference_of, opposite_of, test_of};
+pub use comparisons::{comparison_where, difference_of, opposite_of, test_of};
 pub use forms::{constant_of, form_of_expression};
 pub use given::given_of;
