@@ -9,13 +9,15 @@ use Rattle.lra_domain.specs.Meaning.{Meaning}
 use Rattle.lra_program.specs.declared.program.Cond as declared_cond
 use Rattle.lra_program.specs.Program.{Cond}
 use Rattle.lra_program.specs.ProgramViews.{cond_view}
-use Rattle.lra_flow.specs.Condition.{push}
+use Rattle.lra_flow.specs.Operations.{dropping}
+use Rattle.lra_flow.specs.Moves.{Takes}
+use Rattle.lra_flow.specs.MovesOf.{guard}
+use Rattle.lra_flow.proofs.Takes.{then_takes}
 use Rattle.lra_forms.specs.Conditions.{in_turn_of, either_of}
 use Rattle.lra_forms.proofs.CondSizes.{cond_size, chain_size, size_in}
 use Rattle.lra_change.specs.declared.sides.Kept.{Kept}
 use Rattle.lra_change.specs.declared.sides.Sides.{Sides}
-use Rattle.lra_change.specs.Conditions.{Pushes}
-use Rattle.lra_change.specs.Sides.{Splits, AreJoinedTo, AreJoinedBack, AllKeptHave, IsEitherSoFar}
+use Rattle.lra_change.specs.Sides.{TakesTo, SplitsBy, SplitsAll, SplitsAny, AreJoinedTo, AreJoinedBack, AllKeptHave, IsEitherSoFar}
 use Rattle.lra_change.proofs.SideSteps.{chain_all, chain_any, either_step}
 
 -- what is joined from the right ---------------------------------------------------------------------------------------
@@ -64,8 +66,8 @@ module _ {V H : Type 0} (m : Meaning V H) where
 module _ {V H : Type 0} (m : Meaning V H) (base : ℕ) where
   -- what a chain leaves where all of it is as wanted, and where it isn't
   abbrev pub Divides : Bool → Cond → List Cond → Kept V → Kept V → Kept V → Type 0
-  Divides true c cs from taken left = Splits m base (in_turn_of true c cs) (either_of false c cs) from (record { on = taken; off = left })
-  Divides false c cs from taken left = Splits m base (either_of true c cs) (in_turn_of false c cs) from (record { on = left; off = taken })
+  Divides true c cs from taken left = SplitsAll m base c cs from (record { on = taken; off = left })
+  Divides false c cs from taken left = SplitsAny m base c cs from (record { on = left; off = taken })
 
   divides_more : (wanted : Bool) (c d : Cond) (ds : List Cond) (from taken left last right joined : Kept V) → Divides wanted c [] from taken left → Divides wanted d ds taken last right
       → AreJoinedTo m left right joined → Divides wanted c (d ∷ ds) from last joined
@@ -135,17 +137,17 @@ module _ {V H : Type 0} (m : Meaning V H) (base : ℕ) where
   -- which is what a chain leaves
   pub all_divided : {E : Type 0} (R : handed.Result (Sides V) E) (c : Cond) (xs : List declared_cond.Cond) (i : ℕ) (from : Kept V) (before : List (Kept V)) (sides : Sides V)
       → length xs ≤ i → IsDividedSoFar true c (map cond_view xs) from before sides.on sides.off (map cond_view (drop i xs)) → IfOk R (λ s. s.on ≡ sides.on)
-      → IfOk R (λ s. AreJoinedBack m before sides.off s.off) → IfOk R (λ s. Splits m base (in_turn_of true c (map cond_view xs)) (either_of false c (map cond_view xs)) from s)
+      → IfOk R (λ s. AreJoinedBack m before sides.off s.off) → IfOk R (λ s. SplitsAll m base c (map cond_view xs) from s)
   all_divided (handed.Ok s) c xs i from before sides h so_far same back =
-      subst (λ (k : Kept V). Splits m base (in_turn_of true c (map cond_view xs)) (either_of false c (map cond_view xs)) from (record { on = k; off = s.off })) (sym same)
+      subst (λ (k : Kept V). SplitsAll m base c (map cond_view xs) from (record { on = k; off = s.off })) (sym same)
       (divided_all true c xs i from before sides.on sides.off s.off h so_far back)
   all_divided (handed.Err e) c xs i from before sides h so_far same back = tt
 
   pub any_divided : {E : Type 0} (R : handed.Result (Sides V) E) (c : Cond) (xs : List declared_cond.Cond) (i : ℕ) (from : Kept V) (before : List (Kept V)) (sides : Sides V)
       → length xs ≤ i → IsDividedSoFar false c (map cond_view xs) from before sides.off sides.on (map cond_view (drop i xs)) → IfOk R (λ s. AreJoinedBack m before sides.on s.on)
-      → IfOk R (λ s. s.off ≡ sides.off) → IfOk R (λ s. Splits m base (either_of true c (map cond_view xs)) (in_turn_of false c (map cond_view xs)) from s)
+      → IfOk R (λ s. s.off ≡ sides.off) → IfOk R (λ s. SplitsAny m base c (map cond_view xs) from s)
   any_divided (handed.Ok s) c xs i from before sides h so_far back same =
-      subst (λ (k : Kept V). Splits m base (either_of true c (map cond_view xs)) (in_turn_of false c (map cond_view xs)) from (record { on = s.on; off = k })) (sym same)
+      subst (λ (k : Kept V). SplitsAny m base c (map cond_view xs) from (record { on = s.on; off = k })) (sym same)
       (divided_all false c xs i from before sides.off sides.on s.on h so_far back)
   any_divided (handed.Err e) c xs i from before sides h so_far back same = tt
 
@@ -157,49 +159,53 @@ module _ {V H : Type 0} (m : Meaning V H) (base : ℕ) where
 
   -- one more behind the others
   turn_more : (live : ℕ) (wanted : Bool) (c : Cond) (cs : List Cond) (d : Cond) (v : V) (e : Exactness) (x : V) (a : Exactness) (w : V) (b : Exactness)
-      → Pushes m live base (in_turn_of wanted c cs) v e x a → Pushes m live base (push wanted d) x a w b → Pushes m live base (in_turn_of wanted c (cs ++ d ∷ [])) v e w b
-  turn_more live wanted c [] d v e x a w b one two = ((x, a), one, two)
-  turn_more live wanted c (k ∷ ks) d v e x a w b (y, one, rest) two = (y, one, turn_more live wanted k ks d y.0 y.1 x a w b rest two)
+      → Takes (dropping m) (in_turn_of live base wanted c cs) v e x a → Takes (dropping m) (guard live base wanted d) x a w b
+      → Takes (dropping m) (in_turn_of live base wanted c (cs ++ d ∷ [])) v e w b
+  turn_more live wanted c [] d v e x a w b one two = (then_takes (dropping m) v e w b (guard live base wanted c) (guard live base wanted d)).0 (x, a, one, two)
+  turn_more live wanted c (k ∷ ks) d v e x a w b all two =
+      let (y, s, one, rest) = (then_takes (dropping m) v e x a (guard live base wanted c) (in_turn_of live base wanted k ks)).1 all in
+      (then_takes (dropping m) v e w b (guard live base wanted c) (in_turn_of live base wanted k (ks ++ d ∷ []))).0 (y, s, one, turn_more live wanted k ks d y s x a w b rest two)
 
   -- so many of the operands leave this of the value
   pub record IsInTurnSoFar (wanted : Bool) (c : Cond) (cs : List Cond) (v : V) (e : Exactness) (w : V) (a : Exactness) : Type 0 where
-    pub pushes : Pushes m (m.dims v) base (in_turn_of wanted c cs) v e w a
+    pub pushes : Takes (dropping m) (in_turn_of (m.dims v) base wanted c cs) v e w a
     pub same : m.dims w ≡ m.dims v
 
   pub turned_on : (wanted : Bool) (c : Cond) (xs : List declared_cond.Cond) (i : ℕ) (x : declared_cond.Cond) (v : V) (e : Exactness) (y : V) (a : Exactness) (w : V) (b : Exactness)
-      → i < length xs → x ≡ get_or xs i x → IsInTurnSoFar wanted c (map cond_view (take i xs)) v e y a → Pushes m (m.dims y) base (push wanted (cond_view x)) y a w b
+      → i < length xs → x ≡ get_or xs i x → IsInTurnSoFar wanted c (map cond_view (take i xs)) v e y a → Takes (dropping m) (guard (m.dims y) base wanted (cond_view x)) y a w b
       → m.dims w ≡ m.dims y → IsInTurnSoFar wanted c (map cond_view (take (i + 1) xs)) v e w b
   turned_on wanted c xs i x v e y a w b h is so_far one same =
       let here : map cond_view (take (i + 1) xs) ≡ map cond_view (take i xs) ++ cond_view x ∷ [] =
       map_more cond_view xs i x h ∙ ap (λ (d : declared_cond.Cond). map cond_view (take i xs) ++ cond_view d ∷ []) (sym is) in
-      let last = subst (λ (n : ℕ). Pushes m n base (push wanted (cond_view x)) y a w b) so_far.same one in
+      let last = subst (λ (n : ℕ). Takes (dropping m) (guard n base wanted (cond_view x)) y a w b) so_far.same one in
       record {
-        pushes = subst (λ (ds : List Cond). Pushes m (m.dims v) base (in_turn_of wanted c ds) v e w b) (sym here)
+        pushes = subst (λ (ds : List Cond). Takes (dropping m) (in_turn_of (m.dims v) base wanted c ds) v e w b) (sym here)
             (turn_more (m.dims v) wanted c (map cond_view (take i xs)) (cond_view x) v e y a w b so_far.pushes last);
         same = same ∙ so_far.same;
       }
 
   pub turned_all : (wanted : Bool) (c : Cond) (xs : List declared_cond.Cond) (i : ℕ) (v : V) (e : Exactness) (w : V) (a : Exactness) → length xs ≤ i
-      → IsInTurnSoFar wanted c (map cond_view (take i xs)) v e w a → Pushes m (m.dims v) base (in_turn_of wanted c (map cond_view xs)) v e w a
+      → IsInTurnSoFar wanted c (map cond_view (take i xs)) v e w a → Takes (dropping m) (in_turn_of (m.dims v) base wanted c (map cond_view xs)) v e w a
   turned_all wanted c xs i v e w a h so_far =
-      subst (λ (ys : List declared_cond.Cond). Pushes m (m.dims v) base (in_turn_of wanted c (map cond_view ys)) v e w a) (take_all i xs h) so_far.pushes
+      subst (λ (ys : List declared_cond.Cond). Takes (dropping m) (in_turn_of (m.dims v) base wanted c (map cond_view ys)) v e w a) (take_all i xs h) so_far.pushes
 
   pub either_first : (wanted : Bool) (c : Cond) (cs : List Cond) (from : Kept V) (lefts : List (Kept V)) → lefts ≡ [] → IsEitherSoFar m base wanted c cs from lefts from c cs
   either_first wanted c cs from lefts is =
       let none : IsEitherSoFar m base wanted c cs from [] from c cs = record {
         whole = λ right joined all same.
-            subst (λ (r : Kept V). Pushes m (m.dims from.value) base (either_of wanted c cs) from.value from.exactness r.value r.exactness) (sym same) all;
+            subst (λ (r : Kept V). TakesTo m (either_of (m.dims from.value) base wanted c cs) from r) (sym same) all;
         have = tt;
         same = refl;
       } in
       subst (λ (ks : List (Kept V)). IsEitherSoFar m base wanted c cs from ks from c cs) (sym is) none
 
   either_more : (wanted : Bool) (c : Cond) (cs : List Cond) (from : Kept V) (lefts : List (Kept V)) (off : Kept V) (d next : Cond) (ds : List Cond) (s : Sides V)
-      → IsEitherSoFar m base wanted c cs from lefts off d (next ∷ ds) → Splits m base (push wanted d) (push (not wanted) d) off s
+      → IsEitherSoFar m base wanted c cs from lefts off d (next ∷ ds) → SplitsBy m base wanted d off s
       → IsEitherSoFar m base wanted c cs from (lefts ++ s.on ∷ []) s.off next ds
   either_more wanted c cs from lefts off d next ds s so_far split = record {
     whole = λ right joined rest back.
-        let (j, join, more) = back_less m lefts s.on right joined back in so_far.whole j joined (either_step m base wanted d next ds off s right j split rest join) more;
+        let (j, join, more) = back_less m lefts s.on right joined back in so_far.whole j joined (either_step m base wanted d next ds off s.on s.off right j (m.dims off.value) split.on split.off
+        (subst (λ (k : ℕ). TakesTo m (either_of k base wanted next ds) s.off right) split.off_dims rest) join) more;
     have = have_more m (m.dims from.value) lefts s.on so_far.have (split.on_dims ∙ so_far.same);
     same = split.off_dims ∙ so_far.same;
   }
@@ -207,7 +213,7 @@ module _ {V H : Type 0} (m : Meaning V H) (base : ℕ) where
   -- by places of the code's operands
   pub either_on : (wanted : Bool) (c : Cond) (cs : List Cond) (from : Kept V) (lefts after : List (Kept V)) (off : Kept V) (d : Cond) (xs : List declared_cond.Cond) (i : ℕ) (x : declared_cond.Cond)
       (s : Sides V) → i < length xs → x ≡ get_or xs i x → after ≡ lefts ++ s.on ∷ [] → IsEitherSoFar m base wanted c cs from lefts off d (map cond_view (drop i xs))
-      → Splits m base (push wanted d) (push (not wanted) d) off s → IsEitherSoFar m base wanted c cs from after s.off (cond_view x) (map cond_view (drop (i + 1) xs))
+      → SplitsBy m base wanted d off s → IsEitherSoFar m base wanted c cs from after s.off (cond_view x) (map cond_view (drop (i + 1) xs))
   either_on wanted c cs from lefts after off d xs i x s h is more so_far split =
       let there : drop i xs ≡ x ∷ drop (i + 1) xs = drop_more xs i x h ∙ ap (λ (y : declared_cond.Cond). y ∷ drop (i + 1) xs) (sym is) in
       let step = either_more wanted c cs from lefts off d (cond_view x) (map cond_view (drop (i + 1) xs)) s
@@ -222,13 +228,13 @@ module _ {V H : Type 0} (m : Meaning V H) (base : ℕ) where
   -- with what the last operand leaves
   pub either_all : {E : Type 0} (R : handed.Result Exactness E) (wanted : Bool) (c : Cond) (cs : List Cond) (from start : Kept V) (lefts : List (Kept V)) (off : Kept V) (d : Cond) (right : Kept V)
       (w : V) → start ≡ from → IsEitherSoFar m base wanted c cs start lefts off d []
-      → Pushes m (m.dims off.value) base (push wanted d) off.value off.exactness right.value right.exactness
+      → Takes (dropping m) (guard (m.dims off.value) base wanted d) off.value off.exactness right.value right.exactness
       → IfOk R (λ e. AreJoinedBack m lefts right (record { value = w; exactness = e }))
-      → IfOk R (λ e. Pushes m (m.dims from.value) base (either_of wanted c cs) from.value from.exactness w e)
+      → IfOk R (λ e. Takes (dropping m) (either_of (m.dims from.value) base wanted c cs) from.value from.exactness w e)
   either_all R wanted c cs from start lefts off d right w is so_far last joined =
       let there = subst (λ (k : Kept V). IsEitherSoFar m base wanted c cs k lefts off d []) is so_far in
       IfOk-weaker R (λ e. AreJoinedBack m lefts right (record { value = w; exactness = e }))
-      (λ e. Pushes m (m.dims from.value) base (either_of wanted c cs) from.value from.exactness w e)
+      (λ e. Takes (dropping m) (either_of (m.dims from.value) base wanted c cs) from.value from.exactness w e)
       (λ e back. there.whole right (record { value = w; exactness = e }) last back) joined
 
 -- each operand is smaller than the chain ------------------------------------------------------------------------------------

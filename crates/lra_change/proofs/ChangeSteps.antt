@@ -1,45 +1,33 @@
 -- Steps of the proofs on changes of values.
-use Rattle.std.proofs.Common.{◌≡◌, ℕ, suc, ◌+◌, List, [], ◌∷◌, ◌++◌, Option, Some, None, length, refl, sym, ap, ◌∙◌, subst}
+use Rattle.std.proofs.Common.{◌≡◌, ℕ, suc, ◌+◌, Option, Some, None, length, refl, sym, ◌∙◌, subst}
 use Rattle.lra_lin.specs.Form.{Form}
 use Rattle.lra_domain.specs.Actions.{Action, embed, dims_after}
 use Rattle.lra_domain.specs.declared.Exactness.{Exactness}
-use Rattle.lra_domain.specs.declared.Exactness.TheVariants.{Exact, Flagged}
+use Rattle.lra_domain.specs.declared.Exactness.TheVariants.{Exact}
 use Rattle.lra_domain.specs.Parts.{CapsWithin}
 use Rattle.lra_domain.specs.Meaning.{Meaning, Meets}
 use Rattle.lra_program.specs.Program.{Expr}
 use Rattle.lra_flow.specs.Linear as linear
 use Rattle.lra_domain.specs.Meaning.{worse}
-use Rattle.lra_flow.specs.Changes.{set_to, append_set}
+use Rattle.lra_flow.specs.Moves.{stay, make}
+use Rattle.lra_flow.specs.MovesOf.{set_to, append_set}
 use Rattle.lra_flow.proofs.FormLemmas.{form_wide}
 use Rattle.lra_change.specs.Changes.{Does}
 
-worse_exact : (e : Exactness) → e ≡ worse e Exact
-worse_exact Exact = refl
-worse_exact Flagged = refl
-
-worse_worse : (a b c : Exactness) → worse (worse a b) c ≡ worse a (worse b c)
-worse_worse Exact b c = refl
-worse_worse Flagged b c = refl
-
 -- one change alone
 pub done_one : {V H : Type 0} (m : Meaning V H) (step : Action) (v : V) (e : Exactness) (w : V) → Meets m step v e w → m.dims w ≡ dims_after step (m.dims v) → CapsWithin (m.capped v) (m.capped w)
-    → Does m (step ∷ []) v e w
-done_one m step v e w meets dims caps = (w, e, Exact, (meets, dims, caps), (refl, refl), worse_exact e)
+    → Does m (make step) v e w
+done_one m step v e w meets dims caps = (meets, dims, caps)
 
-pub done_none : {V H : Type 0} (m : Meaning V H) (v : V) → Does m [] v Exact v
+pub done_none : {V H : Type 0} (m : Meaning V H) (v : V) → Does m stay v Exact v
 done_none m v = (refl, refl)
-
-pub done_both : {V H : Type 0} (m : Meaning V H) (one two : List Action) (v x w : V) (d e : Exactness) → Does m one v d x → Does m two x e w → Does m (one ++ two) v (worse d e) w
-done_both {V} m [] two v x w d e (same, exact) h = subst (λ (a : Exactness). Does m two v a w) (sym (ap (λ (a : Exactness). worse a e) exact)) (subst (λ (y : V). Does m two y e w) same h)
-done_both {V} m (step ∷ steps) two v x w d e (y, a, b, one, rest, is) h =
-    (y, a, worse b e, one, done_both m steps two y x w b e rest h, ap (λ (c : Exactness). worse c e) is ∙ worse_worse a b e)
 
 set_dims : (x : ℕ) (o : Option Form) (n : ℕ) → dims_after (set_to x o) n ≡ n
 set_dims x None n = refl
 set_dims x (Some f) n = refl
 
 pub done_set : {V H : Type 0} (m : Meaning V H) (x : ℕ) (o : Option Form) (v : V) (e : Exactness) (w : V) → Meets m (set_to x o) v e w → m.dims w ≡ m.dims v → CapsWithin (m.capped v) (m.capped w)
-    → Does m (set_to x o ∷ []) v e w
+    → Does m (make (set_to x o)) v e w
 done_set m x o v e w meets dims caps = done_one m (set_to x o) v e w meets (dims ∙ sym (set_dims x o (m.dims v))) caps
 
 -- a new variable and its value

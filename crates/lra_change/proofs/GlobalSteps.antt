@@ -9,9 +9,9 @@ use Rattle.lra_domain.specs.Parts.{CapsWithin}
 use Rattle.lra_domain.specs.Meaning.{Meaning, Meets}
 use Rattle.lra_flow.specs.Linear.{constant_form}
 use Rattle.lra_domain.specs.Meaning.{worse}
-use Rattle.lra_flow.specs.Changes.{append_set, first_values}
+use Rattle.lra_flow.specs.MovesOf.{append_set, first_values}
 use Rattle.lra_change.specs.Changes.{Does}
-use Rattle.lra_change.proofs.ChangeSteps.{done_one, done_both}
+use Rattle.lra_change.proofs.ChangeSteps.{done_one}
 
 -- a constant form has a coefficient for each variable
 pub constant_wide : (f : Form) (n : ℕ) (z : ℤ) → f ≡ constant_form n z → length f.coefficients ≡ n
@@ -37,5 +37,4 @@ appended {V} {H} m z f v x w c d first dims caps is second same more =
 pub appended_all : {V H : Type 0} (m : Meaning V H) (z : ℤ) (zs : List ℤ) (v x w : V) (c d : Exactness) → Does m (append_set (m.dims v) (Some (constant_form (suc (m.dims v)) z))) v c x →
     m.dims x ≡ suc (m.dims v)
     → Does m (first_values (m.dims x) zs) x d w → Does m (first_values (m.dims v) (z ∷ zs)) v (worse c d) w
-appended_all {V} {H} m z zs v x w c d one live others =
-    done_both m (append_set (m.dims v) (Some (constant_form (suc (m.dims v)) z))) (first_values (suc (m.dims v)) zs) v x w c d one (subst (λ (n : ℕ). Does m (first_values n zs) x d w) live others)
+appended_all m z zs v x w c d one live others = (x, c, d, one, subst (λ (n : ℕ). Does m (first_values n zs) x d w) live others, refl)

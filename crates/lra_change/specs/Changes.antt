@@ -1,19 +1,17 @@
 -- Changes of values, in the derivation with drops.
-use Rattle.std.specs.Prelude.{ℕ, suc, ◌+◌, ◌-◌, ◌^◌, ◌<◌, ◌≤◌, ⊤, List, length, Option, None, Some}
-use Rattle.lra_domain.specs.Actions.{Action}
+use Rattle.std.specs.Prelude.{ℕ, suc, ◌+◌, ◌-◌, ◌^◌, ◌<◌, ◌≤◌, ⊤, length, Option, None, Some}
 use Rattle.lra_domain.specs.declared.Exactness.{Exactness}
 use Rattle.lra_domain.specs.Meaning.{Meaning}
 use Rattle.lra_program.specs.Step.{Op, append, give, give_any, push, keep, test}
 use Rattle.lra_flow.specs.Operations.{dropping}
-use Rattle.lra_flow.specs.Changes.{AreDone}
+use Rattle.lra_flow.specs.Moves.{Moves, AreMade}
 use Rattle.lra_flow.specs.Pass.{Changes}
 
--- the changes one behind the other
-abbrev pub Does : {V H : Type 0} → Meaning V H → List Action → V → Exactness → V → Type 0
-Does m steps v e w = AreDone (dropping m) steps v e w
+abbrev pub Does : {V H : Type 0} → Meaning V H → Moves → V → Exactness → V → Type 0
+Does m moves v e w = AreMade (dropping m) moves v e w
 
 abbrev pub ChangesTo : {V H : Type 0} → Meaning V H → Op → V → Exactness → V → Type 0
-ChangesTo {V} {H} m op v e w = Changes V H (dropping m) op v e w
+ChangesTo m op v e w = Changes (dropping m) op v e w
 
 -- how many variables live behind the change of a store with so many
 abbrev pub dims_behind : Op → ℕ → ℕ

@@ -1,27 +1,42 @@
 -- Both sides of a condition at once, each with the exactness of what led to it.
-use Rattle.std.specs.Prelude.{◌≡◌, ℕ, Bool, List, [], ◌∷◌}
-use Rattle.lra_domain.specs.Meaning.{Meaning}
+use Rattle.std.specs.Prelude.{◌≡◌, ℕ, Bool, true, false, not, List, [], ◌∷◌}
+use Rattle.lra_domain.specs.Meaning.{Meaning, worse}
+use Rattle.lra_domain.specs.declared.Exactness.{Exactness}
 use Rattle.lra_program.specs.Program.{Cond}
-use Rattle.lra_flow.specs.Condition.{Pushed}
+use Rattle.lra_flow.specs.Moves.{Moves, Takes}
+use Rattle.lra_flow.specs.MovesOf.{guard}
 use Rattle.lra_flow.specs.Operations.{dropping}
-use Rattle.lra_flow.specs.Conditions.{testing}
-use Rattle.lra_forms.specs.Conditions.{either_of}
+use Rattle.lra_forms.specs.Conditions.{in_turn_of, either_of}
 use Rattle.lra_change.specs.declared.sides.Kept.{Kept}
 use Rattle.lra_change.specs.declared.sides.Sides.{Sides}
-use Rattle.lra_change.specs.Conditions.{Pushes}
 
--- from this the one condition leaves the one side, and the other one the other side
-pub record Splits {V H : Type 0} (m : Meaning V H) (base : ℕ) (yes no : Pushed) (from : Kept V)
-    (sides : Sides V) : Type 0 where
-  pub on : Pushes m (m.dims from.value) base yes from.value from.exactness sides.on.value sides.on.exactness
-  pub off : Pushes m (m.dims from.value) base no from.value from.exactness sides.off.value sides.off.exactness
+abbrev pub TakesTo : {V H : Type 0} → Meaning V H → Moves → Kept V → Kept V → Type 0
+TakesTo m moves from to = Takes (dropping m) moves from.value from.exactness to.value to.exactness
+
+-- from this the one moves lead to the one side, and the others to the other one, over so many live variables
+pub record Splits {V H : Type 0} (m : Meaning V H) (yes no : ℕ → Moves) (from : Kept V) (sides : Sides V) : Type 0 where
+  pub on : TakesTo m (yes (m.dims from.value)) from sides.on
+  pub off : TakesTo m (no (m.dims from.value)) from sides.off
   pub on_dims : m.dims sides.on.value ≡ m.dims from.value
   pub off_dims : m.dims sides.off.value ≡ m.dims from.value
 
+-- a condition, as wanted and not so; a chain of `&&`; a chain of `||`
+abbrev pub SplitsBy : {V H : Type 0} → Meaning V H → ℕ → Bool → Cond → Kept V → Sides V → Type 0
+SplitsBy m base wanted c from sides =
+    Splits m (λ n. guard n base wanted c) (λ n. guard n base (not wanted) c) from sides
+
+abbrev pub SplitsAll : {V H : Type 0} → Meaning V H → ℕ → Cond → List Cond → Kept V → Sides V → Type 0
+SplitsAll m base c cs from sides =
+    Splits m (λ n. in_turn_of n base true c cs) (λ n. either_of n base false c cs) from sides
+
+abbrev pub SplitsAny : {V H : Type 0} → Meaning V H → ℕ → Cond → List Cond → Kept V → Sides V → Type 0
+SplitsAny m base c cs from sides =
+    Splits m (λ n. either_of n base true c cs) (λ n. in_turn_of n base false c cs) from sides
+
 -- the first joined with the second
 pub record AreJoinedTo {V H : Type 0} (m : Meaning V H) (one two joined : Kept V) : Type 0 where
-  pub is_joined : (testing (dropping m)).IsJoined (one.value, one.exactness) (two.value, two.exactness)
-      (joined.value, joined.exactness)
+  pub is_joined : (e : Exactness) × (dropping m).joined one.value two.value e joined.value ×
+      (joined.exactness ≡ worse (worse one.exactness two.exactness) e)
   pub same_dims : m.dims joined.value ≡ m.dims one.value
 
 -- each of them joined with what those behind it give, the last with this one
@@ -39,9 +54,7 @@ AllKeptHave m n (one ∷ more) = (m.dims one.value ≡ n) × AllKeptHave m n mor
 -- of what is left, joined with what the divided ones left, is what the whole chain leaves
 pub record IsEitherSoFar {V H : Type 0} (m : Meaning V H) (base : ℕ) (wanted : Bool) (c : Cond) (cs : List Cond)
     (from : Kept V) (lefts : List (Kept V)) (off : Kept V) (d : Cond) (ds : List Cond) : Type 0 where
-  pub whole : (right joined : Kept V) →
-      Pushes m (m.dims off.value) base (either_of wanted d ds) off.value off.exactness right.value right.exactness →
-      AreJoinedBack m lefts right joined →
-      Pushes m (m.dims from.value) base (either_of wanted c cs) from.value from.exactness joined.value joined.exactness
+  pub whole : (right joined : Kept V) → TakesTo m (either_of (m.dims off.value) base wanted d ds) off right →
+      AreJoinedBack m lefts right joined → TakesTo m (either_of (m.dims from.value) base wanted c cs) from joined
   pub have : AllKeptHave m (m.dims from.value) lefts
   pub same : m.dims off.value ≡ m.dims from.value

@@ -8,7 +8,7 @@ ghost use Rattle.lra_program.specs.Step.{append, give_any};
 ghost use Rattle.lra_program.specs.ProgramViews.{expr_view};
 ghost use Rattle.lra_operations.specs.GraphViews.{op_view};
 ghost use Rattle.lra_flow.specs.Linear.{form_of};
-ghost use Rattle.lra_flow.specs.Changes.{set_to, append_set, push_all, drop_last};
+ghost use Rattle.lra_flow.specs.MovesOf.{set_to, append_set, push_all, drop_last};
 ghost use Rattle.lra_change.specs.Changes.{Does, ChangesTo, OpFits, dims_behind};
 
 use crate::conditions::leave;

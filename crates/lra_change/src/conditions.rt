@@ -2,29 +2,21 @@
 //! level of nesting take little of the stack.
 
 ghost use Rattle.std.specs.Prelude.{◌≡◌, ◌<◌, ◌^◌, ◌∷◌, [], map, length, slice_index_or, IfOk, OnOk};
-ghost use Rattle.lra_base.specs.OperatorViews.{comparison_view};
-ghost use Rattle.lra_program.specs.Program as resolved;
 ghost use Rattle.lra_program.specs.Program.{nonzero};
 ghost use Rattle.lra_program.specs.ProgramViews.{all_of, any_of, cond_view, expr_view};
-ghost use Rattle.lra_flow.specs.Condition.{atom, atom_of, push};
+ghost use Rattle.lra_flow.specs.Operations.{dropping};
+ghost use Rattle.lra_flow.specs.Moves.{Takes};
+ghost use Rattle.lra_flow.specs.MovesOf.{guard};
 ghost use Rattle.lra_forms.specs.Conditions.{in_turn_of, either_of};
-ghost use Rattle.lra_change.specs.Conditions.{Pushes};
 ghost use Rattle.lra_change.specs.Sides.{AreJoinedBack, AllKeptHave, IsEitherSoFar};
 
 use crate::comparisons::{Surroundings, leave_comparison};
 use crate::sides::{Kept, divide, join_back};
 use lra_base::Comparison;
 use lra_domain::{Domain, Exactness};
-use lra_forms::opposite_of;
+use lra_forms::comparison_where;
 use lra_program::{Cond, Expr};
 use std::alloc::{AllocError, Global};
-
-/// The comparison, or its opposite where it isn't wanted.
-fn comparison_where(op: Comparison, wanted: bool) -> Comparison
-    ensures { (a b : resolved.Expr) → atom (comparison_view result) a b ≡ atom_of wanted (comparison_view op) a b }
-{
-    if wanted { op } else { opposite_of(op) }
-}
 
 /// What `e != 0`, wanted true or false, leaves of the value.
 fn leave_nonzero<D: Domain>(
@@ -35,8 +27,9 @@ fn leave_nonzero<D: Domain>(
     before: Exactness,
 ) -> Result<Exactness, AllocError>
     requires { D.meaning.dims value.old < 2 ^ 62 }
-    ensures leaves { IfOk result (λ a. Pushes D.meaning (D.meaning.dims value.old) around.base
-        (push wanted (nonzero (expr_view e.now))) value.old before value.new a) }
+    ensures leaves { IfOk result (λ a. Takes (dropping D.meaning)
+        (guard (D.meaning.dims value.old) around.base wanted (nonzero (expr_view e.now)))
+        value.old before value.new a) }
     ensures dims { OnOk result (D.meaning.dims value.new ≡ D.meaning.dims value.old) }
 {
     let zero = Expr::Literal(0);
@@ -125,8 +118,8 @@ pub fn leave<D: Domain>(
     before: Exactness,
 ) -> Result<Exactness, AllocError>
     requires { D.meaning.dims value.old < 2 ^ 62 }
-    ensures leaves { IfOk result (λ e. Pushes D.meaning (D.meaning.dims value.old) base
-        (push wanted (cond_view condition.now)) value.old before value.new e) }
+    ensures leaves { IfOk result (λ e. Takes (dropping D.meaning)
+        (guard (D.meaning.dims value.old) base wanted (cond_view condition.now)) value.old before value.new e) }
     ensures dims { OnOk result (D.meaning.dims value.new ≡ D.meaning.dims value.old) }
 {
     let around = Surroundings { alloc, base };
@@ -157,8 +150,9 @@ fn leave_all<D: Domain>(
     before: Exactness,
 ) -> Result<Exactness, AllocError>
     requires { D.meaning.dims value.old < 2 ^ 62 }
-    ensures leaves { IfOk result (λ e. Pushes D.meaning (D.meaning.dims value.old) around.base
-        (push wanted (all_of (cond_view first.now) (map cond_view rest.now))) value.old before value.new e) }
+    ensures leaves { IfOk result (λ e. Takes (dropping D.meaning)
+        (guard (D.meaning.dims value.old) around.base wanted (all_of (cond_view first.now) (map cond_view rest.now)))
+        value.old before value.new e) }
     ensures dims { OnOk result (D.meaning.dims value.new ≡ D.meaning.dims value.old) }
 {
     if wanted {
@@ -179,8 +173,9 @@ fn leave_any<D: Domain>(
     before: Exactness,
 ) -> Result<Exactness, AllocError>
     requires { D.meaning.dims value.old < 2 ^ 62 }
-    ensures leaves { IfOk result (λ e. Pushes D.meaning (D.meaning.dims value.old) around.base
-        (push wanted (any_of (cond_view first.now) (map cond_view rest.now))) value.old before value.new e) }
+    ensures leaves { IfOk result (λ e. Takes (dropping D.meaning)
+        (guard (D.meaning.dims value.old) around.base wanted (any_of (cond_view first.now) (map cond_view rest.now)))
+        value.old before value.new e) }
     ensures dims { OnOk result (D.meaning.dims value.new ≡ D.meaning.dims value.old) }
 {
     if wanted {
@@ -201,8 +196,9 @@ fn leave_in_turn<D: Domain>(
     before: Exactness,
 ) -> Result<Exactness, AllocError>
     requires { D.meaning.dims value.old < 2 ^ 62 }
-    ensures leaves { IfOk result (λ e. Pushes D.meaning (D.meaning.dims value.old) around.base
-        (in_turn_of wanted (cond_view first.now) (map cond_view rest.now)) value.old before value.new e) }
+    ensures leaves { IfOk result (λ e. Takes (dropping D.meaning)
+        (in_turn_of (D.meaning.dims value.old) around.base wanted (cond_view first.now) (map cond_view rest.now))
+        value.old before value.new e) }
     ensures dims { OnOk result (D.meaning.dims value.new ≡ D.meaning.dims value.old) }
 {
     let mut exactness = leave(around.alloc, around.base, first, wanted, value, before)?;
@@ -223,8 +219,9 @@ fn leave_either<D: Domain>(
     before: Exactness,
 ) -> Result<Exactness, AllocError>
     requires { D.meaning.dims value.old < 2 ^ 62 }
-    ensures leaves { IfOk result (λ e. Pushes D.meaning (D.meaning.dims value.old) around.base
-        (either_of wanted (cond_view first.now) (map cond_view rest.now)) value.old before value.new e) }
+    ensures leaves { IfOk result (λ e. Takes (dropping D.meaning)
+        (either_of (D.meaning.dims value.old) around.base wanted (cond_view first.now) (map cond_view rest.now))
+        value.old before value.new e) }
     ensures dims { OnOk result (D.meaning.dims value.new ≡ D.meaning.dims value.old) }
 {
     let from = copy_kept(around.alloc, value, before)?;

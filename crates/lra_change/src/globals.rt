@@ -2,7 +2,7 @@
 
 ghost use Rattle.std.specs.Prelude.{◌≡◌, ◌+◌, ◌<◌, ◌≤◌, ◌^◌, suc, length, Some, IfOk, OnOk};
 ghost use Rattle.lra_flow.specs.Linear.{constant_form};
-ghost use Rattle.lra_flow.specs.Changes.{append_set, first_values};
+ghost use Rattle.lra_flow.specs.MovesOf.{append_set, first_values};
 ghost use Rattle.lra_change.specs.Changes.{Does};
 
 use lra_domain::{Domain, Exactness, worse};

@@ -1,13 +1,11 @@
 //! What a condition leaves of a value where it is true, together with what it leaves where it is false.
 //! What is never inlined holds nothing while the function for a condition inside this one runs.
 
-ghost use Rattle.std.specs.Prelude.{◌≡◌, ◌<◌, ◌^◌, map, not, true, false, IfOk};
+ghost use Rattle.std.specs.Prelude.{◌≡◌, ◌<◌, ◌^◌, map, true, IfOk};
 ghost use Rattle.lra_base.specs.OperatorViews.{comparison_view};
-ghost use Rattle.lra_program.specs.Program.{nonzero};
+ghost use Rattle.lra_program.specs.Program.{compare, nonzero};
 ghost use Rattle.lra_program.specs.ProgramViews.{expr_view, cond_view};
-ghost use Rattle.lra_flow.specs.Condition.{atom, opposite_comparison, push};
-ghost use Rattle.lra_forms.specs.Conditions.{in_turn_of, either_of};
-ghost use Rattle.lra_change.specs.Sides.{Splits, AreJoinedTo, AreJoinedBack, AllKeptHave};
+ghost use Rattle.lra_change.specs.Sides.{SplitsBy, SplitsAll, SplitsAny, AreJoinedTo, AreJoinedBack, AllKeptHave};
 
 use crate::comparisons::{Surroundings, leave_comparison};
 use lra_base::Comparison;
@@ -95,9 +93,8 @@ fn split_comparison<D: Domain>(
     from: Kept<D>,
 ) -> Result<Sides<D>, AllocError>
     requires { D.meaning.dims from.value < 2 ^ 62 }
-    ensures { IfOk result (λ s. Splits D.meaning base
-        (atom (comparison_view op) (expr_view left.now) (expr_view right.now))
-        (atom (opposite_comparison (comparison_view op)) (expr_view left.now) (expr_view right.now)) from s) }
+    ensures { IfOk result (λ s. SplitsBy D.meaning base true
+        (compare (comparison_view op) (expr_view left.now) (expr_view right.now)) from s) }
 {
     let Kept {
         value: mut on,
@@ -128,8 +125,7 @@ fn split_nonzero<D: Domain>(
     from: Kept<D>,
 ) -> Result<Sides<D>, AllocError>
     requires { D.meaning.dims from.value < 2 ^ 62 }
-    ensures { IfOk result (λ s. Splits D.meaning base (push true (nonzero (expr_view e.now)))
-        (push false (nonzero (expr_view e.now))) from s) }
+    ensures { IfOk result (λ s. SplitsBy D.meaning base true (nonzero (expr_view e.now)) from s) }
 {
     let zero = Expr::Literal(0);
     split_comparison(alloc, base, Comparison::Differs, e, &zero, from)
@@ -145,8 +141,7 @@ pub fn split<D: Domain>(
     from: Kept<D>,
 ) -> Result<Sides<D>, AllocError>
     requires { D.meaning.dims from.value < 2 ^ 62 }
-    ensures { IfOk result (λ s. Splits D.meaning base (push true (cond_view condition.now))
-        (push false (cond_view condition.now)) from s) }
+    ensures { IfOk result (λ s. SplitsBy D.meaning base true (cond_view condition.now) from s) }
 {
     match condition {
         Cond::Compare(op, left, right) => split_comparison(alloc, base, *op, left, right, from),
@@ -170,8 +165,7 @@ fn split_all<D: Domain>(
     from: Kept<D>,
 ) -> Result<Sides<D>, AllocError>
     requires { D.meaning.dims from.value < 2 ^ 62 }
-    ensures { IfOk result (λ s. Splits D.meaning base (in_turn_of true (cond_view first.now) (map cond_view rest.now))
-        (either_of false (cond_view first.now) (map cond_view rest.now)) from s) }
+    ensures { IfOk result (λ s. SplitsAll D.meaning base (cond_view first.now) (map cond_view rest.now) from s) }
 {
     let mut sides = split(alloc, base, first, from)?;
     let mut before = Vec::new(alloc);
@@ -193,8 +187,7 @@ fn split_any<D: Domain>(
     from: Kept<D>,
 ) -> Result<Sides<D>, AllocError>
     requires { D.meaning.dims from.value < 2 ^ 62 }
-    ensures { IfOk result (λ s. Splits D.meaning base (either_of true (cond_view first.now) (map cond_view rest.now))
-        (in_turn_of false (cond_view first.now) (map cond_view rest.now)) from s) }
+    ensures { IfOk result (λ s. SplitsAny D.meaning base (cond_view first.now) (map cond_view rest.now) from s) }
 {
     let mut sides = split(alloc, base, first, from)?;
     let mut before = Vec::new(alloc);
@@ -215,8 +208,7 @@ pub fn divide<D: Domain>(
     from: Kept<D>,
 ) -> Result<Sides<D>, AllocError>
     requires { D.meaning.dims from.value < 2 ^ 62 }
-    ensures { IfOk result (λ s. Splits D.meaning base (push wanted (cond_view condition.now))
-        (push (not wanted) (cond_view condition.now)) from s) }
+    ensures { IfOk result (λ s. SplitsBy D.meaning base wanted (cond_view condition.now) from s) }
 {
     let sides = split(alloc, base, condition, from)?;
     if wanted {

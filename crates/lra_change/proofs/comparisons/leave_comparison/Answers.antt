@@ -22,7 +22,7 @@ returns-in-Differs-clause-leaves g c =
     let raw : c.in_ok-d.field-0 ≡ difference_form c.dims.result c.args.around.base (expr_view c.args.left.now) (expr_view c.args.right.now) = c.in_ok-d.ensures in
     let is : Some c.in-Some.d ≡ difference_form n c.args.around.base (expr_view c.args.left.now) (expr_view c.args.right.now) =
     difference_there c.dims.result n c.args.around.base (expr_view c.args.left.now) (expr_view c.args.right.now) c.in_ok-d.field-0 c.in-Some.d c.dims.ensures c.in-Some.is raw in
-    compares_as g.D.Domain.meaning n c.args.around.base c.leave_differs.result c.args.value.now c.args.before
+    compares_as g.D.Domain.meaning c.leave_differs.result c.args.value.now c.args.before
     c.leave_differs.new.value differs (comparison_view c.args.op) (Some c.in-Some.d)
     (difference_form n c.args.around.base (expr_view c.args.left.now) (expr_view c.args.right.now))
     (ap comparison_view c.in-Differs.is) (sym is) c.leave_differs.ensures.leaves
@@ -42,7 +42,7 @@ returns g c =
     let is : Some c.in-Some.d ≡ difference_form n c.args.around.base (expr_view c.args.left.now) (expr_view c.args.right.now) =
     difference_there c.dims.result n c.args.around.base (expr_view c.args.left.now) (expr_view c.args.right.now) c.in_ok-d.field-0 c.in-Some.d c.dims.ensures c.in-Some.is raw in
     record {
-      leaves = compares_by_tests g.D.Domain.meaning n c.args.around.base c.leave_test.result c.args.value.now
+      leaves = compares_by_tests g.D.Domain.meaning c.leave_test.result c.args.value.now
           c.args.before c.leave_test.new.value c.args.op c.in-Some.d
           (difference_form n c.args.around.base (expr_view c.args.left.now) (expr_view c.args.right.now))
           c.in_default-op.not-Differs (sym is) c.leave_test.ensures.leaves;

@@ -1,16 +1,26 @@
 -- Goals of `leave_differs`: what `<` or `>` leaves of the value.
 use Rattle.std.proofs.Common.{refl, sym, ◌∙◌}
+use Rattle.lra_base.specs.Operators.{below, above}
+use Rattle.lra_domain.specs.Meaning.{worse}
+use Rattle.lra_flow.specs.Linear.{comparison_test}
+use Rattle.lra_flow.specs.Operations.{dropping}
+use Rattle.lra_flow.specs.MovesOf.{test_moves}
+use Rattle.lra_flow.proofs.Takes.{join_takes}
 use Rattle.lra_change.proofs.comparisons.leave_differs.Goals as goal
 
 pub returns-clause-leaves : goal.returns-clause-leaves
-returns-clause-leaves g c = (
-  (c.in_ok-less.less, c.in_ok-less.one),
-  (c.leave_test.new.value, c.in_ok-two.two),
-  c.in_ok-less.ensures.leaves,
-  c.in_ok-two.ensures.leaves,
-  (
-    c.in_ok-joined.joined,
-    (c.in_ok-joined.ensures.joins, c.in_ok-two.ensures.dims ∙ sym c.in_ok-less.ensures.dims, c.in_ok-joined.ensures.dims, c.in_ok-joined.ensures.capped),
-    rw (c.worse-2.ensures.is, c.worse.ensures.is) refl,
-  ),
-)
+returns-clause-leaves g c =
+    let m = g.D.Domain.meaning in
+    let d = c.args.d.now in
+    rw (c.worse-2.ensures.is, c.worse.ensures.is) ((join_takes (dropping m) c.args.value.now c.args.before c.join.new.self (worse (worse c.in_ok-less.one c.in_ok-two.two) c.in_ok-joined.joined)
+    (test_moves (comparison_test below d)) (test_moves (comparison_test above d))).0 (
+      c.in_ok-less.less,
+      c.leave_test.new.value,
+      c.in_ok-less.one,
+      c.in_ok-two.two,
+      c.in_ok-joined.joined,
+      c.in_ok-less.ensures.leaves,
+      c.in_ok-two.ensures.leaves,
+      (c.in_ok-joined.ensures.joins, c.in_ok-two.ensures.dims ∙ sym c.in_ok-less.ensures.dims, c.in_ok-joined.ensures.dims, c.in_ok-joined.ensures.capped),
+      refl,
+    ))

@@ -2,12 +2,14 @@
 use Rattle.std.proofs.Common.{◌≡◌, None, Some, refl, sym, ◌∙◌}
 use Rattle.lra_base.specs.OperatorViews.{comparison_view}
 use Rattle.lra_flow.specs.Linear.{comparison_test}
+use Rattle.lra_flow.specs.Operations.{dropping}
+use Rattle.lra_flow.proofs.Takes.{stay_takes}
 use Rattle.lra_change.proofs.comparisons.leave_test.Goals as goal
 
 pub returns-in-None-clause-leaves : goal.returns-in-None-clause-leaves
 returns-in-None-clause-leaves g c =
     let none : comparison_test (comparison_view c.args.op) c.args.d.now ≡ None = sym c.in_ok-test_of.ensures ∙ c.in-None.is in
-    rw none refl
+    rw none ((stay_takes (dropping g.D.Domain.meaning) c.args.value.now c.args.before c.args.value.now c.args.before).0 (refl, refl))
 
 pub returns-in_ok-exactness-in-Some-clause-leaves : goal.returns-in_ok-exactness-in-Some-clause-leaves
 returns-in_ok-exactness-in-Some-clause-leaves g c =

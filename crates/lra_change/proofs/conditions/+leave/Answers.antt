@@ -4,7 +4,9 @@ use Rattle.std.specs.Prelude.{not}
 use Rattle.lra_base.specs.OperatorViews.{comparison_view}
 use Rattle.lra_program.specs.Program.{nonzero}
 use Rattle.lra_program.specs.ProgramViews.{all_of, any_of, cond_view, expr_view}
-use Rattle.lra_flow.specs.Condition.{atom, push}
+use Rattle.lra_base.specs.Operators.{Comparison}
+use Rattle.lra_flow.specs.Linear.{difference_form}
+use Rattle.lra_flow.specs.MovesOf.{comparison_moves, guard}
 use Rattle.lra_forms.specs.Conditions.{in_turn_of, either_of}
 use Rattle.lra_forms.proofs.CondSteps.{all_true, any_false, all_false, any_true}
 use Rattle.lra_change.proofs.SideSteps.{compare_view, nonzero_view, opposite_shown, all_shown, any_shown, leaves_as}
@@ -15,87 +17,96 @@ use Rattle.lra_change.proofs.conditions.+leave.Goals as goal
 pub leave-returns-in-Compare-clause-leaves : goal.leave-returns-in-Compare-clause-leaves
 leave-returns-in-Compare-clause-leaves g t c =
     let m = g.D.Domain.meaning in
-    let left = expr_view c.in-Compare.left in
-    let right = expr_view c.in-Compare.right in
-    leaves_as m c.args.base c.leave_comparison.result c.args.value.now c.args.before c.leave_comparison.new.value
-    (m.dims c.args.value.now) (atom (comparison_view c.comparison_where-wanted_one.result) left right)
-    (push c.args.wanted (cond_view c.args.condition.now))
-    (ap (push c.args.wanted) (ap cond_view c.in-Compare.is ∙ compare_view c.in-Compare.op c.in-Compare.left c.in-Compare.right)
-    ∙ sym (c.comparison_where-wanted_one.ensures left right)) c.leave_comparison.ensures.leaves
+    let n = m.dims c.args.value.now in
+    let difference = difference_form n c.args.base (expr_view c.in-Compare.left) (expr_view c.in-Compare.right) in
+    let shown = ap cond_view c.in-Compare.is ∙ compare_view c.in-Compare.op c.in-Compare.left c.in-Compare.right in
+    leaves_as m c.leave_comparison.result c.args.value.now c.args.before c.leave_comparison.new.value
+    (comparison_moves (comparison_view c.comparison_where-wanted_one.result) difference)
+    (guard n c.args.base c.args.wanted (cond_view c.args.condition.now))
+    (ap (guard n c.args.base c.args.wanted) shown ∙ ap (λ (o : Comparison). comparison_moves o difference) (sym c.comparison_where-wanted_one.ensures))
+    c.leave_comparison.ensures.leaves
 
 pub leave-returns-in-Nonzero-clause-leaves : goal.leave-returns-in-Nonzero-clause-leaves
 leave-returns-in-Nonzero-clause-leaves g t c =
     let m = g.D.Domain.meaning in
-    leaves_as m c.args.base c.leave_nonzero.result c.args.value.now c.args.before c.leave_nonzero.new.value
-    (m.dims c.args.value.now) (push c.args.wanted (nonzero (expr_view c.in-Nonzero.e)))
-    (push c.args.wanted (cond_view c.args.condition.now))
-    (ap (push c.args.wanted) (ap cond_view c.in-Nonzero.is ∙ nonzero_view c.in-Nonzero.e)) c.leave_nonzero.ensures.leaves
+    let n = m.dims c.args.value.now in
+    leaves_as m c.leave_nonzero.result c.args.value.now c.args.before c.leave_nonzero.new.value (guard n c.args.base c.args.wanted (nonzero (expr_view c.in-Nonzero.e)))
+    (guard n c.args.base c.args.wanted (cond_view c.args.condition.now))
+    (ap (guard n c.args.base c.args.wanted) (ap cond_view c.in-Nonzero.is ∙ nonzero_view c.in-Nonzero.e)) c.leave_nonzero.ensures.leaves
 
 pub leave-returns-in-Opposite-clause-leaves : goal.leave-returns-in-Opposite-clause-leaves
 leave-returns-in-Opposite-clause-leaves g t c =
     let m = g.D.Domain.meaning in
-    leaves_as m c.args.base c.leave.result c.args.value.now c.args.before c.leave.new.value
-    (m.dims c.args.value.now) (push (not c.args.wanted) (cond_view c.deref.result.now))
-    (push c.args.wanted (cond_view c.args.condition.now))
-    (ap (push c.args.wanted) (opposite_shown c.args.condition.now c.deref.result.now c.in-Opposite.inner c.in-Opposite.is
+    let n = m.dims c.args.value.now in
+    leaves_as m c.leave.result c.args.value.now c.args.before c.leave.new.value (guard n c.args.base (not c.args.wanted) (cond_view c.deref.result.now))
+    (guard n c.args.base c.args.wanted (cond_view c.args.condition.now))
+    (ap (guard n c.args.base c.args.wanted) (opposite_shown c.args.condition.now c.deref.result.now c.in-Opposite.inner c.in-Opposite.is
     c.deref.ensures)) c.leave.ensures.leaves
 
 pub leave-returns-in-All-clause-leaves : goal.leave-returns-in-All-clause-leaves
 leave-returns-in-All-clause-leaves g t c =
     let m = g.D.Domain.meaning in
-    leaves_as m c.args.base c.leave_all.result c.args.value.now c.args.before c.leave_all.new.value
-    (m.dims c.args.value.now)
-    (push c.args.wanted (all_of (cond_view c.deref-in-All.result.now) (map cond_view c.as_slice.result.now)))
-    (push c.args.wanted (cond_view c.args.condition.now))
-    (ap (push c.args.wanted) (all_shown c.args.condition.now c.deref-in-All.result.now c.as_slice.result.now c.in-All.first
+    let n = m.dims c.args.value.now in
+    leaves_as m c.leave_all.result c.args.value.now c.args.before c.leave_all.new.value
+    (guard n c.args.base c.args.wanted (all_of (cond_view c.deref-in-All.result.now) (map cond_view c.as_slice.result.now)))
+    (guard n c.args.base c.args.wanted (cond_view c.args.condition.now))
+    (ap (guard n c.args.base c.args.wanted) (all_shown c.args.condition.now c.deref-in-All.result.now c.as_slice.result.now c.in-All.first
     c.in-All.rest c.deref-in-All.ensures c.as_slice.ensures.value c.in-All.is)) c.leave_all.ensures.leaves
 
 pub leave-returns-in-Any-clause-leaves : goal.leave-returns-in-Any-clause-leaves
 leave-returns-in-Any-clause-leaves g t c =
     let m = g.D.Domain.meaning in
-    leaves_as m c.args.base c.leave_any.result c.args.value.now c.args.before c.leave_any.new.value
-    (m.dims c.args.value.now)
-    (push c.args.wanted (any_of (cond_view c.deref-in-Any.result.now) (map cond_view c.as_slice-in-Any.result.now)))
-    (push c.args.wanted (cond_view c.args.condition.now))
-    (ap (push c.args.wanted) (any_shown c.args.condition.now c.deref-in-Any.result.now c.as_slice-in-Any.result.now
+    let n = m.dims c.args.value.now in
+    leaves_as m c.leave_any.result c.args.value.now c.args.before c.leave_any.new.value
+    (guard n c.args.base c.args.wanted (any_of (cond_view c.deref-in-Any.result.now) (map cond_view c.as_slice-in-Any.result.now)))
+    (guard n c.args.base c.args.wanted (cond_view c.args.condition.now))
+    (ap (guard n c.args.base c.args.wanted) (any_shown c.args.condition.now c.deref-in-Any.result.now c.as_slice-in-Any.result.now
     c.in-Any.first c.in-Any.rest c.deref-in-Any.ensures c.as_slice-in-Any.ensures.value c.in-Any.is))
     c.leave_any.ensures.leaves
 
 pub leave_all-returns-then-wanted-clause-leaves : goal.leave_all-returns-then-wanted-clause-leaves
 leave_all-returns-then-wanted-clause-leaves g t c =
     let m = g.D.Domain.meaning in
+    let n = m.dims c.args.value.now in
+    let base = c.args.around.base in
     let first = cond_view c.args.first.now in
     let rest = map cond_view c.args.rest.now in
-    leaves_as m c.args.around.base c.leave_in_turn.result c.args.value.now c.args.before c.leave_in_turn.new.value (m.dims c.args.value.now)
-    (in_turn_of true first rest) (push c.args.wanted (all_of first rest))
-    (ap (λ (b : Bool). push b (all_of first rest)) c.if-wanted.true ∙ all_true first rest) c.leave_in_turn.ensures.leaves
+    leaves_as m c.leave_in_turn.result c.args.value.now c.args.before c.leave_in_turn.new.value
+    (in_turn_of n base true first rest) (guard n base c.args.wanted (all_of first rest))
+    (ap (λ (b : Bool). guard n base b (all_of first rest)) c.if-wanted.true ∙ all_true n base first rest) c.leave_in_turn.ensures.leaves
 
 pub leave_all-returns-else-wanted-clause-leaves : goal.leave_all-returns-else-wanted-clause-leaves
 leave_all-returns-else-wanted-clause-leaves g t c =
     let m = g.D.Domain.meaning in
+    let n = m.dims c.args.value.now in
+    let base = c.args.around.base in
     let first = cond_view c.args.first.now in
     let rest = map cond_view c.args.rest.now in
-    leaves_as m c.args.around.base c.leave_either.result c.args.value.now c.args.before c.leave_either.new.value (m.dims c.args.value.now)
-    (either_of false first rest) (push c.args.wanted (all_of first rest))
-    (ap (λ (b : Bool). push b (all_of first rest)) c.if-wanted.false ∙ all_false first rest) c.leave_either.ensures.leaves
+    leaves_as m c.leave_either.result c.args.value.now c.args.before c.leave_either.new.value
+    (either_of n base false first rest) (guard n base c.args.wanted (all_of first rest))
+    (ap (λ (b : Bool). guard n base b (all_of first rest)) c.if-wanted.false ∙ all_false n base first rest) c.leave_either.ensures.leaves
 
 pub leave_any-returns-then-wanted-clause-leaves : goal.leave_any-returns-then-wanted-clause-leaves
 leave_any-returns-then-wanted-clause-leaves g t c =
     let m = g.D.Domain.meaning in
+    let n = m.dims c.args.value.now in
+    let base = c.args.around.base in
     let first = cond_view c.args.first.now in
     let rest = map cond_view c.args.rest.now in
-    leaves_as m c.args.around.base c.leave_either.result c.args.value.now c.args.before c.leave_either.new.value (m.dims c.args.value.now)
-    (either_of true first rest) (push c.args.wanted (any_of first rest))
-    (ap (λ (b : Bool). push b (any_of first rest)) c.if-wanted.true ∙ any_true first rest) c.leave_either.ensures.leaves
+    leaves_as m c.leave_either.result c.args.value.now c.args.before c.leave_either.new.value
+    (either_of n base true first rest) (guard n base c.args.wanted (any_of first rest))
+    (ap (λ (b : Bool). guard n base b (any_of first rest)) c.if-wanted.true ∙ any_true n base first rest) c.leave_either.ensures.leaves
 
 pub leave_any-returns-else-wanted-clause-leaves : goal.leave_any-returns-else-wanted-clause-leaves
 leave_any-returns-else-wanted-clause-leaves g t c =
     let m = g.D.Domain.meaning in
+    let n = m.dims c.args.value.now in
+    let base = c.args.around.base in
     let first = cond_view c.args.first.now in
     let rest = map cond_view c.args.rest.now in
-    leaves_as m c.args.around.base c.leave_in_turn.result c.args.value.now c.args.before c.leave_in_turn.new.value (m.dims c.args.value.now)
-    (in_turn_of false first rest) (push c.args.wanted (any_of first rest))
-    (ap (λ (b : Bool). push b (any_of first rest)) c.if-wanted.false ∙ any_false first rest) c.leave_in_turn.ensures.leaves
+    leaves_as m c.leave_in_turn.result c.args.value.now c.args.before c.leave_in_turn.new.value
+    (in_turn_of n base false first rest) (guard n base c.args.wanted (any_of first rest))
+    (ap (λ (b : Bool). guard n base b (any_of first rest)) c.if-wanted.false ∙ any_false n base first rest) c.leave_in_turn.ensures.leaves
 
 pub leave_in_turn-rest-init : goal.leave_in_turn-rest-init
 leave_in_turn-rest-init g t c = record { pushes = c.in_ok-exactness.ensures.leaves; same = c.in_ok-exactness.ensures.dims }

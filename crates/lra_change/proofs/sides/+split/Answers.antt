@@ -1,6 +1,6 @@
 -- Goals of the functions that call each other around `split`: `split`, `split_all`, `split_any`.
 use Rattle.std.proofs.Common.{rules, map, drop, ◌≤◌, length, true, false, ap, ◌∙◌, arith}
-use Rattle.lra_flow.specs.Condition.{push}
+use Rattle.lra_flow.specs.MovesOf.{guard}
 use Rattle.lra_forms.specs.Conditions.{in_turn_of, either_of}
 use Rattle.lra_program.specs.ProgramViews.{cond_view}
 use Rattle.lra_forms.proofs.CondSteps.{all_true, any_false, all_false, any_true}
@@ -11,23 +11,27 @@ use Rattle.lra_change.proofs.sides.+split.Goals as goal
 
 pub split-returns-in-All : goal.split-returns-in-All
 split-returns-in-All g t c =
+    let base = c.args.base in
     let shown = all_shown c.args.condition.now c.deref-in-All.result.now c.as_slice.result.now c.in-All.first c.in-All.rest
     c.deref-in-All.ensures c.as_slice.ensures.value c.in-All.is in
     let first = cond_view c.deref-in-All.result.now in
     let rest = map cond_view c.as_slice.result.now in
-    sides_as g.D.Domain.meaning c.args.base c.split_all.result c.args.from (in_turn_of true first rest)
-    (push true (cond_view c.args.condition.now)) (either_of false first rest) (push false (cond_view c.args.condition.now))
-    (ap (push true) shown ∙ all_true first rest) (ap (push false) shown ∙ all_false first rest) c.split_all.ensures
+    sides_as g.D.Domain.meaning c.split_all.result c.args.from (λ n. in_turn_of n base true first rest)
+    (λ n. guard n base true (cond_view c.args.condition.now)) (λ n. either_of n base false first rest)
+    (λ n. guard n base false (cond_view c.args.condition.now)) (λ n. ap (guard n base true) shown ∙ all_true n base first rest)
+    (λ n. ap (guard n base false) shown ∙ all_false n base first rest) c.split_all.ensures
 
 pub split-returns-in-Any : goal.split-returns-in-Any
 split-returns-in-Any g t c =
+    let base = c.args.base in
     let shown = any_shown c.args.condition.now c.deref-in-Any.result.now c.as_slice-in-Any.result.now c.in-Any.first
     c.in-Any.rest c.deref-in-Any.ensures c.as_slice-in-Any.ensures.value c.in-Any.is in
     let first = cond_view c.deref-in-Any.result.now in
     let rest = map cond_view c.as_slice-in-Any.result.now in
-    sides_as g.D.Domain.meaning c.args.base c.split_any.result c.args.from (either_of true first rest)
-    (push true (cond_view c.args.condition.now)) (in_turn_of false first rest) (push false (cond_view c.args.condition.now))
-    (ap (push true) shown ∙ any_true first rest) (ap (push false) shown ∙ any_false first rest) c.split_any.ensures
+    sides_as g.D.Domain.meaning c.split_any.result c.args.from (λ n. either_of n base true first rest)
+    (λ n. guard n base true (cond_view c.args.condition.now)) (λ n. in_turn_of n base false first rest)
+    (λ n. guard n base false (cond_view c.args.condition.now)) (λ n. ap (guard n base true) shown ∙ any_true n base first rest)
+    (λ n. ap (guard n base false) shown ∙ any_false n base first rest) c.split_any.ensures
 
 pub split_all-rest-init : goal.split_all-rest-init
 split_all-rest-init g t c =
