@@ -6,9 +6,7 @@ use Rattle.lra_program.specs.Program.{Cond}
 use Rattle.lra_operations.specs.Graph.{Exit, broken, continued, returned, Node, empty, point, act, check, seq, choose, iterate, catch, leave}
 use Rattle.lra_base.specs.declared.options.Options.{Options}
 use Rattle.lra_flow.specs.Operations.{Operations, dropping}
-use Rattle.lra_flow.specs.Changes.{AreJoined}
-use Rattle.lra_flow.specs.Conditions.{Leaves}
-use Rattle.lra_flow.specs.Pass.{Result, noted, jumps, values_behind, behind, Through, GoesRound, Grows, Narrows, Pass}
+use Rattle.lra_flow.specs.Pass.{AreJoined, Leaves, Result, noted, jumps, values_behind, behind, Through, GoesRound, Grows, Narrows, Pass}
 use Rattle.lra_flow.proofs.Transfer.{Matters, Transfers, passes}
 use Rattle.lra_iter.specs.Fits.{live_after}
 use Rattle.lra_iter.specs.declared.outcome.Turn.{Turn}

@@ -16,7 +16,8 @@ use Rattle.lra_linear.proofs.Products.{product_none}
 use Rattle.lra_program.specs.Sites.{Site}
 use Rattle.lra_base.specs.declared.options.Options.{Options}
 use Rattle.lra_flow.specs.Operations.{dropping}
-use Rattle.lra_flow.specs.Changes.{first_values, AreDone}
+use Rattle.lra_flow.specs.Moves.{AreMade}
+use Rattle.lra_flow.specs.MovesOf.{first_values}
 use Rattle.lra_flow.specs.Pass.{Result, noted, Pass}
 use Rattle.lra_flow.specs.Analysis.{Solves, IsUnreachable}
 use Rattle.lra_flow.proofs.Covers.{Covers, Has}
@@ -41,11 +42,11 @@ set_last [] z = refl
 set_last (x ∷ xs) z = ap (λ (ys : List ℤ). x ∷ ys) (set_last xs z)
 
 module _ {V H : Type 0} (m : Meaning V H) where
-  first_done : Laws m → (zs : List ℤ) (live : ℕ) (v : V) (e : Exactness) (w : V) (s : List ℤ) → AreDone (dropping m) (first_values live zs) v e w → Has m v s → length s ≡ live → m.dims v ≡ live
+  first_done : Laws m → (zs : List ℤ) (live : ℕ) (v : V) (e : Exactness) (w : V) (s : List ℤ) → AreMade (dropping m) (first_values live zs) v e w → Has m v s → length s ≡ live → m.dims v ≡ live
       → Has m w (s ++ zs) × (m.dims w ≡ live + length zs)
   first_done laws [] live v e w s (same, exact) h l d =
       (subst (λ (x : V). Has m x (s ++ [])) (sym same) (subst (λ (xs : List ℤ). Has m v xs) (sym (append-nil s)) h), ap (λ (x : V). m.dims x) same ∙ omega (arith, d))
-  first_done laws (z ∷ zs) live v e w s (x, c, c', one, (y, d, d', two, rest, worse'), worse) h l k =
+  first_done laws (z ∷ zs) live v e w s (y, c', d', (x, c, d, one, two, worse'), rest, worse) h l k =
       let u = s ++ z ∷ [] in
       let long : length u ≡ suc live = length-append s (z ∷ []) ∙ omega (arith, l) in
       let has_x : Has m x u = (one.0.formed, laws.kept_stores (embed 1) v x h.0 one.0.formed one.0.keeps s u h.1 (z ∷ [], refl, refl)) in
@@ -60,7 +61,7 @@ module _ {V H : Type 0} (m : Meaning V H) where
   module _ (laws : Laws m) where
     -- from the globals on, whatever is drawn, a pass has the stores of the tree's runs
     pub begun_covers : (set : Options) (globals : List ℤ) (tree : Node) (whole first : V) (e : Exactness) (r : Result V) → m.universal 0 set.parts whole × m.formed whole →
-        AreDone (dropping m) (first_values 0 globals) whole e first
+        AreMade (dropping m) (first_values 0 globals) whole e first
         → Pass V H (dropping m) set tree (noted 0 e None) first r → (draws : List ℤ) → Covers m tree (begun globals draws) r
     begun_covers set globals tree whole first e r universal done pass draws =
         let all = laws.universal_stores 0 set.parts whole universal.1 universal.0 [] refl in

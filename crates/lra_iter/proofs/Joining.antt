@@ -4,8 +4,8 @@ use Rattle.std.proofs.lemmas.List.{drop_all}
 use Rattle.lra_domain.specs.declared.Exactness.{Exactness}
 use Rattle.lra_domain.specs.declared.Exactness.TheVariants.{Exact, Flagged}
 use Rattle.lra_domain.specs.Meaning.{Meaning, worse}
+use Rattle.lra_flow.specs.Pass.{AreJoined}
 use Rattle.lra_flow.specs.Operations.{dropping}
-use Rattle.lra_flow.specs.Changes.{AreJoined}
 use Rattle.lra_iter.specs.Outcome.{AllHave}
 
 -- however those that are left are joined to what is joined so far, all are

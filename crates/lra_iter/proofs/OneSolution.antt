@@ -10,7 +10,7 @@ use Rattle.lra_program.specs.Sites.{sites_of}
 use Rattle.lra_operations.specs.Graph.{Node}
 use Rattle.lra_base.specs.declared.options.Options.{Options}
 use Rattle.lra_flow.specs.Operations.{defined}
-use Rattle.lra_flow.specs.Pass.{Result, value, failing}
+use Rattle.lra_flow.specs.Pass.{Result, failing}
 use Rattle.lra_flow.specs.Analysis.{IsUnreachable, Solves, Written}
 use Rattle.lra_flow.proofs.OneIteration.{one_written}
 use Rattle.lra_iter.specs.Numbers.{IsNumbered}

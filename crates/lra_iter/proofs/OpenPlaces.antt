@@ -11,12 +11,12 @@ use Rattle.lra_operations.specs.declared.graph.Exit as exit
 use Rattle.lra_operations.specs.Graph.{Node, choose, catch}
 use Rattle.lra_operations.specs.GraphViews.{exit_view, node_view, row}
 use Rattle.lra_base.specs.declared.options.Options.{Options}
-use Rattle.lra_flow.specs.Conditions.{Leaves}
-use Rattle.lra_flow.specs.Condition.{push}
 use Rattle.lra_flow.specs.Operations.{dropping}
-use Rattle.lra_change.specs.Sides.{Splits}
+use Rattle.lra_flow.specs.MovesOf.{guard}
+use Rattle.lra_flow.proofs.Takes.{takes_made}
+use Rattle.lra_change.specs.Sides.{SplitsBy}
 use Rattle.lra_change.specs.declared.sides.Sides.{Sides}
-use Rattle.lra_flow.specs.Pass.{jumps_of, noted, goes_on}
+use Rattle.lra_flow.specs.Pass.{Leaves, jumps_of, noted, goes_on}
 use Rattle.lra_iter.specs.declared.memory.Memory.{Memory}
 use Rattle.lra_iter.specs.declared.outcome.Found.{Found}
 use Rattle.lra_iter.specs.declared.outcome.Outcome.{Outcome}
@@ -251,18 +251,20 @@ module _ {V H : Type 0} (m : Meaning V H) (set : Options) where
 
   -- what its condition leaves
   pub choice_opens : (k : shape.Choice) (sides : Sides V) (value : V) (flag inside : Option ℕ) (whole : Due V) →
-      Splits m k.base (push true (cond_view k.condition.now)) (push false (cond_view k.condition.now))
-      (record { value = value; exactness = Exact }) sides → inside ≡ noted k.point sides.on.exactness flag →
+      SplitsBy m k.base true (cond_view k.condition.now) (record { value = value; exactness = Exact }) sides → inside ≡ noted k.point sides.on.exactness flag →
       k.options.now ≡ set → whole.tree ≡ choose k.point k.base (cond_view k.condition.now) (node_view k.yes.now)
       (node_view k.no.now) → whole.value ≡ value → whole.flag ≡ flag → MayBePassed m set whole →
       OpensAt whole (Choice (record { choice = k; off = sides.off })) k.yes.now sides.on.value inside whole.memory
   choice_opens k sides value flag inside whole splits flagged options is first before may =
+      let c = cond_view k.condition.now in
+      let n = m.dims value in
+      let on = takes_made (dropping m) (guard n k.base true c) value sides.on.value sides.on.exactness splits.on in
+      let off = takes_made (dropping m) (guard n k.base false c) value sides.off.value sides.off.exactness splits.off in
       choice_leads (record { choice = k; off = sides.off }) k.yes.now sides.on.value inside whole sides.on.exactness options
-      is may (subst (λ (v : V). Leaves (dropping m) k.base (cond_view k.condition.now) true v sides.on.exactness
-      sides.on.value) (sym first) splits.on) (splits.on_dims ∙ ap m.dims (sym first))
-      (flagged ∙ ap (noted k.point sides.on.exactness) (sym before))
-      (subst (λ (v : V). Leaves (dropping m) k.base (cond_view k.condition.now) false v sides.off.exactness
-      sides.off.value) (sym first) splits.off) (splits.off_dims ∙ ap m.dims (sym first))
+      is may (subst (λ (v : V). Leaves (dropping m) k.base c true v sides.on.exactness sides.on.value) (sym first) on)
+      (splits.on_dims ∙ ap m.dims (sym first)) (flagged ∙ ap (noted k.point sides.on.exactness) (sym before))
+      (subst (λ (v : V). Leaves (dropping m) k.base c false v sides.off.exactness sides.off.value) (sym first) off)
+      (splits.off_dims ∙ ap m.dims (sym first))
 
   -- behind it, the second
   pub branch_leads : (k : ChoicePlace V) (first : Outcome V) (b : Box (BranchPlace V) Global) (flag : Option ℕ)

@@ -13,9 +13,8 @@ use Rattle.lra_program.specs.Program.{Cond}
 use Rattle.lra_operations.specs.Graph as graph
 use Rattle.lra_base.specs.declared.options.Options.{Options}
 use Rattle.lra_flow.specs.Operations.{Operations, dropping}
-use Rattle.lra_flow.specs.Changes.{AreJoined}
 use Rattle.lra_flow.specs.Given.{given_rows}
-use Rattle.lra_flow.specs.Pass.{Result, noted, first_of_call, mode_at, Pass, GoesRound, Grows, Narrows}
+use Rattle.lra_flow.specs.Pass.{AreJoined, Result, noted, first_of_call, mode_at, Pass, GoesRound, Grows, Narrows}
 use Rattle.lra_iter.specs.declared.outcome.Turn.{Turn}
 use Rattle.lra_iter.specs.declared.heads.Growing.{Growing}
 use Rattle.lra_iter.specs.declared.memory.Memory.{Memory}

@@ -18,8 +18,7 @@ use Rattle.lra_operations.specs.Graph.{Exit, broken, continued, returned}
 use Rattle.lra_operations.specs.Graph as graph
 use Rattle.lra_base.specs.declared.options.Options.{Options}
 use Rattle.lra_flow.specs.Operations.{dropping}
-use Rattle.lra_flow.specs.Conditions.{Leaves}
-use Rattle.lra_flow.specs.Pass.{jumps_of, Entry, Result, noted, goes_on, jumps, in_turn, behind, Pass, Narrows}
+use Rattle.lra_flow.specs.Pass.{Leaves, jumps_of, Entry, Result, noted, goes_on, jumps, in_turn, behind, Pass, Narrows}
 use Rattle.lra_iter.specs.Fits.{live_after, JumpsWith, TreeFits}
 use Rattle.lra_iter.specs.Outcome.{headed, AllHave, AreMet, Catches, JumpsFit, HasGrown, IsPassed, LeavesWith}
 use Rattle.lra_iter.specs.Steps.{node_steps, row_steps}

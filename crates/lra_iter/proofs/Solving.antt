@@ -8,7 +8,7 @@ use Rattle.lra_program.specs.Program.{Program}
 use Rattle.lra_operations.specs.Graph.{Node}
 use Rattle.lra_base.specs.declared.options.Options.{Options}
 use Rattle.lra_flow.specs.Operations.{dropping}
-use Rattle.lra_flow.specs.Changes.{first_values}
+use Rattle.lra_flow.specs.MovesOf.{first_values}
 use Rattle.lra_flow.specs.Pass.{Result, noted, Pass}
 use Rattle.lra_flow.specs.Analysis.{Derivation, Solves}
 use Rattle.lra_flow.proofs.Unflagged.{unflagged_is_written, flagged_strains}

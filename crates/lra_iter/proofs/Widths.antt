@@ -1,29 +1,27 @@
 -- The value that an iteration has at a point has a dimension for each variable that lives there.
 use Rattle.std.proofs.Common.{◌≡◌, ℕ, zero, suc, ◌+◌, ◌-◌, ◌++◌, List, [], ◌∷◌, length, Option, Some, None, Bool, true, false, inl, inr, refl, sym, ap, ◌∙◌, subst, arith}
-use Rattle.std.specs.Prelude.{ℤ, slice_get}
+use Rattle.std.specs.Prelude.{ℤ, not, slice_get}
 use Rattle.std.specs.List.{AllByRecursion, Contains}
 use Rattle.lra_linear.proofs.Membership.{contains_none, contains_cases}
-use Rattle.lra_domain.specs.Actions.{Action, dims_after}
+use Rattle.lra_domain.specs.Actions.{dims_after}
 use Rattle.lra_domain.specs.declared.Exactness.{Exactness}
-use Rattle.lra_domain.specs.declared.Exactness.TheVariants.{Exact}
 use Rattle.lra_domain.specs.Meaning.{Meaning}
 use Rattle.lra_domain.specs.Laws.{Laws}
 use Rattle.lra_base.specs.Operators.{Comparison, below, at_most, above, at_least, equal, differs}
-use Rattle.lra_program.specs.Program.{Expr, Cond, Program}
+use Rattle.lra_program.specs.Program.{Expr, Cond, Program, literal, compare, nonzero, opposite, both_of, either_of}
 use Rattle.lra_flow.specs.Linear as linear
 use Rattle.lra_lin.specs.Form.{Form}
 use Rattle.lra_lin.specs.declared.test.Test.{Test}
 use Rattle.lra_flow.specs.Linear.{comparison_test, difference_form}
-use Rattle.lra_flow.specs.Condition.{Pushed, atom, first_then, one_or, push, IsTestedBy, IsAtom, IsPushed}
+use Rattle.lra_flow.specs.Moves.{Moves, stay, make, first_then, join_of, AreMade, dims_moved}
 use Rattle.lra_program.specs.Step as step
 use Rattle.lra_program.specs.Step.{Op, append, give, give_any, keep, test}
 use Rattle.lra_operations.specs.Graph.{Exit, broken, continued, returned, Node, empty, point, act, check, seq, choose, iterate, catch, leave}
 use Rattle.lra_program.specs.Sites.{Site}
 use Rattle.lra_base.specs.declared.options.Options.{Options}
 use Rattle.lra_flow.specs.Operations.{dropping}
-use Rattle.lra_flow.specs.Changes.{set_to, push_all, drop_last, actions_of, first_values, AreDone, AreJoined}
-use Rattle.lra_flow.specs.Conditions.{testing, Leaves}
-use Rattle.lra_flow.specs.Pass.{Entry, value, failing, Result, noted, jumps, first_of_call, values_behind, behind, Through, Changes, GoesRound, Grows, Narrows, Pass}
+use Rattle.lra_flow.specs.MovesOf.{set_to, push_all, drop_last, moves_of, first_values, test_moves, comparison_moves, comparison_as, guard}
+use Rattle.lra_flow.specs.Pass.{AreJoined, Leaves, Entry, value, failing, Result, noted, jumps, first_of_call, values_behind, behind, Through, Changes, GoesRound, Grows, Narrows, Pass}
 use Rattle.lra_flow.specs.Analysis.{Derivation, Solves}
 use Rattle.lra_flow.proofs.Caps.{all_both}
 use Rattle.lra_change.specs.Changes.{dims_behind}
@@ -32,63 +30,67 @@ use Rattle.lra_iter.specs.Lives.{LiveAt, PointsHave, AreWide}
 
 -- operations ---------------------------------------------------------------------------------------------------------
 
--- how many dimensions there are after the changes
-abbrev all_after : List Action → ℕ → ℕ
-all_after [] n = n
-all_after (change ∷ changes) n = all_after changes (dims_after change n)
-
 set_after : (x : ℕ) (o : Option Form) (n : ℕ) → dims_after (set_to x o) n ≡ n
 set_after x None n = refl
 set_after x (Some f) n = refl
 
-push_after : (live base : ℕ) (es : List Expr) (n : ℕ) → all_after (push_all live base es) n ≡ n + length es
+push_after : (live base : ℕ) (es : List Expr) (n : ℕ) → dims_moved (push_all live base es) n ≡ n + length es
 push_after live base [] n = omega arith
 push_after live base (e ∷ es) n =
-    ap (all_after (push_all (suc live) base es)) (set_after live (linear.form_of (suc live) base e) (n + 1)) ∙ push_after (suc live) base es (n + 1) ∙ omega arith
+    ap (dims_moved (push_all (suc live) base es)) (set_after live (linear.form_of (suc live) base e) (n + 1)) ∙ push_after (suc live) base es (n + 1) ∙ omega arith
 
-drop_after : (k n : ℕ) → all_after (drop_last k) n ≡ n - k
+drop_after : (k n : ℕ) → dims_moved (drop_last k) n ≡ n - k
 drop_after zero n = omega arith
 drop_after (suc k) n = refl
 
-first_after : (zs : List ℤ) (live n : ℕ) → all_after (first_values live zs) n ≡ n + length zs
+test_after : (o : Option Test) (n : ℕ) → dims_moved (test_moves o) n ≡ n
+test_after None n = refl
+test_after (Some t) n = refl
+
+comparison_after : (op : Comparison) (o : Option Form) (n : ℕ) → dims_moved (comparison_moves op o) n ≡ n
+comparison_after op None n = refl
+comparison_after differs (Some d) n = test_after (comparison_test below d) n
+comparison_after below (Some d) n = test_after (comparison_test below d) n
+comparison_after at_most (Some d) n = test_after (comparison_test at_most d) n
+comparison_after above (Some d) n = test_after (comparison_test above d) n
+comparison_after at_least (Some d) n = test_after (comparison_test at_least d) n
+comparison_after equal (Some d) n = test_after (comparison_test equal d) n
+
+guard_after : (live base : ℕ) (wanted : Bool) (c : Cond) (n : ℕ) → dims_moved (guard live base wanted c) n ≡ n
+guard_after live base wanted (compare op a b) n = comparison_after (comparison_as wanted op) (difference_form live base a b) n
+guard_after live base wanted (nonzero e) n = comparison_after (comparison_as wanted differs) (difference_form live base e (literal 0)) n
+guard_after live base wanted (opposite c) n = guard_after live base (not wanted) c n
+guard_after live base true (both_of a b) n = ap (dims_moved (guard live base true b)) (guard_after live base true a n) ∙ guard_after live base true b n
+guard_after live base false (both_of a b) n = guard_after live base false a n
+guard_after live base true (either_of a b) n = guard_after live base true a n
+guard_after live base false (either_of a b) n = ap (dims_moved (guard live base false b)) (guard_after live base false a n) ∙ guard_after live base false b n
+
+first_after : (zs : List ℤ) (live n : ℕ) → dims_moved (first_values live zs) n ≡ n + length zs
 first_after [] live n = omega arith
 first_after (z ∷ zs) live n = first_after zs (suc live) (n + 1) ∙ omega arith
 
 module _ (V H : Type 0) (m : Meaning V H) where
-  done_dims : (changes : List Action) (v : V) (e : Exactness) (w : V) → AreDone (dropping m) changes v e w → m.dims w ≡ all_after changes (m.dims v)
-  done_dims [] v e w (same, exact) = ap (λ (x : V). m.dims x) same
-  done_dims (change ∷ changes) v e w (x, c, d, one, rest, worst) = done_dims changes x d w rest ∙ ap (all_after changes) one.1
-
-  test_dims : (live base : ℕ) (o : Option Test) (v w : V × Exactness) → IsTestedBy (V × Exactness) (testing (dropping m)) live base o v w → m.dims w.0 ≡ m.dims v.0
-  test_dims live base None v w is = ap (λ (x : V × Exactness). m.dims x.0) is
-  test_dims live base (Some t) v w (e, done, worst) = done.1
-
-  atom_dims : (live base : ℕ) (op : Comparison) (o : Option Form) (v w : V × Exactness) → IsAtom (V × Exactness) (testing (dropping m)) live base op o v w → m.dims w.0 ≡ m.dims v.0
-  atom_dims live base op None v w is = ap (λ (x : V × Exactness). m.dims x.0) is
-  atom_dims live base differs (Some d) v w (less, more, one, two, (e, joined, worst)) = joined.2 ∙ test_dims live base (comparison_test below d) v less one
-  atom_dims live base below (Some d) v w is = test_dims live base (comparison_test below d) v w is
-  atom_dims live base at_most (Some d) v w is = test_dims live base (comparison_test at_most d) v w is
-  atom_dims live base above (Some d) v w is = test_dims live base (comparison_test above d) v w is
-  atom_dims live base at_least (Some d) v w is = test_dims live base (comparison_test at_least d) v w is
-  atom_dims live base equal (Some d) v w is = test_dims live base (comparison_test equal d) v w is
-
-  pushed_dims : (live base : ℕ) (p : Pushed) (v w : V × Exactness) → IsPushed (V × Exactness) (testing (dropping m)) live base p v w → m.dims w.0 ≡ m.dims v.0
-  pushed_dims live base (atom op a b) v w is = atom_dims live base op (difference_form live base a b) v w is
-  pushed_dims live base (first_then a b) v w (x, one, two) = pushed_dims live base b x w two ∙ pushed_dims live base a v x one
-  pushed_dims live base (one_or a opposed b) v w (left, x, right, one, off, two, (e, joined, worst)) = joined.2 ∙ pushed_dims live base a v left one
+  made_dims : (p : Moves) (v : V) (e : Exactness) (w : V) → AreMade (dropping m) p v e w → m.dims w ≡ dims_moved p (m.dims v)
+  made_dims stay v e w (same, exact) = ap (λ (x : V). m.dims x) same
+  made_dims (make step) v e w made = made.1
+  made_dims (first_then p q) v e w (x, c, d, one, two, worst) = made_dims q x d w two ∙ ap (dims_moved q) (made_dims p v c x one)
+  made_dims (join_of p q) v e w (x, y, c, d, i, one, two, joined, worst) = joined.2 ∙ made_dims p v c x one
 
   leaves_dims : (base : ℕ) (c : Cond) (wanted : Bool) (v : V) (e : Exactness) (w : V) → Leaves (dropping m) base c wanted v e w → m.dims w ≡ m.dims v
-  leaves_dims base c wanted v e w is = pushed_dims (m.dims v) base (push wanted c) (v, Exact) (w, e) is
+  leaves_dims base c wanted v e w is = made_dims (guard (m.dims v) base wanted c) v e w is ∙ guard_after (m.dims v) base wanted c (m.dims v)
 
-  changes_dims : (op : Op) (v : V) (e : Exactness) (w : V) → Changes V H (dropping m) op v e w → m.dims w ≡ dims_behind op (m.dims v)
-  changes_dims append v e w is = done_dims (actions_of (m.dims v) append) v e w is ∙ omega arith
-  changes_dims (give base None x) v e w is = done_dims [] v e w is
-  changes_dims (give base (Some x) y) v e w is = done_dims (actions_of (m.dims v) (give base (Some x) y)) v e w is ∙ set_after x (linear.form_of (m.dims v) base y) (m.dims v)
-  changes_dims (give_any None) v e w is = done_dims [] v e w is
-  changes_dims (give_any (Some x)) v e w is = done_dims (actions_of (m.dims v) (give_any (Some x))) v e w is
-  changes_dims (step.push base es) v e w is = done_dims (push_all (m.dims v) base es) v e w is ∙ push_after (m.dims v) base es (m.dims v)
-  changes_dims (keep k) v e w is = done_dims (drop_last (m.dims v - k)) v e w is ∙ drop_after (m.dims v - k) (m.dims v)
-  changes_dims (test base c wanted) v e w is = leaves_dims base c wanted v e w is
+  op_after : (op : Op) (n : ℕ) → dims_moved (moves_of n op) n ≡ dims_behind op n
+  op_after append n = omega arith
+  op_after (give base None x) n = refl
+  op_after (give base (Some x) y) n = set_after x (linear.form_of n base y) n
+  op_after (give_any None) n = refl
+  op_after (give_any (Some x)) n = refl
+  op_after (step.push base es) n = push_after n base es n
+  op_after (keep k) n = drop_after (n - k) n
+  op_after (test base c wanted) n = guard_after n base wanted c n
+
+  changes_dims : (op : Op) (v : V) (e : Exactness) (w : V) → Changes (dropping m) op v e w → m.dims w ≡ dims_behind op (m.dims v)
+  changes_dims op v e w is = made_dims (moves_of (m.dims v) op) v e w is ∙ op_after op (m.dims v)
 
   joined_dims : (v : V) (us : List V) (e : Exactness) (w : V) → AreJoined (dropping m) v us e w → m.dims w ≡ m.dims v
   joined_dims v [] e w (same, exact) = ap (λ (x : V). m.dims x) same
@@ -196,7 +198,7 @@ pub values_wide : {V H : Type 0} (m : Meaning V H) → Laws m → (T : List Site
     → (q : ℕ) (v : V) (s : Site) → Contains r.entries (value q v) → slice_get T q ≡ Some s → m.dims v ≡ s.live
 values_wide {V} {H} m laws T options P g r lives (none, first, e, universal, begun, pass) q v s found there =
     let n = length P.globals in
-    let begins : m.dims first ≡ n = done_dims V H m (first_values 0 P.globals) none e first begun ∙ first_after P.globals 0 (m.dims none) ∙
+    let begins : m.dims first ≡ n = made_dims V H m (first_values 0 P.globals) none e first begun ∙ first_after P.globals 0 (m.dims none) ∙
     (let zero_dims = laws.universal_dims 0 options.parts none universal.0 in omega (arith, zero_dims)) in
     let wide = pass_wide V H m T laws options g (noted 0 e None) first r n pass begins lives in
     entry_has V H m T r.entries q v wide.entries found s there

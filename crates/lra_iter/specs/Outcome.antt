@@ -13,13 +13,11 @@ use Rattle.std.specs.List.{Contains}
 use Rattle.lra_program.specs.Program.{Cond}
 use Rattle.lra_operations.specs.Graph.{Exit, Node}
 use Rattle.lra_base.specs.declared.options.Options.{Options}
-use Rattle.lra_flow.specs.Conditions.{Leaves}
 use Rattle.lra_flow.specs.Given.{given_rows}
 use Rattle.lra_iter.specs.Fits.{live_after, JumpsWith}
 use Rattle.lra_flow.specs.Operations.{dropping}
-use Rattle.lra_flow.specs.Changes.{AreJoined}
-use Rattle.lra_flow.specs.Pass.{jumps_of, Entry, value, failing, Result, noted, in_turn, values_behind, behind, Pass}
-use Rattle.lra_flow.specs.Pass.{GoesRound, Grows, Narrows}
+use Rattle.lra_flow.specs.Pass.{Entry, value, failing, Result, noted, in_turn, jumps_of, values_behind, behind}
+use Rattle.lra_flow.specs.Pass.{AreJoined, Leaves, GoesRound, Grows, Narrows, Pass}
 
 abbrev pub entry_view : {V : Type 0} → entry.Entry V → Entry V
 entry_view (Value q v) = value q v

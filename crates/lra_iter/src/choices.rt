@@ -6,8 +6,7 @@ ghost use Rattle.lra_operations.specs.Graph.{choose};
 ghost use Rattle.lra_base.specs.declared.options.Options.{Options};
 ghost use Rattle.lra_program.specs.ProgramViews.{cond_view};
 ghost use Rattle.lra_operations.specs.GraphViews.{node_view};
-ghost use Rattle.lra_flow.specs.Condition.{push};
-ghost use Rattle.lra_change.specs.Sides.{Splits};
+ghost use Rattle.lra_change.specs.Sides.{SplitsBy};
 ghost use Rattle.lra_iter.specs.declared.memory.Memory.{Memory};
 ghost use Rattle.lra_iter.specs.declared.places.Place.TheVariants.{Choice as choice_place};
 ghost use Rattle.lra_iter.specs.Outcome.{seen, AreMet};
@@ -24,8 +23,8 @@ use std::alloc::{AllocError, Global};
 /// What a choice's condition leaves of the value: where it is true, and where it is false.
 fn sides_of<D: Domain>(alloc: Global, choice: &Choice<'_>, value: D) -> Result<Sides<D>, AllocError>
     requires { D.meaning.dims value ≤ 2 ^ 30 }
-    ensures { IfOk result (λ s. Splits D.meaning choice.now.base (push true (cond_view choice.now.condition.now))
-        (push false (cond_view choice.now.condition.now)) (record { value = value; exactness = Exactness.Exact }) s) }
+    ensures { IfOk result (λ s. SplitsBy D.meaning choice.now.base true (cond_view choice.now.condition.now)
+        (record { value = value; exactness = Exactness.Exact }) s) }
 {
     let from = Kept {
         value,

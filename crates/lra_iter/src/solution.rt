@@ -6,7 +6,7 @@ ghost use Rattle.lra_operations.specs.GraphViews.{node_view, site_view};
 ghost use Rattle.lra_program.specs.Assertions.{assertions_from};
 ghost use Rattle.lra_domain.specs.declared.Exactness.{Exactness};
 ghost use Rattle.lra_flow.specs.Analysis.{Solves};
-ghost use Rattle.lra_flow.specs.Changes.{first_values};
+ghost use Rattle.lra_flow.specs.MovesOf.{first_values};
 ghost use Rattle.lra_flow.specs.Pass.{noted};
 ghost use Rattle.lra_change.specs.Changes.{Does};
 ghost use Rattle.lra_iter.specs.Fits.{TreeFits};

@@ -1,6 +1,10 @@
 -- Goals of `enter`: what comes into a loop's body from the value at its head.
 use Rattle.std.proofs.lemmas.Result.{IfOk-weaker}
+use Rattle.std.proofs.Common.{true}
 use Rattle.lra_program.specs.ProgramViews.{cond_view}
+use Rattle.lra_flow.specs.MovesOf.{guard}
+use Rattle.lra_flow.specs.Operations.{dropping}
+use Rattle.lra_flow.proofs.Takes.{takes_made}
 use Rattle.lra_operations.specs.GraphViews.{node_view}
 use Rattle.lra_iter.specs.Outcome.{EntersWith, IsEntered}
 use Rattle.lra_iter.proofs.Again.{entered_with, kept_inside}
@@ -14,7 +18,8 @@ returns g c =
     let e = c.in_ok-exactness.exactness in
     let on = c.leave.new.value in
     let inside = c.note-inside.result in
-    let leaves = rw c.in_ok-on.ensures at c.in_ok-exactness.ensures.leaves in
+    let takes = rw c.in_ok-on.ensures at c.in_ok-exactness.ensures.leaves in
+    let leaves = takes_made (dropping m) (guard (m.dims c.args.value.now) l.base true (cond_view l.condition.now)) c.args.value.now on e takes in
     let wide = rw c.in_ok-on.ensures at c.in_ok-exactness.ensures.dims in
     IfOk-weaker c.enter_with.result (EntersWith m l.options.now body inside on)
     (IsEntered m l.options.now l.point l.base (cond_view l.condition.now) body c.args.flag c.args.value.now)

@@ -1,15 +1,22 @@
 -- Goals of `leave_loop`: the value at the head and what its round found, and behind it what that value leaves where
 -- the condition is false.
-use Rattle.std.proofs.Common.{ap, ◌∙◌}
+use Rattle.std.proofs.Common.{ap, ◌∙◌, false}
+use Rattle.lra_program.specs.ProgramViews.{cond_view}
+use Rattle.lra_flow.specs.MovesOf.{guard}
+use Rattle.lra_flow.specs.Operations.{dropping}
+use Rattle.lra_flow.proofs.Takes.{takes_made}
 use Rattle.lra_iter.specs.Outcome.{headed, seen}
 use Rattle.lra_iter.proofs.loops.leave_loop.Goals as goal
 
 pub returns-clause-left : goal.returns-clause-left
 returns-clause-left g c =
+    let m = g.D.Domain.meaning in
+    let l = c.args.the_loop.now in
     let out = c.leave.new.value in (
       out,
       c.in_ok-exactness.exactness,
-      c.in_ok-exactness.ensures.leaves,
+      takes_made (dropping m) (guard (m.dims c.args.top) l.base false (cond_view l.condition.now)) c.args.top out
+          c.in_ok-exactness.exactness c.in_ok-exactness.ensures.leaves,
       c.in_ok-found.ensures out c.note.result ∙
           ap (λ f. record (headed c.args.the_loop.now.point c.args.top (seen c.args.last)) { normal = out; flag = f }) c.note.ensures,
     )
