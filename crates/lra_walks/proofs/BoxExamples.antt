@@ -21,7 +21,7 @@ cut_break : Pass Content Content boxes (narrowed 1) (seq (act 6 (keep 1)) (leave
 cut_break = (
   goes_on [] (one (between 0 3)) None,
   jumps broken (one (between 0 3)) nowhere None,
-  (one (between 0 3), Exact, (one (between 0 3), Exact, Exact, (refl, record { table = refl; extremes = tt }), (refl, refl), refl), refl),
+  (one (between 0 3), Exact, (refl, record { table = refl; extremes = tt }), refl),
   (nowhere, refl, refl),
   refl,
 )
@@ -32,6 +32,6 @@ strained_example : Pass Content Content (straining box_meaning) (narrowed 1) (ac
 strained_example = (
   one (at_least 1),
   Flagged,
-  (one (at_least 1), Flagged, Exact, (λ h. cc, λ h. inr (inr (inl (λ k. omega (arith, ints, k))))), (refl, refl), refl),
+  (λ h. cc, λ h. inr (inr (inl (λ k. omega (arith, ints, k))))),
   refl,
 )

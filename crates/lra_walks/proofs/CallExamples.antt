@@ -123,7 +123,7 @@ returning q op r x s given = (
     (
       goes_on [] (one s) None,
       jumps returned (one s) nowhere None,
-      (one s, Exact, (one s, Exact, Exact, (refl, record { table = refl; extremes = tt }), (refl, refl), refl), refl),
+      (one s, Exact, (refl, record { table = refl; extremes = tt }), refl),
       (nowhere, refl, refl),
       refl,
     ),
@@ -136,7 +136,7 @@ gives_one : Pass Content Content boxes (narrowed 1) (act 2 (give 1 (Some 0) (lit
 gives_one = (
   two (between 1 1) (between 0 0),
   Exact,
-  (two (between 1 1) (between 0 0), Exact, Exact, (refl, gets_r open_interval (between 0 0) (constant 1) open_sound zero_sound refl), (refl, refl), refl),
+  (refl, gets_r open_interval (between 0 0) (constant 1) open_sound zero_sound refl),
   refl,
 )
 
@@ -144,7 +144,7 @@ gives_x : Pass Content Content boxes (narrowed 1) (act 4 (give 1 (Some 0) (read 
 gives_x = (
   two (between 2 2) (between 2 2),
   Exact,
-  (two (between 2 2) (between 2 2), Exact, Exact, (refl, gets_r open_interval (between 2 2) (form (pos 0) (pos 0 ∷ pos 1 ∷ [])) open_sound two_sound refl), (refl, refl), refl),
+  (refl, gets_r open_interval (between 2 2) (form (pos 0) (pos 0 ∷ pos 1 ∷ [])) open_sound two_sound refl),
   refl,
 )
 
@@ -164,9 +164,9 @@ may_return_pass = (
     Exact,
     returned_with 2 at_first (between 1 1),
     goes_on [] at_first None,
-    refl,
+    (refl, refl),
     returning 2 (give 1 (Some 0) (literal 1)) open_interval (between 0 0) (between 1 1) gives_one,
-    refl,
+    (refl, refl),
     refl,
     (refl, refl),
     refl,
@@ -179,7 +179,7 @@ sets_two_pass = (
   goes_on (value 3 at_first ∷ []) at_first None,
   goes_on [] at_last None,
   refl,
-  (at_last, Exact, (at_last, Exact, Exact, (refl, gets_x open_interval (between 0 0) (constant 2) open_sound zero_sound refl), (refl, refl), refl), refl),
+  (at_last, Exact, (refl, gets_x open_interval (between 0 0) (constant 2) open_sound zero_sound refl), refl),
   refl,
 )
 
@@ -229,8 +229,8 @@ f_ends = (
     (
       goes_on [] nowhere None,
       goes_on [] nowhere_alone None,
-      (nowhere, Exact, (nowhere, Exact, Exact, (refl, record { table = refl; extremes = tt }), (refl, refl), refl), refl),
-      (nowhere_alone, Exact, (nowhere_alone, Exact, Exact, (refl, record { table = refl; extremes = tt }), (refl, refl), refl), refl),
+      (nowhere, Exact, (refl, record { table = refl; extremes = tt }), refl),
+      (nowhere_alone, Exact, (refl, record { table = refl; extremes = tt }), refl),
       refl,
     ),
     refl,
@@ -249,14 +249,7 @@ call_pass = (
   (
     at_first,
     Exact,
-    (
-      two open_interval open_interval,
-      Exact,
-      Exact,
-      (refl, record { table = refl; extremes = tt }),
-      (at_first, Exact, Exact, (refl, gets_x open_interval open_interval (constant 0) open_sound open_sound refl), (refl, refl), refl),
-      refl,
-    ),
+    (at_first, Exact, Exact, (two open_interval open_interval, Exact, Exact, (refl, record { table = refl; extremes = tt }), (refl, gets_x open_interval open_interval (constant 0) open_sound open_sound refl), refl), (refl, refl), refl),
     refl,
   ),
   (
@@ -304,7 +297,7 @@ calling_written = (
         (
           goes_on [] (one open_interval) None,
           goes_on call_entries (one (between 1 2)) None,
-          (one open_interval, Exact, (one open_interval, Exact, Exact, (refl, record { table = refl; extremes = tt }), (refl, refl), refl), refl),
+          (one open_interval, Exact, (refl, record { table = refl; extremes = tt }), refl),
           call_pass,
           refl,
         ),
