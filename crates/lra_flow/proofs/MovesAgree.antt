@@ -1,5 +1,6 @@
 -- Moves say what four definitions said apart: lists of actions for the least changes, conditions with `!` pushed to
--- their comparisons, and tests and joins of pairs of a value and the exactness of what led to it. Both say the same.
+-- their comparisons, tests and joins of pairs of a value and the exactness of what led to it, and the rows that a loop's
+-- condition gives. Both say the same, so a pass by the ones is a pass by the others.
 use Rattle.std.proofs.Common.{◌≡◌, ℕ, zero, suc, ◌-◌, ℤ, List, [], ◌∷◌, ◌++◌, Option, None, Some, Bool, true, false, refl, sym, ap, subst, ◌∙◌}
 use Rattle.std.specs.Prelude.{◌↔◌, not}
 use Rattle.lra_base.specs.Operators.{Comparison, below, at_most, above, at_least, equal, differs}

@@ -3,7 +3,7 @@ use Rattle.std.proofs.Common.{◌≡◌, ℤ, pos, negsuc, [], ◌∷◌, true, 
 use Rattle.lra_program.specs.Program.{local, Expr, read, input, compare, nonzero, opposite, both_of, either_of}
 use Rattle.lra_base.specs.Operators.{below, equal, differs}
 use Rattle.lra_linear.specs.declared.ConKind.TheVariants.{Ge, Eq}
-use Rattle.lra_domain.specs.Actions.{Action, test, embed}
+use Rattle.lra_domain.specs.Actions.{Action, test, embed, forget}
 use Rattle.lra_flow.specs.Moves.{stay, make, first_then, join_of, MayLead, cases, dims_moved}
 use Rattle.lra_flow.specs.MovesOf.{guard}
 
@@ -44,7 +44,7 @@ in_turn : guard 2 0 true (both_of (compare equal x y) (compare below x input)) �
 in_turn = refl
 
 -- written out, a join has one case for each side, and what comes behind it is in both
-joined_then : cases (first_then (join_of (make (embed 1)) stay) (make less)) ≡ (embed 1 ∷ less ∷ []) ∷ (less ∷ []) ∷ []
+joined_then : cases (first_then (join_of (make (forget 0)) stay) (make less)) ≡ (forget 0 ∷ less ∷ []) ∷ (less ∷ []) ∷ []
 joined_then = refl
 
 opposed_cases : cases (guard 2 0 false (both_of (compare below x y) (nonzero x)))
@@ -55,5 +55,5 @@ opposed_cases = refl
 right_leads : MayLead (join_of (make less) (make (is_0 (pos 0) (pos 1) (negsuc 0)))) (pos 1 ∷ pos 1 ∷ []) (pos 1 ∷ pos 1 ∷ [])
 right_leads = inr (refl, refl)
 
-two_more : dims_moved (first_then (make (embed 1)) (join_of (make (embed 1)) stay)) 2 ≡ 4
+two_more : dims_moved (first_then (make (embed 1)) (join_of (make (embed 1)) (make (embed 1)))) 2 ≡ 4
 two_more = refl

@@ -35,7 +35,8 @@ MayLead (make step) s t = Leads step s t
 MayLead (first_then a b) s t = (u : List ℤ) × MayLead a s u × MayLead b u t
 MayLead (join_of a b) s t = MayLead a s t ⊎ MayLead b s t
 
--- how many dimensions there are behind them
+-- how many dimensions there are behind them; behind a join those of its first side, which are those of the second, too,
+-- wherever it can be made
 abbrev pub dims_moved : Moves → ℕ → ℕ
 dims_moved stay n = n
 dims_moved (make step) n = dims_after step n

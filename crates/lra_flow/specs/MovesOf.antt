@@ -1,7 +1,7 @@
--- The moves of a program's least changes and of its conditions, over so many live variables (Cousot and Halbwachs
--- 1978): an assignment of a linear form assigns, any other one forgets; `!` is pushed to the comparisons; a comparison
--- tests, where its difference is linear; `&&` is the one behind the other; `||` joins what the left side leaves with
--- what the right side leaves where the left one is false.
+-- The moves of a program's least changes and of its conditions, over so many live variables. An assignment of a linear
+-- form assigns, any other one forgets. Conditions (Cousot and Halbwachs 1978): `!` is pushed to the comparisons; a
+-- comparison tests, where its difference is linear; `&&` is the one behind the other; `||` joins what the left side
+-- leaves with what the right side leaves where the left one is false.
 use Rattle.std.specs.Prelude.{ℕ, zero, suc, ◌-◌, ℤ, List, [], ◌∷◌, Bool, true, false, not, Option, None, Some}
 use Rattle.lra_base.specs.Operators.{Comparison, below, at_most, above, at_least, equal, differs}
 use Rattle.lra_program.specs.Program.{Expr, literal, Cond, compare, nonzero, opposite, both_of, either_of}
@@ -33,6 +33,7 @@ comparison_as false op = opposite_comparison op
 abbrev pub tested : Test → Action
 tested t = action.test t.kind t.expr
 
+-- a test that doesn't fit 64 bits does nothing
 abbrev pub test_moves : Option Test → Moves
 test_moves None = stay
 test_moves (Some t) = make (tested t)
