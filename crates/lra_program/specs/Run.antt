@@ -12,12 +12,16 @@ abbrev pub Steps : Program → ℕ → Config → Config → Type 0
 Steps P zero c d = c ≡ d
 Steps P (suc n) c d = (e : Config) × (next P c ≡ Some e) × Steps P n e d
 
--- the globals at their first values, and main's body
+-- where a run begins: the globals at their first values, and its draws
+abbrev pub begun : List ℤ → List ℤ → State
+begun globals draws = record { store = globals; draws = draws }
+
+-- main's body, from there
 abbrev pub start : Program → List ℤ → Config
 start P draws = record {
   items = all P.main.body ∷ end_of P.main.end (length P.globals) ∷ [];
   here = record { path = []; base = length P.globals };
-  state = record { store = P.globals; draws = draws };
+  state = begun P.globals draws;
 }
 
 -- the label of the point on top, where there is one

@@ -5,12 +5,16 @@ use Rattle.std.specs.Prelude.{slice_get, slice_set}
 use Rattle.lra_program.specs.Program.{Expr, Cond, Call, Rvalue, value, result, Declarator, Stmt, absent, nothing, block}
 use Rattle.lra_program.specs.Program.{assign, call, if, loop, for, break, continue, return, assert, assume, BlockItems}
 use Rattle.lra_program.specs.Program.{no_more, declaration, statement, Function, Program}
-use Rattle.lra_program.specs.Value.{◌>>=◌, index_of, Drawn, draw, value_of, values_of, truth_of}
+use Rattle.lra_program.specs.Value.{◌>>=◌, index_of, Scene, Drawn, draw, value_of, values_of, truth_of}
 
 -- the variables, oldest first, and the draws that are left
 pub record State : Type 0 where
   pub store : List ℤ
   pub draws : List ℤ
+
+-- what a call reads in the state, whose own variables begin there
+abbrev pub scene_at : ℕ → State → Scene
+scene_at base s = record { base = base; store = s.store }
 
 -- the least changes of a state, of which all steps are made; a number is a place in the store, or a length
 pub data Op : Type 0 where
@@ -30,13 +34,13 @@ abbrev pub put : Option ℕ → ℤ → List ℤ → List ℤ
 put None z store = store
 put (Some x) z store = slice_set store x z
 
-abbrev pub receive : Option ℕ → List ℤ → Drawn ℤ → Option State
-receive x store None = None
-receive x store (Some r) = Some (record { store = put x r.0 store; draws = r.1 })
+abbrev pub receive : Option ℕ → State → Drawn ℤ → Option State
+receive x s None = None
+receive x s (Some r) = Some (record s { store = put x r.0 s.store; draws = r.1 })
 
-abbrev pub pushed : List ℤ → Drawn (List ℤ) → Option State
-pushed store None = None
-pushed store (Some r) = Some (record { store = store ++ r.0; draws = r.1 })
+abbrev pub pushed : State → Drawn (List ℤ) → Option State
+pushed s None = None
+pushed s (Some r) = Some (record s { store = s.store ++ r.0; draws = r.1 })
 
 abbrev pub kept_if : Bool → Bool → State → Option State
 kept_if true true s = Some s
@@ -44,21 +48,21 @@ kept_if false false s = Some s
 kept_if true false s = None
 kept_if false true s = None
 
-abbrev pub tested : Bool → List ℤ → Drawn Bool → Option State
-tested wanted store None = None
-tested wanted store (Some r) = kept_if wanted r.0 (record { store = store; draws = r.1 })
+abbrev pub tested : Bool → State → Drawn Bool → Option State
+tested wanted s None = None
+tested wanted s (Some r) = kept_if wanted r.0 (record s { draws = r.1 })
 
 abbrev pub run_any : Option ℕ → State → Option State
 run_any None s = Some s
-run_any (Some x) s = receive (Some x) s.store (draw s.draws)
+run_any (Some x) s = receive (Some x) s (draw s.draws)
 
 abbrev pub run_op : Op → State → Option State
-run_op append s = draw s.draws >>= λ r. Some (record { store = s.store ++ r.0 ∷ []; draws = r.1 })
-run_op (give base x e) s = receive x s.store (value_of e base s.store s.draws)
+run_op append s = draw s.draws >>= λ r. Some (record s { store = s.store ++ r.0 ∷ []; draws = r.1 })
+run_op (give base x e) s = receive x s (value_of e (scene_at base s) s.draws)
 run_op (give_any x) s = run_any x s
-run_op (push base es) s = pushed s.store (values_of es base s.store s.draws)
-run_op (keep n) s = Some (record { store = take n s.store; draws = s.draws })
-run_op (test base c wanted) s = tested wanted s.store (truth_of c base s.store s.draws)
+run_op (push base es) s = pushed s (values_of es (scene_at base s) s.draws)
+run_op (keep n) s = Some (record s { store = take n s.store })
+run_op (test base c wanted) s = tested wanted s (truth_of c (scene_at base s) s.draws)
 
 -- the calls that lead here, the innermost first, and where the call's own variables begin
 pub record Here : Type 0 where
@@ -137,13 +141,9 @@ abbrev pub branch : Bool → List Item → List Item → List Item
 branch true on off = on
 branch false on off = off
 
-abbrev pub go_by : List Item → List Item → Here → List ℤ → Drawn Bool → Option Config
-go_by on off h store None = None
-go_by on off h store (Some r) = Some (record {
-  items = branch r.0 on off;
-  here = h;
-  state = record { store = store; draws = r.1 };
-})
+abbrev pub go_by : List Item → List Item → Here → State → Drawn Bool → Option Config
+go_by on off h s None = None
+go_by on off h s (Some r) = Some (record { items = branch r.0 on off; here = h; state = record s { draws = r.1 } })
 
 -- arguments are evaluated and appended; then the callee's body, its end and its mark
 abbrev pub enter : Option Function → Call → Option ℕ → List Item → Here → State → Option Config
@@ -184,9 +184,9 @@ do_stmt P (nothing at) k h s = go k h (Some s)
 do_stmt P (block body end) k h s = go (all body ∷ end_of end (length s.store) ∷ k) h (Some s)
 do_stmt P (assign at x e) k h s = do_rvalue P (Some (index_of h.base x)) e k h s
 do_stmt P (call at c) k h s = do_rvalue P None (result c) k h s
-do_stmt P (if at c a b) k h s = go_by (run a ∷ k) (run b ∷ k) h s.store (truth_of c h.base s.store s.draws)
-do_stmt P (loop at c a step) k h s = go_by (run a ∷ turn step (loop at c a step) (length s.store) ∷ k) k h s.store
-    (truth_of c h.base s.store s.draws)
+do_stmt P (if at c a b) k h s = go_by (run a ∷ k) (run b ∷ k) h s (truth_of c (scene_at h.base s) s.draws)
+do_stmt P (loop at c a step) k h s = go_by (run a ∷ turn step (loop at c a step) (length s.store) ∷ k) k h s
+    (truth_of c (scene_at h.base s) s.draws)
 do_stmt P (for at init c a step) k h s = go (all init ∷ run (loop at c a step) ∷ cut (length s.store) ∷ k) h (Some s)
 do_stmt P (break at) k h s = do_break (to_turn k) h s
 do_stmt P (continue at) k h s = do_continue (to_turn k) h s

@@ -51,6 +51,11 @@ abbrev pub index_of : ℕ → Slot → ℕ
 index_of base (global k) = k
 index_of base (local k) = base + k
 
+-- what an expression is read in: where the call's own variables begin, and the store
+pub record Scene : Type 0 where
+  pub base : ℕ
+  pub store : List ℤ
+
 -- a result and the draws behind it
 abbrev pub Drawn : Type 0 → Type 0
 Drawn A = Option (A × List ℤ)
@@ -61,27 +66,24 @@ draw [] = None
 draw (d ∷ ds) = Some (d, ds)
 
 -- operands from left to right
-abbrev pub value_of : Expr → ℕ → List ℤ → List ℤ → Drawn ℤ
-value_of (literal n) base store draws = Some (pos n, draws)
-value_of (read v) base store draws = slice_get store (index_of base v) >>= λ z. Some (z, draws)
-value_of input base store draws = draw draws
-value_of (negate e) base store draws = value_of e base store draws >>= λ r. word (pos 0 -ℤ r.0) >>= λ z. Some (z, r.1)
-value_of (binary op a b) base store draws =
-    value_of a base store draws >>= λ r. value_of b base store r.1 >>= λ s. apply op r.0 s.0 >>= λ z. Some (z, s.1)
+abbrev pub value_of : Expr → Scene → List ℤ → Drawn ℤ
+value_of (literal n) s draws = Some (pos n, draws)
+value_of (read v) s draws = slice_get s.store (index_of s.base v) >>= λ z. Some (z, draws)
+value_of input s draws = draw draws
+value_of (negate e) s draws = value_of e s draws >>= λ r. word (pos 0 -ℤ r.0) >>= λ z. Some (z, r.1)
+value_of (binary op a b) s draws =
+    value_of a s draws >>= λ r. value_of b s r.1 >>= λ q. apply op r.0 q.0 >>= λ z. Some (z, q.1)
 
 -- arguments from left to right
-abbrev pub values_of : List Expr → ℕ → List ℤ → List ℤ → Drawn (List ℤ)
-values_of [] base store draws = Some ([], draws)
-values_of (e ∷ es) base store draws =
-    value_of e base store draws >>= λ r. values_of es base store r.1 >>= λ s. Some (r.0 ∷ s.0, s.1)
+abbrev pub values_of : List Expr → Scene → List ℤ → Drawn (List ℤ)
+values_of [] s draws = Some ([], draws)
+values_of (e ∷ es) s draws = value_of e s draws >>= λ r. values_of es s r.1 >>= λ q. Some (r.0 ∷ q.0, q.1)
 
 -- `&&` and `||` stop early
-abbrev pub truth_of : Cond → ℕ → List ℤ → List ℤ → Drawn Bool
-truth_of (compare op a b) base store draws =
-    value_of a base store draws >>= λ r. value_of b base store r.1 >>= λ s. Some (compares op r.0 s.0, s.1)
-truth_of (nonzero e) base store draws = value_of e base store draws >>= λ r. Some (not (is_zero r.0), r.1)
-truth_of (opposite c) base store draws = truth_of c base store draws >>= λ r. Some (not r.0, r.1)
-truth_of (both_of c d) base store draws = truth_of c base store draws >>= λ r. if r.0 then truth_of d base store r.1
-    else Some (false, r.1)
-truth_of (either_of c d) base store draws = truth_of c base store draws >>= λ r. if r.0 then Some (true, r.1)
-    else truth_of d base store r.1
+abbrev pub truth_of : Cond → Scene → List ℤ → Drawn Bool
+truth_of (compare op a b) s draws =
+    value_of a s draws >>= λ r. value_of b s r.1 >>= λ q. Some (compares op r.0 q.0, q.1)
+truth_of (nonzero e) s draws = value_of e s draws >>= λ r. Some (not (is_zero r.0), r.1)
+truth_of (opposite c) s draws = truth_of c s draws >>= λ r. Some (not r.0, r.1)
+truth_of (both_of c d) s draws = truth_of c s draws >>= λ r. if r.0 then truth_of d s r.1 else Some (false, r.1)
+truth_of (either_of c d) s draws = truth_of c s draws >>= λ r. if r.0 then Some (true, r.1) else truth_of d s r.1
