@@ -4,14 +4,10 @@ use Rattle.std.specs.List.{AllByRecursion}
 use Rattle.lra_program.specs.Program.{Program}
 use Rattle.lra_program.specs.Value.{is_word}
 use Rattle.lra_program.specs.Step.{State}
-use Rattle.lra_program.specs.Run.{Point, At, Fails}
+use Rattle.lra_program.specs.Run.{begun, Point, At, Fails}
 use Rattle.lra_operations.specs.Graph.{Node, seq, point, Comes, FailsAt}
 use Rattle.lra_program.specs.Sites.{Site, sites_of}
 use Rattle.lra_operations.specs.Inlined.{Has, InlAll, move, main_spot}
-
--- the globals at their first values
-abbrev pub begins : Program → List ℤ → State
-begins P draws = record { store = P.globals; draws = draws }
 
 -- main's items, and the point of its end; the points are those of the program
 pub record IsGraph (P : Program) (g : Node) : Type 0 where
@@ -27,12 +23,12 @@ pub record IsGraph (P : Program) (g : Node) : Type 0 where
 abbrev pub Reached : Program → Node → ℕ → List ℤ → Type 0
 Reached P g number store =
     (draws : List ℤ) × AllByRecursion (λ z. IsTrue (is_word z)) draws × (t : State) ×
-    Comes g (begins P draws) number t × (t.store ≡ store)
+    Comes g (begun P.globals draws) number t × (t.store ≡ store)
 
 -- it fails the assertion of this number
 abbrev pub Failed : Program → Node → ℕ → Type 0
 Failed P g number = (draws : List ℤ) × AllByRecursion (λ z. IsTrue (is_word z)) draws ×
-    FailsAt g (begins P draws) number
+    FailsAt g (begun P.globals draws) number
 
 -- the point with this number
 abbrev pub point_of : Site → Point

@@ -3,12 +3,12 @@
 use Rattle.std.specs.Prelude.{◌≡◌, ◌↔◌, ℕ, ℤ, List, [], ◌∷◌, length, Option, Some, None, slice_get}
 use Rattle.lra_program.specs.Program.{Program}
 use Rattle.lra_program.specs.Step.{State}
-use Rattle.lra_program.specs.Run.{Point}
+use Rattle.lra_program.specs.Run.{begun, Point}
 use Rattle.lra_program.specs.Sites.{Site, sites_of}
 use Rattle.lra_program.specs.Trails.{Met, passes, Trail, Alone, Arrives, Denies}
 use Rattle.lra_operations.specs.Graph.{Node}
 use Rattle.lra_operations.specs.Trails.{to_point, to_failure, Stop, stopped, Goes}
-use Rattle.lra_operations.specs.Agree.{begins, IsGraph, point_of, AreDistinct}
+use Rattle.lra_operations.specs.Agree.{IsGraph, point_of, AreDistinct}
 
 -- the point that has the number in the list; where it has none, a point of no meaning
 abbrev pub point_or_none : Option Site → Point
@@ -25,7 +25,7 @@ KeepsWidth may = (s t : State) → may s t → length t.store ≡ length s.store
 module _ (may : State → State → Type 0) (P : Program) (g : Node) where
   -- the tree of the program, begun with these draws, goes so far on this trail
   abbrev pub TreeGoes : List ℤ → Stop → Trail Point → Type 0
-  TreeGoes draws z a = Goes (point_at (sites_of P)) may g (record { state = begins P draws; met = [] }) (stopped z) a
+  TreeGoes draws z a = Goes (point_at (sites_of P)) may g (record { state = begun P.globals draws; met = [] }) (stopped z) a
 
   pub record TrailsAgree : Type 0 where
     -- a run comes to the point on the trail exactly where the tree does
