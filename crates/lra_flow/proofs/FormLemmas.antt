@@ -13,9 +13,9 @@ use Rattle.lra_lin.proofs.FormLemmas.{product_negated}
 use Rattle.lra_linear.proofs.Ring.{ring, v, ⊖, ◌⊕◌, ◌⊗◌}
 use Rattle.lra_base.specs.Operators.{Operator, plus, minus, times, over, modulo, Comparison, below, at_most, above, at_least, equal, differs}
 use Rattle.lra_program.specs.Program.{Expr, literal, read, input, negate, binary, compare}
-use Rattle.lra_program.specs.Value.{◌>>=◌, word, is_word, is_zero, index_of, apply, compares, value_of, truth_of}
-use Rattle.lra_flow.specs.Linear.{fitting, entrywise, combined, scaled, is_constant, operator_form, constant_form, variable_form, form_of, FormsAreRight, TestHolds, negated_form, less_one}
-use Rattle.lra_flow.specs.Linear.{at_least_zero, comparison_test, difference_form, TestsAreRight, DiffersIsRight}
+use Rattle.lra_program.specs.Value.{◌>>=◌, word, is_word, is_zero, index_of, Scene, apply, compares, value_of, truth_of}
+use Rattle.lra_flow.specs.Linear.{fitting, entrywise, combined, scaled, is_constant, operator_form, constant_form, variable_form, form_of, form_in, FormsAreRight, TestHolds, negated_form, less_one}
+use Rattle.lra_flow.specs.Linear.{at_least_zero, comparison_test, difference_in, TestsAreRight, DiffersIsRight}
 
 -- what led to something
 pub bind_some : {A B : Type 0} (o : Option A) (f : A → Option B) (y : B) → (o >>= f) ≡ Some y → (x : A) × (o ≡ Some x) × (f x ≡ Some y)
@@ -228,33 +228,33 @@ operator_value over f g h store x y z a b e is also to = cc
 operator_value modulo f g h store x y z a b e is also to = cc
 
 pub forms_are_right : FormsAreRight
-forms_are_right base (literal n) f store draws left z is ran =
+forms_are_right s (literal n) f draws left z is ran =
     let same : pos n ≡ z = some_first (pos n) z draws left ran in
-    value_same _ f store (fitting_same (constant_form (length store) (pos n)) f is) ∙ ap (λ (y : ℤ). pos n +ℤ y) (product_zeros (length store) store) ∙
+    value_same _ f s.store (fitting_same (constant_form (length s.store) (pos n)) f is) ∙ ap (λ (y : ℤ). pos n +ℤ y) (product_zeros (length s.store) s.store) ∙
     ring (v (pos n) ⊕ v (pos 0)) (v (pos n)) (omega arith) ∙ same
-forms_are_right base (read x) f store draws left z is ran =
-    let same : variable_form (length store) (index_of base x) ≡ f = cc in
-    let (y, got, to) = bind_some (slice_get store (index_of base x)) (λ r. Some (r, draws)) (z, left) ran in
+forms_are_right s (read x) f draws left z is ran =
+    let same : variable_form (length s.store) (index_of s.base x) ≡ f = cc in
+    let (y, got, to) = bind_some (slice_get s.store (index_of s.base x)) (λ r. Some (r, draws)) (z, left) ran in
     let is_z : y ≡ z = some_first y z draws left to in
-    value_same _ f store same ∙ ap (λ (r : ℤ). pos 0 +ℤ r) (product_unit (length store) (index_of base x) store y refl got) ∙ ring (v (pos 0) ⊕ v y) (v y) (omega arith) ∙ is_z
-forms_are_right base input f store draws left z is ran = cc
-forms_are_right base (negate e) f store draws left z is ran =
-    let (g, of, to) = bind_some (form_of (length store) base e) (λ h. scaled (negsuc 0) h) f is in
-    let (r, got, on) = bind_some (value_of e base store draws) (λ r. word (pos 0 -ℤ r.0) >>= λ z. Some (z, r.1)) (z, left) ran in
+    value_same _ f s.store same ∙ ap (λ (r : ℤ). pos 0 +ℤ r) (product_unit (length s.store) (index_of s.base x) s.store y refl got) ∙ ring (v (pos 0) ⊕ v y) (v y) (omega arith) ∙ is_z
+forms_are_right s input f draws left z is ran = cc
+forms_are_right s (negate e) f draws left z is ran =
+    let (g, of, to) = bind_some (form_in s e) (λ h. scaled (negsuc 0) h) f is in
+    let (r, got, on) = bind_some (value_of e s draws) (λ r. word (pos 0 -ℤ r.0) >>= λ z. Some (z, r.1)) (z, left) ran in
     let (y, fits, last) = bind_some (word (pos 0 -ℤ r.0)) (λ z. Some (z, r.1)) (z, left) on in
     let same : y ≡ z = some_first y z r.1 left last in
-    scaled_value (negsuc 0) g f store to ∙ ap (λ (x : ℤ). negsuc 0 *ℤ x) (forms_are_right base e g store draws r.1 r.0 of got) ∙
+    scaled_value (negsuc 0) g f s.store to ∙ ap (λ (x : ℤ). negsuc 0 *ℤ x) (forms_are_right s e g draws r.1 r.0 of got) ∙
     (let opposite : negsuc 0 *ℤ r.0 ≡ pos 0 -ℤ r.0 = ring (v (negsuc 0) ⊗ v r.0) (v (pos 0) ⊕ v (negsuc 0) ⊗ v r.0) (omega arith) ∙ sym (minus_is (pos 0) r.0) in opposite) ∙
     word_same (pos 0 -ℤ r.0) y fits ∙ same
-forms_are_right base (binary op a b) f store draws left z is ran =
-    let (g, of, to) = bind_some (form_of (length store) base a) (λ x. form_of (length store) base b >>= λ y. operator_form op x y) f is in
-    let (h, of_too, result) = bind_some (form_of (length store) base b) (λ y. operator_form op g y) f to in
-    let (r, got, on) = bind_some (value_of a base store draws) (λ r. value_of b base store r.1 >>= λ s. apply op r.0 s.0 >>= λ z. Some (z, s.1)) (z, left) ran in
-    let (s, got_too, last) = bind_some (value_of b base store r.1) (λ s. apply op r.0 s.0 >>= λ z. Some (z, s.1)) (z, left) on in
-    let (y, fits, end) = bind_some (apply op r.0 s.0) (λ z. Some (z, s.1)) (z, left) last in
-    let same : y ≡ z = some_first y z s.1 left end in
-    operator_value op g h f store r.0 s.0 y (form_wide (length store) base a g of) (form_wide (length store) base b h of_too) result
-    (forms_are_right base a g store draws r.1 r.0 of got) (forms_are_right base b h store r.1 s.1 s.0 of_too got_too) fits ∙ same
+forms_are_right s (binary op a b) f draws left z is ran =
+    let (g, of, to) = bind_some (form_in s a) (λ x. form_in s b >>= λ y. operator_form op x y) f is in
+    let (h, of_too, result) = bind_some (form_in s b) (λ y. operator_form op g y) f to in
+    let (r, got, on) = bind_some (value_of a s draws) (λ r. value_of b s r.1 >>= λ q. apply op r.0 q.0 >>= λ z. Some (z, q.1)) (z, left) ran in
+    let (q, got_too, last) = bind_some (value_of b s r.1) (λ q. apply op r.0 q.0 >>= λ z. Some (z, q.1)) (z, left) on in
+    let (y, fits, end) = bind_some (apply op r.0 q.0) (λ z. Some (z, q.1)) (z, left) last in
+    let same : y ≡ z = some_first y z q.1 left end in
+    operator_value op g h f s.store r.0 q.0 y (form_wide (length s.store) s.base a g of) (form_wide (length s.store) s.base b h of_too) result
+    (forms_are_right s a g draws r.1 r.0 of got) (forms_are_right s b h r.1 q.1 q.0 of_too got_too) fits ∙ same
 
 -- tests ----------------------------------------------------------------------------------------------------------------
 
@@ -337,40 +337,41 @@ differs_by_tests d less more store x y e is also =
     )
 
 -- what a comparison with a value evaluates
-pub record Compared (base : ℕ) (op : Comparison) (a b : Expr) (store draws left : List ℤ) (so : Bool) : Type 0 where
+pub record Compared (s : Scene) (op : Comparison) (a b : Expr) (draws left : List ℤ) (so : Bool) : Type 0 where
   pub x : ℤ
   pub y : ℤ
   pub middle : List ℤ
   pub last : List ℤ
-  pub has_x : value_of a base store draws ≡ Some (x, middle)
-  pub has_y : value_of b base store middle ≡ Some (y, last)
+  pub has_x : value_of a s draws ≡ Some (x, middle)
+  pub has_y : value_of b s middle ≡ Some (y, last)
   pub is : compares op x y ≡ so
 
-pub compared : (base : ℕ) (op : Comparison) (a b : Expr) (store draws left : List ℤ) (so : Bool) → truth_of (compare op a b) base store draws ≡ Some (so, left) →
-    Compared base op a b store draws left so
-compared base op a b store draws left so e =
-    let (r, got, on) = bind_some (value_of a base store draws) (λ r. value_of b base store r.1 >>= λ s. Some (compares op r.0 s.0, s.1)) (so, left) e in
-    let (s, got_too, end) = bind_some (value_of b base store r.1) (λ s. Some (compares op r.0 s.0, s.1)) (so, left) on in
-    record { x = r.0; y = s.0; middle = r.1; last = s.1; has_x = got; has_y = got_too; is = some_first (compares op r.0 s.0) so s.1 left end }
+pub compared : (s : Scene) (op : Comparison) (a b : Expr) (draws left : List ℤ) (so : Bool) → truth_of (compare op a b) s draws ≡ Some (so, left) →
+    Compared s op a b draws left so
+compared s op a b draws left so e =
+    let (r, got, on) = bind_some (value_of a s draws) (λ r. value_of b s r.1 >>= λ q. Some (compares op r.0 q.0, q.1)) (so, left) e in
+    let (q, got_too, end) = bind_some (value_of b s r.1) (λ q. Some (compares op r.0 q.0, q.1)) (so, left) on in
+    record { x = r.0; y = q.0; middle = r.1; last = q.1; has_x = got; has_y = got_too; is = some_first (compares op r.0 q.0) so q.1 left end }
 
 -- the difference of two expressions has the difference of their values, also where that passes 64 bits
-pub difference_is_right : (base : ℕ) (a b : Expr) (d : Form) (store draws middle last : List ℤ) (x y : ℤ) → difference_form (length store) base a b ≡ Some d
-    → value_of a base store draws ≡ Some (x, middle) → value_of b base store middle ≡ Some (y, last) → form_value d store ≡ x -ℤ y
-difference_is_right base a b d store draws middle last x y is ran ran_too =
-    let (g, of, to) = bind_some (form_of (length store) base a) (λ x. form_of (length store) base b >>= λ y. operator_form minus x y) d is in
-    let (h, of_too, result) = bind_some (form_of (length store) base b) (λ y. operator_form minus g y) d to in
-    let left : form_value g store ≡ x = forms_are_right base a g store draws middle x of ran in
-    let right : form_value h store ≡ y = forms_are_right base b h store middle last y of_too ran_too in
-    difference_value g h d store (form_wide (length store) base a g of) (form_wide (length store) base b h of_too) result ∙ (let less : form_value g store -ℤ form_value h store ≡ x -ℤ y = cc in less)
+pub difference_is_right : (s : Scene) (a b : Expr) (d : Form) (draws middle last : List ℤ) (x y : ℤ) → difference_in s a b ≡ Some d
+    → value_of a s draws ≡ Some (x, middle) → value_of b s middle ≡ Some (y, last) → form_value d s.store ≡ x -ℤ y
+difference_is_right s a b d draws middle last x y is ran ran_too =
+    let (g, of, to) = bind_some (form_in s a) (λ x. form_in s b >>= λ y. operator_form minus x y) d is in
+    let (h, of_too, result) = bind_some (form_in s b) (λ y. operator_form minus g y) d to in
+    let left : form_value g s.store ≡ x = forms_are_right s a g draws middle x of ran in
+    let right : form_value h s.store ≡ y = forms_are_right s b h middle last y of_too ran_too in
+    difference_value g h d s.store (form_wide (length s.store) s.base a g of) (form_wide (length s.store) s.base b h of_too) result ∙
+    (let less : form_value g s.store -ℤ form_value h s.store ≡ x -ℤ y = cc in less)
 
 pub tests_are_right : TestsAreRight
-tests_are_right base op a b d t store draws left so is test ran =
-    let c = compared base op a b store draws left so ran in
-    let right = test_is_right op d t store c.x c.y (difference_is_right base a b d store draws c.middle c.last c.x c.y is c.has_x c.has_y) test in
-    subst (λ (w : Bool). IsTrue w ↔ TestHolds t store) c.is right
+tests_are_right s op a b d t draws left so is test ran =
+    let c = compared s op a b draws left so ran in
+    let right = test_is_right op d t s.store c.x c.y (difference_is_right s a b d draws c.middle c.last c.x c.y is c.has_x c.has_y) test in
+    subst (λ (w : Bool). IsTrue w ↔ TestHolds t s.store) c.is right
 
 pub differs_is_right : DiffersIsRight
-differs_is_right base a b d less more store draws left so is one two ran =
-    let c = compared base differs a b store draws left so ran in
-    let right = differs_by_tests d less more store c.x c.y (difference_is_right base a b d store draws c.middle c.last c.x c.y is c.has_x c.has_y) one two in
-    subst (λ (w : Bool). IsTrue w ↔ (TestHolds less store ⊎ TestHolds more store)) c.is right
+differs_is_right s a b d less more draws left so is one two ran =
+    let c = compared s differs a b draws left so ran in
+    let right = differs_by_tests d less more s.store c.x c.y (difference_is_right s a b d draws c.middle c.last c.x c.y is c.has_x c.has_y) one two in
+    subst (λ (w : Bool). IsTrue w ↔ (TestHolds less s.store ⊎ TestHolds more s.store)) c.is right

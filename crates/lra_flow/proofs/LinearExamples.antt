@@ -3,7 +3,7 @@ use Rattle.std.proofs.Common.{◌≡◌, ℤ, pos, negsuc, List, [], ◌∷◌, 
 use Rattle.std.specs.Int.Signed.{le_z_yes}
 use Rattle.lra_program.specs.Program.{local, Expr, literal, read, input, binary, compare, nonzero, opposite, both_of, either_of}
 use Rattle.lra_base.specs.Operators.{plus, minus, times, over, below, above, at_least, differs}
-use Rattle.lra_program.specs.Value.{value_of, truth_of}
+use Rattle.lra_program.specs.Value.{Scene, value_of, truth_of}
 use Rattle.lra_linear.specs.declared.ConKind.TheVariants.{Ge}
 use Rattle.lra_lin.specs.Form.{Form}
 use Rattle.lra_flow.specs.Linear.{TestHolds, form_of, comparison_test}
@@ -47,11 +47,11 @@ greater_test : comparison_test above (form (pos 0) (pos 1 ∷ negsuc 0 ∷ [])) 
 greater_test = refl
 
 -- x < y at -2^63 and 2^63 - 1, whose difference has no value: the comparison is true, and its test passes; catches a test of the difference's value
-abbrev ends : List ℤ
-ends = negsuc 9223372036854775807 ∷ pos 9223372036854775807 ∷ []
+abbrev at_ends : Scene
+at_ends = record { base = 0; store = negsuc 9223372036854775807 ∷ pos 9223372036854775807 ∷ [] }
 
-test_past_words : (truth_of (compare below x y) 0 ends [] ≡ Some (true, [])) × (value_of (binary minus x y) 0 ends [] ≡ None)
-    × TestHolds (record { expr = form (negsuc 0) (negsuc 0 ∷ pos 1 ∷ []); kind = Ge }) ends
+test_past_words : (truth_of (compare below x y) at_ends [] ≡ Some (true, [])) × (value_of (binary minus x y) at_ends [] ≡ None)
+    × TestHolds (record { expr = form (negsuc 0) (negsuc 0 ∷ pos 1 ∷ []); kind = Ge }) at_ends.store
 test_past_words = (refl, refl, le_z_yes tt)
 
 -- x < 1 || y < 2: catches rows of the opposite of x < 1, of which the right side is told as well

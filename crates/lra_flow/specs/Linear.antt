@@ -9,7 +9,7 @@ use Rattle.lra_lin.specs.declared.test.Test.{Test}
 use Rattle.lra_base.specs.Operators.{Operator, plus, minus, times, over, modulo, Comparison, below, at_most, above}
 use Rattle.lra_base.specs.Operators.{at_least, equal, differs}
 use Rattle.lra_program.specs.Program.{Expr, literal, read, input, negate, binary, compare}
-use Rattle.lra_program.specs.Value.{◌>>=◌, is_word, is_zero, index_of, value_of, truth_of}
+use Rattle.lra_program.specs.Value.{◌>>=◌, is_word, is_zero, index_of, Scene, value_of, truth_of}
 
 -- the form, where the constant and all coefficients have 64 bits
 abbrev pub fitting : Form → Option Form
@@ -61,10 +61,14 @@ form_of live base input = None
 form_of live base (negate e) = form_of live base e >>= λ f. scaled (negsuc 0) f
 form_of live base (binary op a b) = form_of live base a >>= λ f. form_of live base b >>= λ g. operator_form op f g
 
+-- of what is read in a scene
+abbrev pub form_in : Scene → Expr → Option Form
+form_in s e = form_of (length s.store) s.base e
+
 -- where the expression has a value, its form has the same
 abbrev pub FormsAreRight : Type 0
-FormsAreRight = (base : ℕ) (e : Expr) (f : Form) (store draws left : List ℤ) (z : ℤ)
-    → form_of (length store) base e ≡ Some f → value_of e base store draws ≡ Some (z, left) → form_value f store ≡ z
+FormsAreRight = (s : Scene) (e : Expr) (f : Form) (draws left : List ℤ) (z : ℤ)
+    → form_in s e ≡ Some f → value_of e s draws ≡ Some (z, left) → form_value f s.store ≡ z
 
 -- tests ------------------------------------------------------------------------------------------------------------
 
@@ -97,16 +101,18 @@ comparison_test differs d = None
 abbrev pub difference_form : ℕ → ℕ → Expr → Expr → Option Form
 difference_form live base a b = form_of live base (binary minus a b)
 
+abbrev pub difference_in : Scene → Expr → Expr → Option Form
+difference_in s a b = difference_form (length s.store) s.base a b
+
 -- where both sides have a value, the comparison is true exactly where its test passes
 abbrev pub TestsAreRight : Type 0
-TestsAreRight = (base : ℕ) (op : Comparison) (a b : Expr) (d : Form) (t : Test) (store draws left : List ℤ) (v : Bool)
-    → difference_form (length store) base a b ≡ Some d → comparison_test op d ≡ Some t
-    → truth_of (compare op a b) base store draws ≡ Some (v, left) → (IsTrue v ↔ TestHolds t store)
+TestsAreRight = (s : Scene) (op : Comparison) (a b : Expr) (d : Form) (t : Test) (draws left : List ℤ) (v : Bool)
+    → difference_in s a b ≡ Some d → comparison_test op d ≡ Some t
+    → truth_of (compare op a b) s draws ≡ Some (v, left) → (IsTrue v ↔ TestHolds t s.store)
 
 -- and `!=` is true exactly where the test of `<` or that of `>` passes
 abbrev pub DiffersIsRight : Type 0
-DiffersIsRight = (base : ℕ) (a b : Expr) (d : Form) (less more : Test) (store draws left : List ℤ) (v : Bool)
-    → difference_form (length store) base a b ≡ Some d → comparison_test below d ≡ Some less →
-    comparison_test above d ≡ Some more
-    → truth_of (compare differs a b) base store draws ≡ Some (v, left) →
-    (IsTrue v ↔ (TestHolds less store ⊎ TestHolds more store))
+DiffersIsRight = (s : Scene) (a b : Expr) (d : Form) (less more : Test) (draws left : List ℤ) (v : Bool)
+    → difference_in s a b ≡ Some d → comparison_test below d ≡ Some less → comparison_test above d ≡ Some more
+    → truth_of (compare differs a b) s draws ≡ Some (v, left) →
+    (IsTrue v ↔ (TestHolds less s.store ⊎ TestHolds more s.store))
