@@ -3,14 +3,14 @@ use Rattle.std.proofs.Common.{◌≡◌, ℕ, ℤ, List, [], ◌∷◌, length, 
 use Rattle.std.proofs.lemmas.Option.{same_Some}
 use Rattle.lra_program.specs.Program.{Program}
 use Rattle.lra_program.specs.Step.{State, Config}
-use Rattle.lra_program.specs.Run.{Point, start, label_on, IsOn, At, Fails}
+use Rattle.lra_program.specs.Run.{begun, Point, start, label_on, IsOn, At, Fails}
 use Rattle.lra_program.specs.Trails.{Met, passes, Trail, Alone, Walks, Arrives, Denies}
 use Rattle.lra_program.proofs.TrailLaws as walks
 use Rattle.lra_program.proofs.TrailLaws.{Quiet, LastMet, last_met}
 use Rattle.lra_operations.specs.Graph.{Node}
 use Rattle.lra_operations.specs.Trails.{to_point, to_failure}
 use Rattle.lra_program.specs.Sites.{Site, sites_of}
-use Rattle.lra_operations.specs.Agree.{begins, IsGraph, Reached, Failed, point_of, AreDistinct, GraphsAgree}
+use Rattle.lra_operations.specs.Agree.{IsGraph, Reached, Failed, point_of, AreDistinct, GraphsAgree}
 use Rattle.lra_operations.specs.TrailsAgree.{KeepsWidth, point_at, point_or_none, TreeGoes, TrailsAgree, GraphsHaveTrails}
 use Rattle.lra_operations.proofs.TrailLaws as trees
 use Rattle.lra_graph.proofs.Split.{trail}
@@ -138,7 +138,7 @@ module _ (P : Program) (g : Node) (trails : TrailsAgree Alone P g) where
   name = point_at (sites_of P)
 
   abbrev from : List ℤ → Trail Point
-  from draws = trail (begins P draws) []
+  from draws = trail (begun P.globals draws) []
 
   reached_where_at : (number : ℕ) (s : Site) (store : List ℤ) → slice_get (sites_of P) number ≡ Some s → At P (point_of s) store → Reached P g number store
   reached_where_at number s store at (c, r, on, same) =

@@ -5,7 +5,7 @@ use Rattle.lra_program.specs.Program.{Expr, Cond, Call, Rvalue, value, result, D
 use Rattle.lra_program.specs.Program.{BlockItems, no_more, declaration, statement, Function, Program}
 use Rattle.lra_program.specs.Value.{Drawn, index_of, truth_of}
 use Rattle.lra_program.specs.Step.{State, Op, append, give, give_any, push, keep, test, run_op, run_any, tested, Here, Back, Item, run, declare, all, end_of, turn, cut, mark, leave_call, Config, Turn}
-use Rattle.lra_program.specs.Step.{to_turn, Called, to_mark, target_of, go, go_by, go_on, enter, do_rvalue, do_leave, do_break, do_continue, do_stmt, do_declare, next, next_at}
+use Rattle.lra_program.specs.Step.{scene_at, to_turn, Called, to_mark, target_of, go, go_by, go_on, enter, do_rvalue, do_leave, do_break, do_continue, do_stmt, do_declare, next, next_at}
 use Rattle.lra_program.specs.Run.{label_on, Point, IsFailing}
 use Rattle.lra_program.specs.Trails.{Met, passes, Trail, met_on, Becomes, Walks}
 use Rattle.lra_program.proofs.TrailLaws.{walk_on}
@@ -29,15 +29,15 @@ go_is k h o t e = rw e refl
 go_on_is : (o : Option State) (f : State → Option Config) (t : State) → o ≡ Some t → go_on o f ≡ f t
 go_on_is o f t e = rw e refl
 
-go_by_true : (a b : List Item) (h : Here) (store : List ℤ) (v : Drawn Bool) (t : State) → tested true store v ≡ Some t → go_by a b h store v ≡ Some (config a h t)
-go_by_true a b h store None t e = absurd (none-some t e)
-go_by_true a b h store (Some (true, ds)) t e = ap (λ (s : State). Some (config a h s)) (same_Some _ t e)
-go_by_true a b h store (Some (false, ds)) t e = absurd (none-some t e)
+go_by_true : (a b : List Item) (h : Here) (s : State) (v : Drawn Bool) (t : State) → tested true s v ≡ Some t → go_by a b h s v ≡ Some (config a h t)
+go_by_true a b h s None t e = absurd (none-some t e)
+go_by_true a b h s (Some (true, ds)) t e = ap (λ (u : State). Some (config a h u)) (same_Some _ t e)
+go_by_true a b h s (Some (false, ds)) t e = absurd (none-some t e)
 
-go_by_false : (a b : List Item) (h : Here) (store : List ℤ) (v : Drawn Bool) (t : State) → tested false store v ≡ Some t → go_by a b h store v ≡ Some (config b h t)
-go_by_false a b h store None t e = absurd (none-some t e)
-go_by_false a b h store (Some (true, ds)) t e = absurd (none-some t e)
-go_by_false a b h store (Some (false, ds)) t e = ap (λ (s : State). Some (config b h s)) (same_Some _ t e)
+go_by_false : (a b : List Item) (h : Here) (s : State) (v : Drawn Bool) (t : State) → tested false s v ≡ Some t → go_by a b h s v ≡ Some (config b h t)
+go_by_false a b h s None t e = absurd (none-some t e)
+go_by_false a b h s (Some (true, ds)) t e = absurd (none-some t e)
+go_by_false a b h s (Some (false, ds)) t e = ap (λ (u : State). Some (config b h u)) (same_Some _ t e)
 
 break_step : (o : Option Turn) (m : ℕ) (h : Here) (s t : State) (e : Config) → turn_length o ≡ Some m → run_op (keep m) s ≡ Some t → land_broken o h t ≡ Some e → do_break o h s ≡ Some e
 break_step None m h s t e a b d = absurd (none-some e d)
@@ -291,10 +291,10 @@ module _ (may : State → State → Type 0) (keeps : KeepsWidth may) (P : Progra
   follows_if spot at c s s' g h x y = record {
     runs = λ k a u b m l z. elim z as (λ _. Pends spot.frame.here (run (if at c s s') ∷ k) k u a b) [
       | inl w ↦ pends spot.frame.here (run (if at c s s') ∷ k) k u a b (config (run s ∷ k) spot.frame.here w.0.state)
-          (go_by_true (run s ∷ k) (run s' ∷ k) spot.frame.here a.state.store (truth_of c spot.frame.here.base a.state.store a.state.draws) w.0.state w.1.0)
+          (go_by_true (run s ∷ k) (run s' ∷ k) spot.frame.here a.state (truth_of c (scene_at spot.frame.here.base a.state) a.state.draws) w.0.state w.1.0)
           (moved k u b w.0 (run s) a w.1.1 (x.runs k w.0 u b m (length_test spot.frame.here.base c true a.state w.0.state w.1.0 ∙ l) w.2))
       | inr w ↦ pends spot.frame.here (run (if at c s s') ∷ k) k u a b (config (run s' ∷ k) spot.frame.here w.0.state)
-          (go_by_false (run s ∷ k) (run s' ∷ k) spot.frame.here a.state.store (truth_of c spot.frame.here.base a.state.store a.state.draws) w.0.state w.1.0)
+          (go_by_false (run s ∷ k) (run s' ∷ k) spot.frame.here a.state (truth_of c (scene_at spot.frame.here.base a.state) a.state.draws) w.0.state w.1.0)
           (moved k u b w.0 (run s') a w.1.1 (y.runs k w.0 u b m (length_test spot.frame.here.base c false a.state w.0.state w.1.0 ∙ l) w.2))
     ];
   }
@@ -400,12 +400,12 @@ module _ (may : State → State → Type 0) (keeps : KeepsWidth may) (P : Progra
         RunsTo (config (L ∷ k) spot.frame.here a.state) a.met (config (run s ∷ behind k) spot.frame.here w.state) w.met
     goes_in k a w l (m, v, o) = met_same (config (L ∷ k) spot.frame.here a.state) (config (run s ∷ behind k) spot.frame.here w.state) a.met m.met w.met o.1
         (step_at (L ∷ k) spot at false a m (config (run s ∷ behind k) spot.frame.here w.state) has refl v
-        (rw (keeps a.state m.state v.0 ∙ l) (go_by_true (run s ∷ behind k) k spot.frame.here m.state.store (truth_of c spot.frame.here.base m.state.store m.state.draws) w.state o.0)))
+        (rw (keeps a.state m.state v.0 ∙ l) (go_by_true (run s ∷ behind k) k spot.frame.here m.state (truth_of c (scene_at spot.frame.here.base m.state) m.state.draws) w.state o.0)))
 
     goes_out : (k : List Item) (a w : Trail Point) → Entered false a w → RunsTo (config (L ∷ k) spot.frame.here a.state) a.met (config k spot.frame.here w.state) w.met
     goes_out k a w (m, v, o) = met_same (config (L ∷ k) spot.frame.here a.state) (config k spot.frame.here w.state) a.met m.met w.met o.1
         (step_at (L ∷ k) spot at false a m (config k spot.frame.here w.state) has refl v
-        (go_by_false (run s ∷ turn step (loop at c s step) (length m.state.store) ∷ k) k spot.frame.here m.state.store (truth_of c spot.frame.here.base m.state.store m.state.draws) w.state o.0))
+        (go_by_false (run s ∷ turn step (loop at c s step) (length m.state.store) ∷ k) k spot.frame.here m.state (truth_of c (scene_at spot.frame.here.base m.state) m.state.draws) w.state o.0))
 
     in_body : (k : List Item) → Matches spot.frame k → Matches (in_loop spot.frame (Some spot.live)) (behind k)
     in_body k m = record { loops = λ w z. z; backs = m.backs }

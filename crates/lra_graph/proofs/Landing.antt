@@ -68,11 +68,11 @@ pub go_on_some : (o : Option State) (f : State → Option Config) (e : Config) �
 go_on_some None f e x = absurd (none-some e x)
 go_on_some (Some t) f e x = (t, refl, x)
 
-pub go_by_some : (on off : List Item) (h : Here) (store : List ℤ) (v : Drawn Bool) (e : Config) → go_by on off h store v ≡ Some e
-    → ((t : State) × (tested true store v ≡ Some t) × (config on h t ≡ e)) ⊎ ((t : State) × (tested false store v ≡ Some t) × (config off h t ≡ e))
-go_by_some on off h store None e x = absurd (none-some e x)
-go_by_some on off h store (Some (true, ds)) e x = inl (record { store = store; draws = ds }, refl, same_Some _ e x)
-go_by_some on off h store (Some (false, ds)) e x = inr (record { store = store; draws = ds }, refl, same_Some _ e x)
+pub go_by_some : (on off : List Item) (h : Here) (s : State) (v : Drawn Bool) (e : Config) → go_by on off h s v ≡ Some e
+    → ((t : State) × (tested true s v ≡ Some t) × (config on h t ≡ e)) ⊎ ((t : State) × (tested false s v ≡ Some t) × (config off h t ≡ e))
+go_by_some on off h s None e x = absurd (none-some e x)
+go_by_some on off h s (Some (true, ds)) e x = inl (record s { draws = ds }, refl, same_Some _ e x)
+go_by_some on off h s (Some (false, ds)) e x = inr (record s { draws = ds }, refl, same_Some _ e x)
 
 pub lands_broken : (o : Option Turn) (t : Turn) (h : Here) (s : State) (e : Config) → o ≡ Some t → config t.rest h s ≡ e → land_broken o h s ≡ Some e
 lands_broken o t h s e i j = rw i (ap Some j)

@@ -3,8 +3,8 @@ use Rattle.std.proofs.Common.{◌≡◌, ◌≢◌, ℕ, zero, suc, ◌+◌, ◌
 use Rattle.std.proofs.lemmas.Option.{same_Some, none-some}
 use Rattle.std.proofs.lemmas.List.{length-set, length-take-le}
 use Rattle.lra_program.specs.Program.{Expr, Cond, Rvalue, Stmt, BlockItems, Program}
-use Rattle.lra_program.specs.Value.{◌>>=◌, draw, value_of, values_of, truth_of, Drawn}
-use Rattle.lra_program.specs.Step.{State, Op, append, give, give_any, push, keep, test, run_op, run_any, put, receive, pushed, kept_if, tested, Back}
+use Rattle.lra_program.specs.Value.{◌>>=◌, draw, Scene, value_of, values_of, truth_of, Drawn}
+use Rattle.lra_program.specs.Step.{State, scene_at, Op, append, give, give_any, push, keep, test, run_op, run_any, put, receive, pushed, kept_if, tested, Back}
 use Rattle.lra_program.specs.Run.{Point}
 use Rattle.lra_program.specs.Trails.{Trail}
 use Rattle.lra_operations.specs.Graph.{Exit, broken, continued, returned, Node, empty, choose, point, act, seq, leave, check}
@@ -21,15 +21,15 @@ length_put : (x : Option ℕ) (z : ℤ) (store : List ℤ) → length (put x z s
 length_put None z store = refl
 length_put (Some x) z store = length-set store x z
 
-length_given : (x : Option ℕ) (store : List ℤ) (v : Drawn ℤ) (t : State) → receive x store v ≡ Some t → length t.store ≡ length store
-length_given x store None t e = absurd (none-some t e)
-length_given x store (Some r) t e = rw (← same_Some _ t e) (length_put x r.0 store)
+length_given : (x : Option ℕ) (s : State) (v : Drawn ℤ) (t : State) → receive x s v ≡ Some t → length t.store ≡ length s.store
+length_given x s None t e = absurd (none-some t e)
+length_given x s (Some r) t e = rw (← same_Some _ t e) (length_put x r.0 s.store)
 
 length_any : (x : Option ℕ) (s t : State) → run_any x s ≡ Some t → length t.store ≡ length s.store
 length_any None s t e = rw (← same_Some s t e) refl
-length_any (Some x) s t e = length_given (Some x) s.store (draw s.draws) t e
+length_any (Some x) s t e = length_given (Some x) s (draw s.draws) t e
 
-length_appended : (s t : State) (v : Drawn ℤ) → (v >>= λ r. Some (record { store = s.store ++ r.0 ∷ []; draws = r.1 })) ≡ Some t → length t.store ≡ suc (length s.store)
+length_appended : (s t : State) (v : Drawn ℤ) → (v >>= λ r. Some (record s { store = s.store ++ r.0 ∷ []; draws = r.1 })) ≡ Some t → length t.store ≡ suc (length s.store)
 length_appended s t None e = absurd (none-some t e)
 length_appended s t (Some r) e = rw (← same_Some _ t e, length-append) (omega arith)
 
@@ -39,12 +39,12 @@ length_kept_if false false s t e = sym (same_Some s t e)
 length_kept_if true false s t e = absurd (none-some t e)
 length_kept_if false true s t e = absurd (none-some t e)
 
-store_tested : (b : Bool) (store : List ℤ) (v : Drawn Bool) (t : State) → tested b store v ≡ Some t → t.store ≡ store
-store_tested b store None t e = absurd (none-some t e)
-store_tested b store (Some r) t e = ap (λ (u : State). u.store) (length_kept_if b r.0 _ t e)
+store_tested : (b : Bool) (s : State) (v : Drawn Bool) (t : State) → tested b s v ≡ Some t → t.store ≡ s.store
+store_tested b s None t e = absurd (none-some t e)
+store_tested b s (Some r) t e = ap (λ (u : State). u.store) (length_kept_if b r.0 _ t e)
 
 pub length_test : (base : ℕ) (c : Cond) (b : Bool) (s t : State) → run_op (test base c b) s ≡ Some t → length t.store ≡ length s.store
-length_test base c b s t e = ap length (store_tested b s.store (truth_of c base s.store s.draws) t e)
+length_test base c b s t e = ap length (store_tested b s (truth_of c (scene_at base s) s.draws) t e)
 
 pub length_keep : (n : ℕ) (s t : State) → n ≤ length s.store → run_op (keep n) s ≡ Some t → length t.store ≡ n
 length_keep n s t l e = rw (← same_Some _ t e) (length-take-le n s.store l)
@@ -54,21 +54,21 @@ length_cons : (z : ℤ) (n : ℕ) (v : Drawn (List ℤ)) (r : List ℤ × List �
 length_cons z n None r h e = absurd (none-some r e)
 length_cons z n (Some q) r h e = rw (← same_Some _ r e) (ap suc (h q refl))
 
-length_values : (es : List Expr) (base : ℕ) (store draws : List ℤ) (r : List ℤ × List ℤ) → values_of es base store draws ≡ Some r → length r.0 ≡ length es
-length_values [] base store draws r e = rw (← same_Some _ r e) refl
-length_values (a ∷ es) base store draws r e = first (value_of a base store draws) (λ ds q. length_values es base store ds q) r e
+length_values : (es : List Expr) (s : Scene) (draws : List ℤ) (r : List ℤ × List ℤ) → values_of es s draws ≡ Some r → length r.0 ≡ length es
+length_values [] s draws r e = rw (← same_Some _ r e) refl
+length_values (a ∷ es) s draws r e = first (value_of a s draws) (λ ds q. length_values es s ds q) r e
   where
-    first : (v : Drawn ℤ) → ((ds : List ℤ) (q : List ℤ × List ℤ) → values_of es base store ds ≡ Some q → length q.0 ≡ length es) → (r : List ℤ × List ℤ)
-        → (v >>= λ w. values_of es base store w.1 >>= λ s. Some (w.0 ∷ s.0, s.1)) ≡ Some r → length r.0 ≡ suc (length es)
+    first : (v : Drawn ℤ) → ((ds : List ℤ) (q : List ℤ × List ℤ) → values_of es s ds ≡ Some q → length q.0 ≡ length es) → (r : List ℤ × List ℤ)
+        → (v >>= λ w. values_of es s w.1 >>= λ q. Some (w.0 ∷ q.0, q.1)) ≡ Some r → length r.0 ≡ suc (length es)
     first None h r e = absurd (none-some r e)
-    first (Some w) h r e = length_cons w.0 (length es) (values_of es base store w.1) r (h w.1) e
+    first (Some w) h r e = length_cons w.0 (length es) (values_of es s w.1) r (h w.1) e
 
-length_pushed : (store : List ℤ) (n : ℕ) (v : Drawn (List ℤ)) (t : State) → ((r : List ℤ × List ℤ) → v ≡ Some r → length r.0 ≡ n) → pushed store v ≡ Some t → length t.store ≡ length store + n
-length_pushed store n None t h e = absurd (none-some t e)
-length_pushed store n (Some r) t h e = rw (← same_Some _ t e, length-append, h r refl) refl
+length_pushed : (s : State) (n : ℕ) (v : Drawn (List ℤ)) (t : State) → ((r : List ℤ × List ℤ) → v ≡ Some r → length r.0 ≡ n) → pushed s v ≡ Some t → length t.store ≡ length s.store + n
+length_pushed s n None t h e = absurd (none-some t e)
+length_pushed s n (Some r) t h e = rw (← same_Some _ t e, length-append, h r refl) refl
 
 pub length_push : (base : ℕ) (es : List Expr) (s t : State) → run_op (push base es) s ≡ Some t → length t.store ≡ length s.store + length es
-length_push base es s t e = length_pushed s.store (length es) (values_of es base s.store s.draws) t (length_values es base s.store s.draws) e
+length_push base es s t e = length_pushed s (length es) (values_of es (scene_at base s) s.draws) t (length_values es (scene_at base s) s.draws) e
 
 pub length_append : (s t : State) → run_op append s ≡ Some t → length t.store ≡ suc (length s.store)
 length_append s t e = length_appended s t (draw s.draws) e
@@ -141,7 +141,7 @@ module _ (name : ℕ → Point) (may : State → State → Type 0) (keeps : Keep
   append_length q = act_length q append (λ s t l e. length_appended s t (draw s.draws) e ∙ ap suc l)
 
   give_length : {f : Frame} {n : ℕ} (q base : ℕ) (x : Option ℕ) (a : Expr) → Length f n n (act q (give base x a))
-  give_length q base x a = act_length q (give base x a) (λ s t l e. length_given x s.store (value_of a base s.store s.draws) t e ∙ l)
+  give_length q base x a = act_length q (give base x a) (λ s t l e. length_given x s (value_of a (scene_at base s) s.draws) t e ∙ l)
 
   any_length : {f : Frame} {n : ℕ} (q : ℕ) (x : Option ℕ) → Length f n n (act q (give_any x))
   any_length q x = act_length q (give_any x) (λ s t l e. length_any x s t e ∙ l)

@@ -3,14 +3,14 @@ use Rattle.std.proofs.Common.{◌≡◌, ℕ, ℤ, List, [], ◌∷◌, length, 
 use Rattle.std.proofs.lemmas.Option.{none-some}
 use Rattle.lra_program.specs.Program.{Program}
 use Rattle.lra_program.specs.Step.{State, Item, all, end_of}
-use Rattle.lra_program.specs.Run.{Point, start}
+use Rattle.lra_program.specs.Run.{begun, Point, start}
 use Rattle.lra_program.specs.Trails.{Trail}
 use Rattle.lra_operations.specs.Graph.{Node, seq, point}
 use Rattle.lra_operations.specs.Trails.{Stop, by_jump, to_point, to_failure, to_end, stopped, Goes}
 use Rattle.lra_operations.specs.TrailsAgree.{KeepsWidth, point_at}
 use Rattle.lra_program.specs.Sites.{Site, sites_of}
 use Rattle.lra_operations.specs.Inlined.{move, Has, InlAll, main_frame, main_spot}
-use Rattle.lra_operations.specs.Agree.{begins, IsGraph}
+use Rattle.lra_operations.specs.Agree.{IsGraph}
 use Rattle.lra_graph.proofs.Lengths.{length_all}
 use Rattle.lra_graph.proofs.Landing.{config, Matches}
 use Rattle.lra_graph.proofs.Split.{trail}
@@ -37,8 +37,8 @@ module _ (may : State → State → Type 0) (keeps : KeepsWidth may) where
     fulfils a (to_failure q) b l (inr (m, e, x)) = absurd x.0
 
   module _ (P : Program) (g : Node) (is : IsGraph P g) (draws : List ℤ) where
-    pub performed : (q : ℕ) (b : Trail Point) → Goes (point_at (sites_of P)) may g (trail (begins P draws) []) (stopped (to_point q)) b → Stands may keeps P (sites_of P) (start P draws) [] q b
-    performed q b x = fulfils P (sites_of P) is.body is.last is.live is.inlined is.ends (trail (begins P draws) []) (to_point q) b refl (rw is.parts at x)
+    pub performed : (q : ℕ) (b : Trail Point) → Goes (point_at (sites_of P)) may g (trail (begun P.globals draws) []) (stopped (to_point q)) b → Stands may keeps P (sites_of P) (start P draws) [] q b
+    performed q b x = fulfils P (sites_of P) is.body is.last is.live is.inlined is.ends (trail (begun P.globals draws) []) (to_point q) b refl (rw is.parts at x)
 
-    pub failed : (q : ℕ) (b : Trail Point) → Goes (point_at (sites_of P)) may g (trail (begins P draws) []) (stopped (to_failure q)) b → Denied may keeps P (sites_of P) (start P draws) [] q b
-    failed q b x = fulfils P (sites_of P) is.body is.last is.live is.inlined is.ends (trail (begins P draws) []) (to_failure q) b refl (rw is.parts at x)
+    pub failed : (q : ℕ) (b : Trail Point) → Goes (point_at (sites_of P)) may g (trail (begun P.globals draws) []) (stopped (to_failure q)) b → Denied may keeps P (sites_of P) (start P draws) [] q b
+    failed q b x = fulfils P (sites_of P) is.body is.last is.live is.inlined is.ends (trail (begun P.globals draws) []) (to_failure q) b refl (rw is.parts at x)

@@ -3,13 +3,13 @@ use Rattle.std.proofs.Common.{◌≡◌, ℕ, zero, suc, ℤ, List, [], ◌∷�
 use Rattle.std.proofs.lemmas.Option.{none-some}
 use Rattle.lra_program.specs.Program.{Program}
 use Rattle.lra_program.specs.Step.{State, Config, run_op, keep, end_of}
-use Rattle.lra_program.specs.Run.{start, label_on, Point, IsOn}
+use Rattle.lra_program.specs.Run.{begun, start, label_on, Point, IsOn}
 use Rattle.lra_program.specs.Trails.{Met, Trail, Walks}
 use Rattle.lra_operations.specs.Graph.{broken, continued, returned, Node, seq, point}
 use Rattle.lra_operations.specs.TrailsAgree.{KeepsWidth, point_at}
 use Rattle.lra_program.specs.Sites.{Site, sites_of}
 use Rattle.lra_operations.specs.Inlined.{move, Has, InlAll, main_frame, main_spot}
-use Rattle.lra_operations.specs.Agree.{begins, IsGraph}
+use Rattle.lra_operations.specs.Agree.{IsGraph}
 use Rattle.lra_graph.proofs.Lengths.{length_all}
 use Rattle.lra_graph.proofs.Landing.{config, go_some}
 use Rattle.lra_graph.proofs.Split.{trail, Hit, Splits, hits, ended, jumped, all_below, hit_seq, hit_then, hit_there, enters, plain}
@@ -38,9 +38,9 @@ module _ (may : State → State → Type 0) (keeps : KeepsWidth may) where
 
   -- the tree comes to each point at which a run stands, and fails where the run fails
   pub reached : (P : Program) (g : Node) → IsGraph P g → (c : Config) (zs : List (Met Point)) (p : Point) (draws : List ℤ) (n : ℕ) → Walks may P n (start P draws) [] c zs → IsOn c p
-      → Hit may (sites_of P) c zs p.label g (trail (begins P draws) [])
+      → Hit may (sites_of P) c zs p.label g (trail (begun P.globals draws) [])
   reached P g is c zs p draws n w on =
       let cut = (all_below may keeps P (sites_of P) c zs p.label on.label (suc n)).every (main_spot P) P.main.body is.body is.live is.last is.inlined
-      (end_of P.main.end (length P.globals) ∷ []) (trail (begins P draws) []) n
+      (end_of P.main.end (length P.globals) ∷ []) (trail (begun P.globals draws) []) n
       (record { loops = λ m e. absurd (none-some m e); backs = refl }) refl (omega arith) w in
-      rw is.parts (whole P (sites_of P) c zs p.label on.label is.body is.last is.live is.inlined is.ends (trail (begins P draws) []) n refl cut)
+      rw is.parts (whole P (sites_of P) c zs p.label on.label is.body is.last is.live is.inlined is.ends (trail (begun P.globals draws) []) n refl cut)

@@ -5,7 +5,7 @@ use Rattle.lra_program.specs.Program.{Cond, Call, Rvalue, value, result, Declara
 use Rattle.lra_program.specs.Program.{no_more, declaration, statement, Function, Program}
 use Rattle.lra_program.specs.Value.{index_of, truth_of}
 use Rattle.lra_program.specs.Step.{State, Op, append, give, give_any, push, keep, test, run_op, run_any, Here, Back, Item, run, declare, all, end_of, turn, cut, mark, leave_call, Config, to_turn}
-use Rattle.lra_program.specs.Step.{to_mark, target_of, go, enter, do_rvalue, do_leave, do_break, do_continue, do_declare, next, next_at}
+use Rattle.lra_program.specs.Step.{scene_at, to_mark, target_of, go, enter, do_rvalue, do_leave, do_break, do_continue, do_declare, next, next_at}
 use Rattle.lra_program.specs.Run.{label_on, Point, IsFailing}
 use Rattle.lra_program.specs.Trails.{Met, passes, Trail, met_on, Becomes, Walks}
 use Rattle.lra_operations.specs.Graph.{Exit, broken, continued, returned, Node, point, act, check, seq, choose, leave}
@@ -307,8 +307,8 @@ module _ (may : State → State → Type 0) (keeps : KeepsWidth may) (P : Progra
         (λ b m v. absurd v) t)
     splits_loop spot r at b s step g h r' q' has d e k a (suc j) m l less t =
         let x = enters (run (loop at b s step) ∷ k) spot at false j a has l refl t in
-        elim (go_by_some (run s ∷ turn step (loop at b s step) (length x.past.state.store) ∷ k) k spot.frame.here x.past.state.store
-        (truth_of b spot.frame.here.base x.past.state.store x.past.state.draws) x.goal x.step) [
+        elim (go_by_some (run s ∷ turn step (loop at b s step) (length x.past.state.store) ∷ k) k spot.frame.here x.past.state
+        (truth_of b (scene_at spot.frame.here.base x.past.state) x.past.state.draws) x.goal x.step) [
           | inl z ↦ round (trail z.0 x.past.met) (x.past, x.passed, (z.1, refl))
               (subst (λ w. W j (config (run s ∷ turn step (loop at b s step) w ∷ k) spot.frame.here z.0) x.past.met) x.long (rw z.2 x.rest))
           | inr z ↦ ended j (trail z.0 x.past.met) (omega arith) (last to_end (trail z.0 x.past.met) (loop_done (x.past, x.passed, (z.1, refl)))) (rw z.2 x.rest)
@@ -567,7 +567,7 @@ module _ (may : State → State → Type 0) (keeps : KeepsWidth may) (P : Progra
         (λ j u e less' l' y w. splits_gives spot (suc spot.next) None (result b) g q' k u j e d l' less' y w)
     splits_one _ _ _ _ (as_if {s = spot} {at = at} {c = b} {a = s} {b = s'} {g = g} {h = h} {r = r} {q = q'} i d d') k a count m l less t =
         at_its_point spot at (if at b s s') (choose spot.next spot.frame.here.base b g h) k a count less i l refl (λ b v. v) t
-        (λ j u e less' l' y w. elim (go_by_some (run s ∷ k) (run s' ∷ k) spot.frame.here u.state.store (truth_of b spot.frame.here.base u.state.store u.state.draws) e y) as
+        (λ j u e less' l' y w. elim (go_by_some (run s ∷ k) (run s' ∷ k) spot.frame.here u.state (truth_of b (scene_at spot.frame.here.base u.state) u.state.draws) e y) as
         (λ z. Splits spot.frame.here k (suc j) (choose spot.next spot.frame.here.base b g h) u) [
           | inl z ↦ splits_more spot.frame.here k j (suc j) (choose spot.next spot.frame.here.base b g h) u (omega arith)
               (choose_on spot.next spot.frame.here.base b g h spot.frame.here k j u (trail z.0 u.met) (z.1, refl)
