@@ -10,6 +10,7 @@ use Rattle.lra_domain.specs.declared.Exactness.{Exactness}
 use Rattle.lra_lin.specs.Form.{form_value}
 use Rattle.lra_flow.specs.Linear as linear
 use Rattle.lra_program.specs.Step.{State}
+use Rattle.lra_program.specs.Run.{begun}
 use Rattle.lra_operations.specs.Graph.{Node, Comes, FailsAt}
 use Rattle.lra_linear.specs.Vectors.{product}
 use Rattle.lra_linear.proofs.Products.{product_none}
@@ -24,7 +25,7 @@ use Rattle.lra_flow.proofs.Covers.{Covers, Has}
 use Rattle.lra_domain.specs.Actions.{assign, embed}
 use Rattle.lra_flow.proofs.Keeps.{pass_covers}
 use Rattle.lra_iter.specs.Counts.{failing_at, AreCounted}
-use Rattle.lra_iter.specs.Sound.{begun, HoldsInTree}
+use Rattle.lra_iter.specs.Sound.{HoldsInTree}
 use Rattle.lra_iter.proofs.Counting.{one_failing, asserts_few}
 
 -- the globals at their first values ---------------------------------------------------------------------------------

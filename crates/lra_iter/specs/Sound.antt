@@ -3,12 +3,9 @@ use Rattle.std.specs.Prelude.{◌≡◌, ℕ, ℤ, List, length, Bool, true, Som
 use Rattle.std.specs.List.{Contains}
 use Rattle.lra_domain.specs.Meaning.{Meaning}
 use Rattle.lra_program.specs.Step.{State}
+use Rattle.lra_program.specs.Run.{begun}
 use Rattle.lra_operations.specs.Graph.{Node, Comes, FailsAt}
 use Rattle.lra_flow.specs.Analysis.{IsUnreachable}
-
--- where a run begins: with the globals at their first values, and its draws
-abbrev pub begun : List ℤ → List ℤ → State
-begun globals draws = record { store = globals; draws = draws }
 
 pub record HoldsInTree {V H : Type 0} (m : Meaning V H) (globals : List ℤ) (tree : Node) (values : List V)
     (verdicts : List (ℕ × Bool)) : Type 0 where
