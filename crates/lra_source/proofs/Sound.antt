@@ -6,12 +6,12 @@ use Rattle.std.proofs.lemmas.Option.{none-some, same_Some}
 use Rattle.lra_domain.specs.Meaning.{Meaning}
 use Rattle.lra_domain.specs.Laws.{Laws}
 use Rattle.lra_program.specs.Program.{Program}
-use Rattle.lra_program.specs.Run.{At, Fails}
+use Rattle.lra_program.specs.Run.{begun, At, Fails}
 use Rattle.lra_operations.specs.Graph.{Node}
 use Rattle.lra_findings.specs.Report.{PointReport, Verdict}
 use Rattle.lra_tree.specs.Labels.{Labelled}
 use Rattle.lra_program.specs.Sites.{Site, sites_of}
-use Rattle.lra_operations.specs.Agree.{begins, point_of, Agrees}
+use Rattle.lra_operations.specs.Agree.{point_of, Agrees}
 use Rattle.lra_findings.specs.ReportText.{shown_names}
 use Rattle.lra_meaning.specs.LiveNames.{live_names}
 use Rattle.lra_report.specs.Listing.{AreListed, AreJudged}
@@ -27,7 +27,7 @@ use Rattle.lra_iter.proofs.Covering.{begun_covers}
 module _ (V H : Type 0) (m : Meaning V H) where
   module _ (laws : Laws m) (set : Options) (P : Program) (g : Node) (r : Result V) where
     -- from the globals on, whatever is drawn, the iteration has the stores of the tree's runs
-    pub derivation_covers : Derivation m set P g r → (draws : List ℤ) → Covers m g (begins P draws) r
+    pub derivation_covers : Derivation m set P g r → (draws : List ℤ) → Covers m g (begun P.globals draws) r
     derivation_covers (none, first, e, universal, values, pass) draws = begun_covers m laws set P.globals g none first e r universal values pass draws
 
     module _ (derived : Derivation m set P g r) (agrees : Agrees P g) (values : List V) (verdicts : List (ℕ × Bool)) (flagged : Option ℕ) (solves : Solves m r values verdicts flagged) where
