@@ -4,10 +4,10 @@ use Rattle.std.proofs.lemmas.Int.{ints}
 use Rattle.std.specs.Prelude.{get_or, map}
 use Rattle.std.specs.Int.Signed.{le_z_yes}
 use Rattle.lra_base.specs.declared.options.Domain.TheVariants.{Poly, Box}
-use Rattle.lra_findings.specs.Report.{Generator}
+use Rattle.lra_show.specs.Part.{Generator}
 use Rattle.lra_linear.specs.Vectors.{product}
 use Rattle.lra_linear.proofs.Products.{product_none}
-use Rattle.lra_program.specs.Rows.{Row}
+use Rattle.lra_show.specs.Rows.{Row}
 use Rattle.lra_findings.specs.Parts.{RationalPoint, IsWithin, IsGenerated, HasSamePoints, Tells}
 use Rattle.lra_findings.proofs.ReportTextExamples.{both, rows_alone, a_point, a_ray, is_positive}
 

@@ -6,11 +6,13 @@ use Rattle.std.specs.Fmt.{digits}
 use Rattle.lra_base.specs.declared.options.Domain.{Domain}
 use Rattle.lra_base.specs.declared.options.Domain.TheVariants.{Poly, Box}
 use Rattle.lra_base.specs.declared.options.Options.{Options}
-use Rattle.lra_findings.specs.Report.{Place, Generator, Part, PointReport, Verdict, Report}
+use Rattle.lra_findings.specs.Report.{Place, PointReport, Verdict, Report}
+use Rattle.lra_show.specs.Part.{Generator, Part}
 use Rattle.lra_linear.specs.declared.GenKind.TheVariants.{Point, Ray, Line}
 use Rattle.lra_linear.specs.declared.ConKind.TheVariants.{Ge, Eq}
-use Rattle.lra_program.specs.Rows.{Row}
-use Rattle.lra_findings.specs.ReportText.{text_line, row_text, generator_text, state_text, flag_text, report_text, shown_names, path_text}
+use Rattle.lra_show.specs.Rows.{Row}
+use Rattle.lra_show.specs.Texts.{text_line, row_text, generator_text}
+use Rattle.lra_findings.specs.ReportText.{state_text, flag_text, report_text, path_text}
 
 abbrev at : ℕ → ℕ → Place
 at l c = record { line = l; column = c }
@@ -160,23 +162,6 @@ large_number = refl
 flagged : flag_text (Some 128) ≡ text_line (codes "flagged at point 128")
 unfolding digits
 flagged = refl
-
--- main's x is older than inc's: catches a mark on the newer one
-hidden_name : shown_names (codes "x" ∷ codes "x" ∷ []) ≡ codes "x~1" ∷ codes "x" ∷ []
-unfolding digits
-hidden_name = refl
-
-hidden_twice : shown_names (codes "x" ∷ codes "y" ∷ codes "x" ∷ codes "x" ∷ []) ≡ codes "x~2" ∷ codes "y" ∷ codes "x~1" ∷ codes "x" ∷ []
-unfolding digits
-hidden_twice = refl
-
--- main's x = 2 and inc's x = 2 at the start of the second call
-hidden_row : state_text (shown_names (codes "x" ∷ codes "x" ∷ [])) (rows_alone (is_zero (negsuc 1) (pos 1 ∷ pos 0 ∷ []) ∷ is_zero (negsuc 1) (pos 0 ∷ pos 1 ∷ []) ∷ []) ∷ []) ≡ lines (
-    codes "  row x~1 = 2"
-    ∷ codes "  row x = 2"
-    ∷ [])
-unfolding digits
-hidden_row = refl
 
 call_path : path_text (record { name = codes "inc"; place = at 1 61 } ∷ []) ≡ codes "main/inc@1:61"
 unfolding digits

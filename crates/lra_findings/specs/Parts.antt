@@ -5,13 +5,13 @@ use Rattle.std.specs.Prelude.{◌≡◌, ◌↔◌, ℕ, ◌<◌, ℤ, pos, ◌+
 use Rattle.std.specs.List.{AllByRecursion}
 use Rattle.lra_base.specs.declared.options.Domain.{Domain}
 use Rattle.lra_base.specs.declared.options.Domain.TheVariants.{Poly, Box, Oct}
-use Rattle.lra_findings.specs.Report.{Generator, Part}
+use Rattle.lra_show.specs.Part.{Generator, Part}
 use Rattle.lra_linear.specs.declared.GenKind.{GenKind}
 use Rattle.lra_linear.specs.declared.GenKind.TheVariants.{Point, Ray, Line}
 use Rattle.lra_linear.specs.Descriptions.{HoldsWith}
 use Rattle.lra_linear.specs.Kinds.{is_equality}
 use Rattle.lra_linear.specs.Vectors.{product}
-use Rattle.lra_program.specs.Rows.{Row}
+use Rattle.lra_show.specs.Rows.{Row}
 
 -- its coordinates are the numerators over the divisor; a store is such a point with the divisor 1
 pub record RationalPoint : Type 0 where

@@ -4,21 +4,10 @@ use Rattle.std.specs.Prelude.{◌⊎◌, ℕ, ℤ, List, [], ◌∷◌, Bool, Op
 use Rattle.std.specs.List.{AllByRecursion}
 pub use Rattle.lra_base.specs.declared.refusals.Place.{Place}
 use Rattle.lra_base.specs.declared.options.Options.{Options}
-use Rattle.lra_linear.specs.declared.GenKind.{GenKind}
 use Rattle.lra_program.specs.Program.{Program}
 use Rattle.lra_program.specs.Run.{Point, At, Fails}
-use Rattle.lra_program.specs.Rows.{Row, RowHolds}
-
--- a point divides its numbers by `divisor`; a ray and a line have the divisor 0
-pub record Generator : Type 0 where
-  pub kind : GenKind
-  pub divisor : ℕ
-  pub numbers : List ℤ
-
--- a conjunction of rows; over polyhedra also its generators, else none
-pub record Part : Type 0 where
-  pub rows : List Row
-  pub generators : List Generator
+use Rattle.lra_show.specs.Part.{Part}
+use Rattle.lra_show.specs.Rows.{RowHolds}
 
 -- what is known at a point: one of the parts holds; no part says that no run comes here
 abbrev pub Invariant : Type 0

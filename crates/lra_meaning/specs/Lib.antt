@@ -3,5 +3,6 @@ pub mod Scope
 pub mod NameFaults
 pub mod Resolve
 pub mod LiveNames
+pub mod ShownNames
 pub mod LabelTable
 pub mod Refuse

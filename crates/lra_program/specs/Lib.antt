@@ -9,5 +9,3 @@ pub mod Trails
 pub mod Sites
 pub mod Assertions
 pub mod WellFormed
--- Rows over stores.
-pub mod Rows

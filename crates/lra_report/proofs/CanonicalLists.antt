@@ -10,7 +10,7 @@ use Rattle.lra_linear.specs.declared.ConKind.TheVariants as con
 use Rattle.lra_linear.specs.declared.GenKind.TheVariants as gen
 use Rattle.lra_sys.specs.Listed.{FitsKind}
 use Rattle.lra_show.specs.Shown.{report_row, report_generator}
-use Rattle.lra_findings.specs.ReportText.{is_turned}
+use Rattle.lra_show.specs.Texts.{is_turned}
 use Rattle.lra_report.specs.Spelled.{IsSpelledRow, IsSpelledGenerator}
 
 -- the first coefficient other than 0 is above 0

@@ -18,10 +18,10 @@ use Rattle.lra_linear.proofs.LowestTerms.{same_multiple, signed_quotient_is}
 use Rattle.lra_linear.proofs.Products.{row_same}
 use Rattle.lra_linear.proofs.Signs.{cancel_same}
 use Rattle.lra_linear.proofs.Ring.{v as atom, ◌⊗◌, ring}
-use Rattle.lra_findings.specs.Report.{Generator}
+use Rattle.lra_show.specs.Part.{Generator}
 use Rattle.lra_linear.specs.declared.GenKind.{GenKind}
 use Rattle.lra_linear.specs.declared.GenKind.TheVariants.{Point, Ray, Line}
-use Rattle.lra_findings.specs.ReportText.{greatest_divisor, fraction_text, coordinate_text, value_text, values_text, generator_kind_text, generator_text}
+use Rattle.lra_show.specs.Texts.{greatest_divisor, fraction_text, coordinate_text, value_text, values_text, generator_kind_text, generator_text}
 use Rattle.lra_report.specs.Spelled.{IsSpelledGenerator}
 use Rattle.lra_report.proofs.Fronts.{is_visible, Ends, first_same, rest_same, both_same}
 use Rattle.lra_report.proofs.Numbers.{IsShort, decimal_same, signed_same, short_in_range}

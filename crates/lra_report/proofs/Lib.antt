@@ -6,12 +6,14 @@ pub mod GeneratorTexts
 pub mod Lists
 pub mod LiveWords
 pub mod NameTexts
+pub mod NamesShown
 pub mod Numbers
 pub mod OneText
 pub mod RowRanges
 pub mod RowTexts
 pub mod SitePaths
 pub mod SourceTexts
+mod HiddenNameExamples
 mod SpelledExamples
 pub mod StateTexts
 pub mod TokenWords

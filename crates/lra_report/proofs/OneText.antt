@@ -8,7 +8,9 @@ use Rattle.lra_tree.specs.Labels.{Labelled, labels_of, label_at, label_place}
 use Rattle.lra_meaning.specs.Resolve.{resolve}
 use Rattle.lra_program.specs.Sites.{Site, sites_of}
 use Rattle.lra_findings.specs.Report.{PointReport, Verdict, Report}
-use Rattle.lra_findings.specs.ReportText.{text_line, place_text, path_text, shown_names, options_text, flag_text, state_text, point_text, verdict_text, report_text}
+use Rattle.lra_show.specs.Texts.{text_line}
+use Rattle.lra_findings.specs.ReportText.{place_text, path_text, options_text, flag_text, state_text, point_text, verdict_text, report_text}
+use Rattle.lra_meaning.specs.ShownNames.{shown_names}
 use Rattle.lra_meaning.specs.LiveNames.{live_names, globals_named}
 use Rattle.lra_report.specs.Listing.{calls_on, listed_point, listed_verdict, AreListed, AreJudged}
 use Rattle.lra_program.specs.Assertions.{assertions_from}

@@ -3,7 +3,7 @@ use Rattle.std.proofs.Common.{◌≡◌, ℕ, List, [], ◌∷◌, ap, subst, sy
 use Rattle.std.specs.Prelude.{codes}
 use Rattle.lra_base.specs.declared.options.Domain.TheVariants.{Poly, Box}
 use Rattle.lra_base.specs.declared.options.Options.{Options}
-use Rattle.lra_findings.specs.Report.{Part}
+use Rattle.lra_show.specs.Part.{Part}
 use Rattle.lra_findings.specs.Parts.{Tells}
 use Rattle.lra_tree.specs.Grammar.{Spells}
 use Rattle.lra_report.specs.Listing.{AreParts, IsReportOf}

@@ -5,7 +5,8 @@ use Rattle.std.proofs.lemmas.List.Elements.{All-head, All-tail}
 use Rattle.lra_linear.specs.Range.{InRange}
 use Rattle.lra_linear.specs.declared.ConKind.{ConKind}
 use Rattle.lra_show.specs.Shown.{report_row}
-use Rattle.lra_report.specs.Rows.{shown_rows, IsRowInRange}
+use Rattle.lra_show.specs.Lists.{shown_rows}
+use Rattle.lra_report.specs.Rows.{IsRowInRange}
 
 each : (zs : List ℤ) → All InRange zs → AllByRecursion InRange zs
 each [] h = tt

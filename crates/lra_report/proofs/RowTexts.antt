@@ -11,8 +11,8 @@ use Rattle.std.proofs.lemmas.Bool.Decides.{nat_tests}
 use Rattle.lra_linear.specs.Range.{InRange}
 use Rattle.lra_linear.specs.declared.ConKind.{ConKind}
 use Rattle.lra_linear.specs.declared.ConKind.TheVariants.{Ge, Eq}
-use Rattle.lra_program.specs.Rows.{Row}
-use Rattle.lra_findings.specs.ReportText.{product_text, terms_text, form_text, relation_text, row_text, is_turned, turned}
+use Rattle.lra_show.specs.Rows.{Row}
+use Rattle.lra_show.specs.Texts.{product_text, terms_text, form_text, relation_text, row_text, is_turned, turned}
 use Rattle.lra_report.specs.Spelled.{IsDirected, IsSpelledRow}
 use Rattle.lra_report.proofs.Fronts.{is_visible, IsShownName, AreShownNames, Passes, Ends, front_same, front_first, first_same, rest_same, both_same, visible_passes}
 use Rattle.lra_report.proofs.Numbers.{IsShort, decimal_first, decimal_same, signed_same, short_in_range}

@@ -2,10 +2,11 @@
 use Rattle.std.proofs.Common.{◌≡◌, ℕ, ℤ, pos, negsuc, List, [], ◌∷◌, codes, refl}
 use Rattle.std.specs.Fmt.{digits}
 use Rattle.lra_linear.specs.declared.ConKind.TheVariants.{Eq}
-use Rattle.lra_program.specs.Rows.{Row}
-use Rattle.lra_findings.specs.Report.{Generator}
+use Rattle.lra_show.specs.Rows.{Row}
+use Rattle.lra_show.specs.Part.{Generator}
 use Rattle.lra_linear.specs.declared.GenKind.TheVariants.{Point}
-use Rattle.lra_findings.specs.ReportText.{row_text, generator_text, shown_names}
+use Rattle.lra_show.specs.Texts.{row_text, generator_text}
+use Rattle.lra_meaning.specs.ShownNames.{shown_names}
 
 abbrev is_zero : ℤ → List ℤ → Row
 is_zero c cs = record { kind = Eq; constant = c; coefficients = cs }

@@ -3,11 +3,13 @@ use Rattle.std.proofs.Common.{◌≡◌, ◌≢◌, ℕ, nat_eq, false, List, []
 use Rattle.std.specs.List.{AllByRecursion, flat_map}
 use Rattle.std.proofs.lemmas.List.{append_cancel_left}
 use Rattle.std.proofs.lemmas.Bool.{eqb-false}
-use Rattle.lra_program.specs.Rows.{Row}
-use Rattle.lra_findings.specs.Report.{Generator, Part, Invariant}
-use Rattle.lra_findings.specs.ReportText.{text_line, row_text, generator_text, rows_text, generators_text, part_text, further_parts_text, state_text}
+use Rattle.lra_show.specs.Rows.{Row}
+use Rattle.lra_show.specs.Part.{Generator, Part}
+use Rattle.lra_findings.specs.Report.{Invariant}
+use Rattle.lra_show.specs.Texts.{text_line, row_text, generator_text, rows_text, generators_text, part_text}
+use Rattle.lra_findings.specs.ReportText.{further_parts_text, state_text}
 use Rattle.lra_report.specs.Spelled.{IsSpelledRow, IsSpelledGenerator, IsReadablePart}
-use Rattle.lra_report.specs.Lines.{row_line, generator_line}
+use Rattle.lra_show.specs.Lines.{row_line, generator_line}
 use Rattle.lra_report.proofs.Fronts.{AreShownNames, rest_same, both_same}
 use Rattle.lra_report.proofs.RowTexts.{row_same, row_not_true}
 use Rattle.lra_report.proofs.GeneratorTexts.{generator_same}

@@ -5,9 +5,11 @@ use Rattle.std.specs.Prelude.{◌≡◌, ℕ, suc, Bool, List, [], ◌∷◌, �
 use Rattle.std.specs.List.{AllByRecursion}
 use Rattle.lra_tree.specs.declared.trees.Identifier.{Identifier}
 use Rattle.lra_base.specs.declared.options.Options.{Options}
-use Rattle.lra_findings.specs.Report.{Generator, Part, Invariant, PointReport, Verdict, Report, IsSound}
-use Rattle.lra_program.specs.Rows.{Row}
-use Rattle.lra_findings.specs.ReportText.{CallPlace, path_text, shown_names}
+use Rattle.lra_show.specs.Part.{Generator, Part}
+use Rattle.lra_findings.specs.Report.{Invariant, PointReport, Verdict, Report, IsSound}
+use Rattle.lra_show.specs.Rows.{Row}
+use Rattle.lra_findings.specs.ReportText.{CallPlace, path_text}
+use Rattle.lra_meaning.specs.ShownNames.{shown_names}
 use Rattle.lra_findings.specs.Parts.{Tells}
 use Rattle.lra_tree.specs.Trees.{FileTree}
 use Rattle.lra_tree.specs.Labels.{Labelled, labels_of, label_at, label_place}

@@ -1,25 +1,12 @@
 -- Lists of constraints and of generators, as a report shows them.
-use Rattle.std.specs.Prelude.{ℤ, List, [], ◌∷◌, Option, Some, None}
+use Rattle.std.specs.Prelude.{List, [], Option, Some, None}
 use Rattle.std.specs.List.{AllByRecursion}
 use Rattle.lra_linear.specs.Range.{InRange}
-use Rattle.lra_linear.specs.declared.ConKind.{ConKind}
 use Rattle.lra_linear.specs.declared.GenKind.{GenKind}
 use Rattle.lra_sys.specs.Listed.{Listed, FitKinds}
-use Rattle.lra_show.specs.Shown.{report_row, report_generator}
-use Rattle.lra_program.specs.Rows.{Row}
-use Rattle.lra_findings.specs.Report.{Generator, Part}
-
--- each row with its kind
-abbrev pub shown_by : {K R : Type 0} → (List ℤ → K → R) → List (List ℤ) → List K → List R
-shown_by show [] kinds = []
-shown_by show (r ∷ rows) [] = []
-shown_by show (r ∷ rows) (k ∷ kinds) = show r k ∷ shown_by show rows kinds
-
-abbrev pub shown_rows : List (List ℤ) → List ConKind → List Row
-shown_rows rows kinds = shown_by report_row rows kinds
-
-abbrev pub shown_generators : List (List ℤ) → List GenKind → List Generator
-shown_generators rows kinds = shown_by report_generator rows kinds
+use Rattle.lra_show.specs.Rows.{Row}
+use Rattle.lra_show.specs.Lists.{shown_generators}
+use Rattle.lra_show.specs.Part.{Generator, Part}
 
 -- none where there is no list
 abbrev pub optional_generators : Option (Listed GenKind) → List Generator

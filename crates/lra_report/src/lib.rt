@@ -4,6 +4,7 @@
 #![tactic(auto)]
 
 mod law;
+mod names;
 mod part;
 mod path;
 mod refusal;
@@ -11,8 +12,9 @@ mod report;
 mod writing;
 
 pub use law::one_text;
+pub use names::names_at;
 pub use part::Part;
 pub use path::{CallPlace, path_text};
 pub use refusal::refusal_text;
 pub use report::{Point, PointReport, Report, Verdict};
-pub use writing::{push_counts, push_flag, push_generators, push_rows, text};
+pub use writing::{push_counts, push_flag, text};

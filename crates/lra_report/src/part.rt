@@ -2,8 +2,8 @@
 
 ghost use Rattle.std.specs.Prelude.{◌≡◌, [], MatchOption, length};
 ghost use Rattle.lra_sys.specs.Listed.{FitKinds};
-ghost use Rattle.lra_report.specs.Rows.{shown_rows, shown_generators, optional_generators, FitOptionally};
-ghost use Rattle.lra_report.specs.Rows.{IsPartInRange};
+ghost use Rattle.lra_show.specs.Lists.{shown_rows, shown_generators};
+ghost use Rattle.lra_report.specs.Rows.{optional_generators, FitOptionally, IsPartInRange};
 
 use lra_sys::{ConSys, GenSys};
 use std::marker::Model;
@@ -25,10 +25,11 @@ impl Drop for Part {
 }
 
 impl Model for Part {
-    ghost use Rattle.lra_findings.specs.Report as report;
-    ghost use Rattle.lra_report.specs.Rows.{shown_rows, optional_generators, FitOptionally};
+    ghost use Rattle.lra_show.specs.Part as shown;
+    ghost use Rattle.lra_show.specs.Lists.{shown_rows};
+    ghost use Rattle.lra_report.specs.Rows.{optional_generators, FitOptionally};
 
-    ghost Value = { report.Part };
+    ghost Value = { shown.Part };
 
     ghost view = { λ p. record {
       rows = shown_rows p.rows.rows p.rows.kinds;

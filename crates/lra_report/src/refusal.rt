@@ -1,7 +1,8 @@
 //! The text of a source's refusal.
 ghost use Rattle.std.specs.Prelude.{◌≡◌, ◌++◌, codes, IfOk, OnOk, string_bytes};
 ghost use Rattle.std.specs.Fmt.{decimal};
-ghost use Rattle.lra_findings.specs.ReportText.{text_line, place_text};
+ghost use Rattle.lra_show.specs.Texts.{text_line};
+ghost use Rattle.lra_findings.specs.ReportText.{place_text};
 ghost use Rattle.lra_findings.specs.RefusalText.{refusal_text};
 
 use lra_base::{Place, Refusal};

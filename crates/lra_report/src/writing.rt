@@ -1,112 +1,21 @@
 //! The text of a report.
 
-ghost use Rattle.std.specs.Prelude.{◌≡◌, ◌++◌, ◌∷◌, [], ◌<◌, map, OnOk, IfOk, string_bytes, length, codes};
+ghost use Rattle.std.specs.Prelude.{◌≡◌, ◌++◌, map, OnOk, IfOk, string_bytes};
 ghost use Rattle.std.specs.List.{flat_map};
-ghost use Rattle.lra_sys.specs.Listed.{FitsKind, FitKinds};
-ghost use Rattle.lra_show.specs.Shown.{report_row, report_generator};
+ghost use Rattle.lra_show.specs.Texts.{part_text};
 ghost use Rattle.lra_findings.specs.ReportText as written;
-ghost use Rattle.lra_report.specs.Rows.{shown_rows, shown_generators};
 ghost use Rattle.lra_report.specs.View.{point_report_of, verdict_of, report_of, heading_text};
-ghost use Rattle.lra_report.specs.Lines.{row_line, generator_line, counts_line};
+ghost use Rattle.lra_report.specs.Lines.{counts_line};
 
 use crate::part::Part;
 use crate::report::{PointReport, Report, Verdict};
 use lra_base::{Options, Place};
-use lra_row::Row;
-use lra_show::{Names, generator_text, row_text};
-use lra_sys::{ConKind, ConSys, GenKind, GenSys};
+use lra_show::{Names, push_generators, push_rows};
 use std::alloc::{AllocError, Global};
-
-/// Appends the line of a row.
-fn push_row(
-    text: &mut String,
-    alloc: Global,
-    row: &Row,
-    kind: ConKind,
-    names: &Names,
-) -> Result<(), AllocError>
-    ensures { OnOk result (string_bytes text.new ≡ string_bytes text.old ++
-        row_line names.now (report_row row.now kind)) }
-{
-    let shown = row_text(alloc, row, kind, names)?;
-    let shown = shown.as_str();
-    writeln!(text, "  row {shown}")
-}
-
-/// Appends the lines of all rows.
-fn push_each_row(
-    text: &mut String,
-    alloc: Global,
-    rows: &[Row],
-    kinds: &[ConKind],
-    names: &Names,
-) -> Result<(), AllocError>
-    requires { length kinds.now ≡ length rows.now }
-    ensures { OnOk result (string_bytes text.new ≡ string_bytes text.old ++
-        flat_map (row_line names.now) (shown_rows rows.now kinds.now)) }
-{
-    for (index, row) in rows.iter().enumerate() {
-        push_row(text, alloc, row, kinds[index], names)?;
-    }
-    Ok(())
-}
-
-/// Appends the lines of the rows, or one that says that there is none.
-pub fn push_rows(
-    text: &mut String,
-    alloc: Global,
-    rows: &ConSys,
-    names: &Names,
-) -> Result<(), AllocError>
-    ensures { OnOk result (string_bytes text.new ≡ string_bytes text.old ++
-        written.rows_text names.now (shown_rows rows.now.rows rows.now.kinds)) }
-{
-    if rows.rows().is_empty() {
-        writeln!(text, "  row true")
-    } else {
-        push_each_row(text, alloc, rows.rows(), rows.kinds(), names)
-    }
-}
-
-/// Appends the line of a generator.
-fn push_generator(
-    text: &mut String,
-    alloc: Global,
-    row: &Row,
-    kind: GenKind,
-    names: &Names,
-) -> Result<(), AllocError>
-    requires { FitsKind kind row.now }
-    ensures { OnOk result (string_bytes text.new ≡ string_bytes text.old ++
-        generator_line names.now (report_generator row.now kind)) }
-{
-    let shown = generator_text(alloc, row, kind, names)?;
-    let shown = shown.as_str();
-    writeln!(text, "  gen {shown}")
-}
-
-/// Appends the lines of the generators.
-pub fn push_generators(
-    text: &mut String,
-    alloc: Global,
-    rows: &[Row],
-    kinds: &[GenKind],
-    names: &Names,
-) -> Result<(), AllocError>
-    requires length { length kinds.now ≡ length rows.now }
-    requires fit { FitKinds rows.now kinds.now }
-    ensures { OnOk result (string_bytes text.new ≡ string_bytes text.old ++
-        flat_map (generator_line names.now) (shown_generators rows.now kinds.now)) }
-{
-    for (index, row) in rows.iter().enumerate() {
-        push_generator(text, alloc, row, kinds[index], names)?;
-    }
-    Ok(())
-}
 
 /// Appends the lines of a part.
 fn push_part(text: &mut String, alloc: Global, part: &Part, names: &Names) -> Result<(), AllocError>
-    ensures { OnOk result (string_bytes text.new ≡ string_bytes text.old ++ written.part_text names.now part.now) }
+    ensures { OnOk result (string_bytes text.new ≡ string_bytes text.old ++ part_text names.now part.now) }
 {
     push_rows(text, alloc, part.rows(), names)?;
     match part.generators() {

@@ -1,5 +1,5 @@
+pub mod Lists
 pub mod LowestTerms
-pub mod NamesShown
 pub mod Terms
 pub mod RowTexts
 pub mod Values

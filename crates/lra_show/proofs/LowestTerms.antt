@@ -8,7 +8,7 @@ use Rattle.std.proofs.lemmas.Nat.{le-div}
 use Rattle.std.proofs.lemmas.Nat.Gcd.{mod-eq-zero_of_dvd, dvd_of_mod-eq-zero, le_from_IsGcd, le_of_dvd}
 use Rattle.std.proofs.Math.Nat.{pos_of_dvd_of_pos}
 use Rattle.std.proofs.lemmas.Bool.{eqb-true, eq-eqb, ne_eqb}
-use Rattle.lra_findings.specs.ReportText.{greatest_divisor, coordinate_text, fraction_text}
+use Rattle.lra_show.specs.Texts.{greatest_divisor, coordinate_text, fraction_text}
 
 choice : (a b : Bool) (x rest g : ℕ) → (a ≡ true → b ≡ true → x ≡ g) → ((a ≡ true → b ≡ true → ⊥) → rest ≡ g) → (if a then (if b then x else rest) else rest) ≡ g
 choice true true x rest g divides not_yet = divides refl refl

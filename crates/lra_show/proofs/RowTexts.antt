@@ -4,7 +4,7 @@ use Rattle.std.specs.Fmt.{signed_decimal}
 use Rattle.std.proofs.lemmas.List.{append_assoc}
 use Rattle.lra_linear.specs.Vectors.{entry}
 use Rattle.lra_linear.specs.declared.ConKind.{ConKind}
-use Rattle.lra_findings.specs.ReportText.{form_text, is_turned, relation_text, row_text, turned}
+use Rattle.lra_show.specs.Texts.{form_text, is_turned, relation_text, row_text, turned}
 use Rattle.lra_show.specs.Shown.{report_row}
 
 pub no_entry : (row : List ℤ) → length row ≡ 0 → entry row 0 ≡ pos 0

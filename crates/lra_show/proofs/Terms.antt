@@ -1,5 +1,5 @@
 -- Terms of a row, one at a time.
-use Rattle.std.proofs.Common.{codes, int_cmp, inl, inr, ◌⊎◌, ◌&&◌, ◌-◌, min, arith, ◌≡◌, ◌<◌, ◌≤◌, ◌+◌, ℕ, zero, suc, ℤ, pos, negsuc, Bool, true, false, List, [], ◌∷◌, ◌++◌, length, drop, map, get_or}
+use Rattle.std.proofs.Common.{codes, int_cmp, inl, inr, ◌⊎◌, ◌-◌, min, arith, ◌≡◌, ◌<◌, ◌≤◌, ◌+◌, ℕ, zero, suc, ℤ, pos, negsuc, Bool, true, false, List, [], ◌∷◌, ◌++◌, length, drop, map, get_or}
 use Rattle.std.proofs.Common.{add-one, refl, ap, sym, ◌∙◌, append_assoc, append-nil}
 use Rattle.std.specs.declared.cmp.Ordering.TheVariants.{Less, Equal, Greater}
 use Rattle.std.proofs.lemmas.List.{drop_all}
@@ -9,9 +9,8 @@ use Rattle.std.proofs.lemmas.Int.{ints}
 use Rattle.std.specs.Cmp.{int_cmp_is}
 use Rattle.lra_linear.specs.Vectors.{entry}
 use Rattle.lra_row.proofs.RowLemmas.{entry_at}
-use Rattle.lra_findings.specs.ReportText.{is_turned, turned, terms_text, product_text}
-use Rattle.lra_program.specs.Value.{is_zero}
-use Rattle.lra_show.specs.Shown.{rest_text}
+use Rattle.lra_show.specs.Texts.{is_turned, turned, terms_text, product_text}
+use Rattle.lra_show.specs.Shown.{rest_text, is_first_behind}
 
 pub drop_entry : (cs : List ℤ) (j : ℕ) → j < length cs → drop j cs ≡ entry cs j ∷ drop (j + 1) cs
 drop_entry cs j h = rw (entry_at, add-one) (drop-cons cs j (pos 0) h)
@@ -57,7 +56,7 @@ terms_none false [] = refl
 terms_none false (c ∷ cs) = refl
 
 joined : (first : Bool) (c : ℤ) (cs : List ℤ) (n : List ℕ) (ns : List (List ℕ)) →
-    rest_text first (c ∷ cs) (n ∷ ns) ≡ rest_text first (c ∷ []) (n ∷ []) ++ rest_text (first && is_zero c) cs ns
+    rest_text first (c ∷ cs) (n ∷ ns) ≡ rest_text first (c ∷ []) (n ∷ []) ++ rest_text (is_first_behind first c) cs ns
 joined true (pos zero) cs n ns = refl
 joined true (pos (suc k)) cs n ns = ap (λ t. t ++ terms_text cs ns) (sym (append-nil (product_text (suc k) n)))
 joined true (negsuc k) cs n ns = ap (λ t. t ++ terms_text cs ns) (sym (append-nil (product_text (suc k) n)))
@@ -67,7 +66,7 @@ joined false (negsuc k) cs n ns = ap (λ t. t ++ terms_text cs ns) (sym (append-
 
 pub term_step : {A : Type 0} (f : A → List ℕ) (t0 t1 all : List ℕ) (first next : Bool) (cs : List ℤ) (names : List A) (turn : Bool) (j : ℕ) (c : ℤ) (x : A) →
     t0 ++ rest_text first (map (turned turn) (drop (j + 1) cs)) (map f (drop j names)) ≡ all → c ≡ turned turn (entry cs (j + 1)) → x ≡ get_or names j x → j + 1 < length cs → j < length names →
-    t1 ≡ t0 ++ rest_text first (c ∷ []) (f x ∷ []) → next ≡ (first && is_zero c) →
+    t1 ≡ t0 ++ rest_text first (c ∷ []) (f x ∷ []) → next ≡ (is_first_behind first c) →
     t1 ++ rest_text next (map (turned turn) (drop (j + 1 + 1) cs)) (map f (drop (j + 1) names)) ≡ all
 term_step f t0 t1 all first next cs names turn j c x before is name inside named written flag =
     let rest = map (turned turn) (drop (j + 1 + 1) cs) in
@@ -77,7 +76,7 @@ term_step f t0 t1 all first next cs names turn j c x before is name inside named
     ap (λ k. f x ∷ map f (drop k names)) (sym (add-one j)) in
     ap (λ t. t ++ rest_text next rest later) written
     ∙ ap (λ b. (t0 ++ rest_text first (c ∷ []) (f x ∷ [])) ++ rest_text b rest later) flag
-    ∙ append_assoc t0 (rest_text first (c ∷ []) (f x ∷ [])) (rest_text (first && is_zero c) rest later)
+    ∙ append_assoc t0 (rest_text first (c ∷ []) (f x ∷ [])) (rest_text (is_first_behind first c) rest later)
     ∙ ap (λ t. t0 ++ t) (sym (joined first c rest (f x) later))
     ∙ ap (λ ns. t0 ++ rest_text first (c ∷ rest) ns) (sym variables)
     ∙ ap (λ zs. t0 ++ rest_text first zs (map f (drop j names))) (sym coefficients)

@@ -2,9 +2,9 @@
 use Rattle.std.proofs.Common.{codes, min, ◌≡◌, ◌<◌, ◌≤◌, ◌+◌, ◌-◌, ℕ, ℤ, List, [], ◌∷◌, ◌++◌, length, drop, map, get_or, refl, ap, sym, ◌∙◌, append_assoc, append-nil, ◌⊎◌, inl, inr}
 use Rattle.std.proofs.lemmas.List.{drop_all}
 use Rattle.lra_linear.specs.Vectors.{entry}
-use Rattle.lra_findings.specs.ReportText.{values_text}
+use Rattle.lra_show.specs.Texts.{values_text}
 use Rattle.lra_show.proofs.Terms.{drop_entry, min_cases}
-use Rattle.lra_show.proofs.NamesShown.{drop_front}
+use Rattle.lra_show.proofs.Lists.{drop_front}
 
 pub value_step : {A : Type 0} (f : A → List ℕ) (value : ℤ → List ℕ) (t0 t1 t2 all : List ℕ) (zs : List ℤ) (names : List A) (j : ℕ) (x : A) →
     t0 ++ values_text value (map f (drop j names)) (drop (j + 1) zs) ≡ all → x ≡ get_or names j x → j < length names → j + 1 < length zs →

@@ -1,10 +1,10 @@
 -- Rows of constraints and of generators, as a report shows them.
-use Rattle.std.specs.Prelude.{ℕ, ℤ, pos, nat_abs, Bool, true, false, List, [], ◌∷◌}
+use Rattle.std.specs.Prelude.{ℕ, zero, suc, ℤ, pos, negsuc, nat_abs, Bool, true, false, List, [], ◌∷◌}
 use Rattle.lra_linear.specs.declared.ConKind.{ConKind}
 use Rattle.lra_linear.specs.declared.GenKind.{GenKind}
-use Rattle.lra_program.specs.Rows.{Row}
-use Rattle.lra_findings.specs.Report.{Generator}
-use Rattle.lra_findings.specs.ReportText.{form_text, terms_text}
+use Rattle.lra_show.specs.Rows.{Row}
+use Rattle.lra_show.specs.Part.{Generator}
+use Rattle.lra_show.specs.Texts.{form_text, terms_text}
 
 -- the constant stands in column 0
 abbrev pub report_row : List ℤ → ConKind → Row
@@ -15,6 +15,12 @@ report_row (c ∷ cs) kind = record { kind = kind; constant = c; coefficients = 
 abbrev pub report_generator : List ℤ → GenKind → Generator
 report_generator [] kind = record { kind = kind; divisor = 0; numbers = [] }
 report_generator (d ∷ zs) kind = record { kind = kind; divisor = nat_abs d; numbers = zs }
+
+-- whether the next term is the first, behind this coefficient
+abbrev pub is_first_behind : Bool → ℤ → Bool
+is_first_behind first (pos zero) = first
+is_first_behind first (pos (suc n)) = false
+is_first_behind first (negsuc n) = false
 
 -- the terms from a coefficient on, where none or some stand before them
 abbrev pub rest_text : Bool → List ℤ → List (List ℕ) → List ℕ

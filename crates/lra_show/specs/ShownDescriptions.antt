@@ -5,8 +5,8 @@ use Rattle.lra_linear.specs.Kinds.{constraint_kind}
 use Rattle.lra_linear.specs.Vectors.{entry}
 use Rattle.lra_linear.specs.declared.GenKind.{GenKind}
 use Rattle.lra_linear.specs.declared.GenKind.TheVariants as gen
-use Rattle.lra_program.specs.Rows.{Row}
-use Rattle.lra_findings.specs.Report.{Generator}
+use Rattle.lra_show.specs.Rows.{Row}
+use Rattle.lra_show.specs.Part.{Generator}
 use Rattle.lra_show.specs.Shown.{report_row, report_generator}
 
 -- a line, or what its column 0 tells: a point's is above 0

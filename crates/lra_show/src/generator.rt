@@ -5,7 +5,7 @@ ghost use Rattle.std.specs.Prelude.{string_bytes, length, codes};
 ghost use Rattle.lra_linear.specs.Range.{InRange};
 ghost use Rattle.lra_linear.specs.Vectors.{entry};
 ghost use Rattle.lra_sys.specs.Listed.{FitsKind};
-ghost use Rattle.lra_findings.specs.ReportText as report;
+ghost use Rattle.lra_show.specs.Texts as report;
 ghost use Rattle.lra_show.specs.Shown.{report_generator};
 
 use crate::names::Names;

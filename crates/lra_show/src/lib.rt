@@ -1,10 +1,12 @@
-//! Texts of rows, of generators and of names, as a report writes them.
+//! Texts of rows, of generators and of their lists, over names of variables.
 #![tactic(auto)]
 
 mod generator;
+mod lines;
 mod names;
 mod row;
 
 pub use generator::{generator_text, push_fraction};
-pub use names::{Names, names_at};
+pub use lines::{push_generators, push_rows};
+pub use names::Names;
 pub use row::row_text;

@@ -1,12 +1,11 @@
 //! The text of a constraint.
 
 ghost use Rattle.std.specs.Prelude.{◌≡◌, ◌≢◌, ◌++◌, ◌<◌, ◌∷◌, [], ℤ, pos, suc, map, drop, OnOk, IfOk, string_bytes};
-ghost use Rattle.std.specs.Prelude.{length, not, unsigned_abs, ◌&&◌};
+ghost use Rattle.std.specs.Prelude.{length, not, unsigned_abs};
 ghost use Rattle.lra_linear.specs.Range.{InRange};
 ghost use Rattle.lra_linear.specs.Vectors.{entry};
-ghost use Rattle.lra_findings.specs.ReportText as report;
-ghost use Rattle.lra_program.specs.Value.{is_zero};
-ghost use Rattle.lra_show.specs.Shown.{report_row, rest_text};
+ghost use Rattle.lra_show.specs.Texts as report;
+ghost use Rattle.lra_show.specs.Shown.{report_row, rest_text, is_first_behind};
 
 use crate::names::Names;
 use lra_row::Row;
@@ -44,7 +43,7 @@ fn push_coefficient(
 ) -> Result<bool, AllocError>
     ensures written { OnOk result (string_bytes text.new ≡
         string_bytes text.old ++ rest_text is_first (coefficient ∷ []) (name.now ∷ [])) }
-    ensures next { IfOk result (λ next. next ≡ (is_first && is_zero coefficient)) }
+    ensures next { IfOk result (λ next. next ≡ is_first_behind is_first coefficient) }
 {
     if coefficient == 0 {
         return Ok(is_first);
@@ -75,7 +74,8 @@ fn push_column(
     ensures written { OnOk result (string_bytes text.new ≡
         string_bytes text.old ++ rest_text is_first (report.turned is_turned (entry row.now column) ∷ [])
         (name.now ∷ [])) }
-    ensures next { IfOk result (λ next. next ≡ (is_first && is_zero (report.turned is_turned (entry row.now column)))) }
+    ensures next { IfOk result (λ next. next ≡
+        is_first_behind is_first (report.turned is_turned (entry row.now column))) }
 {
     let coefficient = turned(is_turned, row.get(column));
     push_coefficient(text, is_first, coefficient, name)

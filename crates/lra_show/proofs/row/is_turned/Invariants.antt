@@ -1,5 +1,5 @@
 use Rattle.std.proofs.Common.{◌≡◌, drop}
-use Rattle.lra_findings.specs.ReportText.{is_turned}
+use Rattle.lra_show.specs.Texts.{is_turned}
 use Rattle.lra_show.proofs.row.is_turned.Given as goal
 
 abbrev pub invariant-loop-column : goal.invariant-loop-column

@@ -1,5 +1,5 @@
 use Rattle.std.proofs.Common.{◌≡◌, ◌+◌, ◌++◌, drop, map, string_bytes}
-use Rattle.lra_findings.specs.ReportText.{form_text, turned}
+use Rattle.lra_show.specs.Texts.{form_text, turned}
 use Rattle.lra_show.specs.Shown.{rest_text}
 use Rattle.lra_show.proofs.row.push_form.Given as goal
 

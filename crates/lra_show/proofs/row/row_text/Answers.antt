@@ -4,7 +4,7 @@ use Rattle.std.specs.Int.{w128, cast_signed}
 use Rattle.std.proofs.lemmas.Int.{to_z-of_z}
 use Rattle.lra_linear.specs.Vectors.{entry}
 use Rattle.lra_linear.specs.declared.ConKind.{ConKind}
-use Rattle.lra_findings.specs.ReportText.{relation_text}
+use Rattle.lra_show.specs.Texts.{relation_text}
 use Rattle.lra_show.proofs.RowTexts.{no_entry, pieces_make}
 use Rattle.lra_show.proofs.row.row_text.Goals as goal
 use Rattle.lra_show.proofs.row.row_text.Goals.{in-Eq-default, in-Ge-true, in-Ge-false, then-width-gt0, else-width-gt0}

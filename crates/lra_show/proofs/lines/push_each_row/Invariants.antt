@@ -1,8 +1,8 @@
 use Rattle.std.proofs.Common.{◌≡◌, ◌++◌, drop, string_bytes}
 use Rattle.std.specs.List.{flat_map}
-use Rattle.lra_report.specs.Rows.{shown_rows}
-use Rattle.lra_report.specs.Lines.{row_line}
-use Rattle.lra_report.proofs.writing.push_each_row.Given as goal
+use Rattle.lra_show.specs.Lists.{shown_rows}
+use Rattle.lra_show.specs.Lines.{row_line}
+use Rattle.lra_show.proofs.lines.push_each_row.Given as goal
 
 abbrev pub invariant-loop-index : goal.invariant-loop-index
 invariant-loop-index l =

@@ -1,11 +1,10 @@
 -- Goals of `push_each_row`: appends the lines of all rows.
 use Rattle.std.proofs.Common.{arith, get_or}
 use Rattle.lra_linear.specs.declared.ConKind.TheVariants as con
-use Rattle.lra_show.proofs.NamesShown.{drop_front}
+use Rattle.lra_show.proofs.Lists.{drop_front, drop_at, row_step, rows_end}
 use Rattle.lra_show.specs.Shown.{report_row}
-use Rattle.lra_report.specs.Lines.{row_line}
-use Rattle.lra_report.proofs.Lists.{drop_at, row_step, rows_end}
-use Rattle.lra_report.proofs.writing.push_each_row.Goals as goal
+use Rattle.lra_show.specs.Lines.{row_line}
+use Rattle.lra_show.proofs.lines.push_each_row.Goals as goal
 
 pub loop-index-preserved : goal.loop-index-preserved
 loop-index-preserved c =

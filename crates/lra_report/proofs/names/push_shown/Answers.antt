@@ -1,8 +1,8 @@
 -- Goals of `push_shown`: adds the text of a name that so many newer variables of the name hide.
 use Rattle.std.proofs.Common.{◌≡◌, ◌∙◌}
-use Rattle.lra_findings.specs.ReportText.{shown_name}
-use Rattle.lra_show.proofs.NamesShown.{hidden_name}
-use Rattle.lra_show.proofs.names.push_shown.Goals as goal
+use Rattle.lra_meaning.specs.ShownNames.{shown_name}
+use Rattle.lra_report.proofs.NamesShown.{hidden_name}
+use Rattle.lra_report.proofs.names.push_shown.Goals as goal
 
 pub returns : goal.returns
 returns c =

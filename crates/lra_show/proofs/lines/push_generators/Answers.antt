@@ -1,11 +1,10 @@
 -- Goals of `push_generators`: appends the lines of the generators.
 use Rattle.std.proofs.Common.{arith, get_or}
 use Rattle.lra_linear.specs.declared.GenKind.TheVariants as gen
-use Rattle.lra_show.proofs.NamesShown.{drop_front}
+use Rattle.lra_show.proofs.Lists.{drop_front, drop_at, row_step, rows_end, first_fits, further_fit}
 use Rattle.lra_show.specs.Shown.{report_generator}
-use Rattle.lra_report.specs.Lines.{generator_line}
-use Rattle.lra_report.proofs.Lists.{drop_at, row_step, rows_end, first_fits, further_fit}
-use Rattle.lra_report.proofs.writing.push_generators.Goals as goal
+use Rattle.lra_show.specs.Lines.{generator_line}
+use Rattle.lra_show.proofs.lines.push_generators.Goals as goal
 
 pub push_generator-requires : goal.push_generator-requires
 push_generator-requires c =

@@ -1,17 +1,15 @@
 -- Names as a report shows them, one at a time.
-use Rattle.std.proofs.Common.{codes, count_by, bytes_eq, ◌≡◌, ◌<◌, ◌≤◌, ◌+◌, ℕ, zero, suc, List, [], ◌∷◌, ◌++◌, length, drop, take, ◌-◌, map, get_or, add-one, refl, ap, sym, ◌∙◌, append_assoc}
+use Rattle.std.proofs.Common.{codes, count_by, bytes_eq, ◌≡◌, ◌<◌, ◌≤◌, ◌+◌, ℕ, zero, suc, List, [], ◌∷◌, ◌++◌, length, drop, take, ◌-◌, map, get_or, refl, ap, sym, ◌∙◌, append_assoc}
 use Rattle.std.proofs.Common.{append-nil}
 use Rattle.std.specs.Fmt.{decimal}
 use Rattle.std.proofs.lemmas.List.{drop_all, length-drop}
-use Rattle.std.proofs.Math.Seq.{drop-cons, take-length}
-use Rattle.lra_findings.specs.ReportText.{shown_name, shown_names}
+use Rattle.std.proofs.Math.Seq.{take-length}
+use Rattle.lra_meaning.specs.ShownNames.{shown_name, shown_names}
+use Rattle.lra_show.proofs.Lists.{drop_front}
 
 pub hidden_name : (k : ℕ) (name : List ℕ) → ¬ (k ≡ 0) → name ++ (codes "~" ++ decimal k) ≡ shown_name k name
 hidden_name zero name h = absurd (h refl)
 hidden_name (suc k) name h = sym (append_assoc name (codes "~") (decimal (suc k)))
-
-pub drop_front : {A : Type 0} (names : List A) (j : ℕ) (x : A) → x ≡ get_or names j x → j < length names → drop j names ≡ x ∷ drop (j + 1) names
-drop_front names j x is h = drop-cons names j x h ∙ ap (λ y. y ∷ drop (suc j) names) (sym is) ∙ ap (λ k. x ∷ drop k names) (sym (add-one j))
 
 -- a rest is sliced by its own length
 pub rest_whole : {A : Type 0} (names : List A) (d : ℕ) → take (length names - d) (drop d names) ≡ drop d names

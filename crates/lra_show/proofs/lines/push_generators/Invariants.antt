@@ -1,9 +1,9 @@
 use Rattle.std.proofs.Common.{◌≡◌, ◌++◌, drop, string_bytes}
 use Rattle.std.specs.List.{flat_map}
 use Rattle.lra_sys.specs.Listed.{FitKinds}
-use Rattle.lra_report.specs.Rows.{shown_generators}
-use Rattle.lra_report.specs.Lines.{generator_line}
-use Rattle.lra_report.proofs.writing.push_generators.Given as goal
+use Rattle.lra_show.specs.Lists.{shown_generators}
+use Rattle.lra_show.specs.Lines.{generator_line}
+use Rattle.lra_show.proofs.lines.push_generators.Given as goal
 
 abbrev pub invariant-loop-index : goal.invariant-loop-index
 invariant-loop-index l = record {
