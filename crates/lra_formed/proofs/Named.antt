@@ -17,7 +17,7 @@ use Rattle.lra_meaning.specs.Resolve.{resolve_call, resolve_rvalue, resolve_give
 use Rattle.lra_meaning.specs.Resolve.{declarator_count, resolve_stmt, resolve_items, resolve_function, global_value, globals_in, resolve_parts, main_of, resolve}
 use Rattle.lra_program.specs.Sites.{Site, Event, comes, one_call_more, greatest_calls, plain_site, live_behind, rvalue_events, given_events, stmt_events, items_events, function_events, call_events}
 use Rattle.lra_program.specs.Sites.{sites_in, sites_of}
-use Rattle.lra_findings.specs.ReportText.{shown_names}
+use Rattle.lra_meaning.specs.ShownNames.{shown_names}
 use Rattle.lra_meaning.specs.LiveNames.{globals_named, live_in_call_at, live_at, names_outside, live_names}
 use Rattle.lra_meaning.proofs.LabelCounts.{count_stmt, count_declarators, count_items, count_step, count_init}
 

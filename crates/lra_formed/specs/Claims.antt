@@ -9,7 +9,7 @@ use Rattle.lra_meaning.specs.Resolve.{resolve}
 use Rattle.lra_program.specs.WellFormed.{IsWellFormed}
 use Rattle.lra_tree.specs.Labels.{labels_of}
 use Rattle.lra_program.specs.Sites.{Site, sites_of}
-use Rattle.lra_findings.specs.ReportText.{shown_names}
+use Rattle.lra_meaning.specs.ShownNames.{shown_names}
 use Rattle.lra_meaning.specs.LiveNames.{globals_named, live_names}
 use Rattle.lra_formed.specs.Literals.{HasSmallLiterals}
 
