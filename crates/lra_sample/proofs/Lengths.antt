@@ -5,7 +5,7 @@ use Rattle.std.specs.Fmt.{decimal}
 use Rattle.std.specs.List.{flat_map, range_with_len}
 use Rattle.std.proofs.lemmas.Fmt.{length-decimal-le}
 use Rattle.std.proofs.lemmas.List.{length-append, length_push}
-use Rattle.lra_findings.specs.ReportText.{text_line}
+use Rattle.lra_show.specs.Texts.{text_line}
 use Rattle.lra_sample.specs.Draws.{draw, state_behind}
 use Rattle.lra_sample.specs.Sample.{statements_text, block_from, block_line, block_lines, sample_source}
 use Rattle.lra_sample.specs.declared.block.Kind.{Kind}

@@ -3,7 +3,7 @@ use Rattle.std.proofs.Common.{◌≡◌, ℕ, false, List, [], ◌∷◌, ◌++�
 use Rattle.lra_tree.specs.declared.tokens.Kind.TheVariants.{Number}
 use Rattle.lra_tree.specs.declared.tokens.Mark.TheVariants as mark
 use Rattle.lra_tree.specs.Lexeme.{is_word_byte}
-use Rattle.lra_findings.specs.ReportText.{text_line}
+use Rattle.lra_show.specs.Texts.{text_line}
 use Rattle.lra_sample.specs.Sample.{statements_text}
 use Rattle.lra_sample.specs.declared.block.Kind.{Kind}
 use Rattle.lra_sample.specs.declared.block.Kind.TheVariants.{Sum, Choice, Count, Input}

@@ -9,7 +9,7 @@ use Rattle.std.specs.Prelude.{codes}
 use Rattle.lra_tree.specs.Grammar.{Spells}
 use Rattle.lra_tree.specs.Tokens.{greatest_length}
 use Rattle.lra_meaning.specs.Refuse.{Accepts}
-use Rattle.lra_findings.specs.ReportText.{text_line}
+use Rattle.lra_show.specs.Texts.{text_line}
 use Rattle.lra_sample.specs.Draws.{state_behind, draw}
 use Rattle.lra_sample.specs.Sample.{statements_text, kind_of, block_from, block_line, block_lines, sample_source}
 use Rattle.lra_sample.specs.Accepted.{SamplesAreAccepted}

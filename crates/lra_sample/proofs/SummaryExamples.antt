@@ -5,7 +5,7 @@ use Rattle.std.specs.Fmt.{digits}
 use Rattle.std.specs.List.{flat_map}
 use Rattle.lra_base.specs.declared.options.Options.{Options}
 use Rattle.lra_findings.specs.Report.{PointReport, Verdict, Report}
-use Rattle.lra_findings.specs.ReportText.{text_line}
+use Rattle.lra_show.specs.Texts.{text_line}
 use Rattle.lra_sample.specs.Summary.{summary_text}
 
 abbrev lines : List (List ℕ) → List ℕ

@@ -2,7 +2,8 @@
 use Rattle.std.specs.Prelude.{ℕ, List, length, ◌++◌, codes}
 use Rattle.std.specs.Fmt.{decimal}
 use Rattle.lra_findings.specs.Report.{Report}
-use Rattle.lra_findings.specs.ReportText.{text_line, flag_text}
+use Rattle.lra_show.specs.Texts.{text_line}
+use Rattle.lra_findings.specs.ReportText.{flag_text}
 use Rattle.lra_report.specs.Lines.{counts_line}
 use Rattle.lra_sample.specs.Sample.{sample_source}
 
