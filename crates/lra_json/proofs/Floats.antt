@@ -5,7 +5,8 @@ use Rattle.serde_json.specs.View.{items_of}
 use Rattle.serde_json.specs.Written.{has_float, items_have_float, compact_text}
 use Rattle.lra_base.specs.declared.options.Domain.{Domain}
 use Rattle.lra_base.specs.declared.options.Domain.TheVariants.{Poly, Box, Oct}
-use Rattle.lra_findings.specs.Report.{Part, PointReport, Report}
+use Rattle.lra_show.specs.Part.{Part}
+use Rattle.lra_findings.specs.Report.{PointReport, Report}
 use Rattle.lra_json.specs.ReportJson.{flag_data, part_data, point_data, verdict_data, report_data}
 
 list_without_floats : {A : Type 0} (write : A → Data) → ((x : A) → has_float (write x) ≡ false) → (xs : List A) → items_have_float (items_of (map write xs)) ≡ false

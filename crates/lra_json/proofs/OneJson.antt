@@ -19,10 +19,13 @@ use Rattle.lra_tree.specs.Labels.{Labelled, labels_of}
 use Rattle.lra_meaning.specs.Resolve.{resolve}
 use Rattle.lra_meaning.specs.LiveNames.{live_names, globals_named}
 use Rattle.lra_program.specs.Sites.{Site, sites_of}
-use Rattle.lra_program.specs.Rows.{Row}
+use Rattle.lra_show.specs.Rows.{Row}
 use Rattle.lra_program.specs.Assertions.{assertions_from}
-use Rattle.lra_findings.specs.Report.{Generator, Part, Invariant, PointReport, Verdict, Report}
-use Rattle.lra_findings.specs.ReportText.{place_text, shown_names, row_text, generator_text, proved_count, unknown_count}
+use Rattle.lra_show.specs.Part.{Generator, Part}
+use Rattle.lra_findings.specs.Report.{Invariant, PointReport, Verdict, Report}
+use Rattle.lra_findings.specs.ReportText.{place_text, proved_count, unknown_count}
+use Rattle.lra_meaning.specs.ShownNames.{shown_names}
+use Rattle.lra_show.specs.Texts.{row_text, generator_text}
 use Rattle.lra_findings.specs.Parts.{Tells}
 use Rattle.lra_report.specs.Listing.{listed_point, listed_verdict, Lists, AreListed, AreJudged, AreParts, IsFlag}
 use Rattle.lra_report.specs.Spelled.{IsSpelledRow, IsSpelledGenerator, IsReadablePart, IsReadablePoint, IsSmallFlag, AreWords}

@@ -7,9 +7,11 @@ use Rattle.lra_base.specs.declared.options.Domain.{Domain}
 use Rattle.lra_base.specs.declared.options.Domain.TheVariants.{Poly, Box, Oct}
 use Rattle.lra_base.specs.declared.options.Options.{Options}
 use Rattle.lra_base.specs.DomainNames.{domain_name}
-use Rattle.lra_program.specs.Rows.{Row}
-use Rattle.lra_findings.specs.Report.{Generator, Part, PointReport, Verdict, Report}
-use Rattle.lra_findings.specs.ReportText.{text_line, place_text, row_text, generator_text, proved_count, unknown_count}
+use Rattle.lra_show.specs.Rows.{Row}
+use Rattle.lra_show.specs.Part.{Generator, Part}
+use Rattle.lra_findings.specs.Report.{PointReport, Verdict, Report}
+use Rattle.lra_show.specs.Texts.{text_line, row_text, generator_text}
+use Rattle.lra_findings.specs.ReportText.{place_text, proved_count, unknown_count}
 
 abbrev pub natural : ℕ → Data
 natural n = number (unsigned n)

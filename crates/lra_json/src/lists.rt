@@ -4,8 +4,8 @@ ghost use Rattle.std.specs.Prelude.{◌≡◌, IfOk, length, map};
 ghost use Rattle.serde_json.specs.Data.{string};
 ghost use Rattle.serde_json.specs.View.{view};
 ghost use Rattle.lra_sys.specs.Listed.{FitKinds};
-ghost use Rattle.lra_findings.specs.ReportText as written;
-ghost use Rattle.lra_report.specs.Rows.{shown_rows, shown_generators};
+ghost use Rattle.lra_show.specs.Texts as written;
+ghost use Rattle.lra_show.specs.Lists.{shown_rows, shown_generators};
 
 use lra_row::Row;
 use lra_show::{Names, generator_text, row_text};

@@ -2,8 +2,8 @@ use Rattle.std.proofs.Common.{◌≡◌, ◌++◌, drop, map}
 use Rattle.serde_json.specs.Data.{string}
 use Rattle.serde_json.specs.View.{view}
 use Rattle.lra_sys.specs.Listed.{FitKinds}
-use Rattle.lra_findings.specs.ReportText.{generator_text}
-use Rattle.lra_report.specs.Rows.{shown_generators}
+use Rattle.lra_show.specs.Texts.{generator_text}
+use Rattle.lra_show.specs.Lists.{shown_generators}
 use Rattle.lra_json.proofs.lists.generator_values.Given as goal
 
 abbrev pub invariant-loop-index : goal.invariant-loop-index

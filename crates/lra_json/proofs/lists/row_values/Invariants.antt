@@ -1,8 +1,8 @@
 use Rattle.std.proofs.Common.{◌≡◌, ◌++◌, drop, map}
 use Rattle.serde_json.specs.Data.{string}
 use Rattle.serde_json.specs.View.{view}
-use Rattle.lra_findings.specs.ReportText.{row_text}
-use Rattle.lra_report.specs.Rows.{shown_rows}
+use Rattle.lra_show.specs.Texts.{row_text}
+use Rattle.lra_show.specs.Lists.{shown_rows}
 use Rattle.lra_json.proofs.lists.row_values.Given as goal
 
 abbrev pub invariant-loop-index : goal.invariant-loop-index
