@@ -9,7 +9,8 @@ ghost use Rattle.lra_tree.specs.Labels.{label_at, labels_of};
 ghost use Rattle.lra_meaning.specs.Resolve.{resolve};
 ghost use Rattle.lra_program.specs.Sites.{sites_of};
 ghost use Rattle.lra_meaning.specs.NameFaults.{global_names};
-ghost use Rattle.lra_findings.specs.ReportText.{shown_names, path_text};
+ghost use Rattle.lra_meaning.specs.ShownNames.{shown_names};
+ghost use Rattle.lra_findings.specs.ReportText.{path_text};
 ghost use Rattle.lra_meaning.specs.LiveNames.{globals_named, names_outside, live_names};
 ghost use Rattle.lra_report.specs.Listing.{call_at, called_at, calls_on, listed_point, listed_verdict, AreListed};
 ghost use Rattle.lra_report.specs.Listing.{Lists};
@@ -19,8 +20,8 @@ ghost use Rattle.lra_listing.specs.Given.{AreInvariants, AreVerdicts, state_of, 
 use lra_base::Options;
 use lra_meaning::Labels;
 use lra_operations::Site;
-use lra_report::{CallPlace, Part, Point, PointReport, Report, Verdict, path_text};
-use lra_show::{Names, names_at};
+use lra_report::{CallPlace, Part, Point, PointReport, Report, Verdict, names_at, path_text};
+use lra_show::Names;
 use lra_tree::{Global as Variable, Identifier, Item, Tree, Word};
 use std::alloc::{AllocError, Global};
 
@@ -144,7 +145,7 @@ fn shown_live(
     push_outside(alloc, labels, site.path.as_slice(), &mut names)?;
     let words = labels.live(alloc, site.label)?;
     push_words(&words, &mut names)?;
-    names_at(&names)
+    names_at(alloc, &names)
 }
 
 /// The path and label of a point.
