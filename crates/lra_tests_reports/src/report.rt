@@ -1,9 +1,9 @@
 //! Worked reports.
 
 use lra_base::{Domain, Options, Place};
-use lra_report::{CallPlace, Part, Point, PointReport, Report, Verdict, path_text, text};
+use lra_report::{CallPlace, Part, Point, PointReport, Report, Verdict, names_at, path_text, text};
 use lra_row::Row;
-use lra_show::{Names, names_at};
+use lra_show::Names;
 use lra_sys::{ConKind, ConSys, GenKind, GenSys};
 use std::alloc::{AllocError, Global};
 
@@ -157,7 +157,7 @@ fn both_x(alloc: Global) -> Result<Names, AllocError> {
     let mut live = Names::new(alloc);
     live.push("x")?;
     live.push("x")?;
-    names_at(&live)
+    names_at(alloc, &live)
 }
 
 /// The path of a call of `inc`.

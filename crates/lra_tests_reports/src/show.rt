@@ -4,8 +4,9 @@ ghost use Rattle.std.specs.List.{All};
 ghost use Rattle.lra_linear.specs.Range.{InRange};
 ghost use Rattle.lra_sys.specs.Listed.{FitsKind};
 
+use lra_report::names_at;
 use lra_row::Row;
-use lra_show::{Names, generator_text, names_at, row_text};
+use lra_show::{Names, generator_text, row_text};
 use lra_sys::{ConKind, GenKind};
 use std::alloc::{AllocError, Global};
 
@@ -97,7 +98,7 @@ fn are(names: &Names, texts: &[&str]) -> bool {
 
 fn hides_names(alloc: Global) -> Result<bool, AllocError> {
     let live = names_of(alloc, &["x", "y", "x", "x"])?;
-    let shown = names_at(&live)?;
+    let shown = names_at(alloc, &live)?;
     Ok(are(&shown, &["x~2", "y", "x~1", "x"]))
 }
 
