@@ -15,11 +15,11 @@ use Rattle.lra_sys.specs.Listed.{Listed, given_by, constraints, generators, Fits
 use Rattle.lra_linear.specs.Kinds.{is_equality, is_line}
 use Rattle.lra_show.specs.Shown.{report_row, report_generator}
 use Rattle.lra_show.specs.ShownDescriptions.{generator_kind, shown_constraint, shown_generator}
-use Rattle.lra_program.specs.Rows.{Row}
-use Rattle.lra_findings.specs.Report.{Generator}
-use Rattle.lra_findings.specs.ReportText.{text_line, rows_text, generators_text, generator_text}
-use Rattle.lra_report.specs.Rows.{shown_rows, shown_generators}
-use Rattle.lra_report.specs.Lines.{generator_line}
+use Rattle.lra_show.specs.Rows.{Row}
+use Rattle.lra_show.specs.Part.{Generator}
+use Rattle.lra_show.specs.Texts.{text_line, rows_text, generators_text, generator_text}
+use Rattle.lra_show.specs.Lists.{shown_rows, shown_generators}
+use Rattle.lra_show.specs.Lines.{generator_line}
 use Rattle.lra_calc.specs.ShownSets.{variables_from, variables, empty_or, polyhedron_text, generator_at}
 
 -- ---- lists

@@ -22,9 +22,7 @@ use Rattle.lra_duality.specs.declared.inclusion.Inclusion.TheVariants as inclusi
 use Rattle.lra_duality.specs.Maxima.{IsMaximum}
 use Rattle.lra_base.specs.declared.refusals.Place.{Place}
 use Rattle.lra_tree.specs.Tokens.{place_behind, greatest_length}
-use Rattle.lra_base.specs.declared.refusals.Cause.TheVariants as cause
-use Rattle.lra_findings.specs.RefusalText.{refusal_text}
-use Rattle.lra_findings.specs.ReportText.{text_line}
+use Rattle.lra_show.specs.Texts.{text_line}
 use Rattle.lra_script.specs.ScriptText.{lines, is_skipped, words}
 use Rattle.lra_script.specs.LineForms.{Generator, given_of, line_of, Line, Dims, Make, Ask, Recipe, Con, Gen, Combine}
 use Rattle.lra_script.specs.LineForms.{Widen, Limited, Map, Forget, Question, Show, Holds, Include, Maximise}
@@ -402,6 +400,7 @@ fault_text (NotIncluded generator) = codes "NotIncluded " ++ generator
 
 -- written in place of all output
 abbrev pub refused_text : Refusal → List ℕ
-refused_text (TooLong place) = refusal_text cause.TooLong place
+refused_text (TooLong place) =
+    text_line (codes "refused 1 TooLong at " ++ decimal place.line ++ codes ":" ++ decimal place.column)
 refused_text (AtLine refused) =
     text_line (codes "refused line " ++ decimal refused.number ++ codes " " ++ fault_text refused.fault)

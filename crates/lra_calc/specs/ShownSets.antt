@@ -6,8 +6,8 @@ use Rattle.std.specs.Fmt.{decimal}
 use Rattle.lra_linear.specs.Descriptions.{Given, line}
 use Rattle.lra_linear.specs.Polyhedra.{Polyhedron}
 use Rattle.lra_show.specs.ShownDescriptions.{shown_constraint, shown_generator}
-use Rattle.lra_findings.specs.Report.{Part}
-use Rattle.lra_findings.specs.ReportText.{text_line, part_text, generator_text, fraction_text}
+use Rattle.lra_show.specs.Part.{Part}
+use Rattle.lra_show.specs.Texts.{text_line, part_text, generator_text, fraction_text}
 use Rattle.lra_duality.specs.declared.inclusion.Inclusion.{Inclusion}
 use Rattle.lra_duality.specs.declared.inclusion.Inclusion.TheVariants as inclusion
 use Rattle.lra_duality.specs.declared.maximum.Maximum.{Maximum}

@@ -2,12 +2,11 @@
 
 ghost use Rattle.std.specs.Prelude.{◌≡◌, ◌++◌, codes, IfOk, OnOk, string_bytes};
 ghost use Rattle.std.specs.Fmt.{decimal};
-ghost use Rattle.lra_findings.specs.ReportText.{text_line};
+ghost use Rattle.lra_show.specs.Texts.{text_line};
 ghost use Rattle.lra_calc.specs.Script as script;
 ghost use Rattle.lra_calc.specs.Views.{fault_of, refusal_of};
 
-use lra_base::{Cause, Place, Refusal};
-use lra_report::refusal_text;
+use lra_base::Place;
 use std::alloc::{AllocError, AllocFailed, Global};
 use std::fmt::Write;
 
@@ -84,6 +83,22 @@ impl Fault {
     }
 }
 
+fn push_too_long(text: &mut String, place: Place) -> Result<(), AllocError>
+    ensures { OnOk result (string_bytes text.new ≡ string_bytes text.old
+        ++ script.refused_text (script.TooLong place)) }
+{
+    let Place { line, column } = place;
+    writeln!(text, "refused 1 TooLong at {line}:{column}")
+}
+
+fn too_long_text(alloc: Global, place: Place) -> Result<String, AllocError>
+    ensures { IfOk result (λ text. string_bytes text ≡ script.refused_text (script.TooLong place)) }
+{
+    let mut text = String::new(alloc);
+    push_too_long(&mut text, place)?;
+    Ok(text)
+}
+
 fn push_line(text: &mut String, number: usize, fault: &str) -> Result<(), AllocError>
     ensures { OnOk result (string_bytes text.new ≡ string_bytes text.old
         ++ text_line (codes "refused line " ++ decimal number ++ codes " " ++ fault.now)) }
@@ -98,16 +113,7 @@ impl CalcRefusal {
         ensures { IfOk result (λ text. string_bytes text ≡ script.refused_text (refusal_of self.now)) }
     {
         match self {
-            CalcRefusal::TooLong(place) => {
-                let cause = Cause::TooLong;
-                refusal_text(
-                    alloc,
-                    Refusal {
-                        cause,
-                        place: *place,
-                    },
-                )
-            }
+            CalcRefusal::TooLong(place) => too_long_text(alloc, *place),
             CalcRefusal::Line { number, fault } => {
                 let fault = fault.text(alloc)?;
                 let mut text = String::new(alloc);
