@@ -14,7 +14,7 @@ use Rattle.lra_box.specs.Meaning.{box_meaning}
 use Rattle.lra_box.proofs.PartLemmas.{parts_mean}
 use Rattle.lra_base.specs.declared.options.Domain.TheVariants.{Box}
 use Rattle.lra_findings.specs.Report.{Holds}
-use Rattle.lra_findings.specs.ReportText.{is_turned}
+use Rattle.lra_show.specs.Texts.{is_turned}
 use Rattle.lra_findings.specs.Parts.{Tells}
 use Rattle.lra_report.specs.Listing.{HasWidth}
 use Rattle.lra_states.specs.Shown.{shown_part, AreDirected, ShowsRows}

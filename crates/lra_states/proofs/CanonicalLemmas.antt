@@ -1,7 +1,8 @@
 -- What a formed polyhedron shows is canonical.
 use Rattle.std.proofs.Common.{◌≡◌, List, [], ◌∷◌, refl, sym, subst}
 use Rattle.lra_base.specs.declared.options.Domain.TheVariants.{Poly}
-use Rattle.lra_findings.specs.Report.{Invariant, Part}
+use Rattle.lra_findings.specs.Report.{Invariant}
+use Rattle.lra_show.specs.Part.{Part}
 use Rattle.lra_linear.specs.Descriptions.{Given}
 use Rattle.lra_linear.specs.Formed.{IsFormed}
 use Rattle.lra_linear.specs.Polyhedra.{Polyhedron}

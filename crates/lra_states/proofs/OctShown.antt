@@ -15,7 +15,7 @@ use Rattle.lra_oct.specs.Meaning.{octagon_meaning}
 use Rattle.lra_oct.specs.Parts.{sign_of, pair_row, printed, is_equality, row_if_any, kind_row, RowsAt, rising, falling, rows_with, equal_rows, unequal_rows, octagon_system, octagon_parts}
 use Rattle.lra_oct.proofs.MeanLemmas.{stores_hold}
 use Rattle.lra_findings.specs.Report.{Holds}
-use Rattle.lra_findings.specs.ReportText.{is_turned}
+use Rattle.lra_show.specs.Texts.{is_turned}
 use Rattle.lra_findings.specs.Parts.{Tells}
 use Rattle.lra_report.specs.Listing.{HasWidth}
 use Rattle.lra_report.proofs.Every.{every_append}

@@ -15,7 +15,8 @@ use Rattle.lra_sys.specs.Listed.{Listed, constraints, generators}
 use Rattle.lra_polydom.specs.Content.{is_absurd, listed, polyhedron_parts}
 use Rattle.lra_polydom.specs.Covering.{empty_parts, parts_empty}
 use Rattle.lra_polydom.specs.Meaning.{polyhedron_meaning}
-use Rattle.lra_findings.specs.Report.{Part, Invariant}
+use Rattle.lra_show.specs.Part.{Part}
+use Rattle.lra_findings.specs.Report.{Invariant}
 use Rattle.lra_states.specs.Shown.{IsShown}
 use Rattle.lra_states.specs.Polyhedra.{shown_polyhedron, TellsPolyhedron, polyhedron_of}
 use Rattle.lra_states.proofs.SamePoints.{as_row, within_con}

@@ -22,14 +22,15 @@ use Rattle.lra_linear.specs.declared.GenKind.{GenKind}
 use Rattle.lra_linear.specs.declared.GenKind.TheVariants.{Point, Ray, Line}
 use Rattle.lra_sys.specs.Listed.{Listed, given_by, constraints, generators, FitsKind, FitKinds}
 use Rattle.lra_polydom.proofs.PartLemmas.{kind_back}
-use Rattle.lra_program.specs.Rows.{Row, RowHolds}
+use Rattle.lra_show.specs.Rows.{Row, RowHolds}
 use Rattle.lra_show.specs.Shown.{report_row, report_generator}
 use Rattle.lra_show.specs.ShownDescriptions.{generator_kind, shown_constraint, shown_generator}
-use Rattle.lra_report.specs.Rows.{shown_rows, shown_generators}
+use Rattle.lra_show.specs.Lists.{shown_rows, shown_generators}
 use Rattle.lra_report.specs.Spelled.{IsSpelledRow, IsSpelledGenerator, IsSpelledPart}
 use Rattle.lra_report.proofs.Every.{every_append}
 use Rattle.lra_report.proofs.CanonicalLists.{spelled_equality, spelled_inequality, spelled_point, spelled_ray, spelled_line}
-use Rattle.lra_findings.specs.Report.{Generator, Part, Invariant}
+use Rattle.lra_show.specs.Part.{Generator, Part}
+use Rattle.lra_findings.specs.Report.{Invariant}
 use Rattle.lra_findings.specs.Parts as parts
 use Rattle.lra_states.specs.Polyhedra.{part_if_any, shown_polyhedron, TellsPolyhedron, polyhedron_of}
 use Rattle.lra_states.proofs.RowsHold.{row_holds, row_held}

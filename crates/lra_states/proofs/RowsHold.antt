@@ -11,12 +11,13 @@ use Rattle.lra_linear.specs.Kinds.{is_equality}
 use Rattle.lra_linear.specs.declared.ConKind.{ConKind}
 use Rattle.lra_linear.specs.declared.ConKind.TheVariants.{Ge, Eq}
 use Rattle.lra_show.specs.Shown.{report_row}
-use Rattle.lra_report.specs.Rows.{shown_rows}
+use Rattle.lra_show.specs.Lists.{shown_rows}
 use Rattle.lra_report.specs.Spelled.{IsDirected}
 use Rattle.lra_domain.specs.Meaning.{Meaning}
 use Rattle.lra_domain.specs.Parts.{SomePartHolds}
-use Rattle.lra_findings.specs.Report.{Part, Holds}
-use Rattle.lra_program.specs.Rows.{RowHolds, Row}
+use Rattle.lra_show.specs.Part.{Part}
+use Rattle.lra_findings.specs.Report.{Holds}
+use Rattle.lra_show.specs.Rows.{RowHolds, Row}
 use Rattle.lra_states.specs.Shown.{shown_part, MeansValue}
 
 -- rows ---------------------------------------------------------------------------------------------------------------

@@ -10,7 +10,7 @@ use Rattle.lra_linear.specs.declared.GenKind.{GenKind}
 use Rattle.lra_linear.specs.declared.GenKind.TheVariants.{Line}
 use Rattle.lra_show.specs.Shown.{report_row, report_generator}
 use Rattle.lra_show.specs.ShownDescriptions.{generator_kind, shown_constraint, shown_generator}
-use Rattle.lra_findings.specs.Report.{Generator}
+use Rattle.lra_show.specs.Part.{Generator}
 use Rattle.lra_findings.specs.Parts.{RationalPoint, RowHoldsAt, IsWithin, IsFactor, AreFactors, IsGenerated}
 
 -- a point as a row of the lists

@@ -12,7 +12,8 @@ use Rattle.lra_set.specs.Meaning.{set_meaning}
 use Rattle.lra_base.specs.declared.options.Domain.{Domain}
 use Rattle.lra_report.specs.Listing.{HasWidth}
 use Rattle.lra_report.proofs.Every.{every_append}
-use Rattle.lra_findings.specs.Report.{Part, Invariant, Holds}
+use Rattle.lra_show.specs.Part.{Part}
+use Rattle.lra_findings.specs.Report.{Invariant, Holds}
 use Rattle.lra_findings.specs.Parts.{Tells}
 use Rattle.lra_states.specs.Canonical.{AreCanonicallyShown, IsCanonicalFor, IsCanonicalState}
 use Rattle.lra_states.specs.Shown.{IsShown, AreShown}

@@ -4,10 +4,11 @@ use Rattle.std.specs.List.{AllByRecursion}
 use Rattle.std.proofs.lemmas.List.{map-append}
 use Rattle.lra_sys.specs.Listed.{Listed}
 use Rattle.lra_linear.specs.declared.ConKind.{ConKind}
-use Rattle.lra_report.specs.Rows.{shown_rows, IsPartInRange}
+use Rattle.lra_show.specs.Lists.{shown_rows}
+use Rattle.lra_report.specs.Rows.{IsPartInRange}
 use Rattle.lra_report.proofs.Every.{every_append}
-use Rattle.lra_findings.specs.Report.{Part}
-use Rattle.lra_program.specs.Rows.{Row}
+use Rattle.lra_show.specs.Part.{Part}
+use Rattle.lra_show.specs.Rows.{Row}
 use Rattle.lra_states.specs.Shown.{shown_part}
 
 part_is : (p : Part) (y : Listed ConKind) → p.rows ≡ shown_rows y.rows y.kinds → p.generators ≡ [] → p ≡ shown_part y

@@ -3,12 +3,13 @@ use Rattle.std.specs.Prelude.{◌≡◌, ◌↔◌, ℤ, List, [], length, map}
 use Rattle.std.specs.List.{AllByRecursion, Contains}
 use Rattle.lra_sys.specs.Listed.{Listed}
 use Rattle.lra_linear.specs.declared.ConKind.{ConKind}
-use Rattle.lra_report.specs.Rows.{shown_rows}
+use Rattle.lra_show.specs.Lists.{shown_rows}
 use Rattle.lra_domain.specs.Meaning.{Meaning}
 use Rattle.lra_base.specs.declared.options.Domain.{Domain}
-use Rattle.lra_findings.specs.Report.{Part, Invariant, Holds}
+use Rattle.lra_show.specs.Part.{Part}
+use Rattle.lra_findings.specs.Report.{Invariant, Holds}
 use Rattle.lra_findings.specs.Parts.{Tells}
-use Rattle.lra_program.specs.Rows.{Row}
+use Rattle.lra_show.specs.Rows.{Row}
 use Rattle.lra_report.specs.Listing.{HasWidth}
 use Rattle.lra_report.specs.Spelled.{IsDirected}
 

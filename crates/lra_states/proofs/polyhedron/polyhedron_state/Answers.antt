@@ -6,8 +6,8 @@ use Rattle.lra_linear.specs.Range.{InRange}
 use Rattle.lra_linear.specs.declared.ConKind.{ConKind}
 use Rattle.lra_linear.specs.declared.GenKind.{GenKind}
 use Rattle.lra_sys.specs.Listed.{Listed}
-use Rattle.lra_findings.specs.Report.{Part}
-use Rattle.lra_report.specs.Rows.{shown_rows, shown_generators}
+use Rattle.lra_show.specs.Part.{Part}
+use Rattle.lra_show.specs.Lists.{shown_rows, shown_generators}
 use Rattle.lra_states.specs.Polyhedra.{shown_polyhedron, polyhedron_of}
 use Rattle.lra_states.proofs.CanonicalLemmas.{shown_canonical}
 use Rattle.lra_states.proofs.PolyhedronShown.{none_shown, some_shown, told_so, spelled_so}
