@@ -12,7 +12,7 @@ use Rattle.lra_findings.specs.Report.{PointReport, Verdict}
 use Rattle.lra_tree.specs.Labels.{Labelled}
 use Rattle.lra_program.specs.Sites.{Site, sites_of}
 use Rattle.lra_operations.specs.Agree.{point_of, Agrees}
-use Rattle.lra_findings.specs.ReportText.{shown_names}
+use Rattle.lra_meaning.specs.ShownNames.{shown_names}
 use Rattle.lra_meaning.specs.LiveNames.{live_names}
 use Rattle.lra_report.specs.Listing.{AreListed, AreJudged}
 use Rattle.lra_program.specs.Assertions.{assertions_from}
