@@ -10,7 +10,8 @@ use Rattle.lra_domain.specs.Meaning.{Meaning}
 use Rattle.lra_program.specs.Program.{Program}
 use Rattle.lra_flow.specs.Analysis.{Solves}
 use Rattle.lra_meaning.specs.Resolve.{resolve}
-use Rattle.lra_findings.specs.Report.{Invariant, Part, Holds, PointReport, Report, IsInvariant}
+use Rattle.lra_findings.specs.Report.{Invariant, Holds, PointReport, Report, IsInvariant}
+use Rattle.lra_show.specs.Part.{Part}
 use Rattle.lra_findings.specs.Parts.{Tells, HasSamePoints}
 use Rattle.lra_report.specs.Listing.{AreParts}
 use Rattle.lra_source.specs.Analysed.{IsAnalysed}
