@@ -3,11 +3,13 @@
 #![tactic(auto)]
 
 mod error;
+mod number_types;
 mod operators;
 mod options;
 mod refusals;
 
 pub use error::SourceError;
+pub use number_types::NumberType;
 pub use operators::{Comparison, Operator};
 pub use options::{Domain, Options};
 pub use refusals::{Cause, Place, Refusal};

@@ -1,6 +1,8 @@
 -- How every text of the grammar begins: with a mark, or with the end.
-use Rattle.std.proofs.Common.{◌≡◌, ℕ, ◌⊎◌, Bool, true, false, List, [], ◌∷◌, ◌++◌, ap, ◌∙◌, inl, inr}
+use Rattle.std.proofs.Common.{◌≡◌, ℕ, ◌⊎◌, Option, Some, None, List, [], ◌∷◌, ◌++◌, ap, ◌∙◌, inl, inr}
 use Rattle.lra_base.specs.declared.refusals.Place.{Place}
+use Rattle.lra_base.specs.declared.number_types.NumberType.{NumberType}
+use Rattle.lra_base.specs.declared.number_types.NumberType.TheVariants.{Long}
 use Rattle.lra_tree.specs.declared.tokens.Mark.{Mark}
 use Rattle.lra_tree.specs.declared.tokens.Mark.TheVariants as mark
 use Rattle.lra_tree.specs.declared.tokens.Kind.{Kind}
@@ -25,17 +27,17 @@ begins_front x y z e b = (b.0, b.1, b.2, b.3 ++ y, e ∙ ap (λ (w : Pieces). w 
 begins_behind : (x y z : Pieces) → z ≡ x ++ y → x ≡ [] → BeginsWithMark y → BeginsWithMark z
 begins_behind x y z e f b = (b.0, b.1, b.2, b.3, e ∙ ap (λ (w : Pieces). w ++ y) f ∙ b.4)
 
-begins_type : (z : Pieces) → IsType z → BeginsWithMark z
-begins_type z (x, y, e, s, t) = begins_front x y z e (begins_mark mark.Long 0 x s)
+begins_type : (t : NumberType) (z : Pieces) → IsType t z → BeginsWithMark z
+begins_type Long z (x, y, e, s, t) = begins_front x y z e (begins_mark mark.Long 0 x s)
 
-begins_head : (b : Bool) (name : Identifier) (z : Pieces) → IsHead b name z → BeginsWithMark z
-begins_head true name z (inl (w, (x, y, e, s, t))) = begins_front x y z e (begins_mark mark.Int 0 x s)
-begins_head true name z (inr (x, y, e, s, t)) = begins_front x y z e (begins_type x s)
-begins_head false name z (x, y, e, s, t) = begins_front x y z e (begins_mark mark.Void 0 x s)
+begins_head : (t : Option NumberType) (name : Identifier) (z : Pieces) → IsHead t name z → BeginsWithMark z
+begins_head (Some Long) name z (inl (w, (x, y, e, s, t))) = begins_front x y z e (begins_mark mark.Int 0 x s)
+begins_head (Some Long) name z (inr (x, y, e, s, t)) = begins_front x y z e (begins_type Long x s)
+begins_head None name z (x, y, e, s, t) = begins_front x y z e (begins_mark mark.Void 0 x s)
 
 begins_reserved : (z : Pieces) → IsReservedHead z → BeginsWithMark z
 begins_reserved z (x, y, e, inl s, t) = begins_front x y z e (begins_mark mark.Void 0 x s)
-begins_reserved z (x, y, e, inr s, t) = begins_front x y z e (begins_type x s)
+begins_reserved z (x, y, e, inr (w, s), t) = begins_front x y z e (begins_type w x s)
 
 begins_either : (z : Pieces) → IsSomeHead z ⊎ IsReservedHead z → BeginsWithMark z
 begins_either z (inl (b, name, s)) = begins_head b name z s
@@ -44,8 +46,8 @@ begins_either z (inr s) = begins_reserved z s
 begins_part : (p : PartTree) (z : Pieces) → IsPart p z → BeginsWithMark z
 begins_part prototype z (x, y, e, inl s, t) = begins_front x y z e (begins_mark mark.Extern 0 x s)
 begins_part prototype z (x, y, e, inr s, (u, w, f, h, t)) = begins_behind x y z e s (begins_front u w y f (begins_either u h))
-begins_part (globals g) z (x, y, e, s, t) = begins_front x y z e (begins_type x s)
-begins_part (function f) z (x, y, e, s, t) = begins_front x y z e (begins_head f.has_result f.name x s)
+begins_part (globals g) z (x, y, e, s, t) = begins_front x y z e (begins_type g.number_type x s)
+begins_part (function f) z (x, y, e, s, t) = begins_front x y z e (begins_head f.result_type f.name x s)
 
 begins_parts : (ps : List PartTree) (x : Pieces) → AreParts ps x → (x ≡ []) ⊎ BeginsWithMark x
 begins_parts [] x s = inl s

@@ -1,7 +1,9 @@
 -- Trees of some sources, each standing on one line.
-use Rattle.std.specs.Prelude.{ℕ, List, [], ◌∷◌, codes, Option, Some, None, true, false, suc}
+use Rattle.std.specs.Prelude.{ℕ, List, [], ◌∷◌, codes, Option, Some, None, suc}
 use Rattle.lra_base.specs.declared.refusals.Place.{Place}
+use Rattle.lra_base.specs.declared.number_types.NumberType.TheVariants.{Long}
 use Rattle.lra_tree.specs.declared.trees.Identifier.{Identifier}
+use Rattle.lra_tree.specs.declared.trees.Parameter.{Parameter}
 use Rattle.lra_base.specs.Operators.{below, at_least, equal}
 use Rattle.lra_tree.specs.Trees.{UnaryTree, literal, variable, unary, ExprTree, term, plus, TestTree, compare, conjunction, test, CondTree, CallTree, RvalueTree, expression, result, set}
 use Rattle.lra_tree.specs.Trees.{DeclarationTree, declared, block, nothing, assign, if_only, for, break, continue, return, assert, ItemsTree, no_items, declaration, statement, FunctionTree, function}
@@ -33,13 +35,16 @@ abbrev pub call_of : Identifier → List ExprTree → CallTree
 call_of f es = record { name = f; arguments = es }
 
 abbrev pub declared_as : Identifier → Option RvalueTree → DeclarationTree
-declared_as x e = record { first = record { name = x; rvalue = e }; rest = [] }
+declared_as x e = record { number_type = Long; first = record { name = x; rvalue = e }; rest = [] }
 
-abbrev pub function_of : List ℕ → ℕ → List Identifier → ItemsTree → ℕ → FunctionTree
-function_of word c parameters body end = record { has_result = true; name = name_at word c; parameters = parameters; body = body; end = at end }
+abbrev pub long_parameter : Identifier → Parameter
+long_parameter x = record { number_type = Long; name = x }
 
-abbrev pub void_of : List ℕ → ℕ → List Identifier → ItemsTree → ℕ → FunctionTree
-void_of word c parameters body end = record { has_result = false; name = name_at word c; parameters = parameters; body = body; end = at end }
+abbrev pub function_of : List ℕ → ℕ → List Parameter → ItemsTree → ℕ → FunctionTree
+function_of word c parameters body end = record { result_type = Some Long; name = name_at word c; parameters = parameters; body = body; end = at end }
+
+abbrev pub void_of : List ℕ → ℕ → List Parameter → ItemsTree → ℕ → FunctionTree
+void_of word c parameters body end = record { result_type = None; name = name_at word c; parameters = parameters; body = body; end = at end }
 
 -- int main(void){ and the body, up to the `}` and the end
 abbrev pub main_of : ItemsTree → ℕ → FileTree
@@ -53,7 +58,7 @@ one_variable = main_of (declaration (declared_as (x_at 22) None) (statement (ass
 -- long inc(long x){ x=x+1; return x; } int main(void){ long x=inc(1); x=inc(x); assert(x==3); }
 abbrev pub called_twice : FileTree
 called_twice = record {
-  parts = function (function_of (codes "inc") 6 (x_at 15 ∷ [])
+  parts = function (function_of (codes "inc") 6 (long_parameter (x_at 15) ∷ [])
       (statement (assign (set (x_at 19) (expression (plus (use_of (x_at 21)) (unary (literal 1)))))) (statement (return (at 26) (Some (expression (use_of (x_at 33))))) no_items)) 36)
       ∷ function (function_of (codes "main") 42 []
       (declaration (declared_as (x_at 59) (Some (result (call_of (name_at (codes "inc") 61) (number 1 ∷ [])))))
@@ -65,13 +70,14 @@ called_twice = record {
 
 -- long k(long d){ return d+1; } and the functions behind it
 abbrev next_number : FunctionTree
-next_number = function_of (codes "k") 6 (name_at (codes "d") 13 ∷ []) (statement (return (at 17) (Some (expression (plus (use_of (name_at (codes "d") 24)) (unary (literal 1)))))) no_items) 29
+next_number = function_of (codes "k") 6 (long_parameter (name_at (codes "d") 13) ∷ [])
+    (statement (return (at 17) (Some (expression (plus (use_of (name_at (codes "d") 24)) (unary (literal 1)))))) no_items) 29
 
 -- long k(long d){ return d+1; } long h(long a){ for(long i=0;i<a;i=k(i)) ; return k(a); } int main(void){ long m=h(2); }
 abbrev pub call_in_step : FileTree
 call_in_step = record {
   parts = function next_number
-      ∷ function (function_of (codes "h") 36 (name_at (codes "a") 43 ∷ [])
+      ∷ function (function_of (codes "h") 36 (long_parameter (name_at (codes "a") 43) ∷ [])
       (statement (for (at 47) (declared (declared_as (name_at (codes "i") 56) (Some (expression (number 0)))))
       (Some (tested (compare (use_of (name_at (codes "i") 60)) below (use_of (name_at (codes "a") 62)))))
       (Some (set (name_at (codes "i") 64) (result (call_of (name_at (codes "k") 66) (use_of (name_at (codes "i") 68) ∷ []))))) (nothing (at 72)))

@@ -2,11 +2,14 @@
 -- l is the level of nesting at which a part stands, o the level that its first token opens. A function's body is level
 -- 1; a block, a branch of an `if`, a loop's body, a grouping parenthesis and a unary operator open one more, from their
 -- first to their last token.
-use Rattle.std.specs.Prelude.{◌≡◌, ℕ, ◌+◌, ◌⊎◌, ℤ, pos, neg_ℤ, Bool, true, false, List, [], ◌∷◌, codes, Option, Some}
+use Rattle.std.specs.Prelude.{◌≡◌, ℕ, ◌+◌, ◌⊎◌, ℤ, pos, neg_ℤ, List, [], ◌∷◌, codes, Option, Some}
 use Rattle.std.specs.Prelude.{None, ⊤}
+use Rattle.lra_base.specs.declared.number_types.NumberType.{NumberType}
+use Rattle.lra_base.specs.declared.number_types.NumberType.TheVariants.{Long}
 use Rattle.lra_tree.specs.declared.tokens.Mark.{Mark}
 use Rattle.lra_tree.specs.declared.tokens.Mark.TheVariants as mark
 use Rattle.lra_tree.specs.declared.trees.Identifier.{Identifier}
+use Rattle.lra_tree.specs.declared.trees.Parameter.{Parameter}
 use Rattle.lra_base.specs.Operators as operators
 use Rattle.lra_tree.specs.Trees.{UnaryTree, negated, positive, literal, variable, input, group, TermTree, unary, times}
 use Rattle.lra_tree.specs.Trees.{over, modulo, ExprTree, term, plus, minus, NegationTree, opposite_again}
@@ -117,8 +120,11 @@ IsAssign o l (before at s x) = opens_at (step_mark s) at o ⋅ name x 0
 -- declarations -----------------------------------------------------------------------------------------------------
 
 -- `long`, `long long`, `long int`, `long long int`
-abbrev pub IsType : Texts
-IsType = mark mark.Long ⋅ (mark mark.Long ∣ empty) ⋅ (mark mark.Int ∣ empty)
+abbrev pub IsType : NumberType → Texts
+IsType Long = mark mark.Long ⋅ (mark mark.Long ∣ empty) ⋅ (mark mark.Int ∣ empty)
+
+abbrev pub IsSomeType : Texts
+IsSomeType z = (t : NumberType) × IsType t z
 
 abbrev pub IsGiven : ℕ → Option RvalueTree → Texts
 IsGiven l None = empty
@@ -128,7 +134,7 @@ abbrev pub IsDeclarator : ℕ → DeclaratorTree → Texts
 IsDeclarator l d = name d.name 0 ⋅ IsGiven l d.rvalue
 
 abbrev pub IsDeclaration : ℕ → DeclarationTree → Texts
-IsDeclaration l d = IsType ⋅ separated (IsDeclarator l) (d.first ∷ d.rest) ⋅ mark mark.Semicolon
+IsDeclaration l d = IsType d.number_type ⋅ separated (IsDeclarator l) (d.first ∷ d.rest) ⋅ mark mark.Semicolon
 
 -- statements -------------------------------------------------------------------------------------------------------
 
@@ -194,20 +200,20 @@ abbrev pub IsMainName : Identifier → Texts
 IsMainName x z = (x.word ≡ codes "main") × (mark mark.Int ⋅ name x 0) z
 
 -- `int main`, or the type of the result and the name
-abbrev pub IsHead : Bool → Identifier → Texts
-IsHead true x = IsMainName x ∣ (IsType ⋅ name x 0)
-IsHead false x = mark mark.Void ⋅ name x 0
+abbrev pub IsHead : Option NumberType → Identifier → Texts
+IsHead (Some Long) x = IsMainName x ∣ (IsType Long ⋅ name x 0)
+IsHead None x = mark mark.Void ⋅ name x 0
 
-abbrev pub IsParameter : Identifier → Texts
-IsParameter x = IsType ⋅ name x 0
+abbrev pub IsParameter : Parameter → Texts
+IsParameter p = IsType p.number_type ⋅ name p.name 0
 
-abbrev pub AreParameters : List Identifier → Texts
+abbrev pub AreParameters : List Parameter → Texts
 AreParameters [] = mark mark.Void ∣ empty
-AreParameters (x ∷ xs) = separated IsParameter (x ∷ xs)
+AreParameters (p ∷ ps) = separated IsParameter (p ∷ ps)
 
 abbrev pub IsFunction : FunctionTree → Texts
 IsFunction f =
-    IsHead f.has_result f.name ⋅ mark mark.OpenParen ⋅ AreParameters f.parameters ⋅ mark mark.CloseParen
+    IsHead f.result_type f.name ⋅ mark mark.OpenParen ⋅ AreParameters f.parameters ⋅ mark mark.CloseParen
     ⋅ opens mark.OpenBrace 1 ⋅ AreItems 1 f.body ⋅ opens_at mark.CloseBrace f.end 0
 
 -- a literal with or without a sign
@@ -222,23 +228,23 @@ IsGlobal g = name g.name 0 ⋅ IsFirstValue g.value
     IsFirstValue (Some v) = mark mark.Assign ⋅ IsSigned v
 
 abbrev pub AreGlobals : GlobalsTree → Texts
-AreGlobals g = IsType ⋅ separated IsGlobal (g.first ∷ g.rest) ⋅ mark mark.Semicolon
+AreGlobals g = IsType g.number_type ⋅ separated IsGlobal (g.first ∷ g.rest) ⋅ mark mark.Semicolon
 
 -- a prototype may leave names of parameters out, and may be one of `input`, `assert`, `assume`
 abbrev pub IsReservedHead : Texts
-IsReservedHead = (mark mark.Void ∣ IsType) ⋅ (mark mark.Input ∣ mark mark.Assert ∣ mark mark.Assume)
+IsReservedHead = (mark mark.Void ∣ IsSomeType) ⋅ (mark mark.Input ∣ mark mark.Assert ∣ mark mark.Assume)
 
 abbrev pub IsSomeHead : Texts
-IsSomeHead z = (b : Bool) × (x : Identifier) × IsHead b x z
+IsSomeHead z = (t : Option NumberType) × (x : Identifier) × IsHead t x z
 
 -- parameters with names or without
-abbrev pub IsPrototypeParameter : Option Identifier → Texts
-IsPrototypeParameter None = IsType
-IsPrototypeParameter (Some x) = IsType ⋅ name x 0
+abbrev pub IsPrototypeParameter : Option Parameter → Texts
+IsPrototypeParameter None = IsSomeType
+IsPrototypeParameter (Some p) = IsParameter p
 
 abbrev pub ArePrototypeParameters : Texts
 ArePrototypeParameters z = (mark mark.Void ∣ empty) z ⊎
-    ((first : Option Identifier) × (rest : List (Option Identifier)) × separated IsPrototypeParameter (first ∷ rest) z)
+    ((first : Option Parameter) × (rest : List (Option Parameter)) × separated IsPrototypeParameter (first ∷ rest) z)
 
 abbrev pub IsPrototype : Texts
 IsPrototype = (mark mark.Extern ∣ empty) ⋅ (IsSomeHead ∣ IsReservedHead) ⋅ mark mark.OpenParen ⋅

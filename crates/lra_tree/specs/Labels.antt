@@ -5,6 +5,7 @@ use Rattle.std.specs.Prelude.{ℕ, zero, suc, List, [], ◌∷◌, ◌++◌, map
 use Rattle.lra_base.specs.declared.refusals.Place.{Place}
 use Rattle.lra_base.specs.TextOrder.{for_order}
 use Rattle.lra_tree.specs.declared.trees.Identifier.{Identifier}
+use Rattle.lra_tree.specs.declared.trees.Parameter.{Parameter}
 use Rattle.lra_tree.specs.Trees.{RvalueTree, expression, result, AssignTree, set, update, after, before, DeclaratorTree}
 use Rattle.lra_tree.specs.Trees.{InitTree, no_init, declared, assigned, StmtTree, block, nothing, assign, call, if_only}
 use Rattle.lra_tree.specs.Trees.{if_else, while, for, break, continue, return, assert, assume, ItemsTree, no_items}
@@ -104,7 +105,7 @@ abbrev mutual
   items_labels live (statement t items) end = stmt_labels live t ++ items_labels live items end
 
 abbrev pub function_labels : FunctionTree → List Labelled
-function_labels f = items_labels (map (λ (p : Identifier). p.word) f.parameters) f.body f.end
+function_labels f = items_labels (map (λ (p : Parameter). p.name.word) f.parameters) f.body f.end
 
 -- of the whole source
 abbrev pub labels_of : FileTree → List Labelled

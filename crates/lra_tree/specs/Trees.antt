@@ -1,8 +1,10 @@
 -- Trees of sources, apart from where they lie in memory. A chain of operators nests to the left; a list is in text
 -- order.
-use Rattle.std.specs.Prelude.{ℕ, ℤ, List, Bool, Option}
+use Rattle.std.specs.Prelude.{ℕ, ℤ, List, Option}
 use Rattle.lra_base.specs.declared.refusals.Place.{Place}
+use Rattle.lra_base.specs.declared.number_types.NumberType.{NumberType}
 use Rattle.lra_tree.specs.declared.trees.Identifier.{Identifier}
+use Rattle.lra_tree.specs.declared.trees.Parameter.{Parameter}
 use Rattle.lra_base.specs.Operators.{Operator, Comparison}
 
 -- expressions (ISO/IEC 9899:2011, 6.5.1, 6.5.3, 6.5.5, 6.5.6)
@@ -75,6 +77,7 @@ pub record DeclaratorTree : Type 0 where
 
 -- one declarator at least
 pub record DeclarationTree : Type 0 where
+  pub number_type : NumberType
   pub first : DeclaratorTree
   pub rest : List DeclaratorTree
 
@@ -108,9 +111,10 @@ mutual
 
 -- external definitions (6.9)
 pub record FunctionTree : Type 0 where
-  pub has_result : Bool
+  -- `void` has none
+  pub result_type : Option NumberType
   pub name : Identifier
-  pub parameters : List Identifier
+  pub parameters : List Parameter
   pub body : ItemsTree
   -- the place of its `}`
   pub end : Place
@@ -121,6 +125,7 @@ pub record GlobalTree : Type 0 where
   pub value : Option ℤ
 
 pub record GlobalsTree : Type 0 where
+  pub number_type : NumberType
   pub first : GlobalTree
   pub rest : List GlobalTree
 

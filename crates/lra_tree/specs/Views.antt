@@ -179,7 +179,11 @@ abbrev pub declarator_view : Declarator → tree.DeclaratorTree
 declarator_view d = record { name = d.name; rvalue = option_map rvalue_view d.rvalue }
 
 abbrev pub declaration_view : Declaration → tree.DeclarationTree
-declaration_view d = record { first = declarator_view d.first; rest = map declarator_view d.rest.items }
+declaration_view d = record {
+  number_type = d.number_type;
+  first = declarator_view d.first;
+  rest = map declarator_view d.rest.items;
+}
 
 abbrev pub init_view : Init → tree.InitTree
 init_view init.Nothing = tree.no_init
@@ -235,7 +239,7 @@ abbrev pub function_view : Function → tree.FunctionTree
 function_view f =
     let body = block_view f.body in
     record {
-      has_result = f.has_result;
+      result_type = f.result_type;
       name = f.name;
       parameters = f.parameters.items.items;
       body = body.0;
@@ -246,7 +250,11 @@ abbrev pub global_view : Global → tree.GlobalTree
 global_view g = record { name = g.name; value = g.value }
 
 abbrev pub globals_view : Globals → tree.GlobalsTree
-globals_view g = record { first = global_view g.first; rest = map global_view g.rest.items }
+globals_view g = record {
+  number_type = g.number_type;
+  first = global_view g.first;
+  rest = map global_view g.rest.items;
+}
 
 abbrev pub part_view : Item → tree.PartTree
 part_view item.Prototype = tree.prototype

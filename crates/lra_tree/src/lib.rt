@@ -12,6 +12,6 @@ pub use places::{GREATEST_LENGTH, place_behind};
 pub use tokens::{Kind, Mark, Token, Word};
 pub use trees::{
     Arguments, Assign, Block, BlockItem, Call, Cond, Conjunction, Declaration, Declarator, Expr,
-    Factor, FactorOperator, Function, Global, Globals, Identifier, Init, Item, Negation,
+    Factor, FactorOperator, Function, Global, Globals, Identifier, Init, Item, Negation, Parameter,
     Parameters, Rvalue, Step, Stmt, SumOperator, Summand, Term, Test, Tree, Unary,
 };

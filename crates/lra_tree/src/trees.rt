@@ -10,7 +10,7 @@ ghost use Rattle.lra_tree.specs.declared.trees.BlockItem.{size-BlockItem};
 ghost use Rattle.lra_tree.specs.Views.{all_tests, any_conjunction, expr_view, test_view, conjunction_view, cond_view};
 
 use crate::tokens::Word;
-use lra_base::{Comparison, Operator, Place};
+use lra_base::{Comparison, NumberType, Operator, Place};
 use std::alloc::AllocError;
 
 /// A name and its place.
@@ -326,15 +326,20 @@ impl Drop for Declarator {
     }
 }
 
-/// The declarators of one declaration; there is one at least.
+/// The type and the declarators of one declaration; there is one declarator at least.
 pub struct Declaration {
+    pub number_type: NumberType,
     pub first: Declarator,
     pub rest: Vec<Declarator>,
 }
 
 impl Drop for Declaration {
     fn drop(self) {
-        let Declaration { first: _, rest: _ } = self;
+        let Declaration {
+            number_type: _,
+            first: _,
+            rest: _,
+        } = self;
     }
 }
 
@@ -479,9 +484,24 @@ impl Drop for Block {
     }
 }
 
+/// A parameter.
+pub struct Parameter {
+    pub number_type: NumberType,
+    pub name: Identifier,
+}
+
+impl Drop for Parameter {
+    fn drop(self) {
+        let Parameter {
+            number_type: _,
+            name: _,
+        } = self;
+    }
+}
+
 /// A function's parameters, in text order.
 pub struct Parameters {
-    pub items: Vec<Identifier>,
+    pub items: Vec<Parameter>,
 }
 
 impl Drop for Parameters {
@@ -492,8 +512,8 @@ impl Drop for Parameters {
 
 /// A function with its body.
 pub struct Function {
-    /// Whether it has a result; `void` has none.
-    pub has_result: bool,
+    /// The type of its result; `void` has none.
+    pub result_type: Option<NumberType>,
     pub name: Identifier,
     pub parameters: Parameters,
     pub body: Block,
@@ -502,7 +522,7 @@ pub struct Function {
 impl Drop for Function {
     fn drop(self) {
         let Function {
-            has_result: _,
+            result_type: _,
             name: _,
             parameters: _,
             body: _,
@@ -523,15 +543,20 @@ impl Drop for Global {
     }
 }
 
-/// The global variables of one declaration; there is one at least.
+/// The type and the global variables of one declaration; there is one variable at least.
 pub struct Globals {
+    pub number_type: NumberType,
     pub first: Global,
     pub rest: Vec<Global>,
 }
 
 impl Drop for Globals {
     fn drop(self) {
-        let Globals { first: _, rest: _ } = self;
+        let Globals {
+            number_type: _,
+            first: _,
+            rest: _,
+        } = self;
     }
 }
 
