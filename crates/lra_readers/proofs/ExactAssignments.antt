@@ -1,6 +1,8 @@
 -- The readers of assignments and declarations are exact.
 use Rattle.std.proofs.Common.{◌≡◌, ℕ, ◌+◌, ◌≤◌, true, false, ◌⊎◌, List, [], ◌∷◌, ◌++◌, Option, Some, None, Ok, Err, refl, sym, ap, subst, ◌∙◌, arith, inl, inr, option_map}
 use Rattle.std.specs.Bool.{⊤}
+use Rattle.lra_base.specs.declared.number_types.NumberType.{NumberType}
+use Rattle.lra_base.specs.declared.number_types.NumberType.TheVariants.{Long}
 use Rattle.lra_base.specs.declared.refusals.Place.{Place}
 use Rattle.lra_tree.specs.declared.tokens.Mark.{Mark}
 use Rattle.lra_tree.specs.declared.tokens.Mark.TheVariants as mark
@@ -18,9 +20,10 @@ use Rattle.lra_base.specs.OperatorViews.{operator_view}
 use Rattle.lra_tree.specs.Views.{step_view}
 use Rattle.lra_tree.specs.Grammar.{IsExpr, IsRvalue, update_mark, step_mark, IsAssign, IsType, IsDeclarator, IsDeclaration}
 use Rattle.lra_readers.specs.Tests.{is_mark}
-use Rattle.lra_readers.specs.Reading.{Text, Read, Parse, ◌>>=◌, seq, expect, take_by, has, one_of}
+use Rattle.lra_readers.specs.Reading.{Text, Read, Parse, ◌>>=◌, seq, map_read, expect, take_by, has, one_of}
 use Rattle.lra_readers.specs.Statements.{skip, update_operators, update_operator, step_marks, next_step, assign_rest, assign_at, type_words, declared_value, declarator_at, declaration_of}
-use Rattle.lra_readers.specs.Statements.{declaration_at}
+use Rattle.lra_readers.specs.Statements.{commas, declaration_at}
+use Rattle.lra_readers.specs.Expressions.{ended}
 use Rattle.lra_readers.proofs.Marks.{is_mark_some}
 use Rattle.lra_readers.proofs.Exact.{Exact, Any, Free, Both, first_or, then}
 use Rattle.lra_readers.proofs.Forms.{widen, retell, entry, mapped, branch, same_where, exact_done, exact_take}
@@ -242,15 +245,15 @@ assign_closes (before p s x) at = tt
 
 -- declarations -----------------------------------------------------------------------------------------------------
 
-twice : {A : Type 0} (r : Read (Unit {0})) (f : Text → Text) (p : Parse A) → ((r >>= (λ x. Ok (tt {0}, f x.1))) >>= (λ x. p x.1)) ≡ (r >>= (λ x. p (f x.1)))
+twice : {A : Type 0} (r : Read (Unit {0})) (f : Text → Text) (p : NumberType → Parse A) → ((r >>= (λ x. Ok (Long, f x.1))) >>= (λ x. p x.0 x.1)) ≡ (r >>= (λ x. p Long (f x.1)))
 twice (Ok x) f p = refl
 twice (Err e) f p = refl
 
-type_out : (R : Texts) (z : Pieces) → (opens mark.Long 0 ⋅ ((spells mark.Long ∣ empty) ⋅ ((spells mark.Int ∣ empty) ⋅ R))) z → (IsType ⋅ R) z
+type_out : (R : Texts) (z : Pieces) → (opens mark.Long 0 ⋅ ((spells mark.Long ∣ empty) ⋅ ((spells mark.Int ∣ empty) ⋅ R))) z → (IsType Long ⋅ R) z
 type_out R z (x, y, e, s, t) = joined_left (opens mark.Long 0) ((spells mark.Long ∣ empty) ⋅ (spells mark.Int ∣ empty)) R z
     (x, y, e, s, joined_left (spells mark.Long ∣ empty) (spells mark.Int ∣ empty) R y t)
 
-type_in : (R : Texts) (z : Pieces) → (IsType ⋅ R) z → (opens mark.Long 0 ⋅ ((spells mark.Long ∣ empty) ⋅ ((spells mark.Int ∣ empty) ⋅ R))) z
+type_in : (R : Texts) (z : Pieces) → (IsType Long ⋅ R) z → (opens mark.Long 0 ⋅ ((spells mark.Long ∣ empty) ⋅ ((spells mark.Int ∣ empty) ⋅ R))) z
 type_in R z s = let k = joined_right (opens mark.Long 0) ((spells mark.Long ∣ empty) ⋅ (spells mark.Int ∣ empty)) R z s in
     (k.0, k.1, k.2, k.3, joined_right (spells mark.Long ∣ empty) (spells mark.Int ∣ empty) R k.1 k.4)
 
@@ -262,19 +265,33 @@ skipped_first S F m k other begins a x o (u, v, e, inr s, t) f =
     let same : x ≡ v = e ∙ ap (λ (w : Pieces). w ++ v) s in
     subst (λ (w : Pieces). is_mark m (first_or w o) ≡ false) (sym same) (begins a v o t (λ i. f (same ∙ i)))
 
+-- a type, and what comes behind it
+abbrev pub TypedText : {A : Type 0} → (NumberType → A → Pieces → Type 0) → A → Texts
+TypedText S b z = (t : NumberType) × (IsType t ⋅ S t b) z
+
+from_typed : {A : Type 0} (S : NumberType → A → Pieces → Type 0) (b : A) (z : Pieces) → TypedText S b z
+    → (opens mark.Long 0 ⋅ ((spells mark.Long ∣ empty) ⋅ ((spells mark.Int ∣ empty) ⋅ S Long b))) z
+from_typed S b z (Long, s) = type_in (S Long b) z s
+
+pub type_first : (t : NumberType) (x y z : Pieces) (o : Option Token) (P : Option Token → Type 0) → z ≡ x ++ y → IsType t x → ((at : Place) → P (Some (token mark.Long at))) → P (first_or z o)
+type_first Long x y z o P e (a, b, f, s, t) k = first_opened P mark.Long 0 a (b ++ y) z o (e ∙ regroup x y a b f) s k
+
+abbrev LongBegins : {A : Type 0} → Mark → (NumberType → A → Pieces → Type 0) → (A → Option Token → Type 0) → Type 0
+LongBegins {A} m S F = (a : A) (x : Pieces) (o : Option Token) → S Long a x → (x ≡ [] → F a o) → is_mark m (first_or x o) ≡ false
+
 -- behind a type
-pub exact_type : {n : ℕ} {A : Type 0} {p : Parse A} {S : A → Pieces → Type 0} {F : A → Option Token → Type 0} → Exact n IsInner p Any S S F → (some : (a : A) × (x : Pieces) × S a x)
-    → (no_int : (a : A) (x : Pieces) (o : Option Token) → S a x → (x ≡ [] → F a o) → is_mark mark.Int (first_or x o) ≡ false)
-    → (no_long : (a : A) (x : Pieces) (o : Option Token) → S a x → (x ≡ [] → F a o) → is_mark mark.Long (first_or x o) ≡ false)
-    → Exact n IsInner (seq type_words (λ _. p)) Any (λ b. IsType ⋅ S b) (λ b. IsType ⋅ S b) F
-exact_type {n} {A} {p} {S = S} {F = F} P some no_int no_long =
+pub exact_type : {n : ℕ} {A : Type 0} {F : A → Option Token → Type 0} (p : NumberType → Parse A) (S : NumberType → A → Pieces → Type 0)
+    → ((t : NumberType) → Exact n IsInner (p t) Any (S t) (S t) F) → (some : (a : A) × (x : Pieces) × S Long a x)
+    → LongBegins mark.Int S F → LongBegins mark.Long S F → Exact n IsInner (seq type_words p) Any (TypedText S) (TypedText S) F
+exact_type {n} {A} {F = F} p S each some no_int no_long =
+    let P = each Long in
     let ints = exact_skip mark.Int P some no_int in
-    let some_int : (a : A) × (x : Pieces) × ((spells mark.Int ∣ empty) ⋅ S a) x = (some.0, some.1, ([], some.1, refl, inr refl, some.2)) in
-    let longs = exact_skip mark.Long ints some_int (λ a x o s f. skipped_first S F mark.Long mark.Int (λ at. refl) no_long a x o s f) in
-    let some_long : (a : A) × (x : Pieces) × ((spells mark.Long ∣ empty) ⋅ ((spells mark.Int ∣ empty) ⋅ S a)) x = (some.0, some.1, ([], some.1, refl, inr refl, some_int.2)) in
+    let some_int : (a : A) × (x : Pieces) × ((spells mark.Int ∣ empty) ⋅ S Long a) x = (some.0, some.1, ([], some.1, refl, inr refl, some.2)) in
+    let longs = exact_skip mark.Long ints some_int (λ a x o s f. skipped_first (S Long) F mark.Long mark.Int (λ at. refl) no_long a x o s f) in
+    let some_long : (a : A) × (x : Pieces) × ((spells mark.Long ∣ empty) ⋅ ((spells mark.Int ∣ empty) ⋅ S Long a)) x = (some.0, some.1, ([], some.1, refl, inr refl, some_int.2)) in
     let t = exact_behind mark.Long 0 (omega arith) longs some_long in
-    let s = same_where t (seq type_words (λ _. p)) (λ T i. sym (twice (expect mark.Long (tt {0}) T) (λ T. skip mark.Int (skip mark.Long T)) p)) in
-    retell s (λ b. IsType ⋅ S b) (λ b z s. type_out (S b) z s) (λ b z s. type_in (S b) z s)
+    let s = same_where t (seq type_words p) (λ T i. sym (twice (expect mark.Long (tt {0}) T) (λ T. skip mark.Int (skip mark.Long T)) p)) in
+    retell s (TypedText S) (λ b z s. (Long, type_out (S Long b) z s)) (λ b z s. from_typed S b z s)
 
 abbrev AfterGiven : Option RvalueTree → Option Token → Type 0
 AfterGiven None o = is_mark mark.Assign o ≡ false
@@ -321,14 +338,17 @@ exact_declarator n d l h =
     (λ x b y o s f. tt) (λ x z v. (alone_name x, [], (x, (z, [], refl, v, inr (refl, refl))))) (λ x b u v s r. (x, (u, v, refl, s, r))) in
     retell t (IsDeclarator l) (λ b z s. to_declarator l b z s) (λ b z s. from_given l b.name b.rvalue z s)
 
-abbrev Declared : ℕ → DeclarationTree → Texts
-Declared l b = Of declaration_of (λ ds. separated (IsDeclarator l) (ds.0 ∷ ds.1)) b
+abbrev Declared : ℕ → NumberType → DeclarationTree → Texts
+Declared l k b = Of (declaration_of k) (λ ds. separated (IsDeclarator l) (ds.0 ∷ ds.1)) b
 
-to_declaration : (l : ℕ) (b : DeclarationTree) (z : Pieces) → (IsType ⋅ (Declared l b ⋅ spells mark.Semicolon)) z → IsDeclaration l b z
-to_declaration l b z (x, y, e, s, (u, v, f, (ds, g, t), m)) = subst (λ (c : DeclarationTree). IsDeclaration l c z) g (x, y, e, s, (u, v, f, t, m))
+abbrev DeclaredEnd : ℕ → NumberType → DeclarationTree → Texts
+DeclaredEnd l k b = Declared l k b ⋅ spells mark.Semicolon
 
-from_declaration : (l : ℕ) (b : DeclarationTree) (z : Pieces) → IsDeclaration l b z → (IsType ⋅ (Declared l b ⋅ spells mark.Semicolon)) z
-from_declaration l b z (x, y, e, s, (u, v, f, t, m)) = (x, y, e, s, (u, v, f, ((b.first, b.rest), refl, t), m))
+to_declaration : (l : ℕ) (b : DeclarationTree) (z : Pieces) → TypedText (DeclaredEnd l) b z → IsDeclaration l b z
+to_declaration l b z (k, (x, y, e, s, (u, v, f, (ds, g, t), m))) = subst (λ (c : DeclarationTree). IsDeclaration l c z) g (x, y, e, s, (u, v, f, t, m))
+
+from_declaration : (l : ℕ) (b : DeclarationTree) (z : Pieces) → IsDeclaration l b z → TypedText (DeclaredEnd l) b z
+from_declaration l b z (x, y, e, s, (u, v, f, t, m)) = (b.number_type, (x, y, e, s, (u, v, f, ((b.first, b.rest), refl, t), m)))
 
 given_stops : (m : Option RvalueTree) (at : Place) → AfterGiven m (Some (token mark.Semicolon at)) × AfterGiven m (Some (token mark.Comma at))
 given_stops None at = (refl, refl)
@@ -339,18 +359,28 @@ last_stops : (ds : List DeclaratorTree) (d : DeclaratorTree) (at : Place) → Af
 last_stops [] d at = (given_stops d.rvalue at).0
 last_stops (e ∷ ds) d at = last_stops ds e at
 
-declared_begins : (l : ℕ) (m : Mark) (b : DeclarationTree) (x : Pieces) (o : Option Token) → (Declared l b ⋅ spells mark.Semicolon) x → is_mark m (first_or x o) ≡ false
+declared_begins : (l : ℕ) (m : Mark) (b : DeclarationTree) (x : Pieces) (o : Option Token) → DeclaredEnd l Long b x → is_mark m (first_or x o) ≡ false
 declared_begins l m b x o (u, v, f, (ds, g, (p, q, i, (a, c, j, s, t), r)), w) = rw (f, i, j, s) refl
 
 pub declaration_first : (l : ℕ) (d : DeclarationTree) (z : Pieces) (k : Option Token) → IsDeclaration l d z → is_mark mark.Long (first_or z k) ≡ true
-declaration_first l d z k (x, y, e, (u, v, f, s, r), t) = first_opened (λ i. is_mark mark.Long i ≡ true) mark.Long 0 u (v ++ y) z k (e ∙ regroup x y u v f) s (λ at. refl)
+declaration_first l d z k (x, y, e, s, t) = type_first d.number_type x y z k (λ i. is_mark mark.Long i ≡ true) e s (λ at. refl)
 
 pub exact_declaration : (n d l : ℕ) → d + l ≡ n → Exact n IsInner (declaration_at d) Any (IsDeclaration l) (IsDeclaration l) Free
 exact_declaration n d l h =
     let list = exact_commas (exact_declarator n d l h) (some_declarator l) (λ a at. (given_stops a.rvalue at).1) in
-    let made = mapped list declaration_of (λ b o. AfterCommas AfterDeclarator (b.first, b.rest) o) (λ i o f. f) (λ i o f. f) in
-    let whole = exact_ended mark.Semicolon made (λ b at. (last_stops b.rest b.first at, refl)) in
+    let made = λ (k : NumberType). mapped list (declaration_of k) (λ b o. AfterCommas AfterDeclarator (b.first, b.rest) o) (λ i o f. f) (λ i o f. f) in
+    let whole = λ (k : NumberType). exact_ended mark.Semicolon (made k) (λ b at. (last_stops b.rest b.first at, refl)) in
     let some = some_declarator l in
-    let t = exact_type whole (declaration_of (some.0, []), _, (_, _, refl, ((some.0, []), refl, (_, _, refl, some.2, refl)), (some_place, refl))) (λ b x o s f. declared_begins l mark.Int b x o s)
+    let t = exact_type (λ k. ended mark.Semicolon (map_read (declaration_of k) (commas (declarator_at d)))) (DeclaredEnd l) whole (
+      declaration_of Long (some.0, []),
+      _,
+      (
+        _,
+        _,
+        refl,
+        ((some.0, []), refl, (_, _, refl, some.2, refl)),
+        (some_place, refl),
+      ),
+    ) (λ b x o s f. declared_begins l mark.Int b x o s)
     (λ b x o s f. declared_begins l mark.Long b x o s) in
     retell t (IsDeclaration l) (λ b z s. to_declaration l b z s) (λ b z s. from_declaration l b z s)

@@ -1,5 +1,5 @@
 -- The reader of a file is exact.
-use Rattle.std.proofs.Common.{◌≡◌, ℕ, ◌+◌, Bool, true, false, ◌⊎◌, List, [], ◌∷◌, ◌++◌, Option, Some, None, refl, sym, ap, subst, ◌∙◌, append_assoc, arith, inl, inr, map, option_map}
+use Rattle.std.proofs.Common.{◌≡◌, ℕ, ◌+◌, true, false, ◌⊎◌, List, [], ◌∷◌, ◌++◌, Option, Some, None, refl, sym, ap, subst, ◌∙◌, append_assoc, arith, inl, inr, map, option_map}
 use Rattle.std.specs.Bool.{⊤}
 use Rattle.std.proofs.lemmas.List.{append-nil}
 use Rattle.lra_base.specs.declared.refusals.Place.{Place}
@@ -7,7 +7,7 @@ use Rattle.lra_tree.specs.declared.tokens.Mark.TheVariants as mark
 use Rattle.lra_tree.specs.declared.tokens.Kind.{Kind}
 use Rattle.lra_tree.specs.declared.tokens.Kind.TheVariants.{Name, Number, Mark as MarkOf, Reserved, Unclosed, End}
 use Rattle.lra_tree.specs.declared.tokens.Token.{Token}
-use Rattle.lra_tree.specs.declared.trees.Identifier.{Identifier}
+use Rattle.lra_tree.specs.declared.trees.Parameter.{Parameter}
 use Rattle.lra_tree.specs.Texts.{Pieces, Texts, ◌⋅◌, opens, end_at}
 use Rattle.lra_tree.specs.Trees.{PartTree, prototype, globals, function, FileTree}
 use Rattle.lra_tree.specs.Grammar.{IsPart, AreParts, Spells}
@@ -15,7 +15,7 @@ use Rattle.lra_readers.specs.declared.lead.Lead.{Lead}
 use Rattle.lra_readers.specs.declared.lead.Lead.TheVariants as lead
 use Rattle.lra_readers.specs.Tests.{is_mark}
 use Rattle.lra_readers.specs.Reading.{take_by}
-use Rattle.lra_readers.specs.Files.{names_of, signature_of, function_of, ending, signature_at, rest_at, part_at, begins_part, parts_at, end_of, next_end, file_of, file_at}
+use Rattle.lra_readers.specs.Files.{Heading, all_named, signature_of, function_of, ending, signature_at, rest_at, part_at, begins_part, parts_at, end_of, next_end, file_of, file_at}
 use Rattle.lra_readers.proofs.Exact.{Exact, Any, Free, Both, first_or, first_or-both, then}
 use Rattle.lra_readers.proofs.Forms.{widen, retell, entry, loose, mapped, branch, exact_take}
 use Rattle.lra_readers.proofs.Tokens.{IsInner, exact_expect, some_place}
@@ -31,7 +31,7 @@ use Rattle.lra_readers.proofs.ExactParameters.{ParametersText, exact_parameters,
 -- functions and prototypes -----------------------------------------------------------------------------------------
 
 abbrev Signature : Type 0
-Signature = (Bool × Identifier) × List Identifier
+Signature = Heading × List Parameter
 
 -- a body, or a semicolon
 abbrev BodyEnd : Option Signature → PartTree → Texts
@@ -57,13 +57,13 @@ exact_ending n d h (Some s) =
     (λ p z o t f. first_opened (λ i. is_mark mark.OpenBrace i ≡ true) mark.OpenBrace 1 t.2.0 t.2.1 z o t.2.2 t.2.3 (λ at. refl))
     (λ p z o t f. first_opened (λ i. is_mark mark.OpenBrace i ≡ false) mark.Semicolon 0 z [] z o (sym (append-nil z)) t.1 (λ at. refl))
 
-abbrev SignedText : Option (Bool × Identifier) → PartTree → Texts
+abbrev SignedText : Option Heading → PartTree → Texts
 SignedText h p = opens mark.OpenParen 0 ⋅ Both ParametersText (λ ps. EndText (signature_of h ps)) p
 
-some_signed : (h : Option (Bool × Identifier)) → (p : PartTree) × (z : Pieces) × Both ParametersText (λ ps. EndText (signature_of h ps)) p z
+some_signed : (h : Option Heading) → (p : PartTree) × (z : Pieces) × Both ParametersText (λ ps. EndText (signature_of h ps)) p z
 some_signed h = (prototype, _, ([], (_, _, refl, ([], _, refl, inr refl, (some_place, refl)), inr (refl, (some_place, refl)))))
 
-exact_signature : (n d : ℕ) → d + 1 ≡ n → (h : Option (Bool × Identifier)) → Exact n IsInner (signature_at d h) Any (SignedText h) (SignedText h) Free
+exact_signature : (n d : ℕ) → d + 1 ≡ n → (h : Option Heading) → Exact n IsInner (signature_at d h) Any (SignedText h) (SignedText h) Free
 exact_signature n d e h =
     let both = then (exact_parameters n) (λ ps. exact_ending n d e (signature_of h ps)) (λ p z. Both ParametersText (λ ps. EndText (signature_of h ps)) p z)
     (λ ps p y o s g. tt)
@@ -74,7 +74,7 @@ exact_signature n d e h =
 -- globals, behind a type and a name
 abbrev OnlyGlobals : Lead → PartTree → Texts
 OnlyGlobals (lead.Main x) p = λ z. ⊥
-OnlyGlobals (lead.Typed x) p = GlobalsText x p
+OnlyGlobals (lead.Typed t x) p = GlobalsText t x p
 OnlyGlobals (lead.Void x) p = λ z. ⊥
 OnlyGlobals lead.Bare p = λ z. ⊥
 
@@ -86,12 +86,12 @@ exact_signed n d e l none = retell (exact_signature n d e (head_of l)) (RestText
 
 exact_rest : (n d : ℕ) → d + 1 ≡ n → (l : Lead) → Exact n IsInner (rest_at d l) Any (RestText l) (RestText l) Free
 exact_rest n d e (lead.Main x) = exact_signed n d e (lead.Main x) (λ p z k. k)
-exact_rest n d e (lead.Typed x) =
+exact_rest n d e (lead.Typed t x) =
     branch (is_mark mark.OpenParen)
-    (entry (widen (exact_signature n d e (Some (true, x))) (RestText (lead.Typed x)) (λ p z s. inl s)) (λ o. ⊤ × (is_mark mark.OpenParen o ≡ true)) (λ o i. tt))
-    (entry (widen (exact_globals n x) (RestText (lead.Typed x)) (λ p z s. inr s)) (λ o. ⊤ × (is_mark mark.OpenParen o ≡ false)) (λ o i. tt))
+    (entry (widen (exact_signature n d e (Some (Some t, x))) (RestText (lead.Typed t x)) (λ p z s. inl s)) (λ o. ⊤ × (is_mark mark.OpenParen o ≡ true)) (λ o i. tt))
+    (entry (widen (exact_globals n t x) (RestText (lead.Typed t x)) (λ p z s. inr s)) (λ o. ⊤ × (is_mark mark.OpenParen o ≡ false)) (λ o i. tt))
     (λ p z o s f. first_opened (λ i. is_mark mark.OpenParen i ≡ true) mark.OpenParen 0 s.0 s.1 z o s.2 s.3 (λ at. refl))
-    (λ p z o s f. globals_no_open x p z o s)
+    (λ p z o s f. globals_no_open t x p z o s)
 exact_rest n d e (lead.Void x) = exact_signed n d e (lead.Void x) (λ p z k. k)
 exact_rest n d e lead.Bare = exact_signed n d e lead.Bare (λ p z k. k)
 
@@ -100,11 +100,11 @@ WholeText p z = Both LeadText RestText p z
 
 -- what they are in the grammar
 
-made : (h : Option (Bool × Identifier)) (ps : List (Option Identifier)) (s : Signature) → signature_of h ps ≡ Some s → (h ≡ Some s.0) × (names_of ps ≡ Some s.1)
+made : (h : Option Heading) (ps : List (Option Parameter)) (s : Signature) → signature_of h ps ≡ Some s → (h ≡ Some s.0) × (all_named ps ≡ Some s.1)
 made None ps s e = absurd cc
-made (Some h) ps s e = made_of h (names_of ps) s e
+made (Some h) ps s e = made_of h (all_named ps) s e
   where
-    made_of : (h : Bool × Identifier) (m : Option (List Identifier)) (s : Signature) → option_map (λ xs. (h, xs)) m ≡ Some s → (let k : Option (Bool × Identifier) = Some h in k ≡ Some s.0) ×
+    made_of : (h : Heading) (m : Option (List Parameter)) (s : Signature) → option_map (λ xs. (h, xs)) m ≡ Some s → (let k : Option Heading = Some h in k ≡ Some s.0) ×
         (m ≡ Some s.1)
     made_of h None s e = absurd cc
     made_of h (Some xs) s e = let f : (h, xs) ≡ s = cc in (ap (λ (t : Signature). Some t.0) f, ap (λ (t : Signature). Some t.1) f)
@@ -115,9 +115,9 @@ body_is (Some s) p z t = (s, refl, t)
 
 globals_part : (l : Lead) (p : PartTree) (x y z : Pieces) → z ≡ x ++ y → LeadText l x → OnlyGlobals l p y → IsPart p z
 globals_part (lead.Main i) p x y z e s r = absurd r
-globals_part (lead.Typed i) p x y z e (inl (a, b, f, o, (k, g, t))) r = absurd cc
-globals_part (lead.Typed i) p x y z e (inr (t, n, f, type, name)) r =
-    let k = globals_out i p t n y z (e ∙ ap (λ (w : Pieces). w ++ y) f) type name r in
+globals_part (lead.Typed w i) p x y z e (inl (a, b, f, o, (k, g, t))) r = absurd cc
+globals_part (lead.Typed w i) p x y z e (inr (t, n, f, type, name)) r =
+    let k = globals_out w i p t n y z (e ∙ ap (λ (w : Pieces). w ++ y) f) type name r in
     subst (λ (q : PartTree). IsPart q z) k.1 k.2
 globals_part (lead.Void i) p x y z e s r = absurd r
 globals_part lead.Bare p x y z e s r = absurd r
@@ -134,7 +134,7 @@ to_part p z (l, (x, y, e, s, inl (a, b, f, o, (ps, (c, d, g, (u, v, i, t, close)
     subst (λ (q : PartTree). IsPart q z) (sym same)
     (w.0, w.1 ++ y, e ∙ regroup x y w.0 w.1 w.2, w.3, (w.1, y, refl, w.4, (a, b, f, o, (u, v ++ d, g ∙ regroup c d u v i, parameters_any ps u t, (v, d, refl, close, semicolon)))))
 
-signed : (h : Bool × Identifier) (xs : List Identifier) → signature_of (Some h) (map Some xs) ≡ Some (h, xs)
+signed : (h : Heading) (xs : List Parameter) → signature_of (Some h) (map Some xs) ≡ Some (h, xs)
 signed h xs = rw (some_names xs) refl
 
 from_part : (p : PartTree) (z : Pieces) → IsPart p z → WholeText p z
@@ -150,11 +150,11 @@ from_part prototype z (p, q, e, s, (a, b, f, t, (u, v, g, o, (c, d, i, ps, (j, k
         inl (u, v, g, o, (l.0, (c ++ j, k, i ∙ ap (λ (r : Pieces). c ++ r) m ∙ sym (append_assoc c j k), (c, j, refl, l.1, close), inr (refl, semicolon)))),
       ),
     )
-from_part (globals g) z s = let k = globals_in g z s in (lead.Typed k.0, (k.1 ++ k.2, k.3, k.4, inr (k.1, k.2, refl, k.5, k.6), inr k.7))
+from_part (globals g) z s = let k = globals_in g z s in (lead.Typed g.number_type k.0, (k.1 ++ k.2, k.3, k.4, inr (k.1, k.2, refl, k.5, k.6), inr k.7))
 from_part (function f) z (x, y, e, s, (p, q, i, o, (u, v, j, t, (k, l, m, close, w)))) =
-    let h = head_lead f.has_result f.name x s in
-    let is : signature_of (head_of h.0) (map Some f.parameters) ≡ Some ((f.has_result, f.name), f.parameters) = rw h.1 (signed (f.has_result, f.name) f.parameters) in
-    let end : EndText (Some ((f.has_result, f.name), f.parameters)) (function f) l = inl ((f.body, f.end), refl, w) in (
+    let h = head_lead f.result_type f.name x s in
+    let is : signature_of (head_of h.0) (map Some f.parameters) ≡ Some ((f.result_type, f.name), f.parameters) = rw h.1 (signed (f.result_type, f.name) f.parameters) in
+    let end : EndText (Some ((f.result_type, f.name), f.parameters)) (function f) l = inl ((f.body, f.end), refl, w) in (
       h.0,
       (
         x,

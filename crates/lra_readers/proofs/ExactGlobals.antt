@@ -2,6 +2,7 @@
 use Rattle.std.proofs.Common.{◌≡◌, ℕ, true, false, ◌⊎◌, List, [], ◌∷◌, ◌++◌, Option, Some, None, refl, sym, ap, subst, ◌∙◌, append_assoc, arith, inl, inr}
 use Rattle.std.specs.Prelude.{ℤ, pos}
 use Rattle.std.specs.Bool.{⊤}
+use Rattle.lra_base.specs.declared.number_types.NumberType.{NumberType}
 use Rattle.lra_base.specs.declared.refusals.Place.{Place}
 use Rattle.lra_tree.specs.declared.tokens.Mark.TheVariants as mark
 use Rattle.lra_tree.specs.declared.tokens.Token.{Token}
@@ -104,8 +105,8 @@ exact_global n =
 abbrev Listed : Identifier → GlobalTree × List GlobalTree → Texts
 Listed x gs = ValueText x gs.0 ⋅ further IsGlobal gs.1
 
-abbrev pub GlobalsText : Identifier → PartTree → Texts
-GlobalsText x p z = Of globals_of (λ gs. Listed x gs ⋅ spells mark.Semicolon) p z
+abbrev pub GlobalsText : NumberType → Identifier → PartTree → Texts
+GlobalsText k x p z = Of (globals_of k) (λ gs. Listed x gs ⋅ spells mark.Semicolon) p z
 
 goes_on : (g : GlobalTree) (m : Option ℤ) (at : Place) → AfterFirst m (Some (token mark.Comma at))
 goes_on g None at = refl
@@ -115,31 +116,32 @@ stops_here : (m : Option ℤ) (at : Place) → AfterFirst m (Some (token mark.Se
 stops_here None at = refl
 stops_here (Some v) at = tt
 
-pub exact_globals : (n : ℕ) (x : Identifier) → Exact n IsInner (globals_at x) Any (GlobalsText x) (GlobalsText x) Free
-exact_globals n x =
+pub exact_globals : (n : ℕ) (k : NumberType) (x : Identifier) → Exact n IsInner (globals_at k x) Any (GlobalsText k x) (GlobalsText k x) Free
+exact_globals n k x =
     let list = exact_commas_from (exact_value n x) (exact_global n) (without_value some_name, _, (_, _, refl, refl, refl)) (λ g at. goes_on g g.value at) in
     let whole = exact_ended mark.Semicolon list (λ gs at. (
       all_last {I = GlobalTree} AfterGlobal (AfterGlobal gs.0) gs.1 (Some (token mark.Semicolon at)) (stops_here gs.0.value at)
           (λ g. stops_here g.value at),
       refl,
     )) in
-    mapped whole globals_of Free (λ gs o f. tt) (λ gs o f. tt)
+    mapped whole (globals_of k) Free (λ gs o f. tt) (λ gs o f. tt)
 
 further_no_open : (gs : List GlobalTree) (x y z : Pieces) (o : Option Token) → z ≡ x ++ y → further IsGlobal gs x → spells mark.Semicolon y → is_mark mark.OpenParen (first_or z o) ≡ false
 further_no_open [] x y z o e f (at, s) = rw (e, f, s) refl
 further_no_open (g ∷ gs) x y z o e (u, v, f, s, r) t = first_opened (λ i. is_mark mark.OpenParen i ≡ false) mark.Comma 0 u (v ++ y) z o (e ∙ regroup x y u v f) s (λ at. refl)
 
-pub globals_no_open : (x : Identifier) (p : PartTree) (z : Pieces) (o : Option Token) → GlobalsText x p z → is_mark mark.OpenParen (first_or z o) ≡ false
-globals_no_open x p z o (gs, h, (a, b, e, (u, v, f, inl (c, d, g, m, t), r), w)) = first_opened (λ i. is_mark mark.OpenParen i ≡ false) mark.Assign 0 c (d ++ (v ++ b)) z o
+pub globals_no_open : (k : NumberType) (x : Identifier) (p : PartTree) (z : Pieces) (o : Option Token) → GlobalsText k x p z → is_mark mark.OpenParen (first_or z o) ≡ false
+globals_no_open k x p z o (gs, h, (a, b, e, (u, v, f, inl (c, d, g, m, t), r), w)) = first_opened (λ i. is_mark mark.OpenParen i ≡ false) mark.Assign 0 c (d ++ (v ++ b)) z o
     (e ∙ regroup a b u v f ∙ regroup u (v ++ b) c d g) m (λ at. refl)
-globals_no_open x p z o (gs, h, (a, b, e, (u, v, f, inr (same, none), r), w)) =
+globals_no_open k x p z o (gs, h, (a, b, e, (u, v, f, inr (same, none), r), w)) =
     further_no_open gs.1 v b z o (e ∙ ap (λ (k : Pieces). k ++ b) (f ∙ ap (λ (k : Pieces). k ++ v) none)) r w
 
 -- what they are in the grammar -------------------------------------------------------------------------------------
 
-pub globals_out : (x : Identifier) (p : PartTree) (t n y z : Pieces) → z ≡ (t ++ n) ++ y → IsType t → name x 0 n → GlobalsText x p y → (g : GlobalsTree) × (globals g ≡ p) × AreGlobals g z
-globals_out x p t n y z e type named (gs, same, (a, b, f, (u, v, h, first, rest), semicolon)) = (
-  record { first = gs.0; rest = gs.1 },
+pub globals_out : (k : NumberType) (x : Identifier) (p : PartTree) (t n y z : Pieces) → z ≡ (t ++ n) ++ y → IsType k t → name x 0 n → GlobalsText k x p y
+    → (g : GlobalsTree) × (globals g ≡ p) × AreGlobals g z
+globals_out w x p t n y z e type named (gs, same, (a, b, f, (u, v, h, first, rest), semicolon)) = (
+  record { number_type = w; first = gs.0; rest = gs.1 },
   same,
   (
     t,
@@ -157,7 +159,7 @@ globals_out x p t n y z e type named (gs, same, (a, b, f, (u, v, h, first, rest)
 )
 
 pub globals_in : (g : GlobalsTree) (z : Pieces) → AreGlobals g z
-    → (x : Identifier) × (t : Pieces) × (n : Pieces) × (y : Pieces) × (z ≡ (t ++ n) ++ y) × IsType t × name x 0 n × GlobalsText x (globals g) y
+    → (x : Identifier) × (t : Pieces) × (n : Pieces) × (y : Pieces) × (z ≡ (t ++ n) ++ y) × IsType g.number_type t × name x 0 n × GlobalsText g.number_type x (globals g) y
 globals_in g z (t, y, e, type, (a, b, f, (u, v, h, one, rest), semicolon)) =
     let k = from_global g.first.name g.first.value u one in
     let n = k.1.0 in

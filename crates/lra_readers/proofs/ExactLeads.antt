@@ -1,7 +1,9 @@
 -- The reader of what a part begins with is exact.
-use Rattle.std.proofs.Common.{◌≡◌, ℕ, Bool, true, false, bytes_eq, codes, ◌⊎◌, List, [], ◌∷◌, ◌++◌, Option, Some, None, refl, sym, ap, subst, ◌∙◌, arith, inl, inr}
+use Rattle.std.proofs.Common.{◌≡◌, ℕ, true, false, bytes_eq, codes, ◌⊎◌, List, [], ◌∷◌, ◌++◌, Option, Some, None, refl, sym, ap, subst, ◌∙◌, arith, inl, inr}
 use Rattle.std.specs.Bool.{⊤}
 use Rattle.std.proofs.lemmas.Slice.Eq.{bytes_eq-Decides}
+use Rattle.lra_base.specs.declared.number_types.NumberType.{NumberType}
+use Rattle.lra_base.specs.declared.number_types.NumberType.TheVariants.{Long}
 use Rattle.lra_base.specs.declared.refusals.Place.{Place}
 use Rattle.lra_tree.specs.declared.tokens.Mark.{Mark}
 use Rattle.lra_tree.specs.declared.tokens.Mark.TheVariants as mark
@@ -15,15 +17,14 @@ use Rattle.lra_readers.specs.declared.lead.Lead.{Lead}
 use Rattle.lra_readers.specs.declared.lead.Lead.TheVariants as lead
 use Rattle.lra_readers.specs.Tests.{is_mark}
 use Rattle.lra_readers.specs.Reading.{take_by, identifier_of, has}
-use Rattle.lra_readers.specs.Files.{is_main, next_main, HeadMark, at_int, at_type, at_void, head_mark, BuiltIn, of_input, of_assert, of_assume, built_ins, next_built_in, named, lead_behind, lead_form}
+use Rattle.lra_readers.specs.Files.{is_main, next_main, Heading, HeadMark, at_int, at_type, at_void, head_mark, BuiltIn, of_input, of_assert, of_assume, built_ins, next_built_in, named, lead_behind, lead_form}
 use Rattle.lra_readers.specs.Files.{plain_lead, read_lead, begins_part}
 use Rattle.lra_readers.proofs.Exact.{Exact, Any, Free, test, first_or}
 use Rattle.lra_readers.proofs.Forms.{rename, widen, retell, entry, mapped, choose, branch, exact_stop, exact_take}
 use Rattle.lra_readers.proofs.Tokens.{IsInner, name_is, exact_name, exact_operator, some_place, some_name}
-use Rattle.lra_readers.proofs.Chain.{regroup}
 use Rattle.lra_readers.proofs.Parts.{token, exact_behind}
 use Rattle.lra_readers.proofs.ExactExpressions.{Of, first_opened}
-use Rattle.lra_readers.proofs.ExactAssignments.{exact_type}
+use Rattle.lra_readers.proofs.ExactAssignments.{TypedText, type_first, exact_type}
 
 -- `main` -----------------------------------------------------------------------------------------------------------
 
@@ -91,23 +92,23 @@ NameText x z = name x 0 z
 abbrev bare : BuiltIn → Lead
 bare w = lead.Bare
 
-abbrev CalledText : Bool → Lead → Texts
+abbrev CalledText : Option NumberType → Lead → Texts
 CalledText b l z = Of bare WordText l z ⊎ Of (named b) NameText l z
 
 word_begins : (l : Lead) (z : Pieces) (o : Option Token) → Of bare WordText l z → has (next_built_in (first_or z o)) ≡ true
 word_begins l z o (w, f, (at, e)) = rw e (rw (built_in_self w at) refl)
 
-name_begins : (b : Bool) (l : Lead) (z : Pieces) (o : Option Token) → Of (named b) NameText l z → has (next_built_in (first_or z o)) ≡ false
+name_begins : (b : Option NumberType) (l : Lead) (z : Pieces) (o : Option Token) → Of (named b) NameText l z → has (next_built_in (first_or z o)) ≡ false
 name_begins b l z o (x, f, e) = rw e refl
 
-exact_called : (n : ℕ) (b : Bool) → Exact n IsInner (lead_behind b) Any (CalledText b) (CalledText b) Free
+exact_called : (n : ℕ) (b : Option NumberType) → Exact n IsInner (lead_behind b) Any (CalledText b) (CalledText b) Free
 exact_called n b =
     branch (λ o. has (next_built_in o))
     (entry (widen (mapped (exact_word n) bare Free (λ w o f. tt) (λ w o f. tt)) (CalledText b) (λ l z s. inl s)) (λ o. ⊤ × (has (next_built_in o) ≡ true)) (λ o i. tt))
     (entry (widen (mapped (exact_name n 0 (omega arith)) (named b) Free (λ x o f. tt) (λ x o f. tt)) (CalledText b) (λ l z s. inr s)) (λ o. ⊤ × (has (next_built_in o) ≡ false)) (λ o i. tt))
     (λ l z o s f. word_begins l z o s) (λ l z o s f. name_begins b l z o s)
 
-some_called : (b : Bool) → (l : Lead) × (z : Pieces) × CalledText b l z
+some_called : (b : Option NumberType) → (l : Lead) × (z : Pieces) × CalledText b l z
 some_called b = (named b some_name, _, inr (some_name, refl, refl))
 
 word_no_mark : (m : Mark) (w : BuiltIn) (at : Place) → is_mark m (Some (token mark.Input at)) ≡ false → is_mark m (Some (token mark.Assert at)) ≡ false →
@@ -117,11 +118,11 @@ word_no_mark m of_input at i j k = i
 word_no_mark m of_assert at i j k = j
 word_no_mark m of_assume at i j k = k
 
-called_no_int : (b : Bool) (l : Lead) (z : Pieces) (o : Option Token) → CalledText b l z → is_mark mark.Int (first_or z o) ≡ false
+called_no_int : (b : Option NumberType) (l : Lead) (z : Pieces) (o : Option Token) → CalledText b l z → is_mark mark.Int (first_or z o) ≡ false
 called_no_int b l z o (inl (w, f, (at, e))) = rw e (word_no_mark mark.Int w at refl refl refl)
 called_no_int b l z o (inr (x, f, e)) = rw e refl
 
-called_no_long : (b : Bool) (l : Lead) (z : Pieces) (o : Option Token) → CalledText b l z → is_mark mark.Long (first_or z o) ≡ false
+called_no_long : (b : Option NumberType) (l : Lead) (z : Pieces) (o : Option Token) → CalledText b l z → is_mark mark.Long (first_or z o) ≡ false
 called_no_long b l z o (inl (w, f, (at, e))) = rw e (word_no_mark mark.Long w at refl refl refl)
 called_no_long b l z o (inr (x, f, e)) = rw e refl
 
@@ -129,14 +130,17 @@ called_no_long b l z o (inr (x, f, e)) = rw e refl
 
 abbrev pub PlainLead : Lead → Texts
 PlainLead (lead.Main x) = IsMainName x
-PlainLead (lead.Typed x) = IsType ⋅ name x 0
+PlainLead (lead.Typed t x) = IsType t ⋅ name x 0
 PlainLead (lead.Void x) = spells mark.Void ⋅ name x 0
 PlainLead lead.Bare = IsReservedHead
 
+abbrev CalledType : NumberType → Lead → Texts
+CalledType t l = CalledText (Some t) l
+
 abbrev LeadAt : Option HeadMark → Lead → Texts
 LeadAt (Some at_int) l = opens mark.Int 0 ⋅ Of lead.Main MainText l
-LeadAt (Some at_type) l = IsType ⋅ CalledText true l
-LeadAt (Some at_void) l = opens mark.Void 0 ⋅ CalledText false l
+LeadAt (Some at_type) l = TypedText CalledType l
+LeadAt (Some at_void) l = opens mark.Void 0 ⋅ CalledText None l
 LeadAt None l = λ z. ⊥
 
 abbrev WordsText : Texts
@@ -154,23 +158,23 @@ word_in z (inr (inr s)) = (of_assume, s)
 
 to_plain : (k : Option HeadMark) (l : Lead) (z : Pieces) → LeadAt k l z → PlainLead l z
 to_plain (Some at_int) l z (x, y, e, s, (i, f, t)) = subst (λ (c : Lead). PlainLead c z) f (t.1, (x, y, e, s, t.0))
-to_plain (Some at_type) l z (x, y, e, s, inl (w, f, t)) = subst (λ (c : Lead). PlainLead c z) f (x, y, e, inr s, word_out w y t)
-to_plain (Some at_type) l z (x, y, e, s, inr (i, f, t)) = subst (λ (c : Lead). PlainLead c z) f (x, y, e, s, t)
+to_plain (Some at_type) l z (k, (x, y, e, s, inl (w, f, t))) = subst (λ (c : Lead). PlainLead c z) f (x, y, e, inr (k, s), word_out w y t)
+to_plain (Some at_type) l z (k, (x, y, e, s, inr (i, f, t))) = subst (λ (c : Lead). PlainLead c z) f (x, y, e, s, t)
 to_plain (Some at_void) l z (x, y, e, s, inl (w, f, t)) = subst (λ (c : Lead). PlainLead c z) f (x, y, e, inl s, word_out w y t)
 to_plain (Some at_void) l z (x, y, e, s, inr (i, f, t)) = subst (λ (c : Lead). PlainLead c z) f (x, y, e, s, t)
 to_plain None l z s = absurd s
 
 from_plain : (l : Lead) (z : Pieces) → PlainLead l z → (k : Option HeadMark) × LeadAt k l z
 from_plain (lead.Main i) z (w, (x, y, e, s, t)) = (Some at_int, (x, y, e, s, (i, refl, (t, w))))
-from_plain (lead.Typed i) z (x, y, e, s, t) = (Some at_type, (x, y, e, s, inr (i, refl, t)))
+from_plain (lead.Typed k i) z (x, y, e, s, t) = (Some at_type, (k, (x, y, e, s, inr (i, refl, t))))
 from_plain (lead.Void i) z (x, y, e, s, t) = (Some at_void, (x, y, e, s, inr (i, refl, t)))
 from_plain lead.Bare z (x, y, e, inl s, t) = let k = word_in y t in (Some at_void, (x, y, e, s, inl (k.0, refl, k.1)))
-from_plain lead.Bare z (x, y, e, inr s, t) = let k = word_in y t in (Some at_type, (x, y, e, s, inl (k.0, refl, k.1)))
+from_plain lead.Bare z (x, y, e, inr (w, s), t) = let k = word_in y t in (Some at_type, (w, (x, y, e, s, inl (k.0, refl, k.1))))
 
 lead_begins : (k : Option HeadMark) (l : Lead) (z : Pieces) (o : Option Token) (P : Option Token → Type 0) → LeadAt k l z → ((at : Place) → k ≡ Some at_int → P (Some (token mark.Int at)))
     → ((at : Place) → k ≡ Some at_type → P (Some (token mark.Long at))) → ((at : Place) → k ≡ Some at_void → P (Some (token mark.Void at))) → P (first_or z o)
 lead_begins (Some at_int) l z o P (x, y, e, s, t) a b c = first_opened P mark.Int 0 x y z o e s (λ at. a at refl)
-lead_begins (Some at_type) l z o P (x, y, e, (u, v, f, s, r), t) a b c = first_opened P mark.Long 0 u (v ++ y) z o (e ∙ regroup x y u v f) s (λ at. b at refl)
+lead_begins (Some at_type) l z o P (w, (x, y, e, s, t)) a b c = type_first w x y z o P e s (λ at. b at refl)
 lead_begins (Some at_void) l z o P (x, y, e, s, t) a b c = first_opened P mark.Void 0 x y z o e s (λ at. c at refl)
 lead_begins None l z o P s a b c = absurd s
 
@@ -185,10 +189,11 @@ each_lead n (Some at_int) =
     let p = exact_behind mark.Int 0 (omega arith) (mapped (exact_main n) lead.Main Free (λ x o f. tt) (λ x o f. tt)) (lead.Main some_main, _, (some_main, refl, (refl, refl))) in
     entry (widen p PlainLead (λ l z s. to_plain (Some at_int) l z s)) (HeadKey (Some at_int)) (λ o i. tt)
 each_lead n (Some at_type) =
-    let p = exact_type (exact_called n true) (some_called true) (λ l z o s f. called_no_int true l z o s) (λ l z o s f. called_no_long true l z o s) in
+    let p = exact_type (λ t. lead_behind (Some t)) CalledType (λ t. exact_called n (Some t)) (some_called (Some Long)) (λ l z o s f. called_no_int (Some Long) l z o s)
+    (λ l z o s f. called_no_long (Some Long) l z o s) in
     entry (widen p PlainLead (λ l z s. to_plain (Some at_type) l z s)) (HeadKey (Some at_type)) (λ o i. tt)
 each_lead n (Some at_void) =
-    let p = exact_behind mark.Void 0 (omega arith) (exact_called n false) (some_called false) in
+    let p = exact_behind mark.Void 0 (omega arith) (exact_called n None) (some_called None) in
     entry (widen p PlainLead (λ l z s. to_plain (Some at_void) l z s)) (HeadKey (Some at_void)) (λ o i. tt)
 each_lead n None = exact_stop (HeadKey None) PlainLead Free (lead.Void some_name) _ (_, _, refl, (some_place, refl), refl)
 
@@ -226,36 +231,36 @@ lead_first l z o (inr s) = let k = from_plain l z s in lead_begins k.0 l z o (λ
 
 -- what it is in the grammar ----------------------------------------------------------------------------------------
 
--- whether there is a result, and the name; `extern` and the words in place of a name are no function's
-abbrev pub head_of : Lead → Option (Bool × Identifier)
-head_of (lead.Main x) = Some (true, x)
-head_of (lead.Typed x) = Some (true, x)
-head_of (lead.Void x) = Some (false, x)
+-- the type of the result, where there is one, and the name; `extern` and the words in place of a name are no function's
+abbrev pub head_of : Lead → Option Heading
+head_of (lead.Main x) = Some (Some Long, x)
+head_of (lead.Typed t x) = Some (Some t, x)
+head_of (lead.Void x) = Some (None, x)
 head_of lead.Bare = None
 
 -- the head of a function
-pub lead_head : (l : Lead) (h : Bool × Identifier) (z : Pieces) → head_of l ≡ Some h → LeadText l z → IsHead h.0 h.1 z
+pub lead_head : (l : Lead) (h : Heading) (z : Pieces) → head_of l ≡ Some h → LeadText l z → IsHead h.0 h.1 z
 lead_head (lead.Main i) h z e (inl (x, y, f, s, (k, g, t))) = absurd cc
-lead_head (lead.Typed i) h z e (inl (x, y, f, s, (k, g, t))) = absurd cc
+lead_head (lead.Typed w i) h z e (inl (x, y, f, s, (k, g, t))) = absurd cc
 lead_head (lead.Void i) h z e (inl (x, y, f, s, (k, g, t))) = absurd cc
-lead_head (lead.Main i) h z e (inr s) = let f : (true, i) ≡ h = cc in subst (λ (c : Bool × Identifier). IsHead c.0 c.1 z) f (inl s)
-lead_head (lead.Typed i) h z e (inr s) = let f : (true, i) ≡ h = cc in subst (λ (c : Bool × Identifier). IsHead c.0 c.1 z) f (inr s)
-lead_head (lead.Void i) h z e (inr s) = let f : (false, i) ≡ h = cc in subst (λ (c : Bool × Identifier). IsHead c.0 c.1 z) f s
+lead_head (lead.Main i) h z e (inr s) = let f : (Some Long, i) ≡ h = cc in subst (λ (c : Heading). IsHead c.0 c.1 z) f (inl s)
+lead_head (lead.Typed Long i) h z e (inr s) = let f : (Some Long, i) ≡ h = cc in subst (λ (c : Heading). IsHead c.0 c.1 z) f (inr s)
+lead_head (lead.Void i) h z e (inr s) = let f : (None, i) ≡ h = cc in subst (λ (c : Heading). IsHead c.0 c.1 z) f s
 lead_head lead.Bare h z e s = absurd cc
 
-pub head_lead : (b : Bool) (i : Identifier) (z : Pieces) → IsHead b i z → (l : Lead) × (head_of l ≡ Some (b, i)) × PlainLead l z
-head_lead true i z (inl s) = (lead.Main i, refl, s)
-head_lead true i z (inr s) = (lead.Typed i, refl, s)
-head_lead false i z s = (lead.Void i, refl, s)
+pub head_lead : (b : Option NumberType) (i : Identifier) (z : Pieces) → IsHead b i z → (l : Lead) × (head_of l ≡ Some (b, i)) × PlainLead l z
+head_lead (Some Long) i z (inl s) = (lead.Main i, refl, s)
+head_lead (Some Long) i z (inr s) = (lead.Typed Long i, refl, s)
+head_lead None i z s = (lead.Void i, refl, s)
 
 -- of a prototype
 abbrev pub OuterText : Texts
 OuterText = (spells mark.Extern ∣ (λ z. z ≡ [])) ⋅ (IsSomeHead ∣ IsReservedHead)
 
 plain_some : (l : Lead) (z : Pieces) → PlainLead l z → (IsSomeHead ∣ IsReservedHead) z
-plain_some (lead.Main i) z s = inl (true, i, inl s)
-plain_some (lead.Typed i) z s = inl (true, i, inr s)
-plain_some (lead.Void i) z s = inl (false, i, s)
+plain_some (lead.Main i) z s = inl (Some Long, i, inl s)
+plain_some (lead.Typed Long i) z s = inl (Some Long, i, inr s)
+plain_some (lead.Void i) z s = inl (None, i, s)
 plain_some lead.Bare z s = inr s
 
 some_plain : (z : Pieces) → (IsSomeHead ∣ IsReservedHead) z → (l : Lead) × PlainLead l z

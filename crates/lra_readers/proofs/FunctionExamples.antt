@@ -1,8 +1,11 @@
 -- Trees and first faults of sources with functions, found by reading their tokens.
-use Rattle.std.proofs.Common.{◌≡◌, true, false, [], ◌∷◌, codes, Ok, Err, refl}
+use Rattle.std.proofs.Common.{◌≡◌, [], ◌∷◌, codes, Some, None, Ok, Err, refl}
+use Rattle.lra_base.specs.declared.number_types.NumberType.TheVariants.{Long}
 use Rattle.lra_base.specs.declared.refusals.Cause.TheVariants.{Syntax}
 use Rattle.lra_tree.specs.declared.tokens.Mark.TheVariants as mark
 use Rattle.lra_tree.specs.declared.tokens.Kind.TheVariants.{Number}
+use Rattle.lra_tree.specs.declared.trees.Identifier.{Identifier}
+use Rattle.lra_tree.specs.declared.trees.Parameter.{Parameter}
 use Rattle.lra_tree.specs.Faults.{IsTree, IsTextFault}
 use Rattle.lra_tree.specs.Grammar.{Spells}
 use Rattle.lra_tree.specs.Trees.{call, no_items, statement, function, FileTree}
@@ -26,12 +29,21 @@ three = mark_token mark.Void 1 ∷ word_at (codes "f") 6 ∷ mark_token mark.Ope
     ∷ mark_token mark.OpenParen 57 ∷ token_at (Number 1) 58 ∷ mark_token mark.Comma 59 ∷ token_at (Number 2) 60 ∷ mark_token mark.CloseParen 61 ∷ mark_token mark.Semicolon 62 ∷
     mark_token mark.CloseBrace 63 ∷ []
 
+abbrev long_parameter : Identifier → Parameter
+long_parameter x = record { number_type = Long; name = x }
+
 abbrev three_tree : FileTree
 three_tree = record {
-  parts = function (record { has_result = false; name = named_at (codes "f") 6; parameters = named_at (codes "a") 13 ∷ named_at (codes "b") 29 ∷ []; body = no_items; end = in_line 32 })
-      ∷ function (record { has_result = true; name = named_at (codes "g") 39; parameters = []; body = no_items; end = in_line 43 })
+  parts = function (record {
+    result_type = None;
+    name = named_at (codes "f") 6;
+    parameters = long_parameter (named_at (codes "a") 13) ∷ long_parameter (named_at (codes "b") 29) ∷ [];
+    body = no_items;
+    end = in_line 32;
+  })
+      ∷ function (record { result_type = Some Long; name = named_at (codes "g") 39; parameters = []; body = no_items; end = in_line 43 })
       ∷ function (record {
-        has_result = true;
+        result_type = Some Long;
         name = named_at (codes "main") 49;
         parameters = [];
         body = statement (call (record { name = named_at (codes "f") 56; arguments = number 1 ∷ number 2 ∷ [] })) no_items;

@@ -1,6 +1,7 @@
 -- Trees and first faults of sources with globals, found by reading their tokens.
-use Rattle.std.proofs.Common.{◌≡◌, true, [], ◌∷◌, codes, Some, None, Ok, Err, refl}
+use Rattle.std.proofs.Common.{◌≡◌, [], ◌∷◌, codes, Some, None, Ok, Err, refl}
 use Rattle.std.specs.Prelude.{negsuc}
+use Rattle.lra_base.specs.declared.number_types.NumberType.TheVariants.{Long}
 use Rattle.lra_base.specs.declared.refusals.Cause.TheVariants.{Syntax}
 use Rattle.lra_tree.specs.declared.tokens.Mark.TheVariants as mark
 use Rattle.lra_tree.specs.declared.tokens.Kind.TheVariants.{Number}
@@ -24,8 +25,8 @@ two = mark_token mark.Long 1 ∷ word_at (codes "g") 6 ∷ mark_token mark.Comma
 
 abbrev two_tree : FileTree
 two_tree = record {
-  parts = globals (record { first = record { name = named_at (codes "g") 6; value = None }; rest = record { name = named_at (codes "h") 8; value = Some (negsuc 4) } ∷ [] })
-      ∷ function (record { has_result = true; name = named_at (codes "main") 17; parameters = []; body = no_items; end = in_line 24 }) ∷ [];
+  parts = globals (record { number_type = Long; first = record { name = named_at (codes "g") 6; value = None }; rest = record { name = named_at (codes "h") 8; value = Some (negsuc 4) } ∷ [] })
+      ∷ function (record { result_type = Some Long; name = named_at (codes "main") 17; parameters = []; body = no_items; end = in_line 24 }) ∷ [];
   end = in_line 25;
 }
 

@@ -1,5 +1,6 @@
 -- Trees and first faults of sources with loops, found by reading their tokens.
 use Rattle.std.proofs.Common.{◌≡◌, ℕ, ◌+◌, zero, suc, true, List, [], ◌∷◌, ◌++◌, codes, Some, None, Ok, Err, refl}
+use Rattle.lra_base.specs.declared.number_types.NumberType.TheVariants.{Long}
 use Rattle.lra_base.specs.declared.refusals.Cause.TheVariants.{Syntax, TooDeep}
 use Rattle.lra_tree.specs.declared.tokens.Mark.TheVariants as mark
 use Rattle.lra_tree.specs.declared.tokens.Kind.TheVariants.{Name, Number, End}
@@ -27,7 +28,7 @@ ends T column e = record { front = T; last = token_at End column; parts = refl; 
 abbrev pub main_of : ItemsTree → ℕ → FileTree
 main_of body column =
     record {
-      parts = function (record { has_result = true; name = record { word = codes "main"; place = in_line 5 }; parameters = []; body = body; end = in_line column }) ∷ [];
+      parts = function (record { result_type = Some Long; name = record { word = codes "main"; place = in_line 5 }; parameters = []; body = body; end = in_line column }) ∷ [];
       end = in_line (column + 1);
     }
 
@@ -138,7 +139,7 @@ inner = main_head (mark_token mark.For 17 ∷ mark_token mark.OpenParen 20 ∷ m
     ∷ mark_token mark.CloseBrace 51 ∷ mark_token mark.CloseBrace 53 ∷ [])
 
 abbrev one_name : List ℕ → ℕ → DeclarationTree
-one_name word column = record { first = record { name = record { word = word; place = in_line column }; rvalue = None }; rest = [] }
+one_name word column = record { number_type = Long; first = record { name = record { word = word; place = in_line column }; rvalue = None }; rest = [] }
 
 abbrev inner_tree : FileTree
 inner_tree = main_of (statement (for (in_line 17) (declared (one_name (codes "i") 26)) None None

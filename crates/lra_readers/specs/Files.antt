@@ -2,6 +2,8 @@
 use Rattle.std.specs.Prelude.{◌≡◌, ◌≢◌, ℕ, ◌<◌, ℤ, pos, neg_ℤ, ⊤, Bool, true, false, cond, bytes_eq, codes, List, []}
 use Rattle.std.specs.Prelude.{◌∷◌, ◌++◌, Option, Some, None, option_map, Result, Ok, Err}
 use Rattle.std.specs.List.{AllByRecursion}
+use Rattle.lra_base.specs.declared.number_types.NumberType.{NumberType}
+use Rattle.lra_base.specs.declared.number_types.NumberType.TheVariants.{Long}
 use Rattle.lra_base.specs.declared.refusals.Place.{Place}
 use Rattle.lra_base.specs.declared.refusals.Cause.TheVariants.{Syntax}
 use Rattle.lra_tree.specs.declared.tokens.Mark.{Mark}
@@ -10,6 +12,7 @@ use Rattle.lra_tree.specs.declared.tokens.Kind.{Kind}
 use Rattle.lra_tree.specs.declared.tokens.Kind.TheVariants.{Name, Number, Mark as MarkOf, Reserved, Unclosed, End}
 use Rattle.lra_tree.specs.declared.tokens.Token.{Token}
 use Rattle.lra_tree.specs.declared.trees.Identifier.{Identifier}
+use Rattle.lra_tree.specs.declared.trees.Parameter.{Parameter}
 use Rattle.lra_tree.specs.Trees.{ItemsTree, FunctionTree, GlobalTree, PartTree, prototype, globals, function, FileTree}
 use Rattle.lra_readers.specs.declared.lead.Lead.{Lead}
 use Rattle.lra_readers.specs.declared.lead.Lead.TheVariants as lead
@@ -75,18 +78,18 @@ abbrev pub next_built_in : Option Token → Option BuiltIn
 next_built_in o = one_of built_ins o
 
 -- behind a type, or behind `void`
-abbrev pub named : Bool → Identifier → Lead
-named true x = lead.Typed x
-named false x = lead.Void x
+abbrev pub named : Option NumberType → Identifier → Lead
+named (Some t) x = lead.Typed t x
+named None x = lead.Void x
 
-abbrev pub lead_behind : Bool → Parse Lead
-lead_behind b T = cond (has (next_built_in (first T))) (map_read (λ w. lead.Bare) (take_by next_built_in) T)
-    (map_read (named b) (take_by next_name) T)
+abbrev pub lead_behind : Option NumberType → Parse Lead
+lead_behind t T = cond (has (next_built_in (first T))) (map_read (λ w. lead.Bare) (take_by next_built_in) T)
+    (map_read (named t) (take_by next_name) T)
 
 abbrev pub lead_form : Option HeadMark → Parse Lead
 lead_form (Some at_int) = behind mark.Int (map_read lead.Main (take_by next_main))
-lead_form (Some at_type) = seq type_words (λ _. lead_behind true)
-lead_form (Some at_void) = behind mark.Void (lead_behind false)
+lead_form (Some at_type) = seq type_words (λ t. lead_behind (Some t))
+lead_form (Some at_void) = behind mark.Void (lead_behind None)
 lead_form None = stop Syntax
 
 -- without `extern`
@@ -108,48 +111,54 @@ abbrev pub ends_parameter : Option Token → Bool
 ends_parameter o = has (one_of parameter_ends o)
 
 -- nothing, where a parameter ends
-abbrev pub no_name : Parse (Option Identifier)
+abbrev pub no_name : Parse (Option Parameter)
 no_name T = cond (ends_parameter (first T)) (done_with None T) (stop Syntax T)
 
--- a name, or nothing
-abbrev pub name_or_none : Parse (Option Identifier)
-name_or_none T = cond (has (next_name (first T))) (map_read Some (take_by next_name) T) (no_name T)
+abbrev pub parameter_of : NumberType → Identifier → Option Parameter
+parameter_of t x = Some (record { number_type = t; name = x })
+
+-- a name behind a type, or nothing
+abbrev pub name_or_none : NumberType → Parse (Option Parameter)
+name_or_none t T = cond (has (next_name (first T))) (map_read (parameter_of t) (take_by next_name) T) (no_name T)
 
 -- a type, and maybe a name
-abbrev pub parameter_at : Parse (Option Identifier)
-parameter_at = seq type_words (λ _. name_or_none)
+abbrev pub parameter_at : Parse (Option Parameter)
+parameter_at = seq type_words name_or_none
 
 -- parameters with commas between them, `void` or nothing, and the closing parenthesis
-abbrev pub parameters_at : Parse (List (Option Identifier))
+abbrev pub parameters_at : Parse (List (Option Parameter))
 parameters_at T =
     cond (is_mark mark.CloseParen (first T)) (expect mark.CloseParen [] T)
     (cond (is_mark mark.Void (first T)) (behind mark.Void (expect mark.CloseParen []) T)
     (ended mark.CloseParen (map_read listed (commas parameter_at)) T))
 
--- the names, if each parameter has one
-abbrev pub names_of : List (Option Identifier) → Option (List Identifier)
-names_of [] = Some []
-names_of (None ∷ ps) = None
-names_of (Some x ∷ ps) = option_map (λ xs. x ∷ xs) (names_of ps)
+-- the parameters, if each has a name
+abbrev pub all_named : List (Option Parameter) → Option (List Parameter)
+all_named [] = Some []
+all_named (None ∷ ps) = None
+all_named (Some p ∷ ps) = option_map (λ qs. p ∷ qs) (all_named ps)
 
 -- functions and prototypes ------------------------------------------------------------------------------------------
 
-abbrev pub signature_of : Option (Bool × Identifier) → List (Option Identifier) →
-    Option ((Bool × Identifier) × List Identifier)
-signature_of None ps = None
-signature_of (Some h) ps = option_map (λ xs. (h, xs)) (names_of ps)
+-- the type of the result, where there is one, and the name
+abbrev pub Heading : Type 0
+Heading = Option NumberType × Identifier
 
-abbrev pub function_of : (Bool × Identifier) × List Identifier → ItemsTree × Place → FunctionTree
-function_of s b = record { has_result = s.0.0; name = s.0.1; parameters = s.1; body = b.0; end = b.1 }
+abbrev pub signature_of : Option Heading → List (Option Parameter) → Option (Heading × List Parameter)
+signature_of None ps = None
+signature_of (Some h) ps = option_map (λ xs. (h, xs)) (all_named ps)
+
+abbrev pub function_of : Heading × List Parameter → ItemsTree × Place → FunctionTree
+function_of s b = record { result_type = s.0.0; name = s.0.1; parameters = s.1; body = b.0; end = b.1 }
 
 -- behind the parameters: a body, where the part may be a function, or a semicolon; d levels are left inside
-abbrev pub ending : ℕ → Option ((Bool × Identifier) × List Identifier) → Parse PartTree
+abbrev pub ending : ℕ → Option (Heading × List Parameter) → Parse PartTree
 ending d None = expect mark.Semicolon prototype
 ending d (Some s) = λ T. cond (is_mark mark.OpenBrace (first T))
     (map_read (λ b. function (function_of s b)) (body_of (items_at d)) T) (expect mark.Semicolon prototype T)
 
 -- behind what it begins with
-abbrev pub signature_at : ℕ → Option (Bool × Identifier) → Parse PartTree
+abbrev pub signature_at : ℕ → Option Heading → Parse PartTree
 signature_at d h = behind mark.OpenParen (seq parameters_at (λ ps. ending d (signature_of h ps)))
 
 -- globals -----------------------------------------------------------------------------------------------------------
@@ -176,25 +185,26 @@ value_at x T = cond (is_mark mark.Assign (first T)) (behind mark.Assign (map_rea
 abbrev pub global_at : Parse GlobalTree
 global_at = seq (take_by next_name) value_at
 
-abbrev pub globals_of : GlobalTree × List GlobalTree → PartTree
-globals_of gs = globals (record { first = gs.0; rest = gs.1 })
+abbrev pub globals_of : NumberType → GlobalTree × List GlobalTree → PartTree
+globals_of t gs = globals (record { number_type = t; first = gs.0; rest = gs.1 })
 
--- behind the name of the first
-abbrev pub globals_at : Identifier → Parse PartTree
-globals_at x = map_read globals_of (ended mark.Semicolon (commas_from (value_at x) global_at))
+-- behind their type and the name of the first
+abbrev pub globals_at : NumberType → Identifier → Parse PartTree
+globals_at t x = map_read (globals_of t) (ended mark.Semicolon (commas_from (value_at x) global_at))
 
 -- parts -------------------------------------------------------------------------------------------------------------
 
 -- behind what a part begins with
 -- what a part may go on as: with a name behind a type as a function or as globals, else with this head of a signature
-abbrev pub split_lead : Lead → Result Identifier (Option (Bool × Identifier))
-split_lead (lead.Main x) = Err (Some (true, x))
-split_lead (lead.Typed x) = Ok x
-split_lead (lead.Void x) = Err (Some (false, x))
+abbrev pub split_lead : Lead → Result (NumberType × Identifier) (Option Heading)
+split_lead (lead.Main x) = Err (Some (Some Long, x))
+split_lead (lead.Typed t x) = Ok (t, x)
+split_lead (lead.Void x) = Err (Some (None, x))
 split_lead lead.Bare = Err None
 
-abbrev pub rest_of : ℕ → Result Identifier (Option (Bool × Identifier)) → Parse PartTree
-rest_of d (Ok x) = λ T. cond (is_mark mark.OpenParen (first T)) (signature_at d (Some (true, x)) T) (globals_at x T)
+abbrev pub rest_of : ℕ → Result (NumberType × Identifier) (Option Heading) → Parse PartTree
+rest_of d (Ok h) = λ T. cond (is_mark mark.OpenParen (first T)) (signature_at d (Some (Some h.0, h.1)) T)
+    (globals_at h.0 h.1 T)
 rest_of d (Err head) = signature_at d head
 
 abbrev pub rest_at : ℕ → Lead → Parse PartTree

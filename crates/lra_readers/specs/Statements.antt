@@ -1,6 +1,8 @@
 -- Readers of calls, assignments, declarations and statements. d levels of nesting are left.
 use Rattle.std.specs.Prelude.{ℕ, zero, suc, Bool, true, cond, ◌||◌, List, [], ◌∷◌, Option, Some, None, Ok}
 use Rattle.std.specs.Prelude.{option_map}
+use Rattle.lra_base.specs.declared.number_types.NumberType.{NumberType}
+use Rattle.lra_base.specs.declared.number_types.NumberType.TheVariants.{Long}
 use Rattle.lra_base.specs.declared.refusals.Place.{Place}
 use Rattle.lra_base.specs.declared.refusals.Cause.TheVariants.{Syntax, TooDeep}
 use Rattle.lra_tree.specs.declared.tokens.Mark.{Mark}
@@ -98,8 +100,8 @@ assign_at d T = cond (has (next_step (first T))) (step_first T) (seq (take_by ne
 -- declarations -----------------------------------------------------------------------------------------------------
 
 -- `long`, `long long`, `long int`, `long long int`
-abbrev pub type_words : Parse (Unit {0})
-type_words = seq (expect mark.Long (tt {0})) (λ _ T. Ok (tt {0}, skip mark.Int (skip mark.Long T)))
+abbrev pub type_words : Parse NumberType
+type_words = seq (expect mark.Long (tt {0})) (λ _ T. Ok (Long, skip mark.Int (skip mark.Long T)))
 
 -- behind the name of the variable
 abbrev pub declared_value : ℕ → Identifier → Parse DeclaratorTree
@@ -111,11 +113,11 @@ declared_value d x T =
 abbrev pub declarator_at : ℕ → Parse DeclaratorTree
 declarator_at d = seq (take_by next_name) (declared_value d)
 
-abbrev pub declaration_of : DeclaratorTree × List DeclaratorTree → DeclarationTree
-declaration_of ds = record { first = ds.0; rest = ds.1 }
+abbrev pub declaration_of : NumberType → DeclaratorTree × List DeclaratorTree → DeclarationTree
+declaration_of t ds = record { number_type = t; first = ds.0; rest = ds.1 }
 
 abbrev pub declaration_at : ℕ → Parse DeclarationTree
-declaration_at d = seq type_words (λ _. ended mark.Semicolon (map_read declaration_of (commas (declarator_at d))))
+declaration_at d = seq type_words (λ t. ended mark.Semicolon (map_read (declaration_of t) (commas (declarator_at d))))
 
 -- statements -------------------------------------------------------------------------------------------------------
 

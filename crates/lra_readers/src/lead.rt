@@ -3,6 +3,7 @@
 ghost use Rattle.std.specs.Prelude.{◌≡◌};
 ghost use Rattle.lra_readers.specs.Files.{split_lead};
 
+use lra_base::NumberType;
 use lra_tree::Identifier;
 
 /// What a part begins with.
@@ -10,7 +11,7 @@ pub enum Lead {
     /// `int main`.
     Main(Identifier),
     /// A type and a name.
-    Typed(Identifier),
+    Typed(NumberType, Identifier),
     /// `void` and a name.
     Void(Identifier),
     /// `extern`, or `input`, `assert` or `assume` in place of a name: what no function begins with.
@@ -21,7 +22,7 @@ impl Drop for Lead {
     fn drop(self) {
         match self {
             Lead::Main(_) => {}
-            Lead::Typed(_) => {}
+            Lead::Typed(_, _) => {}
             Lead::Void(_) => {}
             Lead::Bare => {}
         }
@@ -29,15 +30,15 @@ impl Drop for Lead {
 }
 
 impl Lead {
-    /// The name behind a type, with which a function or globals may begin; else the head of a signature: whether it
-    /// has a result, and its name.
-    pub fn split(self) -> Result<Identifier, Option<(bool, Identifier)>>
+    /// The type and the name with which a function or globals may begin; else the head of a signature: the type of
+    /// its result, if it has one, and its name.
+    pub fn split(self) -> Result<(NumberType, Identifier), Option<(Option<NumberType>, Identifier)>>
         ensures { result ≡ split_lead self }
     {
         match self {
-            Lead::Main(name) => Err(Some((true, name))),
-            Lead::Typed(name) => Ok(name),
-            Lead::Void(name) => Err(Some((false, name))),
+            Lead::Main(name) => Err(Some((Some(NumberType::Long), name))),
+            Lead::Typed(number_type, name) => Ok((number_type, name)),
+            Lead::Void(name) => Err(Some((None, name))),
             Lead::Bare => Err(None),
         }
     }
