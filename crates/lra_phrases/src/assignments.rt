@@ -10,7 +10,7 @@ ghost use Rattle.lra_readers.specs.Statements.{declaration_at};
 
 use crate::calls::read_rvalue;
 use crate::expressions::read_expr;
-use lra_base::{Cause, Operator, Place};
+use lra_base::{Cause, NumberType, Operator, Place};
 use lra_readers::{Stopped, expect, next_is, read_name, stop, tail};
 use lra_tree::{Assign, Declaration, Declarator, Identifier, Mark, Step, Token};
 use std::alloc::Global;
@@ -115,13 +115,13 @@ pub fn read_assign(
     read_assign_rest(alloc, name, after, depth)
 }
 
-/// What comes behind the words of a type: `long`, maybe `long`, maybe `int`.
-pub fn read_type(rest: &[Token]) -> Result<&[Token], Stopped>
-    ensures shorter { IfOk result (λ r. length r.now < length rest.now) }
-    ensures gives { Gives (λ r. (tt {0}, r.now)) result (type_words rest.now) }
+/// A type, and what comes behind its words: `long`, maybe `long`, maybe `int`.
+pub fn read_type(rest: &[Token]) -> Result<(NumberType, &[Token]), Stopped>
+    ensures shorter { IfOk result (λ r. length r.1.now < length rest.now) }
+    ensures gives { Gives (λ r. (r.0, r.1.now)) result (type_words rest.now) }
 {
     let word = expect(rest, Mark::Long)?;
-    Ok(skip(skip(word, Mark::Long), Mark::Int))
+    Ok((NumberType::Long, skip(skip(word, Mark::Long), Mark::Int)))
 }
 
 /// A name, and what the variable gets.
@@ -142,15 +142,16 @@ fn read_declarator(
     Ok((Declarator { name, rvalue: None }, behind))
 }
 
-/// Declarators with commas between them.
+/// Declarators of this type with commas between them.
 fn read_declarators(
     alloc: Global,
+    number_type: NumberType,
     rest: &[Token],
     depth: usize,
 ) -> Result<(Declaration, &[Token]), Stopped>
     ensures shorter { IfOk result (λ r. length r.1.now ≤ length rest.now) }
     ensures gives { Gives (λ r. (declaration_view r.0, r.1.now)) result
-        (map_read declaration_of (commas (declarator_at depth)) rest.now) }
+        (map_read (declaration_of number_type) (commas (declarator_at depth)) rest.now) }
 {
     let (first, mut left) = read_declarator(alloc, rest, depth)?;
     let mut declarators = Vec::new(alloc);
@@ -161,6 +162,7 @@ fn read_declarators(
     }
     Ok((
         Declaration {
+            number_type,
             first,
             rest: declarators,
         },
@@ -177,8 +179,8 @@ pub fn read_declaration(
     ensures shorter { IfOk result (λ r. length r.1.now < length rest.now) }
     ensures gives { Gives (λ r. (declaration_view r.0, r.1.now)) result (declaration_at depth rest.now) }
 {
-    let behind = read_type(rest)?;
-    let (declaration, after) = read_declarators(alloc, behind, depth)?;
+    let (number_type, behind) = read_type(rest)?;
+    let (declaration, after) = read_declarators(alloc, number_type, behind, depth)?;
     let end = expect(after, Mark::Semicolon)?;
     Ok((declaration, end))
 }

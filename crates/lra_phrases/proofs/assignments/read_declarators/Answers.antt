@@ -28,7 +28,7 @@ declarators-preserved c = record {
 }
 
 pub returns-clause-gives : goal.returns-clause-gives
-returns-clause-gives c = commas_gives (declarator_at c.args.depth) declaration_of (declarator_view c.in_ok-first.first)
+returns-clause-gives c = commas_gives (declarator_at c.args.depth) (declaration_of c.args.number_type) (declarator_view c.in_ok-first.first)
     (map declarator_view c.declarators.declarators.items) c.args.rest.now c.in_ok-first.left.now c.declarators.left.now c.in_ok-first.ensures.gives
     (turn_off (is_mark mark.Comma) (list_step (behind mark.Comma (declarator_at c.args.depth)))
     (map declarator_view c.declarators.declarators.items) c.declarators.left.now _ c.declarators.invariant.same (sym c.declarators-test.ensures))
@@ -36,11 +36,12 @@ returns-clause-gives c = commas_gives (declarator_at c.args.depth) declaration_o
 pub returns-in_err-declarator-clause-gives : goal.returns-in_err-declarator-clause-gives
 returns-in_err-declarator-clause-gives c =
     let p = err_from_is_err_and c.from_residual-in_err-declarator.result c.from_residual-in_err-declarator.ensures.1 in
-    rw (p.1, p.2) (commas_exit (declarator_at c.args.depth) declaration_of (declarator_view c.in_ok-first.first) c.args.rest.now c.in_ok-first.left.now c.in_err-declarator.field-0.0
+    rw (p.1, p.2) (commas_exit (declarator_at c.args.depth) (declaration_of c.args.number_type)
+    (declarator_view c.in_ok-first.first) c.args.rest.now c.in_ok-first.left.now c.in_err-declarator.field-0.0
     c.in_ok-first.ensures.gives
     (comma_exit mark.Comma (declarator_at c.args.depth) (map declarator_view c.declarators.declarators.items) c.declarators.left.now c.tail.result.now c.in_err-declarator.field-0.0 _
     c.declarators.invariant.same c.declarators-test.ensures c.tail.ensures.value c.in_err-declarator.ensures.gives))
 
 pub returns-in_err-first-clause-gives : goal.returns-in_err-first-clause-gives
 returns-in_err-first-clause-gives c = exit_gives _ c.from_residual.result _ _ c.from_residual.ensures.1
-    (commas_first (declarator_at c.args.depth) declaration_of c.args.rest.now c.in_err-first.field-0.0 c.in_err-first.ensures.gives)
+    (commas_first (declarator_at c.args.depth) (declaration_of c.args.number_type) c.args.rest.now c.in_err-first.field-0.0 c.in_err-first.ensures.gives)
