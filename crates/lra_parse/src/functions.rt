@@ -9,16 +9,16 @@ ghost use Rattle.lra_readers.specs.Statements.{commas, listed};
 ghost use Rattle.lra_readers.specs.Files.{AreSmall, next_main, next_end, next_built_in, named, lead_behind, at_type};
 ghost use Rattle.lra_readers.specs.Files.{at_void};
 ghost use Rattle.lra_readers.specs.Files.{lead_form, plain_lead, read_lead, ends_parameter, name_or_none, parameter_at};
-ghost use Rattle.lra_readers.specs.Files.{parameters_at, names_of, signature_of, function_of, ending, signature_at};
+ghost use Rattle.lra_readers.specs.Files.{parameters_at, all_named, signature_of, function_of, ending, signature_at};
 ghost use Rattle.lra_readers.specs.Files.{rest_at, part_at, begins_part, file_at};
 ghost use Rattle.lra_parse.specs.Heads.{signature_view};
 
 use crate::globals::read_globals;
 use crate::statements::read_body;
-use lra_base::{Cause, Place};
+use lra_base::{Cause, NumberType, Place};
 use lra_phrases::read_type;
 use lra_readers::{Lead, Stopped, expect, next_is, next_is_name, read_name, stop, tail};
-use lra_tree::{Block, Function, Identifier, Item, Kind, Mark, Parameters, Token, Tree};
+use lra_tree::{Block, Function, Identifier, Item, Kind, Mark, Parameter, Parameters, Token, Tree};
 use std::alloc::{AllocError, Global};
 
 /// The name `main`.
@@ -41,7 +41,7 @@ fn read_rest(alloc: Global, lead: Lead, rest: &[Token]) -> Result<(Item, &[Token
     ensures gives { Gives (λ r. (part_view r.0, r.1.now)) result (rest_at 63 lead rest.now) }
 {
     match lead.split() {
-        Ok(name) => read_typed(alloc, name, rest),
+        Ok((number_type, name)) => read_typed(alloc, number_type, name, rest),
         Err(head) => read_signature(alloc, head, rest),
     }
 }
@@ -60,26 +60,29 @@ fn next_is_built_in(rest: &[Token]) -> bool
 }
 
 /// What a part with this name begins with, behind a type or behind `void`.
-fn build_lead(has_result: bool, name: Identifier) -> Lead
-    ensures { result ≡ named has_result name }
+fn build_lead(result_type: Option<NumberType>, name: Identifier) -> Lead
+    ensures { result ≡ named result_type name }
 {
-    if has_result {
-        Lead::Typed(name)
-    } else {
-        Lead::Void(name)
+    match result_type {
+        Some(number_type) => Lead::Typed(number_type, name),
+        None => Lead::Void(name),
     }
 }
 
 /// A name, or a word in its place.
-fn read_called(alloc: Global, has_result: bool, rest: &[Token]) -> Result<(Lead, &[Token]), Stopped>
+fn read_called(
+    alloc: Global,
+    result_type: Option<NumberType>,
+    rest: &[Token],
+) -> Result<(Lead, &[Token]), Stopped>
     ensures shorter { IfOk result (λ r. length r.1.now ≤ length rest.now) }
-    ensures gives { Gives (λ r. (r.0, r.1.now)) result (lead_behind has_result rest.now) }
+    ensures gives { Gives (λ r. (r.0, r.1.now)) result (lead_behind result_type rest.now) }
 {
     if next_is_built_in(rest) {
         return Ok((Lead::Bare, tail(rest)));
     }
     let (name, after) = read_name(alloc, rest)?;
-    Ok((build_lead(has_result, name), after))
+    Ok((build_lead(result_type, name), after))
 }
 
 /// A type, and a name or a word in its place.
@@ -87,8 +90,8 @@ fn read_typed_lead(alloc: Global, rest: &[Token]) -> Result<(Lead, &[Token]), St
     ensures shorter { IfOk result (λ r. length r.1.now < length rest.now) }
     ensures gives { Gives (λ r. (r.0, r.1.now)) result (lead_form (Some at_type) rest.now) }
 {
-    let words = read_type(rest)?;
-    let (lead, after) = read_called(alloc, true, words)?;
+    let (number_type, words) = read_type(rest)?;
+    let (lead, after) = read_called(alloc, Some(number_type), words)?;
     Ok((lead, after))
 }
 
@@ -98,7 +101,7 @@ fn read_void_lead(alloc: Global, rest: &[Token]) -> Result<(Lead, &[Token]), Sto
     ensures gives { Gives (λ r. (r.0, r.1.now)) result (lead_form (Some at_void) rest.now) }
 {
     let word = expect(rest, Mark::Void)?;
-    let (lead, after) = read_called(alloc, false, word)?;
+    let (lead, after) = read_called(alloc, None, word)?;
     Ok((lead, after))
 }
 
@@ -145,17 +148,18 @@ fn ends_parameter(rest: &[Token]) -> bool
     next_is(rest, Mark::CloseParen)
 }
 
-/// A name, or nothing where a parameter ends.
+/// A parameter of this type, or nothing where it ends without a name.
 fn read_name_or_none(
     alloc: Global,
+    number_type: NumberType,
     rest: &[Token],
-) -> Result<(Option<Identifier>, &[Token]), Stopped>
+) -> Result<(Option<Parameter>, &[Token]), Stopped>
     ensures shorter { IfOk result (λ r. length r.1.now ≤ length rest.now) }
-    ensures gives { Gives (λ r. (r.0, r.1.now)) result (name_or_none rest.now) }
+    ensures gives { Gives (λ r. (r.0, r.1.now)) result (name_or_none number_type rest.now) }
 {
     if next_is_name(rest) {
         let (name, after) = read_name(alloc, rest)?;
-        return Ok((Some(name), after));
+        return Ok((Some(Parameter { number_type, name }), after));
     }
     if ends_parameter(rest) {
         return Ok((None, rest));
@@ -163,21 +167,18 @@ fn read_name_or_none(
     stop(Cause::Syntax, rest)
 }
 
-/// A type, and the name of a parameter, if it has one.
-fn read_parameter(alloc: Global, rest: &[Token]) -> Result<(Option<Identifier>, &[Token]), Stopped>
+/// A parameter, if it has a name.
+fn read_parameter(alloc: Global, rest: &[Token]) -> Result<(Option<Parameter>, &[Token]), Stopped>
     ensures shorter { IfOk result (λ r. length r.1.now < length rest.now) }
     ensures gives { Gives (λ r. (r.0, r.1.now)) result (parameter_at rest.now) }
 {
-    let words = read_type(rest)?;
-    let (name, after) = read_name_or_none(alloc, words)?;
-    Ok((name, after))
+    let (number_type, words) = read_type(rest)?;
+    let (parameter, after) = read_name_or_none(alloc, number_type, words)?;
+    Ok((parameter, after))
 }
 
 /// The list of this parameter.
-fn start_list(
-    alloc: Global,
-    first: Option<Identifier>,
-) -> Result<Vec<Option<Identifier>>, AllocError>
+fn start_list(alloc: Global, first: Option<Parameter>) -> Result<Vec<Option<Parameter>>, AllocError>
     ensures { IfOk result (λ v. v.items ≡ first ∷ []) }
 {
     let mut items = Vec::new(alloc);
@@ -186,7 +187,7 @@ fn start_list(
 }
 
 /// Parameters with commas between them.
-fn read_many(alloc: Global, rest: &[Token]) -> Result<(Vec<Option<Identifier>>, &[Token]), Stopped>
+fn read_many(alloc: Global, rest: &[Token]) -> Result<(Vec<Option<Parameter>>, &[Token]), Stopped>
     ensures shorter { IfOk result (λ r. length r.1.now ≤ length rest.now) }
     ensures gives { Gives (λ r. (r.0.items, r.1.now)) result (map_read listed (commas parameter_at) rest.now) }
 {
@@ -204,7 +205,7 @@ fn read_many(alloc: Global, rest: &[Token]) -> Result<(Vec<Option<Identifier>>, 
 fn read_parameters(
     alloc: Global,
     rest: &[Token],
-) -> Result<(Vec<Option<Identifier>>, &[Token]), Stopped>
+) -> Result<(Vec<Option<Parameter>>, &[Token]), Stopped>
     ensures shorter { IfOk result (λ r. length r.1.now ≤ length rest.now) }
     ensures gives { Gives (λ r. (r.0.items, r.1.now)) result (parameters_at rest.now) }
 {
@@ -220,18 +221,18 @@ fn read_parameters(
     Ok((parameters, closed))
 }
 
-/// The names of parameters, if each has one.
-fn names_of(
+/// The parameters, if each has a name.
+fn all_named(
     alloc: Global,
-    parameters: Vec<Option<Identifier>>,
+    parameters: Vec<Option<Parameter>>,
 ) -> Result<Option<Parameters>, AllocError>
-    ensures { IfOk result (λ o. option_map (λ p. p.items.items) o ≡ names_of parameters.items) }
+    ensures { IfOk result (λ o. option_map (λ p. p.items.items) o ≡ all_named parameters.items) }
 {
     let mut items = Vec::new(alloc);
     let mut are_named = true;
     'names: for parameter in parameters {
         match parameter {
-            Some(name) => items.push(name)?,
+            Some(named) => items.push(named)?,
             None => are_named = false,
         }
     }
@@ -244,7 +245,7 @@ fn names_of(
 
 /// What a function has before its body.
 struct Signature {
-    has_result: bool,
+    result_type: Option<NumberType>,
     name: Identifier,
     parameters: Parameters,
 }
@@ -252,7 +253,7 @@ struct Signature {
 impl Drop for Signature {
     fn drop(self) {
         let Signature {
-            has_result: _,
+            result_type: _,
             name: _,
             parameters: _,
         } = self;
@@ -265,12 +266,12 @@ impl Signature {
         ensures { function_view result ≡ function_of (signature_view self) (block_view body) }
     {
         let Signature {
-            has_result,
+            result_type,
             name,
             parameters,
         } = self;
         Function {
-            has_result,
+            result_type,
             name,
             parameters,
             body,
@@ -281,18 +282,18 @@ impl Signature {
 /// What a function has, if there is a name, and each parameter has one.
 fn signature_of(
     alloc: Global,
-    head: Option<(bool, Identifier)>,
-    parameters: Vec<Option<Identifier>>,
+    head: Option<(Option<NumberType>, Identifier)>,
+    parameters: Vec<Option<Parameter>>,
 ) -> Result<Option<Signature>, AllocError>
     ensures { IfOk result (λ o. option_map signature_view o ≡ signature_of head parameters.items) }
 {
-    let (has_result, name) = match head {
+    let (result_type, name) = match head {
         Some(head) => head,
         None => return Ok(None),
     };
-    match names_of(alloc, parameters)? {
+    match all_named(alloc, parameters)? {
         Some(parameters) => Ok(Some(Signature {
-            has_result,
+            result_type,
             name,
             parameters,
         })),
@@ -329,7 +330,7 @@ fn read_ending(
 /// A function or a prototype, behind what it begins with.
 fn read_signature(
     alloc: Global,
-    head: Option<(bool, Identifier)>,
+    head: Option<(Option<NumberType>, Identifier)>,
     rest: &[Token],
 ) -> Result<(Item, &[Token]), Stopped>
     ensures shorter { IfOk result (λ r. length r.1.now < length rest.now) }
@@ -342,17 +343,23 @@ fn read_signature(
     Ok((item, after))
 }
 
-/// A part, behind a type and a name.
-fn read_typed(alloc: Global, name: Identifier, rest: &[Token]) -> Result<(Item, &[Token]), Stopped>
+/// A part, behind this type and this name.
+fn read_typed(
+    alloc: Global,
+    number_type: NumberType,
+    name: Identifier,
+    rest: &[Token],
+) -> Result<(Item, &[Token]), Stopped>
     requires { AreSmall rest.now }
     ensures shorter { IfOk result (λ r. length r.1.now < length rest.now) }
-    ensures gives { Gives (λ r. (part_view r.0, r.1.now)) result (rest_at 63 (lead.Typed name) rest.now) }
+    ensures gives { Gives (λ r. (part_view r.0, r.1.now)) result
+        (rest_at 63 (lead.Typed number_type name) rest.now) }
 {
     if next_is(rest, Mark::OpenParen) {
-        let (item, after) = read_signature(alloc, Some((true, name)), rest)?;
+        let (item, after) = read_signature(alloc, Some((Some(number_type), name)), rest)?;
         return Ok((item, after));
     }
-    let (item, after) = read_globals(alloc, name, rest)?;
+    let (item, after) = read_globals(alloc, number_type, name, rest)?;
     Ok((item, after))
 }
 

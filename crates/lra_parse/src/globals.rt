@@ -7,7 +7,7 @@ ghost use Rattle.lra_readers.specs.Reading.{Gives, map_read};
 ghost use Rattle.lra_readers.specs.Statements.{commas_from};
 ghost use Rattle.lra_readers.specs.Files.{AreSmall, opposite, signed_at, value_at, global_at, globals_of, globals_at};
 
-use lra_base::Cause;
+use lra_base::{Cause, NumberType};
 use lra_readers::{Stopped, expect, next_is, next_number, read_name, stop, tail};
 use lra_tree::{Global as Variable, Globals, Identifier, Item, Mark, Token};
 use std::alloc::Global;
@@ -73,16 +73,17 @@ fn read_global(alloc: Global, rest: &[Token]) -> Result<(Variable, &[Token]), St
     Ok((global, after))
 }
 
-/// Globals with commas between them, behind the name of the first.
+/// Globals with commas between them, behind their type and the name of the first.
 fn read_many(
     alloc: Global,
+    number_type: NumberType,
     name: Identifier,
     rest: &[Token],
 ) -> Result<(Globals, &[Token]), Stopped>
     requires { AreSmall rest.now }
     ensures shorter { IfOk result (λ r. length r.1.now ≤ length rest.now) }
     ensures gives { Gives (λ r. (globals (globals_view r.0), r.1.now)) result
-        (map_read globals_of (commas_from (value_at name) global_at) rest.now) }
+        (map_read (globals_of number_type) (commas_from (value_at name) global_at) rest.now) }
 {
     let (first, mut left) = read_value(name, rest)?;
     let mut globals = Vec::new(alloc);
@@ -93,6 +94,7 @@ fn read_many(
     }
     Ok((
         Globals {
+            number_type,
             first,
             rest: globals,
         },
@@ -100,17 +102,18 @@ fn read_many(
     ))
 }
 
-/// Globals with their semicolon, behind the name of the first.
+/// Globals with their semicolon, behind their type and the name of the first.
 pub fn read_globals(
     alloc: Global,
+    number_type: NumberType,
     name: Identifier,
     rest: &[Token],
 ) -> Result<(Item, &[Token]), Stopped>
     requires { AreSmall rest.now }
     ensures shorter { IfOk result (λ r. length r.1.now < length rest.now) }
-    ensures gives { Gives (λ r. (part_view r.0, r.1.now)) result (globals_at name rest.now) }
+    ensures gives { Gives (λ r. (part_view r.0, r.1.now)) result (globals_at number_type name rest.now) }
 {
-    let (globals, behind) = read_many(alloc, name, rest)?;
+    let (globals, behind) = read_many(alloc, number_type, name, rest)?;
     let after = expect(behind, Mark::Semicolon)?;
     Ok((Item::Globals(globals), after))
 }

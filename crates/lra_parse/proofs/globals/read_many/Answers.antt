@@ -34,13 +34,14 @@ globals-preserved c = record {
 }
 
 pub returns-clause-gives : goal.returns-clause-gives
-returns-clause-gives c = from_gives (value_at c.args.name) global_at globals_of (global_view c.in_ok-first.first)
+returns-clause-gives c = from_gives (value_at c.args.name) global_at (globals_of c.args.number_type) (global_view c.in_ok-first.first)
     (map global_view c.globals.globals.items) c.args.rest.now c.in_ok-first.left.now c.globals.left.now c.in_ok-first.ensures.gives
     (turn_off (is_mark mark.Comma) (list_step (behind mark.Comma global_at)) (map global_view c.globals.globals.items) c.globals.left.now _ c.globals.invariant.same (sym c.globals-test.ensures))
 
 pub returns-in_err-global-clause-gives : goal.returns-in_err-global-clause-gives
 returns-in_err-global-clause-gives c =
     let p = err_from_is_err_and c.from_residual-in_err-global.result c.from_residual-in_err-global.ensures.1 in
-    rw (p.1, p.2) (from_exit (value_at c.args.name) global_at globals_of (global_view c.in_ok-first.first) c.args.rest.now c.in_ok-first.left.now c.in_err-global.field-0.0 c.in_ok-first.ensures.gives
+    rw (p.1, p.2) (from_exit (value_at c.args.name) global_at (globals_of c.args.number_type)
+    (global_view c.in_ok-first.first) c.args.rest.now c.in_ok-first.left.now c.in_err-global.field-0.0 c.in_ok-first.ensures.gives
     (comma_exit mark.Comma global_at (map global_view c.globals.globals.items) c.globals.left.now c.tail.result.now c.in_err-global.field-0.0 _ c.globals.invariant.same c.globals-test.ensures
     c.tail.ensures.value c.in_err-global.ensures.gives))
