@@ -2,6 +2,7 @@
 use Rattle.std.proofs.Common.{◌≡◌, ℕ, zero, suc, ◌<◌, List, [], ◌∷◌, ◌++◌, length, Some, None, refl, ap, subst, sym, ◌∙◌, arith}
 use Rattle.lra_tree.specs.Functions.{functions_of}
 use Rattle.std.specs.Prelude.{codes, map, Contains}
+use Rattle.lra_base.specs.declared.number_types.NumberType.TheVariants.{Long}
 use Rattle.lra_base.specs.declared.refusals.Refusal.{Refusal}
 use Rattle.lra_tree.specs.declared.trees.Identifier.{Identifier}
 use Rattle.lra_base.specs.declared.refusals.Cause.{Cause}
@@ -16,7 +17,7 @@ use Rattle.lra_meaning.specs.Resolve.{resolve, resolve_cond}
 use Rattle.lra_tree.specs.Reach.{calls_of, ReachesByCalls, there, by_call, IsRecursive, IsFirstRecursive, NotRecursive}
 use Rattle.lra_meaning.specs.Refuse.{RefusesTree, recursive}
 use Rattle.lra_program.proofs.RunExamples as run
-use Rattle.lra_tree.proofs.TreeSamples.{at, name_at, x_at, number, use_of, tested, call_of, declared_as, function_of, void_of, main_of, one_variable, called_twice}
+use Rattle.lra_tree.proofs.TreeSamples.{at, name_at, x_at, number, use_of, tested, call_of, declared_as, long_parameter, function_of, void_of, main_of, one_variable, called_twice}
 
 abbrev fault : Cause → ℕ → Refusal
 fault c column = record { cause = c; place = at column }
@@ -65,7 +66,7 @@ one_for_places : (map (λ l. l.place.column) (labels_of one_for) ≡ 17 ∷ 26 �
 one_for_places = (refl, refl)
 
 -- a*b+c is (a*b)+c and a-b-c is (a-b)-c, while a&&b&&c is a&&(b&&c) and a||b||c is a||(b||c)
-chain : resolve_cond (record { globals = codes "x" ∷ []; locals = []; outer = 0 })
+chain : resolve_cond (record { globals = record { name = codes "x"; number_type = Long } ∷ []; locals = []; outer = 0 })
     (or (or (conjunction (test (value (use_of (x_at 1))))) (and (and (test (value (number 1))) (value (number 2))) (value (number 3)))) (test (value (number 4))))
     ≡ program.either_of (program.nonzero (program.read (program.global 0)))
     (program.either_of (program.both_of (program.nonzero (program.literal 1)) (program.both_of (program.nonzero (program.literal 2)) (program.nonzero (program.literal 3))))
@@ -119,14 +120,15 @@ gone = refl
 
 -- void f(long x){ long x; } int main(void){} : parameters and the body's declarations are one scope
 parameter_again : name_faults (record {
-  parts = function (void_of (codes "f") 6 (x_at 13 ∷ []) (declaration (declared_as (x_at 22) None) no_items) 25) ∷ function (function_of (codes "main") 31 [] no_items 42) ∷ [];
+  parts = function (void_of (codes "f") 6 (long_parameter (x_at 13) ∷ []) (declaration (declared_as (x_at 22) None) no_items) 25) ∷ function (function_of (codes "main") 31 [] no_items 42) ∷ [];
   end = at 43;
 }) ≡ fault DuplicateName 22 ∷ []
 parameter_again = refl
 
 -- long x; void x(void){} int main(void){} : functions and globals share a scope
 global_and_function : name_faults (record {
-  parts = globals (record { first = record { name = x_at 6; value = None }; rest = [] }) ∷ function (void_of (codes "x") 14 [] no_items 22) ∷ function (function_of (codes "main") 28 [] no_items 39) ∷
+  parts = globals (record { number_type = Long; first = record { name = x_at 6; value = None }; rest = [] })
+      ∷ function (void_of (codes "x") 14 [] no_items 22) ∷ function (function_of (codes "main") 28 [] no_items 39) ∷
       [];
   end = at 40;
 }) ≡ fault DuplicateName 14 ∷ []
@@ -135,7 +137,7 @@ global_and_function = refl
 -- int main(void){ f(); x=1; } void f(void){} long x; : a function may be defined behind its call, a global must stand before its use
 later : name_faults (record {
   parts = function (function_of (codes "main") 5 [] (statement (call (call_of (name_at (codes "f") 17) [])) (statement (assign (set (x_at 22) (expression (number 1)))) no_items)) 27)
-      ∷ function (void_of (codes "f") 34 [] no_items 42) ∷ globals (record { first = record { name = x_at 49; value = None }; rest = [] }) ∷ [];
+      ∷ function (void_of (codes "f") 34 [] no_items 42) ∷ globals (record { number_type = Long; first = record { name = x_at 49; value = None }; rest = [] }) ∷ [];
   end = at 51;
 }) ≡ fault UnknownName 22 ∷ []
 later = refl

@@ -1,6 +1,7 @@
 -- Refusals at their places: limits and whole sources. Which slip an example would catch stands beside it.
 use Rattle.std.proofs.Common.{◌≡◌, ℕ, zero, suc, ◌+◌, List, [], ◌∷◌, ◌++◌, Option, Some, None, refl, arith, take, replicate, ap, ◌∙◌, subst, true, length, sym, get_or}
 use Rattle.std.specs.Prelude.{codes, get_or, ◌≤◌}
+use Rattle.lra_base.specs.declared.number_types.NumberType.TheVariants.{Long}
 use Rattle.lra_base.specs.declared.refusals.Refusal.{Refusal}
 use Rattle.lra_base.specs.declared.refusals.Cause.TheVariants.{TooLong, BadByte, BadLiteral, Syntax, NoMain, TooManyVariables, TooManyPoints}
 use Rattle.lra_tree.specs.declared.tokens.Kind.TheVariants.{Unclosed, End}
@@ -21,7 +22,7 @@ use Rattle.lra_tree.proofs.FirstTokens.{not_unclosed}
 use Rattle.lra_tree.proofs.Lexemes.{Item, faulty}
 use Rattle.lra_tree.proofs.LexedByTest.{space, sign, word_of, are_read_by}
 use Rattle.lra_tree.proofs.TokenExamples.{too_large}
-use Rattle.lra_tree.proofs.TreeSamples.{at, name_at, call_of, function_of, void_of, main_of, declared_as, number as number_of}
+use Rattle.lra_tree.proofs.TreeSamples.{at, name_at, call_of, long_parameter, function_of, void_of, main_of, declared_as, number as number_of}
 
 abbrev limits : FileTree → Option Refusal
 limits t = limit_fault (labels_of t) 0 (events_of (resolve t))
@@ -35,7 +36,7 @@ variables (suc n) = record { name = name_at (118 ∷ n ∷ []) 22; rvalue = None
 
 -- int main(void){ long v1,..,v25;} : all live at the `}`
 abbrev with_variables : ℕ → FileTree
-with_variables n = main_of (declaration (record { first = record { name = name_at (codes "v") 22; rvalue = None }; rest = variables n }) no_items) 113
+with_variables n = main_of (declaration (record { number_type = Long; first = record { name = name_at (codes "v") 22; rvalue = None }; rest = variables n }) no_items) 113
 
 too_many_variables : limits (with_variables 24) ≡ Some (record { cause = TooManyVariables; place = at 113 })
 too_many_variables = refl
@@ -45,7 +46,7 @@ variables_enough = refl
 
 -- int main(void){ long v1,..,vN; for(long i=0;;) ; }
 abbrev with_for : ℕ → FileTree
-with_for n = main_of (declaration (record { first = record { name = name_at (codes "v") 22; rvalue = None }; rest = variables n })
+with_for n = main_of (declaration (record { number_type = Long; first = record { name = name_at (codes "v") 22; rvalue = None }; rest = variables n })
     (statement (for (at 114) (declared (declared_as (name_at (codes "i") 123) (Some (expression (number_of 0))))) None None (nothing (at 130))) no_items)) 132
 
 -- i is the 25th: the first point where it lives is that of the word `for`, which comes before its declarator's
@@ -58,9 +59,9 @@ enough_in_for = refl
 -- void f(long d){;} int main(void){ long v1,..,vN; f(0); }
 abbrev with_callee : ℕ → FileTree
 with_callee n = record {
-  parts = function (void_of (codes "f") 6 (name_at (codes "d") 13 ∷ []) (statement (nothing (at 16)) no_items) 17)
+  parts = function (void_of (codes "f") 6 (long_parameter (name_at (codes "d") 13) ∷ []) (statement (nothing (at 16)) no_items) 17)
       ∷ function (function_of (codes "main") 23 []
-      (declaration (record { first = record { name = name_at (codes "v") 40; rvalue = None }; rest = variables n })
+      (declaration (record { number_type = Long; first = record { name = name_at (codes "v") 40; rvalue = None }; rest = variables n })
       (statement (call (call_of (name_at (codes "f") 132) (number_of 0 ∷ []))) no_items)) 138)
       ∷ [];
   end = at 139;

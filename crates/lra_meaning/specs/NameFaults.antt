@@ -1,13 +1,15 @@
 -- All faults of names in a source, in text order; at one token the lower number comes first (ISO/IEC 9899:2011, 6.2.1,
 -- 6.5.2.2, 6.7, 6.8.6, 6.9).
 use Rattle.std.specs.Prelude.{ℕ, Bool, true, false, not, if◌then◌else◌, ◌||◌, ◌&&◌, nat_eq, List, [], ◌∷◌, ◌++◌, length}
-use Rattle.std.specs.Prelude.{Option, Some, None, bytes_eq, map, is_none}
+use Rattle.std.specs.Prelude.{Option, Some, None, bytes_eq, map, is_none, is_some}
 use Rattle.std.specs.List.{list_any, flat_map}
+use Rattle.lra_base.specs.declared.number_types.NumberType.{NumberType}
 use Rattle.lra_base.specs.declared.refusals.Place.{Place}
 use Rattle.lra_base.specs.declared.refusals.Refusal.{Refusal}
 use Rattle.lra_base.specs.declared.refusals.Cause.{Cause}
 use Rattle.lra_base.specs.declared.refusals.Cause.TheVariants.{NoMain, UnknownName, DuplicateName, BadCall, Misplaced}
 use Rattle.lra_tree.specs.declared.trees.Identifier.{Identifier}
+use Rattle.lra_tree.specs.declared.trees.Parameter.{Parameter}
 use Rattle.lra_tree.specs.Trees.{UnaryTree, negated, positive, literal, variable, input, group, TermTree, unary, times}
 use Rattle.lra_tree.specs.Trees.{over, modulo, ExprTree, term, plus, minus, NegationTree, opposite_again}
 use Rattle.lra_tree.specs.Trees.{value_of_unary, group_opposed, TestTree, opposite, value, compare, group_of}
@@ -16,8 +18,8 @@ use Rattle.lra_tree.specs.Trees.{expression, result, AssignTree, set, update, af
 use Rattle.lra_tree.specs.Trees.{no_init, declared, assigned, StmtTree, block, nothing, assign, call, if_only, if_else}
 use Rattle.lra_tree.specs.Trees.{while, for, break, continue, return, assert, assume, ItemsTree, no_items, declaration}
 use Rattle.lra_tree.specs.Trees.{statement, FunctionTree, GlobalTree, PartTree, prototype, globals, function, FileTree}
-use Rattle.lra_meaning.specs.Scope.{Scope, slot_of, is_declared, with_local, with_declarators, inner, for_scope}
-use Rattle.lra_meaning.specs.Scope.{function_scope}
+use Rattle.lra_meaning.specs.Scope.{Entry, Scope, slot_of, is_declared, with_local, declarator_entry, global_entries}
+use Rattle.lra_meaning.specs.Scope.{with_declarators, inner, for_scope, function_scope}
 use Rattle.lra_tree.specs.Functions.{functions_of, function_named, is_main}
 
 abbrev pub fault_if : Bool → Cause → Place → List Refusal
@@ -74,7 +76,7 @@ abbrev mutual
 abbrev pub called_faults : Option FunctionTree → Identifier → ℕ → Bool → List Refusal
 called_faults None name count used = record { cause = UnknownName; place = name.place } ∷ []
 called_faults (Some f) name count used = fault_if (not (nat_eq (length f.parameters) count) ||
-    (used && not f.has_result)) BadCall name.place
+    (used && is_none f.result_type)) BadCall name.place
 
 abbrev pub call_faults : List FunctionTree → Scope → CallTree → Bool → List Refusal
 call_faults F s c used = called_faults (function_named F c.name.word) c.name (length c.arguments) used ++
@@ -96,16 +98,17 @@ abbrev pub given_faults : List FunctionTree → Scope → Option RvalueTree → 
 given_faults F s None = []
 given_faults F s (Some e) = rvalue_faults F s e
 
-abbrev pub declarators_faults : List FunctionTree → Scope → List DeclaratorTree → List Refusal
-declarators_faults F s [] = []
-declarators_faults F s (d ∷ ds) =
-    let t = with_local s d.name.word in
-    fault_if (is_declared s d.name.word) DuplicateName d.name.place ++ given_faults F t d.rvalue ++
-    declarators_faults F t ds
+-- of one type
+abbrev pub declarators_faults : List FunctionTree → Scope → NumberType → List DeclaratorTree → List Refusal
+declarators_faults F s t [] = []
+declarators_faults F s t (d ∷ ds) =
+    let inside = with_local s (declarator_entry t d) in
+    fault_if (is_declared s d.name.word) DuplicateName d.name.place ++ given_faults F inside d.rvalue ++
+    declarators_faults F inside t ds
 
 abbrev pub init_faults : List FunctionTree → Scope → InitTree → List Refusal
 init_faults F s no_init = []
-init_faults F s (declared d) = declarators_faults F (inner s) (d.first ∷ d.rest)
+init_faults F s (declared d) = declarators_faults F (inner s) d.number_type (d.first ∷ d.rest)
 init_faults F s (assigned a) = assign_faults F s a
 
 abbrev pub test_of_for_faults : Scope → Option CondTree → List Refusal
@@ -152,8 +155,8 @@ abbrev mutual
 
   pub items_faults : Around → Scope → ItemsTree → List Refusal
   items_faults a s no_items = []
-  items_faults a s (declaration d items) = declarators_faults a.functions s (d.first ∷ d.rest) ++
-      items_faults a (with_declarators s (d.first ∷ d.rest)) items
+  items_faults a s (declaration d items) = declarators_faults a.functions s d.number_type (d.first ∷ d.rest) ++
+      items_faults a (with_declarators s d.number_type (d.first ∷ d.rest)) items
   items_faults a s (statement t items) = stmt_faults a s t ++ items_faults a s items
 
 -- the whole: functions and globals share one scope ------------------------------------------------------------------
@@ -161,15 +164,15 @@ abbrev mutual
 abbrev pub is_taken : List ℕ → List (List ℕ) → Bool
 is_taken name names = list_any (bytes_eq name) names
 
-abbrev pub parameters_faults : List (List ℕ) → List Identifier → List Refusal
+abbrev pub parameters_faults : List (List ℕ) → List Parameter → List Refusal
 parameters_faults names [] = []
-parameters_faults names (p ∷ ps) = fault_if (is_taken p.word names) DuplicateName p.place ++
-    parameters_faults (names ++ p.word ∷ []) ps
+parameters_faults names (p ∷ ps) = fault_if (is_taken p.name.word names) DuplicateName p.name.place ++
+    parameters_faults (names ++ p.name.word ∷ []) ps
 
-abbrev pub function_faults : List FunctionTree → List (List ℕ) → FunctionTree → List Refusal
+abbrev pub function_faults : List FunctionTree → List Entry → FunctionTree → List Refusal
 function_faults F outside f =
     parameters_faults [] f.parameters
-    ++ items_faults (record { functions = F; has_result = f.has_result; in_loop = false })
+    ++ items_faults (record { functions = F; has_result = is_some f.result_type; in_loop = false })
     (function_scope outside f.parameters) f.body
 
 abbrev pub globals_faults : List (List ℕ) → List GlobalTree → List Refusal
@@ -181,12 +184,12 @@ abbrev pub global_names : List GlobalTree → List (List ℕ)
 global_names gs = map (λ (g : GlobalTree). g.name.word) gs
 
 -- behind the names that the file scope has so far, and the globals among them
-abbrev pub parts_faults : List FunctionTree → List (List ℕ) → List (List ℕ) → List PartTree → List Refusal
+abbrev pub parts_faults : List FunctionTree → List (List ℕ) → List Entry → List PartTree → List Refusal
 parts_faults F names outside [] = []
 parts_faults F names outside (prototype ∷ ps) = parts_faults F names outside ps
 parts_faults F names outside (globals g ∷ ps) =
-    let more = global_names (g.first ∷ g.rest) in
-    globals_faults names (g.first ∷ g.rest) ++ parts_faults F (names ++ more) (outside ++ more) ps
+    globals_faults names (g.first ∷ g.rest) ++
+    parts_faults F (names ++ global_names (g.first ∷ g.rest)) (outside ++ global_entries g) ps
 parts_faults F names outside (function f ∷ ps) =
     fault_if (is_taken f.name.word names) DuplicateName f.name.place ++ function_faults F outside f ++
     parts_faults F (names ++ f.name.word ∷ []) outside ps

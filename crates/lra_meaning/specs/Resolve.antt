@@ -4,6 +4,7 @@
 -- All functions of the source can be called, `main` among them.
 use Rattle.std.specs.Prelude.{ℕ, suc, ◌+◌, ℤ, pos, List, [], ◌∷◌, ◌++◌, length, map, Option, Some, None, unwrap_or}
 use Rattle.std.specs.Prelude.{cond}
+use Rattle.lra_base.specs.declared.number_types.NumberType.{NumberType}
 use Rattle.lra_tree.specs.declared.trees.Identifier.{Identifier}
 use Rattle.lra_tree.specs.Trees as tree
 use Rattle.lra_program.specs.Program.{Slot, global, Expr, literal, read, input, negate, binary, Cond, compare, nonzero}
@@ -11,7 +12,8 @@ use Rattle.lra_program.specs.Program.{opposite, both_of, either_of, Call, Rvalue
 use Rattle.lra_program.specs.Program.{block, assign, call, if, loop, for, break, continue, return, assert, assume}
 use Rattle.lra_program.specs.Program.{BlockItems, no_more, declaration, statement, Function, Program}
 use Rattle.lra_base.specs.Operators.{Operator, plus, minus, times, over, modulo}
-use Rattle.lra_meaning.specs.Scope.{Scope, slot_of, with_local, with_declarators, inner, for_scope, function_scope}
+use Rattle.lra_meaning.specs.Scope.{Entry, Scope, slot_of, with_local, declarator_entry, global_entries}
+use Rattle.lra_meaning.specs.Scope.{with_declarators, inner, for_scope, function_scope}
 use Rattle.lra_tree.specs.Functions.{functions_of, is_named, is_main}
 use Rattle.lra_tree.specs.Labels.{init_labels, step_labels, stmt_labels}
 
@@ -111,17 +113,19 @@ resolve_assign F s n (tree.after x step) = assign n (variable s x)
 resolve_assign F s n (tree.before at step x) = assign n (variable s x)
     (value (binary (step_operator step) (read (variable s x)) (literal 1)))
 
--- declarations: n is the first label, and the items behind follow ----------------------------------------------------
+-- declarations of one type: n is the first label, and the items behind follow -----------------------------------------
 
-abbrev pub resolve_declarators : List tree.FunctionTree → Scope → ℕ → List tree.DeclaratorTree → BlockItems → BlockItems
-resolve_declarators F s n [] items = items
-resolve_declarators F s n (d ∷ ds) items =
-    let t = with_local s d.name.word in
-    declaration (record { label = n; rvalue = resolve_given F t n d.rvalue }) (resolve_declarators F t (suc n) ds items)
+abbrev pub resolve_declarators : List tree.FunctionTree → Scope → ℕ → NumberType → List tree.DeclaratorTree →
+    BlockItems → BlockItems
+resolve_declarators F s n t [] items = items
+resolve_declarators F s n t (d ∷ ds) items =
+    let inside = with_local s (declarator_entry t d) in
+    declaration (record { label = n; rvalue = resolve_given F inside n d.rvalue })
+    (resolve_declarators F inside (suc n) t ds items)
 
 abbrev pub resolve_init : List tree.FunctionTree → Scope → ℕ → tree.InitTree → BlockItems
 resolve_init F s n tree.no_init = no_more
-resolve_init F s n (tree.declared d) = resolve_declarators F (inner s) n (d.first ∷ d.rest) no_more
+resolve_init F s n (tree.declared d) = resolve_declarators F (inner s) n d.number_type (d.first ∷ d.rest) no_more
 resolve_init F s n (tree.assigned a) = statement (resolve_assign F s n a) no_more
 
 -- a test that isn't there is true
@@ -178,14 +182,14 @@ abbrev mutual
   pub resolve_items : List tree.FunctionTree → Scope → ℕ → tree.ItemsTree → BlockItems
   resolve_items F s n tree.no_items = no_more
   resolve_items F s n (tree.declaration d items) =
-      resolve_declarators F s n (d.first ∷ d.rest) (resolve_items F (with_declarators s (d.first ∷ d.rest))
-      (n + declarator_count d) items)
+      resolve_declarators F s n d.number_type (d.first ∷ d.rest)
+      (resolve_items F (with_declarators s d.number_type (d.first ∷ d.rest)) (n + declarator_count d) items)
   resolve_items F s n (tree.statement t items) = statement (resolve_stmt F s n t)
       (resolve_items F s (n + stmt_count t) items)
 
 -- the whole ----------------------------------------------------------------------------------------------------------
 
-abbrev pub resolve_function : List tree.FunctionTree → List (List ℕ) → ℕ → tree.FunctionTree → Function
+abbrev pub resolve_function : List tree.FunctionTree → List Entry → ℕ → tree.FunctionTree → Function
 resolve_function F outside n f = record {
   parameters = length f.parameters;
   body = resolve_items F (function_scope outside f.parameters) n f.body;
@@ -203,11 +207,10 @@ globals_in (tree.globals g ∷ ps) = map global_value (g.first ∷ g.rest) ++ gl
 globals_in (tree.function f ∷ ps) = globals_in ps
 
 -- the functions behind some globals, from the label n on
-abbrev pub resolve_parts : List tree.FunctionTree → List (List ℕ) → ℕ → List tree.PartTree → List Function
+abbrev pub resolve_parts : List tree.FunctionTree → List Entry → ℕ → List tree.PartTree → List Function
 resolve_parts F outside n [] = []
 resolve_parts F outside n (tree.prototype ∷ ps) = resolve_parts F outside n ps
-resolve_parts F outside n (tree.globals g ∷ ps) = resolve_parts F
-    (outside ++ map (λ (x : tree.GlobalTree). x.name.word) (g.first ∷ g.rest)) n ps
+resolve_parts F outside n (tree.globals g ∷ ps) = resolve_parts F (outside ++ global_entries g) n ps
 resolve_parts F outside n (tree.function f ∷ ps) = resolve_function F outside n f ∷
     resolve_parts F outside (n + suc (items_count f.body)) ps
 

@@ -2,15 +2,24 @@
 use Rattle.std.specs.Prelude.{ℕ, suc, Bool, if◌then◌else◌, List, [], ◌∷◌, ◌++◌, length, drop, bytes_eq, Option, Some}
 use Rattle.std.specs.Prelude.{None, map}
 use Rattle.std.specs.List.{list_any}
-use Rattle.lra_tree.specs.declared.trees.Identifier.{Identifier}
+use Rattle.lra_base.specs.declared.number_types.NumberType.{NumberType}
+use Rattle.lra_tree.specs.declared.trees.Parameter.{Parameter}
 use Rattle.lra_program.specs.Program.{Slot, global, local}
-use Rattle.lra_tree.specs.Trees.{DeclaratorTree, InitTree, no_init, declared, assigned}
+use Rattle.lra_tree.specs.Trees.{DeclaratorTree, InitTree, no_init, declared, assigned, GlobalTree, GlobalsTree}
+
+-- a variable: its name and its type
+pub record Entry : Type 0 where
+  pub name : List ℕ
+  pub number_type : NumberType
+
+abbrev pub names_in : List Entry → List (List ℕ)
+names_in es = map (λ (e : Entry). e.name) es
 
 -- the variables that can be named, oldest first
 pub record Scope : Type 0 where
-  pub globals : List (List ℕ)
+  pub globals : List Entry
   -- the parameters and the variables of the blocks around
-  pub locals : List (List ℕ)
+  pub locals : List Entry
   -- how many of the locals the scopes around this one declare
   pub outer : ℕ
 
@@ -30,19 +39,33 @@ slot_in None None = None
 
 -- the variable that the name means: the newest one
 abbrev pub slot_of : Scope → List ℕ → Option Slot
-slot_of s name = slot_in (newest name s.locals) (newest name s.globals)
+slot_of s name = slot_in (newest name (names_in s.locals)) (newest name (names_in s.globals))
 
 -- whether this scope has declared the name
 abbrev pub is_declared : Scope → List ℕ → Bool
-is_declared s name = list_any (bytes_eq name) (drop s.outer s.locals)
+is_declared s name = list_any (bytes_eq name) (drop s.outer (names_in s.locals))
 
 -- with a further variable
-abbrev pub with_local : Scope → List ℕ → Scope
-with_local s name = record s { locals = s.locals ++ name ∷ [] }
+abbrev pub with_local : Scope → Entry → Scope
+with_local s e = record s { locals = s.locals ++ e ∷ [] }
 
-abbrev pub with_declarators : Scope → List DeclaratorTree → Scope
-with_declarators s [] = s
-with_declarators s (d ∷ ds) = with_declarators (with_local s d.name.word) ds
+-- what a declarator, a parameter and a global declare
+abbrev pub declarator_entry : NumberType → DeclaratorTree → Entry
+declarator_entry t d = record { name = d.name.word; number_type = t }
+
+abbrev pub parameter_entry : Parameter → Entry
+parameter_entry p = record { name = p.name.word; number_type = p.number_type }
+
+abbrev pub global_entry : NumberType → GlobalTree → Entry
+global_entry t g = record { name = g.name.word; number_type = t }
+
+abbrev pub global_entries : GlobalsTree → List Entry
+global_entries g = map (global_entry g.number_type) (g.first ∷ g.rest)
+
+-- with declarators of this type
+abbrev pub with_declarators : Scope → NumberType → List DeclaratorTree → Scope
+with_declarators s t [] = s
+with_declarators s t (d ∷ ds) = with_declarators (with_local s (declarator_entry t d)) t ds
 
 -- a scope inside this one, with nothing declared yet
 abbrev pub inner : Scope → Scope
@@ -51,13 +74,13 @@ inner s = record s { outer = length s.locals }
 -- a `for` is a scope
 abbrev pub for_scope : Scope → InitTree → Scope
 for_scope s no_init = inner s
-for_scope s (declared d) = with_declarators (inner s) (d.first ∷ d.rest)
+for_scope s (declared d) = with_declarators (inner s) d.number_type (d.first ∷ d.rest)
 for_scope s (assigned a) = inner s
 
 -- parameters and the variables of the body's block are one scope
-abbrev pub function_scope : List (List ℕ) → List Identifier → Scope
+abbrev pub function_scope : List Entry → List Parameter → Scope
 function_scope outside parameters = record {
   globals = outside;
-  locals = map (λ (x : Identifier). x.word) parameters;
+  locals = map parameter_entry parameters;
   outer = 0;
 }
