@@ -9,5 +9,7 @@ pub mod CondLaws
 pub mod CallLaws
 -- Names with an index.
 pub mod NameLaws
+-- Variables with their types.
+pub mod VariableLaws
 -- Functions by their names.
 pub mod SignatureLaws

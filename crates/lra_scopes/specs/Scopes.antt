@@ -1,14 +1,14 @@
 -- How the variables that can be named change along a block.
 use Rattle.std.specs.Prelude.{◌≡◌, ℕ, List, ◌++◌, take}
-use Rattle.lra_meaning.specs.Scope.{Scope}
+use Rattle.lra_meaning.specs.Scope.{Entry, Scope}
 
 -- with further variables
-abbrev pub with_more : Scope → List (List ℕ) → Scope
+abbrev pub with_more : Scope → List Entry → Scope
 with_more s more = record s { locals = s.locals ++ more }
 
 -- further variables in the same scope
 pub record Extends (s t : Scope) : Type 0 where
-  pub more : List (List ℕ)
+  pub more : List Entry
   pub is : t ≡ with_more s more
 
 -- the oldest so many variables, in a scope that `outer` of them lie outside

@@ -1,5 +1,5 @@
 -- What a call has to know of a function, and an index of functions by their names.
-use Rattle.std.specs.Prelude.{◌≡◌, ℕ, suc, List, [], ◌∷◌, length, cond, String, Option, Some, None}
+use Rattle.std.specs.Prelude.{◌≡◌, ℕ, suc, List, [], ◌∷◌, length, cond, String, Option, Some, None, is_some}
 use Rattle.std.specs.Option.{option_or}
 use Rattle.std.specs.declared.alloc.Global.{Global}
 use Rattle.indexmap.specs.IndexMap.{IndexMap, get_by_text}
@@ -11,7 +11,7 @@ use Rattle.lra_scopes.specs.Calls.{functions_at}
 
 -- of a function at a place in the list of functions
 abbrev pub signature_at : ℕ → FunctionTree → Signature
-signature_at place f = record { place = place; parameters = length f.parameters; has_result = f.has_result }
+signature_at place f = record { place = place; parameters = length f.parameters; has_result = is_some f.result_type }
 
 -- of a function at a place, where it has this name
 abbrev pub named_signature : List ℕ → ℕ → FunctionTree → Option Signature

@@ -9,6 +9,7 @@ mod expressions;
 mod names;
 mod scopes;
 mod signatures;
+mod variables;
 
 pub use calls::{resolve_assign, resolve_call, resolve_given};
 pub use conditions::resolve_cond;

@@ -1,7 +1,7 @@
 //! Names in the order of their declarations, each found by its text.
 
 ghost use Rattle.std.specs.Prelude.{◌≡◌, ◌≤◌, ◌-◌, ◌++◌, ◌∷◌, [], ℕ, List, length, take, drop, cond, bytes_eq, Option};
-ghost use Rattle.std.specs.Prelude.{IsSome, IfOk};
+ghost use Rattle.std.specs.Prelude.{IsSome, IfOk, IfErr};
 ghost use Rattle.std.specs.List.{list_any};
 ghost use Rattle.indexmap.specs.IndexMap.{get_by_text};
 ghost use Rattle.lra_meaning.specs.Scope.{newest};
@@ -104,9 +104,10 @@ impl Names {
         }
     }
 
-    /// One more name. It hides the older ones of its text.
+    /// One more name. It hides the older ones of its text. Where memory runs out there is none more.
     pub fn push(&mut self, alloc: Global, name: &Word) -> Result<(), AllocError>
-        ensures { IfOk result (λ _. self.new ≡ self.old ++ name.now ∷ []) }
+        ensures pushed { IfOk result (λ _. self.new ≡ self.old ++ name.now ∷ []) }
+        ensures kept { IfErr result (λ _. self.new ≡ self.old) }
     {
         let word = name.copy(alloc)?;
         let text = String::from_str(alloc, name.as_str())?;

@@ -5,7 +5,8 @@ ghost use Rattle.lra_meaning.specs.Scope.{slot_of, is_declared, with_local, inne
 ghost use Rattle.lra_program.specs.ProgramViews.{slot_view};
 ghost use Rattle.lra_scopes.specs.Scopes.{left_to};
 
-use crate::names::Names;
+use crate::variables::Variables;
+use lra_base::NumberType;
 use lra_program::Slot;
 use lra_tree::Word;
 use std::alloc::{AllocError, Global};
@@ -13,8 +14,8 @@ use std::marker::Model;
 
 /// The variables that can be named, oldest first.
 pub struct Scope {
-    globals: Names,
-    locals: Names,
+    globals: Variables,
+    locals: Variables,
     /// How many of the locals the scopes around this one declare.
     outer: usize,
 }
@@ -52,10 +53,16 @@ impl Scope {
     }
 
     /// Declares a further variable.
-    pub fn declare(&mut self, alloc: Global, name: &Word) -> Result<(), AllocError>
-        ensures { IfOk result (λ _. self.new ≡ with_local self.old name.now) }
+    pub fn declare(
+        &mut self,
+        alloc: Global,
+        name: &Word,
+        number_type: NumberType,
+    ) -> Result<(), AllocError>
+        ensures { IfOk result (λ _. self.new ≡
+            with_local self.old (record { name = name.now; number_type = number_type })) }
     {
-        self.locals.push(alloc, name)
+        self.locals.push(alloc, name, number_type)
     }
 
     /// Whether this scope has declared the name.
@@ -99,18 +106,26 @@ impl Scope {
         ensures { result ≡ record { globals = []; locals = []; outer = 0 } }
     {
         Scope {
-            globals: Names::new(alloc),
-            locals: Names::new(alloc),
+            globals: Variables::new(alloc),
+            locals: Variables::new(alloc),
             outer: 0,
         }
     }
 
     /// Declares a further global variable.
-    pub fn declare_global(&mut self, alloc: Global, name: &Word) -> Result<(), AllocError>
-        ensures { IfOk result (λ _. self.new ≡
-            record { globals = self.old.globals ++ name.now ∷ []; locals = self.old.locals; outer = self.old.outer }) }
+    pub fn declare_global(
+        &mut self,
+        alloc: Global,
+        name: &Word,
+        number_type: NumberType,
+    ) -> Result<(), AllocError>
+        ensures { IfOk result (λ _. self.new ≡ record {
+          globals = self.old.globals ++ record { name = name.now; number_type = number_type } ∷ [];
+          locals = self.old.locals;
+          outer = self.old.outer;
+        }) }
     {
-        self.globals.push(alloc, name)
+        self.globals.push(alloc, name, number_type)
     }
 
     /// Begins a function: no local is declared.

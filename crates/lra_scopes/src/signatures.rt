@@ -74,7 +74,7 @@ fn add_signature(
     let signature = Signature {
         place,
         parameters: function.parameters.items.len(),
-        has_result: function.has_result,
+        has_result: function.result_type.is_some(),
     };
     signatures.insert(text, signature)?;
     Ok(())

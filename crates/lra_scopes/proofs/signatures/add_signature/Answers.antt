@@ -1,5 +1,5 @@
 -- Goals of `add_signature`: adds a function's signature, unless there is one of its name.
-use Rattle.std.proofs.Common.{◌≡◌, ℕ, None, length, ap, rules, string_bytes}
+use Rattle.std.proofs.Common.{◌≡◌, ℕ, Bool, None, length, ap₂, rules, string_bytes, is_some}
 use Rattle.std.proofs.lemmas.Map.Text.{hash_map_updates_text}
 use Rattle.indexmap.specs.IndexMap.{get_by_text}
 use Rattle.lra_tree.specs.Views.{function_view}
@@ -13,6 +13,7 @@ returns c =
     let text : string_bytes c.in_ok-text.text ≡ f.name.word = search rules in
     let count : c.len.result ≡ length f.parameters.items.items = search rules in
     let none : get_by_text c.args.signatures.now f.name.word ≡ None = search rules in
-    let s : ℕ → Signature = λ n. record { place = c.args.place; parameters = n; has_result = f.has_result } in
-    signature_added c.args.signatures.now c.insert.new.self (string_bytes c.in_ok-text.text) c.args.place (function_view f) (s c.len.result) text (ap s count) none
+    let has : c.is_some.result ≡ is_some f.result_type = search rules in
+    let s : ℕ → Bool → Signature = λ n b. record { place = c.args.place; parameters = n; has_result = b } in
+    signature_added c.args.signatures.now c.insert.new.self (string_bytes c.in_ok-text.text) c.args.place (function_view f) (s c.len.result c.is_some.result) text (ap₂ s count has) none
     (hash_map_updates_text (string_bytes c.in_ok-text.text) c.args.signatures.now c.insert.new.self _ c.in_ok-insert.ensures.updates)

@@ -1,0 +1,13 @@
+-- Goals of `Variables::truncate`: all but the oldest `count` go.
+use Rattle.std.proofs.Common.{◌≡◌, List, take, subst, rules}
+use Rattle.lra_meaning.specs.Scope.{Entry}
+use Rattle.lra_scopes.specs.Variables.{entries_of}
+use Rattle.lra_scopes.proofs.VariableLaws.{entries_take}
+use Rattle.lra_scopes.proofs.variables.Variables.truncate.Goals as goal
+
+pub returns : goal.returns
+returns c =
+    let named : c.truncate.new.self ≡ take c.args.count c.self.inside.names = search rules in
+    let typed : c.truncate-2.new.self.items ≡ take c.args.count c.self.inside.types.items = search rules in
+    subst (λ (v : List Entry). entries_of c.truncate.new.self c.truncate-2.new.self.items ≡ take c.args.count v) c.self.view_is
+    (rw (named, typed) (entries_take c.args.count c.self.inside.names c.self.inside.types.items))
