@@ -1,13 +1,14 @@
 -- Declarators one by one.
 use Rattle.std.proofs.Common.{◌≡◌, ℕ, suc, List, [], ◌∷◌, ◌++◌, map, refl, sym, ap, rules}
 use Rattle.std.proofs.lemmas.List.{map-append}
+use Rattle.lra_base.specs.declared.number_types.NumberType.{NumberType}
 use Rattle.lra_program.specs.declared.program.Declarator.{Declarator}
 use Rattle.lra_program.specs.declared.program.BlockItem.{BlockItem, the_lemmas}
 use Rattle.lra_program.specs.declared.program.BlockItem as code_item
 use Rattle.lra_program.specs.ProgramViews.{declarator_view, item_view}
 use Rattle.lra_tree.specs.Trees.{FunctionTree, DeclaratorTree}
 use Rattle.lra_program.specs.Program as program
-use Rattle.lra_meaning.specs.Scope.{Scope, with_local}
+use Rattle.lra_meaning.specs.Scope.{Scope, with_local, declarator_entry}
 use Rattle.lra_meaning.specs.NameFaults.{declarators_faults}
 use Rattle.lra_meaning.specs.Resolve.{resolve_given, resolve_declarators}
 use Rattle.lra_simple.specs.Statements.{declarator_faults, followed}
@@ -18,18 +19,18 @@ pub followed_push : (fs : List (program.BlockItems → program.BlockItems)) (f :
 followed_push [] f items = refl
 followed_push (g ∷ gs) f items = ap g (followed_push gs f items)
 
-pub declarators_split : (F : List FunctionTree) (s : Scope) (d : DeclaratorTree) (ds : List DeclaratorTree)
-    → declarators_faults F s (d ∷ ds) ≡ declarator_faults F s d ++ declarators_faults F (with_local s d.name.word) ds
-declarators_split F s d ds = refl
+pub declarators_split : (F : List FunctionTree) (s : Scope) (t : NumberType) (d : DeclaratorTree) (ds : List DeclaratorTree)
+    → declarators_faults F s t (d ∷ ds) ≡ declarator_faults F s t d ++ declarators_faults F (with_local s (declarator_entry t d)) t ds
+declarators_split F s t d ds = refl
 
-pub declarator_found : (F : List FunctionTree) (s s' : Scope) (n n' : ℕ) (d : DeclaratorTree) (r : Declarator) (old new : List BlockItem)
-    → new ≡ old ++ code_item.Declaration r ∷ [] → declarator_view r ≡ record { label = n; rvalue = resolve_given F (with_local s d.name.word) n d.rvalue }
-    → s' ≡ with_local s d.name.word → n' ≡ suc n → (rest : List DeclaratorTree) (more : program.BlockItems)
-    → followed (map item_view old) (resolve_declarators F s n (d ∷ rest) more) ≡ followed (map item_view new) (resolve_declarators F s' n' rest more)
-declarator_found F s s' n n' d r old new is e scope next rest more =
+pub declarator_found : (F : List FunctionTree) (s s' : Scope) (n n' : ℕ) (t : NumberType) (d : DeclaratorTree) (r : Declarator) (old new : List BlockItem)
+    → new ≡ old ++ code_item.Declaration r ∷ [] → declarator_view r ≡ record { label = n; rvalue = resolve_given F (with_local s (declarator_entry t d)) n d.rvalue }
+    → s' ≡ with_local s (declarator_entry t d) → n' ≡ suc n → (rest : List DeclaratorTree) (more : program.BlockItems)
+    → followed (map item_view old) (resolve_declarators F s n t (d ∷ rest) more) ≡ followed (map item_view new) (resolve_declarators F s' n' t rest more)
+declarator_found F s s' n n' t d r old new is e scope next rest more =
     let v : item_view (code_item.Declaration r) ≡ program.declaration (declarator_view r) = search (rules, the_lemmas) in
     rw (is, map-append item_view old (code_item.Declaration r ∷ []), v, e, scope, next)
-    (sym (followed_push (map item_view old) (program.declaration (record { label = n; rvalue = resolve_given F (with_local s d.name.word) n d.rvalue }))
-    (resolve_declarators F (with_local s d.name.word) (suc n) rest more)))
+    (sym (followed_push (map item_view old) (program.declaration (record { label = n; rvalue = resolve_given F (with_local s (declarator_entry t d)) n d.rvalue }))
+    (resolve_declarators F (with_local s (declarator_entry t d)) (suc n) t rest more)))
 
 pub ruleset declarator_rules = (followed_push, declarators_split, tells_front, tells_behind)

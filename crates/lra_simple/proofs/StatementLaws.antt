@@ -3,6 +3,7 @@ use Rattle.std.proofs.Common.{◌≡◌, ℕ, suc, ◌+◌, List, [], ◌∷◌,
 use Rattle.std.proofs.Common.{Global, Result, Ok, Err}
 use Rattle.std.specs.Result.{IfOk, OnOk}
 use Rattle.lra_base.specs.declared.error.SourceError.{SourceError}
+use Rattle.lra_base.specs.declared.number_types.NumberType.{NumberType}
 use Rattle.std.proofs.lemmas.List.{length-map, map-append, take-append-le}
 use Rattle.std.proofs.Math.Seq.{take-length}
 use Rattle.std.proofs.Math.Nat.{le-max_left, le-max_right}
@@ -28,7 +29,7 @@ use Rattle.lra_tree.specs.declared.trees.Rvalue.{Rvalue}
 use Rattle.lra_tree.specs.Views.{items_of, item_view, block_view, init_view, declaration_view, declarator_view, stmt_view, cond_view, assign_view, call_view, rvalue_view}
 use Rattle.lra_program.specs.Program as program
 use Rattle.lra_program.specs.ProgramViews as view
-use Rattle.lra_meaning.specs.Scope.{Scope, with_local, with_declarators, inner, for_scope}
+use Rattle.lra_meaning.specs.Scope.{Entry, Scope, with_local, declarator_entry, with_declarators, inner, for_scope}
 use Rattle.lra_tree.specs.Labels.{init_labels, step_labels, stmt_labels, live_in_for}
 use Rattle.lra_meaning.specs.Resolve.{resolve_stmt, resolve_items, stmt_count, items_count, init_count, step_count}
 use Rattle.lra_meaning.proofs.LabelCounts.{count_stmt, count_declarators, count_items, count_step}
@@ -58,32 +59,32 @@ count_declared d = count_declarators [] (d.first ∷ d.rest)
 
 -- scopes ---------------------------------------------------------------------------------------------------------------
 
-declared_more : (s : Scope) (ds : List DeclaratorTree) → with_declarators s ds ≡ with_more s (map (λ (d : DeclaratorTree). d.name.word) ds)
-declared_more s [] = ap (λ (l : List (List ℕ)). record s { locals = l }) (sym (append-nil s.locals))
-declared_more s (d ∷ ds) =
-    declared_more (with_local s d.name.word) ds
-    ∙ ap (λ (l : List (List ℕ)). record s { locals = l }) (append_assoc s.locals (d.name.word ∷ []) (map (λ (d : DeclaratorTree). d.name.word) ds))
+declared_more : (s : Scope) (t : NumberType) (ds : List DeclaratorTree) → with_declarators s t ds ≡ with_more s (map (declarator_entry t) ds)
+declared_more s t [] = ap (λ (l : List Entry). record s { locals = l }) (sym (append-nil s.locals))
+declared_more s t (d ∷ ds) =
+    declared_more (with_local s (declarator_entry t d)) t ds
+    ∙ ap (λ (l : List Entry). record s { locals = l }) (append_assoc s.locals (declarator_entry t d ∷ []) (map (declarator_entry t) ds))
 
-pub extends_declared : (s : Scope) (ds : List DeclaratorTree) → Extends s (with_declarators s ds)
-extends_declared s ds = record { more = map (λ (d : DeclaratorTree). d.name.word) ds; is = declared_more s ds }
+pub extends_declared : (s : Scope) (t : NumberType) (ds : List DeclaratorTree) → Extends s (with_declarators s t ds)
+extends_declared s t ds = record { more = map (declarator_entry t) ds; is = declared_more s t ds }
 
 pub extends_self : (s : Scope) → Extends s s
-extends_self s = record { more = []; is = ap (λ (l : List (List ℕ)). record s { locals = l }) (sym (append-nil s.locals)) }
+extends_self s = record { more = []; is = ap (λ (l : List Entry). record s { locals = l }) (sym (append-nil s.locals)) }
 
 pub extends_then : (s t u : Scope) → Extends s t → Extends t u → Extends s u
 extends_then s t u a b = record {
   more = a.more ++ b.more;
-  is = b.is ∙ ap (λ (x : Scope). with_more x b.more) a.is ∙ ap (λ (l : List (List ℕ)). record s { locals = l }) (append_assoc s.locals a.more b.more);
+  is = b.is ∙ ap (λ (x : Scope). with_more x b.more) a.is ∙ ap (λ (l : List Entry). record s { locals = l }) (append_assoc s.locals a.more b.more);
 }
 
 pub left_inner : (s t : Scope) → Extends (inner s) t → left_to (length s.locals) s.outer t ≡ s
 left_inner s t e =
     ap (left_to (length s.locals) s.outer) e.is
-    ∙ ap (λ (l : List (List ℕ)). record s { locals = l }) (take-append-le (length s.locals) s.locals e.more (omega arith) ∙ take-length s.locals)
+    ∙ ap (λ (l : List Entry). record s { locals = l }) (take-append-le (length s.locals) s.locals e.more (omega arith) ∙ take-length s.locals)
 
 for_extends : (s : Scope) (i : InitTree) → Extends (inner s) (for_scope s i)
 for_extends s no_init = extends_self (inner s)
-for_extends s (declared d) = extends_declared (inner s) (d.first ∷ d.rest)
+for_extends s (declared d) = extends_declared (inner s) d.number_type (d.first ∷ d.rest)
 for_extends s (assigned a) = extends_self (inner s)
 
 pub left_for : (s : Scope) (i : InitTree) → left_to (length s.locals) s.outer (for_scope s i) ≡ s

@@ -1,12 +1,13 @@
 -- Where statements stand, the faults of one declarator, and lists of items that are built from the front.
 use Rattle.std.specs.Prelude.{ℕ, List, [], ◌∷◌, ◌++◌, Option, Some, None, ⊤}
+use Rattle.lra_base.specs.declared.number_types.NumberType.{NumberType}
 use Rattle.lra_base.specs.declared.refusals.Place.{Place}
 use Rattle.lra_base.specs.declared.refusals.Refusal.{Refusal}
 use Rattle.lra_base.specs.declared.refusals.Cause.TheVariants.{DuplicateName}
 use Rattle.lra_tree.specs.Trees.{FunctionTree, DeclaratorTree, CondTree, StmtTree, block, if_only, if_else, while, for}
 use Rattle.lra_simple.specs.declared.around.Around.{Around}
 use Rattle.lra_scopes.specs.Calls.{functions_at}
-use Rattle.lra_meaning.specs.Scope.{Scope, is_declared, with_local}
+use Rattle.lra_meaning.specs.Scope.{Scope, is_declared, with_local, declarator_entry}
 use Rattle.lra_meaning.specs.NameFaults as faults
 use Rattle.lra_program.specs.Program as program
 
@@ -14,10 +15,10 @@ use Rattle.lra_program.specs.Program as program
 abbrev pub around_of : Around → faults.Around
 around_of a = record { functions = functions_at a.functions.now; has_result = a.has_result; in_loop = a.in_loop }
 
--- of one declarator
-abbrev pub declarator_faults : List FunctionTree → Scope → DeclaratorTree → List Refusal
-declarator_faults F s d = faults.fault_if (is_declared s d.name.word) DuplicateName d.name.place
-    ++ faults.given_faults F (with_local s d.name.word) d.rvalue
+-- of one declarator of a type
+abbrev pub declarator_faults : List FunctionTree → Scope → NumberType → DeclaratorTree → List Refusal
+declarator_faults F s t d = faults.fault_if (is_declared s d.name.word) DuplicateName d.name.place
+    ++ faults.given_faults F (with_local s (declarator_entry t d)) d.rvalue
 
 -- a choice, with a second branch or without one
 abbrev pub choice_tree : Place → CondTree → StmtTree → Option StmtTree → StmtTree

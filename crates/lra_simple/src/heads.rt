@@ -213,14 +213,7 @@ fn resolve_init(
         }
         Init::Declaration(declaration) => {
             scope.enter();
-            add_declaration(
-                around.alloc,
-                around.functions,
-                scope,
-                labels,
-                declaration,
-                &mut items,
-            )?;
+            add_declaration(around.functions, scope, labels, declaration, &mut items)?;
             Ok(block_of(items))
         }
         Init::Assign(assign) => {
