@@ -38,17 +38,19 @@ module _ (a : Around) (s : Scope) (item : code_item.BlockItem) where
       items_faults a s (item_view item rest) ≡ items_faults a after rest
   statement_clean t after is clean kept rest = rw (statement_is item t rest is, clean, kept) refl
 
-  pub declaration_told : (d : Declaration) (e : SourceError) → item ≡ code_item.Declaration d → Tells (declarators_faults a.functions s (declarators d)) e → (rest : ItemsTree) →
+  pub declaration_told : (d : Declaration) (e : SourceError) → item ≡ code_item.Declaration d → Tells (declarators_faults a.functions s d.number_type (declarators d)) e → (rest : ItemsTree) →
       Tells (items_faults a s (item_view item rest)) e
-  declaration_told d e is told rest = rw (declaration_is item d rest is) (tells_front (declarators_faults a.functions s (declarators d)) _ e told)
+  declaration_told d e is told rest = rw (declaration_is item d rest is) (tells_front (declarators_faults a.functions s d.number_type (declarators d)) _ e told)
 
-  pub declaration_clean : (d : Declaration) (after : Scope) → item ≡ code_item.Declaration d → declarators_faults a.functions s (declarators d) ≡ [] → after ≡ with_declarators s (declarators d) →
+  pub declaration_clean : (d : Declaration) (after : Scope) → item ≡ code_item.Declaration d → declarators_faults a.functions s d.number_type (declarators d) ≡ []
+      → after ≡ with_declarators s d.number_type (declarators d) →
       (rest : ItemsTree) → items_faults a s (item_view item rest) ≡ items_faults a after rest
   declaration_clean d after is clean declared rest = rw (declaration_is item d rest is, clean, declared) refl
 
 pub declaration_found : (F : List FunctionTree) (s after : Scope) (n m : ℕ) (item : code_item.BlockItem) (d : Declaration) (old new : List (BlockItems → BlockItems)) → item ≡ code_item.Declaration d →
-    ((more : BlockItems) → followed old (resolve_declarators F s n (declarators d) more) ≡ followed new more) → after ≡ with_declarators s (declarators d) → m ≡ n + suc (length d.rest.items) →
+    ((more : BlockItems) → followed old (resolve_declarators F s n d.number_type (declarators d) more) ≡ followed new more) → after ≡ with_declarators s d.number_type (declarators d)
+    → m ≡ n + suc (length d.rest.items) →
     (rest : ItemsTree) → followed old (resolve_items F s n (item_view item rest)) ≡ followed new (resolve_items F after m rest)
 declaration_found F s after n m item d old new is found declared counted rest =
     rw (declaration_is item d rest is, declared, counted, ← length-map d.rest.items declarator_view)
-    (found (resolve_items F (with_declarators s (declarators d)) (n + suc (length (map declarator_view d.rest.items))) rest))
+    (found (resolve_items F (with_declarators s d.number_type (declarators d)) (n + suc (length (map declarator_view d.rest.items))) rest))

@@ -12,7 +12,7 @@ use Rattle.lra_program.specs.declared.program.Stmt.{Stmt}
 use Rattle.lra_program.specs.declared.program.Stmt as program_stmt
 use Rattle.lra_program.specs.Program as program
 use Rattle.lra_program.specs.ProgramViews.{stmt_view, items_view}
-use Rattle.lra_meaning.specs.Scope.{Scope, inner}
+use Rattle.lra_meaning.specs.Scope.{Entry, Scope, inner}
 use Rattle.lra_meaning.specs.NameFaults.{Around, in_a_loop, cond_faults, stmt_faults}
 use Rattle.lra_meaning.specs.Resolve.{resolve_stmt, resolve_items, stmt_count, items_count}
 use Rattle.lra_scopes.specs.Scopes.{Extends, left_to}
@@ -48,7 +48,7 @@ count_of_loop n (while_head at c) b = omega arith
 count_of_loop n (for_head at i c e) b = let x = count_for at i c e b in omega (arith, x)
 
 scope_left : (s : Scope) (h : HeadTree) → left_to (length s.locals) s.outer (body_scope s h) ≡ s
-scope_left s (while_head at c) = ap (λ (l : List (List ℕ)). record s { locals = l }) (take-length s.locals)
+scope_left s (while_head at c) = ap (λ (l : List Entry). record s { locals = l }) (take-length s.locals)
 scope_left s (for_head at i c e) = left_for s i
 
 pub loop_left : (s e f g : Scope) (h : HeadTree) (count outer : ℕ) → e ≡ body_scope s h → f ≡ e → count ≡ length s.locals → outer ≡ s.outer

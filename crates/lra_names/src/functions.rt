@@ -4,9 +4,10 @@ ghost use Rattle.std.specs.Prelude.{◌≡◌, ◌+◌, ◌++◌, ◌∷◌, [],
 ghost use Rattle.std.specs.Prelude.{MatchOption};
 ghost use Rattle.std.specs.List.{list_any};
 ghost use Rattle.lra_tree.specs.Trees.{GlobalTree, PartTree, function as part_function};
-ghost use Rattle.lra_tree.specs.Views.{global_view, function_view as tree_function_view, part_view, tree_view};
+ghost use Rattle.lra_tree.specs.Views.{global_view, globals_view, function_view as tree_function_view, part_view};
+ghost use Rattle.lra_tree.specs.Views.{tree_view};
 ghost use Rattle.lra_program.specs.ProgramViews.{function_view, program_view};
-ghost use Rattle.lra_meaning.specs.Scope.{function_scope};
+ghost use Rattle.lra_meaning.specs.Scope.{function_scope, global_entry, global_entries};
 ghost use Rattle.lra_tree.specs.Functions.{is_main, functions_in};
 ghost use Rattle.lra_meaning.specs.NameFaults.{parameters_faults, function_faults, globals_faults, global_names};
 ghost use Rattle.lra_meaning.specs.NameFaults.{parts_faults, name_faults};
@@ -19,12 +20,12 @@ ghost use Rattle.lra_names.specs.Mains.{main_place};
 ghost use Rattle.lra_scopes.specs.Outcome.{Tells, TellsOf};
 
 use crate::statements::resolve_items;
-use lra_base::{Cause, SourceError};
+use lra_base::{Cause, NumberType, SourceError};
 use lra_meaning::Labels;
 use lra_program::Program;
 use lra_scopes::{Functions, Names, Scope, refuse};
 use lra_simple::{Around, Labelling};
-use lra_tree::{Function, Globals, Identifier, Item, Tree};
+use lra_tree::{Function, Globals, Item, Parameter, Tree};
 use std::alloc::Global;
 
 /// Begins a function's scope with its parameters.
@@ -32,22 +33,22 @@ fn declare_parameters(
     alloc: Global,
     scope: &mut Scope,
     labels: &mut Labelling,
-    parameters: &[Identifier],
+    parameters: &[Parameter],
 ) -> Result<(), SourceError>
     ensures told { TellsOf (parameters_faults [] parameters.now) result }
     ensures declared { OnOk result (scope.new ≡ function_scope scope.old.globals parameters.now) }
-    ensures lives { OnOk result (labels.new.live ≡ map (λ p. p.word) parameters.now) }
+    ensures lives { OnOk result (labels.new.live ≡ map (λ p. p.name.word) parameters.now) }
     ensures labelled { OnOk result (labels.new.labels ≡ labels.old.labels) }
     ensures counted { OnOk result (labels.new.next ≡ labels.old.next) }
 {
     scope.begin_function();
     labels.keep_oldest(0);
     'parameters: for parameter in parameters {
-        if scope.is_declared(&parameter.word) {
-            return refuse(Cause::DuplicateName, parameter.place);
+        if scope.is_declared(&parameter.name.word) {
+            return refuse(Cause::DuplicateName, parameter.name.place);
         }
-        scope.declare(alloc, &parameter.word)?;
-        labels.declare(alloc, &parameter.word)?;
+        scope.declare(alloc, &parameter.name.word, parameter.number_type)?;
+        labels.declare(alloc, &parameter.name.word)?;
     }
     Ok(())
 }
@@ -74,7 +75,7 @@ fn resolve_function(
     let around = Around {
         alloc,
         functions,
-        has_result: function.has_result,
+        has_result: function.result_type.is_some(),
         in_loop: false,
     };
     let body = resolve_items(&around, scope, labels, &function.body)?;
@@ -101,6 +102,7 @@ pub struct Resolved {
 fn add_global(
     alloc: Global,
     resolved: &mut Resolved,
+    number_type: NumberType,
     global: &lra_tree::Global,
 ) -> Result<(), SourceError>
     ensures told { IfErr result (λ e. (rest : List GlobalTree)
@@ -109,8 +111,8 @@ fn add_global(
         → globals_faults resolved.old.names (global_view global.now ∷ rest)
         ≡ globals_faults resolved.new.names rest) }
     ensures named { OnOk result (resolved.new.names ≡ resolved.old.names ++ global.now.name.word ∷ []) }
-    ensures scoped { OnOk result (resolved.new.scope.globals ≡ resolved.old.scope.globals ++ global.now.name.word
-        ∷ []) }
+    ensures scoped { OnOk result (resolved.new.scope.globals ≡ resolved.old.scope.globals
+        ++ global_entry number_type (global_view global.now) ∷ []) }
     ensures valued { OnOk result (resolved.new.globals.items ≡ resolved.old.globals.items
         ++ global_value (global_view global.now) ∷ []) }
     ensures labels { OnOk result (resolved.new.labels ≡ resolved.old.labels) }
@@ -120,7 +122,9 @@ fn add_global(
         return refuse(Cause::DuplicateName, global.name.place);
     }
     resolved.names.push(alloc, &global.name.word)?;
-    resolved.scope.declare_global(alloc, &global.name.word)?;
+    resolved
+        .scope
+        .declare_global(alloc, &global.name.word, number_type)?;
     let value = match global.value {
         Some(value) => value,
         None => 0,
@@ -135,15 +139,15 @@ fn add_globals(alloc: Global, resolved: &mut Resolved, globals: &Globals) -> Res
     ensures named { OnOk result (resolved.new.names ≡ resolved.old.names
         ++ global_names (global_view globals.now.first ∷ map global_view globals.now.rest.items)) }
     ensures scoped { OnOk result (resolved.new.scope.globals ≡ resolved.old.scope.globals
-        ++ global_names (global_view globals.now.first ∷ map global_view globals.now.rest.items)) }
+        ++ global_entries (globals_view globals.now)) }
     ensures valued { OnOk result (resolved.new.globals.items ≡ resolved.old.globals.items
         ++ map global_value (global_view globals.now.first ∷ map global_view globals.now.rest.items)) }
     ensures labels { OnOk result (resolved.new.labels ≡ resolved.old.labels) }
     ensures functions { OnOk result (resolved.new.functions.items ≡ resolved.old.functions.items) }
 {
-    add_global(alloc, resolved, &globals.first)?;
+    add_global(alloc, resolved, globals.number_type, &globals.first)?;
     'globals: for global in &globals.rest {
-        add_global(alloc, resolved, global)?;
+        add_global(alloc, resolved, globals.number_type, global)?;
     }
     Ok(())
 }

@@ -171,14 +171,7 @@ fn add_item(
 {
     match item {
         BlockItem::Declaration(declaration) => {
-            add_declaration(
-                around.alloc,
-                around.functions,
-                scope,
-                labels,
-                declaration,
-                items,
-            )?;
+            add_declaration(around.functions, scope, labels, declaration, items)?;
             Ok(())
         }
         BlockItem::Statement(stmt) => {

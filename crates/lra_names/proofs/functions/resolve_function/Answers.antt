@@ -1,7 +1,7 @@
 -- Goals of `resolve_function`.
 use Rattle.std.proofs.Common.{List, ◌+◌, ◌++◌, ap, ap₂, arith, length, map, refl, sym, ◌∙◌, ℕ}
 use Rattle.lra_base.specs.declared.refusals.Place.{Place}
-use Rattle.lra_tree.specs.declared.trees.Identifier.{Identifier}
+use Rattle.lra_tree.specs.declared.trees.Parameter.{Parameter}
 use Rattle.lra_tree.specs.Labels.{Labelled, items_labels}
 use Rattle.lra_tree.specs.Views.{function_view as tree_function_view}
 use Rattle.lra_meaning.specs.NameFaults.{function_faults}
@@ -18,14 +18,14 @@ returns-in_err-declare_parameters-clause-told c =
     let f = tree_function_view c.args.function.now in
     let outside = c.args.scope.now.globals in
     first_told _ _ _ c.from_residual.result _
-    (function_faults_split (functions_at c.args.functions.now) outside f c.deref.result.now (function_scope outside c.deref.result.now) c.deref.ensures.value refl)
+    (function_faults_split (functions_at c.args.functions.now) outside f _ c.deref.result.now (function_scope outside c.deref.result.now) refl c.deref.ensures.value refl)
     c.from_residual.ensures.1 c.in_err-declare_parameters.ensures.told
 
 pub returns-in_err-body-clause-told : goal.returns-in_err-body-clause-told
 returns-in_err-body-clause-told c =
     let f = tree_function_view c.args.function.now in
     second_told _ _ _ c.from_residual-in_err-body.result _
-    (function_faults_split (functions_at c.args.functions.now) c.args.scope.now.globals f c.deref.result.now c.declare_parameters.new.scope c.deref.ensures.value
+    (function_faults_split (functions_at c.args.functions.now) c.args.scope.now.globals f c.is_some.result c.deref.result.now c.declare_parameters.new.scope c.is_some.ensures c.deref.ensures.value
     c.in_ok-declare_parameters.ensures.declared)
     c.in_ok-declare_parameters.ensures.told c.from_residual-in_err-body.ensures.1 c.in_err-body.ensures.told
 
@@ -38,7 +38,7 @@ pub returns-clause-told : goal.returns-clause-told
 returns-clause-told c =
     let f = tree_function_view c.args.function.now in
     both_clean _ _ _
-    (function_faults_split (functions_at c.args.functions.now) c.args.scope.now.globals f c.deref.result.now c.declare_parameters.new.scope c.deref.ensures.value
+    (function_faults_split (functions_at c.args.functions.now) c.args.scope.now.globals f c.is_some.result c.deref.result.now c.declare_parameters.new.scope c.is_some.ensures c.deref.ensures.value
     c.in_ok-declare_parameters.ensures.declared)
     c.in_ok-declare_parameters.ensures.told c.in_ok-body.ensures.told
 
@@ -58,7 +58,7 @@ returns-clause-counted c = omega (arith, c.in_ok-end.ensures.counted, c.in_ok-bo
 pub returns-clause-labelled : goal.returns-clause-labelled
 returns-clause-labelled c =
     let f = tree_function_view c.args.function.now in
-    let words = map (λ (p : Identifier). p.word) in
+    let words = map (λ (p : Parameter). p.name.word) in
     c.in_ok-end.ensures.adds.labels ∙ c.in_ok-body.ensures.fills.labels c.args.function.now.body.end
     ∙ ap₂ (λ (ls : List Labelled) (live : List (List ℕ)). ls ++ items_labels live f.body c.args.function.now.body.end) c.in_ok-declare_parameters.ensures.labelled
     (c.in_ok-declare_parameters.ensures.lives ∙ ap words c.deref.ensures.value)

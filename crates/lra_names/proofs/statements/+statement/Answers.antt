@@ -34,7 +34,7 @@ other_of o = option_map stmt_view (option_copied o)
 pub add_item-returns-in_ok-add_declaration-in-Declaration-clause-extended : goal.add_item-returns-in_ok-add_declaration-in-Declaration-clause-extended
 add_item-returns-in_ok-add_declaration-in-Declaration-clause-extended t c =
     rw c.in_ok-add_declaration-in-Declaration.ensures.declared
-    (extends_declared c.args.scope.now (declarator_view c.in-Declaration.declaration.first ∷ map declarator_view c.in-Declaration.declaration.rest.items))
+    (extends_declared c.args.scope.now c.in-Declaration.declaration.number_type (declarator_view c.in-Declaration.declaration.first ∷ map declarator_view c.in-Declaration.declaration.rest.items))
 
 pub add_item-returns-in_ok-add_declaration-in-Declaration-clause-counted : goal.add_item-returns-in_ok-add_declaration-in-Declaration-clause-counted
 add_item-returns-in_ok-add_declaration-in-Declaration-clause-counted t c =
