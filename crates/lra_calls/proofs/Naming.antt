@@ -5,6 +5,7 @@ use Rattle.std.specs.Result.{IfOk}
 use Rattle.std.proofs.lemmas.List.{at_drop_more}
 use Rattle.lra_base.specs.declared.refusals.Place.{Place}
 use Rattle.lra_tree.specs.declared.trees.Identifier.{Identifier}
+use Rattle.lra_tree.specs.declared.trees.Parameter.{Parameter}
 use Rattle.lra_tree.specs.Trees.{AssignTree, DeclaratorTree, DeclarationTree, InitTree, no_init, declared, assigned, CondTree, RvalueTree, StmtTree, block, nothing, assign, call, if_only, if_else}
 use Rattle.lra_tree.specs.Trees.{while, for, break, continue, return, assert, assume, ItemsTree, no_items, declaration, statement, FunctionTree}
 use Rattle.lra_tree.specs.declared.trees.Assign.{Assign}
@@ -114,7 +115,7 @@ pub statement_named : (t : StmtTree) (items : ItemsTree) (end : Place) → items
 statement_named t items end = names_both (stmt_labels [] t) (items_labels [] items end)
 
 function_named : (f : FunctionTree) → (caller_of f).calls ≡ items_calls f.body f.end
-function_named f = items_alike (map (λ (p : Identifier). p.word) f.parameters) f.body f.end
+function_named f = items_alike (map (λ (p : Parameter). p.name.word) f.parameters) f.body f.end
 
 pub ruleset part_rules = (init_named, step_named)
 
