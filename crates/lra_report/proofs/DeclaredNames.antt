@@ -4,6 +4,7 @@ use Rattle.std.proofs.Common.{◌≡◌, ℕ, ◌+◌, ◌≤◌, ◌<◌, true,
 use Rattle.std.specs.List.{AllByRecursion, flat_map}
 use Rattle.lra_base.specs.declared.refusals.Place.{Place}
 use Rattle.lra_tree.specs.declared.trees.Identifier.{Identifier}
+use Rattle.lra_tree.specs.declared.trees.Parameter.{Parameter}
 use Rattle.lra_tree.specs.Lexeme.{is_name_word}
 use Rattle.lra_tree.specs.Texts.{Piece, Pieces, Texts, ◌⋅◌, name, further, separated}
 use Rattle.lra_tree.specs.Trees.{AssignTree, DeclaratorTree, DeclarationTree, InitTree, no_init, declared, assigned, StmtTree, block, nothing, assign, call, if_only, if_else, while, for, break}
@@ -200,15 +201,15 @@ mutual
 
 -- functions and globals ----------------------------------------------------------
 
-parameters_room : (most : ℕ) (ps : List Identifier) (x y : Pieces) → AreParameters ps x → HasRoom most [] (x ++ y) → HasRoom most (map (λ (p : Identifier). p.word) ps) y
+parameters_room : (most : ℕ) (ps : List Parameter) (x y : Pieces) → AreParameters ps x → HasRoom most [] (x ++ y) → HasRoom most (map (λ (p : Parameter). p.name.word) ps) y
 parameters_room most [] x y are h = room_last most [] (x ++ y) x y refl h
 parameters_room most (p ∷ ps) x y are h =
-    separated_room IsParameter (λ (q : Identifier). q.word) (λ q z is. last_declares q.word z is.0 is.1 is.2 (name_declares q 0 is.1 is.4)) most [] (p ∷ ps) x y are h
+    separated_room IsParameter (λ (q : Parameter). q.name.word) (λ q z is. last_declares q.name.word z is.0 is.1 is.2 (name_declares q.name 0 is.1 is.4)) most [] (p ∷ ps) x y are h
 
 function_few : (most : ℕ) (f : FunctionTree) (z : Pieces) → IsFunction f z → HasRoom most [] z → AllByRecursion (AreFewAt most) (function_labels f)
 function_few most f z (a, b, e, head, (c, d, e1, paren, (p, q, e2, are, (r, s, e3, close, (t, u, e4, opening, (v, w, e5, items, end)))))) h =
     let start = subst (HasRoom most []) e2 (room_last most [] b c d e1 (room_last most [] z a b e h)) in
-    let names = map (λ (x : Identifier). x.word) f.parameters in
+    let names = map (λ (x : Parameter). x.name.word) f.parameters in
     let room = parameters_room most f.parameters p q are start in
     items_few most 1 f.body f.end names v items (room_first most names u v w e5 (room_last most names s t u e4 (room_last most names q r s e3 room)))
 
