@@ -8,7 +8,7 @@ use Rattle.lra_program.specs.Step.{append, give, give_any, push, keep}
 use Rattle.lra_operations.specs.Inlined.{InlAll, as_absent, as_if, as_declaration, as_given, as_assign, as_assert, as_return_value, as_none, as_statement, as_value, as_result, main_spot}
 use Rattle.lra_program.specs.Program as program
 use Rattle.lra_tree.specs.Trees.{FileTree, function, statement, declaration, no_items, if_only, return, value, expression, result}
-use Rattle.lra_tree.proofs.TreeSamples.{at, x_at, name_at, number, use_of, tested, call_of, declared_as, function_of, called_twice}
+use Rattle.lra_tree.proofs.TreeSamples.{at, x_at, name_at, number, use_of, tested, call_of, declared_as, long_parameter, function_of, called_twice}
 use Rattle.lra_program.proofs.RunExamples as run
 
 -- its tree is derived, one case for each statement
@@ -28,7 +28,7 @@ called_twice_graph = (
 -- long f(long a){ if(a) return 1; return 2; } int main(void){ long x=f(0); }
 abbrev two_returns : FileTree
 two_returns = record {
-  parts = function (function_of (codes "f") 6 (name_at (codes "a") 13 ∷ [])
+  parts = function (function_of (codes "f") 6 (long_parameter (name_at (codes "a") 13) ∷ [])
       (statement (if_only (at 17) (tested (value (use_of (name_at (codes "a") 20)))) (return (at 23) (Some (expression (number 1)))))
       (statement (return (at 33) (Some (expression (number 2)))) no_items)) 43)
       ∷ function (function_of (codes "main") 49 [] (declaration (declared_as (x_at 66) (Some (result (call_of (name_at (codes "f") 68) (number 0 ∷ []))))) no_items) 74)
