@@ -2,6 +2,7 @@
 use Rattle.std.proofs.Common.{◌≡◌, ℕ, suc, ◌+◌, ◌≤◌, ◌<◌, List, [], ◌∷◌, ◌++◌, length, Option, Some, None, Bool, true, false, not, ◌||◌, nat_eq, refl, arith, length-append}
 use Rattle.std.specs.Prelude.{bytes_eq, if◌then◌else◌, is_none, ◌&&◌}
 use Rattle.std.proofs.lemmas.Bool.{eqb-true}
+use Rattle.std.proofs.lemmas.List.{length-map}
 use Rattle.std.proofs.lemmas.Option.{same_Some, none-some}
 use Rattle.lra_base.specs.declared.refusals.Place.{Place}
 use Rattle.lra_base.specs.declared.refusals.Cause.{Cause}
@@ -9,7 +10,7 @@ use Rattle.lra_base.specs.declared.refusals.Cause.TheVariants.{UnknownName}
 use Rattle.lra_tree.specs.declared.trees.Identifier.{Identifier}
 use Rattle.lra_tree.specs.Trees.{FunctionTree}
 use Rattle.lra_program.specs.Program.{Program}
-use Rattle.lra_meaning.specs.Scope.{Scope, newest_from, newest, slot_in, with_local, inner}
+use Rattle.lra_meaning.specs.Scope.{Entry, names_in, Scope, newest_from, newest, slot_in, with_local, inner}
 use Rattle.lra_meaning.specs.NameFaults.{fault_if, use_faults, called_faults}
 use Rattle.lra_meaning.specs.Resolve.{slot_or, variable}
 use Rattle.lra_program.specs.WellFormed.{IsLive}
@@ -39,8 +40,8 @@ pub record Sees (P : Program) (live : ℕ) (s : Scope) : Type 0 where
   pub globals : length s.globals ≤ length P.globals
   pub locals : length s.locals ≡ live
 
-pub sees_local : (P : Program) (live : ℕ) (s : Scope) (name : List ℕ) → Sees P live s → Sees P (suc live) (with_local s name)
-sees_local P live s name h = record { globals = h.globals; locals = let n = length-append s.locals (name ∷ []) in omega (arith, h.locals) }
+pub sees_local : (P : Program) (live : ℕ) (s : Scope) (x : Entry) → Sees P live s → Sees P (suc live) (with_local s x)
+sees_local P live s x h = record { globals = h.globals; locals = let n = length-append s.locals (x ∷ []) in omega (arith, h.locals) }
 
 pub sees_inner : (P : Program) (live : ℕ) (s : Scope) → Sees P live s → Sees P live (inner s)
 sees_inner P live s h = record { globals = h.globals; locals = h.locals }
@@ -62,9 +63,10 @@ slot_lives P live None None at h i e = absurd cc
 
 pub variable_lives : (P : Program) (live : ℕ) (s : Scope) (x : Identifier) → Sees P live s → use_faults s x ≡ [] → IsLive P live (variable s x)
 variable_lives P live s x h e =
-    slot_lives P live (newest x.word s.locals) (newest x.word s.globals) x.place
-    (λ j f. let low = newest_low x.word s.locals 0 None j (λ i n. absurd (none-some i n)) f in omega (arith, h.locals))
-    (λ j f. let low = newest_low x.word s.globals 0 None j (λ i n. absurd (none-some i n)) f in omega (arith, h.globals)) e
+    let count = λ (es : List Entry). length-map es (λ (e : Entry). e.name) in
+    slot_lives P live (newest x.word (names_in s.locals)) (newest x.word (names_in s.globals)) x.place
+    (λ j f. let low = newest_low x.word (names_in s.locals) 0 None j (λ i n. absurd (none-some i n)) f in omega (arith, h.locals, count s.locals))
+    (λ j f. let low = newest_low x.word (names_in s.globals) 0 None j (λ i n. absurd (none-some i n)) f in omega (arith, h.globals, count s.globals)) e
 
 -- calls ------------------------------------------------------------------------------------------------------------
 
@@ -81,6 +83,6 @@ called_is None name count used e = absurd cc
 called_is (Some f) name count used e = (
   f,
   refl,
-  same_count (length f.parameters) count (used && not f.has_result)
-      (none_if (not (nat_eq (length f.parameters) count) || (used && not f.has_result)) _ _ e),
+  same_count (length f.parameters) count (used && is_none f.result_type)
+      (none_if (not (nat_eq (length f.parameters) count) || (used && is_none f.result_type)) _ _ e),
 )

@@ -3,11 +3,12 @@ use Rattle.std.proofs.Common.{◌≡◌, ℕ, suc, ◌+◌, List, [], ◌∷◌,
 use Rattle.std.specs.Prelude.{⊤, slice_get}
 use Rattle.std.specs.List.{AllByRecursion, flat_map}
 use Rattle.std.proofs.lemmas.List.{length-map}
+use Rattle.lra_base.specs.declared.number_types.NumberType.{NumberType}
 use Rattle.lra_base.specs.declared.refusals.Place.{Place}
 use Rattle.lra_tree.specs.Trees as tree
 use Rattle.lra_program.specs.Program.{Cond, BlockItems, no_more, Function, Program}
 use Rattle.lra_program.specs.Sites.{live_behind}
-use Rattle.lra_meaning.specs.Scope.{Scope, with_local, with_declarators, inner, for_scope}
+use Rattle.lra_meaning.specs.Scope.{Scope, with_local, declarator_entry, with_declarators, inner, for_scope}
 use Rattle.lra_tree.specs.Functions.{function_named}
 use Rattle.lra_meaning.specs.NameFaults.{use_faults, unary_faults, term_faults, expr_faults, negation_faults, test_faults, conjunction_faults, cond_faults, called_faults, call_faults, rvalue_faults}
 use Rattle.lra_meaning.specs.NameFaults.{assign_faults, given_faults, declarators_faults, init_faults, test_of_for_faults, step_faults, Around, return_faults, stmt_faults, items_faults}
@@ -122,30 +123,32 @@ module _ (P : Program) where
     good_assign b at live s (tree.before p step x) sees small none = let lives = variable_lives P live s x sees none in (lives, (lives, omega arith))
 
     -- declarators, and the items behind them
-    good_declarators : (b : Bool) (n live : ℕ) (s : Scope) (ds : List tree.DeclaratorTree) (rest : BlockItems) → Sees P live s → AllByRecursion IsSmallDeclarator ds → declarators_faults F s ds ≡ []
-        → ((more : ℕ) → Sees P more (with_declarators s ds) → AreGoodItems P b more rest) → AreGoodItems P b live (resolve_declarators F s n ds rest)
-    good_declarators b n live s [] rest sees small e good = good live sees
-    good_declarators b n live s (d ∷ ds) rest sees small e good =
-        let t = with_local s d.name.word in
-        let after = sees_local P live s d.name.word sees in
-        let front = none_left _ (declarators_faults F t ds) e in (
-          good_given n (suc live) t d.rvalue after small.0 (none_right _ (given_faults F t d.rvalue) front),
-          good_declarators b (suc n) (suc live) t ds rest after small.1 (none_right _ (declarators_faults F t ds) e) good,
+    good_declarators : (b : Bool) (n live : ℕ) (s : Scope) (t : NumberType) (ds : List tree.DeclaratorTree) (rest : BlockItems) → Sees P live s → AllByRecursion IsSmallDeclarator ds
+        → declarators_faults F s t ds ≡ []
+        → ((more : ℕ) → Sees P more (with_declarators s t ds) → AreGoodItems P b more rest) → AreGoodItems P b live (resolve_declarators F s n t ds rest)
+    good_declarators b n live s t [] rest sees small e good = good live sees
+    good_declarators b n live s t (d ∷ ds) rest sees small e good =
+        let u = with_local s (declarator_entry t d) in
+        let after = sees_local P live s (declarator_entry t d) sees in
+        let front = none_left _ (declarators_faults F u t ds) e in (
+          good_given n (suc live) u d.rvalue after small.0 (none_right _ (given_faults F u d.rvalue) front),
+          good_declarators b (suc n) (suc live) u t ds rest after small.1 (none_right _ (declarators_faults F u t ds) e) good,
         )
 
-    sees_declarators : (n live : ℕ) (s : Scope) (ds : List tree.DeclaratorTree) → Sees P live s → Sees P (live_behind live (resolve_declarators F s n ds no_more)) (with_declarators s ds)
-    sees_declarators n live s [] sees = sees
-    sees_declarators n live s (d ∷ ds) sees = sees_declarators (suc n) (suc live) (with_local s d.name.word) ds (sees_local P live s d.name.word sees)
+    sees_declarators : (n live : ℕ) (s : Scope) (t : NumberType) (ds : List tree.DeclaratorTree) → Sees P live s
+        → Sees P (live_behind live (resolve_declarators F s n t ds no_more)) (with_declarators s t ds)
+    sees_declarators n live s t [] sees = sees
+    sees_declarators n live s t (d ∷ ds) sees = sees_declarators (suc n) (suc live) (with_local s (declarator_entry t d)) t ds (sees_local P live s (declarator_entry t d) sees)
 
     -- how a `for` begins
     good_init : (n live : ℕ) (s : Scope) (i : tree.InitTree) → Sees P live s → IsSmallInit i → init_faults F s i ≡ [] → AreGoodItems P false live (resolve_init F s n i)
     good_init n live s tree.no_init sees small e = tt
-    good_init n live s (tree.declared d) sees small e = good_declarators false n live (inner s) (d.first ∷ d.rest) no_more (sees_inner P live s sees) small e (λ more h. tt)
+    good_init n live s (tree.declared d) sees small e = good_declarators false n live (inner s) d.number_type (d.first ∷ d.rest) no_more (sees_inner P live s sees) small e (λ more h. tt)
     good_init n live s (tree.assigned a) sees small e = (good_assign false n live s a sees small e, tt)
 
     sees_for : (n live : ℕ) (s : Scope) (i : tree.InitTree) → Sees P live s → Sees P (live_behind live (resolve_init F s n i)) (for_scope s i)
     sees_for n live s tree.no_init sees = sees_inner P live s sees
-    sees_for n live s (tree.declared d) sees = sees_declarators n live (inner s) (d.first ∷ d.rest) (sees_inner P live s sees)
+    sees_for n live s (tree.declared d) sees = sees_declarators n live (inner s) d.number_type (d.first ∷ d.rest) (sees_inner P live s sees)
     sees_for n live s (tree.assigned a) sees = sees_inner P live s sees
 
     good_for_test : (live : ℕ) (s : Scope) (c : Option tree.CondTree) → Sees P live s → IsSmallForTest c → test_of_for_faults s c ≡ [] → IsGoodCond P live (resolve_for_test s c)
@@ -205,10 +208,11 @@ module _ (P : Program) where
           AreGoodItems P b live (resolve_items F s n items)
       good_items r b n live s tree.no_items sees small e = tt
       good_items r b n live s (tree.declaration d items) sees small e =
-          let t = with_declarators s (d.first ∷ d.rest) in
+          let t = with_declarators s d.number_type (d.first ∷ d.rest) in
           let faults = items_faults (around r b) t items in
-          good_declarators b n live s (d.first ∷ d.rest) (resolve_items F t (n + declarator_count d) items) sees small.0 (none_left (declarators_faults F s (d.first ∷ d.rest)) faults e)
-          (λ more h. good_items r b (n + declarator_count d) more t items h small.1 (none_right (declarators_faults F s (d.first ∷ d.rest)) faults e))
+          good_declarators b n live s d.number_type (d.first ∷ d.rest) (resolve_items F t (n + declarator_count d) items) sees small.0
+          (none_left (declarators_faults F s d.number_type (d.first ∷ d.rest)) faults e)
+          (λ more h. good_items r b (n + declarator_count d) more t items h small.1 (none_right (declarators_faults F s d.number_type (d.first ∷ d.rest)) faults e))
       good_items r b n live s (tree.statement t items) sees small e =
           let faults = items_faults (around r b) s items in (
             good_stmt r b n live s t sees small.0 (none_left (stmt_faults (around r b) s t) faults e),

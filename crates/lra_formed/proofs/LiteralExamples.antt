@@ -1,6 +1,7 @@
 -- Literals that are small, and literals that aren't. Which slip an example would catch stands beside it.
 use Rattle.std.proofs.Common.{◌≡◌, [], Some, None, true, false, refl, arith}
 use Rattle.std.specs.Prelude.{codes, pos, negsuc}
+use Rattle.lra_base.specs.declared.number_types.NumberType.TheVariants.{Long}
 use Rattle.lra_tree.specs.Trees.{literal, unary, term, value, test, conjunction, assert, statement, no_items, function}
 use Rattle.lra_formed.specs.Literals.{IsSmallUnary, IsSmallGlobal, IsSmallPart}
 
@@ -10,7 +11,7 @@ wide_literal = (omega arith, λ h. omega (arith, h))
 
 -- int main(void){ assert(9223372036854775808); }: catches a body that isn't looked into
 wide_in_body : IsSmallPart (function (record {
-  has_result = true;
+  result_type = Some Long;
   name = record { word = codes "main"; place = record { line = 1; column = 5 } };
   parameters = [];
   body = statement (assert (record { line = 1; column = 17 }) (conjunction (test (value (term (unary (literal 9223372036854775808))))))) no_items;

@@ -4,11 +4,12 @@ use Rattle.std.specs.Prelude.{⊤, slice_get}
 use Rattle.std.specs.List.{AllByRecursion, flat_map}
 use Rattle.std.proofs.lemmas.List.{length-map}
 use Rattle.std.proofs.lemmas.Option.{same_Some, none-some}
+use Rattle.lra_base.specs.declared.number_types.NumberType.{NumberType}
 use Rattle.lra_base.specs.declared.refusals.Place.{Place}
-use Rattle.lra_tree.specs.declared.trees.Identifier.{Identifier}
+use Rattle.lra_tree.specs.declared.trees.Parameter.{Parameter}
 use Rattle.lra_tree.specs.Trees as tree
 use Rattle.lra_program.specs.Program.{Call, BlockItems, no_more, Function, Program}
-use Rattle.lra_meaning.specs.Scope.{Scope, with_local, with_declarators, inner, for_scope, function_scope}
+use Rattle.lra_meaning.specs.Scope.{Entry, Scope, with_local, declarator_entry, with_declarators, inner, for_scope, function_scope}
 use Rattle.lra_tree.specs.Functions.{functions_in, functions_of, is_main}
 use Rattle.lra_meaning.specs.NameFaults.{global_names}
 use Rattle.lra_tree.specs.Labels.{Labelled, plain_label, label_with, called_of, assign_label, with_names, declarator_labels, init_labels, step_labels, stmt_labels, items_labels, live_in_for}
@@ -74,11 +75,11 @@ count_names names ds =
     let b = length-map ds (λ (d : tree.DeclaratorTree). d.name.word) in omega arith
 
 -- how many variables live behind declarators
-behind_declarators : (F : List tree.FunctionTree) (n live more : ℕ) (s : Scope) (ds : List tree.DeclaratorTree) (rest : BlockItems) → live + length ds ≡ more
-    → live_behind live (resolve_declarators F s n ds rest) ≡ live_behind more rest
-behind_declarators F n live more s [] rest e = let same : live ≡ more = omega (arith, e) in ap (λ (i : ℕ). live_behind i rest) same
-behind_declarators F n live more s (d ∷ ds) rest e =
-    let same : suc live + length ds ≡ more = omega (arith, e) in behind_declarators F (suc n) (suc live) more (with_local s d.name.word) ds rest same
+behind_declarators : (F : List tree.FunctionTree) (n live more : ℕ) (s : Scope) (t : NumberType) (ds : List tree.DeclaratorTree) (rest : BlockItems) → live + length ds ≡ more
+    → live_behind live (resolve_declarators F s n t ds rest) ≡ live_behind more rest
+behind_declarators F n live more s t [] rest e = let same : live ≡ more = omega (arith, e) in ap (λ (i : ℕ). live_behind i rest) same
+behind_declarators F n live more s t (d ∷ ds) rest e =
+    let same : suc live + length ds ≡ more = omega (arith, e) in behind_declarators F (suc n) (suc live) more (with_local s (declarator_entry t d)) t ds rest same
 
 -- a point with the globals' names, the callers' and those of its label ----------------------------------------------------
 
@@ -127,27 +128,28 @@ module _ (outside : List (List ℕ)) (ls : List Labelled) where
     assign_has n live s (tree.before p step x) names h at = (point_has n live false (assign_label names (tree.before p step x)) h at, tt)
 
     -- declarators, and the items behind them
-    declarators_have : (n live more : ℕ) (s : Scope) (ds : List tree.DeclaratorTree) (rest : BlockItems) (names : List (List ℕ)) → width_of path + length names ≡ live → live + length ds ≡ more
+    declarators_have : (n live more : ℕ) (s : Scope) (t : NumberType) (ds : List tree.DeclaratorTree) (rest : BlockItems) (names : List (List ℕ)) → width_of path + length names ≡ live
+        → live + length ds ≡ more
         → StandFrom ls n (declarator_labels names ds) → EachPoint HasAsMany (items_events inside path more rest) →
-        EachPoint HasAsMany (items_events inside path live (resolve_declarators F s n ds rest))
-    declarators_have n live more s [] rest names h e stand back = let same : more ≡ live = omega (arith, e) in subst (λ (i : ℕ). EachPoint HasAsMany (items_events inside path i rest)) same back
-    declarators_have n live more s (d ∷ ds) rest names h e stand back =
-        let t = with_local s d.name.word in
+        EachPoint HasAsMany (items_events inside path live (resolve_declarators F s n t ds rest))
+    declarators_have n live more s t [] rest names h e stand back = let same : more ≡ live = omega (arith, e) in subst (λ (i : ℕ). EachPoint HasAsMany (items_events inside path i rest)) same back
+    declarators_have n live more s t (d ∷ ds) rest names h e stand back =
+        let u = with_local s (declarator_entry t d) in
         let longer = names ++ d.name.word ∷ [] in
         let l : Labelled = record { place = d.name.place; called = called_of d.rvalue; live = names; live_in_call = longer } in
         let k = length-append names (d.name.word ∷ []) in
         let j : width_of path + length longer ≡ suc live = omega (arith, h) in
         let same : suc live + length ds ≡ more = omega (arith, e) in (
           point_has n live false l h stand.0,
-          each_then HasAsMany (given_events inside path (suc live) (resolve_given F t n d.rvalue)) (items_events inside path (suc live) (resolve_declarators F t (suc n) ds rest))
-              (given_has n (suc live) t d.rvalue l j stand.0) (declarators_have (suc n) (suc live) more t ds rest longer j same stand.1 back),
+          each_then HasAsMany (given_events inside path (suc live) (resolve_given F u n d.rvalue)) (items_events inside path (suc live) (resolve_declarators F u (suc n) t ds rest))
+              (given_has n (suc live) u d.rvalue l j stand.0) (declarators_have (suc n) (suc live) more u t ds rest longer j same stand.1 back),
         )
 
     -- how a `for` begins
     init_has : (n live : ℕ) (s : Scope) (i : tree.InitTree) (names : List (List ℕ)) → width_of path + length names ≡ live → StandFrom ls n (init_labels names i)
         → EachPoint HasAsMany (items_events inside path live (resolve_init F s n i))
     init_has n live s tree.no_init names h stand = tt
-    init_has n live s (tree.declared d) names h stand = declarators_have n live (live + length (d.first ∷ d.rest)) (inner s) (d.first ∷ d.rest) no_more names h refl stand tt
+    init_has n live s (tree.declared d) names h stand = declarators_have n live (live + length (d.first ∷ d.rest)) (inner s) d.number_type (d.first ∷ d.rest) no_more names h refl stand tt
     init_has n live s (tree.assigned a) names h stand = each_then HasAsMany (stmt_events inside path live (resolve_assign F s n a)) [] (assign_has n live s a names h stand.0) tt
 
     behind_init : (n live : ℕ) (s : Scope) (i : tree.InitTree) (names : List (List ℕ)) → width_of path + length names ≡ live →
@@ -158,7 +160,7 @@ module _ (outside : List (List ℕ)) (ls : List Labelled) where
         let more = live + length ds in
         let a = count_names names ds in
         let b : width_of path + length (with_names names ds) ≡ more = omega (arith, h) in
-        b ∙ sym (behind_declarators F n live more (inner s) ds no_more refl)
+        b ∙ sym (behind_declarators F n live more (inner s) d.number_type ds no_more refl)
     behind_init n live s (tree.assigned (tree.set x e)) names h = h
     behind_init n live s (tree.assigned (tree.update x op e)) names h = h
     behind_init n live s (tree.assigned (tree.after x step)) names h = h
@@ -236,7 +238,7 @@ module _ (outside : List (List ℕ)) (ls : List Labelled) where
           (tt, point_has m live false (plain_label end names) h (subst (λ (i : ℕ). label_at ls i ≡ Some (plain_label end names)) same stand.0))
       items_have n m live s (tree.declaration d items) end names h e stand =
           let ds = d.first ∷ d.rest in
-          let t = with_declarators s ds in
+          let t = with_declarators s d.number_type ds in
           let k = n + declarator_count d in
           let more = live + length ds in
           let longer = with_names names ds in
@@ -249,8 +251,8 @@ module _ (outside : List (List ℕ)) (ls : List Labelled) where
           let x = count_declarators names ds in
           let y : n + length front ≡ k = omega arith in
           let later = items_have k m more t items end longer b c (stand_right ls n k front back y stand) in (
-            declarators_have n live more s ds rest names h refl (stand_left ls n front back stand) later.0,
-            subst (λ (i : ℕ). HasAsMany (record { path = path; label = m; live = i; asserts = false })) (sym (behind_declarators F n live more s ds rest refl)) later.1,
+            declarators_have n live more s d.number_type ds rest names h refl (stand_left ls n front back stand) later.0,
+            subst (λ (i : ℕ). HasAsMany (record { path = path; label = m; live = i; asserts = false })) (sym (behind_declarators F n live more s d.number_type ds rest refl)) later.1,
           )
       items_have n m live s (tree.statement t items) end names h e stand =
           let k = n + stmt_count t in
@@ -264,15 +266,15 @@ module _ (outside : List (List ℕ)) (ls : List Labelled) where
             later.1,
           )
 
-    function_has : (n live : ℕ) (scope : List (List ℕ)) (f : tree.FunctionTree) → width_of path ≡ live → StandFrom ls n (function_labels f)
+    function_has : (n live : ℕ) (scope : List Entry) (f : tree.FunctionTree) → width_of path ≡ live → StandFrom ls n (function_labels f)
         → EachPoint HasAsMany (function_events inside path live (Some (resolve_function F scope n f)))
     function_has n live scope f h stand =
-        let names = map (λ (p : Identifier). p.word) f.parameters in
+        let names = map (λ (p : Parameter). p.name.word) f.parameters in
         let m = n + items_count f.body in
         let more = live + length f.parameters in
         let s = function_scope scope f.parameters in
         let body = resolve_items F s n f.body in
-        let k = length-map f.parameters (λ (p : Identifier). p.word) in
+        let k = length-map f.parameters (λ (p : Parameter). p.name.word) in
         let j : width_of path + length names ≡ more = omega (arith, h) in
         let both = items_have n m more s f.body f.end names j refl stand in
         each_then HasAsMany (items_events inside path more body) (plain_site path m (live_behind more body) ∷ []) both.0 (both.1, tt)
@@ -280,9 +282,9 @@ module _ (outside : List (List ℕ)) (ls : List Labelled) where
   module _ (F : List tree.FunctionTree) where
     -- a function of the source whose labels stand among all
     abbrev IsLabelled : Function → Type 0
-    IsLabelled g = (f : tree.FunctionTree) × (n : ℕ) × (scope : List (List ℕ)) × (g ≡ resolve_function F scope n f) × StandFrom ls n (function_labels f)
+    IsLabelled g = (f : tree.FunctionTree) × (n : ℕ) × (scope : List Entry) × (g ≡ resolve_function F scope n f) × StandFrom ls n (function_labels f)
 
-    parts_labelled : (n : ℕ) (scope : List (List ℕ)) (ps : List tree.PartTree) → StandFrom ls n (flat_map function_labels (functions_in ps)) → AllByRecursion IsLabelled (resolve_parts F scope n ps)
+    parts_labelled : (n : ℕ) (scope : List Entry) (ps : List tree.PartTree) → StandFrom ls n (flat_map function_labels (functions_in ps)) → AllByRecursion IsLabelled (resolve_parts F scope n ps)
     parts_labelled n scope [] stand = tt
     parts_labelled n scope (tree.prototype ∷ ps) stand = parts_labelled n scope ps stand
     parts_labelled n scope (tree.globals g ∷ ps) stand = parts_labelled n _ ps stand
@@ -290,7 +292,7 @@ module _ (outside : List (List ℕ)) (ls : List Labelled) where
         let k = n + suc (items_count f.body) in
         let front = function_labels f in
         let back = flat_map function_labels (functions_in ps) in
-        let e : n + length front ≡ k = ap (λ (i : ℕ). n + i) (count_items (map (λ (p : Identifier). p.word) f.parameters) f.body f.end) in
+        let e : n + length front ≡ k = ap (λ (i : ℕ). n + i) (count_items (map (λ (p : Parameter). p.name.word) f.parameters) f.body f.end) in
         ((f, n, scope, refl, stand_left ls n front back stand), parts_labelled k scope ps (stand_right ls n k front back e stand))
 
     module _ (P : Program) (labelled : AllByRecursion IsLabelled P.functions) where

@@ -1,10 +1,11 @@
 -- The labels of what a tree means are numbers one after the other: as many as it has statements, declarators and ends of blocks.
 use Rattle.std.proofs.Common.{◌≡◌, ℕ, suc, ◌+◌, List, [], ◌∷◌, ◌++◌, length, Option, Some, None, refl, sym, ap, ◌∙◌, subst, arith, length-append, add-one}
 use Rattle.std.specs.List.{range_with_len, flat_map}
+use Rattle.lra_base.specs.declared.number_types.NumberType.{NumberType}
 use Rattle.lra_base.specs.declared.refusals.Place.{Place}
 use Rattle.lra_tree.specs.Trees as tree
 use Rattle.lra_program.specs.Program.{BlockItems, no_more}
-use Rattle.lra_meaning.specs.Scope.{Scope, with_local, with_declarators, inner, for_scope}
+use Rattle.lra_meaning.specs.Scope.{Entry, Scope, with_local, declarator_entry, with_declarators, inner, for_scope}
 use Rattle.lra_tree.specs.Labels.{init_labels, step_labels, stmt_labels, live_in_for}
 use Rattle.lra_meaning.specs.Resolve.{resolve_assign, resolve_declarators, resolve_init, resolve_step, init_count, step_count, stmt_count, items_count, declarator_count, resolve_stmt, resolve_items}
 use Rattle.lra_meaning.specs.Resolve.{resolve_function, resolve_parts}
@@ -66,16 +67,16 @@ module _ (F : List tree.FunctionTree) where
   assign_run n s (tree.after x step) = run_one n
   assign_run n s (tree.before at step x) = run_one n
 
-  declarators_run : (n m : ℕ) (s : Scope) (ds : List tree.DeclaratorTree) (rest : BlockItems) → IsRun (n + length ds) (items_numbers rest) m →
-      IsRun n (items_numbers (resolve_declarators F s n ds rest)) m
-  declarators_run n m s [] rest r = subst (λ (i : ℕ). IsRun i (items_numbers rest) m) (omega arith) r
-  declarators_run n m s (d ∷ ds) rest r =
-      (refl, declarators_run (suc n) m (with_local s d.name.word) ds rest (subst (λ (i : ℕ). IsRun i (items_numbers rest) m) (omega arith) r))
+  declarators_run : (n m : ℕ) (s : Scope) (t : NumberType) (ds : List tree.DeclaratorTree) (rest : BlockItems) → IsRun (n + length ds) (items_numbers rest) m →
+      IsRun n (items_numbers (resolve_declarators F s n t ds rest)) m
+  declarators_run n m s t [] rest r = subst (λ (i : ℕ). IsRun i (items_numbers rest) m) (omega arith) r
+  declarators_run n m s t (d ∷ ds) rest r =
+      (refl, declarators_run (suc n) m (with_local s (declarator_entry t d)) t ds rest (subst (λ (i : ℕ). IsRun i (items_numbers rest) m) (omega arith) r))
 
   init_run : (n : ℕ) (s : Scope) (i : tree.InitTree) → IsRun n (items_numbers (resolve_init F s n i)) (n + init_count i)
   init_run n s tree.no_init = omega arith
   init_run n s (tree.declared d) =
-      let e = count_declarators [] (d.first ∷ d.rest) in declarators_run n (n + init_count (tree.declared d)) (inner s) (d.first ∷ d.rest) no_more (omega arith)
+      let e = count_declarators [] (d.first ∷ d.rest) in declarators_run n (n + init_count (tree.declared d)) (inner s) d.number_type (d.first ∷ d.rest) no_more (omega arith)
   init_run n s (tree.assigned a) = run_then n (suc n) (n + 1) (stmt_numbers (resolve_assign F s n a)) [] (assign_run n s a) (one_more n)
 
   step_run : (n : ℕ) (s : Scope) (a : Option tree.AssignTree) → IsRun n (stmt_numbers (resolve_step F s n a)) (n + step_count a)
@@ -124,24 +125,24 @@ module _ (F : List tree.FunctionTree) where
     items_run : (n : ℕ) (s : Scope) (items : tree.ItemsTree) → IsRun n (items_numbers (resolve_items F s n items)) (n + items_count items)
     items_run n s tree.no_items = omega arith
     items_run n s (tree.declaration d items) =
-        let t = with_declarators s (d.first ∷ d.rest) in
+        let t = with_declarators s d.number_type (d.first ∷ d.rest) in
         let m = n + declarator_count d in
         let last = n + items_count (tree.declaration d items) in
         let rest = resolve_items F t m items in
-        declarators_run n last s (d.first ∷ d.rest) rest (run_to m (m + items_count items) last (items_numbers rest) (omega arith) (items_run m t items))
+        declarators_run n last s d.number_type (d.first ∷ d.rest) rest (run_to m (m + items_count items) last (items_numbers rest) (omega arith) (items_run m t items))
     items_run n s (tree.statement t items) =
         let m = n + stmt_count t in
         let last = n + items_count (tree.statement t items) in
         let back = items_numbers (resolve_items F s m items) in
         run_then n m last (stmt_numbers (resolve_stmt F s n t)) back (stmt_run n s t) (run_to m (m + items_count items) last back (omega arith) (items_run m s items))
 
-  function_run : (n : ℕ) (outside : List (List ℕ)) (f : tree.FunctionTree) → IsRun n (function_numbers (resolve_function F outside n f)) (n + suc (items_count f.body))
+  function_run : (n : ℕ) (outside : List Entry) (f : tree.FunctionTree) → IsRun n (function_numbers (resolve_function F outside n f)) (n + suc (items_count f.body))
   function_run n outside f =
       let m = n + items_count f.body in
       run_then n m (n + suc (items_count f.body)) (items_numbers (resolve_function F outside n f).body) (m ∷ []) (items_run n _ f.body) (refl, omega arith)
 
   -- the labels of a source's functions
-  pub parts_run : (n : ℕ) (outside : List (List ℕ)) (ps : List tree.PartTree) → (m : ℕ) × IsRun n (flat_map function_numbers (resolve_parts F outside n ps)) m
+  pub parts_run : (n : ℕ) (outside : List Entry) (ps : List tree.PartTree) → (m : ℕ) × IsRun n (flat_map function_numbers (resolve_parts F outside n ps)) m
   parts_run n outside [] = (n, refl)
   parts_run n outside (tree.prototype ∷ ps) = parts_run n outside ps
   parts_run n outside (tree.globals g ∷ ps) = parts_run n _ ps

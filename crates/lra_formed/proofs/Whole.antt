@@ -1,15 +1,14 @@
 -- The program of a source whose literals are small and whose names have no faults is well-formed.
 use Rattle.std.proofs.Common.{◌≡◌, ℕ, suc, ◌+◌, ◌≤◌, List, [], ◌∷◌, ◌++◌, length, map, Option, Some, Bool, true, false, not, nat_eq, cond, refl, ap, ◌∙◌, arith, length-append}
-use Rattle.std.specs.Prelude.{IsTrue, slice_get, codes, if◌then◌else◌, ◌||◌, ℤ}
+use Rattle.std.specs.Prelude.{IsTrue, is_some, slice_get, codes, if◌then◌else◌, ◌||◌, ℤ}
 use Rattle.std.specs.List.{AllByRecursion, Contains, list_any}
 use Rattle.std.proofs.lemmas.Bool.{eqb-true}
 use Rattle.std.proofs.lemmas.List.{length-map}
 use Rattle.std.proofs.lemmas.Option.{same_Some, none-some}
-use Rattle.lra_tree.specs.declared.trees.Identifier.{Identifier}
 use Rattle.lra_tree.specs.Trees as tree
 use Rattle.lra_program.specs.Program.{Function, Program}
 use Rattle.lra_program.specs.Value.{is_word}
-use Rattle.lra_meaning.specs.Scope.{function_scope}
+use Rattle.lra_meaning.specs.Scope.{Entry, parameter_entry, global_entry, global_entries, function_scope}
 use Rattle.lra_tree.specs.Functions.{functions_in, functions_of, is_named, is_main, function_named}
 use Rattle.lra_meaning.specs.NameFaults.{parameters_faults, function_faults, globals_faults, global_names, parts_faults, name_faults}
 use Rattle.lra_meaning.specs.Resolve.{function_place, items_count, resolve_function, global_value, globals_in, resolve_parts, main_of, resolve}
@@ -35,24 +34,25 @@ globals_are_words (tree.function f ∷ ps) h = globals_are_words ps h.1
 -- functions --------------------------------------------------------------------------------------------------------
 
 module _ (P : Program) (F : List tree.FunctionTree) (callees : AreCallees P F) where
-  good_function : (n : ℕ) (outside : List (List ℕ)) (f : tree.FunctionTree) → length outside ≤ length P.globals → IsSmallPart (tree.function f) → function_faults F outside f ≡ [] →
+  good_function : (n : ℕ) (outside : List Entry) (f : tree.FunctionTree) → length outside ≤ length P.globals → IsSmallPart (tree.function f) → function_faults F outside f ≡ [] →
       IsGoodFunction P (resolve_function F outside n f)
   good_function n outside f few small e =
-      good_items P F callees f.has_result false n (length f.parameters) (function_scope outside f.parameters) f.body
-      (record { globals = few; locals = length-map f.parameters (λ (x : Identifier). x.word) }) small (none_right (parameters_faults [] f.parameters) _ e)
+      good_items P F callees (is_some f.result_type) false n (length f.parameters) (function_scope outside f.parameters) f.body
+      (record { globals = few; locals = length-map f.parameters parameter_entry }) small (none_right (parameters_faults [] f.parameters) _ e)
 
-  good_functions : (n : ℕ) (names outside : List (List ℕ)) (ps : List tree.PartTree) → length outside + length (globals_in ps) ≤ length P.globals → AllByRecursion IsSmallPart ps
+  good_functions : (n : ℕ) (names : List (List ℕ)) (outside : List Entry) (ps : List tree.PartTree) → length outside + length (globals_in ps) ≤ length P.globals → AllByRecursion IsSmallPart ps
       → parts_faults F names outside ps ≡ [] → AllByRecursion (IsGoodFunction P) (resolve_parts F outside n ps)
   good_functions n names outside [] few small e = tt
   good_functions n names outside (tree.prototype ∷ ps) few small e = good_functions n names outside ps few small.1 e
   good_functions n names outside (tree.globals g ∷ ps) few small e =
       let gs = g.first ∷ g.rest in
       let more = global_names gs in
-      let a = length-append outside more in
-      let b = length-map gs (λ (x : tree.GlobalTree). x.name.word) in
+      let new = global_entries g in
+      let a = length-append outside new in
+      let b = length-map gs (global_entry g.number_type) in
       let c = length-append (map global_value gs) (globals_in ps) in
       let d = length-map gs global_value in
-      good_functions n (names ++ more) (outside ++ more) ps (omega (arith, few)) small.1 (none_right (globals_faults names gs) (parts_faults F (names ++ more) (outside ++ more) ps) e)
+      good_functions n (names ++ more) (outside ++ new) ps (omega (arith, few)) small.1 (none_right (globals_faults names gs) (parts_faults F (names ++ more) (outside ++ new) ps) e)
   good_functions n names outside (tree.function f ∷ ps) few small e =
       let later = parts_faults F (names ++ f.name.word ∷ []) outside ps in
       let front = none_left _ later e in (
@@ -71,7 +71,7 @@ callee_case : (b : Bool) (first f : tree.FunctionTree) (found : Option tree.Func
 callee_case true first f found g gs k same later e = (g, refl, same ∙ ap (λ (h : tree.FunctionTree). length h.parameters) (same_Some first f e))
 callee_case false first f found g gs k same later e = later e
 
-callees_in : (F : List tree.FunctionTree) (n : ℕ) (outside : List (List ℕ)) (ps : List tree.PartTree) (name : List ℕ) (f : tree.FunctionTree) → function_named (functions_in ps) name ≡ Some f
+callees_in : (F : List tree.FunctionTree) (n : ℕ) (outside : List Entry) (ps : List tree.PartTree) (name : List ℕ) (f : tree.FunctionTree) → function_named (functions_in ps) name ≡ Some f
     → IsCallee (resolve_parts F outside n ps) (function_place (functions_in ps) name) f
 callees_in F n outside [] name f e = absurd (none-some f e)
 callees_in F n outside (tree.prototype ∷ ps) name f e = callees_in F n outside ps name f e
@@ -100,7 +100,7 @@ main_case : (b rest : Bool) (g x : Function) (gs : List Function) → (b ≡ tru
 main_case true rest g x gs alone later e = ((0, omega arith, refl), alone refl)
 main_case false rest g x gs alone later e = later_main g x gs (later e)
 
-main_in : (F : List tree.FunctionTree) (n : ℕ) (outside : List (List ℕ)) (ps : List tree.PartTree) → list_any is_main (functions_in ps) ≡ true
+main_in : (F : List tree.FunctionTree) (n : ℕ) (outside : List Entry) (ps : List tree.PartTree) → list_any is_main (functions_in ps) ≡ true
     → IsMain (resolve_parts F outside n ps) (main_of (functions_in ps) (resolve_parts F outside n ps))
 main_in F n outside [] e = absurd cc
 main_in F n outside (tree.prototype ∷ ps) e = main_in F n outside ps e
