@@ -6,11 +6,12 @@ use Rattle.std.proofs.lemmas.Fmt.{decimal_digit, decimal_step}
 use Rattle.std.specs.Fmt.{decimal}
 use Rattle.std.specs.List.{list_all}
 use Rattle.std.specs.Prelude.{codes, is_none, nat_le}
+use Rattle.lra_base.specs.declared.number_types.NumberType.TheVariants.{Long}
 use Rattle.lra_tree.specs.declared.tokens.Kind.TheVariants.{Name, Number}
 use Rattle.lra_tree.specs.Lexeme.{is_between, is_digit, is_word_byte, is_letter, digit_value, number_behind}
 use Rattle.lra_tree.specs.Lexeme.{decimal_base, octal, greatest_literal, number_word, word, name, number}
 use Rattle.lra_tree.proofs.LongestByTest.{is_lexeme, begins_gap}
-use Rattle.lra_meaning.specs.Scope.{Scope, slot_of}
+use Rattle.lra_meaning.specs.Scope.{Entry, Scope, slot_of}
 use Rattle.lra_tree.specs.Faults.{greatest_level}
 use Rattle.lra_tree.proofs.Lexemes.{IsGood, IsRead, as_read}
 
@@ -229,9 +230,16 @@ numeral n l = elim (cases_lt n 10) [ inl small ↦ one_of n small | inr large �
 
 -- variables ----------------------------------------------------------------------------------------------------------
 
+abbrev long_entry : List ℕ → Entry
+long_entry w = record { name = w; number_type = Long }
+
 -- the four of a sample source
 abbrev pub four : Scope
-four = record { globals = []; locals = codes "v0" ∷ codes "v1" ∷ codes "v2" ∷ codes "v3" ∷ []; outer = 0 }
+four = record {
+  globals = [];
+  locals = long_entry (codes "v0") ∷ long_entry (codes "v1") ∷ long_entry (codes "v2") ∷ long_entry (codes "v3") ∷ [];
+  outer = 0;
+}
 
 pub record IsVariable (x : ℕ) : Type 0 where
   pub good : IsGood 118 (x ∷ []) (Name (118 ∷ x ∷ []))

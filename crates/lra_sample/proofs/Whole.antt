@@ -1,8 +1,9 @@
 -- Whole sources of such lines: their tokens and their trees.
-use Rattle.std.proofs.Common.{◌≡◌, ℕ, true, List, [], ◌∷◌, ◌++◌, Some, refl, sym, ap, ◌∙◌, subst, append_assoc, arith}
+use Rattle.std.proofs.Common.{◌≡◌, ℕ, List, [], ◌∷◌, ◌++◌, Some, refl, sym, ap, ◌∙◌, subst, append_assoc, arith}
 use Rattle.std.proofs.Common.{inl, inr}
 use Rattle.std.proofs.lemmas.List.{append-nil}
 use Rattle.std.specs.Prelude.{codes}
+use Rattle.lra_base.specs.declared.number_types.NumberType.TheVariants.{Long}
 use Rattle.lra_base.specs.declared.refusals.Place.{Place}
 use Rattle.lra_base.specs.Operators.{at_most}
 use Rattle.lra_tree.specs.declared.tokens.Kind.TheVariants.{Name}
@@ -126,6 +127,7 @@ whole_written ls = ap (λ t. written (head_items ++ four_declared []) ++ t)
 
 abbrev pub declared_tree : ℕ → Place → ItemsTree → ItemsTree
 declared_tree x at rest = declaration (record {
+  number_type = Long;
   first = record
       { name = var x at; rvalue = Some (expression (number 0)) };
   rest = [];
@@ -151,7 +153,7 @@ body_tree before ls = declarations_tree before four_digits (λ b. lines_tree b l
 
 abbrev pub main_tree : List Line → FunctionTree
 main_tree ls = record {
-  has_result = true;
+  result_type = Some Long;
   name = record { word = codes "main"; place = item_place [] head_items 2 };
   parameters = [];
   body = body_tree (behind [] head_items) ls;
