@@ -1,6 +1,6 @@
 //! The first recursive call of small sources, by hand.
 
-use lra_base::Place;
+use lra_base::{NumberType, Place};
 use lra_calls::first_recursive;
 use lra_tree::{
     Arguments, Assign, Block, BlockItem, Call, Declaration, Declarator, Function, Identifier, Init,
@@ -113,6 +113,7 @@ fn alone(alloc: Global, name: &str, line: u32) -> Result<BlockItem, AllocError> 
 fn declared(alloc: Global, name: &str, line: u32) -> Result<BlockItem, AllocError> {
     let rvalue = Rvalue::Result(call(alloc, name, line, 30)?);
     Ok(BlockItem::Declaration(Declaration {
+        number_type: NumberType::Long,
         first: Declarator {
             name: identifier(alloc, "x", line, 26)?,
             rvalue: Some(rvalue),
@@ -151,7 +152,7 @@ fn block(alloc: Global, names: &[&str], line: u32) -> Result<Block, AllocError> 
 
 fn function(alloc: Global, name: &str, names: &[&str], line: u32) -> Result<Function, AllocError> {
     Ok(Function {
-        has_result: true,
+        result_type: Some(NumberType::Long),
         name: identifier(alloc, name, line, 5)?,
         parameters: Parameters {
             items: Vec::new(alloc),

@@ -1,11 +1,11 @@
 //! Trees of small sources, their programs and their refusals.
 
-use lra_base::{Cause, Place, Refusal, SourceError};
+use lra_base::{Cause, NumberType, Place, Refusal, SourceError};
 use lra_names::resolve;
 use lra_program::{BlockItem as ProgramItem, Program, Slot, Stmt as ProgramStmt};
 use lra_tree::{
     Arguments, Assign, Block, BlockItem, Call, Declaration, Declarator, Function, Global, Globals,
-    Identifier, Init, Item, Parameters, Rvalue, Step, Stmt, Tree, Word,
+    Identifier, Init, Item, Parameter, Parameters, Rvalue, Step, Stmt, Tree, Word,
 };
 use std::alloc::{AllocError, Global as Allocator};
 use std::process::Abort;
@@ -89,6 +89,7 @@ fn declaration(alloc: Allocator, line: u32) -> Result<Declaration, AllocError> {
     let mut rest = Vec::new(alloc);
     rest.push(declarator(alloc, line, SECOND)?)?;
     Ok(Declaration {
+        number_type: NumberType::Long,
         first: declarator(alloc, line, STATEMENT)?,
         rest,
     })
@@ -138,7 +139,10 @@ fn item(alloc: Allocator, line: u32, body: Body) -> Result<BlockItem, AllocError
 fn parameters(alloc: Allocator, line: u32, count: usize) -> Result<Parameters, AllocError> {
     let mut items = Vec::new(alloc);
     for _ in 0..count {
-        items.push(identifier(alloc, "a", line, PARAMETER)?)?;
+        items.push(Parameter {
+            number_type: NumberType::Long,
+            name: identifier(alloc, "a", line, PARAMETER)?,
+        })?;
     }
     Ok(Parameters { items })
 }
@@ -152,10 +156,19 @@ fn block(alloc: Allocator, line: u32, body: Body) -> Result<Block, AllocError> {
     })
 }
 
+fn result_type(has_result: bool) -> Option<NumberType> {
+    if has_result {
+        Some(NumberType::Long)
+    } else {
+        None
+    }
+}
+
 fn file_item(alloc: Allocator, line: u32, part: Part) -> Result<Item, AllocError> {
     match part {
         Part::Prototype => Ok(Item::Prototype),
         Part::Global => Ok(Item::Globals(Globals {
+            number_type: NumberType::Long,
             first: Global {
                 name: identifier(alloc, "x", line, NAME)?,
                 value: None,
@@ -163,7 +176,7 @@ fn file_item(alloc: Allocator, line: u32, part: Part) -> Result<Item, AllocError
             rest: Vec::new(alloc),
         })),
         Part::Function(has_result, name, count, body) => Ok(Item::Function(Function {
-            has_result,
+            result_type: result_type(has_result),
             name: identifier(alloc, name, line, NAME)?,
             parameters: parameters(alloc, line, count)?,
             body: block(alloc, line, body)?,
