@@ -81,7 +81,7 @@ from_map f (y ∷ xs) c h = elim (in_cons (f y) (map f xs) c h) [
 abbrev call_of : FunctionTree → Identifier → Call
 call_of f x = (f.name.word, x)
 
-call_there : (fs : List FunctionTree) (f : FunctionTree) (x : Identifier) → Contains fs f → Contains (calls_of f) x → Contains (calls_in fs) (call_of f x)
+pub call_there : (fs : List FunctionTree) (f : FunctionTree) (x : Identifier) → Contains fs f → Contains (calls_of f) x → Contains (calls_in fs) (call_of f x)
 call_there [] f x h k = absurd (nothing_in f h)
 call_there (g ∷ fs) f x h k = elim (in_cons g fs f h) [
   | inl same ↦ Contains-append_left (map (call_of g) (calls_of g)) (calls_in fs) (call_of f x)
@@ -89,10 +89,10 @@ call_there (g ∷ fs) f x h k = elim (in_cons g fs f h) [
   | inr behind ↦ Contains-append_right (map (call_of g) (calls_of g)) (calls_in fs) (call_of f x) (call_there fs f x behind k)
 ]
 
-abbrev IsHeld : List FunctionTree → Call → Type 0
+abbrev pub IsHeld : List FunctionTree → Call → Type 0
 IsHeld fs c = (f : FunctionTree) × Contains fs f × (f.name.word ≡ c.0) × Contains (calls_of f) c.1
 
-call_held : (fs : List FunctionTree) (c : Call) → Contains (calls_in fs) c → IsHeld fs c
+pub call_held : (fs : List FunctionTree) (c : Call) → Contains (calls_in fs) c → IsHeld fs c
 call_held [] c h = absurd (nothing_in c h)
 call_held (g ∷ fs) c h = elim (Contains-append_cases (map (call_of g) (calls_of g)) (calls_in fs) c h) [
   | inl here ↦

@@ -1,8 +1,8 @@
 -- Elements of lists: by their places, of the first and of the others, and what holds of each.
-use Rattle.std.proofs.Common.{◌≡◌, ℕ, zero, suc, List, [], ◌∷◌, ◌++◌, Some, slice_get, map, take, drop, ◌⊎◌, inl, inr, refl, sym, ap, arith}
+use Rattle.std.proofs.Common.{◌≡◌, ℕ, zero, suc, List, [], ◌∷◌, ◌++◌, Some, slice_get, map, take, drop, ◌⊎◌, inl, inr, refl, ap, arith}
 use Rattle.std.specs.List.{Contains, AllByRecursion}
 use Rattle.std.proofs.lemmas.List.Elements.{Contains-append_cases, Contains-append_right}
-use Rattle.std.proofs.lemmas.Option.{same_Some, none-some, slice_get_within, slice_get-get_or, get_or_from_slice_get, slice_get-map}
+use Rattle.std.proofs.lemmas.Option.{same_Some, none-some, slice_get-map}
 
 pub only_one : {A : Type 0} (x y : A) → Contains (x ∷ []) y → x ≡ y
 only_one x y (zero, l, s) = s
@@ -20,43 +20,19 @@ in_cons x xs y h = elim (Contains-append_cases (x ∷ []) xs y h) [ inl a ↦ in
 pub in_further : {A : Type 0} (x : A) (xs : List A) (y : A) → Contains xs y → Contains (x ∷ xs) y
 in_further x xs y h = Contains-append_right (x ∷ []) xs y h
 
--- at a place, and somewhere
-pub in_at : {A : Type 0} (xs : List A) (k : ℕ) (x : A) → slice_get xs k ≡ Some x → Contains xs x
-in_at xs k x e = (k, slice_get_within xs k x e, get_or_from_slice_get xs k x x e)
-
-pub at_in : {A : Type 0} (xs : List A) (x : A) → Contains xs x → (k : ℕ) × (slice_get xs k ≡ Some x)
-at_in xs x (k, l, s) = (k, rw (slice_get-get_or xs k x l) (ap Some s))
-
+-- at a place
 pub same_at : {A : Type 0} (xs : List A) (k : ℕ) (x y : A) → slice_get xs k ≡ Some x → slice_get xs k ≡ Some y → x ≡ y
 same_at xs k x y e f = same_Some x y (cc)
 
 pub mapped_at : {A B : Type 0} (f : A → B) (xs : List A) (k : ℕ) (x : A) → slice_get xs k ≡ Some x → slice_get (map f xs) k ≡ Some (f x)
 mapped_at f xs k x e = rw (slice_get-map f xs k, e) refl
 
-pub from_mapped : {A B : Type 0} (f : A → B) (xs : List A) (k : ℕ) (y : B) → slice_get (map f xs) k ≡ Some y → (x : A) × (slice_get xs k ≡ Some x) × (y ≡ f x)
-from_mapped f [] k y e = absurd (none-some y e)
-from_mapped f (x ∷ xs) zero y e = (x, refl, same_Some y (f x) (sym e))
-from_mapped f (x ∷ xs) (suc k) y e = from_mapped f xs k y e
-
 pub split_at : {A : Type 0} (xs : List A) (k : ℕ) (x : A) → slice_get xs k ≡ Some x → xs ≡ take k xs ++ x ∷ drop (suc k) xs
 split_at [] k x e = absurd (none-some x e)
 split_at (y ∷ xs) zero x e = ap (λ z. z ∷ xs) (same_Some y x e)
 split_at (y ∷ xs) (suc k) x e = ap (λ zs. y ∷ zs) (split_at xs k x e)
 
-pub one_more : {A : Type 0} (xs : List A) (k : ℕ) (x : A) → slice_get xs k ≡ Some x → take (suc k) xs ≡ take k xs ++ x ∷ []
-one_more [] k x e = absurd (none-some x e)
-one_more (y ∷ xs) zero x e = ap (λ z. z ∷ []) (same_Some y x e)
-one_more (y ∷ xs) (suc k) x e = ap (λ zs. y ∷ zs) (one_more xs k x e)
-
 -- what holds of each element
-pub all_append : {A : Type 0} (P : A → Type 0) (xs ys : List A) → AllByRecursion P xs → AllByRecursion P ys → AllByRecursion P (xs ++ ys)
-all_append P [] ys a b = b
-all_append P (x ∷ xs) ys a b = (a.0, all_append P xs ys a.1 b)
-
-pub all_map : {A B : Type 0} (f : A → B) (P : A → Type 0) (Q : B → Type 0) → ((x : A) → P x → Q (f x)) → (xs : List A) → AllByRecursion P xs → AllByRecursion Q (map f xs)
-all_map f P Q g [] a = tt
-all_map f P Q g (x ∷ xs) a = (g x a.0, all_map f P Q g xs a.1)
-
 pub all_at : {A : Type 0} (P : A → Type 0) (xs : List A) (x : A) (ys : List A) → AllByRecursion P (xs ++ x ∷ ys) → P x
 all_at P [] x ys a = a.0
 all_at P (z ∷ xs) x ys a = all_at P xs x ys a.1

@@ -1,5 +1,5 @@
 -- How a search goes on, and what it has found at its end.
-use Rattle.std.proofs.Common.{◌≡◌, ℕ, zero, suc, ◌+◌, ◌<◌, Bool, true, false, List, [], ◌∷◌, ◌++◌, length, replicate, Some, slice_get, get_or, set, ◌⊎◌, inl, inr, refl, ap, ◌∙◌, subst, arith}
+use Rattle.std.proofs.Common.{◌≡◌, ℕ, zero, suc, ◌+◌, ◌<◌, Bool, true, false, List, [], ◌∷◌, ◌++◌, length, replicate, Some, slice_get, get_or, set, ◌⊎◌, inl, inr, refl, sym, ap, ◌∙◌, subst, arith}
 use Rattle.std.proofs.Common.{length-append}
 use Rattle.std.specs.List.{Contains}
 use Rattle.std.proofs.lemmas.List.{length-set, get_or-set_same, length-replicate}
@@ -10,10 +10,10 @@ use Rattle.lra_calls.proofs.Elements.{only_one, has_one, nothing_in, same_at}
 
 -- All that is met is come to; what a search begins with is met, and so is the row of each place that is met, unless the
 -- place is still open.
-pub record IsUnderWay (rows : List (List ℕ)) (start : List ℕ) (met : List Bool) (open_ones : List ℕ) : Type 0 where
+pub record IsUnderWay (rows : List (List ℕ)) (start : ℕ) (met : List Bool) (open_ones : List ℕ) : Type 0 where
   pub size : length met ≡ length rows
   pub sound : (k : ℕ) → IsMet met k → Comes rows start k
-  pub begun : (k : ℕ) → k < length rows → Contains start k → IsMet met k
+  pub begun : start < length rows → IsMet met start
   pub closed : (j : ℕ) → IsMet met j
       → Contains open_ones j ⊎ ((row : List ℕ) (k : ℕ) → slice_get rows j ≡ Some row → k < length rows →
       Contains row k → IsMet met k)
@@ -80,27 +80,29 @@ grows_then ps p m0 m1 m2 o0 o1 o2 a b = record {
 }
 
 -- the search begins
-pub begun_search : (rows : List (List ℕ)) (start : List ℕ) (n : ℕ) (none met : List Bool) (no_open open_ones : List ℕ)
-    → n ≡ length rows → none ≡ replicate n false → no_open ≡ [] → Grows start none no_open met open_ones → IsUnderWay rows start met open_ones
+pub begun_search : (rows : List (List ℕ)) (start : ℕ) (n : ℕ) (none met : List Bool) (no_open open_ones : List ℕ)
+    → n ≡ length rows → none ≡ replicate n false → no_open ≡ [] → Grows (start ∷ []) none no_open met open_ones → IsUnderWay rows start met open_ones
 begun_search rows start n none met no_open open_ones size is nil g =
     let long : length none ≡ length rows = ap (length {A = Bool}) is ∙ length-replicate n false ∙ size in
     let unmarked : (k : ℕ) → IsMet none k → ⊥ = λ k m. none_met n k (subst (λ xs. IsMet xs k) is m) in
+    let begun_at : (k : ℕ) → start ≡ k → IsMet met k → Comes rows start k =
+    λ k e m. subst (Comes rows start) e (begins (subst (λ n. start < n) (g.size ∙ long) (met_within met start (subst (IsMet met) (sym e) m)))) in
     record {
       size = g.size ∙ long;
-      sound = λ k m. elim (g.only k m) [ inl x ↦ absurd (unmarked k x) | inr c ↦ begins k (subst (λ n. k < n) (g.size ∙ long) (met_within met k m)) c ];
-      begun = λ k l c. g.meets k (rw long l) c;
+      sound = λ k m. elim (g.only k m) [ inl x ↦ absurd (unmarked k x) | inr c ↦ begun_at k (only_one start k c) m ];
+      begun = λ l. g.meets start (rw long l) (has_one start start refl);
       closed = λ j m. elim (g.opens j m) [ inl x ↦ absurd (unmarked j x) | inr c ↦ inl c ];
       open_met = λ k c. elim (g.open_met k c) [ inl x ↦ absurd (nothing_in k (subst (λ xs. Contains xs k) nil x)) | inr m ↦ m ];
     }
 
 -- an open place is in range
-pub open_within : (rows : List (List ℕ)) (start : List ℕ) (met : List Bool) (before open_ones : List ℕ) (j : ℕ)
+pub open_within : (rows : List (List ℕ)) (start : ℕ) (met : List Bool) (before open_ones : List ℕ) (j : ℕ)
     → before ≡ open_ones ++ j ∷ [] → IsUnderWay rows start met before → j < length rows
 open_within rows start met before open_ones j e u =
     subst (λ n. j < n) u.size (met_within met j (u.open_met j (rw e (Contains-push open_ones j))))
 
 -- the row of an open place is gone through
-pub further_search : (rows : List (List ℕ)) (start : List ℕ) (met met_then : List Bool) (before open_ones open_then : List ℕ) (j : ℕ) (row : List ℕ)
+pub further_search : (rows : List (List ℕ)) (start : ℕ) (met met_then : List Bool) (before open_ones open_then : List ℕ) (j : ℕ) (row : List ℕ)
     → IsUnderWay rows start met before → before ≡ open_ones ++ j ∷ [] → slice_get rows j ≡ Some row → Grows row met open_ones met_then open_then
     → IsUnderWay rows start met_then open_then
 further_search rows start met met_then before open_ones open_then j row u e is g =
@@ -111,7 +113,7 @@ further_search rows start met met_then before open_ones open_then j row u e is g
         | inl x ↦ u.sound k x
         | inr c ↦ goes_on j k row (subst (λ n. k < n) (g.size ∙ u.size) (met_within met_then k m)) here is c
       ];
-      begun = λ k l c. g.kept k (u.begun k l c);
+      begun = λ l. g.kept start (u.begun l);
       closed = λ i m. elim (g.opens i m) [
         | inl x ↦ elim (u.closed i x) [
           | inl c ↦ elim (Contains-push_cases open_ones j i (rw e at c)) [
@@ -128,11 +130,11 @@ further_search rows start met met_then before open_ones open_then j row u e is g
     }
 
 -- nothing is open at the end
-come_met : (rows : List (List ℕ)) (start : List ℕ) (met : List Bool) → IsUnderWay rows start met [] → (k : ℕ) → Comes rows start k → IsMet met k
-come_met rows start met u _ (begins k l c) = u.begun k l c
+come_met : (rows : List (List ℕ)) (start : ℕ) (met : List Bool) → IsUnderWay rows start met [] → (k : ℕ) → Comes rows start k → IsMet met k
+come_met rows start met u _ (begins l) = u.begun l
 come_met rows start met u _ (goes_on j k row l h is c) =
     elim (u.closed j (come_met rows start met u j h)) [ inl x ↦ absurd (nothing_in j x) | inr f ↦ f row k is l c ]
 
-pub ended_search : (rows : List (List ℕ)) (start : List ℕ) (met : List Bool) (open_ones : List ℕ) → open_ones ≡ [] → IsUnderWay rows start met open_ones
+pub ended_search : (rows : List (List ℕ)) (start : ℕ) (met : List Bool) (open_ones : List ℕ) → open_ones ≡ [] → IsUnderWay rows start met open_ones
     → (k : ℕ) → (IsMet met k → Comes rows start k) × (Comes rows start k → IsMet met k)
 ended_search rows start met open_ones nil u k = (u.sound k, come_met rows start met (subst (IsUnderWay rows start met) nil u) k)

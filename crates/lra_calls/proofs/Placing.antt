@@ -1,31 +1,149 @@
--- Functions by their places: each place in a list of those of a name is that of a function of this name, and each such function is there.
-use Rattle.std.proofs.Common.{◌≡◌, ℕ, zero, suc, ◌+◌, Bool, true, false, if◌then◌else◌, List, [], ◌∷◌, ◌++◌, Option, Some, None, slice_get}
-use Rattle.std.proofs.Common.{append_assoc, append-nil, bytes_eq, ◌⊎◌, inl, inr, refl, sym, ap, ◌∙◌, subst, arith}
-use Rattle.std.specs.Prelude.{String, Vec, Result, Ok, Err, is_ok, IfOk}
+-- Functions by their names and their places; calls by those of their callers.
+use Rattle.std.proofs.Common.{◌≡◌, ◌<◌, ℕ, suc, Bool, true, false, cond, if◌then◌else◌, List, [], ◌∷◌, ◌++◌, length, map, Option, Some, None, slice_get, inl, inr, ◌⊎◌, refl, sym, ap, ◌∙◌}
+use Rattle.std.proofs.Common.{subst, arith}
+use Rattle.std.specs.Prelude.{option_map, option_to_list, nat_eq}
 use Rattle.std.specs.List.{Contains}
-use Rattle.std.specs.Option.{option_map_or}
-use Rattle.std.specs.declared.alloc.Global.{Global}
+use Rattle.std.proofs.lemmas.Bool.{both_ways, eqb-true, eq-eqb}
 use Rattle.std.proofs.lemmas.Slice.Eq.{bytes_eq-Decides}
-use Rattle.std.proofs.lemmas.Option.{none-some, same_Some}
-use Rattle.std.proofs.lemmas.List.Elements.{Contains-append_left, Contains-append_right, Contains-append_cases}
-use Rattle.indexmap.specs.IndexMap.{IndexMap, get_by_text}
+use Rattle.std.proofs.lemmas.Option.{none-some, same_Some, slice_get_within}
 use Rattle.lra_tree.specs.declared.trees.Identifier.{Identifier}
-use Rattle.lra_calls.specs.Called.{Caller}
-use Rattle.lra_calls.specs.Places.{places_from, places_of, row_of, HasPlaces}
+use Rattle.lra_tree.specs.Trees.{FunctionTree}
+use Rattle.lra_tree.specs.Functions.{is_named, function_named}
+use Rattle.lra_meaning.specs.Resolve.{function_place}
+use Rattle.lra_calls.specs.declared.calls.Call.{Call}
+use Rattle.lra_calls.specs.Calls.{call_of, calls_among, first_places, row_by}
 use Rattle.lra_calls.proofs.Elements.{nothing_in, in_cons, in_further}
 
--- the function at this place, counted from n, has the name
-record IsNamed (n : ℕ) (name : List ℕ) (cs : List Caller) (k : ℕ) : Type 0 where
-  pub index : ℕ
-  pub at : k ≡ n + index
-  pub caller : Caller
-  pub there : slice_get cs index ≡ Some caller
-  pub named : caller.name ≡ name
+-- the first function of a name -----------------------------------------------------------------------------------------
 
-named_further : (n : ℕ) (name : List ℕ) (c : Caller) (cs : List Caller) (k : ℕ) → IsNamed (suc n) name cs k → IsNamed n name (c ∷ cs) k
-named_further n name c cs k i = record { index = suc i.index; at = i.at ∙ omega arith; caller = i.caller; there = i.there; named = i.named }
+-- the function at this place has the name
+abbrev IsThere : List FunctionTree → List ℕ → ℕ → FunctionTree → Type 0
+IsThere F name k f = (slice_get F k ≡ Some f) × (f.name.word ≡ name)
 
--- a list that may have a first element
+named_case : (b : Bool) (h f : FunctionTree) (found : Option FunctionTree) (F : List FunctionTree) (name : List ℕ) (k : ℕ) → (b ≡ true → h.name.word ≡ name)
+    → (found ≡ Some f → IsThere F name k f) → cond b (Some h) found ≡ Some f → IsThere (h ∷ F) name (cond b 0 (suc k)) f
+named_case true h f found F name k here later e = (e, ap (λ (x : FunctionTree). x.name.word) (sym (same_Some h f e)) ∙ here refl)
+named_case false h f found F name k here later e = later e
+
+named_place : (F : List FunctionTree) (name : List ℕ) (f : FunctionTree) → function_named F name ≡ Some f → IsThere F name (function_place F name) f
+named_place [] name f e = absurd (none-some f e)
+named_place (h ∷ F) name f e =
+    named_case (is_named name h) h f (function_named F name) F name (function_place F name) (λ b. sym ((bytes_eq-Decides name h.name.word).0 b)) (named_place F name f) e
+
+none_case : (b : Bool) (h : FunctionTree) (found : Option FunctionTree) → cond b (Some h) found ≡ None → (b ≡ false) × (found ≡ None)
+none_case true h found e = absurd (none-some h (sym e))
+none_case false h found e = (refl, e)
+
+none_named : (F : List FunctionTree) (name : List ℕ) (f : FunctionTree) → function_named F name ≡ None → Contains F f → f.name.word ≡ name → ⊥
+none_named [] name f none at is = nothing_in f at
+none_named (h ∷ F) name f none at is = elim (in_cons h F f at) [
+  | inl e ↦
+      let same : name ≡ h.name.word = sym is ∙ ap (λ (x : FunctionTree). x.name.word) (sym e) in
+      both_ways (is_named name h) (none_case (is_named name h) h (function_named F name) none).0 ((bytes_eq-Decides name h.name.word).1 same)
+  | inr r ↦ none_named F name f (none_case (is_named name h) h (function_named F name) none).1 r is
+]
+
+-- some function has the name
+abbrev pub IsKnown : List FunctionTree → List ℕ → Type 0
+IsKnown F name = (f : FunctionTree) × (function_named F name ≡ Some f)
+
+known_case : (F : List FunctionTree) (name : List ℕ) (f : FunctionTree) (found : Option FunctionTree) → function_named F name ≡ found → Contains F f → f.name.word ≡ name → IsKnown F name
+known_case F name f None e at is = absurd (none_named F name f e at is)
+known_case F name f (Some g) e at is = (g, e)
+
+pub known : (F : List FunctionTree) (name : List ℕ) (f : FunctionTree) → Contains F f → f.name.word ≡ name → IsKnown F name
+known F name f at is = known_case F name f (function_named F name) refl at is
+
+-- known names with one place are one
+pub one_name : (F : List FunctionTree) (a b : List ℕ) → IsKnown F a → IsKnown F b → function_place F a ≡ function_place F b → a ≡ b
+one_name F a b (f, f_is) (g, g_is) e =
+    let x = named_place F a f f_is in
+    let y = named_place F b g g_is in
+    let same : f ≡ g = same_Some f g (sym x.0 ∙ ap (slice_get F) e ∙ y.0) in
+    sym x.1 ∙ ap (λ (h : FunctionTree). h.name.word) same ∙ y.1
+
+pub known_within : (F : List FunctionTree) (name : List ℕ) → IsKnown F name → function_place F name < length F
+known_within F name (f, is) = slice_get_within F (function_place F name) f (named_place F name f is).0
+
+-- the places of functions that are there
+pub known_places : (F fs : List FunctionTree) → ((f : FunctionTree) → Contains fs f → Contains F f) → first_places F fs ≡ map (λ (f : FunctionTree). function_place F f.name.word) fs
+known_places F [] each = refl
+known_places F (f ∷ fs) each =
+    let (g, is) = known F f.name.word f (each f (0, omega arith, refl)) refl in
+    ap (λ (o : Option FunctionTree). option_to_list (option_map (λ (h : FunctionTree). function_place F f.name.word) o) ++ first_places F fs) is
+    ∙ ap (λ ks. function_place F f.name.word ∷ ks) (known_places F fs (λ h inside. each h (in_further f fs h inside)))
+
+-- the call of a name ---------------------------------------------------------------------------------------------------
+
+abbrev first_call : List FunctionTree → ℕ → Identifier → Call
+first_call F k x = record { caller = k; callee = function_place F x.word; place = x.place }
+
+-- what is said of it
+pub record IsCallOf (F : List FunctionTree) (k : ℕ) (x : Identifier) (c : Call) : Type 0 where
+  pub caller : c.caller ≡ k
+  pub callee : c.callee ≡ function_place F x.word
+  pub place : c.place ≡ x.place
+  pub known : IsKnown F x.word
+
+call_case : (F : List FunctionTree) (k : ℕ) (x : Identifier) (c : Call) (found : Option FunctionTree) → function_named F x.word ≡ found
+    → option_map (λ (f : FunctionTree). first_call F k x) found ≡ Some c → IsCallOf F k x c
+call_case F k x c None is e = absurd (none-some c e)
+call_case F k x c (Some f) is e =
+    let same : c ≡ first_call F k x = sym (same_Some (first_call F k x) c e) in
+    record { caller = ap (λ (d : Call). d.caller) same; callee = ap (λ (d : Call). d.callee) same; place = ap (λ (d : Call). d.place) same; known = (f, is) }
+
+pub call_is : (F : List FunctionTree) (k : ℕ) (x : Identifier) (c : Call) → call_of F k x ≡ Some c → IsCallOf F k x c
+call_is F k x c e = call_case F k x c (function_named F x.word) refl e
+
+pub unknown_name : (F : List FunctionTree) (k : ℕ) (x : Identifier) → call_of F k x ≡ None → IsKnown F x.word → ⊥
+unknown_name F k x none (f, is) = none-some (first_call F k x) (sym none ∙ ap (option_map (λ (g : FunctionTree). first_call F k x)) is)
+
+pub call_there : (F : List FunctionTree) (k : ℕ) (x : Identifier) → IsKnown F x.word → (c : Call) × (call_of F k x ≡ Some c) × IsCallOf F k x c
+call_there F k x (f, is) =
+    let e : call_of F k x ≡ Some (first_call F k x) = ap (option_map (λ (g : FunctionTree). first_call F k x)) is in
+    (first_call F k x, e, call_is F k x (first_call F k x) e)
+
+-- several calls --------------------------------------------------------------------------------------------------------
+
+abbrev HeldCall : Type 0
+HeldCall = List ℕ × Identifier
+
+abbrev call_in : List FunctionTree → HeldCall → Option Call
+call_in F d = call_of F (function_place F d.0) d.1
+
+abbrev IsAmong : List FunctionTree → List HeldCall → Call → Type 0
+IsAmong F ds c = (d : HeldCall) × Contains ds d × (call_in F d ≡ Some c)
+
+among_case : (F : List FunctionTree) (d : HeldCall) (ds : List HeldCall) (c : Call) (o : Option Call) → call_in F d ≡ o → (Contains (calls_among F ds) c → IsAmong F ds c)
+    → Contains (option_to_list o ++ calls_among F ds) c → IsAmong F (d ∷ ds) c
+among_case F d ds c None is later h = let (e, inside, called) = later h in (e, in_further d ds e inside, called)
+among_case F d ds c (Some b) is later h = elim (in_cons b (calls_among F ds) c h) [
+  | inl same ↦ (d, (0, omega arith, refl), is ∙ ap Some same)
+  | inr r ↦ let (e, inside, called) = later r in (e, in_further d ds e inside, called)
+]
+
+pub from_among : (F : List FunctionTree) (ds : List HeldCall) (c : Call) → Contains (calls_among F ds) c → IsAmong F ds c
+from_among F [] c h = absurd (nothing_in c h)
+from_among F (d ∷ ds) c h = among_case F d ds c (call_in F d) refl (from_among F ds c) h
+
+behind_option : (o : Option Call) (cs : List Call) (c : Call) → Contains cs c → Contains (option_to_list o ++ cs) c
+behind_option None cs c h = h
+behind_option (Some b) cs c h = in_further b cs c h
+
+pub in_among : (F : List FunctionTree) (ds : List HeldCall) (d : HeldCall) (c : Call) → Contains ds d → call_in F d ≡ Some c → Contains (calls_among F ds) c
+in_among F [] d c h e = absurd (nothing_in d h)
+in_among F (b ∷ ds) d c h e = elim (in_cons b ds d h) [
+  | inl same ↦
+      let is : call_in F b ≡ Some c = ap (call_in F) same ∙ e in
+      subst (λ (o : Option Call). Contains (option_to_list o ++ calls_among F ds) c) (sym is) (0, omega arith, refl)
+  | inr r ↦ behind_option (call_in F b) (calls_among F ds) c (in_among F ds d c r e)
+]
+
+-- the row of a place ---------------------------------------------------------------------------------------------------
+
+abbrev IsInRow : ℕ → List Call → ℕ → Type 0
+IsInRow j cs k = (c : Call) × Contains cs c × (c.caller ≡ j) × (c.callee ≡ k)
+
 in_either : (b : Bool) (n k : ℕ) (xs : List ℕ) → Contains (if b then n ∷ xs else xs) k → ((b ≡ true) × (n ≡ k)) ⊎ Contains xs k
 in_either true n k xs h = elim (in_cons n xs k h) [ inl e ↦ inl (refl, e) | inr r ↦ inr r ]
 in_either false n k xs h = inr h
@@ -38,63 +156,16 @@ in_first : (b : Bool) (n : ℕ) (xs : List ℕ) → b ≡ true → Contains (if 
 in_first true n xs e = (0, omega arith, refl)
 in_first false n xs e = absurd cc
 
-named_in : (n : ℕ) (name : List ℕ) (cs : List Caller) (k : ℕ) → Contains (places_from n name cs) k → IsNamed n name cs k
-named_in n name [] k h = absurd (nothing_in k h)
-named_in n name (c ∷ cs) k h = elim (in_either (bytes_eq c.name name) n k (places_from (suc n) name cs) h) [
-  | inl e ↦ record { index = 0; at = sym e.1 ∙ omega arith; caller = c; there = refl; named = (bytes_eq-Decides c.name name).0 e.0 }
-  | inr r ↦ named_further n name c cs k (named_in (suc n) name cs k r)
+pub from_row : (j : ℕ) (cs : List Call) (k : ℕ) → Contains (row_by j cs) k → IsInRow j cs k
+from_row j [] k h = absurd (nothing_in k h)
+from_row j (b ∷ cs) k h = elim (in_either (nat_eq b.caller j) b.callee k (row_by j cs) h) [
+  | inl e ↦ (b, (0, omega arith, refl), eqb-true b.caller j e.0, e.1)
+  | inr r ↦ let (c, inside, caller, callee) = from_row j cs k r in (c, in_further b cs c inside, caller, callee)
 ]
 
-pub named_at : (cs : List Caller) (name : List ℕ) (k : ℕ) → Contains (places_of cs name) k → (c : Caller) × (slice_get cs k ≡ Some c) × (c.name ≡ name)
-named_at cs name k h =
-    let i = named_in 0 name cs k h in
-    let e : k ≡ i.index = i.at ∙ omega arith in
-    (i.caller, ap (slice_get cs) e ∙ i.there, i.named)
-
-in_named : (n : ℕ) (name : List ℕ) (cs : List Caller) (k : ℕ) (c : Caller) → slice_get cs k ≡ Some c → c.name ≡ name → Contains (places_from n name cs) (n + k)
-in_named n name [] k c e f = absurd (none-some c e)
-in_named n name (x ∷ cs) zero c e f =
-    let s : x.name ≡ name = ap (λ (y : Caller). y.name) (same_Some x c e) ∙ f in
-    subst (Contains (places_from n name (x ∷ cs))) (omega arith) (in_first (bytes_eq x.name name) n (places_from (suc n) name cs) ((bytes_eq-Decides x.name name).1 s))
-in_named n name (x ∷ cs) (suc k) c e f =
-    subst (Contains (places_from n name (x ∷ cs))) (omega arith) (in_second (bytes_eq x.name name) n (suc n + k) (places_from (suc n) name cs) (in_named (suc n) name cs k c e f))
-
-pub place_in : (cs : List Caller) (name : List ℕ) (k : ℕ) (c : Caller) → slice_get cs k ≡ Some c → c.name ≡ name → Contains (places_of cs name) k
-place_in cs name k c e f = subst (Contains (places_of cs name)) (omega arith) (in_named 0 name cs k c e f)
-
--- the places of several names
-pub row_in : (cs : List Caller) (xs : List Identifier) (x : Identifier) (k : ℕ) → Contains xs x → Contains (places_of cs x.word) k → Contains (row_of cs xs) k
-row_in cs [] x k h p = absurd (nothing_in x h)
-row_in cs (y ∷ xs) x k h p = elim (in_cons y xs x h) [
-  | inl e ↦ Contains-append_left (places_of cs y.word) (row_of cs xs) k (rw e p)
-  | inr r ↦ Contains-append_right (places_of cs y.word) (row_of cs xs) k (row_in cs xs x k r p)
+pub in_row : (cs : List Call) (c : Call) → Contains cs c → Contains (row_by c.caller cs) c.callee
+in_row [] c h = absurd (nothing_in c h)
+in_row (b ∷ cs) c h = elim (in_cons b cs c h) [
+  | inl same ↦ subst (λ (d : Call). Contains (row_by d.caller (b ∷ cs)) d.callee) same (in_first (nat_eq b.caller b.caller) b.callee (row_by b.caller cs) (eq-eqb b.caller b.caller refl))
+  | inr r ↦ in_second (nat_eq b.caller c.caller) b.callee c.callee (row_by c.caller cs) (in_row cs c r)
 ]
-
-pub in_row : (cs : List Caller) (xs : List Identifier) (k : ℕ) → Contains (row_of cs xs) k → (x : Identifier) × Contains xs x × Contains (places_of cs x.word) k
-in_row cs [] k h = absurd (nothing_in k h)
-in_row cs (y ∷ xs) k h = elim (Contains-append_cases (places_of cs y.word) (row_of cs xs) k h) [
-  | inl p ↦ (y, (0, omega arith, refl), p)
-  | inr r ↦ let i = in_row cs xs k r in (i.0, in_further y xs i.0 i.1, i.2)
-]
-
--- a place is added to those of its name, and to no others
-pub place_added : (b : Bool) (place : ℕ) (old new rest : List ℕ) → new ≡ (if b then old ++ place ∷ [] else old)
-    → new ++ rest ≡ old ++ (if b then place ∷ rest else rest)
-place_added true place old new rest e = ap (λ ps. ps ++ rest) e ∙ append_assoc old (place ∷ []) rest
-place_added false place old new rest e = ap (λ ps. ps ++ rest) e
-
--- an index of places by names
-module _ {S : Type 0} (index : IndexMap (String Global) (Vec ℕ Global) S) (cs : List Caller) (has : HasPlaces index cs) (name : List ℕ) where
-  pub none_of_name : get_by_text index name ≡ None → (places : List ℕ) → places ≡ places ++ places_of cs name
-  none_of_name none places =
-      let nothing : places_of cs name ≡ [] = sym (has name) ∙ ap (λ (o : Option (Vec ℕ Global)). option_map_or (λ v. v.items) o []) none in
-      sym (ap (λ ps. places ++ ps) nothing ∙ append-nil places)
-
-  pub all_of_name : (v : Vec ℕ Global) → get_by_text index name ≡ Some v → v.items ≡ places_of cs name
-  all_of_name v some = sym (ap (λ (o : Option (Vec ℕ Global)). option_map_or (λ v. v.items) o []) some) ∙ has name
-
--- those of a name are added, where there is memory for them
-pub places_extended : {X E : Type 0} (r : Result X E) (old named all new : List ℕ) → new ≡ (if is_ok r then old ++ named else old) → named ≡ all
-    → IfOk r (λ x. new ≡ old ++ all)
-places_extended (Ok x) old named all new e same = e ∙ ap (λ ps. old ++ ps) same
-places_extended (Err x) old named all new e same = tt

@@ -1,170 +1,231 @@
 -- What is come to by places is what functions reach; what the first call that comes back says of the source.
-use Rattle.std.proofs.Common.{◌≡◌, ℕ, suc, ◌+◌, ◌<◌, ◌≤◌, List, [], ◌∷◌, ◌++◌, length, map, take, drop, Some, slice_get, refl, sym, ap, ◌∙◌, subst, arith, append_assoc}
-use Rattle.std.proofs.Common.{append-nil}
+use Rattle.std.proofs.Common.{◌≡◌, ℕ, ◌<◌, List, [], ◌∷◌, ◌++◌, length, map, Option, Some, None, slice_get, get_or, refl, sym, ap, ◌∙◌, subst, arith}
+use Rattle.std.specs.Prelude.{option_to_list, Vec, Result, Ok, Err, IfOk, MatchOption}
+use Rattle.std.specs.declared.alloc.Global.{Global}
 use Rattle.std.specs.List.{Contains, AllByRecursion}
-use Rattle.std.proofs.lemmas.List.{map-append, length-map, take_all}
-use Rattle.std.proofs.lemmas.Option.{slice_get_within}
+use Rattle.std.proofs.lemmas.List.{length-map}
+use Rattle.std.proofs.lemmas.Option.{slice_get-get_or, get_or_from_slice_get, slice_get_within}
 use Rattle.lra_base.specs.declared.refusals.Place.{Place}
 use Rattle.lra_tree.specs.declared.trees.Identifier.{Identifier}
-use Rattle.lra_tree.specs.Trees.{FunctionTree, FileTree}
+use Rattle.lra_tree.specs.declared.trees.Item.{Item}
+use Rattle.lra_tree.specs.declared.trees.Tree.{Tree}
+use Rattle.lra_tree.specs.Trees.{FileTree}
+use Rattle.lra_tree.specs.Views.{tree_view}
+use Rattle.lra_tree.specs.Labels.{Labelled, labels_of}
+use Rattle.lra_program.specs.declared.program.Function.{Function}
+use Rattle.lra_program.specs.declared.program.Program.{Program}
+use Rattle.lra_program.specs.ProgramViews.{function_view, program_view}
+use Rattle.lra_scopes.specs.Calls.{functions_at}
 use Rattle.lra_tree.specs.Functions.{functions_of}
-use Rattle.lra_tree.specs.Reach.{calls_of, IsCalling, ReachesByCalls, there, by_call, calls_in, IsRecursive, IsFirstRecursive, NotRecursive}
-use Rattle.lra_calls.specs.declared.called.Caller.{Caller as CodeCaller}
-use Rattle.lra_calls.specs.Called.{Caller, caller_of, caller_view}
-use Rattle.lra_calls.specs.Places.{places_of, row_at, rows_of}
+use Rattle.lra_tree.specs.Reach.{IsCalling, ReachesByCalls, there, by_call, calls_in, IsRecursive, IsFirstRecursive, NotRecursive}
+use Rattle.lra_meaning.specs.Resolve.{function_place, resolve}
+use Rattle.lra_calls.specs.declared.calls.Call.{Call}
+use Rattle.lra_calls.specs.Calls.{call_of, calls_among, first_places, calls_behind, row_by}
 use Rattle.lra_calls.specs.Search.{Comes, begins, goes_on}
 use Rattle.lra_calls.specs.Recursion.{IsBack, IsFirstBack}
-use Rattle.lra_calls.proofs.Elements.{in_at, at_in, same_at, mapped_at, from_mapped, split_at, one_more, all_append, all_map, all_at}
-use Rattle.lra_calls.proofs.Placing.{named_at, place_in, row_in, in_row}
+use Rattle.lra_calls.proofs.Elements.{in_further, all_at}
+use Rattle.lra_calls.proofs.Placing.{IsKnown, known, one_name, known_within, call_is, unknown_name, call_there, from_among, in_among, from_row, in_row}
+use Rattle.lra_calls.proofs.Reading.{calls_read, resolved_count}
+use Rattle.lra_calls.proofs.Deciding.{IsHeld, call_held}
+use Rattle.lra_calls.proofs.Deciding as deciding
 
--- each call of the functions in text order: the name of the function that holds it, and the called name
-abbrev pub calls_from : List Caller → List (List ℕ × Identifier)
-calls_from [] = []
-calls_from (c ∷ cs) = map (λ (x : Identifier). (c.name, x)) c.calls ++ calls_from cs
+abbrev HeldCall : Type 0
+HeldCall = List ℕ × Identifier
 
-calls_all : (fs : List FunctionTree) → calls_in fs ≡ calls_from (map caller_of fs)
-calls_all [] = refl
-calls_all (f ∷ fs) = ap (λ y. map (λ (c : Identifier). (f.name.word, c)) (calls_of f) ++ y) (calls_all fs)
+-- the rows have what the functions of each name call
+pub record HasRows (t : FileTree) (rows : List (List ℕ)) : Type 0 where
+  pub count : length rows ≡ length (functions_of t)
+  pub row : (j : ℕ) → j < length (functions_of t) → get_or rows j [] ≡ row_by j (calls_among (functions_of t) (calls_in (functions_of t)))
 
--- what a place comes to, its function is reached by -------------------------------------------------------------------
+module _ (t : FileTree) (rows : List (List ℕ)) (has : HasRows t rows) where
+  within : (name : List ℕ) → IsKnown (functions_of t) name → function_place (functions_of t) name < length rows
+  within name is = subst (λ n. function_place (functions_of t) name < n) (sym has.count) (known_within (functions_of t) name is)
 
-abbrev pub callers_of : FileTree → List Caller
-callers_of t = map caller_of (functions_of t)
+  -- what a place comes to, its functions reach -------------------------------------------------------------------------
 
--- the function at j calls one of the name of that at k, whose place is in its row
-calling : (t : FileTree) (j k : ℕ) (row : List ℕ) (c : Caller) → slice_get (rows_of (callers_of t)) j ≡ Some row → Contains row k → slice_get (callers_of t) k ≡ Some c
-    → (d : Caller) × (slice_get (callers_of t) j ≡ Some d) × IsCalling t d.name c.name
-calling t j k row c is h at =
-    let r = from_mapped (row_at (callers_of t)) (callers_of t) j row is in
-    let f = from_mapped caller_of (functions_of t) j r.0 r.1 in
-    let x = in_row (callers_of t) r.0.calls k (subst (λ xs. Contains xs k) r.2 h) in
-    let n = named_at (callers_of t) x.0.word k x.2 in
-    let same : n.0 ≡ c = same_at (callers_of t) k n.0 c n.1 at in (
-      r.0,
-      r.1,
-      record {
-        function = f.0;
-        is_there = in_at (functions_of t) j f.0 f.1;
-        name = ap (λ (y : Caller). y.name) (sym f.2);
-        called = x.0;
-        calls = subst (λ xs. Contains xs x.0) (ap (λ (y : Caller). y.calls) f.2) x.1;
-        called_name = sym n.2 ∙ ap (λ (y : Caller). y.name) same;
-      },
-    )
+  -- a function of the name at j calls one of that at k, whose place is in its row
+  abbrev IsStep : ℕ → ℕ → Type 0
+  IsStep j k =
+      (f g : List ℕ) × IsKnown (functions_of t) f × IsKnown (functions_of t) g × (function_place (functions_of t) f ≡ j) × (function_place (functions_of t) g ≡ k) × IsCalling t f g
 
-come_reached : (t : FileTree) (name goal : List ℕ) (k : ℕ) → Comes (rows_of (callers_of t)) (places_of (callers_of t) name) k
-    → (c : Caller) → slice_get (callers_of t) k ≡ Some c → ReachesByCalls t goal c.name → ReachesByCalls t goal name
-come_reached t name goal _ (begins k l h) c at r =
-    let n = named_at (callers_of t) name k h in
-    let same : c ≡ n.0 = same_at (callers_of t) k c n.0 at n.1 in
-    subst (ReachesByCalls t goal) (ap (λ (y : Caller). y.name) same ∙ n.2) r
-come_reached t name goal _ (goes_on j k row l h is e) c at r =
-    let d = calling t j k row c is e at in
-    come_reached t name goal j h d.0 d.1 (by_call d.0.name c.name d.2 r)
+  step : (j k : ℕ) (row : List ℕ) → slice_get rows j ≡ Some row → Contains row k → IsStep j k
+  step j k row is h =
+      let l : j < length (functions_of t) = subst (λ n. j < n) has.count (slice_get_within rows j row is) in
+      let same : row ≡ row_by j (calls_among (functions_of t) (calls_in (functions_of t))) = sym (get_or_from_slice_get rows j row [] is) ∙ has.row j l in
+      let (c, c_in, caller, callee) = from_row j (calls_among (functions_of t) (calls_in (functions_of t))) k (subst (λ xs. Contains xs k) same h) in
+      let (d, d_in, called) = from_among (functions_of t) (calls_in (functions_of t)) c c_in in
+      let (f, f_in, named, calls) = call_held (functions_of t) d d_in in
+      let call = call_is (functions_of t) (function_place (functions_of t) d.0) d.1 c called in (
+        d.0,
+        d.1.word,
+        known (functions_of t) d.0 f f_in named,
+        call.known,
+        sym call.caller ∙ caller,
+        sym call.callee ∙ callee,
+        record { function = f; is_there = f_in; name = named; called = d.1; calls = calls; called_name = refl },
+      )
 
--- all functions of the name are come to
-abbrev AreMet : FileTree → List ℕ → List ℕ → Type 0
-AreMet t start name = (k : ℕ) (c : Caller) → slice_get (callers_of t) k ≡ Some c → c.name ≡ name → Comes (rows_of (callers_of t)) (places_of (callers_of t) start) k
+  come_reached : (goal : List ℕ) (start k : ℕ) → Comes rows start k → (a b : List ℕ) → IsKnown (functions_of t) a → IsKnown (functions_of t) b
+      → function_place (functions_of t) a ≡ start → function_place (functions_of t) b ≡ k → ReachesByCalls t goal b → ReachesByCalls t goal a
+  come_reached goal start _ (begins l) a b a_is b_is at_start at_k r = subst (ReachesByCalls t goal) (one_name (functions_of t) b a b_is a_is (at_k ∙ sym at_start)) r
+  come_reached goal start k (goes_on j _ row l h is e) a b a_is b_is at_start at_k r =
+      let (f, g, f_is, g_is, f_at, g_at, call) = step j k row is e in
+      let same : b ≡ g = one_name (functions_of t) b g b_is g_is (at_k ∙ sym g_at) in
+      come_reached goal start j h a f a_is f_is at_start f_at (by_call f g call (subst (ReachesByCalls t goal) same r))
 
-row_met : (t : FileTree) (start f g : List ℕ) → IsCalling t f g → AreMet t start f → AreMet t start g
-row_met t start f g calls met k c at named =
-    let cs = callers_of t in
-    let j = at_in (functions_of t) calls.function calls.is_there in
-    let d : slice_get cs j.0 ≡ Some (caller_of calls.function) = mapped_at caller_of (functions_of t) j.0 calls.function j.1 in
-    let within : k < length (rows_of cs) = slice_get_within (rows_of cs) k (row_at cs c) (mapped_at (row_at cs) cs k c at) in
-    goes_on j.0 k (row_at cs (caller_of calls.function)) within (met j.0 (caller_of calls.function) d calls.name) (mapped_at (row_at cs) cs j.0 (caller_of calls.function) d)
-    (row_in cs (caller_of calls.function).calls calls.called k calls.calls (place_in cs calls.called.word k c at (named ∙ sym calls.called_name)))
+  -- and what functions reach, their places come to ---------------------------------------------------------------------
 
-reached_met : (t : FileTree) (start goal name : List ℕ) → ReachesByCalls t goal name → AreMet t start name → AreMet t start goal
-reached_met t start goal _ there met = met
-reached_met t start goal _ (by_call f g calls r) met = reached_met t start goal g r (row_met t start f g calls met)
+  reaching_known : (goal name : List ℕ) → ReachesByCalls t goal name → IsKnown (functions_of t) goal → IsKnown (functions_of t) name
+  reaching_known goal _ there is = is
+  reaching_known goal name (by_call _ g call r) is = known (functions_of t) name call.function call.is_there call.name
 
-start_met : (t : FileTree) (start : List ℕ) → AreMet t start start
-start_met t start k c at named =
-    let cs = callers_of t in
-    begins k (slice_get_within (rows_of cs) k (row_at cs c) (mapped_at (row_at cs) cs k c at)) (place_in cs start k c at named)
+  step_met : (start : ℕ) (f g : List ℕ) → IsCalling t f g → IsKnown (functions_of t) f → IsKnown (functions_of t) g → Comes rows start (function_place (functions_of t) f)
+      → Comes rows start (function_place (functions_of t) g)
+  step_met start f g call f_is g_is met =
+      let k = function_place (functions_of t) f in
+      let calls = calls_among (functions_of t) (calls_in (functions_of t)) in
+      let held : Contains (calls_in (functions_of t)) (call.function.name.word, call.called) =
+      deciding.call_there (functions_of t) call.function call.called call.is_there call.calls in
+      let at : Contains (calls_in (functions_of t)) (f, call.called) = subst (λ n. Contains (calls_in (functions_of t)) (n, call.called)) call.name held in
+      let (c, called, is) = call_there (functions_of t) k call.called (subst (IsKnown (functions_of t)) (sym call.called_name) g_is) in
+      let inside = in_row calls c (in_among (functions_of t) (calls_in (functions_of t)) (f, call.called) c at called) in
+      let goal : c.callee ≡ function_place (functions_of t) g = is.callee ∙ ap (function_place (functions_of t)) call.called_name in
+      let there_is : slice_get rows k ≡ Some (row_by k calls) =
+      slice_get-get_or rows k [] (within f f_is) ∙ ap Some (has.row k (known_within (functions_of t) f f_is)) in
+      goes_on k (function_place (functions_of t) g) (row_by k calls) (within g g_is) met there_is
+      (subst (Contains (row_by k calls)) goal (subst (λ n. Contains (row_by n calls) c.callee) is.caller inside))
 
--- a call comes back exactly where it is recursive
-back_recursive : (t : FileTree) (k : ℕ) (c : Caller) (x : Identifier) → slice_get (callers_of t) k ≡ Some c → IsBack (callers_of t) k x → IsRecursive t (c.name, x)
-back_recursive t k c x at b = come_reached t x.word c.name k b c at there
+  reached_met : (start : ℕ) (goal name : List ℕ) → ReachesByCalls t goal name → IsKnown (functions_of t) goal → Comes rows start (function_place (functions_of t) name)
+      → Comes rows start (function_place (functions_of t) goal)
+  reached_met start goal _ there is met = met
+  reached_met start goal name (by_call _ g call r) is met =
+      let f_is = known (functions_of t) name call.function call.is_there call.name in
+      reached_met start goal g r is (step_met start name g call f_is (reaching_known goal g r is) met)
 
-recursive_back : (t : FileTree) (k : ℕ) (c : Caller) (x : Identifier) → slice_get (callers_of t) k ≡ Some c → IsRecursive t (c.name, x) → IsBack (callers_of t) k x
-recursive_back t k c x at r = reached_met t x.word c.name x.word r (start_met t x.word) k c at refl
+  -- a call comes back exactly where it is recursive --------------------------------------------------------------------
 
--- the calls of the first functions ------------------------------------------------------------------------------------
+  module _ (d : HeldCall) (holder : IsKnown (functions_of t) d.0) where
+    abbrev call_at : Option Call
+    call_at = call_of (functions_of t) (function_place (functions_of t) d.0) d.1
 
-abbrev pub NoneRecursive : FileTree → List (List ℕ × Identifier) → Type 0
-NoneRecursive t calls = AllByRecursion (λ d. IsRecursive t d → ⊥) calls
+    back_recursive : (c : Call) → call_at ≡ Some c → IsBack rows c → IsRecursive t d
+    back_recursive c called back =
+        let is = call_is (functions_of t) (function_place (functions_of t) d.0) d.1 c called in
+        come_reached d.0 c.callee c.caller back d.1.word d.0 is.known holder (sym is.callee) (sym is.caller) there
 
--- calls of one function
-abbrev held : Caller → List Identifier → List (List ℕ × Identifier)
-held c xs = map (λ (x : Identifier). (c.name, x)) xs
+    recursive_back : (c : Call) → call_at ≡ Some c → IsRecursive t d → IsBack rows c
+    recursive_back c called r =
+        let is = call_is (functions_of t) (function_place (functions_of t) d.0) d.1 c called in
+        let begun : Comes rows c.callee c.callee = begins (subst (λ n. n < length rows) (sym is.callee) (within d.1.word is.known)) in
+        subst (Comes rows c.callee) (sym is.caller) (reached_met c.callee d.0 d.1.word r holder (subst (Comes rows c.callee) is.callee begun))
 
-calls_both : (a b : List Caller) → calls_from (a ++ b) ≡ calls_from a ++ calls_from b
-calls_both [] b = refl
-calls_both (c ∷ a) b =
-    ap (λ y. held c c.calls ++ y) (calls_both a b) ∙ sym (append_assoc (held c c.calls) (calls_from a) (calls_from b))
+    -- a name without a function reaches none
+    unknown : call_at ≡ None → IsRecursive t d → ⊥
+    unknown none r = unknown_name (functions_of t) (function_place (functions_of t) d.0) d.1 none (reaching_known d.0 d.1.word r holder)
 
-none_back : (t : FileTree) (k : ℕ) (c : Caller) → slice_get (callers_of t) k ≡ Some c → (xs : List Identifier)
-    → AllByRecursion (λ x. IsBack (callers_of t) k x → ⊥) xs → NoneRecursive t (held c xs)
-none_back t k c at xs a =
-    all_map (λ (x : Identifier). (c.name, x)) (λ x. IsBack (callers_of t) k x → ⊥) (λ d. IsRecursive t d → ⊥) (λ x no_way r. no_way (recursive_back t k c x at r)) xs a
+  -- the first of several calls -----------------------------------------------------------------------------------------
 
-further_none : (t : FileTree) (cs : List Caller) (k : ℕ) (c : Caller) → cs ≡ callers_of t → slice_get cs k ≡ Some c → NoneRecursive t (calls_from (take k cs))
-    → AllByRecursion (λ x. IsBack cs k x → ⊥) c.calls → NoneRecursive t (calls_from (take (k + 1) cs))
-further_none t cs k c is at before here =
-    let n : k + 1 ≡ suc k = omega arith in
-    let e : calls_from (take (k + 1) cs) ≡ calls_from (take k cs) ++ held c c.calls =
-    ap (λ m. calls_from (take m cs)) n ∙ ap calls_from (one_more cs k c at) ∙ calls_both (take k cs) (c ∷ []) ∙ ap (λ y. calls_from (take k cs) ++ y) (append-nil (held c c.calls)) in
-    let h = none_back t k c (subst (λ xs. slice_get xs k ≡ Some c) is at) c.calls (subst (λ xs. AllByRecursion (λ x. IsBack xs k x → ⊥) c.calls) is here) in
-    subst (NoneRecursive t) (sym e) (all_append (λ d. IsRecursive t d → ⊥) (calls_from (take k cs)) (held c c.calls) before h)
+  abbrev NoneBack : List Call → Type 0
+  NoneBack cs = AllByRecursion (λ c. IsBack rows c → ⊥) cs
 
-first_found : (t : FileTree) (cs : List Caller) (k : ℕ) (c : Caller) (at : Place) → cs ≡ callers_of t → slice_get cs k ≡ Some c
-    → NoneRecursive t (calls_from (take k cs)) → IsFirstBack cs k c.calls at → IsFirstRecursive t at
-first_found t cs k c at is here before (front, behind, x, split, place, back, none) =
-    let whole : calls_in (functions_of t) ≡ calls_from (take k cs) ++ (held c c.calls ++ calls_from (drop (suc k) cs)) =
-    calls_all (functions_of t) ∙ ap calls_from (sym is) ∙ ap calls_from (split_at cs k c here) ∙ calls_both (take k cs) (c ∷ drop (suc k) cs) in
-    let mapped : held c c.calls ≡ held c front ++ (c.name, x) ∷ held c behind = ap (held c) split ∙ map-append (λ (y : Identifier). (c.name, y)) front (x ∷ behind) in
-    let t_at = subst (λ xs. slice_get xs k ≡ Some c) is here in (
-      calls_from (take k cs) ++ held c front,
-      held c behind ++ calls_from (drop (suc k) cs),
-      (c.name, x),
-      rw (whole, mapped) (simp append_assoc),
-      place,
-      back_recursive t k c x t_at (subst (λ xs. IsBack xs k x) is back),
-      all_append (λ d. IsRecursive t d → ⊥) (calls_from (take k cs)) (held c front) before
-          (none_back t k c t_at front (subst (λ xs. AllByRecursion (λ y. IsBack xs k y → ⊥) front) is none)),
-    )
+  abbrev NoneRecursive : List HeldCall → Type 0
+  NoneRecursive ds = AllByRecursion (λ d. IsRecursive t d → ⊥) ds
 
-none_found : (t : FileTree) (cs : List Caller) → cs ≡ callers_of t → NoneRecursive t (calls_from cs) → NotRecursive t
-none_found t cs is none at (front, behind, c, split, place, back, clear) =
-    let all : NoneRecursive t (front ++ c ∷ behind) = subst (NoneRecursive t) (ap calls_from is ∙ sym (calls_all (functions_of t)) ∙ split) none in
-    all_at (λ d. IsRecursive t d → ⊥) front c behind all back
+  -- functions hold them
+  abbrev AreHeld : List HeldCall → Type 0
+  AreHeld ds = AllByRecursion (λ (d : HeldCall). IsKnown (functions_of t) d.0) ds
 
--- the first call of a function that comes back
-pub back_found : (cs : List Caller) (place : ℕ) (calls : List Identifier) (i : ℕ) (x : Identifier) → slice_get calls i ≡ Some x
-    → AllByRecursion (λ y. IsBack cs place y → ⊥) (take i calls) → IsBack cs place x → IsFirstBack cs place calls x.place
-back_found cs place calls i x at none back = (take i calls, drop (suc i) calls, x, split_at calls i x at, refl, back, none)
+  first_none : (d : HeldCall) (o : Option Call) (rest : List Call) → IsKnown (functions_of t) d.0 → call_of (functions_of t) (function_place (functions_of t) d.0) d.1 ≡ o
+      → NoneBack (option_to_list o ++ rest) → (IsRecursive t d → ⊥) × NoneBack rest
+  first_none d None rest holder called a = (unknown d holder called, a)
+  first_none d (Some c) rest holder called a = (λ r. a.0 (recursive_back d holder c called r), a.1)
+
+  none_back : (ds : List HeldCall) → AreHeld ds → NoneBack (calls_among (functions_of t) ds) → NoneRecursive ds
+  none_back [] held a = tt
+  none_back (d ∷ ds) held a =
+      let both = first_none d (call_of (functions_of t) (function_place (functions_of t) d.0) d.1) (calls_among (functions_of t) ds) held.0 refl a in
+      (both.0, none_back ds held.1 both.1)
+
+  -- the first recursive call among these
+  abbrev IsFirst : List HeldCall → Place → Type 0
+  IsFirst ds place =
+      (before after : List HeldCall) × (d : HeldCall) × (ds ≡ before ++ d ∷ after) × (place ≡ d.1.place) × IsRecursive t d × NoneRecursive before
+
+  first_further : (d : HeldCall) (ds : List HeldCall) (place : Place) → (IsRecursive t d → ⊥) → IsFirst ds place → IsFirst (d ∷ ds) place
+  first_further d ds place straight (before, after, e, split, is, r, none) = (d ∷ before, after, e, ap (λ es. d ∷ es) split, is, r, (straight, none))
+
+  first_case : (d : HeldCall) (ds : List HeldCall) (o : Option Call) (cs before after : List Call) (c : Call) → IsKnown (functions_of t) d.0
+      → call_of (functions_of t) (function_place (functions_of t) d.0) d.1 ≡ o → ((front : List Call) → cs ≡ front ++ c ∷ after → NoneBack front → IsFirst ds c.place)
+      → option_to_list o ++ cs ≡ before ++ c ∷ after → IsBack rows c → NoneBack before → IsFirst (d ∷ ds) c.place
+  first_case d ds None cs before after c holder called later split back none = first_further d ds c.place (unknown d holder called) (later before split none)
+  first_case d ds (Some b) cs [] after c holder called later split back none =
+      let same : b ≡ c = cc in
+      let is : call_of (functions_of t) (function_place (functions_of t) d.0) d.1 ≡ Some c = called ∙ ap Some same in
+      let call = call_is (functions_of t) (function_place (functions_of t) d.0) d.1 c is in
+      ([], ds, d, refl, call.place, back_recursive d holder c is back, tt)
+  first_case d ds (Some b) cs (e ∷ before) after c holder called later split back none =
+      let same : b ≡ e = cc in
+      let rest : cs ≡ before ++ c ∷ after = cc in
+      first_further d ds c.place (λ r. none.0 (subst (IsBack rows) same (recursive_back d holder b called r))) (later before rest none.1)
+
+  first_in : (ds : List HeldCall) (before after : List Call) (c : Call) → AreHeld ds → calls_among (functions_of t) ds ≡ before ++ c ∷ after
+      → IsBack rows c → NoneBack before → IsFirst ds c.place
+  first_in [] [] after c held split back none = absurd cc
+  first_in [] (e ∷ before) after c held split back none = absurd cc
+  first_in (d ∷ ds) before after c held split back none =
+      first_case d ds (call_of (functions_of t) (function_place (functions_of t) d.0) d.1) (calls_among (functions_of t) ds) before after c held.0 refl
+      (λ front rest clear. first_in ds front after c held.1 rest back clear) split back none
+
+  -- of the source
+  held_by : (ds : List HeldCall) → ((d : HeldCall) → Contains ds d → IsHeld (functions_of t) d) → AreHeld ds
+  held_by [] each = tt
+  held_by (d ∷ ds) each =
+      let (f, f_in, named, calls) = each d (0, omega arith, refl) in
+      (known (functions_of t) d.0 f f_in named, held_by ds (λ e h. each e (in_further d ds e h)))
+
+  all_held : AreHeld (calls_in (functions_of t))
+  all_held = held_by (calls_in (functions_of t)) (call_held (functions_of t))
+
+  pub found_first : (calls : List Call) (place : Place) → calls ≡ calls_among (functions_of t) (calls_in (functions_of t)) → IsFirstBack rows calls place → IsFirstRecursive t place
+  found_first calls place is (before, after, c, split, at, back, none) =
+      let (front, behind, d, parts, here, r, clear) = first_in (calls_in (functions_of t)) before after c all_held (sym is ∙ split) back none in
+      (front, behind, d, parts, at ∙ here, r, clear)
+
+  pub none_found : (calls : List Call) → calls ≡ calls_among (functions_of t) (calls_in (functions_of t)) → NoneBack calls → NotRecursive t
+  none_found calls is none place (front, behind, d, split, at, r, clear) =
+      let all = none_back (calls_in (functions_of t)) all_held (subst NoneBack is none) in
+      all_at (λ e. IsRecursive t e → ⊥) front d behind (subst NoneRecursive split all) r
+
+-- what is answered of a source
+found : (t : FileTree) (rows : List (List ℕ)) (calls : List Call) (o : Option Place) → HasRows t rows → calls ≡ calls_among (functions_of t) (calls_in (functions_of t))
+    → MatchOption o (AllByRecursion (λ c. IsBack rows c → ⊥) calls) (IsFirstBack rows calls) → MatchOption o (NotRecursive t) (IsFirstRecursive t)
+found t rows calls None has is h = none_found t rows has calls is h
+found t rows calls (Some place) has is h = found_first t rows has calls place is h
 
 -- the same of the code's values
-pub further_of : (t : FileTree) (items others : List CodeCaller) (k : ℕ) (c : CodeCaller) (calls : List Identifier)
-    → map caller_view items ≡ callers_of t → others ≡ items → calls ≡ c.calls.items → slice_get items k ≡ Some c → NoneRecursive t (calls_from (take k (map caller_view items)))
-    → AllByRecursion (λ x. IsBack (map caller_view others) k x → ⊥) calls → NoneRecursive t (calls_from (take (k + 1) (map caller_view items)))
-further_of t items others k c calls is same called at before here =
-    let h = subst (λ xs. AllByRecursion (λ x. IsBack (map caller_view xs) k x → ⊥) calls) same here in
-    further_none t (map caller_view items) k (caller_view c) is (mapped_at caller_view items k c at) before
-    (subst (AllByRecursion (λ x. IsBack (map caller_view items) k x → ⊥)) called h)
-
-pub first_of : (t : FileTree) (items others : List CodeCaller) (k : ℕ) (c : CodeCaller) (calls : List Identifier) (place : Place)
-    → map caller_view items ≡ callers_of t → others ≡ items → calls ≡ c.calls.items → slice_get items k ≡ Some c → NoneRecursive t (calls_from (take k (map caller_view items)))
-    → IsFirstBack (map caller_view others) k calls place → IsFirstRecursive t place
-first_of t items others k c calls place is same called at before here =
-    let h = subst (λ xs. IsFirstBack (map caller_view xs) k calls place) same here in
-    first_found t (map caller_view items) k (caller_view c) place is (mapped_at caller_view items k c at) before
-    (subst (λ xs. IsFirstBack (map caller_view items) k xs place) called h)
-
-pub none_of : (t : FileTree) (items : List CodeCaller) (k : ℕ) → map caller_view items ≡ callers_of t → length items ≤ k
-    → NoneRecursive t (calls_from (take k (map caller_view items))) → NotRecursive t
-none_of t items k is l none =
-    let n : length (map caller_view items) ≤ k = let e = length-map items caller_view in omega (arith, l, e) in
-    none_found t (map caller_view items) is (subst (λ xs. NoneRecursive t (calls_from xs)) (take_all k (map caller_view items) n) none)
+pub resolved_first : {E : Type 0} (r : Result (Option Place) E) (tree : Tree) (program : Program) (labels : List Labelled) (index parts : List Item) (functions : List Function)
+    (calls taken asked : List Call) (rows given : List (Vec ℕ Global)) (n : ℕ) → index ≡ parts → parts ≡ tree.items.items → functions ≡ program.functions.items → taken ≡ calls
+    → asked ≡ calls → given ≡ rows → n ≡ length program.functions.items
+    → calls ≡ calls_behind (functions_at index) labels 0 (first_places (functions_at index) (functions_at index)) (map function_view functions)
+    → length rows ≡ n → ((j : ℕ) → j < n → get_or (map (λ row. row.items) rows) j [] ≡ row_by j taken)
+    → IfOk r (λ o. MatchOption o (AllByRecursion (λ c. IsBack (map (λ row. row.items) given) c → ⊥) asked) (IsFirstBack (map (λ row. row.items) given) asked))
+    → IfOk r (λ o. program_view program ≡ resolve (tree_view tree) → labels ≡ labels_of (tree_view tree)
+    → MatchOption o (NotRecursive (tree_view tree)) (IsFirstRecursive (tree_view tree)))
+resolved_first (Err e) tree program labels index parts functions calls taken asked rows given n a b d e1 e2 e3 m read count row h = tt
+resolved_first (Ok o) tree program labels index parts functions calls taken asked rows given n indexed are same took asks gave size read count row h = λ resolved labelled.
+    let t = tree_view tree in
+    let lists : List (List ℕ) = map (λ (row : Vec ℕ Global). row.items) rows in
+    let of_tree : calls ≡ calls_behind (functions_of t) labels 0 (first_places (functions_of t) (functions_of t)) (program_view program).functions =
+    read ∙ ap (λ (items : List Item). calls_behind (functions_at items) labels 0 (first_places (functions_at items) (functions_at items)) (map function_view functions)) (indexed ∙ are)
+    ∙ ap (λ (fs : List Function). calls_behind (functions_of t) labels 0 (first_places (functions_of t) (functions_of t)) (map function_view fs)) same in
+    let whole = calls_read t (program_view program) labels calls resolved labelled of_tree in
+    let views = length-map program.functions.items function_view in
+    let of_program = resolved_count t (program_view program) resolved in
+    let n_is : n ≡ length (functions_of t) = size ∙ sym views ∙ of_program in
+    let has : HasRows t lists = record {
+      count = length-map rows (λ (row : Vec ℕ Global). row.items) ∙ count ∙ n_is;
+      row = λ j l. row j (subst (λ k. j < k) (sym n_is) l) ∙ ap (row_by j) (took ∙ whole);
+    } in
+    found t lists calls o has whole
+    (subst (λ cs. MatchOption o (AllByRecursion (λ c. IsBack lists c → ⊥) cs) (IsFirstBack lists cs)) asks
+    (subst (λ (vs : List (Vec ℕ Global)). MatchOption o (AllByRecursion (λ c. IsBack (map (λ row. row.items) vs) c → ⊥) asked) (IsFirstBack (map (λ row. row.items) vs) asked)) gave h))

@@ -1,5 +1,4 @@
--- What functions call, which functions are called by their places, and which places a search comes to.
-pub mod Called
-pub mod Places
+-- The calls of functions by places, which places a search comes to, and which calls come back.
+pub mod Calls
 pub mod Search
 pub mod Recursion

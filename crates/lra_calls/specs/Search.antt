@@ -3,9 +3,9 @@ use Rattle.std.specs.Prelude.{◌≡◌, ◌<◌, ◌+◌, ◌⊎◌, ℕ, Bool,
 use Rattle.std.specs.Prelude.{Contains}
 use Rattle.std.specs.List.{sum_by}
 
--- those that a search begins with, and those in the row of one that is come to
-pub data Comes (rows : List (List ℕ)) (start : List ℕ) : ℕ → Type 0 where
-  begins : (k : ℕ) → k < length rows → Contains start k → Comes rows start k
+-- that with which a search begins, and those in the row of one that is come to
+pub data Comes (rows : List (List ℕ)) (start : ℕ) : ℕ → Type 0 where
+  begins : start < length rows → Comes rows start start
   goes_on : (j k : ℕ) (row : List ℕ) → k < length rows → Comes rows start j → slice_get rows j ≡ Some row →
       Contains row k
       → Comes rows start k

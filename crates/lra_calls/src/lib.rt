@@ -1,9 +1,9 @@
 //! Recursion: the first call of a source, in text order, whose callee reaches the function that holds it.
 #![tactic(auto)]
 
-mod called;
-mod places;
+mod calls;
 mod recursion;
+mod rows;
 mod search;
 
 pub use recursion::first_recursive;

@@ -1,4 +1,4 @@
-//! Which places are come to from some, by rows of further places: a worklist.
+//! Which places are come to from one, by rows of further places: a worklist.
 
 ghost use Rattle.std.specs.Prelude.{◌↔◌, ◌∷◌, [], ℕ, map, IfOk};
 ghost use Rattle.lra_calls.specs.Search.{Comes, IsMet, Grows};
@@ -38,15 +38,15 @@ impl Search {
 }
 
 /// For each place whether it is come to.
-pub fn reached(alloc: Global, rows: &[Vec<usize>], start: &[usize]) -> Result<Vec<bool>, AllocError>
-    ensures { IfOk result (λ met. (k : ℕ) → IsMet met.items k ↔ Comes (map (λ row. row.items) rows.now) start.now k) }
+pub fn reached(alloc: Global, rows: &[Vec<usize>], start: usize) -> Result<Vec<bool>, AllocError>
+    ensures { IfOk result (λ met. (k : ℕ) → IsMet met.items k ↔ Comes (map (λ row. row.items) rows.now) start k) }
 {
     let met = vec![in alloc; false; rows.len()]?;
     let mut search = Search {
         met,
         left: Vec::new(alloc),
     };
-    search.meet_all(start)?;
+    search.meet(start)?;
     'left: while let Some(place) = search.left.pop() {
         search.meet_all(&rows[place])?;
     }

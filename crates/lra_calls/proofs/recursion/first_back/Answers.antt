@@ -1,11 +1,11 @@
--- Goals of `first_back`: the place of the first of these calls that comes back to the function at a place.
-use Rattle.std.proofs.Common.{length, refl}
-use Rattle.std.proofs.lemmas.Option.{slice_get_read}
-use Rattle.lra_calls.proofs.Reaching.{back_found}
+-- Goals of `first_back`: the place of the first of these calls whose callee comes to its caller.
+use Rattle.std.proofs.Common.{refl, take, drop, suc}
+use Rattle.std.proofs.lemmas.Option.{slice_get-get_or}
+use Rattle.lra_calls.proofs.Elements.{split_at}
 use Rattle.lra_calls.proofs.recursion.first_back.Goals as goal
 
 pub returns-then-branch : goal.returns-then-branch
 returns-then-branch c =
-    back_found _ c.args.place c.args.calls.now c.calls.call-index c.call-item.result
-    (slice_get_read c.args.calls.now (length c.args.calls.now) c.calls.call-index c.call-item.result refl c.calls-test.true c.call-item.is)
-    c.calls.invariant (c.in_ok-is_back.ensures.0 c.if-branch.true)
+    let calls = c.args.calls.now in
+    let i = c.calls.call-index in
+    (take i calls, drop (suc i) calls, _, split_at calls i _ (slice_get-get_or calls i _ c.calls-test.true), refl, c.in_ok-is_back.ensures.0 c.if-branch.true, c.calls.invariant)

@@ -8,8 +8,8 @@ use Rattle.lra_calls.proofs.search.reached.Goals as goal
 
 pub left-init : goal.left-init
 left-init c =
-    begun_search (map (λ row. row.items) c.args.rows.now) c.args.start.now (length c.args.rows.now) c.in_ok-met.met.items _ c.new.result.items _
-    (sym (length-map c.args.rows.now (λ row. row.items))) (search rules) c.new.ensures.items c.in_ok-meet_all.ensures
+    begun_search (map (λ row. row.items) c.args.rows.now) c.args.start (length c.args.rows.now) c.in_ok-met.met.items _ c.new.result.items _
+    (sym (length-map c.args.rows.now (λ row. row.items))) (search rules) c.new.ensures.items c.in_ok-meet.ensures
 
 pub bounds-rows-place : goal.bounds-rows-place
 bounds-rows-place c =
@@ -31,7 +31,7 @@ left-preserved c =
     let l : c.in-Some.place < length c.args.rows.now = omega (arith, h, e) in
     let is = slice_get_read c.args.rows.now (length c.args.rows.now) c.in-Some.place c.index-rows-place.result refl l c.index-rows-place.is in
     further_search _ _ _ _ _ _ _ _ _ c.left.invariant c.in-Some.ensures.items
-    (mapped_at (λ row. row.items) c.args.rows.now c.in-Some.place c.index-rows-place.result is ∙ ap Some (sym c.deref.ensures.value)) c.in_ok-meet_all-2.ensures
+    (mapped_at (λ row. row.items) c.args.rows.now c.in-Some.place c.index-rows-place.result is ∙ ap Some (sym c.deref.ensures.value)) c.in_ok-meet_all.ensures
 
 pub returns : goal.returns
-returns c = ended_search (map (λ row. row.items) c.args.rows.now) c.args.start.now c.left.search.met.items c.left.search.left.items (search rules) c.left.invariant
+returns c = ended_search (map (λ row. row.items) c.args.rows.now) c.args.start c.left.search.met.items c.left.search.left.items (search rules) c.left.invariant
