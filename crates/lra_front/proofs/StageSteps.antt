@@ -52,14 +52,14 @@ exit_named t x e is told = exit_refused (λ r. RefusesTree t r.cause r.place) x 
 
 -- recursion ----------------------------------------------------------------------------------------------------------
 
--- what a search for the first recursive call answers
-pub none_recursive : (t : FileTree) (x : Option Place) → MatchOption x (NotRecursive t) (IsFirstRecursive t) → x ≡ None → NotRecursive t
-none_recursive t x h is = subst (λ (y : Option Place). MatchOption y (NotRecursive t) (IsFirstRecursive t)) is h
+-- what a search for the first recursive call answers, of the program of a source and the table of its labels
+module _ (t : FileTree) (P : Program) (labels : List Labelled) (x : Option Place) (program : P ≡ resolve t) (labelled : labels ≡ labels_of t)
+    (h : P ≡ resolve t → labels ≡ labels_of t → MatchOption x (NotRecursive t) (IsFirstRecursive t)) where
+  pub none_recursive : x ≡ None → NotRecursive t
+  none_recursive is = subst (λ (y : Option Place). MatchOption y (NotRecursive t) (IsFirstRecursive t)) is (h program labelled)
 
-pub recursive_refused : (t : FileTree) (x : Option Place) (at : Place) → name_faults t ≡ [] → MatchOption x (NotRecursive t) (IsFirstRecursive t) → x ≡ Some at → RefusesTree t Recursive at
-recursive_refused t x at names h is = recursive at names (subst (λ (y : Option Place). MatchOption y (NotRecursive t) (IsFirstRecursive t)) is h)
-
-pub ruleset recursing = (none_recursive, recursive_refused)
+  pub recursive_refused : (at : Place) → name_faults t ≡ [] → x ≡ Some at → RefusesTree t Recursive at
+  recursive_refused at names is = recursive at names (subst (λ (y : Option Place). MatchOption y (NotRecursive t) (IsFirstRecursive t)) is (h program labelled))
 
 -- trees of operations ------------------------------------------------------------------------------------------------
 

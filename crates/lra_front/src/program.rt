@@ -33,13 +33,15 @@ pub fn program_of(alloc: Global, tree: &Tree) -> Result<Resolution, SourceError>
 }
 
 /// That no function reaches itself by calls, or the refusal of the first call by which one does.
-#[tactic(auto, using(crate::proofs::StageSteps::recursing))]
-fn check_calls(alloc: Global, tree: &Tree) -> Result<(), SourceError>
+#[tactic(auto, using(crate::proofs::StageSteps::recursive_refused))]
+fn check_calls(alloc: Global, tree: &Tree, resolution: &Resolution) -> Result<(), SourceError>
+    requires program { program_view resolution.now.program ≡ resolve (tree_view tree.now) }
+    requires labels { resolution.now.labels.labels ≡ labels_of (tree_view tree.now) }
     requires clean { name_faults (tree_view tree.now) ≡ [] }
     ensures straight { OnOk result (NotRecursive (tree_view tree.now)) }
     ensures refused { IfRefused result (λ r. RefusesTree (tree_view tree.now) r.cause r.place) }
 {
-    match first_recursive(alloc, tree)? {
+    match first_recursive(alloc, tree, &resolution.program, &resolution.labels)? {
         None => Ok(()),
         Some(place) => Err(SourceError::Refused(Refusal {
             cause: Cause::Recursive,
@@ -58,7 +60,7 @@ pub fn graph_of(alloc: Global, tree: &Tree, resolution: &Resolution) -> Result<G
     ensures graph { IfOk result (λ g. HasGraph (tree_view tree.now) (node_view g.tree) (map site_view g.sites.items)) }
     ensures refused { IfRefused result (λ r. RefusesTree (tree_view tree.now) r.cause r.place) }
 {
-    check_calls(alloc, tree)?;
+    check_calls(alloc, tree, resolution)?;
     match build(alloc, &resolution.program) {
         Ok(graph) => Ok(graph),
         Err(GraphError::Passed(limit)) => {
