@@ -1,16 +1,14 @@
 //! The first recursive call of small sources, by hand.
 
-use lra_base::{NumberType, Place};
+use lra_base::{NumberType, Place, SourceError};
 use lra_calls::first_recursive;
-use lra_tree::{
-    Arguments, Assign, Block, BlockItem, Call, Declaration, Declarator, Function, Identifier, Init,
-    Item, Parameters, Rvalue, Stmt, Tree, Word,
-};
+use lra_program::{BlockItems, Program};
+use lra_simple::Labelling;
+use lra_tree::{Block, Function, Identifier, Item, Parameters, Tree, Word};
 use std::alloc::{AllocError, Global};
 use std::process::Abort;
 
-/// A name, and the names that the function of this name calls. A function's calls are, in this order, `f();`,
-/// `int x = f();` and `for (;; x = f());`, and name what they call at the columns 20, 30 and 40.
+/// A name, and the names that the function of this name calls, at the columns 20, 30 and 40 in this order.
 type Line = &'static [&'static str];
 
 /// Sources of a function on each line, without a recursive call.
@@ -95,91 +93,102 @@ fn identifier(alloc: Global, name: &str, line: u32, column: u32) -> Result<Ident
     })
 }
 
-fn call(alloc: Global, name: &str, line: u32, column: u32) -> Result<Call, AllocError> {
-    Ok(Call {
-        name: identifier(alloc, name, line, column)?,
-        arguments: Arguments {
-            items: Vec::new(alloc),
-        },
-    })
-}
-
-/// `f();`
-fn alone(alloc: Global, name: &str, line: u32) -> Result<BlockItem, AllocError> {
-    Ok(BlockItem::Statement(Stmt::Call(call(alloc, name, line, 20)?)))
-}
-
-/// `int x = f();`
-fn declared(alloc: Global, name: &str, line: u32) -> Result<BlockItem, AllocError> {
-    let rvalue = Rvalue::Result(call(alloc, name, line, 30)?);
-    Ok(BlockItem::Declaration(Declaration {
-        number_type: NumberType::Long,
-        first: Declarator {
-            name: identifier(alloc, "x", line, 26)?,
-            rvalue: Some(rvalue),
-        },
-        rest: Vec::new(alloc),
-    }))
-}
-
-/// `for (;; x = f());`
-fn repeated(alloc: Global, name: &str, line: u32) -> Result<BlockItem, AllocError> {
-    let place = Place { line, column: 32 };
-    let nothing = Box::new(alloc, Stmt::Nothing(place))?;
-    let rvalue = Rvalue::Result(call(alloc, name, line, 40)?);
-    let step = Assign::Set(identifier(alloc, "x", line, 38)?, rvalue);
-    Ok(BlockItem::Statement(Stmt::For(place, Init::Nothing, None, Some(step), nothing)))
-}
-
-fn item(alloc: Global, place: usize, name: &str, line: u32) -> Result<BlockItem, AllocError> {
-    match place {
-        0 => alone(alloc, name, line),
-        1 => declared(alloc, name, line),
-        _ => repeated(alloc, name, line),
-    }
-}
-
-fn block(alloc: Global, names: &[&str], line: u32) -> Result<Block, AllocError> {
-    let mut items = Vec::new(alloc);
-    for (place, name) in names.iter().enumerate() {
-        items.push(item(alloc, place, name, line)?)?;
-    }
-    Ok(Block {
-        items,
-        end: Place { line, column: 60 },
-    })
-}
-
-fn function(alloc: Global, name: &str, names: &[&str], line: u32) -> Result<Function, AllocError> {
+/// A function of this name. What it calls is told by its labels.
+fn function(alloc: Global, name: &str, line: u32) -> Result<Function, AllocError> {
     Ok(Function {
         result_type: Some(NumberType::Long),
         name: identifier(alloc, name, line, 5)?,
         parameters: Parameters {
             items: Vec::new(alloc),
         },
-        body: block(alloc, names, line)?,
+        body: Block {
+            items: Vec::new(alloc),
+            end: Place { line, column: 60 },
+        },
     })
 }
 
-fn tree(alloc: Global, lines: &[Line]) -> Result<Tree, AllocError> {
-    let mut items = Vec::new(alloc);
+/// What is known of a source before its calls are looked at, line by line.
+#[derive(Drop)]
+struct Lines {
+    items: Vec<Item>,
+    functions: Vec<lra_program::Function>,
+    labels: Labelling,
+}
+
+/// Adds a label for each of these calls, and one for the end of the function that holds them, which it gives.
+fn add_labels(
+    alloc: Global,
+    names: &[&str],
+    line: u32,
+    labels: &mut Labelling,
+) -> Result<usize, SourceError> {
+    let mut column = 20u32;
+    for name in names {
+        let called = identifier(alloc, name, line, column)?;
+        labels.add(Place { line, column }, Some(called))?;
+        column = column.wrapping_add(10);
+    }
+    labels.add(Place { line, column: 60 }, None)
+}
+
+/// Adds a function of the name that calls these.
+fn add_line(
+    alloc: Global,
+    name: &str,
+    called: &[&str],
+    line: u32,
+    lines: &mut Lines,
+) -> Result<(), SourceError> {
+    lines
+        .items
+        .push(Item::Function(function(alloc, name, line)?))?;
+    let end = add_labels(alloc, called, line, &mut lines.labels)?;
+    lines.functions.push(lra_program::Function {
+        parameters: 0,
+        body: BlockItems {
+            items: Vec::new(alloc),
+        },
+        end,
+    })?;
+    Ok(())
+}
+
+fn read_lines(alloc: Global, source: &[Line]) -> Result<Lines, SourceError> {
+    let mut lines = Lines {
+        items: Vec::new(alloc),
+        functions: Vec::new(alloc),
+        labels: Labelling::new(alloc),
+    };
     let mut line = 1u32;
-    for names in lines {
+    for names in source {
         if let Some((name, called)) = names.split_first() {
-            items.push(Item::Function(function(alloc, name, called, line)?))?;
+            add_line(alloc, name, called, line, &mut lines)?;
         }
         line = line.wrapping_add(1);
     }
-    Ok(Tree {
-        items,
-        end: Place { line, column: 1 },
-    })
+    Ok(lines)
 }
 
 /// Whether this is the first recursive call.
-fn is_found(alloc: Global, lines: &[Line], expected: Option<Place>) -> Result<bool, AllocError> {
-    let tree = tree(alloc, lines)?;
-    Ok(first_recursive(alloc, &tree)? == expected)
+fn is_found(alloc: Global, source: &[Line], expected: Option<Place>) -> Result<bool, SourceError> {
+    let lines = read_lines(alloc, source)?;
+    let Lines {
+        items,
+        functions,
+        labels,
+    } = lines;
+    let tree = Tree {
+        items,
+        end: Place { line: 9, column: 1 },
+    };
+    let program = Program {
+        globals: Vec::new(alloc),
+        functions,
+        main: 0,
+    };
+    let labels = labels.into_table();
+    Ok(first_recursive(alloc, &tree, &program, &labels)? == expected)
 }
 
 /// Checks the first recursive calls of sources.
