@@ -1,4 +1,5 @@
 pub mod Actions
+pub mod Moves
 pub mod Parts
 pub mod Rank
 pub mod Meaning
