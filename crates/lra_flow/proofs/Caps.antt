@@ -14,7 +14,8 @@ use Rattle.lra_program.specs.Program.{Cond, Program}
 use Rattle.lra_operations.specs.Graph.{Exit, broken, continued, returned, Node, empty, point, act, check, seq, choose, iterate, catch, leave}
 use Rattle.lra_base.specs.declared.options.Options.{Options}
 use Rattle.lra_flow.specs.Operations.{Operations, dropping}
-use Rattle.lra_flow.specs.Moves.{Moves, stay, make, first_then, join_of, AreMade}
+use Rattle.lra_domain.specs.Moves.{Moves, stay, make, first_then, join_of}
+use Rattle.lra_flow.specs.Moves.{AreMade}
 use Rattle.lra_flow.specs.MovesOf.{guard, moves_of, first_values}
 use Rattle.lra_flow.specs.Pass.{Entry, value, failing, Result, noted, goes_on, jumps, in_turn, first_of_call, values_behind, behind, AreJoined, Leaves, Through, GoesRound, Grows, Narrows, Pass}
 use Rattle.lra_flow.specs.Analysis.{Derivation, Solves}

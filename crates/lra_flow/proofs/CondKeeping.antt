@@ -8,7 +8,7 @@ use Rattle.lra_program.specs.Value.{Scene, Drawn, is_zero, compares, value_of, t
 use Rattle.lra_lin.specs.Form.{Form, form_value}
 use Rattle.lra_lin.specs.declared.test.Test.{Test}
 use Rattle.lra_flow.specs.Linear.{TestHolds, comparison_test, difference_in}
-use Rattle.lra_flow.specs.Moves.{join_of, MayLead}
+use Rattle.lra_domain.specs.Moves.{join_of, MayLead}
 use Rattle.lra_flow.specs.MovesOf.{opposite_comparison, comparison_as, test_moves, comparison_moves, guard}
 use Rattle.lra_flow.proofs.FormLemmas.{bind_some, some_first, test_is_right, differs_by_tests, difference_is_right, compared}
 

@@ -10,7 +10,7 @@ use Rattle.lra_program.specs.Step.{State, Op, append, give, give_any, push, keep
 use Rattle.lra_program.specs.Step as step
 use Rattle.lra_flow.specs.Linear as linear
 use Rattle.lra_flow.specs.Linear.{form_in}
-use Rattle.lra_flow.specs.Moves.{MayLead}
+use Rattle.lra_domain.specs.Moves.{MayLead}
 use Rattle.lra_flow.specs.MovesOf.{set_to, append_set, push_all, drop_last, moves_of, guard}
 use Rattle.lra_flow.proofs.FormLemmas.{bind_some, pair_first, forms_are_right}
 use Rattle.lra_flow.proofs.CondKeeping.{cond_leads}

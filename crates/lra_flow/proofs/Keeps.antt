@@ -7,7 +7,8 @@ use Rattle.lra_program.specs.Step.{State}
 use Rattle.lra_operations.specs.Graph.{Node}
 use Rattle.lra_base.specs.declared.options.Options.{Options}
 use Rattle.lra_flow.specs.Operations.{dropping}
-use Rattle.lra_flow.specs.Moves.{Moves, stay, make, first_then, join_of, AreMade, MayLead}
+use Rattle.lra_domain.specs.Moves.{Moves, stay, make, first_then, join_of, MayLead}
+use Rattle.lra_flow.specs.Moves.{AreMade}
 use Rattle.lra_flow.specs.MovesOf.{moves_of}
 use Rattle.lra_flow.specs.Pass.{Result, Pass}
 use Rattle.lra_flow.proofs.Covers.{ChangesKeep, Covers, Has, covered_has}

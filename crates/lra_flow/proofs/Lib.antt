@@ -15,9 +15,8 @@ pub mod Caps
 mod PieceExamples
 mod LinearExamples
 mod MovesExamples
--- What moves do behind others, and written out as cases.
+-- What moves do behind others.
 pub mod Takes
-pub mod Cases
 -- Moves say what lists of actions and conditions said apart.
 mod MovesAgree
 pub mod OneTree

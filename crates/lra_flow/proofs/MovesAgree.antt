@@ -17,7 +17,8 @@ use Rattle.lra_flow.specs.Linear.{comparison_test, difference_form}
 use Rattle.lra_flow.specs.Operations.{Operations}
 use Rattle.lra_flow.specs.Given.{comparison_rows, inequalities, given_rows, guard_rows}
 use Rattle.lra_flow.proofs.Takes.{worse_exact, worse_worse, stay_takes, then_takes, join_takes, takes_made}
-use Rattle.lra_flow.specs.Moves.{Moves, stay, first_then, join_of, AreMade, Takes}
+use Rattle.lra_domain.specs.Moves.{Moves, stay, first_then, join_of}
+use Rattle.lra_flow.specs.Moves.{AreMade, Takes}
 use Rattle.lra_flow.specs.MovesOf.{opposite_comparison, comparison_as, tested, test_moves, comparison_moves, guard, set_to, append_set, push_all, drop_last, first_values}
 use Rattle.lra_flow.specs.Pass.{Leaves, Changes}
 

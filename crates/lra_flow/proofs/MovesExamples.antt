@@ -4,7 +4,7 @@ use Rattle.lra_program.specs.Program.{local, Expr, read, input, compare, nonzero
 use Rattle.lra_base.specs.Operators.{below, equal, differs}
 use Rattle.lra_linear.specs.declared.ConKind.TheVariants.{Ge, Eq}
 use Rattle.lra_domain.specs.Actions.{Action, test, embed, forget}
-use Rattle.lra_flow.specs.Moves.{stay, make, first_then, join_of, MayLead, cases, dims_moved}
+use Rattle.lra_domain.specs.Moves.{stay, make, first_then, join_of, MayLead, cases, dims_moved}
 use Rattle.lra_flow.specs.MovesOf.{guard}
 
 -- two live variables

@@ -11,7 +11,8 @@ use Rattle.lra_program.specs.Program.{Cond, Program}
 use Rattle.lra_operations.specs.Graph.{Node, empty, point, act, check, seq, choose, iterate, catch, leave}
 use Rattle.lra_base.specs.declared.options.Options.{Options}
 use Rattle.lra_flow.specs.Operations.{Operations, defined}
-use Rattle.lra_flow.specs.Moves.{Moves, stay, make, first_then, join_of, AreMade}
+use Rattle.lra_domain.specs.Moves.{Moves, stay, make, first_then, join_of}
+use Rattle.lra_flow.specs.Moves.{AreMade}
 use Rattle.lra_flow.specs.MovesOf.{guard, moves_of, first_values}
 use Rattle.lra_flow.specs.Given.{given_rows}
 use Rattle.lra_flow.specs.Pass.{Result, noted, values_behind, AreJoined, Leaves, Through, GoesRound, GoesFrom, Grows, Narrows, mode_at, Pass}

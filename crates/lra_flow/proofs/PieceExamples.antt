@@ -9,7 +9,7 @@ use Rattle.lra_program.specs.Program.{local, Expr, literal, read, input, binary,
 use Rattle.lra_base.specs.Operators.{plus, below, equal}
 use Rattle.lra_program.specs.Step.{give, push, keep}
 use Rattle.lra_operations.specs.Graph.{broken, returned}
-use Rattle.lra_flow.specs.Moves.{stay, make, first_then}
+use Rattle.lra_domain.specs.Moves.{stay, make, first_then}
 use Rattle.lra_flow.specs.MovesOf.{moves_of, first_values}
 use Rattle.lra_flow.specs.Given.{given_rows}
 use Rattle.lra_flow.specs.Pass.{Result, noted, values_behind, mode_at}

@@ -5,7 +5,8 @@ use Rattle.lra_domain.specs.Meaning.{worse}
 use Rattle.lra_domain.specs.declared.Exactness.{Exactness}
 use Rattle.lra_domain.specs.declared.Exactness.TheVariants.{Exact, Flagged}
 use Rattle.lra_flow.specs.Operations.{Operations}
-use Rattle.lra_flow.specs.Moves.{Moves, stay, first_then, join_of, AreMade, Takes}
+use Rattle.lra_domain.specs.Moves.{Moves, stay, first_then, join_of}
+use Rattle.lra_flow.specs.Moves.{AreMade, Takes}
 
 pub worse_exact : (d : Exactness) → worse d Exact ≡ d
 worse_exact Exact = refl

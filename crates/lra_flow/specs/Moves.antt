@@ -1,19 +1,11 @@
--- What is done to a value: nothing, an action of the domain, one thing behind the other, or what one leaves joined with
--- what another leaves. Operations and conditions of a program are moves.
-use Rattle.std.specs.Prelude.{◌≡◌, ◌⊎◌, ℕ, ℤ, List, [], ◌∷◌, ◌++◌, map}
-use Rattle.std.specs.List.{flat_map}
-use Rattle.lra_domain.specs.Actions.{Action, Leads, dims_after}
+-- What moves do to a value: nothing, an action of the domain, one thing behind the other, or what one leaves joined
+-- with what another leaves.
+use Rattle.std.specs.Prelude.{◌≡◌}
+use Rattle.lra_domain.specs.Moves.{Moves, stay, make, first_then, join_of}
 use Rattle.lra_domain.specs.Meaning.{worse}
 use Rattle.lra_domain.specs.declared.Exactness.{Exactness}
 use Rattle.lra_domain.specs.declared.Exactness.TheVariants.{Exact}
 use Rattle.lra_flow.specs.Operations.{Operations}
-
-pub data Moves : Type 0 where
-  stay : Moves
-  make : Action → Moves
-  first_then : Moves → Moves → Moves
-  -- joined in this order
-  join_of : Moves → Moves → Moves
 
 -- from the first value to the second one, with this exactness: flagged where any of it is
 abbrev pub AreMade : {V H : Type 0} → Operations V H → Moves → V → Exactness → V → Type 0
@@ -27,34 +19,3 @@ AreMade {V} ops (join_of a b) v e w = (x y : V) × (c d i : Exactness) × AreMad
 -- from the first value, to which something of exactness d led, to the second one: with the exactness of all of it
 abbrev pub Takes : {V H : Type 0} → Operations V H → Moves → V → Exactness → V → Exactness → Type 0
 Takes ops p v d w e = (c : Exactness) × AreMade ops p v c w × (e ≡ worse d c)
-
--- what the moves may do to a store: where two are joined, the one or the other
-abbrev pub MayLead : Moves → List ℤ → List ℤ → Type 0
-MayLead stay s t = t ≡ s
-MayLead (make step) s t = Leads step s t
-MayLead (first_then a b) s t = (u : List ℤ) × MayLead a s u × MayLead b u t
-MayLead (join_of a b) s t = MayLead a s t ⊎ MayLead b s t
-
--- how many dimensions there are behind them; behind a join those of its first side, which are those of the second, too,
--- wherever it can be made
-abbrev pub dims_moved : Moves → ℕ → ℕ
-dims_moved stay n = n
-dims_moved (make step) n = dims_after step n
-dims_moved (first_then a b) n = dims_moved b (dims_moved a n)
-dims_moved (join_of a b) n = dims_moved a n
-
--- the moves written out: each way through them as a list of actions, one for each side of a join
-abbrev pub cases : Moves → List (List Action)
-cases stay = [] ∷ []
-cases (make step) = (step ∷ []) ∷ []
-cases (first_then a b) = flat_map (λ before. map (λ behind. before ++ behind) (cases b)) (cases a)
-cases (join_of a b) = cases a ++ cases b
-
--- a list of actions, one behind the other, may lead from the first store to the second; one of some lists may
-abbrev pub LeadsAll : List Action → List ℤ → List ℤ → Type 0
-LeadsAll [] s t = t ≡ s
-LeadsAll (step ∷ steps) s t = (u : List ℤ) × Leads step s u × LeadsAll steps u t
-
-abbrev pub SomeLeads : List (List Action) → List ℤ → List ℤ → Type 0
-SomeLeads [] s t = ⊥
-SomeLeads (way ∷ ways) s t = LeadsAll way s t ⊎ SomeLeads ways s t

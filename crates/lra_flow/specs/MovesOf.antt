@@ -13,7 +13,7 @@ use Rattle.lra_domain.specs.Actions.{Action, assign, forget, embed, remove_last}
 use Rattle.lra_domain.specs.Actions as action
 use Rattle.lra_flow.specs.Linear as linear
 use Rattle.lra_flow.specs.Linear.{comparison_test, difference_form}
-use Rattle.lra_flow.specs.Moves.{Moves, stay, make, first_then, join_of}
+use Rattle.lra_domain.specs.Moves.{Moves, stay, make, first_then, join_of}
 
 -- conditions ------------------------------------------------------------------------------------------------------
 
