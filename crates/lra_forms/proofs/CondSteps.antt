@@ -9,7 +9,7 @@ use Rattle.lra_program.specs.declared.program.Cond as declared_cond
 use Rattle.lra_program.specs.declared.program.Cond.{All, Any, the_lemmas}
 use Rattle.lra_program.specs.ProgramViews.{all_of, any_of, cond_view}
 use Rattle.lra_flow.specs.Linear.{entrywise, combined, fitting, constant_form, less_one, form_of, difference_form}
-use Rattle.lra_flow.specs.Moves.{Moves, first_then, join_of}
+use Rattle.lra_domain.specs.Moves.{Moves, first_then, join_of}
 use Rattle.lra_flow.specs.MovesOf.{guard}
 use Rattle.lra_flow.proofs.FormLemmas.{form_wide}
 use Rattle.lra_forms.specs.Conditions.{in_turn_of}

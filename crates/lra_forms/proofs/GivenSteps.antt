@@ -18,7 +18,7 @@ use Rattle.lra_program.specs.ProgramViews.{all_of, any_of, cond_view}
 use Rattle.lra_program.specs.Program.{Cond}
 use Rattle.lra_flow.specs.Linear.{fitting, at_least_zero, comparison_test}
 use Rattle.lra_flow.specs.Given.{row_of, test_rows, comparison_rows, guard_rows}
-use Rattle.lra_forms.specs.Given.{HasMore, chain_rows}
+use Rattle.lra_forms.specs.Given.{HasMore}
 
 -- more and more
 pub more_none : (s : Listed ConKind) → HasMore s s []
@@ -33,29 +33,27 @@ more_both s t u xs ys h k = record {
 }
 
 -- the rows of a chain don't tell `&&` from `||`
-pub all_rows : (live base : ℕ) (wanted : Bool) (c : Cond) (cs : List Cond) → guard_rows live base wanted (all_of c cs) ≡ chain_rows live base wanted c cs
-all_rows live base wanted c [] = refl
-all_rows live base wanted c (d ∷ ds) = ap (λ (rs : List (List ℤ)). guard_rows live base wanted c ++ rs) (all_rows live base wanted d ds)
-
-pub any_rows : (live base : ℕ) (wanted : Bool) (c : Cond) (cs : List Cond) → guard_rows live base wanted (any_of c cs) ≡ chain_rows live base wanted c cs
+pub any_rows : (live base : ℕ) (wanted : Bool) (c : Cond) (cs : List Cond) → guard_rows live base wanted (any_of c cs) ≡ guard_rows live base wanted (all_of c cs)
 any_rows live base wanted c [] = refl
 any_rows live base wanted c (d ∷ ds) = ap (λ (rs : List (List ℤ)). guard_rows live base wanted c ++ rs) (any_rows live base wanted d ds)
 
 -- one more of a chain adds its rows
-rows_behind : (live base : ℕ) (wanted : Bool) (c : Cond) (cs : List Cond) (d : Cond) → chain_rows live base wanted c (cs ++ d ∷ []) ≡ chain_rows live base wanted c cs ++ guard_rows live base wanted d
+rows_behind : (live base : ℕ) (wanted : Bool) (c : Cond) (cs : List Cond) (d : Cond)
+    → guard_rows live base wanted (all_of c (cs ++ d ∷ [])) ≡ guard_rows live base wanted (all_of c cs) ++ guard_rows live base wanted d
 rows_behind live base wanted c [] d = refl
 rows_behind live base wanted c (e ∷ es) d =
     ap (λ (rs : List (List ℤ)). guard_rows live base wanted c ++ rs) (rows_behind live base wanted e es d) ∙
-    sym (append_assoc (guard_rows live base wanted c) (chain_rows live base wanted e es) (guard_rows live base wanted d))
+    sym (append_assoc (guard_rows live base wanted c) (guard_rows live base wanted (all_of e es)) (guard_rows live base wanted d))
 
 pub chain_more : (base : ℕ) (wanted : Bool) (c : Cond) (cs : List declared_cond.Cond) (i : ℕ) (x : declared_cond.Cond) (s t u : Listed ConKind) →
-    i < length cs → x ≡ get_or cs i x → HasMore s t (chain_rows s.dims base wanted c (map cond_view (take i cs))) →
-    HasMore t u (guard_rows t.dims base wanted (cond_view x)) → HasMore s u (chain_rows s.dims base wanted c (map cond_view (take (i + 1) cs)))
+    i < length cs → x ≡ get_or cs i x → HasMore s t (guard_rows s.dims base wanted (all_of c (map cond_view (take i cs)))) →
+    HasMore t u (guard_rows t.dims base wanted (cond_view x)) → HasMore s u (guard_rows s.dims base wanted (all_of c (map cond_view (take (i + 1) cs))))
 chain_more base wanted c cs i x s t u h is before one =
     let here : map cond_view (take (i + 1) cs) ≡ map cond_view (take i cs) ++ cond_view x ∷ [] =
     map_more cond_view cs i x h ∙ ap (λ (d : declared_cond.Cond). map cond_view (take i cs) ++ cond_view d ∷ []) (sym is) in
-    let rows : chain_rows s.dims base wanted c (map cond_view (take (i + 1) cs)) ≡ chain_rows s.dims base wanted c (map cond_view (take i cs)) ++ guard_rows s.dims base wanted (cond_view x) =
-    ap (λ (ds : List Cond). chain_rows s.dims base wanted c ds) here ∙ rows_behind s.dims base wanted c (map cond_view (take i cs)) (cond_view x) in
+    let rows : guard_rows s.dims base wanted (all_of c (map cond_view (take (i + 1) cs))) ≡
+    guard_rows s.dims base wanted (all_of c (map cond_view (take i cs))) ++ guard_rows s.dims base wanted (cond_view x) =
+    ap (λ (ds : List Cond). guard_rows s.dims base wanted (all_of c ds)) here ∙ rows_behind s.dims base wanted c (map cond_view (take i cs)) (cond_view x) in
     let last : HasMore t u (guard_rows s.dims base wanted (cond_view x)) = subst (λ (n : ℕ). HasMore t u (guard_rows n base wanted (cond_view x))) before.dims one in
     subst (HasMore s u) (sym rows) (more_both s t u _ _ before last)
 

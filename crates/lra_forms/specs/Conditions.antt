@@ -1,7 +1,7 @@
 -- Chains of conditions.
 use Rattle.std.specs.Prelude.{ℕ, Bool, not, List, [], ◌∷◌}
 use Rattle.lra_program.specs.Program.{Cond}
-use Rattle.lra_flow.specs.Moves.{Moves, first_then, join_of}
+use Rattle.lra_domain.specs.Moves.{Moves, first_then, join_of}
 use Rattle.lra_flow.specs.MovesOf.{guard}
 
 -- one behind the other

@@ -5,10 +5,10 @@ ghost use Rattle.std.specs.Prelude.{OnOk, Some, option_map, if◌then◌else◌}
 ghost use Rattle.std.specs.List.{All};
 ghost use Rattle.lra_linear.specs.Range.{InRange};
 ghost use Rattle.lra_base.specs.OperatorViews.{comparison_view};
-ghost use Rattle.lra_program.specs.ProgramViews.{expr_view, cond_view};
+ghost use Rattle.lra_program.specs.ProgramViews.{all_of, expr_view, cond_view};
 ghost use Rattle.lra_flow.specs.Linear.{difference_form, comparison_test};
 ghost use Rattle.lra_flow.specs.Given.{row_of, opposite_row, test_rows, comparison_rows, guard_rows, given_rows};
-ghost use Rattle.lra_forms.specs.Given.{HasMore, chain_rows};
+ghost use Rattle.lra_forms.specs.Given.{HasMore};
 
 use crate::comparisons::{comparison_where, difference_of, test_of};
 use lra_base::Comparison;
@@ -141,7 +141,7 @@ fn give(
     }
 }
 
-/// The rows of a chain of conditions.
+/// The rows of a chain of conditions: those of `&&` and `||` are the same.
 #[cycle(give)]
 fn give_chain(
     alloc: Global,
@@ -152,8 +152,8 @@ fn give_chain(
     rows: &mut ConSys,
 ) -> Result<(), AllocError>
     requires { rows.old.dims < 2 ^ 62 }
-    ensures { OnOk result (HasMore rows.old rows.new (chain_rows rows.old.dims base wanted
-        (cond_view first.now) (map cond_view rest.now))) }
+    ensures { OnOk result (HasMore rows.old rows.new (guard_rows rows.old.dims base wanted
+        (all_of (cond_view first.now) (map cond_view rest.now)))) }
 {
     give(alloc, base, first, wanted, rows)?;
     'rest: for next in rest {

@@ -1,6 +1,7 @@
 use Rattle.std.proofs.Common.{map, take}
-use Rattle.lra_program.specs.ProgramViews.{cond_view}
-use Rattle.lra_forms.specs.Given.{HasMore, chain_rows}
+use Rattle.lra_program.specs.ProgramViews.{all_of, cond_view}
+use Rattle.lra_flow.specs.Given.{guard_rows}
+use Rattle.lra_forms.specs.Given.{HasMore}
 use Rattle.lra_forms.proofs.CondSizes.{cond_size, chain_size}
 use Rattle.lra_forms.proofs.given.+give.Given as goal
 
@@ -12,5 +13,5 @@ decreases-give_chain l = chain_size l.first.now l.rest.now
 
 -- the rows of the first and of those so far
 abbrev pub invariant-give_chain-rest : goal.invariant-give_chain-rest
-invariant-give_chain-rest l = HasMore l.fn.rows l.rows (chain_rows l.fn.rows.dims l.base l.wanted
-    (cond_view l.first) (map cond_view (take l.next-index l.rest)))
+invariant-give_chain-rest l = HasMore l.fn.rows l.rows (guard_rows l.fn.rows.dims l.base l.wanted
+    (all_of (cond_view l.first) (map cond_view (take l.next-index l.rest))))
