@@ -8,7 +8,7 @@ use Rattle.lra_domain.specs.declared.Exactness.{Exactness}
 use Rattle.lra_domain.specs.Meaning.{Meaning}
 use Rattle.lra_program.specs.declared.program.Cond as declared_cond
 use Rattle.lra_program.specs.Program.{Cond}
-use Rattle.lra_program.specs.ProgramViews.{cond_view}
+use Rattle.lra_program.specs.ProgramViews.{all_of, any_of, cond_view}
 use Rattle.lra_flow.specs.Operations.{dropping}
 use Rattle.lra_flow.specs.Moves.{Takes}
 use Rattle.lra_flow.specs.MovesOf.{guard}
@@ -17,7 +17,7 @@ use Rattle.lra_forms.specs.Conditions.{in_turn_of, either_of}
 use Rattle.lra_forms.proofs.CondSizes.{cond_size, chain_size, size_in}
 use Rattle.lra_change.specs.declared.sides.Kept.{Kept}
 use Rattle.lra_change.specs.declared.sides.Sides.{Sides}
-use Rattle.lra_change.specs.Sides.{TakesTo, SplitsBy, SplitsAll, SplitsAny, AreJoinedTo, AreJoinedBack, AllKeptHave, IsEitherSoFar}
+use Rattle.lra_change.specs.Sides.{TakesTo, SplitsBy, AreJoinedTo, AreJoinedBack, AllKeptHave, IsEitherSoFar}
 use Rattle.lra_change.proofs.SideSteps.{chain_all, chain_any, either_step}
 
 -- what is joined from the right ---------------------------------------------------------------------------------------
@@ -66,8 +66,8 @@ module _ {V H : Type 0} (m : Meaning V H) where
 module _ {V H : Type 0} (m : Meaning V H) (base : ℕ) where
   -- what a chain leaves where all of it is as wanted, and where it isn't
   abbrev pub Divides : Bool → Cond → List Cond → Kept V → Kept V → Kept V → Type 0
-  Divides true c cs from taken left = SplitsAll m base c cs from (record { on = taken; off = left })
-  Divides false c cs from taken left = SplitsAny m base c cs from (record { on = left; off = taken })
+  Divides true c cs from taken left = SplitsBy m base true (all_of c cs) from (record { on = taken; off = left })
+  Divides false c cs from taken left = SplitsBy m base true (any_of c cs) from (record { on = left; off = taken })
 
   divides_more : (wanted : Bool) (c d : Cond) (ds : List Cond) (from taken left last right joined : Kept V) → Divides wanted c [] from taken left → Divides wanted d ds taken last right
       → AreJoinedTo m left right joined → Divides wanted c (d ∷ ds) from last joined
@@ -137,17 +137,17 @@ module _ {V H : Type 0} (m : Meaning V H) (base : ℕ) where
   -- which is what a chain leaves
   pub all_divided : {E : Type 0} (R : handed.Result (Sides V) E) (c : Cond) (xs : List declared_cond.Cond) (i : ℕ) (from : Kept V) (before : List (Kept V)) (sides : Sides V)
       → length xs ≤ i → IsDividedSoFar true c (map cond_view xs) from before sides.on sides.off (map cond_view (drop i xs)) → IfOk R (λ s. s.on ≡ sides.on)
-      → IfOk R (λ s. AreJoinedBack m before sides.off s.off) → IfOk R (λ s. SplitsAll m base c (map cond_view xs) from s)
+      → IfOk R (λ s. AreJoinedBack m before sides.off s.off) → IfOk R (λ s. SplitsBy m base true (all_of c (map cond_view xs)) from s)
   all_divided (handed.Ok s) c xs i from before sides h so_far same back =
-      subst (λ (k : Kept V). SplitsAll m base c (map cond_view xs) from (record { on = k; off = s.off })) (sym same)
+      subst (λ (k : Kept V). SplitsBy m base true (all_of c (map cond_view xs)) from (record { on = k; off = s.off })) (sym same)
       (divided_all true c xs i from before sides.on sides.off s.off h so_far back)
   all_divided (handed.Err e) c xs i from before sides h so_far same back = tt
 
   pub any_divided : {E : Type 0} (R : handed.Result (Sides V) E) (c : Cond) (xs : List declared_cond.Cond) (i : ℕ) (from : Kept V) (before : List (Kept V)) (sides : Sides V)
       → length xs ≤ i → IsDividedSoFar false c (map cond_view xs) from before sides.off sides.on (map cond_view (drop i xs)) → IfOk R (λ s. AreJoinedBack m before sides.on s.on)
-      → IfOk R (λ s. s.off ≡ sides.off) → IfOk R (λ s. SplitsAny m base c (map cond_view xs) from s)
+      → IfOk R (λ s. s.off ≡ sides.off) → IfOk R (λ s. SplitsBy m base true (any_of c (map cond_view xs)) from s)
   any_divided (handed.Ok s) c xs i from before sides h so_far back same =
-      subst (λ (k : Kept V). SplitsAny m base c (map cond_view xs) from (record { on = s.on; off = k })) (sym same)
+      subst (λ (k : Kept V). SplitsBy m base true (any_of c (map cond_view xs)) from (record { on = s.on; off = k })) (sym same)
       (divided_all false c xs i from before sides.off sides.on s.on h so_far back)
   any_divided (handed.Err e) c xs i from before sides h so_far back same = tt
 
@@ -168,7 +168,7 @@ module _ {V H : Type 0} (m : Meaning V H) (base : ℕ) where
 
   -- so many of the operands leave this of the value
   pub record IsInTurnSoFar (wanted : Bool) (c : Cond) (cs : List Cond) (v : V) (e : Exactness) (w : V) (a : Exactness) : Type 0 where
-    pub pushes : Takes (dropping m) (in_turn_of (m.dims v) base wanted c cs) v e w a
+    pub takes : Takes (dropping m) (in_turn_of (m.dims v) base wanted c cs) v e w a
     pub same : m.dims w ≡ m.dims v
 
   pub turned_on : (wanted : Bool) (c : Cond) (xs : List declared_cond.Cond) (i : ℕ) (x : declared_cond.Cond) (v : V) (e : Exactness) (y : V) (a : Exactness) (w : V) (b : Exactness)
@@ -179,15 +179,15 @@ module _ {V H : Type 0} (m : Meaning V H) (base : ℕ) where
       map_more cond_view xs i x h ∙ ap (λ (d : declared_cond.Cond). map cond_view (take i xs) ++ cond_view d ∷ []) (sym is) in
       let last = subst (λ (n : ℕ). Takes (dropping m) (guard n base wanted (cond_view x)) y a w b) so_far.same one in
       record {
-        pushes = subst (λ (ds : List Cond). Takes (dropping m) (in_turn_of (m.dims v) base wanted c ds) v e w b) (sym here)
-            (turn_more (m.dims v) wanted c (map cond_view (take i xs)) (cond_view x) v e y a w b so_far.pushes last);
+        takes = subst (λ (ds : List Cond). Takes (dropping m) (in_turn_of (m.dims v) base wanted c ds) v e w b) (sym here)
+            (turn_more (m.dims v) wanted c (map cond_view (take i xs)) (cond_view x) v e y a w b so_far.takes last);
         same = same ∙ so_far.same;
       }
 
   pub turned_all : (wanted : Bool) (c : Cond) (xs : List declared_cond.Cond) (i : ℕ) (v : V) (e : Exactness) (w : V) (a : Exactness) → length xs ≤ i
       → IsInTurnSoFar wanted c (map cond_view (take i xs)) v e w a → Takes (dropping m) (in_turn_of (m.dims v) base wanted c (map cond_view xs)) v e w a
   turned_all wanted c xs i v e w a h so_far =
-      subst (λ (ys : List declared_cond.Cond). Takes (dropping m) (in_turn_of (m.dims v) base wanted c (map cond_view ys)) v e w a) (take_all i xs h) so_far.pushes
+      subst (λ (ys : List declared_cond.Cond). Takes (dropping m) (in_turn_of (m.dims v) base wanted c (map cond_view ys)) v e w a) (take_all i xs h) so_far.takes
 
   pub either_first : (wanted : Bool) (c : Cond) (cs : List Cond) (from : Kept V) (lefts : List (Kept V)) → lefts ≡ [] → IsEitherSoFar m base wanted c cs from lefts from c cs
   either_first wanted c cs from lefts is =
@@ -204,7 +204,8 @@ module _ {V H : Type 0} (m : Meaning V H) (base : ℕ) where
       → IsEitherSoFar m base wanted c cs from (lefts ++ s.on ∷ []) s.off next ds
   either_more wanted c cs from lefts off d next ds s so_far split = record {
     whole = λ right joined rest back.
-        let (j, join, more) = back_less m lefts s.on right joined back in so_far.whole j joined (either_step m base wanted d next ds off s.on s.off right j (m.dims off.value) split.on split.off
+        let (j, join, more) = back_less m lefts s.on right joined back in so_far.whole j joined
+        (either_step m base wanted d (either_of (m.dims off.value) base wanted next ds) off s.on s.off right j (m.dims off.value) split.on split.off
         (subst (λ (k : ℕ). TakesTo m (either_of k base wanted next ds) s.off right) split.off_dims rest) join) more;
     have = have_more m (m.dims from.value) lefts s.on so_far.have (split.on_dims ∙ so_far.same);
     same = split.off_dims ∙ so_far.same;

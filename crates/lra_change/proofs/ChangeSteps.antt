@@ -9,7 +9,7 @@ use Rattle.lra_domain.specs.Meaning.{Meaning, Meets}
 use Rattle.lra_program.specs.Program.{Expr}
 use Rattle.lra_flow.specs.Linear as linear
 use Rattle.lra_domain.specs.Meaning.{worse}
-use Rattle.lra_flow.specs.Moves.{stay, make}
+use Rattle.lra_domain.specs.Moves.{stay, make}
 use Rattle.lra_flow.specs.MovesOf.{set_to, append_set}
 use Rattle.lra_flow.proofs.FormLemmas.{form_wide}
 use Rattle.lra_change.specs.Changes.{Does}

@@ -2,7 +2,6 @@
 use Rattle.std.proofs.Common.{rules, Box, Vec, Global, map, ◌≡◌, ℕ, List, ◌∷◌, Bool, true, false, sym, ap, subst, ◌∙◌}
 use Rattle.std.specs.Prelude.{not, IfOk}
 use Rattle.std.specs.Prelude as handed
-use Rattle.std.proofs.lemmas.Result.{IfOk-weaker}
 use Rattle.lra_base.specs.declared.operators.Comparison as declared_comparison
 use Rattle.lra_base.specs.OperatorViews.{comparison_view}
 use Rattle.lra_domain.specs.declared.Exactness.{Exactness}
@@ -15,13 +14,13 @@ use Rattle.lra_forms.proofs.CondSteps.{all_view, any_view}
 use Rattle.lra_domain.specs.Meaning.{Meaning}
 use Rattle.lra_program.specs.Program.{Cond}
 use Rattle.lra_flow.specs.Operations.{dropping}
-use Rattle.lra_flow.specs.Moves.{Moves, first_then, Takes}
+use Rattle.lra_domain.specs.Moves.{Moves, first_then, join_of}
+use Rattle.lra_flow.specs.Moves.{Takes}
 use Rattle.lra_flow.specs.MovesOf.{guard}
 use Rattle.lra_flow.proofs.Takes.{then_takes, join_takes}
 use Rattle.lra_change.specs.declared.sides.Kept.{Kept}
 use Rattle.lra_change.specs.declared.sides.Sides.{Sides}
-use Rattle.lra_forms.specs.Conditions.{in_turn_of, either_of}
-use Rattle.lra_change.specs.Sides.{TakesTo, Splits, SplitsBy, SplitsAll, SplitsAny, AreJoinedTo}
+use Rattle.lra_change.specs.Sides.{TakesTo, SplitsBy, AreJoinedTo}
 
 -- the views of the forms, by the conditions in them
 pub compare_view : (op : declared_comparison.Comparison) (a b : declared_expr.Expr)
@@ -49,15 +48,9 @@ module _ (c x : declared_cond.Cond) (xs : List declared_cond.Cond) (first : Box 
       ∙ ap (λ (zs : List declared_cond.Cond). any_of (cond_view x) (map cond_view zs)) (sym two)
 
 -- what is handed on as both sides of this condition, or as the one side
-pub sides_as : {V H E : Type 0} (m : Meaning V H) (R : handed.Result (Sides V) E) (from : Kept V) (p p' q q' : ℕ → Moves)
-    → ((n : ℕ) → p' n ≡ p n) → ((n : ℕ) → q' n ≡ q n) → IfOk R (λ s. Splits m p q from s) → IfOk R (λ s. Splits m p' q' from s)
-sides_as m R from p p' q q' one two h = IfOk-weaker R (λ s. Splits m p q from s) (λ s. Splits m p' q' from s)
-    (λ s k. record {
-      on = subst (λ (x : Moves). TakesTo m x from s.on) (sym (one (m.dims from.value))) k.on;
-      off = subst (λ (x : Moves). TakesTo m x from s.off) (sym (two (m.dims from.value))) k.off;
-      on_dims = k.on_dims;
-      off_dims = k.off_dims;
-    }) h
+pub sides_as : {V H E : Type 0} (m : Meaning V H) (base : ℕ) (R : handed.Result (Sides V) E) (from : Kept V) (c d : Cond) → d ≡ c
+    → IfOk R (λ s. SplitsBy m base true c from s) → IfOk R (λ s. SplitsBy m base true d from s)
+sides_as m base R from c d same h = subst (λ (e : Cond). IfOk R (λ s. SplitsBy m base true e from s)) (sym same) h
 
 pub leaves_as : {V H E : Type 0} (m : Meaning V H) (R : handed.Result Exactness E) (v : V) (before : Exactness) (w : V) (p p' : Moves)
     → p' ≡ p → IfOk R (λ e. Takes (dropping m) p v before w e) → IfOk R (λ e. Takes (dropping m) p' v before w e)
@@ -69,11 +62,11 @@ module _ {V H : Type 0} (m : Meaning V H) (base : ℕ) where
   then_done p q from one to first rest = (then_takes (dropping m) from.value from.exactness to.value to.exactness p q).0 (one.value, one.exactness, first, rest)
 
   -- the one side alone: the first is as wanted, or the others are where it isn't
-  pub either_step : (wanted : Bool) (c d : Cond) (ds : List Cond) (from on off right joined : Kept V) (n : ℕ) → TakesTo m (guard n base wanted c) from on
-      → TakesTo m (guard n base (not wanted) c) from off → TakesTo m (either_of n base wanted d ds) off right → AreJoinedTo m on right joined
-      → TakesTo m (either_of n base wanted c (d ∷ ds)) from joined
-  either_step wanted c d ds from on off right joined n first opposed rest join =
-      let behind = first_then (guard n base (not wanted) c) (either_of n base wanted d ds) in
+  pub either_step : (wanted : Bool) (c : Cond) (others : Moves) (from on off right joined : Kept V) (n : ℕ) → TakesTo m (guard n base wanted c) from on
+      → TakesTo m (guard n base (not wanted) c) from off → TakesTo m others off right → AreJoinedTo m on right joined
+      → TakesTo m (join_of (guard n base wanted c) (first_then (guard n base (not wanted) c) others)) from joined
+  either_step wanted c others from on off right joined n first opposed rest join =
+      let behind = first_then (guard n base (not wanted) c) others in
       (join_takes (dropping m) from.value from.exactness joined.value joined.exactness (guard n base wanted c) behind).0 (
         on.value,
         right.value,
@@ -81,37 +74,37 @@ module _ {V H : Type 0} (m : Meaning V H) (base : ℕ) where
         right.exactness,
         join.is_joined.0,
         first,
-        then_done (guard n base (not wanted) c) (either_of n base wanted d ds) from off right opposed rest,
+        then_done (guard n base (not wanted) c) others from off right opposed rest,
         join.is_joined.1,
         join.is_joined.2,
       )
 
   -- the others of a chain go on from where the first one is true
   pub chain_all : (c d : Cond) (ds : List Cond) (from : Kept V) (one others : Sides V) (joined : Kept V) → SplitsBy m base true c from one
-      → SplitsAll m base d ds one.on others → AreJoinedTo m one.off others.off joined
-      → SplitsAll m base c (d ∷ ds) from (record { on = others.on; off = joined })
+      → SplitsBy m base true (all_of d ds) one.on others → AreJoinedTo m one.off others.off joined
+      → SplitsBy m base true (all_of c (d ∷ ds)) from (record { on = others.on; off = joined })
   chain_all c d ds from one others joined first rest join =
       let n = m.dims from.value in
-      let on = subst (λ (k : ℕ). TakesTo m (in_turn_of k base true d ds) one.on others.on) first.on_dims rest.on in
-      let off = subst (λ (k : ℕ). TakesTo m (either_of k base false d ds) one.on others.off) first.on_dims rest.off in
+      let on = subst (λ (k : ℕ). TakesTo m (guard k base true (all_of d ds)) one.on others.on) first.on_dims rest.on in
+      let off = subst (λ (k : ℕ). TakesTo m (guard k base false (all_of d ds)) one.on others.off) first.on_dims rest.off in
       record {
-        on = then_done (guard n base true c) (in_turn_of n base true d ds) from one.on others.on first.on on;
-        off = either_step false c d ds from one.off one.on others.off joined n first.off first.on off join;
+        on = then_done (guard n base true c) (guard n base true (all_of d ds)) from one.on others.on first.on on;
+        off = either_step false c (guard n base false (all_of d ds)) from one.off one.on others.off joined n first.off first.on off join;
         on_dims = rest.on_dims ∙ first.on_dims;
         off_dims = join.same_dims ∙ first.off_dims;
       }
 
   -- or from where it is false
   pub chain_any : (c d : Cond) (ds : List Cond) (from : Kept V) (one others : Sides V) (joined : Kept V) → SplitsBy m base true c from one
-      → SplitsAny m base d ds one.off others → AreJoinedTo m one.on others.on joined
-      → SplitsAny m base c (d ∷ ds) from (record { on = joined; off = others.off })
+      → SplitsBy m base true (any_of d ds) one.off others → AreJoinedTo m one.on others.on joined
+      → SplitsBy m base true (any_of c (d ∷ ds)) from (record { on = joined; off = others.off })
   chain_any c d ds from one others joined first rest join =
       let n = m.dims from.value in
-      let on = subst (λ (k : ℕ). TakesTo m (either_of k base true d ds) one.off others.on) first.off_dims rest.on in
-      let off = subst (λ (k : ℕ). TakesTo m (in_turn_of k base false d ds) one.off others.off) first.off_dims rest.off in
+      let on = subst (λ (k : ℕ). TakesTo m (guard k base true (any_of d ds)) one.off others.on) first.off_dims rest.on in
+      let off = subst (λ (k : ℕ). TakesTo m (guard k base false (any_of d ds)) one.off others.off) first.off_dims rest.off in
       record {
-        on = either_step true c d ds from one.on one.off others.on joined n first.on first.off on join;
-        off = then_done (guard n base false c) (in_turn_of n base false d ds) from one.off others.off first.off off;
+        on = either_step true c (guard n base true (any_of d ds)) from one.on one.off others.on joined n first.on first.off on join;
+        off = then_done (guard n base false c) (guard n base false (any_of d ds)) from one.off others.off first.off off;
         on_dims = join.same_dims ∙ first.on_dims;
         off_dims = rest.off_dims ∙ first.off_dims;
       }

@@ -4,12 +4,15 @@ use Rattle.lra_domain.specs.declared.Exactness.{Exactness}
 use Rattle.lra_domain.specs.Meaning.{Meaning}
 use Rattle.lra_program.specs.Step.{Op, append, give, give_any, push, keep, test}
 use Rattle.lra_flow.specs.Operations.{dropping}
-use Rattle.lra_flow.specs.Moves.{Moves, AreMade}
+use Rattle.lra_domain.specs.Moves.{Moves}
+use Rattle.lra_flow.specs.Moves.{AreMade}
 use Rattle.lra_flow.specs.Pass.{Changes}
 
+-- the moves lead from the first value to the second one, with this exactness
 abbrev pub Does : {V H : Type 0} → Meaning V H → Moves → V → Exactness → V → Type 0
 Does m moves v e w = AreMade (dropping m) moves v e w
 
+-- and so does a least change
 abbrev pub ChangesTo : {V H : Type 0} → Meaning V H → Op → V → Exactness → V → Type 0
 ChangesTo m op v e w = Changes (dropping m) op v e w
 

@@ -1,15 +1,17 @@
 -- Both sides of a condition at once, each with the exactness of what led to it.
-use Rattle.std.specs.Prelude.{◌≡◌, ℕ, Bool, true, false, not, List, [], ◌∷◌}
+use Rattle.std.specs.Prelude.{◌≡◌, ℕ, Bool, not, List, [], ◌∷◌}
 use Rattle.lra_domain.specs.Meaning.{Meaning, worse}
 use Rattle.lra_domain.specs.declared.Exactness.{Exactness}
 use Rattle.lra_program.specs.Program.{Cond}
-use Rattle.lra_flow.specs.Moves.{Moves, Takes}
+use Rattle.lra_domain.specs.Moves.{Moves}
+use Rattle.lra_flow.specs.Moves.{Takes}
 use Rattle.lra_flow.specs.MovesOf.{guard}
 use Rattle.lra_flow.specs.Operations.{dropping}
-use Rattle.lra_forms.specs.Conditions.{in_turn_of, either_of}
+use Rattle.lra_forms.specs.Conditions.{either_of}
 use Rattle.lra_change.specs.declared.sides.Kept.{Kept}
 use Rattle.lra_change.specs.declared.sides.Sides.{Sides}
 
+-- the moves lead from the one to the other, each with the exactness of what led to it
 abbrev pub TakesTo : {V H : Type 0} → Meaning V H → Moves → Kept V → Kept V → Type 0
 TakesTo m moves from to = Takes (dropping m) moves from.value from.exactness to.value to.exactness
 
@@ -20,18 +22,10 @@ pub record Splits {V H : Type 0} (m : Meaning V H) (yes no : ℕ → Moves) (fro
   pub on_dims : m.dims sides.on.value ≡ m.dims from.value
   pub off_dims : m.dims sides.off.value ≡ m.dims from.value
 
--- a condition, as wanted and not so; a chain of `&&`; a chain of `||`
+-- a condition, as wanted and not so
 abbrev pub SplitsBy : {V H : Type 0} → Meaning V H → ℕ → Bool → Cond → Kept V → Sides V → Type 0
 SplitsBy m base wanted c from sides =
     Splits m (λ n. guard n base wanted c) (λ n. guard n base (not wanted) c) from sides
-
-abbrev pub SplitsAll : {V H : Type 0} → Meaning V H → ℕ → Cond → List Cond → Kept V → Sides V → Type 0
-SplitsAll m base c cs from sides =
-    Splits m (λ n. in_turn_of n base true c cs) (λ n. either_of n base false c cs) from sides
-
-abbrev pub SplitsAny : {V H : Type 0} → Meaning V H → ℕ → Cond → List Cond → Kept V → Sides V → Type 0
-SplitsAny m base c cs from sides =
-    Splits m (λ n. either_of n base true c cs) (λ n. in_turn_of n base false c cs) from sides
 
 -- the first joined with the second
 pub record AreJoinedTo {V H : Type 0} (m : Meaning V H) (one two joined : Kept V) : Type 0 where

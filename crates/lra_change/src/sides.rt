@@ -4,8 +4,8 @@
 ghost use Rattle.std.specs.Prelude.{◌≡◌, ◌<◌, ◌^◌, map, true, IfOk};
 ghost use Rattle.lra_base.specs.OperatorViews.{comparison_view};
 ghost use Rattle.lra_program.specs.Program.{compare, nonzero};
-ghost use Rattle.lra_program.specs.ProgramViews.{expr_view, cond_view};
-ghost use Rattle.lra_change.specs.Sides.{SplitsBy, SplitsAll, SplitsAny, AreJoinedTo, AreJoinedBack, AllKeptHave};
+ghost use Rattle.lra_program.specs.ProgramViews.{all_of, any_of, expr_view, cond_view};
+ghost use Rattle.lra_change.specs.Sides.{SplitsBy, AreJoinedTo, AreJoinedBack, AllKeptHave};
 
 use crate::comparisons::{Surroundings, leave_comparison};
 use lra_base::Comparison;
@@ -165,7 +165,8 @@ fn split_all<D: Domain>(
     from: Kept<D>,
 ) -> Result<Sides<D>, AllocError>
     requires { D.meaning.dims from.value < 2 ^ 62 }
-    ensures { IfOk result (λ s. SplitsAll D.meaning base (cond_view first.now) (map cond_view rest.now) from s) }
+    ensures { IfOk result (λ s. SplitsBy D.meaning base true
+        (all_of (cond_view first.now) (map cond_view rest.now)) from s) }
 {
     let mut sides = split(alloc, base, first, from)?;
     let mut before = Vec::new(alloc);
@@ -187,7 +188,8 @@ fn split_any<D: Domain>(
     from: Kept<D>,
 ) -> Result<Sides<D>, AllocError>
     requires { D.meaning.dims from.value < 2 ^ 62 }
-    ensures { IfOk result (λ s. SplitsAny D.meaning base (cond_view first.now) (map cond_view rest.now) from s) }
+    ensures { IfOk result (λ s. SplitsBy D.meaning base true
+        (any_of (cond_view first.now) (map cond_view rest.now)) from s) }
 {
     let mut sides = split(alloc, base, first, from)?;
     let mut before = Vec::new(alloc);

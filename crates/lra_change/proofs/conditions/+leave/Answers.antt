@@ -109,7 +109,7 @@ leave_any-returns-else-wanted-clause-leaves g t c =
     (ap (λ (b : Bool). guard n base b (any_of first rest)) c.if-wanted.false ∙ any_false n base first rest) c.leave_in_turn.ensures.leaves
 
 pub leave_in_turn-rest-init : goal.leave_in_turn-rest-init
-leave_in_turn-rest-init g t c = record { pushes = c.in_ok-exactness.ensures.leaves; same = c.in_ok-exactness.ensures.dims }
+leave_in_turn-rest-init g t c = record { takes = c.in_ok-exactness.ensures.leaves; same = c.in_ok-exactness.ensures.dims }
 
 pub leave_in_turn-leave-requires-in-rest : goal.leave_in_turn-leave-requires-in-rest
 leave_in_turn-leave-requires-in-rest g t c κs within =

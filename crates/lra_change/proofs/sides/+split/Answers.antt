@@ -1,9 +1,6 @@
 -- Goals of the functions that call each other around `split`: `split`, `split_all`, `split_any`.
-use Rattle.std.proofs.Common.{rules, map, drop, ◌≤◌, length, true, false, ap, ◌∙◌, arith}
-use Rattle.lra_flow.specs.MovesOf.{guard}
-use Rattle.lra_forms.specs.Conditions.{in_turn_of, either_of}
-use Rattle.lra_program.specs.ProgramViews.{cond_view}
-use Rattle.lra_forms.proofs.CondSteps.{all_true, any_false, all_false, any_true}
+use Rattle.std.proofs.Common.{rules, map, drop, ◌≤◌, length, true, false, arith}
+use Rattle.lra_program.specs.ProgramViews.{all_of, any_of, cond_view}
 use Rattle.lra_change.proofs.SideSteps.{all_shown, any_shown, sides_as}
 use Rattle.lra_forms.proofs.CondSizes.{size_in}
 use Rattle.lra_change.proofs.ChainSteps.{divided_first, divided_on, all_divided, any_divided, taken_have}
@@ -14,24 +11,16 @@ split-returns-in-All g t c =
     let base = c.args.base in
     let shown = all_shown c.args.condition.now c.deref-in-All.result.now c.as_slice.result.now c.in-All.first c.in-All.rest
     c.deref-in-All.ensures c.as_slice.ensures.value c.in-All.is in
-    let first = cond_view c.deref-in-All.result.now in
-    let rest = map cond_view c.as_slice.result.now in
-    sides_as g.D.Domain.meaning c.split_all.result c.args.from (λ n. in_turn_of n base true first rest)
-    (λ n. guard n base true (cond_view c.args.condition.now)) (λ n. either_of n base false first rest)
-    (λ n. guard n base false (cond_view c.args.condition.now)) (λ n. ap (guard n base true) shown ∙ all_true n base first rest)
-    (λ n. ap (guard n base false) shown ∙ all_false n base first rest) c.split_all.ensures
+    let chain = all_of (cond_view c.deref-in-All.result.now) (map cond_view c.as_slice.result.now) in
+    sides_as g.D.Domain.meaning base c.split_all.result c.args.from chain (cond_view c.args.condition.now) shown c.split_all.ensures
 
 pub split-returns-in-Any : goal.split-returns-in-Any
 split-returns-in-Any g t c =
     let base = c.args.base in
     let shown = any_shown c.args.condition.now c.deref-in-Any.result.now c.as_slice-in-Any.result.now c.in-Any.first
     c.in-Any.rest c.deref-in-Any.ensures c.as_slice-in-Any.ensures.value c.in-Any.is in
-    let first = cond_view c.deref-in-Any.result.now in
-    let rest = map cond_view c.as_slice-in-Any.result.now in
-    sides_as g.D.Domain.meaning c.split_any.result c.args.from (λ n. either_of n base true first rest)
-    (λ n. guard n base true (cond_view c.args.condition.now)) (λ n. in_turn_of n base false first rest)
-    (λ n. guard n base false (cond_view c.args.condition.now)) (λ n. ap (guard n base true) shown ∙ any_true n base first rest)
-    (λ n. ap (guard n base false) shown ∙ any_false n base first rest) c.split_any.ensures
+    let chain = any_of (cond_view c.deref-in-Any.result.now) (map cond_view c.as_slice-in-Any.result.now) in
+    sides_as g.D.Domain.meaning base c.split_any.result c.args.from chain (cond_view c.args.condition.now) shown c.split_any.ensures
 
 pub split_all-rest-init : goal.split_all-rest-init
 split_all-rest-init g t c =
