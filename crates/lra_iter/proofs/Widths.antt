@@ -13,7 +13,8 @@ use Rattle.lra_flow.specs.Linear as linear
 use Rattle.lra_lin.specs.Form.{Form}
 use Rattle.lra_lin.specs.declared.test.Test.{Test}
 use Rattle.lra_flow.specs.Linear.{comparison_test, difference_form}
-use Rattle.lra_flow.specs.Moves.{Moves, stay, make, first_then, join_of, AreMade, dims_moved}
+use Rattle.lra_domain.specs.Moves.{Moves, stay, make, first_then, join_of, dims_moved}
+use Rattle.lra_flow.specs.Moves.{AreMade}
 use Rattle.lra_program.specs.Step as step
 use Rattle.lra_program.specs.Step.{Op, append, give, give_any, keep, test}
 use Rattle.lra_operations.specs.Graph.{Exit, broken, continued, returned, Node, empty, point, act, check, seq, choose, iterate, catch, leave}
