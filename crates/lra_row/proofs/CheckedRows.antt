@@ -26,6 +26,11 @@ column_taken s x y z n xs ys xs' ys' h k p q =
     rw (h, k, in_range_yes (x *ℤ y) p.0, in_range_yes (s +ℤ (x *ℤ y)) (subst (λ (n : ℤ). InRange (s +ℤ n)) p.1 q.0))
     (ap (λ (m : ℤ). checked_product_from m xs' ys') (q.1 ∙ ap (λ (m : ℤ). s +ℤ m) p.1))
 
+pub column_summed : (s x y z : ℤ) (r : Result ℤ Excess) → InRange (x *ℤ y) × (z ≡ x *ℤ y) →
+    MatchResult r (λ n. InRange (s +ℤ z) × (n ≡ s +ℤ z)) (λ e. (¬ (InRange (s +ℤ z))) × (e ≡ record { op = Sum; left = s; right = z })) → r ≡ checked_product_from s (x ∷ []) (y ∷ [])
+column_summed s x y z (Ok n) p q = column_taken s x y z n (x ∷ []) (y ∷ []) [] [] refl refl p q
+column_summed s x y z (Err e) p q = sum_passes s x y z (x ∷ []) (y ∷ []) [] [] e refl refl p q
+
 -- the first column, and then the others
 pub product_split : (xs ys : List ℤ) (y p : ℤ) (r : Result ℤ Excess) → length xs ≡ length ys + 1 → InRange (get_or xs 0 (pos 0) *ℤ y) → p ≡ get_or xs 0 (pos 0) *ℤ y →
     r ≡ checked_product_from p (take (length xs - 1) (drop 1 xs)) ys → r ≡ checked_product xs (y ∷ ys)

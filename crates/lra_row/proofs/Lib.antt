@@ -2,6 +2,7 @@ pub mod Ratio
 pub mod Facts
 pub mod Division
 pub mod CheckedRows
+pub mod Words
 pub mod RowDivisors
 pub mod OrderLemmas
 pub mod FirstPassing

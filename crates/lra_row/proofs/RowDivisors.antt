@@ -1,6 +1,7 @@
 -- The greatest number that divides each entry of a row, one entry at a time.
 use Rattle.std.proofs.Common.{ℕ, zero, suc, ◌<◌, ◌≤◌, ◌+◌, List, [], ◌∷◌, length, drop, get_or, add-one, subst, sym, pos, ℤ, unsigned_abs}
 use Rattle.std.specs.Int.{◌∣◌, IsGcd}
+use Rattle.std.proofs.Math.Nat.{one-dvd}
 use Rattle.std.proofs.lemmas.Nat.Gcd.{dvd_refl, dvd-zero, dvd_trans}
 use Rattle.std.proofs.lemmas.List.{drop_all}
 use Rattle.std.proofs.Math.Seq.{drop-cons}
@@ -38,3 +39,10 @@ divisor_further m n i row h k all g d =
 
 pub divisor_whole : (m i : ℕ) (row : List ℤ) → length row ≤ i → ((g : ℕ) → IsGcdWith m (drop i row) g → IsGcdWith 0 row g) → IsRowGcd row m
 divisor_whole m i row h all = divisor_start row m (all m (subst (λ (r : List ℤ). IsGcdWith m r m) (sym (drop_all i row h)) (divisor_end m)))
+
+-- once the divisor is 1, it is that of the whole row
+one_with : (row : List ℤ) → IsGcdWith 1 row 1
+one_with row = record { first = dvd_refl 1; divides = λ j. one-dvd (unsigned_abs (entry row j)); greatest = λ d h k. h }
+
+pub divisor_one : (i : ℕ) (row : List ℤ) → ((g : ℕ) → IsGcdWith 1 (drop i row) g → IsGcdWith 0 row g) → IsRowGcd row 1
+divisor_one i row all = divisor_start row 1 (all 1 (one_with (drop i row)))

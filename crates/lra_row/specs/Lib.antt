@@ -3,3 +3,4 @@
 pub mod Division
 pub mod Operations
 pub mod Rows
+pub mod Words

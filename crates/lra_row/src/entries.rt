@@ -1,6 +1,6 @@
 //! Arithmetic on the entries of rows.
 
-ghost use Rattle.std.specs.Prelude.{◌≡◌, ◌≤◌, ◌<◌, ◌≤ℤ◌, ◌+◌, ◌∷◌, ℕ, pos, ◌*ℤ◌, ◌<ℤ◌, length, IfOk, IfErr};
+ghost use Rattle.std.specs.Prelude.{◌≡◌, ◌≤◌, ◌<◌, ◌≤ℤ◌, ◌+◌, [], ◌∷◌, ℕ, pos, ◌*ℤ◌, ◌<ℤ◌, length, IfOk, IfErr};
 ghost use Rattle.std.specs.Prelude.{unsigned_abs, map, int_div, slice_index_or};
 ghost use Rattle.std.specs.List.{All};
 ghost use Rattle.std.specs.Int.{◌∣◌};
@@ -13,7 +13,7 @@ ghost use Rattle.lra_linear.specs.Echelon.{pivot};
 ghost use Rattle.lra_linear.specs.RowOrder.{constant_last, row_cmp};
 
 use crate::error::RowError;
-use crate::number::{gcd, product_of, sum_of};
+use crate::number::{gcd, has_room, is_word, multiply_words, product_of, quotient, sum_of};
 use lra_linear::Excess;
 use smallvec::SmallVec;
 use std::alloc::{AllocError, Global};
@@ -22,6 +22,15 @@ use std::cmp::Ordering;
 /// The entries of a row: those of at most 8 columns stay inline.
 pub type Entries = SmallVec<i128, 8>;
 
+// The sum with the product of one column, of numbers of any size.
+#[cold]
+#[inline(never)]
+fn wide_column(sum: i128, x: i128, y: i128) -> Result<i128, Excess>
+    ensures { result ≡ checked_product_from sum (x ∷ []) (y ∷ []) }
+{
+    sum_of(sum, product_of(x, y)?)
+}
+
 /// The sum of `start` and the product of two rows.
 pub fn product_from(start: i128, xs: &[i128], ys: &[i128]) -> Result<i128, Excess>
     requires { length xs.now ≡ length ys.now }
@@ -29,7 +38,11 @@ pub fn product_from(start: i128, xs: &[i128], ys: &[i128]) -> Result<i128, Exces
 {
     let mut sum = start;
     for (x, y) in xs.iter().zip(ys) {
-        sum = sum_of(sum, product_of(*x, *y)?)?;
+        if has_room(sum) && is_word(*x) && is_word(*y) {
+            sum += multiply_words(*x, *y);
+        } else {
+            sum = wide_column(sum, *x, *y)?;
+        }
     }
     Ok(sum)
 }
@@ -44,7 +57,23 @@ pub fn product_at(xs: &[i128], divisor: i128, numerators: &[i128]) -> Result<i12
 }
 
 // a u + b v in one column.
+#[inline(always)]
 fn blend_entry(a: i128, b: i128, u: i128, v: i128) -> Result<i128, Excess>
+    ensures { result ≡ checked_entry a b u v }
+{
+    if is_word(a) && is_word(u) && is_word(b) && is_word(v) {
+        let left = multiply_words(a, u);
+        if has_room(left) {
+            return Ok(left + multiply_words(b, v));
+        }
+    }
+    wide_entry(a, b, u, v)
+}
+
+// a u + b v in one column, of numbers of any size.
+#[cold]
+#[inline(never)]
+fn wide_entry(a: i128, b: i128, u: i128, v: i128) -> Result<i128, Excess>
     ensures { result ≡ checked_entry a b u v }
 {
     let left = product_of(a, u)?;
@@ -86,6 +115,9 @@ pub fn divisor_of(xs: &[i128]) -> i128
     let mut divisor = 0;
     for number in xs {
         divisor = gcd(divisor, *number);
+        if divisor == 1 {
+            return 1;
+        }
     }
     divisor
 }
@@ -96,7 +128,7 @@ pub fn divide(xs: &mut [i128], divisor: i128)
     ensures { xs.new ≡ map (λ x. int_div x divisor) xs.old }
 {
     for x in xs.iter_mut() {
-        *x /= divisor;
+        *x = quotient(*x, divisor);
     }
 }
 

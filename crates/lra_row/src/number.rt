@@ -1,20 +1,58 @@
 //! Sums, products and quotients of single numbers.
 
 ghost use Rattle.std.specs.Prelude.{◌≡◌, ◌≢◌, ◌<◌, ◌^◌, pos, ◌+ℤ◌, ◌*ℤ◌, ◌≤ℤ◌, ◌<ℤ◌, unsigned_abs, MatchResult, neg_ℤ};
+ghost use Rattle.std.specs.Prelude.{int_div, IsTrue};
 ghost use Rattle.std.specs.Ordering.{int_cmp};
 ghost use Rattle.std.specs.Option.{SomeIff};
 ghost use Rattle.std.specs.Int.{IsGcd};
 ghost use Rattle.lra_linear.specs.Range.{InRange};
 ghost use Rattle.lra_linear.specs.declared.Operation.TheVariants.{Product, Sum};
 ghost use Rattle.lra_row.specs.Division.{floor_quotient, IsFloor};
+ghost use Rattle.lra_row.specs.Words.{HasRoom, IsWord, IsWordProduct};
 
 use lra_linear::{Excess, Operation};
 use std::cmp::Ordering;
+
+// Words end before this number.
+const WORD: i128 = 1 << 63;
+
+// Sums that can take the product of two words end before this number.
+const ROOM: i128 = 1 << 126;
+
+/// Whether the number has 64 bits.
+#[inline(always)]
+pub fn is_word(x: i128) -> bool
+    ensures { IsTrue result → IsWord x }
+{
+    -WORD <= x && x < WORD
+}
+
+/// Whether the sum stays in the range with the product of two words.
+#[inline(always)]
+pub fn has_room(sum: i128) -> bool
+    ensures { IsTrue result → HasRoom sum }
+{
+    -ROOM <= sum && sum < ROOM
+}
+
+/// The product of two words.
+#[inline(always)]
+pub fn multiply_words(x: i128, y: i128) -> i128
+    requires x_word { IsWord x }
+    requires y_word { IsWord y }
+    ensures product { result ≡ x *ℤ y }
+    ensures bounds { IsWordProduct result }
+{
+    (x as i64) as i128 * (y as i64) as i128
+}
 
 /// `a * b`, or `None` exactly where it passes the range.
 pub fn mul(a: i128, b: i128) -> Option<i128>
     ensures { SomeIff result (InRange (a *ℤ b)) (a *ℤ b) }
 {
+    if is_word(a) && is_word(b) {
+        return Some(multiply_words(a, b));
+    }
     match a.checked_mul(b) {
         Some(product) if product != i128::MIN => Some(product),
         _ => None,
@@ -70,11 +108,40 @@ fn gcd_of(a: u128, b: u128) -> u128
     let mut x = a;
     let mut y = b;
     while y != 0 {
+        if x <= u64::MAX as u128 && y <= u64::MAX as u128 {
+            return gcd_of_words(x as u64, y as u64) as u128;
+        }
         let rest = x % y;
         x = y;
         y = rest;
     }
     x
+}
+
+// Euclid's algorithm on words.
+fn gcd_of_words(a: u64, b: u64) -> u64
+    ensures { IsGcd a b result }
+{
+    let mut x = a;
+    let mut y = b;
+    while y > 1 {
+        let rest = x % y;
+        x = y;
+        y = rest;
+    }
+    if y == 1 { 1 } else { x }
+}
+
+/// The quotient by a positive divisor, rounded towards 0.
+pub fn quotient(x: i128, divisor: i128) -> i128
+    requires { pos 0 <ℤ divisor }
+    ensures { result ≡ int_div x divisor }
+{
+    if is_word(x) && is_word(divisor) {
+        (x as i64 / divisor as i64) as i128
+    } else {
+        x / divisor
+    }
 }
 
 /// Compares `n1 / d1` with `n2 / d2`, whose divisors are positive, by repeated division and without products.
@@ -96,17 +163,23 @@ pub fn ratio_cmp(n1: i128, d1: i128, n2: i128, d2: i128) -> Ordering
     ratio_cmp(d2, s, d1, r)
 }
 
+#[cold]
+fn excess(op: Operation, left: i128, right: i128) -> Excess
+    ensures { result ≡ record { op = op; left = left; right = right } }
+{
+    Excess { op, left, right }
+}
+
 /// The product, or the excess that names it.
 pub fn product_of(left: i128, right: i128) -> Result<i128, Excess>
     ensures { MatchResult result
         (λ x. InRange (left *ℤ right) × (x ≡ left *ℤ right))
         (λ e. ¬ (InRange (left *ℤ right)) × (e ≡ record { op = Product; left = left; right = right })) }
 {
-    mul(left, right).ok_or(Excess {
-        op: Operation::Product,
-        left,
-        right,
-    })
+    match mul(left, right) {
+        Some(product) => Ok(product),
+        None => Err(excess(Operation::Product, left, right)),
+    }
 }
 
 /// The sum, or the excess that names it.
@@ -115,11 +188,10 @@ pub fn sum_of(left: i128, right: i128) -> Result<i128, Excess>
         (λ x. InRange (left +ℤ right) × (x ≡ left +ℤ right))
         (λ e. ¬ (InRange (left +ℤ right)) × (e ≡ record { op = Sum; left = left; right = right })) }
 {
-    add(left, right).ok_or(Excess {
-        op: Operation::Sum,
-        left,
-        right,
-    })
+    match add(left, right) {
+        Some(sum) => Ok(sum),
+        None => Err(excess(Operation::Sum, left, right)),
+    }
 }
 
 /// The number times -1.

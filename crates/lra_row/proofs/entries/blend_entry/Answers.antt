@@ -1,31 +1,27 @@
 -- Goals of `blend_entry`: a u + b v in one column.
-use Rattle.std.proofs.Common.{rules, FitsSigned, ◌∙◌, ap, Err}
+use Rattle.std.proofs.Common.{rules, FitsSigned}
 use Rattle.std.specs.Int.{w128}
 use Rattle.std.proofs.lemmas.Int.{to_z-of_z}
-use Rattle.std.proofs.lemmas.Result.{err_from_is_err_and}
-use Rattle.lra_row.proofs.CheckedRows.{second_passes, entry_summed}
+use Rattle.lra_row.proofs.Words.{sum_fits, entry_words}
 use Rattle.lra_row.proofs.entries.blend_entry.Goals as goal
 
-pub returns-in_err-right : goal.returns-in_err-right
-returns-in_err-right c =
-    let fa = c.ranges.a in
-    let fb = c.ranges.b in
-    let fu = c.ranges.u in
-    let fv = c.ranges.v in
-    let p = simp to_z-of_z at c.in_ok-left.ensures in
-    let q = simp to_z-of_z at c.in_err-right.ensures in
-    let r = err_from_is_err_and c.from_residual-in_err-right.result c.from_residual-in_err-right.ensures.1 in
-    r.1 ∙ ap Err r.2 ∙ second_passes c.args.a c.args.b c.args.u c.args.v _ _ p q
+pub overflow_add-result : goal.overflow_add-result
+overflow_add-result c =
+    let fp : FitsSigned w128 c.multiply_words-left.result = search rules in
+    let fq : FitsSigned w128 c.multiply_words.result = search rules in
+    let room = simp to_z-of_z at c.has_room.ensures in
+    simp to_z-of_z (sum_fits c.multiply_words-left.result c.multiply_words.result (room c.if-has_room.true) c.multiply_words.ensures.bounds)
 
-pub returns : goal.returns
-returns c =
+pub returns-then-has_room : goal.returns-then-has_room
+returns-then-has_room c =
     let fa = c.ranges.a in
     let fb = c.ranges.b in
     let fu = c.ranges.u in
     let fv = c.ranges.v in
-    let fl : FitsSigned w128 c.in_ok-left.left = search rules in
-    let fr : FitsSigned w128 c.in_ok-right.right = search rules in
-    let p = simp to_z-of_z at c.in_ok-left.ensures in
-    let q = simp to_z-of_z at c.in_ok-right.ensures in
-    let s = simp to_z-of_z at c.sum_of.ensures in
-    entry_summed c.args.a c.args.b c.args.u c.args.v _ _ _ p q s
+    let fp : FitsSigned w128 c.multiply_words-left.result = search rules in
+    let fq : FitsSigned w128 c.multiply_words.result = search rules in
+    let room = simp to_z-of_z at c.has_room.ensures in
+    let left = simp to_z-of_z at c.multiply_words-left.ensures.product in
+    let right = simp to_z-of_z at c.multiply_words.ensures.product in
+    let fs = sum_fits c.multiply_words-left.result c.multiply_words.result (room c.if-has_room.true) c.multiply_words.ensures.bounds in
+    simp to_z-of_z (entry_words c.args.a c.args.b c.args.u c.args.v _ _ left right c.multiply_words-left.ensures.bounds c.multiply_words.ensures.bounds (room c.if-has_room.true))

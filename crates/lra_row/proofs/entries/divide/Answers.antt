@@ -1,7 +1,7 @@
 -- Goals of `divide`: divides each entry, all of which the positive divisor divides.
 use Rattle.std.proofs.Common.{rules, arith, FitsSigned, get_or, pos, ap, ◌∙◌, int_div, set}
 use Rattle.std.specs.Int.{w128}
-use Rattle.std.proofs.lemmas.Int.{to_z-of_z, quot_is, quot_fits}
+use Rattle.std.proofs.lemmas.Int.{to_z-of_z}
 use Rattle.std.proofs.lemmas.List.{get_or_default}
 use Rattle.std.proofs.lemmas.List.Edits.{map_over_more}
 use Rattle.lra_row.proofs.entries.divide.Goals as goal
@@ -14,7 +14,8 @@ loop-x-preserved c =
     let d = c.args.divisor in
     let fx : FitsSigned w128 x = search rules in
     let fd = c.ranges.divisor in
-    let q = quot_is w128 x d fx fd (quot_fits w128 x d fx c.requires) in
+    let fq : FitsSigned w128 c.quotient.result = search rules in
+    let q = simp to_z-of_z at c.quotient.ensures in
     let j = simp to_z-of_z at c.loop-x.invariant in
     let more = map_over_more (λ y. int_div y d) c.args.xs.now xs i x c.loop-x-test.true j (get_or_default xs i (pos 0) x (omega arith)) in
-    ap (λ y. set xs i y) q ∙ simp to_z-of_z more
+    simp to_z-of_z (ap (λ y. set xs i y) q ∙ more)
