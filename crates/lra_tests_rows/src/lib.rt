@@ -12,3 +12,5 @@ mod lin;
 mod row;
 #[cfg(test)]
 mod sys;
+#[cfg(test)]
+mod words;
