@@ -4,4 +4,5 @@ pub mod Pairs
 pub mod Removal
 pub mod Widening
 pub mod CommonPlaces
+pub mod Turning
 pub mod WithinRows

@@ -2,3 +2,4 @@
 pub mod TruthValues
 pub mod Words
 pub mod Matrix
+pub mod Turned

@@ -5,10 +5,13 @@ ghost use Rattle.std.specs.List.{All};
 ghost use Rattle.std.specs.Prelude.{ℕ, ◌↔◌, ◌+◌, ◌*◌};
 ghost use Rattle.std.specs.Int.{bit_at};
 ghost use Rattle.lra_bits.specs.Matrix.{Matrix, unmarked, IsCommon, TellsCommon, TellsWithin};
+ghost use Rattle.std.specs.Prelude.{Bool, false, replicate, IsTrue};
+ghost use Rattle.lra_bits.specs.TruthValues.{value_at};
+ghost use Rattle.lra_bits.specs.Turned.{AreColumns, AreWider, IsMarked, is_in_word};
 ghost use Rattle.lra_bits.specs.Words.{words_needed};
 
 use crate::bit_row::BitRow;
-use crate::words::{WORD, are_common_within_from, count_apart, without};
+use crate::words::{WORD, are_common_within_from, clear, count_apart, without};
 use std::alloc::{AllocError, Global};
 use std::marker::Model;
 
@@ -116,6 +119,20 @@ impl SatMatrix {
         None
     }
 
+    /// The matrix with rows and columns exchanged. It takes as many steps as there are values that are true.
+    pub fn turned(&self, alloc: Global) -> Result<SatMatrix, AllocError>
+        ensures { IfOk result (λ columns. AreColumns self.now self.now.width columns) }
+    {
+        let mut columns = blank_rows(alloc, self.width, self.rows.len())?;
+        for k in 0..self.rows.len() {
+            set_places(columns.as_mut_slice(), &self.rows[k], k);
+        }
+        Ok(SatMatrix {
+            width: self.rows.len(),
+            rows: columns,
+        })
+    }
+
     // The word at `at` with the bits that are set in each of these rows that is marked.
     fn common_word(&self, rows: &[usize], marked: &BitRow, at: usize) -> u64
         requires rows { All (λ r. r < length self.now.rows) rows.now }
@@ -167,4 +184,42 @@ fn copies(alloc: Global, rows: &[BitRow]) -> Result<Vec<BitRow>, AllocError>
         copied.push(row.copy()?)?;
     }
     Ok(copied)
+}
+
+// So many rows of so many values, all false.
+fn blank_rows(alloc: Global, count: usize, width: usize) -> Result<Vec<BitRow>, AllocError>
+    ensures count { IfOk result (λ rows. length rows.items ≡ count) }
+    ensures blank { IfOk result (λ rows. All (λ row. row ≡ replicate width false) rows.items) }
+{
+    let mut rows = Vec::with_capacity(alloc, count)?;
+    for _ in 0..count {
+        rows.push(BitRow::new(alloc, width)?)?;
+    }
+    Ok(rows)
+}
+
+// Puts place `k` in the rows at the places of the bits of the word at `at`.
+fn set_word(columns: &mut [BitRow], word: u64, at: usize, k: usize)
+    requires wide { AreWider k columns.old }
+    requires inside { (c : ℕ) → IsTrue (is_in_word word at c) → c < length columns.old }
+    ensures { IsMarked columns.old columns.new k (is_in_word word at) }
+{
+    let mut left = word;
+    while left != 0 {
+        let bit = left.trailing_zeros() as usize;
+        columns[at * WORD + bit].set(k, true);
+        left = clear(left, bit);
+    }
+}
+
+// Puts place `k` in the rows at the places where this row is true.
+fn set_places(columns: &mut [BitRow], row: &BitRow, k: usize)
+    requires wide { AreWider k columns.old }
+    requires width { length row.now ≡ length columns.old }
+    ensures { IsMarked columns.old columns.new k (value_at row.now) }
+{
+    let words = row.words();
+    for at in 0..words.len() {
+        set_word(columns, words[at], at, k);
+    }
 }

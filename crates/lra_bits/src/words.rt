@@ -56,6 +56,16 @@ pub fn without(word: u64, at: usize, place: usize) -> u64
     }
 }
 
+/// The word without this bit.
+pub fn clear(word: u64, bit: usize) -> u64
+    requires { bit < 64 }
+    ensures cleared { bit_at result bit ≡ 0 }
+    ensures others { (j : ℕ) → j < 64 → j ≢ bit → bit_at result j ≡ bit_at word j }
+    ensures smaller { bit_at word bit ≡ 1 → result < word }
+{
+    word & !(1u64 << bit)
+}
+
 /// How many words at the front have no bit in common.
 pub fn count_apart(xs: &[u64], ys: &[u64]) -> usize
     requires { length xs.now ≡ length ys.now }
