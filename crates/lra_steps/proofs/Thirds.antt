@@ -9,7 +9,8 @@ use Rattle.lra_bits.specs.TruthValues.{value_at, both, IsSubset}
 use Rattle.lra_bits.proofs.Pairs.{both_value}
 use Rattle.lra_steps.specs.Pairs.{both_tight}
 use Rattle.lra_steps.specs.Steps.{IsFilled}
-use Rattle.lra_steps.specs.Thirds.{AreColumns, ArePlaces, TellsThird}
+use Rattle.lra_bits.specs.Turned.{AreColumns}
+use Rattle.lra_steps.specs.Thirds.{ArePlaces, TellsThird}
 
 false_not : {b : Bool} → b ≡ false → b ≡ true → ⊥
 false_not f t = never (sym f ∙ t)
@@ -25,7 +26,7 @@ at_last : {X : Type 0} (xs : List X) (x d : X) (i : ℕ) → i ≡ length xs →
 at_last [] x d i e = ap (λ j. get_or (x ∷ []) j d) e
 at_last (y ∷ xs) x d i e = ap (λ j. get_or (y ∷ (xs ++ x ∷ [])) j d) e ∙ at_last xs x d (length xs) refl
 
--- ---- a column
+-- ---- a value that stays false
 pub filled_skip : (f : ℕ → Bool) (n k : ℕ) (values : List Bool) (b : Bool) → b ≡ f k → b ≡ false → IsFilled f n k values → IsFilled f n (k + 1) values
 filled_skip f n k values b e z h = (
   h.0,
@@ -37,37 +38,6 @@ filled_skip f n k values b e z h = (
   ],
   λ j l. h.2 j (omega (arith, l)),
 )
-
-pub columns_start : (m columns : Matrix) (n : ℕ) → n ≡ length m.rows → columns ≡ record { width = n; rows = [] } → AreColumns m 0 columns
-columns_start m columns n w e = record {
-  width = ap (λ (x : Matrix). x.width) e ∙ w;
-  height = ap (λ (x : Matrix). length x.rows) e;
-  each = λ c k l. absurd (omega (arith, l));
-}
-
-pub columns_more : (m old new : Matrix) (n : ℕ) (values : List Bool) → IsFilled (λ k. value_at (get_or m.rows k []) n) (length m.rows) (length m.rows) values →
-    new ≡ record old { rows = old.rows ++ values ∷ [] } → AreColumns m n old → AreColumns m (n + 1) new
-columns_more m old new n values f e a =
-    let rows : new.rows ≡ old.rows ++ values ∷ [] = ap (λ (x : Matrix). x.rows) e in
-    record {
-      width = ap (λ (x : Matrix). x.width) e ∙ a.width;
-      height = ap (λ (x : List (List Bool)). length x) rows ∙ length-append old.rows (values ∷ []) ∙ ap (λ x. x + 1) a.height;
-      each = λ c k l. ap (λ (x : List (List Bool)). value_at (get_or x c []) k) rows ∙ elim (cases_lt c n) [
-        | inl b ↦ ap (λ (x : List Bool). value_at x k) (at_left old.rows values [] c (omega (arith, b, a.height))) ∙ a.each c k b
-        | inr g ↦
-            let q : c ≡ n = omega (arith, g, l) in
-            ap (λ (x : List Bool). value_at x k) (at_last old.rows values [] c (omega (arith, q, a.height))) ∙ filled_at k ∙ ap (value_at (get_or m.rows k [])) (sym q)
-      ];
-    }
-  where
-    filled_at : (k : ℕ) → value_at values k ≡ value_at (get_or m.rows k []) n
-    filled_at k = elim (cases_lt k (length m.rows)) [
-      | inl b ↦ f.1 k b
-      | inr g ↦ f.2 k g ∙ sym (ap (λ (x : List Bool). value_at x n) (get_or_past m.rows k [] g))
-    ]
-
-pub columns_end : (m columns : Matrix) (n : ℕ) → AreColumns m n columns → AreColumns m (length columns.rows) columns
-columns_end m columns n a = subst (λ (x : ℕ). AreColumns m x columns) (sym a.height) a
 
 -- ---- places
 pub places_start : (values : List Bool) (places : List ℕ) → places ≡ [] → ArePlaces values 0 places

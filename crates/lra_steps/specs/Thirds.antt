@@ -1,16 +1,8 @@
 -- Third rays, found by the columns of the matrix of the rows that are tight at the rays.
-use Rattle.std.specs.Prelude.{◌≡◌, ℕ, ◌<◌, Bool, true, List, [], length, Option, Some, None, slice_index_or}
+use Rattle.std.specs.Prelude.{◌≡◌, ℕ, ◌<◌, Bool, true, List, length, Option, Some, None, slice_index_or}
 use Rattle.std.specs.List.{All}
-use Rattle.lra_bits.specs.Matrix.{Matrix}
 use Rattle.lra_bits.specs.TruthValues.{value_at}
 use Rattle.lra_steps.specs.Pairs.{HasThird, NoThird}
-
--- the first n columns of a matrix are the rows of another
-pub record AreColumns (m : Matrix) (n : ℕ) (columns : Matrix) : Type 0 where
-  pub width : columns.width ≡ length m.rows
-  pub height : length columns.rows ≡ n
-  pub each : (c k : ℕ) → c < n →
-      value_at (slice_index_or columns.rows c []) k ≡ value_at (slice_index_or m.rows k []) c
 
 -- of the first n places those with a value that is true
 pub record ArePlaces (values : List Bool) (n : ℕ) (places : List ℕ) : Type 0 where

@@ -1,27 +1,11 @@
 //! The columns of the matrix, for steps with many pairs of rays.
 
-ghost use Rattle.std.specs.Prelude.{◌<◌, ◌≤◌, [], length, IfOk, slice_index_or};
-ghost use Rattle.lra_bits.specs.TruthValues.{value_at};
-ghost use Rattle.lra_steps.specs.Steps.{IsFilled};
-ghost use Rattle.lra_steps.specs.Thirds.{AreColumns, ArePlaces};
+ghost use Rattle.std.specs.Prelude.{◌≤◌, length, IfOk};
+ghost use Rattle.lra_bits.specs.Turned.{AreColumns};
+ghost use Rattle.lra_steps.specs.Thirds.{ArePlaces};
 
 use lra_bits::{BitRow, SatMatrix};
 use std::alloc::{AllocError, Global};
-
-// The values of the rows at the place.
-fn column(alloc: Global, matrix: &SatMatrix, place: usize) -> Result<BitRow, AllocError>
-    requires { place < matrix.now.width }
-    ensures { IfOk result (IsFilled (λ k. value_at (slice_index_or matrix.now.rows k []) place)
-        (length matrix.now.rows) (length matrix.now.rows)) }
-{
-    let mut values = BitRow::new(alloc, matrix.height())?;
-    for k in 0..matrix.height() {
-        if matrix.row(k).get(place) {
-            values.set(k, true);
-        }
-    }
-    Ok(values)
-}
 
 /// The columns, or none: they are made where there are more pairs of rays on both sides than rows, as they cost more
 /// than few pairs.
@@ -34,18 +18,12 @@ pub fn find_columns(
     ensures columns { IfOk result (λ columns. AreColumns matrix.now (length columns.rows) columns) }
     ensures most { IfOk result (λ columns. length columns.rows ≤ matrix.now.width) }
 {
-    let mut columns = SatMatrix::new(alloc, matrix.height());
-    let width = matrix.width();
-    let count = if above > 0 && below > width / above {
-        width
+    if above > 0 && below > matrix.width() / above {
+        let columns = matrix.turned(alloc)?;
+        Ok(columns)
     } else {
-        0
-    };
-    for place in 0..count {
-        let values = column(alloc, matrix, place)?;
-        columns.add_row(values)?;
+        Ok(SatMatrix::new(alloc, matrix.height()))
     }
-    Ok(columns)
 }
 
 /// Of the first so many places those with a value that is true.

@@ -6,7 +6,8 @@ ghost use Rattle.std.specs.List.{All};
 ghost use Rattle.lra_bits.specs.TruthValues.{IsSubset};
 ghost use Rattle.lra_steps.specs.Pairs.{TellsAdjacent, HasThird, ArePairs, both_tight};
 ghost use Rattle.lra_steps.specs.Below.{AreBelow};
-ghost use Rattle.lra_steps.specs.Thirds.{AreColumns, ArePlaces, TellsThird};
+ghost use Rattle.lra_bits.specs.Turned.{AreColumns};
+ghost use Rattle.lra_steps.specs.Thirds.{ArePlaces, TellsThird};
 
 use crate::columns::{find_columns, true_places};
 use crate::sides::{count_above, places_below};
