@@ -5,7 +5,7 @@ ghost use Rattle.std.specs.Prelude.{◌≡◌, ◌+◌, length, IfOk, OnOk};
 use lra_bits::{BitRow, SatMatrix};
 use std::alloc::{AllocError, Global};
 
-const WIDTHS: [usize; 6] = [0, 1, 63, 64, 65, 4096];
+const WIDTHS: [usize; 8] = [0, 1, 63, 64, 65, 128, 129, 4096];
 
 // True at each place that `step` divides.
 fn row_of(alloc: Global, width: usize, step: usize) -> Result<BitRow, AllocError>
@@ -102,6 +102,34 @@ fn keeps_second(alloc: Global, width: usize) -> Result<bool, AllocError> {
     Ok(matrix.height() == 1 && sixth.subset(matrix.row(0)))
 }
 
+// Whether the rows are true at 0, 1 and 2 where their places are multiples of 2, of 3 and of 6.
+fn are_columns(columns: &SatMatrix) -> bool
+    requires { columns.now.width ≡ 3 }
+{
+    for c in 0..columns.height() {
+        let row = columns.row(c);
+        let values = [row.get(0), row.get(1), row.get(2)];
+        if values
+            != [
+                c.is_multiple_of(2),
+                c.is_multiple_of(3),
+                c.is_multiple_of(6),
+            ]
+        {
+            return false;
+        }
+    }
+    true
+}
+
+// Whether the multiples turned are their columns, and turned once more as they were.
+fn turns(alloc: Global, width: usize) -> Result<bool, AllocError> {
+    let columns = multiples(alloc, width)?.turned(alloc)?;
+    let again = columns.turned(alloc)?;
+    let turned = columns.width() == 3 && columns.height() == width && are_columns(&columns);
+    Ok(turned && again.height() == 3 && is_sixth(again.row(2), width))
+}
+
 #[test]
 fn rows_lie_in_others(rt: HostRuntime) {
     for width in WIDTHS {
@@ -115,5 +143,12 @@ fn rows_are_met_and_removed(rt: HostRuntime) {
     for width in WIDTHS {
         assert!(rt; has_common(rt.alloc(), width) == Ok(true), "{width}");
         assert!(rt; keeps_second(rt.alloc(), width) == Ok(true), "{width}");
+    }
+}
+
+#[test]
+fn matrices_are_turned(rt: HostRuntime) {
+    for width in WIDTHS {
+        assert!(rt; turns(rt.alloc(), width) == Ok(true), "{width}");
     }
 }
