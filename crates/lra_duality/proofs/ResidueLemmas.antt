@@ -1,10 +1,10 @@
 -- Division of a sum of products by a modulus, column by column.
 use Rattle.std.proofs.Common.{Bool, List, [], add-one, ap, arith, false, get_or, length, nat_eq, neg_ℤ, negsuc, of_z, pos, refl, subst, suc, sym, take, to_z, unsigned_abs, zero, FitsSigned, ℕ, ℤ}
-use Rattle.std.proofs.Common.{◌*ℤ◌, ◌*◌, ◌+ℤ◌, ◌+◌, ◌<ℤ◌, ◌<◌, ◌∙◌, ◌∷◌, ◌≡◌, ◌≤ℤ◌, ◌≤◌, ◌^◌}
+use Rattle.std.proofs.Common.{◌%◌, ◌*ℤ◌, ◌*◌, ◌+ℤ◌, ◌+◌, ◌<ℤ◌, ◌<◌, ◌∙◌, ◌∷◌, ◌≡◌, ◌≤ℤ◌, ◌≤◌, ◌^◌}
 use Rattle.std.specs.Prelude.{◌↔◌, IsTrue}
 use Rattle.std.proofs.Math.Dec.{eqb-suc-zero}
-use Rattle.std.proofs.Math.Nat.{mul-le-mul, mul-le-mul_right}
-use Rattle.std.proofs.lemmas.Int.{fits_signed_mul, ints, to_z-of_z, unsigned_abs-mul}
+use Rattle.std.proofs.Math.Nat.{add-mod-mod, mul-le-mul, mul-le-mul_right}
+use Rattle.std.proofs.lemmas.Int.{fits_signed_mul, int_rem_euclid_is, ints, to_z-of_z, unsigned_abs-mul}
 use Rattle.std.proofs.lemmas.List.{take_all}
 use Rattle.std.specs.List.{All}
 use Rattle.lra_linear.specs.Range.{InRange}
@@ -61,6 +61,12 @@ residue_more m s x y a b t xs ys i h l n ex ey r ea eb et =
 pub residue_end : (m s : ℤ) (xs ys : List ℤ) (i : ℕ) → length xs ≤ i → length xs ≡ length ys → IsResidue m (product (take i xs) (take i ys)) s → IsResidue m (product xs ys) s
 residue_end m s xs ys i h n r =
     subst (λ (l : List ℤ). IsResidue m (product xs l) s) (take_all i ys (omega (arith, h, n))) (subst (λ (l : List ℤ). IsResidue m (product l (take i ys)) s) (take_all i xs h) r)
+
+-- ---- as words: a product and a sum that wrap
+pub wrapped : (s a b : ℕ) → pos ((s + (a * b) % 2 ^ 64) % 2 ^ 64) ≡ int_rem_euclid (pos s +ℤ (pos a *ℤ pos b)) (pos (2 ^ 64))
+wrapped s a b =
+    ap pos (add-mod-mod s (a * b) (2 ^ 64)) ∙
+    sym (int_rem_euclid_is (pos s +ℤ (pos a *ℤ pos b)) (pos (2 ^ 64)) (2 ^ 64) 0 (s + a * b) (omega arith) refl (omega (arith, ints)))
 
 -- ---- numbers below 2 ^ 63
 below_size : (z m : ℤ) → pos 0 ≤ℤ z → z <ℤ m → m <ℤ pos (2 ^ 63) → unsigned_abs z ≤ 2 ^ 63

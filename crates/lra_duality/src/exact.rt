@@ -2,6 +2,7 @@
 
 ghost use Rattle.std.specs.Prelude.{◌≡◌, ◌↔◌, pos, ◌<ℤ◌, ◌≤ℤ◌, ◌^◌, IsTrue, length};
 ghost use Rattle.std.specs.List.{All};
+ghost use Rattle.std.specs.Int.{int_rem_euclid};
 ghost use Rattle.std.specs.Ordering.{int_eq};
 ghost use Rattle.lra_linear.specs.Range.{InRange};
 ghost use Rattle.lra_linear.specs.Vectors.{product};
@@ -68,11 +69,35 @@ fn vanishes(xs: &[i128], ys: &[i128]) -> bool
     divides(FIFTH, xs, ys)
 }
 
-/// Whether the product of the row with the generator is 0.
+// The number modulo 2 ^ 64.
+#[inline(always)]
+fn low_word(x: i128) -> u64
+    ensures { pos result ≡ int_rem_euclid x (pos (2 ^ 64)) }
+{
+    (x.cast_unsigned() & u64::MAX as u128) as u64
+}
+
+// The product of two rows modulo 2 ^ 64.
+fn low_product(xs: &[i128], ys: &[i128]) -> u64
+    requires { length xs.now ≡ length ys.now }
+    ensures { IsResidue (pos (2 ^ 64)) (product xs.now ys.now) (pos result) }
+{
+    let mut sum = 0u64;
+    for place in 0..xs.len() {
+        let (a, b) = (low_word(xs[place]), low_word(ys[place]));
+        sum = sum.wrapping_add(a.wrapping_mul(b));
+    }
+    sum
+}
+
+/// Whether the product of the row with the generator is 0: it isn't where its lowest 64 bits aren't.
 pub fn saturates(row: &Row, generator: &Row) -> bool
     requires { length row.now ≡ length generator.now }
     ensures { result ≡ int_eq (product row.now generator.now) (pos 0) }
 {
+    if low_product(row.entries(), generator.entries()) != 0 {
+        return false;
+    }
     match row.dot(generator) {
         Ok(product) => product == 0,
         Err(_) => vanishes(row.entries(), generator.entries()),

@@ -18,7 +18,9 @@ pub fn mark_saturated(alloc: Global, row: &Row, list: &GenSys) -> Result<BitRow,
     let (rows, _kinds) = (list.rows(), list.kinds());
     let mut bits = BitRow::new(alloc, rows.len())?;
     for place in 0..rows.len() {
-        bits.set(place, saturates(row, &rows[place]));
+        if saturates(row, &rows[place]) {
+            bits.set(place, true);
+        }
     }
     Ok(bits)
 }

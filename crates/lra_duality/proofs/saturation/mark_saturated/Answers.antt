@@ -1,8 +1,28 @@
 -- Goals of `mark_saturated`: for each of the generators, whether the row has product 0 with it.
-use Rattle.std.proofs.Common.{arith}
+use Rattle.std.proofs.Common.{ap, arith, get_or, length, pos, sym, true, List, ℤ, [], ◌∙◌, ◌≡◌}
+use Rattle.std.specs.Ordering.{int_eq}
+use Rattle.std.proofs.lemmas.List.{get_or_default}
 use Rattle.lra_linear.specs.Kinds.{is_line}
+use Rattle.lra_linear.specs.Vectors.{product}
+use Rattle.lra_steps.proofs.Filling.{filled_more}
+use Rattle.lra_steps.proofs.Thirds.{filled_skip}
 use Rattle.lra_duality.proofs.SaturationLemmas.{filled_saturated}
 use Rattle.lra_duality.proofs.saturation.mark_saturated.Goals as goal
+use Rattle.lra_duality.proofs.saturation.mark_saturated.Goals.{then-saturates, else-saturates}
+
+pub loop-place-preserved : goal.loop-place-preserved
+loop-place-preserved c =
+    let row = c.args.row.now in
+    let rows = c.rows-rows.result.now in
+    let k = c.loop-place.place in
+    let at : c.index-rows-place.result ≡ get_or rows k [] = c.index-rows-place.is ∙ get_or_default rows k c.index-rows-place.result [] c.loop-place-test.true in
+    let is : c.saturates.result ≡ int_eq (product row (get_or rows k [])) (pos 0) = c.saturates.ensures ∙ ap (λ (y : List ℤ). int_eq (product row y) (pos 0)) at in
+    elim c.if-saturates.branch [
+      | then-saturates w ↦ rw (w.bits-is) (filled_more (λ j. int_eq (product row (get_or rows j [])) (pos 0)) (length rows) k c.loop-place.bits w.set.new.self true
+          (c.loop-place-test.true) (sym w.if-saturates.true ∙ is) w.set.ensures c.loop-place.invariant)
+      | else-saturates w ↦ rw (w.bits-is) (filled_skip (λ j. int_eq (product row (get_or rows j [])) (pos 0)) (length rows) k c.loop-place.bits c.saturates.result is
+          w.if-saturates.false c.loop-place.invariant)
+    ]
 
 pub returns : goal.returns
 returns c = filled_saturated is_line c.args.list.now c.rows-rows.result.now c.kinds-kinds.result.now c.args.row.now c.loop-place.bits c.loop-place.place c.rows-rows.ensures.rows
