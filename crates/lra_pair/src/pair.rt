@@ -92,6 +92,23 @@ impl Pair {
     {
         &self.by_generators
     }
+
+    /// Both lists, handed on: the constraints and the generators.
+    pub fn into_lists(self) -> (ConSys, GenSys)
+        ensures dims { result.0.dims ≡ self.dims }
+        ensures rows { constraints result.0 ≡ self.rows }
+        ensures generator_dims { result.1.dims ≡ self.dims }
+        ensures generators { generators result.1 ≡ self.generators }
+        ensures kinds { FitKinds result.1.rows result.1.kinds }
+        ensures canonical { IsPolyhedron self }
+        ensures limit { KeepsLimit self }
+    {
+        let Pair {
+            rows,
+            by_generators,
+        } = self;
+        (rows, by_generators)
+    }
 }
 
 // The polyhedron without a point.
