@@ -80,15 +80,16 @@ impl Model for Poly {
 }
 
 // The polyhedron of the pair.
-fn of_pair(alloc: Global, pair: &Pair) -> Result<Poly, AllocError>
-    ensures { IfOk result (λ p. p ≡ pair.now) }
+fn of_pair(alloc: Global, pair: Pair) -> Result<Poly, AllocError>
+    ensures { IfOk result (λ p. p ≡ pair) }
 {
-    let (rows, by_generators) = (pair.rows(), pair.generators());
+    let (rows, by_generators) = pair.into_lists();
+    let saturation = saturation_matrix(alloc, &rows, &by_generators)?;
     Ok(Poly {
         alloc,
-        rows: rows.copy()?,
-        by_generators: by_generators.copy()?,
-        saturation: saturation_matrix(alloc, rows, by_generators)?,
+        rows,
+        by_generators,
+        saturation,
     })
 }
 
@@ -107,7 +108,7 @@ fn of_cone(alloc: Global, cone: Cone, more: &ConSys) -> Result<(Poly, Outcome), 
     ensures tried { IfOk result (λ r. IsTried more.now.dims cone.taken (constraints more.now) r.0 r.1) }
 {
     let (pair, losses) = lra_pair::from_cone(alloc, cone, more)?;
-    let made = of_pair(alloc, &pair)?;
+    let made = of_pair(alloc, pair)?;
     Ok((made, outcome_of(losses)))
 }
 
@@ -125,7 +126,7 @@ fn of_facets(alloc: Global, cone: Cone, more: &GenSys) -> Result<Option<Poly>, A
 {
     match lra_pair::with_generators(alloc, cone, more)? {
         Some(pair) => {
-            let made = of_pair(alloc, &pair)?;
+            let made = of_pair(alloc, pair)?;
             Ok(Some(made))
         }
         None => Ok(None),
@@ -139,7 +140,7 @@ impl Poly {
         ensures { IfOk result (IsPolyhedronOf n (Con [])) }
     {
         let pair = lra_pair::universe(alloc, n)?;
-        let all = of_pair(alloc, &pair)?;
+        let all = of_pair(alloc, pair)?;
         Ok(all)
     }
 
@@ -174,7 +175,7 @@ impl Poly {
             IsTried rows.now.dims (with_positivity rows.now.dims []) (constraints rows.now) r.0 r.1) }
     {
         let (pair, losses) = lra_pair::from_rows(alloc, rows)?;
-        let made = of_pair(alloc, &pair)?;
+        let made = of_pair(alloc, pair)?;
         Ok((made, outcome_of(losses)))
     }
 
@@ -192,7 +193,7 @@ impl Poly {
             IfFlagged (λ _. AreTriedPoints given.now.dims (generators given.now) r.0 r.1) r.1) }
     {
         let (pair, losses) = lra_pair::from_generators(alloc, given)?;
-        let made = of_pair(alloc, &pair)?;
+        let made = of_pair(alloc, pair)?;
         Ok((made, outcome_of(losses)))
     }
 
