@@ -192,15 +192,6 @@ union_in_gen p q h k e x i (inr c) =
     (λ t m. generated_row (system_of (p.generators ++ q.generators)) t (system_append_in p.generators q.generators t (inr m)))
     (gen_generated q.generators (entry x) ((con_gen q k).0 x (subst (λ (n : ℕ). IsPoint n x) (sym e) i) c)))
 
--- where the one has a point, so has the hull
-pub some_united : (p q : Polyhedron) → IsPolyhedron p → IsPolyhedron q → q.dims ≡ p.dims → p.generators ≢ [] → ¬ (IsEmptySet p.dims (Gen (p.generators ++ q.generators)))
-some_united p q (inl none) k e some empty = some none.1
-some_united p q (inr h) k e some empty =
-    let v = has_vertex p h in
-    let is_point : IsPoint p.dims v.vertex = record { width = v.widths v.vertex v.has; divisor = v.divisor } in
-    empty v.vertex is_point (union_in_gen p q (inr h) k e v.vertex is_point
-    (inl ((con_gen p (inr h)).1 v.vertex is_point (generated_gen p.generators (entry v.vertex) (generated_row (system_of p.generators) v.vertex v.has)))))
-
 -- constraints that hold at each point of a set hold on its hull
 pub hull_holds : (n : ℕ) (P : PointSet) (rows : List Given) → ((c : List ℤ) → Contains (system_of rows) c → length c ≡ suc n) → IsWithin n P (Con rows) → IsWithin n (Hull n P) (Con rows)
 hull_holds n P rows widths h x i hull = solves_con rows x (λ c k. hull c (widths c k) (λ y j s. con_solves rows y (h y j s) c k))
@@ -248,9 +239,16 @@ hull_strain p q list o h k e el = if_flagged (FromGeneratorsStrains p.dims list)
     (λ loss s. taken_strain p q loss h k e (subst (λ (l : List Given). FromGeneratorsStrains p.dims l loss) el s))
 
 -- ---- generators taken in after those of a polyhedron that has a point
-pub some_grown : (p q : Polyhedron) (n : ℕ) (taken listed more : List Given) → IsPolyhedron p → IsPolyhedron q → q.dims ≡ p.dims → n ≡ q.dims → taken ≡ listed → listed ≡ p.generators →
-    more ≡ q.generators → listed ≢ [] → ¬ (IsEmptySet n (Gen (taken ++ more)))
-some_grown p q n taken listed more h k e en et el em some =
-    subst (λ (m : ℕ). ¬ (IsEmptySet m (Gen (taken ++ more)))) (sym (en ∙ e))
-    (subst (λ (l : List Given). ¬ (IsEmptySet p.dims (Gen (l ++ more)))) (sym (et ∙ el))
-    (subst (λ (l : List Given). ¬ (IsEmptySet p.dims (Gen (p.generators ++ l)))) (sym em) (some_united p q h k e (λ none. some (el ∙ none)))))
+-- which stays among theirs
+some_beside : (p : Polyhedron) (more : List Given) → IsPolyhedron p → p.generators ≢ [] → ¬ (IsEmptySet p.dims (Gen (p.generators ++ more)))
+some_beside p more (inl none) some empty = some none.1
+some_beside p more (inr h) some empty =
+    let v = has_vertex p h in
+    empty v.vertex (record { width = v.widths v.vertex v.has; divisor = v.divisor }) (generated_gen (p.generators ++ more) (entry v.vertex)
+    (generated_row (system_of (p.generators ++ more)) v.vertex (system_append_in p.generators more v.vertex (inl v.has))))
+
+pub some_more : (p : Polyhedron) (n : ℕ) (taken listed more : List Given) → IsPolyhedron p → n ≡ p.dims → taken ≡ listed → listed ≡ p.generators → listed ≢ [] →
+    ¬ (IsEmptySet n (Gen (taken ++ more)))
+some_more p n taken listed more h en et el some =
+    subst (λ (m : ℕ). ¬ (IsEmptySet m (Gen (taken ++ more)))) (sym en)
+    (subst (λ (l : List Given). ¬ (IsEmptySet p.dims (Gen (l ++ more)))) (sym (et ∙ el)) (some_beside p more h (λ none. some (el ∙ none))))

@@ -11,7 +11,7 @@ use Rattle.lra_pair.specs.TriedRows.{StrainsWhenTried}
 use Rattle.lra_poly.specs.declared.outcome.Outcome.{Outcome}
 use Rattle.lra_poly.specs.declared.outcome.Outcome.TheVariants.{Exact, Flagged}
 use Rattle.lra_poly.specs.Outcomes.{IfFlagged, first_loss}
-use Rattle.lra_poly.specs.United.{AreTriedPoints, StopsOnward, UnitesAnew}
+use Rattle.lra_poly.specs.United.{AreTriedPoints, StopsBehind, StopsOnward, UnitesAnew}
 
 some_told : (l : Loss) (losses : List Loss) → l ∷ losses ≢ []
 some_told l losses e = cc
@@ -28,13 +28,11 @@ tried_points n given made pair o losses em e h = subst (λ (x : Outcome). IfFlag
       of = subst (λ (p : Polyhedron). IsOfPoints n given p (l ∷ later)) (sym em) (h (some_told l later));
     }
 
-pub no_cone : (p q view : Polyhedron) → view ≡ p → ¬ (MayTurn view.dims view.rows view.generators) → StopsOnward p q
-no_cone p q view e fails = inl (subst (λ (x : Polyhedron). ¬ (MayTurn x.dims x.rows x.generators)) e fails)
+pub no_cone : (p view : Polyhedron) (more : List Given) → view ≡ p → ¬ (MayTurn view.dims view.rows view.generators) → StopsBehind p more
+no_cone p view more e fails = inl (subst (λ (x : Polyhedron). ¬ (MayTurn x.dims x.rows x.generators)) e fails)
 
-pub strains_behind : (p q : Polyhedron) (d : ℕ) (taken listed more : List Given) → d ≡ p.dims → taken ≡ listed → listed ≡ p.generators → more ≡ q.generators →
-    StrainsWhenTried d taken more → StopsOnward p q
-strains_behind p q d taken listed more ed et el em h = inr (subst (λ (n : ℕ). StrainsWhenTried n p.generators q.generators) ed
-    (subst (λ (l : List Given). StrainsWhenTried d l q.generators) (et ∙ el) (subst (StrainsWhenTried d taken) em h)))
+pub strains_behind : (p : Polyhedron) (d : ℕ) (taken listed more : List Given) → d ≡ p.dims → taken ≡ listed → listed ≡ p.generators → StrainsWhenTried d taken more → StopsBehind p more
+strains_behind p d taken listed more ed et el h = inr (subst (λ (n : ℕ). StrainsWhenTried n p.generators more) ed (subst (λ (l : List Given). StrainsWhenTried d l more) (et ∙ el) h))
 
 pub unites_anew : (p q made : Polyhedron) (o : Outcome) → StopsOnward p q → IfFlagged (λ _. AreTriedPoints p.dims (p.generators ++ q.generators) made o) o →
     IfFlagged (λ _. UnitesAnew p q made o) o

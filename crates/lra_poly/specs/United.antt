@@ -15,9 +15,13 @@ pub record AreTriedPoints (n : ℕ) (given : List Given) (made : Polyhedron) (o 
   pub told : o ≡ first_loss losses
   pub of : IsOfPoints n given made losses
 
--- the first's lists make no cone, or behind that the second's generators strain
+-- its lists make no cone, or behind that these generators strain
+abbrev pub StopsBehind : Polyhedron → List Given → Type 0
+StopsBehind p more = (¬ (MayTurn p.dims p.rows p.generators)) ⊎ StrainsWhenTried p.dims p.generators more
+
+-- the second's generators behind the first's lists
 abbrev pub StopsOnward : Polyhedron → Polyhedron → Type 0
-StopsOnward p q = (¬ (MayTurn p.dims p.rows p.generators)) ⊎ StrainsWhenTried p.dims p.generators q.generators
+StopsOnward p q = StopsBehind p q.generators
 
 -- only then the generators of both are converted from nothing, which alone is flagged
 pub record UnitesAnew (p q made : Polyhedron) (o : Outcome) : Type 0 where

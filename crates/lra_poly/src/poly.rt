@@ -19,7 +19,7 @@ ghost use Rattle.lra_duality.specs.Inclusions.{IsInclusion, TellsInclusion};
 ghost use Rattle.lra_duality.specs.Maxima.{IsMaximum, TellsMaximum, ValueInRange};
 ghost use Rattle.lra_poly.specs.Outcomes.{IfExact, IfFlagged};
 ghost use Rattle.lra_poly.specs.Narrowed.{IsMetWith, IsNarrowed, IsSeenWithin, IsTried};
-ghost use Rattle.lra_poly.specs.United.{AreTriedPoints, StopsOnward, UnitesAnew};
+ghost use Rattle.lra_poly.specs.United.{AreTriedPoints, StopsBehind, StopsOnward, UnitesAnew};
 ghost use Rattle.lra_poly.specs.declared.outcome.Outcome.TheVariants.{Exact};
 ghost use Rattle.lra_lin.specs.Form.{form_row};
 ghost use Rattle.lra_duality.specs.Rows.{test_row};
@@ -474,13 +474,15 @@ impl Poly {
         Ok(outcome)
     }
 
-    // The polyhedron of the generators of both, of which the other's are taken in after the first's, by the lists at
-    // hand; none where one of them isn't taken in, or there are no lists to go on from.
-    fn unite_onward(&self, other: &Poly) -> Result<Option<Poly>, AllocError>
-        requires { other.now.dims ≡ self.now.dims }
+    /// The polyhedron of its generators and of these, which are taken in after them, by the lists at hand. None where
+    /// one of these isn't taken in, or where a number passes in the canonical generators, or there are too many, or
+    /// there are no lists to go on from.
+    pub fn extend(&self, more: &GenSys) -> Result<Option<Poly>, AllocError>
+        requires dims { more.now.dims ≡ self.now.dims }
+        requires kinds { FitKinds more.now.rows more.now.kinds }
         ensures made { IfOk result (λ made. IfSome made
-            (IsPolyhedronOf self.now.dims (Gen (self.now.generators ++ other.now.generators)))) }
-        ensures none { IfOk result (λ made. IfNone made (StopsOnward self.now other.now)) }
+            (IsPolyhedronOf self.now.dims (Gen (self.now.generators ++ generators more.now)))) }
+        ensures none { IfOk result (λ made. IfNone made (StopsBehind self.now (generators more.now))) }
     {
         match facet_cone(
             self.alloc,
@@ -489,11 +491,23 @@ impl Poly {
             &self.saturation,
         )? {
             Some(cone) => {
-                let made = of_facets(self.alloc, cone, &other.by_generators)?;
+                let made = of_facets(self.alloc, cone, more)?;
                 Ok(made)
             }
             None => Ok(None),
         }
+    }
+
+    // The polyhedron of the generators of both, of which the other's are taken in after the first's, by the lists at
+    // hand; none where one of them isn't taken in, or there are no lists to go on from.
+    fn unite_onward(&self, other: &Poly) -> Result<Option<Poly>, AllocError>
+        requires { other.now.dims ≡ self.now.dims }
+        ensures made { IfOk result (λ made. IfSome made
+            (IsPolyhedronOf self.now.dims (Gen (self.now.generators ++ other.now.generators)))) }
+        ensures none { IfOk result (λ made. IfNone made (StopsOnward self.now other.now)) }
+    {
+        let made = self.extend(other.generators())?;
+        Ok(made)
     }
 
     // The same, converted from nothing. Where it is flagged it has at least their points.
