@@ -6,5 +6,5 @@ mod lists;
 mod moving;
 
 pub use forming::{Formed, assign_list, substitute_list};
-pub use lists::{embed_list, shorten, with_directions, with_line};
+pub use lists::{directions_of, embed_list, line_along, shorten, with_directions, with_line};
 pub use moving::{assign_canonically, substitute_canonically, take_back};

@@ -32,6 +32,22 @@ pub fn with_line(alloc: Global, list: &GenSys, x: usize) -> Result<GenSys, Alloc
     Ok(all)
 }
 
+/// A line along a dimension, alone.
+pub fn line_along(alloc: Global, n: usize, x: usize) -> Result<GenSys, AllocError>
+    requires { x < n }
+    ensures dims { IfOk result (λ all. all.dims ≡ n) }
+    ensures generators { IfOk result (λ all. generators all ≡ line (unit_row n (suc x)) ∷ []) }
+    ensures kinds { IfOk result (λ all. FitKinds all.rows all.kinds) }
+{
+    if n >= TOO_MANY_DIMENSIONS {
+        return Err(AllocError);
+    }
+    let mut all = GenSys::new(alloc, n);
+    let row = unit(alloc, n, x + 1)?;
+    all.push(row, GenKind::Line)?;
+    Ok(all)
+}
+
 // The first columns of the row.
 fn first_columns(alloc: Global, row: &Row, width: usize) -> Result<Row, AllocError>
     requires { width ≤ length row.now }
@@ -83,6 +99,25 @@ fn direction_kind(kind: GenKind) -> GenKind
     }
 }
 
+// The generators of the first, then those of the second as directions.
+fn push_directions(alloc: Global, first: GenSys, second: &GenSys) -> Result<GenSys, AllocError>
+    requires dims { second.now.dims ≡ first.dims }
+    requires kinds { FitKinds first.rows first.kinds }
+    ensures dims { IfOk result (λ all. all.dims ≡ first.dims) }
+    ensures generators { IfOk result (λ all. generators all ≡
+        generators first ++ as_directions (generators second.now)) }
+    ensures kinds { IfOk result (λ all. FitKinds all.rows all.kinds) }
+{
+    let mut all = first;
+    let _kinds = all.kinds();
+    let (rows, kinds) = (second.rows(), second.kinds());
+    for place in 0..rows.len() {
+        let row = direction(alloc, &rows[place])?;
+        all.push(row, direction_kind(kinds[place]))?;
+    }
+    Ok(all)
+}
+
 /// The generators of the first, then those of the second as directions.
 pub fn with_directions(alloc: Global, first: &GenSys, second: &GenSys) -> Result<GenSys, AllocError>
     requires dims { second.now.dims ≡ first.now.dims }
@@ -92,13 +127,22 @@ pub fn with_directions(alloc: Global, first: &GenSys, second: &GenSys) -> Result
         generators first.now ++ as_directions (generators second.now)) }
     ensures kinds { IfOk result (λ all. FitKinds all.rows all.kinds) }
 {
-    let _kinds = first.kinds();
-    let mut all = first.copy()?;
-    let (rows, kinds) = (second.rows(), second.kinds());
-    for place in 0..rows.len() {
-        let row = direction(alloc, &rows[place])?;
-        all.push(row, direction_kind(kinds[place]))?;
+    let base = first.copy()?;
+    let all = push_directions(alloc, base, second)?;
+    Ok(all)
+}
+
+/// The generators as directions.
+pub fn directions_of(alloc: Global, list: &GenSys) -> Result<GenSys, AllocError>
+    ensures dims { IfOk result (λ all. all.dims ≡ list.now.dims) }
+    ensures generators { IfOk result (λ all. generators all ≡ as_directions (generators list.now)) }
+    ensures kinds { IfOk result (λ all. FitKinds all.rows all.kinds) }
+{
+    let n = list.dims();
+    if n >= TOO_MANY_DIMENSIONS {
+        return Err(AllocError);
     }
+    let all = push_directions(alloc, GenSys::new(alloc, n), list)?;
     Ok(all)
 }
 

@@ -3,12 +3,12 @@ use Rattle.lra_linear.specs.OperationStrain.{as_directions}
 use Rattle.lra_linear.specs.Kinds.{is_line}
 use Rattle.lra_sys.specs.Listed.{FitKinds, generators}
 use Rattle.lra_sys.proofs.FirstMembers.{front}
-use Rattle.lra_lists.proofs.lists.with_directions.Given as goal
+use Rattle.lra_lists.proofs.lists.push_directions.Given as goal
 
 abbrev pub invariant-loop-place : goal.invariant-loop-place
 invariant-loop-place l = record {
-  dims : l.all.dims ≡ l.first.dims;
-  given : generators l.all ≡ generators l.first ++ as_directions (front is_line l.rows l.kinds l.place);
+  dims : l.all.dims ≡ l.fn.first.dims;
+  given : generators l.all ≡ generators l.fn.first ++ as_directions (front is_line l.rows l.kinds l.place);
   many : length l.all.rows ≡ length l.all.kinds;
   fit : FitKinds l.all.rows l.all.kinds;
 }

@@ -1,10 +1,10 @@
--- Goals of `with_directions`: the generators of the first, then those of the second as directions.
+-- Goals of `push_directions`: the generators of the first, then those of the second as directions.
 use Rattle.std.proofs.Common.{◌≡◌, ◌∙◌, ap, length, sym, ℤ, List}
 use Rattle.lra_linear.specs.Vectors.{entry}
 use Rattle.lra_sys.specs.Listed.{generators}
 use Rattle.lra_lists.proofs.ListLemmas.{direction_level}
 use Rattle.lra_lists.proofs.PushedLists.{direction_added, fit_more, many_more}
-use Rattle.lra_lists.proofs.lists.with_directions.Goals as goal
+use Rattle.lra_lists.proofs.lists.push_directions.Goals as goal
 
 pub loop-place-preserved : goal.loop-place-preserved
 loop-place-preserved c =
@@ -15,7 +15,7 @@ loop-place-preserved c =
     let n : length kinds ≡ length rows = c.kinds-kinds-2.ensures.len ∙ ap length (sym c.rows-rows.ensures.rows) in
     record {
       dims = c.in_ok-push.ensures.dims ∙ c.loop-place.invariant.dims;
-      given = direction_added (generators c.args.first.now) all more rows kinds c.loop-place.place
+      given = direction_added (generators c.args.first) all more rows kinds c.loop-place.place
           c.index-rows-place.result c.in_ok-row.row c.direction_kind.result c.loop-place.invariant.given
           c.loop-place.invariant.many c.in_ok-push.ensures.rows c.in_ok-push.ensures.kinds c.in_ok-row.ensures
           c.direction_kind.ensures.line n c.loop-place-test.true c.index-rows-place.is;
