@@ -304,6 +304,14 @@ elapse_exact p q r list o h k e el = if_exact (IsPolyhedronOf p.dims (Gen list) 
     (IsPolyhedronOf p.dims (TimeElapse p.dims (Con p.rows) (Con q.rows)) r) o
     (λ a. elapse_made p q r h k e (subst (λ (l : List Given). IsPolyhedronOf p.dims (Gen l) r) el a))
 
+-- where the directions are taken in from the lists at hand
+pub elapse_extended : (p q r : Polyhedron) (along second : List Given) → HasPoint p → HasPoint q → q.dims ≡ p.dims →
+    along ≡ as_directions second → second ≡ q.generators → IsPolyhedronOf p.dims (Gen (p.generators ++ along)) r →
+    IsPolyhedronOf p.dims (TimeElapse p.dims (Con p.rows) (Con q.rows)) r
+elapse_extended p q r along second h k e ea es is =
+    elapse_made p q r h k e
+    (subst (λ (l : List Given). IsPolyhedronOf p.dims (Gen (p.generators ++ l)) r) (ea ∙ ap as_directions es) is)
+
 taken_strain : (p q : Polyhedron) (loss : Loss) → HasPoint p → HasPoint q → q.dims ≡ p.dims →
     FromGeneratorsStrains p.dims (p.generators ++ as_directions q.generators) loss → TimeElapseStrains p q loss
 taken_strain p q loss h k e (inl a) = inl a

@@ -13,7 +13,7 @@ ghost use Rattle.lra_poly.specs.United.{AreTriedPoints};
 ghost use Rattle.lra_sys.specs.Dimensions.{too_many_dimensions};
 ghost use Rattle.lra_sys.specs.Listed.{generators, FitKinds};
 
-use lra_lists::{embed_list, shorten, with_directions};
+use lra_lists::{directions_of, embed_list, shorten, with_directions};
 use lra_poly::{Outcome, Poly};
 use lra_sys::GenSys;
 use std::alloc::AllocError;
@@ -73,8 +73,8 @@ pub fn embed(p: &mut Poly, k: usize) -> Result<Outcome, AllocError>
     Ok(outcome)
 }
 
-// The time-elapse of two that have a point each.
-fn elapse(p: &mut Poly, other: &Poly) -> Result<Outcome, AllocError>
+// The time-elapse of two that have a point each, where the generators are converted from nothing.
+fn elapse_anew(p: &mut Poly, other: &Poly) -> Result<Outcome, AllocError>
     requires dims { other.now.dims ≡ p.old.dims }
     requires first { ¬ (IsEmptySet p.old.dims (Con p.old.rows)) }
     requires second { ¬ (IsEmptySet other.now.dims (Con other.now.rows)) }
@@ -93,9 +93,39 @@ fn elapse(p: &mut Poly, other: &Poly) -> Result<Outcome, AllocError>
     Ok(outcome)
 }
 
+// The time-elapse of two that have a point each.
+fn elapse(p: &mut Poly, other: &Poly) -> Result<Outcome, AllocError>
+    requires dims { other.now.dims ≡ p.old.dims }
+    requires first { ¬ (IsEmptySet p.old.dims (Con p.old.rows)) }
+    requires second { ¬ (IsEmptySet other.now.dims (Con other.now.rows)) }
+    ensures dims { OnOk result (p.new.dims ≡ p.old.dims) }
+    ensures exact { IfOk result (IfExact (IsPolyhedronOf p.old.dims
+        (TimeElapse p.old.dims (Con p.old.rows) (Con other.now.rows)) p.new)) }
+    ensures within { IfOk result (λ _. IsWithin p.old.dims
+        (TimeElapse p.old.dims (Con p.old.rows) (Con other.now.rows)) (Con p.new.rows)) }
+    ensures strain { IfOk result (IfFlagged (TimeElapseStrains p.old other.now)) }
+    ensures tried { IfOk result (λ o. IfFlagged (λ _. AreTriedPoints p.old.dims
+        (p.old.generators ++ as_directions other.now.generators) p.new o) o) }
+    ensures unchanged { OnErr result (p.new ≡ p.old) }
+{
+    let _canonical = p.rows();
+    let along = directions_of(p.allocator(), other.generators())?;
+    match p.extend(&along)? {
+        Some(made) => {
+            *p = made;
+            Ok(Outcome::Exact)
+        }
+        None => {
+            let outcome = elapse_anew(p, other)?;
+            Ok(outcome)
+        }
+    }
+}
+
 /// Lets time elapse: becomes the hull of its points moved by any whole number of steps from 0 on, each step by the
-/// coordinates of a point of the other. Where it is flagged it has at least those; where one of the two has no point it
-/// is never flagged.
+/// coordinates of a point of the other. Where it is flagged it has at least those: then its generators and the other's
+/// as directions were converted from nothing, since it can't be gone on from the lists at hand, or one strains behind
+/// them. Where one of the two has no point it is never flagged.
 pub fn time_elapse(p: &mut Poly, other: &Poly) -> Result<Outcome, AllocError>
     requires { other.now.dims ≡ p.old.dims }
     ensures dims { OnOk result (p.new.dims ≡ p.old.dims) }
