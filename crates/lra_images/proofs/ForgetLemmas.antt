@@ -1,5 +1,6 @@
 -- A coordinate that may be anything: a line along it, beside the generators.
 use Rattle.std.proofs.Common.{◌≡◌, ◌≢◌, ℕ, suc, ◌<◌, List, [], ◌∷◌, ◌++◌, length, ap, sym, ◌∙◌, subst, ℤ}
+use Rattle.std.specs.Prelude.{IfSome, Option, None, Some}
 use Rattle.std.proofs.Common.{pos, neg_ℤ, ◌+ℤ◌, ◌*ℤ◌, ◌<ℤ◌, arith, ◌⊎◌, inl, inr}
 use Rattle.std.proofs.lemmas.Int.{ints}
 use Rattle.std.proofs.lemmas.Bool.{cases_eq}
@@ -7,7 +8,7 @@ use Rattle.lra_linear.specs.Cones.{Generated}
 use Rattle.lra_linear.specs.Descriptions.{Con, Gen, Given, line, system_of}
 use Rattle.lra_linear.specs.OperationStrain.{unit_row}
 use Rattle.lra_linear.specs.Points.{IsPoint, SameSet}
-use Rattle.lra_linear.specs.Polyhedra.{IsPolyhedron, Polyhedron}
+use Rattle.lra_linear.specs.Polyhedra.{IsPolyhedron, IsPolyhedronOf, Polyhedron}
 use Rattle.lra_linear.specs.SetOperations.{Forget, SameBut}
 use Rattle.lra_linear.specs.Vectors.{blend, entry, negated, sum_of}
 use Rattle.lra_linear.proofs.Combinations.{generated_divided, generated_plus, generated_same, generated_times}
@@ -23,6 +24,7 @@ use Rattle.lra_descriptions.proofs.SeveralKinds.{system_append}
 use Rattle.lra_sys.specs.Listed.{Listed, generators}
 use Rattle.lra_linear.specs.declared.GenKind.{GenKind}
 use Rattle.lra_lists.proofs.ListLemmas.{line_seen}
+use Rattle.lra_poly.proofs.PolyLemmas.{same_polyhedron}
 use Rattle.lra_poly.proofs.TakenGenerators.{Takes}
 use Rattle.lra_lists.proofs.Sums.{with_line}
 
@@ -134,3 +136,14 @@ forget_takes p list all x h low ed eg ad ag = record {
   are = line_seen (generators all) (generators list) p.generators p.dims list.dims (suc x) ag eg ed;
   same = forget_generators p (suc x) h (omega arith) (omega (arith, low));
 }
+
+-- where the line is taken in from the lists at hand
+pub forget_extended : (p : Polyhedron) (made : Option Polyhedron) (along : List Given) (n x : ℕ) → IsPolyhedron p → x < p.dims →
+    n ≡ p.dims → along ≡ line (unit_row n (suc x)) ∷ [] → IfSome made (IsPolyhedronOf p.dims (Gen (p.generators ++ along))) →
+    IfSome made (IsPolyhedronOf p.dims (Forget p.dims (suc x) (Con p.rows)))
+forget_extended p None along n x h low en ea is = tt
+forget_extended p (Some q) along n x h low en ea is =
+    same_polyhedron p.dims (Forget p.dims (suc x) (Con p.rows)) (Gen (p.generators ++ line (unit_row p.dims (suc x)) ∷ [])) q
+    (forget_generators p (suc x) h (omega arith) (omega (arith, low)))
+    (subst (λ (l : List Given). IsPolyhedronOf p.dims (Gen (p.generators ++ l)) q)
+    (ea ∙ ap (λ (m : ℕ). line (unit_row m (suc x)) ∷ []) en) is)

@@ -1,6 +1,7 @@
 //! Images and preimages under a form, and coordinates that are forgotten.
 
 ghost use Rattle.std.specs.Prelude.{◌≡◌, ◌<◌, ◌∷◌, ◌++◌, [], suc, length, None, Some, IfOk, OnErr, OnOk};
+ghost use Rattle.std.specs.Prelude.{IfSome};
 ghost use Rattle.lra_linear.specs.Descriptions.{Con, Gen, line};
 ghost use Rattle.lra_linear.specs.OperationStrain.{ForgetStrains, FromGeneratorsStrains};
 ghost use Rattle.lra_linear.specs.OperationStrain.{ImageStrains, PreimageStrains, unit_row};
@@ -19,15 +20,14 @@ ghost use Rattle.lra_sys.specs.Listed.{generators, FitKinds};
 use crate::moved::{move_back, move_forward};
 use lra_cone::Loss;
 use lra_lin::LinExpr;
-use lra_lists::{assign_list, substitute_list, with_line};
+use lra_lists::{assign_list, line_along, substitute_list, with_line};
 use lra_poly::{Outcome, Poly};
 use lra_row::Row;
 use lra_sys::GenSys;
 use std::alloc::AllocError;
 
-/// Lets the coordinate x be anything: becomes the set of the points that some value of x brings into it. Where it is
-/// flagged it has at least those.
-pub fn forget(p: &mut Poly, x: usize) -> Result<Outcome, AllocError>
+// Lets the coordinate x be anything, where the generators are converted from nothing.
+fn forget_anew(p: &mut Poly, x: usize) -> Result<Outcome, AllocError>
     requires { x < p.old.dims }
     ensures dims { p.new.dims ≡ p.old.dims }
     ensures exact { IfOk result (IfExact
@@ -43,6 +43,45 @@ pub fn forget(p: &mut Poly, x: usize) -> Result<Outcome, AllocError>
     let (made, outcome) = Poly::from_generators(p.allocator(), &list)?;
     *p = made;
     Ok(outcome)
+}
+
+// The polyhedron with anything as coordinate x, by the lists at hand; none where these can't be gone on from.
+fn extend_along(p: &Poly, x: usize) -> Result<Option<Poly>, AllocError>
+    requires { x < p.now.dims }
+    ensures { IfOk result (λ made. IfSome made
+        (IsPolyhedronOf p.now.dims (Forget p.now.dims (suc x) (Con p.now.rows)))) }
+{
+    let _canonical = p.rows();
+    let along = line_along(p.allocator(), p.dims(), x)?;
+    let made = p.extend(&along)?;
+    Ok(made)
+}
+
+/// Lets the coordinate x be anything: becomes the set of the points that some value of x brings into it. Where it is
+/// flagged it has at least those: then its generators and the line were converted from nothing, since it can't be gone
+/// on from the lists at hand, or the line strains behind them.
+pub fn forget(p: &mut Poly, x: usize) -> Result<Outcome, AllocError>
+    requires { x < p.old.dims }
+    ensures dims { p.new.dims ≡ p.old.dims }
+    ensures exact { IfOk result (IfExact
+        (IsPolyhedronOf p.old.dims (Forget p.old.dims (suc x) (Con p.old.rows)) p.new)) }
+    ensures within { IfOk result (λ _.
+        IsWithin p.old.dims (Forget p.old.dims (suc x) (Con p.old.rows)) (Con p.new.rows)) }
+    ensures strain { IfOk result (IfFlagged (ForgetStrains (suc x) p.old)) }
+    ensures tried { IfOk result (λ o. IfFlagged (λ _. AreTriedPoints p.old.dims
+        (p.old.generators ++ line (unit_row p.old.dims (suc x)) ∷ []) p.new o) o) }
+    ensures unchanged { OnErr result (p.new ≡ p.old) }
+{
+    match extend_along(p, x)? {
+        Some(made) => {
+            *p = made;
+            Ok(Outcome::Exact)
+        }
+        None => {
+            let outcome = forget_anew(p, x)?;
+            Ok(outcome)
+        }
+    }
 }
 
 // Lets the coordinate x be anything, or gives at least those points.

@@ -1,4 +1,4 @@
--- Goals of `forget`: lets the coordinate x be anything.
+-- Goals of `forget_anew`: lets the coordinate x be anything, where the generators are converted from nothing.
 use Rattle.std.proofs.Common.{◌++◌, ◌∷◌, [], suc}
 use Rattle.lra_linear.specs.Descriptions.{Con, line}
 use Rattle.lra_linear.specs.OperationStrain.{unit_row}
@@ -6,7 +6,7 @@ use Rattle.lra_linear.specs.SetOperations.{Forget}
 use Rattle.lra_images.proofs.ForgetLemmas.{forget_takes}
 use Rattle.lra_poly.proofs.TakenGenerators.{taken_exact, taken_flagged, taken_within}
 use Rattle.lra_poly.proofs.UnitedLists.{tried_as}
-use Rattle.lra_images.proofs.images.forget.Goals as goal
+use Rattle.lra_images.proofs.images.forget_anew.Goals as goal
 
 pub returns-clause-exact : goal.returns-clause-exact
 returns-clause-exact c =
