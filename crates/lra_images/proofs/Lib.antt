@@ -1,6 +1,7 @@
 pub mod GivenUp
 pub mod ForgetLemmas
 pub mod AssignedSets
+pub mod SolvedImages
 pub mod SubstitutedSets
 pub mod MovedPairs
 pub mod MovedFacets

@@ -1,30 +1,32 @@
 //! Images and preimages under a form, and coordinates that are forgotten.
 
 ghost use Rattle.std.specs.Prelude.{◌≡◌, ◌<◌, ◌∷◌, ◌++◌, [], suc, length, None, Some, IfOk, OnErr, OnOk};
-ghost use Rattle.std.specs.Prelude.{IfSome};
-ghost use Rattle.lra_linear.specs.Descriptions.{Con, Gen, line};
+ghost use Rattle.std.specs.Prelude.{pos, negsuc, slice_set, true, IfNone, IfSome};
+ghost use Rattle.lra_linear.specs.Descriptions.{Con, Gen, Holds, line};
 ghost use Rattle.lra_linear.specs.OperationStrain.{ForgetStrains, FromGeneratorsStrains};
 ghost use Rattle.lra_linear.specs.OperationStrain.{ImageStrains, PreimageStrains, unit_row};
 ghost use Rattle.lra_linear.specs.Points.{IsWithin};
 ghost use Rattle.lra_linear.specs.Polyhedra.{IsPolyhedronOf};
-ghost use Rattle.lra_linear.specs.SetOperations.{Forget, Image, Preimage};
+ghost use Rattle.lra_linear.specs.SetOperations.{Forget, Image, Meet, Preimage};
+ghost use Rattle.lra_linear.specs.Vectors.{entry};
 ghost use Rattle.lra_linear.specs.Strain as strain;
 ghost use Rattle.lra_images.specs.Forgetting.{IsForgotten};
 ghost use Rattle.lra_images.specs.FormedPreimages.{IsOfFormed};
 ghost use Rattle.lra_lists.specs.Moving.{StaysBackFor, StaysFor};
 ghost use Rattle.lra_poly.specs.Outcomes.{IfExact, IfFlagged};
 ghost use Rattle.lra_poly.specs.United.{AreTriedPoints};
+ghost use Rattle.lra_duality.specs.Rows.{test_row};
 ghost use Rattle.lra_lin.specs.Form.{form_row};
 ghost use Rattle.lra_sys.specs.Listed.{generators, FitKinds};
 
 use crate::moved::{move_back, move_forward};
 use lra_cone::Loss;
-use lra_lin::LinExpr;
+use lra_lin::{LinExpr, Test};
 use lra_lists::{assign_list, line_along, substitute_list, with_line};
 use lra_poly::{Outcome, Poly};
 use lra_row::Row;
-use lra_sys::GenSys;
-use std::alloc::AllocError;
+use lra_sys::{ConKind, GenSys};
+use std::alloc::{AllocError, Global};
 
 // Lets the coordinate x be anything, where the generators are converted from nothing.
 fn forget_anew(p: &mut Poly, x: usize) -> Result<Outcome, AllocError>
@@ -120,6 +122,80 @@ fn replace_or_forget(p: &mut Poly, x: usize, list: &GenSys) -> Result<Outcome, A
     Ok(outcome)
 }
 
+// The test that the coordinate x is the form, which is without it.
+fn is_form(alloc: Global, x: usize, form: &LinExpr) -> Result<Test, AllocError>
+    requires { x < length form.now.coefficients }
+    ensures { IfOk result (λ t. test_row t.kind t.expr ≡
+        record { row = slice_set (form_row form.now) (suc x) (negsuc 0); equal = true }) }
+{
+    let mut coefficients = Vec::from_slice(alloc, form.coefficients())?;
+    coefficients[x] = -1;
+    let expr = LinExpr::new(alloc, form.constant(), coefficients.as_slice())?;
+    Ok(Test {
+        expr,
+        kind: ConKind::Eq,
+    })
+}
+
+// The points with the form's value as coordinate x, which the form is without; none where that is flagged.
+fn meet_form(free: Poly, x: usize, form: &LinExpr) -> Result<Option<Poly>, AllocError>
+    requires column { x < free.dims }
+    requires form { length form.now.coefficients ≡ free.dims }
+    ensures { IfOk result (λ made. IfSome made (IsPolyhedronOf free.dims (Meet (Con free.rows)
+        (Holds (record { row = slice_set (form_row form.now) (suc x) (negsuc 0); equal = true }))))) }
+{
+    let mut made = free;
+    let test = is_form(made.allocator(), x, form)?;
+    let outcome = made.add_test(&test)?;
+    if outcome.is_exact() {
+        Ok(Some(made))
+    } else {
+        Ok(None)
+    }
+}
+
+// The image by a form without the coordinate x: that coordinate is anything, and then it is the form. None where that
+// is flagged, or where it can't be gone on from the lists at hand.
+fn forget_and_set(p: &Poly, x: usize, form: &LinExpr) -> Result<Option<Poly>, AllocError>
+    requires column { x < p.now.dims }
+    requires form { length form.now.coefficients ≡ p.now.dims }
+    requires without { entry (form_row form.now) (suc x) ≡ pos 0 }
+    ensures { IfOk result (λ made. IfSome made
+        (IsPolyhedronOf p.now.dims (Image p.now.dims (suc x) (form_row form.now) (Con p.now.rows)))) }
+{
+    match extend_along(p, x)? {
+        Some(free) => {
+            let made = meet_form(free, x, form)?;
+            Ok(made)
+        }
+        None => Ok(None),
+    }
+}
+
+// The image by what is at hand: by both lists, or by a coordinate that is forgotten and set. None only where both lists
+// don't move.
+fn find_image(p: &Poly, x: usize, form: &LinExpr, row: &Row) -> Result<Option<Poly>, AllocError>
+    requires column { x < p.now.dims }
+    requires form { length form.now.coefficients ≡ p.now.dims }
+    requires row { row.now ≡ form_row form.now }
+    ensures image { IfOk result (λ image. IfSome image
+        (IsPolyhedronOf p.now.dims (Image p.now.dims (suc x) (form_row form.now) (Con p.now.rows)))) }
+    ensures none { IfOk result (λ image. IfNone image (StaysFor (suc x) (form_row form.now) p.now)) }
+{
+    let _dims = p.dims();
+    match move_forward(p, x + 1, row)? {
+        Some(made) => Ok(Some(made)),
+        None => {
+            if row.get(x + 1) == 0 {
+                let made = forget_and_set(p, x, form)?;
+                Ok(made)
+            } else {
+                Ok(None)
+            }
+        }
+    }
+}
+
 // The image, where the generators are converted.
 fn convert_image(p: &mut Poly, x: usize, form: &Row) -> Result<Outcome, AllocError>
     requires column { x < p.old.dims }
@@ -162,7 +238,7 @@ pub fn image(p: &mut Poly, x: usize, form: &LinExpr) -> Result<Outcome, AllocErr
     ensures unchanged { OnErr result (p.new ≡ p.old) }
 {
     let row = form.to_row(p.allocator())?;
-    match move_forward(p, x + 1, &row)? {
+    match find_image(p, x, form, &row)? {
         Some(made) => {
             *p = made;
             Ok(Outcome::Exact)

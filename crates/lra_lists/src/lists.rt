@@ -43,8 +43,8 @@ pub fn line_along(alloc: Global, n: usize, x: usize) -> Result<GenSys, AllocErro
         return Err(AllocError);
     }
     let mut all = GenSys::new(alloc, n);
-    let row = unit(alloc, n, x + 1)?;
-    all.push(row, GenKind::Line)?;
+    let along = unit(alloc, n, x + 1)?;
+    all.push(along, GenKind::Line)?;
     Ok(all)
 }
 

@@ -6,33 +6,13 @@ use Rattle.lra_linear.specs.Points.{IsWithin}
 use Rattle.lra_linear.specs.Polyhedra.{IsPolyhedronOf}
 use Rattle.lra_linear.specs.SetOperations.{Image}
 use Rattle.lra_poly.specs.Outcomes.{IfExact, IfFlagged}
-use Rattle.lra_lin.specs.Form.{form_row}
-use Rattle.lra_images.proofs.BackImages.{image_made, row_width}
-use Rattle.lra_images.proofs.KeptLists.{flagged_since, stays_for}
+use Rattle.lra_images.proofs.BackImages.{row_width}
+use Rattle.lra_images.proofs.KeptLists.{flagged_since}
 use Rattle.lra_images.proofs.images.image.Goals as goal
-
-pub move_forward-requires-clause-width : goal.move_forward-requires-clause-width
-move_forward-requires-clause-width c =
-    row_width c.args.form.now c.in_ok-row.row c.args.p.now.dims c.in_ok-row.ensures c.requires.form
 
 pub convert_image-requires-clause-form : goal.convert_image-requires-clause-form
 convert_image-requires-clause-form c =
     row_width c.args.form.now c.in_ok-row.row c.args.p.now.dims c.in_ok-row.ensures c.requires.form
-
-pub returns-in-Some-clause-exact : goal.returns-in-Some-clause-exact
-returns-in-Some-clause-exact c =
-    image_made c.args.p.now c.in-Some.made c.args.x (form_row c.args.form.now) c.in_ok-row.row c.in_ok-made.field-0
-    c.in_ok-row.ensures c.in-Some.is c.in_ok-made.ensures.image
-
-pub returns-in-Some-clause-within : goal.returns-in-Some-clause-within
-returns-in-Some-clause-within c =
-    (image_made c.args.p.now c.in-Some.made c.args.x (form_row c.args.form.now) c.in_ok-row.row c.in_ok-made.field-0
-    c.in_ok-row.ensures c.in-Some.is c.in_ok-made.ensures.image).points.0
-
-pub returns-in-Some-clause-dims : goal.returns-in-Some-clause-dims
-returns-in-Some-clause-dims c =
-    (image_made c.args.p.now c.in-Some.made c.args.x (form_row c.args.form.now) c.in_ok-row.row c.in_ok-made.field-0
-    c.in_ok-row.ensures c.in-Some.is c.in_ok-made.ensures.image).dimensions
 
 pub returns-clause-exact : goal.returns-clause-exact
 returns-clause-exact c =
@@ -54,4 +34,4 @@ returns-clause-strain c =
 pub returns-clause-stays : goal.returns-clause-stays
 returns-clause-stays c =
     let stays = rw c.in-None.is at c.in_ok-made.ensures.none in
-    flagged_since _ c.in_ok-outcome-in-None.outcome (stays_for c.args.p.now c.args.x (form_row c.args.form.now) c.in_ok-row.row c.in_ok-row.ensures stays)
+    flagged_since _ c.in_ok-outcome-in-None.outcome stays

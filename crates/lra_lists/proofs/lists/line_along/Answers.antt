@@ -4,4 +4,4 @@ use Rattle.lra_sys.proofs.UnitRows.{unit_length}
 use Rattle.lra_lists.proofs.lists.line_along.Goals as goal
 
 pub push-requires : goal.push-requires
-push-requires c = ap length c.in_ok-row.ensures ∙ unit_length c.args.n (c.args.x + 1) ∙ ap suc (sym c.new-all.ensures.dims)
+push-requires c = ap length c.in_ok-along.ensures ∙ unit_length c.args.n (c.args.x + 1) ∙ ap suc (sym c.new-all.ensures.dims)
