@@ -2,7 +2,7 @@
 
 ghost use Rattle.std.specs.Prelude.{◌≡◌, IfOk};
 
-use crate::shapes::{Unfit, row_of, shows};
+use crate::shapes::{Unfit, row_of, set_of, shows};
 use lra_images::forget;
 use lra_maps::{embed, remove_last, time_elapse};
 use lra_poly::Poly;
@@ -58,9 +58,24 @@ fn forgets_coordinate(alloc: Global) -> Result<bool, Unfit> {
     Ok(outcome.is_exact() && is_half_plane(&way))
 }
 
+// With the generators of the axis along x2 it is one too; nothing goes on from no point.
+fn is_extended(alloc: Global) -> Result<bool, Unfit> {
+    let way = way_of(alloc)?;
+    let axis = set_of(alloc, &[([0, 1, 0], ConKind::Eq)])?;
+    let nothing = Poly::empty(alloc, 2)?;
+    if nothing.extend(axis.generators())?.is_some() {
+        return Ok(false);
+    }
+    match way.extend(axis.generators())? {
+        Some(made) => Ok(is_half_plane(&made)),
+        None => Ok(false),
+    }
+}
+
 #[test]
 fn half_line(rt: HostRuntime) {
     assert!(rt; is_half_line(rt.alloc()) == Ok(true));
     assert!(rt; has_new_coordinate(rt.alloc()) == Ok(true));
     assert!(rt; forgets_coordinate(rt.alloc()) == Ok(true));
+    assert!(rt; is_extended(rt.alloc()) == Ok(true));
 }

@@ -48,6 +48,29 @@ fn tests_without_effect(rt: HostRuntime) {
     assert!(rt; leaves_strip(rt.alloc(), 5) == Ok(true));
 }
 
+// Strips whose first row has, with the second point, a product that isn't 0 though its lowest 64 bits are.
+const WIDE: &[Constraint] = &[
+    ([0, 0, 1], ConKind::Ge),
+    ([18_446_744_073_709_551_616, 0, -1], ConKind::Ge),
+];
+
+const TWICE_AS_WIDE: &[Constraint] = &[
+    ([0, 0, 1], ConKind::Ge),
+    ([36_893_488_147_419_103_232, 0, -1], ConKind::Ge),
+];
+
+// Whether the set has the matrix of a strip.
+fn is_strip(alloc: Global, rows: &[Constraint]) -> Result<bool, Unfit> {
+    let strip = set_of(alloc, rows)?;
+    Ok(has(&strip, OF_STRIP))
+}
+
+#[test]
+fn products_with_a_low_word_of_0(rt: HostRuntime) {
+    assert!(rt; is_strip(rt.alloc(), WIDE) == Ok(true));
+    assert!(rt; is_strip(rt.alloc(), TWICE_AS_WIDE) == Ok(true));
+}
+
 // x1 >= 0 leaves the points (0, 0), (0, 1) and the ray along x1; its row, the first, is tight at both points and not
 // at the ray.
 fn is_halved(alloc: Global) -> Result<bool, Unfit> {
