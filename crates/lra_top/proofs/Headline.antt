@@ -1,5 +1,5 @@
 -- From what a source deserves to what is claimed of its report.
-use Rattle.std.proofs.Common.{◌≡◌, ◌∙◌, ℕ, suc, List, [], ◌∷◌, Bool, length, refl, sym, subst}
+use Rattle.std.proofs.Common.{◌≡◌, ◌∙◌, ℕ, suc, List, [], ◌∷◌, Bool, length, refl, sym, subst, inl, inr, ◌⊎◌}
 use Rattle.std.specs.Prelude.{Option, None, Some, option_map}
 use Rattle.std.specs.List.{AllByRecursion}
 use Rattle.std.specs.Io.KnownBytes.{Appends}
@@ -21,12 +21,13 @@ use Rattle.lra_sample.specs.Sample.{sample_source}
 use Rattle.lra_sample.specs.Summary.{summary_text}
 use Rattle.lra_words.specs.Chosen.{Asks, default_options}
 use Rattle.lra_words.specs.declared.chosen.Command.TheVariants.{Analyse, Sample}
-use Rattle.lra_top.specs.SourceAnswer.{IsReport, DeservesSource, written_report}
-use Rattle.lra_top.specs.Run.{IsInput, IsDeserved}
-use Rattle.lra_top.specs.Headline.{IsReported, WritesReport, IsNeverReached, HoldsInAllRuns, TellsWritten, IsWrittenUnlessFlagged, ShowsSamePoints, TellsSamePoints, WritesSummary}
+use Rattle.lra_top.specs.Statuses.{Ends, reported}
+use Rattle.lra_top.specs.SourceAnswer.{DeservesSource, written_report}
+use Rattle.lra_top.specs.Run.{IsInput, Writes}
+use Rattle.lra_top.specs.Headline.{WritesReport, IsNeverReached, HoldsInAllRuns, TellsWritten, IsWrittenUnlessFlagged, ShowsSamePoints, TellsSamePoints, WritesSummary}
 use Rattle.lra_top.proofs.Ways.{asked_input}
 use Rattle.lra_top.specs.declared.status.Status.{Status}
-use Rattle.lra_top.specs.declared.status.Status.TheVariants.{Proved, Unknown, Refused, Usage, ReadFault, WriteFault, Memory}
+use Rattle.lra_top.specs.declared.status.Status.TheVariants.{Refused}
 
 -- invariants ----------------------------------------------------------------------
 
@@ -97,9 +98,15 @@ same_points o bytes r a is = same_at o r.points is a.report.parts
 
 module _ (so : List ℕ → Report → Type 0) (left held_old held_new : Option (List ℕ)) (options : Options) (write : Report → List ℕ)
     (claimed : (bytes : List ℕ) (r : Report) → IsAnswered options bytes r → so bytes r) where
-  of_report : (bytes text : List ℕ) (unknown : ℕ) → IsReport options write bytes text unknown → IsInput left bytes → Appends held_old held_new text
+  not_refused : (status : Status) → status ≡ Refused → Ends reported status → ⊥
+  not_refused status is (inl proved) = cc
+  not_refused status is (inr (inl unknown)) = cc
+  not_refused status is (inr (inr none)) = none
+
+  of_answer : (bytes text : List ℕ) (status : Status) → Ends reported status → IsInput left bytes → DeservesSource options write bytes text status → Appends held_old held_new text
       → WritesReport options write so left held_old held_new
-  of_report bytes text unknown r input written = record {
+  of_answer bytes text status ends input (inl (d, is)) written = absurd (not_refused status is ends)
+  of_answer bytes text status ends input (inr r) written = record {
     bytes = bytes;
     input = input;
     report = r.report;
@@ -108,30 +115,20 @@ module _ (so : List ℕ → Report → Type 0) (left held_old held_new : Option 
     is_so = claimed bytes r.report r.answered;
   }
 
-  of_status : (status : Status) (bytes text : List ℕ) → IsReported status → IsInput left bytes → DeservesSource options write bytes text status → Appends held_old held_new text
-      → WritesReport options write so left held_old held_new
-  of_status Proved bytes text reported input d written = of_report bytes text 0 d input written
-  of_status Unknown bytes text reported input d written = of_report bytes text d.0 d.2 input written
-  of_status Refused bytes text reported input d written = absurd reported
-  of_status Usage bytes text reported input d written = absurd reported
-  of_status ReadFault bytes text reported input d written = absurd reported
-  of_status WriteFault bytes text reported input d written = absurd reported
-  of_status Memory bytes text reported input d written = absurd reported
-
 pub writes_report : (so : List ℕ → Report → Type 0) (words : List (List ℕ)) (left held_old held_new : Option (List ℕ)) (options : Options) (json : Bool)
-    → ((bytes : List ℕ) (r : Report) → IsAnswered options bytes r → so bytes r) → (status : Status) (text : List ℕ)
-    → Asks words (Analyse options json) → IsReported status → IsDeserved words left text status → Appends held_old held_new text
+    → ((bytes : List ℕ) (r : Report) → IsAnswered options bytes r → so bytes r) → (status : Status)
+    → Asks words (Analyse options json) → Ends reported status → Writes words left held_old held_new status
     → WritesReport options (written_report json) so left held_old held_new
-writes_report so words left held_old held_new options json claimed status text asks reported d written =
-    of_status so left held_old held_new options (written_report json) claimed status d.bytes text reported d.input
-    (asked_input words d.bytes text status (Analyse options json) asks d.deserved) written
+writes_report so words left held_old held_new options json claimed status asks ends w =
+    of_answer so left held_old held_new options (written_report json) claimed w.deserved.bytes w.text status ends w.deserved.input
+    (asked_input words left w.text status (Analyse options json) asks w.deserved) w.written
 
 all_held : (bytes : List ℕ) (r : Report) → IsAnswered default_options bytes r → HoldsInAllRuns bytes r × IsWrittenUnlessFlagged default_options bytes r × TellsSamePoints default_options bytes r
 all_held bytes r a = (holds default_options bytes r a, is_written default_options bytes r a, same_points default_options bytes r a)
 
-pub writes_summary : (words : List (List ℕ)) (left held_old held_new : Option (List ℕ)) (seed size : ℕ) (status : Status) (text : List ℕ)
-    → Asks words (Sample seed size) → IsReported status → IsDeserved words left text status → Appends held_old held_new text
+pub writes_summary : (words : List (List ℕ)) (left held_old held_new : Option (List ℕ)) (seed size : ℕ) (status : Status)
+    → Asks words (Sample seed size) → Ends reported status → Writes words left held_old held_new status
     → WritesSummary seed size held_old held_new
-writes_summary words left held_old held_new seed size status text asks reported d written =
-    of_status _ (Some (sample_source seed size)) held_old held_new default_options (summary_text seed size) all_held status (sample_source seed size) text reported refl
-    (asked_input words d.bytes text status (Sample seed size) asks d.deserved) written
+writes_summary words left held_old held_new seed size status asks ends w =
+    of_answer _ (Some (sample_source seed size)) held_old held_new default_options (summary_text seed size) all_held (sample_source seed size) w.text status ends refl
+    (asked_input words left w.text status (Sample seed size) asks w.deserved) w.written

@@ -14,7 +14,7 @@ use Rattle.lra_sample.specs.Sample.{sample_source}
 use Rattle.lra_sample.specs.Summary.{summary_text}
 use Rattle.lra_source.specs.Answers.{IsAnswered}
 use Rattle.lra_words.specs.Chosen.{default_options}
-use Rattle.lra_top.specs.SourceAnswer.{IsReportStatus}
+use Rattle.lra_top.specs.SourceAnswer.{report_status}
 use Rattle.lra_top.specs.SampleAnswer.{DeservesSample}
 use Rattle.lra_top.proofs.SourceWays.{deserves_report, deserves_refusal}
 use Rattle.lra_top.specs.declared.answer.Answer.{Answer}
@@ -22,7 +22,7 @@ use Rattle.lra_top.specs.declared.status.Status.{Status}
 use Rattle.lra_top.specs.declared.status.Status.TheVariants.{Refused}
 
 deserves_summary : (seed size : ℕ) (o : Options) (source : List ℕ) (r : Report) (text : List ℕ) (status : Status) → o ≡ default_options → source ≡ sample_source seed size
-    → IsAnswered o source r → text ≡ summary_text seed size r → IsReportStatus (unknown_count r.verdicts) status → DeservesSample seed size text status
+    → IsAnswered o source r → text ≡ summary_text seed size r → status ≡ report_status (unknown_count r.verdicts) → DeservesSample seed size text status
 deserves_summary seed size o source r text status default made answered written counted =
     let answered_default : IsAnswered default_options source r = subst (λ (x : Options). IsAnswered x source r) default answered in
     let answered_sample : IsAnswered default_options (sample_source seed size) r = subst (λ (x : List ℕ). IsAnswered default_options x r) made answered_default in
@@ -35,7 +35,7 @@ sample_refused seed size source text c at status made refused written s =
 
 -- of a call's result
 pub summary_answer : {E : Type 0} (seed size : ℕ) (o : Options) (source : List ℕ) (r : Report) (result : Result Answer E) → o ≡ default_options → source ≡ sample_source seed size
-    → IsAnswered o source r → IfOk result (λ a. a.text.items ≡ summary_text seed size r) → IfOk result (λ a. IsReportStatus (unknown_count r.verdicts) a.status)
+    → IsAnswered o source r → IfOk result (λ a. a.text.items ≡ summary_text seed size r) → IfOk result (λ a. a.status ≡ report_status (unknown_count r.verdicts))
     → IfOk result (λ a. DeservesSample seed size a.text.items a.status)
 summary_answer seed size o source r (Ok a) default made answered written counted = deserves_summary seed size o source r a.text.items a.status default made answered written counted
 summary_answer seed size o source r (Err e) default made answered written counted = tt

@@ -1,16 +1,27 @@
 -- From what a script deserves to how a call ends that answers it.
-use Rattle.std.proofs.Common.{◌∙◌, ◌≤◌, ◌<◌, ℕ, List, ◌++◌, length, take, refl, ap, sym, subst, arith}
+use Rattle.std.proofs.Common.{◌≡◌, ◌∙◌, ◌≤◌, ◌<◌, ℕ, List, ◌++◌, length, take, refl, ap, sym, subst, arith, inl, inr, ◌⊎◌}
 use Rattle.std.specs.Prelude.{Result, Ok, Err}
 use Rattle.std.proofs.lemmas.Grind.{common_steps}
 use Rattle.std.proofs.lemmas.List.{take-append-le}
 use Rattle.lra_tree.specs.Tokens.{greatest_length, place_behind}
 use Rattle.lra_calc.specs.Script as script
 use Rattle.lra_calc.proofs.Limit.{answer_too_long, long_answer}
-use Rattle.lra_top.proofs.Answering.{IsAnswer}
-use Rattle.lra_top.specs.Ends.{EndsInRefusal, EndsInOutput}
-use Rattle.lra_top.specs.ScriptAnswer.{DeservesScript}
+use Rattle.lra_top.specs.Statuses.{Ends, refused}
+use Rattle.lra_top.specs.ScriptAnswer.{IsScriptRefusal, DeservesScript, CallsScript, script_statuses}
 use Rattle.lra_top.specs.declared.status.Status.{Status}
-use Rattle.lra_top.specs.declared.status.Status.TheVariants.{Proved, Unknown, Refused, Usage, ReadFault, WriteFault, Memory}
+use Rattle.lra_top.specs.declared.status.Status.TheVariants.{Proved, Refused}
+
+-- answers ------------------------------------------------------------------------
+
+pub deserves_output : (bytes text : List ℕ) → script.AnswersTo bytes (Ok text) → DeservesScript bytes text Proved
+deserves_output bytes text answers = inr (answers, refl)
+
+pub deserves_refused : (bytes text : List ℕ) (r : script.Refusal) → script.AnswersTo bytes (Err r) → text ≡ script.refused_text r → DeservesScript bytes text Refused
+deserves_refused bytes text r answers written = inl (record { refusal = r; answers = answers; written = written }, refl)
+
+pub ruleset deserving = (deserves_output, deserves_refused)
+
+-- one byte past the limit ---------------------------------------------------------
 
 pub too_long_answer : (bytes : List ℕ) → greatest_length < length bytes → script.AnswersTo bytes (Err (script.TooLong (place_behind (take greatest_length bytes))))
 too_long_answer bytes long = answer_too_long greatest_length bytes refl long
@@ -24,41 +35,27 @@ same_answer bytes rest answer long a =
     subst (script.AnswersTo (bytes ++ rest)) (same ∙ sym (long_answer bytes answer long a)) (too_long_answer (bytes ++ rest) longer)
 
 pub longer_script : (bytes rest text : List ℕ) (status : Status) → greatest_length < length bytes → DeservesScript bytes text status → DeservesScript (bytes ++ rest) text status
-longer_script bytes rest text Proved long d = same_answer bytes rest (Ok text) long d
-longer_script bytes rest text Unknown long d = d
-longer_script bytes rest text Refused long d = (d.0, same_answer bytes rest (Err d.0) long d.1, d.2)
-longer_script bytes rest text Usage long d = d
-longer_script bytes rest text ReadFault long d = d
-longer_script bytes rest text WriteFault long d = d
-longer_script bytes rest text Memory long d = d
+longer_script bytes rest text status long (inl (d, is)) = inl (record { refusal = d.refusal; answers = same_answer bytes rest (Err d.refusal) long d.answers; written = d.written }, is)
+longer_script bytes rest text status long (inr (answers, is)) = inr (same_answer bytes rest (Ok text) long answers, is)
 
-pub script_answer : (bytes text : List ℕ) (status : Status) → DeservesScript bytes text status → IsAnswer status
-script_answer bytes text Proved d = tt
-script_answer bytes text Unknown d = tt
-script_answer bytes text Refused d = tt
-script_answer bytes text Usage d = d
-script_answer bytes text ReadFault d = d
-script_answer bytes text WriteFault d = d
-script_answer bytes text Memory d = d
+-- the status -----------------------------------------------------------------------
 
-pub script_refusal : (bytes text : List ℕ) (status : Status) → DeservesScript bytes text status → script.NeverRuns bytes → EndsInRefusal status
-script_refusal bytes text Proved d never = absurd (never text d)
-script_refusal bytes text Unknown d never = d
-script_refusal bytes text Refused d never = tt
-script_refusal bytes text Usage d never = d
-script_refusal bytes text ReadFault d never = tt
-script_refusal bytes text WriteFault d never = tt
-script_refusal bytes text Memory d never = tt
+pub script_ends : (bytes text : List ℕ) (status : Status) → DeservesScript bytes text status → Ends script_statuses status
+script_ends bytes text status (inl (d, is)) = inl is
+script_ends bytes text status (inr (answers, is)) = inr (inl is)
+
+script_refused : (bytes text : List ℕ) (status : Status) → DeservesScript bytes text status → script.NeverRuns bytes → Ends refused status
+script_refused bytes text status (inl (d, is)) never = inl is
+script_refused bytes text status (inr (answers, is)) never = absurd (never text answers)
+
+pub script_called : (bytes text : List ℕ) (status : Status) (among : List Status) → DeservesScript bytes text status → CallsScript bytes among → Ends among status
+script_called bytes text status among d (inl (never, calls)) = subst (λ a. Ends a status) (sym calls) (script_refused bytes text status d never)
+script_called bytes text status among (inl (d, is)) (inr (never, calls)) = absurd (never d.refusal d.answers)
+script_called bytes text status among (inr (answers, is)) (inr (never, calls)) = subst (λ a. Ends a status) (sym calls) (inl is)
 
 -- a script that is too long has no output
-pub too_long_never_runs : (bytes : List ℕ) → greatest_length < length bytes → script.NeverRuns bytes
+too_long_never_runs : (bytes : List ℕ) → greatest_length < length bytes → script.NeverRuns bytes
 too_long_never_runs bytes long = λ output a. absurd (let e = long_answer bytes (Ok output) long a in cc)
 
-pub script_output : (bytes text : List ℕ) (status : Status) → DeservesScript bytes text status → script.NeverIsRefused bytes → EndsInOutput status
-script_output bytes text Proved d never = tt
-script_output bytes text Unknown d never = d
-script_output bytes text Refused d never = absurd (never d.0 d.1)
-script_output bytes text Usage d never = d
-script_output bytes text ReadFault d never = tt
-script_output bytes text WriteFault d never = tt
-script_output bytes text Memory d never = tt
+pub script_too_long : (bytes text : List ℕ) (status : Status) → DeservesScript bytes text status → greatest_length < length bytes → Ends refused status
+script_too_long bytes text status d long = script_refused bytes text status d (too_long_never_runs bytes long)

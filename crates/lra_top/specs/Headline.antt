@@ -25,19 +25,6 @@ use Rattle.lra_source.specs.Answers.{Over, IsAnswered}
 use Rattle.lra_states.specs.Shown.{AreShown}
 use Rattle.lra_words.specs.Chosen.{default_options}
 use Rattle.lra_top.specs.Run.{IsInput}
-use Rattle.lra_top.specs.declared.status.Status.{Status}
-use Rattle.lra_top.specs.declared.status.Status.TheVariants.{Proved, Unknown, Refused, Usage, ReadFault, WriteFault}
-use Rattle.lra_top.specs.declared.status.Status.TheVariants.{Memory}
-
--- the statuses with which a report is written, where the words ask for one or for a sample
-abbrev pub IsReported : Status → Type 0
-IsReported Proved = Unit {0}
-IsReported Unknown = Unit {0}
-IsReported Refused = ⊥
-IsReported Usage = ⊥
-IsReported ReadFault = ⊥
-IsReported WriteFault = ⊥
-IsReported Memory = ⊥
 
 -- What `write` makes of a report that the input deserves under the options is written whole, and so it is with the
 -- input's bytes and this report.

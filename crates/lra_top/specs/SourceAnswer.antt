@@ -1,27 +1,20 @@
 -- What a source deserves: the text of its one refusal, or what is written of a report of it that tells an analysis.
-use Rattle.std.specs.Prelude.{◌≡◌, ◌<◌, ℕ, Bool, true, false, List, length}
+use Rattle.std.specs.Prelude.{◌≡◌, ◌⊎◌, ℕ, zero, suc, Bool, true, false, List, ◌∷◌}
 use Rattle.lra_base.specs.declared.refusals.Cause.{Cause}
 use Rattle.lra_base.specs.declared.refusals.Place.{Place}
 use Rattle.lra_base.specs.declared.options.Options.{Options}
 use Rattle.lra_findings.specs.Report.{Report}
 use Rattle.lra_findings.specs.ReportText.{report_text, unknown_count}
+use Rattle.lra_tree.specs.Trees.{FileTree}
 use Rattle.lra_tree.specs.Grammar.{Spells}
-use Rattle.lra_tree.specs.Tokens.{greatest_length}
-use Rattle.lra_meaning.specs.Refuse.{Refuse}
+use Rattle.lra_meaning.specs.Refuse.{Refuse, Accepts}
 use Rattle.lra_findings.specs.RefusalText.{refusal_text}
+use Rattle.lra_front.specs.Claims.{HasRefusal}
 use Rattle.lra_json.specs.ReportJson.{report_json}
 use Rattle.lra_source.specs.Answers.{IsAnswered}
+use Rattle.lra_top.specs.Statuses.{reported, refused}
 use Rattle.lra_top.specs.declared.status.Status.{Status}
-use Rattle.lra_top.specs.declared.status.Status.TheVariants.{Proved, Unknown, Refused, Usage, ReadFault, WriteFault}
-use Rattle.lra_top.specs.declared.status.Status.TheVariants.{Memory}
-
--- the input has more bytes than are taken
-abbrev pub IsTooLong : List ℕ → Type 0
-IsTooLong bytes = greatest_length < length bytes
-
--- the source has no cause of refusal
-abbrev pub IsUnrefused : List ℕ → Type 0
-IsUnrefused bytes = (cause : Cause) (place : Place) → Refuse Spells bytes cause place → ⊥
+use Rattle.lra_top.specs.declared.status.Status.TheVariants.{Proved, Unknown, Refused}
 
 -- the text is that of the source's refusal
 pub record IsRefusal (bytes text : List ℕ) : Type 0 where
@@ -35,35 +28,33 @@ abbrev pub written_report : Bool → Report → List ℕ
 written_report true r = report_json r
 written_report false r = report_text r
 
--- the text is what is written of a report which the source deserves under these options, and in which so many verdicts
--- are unknown
-pub record IsReport (o : Options) (write : Report → List ℕ) (bytes text : List ℕ) (unknown : ℕ) : Type 0 where
+-- the status of a report in which so many verdicts are unknown
+abbrev pub report_status : ℕ → Status
+report_status zero = Proved
+report_status (suc n) = Unknown
+
+-- the text is what is written of a report which the source deserves under these options, and the status is the report's
+pub record IsReport (o : Options) (write : Report → List ℕ) (bytes text : List ℕ) (status : Status) : Type 0 where
   pub report : Report
   pub answered : IsAnswered o bytes report
   pub written : text ≡ write report
-  pub counted : unknown ≡ unknown_count report.verdicts
+  pub counted : status ≡ report_status (unknown_count report.verdicts)
 
 -- the text and the status that a source's bytes deserve under these options, where reports are written so
 abbrev pub DeservesSource : Options → (Report → List ℕ) → List ℕ → List ℕ → Status → Type 0
-DeservesSource o write bytes text Proved = IsReport o write bytes text 0
-DeservesSource o write bytes text Unknown = (unknown : ℕ) × (0 < unknown) × IsReport o write bytes text unknown
-DeservesSource o write bytes text Refused = IsRefusal bytes text
-DeservesSource o write bytes text Usage = ⊥
-DeservesSource o write bytes text ReadFault = ⊥
-DeservesSource o write bytes text WriteFault = ⊥
-DeservesSource o write bytes text Memory = ⊥
+DeservesSource o write bytes text status =
+    (IsRefusal bytes text × (status ≡ Refused)) ⊎ IsReport o write bytes text status
+
+-- the statuses of an answer to a source
+abbrev pub source_statuses : List Status
+source_statuses = Refused ∷ reported
+
+-- by one of these a source is answered: its refusal, where it has one, and its report, where it is accepted
+abbrev pub CallsSource : List ℕ → List Status → Type 0
+CallsSource bytes among = (HasRefusal bytes × (among ≡ refused))
+    ⊎ ((tree : FileTree) × Accepts Spells bytes tree × (among ≡ reported))
 
 -- two reports that a source deserves under one list of options and that are written alike are the same report
 abbrev pub OneWrittenReport : Type 0
 OneWrittenReport = (json : Bool) (o : Options) (source : List ℕ) (r s : Report)
     → IsAnswered o source r → IsAnswered o source s → written_report json r ≡ written_report json s → r ≡ s
-
--- the status of a report with so many unknown verdicts
-abbrev pub IsReportStatus : ℕ → Status → Type 0
-IsReportStatus unknown Proved = unknown ≡ 0
-IsReportStatus unknown Unknown = 0 < unknown
-IsReportStatus unknown Refused = ⊥
-IsReportStatus unknown Usage = ⊥
-IsReportStatus unknown ReadFault = ⊥
-IsReportStatus unknown WriteFault = ⊥
-IsReportStatus unknown Memory = ⊥

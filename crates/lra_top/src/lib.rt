@@ -3,8 +3,10 @@
 #![tactic(auto)]
 
 mod answer;
+mod commands;
 mod law;
 mod sample_answer;
+mod script_answer;
 mod source_answer;
 mod status;
 mod top_call;

@@ -4,7 +4,7 @@ ghost use Rattle.lra_findings.specs.ReportText.{unknown_count};
 ghost use Rattle.lra_report.specs.View as view;
 ghost use Rattle.lra_sample.specs.Sample.{sample_source};
 ghost use Rattle.lra_sample.specs.Summary.{summary_text};
-ghost use Rattle.lra_top.specs.SourceAnswer.{IsReportStatus};
+ghost use Rattle.lra_top.specs.SourceAnswer.{report_status};
 ghost use Rattle.lra_top.specs.SampleAnswer.{DeservesSample};
 
 use crate::answer::Answer;
@@ -26,7 +26,7 @@ fn answer_summary(
 ) -> Result<Answer, AllocError>
     requires { source.now ≡ sample_source seed size }
     ensures text { IfOk result (λ a. a.text.items ≡ summary_text seed size (view.report_of report.now)) }
-    ensures status { IfOk result (λ a. IsReportStatus (unknown_count (view.report_of report.now).verdicts) a.status) }
+    ensures status { IfOk result (λ a. a.status ≡ report_status (unknown_count (view.report_of report.now).verdicts)) }
 {
     let status = status_of(report);
     Ok(Answer {

@@ -3,7 +3,7 @@ ghost use Rattle.std.specs.Prelude.{◌≡◌, ◌≤◌, ◌<◌, ◌+◌, ◌^
 ghost use Rattle.lra_findings.specs.ReportText.{unknown_count};
 ghost use Rattle.lra_findings.specs.RefusalText as refusal_line;
 ghost use Rattle.lra_report.specs.View as view;
-ghost use Rattle.lra_top.specs.SourceAnswer.{DeservesSource, IsReportStatus, written_report};
+ghost use Rattle.lra_top.specs.SourceAnswer.{DeservesSource, report_status, written_report};
 
 use crate::answer::Answer;
 use crate::status::Status;
@@ -14,8 +14,9 @@ use lra_source::analyse_source;
 use std::alloc::{AllocError, Global};
 
 /// The status of a report.
+#[tactic(auto, using(crate::proofs::SourceWays::counting))]
 pub(crate) fn status_of(report: &Report) -> Status
-    ensures { IsReportStatus (unknown_count (view.report_of report.now).verdicts) result }
+    ensures { result ≡ report_status (unknown_count (view.report_of report.now).verdicts) }
 {
     if report.unknown_count() == 0 {
         Status::Proved
@@ -38,7 +39,7 @@ fn write_report(alloc: Global, json: bool, report: &Report) -> Result<Vec<u8>, A
 /// A report as it is written, and its status.
 fn answer_report(alloc: Global, json: bool, report: &Report) -> Result<Answer, AllocError>
     ensures text { IfOk result (λ a. a.text.items ≡ written_report json (view.report_of report.now)) }
-    ensures status { IfOk result (λ a. IsReportStatus (unknown_count (view.report_of report.now).verdicts) a.status) }
+    ensures status { IfOk result (λ a. a.status ≡ report_status (unknown_count (view.report_of report.now).verdicts)) }
 {
     let status = status_of(report);
     Ok(Answer {

@@ -1,0 +1,56 @@
+-- What each command reads, deserves and may end with: a row for each.
+use Rattle.std.specs.Prelude.{◌≡◌, ◌⊎◌, ◌<◌, ℕ, List, [], ◌∷◌, length, Option, None, Some, option_and_then}
+use Rattle.lra_tree.specs.Tokens.{greatest_length}
+use Rattle.lra_words.specs.declared.chosen.Command.{Command}
+use Rattle.lra_words.specs.declared.chosen.Command.TheVariants.{Analyse, Sample, Calc}
+use Rattle.lra_top.specs.Statuses.{reported, refused}
+use Rattle.lra_top.specs.SourceAnswer.{DeservesSource, CallsSource, source_statuses, written_report}
+use Rattle.lra_top.specs.SampleAnswer.{DeservesSample}
+use Rattle.lra_top.specs.ScriptAnswer.{DeservesScript, CallsScript, script_statuses}
+use Rattle.lra_top.specs.declared.status.Status.{Status}
+use Rattle.lra_top.specs.declared.status.Status.TheVariants.{Usage}
+
+-- the most bytes that a command takes of its input, where it reads it
+abbrev pub limit_of : Command → Option ℕ
+limit_of (Analyse options json) = Some greatest_length
+limit_of (Sample seed size) = None
+limit_of Calc = Some greatest_length
+
+-- the text and the status that a command deserves, by these bytes of the input where it reads it
+abbrev pub DeservesInput : Command → List ℕ → List ℕ → Status → Type 0
+DeservesInput (Analyse options json) bytes text status = DeservesSource options (written_report json) bytes text status
+DeservesInput (Sample seed size) bytes text status = DeservesSample seed size text status
+DeservesInput Calc bytes text status = DeservesScript bytes text status
+
+-- the statuses of an answer
+abbrev pub statuses_of : Command → List Status
+statuses_of (Analyse options json) = source_statuses
+statuses_of (Sample seed size) = reported
+statuses_of Calc = script_statuses
+
+-- those of an answer to these bytes
+abbrev pub CallsInput : Command → List ℕ → List Status → Type 0
+CallsInput (Analyse options json) bytes among = CallsSource bytes among
+CallsInput (Sample seed size) bytes among = ⊥
+CallsInput Calc bytes among = CallsScript bytes among
+
+-- more bytes than the command takes
+abbrev pub IsTooLong : Command → List ℕ → Type 0
+IsTooLong c bytes = (limit : ℕ) × (limit_of c ≡ Some limit) × (limit < length bytes)
+
+-- words that ask for no command are answered too, and read nothing --------------------
+
+abbrev pub asked_limit : Option Command → Option ℕ
+asked_limit asked = option_and_then limit_of asked
+
+-- the input tells its bytes, and this is so of them
+abbrev pub IsKnown : (List ℕ → Type 0) → Option (List ℕ) → Type 0
+IsKnown so None = ⊥
+IsKnown so (Some bytes) = so bytes
+
+-- by one of these statuses what the words ask for is answered, whatever its input, or by what that tells: what is too
+-- long is refused
+abbrev pub CallsFor : Option Command → Option (List ℕ) → List Status → Type 0
+CallsFor None left among = among ≡ Usage ∷ []
+CallsFor (Some c) left among = (among ≡ statuses_of c)
+    ⊎ IsKnown (λ bytes. (IsTooLong c bytes × (among ≡ refused)) ⊎ CallsInput c bytes among) left

@@ -1,0 +1,37 @@
+// What each command reads and answers: a row for each.
+ghost use Rattle.std.specs.Prelude.{◌≡◌, ◌<◌, ◌+◌, ◌^◌, length, IfOk};
+ghost use Rattle.lra_words.specs.Chosen.{IsWithinRanges};
+ghost use Rattle.lra_top.specs.Commands.{limit_of, DeservesInput};
+
+use crate::answer::Answer;
+use crate::sample_answer::answer_sample;
+use crate::script_answer::answer_script;
+use crate::source_answer::answer_source;
+use lra_tree::GREATEST_LENGTH;
+use lra_words::Command;
+use std::alloc::{AllocError, Global};
+
+/// The most bytes that a command takes of its input, where it reads it.
+#[tactic(auto, unfolding(lra_tree::specs::Tokens::greatest_length))]
+pub fn limit_of(command: Command) -> Option<usize>
+    ensures { result ≡ limit_of command }
+{
+    match command {
+        Command::Analyse { .. } => Some(GREATEST_LENGTH),
+        Command::Sample { .. } => None,
+        Command::Calc => Some(GREATEST_LENGTH),
+    }
+}
+
+/// What a command answers to these bytes of its input, no more than one past its limit.
+pub fn answer_command(alloc: Global, command: Command, bytes: &[u8]) -> Result<Answer, AllocError>
+    requires ranges { IsWithinRanges command }
+    requires bound { length bytes.now + 1 < 2 ^ 32 }
+    ensures { IfOk result (λ a. DeservesInput command bytes.now a.text.items a.status) }
+{
+    match command {
+        Command::Analyse { options, json } => answer_source(alloc, options, json, bytes),
+        Command::Sample { seed, size } => answer_sample(alloc, seed, size),
+        Command::Calc => answer_script(alloc, bytes),
+    }
+}
