@@ -17,7 +17,7 @@ use Rattle.clap.specs.Walk.{Row, Rule, Text, answers_to, finished, nothing_held,
 use Rattle.clap.specs.declared.builder.value_parser.ValueParser.{ValueParser}
 use Rattle.clap.specs.declared.builder.value_parser.ValueParser.TheVariants as vp
 use Rattle.clap.proofs.WalkLemmas.{both, list_any-map}
-use Rattle.lra_words.specs.Chosen.{IsWithinRanges, analyse_of, command_of, domain_at, domain_named, flag_at, number_at, number_below, options_of, sample_of, truth_of}
+use Rattle.lra_words.specs.Chosen.{IsWithinRanges, analyse_of, command_of, domain_at, domain_named, flag_at, format_of, number_at, number_below, options_of, sample_of, truth_of}
 use Rattle.lra_words.specs.CommandLine.{TakesDomains, command_line, delay_rule, domain_rule, json_rule, limited_rule, narrow_rule, parts_rule, seed_rule, size_rule}
 use Rattle.lra_base.specs.declared.options.Options.{Options}
 use Rattle.lra_words.specs.declared.chosen.Command.{Command}
@@ -91,7 +91,7 @@ pub options_from : (rows : List Row) (options : Options) → domain_at (codes "d
 options_from rows options domain parts delay narrow limited = rw (domain, parts, delay, narrow, limited) refl
 
 analyse_from : (rows : List Row) (options : Options) (json : Bool) → options_of rows ≡ Some options → flag_at (codes "json") rows ≡ Some json
-    → analyse_of rows ≡ Some (Analyse options json)
+    → analyse_of rows ≡ Some (Analyse options (format_of json))
 analyse_from rows options json taken flag = rw (taken, flag) refl
 
 sample_from : (rows : List Row) (seed size : ℕ) → number_at (codes "seed") (2 ^ 64) rows ≡ Some seed → number_at (codes "size") (2 ^ 32) rows ≡ Some size
@@ -148,7 +148,7 @@ analyse_taken domains takes words e =
     let options : Options = record { domain = domain.0; parts = parts.0; delay = delay.0; narrow = narrow.0; limited = limited.0 } in
     let has_domain : domain_at (codes "domain") rows ≡ Some domain.0 = ap (option_and_then domain_named) domain_text.first ∙ domain.1 in
     let taken = options_from rows options has_domain parts.1 delay.1 narrow.1 limited.1 in
-    (Analyse options json.0, analyse_from rows options json.0 taken json.1, (parts.2, parts.3, delay.3, narrow.3))
+    (Analyse options (format_of json.0), analyse_from rows options json.0 taken json.1, (parts.2, parts.3, delay.3, narrow.3))
 
 sample_own : (domains : ValueParser) → AllOwn (sub_at domains 1).rules (sub_at domains 1).rules
 sample_own domains = (

@@ -12,6 +12,8 @@ use Rattle.lra_base.specs.declared.options.Domain.TheVariants.{Poly, Box, Oct}
 use Rattle.lra_base.specs.declared.options.Options.{Options}
 use Rattle.lra_words.specs.CommandLine.{TakesDomains, command_line}
 use Rattle.lra_words.specs.declared.chosen.Command.{Command}
+use Rattle.lra_words.specs.declared.chosen.Format.{Format}
+use Rattle.lra_words.specs.declared.chosen.Format.TheVariants.{Lines, Json}
 use Rattle.lra_words.specs.declared.chosen.Command.TheVariants.{Analyse, Sample, Calc}
 
 -- the number that a text writes, by decimal digits after at most one plus, where it is below
@@ -67,9 +69,17 @@ default_options = record {
   limited = false;
 }
 
+-- the output that the flags ask for
+abbrev pub format_of : Bool → Format
+format_of true = Json
+format_of false = Lines
+
+abbrev pub format_at : List Row → Option Format
+format_at rows = option_map format_of (flag_at (codes "json") rows)
+
 abbrev pub analyse_of : List Row → Option Command
-analyse_of rows = option_and_then (λ options. option_map (λ json. Analyse options json)
-    (flag_at (codes "json") rows))
+analyse_of rows = option_and_then (λ options. option_map (λ format. Analyse options format)
+    (format_at rows))
     (options_of rows)
 
 abbrev pub sample_of : List Row → Option Command
@@ -90,7 +100,7 @@ command_of (Some chosen) = named_command chosen.0 chosen.1
 
 -- each value lies in its option's range
 abbrev pub IsWithinRanges : Command → Type 0
-IsWithinRanges (Analyse options json) = (1 ≤ options.parts) × (options.parts ≤ 16)
+IsWithinRanges (Analyse options format) = (1 ≤ options.parts) × (options.parts ≤ 16)
     × (options.delay ≤ 8) × (options.narrow ≤ 4)
 IsWithinRanges (Sample seed size) = size ≤ 400
 IsWithinRanges Calc = ⊤

@@ -9,6 +9,6 @@ mod command_line;
 pub mod law;
 pub mod words;
 
-pub use chosen::{Command, default_options};
+pub use chosen::{Command, Format, default_options};
 pub use law::each_list;
 pub use words::{Refusal, find_command, parse_command};

@@ -2,10 +2,11 @@
 ghost use Rattle.std.specs.Prelude.{◌≡◌, ◌^◌, Err, IfOk, IfSome, Some, codes, map, string_bytes};
 ghost use Rattle.clap.specs.Words.{found_of, kind_of, rows_of};
 ghost use Rattle.lra_words.specs.Chosen.{Asks, AsksFor, AsksNone, IsUntaken, IsWithinRanges, command_of, domain_at};
-ghost use Rattle.lra_words.specs.Chosen.{analyse_of, domain_named, flag_at, number_at, options_of, sample_of};
+ghost use Rattle.lra_words.specs.Chosen.{sample_of};
+ghost use Rattle.lra_words.specs.Chosen.{analyse_of, domain_named, flag_at, format_at, format_of, number_at, options_of};
 ghost use Rattle.lra_words.specs.Refusals.{refusal};
 
-use crate::chosen::Command;
+use crate::chosen::{Command, Format};
 use crate::command_line::declare;
 use clap::ArgMatches;
 use clap::error::ErrorKind;
@@ -76,12 +77,25 @@ fn read_options(matches: &ArgMatches) -> Option<Options>
     })
 }
 
+fn choose_format(json: bool) -> Format
+    ensures { result ≡ format_of json }
+{
+    if json { Format::Json } else { Format::Lines }
+}
+
+fn read_format(matches: &ArgMatches) -> Option<Format>
+    ensures { result ≡ format_at (rows_of (found_of matches.now)) }
+{
+    let json = read_flag(matches, "json")?;
+    Some(choose_format(json))
+}
+
 fn read_analyse(matches: &ArgMatches) -> Option<Command>
     ensures { result ≡ analyse_of (rows_of (found_of matches.now)) }
 {
     let options = read_options(matches)?;
-    let json = read_flag(matches, "json")?;
-    Some(Command::Analyse { options, json })
+    let format = read_format(matches)?;
+    Some(Command::Analyse { options, format })
 }
 
 fn read_seed(matches: &ArgMatches) -> Option<u64>
