@@ -1,5 +1,5 @@
 -- Words without a fault give a command, with each value in its option's range.
-use Rattle.std.proofs.Common.{◌≡◌, ◌∙◌, ◌<◌, ◌≤◌, ◌^◌, ◌-◌, ◌&&◌, ◌||◌, ℕ, Bool, List, [], ◌∷◌, Option, Some, None, ap, arith, codes, lit<, not, refl, sym, subst, true, false, lt-ltb, nat_le, nat_lt}
+use Rattle.std.proofs.Common.{◌≡◌, ◌∙◌, ◌<◌, ◌≤◌, ◌^◌, ◌-◌, ◌&&◌, ◌||◌, ℕ, Bool, List, [], ◌∷◌, Option, Some, None, ap, arith, codes, lit<, map, not, refl, sym, subst, true, false, lt-ltb, nat_le, nat_lt}
 use Rattle.std.specs.Prelude.{find, is_some, option_and_then, option_map}
 use Rattle.std.specs.List.{list_any}
 use Rattle.std.specs.Option.{option_map_or}
@@ -18,12 +18,13 @@ use Rattle.clap.specs.declared.builder.value_parser.ValueParser.{ValueParser}
 use Rattle.clap.specs.declared.builder.value_parser.ValueParser.TheVariants as vp
 use Rattle.clap.proofs.WalkLemmas.{both, list_any-map}
 use Rattle.lra_words.specs.Chosen.{IsWithinRanges, analyse_of, command_of, domain_at, domain_named, flag_at, format_of, number_at, number_below, options_of, sample_of, truth_of}
-use Rattle.lra_words.specs.CommandLine.{TakesDomains, command_line, delay_rule, domain_rule, json_rule, limited_rule, narrow_rule, parts_rule, seed_rule, size_rule}
+use Rattle.lra_words.specs.CommandLine.{TakesDomains, command_line, domain_rule, domains_offered, json_rule, limited_rule, IsInRange, NumberOption, number_rule}
+use Rattle.lra_words.specs.CommandLine.{parts_option, delay_option, narrow_option, seed_option, size_option}
 use Rattle.lra_base.specs.declared.options.Options.{Options}
 use Rattle.lra_words.specs.declared.chosen.Command.{Command}
 use Rattle.lra_words.specs.declared.chosen.Command.TheVariants.{Analyse, Sample, Calc}
 use Rattle.lra_base.specs.declared.options.Domain.{Domain}
-use Rattle.lra_base.specs.declared.options.Domain.TheVariants.{Poly, Box, Oct}
+use Rattle.lra_base.specs.DomainNames.{domain_name}
 use Rattle.lra_words.proofs.OptionRows.{AllOwn, IsNoHelp, defaulted_value, flag_adds, given_there, help_adds, level_parts, level_rows, option_adds, value_there, walk_stop}
 
 -- ---- values
@@ -46,22 +47,40 @@ number_passed low high limit text fits passed =
 is_text : (a b : Text) → bytes_eq a b ≡ true → a ≡ b
 is_text a b e = (bytes_eq-Decides a b).0 e
 
--- a text that passed the parser of the three names
+unlike : (a b : Text) → bytes_eq b a ≡ false → bytes_eq a b ≡ false
+unlike a b is = go (bytes_eq a b) refl
+  where
+    go : (e : Bool) → bytes_eq a b ≡ e → bytes_eq a b ≡ false
+    go false t = t
+    go true t =
+        let same = is_text a b t in
+        let both_b : bytes_eq b b ≡ true = subst (λ (x : Text). bytes_eq x b ≡ true) same t in
+        let turned : bytes_eq b a ≡ true = subst (λ (x : Text). bytes_eq b x ≡ true) (sym same) both_b in
+        let wrong : ⊥ = cc in
+        absurd wrong
+
+-- a text that is one of the names of domains names the first of them that has it
+named_among : (text : Text) (domains : List Domain) → list_any (λ name. bytes_eq name text) (map domain_name domains) ≡ true
+    → (d : Domain) × (find (λ d. bytes_eq text (domain_name d)) domains ≡ Some d)
+named_among text [] any = cc
+named_among text (d ∷ rest) any = go (bytes_eq text (domain_name d)) refl (λ later. named_among text rest later)
+  where
+    go : (b : Bool) → bytes_eq text (domain_name d) ≡ b
+        → (list_any (λ name. bytes_eq name text) (map domain_name rest) ≡ true → (e : Domain) × (find (λ d. bytes_eq text (domain_name d)) rest ≡ Some e))
+        → (e : Domain) × (find (λ d. bytes_eq text (domain_name d)) (d ∷ rest) ≡ Some e)
+    go true is rec = (d, rw is refl)
+    go false is rec =
+        let other : bytes_eq (domain_name d) text ≡ false = unlike (domain_name d) text is in
+        let later : list_any (λ name. bytes_eq name text) (map domain_name rest) ≡ true = rw other at any in
+        let found = rec later in
+        (found.0, rw is found.1)
+
+-- a text that passed the parser of the domains' names
 domain_passed : (domains : ValueParser) (text : Text) → TakesDomains domains → accepts false domains text ≡ true → (d : Domain) × (domain_named text ≡ Some d)
 domain_passed domains text takes passed =
     let as_names : accepts false (vp.Names takes.0) text ≡ true = subst (λ (p : ValueParser). accepts false p text ≡ true) takes.1 passed in
     let any = sym (list_any-map (λ name. bytes_eq name text) (λ name. name.now) takes.0.now) ∙ as_names in
-    go (bytes_eq (codes "poly") text) refl (bytes_eq (codes "box") text) refl (bytes_eq (codes "oct") text) refl
-    (subst (λ (names : List Text). list_any (λ name. bytes_eq name text) names ≡ true) takes.2 any)
-  where
-    go : (p : Bool) → bytes_eq (codes "poly") text ≡ p → (b : Bool) → bytes_eq (codes "box") text ≡ b → (o : Bool) → bytes_eq (codes "oct") text ≡ o
-        → (bytes_eq (codes "poly") text || (bytes_eq (codes "box") text || (bytes_eq (codes "oct") text || false))) ≡ true → (d : Domain) × (domain_named text ≡ Some d)
-    go true tp b tb o to any = (Poly, ap domain_named (sym (is_text (codes "poly") text tp)))
-    go false tp true tb o to any = (Box, ap domain_named (sym (is_text (codes "box") text tb)))
-    go false tp false tb true to any = (Oct, ap domain_named (sym (is_text (codes "oct") text to)))
-    go false tp false tb false to any =
-        let bad : false ≡ true = rw (tp, tb, to) at any in
-        cc
+    named_among text domains_offered (subst (λ (names : List Text). list_any (λ name. bytes_eq name text) names ≡ true) takes.2 any)
 
 -- a text that passed the parser of truth values
 truth_passed : (text : Text) → accepts false vp.Bool text ≡ true → (b : Bool) × (truth_of text ≡ Some b)
@@ -74,11 +93,11 @@ truth_passed text passed = go (bytes_eq text (codes "true")) refl (bytes_eq text
         let bad : false ≡ true = rw (et, ef) at passed in
         cc
 
-number_of : (id : Text) (low high limit : ℕ) (rows : List Row) (text : Text) → high < limit → one_of id rows ≡ Some text → accepts false (vp.Unsigned low high) text ≡ true
-    → (n : ℕ) × (number_at id limit rows ≡ Some n) × (low ≤ n) × (n ≤ high)
-number_of id low high limit rows text fits one passed =
-    let n = number_passed low high limit text fits passed in
-    (n.0, rw one n.1, n.2, n.3)
+number_of : (o : NumberOption) (limit : ℕ) (rows : List Row) (text : Text) → o.greatest < limit → one_of o.name rows ≡ Some text
+    → accepts false (vp.Unsigned o.least o.greatest) text ≡ true → (n : ℕ) × (number_at o.name limit rows ≡ Some n) × IsInRange o n
+number_of o limit rows text fits one passed =
+    let n = number_passed o.least o.greatest limit text fits passed in
+    (n.0, rw one n.1, (n.2, n.3))
 
 truth_at : (id : Text) (rows : List Row) (text : Text) → one_of id rows ≡ Some text → accepts false vp.Bool text ≡ true → (b : Bool) × (flag_at id rows ≡ Some b)
 truth_at id rows text one passed =
@@ -110,11 +129,11 @@ analyse_own : (domains : ValueParser) → AllOwn (sub_at domains 0).rules (sub_a
 analyse_own domains = (
   (refl, option_adds (built_rule (domain_rule domains)) refl refl),
   (
-    (refl, option_adds (built_rule parts_rule) refl refl),
+    (refl, option_adds (built_rule (number_rule parts_option)) refl refl),
     (
-      (refl, option_adds (built_rule delay_rule) refl refl),
+      (refl, option_adds (built_rule (number_rule delay_option)) refl refl),
       (
-        (refl, option_adds (built_rule narrow_rule) refl refl),
+        (refl, option_adds (built_rule (number_rule narrow_option)) refl refl),
         (
           (refl, flag_adds (built_rule limited_rule) (codes "true") refl refl),
           (
@@ -134,27 +153,27 @@ analyse_taken domains takes words e =
     let rows = rows_after shape.rules [] words in
     let fit = level_rows shape refl (analyse_own domains) (λ i. refl) words e in
     let domain_text = defaulted_value shape words (built_rule (domain_rule domains)) fit refl refl refl in
-    let parts_text = defaulted_value shape words (built_rule parts_rule) fit refl refl refl in
-    let delay_text = defaulted_value shape words (built_rule delay_rule) fit refl refl refl in
-    let narrow_text = defaulted_value shape words (built_rule narrow_rule) fit refl refl refl in
+    let parts_text = defaulted_value shape words (built_rule (number_rule parts_option)) fit refl refl refl in
+    let delay_text = defaulted_value shape words (built_rule (number_rule delay_option)) fit refl refl refl in
+    let narrow_text = defaulted_value shape words (built_rule (number_rule narrow_option)) fit refl refl refl in
     let limited_text = defaulted_value shape words (built_rule limited_rule) fit refl refl refl in
     let json_text = defaulted_value shape words (built_rule json_rule) fit refl refl refl in
     let domain = domain_passed domains domain_text.text takes domain_text.passed in
-    let parts = number_of (codes "parts") 1 16 (2 ^ 32) rows parts_text.text (lit< tt) parts_text.one parts_text.passed in
-    let delay = number_of (codes "delay") 0 8 (2 ^ 32) rows delay_text.text (lit< tt) delay_text.one delay_text.passed in
-    let narrow = number_of (codes "narrow") 0 4 (2 ^ 32) rows narrow_text.text (lit< tt) narrow_text.one narrow_text.passed in
+    let parts = number_of parts_option (2 ^ 32) rows parts_text.text (lit< tt) parts_text.one parts_text.passed in
+    let delay = number_of delay_option (2 ^ 32) rows delay_text.text (lit< tt) delay_text.one delay_text.passed in
+    let narrow = number_of narrow_option (2 ^ 32) rows narrow_text.text (lit< tt) narrow_text.one narrow_text.passed in
     let limited = truth_at (codes "limited") rows limited_text.text limited_text.one limited_text.passed in
     let json = truth_at (codes "json") rows json_text.text json_text.one json_text.passed in
     let options : Options = record { domain = domain.0; parts = parts.0; delay = delay.0; narrow = narrow.0; limited = limited.0 } in
     let has_domain : domain_at (codes "domain") rows ≡ Some domain.0 = ap (option_and_then domain_named) domain_text.first ∙ domain.1 in
     let taken = options_from rows options has_domain parts.1 delay.1 narrow.1 limited.1 in
-    (Analyse options (format_of json.0), analyse_from rows options json.0 taken json.1, (parts.2, parts.3, delay.3, narrow.3))
+    (Analyse options (format_of json.0), analyse_from rows options json.0 taken json.1, (parts.2, delay.2, narrow.2))
 
 sample_own : (domains : ValueParser) → AllOwn (sub_at domains 1).rules (sub_at domains 1).rules
 sample_own domains = (
-  (refl, option_adds (built_rule seed_rule) refl refl),
+  (refl, option_adds (built_rule (number_rule seed_option)) refl refl),
   (
-    (refl, option_adds (built_rule size_rule) refl refl),
+    (refl, option_adds (built_rule (number_rule size_option)) refl refl),
     ((refl, help_adds (built_rule help_rule) refl), tt),
   ),
 )
@@ -179,11 +198,11 @@ sample_taken domains words e =
     let checks = (level_parts shape [] words false [] e).4 in
     let wanted = nothing_wanted false false (not (is_given (codes "seed") rows) || (not (is_given (codes "size") rows) || false)) checks in
     let given = both_given (is_given (codes "seed") rows) (is_given (codes "size") rows) wanted.1 in
-    let seed_text = value_there shape.rules rows (built_rule seed_rule) fit refl (given_there (codes "seed") rows given.0) in
-    let size_text = value_there shape.rules rows (built_rule size_rule) fit refl (given_there (codes "size") rows given.1) in
-    let seed = number_of (codes "seed") 0 (2 ^ 64 - 1) (2 ^ 64) rows seed_text.text (lit< tt) seed_text.one seed_text.passed in
-    let size = number_of (codes "size") 0 400 (2 ^ 32) rows size_text.text (lit< tt) size_text.one size_text.passed in
-    (Sample seed.0 size.0, sample_from rows seed.0 size.0 seed.1 size.1, size.3)
+    let seed_text = value_there shape.rules rows (built_rule (number_rule seed_option)) fit refl (given_there (codes "seed") rows given.0) in
+    let size_text = value_there shape.rules rows (built_rule (number_rule size_option)) fit refl (given_there (codes "size") rows given.1) in
+    let seed = number_of seed_option (2 ^ 64) rows seed_text.text (lit< tt) seed_text.one seed_text.passed in
+    let size = number_of size_option (2 ^ 32) rows size_text.text (lit< tt) size_text.one size_text.passed in
+    (Sample seed.0 size.0, sample_from rows seed.0 size.0 seed.1 size.1, (seed.2, size.2))
 
 -- ---- the whole parse
 

@@ -1,6 +1,6 @@
 -- The command that the matches of the command line are.
-use Rattle.std.specs.Prelude.{◌≡◌, ◌≤◌, ◌^◌, ◌&&◌, ◌⊎◌, ℕ, Bool, true, false, List, [], Option, Some}
-use Rattle.std.specs.Prelude.{None, codes, if◌then◌else◌, nat_lt, option_and_then, option_map, ⊤}
+use Rattle.std.specs.Prelude.{◌≡◌, ◌^◌, ◌&&◌, ◌⊎◌, ℕ, Bool, true, false, List, [], Option, Some}
+use Rattle.std.specs.Prelude.{None, codes, if◌then◌else◌, find, nat_lt, option_and_then, option_map, ⊤}
 use Rattle.std.specs.Str.{bytes_eq}
 use Rattle.std.specs.Str.Parse.{digits_value, without_leading_plus}
 use Rattle.clap.specs.ValueTests.{is_numeral}
@@ -8,9 +8,10 @@ use Rattle.clap.specs.Words.{Row, Text, fault_of, first_of, one_of, subcommand_o
 use Rattle.clap.specs.declared.builder.value_parser.ValueParser.{ValueParser}
 use Rattle.lra_base.specs.DomainNames.{domain_name}
 use Rattle.lra_base.specs.declared.options.Domain.{Domain}
-use Rattle.lra_base.specs.declared.options.Domain.TheVariants.{Poly, Box, Oct}
+use Rattle.lra_base.specs.declared.options.Domain.TheVariants.{Poly}
 use Rattle.lra_base.specs.declared.options.Options.{Options}
-use Rattle.lra_words.specs.CommandLine.{TakesDomains, command_line}
+use Rattle.lra_words.specs.CommandLine.{TakesDomains, IsInRange, command_line, domains_offered}
+use Rattle.lra_words.specs.CommandLine.{parts_option, delay_option, narrow_option, seed_option, size_option}
 use Rattle.lra_words.specs.declared.chosen.Command.{Command}
 use Rattle.lra_words.specs.declared.chosen.Format.{Format}
 use Rattle.lra_words.specs.declared.chosen.Format.TheVariants.{Lines, Json}
@@ -25,9 +26,7 @@ number_below limit text =
     else None
 
 abbrev pub domain_named : Text → Option Domain
-domain_named name = if bytes_eq name (domain_name Poly) then Some Poly
-    else (if bytes_eq name (domain_name Box) then Some Box
-    else (if bytes_eq name (domain_name Oct) then Some Oct else None))
+domain_named name = find (λ d. bytes_eq name (domain_name d)) domains_offered
 
 abbrev pub truth_of : Text → Option Bool
 truth_of text = if bytes_eq text (codes "true") then Some true
@@ -54,9 +53,9 @@ options_of rows =
       limited = limited;
     })
     (flag_at (codes "limited") rows))
-    (number_at (codes "narrow") (2 ^ 32) rows))
-    (number_at (codes "delay") (2 ^ 32) rows))
-    (number_at (codes "parts") (2 ^ 32) rows))
+    (number_at narrow_option.name (2 ^ 32) rows))
+    (number_at delay_option.name (2 ^ 32) rows))
+    (number_at parts_option.name (2 ^ 32) rows))
     (domain_at (codes "domain") rows)
 
 -- the options of an analysis where words name none, as a sample's
@@ -84,8 +83,8 @@ analyse_of rows = option_and_then (λ options. option_map (λ format. Analyse op
 
 abbrev pub sample_of : List Row → Option Command
 sample_of rows = option_and_then (λ seed. option_map (λ size. Sample seed size)
-    (number_at (codes "size") (2 ^ 32) rows))
-    (number_at (codes "seed") (2 ^ 64) rows)
+    (number_at size_option.name (2 ^ 32) rows))
+    (number_at seed_option.name (2 ^ 64) rows)
 
 -- the command of the subcommand's name and matches
 abbrev pub named_command : Text → List Row → Option Command
@@ -100,9 +99,9 @@ command_of (Some chosen) = named_command chosen.0 chosen.1
 
 -- each value lies in its option's range
 abbrev pub IsWithinRanges : Command → Type 0
-IsWithinRanges (Analyse options format) = (1 ≤ options.parts) × (options.parts ≤ 16)
-    × (options.delay ≤ 8) × (options.narrow ≤ 4)
-IsWithinRanges (Sample seed size) = size ≤ 400
+IsWithinRanges (Analyse options format) = IsInRange parts_option options.parts
+    × IsInRange delay_option options.delay × IsInRange narrow_option options.narrow
+IsWithinRanges (Sample seed size) = IsInRange seed_option seed × IsInRange size_option size
 IsWithinRanges Calc = ⊤
 
 -- the words ask for no command: the parse has a kind of error for them

@@ -7,13 +7,57 @@ ghost use Rattle.std.specs.Prelude.{◌≡◌, IfOk, false};
 ghost use Rattle.clap.specs.Words.{app_of, rule_of, with_subcommand};
 ghost use Rattle.clap.specs.declared.builder.command.Command.TheViews.{out-Command};
 ghost use Rattle.lra_words.specs.CommandLine.{DeclaresAnalyse, DeclaresCommandLine, DeclaresDomain};
-ghost use Rattle.lra_words.specs.CommandLine.{delay_rule, json_rule, limited_rule, narrow_rule};
-ghost use Rattle.lra_words.specs.CommandLine.{parts_rule, sample, seed_rule, size_rule, with_numbers};
+ghost use Rattle.lra_words.specs.CommandLine.{defaulted, flag, number, required, sample, valued, with_numbers};
 
+use clap::builder::ValueParser;
 use clap::{Arg, ArgAction, Command, value_parser};
 use std::alloc::{AllocError, Global};
 
 static DOMAINS: [&str; 3] = ["poly", "box", "oct"];
+
+/// `--name VALUE`, by this parser.
+fn valued_arg<'a>(alloc: Global, name: &'a str, parser: ValueParser<'a>) -> Arg<'a>
+    ensures rule { rule_of result ≡ valued name.now parser.entry }
+    ensures local { result.global ≡ false }
+{
+    Arg::new(alloc, name).long(name).value_parser(parser)
+}
+
+/// The same with a default.
+fn defaulted_arg<'a>(
+    alloc: Global,
+    name: &'a str,
+    parser: ValueParser<'a>,
+    default: &'a str,
+) -> Arg<'a>
+    ensures rule { rule_of result ≡ defaulted name.now parser.entry default.now }
+    ensures local { result.global ≡ false }
+{
+    valued_arg(alloc, name, parser).default_value(default)
+}
+
+/// The same without one, to be given.
+fn required_arg<'a>(alloc: Global, name: &'a str, parser: ValueParser<'a>) -> Arg<'a>
+    ensures rule { rule_of result ≡ required name.now parser.entry }
+    ensures local { result.global ≡ false }
+{
+    valued_arg(alloc, name, parser).required(true)
+}
+
+/// `--name`.
+fn flag_arg<'a>(alloc: Global, name: &'a str) -> Arg<'a>
+    ensures rule { rule_of result ≡ flag name.now }
+    ensures local { result.global ≡ false }
+{
+    Arg::new(alloc, name).long(name).action(ArgAction::SetTrue)
+}
+
+/// A number from `least` to `greatest`.
+fn between<'a>(least: u32, greatest: u32) -> ValueParser<'a>
+    ensures { result ≡ number least greatest }
+{
+    value_parser!(u64).range(i64::from(least)..=i64::from(greatest))
+}
 
 fn domain_arg<'a>(alloc: Global) -> Arg<'a>
     ensures rule { DeclaresDomain (rule_of result) }
@@ -25,82 +69,14 @@ fn domain_arg<'a>(alloc: Global) -> Arg<'a>
         .default_value("poly")
 }
 
-fn parts_arg<'a>(alloc: Global) -> Arg<'a>
-    ensures rule { rule_of result ≡ parts_rule }
-    ensures local { result.global ≡ false }
-{
-    Arg::new(alloc, "parts")
-        .long("parts")
-        .value_parser(value_parser!(u64).range(1..=16))
-        .default_value("1")
-}
-
-fn delay_arg<'a>(alloc: Global) -> Arg<'a>
-    ensures rule { rule_of result ≡ delay_rule }
-    ensures local { result.global ≡ false }
-{
-    Arg::new(alloc, "delay")
-        .long("delay")
-        .value_parser(value_parser!(u64).range(0..=8))
-        .default_value("1")
-}
-
-fn narrow_arg<'a>(alloc: Global) -> Arg<'a>
-    ensures rule { rule_of result ≡ narrow_rule }
-    ensures local { result.global ≡ false }
-{
-    Arg::new(alloc, "narrow")
-        .long("narrow")
-        .value_parser(value_parser!(u64).range(0..=4))
-        .default_value("1")
-}
-
-fn limited_arg<'a>(alloc: Global) -> Arg<'a>
-    ensures rule { rule_of result ≡ limited_rule }
-    ensures local { result.global ≡ false }
-{
-    Arg::new(alloc, "limited")
-        .long("limited")
-        .action(ArgAction::SetTrue)
-}
-
-fn json_arg<'a>(alloc: Global) -> Arg<'a>
-    ensures rule { rule_of result ≡ json_rule }
-    ensures local { result.global ≡ false }
-{
-    Arg::new(alloc, "json")
-        .long("json")
-        .action(ArgAction::SetTrue)
-}
-
-fn seed_arg<'a>(alloc: Global) -> Arg<'a>
-    ensures rule { rule_of result ≡ seed_rule }
-    ensures local { result.global ≡ false }
-{
-    Arg::new(alloc, "seed")
-        .long("seed")
-        .value_parser(value_parser!(u64))
-        .required(true)
-}
-
-fn size_arg<'a>(alloc: Global) -> Arg<'a>
-    ensures rule { rule_of result ≡ size_rule }
-    ensures local { result.global ≡ false }
-{
-    Arg::new(alloc, "size")
-        .long("size")
-        .value_parser(value_parser!(u64).range(0..=400))
-        .required(true)
-}
-
 /// The command so far, and the three options that are numbers.
 fn add_numbers<'a>(alloc: Global, command: Command<'a>) -> Result<Command<'a>, AllocError>
     ensures app { IfOk result (λ c. app_of c ≡ with_numbers (app_of command.entry)) }
     ensures local { IfOk result (λ c. (out-Command c).has_globals ≡ (out-Command command.entry).has_globals) }
 {
-    let command = command.arg(parts_arg(alloc))?;
-    let command = command.arg(delay_arg(alloc))?;
-    let command = command.arg(narrow_arg(alloc))?;
+    let command = command.arg(defaulted_arg(alloc, "parts", between(1, 16), "1"))?;
+    let command = command.arg(defaulted_arg(alloc, "delay", between(0, 8), "1"))?;
+    let command = command.arg(defaulted_arg(alloc, "narrow", between(0, 4), "1"))?;
     Ok(command)
 }
 
@@ -110,8 +86,8 @@ fn analyse_command<'a>(alloc: Global) -> Result<Command<'a>, AllocError>
 {
     let command = Command::new(alloc, "analyse").arg(domain_arg(alloc))?;
     let command = add_numbers(alloc, command)?;
-    let command = command.arg(limited_arg(alloc))?;
-    let command = command.arg(json_arg(alloc))?;
+    let command = command.arg(flag_arg(alloc, "limited"))?;
+    let command = command.arg(flag_arg(alloc, "json"))?;
     Ok(command)
 }
 
@@ -119,8 +95,12 @@ fn sample_command<'a>(alloc: Global) -> Result<Command<'a>, AllocError>
     ensures app { IfOk result (λ c. app_of c ≡ sample) }
     ensures local { IfOk result (λ c. (out-Command c).has_globals ≡ false) }
 {
-    let command = Command::new(alloc, "sample").arg(seed_arg(alloc))?;
-    let command = command.arg(size_arg(alloc))?;
+    let command = Command::new(alloc, "sample").arg(required_arg(
+        alloc,
+        "seed",
+        value_parser!(u64),
+    ))?;
+    let command = command.arg(required_arg(alloc, "size", between(0, 400)))?;
     Ok(command)
 }
 

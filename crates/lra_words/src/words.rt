@@ -2,8 +2,8 @@
 ghost use Rattle.std.specs.Prelude.{◌≡◌, ◌^◌, Err, IfOk, IfSome, Some, codes, map, string_bytes};
 ghost use Rattle.clap.specs.Words.{found_of, kind_of, rows_of};
 ghost use Rattle.lra_words.specs.Chosen.{Asks, AsksFor, AsksNone, IsUntaken, IsWithinRanges, command_of, domain_at};
-ghost use Rattle.lra_words.specs.Chosen.{sample_of};
-ghost use Rattle.lra_words.specs.Chosen.{analyse_of, domain_named, flag_at, format_at, format_of, number_at, options_of};
+ghost use Rattle.lra_words.specs.Chosen.{analyse_of, domain_named, flag_at, format_at, format_of};
+ghost use Rattle.lra_words.specs.Chosen.{number_at, options_of, sample_of};
 ghost use Rattle.lra_words.specs.Refusals.{refusal};
 
 use crate::chosen::{Command, Format};
@@ -31,15 +31,13 @@ fn refusal_of(error: &clap::Error) -> Refusal
     }
 }
 
+/// The domains that words can name.
+const DOMAINS: [Domain; 3] = [Domain::Poly, Domain::Box, Domain::Oct];
+
 fn find_domain(name: &str) -> Option<Domain>
     ensures { result ≡ domain_named name.now }
 {
-    match name {
-        "poly" => Some(Domain::Poly),
-        "box" => Some(Domain::Box),
-        "oct" => Some(Domain::Oct),
-        _ => None,
-    }
+    DOMAINS.iter().copied().find(|domain| name == domain.name())
 }
 
 fn read_domain(matches: &ArgMatches) -> Option<Domain>

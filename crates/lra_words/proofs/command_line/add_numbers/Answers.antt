@@ -8,6 +8,6 @@ same _ false _ is local = is ∙ local
 
 pub returns-clause-local : goal.returns-clause-local
 returns-clause-local c =
-    let one = same _ _ _ c.in_ok-command.ensures.globals c.parts_arg.ensures.local in
-    let two = same _ _ _ c.in_ok-command-2.ensures.globals c.delay_arg.ensures.local in
-    same _ _ _ c.in_ok-command-3.ensures.globals c.narrow_arg.ensures.local ∙ two ∙ one
+    let one = same _ _ _ c.in_ok-command.ensures.globals c.defaulted_arg.ensures.local in
+    let two = same _ _ _ c.in_ok-command-2.ensures.globals c.defaulted_arg-2.ensures.local in
+    same _ _ _ c.in_ok-command-3.ensures.globals c.defaulted_arg-3.ensures.local ∙ two ∙ one
