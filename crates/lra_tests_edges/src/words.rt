@@ -1,5 +1,5 @@
 use lra_base::{Domain, Options};
-use lra_words::{Command, Refusal, find_command, parse_command};
+use lra_words::{Command, Format, Refusal, find_command, parse_command};
 use std::alloc::{AllocError, Global};
 use std::process::Abort;
 
@@ -18,12 +18,12 @@ const BOXES: Options = Options {
 
 const ANALYSE: Command = Command::Analyse {
     options: DEFAULTS,
-    json: false,
+    format: Format::Lines,
 };
 
 const ANALYSE_BOXES: Command = Command::Analyse {
     options: BOXES,
-    json: false,
+    format: Format::Lines,
 };
 
 /// Lines, and the commands that they ask for, most with one option.
@@ -40,7 +40,7 @@ static ONE_OPTION: [(&str, Command); 14] = [
                 domain: Domain::Oct,
                 ..DEFAULTS
             },
-            json: false,
+            format: Format::Lines,
         },
     ),
     ("lra analyse --parts 1 --domain=box", ANALYSE_BOXES),
@@ -51,14 +51,14 @@ static ONE_OPTION: [(&str, Command); 14] = [
                 parts: 16,
                 ..DEFAULTS
             },
-            json: false,
+            format: Format::Lines,
         },
     ),
     (
         "lra analyse --domain box --parts 2",
         Command::Analyse {
             options: Options { parts: 2, ..BOXES },
-            json: false,
+            format: Format::Lines,
         },
     ),
     (
@@ -68,7 +68,7 @@ static ONE_OPTION: [(&str, Command); 14] = [
                 delay: 0,
                 ..DEFAULTS
             },
-            json: false,
+            format: Format::Lines,
         },
     ),
     (
@@ -78,7 +78,7 @@ static ONE_OPTION: [(&str, Command); 14] = [
                 delay: 8,
                 ..DEFAULTS
             },
-            json: false,
+            format: Format::Lines,
         },
     ),
     (
@@ -88,7 +88,7 @@ static ONE_OPTION: [(&str, Command); 14] = [
                 delay: 2,
                 ..DEFAULTS
             },
-            json: false,
+            format: Format::Lines,
         },
     ),
     (
@@ -98,7 +98,7 @@ static ONE_OPTION: [(&str, Command); 14] = [
                 delay: 3,
                 ..DEFAULTS
             },
-            json: false,
+            format: Format::Lines,
         },
     ),
     (
@@ -108,7 +108,7 @@ static ONE_OPTION: [(&str, Command); 14] = [
                 delay: 7,
                 ..DEFAULTS
             },
-            json: false,
+            format: Format::Lines,
         },
     ),
 ];
@@ -123,7 +123,7 @@ static SEVERAL: [(&str, Command); 13] = [
                 limited: true,
                 ..BOXES
             },
-            json: false,
+            format: Format::Lines,
         },
     ),
     (
@@ -133,7 +133,7 @@ static SEVERAL: [(&str, Command); 13] = [
                 narrow: 0,
                 ..DEFAULTS
             },
-            json: false,
+            format: Format::Lines,
         },
     ),
     (
@@ -144,7 +144,7 @@ static SEVERAL: [(&str, Command); 13] = [
                 narrow: 4,
                 ..BOXES
             },
-            json: false,
+            format: Format::Lines,
         },
     ),
     (
@@ -154,21 +154,21 @@ static SEVERAL: [(&str, Command); 13] = [
                 limited: true,
                 ..DEFAULTS
             },
-            json: false,
+            format: Format::Lines,
         },
     ),
     (
         "lra analyse --json",
         Command::Analyse {
             options: DEFAULTS,
-            json: true,
+            format: Format::Json,
         },
     ),
     (
         "lra analyse --domain box --json",
         Command::Analyse {
             options: BOXES,
-            json: true,
+            format: Format::Json,
         },
     ),
     (
@@ -181,7 +181,7 @@ static SEVERAL: [(&str, Command); 13] = [
                 narrow: 3,
                 limited: true,
             },
-            json: true,
+            format: Format::Json,
         },
     ),
     (
