@@ -6,6 +6,7 @@ use Rattle.lra_edge.specs.Causes.{AppendsPart, Rose}
 use Rattle.lra_base.specs.declared.options.Options.{Options}
 use Rattle.lra_words.specs.Chosen.{Asks, AsksNone, IsUntaken}
 use Rattle.lra_words.specs.declared.chosen.Command.{Command}
+use Rattle.lra_words.specs.declared.chosen.Format.{Format}
 use Rattle.lra_words.specs.declared.chosen.Command.TheVariants.{Analyse, Sample}
 use Rattle.lra_top.specs.Exit.{exit_of}
 use Rattle.lra_top.specs.Statuses.{Ends, reported, answered, silent, faults}
@@ -147,20 +148,20 @@ module _ {words : List (List ℕ)} {t : Told} {status : Status} (e : Ending word
   pub nothing : Ends silent status → Keeps t.held t.held_now
   nothing = nothing_by words t status e.result e.deserved e.written
 
-  pub all_hold : (options : Options) (json : Bool) → Asks words (Analyse options json) → Ends reported status
-      → WritesReport options (written_report json) HoldsInAllRuns t.left t.held t.held_now
-  all_hold options json asks ends =
-      writes_report HoldsInAllRuns words t.left t.held t.held_now options json (holds options) status asks ends (written (reported_answered status ends))
+  pub all_hold : (options : Options) (format : Format) → Asks words (Analyse options format) → Ends reported status
+      → WritesReport options (written_report format) HoldsInAllRuns t.left t.held t.held_now
+  all_hold options format asks ends =
+      writes_report HoldsInAllRuns words t.left t.held t.held_now options format (holds options) status asks ends (written (reported_answered status ends))
 
-  pub all_written : (options : Options) (json : Bool) → Asks words (Analyse options json) → Ends reported status
-      → WritesReport options (written_report json) (IsWrittenUnlessFlagged options) t.left t.held t.held_now
-  all_written options json asks ends =
-      writes_report (IsWrittenUnlessFlagged options) words t.left t.held t.held_now options json (is_written options) status asks ends (written (reported_answered status ends))
+  pub all_written : (options : Options) (format : Format) → Asks words (Analyse options format) → Ends reported status
+      → WritesReport options (written_report format) (IsWrittenUnlessFlagged options) t.left t.held t.held_now
+  all_written options format asks ends =
+      writes_report (IsWrittenUnlessFlagged options) words t.left t.held t.held_now options format (is_written options) status asks ends (written (reported_answered status ends))
 
-  pub all_same : (options : Options) (json : Bool) → Asks words (Analyse options json) → Ends reported status
-      → WritesReport options (written_report json) (TellsSamePoints options) t.left t.held t.held_now
-  all_same options json asks ends =
-      writes_report (TellsSamePoints options) words t.left t.held t.held_now options json (same_points options) status asks ends (written (reported_answered status ends))
+  pub all_same : (options : Options) (format : Format) → Asks words (Analyse options format) → Ends reported status
+      → WritesReport options (written_report format) (TellsSamePoints options) t.left t.held t.held_now
+  all_same options format asks ends =
+      writes_report (TellsSamePoints options) words t.left t.held t.held_now options format (same_points options) status asks ends (written (reported_answered status ends))
 
   pub sampled : (seed size : ℕ) → Asks words (Sample seed size) → Ends reported status → WritesSummary seed size t.held t.held_now
   sampled seed size asks ends = writes_summary words t.left t.held t.held_now seed size status asks ends (written (reported_answered status ends))

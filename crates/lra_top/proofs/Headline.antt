@@ -20,6 +20,7 @@ use Rattle.lra_source.proofs.Sayings.{over_each}
 use Rattle.lra_sample.specs.Sample.{sample_source}
 use Rattle.lra_sample.specs.Summary.{summary_text}
 use Rattle.lra_words.specs.Chosen.{Asks, default_options}
+use Rattle.lra_words.specs.declared.chosen.Format.{Format}
 use Rattle.lra_words.specs.declared.chosen.Command.TheVariants.{Analyse, Sample}
 use Rattle.lra_top.specs.Statuses.{Ends, reported}
 use Rattle.lra_top.specs.SourceAnswer.{DeservesSource, written_report}
@@ -115,13 +116,13 @@ module _ (so : List ℕ → Report → Type 0) (left held_old held_new : Option 
     is_so = claimed bytes r.report r.answered;
   }
 
-pub writes_report : (so : List ℕ → Report → Type 0) (words : List (List ℕ)) (left held_old held_new : Option (List ℕ)) (options : Options) (json : Bool)
+pub writes_report : (so : List ℕ → Report → Type 0) (words : List (List ℕ)) (left held_old held_new : Option (List ℕ)) (options : Options) (format : Format)
     → ((bytes : List ℕ) (r : Report) → IsAnswered options bytes r → so bytes r) → (status : Status)
-    → Asks words (Analyse options json) → Ends reported status → Writes words left held_old held_new status
-    → WritesReport options (written_report json) so left held_old held_new
-writes_report so words left held_old held_new options json claimed status asks ends w =
-    of_answer so left held_old held_new options (written_report json) claimed w.deserved.bytes w.text status ends w.deserved.input
-    (asked_input words left w.text status (Analyse options json) asks w.deserved) w.written
+    → Asks words (Analyse options format) → Ends reported status → Writes words left held_old held_new status
+    → WritesReport options (written_report format) so left held_old held_new
+writes_report so words left held_old held_new options format claimed status asks ends w =
+    of_answer so left held_old held_new options (written_report format) claimed w.deserved.bytes w.text status ends w.deserved.input
+    (asked_input words left w.text status (Analyse options format) asks w.deserved) w.written
 
 all_held : (bytes : List ℕ) (r : Report) → IsAnswered default_options bytes r → HoldsInAllRuns bytes r × IsWrittenUnlessFlagged default_options bytes r × TellsSamePoints default_options bytes r
 all_held bytes r a = (holds default_options bytes r a, is_written default_options bytes r a, same_points default_options bytes r a)

@@ -1,7 +1,9 @@
-pub mod Reading
+pub mod Answering
 pub mod ScriptWays
 pub mod SourceWays
 pub mod SampleWays
+pub mod Rows
+pub mod Reading
 pub mod Ways
 pub mod Headline
 pub mod Ending

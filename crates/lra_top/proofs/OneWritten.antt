@@ -1,5 +1,5 @@
 -- Two reports that a source deserves and that are written alike are the same.
-use Rattle.std.specs.Prelude.{true, false}
+use Rattle.lra_words.specs.declared.chosen.Format.TheVariants.{Lines, Json}
 use Rattle.lra_tree.specs.Grammar.{Spells}
 use Rattle.lra_meaning.specs.Refuse.{OneAnswer}
 use Rattle.lra_json.proofs.OneJson.{one_source_json}
@@ -7,6 +7,6 @@ use Rattle.lra_source.proofs.OneText.{one_text}
 use Rattle.lra_top.specs.SourceAnswer.{OneWrittenReport}
 
 pub one_written : OneAnswer Spells → OneWrittenReport
-one_written one false o source r s x y same = one_text one o source r s x y same
-one_written one true o source r s x y same =
+one_written one Lines o source r s x y same = one_text one o source r s x y same
+one_written one Json o source r s x y same =
     one_source_json Spells (λ t z h. h) r s o source (λ t u a b. (one source).0 t u a b) x.report y.report x.readable y.readable same

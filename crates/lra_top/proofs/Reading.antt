@@ -3,12 +3,11 @@ use Rattle.std.proofs.Common.{◌≡◌, ◌∙◌, ◌≤◌, ◌<◌, ◌+◌,
 use Rattle.std.specs.Prelude.{Option, Some, None, Result, Ok, Err, IfOk, IsOk, IsErrOf, Vec}
 use Rattle.std.specs.Io.KnownBytes.{Consumes, IsAtEnd}
 use Rattle.lra_edge.specs.ReadEnd.{LosesFront, IsWhole, IsPastLimit}
-use Rattle.lra_tree.specs.Tokens.{greatest_length}
 use Rattle.lra_words.specs.declared.chosen.Command.{Command}
-use Rattle.lra_words.specs.declared.chosen.Command.TheVariants.{Analyse, Sample, Calc}
 use Rattle.lra_top.specs.Commands.{limit_of}
 use Rattle.lra_top.specs.Run.{IsInput, IsRead, TakesBytes}
 use Rattle.lra_top.specs.Prepared.{IsTaken, IsReadBy}
+use Rattle.lra_top.proofs.Rows.{answering}
 use Rattle.lra_top.specs.declared.top_call.NoAnswer.{NoAnswer}
 use Rattle.lra_top.specs.declared.top_call.NoAnswer.TheVariants as none
 
@@ -48,21 +47,8 @@ pub ruleset reading = (taken_whole, taken_past, reads_whole, reads_past, reads_f
 
 -- by a command's limit ----------------------------------------------------------------
 
--- each limit is far below what numbers of 32 bits count
-small : greatest_length + 2 < 2 ^ 32
-unfolding greatest_length
-small = omega arith
-
-known_limit : (limit : ℕ) → Some greatest_length ≡ Some limit → limit + 2 < 2 ^ 32
-known_limit limit e = let same : greatest_length ≡ limit = cc in subst (λ n. n + 2 < 2 ^ 32) same small
-
-small_limit : (c : Command) (limit : ℕ) → limit_of c ≡ Some limit → limit + 2 < 2 ^ 32
-small_limit (Analyse options json) limit e = known_limit limit e
-small_limit (Sample seed size) limit e = absurd (let wrong : ⊥ = cc in wrong)
-small_limit Calc limit e = known_limit limit e
-
 pub found_limit : (c : Command) (found : Option ℕ) (limit : ℕ) → found ≡ limit_of c → found ≡ Some limit → limit + 2 < 2 ^ 32
-found_limit c found limit is same = small_limit c limit (sym is ∙ same)
+found_limit c found limit is same = (answering c).small limit (sym is ∙ same)
 
 -- what a limit says, where it is the command's
 pub of_limit : (P : Option ℕ → Type 0) (c : Command) (found limit : Option ℕ) → found ≡ limit_of c → found ≡ limit → P limit → P (limit_of c)

@@ -1,6 +1,6 @@
--- From the answer to a sample source to what the sample deserves.
-use Rattle.std.proofs.Common.{◌≡◌, ℕ, List, subst}
-use Rattle.std.specs.Prelude.{Result, Ok, Err, IfOk}
+-- From the answer to a sample source to what the sample deserves, and from that to how a call ends.
+use Rattle.std.proofs.Common.{◌≡◌, ℕ, List, subst, inr}
+use Rattle.std.specs.Prelude.{None, Result, Ok, Err, IfOk}
 use Rattle.lra_base.specs.declared.refusals.Cause.{Cause}
 use Rattle.lra_base.specs.declared.refusals.Place.{Place}
 use Rattle.lra_base.specs.declared.refusals.Refusal.{Refusal}
@@ -12,11 +12,15 @@ use Rattle.lra_tree.specs.Grammar.{Spells}
 use Rattle.lra_meaning.specs.Refuse.{Refuse}
 use Rattle.lra_sample.specs.Sample.{sample_source}
 use Rattle.lra_sample.specs.Summary.{summary_text}
+use Rattle.lra_sample.proofs.Samples.{accepted}
 use Rattle.lra_source.specs.Answers.{IsAnswered}
+use Rattle.lra_words.specs.CommandLine.{IsInRange, seed_option, size_option}
 use Rattle.lra_words.specs.Chosen.{default_options}
+use Rattle.lra_top.specs.Statuses.{reported}
 use Rattle.lra_top.specs.SourceAnswer.{report_status}
 use Rattle.lra_top.specs.SampleAnswer.{DeservesSample}
-use Rattle.lra_top.proofs.SourceWays.{deserves_report, deserves_refusal}
+use Rattle.lra_top.proofs.Answering.{IsAnswering}
+use Rattle.lra_top.proofs.SourceWays.{deserves_report, deserves_refusal, accepted_ends}
 use Rattle.lra_top.specs.declared.answer.Answer.{Answer}
 use Rattle.lra_top.specs.declared.status.Status.{Status}
 use Rattle.lra_top.specs.declared.status.Status.TheVariants.{Refused}
@@ -44,3 +48,18 @@ pub refusal_answer : {E : Type 0} (seed size : ℕ) (source : List ℕ) (r : Ref
     → IfOk result (λ a. a.text.items ≡ refusal_text r.cause r.place) → IfOk result (λ a. a.status ≡ Refused) → IfOk result (λ a. DeservesSample seed size a.text.items a.status)
 refusal_answer seed size source r (Ok a) made refused written is = sample_refused seed size source a.text.items r.cause r.place a.status made refused written is
 refusal_answer seed size source r (Err e) made refused written is = tt
+
+-- a sample reads nothing, and its source is accepted
+pub sample_answering : (seed size : ℕ)
+    → IsAnswering (IsInRange seed_option seed × IsInRange size_option size) None (λ (bytes : List ℕ) text status. DeservesSample seed size text status) reported (λ (bytes : List ℕ) among. ⊥)
+sample_answering seed size = record {
+  small = λ n some. absurd (let wrong : ⊥ = cc in wrong);
+  longer = λ n bytes rest text status some long d. d;
+  any = λ bytes other text status none d. d;
+  own = λ status ends. inr ends;
+  ends = λ bytes text status within d.
+      let (tree, is) = accepted seed size within.1.1 in
+      accepted_ends default_options (summary_text seed size) (sample_source seed size) text status tree d is;
+  called = λ bytes text status among d calls. absurd calls;
+  too_long = λ n bytes text status some long d. absurd (let wrong : ⊥ = cc in wrong);
+}

@@ -1,6 +1,6 @@
 -- From what a script deserves to how a call ends that answers it.
 use Rattle.std.proofs.Common.{◌≡◌, ◌∙◌, ◌≤◌, ◌<◌, ℕ, List, ◌++◌, length, take, refl, ap, sym, subst, arith, inl, inr, ◌⊎◌}
-use Rattle.std.specs.Prelude.{Result, Ok, Err}
+use Rattle.std.specs.Prelude.{Some, None, Result, Ok, Err}
 use Rattle.std.proofs.lemmas.Grind.{common_steps}
 use Rattle.std.proofs.lemmas.List.{take-append-le}
 use Rattle.lra_tree.specs.Tokens.{greatest_length, place_behind}
@@ -8,6 +8,8 @@ use Rattle.lra_calc.specs.Script as script
 use Rattle.lra_calc.proofs.Limit.{answer_too_long, long_answer}
 use Rattle.lra_top.specs.Statuses.{Ends, refused}
 use Rattle.lra_top.specs.ScriptAnswer.{IsScriptRefusal, DeservesScript, CallsScript, script_statuses}
+use Rattle.lra_top.specs.SourceAnswer.{source_statuses}
+use Rattle.lra_top.proofs.Answering.{IsAnswering, small, past}
 use Rattle.lra_top.specs.declared.status.Status.{Status}
 use Rattle.lra_top.specs.declared.status.Status.TheVariants.{Proved, Refused}
 
@@ -23,7 +25,7 @@ pub ruleset deserving = (deserves_output, deserves_refused)
 
 -- one byte past the limit ---------------------------------------------------------
 
-pub too_long_answer : (bytes : List ℕ) → greatest_length < length bytes → script.AnswersTo bytes (Err (script.TooLong (place_behind (take greatest_length bytes))))
+too_long_answer : (bytes : List ℕ) → greatest_length < length bytes → script.AnswersTo bytes (Err (script.TooLong (place_behind (take greatest_length bytes))))
 too_long_answer bytes long = answer_too_long greatest_length bytes refl long
 
 -- more bytes behind those past the limit change nothing
@@ -34,13 +36,13 @@ same_answer bytes rest answer long a =
     let same = ap (λ (front : List ℕ). let r : Result (List ℕ) script.Refusal = Err (script.TooLong (place_behind front)) in r) (take-append-le greatest_length bytes rest reached) in
     subst (script.AnswersTo (bytes ++ rest)) (same ∙ sym (long_answer bytes answer long a)) (too_long_answer (bytes ++ rest) longer)
 
-pub longer_script : (bytes rest text : List ℕ) (status : Status) → greatest_length < length bytes → DeservesScript bytes text status → DeservesScript (bytes ++ rest) text status
+longer_script : (bytes rest text : List ℕ) (status : Status) → greatest_length < length bytes → DeservesScript bytes text status → DeservesScript (bytes ++ rest) text status
 longer_script bytes rest text status long (inl (d, is)) = inl (record { refusal = d.refusal; answers = same_answer bytes rest (Err d.refusal) long d.answers; written = d.written }, is)
 longer_script bytes rest text status long (inr (answers, is)) = inr (same_answer bytes rest (Ok text) long answers, is)
 
 -- the status -----------------------------------------------------------------------
 
-pub script_ends : (bytes text : List ℕ) (status : Status) → DeservesScript bytes text status → Ends script_statuses status
+script_ends : (bytes text : List ℕ) (status : Status) → DeservesScript bytes text status → Ends script_statuses status
 script_ends bytes text status (inl (d, is)) = inl is
 script_ends bytes text status (inr (answers, is)) = inr (inl is)
 
@@ -48,7 +50,7 @@ script_refused : (bytes text : List ℕ) (status : Status) → DeservesScript by
 script_refused bytes text status (inl (d, is)) never = inl is
 script_refused bytes text status (inr (answers, is)) never = absurd (never text answers)
 
-pub script_called : (bytes text : List ℕ) (status : Status) (among : List Status) → DeservesScript bytes text status → CallsScript bytes among → Ends among status
+script_called : (bytes text : List ℕ) (status : Status) (among : List Status) → DeservesScript bytes text status → CallsScript bytes among → Ends among status
 script_called bytes text status among d (inl (never, calls)) = subst (λ a. Ends a status) (sym calls) (script_refused bytes text status d never)
 script_called bytes text status among (inl (d, is)) (inr (never, calls)) = absurd (never d.refusal d.answers)
 script_called bytes text status among (inr (answers, is)) (inr (never, calls)) = subst (λ a. Ends a status) (sym calls) (inl is)
@@ -57,5 +59,18 @@ script_called bytes text status among (inr (answers, is)) (inr (never, calls)) =
 too_long_never_runs : (bytes : List ℕ) → greatest_length < length bytes → script.NeverRuns bytes
 too_long_never_runs bytes long = λ output a. absurd (let e = long_answer bytes (Ok output) long a in cc)
 
-pub script_too_long : (bytes text : List ℕ) (status : Status) → DeservesScript bytes text status → greatest_length < length bytes → Ends refused status
-script_too_long bytes text status d long = script_refused bytes text status d (too_long_never_runs bytes long)
+script_own : (status : Status) → Ends script_statuses status → Ends source_statuses status
+script_own status (inl is) = inl is
+script_own status (inr (inl is)) = inr (inl is)
+script_own status (inr (inr none)) = absurd none
+
+pub script_answering : (ranges : Type 0) → IsAnswering ranges (Some greatest_length) (λ bytes text status. DeservesScript bytes text status) script_statuses (λ bytes among. CallsScript bytes among)
+script_answering ranges = record {
+  small = small;
+  longer = λ n bytes rest text status limit long d. longer_script bytes rest text status (past n bytes limit long) d;
+  any = λ bytes other text status none d. absurd (let wrong : ⊥ = cc in wrong);
+  own = script_own;
+  ends = λ bytes text status within d. script_ends bytes text status d;
+  called = λ bytes text status among d calls. script_called bytes text status among d calls;
+  too_long = λ n bytes text status limit long d. script_refused bytes text status d (too_long_never_runs bytes (past n bytes limit long));
+}

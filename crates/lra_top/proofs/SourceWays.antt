@@ -1,5 +1,6 @@
--- From what a source deserves to how a call ends that answers it. The rest of the crate knows of a source what stands here.
+-- From what a source deserves to how a call ends that answers it.
 use Rattle.std.proofs.Common.{◌≡◌, ◌≤◌, ◌<◌, ℕ, zero, suc, List, ◌++◌, length, take, refl, sym, subst, arith, inl, inr, ◌⊎◌}
+use Rattle.std.specs.Prelude.{Some, None}
 use Rattle.std.proofs.lemmas.Grind.{common_steps}
 use Rattle.std.proofs.lemmas.List.{take-append-le}
 use Rattle.lra_base.specs.declared.refusals.Cause.{Cause}
@@ -18,6 +19,7 @@ use Rattle.lra_front.specs.Claims.{HasRefusal}
 use Rattle.lra_front.proofs.EachAnswer.{each_answer}
 use Rattle.lra_top.specs.Statuses.{Ends, reported, refused}
 use Rattle.lra_top.specs.SourceAnswer.{IsRefusal, IsReport, report_status, DeservesSource, CallsSource, source_statuses}
+use Rattle.lra_top.proofs.Answering.{IsAnswering, small, past}
 use Rattle.lra_top.specs.declared.status.Status.{Status}
 use Rattle.lra_top.specs.declared.status.Status.TheVariants.{Proved, Unknown, Refused}
 
@@ -61,9 +63,10 @@ longer_refused bytes rest _ _ long (bad_token c p l e) = absurd (not_past bytes 
 longer_refused bytes rest _ _ long (bad_text tokens c p l lexed e) = absurd (not_past bytes long l)
 longer_refused bytes rest _ _ long (bad_tree tokens t c p l lexed is e) = absurd (not_past bytes long l)
 
-pub longer_source : (o : Options) (write : Report → List ℕ) (bytes rest text : List ℕ) (status : Status) → greatest_length < length bytes → DeservesSource o write bytes text status
+longer_source : (o : Options) (write : Report → List ℕ) (bytes rest text : List ℕ) (status : Status) → greatest_length < length bytes → DeservesSource o write bytes text status
     → DeservesSource o write (bytes ++ rest) text status
-longer_source o write bytes rest text status long (inl (d, is)) = inl (record { cause = d.cause; place = d.place; refused = longer_refused bytes rest d.cause d.place long d.refused; written = d.written }, is)
+longer_source o write bytes rest text status long (inl (d, is)) =
+    inl (record { cause = d.cause; place = d.place; refused = longer_refused bytes rest d.cause d.place long d.refused; written = d.written }, is)
 longer_source o write bytes rest text status long (inr d) = absurd (not_past bytes long d.answered.report.accepted.not_long)
 
 -- the status -----------------------------------------------------------------------
@@ -75,7 +78,7 @@ report_ends (suc n) = inr (inl refl)
 reported_ends : (o : Options) (write : Report → List ℕ) (bytes text : List ℕ) (status : Status) → IsReport o write bytes text status → Ends reported status
 reported_ends o write bytes text status d = subst (Ends reported) (sym d.counted) (report_ends (unknown_count d.report.verdicts))
 
-pub source_ends : (o : Options) (write : Report → List ℕ) (bytes text : List ℕ) (status : Status) → DeservesSource o write bytes text status → Ends source_statuses status
+source_ends : (o : Options) (write : Report → List ℕ) (bytes text : List ℕ) (status : Status) → DeservesSource o write bytes text status → Ends source_statuses status
 source_ends o write bytes text status (inl (d, is)) = inl is
 source_ends o write bytes text status (inr d) = inr (reported_ends o write bytes text status d)
 
@@ -90,10 +93,19 @@ refused_ends : (o : Options) (write : Report → List ℕ) (bytes text : List �
 refused_ends o write bytes text status (inl (d, is)) _ = inl is
 refused_ends o write bytes text status (inr d) (cause, at, why) = absurd ((each_answer bytes).2 d.answered.report.tree cause at d.answered.report.accepted why)
 
-pub source_called : (o : Options) (write : Report → List ℕ) (bytes text : List ℕ) (status : Status) (among : List Status) → DeservesSource o write bytes text status → CallsSource bytes among
+source_called : (o : Options) (write : Report → List ℕ) (bytes text : List ℕ) (status : Status) (among : List Status) → DeservesSource o write bytes text status → CallsSource bytes among
     → Ends among status
 source_called o write bytes text status among d (inl (why, is)) = subst (λ a. Ends a status) (sym is) (refused_ends o write bytes text status d why)
 source_called o write bytes text status among d (inr (t, accepted, is)) = subst (λ a. Ends a status) (sym is) (accepted_ends o write bytes text status t d accepted)
 
-pub source_too_long : (o : Options) (write : Report → List ℕ) (bytes text : List ℕ) (status : Status) → DeservesSource o write bytes text status → greatest_length < length bytes → Ends refused status
-source_too_long o write bytes text status d long = refused_ends o write bytes text status d (TooLong, _, too_long long)
+pub source_answering : (ranges : Type 0) (o : Options) (write : Report → List ℕ)
+    → IsAnswering ranges (Some greatest_length) (λ bytes text status. DeservesSource o write bytes text status) source_statuses (λ bytes among. CallsSource bytes among)
+source_answering ranges o write = record {
+  small = small;
+  longer = λ n bytes rest text status limit long d. longer_source o write bytes rest text status (past n bytes limit long) d;
+  any = λ bytes other text status none d. absurd (let wrong : ⊥ = cc in wrong);
+  own = λ status ends. ends;
+  ends = λ bytes text status within d. source_ends o write bytes text status d;
+  called = λ bytes text status among d calls. source_called o write bytes text status among d calls;
+  too_long = λ n bytes text status limit long d. refused_ends o write bytes text status d (TooLong, _, too_long (past n bytes limit long));
+}

@@ -1,64 +1,20 @@
 -- From what words and their input deserve to what is made of them before the writing, and to the statuses of an answer.
 use Rattle.std.proofs.Common.{◌≡◌, ◌≤◌, ◌<◌, ◌+◌, ℕ, List, ◌++◌, length, refl, sym, subst, Bool, inl, inr, ◌⊎◌, arith}
 use Rattle.std.specs.Prelude.{Option, Some, None, Result, Ok, Err, IfOk, IsOk}
-use Rattle.lra_tree.specs.Tokens.{greatest_length}
-use Rattle.lra_sample.specs.Sample.{sample_source}
-use Rattle.lra_sample.specs.Summary.{summary_text}
-use Rattle.lra_sample.proofs.Samples.{accepted as all_accepted}
-use Rattle.lra_words.specs.Chosen.{Asks, AsksNone, AsksFor, IsUntaken, IsWithinRanges, default_options}
+use Rattle.lra_words.specs.Chosen.{Asks, AsksNone, AsksFor, IsUntaken, IsWithinRanges}
 use Rattle.lra_words.specs.declared.chosen.Command.{Command}
-use Rattle.lra_words.specs.declared.chosen.Command.TheVariants.{Analyse, Sample, Calc}
 use Rattle.lra_words.proofs.OneCommand.{one_asked, asks_not_none, asks_within}
-use Rattle.lra_top.specs.Statuses.{Ends, reported, refused, answered}
-use Rattle.lra_top.specs.SourceAnswer.{written_report, source_statuses}
-use Rattle.lra_top.specs.SampleAnswer.{DeservesSample}
+use Rattle.lra_top.specs.Statuses.{Ends, refused, answered}
+use Rattle.lra_top.specs.SourceAnswer.{source_statuses}
 use Rattle.lra_top.specs.Commands.{limit_of, DeservesInput, statuses_of, CallsInput, IsTooLong, IsKnown, asked_limit, CallsFor}
 use Rattle.lra_top.specs.Run.{IsInput, IsAsked, usage_text, Deserves, IsDeserved, IsRead, TakesBytes}
 use Rattle.lra_top.specs.Prepared.{IsInputText, IsTaken, IsReadBy}
+use Rattle.lra_top.proofs.Rows.{answering}
 use Rattle.lra_top.proofs.Reading.{unread, read_as, whole_input, begun_input, some_input}
-use Rattle.lra_top.proofs.SourceWays.{longer_source, source_ends, accepted_ends, source_called, source_too_long}
-use Rattle.lra_top.proofs.ScriptWays.{longer_script, script_ends, script_called, script_too_long}
 use Rattle.lra_top.specs.declared.status.Status.{Status}
 use Rattle.lra_top.specs.declared.status.Status.TheVariants.{Usage}
 use Rattle.lra_top.specs.declared.top_call.NoAnswer.{NoAnswer}
 use Rattle.lra_top.specs.declared.top_call.NoAnswer.TheVariants as none
-
--- rows over the commands -------------------------------------------------------------
-
-past_limit : (limit : ℕ) (bytes : List ℕ) → Some greatest_length ≡ Some limit → limit < length bytes → greatest_length < length bytes
-past_limit limit bytes e long = let same : greatest_length ≡ limit = cc in subst (λ n. n < length bytes) (sym same) long
-
--- one byte past the limit says as much as the whole input
-longer_input : (c : Command) (limit : ℕ) (bytes rest text : List ℕ) (status : Status) → limit_of c ≡ Some limit → limit < length bytes → DeservesInput c bytes text status
-    → DeservesInput c (bytes ++ rest) text status
-longer_input (Analyse options json) limit bytes rest text status e long d = longer_source options (written_report json) bytes rest text status (past_limit limit bytes e long) d
-longer_input (Sample seed size) limit bytes rest text status e long d = d
-longer_input Calc limit bytes rest text status e long d = longer_script bytes rest text status (past_limit limit bytes e long) d
-
--- without a limit the input says nothing
-any_input : (c : Command) (bytes other text : List ℕ) (status : Status) → limit_of c ≡ None → DeservesInput c bytes text status → DeservesInput c other text status
-any_input (Analyse options json) bytes other text status e d = absurd (let wrong : ⊥ = cc in wrong)
-any_input (Sample seed size) bytes other text status e d = d
-any_input Calc bytes other text status e d = absurd (let wrong : ⊥ = cc in wrong)
-
--- the statuses of a command's answer
-input_ends : (c : Command) (bytes text : List ℕ) (status : Status) → IsWithinRanges c → DeservesInput c bytes text status → Ends (statuses_of c) status
-input_ends (Analyse options json) bytes text status ranges d = source_ends options (written_report json) bytes text status d
-input_ends (Sample seed size) bytes text status ranges d =
-    let (tree, accepted) = all_accepted seed size ranges in
-    accepted_ends default_options (summary_text seed size) (sample_source seed size) text status tree d accepted
-input_ends Calc bytes text status ranges d = script_ends bytes text status d
-
--- by the bytes
-input_called : (c : Command) (bytes text : List ℕ) (status : Status) (among : List Status) → DeservesInput c bytes text status → CallsInput c bytes among → Ends among status
-input_called (Analyse options json) bytes text status among d calls = source_called options (written_report json) bytes text status among d calls
-input_called (Sample seed size) bytes text status among d calls = absurd calls
-input_called Calc bytes text status among d calls = script_called bytes text status among d calls
-
-too_long_ends : (c : Command) (bytes text : List ℕ) (status : Status) → DeservesInput c bytes text status → IsTooLong c bytes → Ends refused status
-too_long_ends (Analyse options json) bytes text status d (limit, e, long) = source_too_long options (written_report json) bytes text status d (past_limit limit bytes e long)
-too_long_ends (Sample seed size) bytes text status d (limit, e, long) = absurd (let wrong : ⊥ = cc in wrong)
-too_long_ends Calc bytes text status d (limit, e, long) = script_too_long bytes text status d (past_limit limit bytes e long)
 
 -- a command's answer ------------------------------------------------------------------
 
@@ -68,14 +24,14 @@ whole_text c limit old new bytes text status e t d = elim t.whole [
   | inl end ↦ record { bytes = bytes; input = whole_input old new bytes t.taken end; deserved = d }
   | inr past ↦ let (rest, input) = begun_input old new bytes t.taken in
       let long : limit < length bytes = omega arith in
-      record { bytes = bytes ++ rest; input = input; deserved = longer_input c limit bytes rest text status e long d }
+      record { bytes = bytes ++ rest; input = input; deserved = (answering c).longer limit bytes rest text status e long d }
 ]
 
 taken_text : (c : Command) (limit : Option ℕ) (old new : Option (List ℕ)) (bytes text : List ℕ) (status : Status) → limit_of c ≡ limit → IsTaken limit old new bytes
     → DeservesInput c bytes text status → IsInputText c old text status
 taken_text c None old new bytes text status e t d =
     let (other, input) = some_input old in
-    record { bytes = other; input = input; deserved = any_input c bytes other text status e d }
+    record { bytes = other; input = input; deserved = (answering c).any bytes other text status e d }
 taken_text c (Some limit) old new bytes text status e t d = whole_text c limit old new bytes text status e t d
 
 pub command_text : (c : Command) (old new : Option (List ℕ)) (bytes shown text : List ℕ) (status : Status) → IsTaken (limit_of c) old new bytes → shown ≡ bytes
@@ -89,7 +45,8 @@ read_on limit old new t r not_failed read = read_as limit old new (λ f. absurd 
 
 pub read_failed : (T U : Type 0) (limit : Option ℕ) (old new : Option (List ℕ)) (e : NoAnswer)
     → (let r : Result T NoAnswer = Err e in IsReadBy limit old new r) → let r : Result U NoAnswer = Err e in IsReadBy limit old new r
-read_failed T U limit old new e read = read_as limit old new (λ f. let same : e ≡ none.ReadFault = cc in subst (λ x. let r : Result T NoAnswer = Err x in let s : Result T NoAnswer = Err none.ReadFault in r ≡ s) (sym same) refl)
+read_failed T U limit old new e read =
+    read_as limit old new (λ f. let same : e ≡ none.ReadFault = cc in subst (λ x. let r : Result T NoAnswer = Err x in let s : Result T NoAnswer = Err none.ReadFault in r ≡ s) (sym same) refl)
     (λ done. absurd (let wrong : ⊥ = cc in wrong)) read
 
 pub ruleset commanding = (command_text, read_on, read_failed)
@@ -141,10 +98,10 @@ known_input so (Some told) bytes input known = subst so input known
 
 command_ends : (words : List (List ℕ)) (left : Option (List ℕ)) (bytes text : List ℕ) (status : Status) (c : Command) (among : List Status) → Asks words c → IsInput left bytes
     → DeservesInput c bytes text status → CallsFor (Some c) left among → Ends among status
-command_ends words left bytes text status c among asks input d (inl may) = subst (λ a. Ends a status) (sym may) (input_ends c bytes text status (asks_within words c asks) d)
+command_ends words left bytes text status c among asks input d (inl may) = subst (λ a. Ends a status) (sym may) ((answering c).ends bytes text status (asks_within words c asks) d)
 command_ends words left bytes text status c among asks input d (inr known) = elim (known_input (λ b. (IsTooLong c b × (among ≡ refused)) ⊎ CallsInput c b among) left bytes input known) [
-  | inl (long, calls) ↦ subst (λ a. Ends a status) (sym calls) (too_long_ends c bytes text status d long)
-  | inr calls ↦ input_called c bytes text status among d calls
+  | inl ((limit, e, long), calls) ↦ subst (λ a. Ends a status) (sym calls) ((answering c).too_long limit bytes text status e long d)
+  | inr calls ↦ (answering c).called bytes text status among d calls
 ]
 
 deserved_ends : (words : List (List ℕ)) (left : Option (List ℕ)) (bytes text : List ℕ) (status : Status) (asked : Option Command) (among : List Status) → AsksFor words asked
@@ -172,15 +129,8 @@ own_answered status (inr (inl proved)) = inl proved
 own_answered status (inr (inr (inl unknown))) = inr (inl unknown)
 own_answered status (inr (inr (inr none))) = absurd none
 
-own_status : (c : Command) (status : Status) → Ends (statuses_of c) status → Ends source_statuses status
-own_status (Analyse options json) status ends = ends
-own_status (Sample seed size) status ends = inr ends
-own_status Calc status (inl refused) = inl refused
-own_status Calc status (inr (inl proved)) = inr (inl proved)
-own_status Calc status (inr (inr none)) = absurd none
-
 asked_status : (words : List (List ℕ)) (bytes text : List ℕ) (status : Status) (c : Command) → Asks words c → DeservesInput c bytes text status → Ends source_statuses status
-asked_status words bytes text status c asks d = own_status c status (input_ends c bytes text status (asks_within words c asks) d)
+asked_status words bytes text status c asks d = (answering c).own status ((answering c).ends bytes text status (asks_within words c asks) d)
 
 deserved_status : (words : List (List ℕ)) (bytes text : List ℕ) (status : Status) (asked : Option Command) → AsksFor words asked → Deserves asked bytes text status → Ends answered status
 deserved_status words bytes text status None asks d = inr (inr (inr (inl d.1)))
@@ -189,7 +139,8 @@ deserved_status words bytes text status (Some c) asks d = own_answered status (a
 pub answered_status : (words : List (List ℕ)) (left : Option (List ℕ)) (text : List ℕ) (status : Status) → IsDeserved words left text status → Ends answered status
 answered_status words left text status d = deserved_status words d.bytes text status d.asked d.asks d.deserved
 
-usage_asked : (words : List (List ℕ)) (bytes text : List ℕ) (status : Status) (asked : Option Command) → AsksFor words asked → Deserves asked bytes text status → status ≡ Usage → AsksNone words × IsUntaken words
+usage_asked : (words : List (List ℕ)) (bytes text : List ℕ) (status : Status) (asked : Option Command) → AsksFor words asked → Deserves asked bytes text status → status ≡ Usage
+    → AsksNone words × IsUntaken words
 usage_asked words bytes text status None asks d is = asks
 usage_asked words bytes text status (Some c) asks d is = absurd (own_not_usage status (asked_status words bytes text status c asks d) is)
 

@@ -12,25 +12,26 @@ use Rattle.lra_top.specs.declared.status.Status.TheVariants.{Usage}
 
 -- the most bytes that a command takes of its input, where it reads it
 abbrev pub limit_of : Command → Option ℕ
-limit_of (Analyse options json) = Some greatest_length
+limit_of (Analyse options format) = Some greatest_length
 limit_of (Sample seed size) = None
 limit_of Calc = Some greatest_length
 
 -- the text and the status that a command deserves, by these bytes of the input where it reads it
 abbrev pub DeservesInput : Command → List ℕ → List ℕ → Status → Type 0
-DeservesInput (Analyse options json) bytes text status = DeservesSource options (written_report json) bytes text status
+DeservesInput (Analyse options format) bytes text status =
+    DeservesSource options (written_report format) bytes text status
 DeservesInput (Sample seed size) bytes text status = DeservesSample seed size text status
 DeservesInput Calc bytes text status = DeservesScript bytes text status
 
 -- the statuses of an answer
 abbrev pub statuses_of : Command → List Status
-statuses_of (Analyse options json) = source_statuses
+statuses_of (Analyse options format) = source_statuses
 statuses_of (Sample seed size) = reported
 statuses_of Calc = script_statuses
 
 -- those of an answer to these bytes
 abbrev pub CallsInput : Command → List ℕ → List Status → Type 0
-CallsInput (Analyse options json) bytes among = CallsSource bytes among
+CallsInput (Analyse options format) bytes among = CallsSource bytes among
 CallsInput (Sample seed size) bytes among = ⊥
 CallsInput Calc bytes among = CallsScript bytes among
 

@@ -1,5 +1,5 @@
 -- What a source deserves: the text of its one refusal, or what is written of a report of it that tells an analysis.
-use Rattle.std.specs.Prelude.{◌≡◌, ◌⊎◌, ℕ, zero, suc, Bool, true, false, List, ◌∷◌}
+use Rattle.std.specs.Prelude.{◌≡◌, ◌⊎◌, ℕ, zero, suc, List, ◌∷◌}
 use Rattle.lra_base.specs.declared.refusals.Cause.{Cause}
 use Rattle.lra_base.specs.declared.refusals.Place.{Place}
 use Rattle.lra_base.specs.declared.options.Options.{Options}
@@ -12,6 +12,8 @@ use Rattle.lra_findings.specs.RefusalText.{refusal_text}
 use Rattle.lra_front.specs.Claims.{HasRefusal}
 use Rattle.lra_json.specs.ReportJson.{report_json}
 use Rattle.lra_source.specs.Answers.{IsAnswered}
+use Rattle.lra_words.specs.declared.chosen.Format.{Format}
+use Rattle.lra_words.specs.declared.chosen.Format.TheVariants.{Lines, Json}
 use Rattle.lra_top.specs.Statuses.{reported, refused}
 use Rattle.lra_top.specs.declared.status.Status.{Status}
 use Rattle.lra_top.specs.declared.status.Status.TheVariants.{Proved, Unknown, Refused}
@@ -23,10 +25,10 @@ pub record IsRefusal (bytes text : List ℕ) : Type 0 where
   pub refused : Refuse Spells bytes cause place
   pub written : text ≡ refusal_text cause place
 
--- a report as it is written: as one JSON object, or as lines
-abbrev pub written_report : Bool → Report → List ℕ
-written_report true r = report_json r
-written_report false r = report_text r
+-- a report as it is written: a row for each output
+abbrev pub written_report : Format → Report → List ℕ
+written_report Lines r = report_text r
+written_report Json r = report_json r
 
 -- the status of a report in which so many verdicts are unknown
 abbrev pub report_status : ℕ → Status
@@ -56,5 +58,5 @@ CallsSource bytes among = (HasRefusal bytes × (among ≡ refused))
 
 -- two reports that a source deserves under one list of options and that are written alike are the same report
 abbrev pub OneWrittenReport : Type 0
-OneWrittenReport = (json : Bool) (o : Options) (source : List ℕ) (r s : Report)
-    → IsAnswered o source r → IsAnswered o source s → written_report json r ≡ written_report json s → r ≡ s
+OneWrittenReport = (format : Format) (o : Options) (source : List ℕ) (r s : Report)
+    → IsAnswered o source r → IsAnswered o source s → written_report format r ≡ written_report format s → r ≡ s

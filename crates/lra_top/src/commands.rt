@@ -30,7 +30,7 @@ pub fn answer_command(alloc: Global, command: Command, bytes: &[u8]) -> Result<A
     ensures { IfOk result (λ a. DeservesInput command bytes.now a.text.items a.status) }
 {
     match command {
-        Command::Analyse { options, json } => answer_source(alloc, options, json, bytes),
+        Command::Analyse { options, format } => answer_source(alloc, options, format, bytes),
         Command::Sample { seed, size } => answer_sample(alloc, seed, size),
         Command::Calc => answer_script(alloc, bytes),
     }

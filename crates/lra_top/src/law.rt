@@ -1,8 +1,8 @@
 // One text or JSON, one report.
 ghost use Rattle.lra_top.specs.SourceAnswer.{OneWrittenReport};
 
-/// Two reports that a source deserves under one list of options and that are written alike, both as lines or both as
-/// JSON, are the same report.
+/// Two reports that a source deserves under one list of options and that are written alike, in one format, are the
+/// same report.
 pub fn one_written_report()
     ensures { OneWrittenReport }
 {

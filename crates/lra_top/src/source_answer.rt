@@ -11,6 +11,7 @@ use lra_base::{Options, Refusal, SourceError};
 use lra_json::json_text;
 use lra_report::{Report, refusal_text, text};
 use lra_source::analyse_source;
+use lra_words::Format;
 use std::alloc::{AllocError, Global};
 
 /// The status of a report.
@@ -25,25 +26,24 @@ pub(crate) fn status_of(report: &Report) -> Status
     }
 }
 
-/// A report as it is written: as one JSON object, or as lines.
-fn write_report(alloc: Global, json: bool, report: &Report) -> Result<Vec<u8>, AllocError>
-    ensures { IfOk result (λ bytes. bytes.items ≡ written_report json (view.report_of report.now)) }
+/// A report as it is written, a row for each output.
+fn write_report(alloc: Global, format: Format, report: &Report) -> Result<Vec<u8>, AllocError>
+    ensures { IfOk result (λ bytes. bytes.items ≡ written_report format (view.report_of report.now)) }
 {
-    if json {
-        json_text(alloc, report)
-    } else {
-        Ok(text(alloc, report)?.into_bytes())
+    match format {
+        Format::Lines => Ok(text(alloc, report)?.into_bytes()),
+        Format::Json => json_text(alloc, report),
     }
 }
 
 /// A report as it is written, and its status.
-fn answer_report(alloc: Global, json: bool, report: &Report) -> Result<Answer, AllocError>
-    ensures text { IfOk result (λ a. a.text.items ≡ written_report json (view.report_of report.now)) }
+fn answer_report(alloc: Global, format: Format, report: &Report) -> Result<Answer, AllocError>
+    ensures text { IfOk result (λ a. a.text.items ≡ written_report format (view.report_of report.now)) }
     ensures status { IfOk result (λ a. a.status ≡ report_status (unknown_count (view.report_of report.now).verdicts)) }
 {
     let status = status_of(report);
     Ok(Answer {
-        text: write_report(alloc, json, report)?,
+        text: write_report(alloc, format, report)?,
         status,
     })
 }
@@ -64,15 +64,15 @@ pub(crate) fn answer_refusal(alloc: Global, refusal: Refusal) -> Result<Answer, 
 pub fn answer_source(
     alloc: Global,
     options: Options,
-    json: bool,
+    format: Format,
     bytes: &[u8],
 ) -> Result<Answer, AllocError>
     requires parts { 1 ≤ options.parts }
     requires bound { length bytes.now + 1 < 2 ^ 32 }
-    ensures { IfOk result (λ a. DeservesSource options (written_report json) bytes.now a.text.items a.status) }
+    ensures { IfOk result (λ a. DeservesSource options (written_report format) bytes.now a.text.items a.status) }
 {
     match analyse_source(alloc, options, bytes) {
-        Ok(report) => answer_report(alloc, json, &report),
+        Ok(report) => answer_report(alloc, format, &report),
         Err(SourceError::Refused(refusal)) => answer_refusal(alloc, refusal),
         Err(SourceError::Memory) => Err(AllocError),
     }

@@ -1,10 +1,11 @@
 // The top call.
-ghost use Rattle.std.specs.Prelude.{◌≡◌, ◌≢◌, ◌≤◌, ◌<◌, ◌+◌, ◌^◌, ◌⊎◌, ℕ, Bool, List, Option, length, map, string_bytes};
+ghost use Rattle.std.specs.Prelude.{◌≡◌, ◌≢◌, ◌≤◌, ◌<◌, ◌+◌, ◌^◌, ◌⊎◌, ℕ, List, Option, length, map, string_bytes};
 ghost use Rattle.std.specs.Prelude.{IfOk, Some};
 ghost use Rattle.std.specs.Io.KnownBytes.{Keeps};
 ghost use Rattle.lra_edge.specs.Causes.{AppendsPart, Rose};
 ghost use Rattle.lra_words.specs.declared.chosen.Command.{Command};
 ghost use Rattle.lra_words.specs.declared.chosen.Command.TheVariants.{Analyse, Sample};
+ghost use Rattle.lra_words.specs.declared.chosen.Format.{Format};
 ghost use Rattle.lra_words.specs.Chosen.{Asks, AsksNone, IsUntaken, IsWithinRanges};
 ghost use Rattle.lra_base.specs.declared.options.Options.{Options};
 ghost use Rattle.lra_top.specs.Statuses.{Ends, reported, answered, silent, faults};
@@ -168,19 +169,19 @@ pub fn run<S: Source, K: Sink>(
     ensures nothing { Ends silent result → Keeps (K.held sink.old) (K.held sink.new) }
 
     // Where the words ask for a report and the status is that of one, the one report that the input deserves and that
-    // is written so, as lines or as JSON: it holds in all runs; where nothing is flagged, it tells what the written
+    // is written so, in the words' format: it holds in all runs; where nothing is flagged, it tells what the written
     // iteration finds; over polyhedra rows and generators tell the same points.
-    ensures holds { (options : Options) (json : Bool) → Asks (map string_bytes words.now) (Analyse options json) →
-        Ends reported result →
-        WritesReport options (written_report json) HoldsInAllRuns (S.left source.old) (K.held sink.old)
+    ensures holds { (options : Options) (format : Format) →
+        Asks (map string_bytes words.now) (Analyse options format) → Ends reported result →
+        WritesReport options (written_report format) HoldsInAllRuns (S.left source.old) (K.held sink.old)
         (K.held sink.new) }
-    ensures is_written { (options : Options) (json : Bool) → Asks (map string_bytes words.now) (Analyse options json) →
-        Ends reported result →
-        WritesReport options (written_report json) (IsWrittenUnlessFlagged options) (S.left source.old)
+    ensures is_written { (options : Options) (format : Format) →
+        Asks (map string_bytes words.now) (Analyse options format) → Ends reported result →
+        WritesReport options (written_report format) (IsWrittenUnlessFlagged options) (S.left source.old)
         (K.held sink.old) (K.held sink.new) }
-    ensures same_points { (options : Options) (json : Bool) →
-        Asks (map string_bytes words.now) (Analyse options json) → Ends reported result →
-        WritesReport options (written_report json) (TellsSamePoints options) (S.left source.old) (K.held sink.old)
+    ensures same_points { (options : Options) (format : Format) →
+        Asks (map string_bytes words.now) (Analyse options format) → Ends reported result →
+        WritesReport options (written_report format) (TellsSamePoints options) (S.left source.old) (K.held sink.old)
         (K.held sink.new) }
     // Where they ask for a sample, what is told of a report of its source, of which all of this holds.
     ensures sampled { (seed size : ℕ) → Asks (map string_bytes words.now) (Sample seed size) → Ends reported result →

@@ -1,5 +1,5 @@
 -- Goals of `one_written_report`: two reports that a source deserves under one list of options and that are written
--- alike, both as lines or both as JSON, are the same report.
+-- alike, in one format, are the same report.
 use Rattle.lra_top.proofs.OneWritten.{one_written}
 use Rattle.lra_top.proofs.law.one_written_report.Goals as goal
 
