@@ -1,0 +1,35 @@
+//! Numeric abstract domains: one crate to list.
+//!
+//! The names that most users need stand here; the crates they come from stand beside them whole, as `poly` or `maps`.
+//! What their clauses cite stands in rooms below `specs`: `Linear` (rows, points, sets of points), `Lists`, `Forms`,
+//! `Polyhedra`, `Domains` (what the trait owes), `PolyhedronDomain`, `Boxes`, `Octagons`, `Sets`, `Texts`. Lemmas for
+//! proofs over them stand in `proofs`: `Ranks`, `Rows`, `PointSets`.
+#![tactic(auto)]
+
+pub use lra_box as boxes;
+pub use lra_box::Boxes;
+pub use lra_domain as domain;
+pub use lra_domain::{Domain, Exactness, Grown, Included, Mode, Plain, Rank};
+pub use lra_duality::{Inclusion, Maximum};
+pub use lra_images as images;
+pub use lra_images::{forget, image, preimage};
+pub use lra_lin as forms;
+pub use lra_lin::{LinExpr, Test};
+pub use lra_maps as maps;
+pub use lra_maps::{embed, remove_last, time_elapse};
+pub use lra_oct as octagons;
+pub use lra_oct::Octagon;
+pub use lra_poly as poly;
+pub use lra_poly::{Outcome, Poly};
+pub use lra_polydom as polyhedra;
+pub use lra_polydom::Polyhedron;
+pub use lra_row as numbers;
+pub use lra_row::{Row, RowError};
+pub use lra_set as sets;
+pub use lra_set::PowerSet;
+pub use lra_show as texts;
+pub use lra_show::{Names, generator_text, row_text};
+pub use lra_sys as lists;
+pub use lra_sys::{ConKind, ConSys, GenKind, GenSys, Holds};
+pub use lra_widen as widening;
+pub use lra_widen::{WidenError, limited, rank, standard};
