@@ -2,14 +2,16 @@
 //!
 //! The names that most users need stand here; the crates they come from stand beside them whole, as `poly` or `maps`.
 //! What their clauses cite stands in rooms below `specs`: `Linear` (rows, points, sets of points), `Lists`, `Forms`,
-//! `Polyhedra`, `Domains` (what the trait owes), `PolyhedronDomain`, `Boxes`, `Octagons`, `Sets`, `Texts`. Lemmas for
-//! proofs over them stand in `proofs`: `Ranks`, `Rows`, `PointSets`.
+//! `Polyhedra`, `Domains` (what the trait owes), `Stores`, `PolyhedronDomain`, `Boxes`, `Octagons`, `Sets`, `Texts`; for
+//! domains of one's own `Unstrained`, `Entries` and `EntryDomains`. Lemmas for proofs over them stand in `proofs`:
+//! `Ranks`, `KeptStores`, `Rows`, `RowValues`, `PointSets`, `SameSets`, `PolyhedraOf`, `Changes`, `EntryChanges`,
+//! `EntryDomains`.
 #![tactic(auto)]
 
 pub use lra_box as boxes;
 pub use lra_box::Boxes;
 pub use lra_domain as domain;
-pub use lra_domain::{Domain, Exactness, Grown, Included, Mode, Plain, Rank};
+pub use lra_domain::{Backward, Domain, Exactness, Grown, Included, Mode, Plain, Rank};
 pub use lra_duality::{Inclusion, Maximum};
 pub use lra_images as images;
 pub use lra_images::{forget, image, preimage};
