@@ -3,7 +3,8 @@
 
 ghost use Rattle.std.specs.Prelude.{◌≡◌, ◌≤◌, ◌^◌, ◌∷◌, [], ℤ, List, IfOk, OnOk};
 ghost use Rattle.guzhtarel.specs.Domains.Actions.{Leads, Within};
-ghost use Rattle.use_fixpoint.specs.Runs.{action, Fits, AllFit, StepsFit, Runs, Steps, Has};
+ghost use Rattle.guzhtarel.specs.Stores.{Has};
+ghost use Rattle.use_fixpoint.specs.Runs.{action, Fits, AllFit, StepsFit, Runs, Steps};
 
 use guzhtarel::{ConSys, Domain, Grown, LinExpr, Mode, Test};
 use std::alloc::{AllocError, Global};
