@@ -25,7 +25,8 @@ pub fn hull(alloc: Global, first: &ConSys, second: &ConSys) -> Result<(Poly, boo
     ensures holds { IfOk result (λ r. IsWithin first.now.dims
         (Union (Con (constraints first.now)) (Con (constraints second.now))) (Con r.0.rows)) }
     ensures least { IfOk result (λ r. IsTrue r.1 → IsPolyhedronOf first.now.dims
-        (Hull first.now.dims (Union (Con (constraints first.now)) (Con (constraints second.now)))) r.0) }
+        (Hull first.now.dims (Union (Con (constraints first.now)) (Con (constraints second.now))))
+        r.0) }
 {
     let (mut all, of_first) = Poly::from_rows(alloc, first)?;
     let (other, of_second) = Poly::from_rows(alloc, second)?;
