@@ -2,8 +2,8 @@
 //!
 //! The names that most users need stand here; the crates they come from stand beside them whole, as `poly` or `maps`.
 //! What their clauses cite stands in rooms below `specs`: `Linear` (rows, points, sets of points), `Lists`, `Forms`,
-//! `Polyhedra`, `Domains` (what the trait owes), `Stores`, `PolyhedronDomain`, `Boxes`, `Octagons`, `Sets`, `Texts`; for
-//! domains of one's own `Unstrained`, `Entries` and `EntryDomains`. Lemmas for proofs over them stand in `proofs`:
+//! `Polyhedra`, `Domains` (what the trait owes), `Stores`, `PolyhedronDomain`, `Boxes`, `Octagons`, `Sets`, `Texts`;
+//! for domains of one's own `Unstrained`, `Entries` and `EntryDomains`. Lemmas for proofs over them stand in `proofs`:
 //! `Ranks`, `KeptStores`, `Rows`, `RowValues`, `PointSets`, `SameSets`, `PolyhedraOf`, `Changes`, `EntryChanges`,
 //! `EntryDomains`.
 #![tactic(auto)]

@@ -1,5 +1,6 @@
 -- A matrix turned: the set bits of its rows, word by word, become places of its columns.
-use Rattle.std.proofs.Common.{◌≡◌, ◌≢◌, ℕ, ◌+◌, ◌/◌, ◌%◌, ◌*◌, ◌<◌, ◌≤◌, Bool, true, false, List, [], length, get_or, set, replicate, ap, sym, ◌∙◌, refl, arith, inl, inr, nat_lt, get_or-set_same, get_or-set_other}
+use Rattle.std.proofs.Common.{◌≡◌, ◌≢◌, ℕ, ◌+◌, ◌/◌, ◌%◌, ◌*◌, ◌<◌, ◌≤◌, Bool, true, false, List, [], length, get_or, set, replicate, ap, sym, ◌∙◌, refl, arith}
+use Rattle.std.proofs.Common.{inl, inr, nat_lt, get_or-set_same, get_or-set_other}
 use Rattle.std.specs.Prelude.{◌==◌, ◌&&◌, ◌||◌, IsTrue}
 use Rattle.std.specs.Int.{bit_at}
 use Rattle.std.specs.List.{All}
@@ -199,7 +200,8 @@ turned_start m columns count width ec ew long blank = record {
       | inr g ↦ get_or_past (replicate n false) i false (omega (arith, g, length-replicate n false))
     ]
 
-pub turned_more : (m : Matrix) (n : ℕ) (old new : List (List Bool)) (row : List Bool) → row ≡ get_or m.rows n [] → IsMarked old new n (value_at row) → IsPartlyTurned m n old → IsPartlyTurned m (n + 1) new
+pub turned_more : (m : Matrix) (n : ℕ) (old new : List (List Bool)) (row : List Bool) → row ≡ get_or m.rows n [] → IsMarked old new n (value_at row) →
+    IsPartlyTurned m n old → IsPartlyTurned m (n + 1) new
 turned_more m n old new row e k t = record {
   height = k.height ∙ t.height;
   widths = λ c h. k.widths c ∙ t.widths c (omega (arith, h, k.height));

@@ -25,7 +25,8 @@ KeepsWidth may = (s t : State) → may s t → length t.store ≡ length s.store
 module _ (may : State → State → Type 0) (P : Program) (g : Node) where
   -- the tree of the program, begun with these draws, goes so far on this trail
   abbrev pub TreeGoes : List ℤ → Stop → Trail Point → Type 0
-  TreeGoes draws z a = Goes (point_at (sites_of P)) may g (record { state = begun P.globals draws; met = [] }) (stopped z) a
+  TreeGoes draws z a =
+      Goes (point_at (sites_of P)) may g (record { state = begun P.globals draws; met = [] }) (stopped z) a
 
   pub record TrailsAgree : Type 0 where
     -- a run comes to the point on the trail exactly where the tree does

@@ -17,7 +17,8 @@ use Rattle.lra_readers.specs.declared.lead.Lead.{Lead}
 use Rattle.lra_readers.specs.declared.lead.Lead.TheVariants as lead
 use Rattle.lra_readers.specs.Tests.{is_mark}
 use Rattle.lra_readers.specs.Reading.{take_by, identifier_of, has}
-use Rattle.lra_readers.specs.Files.{is_main, next_main, Heading, HeadMark, at_int, at_type, at_void, head_mark, BuiltIn, of_input, of_assert, of_assume, built_ins, next_built_in, named, lead_behind, lead_form}
+use Rattle.lra_readers.specs.Files.{is_main, next_main, Heading, HeadMark, at_int, at_type, at_void, head_mark, BuiltIn, of_input, of_assert, of_assume}
+use Rattle.lra_readers.specs.Files.{built_ins, next_built_in, named, lead_behind, lead_form}
 use Rattle.lra_readers.specs.Files.{plain_lead, read_lead, begins_part}
 use Rattle.lra_readers.proofs.Exact.{Exact, Any, Free, test, first_or}
 use Rattle.lra_readers.proofs.Forms.{rename, widen, retell, entry, mapped, choose, branch, exact_stop, exact_take}

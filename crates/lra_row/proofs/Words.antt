@@ -1,5 +1,6 @@
 -- Words: numbers of 64 bits. What products of them and sums of these stay below.
-use Rattle.std.proofs.Common.{◌≡◌, ◌≢◌, ◌<◌, ◌^◌, ◌-◌, List, [], ◌∷◌, ap, sym, refl, subst, arith, pos, negsuc, ℤ, neg_ℤ, ◌+ℤ◌, ◌*ℤ◌, Bool, true, false, cond, Result, Ok, Err, unsigned_abs, FitsSigned, inl, inr}
+use Rattle.std.proofs.Common.{◌≡◌, ◌≢◌, ◌<◌, ◌^◌, ◌-◌, List, [], ◌∷◌, ap, sym, refl, subst, arith, pos, negsuc, ℤ, neg_ℤ, ◌+ℤ◌, ◌*ℤ◌, Bool, true, false, cond}
+use Rattle.std.proofs.Common.{Result, Ok, Err, unsigned_abs, FitsSigned, inl, inr}
 use Rattle.std.specs.Int.{w64, w128}
 use Rattle.std.proofs.lemmas.Bool.{cases_eq}
 use Rattle.std.proofs.lemmas.Int.{ints, unsigned_abs-mul, fits_signed_from_abs}

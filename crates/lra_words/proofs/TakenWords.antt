@@ -1,5 +1,6 @@
 -- Words without a fault give a command, with each value in its option's range.
-use Rattle.std.proofs.Common.{◌≡◌, ◌∙◌, ◌<◌, ◌≤◌, ◌^◌, ◌-◌, ◌&&◌, ◌||◌, ℕ, Bool, List, [], ◌∷◌, Option, Some, None, ap, arith, codes, lit<, map, not, refl, sym, subst, true, false, lt-ltb, nat_le, nat_lt}
+use Rattle.std.proofs.Common.{◌≡◌, ◌∙◌, ◌<◌, ◌≤◌, ◌^◌, ◌-◌, ◌&&◌, ◌||◌, ℕ, Bool, List, [], ◌∷◌, Option, Some, None, ap, arith, codes, lit<, map, not, refl, sym}
+use Rattle.std.proofs.Common.{subst, true, false, lt-ltb, nat_le, nat_lt}
 use Rattle.std.specs.Prelude.{find, is_some, option_and_then, option_map}
 use Rattle.std.specs.List.{list_any}
 use Rattle.std.specs.Option.{option_map_or}

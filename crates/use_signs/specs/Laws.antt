@@ -1,5 +1,6 @@
 -- What signs keep.
-use Rattle.std.proofs.Common.{◌≡◌, ◌<◌, ◌≤◌, ℕ, ℤ, pos, negsuc, ◌≤ℤ◌, ◌+ℤ◌, ◌*ℤ◌, Bool, true, false, not, ◌&&◌, ◌||◌, List, [], ◌∷◌, length, refl, subst, sym, arith, ◌↔◌}
+use Rattle.std.proofs.Common.{◌≡◌, ◌<◌, ◌≤◌, ℕ, ℤ, pos, negsuc, ◌≤ℤ◌, ◌+ℤ◌, ◌*ℤ◌, Bool, true, false, not, ◌&&◌, ◌||◌}
+use Rattle.std.proofs.Common.{List, [], ◌∷◌, length, refl, subst, sym, arith, ◌↔◌}
 use Rattle.std.specs.Prelude.{int_le}
 use Rattle.std.specs.Ordering.{int_eq}
 use Rattle.std.proofs.lemmas.Int.{ints}
@@ -30,7 +31,8 @@ one_known c x false t h =
     let none : c ≡ pos 0 = grind (arith, ints) in
     rw none (grind (arith, ints))
 
-sum_known : (cs : List ℤ) (ks : List Bool) (s : List ℤ) → is_sum_known cs ks ≡ true → length cs ≡ length ks → AllHave Known ks s → pos 0 ≤ℤ product cs s
+sum_known : (cs : List ℤ) (ks : List Bool) (s : List ℤ) → is_sum_known cs ks ≡ true → length cs ≡ length ks →
+    AllHave Known ks s → pos 0 ≤ℤ product cs s
 sum_known [] ks s t f a = omega (arith, ints)
 sum_known (c ∷ cs) [] s t f a = absurd (omega (arith, f))
 sum_known (c ∷ cs) (k ∷ ks) [] t f a = absurd a
@@ -40,7 +42,8 @@ sum_known (c ∷ cs) (k ∷ ks) (x ∷ s) t f a =
     let rest = sum_known cs ks s p.1 (omega (arith, f)) a.1 in
     omega (arith, ints)
 
-form_known : (z : ℤ) (cs : List ℤ) (ks : List Bool) (s : List ℤ) → length cs ≡ length ks → AllHave Known ks s → Known (int_le (pos 0) z && is_sum_known cs ks) (z +ℤ product cs s)
+form_known : (z : ℤ) (cs : List ℤ) (ks : List Bool) (s : List ℤ) → length cs ≡ length ks → AllHave Known ks s →
+    Known (int_le (pos 0) z && is_sum_known cs ks) (z +ℤ product cs s)
 form_known z cs ks s f a = by_test (int_le (pos 0) z && is_sum_known cs ks) refl
   where
     by_test : (b : Bool) → (int_le (pos 0) z && is_sum_known cs ks) ≡ b → Known b (z +ℤ product cs s)
@@ -85,7 +88,8 @@ falls false false t = cc
 falls true true t = cc
 falls true false t = omega arith
 
-row_holds : (n column : ℕ) (k : Bool) (x : List ℤ) → column ≤ n → AllHold Ge (sign_row n column k) x ↔ Known k (entry x column)
+row_holds : (n column : ℕ) (k : Bool) (x : List ℤ) → column ≤ n →
+    AllHold Ge (sign_row n column k) x ↔ Known k (entry x column)
 row_holds n column false x h = (λ a. tt, λ a. tt)
 row_holds n column true x h =
     let is = unit_product n column x (omega (arith, h)) in

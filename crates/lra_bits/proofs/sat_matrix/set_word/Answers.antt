@@ -64,7 +64,8 @@ loop-left-preserved c =
     let same = get_or_default rows _ [] c.index-columns-at.result inside in
     let new = set rows (at * 64 + trailing_zeros w64 left) c.set.new.self in
     let one : IsMarked rows new c.args.k (λ c'. nat_eq c' (at * 64 + trailing_zeros w64 left)) =
-    marked_one rows new _ c.args.k (get_or rows (at * 64 + trailing_zeros w64 left) []) inside wide refl (ap (λ (row : List Bool). set rows (at * 64 + trailing_zeros w64 left) row) (c.set.ensures ∙ ap (λ (row : List Bool). set row c.args.k true) (sym same))) in
+    marked_one rows new _ c.args.k (get_or rows (at * 64 + trailing_zeros w64 left) []) inside wide refl
+    (ap (λ (row : List Bool). set rows (at * 64 + trailing_zeros w64 left) row) (c.set.ensures ∙ ap (λ (row : List Bool). set row c.args.k true) (sym same))) in
     record {
       fits = omega (arith, c.clear-left.ensures.smaller low.1, c.loop-left.invariant.fits);
       wide = wider_still rows new c.args.k _ one c.loop-left.invariant.wide;

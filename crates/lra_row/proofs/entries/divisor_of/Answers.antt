@@ -25,4 +25,5 @@ returns-then-divisor-eq1-clause-divisor c =
     let fg : FitsSigned w128 c.gcd-divisor.result = search rules in
     let d = simp to_z-of_z at c.gcd-divisor.ensures.divides in
     let one : unsigned_abs c.gcd-divisor.result ≡ 1 = omega (arith, ints, c.if-divisor-eq1.true) in
-    divisor_one (i + 1) xs (divisor_further _ 1 i xs (omega arith) (subst (λ n. IsGcd (unsigned_abs (to_z w128 c.loop-number.divisor-bits)) (unsigned_abs (get_or xs i (pos 0))) n) one d) c.loop-number.invariant.0)
+    divisor_one (i + 1) xs (divisor_further _ 1 i xs (omega arith)
+    (subst (λ n. IsGcd (unsigned_abs (to_z w128 c.loop-number.divisor-bits)) (unsigned_abs (get_or xs i (pos 0))) n) one d) c.loop-number.invariant.0)
