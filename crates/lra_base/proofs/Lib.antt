@@ -1,1 +1,3 @@
+-- The most bytes of a source or a script.
+pub mod Limit
 pub mod Refusing

@@ -1,3 +1,4 @@
+pub mod Places
 pub mod TextOrder
 pub mod Operators
 pub mod OperatorViews

@@ -6,10 +6,12 @@ mod error;
 mod number_types;
 mod operators;
 mod options;
+mod places;
 mod refusals;
 
 pub use error::SourceError;
 pub use number_types::NumberType;
 pub use operators::{Comparison, Operator};
 pub use options::{Domain, Options};
+pub use places::{GREATEST_LENGTH, place_behind};
 pub use refusals::{Cause, Place, Refusal};

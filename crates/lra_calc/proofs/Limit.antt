@@ -1,7 +1,7 @@
 -- The answer to a script that is too long, and to one that is not. The limit is a variable here, since it is large.
 use Rattle.std.proofs.Common.{◌≡◌, ◌<◌, ◌≤◌, ℕ, Bool, true, false, List, length, take, ap, sym, subst, ◌∙◌, arith, nat_lt, Result, Err}
 use Rattle.std.proofs.lemmas.Bool.Decides.{nat_tests}
-use Rattle.lra_tree.specs.Tokens.{place_behind, greatest_length}
+use Rattle.lra_base.specs.Places.{place_behind, greatest_length}
 use Rattle.lra_calc.specs.Script.{Refusal, TooLong, Runs, TooLongOr, AnswersTo}
 
 above : (m n : ℕ) → m < n → nat_lt m n ≡ true

@@ -3,7 +3,7 @@ use Rattle.std.proofs.Common.{◌≡◌, ◌+◌, ℕ, suc, Bool, true, false, c
 use Rattle.std.proofs.Common.{Ok, Err}
 use Rattle.std.specs.Prelude.{is_some, IfSome}
 use Rattle.std.specs.List.{All}
-use Rattle.lra_tree.specs.Tokens.{greatest_length}
+use Rattle.lra_base.specs.Places.{greatest_length}
 use Rattle.lra_linear.specs.Descriptions.{Given}
 use Rattle.lra_linear.specs.Polyhedra.{Polyhedron}
 use Rattle.lra_duality.specs.Inclusions.{IsInclusion}

@@ -9,7 +9,7 @@ use Rattle.lra_linear.specs.Formed.{IsFormed}
 use Rattle.lra_linear.specs.Polyhedra.{Polyhedron, falsity}
 use Rattle.lra_linear.proofs.SpellingExamples.{quadrant, plain_is_quadrant}
 use Rattle.lra_linear.proofs.StrainExamples.{third_row_strains}
-use Rattle.lra_tree.specs.Tokens.{greatest_length}
+use Rattle.lra_base.specs.Places.{greatest_length}
 use Rattle.lra_show.specs.Texts.{text_line}
 use Rattle.lra_script.specs.ScriptText.{lines}
 use Rattle.lra_calc.specs.MadeSets.{IsMadeOfRows}

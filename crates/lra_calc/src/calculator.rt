@@ -17,8 +17,8 @@ ghost use Rattle.lra_calc.specs.Views.{session_of, IsSession, Gives, StepsTo, En
 
 use crate::refusal::{CalcError, CalcRefusal, Fault, LineError};
 use crate::session::Session;
+use lra_base::{GREATEST_LENGTH, place_behind};
 use lra_script::{Line, is_skipped, raw_lines, read_line, without_return, words};
-use lra_tree::{GREATEST_LENGTH, place_behind};
 use std::alloc::{AllocError, Global};
 use std::fmt::Write;
 

@@ -8,7 +8,8 @@ use Rattle.lra_base.specs.declared.refusals.Cause.TheVariants.{UnknownName, Dupl
 use Rattle.lra_tree.specs.declared.tokens.Mark.TheVariants as mark
 use Rattle.lra_tree.specs.declared.trees.Identifier.{Identifier}
 use Rattle.lra_tree.specs.Trees.{no_items, declaration, statement, FileTree, assign, break, set, expression}
-use Rattle.lra_tree.specs.Tokens.{tokens_of, end_token, greatest_length}
+use Rattle.lra_base.specs.Places.{greatest_length}
+use Rattle.lra_tree.specs.Tokens.{tokens_of, end_token}
 use Rattle.lra_tree.specs.Grammar.{Spells}
 use Rattle.lra_tree.proofs.TreeSamples.{at, x_at, main_of, declared_as, number}
 use Rattle.lra_tree.proofs.Lexemes.{Item, written, reading, all_lexed}

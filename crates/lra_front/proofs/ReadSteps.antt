@@ -6,14 +6,15 @@ use Rattle.lra_base.specs.declared.refusals.Cause.TheVariants.{TooLong}
 use Rattle.lra_base.specs.declared.refusals.Place.{Place}
 use Rattle.lra_tree.specs.declared.tokens.Token.{Token}
 use Rattle.lra_tree.specs.Trees.{FileTree}
-use Rattle.lra_tree.specs.Tokens.{place_behind, Lex, IsTokenFault, greatest_length}
+use Rattle.lra_base.specs.Places.{place_behind, greatest_length}
+use Rattle.lra_tree.specs.Tokens.{Lex, IsTokenFault}
 use Rattle.lra_tree.specs.Faults.{IsTree, IsTextFault}
 use Rattle.lra_tree.specs.Grammar.{Spells}
 use Rattle.lra_meaning.specs.Refuse.{RefusesTree, Refuse, too_long, bad_token, bad_text, bad_tree}
 use Rattle.lra_base.specs.declared.error.SourceError.{SourceError}
 use Rattle.lra_base.specs.Refused.{IfRefusal, IfRefused}
 use Rattle.lra_base.proofs.Refusing.{refusal_by, exit_refused}
-use Rattle.lra_tree.proofs.Limit.{limit_is}
+use Rattle.lra_base.proofs.Limit.{limit_is}
 use Rattle.lra_front.specs.Stages.{HasTree}
 
 within : (source : List ℕ) → length source ≤ 65536 → length source ≤ greatest_length

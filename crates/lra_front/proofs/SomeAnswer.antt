@@ -13,7 +13,7 @@ use Rattle.lra_meaning.specs.NameFaults.{name_faults}
 use Rattle.lra_tree.specs.Labels.{labels_of}
 use Rattle.lra_meaning.specs.Resolve.{resolve}
 use Rattle.lra_program.specs.Sites.{events_of}
-use Rattle.lra_tree.specs.Tokens.{greatest_length}
+use Rattle.lra_base.specs.Places.{greatest_length}
 use Rattle.lra_meaning.specs.Refuse.{limit_fault, bad_name, recursive, past_limit, too_long, bad_token, bad_text, OneAnswer}
 use Rattle.lra_tree.specs.Reach.{NotRecursive}
 use Rattle.lra_lex.proofs.EachReading.{each_reading}

@@ -2,7 +2,8 @@
 use Rattle.std.specs.Prelude.{◌≡◌, ℕ, ◌≤◌, List, [], length, None}
 use Rattle.lra_tree.specs.declared.tokens.Token.{Token}
 use Rattle.lra_tree.specs.Trees.{FileTree}
-use Rattle.lra_tree.specs.Tokens.{Lex, greatest_length}
+use Rattle.lra_base.specs.Places.{greatest_length}
+use Rattle.lra_tree.specs.Tokens.{Lex}
 use Rattle.lra_tree.specs.Faults.{IsTree}
 use Rattle.lra_tree.specs.Grammar.{Spells}
 use Rattle.lra_meaning.specs.NameFaults.{name_faults}

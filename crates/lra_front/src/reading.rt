@@ -7,10 +7,10 @@ ghost use Rattle.lra_tree.specs.Grammar.{Spells};
 ghost use Rattle.lra_meaning.specs.Refuse.{Refuse};
 ghost use Rattle.lra_front.specs.Stages.{HasTree};
 
-use lra_base::{Cause, Refusal, SourceError};
+use lra_base::{Cause, GREATEST_LENGTH, Refusal, SourceError, place_behind};
 use lra_lex::tokens;
 use lra_parse::parse;
-use lra_tree::{GREATEST_LENGTH, Tree, place_behind};
+use lra_tree::Tree;
 use std::alloc::Global;
 
 /// The tree of a source, or its refusal.

@@ -16,7 +16,8 @@ use Rattle.lra_tree.specs.declared.tokens.Token.{Token}
 use Rattle.lra_tree.specs.Lexeme.{is_letter, is_digit, is_word_byte, is_name_word, is_among, further_words, suffixes, Base, octal, decimal_base, hexadecimal}
 use Rattle.lra_tree.specs.Lexeme.{number_behind, IsLiteral, greatest_literal}
 use Rattle.lra_tree.specs.Lexeme.{mark_text, SpellsToken, name, mark_of, reserved}
-use Rattle.lra_tree.specs.Tokens.{is_blank, place_from, bytes_of, Lex, IsTokenFault, end_token}
+use Rattle.lra_base.specs.Places.{place_from}
+use Rattle.lra_tree.specs.Tokens.{is_blank, bytes_of, Lex, IsTokenFault, end_token}
 use Rattle.lra_lex.specs.declared.lexer.Found.{Found}
 use Rattle.lra_lex.specs.Literal.{base_at}
 use Rattle.lra_lex.specs.Places.{fresh_behind}

@@ -5,7 +5,8 @@ use Rattle.std.proofs.lemmas.List.{append-nil}
 use Rattle.std.proofs.lemmas.Bool.Decides.{nat_tests}
 use Rattle.std.specs.List.{list_all}
 use Rattle.lra_base.specs.declared.refusals.Place.{Place}
-use Rattle.lra_tree.specs.Tokens.{next_place, place_from, is_space_or_tab, IsLineFront}
+use Rattle.lra_base.specs.Places.{next_place, place_from}
+use Rattle.lra_tree.specs.Tokens.{is_space_or_tab, IsLineFront}
 use Rattle.lra_lex.specs.Places.{fresh_behind}
 
 pub place_from-append : (p : Place) (xs ys : List ℕ) → place_from p (xs ++ ys) ≡ place_from (place_from p xs) ys

@@ -18,7 +18,8 @@ use Rattle.lra_tree.specs.Lexeme.{is_letter, is_digit, is_word_byte, is_name_wor
 use Rattle.lra_tree.specs.Lexeme.{named_words, further_words, IsOpen, IsUnclosed, IsLiteral, greatest_literal, Lexeme}
 use Rattle.lra_tree.specs.Lexeme.{word, number_word, mark_word, unclosed, SpellsToken, name, number, mark_of, reserved, comment}
 use Rattle.lra_tree.specs.Tokens.{is_blank, in_line, IsLineEnd, IsGap, blank, line_comment, block_comment, skipped_line, IsLongest, IsToken, Fragment, gap, token, bytes_of, tokens_of, IsReading}
-use Rattle.lra_tree.specs.Tokens.{IsFaulty, place_behind, end_token, OneReading}
+use Rattle.lra_base.specs.Places.{place_behind}
+use Rattle.lra_tree.specs.Tokens.{IsFaulty, end_token, OneReading}
 use Rattle.lra_lex.specs.Front.{opens_comment}
 use Rattle.lra_lex.proofs.RunLemmas.{run_exact, Stops, differ}
 use Rattle.lra_lex.proofs.MarkLemmas.{mark_one, mark_some, mark_named, mark_no_number, mark_no_further, among_all}

@@ -8,7 +8,8 @@ use Rattle.lra_base.specs.declared.refusals.Refusal.{Refusal}
 use Rattle.lra_base.specs.Refused.{IfRefusal}
 use Rattle.lra_tree.specs.declared.tokens.Kind.{Kind}
 use Rattle.lra_tree.specs.declared.tokens.Token.{Token}
-use Rattle.lra_tree.specs.Tokens.{IsGap, NoGap, IsToken, Fragment, gap, token, bytes_of, tokens_of, IsReading, IsFaulty, place_from, place_behind}
+use Rattle.lra_base.specs.Places.{place_from, place_behind}
+use Rattle.lra_tree.specs.Tokens.{IsGap, NoGap, IsToken, Fragment, gap, token, bytes_of, tokens_of, IsReading, IsFaulty}
 use Rattle.lra_lex.specs.Places.{fresh_behind}
 use Rattle.lra_lex.specs.Front.{HasNoGap}
 use Rattle.lra_lex.specs.Read.{BeginsToken, HasFault, BeginsFound, FaultsAt, found_tokens}

@@ -1,7 +1,7 @@
 //! Where a byte stands.
 
 ghost use Rattle.std.specs.Prelude.{◌≡◌, ◌+◌, ◌<◌, ◌^◌, length};
-ghost use Rattle.lra_tree.specs.Tokens.{place_from};
+ghost use Rattle.lra_base.specs.Places.{place_from};
 ghost use Rattle.lra_lex.specs.Places.{fresh_behind};
 
 use crate::bytes::is_space_or_tab;

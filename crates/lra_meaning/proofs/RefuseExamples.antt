@@ -9,7 +9,8 @@ use Rattle.lra_tree.specs.declared.tokens.Mark.TheVariants as mark
 use Rattle.lra_tree.specs.declared.tokens.Token.{Token}
 use Rattle.lra_tree.specs.Lexeme.{IsOpen, unclosed, comment}
 use Rattle.lra_tree.specs.declared.tokens.Kind.{Kind}
-use Rattle.lra_tree.specs.Tokens.{is_blank, blank, line_comment, block_comment, skipped_line, NoGap, token, place_behind, place_from, greatest_length}
+use Rattle.lra_base.specs.Places.{place_behind, place_from, greatest_length}
+use Rattle.lra_tree.specs.Tokens.{is_blank, blank, line_comment, block_comment, skipped_line, NoGap, token}
 use Rattle.lra_tree.specs.Trees.{DeclaratorTree, nothing, call, ItemsTree, no_items, declaration, statement, PartTree, function, FileTree, for, declared, expression}
 use Rattle.lra_tree.specs.Labels.{labels_of}
 use Rattle.lra_meaning.specs.Resolve.{resolve}

@@ -9,7 +9,8 @@ use Rattle.lra_base.specs.declared.refusals.Cause.TheVariants.{TooLong, Recursiv
 use Rattle.lra_base.specs.declared.refusals.Refusal.{Refusal}
 use Rattle.lra_tree.specs.declared.tokens.Token.{Token}
 use Rattle.lra_tree.specs.Trees.{FileTree}
-use Rattle.lra_tree.specs.Tokens.{place_behind, Lex, IsTokenFault, greatest_length}
+use Rattle.lra_base.specs.Places.{place_behind, greatest_length}
+use Rattle.lra_tree.specs.Tokens.{Lex, IsTokenFault}
 use Rattle.lra_tree.specs.Faults.{Language, IsTree, IsTextFault}
 use Rattle.lra_meaning.specs.NameFaults.{name_faults}
 use Rattle.lra_tree.specs.Labels.{Labelled, labels_of, label_at, label_place, called_place}

@@ -11,7 +11,7 @@ use Rattle.lra_tree.specs.Faults.{Language}
 use Rattle.lra_tree.specs.Labels.{Labelled, labels_of, label_at}
 use Rattle.lra_meaning.specs.Resolve.{resolve}
 use Rattle.lra_program.specs.Sites.{Site, greatest_calls, sites_of}
-use Rattle.lra_tree.specs.Tokens.{greatest_length}
+use Rattle.lra_base.specs.Places.{greatest_length}
 use Rattle.lra_meaning.specs.Refuse.{Accepts}
 use Rattle.lra_meaning.specs.LiveNames.{live_at, live_in_call_at, names_outside, live_names, globals_named}
 use Rattle.lra_report.specs.Spelled.{AreWords, HasWords}

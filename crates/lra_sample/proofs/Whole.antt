@@ -10,7 +10,8 @@ use Rattle.lra_tree.specs.declared.tokens.Kind.TheVariants.{Name}
 use Rattle.lra_tree.specs.declared.tokens.Mark.TheVariants as mark
 use Rattle.lra_tree.specs.declared.tokens.Token.{Token}
 use Rattle.lra_tree.specs.Lexeme.{word, name}
-use Rattle.lra_tree.specs.Tokens.{place_behind, tokens_of, end_token, Lex}
+use Rattle.lra_base.specs.Places.{place_behind}
+use Rattle.lra_tree.specs.Tokens.{tokens_of, end_token, Lex}
 use Rattle.lra_tree.specs.Trees.{compare, expression, ItemsTree, no_items, declaration, statement, assert, FunctionTree}
 use Rattle.lra_tree.specs.Trees.{function, FileTree}
 use Rattle.lra_tree.specs.Texts.{Pieces}

@@ -8,11 +8,11 @@ ghost use Rattle.lra_program.specs.ProgramViews.{program_view};
 ghost use Rattle.lra_program.specs.WellFormed.{IsWellFormed};
 ghost use Rattle.lra_formed.specs.Literals.{HasSmallLiterals};
 
-use lra_base::{Cause, Place, Refusal, SourceError};
+use lra_base::{Cause, GREATEST_LENGTH, Place, Refusal, SourceError};
 use lra_lex::tokens;
 use lra_names::{Resolution, resolve};
 use lra_parse::parse;
-use lra_tree::{GREATEST_LENGTH, Tree};
+use lra_tree::Tree;
 use std::alloc::Global;
 
 /// The tree of a source.

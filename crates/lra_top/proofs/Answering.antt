@@ -1,7 +1,7 @@
 -- What the rest of the crate knows of a command's answer.
 use Rattle.std.proofs.Common.{◌≡◌, ◌<◌, ◌+◌, ◌^◌, ℕ, List, ◌++◌, length, subst, sym, arith}
 use Rattle.std.specs.Prelude.{Option, Some, None}
-use Rattle.lra_tree.specs.Tokens.{greatest_length}
+use Rattle.lra_base.specs.Places.{greatest_length}
 use Rattle.lra_top.specs.Statuses.{Ends, refused}
 use Rattle.lra_top.specs.SourceAnswer.{source_statuses}
 use Rattle.lra_top.specs.declared.status.Status.{Status}

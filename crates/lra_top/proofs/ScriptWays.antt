@@ -3,7 +3,7 @@ use Rattle.std.proofs.Common.{◌≡◌, ◌∙◌, ◌≤◌, ◌<◌, ℕ, Lis
 use Rattle.std.specs.Prelude.{Some, None, Result, Ok, Err}
 use Rattle.std.proofs.lemmas.Grind.{common_steps}
 use Rattle.std.proofs.lemmas.List.{take-append-le}
-use Rattle.lra_tree.specs.Tokens.{greatest_length, place_behind}
+use Rattle.lra_base.specs.Places.{greatest_length, place_behind}
 use Rattle.lra_calc.specs.Script as script
 use Rattle.lra_calc.proofs.Limit.{answer_too_long, long_answer}
 use Rattle.lra_top.specs.Statuses.{Ends, refused}

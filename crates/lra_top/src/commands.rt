@@ -7,12 +7,12 @@ use crate::answer::Answer;
 use crate::sample_answer::answer_sample;
 use crate::script_answer::answer_script;
 use crate::source_answer::answer_source;
-use lra_tree::GREATEST_LENGTH;
+use lra_base::GREATEST_LENGTH;
 use lra_words::Command;
 use std::alloc::{AllocError, Global};
 
 /// The most bytes that a command takes of its input, where it reads it.
-#[tactic(auto, unfolding(lra_tree::specs::Tokens::greatest_length))]
+#[tactic(auto, unfolding(lra_base::specs::Places::greatest_length))]
 pub fn limit_of(command: Command) -> Option<usize>
     ensures { result ≡ limit_of command }
 {

@@ -12,7 +12,8 @@ use Rattle.lra_tree.specs.declared.tokens.Mark.{Mark}
 use Rattle.lra_tree.specs.declared.tokens.Token.{Token}
 use Rattle.lra_tree.specs.Lexeme.{mark_text, Lexeme, SpellsToken, mark_word, mark_of}
 use Rattle.lra_tree.specs.Tokens.{is_blank, blank, Fragment, gap, token, bytes_of, tokens_of, IsToken, IsReading, Lex}
-use Rattle.lra_tree.specs.Tokens.{end_token, place_behind, IsFaulty, IsTokenFault}
+use Rattle.lra_base.specs.Places.{place_behind}
+use Rattle.lra_tree.specs.Tokens.{end_token, IsFaulty, IsTokenFault}
 use Rattle.lra_tree.specs.Texts.{Pieces, plain}
 use Rattle.lra_tree.specs.Faults.{IsLow, greatest_level}
 use Rattle.lra_tree.proofs.LongestByTest.{is_lexeme, begins_gap, opens_comment, ends_there, as_token}

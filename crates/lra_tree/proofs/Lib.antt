@@ -1,5 +1,3 @@
--- The most bytes of a source.
-pub mod Limit
 -- Worked examples: each definition of specs/ on texts whose answers are known.
 -- Tests by which the examples find longest spellings, and the examples.
 pub mod LongestByTest

@@ -6,7 +6,8 @@ use Rattle.lra_tree.specs.declared.tokens.Mark.{Mark}
 use Rattle.lra_tree.specs.declared.tokens.Mark.TheVariants as mark
 use Rattle.lra_tree.specs.declared.tokens.Kind.{Kind}
 use Rattle.lra_tree.specs.Lexeme.{is_name_word, is_number_word, mark_text, is_among, IsOpen, SpellsToken, Lexeme, word, number_word, mark_word, unclosed}
-use Rattle.lra_tree.specs.Tokens.{is_blank, IsGap, blank, line_comment, block_comment, skipped_line, NoGap, IsLongest, IsToken, place_behind}
+use Rattle.lra_base.specs.Places.{place_behind}
+use Rattle.lra_tree.specs.Tokens.{is_blank, IsGap, blank, line_comment, block_comment, skipped_line, NoGap, IsLongest, IsToken}
 
 -- no gap begins with another byte than a blank, `/`, `#`
 abbrev pub begins_gap : ℕ → Bool

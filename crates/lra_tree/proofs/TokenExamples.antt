@@ -13,7 +13,8 @@ use Rattle.lra_tree.specs.declared.tokens.Mark.TheVariants as mark
 use Rattle.lra_tree.specs.declared.tokens.Token.{Token}
 use Rattle.lra_tree.specs.Lexeme.{octal, decimal_base, hexadecimal, IsLiteral, Base, IsFront, is_digit, is_digit_of, number_behind, greatest_literal, is_between, is_among, suffixes, word, number_word}
 use Rattle.lra_tree.specs.Lexeme.{mark_word, name, number, mark_of, reserved}
-use Rattle.lra_tree.specs.Tokens.{place_behind, blank, line_comment, block_comment, skipped_line, gap, token, Lex, IsTokenFault}
+use Rattle.lra_base.specs.Places.{place_behind}
+use Rattle.lra_tree.specs.Tokens.{blank, line_comment, block_comment, skipped_line, gap, token, Lex, IsTokenFault}
 use Rattle.lra_tree.proofs.LongestByTest.{no_gap, longest_by, as_token, is_open, no_lexeme}
 use Rattle.lra_tree.proofs.Lexemes.{Item, ◌⨾◌, all_lexed, faulty}
 use Rattle.lra_tree.proofs.LexedByTest.{space, sign, word_of, are_read_by, and_first, and_second}

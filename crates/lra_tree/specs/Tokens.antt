@@ -1,29 +1,16 @@
 -- The tokens of a source (ISO/IEC 9899:2011, 5.1.1.2 and 6.4): its bytes are a sequence of gaps, which stand for
 -- nothing, and of spellings of tokens, each the longest one at its place.
-use Rattle.std.specs.Prelude.{◌≡◌, ◌≢◌, ℕ, ◌+◌, ◌≤◌, ◌⊎◌, Bool, true, false, ◌||◌, nat_eq, List, [], ◌∷◌, ◌++◌, length}
-use Rattle.std.specs.Prelude.{codes, if◌then◌else◌, ⊤, not}
+use Rattle.std.specs.Prelude.{◌≡◌, ◌≢◌, ℕ, ◌≤◌, ◌⊎◌, Bool, true, false, ◌||◌, nat_eq, List, [], ◌∷◌, ◌++◌, length}
+use Rattle.std.specs.Prelude.{codes, ⊤, not}
 use Rattle.std.specs.List.{list_all}
 use Rattle.lra_base.specs.declared.refusals.Place.{Place}
+use Rattle.lra_base.specs.Places.{place_behind}
 use Rattle.lra_base.specs.declared.refusals.Cause.{Cause}
 use Rattle.lra_base.specs.declared.refusals.Cause.TheVariants.{BadByte, BadLiteral}
 use Rattle.lra_tree.specs.declared.tokens.Token.{Token}
 use Rattle.lra_tree.specs.declared.tokens.Kind.TheVariants.{End}
 use Rattle.lra_tree.specs.Lexeme.{is_word_byte, is_number_word, IsLiteral, greatest_literal, IsOpen, Lexeme}
 use Rattle.lra_tree.specs.Lexeme.{SpellsToken}
-
--- places -----------------------------------------------------------------------------------------------------------
-
-abbrev pub next_place : Place → ℕ → Place
-next_place p c = if nat_eq c 10 then record { line = p.line + 1; column = 1 }
-    else record { line = p.line; column = p.column + 1 }
-
-abbrev pub place_from : Place → List ℕ → Place
-place_from p [] = p
-place_from p (c ∷ cs) = place_from (next_place p c) cs
-
--- the place of the byte behind these, which begin a source
-abbrev pub place_behind : List ℕ → Place
-place_behind bytes = place_from (record { line = 1; column = 1 }) bytes
 
 -- gaps -------------------------------------------------------------------------------------------------------------
 
@@ -141,7 +128,3 @@ OneReading = (source : List ℕ)
     → ((T U : List Token) → Lex source T → Lex source U → T ≡ U)
     × ((c d : Cause) (p q : Place) → IsTokenFault source c p → IsTokenFault source d q → (c ≡ d) × (p ≡ q))
     × ((T : List Token) (c : Cause) (p : Place) → Lex source T → IsTokenFault source c p → ⊥)
-
--- bytes of a source; it doesn't unfold by itself, since it is large
-unfoldable pub greatest_length : ℕ
-greatest_length = 65536

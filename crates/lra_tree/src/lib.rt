@@ -4,11 +4,9 @@
 //! The types of tokens and trees are those of the front end's calls.
 #![tactic(auto)]
 
-mod places;
 mod tokens;
 mod trees;
 
-pub use places::{GREATEST_LENGTH, place_behind};
 pub use tokens::{Kind, Mark, Token, Word};
 pub use trees::{
     Arguments, Assign, Block, BlockItem, Call, Cond, Conjunction, Declaration, Declarator, Expr,

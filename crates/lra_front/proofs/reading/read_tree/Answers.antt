@@ -3,7 +3,7 @@ use Rattle.std.proofs.Common.{List, arith, refl, sym, subst}
 use Rattle.lra_tree.specs.declared.tokens.Token.{Token}
 use Rattle.lra_base.specs.declared.refusals.Cause.TheVariants.{TooLong}
 use Rattle.lra_base.specs.declared.refusals.Place.{Place}
-use Rattle.lra_tree.proofs.Limit.{taken}
+use Rattle.lra_base.proofs.Limit.{taken}
 use Rattle.lra_tree.specs.Views.{tree_view}
 use Rattle.lra_tree.specs.Faults.{IsTree}
 use Rattle.lra_tree.specs.Grammar.{Spells}

@@ -1,5 +1,5 @@
 use Rattle.std.proofs.Common.{◌≡◌, ◌≤◌, ◌+◌, drop}
-use Rattle.lra_tree.specs.Tokens.{place_from}
+use Rattle.lra_base.specs.Places.{place_from}
 use Rattle.lra_lex.specs.Places.{fresh_behind}
 use Rattle.lra_lex.proofs.spot.Spot.advance.Given as goal
 

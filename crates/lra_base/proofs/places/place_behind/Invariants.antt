@@ -1,6 +1,6 @@
 use Rattle.std.proofs.Common.{◌≡◌, ◌+◌, ◌≤◌, drop}
-use Rattle.lra_tree.specs.Tokens.{place_from, place_behind}
-use Rattle.lra_tree.proofs.places.place_behind.Given as goal
+use Rattle.lra_base.specs.Places.{place_from, place_behind}
+use Rattle.lra_base.proofs.places.place_behind.Given as goal
 
 abbrev pub invariant-loop-byte : goal.invariant-loop-byte
 invariant-loop-byte l = (l.line ≤ 1 + l.byte-index)

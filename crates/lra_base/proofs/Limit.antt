@@ -1,7 +1,7 @@
--- The most bytes of a source, as a number. The definition doesn't unfold by itself.
+-- The most bytes of a source or a script, as a number. The definition doesn't unfold by itself.
 use Rattle.std.proofs.Common.{◌≡◌, ◌<◌, ℕ, List, length, take, refl, arith}
 use Rattle.std.proofs.lemmas.List.{length-take}
-use Rattle.lra_tree.specs.Tokens.{greatest_length}
+use Rattle.lra_base.specs.Places.{greatest_length}
 
 pub limit_is : greatest_length ≡ 65536
 unfolding greatest_length

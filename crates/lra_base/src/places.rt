@@ -1,14 +1,14 @@
-//! How many bytes a source may have, and where they stand.
+//! How many bytes a source or a script may have, and where they stand.
 
 ghost use Rattle.std.specs.Prelude.{◌≡◌, ◌+◌, ◌<◌, ◌^◌, length};
-ghost use Rattle.lra_tree.specs.Tokens.{place_behind};
+ghost use Rattle.lra_base.specs.Places.{place_behind};
 
-use lra_base::Place;
+use crate::refusals::Place;
 
 /// The most bytes that a source or a script may have.
 pub const GREATEST_LENGTH: usize = 65_536;
 
-/// The place of the byte behind these, which begin a source.
+/// The place of the byte behind these, which begin a source or a script.
 pub fn place_behind(bytes: &[u8]) -> Place
     requires { length bytes.now + 1 < 2 ^ 32 }
     ensures { result ≡ place_behind bytes.now }
