@@ -60,8 +60,7 @@ fn extend_along(p: &Poly, x: usize) -> Result<Option<Poly>, AllocError>
 }
 
 /// Lets the coordinate x be anything: becomes the set of the points that some value of x brings into it. Where it is
-/// flagged it has at least those: then its generators and the line were converted from nothing, since it can't be gone
-/// on from the lists at hand, or the line strains behind them.
+/// flagged it has at least those.
 pub fn forget(p: &mut Poly, x: usize) -> Result<Outcome, AllocError>
     requires { x < p.old.dims }
     ensures dims { p.new.dims ≡ p.old.dims }

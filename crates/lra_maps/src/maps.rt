@@ -123,9 +123,8 @@ fn elapse(p: &mut Poly, other: &Poly) -> Result<Outcome, AllocError>
 }
 
 /// Lets time elapse: becomes the hull of its points moved by any whole number of steps from 0 on, each step by the
-/// coordinates of a point of the other. Where it is flagged it has at least those: then its generators and the other's
-/// as directions were converted from nothing, since it can't be gone on from the lists at hand, or one strains behind
-/// them. Where one of the two has no point it is never flagged.
+/// coordinates of a point of the other. Where it is flagged it has at least those. Where one of the two has no point it
+/// is never flagged.
 pub fn time_elapse(p: &mut Poly, other: &Poly) -> Result<Outcome, AllocError>
     requires { other.now.dims ≡ p.old.dims }
     ensures dims { OnOk result (p.new.dims ≡ p.old.dims) }

@@ -145,7 +145,7 @@ static DOUBLED: [(&str, &str); 8] = [
 ];
 
 /// Calls that fit no function, `break` and `continue` outside loops, and recursion.
-static MISUSED: [(&str, &str); 13] = [
+static MISUSED: [(&str, &str); 16] = [
     ("int main(void){ main(1); }", "refused 9 BadCall at 1:17\n"),
     ("int main(void){ break; }", "refused 10 Misplaced at 1:17\n"),
     (
@@ -171,6 +171,18 @@ static MISUSED: [(&str, &str); 13] = [
     (
         "int main(void){ long x=1; x=main(); return main(); }",
         "refused 11 Recursive at 1:29\n",
+    ),
+    (
+        "int main(void){ long x=main(); }",
+        "refused 11 Recursive at 1:24\n",
+    ),
+    (
+        "int main(void){ long x; for(;;x=main()) ; }",
+        "refused 11 Recursive at 1:33\n",
+    ),
+    (
+        "int main(void){ long x; for(x=main();;) ; }",
+        "refused 11 Recursive at 1:31\n",
     ),
     (
         "void f(void){} int main(void){ f(1); }",
