@@ -1,0 +1,40 @@
+-- Worked cases of the least value.
+use Rattle.std.proofs.Common.{◌≡◌, List, [], ◌∷◌, pos, negsuc, ℤ, refl, arith, inl}
+use Rattle.std.proofs.lemmas.Int.{ints}
+use Rattle.std.proofs.lemmas.List.Elements.{All-nil, All-cons}
+use Rattle.lra_linear.specs.Descriptions.{generator}
+use Rattle.lra_duality.specs.Maxima.{DoesNotImprove, StaysInRange}
+use Rattle.lra_queries.specs.declared.minimum.Minimum.TheVariants.{Empty, Unbounded}
+use Rattle.lra_queries.specs.Minima.{IsAtLeast, IsMinimum}
+
+-- x is at least 1/2 at the point 3/2, and not at the point 1/4
+pub half_below : IsAtLeast (pos 0 ∷ pos 1 ∷ []) (pos 1) (pos 2) (pos 2 ∷ pos 3 ∷ [])
+half_below = omega (arith, ints)
+
+pub quarter_below : IsAtLeast (pos 0 ∷ pos 1 ∷ []) (pos 1) (pos 2) (pos 4 ∷ pos 1 ∷ []) → ⊥
+quarter_below h = omega (arith, ints, h)
+
+-- without a generator there is no least value
+pub nothing_least : (form : List ℤ) → IsMinimum form [] Empty
+nothing_least form = refl
+
+-- where x is at least 0, the form -x falls along the ray
+pub falls_along : IsMinimum (pos 0 ∷ negsuc 0 ∷ []) (generator (pos 1 ∷ pos 0 ∷ []) ∷ generator (pos 0 ∷ pos 1 ∷ []) ∷ []) (Unbounded 1)
+falls_along = (
+  All-cons (StaysInRange (pos 0 ∷ pos 1 ∷ [])) (generator (pos 1 ∷ pos 0 ∷ [])) (generator (pos 0 ∷ pos 1 ∷ []) ∷ []) refl
+      (All-cons (StaysInRange (pos 0 ∷ pos 1 ∷ [])) (generator (pos 0 ∷ pos 1 ∷ [])) [] refl
+      (All-nil (StaysInRange (pos 0 ∷ pos 1 ∷ [])))),
+  record {
+    earlier = generator (pos 1 ∷ pos 0 ∷ []) ∷ [];
+    member = generator (pos 0 ∷ pos 1 ∷ []);
+    later = [];
+    is = refl;
+    at = refl;
+    before = All-cons (DoesNotImprove (pos 0 ∷ pos 1 ∷ [])) (generator (pos 1 ∷ pos 0 ∷ [])) []
+        (λ i. not_level i.0) (All-nil (DoesNotImprove (pos 0 ∷ pos 1 ∷ [])));
+    here = (refl, inl (refl, omega (arith, ints)));
+  },
+)
+  where
+    not_level : (let z : ℤ = pos 1 in z) ≡ pos 0 → ⊥
+    not_level e = omega (arith, ints, e)

@@ -1,0 +1,2 @@
+pub mod MinimumLemmas
+mod Examples

@@ -1,0 +1,6 @@
+//! Questions about closed polyhedra.
+#![tactic(auto)]
+
+mod minimum;
+
+pub use minimum::{Minimum, minimise};
