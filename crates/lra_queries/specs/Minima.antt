@@ -1,11 +1,12 @@
 -- The least value of a form on a polyhedron: with its sign turned, the greatest value of the form's opposite.
-use Rattle.std.specs.Prelude.{ℤ, pos, neg_ℤ, ◌*ℤ◌, ◌<ℤ◌, ◌≤ℤ◌, List, [], ◌∷◌}
+use Rattle.std.specs.Prelude.{ℤ, pos, neg_ℤ, ◌*ℤ◌, ◌<ℤ◌, ◌≤ℤ◌, ⊤, List, [], ◌∷◌}
 use Rattle.lra_linear.specs.declared.Excess as E
 use Rattle.lra_linear.specs.Descriptions.{Given, Con}
 use Rattle.lra_linear.specs.LowestTerms.{IsPrimitive}
 use Rattle.lra_linear.specs.OperationStrain.{MaximiseStrains}
 use Rattle.lra_linear.specs.Points.{IsPoint, IsEmptySet}
 use Rattle.lra_linear.specs.Polyhedra.{Polyhedron}
+use Rattle.lra_linear.specs.Range.{InRange}
 use Rattle.lra_linear.specs.Vectors.{entry, negated, product}
 use Rattle.lra_duality.specs.Maxima.{HasValue, IsMaximum}
 use Rattle.lra_duality.specs.declared.maximum.Maximum.{Maximum}
@@ -47,3 +48,10 @@ turned (At num den place) = greatest.At (neg_ℤ num) den place
 
 abbrev pub IsMinimum : List ℤ → List Given → Minimum → Type 0
 IsMinimum form generators m = IsMaximum (negated form) generators (turned m)
+
+-- a value that is told is of numbers in the range
+abbrev pub LeastInRange : Minimum → Type 0
+LeastInRange Empty = ⊤
+LeastInRange (Wide place) = ⊤
+LeastInRange (Unbounded place) = ⊤
+LeastInRange (At num den place) = InRange num × InRange den

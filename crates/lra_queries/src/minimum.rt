@@ -2,7 +2,7 @@
 
 ghost use Rattle.std.specs.Prelude.{◌≡◌, length};
 ghost use Rattle.lra_lin.specs.Form.{form_row};
-ghost use Rattle.lra_queries.specs.Minima.{IsMinimum, TellsMinimum};
+ghost use Rattle.lra_queries.specs.Minima.{IsMinimum, LeastInRange, TellsMinimum};
 
 use lra_duality::Maximum;
 use lra_lin::LinExpr;
@@ -27,6 +27,7 @@ pub fn minimise(p: &Poly, form: &LinExpr) -> Minimum
     requires { length form.now.coefficients ≡ p.now.dims }
     ensures first { IsMinimum (form_row form.now) p.now.generators result }
     ensures tells { TellsMinimum p.now (form_row form.now) result }
+    ensures range { LeastInRange result }
 {
     match p.maximise_opposite(form) {
         Maximum::Empty => Minimum::Empty,

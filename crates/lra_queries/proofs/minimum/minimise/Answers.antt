@@ -29,3 +29,10 @@ returns-in-At-clause-tells c =
     rw (to_z-of_z w128 c.opposite.result fits, to_z-of_z w128 c.in-At.den fits_den)
     (least_value c.args.p.now (form_row c.args.form.now) c.in-At.num c.in-At.den c.opposite.result value
     c.in-At.ensures.tells)
+
+pub returns-in-At-clause-range : goal.returns-in-At-clause-range
+returns-in-At-clause-range c =
+    let fits_den : FitsSigned w128 c.in-At.den = search rules in
+    let fits : FitsSigned w128 c.opposite.result = search rules in
+    rw (to_z-of_z w128 c.opposite.result fits, to_z-of_z w128 c.in-At.den fits_den)
+    (c.opposite.ensures.in_range, c.in-At.ensures.range.1)
