@@ -1,11 +1,15 @@
--- Worked cases of the least value.
-use Rattle.std.proofs.Common.{◌≡◌, List, [], ◌∷◌, pos, negsuc, ℤ, refl, arith, inl}
+-- Worked cases of the least value, and of how constraints stand to polyhedra.
+use Rattle.std.proofs.Common.{◌≡◌, List, [], ◌∷◌, pos, negsuc, ℤ, ◌+ℤ◌, ◌*ℤ◌, ◌<ℤ◌, ◌≤ℤ◌, refl, arith, inl}
 use Rattle.std.proofs.lemmas.Int.{ints}
 use Rattle.std.proofs.lemmas.List.Elements.{All-nil, All-cons}
-use Rattle.lra_linear.specs.Descriptions.{generator}
+use Rattle.lra_linear.specs.Descriptions.{generator, inequality}
+use Rattle.lra_linear.specs.Polyhedra.{Polyhedron}
+use Rattle.lra_linear.specs.Vectors.{entry}
+use Rattle.lra_linear.proofs.Membership.{contains_head}
 use Rattle.lra_duality.specs.Maxima.{DoesNotImprove, StaysInRange}
 use Rattle.lra_queries.specs.declared.minimum.Minimum.TheVariants.{Empty, Unbounded}
 use Rattle.lra_queries.specs.Minima.{IsAtLeast, IsMinimum}
+use Rattle.lra_queries.specs.Relations.{HoldsNowhere, MissesZero}
 
 -- x is at least 1/2 at the point 3/2, and not at the point 1/4
 pub half_below : IsAtLeast (pos 0 ∷ pos 1 ∷ []) (pos 1) (pos 2) (pos 2 ∷ pos 3 ∷ [])
@@ -38,3 +42,24 @@ falls_along = (
   where
     not_level : (let z : ℤ = pos 1 in z) ≡ pos 0 → ⊥
     not_level e = omega (arith, ints, e)
+
+-- where x is at least 1, -x is nowhere at least 0
+abbrev from_one : Polyhedron
+from_one = record {
+  dims = 1;
+  rows = inequality (negsuc 0 ∷ pos 1 ∷ []) ∷ [];
+  generators = generator (pos 1 ∷ pos 1 ∷ []) ∷ generator (pos 0 ∷ pos 1 ∷ []) ∷ [];
+}
+
+pub opposite_nowhere : HoldsNowhere from_one (inequality (pos 0 ∷ negsuc 0 ∷ []))
+opposite_nowhere x i both =
+    apart (entry x 0) (entry x 1) i.divisor
+    (both.0 (inequality (negsuc 0 ∷ pos 1 ∷ [])) (contains_head (inequality (negsuc 0 ∷ pos 1 ∷ [])) [])) both.1
+  where
+    apart : (d z : ℤ) → pos 0 <ℤ d → pos 0 ≤ℤ ((negsuc 0 *ℤ d) +ℤ ((pos 1 *ℤ z) +ℤ pos 0)) →
+        pos 0 ≤ℤ ((pos 0 *ℤ d) +ℤ ((negsuc 0 *ℤ z) +ℤ pos 0)) → ⊥
+    apart d z h a b = omega (arith, ints, h, a, b)
+
+-- 2 is no 0 of x - 1, and 1 is one
+pub one_touches : MissesZero (negsuc 0 ∷ pos 1 ∷ []) (generator (pos 1 ∷ pos 1 ∷ [])) → ⊥
+one_touches misses = misses (omega (arith, ints), refl)

@@ -1,2 +1,4 @@
 pub mod MinimumLemmas
+pub mod MissedLists
+pub mod RelationLemmas
 mod Examples

@@ -2,5 +2,7 @@
 #![tactic(auto)]
 
 mod minimum;
+mod relation;
 
 pub use minimum::{Minimum, minimise};
+pub use relation::{Relation, relate};
