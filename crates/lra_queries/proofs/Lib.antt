@@ -1,4 +1,5 @@
 pub mod MinimumLemmas
 pub mod MissedLists
 pub mod RelationLemmas
+pub mod ShapeLemmas
 mod Examples

@@ -29,7 +29,7 @@ use Rattle.lra_queries.specs.declared.relation.Relation.{Relation}
 use Rattle.lra_queries.specs.Relations.{AreMissed, HoldsNowhere, IsRelation, MissesZero, StaysAbove, StaysBelow}
 
 -- ---- products with sums of multiples
-blend_product : (a b : ℤ) (us vs x : List ℤ) → length us ≡ length vs →
+pub blend_product : (a b : ℤ) (us vs x : List ℤ) → length us ≡ length vs →
     product (blend a b us vs) x ≡ (a *ℤ product us x) +ℤ (b *ℤ product vs x)
 blend_product a b us vs x e =
     product_comm (blend a b us vs) x

@@ -3,6 +3,8 @@
 
 mod minimum;
 mod relation;
+mod shape;
 
 pub use minimum::{Minimum, minimise};
 pub use relation::{Relation, relate};
+pub use shape::{is_bounded, is_universe};

@@ -1,0 +1,19 @@
+-- What a polyhedron is as a whole: all points, or bounded.
+use Rattle.std.specs.Prelude.{◌≡◌, suc, ℤ, pos, List, [], length}
+use Rattle.lra_linear.specs.Descriptions.{Con}
+use Rattle.lra_linear.specs.Points.{IsPoint, SameSet}
+use Rattle.lra_linear.specs.Polyhedra.{Polyhedron}
+use Rattle.lra_duality.specs.Maxima.{IsAtMost}
+
+-- each point is in it
+abbrev pub IsUniverse : Polyhedron → Type 0
+IsUniverse p = SameSet p.dims (Con []) (Con p.rows)
+
+-- a number that the form's value is at most, at each point
+pub record HasBound (p : Polyhedron) (form : List ℤ) : Type 0 where
+  pub most : ℤ
+  pub is_most : (x : List ℤ) → IsPoint p.dims x → Con p.rows x → IsAtMost form most (pos 1) x
+
+-- each form has one
+abbrev pub IsBounded : Polyhedron → Type 0
+IsBounded p = (form : List ℤ) → length form ≡ suc p.dims → HasBound p form
