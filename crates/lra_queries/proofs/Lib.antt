@@ -1,5 +1,6 @@
 pub mod MinimumLemmas
 pub mod MissedLists
 pub mod RelationLemmas
+pub mod DimensionLemmas
 pub mod ShapeLemmas
 mod Examples

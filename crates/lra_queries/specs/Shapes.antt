@@ -1,8 +1,11 @@
--- What a polyhedron is as a whole: all points, or bounded.
-use Rattle.std.specs.Prelude.{◌≡◌, suc, ℤ, pos, List, [], length}
-use Rattle.lra_linear.specs.Descriptions.{Con}
+-- What a polyhedron is as a whole: all points, or bounded; how many dimensions it has.
+use Rattle.std.specs.Prelude.{◌≡◌, ◌↔◌, ◌+◌, ℕ, suc, ℤ, pos, List, [], length}
+use Rattle.lra_linear.specs.Descriptions.{Con, equality}
+use Rattle.lra_linear.specs.Echelon.{IsEchelon, Spanned}
 use Rattle.lra_linear.specs.Points.{IsPoint, SameSet}
 use Rattle.lra_linear.specs.Polyhedra.{Polyhedron}
+use Rattle.lra_linear.specs.SetOperations.{ValidOn}
+use Rattle.lra_linear.specs.Vectors.{entry}
 use Rattle.lra_duality.specs.Maxima.{IsAtMost}
 
 -- each point is in it
@@ -17,3 +20,13 @@ pub record HasBound (p : Polyhedron) (form : List ℤ) : Type 0 where
 -- each form has one
 abbrev pub IsBounded : Polyhedron → Type 0
 IsBounded p = (form : List ℤ) → length form ≡ suc p.dims → HasBound p form
+
+-- as many dimensions as the space has, less the equalities that hold at each point: those, of rows in reduced echelon
+-- form, whose span is all of them
+pub record AffineDimension (p : Polyhedron) (d : ℕ) : Type 0 where
+  pub equalities : List (List ℤ)
+  pub pivots : List ℕ
+  pub echelon : IsEchelon equalities pivots
+  pub spans : (c : List ℤ) → length c ≡ suc p.dims →
+      (ValidOn p.dims (Con p.rows) (equality c) ↔ Spanned equalities (entry c))
+  pub count : d + length equalities ≡ p.dims

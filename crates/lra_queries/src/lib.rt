@@ -7,4 +7,4 @@ mod shape;
 
 pub use minimum::{Minimum, minimise};
 pub use relation::{Relation, relate};
-pub use shape::{is_bounded, is_universe};
+pub use shape::{dimension, is_bounded, is_universe};

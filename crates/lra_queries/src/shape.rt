@@ -1,10 +1,13 @@
 //! What a polyhedron is as a whole.
 
-ghost use Rattle.std.specs.Prelude.{◌≡◌, ◌↔◌, IsTrue};
-ghost use Rattle.std.specs.List.{All};
-ghost use Rattle.lra_queries.specs.Shapes.{IsBounded, IsUniverse};
+ghost use Rattle.std.specs.Prelude.{◌≡◌, ◌↔◌, IsNone, IsTrue, IfSome};
+ghost use Rattle.std.specs.List.{All, prefix_len};
+ghost use Rattle.lra_linear.specs.Descriptions.{Con};
+ghost use Rattle.lra_linear.specs.Kinds.{is_equality};
+ghost use Rattle.lra_linear.specs.Points.{IsEmptySet};
+ghost use Rattle.lra_queries.specs.Shapes.{AffineDimension, IsBounded, IsUniverse};
 
-use lra_linear::GenKind;
+use lra_linear::{ConKind, GenKind};
 use lra_poly::Poly;
 
 /// Whether it has all points.
@@ -28,4 +31,26 @@ pub fn is_bounded(p: &Poly) -> bool
 {
     let list = p.generators();
     are_points(list.kinds())
+}
+
+// How many of them stand before the first inequality.
+fn equalities_before(kinds: &[ConKind]) -> usize
+    ensures { result ≡ prefix_len is_equality kinds.now }
+{
+    kinds
+        .iter()
+        .take_while(|kind| **kind == ConKind::Eq)
+        .count()
+}
+
+/// How many dimensions it has: those of the space less its equalities; none where there is no point.
+pub fn dimension(p: &Poly) -> Option<usize>
+    ensures some { IfSome result (AffineDimension p.now) }
+    ensures none { IsNone result ↔ IsEmptySet p.now.dims (Con p.now.rows) }
+{
+    if p.is_empty() {
+        return None;
+    }
+    let list = p.rows();
+    Some(p.dims() - equalities_before(list.kinds()))
 }
