@@ -1,15 +1,16 @@
 -- Worked cases of the least value, and of how constraints stand to polyhedra.
-use Rattle.std.proofs.Common.{◌≡◌, List, [], ◌∷◌, pos, negsuc, ℤ, ◌+ℤ◌, ◌*ℤ◌, ◌<ℤ◌, ◌≤ℤ◌, refl, arith, inl}
+use Rattle.std.proofs.Common.{◌≡◌, suc, List, [], ◌∷◌, pos, negsuc, ℤ, ◌+ℤ◌, ◌*ℤ◌, ◌<ℤ◌, ◌≤ℤ◌, refl, arith, inl}
 use Rattle.std.proofs.lemmas.Int.{ints}
 use Rattle.std.proofs.lemmas.List.Elements.{All-nil, All-cons}
 use Rattle.lra_linear.specs.Descriptions.{generator, inequality}
 use Rattle.lra_linear.specs.Polyhedra.{Polyhedron}
 use Rattle.lra_linear.specs.Vectors.{entry}
-use Rattle.lra_linear.proofs.Membership.{contains_head}
+use Rattle.lra_linear.proofs.Membership.{contains_head, contains_tail}
 use Rattle.lra_duality.specs.Maxima.{DoesNotImprove, StaysInRange}
 use Rattle.lra_queries.specs.declared.minimum.Minimum.TheVariants.{Empty, Unbounded}
 use Rattle.lra_queries.specs.Minima.{IsAtLeast, IsMinimum}
 use Rattle.lra_queries.specs.Relations.{HoldsNowhere, MissesZero}
+use Rattle.lra_queries.specs.Shapes.{AffineDimension, HasBound}
 
 -- x is at least 1/2 at the point 3/2, and not at the point 1/4
 pub half_below : IsAtLeast (pos 0 ∷ pos 1 ∷ []) (pos 1) (pos 2) (pos 2 ∷ pos 3 ∷ [])
@@ -63,3 +64,26 @@ opposite_nowhere x i both =
 -- 2 is no 0 of x - 1, and 1 is one
 pub one_touches : MissesZero (negsuc 0 ∷ pos 1 ∷ []) (generator (pos 1 ∷ pos 1 ∷ [])) → ⊥
 one_touches misses = misses (omega (arith, ints), refl)
+
+-- where x is from 1 to 2, it is at most 2; and no number of dimensions more than those of the space fits
+abbrev to_two : Polyhedron
+to_two = record {
+  dims = 1;
+  rows = inequality (negsuc 0 ∷ pos 1 ∷ []) ∷ inequality (pos 2 ∷ negsuc 0 ∷ []) ∷ [];
+  generators = generator (pos 1 ∷ pos 1 ∷ []) ∷ generator (pos 1 ∷ pos 2 ∷ []) ∷ [];
+}
+
+pub two_bounds : HasBound to_two (pos 0 ∷ pos 1 ∷ [])
+two_bounds = record {
+  most = pos 2;
+  is_most = λ x i c. within (entry x 0) (entry x 1) (c (inequality (pos 2 ∷ negsuc 0 ∷ []))
+      (contains_tail (inequality (negsuc 0 ∷ pos 1 ∷ [])) (inequality (pos 2 ∷ negsuc 0 ∷ [])) (inequality (pos 2 ∷ negsuc 0 ∷ []) ∷ [])
+      (contains_head (inequality (pos 2 ∷ negsuc 0 ∷ [])) [])));
+}
+  where
+    within : (d z : ℤ) → pos 0 ≤ℤ ((pos 2 *ℤ d) +ℤ ((negsuc 0 *ℤ z) +ℤ pos 0)) →
+        (((pos 0 *ℤ d) +ℤ ((pos 1 *ℤ z) +ℤ pos 0)) *ℤ pos 1) ≤ℤ (pos 2 *ℤ d)
+    within d z h = omega (arith, ints, h)
+
+pub no_more_dimensions : (p : Polyhedron) → AffineDimension p (suc p.dims) → ⊥
+no_more_dimensions p h = let e = h.count in omega (arith, e)

@@ -2,5 +2,6 @@ pub mod MinimumLemmas
 pub mod MissedLists
 pub mod RelationLemmas
 pub mod DimensionLemmas
+pub mod SameLists
 pub mod ShapeLemmas
 mod Examples
