@@ -1,5 +1,5 @@
 -- What changes and joins keep of contents with an entry for each dimension, and how their ranks fall.
-use Rattle.std.proofs.Common.{◌≡◌, ℕ, zero, suc, ◌*◌, ◌<◌, ◌≤◌, ℤ, Bool, true, false, ◌&&◌, List, [], ◌∷◌, ◌++◌, length, replicate, take, refl, ap, arith}
+use Rattle.std.proofs.Common.{◌≡◌, ℕ, zero, suc, ◌*◌, ◌^◌, ◌<◌, ◌≤◌, ℤ, Bool, true, false, ◌&&◌, List, [], ◌∷◌, ◌++◌, length, replicate, take, refl, ap, arith}
 use Rattle.std.specs.Prelude.{slice_set}
 use Rattle.std.specs.Cmp.Lexicographic.{pointwise}
 use Rattle.guzhtarel.specs.Entries.{AllHave, join_each, total}
@@ -39,7 +39,7 @@ have_take has (suc n) (e ∷ es) [] a = absurd a
 have_take has (suc n) (e ∷ es) (x ∷ s) a = (a.0, have_take has n es s a.1)
 
 -- ---- what is covered
-both_true : (a b : Bool) → (a && b) ≡ true → (a ≡ true) × (b ≡ true)
+pub both_true : (a b : Bool) → (a && b) ≡ true → (a ≡ true) × (b ≡ true)
 both_true true b t = (refl, t)
 both_true false b t = cc
 
@@ -71,7 +71,7 @@ join_right test join one (e ∷ es) [] l = absurd (omega (arith, l))
 join_right test join one (e ∷ es) (d ∷ ds) l = rw (one e d) (join_right test join one es ds (omega (arith, l)))
 
 -- ---- ranks: the sum of a number of each entry
-pub sum_most : {E : Type 0} (number : E → ℕ) → ((e : E) → number e ≤ 4) → (es : List E) → total number es ≤ 4 * length es
+pub sum_most : {E : Type 0} (number : E → ℕ) → ((e : E) → number e ≤ 2 ^ 31) → (es : List E) → total number es ≤ 2 ^ 31 * length es
 sum_most number one [] = omega arith
 sum_most number one (e ∷ es) = let h = one e in let l = sum_most number one es in omega (arith, h, l)
 

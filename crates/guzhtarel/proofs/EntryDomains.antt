@@ -1,7 +1,9 @@
 -- The facts of a domain with an entry for each dimension, its ranks, and that its rows mean it.
-use Rattle.std.proofs.Common.{◌≡◌, ℕ, zero, suc, ◌+◌, ◌-◌, ◌*◌, ◌<◌, ◌≤◌, ◌^◌, ℤ, pos, Bool, true, false, not, ◌&&◌, ◌||◌, List, [], ◌∷◌, ◌++◌, length, replicate}
+use Rattle.std.proofs.Common.{◌≡◌, ℕ, suc, ◌+◌, ◌-◌, ◌<◌, ◌≤◌, ◌^◌, ℤ, pos, Bool, true, false, not, ◌&&◌, ◌||◌, List, [], ◌∷◌, length, replicate}
 use Rattle.std.proofs.Common.{refl, ap, subst, sym, arith, inl, inr, ◌↔◌, ◌⊎◌}
+use Rattle.std.specs.Cmp.Derive.{both_true}
 use Rattle.std.specs.Cmp.Lexicographic.{pointwise}
+use Rattle.std.proofs.Math.Bool.{or-not_self}
 use Rattle.std.proofs.lemmas.List.{length-replicate}
 use Rattle.lra_lin.specs.Form.{form_value}
 use Rattle.lra_linear.specs.Vectors.{entry}
@@ -32,13 +34,6 @@ covers p f true n es ds t s h = cc
 covers p f false true es ds t s h = cc
 covers p f false false es ds t s h = (refl, have_within p.has p.covered f.covered_has es ds t s h.1)
 
-two_true : (a b : Bool) → a ≡ true → b ≡ true → (a && b) ≡ true
-two_true a b s t = rw (s, t) refl
-
-itself : (m : Bool) → (m || not m) ≡ true
-itself true = refl
-itself false = refl
-
 in_both : (m n : Bool) → (m || not (m && n)) ≡ true
 in_both true n = refl
 in_both false n = refl
@@ -65,11 +60,11 @@ facts_of p f = record {
   void_stores = λ n s h. cc;
   one_part = λ v. one_part p v.nothing v.entries;
   partless = λ v e s h. partless p v.nothing v.entries e h.0;
-  reflexive = λ v. two_true _ _ (itself v.nothing) (each_covers p.covered f.reflexive v.entries);
+  reflexive = λ v. both_true (or-not_self v.nothing) (each_covers p.covered f.reflexive v.entries);
   covered_stores = λ a b t s h. covers p f a.nothing b.nothing a.entries b.entries t s h;
   moved = λ step v s t fits h l. (h.0, moved p f step v.entries s t fits h.1 l);
-  left = λ a b e. two_true _ _ (in_both a.nothing b.nothing) (join_left p.covered p.join f.left a.entries b.entries e);
-  right = λ a b e. two_true _ _ (in_both_too a.nothing b.nothing) (join_right p.covered p.join f.right a.entries b.entries e);
+  left = λ a b e. both_true (in_both a.nothing b.nothing) (join_left p.covered p.join f.left a.entries b.entries e);
+  right = λ a b e. both_true (in_both_too a.nothing b.nothing) (join_right p.covered p.join f.right a.entries b.entries e);
 }
 
 pub content_same : {E : Type 0} (v w : Content E) → v.nothing ≡ w.nothing → v.entries ≡ w.entries → v ≡ w
@@ -110,16 +105,16 @@ plus_none c = omega arith
 plus_next : (c j : ℕ) → c + suc j ≡ suc c + j
 plus_next c j = omega arith
 
-from_column : {E : Type 0} (p : EachEntry E) → EntryFacts p → (n column : ℕ) (es : List E) (s x : List ℤ) → column + length es ≡ n + 1 → length s ≡ length es → Behind column s x
-    → AllHold Ge (rows_from p.rows n column es) x ↔ AllHave p.has es s
-from_column p f n column [] [] x e l b = (λ h. tt, λ h. tt)
-from_column p f n column [] (z ∷ s) x e l b = absurd (omega (arith, l))
-from_column p f n column (k ∷ ks) [] x e l b = absurd (omega (arith, l))
-from_column p f n column (k ∷ ks) (z ∷ s) x e l b =
+from_column : {E : Type 0} (p : EachEntry E) → EntryFacts p → (n column : ℕ) (es : List E) (s x : List ℤ) → column + length es ≡ n + 1 → length s ≡ length es
+    → entry x 0 ≡ pos 1 → Behind column s x → AllHold Ge (rows_from p.rows n column es) x ↔ AllHave p.has es s
+from_column p f n column [] [] x e l d b = (λ h. tt, λ h. tt)
+from_column p f n column [] (z ∷ s) x e l d b = absurd (omega (arith, l))
+from_column p f n column (k ∷ ks) [] x e l d b = absurd (omega (arith, l))
+from_column p f n column (k ∷ ks) (z ∷ s) x e l d b =
     let a = hold_append Ge (p.rows n column k) (rows_from p.rows n (suc column) ks) x in
-    let one = f.rows_have n column k x (omega (arith, e)) in
+    let one = f.rows_have n column k x (omega (arith, e)) d in
     let here : entry x column ≡ z = subst (λ c. entry x c ≡ z) (plus_none column) (b 0) in
-    let rest = from_column p f n (suc column) ks s x (omega (arith, e)) (omega (arith, l)) (λ j. subst (λ c. entry x c ≡ entry s j) (plus_next column j) (b (suc j))) in (
+    let rest = from_column p f n (suc column) ks s x (omega (arith, e)) (omega (arith, l)) d (λ j. subst (λ c. entry x c ≡ entry s j) (plus_next column j) (b (suc j))) in (
       λ h. let q = a.0 h in (subst (λ y. p.has k y) here (one.0 q.0), rest.0 q.1),
       λ h. a.1 (one.1 (subst (λ y. p.has k y) (sym here) h.0), rest.1 h.1),
     )
@@ -136,7 +131,7 @@ parts_mean_of : {E : Type 0} (p : EachEntry E) → EntryFacts p → (m : Bool) (
 parts_mean_of p f true es s l = (λ h. cc, λ h. absurd h)
 parts_mean_of p f false es s l =
     let c = rows_hold Ge (rows_from p.rows (length es) 1 es) (pos 1 ∷ s) in
-    let g = from_column p f (length es) 1 es s (pos 1 ∷ s) (omega arith) l (λ j. subst (λ c. entry (pos 1 ∷ s) c ≡ entry s j) (one_more j) refl) in
+    let g = from_column p f (length es) 1 es s (pos 1 ∷ s) (omega arith) l refl (λ j. subst (λ c. entry (pos 1 ∷ s) c ≡ entry s j) (one_more j) refl) in
     (λ h. inl (c.1 (g.1 h.1)), λ h. (refl, g.0 (c.0 (only h))))
 
 pub parts_mean : {E : Type 0} (p : EachEntry E) → EntryFacts p → (v : Content E) (s : List ℤ) → length s ≡ length v.entries → (of_entries p).has v s ↔ SomePartHolds ((of_entries p).parts v) s

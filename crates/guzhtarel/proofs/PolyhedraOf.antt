@@ -1,5 +1,6 @@
--- Calls on the polyhedra of two sets, told of the sets.
-use Rattle.std.proofs.Common.{◌≡◌, ℕ, subst, sym}
+-- Calls on the polyhedra of two sets, told of the sets. (That sets which are the same have the same polyhedron is
+-- `same_polyhedron`.)
+use Rattle.std.proofs.Common.{◌≡◌, ℕ, subst}
 use Rattle.lra_linear.specs.Descriptions.{Con}
 use Rattle.lra_linear.specs.Points.{PointSet, IsWithin}
 use Rattle.lra_linear.specs.Polyhedra.{Polyhedron, IsPolyhedronOf}
@@ -7,7 +8,7 @@ use Rattle.lra_linear.specs.SetOperations.{Meet, Union, Hull}
 use Rattle.lra_poly.specs.Outcomes.{IfExact}
 use Rattle.lra_poly.specs.declared.outcome.Outcome.{Outcome}
 use Rattle.lra_poly.specs.declared.outcome.Outcome.TheVariants.{Exact, Flagged}
-use Rattle.lra_poly.proofs.PolyLemmas.{same_polyhedron}
+pub use Rattle.lra_poly.proofs.PolyLemmas.{same_polyhedron}
 use Rattle.guzhtarel.proofs.SameSets.{within_trans, meet_within, union_within, in_hull, meet_same, union_same, hull_same}
 
 -- what an outcome says that is exact

@@ -1,13 +1,14 @@
 -- Rows of one entry, and lists of rows of one kind, at a point.
-use Rattle.std.proofs.Common.{◌≡◌, ℕ, zero, suc, ◌<◌, ℤ, pos, negsuc, ◌*ℤ◌, List, [], ◌∷◌, ◌++◌, length, replicate, refl, ◌∙◌, arith, ◌↔◌}
+use Rattle.std.proofs.Common.{◌≡◌, ℕ, zero, suc, ◌<◌, ℤ, pos, negsuc, ◌*ℤ◌, List, [], ◌∷◌, ◌++◌, length, replicate, ◌∙◌, arith, ◌↔◌}
 use Rattle.std.specs.Prelude.{slice_set}
 use Rattle.std.proofs.lemmas.Int.{ints}
 use Rattle.lra_linear.specs.declared.ConKind.{ConKind}
-use Rattle.lra_linear.specs.Descriptions.{Given, Holds, Con}
+use Rattle.lra_linear.specs.Descriptions.{Given, Con}
 use Rattle.lra_linear.specs.Kinds.{is_equality}
 use Rattle.lra_linear.specs.OperationStrain.{unit_row}
 use Rattle.lra_linear.specs.Vectors.{entry, dot, product, zeros}
 use Rattle.lra_linear.proofs.Descriptions.{con_none, con_cons, con_head, con_tail}
+use Rattle.lra_linear.proofs.OneSpelling.{dot_zeros}
 use Rattle.lra_sys.specs.Listed.{given_by}
 use Rattle.guzhtarel.specs.Entries.{AllHold}
 
@@ -15,13 +16,9 @@ use Rattle.guzhtarel.specs.Entries.{AllHold}
 zero_times : (x : ℤ) → pos 0 *ℤ x ≡ pos 0
 zero_times x = grind (arith, ints)
 
-pub zeros_dot : (n : ℕ) (u : ℕ → ℤ) → dot (zeros n) u ≡ pos 0
-zeros_dot zero u = refl
-zeros_dot (suc n) u = let p = zeros_dot n (λ j. u (suc j)) in let z = zero_times (u 0) in omega (arith, ints)
-
 pub entry_dot : (n k : ℕ) (f : ℤ) (u : ℕ → ℤ) → k < n → dot (slice_set (zeros n) k f) u ≡ f *ℤ u k
 entry_dot zero k f u h = absurd (omega arith)
-entry_dot (suc n) zero f u h = let p = zeros_dot n (λ j. u (suc j)) in omega (arith, ints)
+entry_dot (suc n) zero f u h = let p = dot_zeros n (λ j. u (suc j)) in omega (arith, ints)
 entry_dot (suc n) (suc k) f u h = let p = entry_dot n k f (λ j. u (suc j)) (omega arith) in let z = zero_times (u 0) in omega (arith, ints)
 
 one_times : (c : ℤ) → pos 1 *ℤ c ≡ c

@@ -1,10 +1,11 @@
 -- What an operation makes of sets that are the same, or one within the other, is so too.
-use Rattle.std.proofs.Common.{◌≡◌, ℕ, suc, ◌+◌, ◌<◌, ℤ, pos, ◌<ℤ◌, List, [], ◌∷◌, take, inl, inr, refl, subst, sym, ◌∙◌, arith}
+use Rattle.std.proofs.Common.{ℕ, suc, ◌+◌, ◌<◌, ℤ, pos, ◌<ℤ◌, List, take, inl, inr, subst, sym, ◌∙◌, arith}
 use Rattle.std.proofs.lemmas.List.{length-set, length-take-le}
 use Rattle.lra_linear.specs.Points.{IsPoint, PointSet, IsWithin, SameSet}
-use Rattle.lra_linear.specs.Vectors.{entry, product}
+use Rattle.lra_linear.specs.Vectors.{product}
 use Rattle.lra_linear.proofs.Products.{entry_set_other}
 use Rattle.lra_linear.specs.SetOperations.{Meet, Union, Hull, Image, Preimage, Forget, Embed, RemoveLast, OnTheWay, TimeElapse, assigned}
+use Rattle.lra_lists.proofs.ListLemmas.{short_divisor}
 
 -- ---- by themselves
 pub within_refl : (n : ℕ) (P : PointSet) → IsWithin n P P
@@ -55,14 +56,10 @@ assigned_point n k form x behind i = record {
 pub preimage_within : (n k : ℕ) (form : List ℤ) (P Q : PointSet) → 0 < k → IsWithin n P Q → IsWithin n (Preimage k form P) (Preimage k form Q)
 preimage_within n k form P Q behind a x i h = a (assigned k form x) (assigned_point n k form x behind i) h
 
-front_divisor : (n : ℕ) (x : List ℤ) → entry (take (suc n) x) 0 ≡ entry x 0
-front_divisor n [] = refl
-front_divisor n (z ∷ x) = refl
-
 front_point : (n k : ℕ) (x : List ℤ) → IsPoint (n + k) x → IsPoint n (take (suc n) x)
 front_point n k x i = record {
   width = length-take-le (suc n) x (let w = i.width in omega (arith, w));
-  divisor = subst (λ z. pos 0 <ℤ z) (sym (front_divisor n x)) i.divisor;
+  divisor = subst (λ z. pos 0 <ℤ z) (sym (short_divisor n x)) i.divisor;
 }
 
 pub embed_within : (n k : ℕ) (P Q : PointSet) → IsWithin n P Q → IsWithin (n + k) (Embed n P) (Embed n Q)

@@ -1,6 +1,7 @@
 -- Domains with an entry for each dimension, and a mark of those values that have no store: what the author gives of an
 -- entry, and the domain that follows. A test tells nothing.
-use Rattle.std.specs.Prelude.{◌≡◌, ◌≤◌, ◌<◌, ◌↔◌, ℕ, ◌+◌, ◌-◌, ℤ, Bool, true, false, not, ◌&&◌, ◌||◌, List, [], ◌∷◌}
+use Rattle.std.specs.Prelude.{◌≡◌, ◌≤◌, ◌<◌, ◌^◌, ◌↔◌, ℕ, ◌+◌, ◌-◌, ℤ, pos, Bool, true, false, not, ◌&&◌, ◌||◌, List}
+use Rattle.std.specs.Prelude.{[], ◌∷◌}
 use Rattle.std.specs.Prelude.{◌++◌}
 use Rattle.std.specs.Prelude.{length, replicate, slice_set, take, IsTrue}
 use Rattle.std.specs.Cmp.Lexicographic.{pointwise}
@@ -13,9 +14,10 @@ use Rattle.lra_domain.specs.Actions.{Action, assign, forget, test, embed, remove
 use Rattle.guzhtarel.specs.Entries.{AllHave, AllHold, join_each, rows_from, total}
 use Rattle.guzhtarel.specs.Unstrained.{Unstrained}
 
--- of an entry: which numbers it has, which other covers it, the join of two, the one that has all numbers, the one of a
--- value without a store, a number that falls, and its rows of n + 1 columns, of inequalities on a column; and what is
--- known of a form's value
+-- of an entry: which numbers it has, which other covers it, the join of two, the one that has all numbers, the one that
+-- stands in a value without a store, a number that falls, and its rows of n + 1 columns, of inequalities on a column;
+-- and what is known of a form's value. Nothing is proved of the void entry: a join with a value without a store gives
+-- `join void e`, which loses nothing where it is e.
 pub record EachEntry (E : Type 0) : Type 1 where
   pub has : E → ℤ → Type 0
   pub covered : E → E → Bool
@@ -33,10 +35,11 @@ pub record EntryFacts {E : Type 0} (p : EachEntry E) : Type 0 where
   pub covered_has : (e d : E) (x : ℤ) → p.covered e d ≡ true → p.has e x → p.has d x
   pub left : (e d : E) → p.covered e (p.join e d) ≡ true
   pub right : (e d : E) → p.covered d (p.join e d) ≡ true
-  pub few : (e : E) → p.number e ≤ 4
+  pub few : (e : E) → p.number e ≤ 2 ^ 31
   pub less : (e d : E) → p.number (p.join e d) ≤ p.number e
   pub falls : (e d : E) → p.covered d e ≡ false → p.number (p.join e d) < p.number e
-  pub rows_have : (n column : ℕ) (e : E) (x : List ℤ) → column ≤ n
+  -- at a point whose divisor is 1, as a store is one
+  pub rows_have : (n column : ℕ) (e : E) (x : List ℤ) → column ≤ n → entry x 0 ≡ pos 1
       → AllHold Ge (p.rows n column e) x ↔ p.has e (entry x column)
   pub value_has : (f : Form) (es : List E) (s : List ℤ) → length f.coefficients ≡ length es
       → AllHave p.has es s → p.has (p.value f es) (form_value f s)

@@ -4,8 +4,7 @@
 //! What their clauses cite stands in rooms below `specs`: `Linear` (rows, points, sets of points), `Lists`, `Forms`,
 //! `Polyhedra`, `Domains` (what the trait owes), `Stores`, `PolyhedronDomain`, `Boxes`, `Octagons`, `Sets`, `Texts`;
 //! for domains of one's own `Unstrained`, `Entries` and `EntryDomains`. Lemmas for proofs over them stand in `proofs`:
-//! `Ranks`, `KeptStores`, `Rows`, `RowValues`, `PointSets`, `SameSets`, `PolyhedraOf`, `Changes`, `EntryChanges`,
-//! `EntryDomains`.
+//! `Ranks`, `Rows`, `RowValues`, `PointSets`, `SameSets`, `PolyhedraOf`, `Changes`, `EntryChanges`, `EntryDomains`.
 #![tactic(auto)]
 
 pub use lra_box as boxes;

@@ -1,15 +1,18 @@
 -- What signs keep.
-use Rattle.std.proofs.Common.{◌≡◌, ◌<◌, ◌≤◌, ℕ, ℤ, pos, negsuc, ◌≤ℤ◌, ◌+ℤ◌, ◌*ℤ◌, Bool, true, false, not, ◌&&◌, ◌||◌}
+use Rattle.std.proofs.Common.{◌≡◌, ◌<◌, ◌≤◌, ◌^◌, ℕ, ℤ, pos, negsuc, ◌≤ℤ◌, ◌+ℤ◌, ◌*ℤ◌, Bool, true, false, not, ◌&&◌}
+use Rattle.std.proofs.Common.{◌||◌}
 use Rattle.std.proofs.Common.{List, [], ◌∷◌, length, refl, subst, sym, arith, ◌↔◌}
 use Rattle.std.specs.Prelude.{int_le}
 use Rattle.std.specs.Ordering.{int_eq}
 use Rattle.std.proofs.lemmas.Int.{ints}
+use Rattle.std.proofs.Math.Bool.{or-not_self}
 use Rattle.guzhtarel.specs.Linear.ConKind.TheVariants.{Ge}
 use Rattle.guzhtarel.specs.Linear.Vectors.{entry, product}
 use Rattle.guzhtarel.specs.Domains.Laws.{Laws}
 use Rattle.guzhtarel.specs.Entries.{AllHave, AllHold}
 use Rattle.guzhtarel.specs.EntryDomains.{EntryFacts, one_if, of_entries}
 use Rattle.guzhtarel.specs.Unstrained.{Facts, meaning_of, laws_of}
+use Rattle.guzhtarel.proofs.EntryChanges.{both_true}
 use Rattle.guzhtarel.proofs.EntryDomains.{facts_of}
 use Rattle.guzhtarel.proofs.RowValues.{unit_product}
 use Rattle.use_signs.specs.Signs.{Known, is_sum_known, sign_row, sign}
@@ -19,10 +22,6 @@ times_known : (c x : ℤ) → pos 0 ≤ℤ c → pos 0 ≤ℤ x → pos 0 ≤ℤ
 times_known (pos c) (pos x) h p = grind (arith, ints)
 times_known (pos c) (negsuc x) h p = absurd (omega (arith, ints))
 times_known (negsuc c) x h p = absurd (omega (arith, ints))
-
-both_true : (a b : Bool) → (a && b) ≡ true → (a ≡ true) × (b ≡ true)
-both_true true b t = (refl, t)
-both_true false b t = cc
 
 one_known : (c x : ℤ) (k : Bool) → (int_le (pos 0) c && (k || int_eq c (pos 0))) ≡ true → Known k x → pos 0 ≤ℤ (c *ℤ x)
 one_known c x true t h = let p = both_true (int_le (pos 0) c) true t in times_known c x (grind (arith, ints)) h
@@ -55,10 +54,6 @@ form_known z cs ks s f a = by_test (int_le (pos 0) z && is_sum_known cs ks) refl
         omega (arith, ints)
 
 -- ---- one sign
-itself : (k : Bool) → (k || not k) ≡ true
-itself true = refl
-itself false = refl
-
 less_known : (k j : Bool) (x : ℤ) → (k || not j) ≡ true → Known k x → Known j x
 less_known k false x t h = tt
 less_known true true x t h = h
@@ -73,7 +68,7 @@ right k true = refl
 right true false = refl
 right false false = refl
 
-few : (k : Bool) → one_if k ≤ 4
+few : (k : Bool) → one_if k ≤ 2 ^ 31
 few true = omega arith
 few false = omega arith
 
@@ -88,17 +83,17 @@ falls false false t = cc
 falls true true t = cc
 falls true false t = omega arith
 
-row_holds : (n column : ℕ) (k : Bool) (x : List ℤ) → column ≤ n →
+row_holds : (n column : ℕ) (k : Bool) (x : List ℤ) → column ≤ n → entry x 0 ≡ pos 1 →
     AllHold Ge (sign_row n column k) x ↔ Known k (entry x column)
-row_holds n column false x h = (λ a. tt, λ a. tt)
-row_holds n column true x h =
+row_holds n column false x h d = (λ a. tt, λ a. tt)
+row_holds n column true x h d =
     let is = unit_product n column x (omega (arith, h)) in
     (λ a. subst (λ z. pos 0 ≤ℤ z) is a.0, λ a. (subst (λ z. pos 0 ≤ℤ z) (sym is) a, tt))
 
 pub sign_facts : EntryFacts sign
 sign_facts = record {
   whole_has = λ x. tt;
-  reflexive = itself;
+  reflexive = or-not_self;
   covered_has = less_known;
   left = left;
   right = right;
