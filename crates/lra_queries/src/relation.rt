@@ -132,8 +132,7 @@ fn relation_of(missed: Missed, kind: ConKind) -> Relation
     }
 }
 
-/// How the constraint stands to the polyhedron; or the first product of its form with a generator that passes the
-/// range.
+/// How the constraint stands to the polyhedron; or a product of its form with a generator that passes the range.
 pub fn relate(p: &Poly, form: &Row, kind: ConKind) -> Result<Relation, Excess>
     requires { length form.now ≡ suc p.now.dims }
     ensures relation { IfOk result (IsRelation p.now (record { row = form.now; equal = is_equality kind })) }
