@@ -17,6 +17,11 @@ pub use Rattle.lra_duality.specs.Onward
 pub use Rattle.lra_poly.specs.declared.outcome.Outcome
 pub use Rattle.lra_duality.specs.declared.inclusion.Inclusion
 pub use Rattle.lra_duality.specs.declared.maximum.Maximum
+pub use Rattle.lra_queries.specs.Minima
+pub use Rattle.lra_queries.specs.Relations
+pub use Rattle.lra_queries.specs.Shapes
+pub use Rattle.lra_queries.specs.declared.minimum.Minimum
+pub use Rattle.lra_queries.specs.declared.relation.Relation
 pub use Rattle.lra_lists.specs.Moving
 pub use Rattle.lra_images.specs.Forgetting
 pub use Rattle.lra_images.specs.FormedPreimages

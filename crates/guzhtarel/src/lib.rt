@@ -24,6 +24,8 @@ pub use lra_poly as poly;
 pub use lra_poly::{Outcome, Poly};
 pub use lra_polydom as polyhedra;
 pub use lra_polydom::Polyhedron;
+pub use lra_queries as queries;
+pub use lra_queries::{Minimum, Relation, minimise, relate};
 pub use lra_row as numbers;
 pub use lra_row::{Row, RowError};
 pub use lra_set as sets;
