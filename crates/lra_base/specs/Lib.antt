@@ -2,6 +2,5 @@ pub mod Places
 pub mod TextOrder
 pub mod Operators
 pub mod OperatorViews
-pub mod DomainNames
 pub mod Causes
 pub mod Refused

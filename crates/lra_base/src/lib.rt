@@ -1,17 +1,14 @@
-//! What all stages share: places in a source with the causes for which it is refused, operators, and the options of an
-//! analysis.
+//! What all stages share: places in a source with the causes for which it is refused, and operators.
 #![tactic(auto)]
 
 mod error;
 mod number_types;
 mod operators;
-mod options;
 mod places;
 mod refusals;
 
 pub use error::SourceError;
 pub use number_types::NumberType;
 pub use operators::{Comparison, Operator};
-pub use options::{Domain, Options};
 pub use places::{GREATEST_LENGTH, place_behind};
 pub use refusals::{Cause, Place, Refusal};

@@ -5,7 +5,7 @@ use Rattle.lra_domain.specs.Meaning.{Meaning}
 use Rattle.lra_domain.specs.Laws.{Laws}
 use Rattle.lra_program.specs.Step.{State}
 use Rattle.lra_operations.specs.Graph.{Node}
-use Rattle.lra_base.specs.declared.options.Options.{Options}
+use Rattle.lra_options.specs.declared.options.Options.{Options}
 use Rattle.lra_flow.specs.Operations.{dropping}
 use Rattle.lra_domain.specs.Moves.{Moves, stay, make, first_then, join_of, MayLead}
 use Rattle.lra_flow.specs.Moves.{AreMade}

@@ -7,7 +7,7 @@ use Rattle.lra_domain.specs.declared.Mode.{Mode}
 use Rattle.lra_domain.specs.declared.Exactness.{Exactness}
 use Rattle.lra_program.specs.Program.{Cond}
 use Rattle.lra_operations.specs.Graph.{Exit, broken, continued, returned, Node, empty, point, act, check, seq, choose, iterate, catch, leave}
-use Rattle.lra_base.specs.declared.options.Options.{Options}
+use Rattle.lra_options.specs.declared.options.Options.{Options}
 use Rattle.lra_domain.specs.Meaning.{worse}
 use Rattle.lra_flow.specs.Operations.{Operations}
 use Rattle.lra_domain.specs.Moves.{Moves, stay, make, first_then, join_of}

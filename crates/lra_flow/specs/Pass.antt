@@ -10,7 +10,7 @@ use Rattle.lra_program.specs.Program.{Cond}
 use Rattle.lra_program.specs.Step.{Op}
 use Rattle.lra_operations.specs.Graph.{Exit, broken, continued, returned, Node, empty, point, act, check, seq, choose}
 use Rattle.lra_operations.specs.Graph.{iterate, catch, leave}
-use Rattle.lra_base.specs.declared.options.Options.{Options}
+use Rattle.lra_options.specs.declared.options.Options.{Options}
 use Rattle.lra_flow.specs.Operations.{Operations}
 use Rattle.lra_domain.specs.Meaning.{worse}
 use Rattle.lra_flow.specs.Moves.{AreMade}

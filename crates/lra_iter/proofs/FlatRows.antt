@@ -1,6 +1,6 @@
 -- Rows with no tree in their trees, that are passed along behind what was found before them.
 use Rattle.std.proofs.Common.{◌≡◌, ℕ, suc, ◌+◌, ◌≤◌, ◌^◌, List, ◌∷◌, Option, refl, sym, ap, subst, ◌∙◌, arith}
-use Rattle.lra_base.specs.declared.options.Options.{Options}
+use Rattle.lra_options.specs.declared.options.Options.{Options}
 use Rattle.lra_domain.specs.Meaning.{Meaning}
 use Rattle.lra_operations.specs.Graph as graph
 use Rattle.lra_operations.specs.declared.graph.Node as node

@@ -7,7 +7,7 @@ use Rattle.lra_domain.specs.Meaning.{Meaning}
 use Rattle.lra_domain.specs.declared.Exactness.{Exactness}
 use Rattle.lra_operations.specs.Graph.{Exit, broken, continued, returned}
 use Rattle.lra_operations.specs.Graph as graph
-use Rattle.lra_base.specs.declared.options.Options.{Options}
+use Rattle.lra_options.specs.declared.options.Options.{Options}
 use Rattle.lra_flow.specs.Operations.{dropping}
 use Rattle.lra_flow.specs.Pass.{Entry, Result, goes_on, in_turn, jumps, noted, Pass}
 use Rattle.lra_iter.specs.declared.outcome.Entry as entry

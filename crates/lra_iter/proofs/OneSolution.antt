@@ -8,7 +8,7 @@ use Rattle.lra_domain.specs.Meaning.{Meaning}
 use Rattle.lra_program.specs.Program.{Program}
 use Rattle.lra_program.specs.Sites.{sites_of}
 use Rattle.lra_operations.specs.Graph.{Node}
-use Rattle.lra_base.specs.declared.options.Options.{Options}
+use Rattle.lra_options.specs.declared.options.Options.{Options}
 use Rattle.lra_flow.specs.Operations.{defined}
 use Rattle.lra_flow.specs.Pass.{Result, failing}
 use Rattle.lra_flow.specs.Analysis.{IsUnreachable, Solves, Written}

@@ -10,7 +10,7 @@ use Rattle.lra_operations.specs.declared.graph.Node as node
 use Rattle.lra_operations.specs.declared.graph.Exit as exit
 use Rattle.lra_operations.specs.Graph.{Node, choose, catch}
 use Rattle.lra_operations.specs.GraphViews.{exit_view, node_view, row}
-use Rattle.lra_base.specs.declared.options.Options.{Options}
+use Rattle.lra_options.specs.declared.options.Options.{Options}
 use Rattle.lra_flow.specs.Operations.{dropping}
 use Rattle.lra_flow.specs.MovesOf.{guard}
 use Rattle.lra_flow.proofs.Takes.{takes_made}

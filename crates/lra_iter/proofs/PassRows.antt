@@ -9,7 +9,7 @@ use Rattle.lra_domain.specs.Meaning.{Meaning}
 use Rattle.lra_operations.specs.declared.graph.Node.{Node}
 use Rattle.lra_operations.specs.GraphViews.{node_view, row}
 use Rattle.lra_operations.specs.Graph as graph
-use Rattle.lra_base.specs.declared.options.Options.{Options}
+use Rattle.lra_options.specs.declared.options.Options.{Options}
 use Rattle.lra_flow.specs.Pass.{Entry, Result, goes_on, in_turn}
 use Rattle.lra_iter.specs.Fits.{live_after, TreeFits}
 use Rattle.lra_iter.specs.declared.outcome.Found.{Found}

@@ -6,7 +6,7 @@ use Rattle.lra_domain.specs.Laws.{Laws}
 use Rattle.lra_domain.specs.declared.Exactness.{Exactness}
 use Rattle.lra_program.specs.Program.{Program}
 use Rattle.lra_operations.specs.Graph.{Node}
-use Rattle.lra_base.specs.declared.options.Options.{Options}
+use Rattle.lra_options.specs.declared.options.Options.{Options}
 use Rattle.lra_flow.specs.Operations.{dropping}
 use Rattle.lra_flow.specs.MovesOf.{first_values}
 use Rattle.lra_flow.specs.Pass.{Result, noted, Pass}

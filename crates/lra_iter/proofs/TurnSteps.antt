@@ -7,7 +7,7 @@ use Rattle.std.specs.Prelude as outcome_or
 use Rattle.std.proofs.Math.Nat.{suc-mul}
 use Rattle.std.proofs.lemmas.Nat.{mul-le, mul-add-lt}
 use Rattle.std.proofs.lemmas.Result.{IfOk-weaker}
-use Rattle.lra_base.specs.declared.options.Options.{Options}
+use Rattle.lra_options.specs.declared.options.Options.{Options}
 use Rattle.lra_domain.specs.declared.Rank.{Rank}
 use Rattle.lra_domain.specs.declared.Mode.TheVariants.{Join}
 use Rattle.lra_domain.specs.Meaning.{Meaning}

@@ -19,7 +19,7 @@ use Rattle.lra_program.specs.Step as step
 use Rattle.lra_program.specs.Step.{Op, append, give, give_any, keep, test}
 use Rattle.lra_operations.specs.Graph.{Exit, broken, continued, returned, Node, empty, point, act, check, seq, choose, iterate, catch, leave}
 use Rattle.lra_program.specs.Sites.{Site}
-use Rattle.lra_base.specs.declared.options.Options.{Options}
+use Rattle.lra_options.specs.declared.options.Options.{Options}
 use Rattle.lra_flow.specs.Operations.{dropping}
 use Rattle.lra_flow.specs.MovesOf.{set_to, push_all, drop_last, moves_of, first_values, test_moves, comparison_moves, comparison_as, guard}
 use Rattle.lra_flow.specs.Pass.{AreJoined, Leaves, Entry, value, failing, Result, noted, jumps, first_of_call, values_behind, behind, Through, Changes, GoesRound, Grows, Narrows, Pass}

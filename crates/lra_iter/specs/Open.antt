@@ -9,7 +9,7 @@ use Rattle.lra_program.specs.Program.{Cond}
 use Rattle.lra_program.specs.ProgramViews.{cond_view}
 use Rattle.lra_operations.specs.Graph.{Node, seq, choose, iterate, catch}
 use Rattle.lra_operations.specs.GraphViews.{exit_view, node_view, row}
-use Rattle.lra_base.specs.declared.options.Options.{Options}
+use Rattle.lra_options.specs.declared.options.Options.{Options}
 use Rattle.lra_flow.specs.Operations.{dropping}
 use Rattle.lra_flow.specs.Pass.{Leaves, Result, noted, in_turn, Pass, Grows, Narrows}
 use Rattle.lra_iter.specs.declared.heads.Growing.{Growing}

@@ -12,7 +12,7 @@ use Rattle.lra_domain.specs.declared.Exactness.{Exactness}
 use Rattle.std.specs.List.{Contains}
 use Rattle.lra_program.specs.Program.{Cond}
 use Rattle.lra_operations.specs.Graph.{Exit, Node}
-use Rattle.lra_base.specs.declared.options.Options.{Options}
+use Rattle.lra_options.specs.declared.options.Options.{Options}
 use Rattle.lra_flow.specs.Given.{given_rows}
 use Rattle.lra_iter.specs.Fits.{live_after, JumpsWith}
 use Rattle.lra_flow.specs.Operations.{dropping}

@@ -4,7 +4,7 @@ use Rattle.lra_program.specs.ProgramViews.{cond_view}
 use Rattle.lra_operations.specs.declared.graph.Node.{Node}
 use Rattle.lra_operations.specs.GraphViews.{exit_view, op_view, node_view, row}
 use Rattle.lra_operations.specs.Graph as graph
-use Rattle.lra_base.specs.declared.options.Options.{Options}
+use Rattle.lra_options.specs.declared.options.Options.{Options}
 use Rattle.lra_iter.specs.declared.shapes.Leaf as leaf
 use Rattle.lra_iter.specs.declared.shapes.Leaf.TheVariants.{Empty, Point, Act, Check, Leave}
 use Rattle.lra_iter.specs.declared.shapes.Shape.{Shape}

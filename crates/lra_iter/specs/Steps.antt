@@ -6,7 +6,7 @@ use Rattle.lra_domain.specs.Meaning.{Meaning}
 use Rattle.lra_operations.specs.declared.graph.Node.{Node}
 use Rattle.lra_operations.specs.declared.graph.Node.TheFolds.{fold-Node}
 use Rattle.lra_operations.specs.declared.graph.Node.TheOpen.{Node-F}
-use Rattle.lra_base.specs.declared.options.Options.{Options}
+use Rattle.lra_options.specs.declared.options.Options.{Options}
 use Rattle.lra_iter.specs.declared.places.Next as next
 use Rattle.lra_iter.specs.declared.places.Next.TheVariants.{Passed, Opens, Again}
 use Rattle.lra_iter.specs.declared.places.Place as place

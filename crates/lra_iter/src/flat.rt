@@ -9,9 +9,9 @@ ghost use Rattle.lra_iter.specs.Shapes.{leaf_view};
 use crate::leaves::pass_on;
 use crate::outcome::Outcome;
 use crate::shapes::{Leaf, Row, Shape};
-use lra_base::Options;
 use lra_domain::Domain;
 use lra_operations::Node;
+use lra_options::Options;
 use std::alloc::{AllocError, Global};
 
 /// A tree with no tree in it, or a row of such.

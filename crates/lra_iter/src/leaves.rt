@@ -4,7 +4,7 @@ ghost use Rattle.std.specs.Prelude.{◌≡◌, ◌≤◌, ◌^◌, IfOk, OnOk};
 ghost use Rattle.lra_operations.specs.Graph.{act, check, leave, point as point_node};
 ghost use Rattle.lra_program.specs.ProgramViews.{cond_view};
 ghost use Rattle.lra_operations.specs.GraphViews.{exit_view, op_view};
-ghost use Rattle.lra_base.specs.declared.options.Options.{Options};
+ghost use Rattle.lra_options.specs.declared.options.Options.{Options};
 ghost use Rattle.lra_change.specs.Changes.{OpFits};
 ghost use Rattle.lra_iter.specs.Fits.{TreeFits};
 ghost use Rattle.lra_iter.specs.Flat.{Follows};
@@ -13,10 +13,10 @@ ghost use Rattle.lra_iter.specs.Shapes.{leaf_view};
 
 use crate::outcome::{Entry, Outcome, note};
 use crate::shapes::Leaf;
-use lra_base::Options;
 use lra_change::{Kept, change, split};
 use lra_domain::{Domain, Exactness};
 use lra_operations::{Exit, Op};
+use lra_options::Options;
 use lra_program::Cond;
 use std::alloc::{AllocError, Global};
 

@@ -2,7 +2,7 @@
 
 ghost use Rattle.std.specs.Prelude.{◌≡◌, ◌<◌, ℕ, [], Option, Some, length, slice_index_or, IfOk, OnOk};
 ghost use Rattle.lra_operations.specs.Graph.{Node};
-ghost use Rattle.lra_base.specs.declared.options.Options.{Options};
+ghost use Rattle.lra_options.specs.declared.options.Options.{Options};
 ghost use Rattle.lra_iter.specs.declared.memory.KeptLoop.{KeptLoop};
 ghost use Rattle.lra_iter.specs.Outcome.{seen, IsKept};
 ghost use Rattle.lra_iter.specs.Memory.{IsRecalled, AreRecalled, MayRecall};

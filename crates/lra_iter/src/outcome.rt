@@ -3,7 +3,7 @@
 ghost use Rattle.std.specs.Prelude.{◌≡◌, ℕ, true, [], Option, IfOk, OnOk};
 ghost use Rattle.lra_operations.specs.Graph.{broken, continued, returned, Node};
 ghost use Rattle.lra_operations.specs.GraphViews.{exit_view};
-ghost use Rattle.lra_base.specs.declared.options.Options.{Options};
+ghost use Rattle.lra_options.specs.declared.options.Options.{Options};
 ghost use Rattle.lra_flow.specs.Operations.{dropping};
 ghost use Rattle.lra_flow.specs.Pass.{AreJoined, noted, goes_on, in_turn, jumps, behind};
 ghost use Rattle.lra_iter.specs.Outcome.{entry_view, ended, seen, AllHave, AreGiven, AreInTurn, AreKept};

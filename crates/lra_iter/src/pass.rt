@@ -1,7 +1,7 @@
 //! The pass over a tree of operations.
 
 ghost use Rattle.std.specs.Prelude.{◌≡◌, ◌≤◌, ◌<◌, ◌^◌, ◌++◌, ◌∷◌, [], ℕ, Ok, Err, IfOk, OnOk, MatchResult};
-ghost use Rattle.lra_base.specs.declared.options.Options.{Options};
+ghost use Rattle.lra_options.specs.declared.options.Options.{Options};
 ghost use Rattle.lra_operations.specs.GraphViews.{node_view};
 ghost use Rattle.lra_iter.specs.Fits.{TreeFits};
 ghost use Rattle.lra_iter.specs.Outcome.{seen, IsPassed};
@@ -19,9 +19,9 @@ use crate::outcome::Outcome;
 use crate::places::{Entering, Next, Place, Places, Step};
 use crate::rows::{go_on_row, open_row};
 use crate::shapes::Shape;
-use lra_base::Options;
 use lra_domain::Domain;
 use lra_operations::Node;
+use lra_options::Options;
 use std::alloc::{AllocError, Global};
 
 /// The tree is passed, with what its pass gave.

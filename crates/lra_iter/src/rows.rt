@@ -1,7 +1,7 @@
 //! Trees one after the other.
 
 ghost use Rattle.std.specs.Prelude.{◌≡◌, ◌<◌, ◌≤◌, ◌^◌, ◌∷◌, [], ℕ, List, map, IfOk};
-ghost use Rattle.lra_base.specs.declared.options.Options.{Options};
+ghost use Rattle.lra_options.specs.declared.options.Options.{Options};
 ghost use Rattle.lra_operations.specs.declared.graph.Node.{Node};
 ghost use Rattle.lra_operations.specs.GraphViews.{node_view, row};
 ghost use Rattle.lra_iter.specs.declared.memory.Memory.{Memory};
@@ -15,9 +15,9 @@ use crate::flat::Flat;
 use crate::outcome::Outcome;
 use crate::places::{Entering, Next, Place, RowPlace};
 use crate::shapes::Row;
-use lra_base::Options;
 use lra_domain::Domain;
 use lra_operations::Node;
+use lra_options::Options;
 use std::alloc::{AllocError, Global};
 
 /// The first of the trees behind which these stand is next: what was found before it stays at its place.

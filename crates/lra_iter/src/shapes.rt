@@ -2,8 +2,8 @@
 
 ghost use Rattle.lra_iter.specs.Shapes.{IsShape};
 
-use lra_base::Options;
 use lra_operations::{Exit, Node, Op};
+use lra_options::Options;
 use lra_program::Cond;
 
 /// A tree with no tree in it.

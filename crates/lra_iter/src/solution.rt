@@ -21,10 +21,10 @@ use crate::memory::Memory;
 use crate::outcome::{Outcome, note};
 use crate::pass::pass;
 use crate::tables::{number_held, tables_of, take_held};
-use lra_base::Options;
 use lra_change::append_globals;
 use lra_domain::Domain;
 use lra_operations::{Graph, Site};
+use lra_options::Options;
 use std::alloc::{AllocError, Global};
 
 /// What is found of a program: the value at each of its points, in the order of their numbers; of each assertion its

@@ -19,8 +19,9 @@ use Rattle.lra_box.specs.Content.{Content}
 use Rattle.lra_box.specs.Tables.{stepped}
 use Rattle.lra_box.specs.Meaning.{StepsTo, box_meaning}
 use Rattle.lra_box.proofs.ExtremeLemmas.{end_is_extreme}
-use Rattle.lra_base.specs.declared.options.Domain.TheVariants.{Box}
-use Rattle.lra_base.specs.declared.options.Options.{Options}
+use Rattle.lra_options.specs.declared.options.Domain.TheVariants.{Box}
+use Rattle.lra_options.specs.declared.options.Options.{Options}
+use Rattle.lra_options.specs.OptionRows.{default_options}
 use Rattle.lra_flow.specs.Operations.{Operations, defined}
 use Rattle.lra_flow.specs.Given.{given_rows}
 use Rattle.lra_flow.specs.Pass.{Entry, value, Result, goes_on, GoesRound, GoesFrom, Grows, Narrows, Pass}
@@ -40,7 +41,7 @@ abbrev pub one : Interval → Content
 one x = record { dims = 1; bounds = Some (x ∷ []) }
 
 abbrev pub narrowed : ℕ → Options
-narrowed n = record { domain = Box; parts = 1; delay = 1; narrow = n; limited = false }
+narrowed n = record default_options { domain = Box; narrow = n }
 
 abbrev i : Expr
 i = read (local 0)

@@ -25,7 +25,7 @@ use Rattle.lra_box.specs.Tables.{stepped, widened_low}
 use Rattle.lra_box.specs.Meaning.{StepsTo, box_meaning}
 use Rattle.lra_box.proofs.ExtremeLemmas.{end_is_extreme}
 use Rattle.lra_box.specs.Covering.{low_within_refl, high_within_refl}
-use Rattle.lra_base.specs.declared.options.Options.{Options}
+use Rattle.lra_options.specs.declared.options.Options.{Options}
 use Rattle.lra_flow.specs.Pass.{Entry, value, failing, Result, goes_on, jumps, GoesRound, GoesFrom, Grows, Narrows, Pass}
 use Rattle.lra_flow.specs.Analysis.{Written, IsUnreachable}
 use Rattle.lra_walks.proofs.LoopExamples.{boxes, between, at_least, one, none, narrowed, between_sound, declared, declaring}

@@ -9,11 +9,12 @@ ghost use Rattle.lra_iter.specs.Fits.{TreeFits};
 ghost use Rattle.lra_iter.specs.Numbers.{IsNumbered};
 ghost use Rattle.lra_walks.specs.Sample.{sample_asserts};
 
-use lra_base::{Comparison, Options};
+use lra_base::Comparison;
 use lra_box::Boxes;
 use lra_domain::Domain;
 use lra_iter::analyse;
 use lra_operations::{Graph, Node, Op, Path, Site};
+use lra_options::Options;
 use lra_program::{Cond, Expr, Slot};
 use std::alloc::{AllocError, Global};
 
@@ -140,11 +141,8 @@ fn rows_of(alloc: Global, value: &Boxes) -> Result<Vec<[i128; 2]>, AllocError> {
 fn levels_of_conditions(rt: HostRuntime) -> Result<(), AllocError> {
     let alloc = rt.alloc();
     let options = Options {
-        domain: lra_base::Domain::Box,
-        parts: 1,
-        delay: 1,
-        narrow: 1,
-        limited: false,
+        domain: lra_options::Domain::Box,
+        ..lra_options::DEFAULT_OPTIONS
     };
     let want: [&[[i128; 2]]; 5] = [&[], &[], &[[-1, 1]], &[[0, -1]], &[[0, 1]]];
     'levels: for levels in &[0, 1, 63] {

@@ -1,6 +1,6 @@
 -- Goals of `go_on_growing`: behind a round of a loop whose head grows.
 use Rattle.std.proofs.Common.{ap, ◌∙◌, ◌^◌}
-use Rattle.lra_base.specs.declared.options.Options.{Options}
+use Rattle.lra_options.specs.declared.options.Options.{Options}
 use Rattle.lra_iter.proofs.LoopPlaces.{grown_wide, grown_stable, grown_next}
 use Rattle.lra_iter.proofs.TurnSteps.{stable_less, grown_less}
 use Rattle.lra_iter.proofs.loops.go_on_growing.Goals as goal

@@ -1,6 +1,6 @@
 -- Goals of `open_loop`: a loop's head starts, unless what the loop gave for this value is kept.
 use Rattle.std.proofs.Common.{ap, ◌∙◌, ◌^◌}
-use Rattle.lra_base.specs.declared.options.Options.{Options}
+use Rattle.lra_options.specs.declared.options.Options.{Options}
 use Rattle.lra_iter.proofs.LoopPlaces.{due_few, head_opens, loop_recalled}
 use Rattle.lra_iter.proofs.TurnSteps.{begun_less}
 use Rattle.lra_iter.proofs.loops.open_loop.Goals as goal

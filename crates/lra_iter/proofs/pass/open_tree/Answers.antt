@@ -1,7 +1,7 @@
 -- Goals of `open_tree`: the first step into a tree.
 use Rattle.std.proofs.Common.{◌<◌, ◌≤◌, ◌^◌, refl, sym, subst, arith}
 use Rattle.std.specs.Prelude.{IfOk}
-use Rattle.lra_base.specs.declared.options.Options.{Options}
+use Rattle.lra_options.specs.declared.options.Options.{Options}
 use Rattle.lra_iter.specs.declared.shapes.Shape.{Shape}
 use Rattle.lra_iter.specs.declared.shapes.Shape.TheVariants.{Leaf, Row, Choice, Loop, Catch}
 use Rattle.lra_iter.specs.Fits.{TreeFits}

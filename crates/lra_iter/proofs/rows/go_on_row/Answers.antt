@@ -1,6 +1,6 @@
 -- Goals of `go_on_row`: behind what the tree under way found, the next one is.
 use Rattle.std.proofs.Common.{◌≤◌, sym, subst}
-use Rattle.lra_base.specs.declared.options.Options.{Options}
+use Rattle.lra_options.specs.declared.options.Options.{Options}
 use Rattle.lra_iter.proofs.OpenPlaces.{row_followed}
 use Rattle.lra_iter.proofs.RowLeaves.{row_way, row_falls}
 use Rattle.lra_iter.proofs.rows.go_on_row.Goals as goal

@@ -1,0 +1,86 @@
+-- The options of an analysis beside its domain: a row for each. From it come its rule among the words, its reading, its
+-- range and its default, and what a report's first line and its JSON tell of it.
+use Rattle.std.specs.Prelude.{ℕ, ◌≤◌, List, [], ◌∷◌, Bool, true, false, ◌||◌, Option, None, Some, codes}
+use Rattle.std.specs.Str.Parse.{digits_value}
+use Rattle.lra_options.specs.declared.options.Domain.TheVariants.{Poly}
+use Rattle.lra_options.specs.declared.options.Options.{Options}
+use Rattle.lra_options.specs.declared.options.NumberOption.{NumberOption}
+use Rattle.lra_options.specs.declared.options.NumberOption.TheVariants.{Parts, Delay, Narrow}
+use Rattle.lra_options.specs.declared.options.FlagOption.{FlagOption}
+use Rattle.lra_options.specs.declared.options.FlagOption.TheVariants.{Limited}
+
+-- numbers ----------------------------------------------------------------------------------------------------------
+
+-- a number among the words: its name, its least and its greatest value, and its text where words give none; without one
+-- it has to be given
+pub record NumberRow : Type 0 where
+  pub name : List ℕ
+  pub least : ℕ
+  pub greatest : ℕ
+  pub default : Option (List ℕ)
+
+-- the value lies in the row's range
+abbrev pub IsInRange : NumberRow → ℕ → Type 0
+IsInRange row value = (row.least ≤ value) × (value ≤ row.greatest)
+
+abbrev pub number_row : NumberOption → NumberRow
+number_row Parts = record { name = codes "parts"; least = 1; greatest = 16; default = Some (codes "1") }
+number_row Delay = record { name = codes "delay"; least = 0; greatest = 8; default = Some (codes "1") }
+number_row Narrow = record { name = codes "narrow"; least = 0; greatest = 4; default = Some (codes "1") }
+
+abbrev pub number_value : NumberOption → Options → ℕ
+number_value Parts o = o.parts
+number_value Delay o = o.delay
+number_value Narrow o = o.narrow
+
+abbrev pub set_number : NumberOption → ℕ → Options → Options
+set_number Parts value o = record o { parts = value }
+set_number Delay value o = record o { delay = value }
+set_number Narrow value o = record o { narrow = value }
+
+-- in the order of the first line
+abbrev pub number_options : List NumberOption
+number_options = Parts ∷ Delay ∷ Narrow ∷ []
+
+-- the default as a number
+abbrev pub written_number : Option (List ℕ) → ℕ
+written_number None = 0
+written_number (Some text) = digits_value 10 text
+
+abbrev pub default_number : NumberOption → ℕ
+default_number option = written_number (number_row option).default
+
+-- flags ------------------------------------------------------------------------------------------------------------
+
+-- a flag: off where words don't give it; a report tells it always, or only where it is on
+pub record FlagRow : Type 0 where
+  pub name : List ℕ
+  pub is_always_told : Bool
+
+abbrev pub flag_row : FlagOption → FlagRow
+flag_row Limited = record { name = codes "limited"; is_always_told = true }
+
+abbrev pub flag_value : FlagOption → Options → Bool
+flag_value Limited o = o.limited
+
+abbrev pub set_flag : FlagOption → Bool → Options → Options
+set_flag Limited value o = record o { limited = value }
+
+-- in the order of the first line, behind the numbers
+abbrev pub flag_options : List FlagOption
+flag_options = Limited ∷ []
+
+abbrev pub is_told : FlagOption → Options → Bool
+is_told option o = (flag_row option).is_always_told || flag_value option o
+
+-- defaults ---------------------------------------------------------------------------------------------------------
+
+-- the options of an analysis where words name none, as a sample's
+abbrev pub default_options : Options
+default_options = record {
+  domain = Poly;
+  parts = default_number Parts;
+  delay = default_number Delay;
+  narrow = default_number Narrow;
+  limited = false;
+}

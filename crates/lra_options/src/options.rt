@@ -1,0 +1,229 @@
+//! How a source is analysed.
+
+ghost use Rattle.std.specs.Prelude.{◌≡◌, Some};
+ghost use Rattle.lra_options.specs.Domains.{domain_name, shows_generators};
+ghost use Rattle.lra_options.specs.OptionRows.{number_row, number_value, set_number};
+ghost use Rattle.lra_options.specs.OptionRows.{flag_row, flag_value, set_flag};
+ghost use Rattle.lra_options.specs.OptionRows as rows;
+
+/// The abstract domain of an analysis.
+#[derive(Clone, Copy, PartialEq, Eq, Debug)]
+pub enum Domain {
+    /// Closed convex polyhedra.
+    Poly,
+    /// Boxes: an interval for each variable.
+    Box,
+    /// Integer octagons.
+    Oct,
+}
+
+/// The domains, in the order in which words offer them.
+pub const DOMAINS: [Domain; 3] = [Domain::Poly, Domain::Box, Domain::Oct];
+
+impl Domain {
+    /// Its name, as words and reports have it.
+    pub fn name(self) -> &'static str
+        ensures { result.now ≡ domain_name self }
+    {
+        match self {
+            Domain::Poly => "poly",
+            Domain::Box => "box",
+            Domain::Oct => "oct",
+        }
+    }
+
+    /// Whether a part is told by its generators too.
+    pub fn shows_generators(self) -> bool
+        ensures { result ≡ shows_generators self }
+    {
+        match self {
+            Domain::Poly => true,
+            Domain::Box => false,
+            Domain::Oct => false,
+        }
+    }
+}
+
+/// The options of an analysis.
+#[derive(Clone, Copy, PartialEq, Eq, Debug)]
+pub struct Options {
+    /// The abstract domain.
+    pub domain: Domain,
+    /// The most parts of a state, 1 to 16.
+    pub parts: u32,
+    /// The rounds in which a loop's head grows by joins before it is widened, 0 to 8.
+    pub delay: u32,
+    /// How often a loop's head is narrowed once it has stopped growing, 0 to 4.
+    pub narrow: u32,
+    /// Whether the widening is limited by the program's own conditions.
+    pub limited: bool,
+}
+
+/// An option that is a number.
+#[derive(Clone, Copy, PartialEq, Eq, Debug)]
+pub enum NumberOption {
+    /// The most parts of a state.
+    Parts,
+    /// The rounds of joins before a loop's head is widened.
+    Delay,
+    /// How often a loop's head is narrowed.
+    Narrow,
+}
+
+/// These options, in the order of a report's first line.
+pub const NUMBER_OPTIONS: [NumberOption; 3] = [
+    NumberOption::Parts,
+    NumberOption::Delay,
+    NumberOption::Narrow,
+];
+
+impl NumberOption {
+    /// Its name, as words and reports have it.
+    pub fn name(self) -> &'static str
+        ensures { result.now ≡ (number_row self).name }
+    {
+        match self {
+            NumberOption::Parts => "parts",
+            NumberOption::Delay => "delay",
+            NumberOption::Narrow => "narrow",
+        }
+    }
+
+    /// The least value that words may give it.
+    pub fn least(self) -> u32
+        ensures { result ≡ (number_row self).least }
+    {
+        match self {
+            NumberOption::Parts => 1,
+            NumberOption::Delay => 0,
+            NumberOption::Narrow => 0,
+        }
+    }
+
+    /// The greatest.
+    pub fn greatest(self) -> u32
+        ensures { result ≡ (number_row self).greatest }
+    {
+        match self {
+            NumberOption::Parts => 16,
+            NumberOption::Delay => 8,
+            NumberOption::Narrow => 4,
+        }
+    }
+
+    /// Its value where words give none, as a text.
+    pub fn default_text(self) -> &'static str
+        ensures { (number_row self).default ≡ Some result.now }
+    {
+        match self {
+            NumberOption::Parts => "1",
+            NumberOption::Delay => "1",
+            NumberOption::Narrow => "1",
+        }
+    }
+
+    /// Its value among these.
+    pub fn value(self, options: Options) -> u32
+        ensures { result ≡ number_value self options }
+    {
+        match self {
+            NumberOption::Parts => options.parts,
+            NumberOption::Delay => options.delay,
+            NumberOption::Narrow => options.narrow,
+        }
+    }
+
+    /// These options with this value of it.
+    pub fn set(self, value: u32, options: Options) -> Options
+        ensures { result ≡ set_number self value options }
+    {
+        match self {
+            NumberOption::Parts => Options {
+                parts: value,
+                ..options
+            },
+            NumberOption::Delay => Options {
+                delay: value,
+                ..options
+            },
+            NumberOption::Narrow => Options {
+                narrow: value,
+                ..options
+            },
+        }
+    }
+}
+
+/// An option that is a flag.
+#[derive(Clone, Copy, PartialEq, Eq, Debug)]
+pub enum FlagOption {
+    /// Whether the widening is limited by the program's own conditions.
+    Limited,
+}
+
+/// These options, in the order of a report's first line, where they stand behind the numbers.
+pub const FLAG_OPTIONS: [FlagOption; 1] = [FlagOption::Limited];
+
+impl FlagOption {
+    /// Its name, as words and reports have it.
+    pub fn name(self) -> &'static str
+        ensures { result.now ≡ (flag_row self).name }
+    {
+        match self {
+            FlagOption::Limited => "limited",
+        }
+    }
+
+    /// Whether a report tells it also where it is off.
+    fn is_always_told(self) -> bool
+        ensures { result ≡ (flag_row self).is_always_told }
+    {
+        match self {
+            FlagOption::Limited => true,
+        }
+    }
+
+    /// Its value among these.
+    pub fn value(self, options: Options) -> bool
+        ensures { result ≡ flag_value self options }
+    {
+        match self {
+            FlagOption::Limited => options.limited,
+        }
+    }
+
+    /// These options with this value of it.
+    pub fn set(self, value: bool, options: Options) -> Options
+        ensures { result ≡ set_flag self value options }
+    {
+        match self {
+            FlagOption::Limited => Options {
+                limited: value,
+                ..options
+            },
+        }
+    }
+
+    /// Whether a report under these options tells it.
+    pub fn is_told(self, options: Options) -> bool
+        ensures { result ≡ rows.is_told self options }
+    {
+        self.is_always_told() || self.value(options)
+    }
+}
+
+/// The options of an analysis where words name none: polyhedra of one part, delay and narrowing 1, not limited.
+pub const DEFAULT_OPTIONS: Options = Options {
+    domain: Domain::Poly,
+    parts: 1,
+    delay: 1,
+    narrow: 1,
+    limited: false,
+};
+
+/// These options; each number is the one that its text writes.
+pub fn default_options() -> Options
+    ensures { result ≡ rows.default_options }
+{
+    DEFAULT_OPTIONS
+}
