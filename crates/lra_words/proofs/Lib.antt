@@ -1,4 +1,5 @@
 mod DefaultExamples
+pub mod OptionLists
 pub mod OptionRows
 pub mod ParsedWords
 pub mod Readings

@@ -1,5 +1,5 @@
 -- Words without a fault give a command, with each value in its option's range.
-use Rattle.std.proofs.Common.{◌≡◌, ◌∙◌, ◌<◌, ◌≤◌, ◌^◌, ◌-◌, ◌&&◌, ◌||◌, ℕ, Bool, List, [], ◌∷◌, Option, Some, None, ap, arith, codes, lit<, map, not, refl, sym}
+use Rattle.std.proofs.Common.{◌≡◌, ◌∙◌, ◌<◌, ◌≤◌, ◌^◌, ◌&&◌, ◌||◌, ℕ, Bool, List, [], ◌∷◌, Option, Some, None, ap, arith, codes, lit<, map, not, refl, sym}
 use Rattle.std.proofs.Common.{subst, true, false, lt-ltb, nat_le, nat_lt}
 use Rattle.std.specs.Prelude.{find, is_some, option_and_then, option_map}
 use Rattle.std.specs.List.{list_any}
@@ -19,13 +19,16 @@ use Rattle.clap.specs.declared.builder.value_parser.ValueParser.{ValueParser}
 use Rattle.clap.specs.declared.builder.value_parser.ValueParser.TheVariants as vp
 use Rattle.clap.proofs.WalkLemmas.{both, list_any-map}
 use Rattle.lra_words.specs.Chosen.{IsWithinRanges, analyse_of, command_of, domain_at, domain_named, flag_at, format_of, number_at, number_below, options_of, sample_of, truth_of}
-use Rattle.lra_words.specs.CommandLine.{TakesDomains, command_line, domain_rule, domains_offered, json_rule, limited_rule, IsInRange, NumberOption, number_rule}
-use Rattle.lra_words.specs.CommandLine.{parts_option, delay_option, narrow_option, seed_option, size_option}
-use Rattle.lra_base.specs.declared.options.Options.{Options}
+use Rattle.lra_words.specs.CommandLine.{TakesDomains, command_line, domain_rule, json_rule, flag, number_rule, seed_option, size_option}
+use Rattle.lra_options.specs.declared.options.NumberOption.TheVariants.{Parts, Delay, Narrow}
+use Rattle.lra_options.specs.declared.options.FlagOption.TheVariants.{Limited}
+use Rattle.lra_options.specs.OptionRows.{NumberRow, IsInRange, number_row, flag_row, default_options}
+use Rattle.lra_options.specs.declared.options.Options.{Options}
 use Rattle.lra_words.specs.declared.chosen.Command.{Command}
 use Rattle.lra_words.specs.declared.chosen.Command.TheVariants.{Analyse, Sample, Calc}
-use Rattle.lra_base.specs.declared.options.Domain.{Domain}
-use Rattle.lra_base.specs.DomainNames.{domain_name}
+use Rattle.lra_options.specs.declared.options.Domain.{Domain}
+use Rattle.lra_options.specs.Domains.{domains, domain_name}
+use Rattle.lra_words.proofs.OptionLists.{number_read, flag_read}
 use Rattle.lra_words.proofs.OptionRows.{AllOwn, IsNoHelp, defaulted_value, flag_adds, given_there, help_adds, level_parts, level_rows, option_adds, value_there, walk_stop}
 
 -- ---- values
@@ -61,8 +64,8 @@ unlike a b is = go (bytes_eq a b) refl
         absurd wrong
 
 -- a text that is one of the names of domains names the first of them that has it
-named_among : (text : Text) (domains : List Domain) → list_any (λ name. bytes_eq name text) (map domain_name domains) ≡ true
-    → (d : Domain) × (find (λ d. bytes_eq text (domain_name d)) domains ≡ Some d)
+named_among : (text : Text) (ds : List Domain) → list_any (λ name. bytes_eq name text) (map domain_name ds) ≡ true
+    → (d : Domain) × (find (λ d. bytes_eq text (domain_name d)) ds ≡ Some d)
 named_among text [] any = cc
 named_among text (d ∷ rest) any = go (bytes_eq text (domain_name d)) refl (λ later. named_among text rest later)
   where
@@ -77,11 +80,11 @@ named_among text (d ∷ rest) any = go (bytes_eq text (domain_name d)) refl (λ 
         (found.0, rw is found.1)
 
 -- a text that passed the parser of the domains' names
-domain_passed : (domains : ValueParser) (text : Text) → TakesDomains domains → accepts false domains text ≡ true → (d : Domain) × (domain_named text ≡ Some d)
-domain_passed domains text takes passed =
+domain_passed : (parser : ValueParser) (text : Text) → TakesDomains parser → accepts false parser text ≡ true → (d : Domain) × (domain_named text ≡ Some d)
+domain_passed parser text takes passed =
     let as_names : accepts false (vp.Names takes.0) text ≡ true = subst (λ (p : ValueParser). accepts false p text ≡ true) takes.1 passed in
     let any = sym (list_any-map (λ name. bytes_eq name text) (λ name. name.now) takes.0.now) ∙ as_names in
-    named_among text domains_offered (subst (λ (names : List Text). list_any (λ name. bytes_eq name text) names ≡ true) takes.2 any)
+    named_among text domains (subst (λ (names : List Text). list_any (λ name. bytes_eq name text) names ≡ true) takes.2 any)
 
 -- a text that passed the parser of truth values
 truth_passed : (text : Text) → accepts false vp.Bool text ≡ true → (b : Bool) × (truth_of text ≡ Some b)
@@ -94,7 +97,7 @@ truth_passed text passed = go (bytes_eq text (codes "true")) refl (bytes_eq text
         let bad : false ≡ true = rw (et, ef) at passed in
         cc
 
-number_of : (o : NumberOption) (limit : ℕ) (rows : List Row) (text : Text) → o.greatest < limit → one_of o.name rows ≡ Some text
+number_of : (o : NumberRow) (limit : ℕ) (rows : List Row) (text : Text) → o.greatest < limit → one_of o.name rows ≡ Some text
     → accepts false (vp.Unsigned o.least o.greatest) text ≡ true → (n : ℕ) × (number_at o.name limit rows ≡ Some n) × IsInRange o n
 number_of o limit rows text fits one passed =
     let n = number_passed o.least o.greatest limit text fits passed in
@@ -108,7 +111,12 @@ truth_at id rows text one passed =
 pub options_from : (rows : List Row) (options : Options) → domain_at (codes "domain") rows ≡ Some options.domain → number_at (codes "parts") (2 ^ 32) rows ≡ Some options.parts
     → number_at (codes "delay") (2 ^ 32) rows ≡ Some options.delay → number_at (codes "narrow") (2 ^ 32) rows ≡ Some options.narrow
     → flag_at (codes "limited") rows ≡ Some options.limited → options_of rows ≡ Some options
-options_from rows options domain parts delay narrow limited = rw (domain, parts, delay, narrow, limited) refl
+options_from rows options domain parts delay narrow limited =
+    let begun = ap (option_map (λ (d : Domain). record default_options { domain = d })) domain in
+    let one = number_read rows _ _ Parts options.parts begun parts in
+    let two = number_read rows _ _ Delay options.delay one delay in
+    let three = number_read rows _ _ Narrow options.narrow two narrow in
+    flag_read rows _ _ Limited options.limited three limited
 
 analyse_from : (rows : List Row) (options : Options) (json : Bool) → options_of rows ≡ Some options → flag_at (codes "json") rows ≡ Some json
     → analyse_of rows ≡ Some (Analyse options (format_of json))
@@ -124,19 +132,19 @@ abbrev built_rule : Rule → Rule
 built_rule a = with_index 1 (filled a)
 
 abbrev sub_at : ValueParser → ℕ → Shape
-sub_at domains k = Rattle.std.specs.List.slice_index_or (built (command_line domains)).subs k (new_shape [])
+sub_at parser k = Rattle.std.specs.List.slice_index_or (built (command_line parser)).subs k (new_shape [])
 
-analyse_own : (domains : ValueParser) → AllOwn (sub_at domains 0).rules (sub_at domains 0).rules
-analyse_own domains = (
-  (refl, option_adds (built_rule (domain_rule domains)) refl refl),
+analyse_own : (parser : ValueParser) → AllOwn (sub_at parser 0).rules (sub_at parser 0).rules
+analyse_own parser = (
+  (refl, option_adds (built_rule (domain_rule parser)) refl refl),
   (
-    (refl, option_adds (built_rule (number_rule parts_option)) refl refl),
+    (refl, option_adds (built_rule (number_rule (number_row Parts))) refl refl),
     (
-      (refl, option_adds (built_rule (number_rule delay_option)) refl refl),
+      (refl, option_adds (built_rule (number_rule (number_row Delay))) refl refl),
       (
-        (refl, option_adds (built_rule (number_rule narrow_option)) refl refl),
+        (refl, option_adds (built_rule (number_rule (number_row Narrow))) refl refl),
         (
-          (refl, flag_adds (built_rule limited_rule) (codes "true") refl refl),
+          (refl, flag_adds (built_rule (flag (flag_row Limited).name)) (codes "true") refl refl),
           (
             (refl, flag_adds (built_rule json_rule) (codes "true") refl refl),
             ((refl, help_adds (built_rule help_rule) refl), tt),
@@ -147,31 +155,31 @@ analyse_own domains = (
   ),
 )
 
-analyse_taken : (domains : ValueParser) → TakesDomains domains → (words : List Text) → level_fault (sub_at domains 0) [] nothing_held words false [] ≡ []
-    → (c : Command) × (analyse_of (rows_after (sub_at domains 0).rules [] words) ≡ Some c) × IsWithinRanges c
-analyse_taken domains takes words e =
-    let shape = sub_at domains 0 in
+analyse_taken : (parser : ValueParser) → TakesDomains parser → (words : List Text) → level_fault (sub_at parser 0) [] nothing_held words false [] ≡ []
+    → (c : Command) × (analyse_of (rows_after (sub_at parser 0).rules [] words) ≡ Some c) × IsWithinRanges c
+analyse_taken parser takes words e =
+    let shape = sub_at parser 0 in
     let rows = rows_after shape.rules [] words in
-    let fit = level_rows shape refl (analyse_own domains) (λ i. refl) words e in
-    let domain_text = defaulted_value shape words (built_rule (domain_rule domains)) fit refl refl refl in
-    let parts_text = defaulted_value shape words (built_rule (number_rule parts_option)) fit refl refl refl in
-    let delay_text = defaulted_value shape words (built_rule (number_rule delay_option)) fit refl refl refl in
-    let narrow_text = defaulted_value shape words (built_rule (number_rule narrow_option)) fit refl refl refl in
-    let limited_text = defaulted_value shape words (built_rule limited_rule) fit refl refl refl in
+    let fit = level_rows shape refl (analyse_own parser) (λ i. refl) words e in
+    let domain_text = defaulted_value shape words (built_rule (domain_rule parser)) fit refl refl refl in
+    let parts_text = defaulted_value shape words (built_rule (number_rule (number_row Parts))) fit refl refl refl in
+    let delay_text = defaulted_value shape words (built_rule (number_rule (number_row Delay))) fit refl refl refl in
+    let narrow_text = defaulted_value shape words (built_rule (number_rule (number_row Narrow))) fit refl refl refl in
+    let limited_text = defaulted_value shape words (built_rule (flag (flag_row Limited).name)) fit refl refl refl in
     let json_text = defaulted_value shape words (built_rule json_rule) fit refl refl refl in
-    let domain = domain_passed domains domain_text.text takes domain_text.passed in
-    let parts = number_of parts_option (2 ^ 32) rows parts_text.text (lit< tt) parts_text.one parts_text.passed in
-    let delay = number_of delay_option (2 ^ 32) rows delay_text.text (lit< tt) delay_text.one delay_text.passed in
-    let narrow = number_of narrow_option (2 ^ 32) rows narrow_text.text (lit< tt) narrow_text.one narrow_text.passed in
+    let domain = domain_passed parser domain_text.text takes domain_text.passed in
+    let parts = number_of (number_row Parts) (2 ^ 32) rows parts_text.text (lit< tt) parts_text.one parts_text.passed in
+    let delay = number_of (number_row Delay) (2 ^ 32) rows delay_text.text (lit< tt) delay_text.one delay_text.passed in
+    let narrow = number_of (number_row Narrow) (2 ^ 32) rows narrow_text.text (lit< tt) narrow_text.one narrow_text.passed in
     let limited = truth_at (codes "limited") rows limited_text.text limited_text.one limited_text.passed in
     let json = truth_at (codes "json") rows json_text.text json_text.one json_text.passed in
     let options : Options = record { domain = domain.0; parts = parts.0; delay = delay.0; narrow = narrow.0; limited = limited.0 } in
     let has_domain : domain_at (codes "domain") rows ≡ Some domain.0 = ap (option_and_then domain_named) domain_text.first ∙ domain.1 in
     let taken = options_from rows options has_domain parts.1 delay.1 narrow.1 limited.1 in
-    (Analyse options (format_of json.0), analyse_from rows options json.0 taken json.1, (parts.2, delay.2, narrow.2))
+    (Analyse options (format_of json.0), analyse_from rows options json.0 taken json.1, (parts.2, (delay.2, (narrow.2, tt))))
 
-sample_own : (domains : ValueParser) → AllOwn (sub_at domains 1).rules (sub_at domains 1).rules
-sample_own domains = (
+sample_own : (parser : ValueParser) → AllOwn (sub_at parser 1).rules (sub_at parser 1).rules
+sample_own parser = (
   (refl, option_adds (built_rule (number_rule seed_option)) refl refl),
   (
     (refl, option_adds (built_rule (number_rule size_option)) refl refl),
@@ -190,12 +198,12 @@ both_given true true e = (refl, refl)
 both_given true false e = cc
 both_given false size e = cc
 
-sample_taken : (domains : ValueParser) (words : List Text) → level_fault (sub_at domains 1) [] nothing_held words false [] ≡ []
-    → (c : Command) × (sample_of (rows_after (sub_at domains 1).rules [] words) ≡ Some c) × IsWithinRanges c
-sample_taken domains words e =
-    let shape = sub_at domains 1 in
+sample_taken : (parser : ValueParser) (words : List Text) → level_fault (sub_at parser 1) [] nothing_held words false [] ≡ []
+    → (c : Command) × (sample_of (rows_after (sub_at parser 1).rules [] words) ≡ Some c) × IsWithinRanges c
+sample_taken parser words e =
+    let shape = sub_at parser 1 in
     let rows = rows_after shape.rules [] words in
-    let fit = level_rows shape refl (sample_own domains) (λ i. refl) words e in
+    let fit = level_rows shape refl (sample_own parser) (λ i. refl) words e in
     let checks = (level_parts shape [] words false [] e).4 in
     let wanted = nothing_wanted false false (not (is_given (codes "seed") rows) || (not (is_given (codes "size") rows) || false)) checks in
     let given = both_given (is_given (codes "seed") rows) (is_given (codes "size") rows) wanted.1 in
@@ -224,23 +232,23 @@ abbrev Gives : List Text → Option Shape → Type 0
 Gives words o = option_map_or (λ s. level_fault s [] nothing_held words false []) o [] ≡ [] → is_some (option_map (λ s. rows_at s words) o) ≡ true
     → (c : Command) × (command_of (option_map (λ s. rows_at s words) o) ≡ Some c) × IsWithinRanges c
 
-stop_gives : (domains : ValueParser) → TakesDomains domains → (stop : Option (Text × List Text)) → IsNoHelp stop → entered_fault (built (command_line domains)) stop ≡ []
-    → is_some (entered (built (command_line domains)) stop) ≡ true
-    → (c : Command) × (command_of (entered (built (command_line domains)) stop) ≡ Some c) × IsWithinRanges c
-stop_gives domains takes None no_help e some = cc
-stop_gives domains takes (Some p) no_help e some =
-    among (Gives p.1) (λ s. answers_to p.0 (label_of s)) (sub_at domains 0) (sub_at domains 1) (sub_at domains 2) (sub_at domains 3) analyse sample calc help (λ f h. cc) e some
+stop_gives : (parser : ValueParser) → TakesDomains parser → (stop : Option (Text × List Text)) → IsNoHelp stop → entered_fault (built (command_line parser)) stop ≡ []
+    → is_some (entered (built (command_line parser)) stop) ≡ true
+    → (c : Command) × (command_of (entered (built (command_line parser)) stop) ≡ Some c) × IsWithinRanges c
+stop_gives parser takes None no_help e some = cc
+stop_gives parser takes (Some p) no_help e some =
+    among (Gives p.1) (λ s. answers_to p.0 (label_of s)) (sub_at parser 0) (sub_at parser 1) (sub_at parser 2) (sub_at parser 3) analyse sample calc help (λ f h. cc) e some
   where
-    analyse : answers_to p.0 (label_of (sub_at domains 0)) ≡ true → Gives p.1 (Some (sub_at domains 0))
-    analyse named f h = analyse_taken domains takes p.1 f
+    analyse : answers_to p.0 (label_of (sub_at parser 0)) ≡ true → Gives p.1 (Some (sub_at parser 0))
+    analyse named f h = analyse_taken parser takes p.1 f
 
-    sample : answers_to p.0 (label_of (sub_at domains 1)) ≡ true → Gives p.1 (Some (sub_at domains 1))
-    sample named f h = sample_taken domains p.1 f
+    sample : answers_to p.0 (label_of (sub_at parser 1)) ≡ true → Gives p.1 (Some (sub_at parser 1))
+    sample named f h = sample_taken parser p.1 f
 
-    calc : answers_to p.0 (label_of (sub_at domains 2)) ≡ true → Gives p.1 (Some (sub_at domains 2))
+    calc : answers_to p.0 (label_of (sub_at parser 2)) ≡ true → Gives p.1 (Some (sub_at parser 2))
     calc named f h = (Calc, refl, tt)
 
-    help : answers_to p.0 (label_of (sub_at domains 3)) ≡ true → Gives p.1 (Some (sub_at domains 3))
+    help : answers_to p.0 (label_of (sub_at parser 3)) ≡ true → Gives p.1 (Some (sub_at parser 3))
     help named f h =
         let is : codes "help" ≡ p.0 = is_text (codes "help") p.0 (only (bytes_eq (codes "help") p.0) named) in
         let bad : true ≡ false = rw (← is) at no_help in
@@ -260,13 +268,13 @@ subcommand_met s rows false required e =
     cc
 
 -- words without a fault give a command
-pub words_give : (domains : ValueParser) → TakesDomains domains → (words : List Text) → fault_of (command_line domains) words ≡ []
-    → (c : Command) × (command_of (subcommand_of (command_line domains) words) ≡ Some c) × IsWithinRanges c
-words_give domains takes words e =
-    let whole = built (command_line domains) in
-    let rest = argument_words (command_line domains) words in
+pub words_give : (parser : ValueParser) → TakesDomains parser → (words : List Text) → fault_of (command_line parser) words ≡ []
+    → (c : Command) × (command_of (subcommand_of (command_line parser) words) ≡ Some c) × IsWithinRanges c
+words_give parser takes words e =
+    let whole = built (command_line parser) in
+    let rest = argument_words (command_line parser) words in
     let stop = (walk whole.top.rules (names_of whole) nothing_held rest).stopped in
     let parts = level_parts whole.top (names_of whole) rest (is_some (entered whole stop)) (entered_fault whole stop) e in
     let no_help = walk_stop whole.top (names_of whole) refl rest (walk_from nothing_held) parts.0 tt in
     let rows = finished whole.top.rules (walk whole.top.rules (names_of whole) nothing_held rest).held in
-    stop_gives domains takes stop no_help parts.1 (subcommand_met whole.top rows (is_some (entered whole stop)) refl parts.4)
+    stop_gives parser takes stop no_help parts.1 (subcommand_met whole.top rows (is_some (entered whole stop)) refl parts.4)

@@ -1,17 +1,21 @@
 -- The command that the matches of the command line are.
-use Rattle.std.specs.Prelude.{◌≡◌, ◌^◌, ◌&&◌, ◌⊎◌, ℕ, Bool, true, false, List, [], Option, Some}
+use Rattle.std.specs.Prelude.{◌≡◌, ◌^◌, ◌&&◌, ◌⊎◌, ℕ, Bool, true, false, List, [], fold, Option, Some}
 use Rattle.std.specs.Prelude.{None, codes, if◌then◌else◌, find, nat_lt, option_and_then, option_map, ⊤}
+use Rattle.std.specs.List.{AllByRecursion}
 use Rattle.std.specs.Str.{bytes_eq}
 use Rattle.std.specs.Str.Parse.{digits_value, without_leading_plus}
 use Rattle.clap.specs.ValueTests.{is_numeral}
 use Rattle.clap.specs.Words.{Row, Text, fault_of, first_of, one_of, subcommand_of, takes}
 use Rattle.clap.specs.declared.builder.value_parser.ValueParser.{ValueParser}
-use Rattle.lra_base.specs.DomainNames.{domain_name}
-use Rattle.lra_base.specs.declared.options.Domain.{Domain}
-use Rattle.lra_base.specs.declared.options.Domain.TheVariants.{Poly}
-use Rattle.lra_base.specs.declared.options.Options.{Options}
-use Rattle.lra_words.specs.CommandLine.{TakesDomains, IsInRange, command_line, domains_offered}
-use Rattle.lra_words.specs.CommandLine.{parts_option, delay_option, narrow_option, seed_option, size_option}
+use Rattle.lra_options.specs.Domains.{domains, domain_name}
+use Rattle.lra_options.specs.declared.options.NumberOption.{NumberOption}
+use Rattle.lra_options.specs.declared.options.FlagOption.{FlagOption}
+use Rattle.lra_options.specs.OptionRows.{IsInRange, number_row, number_value, set_number, number_options}
+use Rattle.lra_options.specs.OptionRows.{flag_row, set_flag, flag_options}
+pub use Rattle.lra_options.specs.OptionRows.{default_options}
+use Rattle.lra_options.specs.declared.options.Domain.{Domain}
+use Rattle.lra_options.specs.declared.options.Options.{Options}
+use Rattle.lra_words.specs.CommandLine.{TakesDomains, command_line, seed_option, size_option}
 use Rattle.lra_words.specs.declared.chosen.Command.{Command}
 use Rattle.lra_words.specs.declared.chosen.Format.{Format}
 use Rattle.lra_words.specs.declared.chosen.Format.TheVariants.{Lines, Json}
@@ -26,7 +30,7 @@ number_below limit text =
     else None
 
 abbrev pub domain_named : Text → Option Domain
-domain_named name = find (λ d. bytes_eq name (domain_name d)) domains_offered
+domain_named name = find (λ d. bytes_eq name (domain_name d)) domains
 
 abbrev pub truth_of : Text → Option Bool
 truth_of text = if bytes_eq text (codes "true") then Some true
@@ -42,31 +46,21 @@ flag_at name rows = option_and_then truth_of (one_of name rows)
 abbrev pub domain_at : Text → List Row → Option Domain
 domain_at name rows = option_and_then domain_named (first_of name rows)
 
-abbrev pub options_of : List Row → Option Options
-options_of rows =
-    option_and_then (λ domain. option_and_then (λ parts. option_and_then (λ delay.
-    option_and_then (λ narrow. option_map (λ limited. record {
-      domain = domain;
-      parts = parts;
-      delay = delay;
-      narrow = narrow;
-      limited = limited;
-    })
-    (flag_at (codes "limited") rows))
-    (number_at narrow_option.name (2 ^ 32) rows))
-    (number_at delay_option.name (2 ^ 32) rows))
-    (number_at parts_option.name (2 ^ 32) rows))
-    (domain_at (codes "domain") rows)
+-- the options so far with one more that is read from the rows
+abbrev pub with_number : List Row → Option Options → NumberOption → Option Options
+with_number rows so option = option_and_then (λ o. option_map (λ value. set_number option value o)
+    (number_at (number_row option).name (2 ^ 32) rows)) so
 
--- the options of an analysis where words name none, as a sample's
-abbrev pub default_options : Options
-default_options = record {
-  domain = Poly;
-  parts = 1;
-  delay = 1;
-  narrow = 1;
-  limited = false;
-}
+abbrev pub with_flag : List Row → Option Options → FlagOption → Option Options
+with_flag rows so option = option_and_then (λ o. option_map (λ value. set_flag option value o)
+    (flag_at (flag_row option).name rows)) so
+
+abbrev pub with_domain : List Row → Option Options
+with_domain rows = option_map (λ domain. record default_options { domain = domain }) (domain_at (codes "domain") rows)
+
+-- each of them is read: none keeps its default here
+abbrev pub options_of : List Row → Option Options
+options_of rows = fold (with_flag rows) (fold (with_number rows) (with_domain rows) number_options) flag_options
 
 -- the output that the flags ask for
 abbrev pub format_of : Bool → Format
@@ -97,28 +91,30 @@ abbrev pub command_of : Option (Text × List Row) → Option Command
 command_of None = None
 command_of (Some chosen) = named_command chosen.0 chosen.1
 
+abbrev pub HasInRange : Options → NumberOption → Type 0
+HasInRange o option = IsInRange (number_row option) (number_value option o)
+
 -- each value lies in its option's range
 abbrev pub IsWithinRanges : Command → Type 0
-IsWithinRanges (Analyse options format) = IsInRange parts_option options.parts
-    × IsInRange delay_option options.delay × IsInRange narrow_option options.narrow
+IsWithinRanges (Analyse options format) = AllByRecursion (HasInRange options) number_options
 IsWithinRanges (Sample seed size) = IsInRange seed_option seed × IsInRange size_option size
 IsWithinRanges Calc = ⊤
 
 -- the words ask for no command: the parse has a kind of error for them
 abbrev pub AsksNone : List Text → Type 0
-AsksNone words = (domains : ValueParser) × TakesDomains domains
-    × (fault_of (command_line domains) words ≡ [] → ⊥)
+AsksNone words = (parser : ValueParser) × TakesDomains parser
+    × (fault_of (command_line parser) words ≡ [] → ⊥)
 
 -- nor does the command line take them
 abbrev pub IsUntaken : List Text → Type 0
-IsUntaken words = (domains : ValueParser) × TakesDomains domains
-    × (takes (command_line domains) words ≡ true → ⊥)
+IsUntaken words = (parser : ValueParser) × TakesDomains parser
+    × (takes (command_line parser) words ≡ true → ⊥)
 
 -- the words ask for this command: the command line takes them, and it is that of the matches
 abbrev pub Asks : List Text → Command → Type 0
-Asks words chosen = (domains : ValueParser) × TakesDomains domains
-    × (fault_of (command_line domains) words ≡ [])
-    × (command_of (subcommand_of (command_line domains) words) ≡ Some chosen)
+Asks words chosen = (parser : ValueParser) × TakesDomains parser
+    × (fault_of (command_line parser) words ≡ [])
+    × (command_of (subcommand_of (command_line parser) words) ≡ Some chosen)
 
 -- each list of words asks for no command, or for one, whose values lie in their ranges; never for both
 abbrev pub EachList : Type 0

@@ -1,12 +1,11 @@
 -- The command line, as a parse reads it.
-use Rattle.std.specs.Prelude.{◌≡◌, ◌≤◌, ◌^◌, ◌-◌, ℕ, map, codes, Option, None, Some, List, [], ◌∷◌, true}
+use Rattle.std.specs.Prelude.{◌≡◌, ◌^◌, ◌-◌, ℕ, map, fold, codes, Option, None, Some, List, [], ◌∷◌, true}
 use Rattle.std.specs.Borrow.{Bor}
 use Rattle.clap.specs.Words.{App, Rule, Text, new_app, new_rule, with_rule, with_subcommand}
 use Rattle.clap.specs.declared.builder.value_parser.ValueParser.{ValueParser}
 use Rattle.clap.specs.declared.builder.value_parser.ValueParser.TheVariants as vp
-use Rattle.lra_base.specs.DomainNames.{domain_name}
-use Rattle.lra_base.specs.declared.options.Domain.{Domain}
-use Rattle.lra_base.specs.declared.options.Domain.TheVariants.{Poly, Box, Oct}
+use Rattle.lra_options.specs.Domains.{domains, domain_name}
+use Rattle.lra_options.specs.OptionRows.{NumberRow, number_row, number_options, flag_row, flag_options, default_options}
 use Rattle.clap.specs.declared.builder.action.ArgAction.TheVariants.{SetTrue}
 
 -- `--name VALUE` with this parser
@@ -25,32 +24,12 @@ required name parser = record (valued name parser) { required = true }
 abbrev pub flag : Text → Rule
 flag name = record (new_rule name) { long = Some name; action = Some SetTrue }
 
--- an option that is a number: its name, its least and its greatest value, and its text where words give none; without
--- one it has to be given
-pub record NumberOption : Type 0 where
-  pub name : Text
-  pub least : ℕ
-  pub greatest : ℕ
-  pub default : Option Text
-
-abbrev pub parts_option : NumberOption
-parts_option = record { name = codes "parts"; least = 1; greatest = 16; default = Some (codes "1") }
-
-abbrev pub delay_option : NumberOption
-delay_option = record { name = codes "delay"; least = 0; greatest = 8; default = Some (codes "1") }
-
-abbrev pub narrow_option : NumberOption
-narrow_option = record { name = codes "narrow"; least = 0; greatest = 4; default = Some (codes "1") }
-
-abbrev pub seed_option : NumberOption
+-- of a sample, to be given
+abbrev pub seed_option : NumberRow
 seed_option = record { name = codes "seed"; least = 0; greatest = 2 ^ 64 - 1; default = None }
 
-abbrev pub size_option : NumberOption
+abbrev pub size_option : NumberRow
 size_option = record { name = codes "size"; least = 0; greatest = 400; default = None }
-
--- the value lies in the option's range
-abbrev pub IsInRange : NumberOption → ℕ → Type 0
-IsInRange o value = (o.least ≤ value) × (value ≤ o.greatest)
 
 -- a number from `least` to `greatest`
 abbrev pub number : ℕ → ℕ → ValueParser
@@ -60,27 +39,25 @@ abbrev pub either_rule : Option Text → Text → ValueParser → Rule
 either_rule None name parser = required name parser
 either_rule (Some default) name parser = defaulted name parser default
 
-abbrev pub number_rule : NumberOption → Rule
-number_rule o = either_rule o.default o.name (number o.least o.greatest)
+abbrev pub number_rule : NumberRow → Rule
+number_rule row = either_rule row.default row.name (number row.least row.greatest)
 
 abbrev pub domain_rule : ValueParser → Rule
-domain_rule domains = defaulted (codes "domain") domains (codes "poly")
-
-abbrev pub limited_rule : Rule
-limited_rule = flag (codes "limited")
+domain_rule parser = defaulted (codes "domain") parser (domain_name default_options.domain)
 
 abbrev pub json_rule : Rule
 json_rule = flag (codes "json")
 
--- with the three options that are numbers
+-- with the options of an analysis: its numbers, its flags
 abbrev pub with_numbers : App → App
-with_numbers a = with_rule (with_rule (with_rule a (number_rule parts_option)) (number_rule delay_option))
-    (number_rule narrow_option)
+with_numbers a = fold (λ so option. with_rule so (number_rule (number_row option))) a number_options
+
+abbrev pub with_flags : App → App
+with_flags a = fold (λ so option. with_rule so (flag (flag_row option).name)) a flag_options
 
 abbrev pub analyse : ValueParser → App
-analyse domains =
-    with_rule (with_rule (with_numbers (with_rule (new_app (codes "analyse")) (domain_rule domains)))
-    limited_rule) json_rule
+analyse parser = with_rule (with_flags (with_numbers (with_rule (new_app (codes "analyse")) (domain_rule parser))))
+    json_rule
 
 abbrev pub sample : App
 sample = with_rule (with_rule (new_app (codes "sample")) (number_rule seed_option)) (number_rule size_option)
@@ -93,25 +70,21 @@ abbrev pub requiring : App → App
 requiring a = record a { top = record a.top { subcommand_required = true } }
 
 abbrev pub command_line : ValueParser → App
-command_line domains =
+command_line parser =
     with_subcommand (with_subcommand (with_subcommand (requiring (new_app (codes "lra")))
-    (analyse domains).top) sample.top) calc.top
-
--- the domains that words can name
-abbrev pub domains_offered : List Domain
-domains_offered = Poly ∷ Box ∷ Oct ∷ []
+    (analyse parser).top) sample.top) calc.top
 
 -- the parser takes the domains' names
 abbrev pub TakesDomains : ValueParser → Type 0
-TakesDomains domains = (names : Bor (List (Bor Text))) × (domains ≡ vp.Names names)
-    × (map (λ name. name.now) names.now ≡ map domain_name domains_offered)
+TakesDomains parser = (names : Bor (List (Bor Text))) × (parser ≡ vp.Names names)
+    × (map (λ name. name.now) names.now ≡ map domain_name domains)
 
 abbrev pub DeclaresDomain : Rule → Type 0
-DeclaresDomain r = (domains : ValueParser) × TakesDomains domains × (r ≡ domain_rule domains)
+DeclaresDomain r = (parser : ValueParser) × TakesDomains parser × (r ≡ domain_rule parser)
 
 abbrev pub DeclaresAnalyse : App → Type 0
-DeclaresAnalyse a = (domains : ValueParser) × TakesDomains domains × (a ≡ analyse domains)
+DeclaresAnalyse a = (parser : ValueParser) × TakesDomains parser × (a ≡ analyse parser)
 
 abbrev pub DeclaresCommandLine : App → Type 0
 DeclaresCommandLine a =
-    (domains : ValueParser) × TakesDomains domains × (a ≡ command_line domains)
+    (parser : ValueParser) × TakesDomains parser × (a ≡ command_line parser)

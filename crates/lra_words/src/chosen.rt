@@ -1,21 +1,5 @@
 //! The commands that words can choose.
-ghost use Rattle.std.specs.Prelude.{◌≡◌};
-ghost use Rattle.lra_words.specs.Chosen.{default_options};
-
-use lra_base::{Domain, Options};
-
-/// The options of an analysis where words name none: polyhedra of one part, delay and narrowing 1, not limited.
-pub fn default_options() -> Options
-    ensures { result ≡ default_options }
-{
-    Options {
-        domain: Domain::Poly,
-        parts: 1,
-        delay: 1,
-        narrow: 1,
-        limited: false,
-    }
-}
+use lra_options::Options;
 
 /// How a report is written.
 #[derive(Clone, Copy, PartialEq, Debug)]

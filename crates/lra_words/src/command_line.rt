@@ -4,16 +4,19 @@
 //! Each number is declared as a `u64` with its range, so that all numbers are written alike: decimal
 //! digits after at most one plus.
 ghost use Rattle.std.specs.Prelude.{◌≡◌, IfOk, false};
+ghost use Rattle.lra_options.specs.OptionRows.{number_row, flag_row};
 ghost use Rattle.clap.specs.Words.{app_of, rule_of, with_subcommand};
 ghost use Rattle.clap.specs.declared.builder.command.Command.TheViews.{out-Command};
 ghost use Rattle.lra_words.specs.CommandLine.{DeclaresAnalyse, DeclaresCommandLine, DeclaresDomain};
-ghost use Rattle.lra_words.specs.CommandLine.{defaulted, flag, number, required, sample, valued, with_numbers};
+ghost use Rattle.lra_words.specs.CommandLine.{defaulted, flag, number, number_rule, required, sample, valued};
+ghost use Rattle.lra_words.specs.CommandLine.{with_flags, with_numbers};
 
 use clap::builder::ValueParser;
 use clap::{Arg, ArgAction, Command, value_parser};
+use lra_options::{FLAG_OPTIONS, NUMBER_OPTIONS, NumberOption};
 use std::alloc::{AllocError, Global};
 
-static DOMAINS: [&str; 3] = ["poly", "box", "oct"];
+static DOMAIN_NAMES: [&str; 3] = ["poly", "box", "oct"];
 
 /// `--name VALUE`, by this parser.
 fn valued_arg<'a>(alloc: Global, name: &'a str, parser: ValueParser<'a>) -> Arg<'a>
@@ -65,19 +68,46 @@ fn domain_arg<'a>(alloc: Global) -> Arg<'a>
 {
     Arg::new(alloc, "domain")
         .long("domain")
-        .value_parser(DOMAINS.as_slice())
+        .value_parser(DOMAIN_NAMES.as_slice())
         .default_value("poly")
 }
 
-/// The command so far, and the three options that are numbers.
+/// An option of an analysis that is a number, by its row.
+fn number_arg<'a>(alloc: Global, option: NumberOption) -> Arg<'a>
+    ensures rule { rule_of result ≡ number_rule (number_row option) }
+    ensures local { result.global ≡ false }
+{
+    let range = between(option.least(), option.greatest());
+    let name: &'a str = option.name();
+    let default: &'a str = option.default_text();
+    defaulted_arg(alloc, name, range, default)
+}
+
+/// The command so far, and the options of an analysis that are numbers.
 fn add_numbers<'a>(alloc: Global, command: Command<'a>) -> Result<Command<'a>, AllocError>
     ensures app { IfOk result (λ c. app_of c ≡ with_numbers (app_of command.entry)) }
-    ensures local { IfOk result (λ c. (out-Command c).has_globals ≡ (out-Command command.entry).has_globals) }
+    ensures local { IfOk result (λ c.
+        (out-Command c).has_globals ≡ (out-Command command.entry).has_globals) }
 {
-    let command = command.arg(defaulted_arg(alloc, "parts", between(1, 16), "1"))?;
-    let command = command.arg(defaulted_arg(alloc, "delay", between(0, 8), "1"))?;
-    let command = command.arg(defaulted_arg(alloc, "narrow", between(0, 4), "1"))?;
-    Ok(command)
+    let mut declared = command;
+    for option in NUMBER_OPTIONS.iter() {
+        declared = declared.arg(number_arg(alloc, *option))?;
+    }
+    Ok(declared)
+}
+
+/// The command so far, and the options of an analysis that are flags.
+fn add_flags<'a>(alloc: Global, command: Command<'a>) -> Result<Command<'a>, AllocError>
+    ensures app { IfOk result (λ c. app_of c ≡ with_flags (app_of command.entry)) }
+    ensures local { IfOk result (λ c.
+        (out-Command c).has_globals ≡ (out-Command command.entry).has_globals) }
+{
+    let mut declared = command;
+    for option in FLAG_OPTIONS.iter() {
+        let name: &'a str = option.name();
+        declared = declared.arg(flag_arg(alloc, name))?;
+    }
+    Ok(declared)
 }
 
 fn analyse_command<'a>(alloc: Global) -> Result<Command<'a>, AllocError>
@@ -86,7 +116,7 @@ fn analyse_command<'a>(alloc: Global) -> Result<Command<'a>, AllocError>
 {
     let command = Command::new(alloc, "analyse").arg(domain_arg(alloc))?;
     let command = add_numbers(alloc, command)?;
-    let command = command.arg(flag_arg(alloc, "limited"))?;
+    let command = add_flags(alloc, command)?;
     let command = command.arg(flag_arg(alloc, "json"))?;
     Ok(command)
 }

@@ -1,16 +1,17 @@
 //! The command that a list of words gives.
-ghost use Rattle.std.specs.Prelude.{◌≡◌, ◌^◌, Err, IfOk, IfSome, Some, codes, map, string_bytes};
+ghost use Rattle.std.specs.Prelude.{◌≡◌, ◌^◌, Err, IfOk, IfSome, Some, codes, fold, map, string_bytes};
 ghost use Rattle.clap.specs.Words.{found_of, kind_of, rows_of};
 ghost use Rattle.lra_words.specs.Chosen.{Asks, AsksFor, AsksNone, IsUntaken, IsWithinRanges, command_of, domain_at};
 ghost use Rattle.lra_words.specs.Chosen.{analyse_of, domain_named, flag_at, format_at, format_of};
-ghost use Rattle.lra_words.specs.Chosen.{number_at, options_of, sample_of};
+ghost use Rattle.lra_words.specs.Chosen.{number_at, options_of, sample_of, with_domain, with_flag, with_number};
+ghost use Rattle.lra_options.specs.OptionRows.{number_options, flag_options};
 ghost use Rattle.lra_words.specs.Refusals.{refusal};
 
 use crate::chosen::{Command, Format};
 use crate::command_line::declare;
 use clap::ArgMatches;
 use clap::error::ErrorKind;
-use lra_base::{Domain, Options};
+use lra_options::{DOMAINS, Domain, FLAG_OPTIONS, NUMBER_OPTIONS, Options, default_options};
 use std::alloc::{AllocError, Global};
 
 /// Why words give no command.
@@ -30,9 +31,6 @@ fn refusal_of(error: &clap::Error) -> Refusal
         _ => Refusal::Usage,
     }
 }
-
-/// The domains that words can name.
-const DOMAINS: [Domain; 3] = [Domain::Poly, Domain::Box, Domain::Oct];
 
 fn find_domain(name: &str) -> Option<Domain>
     ensures { result ≡ domain_named name.now }
@@ -58,21 +56,49 @@ fn read_flag(matches: &ArgMatches, option: &str) -> Option<bool>
     matches.get_one::<bool>(option)
 }
 
+/// The defaults over the domain that is read.
+fn begin_options(matches: &ArgMatches) -> Option<Options>
+    ensures { result ≡ with_domain (rows_of (found_of matches.now)) }
+{
+    let domain = read_domain(matches)?;
+    Some(Options {
+        domain,
+        ..default_options()
+    })
+}
+
+/// These options with the numbers that are read.
+fn read_numbers(matches: &ArgMatches, options: Options) -> Option<Options>
+    ensures { result ≡
+        fold (with_number (rows_of (found_of matches.now))) (Some options) number_options }
+{
+    let mut read = options;
+    for option in NUMBER_OPTIONS.iter() {
+        let value = read_number(matches, option.name())?;
+        read = option.set(value, read);
+    }
+    Some(read)
+}
+
+/// These options with the flags that are read.
+fn read_flags(matches: &ArgMatches, options: Options) -> Option<Options>
+    ensures { result ≡
+        fold (with_flag (rows_of (found_of matches.now))) (Some options) flag_options }
+{
+    let mut read = options;
+    for option in FLAG_OPTIONS.iter() {
+        let value = read_flag(matches, option.name())?;
+        read = option.set(value, read);
+    }
+    Some(read)
+}
+
 fn read_options(matches: &ArgMatches) -> Option<Options>
     ensures { result ≡ options_of (rows_of (found_of matches.now)) }
 {
-    let domain = read_domain(matches)?;
-    let parts = read_number(matches, "parts")?;
-    let delay = read_number(matches, "delay")?;
-    let narrow = read_number(matches, "narrow")?;
-    let limited = read_flag(matches, "limited")?;
-    Some(Options {
-        domain,
-        parts,
-        delay,
-        narrow,
-        limited,
-    })
+    let options = begin_options(matches)?;
+    let options = read_numbers(matches, options)?;
+    read_flags(matches, options)
 }
 
 fn choose_format(json: bool) -> Format
