@@ -194,7 +194,6 @@ globals_at t x = map_read (globals_of t) (ended mark.Semicolon (commas_from (val
 
 -- parts -------------------------------------------------------------------------------------------------------------
 
--- behind what a part begins with
 -- what a part may go on as: with a name behind a type as a function or as globals, else with this head of a signature
 abbrev pub split_lead : Lead → Result (NumberType × Identifier) (Option Heading)
 split_lead (lead.Main x) = Err (Some (Some Long, x))
