@@ -33,6 +33,7 @@ pub mod LineCase
 pub mod Descriptions
 pub mod RowOrder
 pub mod OneSpelling
+pub mod UnitRows
 pub mod Polyhedra
 pub mod SetOperations
 pub mod Widening
