@@ -3,6 +3,7 @@ pub mod Facts
 pub mod Division
 pub mod CheckedRows
 pub mod Words
+pub mod Narrow
 pub mod RowDivisors
 pub mod OrderLemmas
 pub mod FirstPassing

@@ -1,7 +1,7 @@
 //! Arithmetic on the entries of rows.
 
 ghost use Rattle.std.specs.Prelude.{◌≡◌, ◌≤◌, ◌<◌, ◌≤ℤ◌, ◌+◌, [], ◌∷◌, ℕ, pos, ◌*ℤ◌, ◌<ℤ◌, length, IfOk, IfErr};
-ghost use Rattle.std.specs.Prelude.{unsigned_abs, map, int_div, slice_index_or};
+ghost use Rattle.std.specs.Prelude.{unsigned_abs, map, int_div, slice_index_or, IsTrue};
 ghost use Rattle.std.specs.List.{All};
 ghost use Rattle.std.specs.Int.{◌∣◌};
 ghost use Rattle.lra_linear.specs.Range.{InRange};
@@ -9,18 +9,24 @@ ghost use Rattle.lra_linear.specs.Vectors.{entry, negated};
 ghost use Rattle.lra_linear.specs.CheckedArithmetic.{checked_product_from, checked_product, checked_entry};
 ghost use Rattle.lra_linear.specs.CheckedArithmetic.{checked_blend};
 ghost use Rattle.lra_row.specs.Rows.{IsExcessOf, IsRowGcd};
+ghost use Rattle.lra_row.specs.Words.{IsNarrow};
 ghost use Rattle.lra_linear.specs.Echelon.{pivot};
 ghost use Rattle.lra_linear.specs.RowOrder.{constant_last, row_cmp};
 
 use crate::error::RowError;
-use crate::number::{gcd, has_room, is_word, multiply_words, product_of, quotient, sum_of};
+use crate::number::{
+    gcd, has_room, is_narrow, is_word, multiply_words, product_of, quotient, sum_of,
+};
 use lra_linear::Excess;
 use smallvec::SmallVec;
 use std::alloc::{AllocError, Global};
 use std::cmp::Ordering;
 
-/// The entries of a row: those of at most 8 columns stay inline.
-pub type Entries = SmallVec<i128, 8>;
+// Rows of at most so many columns stay inline.
+const INLINE: usize = 8;
+
+/// The entries of a row.
+pub type Entries = SmallVec<i128, INLINE>;
 
 // The sum with the product of one column, of numbers of any size.
 #[cold]
@@ -45,6 +51,46 @@ pub fn product_from(start: i128, xs: &[i128], ys: &[i128]) -> Result<i128, Exces
         }
     }
     Ok(sum)
+}
+
+/// The entries with these numbers.
+pub fn copy_entries(alloc: Global, numbers: &[i128]) -> Result<Entries, AllocError>
+    ensures { IfOk result (λ r. r.items ≡ numbers.now) }
+{
+    if numbers.len() <= INLINE {
+        let mut places = [0i128; INLINE];
+        for place in 0..numbers.len() {
+            places[place] = numbers[place];
+        }
+        return Ok(SmallVec::from_buf_and_len(alloc, places, numbers.len()));
+    }
+    Ok(SmallVec::from_vec(Vec::from_slice(alloc, numbers)?))
+}
+
+/// Whether each number is narrow.
+pub fn are_narrow(xs: &[i128]) -> bool
+    ensures { IsTrue result → All IsNarrow xs.now }
+{
+    for x in xs {
+        if !is_narrow(*x) {
+            return false;
+        }
+    }
+    true
+}
+
+/// The product of two rows of narrow numbers: no product and no sum passes the range.
+pub fn narrow_product(xs: &[i128], ys: &[i128]) -> i128
+    requires widths { length xs.now ≡ length ys.now }
+    requires xs_narrow { All IsNarrow xs.now }
+    requires ys_narrow { All IsNarrow ys.now }
+    ensures { checked_product xs.now ys.now ≡ Ok result }
+{
+    let mut sum = 0;
+    for (x, y) in xs.iter().zip(ys) {
+        sum += multiply_words(*x, *y);
+    }
+    sum
 }
 
 /// The product of a row with the vector of a divisor and numerators.
@@ -87,9 +133,21 @@ pub fn blend(alloc: Global, a: i128, b: i128, us: &[i128], vs: &[i128]) -> Resul
     ensures ok { IfOk result (λ r. checked_blend a b us.now vs.now ≡ Ok r.items) }
     ensures err { IfErr result (IsExcessOf (checked_blend a b us.now vs.now)) }
 {
-    let mut entries = SmallVec::new(alloc);
+    let mut entries = SmallVec::with_capacity(alloc, us.len())?;
     for (u, v) in us.iter().zip(vs) {
-        entries.push(blend_entry(a, b, *u, *v)?)?;
+        entries.push_reserved(blend_entry(a, b, *u, *v)?);
+    }
+    Ok(entries)
+}
+
+/// The numbers, as entries.
+pub fn entries_of(alloc: Global, numbers: &[i64]) -> Result<Entries, AllocError>
+    ensures items { IfOk result (λ r. r.items ≡ numbers.now) }
+    ensures in_range { IfOk result (λ r. All InRange r.items) }
+{
+    let mut entries = SmallVec::new(alloc);
+    for number in numbers {
+        entries.push(*number as i128)?;
     }
     Ok(entries)
 }
@@ -157,8 +215,8 @@ fn constant_last_entry(xs: &[i128], place: usize) -> i128
     }
 }
 
-/// Compares two rows by columns 1, 2, 3 and on, and by column 0 last.
-pub fn compare(xs: &[i128], ys: &[i128]) -> Ordering
+// Compares two rows of any widths by columns 1, 2, 3 and on, and by column 0 last.
+fn compare_widths(xs: &[i128], ys: &[i128]) -> Ordering
     ensures { result ≡ row_cmp xs.now ys.now }
 {
     for place in 0..xs.len().min(ys.len()) {
@@ -168,4 +226,19 @@ pub fn compare(xs: &[i128], ys: &[i128]) -> Ordering
         }
     }
     xs.len().cmp(&ys.len())
+}
+
+/// Compares two rows by columns 1, 2, 3 and on, and by column 0 last.
+pub fn compare(xs: &[i128], ys: &[i128]) -> Ordering
+    ensures { result ≡ row_cmp xs.now ys.now }
+{
+    if xs.is_empty() || xs.len() != ys.len() {
+        return compare_widths(xs, ys);
+    }
+    for place in 1..xs.len() {
+        if xs[place] != ys[place] {
+            return xs[place].cmp(&ys[place]);
+        }
+    }
+    xs[0].cmp(&ys[0])
 }

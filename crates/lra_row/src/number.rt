@@ -8,7 +8,7 @@ ghost use Rattle.std.specs.Int.{IsGcd};
 ghost use Rattle.lra_linear.specs.Range.{InRange};
 ghost use Rattle.lra_linear.specs.declared.Operation.TheVariants.{Product, Sum};
 ghost use Rattle.lra_row.specs.Division.{floor_quotient, IsFloor};
-ghost use Rattle.lra_row.specs.Words.{HasRoom, IsWord, IsWordProduct};
+ghost use Rattle.lra_row.specs.Words.{HasRoom, IsNarrow, IsWord, IsWordProduct};
 
 use lra_linear::{Excess, Operation};
 use std::cmp::Ordering;
@@ -18,6 +18,18 @@ const WORD: i128 = 1 << 63;
 
 // Sums that can take the product of two words end before this number.
 const ROOM: i128 = 1 << 126;
+
+// Narrow numbers are smaller in size.
+const NARROW: i128 = 1 << 31;
+
+/// Whether the size of the number is below 2^31: so many products of two of them as memory holds have a sum that stays
+/// in the range.
+#[inline(always)]
+pub fn is_narrow(x: i128) -> bool
+    ensures { IsTrue result → IsNarrow x }
+{
+    -NARROW < x && x < NARROW
+}
 
 /// Whether the number has 64 bits.
 #[inline(always)]

@@ -1,18 +1,19 @@
 //! Rows of exact numbers.
 
 ghost use Rattle.std.specs.Prelude.{◌≡◌, ◌≤◌, ◌<◌, ℕ, ℤ, pos, neg_ℤ, ◌+ℤ◌, ◌*ℤ◌, ◌<ℤ◌, length, List, ◌∷◌, ◌+◌, IfOk};
-ghost use Rattle.std.specs.Prelude.{◌++◌, IfErr, OnOk};
+ghost use Rattle.std.specs.Prelude.{◌++◌, ◌^◌, ◌↔◌, IfErr, IfSome, IsTrue, OnOk, slice_set, suc};
 ghost use Rattle.std.specs.List.{All};
 ghost use Rattle.std.specs.Cmp.{IsTotalOrder};
 ghost use Rattle.std.specs.FinMap.{IsAntisymmetric};
 ghost use Rattle.lra_linear.specs.Range.{InRange};
-ghost use Rattle.lra_linear.specs.Vectors.{entry, dot, product, negated, blend, combined, cleared, substituted};
+ghost use Rattle.lra_linear.specs.Vectors.{entry, dot, product, negated, blend, combined, cleared, substituted, zeros};
 ghost use Rattle.lra_linear.specs.LowestTerms.{IsLowest};
 ghost use Rattle.lra_linear.specs.CheckedArithmetic.{checked_product, checked_blend, checked_combination};
 ghost use Rattle.lra_linear.specs.CheckedArithmetic.{checked_substitution};
 ghost use Rattle.lra_linear.specs.SetOperations.{assigned};
 ghost use Rattle.lra_row.specs.Operations.{NamesFirst, NamesFirstOrMemory, product_operations, blend_operations};
 ghost use Rattle.lra_row.specs.Rows.{IsExcessOf, combination_operations, IsPositiveSum, substitution_operations};
+ghost use Rattle.lra_row.specs.Words.{IsNarrow};
 ghost use Rattle.lra_linear.specs.Echelon.{pivot};
 ghost use Rattle.lra_linear.specs.RowOrder.{row_cmp};
 
@@ -21,7 +22,6 @@ use crate::entries::Entries;
 use crate::error::RowError;
 use crate::number::opposite;
 use lra_linear::Excess;
-use smallvec::SmallVec;
 use std::alloc::{AllocError, Global};
 use std::cmp::Ordering;
 use std::marker::Model;
@@ -30,11 +30,16 @@ use std::marker::Model;
 /// has the constant or the divisor.
 pub struct Row {
     entries: Entries,
+    // each entry is below 2^31 in size; where they are, this may yet be false
+    narrow: bool,
 }
 
 impl Drop for Row {
     fn drop(self) {
-        let Row { entries: _ } = self;
+        let Row {
+            entries: _,
+            narrow: _,
+        } = self;
     }
 }
 
@@ -43,7 +48,7 @@ impl Model for Row {
 
     ghost view = { λ r. r.entries.items };
 
-    ghost invariant = { λ r. All InRange r.entries.items };
+    ghost invariant = { λ r. All InRange r.entries.items × (IsTrue r.narrow → All IsNarrow r.entries.items) };
 }
 
 impl Row {
@@ -52,16 +57,42 @@ impl Row {
         requires { All InRange numbers.now }
         ensures { IfOk result (λ row. row ≡ numbers.now) }
     {
-        let entries = SmallVec::from_slice(alloc, numbers)?;
-        Ok(Row { entries })
+        let entries = entries::copy_entries(alloc, numbers)?;
+        let narrow = entries::are_narrow(numbers);
+        Ok(Row { entries, narrow })
+    }
+
+    /// The row of these numbers of 64 bits, column 0 first.
+    pub fn of(alloc: Global, numbers: &[i64]) -> Result<Row, AllocError>
+        ensures { IfOk result (λ row. row ≡ numbers.now) }
+    {
+        let entries = entries::entries_of(alloc, numbers)?;
+        let narrow = entries::are_narrow(entries.as_slice());
+        Ok(Row { entries, narrow })
+    }
+
+    /// The row of n + 1 columns with the factor in this column and 0 elsewhere.
+    pub fn unit(alloc: Global, n: usize, column: usize, factor: i128) -> Result<Row, AllocError>
+        requires small { n < 2 ^ 62 }
+        requires column { column ≤ n }
+        requires factor { InRange factor }
+        ensures { IfOk result (λ row. row ≡ slice_set (zeros (suc n)) column factor) }
+    {
+        let mut numbers = vec![in alloc; 0i128; n + 1]?;
+        numbers[column] = factor;
+        let row = Row::from_slice(alloc, &numbers)?;
+        Ok(row)
     }
 
     /// The same row again.
     pub fn copy(&self) -> Result<Row, AllocError>
         ensures { IfOk result (λ row. row ≡ self.now) }
     {
-        let entries = SmallVec::from_slice(*self.entries.allocator(), self.entries.as_slice())?;
-        Ok(Row { entries })
+        let entries = entries::copy_entries(*self.entries.allocator(), self.entries.as_slice())?;
+        Ok(Row {
+            entries,
+            narrow: self.narrow,
+        })
     }
 
     /// The number of columns.
@@ -97,6 +128,21 @@ impl Row {
         entries::pivot_of(self.entries.as_slice())
     }
 
+    /// The product with a row of the same width where both are seen to be narrow: then no product and no sum passes.
+    #[inline(always)]
+    pub fn narrow_dot(&self, other: &Row) -> Option<i128>
+        requires { length self.now ≡ length other.now }
+        ensures exact { IfSome result (λ p. checked_product self.now other.now ≡ Ok p) }
+        ensures value { IfSome result (λ p. p ≡ product self.now other.now) }
+    {
+        if self.narrow && other.narrow {
+            let (xs, ys) = (self.entries.as_slice(), other.entries.as_slice());
+            Some(entries::narrow_product(xs, ys))
+        } else {
+            None
+        }
+    }
+
     /// The product with a row of the same width, or the first product or partial sum that passes, columns from 0 up.
     #[tactic(auto, using(crate::proofs::FirstPassing::product_rules))]
     pub fn dot(&self, other: &Row) -> Result<i128, Excess>
@@ -106,7 +152,10 @@ impl Row {
         ensures in_range { IfOk result InRange }
         ensures first { NamesFirst (product_operations self.now other.now) result }
     {
-        entries::product_from(0, self.entries.as_slice(), other.entries.as_slice())
+        match self.narrow_dot(other) {
+            Some(product) => Ok(product),
+            None => entries::product_from(0, self.entries.as_slice(), other.entries.as_slice()),
+        }
     }
 
     /// The product with the vector whose column 0 is `divisor` and whose further columns are `numerators`.
@@ -133,7 +182,8 @@ impl Row {
     {
         let (us, vs) = (self.entries.as_slice(), other.entries.as_slice());
         let entries = entries::blend(*self.entries.allocator(), a, b, us, vs)?;
-        Ok(Row { entries })
+        let narrow = entries::are_narrow(entries.as_slice());
+        Ok(Row { entries, narrow })
     }
 
     /// `(-c.v) u + (c.u) v` in lowest terms, for `c.u` above 0 and `c.v` below: its product with `c` is 0. Or the first
@@ -154,6 +204,13 @@ impl Row {
         let mut row = u.blend(opposite(below), above, v)?;
         row.lowest_terms();
         Ok(row)
+    }
+
+    /// Whether both have the same numbers.
+    pub fn same(&self, other: &Row) -> bool
+        ensures { IsTrue result ↔ (self.now ≡ other.now) }
+    {
+        self.entries.as_slice() == other.entries.as_slice()
     }
 
     // Puts 0 into a column.
@@ -188,7 +245,10 @@ impl Row {
         ensures { IfOk result (λ row. row ≡ negated self.now) }
     {
         let entries = entries::negate_entries(*self.entries.allocator(), self.entries.as_slice())?;
-        Ok(Row { entries })
+        Ok(Row {
+            entries,
+            narrow: self.narrow,
+        })
     }
 
     /// Divides the row by the greatest number that divides each entry, that of column 0 among them.
@@ -199,6 +259,7 @@ impl Row {
         let divisor = entries::divisor_of(self.entries.as_slice());
         if divisor > 1 {
             entries::divide(self.entries.as_mut_slice(), divisor);
+            self.narrow = entries::are_narrow(self.entries.as_slice());
         }
     }
 

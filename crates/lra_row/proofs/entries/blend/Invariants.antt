@@ -1,4 +1,5 @@
-use Rattle.std.proofs.Common.{◌≡◌}
+-- The entries so far with those left over are the row, and there is room for each of these.
+use Rattle.std.proofs.Common.{◌≡◌, ◌+◌, ◌≤◌, length}
 use Rattle.std.specs.Slice.Iter.{iter_rest}
 use Rattle.std.specs.Iterator.Adapters.{zip_first, zip_second}
 use Rattle.lra_linear.specs.CheckedArithmetic.{checked_blend}
@@ -7,4 +8,9 @@ use Rattle.lra_row.proofs.entries.blend.Given as goal
 
 abbrev pub invariant-loop-u : goal.invariant-loop-u
 invariant-loop-u l =
-    prepend l.entries.items (checked_blend l.a l.b (iter_rest (zip_first l.u-iterator)) (iter_rest (zip_second l.u-iterator))) ≡ checked_blend l.a l.b l.us l.vs
+    let us = iter_rest (zip_first l.u-iterator) in
+    let vs = iter_rest (zip_second l.u-iterator) in
+    record {
+      value : prepend l.entries.items (checked_blend l.a l.b us vs) ≡ checked_blend l.a l.b l.us l.vs;
+      room : length l.entries.items + length us ≤ l.entries.capacity;
+    }

@@ -16,7 +16,8 @@ invariant_of-self c =
     let d = c.divisor_of-divisor.result in
     let fd : FitsSigned w128 d = search rules in
     let w : c.divide.new.xs ≡ divided d xs = simp to_z-of_z at c.divide.ensures ∙ ap (divided d) c.as_mut_slice.ensures.value in
-    subst (All InRange) (sym (refilled xs c.divide.new.xs d w)) (divided_in_range xs d (omega (arith, ints, c.if-divisor-gt1.true)) c.self.invariant)
+    let e = refilled xs c.divide.new.xs d w in
+    (subst (All InRange) (sym e) (divided_in_range xs d (omega (arith, ints, c.if-divisor-gt1.true)) c.self.invariant.0), search rules)
 
 pub returns-then-divisor-gt1 : goal.returns-then-divisor-gt1
 returns-then-divisor-gt1 c =

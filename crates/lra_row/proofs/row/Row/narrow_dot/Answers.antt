@@ -1,0 +1,13 @@
+-- Goals of `Row::narrow_dot`: the product with a row where both are narrow.
+use Rattle.std.proofs.Common.{rules, FitsSigned, ◌≡◌, Ok, sym}
+use Rattle.std.specs.Int.{w128}
+use Rattle.std.proofs.lemmas.Int.{to_z-of_z}
+use Rattle.lra_linear.specs.CheckedArithmetic.{checked_product}
+use Rattle.lra_linear.proofs.CheckedArithmetic.{checked_product_value}
+use Rattle.lra_row.proofs.row.Row.narrow_dot.Goals as goal
+
+pub returns-then-other-clause-value : goal.returns-then-other-clause-value
+returns-then-other-clause-value c =
+    let fp : FitsSigned w128 c.narrow_product.result = search rules in
+    let e : checked_product c.args.self.now c.args.other.now ≡ Ok c.narrow_product.result = search rules in
+    simp to_z-of_z (checked_product_value c.args.self.now c.args.other.now (Ok c.narrow_product.result) (sym e))
