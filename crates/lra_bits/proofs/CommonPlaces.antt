@@ -54,7 +54,7 @@ word_skip m rows marked at n word b eb f w j h = (
     never q = cc
 
 -- a bit of a word of packed values
-packed_bit : (values : List Bool) (words : List ℕ) (at j : ℕ) → ArePacked values words → j < 64 → (bit_at (get_or words at 0) j == 1) ≡ value_at values (at * 64 + j)
+pub packed_bit : (values : List Bool) (words : List ℕ) (at j : ℕ) → ArePacked values words → j < 64 → (bit_at (get_or words at 0) j == 1) ≡ value_at values (at * 64 + j)
 packed_bit values words at j p h =
     let a : (at * 64 + j) / 64 ≡ at = omega arith in
     let b : (at * 64 + j) % 64 ≡ j = omega arith in
@@ -76,6 +76,14 @@ word_meet m rows marked at n word row words er p b eb tb w j h =
       (λ t. let two = ones.0 (sym is ∙ t) in common_more m rows marked n k ((w j h).0 two.0) (λ _. sym same ∙ ap (λ z. z == 1) two.1)),
       (λ c. is ∙ ones.1 ((w j h).1 (common_fewer m rows marked n k c), eqb-true y 1 (same ∙ c n (omega arith) (sym eb ∙ tb)))),
     )
+
+-- no place of the word is common to the first rows, so none is to all
+pub none_common : (m : Matrix) (rows : List ℕ) (marked : List Bool) (at n word : ℕ) → n < length rows → word ≡ 0
+    → IsCommonWord m rows marked at (n + 1) word → IsCommonWord m rows marked at (length rows) 0
+none_common m rows marked at n word l z w j h = (
+  (λ t. absurd (omega (arith, t, bit_at-zero j))),
+  (λ c. absurd (omega (arith, (w j h).1 (λ i b. c i (omega (arith, b, l))), ap (λ x. bit_at x j) z, bit_at-zero j))),
+)
 
 -- ---- one word after the other
 module _ (m : Matrix) (rows : List ℕ) (marked : List Bool) (first second at word some others : ℕ) (w : IsCommonWord m rows marked at (length rows) word)

@@ -6,3 +6,4 @@ pub mod Widening
 pub mod CommonPlaces
 pub mod Turning
 pub mod WithinRows
+pub mod Places

@@ -1,5 +1,6 @@
 -- Lists of truth values.
-use Rattle.std.specs.Prelude.{◌≡◌, ℕ, Bool, true, false, ◌&&◌, List, [], ◌∷◌, slice_index_or}
+use Rattle.std.specs.Prelude.{◌≡◌, ℕ, ◌<◌, Bool, true, false, ◌&&◌, List, [], ◌∷◌, length, slice_index_or}
+use Rattle.std.specs.List.{All}
 
 -- the truth value at a place, false past the end
 abbrev pub value_at : List Bool → ℕ → Bool
@@ -18,3 +19,10 @@ abbrev pub both : List Bool → List Bool → List Bool
 both [] ys = []
 both (x ∷ xs) [] = []
 both (x ∷ xs) (y ∷ ys) = (x && y) ∷ both xs ys
+
+-- of the first n places those with a value that is true
+pub record ArePlaces (values : List Bool) (n : ℕ) (places : List ℕ) : Type 0 where
+  pub inside : All (λ c. c < n) places
+  pub each : (i : ℕ) → i < length places → value_at values (slice_index_or places i 0) ≡ true
+  pub whole : (c : ℕ) → c < n → value_at values c ≡ true →
+      (i : ℕ) × (i < length places) × (slice_index_or places i 0 ≡ c)

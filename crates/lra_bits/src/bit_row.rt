@@ -1,11 +1,12 @@
 //! Lists of truth values as words.
 
 ghost use Rattle.std.specs.Prelude.{◌≡◌, ℕ, ◌<◌, ◌≤◌, ◌↔◌, ◌++◌, ◌∷◌, Bool, true, false, List, [], length};
-ghost use Rattle.std.specs.Prelude.{replicate, slice_set, IfOk, OnOk, OnErr, IsTrue};
-ghost use Rattle.lra_bits.specs.TruthValues.{value_at, are_true, IsSubset, both};
+ghost use Rattle.std.specs.Prelude.{replicate, slice_set, IfOk, OnOk, OnErr, IsTrue, ◌+◌, ◌*◌, ◌==◌, min};
+ghost use Rattle.std.specs.Int.{bit_at};
+ghost use Rattle.lra_bits.specs.TruthValues.{value_at, are_true, ArePlaces, IsSubset, both};
 ghost use Rattle.lra_bits.specs.Words.{bit_of, unpacked, words_needed, ArePacked};
 
-use crate::words::{self, WORD};
+use crate::words::{self, WORD, clear};
 use std::alloc::{AllocError, Global};
 use std::marker::Model;
 
@@ -79,6 +80,19 @@ impl BitRow {
         true
     }
 
+    /// Of the first so many places those with a value that is true.
+    pub fn places(&self, alloc: Global, count: usize) -> Result<Vec<usize>, AllocError>
+        requires { count ≤ length self.now }
+        ensures { IfOk result (λ places. ArePlaces self.now count places.items) }
+    {
+        let words = self.words();
+        let mut places = Vec::with_capacity(alloc, count)?;
+        for at in 0..count.div_ceil(WORD) {
+            push_places(&mut places, words[at], at, count)?;
+        }
+        Ok(places)
+    }
+
     /// Puts a truth value at a place.
     pub fn set(&mut self, k: usize, v: bool)
         requires { k < length self.old }
@@ -149,4 +163,30 @@ impl BitRow {
     {
         words::are_common_within(&self.words, &second.words, &third.words)
     }
+}
+
+// Puts the places below `count` of the bits of the word at `at` behind what is there.
+fn push_places(
+    places: &mut Vec<usize>,
+    word: u64,
+    at: usize,
+    count: usize,
+) -> Result<(), AllocError>
+    requires { at * 64 < count }
+    ensures { OnOk result ((values : List Bool) →
+        ((j : ℕ) → j < 64 → value_at values (at * 64 + j) ≡ (bit_at word j == 1)) →
+        ArePlaces values (min count (at * 64)) places.old.items →
+        ArePlaces values (min count (at * 64 + 64)) places.new.items) }
+{
+    let mut left = word;
+    while left != 0 {
+        let bit = left.trailing_zeros() as usize;
+        let place = at * WORD + bit;
+        if place >= count {
+            return Ok(());
+        }
+        places.push(place)?;
+        left = clear(left, bit);
+    }
+    Ok(())
 }

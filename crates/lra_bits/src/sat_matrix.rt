@@ -6,7 +6,7 @@ ghost use Rattle.std.specs.Prelude.{ℕ, ◌↔◌, ◌+◌, ◌*◌};
 ghost use Rattle.std.specs.Int.{bit_at};
 ghost use Rattle.lra_bits.specs.Matrix.{Matrix, unmarked, IsCommon, TellsCommon, TellsWithin};
 ghost use Rattle.std.specs.Prelude.{Bool, false, replicate, IsTrue};
-ghost use Rattle.lra_bits.specs.TruthValues.{value_at};
+ghost use Rattle.lra_bits.specs.TruthValues.{value_at, ArePlaces};
 ghost use Rattle.lra_bits.specs.Turned.{AreColumns, AreWider, IsMarked, is_in_word};
 ghost use Rattle.lra_bits.specs.Words.{words_needed};
 
@@ -119,7 +119,28 @@ impl SatMatrix {
         None
     }
 
-    /// The matrix with rows and columns exchanged. It takes as many steps as there are values that are true.
+    /// As `find_within`, by the columns, where they are at hand, and the places where the first row is true.
+    pub fn find_within_by(
+        &self,
+        columns: &SatMatrix,
+        places: &[usize],
+        first: usize,
+        second: usize,
+    ) -> Option<usize>
+        requires first { first < length self.now.rows }
+        requires second { second < length self.now.rows }
+        requires columns { AreColumns self.now (length columns.now.rows) columns.now }
+        requires places { ArePlaces (slice_index_or self.now.rows first []) (length columns.now.rows) places.now }
+        ensures { TellsWithin self.now first second result }
+    {
+        if columns.height() == self.width() {
+            columns.find_common(places, self.row(second), first, second)
+        } else {
+            self.find_within(first, second)
+        }
+    }
+
+    /// The matrix with rows and columns exchanged. It takes a step for each word and each value that is true.
     pub fn turned(&self, alloc: Global) -> Result<SatMatrix, AllocError>
         ensures { IfOk result (λ columns. AreColumns self.now self.now.width columns) }
     {
@@ -145,6 +166,9 @@ impl SatMatrix {
         for i in 0..rows.len() {
             if marked.get(rows[i]) {
                 word &= self.rows[rows[i]].words()[at];
+                if word == 0 {
+                    return 0;
+                }
             }
         }
         word

@@ -39,10 +39,7 @@ pub fn are_common_within(xs: &[u64], ys: &[u64], zs: &[u64]) -> bool
     ensures within { IsTrue result ↔ AreCommonWithin xs.now ys.now zs.now }
     ensures fit { All (λ x. x < 2 ^ 64) xs.now }
 {
-    xs.iter()
-        .zip(ys)
-        .zip(zs)
-        .all(|((x, y), z)| (x & y) & z == x & y)
+    are_common_within_from(xs, ys, zs, 0)
 }
 
 /// The word at `at` without the bit of this place, which may stand in another word.

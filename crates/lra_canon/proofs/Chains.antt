@@ -6,7 +6,7 @@ use Rattle.std.proofs.lemmas.Bool.{cases_lt}
 use Rattle.std.proofs.lemmas.Int.{ints, to_z-of_z}
 use Rattle.std.proofs.lemmas.List.{take_more, take_all}
 use Rattle.std.proofs.lemmas.List.Elements.{Contains-append_left, Contains-append_right}
-use Rattle.std.specs.List.{Contains}
+use Rattle.std.specs.List.{All, Contains}
 use Rattle.lra_linear.specs.declared.Excess as E
 use Rattle.lra_linear.specs.Vectors.{entry}
 use Rattle.lra_linear.specs.LowestTerms.{IsLowest}
@@ -220,6 +220,22 @@ partly_end form i start now end e p l = record {
 
 pub partly_chain : (form : List (List ℤ)) (i : ℕ) (start now end : List ℤ) → i ≡ length form → IsPartly form i start now → IsLowest now end → IsChainEnd form start end
 partly_chain form i start now end e p l = (now, subst (λ (rows : List (List ℤ)). Clears rows start now) (take_all i form (omega (arith, e))) p.clears, l)
+
+-- ---- a row that is 0 at the pivots already
+clear_chain : (form : List (List ℤ)) (r : List ℤ) → All (λ line. entry r (pivot line) ≡ pos 0) form → Clears form r r
+clear_chain [] r h = refl
+clear_chain (line ∷ form) r h = (r, inl (h 0 line (omega arith), refl), clear_chain form r (λ k d l. h (suc k) d (omega (arith, l))))
+
+pub clear_end : (form : List (List ℤ)) (r t : List ℤ) → All (λ line. entry r (pivot line) ≡ pos 0) form → IsLowest r t → IsChainEnd form r t
+clear_end form r t h l = (r, clear_chain form r h, l)
+
+pub clear_reduced : (form : List (List ℤ)) (r t : List ℤ) → All (λ line. entry r (pivot line) ≡ pos 0) form → IsLowest r t → IsReducedBy form r t
+clear_reduced form r t h l = record {
+  same_length = l.same_length;
+  along = along_lowest form r r t l (along_same form r r refl);
+  zeros = λ line k. no_product l.times (entry t (pivot line)) l.positive (l.is_multiple (pivot line) ∙ ap (λ (x : List ℤ). entry r (pivot x)) (sym k.2) ∙ h k.0 line k.1);
+  lowest = l.lowest;
+}
 
 -- ---- what the code computes in one step
 pub cleared_step : (line r sum next : List ℤ) (p : ℕ) (x a y : ℤ) → p ≡ pivot line → x ≡ entry r p → a ≡ entry line p → y ≡ neg_ℤ x → FitsSigned w128 x → ¬ (of_z w128 x ≡ 0) →

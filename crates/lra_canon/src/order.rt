@@ -2,6 +2,7 @@
 
 ghost use Rattle.std.specs.Prelude.{◌≡◌, OnOk, OnErr};
 ghost use Rattle.std.specs.List.Sorted.{IsPermutation, IsSorted};
+ghost use Rattle.lra_linear.specs.RowOrder.{inequality_cmp};
 ghost use Rattle.lra_canon.specs.Ordered.{cmp_by, pivot_cmp, IsOneOrder};
 
 use lra_row::Row;
@@ -26,11 +27,21 @@ fn compare_pivots(left: &Row, right: &Row) -> Ordering
     (first == 0).cmp(&(second == 0)).then(first.cmp(&second))
 }
 
+fn compare_inequalities(left: &Row, right: &Row) -> Ordering
+    ensures { result ≡ inequality_cmp left.now right.now }
+{
+    let order = left.pivot().cmp(&right.pivot());
+    if order != Ordering::Equal {
+        return order;
+    }
+    right.compare(left)
+}
+
 fn compare_by(order: Order, left: &Row, right: &Row) -> Ordering
     ensures { result ≡ cmp_by order left.now right.now }
 {
     match order {
-        Order::Inequalities => left.pivot().cmp(&right.pivot()).then(right.compare(left)),
+        Order::Inequalities => compare_inequalities(left, right),
         Order::Generators => left.compare(right),
         Order::Pivots => compare_pivots(left, right),
     }

@@ -1,7 +1,9 @@
 //! Reductions of a row by an echelon form.
 
-ghost use Rattle.std.specs.Prelude.{◌≡◌, ◌<◌, length, IfOk, IfErr, OnOk, OnErr};
+ghost use Rattle.std.specs.Prelude.{◌≡◌, ◌<◌, pos, length, IfOk, IfErr, OnOk, OnErr, IsTrue};
 ghost use Rattle.std.specs.List.{All};
+ghost use Rattle.lra_linear.specs.Echelon.{pivot};
+ghost use Rattle.lra_linear.specs.Vectors.{entry};
 ghost use Rattle.lra_canon.specs.Reduced.{IsForm, SameSolutions, IsReducedBy, IsOneReduced, IsCleared};
 ghost use Rattle.lra_canon.specs.Reduced.{IsClearingExcess, IsChainEnd, IsFirstExcess, IsReductionExcess};
 
@@ -44,6 +46,20 @@ pub(crate) fn reduce_by(row: &Row, form: &[Row]) -> Result<Row, RowError>
     Ok(now)
 }
 
+// Whether the row is 0 at the pivot of each row of the form: then it is only taken in lowest terms.
+fn is_clear(row: &Row, form: &[Row]) -> bool
+    requires widths { All (λ line. length line ≡ length row.now) form.now }
+    requires wide { 0 < length row.now }
+    ensures { IsTrue result → All (λ line. entry row.now (pivot line) ≡ pos 0) form.now }
+{
+    for line in form {
+        if row.get(line.pivot()) != 0 {
+            return false;
+        }
+    }
+    true
+}
+
 /// Clears the row at the pivot of each row of the echelon form and takes it in lowest terms: with the form's equalities
 /// its solutions stay the same, and rows with the same solutions become equal. Or names the first number that passes
 /// the range, the rows of the form taken in their order, and leaves the row as it was.
@@ -60,6 +76,10 @@ pub fn reduce(row: &mut Row, form: &[Row]) -> Result<(), RowError>
     ensures excess { IfErr result (IsReductionExcess form.now row.old) }
     ensures unchanged { OnErr result (row.new ≡ row.old) }
 {
+    if is_clear(row, form) {
+        row.lowest_terms();
+        return Ok(());
+    }
     *row = reduce_by(row, form)?;
     Ok(())
 }

@@ -1,7 +1,8 @@
 //! Inequalities without the redundant ones, told from which generators they are tight at.
 
-ghost use Rattle.std.specs.Prelude.{◌≡◌, ◌<◌, ◌↔◌, length, IsTrue, IfOk, OnOk, OnErr};
+ghost use Rattle.std.specs.Prelude.{◌≡◌, ◌<◌, ◌≤◌, ◌↔◌, length, IsTrue, IfOk, OnOk, OnErr};
 ghost use Rattle.lra_bits.specs.Matrix.{unmarked};
+ghost use Rattle.lra_bits.specs.Turned.{AreColumns};
 ghost use Rattle.lra_canon.specs.Irredundant.{IsCoveredBy, IsCovered, AreMarks, AreKept, WithoutRedundant};
 
 use lra_bits::{BitRow, SatMatrix};
@@ -38,15 +39,40 @@ fn has_cover(saturation: &SatMatrix, gone: &BitRow, place: usize) -> bool
     false
 }
 
-// Whether some row covers the row at `place`. The marks are only looked at where some other row is true wherever it is.
-fn is_covered(saturation: &SatMatrix, gone: &BitRow, place: usize) -> bool
-    requires place { place < length saturation.now.rows }
-    requires marks { length gone.now ≡ length saturation.now.rows }
-    ensures { IsTrue result ↔ IsCovered saturation.now.rows gone.now place }
+// From so many rows on, where they are more than the columns, these are made: else each row is sooner tried with each.
+const MANY_ROWS: usize = 64;
+
+// The columns, or none.
+fn find_columns(alloc: Global, saturation: &SatMatrix) -> Result<SatMatrix, AllocError>
+    ensures columns { IfOk result (λ columns. AreColumns saturation.now (length columns.rows) columns) }
+    ensures most { IfOk result (λ columns. length columns.rows ≤ saturation.now.width) }
 {
-    match saturation.find_within(place, place) {
-        Some(_) => has_cover(saturation, gone, place),
-        None => false,
+    if saturation.height() >= MANY_ROWS && saturation.height() > saturation.width() {
+        let columns = saturation.turned(alloc)?;
+        Ok(columns)
+    } else {
+        Ok(SatMatrix::new(alloc, saturation.height()))
+    }
+}
+
+// Whether some row covers the row at `place`. The marks are only looked at where some other row is true wherever it is.
+fn is_covered(
+    alloc: Global,
+    saturation: &SatMatrix,
+    columns: &SatMatrix,
+    gone: &BitRow,
+    place: usize,
+) -> Result<bool, AllocError>
+    requires place { place < length saturation.now.rows }
+    requires columns { AreColumns saturation.now (length columns.now.rows) columns.now }
+    requires most { length columns.now.rows ≤ saturation.now.width }
+    requires marks { length gone.now ≡ length saturation.now.rows }
+    ensures { IfOk result (λ covered. IsTrue covered ↔ IsCovered saturation.now.rows gone.now place) }
+{
+    let places = saturation.row(place).places(alloc, columns.height())?;
+    match saturation.find_within_by(columns, &places, place, place) {
+        Some(_) => Ok(has_cover(saturation, gone, place)),
+        None => Ok(false),
     }
 }
 
@@ -55,9 +81,11 @@ fn redundant(alloc: Global, rows: &[Row], saturation: &SatMatrix) -> Result<BitR
     requires { length saturation.now.rows ≡ length rows.now }
     ensures { IfOk result (λ gone. AreMarks rows.now saturation.now gone (length rows.now)) }
 {
+    let columns = find_columns(alloc, saturation)?;
     let mut gone = BitRow::new(alloc, rows.len())?;
     for place in 0..rows.len() {
-        if is_covered(saturation, &gone, place) {
+        let covered = is_covered(alloc, saturation, &columns, &gone, place)?;
+        if covered {
             gone.set(place, true);
         }
     }

@@ -2,9 +2,8 @@
 
 ghost use Rattle.std.specs.Prelude.{◌≤◌, length, IfOk};
 ghost use Rattle.lra_bits.specs.Turned.{AreColumns};
-ghost use Rattle.lra_steps.specs.Thirds.{ArePlaces};
 
-use lra_bits::{BitRow, SatMatrix};
+use lra_bits::SatMatrix;
 use std::alloc::{AllocError, Global};
 
 /// The columns, or none: they are made where there are more pairs of rays on both sides than rows, as they cost more
@@ -24,18 +23,4 @@ pub fn find_columns(
     } else {
         Ok(SatMatrix::new(alloc, matrix.height()))
     }
-}
-
-/// Of the first so many places those with a value that is true.
-pub fn true_places(alloc: Global, values: &BitRow, count: usize) -> Result<Vec<usize>, AllocError>
-    requires { count ≤ length values.now }
-    ensures { IfOk result (λ places. ArePlaces values.now count places.items) }
-{
-    let mut places = Vec::new(alloc);
-    for place in 0..count {
-        if values.get(place) {
-            places.push(place)?;
-        }
-    }
-    Ok(places)
 }

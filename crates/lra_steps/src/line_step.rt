@@ -161,7 +161,7 @@ pub fn flat_rays(
     ensures ok { IfOk result (λ out. AreFlatRays (is_equality kind) line.now products.now rays.now out.items) }
     ensures strained { IfErr result (IsFlatteningError line.now products.now rays.now Rays) }
 {
-    let mut out = Vec::new(alloc);
+    let mut out = Vec::with_capacity(alloc, rays.len())?;
     if kind == ConKind::Ge {
         out.push(line.up.copy()?)?;
     }

@@ -3,13 +3,13 @@
 ghost use Rattle.std.specs.Prelude.{◌≡◌, ◌≢◌, ◌<◌, ◌≤◌, ◌+◌, ◌<ℤ◌, ℤ, List, [], pos, length};
 ghost use Rattle.std.specs.Prelude.{IfOk, OnOk, IsTrue, IsFalse, slice_index_or};
 ghost use Rattle.std.specs.List.{All};
-ghost use Rattle.lra_bits.specs.TruthValues.{IsSubset};
+ghost use Rattle.lra_bits.specs.TruthValues.{ArePlaces, IsSubset};
 ghost use Rattle.lra_steps.specs.Pairs.{TellsAdjacent, HasThird, ArePairs, both_tight};
 ghost use Rattle.lra_steps.specs.Below.{AreBelow};
 ghost use Rattle.lra_bits.specs.Turned.{AreColumns};
-ghost use Rattle.lra_steps.specs.Thirds.{ArePlaces, TellsThird};
+ghost use Rattle.lra_steps.specs.Thirds.{TellsThird};
 
-use crate::columns::{find_columns, true_places};
+use crate::columns::find_columns;
 use crate::sides::{count_above, places_below};
 use lra_bits::{BitRow, SatMatrix};
 use std::alloc::{AllocError, Global};
@@ -52,11 +52,7 @@ fn find_third(
     requires places { ArePlaces (slice_index_or saturation.now.rows up []) (length columns.now.rows) places.now }
     ensures { TellsThird saturation.now.rows up down (both_tight saturation.now.rows up down) result }
 {
-    if columns.height() == saturation.width() {
-        columns.find_common(places, saturation.row(down), up, down)
-    } else {
-        saturation.find_within(up, down)
-    }
+    saturation.find_within_by(columns, places, up, down)
 }
 
 // No third ray is tight wherever both are. The one that kept the last two rays apart is tried first; the one that is
@@ -104,7 +100,9 @@ fn push_pairs_of(
         ArePairs products saturation.now.rows up 0 pairs.old.items →
         ArePairs products saturation.now.rows (up + 1) 0 pairs.new.items) }
 {
-    let places = true_places(*pairs.allocator(), saturation.row(up), columns.height())?;
+    let places = saturation
+        .row(up)
+        .places(*pairs.allocator(), columns.height())?;
     let mut known = up;
     for i in 0..downs.len() {
         let down = downs[i];

@@ -2,5 +2,5 @@
 use Rattle.lra_canon.proofs.Covers.{covered_by_none}
 use Rattle.lra_canon.proofs.redundancy.is_covered.Goals as goal
 
-pub returns-in-None : goal.returns-in-None
-returns-in-None c = covered_by_none c.args.saturation.now c.args.gone.now c.args.place c.find_within.result c.in-None.is c.find_within.ensures
+pub returns : goal.returns
+returns c = covered_by_none c.args.saturation.now c.args.gone.now c.args.place c.find_within_by.result c.in-None.is c.find_within_by.ensures
