@@ -1,5 +1,6 @@
 -- Lists of generators whose columns 0 are as their kinds ask.
-use Rattle.std.proofs.Common.{List, [], ◌∷◌, inl, inr, refl, subst, ℤ}
+use Rattle.std.proofs.Common.{◌≡◌, ℕ, zero, suc, List, [], ◌∷◌, Some, inl, inr, refl, subst, ℤ}
+use Rattle.std.specs.Prelude.{slice_get}
 use Rattle.lra_linear.specs.Descriptions.{Given, IsGenerator, AreGenerators}
 use Rattle.lra_linear.proofs.Membership.{contains_none, contains_cases}
 use Rattle.lra_linear.specs.declared.GenKind.{GenKind}
@@ -22,3 +23,14 @@ all_generators (r ∷ rows) (kind ∷ kinds) h g k = elim (contains_cases (let x
 
 pub fitting_are_generators : (s : Listed GenKind) → FitKinds s.rows s.kinds → AreGenerators (generators s)
 fitting_are_generators s = all_generators s.rows s.kinds
+
+-- the one at a place fits its own
+pub fits_at : (rows : List (List ℤ)) (kinds : List GenKind) (i : ℕ) (r : List ℤ) (k : GenKind) → FitKinds rows kinds → slice_get rows i ≡ Some r → slice_get kinds i ≡ Some k →
+    FitsKind k r
+fits_at [] kinds i r k f row kind = let wrong : ⊥ = cc in absurd wrong
+fits_at (x ∷ rows) [] i r k f row kind = let wrong : ⊥ = cc in absurd wrong
+fits_at (x ∷ rows) (y ∷ kinds) zero r k f row kind = subst (λ (z : GenKind). FitsKind z r) (it_is kind) (subst (FitsKind y) (it_is row) f.0)
+  where
+    it_is : {A : Type 0} {a b : A} → Some a ≡ Some b → a ≡ b
+    it_is e = cc
+fits_at (x ∷ rows) (y ∷ kinds) (suc i) r k f row kind = fits_at rows kinds i r k f.1 row kind

@@ -2,5 +2,5 @@ pub mod FirstMembers
 pub mod Places
 pub mod Generators
 pub mod MembershipExamples
-pub mod UnitRows
 pub mod GivenRows
+pub mod SameLists

@@ -2,10 +2,12 @@
 #![tactic(auto)]
 
 mod membership;
+mod sameness;
 mod system;
 mod units;
 
 pub use lra_linear::{ConKind, GenKind};
 pub use membership::Holds;
+pub use sameness::are_same;
 pub use system::{ConSys, GenSys, TOO_MANY_DIMENSIONS};
 pub use units::unit;

@@ -1,9 +1,10 @@
 //! Rows of one width, each with a kind.
 
-ghost use Rattle.std.specs.Prelude.{◌≡◌, ◌++◌, ◌∷◌, [], suc, ◌<◌, length, IfOk, OnOk, OnErr};
+ghost use Rattle.std.specs.Prelude.{◌≡◌, ◌++◌, ◌∷◌, [], suc, ◌<◌, length, IfOk, OnOk, OnErr, Some, slice_get};
 ghost use Rattle.std.specs.List.{All};
 ghost use Rattle.lra_linear.specs.Range.{InRange};
 ghost use Rattle.lra_sys.specs.Dimensions.{too_many_dimensions};
+ghost use Rattle.lra_sys.specs.Listed.{FitsKind, FitKinds};
 
 use lra_linear::{ConKind, GenKind};
 use lra_row::Row;
@@ -72,6 +73,25 @@ impl<K: Copy> System<K> {
         self.dims
     }
 
+    /// The number of rows.
+    pub fn len(&self) -> usize
+        ensures rows { result ≡ length self.now.rows }
+        ensures kinds { result ≡ length self.now.kinds }
+    {
+        self.rows.len()
+    }
+
+    /// The row at a place, and its kind.
+    pub fn at(&self, place: usize) -> (&Row, K)
+        requires { place < length self.now.rows }
+        ensures row { slice_get self.now.rows place ≡ Some result.0.now }
+        ensures kind { slice_get self.now.kinds place ≡ Some result.1 }
+        ensures width { length result.0.now ≡ suc self.now.dims }
+        ensures in_range { All InRange result.0.now }
+    {
+        (&self.rows[place], self.kinds[place])
+    }
+
     /// Adds a row, the last.
     pub fn push(&mut self, row: Row, kind: K) -> Result<(), AllocError>
         requires { length row ≡ suc self.old.dims }
@@ -130,10 +150,24 @@ impl<K: Copy> System<K> {
     }
 }
 
+impl GenSys {
+    /// The generator at a place, and its kind, which its column 0 fits.
+    #[tactic(auto, using(crate::proofs::Generators::fits_at))]
+    pub fn generator(&self, place: usize) -> (&Row, GenKind)
+        requires place { place < length self.now.rows }
+        requires fit { FitKinds self.now.rows self.now.kinds }
+        ensures row { slice_get self.now.rows place ≡ Some result.0.now }
+        ensures kind { slice_get self.now.kinds place ≡ Some result.1 }
+        ensures fits { FitsKind result.1 result.0.now }
+    {
+        self.at(place)
+    }
+}
+
 fn copies(alloc: Global, rows: &[Row]) -> Result<Vec<Row>, AllocError>
     ensures { IfOk result (λ copied. copied.items ≡ rows.now) }
 {
-    let mut copied = Vec::new(alloc);
+    let mut copied = Vec::with_capacity(alloc, rows.len())?;
     for row in rows {
         copied.push(row.copy()?)?;
     }

@@ -13,8 +13,6 @@ pub fn unit(alloc: Global, n: usize, column: usize) -> Result<Row, AllocError>
     requires column { column ≤ n }
     ensures { IfOk result (λ row. row ≡ unit_row n column) }
 {
-    let mut numbers = vec![in alloc; 0i128; n + 1]?;
-    numbers[column] = 1;
-    let row = Row::from_slice(alloc, &numbers)?;
+    let row = Row::unit(alloc, n, column, 1)?;
     Ok(row)
 }
