@@ -24,7 +24,7 @@ use Rattle.lra_steps.specs.declared.strained.Family.TheVariants.{Lines, Rays}
 use Rattle.lra_steps.specs.declared.strained.Family.{Family}
 use Rattle.lra_steps.specs.declared.strained.Strained.{Strained}
 use Rattle.lra_steps.specs.declared.strained.Strained.TheVariants.{Product, Pair, TooMany}
-use Rattle.lra_sys.proofs.UnitRows.{unit_here, unit_length, unit_other}
+use Rattle.lra_linear.proofs.UnitRows.{unit_here, unit_length, unit_other}
 use Rattle.lra_cone.specs.Cones.{columns_from, unit_lines, whole_space}
 use Rattle.lra_cone.specs.Strains.{IsMember, IsStrain}
 use Rattle.lra_cone.proofs.StrainLemmas.{place_in}

@@ -21,7 +21,7 @@ use Rattle.lra_linear.proofs.Ring.{ring, v, ◌⊕◌, ◌⊗◌}
 use Rattle.lra_linear.proofs.Signs.{between_opposites}
 use Rattle.lra_linear.proofs.OneSpelling.{dot_zeros}
 use Rattle.lra_canon.proofs.Solutions.{behind_zero_from}
-use Rattle.lra_sys.proofs.UnitRows.{unit_here, unit_length, unit_other}
+use Rattle.lra_linear.proofs.UnitRows.{unit_here, unit_length, unit_other}
 use Rattle.lra_cone.specs.Cones.{IsCone, columns_from, unit_lines, whole_space}
 
 -- ---- unit rows

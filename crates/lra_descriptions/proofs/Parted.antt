@@ -183,18 +183,17 @@ without_widths w row rays others h p = All-permutation (λ r. length r ≡ w) (w
     (All-from_contains (λ r. length r ≡ w) (without row rays) (λ r m. All-contains (λ r. length r ≡ w) rays r h (without_from row rays r m).0))
 
 -- ---- the list of generators, as it is put together
-pub put_together : {E : Type 0} (lines rays points directions listed_points listed_directions : List (List ℤ)) (result : Result (Listed GenKind) E) → IsPermutation (points_of rays) points →
-    IsPermutation (directions_of rays) directions → IsSorted row_cmp points → IsSorted row_cmp directions → points ≢ [] → listed_points ≡ points → listed_directions ≡ directions →
-    IfOk result (λ list. list.rows ≡ (listed_points ++ listed_directions) ++ lines) →
-    IfOk result (λ list. list.kinds ≡ (replicate (length listed_points) Point ++ replicate (length listed_directions) Ray) ++ replicate (length lines) Line) →
+pub put_together : {E : Type 0} (lines rays points directions : List (List ℤ)) (result : Result (Listed GenKind) E) → IsPermutation (points_of rays) points →
+    IsPermutation (directions_of rays) directions → IsSorted row_cmp points → IsSorted row_cmp directions → points ≢ [] →
+    IfOk result (λ list. list.rows ≡ (points ++ directions) ++ lines) →
+    IfOk result (λ list. list.kinds ≡ (replicate (length points) Point ++ replicate (length directions) Ray) ++ replicate (length lines) Line) →
     IfOk result (ShowsGenerators lines rays)
-put_together lines rays points directions listed_points listed_directions (Err e) p d sp sd some lp ld r k = tt
-put_together lines rays points directions listed_points listed_directions (Ok list) p d sp sd some lp ld r k = inr (record {
+put_together lines rays points directions (Err e) p d sp sd some r k = tt
+put_together lines rays points directions (Ok list) p d sp sd some r k = inr (record {
   points = points;
   directions = directions;
-  rows_are = r ∙ ap (λ (x : List (List ℤ)). (x ++ listed_directions) ++ lines) lp ∙ ap (λ (x : List (List ℤ)). (points ++ x) ++ lines) ld;
-  kinds_are = k ∙ ap (λ (x : List (List ℤ)). (replicate (length x) Point ++ replicate (length listed_directions) Ray) ++ replicate (length lines) Line) lp ∙
-      ap (λ (x : List (List ℤ)). (replicate (length points) Point ++ replicate (length x) Ray) ++ replicate (length lines) Line) ld;
+  rows_are = r;
+  kinds_are = k;
   points_are = p;
   directions_are = d;
   points_sorted = sp;

@@ -7,7 +7,8 @@ ghost use Rattle.std.specs.Ordering.{is_eq};
 ghost use Rattle.lra_linear.specs.Vectors.{entry};
 ghost use Rattle.lra_linear.specs.RowOrder.{row_cmp};
 ghost use Rattle.lra_linear.specs.Polyhedra.{positivity};
-ghost use Rattle.lra_descriptions.specs.ShownLists.{points_of, directions_of, without, ShowsGenerators, ShowsConstraints};
+ghost use Rattle.lra_descriptions.specs.ShownLists.{points_of, directions_of, without, ShowsGenerators};
+ghost use Rattle.lra_descriptions.specs.ShownLists.{ShowsConstraints};
 ghost use Rattle.lra_sys.specs.Dimensions.{too_many_dimensions};
 ghost use Rattle.lra_linear.specs.declared.GenKind.TheVariants.{Point, Ray, Line};
 
@@ -85,6 +86,19 @@ fn push_generators(list: &mut GenSys, rows: &[Row], kind: GenKind) -> Result<(),
     Ok(())
 }
 
+// The same, of rows that are handed over.
+fn move_generators(list: &mut GenSys, rows: Vec<Row>, kind: GenKind) -> Result<(), AllocError>
+    requires { All (λ r. length r ≡ suc list.old.dims) rows.items }
+    ensures dims { list.new.dims ≡ list.old.dims }
+    ensures rows { OnOk result (list.new.rows ≡ list.old.rows ++ rows.items) }
+    ensures kinds { OnOk result (list.new.kinds ≡ list.old.kinds ++ replicate (length rows.items) kind) }
+{
+    for row in rows {
+        list.push(row, kind)?;
+    }
+    Ok(())
+}
+
 fn push_constraints(list: &mut ConSys, rows: &[Row], kind: ConKind) -> Result<(), AllocError>
     requires { All (λ r. length r ≡ suc list.old.dims) rows.now }
     ensures dims { list.new.dims ≡ list.old.dims }
@@ -93,6 +107,19 @@ fn push_constraints(list: &mut ConSys, rows: &[Row], kind: ConKind) -> Result<()
 {
     for row in rows {
         list.push_copy(row, kind)?;
+    }
+    Ok(())
+}
+
+// The same, of rows that are handed over.
+fn move_constraints(list: &mut ConSys, rows: Vec<Row>, kind: ConKind) -> Result<(), AllocError>
+    requires { All (λ r. length r ≡ suc list.old.dims) rows.items }
+    ensures dims { list.new.dims ≡ list.old.dims }
+    ensures rows { OnOk result (list.new.rows ≡ list.old.rows ++ rows.items) }
+    ensures kinds { OnOk result (list.new.kinds ≡ list.old.kinds ++ replicate (length rows.items) kind) }
+{
+    for row in rows {
+        list.push(row, kind)?;
     }
     Ok(())
 }
@@ -123,22 +150,22 @@ fn ordered_directions(alloc: Global, rays: &[Row]) -> Result<Vec<Row>, AllocErro
 fn listed_generators(
     alloc: Global,
     n: usize,
-    points: &[Row],
-    directions: &[Row],
+    points: Vec<Row>,
+    directions: Vec<Row>,
     lines: &[Row],
 ) -> Result<GenSys, AllocError>
     requires small { n < too_many_dimensions }
-    requires points { All (λ r. length r ≡ suc n) points.now }
-    requires directions { All (λ r. length r ≡ suc n) directions.now }
+    requires points { All (λ r. length r ≡ suc n) points.items }
+    requires directions { All (λ r. length r ≡ suc n) directions.items }
     requires lines { All (λ r. length r ≡ suc n) lines.now }
     ensures dims { IfOk result (λ list. list.dims ≡ n) }
-    ensures rows { IfOk result (λ list. list.rows ≡ (points.now ++ directions.now) ++ lines.now) }
-    ensures kinds { IfOk result (λ list. list.kinds ≡ (replicate (length points.now) Point
-        ++ replicate (length directions.now) Ray) ++ replicate (length lines.now) Line) }
+    ensures rows { IfOk result (λ list. list.rows ≡ (points.items ++ directions.items) ++ lines.now) }
+    ensures kinds { IfOk result (λ list. list.kinds ≡ (replicate (length points.items) Point
+        ++ replicate (length directions.items) Ray) ++ replicate (length lines.now) Line) }
 {
     let mut list = GenSys::new(alloc, n);
-    push_generators(&mut list, points, GenKind::Point)?;
-    push_generators(&mut list, directions, GenKind::Ray)?;
+    move_generators(&mut list, points, GenKind::Point)?;
+    move_generators(&mut list, directions, GenKind::Ray)?;
     push_generators(&mut list, lines, GenKind::Line)?;
     Ok(list)
 }
@@ -162,7 +189,7 @@ pub fn generator_list(
         return Ok(GenSys::new(alloc, n));
     }
     let directions = ordered_directions(alloc, rays)?;
-    listed_generators(alloc, n, &points, &directions, lines)
+    listed_generators(alloc, n, points, directions, lines)
 }
 
 /// The lines as equalities, then the rays but this one, in order, as inequalities.
@@ -184,6 +211,6 @@ pub fn constraint_list(
     let mut inequalities = others(alloc, rays, left_out)?;
     canonical_order(&mut inequalities, Order::Inequalities)?;
     push_constraints(&mut list, lines, ConKind::Eq)?;
-    push_constraints(&mut list, &inequalities, ConKind::Ge)?;
+    move_constraints(&mut list, inequalities, ConKind::Ge)?;
     Ok(list)
 }

@@ -90,11 +90,15 @@ fn low_product(xs: &[i128], ys: &[i128]) -> u64
     sum
 }
 
-/// Whether the product of the row with the generator is 0: it isn't where its lowest 64 bits aren't.
+/// Whether the product of the row with the generator is 0: it is told by the product itself where both are narrow, and
+/// isn't 0 where its lowest 64 bits aren't.
 pub fn saturates(row: &Row, generator: &Row) -> bool
     requires { length row.now ≡ length generator.now }
     ensures { result ≡ int_eq (product row.now generator.now) (pos 0) }
 {
+    if let Some(product) = row.narrow_dot(generator) {
+        return product == 0;
+    }
     if low_product(row.entries(), generator.entries()) != 0 {
         return false;
     }

@@ -25,7 +25,7 @@ fn lines_among(alloc: Global, list: &GenSys) -> Result<Vec<Row>, AllocError>
     ensures { IfOk result (λ lines. lines.items ≡ lines_of (generators list.now)) }
 {
     let (rows, kinds) = (list.rows(), list.kinds());
-    let mut lines = Vec::new(alloc);
+    let mut lines = Vec::with_capacity(alloc, rows.len())?;
     for place in 0..rows.len() {
         let row = &rows[place];
         if kinds[place].goes_both_ways() {
@@ -40,7 +40,7 @@ fn rays_among(alloc: Global, list: &GenSys) -> Result<Vec<Row>, AllocError>
     ensures { IfOk result (λ rays. rays.items ≡ rays_of (generators list.now)) }
 {
     let (rows, kinds) = (list.rows(), list.kinds());
-    let mut rays = Vec::new(alloc);
+    let mut rays = Vec::with_capacity(alloc, rows.len())?;
     for place in 0..rows.len() {
         let row = &rows[place];
         if !kinds[place].goes_both_ways() {

@@ -19,7 +19,7 @@ use Rattle.lra_linear.proofs.Polyhedra.{con_gen}
 use Rattle.lra_linear.proofs.Products.{blend_length, entry_blend}
 use Rattle.lra_linear.proofs.Ring.{ring, v, ⊖, ◌⊕◌, ◌⊗◌}
 use Rattle.lra_linear.proofs.Signs.{as_nat, positive_is_nonnegative, positive_nat, times_positive}
-use Rattle.lra_sys.proofs.UnitRows.{unit_here, unit_length, unit_other}
+use Rattle.lra_linear.proofs.UnitRows.{unit_here, unit_length, unit_other}
 use Rattle.lra_descriptions.proofs.SeveralKinds.{system_append}
 use Rattle.lra_sys.specs.Listed.{Listed, generators}
 use Rattle.lra_linear.specs.declared.GenKind.{GenKind}

@@ -14,7 +14,7 @@ use Rattle.lra_sys.specs.Listed.{FitKinds, FitsKind, Listed, generators, given_b
 use Rattle.lra_linear.specs.declared.GenKind.{GenKind}
 use Rattle.lra_linear.specs.declared.GenKind.TheVariants.{Line, Point, Ray}
 use Rattle.lra_descriptions.proofs.SeveralKinds.{fit_append, given_append}
-use Rattle.lra_sys.proofs.UnitRows.{unit_other}
+use Rattle.lra_linear.proofs.UnitRows.{unit_other}
 use Rattle.lra_lists.proofs.Sums.{mapped_by}
 
 -- ---- mapped row by row

@@ -3,6 +3,7 @@ pub mod GeneratorLists
 pub mod ConstraintLists
 pub mod TightRows
 pub mod OwnRows
+mod RowsReduced
 pub mod OwnSaturation
 pub mod OwnMade
 pub mod PairLists

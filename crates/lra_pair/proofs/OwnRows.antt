@@ -217,9 +217,9 @@ reduced_length form [] (t ∷ ts) a = absurd a
 reduced_length form (r ∷ rows) [] a = absurd a
 reduced_length form (r ∷ rows) (t ∷ ts) a = ap suc (reduced_length form rows ts a.1)
 
-pub as_many : (rays : List (List ℤ)) (lines : ℕ) (form loose seen reduced : List (List ℤ)) (bits : List (List Bool)) → AllTellTight rays lines loose bits → seen ≡ loose →
-    AreReducedBy form seen reduced → length bits ≡ length reduced
-as_many rays lines form loose seen reduced bits a e b = told_length rays lines loose bits a ∙ ap length (sym e) ∙ sym (reduced_length form seen reduced b)
+pub as_many : (rays : List (List ℤ)) (lines : ℕ) (form loose reduced : List (List ℤ)) (bits : List (List Bool)) → AllTellTight rays lines loose bits →
+    AreReducedBy form loose reduced → length bits ≡ length reduced
+as_many rays lines form loose reduced bits a b = told_length rays lines loose bits a ∙ sym (reduced_length form loose reduced b)
 
 -- no row, and some
 pub none_of : {A : Type 0} (xs : List A) (n : ℕ) (b : Bool) → length xs ≡ n → b ≡ (n == 0) → b ≡ true → xs ≡ []

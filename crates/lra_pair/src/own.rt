@@ -142,6 +142,22 @@ pub fn all_reduced(
     Ok(all)
 }
 
+// Reduces each of the rows by the form. Or names the first number that passes the range.
+fn reduce_all(rows: &mut Vec<Row>, form: &[Row], width: usize) -> Result<(), RowError>
+    requires wide { 0 < width }
+    requires rows { HaveWidth width rows.old.items }
+    requires form_widths { HaveWidth width form.now }
+    requires form { IsForm form.now }
+    ensures reduced { OnOk result (AreReducedBy form.now rows.old.items rows.new.items) }
+    ensures widths { OnOk result (HaveWidth width rows.new.items) }
+    ensures excess { IfErr result (AnyReductionExcess form.now rows.old.items) }
+{
+    for row in rows.iter_mut() {
+        reduce(row, form)?;
+    }
+    Ok(())
+}
+
 /// Lines and rays: of constraints the equalities and inequalities, of generators the lines and the points and rays.
 #[derive(Drop)]
 pub struct Own {
@@ -158,11 +174,11 @@ pub fn find_own_list(alloc: Global, cone: &Cone) -> Result<Own, RowError>
 {
     let Parts {
         tight: mut lines,
-        loose,
+        loose: mut rays,
         mut saturation,
     } = part_rows(alloc, cone)?;
     echelon(&mut lines)?;
-    let mut rays = all_reduced(alloc, &loose, &lines, cone.dims() + 1)?;
+    reduce_all(&mut rays, &lines, cone.dims() + 1)?;
     drop_redundant(&mut rays, &mut saturation)?;
     Ok(Own { lines, rays })
 }

@@ -3,7 +3,7 @@ use Rattle.std.proofs.Common.{ap, sym, subst, ◌∙◌, length, suc, false, Lis
 use Rattle.lra_linear.specs.OperationStrain.{unit_row}
 use Rattle.lra_cone.specs.Cones.{Shape}
 use Rattle.lra_cone.specs.Strains.{IsConeError, IsStrain}
-use Rattle.lra_sys.proofs.UnitRows.{unit_length}
+use Rattle.lra_linear.proofs.UnitRows.{unit_length}
 use Rattle.lra_cone.proofs.PositiveCone.{positive_strains_not}
 use Rattle.lra_cone.proofs.cone.positive_cone.Goals as goal
 

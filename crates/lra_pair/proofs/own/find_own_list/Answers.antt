@@ -20,43 +20,41 @@ returns-in_err-echelon-clause-excess c =
     in
     rw (p.1, p.2) f
 
-pub all_reduced-requires-clause-rows : goal.all_reduced-requires-clause-rows
-all_reduced-requires-clause-rows c =
+pub reduce_all-requires-clause-rows : goal.reduce_all-requires-clause-rows
+reduce_all-requires-clause-rows c =
     let s = c.args.cone.now in
     let loose = c.in_ok-lines.field-0.loose.items in
     let w : suc s.dims ≡ c.dims.result + 1 = omega (arith, c.dims.ensures) in
-    subst (λ (l : List (List ℤ)). HaveWidth (c.dims.result + 1) l) (sym c.deref.ensures.value)
-    (subst (λ (n : ℕ). HaveWidth n loose) w (all_width (suc s.dims) loose (loose_width s c.in_ok-lines.ensures.cone loose c.in_ok-lines.ensures.parts.is_loose)))
+    subst (λ (n : ℕ). HaveWidth n loose) w (all_width (suc s.dims) loose (loose_width s c.in_ok-lines.ensures.cone loose c.in_ok-lines.ensures.parts.is_loose))
 
-pub all_reduced-requires-clause-form_widths : goal.all_reduced-requires-clause-form_widths
-all_reduced-requires-clause-form_widths c =
+pub reduce_all-requires-clause-form_widths : goal.reduce_all-requires-clause-form_widths
+reduce_all-requires-clause-form_widths c =
     let s = c.args.cone.now in
     let tight = c.in_ok-lines.field-0.tight.items in
     let w : suc s.dims ≡ c.dims.result + 1 = omega (arith, c.dims.ensures) in
     let widths : HaveWidth (suc s.dims) c.echelon.new.lines.items = c.in_ok-echelon.ensures.widths (suc s.dims)
     (all_width (suc s.dims) tight (tight_width s c.in_ok-lines.ensures.cone tight c.in_ok-lines.ensures.parts.is_tight)) in
-    subst (λ (l : List (List ℤ)). HaveWidth (c.dims.result + 1) l) (sym c.deref-2.ensures.value) (subst (λ (n : ℕ). HaveWidth n c.echelon.new.lines.items) w widths)
+    subst (λ (l : List (List ℤ)). HaveWidth (c.dims.result + 1) l) (sym c.deref.ensures.value) (subst (λ (n : ℕ). HaveWidth n c.echelon.new.lines.items) w widths)
 
-pub returns-in_err-rays-clause-excess : goal.returns-in_err-rays-clause-excess
-returns-in_err-rays-clause-excess c =
+pub returns-in_err-reduce_all-clause-excess : goal.returns-in_err-reduce_all-clause-excess
+returns-in_err-reduce_all-clause-excess c =
     let s = c.args.cone.now in
     let tight = c.in_ok-lines.field-0.tight.items in
     let loose = c.in_ok-lines.field-0.loose.items in
     let form = c.echelon.new.lines.items in
     let widths : HaveWidth (suc s.dims) form = c.in_ok-echelon.ensures.widths (suc s.dims)
     (all_width (suc s.dims) tight (tight_width s c.in_ok-lines.ensures.cone tight c.in_ok-lines.ensures.parts.is_tight)) in
-    let p = err_from_is_err_and c.from_residual-in_err-rays.result c.from_residual-in_err-rays.ensures.1 in
-    let x = subst (λ (l : List (List ℤ)). AnyReductionExcess l loose c.in_err-rays.field-0.0) c.deref-2.ensures.value
-    (subst (λ (l : List (List ℤ)). AnyReductionExcess c.deref-2.result.now l c.in_err-rays.field-0.0) c.deref.ensures.value c.in_err-rays.ensures.excess) in
+    let p = err_from_is_err_and c.from_residual-in_err-reduce_all.result c.from_residual-in_err-reduce_all.ensures.1 in
+    let x = subst (λ (l : List (List ℤ)). AnyReductionExcess l loose c.in_err-reduce_all.field-0.0) c.deref.ensures.value c.in_err-reduce_all.ensures.excess in
     let f = reduction_excess s c.in_ok-lines.ensures.cone tight loose form c.in_ok-lines.ensures.parts.is_tight c.in_ok-lines.ensures.parts.is_loose c.in_ok-echelon.ensures.form widths
-    c.in_err-rays.field-0.0 x in
+    c.in_err-reduce_all.field-0.0 x in
     rw (p.1, p.2) f
 
 pub drop_redundant-requires : goal.drop_redundant-requires
 drop_redundant-requires c =
     let s = c.args.cone.now in
-    as_many s.rays (length s.lines) c.deref-2.result.now c.in_ok-lines.field-0.loose.items c.deref.result.now c.in_ok-rays.rays.items c.in_ok-lines.field-0.saturation.rows
-    c.in_ok-lines.ensures.parts.told c.deref.ensures.value c.in_ok-rays.ensures.reduced
+    as_many s.rays (length s.lines) c.deref.result.now c.in_ok-lines.field-0.loose.items c.reduce_all.new.rows.items c.in_ok-lines.field-0.saturation.rows
+    c.in_ok-lines.ensures.parts.told c.in_ok-reduce_all.ensures.reduced
 
 pub returns-clause-ok : goal.returns-clause-ok
 returns-clause-ok c =
@@ -64,7 +62,7 @@ returns-clause-ok c =
     let tight = c.in_ok-lines.field-0.tight.items in
     let widths : HaveWidth (suc s.dims) c.echelon.new.lines.items = c.in_ok-echelon.ensures.widths (suc s.dims)
     (all_width (suc s.dims) tight (tight_width s c.in_ok-lines.ensures.cone tight c.in_ok-lines.ensures.parts.is_tight)) in
-    own_made s tight c.in_ok-lines.field-0.loose.items c.echelon.new.lines.items c.deref-2.result.now c.deref.result.now c.in_ok-rays.rays.items c.drop_redundant.new.rows.items
+    own_made s tight c.in_ok-lines.field-0.loose.items c.echelon.new.lines.items c.deref.result.now c.reduce_all.new.rows.items c.drop_redundant.new.rows.items
     c.in_ok-lines.field-0.saturation c.drop_redundant.new.saturation (c.dims.result + 1) c.in_ok-lines.ensures.cone c.in_ok-lines.ensures.parts c.in_ok-echelon.ensures.form
-    c.in_ok-echelon.ensures.same widths c.deref-2.ensures.value c.deref.ensures.value c.in_ok-rays.ensures.reduced
-    (omega (arith, c.dims.ensures)) c.in_ok-rays.ensures.widths c.in_ok-drop_redundant.ensures.kept c.in_ok-drop_redundant.ensures.irredundant
+    c.in_ok-echelon.ensures.same widths c.deref.ensures.value c.in_ok-reduce_all.ensures.reduced
+    (omega (arith, c.dims.ensures)) c.in_ok-reduce_all.ensures.widths c.in_ok-drop_redundant.ensures.kept c.in_ok-drop_redundant.ensures.irredundant
