@@ -1,3 +1,5 @@
+pub mod OutcomeLemmas
+pub mod SameLemmas
 pub mod PolyLemmas
 pub mod FormedLemmas
 pub mod MetRows

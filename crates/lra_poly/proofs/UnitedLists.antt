@@ -11,7 +11,7 @@ use Rattle.lra_pair.specs.TriedRows.{StrainsWhenTried}
 use Rattle.lra_poly.specs.declared.outcome.Outcome.{Outcome}
 use Rattle.lra_poly.specs.declared.outcome.Outcome.TheVariants.{Exact, Flagged}
 use Rattle.lra_poly.specs.Outcomes.{IfFlagged, first_loss}
-use Rattle.lra_poly.specs.United.{AreTriedPoints, StopsBehind, StopsOnward, UnitesAnew}
+use Rattle.lra_poly.specs.United.{AreTriedPoints, StopsBehind, UnitesAnew}
 
 some_told : (l : Loss) (losses : List Loss) → l ∷ losses ≢ []
 some_told l losses e = cc
@@ -34,11 +34,11 @@ no_cone p view more e fails = inl (subst (λ (x : Polyhedron). ¬ (MayTurn x.dim
 pub strains_behind : (p : Polyhedron) (d : ℕ) (taken listed more : List Given) → d ≡ p.dims → taken ≡ listed → listed ≡ p.generators → StrainsWhenTried d taken more → StopsBehind p more
 strains_behind p d taken listed more ed et el h = inr (subst (λ (n : ℕ). StrainsWhenTried n p.generators more) ed (subst (λ (l : List Given). StrainsWhenTried d l more) (et ∙ el) h))
 
-pub unites_anew : (p q made : Polyhedron) (o : Outcome) → StopsOnward p q → IfFlagged (λ _. AreTriedPoints p.dims (p.generators ++ q.generators) made o) o →
-    IfFlagged (λ _. UnitesAnew p q made o) o
-unites_anew p q made o stops h = by_outcome o h
+pub unites_anew : (p made : Polyhedron) (more : List Given) (o : Outcome) → StopsBehind p more → IfFlagged (λ _. AreTriedPoints p.dims (p.generators ++ more) made o) o →
+    IfFlagged (λ _. UnitesAnew p more made o) o
+unites_anew p made more o stops h = by_outcome o h
   where
-    by_outcome : (x : Outcome) → IfFlagged (λ _. AreTriedPoints p.dims (p.generators ++ q.generators) made o) x → IfFlagged (λ _. UnitesAnew p q made o) x
+    by_outcome : (x : Outcome) → IfFlagged (λ _. AreTriedPoints p.dims (p.generators ++ more) made o) x → IfFlagged (λ _. UnitesAnew p more made o) x
     by_outcome Exact h = tt
     by_outcome (Flagged loss) h = record { stops = stops; tried = h }
 

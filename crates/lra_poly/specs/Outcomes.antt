@@ -14,6 +14,11 @@ abbrev pub IfFlagged : (strain.Loss → Type 0) → Outcome → Type 0
 IfFlagged P Exact = Unit {0}
 IfFlagged P (Flagged loss) = P loss
 
+-- what is told of a call and of a later one together: what the first lost, or else what the later one tells
+abbrev pub first_of : Outcome → Outcome → Outcome
+first_of Exact later = later
+first_of (Flagged loss) later = Flagged loss
+
 -- what is told of losses: the first of them
 abbrev pub first_loss : List strain.Loss → Outcome
 first_loss [] = Exact

@@ -1,4 +1,4 @@
--- What hulls make of two polyhedra where they are flagged.
+-- What hulls, and generators that are taken in, make of a polyhedron where they are flagged.
 use Rattle.std.specs.Prelude.{◌≡◌, ◌⊎◌, ℕ, List, ◌++◌}
 use Rattle.lra_linear.specs.Descriptions.{Given}
 use Rattle.lra_linear.specs.Polyhedra.{Polyhedron}
@@ -19,11 +19,7 @@ pub record AreTriedPoints (n : ℕ) (given : List Given) (made : Polyhedron) (o 
 abbrev pub StopsBehind : Polyhedron → List Given → Type 0
 StopsBehind p more = (¬ (MayTurn p.dims p.rows p.generators)) ⊎ StrainsWhenTried p.dims p.generators more
 
--- the second's generators behind the first's lists
-abbrev pub StopsOnward : Polyhedron → Polyhedron → Type 0
-StopsOnward p q = StopsBehind p q.generators
-
--- only then the generators of both are converted from nothing, which alone is flagged
-pub record UnitesAnew (p q made : Polyhedron) (o : Outcome) : Type 0 where
-  pub stops : StopsOnward p q
-  pub tried : AreTriedPoints p.dims (p.generators ++ q.generators) made o
+-- only then its own and these are converted from nothing, which alone is flagged
+pub record UnitesAnew (p : Polyhedron) (more : List Given) (made : Polyhedron) (o : Outcome) : Type 0 where
+  pub stops : StopsBehind p more
+  pub tried : AreTriedPoints p.dims (p.generators ++ more) made o

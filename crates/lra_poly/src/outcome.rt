@@ -1,7 +1,7 @@
 //! What the calls that make or change a polyhedron tell.
 
 ghost use Rattle.std.specs.Prelude.{◌≡◌, ◌↔◌, IsTrue};
-ghost use Rattle.lra_poly.specs.Outcomes.{first_loss};
+ghost use Rattle.lra_poly.specs.Outcomes.{first_loss, first_of};
 
 use lra_cone::Loss;
 
@@ -29,6 +29,16 @@ impl Outcome {
             Outcome::Exact => true,
             Outcome::Flagged(_) => false,
         }
+    }
+
+    /// What is told of this call and of a later one together: the first loss.
+    #[tactic(auto, using(crate::proofs::OutcomeLemmas::later_told, crate::proofs::OutcomeLemmas::own_told))]
+    pub fn and(self, later: Outcome) -> Outcome
+        ensures first { result ≡ first_of self later }
+        ensures exact { (result ≡ Outcome.Exact) ↔ ((self ≡ Outcome.Exact) ×
+            (later ≡ Outcome.Exact)) }
+    {
+        if self.is_exact() { later } else { self }
     }
 }
 

@@ -6,7 +6,7 @@ ghost use Rattle.lra_linear.specs.Descriptions.{AreGenerators, Con, Gen, Holds};
 ghost use Rattle.lra_linear.specs.Formed.{IsFormed, KeepsLimit};
 ghost use Rattle.lra_linear.specs.OperationStrain.{FromRowsStrains, FromGeneratorsStrains};
 ghost use Rattle.lra_linear.specs.OperationStrain.{AddTestStrains, MeetStrains, HullStrains, with_positivity};
-ghost use Rattle.lra_linear.specs.Points.{IsEmptySet, IsWithin};
+ghost use Rattle.lra_linear.specs.Points.{IsEmptySet, IsWithin, SameSet};
 ghost use Rattle.lra_linear.specs.Polyhedra.{IsPolyhedron, IsPolyhedronOf};
 ghost use Rattle.lra_linear.specs.SetOperations.{Meet, Union, Hull};
 ghost use Rattle.lra_linear.specs.Vectors.{negated};
@@ -19,7 +19,7 @@ ghost use Rattle.lra_duality.specs.Inclusions.{IsInclusion, TellsInclusion};
 ghost use Rattle.lra_duality.specs.Maxima.{IsMaximum, TellsMaximum, ValueInRange};
 ghost use Rattle.lra_poly.specs.Outcomes.{IfExact, IfFlagged};
 ghost use Rattle.lra_poly.specs.Narrowed.{IsMetWith, IsNarrowed, IsSeenWithin, IsTried};
-ghost use Rattle.lra_poly.specs.United.{AreTriedPoints, StopsBehind, StopsOnward, UnitesAnew};
+ghost use Rattle.lra_poly.specs.United.{AreTriedPoints, StopsBehind, UnitesAnew};
 ghost use Rattle.lra_poly.specs.declared.outcome.Outcome.TheVariants.{Exact};
 ghost use Rattle.lra_lin.specs.Form.{form_row};
 ghost use Rattle.lra_duality.specs.Rows.{test_row};
@@ -35,7 +35,7 @@ use lra_duality::{
 };
 use lra_lin::{LinExpr, Test};
 use lra_pair::Pair;
-use lra_sys::{ConSys, GenSys};
+use lra_sys::{ConSys, GenSys, are_same};
 use std::alloc::{AllocError, Global};
 use std::marker::Model;
 
@@ -324,6 +324,18 @@ impl Poly {
         maximum_of(form, true, &self.by_generators)
     }
 
+    /// Whether both have the same dimensions and the same points, which is told by their lists alone.
+    pub fn same(&self, other: &Poly) -> bool
+        ensures lists { IsTrue result ↔ (self.now ≡ other.now) }
+        ensures points { self.now.dims ≡ other.now.dims →
+            (IsTrue result ↔ SameSet self.now.dims (Con self.now.rows) (Con other.now.rows)) }
+    {
+        if self.dims() != other.dims() {
+            return false;
+        }
+        are_same(self.rows(), other.rows())
+    }
+
     // Whether it is known that each point is in the other.
     fn lies_in(&self, other: &Poly) -> bool
         requires { other.now.dims ≡ self.now.dims }
@@ -399,9 +411,10 @@ impl Poly {
         }
     }
 
-    // Takes these constraints in. Where each point meets them, nothing changes. Where a result that has at least their
-    // points is flagged and isn't known to lie in the old value, the old value stays.
-    fn narrow(&mut self, more: &ConSys) -> Result<Outcome, AllocError>
+    /// Takes these constraints in: keeps the points that meet each of them. Where each point is seen to meet them,
+    /// nothing changes. Where it is flagged it has at least those points, and no point that it hadn't before: what was
+    /// made comes in only where it is known to lie in the old value.
+    pub fn add_rows(&mut self, more: &ConSys) -> Result<Outcome, AllocError>
         requires { more.now.dims ≡ self.old.dims }
         ensures dims { self.new.dims ≡ self.old.dims }
         ensures exact { IfOk result (IfExact
@@ -449,7 +462,7 @@ impl Poly {
         ensures kept { IfOk result (IsNarrowed self.old other.now.rows self.new) }
     {
         let rows = other.rows();
-        let outcome = self.narrow(rows)?;
+        let outcome = self.add_rows(rows)?;
         Ok(outcome)
     }
 
@@ -470,7 +483,7 @@ impl Poly {
         ensures kept { IfOk result (IsNarrowed self.old (test_row test.now.kind test.now.expr ∷ []) self.new) }
     {
         let row = list_test(self.alloc, test)?;
-        let outcome = self.narrow(&row)?;
+        let outcome = self.add_rows(&row)?;
         Ok(outcome)
     }
 
@@ -498,57 +511,80 @@ impl Poly {
         }
     }
 
-    // The polyhedron of the generators of both, of which the other's are taken in after the first's, by the lists at
-    // hand; none where one of them isn't taken in, or there are no lists to go on from.
-    fn unite_onward(&self, other: &Poly) -> Result<Option<Poly>, AllocError>
-        requires { other.now.dims ≡ self.now.dims }
-        ensures made { IfOk result (λ made. IfSome made
-            (IsPolyhedronOf self.now.dims (Gen (self.now.generators ++ other.now.generators)))) }
-        ensures none { IfOk result (λ made. IfNone made (StopsOnward self.now other.now)) }
-    {
-        let made = self.extend(other.generators())?;
-        Ok(made)
-    }
-
-    // The same, converted from nothing. Where it is flagged it has at least their points.
-    fn unite_anew(&self, other: &Poly) -> Result<(Poly, Outcome), AllocError>
-        requires { other.now.dims ≡ self.now.dims }
+    // The polyhedron of its generators and of these, converted from nothing. Where it is flagged it has at least their
+    // points.
+    fn unite_anew(&self, more: &GenSys) -> Result<(Poly, Outcome), AllocError>
+        requires dims { more.now.dims ≡ self.now.dims }
+        requires kinds { FitKinds more.now.rows more.now.kinds }
         ensures dims { IfOk result (λ r. r.0.dims ≡ self.now.dims) }
         ensures canonical { IfOk result (λ r. IsPolyhedron r.0) }
         ensures exact { IfOk result (λ r. IfExact
-            (IsPolyhedronOf self.now.dims (Gen (self.now.generators ++ other.now.generators)) r.0) r.1) }
+            (IsPolyhedronOf self.now.dims
+            (Gen (self.now.generators ++ generators more.now)) r.0) r.1) }
         ensures within { IfOk result (λ r.
-            IsWithin self.now.dims (Gen (self.now.generators ++ other.now.generators)) (Con r.0.rows)) }
+            IsWithin self.now.dims (Gen (self.now.generators ++ generators more.now))
+            (Con r.0.rows)) }
         ensures strain { IfOk result (λ r. IfFlagged
-            (FromGeneratorsStrains self.now.dims (self.now.generators ++ other.now.generators)) r.1) }
+            (FromGeneratorsStrains self.now.dims
+            (self.now.generators ++ generators more.now)) r.1) }
         ensures tried { IfOk result (λ r. IfFlagged (λ _.
-            AreTriedPoints self.now.dims (self.now.generators ++ other.now.generators) r.0 r.1) r.1) }
+            AreTriedPoints self.now.dims (self.now.generators ++ generators more.now) r.0
+            r.1) r.1) }
     {
-        let all = join_generators(&self.by_generators, &other.by_generators)?;
+        let all = join_generators(&self.by_generators, more)?;
         let (made, outcome) = Poly::from_generators(self.alloc, &all)?;
         Ok((made, outcome))
     }
 
-    // The polyhedron of the generators of both. Where it is flagged it has at least their points.
-    fn unite(&self, other: &Poly) -> Result<(Poly, Outcome), AllocError>
-        requires { other.now.dims ≡ self.now.dims }
+    // The same, by the lists at hand where these can be gone on from.
+    fn unite(&self, more: &GenSys) -> Result<(Poly, Outcome), AllocError>
+        requires dims { more.now.dims ≡ self.now.dims }
+        requires kinds { FitKinds more.now.rows more.now.kinds }
         ensures dims { IfOk result (λ r. r.0.dims ≡ self.now.dims) }
         ensures canonical { IfOk result (λ r. IsPolyhedron r.0) }
         ensures exact { IfOk result (λ r. IfExact
-            (IsPolyhedronOf self.now.dims (Gen (self.now.generators ++ other.now.generators)) r.0) r.1) }
+            (IsPolyhedronOf self.now.dims
+            (Gen (self.now.generators ++ generators more.now)) r.0) r.1) }
         ensures within { IfOk result (λ r.
-            IsWithin self.now.dims (Gen (self.now.generators ++ other.now.generators)) (Con r.0.rows)) }
+            IsWithin self.now.dims (Gen (self.now.generators ++ generators more.now))
+            (Con r.0.rows)) }
         ensures strain { IfOk result (λ r. IfFlagged
-            (FromGeneratorsStrains self.now.dims (self.now.generators ++ other.now.generators)) r.1) }
-        ensures anew { IfOk result (λ r. IfFlagged (λ _. UnitesAnew self.now other.now r.0 r.1) r.1) }
+            (FromGeneratorsStrains self.now.dims
+            (self.now.generators ++ generators more.now)) r.1) }
+        ensures anew { IfOk result (λ r. IfFlagged (λ _.
+            UnitesAnew self.now (generators more.now) r.0 r.1) r.1) }
     {
-        match self.unite_onward(other)? {
+        match self.extend(more)? {
             Some(made) => Ok((made, Outcome::Exact)),
             None => {
-                let (made, outcome) = self.unite_anew(other)?;
+                let (made, outcome) = self.unite_anew(more)?;
                 Ok((made, outcome))
             }
         }
+    }
+
+    /// Takes these generators in: becomes the polyhedron of its own and of these, which are taken in after them, by the
+    /// lists at hand where these can be gone on from. Where it is flagged it has at least their points.
+    pub fn add_generators(&mut self, more: &GenSys) -> Result<Outcome, AllocError>
+        requires dims { more.now.dims ≡ self.old.dims }
+        requires kinds { FitKinds more.now.rows more.now.kinds }
+        ensures dims { self.new.dims ≡ self.old.dims }
+        ensures exact { IfOk result (IfExact
+            (IsPolyhedronOf self.old.dims
+            (Gen (self.old.generators ++ generators more.now)) self.new)) }
+        ensures within { IfOk result (λ _.
+            IsWithin self.old.dims (Gen (self.old.generators ++ generators more.now))
+            (Con self.new.rows)) }
+        ensures strain { IfOk result
+            (IfFlagged (FromGeneratorsStrains self.old.dims
+            (self.old.generators ++ generators more.now))) }
+        ensures anew { IfOk result (λ o. IfFlagged (λ _.
+            UnitesAnew self.old (generators more.now) self.new o) o) }
+        ensures unchanged { OnErr result (self.new ≡ self.old) }
+    {
+        let (made, outcome) = self.unite(more)?;
+        *self = made;
+        Ok(outcome)
     }
 
     /// Becomes the hull with the other: the least closed polyhedron that has the points of both. Where the other is
@@ -562,7 +598,8 @@ impl Poly {
         ensures within { IfOk result (λ _. IsWithin self.old.dims
             (Hull self.old.dims (Union (Con self.old.rows) (Con other.now.rows))) (Con self.new.rows)) }
         ensures strain { IfOk result (IfFlagged (HullStrains self.old other.now)) }
-        ensures anew { IfOk result (λ o. IfFlagged (λ _. UnitesAnew self.old other.now self.new o) o) }
+        ensures anew { IfOk result (λ o. IfFlagged (λ _.
+            UnitesAnew self.old other.now.generators self.new o) o) }
         ensures met { IsSeenWithin other.now self.old.rows →
             (self.new ≡ self.old) × IfOk result (λ o. o ≡ Exact) }
         ensures unchanged { OnErr result (self.new ≡ self.old) }
@@ -571,7 +608,8 @@ impl Poly {
         if other.lies_in(self) {
             return Ok(Outcome::Exact);
         }
-        let (made, outcome) = self.unite(other)?;
+        let more = other.generators();
+        let (made, outcome) = self.unite(more)?;
         *self = made;
         Ok(outcome)
     }

@@ -13,7 +13,7 @@ returns-clause-exact c =
     let row = test_row c.args.test.now.kind c.args.test.now.expr in
     let list = p.rows ++ constraints c.in_ok-row.row in
     let e : list ≡ p.rows ++ row ∷ [] = ap (λ (l : List Given). p.rows ++ l) c.in_ok-row.ensures.rows in
-    test_exact p.dims p.rows list row c.narrow.new.self c.in_ok-outcome.outcome e c.in_ok-outcome.ensures.exact
+    test_exact p.dims p.rows list row c.add_rows.new.self c.in_ok-outcome.outcome e c.in_ok-outcome.ensures.exact
 
 pub returns-clause-within : goal.returns-clause-within
 returns-clause-within c =
@@ -21,7 +21,7 @@ returns-clause-within c =
     let row = test_row c.args.test.now.kind c.args.test.now.expr in
     let list = p.rows ++ constraints c.in_ok-row.row in
     let e : list ≡ p.rows ++ row ∷ [] = ap (λ (l : List Given). p.rows ++ l) c.in_ok-row.ensures.rows in
-    test_within p.dims p.rows list row (Con c.narrow.new.self.rows) e c.in_ok-outcome.ensures.within
+    test_within p.dims p.rows list row (Con c.add_rows.new.self.rows) e c.in_ok-outcome.ensures.within
 
 pub returns-clause-strain : goal.returns-clause-strain
 returns-clause-strain c =
@@ -35,4 +35,4 @@ pub returns-clause-met : goal.returns-clause-met
 returns-clause-met c = λ seen. c.in_ok-outcome.ensures.met (subst (IsSeenWithin c.args.self.now) (sym c.in_ok-row.ensures.rows) seen)
 
 pub returns-clause-kept : goal.returns-clause-kept
-returns-clause-kept c = subst (λ (l : List Given). IsNarrowed c.args.self.now l c.narrow.new.self c.in_ok-outcome.outcome) c.in_ok-row.ensures.rows c.in_ok-outcome.ensures.kept
+returns-clause-kept c = subst (λ (l : List Given). IsNarrowed c.args.self.now l c.add_rows.new.self c.in_ok-outcome.outcome) c.in_ok-row.ensures.rows c.in_ok-outcome.ensures.kept

@@ -12,7 +12,7 @@ returns-clause-exact c =
     let more = c.args.other.now.rows in
     let list = p.rows ++ constraints c.rows-rows.result.now in
     let e : list ≡ p.rows ++ more = ap (λ (l : List Given). p.rows ++ l) c.rows-rows.ensures.rows in
-    meet_exact p.dims p.rows more list c.narrow.new.self c.in_ok-outcome.outcome e c.in_ok-outcome.ensures.exact
+    meet_exact p.dims p.rows more list c.add_rows.new.self c.in_ok-outcome.outcome e c.in_ok-outcome.ensures.exact
 
 pub returns-clause-within : goal.returns-clause-within
 returns-clause-within c =
@@ -20,7 +20,7 @@ returns-clause-within c =
     let more = c.args.other.now.rows in
     let list = p.rows ++ constraints c.rows-rows.result.now in
     let e : list ≡ p.rows ++ more = ap (λ (l : List Given). p.rows ++ l) c.rows-rows.ensures.rows in
-    meet_within p.dims p.rows more list (Con c.narrow.new.self.rows) e c.in_ok-outcome.ensures.within
+    meet_within p.dims p.rows more list (Con c.add_rows.new.self.rows) e c.in_ok-outcome.ensures.within
 
 pub returns-clause-strain : goal.returns-clause-strain
 returns-clause-strain c =
@@ -34,4 +34,4 @@ pub returns-clause-met : goal.returns-clause-met
 returns-clause-met c = λ seen. c.in_ok-outcome.ensures.met (subst (IsSeenWithin c.args.self.now) (sym c.rows-rows.ensures.rows) seen)
 
 pub returns-clause-kept : goal.returns-clause-kept
-returns-clause-kept c = subst (λ (l : List Given). IsNarrowed c.args.self.now l c.narrow.new.self c.in_ok-outcome.outcome) c.rows-rows.ensures.rows c.in_ok-outcome.ensures.kept
+returns-clause-kept c = subst (λ (l : List Given). IsNarrowed c.args.self.now l c.add_rows.new.self c.in_ok-outcome.outcome) c.rows-rows.ensures.rows c.in_ok-outcome.ensures.kept

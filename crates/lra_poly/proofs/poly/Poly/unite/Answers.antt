@@ -1,8 +1,9 @@
--- Goals of `Poly::unite`: the polyhedron of the generators of both.
+-- Goals of `Poly::unite`: the polyhedron of its generators and of these.
+use Rattle.lra_sys.specs.Listed.{generators}
 use Rattle.lra_poly.proofs.UnitedLists.{unites_anew}
 use Rattle.lra_poly.proofs.poly.Poly.unite.Goals as goal
 
 pub returns-in_ok-made-in-None-clause-anew : goal.returns-in_ok-made-in-None-clause-anew
 returns-in_ok-made-in-None-clause-anew c =
     let stops = rw c.in-None.is at c.in_ok-made.ensures.none in
-    unites_anew c.args.self.now c.args.other.now c.in_ok-made-in-None.made c.in_ok-made-in-None.outcome stops c.in_ok-made-in-None.ensures.tried
+    unites_anew c.args.self.now c.in_ok-made-in-None.made (generators c.args.more.now) c.in_ok-made-in-None.outcome stops c.in_ok-made-in-None.ensures.tried

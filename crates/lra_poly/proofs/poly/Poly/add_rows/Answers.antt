@@ -1,11 +1,11 @@
--- Goals of `Poly::narrow`: takes these constraints in.
+-- Goals of `Poly::add_rows`: takes these constraints in.
 use Rattle.std.proofs.Common.{refl, sym, ◌++◌, inl, inr}
 use Rattle.lra_linear.specs.Descriptions.{Con}
 use Rattle.lra_sys.specs.Listed.{constraints}
 use Rattle.lra_poly.proofs.MetRows.{never, settled_exact, settled_made, settled_old}
 use Rattle.lra_poly.proofs.PolyLemmas.{within_same, exact_inside, made_inside, old_inside, meet_inside, met_exact}
-use Rattle.lra_poly.proofs.poly.Poly.narrow.Goals.{in-Exact, in-Flagged+then-lies_in, in-Flagged+else-lies_in}
-use Rattle.lra_poly.proofs.poly.Poly.narrow.Goals as goal
+use Rattle.lra_poly.proofs.poly.Poly.add_rows.Goals.{in-Exact, in-Flagged+then-lies_in, in-Flagged+else-lies_in}
+use Rattle.lra_poly.proofs.poly.Poly.add_rows.Goals as goal
 
 pub returns-then-meets-clause-exact : goal.returns-then-meets-clause-exact
 returns-then-meets-clause-exact c = met_exact c.args.self.now (constraints c.args.more.now) c.meets.ensures.canonical (c.if-meets.ensures.within refl)

@@ -1,0 +1,29 @@
+-- Polyhedra of the same dimensions and constraints are the same.
+use Rattle.std.proofs.Common.{◌≡◌, ◌≢◌, ◌∙◌, Bool, false, ap, sym, subst}
+use Rattle.std.specs.Prelude.{◌↔◌, IsTrue}
+use Rattle.lra_linear.specs.Descriptions.{Con}
+use Rattle.lra_linear.specs.Points.{SameSet}
+use Rattle.lra_linear.specs.Polyhedra.{IsPolyhedron, Polyhedron}
+use Rattle.lra_linear.specs.declared.ConKind.{ConKind}
+use Rattle.lra_sys.specs.Listed.{Listed, constraints}
+use Rattle.lra_linear.proofs.OneSpelling.{same_points_same_lists}
+
+pub same_rows_same : (p q : Polyhedron) → IsPolyhedron p → IsPolyhedron q → q.dims ≡ p.dims → p.rows ≡ q.rows → p ≡ q
+same_rows_same p q h k d e = same_points_same_lists p q h k d (λ x i c. subst (λ l. Con l x) e c, λ x i c. subst (λ l. Con l x) (sym e) c)
+
+pub same_decides : (p q : Polyhedron) (one two : Listed ConKind) (b : Bool) → IsPolyhedron p → IsPolyhedron q → q.dims ≡ p.dims → constraints one ≡ p.rows → constraints two ≡ q.rows →
+    IsTrue b ↔ (constraints one ≡ constraints two) → IsTrue b ↔ (p ≡ q)
+same_decides p q one two b h k d e f is = (
+  λ t. same_rows_same p q h k d (sym e ∙ is.0 t ∙ f),
+  λ s. is.1 (e ∙ ap (λ (x : Polyhedron). x.rows) s ∙ sym f),
+)
+
+pub other_dims : (p q : Polyhedron) → p.dims ≢ q.dims → IsTrue false ↔ (p ≡ q)
+other_dims p q other = (λ t. let wrong : ⊥ = cc in absurd wrong, λ s. absurd (other (ap (λ (x : Polyhedron). x.dims) s)))
+
+-- in the same dimensions lists are the same exactly where points are
+pub same_points : (p q : Polyhedron) (b : Bool) → IsPolyhedron p → IsPolyhedron q → p.dims ≡ q.dims → IsTrue b ↔ (p ≡ q) → IsTrue b ↔ SameSet p.dims (Con p.rows) (Con q.rows)
+same_points p q b h k d is = (
+  λ t. subst (λ (r : Polyhedron). SameSet p.dims (Con p.rows) (Con r.rows)) (is.0 t) (λ x i c. c, λ x i c. c),
+  λ s. is.1 (same_points_same_lists p q h k (sym d) s),
+)
