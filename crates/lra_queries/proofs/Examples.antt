@@ -1,5 +1,5 @@
 -- Worked cases of the least value, and of how constraints stand to polyhedra.
-use Rattle.std.proofs.Common.{◌≡◌, suc, List, [], ◌∷◌, pos, negsuc, ℤ, ◌+ℤ◌, ◌*ℤ◌, ◌<ℤ◌, ◌≤ℤ◌, refl, arith, inl}
+use Rattle.std.proofs.Common.{◌≡◌, suc, List, [], ◌∷◌, ◌++◌, replicate, pos, negsuc, ℤ, ◌+ℤ◌, ◌*ℤ◌, ◌<ℤ◌, ◌≤ℤ◌, refl, arith, inl}
 use Rattle.std.proofs.lemmas.Int.{ints}
 use Rattle.std.proofs.lemmas.List.Elements.{All-nil, All-cons}
 use Rattle.lra_linear.specs.Descriptions.{generator, inequality}
@@ -9,8 +9,12 @@ use Rattle.lra_linear.proofs.Membership.{contains_head, contains_tail}
 use Rattle.lra_duality.specs.Maxima.{DoesNotImprove, StaysInRange}
 use Rattle.lra_queries.specs.declared.minimum.Minimum.TheVariants.{Empty, Unbounded}
 use Rattle.lra_queries.specs.Minima.{IsAtLeast, IsMinimum}
+use Rattle.lra_queries.specs.Joined.{counted}
+use Rattle.lra_queries.specs.Moved.{Moved, chosen}
+use Rattle.lra_queries.specs.Related.{replaced}
 use Rattle.lra_queries.specs.Relations.{HoldsNowhere, MissesZero}
 use Rattle.lra_queries.specs.Shapes.{AffineDimension, HasBound}
+use Rattle.lra_queries.specs.Tightened.{IsTightened}
 
 -- x is at least 1/2 at the point 3/2, and not at the point 1/4
 pub half_below : IsAtLeast (pos 0 ∷ pos 1 ∷ []) (pos 1) (pos 2) (pos 2 ∷ pos 3 ∷ [])
@@ -87,3 +91,29 @@ two_bounds = record {
 
 pub no_more_dimensions : (p : Polyhedron) → AffineDimension p (suc p.dims) → ⊥
 no_more_dimensions p h = let e = h.count in omega (arith, e)
+
+-- where x is at least 0 there are stores, so no constraint without one is that constraint rounded
+pub not_nowhere : IsTightened 1 (inequality (pos 0 ∷ pos 1 ∷ [])) (inequality (negsuc 0 ∷ pos 0 ∷ [])) → ⊥
+not_nowhere h = let k = (h.stores (pos 0 ∷ []) refl).0 (omega (arith, ints)) in omega (arith, ints, k)
+
+-- the second dimension first; and one past the last
+pub swapped : chosen (1 ∷ 0 ∷ []) (pos 2 ∷ pos 3 ∷ pos 5 ∷ []) ≡ pos 2 ∷ pos 5 ∷ pos 3 ∷ []
+swapped = refl
+
+pub past_the_last : chosen (0 ∷ 4 ∷ []) (pos 1 ∷ pos 7 ∷ []) ≡ pos 1 ∷ pos 7 ∷ pos 0 ∷ []
+past_the_last = refl
+
+pub swapped_point : Moved 2 (1 ∷ 0 ∷ []) (λ y. entry y 1 ≡ pos 3) (pos 1 ∷ pos 5 ∷ pos 3 ∷ [])
+swapped_point = record {
+  from = pos 1 ∷ pos 3 ∷ pos 5 ∷ [];
+  is_point = record { width = refl; divisor = omega (arith, ints) };
+  inside = refl;
+  same = λ j. refl;
+}
+
+-- two dimensions, then the one of a second polyhedron; and the first of two, with a third in its place
+pub behind_two : replicate 2 1 ++ counted 1 0 ≡ 1 ∷ 1 ∷ 0 ∷ []
+behind_two = refl
+
+pub third_for_first : replaced 2 0 ≡ 2 ∷ 1 ∷ []
+third_for_first = refl

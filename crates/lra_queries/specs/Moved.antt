@@ -1,0 +1,27 @@
+-- Dimensions moved: each new dimension is, in turn, one of the old ones.
+use Rattle.std.specs.Prelude.{ℕ, suc, ℤ, List, ◌∷◌, length, map}
+use Rattle.lra_linear.specs.Descriptions.{Con, Given}
+use Rattle.lra_linear.specs.OperationStrain.{GeneratorsStrain}
+use Rattle.lra_linear.specs.Points.{IsPoint, PointSet, SamePoint}
+use Rattle.lra_linear.specs.Polyhedra.{Polyhedron}
+use Rattle.lra_linear.specs.Strain.{Loss}
+use Rattle.lra_linear.specs.Vectors.{entry}
+
+-- the row with its column 0, then the columns of these dimensions
+abbrev pub chosen : List ℕ → List ℤ → List ℤ
+chosen dims row = entry row 0 ∷ map (λ d. entry row (suc d)) dims
+
+-- the points whose coordinates are, in turn, those of a point of P, of n dimensions, along these dimensions
+pub record Moved (n : ℕ) (dims : List ℕ) (P : PointSet) (x : List ℤ) : Type 0 where
+  pub from : List ℤ
+  pub is_point : IsPoint n from
+  pub inside : P from
+  pub same : SamePoint x (chosen dims from)
+
+-- the generators moved, which are taken in
+abbrev pub moved : List ℕ → List Given → List Given
+moved dims generators = map (λ g. record { row = chosen dims g.row; equal = g.equal }) generators
+
+abbrev pub MapDimsStrains : List ℕ → Polyhedron → Loss → Type 0
+MapDimsStrains dims p =
+    GeneratorsStrain (length dims) (Moved p.dims dims (Con p.rows)) (moved dims p.generators)
