@@ -3,3 +3,4 @@ pub mod LowestTerms
 pub mod Terms
 pub mod RowTexts
 pub mod Values
+pub mod Numbered

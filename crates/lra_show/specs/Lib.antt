@@ -6,3 +6,4 @@ pub mod Lines
 pub mod Shown
 pub mod Lists
 pub mod ShownDescriptions
+pub mod Whole

@@ -1,4 +1,4 @@
--- Lists of constraints and of generators, as a report shows them.
+-- Lists of constraints and of generators, as they are shown.
 use Rattle.std.specs.Prelude.{ℤ, List, [], ◌∷◌}
 use Rattle.lra_linear.specs.declared.ConKind.{ConKind}
 use Rattle.lra_linear.specs.declared.GenKind.{GenKind}

@@ -1,11 +1,11 @@
--- Rows over the live variables, and which stores they hold of.
+-- Rows over variables, and which stores they hold of.
 use Rattle.std.specs.Prelude.{ℤ, List, ◌+ℤ◌}
 use Rattle.lra_linear.specs.declared.ConKind.{ConKind}
 use Rattle.lra_linear.specs.Descriptions.{HoldsWith}
 use Rattle.lra_linear.specs.Kinds.{is_equality}
 use Rattle.lra_linear.specs.Vectors.{product}
 
--- constant + coefficients * variables is at least 0, or is 0; a coefficient for each live variable, oldest first
+-- constant + coefficients * variables is at least 0, or is 0; a coefficient for each variable, in order
 pub record Row : Type 0 where
   pub kind : ConKind
   pub constant : ℤ

@@ -1,4 +1,4 @@
--- Rows of constraints and of generators, as a report shows them.
+-- Rows of constraints and of generators, as they are shown.
 use Rattle.std.specs.Prelude.{ℕ, zero, suc, ℤ, pos, negsuc, nat_abs, Bool, true, false, List, [], ◌∷◌}
 use Rattle.lra_linear.specs.declared.ConKind.{ConKind}
 use Rattle.lra_linear.specs.declared.GenKind.{GenKind}

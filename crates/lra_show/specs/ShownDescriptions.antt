@@ -1,4 +1,4 @@
--- The constraints and the generators of a description, as a report shows them.
+-- The constraints and the generators of a description, as they are shown.
 use Rattle.std.specs.Prelude.{zero, suc, ℤ, pos, negsuc, Bool, true, false}
 use Rattle.lra_linear.specs.Descriptions.{Given}
 use Rattle.lra_linear.specs.Kinds.{constraint_kind}

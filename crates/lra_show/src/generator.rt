@@ -5,7 +5,7 @@ ghost use Rattle.std.specs.Prelude.{string_bytes, length, codes};
 ghost use Rattle.lra_linear.specs.Range.{InRange};
 ghost use Rattle.lra_linear.specs.Vectors.{entry};
 ghost use Rattle.lra_sys.specs.Listed.{FitsKind};
-ghost use Rattle.lra_show.specs.Texts as report;
+ghost use Rattle.lra_show.specs.Texts as texts;
 ghost use Rattle.lra_show.specs.Shown.{report_generator};
 
 use crate::names::Names;
@@ -18,7 +18,7 @@ use std::alloc::{AllocError, Global};
 pub fn push_fraction(text: &mut String, numerator: i128, divisor: i128) -> Result<(), AllocError>
     requires { pos 0 <ℤ divisor }
     ensures { OnOk result (string_bytes text.new ≡ string_bytes text.old ++
-        report.fraction_text numerator (nat_abs divisor)) }
+        texts.fraction_text numerator (nat_abs divisor)) }
 {
     if divisor == 1 {
         write!(text, "{numerator}")
@@ -42,7 +42,7 @@ fn push_coordinate(text: &mut String, numerator: i128, divisor: i128) -> Result<
     requires divisor_in { InRange divisor }
     requires divides { pos 0 <ℤ divisor }
     ensures { OnOk result (string_bytes text.new ≡ string_bytes text.old ++
-        report.coordinate_text numerator (nat_abs divisor)) }
+        texts.coordinate_text numerator (nat_abs divisor)) }
 {
     let common = gcd(numerator, divisor);
     push_fraction(text, quotient(numerator, common), quotient(divisor, common))
@@ -53,7 +53,7 @@ fn push_value(text: &mut String, row: &Row, kind: GenKind, column: usize) -> Res
     requires inside { column < length row.now }
     requires fits { FitsKind kind row.now }
     ensures { OnOk result (string_bytes text.new ≡ string_bytes text.old ++
-        report.value_text kind (nat_abs (entry row.now 0)) (entry row.now column)) }
+        texts.value_text kind (nat_abs (entry row.now 0)) (entry row.now column)) }
 {
     let number = row.get(column);
     match kind {
@@ -71,7 +71,7 @@ fn push_values(
 ) -> Result<(), AllocError>
     requires { FitsKind kind row.now }
     ensures { OnOk result (string_bytes text.new ≡ string_bytes text.old ++
-        report.values_text (report.value_text kind (nat_abs (entry row.now 0)))
+        texts.values_text (texts.value_text kind (nat_abs (entry row.now 0)))
         (map string_bytes names.now) (drop 1 row.now)) }
 {
     let columns = names.len().min(row.width().saturating_sub(1));
@@ -92,7 +92,7 @@ pub fn generator_text(
 ) -> Result<String, AllocError>
     requires { FitsKind kind row.now }
     ensures { IfOk result (λ shown. string_bytes shown ≡
-        report.generator_text names.now (report_generator row.now kind)) }
+        texts.generator_text names.now (report_generator row.now kind)) }
 {
     let mut text = String::new(alloc);
     text.push_str(match kind {

@@ -5,8 +5,10 @@ mod generator;
 mod lines;
 mod names;
 mod row;
+mod whole;
 
 pub use generator::{generator_text, push_fraction};
 pub use lines::{push_generators, push_rows};
 pub use names::Names;
 pub use row::row_text;
+pub use whole::{generators_text, system_text, value_text};

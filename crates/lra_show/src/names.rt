@@ -1,11 +1,12 @@
 //! Names of variables.
 
-ghost use Rattle.std.specs.Prelude.{◌≡◌, ◌++◌, ◌∷◌, [], map, OnOk, OnErr, string_bytes};
+ghost use Rattle.std.specs.Prelude.{◌≡◌, ◌++◌, ◌∷◌, [], length, map, IfOk, OnOk, OnErr, string_bytes};
+ghost use Rattle.lra_show.specs.Whole.{numbered_names};
 
 use std::alloc::{AllocError, Global};
 use std::marker::Model;
 
-/// The names of variables, oldest first.
+/// The names of variables, in order.
 pub struct Names {
     texts: Vec<String>,
 }
@@ -34,7 +35,21 @@ impl Names {
         }
     }
 
-    /// Adds the name of a newer variable.
+    /// The names x1, x2, and on, of so many variables.
+    pub fn numbered(alloc: Global, n: usize) -> Result<Names, AllocError>
+        ensures names { IfOk result (λ names. names ≡ numbered_names n) }
+        ensures count { IfOk result (λ names. length names ≡ n) }
+    {
+        let mut names = Names::new(alloc);
+        for place in 0..n {
+            let number = place + 1;
+            let name = format!(in alloc; "x{number}")?;
+            names.push(name.as_str())?;
+        }
+        Ok(names)
+    }
+
+    /// Adds the name of the next variable.
     pub fn push(&mut self, name: &str) -> Result<(), AllocError>
         ensures ok { OnOk result (self.new ≡ self.old ++ name.now ∷ []) }
         ensures unchanged { OnErr result (self.new ≡ self.old) }

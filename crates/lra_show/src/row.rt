@@ -4,7 +4,7 @@ ghost use Rattle.std.specs.Prelude.{◌≡◌, ◌≢◌, ◌++◌, ◌<◌, ◌
 ghost use Rattle.std.specs.Prelude.{length, not, unsigned_abs};
 ghost use Rattle.lra_linear.specs.Range.{InRange};
 ghost use Rattle.lra_linear.specs.Vectors.{entry};
-ghost use Rattle.lra_show.specs.Texts as report;
+ghost use Rattle.lra_show.specs.Texts as texts;
 ghost use Rattle.lra_show.specs.Shown.{report_row, rest_text, is_first_behind};
 
 use crate::names::Names;
@@ -55,7 +55,7 @@ fn push_coefficient(
 /// The number, or its opposite.
 fn turned(is_turned: bool, number: i128) -> i128
     requires { InRange number }
-    ensures value { result ≡ report.turned is_turned number }
+    ensures value { result ≡ texts.turned is_turned number }
     ensures in_range { InRange result }
 {
     if is_turned { -number } else { number }
@@ -72,10 +72,10 @@ fn push_column(
 ) -> Result<bool, AllocError>
     requires { column < length row.now }
     ensures written { OnOk result (string_bytes text.new ≡
-        string_bytes text.old ++ rest_text is_first (report.turned is_turned (entry row.now column) ∷ [])
+        string_bytes text.old ++ rest_text is_first (texts.turned is_turned (entry row.now column) ∷ [])
         (name.now ∷ [])) }
     ensures next { IfOk result (λ next. next ≡
-        is_first_behind is_first (report.turned is_turned (entry row.now column))) }
+        is_first_behind is_first (texts.turned is_turned (entry row.now column))) }
 {
     let coefficient = turned(is_turned, row.get(column));
     push_coefficient(text, is_first, coefficient, name)
@@ -84,7 +84,7 @@ fn push_column(
 /// Whether the first coefficient other than 0 is below 0.
 #[tactic(auto, using(crate::proofs::Terms::turned_rules))]
 fn is_turned(row: &Row) -> bool
-    ensures { result ≡ report.is_turned (drop 1 row.now) }
+    ensures { result ≡ texts.is_turned (drop 1 row.now) }
 {
     for column in 1..row.width() {
         match row.get(column).cmp(&0) {
@@ -104,7 +104,7 @@ fn push_form(
     names: &[String],
 ) -> Result<(), AllocError>
     ensures { OnOk result (string_bytes text.new ≡ string_bytes text.old ++
-        report.form_text (map (report.turned is_turned) (drop 1 row.now)) (map string_bytes names.now)) }
+        texts.form_text (map (texts.turned is_turned) (drop 1 row.now)) (map string_bytes names.now)) }
 {
     let mut is_first = true;
     let columns = names.len().min(row.width().saturating_sub(1));
@@ -121,7 +121,7 @@ pub fn row_text(
     kind: ConKind,
     names: &Names,
 ) -> Result<String, AllocError>
-    ensures { IfOk result (λ shown. string_bytes shown ≡ report.row_text names.now (report_row row.now kind)) }
+    ensures { IfOk result (λ shown. string_bytes shown ≡ texts.row_text names.now (report_row row.now kind)) }
 {
     let mut text = String::new(alloc);
     let is_turned = is_turned(row);
