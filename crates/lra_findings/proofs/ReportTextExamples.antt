@@ -3,9 +3,11 @@ use Rattle.std.proofs.Common.{◌≡◌, ℕ, ℤ, pos, negsuc, List, [], ◌∷
 use Rattle.std.specs.Prelude.{codes}
 use Rattle.std.specs.List.{flat_map}
 use Rattle.std.specs.Fmt.{digits}
-use Rattle.lra_base.specs.declared.options.Domain.{Domain}
-use Rattle.lra_base.specs.declared.options.Domain.TheVariants.{Poly, Box}
-use Rattle.lra_base.specs.declared.options.Options.{Options}
+use Rattle.lra_options.specs.declared.options.Domain.{Domain}
+use Rattle.lra_options.specs.declared.options.Domain.TheVariants.{Poly, Box}
+use Rattle.lra_options.specs.declared.options.Options.{Options}
+use Rattle.lra_options.specs.OptionRows.{default_options}
+use Rattle.lra_findings.specs.declared.verdict_kinds.VerdictKind.TheVariants.{Assertion}
 use Rattle.lra_findings.specs.Report.{Place, PointReport, Verdict, Report}
 use Rattle.lra_show.specs.Part.{Generator, Part}
 use Rattle.lra_linear.specs.declared.GenKind.TheVariants.{Point, Ray, Line}
@@ -18,7 +20,7 @@ abbrev at : ℕ → ℕ → Place
 at l c = record { line = l; column = c }
 
 abbrev pub defaults : Domain → Options
-defaults d = record { domain = d; parts = 1; delay = 1; narrow = 1; limited = false }
+defaults d = record default_options { domain = d }
 
 -- constant + coefficients is 0, is at least 0
 abbrev pub is_zero : ℤ → List ℤ → Row
@@ -46,7 +48,7 @@ abbrev in_main : ℕ → Place → List (List ℕ) → List Part → PointReport
 in_main number place names state = record { number = number; point = record { path = []; label = number }; path = codes "main"; place = place; names = names; state = state }
 
 abbrev verdict : ℕ → Place → Bool → Verdict
-verdict number place proved = record { number = number; point = record { path = []; label = number }; path = codes "main"; place = place; proved = proved }
+verdict number place holds = record { kind = Assertion; number = number; point = record { path = []; label = number }; path = codes "main"; place = place; holds = holds }
 
 abbrev lines : List (List ℕ) → List ℕ
 lines = flat_map text_line

@@ -2,9 +2,10 @@
 -- 1896, Weyl 1935).
 -- A report has the generators only over polyhedra, and there both tell the same points.
 use Rattle.std.specs.Prelude.{◌≡◌, ◌↔◌, ℕ, ◌<◌, ℤ, pos, ◌+ℤ◌, ◌*ℤ◌, ◌≤ℤ◌, List, [], ◌∷◌, length, map, get_or, ⊤}
+use Rattle.std.specs.Prelude.{Bool, true, false}
 use Rattle.std.specs.List.{AllByRecursion}
-use Rattle.lra_base.specs.declared.options.Domain.{Domain}
-use Rattle.lra_base.specs.declared.options.Domain.TheVariants.{Poly, Box, Oct}
+use Rattle.lra_options.specs.declared.options.Domain.{Domain}
+use Rattle.lra_options.specs.Domains.{shows_generators}
 use Rattle.lra_show.specs.Part.{Generator, Part}
 use Rattle.lra_linear.specs.declared.GenKind.{GenKind}
 use Rattle.lra_linear.specs.declared.GenKind.TheVariants.{Point, Ray, Line}
@@ -68,8 +69,10 @@ DividesAs Line d = d ≡ 0
 
 -- A part over n variables as the domain has it. Without generators over boxes and octagons the text, which writes those
 -- that are there, agrees with the JSON, which goes by the domain.
-abbrev pub Tells : Domain → ℕ → Part → Type 0
-Tells Poly n part = AllByRecursion (λ (g : Generator). DividesAs g.kind g.divisor) part.generators ×
+abbrev pub TellsBoth : Bool → ℕ → Part → Type 0
+TellsBoth true n part = AllByRecursion (λ (g : Generator). DividesAs g.kind g.divisor) part.generators ×
     HasSamePoints n part × HasPoint n part
-Tells Box n part = part.generators ≡ []
-Tells Oct n part = part.generators ≡ []
+TellsBoth false n part = part.generators ≡ []
+
+abbrev pub Tells : Domain → ℕ → Part → Type 0
+Tells domain n part = TellsBoth (shows_generators domain) n part

@@ -3,11 +3,13 @@
 use Rattle.std.specs.Prelude.{◌⊎◌, ℕ, ℤ, List, [], ◌∷◌, Bool, Option, IsTrue}
 use Rattle.std.specs.List.{AllByRecursion}
 pub use Rattle.lra_base.specs.declared.refusals.Place.{Place}
-use Rattle.lra_base.specs.declared.options.Options.{Options}
+use Rattle.lra_options.specs.declared.options.Options.{Options}
 use Rattle.lra_program.specs.Program.{Program}
-use Rattle.lra_program.specs.Run.{Point, At, Fails}
+use Rattle.lra_program.specs.Run.{Point, At}
 use Rattle.lra_show.specs.Part.{Part}
 use Rattle.lra_show.specs.Rows.{RowHolds}
+use Rattle.lra_findings.specs.declared.verdict_kinds.VerdictKind.{VerdictKind}
+use Rattle.lra_findings.specs.VerdictKinds.{Breaks}
 
 -- what is known at a point: one of the parts holds; no part says that no run comes here
 abbrev pub Invariant : Type 0
@@ -22,13 +24,14 @@ pub record PointReport : Type 0 where
   pub names : List (List ℕ)
   pub state : Invariant
 
--- an assertion's point, and whether no run fails it
+-- what is judged, at which point, where that is printed, and whether no run breaks it
 pub record Verdict : Type 0 where
+  pub kind : VerdictKind
   pub number : ℕ
   pub point : Point
   pub path : List ℕ
   pub place : Place
-  pub proved : Bool
+  pub holds : Bool
 
 -- `flagged` is the number of the point to which the first flagged operation belongs
 pub record Report : Type 0 where
@@ -48,9 +51,9 @@ Holds (part ∷ parts) store = AllByRecursion (λ r. RowHolds r store) part.rows
 abbrev pub IsInvariant : Program → PointReport → Type 0
 IsInvariant P p = (store : List ℤ) → At P p.point store → Holds p.state store
 
--- an assertion that is marked proved fails in no run
+-- what holds is broken in no run: an assertion that is marked proved doesn't fail
 abbrev pub IsRight : Program → Verdict → Type 0
-IsRight P v = IsTrue v.proved → Fails P v.point → ⊥
+IsRight P v = IsTrue v.holds → Breaks v.kind P v.point → ⊥
 
 pub record IsSound (P : Program) (r : Report) : Type 0 where
   pub invariants : AllByRecursion (IsInvariant P) r.points

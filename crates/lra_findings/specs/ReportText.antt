@@ -1,11 +1,17 @@
 -- The text of a report. Every line ends with a line feed.
-use Rattle.std.specs.Prelude.{ℕ, List, [], ◌∷◌, ◌++◌, not, codes, if◌then◌else◌, count_by, Option, Some, None}
+use Rattle.std.specs.Prelude.{ℕ, List, [], ◌∷◌, ◌++◌, codes, if◌then◌else◌, count_by, Option, Some, None}
+use Rattle.std.specs.Prelude.{Bool, not, ◌&&◌}
 use Rattle.std.specs.List.{flat_map}
 use Rattle.std.specs.Fmt.{decimal}
-use Rattle.lra_base.specs.declared.options.Options.{Options}
-use Rattle.lra_base.specs.DomainNames.{domain_name}
+use Rattle.lra_options.specs.declared.options.Options.{Options}
+use Rattle.lra_options.specs.declared.options.NumberOption.{NumberOption}
+use Rattle.lra_options.specs.declared.options.FlagOption.{FlagOption}
+use Rattle.lra_options.specs.Domains.{domain_name}
+use Rattle.lra_options.specs.OptionRows.{number_row, number_value, number_options}
+use Rattle.lra_options.specs.OptionRows.{flag_row, flag_value, flag_options, is_told}
 use Rattle.lra_show.specs.Part.{Part}
 use Rattle.lra_show.specs.Texts.{text_line, part_text}
+use Rattle.lra_findings.specs.VerdictKinds.{row_of, outcome_text}
 use Rattle.lra_findings.specs.Report.{Place, Invariant, PointReport, Verdict, Report}
 
 abbrev pub place_text : Place → List ℕ
@@ -35,28 +41,51 @@ state_text names (part ∷ parts) = part_text names part ++ further_parts_text n
 
 -- the report -------------------------------------------------------------------------------------------------------
 
+abbrev pub number_text : Options → NumberOption → List ℕ
+number_text o option = codes " " ++ (number_row option).name ++ codes " " ++ decimal (number_value option o)
+
+-- nothing where it isn't told
+abbrev pub flag_option_text : Options → FlagOption → List ℕ
+flag_option_text o option = if is_told option o then codes " " ++ (flag_row option).name ++
+    (if flag_value option o then codes " yes" else codes " no") else []
+
 abbrev pub options_text : Options → List ℕ
-options_text o = text_line (codes "analysis " ++ domain_name o.domain ++ codes " parts " ++ decimal o.parts ++
-    codes " delay " ++ decimal o.delay ++ codes " narrow " ++ decimal o.narrow ++ codes " limited " ++
-    (if o.limited then codes "yes" else codes "no"))
+options_text o = text_line (codes "analysis " ++ domain_name o.domain ++ flat_map (number_text o) number_options ++
+    flat_map (flag_option_text o) flag_options)
 
 abbrev pub flag_text : Option ℕ → List ℕ
 flag_text None = text_line (codes "flagged 0")
 flag_text (Some number) = text_line (codes "flagged at point " ++ decimal number)
 
+-- with which the lines of a point and of a verdict begin
+abbrev pub heading_text : List ℕ → ℕ → List ℕ → Place → List ℕ
+heading_text word number path place = word ++ codes " " ++ decimal number ++ codes " " ++ path ++ codes " " ++
+    place_text place
+
 abbrev pub point_text : PointReport → List ℕ
-point_text p = text_line (codes "point " ++ decimal p.number ++ codes " " ++ p.path ++ codes " " ++
-    place_text p.place) ++ state_text p.names p.state
+point_text p = text_line (heading_text (codes "point") p.number p.path p.place) ++ state_text p.names p.state
 
 abbrev pub verdict_text : Verdict → List ℕ
-verdict_text v = text_line (codes "assert " ++ decimal v.number ++ codes " " ++ v.path ++ codes " " ++
-    place_text v.place ++ (if v.proved then codes " proved" else codes " unknown"))
+verdict_text v = text_line (heading_text (row_of v.kind).word v.number v.path v.place ++ codes " " ++
+    outcome_text v.kind v.holds)
+
+-- the last line, which counts the verdicts of the kinds that count ----------------------------------------------------
+
+abbrev pub is_proved : Verdict → Bool
+is_proved v = (row_of v.kind).counts && v.holds
+
+abbrev pub is_unknown : Verdict → Bool
+is_unknown v = (row_of v.kind).counts && not v.holds
 
 abbrev pub proved_count : List Verdict → ℕ
-proved_count vs = count_by (λ v. v.proved) vs
+proved_count vs = count_by is_proved vs
 
 abbrev pub unknown_count : List Verdict → ℕ
-unknown_count vs = count_by (λ v. not v.proved) vs
+unknown_count vs = count_by is_unknown vs
+
+abbrev pub counts_line : List Verdict → List ℕ
+counts_line vs = text_line (codes "verdicts proved " ++ decimal (proved_count vs) ++ codes " unknown " ++
+    decimal (unknown_count vs))
 
 abbrev pub report_text : Report → List ℕ
 report_text r =
@@ -64,5 +93,4 @@ report_text r =
     ++ flag_text r.flagged
     ++ flat_map point_text r.points
     ++ flat_map verdict_text r.verdicts
-    ++ text_line (codes "verdicts proved " ++ decimal (proved_count r.verdicts) ++ codes " unknown " ++
-    decimal (unknown_count r.verdicts))
+    ++ counts_line r.verdicts

@@ -1,4 +1,5 @@
 pub mod Floats
 pub mod JsonPieces
+pub mod Keyed
 pub mod OneJson
 mod ReportJsonExamples

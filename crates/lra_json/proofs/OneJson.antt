@@ -5,12 +5,12 @@ use Rattle.std.specs.List.{AllByRecursion}
 use Rattle.std.proofs.lemmas.List.{append_cancel_left}
 use Rattle.std.proofs.lemmas.Bool.{eqb-false}
 use Rattle.json.specs.Print.{quoted}
-use Rattle.serde_json.specs.Data.{Members, string, member, no_members}
+use Rattle.serde_json.specs.Data.{Members, string, object, member, no_members}
 use Rattle.serde_json.specs.View.{items_of}
 use Rattle.serde_json.specs.Written.{compact_text, items_text, members_text}
-use Rattle.lra_base.specs.declared.options.Domain.{Domain}
-use Rattle.lra_base.specs.declared.options.Domain.TheVariants.{Poly, Box, Oct}
-use Rattle.lra_base.specs.declared.options.Options.{Options}
+use Rattle.lra_options.specs.declared.options.Domain.{Domain}
+use Rattle.lra_options.specs.declared.options.Domain.TheVariants.{Poly, Box, Oct}
+use Rattle.lra_options.specs.declared.options.Options.{Options}
 use Rattle.lra_tree.specs.Texts.{Pieces}
 use Rattle.lra_tree.specs.Trees.{FileTree}
 use Rattle.lra_tree.specs.Grammar.{Spells}
@@ -20,14 +20,15 @@ use Rattle.lra_meaning.specs.Resolve.{resolve}
 use Rattle.lra_meaning.specs.LiveNames.{live_names, globals_named}
 use Rattle.lra_program.specs.Sites.{Site, sites_of}
 use Rattle.lra_show.specs.Rows.{Row}
-use Rattle.lra_program.specs.Assertions.{assertions_from}
 use Rattle.lra_show.specs.Part.{Generator, Part}
 use Rattle.lra_findings.specs.Report.{Invariant, PointReport, Verdict, Report}
-use Rattle.lra_findings.specs.ReportText.{place_text, proved_count, unknown_count}
+use Rattle.lra_findings.specs.ReportText.{place_text}
+use Rattle.lra_findings.specs.VerdictKinds.{row_of, outcome_text}
+use Rattle.lra_findings.proofs.Outcomes.{outcome_told}
 use Rattle.lra_meaning.specs.ShownNames.{shown_names}
 use Rattle.lra_show.specs.Texts.{row_text, generator_text}
 use Rattle.lra_findings.specs.Parts.{Tells}
-use Rattle.lra_report.specs.Listing.{listed_point, listed_verdict, Lists, AreListed, AreJudged, AreParts, IsFlag}
+use Rattle.lra_report.specs.Listing.{listed_point, Subject, subjects, judged_place, listed_verdict, Lists, AreListed, AreJudged, AreParts, IsFlag}
 use Rattle.lra_report.specs.Spelled.{IsSpelledRow, IsSpelledGenerator, IsReadablePart, IsReadablePoint, IsSmallFlag, AreWords}
 use Rattle.lra_report.proofs.Fronts.{AreShownNames, first_same, rest_same, both_same}
 use Rattle.lra_report.proofs.Numbers.{IsShort, decimal_same}
@@ -36,8 +37,9 @@ use Rattle.lra_report.proofs.RowTexts.{row_same}
 use Rattle.lra_report.proofs.GeneratorTexts.{generator_same}
 use Rattle.lra_report.proofs.LiveWords.{accepted_words}
 use Rattle.lra_report.proofs.OneText.{report_by}
-use Rattle.lra_json.specs.ReportJson.{natural, list_of, options_data, verdict_data, rows_data, generators_data, part_data, point_data, flag_data, report_json}
+use Rattle.lra_json.specs.ReportJson.{list_of, options_data, outcome_members, verdict_data, under, counts_of, rows_data, generators_data, part_data, point_data, flag_data, report_json}
 use Rattle.lra_json.specs.ToldApart.{OneSourceJson}
+use Rattle.lra_json.proofs.Keyed.{each_kind, on, judged_under, told_by_keys}
 use Rattle.lra_json.proofs.JsonPieces.{quoted_same, member_same, list_same}
 
 all_both : {A : Type 0} (P Q : A → Type 0) (xs : List A) → AllByRecursion P xs → AllByRecursion Q xs → AllByRecursion (λ x. P x × Q x) xs
@@ -176,40 +178,50 @@ points_same domain outside ls later number (s ∷ sites) (p ∷ ps) (q ∷ qs) u
 
 -- verdicts -----------------------------------------------------------------------
 
-abbrev told : Bool → List ℕ
-told proved = if proved then codes "proved" else codes "unknown"
-
-proved_same : (b c : Bool) → told b ≡ told c → b ≡ c
-proved_same true true e = refl
-proved_same false false e = refl
-proved_same true false e = absurd (eqb-false 112 117 refl (first_same e))
-proved_same false true e = absurd (eqb-false 117 112 refl (first_same e))
-
-verdict_told : (ls : List Labelled) (number : ℕ) (site : Site) (b c : Bool) (u v : List ℕ) →
-    compact_text (verdict_data (listed_verdict ls number site b)) ++ u ≡ compact_text (verdict_data (listed_verdict ls number site c)) ++ v → (b ≡ c) × (u ≡ v)
-verdict_told ls number site b c u v e =
+outcome_members_told : (ls : List Labelled) (x : Subject) (b c : Bool) (u v : List ℕ) →
+    members_text false (outcome_members (listed_verdict ls x b)) ++ u ≡ members_text false (outcome_members (listed_verdict ls x c)) ++ v → (b ≡ c) × (u ≡ v)
+outcome_members_told ls x b c u v e =
     let end : List ℕ = 125 ∷ [] in
-    let more = λ (x : Bool). members_text true (member (codes "verdict") (string (told x)) no_members) in
-    let numbered = append_cancel_left (decimal number) (more b ++ u) (more c ++ v) (member_same (codes "point") (decimal number) (more b) (decimal number) (more c) u v (rest_same e)) in
+    let told : Bool → List ℕ = outcome_text x.kind in
+    let more = λ (y : Bool). members_text true (member (codes "verdict") (string (told y)) no_members) in
+    let numbered = append_cancel_left (decimal x.number) (more b ++ u) (more c ++ v)
+    (member_same (codes "point") (decimal x.number) (more b) (decimal x.number) (more c) u v e) in
     let word = quoted_same (told b) (told c) (end ++ u) (end ++ v) (member_same (codes "verdict") (quoted (told b)) end (quoted (told c)) end u v (rest_same numbered)) in
-    (proved_same b c word.0, rest_same word.1)
+    (outcome_told x.kind b c word.0, rest_same word.1)
 
-verdicts_same : (ls : List Labelled) (later : Bool) (sites : List (ℕ × Site)) (vs ws : List Verdict) (u w : List ℕ) → AreJudged ls sites vs → AreJudged ls sites ws →
+verdict_told : (ls : List Labelled) (x : Subject) (b c : Bool) (u v : List ℕ) →
+    compact_text (verdict_data (listed_verdict ls x b)) ++ u ≡ compact_text (verdict_data (listed_verdict ls x c)) ++ v → (b ≡ c) × (u ≡ v)
+verdict_told ls x b c u v e = go (row_of x.kind).own_place e
+  where
+    at : List ℕ
+    at = place_text (judged_place ls x.kind x.site)
+
+    members : Bool → Bool → Members
+    members own y = if own then member (codes "place") (string at) (outcome_members (listed_verdict ls x y)) else outcome_members (listed_verdict ls x y)
+
+    go : (own : Bool) → compact_text (object (members own b)) ++ u ≡ compact_text (object (members own c)) ++ v → (b ≡ c) × (u ≡ v)
+    go false f = outcome_members_told ls x b c u v (rest_same f)
+    go true f =
+        let more = λ (y : Bool). members_text true (outcome_members (listed_verdict ls x y)) in
+        outcome_members_told ls x b c u v (rest_same (append_cancel_left (quoted at) (more b ++ u) (more c ++ v)
+        (member_same (codes "place") (quoted at) (more b) (quoted at) (more c) u v (rest_same f))))
+
+verdicts_same : (ls : List Labelled) (later : Bool) (xs : List Subject) (vs ws : List Verdict) (u w : List ℕ) → AreJudged ls xs vs → AreJudged ls xs ws →
     items_text later (items_of (map verdict_data vs)) ++ u ≡ items_text later (items_of (map verdict_data ws)) ++ w → (vs ≡ ws) × (u ≡ w)
 verdicts_same ls later [] [] [] u w lv lw e = (refl, rest_same e)
 verdicts_same ls later [] [] (x ∷ ws) u w lv lw e = absurd lw
 verdicts_same ls later [] (v ∷ vs) ws u w lv lw e = absurd lv
-verdicts_same ls later (a ∷ sites) [] ws u w lv lw e = absurd lv
-verdicts_same ls later (a ∷ sites) (v ∷ vs) [] u w lv lw e = absurd lw
-verdicts_same ls later (a ∷ sites) (v ∷ vs) (x ∷ ws) u w lv lw e =
-    let listed = listed_verdict ls a.0 a.1 in
+verdicts_same ls later (a ∷ xs) [] ws u w lv lw e = absurd lv
+verdicts_same ls later (a ∷ xs) (v ∷ vs) [] u w lv lw e = absurd lw
+verdicts_same ls later (a ∷ xs) (v ∷ vs) (x ∷ ws) u w lv lw e =
+    let listed = listed_verdict ls a in
     let text = λ (y : Verdict). compact_text (verdict_data y) in
     let more_v = items_text true (items_of (map verdict_data vs)) in
     let more_x = items_text true (items_of (map verdict_data ws)) in
-    let here : text (listed v.proved) ++ (more_v ++ u) ≡ text (listed x.proved) ++ (more_x ++ w) =
+    let here : text (listed v.holds) ++ (more_v ++ u) ≡ text (listed x.holds) ++ (more_x ++ w) =
     ap (λ y. text y ++ (more_v ++ u)) (sym lv.0) ∙ next_item later (text v) (text x) more_v more_x u w e ∙ ap (λ y. text y ++ (more_x ++ w)) lw.0 in
-    let first = verdict_told ls a.0 a.1 v.proved x.proved (more_v ++ u) (more_x ++ w) here in
-    let further = verdicts_same ls true sites vs ws u w lv.1 lw.1 first.1 in
+    let first = verdict_told ls a v.holds x.holds (more_v ++ u) (more_x ++ w) here in
+    let further = verdicts_same ls true xs vs ws u w lv.1 lw.1 first.1 in
     (both_same (lv.0 ∙ ap listed first.0 ∙ sym lw.0) further.0, further.1)
 
 -- the flag -----------------------------------------------------------------------
@@ -236,10 +248,7 @@ flag_same k l (Some m) None u v hf hg pf pg e =
 
 -- reports ------------------------------------------------------------------------
 
--- the members from the flag, from the points, and behind them
-abbrev counts_of : List Verdict → Members
-counts_of vs = member (codes "proved") (natural (proved_count vs)) (member (codes "unknown") (natural (unknown_count vs)) no_members)
-
+-- the members from the flag and from the points on
 abbrev points_on : Domain → Report → Members
 points_on domain r = member (codes "points") (list_of (point_data domain) r.points) (counts_of r.verdicts)
 
@@ -247,15 +256,15 @@ abbrev flag_on : Domain → Report → Members
 flag_on domain r = member (codes "flagged") (flag_data r.flagged) (points_on domain r)
 
 abbrev asserts_on : Domain → Report → Members
-asserts_on domain r = member (codes "asserts") (list_of verdict_data r.verdicts) (flag_on domain r)
+asserts_on domain r = member (codes "asserts") (list_of verdict_data (under (codes "asserts") r.verdicts)) (flag_on domain r)
 
-abbrev under : Options → Report → Report
-under o r = record { options = o; flagged = r.flagged; points = r.points; verdicts = r.verdicts }
+abbrev report_under : Options → Report → Report
+report_under o r = record { options = o; flagged = r.flagged; points = r.points; verdicts = r.verdicts }
 
 one_json_of : (t : FileTree) (o : Options) (k l : ℕ) (r s : Report) → AllByRecursion (λ x. AreWords (live_names (globals_named t.parts) (labels_of t) x)) (sites_of (resolve t)) → Lists t r →
     Lists t s →
     AllByRecursion (GoodPoint o.domain) r.points → AllByRecursion (GoodPoint o.domain) s.points → IsSmallFlag r.flagged → IsSmallFlag s.flagged → IsFlag k r.flagged → IsFlag l s.flagged →
-    report_json (under o r) ≡ report_json (under o s) → (r.flagged ≡ s.flagged) × (r.points ≡ s.points) × (r.verdicts ≡ s.verdicts)
+    report_json (report_under o r) ≡ report_json (report_under o s) → (r.flagged ≡ s.flagged) × (r.points ≡ s.points) × (r.verdicts ≡ s.verdicts)
 one_json_of t o k l r s words lr ls gr gs small_r small_s flag_r flag_s e =
     let end : List ℕ = 10 ∷ [] in
     let d = o.domain in
@@ -265,25 +274,32 @@ one_json_of t o k l r s words lr ls gr gs small_r small_s flag_r flag_s e =
     let e1 = append_cancel_left analysis (from_r ++ end) (from_s ++ end) (member_same (codes "analysis") analysis from_r analysis from_s end end (rest_same e)) in
     let flagged_r = members_text true (flag_on d r) in
     let flagged_s = members_text true (flag_on d s) in
-    let e2 = member_same (codes "asserts") (compact_text (list_of verdict_data r.verdicts)) flagged_r (compact_text (list_of verdict_data s.verdicts)) flagged_s end end (rest_same e1) in
-    let verdicts = verdicts_same (labels_of t) false (assertions_from 1 (sites_of (resolve t))) r.verdicts s.verdicts (flagged_r ++ end) (flagged_s ++ end) lr.verdicts ls.verdicts (rest_same e2) in
+    let key = codes "asserts" in
+    let judged = subjects t in
+    let e2 = member_same key (compact_text (list_of verdict_data (under key r.verdicts))) flagged_r
+    (compact_text (list_of verdict_data (under key s.verdicts))) flagged_s end end (rest_same e1) in
+    let asserts = verdicts_same (labels_of t) false (on key judged) (under key r.verdicts) (under key s.verdicts) (flagged_r ++ end) (flagged_s ++ end)
+    (judged_under (labels_of t) key judged r.verdicts lr.verdicts) (judged_under (labels_of t) key judged s.verdicts ls.verdicts) (rest_same e2) in
+    let verdicts = told_by_keys (labels_of t) judged r.verdicts s.verdicts lr.verdicts ls.verdicts
+    (each_kind (λ kind. under (row_of kind).key r.verdicts ≡ under (row_of kind).key s.verdicts) asserts.0) in
     let pointed_r = members_text true (points_on d r) in
     let pointed_s = members_text true (points_on d s) in
-    let e3 = member_same (codes "flagged") (compact_text (flag_data r.flagged)) pointed_r (compact_text (flag_data s.flagged)) pointed_s end end (rest_same verdicts.1) in
+    let e3 = member_same (codes "flagged") (compact_text (flag_data r.flagged)) pointed_r (compact_text (flag_data s.flagged)) pointed_s end end
+    (rest_same asserts.1) in
     let flag = flag_same k l r.flagged s.flagged _ _ small_r small_s flag_r flag_s e3 in
     let counts_r = members_text true (counts_of r.verdicts) in
     let counts_s = members_text true (counts_of s.verdicts) in
     let e4 = member_same (codes "points") (compact_text (list_of (point_data d) r.points)) counts_r (compact_text (list_of (point_data d) s.points)) counts_s end end flag.1 in
     let points = points_same d (globals_named t.parts) (labels_of t) false 1 (sites_of (resolve t)) r.points s.points (counts_r ++ end) (counts_s ++ end) words lr.points ls.points gr gs
     (rest_same e4) in
-    (flag.0, points.0, verdicts.0)
+    (flag.0, points.0, verdicts)
 
 -- of a language whose texts are texts of the grammar
 pub one_source_json : (L : Language) → ((t : FileTree) (z : Pieces) → L t z → Spells t z) → (r s : Report) → OneSourceJson L r s
 one_source_json L spelled r s o source one a b readable_r readable_s e =
     let listed_s = subst (λ t. Lists t s) (one b.tree a.tree b.accepted a.accepted) b.lists in
-    let here : report_json (under o r) ≡ report_json (under o s) =
-    ap (λ x. report_json (under x r)) (sym a.options) ∙ e ∙ ap (λ x. report_json (under x s)) b.options in
+    let here : report_json (report_under o r) ≡ report_json (report_under o s) =
+    ap (λ x. report_json (report_under x r)) (sym a.options) ∙ e ∙ ap (λ x. report_json (report_under x s)) b.options in
     let same = one_json_of a.tree o (length r.points) (length s.points) r s (accepted_words L spelled source a.tree a.accepted) a.lists listed_s
     (good_points o r.points a.parts readable_r.points) (good_points o s.points b.parts readable_s.points) readable_r.flag readable_s.flag a.flag b.flag here in
     report_by r s (a.options ∙ sym b.options) same.0 same.1 same.2

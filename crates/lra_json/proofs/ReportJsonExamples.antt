@@ -3,7 +3,7 @@ use Rattle.std.proofs.Common.{◌≡◌, pos, negsuc, List, [], ◌∷◌, ◌++
 use Rattle.std.specs.Prelude.{codes}
 use Rattle.std.specs.Fmt.{digits}
 use Rattle.serde_json.proofs.OnLiterals.{serde_json_on_literals}
-use Rattle.lra_base.specs.declared.options.Domain.TheVariants.{Box}
+use Rattle.lra_options.specs.declared.options.Domain.TheVariants.{Box}
 use Rattle.lra_findings.specs.Report.{Place, PointReport}
 use Rattle.lra_show.specs.Part.{Part}
 use Rattle.lra_show.specs.Texts.{text_line}

@@ -1,6 +1,6 @@
 -- One JSON text, one report.
 use Rattle.std.specs.Prelude.{◌≡◌, ℕ, List}
-use Rattle.lra_base.specs.declared.options.Options.{Options}
+use Rattle.lra_options.specs.declared.options.Options.{Options}
 use Rattle.lra_tree.specs.Faults.{Language}
 use Rattle.lra_findings.specs.Report.{Report}
 use Rattle.lra_report.specs.Listing.{IsReportOf}

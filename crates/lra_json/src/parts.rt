@@ -3,13 +3,14 @@
 ghost use Rattle.std.specs.Prelude.{◌≡◌, IfOk, map};
 ghost use Rattle.serde_json.specs.Data.{string};
 ghost use Rattle.serde_json.specs.View.{view};
-ghost use Rattle.lra_json.specs.ReportJson.{generators_data, rows_data, part_data, point_data, verdict_data};
+ghost use Rattle.lra_json.specs.ReportJson.{generators_data, rows_data, part_data, point_data, verdict_data, under};
 ghost use Rattle.lra_findings.specs.ReportText as written;
 ghost use Rattle.lra_report.specs.View.{point_report_of, verdict_of};
 
 use crate::lists::{generator_values, row_values};
 use crate::object::Object;
-use lra_base::{Domain, Place};
+use lra_base::Place;
+use lra_options::Domain;
 use lra_report::{Part, PointReport, Verdict};
 use lra_show::Names;
 use serde_json::Value;
@@ -40,7 +41,7 @@ fn generators_value(alloc: Global, part: &Part, names: &Names) -> Result<Value, 
     }
 }
 
-/// A part: its rows, and under polyhedra its generators.
+/// A part: its rows, and its generators where the domain shows them.
 fn part_value(
     alloc: Global,
     domain: Domain,
@@ -51,14 +52,11 @@ fn part_value(
 {
     let rows = rows_value(alloc, part, names)?;
     let object = Object::new(alloc).with("rows", rows)?;
-    match domain {
-        Domain::Poly => {
-            let generators = generators_value(alloc, part, names)?;
-            Ok(object.with("generators", generators)?.into_value())
-        }
-        Domain::Box => Ok(object.into_value()),
-        Domain::Oct => Ok(object.into_value()),
+    if !domain.shows_generators() {
+        return Ok(object.into_value());
     }
+    let generators = generators_value(alloc, part, names)?;
+    Ok(object.with("generators", generators)?.into_value())
 }
 
 /// The parts of a state.
@@ -118,24 +116,35 @@ pub(crate) fn point_values(
     Ok(values)
 }
 
-/// An assertion.
+/// A verdict, with its place where it has one of its own.
 fn verdict_value(alloc: Global, verdict: &Verdict) -> Result<Value, AllocError>
     ensures { IfOk result (λ value. view value ≡ verdict_data (verdict_of verdict.now)) }
 {
-    let word = if verdict.proved { "proved" } else { "unknown" };
+    let outcome = verdict.kind.outcome(verdict.holds);
     let object = Object::new(alloc).with("point", Value::from(verdict.number))?;
-    let object = object.with_text("verdict", word)?;
-    Ok(object.into_value())
+    let object = object.with_text("verdict", outcome)?;
+    if !verdict.kind.has_own_place() {
+        return Ok(object.into_value());
+    }
+    let place = place_value(alloc, verdict.place)?;
+    Ok(object.with("place", place)?.into_value())
 }
 
-/// The assertions.
-pub(crate) fn verdict_values(alloc: Global, verdicts: &[Verdict]) -> Result<Vec<Value>, AllocError>
-    ensures { IfOk result (λ values. map view values.items ≡ map verdict_data (map verdict_of verdicts.now)) }
+/// The verdicts that stand under this key.
+pub(crate) fn verdict_values(
+    alloc: Global,
+    key: &str,
+    verdicts: &[Verdict],
+) -> Result<Vec<Value>, AllocError>
+    ensures { IfOk result (λ values. map view values.items ≡
+        map verdict_data (under key.now (map verdict_of verdicts.now))) }
 {
     let mut values = Vec::new(alloc);
     for verdict in verdicts {
-        let value = verdict_value(alloc, verdict)?;
-        values.push(value)?;
+        if verdict.kind.key() == key {
+            let value = verdict_value(alloc, verdict)?;
+            values.push(value)?;
+        }
     }
     Ok(values)
 }

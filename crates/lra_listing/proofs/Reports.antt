@@ -8,6 +8,7 @@ use Rattle.lra_program.specs.Sites.{Site, sites_of}
 use Rattle.lra_operations.specs.declared.graph.Site as code_site
 use Rattle.lra_operations.specs.GraphViews.{site_view}
 use Rattle.lra_tree.specs.Labels.{Labelled, labels_of}
+use Rattle.lra_findings.specs.declared.verdict_kinds.VerdictKind.TheVariants.{Assertion}
 use Rattle.lra_findings.specs.Report.{Invariant, Report}
 use Rattle.lra_meaning.specs.LiveNames.{globals_named}
 use Rattle.lra_report.specs.Listing.{AreListed, Lists}
@@ -15,15 +16,17 @@ use Rattle.lra_listing.specs.Given.{AreInvariants, AreVerdicts, verdict_at}
 use Rattle.lra_listing.proofs.Verdicts.{are_judged, are_there}
 
 pub lists_by_parts : (t : FileTree) (outside : List (List ℕ)) (ls : List Labelled) (ss : List Site) (vs : List (ℕ × Bool)) (r : Report) → outside ≡ globals_named t.parts → ls ≡ labels_of t
-    → ss ≡ sites_of (resolve t) → AreVerdicts (sites_of (resolve t)) vs → AreListed outside ls 1 ss r.points → r.verdicts ≡ map (verdict_at ls ss) vs → Lists t r
+    → ss ≡ sites_of (resolve t) → AreVerdicts (sites_of (resolve t)) vs → AreListed outside ls 1 ss r.points →
+    r.verdicts ≡ map (verdict_at ls ss Assertion) vs → Lists t r
 lists_by_parts t outside ls ss vs r named labelled sited judged points verdicts = record {
   points =
       subst (λ (xs : List Site). AreListed (globals_named t.parts) (labels_of t) 1 xs r.points) sited
       (subst (λ (xs : List Labelled). AreListed (globals_named t.parts) xs 1 ss r.points) labelled
       (subst (λ (xs : List (List ℕ)). AreListed xs ls 1 ss r.points) named points));
   verdicts =
-      are_judged (labels_of t) (sites_of (resolve t)) vs r.verdicts
-      (verdicts ∙ ap (λ (xs : List Labelled). map (verdict_at xs ss) vs) labelled ∙ ap (λ (xs : List Site). map (verdict_at (labels_of t) xs) vs) sited) judged;
+      are_judged (labels_of t) Assertion (sites_of (resolve t)) vs r.verdicts
+      (verdicts ∙ ap (λ (xs : List Labelled). map (verdict_at xs ss Assertion) vs) labelled
+      ∙ ap (λ (xs : List Site). map (verdict_at (labels_of t) xs Assertion) vs) sited) judged;
 }
 
 -- what is known at the program's points is known at the given ones

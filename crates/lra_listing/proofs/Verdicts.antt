@@ -1,5 +1,5 @@
 -- The verdicts of an analysis, told at their points, are those of the assertions.
-use Rattle.std.proofs.Common.{◌≡◌, ◌∙◌, sym, ap, refl, subst, ◌+◌, ◌<◌, ℕ, zero, suc, Bool, true, false, List, [], ◌∷◌, length, map, Some, inl, inr, arith}
+use Rattle.std.proofs.Common.{◌≡◌, ◌∙◌, sym, ap, refl, subst, ◌+◌, ◌<◌, ℕ, zero, suc, Bool, true, false, List, [], ◌∷◌, ◌++◌, length, map, Some, inl, inr, arith}
 use Rattle.std.specs.Prelude.{slice_get, All, if◌then◌else◌}
 use Rattle.std.specs.List.{Contains}
 use Rattle.std.proofs.lemmas.List.Elements.{Contains-get_or}
@@ -8,7 +8,8 @@ use Rattle.lra_linear.proofs.Membership.{contains_none, contains_head, contains_
 use Rattle.lra_findings.specs.Report.{Verdict}
 use Rattle.lra_program.specs.Sites.{Site}
 use Rattle.lra_tree.specs.Labels.{Labelled}
-use Rattle.lra_report.specs.Listing.{listed_verdict, AreJudged}
+use Rattle.lra_findings.specs.declared.verdict_kinds.VerdictKind.{VerdictKind}
+use Rattle.lra_report.specs.Listing.{subject, subjects_of, listed_verdict, AreJudged}
 use Rattle.lra_program.specs.Assertions.{assertions_from}
 use Rattle.lra_listing.specs.Given.{IsAssertion, AreVerdicts, told_of, told, site_at, verdict_at}
 
@@ -101,9 +102,10 @@ all_assertions at k (s ∷ ss) vs there f =
     chosen at k s ss (assertions_from (suc (suc k)) ss) vs s.asserts refl (ap at (sym here) ∙ there 0 s refl) f
     (λ us g. all_assertions at (suc k) ss us (λ j x e. ap at (sym (step_number k j)) ∙ there (suc j) x e) g)
 
-judged_at : (ls : List Labelled) (at : ℕ → Site) (vs : Verdicts) → AreJudged ls (map (with_site at) vs) (map (λ (v : ℕ × Bool). listed_verdict ls (suc v.0) (at v.0) v.1) vs)
-judged_at ls at [] = tt
-judged_at ls at (v ∷ vs) = (refl, judged_at ls at vs)
+judged_at : (ls : List Labelled) (kind : VerdictKind) (at : ℕ → Site) (vs : Verdicts)
+    → AreJudged ls (subjects_of kind (map (with_site at) vs)) (map (λ (v : ℕ × Bool). listed_verdict ls (subject kind (suc v.0) (at v.0)) v.1) vs)
+judged_at ls kind at [] = tt
+judged_at ls kind at (v ∷ vs) = (refl, judged_at ls kind at vs)
 
 from_first : (ss : List Site) (vs : Verdicts) → AreVerdicts ss vs → From 0 ss vs
 from_first ss vs v = record {
@@ -112,20 +114,26 @@ from_first ss vs v = record {
   in_order = v.in_order;
 }
 
-pub are_judged : (ls : List Labelled) (ss : List Site) (vs : Verdicts) (found : List Verdict) → found ≡ map (verdict_at ls ss) vs → AreVerdicts ss vs
-    → AreJudged ls (assertions_from 1 ss) found
-are_judged ls ss vs found is v =
+pub are_judged : (ls : List Labelled) (kind : VerdictKind) (ss : List Site) (vs : Verdicts) (found : List Verdict) →
+    found ≡ map (verdict_at ls ss kind) vs → AreVerdicts ss vs
+    → AreJudged ls (subjects_of kind (assertions_from 1 ss)) found
+are_judged ls kind ss vs found is v =
     let at : ℕ → Site = λ q. site_at ss q in
     let all = all_assertions at 0 ss vs (λ j s e. ap at (let z : 0 + j ≡ j = omega arith in z) ∙ get_or_from_slice_get ss j s _ e) (from_first ss vs v) in
-    subst (λ (xs : List Verdict). AreJudged ls (assertions_from 1 ss) xs) (sym is)
-    (subst (λ (xs : List (ℕ × Site)). AreJudged ls xs (map (verdict_at ls ss) vs)) (sym all) (judged_at ls at vs))
+    subst (λ (xs : List Verdict). AreJudged ls (subjects_of kind (assertions_from 1 ss)) xs) (sym is)
+    (subst (λ (xs : List (ℕ × Site)). AreJudged ls (subjects_of kind xs) (map (verdict_at ls ss kind) vs)) (sym all) (judged_at ls kind at vs))
 
-told_each : (ls : List Labelled) (ss : List Site) (vs : Verdicts) → map told_of (map (verdict_at ls ss) vs) ≡ map told vs
-told_each ls ss [] = refl
-told_each ls ss (v ∷ vs) = ap (λ (xs : Verdicts). told v ∷ xs) (told_each ls ss vs)
+told_each : (ls : List Labelled) (kind : VerdictKind) (ss : List Site) (vs : Verdicts) → map told_of (map (verdict_at ls ss kind) vs) ≡ map (told kind) vs
+told_each ls kind ss [] = refl
+told_each ls kind ss (v ∷ vs) = ap (λ (xs : List (VerdictKind × ℕ × Bool)). told kind v ∷ xs) (told_each ls kind ss vs)
 
-pub are_told : (ls : List Labelled) (ss : List Site) (vs : Verdicts) (found : List Verdict) → found ≡ map (verdict_at ls ss) vs → map told_of found ≡ map told vs
-are_told ls ss vs found is = ap (map told_of) is ∙ told_each ls ss vs
+pub are_told : (ls : List Labelled) (kind : VerdictKind) (ss : List Site) (vs : Verdicts) (found : List Verdict) →
+    found ≡ map (verdict_at ls ss kind) vs → map told_of found ≡ map (told kind) vs
+are_told ls kind ss vs found is = ap (map told_of) is ∙ told_each ls kind ss vs
+
+-- what is added to none is all that there is
+pub added_to_none : {A B : Type 0} (f : A → B) (start : List A) (found ys : List B) → found ≡ map f start ++ ys → start ≡ [] → found ≡ ys
+added_to_none {A} f start found ys is none = is ∙ ap (λ (xs : List A). map f xs ++ ys) none
 
 pub are_there : (ss : List Site) (vs : Verdicts) (n : ℕ) → n ≡ length ss → AreVerdicts ss vs → All (λ (v : ℕ × Bool). v.0 < n) vs
 are_there ss vs n is v k d h =

@@ -6,7 +6,8 @@ use Rattle.std.specs.List.{AllByRecursion}
 use Rattle.lra_findings.specs.Report.{Invariant, PointReport, Verdict}
 use Rattle.lra_program.specs.Sites.{Site}
 use Rattle.lra_tree.specs.Labels.{Labelled}
-use Rattle.lra_report.specs.Listing.{HasWidth, listed_verdict}
+use Rattle.lra_findings.specs.declared.verdict_kinds.VerdictKind.{VerdictKind}
+use Rattle.lra_report.specs.Listing.{HasWidth, subject, listed_verdict}
 
 -- the point of this number is an assertion
 abbrev pub IsAssertion : List Site → ℕ → Type 0
@@ -28,17 +29,17 @@ pub record AreVerdicts (sites : List Site) (verdicts : List (ℕ × Bool)) : Typ
 abbrev pub state_of : PointReport → Invariant
 state_of p = p.state
 
--- a verdict as a report tells it, where points are numbered from 1
-abbrev pub told : ℕ × Bool → ℕ × Bool
-told v = (suc v.0, v.1)
+-- a verdict of a kind as a report tells it, where points are numbered from 1
+abbrev pub told : VerdictKind → ℕ × Bool → VerdictKind × ℕ × Bool
+told kind v = (kind, suc v.0, v.1)
 
-abbrev pub told_of : Verdict → ℕ × Bool
-told_of v = (v.number, v.proved)
+abbrev pub told_of : Verdict → VerdictKind × ℕ × Bool
+told_of v = (v.kind, v.number, v.holds)
 
 -- the point of a number
 abbrev pub site_at : List Site → ℕ → Site
 site_at sites q = slice_index_or sites q (record { path = []; label = 0; live = 0; asserts = false })
 
--- the verdict on the assertion of a number
-abbrev pub verdict_at : List Labelled → List Site → ℕ × Bool → Verdict
-verdict_at ls sites v = listed_verdict ls (suc v.0) (site_at sites v.0) v.1
+-- the verdict of a kind on the point of a number
+abbrev pub verdict_at : List Labelled → List Site → VerdictKind → ℕ × Bool → Verdict
+verdict_at ls sites kind v = listed_verdict ls (subject kind (suc v.0) (site_at sites v.0)) v.1

@@ -12,14 +12,17 @@ ghost use Rattle.lra_meaning.specs.NameFaults.{global_names};
 ghost use Rattle.lra_meaning.specs.ShownNames.{shown_names};
 ghost use Rattle.lra_findings.specs.ReportText.{path_text};
 ghost use Rattle.lra_meaning.specs.LiveNames.{globals_named, names_outside, live_names};
+ghost use Rattle.lra_findings.specs.declared.verdict_kinds.VerdictKind.TheVariants.{Assertion};
 ghost use Rattle.lra_report.specs.Listing.{call_at, called_at, calls_on, listed_point, listed_verdict, AreListed};
-ghost use Rattle.lra_report.specs.Listing.{Lists};
+ghost use Rattle.lra_report.specs.Listing.{Lists, judged_place, subject};
 ghost use Rattle.lra_report.specs.View.{call_place_of, point_report_of, verdict_of, report_of};
 ghost use Rattle.lra_listing.specs.Given.{AreInvariants, AreVerdicts, state_of, told_of, told, verdict_at};
 
-use lra_base::Options;
+use lra_base::Place;
+use lra_findings::VerdictKind;
 use lra_meaning::Labels;
 use lra_operations::Site;
+use lra_options::Options;
 use lra_report::{CallPlace, Part, Point, PointReport, Report, Verdict, names_at, path_text};
 use lra_show::Names;
 use lra_tree::{Global as Variable, Identifier, Item, Tree, Word};
@@ -183,22 +186,34 @@ pub fn list_point(
     })
 }
 
-/// An assertion of the report.
+/// Where a verdict of a kind on a point is printed.
+fn judged_place(labels: &Labels, kind: VerdictKind, site: &Site) -> Place
+    ensures { result ≡ judged_place labels.now.labels kind (site_view site.now) }
+{
+    match kind {
+        VerdictKind::Assertion => labels.place(site.label),
+    }
+}
+
+/// A verdict of the report.
 pub fn list_verdict(
     alloc: Global,
     labels: &Labels,
+    kind: VerdictKind,
     number: u32,
     site: &Site,
-    proved: bool,
+    holds: bool,
 ) -> Result<Verdict, AllocError>
-    ensures { IfOk result (λ v. verdict_of v ≡ listed_verdict labels.now.labels number (site_view site.now) proved) }
+    ensures { IfOk result (λ v. verdict_of v ≡ listed_verdict labels.now.labels
+        (subject kind number (site_view site.now)) holds) }
 {
     Ok(Verdict {
+        kind,
         number,
         point: point(alloc, site)?,
         path: shown_path(alloc, labels, site.path.as_slice())?,
-        place: labels.place(site.label),
-        proved,
+        place: judged_place(labels, kind, site),
+        holds,
     })
 }
 
@@ -270,25 +285,26 @@ fn list_points(
     Ok(points)
 }
 
-/// The verdicts of the report.
-fn list_verdicts(
+/// Adds the verdicts of a kind.
+fn push_verdicts(
     alloc: Global,
     labels: &Labels,
     sites: &[Site],
+    kind: VerdictKind,
     verdicts: &[(usize, bool)],
-) -> Result<Vec<Verdict>, AllocError>
+    listed: &mut Vec<Verdict>,
+) -> Result<(), AllocError>
     requires numbers { length sites.now < 2 ^ 32 }
     requires there { All (λ v. v.0 < length sites.now) verdicts.now }
-    ensures { IfOk result (λ listed. map verdict_of listed.items ≡
-        map (verdict_at labels.now.labels (map site_view sites.now)) verdicts.now) }
+    ensures { IfOk result (λ _. map verdict_of listed.new.items ≡ map verdict_of listed.old.items ++
+        map (verdict_at labels.now.labels (map site_view sites.now) kind) verdicts.now) }
 {
-    let mut listed = Vec::new(alloc);
     'verdicts: for verdict in verdicts {
-        let (index, proved) = *verdict;
+        let (index, holds) = *verdict;
         let site = &sites[index];
-        listed.push(list_verdict(alloc, labels, number_of(index), site, proved)?)?;
+        listed.push(list_verdict(alloc, labels, kind, number_of(index), site, holds)?)?;
     }
-    Ok(listed)
+    Ok(())
 }
 
 /// What a report lists of a source: its tree, the table of its labels, and its points.
@@ -300,7 +316,7 @@ pub struct Outline<'a> {
 }
 
 /// The report of what an analysis found in a source, whose points are numbered from 0 here: the state at each point,
-/// the verdicts in order, each with the number of its assertion and whether it was proved, and the first flagged point.
+/// the verdicts on assertions in order, each with its point's number and whether it holds, and the first flagged point.
 pub fn list(
     alloc: Global,
     outline: &Outline<'_>,
@@ -318,13 +334,22 @@ pub fn list(
     requires flag { (q : ℕ) → flagged ≡ Some q → q < length outline.now.sites.now }
     ensures lists { IfOk result (λ r. Lists (tree_view outline.now.tree.now) (report_of r)) }
     ensures states { IfOk result (λ r. map state_of (report_of r).points ≡ map (λ x. x.items) states.items) }
-    ensures verdicts { IfOk result (λ r. map told_of (report_of r).verdicts ≡ map told verdicts.now) }
+    ensures verdicts { IfOk result (λ r. map told_of (report_of r).verdicts ≡
+        map (told Assertion) verdicts.now) }
     ensures options { IfOk result (λ r. r.options ≡ options) }
     ensures flag { IfOk result (λ r. r.flagged ≡ option_map suc flagged) }
 {
     let globals = names_of_globals(alloc, outline.tree)?;
     let points = list_points(alloc, outline.labels, &globals, outline.sites, states)?;
-    let verdicts = list_verdicts(alloc, outline.labels, outline.sites, verdicts)?;
+    let mut listed = Vec::new(alloc);
+    push_verdicts(
+        alloc,
+        outline.labels,
+        outline.sites,
+        VerdictKind::Assertion,
+        verdicts,
+        &mut listed,
+    )?;
     let flagged = match flagged {
         None => None,
         Some(index) => Some(number_of(index)),
@@ -333,6 +358,6 @@ pub fn list(
         options,
         flagged,
         points,
-        verdicts,
+        verdicts: listed,
     })
 }

@@ -1,5 +1,5 @@
 -- One text, one report.
-use Rattle.std.proofs.Common.{◌≡◌, ℕ, suc, ◌<◌, ◌^◌, Bool, true, false, List, [], ◌∷◌, ◌++◌, length, codes, if◌then◌else◌, refl, ap, sym, ◌∙◌, subst, arith, append_assoc, Option, Some, None}
+use Rattle.std.proofs.Common.{◌≡◌, ℕ, suc, ◌<◌, ◌^◌, nat_eq, Bool, false, List, [], ◌∷◌, ◌++◌, length, codes, refl, ap, sym, ◌∙◌, subst, arith, append_assoc, Option, Some, None}
 use Rattle.std.specs.List.{AllByRecursion, flat_map}
 use Rattle.std.specs.Fmt.{decimal}
 use Rattle.std.proofs.lemmas.List.{append_cancel_left}
@@ -9,13 +9,14 @@ use Rattle.lra_meaning.specs.Resolve.{resolve}
 use Rattle.lra_program.specs.Sites.{Site, sites_of}
 use Rattle.lra_findings.specs.Report.{PointReport, Verdict, Report}
 use Rattle.lra_show.specs.Texts.{text_line}
-use Rattle.lra_findings.specs.ReportText.{place_text, path_text, options_text, flag_text, state_text, point_text, verdict_text, report_text}
+use Rattle.std.specs.Prelude.{get_or}
+use Rattle.lra_findings.specs.VerdictKinds.{row_of, outcome_text}
+use Rattle.lra_findings.proofs.Outcomes.{outcome_same}
+use Rattle.lra_findings.specs.ReportText.{place_text, path_text, heading_text, options_text, flag_text, state_text, point_text, verdict_text, counts_line, report_text}
 use Rattle.lra_meaning.specs.ShownNames.{shown_names}
 use Rattle.lra_meaning.specs.LiveNames.{live_names, globals_named}
-use Rattle.lra_report.specs.Listing.{calls_on, listed_point, listed_verdict, AreListed, AreJudged}
-use Rattle.lra_program.specs.Assertions.{assertions_from}
+use Rattle.lra_report.specs.Listing.{calls_on, listed_point, Subject, subjects, judged_place, listed_verdict, AreListed, AreJudged}
 use Rattle.lra_report.specs.Spelled.{IsReadablePart, IsReadablePoint, IsSmallFlag, AreWords, OneText}
-use Rattle.lra_report.specs.Lines.{counts_line}
 use Rattle.lra_report.proofs.Fronts.{first_same, rest_same, both_same}
 use Rattle.lra_report.proofs.Numbers.{IsShort, decimal_same}
 use Rattle.lra_report.proofs.NameTexts.{are_shown}
@@ -40,7 +41,7 @@ points_same outside ls number (s ∷ sites) [] qs u v hw lp lq hp hq lu lv e = a
 points_same outside ls number (s ∷ sites) (p ∷ ps) [] u v hw lp lq hp hq lu lv e = absurd lq
 points_same outside ls number (s ∷ sites) (p ∷ ps) (q ∷ qs) u v hw lp lq hp hq lu lv e =
     let names = shown_names (live_names outside ls s) in
-    let head = text_line (codes "point " ++ decimal number ++ codes " " ++ path_text (calls_on ls s.path) ++ codes " " ++ place_text (label_place (label_at ls s.label))) in
+    let head = text_line (heading_text (codes "point") number (path_text (calls_on ls s.path)) (label_place (label_at ls s.label))) in
     let rest_p = flat_map point_text ps in
     let rest_q = flat_map point_text qs in
     let text_p : point_text p ≡ head ++ state_text names p.state = ap point_text lp.0 in
@@ -58,34 +59,50 @@ points_same outside ls number (s ∷ sites) (p ∷ ps) (q ∷ qs) u v hw lp lq h
 
 -- verdicts -----------------------------------------------------------------------
 
+-- a text that begins with no blank is no line of a state
+plain_letter : (w u : List ℕ) → nat_eq (get_or w 0 32) 32 ≡ false → letter (w ++ u) ≡ 0
+plain_letter [] u h = cc
+plain_letter (a ∷ []) [] h = refl
+plain_letter (a ∷ []) (b ∷ []) h = refl
+plain_letter (a ∷ []) (b ∷ (c ∷ u)) h = rw h refl
+plain_letter (a ∷ (b ∷ [])) [] h = refl
+plain_letter (a ∷ (b ∷ [])) (c ∷ u) h = rw h refl
+plain_letter (a ∷ (b ∷ (c ∷ w))) u h = rw h refl
+
+-- what stands behind the word of a verdict
+behind_word : (w a d p l o r u : List ℕ) → ((((((((((w ++ a) ++ d) ++ a) ++ p) ++ a) ++ l) ++ a) ++ o) ++ 10 ∷ []) ++ r) ++ u ≡ w ++
+    (a ++ (d ++ (a ++ (p ++ (a ++ (l ++ (a ++ (o ++ (10 ∷ (r ++ u))))))))))
+behind_word w a d p l o r u = simp append_assoc
+
+verdict_letter : (v : Verdict) (r u : List ℕ) → letter ((verdict_text v ++ r) ++ u) ≡ 0
+verdict_letter v r u =
+    let word = (row_of v.kind).word in
+    ap letter (behind_word word (codes " ") (decimal v.number) v.path (place_text v.place) (outcome_text v.kind v.holds) r u)
+    ∙ plain_letter word _ (row_of v.kind).begins
+
 counts_letter : (vs ws : List Verdict) → letter (flat_map verdict_text vs ++ counts_line ws) ≡ 0
 counts_letter [] ws = refl
-counts_letter (v ∷ vs) ws = refl
+counts_letter (v ∷ vs) ws = verdict_letter v (flat_map verdict_text vs) (counts_line ws)
 
-proved_same : (b c : Bool) (u v : List ℕ) → (if b then codes " proved" else codes " unknown") ++ (10 ∷ u) ≡ (if c then codes " proved" else codes " unknown") ++ (10 ∷ v) → (b ≡ c) × (u ≡ v)
-proved_same true true u v e = (refl, rest_same (append_cancel_left (codes " proved") (10 ∷ u) (10 ∷ v) e))
-proved_same false false u v e = (refl, rest_same (append_cancel_left (codes " unknown") (10 ∷ u) (10 ∷ v) e))
-proved_same true false u v e = absurd (eqb-false 112 117 refl (first_same (rest_same e)))
-proved_same false true u v e = absurd (eqb-false 117 112 refl (first_same (rest_same e)))
-
-verdicts_same : (ls : List Labelled) (sites : List (ℕ × Site)) (vs ws : List Verdict) (u w : List ℕ) → AreJudged ls sites vs → AreJudged ls sites ws →
+verdicts_same : (ls : List Labelled) (xs : List Subject) (vs ws : List Verdict) (u w : List ℕ) → AreJudged ls xs vs → AreJudged ls xs ws →
     flat_map verdict_text vs ++ u ≡ flat_map verdict_text ws ++ w → vs ≡ ws
 verdicts_same ls [] [] [] u w lv lw e = refl
 verdicts_same ls [] [] (x ∷ ws) u w lv lw e = absurd lw
 verdicts_same ls [] (v ∷ vs) ws u w lv lw e = absurd lv
-verdicts_same ls (a ∷ sites) [] ws u w lv lw e = absurd lv
-verdicts_same ls (a ∷ sites) (v ∷ vs) [] u w lv lw e = absurd lw
-verdicts_same ls (a ∷ sites) (v ∷ vs) (x ∷ ws) u w lv lw e =
-    let head = codes "assert " ++ decimal a.0 ++ codes " " ++ path_text (calls_on ls a.1.path) ++ codes " " ++ place_text (label_place (label_at ls a.1.label)) in
-    let told : Bool → List ℕ = λ b. if b then codes " proved" else codes " unknown" in
-    let text_v : verdict_text v ≡ text_line (head ++ told v.proved) = ap verdict_text lv.0 in
-    let text_x : verdict_text x ≡ text_line (head ++ told x.proved) = ap verdict_text lw.0 in
+verdicts_same ls (a ∷ xs) [] ws u w lv lw e = absurd lv
+verdicts_same ls (a ∷ xs) (v ∷ vs) [] u w lv lw e = absurd lw
+verdicts_same ls (a ∷ xs) (v ∷ vs) (x ∷ ws) u w lv lw e =
+    let head = heading_text (row_of a.kind).word a.number (path_text (calls_on ls a.site.path)) (judged_place ls a.kind a.site) ++ codes " " in
+    let told : Bool → List ℕ = outcome_text a.kind in
+    let text_v : verdict_text v ≡ text_line (head ++ told v.holds) = ap verdict_text lv.0 in
+    let text_x : verdict_text x ≡ text_line (head ++ told x.holds) = ap verdict_text lw.0 in
     let rest_v = flat_map verdict_text vs in
     let rest_x = flat_map verdict_text ws in
-    let here : head ++ (told v.proved ++ (10 ∷ (rest_v ++ u))) ≡ head ++ (told x.proved ++ (10 ∷ (rest_x ++ w))) =
-    sym (ap (λ t. (t ++ rest_v) ++ u) text_v ∙ line_pieces head (told v.proved) rest_v u) ∙ e ∙ ap (λ t. (t ++ rest_x) ++ w) text_x ∙ line_pieces head (told x.proved) rest_x w in
-    let first = proved_same v.proved x.proved (rest_v ++ u) (rest_x ++ w) (append_cancel_left head _ _ here) in
-    both_same (lv.0 ∙ ap (listed_verdict ls a.0 a.1) first.0 ∙ sym lw.0) (verdicts_same ls sites vs ws u w lv.1 lw.1 first.1)
+    let here : head ++ (told v.holds ++ (10 ∷ (rest_v ++ u))) ≡ head ++ (told x.holds ++ (10 ∷ (rest_x ++ w))) =
+    sym (ap (λ t. (t ++ rest_v) ++ u) text_v ∙ line_pieces head (told v.holds) rest_v u) ∙ e ∙ ap (λ t. (t ++ rest_x) ++ w) text_x
+    ∙ line_pieces head (told x.holds) rest_x w in
+    let first = outcome_same a.kind v.holds x.holds (rest_v ++ u) (rest_x ++ w) (append_cancel_left head _ _ here) in
+    both_same (lv.0 ∙ ap (listed_verdict ls a) first.0 ∙ sym lw.0) (verdicts_same ls xs vs ws u w lv.1 lw.1 first.1)
 
 -- the flag -----------------------------------------------------------------------
 
@@ -128,5 +145,5 @@ one_report r s t words listed_r listed_s options hr hs e =
     let flags = flag_same r.flagged s.flagged _ _ hr.flag hs.flag (append_cancel_left (options_text s.options) (tail r) (tail s) here) in
     let points = points_same (globals_named t.parts) (labels_of t) 1 (sites_of (resolve t)) r.points s.points _ _ words listed_r.points listed_s.points hr.points hs.points
     (counts_letter r.verdicts r.verdicts) (counts_letter s.verdicts s.verdicts) flags.1 in
-    let verdicts = verdicts_same (labels_of t) (assertions_from 1 (sites_of (resolve t))) r.verdicts s.verdicts _ _ listed_r.verdicts listed_s.verdicts points.1 in
+    let verdicts = verdicts_same (labels_of t) (subjects t) r.verdicts s.verdicts _ _ listed_r.verdicts listed_s.verdicts points.1 in
     report_by r s options flags.0 points.0 verdicts

@@ -1,8 +1,8 @@
 -- Reports that aren't those of a source. Which slip an example would catch stands beside it.
 use Rattle.std.proofs.Common.{◌≡◌, ℕ, List, [], ◌∷◌, ap, subst, sym, arith}
 use Rattle.std.specs.Prelude.{codes}
-use Rattle.lra_base.specs.declared.options.Domain.TheVariants.{Poly, Box}
-use Rattle.lra_base.specs.declared.options.Options.{Options}
+use Rattle.lra_options.specs.declared.options.Domain.TheVariants.{Poly, Box}
+use Rattle.lra_options.specs.declared.options.Options.{Options}
 use Rattle.lra_show.specs.Part.{Part}
 use Rattle.lra_findings.specs.Parts.{Tells}
 use Rattle.lra_tree.specs.Grammar.{Spells}

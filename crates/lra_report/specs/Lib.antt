@@ -1,6 +1,5 @@
 pub mod Rows
 pub mod View
-pub mod Lines
 pub mod Spelled
 -- Which points and verdicts the report of a source lists.
 pub mod Listing

@@ -1,10 +1,13 @@
 -- Which points and verdicts the report of a source lists: all points in the order of their numbers, from 1, each with
--- its path, its place, the names of its live variables, and rows and generators over these; and a verdict for each
--- assertion, in order.
-use Rattle.std.specs.Prelude.{◌≡◌, ℕ, suc, Bool, List, [], ◌∷◌, ◌++◌, length, Option, Some, None, ⊤, ◌<◌, ◌≤◌}
+-- its path, its place, the names of its live variables, and rows and generators over these; and a verdict on each of
+-- what is judged, in order: on each assertion.
+use Rattle.std.specs.Prelude.{◌≡◌, ℕ, suc, Bool, List, [], ◌∷◌, ◌++◌, length, map, Option, Some, None, ⊤, ◌<◌, ◌≤◌}
 use Rattle.std.specs.List.{AllByRecursion}
 use Rattle.lra_tree.specs.declared.trees.Identifier.{Identifier}
-use Rattle.lra_base.specs.declared.options.Options.{Options}
+use Rattle.lra_options.specs.declared.options.Options.{Options}
+use Rattle.lra_base.specs.declared.refusals.Place.{Place}
+use Rattle.lra_findings.specs.declared.verdict_kinds.VerdictKind.{VerdictKind}
+use Rattle.lra_findings.specs.declared.verdict_kinds.VerdictKind.TheVariants.{Assertion}
 use Rattle.lra_show.specs.Part.{Generator, Part}
 use Rattle.lra_findings.specs.Report.{Invariant, PointReport, Verdict, Report, IsSound}
 use Rattle.lra_show.specs.Rows.{Row}
@@ -43,14 +46,37 @@ listed_point outside ls number s state = record {
   state = state;
 }
 
-abbrev pub listed_verdict : List Labelled → ℕ → Site → Bool → Verdict
-listed_verdict ls number s proved = record {
-  number = number;
-  point = record { path = s.path; label = s.label };
-  path = path_text (calls_on ls s.path);
-  place = label_place (label_at ls s.label);
-  proved = proved;
+-- what is judged: the kind, the point and its number
+pub record Subject : Type 0 where
+  pub kind : VerdictKind
+  pub number : ℕ
+  pub site : Site
+
+abbrev pub subject : VerdictKind → ℕ → Site → Subject
+subject kind number site = record { kind = kind; number = number; site = site }
+
+-- where a verdict on it is printed
+abbrev pub judged_place : List Labelled → VerdictKind → Site → Place
+judged_place ls Assertion s = label_place (label_at ls s.label)
+
+-- but for whether it holds
+abbrev pub listed_verdict : List Labelled → Subject → Bool → Verdict
+listed_verdict ls x holds = record {
+  kind = x.kind;
+  number = x.number;
+  point = record { path = x.site.path; label = x.site.label };
+  path = path_text (calls_on ls x.site.path);
+  place = judged_place ls x.kind x.site;
+  holds = holds;
 }
+
+-- these points, each with its number, are judged by this kind
+abbrev pub subjects_of : VerdictKind → List (ℕ × Site) → List Subject
+subjects_of kind points = map (λ (p : ℕ × Site). subject kind p.0 p.1) points
+
+-- what is judged of a source's program, in order
+abbrev pub subjects : FileTree → List Subject
+subjects t = subjects_of Assertion (assertions_from 1 (sites_of (resolve t)))
 
 -- a number for each of so many variables
 abbrev pub HasWidth : ℕ → Part → Type 0
@@ -65,16 +91,16 @@ AreListed outside ls number (s ∷ ss) [] = ⊥
 AreListed outside ls number (s ∷ ss) (p ∷ ps) = (p ≡ listed_point outside ls number s p.state) ×
     AllByRecursion (HasWidth s.live) p.state × AreListed outside ls (suc number) ss ps
 
--- the verdicts are those of these assertions
-abbrev pub AreJudged : List Labelled → List (ℕ × Site) → List Verdict → Type 0
+-- the verdicts are those on these
+abbrev pub AreJudged : List Labelled → List Subject → List Verdict → Type 0
 AreJudged ls [] [] = ⊤
 AreJudged ls [] (v ∷ vs) = ⊥
-AreJudged ls (a ∷ rest) [] = ⊥
-AreJudged ls (a ∷ rest) (v ∷ vs) = (v ≡ listed_verdict ls a.0 a.1 v.proved) × AreJudged ls rest vs
+AreJudged ls (x ∷ rest) [] = ⊥
+AreJudged ls (x ∷ rest) (v ∷ vs) = (v ≡ listed_verdict ls x v.holds) × AreJudged ls rest vs
 
 pub record Lists (t : FileTree) (r : Report) : Type 0 where
   pub points : AreListed (globals_named t.parts) (labels_of t) 1 (sites_of (resolve t)) r.points
-  pub verdicts : AreJudged (labels_of t) (assertions_from 1 (sites_of (resolve t))) r.verdicts
+  pub verdicts : AreJudged (labels_of t) (subjects t) r.verdicts
 
 -- the number of the first flagged point, where there is one, is that of a point
 abbrev pub IsFlag : ℕ → Option ℕ → Type 0
@@ -87,8 +113,8 @@ pub record AreParts (o : Options) (p : PointReport) : Type 0 where
   pub few : length p.state ≤ o.parts
   pub tell : AllByRecursion (Tells o.domain (length p.names)) p.state
 
--- what is written of an accepted source of the language L under these options: all its points and assertions; at each
--- point what every run meets there; no assertion that fails is proved
+-- what is written of an accepted source of the language L under these options: all its points and what is judged of
+-- them; at each point what every run meets there; no assertion that fails is proved
 pub record IsReportOf (L : Language) (o : Options) (source : List ℕ) (r : Report) : Type 0 where
   pub options : r.options ≡ o
   pub tree : FileTree

@@ -12,7 +12,7 @@ use Rattle.lra_program.specs.Sites.{sites_of}
 use Rattle.lra_tree.specs.Grammar.{Spells}
 use Rattle.lra_tree.specs.Faults.{Language}
 use Rattle.lra_meaning.specs.Refuse.{Accepts}
-use Rattle.lra_base.specs.declared.options.Options.{Options}
+use Rattle.lra_options.specs.declared.options.Options.{Options}
 use Rattle.lra_show.specs.Part.{Generator, Part}
 use Rattle.lra_findings.specs.Report.{PointReport, Report}
 use Rattle.lra_linear.specs.declared.ConKind.{ConKind}

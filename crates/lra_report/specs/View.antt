@@ -1,10 +1,7 @@
--- The report that the program's data stand for, and the pieces of its text that recur.
-use Rattle.std.specs.Prelude.{ℕ, List, ◌++◌, map, string_bytes, codes}
-use Rattle.std.specs.Fmt.{decimal}
-use Rattle.lra_base.specs.declared.refusals.Place.{Place}
+-- The report that the program's data stand for.
+use Rattle.std.specs.Prelude.{map, string_bytes}
 use Rattle.lra_program.specs.Run as run
 use Rattle.lra_findings.specs.Report as report
-use Rattle.lra_findings.specs.ReportText.{place_text}
 use Rattle.lra_findings.specs.ReportText as written
 use Rattle.lra_report.specs.declared.report.Point.{Point}
 use Rattle.lra_report.specs.declared.report.PointReport.{PointReport}
@@ -27,11 +24,12 @@ point_report_of p = record {
 
 abbrev pub verdict_of : Verdict → report.Verdict
 verdict_of v = record {
+  kind = v.kind;
   number = v.number;
   point = point_of v.point;
   path = string_bytes v.path;
   place = v.place;
-  proved = v.proved;
+  holds = v.holds;
 }
 
 abbrev pub report_of : Report → report.Report
@@ -44,7 +42,3 @@ report_of r = record {
 
 abbrev pub call_place_of : CallPlace → written.CallPlace
 call_place_of c = record { name = string_bytes c.name; place = c.place }
-
--- what the lines of a point and of an assertion begin with
-abbrev pub heading_text : List ℕ → ℕ → List ℕ → Place → List ℕ
-heading_text word number path place = word ++ decimal number ++ codes " " ++ path ++ codes " " ++ place_text place

@@ -1,9 +1,13 @@
 //! What a report has.
 
-ghost use Rattle.std.specs.Prelude.{◌≡◌, count_by, not};
+ghost use Rattle.std.specs.Prelude.{◌≡◌, count_by};
+ghost use Rattle.lra_findings.specs.ReportText.{is_proved, is_unknown};
+ghost use Rattle.lra_report.specs.View.{verdict_of};
 
 use crate::part::Part;
-use lra_base::{Options, Place};
+use lra_base::Place;
+use lra_findings::VerdictKind;
+use lra_options::Options;
 use lra_show::Names;
 
 /// A point of the program: its statement's label, and the labels of the calls that lead to it, the innermost first.
@@ -42,24 +46,42 @@ impl Drop for PointReport {
     }
 }
 
-/// An assertion's point, and whether no run fails it.
+/// What is judged, at which point, where that is printed, and whether no run breaks it.
 pub struct Verdict {
+    pub kind: VerdictKind,
     pub number: u32,
     pub point: Point,
     pub path: String,
     pub place: Place,
-    pub proved: bool,
+    pub holds: bool,
 }
 
 impl Drop for Verdict {
     fn drop(self) {
         let Verdict {
+            kind: _,
             number: _,
             point: _,
             path: _,
             place: _,
-            proved: _,
+            holds: _,
         } = self;
+    }
+}
+
+impl Verdict {
+    /// Whether it counts as proved.
+    fn is_proved(&self) -> bool
+        ensures { result ≡ is_proved (verdict_of self.now) }
+    {
+        self.kind.counts() && self.holds
+    }
+
+    /// Whether it counts as unknown.
+    fn is_unknown(&self) -> bool
+        ensures { result ≡ is_unknown (verdict_of self.now) }
+    {
+        self.kind.counts() && !self.holds
     }
 }
 
@@ -84,17 +106,17 @@ impl Drop for Report {
 }
 
 impl Report {
-    /// How many assertions are proved.
+    /// How many verdicts that count hold.
     pub fn proved_count(&self) -> usize
-        ensures { result ≡ count_by (λ v. v.proved) self.now.verdicts.items }
+        ensures { result ≡ count_by (λ v. is_proved (verdict_of v)) self.now.verdicts.items }
     {
-        self.verdicts.iter().filter(|v| v.proved).count()
+        self.verdicts.iter().filter(|v| v.is_proved()).count()
     }
 
-    /// How many assertions are not proved.
+    /// How many that count are unknown.
     pub fn unknown_count(&self) -> usize
-        ensures { result ≡ count_by (λ v. not v.proved) self.now.verdicts.items }
+        ensures { result ≡ count_by (λ v. is_unknown (verdict_of v)) self.now.verdicts.items }
     {
-        self.verdicts.iter().filter(|v| !v.proved).count()
+        self.verdicts.iter().filter(|v| v.is_unknown()).count()
     }
 }

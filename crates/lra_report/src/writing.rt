@@ -3,13 +3,14 @@
 ghost use Rattle.std.specs.Prelude.{◌≡◌, ◌++◌, map, OnOk, IfOk, string_bytes};
 ghost use Rattle.std.specs.List.{flat_map};
 ghost use Rattle.lra_show.specs.Texts.{part_text};
+ghost use Rattle.lra_options.specs.OptionRows.{number_options, flag_options};
 ghost use Rattle.lra_findings.specs.ReportText as written;
-ghost use Rattle.lra_report.specs.View.{point_report_of, verdict_of, report_of, heading_text};
-ghost use Rattle.lra_report.specs.Lines.{counts_line};
+ghost use Rattle.lra_report.specs.View.{point_report_of, verdict_of, report_of};
 
 use crate::part::Part;
 use crate::report::{PointReport, Report, Verdict};
-use lra_base::{Options, Place};
+use lra_base::Place;
+use lra_options::{FLAG_OPTIONS, FlagOption, NUMBER_OPTIONS, Options};
 use lra_show::{Names, push_generators, push_rows};
 use std::alloc::{AllocError, Global};
 
@@ -65,7 +66,7 @@ fn push_state(
     }
 }
 
-/// Appends what the lines of a point and of an assertion begin with.
+/// Appends what the lines of a point and of a verdict begin with.
 fn push_heading(
     text: &mut String,
     word: &str,
@@ -74,11 +75,11 @@ fn push_heading(
     place: Place,
 ) -> Result<(), AllocError>
     ensures { OnOk result (string_bytes text.new ≡ string_bytes text.old ++
-        heading_text word.now number path.now place) }
+        written.heading_text word.now number path.now place) }
 {
     let line = place.line;
     let column = place.column;
-    write!(text, "{word}{number} {path} {line}:{column}")
+    write!(text, "{word} {number} {path} {line}:{column}")
 }
 
 /// Appends the lines of a point.
@@ -88,7 +89,7 @@ fn push_point(text: &mut String, alloc: Global, point: &PointReport) -> Result<(
 {
     push_heading(
         text,
-        "point ",
+        "point",
         point.number,
         point.path.as_str(),
         point.place,
@@ -97,23 +98,20 @@ fn push_point(text: &mut String, alloc: Global, point: &PointReport) -> Result<(
     push_state(text, alloc, point.state.as_slice(), &point.names)
 }
 
-/// Appends the line of an assertion.
+/// Appends the line of a verdict.
 fn push_verdict(text: &mut String, verdict: &Verdict) -> Result<(), AllocError>
     ensures { OnOk result (string_bytes text.new ≡ string_bytes text.old ++
         written.verdict_text (verdict_of verdict.now)) }
 {
     push_heading(
         text,
-        "assert ",
+        verdict.kind.word(),
         verdict.number,
         verdict.path.as_str(),
         verdict.place,
     )?;
-    text.push_str(if verdict.proved {
-        " proved\n"
-    } else {
-        " unknown\n"
-    })
+    let outcome = verdict.kind.outcome(verdict.holds);
+    writeln!(text, " {outcome}")
 }
 
 /// Appends the lines of the points.
@@ -127,7 +125,7 @@ fn push_points(text: &mut String, alloc: Global, points: &[PointReport]) -> Resu
     Ok(())
 }
 
-/// Appends the lines of the assertions.
+/// Appends the lines of the verdicts.
 fn push_verdicts(text: &mut String, verdicts: &[Verdict]) -> Result<(), AllocError>
     ensures { OnOk result (string_bytes text.new ≡ string_bytes text.old ++
         flat_map written.verdict_text (map verdict_of verdicts.now)) }
@@ -138,19 +136,56 @@ fn push_verdicts(text: &mut String, verdicts: &[Verdict]) -> Result<(), AllocErr
     Ok(())
 }
 
+/// Appends what is told of the options that are numbers.
+fn push_number_options(text: &mut String, options: Options) -> Result<(), AllocError>
+    ensures { OnOk result (string_bytes text.new ≡ string_bytes text.old ++
+        flat_map (written.number_text options) number_options) }
+{
+    for option in NUMBER_OPTIONS.iter() {
+        let name = option.name();
+        let value = option.value(options);
+        write!(text, " {name} {value}")?;
+    }
+    Ok(())
+}
+
+/// Appends what is told of an option that is a flag.
+fn push_flag_option(
+    text: &mut String,
+    options: Options,
+    option: FlagOption,
+) -> Result<(), AllocError>
+    ensures { OnOk result (string_bytes text.new ≡ string_bytes text.old ++
+        written.flag_option_text options option) }
+{
+    if !option.is_told(options) {
+        return Ok(());
+    }
+    let name = option.name();
+    let word = if option.value(options) { "yes" } else { "no" };
+    write!(text, " {name} {word}")
+}
+
+/// Appends what is told of the options that are flags.
+fn push_flag_options(text: &mut String, options: Options) -> Result<(), AllocError>
+    ensures { OnOk result (string_bytes text.new ≡ string_bytes text.old ++
+        flat_map (written.flag_option_text options) flag_options) }
+{
+    for option in FLAG_OPTIONS.iter() {
+        push_flag_option(text, options, *option)?;
+    }
+    Ok(())
+}
+
 /// Appends the line of the options.
 fn push_options(text: &mut String, options: Options) -> Result<(), AllocError>
     ensures { OnOk result (string_bytes text.new ≡ string_bytes text.old ++ written.options_text options) }
 {
     let domain = options.domain.name();
-    let parts = options.parts;
-    let delay = options.delay;
-    let narrow = options.narrow;
-    write!(
-        text,
-        "analysis {domain} parts {parts} delay {delay} narrow {narrow} limited "
-    )?;
-    text.push_str(if options.limited { "yes\n" } else { "no\n" })
+    write!(text, "analysis {domain}")?;
+    push_number_options(text, options)?;
+    push_flag_options(text, options)?;
+    text.push_str("\n")
 }
 
 /// Appends the line of the flag.
@@ -166,7 +201,7 @@ pub fn push_flag(text: &mut String, flagged: Option<u32>) -> Result<(), AllocErr
 /// Appends the last line, which counts the verdicts.
 pub fn push_counts(text: &mut String, report: &Report) -> Result<(), AllocError>
     ensures { OnOk result (string_bytes text.new ≡ string_bytes text.old ++
-        counts_line (report_of report.now).verdicts) }
+        written.counts_line (report_of report.now).verdicts) }
 {
     let proved = report.proved_count();
     let unknown = report.unknown_count();

@@ -4,21 +4,25 @@ use Rattle.lra_operations.specs.GraphViews.{site_view}
 use Rattle.lra_tree.specs.Views.{tree_view}
 use Rattle.lra_meaning.specs.Resolve.{resolve}
 use Rattle.lra_program.specs.Sites.{sites_of}
+use Rattle.lra_findings.specs.declared.verdict_kinds.VerdictKind.TheVariants.{Assertion}
 use Rattle.lra_report.specs.View.{verdict_of, report_of}
-use Rattle.lra_listing.proofs.Verdicts.{are_told}
+use Rattle.lra_listing.proofs.Verdicts.{added_to_none, are_told}
 use Rattle.lra_listing.proofs.Reports.{lists_by_parts, verdicts_there}
 use Rattle.lra_listing.proofs.listing.list.Goals as goal
 
-pub list_verdicts-requires-clause-there : goal.list_verdicts-requires-clause-there
-list_verdicts-requires-clause-there c =
+pub push_verdicts-requires-clause-there : goal.push_verdicts-requires-clause-there
+push_verdicts-requires-clause-there c =
     verdicts_there c.args.outline.now.sites.now (sites_of (resolve (tree_view c.args.outline.now.tree.now))) c.args.verdicts.now c.requires.sites c.requires.verdicts
 
 pub returns-clause-lists : goal.returns-clause-lists
 returns-clause-lists c =
     lists_by_parts (tree_view c.args.outline.now.tree.now) c.in_ok-globals.globals c.args.outline.now.labels.now.labels (map site_view c.args.outline.now.sites.now) c.args.verdicts.now
-    (report_of (record { options = c.args.options; flagged = c.match-flagged.flagged; points = c.in_ok-points.points; verdicts = c.in_ok-verdicts.verdicts }))
-    c.in_ok-globals.ensures c.requires.labels c.requires.sites c.requires.verdicts c.in_ok-points.ensures.listed c.in_ok-verdicts.ensures
+    (report_of (record { options = c.args.options; flagged = c.match-flagged.flagged; points = c.in_ok-points.points; verdicts = c.push_verdicts.new.listed }))
+    c.in_ok-globals.ensures c.requires.labels c.requires.sites c.requires.verdicts c.in_ok-points.ensures.listed
+    (added_to_none verdict_of _ _ _ c.in_ok-push_verdicts.ensures c.new-listed.ensures.items)
 
 pub returns-clause-verdicts : goal.returns-clause-verdicts
 returns-clause-verdicts c =
-    are_told c.args.outline.now.labels.now.labels (map site_view c.args.outline.now.sites.now) c.args.verdicts.now (map verdict_of c.in_ok-verdicts.verdicts.items) c.in_ok-verdicts.ensures
+    are_told c.args.outline.now.labels.now.labels Assertion (map site_view c.args.outline.now.sites.now) c.args.verdicts.now
+    (map verdict_of c.push_verdicts.new.listed.items)
+    (added_to_none verdict_of _ _ _ c.in_ok-push_verdicts.ensures c.new-listed.ensures.items)

@@ -1,0 +1,51 @@
+-- What is judged of a program at its points: a row for each kind. From it come a verdict's line, its place in the JSON,
+-- and whether it counts.
+use Rattle.std.specs.Prelude.{◌≡◌, refl, ℕ, nat_eq, List, [], ◌∷◌, get_or, Bool, true, false, codes, if◌then◌else◌}
+use Rattle.lra_options.specs.declared.options.Options.{Options}
+use Rattle.lra_program.specs.Program.{Program}
+use Rattle.lra_program.specs.Run.{Point, Fails}
+use Rattle.lra_findings.specs.declared.verdict_kinds.VerdictKind.{VerdictKind}
+use Rattle.lra_findings.specs.declared.verdict_kinds.VerdictKind.TheVariants.{Assertion}
+
+-- `word` begins its lines. Its outcome is `if_holds` where no run breaks it, `if_open` where that isn't known. Those
+-- that count are in the last line and in the status. `own_place`: they have a place of their own, not their point's,
+-- and JSON tells it. In JSON they stand under `key`, where it `stands` for these options and for whether any verdict
+-- is told under it.
+pub record VerdictRow : Type 0 where
+  pub word : List ℕ
+  pub if_holds : List ℕ
+  pub if_open : List ℕ
+  pub counts : Bool
+  pub own_place : Bool
+  pub key : List ℕ
+  pub stands : Options → Bool → Bool
+  -- the word begins with another byte than a blank, and the outcomes with different bytes: a text tells which it has
+  pub begins : nat_eq (get_or word 0 32) 32 ≡ false
+  pub apart : nat_eq (get_or if_holds 0 10) (get_or if_open 0 10) ≡ false
+
+abbrev pub assertion_row : VerdictRow
+assertion_row = record {
+  word = codes "assert";
+  if_holds = codes "proved";
+  if_open = codes "unknown";
+  counts = true;
+  own_place = false;
+  key = codes "asserts";
+  stands = λ options is_listed. true;
+  begins = refl;
+  apart = refl;
+}
+
+abbrev pub row_of : VerdictKind → VerdictRow
+row_of Assertion = assertion_row
+
+-- all kinds
+abbrev pub kinds : List VerdictKind
+kinds = Assertion ∷ []
+
+abbrev pub outcome_text : VerdictKind → Bool → List ℕ
+outcome_text kind holds = if holds then (row_of kind).if_holds else (row_of kind).if_open
+
+-- what no run does at a point where a verdict of the kind holds
+abbrev pub Breaks : VerdictKind → Program → Point → Type 0
+Breaks Assertion P p = Fails P p

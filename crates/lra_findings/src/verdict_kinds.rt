@@ -1,0 +1,73 @@
+//! What is judged of a program at its points.
+
+ghost use Rattle.std.specs.Prelude.{◌≡◌};
+ghost use Rattle.lra_findings.specs.VerdictKinds.{row_of, outcome_text};
+
+use lra_options::Options;
+
+/// What is judged at a point. A verdict says that it holds in every run, or that this isn't known.
+#[derive(Clone, Copy, PartialEq, Eq, Debug)]
+pub enum VerdictKind {
+    /// An assertion.
+    Assertion,
+}
+
+/// All kinds.
+pub const VERDICT_KINDS: [VerdictKind; 1] = [VerdictKind::Assertion];
+
+impl VerdictKind {
+    /// The word with which its lines begin.
+    pub fn word(self) -> &'static str
+        ensures { result.now ≡ (row_of self).word }
+    {
+        match self {
+            VerdictKind::Assertion => "assert",
+        }
+    }
+
+    /// What is told of it where it holds, and where that isn't known.
+    pub fn outcome(self, holds: bool) -> &'static str
+        ensures { result.now ≡ outcome_text self holds }
+    {
+        match (self, holds) {
+            (VerdictKind::Assertion, true) => "proved",
+            (VerdictKind::Assertion, false) => "unknown",
+        }
+    }
+
+    /// Whether its verdicts are those of a report's last line and status.
+    pub fn counts(self) -> bool
+        ensures { result ≡ (row_of self).counts }
+    {
+        match self {
+            VerdictKind::Assertion => true,
+        }
+    }
+
+    /// Whether it has a place of its own, not its point's, which JSON tells.
+    pub fn has_own_place(self) -> bool
+        ensures { result ≡ (row_of self).own_place }
+    {
+        match self {
+            VerdictKind::Assertion => false,
+        }
+    }
+
+    /// Under which key its verdicts stand in JSON.
+    pub fn key(self) -> &'static str
+        ensures { result.now ≡ (row_of self).key }
+    {
+        match self {
+            VerdictKind::Assertion => "asserts",
+        }
+    }
+
+    /// Whether that key stands, under these options and where a verdict is told under it or none is.
+    pub fn stands(self, options: Options, is_listed: bool) -> bool
+        ensures { result ≡ (row_of self).stands options is_listed }
+    {
+        match (self, options, is_listed) {
+            (VerdictKind::Assertion, _, _) => true,
+        }
+    }
+}
