@@ -4,7 +4,7 @@ use Rattle.std.proofs.Common.{subst, append_assoc, arith}
 use Rattle.std.specs.Prelude.{◌+ℤ◌, ◌*ℤ◌, neg_ℤ, slice_set, slice_index_or}
 use Rattle.std.specs.List.{All}
 use Rattle.std.proofs.lemmas.Int.{ints}
-use Rattle.std.proofs.lemmas.List.Elements.{All-cons, All-nil}
+use Rattle.std.proofs.lemmas.List.Elements.{All-cons}
 use Rattle.std.proofs.Math.Seq.{drop-cons}
 use Rattle.lra_linear.specs.Range.{InRange}
 use Rattle.lra_linear.specs.Vectors.{product}
@@ -13,6 +13,7 @@ use Rattle.lra_linear.specs.declared.ConKind.TheVariants.{Ge, Eq}
 use Rattle.lra_sys.specs.Listed.{given_by}
 use Rattle.lra_linear.specs.Kinds.{is_equality}
 use Rattle.lra_linear.specs.Descriptions.{Given, Holds, Con}
+use Rattle.lra_linear.proofs.UnitRows.{set_in_range, zeros_in_range}
 use Rattle.lra_linear.proofs.Membership.{contains_none, contains_head, contains_tail, contains_cases}
 use Rattle.lra_domain.specs.Parts.{SomePartHolds}
 use Rattle.lra_box.specs.declared.interval.Interval.{Interval}
@@ -23,15 +24,6 @@ use Rattle.lra_box.specs.Tables.{has_bounds}
 use Rattle.lra_box.specs.Parts.{bound_row, is_single, is_single_ends, low_rows, high_rows, equal_rows, unequal_rows, box_parts}
 
 -- ---- what goes into the row
-
-pub set_in_range : (xs : List ℤ) (k : ℕ) (v : ℤ) → All InRange xs → InRange v → All InRange (slice_set xs k v)
-set_in_range [] k v h p = h
-set_in_range (x ∷ xs) zero v h p = All-cons InRange v xs p (λ k d. λ l. h (suc k) d (omega arith))
-set_in_range (x ∷ xs) (suc k) v h p = All-cons InRange x (slice_set xs k v) (h 0 x (omega arith)) (set_in_range xs k v (λ k d. λ l. h (suc k) d (omega arith)) p)
-
-pub zeros_in_range : (n : ℕ) → All InRange (replicate n (pos 0))
-zeros_in_range zero = All-nil InRange
-zeros_in_range (suc n) = All-cons InRange (pos 0) (replicate n (pos 0)) (omega (arith, ints)) (zeros_in_range n)
 
 pub row_in_range : (n k : ℕ) (constant factor : ℤ) → InRange constant → InRange factor → All InRange (bound_row n k constant factor)
 row_in_range n k constant factor c f = All-cons InRange constant (slice_set (replicate n (pos 0)) k factor) c (set_in_range (replicate n (pos 0)) k factor (zeros_in_range n) f)

@@ -8,7 +8,7 @@ use crate::bounds::{
     is_within, join_bounds, rank_of, test_in, truncate_in, universe, wide_row,
 };
 use crate::parts::system_of;
-use lra_domain::{Domain, Exactness, Grown, Included, Mode, Plain, Rank};
+use lra_domain::{Domain, Exactness, Grown, Included, Mode, Plain, Rank, Told};
 use lra_lin::{LinExpr, Test};
 use lra_sys::ConSys;
 use std::alloc::{AllocError, Global};
@@ -77,6 +77,10 @@ impl Domain for Boxes {
 
     fn dims(&self) -> usize {
         self.dims
+    }
+
+    fn most_parts(&self) -> u32 {
+        1
     }
 
     /// Yes exactly where there is no part, and exactly where there is no store.
@@ -181,4 +185,10 @@ impl Plain for Boxes {
     ghost use Rattle.lra_box.specs.Laws.{box_plain};
 
     ghost plain = { box_plain };
+}
+
+impl Told for Boxes {
+    fn parts_tell_all(&self) {
+        let _fit = &self.bounds;
+    }
 }

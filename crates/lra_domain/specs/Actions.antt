@@ -1,4 +1,4 @@
--- What the least changes of a program do to stores.
+-- What the least changes of a value do to stores.
 use Rattle.std.specs.Prelude.{◌≡◌, ◌≤◌, ◌<◌, ℕ, ◌+◌, ◌-◌, ℤ, List, ◌++◌, length, take, slice_set}
 use Rattle.lra_lin.specs.Form.{Form, form_value, HoldsAt}
 use Rattle.lra_linear.specs.declared.ConKind.{ConKind}

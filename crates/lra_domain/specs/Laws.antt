@@ -9,6 +9,7 @@ use Rattle.lra_domain.specs.Bounds.{IsBetween}
 use Rattle.lra_domain.specs.declared.Mode.{Mode}
 use Rattle.lra_domain.specs.declared.Included.TheVariants.{Yes, No}
 use Rattle.lra_domain.specs.Meaning.{Meaning}
+use Rattle.lra_domain.specs.Parts.{SomePartHolds}
 
 pub record Laws {V H : Type 0} (m : Meaning V H) : Type 0 where
   -- a store has as many numbers as there are dimensions
@@ -58,6 +59,10 @@ pub record Laws {V H : Type 0} (m : Meaning V H) : Type 0 where
       → m.given_up old mode new → (v : V) × m.valued new v
   pub given_up_value : (old : H) (mode : Mode) (new : H) (v : V) → m.head_formed old → m.head_formed new
       → m.given_up old mode new → m.valued new v → (cap : ℕ) × m.universal (m.head_dims old) cap v
+
+-- the way back from what the parts of a value tell: what meets all rows of one of them is a store
+abbrev pub PartsTell : {V H : Type 0} → Meaning V H → V → Type 0
+PartsTell m v = (s : List ℤ) → length s ≡ m.dims v → SomePartHolds (m.parts v) s → m.has v s
 
 -- that every definition of a meaning allows one thing: then the written iteration finds one value at each point
 pub record SingleLaws {V H : Type 0} (m : Meaning V H) : Type 0 where

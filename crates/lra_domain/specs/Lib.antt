@@ -5,4 +5,7 @@ pub mod Rank
 pub mod Meaning
 pub mod Bounds
 pub mod Laws
+pub mod Stores
+pub mod Changes
+pub mod Unstrained
 pub mod Backward

@@ -25,7 +25,7 @@ pub record Meaning (V H : Type 0) : Type 1 where
   pub has : V → List ℤ → Type 0
   -- how many dimensions it has
   pub dims : V → ℕ
-  -- the lists of rows that mean the value, part by part; it may have so many
+  -- the lists of rows that tell of the value, part by part; it may have so many
   pub parts : V → List (Listed ConKind)
   pub capped : V → ℕ → Type 0
   -- what the content tells of a form's values: a lower and an upper bound, each of them or none

@@ -1,5 +1,5 @@
 -- What is done to a value: nothing, a least change, one thing behind the other, or what one leaves joined with what
--- another leaves; and what that may do to stores. Operations and conditions of a program are moves.
+-- another leaves; and what that may do to stores.
 use Rattle.std.specs.Prelude.{◌≡◌, ◌⊎◌, ℕ, ℤ, List, [], ◌∷◌, ◌++◌, map}
 use Rattle.std.specs.List.{flat_map}
 use Rattle.lra_domain.specs.Actions.{Action, Leads, dims_after}
@@ -26,15 +26,6 @@ dims_moved (make step) n = dims_after step n
 dims_moved (first_then a b) n = dims_moved b (dims_moved a n)
 dims_moved (join_of a b) n = dims_moved a n
 
--- no clause of a function cites what follows yet ---------------------------------------------------------------------
-
--- the moves written out: each way through them as a list of actions, one for each side of a join
-abbrev pub cases : Moves → List (List Action)
-cases stay = [] ∷ []
-cases (make step) = (step ∷ []) ∷ []
-cases (first_then a b) = flat_map (λ before. map (λ behind. before ++ behind) (cases b)) (cases a)
-cases (join_of a b) = cases a ++ cases b
-
 -- a list of actions, one behind the other, may lead from the first store to the second; one of some lists may
 abbrev pub LeadsAll : List Action → List ℤ → List ℤ → Type 0
 LeadsAll [] s t = t ≡ s
@@ -43,3 +34,10 @@ LeadsAll (step ∷ steps) s t = (u : List ℤ) × Leads step s u × LeadsAll ste
 abbrev pub SomeLeads : List (List Action) → List ℤ → List ℤ → Type 0
 SomeLeads [] s t = ⊥
 SomeLeads (way ∷ ways) s t = LeadsAll way s t ⊎ SomeLeads ways s t
+
+-- the moves written out: each way through them as a list of actions, one for each side of a join
+abbrev pub cases : Moves → List (List Action)
+cases stay = [] ∷ []
+cases (make step) = (step ∷ []) ∷ []
+cases (first_then a b) = flat_map (λ before. map (λ behind. before ++ behind) (cases b)) (cases a)
+cases (join_of a b) = cases a ++ cases b

@@ -1,12 +1,13 @@
-ghost use Rattle.std.specs.Prelude.{◌≡◌, ◌≢◌, ◌+◌, ◌-◌, ◌^◌, ◌≤◌, ◌<◌, ◌↔◌, ℤ, List, [], length, All, IfOk, OnErr};
+ghost use Rattle.std.specs.Prelude.{◌≡◌, ◌≢◌, ◌+◌, ◌-◌, ◌^◌, ◌≤◌, ◌<◌, ◌↔◌, ℕ, ℤ, List, [], length, All, IfOk, OnErr};
 ghost use Rattle.std.specs.Prelude.{OnOk, IsTrue};
 ghost use Rattle.lra_domain.specs.Rank.{RankBelow, RankFits};
-ghost use Rattle.lra_domain.specs.Actions.{Within, assign, forget, test, embed, remove_last};
+ghost use Rattle.lra_domain.specs.Actions.{Within, assign, dims_after, forget, test, embed, remove_last};
+ghost use Rattle.lra_domain.specs.Changes.{CanBeMade, action_of};
 ghost use Rattle.lra_domain.specs.Parts.{SomePartHolds, CapsWithin};
 ghost use Rattle.lra_domain.specs.Meaning.{Meaning, Meets, Joins, Starts, Grew, Values};
-ghost use Rattle.lra_domain.specs.Laws.{Laws, PlainLaws};
+ghost use Rattle.lra_domain.specs.Laws.{Laws, PartsTell, PlainLaws};
 
-use crate::{Exactness, Grown, Included, Mode, Rank};
+use crate::{Change, Exactness, Grown, Included, Mode, Rank};
 use lra_lin::{LinExpr, Test};
 use lra_sys::ConSys;
 use std::alloc::{AllocError, Global};
@@ -59,12 +60,17 @@ use std::alloc::{AllocError, Global};
 /// **Ranks.** After `Grew` in mode `Widen` or `Limited` the rank is lower than before, also when flagged: this is why
 /// an iteration ends. Each number of a rank is below 2^62, so that two ranks can be added, with carries.
 ///
-/// **Parts.** `parts` gives the rows that mean the value: a list of `dims` numbers is a store exactly where all rows
-/// of some part hold; each row has one column more than `dims`. `is_empty` says yes exactly where there is no part.
+/// **Parts.** `parts` gives what rows tell of the value: at each store all rows of some part hold; each row has one
+/// column more than `dims`. That nothing else meets them is owed by `Told` alone: a domain of congruences, or of what
+/// is odd, has its bounds as rows, and stores fewer. `is_empty` says yes exactly where there is no part.
 ///
 /// **Caps.** A value may have several caps, numbers of parts that it never passes; `capped` names them, `head_capped`
 /// those of a head. What `universal` and `void` allow with a cap of at least 1 has that cap. Each call keeps the caps:
-/// of two operands those that both have. A domain of one part at most takes all numbers from 1 on.
+/// of two operands those that both have. A domain of one part at most takes all numbers from 1 on, and its `most_parts`
+/// is 1.
+///
+/// **Given by the trait itself.** `change` makes a change that is kept as a value (`Change`); `empty_like` and
+/// `universe_like` give values with the dimensions and the caps of the one at hand.
 ///
 /// The calls' only conditions are equal dimensions, places in range, at most 2^30 dimensions, and a `cap` (of use to
 /// powersets alone) of at least 1. An `AllocError` can come from any call that answers a `Result`.
@@ -100,6 +106,14 @@ pub trait Domain: Sized + Drop {
     /// How many dimensions its stores have.
     fn dims(&self) -> usize
         ensures { result ≡ meaning.dims self.now };
+
+    /// How many parts it may have, for a value that is to have its caps; of use to sets alone.
+    fn most_parts(&self) -> u32
+        ensures some { 1 ≤ result }
+        ensures empty { (n : ℕ) (v : Self) → meaning.void n result v →
+            CapsWithin (meaning.capped self.now) (meaning.capped v) }
+        ensures universe { (n : ℕ) (v : Self) → meaning.universal n result v →
+            CapsWithin (meaning.capped self.now) (meaning.capped v) };
 
     /// Whether the value has no part, and so no store; a value that is held is formed.
     fn is_empty(&self) -> bool
@@ -174,12 +188,64 @@ pub trait Domain: Sized + Drop {
         ensures capped { CapsWithin (meaning.capped self.old) (meaning.capped self.new) }
         ensures err { OnErr result (self.new ≡ self.old) };
 
-    /// The rows that mean the value, part by part.
+    /// What rows tell of the value, part by part.
     fn parts(&self, alloc: Global) -> Result<Vec<ConSys>, AllocError>
         ensures parts { IfOk result (λ ps. ps.items ≡ meaning.parts self.now) }
         ensures dims { IfOk result (λ ps. All (λ p. p.dims ≡ meaning.dims self.now) ps.items) }
-        ensures mean { IfOk result (λ ps. (s : List ℤ) → length s ≡ meaning.dims self.now →
-            (meaning.has self.now s ↔ SomePartHolds ps.items s)) };
+        ensures hold { IfOk result (λ ps. (s : List ℤ) → meaning.has self.now s →
+            SomePartHolds ps.items s) };
+
+    /// Makes the change.
+    fn change(&mut self, change: &Change) -> Result<Exactness, AllocError>
+        requires { CanBeMade (action_of change.now) (meaning.dims self.old) }
+        ensures meets { IfOk result (λ a.
+            Meets meaning (action_of change.now) self.old a self.new) }
+        ensures dims { OnOk result
+            (meaning.dims self.new ≡ dims_after (action_of change.now) (meaning.dims self.old)) }
+        ensures capped { CapsWithin (meaning.capped self.old) (meaning.capped self.new) }
+        ensures err { OnErr result (self.new ≡ self.old) }
+    {
+        match change {
+            Change::Assign(x, e) => self.assign(*x, e),
+            Change::Forget(x) => self.forget(*x),
+            Change::Test(t) => self.test(t),
+            Change::Embed(k) => self.embed(*k),
+            Change::RemoveLast(k) => self.remove_last(*k),
+        }
+    }
+
+    /// The value of the same dimensions and caps with no store.
+    fn empty_like(&self, alloc: Global) -> Result<Self, AllocError>
+        requires { meaning.dims self.now ≤ 2 ^ 30 }
+        ensures formed { IfOk result (λ v. meaning.formed v) }
+        ensures stores { IfOk result (λ v. (s : List ℤ) → ¬ meaning.has v s) }
+        ensures defined { IfOk result (λ v. (cap : ℕ) ×
+            meaning.void (meaning.dims self.now) cap v) }
+        ensures dims { IfOk result (λ v. meaning.dims v ≡ meaning.dims self.now) }
+        ensures capped { IfOk result (λ v.
+            CapsWithin (meaning.capped self.now) (meaning.capped v)) }
+    {
+        let (dims, cap) = (self.dims(), self.most_parts());
+        let value = Self::empty(alloc, dims, cap)?;
+        Ok(value)
+    }
+
+    /// The value of the same dimensions and caps with all stores.
+    fn universe_like(&self, alloc: Global) -> Result<Self, AllocError>
+        requires { meaning.dims self.now ≤ 2 ^ 30 }
+        ensures formed { IfOk result (λ v. meaning.formed v) }
+        ensures stores { IfOk result (λ v. (s : List ℤ) →
+            (meaning.has v s ↔ (length s ≡ meaning.dims self.now))) }
+        ensures defined { IfOk result (λ v. (cap : ℕ) ×
+            meaning.universal (meaning.dims self.now) cap v) }
+        ensures dims { IfOk result (λ v. meaning.dims v ≡ meaning.dims self.now) }
+        ensures capped { IfOk result (λ v.
+            CapsWithin (meaning.capped self.now) (meaning.capped v)) }
+    {
+        let (dims, cap) = (self.dims(), self.most_parts());
+        let value = Self::universe(alloc, dims, cap)?;
+        Ok(value)
+    }
 
     /// The head that starts with the value; `given` are the rows that limit its growth.
     fn start(alloc: Global, first: &Self, given: &ConSys) -> Result<Self::Head, AllocError>
@@ -217,6 +283,14 @@ pub trait Domain: Sized + Drop {
 
     /// What the meaning keeps.
     ghost laws: { Laws meaning };
+}
+
+/// A domain whose values are what their parts tell: each list of `dims` numbers at which all rows of some part hold is
+/// a store. Boxes, octagons, polyhedra and sets of them are such: their rows alone can stand for them.
+pub trait Told: Domain {
+    /// Does nothing: its contract is the way back from the parts of the value to its stores.
+    fn parts_tell_all(&self)
+        ensures { PartsTell Self.meaning self.now };
 }
 
 /// A domain whose values have one part at most: polyhedra, boxes, octagons. Its ranks begin with 1. Its meaning allows

@@ -3,11 +3,13 @@
 
 pub mod backward;
 pub mod bounds;
+pub mod changes;
 pub mod domain;
 pub mod flags;
 
 pub use backward::Backward;
-pub use domain::{Domain, Plain};
+pub use changes::{Change, change_all};
+pub use domain::{Domain, Plain, Told};
 pub use flags::worse;
 
 /// Whether a result is the defined one, or only covers it because a number or a count passed its limit.

@@ -4,7 +4,7 @@ ghost use Rattle.std.specs.Prelude.{◌≡◌, ℤ, List};
 ghost use Rattle.lra_gauge.specs.Meaning.{gauge_meaning};
 
 use crate::bounds::{UNBOUNDED, compare, grow_bounds, join_bounds};
-use lra_domain::{Domain, Exactness, Grown, Included, Mode, Plain, Rank};
+use lra_domain::{Domain, Exactness, Grown, Included, Mode, Plain, Rank, Told};
 use lra_lin::{LinExpr, Test};
 use lra_sys::ConSys;
 use std::alloc::{AllocError, Global};
@@ -48,6 +48,10 @@ impl Domain for Gauge {
 
     fn dims(&self) -> usize {
         self.dims as usize
+    }
+
+    fn most_parts(&self) -> u32 {
+        1
     }
 
     fn is_empty(&self) -> bool {
@@ -148,4 +152,9 @@ impl Plain for Gauge {
     ghost use Rattle.lra_gauge.specs.Laws.{gauge_plain};
 
     ghost plain = { gauge_plain };
+}
+
+impl Told for Gauge {
+    #[tactic(auto, using(crate::proofs::Told::parts_tell))]
+    fn parts_tell_all(&self) {}
 }

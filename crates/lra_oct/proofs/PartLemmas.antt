@@ -12,7 +12,8 @@ use Rattle.lra_linear.specs.Range.{InRange}
 use Rattle.lra_linear.specs.declared.ConKind.{ConKind}
 use Rattle.lra_linear.specs.declared.ConKind.TheVariants.{Ge, Eq}
 use Rattle.lra_sys.specs.Listed.{Listed}
-use Rattle.lra_box.proofs.PartLemmas.{set_in_range, zeros_in_range, kinds_append}
+use Rattle.lra_linear.proofs.UnitRows.{set_in_range, zeros_in_range}
+use Rattle.lra_box.proofs.PartLemmas.{kinds_append}
 use Rattle.lra_dbm.specs.Entry.{half_of, EntryInRange}
 use Rattle.lra_dbm.specs.Tight.{Entries, opposite, with_sign}
 use Rattle.lra_dbm.specs.Cells.{Cells, entries, IsMatrix}

@@ -16,7 +16,7 @@ use crate::parts::parts_of;
 use crate::telling::bounds_of;
 use crate::testing::test_in;
 use crate::tightness::{assignment_closes, makes_tight, passes_all, test_closes};
-use lra_domain::{Domain, Exactness, Grown, Included, Mode, Plain, Rank};
+use lra_domain::{Domain, Exactness, Grown, Included, Mode, Plain, Rank, Told};
 use lra_lin::{LinExpr, Test};
 use lra_sys::ConSys;
 use std::alloc::{AllocError, Global};
@@ -98,6 +98,10 @@ impl Domain for Octagon {
 
     fn dims(&self) -> usize {
         self.dims
+    }
+
+    fn most_parts(&self) -> u32 {
+        1
     }
 
     /// Yes exactly where there is no part; of a tight octagon, exactly where there is no store.
@@ -232,4 +236,10 @@ impl Plain for Octagon {
     ghost use Rattle.lra_oct.specs.Laws.{octagon_plain};
 
     ghost plain = { octagon_plain };
+}
+
+impl Told for Octagon {
+    fn parts_tell_all(&self) {
+        let _fit = &self.matrix;
+    }
 }

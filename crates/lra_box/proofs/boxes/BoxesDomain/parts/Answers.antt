@@ -6,8 +6,8 @@ use Rattle.lra_box.proofs.PartLemmas.{parts_mean}
 use Rattle.lra_box.proofs.boxes.BoxesDomain.parts.Goals as goal
 use Rattle.lra_box.proofs.boxes.BoxesDomain.parts.Goals.{in-Some+in_ok-system_of+in_ok-push, in_default}
 
-pub returns-clause-mean : goal.returns-clause-mean
-returns-clause-mean c =
+pub returns-clause-hold : goal.returns-clause-hold
+returns-clause-hold c =
     let is : c.match-self.parts.items ≡ box_parts c.self.inside.dims (seen c.self.inside.bounds) =
     elim c.match-self.branch [ in-Some+in_ok-system_of+in_ok-push w ↦ search rules | in_default w ↦ search rules ] in
-    rw (← c.self.view_is, is) (λ s long. let mean = parts_mean c.self.inside.dims (seen c.self.inside.bounds) s c.self.invariant.1 long in (λ h. mean.0 h.1, λ h. (long, mean.1 h)))
+    rw (← c.self.view_is, is) (λ s h. (parts_mean c.self.inside.dims (seen c.self.inside.bounds) s c.self.invariant.1 h.0).0 h.1)

@@ -1,0 +1,59 @@
+//! Changes that are kept as values, and lists of them.
+
+ghost use Rattle.std.specs.Prelude.{◌≡◌, ℤ, List, IfOk, OnOk};
+ghost use Rattle.lra_domain.specs.Changes.{AllCanBeMade, MeetsAll, actions_of, dims_behind};
+ghost use Rattle.lra_domain.specs.Moves.{LeadsAll};
+ghost use Rattle.lra_domain.specs.Parts.{CapsWithin};
+ghost use Rattle.lra_domain.specs.Stores.{Has};
+
+use crate::{Domain, Exactness, worse};
+use lra_lin::{LinExpr, Test};
+use std::alloc::AllocError;
+
+/// A least change of a value, as a call of `Domain` makes it.
+pub enum Change {
+    /// The dimension gets the value of the form.
+    Assign(usize, LinExpr),
+    /// The dimension gets any value.
+    Forget(usize),
+    /// Only stores that pass need stay.
+    Test(Test),
+    /// So many dimensions of any value come last.
+    Embed(usize),
+    /// So many last dimensions go.
+    RemoveLast(usize),
+}
+
+impl Drop for Change {
+    fn drop(self) {
+        match self {
+            Change::Assign(_, _) => {}
+            Change::Forget(_) => {}
+            Change::Test(_) => {}
+            Change::Embed(_) => {}
+            Change::RemoveLast(_) => {}
+        }
+    }
+}
+
+/// Makes the changes, one behind the other: each store to which they may lead is kept. Flagged where one of them is.
+/// Where one answers an error, those before it stay made.
+pub fn change_all<D: Domain>(value: &mut D, changes: &[Change]) -> Result<Exactness, AllocError>
+    requires { AllCanBeMade (actions_of changes.now) (D.meaning.dims value.old) }
+    ensures stores { OnOk result ((s t : List ℤ) → Has D.meaning value.old s →
+        LeadsAll (actions_of changes.now) s t → Has D.meaning value.new t) }
+    ensures meets { IfOk result (λ a.
+        MeetsAll D.meaning (actions_of changes.now) value.old a value.new) }
+    ensures dims { OnOk result
+        (D.meaning.dims value.new ≡
+        dims_behind (actions_of changes.now) (D.meaning.dims value.old)) }
+    ensures capped { OnOk result
+        (CapsWithin (D.meaning.capped value.old) (D.meaning.capped value.new)) }
+{
+    let Some((first, later)) = changes.split_first() else {
+        return Ok(Exactness::Exact);
+    };
+    let one = value.change(first)?;
+    let others = change_all(value, later)?;
+    Ok(worse(one, others))
+}
