@@ -9,5 +9,4 @@ mod UniverseLemmas
 mod StrikeLemmas
 pub mod InsideLemmas
 mod GrowthLemmas
-mod SameLemmas
 pub mod HeadExamples

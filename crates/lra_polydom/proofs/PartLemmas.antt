@@ -3,6 +3,7 @@ use Rattle.std.proofs.Common.{◌≡◌, ◌∙◌, ℕ, ℤ, pos, Bool, true, f
 use Rattle.std.specs.Prelude.{◌↔◌, IsTrue}
 use Rattle.std.specs.List.{All, list_any}
 use Rattle.std.proofs.lemmas.List.Elements.{All-cons, All-nil}
+use Rattle.lra_domain.specs.Laws.{PartsTell}
 use Rattle.lra_domain.specs.Parts.{SomePartHolds}
 use Rattle.lra_linear.specs.Descriptions.{Con, Given, rows_of}
 use Rattle.lra_linear.specs.Kinds.{constraint_kind, is_equality}
@@ -13,6 +14,7 @@ use Rattle.lra_linear.specs.Polyhedra.{IsPolyhedron, IsPolyhedronOf, Polyhedron}
 use Rattle.lra_linear.proofs.Descriptions.{con_none}
 use Rattle.lra_sys.specs.Listed.{Listed, constraints, given_by}
 use Rattle.lra_polydom.specs.Content.{PolyhedronHas, is_absurd, listed, polyhedron_parts}
+use Rattle.lra_polydom.specs.Meaning.{polyhedron_meaning}
 use Rattle.lra_polydom.specs.Covering.{empty_parts, parts_empty, store_point}
 
 -- ---- the list whose constraints they are
@@ -101,3 +103,9 @@ universe_stores n p is s = (λ h. h.0 ∙ is.dimensions, λ e. (e ∙ sym is.dim
 
 pub void_stores : (n : ℕ) (p : Polyhedron) → p.dims ≡ n → IsEmptySet n (Con p.rows) → (s : List ℤ) → ¬ PolyhedronHas p s
 void_stores n p d none s h = none (pos 1 ∷ s) (store_point n s (h.0 ∙ d)) h.1
+
+pub parts_hold : (p : Polyhedron) (s : List ℤ) → PolyhedronHas p s → SomePartHolds (polyhedron_parts p) s
+parts_hold p s h = (parts_mean p s h.0).0 h
+
+pub parts_tell : (p : Polyhedron) → PartsTell polyhedron_meaning p
+parts_tell p = λ s long h. (parts_mean p s long).1 h

@@ -1,67 +1,12 @@
 //! Lists of constraints.
 
-ghost use Rattle.std.specs.Prelude.{◌≡◌, ◌↔◌, suc, length, IsTrue};
+ghost use Rattle.std.specs.Prelude.{◌≡◌, suc, length};
 ghost use Rattle.std.specs.List.{All, list_any};
 ghost use Rattle.lra_sys.specs.Listed.{constraints, generators};
 ghost use Rattle.lra_polydom.specs.Growth.{product_passes, row_passes, some_passes};
 
-use lra_linear::ConKind;
 use lra_row::Row;
 use lra_sys::{ConSys, GenSys};
-
-// Whether two rows have the same numbers.
-fn is_same_row(one: &Row, two: &Row) -> bool
-    ensures { IsTrue result ↔ (one.now ≡ two.now) }
-{
-    let (numbers, others) = (one.entries(), two.entries());
-    if numbers.len() != others.len() {
-        return false;
-    }
-    for place in 0..numbers.len() {
-        if numbers[place] != others[place] {
-            return false;
-        }
-    }
-    true
-}
-
-// Whether they have the same rows in the same order.
-fn are_same_rows(rows: &[Row], others: &[Row]) -> bool
-    ensures { IsTrue result ↔ (rows.now ≡ others.now) }
-{
-    if rows.len() != others.len() {
-        return false;
-    }
-    for place in 0..rows.len() {
-        if !is_same_row(&rows[place], &others[place]) {
-            return false;
-        }
-    }
-    true
-}
-
-// Whether they have the same kinds in the same order.
-fn are_same_kinds(kinds: &[ConKind], others: &[ConKind]) -> bool
-    ensures { IsTrue result ↔ (kinds.now ≡ others.now) }
-{
-    if kinds.len() != others.len() {
-        return false;
-    }
-    for place in 0..kinds.len() {
-        if kinds[place] != others[place] {
-            return false;
-        }
-    }
-    true
-}
-
-/// Whether they have the same constraints in the same order.
-pub fn are_same(one: &ConSys, two: &ConSys) -> bool
-    ensures { IsTrue result ↔ (constraints one.now ≡ constraints two.now) }
-{
-    let (kinds, others) = (one.kinds(), two.kinds());
-    are_same_rows(one.rows(), two.rows()) && are_same_kinds(kinds, others)
-}
 
 // Whether the product of two rows passes the range.
 fn passes(row: &Row, generator: &Row) -> bool

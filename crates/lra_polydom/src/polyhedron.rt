@@ -10,9 +10,8 @@ ghost use Rattle.lra_sys.specs.Listed.{constraints, generators, FitKinds};
 ghost use Rattle.lra_polydom.specs.Meaning.{polyhedron_meaning};
 
 use crate::head::PolyhedronHead;
-use crate::lists::are_same;
 use crate::outcomes::{exactness_of, included, opposite_of, rounded_down};
-use lra_domain::{Backward, Domain, Exactness, Grown, Included, Mode, Plain, Rank};
+use lra_domain::{Backward, Domain, Exactness, Grown, Included, Mode, Plain, Rank, Told};
 use lra_images::{forget, image, preimage};
 use lra_lin::{LinExpr, Test};
 use lra_maps::{embed, remove_last};
@@ -42,6 +41,28 @@ impl Model for Polyhedron {
 }
 
 impl Polyhedron {
+    /// The same polyhedron, as one of the domain.
+    pub fn of(poly: Poly) -> Polyhedron
+        ensures { result ≡ poly }
+    {
+        Polyhedron { poly }
+    }
+
+    /// The same polyhedron, with all that is asked of polyhedra by themselves.
+    pub fn as_poly(&self) -> &Poly
+        ensures { result.now ≡ self.now }
+    {
+        &self.poly
+    }
+
+    /// The same polyhedron, taken out.
+    pub fn into_poly(self) -> Poly
+        ensures { result ≡ self }
+    {
+        let Polyhedron { poly } = self;
+        poly
+    }
+
     /// The constraints, in canonical order.
     pub fn rows(&self) -> &ConSys
         ensures dims { result.now.dims ≡ self.now.dims }
@@ -94,6 +115,10 @@ impl Domain for Polyhedron {
         self.poly.dims()
     }
 
+    fn most_parts(&self) -> u32 {
+        1
+    }
+
     /// Yes exactly where there is no rational point.
     fn is_empty(&self) -> bool {
         let _canonical = self.poly.rows();
@@ -113,10 +138,7 @@ impl Domain for Polyhedron {
     }
 
     fn same(&self, other: &Self) -> bool {
-        if self.poly.dims() != other.poly.dims() {
-            return false;
-        }
-        are_same(self.poly.rows(), other.poly.rows())
+        self.poly.same(&other.poly)
     }
 
     fn assign(&mut self, x: usize, e: &LinExpr) -> Result<Exactness, AllocError> {
@@ -222,6 +244,11 @@ impl Plain for Polyhedron {
     ghost use Rattle.lra_polydom.specs.Laws.{polyhedron_plain};
 
     ghost plain = { polyhedron_plain };
+}
+
+impl Told for Polyhedron {
+    #[tactic(auto, using(crate::proofs::PartLemmas::parts_tell))]
+    fn parts_tell_all(&self) {}
 }
 
 impl Backward for Polyhedron {

@@ -1,5 +1,5 @@
 -- Lemmas on sets of parts.
-use Rattle.std.proofs.Common.{◌≡◌, ◌⊎◌, ◌↔◌, ℕ, ◌≤◌, ◌^◌, ℤ, List, [], ◌∷◌, ◌++◌, length, refl, ap, sym}
+use Rattle.std.proofs.Common.{◌≡◌, ◌⊎◌, ℕ, ◌≤◌, ◌^◌, ℤ, List, [], ◌∷◌, ◌++◌, length, refl, ap, sym}
 use Rattle.std.proofs.Common.{subst, ◌∙◌, inl, inr, arith}
 use Rattle.std.proofs.lemmas.List.Elements.{All-append}
 use Rattle.std.specs.Prelude.{flat_map}
@@ -8,9 +8,9 @@ use Rattle.lra_sys.specs.Listed.{Listed}
 use Rattle.lra_linear.specs.declared.ConKind.{ConKind}
 use Rattle.lra_domain.specs.declared.Exactness.{Exactness}
 use Rattle.lra_domain.specs.Actions.{Action, dims_after, Within}
-use Rattle.lra_domain.specs.Parts.{SomePartHolds}
+use Rattle.lra_domain.specs.Parts.{CapsWithin, SomePartHolds}
 use Rattle.lra_domain.specs.Meaning.{Meaning, Meets, Joins}
-use Rattle.lra_domain.specs.Laws.{Laws, PlainLaws}
+use Rattle.lra_domain.specs.Laws.{Laws, PartsTell, PlainLaws}
 use Rattle.lra_set.specs.declared.changes.Change.{Change}
 use Rattle.lra_set.specs.declared.changes.Change.TheVariants.{Assign, Forget, Test, Embed, RemoveLast}
 use Rattle.lra_set.specs.Changes.{ChangeFits, action_of}
@@ -19,7 +19,7 @@ use Rattle.lra_set.proofs.PartLists.{each_append}
 use Rattle.lra_set.specs.Content.{Parts, Form}
 use Rattle.lra_set.specs.Heads.{FormStarts}
 use Rattle.lra_set.specs.Growth.{StartsAnew}
-use Rattle.lra_set.specs.Values.{PartsInside, SetHas}
+use Rattle.lra_set.specs.Values.{PartsInside, SetCapped, SetHas, SetUniversal, SetVoid}
 use Rattle.lra_set.specs.Meaning.{set_meaning}
 use Rattle.lra_domain.specs.Meaning.{worse}
 use Rattle.lra_set.specs.Outcomes.{HaveDims, IsSettled, AreChanged}
@@ -120,43 +120,41 @@ holds_split (p ∷ ps) qs s (inr h) = after p ps qs s (holds_split ps qs s h)
     after p ps qs s (inl h) = inl (inr h)
     after p ps qs s (inr h) = inr h
 
--- what the rows of parts are: of their dimensions, and they mean the parts
+-- what the rows of parts are: of their dimensions
 abbrev pub RowsFit : {V H : Type 0} → Meaning V H → List V → Type 0
 RowsFit m ps = (n : ℕ) → HaveDims m n ps → All (λ p. p.dims ≡ n) (flat_map m.parts ps)
 
-abbrev pub RowsMean : {V H : Type 0} → Meaning V H → List V → Type 0
-RowsMean m ps = (n : ℕ) → HaveDims m n ps → (s : List ℤ) → length s ≡ n
-    → (SomePart (λ p. m.has p s) ps ↔ SomePartHolds (flat_map m.parts ps) s)
+-- each store of the parts meets the rows of some of them
+abbrev pub RowsHold : {V H : Type 0} → Meaning V H → List V → Type 0
+RowsHold m ps = (s : List ℤ) → SomePart (λ p. m.has p s) ps → SomePartHolds (flat_map m.parts ps) s
 
-rows_mean : {V H : Type 0} (m : Meaning V H) (p : V) (later : List V) (s : List ℤ) → (m.has p s ↔ SomePartHolds (m.parts p) s)
-    → (SomePart (λ q. m.has q s) later ↔ SomePartHolds (flat_map m.parts later) s)
-    → (SomePart (λ q. m.has q s) (p ∷ later) ↔ SomePartHolds (m.parts p ++ flat_map m.parts later) s)
-rows_mean {V} m p later s one more = (
-  λ h. there m p later s one more h,
-  λ h. back m p later s one more (holds_split (m.parts p) (flat_map m.parts later) s h),
-)
-  where
-    there : {V H : Type 0} (m : Meaning V H) (p : V) (later : List V) (s : List ℤ)
-        → (m.has p s ↔ SomePartHolds (m.parts p) s)
-        → (SomePart (λ q. m.has q s) later ↔ SomePartHolds (flat_map m.parts later) s)
-        → SomePart (λ q. m.has q s) (p ∷ later) → SomePartHolds (m.parts p ++ flat_map m.parts later) s
-    there m p later s one more (inl h) = holds_left (m.parts p) (flat_map m.parts later) s (one.0 h)
-    there m p later s one more (inr h) = holds_right (m.parts p) (flat_map m.parts later) s (more.0 h)
+-- and what does, of as many numbers, is one
+abbrev pub RowsTell : {V H : Type 0} → Meaning V H → List V → Type 0
+RowsTell m ps = (n : ℕ) → HaveDims m n ps → (s : List ℤ) → length s ≡ n
+    → SomePartHolds (flat_map m.parts ps) s → SomePart (λ p. m.has p s) ps
 
-    back : {V H : Type 0} (m : Meaning V H) (p : V) (later : List V) (s : List ℤ)
-        → (m.has p s ↔ SomePartHolds (m.parts p) s)
-        → (SomePart (λ q. m.has q s) later ↔ SomePartHolds (flat_map m.parts later) s)
-        → SomePartHolds (m.parts p) s ⊎ SomePartHolds (flat_map m.parts later) s → SomePart (λ q. m.has q s) (p ∷ later)
-    back m p later s one more (inl h) = inl (one.1 h)
-    back m p later s one more (inr h) = inr (more.1 h)
+rows_hold : {V H : Type 0} (m : Meaning V H) (p : V) (later : List V) (s : List ℤ) → (m.has p s → SomePartHolds (m.parts p) s)
+    → (SomePart (λ q. m.has q s) later → SomePartHolds (flat_map m.parts later) s)
+    → SomePart (λ q. m.has q s) (p ∷ later) → SomePartHolds (m.parts p ++ flat_map m.parts later) s
+rows_hold m p later s one more (inl h) = holds_left (m.parts p) (flat_map m.parts later) s (one h)
+rows_hold m p later s one more (inr h) = holds_right (m.parts p) (flat_map m.parts later) s (more h)
 
-pub more_mean : {V H : Type 0} (m : Meaning V H) (ps : List V) (p : V) (later : List V) (rows : List (Listed ConKind))
-    → ps ≡ p ∷ later → rows ≡ m.parts p
-    → ((s : List ℤ) → length s ≡ m.dims p → (m.has p s ↔ SomePartHolds rows s)) → RowsMean m later → RowsMean m ps
-more_mean {V} m ps p later rows cut is one more = subst (λ (xs : List V). RowsMean m xs) (sym cut)
-    (λ n all s long. rows_mean m p later s
-    (subst (λ (r : List (Listed ConKind)). m.has p s ↔ SomePartHolds r s) is (one s (long ∙ sym all.0)))
-    (more n all.1 s long))
+rows_tell : {V H : Type 0} (m : Meaning V H) (p : V) (later : List V) (s : List ℤ) → (SomePartHolds (m.parts p) s → m.has p s)
+    → (SomePartHolds (flat_map m.parts later) s → SomePart (λ q. m.has q s) later)
+    → SomePartHolds (m.parts p) s ⊎ SomePartHolds (flat_map m.parts later) s → SomePart (λ q. m.has q s) (p ∷ later)
+rows_tell m p later s one more (inl h) = inl (one h)
+rows_tell m p later s one more (inr h) = inr (more h)
+
+pub more_hold : {V H : Type 0} (m : Meaning V H) (ps : List V) (p : V) (later : List V) (rows : List (Listed ConKind))
+    → ps ≡ p ∷ later → rows ≡ m.parts p → ((s : List ℤ) → m.has p s → SomePartHolds rows s) → RowsHold m later → RowsHold m ps
+more_hold {V} m ps p later rows cut is one more = subst (λ (xs : List V). RowsHold m xs) (sym cut)
+    (λ s h. rows_hold m p later s (subst (λ (r : List (Listed ConKind)). m.has p s → SomePartHolds r s) is (one s)) (more s) h)
+
+pub more_tell : {V H : Type 0} (m : Meaning V H) (ps : List V) (p : V) (later : List V) → ps ≡ p ∷ later → PartsTell m p
+    → RowsTell m later → RowsTell m ps
+more_tell {V} m ps p later cut one more = subst (λ (xs : List V). RowsTell m xs) (sym cut)
+    (λ n all s long h. rows_tell m p later s (λ own. one s (long ∙ sym all.0) own) (λ others. more n all.1 s long others)
+    (holds_split (m.parts p) (flat_map m.parts later) s h))
 
 each_both : (n : ℕ) (xs ys : List (Listed ConKind)) → All (λ p. p.dims ≡ n) xs → All (λ p. p.dims ≡ n) ys
     → All (λ p. p.dims ≡ n) (xs ++ ys)
@@ -206,17 +204,29 @@ set_rows_fit m n k ps none all same e d fit dims =
     subst (λ (rows : List (Listed ConKind)). All (λ p. p.dims ≡ k) rows) (sym (all_rows m ps none all e d))
     (subst (λ (i : ℕ). All (λ p. p.dims ≡ i) (flat_map m.parts ps)) same (fit n dims))
 
-pub set_mean : {V H : Type 0} (m : Meaning V H) (v : Parts V) (n : ℕ) (ps : List V) (none all : List (Listed ConKind))
-    → n ≡ v.dims → ps ≡ v.parts → none ≡ [] → all ≡ none ++ flat_map m.parts ps → RowsMean m ps → HaveDims m n ps
-    → (s : List ℤ) → length s ≡ v.dims → (SetHas m v s ↔ SomePartHolds all s)
-set_mean {V} m v n ps none all same own e d mean dims s long =
-    let told = mean n dims s (long ∙ sym same) in
-    let rows : all ≡ flat_map m.parts ps = all_rows m ps none all e d in (
-      (λ has. subst (λ (xs : List (Listed ConKind)). SomePartHolds xs s) (sym rows)
-          (told.0 (subst (λ (xs : List V). SomePart (λ p. m.has p s) xs) (sym own) has.1))),
-      (λ holds. (
-        long,
-        subst (λ (xs : List V). SomePart (λ p. m.has p s) xs) own
-            (told.1 (subst (λ (xs : List (Listed ConKind)). SomePartHolds xs s) rows holds)),
-      )),
-    )
+pub set_hold : {V H : Type 0} (m : Meaning V H) (v : Parts V) (ps : List V) (none all : List (Listed ConKind)) → ps ≡ v.parts
+    → none ≡ [] → all ≡ none ++ flat_map m.parts ps → RowsHold m ps → (s : List ℤ) → SetHas m v s → SomePartHolds all s
+set_hold {V} m v ps none all own e d hold s has =
+    subst (λ (xs : List (Listed ConKind)). SomePartHolds xs s) (sym (all_rows m ps none all e d))
+    (hold s (subst (λ (xs : List V). SomePart (λ p. m.has p s) xs) (sym own) has.1))
+
+pub set_tell : {V H : Type 0} (m : Meaning V H) (v : Parts V) (n : ℕ) (ps : List V) → n ≡ v.dims → ps ≡ v.parts → RowsTell m ps
+    → HaveDims m n ps → PartsTell (set_meaning m) v
+set_tell {V} m v n ps same own tell dims = λ s long h. (
+  long,
+  subst (λ (xs : List V). SomePart (λ p. m.has p s) xs) own
+      (tell n dims s (long ∙ sym same) (subst (λ (xs : List V). SomePartHolds (flat_map m.parts xs) s) (sym own) h)),
+)
+
+-- what has no store, or all, with the cap of a set, has each cap of the set
+pub empty_capped : {V : Type 0} (v w : Parts V) (n cap : ℕ) → cap ≡ v.cap → SetVoid n cap w → CapsWithin (SetCapped v) (SetCapped w)
+empty_capped {V} v w n cap same is = λ c own. (
+  ap (λ (x : Parts V). x.cap) is ∙ same ∙ own.0,
+  subst (λ (x : Parts V). length x.parts ≤ c) (sym is) (omega arith),
+)
+
+pub universe_capped : {V H : Type 0} (m : Meaning V H) (v w : Parts V) (n cap : ℕ) → cap ≡ v.cap → 1 ≤ cap → SetUniversal m n cap w
+    → CapsWithin (SetCapped v) (SetCapped w)
+universe_capped {V} m v w n cap same some is = λ c own.
+    let caps : cap ≡ c = same ∙ own.0 in
+    (is.cap_is ∙ caps, subst (λ (ps : List V). length ps ≤ c) (sym is.alone) (subst (λ (k : ℕ). 1 ≤ k) caps some))

@@ -19,7 +19,11 @@ pub fn lies_in_some<D: Plain>(part: &D, others: &[D]) -> Included
     let Some((first, later)) = others.split_first() else {
         return Included::No;
     };
-    either(part.included(first), lies_in_some(part, later))
+    let here = part.included(first);
+    if here == Included::Yes {
+        return Included::Yes;
+    }
+    either(here, lies_in_some(part, later))
 }
 
 /// Whether each part lies in one of the others.
@@ -31,7 +35,11 @@ pub fn all_lie_in<D: Plain>(parts: &[D], others: &[D]) -> Included
     let Some((first, later)) = parts.split_first() else {
         return Included::Yes;
     };
-    both(lies_in_some(first, others), all_lie_in(later, others))
+    let here = lies_in_some(first, others);
+    if here == Included::No {
+        return Included::No;
+    }
+    both(here, all_lie_in(later, others))
 }
 
 /// Whether the part lies in the other, and the other not in it.
@@ -61,7 +69,11 @@ fn lies_below_some<D: Plain>(part: &D, others: &[D]) -> Included
     let Some((first, later)) = others.split_first() else {
         return Included::No;
     };
-    either(lies_below(part, first), lies_below_some(part, later))
+    let here = lies_below(part, first);
+    if here == Included::Yes {
+        return Included::Yes;
+    }
+    either(here, lies_below_some(part, later))
 }
 
 /// Whether the part goes, with these before it and these behind it.
@@ -71,7 +83,11 @@ fn goes<D: Plain>(before: &[D], part: &D, behind: &[D]) -> Included
     ensures { Told (Goes D.meaning before.now part.now behind.now)
         (GoesStrains D.meaning before.now part.now behind.now) result }
 {
-    either(lies_in_some(part, before), lies_below_some(part, behind))
+    let before_it = lies_in_some(part, before);
+    if before_it == Included::Yes {
+        return Included::Yes;
+    }
+    either(before_it, lies_below_some(part, behind))
 }
 
 /// Of each part whether it goes.

@@ -19,7 +19,7 @@ use crate::heads::PowerSetHead;
 use crate::joins::settle;
 use crate::reduction::{all_lie_in, reduce};
 use lra_domain::bounds::{join_highs, join_lows};
-use lra_domain::{Domain, Exactness, Grown, Included, Mode, Plain, Rank, worse};
+use lra_domain::{Domain, Exactness, Grown, Included, Mode, Plain, Rank, Told, worse};
 use lra_lin::{LinExpr, Test};
 use lra_sys::ConSys;
 use std::alloc::{AllocError, Global};
@@ -126,7 +126,7 @@ fn bounds_of<D: Plain>(parts: &[D], e: &LinExpr) -> (Option<i128>, Option<i128>)
     (join_lows(low, other_low), join_highs(high, other_high))
 }
 
-/// Appends the rows that mean the parts.
+/// Appends what rows tell of the parts.
 fn append_rows<D: Plain>(
     alloc: Global,
     all: &mut Vec<ConSys>,
@@ -135,8 +135,8 @@ fn append_rows<D: Plain>(
     ensures rows { OnOk result (all.new.items ≡ all.old.items ++ flat_map D.meaning.parts parts.now) }
     ensures dims { OnOk result ((n : ℕ) → HaveDims D.meaning n parts.now →
         All (λ p. p.dims ≡ n) (flat_map D.meaning.parts parts.now)) }
-    ensures mean { OnOk result ((n : ℕ) → HaveDims D.meaning n parts.now → (s : List ℤ) → length s ≡ n →
-        (SomePart (λ p. D.meaning.has p s) parts.now ↔ SomePartHolds (flat_map D.meaning.parts parts.now) s)) }
+    ensures hold { OnOk result ((s : List ℤ) → SomePart (λ p. D.meaning.has p s) parts.now →
+        SomePartHolds (flat_map D.meaning.parts parts.now) s) }
 {
     let Some((first, later)) = parts.split_first() else {
         return Ok(());
@@ -145,6 +145,19 @@ fn append_rows<D: Plain>(
     all.append(&mut rows)?;
     append_rows(alloc, all, later)?;
     Ok(())
+}
+
+/// Does nothing: what the rows of the parts tell is all of them.
+fn tell_each<D: Plain + Told>(parts: &[D])
+    ensures { (n : ℕ) → HaveDims D.meaning n parts.now → (s : List ℤ) → length s ≡ n →
+        SomePartHolds (flat_map D.meaning.parts parts.now) s →
+        SomePart (λ p. D.meaning.has p s) parts.now }
+{
+    let Some((first, later)) = parts.split_first() else {
+        return;
+    };
+    first.parts_tell_all();
+    tell_each(later);
 }
 
 /// Whether the parts are the same, in the same order.
@@ -210,7 +223,7 @@ impl<D: Plain> PowerSet<D> {
     }
 
     /// Each part is changed; those that became empty are left out, and the others are reduced.
-    fn change(&mut self, change: &Change<'_>) -> Result<Exactness, AllocError>
+    fn change_each(&mut self, change: &Change<'_>) -> Result<Exactness, AllocError>
         requires { ChangeFits change.now self.old.dims }
         ensures meets { IfOk result (λ a. Meets (set_meaning D.meaning) (action_of change.now) self.old a self.new) }
         ensures dims { OnOk result (self.new.dims ≡ dims_after (action_of change.now) self.old.dims) }
@@ -269,6 +282,10 @@ impl<D: Plain> Domain for PowerSet<D> {
         self.dims
     }
 
+    fn most_parts(&self) -> u32 {
+        self.cap
+    }
+
     /// Yes exactly where there is no part.
     fn is_empty(&self) -> bool {
         self.parts.is_empty()
@@ -291,17 +308,17 @@ impl<D: Plain> Domain for PowerSet<D> {
     }
 
     fn assign(&mut self, x: usize, e: &LinExpr) -> Result<Exactness, AllocError> {
-        let exactness = self.change(&Change::Assign(x, e))?;
+        let exactness = self.change_each(&Change::Assign(x, e))?;
         Ok(exactness)
     }
 
     fn forget(&mut self, x: usize) -> Result<Exactness, AllocError> {
-        let exactness = self.change(&Change::Forget(x))?;
+        let exactness = self.change_each(&Change::Forget(x))?;
         Ok(exactness)
     }
 
     fn test(&mut self, t: &Test) -> Result<Exactness, AllocError> {
-        let exactness = self.change(&Change::Test(t))?;
+        let exactness = self.change_each(&Change::Test(t))?;
         Ok(exactness)
     }
 
@@ -314,12 +331,12 @@ impl<D: Plain> Domain for PowerSet<D> {
     }
 
     fn embed(&mut self, k: usize) -> Result<Exactness, AllocError> {
-        let exactness = self.change(&Change::Embed(k))?;
+        let exactness = self.change_each(&Change::Embed(k))?;
         Ok(exactness)
     }
 
     fn remove_last(&mut self, k: usize) -> Result<Exactness, AllocError> {
-        let exactness = self.change(&Change::RemoveLast(k))?;
+        let exactness = self.change_each(&Change::RemoveLast(k))?;
         Ok(exactness)
     }
 
@@ -353,5 +370,11 @@ impl<D: Plain> Domain for PowerSet<D> {
 
     fn rank(head: &PowerSetHead<D>) -> Rank {
         head.rank()
+    }
+}
+
+impl<D: Plain + Told> Told for PowerSet<D> {
+    fn parts_tell_all(&self) {
+        tell_each(self.parts.as_slice());
     }
 }

@@ -12,7 +12,7 @@ use Rattle.lra_box.specs.Tables.{has_bounds}
 use Rattle.lra_box.specs.Parts.{bound_row, is_single, low_rows, high_rows, equal_rows, unequal_rows, box_rows, box_system, box_parts}
 use Rattle.lra_box.specs.Meaning.{box_meaning}
 use Rattle.lra_box.proofs.PartLemmas.{parts_mean}
-use Rattle.lra_base.specs.declared.options.Domain.TheVariants.{Box}
+use Rattle.lra_options.specs.declared.options.Domain.TheVariants.{Box}
 use Rattle.lra_findings.specs.Report.{Holds}
 use Rattle.lra_show.specs.Texts.{is_turned}
 use Rattle.lra_findings.specs.Parts.{Tells}

@@ -2,7 +2,7 @@
 use Rattle.std.proofs.Common.{◌≡◌, ◌∙◌, ℕ, true, false, Bool, cond, List, [], ◌∷◌, length, inl, inr, refl, sym, ap, subst, Vec, Global}
 use Rattle.std.specs.Prelude.{Result, Ok, Err, IfOk}
 use Rattle.std.specs.List.{Contains, list_any}
-use Rattle.lra_base.specs.declared.options.Domain.TheVariants.{Poly}
+use Rattle.lra_options.specs.declared.options.Domain.TheVariants.{Poly}
 use Rattle.lra_linear.specs.Descriptions.{Given, Con}
 use Rattle.lra_states.specs.Canonical.{IsCanonicalState}
 use Rattle.lra_linear.specs.Points.{IsEmptySet}

@@ -1,5 +1,5 @@
 -- Rows of constraints as rows of a report: where they hold, how wide they are, which way their equalities are turned.
-use Rattle.std.proofs.Common.{◌≡◌, ◌↔◌, ℕ, suc, ◌++◌, List, [], ◌∷◌, length, map, inl, inr, refl, sym, subst, arith}
+use Rattle.std.proofs.Common.{◌≡◌, ℕ, suc, ◌++◌, List, [], ◌∷◌, length, map, inl, inr, refl, sym, subst, arith}
 use Rattle.std.specs.Prelude.{ℤ, pos, ◌+ℤ◌, replicate}
 use Rattle.std.specs.List.{AllByRecursion}
 use Rattle.std.proofs.lemmas.Int.{ints}
@@ -14,6 +14,7 @@ use Rattle.lra_show.specs.Shown.{report_row}
 use Rattle.lra_show.specs.Lists.{shown_rows}
 use Rattle.lra_report.specs.Spelled.{IsDirected}
 use Rattle.lra_domain.specs.Meaning.{Meaning}
+use Rattle.lra_domain.specs.Laws.{PartsTell}
 use Rattle.lra_domain.specs.Parts.{SomePartHolds}
 use Rattle.lra_show.specs.Part.{Part}
 use Rattle.lra_findings.specs.Report.{Holds}
@@ -64,12 +65,11 @@ parts_held (p ∷ ps) s (inr h) = inr (parts_held ps s h)
 
 -- what the parts of a value mean, their state means
 pub state_means : {V H : Type 0} (m : Meaning V H) (v : V) (ps : List (Listed ConKind)) (state : List Part) → state ≡ map shown_part ps
-    → ((s : List ℤ) → length s ≡ m.dims v → m.has v s ↔ SomePartHolds ps s) → MeansValue m v state
-state_means m v ps state is mean s long =
-    let meant = mean s long in (
-      λ h. subst (λ l. Holds l s) (sym is) (parts_hold ps s (meant.0 h)),
-      λ h. meant.1 (parts_held ps s (subst (λ l. Holds l s) is h)),
-    )
+    → ps ≡ m.parts v → ((s : List ℤ) → m.has v s → SomePartHolds ps s) → PartsTell m v → MeansValue m v state
+state_means m v ps state is own hold tell s long = (
+  λ h. subst (λ l. Holds l s) (sym is) (parts_hold ps s (hold s h)),
+  λ h. tell s long (subst (λ l. SomePartHolds l s) own (parts_held ps s (subst (λ l. Holds l s) is h))),
+)
 
 -- widths -------------------------------------------------------------------------------------------------------------
 

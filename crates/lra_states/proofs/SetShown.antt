@@ -9,7 +9,7 @@ use Rattle.lra_set.specs.Content.{Parts}
 use Rattle.lra_set.specs.Lists.{EachPart, SomePart}
 use Rattle.lra_set.specs.Content.{PartFits}
 use Rattle.lra_set.specs.Meaning.{set_meaning}
-use Rattle.lra_base.specs.declared.options.Domain.{Domain}
+use Rattle.lra_options.specs.declared.options.Domain.{Domain}
 use Rattle.lra_report.specs.Listing.{HasWidth}
 use Rattle.lra_report.proofs.Every.{every_append}
 use Rattle.lra_show.specs.Part.{Part}

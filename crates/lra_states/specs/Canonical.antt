@@ -1,8 +1,8 @@
 -- That a state over polyhedra is shown by canonical lists.
 use Rattle.std.specs.Prelude.{◌≡◌, ℕ, List, map, ⊤}
 use Rattle.std.specs.List.{AllByRecursion}
-use Rattle.lra_base.specs.declared.options.Domain.{Domain}
-use Rattle.lra_base.specs.declared.options.Domain.TheVariants.{Poly, Box, Oct}
+use Rattle.lra_options.specs.declared.options.Domain.{Domain}
+use Rattle.lra_options.specs.declared.options.Domain.TheVariants.{Poly, Box, Oct}
 use Rattle.lra_findings.specs.Report.{Invariant}
 use Rattle.lra_show.specs.Part.{Part}
 use Rattle.lra_linear.specs.Formed.{IsFormed}

@@ -6,7 +6,7 @@ use Rattle.lra_linear.specs.Descriptions.{Given, Con}
 use Rattle.lra_linear.specs.Polyhedra.{Polyhedron}
 use Rattle.lra_linear.specs.declared.GenKind.{GenKind}
 use Rattle.lra_sys.specs.Listed.{Listed, constraints, generators}
-use Rattle.lra_base.specs.declared.options.Domain.TheVariants.{Poly}
+use Rattle.lra_options.specs.declared.options.Domain.TheVariants.{Poly}
 use Rattle.lra_show.specs.ShownDescriptions.{shown_constraint, shown_generator}
 use Rattle.lra_show.specs.Part.{Part}
 use Rattle.lra_findings.specs.Report.{Invariant, Holds}

@@ -5,7 +5,7 @@ use Rattle.lra_sys.specs.Listed.{Listed}
 use Rattle.lra_linear.specs.declared.ConKind.{ConKind}
 use Rattle.lra_show.specs.Lists.{shown_rows}
 use Rattle.lra_domain.specs.Meaning.{Meaning}
-use Rattle.lra_base.specs.declared.options.Domain.{Domain}
+use Rattle.lra_options.specs.declared.options.Domain.{Domain}
 use Rattle.lra_show.specs.Part.{Part}
 use Rattle.lra_findings.specs.Report.{Invariant, Holds}
 use Rattle.lra_findings.specs.Parts.{Tells}

@@ -1,6 +1,6 @@
 //! Laws: each of these does nothing, and its contract is the theorem.
 
-ghost use Rattle.lra_base.specs.declared.options.Domain.TheVariants.{Box, Oct};
+ghost use Rattle.lra_options.specs.declared.options.Domain.TheVariants.{Box, Oct};
 ghost use Rattle.lra_box.specs.Meaning.{box_meaning};
 ghost use Rattle.lra_oct.specs.Meaning.{octagon_meaning};
 ghost use Rattle.lra_states.specs.Shown.{ShowsRows};

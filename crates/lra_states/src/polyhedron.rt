@@ -2,7 +2,7 @@
 
 ghost use Rattle.std.specs.Prelude.{◌≡◌, IfOk};
 ghost use Rattle.std.specs.List.{AllByRecursion};
-ghost use Rattle.lra_base.specs.declared.options.Domain.TheVariants as options;
+ghost use Rattle.lra_options.specs.declared.options.Domain.TheVariants as options;
 ghost use Rattle.lra_linear.specs.Formed.{IsFormed};
 ghost use Rattle.lra_linear.specs.Polyhedra.{IsPolyhedron};
 ghost use Rattle.lra_sys.specs.Listed.{FitKinds};

@@ -1,8 +1,15 @@
 -- Goals of the functions that call each other around `lies_in_some`: `returns`.
-use Rattle.std.proofs.Common.{◌≡◌, ◌∷◌, arith}
+use Rattle.std.proofs.Common.{◌≡◌, ◌∷◌, arith, inl, rules}
 use Rattle.std.proofs.lemmas.Grind.{common_steps}
+use Rattle.lra_domain.specs.declared.Included.TheVariants.{Yes}
 use Rattle.lra_set.proofs.AnswerLemmas.{told_of, told_some}
 use Rattle.lra_set.proofs.reduction.+lies_in_some.Goals as goal
+
+pub returns-then-eq : goal.returns-then-eq
+returns-then-eq g t c =
+    let cut : c.args.others.now ≡ c.in-Some.first.now ∷ c.in-Some.later.now = grind (arith, common_steps) in
+    let yes : c.included-here.result ≡ Yes = search rules in
+    rw cut (inl (c.included-here.ensures.yes yes))
 
 pub returns : goal.returns
 returns g t c =
@@ -10,6 +17,6 @@ returns g t c =
     let p = c.args.part.now in
     let cut : c.args.others.now ≡ c.in-Some.first.now ∷ c.in-Some.later.now = grind (arith, common_steps) in
     rw (c.either.ensures, cut)
-    (told_some (m.inside p) (m.inside_strains p) c.in-Some.first.now c.in-Some.later.now c.included.result
-    c.lies_in_some.result (told_of (m.inside p c.in-Some.first.now) (m.inside_strains p c.in-Some.first.now) c.included.result
-    (λ e. c.included.ensures.yes e) (λ e. c.included.ensures.no e) (λ e. c.included.ensures.wide e)) c.lies_in_some.ensures)
+    (told_some (m.inside p) (m.inside_strains p) c.in-Some.first.now c.in-Some.later.now c.included-here.result
+    c.lies_in_some.result (told_of (m.inside p c.in-Some.first.now) (m.inside_strains p c.in-Some.first.now) c.included-here.result
+    (λ e. c.included-here.ensures.yes e) (λ e. c.included-here.ensures.no e) (λ e. c.included-here.ensures.wide e)) c.lies_in_some.ensures)

@@ -1,7 +1,7 @@
 -- Goals of the functions that call each other around `append_rows`: `returns`.
 use Rattle.std.proofs.Common.{◌≡◌, ◌∷◌, arith}
 use Rattle.std.proofs.lemmas.Grind.{common_steps}
-use Rattle.lra_set.proofs.SetLemmas.{more_fit, more_mean}
+use Rattle.lra_set.proofs.SetLemmas.{more_fit, more_hold}
 use Rattle.lra_set.proofs.set.+append_rows.Goals as goal
 
 pub returns-clause-dims : goal.returns-clause-dims
@@ -10,8 +10,8 @@ returns-clause-dims g t c =
     more_fit g.D.Domain.meaning c.args.parts.now c.in-Some.first.now c.in-Some.later.now c.in_ok-rows.rows.items cut
     c.in_ok-rows.ensures.parts c.in_ok-rows.ensures.dims c.in_ok-append_rows.ensures.dims
 
-pub returns-clause-mean : goal.returns-clause-mean
-returns-clause-mean g t c =
+pub returns-clause-hold : goal.returns-clause-hold
+returns-clause-hold g t c =
     let cut : c.args.parts.now ≡ c.in-Some.first.now ∷ c.in-Some.later.now = grind (arith, common_steps) in
-    more_mean g.D.Domain.meaning c.args.parts.now c.in-Some.first.now c.in-Some.later.now c.in_ok-rows.rows.items cut
-    c.in_ok-rows.ensures.parts c.in_ok-rows.ensures.mean c.in_ok-append_rows.ensures.mean
+    more_hold g.D.Domain.meaning c.args.parts.now c.in-Some.first.now c.in-Some.later.now c.in_ok-rows.rows.items cut
+    c.in_ok-rows.ensures.parts c.in_ok-rows.ensures.hold c.in_ok-append_rows.ensures.hold

@@ -1,7 +1,7 @@
 -- Goals of `PowerSetDomain::parts`.
 use Rattle.std.proofs.Common.{◌≡◌, refl, ◌∙◌}
 use Rattle.lra_set.proofs.AnswerLemmas.{alike}
-use Rattle.lra_set.proofs.SetLemmas.{set_mean, set_rows_fit}
+use Rattle.lra_set.proofs.SetLemmas.{set_hold, set_rows_fit}
 use Rattle.lra_set.proofs.set.PowerSetDomain.parts.Goals as goal
 
 pub returns-clause-dims : goal.returns-clause-dims
@@ -12,12 +12,8 @@ returns-clause-dims g c =
     (alike g.D.Domain.meaning c.self.inside.dims c.self.inside.dims c.self.inside.parts.items c.as_slice.result.now refl
     c.as_slice.ensures.value c.self.invariant.3)
 
-pub returns-clause-mean : goal.returns-clause-mean
-returns-clause-mean g c =
-    let own : c.self.inside.dims ≡ c.args.self.now.dims = rw (← c.self.view_is) refl in
+pub returns-clause-hold : goal.returns-clause-hold
+returns-clause-hold g c =
     let parts : c.self.inside.parts.items ≡ c.args.self.now.parts = rw (← c.self.view_is) refl in
-    set_mean g.D.Domain.meaning c.args.self.now c.self.inside.dims c.as_slice.result.now c.new-all.result.items
-    c.append_rows.new.all.items own (c.as_slice.ensures.value ∙ parts) c.new-all.ensures.items
-    c.in_ok-append_rows.ensures.rows c.in_ok-append_rows.ensures.mean
-    (alike g.D.Domain.meaning c.self.inside.dims c.self.inside.dims c.self.inside.parts.items c.as_slice.result.now refl
-    c.as_slice.ensures.value c.self.invariant.3)
+    set_hold g.D.Domain.meaning c.args.self.now c.as_slice.result.now c.new-all.result.items c.append_rows.new.all.items
+    (c.as_slice.ensures.value ∙ parts) c.new-all.ensures.items c.in_ok-append_rows.ensures.rows c.in_ok-append_rows.ensures.hold

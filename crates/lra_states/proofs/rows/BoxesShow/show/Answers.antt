@@ -1,5 +1,5 @@
 -- Goals of `BoxesShow::show`.
-use Rattle.lra_base.specs.declared.options.Domain.TheVariants.{Box}
+use Rattle.lra_options.specs.declared.options.Domain.TheVariants.{Box}
 use Rattle.lra_box.specs.Meaning.{box_meaning}
 use Rattle.lra_states.proofs.BoxShown.{boxes_are_shown}
 use Rattle.lra_states.proofs.RowsSpelled.{told, spelled}

@@ -1,5 +1,5 @@
 -- Goals of `OctagonShow::show`.
-use Rattle.lra_base.specs.declared.options.Domain.TheVariants.{Oct}
+use Rattle.lra_options.specs.declared.options.Domain.TheVariants.{Oct}
 use Rattle.lra_oct.specs.Meaning.{octagon_meaning}
 use Rattle.lra_states.proofs.OctShown.{octagons_are_shown}
 use Rattle.lra_states.proofs.RowsSpelled.{told, spelled}

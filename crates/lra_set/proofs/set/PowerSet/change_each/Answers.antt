@@ -1,4 +1,4 @@
--- Goals of `PowerSet::change`: each part is changed; those that became empty are left out, and the others are
+-- Goals of `PowerSet::change_each`: each part is changed; those that became empty are left out, and the others are
 -- reduced.
 use Rattle.std.proofs.Common.{◌≡◌, [], refl, arith}
 use Rattle.std.proofs.lemmas.Grind.{common_steps}
@@ -6,7 +6,7 @@ use Rattle.lra_domain.specs.Actions.{dims_after}
 use Rattle.lra_set.specs.Changes.{action_of}
 use Rattle.lra_set.proofs.AnswerLemmas.{alike}
 use Rattle.lra_set.proofs.SetLemmas.{appended_fit, change_fits, change_meets, dims_small, settled_few, settled_fit}
-use Rattle.lra_set.proofs.set.PowerSet.change.Goals as goal
+use Rattle.lra_set.proofs.set.PowerSet.change_each.Goals as goal
 
 pub append_changed-requires : goal.append_changed-requires
 append_changed-requires g c =
