@@ -11,7 +11,7 @@ use Rattle.lra_operations.specs.Inlined.{Spot, move, HasSite, Inl, InlAll, Decla
 use Rattle.lra_operations.specs.Inlined.{as_return, as_return_value, as_return_call, as_end, as_end_value, as_end_call, as_assert, as_assume, as_none, as_declaration, as_statement, as_fresh, as_given}
 use Rattle.lra_operations.specs.Inlined.{is_loop, as_value, as_result}
 use Rattle.lra_operations.specs.Agree.{IsGraph}
-use Rattle.lra_base.specs.declared.options.Options.{Options}
+use Rattle.lra_options.specs.declared.options.Options.{Options}
 use Rattle.lra_flow.specs.Operations.{Operations}
 use Rattle.lra_flow.specs.Pass.{Result, noted, jumps, behind, Through, GoesRound, Grows, Narrows, Pass}
 use Rattle.lra_flow.specs.Analysis.{Iteration}

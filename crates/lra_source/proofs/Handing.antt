@@ -12,10 +12,10 @@ use Rattle.lra_program.specs.Program.{Program}
 use Rattle.lra_operations.specs.Graph.{Node}
 use Rattle.lra_program.specs.Sites.{Site, sites_of}
 use Rattle.lra_operations.specs.Agree.{IsGraph}
-use Rattle.lra_base.specs.declared.options.Domain.{Domain}
+use Rattle.lra_options.specs.declared.options.Domain.{Domain}
 use Rattle.lra_findings.specs.Report.{Invariant}
 use Rattle.lra_report.specs.Listing.{HasWidth}
-use Rattle.lra_base.specs.declared.options.Options.{Options}
+use Rattle.lra_options.specs.declared.options.Options.{Options}
 use Rattle.lra_flow.specs.Operations.{dropping}
 use Rattle.lra_flow.specs.Pass.{Result}
 use Rattle.lra_flow.specs.Analysis.{Derivation, Solves}

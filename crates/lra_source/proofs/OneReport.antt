@@ -14,9 +14,8 @@ use Rattle.lra_set.specs.Meaning.{set_meaning}
 use Rattle.lra_set.specs.Single.{set_single}
 use Rattle.lra_states.specs.Sets.{shown_set}
 use Rattle.lra_meaning.specs.LiveNames.{globals_named}
-use Rattle.lra_program.specs.Assertions.{assertions_from}
-use Rattle.lra_base.specs.declared.options.Domain.{Domain}
-use Rattle.lra_base.specs.declared.options.Domain.TheVariants.{Poly, Box, Oct}
+use Rattle.lra_options.specs.declared.options.Domain.{Domain}
+use Rattle.lra_options.specs.declared.options.Domain.TheVariants.{Poly, Box, Oct}
 use Rattle.lra_domain.specs.Meaning.{Meaning}
 use Rattle.lra_tree.specs.Trees.{FileTree}
 use Rattle.lra_tree.specs.Labels.{Labelled, labels_of}
@@ -25,9 +24,11 @@ use Rattle.lra_meaning.specs.Refuse.{OneAnswer}
 use Rattle.lra_meaning.specs.Resolve.{resolve}
 use Rattle.lra_program.specs.Program.{Program}
 use Rattle.lra_program.specs.Sites.{Site, sites_of}
-use Rattle.lra_base.specs.declared.options.Options.{Options}
+use Rattle.lra_options.specs.declared.options.Options.{Options}
 use Rattle.lra_findings.specs.Report.{Invariant, PointReport, Report, Verdict}
-use Rattle.lra_report.specs.Listing.{AreListed, AreJudged, Lists, listed_point, listed_verdict}
+use Rattle.lra_findings.specs.declared.verdict_kinds.VerdictKind.{VerdictKind}
+use Rattle.lra_findings.specs.declared.verdict_kinds.VerdictKind.TheVariants.{Assertion}
+use Rattle.lra_report.specs.Listing.{AreListed, Subject, subjects, AreJudged, Lists, listed_point, listed_verdict}
 use Rattle.lra_listing.specs.Given.{told, told_of, state_of}
 use Rattle.lra_operations.specs.Graph.{Node}
 use Rattle.lra_flow.specs.Analysis.{Written}
@@ -60,9 +61,9 @@ same_points outside ls n (t ∷ T) (p ∷ ps) (q ∷ qs) a b s =
     rest_of [] = []
     rest_of (x ∷ xs) = xs
 
--- the verdicts on the same assertions that say the same of each number
-same_verdicts : (ls : List Labelled) (xs : List (ℕ × Site)) (vs ws : List Verdict) → AreJudged ls xs vs → AreJudged ls xs ws
-    → ((n : ℕ) (a b : Bool) → Contains (map told_of vs) (n, a) → Contains (map told_of ws) (n, b) → a ≡ b) → vs ≡ ws
+-- the verdicts on the same subjects that say the same of each kind and number
+same_verdicts : (ls : List Labelled) (xs : List Subject) (vs ws : List Verdict) → AreJudged ls xs vs → AreJudged ls xs ws
+    → ((k : VerdictKind) (n : ℕ) (a b : Bool) → Contains (map told_of vs) (k, n, a) → Contains (map told_of ws) (k, n, b) → a ≡ b) → vs ≡ ws
 same_verdicts ls [] [] [] a b same = refl
 same_verdicts ls [] [] (w ∷ ws) a b same = absurd b
 same_verdicts ls [] (v ∷ vs) ws a b same = absurd a
@@ -70,21 +71,25 @@ same_verdicts ls (x ∷ xs) [] ws a b same = absurd a
 same_verdicts ls (x ∷ xs) (v ∷ vs) [] a b same = absurd b
 same_verdicts ls (x ∷ xs) (v ∷ vs) (w ∷ ws) a b same =
     let number : w.number ≡ v.number = ap (λ (u : Verdict). u.number) b.0 ∙ sym (ap (λ (u : Verdict). u.number) a.0) in
-    let one : v.proved ≡ w.proved = same v.number v.proved w.proved (contains_head (told_of v) (map told_of vs))
-    (subst (λ n. Contains (map told_of (w ∷ ws)) (n, w.proved)) number (contains_head (told_of w) (map told_of ws))) in
-    let head : v ≡ w = a.0 ∙ ap (listed_verdict ls x.0 x.1) one ∙ sym b.0 in
-    let tail : vs ≡ ws = same_verdicts ls xs vs ws a.1 b.1 (λ n c d i j. same n c d (contains_tail (told_of v) (n, c) (map told_of vs) i) (contains_tail (told_of w) (n, d) (map told_of ws) j)) in
+    let kind : w.kind ≡ v.kind = ap (λ (u : Verdict). u.kind) b.0 ∙ sym (ap (λ (u : Verdict). u.kind) a.0) in
+    let one : v.holds ≡ w.holds = same v.kind v.number v.holds w.holds (contains_head (told_of v) (map told_of vs))
+    (subst (λ k. Contains (map told_of (w ∷ ws)) (k, v.number, w.holds)) kind
+    (subst (λ n. Contains (map told_of (w ∷ ws)) (w.kind, n, w.holds)) number (contains_head (told_of w) (map told_of ws)))) in
+    let head : v ≡ w = a.0 ∙ ap (listed_verdict ls x) one ∙ sym b.0 in
+    let tail : vs ≡ ws = same_verdicts ls xs vs ws a.1 b.1
+    (λ k n c d i j. same k n c d (contains_tail (told_of v) (k, n, c) (map told_of vs) i) (contains_tail (told_of w) (k, n, d) (map told_of ws) j)) in
     rw (head, tail) refl
 
 -- a verdict that is told is one of those that were found
-found_told : (vs : List (ℕ × Bool)) (n : ℕ) (b : Bool) → Contains (map told vs) (n, b) → (q : ℕ) × (n ≡ suc q) × Contains vs (q, b)
-found_told [] n b h = absurd (contains_none (n, b) h)
-found_told (v ∷ vs) n b h = elim (contains_cases (told v) (n, b) (map told vs) h) [
+found_told : (kind : VerdictKind) (vs : List (ℕ × Bool)) (k : VerdictKind) (n : ℕ) (b : Bool) → Contains (map (told kind) vs) (k, n, b) →
+    (q : ℕ) × (n ≡ suc q) × Contains vs (q, b)
+found_told kind [] k n b h = absurd (contains_none (k, n, b) h)
+found_told kind (v ∷ vs) k n b h = elim (contains_cases (told kind v) (k, n, b) (map (told kind) vs) h) [
   | inl is ↦
-      let last : v.1 ≡ b = ap (λ (t : ℕ × Bool). t.1) is in
+      let last : v.1 ≡ b = ap (λ (t : VerdictKind × ℕ × Bool). t.2) is in
       let has : Contains (v ∷ vs) (v.0, v.1) = contains_head v vs in
-      (v.0, sym (ap (λ (t : ℕ × Bool). t.0) is), subst (λ (c : Bool). Contains (v ∷ vs) (v.0, c)) last has)
-  | inr later ↦ let (q, is, has) = found_told vs n b later in (q, is, contains_tail v (q, b) vs has)
+      (v.0, sym (ap (λ (t : VerdictKind × ℕ × Bool). t.1) is), subst (λ (c : Bool). Contains (v ∷ vs) (v.0, c)) last has)
+  | inr later ↦ let (q, is, has) = found_told kind vs k n b later in (q, is, contains_tail v (q, b) vs has)
 ]
 
 one_flag : (f : Option ℕ) (told : Option ℕ) → told ≡ option_map suc f → told ≡ None → f ≡ None
@@ -94,7 +99,7 @@ one_flag (Some q) told is none = absurd (none-some _ (sym none ∙ is))
 -- two reports that tell the written iteration of one program show the same states, and the same of each assertion
 pub record SayTheSame (r s : Report) : Type 0 where
   pub states : map state_of r.points ≡ map state_of s.points
-  pub verdicts : (n : ℕ) (a b : Bool) → Contains (map told_of r.verdicts) (n, a) → Contains (map told_of s.verdicts) (n, b) → a ≡ b
+  pub verdicts : (k : VerdictKind) (n : ℕ) (a b : Bool) → Contains (map told_of r.verdicts) (k, n, a) → Contains (map told_of s.verdicts) (k, n, b) → a ≡ b
 
 pub one_analysis : {V H : Type 0} (m : Meaning V H) → SingleLaws m → (shown : V → Invariant) (o : Options) (P : Program) (r s : Report) → IsAnalysed m shown o P r → IsAnalysed m shown o P s
     → r.flagged ≡ None → s.flagged ≡ None → SayTheSame r s
@@ -105,9 +110,9 @@ one_analysis m laws shown o P r s a b e f =
     let one = one_solution m laws o P a.tree a.result b.result a.values b.values a.verdicts b.verdicts a.flagged b.flagged (numbered P a.tree a.is_graph) first second a.solves b.solves in
     record {
       states = a.states ∙ ap (map shown) one.0 ∙ sym b.states;
-      verdicts = λ n c d i j.
-          let (p, is, has) = found_told a.verdicts n c (subst (λ l. Contains l (n, c)) a.proved i) in
-          let (q, same, in_second) = found_told b.verdicts n d (subst (λ l. Contains l (n, d)) b.proved j) in
+      verdicts = λ k n c d i j.
+          let (p, is, has) = found_told Assertion a.verdicts k n c (subst (λ l. Contains l (k, n, c)) a.proved i) in
+          let (q, same, in_second) = found_told Assertion b.verdicts k n d (subst (λ l. Contains l (k, n, d)) b.proved j) in
           let equal : q ≡ p = cc in
           one.1 p c d has (subst (λ k. Contains b.verdicts (k, d)) equal in_second);
     }
@@ -134,7 +139,8 @@ one_unflagged one o source r s x y e f =
     (λ V H m shown l a b. one_analysis m l shown o (resolve t) r s a b e f) o.domain o.parts x.analysed other in
     let lists : Lists t s = subst (λ (u : FileTree). Lists u s) tree y.report.lists in
     let points : r.points ≡ s.points = same_points (globals_named t.parts) (labels_of t) 1 (sites_of (resolve t)) r.points s.points x.report.lists.points lists.points same.states in
-    let verdicts : r.verdicts ≡ s.verdicts = same_verdicts (labels_of t) (assertions_from 1 (sites_of (resolve t))) r.verdicts s.verdicts x.report.lists.verdicts lists.verdicts same.verdicts in
+    let verdicts : r.verdicts ≡ s.verdicts = same_verdicts (labels_of t)
+    (subjects t) r.verdicts s.verdicts x.report.lists.verdicts lists.verdicts same.verdicts in
     one_record r s (x.report.options ∙ sym y.report.options) (e ∙ sym f) points verdicts
   where
     one_record : (r s : Report) → r.options ≡ s.options → r.flagged ≡ s.flagged → r.points ≡ s.points → r.verdicts ≡ s.verdicts → r ≡ s

@@ -12,8 +12,8 @@ use Rattle.lra_report.specs.Listing.{HasWidth, AreListed, Lists}
 use Rattle.lra_meaning.specs.LiveNames.{live_names, globals_named}
 use Rattle.lra_report.specs.Spelled.{IsSpelledPart, IsReadablePart, IsReadablePoint, IsSmallFlag, IsReadable}
 use Rattle.lra_formed.proofs.Named.{shown_as_many}
-use Rattle.lra_base.specs.declared.options.Domain.{Domain}
-use Rattle.lra_base.specs.declared.options.Options.{Options}
+use Rattle.lra_options.specs.declared.options.Domain.{Domain}
+use Rattle.lra_options.specs.declared.options.Options.{Options}
 use Rattle.lra_states.specs.Canonical.{IsCanonicalState}
 use Rattle.lra_source.specs.Answers.{AreCanonical}
 

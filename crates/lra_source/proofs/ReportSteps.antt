@@ -9,8 +9,8 @@ use Rattle.lra_operations.specs.Graph.{Node}
 use Rattle.lra_tree.specs.Labels.{Labelled, labels_of}
 use Rattle.lra_program.specs.Sites.{Site, Event, comes, one_call_more, events_of, sites_in, sites_of}
 use Rattle.lra_meaning.specs.Resolve.{resolve}
-use Rattle.lra_base.specs.declared.options.Domain.{Domain}
-use Rattle.lra_base.specs.declared.options.Options.{Options}
+use Rattle.lra_options.specs.declared.options.Domain.{Domain}
+use Rattle.lra_options.specs.declared.options.Options.{Options}
 use Rattle.lra_findings.specs.Report.{Invariant, Report}
 use Rattle.lra_report.specs.Listing.{Lists}
 use Rattle.lra_meaning.specs.Refuse.{greatest_live, greatest_points, limit_fault}
@@ -19,6 +19,7 @@ use Rattle.lra_domain.specs.Laws.{Laws}
 use Rattle.lra_iter.specs.Fits.{TreeFits}
 use Rattle.lra_iter.specs.Numbers.{IsNumbered}
 use Rattle.lra_iter.specs.Solved.{IsSolved}
+use Rattle.lra_findings.specs.declared.verdict_kinds.VerdictKind.TheVariants.{Assertion}
 use Rattle.lra_listing.specs.Given.{AreInvariants, AreVerdicts, state_of, told_of, told}
 use Rattle.lra_report.specs.Spelled.{IsSpelledPart}
 use Rattle.lra_states.specs.Canonical.{AreCanonicallyShown}
@@ -111,7 +112,7 @@ pub is_told : {V H : Type 0} (m : Meaning V H) (shown : V → Invariant) (o : Op
     (values : List V) (verdicts : List (ℕ × Bool)) (flagged : Option ℕ) (states : List Invariant) (r : Report)
     → HasGraph t g sites → IsSolved m o (resolve t) g values verdicts flagged → states ≡ map shown values → AreShown m o.domain shown values
     → AllByRecursion (AllByRecursion IsSpelledPart) states → Laws m → AreCanonicallyShown o.domain m.dims shown values → r.options ≡ o → Lists t r → map state_of r.points ≡ states
-    → map told_of r.verdicts ≡ map told verdicts → r.flagged ≡ option_map suc flagged → IsToldOf m shown o t r
+    → map told_of r.verdicts ≡ map (told Assertion) verdicts → r.flagged ≡ option_map suc flagged → IsToldOf m shown o t r
 is_told m shown o t g sites values verdicts flagged states r has solved are are_shown spelled laws lists_shown options lists same judged flag = record {
   names = has.names;
   straight = has.straight;

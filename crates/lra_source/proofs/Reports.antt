@@ -1,6 +1,6 @@
 -- A report that lists a program's points, tells what the iteration found, and shows values as they are, is right, and is a report of its source.
 use Rattle.std.proofs.Common.{◌≡◌, ℕ, zero, suc, ◌+◌, ◌≤◌, ◌<◌, List, [], ◌∷◌, length, Option, Some, None, Bool, map, refl, sym, ap, ◌∙◌, subst, arith}
-use Rattle.std.specs.Prelude.{slice_get, option_map}
+use Rattle.std.specs.Prelude.{slice_get, option_map, IsTrue}
 use Rattle.std.specs.List.{AllByRecursion, Contains}
 use Rattle.std.proofs.lemmas.Option.{none-some, same_Some}
 use Rattle.lra_tree.specs.Trees.{FileTree}
@@ -10,12 +10,15 @@ use Rattle.lra_meaning.specs.Resolve.{resolve}
 use Rattle.lra_program.specs.Sites.{Site, sites_of}
 use Rattle.lra_operations.specs.Agree.{point_of, Agrees}
 use Rattle.lra_tree.specs.Labels.{Labelled, labels_of}
-use Rattle.lra_base.specs.declared.options.Domain.{Domain}
-use Rattle.lra_base.specs.declared.options.Options.{Options}
+use Rattle.lra_options.specs.declared.options.Domain.{Domain}
+use Rattle.lra_options.specs.declared.options.Options.{Options}
 use Rattle.lra_findings.specs.Report.{Invariant, Holds, PointReport, Verdict, Report, IsInvariant, IsRight, IsSound}
 use Rattle.lra_findings.specs.Parts.{Tells}
 use Rattle.lra_meaning.specs.Refuse.{Accepts}
-use Rattle.lra_report.specs.Listing.{AreListed, Lists, IsFlag, AreParts, IsReportOf}
+use Rattle.lra_findings.specs.declared.verdict_kinds.VerdictKind.{VerdictKind}
+use Rattle.lra_findings.specs.declared.verdict_kinds.VerdictKind.TheVariants.{Assertion}
+use Rattle.lra_findings.specs.VerdictKinds.{Breaks}
+use Rattle.lra_report.specs.Listing.{AreListed, Subject, subject, subjects, Lists, IsFlag, AreParts, IsReportOf}
 use Rattle.lra_program.specs.Assertions.{assertions_from}
 use Rattle.lra_meaning.specs.LiveNames.{globals_named}
 use Rattle.lra_flow.specs.Operations.{dropping}
@@ -29,7 +32,7 @@ use Rattle.lra_iter.proofs.Counting.{iteration_fails_once}
 use Rattle.lra_source.proofs.Flags.{IsBelow, graph_below, iteration_below}
 use Rattle.lra_formed.proofs.Named.{shown_as_many}
 use Rattle.lra_source.proofs.Handing.{contained, value_dims}
-use Rattle.lra_source.proofs.Sound.{value_there, proved_holds, IsListed, listed_all, judged_all, assertion_site}
+use Rattle.lra_source.proofs.Sound.{value_there, proved_holds, IsListed, listed_all, IsOn, judged_all, assertion_site}
 
 -- lists --------------------------------------------------------------------------------------------------------------
 
@@ -47,6 +50,12 @@ map_at f g (a ∷ xs) (b ∷ ys) e (suc k) x there = map_at f g xs ys (tails (f 
   where
     tails : {C : Type 0} (c d : C) (cs ds : List C) → c ∷ cs ≡ d ∷ ds → cs ≡ ds
     tails c d cs ds e = cc
+
+-- what stands in a list of images is one of them
+slice_get_of_map : {A B : Type 0} (f : A → B) (xs : List A) (k : ℕ) (y : B) → slice_get (map f xs) k ≡ Some y → (x : A) × (slice_get xs k ≡ Some x) × (y ≡ f x)
+slice_get_of_map f [] k y there = absurd (none-some y there)
+slice_get_of_map f (x ∷ xs) zero y there = (x, refl, sym (same_Some (f x) y there))
+slice_get_of_map f (x ∷ xs) (suc k) y there = slice_get_of_map f xs k y there
 
 listed_length : (outside : List (List ℕ)) (ls : List Labelled) (number : ℕ) (ss : List Site) (ps : List PointReport) → AreListed outside ls number ss ps → length ps ≡ length ss
 listed_length o ls n [] [] l = refl
@@ -71,16 +80,19 @@ module _ {V H : Type 0} (m : Meaning V H) (laws : Laws m) (shown : V → Invaria
       let same : v ≡ w = same_Some v w (sym found ∙ found') in
       subst (λ (y : Invariant). Holds y store) (sym (state ∙ ap shown (sym same))) ((x.are_shown v (contained x.values k v found)).holds store has)
 
-  right : (k : ℕ) (a : ℕ × Site) (v : Verdict) → slice_get (assertions_from 1 (sites_of (resolve t))) k ≡ Some a → slice_get r.verdicts k ≡ Some v → (v.number ≡ a.0) × (v.point ≡ point_of a.1) →
-      IsRight (resolve t) v
-  right k a v there listed (number, point) proved fails =
+  -- a verdict on an assertion
+  right_at : (k : ℕ) (a : ℕ × Site) (v : Verdict) → slice_get (assertions_from 1 (sites_of (resolve t))) k ≡ Some a → slice_get r.verdicts k ≡ Some v →
+      IsOn (subject Assertion a.0 a.1) v →
+      IsTrue v.holds → Fails (resolve t) v.point → ⊥
+  right_at k a v there listed on holds fails =
       let (q, is, site) = assertion_site 1 (sites_of (resolve t)) k a there in
-      let (y, found, is_told) = map_at told_of told r.verdicts x.verdicts x.proved k v listed in
-      let place : y.0 ≡ q = numbers v.number y.0 a.0 q (ap (λ (z : ℕ × Bool). z.0) is_told) number is in
-      let same : y ≡ (q, v.proved) = pair y.0 q y.1 v.proved place (sym (ap (λ (z : ℕ × Bool). z.1) is_told)) in
+      let (y, found, is_told) = map_at told_of (told Assertion) r.verdicts x.verdicts x.proved k v listed in
+      let place : y.0 ≡ q = numbers v.number y.0 a.0 q (ap (λ (z : VerdictKind × ℕ × Bool). z.1) is_told) on.number is in
+      let same : y ≡ (q, v.holds) = pair y.0 q y.1 v.holds place (sym (ap (λ (z : VerdictKind × ℕ × Bool). z.2) is_told)) in
       proved_holds V H m laws settings (resolve t) x.tree x.result x.derived agrees x.values x.verdicts x.flagged x.solves
       (iteration_fails_once (dropping m) settings (resolve t) x.tree x.result (numbered (resolve t) x.tree x.is_graph) x.derived)
-      q a.1 v.proved site (subst (λ (z : ℕ × Bool). Contains x.verdicts z) same (contained x.verdicts k y found)) proved (subst (λ z. Fails (resolve t) z) point fails)
+      q a.1 v.holds site (subst (λ (z : ℕ × Bool). Contains x.verdicts z) same (contained x.verdicts k y found)) holds
+      (subst (λ z. Fails (resolve t) z) on.point fails)
     where
       numbers : (n y m q : ℕ) → n ≡ suc y → n ≡ m → m ≡ 1 + q → y ≡ q
       numbers n y m q a b c = omega arith
@@ -88,10 +100,17 @@ module _ {V H : Type 0} (m : Meaning V H) (laws : Laws m) (shown : V → Invaria
       pair : (a b : ℕ) (c d : Bool) → a ≡ b → c ≡ d → (let u : ℕ × Bool = (a, c) in u) ≡ (b, d)
       pair a b c d e f = cc
 
+  right : (k : ℕ) (s : Subject) (v : Verdict) → slice_get (subjects t) k ≡ Some s → slice_get r.verdicts k ≡ Some v → IsOn s v →
+      IsRight (resolve t) v
+  right k s v there listed on holds breaks =
+      let (a, found, is) = slice_get_of_map (λ (p : ℕ × Site). subject Assertion p.0 p.1) (assertions_from 1 (sites_of (resolve t))) k s there in
+      let here : IsOn (subject Assertion a.0 a.1) v = subst (λ (y : Subject). IsOn y v) is on in
+      right_at k a v found listed here holds (subst (λ (kind : VerdictKind). Breaks kind (resolve t) v.point) here.kind breaks)
+
   pub sound : IsSound (resolve t) r
   sound = record {
     invariants = listed_all (IsInvariant (resolve t)) (globals_named t.parts) (labels_of t) 1 (sites_of (resolve t)) r.points lists.points invariant;
-    verdicts = judged_all (IsRight (resolve t)) (labels_of t) (assertions_from 1 (sites_of (resolve t))) r.verdicts lists.verdicts right;
+    verdicts = judged_all (IsRight (resolve t)) (labels_of t) (subjects t) r.verdicts lists.verdicts right;
   }
 
   is_flag : (count : ℕ) (o : Option ℕ) → IsBelow count o → IsFlag count (option_map suc o)

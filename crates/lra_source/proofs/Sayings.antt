@@ -1,8 +1,8 @@
 -- What is said of a domain or of its sets, as the options name them.
 use Rattle.std.proofs.Common.{◌≡◌, ℕ, zero, suc, ◌≤◌, ◌<◌, List, sym, subst, arith}
-use Rattle.lra_base.specs.declared.options.Domain.{Domain}
-use Rattle.lra_base.specs.declared.options.Domain.TheVariants.{Poly, Box, Oct}
-use Rattle.lra_base.specs.declared.options.Options.{Options}
+use Rattle.lra_options.specs.declared.options.Domain.{Domain}
+use Rattle.lra_options.specs.declared.options.Domain.TheVariants.{Poly, Box, Oct}
+use Rattle.lra_options.specs.declared.options.Options.{Options}
 use Rattle.lra_domain.specs.Meaning.{Meaning}
 use Rattle.lra_findings.specs.Report.{Invariant, Report}
 use Rattle.lra_meaning.specs.Resolve.{resolve}

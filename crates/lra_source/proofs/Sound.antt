@@ -14,9 +14,9 @@ use Rattle.lra_program.specs.Sites.{Site, sites_of}
 use Rattle.lra_operations.specs.Agree.{point_of, Agrees}
 use Rattle.lra_meaning.specs.ShownNames.{shown_names}
 use Rattle.lra_meaning.specs.LiveNames.{live_names}
-use Rattle.lra_report.specs.Listing.{AreListed, AreJudged}
+use Rattle.lra_report.specs.Listing.{Subject, AreListed, AreJudged}
 use Rattle.lra_program.specs.Assertions.{assertions_from}
-use Rattle.lra_base.specs.declared.options.Options.{Options}
+use Rattle.lra_options.specs.declared.options.Options.{Options}
 use Rattle.lra_flow.specs.Pass.{failing, Result}
 use Rattle.lra_flow.specs.Analysis.{Derivation, Solves, IsUnreachable}
 use Rattle.lra_flow.proofs.Covers.{Covers, Has}
@@ -84,12 +84,25 @@ listed_all Q o ls n (s ∷ ss) [] l f = absurd l
 listed_all Q o ls n (s ∷ ss) (p ∷ ps) l f =
     (f 0 s p refl refl (ap (λ (x : PointReport). x.point) l.0, ap (λ (x : PointReport). x.names) l.0), listed_all Q o ls (suc n) ss ps l.2 (λ k. f (suc k)))
 
-pub judged_all : (Q : Verdict → Type 0) (ls : List Labelled) (xs : List (ℕ × Site)) (vs : List Verdict) → AreJudged ls xs vs
-    → ((k : ℕ) (x : ℕ × Site) (v : Verdict) → slice_get xs k ≡ Some x → slice_get vs k ≡ Some v → (v.number ≡ x.0) × (v.point ≡ point_of x.1) → Q v) → AllByRecursion Q vs
+-- a verdict on what is judged, but for its path and its place
+pub record IsOn (x : Subject) (v : Verdict) : Type 0 where
+  pub kind : v.kind ≡ x.kind
+  pub number : v.number ≡ x.number
+  pub point : v.point ≡ point_of x.site
+
+pub judged_all : (Q : Verdict → Type 0) (ls : List Labelled) (xs : List Subject) (vs : List Verdict) → AreJudged ls xs vs
+    → ((k : ℕ) (x : Subject) (v : Verdict) → slice_get xs k ≡ Some x → slice_get vs k ≡ Some v → IsOn x v → Q v) → AllByRecursion Q vs
 judged_all Q ls [] [] l f = tt
 judged_all Q ls [] (v ∷ vs) l f = absurd l
 judged_all Q ls (x ∷ xs) [] l f = absurd l
-judged_all Q ls (x ∷ xs) (v ∷ vs) l f = (f 0 x v refl refl (ap (λ (y : Verdict). y.number) l.0, ap (λ (y : Verdict). y.point) l.0), judged_all Q ls xs vs l.1 (λ k. f (suc k)))
+judged_all Q ls (x ∷ xs) (v ∷ vs) l f = (
+  f 0 x v refl refl (record {
+    kind = ap (λ (y : Verdict). y.kind) l.0;
+    number = ap (λ (y : Verdict). y.number) l.0;
+    point = ap (λ (y : Verdict). y.point) l.0;
+  }),
+  judged_all Q ls xs vs l.1 (λ k. f (suc k)),
+)
 
 -- the place of a site, by its number
 abbrev SiteAt : ℕ → List Site → ℕ × Site → Type 0

@@ -2,7 +2,7 @@
 use Rattle.std.proofs.Common.{ℕ, ◌≤◌, List, refl, arith}
 use Rattle.lra_tree.specs.Trees.{FileTree}
 use Rattle.lra_tree.specs.Grammar.{Spells}
-use Rattle.lra_base.specs.declared.options.Options.{Options}
+use Rattle.lra_options.specs.declared.options.Options.{Options}
 use Rattle.lra_findings.specs.Report.{Invariant, Report}
 use Rattle.lra_meaning.specs.Refuse.{Accepts}
 use Rattle.lra_domain.specs.Meaning.{Meaning}

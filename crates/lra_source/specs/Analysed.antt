@@ -6,9 +6,10 @@ use Rattle.lra_program.specs.Program.{Program}
 use Rattle.lra_operations.specs.Graph.{Node}
 use Rattle.lra_operations.specs.Agree.{IsGraph}
 use Rattle.lra_findings.specs.Report.{Invariant, PointReport, Report}
-use Rattle.lra_base.specs.declared.options.Options.{Options}
+use Rattle.lra_options.specs.declared.options.Options.{Options}
 use Rattle.lra_flow.specs.Pass.{Result}
 use Rattle.lra_flow.specs.Analysis.{Written, Derivation, Strains, Solves}
+use Rattle.lra_findings.specs.declared.verdict_kinds.VerdictKind.TheVariants.{Assertion}
 use Rattle.lra_listing.specs.Given.{told, told_of}
 use Rattle.lra_states.specs.Shown.{AreShown}
 
@@ -32,5 +33,5 @@ pub record IsAnalysed {V H : Type 0} (m : Meaning V H) (shown : V → Invariant)
   pub are_shown : AreShown m settings.domain shown values
   -- and the report tells it
   pub states : map (λ (p : PointReport). p.state) r.points ≡ map shown values
-  pub proved : map told_of r.verdicts ≡ map told verdicts
+  pub proved : map told_of r.verdicts ≡ map (told Assertion) verdicts
   pub flag : r.flagged ≡ option_map suc flagged

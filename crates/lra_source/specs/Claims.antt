@@ -3,7 +3,7 @@ use Rattle.std.specs.Prelude.{◌≡◌, ◌≤◌, ℕ, List, length, None}
 use Rattle.lra_tree.specs.Trees.{FileTree}
 use Rattle.lra_program.specs.Program.{Program}
 use Rattle.lra_operations.specs.Graph.{Node}
-use Rattle.lra_base.specs.declared.options.Options.{Options}
+use Rattle.lra_options.specs.declared.options.Options.{Options}
 use Rattle.lra_findings.specs.Report.{Invariant, Report, IsSound}
 use Rattle.lra_findings.specs.ReportText.{report_text}
 use Rattle.lra_meaning.specs.Resolve.{resolve}

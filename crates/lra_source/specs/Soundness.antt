@@ -7,7 +7,7 @@ use Rattle.lra_operations.specs.Graph.{Node}
 use Rattle.lra_program.specs.Run.{At, Fails}
 use Rattle.lra_program.specs.Sites.{Site, sites_of}
 use Rattle.lra_operations.specs.Agree.{IsGraph, point_of, Agrees}
-use Rattle.lra_base.specs.declared.options.Options.{Options}
+use Rattle.lra_options.specs.declared.options.Options.{Options}
 use Rattle.lra_flow.specs.Analysis.{IsUnreachable}
 use Rattle.lra_iter.specs.Solved.{IsSolved}
 

@@ -13,7 +13,7 @@ ghost use Rattle.lra_source.specs.Answers.{IsAnsweredOver, AloneOrSets, IsAnswer
 ghost use Rattle.lra_front.specs.Stages.{HasGraph};
 ghost use Rattle.lra_source.specs.Stages.{IsToldOf};
 
-use lra_base::{Domain, Options, SourceError};
+use lra_base::SourceError;
 use lra_box::Boxes;
 use lra_domain::Plain;
 use lra_front::read_source;
@@ -22,6 +22,7 @@ use lra_listing::{Outline, list};
 use lra_meaning::Labels;
 use lra_oct::Octagon;
 use lra_operations::Graph;
+use lra_options::{Domain, Options};
 use lra_polydom::Polyhedron;
 use lra_report::Report;
 use lra_set::PowerSet;

@@ -3,9 +3,9 @@ use Rattle.std.proofs.Common.{◌≡◌, ◌∙◌, ℕ, suc, List, [], ◌∷�
 use Rattle.std.specs.Prelude.{Option, None, Some, option_map}
 use Rattle.std.specs.List.{AllByRecursion}
 use Rattle.std.specs.Io.KnownBytes.{Appends}
-use Rattle.lra_base.specs.declared.options.Domain.{Domain}
-use Rattle.lra_base.specs.declared.options.Domain.TheVariants.{Poly}
-use Rattle.lra_base.specs.declared.options.Options.{Options}
+use Rattle.lra_options.specs.declared.options.Domain.{Domain}
+use Rattle.lra_options.specs.declared.options.Domain.TheVariants.{Poly}
+use Rattle.lra_options.specs.declared.options.Options.{Options}
 use Rattle.lra_domain.specs.Meaning.{Meaning}
 use Rattle.lra_program.specs.Program.{Program}
 use Rattle.lra_flow.specs.Analysis.{Solves}

@@ -4,7 +4,7 @@ use Rattle.std.specs.Prelude.{None, Result, Ok, Err, IfOk}
 use Rattle.lra_base.specs.declared.refusals.Cause.{Cause}
 use Rattle.lra_base.specs.declared.refusals.Place.{Place}
 use Rattle.lra_base.specs.declared.refusals.Refusal.{Refusal}
-use Rattle.lra_base.specs.declared.options.Options.{Options}
+use Rattle.lra_options.specs.declared.options.Options.{Options}
 use Rattle.lra_findings.specs.Report.{Report}
 use Rattle.lra_findings.specs.ReportText.{unknown_count}
 use Rattle.lra_findings.specs.RefusalText.{refusal_text}
@@ -14,7 +14,8 @@ use Rattle.lra_sample.specs.Sample.{sample_source}
 use Rattle.lra_sample.specs.Summary.{summary_text}
 use Rattle.lra_sample.proofs.Samples.{accepted}
 use Rattle.lra_source.specs.Answers.{IsAnswered}
-use Rattle.lra_words.specs.CommandLine.{IsInRange, seed_option, size_option}
+use Rattle.lra_options.specs.OptionRows.{IsInRange}
+use Rattle.lra_words.specs.CommandLine.{seed_option, size_option}
 use Rattle.lra_words.specs.Chosen.{default_options}
 use Rattle.lra_top.specs.Statuses.{reported}
 use Rattle.lra_top.specs.SourceAnswer.{report_status}

@@ -2,8 +2,8 @@
 use Rattle.std.specs.Prelude.{◌≡◌, ℕ, ℤ, List, [], length, map, Bool, Option, None, Some}
 use Rattle.std.specs.List.{AllByRecursion}
 use Rattle.std.specs.Io.KnownBytes.{Appends}
-use Rattle.lra_base.specs.declared.options.Domain.TheVariants.{Poly}
-use Rattle.lra_base.specs.declared.options.Options.{Options}
+use Rattle.lra_options.specs.declared.options.Domain.TheVariants.{Poly}
+use Rattle.lra_options.specs.declared.options.Options.{Options}
 use Rattle.lra_tree.specs.Trees.{FileTree}
 use Rattle.lra_tree.specs.Grammar.{Spells}
 use Rattle.lra_meaning.specs.Refuse.{Accepts}
@@ -18,6 +18,7 @@ use Rattle.lra_flow.specs.Analysis.{Written, Solves}
 use Rattle.lra_findings.specs.Report.{Invariant, PointReport, Report, IsSound}
 use Rattle.lra_findings.specs.Parts.{HasSamePoints}
 use Rattle.lra_report.specs.Listing.{Lists}
+use Rattle.lra_findings.specs.declared.verdict_kinds.VerdictKind.TheVariants.{Assertion}
 use Rattle.lra_listing.specs.Given.{told, told_of}
 use Rattle.lra_sample.specs.Sample.{sample_source}
 use Rattle.lra_sample.specs.Summary.{summary_text}
@@ -63,7 +64,7 @@ pub record TellsWritten {V H : Type 0} (m : Meaning V H) (shown : V → Invarian
   pub solves : Solves m result values verdicts None
   pub states : map (λ (p : PointReport). p.state) r.points ≡ map shown values
   pub are_shown : AreShown m o.domain shown values
-  pub proved : map told_of r.verdicts ≡ map told verdicts
+  pub proved : map told_of r.verdicts ≡ map (told Assertion) verdicts
 
 -- where nothing is flagged, every value is the written iteration's
 pub record IsWrittenUnlessFlagged (o : Options) (bytes : List ℕ) (r : Report) : Type 0 where

@@ -7,8 +7,9 @@ ghost use Rattle.lra_top.specs.SourceAnswer.{DeservesSource, report_status, writ
 
 use crate::answer::Answer;
 use crate::status::Status;
-use lra_base::{Options, Refusal, SourceError};
+use lra_base::{Refusal, SourceError};
 use lra_json::json_text;
+use lra_options::Options;
 use lra_report::{Report, refusal_text, text};
 use lra_source::analyse_source;
 use lra_words::Format;

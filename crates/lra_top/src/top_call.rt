@@ -7,7 +7,7 @@ ghost use Rattle.lra_words.specs.declared.chosen.Command.{Command};
 ghost use Rattle.lra_words.specs.declared.chosen.Command.TheVariants.{Analyse, Sample};
 ghost use Rattle.lra_words.specs.declared.chosen.Format.{Format};
 ghost use Rattle.lra_words.specs.Chosen.{Asks, AsksNone, IsUntaken, IsWithinRanges};
-ghost use Rattle.lra_base.specs.declared.options.Options.{Options};
+ghost use Rattle.lra_options.specs.declared.options.Options.{Options};
 ghost use Rattle.lra_top.specs.Statuses.{Ends, reported, answered, silent, faults};
 ghost use Rattle.lra_top.specs.SourceAnswer.{written_report};
 ghost use Rattle.lra_top.specs.Commands.{limit_of, asked_limit, CallsFor};

@@ -1,7 +1,7 @@
 -- Goals of `analyse_source`: the report of a source over the domain and the number of parts that the options name,
 -- or its one refusal; memory may be wanting.
 use Rattle.std.proofs.lemmas.Result.{IfOk-weaker}
-use Rattle.lra_base.specs.declared.options.Domain.TheVariants.{Poly, Box, Oct}
+use Rattle.lra_options.specs.declared.options.Domain.TheVariants.{Poly, Box, Oct}
 use Rattle.lra_box.specs.Meaning.{box_meaning}
 use Rattle.lra_oct.specs.Meaning.{octagon_meaning}
 use Rattle.lra_polydom.specs.Meaning.{polyhedron_meaning}

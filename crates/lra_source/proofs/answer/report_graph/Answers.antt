@@ -6,6 +6,7 @@ use Rattle.lra_operations.specs.GraphViews.{node_view, site_view}
 use Rattle.lra_meaning.specs.Resolve.{resolve}
 use Rattle.lra_program.specs.Sites.{sites_of}
 use Rattle.lra_report.specs.View.{report_of}
+use Rattle.lra_findings.specs.declared.verdict_kinds.VerdictKind.TheVariants.{Assertion}
 use Rattle.lra_listing.specs.Given.{AreVerdicts, told}
 use Rattle.lra_source.proofs.ReportSteps.{fits, small_globals, is_numbered, few_points, canonical_there, shown_there, states_handed, verdicts_handed, flag_handed, is_told}
 use Rattle.lra_source.proofs.answer.report_graph.Goals as goal
@@ -66,4 +67,4 @@ returns g c =
     c.in_ok-states.ensures.spelled g.met.D.Domain.laws
     (canonical_there g.D.Domain.meaning.dims g.D.Show.shown o.domain g.D.Show.named values _ c.requires.named c.deref.ensures.value c.in_ok-states.ensures.canonical)
     c.in_ok-report.ensures.options c.in_ok-report.ensures.lists c.in_ok-report.ensures.states
-    (c.in_ok-report.ensures.verdicts ∙ ap (map told) c.deref-2.ensures.value) c.in_ok-report.ensures.flag
+    (c.in_ok-report.ensures.verdicts ∙ ap (map (told Assertion)) c.deref-2.ensures.value) c.in_ok-report.ensures.flag
