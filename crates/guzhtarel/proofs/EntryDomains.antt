@@ -9,11 +9,12 @@ use Rattle.lra_lin.specs.Form.{form_value}
 use Rattle.lra_linear.specs.Vectors.{entry}
 use Rattle.lra_linear.specs.declared.ConKind.TheVariants.{Ge}
 use Rattle.lra_domain.specs.Actions.{Action, ActionFits, Leads, assign, forget, test, embed, remove_last}
+use Rattle.lra_domain.specs.Laws.{PartsTell}
 use Rattle.lra_domain.specs.Parts.{SomePartHolds}
 use Rattle.lra_domain.specs.Rank.{RankBelow, RankFits}
 use Rattle.guzhtarel.specs.Entries.{AllHave, AllHold, join_each, rows_from, total}
 use Rattle.guzhtarel.specs.EntryDomains.{EachEntry, EntryFacts, Content, entries_after, lies_in, parts_of, one_if, of_entries}
-use Rattle.guzhtarel.specs.Unstrained.{Facts, meaning_of}
+use Rattle.lra_domain.specs.Unstrained.{Facts, meaning_of}
 use Rattle.guzhtarel.proofs.EntryChanges.{have_length, have_all, have_set, have_append, have_take, have_within, each_covers, join_left, join_right, sum_most, sum_less, sum_falls}
 use Rattle.guzhtarel.proofs.RowValues.{rows_hold, hold_append}
 
@@ -136,3 +137,9 @@ parts_mean_of p f false es s l =
 
 pub parts_mean : {E : Type 0} (p : EachEntry E) → EntryFacts p → (v : Content E) (s : List ℤ) → length s ≡ length v.entries → (of_entries p).has v s ↔ SomePartHolds ((of_entries p).parts v) s
 parts_mean p f v s l = parts_mean_of p f v.nothing v.entries s l
+
+pub parts_hold : {E : Type 0} (p : EachEntry E) → EntryFacts p → (v : Content E) (s : List ℤ) → (of_entries p).has v s → SomePartHolds ((of_entries p).parts v) s
+parts_hold p f v s h = (parts_mean p f v s (have_length p.has v.entries s h.1)).0 h
+
+pub parts_tell : {E : Type 0} (p : EachEntry E) → EntryFacts p → (v : Content E) → PartsTell (meaning_of (of_entries p)) v
+parts_tell p f v = λ s l h. (parts_mean p f v s l).1 h

@@ -12,7 +12,7 @@ use Rattle.lra_linear.specs.declared.ConKind.TheVariants.{Ge}
 use Rattle.lra_sys.specs.Listed.{Listed}
 use Rattle.lra_domain.specs.Actions.{Action, assign, forget, test, embed, remove_last}
 use Rattle.guzhtarel.specs.Entries.{AllHave, AllHold, join_each, rows_from, total}
-use Rattle.guzhtarel.specs.Unstrained.{Unstrained}
+use Rattle.lra_domain.specs.Unstrained.{Unstrained}
 
 -- of an entry: which numbers it has, which other covers it, the join of two, the one that has all numbers, the one that
 -- stands in a value without a store, a number that falls, and its rows of n + 1 columns, of inequalities on a column;

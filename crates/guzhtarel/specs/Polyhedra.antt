@@ -18,6 +18,12 @@ pub use Rattle.lra_poly.specs.declared.outcome.Outcome
 pub use Rattle.lra_duality.specs.declared.inclusion.Inclusion
 pub use Rattle.lra_duality.specs.declared.maximum.Maximum
 pub use Rattle.lra_queries.specs.Minima
+pub use Rattle.lra_queries.specs.Tightened
+pub use Rattle.lra_queries.specs.Moved
+pub use Rattle.lra_queries.specs.Folded
+pub use Rattle.lra_queries.specs.Joined
+pub use Rattle.lra_queries.specs.Related
+pub use Rattle.lra_queries.specs.Expanded
 pub use Rattle.lra_queries.specs.Relations
 pub use Rattle.lra_queries.specs.Shapes
 pub use Rattle.lra_queries.specs.declared.minimum.Minimum

@@ -2,15 +2,19 @@
 //!
 //! The names that most users need stand here; the crates they come from stand beside them whole, as `poly` or `maps`.
 //! What their clauses cite stands in rooms below `specs`: `Linear` (rows, points, sets of points), `Lists`, `Forms`,
-//! `Polyhedra`, `Domains` (what the trait owes), `Stores`, `PolyhedronDomain`, `Boxes`, `Octagons`, `Sets`, `Texts`;
-//! for domains of one's own `Unstrained`, `Entries` and `EntryDomains`. Lemmas for proofs over them stand in `proofs`:
-//! `Ranks`, `Rows`, `RowValues`, `PointSets`, `SameSets`, `PolyhedraOf`, `Changes`, `EntryChanges`, `EntryDomains`.
+//! `Polyhedra`, `Domains` (what the trait owes, changes, domains that never strain), `PolyhedronDomain`, `Boxes`,
+//! `Octagons`, `Sets`, `Texts`; for domains of one's own `Entries` and `EntryDomains`. Lemmas for proofs over them are
+//! in `proofs`: `Ranks`, `Calls`, `Rows`, `RowValues`, `PointSets`, `SameSets`, `PolyhedraOf`, `EntryChanges`,
+//! `EntryDomains`.
 #![tactic(auto)]
 
 pub use lra_box as boxes;
 pub use lra_box::Boxes;
 pub use lra_domain as domain;
-pub use lra_domain::{Backward, Domain, Exactness, Grown, Included, Mode, Plain, Rank};
+pub use lra_domain::{
+    Backward, Change, Domain, Exactness, Grown, Included, Mode, Plain, Rank, Told, change_all,
+    worse,
+};
 pub use lra_duality::{Inclusion, Maximum};
 pub use lra_images as images;
 pub use lra_images::{forget, image, preimage};
@@ -31,7 +35,7 @@ pub use lra_row::{Row, RowError};
 pub use lra_set as sets;
 pub use lra_set::PowerSet;
 pub use lra_show as texts;
-pub use lra_show::{Names, generator_text, row_text};
+pub use lra_show::{Names, generator_text, generators_text, row_text, system_text, value_text};
 pub use lra_sys as lists;
 pub use lra_sys::{ConKind, ConSys, GenKind, GenSys, Holds};
 pub use lra_widen as widening;

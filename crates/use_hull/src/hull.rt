@@ -7,16 +7,8 @@ ghost use Rattle.guzhtarel.specs.Linear.SetOperations.{Hull, Union};
 ghost use Rattle.guzhtarel.specs.Lists.Listed.{constraints};
 ghost use Rattle.guzhtarel.specs.Polyhedra.Polyhedra.{IsPolyhedronOf};
 
-use guzhtarel::{ConSys, Outcome, Poly};
+use guzhtarel::{ConSys, Poly};
 use std::alloc::{AllocError, Global};
-
-/// Whether nothing was lost on the way.
-fn are_exact(one: &Outcome, two: &Outcome, three: &Outcome) -> bool
-    ensures { IsTrue result →
-        (one.now ≡ Outcome.Exact) × (two.now ≡ Outcome.Exact) × (three.now ≡ Outcome.Exact) }
-{
-    one.is_exact() && two.is_exact() && three.is_exact()
-}
 
 /// A polyhedron with all points of both systems, and whether it is the least closed one.
 pub fn hull(alloc: Global, first: &ConSys, second: &ConSys) -> Result<(Poly, bool), AllocError>
@@ -31,6 +23,7 @@ pub fn hull(alloc: Global, first: &ConSys, second: &ConSys) -> Result<(Poly, boo
     let (mut all, of_first) = Poly::from_rows(alloc, first)?;
     let (other, of_second) = Poly::from_rows(alloc, second)?;
     let joined = all.hull(&other)?;
-    let is_least = are_exact(&of_first, &of_second, &joined);
-    Ok((all, is_least))
+    let given = of_first.and(of_second);
+    let outcome = given.and(joined);
+    Ok((all, outcome.is_exact()))
 }

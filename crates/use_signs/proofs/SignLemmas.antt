@@ -3,11 +3,12 @@ use Rattle.std.proofs.Common.{◌≡◌, ◌≤◌, ◌^◌, ℕ, ℤ, Bool, Lis
 use Rattle.std.specs.Prelude.{IsTrue}
 use Rattle.guzhtarel.specs.Domains.Actions.{Action, ActionFits, Within}
 use Rattle.guzhtarel.specs.Domains.Exactness.TheVariants.{Exact}
+use Rattle.guzhtarel.specs.Domains.Laws.{PartsTell}
 use Rattle.guzhtarel.specs.Domains.Meaning.{Meets, Joins, Values}
 use Rattle.guzhtarel.specs.Domains.Rank.{RankFits}
 use Rattle.guzhtarel.specs.EntryDomains.{Content, lies_in, of_entries}
-use Rattle.guzhtarel.specs.Unstrained.{meaning_of}
-use Rattle.guzhtarel.proofs.Changes as calls
+use Rattle.guzhtarel.specs.Domains.Unstrained.{meaning_of}
+use Rattle.guzhtarel.proofs.Calls.UnstrainedCalls as calls
 use Rattle.guzhtarel.proofs.EntryDomains as entries
 use Rattle.use_signs.specs.Signs.{sign}
 use Rattle.use_signs.specs.Laws.{sign_facts, signs_facts}
@@ -30,3 +31,6 @@ covers = signs_facts.covered_stores
 
 pub rank_fits : (v : Content Bool) → length v.entries ≤ 2 ^ 30 → RankFits ((meaning_of (of_entries sign)).rank v)
 rank_fits = entries.rank_fits sign sign_facts
+
+pub parts_tell : (v : Content Bool) → PartsTell (meaning_of (of_entries sign)) v
+parts_tell = entries.parts_tell sign sign_facts

@@ -11,10 +11,10 @@ use Rattle.guzhtarel.specs.Linear.Vectors.{entry, product}
 use Rattle.guzhtarel.specs.Domains.Laws.{Laws}
 use Rattle.guzhtarel.specs.Entries.{AllHave, AllHold}
 use Rattle.guzhtarel.specs.EntryDomains.{EntryFacts, one_if, of_entries}
-use Rattle.guzhtarel.specs.Unstrained.{Facts, meaning_of, laws_of}
+use Rattle.guzhtarel.specs.Domains.Unstrained.{Facts, meaning_of, laws_of}
 use Rattle.guzhtarel.proofs.EntryChanges.{both_true}
 use Rattle.guzhtarel.proofs.EntryDomains.{facts_of}
-use Rattle.guzhtarel.proofs.RowValues.{unit_product}
+use Rattle.guzhtarel.proofs.Rows.UnitRows.{unit_product}
 use Rattle.use_signs.specs.Signs.{Known, is_sum_known, sign_row, sign}
 
 -- ---- the value of a form that is known

@@ -2,12 +2,12 @@
 
 ghost use Rattle.std.specs.Prelude.{◌≡◌, IfOk, IsTrue, length};
 ghost use Rattle.guzhtarel.specs.Domains.Rank.{RankFits};
-ghost use Rattle.guzhtarel.specs.Unstrained.{meaning_of};
+ghost use Rattle.guzhtarel.specs.Domains.Unstrained.{meaning_of};
 ghost use Rattle.guzhtarel.specs.EntryDomains.{lies_in, of_entries, system_of_entries};
 ghost use Rattle.use_signs.specs.Signs.{sign};
 
 use crate::lists::{count_known, is_implied, is_sum_known, keep_both, push_signs};
-use guzhtarel::{ConSys, Domain, Exactness, Grown, Included, LinExpr, Mode, Rank, Test};
+use guzhtarel::{ConSys, Domain, Exactness, Grown, Included, LinExpr, Mode, Rank, Test, Told};
 use std::alloc::{AllocError, Global};
 use std::marker::Model;
 
@@ -63,6 +63,10 @@ impl Domain for Signs {
 
     fn dims(&self) -> usize {
         self.known.len()
+    }
+
+    fn most_parts(&self) -> u32 {
+        1
     }
 
     fn is_empty(&self) -> bool {
@@ -154,6 +158,11 @@ impl Domain for Signs {
             fourth: head.number(),
         }
     }
+}
+
+impl Told for Signs {
+    #[tactic(auto, using(crate::proofs::SignLemmas::parts_tell))]
+    fn parts_tell_all(&self) {}
 }
 
 impl Signs {

@@ -2,7 +2,7 @@ use Rattle.std.proofs.Common.{◌≡◌, ◌^◌}
 use Rattle.guzhtarel.specs.Domains.Actions.{Within}
 use Rattle.guzhtarel.specs.Domains.Rank.{RankFits}
 use Rattle.guzhtarel.proofs.Ranks.RankNumbers.{phased}
-use Rattle.guzhtarel.specs.Stores.{Has, HeadHas}
+use Rattle.guzhtarel.specs.Domains.Stores.{Has, HeadHas}
 use Rattle.use_fixpoint.proofs.invariant.Given as goal
 
 -- the head has the dimensions and the stores of the start
