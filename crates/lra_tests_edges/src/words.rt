@@ -1,15 +1,9 @@
-use lra_base::{Domain, Options};
+use lra_options::{DEFAULT_OPTIONS, Domain, Options};
 use lra_words::{Command, Format, Refusal, find_command, parse_command};
 use std::alloc::{AllocError, Global};
 use std::process::Abort;
 
-const DEFAULTS: Options = Options {
-    domain: Domain::Poly,
-    parts: 1,
-    delay: 1,
-    narrow: 1,
-    limited: false,
-};
+const DEFAULTS: Options = DEFAULT_OPTIONS;
 
 const BOXES: Options = Options {
     domain: Domain::Box,

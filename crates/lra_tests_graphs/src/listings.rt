@@ -11,11 +11,12 @@ ghost use Rattle.lra_report.specs.Listing.{HasWidth};
 ghost use Rattle.lra_listing.specs.Given.{AreInvariants, AreVerdicts};
 
 use crate::sources::{program_of, tree_of};
-use lra_base::{Domain, Options, SourceError};
+use lra_base::SourceError;
 use lra_graph::build;
 use lra_listing::{Outline, list};
 use lra_meaning::Labels;
 use lra_operations::Site;
+use lra_options::{DEFAULT_OPTIONS, Domain, Options};
 use lra_report::{Part, Report, text};
 use lra_row::Row;
 use lra_sys::{ConKind, ConSys};
@@ -35,10 +36,7 @@ const REPORT: &str =
 
 const OPTIONS: Options = Options {
     domain: Domain::Box,
-    parts: 1,
-    delay: 1,
-    narrow: 1,
-    limited: false,
+    ..DEFAULT_OPTIONS
 };
 
 /// Of three variables the two newest are equal.

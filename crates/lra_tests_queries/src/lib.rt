@@ -6,6 +6,8 @@
 #[cfg(test)]
 mod minima;
 #[cfg(test)]
+mod moves;
+#[cfg(test)]
 mod relations;
 #[cfg(test)]
 mod shapes;

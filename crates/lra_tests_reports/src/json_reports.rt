@@ -1,7 +1,9 @@
 //! Reports as JSON.
 
-use lra_base::{Domain, Options, Place};
+use lra_base::Place;
+use lra_findings::VerdictKind;
 use lra_json::{json_text, to_value};
+use lra_options::{DEFAULT_OPTIONS, Domain, Options};
 use lra_report::{Part, Point, PointReport, Report, Verdict};
 use lra_row::Row;
 use lra_show::Names;
@@ -11,10 +13,7 @@ use std::alloc::{AllocError, Global};
 fn options(domain: Domain) -> Options {
     Options {
         domain,
-        parts: 1,
-        delay: 1,
-        narrow: 1,
-        limited: false,
+        ..DEFAULT_OPTIONS
     }
 }
 
@@ -95,13 +94,14 @@ fn x_alone(alloc: Global) -> Result<Names, AllocError> {
     Ok(names)
 }
 
-fn verdict(alloc: Global, number: u32, place: Place, proved: bool) -> Result<Verdict, AllocError> {
+fn verdict(alloc: Global, number: u32, place: Place, holds: bool) -> Result<Verdict, AllocError> {
     Ok(Verdict {
+        kind: VerdictKind::Assertion,
         number,
         point: point(alloc, number as usize),
         path: String::from_str(alloc, "main")?,
         place,
-        proved,
+        holds,
     })
 }
 

@@ -1,6 +1,8 @@
 //! Worked reports.
 
-use lra_base::{Domain, Options, Place};
+use lra_base::Place;
+use lra_findings::VerdictKind;
+use lra_options::{DEFAULT_OPTIONS, Domain, Options};
 use lra_report::{CallPlace, Part, Point, PointReport, Report, Verdict, names_at, path_text, text};
 use lra_row::Row;
 use lra_show::Names;
@@ -86,11 +88,12 @@ fn push_points_of_one_variable(
 /// The verdict on its assertion.
 fn verdict_of_one_variable(alloc: Global) -> Result<Verdict, AllocError> {
     Ok(Verdict {
+        kind: VerdictKind::Assertion,
         number: 3,
         point: point(alloc, 3),
         path: String::from_str(alloc, "main")?,
         place: place(1, 32),
-        proved: true,
+        holds: true,
     })
 }
 
@@ -99,10 +102,7 @@ fn report_of_one_variable(alloc: Global) -> Result<Report, AllocError> {
     let mut report = Report {
         options: Options {
             domain: Domain::Box,
-            parts: 1,
-            delay: 1,
-            narrow: 1,
-            limited: false,
+            ..DEFAULT_OPTIONS
         },
         flagged: None,
         points: Vec::new(alloc),
@@ -203,11 +203,12 @@ fn push_points_of_two_parts(
 /// The verdict on the first of them.
 fn verdict_of_two_parts(alloc: Global) -> Result<Verdict, AllocError> {
     Ok(Verdict {
+        kind: VerdictKind::Assertion,
         number: 1,
         point: point(alloc, 1),
         path: path_to_inc(alloc)?,
         place: place(1, 22),
-        proved: false,
+        holds: false,
     })
 }
 
@@ -215,11 +216,11 @@ fn verdict_of_two_parts(alloc: Global) -> Result<Verdict, AllocError> {
 fn report_of_two_parts(alloc: Global) -> Result<Report, AllocError> {
     let mut report = Report {
         options: Options {
-            domain: Domain::Poly,
             parts: 2,
             delay: 0,
             narrow: 4,
             limited: true,
+            ..DEFAULT_OPTIONS
         },
         flagged: Some(2),
         points: Vec::new(alloc),

@@ -1,6 +1,8 @@
 //! Sample sources, and what is told of their reports.
 
-use lra_base::{Domain, Options, Place};
+use lra_base::Place;
+use lra_findings::VerdictKind;
+use lra_options::DEFAULT_OPTIONS;
 use lra_report::{Point, PointReport, Report, Verdict};
 use lra_sample::{program, summary};
 use lra_show::Names;
@@ -87,20 +89,15 @@ fn points(alloc: Global, count: u32) -> Result<Vec<PointReport>, AllocError> {
 fn report(alloc: Global, count: u32) -> Result<Report, AllocError> {
     let mut verdicts = Vec::new(alloc);
     verdicts.push(Verdict {
+        kind: VerdictKind::Assertion,
         number: 6,
         point: point(alloc, 6),
         path: String::from_str(alloc, "main")?,
         place: Place { line: 6, column: 1 },
-        proved: true,
+        holds: true,
     })?;
     Ok(Report {
-        options: Options {
-            domain: Domain::Poly,
-            parts: 1,
-            delay: 1,
-            narrow: 1,
-            limited: false,
-        },
+        options: DEFAULT_OPTIONS,
         flagged: None,
         points: points(alloc, count)?,
         verdicts,

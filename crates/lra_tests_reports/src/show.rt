@@ -6,8 +6,8 @@ ghost use Rattle.lra_sys.specs.Listed.{FitsKind};
 
 use lra_report::names_at;
 use lra_row::Row;
-use lra_show::{Names, generator_text, row_text};
-use lra_sys::{ConKind, GenKind};
+use lra_show::{Names, generator_text, row_text, value_text};
+use lra_sys::{ConKind, ConSys, GenKind};
 use std::alloc::{AllocError, Global};
 
 fn names_of(alloc: Global, texts: &[&str]) -> Result<Names, AllocError> {
@@ -105,4 +105,22 @@ fn hides_names(alloc: Global) -> Result<bool, AllocError> {
 #[test]
 fn hidden_names(rt: HostRuntime) {
     assert!(rt; hides_names(rt.alloc()) == Ok(true));
+}
+
+/// Two parts over numbered names: x1 >= 2 and x2 >= 0, or nothing asked.
+fn shows_value(alloc: Global) -> Result<bool, AllocError> {
+    let names = Names::numbered(alloc, 2)?;
+    let mut first = ConSys::new(alloc, 2);
+    first.push(Row::of(alloc, &[-2, 1, 0])?, ConKind::Ge)?;
+    first.push(Row::of(alloc, &[0, 0, 1])?, ConKind::Ge)?;
+    let mut parts = Vec::new(alloc);
+    parts.push(first)?;
+    parts.push(ConSys::new(alloc, 2))?;
+    let shown = value_text(alloc, parts.as_slice(), &names)?;
+    Ok(shown.as_bytes() == "x1 >= 2\nx2 >= 0\nor\ntrue\n".as_bytes())
+}
+
+#[test]
+fn whole_values(rt: HostRuntime) {
+    assert!(rt; shows_value(rt.alloc()) == Ok(true));
 }

@@ -9,6 +9,8 @@ mod bits;
 #[cfg(test)]
 mod lin;
 #[cfg(test)]
+mod narrow;
+#[cfg(test)]
 mod row;
 #[cfg(test)]
 mod sys;

@@ -89,3 +89,17 @@ fn is_copied(alloc: Global) -> Result<bool, AllocError> {
 fn generators(rt: HostRuntime) {
     assert!(rt; is_copied(rt.alloc()) == Ok(true));
 }
+
+// The numbers and the kind at the second place of a list, and how many rows it has.
+fn second_row(alloc: Global) -> Result<bool, AllocError> {
+    let mut list = ConSys::new(alloc, 2);
+    list.push(Row::of(alloc, &[4, -1, 0])?, ConKind::Ge)?;
+    list.push(Row::unit(alloc, 2, 1, -3)?, ConKind::Eq)?;
+    let (row, kind) = list.at(1);
+    Ok(list.len() == 2 && row.entries() == &[0, -3, 0][..] && kind == ConKind::Eq)
+}
+
+#[test]
+fn places(rt: HostRuntime) {
+    assert!(rt; second_row(rt.alloc()) == Ok(true));
+}

@@ -45,8 +45,8 @@ fn sum_of(left: i128, right: i128) -> Result<i128, Excess> {
     in_range(left.checked_add(right), Operation::Sum, left, right)
 }
 
-// The product of two rows by checked steps.
-fn product_by_steps(xs: &[i128], ys: &[i128]) -> Result<i128, Excess> {
+/// The product of two rows by checked steps.
+pub fn product_by_steps(xs: &[i128], ys: &[i128]) -> Result<i128, Excess> {
     let mut sum = 0;
     for (x, y) in xs.iter().zip(ys) {
         sum = sum_of(sum, product_of(*x, *y)?)?;
@@ -168,7 +168,8 @@ fn agree_on_rows(factors: &Row, rows: &[Row]) -> bool
     true
 }
 
-fn make_rows(alloc: Global, table: &[[i128; 3]]) -> Result<Vec<Row>, AllocError>
+/// Rows of these numbers.
+pub fn make_rows(alloc: Global, table: &[[i128; 3]]) -> Result<Vec<Row>, AllocError>
     requires { All (λ row. All InRange row) table.now }
     ensures { IfOk result (λ rows. All (λ row. length row ≡ 3) rows.items) }
 {

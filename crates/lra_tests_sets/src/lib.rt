@@ -9,6 +9,8 @@ mod bounds;
 #[cfg(test)]
 mod boxes;
 #[cfg(test)]
+mod door;
+#[cfg(test)]
 mod gauge;
 #[cfg(test)]
 mod images;
