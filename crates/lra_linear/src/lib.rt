@@ -28,7 +28,7 @@ pub enum Cause {
 }
 
 /// What a constraint asks of its product with a point, and a test of its form's value: to be at least 0, or to be 0.
-#[derive(Clone, Copy, Debug, PartialEq, Eq)]
+#[derive(Clone, Copy, Debug, PartialEq, Eq, PartialOrd, Ord, Hash)]
 pub enum ConKind {
     Ge,
     Eq,
@@ -55,7 +55,7 @@ impl ConKind {
 
 /// What a generator is. Column 0 of a point is its divisor, at least 1; rays and lines have 0 there. A list takes any
 /// row.
-#[derive(Clone, Copy, Debug, PartialEq, Eq)]
+#[derive(Clone, Copy, Debug, PartialEq, Eq, PartialOrd, Ord, Hash)]
 pub enum GenKind {
     Point,
     Ray,

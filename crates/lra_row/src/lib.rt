@@ -4,6 +4,7 @@
 //! partial sum that passes the range.
 #![tactic(auto)]
 
+mod compared;
 mod entries;
 mod error;
 mod number;

@@ -264,7 +264,7 @@ impl Row {
     }
 
     /// Compares two rows by the entries of columns 1, 2, 3 and on, and by that of column 0 last.
-    #[tactic(auto, using(lra_linear::proofs::RowOrder::row_cmp_total, crate::proofs::OrderLemmas::row_cmp_ties))]
+    #[tactic(auto, using(lra_linear::proofs::RowOrder::row_cmp_total, crate::specs::RowTies::row_cmp_ties))]
     pub fn compare(&self, other: &Row) -> Ordering
         ensures order { result ≡ row_cmp self.now other.now }
         ensures total { IsTotalOrder row_cmp }

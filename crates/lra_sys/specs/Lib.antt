@@ -1,4 +1,5 @@
--- Lists of constraints and of generators, and membership of a point.
+-- Lists of constraints and of generators, their comparisons, and membership of a point.
+pub mod Comparisons
 pub mod Dimensions
 pub mod Listed
 pub mod FirstPlaces

@@ -1,6 +1,7 @@
 //! Lists of constraints and of generators.
 #![tactic(auto)]
 
+mod compared;
 mod membership;
 mod sameness;
 mod system;
