@@ -6,8 +6,8 @@ use Rattle.std.proofs.lemmas.List.Elements.{Contains-append_cases}
 use Rattle.lra_linear.specs.declared.Cause.{Cause}
 use Rattle.lra_linear.specs.Descriptions.{Given, AreGenerators, Gen, system_of}
 use Rattle.lra_linear.specs.OperationStrain.{FromGeneratorsStrains, with_positivity}
-use Rattle.lra_linear.specs.Points.{PointSet, IsWithin, IsEmptySet}
-use Rattle.lra_linear.specs.Polyhedra.{Polyhedron, IsPolyhedronOf}
+use Rattle.lra_linear.specs.Points.{IsEmptySet}
+use Rattle.lra_linear.specs.Polyhedra.{Polyhedron}
 use Rattle.lra_linear.specs.Strain.{Loss, Strains}
 use Rattle.lra_sys.specs.Listed.{Listed, constraints, generators, given_by, FitKinds}
 use Rattle.lra_linear.specs.Kinds.{is_equality}
@@ -70,14 +70,6 @@ some_taken n [] h = absurd (h (gen_none n))
 some_taken n (x ∷ taken) h = omega arith
 
 -- ---- what comes of it
-pub exact_pair : (n d : ℕ) (given : List Given) (list : Listed ConKind) (cone : Shape) (losses : List Loss) (p : Polyhedron) → AreTaken n given list cone losses → losses ≡ [] → d ≡ n →
-    IsPolyhedronOf d (Gen cone.taken) p → IsPolyhedronOf n (Gen given) p
-exact_pair n d given list cone losses p t none e h = subst (λ (l : List Given). IsPolyhedronOf n (Gen l) p) (t.whole none) (subst (λ (m : ℕ). IsPolyhedronOf m (Gen cone.taken) p) e h)
-
-pub taken_within : (n d : ℕ) (given : List Given) (list : Listed ConKind) (cone : Shape) (losses : List Loss) (P : PointSet) → AreTaken n given list cone losses → losses ≡ [] → d ≡ n →
-    IsWithin d (Gen cone.taken) P → IsWithin n (Gen given) P
-taken_within n d given list cone losses P t none e h = subst (λ (l : List Given). IsWithin n (Gen l) P) (t.whole none) (subst (λ (m : ℕ). IsWithin m (Gen cone.taken) P) e h)
-
 pub taken_strain : (n d : ℕ) (given : List Given) (list : Listed ConKind) (cone : Shape) (losses after : List Loss) → AreTaken n given list cone losses → losses ≡ [] → d ≡ n →
     IfLost (FromGeneratorsStrains d cone.taken) after → IfLost (FromGeneratorsStrains n given) after
 taken_strain n d given list cone losses after t none e h =

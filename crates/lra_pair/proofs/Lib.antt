@@ -9,3 +9,4 @@ pub mod OwnMade
 pub mod PairLists
 pub mod PairLosses
 pub mod GeneratorPairs
+pub mod MadeLemmas

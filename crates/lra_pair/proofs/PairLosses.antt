@@ -1,5 +1,5 @@
 -- What is told of lost rows.
-use Rattle.std.proofs.Common.{◌≡◌, ◌≢◌, ℕ, zero, suc, ◌<◌, Bool, true, false, List, [], ◌∷◌, ◌++◌, length, get_or, drop, take, refl, ap, sym, ◌∙◌, subst, arith, ℤ, inl, inr, Option, Some, None}
+use Rattle.std.proofs.Common.{◌≡◌, ◌≢◌, ℕ, zero, suc, ◌<◌, Bool, true, false, List, [], ◌∷◌, ◌++◌, length, get_or, drop, refl, ap, sym, ◌∙◌, subst, arith, ℤ, inl, inr, Option, Some, None}
 use Rattle.std.specs.Option.{IfNone}
 use Rattle.std.specs.List.{Contains}
 use Rattle.std.proofs.lemmas.List.{append-nil, get_or_default}
@@ -120,68 +120,27 @@ pub from_generators_strain : (n : ℕ) (given : List Given) (losses : List Loss)
 from_generators_strain n given [] s = tt
 from_generators_strain n given (loss ∷ later) s = inl s
 
--- ---- the first rows of a list are among it
-pub first_among : {K : Type 0} (equal : K → Bool) (at : ℕ) (rows : List (List ℤ)) (kinds : List K) (g : Given) →
-    Contains (given_by equal (take at rows) (take at kinds)) g → Contains (given_by equal rows kinds) g
-first_among equal zero rows kinds g m = absurd (contains_none g m)
-first_among equal (suc at) [] kinds g m = absurd (contains_none g m)
-first_among equal (suc at) (r ∷ rows) [] g m = absurd (contains_none g m)
-first_among equal (suc at) (r ∷ rows) (k ∷ kinds) g m =
-    let head : Given = record { row = r; equal = equal k } in
-    elim (contains_cases head g (given_by equal (take at rows) (take at kinds)) m) [
-      | inl e ↦ subst (Contains (head ∷ given_by equal rows kinds)) e (contains_head head (given_by equal rows kinds))
-      | inr n ↦ contains_tail head g (given_by equal rows kinds) (first_among equal at rows kinds g n)
-    ]
-
+-- ---- sets of points
 pub first_within : (n : ℕ) (kept rows : List Given) (P : PointSet) → ((g : Given) → Contains kept g → Contains rows g) →
     IsWithin n (Con kept) P → IsWithin n (Con rows) P
 first_within n kept rows P among h x point con = h x point (λ g m. con g (among g m))
 
-pub within_both : (n d : ℕ) (P Q R : PointSet) → d ≡ n → IsWithin n P Q → IsWithin d Q R → IsWithin n P R
-within_both n d P Q R e h k x point p = subst (λ (m : ℕ). IsWithin m Q R) e k x point (h x point p)
-
 -- ---- as the code tells it, of constraints
-taken_behind : (n : ℕ) (rows kept : List Given) (s start : Shape) (losses : List Loss) → IsPositive n start.taken →
-    IsConversion start.taken rows kept s losses → drop 1 s.taken ≡ drop 1 start.taken ++ kept
-taken_behind n rows kept s start losses first c =
-    ap (drop 1) (c.taken ∙ ap (λ (l : List Given). l ++ kept) first.1) ∙ ap (λ (l : List Given). drop 1 l ++ kept) (sym first.1)
-
-pub rows_exact : (n d : ℕ) (rows kept : List Given) (s start : Shape) (losses after : List Loss) (p : Polyhedron) → d ≡ n → IsPositive n start.taken →
-    IsConversion start.taken rows kept s losses → (after ≡ [] → losses ≡ []) → (after ≡ [] → IsPolyhedronOf d (Con (drop 1 s.taken)) p) →
-    after ≡ [] → IsPolyhedronOf n (Con (drop 1 start.taken ++ rows)) p
-rows_exact n d rows kept s start losses after p e first c none h a =
-    let same : drop 1 s.taken ≡ drop 1 start.taken ++ rows = taken_behind n rows kept s start losses first c ∙
-    ap (λ (l : List Given). drop 1 start.taken ++ l) (c.whole (none a)) in
-    subst (λ (m : ℕ). IsPolyhedronOf m (Con (drop 1 start.taken ++ rows)) p) e (subst (λ (l : List Given). IsPolyhedronOf d (Con l) p) same (h a))
+pub taken_behind : (n : ℕ) (first rows kept : List Given) (s : Shape) (losses : List Loss) → IsPositive n first →
+    IsConversion first rows kept s losses → drop 1 s.taken ≡ drop 1 first ++ kept
+taken_behind n first rows kept s losses positive c =
+    ap (drop 1) (c.taken ∙ ap (λ (l : List Given). l ++ kept) positive.1) ∙ ap (λ (l : List Given). drop 1 l ++ kept) (sym positive.1)
 
 -- rows among others, behind the same
-still_among : (front kept rows : List Given) → ((g : Given) → Contains kept g → Contains rows g) → (g : Given) → Contains (front ++ kept) g →
+pub still_among : (front kept rows : List Given) → ((g : Given) → Contains kept g → Contains rows g) → (g : Given) → Contains (front ++ kept) g →
     Contains (front ++ rows) g
 still_among front kept rows among g m = elim (Contains-append_cases front kept g m) [
   | inl f ↦ Contains-append_left front rows g f
   | inr k ↦ Contains-append_right front rows g (among g k)
 ]
 
-pub rows_within : (n d : ℕ) (rows kept : List Given) (s start : Shape) (losses : List Loss) (p : Polyhedron) → d ≡ n → IsPositive n start.taken →
-    IsConversion start.taken rows kept s losses → IsWithin d (Con (drop 1 s.taken)) (Con p.rows) → IsWithin n (Con (drop 1 start.taken ++ rows)) (Con p.rows)
-rows_within n d rows kept s start losses p e first c h =
-    let front = drop 1 start.taken in
-    subst (λ (m : ℕ). IsWithin m (Con (front ++ rows)) (Con p.rows)) e
-    (first_within d (front ++ kept) (front ++ rows) (Con p.rows) (still_among front kept rows c.among)
-    (subst (λ (l : List Given). IsWithin d (Con l) (Con p.rows)) (taken_behind n rows kept s start losses first c) h))
-
 pub universe_within : (n d : ℕ) (rows : List Given) (p : Polyhedron) → d ≡ n → IsPolyhedronOf d (Con []) p → IsWithin n (Con rows) (Con p.rows)
 universe_within n d rows p e h = subst (λ (m : ℕ). IsWithin m (Con rows) (Con p.rows)) e (λ x point con. h.points.0 x point (con_none x))
-
-pub rows_strain : (n d : ℕ) (rows kept : List Given) (s start : Shape) (losses after : List Loss) → d ≡ n → IsPositive n start.taken →
-    IsConversion start.taken rows kept s losses →
-    ((first all kept : List Given) → IsConversion first all kept s losses → IfLost (Strains (suc d) (first ++ all)) after) →
-    IfLost (FromRowsStrains n (drop 1 start.taken ++ rows)) after
-rows_strain n d rows kept s start losses after e first c h =
-    let all : start.taken ++ rows ≡ with_positivity n (drop 1 start.taken ++ rows) = ap (λ (g : List Given). g ++ rows) first.1 ∙
-    ap (λ (g : List Given). with_positivity n (drop 1 g ++ rows)) (sym first.1) in
-    from_strain n (drop 1 start.taken ++ rows) after (subst (λ (g : List Given). IfLost (Strains (suc n) g) after) all
-    (subst (λ (m : ℕ). IfLost (Strains (suc m) (start.taken ++ rows)) after) e (h start.taken rows kept c)))
 
 -- behind the positivity row alone, the list itself
 pub none_behind : (n d : ℕ) (taken rows : List Given) → d ≡ n → taken ≡ inequality (positivity d) ∷ [] → drop 1 taken ++ rows ≡ rows
@@ -214,16 +173,6 @@ all_of n rows p h = record { rows = rows; among = λ g m. m; made = h }
 
 pub none_of : (n : ℕ) (rows : List Given) (p : Polyhedron) → IsPolyhedronOf n (Con []) p → IsOfSome n rows p
 none_of n rows p h = record { rows = []; among = λ g m. absurd (contains_none g m); made = h }
-
-pub some_taken : (n d : ℕ) (rows kept : List Given) (s start : Shape) (losses : List Loss) (p : Polyhedron) → d ≡ n → IsPositive n start.taken →
-    IsConversion start.taken rows kept s losses → IsOfSome d (drop 1 s.taken) p → IsOfSome n (drop 1 start.taken ++ rows) p
-some_taken n d rows kept s start losses p e first c h =
-    let front = drop 1 start.taken in
-    record {
-      rows = h.rows;
-      among = λ g m. still_among front kept rows c.among g (subst (λ (l : List Given). Contains l g) (taken_behind n rows kept s start losses first c) (h.among g m));
-      made = subst (λ (m : ℕ). IsPolyhedronOf m (Con h.rows) p) e h.made;
-    }
 
 -- ---- rows that were tried
 pub of_tried : (n d : ℕ) (rows kept : List Given) (s start : Shape) (losses after : List Loss) (p : Polyhedron) → d ≡ n → s.dims ≡ start.dims → start.dims ≡ n →

@@ -1,6 +1,7 @@
 -- Canonical lists of a list's own kind.
 pub mod OwnLists
 pub mod KeptRows
+pub mod Made
 pub mod TriedRows
 -- Generators that were taken into a cone.
 pub mod TakenPoints

@@ -1,23 +1,21 @@
 //! Both canonical lists of a polyhedron.
 
-ghost use Rattle.std.specs.Prelude.{◌≡◌, ◌∷◌, ◌++◌, ◌<◌, ◌≤◌, [], List, suc, length, drop, IfOk, IfSome, IfNone};
+ghost use Rattle.std.specs.Prelude.{◌≡◌, ◌∷◌, ◌++◌, ◌<◌, ◌≤◌, [], length, drop, IfOk, IfSome, IfNone};
 ghost use Rattle.std.specs.Prelude.{◌≢◌, take, OnOk};
 ghost use Rattle.std.specs.List.{Contains};
-ghost use Rattle.lra_linear.specs.Descriptions.{AreGenerators, Con, Gen, Given, inequality};
+ghost use Rattle.lra_linear.specs.Descriptions.{AreGenerators, Con, Gen, inequality};
 ghost use Rattle.lra_linear.specs.ConeStrain.{row_limit};
 ghost use Rattle.lra_linear.specs.Formed.{KeepsLimit};
-ghost use Rattle.lra_linear.specs.OperationStrain.{FromRowsStrains, FromGeneratorsStrains, with_positivity};
-ghost use Rattle.lra_linear.specs.Points.{IsEmptySet, IsWithin};
+ghost use Rattle.lra_linear.specs.OperationStrain.{with_positivity};
+ghost use Rattle.lra_linear.specs.Points.{IsEmptySet};
 ghost use Rattle.lra_linear.specs.Polyhedra.{IsPolyhedron, IsPolyhedronOf, falsity};
 ghost use Rattle.lra_sys.specs.Dimensions.{too_many_dimensions};
 ghost use Rattle.lra_sys.specs.Listed.{constraints, generators, FitKinds};
 ghost use Rattle.lra_cone.specs.Cones.{IsCone};
-ghost use Rattle.lra_linear.specs.Strain.{Strains};
 ghost use Rattle.lra_linear.specs.declared.Cause as told;
 ghost use Rattle.lra_linear.specs.declared.GenKind.TheVariants.{Point};
-ghost use Rattle.lra_cone.specs.Conversions.{IsConversion};
-ghost use Rattle.lra_cone.specs.Losses.{IfLost};
 ghost use Rattle.lra_pair.specs.KeptRows.{IsOfSome};
+ghost use Rattle.lra_pair.specs.Made.{IsMadeOfGenerators, IsMadeOfRows};
 ghost use Rattle.lra_pair.specs.OwnLists.{IsOwnCause, IsOwnList, IsOwnLoss, IsPositive, TellsOwnLoss};
 ghost use Rattle.lra_pair.specs.TakenPoints.{AreTaken, IsMadeOfPoints, IsOfFirst, IsOfPoints, most_kept};
 ghost use Rattle.lra_pair.specs.TriedRows.{IsMadeOf, IsOfTried, StrainsWhenTried};
@@ -218,15 +216,7 @@ fn of_taken_rows(
     requires small { n < too_many_dimensions }
     requires dims { cone.now.dims ≡ n }
     requires positive { IsPositive n cone.now.taken }
-    ensures dims { IfOk result (λ r. r.0.dims ≡ n) }
-    ensures canonical { IfOk result (λ r. IsPolyhedron r.0) }
-    ensures exact { IfOk result (λ r. r.1.items ≡ [] → IsPolyhedronOf n (Con (drop 1 cone.now.taken)) r.0) }
-    ensures none { IfOk result (λ r. r.1.items ≡ [] → losses.items ≡ []) }
-    ensures within { IfOk result (λ r. IsWithin n (Con (drop 1 cone.now.taken)) (Con r.0.rows)) }
-    ensures some { IfOk result (λ r. IsOfSome n (drop 1 cone.now.taken) r.0) }
-    ensures strain { IfOk result (λ r. (first all kept : List Given) →
-        IsConversion first all kept cone.now losses.items → IfLost (Strains (suc n) (first ++ all)) r.1.items) }
-    ensures made { IfOk result (λ r. IsMadeOf n cone.now losses.items r.0 r.1.items) }
+    ensures { IfOk result (λ r. IsMadeOf n cone.now losses.items r.0 r.1.items) }
 {
     match limit_own_list(alloc, cone)? {
         Ok(own) => {
@@ -247,15 +237,9 @@ pub fn from_cone(alloc: Global, start: Cone, rows: &ConSys) -> Result<(Pair, Vec
     requires small { rows.now.dims < too_many_dimensions }
     requires dims { start.dims ≡ rows.now.dims }
     requires positive { IsPositive rows.now.dims start.taken }
-    ensures dims { IfOk result (λ r. r.0.dims ≡ rows.now.dims) }
-    ensures canonical { IfOk result (λ r. IsPolyhedron r.0) }
-    ensures exact { IfOk result (λ r. r.1.items ≡ [] →
-        IsPolyhedronOf rows.now.dims (Con (drop 1 start.taken ++ constraints rows.now)) r.0) }
-    ensures within { IfOk result (λ r.
-        IsWithin rows.now.dims (Con (drop 1 start.taken ++ constraints rows.now)) (Con r.0.rows)) }
+    ensures becomes { IfOk result (λ r.
+        IsMadeOfRows rows.now.dims (drop 1 start.taken ++ constraints rows.now) r.0 r.1.items) }
     ensures some { IfOk result (λ r. IsOfSome rows.now.dims (drop 1 start.taken ++ constraints rows.now) r.0) }
-    ensures strain { IfOk result (λ r.
-        IfLost (FromRowsStrains rows.now.dims (drop 1 start.taken ++ constraints rows.now)) r.1.items) }
     ensures tried { IfOk result (λ r. IsOfTried rows.now.dims start.taken (constraints rows.now) r.0 r.1.items) }
 {
     let n = rows.dims();
@@ -272,12 +256,8 @@ pub fn from_cone(alloc: Global, start: Cone, rows: &ConSys) -> Result<(Pair, Vec
 /// many generators, are left out; where a number passes in the canonical constraints, or there are too many, all are.
 /// Without a loss it has the points of the constraints, else at least those.
 pub fn from_rows(alloc: Global, rows: &ConSys) -> Result<(Pair, Vec<Loss>), AllocError>
-    ensures dims { IfOk result (λ r. r.0.dims ≡ rows.now.dims) }
-    ensures canonical { IfOk result (λ r. IsPolyhedron r.0) }
-    ensures exact { IfOk result (λ r. r.1.items ≡ [] → IsPolyhedronOf rows.now.dims (Con (constraints rows.now)) r.0) }
-    ensures within { IfOk result (λ r. IsWithin rows.now.dims (Con (constraints rows.now)) (Con r.0.rows)) }
+    ensures becomes { IfOk result (λ r. IsMadeOfRows rows.now.dims (constraints rows.now) r.0 r.1.items) }
     ensures some { IfOk result (λ r. IsOfSome rows.now.dims (constraints rows.now) r.0) }
-    ensures strain { IfOk result (λ r. IfLost (FromRowsStrains rows.now.dims (constraints rows.now)) r.1.items) }
     ensures tried { IfOk result (λ r. IsOfTried rows.now.dims (with_positivity rows.now.dims []) (constraints rows.now)
         r.0 r.1.items) }
 {
@@ -292,11 +272,8 @@ pub fn from_rows(alloc: Global, rows: &ConSys) -> Result<(Pair, Vec<Loss>), Allo
 const MOST_KEPT: usize = 64;
 
 // The first constraints of the list, at most as many as are kept behind a loss.
-#[tactic(auto, using(crate::proofs::PairLosses::first_among))]
 fn first_rows(alloc: Global, list: &ConSys) -> Result<ConSys, AllocError>
     ensures dims { IfOk result (λ kept. kept.dims ≡ list.now.dims) }
-    ensures among { IfOk result (λ kept. (g : Given) → Contains (constraints kept) g →
-        Contains (constraints list.now) g) }
     ensures first { IfOk result (λ kept. constraints kept ≡ take most_kept (constraints list.now)) }
 {
     let n = list.dims();
@@ -322,9 +299,6 @@ fn enclose_points(
     list: &ConSys,
     losses: Vec<Loss>,
 ) -> Result<(Pair, Vec<Loss>), AllocError>
-    ensures dims { IfOk result (λ r. r.0.dims ≡ list.now.dims) }
-    ensures canonical { IfOk result (λ r. IsPolyhedron r.0) }
-    ensures within { IfOk result (λ r. IsWithin list.now.dims (Con (constraints list.now)) (Con r.0.rows)) }
     ensures losses { IfOk result (λ r. r.1.items ≡ losses.items) }
     ensures first { IfOk result (λ r. IsOfFirst list.now.dims (constraints list.now) r.0) }
 {
@@ -346,13 +320,7 @@ fn of_taken_generators(
     requires list_dims { list.now.dims ≡ n }
     requires columns { AreGenerators cone.now.taken }
     requires some { ¬ (IsEmptySet n (Gen cone.now.taken)) }
-    requires within { IsWithin n (Gen cone.now.taken) (Con (constraints list.now)) }
-    ensures dims { IfOk result (λ r. r.0.dims ≡ n) }
-    ensures canonical { IfOk result (λ r. IsPolyhedron r.0) }
-    ensures exact { IfOk result (λ r. r.1.items ≡ [] → IsPolyhedronOf n (Gen cone.now.taken) r.0) }
-    ensures within { IfOk result (λ r. IsWithin n (Gen cone.now.taken) (Con r.0.rows)) }
-    ensures strain { IfOk result (λ r. IfLost (FromGeneratorsStrains n cone.now.taken) r.1.items) }
-    ensures made { IfOk result (λ r. IsMadeOfPoints n cone.now (constraints list.now) r.0 r.1.items) }
+    ensures { IfOk result (λ r. IsMadeOfPoints n cone.now (constraints list.now) r.0 r.1.items) }
 {
     let mut losses = Vec::new(alloc);
     match limit_own_list(alloc, cone)? {
@@ -389,12 +357,7 @@ fn from_points(alloc: Global, given: &GenSys) -> Result<(Pair, Vec<Loss>), Alloc
     requires kinds { FitKinds given.now.rows given.now.kinds }
     requires many { length given.now.kinds ≡ length given.now.rows }
     requires point { Contains given.now.kinds Point }
-    ensures dims { IfOk result (λ r. r.0.dims ≡ given.now.dims) }
-    ensures canonical { IfOk result (λ r. IsPolyhedron r.0) }
-    ensures exact { IfOk result (λ r. r.1.items ≡ [] → IsPolyhedronOf given.now.dims (Gen (generators given.now)) r.0) }
-    ensures within { IfOk result (λ r. IsWithin given.now.dims (Gen (generators given.now)) (Con r.0.rows)) }
-    ensures strain { IfOk result (λ r. IfLost (FromGeneratorsStrains given.now.dims (generators given.now)) r.1.items) }
-    ensures made { IfOk result (λ r. IsOfPoints given.now.dims (generators given.now) r.0 r.1.items) }
+    ensures { IfOk result (λ r. IsOfPoints given.now.dims (generators given.now) r.0 r.1.items) }
 {
     let n = given.dims();
     let (conversion, list) = take_points(alloc, given)?;
@@ -467,11 +430,7 @@ pub fn with_generators(
 /// Without a loss it has the points of the generators, else at least those.
 pub fn from_generators(alloc: Global, given: &GenSys) -> Result<(Pair, Vec<Loss>), AllocError>
     requires { FitKinds given.now.rows given.now.kinds }
-    ensures dims { IfOk result (λ r. r.0.dims ≡ given.now.dims) }
-    ensures canonical { IfOk result (λ r. IsPolyhedron r.0) }
-    ensures exact { IfOk result (λ r. r.1.items ≡ [] → IsPolyhedronOf given.now.dims (Gen (generators given.now)) r.0) }
-    ensures within { IfOk result (λ r. IsWithin given.now.dims (Gen (generators given.now)) (Con r.0.rows)) }
-    ensures strain { IfOk result (λ r. IfLost (FromGeneratorsStrains given.now.dims (generators given.now)) r.1.items) }
+    ensures becomes { IfOk result (λ r. IsMadeOfGenerators given.now.dims (generators given.now) r.0 r.1.items) }
     ensures made { IfOk result (λ r. r.1.items ≢ [] →
         IsOfPoints given.now.dims (generators given.now) r.0 r.1.items) }
 {

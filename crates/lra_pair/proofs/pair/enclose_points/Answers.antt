@@ -1,20 +1,7 @@
 -- Goals of `enclose_points`: the polyhedron of constraints that hold at each of the points, after a loss.
-use Rattle.std.proofs.Common.{ℕ, subst}
-use Rattle.lra_linear.specs.Descriptions.{Con}
-use Rattle.lra_linear.specs.Points.{IsWithin}
 use Rattle.lra_sys.specs.Listed.{constraints}
 use Rattle.lra_pair.proofs.GeneratorPairs.{of_first}
-use Rattle.lra_pair.proofs.PairLosses.{first_within}
 use Rattle.lra_pair.proofs.pair.enclose_points.Goals as goal
-
-pub returns-clause-within : goal.returns-clause-within
-returns-clause-within c =
-    let kept = c.in_ok-kept.kept in
-    let list = c.args.list.now in
-    let made = c.in_ok-pair.pair in
-    subst (λ (n : ℕ). IsWithin n (Con (constraints list)) (Con made.rows)) c.in_ok-kept.ensures.dims
-    (first_within kept.dims (constraints kept) (constraints list) (Con made.rows)
-    c.in_ok-kept.ensures.among c.in_ok-pair.ensures.within)
 
 pub returns-clause-first : goal.returns-clause-first
 returns-clause-first c =

@@ -1,13 +1,10 @@
 -- Goals of `from_rows`: the polyhedron of the constraints, and what was lost.
 use Rattle.std.proofs.Common.{List, subst}
 use Rattle.std.proofs.lemmas.Result.{IfOk-weaker}
-use Rattle.lra_linear.specs.Descriptions.{Con, Given}
-use Rattle.lra_linear.specs.OperationStrain.{FromRowsStrains}
-use Rattle.lra_linear.specs.Points.{IsWithin}
-use Rattle.lra_linear.specs.Polyhedra.{IsPolyhedronOf}
+use Rattle.lra_linear.specs.Descriptions.{Given}
 use Rattle.lra_sys.specs.Listed.{constraints}
-use Rattle.lra_cone.specs.Losses.{IfLost}
 use Rattle.lra_pair.specs.KeptRows.{IsOfSome}
+use Rattle.lra_pair.specs.Made.{IsMadeOfRows}
 use Rattle.lra_pair.specs.TriedRows.{IsOfTried}
 use Rattle.lra_pair.proofs.PairLosses.{behind_positivity, none_behind, positive_alone}
 use Rattle.lra_pair.proofs.pair.from_rows.Goals as goal
@@ -15,23 +12,11 @@ use Rattle.lra_pair.proofs.pair.from_rows.Goals as goal
 pub from_cone-requires-clause-positive : goal.from_cone-requires-clause-positive
 from_cone-requires-clause-positive c = positive_alone c.args.rows.now.dims c.dims-n.result c.in_ok-positive_cone.field-0.taken c.dims-n.ensures c.in_ok-positive_cone.ensures.taken
 
-pub returns-clause-exact : goal.returns-clause-exact
-returns-clause-exact c =
+pub returns-clause-becomes : goal.returns-clause-becomes
+returns-clause-becomes c =
     let d = c.args.rows.now.dims in
     let same = none_behind d c.dims-n.result c.in_ok-positive_cone.field-0.taken (constraints c.args.rows.now) c.dims-n.ensures c.in_ok-positive_cone.ensures.taken in
-    IfOk-weaker c.from_cone.result _ _ (λ r h e. subst (λ (l : List Given). IsPolyhedronOf d (Con l) r.0) same (h e)) c.from_cone.ensures.exact
-
-pub returns-clause-within : goal.returns-clause-within
-returns-clause-within c =
-    let d = c.args.rows.now.dims in
-    let same = none_behind d c.dims-n.result c.in_ok-positive_cone.field-0.taken (constraints c.args.rows.now) c.dims-n.ensures c.in_ok-positive_cone.ensures.taken in
-    IfOk-weaker c.from_cone.result _ _ (λ r h. subst (λ (l : List Given). IsWithin d (Con l) (Con r.0.rows)) same h) c.from_cone.ensures.within
-
-pub returns-clause-strain : goal.returns-clause-strain
-returns-clause-strain c =
-    let d = c.args.rows.now.dims in
-    let same = none_behind d c.dims-n.result c.in_ok-positive_cone.field-0.taken (constraints c.args.rows.now) c.dims-n.ensures c.in_ok-positive_cone.ensures.taken in
-    IfOk-weaker c.from_cone.result _ _ (λ r h. subst (λ (l : List Given). IfLost (FromRowsStrains d l) r.1.items) same h) c.from_cone.ensures.strain
+    IfOk-weaker c.from_cone.result _ _ (λ r h. subst (λ (l : List Given). IsMadeOfRows d l r.0 r.1.items) same h) c.from_cone.ensures.becomes
 
 pub returns-clause-some : goal.returns-clause-some
 returns-clause-some c =
