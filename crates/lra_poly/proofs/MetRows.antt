@@ -1,9 +1,9 @@
 -- Inclusions that are answered by Yes, and what is kept of rows that are met with a polyhedron.
-use Rattle.std.proofs.Common.{◌≡◌, ◌∙◌, ◌↔◌, ℕ, List, ◌∷◌, ◌++◌, ap, refl, subst, sym, Bool, true, false, IsTrue, inl, inr, []}
+use Rattle.std.proofs.Common.{◌≡◌, ◌∙◌, ◌↔◌, ℕ, List, ◌∷◌, ◌++◌, ap, refl, subst, sym, Bool, true, false, drop, IsTrue, inl, inr, []}
 use Rattle.std.specs.List.{Contains}
 use Rattle.std.proofs.lemmas.List.Elements.{All-contains, Contains-append_right}
-use Rattle.lra_linear.specs.Descriptions.{Given, inequality}
-use Rattle.lra_linear.specs.OperationStrain.{with_positivity}
+use Rattle.lra_linear.specs.Descriptions.{Con, Given, inequality}
+use Rattle.lra_linear.specs.OperationStrain.{FromRowsStrains, with_positivity}
 use Rattle.lra_linear.specs.Polyhedra.{Polyhedron, positivity}
 use Rattle.lra_linear.specs.Strain.{Loss}
 use Rattle.lra_linear.proofs.Membership.{contains_head}
@@ -13,9 +13,12 @@ use Rattle.lra_duality.specs.declared.inclusion.Inclusion.{Inclusion}
 use Rattle.lra_duality.specs.declared.inclusion.Inclusion.TheVariants.{Yes, No, Wide}
 use Rattle.lra_duality.proofs.MaximumLemmas.{never_both}
 use Rattle.lra_duality.specs.Onward.{MayGoOn}
+use Rattle.lra_pair.specs.OwnLists.{IsPositive}
 use Rattle.lra_pair.specs.TriedRows.{IsOfTried}
+use Rattle.lra_pair.proofs.MadeLemmas.{tried_is_made}
 use Rattle.lra_poly.specs.Narrowed.{IsMetWith, IsSeenWithin, IsSettled, IsTried}
-use Rattle.lra_poly.specs.Outcomes.{first_loss}
+use Rattle.lra_poly.specs.Outcomes.{IsOfRows, first_loss}
+use Rattle.lra_poly.proofs.PolyLemmas.{becomes_told}
 use Rattle.lra_poly.specs.declared.outcome.Outcome.{Outcome}
 use Rattle.lra_poly.specs.declared.outcome.Outcome.TheVariants.{Exact, Flagged}
 
@@ -76,6 +79,16 @@ met_onward p view taken more d made o e may et ed t = inl (
 pub met_anew : (p view : Polyhedron) (more : List Given) (made : Polyhedron) (o : Outcome) → view ≡ p → ¬ (MayGoOn view.dims view.generators) →
     IsTried p.dims (with_positivity p.dims []) (p.rows ++ more) made o → IsMetWith p more made o
 met_anew p view more made o e fails t = inr (subst (λ (q : Polyhedron). ¬ (MayGoOn q.dims q.generators)) e fails, t)
+
+-- what was tried tells what is made
+tried_becomes : (n : ℕ) (first all : List Given) (made : Polyhedron) (o : Outcome) → IsPositive n first → IsTried n first all made o → IsOfRows n (drop 1 first ++ all) made o
+tried_becomes n first all made o positive t =
+    let rows = drop 1 first ++ all in
+    becomes_told n (Con rows) (FromRowsStrains n rows) made made o t.losses refl t.told (tried_is_made n first all made t.losses positive t.of)
+
+pub met_becomes : (p made : Polyhedron) (more : List Given) (o : Outcome) → IsMetWith p more made o → IsOfRows p.dims (p.rows ++ more) made o
+met_becomes p made more o (inl x) = tried_becomes p.dims (with_positivity p.dims p.rows) more made o (p.rows, refl) x.1
+met_becomes p made more o (inr x) = tried_becomes p.dims (with_positivity p.dims []) (p.rows ++ more) made o ([], refl) x.1
 
 -- ---- the new value
 pub settled_exact : (old made new : Polyhedron) (o : Outcome) → o ≡ Exact → new ≡ made → IsSettled old made o new

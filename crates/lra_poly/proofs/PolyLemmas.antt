@@ -1,5 +1,5 @@
 -- What the operations' lists tell of sets of points.
-use Rattle.std.proofs.Common.{◌≡◌, ◌≢◌, ℕ, suc, drop, Bool, List, [], ◌∷◌, ◌++◌, length, ap, sym, ◌∙◌, subst, ℤ, pos, ◌≤ℤ◌, inl, inr, refl, arith}
+use Rattle.std.proofs.Common.{◌≡◌, ◌≢◌, ℕ, suc, Bool, List, [], ◌∷◌, ◌++◌, length, ap, sym, ◌∙◌, subst, ℤ, pos, ◌≤ℤ◌, inl, inr, refl, arith}
 use Rattle.std.specs.List.{Contains}
 use Rattle.lra_linear.specs.Descriptions.{Con, Gen, Given, Holds, inequality, system_of}
 use Rattle.lra_linear.specs.OperationStrain.{ConstraintsStrain, FromRowsStrains, FromGeneratorsStrains, MeetStrains, AddTestStrains, HullStrains, ResultStrains}
@@ -16,9 +16,10 @@ use Rattle.lra_linear.proofs.Polyhedra.{con_gen}
 use Rattle.lra_linear.proofs.SetOperations.{has_vertex, meet_con, system_append, system_append_in, valid_on_rows}
 use Rattle.lra_poly.specs.declared.outcome.Outcome.{Outcome}
 use Rattle.lra_poly.specs.declared.outcome.Outcome.TheVariants.{Exact, Flagged}
-use Rattle.lra_poly.specs.Outcomes.{IfExact, IfFlagged, first_loss}
+use Rattle.lra_poly.specs.Outcomes.{Becomes, IfExact, IfFlagged, IsOfGenerators, IsOfRows, first_loss}
 use Rattle.lra_duality.proofs.PolyhedronLemmas.{empty_where_none, none_where_empty, rows_width}
 use Rattle.lra_cone.specs.Losses.{IfLost}
+use Rattle.lra_pair.specs.Made.{IsMadeFor}
 use Rattle.lra_pair.specs.OwnLists.{IsPositive}
 use Rattle.lra_pair.proofs.OwnRows.{none_of}
 use Rattle.lra_linear.specs.Kinds.{is_line}
@@ -64,6 +65,33 @@ losses_flagged P losses o e h = subst (IfFlagged P) (sym e) (by_list losses h)
     by_list [] h = tt
     by_list (x ∷ l) h = h
 
+-- ---- what is made
+pub exactly : (n : ℕ) (P : PointSet) (strains : Loss → Type 0) (p : Polyhedron) → IsPolyhedronOf n P p → Becomes n P strains p Exact
+exactly n P strains p h = record { dims = h.dimensions; canonical = h.canonical; within = h.points.0; exact = h; flagged = tt }
+
+-- told of the losses of a pair
+pub becomes_told : (n : ℕ) (P : PointSet) (strains : Loss → Type 0) (made pair : Polyhedron) (o : Outcome) (losses : List Loss) → made ≡ pair → o ≡ first_loss losses →
+    IsMadeFor n P strains pair losses → Becomes n P strains made o
+becomes_told n P strains made pair o losses same told m =
+    subst (λ (p : Polyhedron). Becomes n P strains p o) (sym same) (record {
+      dims = m.dims;
+      canonical = m.canonical;
+      within = m.within;
+      exact = losses_exact (IsPolyhedronOf n P pair) losses o told m.exact;
+      flagged = losses_flagged strains losses o told m.flagged;
+    })
+
+-- other words for the set, and for when it strains
+pub becomes_same : (n : ℕ) (P Q : PointSet) (s t : Loss → Type 0) (p : Polyhedron) (o : Outcome) → SameSet n P Q → ((loss : Loss) → t loss → s loss) →
+    Becomes n Q t p o → Becomes n P s p o
+becomes_same n P Q s t p o same strains b = record {
+  dims = b.dims;
+  canonical = b.canonical;
+  within = λ x i h. b.within x i (same.0 x i h);
+  exact = if_exact (IsPolyhedronOf n Q p) (IsPolyhedronOf n P p) o (same_polyhedron n P Q p same) b.exact;
+  flagged = if_flagged t s o strains b.flagged;
+}
+
 -- ---- whether there is a generator
 given_none : {K : Type 0} (equal : K → Bool) (rows : List (List ℤ)) (kinds : List K) → kinds ≡ [] → given_by equal rows kinds ≡ []
 given_none equal [] kinds e = refl
@@ -87,9 +115,6 @@ emptiness p list kinds b h e ek n is = let said = none_counted kinds b is in (
 )
 
 -- ---- as the code tells it
-pub within_same : (n m : ℕ) (P : PointSet) (p q : Polyhedron) → p ≡ q → n ≡ m → IsWithin m P (Con q.rows) → IsWithin n P (Con p.rows)
-within_same n m P p q e d h = subst (λ (k : ℕ). IsWithin k P (Con p.rows)) (sym d) (subst (λ (x : Polyhedron). IsWithin m P (Con x.rows)) (sym e) h)
-
 -- the exact result of constraints that have no other points than the old value; a value that lies in it; the old value
 pub exact_inside : (n m : ℕ) (list old : List Given) (self made : Polyhedron) (o : Outcome) → o ≡ Exact → self ≡ made → n ≡ m → IfExact (IsPolyhedronOf m (Con list) made) o →
     IsWithin n (Con list) (Con old) → IsWithin n (Con self.rows) (Con old)
@@ -107,14 +132,6 @@ pub joined_seen : (list first second rows more : List Given) → list ≡ first 
 joined_seen list first second rows more e ef es = e ∙ ap (λ (l : List Given). l ++ second) ef ∙ ap (λ (l : List Given). rows ++ l) es
 
 -- ---- the meet with a list of constraints
-pub meet_exact : (n : ℕ) (rows more list : List Given) (p : Polyhedron) (o : Outcome) → list ≡ rows ++ more → IfExact (IsPolyhedronOf n (Con list) p) o →
-    IfExact (IsPolyhedronOf n (Meet (Con rows) (Con more)) p) o
-meet_exact n rows more list p o e = if_exact (IsPolyhedronOf n (Con list) p) (IsPolyhedronOf n (Meet (Con rows) (Con more)) p) o
-    (λ h. same_polyhedron n (Meet (Con rows) (Con more)) (Con (rows ++ more)) p (meet_con n rows more) (subst (λ (l : List Given). IsPolyhedronOf n (Con l) p) e h))
-
-pub meet_within : (n : ℕ) (rows more list : List Given) (P : PointSet) → list ≡ rows ++ more → IsWithin n (Con list) P → IsWithin n (Meet (Con rows) (Con more)) P
-meet_within n rows more list P e h x i both = h x i (subst (λ (l : List Given). Con l x) (sym e) ((meet_con n rows more).0 x i both))
-
 pub meet_inside : (n : ℕ) (rows more list : List Given) → list ≡ rows ++ more → IsWithin n (Con list) (Con rows)
 meet_inside n rows more list e x i c = ((meet_con n rows more).1 x i (subst (λ (l : List Given). Con l x) e c)).0
 
@@ -130,15 +147,26 @@ met_exact p more h within = record {
   );
 }
 
-pub meet_strain : (p q : Polyhedron) (list : List Given) (o : Outcome) → list ≡ p.rows ++ q.rows → IfFlagged (FromRowsStrains p.dims list) o → IfFlagged (MeetStrains p q) o
-meet_strain p q list o e = if_flagged (FromRowsStrains p.dims list) (MeetStrains p q) o
-    (λ loss s. constraints_strain p.dims (Meet (Con p.rows) (Con q.rows)) (Con (p.rows ++ q.rows)) (p.rows ++ q.rows) loss (meet_con p.dims p.rows q.rows)
-    (subst (λ (l : List Given). FromRowsStrains p.dims l loss) e s))
+pub meet_becomes : (p q new : Polyhedron) (list : List Given) (o : Outcome) → list ≡ p.rows ++ q.rows → IsOfRows p.dims list new o →
+    Becomes p.dims (Meet (Con p.rows) (Con q.rows)) (MeetStrains p q) new o
+meet_becomes p q new list o e b =
+    let all = p.rows ++ q.rows in
+    let same = meet_con p.dims p.rows q.rows in
+    becomes_same p.dims (Meet (Con p.rows) (Con q.rows)) (Con all) (MeetStrains p q) (FromRowsStrains p.dims all) new o same
+    (λ loss s. constraints_strain p.dims (Meet (Con p.rows) (Con q.rows)) (Con all) all loss same s) (subst (λ (l : List Given). IsOfRows p.dims l new o) e b)
+
+-- the old value stays where what was made isn't known to lie in it
+pub stays_flagged : (p made new : Polyhedron) (more : List Given) (o : Outcome) (loss : Loss) → IsPolyhedron p → o ≡ Flagged loss → new ≡ p →
+    IsOfRows p.dims (p.rows ++ more) made o → IsOfRows p.dims (p.rows ++ more) new o
+stays_flagged p made new more o loss h eo es b = subst (λ (q : Polyhedron). IsOfRows p.dims (p.rows ++ more) q o) (sym es) (record {
+  dims = refl;
+  canonical = h;
+  within = meet_inside p.dims p.rows more (p.rows ++ more) refl;
+  exact = subst (IfExact (IsPolyhedronOf p.dims (Con (p.rows ++ more)) p)) (sym eo) tt;
+  flagged = b.flagged;
+})
 
 -- what stands behind the positivity row
-pub kept_rows : (n : ℕ) (taken listed rows more : List Given) → taken ≡ inequality (positivity n) ∷ listed → listed ≡ rows → drop 1 taken ++ more ≡ rows ++ more
-kept_rows n taken listed rows more et el = ap (λ (l : List Given). drop 1 l ++ more) et ∙ ap (λ (l : List Given). l ++ more) el
-
 pub kept_positive : (n m : ℕ) (taken listed : List Given) → taken ≡ inequality (positivity n) ∷ listed → n ≡ m → IsPositive m taken
 kept_positive n m taken listed et e = (listed, et ∙ ap (λ (k : ℕ). inequality (positivity k) ∷ listed) e)
 
@@ -152,18 +180,13 @@ both_same n P Q R a b = (λ x i h. b.0 x i (a.0 x i h), λ x i h. a.1 x i (b.1 x
 tested_same : (n : ℕ) (rows : List Given) (t : Given) → SameSet n (Meet (Con rows) (Holds t)) (Con (rows ++ t ∷ []))
 tested_same n rows t = both_same n (Meet (Con rows) (Holds t)) (Meet (Con rows) (Con (t ∷ []))) (Con (rows ++ t ∷ [])) (test_same n (Con rows) t) (meet_con n rows (t ∷ []))
 
-pub test_exact : (n : ℕ) (rows list : List Given) (t : Given) (p : Polyhedron) (o : Outcome) → list ≡ rows ++ t ∷ [] → IfExact (IsPolyhedronOf n (Con list) p) o →
-    IfExact (IsPolyhedronOf n (Meet (Con rows) (Holds t)) p) o
-test_exact n rows list t p o e = if_exact (IsPolyhedronOf n (Con list) p) (IsPolyhedronOf n (Meet (Con rows) (Holds t)) p) o
-    (λ h. same_polyhedron n (Meet (Con rows) (Holds t)) (Con (rows ++ t ∷ [])) p (tested_same n rows t) (subst (λ (l : List Given). IsPolyhedronOf n (Con l) p) e h))
-
-pub test_within : (n : ℕ) (rows list : List Given) (t : Given) (P : PointSet) → list ≡ rows ++ t ∷ [] → IsWithin n (Con list) P → IsWithin n (Meet (Con rows) (Holds t)) P
-test_within n rows list t P e h x i both = h x i (subst (λ (l : List Given). Con l x) (sym e) ((tested_same n rows t).0 x i both))
-
-pub test_strain : (p : Polyhedron) (list : List Given) (t : Given) (o : Outcome) → list ≡ p.rows ++ t ∷ [] → IfFlagged (FromRowsStrains p.dims list) o → IfFlagged (AddTestStrains p t) o
-test_strain p list t o e = if_flagged (FromRowsStrains p.dims list) (AddTestStrains p t) o
-    (λ loss s. constraints_strain p.dims (Meet (Con p.rows) (Holds t)) (Con (p.rows ++ t ∷ [])) (p.rows ++ t ∷ []) loss (tested_same p.dims p.rows t)
-    (subst (λ (l : List Given). FromRowsStrains p.dims l loss) e s))
+pub test_becomes : (p new : Polyhedron) (t : Given) (list : List Given) (o : Outcome) → list ≡ p.rows ++ t ∷ [] → IsOfRows p.dims list new o →
+    Becomes p.dims (Meet (Con p.rows) (Holds t)) (AddTestStrains p t) new o
+test_becomes p new t list o e b =
+    let all = p.rows ++ t ∷ [] in
+    let same = tested_same p.dims p.rows t in
+    becomes_same p.dims (Meet (Con p.rows) (Holds t)) (Con all) (AddTestStrains p t) (FromRowsStrains p.dims all) new o same
+    (λ loss s. constraints_strain p.dims (Meet (Con p.rows) (Holds t)) (Con all) all loss same s) (subst (λ (l : List Given). IsOfRows p.dims l new o) e b)
 
 -- ---- the hull
 -- an inequality that is valid on a polyhedron holds with each of its generators
@@ -196,7 +219,7 @@ union_in_gen p q h k e x i (inr c) =
 pub hull_holds : (n : ℕ) (P : PointSet) (rows : List Given) → ((c : List ℤ) → Contains (system_of rows) c → length c ≡ suc n) → IsWithin n P (Con rows) → IsWithin n (Hull n P) (Con rows)
 hull_holds n P rows widths h x i hull = solves_con rows x (λ c k. hull c (widths c k) (λ y j s. con_solves rows y (h y j s) c k))
 
-pub hull_within : (p q r : Polyhedron) (list : List Given) → IsPolyhedron p → IsPolyhedron q → IsPolyhedron r → q.dims ≡ p.dims → r.dims ≡ p.dims → list ≡ p.generators ++ q.generators →
+hull_within : (p q r : Polyhedron) (list : List Given) → IsPolyhedron p → IsPolyhedron q → IsPolyhedron r → q.dims ≡ p.dims → r.dims ≡ p.dims → list ≡ p.generators ++ q.generators →
     IsWithin p.dims (Gen list) (Con r.rows) → IsWithin p.dims (Hull p.dims (Union (Con p.rows) (Con q.rows))) (Con r.rows)
 hull_within p q r list h k m e er el within = hull_holds p.dims (Union (Con p.rows) (Con q.rows)) r.rows (λ c i. rows_width r m c i ∙ ap suc er)
     (λ x i u. within x i (subst (λ (l : List Given). Gen l x) (sym el) (union_in_gen p q h k e x i u)))
@@ -224,7 +247,7 @@ hull_made p q r h k e a = record {
   );
 }
 
-pub hull_exact : (p q r : Polyhedron) (list : List Given) (o : Outcome) → IsPolyhedron p → IsPolyhedron q → q.dims ≡ p.dims → list ≡ p.generators ++ q.generators →
+hull_exact : (p q r : Polyhedron) (list : List Given) (o : Outcome) → IsPolyhedron p → IsPolyhedron q → q.dims ≡ p.dims → list ≡ p.generators ++ q.generators →
     IfExact (IsPolyhedronOf p.dims (Gen list) r) o → IfExact (IsPolyhedronOf p.dims (Hull p.dims (Union (Con p.rows) (Con q.rows))) r) o
 hull_exact p q r list o h k e el = if_exact (IsPolyhedronOf p.dims (Gen list) r) (IsPolyhedronOf p.dims (Hull p.dims (Union (Con p.rows) (Con q.rows))) r) o
     (λ a. hull_made p q r h k e (subst (λ (l : List Given). IsPolyhedronOf p.dims (Gen l) r) el a))
@@ -233,10 +256,20 @@ taken_strain : (p q : Polyhedron) (loss : Loss) → IsPolyhedron p → IsPolyhed
 taken_strain p q loss h k e (inl a) = inl a
 taken_strain p q loss h k e (inr b) = inr (record { result = b.result; is_result = hull_made p q b.result h k e b.is_result; strains = b.strains })
 
-pub hull_strain : (p q : Polyhedron) (list : List Given) (o : Outcome) → IsPolyhedron p → IsPolyhedron q → q.dims ≡ p.dims → list ≡ p.generators ++ q.generators →
+hull_strain : (p q : Polyhedron) (list : List Given) (o : Outcome) → IsPolyhedron p → IsPolyhedron q → q.dims ≡ p.dims → list ≡ p.generators ++ q.generators →
     IfFlagged (FromGeneratorsStrains p.dims list) o → IfFlagged (HullStrains p q) o
 hull_strain p q list o h k e el = if_flagged (FromGeneratorsStrains p.dims list) (HullStrains p q) o
     (λ loss s. taken_strain p q loss h k e (subst (λ (l : List Given). FromGeneratorsStrains p.dims l loss) el s))
+
+pub hull_becomes : (p q r : Polyhedron) (list : List Given) (o : Outcome) → IsPolyhedron p → IsPolyhedron q → q.dims ≡ p.dims → list ≡ p.generators ++ q.generators →
+    IsOfGenerators p.dims list r o → Becomes p.dims (Hull p.dims (Union (Con p.rows) (Con q.rows))) (HullStrains p q) r o
+hull_becomes p q r list o h k e el b = record {
+  dims = b.dims;
+  canonical = b.canonical;
+  within = hull_within p q r list h k b.canonical e b.dims el b.within;
+  exact = hull_exact p q r list o h k e el b.exact;
+  flagged = hull_strain p q list o h k e el b.flagged;
+}
 
 -- ---- generators taken in after those of a polyhedron that has a point
 -- which stays among theirs

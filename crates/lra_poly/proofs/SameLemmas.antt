@@ -1,12 +1,16 @@
 -- Polyhedra of the same dimensions and constraints are the same.
-use Rattle.std.proofs.Common.{◌≡◌, ◌≢◌, ◌∙◌, Bool, false, ap, sym, subst}
+use Rattle.std.proofs.Common.{◌≡◌, ◌≢◌, ◌∙◌, Bool, false, ap, length, sym, subst}
+use Rattle.std.specs.Bool.{one_answer}
 use Rattle.std.specs.Prelude.{◌↔◌, IsTrue}
-use Rattle.lra_linear.specs.Descriptions.{Con}
+use Rattle.lra_linear.specs.Descriptions.{Con, rows_of}
 use Rattle.lra_linear.specs.Points.{SameSet}
 use Rattle.lra_linear.specs.Polyhedra.{IsPolyhedron, Polyhedron}
 use Rattle.lra_linear.specs.declared.ConKind.{ConKind}
 use Rattle.lra_sys.specs.Listed.{Listed, constraints}
 use Rattle.lra_linear.proofs.OneSpelling.{same_points_same_lists}
+use Rattle.lra_linear.specs.Kinds.{is_equality}
+use Rattle.lra_pair.proofs.OwnRows.{rows_of_given}
+use Rattle.lra_poly.specs.Equality.{polyhedron_Decides, polyhedron_eq}
 
 pub same_rows_same : (p q : Polyhedron) → IsPolyhedron p → IsPolyhedron q → q.dims ≡ p.dims → p.rows ≡ q.rows → p ≡ q
 same_rows_same p q h k d e = same_points_same_lists p q h k d (λ x i c. subst (λ l. Con l x) e c, λ x i c. subst (λ l. Con l x) (sym e) c)
@@ -27,3 +31,11 @@ same_points p q b h k d is = (
   λ t. subst (λ (r : Polyhedron). SameSet p.dims (Con p.rows) (Con r.rows)) (is.0 t) (λ x i c. c, λ x i c. c),
   λ s. is.1 (same_points_same_lists p q h k (sym d) s),
 )
+
+-- what tells that both are the same is their equality
+pub same_is_eq : (p q : Polyhedron) (b : Bool) → IsTrue b ↔ (p ≡ q) → b ≡ polyhedron_eq p q
+same_is_eq p q b is = one_answer b (polyhedron_eq p q) is (polyhedron_Decides p q)
+
+-- the numbers of the list are those of the polyhedron's constraints
+pub rows_of_constraints : (p : Polyhedron) (list : Listed ConKind) → constraints list ≡ p.rows → length list.kinds ≡ length list.rows → list.rows ≡ rows_of p.rows
+rows_of_constraints p list e l = sym (rows_of_given is_equality list.rows list.kinds (sym l)) ∙ ap rows_of e

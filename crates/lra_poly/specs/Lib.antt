@@ -1,4 +1,5 @@
 -- Operations on closed polyhedra.
+pub mod Equality
 pub mod Outcomes
 pub mod Narrowed
 pub mod United

@@ -1,5 +1,9 @@
 -- What the calls that make or change a polyhedron tell: that the result is the exact one, or a loss.
-use Rattle.std.specs.Prelude.{List, [], ◌∷◌}
+use Rattle.std.specs.Prelude.{◌≡◌, ℕ, List, [], ◌∷◌}
+use Rattle.lra_linear.specs.Descriptions.{Con, Gen, Given}
+use Rattle.lra_linear.specs.OperationStrain.{FromRowsStrains, FromGeneratorsStrains}
+use Rattle.lra_linear.specs.Points.{IsWithin, PointSet}
+use Rattle.lra_linear.specs.Polyhedra.{IsPolyhedron, IsPolyhedronOf, Polyhedron}
 use Rattle.lra_linear.specs.Strain as strain
 use Rattle.lra_poly.specs.declared.outcome.Outcome.{Outcome}
 use Rattle.lra_poly.specs.declared.outcome.Outcome.TheVariants.{Exact, Flagged}
@@ -23,3 +27,20 @@ first_of (Flagged loss) later = Flagged loss
 abbrev pub first_loss : List strain.Loss → Outcome
 first_loss [] = Exact
 first_loss (loss ∷ later) = Flagged loss
+
+-- A value of n dimensions is made for the set P. Flagged or not, it has all points of P; where it is exact it has no
+-- other. It is flagged only where that strains, and then the loss is told.
+pub record Becomes (n : ℕ) (P : PointSet) (strains : strain.Loss → Type 0) (new : Polyhedron) (o : Outcome)
+    : Type 0 where
+  pub dims : new.dims ≡ n
+  pub canonical : IsPolyhedron new
+  pub within : IsWithin n P (Con new.rows)
+  pub exact : IfExact (IsPolyhedronOf n P new) o
+  pub flagged : IfFlagged strains o
+
+-- for the points at which these constraints hold; for those that the generators give
+abbrev pub IsOfRows : ℕ → List Given → Polyhedron → Outcome → Type 0
+IsOfRows n rows = Becomes n (Con rows) (FromRowsStrains n rows)
+
+abbrev pub IsOfGenerators : ℕ → List Given → Polyhedron → Outcome → Type 0
+IsOfGenerators n list = Becomes n (Gen list) (FromGeneratorsStrains n list)

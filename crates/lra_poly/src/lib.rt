@@ -1,6 +1,7 @@
 //! Closed polyhedra, each by its canonical constraints and its canonical generators, which have the same points.
 #![tactic(auto)]
 
+mod compared;
 mod law;
 mod outcome;
 mod poly;

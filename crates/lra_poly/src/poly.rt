@@ -4,7 +4,6 @@ ghost use Rattle.std.specs.Prelude.{◌≡◌, ◌↔◌, ◌<◌, ◌∷◌, �
 ghost use Rattle.std.specs.Prelude.{IfNone, OnErr};
 ghost use Rattle.lra_linear.specs.Descriptions.{AreGenerators, Con, Gen, Holds};
 ghost use Rattle.lra_linear.specs.Formed.{IsFormed, KeepsLimit};
-ghost use Rattle.lra_linear.specs.OperationStrain.{FromRowsStrains, FromGeneratorsStrains};
 ghost use Rattle.lra_linear.specs.OperationStrain.{AddTestStrains, MeetStrains, HullStrains, with_positivity};
 ghost use Rattle.lra_linear.specs.Points.{IsEmptySet, IsWithin, SameSet};
 ghost use Rattle.lra_linear.specs.Polyhedra.{IsPolyhedron, IsPolyhedronOf};
@@ -17,7 +16,7 @@ ghost use Rattle.lra_pair.specs.OwnLists.{IsPositive};
 ghost use Rattle.lra_pair.specs.TriedRows.{StrainsWhenTried};
 ghost use Rattle.lra_duality.specs.Inclusions.{IsInclusion, TellsInclusion};
 ghost use Rattle.lra_duality.specs.Maxima.{IsMaximum, TellsMaximum, ValueInRange};
-ghost use Rattle.lra_poly.specs.Outcomes.{IfExact, IfFlagged};
+ghost use Rattle.lra_poly.specs.Outcomes.{Becomes, IfFlagged, IsOfGenerators, IsOfRows};
 ghost use Rattle.lra_poly.specs.Narrowed.{IsMetWith, IsNarrowed, IsSeenWithin, IsTried};
 ghost use Rattle.lra_poly.specs.United.{AreTriedPoints, StopsBehind, UnitesAnew};
 ghost use Rattle.lra_poly.specs.declared.outcome.Outcome.TheVariants.{Exact};
@@ -98,14 +97,7 @@ fn of_cone(alloc: Global, cone: Cone, more: &ConSys) -> Result<(Poly, Outcome), 
     requires small { more.now.dims < too_many_dimensions }
     requires dims { cone.dims ≡ more.now.dims }
     requires positive { IsPositive more.now.dims cone.taken }
-    ensures dims { IfOk result (λ r. r.0.dims ≡ more.now.dims) }
-    ensures exact { IfOk result (λ r.
-        IfExact (IsPolyhedronOf more.now.dims (Con (drop 1 cone.taken ++ constraints more.now)) r.0) r.1) }
-    ensures within { IfOk result (λ r.
-        IsWithin more.now.dims (Con (drop 1 cone.taken ++ constraints more.now)) (Con r.0.rows)) }
-    ensures strain { IfOk result (λ r.
-        IfFlagged (FromRowsStrains more.now.dims (drop 1 cone.taken ++ constraints more.now)) r.1) }
-    ensures tried { IfOk result (λ r. IsTried more.now.dims cone.taken (constraints more.now) r.0 r.1) }
+    ensures { IfOk result (λ r. IsTried more.now.dims cone.taken (constraints more.now) r.0 r.1) }
 {
     let (pair, losses) = lra_pair::from_cone(alloc, cone, more)?;
     let made = of_pair(alloc, pair)?;
@@ -164,13 +156,8 @@ impl Poly {
 
     /// The polyhedron of the constraints. Where it is flagged it has at least the points of the constraints.
     pub fn from_rows(alloc: Global, rows: &ConSys) -> Result<(Poly, Outcome), AllocError>
-        ensures dims { IfOk result (λ r. r.0.dims ≡ rows.now.dims) }
-        ensures canonical { IfOk result (λ r. IsPolyhedron r.0) }
-        ensures exact { IfOk result (λ r.
-            IfExact (IsPolyhedronOf rows.now.dims (Con (constraints rows.now)) r.0) r.1) }
-        ensures within { IfOk result (λ r. IsWithin rows.now.dims (Con (constraints rows.now)) (Con r.0.rows)) }
+        ensures becomes { IfOk result (λ r. IsOfRows rows.now.dims (constraints rows.now) r.0 r.1) }
         ensures some { IfOk result (λ r. IsOfSome rows.now.dims (constraints rows.now) r.0) }
-        ensures strain { IfOk result (λ r. IfFlagged (FromRowsStrains rows.now.dims (constraints rows.now)) r.1) }
         ensures tried { IfOk result (λ r.
             IsTried rows.now.dims (with_positivity rows.now.dims []) (constraints rows.now) r.0 r.1) }
     {
@@ -182,13 +169,7 @@ impl Poly {
     /// The polyhedron of the generators. Where it is flagged it has at least the points of the generators.
     pub fn from_generators(alloc: Global, given: &GenSys) -> Result<(Poly, Outcome), AllocError>
         requires { FitKinds given.now.rows given.now.kinds }
-        ensures dims { IfOk result (λ r. r.0.dims ≡ given.now.dims) }
-        ensures canonical { IfOk result (λ r. IsPolyhedron r.0) }
-        ensures exact { IfOk result (λ r.
-            IfExact (IsPolyhedronOf given.now.dims (Gen (generators given.now)) r.0) r.1) }
-        ensures within { IfOk result (λ r. IsWithin given.now.dims (Gen (generators given.now)) (Con r.0.rows)) }
-        ensures strain { IfOk result (λ r.
-            IfFlagged (FromGeneratorsStrains given.now.dims (generators given.now)) r.1) }
+        ensures becomes { IfOk result (λ r. IsOfGenerators given.now.dims (generators given.now) r.0 r.1) }
         ensures tried { IfOk result (λ r.
             IfFlagged (λ _. AreTriedPoints given.now.dims (generators given.now) r.0 r.1) r.1) }
     {
@@ -367,14 +348,7 @@ impl Poly {
     // points.
     fn meet_rows_anew(&self, more: &ConSys) -> Result<(Poly, Outcome), AllocError>
         requires { more.now.dims ≡ self.now.dims }
-        ensures dims { IfOk result (λ r. r.0.dims ≡ self.now.dims) }
-        ensures exact { IfOk result (λ r.
-            IfExact (IsPolyhedronOf self.now.dims (Con (self.now.rows ++ constraints more.now)) r.0) r.1) }
-        ensures within { IfOk result (λ r.
-            IsWithin self.now.dims (Con (self.now.rows ++ constraints more.now)) (Con r.0.rows)) }
-        ensures strain { IfOk result (λ r.
-            IfFlagged (FromRowsStrains self.now.dims (self.now.rows ++ constraints more.now)) r.1) }
-        ensures tried { IfOk result (λ r. IsTried self.now.dims (with_positivity self.now.dims [])
+        ensures { IfOk result (λ r. IsTried self.now.dims (with_positivity self.now.dims [])
             (self.now.rows ++ constraints more.now) r.0 r.1) }
     {
         let list = join_rows(&self.rows, more)?;
@@ -385,13 +359,8 @@ impl Poly {
     // The same, where these are taken in after those, by the lists at hand.
     fn meet_rows(&self, more: &ConSys) -> Result<(Poly, Outcome), AllocError>
         requires { more.now.dims ≡ self.now.dims }
-        ensures dims { IfOk result (λ r. r.0.dims ≡ self.now.dims) }
-        ensures exact { IfOk result (λ r.
-            IfExact (IsPolyhedronOf self.now.dims (Con (self.now.rows ++ constraints more.now)) r.0) r.1) }
-        ensures within { IfOk result (λ r.
-            IsWithin self.now.dims (Con (self.now.rows ++ constraints more.now)) (Con r.0.rows)) }
-        ensures strain { IfOk result (λ r.
-            IfFlagged (FromRowsStrains self.now.dims (self.now.rows ++ constraints more.now)) r.1) }
+        ensures becomes { IfOk result (λ r.
+            IsOfRows self.now.dims (self.now.rows ++ constraints more.now) r.0 r.1) }
         ensures met { IfOk result (λ r. IsMetWith self.now (constraints more.now) r.0 r.1) }
     {
         match cone_of(
@@ -417,13 +386,9 @@ impl Poly {
     pub fn add_rows(&mut self, more: &ConSys) -> Result<Outcome, AllocError>
         requires { more.now.dims ≡ self.old.dims }
         ensures dims { self.new.dims ≡ self.old.dims }
-        ensures exact { IfOk result (IfExact
-            (IsPolyhedronOf self.old.dims (Con (self.old.rows ++ constraints more.now)) self.new)) }
-        ensures within { IfOk result (λ _.
-            IsWithin self.old.dims (Con (self.old.rows ++ constraints more.now)) (Con self.new.rows)) }
+        ensures becomes { IfOk result
+            (IsOfRows self.old.dims (self.old.rows ++ constraints more.now) self.new) }
         ensures inside { IfOk result (λ _. IsWithin self.old.dims (Con self.new.rows) (Con self.old.rows)) }
-        ensures strain { IfOk result
-            (IfFlagged (FromRowsStrains self.old.dims (self.old.rows ++ constraints more.now))) }
         ensures unchanged { OnErr result (self.new ≡ self.old) }
         ensures met { IsSeenWithin self.old (constraints more.now) →
             (self.new ≡ self.old) × IfOk result (λ o. o ≡ Exact) }
@@ -450,12 +415,9 @@ impl Poly {
     pub fn meet(&mut self, other: &Poly) -> Result<Outcome, AllocError>
         requires { other.now.dims ≡ self.old.dims }
         ensures dims { self.new.dims ≡ self.old.dims }
-        ensures exact { IfOk result (IfExact
-            (IsPolyhedronOf self.old.dims (Meet (Con self.old.rows) (Con other.now.rows)) self.new)) }
-        ensures within { IfOk result (λ _.
-            IsWithin self.old.dims (Meet (Con self.old.rows) (Con other.now.rows)) (Con self.new.rows)) }
+        ensures becomes { IfOk result (Becomes self.old.dims
+            (Meet (Con self.old.rows) (Con other.now.rows)) (MeetStrains self.old other.now) self.new) }
         ensures inside { IfOk result (λ _. IsWithin self.old.dims (Con self.new.rows) (Con self.old.rows)) }
-        ensures strain { IfOk result (IfFlagged (MeetStrains self.old other.now)) }
         ensures unchanged { OnErr result (self.new ≡ self.old) }
         ensures met { IsSeenWithin self.old other.now.rows →
             (self.new ≡ self.old) × IfOk result (λ o. o ≡ Exact) }
@@ -471,12 +433,10 @@ impl Poly {
     pub fn add_test(&mut self, test: &Test) -> Result<Outcome, AllocError>
         requires { length test.now.expr.coefficients ≡ self.old.dims }
         ensures dims { self.new.dims ≡ self.old.dims }
-        ensures exact { IfOk result (IfExact (IsPolyhedronOf self.old.dims
-            (Meet (Con self.old.rows) (Holds (test_row test.now.kind test.now.expr))) self.new)) }
-        ensures within { IfOk result (λ _. IsWithin self.old.dims
-            (Meet (Con self.old.rows) (Holds (test_row test.now.kind test.now.expr))) (Con self.new.rows)) }
+        ensures becomes { IfOk result (Becomes self.old.dims
+            (Meet (Con self.old.rows) (Holds (test_row test.now.kind test.now.expr)))
+            (AddTestStrains self.old (test_row test.now.kind test.now.expr)) self.new) }
         ensures inside { IfOk result (λ _. IsWithin self.old.dims (Con self.new.rows) (Con self.old.rows)) }
-        ensures strain { IfOk result (IfFlagged (AddTestStrains self.old (test_row test.now.kind test.now.expr))) }
         ensures unchanged { OnErr result (self.new ≡ self.old) }
         ensures met { IsSeenWithin self.old (test_row test.now.kind test.now.expr ∷ []) →
             (self.new ≡ self.old) × IfOk result (λ o. o ≡ Exact) }
@@ -516,17 +476,8 @@ impl Poly {
     fn unite_anew(&self, more: &GenSys) -> Result<(Poly, Outcome), AllocError>
         requires dims { more.now.dims ≡ self.now.dims }
         requires kinds { FitKinds more.now.rows more.now.kinds }
-        ensures dims { IfOk result (λ r. r.0.dims ≡ self.now.dims) }
-        ensures canonical { IfOk result (λ r. IsPolyhedron r.0) }
-        ensures exact { IfOk result (λ r. IfExact
-            (IsPolyhedronOf self.now.dims
-            (Gen (self.now.generators ++ generators more.now)) r.0) r.1) }
-        ensures within { IfOk result (λ r.
-            IsWithin self.now.dims (Gen (self.now.generators ++ generators more.now))
-            (Con r.0.rows)) }
-        ensures strain { IfOk result (λ r. IfFlagged
-            (FromGeneratorsStrains self.now.dims
-            (self.now.generators ++ generators more.now)) r.1) }
+        ensures becomes { IfOk result (λ r.
+            IsOfGenerators self.now.dims (self.now.generators ++ generators more.now) r.0 r.1) }
         ensures tried { IfOk result (λ r. IfFlagged (λ _.
             AreTriedPoints self.now.dims (self.now.generators ++ generators more.now) r.0
             r.1) r.1) }
@@ -540,17 +491,8 @@ impl Poly {
     fn unite(&self, more: &GenSys) -> Result<(Poly, Outcome), AllocError>
         requires dims { more.now.dims ≡ self.now.dims }
         requires kinds { FitKinds more.now.rows more.now.kinds }
-        ensures dims { IfOk result (λ r. r.0.dims ≡ self.now.dims) }
-        ensures canonical { IfOk result (λ r. IsPolyhedron r.0) }
-        ensures exact { IfOk result (λ r. IfExact
-            (IsPolyhedronOf self.now.dims
-            (Gen (self.now.generators ++ generators more.now)) r.0) r.1) }
-        ensures within { IfOk result (λ r.
-            IsWithin self.now.dims (Gen (self.now.generators ++ generators more.now))
-            (Con r.0.rows)) }
-        ensures strain { IfOk result (λ r. IfFlagged
-            (FromGeneratorsStrains self.now.dims
-            (self.now.generators ++ generators more.now)) r.1) }
+        ensures becomes { IfOk result (λ r.
+            IsOfGenerators self.now.dims (self.now.generators ++ generators more.now) r.0 r.1) }
         ensures anew { IfOk result (λ r. IfFlagged (λ _.
             UnitesAnew self.now (generators more.now) r.0 r.1) r.1) }
     {
@@ -569,15 +511,8 @@ impl Poly {
         requires dims { more.now.dims ≡ self.old.dims }
         requires kinds { FitKinds more.now.rows more.now.kinds }
         ensures dims { self.new.dims ≡ self.old.dims }
-        ensures exact { IfOk result (IfExact
-            (IsPolyhedronOf self.old.dims
-            (Gen (self.old.generators ++ generators more.now)) self.new)) }
-        ensures within { IfOk result (λ _.
-            IsWithin self.old.dims (Gen (self.old.generators ++ generators more.now))
-            (Con self.new.rows)) }
-        ensures strain { IfOk result
-            (IfFlagged (FromGeneratorsStrains self.old.dims
-            (self.old.generators ++ generators more.now))) }
+        ensures becomes { IfOk result
+            (IsOfGenerators self.old.dims (self.old.generators ++ generators more.now) self.new) }
         ensures anew { IfOk result (λ o. IfFlagged (λ _.
             UnitesAnew self.old (generators more.now) self.new o) o) }
         ensures unchanged { OnErr result (self.new ≡ self.old) }
@@ -593,11 +528,9 @@ impl Poly {
     pub fn hull(&mut self, other: &Poly) -> Result<Outcome, AllocError>
         requires { other.now.dims ≡ self.old.dims }
         ensures dims { self.new.dims ≡ self.old.dims }
-        ensures exact { IfOk result (IfExact (IsPolyhedronOf self.old.dims
-            (Hull self.old.dims (Union (Con self.old.rows) (Con other.now.rows))) self.new)) }
-        ensures within { IfOk result (λ _. IsWithin self.old.dims
-            (Hull self.old.dims (Union (Con self.old.rows) (Con other.now.rows))) (Con self.new.rows)) }
-        ensures strain { IfOk result (IfFlagged (HullStrains self.old other.now)) }
+        ensures becomes { IfOk result (Becomes self.old.dims
+            (Hull self.old.dims (Union (Con self.old.rows) (Con other.now.rows)))
+            (HullStrains self.old other.now) self.new) }
         ensures anew { IfOk result (λ o. IfFlagged (λ _.
             UnitesAnew self.old other.now.generators self.new o) o) }
         ensures met { IsSeenWithin other.now self.old.rows →

@@ -1,31 +1,32 @@
 -- Goals of `Poly::add_rows`: takes these constraints in.
-use Rattle.std.proofs.Common.{refl, sym, ◌++◌, inl, inr}
+use Rattle.std.proofs.Common.{refl, subst, sym, ◌++◌, inl, inr}
 use Rattle.lra_linear.specs.Descriptions.{Con}
+use Rattle.lra_linear.specs.OperationStrain.{FromRowsStrains}
+use Rattle.lra_linear.specs.Polyhedra.{Polyhedron}
 use Rattle.lra_sys.specs.Listed.{constraints}
+use Rattle.lra_poly.specs.Outcomes.{IsOfRows}
 use Rattle.lra_poly.proofs.MetRows.{never, settled_exact, settled_made, settled_old}
-use Rattle.lra_poly.proofs.PolyLemmas.{within_same, exact_inside, made_inside, old_inside, meet_inside, met_exact}
+use Rattle.lra_poly.proofs.PolyLemmas.{exactly, exact_inside, made_inside, old_inside, meet_inside, met_exact, stays_flagged}
 use Rattle.lra_poly.proofs.poly.Poly.add_rows.Goals.{in-Exact, in-Flagged+then-lies_in, in-Flagged+else-lies_in}
 use Rattle.lra_poly.proofs.poly.Poly.add_rows.Goals as goal
 
-pub returns-then-meets-clause-exact : goal.returns-then-meets-clause-exact
-returns-then-meets-clause-exact c = met_exact c.args.self.now (constraints c.args.more.now) c.meets.ensures.canonical (c.if-meets.ensures.within refl)
+pub returns-then-meets-clause-becomes : goal.returns-then-meets-clause-becomes
+returns-then-meets-clause-becomes c =
+    let p = c.args.self.now in
+    let list = p.rows ++ constraints c.args.more.now in
+    exactly p.dims (Con list) (FromRowsStrains p.dims list) p (met_exact p (constraints c.args.more.now) c.meets.ensures.canonical (c.if-meets.ensures.within refl))
 
-pub returns-then-meets-clause-within : goal.returns-then-meets-clause-within
-returns-then-meets-clause-within c =
+pub returns-clause-becomes : goal.returns-clause-becomes
+returns-clause-becomes c =
     let p = c.args.self.now in
     let more = constraints c.args.more.now in
-    meet_inside p.dims p.rows more (p.rows ++ more) refl
-
-pub returns-clause-within : goal.returns-clause-within
-returns-clause-within c =
-    let p = c.args.self.now in
-    let n = p.dims in
-    let more = constraints c.args.more.now in
-    let list = p.rows ++ more in
+    let o = c.in_ok-made.outcome in
+    let made = c.in_ok-made.ensures.becomes in
     elim c.match-outcome.branch [
-      | in-Exact w ↦ within_same n n (Con list) c.match-outcome.self c.in_ok-made.made w.self-is refl c.in_ok-made.ensures.within
-      | in-Flagged+then-lies_in w ↦ within_same n n (Con list) c.match-outcome.self c.in_ok-made.made w.self-is refl c.in_ok-made.ensures.within
-      | in-Flagged+else-lies_in w ↦ within_same n n (Con list) c.match-outcome.self p w.self-is refl (meet_inside n p.rows more list refl)
+      | in-Exact w ↦ subst (λ (q : Polyhedron). IsOfRows p.dims (p.rows ++ more) q o) (sym w.self-is) made
+      | in-Flagged+then-lies_in w ↦ subst (λ (q : Polyhedron). IsOfRows p.dims (p.rows ++ more) q o) (sym w.self-is) made
+      | in-Flagged+else-lies_in w ↦ stays_flagged p c.in_ok-made.made c.match-outcome.self more o w.in-Flagged.field-0 c.meets.ensures.canonical
+          w.in-Flagged.is w.self-is made
     ]
 
 pub returns-clause-inside : goal.returns-clause-inside
@@ -36,9 +37,9 @@ returns-clause-inside c =
     let list = p.rows ++ more in
     elim c.match-outcome.branch [
       | in-Exact w ↦ exact_inside n n list p.rows c.match-outcome.self c.in_ok-made.made c.in_ok-made.outcome w.in-Exact.is w.self-is refl
-          c.in_ok-made.ensures.exact (meet_inside n p.rows more list refl)
+          c.in_ok-made.ensures.becomes.exact (meet_inside n p.rows more list refl)
       | in-Flagged+then-lies_in w ↦ made_inside n p.rows c.match-outcome.self c.in_ok-made.made w.self-is
-          (sym c.in_ok-made.ensures.dims) (w.if-lies_in.ensures.within refl)
+          (sym c.in_ok-made.ensures.becomes.dims) (w.if-lies_in.ensures.within refl)
       | in-Flagged+else-lies_in w ↦ old_inside n c.match-outcome.self p w.self-is
     ]
 

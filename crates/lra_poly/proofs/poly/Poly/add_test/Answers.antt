@@ -1,35 +1,19 @@
 -- Goals of `Poly::add_test`: keeps the points that pass the test.
 use Rattle.std.proofs.Common.{◌≡◌, ◌++◌, ◌∷◌, [], List, ap, subst, sym}
-use Rattle.lra_linear.specs.Descriptions.{Con, Given}
+use Rattle.lra_linear.specs.Descriptions.{Given}
 use Rattle.lra_sys.specs.Listed.{constraints}
 use Rattle.lra_duality.specs.Rows.{test_row}
 use Rattle.lra_poly.specs.Narrowed.{IsNarrowed, IsSeenWithin}
-use Rattle.lra_poly.proofs.PolyLemmas.{test_exact, test_within, test_strain}
+use Rattle.lra_poly.proofs.PolyLemmas.{test_becomes}
 use Rattle.lra_poly.proofs.poly.Poly.add_test.Goals as goal
 
-pub returns-clause-exact : goal.returns-clause-exact
-returns-clause-exact c =
+pub returns-clause-becomes : goal.returns-clause-becomes
+returns-clause-becomes c =
     let p = c.args.self.now in
     let row = test_row c.args.test.now.kind c.args.test.now.expr in
     let list = p.rows ++ constraints c.in_ok-row.row in
     let e : list ≡ p.rows ++ row ∷ [] = ap (λ (l : List Given). p.rows ++ l) c.in_ok-row.ensures.rows in
-    test_exact p.dims p.rows list row c.add_rows.new.self c.in_ok-outcome.outcome e c.in_ok-outcome.ensures.exact
-
-pub returns-clause-within : goal.returns-clause-within
-returns-clause-within c =
-    let p = c.args.self.now in
-    let row = test_row c.args.test.now.kind c.args.test.now.expr in
-    let list = p.rows ++ constraints c.in_ok-row.row in
-    let e : list ≡ p.rows ++ row ∷ [] = ap (λ (l : List Given). p.rows ++ l) c.in_ok-row.ensures.rows in
-    test_within p.dims p.rows list row (Con c.add_rows.new.self.rows) e c.in_ok-outcome.ensures.within
-
-pub returns-clause-strain : goal.returns-clause-strain
-returns-clause-strain c =
-    let p = c.args.self.now in
-    let row = test_row c.args.test.now.kind c.args.test.now.expr in
-    let list = p.rows ++ constraints c.in_ok-row.row in
-    let e : list ≡ p.rows ++ row ∷ [] = ap (λ (l : List Given). p.rows ++ l) c.in_ok-row.ensures.rows in
-    test_strain p list row c.in_ok-outcome.outcome e c.in_ok-outcome.ensures.strain
+    test_becomes p c.add_rows.new.self row list c.in_ok-outcome.outcome e c.in_ok-outcome.ensures.becomes
 
 pub returns-clause-met : goal.returns-clause-met
 returns-clause-met c = λ seen. c.in_ok-outcome.ensures.met (subst (IsSeenWithin c.args.self.now) (sym c.in_ok-row.ensures.rows) seen)

@@ -1,16 +1,18 @@
 -- Goals of `Poly::from_rows`: the polyhedron of the constraints.
-use Rattle.std.proofs.Common.{refl, []}
+use Rattle.std.proofs.Common.{[]}
 use Rattle.lra_linear.specs.Descriptions.{Con}
-use Rattle.lra_linear.specs.OperationStrain.{with_positivity}
+use Rattle.lra_linear.specs.OperationStrain.{FromRowsStrains, with_positivity}
 use Rattle.lra_sys.specs.Listed.{constraints}
 use Rattle.lra_poly.proofs.MetRows.{tried_of}
-use Rattle.lra_poly.proofs.PolyLemmas.{within_same}
+use Rattle.lra_poly.proofs.PolyLemmas.{becomes_told}
 use Rattle.lra_poly.proofs.poly.Poly.from_rows.Goals as goal
 
-pub returns-clause-within : goal.returns-clause-within
-returns-clause-within c =
+pub returns-clause-becomes : goal.returns-clause-becomes
+returns-clause-becomes c =
     let n = c.args.rows.now.dims in
-    within_same n n (Con (constraints c.args.rows.now)) c.in_ok-made.made c.in_ok-pair.pair c.in_ok-made.ensures refl c.in_ok-pair.ensures.within
+    let list = constraints c.args.rows.now in
+    becomes_told n (Con list) (FromRowsStrains n list) c.in_ok-made.made c.in_ok-pair.pair c.outcome_of.result c.in_ok-pair.losses.items c.in_ok-made.ensures c.outcome_of.ensures
+    c.in_ok-pair.ensures.becomes
 
 pub returns-clause-tried : goal.returns-clause-tried
 returns-clause-tried c =
