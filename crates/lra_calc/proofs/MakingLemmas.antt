@@ -4,17 +4,17 @@ use Rattle.std.proofs.Common.{Option, Some, None}
 use Rattle.std.specs.List.{All}
 use Rattle.std.proofs.lemmas.Bool.Decides.{nat_tests}
 use Rattle.std.proofs.lemmas.List.Elements.{All-nil, All-cons}
-use Rattle.lra_linear.specs.Points.{PointSet, IsWithin}
-use Rattle.lra_linear.specs.Descriptions.{Given, Con as points_of}
+use Rattle.lra_linear.specs.Points.{PointSet}
+use Rattle.lra_linear.specs.Descriptions.{Given}
 use Rattle.lra_linear.specs.Formed.{IsFormed}
-use Rattle.lra_linear.specs.Polyhedra.{Polyhedron, IsPolyhedronOf}
+use Rattle.lra_linear.specs.Polyhedra.{Polyhedron}
 use Rattle.lra_linear.specs.Strain.{Loss}
 use Rattle.lra_linear.specs.declared.GenKind.{GenKind}
 use Rattle.lra_linear.specs.declared.GenKind.TheVariants as gen
 use Rattle.lra_linear.specs.Kinds.{is_line}
 use Rattle.lra_sys.specs.Listed.{Listed, given_by, FitsKind, FitKinds}
 use Rattle.lra_script.specs.LineForms as form
-use Rattle.lra_poly.specs.Outcomes.{IfExact, IfFlagged}
+use Rattle.lra_poly.specs.Outcomes.{Becomes}
 use Rattle.lra_poly.specs.declared.outcome.Outcome.{Outcome}
 use Rattle.lra_poly.specs.declared.outcome.Outcome.TheVariants.{Exact, Flagged}
 use Rattle.lra_script.specs.Views.{constraint_of, generator_view, IsDivided}
@@ -125,14 +125,14 @@ pushed_here equal v s t row kind items i x all same rows kinds h e is before =
     ∙ ap (λ (gs : List Given). given_by equal s.rows s.kinds ++ gs) (sym (rest_at v items i x x h e)) ∙ before)
 
 -- ---- a polyhedron, flagged where something was lost
-pub made_of : (n : ℕ) (P : PointSet) (Strains : Loss → Type 0) (p : Polyhedron) (outcome : Outcome) → p.dims ≡ n → IsFormed p → IfExact (IsPolyhedronOf n P p) outcome →
-    IsWithin n P (points_of p.rows) → IfFlagged Strains outcome → IsMadeOf n P Strains (is_flagged outcome) p
-made_of n P Strains p Exact dims fine exact within strain = exact
-made_of n P Strains p (Flagged loss) dims fine exact within strain = record { dimensions = dims; formed = fine; within = within; loss = loss; strains = strain }
+pub made_of : (n : ℕ) (P : PointSet) (Strains : Loss → Type 0) (p : Polyhedron) (outcome : Outcome) → IsFormed p → Becomes n P Strains p outcome →
+    IsMadeOf n P Strains (is_flagged outcome) p
+made_of n P Strains p Exact fine b = b.exact
+made_of n P Strains p (Flagged loss) fine b = record { dimensions = b.dims; formed = fine; within = b.within; loss = loss; strains = b.flagged }
 
 -- as the code tells it
-pub made_as_told : (n : ℕ) (P : PointSet) (Strains : Loss → Type 0) (p q : Polyhedron) (outcome : Outcome) (flagged : Bool) → q ≡ p → flagged ≡ is_flagged outcome → p.dims ≡ n → IsFormed p →
-    IfExact (IsPolyhedronOf n P p) outcome → IsWithin n P (points_of p.rows) → IfFlagged Strains outcome → IsMadeOf n P Strains flagged q
-made_as_told n P Strains p q outcome flagged same tells dims canonical exact within strain =
+pub made_as_told : (n : ℕ) (P : PointSet) (Strains : Loss → Type 0) (p q : Polyhedron) (outcome : Outcome) (flagged : Bool) → q ≡ p → flagged ≡ is_flagged outcome → IsFormed p →
+    Becomes n P Strains p outcome → IsMadeOf n P Strains flagged q
+made_as_told n P Strains p q outcome flagged same tells fine b =
     subst (λ (x : Polyhedron). IsMadeOf n P Strains flagged x) (sym same)
-    (subst (λ (b : Bool). IsMadeOf n P Strains b p) (sym tells) (made_of n P Strains p outcome dims canonical exact within strain))
+    (subst (λ (b : Bool). IsMadeOf n P Strains b p) (sym tells) (made_of n P Strains p outcome fine b))

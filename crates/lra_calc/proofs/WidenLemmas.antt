@@ -1,11 +1,11 @@
 -- What is answered of widenings: the set that is made, with all points where the inclusion is wide, or the generator outside.
 use Rattle.std.proofs.Common.{◌≡◌, ◌∙◌, inl, inr, ℕ, Bool, true, List, [], length, refl, ap, sym, subst, Some, None, Result, Ok, Err}
-use Rattle.lra_linear.specs.Points.{PointSet, IsWithin}
+use Rattle.lra_linear.specs.Points.{PointSet}
 use Rattle.lra_linear.specs.Descriptions.{Given, Con as points_of}
 use Rattle.lra_linear.specs.Formed.{IsFormed}
 use Rattle.lra_linear.specs.Polyhedra.{Polyhedron, IsPolyhedronOf}
 use Rattle.lra_linear.specs.Strain.{Loss}
-use Rattle.lra_poly.specs.Outcomes.{IfExact, IfFlagged}
+use Rattle.lra_poly.specs.Outcomes.{Becomes, IfExact}
 use Rattle.lra_duality.specs.declared.inclusion.Inclusion.TheVariants as inclusion
 use Rattle.lra_poly.specs.declared.outcome.Outcome.{Outcome}
 use Rattle.lra_poly.specs.declared.outcome.Outcome.TheVariants.{Exact, Flagged}
@@ -28,15 +28,15 @@ not_exact Exact h = absurd h
 not_exact (Flagged loss) h = refl
 
 -- a widening that was made, as the code tells it
-pub made_widens : (p q r x : Polyhedron) (P : PointSet) (Strains : Loss → Type 0) (o : Outcome) (flagged : Bool) → x ≡ r → flagged ≡ is_flagged o → r.dims ≡ p.dims → IsFormed r →
-    IfExact (IsPolyhedronOf p.dims P r) o → IsWithin p.dims P (points_of r.rows) → IfFlagged Strains o → LiesOrIsGivenUp p q r o
+pub made_widens : (p q r x : Polyhedron) (P : PointSet) (Strains : Loss → Type 0) (o : Outcome) (flagged : Bool) → x ≡ r → flagged ≡ is_flagged o → IsFormed r →
+    Becomes p.dims P Strains r o → LiesOrIsGivenUp p q r o
     → script.Widens p.dims p q (IsMadeOf p.dims P Strains) (Ok (record { flagged = flagged; polyhedron = x }))
-made_widens p q r x P Strains o flagged same tells dims canonical exact within strain (inl inside) = record {
+made_widens p q r x P Strains o flagged same tells fine b (inl inside) = record {
   answer = inclusion.Yes;
   is_right = inside;
-  gives = made_as_told p.dims P Strains r x o flagged same tells dims canonical exact within strain;
+  gives = made_as_told p.dims P Strains r x o flagged same tells fine b;
 }
-made_widens p q r x P Strains o flagged same tells dims canonical exact within strain (inr g) = record {
+made_widens p q r x P Strains o flagged same tells fine b (inr g) = record {
   answer = inclusion.Wide g.generator g.row;
   is_right = g.wide;
   gives = subst (λ (b : Bool). IsAllFlagged p.dims b x) (sym (tells ∙ not_exact o g.flagged)) (subst (λ (v : Polyhedron). IsPolyhedronOf p.dims (points_of []) v) (sym same) g.all);

@@ -1,14 +1,11 @@
 //! What recipes make: polyhedra, of constraints, of generators or of other polyhedra.
 
-ghost use Rattle.std.specs.Prelude.{◌≡◌, ◌≤◌, ◌<◌, ◌∷◌, suc, length, pos, map, None, IfOk, OnOk, option_map};
+ghost use Rattle.std.specs.Prelude.{◌≡◌, ◌≤◌, ◌<◌, ◌∷◌, suc, length, pos, map, None, IfOk, option_map};
 ghost use Rattle.std.specs.List.{All};
-ghost use Rattle.lra_linear.specs.Descriptions.{Con as points_of};
 ghost use Rattle.lra_linear.specs.Formed.{IsFormed};
-ghost use Rattle.lra_linear.specs.Points.{IsWithin};
-ghost use Rattle.lra_linear.specs.Polyhedra.{IsPolyhedronOf};
 ghost use Rattle.lra_linear.specs.Kinds.{is_line};
 ghost use Rattle.lra_sys.specs.Listed.{constraints as constraints_of, generators as generators_of, FitKinds};
-ghost use Rattle.lra_poly.specs.Outcomes.{IfExact, IfFlagged};
+ghost use Rattle.lra_poly.specs.Outcomes.{Becomes};
 ghost use Rattle.lra_lin.specs.Form.{form_row};
 ghost use Rattle.lra_script.specs.LineForms.{greatest_dims, given_of};
 ghost use Rattle.lra_script.specs.Views.{constraint_of, generator_view, IsDivided};
@@ -212,12 +209,9 @@ pub fn make_of_generators(
 /// The first set becomes what is made of both.
 fn combine_into(how: Combination, set: &mut Poly, other: &Poly) -> Result<Outcome, AllocError>
     requires { other.now.dims ≡ set.old.dims }
-    ensures dims { set.new.dims ≡ set.old.dims }
-    ensures exact { IfOk result (IfExact
-        (IsPolyhedronOf set.old.dims (sets.combined how set.old.dims set.old other.now) set.new)) }
-    ensures within { IfOk result (λ _.
-        IsWithin set.old.dims (sets.combined how set.old.dims set.old other.now) (points_of set.new.rows)) }
-    ensures strain { IfOk result (IfFlagged (sets.CombiningStrains how set.old other.now)) }
+    ensures { IfOk result (Becomes set.old.dims
+        (sets.combined how set.old.dims set.old other.now)
+        (sets.CombiningStrains how set.old other.now) set.new) }
 {
     match how {
         Combination::Meet => set.meet(other),
@@ -242,12 +236,9 @@ pub fn combine(how: Combination, first: &Poly, second: &Poly) -> Result<Made, Al
 fn map_into(how: Mapping, set: &mut Poly, x: usize, form: &LinExpr) -> Result<Outcome, AllocError>
     requires column { x < set.old.dims }
     requires form { length form.now.coefficients ≡ set.old.dims }
-    ensures dims { OnOk result (set.new.dims ≡ set.old.dims) }
-    ensures exact { IfOk result (IfExact (IsPolyhedronOf set.old.dims
-        (sets.mapped how set.old.dims (suc x) (form_row form.now) set.old) set.new)) }
-    ensures within { IfOk result (λ _. IsWithin set.old.dims
-        (sets.mapped how set.old.dims (suc x) (form_row form.now) set.old) (points_of set.new.rows)) }
-    ensures strain { IfOk result (IfFlagged (sets.MappingStrains how (suc x) (form_row form.now) set.old)) }
+    ensures { IfOk result (Becomes set.old.dims
+        (sets.mapped how set.old.dims (suc x) (form_row form.now) set.old)
+        (sets.MappingStrains how (suc x) (form_row form.now) set.old) set.new) }
 {
     match how {
         Mapping::Image => image(set, x, form),

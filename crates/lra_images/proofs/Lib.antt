@@ -1,6 +1,6 @@
-pub mod GivenUp
 pub mod ForgetLemmas
 pub mod AssignedSets
+pub mod GivenUp
 pub mod SolvedImages
 pub mod SubstitutedSets
 pub mod MovedPairs

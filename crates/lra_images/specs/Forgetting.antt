@@ -1,13 +1,15 @@
 -- A coordinate that is given up.
-use Rattle.std.specs.Prelude.{◌⊎◌, ℕ}
+use Rattle.std.specs.Prelude.{◌≡◌, ◌⊎◌, ℕ}
 use Rattle.lra_linear.specs.Descriptions.{Con}
 use Rattle.lra_linear.specs.OperationStrain.{ForgetStrains}
 use Rattle.lra_linear.specs.Points.{IsWithin}
-use Rattle.lra_linear.specs.Polyhedra.{IsPolyhedronOf, Polyhedron}
+use Rattle.lra_linear.specs.Polyhedra.{IsPolyhedron, IsPolyhedronOf, Polyhedron}
 use Rattle.lra_linear.specs.SetOperations.{Forget}
 use Rattle.lra_linear.specs.Strain.{Loss}
 
 -- q has the points of p with anything as coordinate k, and no others unless forgetting that coordinate strains
 pub record IsForgotten (k : ℕ) (p q : Polyhedron) : Type 0 where
+  pub dims : q.dims ≡ p.dims
+  pub canonical : IsPolyhedron q
   pub within : IsWithin p.dims (Forget p.dims k (Con p.rows)) (Con q.rows)
   pub exact : IsPolyhedronOf p.dims (Forget p.dims k (Con p.rows)) q ⊎ ((loss : Loss) × ForgetStrains k p loss)

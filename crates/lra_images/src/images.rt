@@ -3,7 +3,7 @@
 ghost use Rattle.std.specs.Prelude.{◌≡◌, ◌<◌, ◌∷◌, ◌++◌, [], suc, length, None, Some, IfOk, OnErr, OnOk};
 ghost use Rattle.std.specs.Prelude.{pos, negsuc, slice_set, true, IfNone, IfSome};
 ghost use Rattle.lra_linear.specs.Descriptions.{Con, Gen, Holds, line};
-ghost use Rattle.lra_linear.specs.OperationStrain.{ForgetStrains, FromGeneratorsStrains};
+ghost use Rattle.lra_linear.specs.OperationStrain.{ForgetStrains};
 ghost use Rattle.lra_linear.specs.OperationStrain.{ImageStrains, PreimageStrains, unit_row};
 ghost use Rattle.lra_linear.specs.Points.{IsWithin};
 ghost use Rattle.lra_linear.specs.Polyhedra.{IsPolyhedronOf};
@@ -13,7 +13,7 @@ ghost use Rattle.lra_linear.specs.Strain as strain;
 ghost use Rattle.lra_images.specs.Forgetting.{IsForgotten};
 ghost use Rattle.lra_images.specs.FormedPreimages.{IsOfFormed};
 ghost use Rattle.lra_lists.specs.Moving.{StaysBackFor, StaysFor};
-ghost use Rattle.lra_poly.specs.Outcomes.{IfExact, IfFlagged};
+ghost use Rattle.lra_poly.specs.Outcomes.{Becomes, IfFlagged, IsOfGenerators};
 ghost use Rattle.lra_poly.specs.United.{AreTriedPoints};
 ghost use Rattle.lra_duality.specs.Rows.{test_row};
 ghost use Rattle.lra_lin.specs.Form.{form_row};
@@ -32,11 +32,8 @@ use std::alloc::{AllocError, Global};
 fn forget_anew(p: &mut Poly, x: usize) -> Result<Outcome, AllocError>
     requires { x < p.old.dims }
     ensures dims { p.new.dims ≡ p.old.dims }
-    ensures exact { IfOk result (IfExact
-        (IsPolyhedronOf p.old.dims (Forget p.old.dims (suc x) (Con p.old.rows)) p.new)) }
-    ensures within { IfOk result (λ _.
-        IsWithin p.old.dims (Forget p.old.dims (suc x) (Con p.old.rows)) (Con p.new.rows)) }
-    ensures strain { IfOk result (IfFlagged (ForgetStrains (suc x) p.old)) }
+    ensures becomes { IfOk result (Becomes p.old.dims
+        (Forget p.old.dims (suc x) (Con p.old.rows)) (ForgetStrains (suc x) p.old) p.new) }
     ensures tried { IfOk result (λ o. IfFlagged (λ _. AreTriedPoints p.old.dims
         (p.old.generators ++ line (unit_row p.old.dims (suc x)) ∷ []) p.new o) o) }
     ensures unchanged { OnErr result (p.new ≡ p.old) }
@@ -64,11 +61,8 @@ fn extend_along(p: &Poly, x: usize) -> Result<Option<Poly>, AllocError>
 pub fn forget(p: &mut Poly, x: usize) -> Result<Outcome, AllocError>
     requires { x < p.old.dims }
     ensures dims { p.new.dims ≡ p.old.dims }
-    ensures exact { IfOk result (IfExact
-        (IsPolyhedronOf p.old.dims (Forget p.old.dims (suc x) (Con p.old.rows)) p.new)) }
-    ensures within { IfOk result (λ _.
-        IsWithin p.old.dims (Forget p.old.dims (suc x) (Con p.old.rows)) (Con p.new.rows)) }
-    ensures strain { IfOk result (IfFlagged (ForgetStrains (suc x) p.old)) }
+    ensures becomes { IfOk result (Becomes p.old.dims
+        (Forget p.old.dims (suc x) (Con p.old.rows)) (ForgetStrains (suc x) p.old) p.new) }
     ensures tried { IfOk result (λ o. IfFlagged (λ _. AreTriedPoints p.old.dims
         (p.old.generators ++ line (unit_row p.old.dims (suc x)) ∷ []) p.new o) o) }
     ensures unchanged { OnErr result (p.new ≡ p.old) }
@@ -89,8 +83,6 @@ pub fn forget(p: &mut Poly, x: usize) -> Result<Outcome, AllocError>
 fn give_up(p: &mut Poly, x: usize) -> Result<(), AllocError>
     requires { x < p.old.dims }
     ensures dims { p.new.dims ≡ p.old.dims }
-    ensures within { OnOk result
-        (IsWithin p.old.dims (Forget p.old.dims (suc x) (Con p.old.rows)) (Con p.new.rows)) }
     ensures forgotten { OnOk result (IsForgotten (suc x) p.old p.new) }
     ensures unchanged { OnErr result (p.new ≡ p.old) }
 {
@@ -106,9 +98,7 @@ fn replace_or_forget(p: &mut Poly, x: usize, list: &GenSys) -> Result<Outcome, A
     requires kinds { FitKinds list.now.rows list.now.kinds }
     requires within { IsWithin p.old.dims (Gen (generators list.now)) (Forget p.old.dims (suc x) (Con p.old.rows)) }
     ensures dims { p.new.dims ≡ p.old.dims }
-    ensures exact { IfOk result (IfExact (IsPolyhedronOf list.now.dims (Gen (generators list.now)) p.new)) }
-    ensures within { IfOk result (λ _. IsWithin list.now.dims (Gen (generators list.now)) (Con p.new.rows)) }
-    ensures strain { IfOk result (IfFlagged (FromGeneratorsStrains list.now.dims (generators list.now))) }
+    ensures becomes { IfOk result (IsOfGenerators list.now.dims (generators list.now) p.new) }
     ensures forgotten { IfOk result (IfFlagged (λ _. IsForgotten (suc x) p.old p.new)) }
     ensures unchanged { OnErr result (p.new ≡ p.old) }
 {
@@ -200,11 +190,8 @@ fn convert_image(p: &mut Poly, x: usize, form: &Row) -> Result<Outcome, AllocErr
     requires column { x < p.old.dims }
     requires form { length form.now ≡ suc p.old.dims }
     ensures dims { p.new.dims ≡ p.old.dims }
-    ensures exact { IfOk result (IfExact
-        (IsPolyhedronOf p.old.dims (Image p.old.dims (suc x) form.now (Con p.old.rows)) p.new)) }
-    ensures within { IfOk result (λ _.
-        IsWithin p.old.dims (Image p.old.dims (suc x) form.now (Con p.old.rows)) (Con p.new.rows)) }
-    ensures strain { IfOk result (IfFlagged (ImageStrains (suc x) form.now p.old)) }
+    ensures becomes { IfOk result (Becomes p.old.dims
+        (Image p.old.dims (suc x) form.now (Con p.old.rows)) (ImageStrains (suc x) form.now p.old) p.new) }
     ensures forgotten { IfOk result (IfFlagged (λ _. IsForgotten (suc x) p.old p.new)) }
     ensures unchanged { OnErr result (p.new ≡ p.old) }
 {
@@ -227,11 +214,9 @@ pub fn image(p: &mut Poly, x: usize, form: &LinExpr) -> Result<Outcome, AllocErr
     requires column { x < p.old.dims }
     requires form { length form.now.coefficients ≡ p.old.dims }
     ensures dims { p.new.dims ≡ p.old.dims }
-    ensures exact { IfOk result (IfExact
-        (IsPolyhedronOf p.old.dims (Image p.old.dims (suc x) (form_row form.now) (Con p.old.rows)) p.new)) }
-    ensures within { IfOk result (λ _.
-        IsWithin p.old.dims (Image p.old.dims (suc x) (form_row form.now) (Con p.old.rows)) (Con p.new.rows)) }
-    ensures strain { IfOk result (IfFlagged (ImageStrains (suc x) (form_row form.now) p.old)) }
+    ensures becomes { IfOk result (Becomes p.old.dims
+        (Image p.old.dims (suc x) (form_row form.now) (Con p.old.rows))
+        (ImageStrains (suc x) (form_row form.now) p.old) p.new) }
     ensures forgotten { IfOk result (IfFlagged (λ _. IsForgotten (suc x) p.old p.new)) }
     ensures stays { IfOk result (IfFlagged (λ _. StaysFor (suc x) (form_row form.now) p.old)) }
     ensures unchanged { OnErr result (p.new ≡ p.old) }
@@ -264,12 +249,8 @@ fn first_told(lost: Option<Loss>, outcome: Outcome) -> Outcome
 fn convert_preimage(p: &mut Poly, x: usize, form: &Row) -> Result<Outcome, AllocError>
     requires column { x < p.old.dims }
     requires form { length form.now ≡ suc p.old.dims }
-    ensures dims { OnOk result (p.new.dims ≡ p.old.dims) }
-    ensures exact { IfOk result (IfExact
-        (IsPolyhedronOf p.old.dims (Preimage (suc x) form.now (Con p.old.rows)) p.new)) }
-    ensures within { IfOk result (λ _.
-        IsWithin p.old.dims (Preimage (suc x) form.now (Con p.old.rows)) (Con p.new.rows)) }
-    ensures strain { IfOk result (IfFlagged (PreimageStrains (suc x) form.now p.old)) }
+    ensures becomes { IfOk result (Becomes p.old.dims
+        (Preimage (suc x) form.now (Con p.old.rows)) (PreimageStrains (suc x) form.now p.old) p.new) }
     ensures formed { IfOk result (λ _. IsOfFormed (suc x) form.now p.old p.new) }
     ensures unchanged { OnErr result (p.new ≡ p.old) }
 {
@@ -285,12 +266,9 @@ fn convert_preimage(p: &mut Poly, x: usize, form: &Row) -> Result<Outcome, Alloc
 pub fn preimage(p: &mut Poly, x: usize, form: &LinExpr) -> Result<Outcome, AllocError>
     requires column { x < p.old.dims }
     requires form { length form.now.coefficients ≡ p.old.dims }
-    ensures dims { OnOk result (p.new.dims ≡ p.old.dims) }
-    ensures exact { IfOk result (IfExact
-        (IsPolyhedronOf p.old.dims (Preimage (suc x) (form_row form.now) (Con p.old.rows)) p.new)) }
-    ensures within { IfOk result (λ _.
-        IsWithin p.old.dims (Preimage (suc x) (form_row form.now) (Con p.old.rows)) (Con p.new.rows)) }
-    ensures strain { IfOk result (IfFlagged (PreimageStrains (suc x) (form_row form.now) p.old)) }
+    ensures becomes { IfOk result (Becomes p.old.dims
+        (Preimage (suc x) (form_row form.now) (Con p.old.rows))
+        (PreimageStrains (suc x) (form_row form.now) p.old) p.new) }
     ensures stays { IfOk result (IfFlagged (λ _. StaysBackFor (suc x) (form_row form.now) p.old)) }
     ensures formed { IfOk result (IfFlagged (λ _. IsOfFormed (suc x) (form_row form.now) p.old p.new)) }
     ensures unchanged { OnErr result (p.new ≡ p.old) }

@@ -24,7 +24,7 @@ use Rattle.lra_linear.proofs.Signs.{as_nat, divide_nonnegative, positive_is_nonn
 use Rattle.lra_linear.proofs.Lines.{zeros_length}
 use Rattle.lra_linear.proofs.Membership.{map_from}
 use Rattle.lra_descriptions.proofs.SeveralKinds.{system_append}
-use Rattle.lra_poly.specs.Outcomes.{IfExact, IfFlagged}
+use Rattle.lra_poly.specs.Outcomes.{Becomes, IfExact, IfFlagged, IsOfGenerators}
 use Rattle.lra_poly.specs.declared.outcome.Outcome.{Outcome}
 use Rattle.lra_poly.proofs.PolyLemmas.{hull_holds, if_exact, if_flagged, valid_with}
 use Rattle.lra_duality.proofs.PolyhedronLemmas.{rows_width}
@@ -275,7 +275,7 @@ gen_in_elapse p q h k e x i g c width valid =
     ]
 
 -- ---- the operation
-pub elapse_within : (p q r : Polyhedron) (list : List Given) → IsPolyhedron p → IsPolyhedron q → IsPolyhedron r →
+elapse_within : (p q r : Polyhedron) (list : List Given) → IsPolyhedron p → IsPolyhedron q → IsPolyhedron r →
     q.dims ≡ p.dims → r.dims ≡ p.dims →
     list ≡ p.generators ++ as_directions q.generators → IsWithin p.dims (Gen list) (Con r.rows) →
     IsWithin p.dims (TimeElapse p.dims (Con p.rows) (Con q.rows)) (Con r.rows)
@@ -296,7 +296,7 @@ elapse_made p q r h k e a = record {
   );
 }
 
-pub elapse_exact : (p q r : Polyhedron) (list : List Given) (o : Outcome) → HasPoint p → HasPoint q → q.dims ≡ p.dims →
+elapse_exact : (p q r : Polyhedron) (list : List Given) (o : Outcome) → HasPoint p → HasPoint q → q.dims ≡ p.dims →
     list ≡ p.generators ++ as_directions q.generators →
     IfExact (IsPolyhedronOf p.dims (Gen list) r) o → IfExact
     (IsPolyhedronOf p.dims (TimeElapse p.dims (Con p.rows) (Con q.rows)) r) o
@@ -321,11 +321,22 @@ taken_strain p q loss h k e (inr b) = inr (record {
   strains = b.strains;
 })
 
-pub elapse_strain : (p q : Polyhedron) (list : List Given) (o : Outcome) → HasPoint p → HasPoint q → q.dims ≡ p.dims →
+elapse_strain : (p q : Polyhedron) (list : List Given) (o : Outcome) → HasPoint p → HasPoint q → q.dims ≡ p.dims →
     list ≡ p.generators ++ as_directions q.generators →
     IfFlagged (FromGeneratorsStrains p.dims list) o → IfFlagged (TimeElapseStrains p q) o
 elapse_strain p q list o h k e el = if_flagged (FromGeneratorsStrains p.dims list) (TimeElapseStrains p q) o
     (λ loss s. taken_strain p q loss h k e (subst (λ (l : List Given). FromGeneratorsStrains p.dims l loss) el s))
+
+pub elapse_becomes : (p q r : Polyhedron) (list : List Given) (o : Outcome) → HasPoint p → HasPoint q → q.dims ≡ p.dims →
+    list ≡ p.generators ++ as_directions q.generators → IsOfGenerators p.dims list r o →
+    Becomes p.dims (TimeElapse p.dims (Con p.rows) (Con q.rows)) (TimeElapseStrains p q) r o
+elapse_becomes p q r list o h k e el b = record {
+  dims = b.dims;
+  canonical = b.canonical;
+  within = elapse_within p q r list (inr h) (inr k) b.canonical e b.dims el b.within;
+  exact = elapse_exact p q r list o h k e el b.exact;
+  flagged = elapse_strain p q list o h k e el b.flagged;
+}
 
 -- without a point in one of the two there is nothing on the way
 pub elapse_nothing : (n : ℕ) (p q r : Polyhedron) → IsEmptySet n (Con p.rows) ⊎ IsEmptySet n (Con q.rows) →

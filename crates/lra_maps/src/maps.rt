@@ -1,14 +1,13 @@
 //! Changes of the dimensions, and time-elapse.
 
-ghost use Rattle.std.specs.Prelude.{◌≡◌, ◌⊎◌, ◌<◌, ◌≤◌, ◌-◌, ◌+◌, ◌++◌, IfOk, OnErr, OnOk};
-ghost use Rattle.lra_linear.specs.Descriptions.{Con, Gen};
-ghost use Rattle.lra_linear.specs.OperationStrain.{FromGeneratorsStrains, EmbedStrains};
+ghost use Rattle.std.specs.Prelude.{◌≡◌, ◌⊎◌, ◌<◌, ◌≤◌, ◌-◌, ◌+◌, ◌++◌, IfOk, OnErr};
+ghost use Rattle.lra_linear.specs.Descriptions.{Con};
+ghost use Rattle.lra_linear.specs.OperationStrain.{EmbedStrains};
 ghost use Rattle.lra_linear.specs.OperationStrain.{RemoveLastStrains, TimeElapseStrains};
 ghost use Rattle.lra_linear.specs.OperationStrain.{as_directions, embedded, shortened};
-ghost use Rattle.lra_linear.specs.Points.{IsEmptySet, IsWithin};
-ghost use Rattle.lra_linear.specs.Polyhedra.{IsPolyhedron, IsPolyhedronOf};
+ghost use Rattle.lra_linear.specs.Points.{IsEmptySet};
 ghost use Rattle.lra_linear.specs.SetOperations.{Embed, RemoveLast, TimeElapse};
-ghost use Rattle.lra_poly.specs.Outcomes.{IfExact, IfFlagged};
+ghost use Rattle.lra_poly.specs.Outcomes.{Becomes, IfFlagged, IsOfGenerators};
 ghost use Rattle.lra_poly.specs.United.{AreTriedPoints};
 ghost use Rattle.lra_sys.specs.Dimensions.{too_many_dimensions};
 ghost use Rattle.lra_sys.specs.Listed.{generators, FitKinds};
@@ -21,13 +20,9 @@ use std::alloc::AllocError;
 // Becomes the polyhedron of the generators.
 fn replace(p: &mut Poly, list: &GenSys) -> Result<Outcome, AllocError>
     requires { FitKinds list.now.rows list.now.kinds }
-    ensures dims { OnOk result (p.new.dims ≡ list.now.dims) }
-    ensures exact { IfOk result (IfExact (IsPolyhedronOf list.now.dims (Gen (generators list.now)) p.new)) }
-    ensures within { IfOk result (λ _. IsWithin list.now.dims (Gen (generators list.now)) (Con p.new.rows)) }
-    ensures strain { IfOk result (IfFlagged (FromGeneratorsStrains list.now.dims (generators list.now))) }
+    ensures becomes { IfOk result (IsOfGenerators list.now.dims (generators list.now) p.new) }
     ensures tried { IfOk result (λ o. IfFlagged
         (λ _. AreTriedPoints list.now.dims (generators list.now) p.new o) o) }
-    ensures canonical { OnOk result (IsPolyhedron p.new) }
     ensures unchanged { OnErr result (p.new ≡ p.old) }
 {
     let (made, outcome) = Poly::from_generators(p.allocator(), list)?;
@@ -39,12 +34,8 @@ fn replace(p: &mut Poly, list: &GenSys) -> Result<Outcome, AllocError>
 /// flagged it has at least those.
 pub fn remove_last(p: &mut Poly, k: usize) -> Result<Outcome, AllocError>
     requires { k ≤ p.old.dims }
-    ensures dims { OnOk result (p.new.dims ≡ p.old.dims - k) }
-    ensures exact { IfOk result (IfExact
-        (IsPolyhedronOf (p.old.dims - k) (RemoveLast (p.old.dims - k) k (Con p.old.rows)) p.new)) }
-    ensures within { IfOk result (λ _.
-        IsWithin (p.old.dims - k) (RemoveLast (p.old.dims - k) k (Con p.old.rows)) (Con p.new.rows)) }
-    ensures strain { IfOk result (IfFlagged (RemoveLastStrains k p.old)) }
+    ensures becomes { IfOk result (Becomes (p.old.dims - k)
+        (RemoveLast (p.old.dims - k) k (Con p.old.rows)) (RemoveLastStrains k p.old) p.new) }
     ensures tried { IfOk result (λ o. IfFlagged
         (λ _. AreTriedPoints (p.old.dims - k) (shortened (p.old.dims - k) p.old.generators) p.new o) o) }
     ensures unchanged { OnErr result (p.new ≡ p.old) }
@@ -58,12 +49,8 @@ pub fn remove_last(p: &mut Poly, k: usize) -> Result<Outcome, AllocError>
 /// coordinates behind them. Where it is flagged it has at least those.
 pub fn embed(p: &mut Poly, k: usize) -> Result<Outcome, AllocError>
     requires { p.old.dims + k < too_many_dimensions }
-    ensures dims { OnOk result (p.new.dims ≡ p.old.dims + k) }
-    ensures exact { IfOk result (IfExact
-        (IsPolyhedronOf (p.old.dims + k) (Embed p.old.dims (Con p.old.rows)) p.new)) }
-    ensures within { IfOk result (λ _.
-        IsWithin (p.old.dims + k) (Embed p.old.dims (Con p.old.rows)) (Con p.new.rows)) }
-    ensures strain { IfOk result (IfFlagged (EmbedStrains k p.old)) }
+    ensures becomes { IfOk result (Becomes (p.old.dims + k)
+        (Embed p.old.dims (Con p.old.rows)) (EmbedStrains k p.old) p.new) }
     ensures tried { IfOk result (λ o. IfFlagged
         (λ _. AreTriedPoints (p.old.dims + k) (embedded k p.old) p.new o) o) }
     ensures unchanged { OnErr result (p.new ≡ p.old) }
@@ -78,12 +65,9 @@ fn elapse_anew(p: &mut Poly, other: &Poly) -> Result<Outcome, AllocError>
     requires dims { other.now.dims ≡ p.old.dims }
     requires first { ¬ (IsEmptySet p.old.dims (Con p.old.rows)) }
     requires second { ¬ (IsEmptySet other.now.dims (Con other.now.rows)) }
-    ensures dims { OnOk result (p.new.dims ≡ p.old.dims) }
-    ensures exact { IfOk result (IfExact (IsPolyhedronOf p.old.dims
-        (TimeElapse p.old.dims (Con p.old.rows) (Con other.now.rows)) p.new)) }
-    ensures within { IfOk result (λ _. IsWithin p.old.dims
-        (TimeElapse p.old.dims (Con p.old.rows) (Con other.now.rows)) (Con p.new.rows)) }
-    ensures strain { IfOk result (IfFlagged (TimeElapseStrains p.old other.now)) }
+    ensures becomes { IfOk result (Becomes p.old.dims
+        (TimeElapse p.old.dims (Con p.old.rows) (Con other.now.rows))
+        (TimeElapseStrains p.old other.now) p.new) }
     ensures tried { IfOk result (λ o. IfFlagged (λ _. AreTriedPoints p.old.dims
         (p.old.generators ++ as_directions other.now.generators) p.new o) o) }
     ensures unchanged { OnErr result (p.new ≡ p.old) }
@@ -98,12 +82,9 @@ fn elapse(p: &mut Poly, other: &Poly) -> Result<Outcome, AllocError>
     requires dims { other.now.dims ≡ p.old.dims }
     requires first { ¬ (IsEmptySet p.old.dims (Con p.old.rows)) }
     requires second { ¬ (IsEmptySet other.now.dims (Con other.now.rows)) }
-    ensures dims { OnOk result (p.new.dims ≡ p.old.dims) }
-    ensures exact { IfOk result (IfExact (IsPolyhedronOf p.old.dims
-        (TimeElapse p.old.dims (Con p.old.rows) (Con other.now.rows)) p.new)) }
-    ensures within { IfOk result (λ _. IsWithin p.old.dims
-        (TimeElapse p.old.dims (Con p.old.rows) (Con other.now.rows)) (Con p.new.rows)) }
-    ensures strain { IfOk result (IfFlagged (TimeElapseStrains p.old other.now)) }
+    ensures becomes { IfOk result (Becomes p.old.dims
+        (TimeElapse p.old.dims (Con p.old.rows) (Con other.now.rows))
+        (TimeElapseStrains p.old other.now) p.new) }
     ensures tried { IfOk result (λ o. IfFlagged (λ _. AreTriedPoints p.old.dims
         (p.old.generators ++ as_directions other.now.generators) p.new o) o) }
     ensures unchanged { OnErr result (p.new ≡ p.old) }
@@ -127,12 +108,9 @@ fn elapse(p: &mut Poly, other: &Poly) -> Result<Outcome, AllocError>
 /// is never flagged.
 pub fn time_elapse(p: &mut Poly, other: &Poly) -> Result<Outcome, AllocError>
     requires { other.now.dims ≡ p.old.dims }
-    ensures dims { OnOk result (p.new.dims ≡ p.old.dims) }
-    ensures exact { IfOk result (IfExact (IsPolyhedronOf p.old.dims
-        (TimeElapse p.old.dims (Con p.old.rows) (Con other.now.rows)) p.new)) }
-    ensures within { IfOk result (λ _. IsWithin p.old.dims
-        (TimeElapse p.old.dims (Con p.old.rows) (Con other.now.rows)) (Con p.new.rows)) }
-    ensures strain { IfOk result (IfFlagged (TimeElapseStrains p.old other.now)) }
+    ensures becomes { IfOk result (Becomes p.old.dims
+        (TimeElapse p.old.dims (Con p.old.rows) (Con other.now.rows))
+        (TimeElapseStrains p.old other.now) p.new) }
     ensures tried { IfOk result (λ o. IfFlagged (λ _. AreTriedPoints p.old.dims
         (p.old.generators ++ as_directions other.now.generators) p.new o) o) }
     ensures empty { IsEmptySet p.old.dims (Con p.old.rows) ⊎ IsEmptySet other.now.dims (Con other.now.rows) →

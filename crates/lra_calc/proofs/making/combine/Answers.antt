@@ -7,9 +7,6 @@ pub returns-clause-made : goal.returns-clause-made
 returns-clause-made c =
     let p = c.args.first.now in
     let q = c.args.second.now in
-    let exact = rw c.in_ok-set.ensures at c.in_ok-outcome.ensures.exact in
-    let within = rw c.in_ok-set.ensures at c.in_ok-outcome.ensures.within in
-    let strain = rw c.in_ok-set.ensures at c.in_ok-outcome.ensures.strain in
-    let dims = rw c.in_ok-set.ensures at c.in_ok-outcome.ensures.dims in
+    let becomes = rw c.in_ok-set.ensures at c.in_ok-outcome.ensures in
     made_as_told p.dims (combined c.args.how p.dims p q) (CombiningStrains c.args.how p q) c.combine_into.new.set c.make_with.result.polyhedron c.in_ok-outcome.outcome c.make_with.result.is_flagged
-    c.make_with.ensures.polyhedron c.make_with.ensures.flagged dims c.make_with.ensures.formed exact within strain
+    c.make_with.ensures.polyhedron c.make_with.ensures.flagged c.make_with.ensures.formed becomes

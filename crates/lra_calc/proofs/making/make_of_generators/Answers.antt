@@ -12,9 +12,6 @@ returns-clause-made c =
     let n = c.args.n in
     let given = map given_of (map generator_view c.args.generators.now) in
     let made = c.in_ok-generators.ensures.made ∙ map_map given_of generator_view c.args.generators.now in
-    let exact = rw (c.in_ok-generators.ensures.dims, made) at c.in_ok-polyhedron.ensures.exact in
-    let within = rw (c.in_ok-generators.ensures.dims, made) at c.in_ok-polyhedron.ensures.within in
-    let strain = rw (c.in_ok-generators.ensures.dims, made) at c.in_ok-polyhedron.ensures.strain in
-    let dims = rw c.in_ok-generators.ensures.dims at c.in_ok-polyhedron.ensures.dims in
+    let becomes = rw (c.in_ok-generators.ensures.dims, made) at c.in_ok-polyhedron.ensures.becomes in
     made_as_told n (generated_by given) (FromGeneratorsStrains n given) c.in_ok-polyhedron.polyhedron c.make_with.result.polyhedron c.in_ok-polyhedron.outcome c.make_with.result.is_flagged
-    c.make_with.ensures.polyhedron c.make_with.ensures.flagged dims c.make_with.ensures.formed exact within strain
+    c.make_with.ensures.polyhedron c.make_with.ensures.flagged c.make_with.ensures.formed becomes

@@ -10,9 +10,6 @@ pub returns-clause-made : goal.returns-clause-made
 returns-clause-made c =
     let n = c.args.n in
     let given = map constraint_of c.args.rows.now in
-    let exact = rw (c.in_ok-constraints.ensures.dims, c.in_ok-constraints.ensures.made) at c.in_ok-polyhedron.ensures.exact in
-    let within = rw (c.in_ok-constraints.ensures.dims, c.in_ok-constraints.ensures.made) at c.in_ok-polyhedron.ensures.within in
-    let strain = rw (c.in_ok-constraints.ensures.dims, c.in_ok-constraints.ensures.made) at c.in_ok-polyhedron.ensures.strain in
-    let dims = rw c.in_ok-constraints.ensures.dims at c.in_ok-polyhedron.ensures.dims in
+    let becomes = rw (c.in_ok-constraints.ensures.dims, c.in_ok-constraints.ensures.made) at c.in_ok-polyhedron.ensures.becomes in
     made_as_told n (points_of given) (FromRowsStrains n given) c.in_ok-polyhedron.polyhedron c.make_with.result.polyhedron c.in_ok-polyhedron.outcome c.make_with.result.is_flagged
-    c.make_with.ensures.polyhedron c.make_with.ensures.flagged dims c.make_with.ensures.formed exact within strain
+    c.make_with.ensures.polyhedron c.make_with.ensures.flagged c.make_with.ensures.formed becomes

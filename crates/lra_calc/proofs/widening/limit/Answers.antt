@@ -19,7 +19,7 @@ returns-in-Ok-clause-gives c =
     let given = constraints c.in_ok-given.given in
     subst (λ (gs : List Given). Widens p.dims p q (IsLimited p.dims gs p q) (Ok (made_of c.make_with.result))) c.in_ok-given.ensures.made
     (made_widens p q c.in-Ok.polyhedron c.make_with.result.polyhedron (Limited p q given) (LimitedStrains p q given) c.in-Ok.outcome c.make_with.result.is_flagged c.make_with.ensures.polyhedron
-    c.make_with.ensures.flagged c.in-Ok.ensures.dims c.make_with.ensures.formed c.in-Ok.ensures.exact c.in-Ok.ensures.within c.in-Ok.ensures.strain c.in-Ok.ensures.known)
+    c.make_with.ensures.flagged c.make_with.ensures.formed c.in-Ok.ensures.becomes c.in-Ok.ensures.known)
 
 pub tell_outside-requires-clause-placed : goal.tell_outside-requires-clause-placed
 tell_outside-requires-clause-placed c = refusal_placed c.args.first.now c.args.second.now c.in-Err.error c.in-Err.ensures.refused

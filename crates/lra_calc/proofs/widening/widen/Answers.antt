@@ -10,7 +10,7 @@ returns-in-Ok-clause-gives c =
     let p = c.args.first.now in
     let q = c.args.second.now in
     made_widens p q c.in-Ok.polyhedron c.make_with.result.polyhedron (Standard p q) (StandardStrains p q) c.in-Ok.outcome c.make_with.result.is_flagged c.make_with.ensures.polyhedron
-    c.make_with.ensures.flagged c.in-Ok.ensures.dims c.make_with.ensures.formed c.in-Ok.ensures.exact c.in-Ok.ensures.within c.in-Ok.ensures.strain c.in-Ok.ensures.known
+    c.make_with.ensures.flagged c.make_with.ensures.formed c.in-Ok.ensures.becomes c.in-Ok.ensures.known
 
 pub tell_outside-requires-clause-placed : goal.tell_outside-requires-clause-placed
 tell_outside-requires-clause-placed c = refusal_placed c.args.first.now c.args.second.now c.in-Err.error c.in-Err.ensures.refused

@@ -5,5 +5,4 @@ use Rattle.lra_images.proofs.images.give_up.Goals as goal
 
 pub returns-clause-forgotten : goal.returns-clause-forgotten
 returns-clause-forgotten c =
-    is_forgotten (suc c.args.x) c.args.p.now c.forget.new.p c.in_ok-_outcome._outcome c.in_ok-_outcome.ensures.within
-    c.in_ok-_outcome.ensures.exact c.in_ok-_outcome.ensures.strain
+    is_forgotten (suc c.args.x) c.args.p.now c.forget.new.p c.in_ok-_outcome._outcome c.in_ok-_outcome.ensures.becomes

@@ -2,10 +2,10 @@
 use Rattle.std.proofs.Common.{suc, subst, List, ℤ}
 use Rattle.lra_linear.specs.Descriptions.{Con}
 use Rattle.lra_linear.specs.OperationStrain.{ImageStrains}
-use Rattle.lra_linear.specs.Points.{IsWithin}
-use Rattle.lra_linear.specs.Polyhedra.{IsPolyhedronOf}
 use Rattle.lra_linear.specs.SetOperations.{Image}
-use Rattle.lra_poly.specs.Outcomes.{IfExact, IfFlagged}
+use Rattle.lra_lin.specs.Form.{form_row}
+use Rattle.lra_poly.specs.Outcomes.{Becomes}
+use Rattle.lra_poly.proofs.PolyLemmas.{exactly}
 use Rattle.lra_images.proofs.BackImages.{row_width}
 use Rattle.lra_images.proofs.KeptLists.{flagged_since}
 use Rattle.lra_images.proofs.images.image.Goals as goal
@@ -14,22 +14,20 @@ pub convert_image-requires-clause-form : goal.convert_image-requires-clause-form
 convert_image-requires-clause-form c =
     row_width c.args.form.now c.in_ok-row.row c.args.p.now.dims c.in_ok-row.ensures c.requires.form
 
-pub returns-clause-exact : goal.returns-clause-exact
-returns-clause-exact c =
+pub returns-in-Some-clause-becomes : goal.returns-in-Some-clause-becomes
+returns-in-Some-clause-becomes c =
     let p = c.args.p.now in
-    subst (λ (f : List ℤ). IfExact (IsPolyhedronOf p.dims (Image p.dims (suc c.args.x) f (Con p.rows)) c.convert_image.new.p)
-    c.in_ok-outcome-in-None.outcome) c.in_ok-row.ensures c.in_ok-outcome-in-None.ensures.exact
+    let k = suc c.args.x in
+    let form = form_row c.args.form.now in
+    let made = rw c.in-Some.is at c.in_ok-made.ensures.image in
+    exactly p.dims (Image p.dims k form (Con p.rows)) (ImageStrains k form p) c.in-Some.made made
 
-pub returns-clause-within : goal.returns-clause-within
-returns-clause-within c =
+pub returns-clause-becomes : goal.returns-clause-becomes
+returns-clause-becomes c =
     let p = c.args.p.now in
-    subst (λ (f : List ℤ). IsWithin p.dims (Image p.dims (suc c.args.x) f (Con p.rows)) (Con c.convert_image.new.p.rows))
-    c.in_ok-row.ensures c.in_ok-outcome-in-None.ensures.within
-
-pub returns-clause-strain : goal.returns-clause-strain
-returns-clause-strain c =
-    subst (λ (f : List ℤ). IfFlagged (ImageStrains (suc c.args.x) f c.args.p.now) c.in_ok-outcome-in-None.outcome)
-    c.in_ok-row.ensures c.in_ok-outcome-in-None.ensures.strain
+    let k = suc c.args.x in
+    subst (λ (f : List ℤ). Becomes p.dims (Image p.dims k f (Con p.rows)) (ImageStrains k f p) c.convert_image.new.p c.in_ok-outcome-in-None.outcome)
+    c.in_ok-row.ensures c.in_ok-outcome-in-None.ensures.becomes
 
 pub returns-clause-stays : goal.returns-clause-stays
 returns-clause-stays c =

@@ -1,26 +1,28 @@
 -- Goals of `replace_or_forget`: becomes the polyhedron of generators that give no more than what some value of the
 -- coordinate x brings into it; where that is flagged, the coordinate x is forgotten.
-use Rattle.std.proofs.Common.{rules, suc, sym, subst, ℕ}
-use Rattle.lra_linear.specs.Descriptions.{Con, Gen}
-use Rattle.lra_linear.specs.Points.{IsPoint, IsWithin}
+use Rattle.std.proofs.Common.{refl, rules, suc, sym, subst}
 use Rattle.lra_linear.specs.Polyhedra.{Polyhedron}
 use Rattle.lra_linear.specs.Strain.{Loss}
 use Rattle.lra_sys.specs.Listed.{generators}
+use Rattle.lra_poly.specs.Outcomes.{IsOfGenerators}
+use Rattle.lra_poly.proofs.MetRows.{never}
 use Rattle.lra_images.specs.Forgetting.{IsForgotten}
-use Rattle.lra_images.proofs.GivenUp.{flagged_anyway, not_flagged}
+use Rattle.lra_images.proofs.GivenUp.{flagged_anyway, forgotten_instead, not_flagged}
 use Rattle.lra_images.proofs.images.replace_or_forget.Goals as goal
 use Rattle.lra_images.proofs.images.replace_or_forget.Goals.{then-is_exact, else-is_exact+in_ok-give_up}
 
-pub returns-clause-within : goal.returns-clause-within
-returns-clause-within c =
-    let given = Gen (generators c.args.list.now) in
+pub returns-clause-becomes : goal.returns-clause-becomes
+returns-clause-becomes c =
+    let list = c.args.list.now in
+    let o = c.in_ok-made.outcome in
+    let made = c.in_ok-made.ensures.becomes in
     elim c.if-is_exact.branch [
-      | then-is_exact w ↦ subst (λ (q : Polyhedron). IsWithin c.args.list.now.dims given (Con q.rows)) (sym w.p-is)
-          c.in_ok-made.ensures.within
+      | then-is_exact w ↦ subst (λ (q : Polyhedron). IsOfGenerators list.dims (generators list) q o) (sym w.p-is) made
       | else-is_exact+in_ok-give_up w ↦
-          subst (λ (q : Polyhedron). IsWithin c.args.list.now.dims given (Con q.rows)) (sym w.p-is)
-          (λ x i g. let is_point = subst (λ (d : ℕ). IsPoint d x) c.requires.dims i in
-          w.in_ok-give_up.ensures.within x is_point (c.requires.within x is_point g))
+          subst (λ (q : Polyhedron). IsOfGenerators list.dims (generators list) q o) (sym w.p-is)
+          (forgotten_instead (suc c.args.x) c.args.p.now c.in_ok-made.made _ list o
+          (λ e. never _ refl (w.if-is_exact.ensures.1 e)) c.requires.dims
+          c.requires.within w.in_ok-give_up.ensures.forgotten made)
     ]
 
 pub returns-clause-forgotten : goal.returns-clause-forgotten

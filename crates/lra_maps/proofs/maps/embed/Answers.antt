@@ -1,40 +1,21 @@
 -- Goals of `embed`: adds k dimensions, the last ones, in which the coordinates may be anything.
 use Rattle.std.proofs.Common.{◌+◌}
 use Rattle.lra_linear.specs.Descriptions.{Con}
-use Rattle.lra_linear.specs.OperationStrain.{embedded}
+use Rattle.lra_linear.specs.OperationStrain.{EmbedStrains, embedded}
 use Rattle.lra_linear.specs.SetOperations.{Embed}
 use Rattle.lra_maps.proofs.EmbeddedSets.{embed_takes}
-use Rattle.lra_poly.proofs.TakenGenerators.{taken_exact, taken_flagged, taken_within}
+use Rattle.lra_poly.proofs.TakenGenerators.{taken_becomes}
 use Rattle.lra_poly.proofs.UnitedLists.{tried_as}
 use Rattle.lra_maps.proofs.maps.embed.Goals as goal
 
-pub returns-clause-exact : goal.returns-clause-exact
-returns-clause-exact c =
+pub returns-clause-becomes : goal.returns-clause-becomes
+returns-clause-becomes c =
     let p = c.args.p.now in
     let k = c.args.k in
-    taken_exact (p.dims + k) (Embed p.dims (Con p.rows))
-    (embedded k p) c.in_ok-list.list c.replace.new.p c.in_ok-outcome.outcome
+    taken_becomes (p.dims + k) (Embed p.dims (Con p.rows)) (embedded k p) c.in_ok-list.list (EmbedStrains k p) c.replace.new.p c.in_ok-outcome.outcome
     (embed_takes p c.generators.result.now c.in_ok-list.list k c.generators.ensures.canonical c.generators.ensures.dims
     c.generators.ensures.generators c.in_ok-list.ensures.dims
-    c.in_ok-list.ensures.generators) c.in_ok-outcome.ensures.exact
-
-pub returns-clause-within : goal.returns-clause-within
-returns-clause-within c =
-    let p = c.args.p.now in
-    let k = c.args.k in
-    taken_within (p.dims + k) (Embed p.dims (Con p.rows)) (embedded k p) c.in_ok-list.list (Con c.replace.new.p.rows)
-    (embed_takes p c.generators.result.now c.in_ok-list.list k c.generators.ensures.canonical c.generators.ensures.dims
-    c.generators.ensures.generators c.in_ok-list.ensures.dims
-    c.in_ok-list.ensures.generators) c.in_ok-outcome.ensures.within
-
-pub returns-clause-strain : goal.returns-clause-strain
-returns-clause-strain c =
-    let p = c.args.p.now in
-    let k = c.args.k in
-    taken_flagged (p.dims + k) (Embed p.dims (Con p.rows)) (embedded k p) c.in_ok-list.list c.in_ok-outcome.outcome
-    (embed_takes p c.generators.result.now c.in_ok-list.list k c.generators.ensures.canonical c.generators.ensures.dims
-    c.generators.ensures.generators c.in_ok-list.ensures.dims
-    c.in_ok-list.ensures.generators) c.in_ok-outcome.ensures.strain
+    c.in_ok-list.ensures.generators) (λ loss s. s) c.in_ok-outcome.ensures.becomes
 
 pub returns-clause-tried : goal.returns-clause-tried
 returns-clause-tried c =
