@@ -4,7 +4,7 @@ use Rattle.std.specs.Prelude.{◌≤ℤ◌, slice_set, int_lt}
 use Rattle.std.proofs.lemmas.Int.{ints, clamps}
 use Rattle.std.specs.Int.{int_min, int_max}
 use Rattle.lra_domain.specs.declared.Mode.{Mode}
-use Rattle.lra_domain.specs.declared.Mode.TheVariants.{Join, Widen, Limited}
+use Rattle.lra_domain.specs.declared.Mode.TheVariants.{Join, Widen, Limited, Tightest}
 use Rattle.lra_domain.specs.Rank.{RankFits}
 use Rattle.lra_domain.specs.Bounds.{AtMost, finite, greater, stable, lesser_low}
 use Rattle.lra_box.specs.declared.interval.Interval.{Interval}
@@ -77,6 +77,7 @@ pub grown_fit : (mode : Mode) (n : ℕ) (a b : Option (List Interval)) → Bound
 grown_fit Join n a b f g = joined_fit n a b f g
 grown_fit Widen n a b f g = widened_fit n a _ f (joined_fit n a b f g)
 grown_fit Limited n a b f g = widened_fit n a _ f (joined_fit n a b f g)
+grown_fit Tightest n a b f g = widened_fit n a _ f (joined_fit n a b f g)
 
 pub has_joined_left : (n : ℕ) (a b : Option (List Interval)) (s : List ℤ) → BoundsFit n a → BoundsFit n b → has_bounds a s → has_bounds (joined_bounds a b) s
 has_joined_left n None b s f g h = absurd h
@@ -102,11 +103,13 @@ pub has_grown_old : (mode : Mode) (n : ℕ) (a b : Option (List Interval)) (s : 
 has_grown_old Join n a b s f g h = has_joined_left n a b s f g h
 has_grown_old Widen n a b s f g h = has_widened_old n a _ s f (joined_fit n a b f g) h
 has_grown_old Limited n a b s f g h = has_widened_old n a _ s f (joined_fit n a b f g) h
+has_grown_old Tightest n a b s f g h = has_widened_old n a _ s f (joined_fit n a b f g) h
 
 pub has_grown_new : (mode : Mode) (n : ℕ) (a b : Option (List Interval)) (s : List ℤ) → BoundsFit n a → BoundsFit n b → has_bounds b s → has_bounds (grown_bounds mode a b) s
 has_grown_new Join n a b s f g h = has_joined_right n a b s f g h
 has_grown_new Widen n a b s f g h = has_widened_new n a _ s f (joined_fit n a b f g) (has_joined_right n a b s f g h)
 has_grown_new Limited n a b s f g h = has_widened_new n a _ s f (joined_fit n a b f g) (has_joined_right n a b s f g h)
+has_grown_new Tightest n a b s f g h = has_widened_new n a _ s f (joined_fit n a b f g) (has_joined_right n a b s f g h)
 
 finite_few : (o : Option ℤ) → finite o ≤ 1
 finite_few None = omega arith
@@ -175,6 +178,7 @@ pub grown_falls : (mode : Mode) (n : ℕ) (a b : Option (List Interval)) → mod
 grown_falls Join n a b m f g w = absurd (m refl)
 grown_falls Widen n a b m f g w = wide_falls n a b f g w
 grown_falls Limited n a b m f g w = wide_falls n a b f g w
+grown_falls Tightest n a b m f g w = wide_falls n a b f g w
 
 some_injective : {A : Type 0} (a b : A) → Some a ≡ Some b → a ≡ b
 some_injective a b e = cc

@@ -5,7 +5,7 @@ use Rattle.std.specs.declared.alloc.Global.{Global}
 use Rattle.std.proofs.lemmas.Int.{ints, clamps}
 use Rattle.lra_linear.specs.Range.{InRange}
 use Rattle.lra_domain.specs.declared.Mode.{Mode}
-use Rattle.lra_domain.specs.declared.Mode.TheVariants.{Join, Widen, Limited}
+use Rattle.lra_domain.specs.declared.Mode.TheVariants.{Join, Widen, Limited, Tightest}
 use Rattle.lra_domain.specs.Bounds.{greater, stable, lesser_low}
 use Rattle.lra_box.specs.declared.interval.Interval.{Interval}
 use Rattle.lra_box.specs.declared.interval.Side.TheVariants.{Low, High}
@@ -128,6 +128,7 @@ pub grown_sound : (mode : Mode) (a b : Option (List Interval)) → BoundsSound a
 grown_sound Join a b h k = joined_sound a b h k
 grown_sound Widen a b h k = widened_sound a _ h (joined_sound a b h k)
 grown_sound Limited a b h k = widened_sound a _ h (joined_sound a b h k)
+grown_sound Tightest a b h k = widened_sound a _ h (joined_sound a b h k)
 
 -- the bounds are absent exactly where there is no store
 pub none_stores : (b : Option (Vec Interval Global)) (answer : Bool) → is_some b ≡ not answer → BoundsSound (seen b) → IsTrue answer ↔ ((s : List ℤ) → ¬ has_bounds (seen b) s)

@@ -4,7 +4,7 @@ use Rattle.std.specs.Prelude.{Option, None, Some, ◌⊎◌}
 use Rattle.lra_lin.specs.Form.{Form}
 use Rattle.lra_domain.specs.Actions.{Action, assign, forget, test, embed, remove_last}
 use Rattle.lra_domain.specs.declared.Mode.{Mode}
-use Rattle.lra_domain.specs.declared.Mode.TheVariants.{Join, Widen, Limited}
+use Rattle.lra_domain.specs.declared.Mode.TheVariants.{Join, Widen, Limited, Tightest}
 use Rattle.lra_domain.specs.declared.Rank.{Rank}
 use Rattle.lra_domain.specs.Bounds.{AtMost, finite, greater, lesser_low, stable}
 use Rattle.lra_box.specs.declared.interval.Interval.{Interval}
@@ -93,6 +93,7 @@ abbrev pub grown_bounds : Mode → Option (List Interval) → Option (List Inter
 grown_bounds Join a b = joined_bounds a b
 grown_bounds Widen a b = widened_bounds a (joined_bounds a b)
 grown_bounds Limited a b = widened_bounds a (joined_bounds a b)
+grown_bounds Tightest a b = widened_bounds a (joined_bounds a b)
 
 -- the defined result of a change
 abbrev pub stepped : Action → Content → Content

@@ -252,7 +252,7 @@ pub fn grow_bounds(
     let joined = join_bounds(alloc, one, two)?;
     match mode {
         Mode::Join => Ok(joined),
-        Mode::Widen | Mode::Limited => widen_bounds(alloc, one, &joined),
+        Mode::Widen | Mode::Limited | Mode::Tightest => widen_bounds(alloc, one, &joined),
     }
 }
 

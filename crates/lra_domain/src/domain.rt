@@ -57,7 +57,7 @@ use std::alloc::{AllocError, Global};
 /// `given_up` allows; or with `No`, where the join or the widening strains. Which given rows are `left` is told of each
 /// growth, flagged or not.
 ///
-/// **Ranks.** After `Grew` in mode `Widen` or `Limited` the rank is lower than before, also when flagged: this is why
+/// **Ranks.** After `Grew` in another mode than `Join` the rank is lower than before, also when flagged: this is why
 /// an iteration ends. Each number of a rank is below 2^62, so that two ranks can be added, with carries.
 ///
 /// **Parts.** `parts` gives what rows tell of the value: at each store all rows of some part hold; each row has one

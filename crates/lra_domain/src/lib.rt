@@ -27,12 +27,13 @@ pub enum Included {
     Wide,
 }
 
-/// How a head grows: by joins, by widening, or by widening limited to the given rows.
+/// How a head grows: by joins, by widening, by widening limited by the given rows, or by the tightest of them alone.
 #[derive(Clone, Copy, Debug, PartialEq, Eq)]
 pub enum Mode {
     Join,
     Widen,
     Limited,
+    Tightest,
 }
 
 /// What growing a head did.

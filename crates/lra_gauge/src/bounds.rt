@@ -57,6 +57,6 @@ pub fn grow_bounds(mode: Mode, one: u8, two: u8) -> (u8, Exactness)
 {
     match mode {
         Mode::Join => join_bounds(one, two),
-        Mode::Widen | Mode::Limited => (UNBOUNDED, Exactness::Exact),
+        Mode::Widen | Mode::Limited | Mode::Tightest => (UNBOUNDED, Exactness::Exact),
     }
 }

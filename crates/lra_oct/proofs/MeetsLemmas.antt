@@ -4,7 +4,7 @@ use Rattle.lra_domain.specs.Actions.{forget, embed, remove_last}
 use Rattle.lra_domain.specs.Meaning.{Meets, Joins, Grew, Values}
 use Rattle.lra_domain.specs.Rank.{RankBelow, RankFits}
 use Rattle.lra_domain.specs.declared.Mode.{Mode}
-use Rattle.lra_domain.specs.declared.Mode.TheVariants.{Join, Widen, Limited}
+use Rattle.lra_domain.specs.declared.Mode.TheVariants.{Join, Widen, Limited, Tightest}
 use Rattle.lra_domain.specs.declared.Exactness.{Exactness}
 use Rattle.lra_domain.specs.declared.Exactness.TheVariants.{Exact, Flagged}
 use Rattle.lra_domain.specs.Bounds.{greater}
@@ -103,6 +103,7 @@ pub grown_fit : (mode : Mode) (n : ℕ) (a b : Option Cells) → CellsFit n a �
 grown_fit Join n a b f g = joined_fit n a b f g
 grown_fit Widen n a b f g = widened_fit n a b f g
 grown_fit Limited n a b f g = widened_fit n a b f g
+grown_fit Tightest n a b f g = widened_fit n a b f g
 
 old_bounds : (n : ℕ) (a b : Option Cells) → CellsFit n a → CellsFit n b → BoundsWithin a (widened_cells a b)
 old_bounds n None b f g = tt
@@ -118,11 +119,13 @@ pub grown_old : (mode : Mode) (n : ℕ) (a b : Option Cells) → CellsFit n a �
 grown_old Join n a b f g = left_bounds n a b f g
 grown_old Widen n a b f g = old_bounds n a b f g
 grown_old Limited n a b f g = old_bounds n a b f g
+grown_old Tightest n a b f g = old_bounds n a b f g
 
 pub grown_new : (mode : Mode) (n : ℕ) (a b : Option Cells) → CellsFit n a → CellsFit n b → BoundsWithin b (grown_cells mode a b)
 grown_new Join n a b f g = right_bounds n a b f g
 grown_new Widen n a b f g = new_bounds n a b f g
 grown_new Limited n a b f g = new_bounds n a b f g
+grown_new Tightest n a b f g = new_bounds n a b f g
 
 -- ---- ranks
 
@@ -151,6 +154,7 @@ pub grown_falls : (mode : Mode) (n : ℕ) (a b : Option Cells) → mode ≢ Join
 grown_falls Join n a b m f g w = absurd (m refl)
 grown_falls Widen n a b m f g w = wide_falls n a b f g w
 grown_falls Limited n a b m f g w = wide_falls n a b f g w
+grown_falls Tightest n a b m f g w = wide_falls n a b f g w
 
 -- ---- values
 

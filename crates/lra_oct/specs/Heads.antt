@@ -1,7 +1,7 @@
 -- Joins, heads and ranks of octagons.
 use Rattle.std.specs.Prelude.{◌≡◌, ℕ, ◌+◌, Option, None, Some}
 use Rattle.lra_domain.specs.declared.Mode.{Mode}
-use Rattle.lra_domain.specs.declared.Mode.TheVariants.{Join, Widen, Limited}
+use Rattle.lra_domain.specs.declared.Mode.TheVariants.{Join, Widen, Limited, Tightest}
 use Rattle.lra_domain.specs.declared.Rank.{Rank}
 use Rattle.lra_domain.specs.declared.Included.{Included}
 use Rattle.lra_domain.specs.declared.Included.TheVariants.{Yes, No, Wide}
@@ -27,6 +27,7 @@ abbrev pub grown_cells : Mode → Option Cells → Option Cells → Option Cells
 grown_cells Join a b = joined_cells a b
 grown_cells Widen a b = widened_cells a b
 grown_cells Limited a b = widened_cells a b
+grown_cells Tightest a b = widened_cells a b
 
 -- how many of the kept entries are finite; an empty head has one more than the most there can be
 abbrev pub rank_number : ℕ → Option Cells → ℕ

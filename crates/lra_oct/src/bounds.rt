@@ -158,7 +158,7 @@ pub fn grow_bounds(
 {
     match mode {
         Mode::Join => join_bounds(alloc, n, one, two),
-        Mode::Widen | Mode::Limited => widen_bounds(alloc, n, one, two),
+        Mode::Widen | Mode::Limited | Mode::Tightest => widen_bounds(alloc, n, one, two),
     }
 }
 
