@@ -8,11 +8,11 @@ use Rattle.lra_lin.specs.Form.{Form, form_row, form_value}
 use Rattle.lra_linear.specs.Descriptions.{Con}
 use Rattle.lra_linear.specs.Formed.{IsFormed}
 use Rattle.lra_linear.specs.OperationStrain.{AddTestStrains, MeetStrains, PreimageStrains}
-use Rattle.lra_linear.specs.Points.{IsPoint, IsWithin}
+use Rattle.lra_linear.specs.Points.{IsPoint}
 use Rattle.lra_linear.specs.Polyhedra.{IsPolyhedronOf, Polyhedron}
 use Rattle.lra_linear.specs.SetOperations.{Meet, Preimage}
 use Rattle.lra_linear.specs.declared.ConKind.{ConKind}
-use Rattle.lra_poly.specs.Outcomes.{IfExact, IfFlagged}
+use Rattle.lra_poly.specs.Outcomes.{Becomes}
 use Rattle.lra_duality.specs.Rows.{test_row}
 use Rattle.lra_poly.specs.declared.outcome.Outcome.{Outcome}
 use Rattle.lra_polydom.specs.Content.{PolyhedronHas}
@@ -34,50 +34,48 @@ assigned_back x e p s t long has l = subst (Con p.rows)
 as_long : (x : ℕ) (e : Form) (s t : List ℤ) (n : ℕ) → Leads (assign x e) s t → length t ≡ n → length s ≡ n
 as_long x e s t n l long = sym (length-set {A = ℤ} s x (form_value e s)) ∙ sym (ap length l) ∙ long
 
-pub undoes_assignment : (x : ℕ) (e : Form) (p r : Polyhedron) (o : Outcome) → IsFormed r → r.dims ≡ p.dims →
-    IfExact (IsPolyhedronOf p.dims (Preimage (suc x) (form_row e) (Con p.rows)) r) o →
-    IsWithin p.dims (Preimage (suc x) (form_row e) (Con p.rows)) (Con r.rows) → IfFlagged (PreimageStrains (suc x) (form_row e) p) o →
+pub undoes_assignment : (x : ℕ) (e : Form) (p r : Polyhedron) (o : Outcome) → IsFormed r →
+    Becomes p.dims (Preimage (suc x) (form_row e) (Con p.rows)) (PreimageStrains (suc x) (form_row e) p) r o →
     GoesBack polyhedron_meaning polyhedron_retracing (assign x e) p (exactness_of o) r
-undoes_assignment x e p r o fine d exact within strain = record {
+undoes_assignment x e p r o fine b = record {
   formed = fine;
   stores = λ s t has l.
       let long = as_long x e s t p.dims l has.0 in
-      (long ∙ sym d, within (pos 1 ∷ s) (store_point p.dims s long) (assigned_back x e p s t long has l));
-  covers = λ q is. covered_from q r is.canonical (is.dimensions ∙ sym d) (λ y i c.
+      (long ∙ sym b.dims, b.within (pos 1 ∷ s) (store_point p.dims s long) (assigned_back x e p s t long has l));
+  covers = λ q is. covered_from q r is.canonical (is.dimensions ∙ sym b.dims) (λ y i c.
       let at : IsPoint p.dims y = subst (λ (n : ℕ). IsPoint n y) is.dimensions i in
-      within y at (is.points.1 y at c));
-  exact = λ f. of_exact (IsUndone (assign x e) p r) o exact f;
-  flagged = λ f. of_flagged (UndoStrains (assign x e) p) o strain f;
+      b.within y at (is.points.1 y at c));
+  exact = λ f. of_exact (IsUndone (assign x e) p r) o b.exact f;
+  flagged = λ f. of_flagged (UndoStrains (assign x e) p) o b.flagged f;
 }
 
 -- a store that passes and is in P behind the test was there before it
 pub undoes_test : (kind : ConKind) (e : Form) (p r : Polyhedron) (o : Outcome) → length e.coefficients ≡ p.dims → IsFormed r →
-    r.dims ≡ p.dims → IfExact (IsUndone (test kind e) p r) o → IsWithin p.dims (reached (test kind e) p) (Con r.rows) →
-    IfFlagged (AddTestStrains p (test_row kind e)) o → GoesBack polyhedron_meaning polyhedron_retracing (test kind e) p (exactness_of o) r
-undoes_test kind e p r o width fine d exact within strain = record {
+    Becomes p.dims (reached (test kind e) p) (AddTestStrains p (test_row kind e)) r o →
+    GoesBack polyhedron_meaning polyhedron_retracing (test kind e) p (exactness_of o) r
+undoes_test kind e p r o width fine b = record {
   formed = fine;
   stores = λ s t has l.
       let same : s ≡ t = sym l.1 in
       let here : PolyhedronHas p s = subst (PolyhedronHas p) (sym same) has in
       let i = leads_reach (test kind e) p s t width here l in
-      subst (PolyhedronHas r) (sym same) (i.0 ∙ sym d, within (pos 1 ∷ t) (store_point p.dims t i.0) i.1);
-  covers = λ q is. covered_from q r is.canonical (is.dimensions ∙ sym d) (λ y i c.
+      subst (PolyhedronHas r) (sym same) (i.0 ∙ sym b.dims, b.within (pos 1 ∷ t) (store_point p.dims t i.0) i.1);
+  covers = λ q is. covered_from q r is.canonical (is.dimensions ∙ sym b.dims) (λ y i c.
       let at : IsPoint p.dims y = subst (λ (n : ℕ). IsPoint n y) is.dimensions i in
-      within y at (is.points.1 y at c));
-  exact = λ f. of_exact (IsUndone (test kind e) p r) o exact f;
-  flagged = λ f. of_flagged (UndoStrains (test kind e) p) o strain f;
+      b.within y at (is.points.1 y at c));
+  exact = λ f. of_exact (IsUndone (test kind e) p r) o b.exact f;
+  flagged = λ f. of_flagged (UndoStrains (test kind e) p) o b.flagged f;
 }
 
-pub meets_both : (p q r : Polyhedron) (o : Outcome) → IsFormed r → r.dims ≡ p.dims →
-    IfExact (IsPolyhedronOf p.dims (Meet (Con p.rows) (Con q.rows)) r) o →
-    IsWithin p.dims (Meet (Con p.rows) (Con q.rows)) (Con r.rows) → IfFlagged (MeetStrains p q) o →
+pub meets_both : (p q r : Polyhedron) (o : Outcome) → IsFormed r →
+    Becomes p.dims (Meet (Con p.rows) (Con q.rows)) (MeetStrains p q) r o →
     MeetsBoth polyhedron_meaning polyhedron_retracing p q (exactness_of o) r
-meets_both p q r o fine d exact within strain = record {
+meets_both p q r o fine b = record {
   formed = fine;
-  stores = λ s a b. (a.0 ∙ sym d, within (pos 1 ∷ s) (store_point p.dims s a.0) (a.1, b.1));
-  covers = λ j is. covered_from j r is.canonical (is.dimensions ∙ sym d) (λ y i c.
+  stores = λ s one two. (one.0 ∙ sym b.dims, b.within (pos 1 ∷ s) (store_point p.dims s one.0) (one.1, two.1));
+  covers = λ j is. covered_from j r is.canonical (is.dimensions ∙ sym b.dims) (λ y i c.
       let at : IsPoint p.dims y = subst (λ (n : ℕ). IsPoint n y) is.dimensions i in
-      within y at (is.points.1 y at c));
-  exact = λ f. of_exact (IsPolyhedronOf p.dims (Meet (Con p.rows) (Con q.rows)) r) o exact f;
-  flagged = λ f. of_flagged (MeetStrains p q) o strain f;
+      b.within y at (is.points.1 y at c));
+  exact = λ f. of_exact (IsPolyhedronOf p.dims (Meet (Con p.rows) (Con q.rows)) r) o b.exact f;
+  flagged = λ f. of_flagged (MeetStrains p q) o b.flagged f;
 }

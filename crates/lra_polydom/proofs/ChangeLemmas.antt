@@ -7,7 +7,7 @@ use Rattle.lra_linear.specs.Formed.{IsFormed}
 use Rattle.lra_linear.specs.OperationStrain.{HullStrains}
 use Rattle.lra_linear.specs.Points.{IsPoint, IsWithin}
 use Rattle.lra_linear.specs.Polyhedra.{IsPolyhedron, Polyhedron}
-use Rattle.lra_poly.specs.Outcomes.{IfExact, IfFlagged}
+use Rattle.lra_poly.specs.Outcomes.{Becomes}
 use Rattle.lra_poly.specs.declared.outcome.Outcome.{Outcome}
 use Rattle.lra_polydom.specs.Covering.{covered_from}
 use Rattle.lra_polydom.specs.Growth.{exactness_of}
@@ -16,16 +16,16 @@ use Rattle.lra_polydom.specs.Sets.{ChangeStrains, IsChanged, IsJoin, hull_of, re
 use Rattle.lra_polydom.proofs.OutcomeLemmas.{of_exact, of_flagged}
 
 -- ---- what the operations give
-pub changes : (step : Action) (p r : Polyhedron) (o : Outcome) → ActionFits step p.dims → IsFormed r → r.dims ≡ dims_after step p.dims → IfExact (IsChanged step p r) o →
-    IsWithin (dims_after step p.dims) (reached step p) (Con r.rows) → IfFlagged (ChangeStrains step p) o → Meets polyhedron_meaning step p (exactness_of o) r
-changes step p r o fits fine d exact within strain = record {
+pub changes : (step : Action) (p r : Polyhedron) (o : Outcome) → ActionFits step p.dims → IsFormed r →
+    Becomes (dims_after step p.dims) (reached step p) (ChangeStrains step p) r o → Meets polyhedron_meaning step p (exactness_of o) r
+changes step p r o fits fine b = record {
   formed = fine;
-  keeps = record { fits = fits; dims = d; within = within };
-  covers = λ q is. covered_from q r is.canonical (is.dimensions ∙ sym d) (λ x i c.
+  keeps = record { fits = fits; dims = b.dims; within = b.within };
+  covers = λ q is. covered_from q r is.canonical (is.dimensions ∙ sym b.dims) (λ x i c.
       let at : IsPoint (dims_after step p.dims) x = subst (λ (n : ℕ). IsPoint n x) is.dimensions i in
-      within x at (is.points.1 x at c));
-  exact = λ e. of_exact (IsChanged step p r) o exact e;
-  flagged = λ e. of_flagged (ChangeStrains step p) o strain e;
+      b.within x at (is.points.1 x at c));
+  exact = λ e. of_exact (IsChanged step p r) o b.exact e;
+  flagged = λ e. of_flagged (ChangeStrains step p) o b.flagged e;
 }
 
 -- a point of either is in their hull
@@ -35,17 +35,17 @@ left_in_hull p q x i c form width valid = valid x i (inl c)
 pub right_in_hull : (p q : Polyhedron) → IsWithin p.dims (Con q.rows) (hull_of p q)
 right_in_hull p q x i c form width valid = valid x i (inr c)
 
-pub joins : (p q r : Polyhedron) (o : Outcome) → IsPolyhedron p → IsPolyhedron q → IsFormed r → q.dims ≡ p.dims → r.dims ≡ p.dims → IfExact (IsJoin p q r) o →
-    IsWithin p.dims (hull_of p q) (Con r.rows) → IfFlagged (HullStrains p q) o → Joins polyhedron_meaning p q (exactness_of o) r
-joins p q r o hp hq fine dq d exact within strain = record {
+pub joins : (p q r : Polyhedron) (o : Outcome) → IsPolyhedron p → IsPolyhedron q → IsFormed r → q.dims ≡ p.dims →
+    Becomes p.dims (hull_of p q) (HullStrains p q) r o → Joins polyhedron_meaning p q (exactness_of o) r
+joins p q r o hp hq fine dq b = record {
   formed = fine;
-  left = covered_from p r hp (sym d) (λ x i c. within x i (left_in_hull p q x i c));
-  right = covered_from q r hq (dq ∙ sym d) (λ x i c.
+  left = covered_from p r hp (sym b.dims) (λ x i c. b.within x i (left_in_hull p q x i c));
+  right = covered_from q r hq (dq ∙ sym b.dims) (λ x i c.
       let at : IsPoint p.dims x = subst (λ (n : ℕ). IsPoint n x) dq i in
-      within x at (right_in_hull p q x at c));
-  covers = λ j is. covered_from j r is.canonical (is.dimensions ∙ sym d) (λ x i c.
+      b.within x at (right_in_hull p q x at c));
+  covers = λ j is. covered_from j r is.canonical (is.dimensions ∙ sym b.dims) (λ x i c.
       let at : IsPoint p.dims x = subst (λ (n : ℕ). IsPoint n x) is.dimensions i in
-      within x at (is.points.1 x at c));
-  exact = λ e. of_exact (IsJoin p q r) o exact e;
-  flagged = λ e. of_flagged (HullStrains p q) o strain e;
+      b.within x at (is.points.1 x at c));
+  exact = λ e. of_exact (IsJoin p q r) o b.exact e;
+  flagged = λ e. of_flagged (HullStrains p q) o b.flagged e;
 }

@@ -14,14 +14,14 @@ use Rattle.lra_domain.specs.declared.Mode.TheVariants as how
 use Rattle.lra_linear.specs.declared.Excess as E
 use Rattle.lra_linear.specs.declared.Cause.TheVariants.{Excess}
 use Rattle.lra_linear.specs.Descriptions.{Con, Given}
-use Rattle.lra_linear.specs.OperationStrain.{HullStrains, InclusionStrains, LimitedStrains, ProductsPass, StandardStrains}
+use Rattle.lra_linear.specs.OperationStrain.{HullStrains, InclusionStrains, ProductsPass, WideningPasses, valid_on}
 use Rattle.lra_linear.specs.Points.{IsPoint, IsWithin}
 use Rattle.lra_linear.specs.Polyhedra.{IsPolyhedron, IsPolyhedronOf, Polyhedron}
 use Rattle.lra_linear.specs.Strain.{Loss}
 use Rattle.lra_linear.specs.Widening.{Limited, Standard, StandardFrom}
 use Rattle.lra_linear.proofs.Descriptions.{con_none}
 use Rattle.lra_linear.proofs.Polyhedra.{polyhedron_unique}
-use Rattle.lra_poly.specs.Outcomes.{IfExact, IfFlagged}
+use Rattle.lra_poly.specs.Outcomes.{Becomes}
 use Rattle.lra_duality.specs.declared.inclusion.Inclusion.TheVariants as inclusion
 use Rattle.lra_poly.specs.declared.outcome.Outcome.{Outcome}
 use Rattle.lra_duality.proofs.InclusionLemmas.{inclusion_tells}
@@ -31,8 +31,8 @@ use Rattle.lra_widen.specs.declared.error.WidenError.{WidenError}
 use Rattle.lra_widen.specs.declared.error.WidenError.TheVariants.{NotIncluded}
 use Rattle.lra_polydom.specs.Content.{Covered, HeadContent, IsHeadFormed}
 use Rattle.lra_polydom.specs.Covering.{covered_from}
-use Rattle.lra_polydom.specs.Growth.{HasGrown, IsJoined, IsStruck, IsWidening, StrikePasses, exactness_of, head, some_passes}
-use Rattle.lra_polydom.specs.Heads.{GrowthStrains, IsGrown, IsLeft, given_left, grown_set, head_rank}
+use Rattle.lra_polydom.specs.Growth.{HasGrown, IsJoined, IsStruck, IsWidening, StrikePasses, exactness_of, head, some_passes, takes_given}
+use Rattle.lra_polydom.specs.Heads.{GrowthStrains, IsGrown, IsLeft, WideningStrains, given_left, grown_set, head_rank}
 use Rattle.lra_polydom.specs.Meaning.{polyhedron_meaning}
 use Rattle.lra_polydom.specs.Sets.{IsJoin, hull_of}
 use Rattle.lra_polydom.proofs.ChangeLemmas.{left_in_hull, right_in_hull}
@@ -41,14 +41,13 @@ use Rattle.lra_polydom.proofs.StrikeLemmas.{kept_valid, some_product}
 use Rattle.lra_polydom.proofs.UniverseLemmas.{all_no_row, up_falls}
 
 -- ---- joins
-pub is_joined : (p next q : Polyhedron) (o : Outcome) → q.dims ≡ p.dims → IsPolyhedron q → IfExact (IsJoin p next q) o → IsWithin p.dims (hull_of p next) (Con q.rows) →
-    IfFlagged (HullStrains p next) o → IsJoined p next q (exactness_of o)
-is_joined p next q o d canonical exact within strain = record {
-  dims = d;
-  canonical = canonical;
-  within = within;
-  exact = λ e. of_exact (IsJoin p next q) o exact e;
-  flagged = λ e. of_flagged (HullStrains p next) o strain e;
+pub is_joined : (p next q : Polyhedron) (o : Outcome) → Becomes p.dims (hull_of p next) (HullStrains p next) q o → IsJoined p next q (exactness_of o)
+is_joined p next q o b = record {
+  dims = b.dims;
+  canonical = b.canonical;
+  within = b.within;
+  exact = λ e. of_exact (IsJoin p next q) o b.exact e;
+  flagged = λ e. of_flagged (HullStrains p next) o b.flagged e;
 }
 
 pub old_in_join : (p next q : Polyhedron) (e : Exactness) → IsJoined p next q e → IsWithin p.dims (Con p.rows) (Con q.rows)
@@ -87,29 +86,15 @@ never_outside p q place h w o = inclusion_tells p q (inclusion.No place) h o w
 pub never_refused : (p q : Polyhedron) (e : WidenError) (place : ℕ) → IsPolyhedron p → IsWithin p.dims (Con p.rows) (Con q.rows) → e ≡ NotIncluded place → IsRefusal p q e → ⊥
 never_refused p q e place h w is r = never_outside p q place h w (subst (IsRefusal p q) is r)
 
-pub is_standard : (p q r : Polyhedron) (given : List Given) (o : Outcome) → r.dims ≡ p.dims → IsPolyhedron r → IfExact (IsPolyhedronOf p.dims (Standard p q) r) o →
-    IsWithin p.dims (Standard p q) (Con r.rows) → IsWithin p.dims (Con p.rows) (Con r.rows) → IfFlagged (StandardStrains p q) o → (r ≢ p → Falls p r given) →
-    IsWidening how.Widen p q given r (exactness_of o)
-is_standard p q r given o d canonical exact within old strain falls = record {
-  dims = d;
-  canonical = canonical;
-  within = within;
+pub is_widening : (mode : Mode) (p q r : Polyhedron) (given : List Given) (o : Outcome) → Becomes p.dims (grown_set mode p q given) (λ loss. WideningStrains mode p q given loss) r o →
+    IsWithin p.dims (Con p.rows) (Con r.rows) → (r ≢ p → Falls p r given) → IsWidening mode p q given r (exactness_of o)
+is_widening mode p q r given o b old falls = record {
+  dims = b.dims;
+  canonical = b.canonical;
+  within = b.within;
   old = old;
-  exact = λ e. of_exact (IsPolyhedronOf p.dims (Standard p q) r) o exact e;
-  flagged = λ e. of_flagged (StandardStrains p q) o strain e;
-  falls = falls;
-}
-
-pub is_limited : (p q r : Polyhedron) (given : List Given) (o : Outcome) → r.dims ≡ p.dims → IsPolyhedron r → IfExact (IsPolyhedronOf p.dims (Limited p q given) r) o →
-    IsWithin p.dims (Limited p q given) (Con r.rows) → IsWithin p.dims (Con p.rows) (Con r.rows) → IfFlagged (LimitedStrains p q given) o → (r ≢ p → Falls p r given) →
-    IsWidening how.Limited p q given r (exactness_of o)
-is_limited p q r given o d canonical exact within old strain falls = record {
-  dims = d;
-  canonical = canonical;
-  within = within;
-  old = old;
-  exact = λ e. of_exact (IsPolyhedronOf p.dims (Limited p q given) r) o exact e;
-  flagged = λ e. of_flagged (LimitedStrains p q given) o strain e;
+  exact = λ e. of_exact (IsPolyhedronOf p.dims (grown_set mode p q given) r) o b.exact e;
+  flagged = λ e. of_flagged (λ loss. WideningStrains mode p q given loss) o b.flagged e;
   falls = falls;
 }
 
@@ -126,43 +111,56 @@ not_true : (b : Bool) → ¬ (IsTrue b) → b ≡ false
 not_true true h = absurd (h refl)
 not_true false h = refl
 
+left_valid : (p r : Polyhedron) (given : List Given) → ¬ (IsTrue (some_passes p.generators given || some_passes r.generators given)) → kept p r given ≡ valid_on p r given
+left_valid p r given none =
+    let n = or_parts (some_passes p.generators given) (some_passes r.generators given) (not_true (some_passes p.generators given || some_passes r.generators given) none) in
+    kept_valid p r given n.0 n.1
+
 -- where none of them flags, the rows that are kept are those that the definition leaves
 left_is : (mode : Mode) (p r : Polyhedron) (given : List Given) → mode ≢ how.Join → ¬ StrikePasses mode p r given → kept p r given ≡ given_left mode p r given
 left_is how.Join p r given other none = absurd (other refl)
 left_is how.Widen p r given other none = refl
-left_is how.Limited p r given other none =
-    let n = or_parts (some_passes p.generators given) (some_passes r.generators given) (not_true (some_passes p.generators given || some_passes r.generators given) none) in
-    kept_valid p r given n.0 n.1
+left_is how.Limited p r given other none = left_valid p r given none
+left_is how.Tightest p r given other none = left_valid p r given none
 
 -- what the code finds
-pub struck_other : (e : Exactness) (mode : Mode) (p r : Polyhedron) (given : List Given) → mode ≢ how.Limited → IsStruck e mode p r given e
+pub struck_other : (e : Exactness) (mode : Mode) (p r : Polyhedron) (given : List Given) → takes_given mode ≡ false → IsStruck e mode p r given e
 struck_other degree.Flagged mode p r given other = inl refl
 struck_other degree.Exact how.Join p r given other = (refl, λ t. t)
 struck_other degree.Exact how.Widen p r given other = (refl, λ t. t)
-struck_other degree.Exact how.Limited p r given other = absurd (other refl)
+struck_other degree.Exact how.Limited p r given other = let wrong : ⊥ = cc in absurd wrong
+struck_other degree.Exact how.Tightest p r given other = let wrong : ⊥ = cc in absurd wrong
 
-pub struck_first : (e : Exactness) (mode : Mode) (p r : Polyhedron) (given : List Given) → mode ≡ how.Limited → some_passes p.generators given ≡ true → IsStruck e mode p r given degree.Flagged
+pub struck_first : (e : Exactness) (mode : Mode) (p r : Polyhedron) (given : List Given) → takes_given mode ≡ true → some_passes p.generators given ≡ true → IsStruck e mode p r given degree.Flagged
 struck_first e how.Limited p r given is t = inr (rw t refl)
+struck_first e how.Tightest p r given is t = inr (rw t refl)
 struck_first e how.Join p r given is t = let wrong : ⊥ = cc in absurd wrong
 struck_first e how.Widen p r given is t = let wrong : ⊥ = cc in absurd wrong
 
-pub struck_second : (e : Exactness) (mode : Mode) (p r : Polyhedron) (given : List Given) → mode ≡ how.Limited → some_passes r.generators given ≡ true → IsStruck e mode p r given degree.Flagged
+pub struck_second : (e : Exactness) (mode : Mode) (p r : Polyhedron) (given : List Given) → takes_given mode ≡ true → some_passes r.generators given ≡ true → IsStruck e mode p r given degree.Flagged
 struck_second e how.Limited p r given is t = inr (or_true (some_passes p.generators given) (some_passes r.generators given) t)
+struck_second e how.Tightest p r given is t = inr (or_true (some_passes p.generators given) (some_passes r.generators given) t)
 struck_second e how.Join p r given is t = let wrong : ⊥ = cc in absurd wrong
 struck_second e how.Widen p r given is t = let wrong : ⊥ = cc in absurd wrong
+
+none_struck : (p r : Polyhedron) (given : List Given) → some_passes p.generators given ≡ false → some_passes r.generators given ≡ false →
+    ¬ (IsTrue (some_passes p.generators given || some_passes r.generators given))
+none_struck p r given f g t = false≢true (sym (both_false (some_passes p.generators given) (some_passes r.generators given) f g) ∙ t)
 
 pub struck_none : (e : Exactness) (mode : Mode) (p r : Polyhedron) (given : List Given) → some_passes p.generators given ≡ false → some_passes r.generators given ≡ false → IsStruck e mode p r given e
 struck_none degree.Flagged mode p r given f g = inl refl
 struck_none degree.Exact how.Join p r given f g = (refl, λ t. t)
 struck_none degree.Exact how.Widen p r given f g = (refl, λ t. t)
-struck_none degree.Exact how.Limited p r given f g = (refl, λ t. false≢true (sym (both_false (some_passes p.generators given) (some_passes r.generators given) f g) ∙ t))
+struck_none degree.Exact how.Limited p r given f g = (refl, none_struck p r given f g)
+struck_none degree.Exact how.Tightest p r given f g = (refl, none_struck p r given f g)
 
 -- the loss of a given row in such a product
 abbrev loss_of : Given → E.Excess → Loss
 loss_of r e = record { chosen = []; further = r; cause = Excess e }
 
-strike_strains : (p q r : Polyhedron) (given : List Given) → IsPolyhedronOf p.dims (Limited p q given) r → StrikePasses how.Limited p r given → (loss : Loss) × LimitedStrains p q given loss
-strike_strains p q r given is t = by_value (some_passes p.generators given) (some_passes r.generators given) refl refl t
+strike_passes : (p q r : Polyhedron) (given : List Given) → IsPolyhedronOf p.dims (Limited p q given) r → IsTrue (some_passes p.generators given || some_passes r.generators given)
+    → (loss : Loss) × WideningPasses p q given (Limited p q given) loss
+strike_passes p q r given is t = by_value (some_passes p.generators given) (some_passes r.generators given) refl refl t
   where
     with_row : (generators : List Given) (e : E.Excess) → ProductsPass given generators e → ProductsPass (q.rows ++ given) generators e
     with_row generators e x = record {
@@ -173,11 +171,11 @@ strike_strains p q r given is t = by_value (some_passes p.generators given) (som
       passes = x.passes;
     }
 
-    by_value : (a b : Bool) → some_passes p.generators given ≡ a → some_passes r.generators given ≡ b → IsTrue (a || b) → (loss : Loss) × LimitedStrains p q given loss
+    by_value : (a b : Bool) → some_passes p.generators given ≡ a → some_passes r.generators given ≡ b → IsTrue (a || b) → (loss : Loss) × WideningPasses p q given (Limited p q given) loss
     by_value true b e f t =
         let x = some_product p.generators given e in (
           loss_of x.1.row x.0,
-          inr (record {
+          record {
             excess = x.0;
             is_cause = refl;
             generators = p.generators;
@@ -185,12 +183,12 @@ strike_strains p q r given is t = by_value (some_passes p.generators given) (som
             passes = with_row p.generators x.0 x.1;
             is_further = refl;
             nothing = refl;
-          }),
+          },
         )
     by_value false true e f t =
         let x = some_product r.generators given f in (
           loss_of x.1.row x.0,
-          inr (record {
+          record {
             excess = x.0;
             is_cause = refl;
             generators = r.generators;
@@ -198,9 +196,16 @@ strike_strains p q r given is t = by_value (some_passes p.generators given) (som
             passes = with_row r.generators x.0 x.1;
             is_further = refl;
             nothing = refl;
-          }),
+          },
         )
     by_value false false e f t = let wrong : ⊥ = cc in absurd wrong
+
+strike_strains : (mode : Mode) (p q r : Polyhedron) (given : List Given) → IsPolyhedronOf p.dims (grown_set mode p q given) r → StrikePasses mode p r given
+    → (loss : Loss) × WideningStrains mode p q given loss
+strike_strains how.Join p q r given is t = absurd t
+strike_strains how.Widen p q r given is t = absurd t
+strike_strains how.Limited p q r given is t = let x = strike_passes p q r given is t in (x.0, inr x.1)
+strike_strains how.Tightest p q r given is t = let x = strike_passes p q r given is t in (x.0, inr x.1)
 
 -- ---- a growth by widening with the defined join
 struck_exact : (before after : Exactness) (mode : Mode) (p r : Polyhedron) (given : List Given) → IsStruck before mode p r given after → after ≡ degree.Exact →
@@ -217,12 +222,10 @@ widening_flagged : (mode : Mode) (p next q r : Polyhedron) (given : List Given) 
     (before ≡ degree.Flagged) ⊎ StrikePasses mode p r given → GrowthStrains (head p given) next mode
 widening_flagged mode p next q r given before other is w (inl f) =
     let l = w.flagged f in inr (record { join = q; is_join = is; loss = l.0; strains = l.1 })
-widening_flagged how.Join p next q r given before other is w (inr t) = absurd (other refl)
-widening_flagged how.Widen p next q r given before other is w (inr t) = absurd t
-widening_flagged how.Limited p next q r given degree.Flagged other is w (inr t) =
+widening_flagged mode p next q r given degree.Flagged other is w (inr t) =
     let l = w.flagged refl in inr (record { join = q; is_join = is; loss = l.0; strains = l.1 })
-widening_flagged how.Limited p next q r given degree.Exact other is w (inr t) =
-    let l = strike_strains p q r given (w.exact refl) t in inr (record { join = q; is_join = is; loss = l.0; strains = l.1 })
+widening_flagged mode p next q r given degree.Exact other is w (inr t) =
+    let l = strike_strains mode p q r given (w.exact refl) t in inr (record { join = q; is_join = is; loss = l.0; strains = l.1 })
 
 -- the join lies in its widening
 join_in_standard : (p q : Polyhedron) (x : List ℤ) → Con q.rows x → Standard p q x
@@ -232,10 +235,14 @@ join_in_standard p q x c = by_generators p.generators
     by_generators [] = c
     by_generators (g ∷ generators) = λ r k t. c r k
 
+join_in_limited : (p q : Polyhedron) (given : List Given) → q.dims ≡ p.dims → IsWithin p.dims (Con q.rows) (Limited p q given)
+join_in_limited p q given d x i c = (join_in_standard p q x c, λ g k valid also. also x (subst (λ (n : ℕ). IsPoint n x) (sym d) i) c)
+
 join_in_set : (mode : Mode) (p q : Polyhedron) (given : List Given) → q.dims ≡ p.dims → IsWithin p.dims (Con q.rows) (grown_set mode p q given)
 join_in_set how.Join p q given d x i c = c
 join_in_set how.Widen p q given d x i c = join_in_standard p q x c
-join_in_set how.Limited p q given d x i c = (join_in_standard p q x c, λ g k valid also. also x (subst (λ (n : ℕ). IsPoint n x) (sym d) i) c)
+join_in_set how.Limited p q given d x i c = join_in_limited p q given d x i c
+join_in_set how.Tightest p q given d x i c = join_in_limited p q given d x i c
 
 below_by_left : (p r : Polyhedron) (given left : List Given) → left ≡ kept p r given → Falls p r given → IsBelow (rank_of r left) (rank_of p given)
 below_by_left p r given left e f = subst (λ l. IsBelow (rank_of r l) (rank_of p given)) (sym e) f
@@ -244,6 +251,7 @@ left_kept : (mode : Mode) (h new : HeadContent) → mode ≢ how.Join → new.gi
 left_kept how.Join h new other e = absurd (other refl)
 left_kept how.Widen h new other e = e
 left_kept how.Limited h new other e = e
+left_kept how.Tightest h new other e = e
 
 pub grown_by_widening : (mode : Mode) (p next q r : Polyhedron) (given left : List Given) (joining before after : Exactness) → mode ≢ how.Join → IsJoined p next q joining → joining ≡ degree.Exact →
     IsWidening mode p q given r before → left ≡ kept p r given → IsStruck before mode p r given after → HasGrown (head p given) next mode (head r left) after
@@ -331,6 +339,7 @@ pub left_up : (mode : Mode) (h new : HeadContent) → IsPolyhedronOf h.value.dim
 left_up how.Join h new is e = inr (record { all = is; left = e })
 left_up how.Widen h new is e = e
 left_up how.Limited h new is e = e
+left_up how.Tightest h new is e = e
 
 pub grew_wide : (h : HeadContent) (next : Polyhedron) (mode : Mode) (new : HeadContent) → IsHeadFormed new → next.dims ≡ h.value.dims →
     (e : E.Excess) × InclusionStrains next h.value e → IsPolyhedronOf h.value.dims (Con []) new.value → new.given ≡ kept h.value new.value h.given →

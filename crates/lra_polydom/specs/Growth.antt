@@ -1,5 +1,5 @@
 -- What is told of a head's growth before the head is changed.
-use Rattle.std.specs.Prelude.{◌≡◌, ◌≢◌, ◌⊎◌, ◌||◌, ℤ, Bool, not, IsTrue, List}
+use Rattle.std.specs.Prelude.{◌≡◌, ◌≢◌, ◌⊎◌, ◌||◌, ℤ, Bool, true, false, not, IsTrue, List}
 use Rattle.std.specs.List.{list_any}
 use Rattle.lra_domain.specs.declared.Exactness.{Exactness}
 use Rattle.lra_domain.specs.declared.Exactness.TheVariants as degree
@@ -70,12 +70,20 @@ row_passes generators r = list_any (λ g. product_passes r g.row) generators
 abbrev pub some_passes : List Given → List Given → Bool
 some_passes generators given = list_any (λ r. row_passes generators r.row) given
 
+-- a widening of this mode takes given rows in
+abbrev pub takes_given : Mode → Bool
+takes_given how.Join = false
+takes_given how.Widen = false
+takes_given how.Limited = true
+takes_given how.Tightest = true
+
 abbrev pub StrikePasses : Mode → Polyhedron → Polyhedron → List Given → Type 0
 StrikePasses how.Join p r given = ⊥
 StrikePasses how.Widen p r given = ⊥
 StrikePasses how.Limited p r given = IsTrue (some_passes p.generators given || some_passes r.generators given)
+StrikePasses how.Tightest p r given = IsTrue (some_passes p.generators given || some_passes r.generators given)
 
--- under the limited widening such a strike flags
+-- where the widening is limited such a strike flags
 abbrev pub IsStruck : Exactness → Mode → Polyhedron → Polyhedron → List Given → Exactness → Type 0
 IsStruck before mode p r given degree.Exact = (before ≡ degree.Exact) × ¬ StrikePasses mode p r given
 IsStruck before mode p r given degree.Flagged = (before ≡ degree.Flagged) ⊎ StrikePasses mode p r given

@@ -1,4 +1,6 @@
 -- How a head grows: by the join with next, or by the widening with that join. A growth by widening strikes given rows.
+-- A widening limited by the tightest of them is the same set as one limited by all; only the lists that may strain are
+-- shorter.
 use Rattle.std.specs.Prelude.{◌≡◌, List, [], ◌⊎◌}
 use Rattle.lra_domain.specs.declared.Mode.{Mode}
 use Rattle.lra_domain.specs.declared.Mode.TheVariants as how
@@ -10,6 +12,7 @@ use Rattle.lra_linear.specs.Polyhedra.{IsPolyhedronOf, Polyhedron}
 use Rattle.lra_linear.specs.Strain.{Loss}
 use Rattle.lra_linear.specs.Widening.{Limited, Standard}
 use Rattle.lra_widen.specs.Rank.{kept, rank_of}
+use Rattle.lra_widen.specs.Tightest.{TightestStrains}
 use Rattle.lra_polydom.specs.Content.{HeadContent}
 use Rattle.lra_polydom.specs.Sets.{IsJoin}
 
@@ -18,14 +21,16 @@ abbrev pub grown_set : Mode → Polyhedron → Polyhedron → List Given → Poi
 grown_set how.Join p q given = Con q.rows
 grown_set how.Widen p q given = Standard p q
 grown_set how.Limited p q given = Limited p q given
+grown_set how.Tightest p q given = Limited p q given
 
 -- the given rows that are left where P became R. A join strikes none. The standard widening strikes each that fails on
--- the result, or a product of which with a generator of P or of R passes the range. So does the limited one, but a row
--- struck for its products alone is no part of its definition: that flags
+-- the result, or a product of which with a generator of P or of R passes the range. So do the limited ones, but a row
+-- struck for its products alone is no part of their definition: that flags
 abbrev pub given_left : Mode → Polyhedron → Polyhedron → List Given → List Given
 given_left how.Join p r given = given
 given_left how.Widen p r given = kept p r given
 given_left how.Limited p r given = valid_on p r given
+given_left how.Tightest p r given = valid_on p r given
 
 -- the head that h becomes by next
 pub record IsGrown (h : HeadContent) (next : Polyhedron) (mode : Mode) (new : HeadContent) : Type 0 where
@@ -44,12 +49,14 @@ abbrev pub IsLeft : HeadContent → Mode → HeadContent → Type 0
 IsLeft h how.Join new = (new.given ≡ h.given) ⊎ IsGivenUp h new
 IsLeft h how.Widen new = new.given ≡ kept h.value new.value h.given
 IsLeft h how.Limited new = new.given ≡ kept h.value new.value h.given
+IsLeft h how.Tightest new = new.given ≡ kept h.value new.value h.given
 
 -- the widening of P by Q strains; a join of P with Q is Q
 abbrev pub WideningStrains : Mode → Polyhedron → Polyhedron → List Given → Loss → Type 0
 WideningStrains how.Join p q given loss = ⊥
 WideningStrains how.Widen p q given loss = StandardStrains p q loss
 WideningStrains how.Limited p q given loss = LimitedStrains p q given loss
+WideningStrains how.Tightest p q given loss = TightestStrains p q given loss
 
 -- the join strains, or the widening with the join that is defined
 pub record WidenedStrains (h : HeadContent) (next : Polyhedron) (mode : Mode) : Type 0 where

@@ -7,7 +7,7 @@ ghost use Rattle.lra_linear.specs.Descriptions.{Con};
 ghost use Rattle.lra_linear.specs.Polyhedra.{IsPolyhedronOf};
 ghost use Rattle.lra_widen.specs.Rank.{kept};
 ghost use Rattle.lra_sys.specs.Listed.{constraints};
-ghost use Rattle.lra_polydom.specs.Growth.{HasGrown, IsStruck, head};
+ghost use Rattle.lra_polydom.specs.Growth.{HasGrown, IsStruck, head, takes_given};
 
 use crate::lists::some_passes;
 use crate::widening::{join_values, widen_value};
@@ -45,13 +45,23 @@ pub fn give_up(alloc: Global, p: &Poly, given: &ConSys) -> Result<Growth, AllocE
     })
 }
 
-// Flagged where the widening was, or, under the limited one, where a given row is struck for a product.
+// Whether a widening of this mode takes given rows in.
+fn takes_given(mode: Mode) -> bool
+    ensures { result ≡ takes_given mode }
+{
+    match mode {
+        Mode::Join | Mode::Widen => false,
+        Mode::Limited | Mode::Tightest => true,
+    }
+}
+
+// Flagged where the widening was, or, where it is limited, where a given row is struck for a product.
 fn strike(exactness: Exactness, mode: Mode, p: &Poly, r: &Poly, given: &ConSys) -> Exactness
     requires given { given.now.dims ≡ p.now.dims }
     requires result { r.now.dims ≡ p.now.dims }
     ensures { IsStruck exactness mode p.now r.now (constraints given.now) result }
 {
-    if mode != Mode::Limited {
+    if !takes_given(mode) {
         return exactness;
     }
     if some_passes(given, p.generators()) {

@@ -1,7 +1,7 @@
 //! Joins and widenings of polyhedra, as a head grows by them.
 
 ghost use Rattle.std.specs.Prelude.{◌≡◌, ◌≢◌, IfOk};
-ghost use Rattle.lra_domain.specs.declared.Mode.TheVariants.{Join, Widen, Limited};
+ghost use Rattle.lra_domain.specs.declared.Mode.TheVariants.{Join, Widen, Limited, Tightest};
 ghost use Rattle.lra_linear.specs.Descriptions.{Con};
 ghost use Rattle.lra_linear.specs.Points.{IsWithin};
 ghost use Rattle.lra_sys.specs.Listed.{constraints};
@@ -11,7 +11,7 @@ use crate::outcomes::exactness_of;
 use lra_domain::{Exactness, Mode};
 use lra_poly::Poly;
 use lra_sys::ConSys;
-use lra_widen::{WidenError, limited, standard};
+use lra_widen::{WidenError, limited, limited_by_tightest, standard};
 use std::alloc::{AllocError, Global};
 
 /// The join with next.
@@ -21,7 +21,6 @@ pub fn join_values(p: &Poly, next: &Poly) -> Result<(Poly, Exactness), AllocErro
 {
     let mut join = p.copy()?;
     let outcome = join.hull(next)?;
-    let _canonical = join.rows();
     let exactness = exactness_of(&outcome);
     Ok((join, exactness))
 }
@@ -72,6 +71,29 @@ fn widen_limited(
     }
 }
 
+// The widening limited by the tightest rows, by a polyhedron that the first lies in.
+fn widen_by_tightest(
+    alloc: Global,
+    p: &Poly,
+    q: &Poly,
+    given: &ConSys,
+) -> Result<(Poly, Exactness), AllocError>
+    requires second { q.now.dims ≡ p.now.dims }
+    requires given { given.now.dims ≡ p.now.dims }
+    requires within { IsWithin p.now.dims (Con p.now.rows) (Con q.now.rows) }
+    ensures { IfOk result (λ r. IsWidening Tightest p.now q.now (constraints given.now) r.0 r.1) }
+{
+    let _rows = p.rows();
+    match limited_by_tightest(alloc, p, q, given) {
+        Ok((made, outcome)) => {
+            let exactness = exactness_of(&outcome);
+            Ok((made, exactness))
+        }
+        Err(WidenError::NotIncluded(_)) => unreachable!(),
+        Err(WidenError::Memory) => Err(AllocError),
+    }
+}
+
 /// The widening of this mode by a polyhedron that the first lies in.
 pub fn widen_value(
     alloc: Global,
@@ -94,6 +116,10 @@ pub fn widen_value(
         }
         Mode::Limited => {
             let made = widen_limited(alloc, p, q, given)?;
+            Ok(made)
+        }
+        Mode::Tightest => {
+            let made = widen_by_tightest(alloc, p, q, given)?;
             Ok(made)
         }
     }

@@ -9,5 +9,6 @@ pub mod RankLaw
 mod Validities
 mod Places
 pub mod WideningLemmas
+pub mod TightestLemmas
 mod AlikeLemmas
 pub mod StayingLemmas

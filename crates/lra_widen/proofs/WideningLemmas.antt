@@ -6,7 +6,7 @@ use Rattle.std.specs.List.{All, Contains, filter}
 use Rattle.std.proofs.lemmas.List.{append-nil}
 use Rattle.lra_linear.specs.Cones.{both_ways}
 use Rattle.lra_linear.specs.Descriptions.{Con, Given, given_as, inequality}
-use Rattle.lra_linear.specs.OperationStrain.{ConstraintsStrain, FromRowsStrains, LimitedStrains, StandardStrains, tight_on, valid_on}
+use Rattle.lra_linear.specs.OperationStrain.{ConstraintsStrain, FromRowsStrains, LimitedStrains, StandardStrains, WideningPasses, tight_on, valid_on}
 use Rattle.lra_linear.specs.Points.{IsEmptySet, IsPoint, IsWithin, SameSet}
 use Rattle.lra_linear.specs.Polyhedra.{HasPoint, IsPolyhedron, IsPolyhedronOf, Polyhedron, falsity}
 use Rattle.lra_linear.specs.Strain.{Loss}
@@ -22,9 +22,9 @@ use Rattle.lra_poly.specs.declared.outcome.Outcome.TheVariants.{Exact, Flagged}
 use Rattle.lra_sys.specs.FirstPlaces.{FirstAt}
 use Rattle.lra_duality.specs.Inclusions.{IsInclusion, Meets, MeetsAll, Passes, Violates, ViolatesFirst}
 use Rattle.lra_pair.specs.KeptRows.{IsOfSome}
-use Rattle.lra_poly.specs.Outcomes.{IfExact, IfFlagged}
+use Rattle.lra_poly.specs.Outcomes.{Becomes, IfExact, IfFlagged, IsOfRows}
 use Rattle.lra_duality.proofs.InclusionLemmas.{has_member}
-use Rattle.lra_poly.proofs.PolyLemmas.{constraints_strain, if_exact, if_flagged, same_polyhedron}
+use Rattle.lra_poly.proofs.PolyLemmas.{becomes_same, constraints_strain, exactly, if_exact, if_flagged, same_polyhedron}
 use Rattle.lra_duality.proofs.PolyhedronLemmas.{none_where_empty, some_generator, with_point}
 use Rattle.lra_linear.specs.declared.ConKind.{ConKind}
 use Rattle.lra_linear.specs.Kinds.{is_equality}
@@ -35,7 +35,7 @@ use Rattle.lra_widen.proofs.Counting.{holds_valid, kept_at}
 use Rattle.lra_widen.proofs.RankLaw.{not_inside, rank_falls}
 
 -- ---- with and without a point
-around_point : (p q : Polyhedron) → HasPoint p → IsPolyhedron q → q.dims ≡ p.dims → IsWithin p.dims (Con p.rows) (Con q.rows) → HasPoint q
+pub around_point : (p q : Polyhedron) → HasPoint p → IsPolyhedron q → q.dims ≡ p.dims → IsWithin p.dims (Con p.rows) (Con q.rows) → HasPoint q
 around_point p q h (inl none) d w = absurd (not_inside p q h none d w)
 around_point p q h (inr k) d w = k
 
@@ -55,7 +55,7 @@ row_columns q k g m = elim (Contains-append_cases (given_as true k.equalities) (
 ]
 
 -- ---- where P has no point
-limited_empty : (p q : Polyhedron) (given : List Given) → q.dims ≡ p.dims → p.generators ≡ [] → SameSet p.dims (Limited p q given) (Con q.rows)
+pub limited_empty : (p q : Polyhedron) (given : List Given) → q.dims ≡ p.dims → p.generators ≡ [] → SameSet p.dims (Limited p q given) (Con q.rows)
 limited_empty p q given d e = (
   λ x i l. subst (λ gs. StandardFrom gs p q x) e l.0,
   λ x i c. (subst (λ gs. StandardFrom gs p q x) (sym e) c, λ g m a b. b x (subst (λ (n : ℕ). IsPoint n x) (sym d) i) c),
@@ -66,24 +66,22 @@ widened_empty p q r given hp hq d empty er =
     let e = none_where_empty p hp empty in
     let s = limited_empty p q given d e in
     subst (λ (y : Polyhedron). IsWidened p q given y Exact) (sym er) (record {
-      dims = d;
-      canonical = hq;
-      exact = record { dimensions = d; canonical = hq; points = s };
-      within = s.0;
+      becomes = exactly p.dims (Limited p q given) (LimitedStrains p q given) q (record { dimensions = d; canonical = hq; points = s });
       old = λ x i c. absurd (empty x i c);
-      strain = tt;
       keeps = λ h. absurd (some_generator p h e);
     })
 
 -- ---- all points
 pub widened_up : (p q u : Polyhedron) (given : List Given) (loss : Loss) → IsPolyhedronOf p.dims (Con []) u → LimitedStrains p q given loss → IsWidened p q given u (Flagged loss)
 widened_up p q u given loss made strains = record {
-  dims = made.dimensions;
-  canonical = made.canonical;
-  exact = tt;
-  within = λ x i l. made.points.0 x i (con_none x);
+  becomes = record {
+    dims = made.dimensions;
+    canonical = made.canonical;
+    within = λ x i l. made.points.0 x i (con_none x);
+    exact = tt;
+    flagged = strains;
+  };
   old = λ x i l. made.points.0 x i (con_none x);
-  strain = strains;
   keeps = λ h. record {
     rows = [];
     made = subst (λ (n : ℕ). IsPolyhedronOf n (Con []) u) (sym made.dimensions) made;
@@ -92,8 +90,8 @@ widened_up p q u given loss made strains = record {
   };
 }
 
-pub passes_limited : (p q : Polyhedron) (given : List Given) (loss : Loss) → PassesOnBoth p q given loss → LimitedStrains p q given loss
-passes_limited p q given loss x = inr (elim (Contains-append_cases p.generators q.generators x.passes.generator x.passes.has_generator) [
+pub passes_widening : (p q : Polyhedron) (given : List Given) (loss : Loss) → PassesOnBoth p q given loss → WideningPasses p q given (Limited p q given) loss
+passes_widening p q given loss x = elim (Contains-append_cases p.generators q.generators x.passes.generator x.passes.has_generator) [
   | inl a ↦ record {
     excess = x.excess;
     is_cause = x.is_cause;
@@ -112,7 +110,10 @@ passes_limited p q given loss x = inr (elim (Contains-append_cases p.generators 
     is_further = x.is_further;
     nothing = x.nothing;
   }
-])
+]
+
+pub passes_limited : (p q : Polyhedron) (given : List Given) (loss : Loss) → PassesOnBoth p q given loss → LimitedStrains p q given loss
+passes_limited p q given loss x = inr (passes_widening p q given loss x)
 
 pub widened_wide : (p q u : Polyhedron) (given : List Given) (loss : Loss) → IsPolyhedronOf p.dims (Con []) u → PassesOnBoth p q given loss → IsWidened p q given u (Flagged loss)
 widened_wide p q u given loss made x = widened_up p q u given loss made (passes_limited p q given loss x)
@@ -152,12 +153,14 @@ of_some : (p q made : Polyhedron) (given : List Given) (o : Outcome) → HasPoin
 of_some p q made given o h k d w s columns exact strain =
     let m = s.made in
     record {
-      dims = m.dimensions;
-      canonical = m.canonical;
-      exact = exact;
-      within = λ x i l. m.points.0 x i (λ g c. limited_list p q given h k x i l g (s.among g c));
+      becomes = record {
+        dims = m.dimensions;
+        canonical = m.canonical;
+        within = λ x i l. m.points.0 x i (λ g c. limited_list p q given h k x i l g (s.among g c));
+        exact = exact;
+        flagged = strain;
+      };
       old = λ x i c. m.points.0 x i (λ g b. old_list p q given h w x i c g (s.among g b));
-      strain = strain;
       keeps = λ _. record {
         rows = s.rows;
         made = subst (λ (j : ℕ). IsPolyhedronOf j (Con s.rows) made) (sym m.dimensions) m;
@@ -178,8 +181,7 @@ pub record IsMade (p q made : Polyhedron) (list given : List Given) (n : ℕ) (o
   pub list_dims : n ≡ p.dims
   pub columns : HaveColumns p.dims given
   pub some : IsOfSome n list made
-  pub exact : IfExact (IsPolyhedronOf n (Con list) made) o
-  pub strain : IfFlagged (FromRowsStrains n list) o
+  pub becomes : IsOfRows n list made o
   pub same : IfExact (kept p q given ≡ valid_on p q given) lost
   pub passes : IfFlagged (PassesOnBoth p q given) lost
 
@@ -199,10 +201,10 @@ widened_made p q made list given n o lost x el =
     of_some p q made given o h k x.dims x.within (some_limited p q made list given n o lost x) x.columns
     (if_exact (IsPolyhedronOf n (Con list) made) (IsPolyhedronOf p.dims (Limited p q given) made) o
     (λ m. same_polyhedron p.dims (Limited p q given) all made c
-    (subst (λ (l : List Given). IsPolyhedronOf p.dims (Con l) made) e (subst (λ (j : ℕ). IsPolyhedronOf j (Con list) made) x.list_dims m))) x.exact)
+    (subst (λ (l : List Given). IsPolyhedronOf p.dims (Con l) made) e (subst (λ (j : ℕ). IsPolyhedronOf j (Con list) made) x.list_dims m))) x.becomes.exact)
     (if_flagged (FromRowsStrains n list) (LimitedStrains p q given) o
     (λ loss f. inl (constraints_strain p.dims (Limited p q given) all (tight_on p q ++ valid_on p q given) loss c
-    (subst (λ (l : List Given). FromRowsStrains p.dims l loss) e (subst (λ (j : ℕ). FromRowsStrains j list loss) x.list_dims f)))) x.strain)
+    (subst (λ (l : List Given). FromRowsStrains p.dims l loss) e (subst (λ (j : ℕ). FromRowsStrains j list loss) x.list_dims f)))) x.becomes.flagged)
 
 -- some given row passes
 pub widened_passed : (p q made : Polyhedron) (list given : List Given) (n : ℕ) (o lost : Outcome) → IsMade p q made list given n o lost → ¬ (lost ≡ Exact) → IsWidened p q given made lost
@@ -218,14 +220,6 @@ not_exact b o h f e = let t = h.1 e in cc
 -- ---- the standard widening is that with no given row
 standard_limited : (n : ℕ) (p q : Polyhedron) → SameSet n (Standard p q) (Limited p q [])
 standard_limited n p q = (λ x i s. (s, λ g m a b. absurd (contains_none g m)), λ x i l. l.0)
-
-pub standard_exact : (p q r : Polyhedron) (given : List Given) (o : Outcome) → given ≡ [] → IsWidened p q given r o → IfExact (IsPolyhedronOf p.dims (Standard p q) r) o
-standard_exact p q r given o e w =
-    if_exact (IsPolyhedronOf p.dims (Limited p q given) r) (IsPolyhedronOf p.dims (Standard p q) r) o
-    (λ h. same_polyhedron p.dims (Standard p q) (Limited p q []) r (standard_limited p.dims p q) (subst (λ (l : List Given). IsPolyhedronOf p.dims (Limited p q l) r) e h)) w.exact
-
-pub standard_within : (p q r : Polyhedron) (given : List Given) (o : Outcome) → given ≡ [] → IsWidened p q given r o → IsWithin p.dims (Standard p q) (Con r.rows)
-standard_within p q r given o e w x i s = w.within x i (subst (λ (l : List Given). Limited p q l x) (sym e) ((standard_limited p.dims p q).0 x i s))
 
 standard_loss : (p q : Polyhedron) (loss : Loss) → LimitedStrains p q [] loss → StandardStrains p q loss
 standard_loss p q loss (inl a) =
@@ -247,17 +241,18 @@ standard_loss p q loss (inr b) = inr (record {
   nothing = b.nothing;
 })
 
-pub standard_strain : (p q r : Polyhedron) (given : List Given) (o : Outcome) → given ≡ [] → IsWidened p q given r o → IfFlagged (StandardStrains p q) o
-standard_strain p q r given o e w =
-    if_flagged (LimitedStrains p q given) (StandardStrains p q) o (λ loss s. standard_loss p q loss (subst (λ (l : List Given). LimitedStrains p q l loss) e s)) w.strain
+pub standard_becomes : (p q r : Polyhedron) (given : List Given) (o : Outcome) → given ≡ [] → IsWidened p q given r o → Becomes p.dims (Standard p q) (StandardStrains p q) r o
+standard_becomes p q r given o e w =
+    becomes_same p.dims (Standard p q) (Limited p q []) (StandardStrains p q) (LimitedStrains p q []) r o (standard_limited p.dims p q) (standard_loss p q)
+    (subst (λ (l : List Given). Becomes p.dims (Limited p q l) (LimitedStrains p q l) r o) e w.becomes)
 
 -- ---- the rank
 pub limited_falls : (p q r : Polyhedron) (given : List Given) (o : Outcome) → IsPolyhedron p → HaveColumns p.dims given → IsWidened p q given r o → r ≢ p → Falls p r given
-limited_falls p q r given o h columns w other = rank_falls p r given h w.canonical w.dims w.old other columns w.keeps
+limited_falls p q r given o h columns w other = rank_falls p r given h w.becomes.canonical w.becomes.dims w.old other columns w.keeps
 
 pub standard_falls : (p q r : Polyhedron) (none : List Given) (o : Outcome) → none ≡ [] → IsPolyhedron p → IsWidened p q none r o → r ≢ p → (given : List Given) → HaveColumns p.dims given →
     Falls p r given
-standard_falls p q r none o e h w other given columns = rank_falls p r given h w.canonical w.dims w.old other columns (λ x.
+standard_falls p q r none o e h w other given columns = rank_falls p r given h w.becomes.canonical w.becomes.dims w.old other columns (λ x.
     let k = w.keeps x in
     record {
       rows = k.rows;

@@ -6,13 +6,13 @@ use Rattle.lra_linear.specs.declared.Cause.TheVariants.{Excess}
 use Rattle.lra_linear.specs.Descriptions.{Given, Con}
 use Rattle.lra_linear.specs.OperationStrain.{LimitedStrains, ProductsPass}
 use Rattle.lra_linear.specs.Points.{IsWithin}
-use Rattle.lra_linear.specs.Polyhedra.{HasPoint, IsPolyhedron, IsPolyhedronOf, Polyhedron}
+use Rattle.lra_linear.specs.Polyhedra.{HasPoint, IsPolyhedronOf, Polyhedron}
 use Rattle.lra_linear.specs.Strain as strain
 use Rattle.lra_linear.specs.Widening.{is_tight, Limited}
 use Rattle.lra_duality.specs.declared.inclusion.Inclusion.TheVariants.{Yes, No, Wide}
 use Rattle.lra_poly.specs.declared.outcome.Outcome.{Outcome}
 use Rattle.lra_duality.specs.Inclusions.{IsInclusion}
-use Rattle.lra_poly.specs.Outcomes.{IfExact, IfFlagged}
+use Rattle.lra_poly.specs.Outcomes.{Becomes, IfExact}
 use Rattle.lra_widen.specs.Rank.{holds_in_range}
 use Rattle.lra_widen.specs.declared.error.WidenError.{WidenError}
 use Rattle.lra_widen.specs.declared.error.WidenError.TheVariants.{NotIncluded, Memory}
@@ -54,12 +54,8 @@ pub record PassesOnBoth (p q : Polyhedron) (given : List Given) (loss : strain.L
 
 -- R is what the widening of P by Q, limited by the given rows, gives, and the outcome what it tells
 pub record IsWidened (p q : Polyhedron) (given : List Given) (r : Polyhedron) (o : Outcome) : Type 0 where
-  pub dims : r.dims ≡ p.dims
-  pub canonical : IsPolyhedron r
-  pub exact : IfExact (IsPolyhedronOf p.dims (Limited p q given) r) o
-  pub within : IsWithin p.dims (Limited p q given) (Con r.rows)
+  pub becomes : Becomes p.dims (Limited p q given) (LimitedStrains p q given) r o
   pub old : IsWithin p.dims (Con p.rows) (Con r.rows)
-  pub strain : IfFlagged (LimitedStrains p q given) o
   pub keeps : HasPoint p → KeepsRows p r given
 
 -- the rows have a column for the constant and one for each dimension

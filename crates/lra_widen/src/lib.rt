@@ -1,14 +1,17 @@
-//! The standard and the limited widening of closed polyhedra, and the rank that falls with each.
+//! The standard and the limited widening of closed polyhedra, also by the tightest of the given rows alone, and the
+//! rank that falls with each.
 #![tactic(auto)]
 
 mod error;
 mod lists;
 mod ranking;
 mod saturation;
+mod tightest;
 mod validity;
 mod widening;
 
 pub use error::WidenError;
 pub use lists::held_on_both;
 pub use ranking::rank;
+pub use tightest::limited_by_tightest;
 pub use widening::{limited, standard};

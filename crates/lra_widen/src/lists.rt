@@ -61,8 +61,8 @@ fn push_copy(list: &mut ConSys, row: &Row, kind: ConKind) -> Result<(), AllocErr
     Ok(())
 }
 
-// Does that if the row is wanted.
-fn push_if(list: &mut ConSys, row: &Row, kind: ConKind, wanted: bool) -> Result<(), AllocError>
+/// Puts a copy of the row behind the others if it is wanted.
+pub fn push_if(list: &mut ConSys, row: &Row, kind: ConKind, wanted: bool) -> Result<(), AllocError>
     requires { length row.now ≡ suc list.old.dims }
     ensures dims { list.new.dims ≡ list.old.dims }
     ensures rows { OnOk result (constraints list.new ≡

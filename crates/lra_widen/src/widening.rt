@@ -4,10 +4,10 @@ ghost use Rattle.std.specs.Prelude.{◌≡◌, ◌≢◌, ℕ, List, [], IfOk, I
 ghost use Rattle.lra_linear.specs.Descriptions.{Con, Given};
 ghost use Rattle.lra_linear.specs.OperationStrain.{LimitedStrains, StandardStrains};
 ghost use Rattle.lra_linear.specs.Points.{IsEmptySet, IsWithin};
-ghost use Rattle.lra_linear.specs.Polyhedra.{IsPolyhedron, IsPolyhedronOf};
+ghost use Rattle.lra_linear.specs.Polyhedra.{IsPolyhedron};
 ghost use Rattle.lra_linear.specs.Widening.{Limited, Standard};
 ghost use Rattle.lra_sys.specs.Listed.{constraints};
-ghost use Rattle.lra_poly.specs.Outcomes.{IfExact, IfFlagged};
+ghost use Rattle.lra_poly.specs.Outcomes.{Becomes};
 ghost use Rattle.lra_widen.specs.Rank.{Falls};
 ghost use Rattle.lra_widen.specs.Widenings.{HaveColumns, IsOutside, IsRefusal, IsWidened};
 ghost use Rattle.lra_widen.specs.Widenings.{LiesOrIsGivenUp};
@@ -46,8 +46,8 @@ fn widen_within(
     }
 }
 
-// The widening of the first by the second, limited by the given constraints.
-fn widen_limited_by(
+/// The widening of the first by the second, limited by the given constraints.
+pub fn widen_limited_by(
     alloc: Global,
     p: &Poly,
     q: &Poly,
@@ -87,12 +87,9 @@ fn widen_limited_by(
 /// outside Q; where a product passes before that is known, it is flagged and has all points.
 pub fn standard(alloc: Global, p: &Poly, q: &Poly) -> Result<(Poly, Outcome), WidenError>
     requires { q.now.dims ≡ p.now.dims }
-    ensures dims { IfOk result (λ r. r.0.dims ≡ p.now.dims) }
-    ensures canonical { IfOk result (λ r. IsPolyhedron r.0) }
-    ensures exact { IfOk result (λ r. IfExact (IsPolyhedronOf p.now.dims (Standard p.now q.now) r.0) r.1) }
-    ensures within { IfOk result (λ r. IsWithin p.now.dims (Standard p.now q.now) (Con r.0.rows)) }
+    ensures becomes { IfOk result (λ r.
+        Becomes p.now.dims (Standard p.now q.now) (StandardStrains p.now q.now) r.0 r.1) }
     ensures old { IfOk result (λ r. IsWithin p.now.dims (Con p.now.rows) (Con r.0.rows)) }
-    ensures strain { IfOk result (λ r. IfFlagged (StandardStrains p.now q.now) r.1) }
     ensures falls { IfOk result (λ r. r.0 ≢ p.now → (given : List Given) → HaveColumns p.now.dims given →
         Falls p.now r.0 given) }
     ensures refused { IfErr result (IsRefusal p.now q.now) }
@@ -115,14 +112,9 @@ pub fn limited(
 ) -> Result<(Poly, Outcome), WidenError>
     requires second { q.now.dims ≡ p.now.dims }
     requires given { given.now.dims ≡ p.now.dims }
-    ensures dims { IfOk result (λ r. r.0.dims ≡ p.now.dims) }
-    ensures canonical { IfOk result (λ r. IsPolyhedron r.0) }
-    ensures exact { IfOk result (λ r.
-        IfExact (IsPolyhedronOf p.now.dims (Limited p.now q.now (constraints given.now)) r.0) r.1) }
-    ensures within { IfOk result (λ r.
-        IsWithin p.now.dims (Limited p.now q.now (constraints given.now)) (Con r.0.rows)) }
+    ensures becomes { IfOk result (λ r. Becomes p.now.dims (Limited p.now q.now (constraints given.now))
+        (LimitedStrains p.now q.now (constraints given.now)) r.0 r.1) }
     ensures old { IfOk result (λ r. IsWithin p.now.dims (Con p.now.rows) (Con r.0.rows)) }
-    ensures strain { IfOk result (λ r. IfFlagged (LimitedStrains p.now q.now (constraints given.now)) r.1) }
     ensures falls { IfOk result (λ r. r.0 ≢ p.now → Falls p.now r.0 (constraints given.now)) }
     ensures refused { IfErr result (IsRefusal p.now q.now) }
     ensures inside { IfOk result (λ _. (place : ℕ) → ¬ (IsOutside p.now q.now place)) }

@@ -5,5 +5,4 @@ use Rattle.lra_polydom.proofs.widening.join_values.Goals as goal
 pub returns : goal.returns
 returns c =
     rw c.exactness_of-exactness.ensures
-    (is_joined c.args.p.now c.args.next.now c.hull.new.self c.in_ok-outcome.outcome (rw (← c.in_ok-join.ensures) c.hull.ensures.dims) c.rows-canonical.ensures.canonical
-    (rw c.in_ok-join.ensures at c.in_ok-outcome.ensures.exact) (rw c.in_ok-join.ensures at c.in_ok-outcome.ensures.within) (rw c.in_ok-join.ensures at c.in_ok-outcome.ensures.strain))
+    (is_joined c.args.p.now c.args.next.now c.hull.new.self c.in_ok-outcome.outcome (rw c.in_ok-join.ensures at c.in_ok-outcome.ensures.becomes))

@@ -1,8 +1,9 @@
 -- Goals of `widen_standard`: the standard widening by a polyhedron that the first lies in.
+use Rattle.lra_domain.specs.declared.Mode.TheVariants.{Widen}
 use Rattle.lra_linear.specs.Kinds.{is_equality}
 use Rattle.lra_sys.specs.Listed.{constraints}
 use Rattle.lra_widen.proofs.WideningLemmas.{seen_columns}
-use Rattle.lra_polydom.proofs.GrowthLemmas.{is_standard, never_refused}
+use Rattle.lra_polydom.proofs.GrowthLemmas.{is_widening, never_refused}
 use Rattle.lra_polydom.proofs.widening.widen_standard.Goals as goal
 
 pub unreachable-requires : goal.unreachable-requires
@@ -15,5 +16,5 @@ returns-in-Ok c =
     let given = constraints c.args.given.now in
     let columns = seen_columns is_equality c.args.p.now.dims c.args.given.now.dims c.args.given.now c.rows-given.result.now c.rows-given.ensures.rows c.requires.given c.rows-given.ensures.widths in
     rw c.exactness_of-exactness.ensures
-    (is_standard c.args.p.now c.args.q.now c.in-Ok.made given c.in-Ok.outcome c.in-Ok.ensures.dims c.in-Ok.ensures.canonical c.in-Ok.ensures.exact c.in-Ok.ensures.within c.in-Ok.ensures.old
-    c.in-Ok.ensures.strain (λ apart. c.in-Ok.ensures.falls apart given columns))
+    (is_widening Widen c.args.p.now c.args.q.now c.in-Ok.made given c.in-Ok.outcome c.in-Ok.ensures.becomes c.in-Ok.ensures.old
+    (λ apart. c.in-Ok.ensures.falls apart given columns))

@@ -4,6 +4,9 @@ use Rattle.lra_sys.specs.Listed.{constraints}
 use Rattle.lra_widen.proofs.WideningLemmas.{limited_falls, seen_columns}
 use Rattle.lra_widen.proofs.widening.limited.Goals as goal
 
+pub returns-clause-becomes : goal.returns-clause-becomes
+returns-clause-becomes c = c.in_ok-made.ensures.widened.becomes
+
 pub returns-clause-falls : goal.returns-clause-falls
 returns-clause-falls c =
     limited_falls c.args.p.now c.args.q.now c.in_ok-made.made (constraints c.args.given.now) c.in_ok-made.outcome c.in_ok-made.ensures.canonical

@@ -3,17 +3,11 @@ use Rattle.lra_sys.specs.Listed.{constraints}
 use Rattle.std.proofs.Common.{List, subst}
 use Rattle.lra_linear.specs.Descriptions.{Given}
 use Rattle.lra_widen.specs.StayingRows.{StaysOrIsGivenUp}
-use Rattle.lra_widen.proofs.WideningLemmas.{standard_exact, standard_falls, standard_strain, standard_within}
+use Rattle.lra_widen.proofs.WideningLemmas.{standard_becomes, standard_falls}
 use Rattle.lra_widen.proofs.widening.standard.Goals as goal
 
-pub returns-clause-exact : goal.returns-clause-exact
-returns-clause-exact c = standard_exact c.args.p.now c.args.q.now c.in_ok-made.made (constraints c.in_ok-none.none) c.in_ok-made.outcome c.in_ok-none.ensures.none c.in_ok-made.ensures.widened
-
-pub returns-clause-within : goal.returns-clause-within
-returns-clause-within c = standard_within c.args.p.now c.args.q.now c.in_ok-made.made (constraints c.in_ok-none.none) c.in_ok-made.outcome c.in_ok-none.ensures.none c.in_ok-made.ensures.widened
-
-pub returns-clause-strain : goal.returns-clause-strain
-returns-clause-strain c = standard_strain c.args.p.now c.args.q.now c.in_ok-made.made (constraints c.in_ok-none.none) c.in_ok-made.outcome c.in_ok-none.ensures.none c.in_ok-made.ensures.widened
+pub returns-clause-becomes : goal.returns-clause-becomes
+returns-clause-becomes c = standard_becomes c.args.p.now c.args.q.now c.in_ok-made.made (constraints c.in_ok-none.none) c.in_ok-made.outcome c.in_ok-none.ensures.none c.in_ok-made.ensures.widened
 
 pub returns-clause-falls : goal.returns-clause-falls
 returns-clause-falls c = standard_falls c.args.p.now c.args.q.now c.in_ok-made.made (constraints c.in_ok-none.none) c.in_ok-made.outcome c.in_ok-none.ensures.none c.in_ok-made.ensures.canonical

@@ -22,8 +22,7 @@ returns-then-is_exact-clause-widened c =
       list_dims = c.in_ok-add_held.ensures.dims;
       columns = seen_columns is_equality p.dims c.args.given.now.dims c.args.given.now c.rows-given.result.now c.rows-given.ensures.rows c.requires.given c.rows-given.ensures.widths;
       some = c.in_ok-made.ensures.some;
-      exact = c.in_ok-made.ensures.exact;
-      strain = c.in_ok-made.ensures.strain;
+      becomes = c.in_ok-made.ensures.becomes;
       same = c.in_ok-lost.ensures.exact;
       passes = c.in_ok-lost.ensures.flagged;
     }) (c.is_exact.ensures.0 c.if-is_exact.true)
@@ -43,8 +42,7 @@ returns-clause-widened c =
       list_dims = c.in_ok-add_held.ensures.dims;
       columns = seen_columns is_equality p.dims c.args.given.now.dims c.args.given.now c.rows-given.result.now c.rows-given.ensures.rows c.requires.given c.rows-given.ensures.widths;
       some = c.in_ok-made.ensures.some;
-      exact = c.in_ok-made.ensures.exact;
-      strain = c.in_ok-made.ensures.strain;
+      becomes = c.in_ok-made.ensures.becomes;
       same = c.in_ok-lost.ensures.exact;
       passes = c.in_ok-lost.ensures.flagged;
     }) (not_exact c.is_exact.result c.in_ok-lost.lost c.is_exact.ensures c.if-is_exact.false)

@@ -6,5 +6,4 @@ pub returns-clause-back : goal.returns-clause-back
 returns-clause-back c =
     rw (← c.self.view_is, c.exactness_of.ensures)
     (undoes_assignment c.args.x c.args.e.now c.self.inside.poly c.preimage.new.p c.in_ok-outcome.outcome
-    c.rows-formed.ensures.formed c.in_ok-outcome.ensures.dims c.in_ok-outcome.ensures.exact c.in_ok-outcome.ensures.within
-    c.in_ok-outcome.ensures.strain)
+    c.rows-formed.ensures.formed c.in_ok-outcome.ensures.becomes)

@@ -6,5 +6,4 @@ pub returns-clause-back : goal.returns-clause-back
 returns-clause-back c =
     rw (← c.self.view_is, c.exactness_of.ensures)
     (undoes_test c.args.t.now.kind c.args.t.now.expr c.self.inside.poly c.add_test.new.self c.in_ok-told.told
-    (rw (← c.self.view_is) at c.requires) c.rows-formed.ensures.formed c.add_test.ensures.dims
-    c.in_ok-told.ensures.exact c.in_ok-told.ensures.within c.in_ok-told.ensures.strain)
+    (rw (← c.self.view_is) at c.requires) c.rows-formed.ensures.formed c.in_ok-told.ensures.becomes)

@@ -6,5 +6,4 @@ pub returns-clause-meets : goal.returns-clause-meets
 returns-clause-meets c =
     rw (← c.self.view_is, ← c.other.view_is, c.exactness_of.ensures)
     (meets_both c.self.inside.poly c.other.inside.poly c.meet.new.self c.in_ok-outcome.outcome
-    c.rows-formed.ensures.formed c.meet.ensures.dims c.in_ok-outcome.ensures.exact c.in_ok-outcome.ensures.within
-    c.in_ok-outcome.ensures.strain)
+    c.rows-formed.ensures.formed c.in_ok-outcome.ensures.becomes)

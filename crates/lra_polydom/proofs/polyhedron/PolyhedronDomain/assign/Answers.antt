@@ -8,5 +8,4 @@ returns-clause-meets c =
     rw (← c.self.view_is, c.exactness_of.ensures)
     (changes (action.assign c.args.x c.args.e.now) c.self.inside.poly c.image.new.p c.in_ok-outcome.outcome
     (rw (← c.self.view_is) at c.requires.place, rw (← c.self.view_is) at c.requires.width)
-    c.rows-formed.ensures.formed c.image.ensures.dims c.in_ok-outcome.ensures.exact c.in_ok-outcome.ensures.within
-    c.in_ok-outcome.ensures.strain)
+    c.rows-formed.ensures.formed c.in_ok-outcome.ensures.becomes)

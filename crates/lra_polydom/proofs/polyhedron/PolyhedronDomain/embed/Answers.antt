@@ -7,5 +7,4 @@ pub returns-clause-meets : goal.returns-clause-meets
 returns-clause-meets c =
     rw (← c.self.view_is, c.exactness_of.ensures)
     (changes (action.embed c.args.k) c.self.inside.poly c.embed.new.p c.in_ok-outcome.outcome tt
-    c.rows-formed.ensures.formed c.in_ok-outcome.ensures.dims c.in_ok-outcome.ensures.exact c.in_ok-outcome.ensures.within
-    c.in_ok-outcome.ensures.strain)
+    c.rows-formed.ensures.formed c.in_ok-outcome.ensures.becomes)

@@ -10,5 +10,4 @@ returns-clause-joins c =
     ap (λ (p : Polyhedron). p.dims) c.other.view_is ∙ sym c.requires ∙ sym (ap (λ (p : Polyhedron). p.dims) c.self.view_is) in
     rw (← c.self.view_is, ← c.other.view_is, c.exactness_of.ensures)
     (joins c.self.inside.poly c.other.inside.poly c.hull.new.self c.in_ok-outcome.outcome c.rows-rows.ensures.canonical c.rows-others.ensures.canonical
-    c.rows-formed.ensures.formed same c.hull.ensures.dims
-    c.in_ok-outcome.ensures.exact c.in_ok-outcome.ensures.within c.in_ok-outcome.ensures.strain)
+    c.rows-formed.ensures.formed same c.in_ok-outcome.ensures.becomes)

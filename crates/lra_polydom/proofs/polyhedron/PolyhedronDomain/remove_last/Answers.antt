@@ -7,5 +7,4 @@ pub returns-clause-meets : goal.returns-clause-meets
 returns-clause-meets c =
     rw (← c.self.view_is, c.exactness_of.ensures)
     (changes (action.remove_last c.args.k) c.self.inside.poly c.remove_last.new.p c.in_ok-outcome.outcome
-    (rw (← c.self.view_is) at c.requires) c.rows-formed.ensures.formed c.in_ok-outcome.ensures.dims c.in_ok-outcome.ensures.exact c.in_ok-outcome.ensures.within
-    c.in_ok-outcome.ensures.strain)
+    (rw (← c.self.view_is) at c.requires) c.rows-formed.ensures.formed c.in_ok-outcome.ensures.becomes)

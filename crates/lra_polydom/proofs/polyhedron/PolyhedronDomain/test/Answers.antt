@@ -7,6 +7,4 @@ pub returns-clause-meets : goal.returns-clause-meets
 returns-clause-meets c =
     rw (← c.self.view_is, c.exactness_of.ensures)
     (changes (action.test c.args.t.now.kind c.args.t.now.expr) c.self.inside.poly c.add_test.new.self c.in_ok-outcome.outcome
-    (rw (← c.self.view_is) at c.requires) c.rows-formed.ensures.formed c.add_test.ensures.dims c.in_ok-outcome.ensures.exact
-    c.in_ok-outcome.ensures.within
-    c.in_ok-outcome.ensures.strain)
+    (rw (← c.self.view_is) at c.requires) c.rows-formed.ensures.formed c.in_ok-outcome.ensures.becomes)
