@@ -8,7 +8,7 @@ use Rattle.lra_domain.specs.declared.Exactness.TheVariants.{Exact, Flagged}
 use Rattle.lra_domain.specs.declared.Included.{Included}
 use Rattle.lra_domain.specs.declared.Included.TheVariants.{Yes, No, Wide}
 use Rattle.lra_domain.specs.declared.Mode.{Mode}
-use Rattle.lra_domain.specs.declared.Mode.TheVariants.{Join, Widen, Limited}
+use Rattle.lra_domain.specs.declared.Mode.TheVariants.{Join, Widen, Limited, Tightest}
 use Rattle.lra_domain.specs.declared.Grown.{Grown}
 use Rattle.lra_domain.specs.declared.Grown.TheVariants.{Stable, Grew as grew_by}
 use Rattle.lra_domain.specs.Rank.{RankBelow}
@@ -41,36 +41,42 @@ stays_one : {V H : Type 0} (m : Meaning V H) (h : H) (qs : List V) (mode : Mode)
 stays_one m h qs Join w each = absurd (w refl)
 stays_one m h qs Widen w each = each
 stays_one m h qs Limited w each = each
+stays_one m h qs Tightest w each = each
 
 each_stays : {V H : Type 0} (m : Meaning V H) (h : H) (qs : List V) (mode : Mode) → mode ≢ Join
     → FormStays m (one h) qs mode → EachPart (λ q. m.stays h q mode) qs
 each_stays m h qs Join w st = absurd (w refl)
 each_stays m h qs Widen w st = st
 each_stays m h qs Limited w st = st
+each_stays m h qs Tightest w st = st
 
 strains_one : {V H : Type 0} (m : Meaning V H) (h : H) (qs : List V) (mode : Mode) → mode ≢ Join
     → OneStrains m h qs mode → FormStrains m (one h) qs mode
 strains_one m h qs Join w st = absurd (w refl)
 strains_one m h qs Widen w st = st
 strains_one m h qs Limited w st = st
+strains_one m h qs Tightest w st = st
 
 widens_grows : {V H : Type 0} (m : Meaning V H) (old : Head V H) (qs : List V) (mode : Mode) (f : Form V H) → mode ≢ Join
     → Widens m old.given old.form qs mode f → FormGrown m old qs mode f
 widens_grows m old qs Join f w g = absurd (w refl)
 widens_grows m old qs Widen f w g = g
 widens_grows m old qs Limited f w g = g
+widens_grows m old qs Tightest f w g = g
 
 grows_widens : {V H : Type 0} (m : Meaning V H) (old : Head V H) (qs : List V) (mode : Mode) (f : Form V H) → mode ≢ Join
     → FormGrown m old qs mode f → Widens m old.given old.form qs mode f
 grows_widens m old qs Join f w g = absurd (w refl)
 grows_widens m old qs Widen f w g = g
 grows_widens m old qs Limited f w g = g
+grows_widens m old qs Tightest f w g = g
 
 widening_strains : {V H : Type 0} (m : Meaning V H) (old : Head V H) (next : Parts V) (mode : Mode) → mode ≢ Join
     → WidenStrains m old.given old.form next.parts mode → HeadGrowStrains m old next mode
 widening_strains m old next Join w s = absurd (w refl)
 widening_strains m old next Widen w s = s
 widening_strains m old next Limited w s = s
+widening_strains m old next Tightest w s = s
 
 -- what a growth leaves ----------------------------------------------------------------------------------------------------
 
@@ -114,18 +120,22 @@ left_whole : {V H : Type 0} (m : Meaning V H) (given : Listed ConKind) (old : Fo
 left_whole m given (many ps) Join p = tt
 left_whole m given (many ps) Widen p = tt
 left_whole m given (many ps) Limited p = tt
+left_whole m given (many ps) Tightest p = tt
 left_whole m given (one g) Join p = tt
 left_whole m given (one g) Widen p = tt
 left_whole m given (one g) Limited p = tt
+left_whole m given (one g) Tightest p = tt
 left_whole m given (whole q) Join p = tt
 left_whole m given (whole q) Widen p = tt
 left_whole m given (whole q) Limited p = tt
+left_whole m given (whole q) Tightest p = tt
 
 left_one : {V H : Type 0} (m : Meaning V H) (given : Listed ConKind) (g h : H) (mode : Mode) → mode ≢ Join
     → m.left g mode h → FormLeft m given (one g) mode (one h)
 left_one m given g h Join w l = absurd (w refl)
 left_one m given g h Widen w l = l
 left_one m given g h Limited w l = l
+left_one m given g h Tightest w l = l
 
 begins_as_one : {V H : Type 0} (m : Meaning V H) (given : Listed ConKind) (ps qs : List V) (h : H) (mode : Mode)
     → Widens m given (many ps) qs mode (one h) → BeginsAsOne m given mode h
@@ -144,6 +154,7 @@ left_many : {V H : Type 0} (m : Meaning V H) (given : Listed ConKind) (ps qs : L
 left_many m given ps qs h Join w widens = absurd (w refl)
 left_many m given ps qs h Widen w widens = begins_as_one m given ps qs h Widen widens
 left_many m given ps qs h Limited w widens = begins_as_one m given ps qs h Limited widens
+left_many m given ps qs h Tightest w widens = begins_as_one m given ps qs h Tightest widens
 
 left_anew : {V H : Type 0} (m : Meaning V H) (given : Listed ConKind) (old : Form V H) (rs : List V) (f : Form V H)
     → FormStarts m given rs f → FormLeft m given old Join f

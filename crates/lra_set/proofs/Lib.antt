@@ -2,6 +2,7 @@ pub mod PartLists
 pub mod ReductionLemmas
 pub mod SettleLemmas
 pub mod TellLemmas
+pub mod ApartLemmas
 pub mod AnswerLemmas
 pub mod ChangeLemmas
 pub mod GrowthLemmas

@@ -3,7 +3,7 @@ use Rattle.std.specs.Prelude.{◌≡◌, ◌≤◌, ℕ, zero, suc, ℤ, List, [
 use Rattle.lra_sys.specs.Listed.{Listed}
 use Rattle.lra_linear.specs.declared.ConKind.{ConKind}
 use Rattle.lra_domain.specs.declared.Mode.{Mode}
-use Rattle.lra_domain.specs.declared.Mode.TheVariants.{Join, Widen, Limited}
+use Rattle.lra_domain.specs.declared.Mode.TheVariants.{Join, Widen, Limited, Tightest}
 use Rattle.lra_domain.specs.declared.Rank.{Rank}
 use Rattle.lra_domain.specs.declared.Included.{Included}
 use Rattle.lra_domain.specs.declared.Included.TheVariants.{Yes, No, Wide}
@@ -87,6 +87,7 @@ FormStays m (many ps) qs mode = PartsInside m.inside qs ps
 FormStays {V} m (one h) qs Join = (p : V) × m.valued h p × EachPart (λ q. m.inside q p) qs
 FormStays m (one h) qs Widen = EachPart (λ q. m.stays h q Widen) qs
 FormStays m (one h) qs Limited = EachPart (λ q. m.stays h q Limited) qs
+FormStays m (one h) qs Tightest = EachPart (λ q. m.stays h q Tightest) qs
 FormStays m (whole p) qs mode = Unit {0}
 
 abbrev pub HeadStays : {V H : Type 0} → Meaning V H → Head V H → Parts V → Mode → Type 0
@@ -105,6 +106,7 @@ FormStrains {V} m (one h) qs Join =
     m.value_strains h ⊎ ((p : V) × m.valued h p × AreUndecided m qs (filled m (p ∷ [])))
 FormStrains m (one h) qs Widen = OneStrains m h qs Widen
 FormStrains m (one h) qs Limited = OneStrains m h qs Limited
+FormStrains m (one h) qs Tightest = OneStrains m h qs Tightest
 FormStrains m (whole p) qs mode = ⊥
 
 abbrev pub HeadAnswers : {V H : Type 0} → Meaning V H → Head V H → Parts V → Mode → Included → Type 0
@@ -136,6 +138,7 @@ abbrev pub FormGrown : {V H : Type 0} → Meaning V H → Head V H → List V �
 FormGrown m old qs Join f = JoinsWith m old.cap old.given old.form qs f
 FormGrown m old qs Widen f = Widens m old.given old.form qs Widen f
 FormGrown m old qs Limited f = Widens m old.given old.form qs Limited f
+FormGrown m old qs Tightest f = Widens m old.given old.form qs Tightest f
 
 pub record HeadGrown {V H : Type 0} (m : Meaning V H) (old : Head V H) (next : Parts V) (mode : Mode) (new : Head V H)
     : Type 0 where
@@ -160,6 +163,7 @@ HeadGrowStrains {V} m old next Join =
     (ps : List V) × (joins : ℕ) × FormValued m old.form ps × SettleStrains m old.cap joins (ps ++ next.parts)
 HeadGrowStrains m old next Widen = WidenStrains m old.given old.form next.parts Widen
 HeadGrowStrains m old next Limited = WidenStrains m old.given old.form next.parts Limited
+HeadGrowStrains m old next Tightest = WidenStrains m old.given old.form next.parts Tightest
 
 -- a head that is given up has all stores: it is whole, or its single part's head is given up
 abbrev pub FormGivenUp : {V H : Type 0} → Meaning V H → ℕ → Form V H → Mode → Form V H → Type 0
@@ -186,8 +190,10 @@ abbrev pub FormLeft : {V H : Type 0} → Meaning V H → Listed ConKind → Form
 FormLeft {V} m given old Join (one h) = (p : V) × m.started p given h
 FormLeft m given (one g) Widen (one h) = m.left g Widen h
 FormLeft m given (one g) Limited (one h) = m.left g Limited h
+FormLeft m given (one g) Tightest (one h) = m.left g Tightest h
 FormLeft m given (many ps) Widen (one h) = BeginsAsOne m given Widen h
 FormLeft m given (many ps) Limited (one h) = BeginsAsOne m given Limited h
+FormLeft m given (many ps) Tightest (one h) = BeginsAsOne m given Tightest h
 FormLeft m given old mode new = Unit {0}
 
 abbrev pub HeadLeft : {V H : Type 0} → Meaning V H → Head V H → Mode → Head V H → Type 0

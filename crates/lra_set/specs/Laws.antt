@@ -7,7 +7,7 @@ use Rattle.std.proofs.lemmas.Int.{ints, clamps}
 use Rattle.lra_sys.specs.Listed.{Listed}
 use Rattle.lra_linear.specs.declared.ConKind.{ConKind}
 use Rattle.lra_domain.specs.declared.Mode.{Mode}
-use Rattle.lra_domain.specs.declared.Mode.TheVariants.{Join, Widen, Limited}
+use Rattle.lra_domain.specs.declared.Mode.TheVariants.{Join, Widen, Limited, Tightest}
 use Rattle.lra_domain.specs.Actions.{Action, Leads, Within, dims_after}
 use Rattle.lra_domain.specs.Bounds.{IsLowerBound, IsBetween, IsUpperBound, greater, lesser_low}
 use Rattle.lra_lin.specs.Form.{Form as Linear, form_value}
@@ -259,6 +259,7 @@ form_stays m l pl (one h) qs Join fine each (p, v, all) s own = each_stays m l h
     (λ q i. pl.stays_covered h q p Join ((pl.inside_covered q p).0 i) (pl.stays_value h p Join v)) qs all) s own
 form_stays m l pl (one h) qs Widen fine each st s own = each_stays m l h Widen qs fine each st s own
 form_stays m l pl (one h) qs Limited fine each st s own = each_stays m l h Limited qs fine each st s own
+form_stays m l pl (one h) qs Tightest fine each st s own = each_stays m l h Tightest qs fine each st s own
 form_stays m l pl (whole p) qs mode fine each st s own = tt
 
 -- heads that are given up -------------------------------------------------------------------------

@@ -2,6 +2,7 @@ pub mod Lists
 pub mod ListLemmas
 pub mod Content
 pub mod Reduction
+pub mod Apart
 pub mod Joins
 pub mod Values
 pub mod Heads

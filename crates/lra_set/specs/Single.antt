@@ -4,7 +4,7 @@ use Rattle.std.proofs.Common.{arith}
 use Rattle.lra_sys.specs.Listed.{Listed}
 use Rattle.lra_linear.specs.declared.ConKind.{ConKind}
 use Rattle.lra_domain.specs.declared.Mode.{Mode}
-use Rattle.lra_domain.specs.declared.Mode.TheVariants.{Join, Widen, Limited}
+use Rattle.lra_domain.specs.declared.Mode.TheVariants.{Join, Widen, Limited, Tightest}
 use Rattle.lra_domain.specs.Actions.{Action}
 use Rattle.lra_domain.specs.Laws.{PlainLaws, SingleLaws}
 use Rattle.lra_domain.specs.Meaning.{Meaning}
@@ -161,6 +161,7 @@ one_form_grown : {V H : Type 0} (m : Meaning V H) → SingleLaws m
 one_form_grown m l old qs Join f g a b = one_joined_with m l old.cap old.given old.form qs f g a b
 one_form_grown m l old qs Widen f g a b = one_widened m l old.given old.form qs Widen f g a b
 one_form_grown m l old qs Limited f g a b = one_widened m l old.given old.form qs Limited f g a b
+one_form_grown m l old qs Tightest f g a b = one_widened m l old.given old.form qs Tightest f g a b
 
 -- sets --------------------------------------------------------------------------------------------
 

@@ -382,6 +382,10 @@ impl<D: Plain> PowerSetHead<D> {
                 let grown = self.widen(next, Mode::Limited)?;
                 Ok(grown)
             }
+            Mode::Tightest => {
+                let grown = self.widen(next, Mode::Tightest)?;
+                Ok(grown)
+            }
         }
     }
 

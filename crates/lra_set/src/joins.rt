@@ -1,12 +1,13 @@
 //! Parts that become one.
 
 ghost use Rattle.std.specs.Prelude.{◌≡◌, ◌≤◌, ◌<◌, ℕ, List, [], length, IfOk, OnErr, OnOk, vec_len};
+ghost use Rattle.lra_set.specs.Apart.{AreTried};
 ghost use Rattle.lra_set.specs.Lists.{EachPart};
 ghost use Rattle.lra_set.specs.Outcomes.{AreMerged, BecameOne, HaveDims, IsMerged, IsSettled, LastTwoMeet};
 ghost use Rattle.lra_set.specs.Content.{PartFits};
 ghost use Rattle.lra_set.specs.Outcomes.{SettlesOnce};
 
-use crate::reduction::reduce;
+use crate::reduction::{Untried, reduce_untried};
 use crate::set::list_alone;
 use lra_domain::{Domain, Exactness, Plain, worse};
 use std::alloc::{AllocError, Global};
@@ -80,13 +81,15 @@ pub enum Settling {
 fn settle_once<D: Plain>(
     alloc: Global,
     cap: usize,
+    untried: Untried,
     parts: &mut Vec<D>,
 ) -> Result<Settling, AllocError>
     requires cap { 1 ≤ cap }
     requires alike { (n : ℕ) × HaveDims D.meaning n parts.old.items }
+    requires tried { AreTried D.meaning untried parts.old.items }
     ensures { IfOk result (λ r. SettlesOnce D.meaning cap parts.old.items r parts.new.items) }
 {
-    let reduced = reduce(alloc, parts)?;
+    let reduced = reduce_untried(alloc, untried, parts)?;
     if parts.len() <= cap {
         return Ok(Settling::Within(reduced));
     }
@@ -98,6 +101,33 @@ fn settle_once<D: Plain>(
         return Ok(Settling::Strained);
     }
     Ok(Settling::Further)
+}
+
+/// The parts reduced and kept within the cap, by what is yet untried: behind a join that is the last part alone.
+fn settle_untried<D: Plain>(
+    alloc: Global,
+    cap: usize,
+    untried: Untried,
+    parts: Vec<D>,
+) -> Result<(Vec<D>, Exactness), AllocError>
+    requires cap { 1 ≤ cap }
+    requires fit { (n : ℕ) × EachPart (PartFits D.meaning n) parts.items }
+    requires tried { AreTried D.meaning untried parts.items }
+    ensures { IfOk result (λ r. (n : ℕ) → EachPart (PartFits D.meaning n) parts.items →
+        IsSettled D.meaning n cap parts.items r.1 r.0.items) }
+{
+    let mut left = parts;
+    match settle_once(alloc, cap, untried, &mut left)? {
+        Settling::Within(exactness) => Ok((left, exactness)),
+        Settling::Strained => {
+            let one = into_one(alloc, left.as_slice())?;
+            Ok((one, Exactness::Flagged))
+        }
+        Settling::Further => {
+            let settled = settle_untried(alloc, cap, Untried::Last, left)?;
+            Ok(settled)
+        }
+    }
 }
 
 /// The parts reduced and kept within the cap: while there are more, the last two become their join. Where something was
@@ -112,16 +142,5 @@ pub fn settle<D: Plain>(
     ensures { IfOk result (λ r. (n : ℕ) → EachPart (PartFits D.meaning n) parts.items →
         IsSettled D.meaning n cap parts.items r.1 r.0.items) }
 {
-    let mut left = parts;
-    match settle_once(alloc, cap, &mut left)? {
-        Settling::Within(exactness) => Ok((left, exactness)),
-        Settling::Strained => {
-            let one = into_one(alloc, left.as_slice())?;
-            Ok((one, Exactness::Flagged))
-        }
-        Settling::Further => {
-            let settled = settle(alloc, cap, left)?;
-            Ok(settled)
-        }
-    }
+    settle_untried(alloc, cap, Untried::All, parts)
 }

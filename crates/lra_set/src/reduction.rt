@@ -1,6 +1,7 @@
 //! The reduction of a list of parts.
 
-ghost use Rattle.std.specs.Prelude.{◌≡◌, ℕ, List, [], ◌⊎◌, length, IfOk, OnErr, OnOk, vec_len};
+ghost use Rattle.std.specs.Prelude.{◌≡◌, ℕ, List, [], ◌∷◌, ◌++◌, ◌⊎◌, length, IfOk, OnErr, OnOk, vec_len};
+ghost use Rattle.lra_set.specs.Apart.{AreApart, AreTried, FrontApart};
 ghost use Rattle.lra_set.specs.Lists.{EachPart, SomePart};
 ghost use Rattle.lra_set.specs.Reduction.{BelowStrains, Goes, GoesStrains};
 ghost use Rattle.lra_set.specs.Values.{AreUndecided, IsUndecided, PartsInside};
@@ -133,4 +134,58 @@ pub fn reduce<D: Plain>(alloc: Global, parts: &mut Vec<D>) -> Result<Exactness, 
     let told = tell_all(alloc, parts.as_slice())?;
     leave_out(parts, told.as_slice());
     Ok(exactness_of(told.as_slice()))
+}
+
+/// Of each part whether it goes, where none of those before the last lies in another of them: each is tried against
+/// the last, and the last against them.
+fn tell_last<D: Plain>(alloc: Global, front: &[D], last: &D) -> Result<Vec<Included>, AllocError>
+    requires alike { HaveDims D.meaning (D.meaning.dims last.now) front.now }
+    requires apart { AreApart D.meaning front.now }
+    ensures { IfOk result (λ told. AreTold D.meaning [] (front.now ++ last.now ∷ []) told.items) }
+{
+    let mut told = Vec::new(alloc);
+    let mut rest = front;
+    while let Some((part, behind)) = rest.split_first() {
+        told.push(lies_below(part, last))?;
+        rest = behind;
+    }
+    told.push(lies_in_some(last, front))?;
+    Ok(told)
+}
+
+/// Reduces the list, where none of the parts before the last lies in another of them.
+fn reduce_last<D: Plain>(alloc: Global, parts: &mut Vec<D>) -> Result<Exactness, AllocError>
+    requires alike { (n : ℕ) × HaveDims D.meaning n parts.old.items }
+    requires apart { FrontApart D.meaning parts.old.items }
+    ensures { IfOk result (λ e. IsReduced D.meaning parts.old.items e parts.new.items) }
+{
+    let (front, behind) = parts.as_slice().split_at(parts.len() - 1);
+    let told = tell_last(alloc, front, &behind[0])?;
+    leave_out(parts, told.as_slice());
+    Ok(exactness_of(told.as_slice()))
+}
+
+/// Which parts of a list may lie in another.
+#[derive(Clone, Copy)]
+pub enum Untried {
+    /// Any of them.
+    All,
+    /// The last may, and others in it; none of the others in another of them.
+    Last,
+}
+
+/// Reduces the list by what is yet untried.
+pub fn reduce_untried<D: Plain>(
+    alloc: Global,
+    untried: Untried,
+    parts: &mut Vec<D>,
+) -> Result<Exactness, AllocError>
+    requires alike { (n : ℕ) × HaveDims D.meaning n parts.old.items }
+    requires tried { AreTried D.meaning untried parts.old.items }
+    ensures { IfOk result (λ e. IsReduced D.meaning parts.old.items e parts.new.items) }
+{
+    match untried {
+        Untried::All => reduce(alloc, parts),
+        Untried::Last => reduce_last(alloc, parts),
+    }
 }

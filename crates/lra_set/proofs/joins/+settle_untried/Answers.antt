@@ -1,9 +1,10 @@
--- Goals of the functions that call each other around `settle`: `returns`, `into_one`, `join_last_two`, `settle`.
+-- Goals of the functions that call each other around `settle_untried`: `returns`, `settle_once`, `into_one`, `settle_untried`.
 use Rattle.std.proofs.Common.{◌<◌, length, arith, rules}
 use Rattle.lra_set.specs.Laws.{fits_formed}
 use Rattle.lra_set.proofs.SettleLemmas.{settled_ends}
 use Rattle.lra_set.proofs.AnswerLemmas.{fits_dims, further_fewer, further_fit, settled_further, settled_strained, strained_alike, strained_fit, strained_some}
-use Rattle.lra_set.proofs.joins.+settle.Goals as goal
+use Rattle.lra_set.proofs.ApartLemmas.{further_apart}
+use Rattle.lra_set.proofs.joins.+settle_untried.Goals as goal
 
 pub settle_once-requires-clause-alike : goal.settle_once-requires-clause-alike
 settle_once-requires-clause-alike g t c = (c.requires.fit.0, fits_dims g.D.Domain.meaning c.requires.fit.0 c.args.parts.items c.requires.fit.1)
@@ -43,8 +44,8 @@ returns-in_ok-settled-in-Further g t c =
     λ n fit. settled_further g.D.Domain.meaning g.met.D.Plain.plain n c.args.cap c.args.parts.items c.settle_once.new.parts.items c.in_ok-settled-in-Further.settled.1
     c.in_ok-settled-in-Further.settled.0.items once (λ k. c.in_ok-settled-in-Further.ensures k) fit
 
-pub settle-requires : goal.settle-requires
-settle-requires g t c κs within =
+pub settle_untried-requires : goal.settle_untried-requires
+settle_untried-requires g t c κs within =
     let once = rw c.in-Further.is at c.in_ok-exactness.ensures in
     let fewer = further_fewer g.D.Domain.meaning c.args.cap c.args.parts.items c.settle_once.new.parts.items once in
     let smaller : length c.settle_once.new.parts.items < t = omega (arith, fewer, c.decreases) in (
@@ -55,7 +56,10 @@ settle-requires g t c κs within =
           search rules,
           (
             c.requires.cap,
-            (c.requires.fit.0, further_fit g.D.Domain.meaning g.met.D.Plain.plain c.requires.fit.0 c.args.cap c.args.parts.items c.settle_once.new.parts.items once c.requires.fit.1),
+            (
+              (c.requires.fit.0, further_fit g.D.Domain.meaning g.met.D.Plain.plain c.requires.fit.0 c.args.cap c.args.parts.items c.settle_once.new.parts.items once c.requires.fit.1),
+              further_apart g.D.Domain.meaning c.args.cap c.args.parts.items c.settle_once.new.parts.items once,
+            ),
           ),
         ),
       ),
