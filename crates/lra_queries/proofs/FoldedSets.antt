@@ -7,7 +7,7 @@ use Rattle.lra_linear.specs.Polyhedra.{IsPolyhedronOf, Polyhedron}
 use Rattle.lra_linear.specs.SetOperations.{Hull, Union}
 use Rattle.lra_linear.specs.Strain.{Loss}
 use Rattle.lra_poly.proofs.PolyLemmas.{same_polyhedron}
-use Rattle.lra_poly.specs.Outcomes.{IfExact, IfFlagged, first_of}
+use Rattle.lra_poly.specs.Outcomes.{Becomes, IfExact, IfFlagged, first_of}
 use Rattle.lra_poly.specs.declared.outcome.Outcome.{Outcome}
 use Rattle.lra_poly.specs.declared.outcome.Outcome.TheVariants.{Exact, Flagged}
 use Rattle.lra_queries.specs.Folded.{FoldStrains, Folded}
@@ -43,7 +43,7 @@ hull_same : (n : ℕ) (P Q R S : PointSet) → SameSet n P R → SameSet n Q S �
 hull_same n P Q R S f g = (hull_within n P Q R S f.0 g.0, hull_within n R S P Q f.1 g.1)
 
 -- ---- as the code tells it
-pub fold_exact : (p : Polyhedron) (kept folded : List ℕ) (one two new : Polyhedron)
+fold_exact : (p : Polyhedron) (kept folded : List ℕ) (one two new : Polyhedron)
     (first second third later all : Outcome) → all ≡ first_of first later → later ≡ first_of second third →
     one.dims ≡ length kept → length folded ≡ length kept →
     IfExact (IsPolyhedronOf (length kept) (Moved p.dims kept (Con p.rows)) one) first →
@@ -64,7 +64,7 @@ fold_exact p kept folded one two new first second third later all ea el d n a b 
     (subst (λ (m : ℕ). IfExact (IsPolyhedronOf m B two) second) n b)
     (subst (λ (m : ℕ). IfExact (IsPolyhedronOf m (Hull m (Union (Con one.rows) (Con two.rows))) new) third) d c))
 
-pub fold_within : (p : Polyhedron) (kept folded : List ℕ) (one two new : Polyhedron) →
+fold_within : (p : Polyhedron) (kept folded : List ℕ) (one two new : Polyhedron) →
     one.dims ≡ length kept → length folded ≡ length kept →
     IsWithin (length kept) (Moved p.dims kept (Con p.rows)) (Con one.rows) →
     IsWithin (length folded) (Moved p.dims folded (Con p.rows)) (Con two.rows) →
@@ -77,7 +77,7 @@ fold_within p kept folded one two new d n a b c =
     let all = subst (λ (m : ℕ). IsWithin m (Hull m (Union (Con one.rows) (Con two.rows))) (Con new.rows)) d c in
     λ x i h. all x i (hull_within (length kept) A B (Con one.rows) (Con two.rows) a second x i h)
 
-pub fold_strain : (p : Polyhedron) (kept folded : List ℕ) (one two new : Polyhedron)
+fold_strain : (p : Polyhedron) (kept folded : List ℕ) (one two new : Polyhedron)
     (first second third later all : Outcome) → all ≡ first_of first later → later ≡ first_of second third →
     length folded ≡ length kept →
     IfExact (IsPolyhedronOf (length kept) (Moved p.dims kept (Con p.rows)) one) first →
@@ -93,3 +93,19 @@ fold_strain p kept folded one two new first second third later all ea el n a b f
     (λ loss s. inr (inl s))
     (λ loss is_one is_two s. inr (inr (record { one = one; is_one = is_one; two = two; is_two = is_two; strains = s })))
     first second third a (subst (λ (m : ℕ). IfExact (IsPolyhedronOf m B two) second) n b) fa fb fc)
+
+pub fold_becomes : (p : Polyhedron) (kept folded : List ℕ) (one two new : Polyhedron)
+    (first second third later all : Outcome) → all ≡ first_of first later → later ≡ first_of second third →
+    length folded ≡ length kept →
+    Becomes (length kept) (Moved p.dims kept (Con p.rows)) (MapDimsStrains kept p) one first →
+    Becomes (length folded) (Moved p.dims folded (Con p.rows)) (MapDimsStrains folded p) two second →
+    Becomes one.dims (Hull one.dims (Union (Con one.rows) (Con two.rows))) (HullStrains one two) new third →
+    Becomes (length kept) (Folded p kept folded) (FoldStrains kept folded p) new all
+fold_becomes p kept folded one two new first second third later all ea el n a b c = record {
+  dims = c.dims ∙ a.dims;
+  canonical = c.canonical;
+  within = fold_within p kept folded one two new a.dims n a.within b.within c.within;
+  exact = fold_exact p kept folded one two new first second third later all ea el a.dims n a.exact b.exact c.exact;
+  flagged = fold_strain p kept folded one two new first second third later all ea el n a.exact b.exact a.flagged
+      b.flagged c.flagged;
+}

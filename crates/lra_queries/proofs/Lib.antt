@@ -11,4 +11,9 @@ pub mod TakenRows
 pub mod JoinedSets
 pub mod RelatedSets
 pub mod ExpandedSets
+pub mod Sublists
+pub mod SimplifiedRows
+pub mod TriedRows
+pub mod BoxLemmas
+pub mod PartLemmas
 mod Examples

@@ -10,7 +10,7 @@ use Rattle.lra_linear.specs.declared.ConKind.{ConKind}
 use Rattle.lra_linear.proofs.Descriptions.{con_cons, con_head, con_none}
 use Rattle.lra_linear.proofs.SetOperations.{meet_con}
 use Rattle.lra_poly.proofs.PolyLemmas.{same_polyhedron}
-use Rattle.lra_poly.specs.Outcomes.{IfExact, IfFlagged, first_of}
+use Rattle.lra_poly.specs.Outcomes.{Becomes, IfExact, IfFlagged, first_of}
 use Rattle.lra_poly.specs.declared.outcome.Outcome.{Outcome}
 use Rattle.lra_poly.specs.declared.outcome.Outcome.TheVariants.{Exact, Flagged}
 use Rattle.lra_sys.specs.Listed.{Listed, constraints, given_by}
@@ -55,13 +55,13 @@ moved_within n m dims P Q h x i f =
 moved_same : (n m : ℕ) (dims : List ℕ) (P Q : PointSet) → SameSet n P Q → SameSet m (Moved n dims P) (Moved n dims Q)
 moved_same n m dims P Q s = (moved_within n m dims P Q s.0, moved_within n m dims Q P s.1)
 
-two_exact : (P Q G : Type 0) → (P → Q → G) → (first second : Outcome) → IfExact P first → IfExact Q second →
+pub two_exact : (P Q G : Type 0) → (P → Q → G) → (first second : Outcome) → IfExact P first → IfExact Q second →
     IfExact G (first_of first second)
 two_exact P Q G f Exact Exact p q = f p q
 two_exact P Q G f Exact (Flagged loss) p q = tt
 two_exact P Q G f (Flagged loss) second p q = tt
 
-two_flagged : (P : Type 0) (A B G : Loss → Type 0) → ((loss : Loss) → A loss → G loss) →
+pub two_flagged : (P : Type 0) (A B G : Loss → Type 0) → ((loss : Loss) → A loss → G loss) →
     ((loss : Loss) → P → B loss → G loss) → (first second : Outcome) → IfExact P first → IfFlagged A first →
     IfFlagged B second → IfFlagged G (first_of first second)
 two_flagged P A B G f g Exact Exact p a b = tt
@@ -82,7 +82,7 @@ pub dims_replaced : (dims kept : List ℕ) (n k m : ℕ) → dims ≡ replicate 
 dims_replaced dims kept n k m ed ek en = ek ∙ ap (λ (l : List ℕ). slice_set l k n) ed ∙
     ap (λ (d : ℕ). slice_set (counted d 0) k d) en
 
-pub related_exact : (p longer new : Polyhedron) (k : ℕ) (g : Given) (kept : List ℕ) (first second all : Outcome) →
+related_exact : (p longer new : Polyhedron) (k : ℕ) (g : Given) (kept : List ℕ) (first second all : Outcome) →
     all ≡ first_of first second → kept ≡ replaced p.dims k → longer.dims ≡ p.dims + 1 →
     IfExact (IsPolyhedronOf (p.dims + 1) (Extended p.dims g (Con p.rows)) longer) first →
     IfExact (IsPolyhedronOf (length kept) (Moved longer.dims kept (Con longer.rows)) new) second →
@@ -102,7 +102,7 @@ related_exact p longer new k g kept first second all ea ek ed a b =
     (subst (λ (l : List ℕ). IfExact (IsPolyhedronOf (length l) (Moved (p.dims + 1) l (Con longer.rows)) new) second) ek
     (subst (λ (d : ℕ). IfExact (IsPolyhedronOf (length kept) (Moved d kept (Con longer.rows)) new) second) ed b))))
 
-pub related_within : (p longer new : Polyhedron) (k : ℕ) (g : Given) (kept : List ℕ) →
+related_within : (p longer new : Polyhedron) (k : ℕ) (g : Given) (kept : List ℕ) →
     kept ≡ replaced p.dims k → longer.dims ≡ p.dims + 1 →
     IsWithin (p.dims + 1) (Extended p.dims g (Con p.rows)) (Con longer.rows) →
     IsWithin (length kept) (Moved longer.dims kept (Con longer.rows)) (Con new.rows) →
@@ -115,7 +115,7 @@ related_within p longer new k g kept ek ed a b =
     λ x i f. rest x i (moved_within (p.dims + 1) p.dims (replaced p.dims k) (Extended p.dims g (Con p.rows))
     (Con longer.rows) a x i f)
 
-pub related_strain : (p longer : Polyhedron) (k : ℕ) (g : Given) (kept : List ℕ) (first second all : Outcome) →
+related_strain : (p longer : Polyhedron) (k : ℕ) (g : Given) (kept : List ℕ) (first second all : Outcome) →
     all ≡ first_of first second → kept ≡ replaced p.dims k →
     IfExact (IsPolyhedronOf (p.dims + 1) (Extended p.dims g (Con p.rows)) longer) first →
     IfFlagged (ExtendStrains g p) first → IfFlagged (MapDimsStrains kept longer) second →
@@ -126,3 +126,16 @@ related_strain p longer k g kept first second all ea ek a fa fb =
     (MapDimsStrains (replaced p.dims k) longer) (ImageRelationStrains k g p) (λ loss s. inl s)
     (λ loss is s. inr (record { longer = longer; is_longer = is; strains = s })) first second a fa
     (subst (λ (l : List ℕ). IfFlagged (MapDimsStrains l longer) second) ek fb))
+
+pub related_becomes : (p longer new : Polyhedron) (k : ℕ) (g : Given) (kept : List ℕ) (first second all : Outcome) →
+    all ≡ first_of first second → kept ≡ replaced p.dims k →
+    Becomes (p.dims + 1) (Extended p.dims g (Con p.rows)) (ExtendStrains g p) longer first →
+    Becomes (length kept) (Moved longer.dims kept (Con longer.rows)) (MapDimsStrains kept longer) new second →
+    Becomes p.dims (Related p.dims k g (Con p.rows)) (ImageRelationStrains k g p) new all
+related_becomes p longer new k g kept first second all ea ek a b = record {
+  dims = b.dims ∙ ap (λ (l : List ℕ). length l) ek ∙ replaced_length p.dims k;
+  canonical = b.canonical;
+  within = related_within p longer new k g kept ek a.dims a.within b.within;
+  exact = related_exact p longer new k g kept first second all ea ek a.dims a.exact b.exact;
+  flagged = related_strain p longer k g kept first second all ea ek a.exact a.flagged b.flagged;
+}

@@ -3,9 +3,7 @@
 ghost use Rattle.std.specs.Prelude.{◌≡◌, ◌<◌, ◌+◌, ◌++◌, length, replicate, IfOk};
 ghost use Rattle.lra_linear.specs.Descriptions.{Con};
 ghost use Rattle.lra_linear.specs.Kinds.{is_equality};
-ghost use Rattle.lra_linear.specs.Points.{IsWithin};
-ghost use Rattle.lra_linear.specs.Polyhedra.{IsPolyhedron, IsPolyhedronOf};
-ghost use Rattle.lra_poly.specs.Outcomes.{IfExact, IfFlagged};
+ghost use Rattle.lra_poly.specs.Outcomes.{Becomes};
 ghost use Rattle.lra_sys.specs.Dimensions.{too_many_dimensions};
 ghost use Rattle.lra_sys.specs.Listed.{constraints};
 ghost use Rattle.lra_queries.specs.Expanded.{ExpandStrains, Expanded};
@@ -64,13 +62,8 @@ fn push_moved(
 /// the second. Where it is flagged it has at least those points.
 pub fn concatenate(p: &Poly, q: &Poly) -> Result<(Poly, Outcome), AllocError>
     requires { p.now.dims + q.now.dims < too_many_dimensions }
-    ensures dims { IfOk result (λ r. r.0.dims ≡ p.now.dims + q.now.dims) }
-    ensures canonical { IfOk result (λ r. IsPolyhedron r.0) }
-    ensures exact { IfOk result (λ r. IfExact (IsPolyhedronOf (p.now.dims + q.now.dims)
-        (Concatenated p.now.dims (Con p.now.rows) (Con q.now.rows)) r.0) r.1) }
-    ensures within { IfOk result (λ r. IsWithin (p.now.dims + q.now.dims)
-        (Concatenated p.now.dims (Con p.now.rows) (Con q.now.rows)) (Con r.0.rows)) }
-    ensures strain { IfOk result (λ r. IfFlagged (ConcatenateStrains p.now q.now) r.1) }
+    ensures { IfOk result (λ r. Becomes (p.now.dims + q.now.dims)
+        (Concatenated p.now.dims (Con p.now.rows) (Con q.now.rows)) (ConcatenateStrains p.now q.now) r.0 r.1) }
 {
     let alloc = p.allocator();
     let (n, m) = (p.dims(), q.dims());
@@ -88,14 +81,9 @@ pub fn concatenate(p: &Poly, q: &Poly) -> Result<(Poly, Outcome), AllocError>
 pub fn extend_with(p: &Poly, row: &Row, kind: ConKind) -> Result<(Poly, Outcome), AllocError>
     requires small { p.now.dims + 1 < too_many_dimensions }
     requires width { length row.now ≡ p.now.dims + 2 }
-    ensures dims { IfOk result (λ r. r.0.dims ≡ p.now.dims + 1) }
-    ensures canonical { IfOk result (λ r. IsPolyhedron r.0) }
-    ensures exact { IfOk result (λ r. IfExact (IsPolyhedronOf (p.now.dims + 1)
-        (Extended p.now.dims (record { row = row.now; equal = is_equality kind }) (Con p.now.rows)) r.0) r.1) }
-    ensures within { IfOk result (λ r. IsWithin (p.now.dims + 1)
-        (Extended p.now.dims (record { row = row.now; equal = is_equality kind }) (Con p.now.rows)) (Con r.0.rows)) }
-    ensures strain { IfOk result (λ r.
-        IfFlagged (ExtendStrains (record { row = row.now; equal = is_equality kind }) p.now) r.1) }
+    ensures { IfOk result (λ r. Becomes (p.now.dims + 1)
+        (Extended p.now.dims (record { row = row.now; equal = is_equality kind }) (Con p.now.rows))
+        (ExtendStrains (record { row = row.now; equal = is_equality kind }) p.now) r.0 r.1) }
 {
     let alloc = p.allocator();
     let n = p.dims();
@@ -129,14 +117,9 @@ pub fn image_relation(
     requires small { p.now.dims + 1 < too_many_dimensions }
     requires dim { dim < p.now.dims }
     requires width { length row.now ≡ p.now.dims + 2 }
-    ensures dims { IfOk result (λ r. r.0.dims ≡ p.now.dims) }
-    ensures canonical { IfOk result (λ r. IsPolyhedron r.0) }
-    ensures exact { IfOk result (λ r. IfExact (IsPolyhedronOf p.now.dims
-        (Related p.now.dims dim (record { row = row.now; equal = is_equality kind }) (Con p.now.rows)) r.0) r.1) }
-    ensures within { IfOk result (λ r. IsWithin p.now.dims
-        (Related p.now.dims dim (record { row = row.now; equal = is_equality kind }) (Con p.now.rows)) (Con r.0.rows)) }
-    ensures strain { IfOk result (λ r.
-        IfFlagged (ImageRelationStrains dim (record { row = row.now; equal = is_equality kind }) p.now) r.1) }
+    ensures { IfOk result (λ r. Becomes p.now.dims
+        (Related p.now.dims dim (record { row = row.now; equal = is_equality kind }) (Con p.now.rows))
+        (ImageRelationStrains dim (record { row = row.now; equal = is_equality kind }) p.now) r.0 r.1) }
 {
     let kept = dims_replaced(p.allocator(), p.dims(), dim)?;
     let (longer, first) = extend_with(p, row, kind)?;
@@ -150,13 +133,8 @@ pub fn image_relation(
 pub fn expand(p: &Poly, dim: usize) -> Result<(Poly, Outcome), AllocError>
     requires small { p.now.dims + 1 < too_many_dimensions }
     requires dim { dim < p.now.dims }
-    ensures dims { IfOk result (λ r. r.0.dims ≡ p.now.dims + 1) }
-    ensures canonical { IfOk result (λ r. IsPolyhedron r.0) }
-    ensures exact { IfOk result (λ r. IfExact (IsPolyhedronOf (p.now.dims + 1)
-        (Expanded p.now.dims dim (Con p.now.rows)) r.0) r.1) }
-    ensures within { IfOk result (λ r. IsWithin (p.now.dims + 1)
-        (Expanded p.now.dims dim (Con p.now.rows)) (Con r.0.rows)) }
-    ensures strain { IfOk result (λ r. IfFlagged (ExpandStrains dim p.now) r.1) }
+    ensures { IfOk result (λ r. Becomes (p.now.dims + 1)
+        (Expanded p.now.dims dim (Con p.now.rows)) (ExpandStrains dim p.now) r.0 r.1) }
 {
     let alloc = p.allocator();
     let n = p.dims();

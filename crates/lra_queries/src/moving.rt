@@ -2,11 +2,9 @@
 
 ghost use Rattle.std.specs.Prelude.{◌≡◌, ◌<◌, suc, length, IfOk};
 ghost use Rattle.lra_linear.specs.Descriptions.{Con};
-ghost use Rattle.lra_linear.specs.Points.{IsWithin};
-ghost use Rattle.lra_linear.specs.Polyhedra.{IsPolyhedron, IsPolyhedronOf};
 ghost use Rattle.lra_linear.specs.Range.{InRange};
 ghost use Rattle.lra_linear.specs.Vectors.{entry};
-ghost use Rattle.lra_poly.specs.Outcomes.{IfExact, IfFlagged};
+ghost use Rattle.lra_poly.specs.Outcomes.{Becomes};
 ghost use Rattle.lra_sys.specs.Listed.{generators, FitKinds};
 ghost use Rattle.lra_queries.specs.Folded.{FoldStrains, Folded};
 ghost use Rattle.lra_queries.specs.Moved.{MapDimsStrains, Moved, chosen, moved};
@@ -69,13 +67,8 @@ fn choose_list(alloc: Global, list: &GenSys, dims: &[usize]) -> Result<GenSys, A
 /// that stands twice: `dims` has the old dimension of each new one. Along one that it hasn't the coordinate is 0. Where
 /// it is flagged it has at least those points. Memory is wanting from 2^62 dimensions on.
 pub fn map_dims(p: &Poly, dims: &[usize]) -> Result<(Poly, Outcome), AllocError>
-    ensures dims { IfOk result (λ r. r.0.dims ≡ length dims.now) }
-    ensures canonical { IfOk result (λ r. IsPolyhedron r.0) }
-    ensures exact { IfOk result (λ r. IfExact
-        (IsPolyhedronOf (length dims.now) (Moved p.now.dims dims.now (Con p.now.rows)) r.0) r.1) }
-    ensures within { IfOk result (λ r. IsWithin (length dims.now)
-        (Moved p.now.dims dims.now (Con p.now.rows)) (Con r.0.rows)) }
-    ensures strain { IfOk result (λ r. IfFlagged (MapDimsStrains dims.now p.now) r.1) }
+    ensures { IfOk result (λ r. Becomes (length dims.now)
+        (Moved p.now.dims dims.now (Con p.now.rows)) (MapDimsStrains dims.now p.now) r.0 r.1) }
 {
     let list = choose_list(p.allocator(), p.generators(), dims)?;
     let (made, outcome) = Poly::from_generators(p.allocator(), &list)?;
@@ -86,12 +79,8 @@ pub fn map_dims(p: &Poly, dims: &[usize]) -> Result<(Poly, Outcome), AllocError>
 /// them, each in turn. Where it is flagged it has at least those points.
 pub fn fold_dims(p: &Poly, kept: &[usize], folded: &[usize]) -> Result<(Poly, Outcome), AllocError>
     requires { length folded.now ≡ length kept.now }
-    ensures dims { IfOk result (λ r. r.0.dims ≡ length kept.now) }
-    ensures exact { IfOk result (λ r.
-        IfExact (IsPolyhedronOf (length kept.now) (Folded p.now kept.now folded.now) r.0) r.1) }
-    ensures within { IfOk result (λ r.
-        IsWithin (length kept.now) (Folded p.now kept.now folded.now) (Con r.0.rows)) }
-    ensures strain { IfOk result (λ r. IfFlagged (FoldStrains kept.now folded.now p.now) r.1) }
+    ensures { IfOk result (λ r. Becomes (length kept.now) (Folded p.now kept.now folded.now)
+        (FoldStrains kept.now folded.now p.now) r.0 r.1) }
 {
     let (mut made, first) = map_dims(p, kept)?;
     let (other, second) = map_dims(p, folded)?;

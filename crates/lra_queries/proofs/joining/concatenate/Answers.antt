@@ -3,7 +3,7 @@ use Rattle.std.proofs.Common.{◌+◌, ◌∙◌, ap, arith, length}
 use Rattle.lra_linear.specs.Descriptions.{Con}
 use Rattle.lra_queries.specs.Joined.{Concatenated, concatenated}
 use Rattle.lra_queries.proofs.JoinedSets.{joined_takes}
-use Rattle.lra_queries.proofs.TakenRows.{rows_exact, rows_flagged, rows_within}
+use Rattle.lra_queries.proofs.TakenRows.{rows_becomes}
 use Rattle.lra_queries.proofs.joining.concatenate.Goals as goal
 
 pub push_moved-requires : goal.push_moved-requires
@@ -21,11 +21,11 @@ push_moved-requires-2 c =
     let e = c.in_ok-own.ensures.dims in
     omega (arith, a, b, d, e)
 
-pub returns-clause-exact : goal.returns-clause-exact
-returns-clause-exact c =
+pub returns : goal.returns
+returns c =
     let p = c.args.p.now in
     let q = c.args.q.now in
-    rows_exact (p.dims + q.dims) (Concatenated p.dims (Con p.rows) (Con q.rows)) (concatenated p q) c.in_ok-all.all
+    rows_becomes (p.dims + q.dims) (Concatenated p.dims (Con p.rows) (Con q.rows)) (concatenated p q) c.in_ok-all.all
     c.in_ok-made.made c.in_ok-made.outcome
     (joined_takes p q c.new-none.result c.in_ok-own.own c.in_ok-all.all c.rows.result.now c.rows-2.result.now
     c.as_slice.result.now c.as_slice-2.result.now c.dims-n.result c.dims-m.result c.rows.ensures.canonical
@@ -33,32 +33,4 @@ returns-clause-exact c =
     c.in_ok-own.ensures.dims c.in_ok-all.ensures.dims
     (c.as_slice.ensures.value ∙ c.in_ok-first.ensures.dims) (c.as_slice-2.ensures.value ∙ c.in_ok-last.ensures.dims) c.rows.ensures.rows
     c.rows-2.ensures.rows c.in_ok-own.ensures.rows c.in_ok-all.ensures.rows)
-    c.in_ok-made.ensures.exact
-
-pub returns-clause-within : goal.returns-clause-within
-returns-clause-within c =
-    let p = c.args.p.now in
-    let q = c.args.q.now in
-    rows_within (p.dims + q.dims) (Concatenated p.dims (Con p.rows) (Con q.rows)) (concatenated p q) c.in_ok-all.all
-    (Con c.in_ok-made.made.rows)
-    (joined_takes p q c.new-none.result c.in_ok-own.own c.in_ok-all.all c.rows.result.now c.rows-2.result.now
-    c.as_slice.result.now c.as_slice-2.result.now c.dims-n.result c.dims-m.result c.rows.ensures.canonical
-    c.rows-2.ensures.canonical c.dims-n.ensures c.dims-m.ensures c.new-none.ensures.rows c.new-none.ensures.dims
-    c.in_ok-own.ensures.dims c.in_ok-all.ensures.dims
-    (c.as_slice.ensures.value ∙ c.in_ok-first.ensures.dims) (c.as_slice-2.ensures.value ∙ c.in_ok-last.ensures.dims) c.rows.ensures.rows
-    c.rows-2.ensures.rows c.in_ok-own.ensures.rows c.in_ok-all.ensures.rows)
-    c.in_ok-made.ensures.within
-
-pub returns-clause-strain : goal.returns-clause-strain
-returns-clause-strain c =
-    let p = c.args.p.now in
-    let q = c.args.q.now in
-    rows_flagged (p.dims + q.dims) (Concatenated p.dims (Con p.rows) (Con q.rows)) (concatenated p q) c.in_ok-all.all
-    c.in_ok-made.outcome
-    (joined_takes p q c.new-none.result c.in_ok-own.own c.in_ok-all.all c.rows.result.now c.rows-2.result.now
-    c.as_slice.result.now c.as_slice-2.result.now c.dims-n.result c.dims-m.result c.rows.ensures.canonical
-    c.rows-2.ensures.canonical c.dims-n.ensures c.dims-m.ensures c.new-none.ensures.rows c.new-none.ensures.dims
-    c.in_ok-own.ensures.dims c.in_ok-all.ensures.dims
-    (c.as_slice.ensures.value ∙ c.in_ok-first.ensures.dims) (c.as_slice-2.ensures.value ∙ c.in_ok-last.ensures.dims) c.rows.ensures.rows
-    c.rows-2.ensures.rows c.in_ok-own.ensures.rows c.in_ok-all.ensures.rows)
-    c.in_ok-made.ensures.strain
+    c.in_ok-made.ensures.becomes

@@ -3,7 +3,7 @@ use Rattle.std.proofs.Common.{◌+◌, ◌∙◌, ap, arith, length}
 use Rattle.lra_linear.specs.Descriptions.{Con}
 use Rattle.lra_queries.specs.Expanded.{Expanded, expanded}
 use Rattle.lra_queries.proofs.ExpandedSets.{expanded_takes, twin_length}
-use Rattle.lra_queries.proofs.TakenRows.{rows_exact, rows_flagged, rows_within}
+use Rattle.lra_queries.proofs.TakenRows.{rows_becomes}
 use Rattle.lra_queries.proofs.joining.expand.Goals as goal
 
 pub push_moved-requires : goal.push_moved-requires
@@ -22,11 +22,11 @@ push_moved-requires-2 c =
     let e = c.in_ok-own.ensures.dims in
     omega (arith, a, b, d, e)
 
-pub returns-clause-exact : goal.returns-clause-exact
-returns-clause-exact c =
+pub returns : goal.returns
+returns c =
     let p = c.args.p.now in
     let k = c.args.dim in
-    rows_exact (p.dims + 1) (Expanded p.dims k (Con p.rows)) (expanded k p) c.in_ok-all.all
+    rows_becomes (p.dims + 1) (Expanded p.dims k (Con p.rows)) (expanded k p) c.in_ok-all.all
     c.in_ok-made.made c.in_ok-made.outcome
     (expanded_takes p c.new-none.result c.in_ok-own.own c.in_ok-all.all c.rows.result.now c.rows-2.result.now
     c.as_slice.result.now c.as_slice-2.result.now c.in_ok-twin.twin.items c.dims-n.result k c.rows.ensures.canonical
@@ -34,32 +34,4 @@ returns-clause-exact c =
     c.in_ok-all.ensures.dims (c.as_slice.ensures.value ∙ c.in_ok-first.ensures.dims) c.in_ok-twin.ensures
     (c.as_slice-2.ensures.value ∙ c.in_ok-push.ensures.items) c.rows.ensures.rows c.rows-2.ensures.rows
     c.in_ok-own.ensures.rows c.in_ok-all.ensures.rows)
-    c.in_ok-made.ensures.exact
-
-pub returns-clause-within : goal.returns-clause-within
-returns-clause-within c =
-    let p = c.args.p.now in
-    let k = c.args.dim in
-    rows_within (p.dims + 1) (Expanded p.dims k (Con p.rows)) (expanded k p) c.in_ok-all.all
-    (Con c.in_ok-made.made.rows)
-    (expanded_takes p c.new-none.result c.in_ok-own.own c.in_ok-all.all c.rows.result.now c.rows-2.result.now
-    c.as_slice.result.now c.as_slice-2.result.now c.in_ok-twin.twin.items c.dims-n.result k c.rows.ensures.canonical
-    c.requires.dim c.dims-n.ensures c.new-none.ensures.rows c.new-none.ensures.dims c.in_ok-own.ensures.dims
-    c.in_ok-all.ensures.dims (c.as_slice.ensures.value ∙ c.in_ok-first.ensures.dims) c.in_ok-twin.ensures
-    (c.as_slice-2.ensures.value ∙ c.in_ok-push.ensures.items) c.rows.ensures.rows c.rows-2.ensures.rows
-    c.in_ok-own.ensures.rows c.in_ok-all.ensures.rows)
-    c.in_ok-made.ensures.within
-
-pub returns-clause-strain : goal.returns-clause-strain
-returns-clause-strain c =
-    let p = c.args.p.now in
-    let k = c.args.dim in
-    rows_flagged (p.dims + 1) (Expanded p.dims k (Con p.rows)) (expanded k p) c.in_ok-all.all
-    c.in_ok-made.outcome
-    (expanded_takes p c.new-none.result c.in_ok-own.own c.in_ok-all.all c.rows.result.now c.rows-2.result.now
-    c.as_slice.result.now c.as_slice-2.result.now c.in_ok-twin.twin.items c.dims-n.result k c.rows.ensures.canonical
-    c.requires.dim c.dims-n.ensures c.new-none.ensures.rows c.new-none.ensures.dims c.in_ok-own.ensures.dims
-    c.in_ok-all.ensures.dims (c.as_slice.ensures.value ∙ c.in_ok-first.ensures.dims) c.in_ok-twin.ensures
-    (c.as_slice-2.ensures.value ∙ c.in_ok-push.ensures.items) c.rows.ensures.rows c.rows-2.ensures.rows
-    c.in_ok-own.ensures.rows c.in_ok-all.ensures.rows)
-    c.in_ok-made.ensures.strain
+    c.in_ok-made.ensures.becomes
