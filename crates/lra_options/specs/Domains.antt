@@ -17,3 +17,9 @@ abbrev pub shows_generators : Domain → Bool
 shows_generators Poly = true
 shows_generators Box = false
 shows_generators Oct = false
+
+-- a loop's head can stop at rows that are given to it
+abbrev pub stops_at_rows : Domain → Bool
+stops_at_rows Poly = true
+stops_at_rows Box = false
+stops_at_rows Oct = false

@@ -1,13 +1,15 @@
 -- The options of an analysis beside its domain: a row for each. From it come its rule among the words, its reading, its
 -- range and its default, and what a report's first line and its JSON tell of it.
-use Rattle.std.specs.Prelude.{ℕ, ◌≤◌, List, [], ◌∷◌, Bool, true, false, ◌||◌, Option, None, Some, codes}
+use Rattle.std.specs.Prelude.{ℕ, ◌≤◌, List, [], ◌∷◌, Bool, true, false, ◌&&◌, ◌||◌, not, nat_eq}
+use Rattle.std.specs.Prelude.{Option, None, Some, codes}
 use Rattle.std.specs.Str.Parse.{digits_value}
 use Rattle.lra_options.specs.declared.options.Domain.TheVariants.{Poly}
 use Rattle.lra_options.specs.declared.options.Options.{Options}
 use Rattle.lra_options.specs.declared.options.NumberOption.{NumberOption}
 use Rattle.lra_options.specs.declared.options.NumberOption.TheVariants.{Parts, Delay, Narrow}
 use Rattle.lra_options.specs.declared.options.FlagOption.{FlagOption}
-use Rattle.lra_options.specs.declared.options.FlagOption.TheVariants.{Limited}
+use Rattle.lra_options.specs.declared.options.FlagOption.TheVariants.{Limited, Thresholds}
+use Rattle.lra_options.specs.Domains.{stops_at_rows}
 
 -- numbers ----------------------------------------------------------------------------------------------------------
 
@@ -38,6 +40,12 @@ set_number Parts value o = record o { parts = value }
 set_number Delay value o = record o { delay = value }
 set_number Narrow value o = record o { narrow = value }
 
+-- a report tells it always, or only where it isn't its default
+abbrev pub is_number_always_told : NumberOption → Bool
+is_number_always_told Parts = true
+is_number_always_told Delay = true
+is_number_always_told Narrow = true
+
 -- in the order of the first line
 abbrev pub number_options : List NumberOption
 number_options = Parts ∷ Delay ∷ Narrow ∷ []
@@ -59,16 +67,19 @@ pub record FlagRow : Type 0 where
 
 abbrev pub flag_row : FlagOption → FlagRow
 flag_row Limited = record { name = codes "limited"; is_always_told = true }
+flag_row Thresholds = record { name = codes "thresholds"; is_always_told = false }
 
 abbrev pub flag_value : FlagOption → Options → Bool
 flag_value Limited o = o.limited
+flag_value Thresholds o = o.thresholds
 
 abbrev pub set_flag : FlagOption → Bool → Options → Options
 set_flag Limited value o = record o { limited = value }
+set_flag Thresholds value o = record o { thresholds = value }
 
 -- in the order of the first line, behind the numbers
 abbrev pub flag_options : List FlagOption
-flag_options = Limited ∷ []
+flag_options = Limited ∷ Thresholds ∷ []
 
 abbrev pub is_told : FlagOption → Options → Bool
 is_told option o = (flag_row option).is_always_told || flag_value option o
@@ -83,4 +94,24 @@ default_options = record {
   delay = default_number Delay;
   narrow = default_number Narrow;
   limited = false;
+  thresholds = false;
 }
+
+-- those for which the word `best` stands
+abbrev pub best_options : Options
+best_options = record {
+  domain = Poly;
+  parts = 4;
+  delay = 1;
+  narrow = 1;
+  limited = false;
+  thresholds = true;
+}
+
+-- they can be given together: a widening is limited in one way, and thresholds limit heads that can stop at rows
+abbrev pub agree : Options → Bool
+agree o = not o.thresholds || (not o.limited && stops_at_rows o.domain)
+
+abbrev pub is_number_told : NumberOption → Options → Bool
+is_number_told option o = is_number_always_told option
+    || not (nat_eq (number_value option o) (number_value option default_options))

@@ -4,6 +4,6 @@
 mod options;
 
 pub use options::{
-    DEFAULT_OPTIONS, DOMAINS, Domain, FLAG_OPTIONS, FlagOption, NUMBER_OPTIONS, NumberOption,
-    Options, default_options,
+    BEST_OPTIONS, DEFAULT_OPTIONS, DOMAINS, Domain, FLAG_OPTIONS, FlagOption, NUMBER_OPTIONS,
+    NumberOption, Options, best_options, default_options,
 };

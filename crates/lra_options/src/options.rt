@@ -1,8 +1,9 @@
 //! How a source is analysed.
 
 ghost use Rattle.std.specs.Prelude.{◌≡◌, Some};
-ghost use Rattle.lra_options.specs.Domains.{domain_name, shows_generators};
+ghost use Rattle.lra_options.specs.Domains.{domain_name, shows_generators, stops_at_rows};
 ghost use Rattle.lra_options.specs.OptionRows.{number_row, number_value, set_number};
+ghost use Rattle.lra_options.specs.OptionRows.{is_number_always_told, is_number_told};
 ghost use Rattle.lra_options.specs.OptionRows.{flag_row, flag_value, set_flag};
 ghost use Rattle.lra_options.specs.OptionRows as rows;
 
@@ -42,6 +43,17 @@ impl Domain {
             Domain::Oct => false,
         }
     }
+
+    /// Whether its heads can stop at rows that are given.
+    pub fn stops_at_rows(self) -> bool
+        ensures { result ≡ stops_at_rows self }
+    {
+        match self {
+            Domain::Poly => true,
+            Domain::Box => false,
+            Domain::Oct => false,
+        }
+    }
 }
 
 /// The options of an analysis.
@@ -57,6 +69,17 @@ pub struct Options {
     pub narrow: u32,
     /// Whether the widening is limited by the program's own conditions.
     pub limited: bool,
+    /// Whether it is limited by thresholds: by the conditions of a loop and in it, and by the program's constants.
+    pub thresholds: bool,
+}
+
+impl Options {
+    /// Whether they can be given together.
+    pub fn agree(self) -> bool
+        ensures { result ≡ rows.agree self }
+    {
+        !self.thresholds || (!self.limited && self.domain.stops_at_rows())
+    }
 }
 
 /// An option that is a number.
@@ -152,6 +175,24 @@ impl NumberOption {
             },
         }
     }
+
+    /// Whether a report tells it also where it is its default.
+    fn is_always_told(self) -> bool
+        ensures { result ≡ is_number_always_told self }
+    {
+        match self {
+            NumberOption::Parts => true,
+            NumberOption::Delay => true,
+            NumberOption::Narrow => true,
+        }
+    }
+
+    /// Whether a report under these options tells it.
+    pub fn is_told(self, options: Options) -> bool
+        ensures { result ≡ is_number_told self options }
+    {
+        self.is_always_told() || self.value(options) != self.value(default_options())
+    }
 }
 
 /// An option that is a flag.
@@ -159,10 +200,12 @@ impl NumberOption {
 pub enum FlagOption {
     /// Whether the widening is limited by the program's own conditions.
     Limited,
+    /// Whether loops grow by the tightest of the program's own constants and conditions.
+    Thresholds,
 }
 
 /// These options, in the order of a report's first line, where they stand behind the numbers.
-pub const FLAG_OPTIONS: [FlagOption; 1] = [FlagOption::Limited];
+pub const FLAG_OPTIONS: [FlagOption; 2] = [FlagOption::Limited, FlagOption::Thresholds];
 
 impl FlagOption {
     /// Its name, as words and reports have it.
@@ -171,6 +214,7 @@ impl FlagOption {
     {
         match self {
             FlagOption::Limited => "limited",
+            FlagOption::Thresholds => "thresholds",
         }
     }
 
@@ -180,6 +224,7 @@ impl FlagOption {
     {
         match self {
             FlagOption::Limited => true,
+            FlagOption::Thresholds => false,
         }
     }
 
@@ -189,6 +234,7 @@ impl FlagOption {
     {
         match self {
             FlagOption::Limited => options.limited,
+            FlagOption::Thresholds => options.thresholds,
         }
     }
 
@@ -199,6 +245,10 @@ impl FlagOption {
         match self {
             FlagOption::Limited => Options {
                 limited: value,
+                ..options
+            },
+            FlagOption::Thresholds => Options {
+                thresholds: value,
                 ..options
             },
         }
@@ -219,6 +269,18 @@ pub const DEFAULT_OPTIONS: Options = Options {
     delay: 1,
     narrow: 1,
     limited: false,
+    thresholds: false,
+};
+
+/// The options for which one word stands, for whoever doesn't want to choose: polyhedra of up to four parts, limited by
+/// thresholds.
+pub const BEST_OPTIONS: Options = Options {
+    domain: Domain::Poly,
+    parts: 4,
+    delay: 1,
+    narrow: 1,
+    limited: false,
+    thresholds: true,
 };
 
 /// These options; each number is the one that its text writes.
@@ -226,4 +288,11 @@ pub fn default_options() -> Options
     ensures { result ≡ rows.default_options }
 {
     DEFAULT_OPTIONS
+}
+
+/// The options for which the word `--best` stands.
+pub fn best_options() -> Options
+    ensures { result ≡ rows.best_options }
+{
+    BEST_OPTIONS
 }
