@@ -1,5 +1,5 @@
 -- What the stages of the reading answer, as answers of the source.
-use Rattle.std.proofs.Common.{◌≡◌, ◌≤◌, ◌<◌, ℕ, List, length, take, sym, ◌∙◌, subst, Result}
+use Rattle.std.proofs.Common.{◌≡◌, ◌≤◌, ◌<◌, ℕ, ℤ, List, length, take, sym, ap, ◌∙◌, subst, Result}
 use Rattle.std.specs.Result.{IsErrAnd}
 use Rattle.lra_base.specs.declared.refusals.Cause.{Cause}
 use Rattle.lra_base.specs.declared.refusals.Cause.TheVariants.{TooLong}
@@ -7,7 +7,7 @@ use Rattle.lra_base.specs.declared.refusals.Place.{Place}
 use Rattle.lra_tree.specs.declared.tokens.Token.{Token}
 use Rattle.lra_tree.specs.Trees.{FileTree}
 use Rattle.lra_base.specs.Places.{place_behind, greatest_length}
-use Rattle.lra_tree.specs.Tokens.{Lex, IsTokenFault}
+use Rattle.lra_tree.specs.Tokens.{Lex, IsTokenFault, OneReading}
 use Rattle.lra_tree.specs.Faults.{IsTree, IsTextFault}
 use Rattle.lra_tree.specs.Grammar.{Spells}
 use Rattle.lra_meaning.specs.Refuse.{RefusesTree, Refuse, too_long, bad_token, bad_text, bad_tree}
@@ -15,7 +15,8 @@ use Rattle.lra_base.specs.declared.error.SourceError.{SourceError}
 use Rattle.lra_base.specs.Refused.{IfRefusal, IfRefused}
 use Rattle.lra_base.proofs.Refusing.{refusal_by, exit_refused}
 use Rattle.lra_base.proofs.Limit.{limit_is}
-use Rattle.lra_front.specs.Stages.{HasTree}
+use Rattle.lra_tree.specs.Constants.{constants_of}
+use Rattle.lra_front.specs.Stages.{HasConstants, HasTree, OneConstants}
 
 within : (source : List ℕ) → length source ≤ 65536 → length source ≤ greatest_length
 within source l = rw limit_is l
@@ -38,6 +39,16 @@ text_refused source tokens c at l lexed fault = bad_text tokens c at (within sou
 -- one that has a tree
 pub has_tree : (source : List ℕ) (tokens : List Token) (t : FileTree) → length source ≤ 65536 → Lex source tokens → IsTree Spells tokens t → HasTree source t
 has_tree source tokens t l lexed parsed = record { tokens = tokens; not_long = within source l; lexed = lexed; parsed = parsed }
+
+-- its constants
+pub has_constants : (source : List ℕ) (tokens given : List Token) (constants : List ℤ) → Lex source tokens → given ≡ tokens → constants ≡ constants_of given
+    → HasConstants source constants
+has_constants source tokens given constants lexed same are = record { tokens = tokens; lexed = lexed; are = are ∙ ap constants_of same }
+
+pub one_list : OneReading → OneConstants
+one_list reading source one two a b =
+    let same : a.tokens ≡ b.tokens = (reading source).0 a.tokens b.tokens a.lexed b.lexed in
+    a.are ∙ ap constants_of same ∙ sym b.are
 
 -- one whose tree is refused
 pub tree_refused : (source : List ℕ) (t : FileTree) (c : Cause) (at : Place) → HasTree source t → RefusesTree t c at → Refuse Spells source c at

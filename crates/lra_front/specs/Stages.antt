@@ -1,9 +1,10 @@
 -- What is known of a source between the stages of its reading.
-use Rattle.std.specs.Prelude.{◌≡◌, ℕ, ◌≤◌, List, [], length, None}
+use Rattle.std.specs.Prelude.{◌≡◌, ℕ, ◌≤◌, ℤ, List, [], length, None}
 use Rattle.lra_tree.specs.declared.tokens.Token.{Token}
 use Rattle.lra_tree.specs.Trees.{FileTree}
 use Rattle.lra_base.specs.Places.{greatest_length}
 use Rattle.lra_tree.specs.Tokens.{Lex}
+use Rattle.lra_tree.specs.Constants.{constants_of}
 use Rattle.lra_tree.specs.Faults.{IsTree}
 use Rattle.lra_tree.specs.Grammar.{Spells}
 use Rattle.lra_meaning.specs.NameFaults.{name_faults}
@@ -23,6 +24,16 @@ pub record HasTree (source : List ℕ) (t : FileTree) : Type 0 where
   pub not_long : length source ≤ greatest_length
   pub lexed : Lex source tokens
   pub parsed : IsTree Spells tokens t
+
+-- the constants of a source that has tokens: those are its one list (`OneReading`), so these are its own
+pub record HasConstants (source : List ℕ) (constants : List ℤ) : Type 0 where
+  pub tokens : List Token
+  pub lexed : Lex source tokens
+  pub are : constants ≡ constants_of tokens
+
+-- a source has one list of constants
+abbrev pub OneConstants : Type 0
+OneConstants = (source : List ℕ) (one two : List ℤ) → HasConstants source one → HasConstants source two → one ≡ two
 
 -- a tree whose names have no fault, that has no recursion and whose program passes no limit, the tree of operations of
 -- that program, and its points

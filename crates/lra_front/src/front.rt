@@ -9,20 +9,21 @@ ghost use Rattle.lra_meaning.specs.Resolve.{resolve};
 ghost use Rattle.lra_tree.specs.Grammar.{Spells};
 ghost use Rattle.lra_tree.specs.Labels.{labels_of};
 ghost use Rattle.lra_meaning.specs.Refuse.{Refuse};
-ghost use Rattle.lra_front.specs.Stages.{HasTree, HasGraph};
+ghost use Rattle.lra_front.specs.Stages.{HasConstants, HasGraph, HasTree};
 
 use crate::program::{graph_of, program_of};
-use crate::reading::read_tree;
+use crate::reading::{Reading, read_text};
 use lra_base::SourceError;
 use lra_names::Resolution;
 use lra_operations::Graph;
 use lra_tree::Tree;
 use std::alloc::Global;
 
-/// What is read of an accepted source: its tree, its program with the table of its labels, and the tree of operations
-/// of that with its points.
+/// What is read of an accepted source: its tree, its constants, its program with the table of its labels, and the tree
+/// of operations of that with its points.
 pub struct Front {
     pub tree: Tree,
+    pub constants: Vec<i64>,
     pub resolution: Resolution,
     pub graph: Graph,
 }
@@ -31,6 +32,7 @@ impl Drop for Front {
     fn drop(self) {
         let Front {
             tree: _,
+            constants: _,
             resolution: _,
             graph: _,
         } = self;
@@ -41,17 +43,20 @@ impl Drop for Front {
 pub fn read_source(alloc: Global, bytes: &[u8]) -> Result<Front, SourceError>
     requires { length bytes.now + 1 < 2 ^ 32 }
     ensures tree { IfOk result (λ f. HasTree bytes.now (tree_view f.tree)) }
+    ensures constants { IfOk result (λ f. HasConstants bytes.now f.constants.items) }
     ensures program { IfOk result (λ f. program_view f.resolution.program ≡ resolve (tree_view f.tree)) }
     ensures labels { IfOk result (λ f. f.resolution.labels.labels ≡ labels_of (tree_view f.tree)) }
     ensures graph { IfOk result (λ f. HasGraph (tree_view f.tree) (node_view f.graph.tree)
         (map site_view f.graph.sites.items)) }
     ensures refused { IfRefused result (λ r. Refuse Spells bytes.now r.cause r.place) }
 {
-    let tree = read_tree(alloc, bytes)?;
+    let reading = read_text(alloc, bytes)?;
+    let Reading { tree, constants } = reading;
     let resolution = program_of(alloc, &tree)?;
     let graph = graph_of(alloc, &tree, &resolution)?;
     Ok(Front {
         tree,
+        constants,
         resolution,
         graph,
     })

@@ -3,6 +3,7 @@
 ghost use Rattle.lra_tree.specs.Grammar.{Spells};
 ghost use Rattle.lra_meaning.specs.Refuse.{OneAnswer};
 ghost use Rattle.lra_front.specs.Claims.{EachAnswer};
+ghost use Rattle.lra_front.specs.Stages.{OneConstants};
 
 /// A source is accepted with at most one tree, or refused for at most one cause at one place; never both.
 pub fn one_answer()
@@ -10,6 +11,13 @@ pub fn one_answer()
 {
     lra_lex::one_reading();
     lra_readers::one_tree();
+}
+
+/// A source has at most one list of constants.
+pub fn one_constants()
+    ensures { OneConstants }
+{
+    lra_lex::one_reading();
 }
 
 /// Every list of bytes is refused, one of more than 65,536 bytes for that, or accepted with its tree and the tree of

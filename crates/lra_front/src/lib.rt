@@ -11,6 +11,6 @@ mod program;
 mod reading;
 
 pub use front::{Front, read_source};
-pub use laws::{each_answer, one_answer};
+pub use laws::{each_answer, one_answer, one_constants};
 pub use program::{graph_of, program_of};
-pub use reading::read_tree;
+pub use reading::{Reading, read_text};

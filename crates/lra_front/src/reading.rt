@@ -1,22 +1,30 @@
-//! From the bytes of a source to its tree.
+//! From the bytes of a source to its tree and its constants.
 
 ghost use Rattle.std.specs.Prelude.{◌<◌, ◌+◌, ◌^◌, length, IfOk};
 ghost use Rattle.lra_base.specs.Refused.{IfRefused};
 ghost use Rattle.lra_tree.specs.Views.{tree_view};
 ghost use Rattle.lra_tree.specs.Grammar.{Spells};
 ghost use Rattle.lra_meaning.specs.Refuse.{Refuse};
-ghost use Rattle.lra_front.specs.Stages.{HasTree};
+ghost use Rattle.lra_front.specs.Stages.{HasConstants, HasTree};
 
 use lra_base::{Cause, GREATEST_LENGTH, Refusal, SourceError, place_behind};
-use lra_lex::tokens;
+use lra_lex::{constants_of, tokens};
 use lra_parse::parse;
 use lra_tree::Tree;
 use std::alloc::Global;
 
-/// The tree of a source, or its refusal.
-pub fn read_tree(alloc: Global, bytes: &[u8]) -> Result<Tree, SourceError>
+/// What is read of a text: its tree, and the constants among its tokens.
+#[derive(Drop)]
+pub struct Reading {
+    pub tree: Tree,
+    pub constants: Vec<i64>,
+}
+
+/// The tree of a source and its constants, or its refusal.
+pub fn read_text(alloc: Global, bytes: &[u8]) -> Result<Reading, SourceError>
     requires { length bytes.now + 1 < 2 ^ 32 }
-    ensures found { IfOk result (λ t. HasTree bytes.now (tree_view t)) }
+    ensures found { IfOk result (λ r. HasTree bytes.now (tree_view r.tree)) }
+    ensures constants { IfOk result (λ r. HasConstants bytes.now r.constants.items) }
     ensures refused { IfRefused result (λ r. Refuse Spells bytes.now r.cause r.place) }
 {
     if bytes.len() > GREATEST_LENGTH {
@@ -28,5 +36,6 @@ pub fn read_tree(alloc: Global, bytes: &[u8]) -> Result<Tree, SourceError>
     }
     let tokens = tokens(alloc, bytes)?;
     let tree = parse(alloc, &tokens)?;
-    Ok(tree)
+    let constants = constants_of(alloc, &tokens)?;
+    Ok(Reading { tree, constants })
 }

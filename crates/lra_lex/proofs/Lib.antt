@@ -14,3 +14,5 @@ pub mod ReadingLemmas
 -- A source has one reading, and it has one.
 pub mod OneReadingLemmas
 pub mod EachReading
+-- Constants.
+pub mod ConstantLemmas

@@ -4,6 +4,7 @@ pub mod LongestByTest
 pub mod Lexemes
 pub mod LexedByTest
 pub mod TokenExamples
+mod ConstantExamples
 -- Trees, and what they stand for.
 mod ViewExamples
 pub mod TreeSamples

@@ -1,6 +1,7 @@
 -- In the order in which they are to be read.
 pub mod Lexeme
 pub mod Tokens
+pub mod Constants
 pub mod Trees
 pub mod Views
 pub mod Texts

@@ -5,14 +5,14 @@ use Rattle.lra_front.proofs.StageSteps.{well}
 use Rattle.lra_front.proofs.front.read_source.Goals as goal
 
 pub graph_of-requires-clause-well : goal.graph_of-requires-clause-well
-graph_of-requires-clause-well c = well c.args.bytes.now (tree_view c.in_ok-tree.tree) c.in_ok-tree.ensures.found c.in_ok-resolution.ensures.clean
+graph_of-requires-clause-well c = well c.args.bytes.now (tree_view c.in_ok-reading.reading.tree) c.in_ok-reading.ensures.found c.in_ok-resolution.ensures.clean
 
 pub returns-in_err-resolution-clause-refused : goal.returns-in_err-resolution-clause-refused
 returns-in_err-resolution-clause-refused c =
-    exit_tree c.args.bytes.now (tree_view c.in_ok-tree.tree) c.from_residual-in_err-resolution.result _ c.in_ok-tree.ensures.found c.from_residual-in_err-resolution.ensures.1
+    exit_tree c.args.bytes.now (tree_view c.in_ok-reading.reading.tree) c.from_residual-in_err-resolution.result _ c.in_ok-reading.ensures.found c.from_residual-in_err-resolution.ensures.1
     c.in_err-resolution.ensures.refused
 
 pub returns-in_err-graph-clause-refused : goal.returns-in_err-graph-clause-refused
 returns-in_err-graph-clause-refused c =
-    exit_tree c.args.bytes.now (tree_view c.in_ok-tree.tree) c.from_residual-in_err-graph.result _ c.in_ok-tree.ensures.found c.from_residual-in_err-graph.ensures.1
+    exit_tree c.args.bytes.now (tree_view c.in_ok-reading.reading.tree) c.from_residual-in_err-graph.result _ c.in_ok-reading.ensures.found c.from_residual-in_err-graph.ensures.1
     c.in_err-graph.ensures.refused

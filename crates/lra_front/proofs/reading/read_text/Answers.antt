@@ -1,4 +1,4 @@
--- Goals of `read_tree`: the tree of a source, or its refusal.
+-- Goals of `read_text`: the tree of a source and its constants, or its refusal.
 use Rattle.std.proofs.Common.{List, arith, refl, sym, subst}
 use Rattle.lra_tree.specs.declared.tokens.Token.{Token}
 use Rattle.lra_base.specs.declared.refusals.Cause.TheVariants.{TooLong}
@@ -10,8 +10,8 @@ use Rattle.lra_tree.specs.Grammar.{Spells}
 use Rattle.lra_meaning.specs.Refuse.{Refuse}
 use Rattle.lra_readers.specs.Files.{EndsOnce, AreSmall}
 use Rattle.lra_readers.proofs.Ended.{lexed_end, lexed_small}
-use Rattle.lra_front.proofs.ReadSteps.{long_refused, exit_lexed, exit_parsed, has_tree}
-use Rattle.lra_front.proofs.reading.read_tree.Goals as goal
+use Rattle.lra_front.proofs.ReadSteps.{long_refused, exit_lexed, exit_parsed, has_constants, has_tree}
+use Rattle.lra_front.proofs.reading.read_text.Goals as goal
 
 pub slice_bounds-place_behind-end : goal.slice_bounds-place_behind-end
 slice_bounds-place_behind-end c = taken 65536 c.args.bytes.now c.if-bytes-gt-GREATEST_LENGTH.true
@@ -44,3 +44,8 @@ pub returns-clause-found : goal.returns-clause-found
 returns-clause-found c =
     has_tree c.args.bytes.now c.in_ok-tokens.tokens.items (tree_view c.in_ok-tree.tree) c.if-bytes-gt-GREATEST_LENGTH.false c.in_ok-tokens.ensures.found
     (subst (λ (T : List Token). IsTree Spells T (tree_view c.in_ok-tree.tree)) c.deref.ensures.value c.in_ok-tree.ensures.found)
+
+pub returns-clause-constants : goal.returns-clause-constants
+returns-clause-constants c =
+    has_constants c.args.bytes.now c.in_ok-tokens.tokens.items c.deref-2.result.now c.in_ok-constants.constants.items c.in_ok-tokens.ensures.found
+    c.deref-2.ensures.value c.in_ok-constants.ensures
