@@ -12,7 +12,7 @@ use Rattle.lra_domain.specs.Meaning.{Meaning}
 use Rattle.lra_domain.specs.Laws.{Laws}
 use Rattle.lra_program.specs.Program.{Cond, Program}
 use Rattle.lra_operations.specs.Graph.{Exit, broken, continued, returned, Node, empty, point, act, check, seq, choose, iterate, catch, leave}
-use Rattle.lra_options.specs.declared.options.Options.{Options}
+use Rattle.lra_flow.specs.Plan.{Plan, Widening}
 use Rattle.lra_flow.specs.Operations.{Operations, dropping}
 use Rattle.lra_domain.specs.Moves.{Moves, stay, make, first_then, join_of}
 use Rattle.lra_flow.specs.Moves.{AreMade}
@@ -33,7 +33,7 @@ pub all_both : {X : Type 0} (P : X → Type 0) (xs ys : List X) → AllByRecursi
 all_both P [] ys h i = i
 all_both P (x ∷ xs) ys h i = (h.0, all_both P xs ys h.1 i)
 
-module _ (V H : Type 0) (ops : Operations V H) (set : Options) (Good : V → Type 0) (Fine : H → Type 0) (keeps : Preserves ops set.parts Good Fine) where
+module _ (V H : Type 0) (ops : Operations V H) (set : Plan) (Good : V → Type 0) (Fine : H → Type 0) (keeps : Preserves ops set.parts Good Fine) where
   made_good : (p : Moves) (v : V) (e : Exactness) (w : V) → AreMade ops p v e w → Good v → Good w
   made_good stay v e w (same, exact) g = subst Good (sym same) g
   made_good (make step) v e w is g = keeps.changed step v e w is g
@@ -100,13 +100,13 @@ module _ (V H : Type 0) (ops : Operations V H) (set : Options) (Good : V → Typ
         let h = inside (noted q e f) w s turn (leaves_good base c true v e w on g) in
         same_good r _ is (record { normal = h.normal; breaks = h.breaks; continues = h.continues; returns = h.returns; entries = (g, h.entries) })
 
-    grows_good : (limited : Bool) (left : ℕ) (f : Option ℕ) (h : H) (later : List H) (v : V) (r : Result V) → Grows V H ops q base c body limited left f h later v r → Fine h → Good v × AreGood r
-    grows_good limited left f h [] v r ((e, valued, turn), stays) fine =
+    grows_good : (widening : Widening) (left : ℕ) (f : Option ℕ) (h : H) (later : List H) (v : V) (r : Result V) → Grows V H ops q base c body widening left f h later v r → Fine h → Good v × AreGood r
+    grows_good widening left f h [] v r ((e, valued, turn), stays) fine =
         let g = keeps.valued h e v valued fine in
         (g, round_good (noted q e f) v r turn g)
-    grows_good limited left f h (next ∷ later) v r (u, s, e, (d, valued, turn), grown, rest) fine =
+    grows_good widening left f h (next ∷ later) v r (u, s, e, (d, valued, turn), grown, rest) fine =
         let inner = round_good (noted q d f) u s turn (keeps.valued h d u valued fine) in
-        grows_good limited (left - 1) (noted q e s.flag) next later v r rest (keeps.grown h s.normal _ e next grown fine inner.normal)
+        grows_good widening (left - 1) (noted q e s.flag) next later v r rest (keeps.grown h s.normal _ e next grown fine inner.normal)
 
     narrows_good : (more : ℕ) (first u : V) (s : Result V) (v : V) (r : Result V) → Narrows V H ops q base c body more first u s v r → Good first → Good u → AreGood s → Good v × AreGood r
     narrows_good zero first u s v r (same, is) g k h = (subst Good (sym same) k, same_good r s is h)
@@ -129,7 +129,7 @@ module _ (V H : Type 0) (ops : Operations V H) (set : Options) (Good : V → Typ
       let y = pass_good b (noted q e s.flag) off t two (leaves_good base c false v e off fails g) in
       same_good r _ is (both_good s t w (noted q i t.flag) x y (keeps.joined s.normal t.normal i w joined x.normal y.normal))
   pass_good (iterate q base c a) f v r (h, later, u, top, out, s, t, e, started, grown, narrowed, off, is) g =
-      let x = grows_good q base c (Pass V H ops set a) (pass_good a) set.limited set.delay f h later u s grown (keeps.started v _ h started g) in
+      let x = grows_good q base c (Pass V H ops set a) (pass_good a) set.widening set.delay f h later u s grown (keeps.started v _ h started g) in
       let y = narrows_good q base c (Pass V H ops set a) (pass_good a) set.narrow v u s top t narrowed g x.0 x.1 in
       let z = y.1 in
       same_good r _ is (record { normal = leaves_good base c false top e out off y.0; breaks = z.breaks; continues = z.continues; returns = z.returns; entries = z.entries })
@@ -142,7 +142,7 @@ module _ (V H : Type 0) (ops : Operations V H) (set : Options) (Good : V → Typ
   value_good [] q v h there = absurd (contains_none (value q v) there)
   value_good (x ∷ xs) q v h there = elim (contains_cases x (value q v) xs there) [ inl same ↦ subst IsGood same h.0 | inr later ↦ value_good xs q v h.1 later ]
 
-module _ {V H : Type 0} (m : Meaning V H) (laws : Laws m) (set : Options) (some : 1 ≤ set.parts) where
+module _ {V H : Type 0} (m : Meaning V H) (laws : Laws m) (set : Plan) (some : 1 ≤ set.parts) where
   caps_kept : Preserves (dropping m) set.parts (λ v. m.capped v set.parts) (λ h. m.head_capped h set.parts)
   caps_kept = record {
     void = λ n v is. laws.void_capped n set.parts v some is.0;
@@ -164,7 +164,7 @@ module _ {V H : Type 0} (m : Meaning V H) (laws : Laws m) (set : Options) (some 
       ((solves.is_value there.0 v).0 (slice_get_read values (length values) there.0 v refl there.1 (sym there.2)))
 
 -- what a domain's operations give is held
-module _ {V H : Type 0} (m : Meaning V H) (set : Options) where
+module _ {V H : Type 0} (m : Meaning V H) (set : Plan) where
   held_kept : Preserves (dropping m) set.parts m.formed m.head_formed
   held_kept = record {
     void = λ n v is. is.1;

@@ -1,7 +1,7 @@
 -- The linear form of an expression has the expression's value wherever there is one, and the test of a comparison passes exactly where
 -- the comparison is true.
 use Rattle.std.proofs.Common.{◌≡◌, ℕ, zero, suc, ℤ, pos, negsuc, ◌+ℤ◌, ◌*ℤ◌, List, [], ◌∷◌, Option, Some, None, Bool, true, false, length, refl, sym, ap, subst, ◌∙◌, arith, inl, inr}
-use Rattle.std.specs.Prelude.{◌-ℤ◌, ◌≤ℤ◌, map, replicate, slice_set, slice_get, if◌then◌else◌, ◌&&◌, IsTrue, ◌↔◌, ◌⊎◌, int_lt, int_le, not, neg_ℤ}
+use Rattle.std.specs.Prelude.{◌-ℤ◌, ◌≤ℤ◌, map, replicate, slice_set, slice_get, if◌then◌else◌, ◌&&◌, IsTrue, ◌↔◌, ◌⊎◌, int_lt, int_le, nat_lt, not, neg_ℤ}
 use Rattle.std.specs.List.{list_all}
 use Rattle.std.proofs.lemmas.Int.{ints}
 use Rattle.lra_linear.specs.declared.ConKind.TheVariants.{Ge, Eq}
@@ -14,7 +14,7 @@ use Rattle.lra_linear.proofs.Ring.{ring, v, ⊖, ◌⊕◌, ◌⊗◌}
 use Rattle.lra_base.specs.Operators.{Operator, plus, minus, times, over, modulo, Comparison, below, at_most, above, at_least, equal, differs}
 use Rattle.lra_program.specs.Program.{Expr, literal, read, input, negate, binary, compare}
 use Rattle.lra_program.specs.Value.{◌>>=◌, word, is_word, is_zero, index_of, Scene, apply, compares, value_of, truth_of}
-use Rattle.lra_flow.specs.Linear.{fitting, entrywise, combined, scaled, is_constant, operator_form, constant_form, variable_form, form_of, form_in, FormsAreRight, TestHolds, negated_form, less_one}
+use Rattle.lra_flow.specs.Linear.{fitting, entrywise, combined, scaled, is_constant, operator_form, constant_form, live_form, variable_form, form_of, form_in, FormsAreRight, TestHolds, negated_form, less_one}
 use Rattle.lra_flow.specs.Linear.{at_least_zero, comparison_test, difference_in, TestsAreRight, DiffersIsRight}
 
 -- what led to something
@@ -165,10 +165,18 @@ operator_wide live times f g h e a b = product_wide live f g h (is_constant f) (
 operator_wide live over f g h e a b = cc
 operator_wide live modulo f g h e a b = cc
 
+-- a variable that has a form lives, and has its own
+live_same : (live place : ℕ) (f : Form) → live_form live place ≡ Some f → variable_form live place ≡ f
+live_same live place f is = by_test (nat_lt place live) is
+  where
+    by_test : (b : Bool) → (if b then Some (variable_form live place) else None) ≡ Some f → variable_form live place ≡ f
+    by_test true e = cc
+    by_test false e = cc
+
 pub form_wide : (live base : ℕ) (e : Expr) (f : Form) → form_of live base e ≡ Some f → Wide live f
 form_wide live base (literal n) f is = wide_same live _ f (fitting_same (constant_form live (pos n)) f is) (record { width = copies_length live (pos 0) })
 form_wide live base (read x) f is =
-    let same : variable_form live (index_of base x) ≡ f = cc in
+    let same = live_same live (index_of base x) f is in
     wide_same live _ f same (record { width = set_length (replicate live (pos 0)) (index_of base x) (pos 1) ∙ copies_length live (pos 0) })
 form_wide live base input f is = cc
 form_wide live base (negate e) f is =
@@ -233,7 +241,7 @@ forms_are_right s (literal n) f draws left z is ran =
     value_same _ f s.store (fitting_same (constant_form (length s.store) (pos n)) f is) ∙ ap (λ (y : ℤ). pos n +ℤ y) (product_zeros (length s.store) s.store) ∙
     ring (v (pos n) ⊕ v (pos 0)) (v (pos n)) (omega arith) ∙ same
 forms_are_right s (read x) f draws left z is ran =
-    let same : variable_form (length s.store) (index_of s.base x) ≡ f = cc in
+    let same = live_same (length s.store) (index_of s.base x) f is in
     let (y, got, to) = bind_some (slice_get s.store (index_of s.base x)) (λ r. Some (r, draws)) (z, left) ran in
     let is_z : y ≡ z = some_first y z draws left to in
     value_same _ f s.store same ∙ ap (λ (r : ℤ). pos 0 +ℤ r) (product_unit (length s.store) (index_of s.base x) s.store y refl got) ∙ ring (v (pos 0) ⊕ v y) (v y) (omega arith) ∙ is_z

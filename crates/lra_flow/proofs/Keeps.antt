@@ -5,7 +5,7 @@ use Rattle.lra_domain.specs.Meaning.{Meaning}
 use Rattle.lra_domain.specs.Laws.{Laws}
 use Rattle.lra_program.specs.Step.{State}
 use Rattle.lra_operations.specs.Graph.{Node}
-use Rattle.lra_options.specs.declared.options.Options.{Options}
+use Rattle.lra_flow.specs.Plan.{Plan}
 use Rattle.lra_flow.specs.Operations.{dropping}
 use Rattle.lra_domain.specs.Moves.{Moves, stay, make, first_then, join_of, MayLead}
 use Rattle.lra_flow.specs.Moves.{AreMade}
@@ -30,6 +30,6 @@ module _ (V H : Type 0) (m : Meaning V H) (laws : Laws m) where
       moves_keep (moves_of (m.dims v) op) v e w made s.store t.store h (subst (λ (n : ℕ). MayLead (moves_of n op) s.store t.store) (laws.sized v s.store h.0 h.1) (op_leads op s t ran))
 
 -- from one of its value's stores, a pass with drops covers the tree's runs
-pub pass_covers : {V H : Type 0} (m : Meaning V H) → Laws m → (set : Options) (g : Node) (f : Option ℕ) (v : V) (r : Result V) → Pass V H (dropping m) set g f v r
+pub pass_covers : {V H : Type 0} (m : Meaning V H) → Laws m → (set : Plan) (g : Node) (f : Option ℕ) (v : V) (r : Result V) → Pass V H (dropping m) set g f v r
     → (s : State) → Has m v s.store → Covers m g s r
 pass_covers {V} {H} m laws set g f v r pass s h = covers V H m laws (changes_keep V H m laws) set g f v r pass s h

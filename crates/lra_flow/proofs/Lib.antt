@@ -15,6 +15,7 @@ pub mod Caps
 mod PieceExamples
 mod LinearExamples
 mod MovesExamples
+mod ThresholdExamples
 -- What moves do behind others.
 pub mod Takes
 -- Moves say what lists of actions and conditions said apart.

@@ -9,13 +9,13 @@ use Rattle.lra_domain.specs.declared.Mode.{Mode}
 use Rattle.lra_domain.specs.declared.Exactness.{Exactness}
 use Rattle.lra_program.specs.Program.{Cond, Program}
 use Rattle.lra_operations.specs.Graph.{Node, empty, point, act, check, seq, choose, iterate, catch, leave}
-use Rattle.lra_options.specs.declared.options.Options.{Options}
+use Rattle.lra_flow.specs.Plan.{Plan, Widening, mode_at}
 use Rattle.lra_flow.specs.Operations.{Operations, defined}
 use Rattle.lra_domain.specs.Moves.{Moves, stay, make, first_then, join_of}
 use Rattle.lra_flow.specs.Moves.{AreMade}
 use Rattle.lra_flow.specs.MovesOf.{guard, moves_of, first_values}
-use Rattle.lra_flow.specs.Given.{given_rows}
-use Rattle.lra_flow.specs.Pass.{Result, noted, values_behind, AreJoined, Leaves, Through, GoesRound, GoesFrom, Grows, Narrows, mode_at, Pass}
+use Rattle.lra_flow.specs.Thresholds.{loop_rows}
+use Rattle.lra_flow.specs.Pass.{Result, noted, values_behind, AreJoined, Leaves, Through, GoesRound, GoesFrom, Grows, Narrows, Pass}
 use Rattle.lra_flow.specs.Analysis.{Written, Iteration}
 
 -- each operation has one exactness and one result; a head doesn't grow where it is stable
@@ -81,19 +81,19 @@ module _ (V H : Type 0) (ops : Operations V H) (single : Single ops) where
         let (y, z) = single.valued h e d v w a k in
         (z, one_round (noted q e f) v r s b (rw (y, z) l))
 
-    one_growth : (limited : Bool) (left : ℕ) (f : Option ℕ) (h : H) (later others : List H) (v w : V) (r s : Result V) → Grows V H ops q base c body limited left f h later v r
-        → Grows V H ops q base c body limited left f h others w s → (v ≡ w) × (r ≡ s)
-    one_growth limited left f h [] [] v w r s (a, b) (k, l) = one_from h f v w r s a k
-    one_growth limited left f h [] (i ∷ others) v w r s (a, b) (u, t, e, k, l, m) =
+    one_growth : (widening : Widening) (left : ℕ) (f : Option ℕ) (h : H) (later others : List H) (v w : V) (r s : Result V) → Grows V H ops q base c body widening left f h later v r
+        → Grows V H ops q base c body widening left f h others w s → (v ≡ w) × (r ≡ s)
+    one_growth widening left f h [] [] v w r s (a, b) (k, l) = one_from h f v w r s a k
+    one_growth widening left f h [] (i ∷ others) v w r s (a, b) (u, t, e, k, l, m) =
         let (y, z) = one_from h f v u r t a k in
-        absurd (single.apart h t.normal (mode_at limited left) e i (rw (← z) b) l)
-    one_growth limited left f h (i ∷ later) [] v w r s (u, t, e, a, b, n) (k, l) =
+        absurd (single.apart h t.normal (mode_at widening left) e i (rw (← z) b) l)
+    one_growth widening left f h (i ∷ later) [] v w r s (u, t, e, a, b, n) (k, l) =
         let (y, z) = one_from h f u w t s a k in
-        absurd (single.apart h s.normal (mode_at limited left) e i l (rw (← z) b))
-    one_growth limited left f h (i ∷ later) (j ∷ others) v w r s (u, t, e, a, b, n) (x, p, d, k, l, m) =
+        absurd (single.apart h s.normal (mode_at widening left) e i l (rw (← z) b))
+    one_growth widening left f h (i ∷ later) (j ∷ others) v w r s (u, t, e, a, b, n) (x, p, d, k, l, m) =
         let (y, z) = one_from h f u x t p a k in
-        let (o, g) = single.grown h t.normal (mode_at limited left) e d i j b (rw z l) in
-        one_growth limited (left - 1) (noted q e t.flag) i later others v w r s n (rw (z, o, g) m)
+        let (o, g) = single.grown h t.normal (mode_at widening left) e d i j b (rw z l) in
+        one_growth widening (left - 1) (noted q e t.flag) i later others v w r s n (rw (z, o, g) m)
 
     one_narrowing : (more : ℕ) (first u : V) (s : Result V) (v w : V) (r t : Result V) → Narrows V H ops q base c body more first u s v r → Narrows V H ops q base c body more first u s w t
         → (v ≡ w) × (r ≡ t)
@@ -103,7 +103,7 @@ module _ (V H : Type 0) (ops : Operations V H) (single : Single ops) where
         let k = one_round (noted q e s.flag) next i j turn (rw (y, z) round) in
         one_narrowing more first next i v w r t rest (rw (z, k) last)
 
-  pub one_pass : (set : Options) (g : Node) → IsOne (Pass V H ops set g)
+  pub one_pass : (set : Plan) (g : Node) → IsOne (Pass V H ops set g)
   one_pass set empty f v r s is same = is ∙ sym same
   one_pass set (point q) f v r s is same = is ∙ sym same
   one_pass set (act q op) f v r s (w, e, a, is) (x, d, b, same) =
@@ -124,9 +124,9 @@ module _ (V H : Type 0) (ops : Operations V H) (single : Single ops) where
       let (t, u) = single.joined x.normal y.normal i i' w w' joined (rw (m, p) joined') in
       is ∙ rw (m, p, t, u) refl ∙ sym same
   one_pass set (iterate q base c a) f v r s (h, later, u, top, out, x, y, e, started, grown, narrowed, off, is) (h', later', u', top', out', x', y', e', started', grown', narrowed', off', same) =
-      let k = single.started v (given_rows (ops.dims v) base c) h h' started started' in
+      let k = single.started v (loop_rows set.widening (ops.dims v) base c a) h h' started started' in
       let body = Pass V H ops set a in
-      let (l, m) = one_growth q base c body (one_pass set a) set.limited set.delay f h later later' u u' x x' grown (rw k grown') in
+      let (l, m) = one_growth q base c body (one_pass set a) set.widening set.delay f h later later' u u' x x' grown (rw k grown') in
       let (n, o) = one_narrowing q base c body (one_pass set a) set.narrow v u x top top' y y' narrowed (rw (l, m) narrowed') in
       let (p, t) = one_left base c false top e e' out out' off (rw n off') in
       is ∙ rw (o, p, t) refl ∙ sym same
@@ -138,11 +138,11 @@ module _ (V H : Type 0) (ops : Operations V H) (single : Single ops) where
       let k = single.void n set.parts w w' nothing nothing' in
       is ∙ rw k refl ∙ sym same
 
-  pub one_iteration : (set : Options) (P : Program) (g : Node) (r s : Result V) → Iteration ops set P g r → Iteration ops set P g s → r ≡ s
+  pub one_iteration : (set : Plan) (P : Program) (g : Node) (r s : Result V) → Iteration ops set P g r → Iteration ops set P g s → r ≡ s
   one_iteration set P g r s (none, first, e, universal, values, pass) (none', first', e', universal', values', pass') =
       let k = single.universal 0 set.parts none none' universal universal' in
       let (l, m) = one_made (first_values 0 P.globals) none e e' first first' values (rw k values') in
       one_pass set g (noted 0 e None) first r s pass (rw (l, m) pass')
 
-pub one_written : {V H : Type 0} (m : Meaning V H) → SingleLaws m → (set : Options) (P : Program) (g : Node) (r s : Result V) → Written m set P g r → Written m set P g s → r ≡ s
+pub one_written : {V H : Type 0} (m : Meaning V H) → SingleLaws m → (set : Plan) (P : Program) (g : Node) (r s : Result V) → Written m set P g r → Written m set P g s → r ≡ s
 one_written {V} {H} m laws set P g r s a b = one_iteration V H (defined m) (defined_single m laws) set P g r s a b

@@ -3,16 +3,17 @@ use Rattle.std.proofs.Common.{◌≡◌, ℕ, ℤ, pos, negsuc, List, [], ◌∷
 use Rattle.lra_lin.specs.Form.{Form}
 use Rattle.lra_domain.specs.Actions.{assign, forget, embed, remove_last}
 use Rattle.lra_domain.specs.declared.Exactness.TheVariants.{Flagged}
-use Rattle.lra_domain.specs.declared.Mode.TheVariants.{Join, Widen, Limited}
+use Rattle.lra_domain.specs.declared.Mode.TheVariants.{Join, Widen, Limited, Tightest}
 use Rattle.std.specs.Prelude.{true, false}
 use Rattle.lra_program.specs.Program.{local, Expr, literal, read, input, binary, compare, opposite, either_of}
 use Rattle.lra_base.specs.Operators.{plus, below, equal}
 use Rattle.lra_program.specs.Step.{give, push, keep}
 use Rattle.lra_operations.specs.Graph.{broken, returned}
 use Rattle.lra_domain.specs.Moves.{stay, make, first_then}
+use Rattle.lra_flow.specs.Plan.{standard, limited, by_thresholds, mode_at}
 use Rattle.lra_flow.specs.MovesOf.{moves_of, first_values}
 use Rattle.lra_flow.specs.Given.{given_rows}
-use Rattle.lra_flow.specs.Pass.{Result, noted, values_behind, mode_at}
+use Rattle.lra_flow.specs.Pass.{Result, noted, values_behind}
 
 abbrev form : ℤ → List ℤ → Form
 form c cs = record { constant = c; coefficients = cs }
@@ -59,8 +60,8 @@ first_stays : noted 7 Flagged (Some 3) ≡ Some 3
 first_stays = refl
 
 -- the first rounds join, the others widen, limited or not
-modes : (mode_at true 1 ≡ Join) × (mode_at true 0 ≡ Limited) × (mode_at false 0 ≡ Widen)
-modes = (refl, refl, refl)
+modes : (mode_at limited 1 ≡ Join) × (mode_at limited 0 ≡ Limited) × (mode_at standard 0 ≡ Widen) × (mode_at (by_thresholds []) 0 ≡ Tightest)
+modes = (refl, refl, refl, refl)
 
 -- a loop's own end comes before what broke out; a call's end behind what returned
 abbrev two_jumps : Result ℕ

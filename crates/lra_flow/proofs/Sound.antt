@@ -10,9 +10,9 @@ use Rattle.lra_domain.specs.declared.Exactness.{Exactness}
 use Rattle.lra_program.specs.Program.{Cond}
 use Rattle.lra_program.specs.Step.{State, run_op, test}
 use Rattle.lra_operations.specs.Graph.{Exit, broken, continued, returned, normal, Node, empty, point, act, check, seq, choose, iterate, catch, leave, Rounds, Ends}
-use Rattle.lra_options.specs.declared.options.Options.{Options}
+use Rattle.lra_flow.specs.Plan.{Plan, Widening, mode_at}
 use Rattle.lra_flow.specs.Operations.{dropping}
-use Rattle.lra_flow.specs.Pass.{Entry, value, failing, Result, noted, jumps_of, first_of_call, values_behind, in_turn, behind, jumps, AreJoined, GoesRound, Grows, Narrows, mode_at, Pass}
+use Rattle.lra_flow.specs.Pass.{Entry, value, failing, Result, noted, jumps_of, first_of_call, values_behind, in_turn, behind, jumps, AreJoined, GoesRound, Grows, Narrows, Pass}
 use Rattle.lra_flow.proofs.Covers.{ChangesKeep, Covers, Has, HeadHas, covered_has, stays_has}
 
 left_jump : {V : Type 0} (k : Exit) (r s : Result V) (v : V) (f : Option ℕ) (u : V) → Contains (jumps_of k r) u → Contains (jumps_of k (in_turn r s v f)) u
@@ -91,7 +91,7 @@ module _ (V H : Type 0) (m : Meaning V H) (laws : Laws m) (keeps : ChangesKeep m
 abbrev Round : ℕ → Cond → Node → State → State → Type 0
 Round base c a u v = (w : State) × (run_op (test base c true) u ≡ Some w) × Ends a w normal v
 
-module _ (V H : Type 0) (m : Meaning V H) (laws : Laws m) (keeps : ChangesKeep m) (set : Options) (q base : ℕ) (c : Cond) (a : Node)
+module _ (V H : Type 0) (m : Meaning V H) (laws : Laws m) (keeps : ChangesKeep m) (set : Plan) (q base : ℕ) (c : Cond) (a : Node)
     (inside : (f : Option ℕ) (v : V) (r : Result V) → Pass V H (dropping m) set a f v r → (s : State) → Has m v s.store → Covers m a s r) where
   round_keeps : (f : Option ℕ) (v : V) (r : Result V) → GoesRound V H (dropping m) q base c (Pass V H (dropping m) set a) f v r
       → (s t : State) → Has m v s.store → Round base c a s t → Has m r.normal t.store
@@ -99,20 +99,20 @@ module _ (V H : Type 0) (m : Meaning V H) (laws : Laws m) (keeps : ChangesKeep m
       subst (λ (y : Result V). Has m y.normal t.store) (sym is) ((inside (noted q e f) w x pass u (keeps (test base c true) v e w on s u k passes)).ends t ends)
 
   -- a head that has all that its first one had, and is closed under rounds; its value and its last pass
-  grows_keeps : (limited : Bool) (left : ℕ) (f : Option ℕ) (h : H) (later : List H) (v : V) (r : Result V) → Grows V H (dropping m) q base c (Pass V H (dropping m) set a) limited left f h later v r
+  grows_keeps : (widening : Widening) (left : ℕ) (f : Option ℕ) (h : H) (later : List H) (v : V) (r : Result V) → Grows V H (dropping m) q base c (Pass V H (dropping m) set a) widening left f h later v r
       → (last : H) × Within (HeadHas m h) (HeadHas m last) × Within (HeadHas m last) (Has m v)
       × ((s t : State) → HeadHas m last s.store → Round base c a s t → HeadHas m last t.store)
       × ((g : Option ℕ) × GoesRound V H (dropping m) q base c (Pass V H (dropping m) set a) g v r)
-  grows_keeps limited left f h [] v r ((e, valued, turn), stays) = (
+  grows_keeps widening left f h [] v r ((e, valued, turn), stays) = (
     h,
     λ st k. k,
     λ st k. (valued.0.formed, valued.0.stores st k.1),
-    λ s t k one. stays_has m laws h r.normal (mode_at limited left) k.0 (laws.answers_yes h r.normal (mode_at limited left) stays.0) t.store
+    λ s t k one. stays_has m laws h r.normal (mode_at widening left) k.0 (laws.answers_yes h r.normal (mode_at widening left) stays.0) t.store
         (round_keeps (noted q e f) v r turn s t (valued.0.formed, valued.0.stores s.store k.1) one),
     (noted q e f, turn),
   )
-  grows_keeps limited left f h (next ∷ later) v r (u, x, e, turn, grown, rest) =
-      let i = grows_keeps limited (left - 1) (noted q e x.flag) next later v r rest in
+  grows_keeps widening left f h (next ∷ later) v r (u, x, e, turn, grown, rest) =
+      let i = grows_keeps widening (left - 1) (noted q e x.flag) next later v r rest in
       (i.0, λ st k. i.1 st (grown.0.formed, laws.old_stores h x.normal next k.0 grown.0.formed grown.0.both st k.1), i.2, i.3, i.4)
 
   -- narrowed, the value still has all that some rounds reach from the first one
@@ -142,7 +142,7 @@ module _ (V H : Type 0) (m : Meaning V H) (laws : Laws m) (keeps : ChangesKeep m
   closed_rounds h closed s k (suc n) t (w, before, one) = closed w t (closed_rounds h closed s k n w before) one
 
 module _ (V H : Type 0) (m : Meaning V H) (laws : Laws m) (keeps : ChangesKeep m) where
-  pub covers : (set : Options) (g : Node) (f : Option ℕ) (v : V) (r : Result V) → Pass V H (dropping m) set g f v r → (s : State) → Has m v s.store → Covers m g s r
+  pub covers : (set : Plan) (g : Node) (f : Option ℕ) (v : V) (r : Result V) → Pass V H (dropping m) set g f v r → (s : State) → Has m v s.store → Covers m g s r
   covers set empty f v r is s k = subst (λ (y : Result V). Covers m empty s y) (sym is) (record {
     ends = λ t e. subst (λ (z : State). Has m v z.store) (sym e) k;
     leaves = λ j t e. absurd e;
@@ -208,7 +208,7 @@ module _ (V H : Type 0) (m : Meaning V H) (laws : Laws m) (keeps : ChangesKeep m
         ];
       })
   covers set (iterate q base c a) f v r (h, later, u, top, out, x, y, e, started, grown, narrowed, off, is) s k =
-      let g = grows_keeps V H m laws keeps set q base c a (covers set a) set.limited set.delay f h later u x grown in
+      let g = grows_keeps V H m laws keeps set q base c a (covers set a) set.widening set.delay f h later u x grown in
       let n = narrows_keeps V H m laws keeps set q base c a (covers set a) set.narrow v u x top y narrowed s k
       (λ n t rounds. g.2 t.store (closed_rounds V H m laws keeps set q base c a (covers set a) g.0 g.3 s (g.1 s.store (started.0.formed, started.0.stores s.store k.1)) n t rounds)) g.4 in
       let turn = n.1.1 in

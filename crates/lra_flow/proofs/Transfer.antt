@@ -7,14 +7,14 @@ use Rattle.lra_domain.specs.declared.Mode.{Mode}
 use Rattle.lra_domain.specs.declared.Exactness.{Exactness}
 use Rattle.lra_program.specs.Program.{Cond}
 use Rattle.lra_operations.specs.Graph.{Exit, broken, continued, returned, Node, empty, point, act, check, seq, choose, iterate, catch, leave}
-use Rattle.lra_options.specs.declared.options.Options.{Options}
+use Rattle.lra_flow.specs.Plan.{Plan, Widening, mode_at}
 use Rattle.lra_domain.specs.Meaning.{worse}
 use Rattle.lra_flow.specs.Operations.{Operations}
 use Rattle.lra_domain.specs.Moves.{Moves, stay, make, first_then, join_of}
 use Rattle.lra_flow.specs.Moves.{AreMade}
 use Rattle.lra_flow.specs.MovesOf.{guard, moves_of}
-use Rattle.lra_flow.specs.Given.{given_rows}
-use Rattle.lra_flow.specs.Pass.{Result, noted, jumps, values_behind, behind, AreJoined, Leaves, Through, GoesRound, GoesFrom, Grows, Narrows, mode_at, Pass}
+use Rattle.lra_flow.specs.Thresholds.{loop_rows}
+use Rattle.lra_flow.specs.Pass.{Result, noted, jumps, values_behind, behind, AreJoined, Leaves, Through, GoesRound, GoesFrom, Grows, Narrows, Pass}
 
 -- the answers that matter: with this exactness, with this flag
 pub record Matters (Keeps : Exactness → Type 0) (Fine : Option ℕ → Type 0) : Type 0 where
@@ -78,16 +78,16 @@ module _ (V H : Type 0) (a b : Operations V H) (Keeps : Exactness → Type 0) (F
         let p = matters.before q e f i.0 in
         (p.1, (e, moves.valued h e v p.0 is, i.1))
 
-    grows : (limited : Bool) (left : ℕ) (f : Option ℕ) (h : H) (later : List H) (v : V) (r : Result V) → Fine r.flag → Grows V H a q base c body limited left f h later v r
-        → Fine f × Grows V H (aligned a b) q base c other limited left f h later v r
-    grows limited left f h [] v r k (turn, stays) =
+    grows : (widening : Widening) (left : ℕ) (f : Option ℕ) (h : H) (later : List H) (v : V) (r : Result V) → Fine r.flag → Grows V H a q base c body widening left f h later v r
+        → Fine f × Grows V H (aligned a b) q base c other widening left f h later v r
+    grows widening left f h [] v r k (turn, stays) =
         let i = from_head h f v r k turn in
-        (i.0, (i.1, moves.stays h r.normal (mode_at limited left) stays))
-    grows limited left f h (next ∷ later) v r k (u, s, e, turn, grown, rest) =
-        let j = grows limited (left - 1) (noted q e s.flag) next later v r k rest in
+        (i.0, (i.1, moves.stays h r.normal (mode_at widening left) stays))
+    grows widening left f h (next ∷ later) v r k (u, s, e, turn, grown, rest) =
+        let j = grows widening (left - 1) (noted q e s.flag) next later v r k rest in
         let p = matters.before q e s.flag j.0 in
         let i = from_head h f u s p.1 turn in
-        (i.0, (u, s, e, i.1, moves.grown h s.normal (mode_at limited left) e next p.0 grown, j.1))
+        (i.0, (u, s, e, i.1, moves.grown h s.normal (mode_at widening left) e next p.0 grown, j.1))
 
     narrows : (more : ℕ) (first u : V) (s : Result V) (v : V) (r : Result V) → Fine r.flag → Narrows V H a q base c body more first u s v r
         → Fine s.flag × Narrows V H (aligned a b) q base c other more first u s v r
@@ -98,7 +98,7 @@ module _ (V H : Type 0) (a b : Operations V H) (Keeps : Exactness → Type 0) (F
         let p = matters.before q e s.flag i.0 in
         (p.1, (next, t, e, moves.joined first s.normal e next p.0 joined, i.1, j.1))
 
-  pub passes : (set : Options) (g : Node) (f : Option ℕ) (v : V) (r : Result V) → Fine r.flag → Pass V H a set g f v r → Fine f × Pass V H (aligned a b) set g f v r
+  pub passes : (set : Plan) (g : Node) (f : Option ℕ) (v : V) (r : Result V) → Fine r.flag → Pass V H a set g f v r → Fine f × Pass V H (aligned a b) set g f v r
   passes set empty f v r k is = (subst (λ (x : Result V). Fine x.flag) is k, is)
   passes set (point q) f v r k is = (subst (λ (x : Result V). Fine x.flag) is k, is)
   passes set (act q op) f v r k (w, e, h, is) =
@@ -122,8 +122,8 @@ module _ (V H : Type 0) (a b : Operations V H) (Keeps : Exactness → Type 0) (F
   passes set (iterate q base c x) f v r k (h, later, u, top, out, s, t, e, started, grown, narrowed, off, is) =
       let p = matters.before q e t.flag (subst (λ (z : Result V). Fine z.flag) is k) in
       let n = narrows q base c (Pass V H a set x) (Pass V H (aligned a b) set x) (passes set x) set.narrow v u s top t p.1 narrowed in
-      let j = grows q base c (Pass V H a set x) (Pass V H (aligned a b) set x) (passes set x) set.limited set.delay f h later u s n.0 grown in
-      (j.0, (h, later, u, top, out, s, t, e, moves.started v (given_rows (a.dims v) base c) h started, j.1, n.1, leaves base c false top e out p.0 off, is))
+      let j = grows q base c (Pass V H a set x) (Pass V H (aligned a b) set x) (passes set x) set.widening set.delay f h later u s n.0 grown in
+      (j.0, (h, later, u, top, out, s, t, e, moves.started v (loop_rows set.widening (a.dims v) base c x) h started, j.1, n.1, leaves base c false top e out p.0 off, is))
   passes set (catch q kind x) f v r k (w, e, s, one, joined, is) =
       let p = matters.before q e s.flag (subst Fine (behind_flag kind s w (noted q e s.flag)) (subst (λ (z : Result V). Fine z.flag) is k)) in
       let i = passes set x f v s p.1 one in

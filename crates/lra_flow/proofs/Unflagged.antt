@@ -6,7 +6,7 @@ use Rattle.lra_domain.specs.declared.Exactness.{Exactness}
 use Rattle.lra_domain.specs.declared.Exactness.TheVariants.{Exact, Flagged}
 use Rattle.lra_program.specs.Program.{Program}
 use Rattle.lra_operations.specs.Graph.{Node}
-use Rattle.lra_options.specs.declared.options.Options.{Options}
+use Rattle.lra_flow.specs.Plan.{Plan}
 use Rattle.lra_domain.specs.Meaning.{worse}
 use Rattle.lra_flow.specs.Operations.{defined, dropping, straining}
 use Rattle.lra_flow.specs.MovesOf.{first_values}
@@ -53,14 +53,14 @@ strained_ones m laws = record {
 }
 
 -- a derivation without a flag is the written iteration
-pub unflagged_is_written : {V H : Type 0} (m : Meaning V H) → Laws m → (set : Options) (P : Program) (g : Node) (r : Result V) → Derivation m set P g r → r.flag ≡ None → Written m set P g r
+pub unflagged_is_written : {V H : Type 0} (m : Meaning V H) → Laws m → (set : Plan) (P : Program) (g : Node) (r : Result V) → Derivation m set P g r → r.flag ≡ None → Written m set P g r
 unflagged_is_written {V} {H} m laws set P g r (none, first, e, universal, values, pass) is =
     let p = passes V H (dropping m) (defined m) (λ e. e ≡ Exact) (λ f. f ≡ None) none_flagged (exact_ones m laws) set g (noted 0 e None) first r is pass in
     let k = exact_before 0 e None p.0 in
     (none, first, e, universal.0, made V H (dropping m) (defined m) (λ e. e ≡ Exact) (λ f. f ≡ None) none_flagged (exact_ones m laws) (first_values 0 P.globals) none e first k.0 values, p.1)
 
 -- the first flagged operation strains on the operands of the written iteration
-pub flagged_strains : {V H : Type 0} (m : Meaning V H) → Laws m → (set : Options) (P : Program) (g : Node) (r : Result V) (q : ℕ) → Derivation m set P g r → r.flag ≡ Some q → Strains m set P g q
+pub flagged_strains : {V H : Type 0} (m : Meaning V H) → Laws m → (set : Plan) (P : Program) (g : Node) (r : Result V) (q : ℕ) → Derivation m set P g r → r.flag ≡ Some q → Strains m set P g q
 flagged_strains {V} {H} m laws set P g r q (none, first, e, universal, values, pass) is =
     let p = passes V H (dropping m) (straining m) (λ e. Unit {0}) (λ f. Unit {0}) any_matters (strained_ones m laws) set g (noted 0 e None) first r tt pass in
     let began = made V H (dropping m) (straining m) (λ e. Unit {0}) (λ f. Unit {0}) any_matters (strained_ones m laws) (first_values 0 P.globals) none e first tt values in

@@ -5,29 +5,29 @@ use Rattle.lra_domain.specs.Meaning.{Meaning}
 use Rattle.lra_domain.specs.declared.Exactness.{Exactness}
 use Rattle.lra_program.specs.Program.{Program}
 use Rattle.lra_operations.specs.Graph.{Node}
-use Rattle.lra_options.specs.declared.options.Options.{Options}
+use Rattle.lra_flow.specs.Plan.{Plan}
 use Rattle.lra_flow.specs.Operations.{Operations, defined, dropping, straining}
 use Rattle.lra_flow.specs.Moves.{AreMade}
 use Rattle.lra_flow.specs.MovesOf.{first_values}
 use Rattle.lra_flow.specs.Pass.{value, failing, Result, noted, Pass}
 
 -- from the globals at their first values, which are set at the first point, through the program's tree
-abbrev pub Iteration : {V H : Type 0} → Operations V H → Options → Program → Node → Result V → Type 0
+abbrev pub Iteration : {V H : Type 0} → Operations V H → Plan → Program → Node → Result V → Type 0
 Iteration {V} {H} ops set P g r =
     (none first : V) × (e : Exactness) × ops.universal 0 set.parts none ×
     AreMade ops (first_values 0 P.globals) none e first
     × Pass V H ops set g (noted 0 e None) first r
 
 -- the written iteration
-abbrev pub Written : {V H : Type 0} → Meaning V H → Options → Program → Node → Result V → Type 0
+abbrev pub Written : {V H : Type 0} → Meaning V H → Plan → Program → Node → Result V → Type 0
 Written m set P g r = Iteration (defined m) set P g r
 
 -- one in which operations that strain may have dropped something
-abbrev pub Derivation : {V H : Type 0} → Meaning V H → Options → Program → Node → Result V → Type 0
+abbrev pub Derivation : {V H : Type 0} → Meaning V H → Plan → Program → Node → Result V → Type 0
 Derivation m set P g r = Iteration (dropping m) set P g r
 
 -- an operation of this point strains on the operands that the written iteration has there
-abbrev pub Strains : {V H : Type 0} → Meaning V H → Options → Program → Node → ℕ → Type 0
+abbrev pub Strains : {V H : Type 0} → Meaning V H → Plan → Program → Node → ℕ → Type 0
 Strains {V} m set P g q = (r : Result V) × Iteration (straining m) set P g r × (r.flag ≡ Some q)
 
 -- no part: no run comes there

@@ -1,7 +1,7 @@
 -- Linear forms of expressions (Cousot and Halbwachs 1978): a constant and a coefficient for each live variable, all of
 -- 64 bits.
 use Rattle.std.specs.Prelude.{◌≡◌, ℕ, ℤ, pos, ◌+ℤ◌, ◌-ℤ◌, ◌*ℤ◌, Bool, ◌&&◌, if◌then◌else◌, List, [], ◌∷◌, map}
-use Rattle.std.specs.Prelude.{replicate, slice_set, Option, Some, None, negsuc, length, IsTrue, ◌↔◌, ◌⊎◌}
+use Rattle.std.specs.Prelude.{replicate, slice_set, Option, Some, None, nat_lt, negsuc, length, IsTrue, ◌↔◌, ◌⊎◌}
 use Rattle.std.specs.List.{list_all}
 use Rattle.lra_linear.specs.declared.ConKind.TheVariants.{Ge, Eq}
 use Rattle.lra_lin.specs.Form.{Form, form_value, opposite_form, HoldsAt}
@@ -52,11 +52,15 @@ constant_form live k = record { constant = k; coefficients = replicate live (pos
 abbrev pub variable_form : ℕ → ℕ → Form
 variable_form live place = record { constant = pos 0; coefficients = slice_set (replicate live (pos 0)) place (pos 1) }
 
+-- none where the variable doesn't live
+abbrev pub live_form : ℕ → ℕ → Option Form
+live_form live place = if nat_lt place live then Some (variable_form live place) else None
+
 -- with so many live variables, of which the call's own come behind the first `base`; none where the expression isn't
 -- linear
 abbrev pub form_of : ℕ → ℕ → Expr → Option Form
 form_of live base (literal n) = fitting (constant_form live (pos n))
-form_of live base (read v) = Some (variable_form live (index_of base v))
+form_of live base (read v) = live_form live (index_of base v)
 form_of live base input = None
 form_of live base (negate e) = form_of live base e >>= λ f. scaled (negsuc 0) f
 form_of live base (binary op a b) = form_of live base a >>= λ f. form_of live base b >>= λ g. operator_form op f g

@@ -2,20 +2,18 @@
 -- What is counted here are values at points, values with which the tree is left, and the first point with a flagged
 -- operation.
 use Rattle.std.specs.Prelude.{◌≡◌, ℕ, zero, suc, ◌-◌, List, [], ◌∷◌, ◌++◌, Option, None, Some, Bool, true, false}
-use Rattle.lra_domain.specs.declared.Mode.{Mode}
-use Rattle.lra_domain.specs.declared.Mode.TheVariants.{Join, Widen, Limited}
 use Rattle.lra_domain.specs.declared.Exactness.{Exactness}
 use Rattle.lra_domain.specs.declared.Exactness.TheVariants.{Exact, Flagged}
 use Rattle.lra_program.specs.Program.{Cond}
 use Rattle.lra_program.specs.Step.{Op}
 use Rattle.lra_operations.specs.Graph.{Exit, broken, continued, returned, Node, empty, point, act, check, seq, choose}
 use Rattle.lra_operations.specs.Graph.{iterate, catch, leave}
-use Rattle.lra_options.specs.declared.options.Options.{Options}
+use Rattle.lra_flow.specs.Plan.{Plan, Widening, mode_at}
 use Rattle.lra_flow.specs.Operations.{Operations}
 use Rattle.lra_domain.specs.Meaning.{worse}
 use Rattle.lra_flow.specs.Moves.{AreMade}
 use Rattle.lra_flow.specs.MovesOf.{guard, moves_of}
-use Rattle.lra_flow.specs.Given.{given_rows}
+use Rattle.lra_flow.specs.Thresholds.{loop_rows}
 
 -- what is found on the way
 pub data Entry (V : Type 0) : Type 0 where
@@ -105,12 +103,6 @@ behind broken r v f = record r { normal = v; breaks = []; flag = f }
 behind continued r v f = record r { normal = v; continues = []; flag = f }
 behind returned r v f = record r { normal = v; returns = []; flag = f }
 
--- how a head grows that has so many rounds of joining left
-abbrev pub mode_at : Bool → ℕ → Mode
-mode_at limited (suc left) = Join
-mode_at true zero = Limited
-mode_at false zero = Widen
-
 -- the values joined one by one, from the left
 abbrev pub AreJoined : {V H : Type 0} → Operations V H → V → List V → Exactness → V → Type 0
 AreJoined {V} ops v [] e w = (w ≡ v) × (e ≡ Exact)
@@ -144,12 +136,12 @@ module _ (V H : Type 0) (ops : Operations V H) where
 
     -- the head becomes each of the later ones, until what its pass leaves behind the body lies in it: this value and
     -- result are of that pass. The first `left` rounds join, the others widen
-    abbrev pub Grows : Bool → ℕ → Option ℕ → H → List H → V → Result V → Type 0
-    Grows limited left f h [] v r = GoesFrom h f v r × ops.stays h r.normal (mode_at limited left)
-    Grows limited left f h (next ∷ later) v r =
+    abbrev pub Grows : Widening → ℕ → Option ℕ → H → List H → V → Result V → Type 0
+    Grows widening left f h [] v r = GoesFrom h f v r × ops.stays h r.normal (mode_at widening left)
+    Grows widening left f h (next ∷ later) v r =
         (u : V) × (s : Result V) × (e : Exactness)
-        × GoesFrom h f u s × ops.grown h s.normal (mode_at limited left) e next ×
-        Grows limited (left - 1) (noted q e s.flag) next later v r
+        × GoesFrom h f u s × ops.grown h s.normal (mode_at widening left) e next ×
+        Grows widening (left - 1) (noted q e s.flag) next later v r
 
     -- so many times the value at the head becomes the join of the first one with what its pass left behind the body,
     -- and is passed anew; the last pass stays
@@ -159,7 +151,7 @@ module _ (V H : Type 0) (ops : Operations V H) where
         (next : V) × (t : Result V) × (e : Exactness)
         × ops.joined first s.normal e next × GoesRound (noted q e s.flag) next t × Narrows more first next t v r
 
-abbrev pub Pass : (V H : Type 0) → Operations V H → Options → Node → Through V
+abbrev pub Pass : (V H : Type 0) → Operations V H → Plan → Node → Through V
 Pass V H ops set empty f v r = r ≡ goes_on [] v f
 Pass V H ops set (point q) f v r = r ≡ goes_on (value q v ∷ []) v f
 Pass V H ops set (act q op) f v r = (w : V) × (e : Exactness) × Changes ops op v e w ×
@@ -178,8 +170,8 @@ Pass V H ops set (choose q base c a b) f v r =
     × ops.joined s.normal t.normal i w × (r ≡ in_turn s t w (noted q i t.flag))
 Pass V H ops set (iterate q base c a) f v r =
     (h : H) × (later : List H) × (u top out : V) × (s t : Result V) × (e : Exactness)
-    × ops.started v (given_rows (ops.dims v) base c) h
-    × Grows V H ops q base c (Pass V H ops set a) set.limited set.delay f h later u s
+    × ops.started v (loop_rows set.widening (ops.dims v) base c a) h
+    × Grows V H ops q base c (Pass V H ops set a) set.widening set.delay f h later u s
     × Narrows V H ops q base c (Pass V H ops set a) set.narrow v u s top t
     × Leaves ops base c false top e out × (r ≡ record t { normal = out; flag = noted q e t.flag })
 Pass V H ops set (catch q k a) f v r =

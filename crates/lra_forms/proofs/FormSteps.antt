@@ -1,11 +1,11 @@
 -- Steps of the proofs on linear forms.
 use Rattle.std.proofs.Common.{rules, ◌≡◌, ◌+◌, ◌<◌, map, drop, drop-cons, get_or, length, ℕ, zero, suc, ℤ, pos, ◌++◌, List, [], ◌∷◌, Option, Some, None, Bool, true, false, refl, sym, ap, subst, ◌∙◌}
-use Rattle.std.proofs.Common.{append_assoc, FitsSigned, arith}
+use Rattle.std.proofs.Common.{append_assoc, FitsSigned, arith, ◌≤◌, ◌^◌, inl, inr, le-ltb, lt-ltb}
 use Rattle.std.specs.Int.{w64}
 use Rattle.std.proofs.lemmas.Bool.{and_from, and_parts}
 use Rattle.std.proofs.lemmas.Int.{ints}
 use Rattle.std.proofs.lemmas.List.Elements.{All-nil, All-cons, All-head, All-tail}
-use Rattle.std.specs.Prelude.{◌&&◌, if◌then◌else◌, replicate}
+use Rattle.std.specs.Prelude.{◌&&◌, ◌⊎◌, if◌then◌else◌, replicate}
 use Rattle.std.specs.List.{All, list_all}
 use Rattle.std.specs.Option.{SomeIff}
 use Rattle.lra_program.specs.Value.{◌>>=◌, word, is_word}
@@ -17,6 +17,7 @@ use Rattle.lra_program.specs.ProgramViews.{chained, expr_view, operation_view}
 use Rattle.lra_base.specs.OperatorViews.{operator_view}
 use Rattle.lra_program.specs.declared.program.Expr.{the_lemmas}
 use Rattle.lra_flow.specs.Linear as linear
+use Rattle.lra_flow.specs.Linear.{live_form, variable_form}
 use Rattle.lra_forms.specs.Forms.{rest_form}
 use Rattle.lra_flow.proofs.Keeping.{some_is}
 
@@ -129,3 +130,16 @@ module _ (live base : ℕ) (first : Option Form) (f : Form) (os : List Operation
   chain_next y z below is so_far some also =
       let whole = behind_is below is so_far in
       rw (← some, ← also) at whole
+
+-- ---- variables by their place in the store; one that is past all that may live is told by another such place
+live_past : (live k : ℕ) → live ≤ k → None ≡ live_form live k
+live_past live k h = ap (λ (b : Bool). if b then Some (variable_form live k) else None) (sym (le-ltb k live h))
+
+pub live_none : (live n k : ℕ) → live < 2 ^ 62 → (n ≡ k) ⊎ ((2 ^ 62 ≤ n) × (2 ^ 62 ≤ k)) → live ≤ n → None ≡ live_form live k
+live_none live n k few (inl same) past = subst (λ (j : ℕ). None ≡ live_form live j) same (live_past live n past)
+live_none live n k few (inr (far, further)) past = live_past live k (omega (arith, few, further))
+
+pub live_some : (live n k : ℕ) (f : Form) → live < 2 ^ 62 → (n ≡ k) ⊎ ((2 ^ 62 ≤ n) × (2 ^ 62 ≤ k)) → n < live → f ≡ variable_form live n → Some f ≡ live_form live k
+live_some live n k f few (inl same) lives is =
+    ap Some is ∙ ap (λ (b : Bool). if b then Some (variable_form live n) else None) (sym (lt-ltb n live lives)) ∙ ap (live_form live) same
+live_some live n k f few (inr (far, further)) lives is = absurd (omega (arith, few, far, lives))

@@ -1,3 +1,4 @@
 pub mod Forms
 pub mod Conditions
 pub mod Given
+pub mod Thresholds

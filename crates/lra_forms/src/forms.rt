@@ -7,7 +7,7 @@ ghost use Rattle.lra_program.specs.Value.{word, is_word, index_of};
 ghost use Rattle.lra_base.specs.OperatorViews.{operator_view};
 ghost use Rattle.lra_program.specs.ProgramViews.{expr_view, operation_view, slot_view};
 ghost use Rattle.lra_flow.specs.Linear.{fitting, entrywise, combined, scaled, is_constant, product_form, operator_form};
-ghost use Rattle.lra_flow.specs.Linear.{constant_form, variable_form, form_of};
+ghost use Rattle.lra_flow.specs.Linear.{constant_form, form_of, live_form, variable_form};
 ghost use Rattle.lra_forms.specs.Forms.{sum_of, rest_form};
 
 use lra_base::Operator;
@@ -202,19 +202,33 @@ fn saturated_index(base: usize, slot: Slot) -> usize
     }
 }
 
-/// The form of one variable alone.
-pub fn variable_of(
+/// The form of the variable of this place alone.
+pub fn unit_form(alloc: Global, live: usize, place: usize) -> Result<LinExpr, AllocError>
+    requires { live < 2 ^ 62 }
+    ensures { IfOk result (λ f. f ≡ variable_form live place) }
+{
+    let entries = unit_entries(alloc, live, place)?;
+    let form = LinExpr::new(alloc, 0, entries.as_slice())?;
+    Ok(form)
+}
+
+/// The form of one variable alone, if it is one of those that live.
+#[tactic(auto, using(crate::proofs::FormSteps::live_none, crate::proofs::FormSteps::live_some))]
+fn variable_of(
     alloc: Global,
     live: usize,
     base: usize,
     slot: Slot,
-) -> Result<LinExpr, AllocError>
+) -> Result<Option<LinExpr>, AllocError>
     requires { live < 2 ^ 62 }
-    ensures { IfOk result (λ f. f ≡ variable_form live (index_of base (slot_view slot))) }
+    ensures { IfOk result (λ o. o ≡ live_form live (index_of base (slot_view slot))) }
 {
-    let entries = unit_entries(alloc, live, saturated_index(base, slot))?;
-    let form = LinExpr::new(alloc, 0, entries.as_slice())?;
-    Ok(form)
+    let place = saturated_index(base, slot);
+    if place >= live {
+        return Ok(None);
+    }
+    let form = unit_form(alloc, live, place)?;
+    Ok(Some(form))
 }
 
 /// The form of a literal, where it has 64 bits.
@@ -232,7 +246,8 @@ fn literal_of(alloc: Global, live: usize, number: u64) -> Result<Option<LinExpr>
 }
 
 /// The linear form of an expression over so many live variables, of which the call's own begin at `base`; none where
-/// the expression isn't linear, or where a number on the way passes 64 bits (Cousot and Halbwachs, 1978).
+/// the expression isn't linear, where a variable doesn't live, or where a number on the way passes 64 bits (Cousot and
+/// Halbwachs, 1978).
 #[cycle(form)]
 pub fn form_of_expression(
     alloc: Global,
@@ -244,28 +259,16 @@ pub fn form_of_expression(
     ensures { IfOk result (λ o. o ≡ form_of live base (expr_view e.now)) }
 {
     match e {
-        Expr::Literal(number) => {
-            let form = literal_of(alloc, live, *number)?;
-            Ok(form)
-        }
-        Expr::Read(slot) => {
-            let form = variable_of(alloc, live, base, *slot)?;
-            Ok(Some(form))
-        }
+        Expr::Literal(number) => literal_of(alloc, live, *number),
+        Expr::Read(slot) => variable_of(alloc, live, base, *slot),
         Expr::Input => Ok(None),
         Expr::Negate(inner) => match form_of_expression(alloc, live, base, inner)? {
             None => Ok(None),
-            Some(form) => {
-                let opposite = multiple_of(alloc, -1, &form)?;
-                Ok(opposite)
-            }
+            Some(form) => multiple_of(alloc, -1, &form),
         },
         Expr::Chain(first, operations) => match form_of_expression(alloc, live, base, first)? {
             None => Ok(None),
-            Some(form) => {
-                let whole = form_of_chain(alloc, live, base, form, operations.as_slice())?;
-                Ok(whole)
-            }
+            Some(form) => form_of_chain(alloc, live, base, form, operations.as_slice()),
         },
     }
 }

@@ -19,7 +19,7 @@ use lra_sys::{ConKind, ConSys};
 use std::alloc::{AllocError, Global};
 
 /// The number times -1 comes last.
-fn push_negated(numbers: &mut Vec<i128>, number: &i64) -> Result<(), AllocError>
+pub fn push_negated(numbers: &mut Vec<i128>, number: &i64) -> Result<(), AllocError>
     ensures items { OnOk result (numbers.new.items ≡ numbers.old.items ++ neg_ℤ number.now ∷ []) }
     ensures range { InRange (neg_ℤ number.now) }
 {
@@ -117,27 +117,16 @@ fn give(
     match condition {
         Cond::Compare(op, left, right) => {
             let op = comparison_where(*op, wanted);
-            give_comparison(alloc, base, op, left, right, rows)?;
-            Ok(())
+            give_comparison(alloc, base, op, left, right, rows)
         }
         Cond::Nonzero(e) => {
             let op = comparison_where(Comparison::Differs, wanted);
             let zero = Expr::Literal(0);
-            give_comparison(alloc, base, op, e, &zero, rows)?;
-            Ok(())
+            give_comparison(alloc, base, op, e, &zero, rows)
         }
-        Cond::Opposite(inner) => {
-            give(alloc, base, inner, !wanted, rows)?;
-            Ok(())
-        }
-        Cond::All(first, rest) => {
-            give_chain(alloc, base, first, rest.as_slice(), wanted, rows)?;
-            Ok(())
-        }
-        Cond::Any(first, rest) => {
-            give_chain(alloc, base, first, rest.as_slice(), wanted, rows)?;
-            Ok(())
-        }
+        Cond::Opposite(inner) => give(alloc, base, inner, !wanted, rows),
+        Cond::All(first, rest) => give_chain(alloc, base, first, rest.as_slice(), wanted, rows),
+        Cond::Any(first, rest) => give_chain(alloc, base, first, rest.as_slice(), wanted, rows),
     }
 }
 

@@ -1,10 +1,13 @@
-//! Linear forms of a program's expressions, tests of its comparisons, and the rows that the condition of a loop gives.
+//! Linear forms of a program's expressions, tests of its comparisons, and the rows that a loop is given: by its own
+//! condition, or by thresholds.
 #![tactic(auto)]
 
 mod comparisons;
 mod forms;
 mod given;
+mod thresholds;
 
 pub use comparisons::{comparison_where, difference_of, opposite_of, test_of};
 pub use forms::{constant_of, form_of_expression};
 pub use given::given_of;
+pub use thresholds::thresholds_of;

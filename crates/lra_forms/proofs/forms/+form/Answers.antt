@@ -3,7 +3,6 @@ use Rattle.std.proofs.Common.{rules, ◌≡◌, Some, None, map, sym}
 use Rattle.lra_program.specs.ProgramViews.{chained, expr_view, operation_view}
 use Rattle.lra_program.specs.declared.program.Expr.{the_lemmas}
 use Rattle.lra_flow.specs.Linear.{form_of}
-use Rattle.lra_forms.specs.Forms.{rest_form}
 use Rattle.lra_forms.proofs.FormSteps.{chain_form, chain_none, chain_stops, chain_fails, chain_next}
 use Rattle.lra_forms.proofs.forms.+form.Goals as goal
 
@@ -38,13 +37,12 @@ form_of_expression-returns-in-None-2 t c =
       chain_none c.args.live c.args.base (map operation_view c.in-Chain.operations.items),
     ) (search rules)
 
-pub form_of_expression-returns-in_ok-whole-in-Some-2 : goal.form_of_expression-returns-in_ok-whole-in-Some-2
-form_of_expression-returns-in_ok-whole-in-Some-2 t c =
+pub form_of_expression-returns-in-Some-2 : goal.form_of_expression-returns-in-Some-2
+form_of_expression-returns-in-Some-2 t c =
     let some : Some c.in-Some-2.form ≡ form_of c.args.live c.args.base (expr_view c.in-Chain.first.value) =
     rw (c.in-Some-2.is, c.deref-in-Chain.ensures) at c.in_ok-form_of_expression-in-Chain.ensures in
     let is : expr_view c.args.e.now ≡ chained (expr_view c.in-Chain.first.value) (map operation_view c.in-Chain.operations.items) = rw c.in-Chain.is (search (rules, the_lemmas)) in
-    let whole : c.in_ok-whole-in-Some-2.whole ≡ rest_form c.args.live c.args.base (Some c.in-Some-2.form) (map operation_view c.in-Chain.operations.items) =
-    rw c.as_slice.ensures.value at c.in_ok-whole-in-Some-2.ensures in
+    let whole = rw c.as_slice.ensures.value at c.form_of_chain.ensures in
     rw (
       is,
       chain_form c.args.live c.args.base (expr_view c.in-Chain.first.value) (map operation_view c.in-Chain.operations.items),
