@@ -1,10 +1,10 @@
 -- A pass from the same value again: only the first flagged point can differ, and that is told by what was flagged before.
-use Rattle.std.proofs.Common.{◌≡◌, ℕ, zero, suc, ◌-◌, Bool, true, List, [], ◌∷◌, Option, Some, None, refl, sym, ap, subst, ◌∙◌}
+use Rattle.std.proofs.Common.{◌≡◌, ℕ, zero, suc, ◌-◌, true, List, [], ◌∷◌, Option, Some, None, refl, sym, ap, subst, ◌∙◌}
 use Rattle.lra_domain.specs.declared.Exactness.{Exactness}
 use Rattle.lra_domain.specs.Meaning.{Meaning}
 use Rattle.lra_program.specs.Program.{Cond}
 use Rattle.lra_operations.specs.Graph.{Exit, broken, continued, returned, Node, empty, point, act, check, seq, choose, iterate, catch, leave}
-use Rattle.lra_options.specs.declared.options.Options.{Options}
+use Rattle.lra_flow.specs.Plan.{Plan, Widening}
 use Rattle.lra_flow.specs.Operations.{Operations, dropping}
 use Rattle.lra_flow.specs.Pass.{AreJoined, Leaves, Result, noted, jumps, values_behind, behind, Through, GoesRound, Grows, Narrows, Pass}
 use Rattle.lra_flow.proofs.Transfer.{Matters, Transfers, passes}
@@ -34,16 +34,16 @@ jump_again p broken v w f = refl
 jump_again p continued v w f = refl
 jump_again p returned v w f = refl
 
-module _ (V H : Type 0) (ops : Operations V H) (set : Options) (p : ℕ) where
+module _ (V H : Type 0) (ops : Operations V H) (set : Plan) (p : ℕ) where
   module _ (q base : ℕ) (c : Cond) (body : Through V) (inside : (f : Option ℕ) (v : V) (r : Result V) → body f v r → body (Some p) v (flagged_at p r)) where
     round_again : (f : Option ℕ) (v : V) (r : Result V) → GoesRound V H ops q base c body f v r → GoesRound V H ops q base c body (Some p) v (flagged_at p r)
     round_again f v r (w, e, s, on, turn, is) = (w, e, flagged_at p s, on, inside (noted q e f) w s turn, ap (flagged_at p) is)
 
-    grows_again : (limited : Bool) (left : ℕ) (f : Option ℕ) (h : H) (later : List H) (v : V) (r : Result V) → Grows V H ops q base c body limited left f h later v r
-        → Grows V H ops q base c body limited left (Some p) h later v (flagged_at p r)
-    grows_again limited left f h [] v r ((e, valued, turn), stays) = ((e, valued, round_again (noted q e f) v r turn), stays)
-    grows_again limited left f h (next ∷ later) v r (u, s, e, (d, valued, turn), grown, rest) =
-        (u, flagged_at p s, e, (d, valued, round_again (noted q d f) u s turn), grown, grows_again limited (left - 1) (noted q e s.flag) next later v r rest)
+    grows_again : (widening : Widening) (left : ℕ) (f : Option ℕ) (h : H) (later : List H) (v : V) (r : Result V) → Grows V H ops q base c body widening left f h later v r
+        → Grows V H ops q base c body widening left (Some p) h later v (flagged_at p r)
+    grows_again widening left f h [] v r ((e, valued, turn), stays) = ((e, valued, round_again (noted q e f) v r turn), stays)
+    grows_again widening left f h (next ∷ later) v r (u, s, e, (d, valued, turn), grown, rest) =
+        (u, flagged_at p s, e, (d, valued, round_again (noted q d f) u s turn), grown, grows_again widening (left - 1) (noted q e s.flag) next later v r rest)
 
     narrows_again : (more : ℕ) (first u : V) (s : Result V) (v : V) (r : Result V) → Narrows V H ops q base c body more first u s v r
         → Narrows V H ops q base c body more first u (flagged_at p s) v (flagged_at p r)
@@ -84,7 +84,7 @@ module _ (V H : Type 0) (ops : Operations V H) (set : Options) (p : ℕ) where
     flagged_at p t,
     e,
     started,
-    grows_again q base c (Pass V H ops set a) (passed_again a) set.limited set.delay f h later u s grown,
+    grows_again q base c (Pass V H ops set a) (passed_again a) set.widening set.delay f h later u s grown,
     narrows_again q base c (Pass V H ops set a) (passed_again a) set.narrow v u s top t narrowed,
     off,
     ap (flagged_at p) is,
@@ -118,13 +118,13 @@ same_ones ops = record {
   void = λ n cap v s. s;
 }
 
-pub none_before : {V H : Type 0} (ops : Operations V H) (set : Options) (g : Node) (f : Option ℕ) (v : V) (r : Result V) → r.flag ≡ None → Pass V H ops set g f v r → f ≡ None
+pub none_before : {V H : Type 0} (ops : Operations V H) (set : Plan) (g : Node) (f : Option ℕ) (v : V) (r : Result V) → r.flag ≡ None → Pass V H ops set g f v r → f ≡ None
 none_before {V} {H} ops set g f v r none pass = (passes V H ops ops (λ e. Unit {0}) (λ f. f ≡ None) none_matters (same_ones ops) set g f v r none pass).0
 
 with_flag : {V : Type 0} (r : Result V) (f : Option ℕ) → r.flag ≡ f → r ≡ record r { flag = f }
 with_flag r f is = ap (λ (x : Option ℕ). record r { flag = x }) is
 
-module _ {V H : Type 0} (m : Meaning V H) (set : Options) (g : Node) where
+module _ {V H : Type 0} (m : Meaning V H) (set : Plan) (g : Node) where
   -- a kept result is that of a pass, with what is flagged so far
   pub kept_passed : (f : Option ℕ) (v : V) (r : Result V) → IsKept m set g f v r → IsPassed m set g f v (record r { flag = f })
   kept_passed (Some p) v r kept =

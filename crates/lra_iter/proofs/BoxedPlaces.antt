@@ -4,7 +4,7 @@ use Rattle.std.specs.Prelude.{IfOk}
 use Rattle.std.specs.Prelude as outcome_or
 use Rattle.std.proofs.Math.Nat.{suc-mul}
 use Rattle.std.proofs.lemmas.Result.{IfOk-weaker}
-use Rattle.lra_options.specs.declared.options.Options.{Options}
+use Rattle.lra_flow.specs.Plan.{Plan}
 use Rattle.lra_domain.specs.Meaning.{Meaning}
 use Rattle.lra_iter.specs.declared.memory.Memory.{Memory}
 use Rattle.lra_iter.specs.declared.outcome.Outcome.{Outcome}
@@ -26,7 +26,7 @@ round_more k t = omega (arith, suc-mul k (suc t))
 round_again : (k t : ℕ) → 1 + k * suc t < 1 + suc k * suc t
 round_again k t = omega (arith, suc-mul k (suc t))
 
-module _ {V H E : Type 0} (m : Meaning V H) (set : Options) (R : outcome_or.Result (next.Next V H) E) where
+module _ {V H E : Type 0} (m : Meaning V H) (set : Plan) (R : outcome_or.Result (next.Next V H) E) where
   -- a loop whose head grows
   module _ (g : GrowingPlace V H) where
     abbrev OpensHere : Entering V → Type 0

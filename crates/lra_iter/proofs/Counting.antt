@@ -9,7 +9,7 @@ use Rattle.lra_linear.proofs.Membership.{contains_none, contains_head, contains_
 use Rattle.lra_program.specs.Program.{Cond, Program}
 use Rattle.lra_operations.specs.Graph.{Exit, broken, continued, returned, Node, empty, point, act, check, seq, choose, iterate, catch, leave}
 use Rattle.lra_program.specs.Sites.{Site, sites_of}
-use Rattle.lra_options.specs.declared.options.Options.{Options}
+use Rattle.lra_flow.specs.Plan.{Plan, Widening}
 use Rattle.lra_flow.specs.Operations.{Operations}
 use Rattle.lra_flow.specs.Pass.{Entry, value, failing, Result, noted, jumps, behind, Through, GoesRound, Grows, Narrows, Pass}
 use Rattle.lra_flow.specs.Analysis.{Iteration}
@@ -62,17 +62,17 @@ module _ (V H : Type 0) (ops : Operations V H) (k : ℕ) where
         let i = inside (noted q e f) w s turn in
         subst (λ (y : Result V). Found k y.entries (one_if q k + n) d) (sym is) (record { values = ap (λ (m : ℕ). one_if q k + m) i.values; checks = i.checks })
 
-    grows_found : (limited : Bool) (left : ℕ) (f : Option ℕ) (h : H) (later : List H) (v : V) (r : Result V) → Grows V H ops q base c body limited left f h later v r →
+    grows_found : (widening : Widening) (left : ℕ) (f : Option ℕ) (h : H) (later : List H) (v : V) (r : Result V) → Grows V H ops q base c body widening left f h later v r →
         Found k r.entries (one_if q k + n) d
-    grows_found limited left f h [] v r ((e, valued, turn), stays) = round_found (noted q e f) v r turn
-    grows_found limited left f h (next ∷ later) v r (u, s, e, turn, grown, rest) = grows_found limited (left - 1) (noted q e s.flag) next later v r rest
+    grows_found widening left f h [] v r ((e, valued, turn), stays) = round_found (noted q e f) v r turn
+    grows_found widening left f h (next ∷ later) v r (u, s, e, turn, grown, rest) = grows_found widening (left - 1) (noted q e s.flag) next later v r rest
 
     narrows_found : (more : ℕ) (first u : V) (s : Result V) (v : V) (r : Result V) → Narrows V H ops q base c body more first u s v r → Found k s.entries (one_if q k + n) d →
         Found k r.entries (one_if q k + n) d
     narrows_found zero first u s v r (same, is) found = subst (λ (y : Result V). Found k y.entries (one_if q k + n) d) (sym is) found
     narrows_found (suc more) first u s v r (next, t, e, joined, turn, rest) found = narrows_found more first next t v r rest (round_found (noted q e s.flag) next t turn)
 
-  pub pass_found : (set : Options) (g : Node) (f : Option ℕ) (v : V) (r : Result V) → Pass V H ops set g f v r → Found k r.entries (values_in g k) (checks_in g k)
+  pub pass_found : (set : Plan) (g : Node) (f : Option ℕ) (v : V) (r : Result V) → Pass V H ops set g f v r → Found k r.entries (values_in g k) (checks_in g k)
   pass_found set empty f v r is = subst (λ (y : Result V). Found k y.entries 0 0) (sym is) (record { values = refl; checks = refl })
   pass_found set (point q) f v r is = subst (λ (y : Result V). Found k y.entries (one_if q k) 0) (sym is) (record { values = omega arith; checks = refl })
   pass_found set (act q op) f v r (w, e, done, is) = subst (λ (y : Result V). Found k y.entries 0 0) (sym is) (record { values = refl; checks = refl })
@@ -84,7 +84,7 @@ module _ (V H : Type 0) (ops : Operations V H) (k : ℕ) where
       subst (λ (z : Result V). Found k z.entries (values_in a k + values_in b k) (checks_in a k + checks_in b k)) (sym is)
       (both_found k x.entries y.entries (values_in a k) (checks_in a k) (values_in b k) (checks_in b k) (pass_found set a (noted q d f) on x one) (pass_found set b (noted q e x.flag) off y two))
   pass_found set (iterate q base c a) f v r (h, later, u, top, out, x, y, e, started, grown, narrowed, off, is) =
-      let g = grows_found q base c (Pass V H ops set a) (values_in a k) (checks_in a k) (pass_found set a) set.limited set.delay f h later u x grown in
+      let g = grows_found q base c (Pass V H ops set a) (values_in a k) (checks_in a k) (pass_found set a) set.widening set.delay f h later u x grown in
       let n = narrows_found q base c (Pass V H ops set a) (values_in a k) (checks_in a k) (pass_found set a) set.narrow v u x top y narrowed g in
       subst (λ (z : Result V). Found k z.entries (one_if q k + values_in a k) (checks_in a k)) (sym is) (record { values = n.values; checks = n.checks })
   pass_found set (catch q j a) f v r (w, e, x, one, joined, is) =
@@ -93,7 +93,7 @@ module _ (V H : Type 0) (ops : Operations V H) (k : ℕ) where
   pass_found set (leave n j) f v r (w, nothing, is) =
       subst (λ (z : Result V). Found k z.entries 0 0) (sym is) (subst (λ (zs : List (Entry V)). Found k zs 0 0) (sym (jump_entries j v w f)) (record { values = refl; checks = refl }))
 
-  pub iteration_found : (set : Options) (P : Program) (g : Node) (r : Result V) → Iteration ops set P g r → Found k r.entries (values_in g k) (checks_in g k)
+  pub iteration_found : (set : Plan) (P : Program) (g : Node) (r : Result V) → Iteration ops set P g r → Found k r.entries (values_in g k) (checks_in g k)
   iteration_found set P g r (none, first, e, universal, values, pass) = pass_found set g (noted 0 e None) first r pass
 
 -- entries ------------------------------------------------------------------------------------------------------------
@@ -194,14 +194,14 @@ asserts_few (Some s) = chosen s.asserts
     chosen false = omega arith
 
 -- so an iteration over a program's tree has one value for each assertion
-pub iteration_fails_once : {V H : Type 0} (ops : Operations V H) (set : Options) (P : Program) (g : Node) (r : Result V) → IsNumbered (sites_of P) g → Iteration ops set P g r
+pub iteration_fails_once : {V H : Type 0} (ops : Operations V H) (set : Plan) (P : Program) (g : Node) (r : Result V) → IsNumbered (sites_of P) g → Iteration ops set P g r
     → (q : ℕ) (u v : V) → Contains r.entries (failing q u) → Contains r.entries (failing q v) → u ≡ v
 iteration_fails_once {V} {H} ops set P g r numbered iteration q u v =
     let found = iteration_found V H ops q set P g r iteration in
     one_failing V q u v r.entries (let c = found.checks in let n = numbered.checks q in let few = asserts_few (slice_get (sites_of P) q) in omega (arith, c, n, few))
 
 -- and a pass over a numbered tree has one value for each point, one for each assertion, and no other
-pub pass_counted : {V H : Type 0} (ops : Operations V H) (T : List Site) (set : Options) (g : Node) (f : Option ℕ) (v : V) (r : Result V) → IsNumbered T g → Pass V H ops set g f v r →
+pub pass_counted : {V H : Type 0} (ops : Operations V H) (T : List Site) (set : Plan) (g : Node) (f : Option ℕ) (v : V) (r : Result V) → IsNumbered T g → Pass V H ops set g f v r →
     AreCounted T r.entries
 pass_counted {V} {H} ops T set g f v r numbered pass = record {
   values = λ q s there. (pass_found V H ops q set g f v r pass).values ∙ numbered.values q s there;

@@ -15,7 +15,7 @@ use Rattle.lra_operations.specs.Graph.{Node, Comes, FailsAt}
 use Rattle.lra_linear.specs.Vectors.{product}
 use Rattle.lra_linear.proofs.Products.{product_none}
 use Rattle.lra_program.specs.Sites.{Site}
-use Rattle.lra_options.specs.declared.options.Options.{Options}
+use Rattle.lra_flow.specs.Plan.{Plan}
 use Rattle.lra_flow.specs.Operations.{dropping}
 use Rattle.lra_flow.specs.Moves.{AreMade}
 use Rattle.lra_flow.specs.MovesOf.{first_values}
@@ -61,7 +61,7 @@ module _ {V H : Type 0} (m : Meaning V H) where
 
   module _ (laws : Laws m) where
     -- from the globals on, whatever is drawn, a pass has the stores of the tree's runs
-    pub begun_covers : (set : Options) (globals : List ℤ) (tree : Node) (whole first : V) (e : Exactness) (r : Result V) → m.universal 0 set.parts whole × m.formed whole →
+    pub begun_covers : (set : Plan) (globals : List ℤ) (tree : Node) (whole first : V) (e : Exactness) (r : Result V) → m.universal 0 set.parts whole × m.formed whole →
         AreMade (dropping m) (first_values 0 globals) whole e first
         → Pass V H (dropping m) set tree (noted 0 e None) first r → (draws : List ℤ) → Covers m tree (begun globals draws) r
     begun_covers set globals tree whole first e r universal done pass draws =

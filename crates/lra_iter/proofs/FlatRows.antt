@@ -1,6 +1,6 @@
 -- Rows with no tree in their trees, that are passed along behind what was found before them.
 use Rattle.std.proofs.Common.{◌≡◌, ℕ, suc, ◌+◌, ◌≤◌, ◌^◌, List, ◌∷◌, Option, refl, sym, ap, subst, ◌∙◌, arith}
-use Rattle.lra_options.specs.declared.options.Options.{Options}
+use Rattle.lra_flow.specs.Plan.{Plan}
 use Rattle.lra_domain.specs.Meaning.{Meaning}
 use Rattle.lra_operations.specs.Graph as graph
 use Rattle.lra_operations.specs.declared.graph.Node as node
@@ -25,7 +25,7 @@ choice_takes k a one more = omega (arith, one, more)
 pub other_takes : (k a : ℕ) → k ≡ 1 → k ≡ 2 + a → ⊥
 other_takes k a one more = omega (arith, one, more)
 
-module _ {V H : Type 0} (m : Meaning V H) (set : Options) where
+module _ {V H : Type 0} (m : Meaning V H) (set : Plan) where
   -- whatever a pass of the rest finds, the whole finds that, behind what was found before the row
   pub record FlatLoop (g rest : graph.Node) (begun so_far : Outcome V) : Type 0 where
     pub few : m.dims so_far.normal ≤ 2 ^ 30

@@ -8,7 +8,7 @@ use Rattle.lra_domain.specs.Meaning.{Meaning}
 use Rattle.lra_domain.specs.declared.Exactness.{Exactness}
 use Rattle.lra_program.specs.Program.{Cond}
 use Rattle.lra_operations.specs.Graph.{Exit, broken, continued, returned, Node, choose, iterate}
-use Rattle.lra_options.specs.declared.options.Options.{Options}
+use Rattle.lra_flow.specs.Plan.{Plan}
 use Rattle.lra_flow.specs.Operations.{dropping}
 use Rattle.lra_flow.specs.Pass.{Result, noted, behind}
 use Rattle.lra_iter.specs.declared.memory.KeptLoop.{KeptLoop}
@@ -25,7 +25,7 @@ Later f f' = f' ≡ None → f ≡ None
 pub later_noted : (q : ℕ) (e : Exactness) (f f' : Option ℕ) → f' ≡ noted q e f → Later f f'
 later_noted q e f f' is none = none_noted q e f (sym is ∙ none)
 
-pub passed_later : {V H : Type 0} (m : Meaning V H) (set : Options) (g : Node) (f : Option ℕ) (v : V) (r : Result V) →
+pub passed_later : {V H : Type 0} (m : Meaning V H) (set : Plan) (g : Node) (f : Option ℕ) (v : V) (r : Result V) →
     IsPassed m set g f v r → Later f r.flag
 passed_later m set g f v r passed none = none_before (dropping m) set g f v r none passed.pass
 
@@ -47,7 +47,7 @@ pub left_later : {V H : Type 0} (m : Meaning V H) (q base : ℕ) (c : Cond) (top
 left_later {V} m q base c top s r (out, e, leaves, is) =
     later_noted q e s.flag r.flag (ap (λ (x : Result V). x.flag) is)
 
-module _ {V H : Type 0} (m : Meaning V H) (set : Options) where
+module _ {V H : Type 0} (m : Meaning V H) (set : Plan) where
   pub recall_later : (loops : ℕ → Node) (f f' : Option ℕ) (memory : Memory V) → Later f f' →
       MayRecall m set loops f memory → MayRecall m set loops f' memory
   recall_later loops f f' memory later all k d below =

@@ -7,7 +7,7 @@ use Rattle.lra_domain.specs.Meaning.{Meaning}
 use Rattle.lra_domain.specs.declared.Exactness.{Exactness}
 use Rattle.lra_operations.specs.Graph.{Exit, broken, continued, returned}
 use Rattle.lra_operations.specs.Graph as graph
-use Rattle.lra_options.specs.declared.options.Options.{Options}
+use Rattle.lra_flow.specs.Plan.{Plan}
 use Rattle.lra_flow.specs.Operations.{dropping}
 use Rattle.lra_flow.specs.Pass.{Entry, Result, goes_on, in_turn, jumps, noted, Pass}
 use Rattle.lra_iter.specs.declared.outcome.Entry as entry
@@ -39,7 +39,7 @@ jump_flag broken v w f = refl
 jump_flag continued v w f = refl
 jump_flag returned v w f = refl
 
-module _ {V H : Type 0} (m : Meaning V H) (set : Options) (so_far : Outcome V) where
+module _ {V H : Type 0} (m : Meaning V H) (set : Plan) (so_far : Outcome V) where
   -- without a jump
   pub goes_further : (g : graph.Node) (es : Vec (entry.Entry V) Global) (xs : List (Entry V)) (w : V) (f : Option ℕ) →
       map (entry_view {V = V}) es.items ≡ map (entry_view {V = V}) so_far.found.entries.items ++ xs →

@@ -20,3 +20,4 @@ mod BoxedPlaces
 mod Joining
 -- The written iteration has one solution.
 pub mod OneSolution
+mod GivenLoops

@@ -6,10 +6,10 @@ use Rattle.lra_domain.specs.declared.Exactness.{Exactness}
 use Rattle.lra_program.specs.ProgramViews.{cond_view}
 use Rattle.lra_operations.specs.Graph.{Node, iterate}
 use Rattle.lra_operations.specs.GraphViews.{node_view}
-use Rattle.lra_options.specs.declared.options.Options.{Options}
-use Rattle.lra_flow.specs.Given.{given_rows}
+use Rattle.lra_flow.specs.Plan.{Plan, mode_at}
+use Rattle.lra_flow.specs.Thresholds.{loop_rows}
 use Rattle.lra_flow.specs.Operations.{dropping}
-use Rattle.lra_flow.specs.Pass.{noted, mode_at}
+use Rattle.lra_flow.specs.Pass.{noted}
 use Rattle.lra_iter.specs.declared.heads.Growing.{Growing}
 use Rattle.lra_iter.specs.declared.memory.Memory.{Memory}
 use Rattle.lra_iter.specs.declared.outcome.Entered.TheVariants.{Again as again, Anew}
@@ -36,7 +36,7 @@ use Rattle.lra_iter.proofs.PassSteps.{loop_passed}
 abbrev at : {V : Type 0} → Loop → V → Option ℕ → Memory V → Due V
 at l value flag memory = record { tree = node_view l.body.now; value = value; flag = flag; memory = memory }
 
-module _ {V H : Type 0} (m : Meaning V H) (set : Options) where
+module _ {V H : Type 0} (m : Meaning V H) (set : Plan) where
   -- a body that is entered from a value at the head
   module _ (l : Loop) (whole : Due V) (may : MayBePassed m set whole)
       (is : whole.tree ≡ iterate l.point l.base (cond_view l.condition.now) (node_view l.body.now)) where
@@ -50,7 +50,7 @@ module _ {V H : Type 0} (m : Meaning V H) (set : Options) where
     module _ (top : V) (flag : Option ℕ) (memory : Memory V) (wide : m.dims top ≡ m.dims whole.value)
         (remembers : Remembers m set (node_view l.body.now) flag memory) where
       -- what the condition leaves is next
-      body_may : (value : V) (inside : Option ℕ) (entered : V) → IsEntered m l.options.now l.point l.base
+      body_may : (value : V) (inside : Option ℕ) (entered : V) → IsEntered m l.plan.now l.point l.base
           (cond_view l.condition.now) (node_view l.body.now) flag top (Anew entered value inside) →
           HasEntered m set l top flag entered (at l value inside memory) × MayBePassed m set (at l value inside memory)
       body_may value inside entered has =
@@ -72,16 +72,16 @@ module _ {V H : Type 0} (m : Meaning V H) (set : Options) where
           )
 
       -- or it was passed before
-      body_again : (turn : Turn V) (entered : V) (outcome : Outcome V) → l.options.now ≡ set →
-          IsEntered m l.options.now l.point l.base (cond_view l.condition.now)
+      body_again : (turn : Turn V) (entered : V) (outcome : Outcome V) → l.plan.now ≡ set →
+          IsEntered m l.plan.now l.point l.base (cond_view l.condition.now)
           (node_view l.body.now) flag top (again turn) → entered ≡ turn.entered → outcome ≡ turn.outcome →
           (part : Due V) × (part.memory ≡ memory) × HasEntered m set l top flag entered part ×
           IsMade m set part (seen outcome) memory
-      body_again turn entered outcome options has same given =
+      body_again turn entered outcome plan has same given =
           let inside = noted l.point has.0 flag in
           let passed : IsPassed m set (node_view l.body.now) inside turn.entered (seen outcome) =
-          subst (λ (x : Options). IsPassed m x (node_view l.body.now) inside turn.entered (seen outcome)) options
-          (subst (λ (x : Outcome V). IsPassed m l.options.now (node_view l.body.now) inside turn.entered (seen x))
+          subst (λ (x : Plan). IsPassed m x (node_view l.body.now) inside turn.entered (seen outcome)) plan
+          (subst (λ (x : Outcome V). IsPassed m l.plan.now (node_view l.body.now) inside turn.entered (seen x))
           (sym given) has.2) in (
             record { tree = node_view l.body.now; value = turn.entered; flag = inside; memory = memory },
             refl,
@@ -127,28 +127,30 @@ module _ {V H : Type 0} (m : Meaning V H) (set : Options) where
     due_remembers = loop_remembers l whole here.may here.is
 
     pub head_opens : (growing : Growing V H) (begun : Memory V) → begun.kept ≡ memory.kept →
-        (dropping m).started first (given_rows (m.dims first) l.base (cond_view l.condition.now)) growing.head →
+        (dropping m).started first (loop_rows l.plan.now.widening (m.dims first) l.base (cond_view l.condition.now) (node_view l.body.now)) growing.head →
         RankFits (m.rank growing.head) → IsValued m l.point flag growing.head growing.value growing.flag →
-        growing.left ≡ l.options.now.delay → IsHead m set l whole first growing None begun
+        growing.left ≡ l.plan.now.delay → IsHead m set l whole first growing None begun
     head_opens growing begun kept started fits valued left = record {
       begun = begun;
       loop = record {
-        options = here.options;
+        plan = here.plan;
         is = here.is;
         first_is = sym here.first_is;
         kept = kept ∙ ap (λ (x : Memory V). x.kept) (sym here.kept);
       };
       head = head_starts m set l.point l.base (cond_view l.condition.now) (node_view l.body.now) whole.value whole.flag
           growing begun (subst (λ (v : V). (dropping m).started v
-          (given_rows (m.dims v) l.base (cond_view l.condition.now)) growing.head) (sym here.first_is) started) fits
+          (loop_rows set.widening (m.dims v) l.base (cond_view l.condition.now) (node_view l.body.now)) growing.head)
+          (sym here.first_is) (subst (λ (x : Plan). (dropping m).started first (loop_rows x.widening (m.dims first) l.base
+          (cond_view l.condition.now) (node_view l.body.now)) growing.head) here.plan started)) fits
           (subst (λ (f : Option ℕ). IsValued m l.point f growing.head growing.value growing.flag) (sym here.flagged) valued)
-          (left ∙ ap (λ (x : Options). x.delay) here.options);
+          (left ∙ ap (λ (x : Plan). x.delay) here.plan);
     }
 
     -- what is kept is given
     pub loop_recalled : (given : Option (Outcome V)) (r : Outcome V) (new : Memory V) →
-        ((options : Options) (loops : ℕ → Node) → MayRecall m options loops flag memory →
-        AreRecalled m options (loops l.point) flag first given) → new.kept ≡ memory.kept → given ≡ Some r →
+        ((plan : Plan) (loops : ℕ → Node) → MayRecall m plan loops flag memory →
+        AreRecalled m plan (loops l.point) flag first given) → new.kept ≡ memory.kept → given ≡ Some r →
         IsMade m set whole (seen r) new
     loop_recalled given r new gives kept is =
         let tree = iterate l.point l.base (cond_view l.condition.now) (node_view l.body.now) in
@@ -184,8 +186,8 @@ module _ {V H : Type 0} (m : Meaning V H) (set : Options) where
         here.begun here.loop.kept (loop_remembers l whole may here.loop.is)) here.head.loop.stays
         (later_noted l.point here.head.valued.0 here.head.so_far growing.flag here.head.valued.2)
 
-    pub growing_kept : AreKept m l.options.now (node_view l.body.now) growing.flag turn
-    growing_kept = subst (λ (x : Options). AreKept m x (node_view l.body.now) growing.flag turn) (sym here.loop.options)
+    pub growing_kept : AreKept m l.plan.now (node_view l.body.now) growing.flag turn
+    growing_kept = subst (λ (x : Plan). AreKept m x (node_view l.body.now) growing.flag turn) (sym here.loop.plan)
         (subst (λ (f : Option ℕ). AreKept m set (node_view l.body.now) f turn) (sym here.head.valued.2)
         (all_noted m set (node_view l.body.now) l.point here.head.valued.0 here.head.so_far turn here.head.loop.kept))
 
@@ -207,7 +209,7 @@ module _ {V H : Type 0} (m : Meaning V H) (set : Options) where
       };
     }
 
-    pub growing_opens : (value : V) (inside : Option ℕ) (entered : V) → IsEntered m l.options.now l.point l.base
+    pub growing_opens : (value : V) (inside : Option ℕ) (entered : V) → IsEntered m l.plan.now l.point l.base
         (cond_view l.condition.now) (node_view l.body.now) growing.flag growing.value (Anew entered value inside) → IsGrowing m set (record {
           the_loop = l;
           first = first;
@@ -218,7 +220,7 @@ module _ {V H : Type 0} (m : Meaning V H) (set : Options) where
         let now = body_may l whole may here.loop.is growing.value growing.flag memory growing_wide growing_remembers value
         inside entered has in (record { head = growing_on; entered = now.0 }, now.1)
 
-    pub growing_again : (given : Turn V) (entered : V) (outcome : Outcome V) → IsEntered m l.options.now l.point l.base
+    pub growing_again : (given : Turn V) (entered : V) (outcome : Outcome V) → IsEntered m l.plan.now l.point l.base
         (cond_view l.condition.now) (node_view l.body.now) growing.flag growing.value (again given) →
         entered ≡ given.entered → outcome ≡ given.outcome → (part : Due V) × IsGrowing m set (record {
           the_loop = l;
@@ -228,7 +230,7 @@ module _ {V H : Type 0} (m : Meaning V H) (set : Options) where
         }) whole part × IsMade m set part (seen outcome) memory
     growing_again given entered outcome has same is =
         let now = body_again l whole may here.loop.is growing.value growing.flag memory growing_wide growing_remembers
-        given entered outcome here.loop.options has same is in (
+        given entered outcome here.loop.plan has same is in (
           now.0,
           record {
             head = subst (λ (x : Memory V). IsHead m set l whole first growing None x) (sym now.1) growing_on;
@@ -267,18 +269,18 @@ module _ {V H : Type 0} (m : Meaning V H) (set : Options) where
 
     -- the head is stable
     pub grown_stable : (value : V) → value ≡ p.growing.value →
-        (dropping m).stays p.growing.head outcome.normal (mode_at l.options.now.limited p.growing.left) →
-        IsNarrowed m set l whole p.first (record { value = value; turn = turn }) l.options.now.narrow new
+        (dropping m).stays p.growing.head outcome.normal (mode_at l.plan.now.widening p.growing.left) →
+        IsNarrowed m set l whole p.first (record { value = value; turn = turn }) l.plan.now.narrow new
     grown_stable value same stays =
         let at = owed.head.head in
-        let steady : (dropping m).stays p.growing.head outcome.normal (mode_at set.limited p.growing.left) =
-        subst (λ (x : Options). (dropping m).stays p.growing.head outcome.normal (mode_at x.limited p.growing.left))
-        owed.head.loop.options stays in
+        let steady : (dropping m).stays p.growing.head outcome.normal (mode_at set.widening p.growing.left) =
+        subst (λ (x : Plan). (dropping m).stays p.growing.head outcome.normal (mode_at x.widening p.growing.left))
+        owed.head.loop.plan stays in
         let grown = head_stable m set l.point l.base (cond_view l.condition.now) body whole.value whole.flag p.growing None
         owed.head.begun part.memory at (seen outcome) grown_turned.round steady in
         let narrowed = narrow_starts m set l.point l.base (cond_view l.condition.now) body whole.value p.growing.flag
         p.growing.value turn new (growing_wide l whole p.first p.growing None part.memory may owed.head) grown_turned in
-        subst (λ (v : V). IsNarrowed m set l whole p.first (record { value = v; turn = turn }) l.options.now.narrow new)
+        subst (λ (v : V). IsNarrowed m set l whole p.first (record { value = v; turn = turn }) l.plan.now.narrow new)
         (sym same) (record {
           begun = owed.head.begun;
           loop = owed.head.loop;
@@ -287,14 +289,14 @@ module _ {V H : Type 0} (m : Meaning V H) (set : Options) where
           grown = grown;
           between = new;
           grown_stays = grown_stays;
-          narrowed = subst (λ (x : Options). NarrowLoop m set l.point l.base (cond_view l.condition.now) body whole.value
+          narrowed = subst (λ (x : Plan). NarrowLoop m set l.point l.base (cond_view l.condition.now) body whole.value
               p.growing.value (seen outcome) x.narrow p.growing.value p.entered (seen outcome) new new)
-              (sym owed.head.loop.options) narrowed;
+              (sym owed.head.loop.plan) narrowed;
         })
 
     -- it grew
     pub grown_next : (e : Exactness) (after : Growing V H) →
-        GrowsBy m l.options.now.limited l.point e p.growing (seen outcome) after →
+        GrowsBy m l.plan.now.widening l.point e p.growing (seen outcome) after →
         IsHead m set l whole p.first after (Some turn) new
     grown_next e after by =
         let flag = noted l.point e outcome.flag in
@@ -303,8 +305,8 @@ module _ {V H : Type 0} (m : Meaning V H) (set : Options) where
           loop = owed.head.loop;
           head = head_next m set l.point l.base (cond_view l.condition.now) body whole.value whole.flag p.growing None
               owed.head.begun part.memory owed.head.head (seen outcome) grown_turned.round e after (Some turn) new
-              (subst (λ (x : Options). GrowsBy m x.limited l.point e p.growing (seen outcome) after)
-              owed.head.loop.options by)
+              (subst (λ (x : Plan). GrowsBy m x.widening l.point e p.growing (seen outcome) after)
+              owed.head.loop.plan by)
               (kept_noted m set body l.point e outcome.flag p.entered (seen outcome) grown_turned.kept)
               (stays_then m set body whole.flag outcome.flag flag owed.head.begun new grown_stays
               (later_noted l.point e outcome.flag flag refl));
@@ -330,8 +332,8 @@ module _ {V H : Type 0} (m : Meaning V H) (set : Options) where
     -- the last round comes out
     pub narrowed_made : (r : Outcome V) (new : Memory V) → left ≡ 0 → LeavesWith m l.point l.base
         (cond_view l.condition.now) last.value (seen last.turn.outcome) (seen r) → m.dims r.normal ≡ m.dims last.value →
-        ((options : Options) (loops : ℕ → Node) → MayRecall m options loops last.turn.outcome.flag memory →
-        IsKept m options (loops l.point) r.flag first (seen r) → MayRecall m options loops r.flag new) →
+        ((plan : Plan) (loops : ℕ → Node) → MayRecall m plan loops last.turn.outcome.flag memory →
+        IsKept m plan (loops l.point) r.flag first (seen r) → MayRecall m plan loops r.flag new) →
         IsMade m set whole (seen r) new
     narrowed_made r new none left_with dims keeps =
         let tree = iterate l.point l.base (cond_view l.condition.now) (node_view l.body.now) in
@@ -400,11 +402,11 @@ module _ {V H : Type 0} (m : Meaning V H) (set : Options) where
     waiting_few = subst (λ (k : ℕ). k ≤ 2 ^ 30) (sym here.dims) may.few
 
     pub waiting_kept : (kept : Turn V) → IsKept m set (node_view n.the_loop.body.now) flag kept.entered (seen kept.outcome) →
-        AreKept m n.the_loop.options.now (node_view n.the_loop.body.now) flag (Some kept)
-    waiting_kept kept is = subst (λ (x : Options). IsKept m x (node_view n.the_loop.body.now) flag kept.entered
-        (seen kept.outcome)) (sym here.loop.options) is
+        AreKept m n.the_loop.plan.now (node_view n.the_loop.body.now) flag (Some kept)
+    waiting_kept kept is = subst (λ (x : Plan). IsKept m x (node_view n.the_loop.body.now) flag kept.entered
+        (seen kept.outcome)) (sym here.loop.plan) is
 
-    pub narrowing_opens : (value : V) (inside : Option ℕ) (entered : V) → IsEntered m n.the_loop.options.now
+    pub narrowing_opens : (value : V) (inside : Option ℕ) (entered : V) → IsEntered m n.the_loop.plan.now
         n.the_loop.point n.the_loop.base (cond_view n.the_loop.condition.now) (node_view n.the_loop.body.now) flag n.top
         (Anew entered value inside) →
         IsNarrowing m set (record { narrowing = n; entered = entered }) whole (at n.the_loop value inside memory) ×
@@ -413,14 +415,14 @@ module _ {V H : Type 0} (m : Meaning V H) (set : Options) where
         let now = body_may n.the_loop whole may here.loop.is n.top flag memory here.dims here.remembers value inside entered
         has in (record { flag = flag; waiting = here; entered = now.0 }, now.1)
 
-    pub narrowing_again : (given : Turn V) (entered : V) (outcome : Outcome V) → IsEntered m n.the_loop.options.now
+    pub narrowing_again : (given : Turn V) (entered : V) (outcome : Outcome V) → IsEntered m n.the_loop.plan.now
         n.the_loop.point n.the_loop.base (cond_view n.the_loop.condition.now) (node_view n.the_loop.body.now) flag n.top
         (again given) → entered ≡ given.entered → outcome ≡ given.outcome →
         (part : Due V) × IsNarrowing m set (record { narrowing = n; entered = entered }) whole part ×
         IsMade m set part (seen outcome) memory
     narrowing_again given entered outcome has same is =
         let now = body_again n.the_loop whole may here.loop.is n.top flag memory here.dims here.remembers given entered
-        outcome here.loop.options has same is in (
+        outcome here.loop.plan has same is in (
           now.0,
           record {
             flag = flag;

@@ -8,7 +8,7 @@ use Rattle.lra_domain.specs.Meaning.{Meaning}
 use Rattle.lra_program.specs.Program.{Program}
 use Rattle.lra_program.specs.Sites.{sites_of}
 use Rattle.lra_operations.specs.Graph.{Node}
-use Rattle.lra_options.specs.declared.options.Options.{Options}
+use Rattle.lra_flow.specs.Plan.{Plan}
 use Rattle.lra_flow.specs.Operations.{defined}
 use Rattle.lra_flow.specs.Pass.{Result, failing}
 use Rattle.lra_flow.specs.Analysis.{IsUnreachable, Solves, Written}
@@ -45,7 +45,7 @@ module _ {V H : Type 0} (m : Meaning V H) (r : Result V) where
       let same : u ≡ v = once q u v at there in
       same_bool a b (λ h. says.1 (subst (IsUnreachable m) same (tells.0 h))) (λ h. tells.1 (subst (IsUnreachable m) (sym same) (says.0 h)))
 
-pub one_solution : {V H : Type 0} (m : Meaning V H) → SingleLaws m → (set : Options) (P : Program) (g : Node) (r s : Result V) (xs ys : List V) (vs ws : List (ℕ × Bool)) (e f : Option ℕ)
+pub one_solution : {V H : Type 0} (m : Meaning V H) → SingleLaws m → (set : Plan) (P : Program) (g : Node) (r s : Result V) (xs ys : List V) (vs ws : List (ℕ × Bool)) (e f : Option ℕ)
     → IsNumbered (sites_of P) g → Written m set P g r → Written m set P g s → Solves m r xs vs e → Solves m s ys ws f
     → (xs ≡ ys) × ((q : ℕ) (a b : Bool) → Contains vs (q, a) → Contains ws (q, b) → a ≡ b)
 one_solution {V} {H} m laws set P g r s xs ys vs ws e f numbered a b x y =

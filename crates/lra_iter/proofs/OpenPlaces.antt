@@ -10,7 +10,7 @@ use Rattle.lra_operations.specs.declared.graph.Node as node
 use Rattle.lra_operations.specs.declared.graph.Exit as exit
 use Rattle.lra_operations.specs.Graph.{Node, choose, catch}
 use Rattle.lra_operations.specs.GraphViews.{exit_view, node_view, row}
-use Rattle.lra_options.specs.declared.options.Options.{Options}
+use Rattle.lra_flow.specs.Plan.{Plan}
 use Rattle.lra_flow.specs.Operations.{dropping}
 use Rattle.lra_flow.specs.MovesOf.{guard}
 use Rattle.lra_flow.proofs.Takes.{takes_made}
@@ -61,7 +61,7 @@ steps_both {V} {H} {E} (outcome_or.Ok n) R O P Q is f o p =
 steps_both {V} {H} {E} (outcome_or.Err e) R O P Q is f o p =
     subst (λ (x : outcome_or.Result (step.Step V H) E). IfOk x Q) (sym is) tt
 
-module _ {V H : Type 0} (m : Meaning V H) (set : Options) where
+module _ {V H : Type 0} (m : Meaning V H) (set : Plan) where
   -- one place more, in which this is under way
   pub open_more : (ps : List (place.Place V H)) (p : place.Place V H) (whole under inner : Due V) →
       AreOpen m set ps whole under → MayBePassed m set under → IsOpen m set p under inner →
@@ -155,13 +155,13 @@ module _ {V H : Type 0} (m : Meaning V H) (set : Options) where
 
   -- the first of those that are left is
   pub row_leads : (r : RowPlace V) (gs : List node.Node) (n : node.Node) (value : V) (flag : Option ℕ) (whole : Due V)
-      (memory : Memory V) → r.behind.options.now ≡ set → gs ≡ n ∷ r.behind.trees.now → MayBePassed m set whole →
+      (memory : Memory V) → r.behind.plan.now ≡ set → gs ≡ n ∷ r.behind.trees.now → MayBePassed m set whole →
       RowLoop m set whole.tree whole.flag whole.value (row (map node_view gs) (node_view r.behind.last.now)) r.found value
       flag whole.memory memory → OpensAt whole (Row r) n value flag memory
-  row_leads r gs n value flag whole memory options first may loop =
+  row_leads r gs n value flag whole memory plan first may loop =
       let is = row_first gs r.behind.trees.now n r.behind.last.now first in (
         record {
-          options = options;
+          plan = plan;
           loop = subst (λ (g : Node). RowLoop m set whole.tree whole.flag whole.value g r.found value flag
               whole.memory memory) is loop;
         },
@@ -220,16 +220,16 @@ module _ {V H : Type 0} (m : Meaning V H) (set : Options) where
 
   -- the first branch is next
   pub choice_leads : (k : ChoicePlace V) (n : node.Node) (value : V) (flag : Option ℕ) (whole : Due V) (e : Exactness) →
-      k.choice.options.now ≡ set → whole.tree ≡ choose k.choice.point k.choice.base (cond_view k.choice.condition.now)
+      k.choice.plan.now ≡ set → whole.tree ≡ choose k.choice.point k.choice.base (cond_view k.choice.condition.now)
       (node_view n) (node_view k.choice.no.now) → MayBePassed m set whole →
       Leaves (dropping m) k.choice.base (cond_view k.choice.condition.now) true whole.value e value →
       m.dims value ≡ m.dims whole.value → flag ≡ noted k.choice.point e whole.flag →
       Leaves (dropping m) k.choice.base (cond_view k.choice.condition.now) false whole.value k.off.exactness
       k.off.value → m.dims k.off.value ≡ m.dims whole.value → OpensAt whole (Choice k) n value flag whole.memory
-  choice_leads k n value flag whole e options is may on on_dims flagged off off_dims =
+  choice_leads k n value flag whole e plan is may on on_dims flagged off off_dims =
       let fits = subst (λ (g : Node). TreeFits g (m.dims whole.value)) is may.fits in (
         record {
-          options = options;
+          plan = plan;
           is = is;
           exactness = e;
           on = on;
@@ -252,15 +252,15 @@ module _ {V H : Type 0} (m : Meaning V H) (set : Options) where
   -- what its condition leaves
   pub choice_opens : (k : shape.Choice) (sides : Sides V) (value : V) (flag inside : Option ℕ) (whole : Due V) →
       SplitsBy m k.base true (cond_view k.condition.now) (record { value = value; exactness = Exact }) sides → inside ≡ noted k.point sides.on.exactness flag →
-      k.options.now ≡ set → whole.tree ≡ choose k.point k.base (cond_view k.condition.now) (node_view k.yes.now)
+      k.plan.now ≡ set → whole.tree ≡ choose k.point k.base (cond_view k.condition.now) (node_view k.yes.now)
       (node_view k.no.now) → whole.value ≡ value → whole.flag ≡ flag → MayBePassed m set whole →
       OpensAt whole (Choice (record { choice = k; off = sides.off })) k.yes.now sides.on.value inside whole.memory
-  choice_opens k sides value flag inside whole splits flagged options is first before may =
+  choice_opens k sides value flag inside whole splits flagged plan is first before may =
       let c = cond_view k.condition.now in
       let n = m.dims value in
       let on = takes_made (dropping m) (guard n k.base true c) value sides.on.value sides.on.exactness splits.on in
       let off = takes_made (dropping m) (guard n k.base false c) value sides.off.value sides.off.exactness splits.off in
-      choice_leads (record { choice = k; off = sides.off }) k.yes.now sides.on.value inside whole sides.on.exactness options
+      choice_leads (record { choice = k; off = sides.off }) k.yes.now sides.on.value inside whole sides.on.exactness plan
       is may (subst (λ (v : V). Leaves (dropping m) k.base c true v sides.on.exactness sides.on.value) (sym first) on)
       (splits.on_dims ∙ ap m.dims (sym first)) (flagged ∙ ap (noted k.point sides.on.exactness) (sym before))
       (subst (λ (v : V). Leaves (dropping m) k.base c false v sides.off.exactness sides.off.value) (sym first) off)

@@ -1,5 +1,5 @@
 -- What the loops of a pass keep.
-use Rattle.std.proofs.Common.{◌≡◌, ◌≢◌, ℕ, zero, suc, ◌-◌, ◌^◌, ◌<◌, Bool, true, false, List, [], ◌∷◌, ◌++◌}
+use Rattle.std.proofs.Common.{◌≡◌, ◌≢◌, ℕ, zero, suc, ◌-◌, ◌^◌, ◌<◌, List, [], ◌∷◌, ◌++◌}
 use Rattle.std.proofs.Common.{Option, None, take, drop, refl, sym, ap, subst, ◌∙◌, arith}
 use Rattle.std.specs.Prelude.{slice_index_or}
 use Rattle.lra_domain.specs.declared.Rank.{Rank}
@@ -11,10 +11,10 @@ use Rattle.lra_domain.proofs.RankNumbers.{phased, phased_joins, phased_falls}
 use Rattle.lra_domain.specs.declared.Exactness.{Exactness}
 use Rattle.lra_program.specs.Program.{Cond}
 use Rattle.lra_operations.specs.Graph as graph
-use Rattle.lra_options.specs.declared.options.Options.{Options}
+use Rattle.lra_flow.specs.Plan.{Plan, Widening, standard, limited, by_thresholds, mode_at}
 use Rattle.lra_flow.specs.Operations.{Operations, dropping}
-use Rattle.lra_flow.specs.Given.{given_rows}
-use Rattle.lra_flow.specs.Pass.{AreJoined, Result, noted, first_of_call, mode_at, Pass, GoesRound, Grows, Narrows}
+use Rattle.lra_flow.specs.Thresholds.{loop_rows}
+use Rattle.lra_flow.specs.Pass.{AreJoined, Result, noted, first_of_call, Pass, GoesRound, Grows, Narrows}
 use Rattle.lra_iter.specs.declared.outcome.Turn.{Turn}
 use Rattle.lra_iter.specs.declared.heads.Growing.{Growing}
 use Rattle.lra_iter.specs.declared.memory.Memory.{Memory}
@@ -23,10 +23,10 @@ use Rattle.lra_iter.specs.Memory.{StaysKept}
 use Rattle.lra_iter.specs.Open.{GrowLoop, HeadLoop, NarrowLoop}
 use Rattle.lra_iter.specs.Outcome.{headed, seen, AllHave, AreKept, HasGrown, IsKept, IsTurned, JumpsFit, NarrowsTo}
 
-module _ {V H : Type 0} (m : Meaning V H) (set : Options) (q base : ℕ) (c : Cond) (a : graph.Node) where
+module _ {V H : Type 0} (m : Meaning V H) (set : Plan) (q base : ℕ) (c : Cond) (a : graph.Node) where
   -- a head begins
   pub grow_starts : (first : V) (f : Option ℕ) (head : H) (memory : Memory V) →
-      (dropping m).started first (given_rows (m.dims first) base c) head → RankFits (m.rank head)
+      (dropping m).started first (loop_rows set.widening (m.dims first) base c a) head → RankFits (m.rank head)
       → GrowLoop m set q base c a first f set.delay f head None memory memory
   grow_starts first f head memory begins fits = record {
     dims = begins.1;
@@ -42,7 +42,7 @@ module _ {V H : Type 0} (m : Meaning V H) (set : Options) (q base : ℕ) (c : Co
       → GrowLoop m set q base c a first f left so_far head before old memory
       → Values m head e v → m.dims v ≡ m.head_dims head → CapsWithin (m.head_capped head) (m.capped v)
       → GoesRound V H (dropping m) q base c (Pass V H (dropping m) set a) (noted q e so_far) v (headed q v s)
-      → Grew m head s.normal (mode_at set.limited left) d next → m.dims s.normal ≡ m.head_dims head →
+      → Grew m head s.normal (mode_at set.widening left) d next → m.dims s.normal ≡ m.head_dims head →
       m.head_dims next ≡ m.head_dims head
       → CapsWithin (λ k. m.head_capped head k × m.capped s.normal k) (m.head_capped next) → RankFits (m.rank next)
       → left' ≡ left - 1 → AreKept m set a (noted q d s.flag) turn → StaysKept m set a f old (noted q d s.flag) new
@@ -59,14 +59,14 @@ module _ {V H : Type 0} (m : Meaning V H) (set : Options) (q base : ℕ) (c : Co
           d,
           (e, (values, dims, caps), round),
           (grew, behind, same, more),
-          subst (λ (n : ℕ). Grows V H (dropping m) q base c (Pass V H (dropping m) set a) set.limited n
+          subst (λ (n : ℕ). Grows V H (dropping m) q base c (Pass V H (dropping m) set a) set.widening n
               (noted q d s.flag) next later w r) is h,
         );
       }
 
   -- the same of a head with its value
   pub head_starts : (first : V) (f : Option ℕ) (growing : Growing V H) (memory : Memory V) →
-      (dropping m).started first (given_rows (m.dims first) base c) growing.head → RankFits (m.rank growing.head)
+      (dropping m).started first (loop_rows set.widening (m.dims first) base c a) growing.head → RankFits (m.rank growing.head)
       → IsValued m q f growing.head growing.value growing.flag → growing.left ≡ set.delay
       → HeadLoop m set q base c a first f growing None memory memory
   head_starts first f growing memory begins fits valued left = record {
@@ -88,13 +88,13 @@ module _ {V H : Type 0} (m : Meaning V H) (set : Options) (q base : ℕ) (c : Co
       head_round = subst (λ (x : Option ℕ). GoesRound V H (dropping m) q base c (Pass V H (dropping m) set a) x
           growing.value (headed q growing.value s)) loop.valued.2 round
 
-      pub head_stable : (dropping m).stays growing.head s.normal (mode_at set.limited growing.left)
+      pub head_stable : (dropping m).stays growing.head s.normal (mode_at set.widening growing.left)
           → HasGrown m set q base c a first f growing.value (headed q growing.value s)
       head_stable stays = loop.loop.grows [] growing.value (headed q growing.value s)
           ((loop.valued.0, loop.valued.1, head_round), stays)
 
       pub head_next : (d : Exactness) (next : Growing V H) (last : Option (Turn V)) (new : Memory V)
-          → GrowsBy m set.limited q d growing s next → AreKept m set a (noted q d s.flag) last
+          → GrowsBy m set.widening q d growing s next → AreKept m set a (noted q d s.flag) last
           → StaysKept m set a f old (noted q d s.flag) new → HeadLoop m set q base c a first f next last old new
       head_next d next last new by kept stays =
           let value = loop.valued.1 in
@@ -157,15 +157,16 @@ module _ {V H : Type 0} (m : Meaning V H) (set : Options) (q base : ℕ) (c : Co
       (subst (λ (n : ℕ). Narrows V H (dropping m) q base c (Pass V H (dropping m) set a) n first top
       (headed q top last) top (headed q top last)) (sym is) (refl, refl))
 
-not_join : (limited : Bool) → mode_at limited 0 ≡ Join → ⊥
-not_join true e = cc
-not_join false e = cc
+not_join : (widening : Widening) → mode_at widening 0 ≡ Join → ⊥
+not_join standard e = cc
+not_join limited e = cc
+not_join (by_thresholds constants) e = cc
 
 -- a round less of joining, or a lower rank
-pub grow_falls : (limited : Bool) (left left' : ℕ) (r r' : Rank) → RankFits r' → left' ≡ left - 1 →
-    (mode_at limited left ≢ Join → RankBelow r' r) → phased (2 ^ 64) left' r' < phased (2 ^ 64) left r
-grow_falls limited zero left' r r' fits is below = phased_falls zero left' r r' fits is (below (not_join limited))
-grow_falls limited (suc k) left' r r' fits is below = phased_joins (suc k) left' r r' fits (omega arith)
+pub grow_falls : (widening : Widening) (left left' : ℕ) (r r' : Rank) → RankFits r' → left' ≡ left - 1 →
+    (mode_at widening left ≢ Join → RankBelow r' r) → phased (2 ^ 64) left' r' < phased (2 ^ 64) left r
+grow_falls widening zero left' r r' fits is below = phased_falls zero left' r r' fits is (below (not_join widening))
+grow_falls widening (suc k) left' r r' fits is below = phased_joins (suc k) left' r r' fits (omega arith)
 
 have_append : {V H : Type 0} (m : Meaning V H) (k : ℕ) (vs : List V) (n : V) → AllHave m k vs → m.dims n ≡ k →
     AllHave m k (vs ++ n ∷ [])

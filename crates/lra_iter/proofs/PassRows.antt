@@ -9,7 +9,7 @@ use Rattle.lra_domain.specs.Meaning.{Meaning}
 use Rattle.lra_operations.specs.declared.graph.Node.{Node}
 use Rattle.lra_operations.specs.GraphViews.{node_view, row}
 use Rattle.lra_operations.specs.Graph as graph
-use Rattle.lra_options.specs.declared.options.Options.{Options}
+use Rattle.lra_flow.specs.Plan.{Plan}
 use Rattle.lra_flow.specs.Pass.{Entry, Result, goes_on, in_turn}
 use Rattle.lra_iter.specs.Fits.{live_after, TreeFits}
 use Rattle.lra_iter.specs.declared.outcome.Found.{Found}
@@ -70,7 +70,7 @@ steps_last n gs last is =
     ap (λ (z : List Node). sum_by (λ g. suc (node_steps n g)) z) is in
     omega (arith, none)
 
-module _ {V H : Type 0} (m : Meaning V H) (set : Options) where
+module _ {V H : Type 0} (m : Meaning V H) (set : Plan) where
   pub seq_passed : (a b : graph.Node) (f : Option ℕ) (v : V) (s t : Result V) → IsPassed m set a f v s →
       IsPassed m set b s.flag s.normal t
       → IsPassed m set (graph.seq a b) f v (in_turn s t t.normal t.flag)

@@ -12,44 +12,17 @@ use Rattle.lra_operations.specs.declared.graph.Exit as declared_exit
 use Rattle.lra_operations.specs.declared.graph.Op as declared_op
 use Rattle.lra_operations.specs.declared.graph.Node.{Node, Empty, Point, Act, Check, Seq, Choose, Iterate, Catch, Leave, the_lemmas}
 use Rattle.lra_program.specs.ProgramViews.{cond_view}
-use Rattle.lra_operations.specs.GraphViews.{exit_view, op_view, node_view, row}
+use Rattle.lra_operations.specs.GraphViews.{exit_view, node_view, row}
 use Rattle.lra_program.specs.Program.{Cond}
 use Rattle.lra_operations.specs.Graph.{Exit, broken, continued, returned}
 use Rattle.lra_operations.specs.Graph as graph
-use Rattle.lra_options.specs.declared.options.Options.{Options}
+use Rattle.lra_flow.specs.Plan.{Plan}
 use Rattle.lra_flow.specs.Operations.{dropping}
 use Rattle.lra_flow.specs.Pass.{Leaves, jumps_of, Entry, Result, noted, goes_on, jumps, in_turn, behind, Pass, Narrows}
 use Rattle.lra_iter.specs.Fits.{live_after, JumpsWith, TreeFits}
 use Rattle.lra_iter.specs.Outcome.{headed, AllHave, AreMet, Catches, JumpsFit, HasGrown, IsPassed, LeavesWith}
 use Rattle.lra_iter.specs.Steps.{node_steps, row_steps}
-
--- the views of the nine forms
-pub empty_view : node_view Empty ≡ graph.empty
-empty_view = search (rules, the_lemmas)
-
-pub point_view : (q : ℕ) → node_view (Point q) ≡ graph.point q
-point_view q = search (rules, the_lemmas)
-
-pub act_view : (q : ℕ) (o : declared_op.Op) → node_view (Act q o) ≡ graph.act q (op_view o)
-act_view q o = search (rules, the_lemmas)
-
-pub check_view : (q base : ℕ) (c : declared_cond.Cond) → node_view (Check q base c) ≡ graph.check q base (cond_view c)
-check_view q base c = search (rules, the_lemmas)
-
-seq_view : (gs : Vec Node Global) (last : Box Node Global) → node_view (Seq gs last) ≡ row (map node_view gs.items) (node_view last.value)
-seq_view gs last = search (rules, the_lemmas)
-
-choose_view : (q base : ℕ) (c : declared_cond.Cond) (a b : Box Node Global) → node_view (Choose q base c a b) ≡ graph.choose q base (cond_view c) (node_view a.value) (node_view b.value)
-choose_view q base c a b = search (rules, the_lemmas)
-
-iterate_view : (q base : ℕ) (c : declared_cond.Cond) (a : Box Node Global) → node_view (Iterate q base c a) ≡ graph.iterate q base (cond_view c) (node_view a.value)
-iterate_view q base c a = search (rules, the_lemmas)
-
-catch_view : (q : ℕ) (k : declared_exit.Exit) (a : Box Node Global) → node_view (Catch q k a) ≡ graph.catch q (exit_view k) (node_view a.value)
-catch_view q k a = search (rules, the_lemmas)
-
-pub leave_view : (n : ℕ) (k : declared_exit.Exit) → node_view (Leave n k) ≡ graph.leave n (exit_view k)
-leave_view n k = search (rules, the_lemmas)
+use Rattle.lra_forms.proofs.TreeViews.{catch_view, choose_view, iterate_view, seq_view}
 
 -- how many steps a pass of each takes
 pub empty_steps : (n : ℕ) → node_steps n Empty ≡ 1
@@ -187,7 +160,7 @@ module _ {V H : Type 0} (m : Meaning V H) where
   pub catch_fits : (q : ℕ) (j : Exit) (a : graph.Node) (n : ℕ) (s r : Result V) → JumpsFit m a n s → Catches m q j s r → JumpsFit m (graph.catch q j a) n r
   catch_fits q j a n s r inner (w, e, joined, is) = subst (λ (x : Result V). JumpsFit m (graph.catch q j a) n x) (sym is) (behind_fits q j a n s w (noted q e s.flag) inner)
 
-  pub catch_passes : (set : Options) (q : ℕ) (j : Exit) (a : graph.Node) (f : Option ℕ) (v : V) (s r : Result V) → Pass V H (dropping m) set a f v s → Catches m q j s r
+  pub catch_passes : (set : Plan) (q : ℕ) (j : Exit) (a : graph.Node) (f : Option ℕ) (v : V) (s r : Result V) → Pass V H (dropping m) set a f v s → Catches m q j s r
       → Pass V H (dropping m) set (graph.catch q j a) f v r
   catch_passes set q j a f v s r pass (w, e, joined, is) = (w, e, s, pass, joined, is)
 
@@ -224,7 +197,7 @@ module _ {V H : Type 0} (m : Meaning V H) where
   caught_have q k a n s fits jumps dims = all_have (m.dims s.normal) (jumps_of k s) (λ u h. fits.1 (m.dims u) (jumps k u h) ∙ sym dims)
 
   -- a loop
-  pub loop_passed : (set : Options) (q base : ℕ) (c : Cond) (a : graph.Node) (f : Option ℕ) (first u top : V) (s t r : Result V)
+  pub loop_passed : (set : Plan) (q base : ℕ) (c : Cond) (a : graph.Node) (f : Option ℕ) (first u top : V) (s t r : Result V)
       → HasGrown m set q base c a first f u s → Narrows V H (dropping m) q base c (Pass V H (dropping m) set a) set.narrow first u s top (headed q top t) → LeavesWith m q base c top t r
       → m.dims top ≡ m.dims first → m.dims r.normal ≡ m.dims top → JumpsFit m a (m.dims first) t → IsPassed m set (graph.iterate q base c a) f first r
   loop_passed set q base c a f first u top s t r (h, later, started, grows) narrows (out, e, leaves, is) dims left inner = record {
@@ -234,7 +207,7 @@ module _ {V H : Type 0} (m : Meaning V H) where
   }
 
   -- a choice
-  pub choice_passed : (set : Options) (q base : ℕ) (c : Cond) (a b : graph.Node) (f : Option ℕ) (v on off : V) (d e : Exactness) (s t r : Result V)
+  pub choice_passed : (set : Plan) (q base : ℕ) (c : Cond) (a b : graph.Node) (f : Option ℕ) (v on off : V) (d e : Exactness) (s t r : Result V)
       → Leaves (dropping m) base c true v d on → m.dims on ≡ m.dims v → IsPassed m set a (noted q d f) on s
       → Leaves (dropping m) base c false v e off → m.dims off ≡ m.dims v → IsPassed m set b (noted q e s.flag) off t
       → AreMet m q s t r → m.dims r.normal ≡ m.dims s.normal → IsPassed m set (graph.choose q base c a b) f v r
@@ -245,7 +218,7 @@ module _ {V H : Type 0} (m : Meaning V H) where
   }
 
   -- both ends have as many dimensions
-  pub ends_meet : (set : Options) (q base : ℕ) (c : Cond) (a b : graph.Node) (f g : Option ℕ) (n : ℕ) (on off : V) (s t : Result V) → TreeFits (graph.choose q base c a b) n → m.dims on ≡ n
+  pub ends_meet : (set : Plan) (q base : ℕ) (c : Cond) (a b : graph.Node) (f g : Option ℕ) (n : ℕ) (on off : V) (s t : Result V) → TreeFits (graph.choose q base c a b) n → m.dims on ≡ n
       → m.dims off ≡ n
       → IsPassed m set a f on s → IsPassed m set b g off t → m.dims s.normal ≡ m.dims t.normal
   ends_meet set q base c a b f g n on off s t fits wide wide' one two = one.dims ∙ ap (live_after a) wide ∙ sym fits.2 ∙ ap (live_after b) (sym wide') ∙ sym two.dims

@@ -3,7 +3,7 @@ use Rattle.std.proofs.Common.{◌≡◌, ℕ, ◌+◌, ◌<◌, ◌≤◌, List,
 use Rattle.std.specs.Prelude.{IfOk}
 use Rattle.std.proofs.lemmas.Result.{IfOk-weaker}
 use Rattle.std.specs.Prelude as outcome_or
-use Rattle.lra_options.specs.declared.options.Options.{Options}
+use Rattle.lra_flow.specs.Plan.{Plan}
 use Rattle.lra_domain.specs.Meaning.{Meaning}
 use Rattle.lra_operations.specs.declared.graph.Node as node
 use Rattle.lra_operations.specs.Graph.{Node}
@@ -23,10 +23,10 @@ use Rattle.lra_iter.proofs.KeptLoops.{stays_passed}
 use Rattle.lra_iter.proofs.PassRows.{next_fits, row_ends, row_first, row_last, row_next, row_stays, steps_first}
 
 -- whatever is owed where all trees are left, that much is owed where these are
-abbrev pub OwesLess : {V H : Type 0} → Meaning V H → Options → List node.Node → List node.Node → node.Node → Outcome V →
+abbrev pub OwesLess : {V H : Type 0} → Meaning V H → Plan → List node.Node → List node.Node → node.Node → Outcome V →
     Outcome V → Type 0
-OwesLess {V} m options gs left last begun so_far = (set : Options) (whole : Due V) (memory : Memory V) →
-    options ≡ set → MayBePassed m set whole →
+OwesLess {V} m plan gs left last begun so_far = (set : Plan) (whole : Due V) (memory : Memory V) →
+    plan ≡ set → MayBePassed m set whole →
     RowLoop m set whole.tree whole.flag whole.value (row (map node_view gs) (node_view last)) begun.found begun.normal
     begun.flag whole.memory memory → RowLoop m set whole.tree whole.flag whole.value
     (row (map node_view left) (node_view last)) so_far.found so_far.normal so_far.flag whole.memory memory
@@ -42,7 +42,7 @@ pub steps_within : (k n all : ℕ) → k ≡ n → n ≤ all → k ≤ all
 steps_within k n all is few = omega (arith, is, few)
 
 -- none but the last is left
-pub last_falls : {V H E : Type 0} (m : Meaning V H) (b : ℕ) (set : Options) (R : outcome_or.Result (next.Next V H) E)
+pub last_falls : {V H E : Type 0} (m : Meaning V H) (b : ℕ) (set : Plan) (R : outcome_or.Result (next.Next V H) E)
     (gs left : List node.Node) (last : node.Node) → left ≡ [] →
     row_steps (most_rounds b set) left last ≤ row_steps (most_rounds b set) gs last →
     IfOk R (λ n. next_left m b set n ≤ row_steps (most_rounds b set) [] last) →
@@ -53,7 +53,7 @@ last_falls m b set R gs left last none few h =
     IfOk-weaker R (λ n. next_left m b set n ≤ row_steps (most_rounds b set) [] last)
     (λ n. next_left m b set n ≤ row_steps (most_rounds b set) gs last) (λ n here. omega (arith, less, here)) h
 
-module _ {V H : Type 0} (m : Meaning V H) (set : Options) where
+module _ {V H : Type 0} (m : Meaning V H) (set : Plan) where
   -- what comes next in a row is less than what was left at its place
   pub row_falls : {E : Type 0} (R : outcome_or.Result (next.Next V H) E) (b n : ℕ) →
       IfOk R (λ x. next_left m b set x ≤ n) → IfOk R (λ x. next_left m b set x < 1 + n)
@@ -65,18 +65,18 @@ module _ {V H : Type 0} (m : Meaning V H) (set : Options) where
   row_less R b n all is h = IfOk-weaker R (λ x. next_left m b set x ≤ n) (λ x. next_left m b set x < all)
       (λ x here. omega (arith, here, is)) h
 
-  -- the row is owed with its own options
-  pub row_way : (r : Row) (so_far : Outcome V) (whole : Due V) (memory : Memory V) → r.options.now ≡ set →
+  -- the row is owed with its own plan
+  pub row_way : (r : Row) (so_far : Outcome V) (whole : Due V) (memory : Memory V) → r.plan.now ≡ set →
       MayBePassed m set whole → RowLoop m set whole.tree whole.flag whole.value
       (row (map node_view r.trees.now) (node_view r.last.now)) so_far.found so_far.normal so_far.flag whole.memory memory →
-      (whole : Due V) × (memory : Memory V) × MayBePassed m r.options.now whole ×
-      RowLoop m r.options.now whole.tree whole.flag whole.value (row (map node_view r.trees.now) (node_view r.last.now))
+      (whole : Due V) × (memory : Memory V) × MayBePassed m r.plan.now whole ×
+      RowLoop m r.plan.now whole.tree whole.flag whole.value (row (map node_view r.trees.now) (node_view r.last.now))
       so_far.found so_far.normal so_far.flag whole.memory memory
   row_way r so_far whole memory same may loop = (
     whole,
     memory,
-    subst (λ (s : Options). MayBePassed m s whole) (sym same) may,
-    subst (λ (s : Options). RowLoop m s whole.tree whole.flag whole.value (row (map node_view r.trees.now)
+    subst (λ (s : Plan). MayBePassed m s whole) (sym same) may,
+    subst (λ (s : Plan). RowLoop m s whole.tree whole.flag whole.value (row (map node_view r.trees.now)
         (node_view r.last.now)) so_far.found so_far.normal so_far.flag whole.memory memory) (sym same) loop,
   )
 
@@ -99,35 +99,35 @@ module _ {V H : Type 0} (m : Meaning V H) (set : Options) where
       subst (λ (g : Node). RowLoop m set whole.tree whole.flag whole.value g so_far.found so_far.normal so_far.flag
       whole.memory memory) (row_last gs last none) loop
 
-  -- it is passed with these options
-  passed_so : (options : Options) (n : node.Node) (g : Node) (so_far : Outcome V) (t : Result V) → options ≡ set →
-      node_view n ≡ g → IsPassed m options g so_far.flag so_far.normal t →
+  -- it is passed by this plan
+  passed_so : (plan : Plan) (n : node.Node) (g : Node) (so_far : Outcome V) (t : Result V) → plan ≡ set →
+      node_view n ≡ g → IsPassed m plan g so_far.flag so_far.normal t →
       IsPassed m set (node_view n) so_far.flag so_far.normal t
-  passed_so options n g so_far t same is one = subst (λ (x : Node). IsPassed m set x so_far.flag so_far.normal t) (sym is)
-      (subst (λ (s : Options). IsPassed m s g so_far.flag so_far.normal t) same one)
+  passed_so plan n g so_far t same is one = subst (λ (x : Node). IsPassed m set x so_far.flag so_far.normal t) (sym is)
+      (subst (λ (s : Plan). IsPassed m s g so_far.flag so_far.normal t) same one)
 
   -- what follows is the first of those that are left
   pub first_followed : (behind : Row) (gs : List node.Node) (n : node.Node) (g : Node) (whole : Due V)
-      (memory : Memory V) (so_far r : Outcome V) → behind.options.now ≡ set → gs ≡ n ∷ behind.trees.now →
-      node_view n ≡ g → Follows m behind.options.now g so_far r →
+      (memory : Memory V) (so_far r : Outcome V) → behind.plan.now ≡ set → gs ≡ n ∷ behind.trees.now →
+      node_view n ≡ g → Follows m behind.plan.now g so_far r →
       RowLoop m set whole.tree whole.flag whole.value (row (map node_view gs) (node_view behind.last.now)) so_far.found
       so_far.normal so_far.flag whole.memory memory → RowLoop m set whole.tree whole.flag whole.value
       (row (map node_view behind.trees.now) (node_view behind.last.now)) r.found r.normal r.flag whole.memory memory
   first_followed behind gs n g whole memory so_far r same first is followed loop =
       let t = followed.0 in
-      let one = passed_so behind.options.now n g so_far t same is followed.1 in
+      let one = passed_so behind.plan.now n g so_far t same is followed.1 in
       row_next m set whole.tree whole.flag whole.value _ so_far.found so_far.normal so_far.flag whole.memory memory loop
       _ _ (row_first gs behind.trees.now n behind.last.now first) t r.found r.normal r.flag memory
       (stays_passed m set (node_view n) so_far.flag so_far.normal t memory one) one followed.2 followed.3 followed.4
 
   -- it is the last
-  pub last_followed : (options : Options) (n : node.Node) (g : Node) (whole : Due V) (memory : Memory V)
-      (so_far r : Outcome V) → options ≡ set → node_view n ≡ g → Follows m options g so_far r →
+  pub last_followed : (plan : Plan) (n : node.Node) (g : Node) (whole : Due V) (memory : Memory V)
+      (so_far r : Outcome V) → plan ≡ set → node_view n ≡ g → Follows m plan g so_far r →
       RowLoop m set whole.tree whole.flag whole.value (node_view n) so_far.found so_far.normal so_far.flag whole.memory
       memory → IsMade m set whole (seen r) memory
-  last_followed options n g whole memory so_far r same is followed loop =
+  last_followed plan n g whole memory so_far r same is followed loop =
       let t = followed.0 in
-      let one = passed_so options n g so_far t same is followed.1 in
+      let one = passed_so plan n g so_far t same is followed.1 in
       record {
         passed = row_ends m set whole.tree whole.flag whole.value _ so_far.found so_far.normal so_far.flag whole.memory
             memory loop _ refl t r.found r.normal r.flag one followed.2 followed.3 followed.4;

@@ -6,7 +6,7 @@ use Rattle.lra_domain.specs.Laws.{Laws}
 use Rattle.lra_domain.specs.declared.Exactness.{Exactness}
 use Rattle.lra_program.specs.Program.{Program}
 use Rattle.lra_operations.specs.Graph.{Node}
-use Rattle.lra_options.specs.declared.options.Options.{Options}
+use Rattle.lra_flow.specs.Plan.{Plan}
 use Rattle.lra_flow.specs.Operations.{dropping}
 use Rattle.lra_flow.specs.MovesOf.{first_values}
 use Rattle.lra_flow.specs.Pass.{Result, noted, Pass}
@@ -15,20 +15,20 @@ use Rattle.lra_flow.proofs.Unflagged.{unflagged_is_written, flagged_strains}
 use Rattle.lra_change.specs.Changes.{Does}
 use Rattle.lra_iter.specs.Solved.{IsSolved}
 
-pub solved : {V H : Type 0} (m : Meaning V H) → Laws m → (options : Options) (P : Program) (tree : Node) (result : Result V) (values : List V) (verdicts : List (ℕ × Bool)) (flagged : Option ℕ) →
-    Derivation m options P tree result
-    → Solves m result values verdicts flagged → IsSolved m options P tree values verdicts flagged
-solved m laws options P tree result values verdicts flagged derived solves = record {
+pub solved : {V H : Type 0} (m : Meaning V H) → Laws m → (plan : Plan) (P : Program) (tree : Node) (result : Result V) (values : List V) (verdicts : List (ℕ × Bool)) (flagged : Option ℕ) →
+    Derivation m plan P tree result
+    → Solves m result values verdicts flagged → IsSolved m plan P tree values verdicts flagged
+solved m laws plan P tree result values verdicts flagged derived solves = record {
   result = result;
   derived = derived;
   solves = solves;
-  written = λ none. unflagged_is_written m laws options P tree result derived (sym solves.is_flagged ∙ none);
-  strained = λ q is. flagged_strains m laws options P tree result q derived (sym solves.is_flagged ∙ is);
+  written = λ none. unflagged_is_written m laws plan P tree result derived (sym solves.is_flagged ∙ none);
+  strained = λ q is. flagged_strains m laws plan P tree result q derived (sym solves.is_flagged ∙ is);
 }
 
 -- from the value that has all stores, by the globals' first values and a pass
-pub derived_from : {V H : Type 0} (m : Meaning V H) (options : Options) (P : Program) (tree : Node) (globals : List ℤ) (whole first : V) (e : Exactness) (result : Result V) → P.globals ≡ globals
-    → m.universal 0 options.parts whole × m.formed whole → Does m (first_values 0 globals) whole e first
-    → Pass V H (dropping m) options tree (noted 0 e None) first result → Derivation m options P tree result
-derived_from {V} {H} m options P tree globals whole first e result is universal done pass =
+pub derived_from : {V H : Type 0} (m : Meaning V H) (plan : Plan) (P : Program) (tree : Node) (globals : List ℤ) (whole first : V) (e : Exactness) (result : Result V) → P.globals ≡ globals
+    → m.universal 0 plan.parts whole × m.formed whole → Does m (first_values 0 globals) whole e first
+    → Pass V H (dropping m) plan tree (noted 0 e None) first result → Derivation m plan P tree result
+derived_from {V} {H} m plan P tree globals whole first e result is universal done pass =
     (whole, first, e, universal, subst (λ (zs : List ℤ). Does m (first_values 0 zs) whole e first) (sym is) done, pass)

@@ -1,5 +1,5 @@
 -- How many steps are left falls with each round of a loop.
-use Rattle.std.proofs.Common.{◌≡◌, ◌≢◌, ℕ, suc, ◌+◌, ◌-◌, ◌*◌, ◌<◌, ◌≤◌, ◌^◌, Bool, List, [], ◌∷◌, ◌++◌, Option, Some, Box, Global, arith, ap, subst, sym, ◌∙◌}
+use Rattle.std.proofs.Common.{◌≡◌, ◌≢◌, ℕ, suc, ◌+◌, ◌-◌, ◌*◌, ◌<◌, ◌≤◌, ◌^◌, List, [], ◌∷◌, ◌++◌, Option, Some, Box, Global, arith, ap, subst, sym, ◌∙◌}
 use Rattle.std.specs.Prelude.{IfOk, option_to_list}
 use Rattle.std.specs.List.{sum_by}
 use Rattle.std.proofs.lemmas.List.Sums.{sum_by-append, sum_by-cons}
@@ -7,12 +7,11 @@ use Rattle.std.specs.Prelude as outcome_or
 use Rattle.std.proofs.Math.Nat.{suc-mul}
 use Rattle.std.proofs.lemmas.Nat.{mul-le, mul-add-lt}
 use Rattle.std.proofs.lemmas.Result.{IfOk-weaker}
-use Rattle.lra_options.specs.declared.options.Options.{Options}
+use Rattle.lra_flow.specs.Plan.{Plan, Widening, mode_at}
 use Rattle.lra_domain.specs.declared.Rank.{Rank}
 use Rattle.lra_domain.specs.declared.Mode.TheVariants.{Join}
 use Rattle.lra_domain.specs.Meaning.{Meaning}
 use Rattle.lra_domain.specs.Rank.{RankFits, RankBelow}
-use Rattle.lra_flow.specs.Pass.{mode_at}
 use Rattle.lra_iter.specs.declared.outcome.Outcome.{Outcome}
 use Rattle.lra_iter.specs.declared.places.Entering.{Entering}
 use Rattle.lra_iter.specs.declared.places.Next as next
@@ -48,7 +47,7 @@ head_fits delay r fits = rounds_fit delay _ _ (four_fit (2 ^ 64) r.first r.secon
     (below_base _ fits.fits_first) (below_base _ fits.fits_second) (below_base _ fits.fits_third)
     (below_base _ fits.fits_fourth))
 
-module _ {V H E : Type 0} (m : Meaning V H) (set : Options) (R : outcome_or.Result (next.Next V H) E) where
+module _ {V H E : Type 0} (m : Meaning V H) (set : Plan) (R : outcome_or.Result (next.Next V H) E) where
   -- what comes next has fewer steps left
   abbrev pub TakesLess : ℕ → ℕ → Type 0
   TakesLess b n = IfOk R (λ n'. next_left m b set n' < n)
@@ -93,12 +92,12 @@ module _ {V H E : Type 0} (m : Meaning V H) (set : Options) (R : outcome_or.Resu
   stable_less l narrow left r is = turns_less l (2 ^ 64) narrow (set.narrow + rounds_left (2 ^ 64) left r) (omega (arith, is))
 
   -- one that grew
-  pub grown_less : (l : Loop) (limited : Bool) (left left' : ℕ) (r r' : Rank) → RankFits r' → left' ≡ left - 1 →
-      (mode_at limited left ≢ Join → RankBelow r' r) →
+  pub grown_less : (l : Loop) (widening : Widening) (left left' : ℕ) (r r' : Rank) → RankFits r' → left' ≡ left - 1 →
+      (mode_at widening left ≢ Join → RankBelow r' r) →
       TakesLess (2 ^ 64) (turns_left m (2 ^ 64) set l (suc (set.narrow + rounds_left (2 ^ 64) left' r'))) →
       TakesLess (2 ^ 64) (turns_left m (2 ^ 64) set l (set.narrow + rounds_left (2 ^ 64) left r))
-  grown_less l limited left left' r r' fits is lower =
-      let falls : rounds_left (2 ^ 64) left' r' < rounds_left (2 ^ 64) left r = grow_falls limited left left' r r' fits is lower in
+  grown_less l widening left left' r r' fits is lower =
+      let falls : rounds_left (2 ^ 64) left' r' < rounds_left (2 ^ 64) left r = grow_falls widening left left' r r' fits is lower in
       turns_less l (2 ^ 64) (suc (set.narrow + rounds_left (2 ^ 64) left' r')) (set.narrow + rounds_left (2 ^ 64) left r)
       (omega (arith, falls))
 
@@ -108,7 +107,7 @@ module _ {V H E : Type 0} (m : Meaning V H) (set : Options) (R : outcome_or.Resu
   narrowed_less l b left k is = turns_less l b (suc k) left (omega (arith, is))
 
 -- the whole list falls with what is left at its innermost place
-module _ {V H : Type 0} (m : Meaning V H) (b : ℕ) (set : Options) (ps : List (place.Place V H))
+module _ {V H : Type 0} (m : Meaning V H) (b : ℕ) (set : Plan) (ps : List (place.Place V H))
     (p : place.Place V H) (n n' : next.Next V H) where
   one_more : sum_by (place_left m b set) (ps ++ p ∷ []) ≡ sum_by (place_left m b set) ps + place_left m b set p
   one_more =

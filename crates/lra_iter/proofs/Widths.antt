@@ -19,7 +19,7 @@ use Rattle.lra_program.specs.Step as step
 use Rattle.lra_program.specs.Step.{Op, append, give, give_any, keep, test}
 use Rattle.lra_operations.specs.Graph.{Exit, broken, continued, returned, Node, empty, point, act, check, seq, choose, iterate, catch, leave}
 use Rattle.lra_program.specs.Sites.{Site}
-use Rattle.lra_options.specs.declared.options.Options.{Options}
+use Rattle.lra_flow.specs.Plan.{Plan, Widening}
 use Rattle.lra_flow.specs.Operations.{dropping}
 use Rattle.lra_flow.specs.MovesOf.{set_to, push_all, drop_last, moves_of, first_values, test_moves, comparison_moves, comparison_as, guard}
 use Rattle.lra_flow.specs.Pass.{AreJoined, Leaves, Entry, value, failing, Result, noted, jumps, first_of_call, values_behind, behind, Through, Changes, GoesRound, Grows, Narrows, Pass}
@@ -151,12 +151,12 @@ module _ (V H : Type 0) (m : Meaning V H) where
         pub top : m.dims v ≡ n
         pub result : Wide n r
 
-      grows_wide : (limited : Bool) (left : ℕ) (f : Option ℕ) (h : H) (later : List H) (v : V) (r : Result V) → Grows V H (dropping m) q base c body limited left f h later v r → m.head_dims h ≡ n →
+      grows_wide : (widening : Widening) (left : ℕ) (f : Option ℕ) (h : H) (later : List H) (v : V) (r : Result V) → Grows V H (dropping m) q base c body widening left f h later v r → m.head_dims h ≡ n →
           Turned v r
-      grows_wide limited left f h [] v r ((e, valued, turn), stays) k =
+      grows_wide widening left f h [] v r ((e, valued, turn), stays) k =
           let top : m.dims v ≡ n = valued.1 ∙ k in
           record { top = top; result = round_wide (noted q e f) v r turn top }
-      grows_wide limited left f h (next ∷ later) v r (u, s, e, turn, grown, rest) k = grows_wide limited (left - 1) (noted q e s.flag) next later v r rest (grown.2 ∙ k)
+      grows_wide widening left f h (next ∷ later) v r (u, s, e, turn, grown, rest) k = grows_wide widening (left - 1) (noted q e s.flag) next later v r rest (grown.2 ∙ k)
 
       narrows_wide : (more : ℕ) (first u : V) (s : Result V) (v : V) (r : Result V) → Narrows V H (dropping m) q base c body more first u s v r → m.dims first ≡ n → Turned u s → Turned v r
       narrows_wide zero first u s v r (same, is) k x = record { top = ap (λ (y : V). m.dims y) same ∙ x.top; result = wide_is n r s is x.result }
@@ -164,7 +164,7 @@ module _ (V H : Type 0) (m : Meaning V H) where
           let top : m.dims next ≡ n = joined.2 ∙ k in
           narrows_wide more first next t v r rest k (record { top = top; result = round_wide (noted q e s.flag) next t turn top })
 
-    module _ (laws : Laws m) (set : Options) where
+    module _ (laws : Laws m) (set : Plan) where
       pass_wide : (g : Node) (f : Option ℕ) (v : V) (r : Result V) (n : ℕ) → Pass V H (dropping m) set g f v r → m.dims v ≡ n → PointsHave T g n → Wide (live_after g n) r
       pass_wide empty f v r n is h p = wide_is n r _ is (record { normal = h; entries = tt })
       pass_wide (point q) f v r n is h p = wide_is n r _ is (record { normal = h; entries = (live_same q n (m.dims v) h p, tt) })
@@ -181,7 +181,7 @@ module _ (V H : Type 0) (m : Meaning V H) where
       pass_wide (iterate q base c a) f v r n (k, later, u, top, out, s, t, e, started, grown, narrowed, off, is) h p =
           let inside : (f' : Option ℕ) (v' : V) (r' : Result V) → Pass V H (dropping m) set a f' v' r' → m.dims v' ≡ n → Wide n r' =
           λ f' v' r' turn d. subst (λ (j : ℕ). Wide j r') p.2 (pass_wide a f' v' r' n turn d p.1) in
-          let x = grows_wide q base c (Pass V H (dropping m) set a) n p.0 inside set.limited set.delay f k later u s grown (started.1 ∙ h) in
+          let x = grows_wide q base c (Pass V H (dropping m) set a) n p.0 inside set.widening set.delay f k later u s grown (started.1 ∙ h) in
           let y = narrows_wide q base c (Pass V H (dropping m) set a) n p.0 inside set.narrow v u s top t narrowed h x in
           wide_is n r _ is (record { normal = leaves_dims base c false top e out off ∙ y.top; entries = y.result.entries })
       pass_wide (catch q k a) f v r n (w, e, s, one, joined, is) h p =
@@ -194,19 +194,19 @@ module _ (V H : Type 0) (m : Meaning V H) where
     entry_has (x ∷ xs) q v h there = elim (contains_cases x (value q v) xs there) [ inl same ↦ subst EntryHas same h.0 | inr later ↦ entry_has xs q v h.1 later ]
 
 -- each value that an iteration has at a point has as many dimensions as variables live there
-pub values_wide : {V H : Type 0} (m : Meaning V H) → Laws m → (T : List Site) (options : Options) (P : Program) (g : Node) (r : Result V) → PointsHave T g (length P.globals) →
-    Derivation m options P g r
+pub values_wide : {V H : Type 0} (m : Meaning V H) → Laws m → (T : List Site) (plan : Plan) (P : Program) (g : Node) (r : Result V) → PointsHave T g (length P.globals) →
+    Derivation m plan P g r
     → (q : ℕ) (v : V) (s : Site) → Contains r.entries (value q v) → slice_get T q ≡ Some s → m.dims v ≡ s.live
-values_wide {V} {H} m laws T options P g r lives (none, first, e, universal, begun, pass) q v s found there =
+values_wide {V} {H} m laws T plan P g r lives (none, first, e, universal, begun, pass) q v s found there =
     let n = length P.globals in
     let begins : m.dims first ≡ n = made_dims V H m (first_values 0 P.globals) none e first begun ∙ first_after P.globals 0 (m.dims none) ∙
-    (let zero_dims = laws.universal_dims 0 options.parts none universal.0 in omega (arith, zero_dims)) in
-    let wide = pass_wide V H m T laws options g (noted 0 e None) first r n pass begins lives in
+    (let zero_dims = laws.universal_dims 0 plan.parts none universal.0 in omega (arith, zero_dims)) in
+    let wide = pass_wide V H m T laws plan g (noted 0 e None) first r n pass begins lives in
     entry_has V H m T r.entries q v wide.entries found s there
 
 -- so have the values that are found
-pub found_wide : {V H : Type 0} (m : Meaning V H) → Laws m → (T : List Site) (options : Options) (g : Node) (f : Option ℕ) (first : V) (r : Result V) (n : ℕ) (values : List V)
+pub found_wide : {V H : Type 0} (m : Meaning V H) → Laws m → (T : List Site) (plan : Plan) (g : Node) (f : Option ℕ) (first : V) (r : Result V) (n : ℕ) (values : List V)
     (verdicts : List (ℕ × Bool)) (flagged : Option ℕ)
-    → Pass V H (dropping m) options g f first r → m.dims first ≡ n → Solves m r values verdicts flagged → PointsHave T g n → AreWide m T values
-found_wide {V} {H} m laws T options g f first r n values verdicts flagged pass begins solves lives q v there =
-    entry_has V H m T r.entries q v (pass_wide V H m T laws options g f first r n pass begins lives).entries ((solves.is_value q v).0 there)
+    → Pass V H (dropping m) plan g f first r → m.dims first ≡ n → Solves m r values verdicts flagged → PointsHave T g n → AreWide m T values
+found_wide {V} {H} m laws T plan g f first r n values verdicts flagged pass begins solves lives q v there =
+    entry_has V H m T r.entries q v (pass_wide V H m T laws plan g f first r n pass begins lives).entries ((solves.is_value q v).0 there)

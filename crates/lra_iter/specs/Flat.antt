@@ -4,7 +4,7 @@ use Rattle.lra_domain.specs.Meaning.{Meaning}
 use Rattle.lra_operations.specs.declared.graph.Node.{Node}
 use Rattle.lra_operations.specs.GraphViews.{node_view, row}
 use Rattle.lra_operations.specs.Graph as graph
-use Rattle.lra_options.specs.declared.options.Options.{Options}
+use Rattle.lra_flow.specs.Plan.{Plan}
 use Rattle.lra_flow.specs.Pass.{Result, in_turn}
 use Rattle.lra_iter.specs.declared.flat.Flat as flat
 use Rattle.lra_iter.specs.declared.flat.Flat.TheVariants.{Leaf, Row}
@@ -36,7 +36,7 @@ flat_view (Leaf x) = leaf_view x
 flat_view (Row r) = row (map node_view r.trees.now) (node_view r.last.now)
 
 -- what was found so far, and then by a pass of this tree
-abbrev pub Follows : {V H : Type 0} → Meaning V H → Options → graph.Node → Outcome V → Outcome V → Type 0
+abbrev pub Follows : {V H : Type 0} → Meaning V H → Plan → graph.Node → Outcome V → Outcome V → Type 0
 Follows {V} m set g so_far r = (t : Result V) × IsPassed m set g so_far.flag so_far.normal t ×
     ((v : V) (f : Option ℕ) → ended r.found v f ≡ in_turn (seen so_far) t v f) × (r.normal ≡ t.normal) ×
     (r.flag ≡ t.flag)

@@ -3,7 +3,7 @@ use Rattle.std.specs.Prelude.{◌≡◌, ℕ, Option, None, Some, ⊤}
 use Rattle.std.specs.List.{All}
 use Rattle.lra_domain.specs.Meaning.{Meaning}
 use Rattle.lra_operations.specs.Graph.{Node, empty, point, act, check, seq, choose, iterate, catch, leave}
-use Rattle.lra_options.specs.declared.options.Options.{Options}
+use Rattle.lra_flow.specs.Plan.{Plan}
 use Rattle.lra_iter.specs.declared.memory.KeptLoop.{KeptLoop}
 use Rattle.lra_iter.specs.declared.memory.Memory.{Memory}
 use Rattle.lra_iter.specs.declared.outcome.Outcome.{Outcome}
@@ -22,24 +22,24 @@ HasLoops loops (catch q k a) = HasLoops loops a
 HasLoops loops (leave n k) = ⊤
 
 -- a loop's last pass may be given again
-abbrev pub IsRecalled : {V H : Type 0} → Meaning V H → Options → (ℕ → Node) → Option ℕ → KeptLoop V → Type 0
+abbrev pub IsRecalled : {V H : Type 0} → Meaning V H → Plan → (ℕ → Node) → Option ℕ → KeptLoop V → Type 0
 IsRecalled m set loops f one = IsKept m set (loops one.point) f one.first (seen one.outcome)
 
 -- all that is kept may be given again, whatever the loop of each number is
-abbrev pub MayRecall : {V H : Type 0} → Meaning V H → Options → (ℕ → Node) → Option ℕ → Memory V → Type 0
+abbrev pub MayRecall : {V H : Type 0} → Meaning V H → Plan → (ℕ → Node) → Option ℕ → Memory V → Type 0
 MayRecall m set loops f memory = All (IsRecalled m set loops f) memory.kept.items
 
 -- what is kept may be given again for the loops of the tree
-abbrev pub Remembers : {V H : Type 0} → Meaning V H → Options → Node → Option ℕ → Memory V → Type 0
+abbrev pub Remembers : {V H : Type 0} → Meaning V H → Plan → Node → Option ℕ → Memory V → Type 0
 Remembers m set g f memory = (loops : ℕ → Node) × HasLoops loops g × MayRecall m set loops f memory
 
 -- what could be given again before a pass of the tree, with what was flagged then, can be after it
-abbrev pub StaysKept : {V H : Type 0} → Meaning V H → Options → Node → Option ℕ → Memory V → Option ℕ → Memory V →
+abbrev pub StaysKept : {V H : Type 0} → Meaning V H → Plan → Node → Option ℕ → Memory V → Option ℕ → Memory V →
     Type 0
 StaysKept m set g f old f' new = (loops : ℕ → Node) → HasLoops loops g → MayRecall m set loops f old →
     MayRecall m set loops f' new
 
 -- what is given, if it is, is a pass from this value
-abbrev pub AreRecalled : {V H : Type 0} → Meaning V H → Options → Node → Option ℕ → V → Option (Outcome V) → Type 0
+abbrev pub AreRecalled : {V H : Type 0} → Meaning V H → Plan → Node → Option ℕ → V → Option (Outcome V) → Type 0
 AreRecalled m set g f v None = ⊤
 AreRecalled m set g f v (Some r) = IsPassed m set g f v (seen r)

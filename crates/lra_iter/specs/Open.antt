@@ -9,7 +9,7 @@ use Rattle.lra_program.specs.Program.{Cond}
 use Rattle.lra_program.specs.ProgramViews.{cond_view}
 use Rattle.lra_operations.specs.Graph.{Node, seq, choose, iterate, catch}
 use Rattle.lra_operations.specs.GraphViews.{exit_view, node_view, row}
-use Rattle.lra_options.specs.declared.options.Options.{Options}
+use Rattle.lra_flow.specs.Plan.{Plan}
 use Rattle.lra_flow.specs.Operations.{dropping}
 use Rattle.lra_flow.specs.Pass.{Leaves, Result, noted, in_turn, Pass, Grows, Narrows}
 use Rattle.lra_iter.specs.declared.heads.Growing.{Growing}
@@ -50,7 +50,7 @@ due e memory = record { tree = node_view e.node.now; value = e.value; flag = e.f
 
 -- trees one after the other: what stands behind what was found so far fits, and whatever its pass finds comes behind,
 -- as a pass of the whole
-pub record RowLoop {V H : Type 0} (m : Meaning V H) (set : Options) (g : Node) (f : Option ℕ) (v : V)
+pub record RowLoop {V H : Type 0} (m : Meaning V H) (set : Plan) (g : Node) (f : Option ℕ) (v : V)
     (rest : Node) (found : Found V) (behind : V) (so_far : Option ℕ) (old memory : Memory V) : Type 0 where
   pub few : m.dims behind ≤ 2 ^ 30
   pub fits : TreeFits rest (m.dims behind)
@@ -60,7 +60,7 @@ pub record RowLoop {V H : Type 0} (m : Meaning V H) (set : Options) (g : Node) (
       IsPassed m set g f v (in_turn (ended found behind so_far) t t.normal t.flag)
 
 -- the head grew from the first value: however it grows on, it is a growth of that; the last turn may be given again
-pub record GrowLoop {V H : Type 0} (m : Meaning V H) (set : Options) (q base : ℕ) (c : Cond) (a : Node)
+pub record GrowLoop {V H : Type 0} (m : Meaning V H) (set : Plan) (q base : ℕ) (c : Cond) (a : Node)
     (first : V) (f : Option ℕ) (left : ℕ) (so_far : Option ℕ) (head : H)
     (turn : Option (Turn V)) (old memory : Memory V) : Type 0 where
   pub dims : m.head_dims head ≡ m.dims first
@@ -68,18 +68,18 @@ pub record GrowLoop {V H : Type 0} (m : Meaning V H) (set : Options) (q base : �
   pub kept : AreKept m set a so_far turn
   pub stays : StaysKept m set a f old so_far memory
   pub grows : (later : List H) (v : V) (r : Result V) →
-      Grows V H (dropping m) q base c (Pass V H (dropping m) set a) set.limited left so_far head later v r →
+      Grows V H (dropping m) q base c (Pass V H (dropping m) set a) set.widening left so_far head later v r →
       HasGrown m set q base c a first f v r
 
 -- so it did up to this head, whose value is there
-pub record HeadLoop {V H : Type 0} (m : Meaning V H) (set : Options) (q base : ℕ) (c : Cond) (a : Node)
+pub record HeadLoop {V H : Type 0} (m : Meaning V H) (set : Plan) (q base : ℕ) (c : Cond) (a : Node)
     (first : V) (f : Option ℕ) (growing : Growing V H) (turn : Option (Turn V)) (old memory : Memory V) : Type 0 where
   pub so_far : Option ℕ
   pub valued : IsValued m q so_far growing.head growing.value growing.flag
   pub loop : GrowLoop m set q base c a first f growing.left so_far growing.head turn old memory
 
 -- what is narrowed on is a narrowing from the round with which the head was stable; `entered` came into the body last
-pub record NarrowLoop {V H : Type 0} (m : Meaning V H) (set : Options) (q base : ℕ) (c : Cond) (a : Node)
+pub record NarrowLoop {V H : Type 0} (m : Meaning V H) (set : Plan) (q base : ℕ) (c : Cond) (a : Node)
     (first start : V) (round : Result V) (left : ℕ) (top entered : V) (last : Result V)
     (old memory : Memory V) : Type 0 where
   pub dims : m.dims top ≡ m.dims first
@@ -90,7 +90,7 @@ pub record NarrowLoop {V H : Type 0} (m : Meaning V H) (set : Options) (q base :
   pub narrows : (v : V) (r : Result V) → Narrows V H (dropping m) q base c (Pass V H (dropping m) set a) left first top
       (headed q top last) v r → NarrowsTo m set q base c a first start (headed q start round) v r
 
-module _ {V H : Type 0} (m : Meaning V H) (set : Options) where
+module _ {V H : Type 0} (m : Meaning V H) (set : Plan) where
   -- the pass can be made
   pub record MayBePassed (d : Due V) : Type 0 where
     pub few : m.dims d.value ≤ 2 ^ 30
@@ -104,14 +104,14 @@ module _ {V H : Type 0} (m : Meaning V H) (set : Options) where
 
   -- a row of trees of which one is under way
   pub record IsRow (r : RowPlace V) (whole part : Due V) : Type 0 where
-    pub options : r.behind.options.now ≡ set
+    pub plan : r.behind.plan.now ≡ set
     pub loop : RowLoop m set whole.tree whole.flag whole.value
         (seq part.tree (row (map node_view r.behind.trees.now) (node_view r.behind.last.now)))
         r.found part.value part.flag whole.memory part.memory
 
   -- a choice whose first branch is under way: what is left for the second
   pub record IsChoice (k : ChoicePlace V) (whole part : Due V) : Type 0 where
-    pub options : k.choice.options.now ≡ set
+    pub plan : k.choice.plan.now ≡ set
     pub is : whole.tree ≡ choose k.choice.point k.choice.base (cond_view k.choice.condition.now) part.tree
         (node_view k.choice.no.now)
     pub exactness : Exactness
@@ -142,14 +142,14 @@ module _ {V H : Type 0} (m : Meaning V H) (set : Options) where
 
   -- a loop of the whole's tree, from the whole's value; it is under way from `begun` on
   pub record IsLoop (l : Loop) (whole : Due V) (first : V) (begun : Memory V) : Type 0 where
-    pub options : l.options.now ≡ set
+    pub plan : l.plan.now ≡ set
     pub is : whole.tree ≡ iterate l.point l.base (cond_view l.condition.now) (node_view l.body.now)
     pub first_is : first ≡ whole.value
     pub kept : begun.kept ≡ whole.memory.kept
 
   -- a loop that is due
   pub record IsLoopDue (l : Loop) (whole : Due V) (first : V) (flag : Option ℕ) (memory : Memory V) : Type 0 where
-    pub options : l.options.now ≡ set
+    pub plan : l.plan.now ≡ set
     pub is : whole.tree ≡ iterate l.point l.base (cond_view l.condition.now) (node_view l.body.now)
     pub first_is : whole.value ≡ first
     pub flagged : whole.flag ≡ flag

@@ -3,16 +3,16 @@ use Rattle.std.specs.Prelude.{◌≡◌, ℕ, List, Option, None, Some, Bool}
 use Rattle.lra_domain.specs.Meaning.{Meaning}
 use Rattle.lra_program.specs.Program.{Program}
 use Rattle.lra_operations.specs.Graph.{Node}
-use Rattle.lra_options.specs.declared.options.Options.{Options}
+use Rattle.lra_flow.specs.Plan.{Plan}
 use Rattle.lra_flow.specs.Pass.{Result}
 use Rattle.lra_flow.specs.Analysis.{Written, Derivation, Strains, Solves}
 
 -- values, verdicts and the first flag of a derivation with drops: without a flag it is the written iteration, and the
 -- first flag stands where the written iteration strains
-pub record IsSolved {V H : Type 0} (m : Meaning V H) (options : Options) (P : Program) (tree : Node) (values : List V)
+pub record IsSolved {V H : Type 0} (m : Meaning V H) (plan : Plan) (P : Program) (tree : Node) (values : List V)
     (verdicts : List (ℕ × Bool)) (flagged : Option ℕ) : Type 0 where
   pub result : Result V
-  pub derived : Derivation m options P tree result
+  pub derived : Derivation m plan P tree result
   pub solves : Solves m result values verdicts flagged
-  pub written : flagged ≡ None → Written m options P tree result
-  pub strained : (q : ℕ) → flagged ≡ Some q → Strains m options P tree q
+  pub written : flagged ≡ None → Written m plan P tree result
+  pub strained : (q : ℕ) → flagged ≡ Some q → Strains m plan P tree q

@@ -6,7 +6,7 @@ use Rattle.lra_domain.specs.Meaning.{Meaning}
 use Rattle.lra_operations.specs.declared.graph.Node.{Node}
 use Rattle.lra_operations.specs.declared.graph.Node.TheFolds.{fold-Node}
 use Rattle.lra_operations.specs.declared.graph.Node.TheOpen.{Node-F}
-use Rattle.lra_options.specs.declared.options.Options.{Options}
+use Rattle.lra_flow.specs.Plan.{Plan}
 use Rattle.lra_iter.specs.declared.places.Next as next
 use Rattle.lra_iter.specs.declared.places.Next.TheVariants.{Passed, Opens, Again}
 use Rattle.lra_iter.specs.declared.places.Place as place
@@ -21,7 +21,7 @@ abbrev pub rounds_left : ℕ → ℕ → Rank → ℕ
 rounds_left b left r = left * (b * (b * (b * b))) + (((r.first * b + r.second) * b + r.third) * b + r.fourth)
 
 -- no loop is turned more often: while its head grows, and while it is narrowed
-abbrev pub most_rounds : ℕ → Options → ℕ
+abbrev pub most_rounds : ℕ → Plan → ℕ
 most_rounds b set = set.narrow + suc set.delay * (b * (b * (b * b)))
 
 -- of a pass of the tree, where no loop is turned more than n times
@@ -43,7 +43,7 @@ node_steps n = fold-Node ℕ (steps_step n)
 abbrev pub row_steps : ℕ → List Node → Node → ℕ
 row_steps n gs last = sum_by (λ g. suc (node_steps n g)) gs + suc (node_steps n last)
 
-module _ {V H : Type 0} (m : Meaning V H) (b : ℕ) (set : Options) where
+module _ {V H : Type 0} (m : Meaning V H) (b : ℕ) (set : Plan) where
   abbrev pub tree_steps : Node → ℕ
   tree_steps = node_steps (most_rounds b set)
 

@@ -3,7 +3,7 @@
 ghost use Rattle.std.specs.Prelude.{◌≡◌, ◌≤◌, ◌<◌, ◌^◌, ◌+◌, ℕ, true, false, IfOk};
 ghost use Rattle.lra_domain.specs.declared.Exactness.{Exactness};
 ghost use Rattle.lra_operations.specs.Graph.{choose};
-ghost use Rattle.lra_options.specs.declared.options.Options.{Options};
+ghost use Rattle.lra_flow.specs.Plan.{Plan};
 ghost use Rattle.lra_program.specs.ProgramViews.{cond_view};
 ghost use Rattle.lra_operations.specs.GraphViews.{node_view};
 ghost use Rattle.lra_change.specs.Sides.{SplitsBy};
@@ -41,11 +41,11 @@ pub fn open_choice<'a, D: Domain>(
     flag: Option<usize>,
 ) -> Result<Next<'a, D, D::Head>, AllocError>
     requires { D.meaning.dims value ≤ 2 ^ 30 }
-    ensures leads { (set : Options) (whole : Due D) → choice.entry.options.now ≡ set →
+    ensures leads { (set : Plan) (whole : Due D) → choice.entry.plan.now ≡ set →
         whole.tree ≡ choose choice.entry.point choice.entry.base (cond_view choice.entry.condition.now)
         (node_view choice.entry.yes.now) (node_view choice.entry.no.now) → whole.value ≡ value → whole.flag ≡ flag →
         MayBePassed D.meaning set whole → IfOk result (λ next. Leads D.meaning set whole next whole.memory) }
-    ensures steps { (b : ℕ) (set : Options) → IfOk result (λ next. next_left D.meaning b set next
+    ensures steps { (b : ℕ) (set : Plan) → IfOk result (λ next. next_left D.meaning b set next
         ≡ 2 + (tree_steps D.meaning b set choice.entry.no.now + tree_steps D.meaning b set choice.entry.yes.now)) }
 {
     let sides = sides_of(alloc, &choice, value)?;
@@ -65,10 +65,10 @@ pub fn go_on_choice<'a, D: Domain>(
     place: ChoicePlace<'a, D>,
     first: Outcome<D>,
 ) -> Result<Next<'a, D, D::Head>, AllocError>
-    ensures leads { (set : Options) (whole part : Due D) (memory : Memory D) → MayBePassed D.meaning set whole →
+    ensures leads { (set : Plan) (whole part : Due D) (memory : Memory D) → MayBePassed D.meaning set whole →
         IsChoice D.meaning set place.entry whole part → IsMade D.meaning set part (seen first) memory →
         IfOk result (λ next. Leads D.meaning set whole next memory) }
-    ensures falls { (b : ℕ) (set : Options) → IfOk result (λ next. next_left D.meaning b set next
+    ensures falls { (b : ℕ) (set : Plan) → IfOk result (λ next. next_left D.meaning b set next
         < place_left D.meaning b set (choice_place place.entry)) }
 {
     let ChoicePlace { choice, off } = place;

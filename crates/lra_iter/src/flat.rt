@@ -1,5 +1,6 @@
 //! Trees that are passed where they stand: those with no tree in them, and rows of such.
 
+ghost use Rattle.lra_flow.specs.Plan.{Plan};
 ghost use Rattle.std.specs.Prelude.{◌≡◌, ◌≤◌, ◌^◌, true, map, IfSome, OnOk};
 ghost use Rattle.lra_operations.specs.GraphViews.{node_view, row};
 ghost use Rattle.lra_iter.specs.Fits.{TreeFits};
@@ -8,10 +9,10 @@ ghost use Rattle.lra_iter.specs.Shapes.{leaf_view};
 
 use crate::leaves::pass_on;
 use crate::outcome::Outcome;
+use crate::plan::Plan;
 use crate::shapes::{Leaf, Row, Shape};
 use lra_domain::Domain;
 use lra_operations::Node;
-use lra_options::Options;
 use std::alloc::{AllocError, Global};
 
 /// A tree with no tree in it, or a row of such.
@@ -22,10 +23,10 @@ pub enum Flat<'a> {
 }
 
 /// Whether no tree stands in the tree.
-fn is_leaf(options: &Options, node: &Node) -> bool
+fn is_leaf(plan: &Plan, node: &Node) -> bool
     ensures { result ≡ true → IsLeaf node.now }
 {
-    match Shape::of(options, node) {
+    match Shape::of(plan, node) {
         Shape::Leaf(_) => true,
         _ => false,
     }
@@ -35,27 +36,23 @@ fn is_leaf(options: &Options, node: &Node) -> bool
 fn has_leaves(the_row: Row<'_>) -> bool
     ensures { result ≡ true → HasLeaves the_row.entry }
 {
-    let Row {
-        options,
-        trees,
-        last,
-    } = the_row;
+    let Row { plan, trees, last } = the_row;
     let mut left = trees;
     'trees: while let Some((node, behind)) = left.split_first() {
-        if !is_leaf(options, node) {
+        if !is_leaf(plan, node) {
             return false;
         }
         left = behind;
     }
-    is_leaf(options, last)
+    is_leaf(plan, last)
 }
 
 /// The tree, in which none stands.
-fn leaf_of<'a>(options: &'a Options, node: &'a Node) -> Leaf<'a>
+fn leaf_of<'a>(plan: &'a Plan, node: &'a Node) -> Leaf<'a>
     requires { IsLeaf node.now }
     ensures { node_view node.now ≡ leaf_view result }
 {
-    match Shape::of(options, node) {
+    match Shape::of(plan, node) {
         Shape::Leaf(leaf) => leaf,
         Shape::Row(_) => unreachable!(),
         Shape::Choice(_) => unreachable!(),
@@ -67,35 +64,35 @@ fn leaf_of<'a>(options: &'a Options, node: &'a Node) -> Leaf<'a>
 /// What the pass of a row of trees with none in them finds comes behind what was found before it.
 fn pass_along<D: Domain>(
     alloc: Global,
-    options: &Options,
+    plan: &Plan,
     the_row: Row<'_>,
     so_far: &mut Outcome<D>,
 ) -> Result<(), AllocError>
-    requires parts { 1 ≤ options.now.parts }
+    requires parts { 1 ≤ plan.now.parts }
     requires few { D.meaning.dims so_far.old.normal ≤ 2 ^ 30 }
     requires fits { TreeFits (row (map node_view the_row.trees.now) (node_view the_row.last.now))
         (D.meaning.dims so_far.old.normal) }
     requires leaves { HasLeaves the_row }
-    ensures { OnOk result (Follows D.meaning options.now
+    ensures { OnOk result (Follows D.meaning plan.now
         (row (map node_view the_row.entry.trees.now) (node_view the_row.entry.last.now)) so_far.old so_far.new) }
 {
     let mut left = the_row.trees;
     'leaves: while let Some((node, behind)) = left.split_first() {
-        let leaf = leaf_of(options, node);
-        pass_on(alloc, options, &leaf, so_far)?;
+        let leaf = leaf_of(plan, node);
+        pass_on(alloc, plan, &leaf, so_far)?;
         left = behind;
     }
-    let last = leaf_of(options, the_row.last);
-    pass_on(alloc, options, &last, so_far)?;
+    let last = leaf_of(plan, the_row.last);
+    pass_on(alloc, plan, &last, so_far)?;
     Ok(())
 }
 
 impl<'a> Flat<'a> {
     /// The tree, if it is passed where it stands.
-    pub fn of(options: &'a Options, node: &'a Node) -> Option<Flat<'a>>
+    pub fn of(plan: &'a Plan, node: &'a Node) -> Option<Flat<'a>>
         ensures { IfSome result (λ x. (node_view node.now ≡ flat_view x) × AreLeaves x) }
     {
-        match Shape::of(options, node) {
+        match Shape::of(plan, node) {
             Shape::Leaf(leaf) => Some(Flat::Leaf(leaf)),
             Shape::Row(the_row) if has_leaves(the_row) => Some(Flat::Row(the_row)),
             _ => None,
@@ -106,18 +103,18 @@ impl<'a> Flat<'a> {
     pub fn pass_on<D: Domain>(
         self,
         alloc: Global,
-        options: &Options,
+        plan: &Plan,
         so_far: &mut Outcome<D>,
     ) -> Result<(), AllocError>
-        requires parts { 1 ≤ options.now.parts }
+        requires parts { 1 ≤ plan.now.parts }
         requires few { D.meaning.dims so_far.old.normal ≤ 2 ^ 30 }
         requires fits { TreeFits (flat_view self) (D.meaning.dims so_far.old.normal) }
         requires leaves { AreLeaves self }
-        ensures { OnOk result (Follows D.meaning options.now (flat_view self.entry) so_far.old so_far.new) }
+        ensures { OnOk result (Follows D.meaning plan.now (flat_view self.entry) so_far.old so_far.new) }
     {
         match self {
-            Flat::Leaf(leaf) => pass_on(alloc, options, &leaf, so_far),
-            Flat::Row(the_row) => pass_along(alloc, options, the_row, so_far),
+            Flat::Leaf(leaf) => pass_on(alloc, plan, &leaf, so_far),
+            Flat::Row(the_row) => pass_along(alloc, plan, the_row, so_far),
         }
     }
 }

@@ -1,31 +1,41 @@
 //! A loop's head while it grows.
 
-ghost use Rattle.std.specs.Prelude.{◌≡◌, ◌≤◌, ◌^◌, true, false, IfOk};
+ghost use Rattle.std.specs.Prelude.{◌≡◌, ◌<◌, ◌≤◌, ◌^◌, true, false, IfOk};
 ghost use Rattle.lra_domain.specs.Rank.{RankFits};
 ghost use Rattle.lra_domain.specs.declared.Exactness.{Exactness};
 ghost use Rattle.lra_program.specs.ProgramViews.{cond_view};
-ghost use Rattle.lra_flow.specs.Given.{given_rows};
+ghost use Rattle.lra_flow.specs.Plan.{mode_at};
+ghost use Rattle.lra_flow.specs.Thresholds.{loop_rows};
+ghost use Rattle.lra_operations.specs.GraphViews.{node_view};
 ghost use Rattle.lra_flow.specs.Operations.{dropping};
-ghost use Rattle.lra_flow.specs.Pass.{mode_at};
 ghost use Rattle.lra_iter.specs.Heads.{IsValued, GrowsBy};
 ghost use Rattle.lra_iter.specs.Outcome.{seen};
 
 use crate::outcome::{Outcome, note};
+use crate::plan::Plan;
 use crate::shapes::Loop;
 use lra_domain::{Domain, Grown, Mode};
-use lra_forms::given_of;
+use lra_forms::{given_of, thresholds_of};
+use lra_sys::ConSys;
 use std::alloc::{AllocError, Global};
 
 /// How a round grows the head, by how many rounds of joining are left.
-fn mode_of(limited: bool, left: u32) -> Mode
-    ensures { result ≡ mode_at limited left }
+fn mode_of(plan: &Plan, left: u32) -> Mode
+    ensures { result ≡ mode_at plan.now.widening left }
 {
-    if left > 0 {
-        Mode::Join
-    } else if limited {
-        Mode::Limited
-    } else {
-        Mode::Widen
+    if left > 0 { Mode::Join } else { plan.mode() }
+}
+
+/// The rows that the loop's head is given, over so many live variables.
+fn rows_of(alloc: Global, the_loop: &Loop<'_>, live: usize) -> Result<ConSys, AllocError>
+    requires { live < 2 ^ 62 }
+    ensures { IfOk result (λ s. s ≡ loop_rows the_loop.now.plan.now.widening live the_loop.now.base
+        (cond_view the_loop.now.condition.now) (node_view the_loop.now.body.now)) }
+{
+    let (base, condition) = (the_loop.base, the_loop.condition);
+    match the_loop.plan.thresholds() {
+        None => given_of(alloc, live, base, condition),
+        Some(constants) => thresholds_of(alloc, live, base, condition, the_loop.body, constants),
     }
 }
 
@@ -85,19 +95,20 @@ pub fn start<D: Domain>(
 ) -> Result<Growing<D, D::Head>, AllocError>
     requires { D.meaning.dims first.now ≤ 2 ^ 30 }
     ensures started { IfOk result (λ h. (dropping D.meaning).started first.now
-        (given_rows (D.meaning.dims first.now) the_loop.now.base (cond_view the_loop.now.condition.now)) h.head) }
+        (loop_rows the_loop.now.plan.now.widening (D.meaning.dims first.now) the_loop.now.base
+        (cond_view the_loop.now.condition.now) (node_view the_loop.now.body.now)) h.head) }
     ensures fits { IfOk result (λ h. RankFits (D.meaning.rank h.head)) }
     ensures valued { IfOk result (λ h. IsValued D.meaning the_loop.now.point flag h.head h.value h.flag) }
-    ensures left { IfOk result (λ h. h.left ≡ the_loop.now.options.now.delay) }
+    ensures left { IfOk result (λ h. h.left ≡ the_loop.now.plan.now.delay) }
 {
-    let given = given_of(alloc, first.dims(), the_loop.base, the_loop.condition)?;
+    let given = rows_of(alloc, the_loop, first.dims())?;
     let head = D::start(alloc, first, &given)?;
     let (value, inside) = value_of(alloc, the_loop.point, &head, flag)?;
     Ok(Growing {
         head,
         value,
         flag: inside,
-        left: the_loop.options.delay,
+        left: the_loop.plan.delay(),
     })
 }
 
@@ -111,12 +122,12 @@ pub fn grow_by<D: Domain>(
     requires { D.meaning.head_dims growing.old.head ≡ D.meaning.dims last.now.normal }
     ensures same { IfOk result (λ stable. stable ≡ true → growing.new.value ≡ growing.old.value) }
     ensures stays { IfOk result (λ stable. stable ≡ true → (dropping D.meaning).stays growing.old.head
-        last.now.normal (mode_at the_loop.now.options.now.limited growing.old.left)) }
+        last.now.normal (mode_at the_loop.now.plan.now.widening growing.old.left)) }
     ensures grew { IfOk result (λ stable. stable ≡ false → (a : Exactness) ×
-        GrowsBy D.meaning the_loop.now.options.now.limited the_loop.now.point a growing.old (seen last.now)
+        GrowsBy D.meaning the_loop.now.plan.now.widening the_loop.now.point a growing.old (seen last.now)
         growing.new) }
 {
-    let mode = mode_of(the_loop.options.limited, growing.left);
+    let mode = mode_of(the_loop.plan, growing.left);
     match D::grow(&mut growing.head, &last.normal, mode)? {
         Grown::Stable => Ok(true),
         Grown::Grew(exactness) => {

@@ -4,7 +4,7 @@ ghost use Rattle.std.specs.Prelude.{◌≡◌, ◌≤◌, ◌^◌, IfOk, OnOk};
 ghost use Rattle.lra_operations.specs.Graph.{act, check, leave, point as point_node};
 ghost use Rattle.lra_program.specs.ProgramViews.{cond_view};
 ghost use Rattle.lra_operations.specs.GraphViews.{exit_view, op_view};
-ghost use Rattle.lra_options.specs.declared.options.Options.{Options};
+ghost use Rattle.lra_flow.specs.Plan.{Plan};
 ghost use Rattle.lra_change.specs.Changes.{OpFits};
 ghost use Rattle.lra_iter.specs.Fits.{TreeFits};
 ghost use Rattle.lra_iter.specs.Flat.{Follows};
@@ -12,11 +12,11 @@ ghost use Rattle.lra_iter.specs.Outcome.{seen, IsPassed};
 ghost use Rattle.lra_iter.specs.Shapes.{leaf_view};
 
 use crate::outcome::{Entry, Outcome, note};
+use crate::plan::Plan;
 use crate::shapes::Leaf;
 use lra_change::{Kept, change, split};
 use lra_domain::{Domain, Exactness};
 use lra_operations::{Exit, Op};
-use lra_options::Options;
 use lra_program::Cond;
 use std::alloc::{AllocError, Global};
 
@@ -26,7 +26,7 @@ fn pass_point<D: Domain>(
     point: usize,
     so_far: &mut Outcome<D>,
 ) -> Result<(), AllocError>
-    ensures { (options : Options) → OnOk result (Follows D.meaning options (point_node point) so_far.old so_far.new) }
+    ensures { (plan : Plan) → OnOk result (Follows D.meaning plan (point_node point) so_far.old so_far.new) }
 {
     let value = so_far.normal.copy(alloc)?;
     so_far.found.entries.push(Entry::Value(point, value))?;
@@ -42,7 +42,7 @@ fn pass_act<D: Domain>(
 ) -> Result<(), AllocError>
     requires few { D.meaning.dims so_far.old.normal ≤ 2 ^ 30 }
     requires fits { OpFits (op_view op.now) (D.meaning.dims so_far.old.normal) }
-    ensures { (options : Options) → OnOk result (Follows D.meaning options (act point (op_view op.now)) so_far.old
+    ensures { (plan : Plan) → OnOk result (Follows D.meaning plan (act point (op_view op.now)) so_far.old
         so_far.new) }
 {
     let exactness = change(alloc, op, &mut so_far.normal)?;
@@ -59,7 +59,7 @@ fn pass_check<D: Domain>(
     so_far: &mut Outcome<D>,
 ) -> Result<(), AllocError>
     requires { D.meaning.dims so_far.old.normal ≤ 2 ^ 30 }
-    ensures { (options : Options) → OnOk result (Follows D.meaning options
+    ensures { (plan : Plan) → OnOk result (Follows D.meaning plan
         (check point base (cond_view condition.now)) so_far.old so_far.new) }
 {
     let from = Kept {
@@ -78,16 +78,16 @@ fn pass_check<D: Domain>(
 /// A jump: it takes the value.
 fn pass_leave<D: Domain>(
     alloc: Global,
-    options: &Options,
+    plan: &Plan,
     live: usize,
     exit: Exit,
     so_far: &mut Outcome<D>,
 ) -> Result<(), AllocError>
-    requires parts { 1 ≤ options.now.parts }
+    requires parts { 1 ≤ plan.now.parts }
     requires few { live ≤ 2 ^ 30 }
-    ensures { OnOk result (Follows D.meaning options.now (leave live (exit_view exit)) so_far.old so_far.new) }
+    ensures { OnOk result (Follows D.meaning plan.now (leave live (exit_view exit)) so_far.old so_far.new) }
 {
-    let nothing = D::empty(alloc, live, options.parts)?;
+    let nothing = D::empty(alloc, live, plan.parts())?;
     so_far.jump(exit, nothing)?;
     Ok(())
 }
@@ -95,38 +95,38 @@ fn pass_leave<D: Domain>(
 /// What the pass of a tree with no tree in it finds comes behind what was found before it.
 pub fn pass_on<D: Domain>(
     alloc: Global,
-    options: &Options,
+    plan: &Plan,
     leaf: &Leaf<'_>,
     so_far: &mut Outcome<D>,
 ) -> Result<(), AllocError>
-    requires parts { 1 ≤ options.now.parts }
+    requires parts { 1 ≤ plan.now.parts }
     requires few { D.meaning.dims so_far.old.normal ≤ 2 ^ 30 }
     requires fits { TreeFits (leaf_view leaf.now) (D.meaning.dims so_far.old.normal) }
-    ensures { OnOk result (Follows D.meaning options.now (leaf_view leaf.now) so_far.old so_far.new) }
+    ensures { OnOk result (Follows D.meaning plan.now (leaf_view leaf.now) so_far.old so_far.new) }
 {
     match leaf {
         Leaf::Empty => Ok(()),
         Leaf::Point(point) => pass_point(alloc, *point, so_far),
         Leaf::Act(point, op) => pass_act(alloc, *point, op, so_far),
         Leaf::Check(point, base, condition) => pass_check(alloc, *point, *base, condition, so_far),
-        Leaf::Leave(live, exit) => pass_leave(alloc, options, *live, *exit, so_far),
+        Leaf::Leave(live, exit) => pass_leave(alloc, plan, *live, *exit, so_far),
     }
 }
 
 /// The pass over a tree with no tree in it.
 pub fn pass_leaf<D: Domain>(
     alloc: Global,
-    options: &Options,
+    plan: &Plan,
     leaf: &Leaf<'_>,
     value: D,
     flag: Option<usize>,
 ) -> Result<Outcome<D>, AllocError>
-    requires parts { 1 ≤ options.now.parts }
+    requires parts { 1 ≤ plan.now.parts }
     requires few { D.meaning.dims value ≤ 2 ^ 30 }
     requires fits { TreeFits (leaf_view leaf.now) (D.meaning.dims value) }
-    ensures { IfOk result (λ r. IsPassed D.meaning options.now (leaf_view leaf.now) flag value (seen r)) }
+    ensures { IfOk result (λ r. IsPassed D.meaning plan.now (leaf_view leaf.now) flag value (seen r)) }
 {
     let mut outcome = Outcome::nothing_yet(alloc, value, flag);
-    pass_on(alloc, options, leaf, &mut outcome)?;
+    pass_on(alloc, plan, leaf, &mut outcome)?;
     Ok(outcome)
 }

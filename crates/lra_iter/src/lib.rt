@@ -11,9 +11,11 @@ mod memory;
 mod outcome;
 mod pass;
 mod places;
+mod plan;
 mod rows;
 mod shapes;
 mod solution;
 mod tables;
 
+pub use plan::Plan;
 pub use solution::{Solution, analyse};

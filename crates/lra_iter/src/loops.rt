@@ -3,7 +3,7 @@
 ghost use Rattle.std.specs.Prelude.{◌≡◌, ◌≤◌, ◌<◌, ◌^◌, ◌+◌, ◌*◌, ℕ, suc, Option, true, false, IfOk};
 ghost use Rattle.lra_domain.specs.declared.Exactness.{Exactness};
 ghost use Rattle.lra_operations.specs.Graph as graph;
-ghost use Rattle.lra_options.specs.declared.options.Options.{Options};
+ghost use Rattle.lra_flow.specs.Plan.{Plan};
 ghost use Rattle.lra_program.specs.ProgramViews.{cond_view};
 ghost use Rattle.lra_operations.specs.GraphViews.{node_view};
 ghost use Rattle.lra_flow.specs.Operations.{dropping};
@@ -95,10 +95,10 @@ fn finish<D: Domain>(
     ensures left { IfOk result (λ r. LeavesWith D.meaning the_loop.now.point the_loop.now.base
         (cond_view the_loop.now.condition.now) last.value (seen last.turn.outcome) (seen r)) }
     ensures dims { IfOk result (λ r. D.meaning.dims r.normal ≡ D.meaning.dims last.value) }
-    ensures keeps { (options : Options) (loops : ℕ → graph.Node) → IfOk result (λ r.
-        MayRecall D.meaning options loops last.turn.outcome.flag memory.old →
-        IsKept D.meaning options (loops the_loop.now.point) r.flag first (seen r) →
-        MayRecall D.meaning options loops r.flag memory.new) }
+    ensures keeps { (plan : Plan) (loops : ℕ → graph.Node) → IfOk result (λ r.
+        MayRecall D.meaning plan loops last.turn.outcome.flag memory.old →
+        IsKept D.meaning plan (loops the_loop.now.point) r.flag first (seen r) →
+        MayRecall D.meaning plan loops r.flag memory.new) }
 {
     let HeadTurn { value, turn } = last;
     let outcome = leave_loop(alloc, the_loop, value, turn.into_outcome())?;
@@ -116,8 +116,8 @@ fn enter<D: Domain>(
     kept: Option<Turn<D>>,
 ) -> Result<Entered<D>, AllocError>
     requires few { D.meaning.dims value.now ≤ 2 ^ 30 }
-    requires kept { AreKept D.meaning the_loop.now.options.now (node_view the_loop.now.body.now) flag kept }
-    ensures { IfOk result (IsEntered D.meaning the_loop.now.options.now the_loop.now.point the_loop.now.base
+    requires kept { AreKept D.meaning the_loop.now.plan.now (node_view the_loop.now.body.now) flag kept }
+    ensures { IfOk result (IsEntered D.meaning the_loop.now.plan.now the_loop.now.point the_loop.now.base
         (cond_view the_loop.now.condition.now) (node_view the_loop.now.body.now) flag value.now) }
 {
     let mut on = value.copy(alloc)?;
@@ -141,12 +141,12 @@ fn turn_growing<'a, D: Domain>(
     growing: Growing<D, D::Head>,
     kept: Option<Turn<D>>,
 ) -> Result<Next<'a, D, D::Head>, AllocError>
-    requires { (set : Options) × (whole : Due D) × (memory : Memory D) × MayBePassed D.meaning set whole ×
+    requires { (set : Plan) × (whole : Due D) × (memory : Memory D) × MayBePassed D.meaning set whole ×
         IsHead D.meaning set the_loop whole first growing kept memory }
-    ensures leads { (set : Options) (whole : Due D) (memory : Memory D) → MayBePassed D.meaning set whole →
+    ensures leads { (set : Plan) (whole : Due D) (memory : Memory D) → MayBePassed D.meaning set whole →
         IsHead D.meaning set the_loop.entry whole first growing kept memory →
         IfOk result (λ next. Leads D.meaning set whole next memory) }
-    ensures steps { (b : ℕ) (set : Options) → IfOk result (λ next. next_left D.meaning b set next
+    ensures steps { (b : ℕ) (set : Plan) → IfOk result (λ next. next_left D.meaning b set next
         < turns_left D.meaning b set the_loop.entry
         (suc (set.narrow + rounds_left b growing.left (D.meaning.rank growing.head)))) }
 {
@@ -186,11 +186,11 @@ pub fn open_loop<'a, D: Domain>(
     value: D,
     flag: Option<usize>,
 ) -> Result<Next<'a, D, D::Head>, AllocError>
-    requires { (set : Options) × (whole : Due D) × IsLoopDue D.meaning set the_loop whole value flag memory.old }
-    ensures leads { (set : Options) (whole : Due D) →
+    requires { (set : Plan) × (whole : Due D) × IsLoopDue D.meaning set the_loop whole value flag memory.old }
+    ensures leads { (set : Plan) (whole : Due D) →
         IsLoopDue D.meaning set the_loop.entry whole value flag memory.old →
         IfOk result (λ next. Leads D.meaning set whole next memory.new) }
-    ensures steps { (set : Options) → the_loop.entry.options.now ≡ set → IfOk result (λ next.
+    ensures steps { (set : Plan) → the_loop.entry.plan.now ≡ set → IfOk result (λ next.
         next_left D.meaning (2 ^ 64) set next
         < 2 + most_rounds (2 ^ 64) set * suc (tree_steps D.meaning (2 ^ 64) set the_loop.entry.body.now)) }
 {
@@ -208,13 +208,13 @@ fn turn_narrowing<'a, D: Domain>(
     flag: Option<usize>,
     kept: Turn<D>,
 ) -> Result<Next<'a, D, D::Head>, AllocError>
-    requires { (set : Options) × (whole : Due D) × (memory : Memory D) × MayBePassed D.meaning set whole ×
+    requires { (set : Plan) × (whole : Due D) × (memory : Memory D) × MayBePassed D.meaning set whole ×
         IsWaiting D.meaning set narrowing whole flag memory ×
         IsKept D.meaning set (node_view narrowing.the_loop.body.now) flag kept.entered (seen kept.outcome) }
-    ensures leads { (set : Options) (whole : Due D) (memory : Memory D) → MayBePassed D.meaning set whole →
+    ensures leads { (set : Plan) (whole : Due D) (memory : Memory D) → MayBePassed D.meaning set whole →
         IsWaiting D.meaning set narrowing.entry whole flag memory →
         IfOk result (λ next. Leads D.meaning set whole next memory) }
-    ensures steps { (b : ℕ) (set : Options) → IfOk result (λ next. next_left D.meaning b set next
+    ensures steps { (b : ℕ) (set : Plan) → IfOk result (λ next. next_left D.meaning b set next
         < turns_left D.meaning b set narrowing.entry.the_loop (suc narrowing.entry.left)) }
 {
     match enter(alloc, &narrowing.the_loop, &narrowing.top, flag, Some(kept))? {
@@ -241,12 +241,12 @@ fn narrow_on<'a, D: Domain>(
     last: HeadTurn<D>,
     left: u32,
 ) -> Result<Next<'a, D, D::Head>, AllocError>
-    requires { (set : Options) × (whole : Due D) × MayBePassed D.meaning set whole ×
+    requires { (set : Plan) × (whole : Due D) × MayBePassed D.meaning set whole ×
         IsNarrowed D.meaning set the_loop whole first last left memory.old }
-    ensures leads { (set : Options) (whole : Due D) → MayBePassed D.meaning set whole →
+    ensures leads { (set : Plan) (whole : Due D) → MayBePassed D.meaning set whole →
         IsNarrowed D.meaning set the_loop.entry whole first last left memory.old →
         IfOk result (λ next. Leads D.meaning set whole next memory.new) }
-    ensures steps { (b : ℕ) (set : Options) → IfOk result (λ next. next_left D.meaning b set next
+    ensures steps { (b : ℕ) (set : Plan) → IfOk result (λ next. next_left D.meaning b set next
         < turns_left D.meaning b set the_loop.entry left) }
 {
     if left == 0 {
@@ -271,12 +271,12 @@ pub fn go_on_growing<'a, D: Domain>(
     place: GrowingPlace<'a, D, D::Head>,
     outcome: Outcome<D>,
 ) -> Result<Next<'a, D, D::Head>, AllocError>
-    requires { (set : Options) × (whole : Due D) × (part : Due D) × MayBePassed D.meaning set whole ×
+    requires { (set : Plan) × (whole : Due D) × (part : Due D) × MayBePassed D.meaning set whole ×
         IsGrowing D.meaning set place whole part × IsMade D.meaning set part (seen outcome) memory.old }
-    ensures leads { (set : Options) (whole part : Due D) → MayBePassed D.meaning set whole →
+    ensures leads { (set : Plan) (whole part : Due D) → MayBePassed D.meaning set whole →
         IsGrowing D.meaning set place.entry whole part → IsMade D.meaning set part (seen outcome) memory.old →
         IfOk result (λ next. Leads D.meaning set whole next memory.new) }
-    ensures falls { (set : Options) → place.entry.the_loop.options.now ≡ set → IfOk result (λ next.
+    ensures falls { (set : Plan) → place.entry.the_loop.plan.now ≡ set → IfOk result (λ next.
         next_left D.meaning (2 ^ 64) set next < turns_left D.meaning (2 ^ 64) set place.entry.the_loop
         (set.narrow + rounds_left (2 ^ 64) place.entry.growing.left (D.meaning.rank place.entry.growing.head))) }
 {
@@ -289,7 +289,7 @@ pub fn go_on_growing<'a, D: Domain>(
     let turn = Turn { entered, outcome };
     let stable = grow_by(alloc, &the_loop, &mut growing, &turn.outcome)?;
     if stable {
-        let left = the_loop.options.narrow;
+        let left = the_loop.plan.narrow();
         let value = growing.into_value();
         let last = HeadTurn { value, turn };
         return narrow_on(alloc, memory, the_loop, first, last, left);
@@ -304,12 +304,12 @@ pub fn go_on_narrowing<'a, D: Domain>(
     place: NarrowingPlace<'a, D>,
     outcome: Outcome<D>,
 ) -> Result<Next<'a, D, D::Head>, AllocError>
-    requires { (set : Options) × (whole : Due D) × (part : Due D) × MayBePassed D.meaning set whole ×
+    requires { (set : Plan) × (whole : Due D) × (part : Due D) × MayBePassed D.meaning set whole ×
         IsNarrowing D.meaning set place whole part × IsMade D.meaning set part (seen outcome) memory.old }
-    ensures leads { (set : Options) (whole part : Due D) → MayBePassed D.meaning set whole →
+    ensures leads { (set : Plan) (whole part : Due D) → MayBePassed D.meaning set whole →
         IsNarrowing D.meaning set place.entry whole part → IsMade D.meaning set part (seen outcome) memory.old →
         IfOk result (λ next. Leads D.meaning set whole next memory.new) }
-    ensures falls { (set : Options) → place.entry.narrowing.the_loop.options.now ≡ set → IfOk result (λ next.
+    ensures falls { (set : Plan) → place.entry.narrowing.the_loop.plan.now ≡ set → IfOk result (λ next.
         next_left D.meaning (2 ^ 64) set next
         < turns_left D.meaning (2 ^ 64) set place.entry.narrowing.the_loop place.entry.narrowing.left) }
 {

@@ -2,7 +2,7 @@
 
 ghost use Rattle.std.specs.Prelude.{◌≡◌, ◌<◌, ℕ, [], Option, Some, length, slice_index_or, IfOk, OnOk};
 ghost use Rattle.lra_operations.specs.Graph.{Node};
-ghost use Rattle.lra_options.specs.declared.options.Options.{Options};
+ghost use Rattle.lra_flow.specs.Plan.{Plan};
 ghost use Rattle.lra_iter.specs.declared.memory.KeptLoop.{KeptLoop};
 ghost use Rattle.lra_iter.specs.Outcome.{seen, IsKept};
 ghost use Rattle.lra_iter.specs.Memory.{IsRecalled, AreRecalled, MayRecall};
@@ -69,9 +69,9 @@ impl<D: Drop> Memory<D> {
 impl<D: Domain> Memory<D> {
     /// This pass takes the place of the same loop's last one.
     fn keep(&mut self, one: KeptLoop<D>) -> Result<(), AllocError>
-        ensures { (options : Options) (loops : ℕ → Node) (f : Option ℕ) →
-            MayRecall D.meaning options loops f self.old → IsRecalled D.meaning options loops f one →
-            OnOk result (MayRecall D.meaning options loops f self.new) }
+        ensures { (plan : Plan) (loops : ℕ → Node) (f : Option ℕ) →
+            MayRecall D.meaning plan loops f self.old → IsRecalled D.meaning plan loops f one →
+            OnOk result (MayRecall D.meaning plan loops f self.new) }
     {
         match find_kept(&self.kept, one.point) {
             Some(place) => self.kept[place] = one,
@@ -89,8 +89,8 @@ impl<D: Domain> Memory<D> {
         first: &D,
         flag: Option<usize>,
     ) -> Result<Option<Outcome<D>>, AllocError>
-        ensures { (options : Options) (loops : ℕ → Node) → MayRecall D.meaning options loops flag self.now →
-            IfOk result (λ r. AreRecalled D.meaning options (loops point) flag first.now r) }
+        ensures { (plan : Plan) (loops : ℕ → Node) → MayRecall D.meaning plan loops flag self.now →
+            IfOk result (λ r. AreRecalled D.meaning plan (loops point) flag first.now r) }
     {
         let Some(place) = find_kept(&self.kept, point) else {
             return Ok(None);
@@ -111,8 +111,8 @@ impl<D: Domain> Memory<D> {
         first: &D,
         flag: Option<usize>,
     ) -> Result<Option<Outcome<D>>, AllocError>
-        ensures given { (options : Options) (loops : ℕ → Node) → MayRecall D.meaning options loops flag self.old →
-            IfOk result (λ r. AreRecalled D.meaning options (loops point) flag first.now r) }
+        ensures given { (plan : Plan) (loops : ℕ → Node) → MayRecall D.meaning plan loops flag self.old →
+            IfOk result (λ r. AreRecalled D.meaning plan (loops point) flag first.now r) }
         ensures kept { self.new.kept ≡ self.old.kept }
     {
         let given = self.recall(alloc, point, first, flag)?;
@@ -130,10 +130,10 @@ impl<D: Domain> Memory<D> {
         first: D,
         outcome: &Outcome<D>,
     ) -> Result<(), AllocError>
-        ensures { (options : Options) (loops : ℕ → Node) →
-            MayRecall D.meaning options loops outcome.now.flag self.old →
-            IsKept D.meaning options (loops point) outcome.now.flag first (seen outcome.now) →
-            OnOk result (MayRecall D.meaning options loops outcome.now.flag self.new) }
+        ensures { (plan : Plan) (loops : ℕ → Node) →
+            MayRecall D.meaning plan loops outcome.now.flag self.old →
+            IsKept D.meaning plan (loops point) outcome.now.flag first (seen outcome.now) →
+            OnOk result (MayRecall D.meaning plan loops outcome.now.flag self.new) }
     {
         self.depth = self.depth.saturating_sub(1);
         if self.depth == 0 {

@@ -3,7 +3,7 @@
 ghost use Rattle.std.specs.Prelude.{◌≡◌, ℕ, true, [], Option, IfOk, OnOk};
 ghost use Rattle.lra_operations.specs.Graph.{broken, continued, returned, Node};
 ghost use Rattle.lra_operations.specs.GraphViews.{exit_view};
-ghost use Rattle.lra_options.specs.declared.options.Options.{Options};
+ghost use Rattle.lra_flow.specs.Plan.{Plan};
 ghost use Rattle.lra_flow.specs.Operations.{dropping};
 ghost use Rattle.lra_flow.specs.Pass.{AreJoined, noted, goes_on, in_turn, jumps, behind};
 ghost use Rattle.lra_iter.specs.Outcome.{entry_view, ended, seen, AllHave, AreGiven, AreInTurn, AreKept};
@@ -313,8 +313,8 @@ impl<D: Drop> Turn<D> {
 /// The kept turn of a loop's body, where the same value enters it again: passed anew it would give the same, but for
 /// what is flagged so far.
 fn reuse_turn<D: Domain>(kept: Option<Turn<D>>, on: &D, flag: Option<usize>) -> Option<Turn<D>>
-    ensures { (options : Options) (body : Node) → AreKept D.meaning options body flag kept →
-        AreGiven D.meaning options body flag on.now result }
+    ensures { (plan : Plan) (body : Node) → AreKept D.meaning plan body flag kept →
+        AreGiven D.meaning plan body flag on.now result }
 {
     let Some(mut turn) = kept else {
         return None;
@@ -333,8 +333,8 @@ pub fn enter_with<D: Domain>(
     on: D,
     flag: Option<usize>,
 ) -> Result<Entered<D>, AllocError>
-    ensures { (options : Options) (body : Node) → AreKept D.meaning options body flag kept →
-        IfOk result (EntersWith D.meaning options body flag on) }
+    ensures { (plan : Plan) (body : Node) → AreKept D.meaning plan body flag kept →
+        IfOk result (EntersWith D.meaning plan body flag on) }
 {
     match reuse_turn(kept, &on, flag) {
         Some(turn) => Ok(Entered::Again(turn)),

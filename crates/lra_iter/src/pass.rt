@@ -1,7 +1,7 @@
 //! The pass over a tree of operations.
 
 ghost use Rattle.std.specs.Prelude.{◌≡◌, ◌≤◌, ◌<◌, ◌^◌, ◌++◌, ◌∷◌, [], ℕ, Ok, Err, IfOk, OnOk, MatchResult};
-ghost use Rattle.lra_options.specs.declared.options.Options.{Options};
+ghost use Rattle.lra_flow.specs.Plan.{Plan};
 ghost use Rattle.lra_operations.specs.GraphViews.{node_view};
 ghost use Rattle.lra_iter.specs.Fits.{TreeFits};
 ghost use Rattle.lra_iter.specs.Outcome.{seen, IsPassed};
@@ -17,21 +17,21 @@ use crate::loops::{go_on_growing, go_on_narrowing, open_loop};
 use crate::memory::Memory;
 use crate::outcome::Outcome;
 use crate::places::{Entering, Next, Place, Places, Step};
+use crate::plan::Plan;
 use crate::rows::{go_on_row, open_row};
 use crate::shapes::Shape;
 use lra_domain::Domain;
 use lra_operations::Node;
-use lra_options::Options;
 use std::alloc::{AllocError, Global};
 
 /// The tree is passed, with what its pass gave.
 fn passed<'a, D: Domain>(
     given: Result<Outcome<D>, AllocError>,
 ) -> Result<Next<'a, D, D::Head>, AllocError>
-    ensures leads { (set : Options) (whole : Due D) (memory : Memory D) →
+    ensures leads { (set : Plan) (whole : Due D) (memory : Memory D) →
         IfOk given (λ r. IsMade D.meaning set whole (seen r) memory) →
         IfOk result (λ next. Leads D.meaning set whole next memory) }
-    ensures ends { (b : ℕ) (set : Options) → IfOk result (λ next. next_left D.meaning b set next ≡ 0) }
+    ensures ends { (b : ℕ) (set : Plan) → IfOk result (λ next. next_left D.meaning b set next ≡ 0) }
 {
     let outcome = given?;
     Ok(Next::Passed(outcome))
@@ -40,20 +40,20 @@ fn passed<'a, D: Domain>(
 /// The first step into a tree: a tree with none in it is passed, and of any other a place opens.
 fn open_tree<'a, D: Domain>(
     alloc: Global,
-    options: &'a Options,
+    plan: &'a Plan,
     memory: &mut Memory<D>,
     tree: Entering<'a, D>,
 ) -> Result<Next<'a, D, D::Head>, AllocError>
-    requires parts { 1 ≤ options.now.parts }
-    requires may { MayBePassed D.meaning options.now (due tree memory.old) }
+    requires parts { 1 ≤ plan.now.parts }
+    requires may { MayBePassed D.meaning plan.now (due tree memory.old) }
     ensures leads { IfOk result (λ next.
-        Leads D.meaning options.entry.now (due tree.entry memory.old) next memory.new) }
-    ensures falls { IfOk result (λ next. next_left D.meaning (2 ^ 64) options.entry.now next
-        < tree_steps D.meaning (2 ^ 64) options.entry.now tree.entry.node.now) }
+        Leads D.meaning plan.entry.now (due tree.entry memory.old) next memory.new) }
+    ensures falls { IfOk result (λ next. next_left D.meaning (2 ^ 64) plan.entry.now next
+        < tree_steps D.meaning (2 ^ 64) plan.entry.now tree.entry.node.now) }
 {
     let Entering { node, value, flag } = tree;
-    match Shape::of(options, node) {
-        Shape::Leaf(leaf) => passed(pass_leaf(alloc, options, &leaf, value, flag)),
+    match Shape::of(plan, node) {
+        Shape::Leaf(leaf) => passed(pass_leaf(alloc, plan, &leaf, value, flag)),
         Shape::Row(row) => open_row(alloc, row, value, flag),
         Shape::Choice(choice) => open_choice(alloc, choice, value, flag),
         Shape::Loop(the_loop) => open_loop(alloc, memory, the_loop, value, flag),
@@ -72,13 +72,13 @@ fn go_on<'a, D: Domain>(
     place: Place<'a, D, D::Head>,
     outcome: Outcome<D>,
 ) -> Result<Next<'a, D, D::Head>, AllocError>
-    requires { (set : Options) × (whole : Due D) × (part : Due D) × MayBePassed D.meaning set whole ×
+    requires { (set : Plan) × (whole : Due D) × (part : Due D) × MayBePassed D.meaning set whole ×
         IsOpen D.meaning set place whole part × IsMade D.meaning set part (seen outcome) memory.old ×
         (1 ≤ set.parts) }
-    ensures leads { (set : Options) (whole part : Due D) → MayBePassed D.meaning set whole →
+    ensures leads { (set : Plan) (whole part : Due D) → MayBePassed D.meaning set whole →
         IsOpen D.meaning set place.entry whole part → IsMade D.meaning set part (seen outcome) memory.old →
         IfOk result (λ next. Leads D.meaning set whole next memory.new) }
-    ensures falls { (set : Options) (whole part : Due D) → IsOpen D.meaning set place.entry whole part →
+    ensures falls { (set : Plan) (whole part : Due D) → IsOpen D.meaning set place.entry whole part →
         IfOk result (λ next. next_left D.meaning (2 ^ 64) set next
         < place_left D.meaning (2 ^ 64) set place.entry) }
 {
@@ -100,22 +100,22 @@ fn go_on<'a, D: Domain>(
 /// A place opens, and the first step into the tree in it is taken.
 fn open_place<'a, D: Domain>(
     alloc: Global,
-    options: &'a Options,
+    plan: &'a Plan,
     memory: &mut Memory<D>,
     places: &mut Places<'a, D, D::Head>,
     place: Place<'a, D, D::Head>,
     tree: Entering<'a, D>,
 ) -> Result<Next<'a, D, D::Head>, AllocError>
-    requires parts { 1 ≤ options.now.parts }
-    requires may { MayBePassed D.meaning options.now (due tree memory.old) }
+    requires parts { 1 ≤ plan.now.parts }
+    requires may { MayBePassed D.meaning plan.now (due tree memory.old) }
     ensures opens { OnOk result (places.new.open.items ≡ places.old.open.items ++ place.entry ∷ []) }
     ensures leads { IfOk result (λ next.
-        Leads D.meaning options.entry.now (due tree.entry memory.old) next memory.new) }
-    ensures falls { IfOk result (λ next. next_left D.meaning (2 ^ 64) options.entry.now next
-        < tree_steps D.meaning (2 ^ 64) options.entry.now tree.entry.node.now) }
+        Leads D.meaning plan.entry.now (due tree.entry memory.old) next memory.new) }
+    ensures falls { IfOk result (λ next. next_left D.meaning (2 ^ 64) plan.entry.now next
+        < tree_steps D.meaning (2 ^ 64) plan.entry.now tree.entry.node.now) }
 {
     places.push(place)?;
-    open_tree(alloc, options, memory, tree)
+    open_tree(alloc, plan, memory, tree)
 }
 
 /// The pass goes on with what comes next.
@@ -133,21 +133,21 @@ fn goes<'a, D: Domain>(
 /// One step: it goes on at the innermost place, or opens one. Where none is open, the whole tree is passed.
 fn take_step<'a, D: Domain>(
     alloc: Global,
-    options: &'a Options,
+    plan: &'a Plan,
     memory: &mut Memory<D>,
     places: &mut Places<'a, D, D::Head>,
     next: Next<'a, D, D::Head>,
 ) -> Result<Step<'a, D, D::Head>, AllocError>
-    requires parts { 1 ≤ options.now.parts }
+    requires parts { 1 ≤ plan.now.parts }
     requires way { (whole : Due D) ×
-        AreUnderWay D.meaning options.now places.old.open.items whole next memory.old }
+        AreUnderWay D.meaning plan.now places.old.open.items whole next memory.old }
     ensures leads { (whole : Due D) →
-        AreUnderWay D.meaning options.entry.now places.old.open.items whole next.entry memory.old →
-        IfOk result (λ s. Reaches D.meaning options.entry.now places.new.open.items whole s memory.new) }
+        AreUnderWay D.meaning plan.entry.now places.old.open.items whole next.entry memory.old →
+        IfOk result (λ s. Reaches D.meaning plan.entry.now places.new.open.items whole s memory.new) }
     ensures falls { (whole : Due D) →
-        AreUnderWay D.meaning options.entry.now places.old.open.items whole next.entry memory.old →
-        IfOk result (λ s. TakesFewer D.meaning (2 ^ 64) options.entry.now places.new.open.items s
-        (all_left D.meaning (2 ^ 64) options.entry.now places.old.open.items next.entry)) }
+        AreUnderWay D.meaning plan.entry.now places.old.open.items whole next.entry memory.old →
+        IfOk result (λ s. TakesFewer D.meaning (2 ^ 64) plan.entry.now places.new.open.items s
+        (all_left D.meaning (2 ^ 64) plan.entry.now places.old.open.items next.entry)) }
 {
     match next {
         Next::Passed(outcome) => match places.pop() {
@@ -157,31 +157,31 @@ fn take_step<'a, D: Domain>(
         Next::Again(place, outcome) => {
             goes(go_on(alloc, memory, Box::into_inner(place), outcome))
         }
-        Next::Opens(place, tree) => goes(open_place(alloc, options, memory, places, place, tree)),
+        Next::Opens(place, tree) => goes(open_place(alloc, plan, memory, places, place, tree)),
     }
 }
 
 /// The pass from `value` over the tree, along a list of open places.
 pub fn pass<'a, D: Domain>(
     alloc: Global,
-    options: &'a Options,
+    plan: &'a Plan,
     memory: &mut Memory<D>,
     node: &'a Node,
     value: D,
     flag: Option<usize>,
 ) -> Result<Outcome<D>, AllocError>
-    requires parts { 1 ≤ options.now.parts }
+    requires parts { 1 ≤ plan.now.parts }
     requires few { D.meaning.dims value ≤ 2 ^ 30 }
     requires fits { TreeFits (node_view node.now) (D.meaning.dims value) }
-    requires remembers { Remembers D.meaning options.now (node_view node.now) flag memory.old }
-    ensures passed { IfOk result (λ r. IsPassed D.meaning options.now (node_view node.now) flag value (seen r)) }
-    ensures stays { IfOk result (λ r. StaysKept D.meaning options.now (node_view node.now) flag memory.old r.flag
+    requires remembers { Remembers D.meaning plan.now (node_view node.now) flag memory.old }
+    ensures passed { IfOk result (λ r. IsPassed D.meaning plan.now (node_view node.now) flag value (seen r)) }
+    ensures stays { IfOk result (λ r. StaysKept D.meaning plan.now (node_view node.now) flag memory.old r.flag
         memory.new) }
 {
     let mut places = Places::none(alloc);
-    let mut next = open_tree(alloc, options, memory, Entering { node, value, flag })?;
+    let mut next = open_tree(alloc, plan, memory, Entering { node, value, flag })?;
     'steps: loop {
-        match take_step(alloc, options, memory, &mut places, next)? {
+        match take_step(alloc, plan, memory, &mut places, next)? {
             Step::Ended(outcome) => return Ok(outcome),
             Step::Goes(more) => next = more,
         }

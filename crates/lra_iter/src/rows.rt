@@ -1,7 +1,7 @@
 //! Trees one after the other.
 
 ghost use Rattle.std.specs.Prelude.{◌≡◌, ◌<◌, ◌≤◌, ◌^◌, ◌∷◌, [], ℕ, List, map, IfOk};
-ghost use Rattle.lra_options.specs.declared.options.Options.{Options};
+ghost use Rattle.lra_flow.specs.Plan.{Plan};
 ghost use Rattle.lra_operations.specs.declared.graph.Node.{Node};
 ghost use Rattle.lra_operations.specs.GraphViews.{node_view, row};
 ghost use Rattle.lra_iter.specs.declared.memory.Memory.{Memory};
@@ -14,10 +14,10 @@ ghost use Rattle.lra_iter.specs.Steps.{most_rounds, next_left, place_left, row_s
 use crate::flat::Flat;
 use crate::outcome::Outcome;
 use crate::places::{Entering, Next, Place, RowPlace};
+use crate::plan::Plan;
 use crate::shapes::Row;
 use lra_domain::Domain;
 use lra_operations::Node;
-use lra_options::Options;
 use std::alloc::{AllocError, Global};
 
 /// The first of the trees behind which these stand is next: what was found before it stays at its place.
@@ -26,12 +26,12 @@ fn open_first<'a, D: Domain>(
     node: &'a Node,
     so_far: Outcome<D>,
 ) -> Next<'a, D, D::Head>
-    ensures leads { (set : Options) (whole : Due D) (memory : Memory D) (gs : List Node) →
-        behind.entry.options.now ≡ set → gs ≡ node.now ∷ behind.entry.trees.now →
+    ensures leads { (set : Plan) (whole : Due D) (memory : Memory D) (gs : List Node) →
+        behind.entry.plan.now ≡ set → gs ≡ node.now ∷ behind.entry.trees.now →
         MayBePassed D.meaning set whole → RowLoop D.meaning set whole.tree whole.flag whole.value
         (row (map node_view gs) (node_view behind.entry.last.now)) so_far.found
         so_far.normal so_far.flag whole.memory memory → Leads D.meaning set whole result memory }
-    ensures steps { (b : ℕ) (set : Options) (gs : List Node) → gs ≡ node.now ∷ behind.entry.trees.now →
+    ensures steps { (b : ℕ) (set : Plan) (gs : List Node) → gs ≡ node.now ∷ behind.entry.trees.now →
         next_left D.meaning b set result ≡ row_steps (most_rounds b set) gs behind.entry.last.now }
 {
     let Outcome {
@@ -46,22 +46,22 @@ fn open_first<'a, D: Domain>(
 /// The last of the trees is passed, or next.
 fn next_of_last<'a, D: Domain>(
     alloc: Global,
-    options: &'a Options,
+    plan: &'a Plan,
     node: &'a Node,
     mut so_far: Outcome<D>,
 ) -> Result<Next<'a, D, D::Head>, AllocError>
-    requires parts { 1 ≤ options.now.parts }
+    requires parts { 1 ≤ plan.now.parts }
     requires few { D.meaning.dims so_far.normal ≤ 2 ^ 30 }
     requires fits { TreeFits (node_view node.now) (D.meaning.dims so_far.normal) }
-    ensures leads { (set : Options) (whole : Due D) (memory : Memory D) → options.now ≡ set →
+    ensures leads { (set : Plan) (whole : Due D) (memory : Memory D) → plan.now ≡ set →
         MayBePassed D.meaning set whole → RowLoop D.meaning set whole.tree whole.flag whole.value
         (node_view node.now) so_far.found so_far.normal so_far.flag whole.memory memory →
         IfOk result (λ next. Leads D.meaning set whole next memory) }
-    ensures falls { (b : ℕ) (set : Options) → IfOk result (λ next. next_left D.meaning b set next
+    ensures falls { (b : ℕ) (set : Plan) → IfOk result (λ next. next_left D.meaning b set next
         ≤ row_steps (most_rounds b set) [] node.now) }
 {
-    if let Some(flat) = Flat::of(options, node) {
-        flat.pass_on(alloc, options, &mut so_far)?;
+    if let Some(flat) = Flat::of(plan, node) {
+        flat.pass_on(alloc, plan, &mut so_far)?;
         return Ok(Next::Passed(so_far));
     }
     let Outcome {
@@ -78,41 +78,29 @@ fn next_of_row<'a, D: Domain>(
     the_row: Row<'a>,
     mut so_far: Outcome<D>,
 ) -> Result<Next<'a, D, D::Head>, AllocError>
-    requires parts { 1 ≤ the_row.options.now.parts }
-    requires way { (whole : Due D) × (memory : Memory D) × MayBePassed D.meaning the_row.options.now whole ×
-        RowLoop D.meaning the_row.options.now whole.tree whole.flag whole.value
+    requires parts { 1 ≤ the_row.plan.now.parts }
+    requires way { (whole : Due D) × (memory : Memory D) × MayBePassed D.meaning the_row.plan.now whole ×
+        RowLoop D.meaning the_row.plan.now whole.tree whole.flag whole.value
         (row (map node_view the_row.trees.now) (node_view the_row.last.now)) so_far.found so_far.normal so_far.flag
         whole.memory memory }
-    ensures leads { (set : Options) (whole : Due D) (memory : Memory D) → the_row.entry.options.now ≡ set →
+    ensures leads { (set : Plan) (whole : Due D) (memory : Memory D) → the_row.entry.plan.now ≡ set →
         MayBePassed D.meaning set whole → RowLoop D.meaning set whole.tree whole.flag whole.value
         (row (map node_view the_row.entry.trees.now) (node_view the_row.entry.last.now)) so_far.found
         so_far.normal so_far.flag whole.memory memory → IfOk result (λ next. Leads D.meaning set whole next memory) }
-    ensures falls { (b : ℕ) (set : Options) → IfOk result (λ next. next_left D.meaning b set next
+    ensures falls { (b : ℕ) (set : Plan) → IfOk result (λ next. next_left D.meaning b set next
         ≤ row_steps (most_rounds b set) the_row.entry.trees.now the_row.entry.last.now) }
 {
-    let Row {
-        options,
-        trees,
-        last,
-    } = the_row;
+    let Row { plan, trees, last } = the_row;
     let mut left = trees;
     'leaves: while let Some((node, behind)) = left.split_first() {
-        let Some(flat) = Flat::of(options, node) else {
+        let Some(flat) = Flat::of(plan, node) else {
             let trees = behind;
-            return Ok(open_first(
-                Row {
-                    options,
-                    trees,
-                    last,
-                },
-                node,
-                so_far,
-            ));
+            return Ok(open_first(Row { plan, trees, last }, node, so_far));
         };
-        flat.pass_on(alloc, options, &mut so_far)?;
+        flat.pass_on(alloc, plan, &mut so_far)?;
         left = behind;
     }
-    next_of_last(alloc, options, last, so_far)
+    next_of_last(alloc, plan, last, so_far)
 }
 
 /// The first of the trees that isn't flat is next, behind those before it.
@@ -122,15 +110,15 @@ pub fn open_row<'a, D: Domain>(
     value: D,
     flag: Option<usize>,
 ) -> Result<Next<'a, D, D::Head>, AllocError>
-    requires parts { 1 ≤ the_row.options.now.parts }
-    requires way { (whole : Due D) × MayBePassed D.meaning the_row.options.now whole ×
+    requires parts { 1 ≤ the_row.plan.now.parts }
+    requires way { (whole : Due D) × MayBePassed D.meaning the_row.plan.now whole ×
         (whole.tree ≡ row (map node_view the_row.trees.now) (node_view the_row.last.now)) ×
         (whole.value ≡ value) × (whole.flag ≡ flag) }
-    ensures leads { (set : Options) (whole : Due D) → the_row.entry.options.now ≡ set →
+    ensures leads { (set : Plan) (whole : Due D) → the_row.entry.plan.now ≡ set →
         whole.tree ≡ row (map node_view the_row.entry.trees.now) (node_view the_row.entry.last.now) →
         whole.value ≡ value → whole.flag ≡ flag → MayBePassed D.meaning set whole →
         IfOk result (λ next. Leads D.meaning set whole next whole.memory) }
-    ensures falls { (b : ℕ) (set : Options) → IfOk result (λ next. next_left D.meaning b set next
+    ensures falls { (b : ℕ) (set : Plan) → IfOk result (λ next. next_left D.meaning b set next
         ≤ row_steps (most_rounds b set) the_row.entry.trees.now the_row.entry.last.now) }
 {
     next_of_row(alloc, the_row, Outcome::nothing_yet(alloc, value, flag))
@@ -142,13 +130,13 @@ pub fn go_on_row<'a, D: Domain>(
     place: RowPlace<'a, D>,
     outcome: Outcome<D>,
 ) -> Result<Next<'a, D, D::Head>, AllocError>
-    requires { (set : Options) × (whole : Due D) × (part : Due D) × (memory : Memory D) × (1 ≤ set.parts) ×
+    requires { (set : Plan) × (whole : Due D) × (part : Due D) × (memory : Memory D) × (1 ≤ set.parts) ×
         MayBePassed D.meaning set whole × IsRow D.meaning set place whole part ×
         IsMade D.meaning set part (seen outcome) memory }
-    ensures leads { (set : Options) (whole part : Due D) (memory : Memory D) → MayBePassed D.meaning set whole →
+    ensures leads { (set : Plan) (whole part : Due D) (memory : Memory D) → MayBePassed D.meaning set whole →
         IsRow D.meaning set place.entry whole part → IsMade D.meaning set part (seen outcome) memory →
         IfOk result (λ next. Leads D.meaning set whole next memory) }
-    ensures falls { (b : ℕ) (set : Options) → IfOk result (λ next. next_left D.meaning b set next
+    ensures falls { (b : ℕ) (set : Plan) → IfOk result (λ next. next_left D.meaning b set next
         < place_left D.meaning b set (row_place place.entry)) }
 {
     let RowPlace { behind, found } = place;

@@ -1,9 +1,10 @@
 //! Trees of operations by what stands in them.
 
+ghost use Rattle.lra_flow.specs.Plan.{Plan};
 ghost use Rattle.lra_iter.specs.Shapes.{IsShape};
 
+use crate::plan::Plan;
 use lra_operations::{Exit, Node, Op};
-use lra_options::Options;
 use lra_program::Cond;
 
 /// A tree with no tree in it.
@@ -19,7 +20,7 @@ pub enum Leaf<'a> {
 /// Trees one after the other, and then the last, and how they are passed.
 #[derive(Clone, Copy)]
 pub struct Row<'a> {
-    pub options: &'a Options,
+    pub plan: &'a Plan,
     pub trees: &'a [Node],
     pub last: &'a Node,
 }
@@ -27,7 +28,7 @@ pub struct Row<'a> {
 /// A choice, and how it is passed.
 #[derive(Clone, Copy)]
 pub struct Choice<'a> {
-    pub options: &'a Options,
+    pub plan: &'a Plan,
     pub point: usize,
     pub base: usize,
     pub condition: &'a Cond,
@@ -38,7 +39,7 @@ pub struct Choice<'a> {
 /// A loop, and how it is passed.
 #[derive(Clone, Copy)]
 pub struct Loop<'a> {
-    pub options: &'a Options,
+    pub plan: &'a Plan,
     pub point: usize,
     pub base: usize,
     pub condition: &'a Cond,
@@ -64,9 +65,9 @@ pub enum Shape<'a> {
 }
 
 impl<'a> Shape<'a> {
-    /// The shape of the tree, which is passed with these options.
-    pub fn of(options: &'a Options, node: &'a Node) -> Shape<'a>
-        ensures { IsShape options.now node.now result }
+    /// The shape of the tree, which is passed by this plan.
+    pub fn of(plan: &'a Plan, node: &'a Node) -> Shape<'a>
+        ensures { IsShape plan.now node.now result }
     {
         match node {
             Node::Empty => Shape::Leaf(Leaf::Empty),
@@ -76,12 +77,12 @@ impl<'a> Shape<'a> {
                 Shape::Leaf(Leaf::Check(*point, *base, condition))
             }
             Node::Seq(trees, last) => Shape::Row(Row {
-                options,
+                plan,
                 trees: trees.as_slice(),
                 last,
             }),
             Node::Choose(point, base, condition, yes, no) => Shape::Choice(Choice {
-                options,
+                plan,
                 point: *point,
                 base: *base,
                 condition,
@@ -89,7 +90,7 @@ impl<'a> Shape<'a> {
                 no,
             }),
             Node::Iterate(point, base, condition, body) => Shape::Loop(Loop {
-                options,
+                plan,
                 point: *point,
                 base: *base,
                 condition,

@@ -5,6 +5,7 @@ ghost use Rattle.lra_program.specs.Program.{Program};
 ghost use Rattle.lra_operations.specs.GraphViews.{node_view, site_view};
 ghost use Rattle.lra_program.specs.Assertions.{assertions_from};
 ghost use Rattle.lra_domain.specs.declared.Exactness.{Exactness};
+ghost use Rattle.lra_flow.specs.Plan.{Plan};
 ghost use Rattle.lra_flow.specs.Analysis.{Solves};
 ghost use Rattle.lra_flow.specs.MovesOf.{first_values};
 ghost use Rattle.lra_flow.specs.Pass.{noted};
@@ -20,11 +21,11 @@ ghost use Rattle.lra_iter.specs.Sound.{HoldsInTree};
 use crate::memory::Memory;
 use crate::outcome::{Outcome, note};
 use crate::pass::pass;
+use crate::plan::Plan;
 use crate::tables::{number_held, tables_of, take_held};
 use lra_change::append_globals;
 use lra_domain::Domain;
 use lra_operations::{Graph, Site};
-use lra_options::Options;
 use std::alloc::{AllocError, Global};
 
 /// What is found of a program: the value at each of its points, in the order of their numbers; of each assertion its
@@ -62,17 +63,17 @@ fn solution_of<D: Domain>(
 /// The globals at their first values, and the first flagged point so far.
 fn begin<D: Domain>(
     alloc: Global,
-    options: &Options,
+    plan: &Plan,
     globals: &[i64],
 ) -> Result<(D, Option<usize>), AllocError>
-    requires parts { 1 ≤ options.now.parts }
+    requires parts { 1 ≤ plan.now.parts }
     requires few { length globals.now ≤ 2 ^ 30 }
     ensures begins { IfOk result (λ r. (whole : D) × (e : Exactness) ×
-        (D.meaning.universal 0 options.now.parts whole × D.meaning.formed whole) ×
+        (D.meaning.universal 0 plan.now.parts whole × D.meaning.formed whole) ×
         Does D.meaning (first_values 0 globals.now) whole e r.0 × (r.1 ≡ noted 0 e None)) }
     ensures dims { IfOk result (λ r. D.meaning.dims r.0 ≡ length globals.now) }
 {
-    let mut value = D::universe(alloc, 0, options.parts)?;
+    let mut value = D::universe(alloc, 0, plan.parts())?;
     let exactness = append_globals(alloc, globals, &mut value)?;
     Ok((value, note(0, exactness, None)))
 }
@@ -80,16 +81,16 @@ fn begin<D: Domain>(
 /// The iteration over a program's tree of operations, from its global variables at their first values.
 pub fn analyse<D: Domain>(
     alloc: Global,
-    options: &Options,
+    plan: &Plan,
     globals: &[i64],
     graph: &Graph,
 ) -> Result<Solution<D>, AllocError>
-    requires parts { 1 ≤ options.now.parts }
+    requires parts { 1 ≤ plan.now.parts }
     requires few { length globals.now ≤ 2 ^ 30 }
     requires fits { TreeFits (node_view graph.now.tree) (length globals.now) }
     requires numbered { IsNumbered (map site_view graph.now.sites.items) (node_view graph.now.tree) }
     ensures solved { IfOk result (λ s. (P : Program) → P.globals ≡ globals.now →
-        IsSolved D.meaning options.now P (node_view graph.now.tree) s.values.items s.verdicts.items s.flagged) }
+        IsSolved D.meaning plan.now P (node_view graph.now.tree) s.values.items s.verdicts.items s.flagged) }
     ensures sound { IfOk result (λ s. HoldsInTree D.meaning globals.now
         (node_view graph.now.tree) s.values.items s.verdicts.items) }
     ensures wide { IfOk result (λ s. PointsHave (map site_view graph.now.sites.items) (node_view graph.now.tree)
@@ -98,9 +99,9 @@ pub fn analyse<D: Domain>(
     ensures assertions { IfOk result (λ s. map (λ v. v.0) s.verdicts.items ≡
         map (λ a. a.0) (assertions_from 0 (map site_view graph.now.sites.items))) }
 {
-    let (value, flag) = begin(alloc, options, globals)?;
+    let (value, flag) = begin(alloc, plan, globals)?;
     let mut memory = Memory::nothing(alloc);
-    let outcome = pass(alloc, options, &mut memory, &graph.tree, value, flag)?;
+    let outcome = pass(alloc, plan, &mut memory, &graph.tree, value, flag)?;
     let solution = solution_of(alloc, &graph.sites, outcome)?;
     Ok(solution)
 }

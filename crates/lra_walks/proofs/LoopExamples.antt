@@ -19,8 +19,7 @@ use Rattle.lra_box.specs.Content.{Content}
 use Rattle.lra_box.specs.Tables.{stepped}
 use Rattle.lra_box.specs.Meaning.{StepsTo, box_meaning}
 use Rattle.lra_box.proofs.ExtremeLemmas.{end_is_extreme}
-use Rattle.lra_options.specs.declared.options.Domain.TheVariants.{Box}
-use Rattle.lra_options.specs.declared.options.Options.{Options}
+use Rattle.lra_flow.specs.Plan.{Plan, plan_of, standard}
 use Rattle.lra_options.specs.OptionRows.{default_options}
 use Rattle.lra_flow.specs.Operations.{Operations, defined}
 use Rattle.lra_flow.specs.Given.{given_rows}
@@ -40,8 +39,8 @@ at_least l = record { low = Some (pos l); high = None }
 abbrev pub one : Interval → Content
 one x = record { dims = 1; bounds = Some (x ∷ []) }
 
-abbrev pub narrowed : ℕ → Options
-narrowed n = record default_options { domain = Box; narrow = n }
+abbrev pub narrowed : ℕ → Plan
+narrowed n = record (plan_of default_options []) { narrow = n }
 
 abbrev i : Expr
 i = read (local 0)
@@ -107,7 +106,7 @@ body = seq (catch 1 continued increase) empty
 abbrev turn : Interval → Interval → Interval → Result Content
 turn x y z = goes_on (value 1 (one x) ∷ value 2 (one y) ∷ []) (one z) None
 
-round : (set : Options) (x y z : Interval) → StepsTo (test Ge (form (pos 9) (negsuc 0 ∷ []))) (one x) (one y) → StepsTo (assign 0 next) (one y) (one z)
+round : (set : Plan) (x y z : Interval) → StepsTo (test Ge (form (pos 9) (negsuc 0 ∷ []))) (one x) (one y) → StepsTo (assign 0 next) (one y) (one z)
     → GoesRound Content Content boxes 1 0 is_small (Pass Content Content boxes set body) None (one x) (turn x y z)
 round set x y z is_tested is_assigned = (
   one y,
@@ -138,7 +137,7 @@ round set x y z is_tested is_assigned = (
 )
 
 -- from a head whose value is x
-from_head : (set : Options) (x y z : Interval) → StepsTo (test Ge (form (pos 9) (negsuc 0 ∷ []))) (one x) (one y) → StepsTo (assign 0 next) (one y) (one z)
+from_head : (set : Plan) (x y z : Interval) → StepsTo (test Ge (form (pos 9) (negsuc 0 ∷ []))) (one x) (one y) → StepsTo (assign 0 next) (one y) (one z)
     → GoesFrom Content Content boxes 1 0 is_small (Pass Content Content boxes set body) (one x) None (one x) (turn x y z)
 from_head set x y z is_tested is_assigned = (Exact, (refl, refl), round set x y z is_tested is_assigned)
 
@@ -146,7 +145,7 @@ pub between_sound : (l h : ℕ) → l < 2 ^ 127 → h < 2 ^ 127 → crossed (bet
 between_sound l h low high order = ((low, high), order)
 
 -- the heads are 0..0, joined to 0..1, widened to 0.. ; there i is below 10 from 0 to 9, and 1..10 lies in the head
-heads : (set : Options) → Grows Content Content boxes 1 0 is_small (Pass Content Content boxes set body) false 1 None (one (between 0 0)) (one (between 0 1) ∷ one (at_least 0) ∷ [])
+heads : (set : Plan) → Grows Content Content boxes 1 0 is_small (Pass Content Content boxes set body) standard 1 None (one (between 0 0)) (one (between 0 1) ∷ one (at_least 0) ∷ [])
     (one (at_least 0)) (turn (at_least 0) (between 0 9) (between 1 10))
 heads set = (
   one (between 0 0),
@@ -168,7 +167,7 @@ heads set = (
 )
 
 -- narrowed once: 0..0 joined with 1..10 is 0..10
-narrowing : (set : Options) → Narrows Content Content boxes 1 0 is_small (Pass Content Content boxes set body) 1 (one (between 0 0)) (one (at_least 0))
+narrowing : (set : Plan) → Narrows Content Content boxes 1 0 is_small (Pass Content Content boxes set body) 1 (one (between 0 0)) (one (at_least 0))
     (turn (at_least 0) (between 0 9) (between 1 10))
     (one (between 0 10)) (turn (between 0 10) (between 0 9) (between 1 10))
 narrowing set = (
@@ -252,7 +251,7 @@ zero_set = record {
   );
 }
 
-pub declaring : (set : Options) → Pass Content Content boxes set declared None none (goes_on (value 0 none ∷ []) (one (between 0 0)) None)
+pub declaring : (set : Plan) → Pass Content Content boxes set declared None none (goes_on (value 0 none ∷ []) (one (between 0 0)) None)
 declaring set = (
   goes_on (value 0 none ∷ []) none None,
   goes_on [] (one (between 0 0)) None,
@@ -268,7 +267,7 @@ declaring set = (
 )
 
 -- a program that is the declaration, the loop and main's end
-around_loop : (set : Options) (head inside end : Interval)
+around_loop : (set : Plan) (head inside end : Interval)
     → Pass Content Content boxes set (loop_node 1 0 is_small increase empty) None (one (between 0 0)) (goes_on (value 1 (one head) ∷ value 2 (one inside) ∷ []) (one end) None)
     → Written box_meaning set counting counting_tree (whole head inside end)
 around_loop set head inside end pass = (

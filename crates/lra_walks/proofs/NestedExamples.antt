@@ -25,7 +25,7 @@ use Rattle.lra_box.specs.Tables.{stepped, widened_low}
 use Rattle.lra_box.specs.Meaning.{StepsTo, box_meaning}
 use Rattle.lra_box.proofs.ExtremeLemmas.{end_is_extreme}
 use Rattle.lra_box.specs.Covering.{low_within_refl, high_within_refl}
-use Rattle.lra_options.specs.declared.options.Options.{Options}
+use Rattle.lra_flow.specs.Plan.{Plan, standard}
 use Rattle.lra_flow.specs.Pass.{Entry, value, failing, Result, goes_on, jumps, GoesRound, GoesFrom, Grows, Narrows, Pass}
 use Rattle.lra_flow.specs.Analysis.{Written, IsUnreachable}
 use Rattle.lra_walks.proofs.LoopExamples.{boxes, between, at_least, one, none, narrowed, between_sound, declared, declaring}
@@ -90,7 +90,7 @@ returned_at v = record { entries = value 8 v ∷ []; normal = nowhere; breaks = 
 abbrev box_of : Option (List Interval) → Content
 box_of o = record { dims = 2; bounds = o }
 
-breaking : (set : Options) (o : Option (List Interval)) → Pass Content Content boxes set (seq (point 6) (seq (act 6 (keep 2)) (leave 2 broken))) None (box_of o) (broken_at (box_of o))
+breaking : (set : Plan) (o : Option (List Interval)) → Pass Content Content boxes set (seq (point 6) (seq (act 6 (keep 2)) (leave 2 broken))) None (box_of o) (broken_at (box_of o))
 breaking set o = (
   goes_on (value 6 (box_of o) ∷ []) (box_of o) None,
   jumps broken (box_of o) nowhere None,
@@ -99,7 +99,7 @@ breaking set o = (
   refl,
 )
 
-module _ (set : Options) (a x y z : Interval) (o : Option (List Interval))
+module _ (set : Plan) (a x y z : Interval) (o : Option (List Interval))
     (is_three : StepsTo (test Ge three) (two a x) (box_of o)) (is_under : StepsTo (test Ge under_three) (two a x) (two a y)) (is_next : StepsTo (assign 1 next_b) (two a y) (two a z)) where
   leaves_first : Pass Content Content boxes set leaving None (two a x)
       (record { entries = value 5 (two a x) ∷ value 6 (box_of o) ∷ []; normal = two a y; breaks = box_of o ∷ []; continues = []; returns = []; flag = None })
@@ -224,7 +224,7 @@ abbrev inner_loop_found : Interval → Result Content
 inner_loop_found a = record { entries = inner_entries a; normal = two a (between 3 3); breaks = []; continues = []; returns = two a (between 0 2) ∷ []; flag = None }
 
 -- the inner loop where b begins with 0: its heads have b 0..0, 0..1 and 0.. , and it is narrowed to 0..3
-module _ (set : Options) (a : Interval) (sound : IsSound a) (order : crossed a ≡ false) (low_joined : lesser_low a.low a.low ≡ a.low) (high_joined : greater a.high a.high ≡ a.high)
+module _ (set : Plan) (a : Interval) (sound : IsSound a) (order : crossed a ≡ false) (low_joined : lesser_low a.low a.low ≡ a.low) (high_joined : greater a.high a.high ≡ a.high)
     (low_widened : widened_low a.low a.low ≡ a.low) (high_widened : stable a.high a.high ≡ a.high) where
   at_three : (x : Interval) (o : Option (List Interval)) → box_of o ≡ stepped (test Ge three) (two a x) → StepsTo (test Ge three) (two a x) (box_of o)
   at_three x o is = record { table = is; extremes = tt }
@@ -242,7 +242,7 @@ module _ (set : Options) (a : Interval) (sound : IsSound a) (order : crossed a �
   abbrev found_from : Interval → Option (List Interval) → Interval → Interval → Result Content
   found_from x o y z = inner_found (value 4 (two a x) ∷ value 5 (two a x) ∷ []) (box_of o) (two a y) (two a z)
 
-  inner_heads : Grows Content Content boxes 4 0 endless (Pass Content Content boxes set loop_body) false 1 None (two a (between 0 0)) (two a (between 0 1) ∷ two a (at_least 0) ∷ [])
+  inner_heads : Grows Content Content boxes 4 0 endless (Pass Content Content boxes set loop_body) standard 1 None (two a (between 0 0)) (two a (between 0 1) ∷ two a (at_least 0) ∷ [])
       (two a (at_least 0))
       (found_from (at_least 0) (Some (a ∷ at_least 3 ∷ [])) (between 0 2) (between 1 3))
   inner_heads = (
@@ -438,7 +438,7 @@ sound_3_3 : IsSound (between 3 3)
 sound_3_3 = between_sound 3 3 (lit< tt) (lit< tt) refl
 
 -- the outer heads: a 0..0 and b 0..0; 0..1 and 0..3; 0.. and 0..3
-outer_heads : Grows Content Content boxes 2 0 outer_condition (Pass Content Content boxes (narrowed 1) (seq (catch 2 continued outer_body) empty)) false 1 None
+outer_heads : Grows Content Content boxes 2 0 outer_condition (Pass Content Content boxes (narrowed 1) (seq (catch 2 continued outer_body) empty)) standard 1 None
     (two (between 0 0) (between 0 0)) (two (between 0 1) (between 0 3) ∷ two (at_least 0) (between 0 3) ∷ []) (two (at_least 0) (between 0 3))
     (outer_found (value 2 (two (at_least 0) (between 0 3)) ∷ []) (between 0 4) (between 0 3) (between 1 5))
 outer_heads = (

@@ -12,9 +12,8 @@ ghost use Rattle.lra_walks.specs.Sample.{sample_asserts};
 use lra_base::Comparison;
 use lra_box::Boxes;
 use lra_domain::Domain;
-use lra_iter::analyse;
+use lra_iter::{Plan, analyse};
 use lra_operations::{Graph, Node, Op, Path, Site};
-use lra_options::Options;
 use lra_program::{Cond, Expr, Slot};
 use std::alloc::{AllocError, Global};
 
@@ -140,14 +139,11 @@ fn rows_of(alloc: Global, value: &Boxes) -> Result<Vec<[i128; 2]>, AllocError> {
 #[test]
 fn levels_of_conditions(rt: HostRuntime) -> Result<(), AllocError> {
     let alloc = rt.alloc();
-    let options = Options {
-        domain: lra_options::Domain::Box,
-        ..lra_options::DEFAULT_OPTIONS
-    };
+    let plan = Plan::of(alloc, lra_options::DEFAULT_OPTIONS, &[])?;
     let want: [&[[i128; 2]]; 5] = [&[], &[], &[[-1, 1]], &[[0, -1]], &[[0, 1]]];
     'levels: for levels in &[0, 1, 63] {
         let graph = sample(alloc, nested(alloc, *levels)?)?;
-        let solution = analyse::<Boxes>(alloc, &options, &[], &graph)?;
+        let solution = analyse::<Boxes>(alloc, &plan, &[], &graph)?;
         let mut found = Vec::new(alloc);
         'points: for value in &solution.values {
             found.push(rows_of(alloc, value)?)?;

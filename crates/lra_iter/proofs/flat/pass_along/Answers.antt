@@ -15,7 +15,7 @@ leaves-preserved g c =
     let others = row (map node_view c.in-Some.behind.now) (node_view last) in
     let first : l.left.now ≡ c.in-Some.node.now ∷ c.in-Some.behind.now = search rules in
     record {
-      loop = flat_next g.D.Domain.meaning c.args.options.now _ _ (leaf_view c.leaf_of-leaf.result) others c.args.so_far.now l.so_far
+      loop = flat_next g.D.Domain.meaning c.args.plan.now _ _ (leaf_view c.leaf_of-leaf.result) others c.args.so_far.now l.so_far
           c.pass_on.new.so_far (row_first l.left.now c.in-Some.behind.now c.in-Some.node.now last first
           ∙ ap (λ x. seq x others) c.leaf_of-leaf.ensures) c.in_ok-pass_on.ensures l.invariant.loop;
       leaves = (first_leaf l.left.now c.in-Some.behind.now c.in-Some.node.now first l.invariant.leaves).1;
@@ -24,7 +24,7 @@ leaves-preserved g c =
 pub returns : goal.returns
 returns g c =
     let m = g.D.Domain.meaning in
-    let set = c.args.options.now in
+    let set = c.args.plan.now in
     let l = c.leaves in
     let last = c.args.the_row.last.now in
     let all = row (map node_view c.args.the_row.trees.now) (node_view last) in

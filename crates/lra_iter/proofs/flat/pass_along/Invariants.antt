@@ -6,7 +6,7 @@ use Rattle.lra_iter.proofs.flat.pass_along.Given as goal
 
 abbrev pub invariant-leaves : goal.invariant-leaves
 invariant-leaves g l = record {
-  loop : FlatLoop g.D.Domain.meaning l.options (row (map node_view l.fn.the_row.trees.now) (node_view l.fn.the_row.last.now))
+  loop : FlatLoop g.D.Domain.meaning l.plan (row (map node_view l.fn.the_row.trees.now) (node_view l.fn.the_row.last.now))
       (row (map node_view l.left) (node_view l.fn.the_row.last.now)) l.fn.so_far l.so_far;
   leaves : AllLeaves l.left;
 }

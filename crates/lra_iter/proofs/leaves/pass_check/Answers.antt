@@ -12,7 +12,7 @@ use Rattle.lra_iter.proofs.LeafSteps.{entry_more, flagged_so, flagged_twice, goe
 use Rattle.lra_iter.proofs.leaves.pass_check.Goals as goal
 
 pub returns : goal.returns
-returns g c options =
+returns g c plan =
     let m = g.D.Domain.meaning in
     let so_far = c.args.so_far.now in
     let at = c.args.point in
@@ -26,7 +26,7 @@ returns g c options =
     (record { value = so_far.normal; exactness = Exactness.Exact }) sides =
     subst (λ v. SplitsBy m c.args.base true condition
     (record { value = v; exactness = Exactness.Exact }) sides) c.in_ok-copy.ensures c.in_ok-sides.ensures in
-    goes_further m options so_far (check at c.args.base condition) c.push.new.self xs on.value c.note-so_far.result
+    goes_further m plan so_far (check at c.args.base condition) c.push.new.self xs on.value c.note-so_far.result
     (entry_more so_far.found.entries.items c.push.new.self.items _ _ c.in_ok-push.ensures.items refl) (
       off.value,
       on.value,

@@ -6,5 +6,5 @@ use Rattle.lra_iter.proofs.leaves.pass_leaf.Goals as goal
 pub returns : goal.returns
 returns g c =
     let begun = c.nothing_yet-outcome.ensures in
-    passed_alone g.D.Domain.meaning c.args.options.now c.nothing_yet-outcome.result (leaf_view c.args.leaf.now) c.pass_on.new.so_far
+    passed_alone g.D.Domain.meaning c.args.plan.now c.nothing_yet-outcome.result (leaf_view c.args.leaf.now) c.pass_on.new.so_far
     c.args.flag c.args.value begun.found begun.normal begun.flag c.in_ok-pass_on.ensures

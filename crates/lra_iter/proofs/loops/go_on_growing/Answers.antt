@@ -1,6 +1,6 @@
 -- Goals of `go_on_growing`: behind a round of a loop whose head grows.
 use Rattle.std.proofs.Common.{ap, ◌∙◌, ◌^◌}
-use Rattle.lra_options.specs.declared.options.Options.{Options}
+use Rattle.lra_flow.specs.Plan.{Plan}
 use Rattle.lra_iter.proofs.LoopPlaces.{grown_wide, grown_stable, grown_next}
 use Rattle.lra_iter.proofs.TurnSteps.{stable_less, grown_less}
 use Rattle.lra_iter.proofs.loops.go_on_growing.Goals as goal
@@ -17,25 +17,25 @@ narrow_on-requires g c =
       given.0,
       given.1,
       given.3,
-      grown_stable g.D.Domain.meaning given.0 c.args.place given.1 given.2 c.args.outcome
+      rw c.narrow-left.ensures (grown_stable g.D.Domain.meaning given.0 c.args.place given.1 given.2 c.args.outcome
           c.args.memory.now given.3 given.4 given.5 c.into_value-value.result (c.into_value-value.ensures ∙ by.same c.if-stable.true)
-          (by.stays c.if-stable.true),
+          (by.stays c.if-stable.true)),
     )
 
 pub returns-then-stable-clause-leads : goal.returns-then-stable-clause-leads
 returns-then-stable-clause-leads g c set whole part may owed made =
     let by = c.in_ok-stable.ensures in
-    c.narrow_on.ensures.leads set whole may (grown_stable g.D.Domain.meaning set c.args.place whole part c.args.outcome
-    c.args.memory.now may owed made c.into_value-value.result (c.into_value-value.ensures ∙ by.same c.if-stable.true)
-    (by.stays c.if-stable.true))
+    c.narrow_on.ensures.leads set whole may (rw c.narrow-left.ensures (grown_stable g.D.Domain.meaning set c.args.place whole part
+    c.args.outcome c.args.memory.now may owed made c.into_value-value.result (c.into_value-value.ensures ∙ by.same c.if-stable.true)
+    (by.stays c.if-stable.true)))
 
 pub returns-then-stable-clause-falls : goal.returns-then-stable-clause-falls
-returns-then-stable-clause-falls g c set options =
+returns-then-stable-clause-falls g c set plan =
     let m = g.D.Domain.meaning in
     let l = c.args.place.the_loop in
     let growing = c.args.place.growing in
-    stable_less m set c.narrow_on.result l l.options.now.narrow growing.left (m.rank growing.head)
-    (ap (λ (x : Options). x.narrow) options) (c.narrow_on.ensures.steps (2 ^ 64) set)
+    stable_less m set c.narrow_on.result l l.plan.now.narrow growing.left (m.rank growing.head)
+    (ap (λ (x : Plan). x.narrow) plan) (rw c.narrow-left.ensures at c.narrow_on.ensures.steps (2 ^ 64) set)
 
 pub turn_growing-requires : goal.turn_growing-requires
 turn_growing-requires g c =
@@ -56,11 +56,11 @@ returns-clause-leads g c set whole part may owed made =
     c.args.outcome c.args.memory.now may owed made grew.0 c.grow_by.new.growing grew.1)
 
 pub returns-clause-falls : goal.returns-clause-falls
-returns-clause-falls g c set options =
+returns-clause-falls g c set plan =
     let m = g.D.Domain.meaning in
     let l = c.args.place.the_loop in
     let before = c.args.place.growing in
     let after = c.grow_by.new.growing in
     let by = (c.in_ok-stable.ensures.grew c.if-stable.false).1 in
-    grown_less m set c.turn_growing.result l l.options.now.limited before.left after.left (m.rank before.head)
+    grown_less m set c.turn_growing.result l l.plan.now.widening before.left after.left (m.rank before.head)
     (m.rank after.head) by.fits by.left by.lower (c.turn_growing.ensures.steps (2 ^ 64) set)

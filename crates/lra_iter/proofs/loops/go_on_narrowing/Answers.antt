@@ -19,4 +19,4 @@ returns-clause-leads g c set whole part may owed made =
     c.args.memory.now may owed made)
 
 pub returns-clause-falls : goal.returns-clause-falls
-returns-clause-falls g c set options = c.narrow_on.ensures.steps (2 ^ 64) set
+returns-clause-falls g c set plan = c.narrow_on.ensures.steps (2 ^ 64) set

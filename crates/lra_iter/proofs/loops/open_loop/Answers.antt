@@ -1,6 +1,6 @@
 -- Goals of `open_loop`: a loop's head starts, unless what the loop gave for this value is kept.
 use Rattle.std.proofs.Common.{ap, ◌∙◌, ◌^◌}
-use Rattle.lra_options.specs.declared.options.Options.{Options}
+use Rattle.lra_flow.specs.Plan.{Plan}
 use Rattle.lra_iter.proofs.LoopPlaces.{due_few, head_opens, loop_recalled}
 use Rattle.lra_iter.proofs.TurnSteps.{begun_less}
 use Rattle.lra_iter.proofs.loops.open_loop.Goals as goal
@@ -37,9 +37,9 @@ returns-clause-leads g c set whole here =
     begun.started begun.fits begun.valued begun.left)
 
 pub returns-clause-steps : goal.returns-clause-steps
-returns-clause-steps g c set options =
+returns-clause-steps g c set plan =
     let m = g.D.Domain.meaning in
     let begun = c.in_ok-growing.ensures in
     let growing = c.in_ok-growing.growing in
     begun_less m set c.turn_growing.result c.args.the_loop growing.left (m.rank growing.head)
-    (begun.left ∙ ap (λ (x : Options). x.delay) options) begun.fits (c.turn_growing.ensures.steps (2 ^ 64) set)
+    (begun.left ∙ ap (λ (x : Plan). x.delay) plan) begun.fits (c.turn_growing.ensures.steps (2 ^ 64) set)

@@ -27,7 +27,7 @@ returns-in-Again-clause-leads g c set whole memory may head =
     let m = g.D.Domain.meaning in
     let l = c.args.the_loop in
     let growing = c.args.growing in
-    let entered = subst (λ r. IsEntered m l.options.now l.point l.base (cond_view l.condition.now)
+    let entered = subst (λ r. IsEntered m l.plan.now l.point l.base (cond_view l.condition.now)
     (node_view l.body.now) growing.flag growing.value r) c.in-Again.is c.in_ok-turn.ensures in
     let parts = c.into_parts-entered in
     growing_made m set c.again.result (place_of l c.args.first growing parts.result.0) parts.result.1 whole memory
@@ -45,7 +45,7 @@ returns-in-Anew-clause-leads g c set whole memory may head =
     let m = g.D.Domain.meaning in
     let l = c.args.the_loop in
     let growing = c.args.growing in
-    let entered = subst (λ r. IsEntered m l.options.now l.point l.base (cond_view l.condition.now)
+    let entered = subst (λ r. IsEntered m l.plan.now l.point l.base (cond_view l.condition.now)
     (node_view l.body.now) growing.flag growing.value r) c.in-Anew.is c.in_ok-turn.ensures in
     growing_leads m set c.opens.result (place_of l c.args.first growing c.in-Anew.entered)
     (record { node = l.body; value = c.in-Anew.value; flag = c.in-Anew.flag }) whole memory c.opens.ensures

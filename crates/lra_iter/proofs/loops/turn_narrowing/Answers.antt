@@ -21,7 +21,7 @@ returns-in-Again-clause-leads g c set whole memory may waiting =
     let m = g.D.Domain.meaning in
     let n = c.args.narrowing in
     let l = n.the_loop in
-    let entered = subst (λ r. IsEntered m l.options.now l.point l.base (cond_view l.condition.now)
+    let entered = subst (λ r. IsEntered m l.plan.now l.point l.base (cond_view l.condition.now)
     (node_view l.body.now) c.args.flag n.top r) c.in-Again.is c.in_ok-turn.ensures in
     let parts = c.into_parts-entered in
     narrowing_made m set c.again.result (record { narrowing = n; entered = parts.result.0 }) parts.result.1 whole memory
@@ -39,7 +39,7 @@ returns-in-Anew-clause-leads g c set whole memory may waiting =
     let m = g.D.Domain.meaning in
     let n = c.args.narrowing in
     let l = n.the_loop in
-    let entered = subst (λ r. IsEntered m l.options.now l.point l.base (cond_view l.condition.now)
+    let entered = subst (λ r. IsEntered m l.plan.now l.point l.base (cond_view l.condition.now)
     (node_view l.body.now) c.args.flag n.top r) c.in-Anew.is c.in_ok-turn.ensures in
     narrowing_leads m set c.opens.result (record { narrowing = n; entered = c.in-Anew.entered })
     (record { node = l.body; value = c.in-Anew.value; flag = c.in-Anew.flag }) whole memory c.opens.ensures

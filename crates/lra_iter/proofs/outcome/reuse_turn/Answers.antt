@@ -4,6 +4,6 @@ use Rattle.lra_iter.proofs.Again.{same_given}
 use Rattle.lra_iter.proofs.outcome.reuse_turn.Goals as goal
 
 pub returns : goal.returns
-returns g c options body kept =
+returns g c plan body kept =
     let same : c.in-Some.turn.entered ≡ c.args.on.now = search rules in
-    same_given g.D.Domain.meaning options body c.args.flag c.args.on.now c.args.kept c.in-Some.turn c.in-Some.is same kept
+    same_given g.D.Domain.meaning plan body c.args.flag c.args.on.now c.args.kept c.in-Some.turn c.in-Some.is same kept

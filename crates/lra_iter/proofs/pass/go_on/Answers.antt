@@ -111,7 +111,7 @@ returns-in-Growing-clause-falls g c set whole part owed =
     let inside = subst (λ x. IsGrowing m set x whole part) (sym c.into_inner-in-Growing.ensures) here in
     let less = subst (λ (x : GrowingPlace _ _). IfOk c.go_on_growing.result (λ n. next_left m (2 ^ 64) set n <
     turns_left m (2 ^ 64) set x.the_loop (set.narrow + rounds_left (2 ^ 64) x.growing.left (m.rank x.growing.head))))
-    c.into_inner-in-Growing.ensures (c.go_on_growing.ensures.falls set inside.head.loop.options) in
+    c.into_inner-in-Growing.ensures (c.go_on_growing.ensures.falls set inside.head.loop.plan) in
     subst (λ p. IfOk c.go_on_growing.result (λ n. next_left m (2 ^ 64) set n < place_left m (2 ^ 64) set p))
     (sym c.in-Growing.is) less
 
@@ -143,7 +143,7 @@ returns-in-Narrowing-clause-falls g c set whole part owed =
     let inside = subst (λ x. IsNarrowing m set x whole part) (sym c.into_inner-in-Narrowing.ensures) here in
     let less = subst (λ (x : NarrowingPlace _). IfOk c.go_on_narrowing.result (λ n. next_left m (2 ^ 64) set n <
     turns_left m (2 ^ 64) set x.narrowing.the_loop x.narrowing.left))
-    c.into_inner-in-Narrowing.ensures (c.go_on_narrowing.ensures.falls set inside.waiting.loop.options) in
+    c.into_inner-in-Narrowing.ensures (c.go_on_narrowing.ensures.falls set inside.waiting.loop.plan) in
     subst (λ p. IfOk c.go_on_narrowing.result (λ n. next_left m (2 ^ 64) set n < place_left m (2 ^ 64) set p))
     (sym c.in-Narrowing.is) less
 

@@ -1,7 +1,7 @@
 -- Goals of `open_tree`: the first step into a tree.
 use Rattle.std.proofs.Common.{◌<◌, ◌≤◌, ◌^◌, refl, sym, subst, arith}
 use Rattle.std.specs.Prelude.{IfOk}
-use Rattle.lra_options.specs.declared.options.Options.{Options}
+use Rattle.lra_flow.specs.Plan.{Plan}
 use Rattle.lra_iter.specs.declared.shapes.Shape.{Shape}
 use Rattle.lra_iter.specs.declared.shapes.Shape.TheVariants.{Leaf, Row, Choice, Loop, Catch}
 use Rattle.lra_iter.specs.Fits.{TreeFits}
@@ -20,8 +20,8 @@ use Rattle.lra_iter.proofs.pass.open_tree.Goals as goal
 pub pass_leaf-requires : goal.pass_leaf-requires
 pass_leaf-requires g c =
     let tree = c.args.tree in
-    let shape : IsShape c.args.options.now tree.node.now (Leaf c.in-Leaf.leaf) =
-    subst (λ (x : Shape). IsShape c.args.options.now tree.node.now x) c.in-Leaf.is c.of.ensures in
+    let shape : IsShape c.args.plan.now tree.node.now (Leaf c.in-Leaf.leaf) =
+    subst (λ (x : Shape). IsShape c.args.plan.now tree.node.now x) c.in-Leaf.is c.of.ensures in
     let fits : TreeFits (leaf_view c.in-Leaf.leaf) (g.D.Domain.meaning.dims tree.value) =
     subst (λ x. TreeFits x (g.D.Domain.meaning.dims tree.value)) shape.0 c.requires.may.fits in
     record { parts = c.requires.parts; few = c.requires.may.few; fits = fits }
@@ -29,7 +29,7 @@ pass_leaf-requires g c =
 pub returns-in-Leaf-clause-leads : goal.returns-in-Leaf-clause-leads
 returns-in-Leaf-clause-leads g c =
     let m = g.D.Domain.meaning in
-    let set = c.args.options.now in
+    let set = c.args.plan.now in
     let tree = c.args.tree in
     let whole = due tree c.args.memory.now in
     let leaf = leaf_view c.in-Leaf.leaf in
@@ -42,7 +42,7 @@ returns-in-Leaf-clause-leads g c =
 pub returns-in-Leaf-clause-falls : goal.returns-in-Leaf-clause-falls
 returns-in-Leaf-clause-falls g c =
     let m = g.D.Domain.meaning in
-    let set = c.args.options.now in
+    let set = c.args.plan.now in
     let tree = c.args.tree in
     let shape : IsShape set tree.node.now (Leaf c.in-Leaf.leaf) =
     subst (λ (x : Shape). IsShape set tree.node.now x) c.in-Leaf.is c.of.ensures in
@@ -55,13 +55,13 @@ returns-in-Leaf-clause-falls g c =
 pub open_row-requires : goal.open_row-requires
 open_row-requires g c =
     let tree = c.args.tree in
-    let shape : IsShape c.args.options.now tree.node.now (Row c.in-Row.row) =
-    subst (λ (x : Shape). IsShape c.args.options.now tree.node.now x) c.in-Row.is c.of.ensures in
+    let shape : IsShape c.args.plan.now tree.node.now (Row c.in-Row.row) =
+    subst (λ (x : Shape). IsShape c.args.plan.now tree.node.now x) c.in-Row.is c.of.ensures in
     record {
-      parts = subst (λ (s : Options). 1 ≤ s.parts) (sym shape.2) c.requires.parts;
+      parts = subst (λ (s : Plan). 1 ≤ s.parts) (sym shape.2) c.requires.parts;
       way = (
         due tree c.args.memory.now,
-        subst (λ (s : Options). MayBePassed g.D.Domain.meaning s (due tree c.args.memory.now)) (sym shape.2) c.requires.may,
+        subst (λ (s : Plan). MayBePassed g.D.Domain.meaning s (due tree c.args.memory.now)) (sym shape.2) c.requires.may,
         shape.0,
         refl,
         refl,
@@ -71,14 +71,14 @@ open_row-requires g c =
 pub returns-in-Row-clause-leads : goal.returns-in-Row-clause-leads
 returns-in-Row-clause-leads g c =
     let tree = c.args.tree in
-    let shape : IsShape c.args.options.now tree.node.now (Row c.in-Row.row) =
-    subst (λ (x : Shape). IsShape c.args.options.now tree.node.now x) c.in-Row.is c.of.ensures in
-    c.open_row.ensures.leads c.args.options.now (due tree c.args.memory.now) shape.2 shape.0 refl refl c.requires.may
+    let shape : IsShape c.args.plan.now tree.node.now (Row c.in-Row.row) =
+    subst (λ (x : Shape). IsShape c.args.plan.now tree.node.now x) c.in-Row.is c.of.ensures in
+    c.open_row.ensures.leads c.args.plan.now (due tree c.args.memory.now) shape.2 shape.0 refl refl c.requires.may
 
 pub returns-in-Row-clause-falls : goal.returns-in-Row-clause-falls
 returns-in-Row-clause-falls g c =
     let m = g.D.Domain.meaning in
-    let set = c.args.options.now in
+    let set = c.args.plan.now in
     let tree = c.args.tree in
     let shape : IsShape set tree.node.now (Row c.in-Row.row) =
     subst (λ (x : Shape). IsShape set tree.node.now x) c.in-Row.is c.of.ensures in
@@ -90,14 +90,14 @@ returns-in-Row-clause-falls g c =
 pub returns-in-Choice-clause-leads : goal.returns-in-Choice-clause-leads
 returns-in-Choice-clause-leads g c =
     let tree = c.args.tree in
-    let shape : IsShape c.args.options.now tree.node.now (Choice c.in-Choice.choice) =
-    subst (λ (x : Shape). IsShape c.args.options.now tree.node.now x) c.in-Choice.is c.of.ensures in
-    c.open_choice.ensures.leads c.args.options.now (due tree c.args.memory.now) shape.2 shape.0 refl refl c.requires.may
+    let shape : IsShape c.args.plan.now tree.node.now (Choice c.in-Choice.choice) =
+    subst (λ (x : Shape). IsShape c.args.plan.now tree.node.now x) c.in-Choice.is c.of.ensures in
+    c.open_choice.ensures.leads c.args.plan.now (due tree c.args.memory.now) shape.2 shape.0 refl refl c.requires.may
 
 pub returns-in-Choice-clause-falls : goal.returns-in-Choice-clause-falls
 returns-in-Choice-clause-falls g c =
     let m = g.D.Domain.meaning in
-    let set = c.args.options.now in
+    let set = c.args.plan.now in
     let tree = c.args.tree in
     let choice = c.in-Choice.choice in
     let shape : IsShape set tree.node.now (Choice choice) =
@@ -111,20 +111,20 @@ returns-in-Choice-clause-falls g c =
 pub open_loop-requires : goal.open_loop-requires
 open_loop-requires g c =
     let tree = c.args.tree in
-    let shape : IsShape c.args.options.now tree.node.now (Loop c.in-Loop.the_loop) =
-    subst (λ (x : Shape). IsShape c.args.options.now tree.node.now x) c.in-Loop.is c.of.ensures in (
-      c.args.options.now,
+    let shape : IsShape c.args.plan.now tree.node.now (Loop c.in-Loop.the_loop) =
+    subst (λ (x : Shape). IsShape c.args.plan.now tree.node.now x) c.in-Loop.is c.of.ensures in (
+      c.args.plan.now,
       due tree c.args.memory.now,
-      record { options = shape.2; is = shape.0; first_is = refl; flagged = refl; kept = refl; may = c.requires.may },
+      record { plan = shape.2; is = shape.0; first_is = refl; flagged = refl; kept = refl; may = c.requires.may },
     )
 
 pub returns-in-Loop-clause-leads : goal.returns-in-Loop-clause-leads
 returns-in-Loop-clause-leads g c =
     let tree = c.args.tree in
-    let shape : IsShape c.args.options.now tree.node.now (Loop c.in-Loop.the_loop) =
-    subst (λ (x : Shape). IsShape c.args.options.now tree.node.now x) c.in-Loop.is c.of.ensures in
-    c.open_loop.ensures.leads c.args.options.now (due tree c.args.memory.now) (record {
-      options = shape.2;
+    let shape : IsShape c.args.plan.now tree.node.now (Loop c.in-Loop.the_loop) =
+    subst (λ (x : Shape). IsShape c.args.plan.now tree.node.now x) c.in-Loop.is c.of.ensures in
+    c.open_loop.ensures.leads c.args.plan.now (due tree c.args.memory.now) (record {
+      plan = shape.2;
       is = shape.0;
       first_is = refl;
       flagged = refl;
@@ -135,7 +135,7 @@ returns-in-Loop-clause-leads g c =
 pub returns-in-Loop-clause-falls : goal.returns-in-Loop-clause-falls
 returns-in-Loop-clause-falls g c =
     let m = g.D.Domain.meaning in
-    let set = c.args.options.now in
+    let set = c.args.plan.now in
     let tree = c.args.tree in
     let shape : IsShape set tree.node.now (Loop c.in-Loop.the_loop) =
     subst (λ (x : Shape). IsShape set tree.node.now x) c.in-Loop.is c.of.ensures in
@@ -148,15 +148,15 @@ pub returns-in-Catch-clause-leads : goal.returns-in-Catch-clause-leads
 returns-in-Catch-clause-leads g c =
     let tree = c.args.tree in
     let catch = c.in-Catch.catch in
-    let shape : IsShape c.args.options.now tree.node.now (Catch catch) =
-    subst (λ (x : Shape). IsShape c.args.options.now tree.node.now x) c.in-Catch.is c.of.ensures in
-    catch_leads g.D.Domain.meaning c.args.options.now catch.point catch.exit catch.body.now tree.value tree.flag
+    let shape : IsShape c.args.plan.now tree.node.now (Catch catch) =
+    subst (λ (x : Shape). IsShape c.args.plan.now tree.node.now x) c.in-Catch.is c.of.ensures in
+    catch_leads g.D.Domain.meaning c.args.plan.now catch.point catch.exit catch.body.now tree.value tree.flag
     (due tree c.args.memory.now) shape.0 refl refl c.requires.may
 
 pub returns-in-Catch-clause-falls : goal.returns-in-Catch-clause-falls
 returns-in-Catch-clause-falls g c =
     let tree = c.args.tree in
-    let shape : IsShape c.args.options.now tree.node.now (Catch c.in-Catch.catch) =
-    subst (λ (x : Shape). IsShape c.args.options.now tree.node.now x) c.in-Catch.is c.of.ensures in
-    let all = shape.1 (most_rounds (2 ^ 64) c.args.options.now) in
+    let shape : IsShape c.args.plan.now tree.node.now (Catch c.in-Catch.catch) =
+    subst (λ (x : Shape). IsShape c.args.plan.now tree.node.now x) c.in-Catch.is c.of.ensures in
+    let all = shape.1 (most_rounds (2 ^ 64) c.args.plan.now) in
     omega (arith, all)

@@ -13,7 +13,7 @@ open_tree-requires g c = record {
 }
 
 pub steps-init : goal.steps-init
-steps-init g c = begins g.D.Domain.meaning c.args.options.now c.none-places.result.open.items (record {
+steps-init g c = begins g.D.Domain.meaning c.args.plan.now c.none-places.result.open.items (record {
   tree = node_view c.args.node.now;
   value = c.args.value;
   flag = c.args.flag;
@@ -46,7 +46,7 @@ returns-in-Ended-clause-passed g c =
       flag = c.args.flag;
       memory = c.args.memory.now;
     } in
-    (subst (λ s. Reaches m c.args.options.now c.take_step.new.places.open.items whole s c.take_step.new.memory)
+    (subst (λ s. Reaches m c.args.plan.now c.take_step.new.places.open.items whole s c.take_step.new.memory)
     c.in-Ended.is (c.in_ok-outcome.ensures.leads whole c.steps.invariant)).passed
 
 pub returns-in-Ended-clause-stays : goal.returns-in-Ended-clause-stays
@@ -58,7 +58,7 @@ returns-in-Ended-clause-stays g c =
       flag = c.args.flag;
       memory = c.args.memory.now;
     } in
-    (subst (λ s. Reaches m c.args.options.now c.take_step.new.places.open.items whole s c.take_step.new.memory)
+    (subst (λ s. Reaches m c.args.plan.now c.take_step.new.places.open.items whole s c.take_step.new.memory)
     c.in-Ended.is (c.in_ok-outcome.ensures.leads whole c.steps.invariant)).stays
 
 -- it goes on ----------------------------------------------------------------------------------------------------------
@@ -72,7 +72,7 @@ steps-preserved g c =
       flag = c.args.flag;
       memory = c.args.memory.now;
     } in
-    subst (λ s. Reaches m c.args.options.now c.take_step.new.places.open.items whole s c.take_step.new.memory)
+    subst (λ s. Reaches m c.args.plan.now c.take_step.new.places.open.items whole s c.take_step.new.memory)
     c.in-Goes.is (c.in_ok-outcome.ensures.leads whole c.steps.invariant)
 
 pub steps-smaller : goal.steps-smaller
@@ -84,6 +84,6 @@ steps-smaller g c =
       flag = c.args.flag;
       memory = c.args.memory.now;
     } in
-    subst (λ s. TakesFewer m (2 ^ 64) c.args.options.now c.take_step.new.places.open.items s
-    (all_left m (2 ^ 64) c.args.options.now c.steps.places.open.items c.steps.next))
+    subst (λ s. TakesFewer m (2 ^ 64) c.args.plan.now c.take_step.new.places.open.items s
+    (all_left m (2 ^ 64) c.args.plan.now c.steps.places.open.items c.steps.next))
     c.in-Goes.is (c.in_ok-outcome.ensures.falls whole c.steps.invariant)

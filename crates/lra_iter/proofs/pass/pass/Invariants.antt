@@ -5,8 +5,8 @@ use Rattle.lra_iter.specs.Steps.{all_left}
 use Rattle.lra_iter.proofs.pass.pass.Given as goal
 
 abbrev pub invariant-steps : goal.invariant-steps
-invariant-steps g l = AreUnderWay g.D.Domain.meaning l.options l.places.open.items
+invariant-steps g l = AreUnderWay g.D.Domain.meaning l.plan l.places.open.items
     (record { tree = node_view l.node; value = l.fn.value; flag = l.fn.flag; memory = l.fn.memory }) l.next l.memory
 
 abbrev pub decreases-steps : goal.decreases-steps
-decreases-steps g l = all_left g.D.Domain.meaning (2 ^ 64) l.options l.places.open.items l.next
+decreases-steps g l = all_left g.D.Domain.meaning (2 ^ 64) l.plan l.places.open.items l.next

@@ -11,7 +11,7 @@ use Rattle.lra_iter.proofs.pass.take_step.Goals as goal
 
 pub returns-in-None-clause-leads : goal.returns-in-None-clause-leads
 returns-in-None-clause-leads g c whole way =
-    all_made g.D.Domain.meaning c.args.options.now c.args.places.now.open.items whole c.args.next c.args.memory.now way
+    all_made g.D.Domain.meaning c.args.plan.now c.args.places.now.open.items whole c.args.next c.args.memory.now way
     c.in-Passed.outcome c.in-Passed.is (c.pop.ensures.none c.in-None.is)
 
 -- the innermost goes on -----------------------------------------------------------------------------------------------
@@ -19,15 +19,15 @@ returns-in-None-clause-leads g c whole way =
 pub go_on-requires : goal.go_on-requires
 go_on-requires g c =
     let whole = c.requires.way.0 in
-    let behind = popped g.D.Domain.meaning c.args.options.now c.args.places.now.open.items whole c.args.next c.args.memory.now
+    let behind = popped g.D.Domain.meaning c.args.plan.now c.args.places.now.open.items whole c.args.next c.args.memory.now
     c.requires.way.1 c.pop.new.self.open.items c.pop.result c.in-Some.place c.in-Passed.outcome c.in-Passed.is
     c.pop.ensures.left c.in-Some.is in
-    (c.args.options.now, behind.0, behind.1, behind.3, behind.4, behind.5, c.requires.parts)
+    (c.args.plan.now, behind.0, behind.1, behind.3, behind.4, behind.5, c.requires.parts)
 
 pub returns-in-Some-clause-leads : goal.returns-in-Some-clause-leads
 returns-in-Some-clause-leads g c whole way =
     let m = g.D.Domain.meaning in
-    let set = c.args.options.now in
+    let set = c.args.plan.now in
     let left = c.pop.new.self.open.items in
     let new = c.go_on.new.memory in
     let behind = popped m set c.args.places.now.open.items whole c.args.next c.args.memory.now way left c.pop.result
@@ -39,7 +39,7 @@ returns-in-Some-clause-leads g c whole way =
 pub returns-in-Some-clause-falls : goal.returns-in-Some-clause-falls
 returns-in-Some-clause-falls g c whole way =
     let m = g.D.Domain.meaning in
-    let set = c.args.options.now in
+    let set = c.args.plan.now in
     let left = c.pop.new.self.open.items in
     let all = c.args.places.now.open.items in
     let behind = popped m set all whole c.args.next c.args.memory.now way left c.pop.result
@@ -54,7 +54,7 @@ returns-in-Some-clause-falls g c whole way =
 pub go_on-requires-in-Again : goal.go_on-requires-in-Again
 go_on-requires-in-Again g c =
     let m = g.D.Domain.meaning in
-    let set = c.args.options.now in
+    let set = c.args.plan.now in
     let way = c.requires.way.1 in
     let here = leads_on m set c.args.places.now.open.items c.requires.way.0 c.args.next
     c.args.memory.now way (Again c.in-Again.place c.in-Again.outcome) c.in-Again.is in (
@@ -70,7 +70,7 @@ go_on-requires-in-Again g c =
 pub returns-in-Again-clause-leads : goal.returns-in-Again-clause-leads
 returns-in-Again-clause-leads g c whole way =
     let m = g.D.Domain.meaning in
-    let set = c.args.options.now in
+    let set = c.args.plan.now in
     let all = c.args.places.now.open.items in
     let new = c.go_on-in-Again.new.memory in
     let here = leads_on m set all whole c.args.next c.args.memory.now way (Again c.in-Again.place c.in-Again.outcome)
@@ -84,7 +84,7 @@ returns-in-Again-clause-leads g c whole way =
 pub returns-in-Again-clause-falls : goal.returns-in-Again-clause-falls
 returns-in-Again-clause-falls g c whole way =
     let m = g.D.Domain.meaning in
-    let set = c.args.options.now in
+    let set = c.args.plan.now in
     let all = c.args.places.now.open.items in
     let here = leads_on m set all whole c.args.next c.args.memory.now way (Again c.in-Again.place c.in-Again.outcome)
     c.in-Again.is in
@@ -100,14 +100,14 @@ returns-in-Again-clause-falls g c whole way =
 
 pub open_place-requires : goal.open_place-requires
 open_place-requires g c =
-    let here = leads_on g.D.Domain.meaning c.args.options.now c.args.places.now.open.items c.requires.way.0 c.args.next
+    let here = leads_on g.D.Domain.meaning c.args.plan.now c.args.places.now.open.items c.requires.way.0 c.args.next
     c.args.memory.now c.requires.way.1 (Opens c.in-Opens.place c.in-Opens.tree) c.in-Opens.is in
     record { parts = c.requires.parts; may = here.1 }
 
 pub returns-in-Opens-clause-leads : goal.returns-in-Opens-clause-leads
 returns-in-Opens-clause-leads g c whole way =
     let m = g.D.Domain.meaning in
-    let set = c.args.options.now in
+    let set = c.args.plan.now in
     let new = c.open_place.new.memory in
     steps_both c.open_place.result c.goes-in-Opens.result
     (c.open_place.new.places.open.items ≡ c.args.places.now.open.items ++ c.in-Opens.place ∷ [])
@@ -120,7 +120,7 @@ returns-in-Opens-clause-leads g c whole way =
 pub returns-in-Opens-clause-falls : goal.returns-in-Opens-clause-falls
 returns-in-Opens-clause-falls g c whole way =
     let m = g.D.Domain.meaning in
-    let set = c.args.options.now in
+    let set = c.args.plan.now in
     let all = c.args.places.now.open.items in
     steps_both c.open_place.result c.goes-in-Opens.result
     (c.open_place.new.places.open.items ≡ all ++ c.in-Opens.place ∷ [])

@@ -15,8 +15,8 @@ returns-in_default-of g c =
     let all = c.leaves.left.now in
     let first : all ≡ c.in-Some.node.now ∷ c.in-Some.behind.now = search rules in
     record {
-      leads = λ set whole memory options may loop. c.open_first.ensures.leads set whole memory all options first may
-          (c.leaves.invariant.owes set whole memory options may loop);
+      leads = λ set whole memory plan may loop. c.open_first.ensures.leads set whole memory all plan first may
+          (c.leaves.invariant.owes set whole memory plan may loop);
       falls = λ b set. steps_within _ _ _ (c.open_first.ensures.steps b set all first)
           (c.leaves.invariant.steps (most_rounds b set));
     }
@@ -26,28 +26,28 @@ returns-in_default-of g c =
 pub pass_on-requires-clause-few : goal.pass_on-requires-clause-few
 pass_on-requires-clause-few g c =
     let way = c.requires.way in
-    (c.leaves.invariant.owes c.args.the_row.options.now way.0 way.1 refl way.2 way.3).few
+    (c.leaves.invariant.owes c.args.the_row.plan.now way.0 way.1 refl way.2 way.3).few
 
 pub pass_on-requires-clause-fits : goal.pass_on-requires-clause-fits
 pass_on-requires-clause-fits g c =
     let way = c.requires.way in
     let first : c.leaves.left.now ≡ c.in-Some.node.now ∷ c.in-Some.behind.now = search rules in
-    first_fits g.D.Domain.meaning c.args.the_row.options.now c.leaves.left.now c.in-Some.behind.now c.in-Some.node.now
+    first_fits g.D.Domain.meaning c.args.the_row.plan.now c.leaves.left.now c.in-Some.behind.now c.in-Some.node.now
     c.args.the_row.last.now (flat_view c.in-Some-of.flat) way.0 way.1 c.leaves.so_far first c.in-Some-of.ensures.0
-    (c.leaves.invariant.owes c.args.the_row.options.now way.0 way.1 refl way.2 way.3)
+    (c.leaves.invariant.owes c.args.the_row.plan.now way.0 way.1 refl way.2 way.3)
 
 pub leaves-preserved : goal.leaves-preserved
 leaves-preserved g c =
     let first : c.leaves.left.now ≡ c.in-Some.node.now ∷ c.in-Some.behind.now = search rules in
     let behind : Row = record {
-      options = c.args.the_row.options;
+      plan = c.args.the_row.plan;
       trees = c.in-Some.behind;
       last = c.args.the_row.last;
     } in
     record {
-      owes = λ set whole memory options may loop. first_followed g.D.Domain.meaning set behind c.leaves.left.now
-          c.in-Some.node.now (flat_view c.in-Some-of.flat) whole memory c.leaves.so_far c.pass_on.new.so_far options first
-          c.in-Some-of.ensures.0 c.in_ok-pass_on.ensures (c.leaves.invariant.owes set whole memory options may loop);
+      owes = λ set whole memory plan may loop. first_followed g.D.Domain.meaning set behind c.leaves.left.now
+          c.in-Some.node.now (flat_view c.in-Some-of.flat) whole memory c.leaves.so_far c.pass_on.new.so_far plan first
+          c.in-Some-of.ensures.0 c.in_ok-pass_on.ensures (c.leaves.invariant.owes set whole memory plan may loop);
       steps = λ n. steps_less n c.args.the_row.trees.now c.leaves.left.now c.in-Some.behind.now c.in-Some.node.now
           c.args.the_row.last.now first (c.leaves.invariant.steps n);
     }
@@ -57,20 +57,20 @@ leaves-preserved g c =
 pub next_of_last-requires-clause-few : goal.next_of_last-requires-clause-few
 next_of_last-requires-clause-few g c =
     let way = c.requires.way in
-    (c.leaves.invariant.owes c.args.the_row.options.now way.0 way.1 refl way.2 way.3).few
+    (c.leaves.invariant.owes c.args.the_row.plan.now way.0 way.1 refl way.2 way.3).few
 
 pub next_of_last-requires-clause-fits : goal.next_of_last-requires-clause-fits
 next_of_last-requires-clause-fits g c =
     let way = c.requires.way in
     let none = nil_from_length c.leaves.left.now c.in_default.ensures.cases in
-    (row_alone g.D.Domain.meaning c.args.the_row.options.now c.leaves.left.now c.args.the_row.last.now way.0 way.1
-    c.leaves.so_far none (c.leaves.invariant.owes c.args.the_row.options.now way.0 way.1 refl way.2 way.3)).fits
+    (row_alone g.D.Domain.meaning c.args.the_row.plan.now c.leaves.left.now c.args.the_row.last.now way.0 way.1
+    c.leaves.so_far none (c.leaves.invariant.owes c.args.the_row.plan.now way.0 way.1 refl way.2 way.3)).fits
 
 pub returns-clause-leads : goal.returns-clause-leads
-returns-clause-leads g c set whole memory options may loop =
+returns-clause-leads g c set whole memory plan may loop =
     let none = nil_from_length c.leaves.left.now c.in_default.ensures.cases in
-    c.next_of_last.ensures.leads set whole memory options may (row_alone g.D.Domain.meaning set c.leaves.left.now
-    c.args.the_row.last.now whole memory c.leaves.so_far none (c.leaves.invariant.owes set whole memory options may loop))
+    c.next_of_last.ensures.leads set whole memory plan may (row_alone g.D.Domain.meaning set c.leaves.left.now
+    c.args.the_row.last.now whole memory c.leaves.so_far none (c.leaves.invariant.owes set whole memory plan may loop))
 
 pub returns-clause-falls : goal.returns-clause-falls
 returns-clause-falls g c b set =

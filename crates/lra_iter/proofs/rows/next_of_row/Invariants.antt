@@ -5,7 +5,7 @@ use Rattle.lra_iter.proofs.rows.next_of_row.Given as goal
 
 abbrev pub invariant-leaves : goal.invariant-leaves
 invariant-leaves g l = record {
-  owes : OwesLess g.D.Domain.meaning l.options l.fn.the_row.trees.now l.left l.last l.fn.so_far l.so_far;
+  owes : OwesLess g.D.Domain.meaning l.plan l.fn.the_row.trees.now l.left l.last l.fn.so_far l.so_far;
   steps : (n : ℕ) → row_steps n l.left l.last ≤ row_steps n l.fn.the_row.trees.now l.last;
 }
 

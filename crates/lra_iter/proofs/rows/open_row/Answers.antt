@@ -9,14 +9,14 @@ next_of_row-requires-clause-way g c =
       way.0,
       way.0.memory,
       way.1,
-      row_opened g.D.Domain.meaning c.args.the_row.options.now c.args.the_row.trees.now
+      row_opened g.D.Domain.meaning c.args.the_row.plan.now c.args.the_row.trees.now
           c.args.the_row.last.now way.0 c.args.value c.args.flag c.nothing_yet.result way.2 way.3 way.4 way.1 begun.found
           begun.normal begun.flag,
     )
 
 pub returns-clause-leads : goal.returns-clause-leads
-returns-clause-leads g c set whole options is first flagged may =
+returns-clause-leads g c set whole plan is first flagged may =
     let begun = c.nothing_yet.ensures in
-    c.next_of_row.ensures.leads set whole whole.memory options may
+    c.next_of_row.ensures.leads set whole whole.memory plan may
     (row_opened g.D.Domain.meaning set c.args.the_row.trees.now c.args.the_row.last.now whole c.args.value c.args.flag
     c.nothing_yet.result is first flagged may begun.found begun.normal begun.flag)

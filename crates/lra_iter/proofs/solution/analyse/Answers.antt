@@ -19,13 +19,13 @@ pass-requires-clause-remembers g c =
     let loops = numbered_loops (map site_view c.args.graph.now.sites.items) (node_view c.args.graph.now.tree) c.requires.numbered in (
       loops.0,
       loops.1,
-      subst (λ xs. All (IsRecalled g.D.Domain.meaning c.args.options.now loops.0 c.in_ok-value.flag) xs) (sym c.nothing-memory.ensures) (All-nil _),
+      subst (λ xs. All (IsRecalled g.D.Domain.meaning c.args.plan.now loops.0 c.in_ok-value.flag) xs) (sym c.nothing-memory.ensures) (All-nil _),
     )
 
 pub solution_of-requires : goal.solution_of-requires
 solution_of-requires g c =
     let graph = c.args.graph.now in
-    rw c.deref.ensures.value (pass_counted (dropping g.D.Domain.meaning) (map site_view graph.sites.items) c.args.options.now (node_view graph.tree) c.in_ok-value.flag c.in_ok-value.value
+    rw c.deref.ensures.value (pass_counted (dropping g.D.Domain.meaning) (map site_view graph.sites.items) c.args.plan.now (node_view graph.tree) c.in_ok-value.flag c.in_ok-value.value
     (seen c.in_ok-outcome.outcome)
     c.requires.numbered c.in_ok-outcome.ensures.passed.pass)
 
@@ -37,9 +37,9 @@ returns-clause-solved g c P same =
     let solution = c.in_ok-solution.solution in
     let begun = c.in_ok-value.ensures.begins in
     let pass = rw begun.4 at c.in_ok-outcome.ensures.passed.pass in
-    let derived = derived_from m c.args.options.now P (node_view graph.tree) c.args.globals.now begun.0 c.in_ok-value.value begun.1 result same
+    let derived = derived_from m c.args.plan.now P (node_view graph.tree) c.args.globals.now begun.0 c.in_ok-value.value begun.1 result same
     begun.2 begun.3 pass in
-    solved m g.met.D.Domain.laws c.args.options.now P (node_view graph.tree) result solution.values.items solution.verdicts.items solution.flagged derived c.in_ok-solution.ensures.solves
+    solved m g.met.D.Domain.laws c.args.plan.now P (node_view graph.tree) result solution.values.items solution.verdicts.items solution.flagged derived c.in_ok-solution.ensures.solves
 
 pub returns-clause-sound : goal.returns-clause-sound
 returns-clause-sound g c =
@@ -49,10 +49,10 @@ returns-clause-sound g c =
     let solution = c.in_ok-solution.solution in
     let begun = c.in_ok-value.ensures.begins in
     let pass = rw begun.4 at c.in_ok-outcome.ensures.passed.pass in
-    let counted = pass_counted (dropping m) (map site_view graph.sites.items) c.args.options.now
+    let counted = pass_counted (dropping m) (map site_view graph.sites.items) c.args.plan.now
     (node_view graph.tree) c.in_ok-value.flag c.in_ok-value.value result c.requires.numbered c.in_ok-outcome.ensures.passed.pass in
     covered_holds m g.met.D.Domain.laws c.args.globals.now (node_view graph.tree) result (map site_view graph.sites.items) solution.values.items solution.verdicts.items solution.flagged
-    (begun_covers m g.met.D.Domain.laws c.args.options.now c.args.globals.now (node_view graph.tree) begun.0 c.in_ok-value.value begun.1 result
+    (begun_covers m g.met.D.Domain.laws c.args.plan.now c.args.globals.now (node_view graph.tree) begun.0 c.in_ok-value.value begun.1 result
     begun.2 begun.3 pass)
     counted c.in_ok-solution.ensures.solves
 
@@ -61,6 +61,6 @@ returns-clause-wide g c lives =
     let m = g.D.Domain.meaning in
     let graph = c.args.graph.now in
     let solution = c.in_ok-solution.solution in
-    found_wide m g.met.D.Domain.laws (map site_view graph.sites.items) c.args.options.now (node_view graph.tree) c.in_ok-value.flag c.in_ok-value.value (seen c.in_ok-outcome.outcome)
+    found_wide m g.met.D.Domain.laws (map site_view graph.sites.items) c.args.plan.now (node_view graph.tree) c.in_ok-value.flag c.in_ok-value.value (seen c.in_ok-outcome.outcome)
     (length c.args.globals.now)
     solution.values.items solution.verdicts.items solution.flagged c.in_ok-outcome.ensures.passed.pass c.in_ok-value.ensures.dims c.in_ok-solution.ensures.solves lives

@@ -1,5 +1,5 @@
 -- Goals of `sample`: the tree and its points.
-use Rattle.std.proofs.Common.{◌≡◌, ◌∙◌, ap, map, Some}
+use Rattle.std.proofs.Common.{◌∙◌, ap, map, Some}
 use Rattle.lra_program.specs.Step.{append, give}
 use Rattle.lra_operations.specs.Graph.{Node, point, act, check, seq, choose}
 use Rattle.lra_program.specs.declared.program.Expr.TheVariants.{Input}

@@ -2,7 +2,8 @@
 use Rattle.std.proofs.Common.{refl, ap, ◌∙◌}
 use Rattle.lra_operations.specs.GraphViews.{node_view}
 use Rattle.lra_iter.specs.Steps.{node_steps}
-use Rattle.lra_iter.proofs.PassSteps.{empty_view, point_view, act_view, check_view, leave_view, empty_steps, point_steps}
+use Rattle.lra_forms.proofs.TreeViews.{act_view, check_view, empty_view, leave_view, point_view}
+use Rattle.lra_iter.proofs.PassSteps.{empty_steps, point_steps}
 use Rattle.lra_iter.proofs.PassSteps.{act_steps, check_steps, leave_steps, seq_shown, seq_taken, choose_shown, choose_taken}
 use Rattle.lra_iter.proofs.PassSteps.{iterate_shown, iterate_taken, catch_shown, catch_taken}
 use Rattle.lra_iter.proofs.shapes.Shape.of.Goals as goal
