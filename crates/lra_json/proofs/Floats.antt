@@ -9,14 +9,14 @@ use Rattle.serde_json.specs.Written.{has_float, items_have_float, members_have_f
 use Rattle.lra_options.specs.declared.options.Options.{Options}
 use Rattle.lra_options.specs.declared.options.NumberOption.{NumberOption}
 use Rattle.lra_options.specs.declared.options.FlagOption.{FlagOption}
-use Rattle.lra_options.specs.OptionRows.{number_row, number_value, number_options, flag_row, flag_value, flag_options, is_told}
-use Rattle.lra_findings.specs.declared.verdict_kinds.VerdictKind.{VerdictKind}
-use Rattle.lra_findings.specs.VerdictKinds.{row_of, kinds}
-use Rattle.lra_findings.specs.ReportText.{place_text}
+use Rattle.lra_options.specs.OptionRows.{number_row, number_value, number_options, is_number_told, flag_row, flag_value, flag_options, is_told}
+use Rattle.lra_report.specs.declared.verdict_kinds.VerdictKind.{VerdictKind}
+use Rattle.lra_report.specs.VerdictKinds.{row_of, kinds}
+use Rattle.lra_report.specs.ReportText.{place_text}
 use Rattle.lra_options.specs.declared.options.Domain.{Domain}
 use Rattle.lra_options.specs.declared.options.Domain.TheVariants.{Poly, Box, Oct}
 use Rattle.lra_show.specs.Part.{Part}
-use Rattle.lra_findings.specs.Report.{PointReport, Verdict, Report}
+use Rattle.lra_report.specs.Report.{PointReport, Verdict, Report}
 use Rattle.lra_json.specs.ReportJson.{natural, list_of, with_number, with_flag, domain_alone, options_data, outcome_members, verdict_data, is_under, under, with_verdicts}
 use Rattle.lra_json.specs.ReportJson.{flag_data, part_data, point_data, fixed_members, report_data}
 
@@ -57,8 +57,11 @@ put_without_floats k d (member l e more) none before =
 numbers_without_floats : (o : Options) (so : Members) (options : List NumberOption) → members_have_float so ≡ false →
     members_have_float (fold (with_number o) so options) ≡ false
 numbers_without_floats o so [] before = before
-numbers_without_floats o so (option ∷ more) before =
-    numbers_without_floats o (with_number o so option) more (put_without_floats (number_row option).name (natural (number_value option o)) so refl before)
+numbers_without_floats o so (option ∷ more) before = numbers_without_floats o (with_number o so option) more (go (is_number_told option o))
+  where
+    go : (told : Bool) → members_have_float (if told then put (number_row option).name (natural (number_value option o)) so else so) ≡ false
+    go true = put_without_floats (number_row option).name (natural (number_value option o)) so refl before
+    go false = before
 
 flags_without_floats : (o : Options) (so : Members) (options : List FlagOption) → members_have_float so ≡ false →
     members_have_float (fold (with_flag o) so options) ≡ false

@@ -3,19 +3,14 @@ use Rattle.std.proofs.Common.{◌≡◌, ◌∙◌, ◌||◌, refl, ap, sym, sub
 use Rattle.std.specs.Prelude.{cond}
 use Rattle.std.specs.Str.{bytes_eq}
 use Rattle.std.specs.List.{list_any}
-use Rattle.std.proofs.lemmas.Slice.Eq.{bytes_eq-Decides}
 use Rattle.lra_tree.specs.Labels.{Labelled}
-use Rattle.lra_findings.specs.declared.verdict_kinds.VerdictKind.{VerdictKind}
-use Rattle.lra_findings.specs.declared.verdict_kinds.VerdictKind.TheVariants.{Assertion}
-use Rattle.lra_findings.specs.VerdictKinds.{row_of}
-use Rattle.lra_findings.specs.Report.{Verdict}
+use Rattle.lra_report.specs.declared.verdict_kinds.VerdictKind.{VerdictKind}
+use Rattle.lra_report.specs.VerdictKinds.{row_of}
+use Rattle.lra_report.specs.Report.{Verdict}
 use Rattle.lra_report.specs.Listing.{Subject, AreJudged}
 use Rattle.lra_report.proofs.Fronts.{first_same, rest_same, both_same}
 use Rattle.lra_json.specs.ReportJson.{is_under, under}
-
--- what holds of each kind
-pub each_kind : (Q : VerdictKind → Type 0) → Q Assertion → (kind : VerdictKind) → Q kind
-each_kind Q assertion Assertion = assertion
+use Rattle.lra_json.proofs.Members.{bytes_self}
 
 -- a test of the elements that stand for others
 pub list_any-map : {A B : Type 0} (test : B → Bool) (f : A → B) (xs : List A) → list_any (λ x. test (f x)) xs ≡ list_any test (map f xs)
@@ -39,8 +34,28 @@ judged_under ls key (x ∷ xs) (v ∷ vs) h =
     go true later = (h.0, later)
     go false later = later
 
-bytes_self : (bs : List ℕ) → bytes_eq bs bs ≡ true
-bytes_self bs = (bytes_eq-Decides bs bs).1 refl
+judged_any : (ls : List Labelled) (key : List ℕ) (xs : List Subject) (vs : List Verdict) → AreJudged ls xs vs
+    → list_any (is_under key) vs ≡ list_any (λ (x : Subject). bytes_eq (row_of x.kind).key key) xs
+judged_any ls key [] [] h = refl
+judged_any ls key [] (v ∷ vs) h = absurd h
+judged_any ls key (x ∷ xs) [] h = absurd h
+judged_any ls key (x ∷ xs) (v ∷ vs) h =
+    ap (λ (k : VerdictKind). bytes_eq (row_of k).key key || list_any (is_under key) vs) (ap (λ (y : Verdict). y.kind) h.0)
+    ∙ ap (λ (b : Bool). bytes_eq (row_of x.kind).key key || b) (judged_any ls key xs vs h.1)
+
+-- a verdict stands under a key in both or in none
+pub listed_alike : (ls : List Labelled) (key : List ℕ) (xs : List Subject) (vs ws : List Verdict) → AreJudged ls xs vs → AreJudged ls xs ws
+    → list_any (is_under key) vs ≡ list_any (is_under key) ws
+listed_alike ls key xs vs ws a b = judged_any ls key xs vs a ∙ sym (judged_any ls key xs ws b)
+
+pub none_under : (key : List ℕ) (vs : List Verdict) → list_any (is_under key) vs ≡ false → under key vs ≡ []
+none_under key [] h = refl
+none_under key (v ∷ vs) h = go (is_under key v) h (λ e. none_under key vs e)
+  where
+    go : (b : Bool) → (b || list_any (is_under key) vs) ≡ false
+        → (list_any (is_under key) vs ≡ false → under key vs ≡ []) → cond b (v ∷ under key vs) (under key vs) ≡ []
+    go true e later = cc
+    go false e later = later e
 
 taken : (v : Verdict) (vs : List Verdict) (kind : VerdictKind) → v.kind ≡ kind → under (row_of kind).key (v ∷ vs) ≡ v ∷ under (row_of kind).key vs
 taken v vs kind is =

@@ -1,5 +1,6 @@
 pub mod Floats
 pub mod JsonPieces
+pub mod Members
 pub mod Keyed
 pub mod OneJson
 mod ReportJsonExamples

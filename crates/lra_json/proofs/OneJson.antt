@@ -1,11 +1,14 @@
 -- One JSON text, one report.
 use Rattle.std.proofs.Common.{◌≡◌, ℕ, suc, ◌<◌, ◌^◌, Bool, true, false, List, [], ◌∷◌, ◌++◌, length, map, codes, if◌then◌else◌, refl, ap, sym, ◌∙◌, subst, arith, append_assoc, Option, Some, None}
-use Rattle.std.proofs.Common.{decimal}
-use Rattle.std.specs.List.{AllByRecursion}
+use Rattle.std.proofs.Common.{decimal, ◌||◌}
+use Rattle.std.specs.Prelude.{fold}
+use Rattle.std.specs.List.{AllByRecursion, list_any}
+use Rattle.std.specs.Str.{bytes_eq}
+use Rattle.std.proofs.lemmas.Slice.Eq.{bytes_eq-Decides}
 use Rattle.std.proofs.lemmas.List.{append_cancel_left}
 use Rattle.std.proofs.lemmas.Bool.{eqb-false}
 use Rattle.json.specs.Print.{quoted}
-use Rattle.serde_json.specs.Data.{Members, string, object, member, no_members}
+use Rattle.serde_json.specs.Data.{Members, string, object, member, no_members, put}
 use Rattle.serde_json.specs.View.{items_of}
 use Rattle.serde_json.specs.Written.{compact_text, items_text, members_text}
 use Rattle.lra_options.specs.declared.options.Domain.{Domain}
@@ -21,13 +24,14 @@ use Rattle.lra_meaning.specs.LiveNames.{live_names, globals_named}
 use Rattle.lra_program.specs.Sites.{Site, sites_of}
 use Rattle.lra_show.specs.Rows.{Row}
 use Rattle.lra_show.specs.Part.{Generator, Part}
-use Rattle.lra_findings.specs.Report.{Invariant, PointReport, Verdict, Report}
-use Rattle.lra_findings.specs.ReportText.{place_text}
-use Rattle.lra_findings.specs.VerdictKinds.{row_of, outcome_text}
-use Rattle.lra_findings.proofs.Outcomes.{outcome_told}
+use Rattle.lra_report.specs.Report.{Invariant, PointReport, Verdict, Report}
+use Rattle.lra_report.specs.ReportText.{place_text}
+use Rattle.lra_report.specs.declared.verdict_kinds.VerdictKind.{VerdictKind}
+use Rattle.lra_report.specs.VerdictKinds.{row_of, kinds, among_kinds, outcome_text}
+use Rattle.lra_report.proofs.Outcomes.{outcome_told}
 use Rattle.lra_meaning.specs.ShownNames.{shown_names}
 use Rattle.lra_show.specs.Texts.{row_text, generator_text}
-use Rattle.lra_findings.specs.Parts.{Tells}
+use Rattle.lra_report.specs.Parts.{Tells}
 use Rattle.lra_report.specs.Listing.{listed_point, Subject, subjects, judged_place, listed_verdict, Lists, AreListed, AreJudged, AreParts, IsFlag}
 use Rattle.lra_report.specs.Spelled.{IsSpelledRow, IsSpelledGenerator, IsReadablePart, IsReadablePoint, IsSmallFlag, AreWords}
 use Rattle.lra_report.proofs.Fronts.{AreShownNames, first_same, rest_same, both_same}
@@ -37,9 +41,11 @@ use Rattle.lra_report.proofs.RowTexts.{row_same}
 use Rattle.lra_report.proofs.GeneratorTexts.{generator_same}
 use Rattle.lra_report.proofs.LiveWords.{accepted_words}
 use Rattle.lra_report.proofs.OneText.{report_by}
-use Rattle.lra_json.specs.ReportJson.{list_of, options_data, outcome_members, verdict_data, under, counts_of, rows_data, generators_data, part_data, point_data, flag_data, report_json}
+use Rattle.lra_json.specs.ReportJson.{list_of, options_data, is_under, under, with_verdicts, fixed_members}
+use Rattle.lra_json.specs.ReportJson.{outcome_members, verdict_data, rows_data, generators_data, part_data, point_data, flag_data, report_json}
 use Rattle.lra_json.specs.ToldApart.{OneSourceJson}
-use Rattle.lra_json.proofs.Keyed.{each_kind, on, judged_under, told_by_keys}
+use Rattle.lra_json.proofs.Members.{Apart, Alike, same_apart, numbers_apart, text_at, put_alike, object_same, put_there, put_elsewhere}
+use Rattle.lra_json.proofs.Keyed.{on, judged_under, listed_alike, none_under, told_by_keys}
 use Rattle.lra_json.proofs.JsonPieces.{quoted_same, member_same, list_same}
 
 all_both : {A : Type 0} (P Q : A → Type 0) (xs : List A) → AllByRecursion P xs → AllByRecursion Q xs → AllByRecursion (λ x. P x × Q x) xs
@@ -224,7 +230,13 @@ verdicts_same ls later (a ∷ xs) (v ∷ vs) (x ∷ ws) u w lv lw e =
     let further = verdicts_same ls true xs vs ws u w lv.1 lw.1 first.1 in
     (both_same (lv.0 ∙ ap listed first.0 ∙ sym lw.0) further.0, further.1)
 
--- the flag -----------------------------------------------------------------------
+-- reports ------------------------------------------------------------------------
+
+flags_apart : (f g : Option ℕ) → Apart (flag_data f) (flag_data g)
+flags_apart None None = numbers_apart 0 0
+flags_apart None (Some n) = numbers_apart 0 n
+flags_apart (Some m) None = numbers_apart m 0
+flags_apart (Some m) (Some n) = numbers_apart m n
 
 small_short : (n : ℕ) → n < 2 ^ 64 → IsShort n
 small_short n h = omega (arith, h)
@@ -232,67 +244,166 @@ small_short n h = omega (arith, h)
 zero_short : IsShort 0
 zero_short = omega arith
 
--- another text goes on with a comma
-flag_same : (k l : ℕ) (f g : Option ℕ) (u v : List ℕ) → IsSmallFlag f → IsSmallFlag g → IsFlag k f → IsFlag l g →
-    compact_text (flag_data f) ++ (44 ∷ u) ≡ compact_text (flag_data g) ++ (44 ∷ v) → (f ≡ g) × (u ≡ v)
-flag_same k l None None u v hf hg pf pg e = (refl, rest_same (append_cancel_left (decimal 0) (44 ∷ u) (44 ∷ v) e))
-flag_same k l (Some m) (Some n) u v hf hg pf pg e =
-    let s = decimal_same m n (44 ∷ u) (44 ∷ v) (small_short m hf) (small_short n hg) refl refl e in
-    (ap Some s.0, rest_same s.1)
-flag_same k l None (Some n) u v hf hg pf pg e =
-    let s = decimal_same 0 n (44 ∷ u) (44 ∷ v) zero_short (small_short n hg) refl refl e in
-    absurd (omega (arith, s.0, pg.0))
-flag_same k l (Some m) None u v hf hg pf pg e =
-    let s = decimal_same m 0 (44 ∷ u) (44 ∷ v) (small_short m hf) zero_short refl refl e in
-    absurd (omega (arith, s.0, pf.0))
+one_number : (m n : ℕ) → IsShort m → IsShort n → decimal m ≡ decimal n → m ≡ n
+one_number m n hm hn e = (decimal_same m n [] [] hm hn tt tt (ap (λ (t : List ℕ). t ++ []) e)).0
 
--- reports ------------------------------------------------------------------------
-
--- the members from the flag and from the points on
-abbrev points_on : Domain → Report → Members
-points_on domain r = member (codes "points") (list_of (point_data domain) r.points) (counts_of r.verdicts)
-
-abbrev flag_on : Domain → Report → Members
-flag_on domain r = member (codes "flagged") (flag_data r.flagged) (points_on domain r)
-
-abbrev asserts_on : Domain → Report → Members
-asserts_on domain r = member (codes "asserts") (list_of verdict_data (under (codes "asserts") r.verdicts)) (flag_on domain r)
+flag_same : (k l : ℕ) (f g : Option ℕ) → IsSmallFlag f → IsSmallFlag g → IsFlag k f → IsFlag l g
+    → compact_text (flag_data f) ≡ compact_text (flag_data g) → f ≡ g
+flag_same k l None None hf hg pf pg e = refl
+flag_same k l (Some m) (Some n) hf hg pf pg e = ap Some (one_number m n (small_short m hf) (small_short n hg) e)
+flag_same k l None (Some n) hf hg pf pg e = let same = one_number 0 n zero_short (small_short n hg) e in absurd (omega (arith, same, pg.0))
+flag_same k l (Some m) None hf hg pf pg e = let same = one_number m 0 (small_short m hf) zero_short e in absurd (omega (arith, same, pf.0))
 
 abbrev report_under : Options → Report → Report
 report_under o r = record { options = o; flagged = r.flagged; points = r.points; verdicts = r.verdicts }
 
-one_json_of : (t : FileTree) (o : Options) (k l : ℕ) (r s : Report) → AllByRecursion (λ x. AreWords (live_names (globals_named t.parts) (labels_of t) x)) (sites_of (resolve t)) → Lists t r →
-    Lists t s →
-    AllByRecursion (GoodPoint o.domain) r.points → AllByRecursion (GoodPoint o.domain) s.points → IsSmallFlag r.flagged → IsSmallFlag s.flagged → IsFlag k r.flagged → IsFlag l s.flagged →
-    report_json (report_under o r) ≡ report_json (report_under o s) → (r.flagged ≡ s.flagged) × (r.points ≡ s.points) × (r.verdicts ≡ s.verdicts)
-one_json_of t o k l r s words lr ls gr gs small_r small_s flag_r flag_s e =
-    let end : List ℕ = 10 ∷ [] in
-    let d = o.domain in
-    let analysis = compact_text (options_data o) in
-    let from_r = members_text true (asserts_on d r) in
-    let from_s = members_text true (asserts_on d s) in
-    let e1 = append_cancel_left analysis (from_r ++ end) (from_s ++ end) (member_same (codes "analysis") analysis from_r analysis from_s end end (rest_same e)) in
-    let flagged_r = members_text true (flag_on d r) in
-    let flagged_s = members_text true (flag_on d s) in
-    let key = codes "asserts" in
-    let judged = subjects t in
-    let e2 = member_same key (compact_text (list_of verdict_data (under key r.verdicts))) flagged_r
-    (compact_text (list_of verdict_data (under key s.verdicts))) flagged_s end end (rest_same e1) in
-    let asserts = verdicts_same (labels_of t) false (on key judged) (under key r.verdicts) (under key s.verdicts) (flagged_r ++ end) (flagged_s ++ end)
-    (judged_under (labels_of t) key judged r.verdicts lr.verdicts) (judged_under (labels_of t) key judged s.verdicts ls.verdicts) (rest_same e2) in
-    let verdicts = told_by_keys (labels_of t) judged r.verdicts s.verdicts lr.verdicts ls.verdicts
-    (each_kind (λ kind. under (row_of kind).key r.verdicts ≡ under (row_of kind).key s.verdicts) asserts.0) in
-    let pointed_r = members_text true (points_on d r) in
-    let pointed_s = members_text true (points_on d s) in
-    let e3 = member_same (codes "flagged") (compact_text (flag_data r.flagged)) pointed_r (compact_text (flag_data s.flagged)) pointed_s end end
-    (rest_same asserts.1) in
-    let flag = flag_same k l r.flagged s.flagged _ _ small_r small_s flag_r flag_s e3 in
-    let counts_r = members_text true (counts_of r.verdicts) in
-    let counts_s = members_text true (counts_of s.verdicts) in
-    let e4 = member_same (codes "points") (compact_text (list_of (point_data d) r.points)) counts_r (compact_text (list_of (point_data d) s.points)) counts_s end end flag.1 in
-    let points = points_same d (globals_named t.parts) (labels_of t) false 1 (sites_of (resolve t)) r.points s.points (counts_r ++ end) (counts_s ++ end) words lr.points ls.points gr gs
-    (rest_same e4) in
-    (flag.0, points.0, verdicts)
+-- the members of a report under these options
+abbrev members_of : Options → Report → Members
+members_of o r = fold (with_verdicts (report_under o r)) (fixed_members (report_under o r)) kinds
+
+abbrev HasKey : List ℕ → Bool → List VerdictKind → Type 0
+HasKey key b ks = list_any (λ (k : VerdictKind). bytes_eq key (row_of k).key) ks ≡ b
+
+-- a verdict that is listed stands under its kind's key
+module _ (o : Options) (r : Report) (key : List ℕ) where
+  -- a kind of another key
+  past : (ms : Members) (kind : VerdictKind) → bytes_eq key (row_of kind).key ≡ false → text_at key (with_verdicts (report_under o r) ms kind) ≡ text_at key ms
+  past ms kind other = go ((row_of kind).stands o (list_any (is_under (row_of kind).key) r.verdicts))
+    where
+      go : (b : Bool) → text_at key (if b then put (row_of kind).key (list_of verdict_data (under (row_of kind).key r.verdicts)) ms else ms) ≡ text_at key ms
+      go true = put_elsewhere key (row_of kind).key (list_of verdict_data (under (row_of kind).key r.verdicts)) ms other
+      go false = refl
+
+  -- none has this key
+  kept : (ks : List VerdictKind) (ms : Members) → HasKey key false ks → text_at key (fold (with_verdicts (report_under o r)) ms ks) ≡ text_at key ms
+  kept [] ms none = refl
+  kept (kind ∷ ks) ms none = go (bytes_eq key (row_of kind).key) refl none (λ e. kept ks (with_verdicts (report_under o r) ms kind) e)
+    where
+      go : (b : Bool) → bytes_eq key (row_of kind).key ≡ b → (b || list_any (λ (k : VerdictKind). bytes_eq key (row_of k).key) ks) ≡ false
+          → (HasKey key false ks → text_at key (fold (with_verdicts (report_under o r)) (with_verdicts (report_under o r) ms kind) ks)
+          ≡ text_at key (with_verdicts (report_under o r) ms kind))
+          → text_at key (fold (with_verdicts (report_under o r)) (with_verdicts (report_under o r) ms kind) ks) ≡ text_at key ms
+      go true is e later = cc
+      go false is e later = later e ∙ past ms kind is
+
+  module _ (some : list_any (is_under key) r.verdicts ≡ true) where
+    -- a kind of this key
+    met : (ms : Members) (kind : VerdictKind) → bytes_eq key (row_of kind).key ≡ true
+        → text_at key (with_verdicts (report_under o r) ms kind) ≡ compact_text (list_of verdict_data (under key r.verdicts))
+    met ms kind is =
+        let same : key ≡ (row_of kind).key = (bytes_eq-Decides key (row_of kind).key).0 is in
+        let listed : list_any (is_under (row_of kind).key) r.verdicts ≡ true = subst (λ (k : List ℕ). list_any (is_under k) r.verdicts ≡ true) same some in
+        let stands : (row_of kind).stands o (list_any (is_under (row_of kind).key) r.verdicts) ≡ true =
+        ap ((row_of kind).stands o) listed ∙ (row_of kind).tells o in
+        ap (λ (b : Bool). text_at key (if b then put (row_of kind).key (list_of verdict_data (under (row_of kind).key r.verdicts)) ms else ms)) stands
+        ∙ ap (λ (k : List ℕ). text_at key (put k (list_of verdict_data (under k r.verdicts)) ms)) (sym same)
+        ∙ put_there key (list_of verdict_data (under key r.verdicts)) ms
+
+    stays : (ks : List VerdictKind) (ms : Members) → text_at key ms ≡ compact_text (list_of verdict_data (under key r.verdicts))
+        → text_at key (fold (with_verdicts (report_under o r)) ms ks) ≡ compact_text (list_of verdict_data (under key r.verdicts))
+    stays [] ms there = there
+    stays (kind ∷ ks) ms there = stays ks (with_verdicts (report_under o r) ms kind) (go (bytes_eq key (row_of kind).key) refl)
+      where
+        go : (b : Bool) → bytes_eq key (row_of kind).key ≡ b
+            → text_at key (with_verdicts (report_under o r) ms kind) ≡ compact_text (list_of verdict_data (under key r.verdicts))
+        go true is = met ms kind is
+        go false is = past ms kind is ∙ there
+
+    comes : (ks : List VerdictKind) (ms : Members) → HasKey key true ks
+        → text_at key (fold (with_verdicts (report_under o r)) ms ks) ≡ compact_text (list_of verdict_data (under key r.verdicts))
+    comes [] ms has = cc
+    comes (kind ∷ ks) ms has = go (bytes_eq key (row_of kind).key) refl has (λ e. comes ks (with_verdicts (report_under o r) ms kind) e)
+      where
+        go : (b : Bool) → bytes_eq key (row_of kind).key ≡ b → (b || list_any (λ (k : VerdictKind). bytes_eq key (row_of k).key) ks) ≡ true
+            → (HasKey key true ks → text_at key (fold (with_verdicts (report_under o r)) (with_verdicts (report_under o r) ms kind) ks)
+            ≡ compact_text (list_of verdict_data (under key r.verdicts)))
+            → text_at key (fold (with_verdicts (report_under o r)) (with_verdicts (report_under o r) ms kind) ks)
+            ≡ compact_text (list_of verdict_data (under key r.verdicts))
+        go true is e later = stays ks (with_verdicts (report_under o r) ms kind) (met ms kind is)
+        go false is e later = later e
+
+-- two reports that list the same points and judge the same
+module _ (t : FileTree) (o : Options) (r s : Report)
+    (words : AllByRecursion (λ x. AreWords (live_names (globals_named t.parts) (labels_of t) x)) (sites_of (resolve t))) (lr : Lists t r) (ls : Lists t s)
+    (gr : AllByRecursion (GoodPoint o.domain) r.points) (gs : AllByRecursion (GoodPoint o.domain) s.points) where
+  points_told : (u v : List ℕ) → compact_text (list_of (point_data o.domain) r.points) ++ u ≡ compact_text (list_of (point_data o.domain) s.points) ++ v
+      → (r.points ≡ s.points) × (u ≡ v)
+  points_told u v e =
+      points_same o.domain (globals_named t.parts) (labels_of t) false 1 (sites_of (resolve t)) r.points s.points u v words lr.points ls.points gr gs (rest_same e)
+
+  points_apart : Apart (list_of (point_data o.domain) r.points) (list_of (point_data o.domain) s.points)
+  points_apart u v cu cv e = let told = points_told u v e in (ap (λ (ps : List PointReport). compact_text (list_of (point_data o.domain) ps)) told.0, told.1)
+
+  judged_told : (key u v : List ℕ)
+      → compact_text (list_of verdict_data (under key r.verdicts)) ++ u ≡ compact_text (list_of verdict_data (under key s.verdicts)) ++ v
+      → (under key r.verdicts ≡ under key s.verdicts) × (u ≡ v)
+  judged_told key u v e =
+      let judged = subjects t in
+      verdicts_same (labels_of t) false (on key judged) (under key r.verdicts) (under key s.verdicts) u v
+      (judged_under (labels_of t) key judged r.verdicts lr.verdicts) (judged_under (labels_of t) key judged s.verdicts ls.verdicts) (rest_same e)
+
+  judged_apart : (key : List ℕ) → Apart (list_of verdict_data (under key r.verdicts)) (list_of verdict_data (under key s.verdicts))
+  judged_apart key u v cu cv e = let told = judged_told key u v e in (ap (λ (vs : List Verdict). compact_text (list_of verdict_data vs)) told.0, told.1)
+
+  one_alike : (ms ns : Members) (kind : VerdictKind) → Alike ms ns → Alike (with_verdicts (report_under o r) ms kind) (with_verdicts (report_under o s) ns kind)
+  one_alike ms ns kind alike =
+      let key = (row_of kind).key in
+      let same : list_any (is_under key) r.verdicts ≡ list_any (is_under key) s.verdicts =
+      listed_alike (labels_of t) key (subjects t) r.verdicts s.verdicts lr.verdicts ls.verdicts in
+      let other = λ (b : Bool). if (row_of kind).stands o b then put key (list_of verdict_data (under key s.verdicts)) ns else ns in
+      subst (λ (b : Bool). Alike (with_verdicts (report_under o r) ms kind) (other b)) same (go ((row_of kind).stands o (list_any (is_under key) r.verdicts)))
+    where
+      go : (b : Bool) → Alike (if b then put (row_of kind).key (list_of verdict_data (under (row_of kind).key r.verdicts)) ms else ms)
+          (if b then put (row_of kind).key (list_of verdict_data (under (row_of kind).key s.verdicts)) ns else ns)
+      go true = put_alike (row_of kind).key _ _ (judged_apart (row_of kind).key) ms ns alike
+      go false = alike
+
+  all_alike : (ks : List VerdictKind) (ms ns : Members) → Alike ms ns
+      → Alike (fold (with_verdicts (report_under o r)) ms ks) (fold (with_verdicts (report_under o s)) ns ks)
+  all_alike [] ms ns alike = alike
+  all_alike (kind ∷ ks) ms ns alike = all_alike ks _ _ (one_alike ms ns kind alike)
+
+  fixed_alike : Alike (fixed_members (report_under o r)) (fixed_members (report_under o s))
+  fixed_alike = (
+    refl,
+    same_apart (options_data o),
+    (refl, flags_apart r.flagged s.flagged, (refl, points_apart, (refl, numbers_apart _ _, (refl, numbers_apart _ _, tt)))),
+  )
+
+  told_at : report_json (report_under o r) ≡ report_json (report_under o s) → (key : List ℕ) → text_at key (members_of o r) ≡ text_at key (members_of o s)
+  told_at e =
+      object_same (members_of o r) (members_of o s) (10 ∷ []) (10 ∷ []) (all_alike kinds (fixed_members (report_under o r)) (fixed_members (report_under o s)) fixed_alike)
+      (rest_same e)
+
+  -- at a key of no kind
+  fixed_at : report_json (report_under o r) ≡ report_json (report_under o s) → (key : List ℕ) → HasKey key false kinds
+      → text_at key (fixed_members (report_under o r)) ≡ text_at key (fixed_members (report_under o s))
+  fixed_at e key none =
+      sym (kept o r key kinds (fixed_members (report_under o r)) none) ∙ told_at e key ∙ kept o s key kinds (fixed_members (report_under o s)) none
+
+  verdicts_at : report_json (report_under o r) ≡ report_json (report_under o s) → (key : List ℕ) → HasKey key true kinds
+      → under key r.verdicts ≡ under key s.verdicts
+  verdicts_at e key has = go (list_any (is_under key) r.verdicts) refl
+    where
+      same : list_any (is_under key) s.verdicts ≡ list_any (is_under key) r.verdicts
+      same = listed_alike (labels_of t) key (subjects t) s.verdicts r.verdicts ls.verdicts lr.verdicts
+
+      go : (b : Bool) → list_any (is_under key) r.verdicts ≡ b → under key r.verdicts ≡ under key s.verdicts
+      go false none = none_under key r.verdicts none ∙ sym (none_under key s.verdicts (same ∙ none))
+      go true some =
+          let text = sym (comes o r key some kinds (fixed_members (report_under o r)) has) ∙ told_at e key
+          ∙ comes o s key (same ∙ some) kinds (fixed_members (report_under o s)) has in
+          (judged_told key [] [] (ap (λ (t : List ℕ). t ++ []) text)).0
+
+  one_json_of : (k l : ℕ) → IsSmallFlag r.flagged → IsSmallFlag s.flagged → IsFlag k r.flagged → IsFlag l s.flagged
+      → report_json (report_under o r) ≡ report_json (report_under o s)
+      → (r.flagged ≡ s.flagged) × (r.points ≡ s.points) × (r.verdicts ≡ s.verdicts)
+  one_json_of k l small_r small_s flag_r flag_s e =
+      let flag = flag_same k l r.flagged s.flagged small_r small_s flag_r flag_s (fixed_at e (codes "flagged") refl) in
+      let points = (points_told [] [] (ap (λ (text : List ℕ). text ++ []) (fixed_at e (codes "points") refl))).0 in
+      let verdicts = told_by_keys (labels_of t) (subjects t) r.verdicts s.verdicts lr.verdicts ls.verdicts
+      (λ kind. verdicts_at e (row_of kind).key (among_kinds kind)) in
+      (flag, points, verdicts)
 
 -- of a language whose texts are texts of the grammar
 pub one_source_json : (L : Language) → ((t : FileTree) (z : Pieces) → L t z → Spells t z) → (r s : Report) → OneSourceJson L r s
@@ -300,6 +411,6 @@ one_source_json L spelled r s o source one a b readable_r readable_s e =
     let listed_s = subst (λ t. Lists t s) (one b.tree a.tree b.accepted a.accepted) b.lists in
     let here : report_json (report_under o r) ≡ report_json (report_under o s) =
     ap (λ x. report_json (report_under x r)) (sym a.options) ∙ e ∙ ap (λ x. report_json (report_under x s)) b.options in
-    let same = one_json_of a.tree o (length r.points) (length s.points) r s (accepted_words L spelled source a.tree a.accepted) a.lists listed_s
-    (good_points o r.points a.parts readable_r.points) (good_points o s.points b.parts readable_s.points) readable_r.flag readable_s.flag a.flag b.flag here in
+    let same = one_json_of a.tree o r s (accepted_words L spelled source a.tree a.accepted) a.lists listed_s (good_points o r.points a.parts readable_r.points)
+    (good_points o s.points b.parts readable_s.points) (length r.points) (length s.points) readable_r.flag readable_s.flag a.flag b.flag here in
     report_by r s (a.options ∙ sym b.options) same.0 same.1 same.2

@@ -4,10 +4,10 @@ use Rattle.std.specs.Prelude.{codes}
 use Rattle.std.specs.Fmt.{digits}
 use Rattle.serde_json.proofs.OnLiterals.{serde_json_on_literals}
 use Rattle.lra_options.specs.declared.options.Domain.TheVariants.{Box}
-use Rattle.lra_findings.specs.Report.{Place, PointReport}
+use Rattle.lra_report.specs.Report.{Place, PointReport}
 use Rattle.lra_show.specs.Part.{Part}
 use Rattle.lra_show.specs.Texts.{text_line}
-use Rattle.lra_findings.proofs.ReportTextExamples.{empty_main, rows_alone, is_zero}
+use Rattle.lra_report.proofs.ReportTextExamples.{empty_main, rows_alone, is_zero}
 use Rattle.serde_json.specs.Written.{compact_text}
 use Rattle.lra_json.specs.ReportJson.{flag_data, point_data, report_json}
 

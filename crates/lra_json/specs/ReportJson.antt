@@ -11,15 +11,15 @@ use Rattle.lra_options.specs.declared.options.Options.{Options}
 use Rattle.lra_options.specs.declared.options.NumberOption.{NumberOption}
 use Rattle.lra_options.specs.declared.options.FlagOption.{FlagOption}
 use Rattle.lra_options.specs.Domains.{domain_name, shows_generators}
-use Rattle.lra_options.specs.OptionRows.{number_row, number_value, number_options}
+use Rattle.lra_options.specs.OptionRows.{number_row, number_value, number_options, is_number_told}
 use Rattle.lra_options.specs.OptionRows.{flag_row, flag_value, flag_options, is_told}
-use Rattle.lra_findings.specs.declared.verdict_kinds.VerdictKind.{VerdictKind}
-use Rattle.lra_findings.specs.VerdictKinds.{row_of, kinds, outcome_text}
+use Rattle.lra_report.specs.declared.verdict_kinds.VerdictKind.{VerdictKind}
+use Rattle.lra_report.specs.VerdictKinds.{row_of, kinds, outcome_text}
 use Rattle.lra_show.specs.Rows.{Row}
 use Rattle.lra_show.specs.Part.{Generator, Part}
-use Rattle.lra_findings.specs.Report.{PointReport, Verdict, Report}
+use Rattle.lra_report.specs.Report.{PointReport, Verdict, Report}
 use Rattle.lra_show.specs.Texts.{text_line, row_text, generator_text}
-use Rattle.lra_findings.specs.ReportText.{place_text, proved_count, unknown_count}
+use Rattle.lra_report.specs.ReportText.{place_text, proved_count, unknown_count}
 
 abbrev pub natural : ℕ → Data
 natural n = number (unsigned n)
@@ -31,7 +31,8 @@ list_of write xs = array (items_of (map write xs))
 -- options, each in its place ---------------------------------------------------------------------------------------
 
 abbrev pub with_number : Options → Members → NumberOption → Members
-with_number o so option = put (number_row option).name (natural (number_value option o)) so
+with_number o so option =
+    if is_number_told option o then put (number_row option).name (natural (number_value option o)) so else so
 
 abbrev pub with_flag : Options → Members → FlagOption → Members
 with_flag o so option = if is_told option o then put (flag_row option).name (boolean (flag_value option o)) so else so

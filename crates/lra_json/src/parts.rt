@@ -4,7 +4,7 @@ ghost use Rattle.std.specs.Prelude.{◌≡◌, IfOk, map};
 ghost use Rattle.serde_json.specs.Data.{string};
 ghost use Rattle.serde_json.specs.View.{view};
 ghost use Rattle.lra_json.specs.ReportJson.{generators_data, rows_data, part_data, point_data, verdict_data, under};
-ghost use Rattle.lra_findings.specs.ReportText as written;
+ghost use Rattle.lra_report.specs.ReportText as written;
 ghost use Rattle.lra_report.specs.View.{point_report_of, verdict_of};
 
 use crate::lists::{generator_values, row_values};

@@ -10,11 +10,21 @@ ghost use Rattle.lra_report.specs.View.{report_of};
 
 use crate::object::Object;
 use crate::parts::{point_values, verdict_values};
-use lra_findings::{VERDICT_KINDS, VerdictKind};
-use lra_options::{FLAG_OPTIONS, FlagOption, NUMBER_OPTIONS, Options};
-use lra_report::Report;
+use lra_options::{FLAG_OPTIONS, FlagOption, NUMBER_OPTIONS, NumberOption, Options};
+use lra_report::{Report, VERDICT_KINDS, VerdictKind};
 use serde_json::Value;
 use std::alloc::{AllocError, Global};
+
+/// The object with an option that is a number, where it is told.
+fn add_number(options: Options, option: NumberOption, object: Object) -> Result<Object, AllocError>
+    ensures { IfOk result (λ made. members_view made.members.entries ≡
+        with_number options (members_view object.members.entries) option) }
+{
+    if !option.is_told(options) {
+        return Ok(object);
+    }
+    object.with(option.name(), Value::from(option.value(options)))
+}
 
 /// The object with the options that are numbers.
 fn add_numbers(options: Options, object: Object) -> Result<Object, AllocError>
@@ -23,7 +33,7 @@ fn add_numbers(options: Options, object: Object) -> Result<Object, AllocError>
 {
     let mut made = object;
     for option in NUMBER_OPTIONS.iter() {
-        made = made.with(option.name(), Value::from(option.value(options)))?;
+        made = add_number(options, *option, made)?;
     }
     Ok(made)
 }

@@ -4,7 +4,7 @@ use Rattle.std.proofs.lemmas.Option.{slice_get_read, slice_get-map}
 use Rattle.std.proofs.lemmas.List.{map_more, length-map, length-take-le, map-append}
 use Rattle.std.specs.List.{AllByRecursion}
 use Rattle.lra_show.specs.Part.{Part}
-use Rattle.lra_findings.specs.Report.{Invariant, PointReport}
+use Rattle.lra_report.specs.Report.{Invariant, PointReport}
 use Rattle.lra_program.specs.Sites.{Site}
 use Rattle.lra_tree.specs.Labels.{Labelled}
 use Rattle.lra_report.specs.Listing.{listed_point, HasWidth, AreListed}

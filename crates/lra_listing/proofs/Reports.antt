@@ -8,25 +8,25 @@ use Rattle.lra_program.specs.Sites.{Site, sites_of}
 use Rattle.lra_operations.specs.declared.graph.Site as code_site
 use Rattle.lra_operations.specs.GraphViews.{site_view}
 use Rattle.lra_tree.specs.Labels.{Labelled, labels_of}
-use Rattle.lra_findings.specs.declared.verdict_kinds.VerdictKind.TheVariants.{Assertion}
-use Rattle.lra_findings.specs.Report.{Invariant, Report}
+use Rattle.lra_report.specs.Report.{Invariant, Report, Verdict}
 use Rattle.lra_meaning.specs.LiveNames.{globals_named}
-use Rattle.lra_report.specs.Listing.{AreListed, Lists}
-use Rattle.lra_listing.specs.Given.{AreInvariants, AreVerdicts, verdict_at}
-use Rattle.lra_listing.proofs.Verdicts.{are_judged, are_there}
+use Rattle.lra_report.specs.Listing.{AreJudged, AreListed, Lists, subjects}
+use Rattle.lra_listing.specs.Given.{AreInvariants, AreVerdicts}
+use Rattle.lra_listing.proofs.Verdicts.{are_there}
 
-pub lists_by_parts : (t : FileTree) (outside : List (List ℕ)) (ls : List Labelled) (ss : List Site) (vs : List (ℕ × Bool)) (r : Report) → outside ≡ globals_named t.parts → ls ≡ labels_of t
-    → ss ≡ sites_of (resolve t) → AreVerdicts (sites_of (resolve t)) vs → AreListed outside ls 1 ss r.points →
-    r.verdicts ≡ map (verdict_at ls ss Assertion) vs → Lists t r
-lists_by_parts t outside ls ss vs r named labelled sited judged points verdicts = record {
+-- `found` is what is listed of what was found, by labels and sites
+pub lists_by_parts : (t : FileTree) (outside : List (List ℕ)) (ls : List Labelled) (ss : List Site)
+    (found : List Labelled → List Site → List Verdict) (r : Report)
+    → outside ≡ globals_named t.parts → ls ≡ labels_of t → ss ≡ sites_of (resolve t) → AreListed outside ls 1 ss r.points → r.verdicts ≡ found ls ss
+    → AreJudged (labels_of t) (subjects t) (found (labels_of t) (sites_of (resolve t))) → Lists t r
+lists_by_parts t outside ls ss found r named labelled sited points verdicts judged = record {
   points =
       subst (λ (xs : List Site). AreListed (globals_named t.parts) (labels_of t) 1 xs r.points) sited
       (subst (λ (xs : List Labelled). AreListed (globals_named t.parts) xs 1 ss r.points) labelled
       (subst (λ (xs : List (List ℕ)). AreListed xs ls 1 ss r.points) named points));
   verdicts =
-      are_judged (labels_of t) Assertion (sites_of (resolve t)) vs r.verdicts
-      (verdicts ∙ ap (λ (xs : List Labelled). map (verdict_at xs ss Assertion) vs) labelled
-      ∙ ap (λ (xs : List Site). map (verdict_at (labels_of t) xs Assertion) vs) sited) judged;
+      subst (λ (vs : List Verdict). AreJudged (labels_of t) (subjects t) vs)
+      (sym (verdicts ∙ ap (λ (xs : List Labelled). found xs ss) labelled ∙ ap (λ (xs : List Site). found (labels_of t) xs) sited)) judged;
 }
 
 -- what is known at the program's points is known at the given ones

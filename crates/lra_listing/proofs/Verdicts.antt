@@ -5,10 +5,10 @@ use Rattle.std.specs.List.{Contains}
 use Rattle.std.proofs.lemmas.List.Elements.{Contains-get_or}
 use Rattle.std.proofs.lemmas.Option.{slice_get_read, slice_get_within, get_or_from_slice_get, same_Some, none-some}
 use Rattle.lra_linear.proofs.Membership.{contains_none, contains_head, contains_tail, contains_cases}
-use Rattle.lra_findings.specs.Report.{Verdict}
+use Rattle.lra_report.specs.Report.{Verdict}
 use Rattle.lra_program.specs.Sites.{Site}
 use Rattle.lra_tree.specs.Labels.{Labelled}
-use Rattle.lra_findings.specs.declared.verdict_kinds.VerdictKind.{VerdictKind}
+use Rattle.lra_report.specs.declared.verdict_kinds.VerdictKind.{VerdictKind}
 use Rattle.lra_report.specs.Listing.{subject, subjects_of, listed_verdict, AreJudged}
 use Rattle.lra_program.specs.Assertions.{assertions_from}
 use Rattle.lra_listing.specs.Given.{IsAssertion, AreVerdicts, told_of, told, site_at, verdict_at}

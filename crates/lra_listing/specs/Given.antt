@@ -3,10 +3,10 @@
 use Rattle.std.specs.Prelude.{◌≡◌, ◌<◌, ℕ, suc, Bool, false, List, [], length, Some, slice_get, slice_index_or, IsTrue}
 use Rattle.std.specs.Prelude.{Contains}
 use Rattle.std.specs.List.{AllByRecursion}
-use Rattle.lra_findings.specs.Report.{Invariant, PointReport, Verdict}
+use Rattle.lra_report.specs.Report.{Invariant, PointReport, Verdict}
 use Rattle.lra_program.specs.Sites.{Site}
 use Rattle.lra_tree.specs.Labels.{Labelled}
-use Rattle.lra_findings.specs.declared.verdict_kinds.VerdictKind.{VerdictKind}
+use Rattle.lra_report.specs.declared.verdict_kinds.VerdictKind.{VerdictKind}
 use Rattle.lra_report.specs.Listing.{HasWidth, subject, listed_verdict}
 
 -- the point of this number is an assertion

@@ -10,20 +10,21 @@ ghost use Rattle.lra_meaning.specs.Resolve.{resolve};
 ghost use Rattle.lra_program.specs.Sites.{sites_of};
 ghost use Rattle.lra_meaning.specs.NameFaults.{global_names};
 ghost use Rattle.lra_meaning.specs.ShownNames.{shown_names};
-ghost use Rattle.lra_findings.specs.ReportText.{path_text};
+ghost use Rattle.lra_report.specs.ReportText.{path_text};
 ghost use Rattle.lra_meaning.specs.LiveNames.{globals_named, names_outside, live_names};
-ghost use Rattle.lra_findings.specs.declared.verdict_kinds.VerdictKind.TheVariants.{Assertion};
+ghost use Rattle.lra_report.specs.declared.verdict_kinds.VerdictKind.TheVariants.{Assertion};
 ghost use Rattle.lra_report.specs.Listing.{call_at, called_at, calls_on, listed_point, listed_verdict, AreListed};
 ghost use Rattle.lra_report.specs.Listing.{Lists, judged_place, subject};
 ghost use Rattle.lra_report.specs.View.{call_place_of, point_report_of, verdict_of, report_of};
 ghost use Rattle.lra_listing.specs.Given.{AreInvariants, AreVerdicts, state_of, told_of, told, verdict_at};
 
 use lra_base::Place;
-use lra_findings::VerdictKind;
 use lra_meaning::Labels;
 use lra_operations::Site;
 use lra_options::Options;
-use lra_report::{CallPlace, Part, Point, PointReport, Report, Verdict, names_at, path_text};
+use lra_report::{
+    CallPlace, Part, Point, PointReport, Report, Verdict, VerdictKind, names_at, path_text,
+};
 use lra_show::Names;
 use lra_tree::{Global as Variable, Identifier, Item, Tree, Word};
 use std::alloc::{AllocError, Global};

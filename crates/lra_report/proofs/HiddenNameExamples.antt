@@ -5,8 +5,8 @@ use Rattle.std.specs.List.{flat_map}
 use Rattle.std.specs.Fmt.{digits}
 use Rattle.lra_meaning.specs.ShownNames.{shown_names}
 use Rattle.lra_show.specs.Texts.{text_line}
-use Rattle.lra_findings.specs.ReportText.{state_text}
-use Rattle.lra_findings.proofs.ReportTextExamples.{rows_alone, is_zero}
+use Rattle.lra_report.specs.ReportText.{state_text}
+use Rattle.lra_report.proofs.ReportTextExamples.{rows_alone, is_zero}
 
 -- main's x = 2 and inc's x = 2 at the start of the second call
 hidden_row : state_text (shown_names (codes "x" ∷ codes "x" ∷ [])) (rows_alone (is_zero (negsuc 1) (pos 1 ∷ pos 0 ∷ []) ∷ is_zero (negsuc 1) (pos 0 ∷ pos 1 ∷ []) ∷ []) ∷ []) ≡ flat_map text_line (

@@ -1,3 +1,10 @@
+-- What the text of a verdict tells.
+pub mod Outcomes
+-- Worked examples.
+pub mod ReportTextExamples
+mod RefusalTextExamples
+pub mod PartExamples
+-- Of reports and their texts.
 pub mod CanonicalLists
 pub mod DeclaredNames
 pub mod Every

@@ -2,13 +2,13 @@
 use Rattle.std.proofs.Common.{◌≡◌, ℕ, [], ◌∷◌, refl}
 use Rattle.std.specs.Prelude.{codes}
 use Rattle.std.specs.Fmt.{digits}
-use Rattle.lra_findings.specs.Report.{PointReport}
+use Rattle.lra_report.specs.Report.{PointReport}
 use Rattle.lra_tree.specs.Labels.{labels_of}
 use Rattle.lra_program.specs.Sites.{Site}
 use Rattle.lra_report.specs.Listing.{listed_point, Lists}
 use Rattle.lra_meaning.specs.LiveNames.{globals_named}
 use Rattle.lra_tree.proofs.TreeSamples.{at, number, one_variable, called_twice, call_in_step}
-use Rattle.lra_findings.proofs.ReportTextExamples as report
+use Rattle.lra_report.proofs.ReportTextExamples as report
 use Rattle.lra_meaning.proofs.SiteExamples.{site}
 
 -- the second call's points: paths, places and names

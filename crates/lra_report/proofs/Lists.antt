@@ -3,7 +3,7 @@ use Rattle.std.proofs.Common.{codes, ◌≡◌, ◌≤◌, ◌+◌, ℕ, List, �
 use Rattle.std.proofs.lemmas.List.{drop_all}
 use Rattle.lra_show.specs.Part.{Part}
 use Rattle.lra_show.specs.Texts.{text_line, part_text}
-use Rattle.lra_findings.specs.ReportText.{further_parts_text}
+use Rattle.lra_report.specs.ReportText.{further_parts_text}
 
 pub part_step : (names : List (List ℕ)) (t0 t1 t2 all : List ℕ) (parts : List Part) (j : ℕ) (p : Part) →
     t0 ++ further_parts_text names (drop j parts) ≡ all → drop j parts ≡ p ∷ drop (j + 1) parts → t1 ≡ t0 ++ text_line (codes "  or") → t2 ≡ t1 ++ part_text names p →

@@ -71,15 +71,15 @@ shown_same k l n m hk hl hn hm e =
     let s = front_same is_word_byte n m (mark k) (mark l) (word_passes n hn) (word_passes m hm) (mark_ends k) (mark_ends l) (sym (shown_is k n) ∙ e ∙ shown_is l m) in
     (s.0, mark_same k l hk hl s.1)
 
-mark_visible : (k : ℕ) → IsShort k → AllVisible (mark k)
-mark_visible zero h = tt
-mark_visible (suc k) h = (refl, digits_visible (decimal (suc k)) (decimal_passes (suc k) h))
+mark_visible : (k : ℕ) → AllVisible (mark k)
+mark_visible zero = tt
+mark_visible (suc k) = (refl, digits_visible (decimal (suc k)) (decimal_passes (suc k)))
 
-marked_word : (k : ℕ) (n : List ℕ) → IsShort k → is_name_word n ≡ true → IsShownName (n ++ mark k)
-marked_word k [] hk hn = cc
-marked_word k (c ∷ cs) hk hn =
+marked_word : (k : ℕ) (n : List ℕ) → is_name_word n ≡ true → IsShownName (n ++ mark k)
+marked_word k [] hn = cc
+marked_word k (c ∷ cs) hn =
     let (here, behind) = and_parts (is_letter c) (list_all is_word_byte cs) hn in
-    (letter_no_digit c here, word_byte_visible c (letter_word_byte c here), visible_append cs (mark k) (passes_visible cs (all_pass is_word_byte cs behind)) (mark_visible k hk))
+    (letter_no_digit c here, word_byte_visible c (letter_word_byte c here), visible_append cs (mark k) (passes_visible cs (all_pass is_word_byte cs behind)) (mark_visible k))
 
 -- names that live together -------------------------------------------------------
 
@@ -116,7 +116,7 @@ each_shown [] words few = tt
 each_shown (n ∷ ns) words few =
     let k = count_by (bytes_eq n) ns in
     let short : IsShort k = short_count n ns (omega arith) in
-    (subst IsShownName (sym (shown_is k n)) (marked_word k n short words.0), others n k ns words.0 short (omega arith) words.1 (omega arith), each_shown ns words.1 (omega arith))
+    (subst IsShownName (sym (shown_is k n)) (marked_word k n words.0), others n k ns words.0 short (omega arith) words.1 (omega arith), each_shown ns words.1 (omega arith))
 
 pub are_shown : (live : List (List ℕ)) → AreWords live → AreShownNames (shown_names live)
 are_shown live h = each_shown live h.words h.few

@@ -1,12 +1,11 @@
 -- Numbers in a text are told by it.
-use Rattle.std.proofs.Common.{◌≡◌, ℕ, suc, ◌<◌, ◌^◌, ℤ, pos, negsuc, nat_abs, true, List, [], ◌∷◌, ◌++◌, ap, sym, ◌∙◌, arith}
+use Rattle.std.proofs.Common.{◌≡◌, ℕ, zero, suc, ◌<◌, ◌+◌, ◌/◌, ◌%◌, ◌^◌, ◌==◌, ℤ, pos, negsuc, nat_abs, Bool, true, false, List, [], ◌∷◌, ◌++◌, if◌then◌else◌, ap, sym, ◌∙◌, lt-ltb, arith}
 use Rattle.std.specs.Char.{is_ascii_digit}
-use Rattle.std.specs.Int.{IsInRange}
-use Rattle.std.specs.Fmt.{decimal, signed_decimal}
-use Rattle.std.specs.Str.Parse.{digits_value, AllDigits}
+use Rattle.std.specs.Fmt.{decimal, digits, digit_glyph, digits_onto, signed_decimal}
+use Rattle.std.specs.Str.Parse.{digits_value}
 use Rattle.std.proofs.lemmas.Fmt.{decimal_is_IsNumeral_wide}
-use Rattle.std.proofs.lemmas.Str.Parse.{digit_from_value}
 use Rattle.std.proofs.lemmas.Bool.{le-leb, and_from}
+use Rattle.std.proofs.lemmas.Nat.{mod_below}
 use Rattle.lra_linear.specs.Range.{InRange}
 use Rattle.lra_report.proofs.Fronts.{Passes, Ends, front_same, front_first, rest_same}
 
@@ -14,22 +13,32 @@ use Rattle.lra_report.proofs.Fronts.{Passes, Ends, front_same, front_first, rest
 abbrev pub IsShort : ℕ → Type 0
 IsShort n = n < 10 ^ 64
 
-in_range_digit : (c : ℕ) → IsInRange 48 57 c → is_ascii_digit c ≡ true
-in_range_digit c h = and_from _ _ (le-leb 48 c h.0) (le-leb c 57 h.1)
+glyph_passes : (d : ℕ) → d < 10 → is_ascii_digit (digit_glyph false d) ≡ true
+glyph_passes d h = rw (lt-ltb d 10 h) (and_from _ _ (le-leb 48 (48 + d) (omega arith)) (le-leb (48 + d) 57 (omega (arith, h))))
 
-digits_pass : (ds : List ℕ) → AllDigits 10 ds → Passes is_ascii_digit ds
-digits_pass [] h = h
-digits_pass (d ∷ ds) h = (in_range_digit d (digit_from_value d h.0), digits_pass ds h.1)
+digits_pass : (k n : ℕ) (acc : List ℕ) → Passes is_ascii_digit acc → Passes is_ascii_digit (digits_onto k 10 false n acc)
+digits_pass zero n acc h = h
+digits_pass (suc k) n acc h =
+    let one : Passes is_ascii_digit (digit_glyph false (n % 10) ∷ acc) = (glyph_passes (n % 10) (mod_below n 10 (omega arith)), h) in
+    go (n / 10 == 0) one (digits_pass k (n / 10) (digit_glyph false (n % 10) ∷ acc) one)
+  where
+    go : (b : Bool) → Passes is_ascii_digit (digit_glyph false (n % 10) ∷ acc)
+        → Passes is_ascii_digit (digits_onto k 10 false (n / 10) (digit_glyph false (n % 10) ∷ acc))
+        → Passes is_ascii_digit (if b then digit_glyph false (n % 10) ∷ acc else digits_onto k 10 false (n / 10) (digit_glyph false (n % 10) ∷ acc))
+    go true one more = one
+    go false one more = more
 
-pub decimal_passes : (n : ℕ) → IsShort n → Passes is_ascii_digit (decimal n)
-decimal_passes n h = digits_pass (decimal n) (decimal_is_IsNumeral_wide n h).0.1
+-- also of numbers that aren't short
+pub decimal_passes : (n : ℕ) → Passes is_ascii_digit (decimal n)
+unfolding digits
+decimal_passes n = digits_pass 64 n [] tt
 
 pub decimal_first : (n : ℕ) (u v : List ℕ) (b : ℕ) → IsShort n → decimal n ++ u ≡ b ∷ v → is_ascii_digit b ≡ true
-decimal_first n u v b h e = front_first is_ascii_digit (decimal n) u v b (decimal_is_IsNumeral_wide n h).0.0 (decimal_passes n h) e
+decimal_first n u v b h e = front_first is_ascii_digit (decimal n) u v b (decimal_is_IsNumeral_wide n h).0.0 (decimal_passes n) e
 
 pub decimal_same : (m n : ℕ) (u v : List ℕ) → IsShort m → IsShort n → Ends is_ascii_digit u → Ends is_ascii_digit v → decimal m ++ u ≡ decimal n ++ v → (m ≡ n) × (u ≡ v)
 decimal_same m n u v hm hn eu ev e =
-    let s = front_same is_ascii_digit (decimal m) (decimal n) u v (decimal_passes m hm) (decimal_passes n hn) eu ev e in
+    let s = front_same is_ascii_digit (decimal m) (decimal n) u v (decimal_passes m) (decimal_passes n) eu ev e in
     (sym (decimal_is_IsNumeral_wide m hm).1 ∙ ap (digits_value 10) s.0 ∙ (decimal_is_IsNumeral_wide n hn).1, s.1)
 
 suc_same : {m n : ℕ} → suc m ≡ suc n → m ≡ n

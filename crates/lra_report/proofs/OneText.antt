@@ -7,12 +7,12 @@ use Rattle.std.proofs.lemmas.Bool.{eqb-false}
 use Rattle.lra_tree.specs.Labels.{Labelled, labels_of, label_at, label_place}
 use Rattle.lra_meaning.specs.Resolve.{resolve}
 use Rattle.lra_program.specs.Sites.{Site, sites_of}
-use Rattle.lra_findings.specs.Report.{PointReport, Verdict, Report}
+use Rattle.lra_report.specs.Report.{PointReport, Verdict, Report}
 use Rattle.lra_show.specs.Texts.{text_line}
 use Rattle.std.specs.Prelude.{get_or}
-use Rattle.lra_findings.specs.VerdictKinds.{row_of, outcome_text}
-use Rattle.lra_findings.proofs.Outcomes.{outcome_same}
-use Rattle.lra_findings.specs.ReportText.{place_text, path_text, heading_text, options_text, flag_text, state_text, point_text, verdict_text, counts_line, report_text}
+use Rattle.lra_report.specs.VerdictKinds.{row_of, outcome_text}
+use Rattle.lra_report.proofs.Outcomes.{outcome_same}
+use Rattle.lra_report.specs.ReportText.{place_text, path_text, heading_text, options_text, flag_text, state_text, point_text, verdict_text, counts_line, report_text}
 use Rattle.lra_meaning.specs.ShownNames.{shown_names}
 use Rattle.lra_meaning.specs.LiveNames.{live_names, globals_named}
 use Rattle.lra_report.specs.Listing.{calls_on, listed_point, Subject, subjects, judged_place, listed_verdict, AreListed, AreJudged}

@@ -4,7 +4,7 @@ use Rattle.lra_tree.specs.Texts.{Pieces}
 use Rattle.lra_tree.specs.Trees.{FileTree}
 use Rattle.lra_tree.specs.Grammar.{Spells}
 use Rattle.lra_tree.specs.Faults.{Language}
-use Rattle.lra_findings.specs.Report.{Report}
+use Rattle.lra_report.specs.Report.{Report}
 use Rattle.lra_report.specs.Listing.{Lists}
 use Rattle.lra_report.specs.Spelled.{OneAcceptedText, OneSourceText}
 use Rattle.lra_report.proofs.OneText.{one_report}

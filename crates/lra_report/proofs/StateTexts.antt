@@ -5,9 +5,9 @@ use Rattle.std.proofs.lemmas.List.{append_cancel_left}
 use Rattle.std.proofs.lemmas.Bool.{eqb-false}
 use Rattle.lra_show.specs.Rows.{Row}
 use Rattle.lra_show.specs.Part.{Generator, Part}
-use Rattle.lra_findings.specs.Report.{Invariant}
+use Rattle.lra_report.specs.Report.{Invariant}
 use Rattle.lra_show.specs.Texts.{text_line, row_text, generator_text, rows_text, generators_text, part_text}
-use Rattle.lra_findings.specs.ReportText.{further_parts_text, state_text}
+use Rattle.lra_report.specs.ReportText.{further_parts_text, state_text}
 use Rattle.lra_report.specs.Spelled.{IsSpelledRow, IsSpelledGenerator, IsReadablePart}
 use Rattle.lra_show.specs.Lines.{row_line, generator_line}
 use Rattle.lra_report.proofs.Fronts.{AreShownNames, rest_same, both_same}

@@ -1,3 +1,10 @@
+-- In the order in which they are to be read.
+pub mod VerdictKinds
+pub mod Report
+pub mod Parts
+pub mod ReportText
+pub mod RefusalText
+-- What reports of this crate show of these.
 pub mod Rows
 pub mod View
 pub mod Spelled

@@ -6,14 +6,14 @@ use Rattle.std.specs.List.{AllByRecursion}
 use Rattle.lra_tree.specs.declared.trees.Identifier.{Identifier}
 use Rattle.lra_options.specs.declared.options.Options.{Options}
 use Rattle.lra_base.specs.declared.refusals.Place.{Place}
-use Rattle.lra_findings.specs.declared.verdict_kinds.VerdictKind.{VerdictKind}
-use Rattle.lra_findings.specs.declared.verdict_kinds.VerdictKind.TheVariants.{Assertion}
+use Rattle.lra_report.specs.declared.verdict_kinds.VerdictKind.{VerdictKind}
+use Rattle.lra_report.specs.declared.verdict_kinds.VerdictKind.TheVariants.{Assertion}
 use Rattle.lra_show.specs.Part.{Generator, Part}
-use Rattle.lra_findings.specs.Report.{Invariant, PointReport, Verdict, Report, IsSound}
+use Rattle.lra_report.specs.Report.{Invariant, PointReport, Verdict, Report, IsSound}
 use Rattle.lra_show.specs.Rows.{Row}
-use Rattle.lra_findings.specs.ReportText.{CallPlace, path_text}
+use Rattle.lra_report.specs.ReportText.{CallPlace, path_text}
 use Rattle.lra_meaning.specs.ShownNames.{shown_names}
-use Rattle.lra_findings.specs.Parts.{Tells}
+use Rattle.lra_report.specs.Parts.{Tells}
 use Rattle.lra_tree.specs.Trees.{FileTree}
 use Rattle.lra_tree.specs.Labels.{Labelled, labels_of, label_at, label_place}
 use Rattle.lra_meaning.specs.Resolve.{resolve}

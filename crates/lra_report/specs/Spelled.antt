@@ -14,15 +14,15 @@ use Rattle.lra_tree.specs.Faults.{Language}
 use Rattle.lra_meaning.specs.Refuse.{Accepts}
 use Rattle.lra_options.specs.declared.options.Options.{Options}
 use Rattle.lra_show.specs.Part.{Generator, Part}
-use Rattle.lra_findings.specs.Report.{PointReport, Report}
+use Rattle.lra_report.specs.Report.{PointReport, Report}
 use Rattle.lra_linear.specs.declared.ConKind.{ConKind}
 use Rattle.lra_linear.specs.declared.GenKind.{GenKind}
 use Rattle.lra_linear.specs.declared.GenKind.TheVariants.{Point, Ray, Line}
 use Rattle.lra_linear.specs.declared.ConKind.TheVariants.{Ge, Eq}
 use Rattle.lra_show.specs.Rows.{Row}
 use Rattle.lra_show.specs.Texts.{is_turned}
-use Rattle.lra_findings.specs.ReportText.{report_text}
-use Rattle.lra_findings.specs.Parts.{DividesAs}
+use Rattle.lra_report.specs.ReportText.{report_text}
+use Rattle.lra_report.specs.Parts.{DividesAs}
 use Rattle.lra_report.specs.Listing.{Lists, HasWidth, IsReportOf}
 use Rattle.lra_meaning.specs.LiveNames.{live_names, globals_named}
 use Rattle.lra_report.specs.Rows.{IsRowInRange}

@@ -1,8 +1,8 @@
 -- The report that the program's data stand for.
 use Rattle.std.specs.Prelude.{map, string_bytes}
 use Rattle.lra_program.specs.Run as run
-use Rattle.lra_findings.specs.Report as report
-use Rattle.lra_findings.specs.ReportText as written
+use Rattle.lra_report.specs.Report as report
+use Rattle.lra_report.specs.ReportText as written
 use Rattle.lra_report.specs.declared.report.Point.{Point}
 use Rattle.lra_report.specs.declared.report.PointReport.{PointReport}
 use Rattle.lra_report.specs.declared.report.Verdict.{Verdict}

@@ -1,6 +1,8 @@
 //! Reports, and their text; the text of a refusal.
 //!
-//! The views of these types are the reports of `lra_findings`; [`text`] writes the text that is defined there.
+//! What a report has and claims of a program, and its text, are definitions: `specs/` is to be read from top
+//! to bottom, in the order of `specs/Lib.antt`. The views of these types are those reports; [`text`] writes
+//! that text.
 #![tactic(auto)]
 
 mod law;
@@ -9,6 +11,7 @@ mod part;
 mod path;
 mod refusal;
 mod report;
+mod verdict_kinds;
 mod writing;
 
 pub use law::one_text;
@@ -17,4 +20,5 @@ pub use part::Part;
 pub use path::{CallPlace, path_text};
 pub use refusal::refusal_text;
 pub use report::{Point, PointReport, Report, Verdict};
+pub use verdict_kinds::{VERDICT_KINDS, VerdictKind};
 pub use writing::{push_counts, push_flag, text};

@@ -2,7 +2,7 @@
 
 ghost use Rattle.std.specs.Prelude.{◌≡◌, ◌++◌, map, OnOk, IfOk, string_bytes, codes};
 ghost use Rattle.std.specs.List.{flat_map};
-ghost use Rattle.lra_findings.specs.ReportText as written;
+ghost use Rattle.lra_report.specs.ReportText as written;
 ghost use Rattle.lra_report.specs.View.{call_place_of};
 
 use lra_base::Place;

@@ -2,8 +2,8 @@
 ghost use Rattle.std.specs.Prelude.{◌≡◌, ◌++◌, codes, IfOk, OnOk, string_bytes};
 ghost use Rattle.std.specs.Fmt.{decimal};
 ghost use Rattle.lra_show.specs.Texts.{text_line};
-ghost use Rattle.lra_findings.specs.ReportText.{place_text};
-ghost use Rattle.lra_findings.specs.RefusalText.{refusal_text};
+ghost use Rattle.lra_report.specs.ReportText.{place_text};
+ghost use Rattle.lra_report.specs.RefusalText.{refusal_text};
 
 use lra_base::{Place, Refusal};
 use std::alloc::{AllocError, Global};

@@ -1,12 +1,12 @@
 //! What a report has.
 
 ghost use Rattle.std.specs.Prelude.{◌≡◌, count_by};
-ghost use Rattle.lra_findings.specs.ReportText.{is_proved, is_unknown};
+ghost use Rattle.lra_report.specs.ReportText.{is_proved, is_unknown};
 ghost use Rattle.lra_report.specs.View.{verdict_of};
 
 use crate::part::Part;
+use crate::verdict_kinds::VerdictKind;
 use lra_base::Place;
-use lra_findings::VerdictKind;
 use lra_options::Options;
 use lra_show::Names;
 

@@ -4,13 +4,13 @@ ghost use Rattle.std.specs.Prelude.{◌≡◌, ◌++◌, map, OnOk, IfOk, string
 ghost use Rattle.std.specs.List.{flat_map};
 ghost use Rattle.lra_show.specs.Texts.{part_text};
 ghost use Rattle.lra_options.specs.OptionRows.{number_options, flag_options};
-ghost use Rattle.lra_findings.specs.ReportText as written;
+ghost use Rattle.lra_report.specs.ReportText as written;
 ghost use Rattle.lra_report.specs.View.{point_report_of, verdict_of, report_of};
 
 use crate::part::Part;
 use crate::report::{PointReport, Report, Verdict};
 use lra_base::Place;
-use lra_options::{FLAG_OPTIONS, FlagOption, NUMBER_OPTIONS, Options};
+use lra_options::{FLAG_OPTIONS, FlagOption, NUMBER_OPTIONS, NumberOption, Options};
 use lra_show::{Names, push_generators, push_rows};
 use std::alloc::{AllocError, Global};
 
@@ -136,15 +136,30 @@ fn push_verdicts(text: &mut String, verdicts: &[Verdict]) -> Result<(), AllocErr
     Ok(())
 }
 
+/// Appends what is told of an option that is a number.
+fn push_number_option(
+    text: &mut String,
+    options: Options,
+    option: NumberOption,
+) -> Result<(), AllocError>
+    ensures { OnOk result (string_bytes text.new ≡ string_bytes text.old ++
+        written.number_text options option) }
+{
+    if !option.is_told(options) {
+        return Ok(());
+    }
+    let name = option.name();
+    let value = option.value(options);
+    write!(text, " {name} {value}")
+}
+
 /// Appends what is told of the options that are numbers.
 fn push_number_options(text: &mut String, options: Options) -> Result<(), AllocError>
     ensures { OnOk result (string_bytes text.new ≡ string_bytes text.old ++
         flat_map (written.number_text options) number_options) }
 {
     for option in NUMBER_OPTIONS.iter() {
-        let name = option.name();
-        let value = option.value(options);
-        write!(text, " {name} {value}")?;
+        push_number_option(text, options, *option)?;
     }
     Ok(())
 }

@@ -1,8 +1,8 @@
 -- The lines of a summary.
 use Rattle.std.proofs.Common.{◌≡◌, ℕ, List, [], ◌∷◌, ◌++◌, length, map, codes, decimal, ap, sym, ◌∙◌, append_assoc}
 use Rattle.std.proofs.lemmas.List.{length-map}
-use Rattle.lra_findings.specs.Report.{Report}
-use Rattle.lra_findings.specs.ReportText.{flag_text, counts_line}
+use Rattle.lra_report.specs.Report.{Report}
+use Rattle.lra_report.specs.ReportText.{flag_text, counts_line}
 use Rattle.lra_report.specs.View.{point_report_of}
 use Rattle.lra_report.specs.declared.report.PointReport.{PointReport}
 use Rattle.lra_sample.specs.Sample.{sample_source}

@@ -13,9 +13,9 @@ use Rattle.lra_box.specs.Parts.{bound_row, is_single, low_rows, high_rows, equal
 use Rattle.lra_box.specs.Meaning.{box_meaning}
 use Rattle.lra_box.proofs.PartLemmas.{parts_mean}
 use Rattle.lra_options.specs.declared.options.Domain.TheVariants.{Box}
-use Rattle.lra_findings.specs.Report.{Holds}
+use Rattle.lra_report.specs.Report.{Holds}
 use Rattle.lra_show.specs.Texts.{is_turned}
-use Rattle.lra_findings.specs.Parts.{Tells}
+use Rattle.lra_report.specs.Parts.{Tells}
 use Rattle.lra_report.specs.Listing.{HasWidth}
 use Rattle.lra_states.specs.Shown.{shown_part, AreDirected, ShowsRows}
 use Rattle.lra_states.proofs.RowsHold.{parts_hold, AreWide, both_wide, shown_wide, IsStraight, rows_directed}

@@ -1,7 +1,7 @@
 -- What a formed polyhedron shows is canonical.
 use Rattle.std.proofs.Common.{◌≡◌, List, [], ◌∷◌, refl, sym, subst}
 use Rattle.lra_options.specs.declared.options.Domain.TheVariants.{Poly}
-use Rattle.lra_findings.specs.Report.{Invariant}
+use Rattle.lra_report.specs.Report.{Invariant}
 use Rattle.lra_show.specs.Part.{Part}
 use Rattle.lra_linear.specs.Descriptions.{Given}
 use Rattle.lra_linear.specs.Formed.{IsFormed}

@@ -1,5 +1,6 @@
 -- Octagons are shown by their rows, which hold at each of their stores.
-use Rattle.std.proofs.Common.{◌≡◌, ℕ, zero, suc, ◌+◌, ◌*◌, ◌/◌, ◌-◌, ◌<◌, ◌⊎◌, ◌++◌, ℤ, pos, List, [], ◌∷◌, length, map, Option, Some, None, Bool, true, false, inl, inr, refl, ap, ◌∙◌, arith}
+use Rattle.std.proofs.Common.{◌≡◌, ℕ, zero, suc, ◌+◌, ◌*◌, ◌/◌, ◌-◌, ◌<◌, ◌⊎◌, ◌++◌, ℤ, pos, List, [], ◌∷◌, length, map, Option, Some, None, Bool, true, false}
+use Rattle.std.proofs.Common.{inl, inr, refl, ap, ◌∙◌, arith}
 use Rattle.std.specs.Prelude.{replicate, slice_set, if◌then◌else◌}
 use Rattle.std.specs.List.{AllByRecursion}
 use Rattle.std.proofs.lemmas.List.{length-replicate, length-set}
@@ -12,11 +13,12 @@ use Rattle.lra_dbm.specs.Cells.{Cells, entries}
 use Rattle.lra_oct.specs.Content.{Content, OctagonHas}
 use Rattle.lra_oct.specs.Laws.{sized_stores}
 use Rattle.lra_oct.specs.Meaning.{octagon_meaning}
-use Rattle.lra_oct.specs.Parts.{sign_of, pair_row, printed, is_equality, row_if_any, kind_row, RowsAt, rising, falling, rows_with, equal_rows, unequal_rows, octagon_system, octagon_parts}
+use Rattle.lra_oct.specs.Parts.{sign_of, pair_row, printed, is_equality, row_if_any, kind_row, RowsAt, rising, falling, rows_with, equal_rows, unequal_rows}
+use Rattle.lra_oct.specs.Parts.{octagon_system, octagon_parts}
 use Rattle.lra_oct.proofs.MeanLemmas.{stores_hold}
-use Rattle.lra_findings.specs.Report.{Holds}
+use Rattle.lra_report.specs.Report.{Holds}
 use Rattle.lra_show.specs.Texts.{is_turned}
-use Rattle.lra_findings.specs.Parts.{Tells}
+use Rattle.lra_report.specs.Parts.{Tells}
 use Rattle.lra_report.specs.Listing.{HasWidth}
 use Rattle.lra_report.proofs.Every.{every_append}
 use Rattle.lra_states.specs.Shown.{shown_part, AreDirected, ShowsRows}
@@ -31,13 +33,15 @@ module _ (P : List ℤ → Type 0) where
 
   rising_each : (f : RowsAt) (a b k : ℕ) → a < b → ((j : ℕ) → a < j / 2 → AllByRecursion P (f j)) → AllByRecursion P (rising f b k)
   rising_each f a b zero l h = tt
-  rising_each f a b (suc k) l h = every_append P (f (2 * b)) (rising f (suc b) k) (h (2 * b) (omega (arith, l))) (rising_each f a (suc b) k (omega (arith, l)) h)
+  rising_each f a b (suc k) l h = every_append P (f (2 * b)) (rising f (suc b) k) (h (2 * b) (omega (arith, l)))
+      (rising_each f a (suc b) k (omega (arith, l)) h)
 
   falling_each : (f : RowsAt) (a b k : ℕ) → a < b → ((j : ℕ) → a < j / 2 → AllByRecursion P (f j)) → AllByRecursion P (falling f b k)
   falling_each f a b zero l h = tt
   falling_each f a b (suc k) l h = every_append P (f (2 * (b + k) + 1)) (falling f b k) (h (2 * (b + k) + 1) (omega (arith, l))) (falling_each f a b k l h)
 
-  with_each : (n : ℕ) (f : ℕ → RowsAt) (i : ℕ) → AllByRecursion P (f i i) → ((j : ℕ) → i / 2 < j / 2 → AllByRecursion P (f i j)) → AllByRecursion P (rows_with n f i)
+  with_each : (n : ℕ) (f : ℕ → RowsAt) (i : ℕ) → AllByRecursion P (f i i) → ((j : ℕ) → i / 2 < j / 2 → AllByRecursion P (f i j)) → AllByRecursion P
+      (rows_with n f i)
   with_each n f i own later =
       let after : i / 2 < suc (i / 2) = omega arith in
       let up = rising (f i) (suc (i / 2)) (n - suc (i / 2)) in
@@ -61,7 +65,8 @@ module _ (P : List ℤ → Type 0) where
 
 pair_wide : (n i j : ℕ) (q : ℤ) → length (pair_row n i j q) ≡ suc n
 pair_wide n i j q =
-    ap suc (length-set (slice_set (replicate n (pos 0)) (i / 2) (sign_of i)) (j / 2) (sign_of j) ∙ length-set (replicate n (pos 0)) (i / 2) (sign_of i) ∙ length-replicate n (pos 0))
+    ap suc (length-set (slice_set (replicate n (pos 0)) (i / 2) (sign_of i)) (j / 2) (sign_of j) ∙ length-set (replicate n (pos 0)) (i / 2) (sign_of i) ∙
+    length-replicate n (pos 0))
 
 any_wide : (n i j : ℕ) (o : Option ℤ) → AreWide n (row_if_any n i j o)
 any_wide n i j None = tt
@@ -105,7 +110,8 @@ first_up (suc n) a zero z l = absurd (omega (arith, l))
 first_up (suc n) zero (suc b) z l = refl
 first_up (suc n) (suc a) (suc b) z l = first_up n a b z (omega (arith, l))
 
-row_up : (n x y a : ℕ) (u v : ℤ) → x ≡ a → u ≡ pos 1 → (a < y) ⊎ ((y ≡ a) × (v ≡ pos 1)) → is_turned (slice_set (slice_set (replicate n (pos 0)) x u) y v) ≡ false
+row_up : (n x y a : ℕ) (u v : ℤ) → x ≡ a → u ≡ pos 1 → (a < y) ⊎ ((y ≡ a) × (v ≡ pos 1)) → is_turned (slice_set (slice_set (replicate n (pos 0)) x u) y v) ≡
+    false
 row_up n x y a u v ex eu (inl l) = rw (ex, eu) (first_up n a y v l)
 row_up n x y a u v ex eu (inr (ey, ev)) = rw (ex, eu, ey, ev) (own_up n a)
 
@@ -119,7 +125,8 @@ any_straight : (n a j : ℕ) (o : Option ℤ) → (a < j / 2) ⊎ (j ≡ 2 * a) 
 any_straight n a j None c = tt
 any_straight n a j (Some q) (inl l) = (row_up n ((2 * a) / 2) (j / 2) a (sign_of (2 * a)) (sign_of j) (half_even a) (sign_even a) (inl l), tt)
 any_straight n a j (Some q) (inr e) = (
-  row_up n ((2 * a) / 2) (j / 2) a (sign_of (2 * a)) (sign_of j) (half_even a) (sign_even a) (inr (ap (λ (z : ℕ). z / 2) e ∙ half_even a, ap (λ (z : ℕ). sign_of z) e ∙ sign_even a)),
+  row_up n ((2 * a) / 2) (j / 2) a (sign_of (2 * a)) (sign_of j) (half_even a) (sign_even a)
+      (inr (ap (λ (z : ℕ). z / 2) e ∙ half_even a, ap (λ (z : ℕ). sign_of z) e ∙ sign_even a)),
   tt,
 )
 
@@ -128,7 +135,8 @@ kind_straight n m a j c =
     chosen_each IsStraight (is_equality m (2 * a) j) (row_if_any n (2 * a) j (printed m (2 * a) j)) [] (any_straight n a j (printed m (2 * a) j) c) tt
 
 with_straight : (n : ℕ) (m : Entries) (a : ℕ) → AllByRecursion IsStraight (rows_with n (kind_row Eq n m) (2 * a))
-with_straight n m a = with_each IsStraight n (kind_row Eq n m) (2 * a) (kind_straight n m a (2 * a) (inr refl)) (λ j l. kind_straight n m a j (inl (omega (arith, l))))
+with_straight n m a = with_each IsStraight n (kind_row Eq n m) (2 * a) (kind_straight n m a (2 * a) (inr refl))
+    (λ j l. kind_straight n m a j (inl (omega (arith, l))))
 
 parts_directed : (n : ℕ) (o : Option Cells) → AllByRecursion AreDirected (map shown_part (octagon_parts n o))
 parts_directed n None = tt

@@ -16,14 +16,15 @@ use Rattle.lra_polydom.specs.Content.{is_absurd, listed, polyhedron_parts}
 use Rattle.lra_polydom.specs.Covering.{empty_parts, parts_empty}
 use Rattle.lra_polydom.specs.Meaning.{polyhedron_meaning}
 use Rattle.lra_show.specs.Part.{Part}
-use Rattle.lra_findings.specs.Report.{Invariant}
+use Rattle.lra_report.specs.Report.{Invariant}
 use Rattle.lra_states.specs.Shown.{IsShown}
 use Rattle.lra_states.specs.Polyhedra.{shown_polyhedron, TellsPolyhedron, polyhedron_of}
 use Rattle.lra_states.proofs.SamePoints.{as_row, within_con}
 use Rattle.lra_states.proofs.PolyhedronShown.{no_part, one_part, part_of, has_point, row_is_point}
 
 -- the lists of a polyhedron make it
-pub lists_are : (p : Polyhedron) (rows : Listed ConKind) (gens : Listed GenKind) → rows.dims ≡ p.dims → constraints rows ≡ p.rows → generators gens ≡ p.generators → polyhedron_of rows gens ≡ p
+pub lists_are : (p : Polyhedron) (rows : Listed ConKind) (gens : Listed GenKind) → rows.dims ≡ p.dims → constraints rows ≡ p.rows → generators gens ≡
+    p.generators → polyhedron_of rows gens ≡ p
 lists_are p rows gens dims of_rows of_generators =
     ap (λ (n : ℕ). let q : Polyhedron = record { dims = n; rows = constraints rows; generators = generators gens } in q) dims
     ∙ ap (λ (l : List Given). let q : Polyhedron = record { dims = p.dims; rows = l; generators = generators gens } in q) of_rows
@@ -40,13 +41,15 @@ kept true list never = absurd (never refl)
 as_many : (p : Polyhedron) → IsPolyhedron p → length (shown_polyhedron p) ≡ length (polyhedron_parts p)
 as_many p (inl none) =
     let never : Given = record { row = falsity p.dims; equal = false } in
-    let empty : IsEmptySet p.dims (Con p.rows) = λ x i c. falsity_never p.dims x i (c never (subst (λ l. Contains l never) (sym none.0) (contains_head never []))) in
+    let empty : IsEmptySet p.dims (Con p.rows) = λ x i c. falsity_never p.dims x i
+    (c never (subst (λ l. Contains l never) (sym none.0) (contains_head never []))) in
     ap length (no_part p none.1) ∙ sym (ap length (empty_parts p (inl none) empty))
 as_many p (inr h) =
     ap length (one_part p h (part_of p))
     ∙ kept (list_any is_absurd p.rows) (listed p) (λ e. not_empty p h (parts_empty p p.dims (ap (λ (b : Bool). cond b [] (listed p ∷ [])) e)))
 
-shown_so : (p : Polyhedron) → IsPolyhedron p → (state : Invariant) → state ≡ shown_polyhedron p → TellsPolyhedron p state → IsShown polyhedron_meaning Poly p state
+shown_so : (p : Polyhedron) → IsPolyhedron p → (state : Invariant) → state ≡ shown_polyhedron p → TellsPolyhedron p state → IsShown polyhedron_meaning Poly p
+    state
 shown_so p is state e t = record {
   as_many = ap length e ∙ as_many p is;
   wide = t.wide;
@@ -66,5 +69,6 @@ module _ {E : Type 0} (p q : Polyhedron) (same : q ≡ p) where
   state_told canonical (Err e) is t = tt
 
   -- and by canonical lists
-  pub state_canonical : (x : Result (Vec Part Global) E) → IfOk x (λ s. IsCanonicalState Poly q.dims s.items) → IfOk x (λ s. IsCanonicalState Poly p.dims s.items)
+  pub state_canonical : (x : Result (Vec Part Global) E) → IfOk x (λ s. IsCanonicalState Poly q.dims s.items) → IfOk x
+      (λ s. IsCanonicalState Poly p.dims s.items)
   state_canonical x h = subst (λ (r : Polyhedron). IfOk x (λ s. IsCanonicalState Poly r.dims s.items)) same h

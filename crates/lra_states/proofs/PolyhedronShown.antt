@@ -1,5 +1,6 @@
 -- A polyhedron is shown by its canonical lists: as wide as it has dimensions, with the same points by rows and by generators, and told by its text.
-use Rattle.std.proofs.Common.{◌≡◌, ◌≢◌, ◌∙◌, ◌<◌, ◌⊎◌, ℕ, zero, suc, ℤ, pos, negsuc, ◌<ℤ◌, Bool, true, false, List, [], ◌∷◌, ◌++◌, length, map, inl, inr, refl, sym, ap, subst, arith, append_assoc}
+use Rattle.std.proofs.Common.{◌≡◌, ◌≢◌, ◌∙◌, ◌<◌, ◌⊎◌, ℕ, zero, suc, ℤ, pos, negsuc, ◌<ℤ◌, Bool, true, false, List, [], ◌∷◌, ◌++◌, length, map, inl, inr, refl}
+use Rattle.std.proofs.Common.{sym, ap, subst, arith, append_assoc}
 use Rattle.std.specs.List.{All, AllByRecursion, Contains}
 use Rattle.std.proofs.lemmas.Int.{ints}
 use Rattle.std.proofs.lemmas.List.{map-append}
@@ -30,8 +31,8 @@ use Rattle.lra_report.specs.Spelled.{IsSpelledRow, IsSpelledGenerator, IsSpelled
 use Rattle.lra_report.proofs.Every.{every_append}
 use Rattle.lra_report.proofs.CanonicalLists.{spelled_equality, spelled_inequality, spelled_point, spelled_ray, spelled_line}
 use Rattle.lra_show.specs.Part.{Generator, Part}
-use Rattle.lra_findings.specs.Report.{Invariant}
-use Rattle.lra_findings.specs.Parts as parts
+use Rattle.lra_report.specs.Report.{Invariant}
+use Rattle.lra_report.specs.Parts as parts
 use Rattle.lra_states.specs.Polyhedra.{part_if_any, shown_polyhedron, TellsPolyhedron, polyhedron_of}
 use Rattle.lra_states.proofs.RowsHold.{row_holds, row_held}
 use Rattle.lra_states.proofs.SamePoints.{as_row, within_con, con_within, generated_gen, gen_generated}
@@ -41,7 +42,8 @@ pub rows_again : (rows : List (List ℤ)) (kinds : List ConKind) → shown_rows 
 rows_again [] kinds = refl
 rows_again (r ∷ rows) [] = refl
 rows_again (r ∷ rows) (k ∷ kinds) =
-    ap (λ (q : ConKind). report_row r q ∷ shown_rows rows kinds) (sym (kind_back k)) ∙ ap (λ rest. report_row r (constraint_kind (is_equality k)) ∷ rest) (rows_again rows kinds)
+    ap (λ (q : ConKind). report_row r q ∷ shown_rows rows kinds) (sym (kind_back k)) ∙ ap (λ rest. report_row r (constraint_kind (is_equality k)) ∷ rest)
+    (rows_again rows kinds)
 
 point_again : (z : ℤ) → pos 0 <ℤ z → Point ≡ generator_kind false z
 point_again (pos zero) h = absurd (omega (arith, ints, h))
@@ -53,7 +55,8 @@ generator_again Point r h = point_again (entry r 0) h
 generator_again Ray r h = ap (generator_kind false) (sym h)
 generator_again Line r h = refl
 
-pub generators_again : (rows : List (List ℤ)) (kinds : List GenKind) → FitKinds rows kinds → shown_generators rows kinds ≡ map shown_generator (given_by is_line rows kinds)
+pub generators_again : (rows : List (List ℤ)) (kinds : List GenKind) → FitKinds rows kinds → shown_generators rows kinds ≡ map shown_generator
+    (given_by is_line rows kinds)
 generators_again [] kinds h = refl
 generators_again (r ∷ rows) [] h = refl
 generators_again (r ∷ rows) (k ∷ kinds) h =
@@ -61,7 +64,8 @@ generators_again (r ∷ rows) (k ∷ kinds) h =
     ∙ ap (λ rest. report_generator r (generator_kind (is_line k) (entry r 0)) ∷ rest) (generators_again rows kinds h.1)
 
 -- ---- what holds of the rows of a list holds of its members
-pub members : {K : Type 0} (equal : K → Bool) (P : List ℤ → Type 0) (rows : List (List ℤ)) (kinds : List K) → All P rows → (g : Given) → Contains (given_by equal rows kinds) g → P g.row
+pub members : {K : Type 0} (equal : K → Bool) (P : List ℤ → Type 0) (rows : List (List ℤ)) (kinds : List K) → All P rows → (g : Given) → Contains
+    (given_by equal rows kinds) g → P g.row
 members equal P [] kinds h g k = absurd (contains_none g k)
 members equal P (r ∷ rows) [] h g k = absurd (contains_none g k)
 members equal P (r ∷ rows) (q ∷ kinds) h g k = elim (contains_cases (let x : Given = record { row = r; equal = equal q } in x) g (given_by equal rows kinds) k) [
@@ -78,7 +82,8 @@ row_wide : (n : ℕ) (row : List ℤ) (k : ConKind) → length row ≡ suc n →
 row_wide n [] k e = absurd (omega (arith, e))
 row_wide n (c ∷ cs) k e = omega (arith, e)
 
-rows_wide : (n : ℕ) (rows : List Given) → ((g : Given) → Contains rows g → length g.row ≡ suc n) → AllByRecursion (λ (r : Row). length r.coefficients ≡ n) (map shown_constraint rows)
+rows_wide : (n : ℕ) (rows : List Given) → ((g : Given) → Contains rows g → length g.row ≡ suc n) → AllByRecursion (λ (r : Row). length r.coefficients ≡ n)
+    (map shown_constraint rows)
 rows_wide n [] h = tt
 rows_wide n (g ∷ rows) h = (row_wide n g.row (constraint_kind g.equal) (h g (contains_head g rows)), rows_wide n rows (λ x k. h x (contains_tail g x rows k)))
 
@@ -86,18 +91,21 @@ generator_wide : (n : ℕ) (row : List ℤ) (k : GenKind) → length row ≡ suc
 generator_wide n [] k e = absurd (omega (arith, e))
 generator_wide n (c ∷ cs) k e = omega (arith, e)
 
-generators_wide : (n : ℕ) (gs : List Given) → ((g : Given) → Contains gs g → length g.row ≡ suc n) → AllByRecursion (λ (g : Generator). length g.numbers ≡ n) (map shown_generator gs)
+generators_wide : (n : ℕ) (gs : List Given) → ((g : Given) → Contains gs g → length g.row ≡ suc n) → AllByRecursion (λ (g : Generator). length g.numbers ≡ n)
+    (map shown_generator gs)
 generators_wide n [] h = tt
 generators_wide n (g ∷ gs) h =
     (generator_wide n g.row (generator_kind g.equal (entry g.row 0)) (h g (contains_head g gs)), generators_wide n gs (λ x k. h x (contains_tail g x gs k)))
 
 -- ---- texts
 -- a fact on each row that is shown
-shown_each : (P : Row → Type 0) (b : Bool) (rows : List (List ℤ)) → ((r : List ℤ) → Contains rows r → P (report_row r (constraint_kind b))) → AllByRecursion P (map shown_constraint (given_as b rows))
+shown_each : (P : Row → Type 0) (b : Bool) (rows : List (List ℤ)) → ((r : List ℤ) → Contains rows r → P (report_row r (constraint_kind b))) → AllByRecursion P
+    (map shown_constraint (given_as b rows))
 shown_each P b [] h = tt
 shown_each P b (r ∷ rows) h = (h r (contains_head r rows), shown_each P b rows (λ x k. h x (contains_tail r x rows k)))
 
-shown_each_generator : (P : Generator → Type 0) (b : Bool) (rows : List (List ℤ)) → ((r : List ℤ) → Contains rows r → P (shown_generator (record { row = r; equal = b })))
+shown_each_generator : (P : Generator → Type 0) (b : Bool) (rows : List (List ℤ)) →
+    ((r : List ℤ) → Contains rows r → P (shown_generator (record { row = r; equal = b })))
     → AllByRecursion P (map shown_generator (given_as b rows))
 shown_each_generator P b [] h = tt
 shown_each_generator P b (r ∷ rows) h = (h r (contains_head r rows), shown_each_generator P b rows (λ x k. h x (contains_tail r x rows k)))
@@ -118,14 +126,18 @@ rows_spelled p h small =
     let small' : AreSmall (es ++ is) = subst AreSmall h.rows_are small in
     let first = shown_each IsSpelledRow true h.equalities (λ r k.
     let (q, leads) = leads_of h.equalities h.constraints_canonical.pivots h.constraints_canonical.echelon r k in
-    spelled_equality r q leads (small' (record { row = r; equal = true }) (Contains-append_left es is (record { row = r; equal = true }) (given_has true h.equalities r k)))) in
+    spelled_equality r q leads (small' (record { row = r; equal = true })
+    (Contains-append_left es is (record { row = r; equal = true }) (given_has true h.equalities r k)))) in
     let second = shown_each IsSpelledRow false h.inequalities (λ r k.
-    spelled_inequality r (small' (record { row = r; equal = false }) (Contains-append_right es is (record { row = r; equal = false }) (given_has false h.inequalities r k)))) in
+    spelled_inequality r (small' (record { row = r; equal = false }) (Contains-append_right es is (record { row = r; equal = false })
+    (given_has false h.inequalities r k)))) in
     subst (λ (rows : List Given). AllByRecursion IsSpelledRow (map shown_constraint rows)) (sym h.rows_are)
-    (subst (AllByRecursion IsSpelledRow) (sym (map-append shown_constraint es is)) (every_append IsSpelledRow (map shown_constraint es) (map shown_constraint is) first second))
+    (subst (AllByRecursion IsSpelledRow) (sym (map-append shown_constraint es is))
+    (every_append IsSpelledRow (map shown_constraint es) (map shown_constraint is) first second))
 
 -- of three lists
-each_of_three : (P : Generator → Type 0) (xs ys zs : List Given) → AllByRecursion P (map shown_generator xs) → AllByRecursion P (map shown_generator ys) → AllByRecursion P (map shown_generator zs)
+each_of_three : (P : Generator → Type 0) (xs ys zs : List Given) → AllByRecursion P (map shown_generator xs) → AllByRecursion P (map shown_generator ys) →
+    AllByRecursion P (map shown_generator zs)
     → AllByRecursion P (map shown_generator (xs ++ ys ++ zs))
 each_of_three P xs ys zs a b c =
     let ab = subst (AllByRecursion P) (sym (map-append shown_generator xs ys)) (every_append P (map shown_generator xs) (map shown_generator ys) a b) in
@@ -151,7 +163,8 @@ generators_spelled p h small =
     let of_lines = shown_each_generator IsSpelledGenerator true h.lines (λ r k.
     let g : Given = record { row = r; equal = true } in
     spelled_line r (h.directions r (inr k)) (small' g (Contains-append_right (points ++ rays) lines g (given_has true h.lines r k)))) in
-    subst (λ (gs : List Given). AllByRecursion IsSpelledGenerator (map shown_generator gs)) (sym h.generators_are) (each_of_three IsSpelledGenerator points rays lines of_points of_rays of_lines)
+    subst (λ (gs : List Given). AllByRecursion IsSpelledGenerator (map shown_generator gs)) (sym h.generators_are)
+    (each_of_three IsSpelledGenerator points rays lines of_points of_rays of_lines)
 
 -- ---- points
 divide : (gs : List Generator) → AllByRecursion IsSpelledGenerator gs → AllByRecursion (λ (g : Generator). parts.DividesAs g.kind g.divisor) gs
@@ -239,7 +252,8 @@ one_part p h part =
 abbrev AreWide : ℕ → List Given → Type 0
 AreWide n list = (g : Given) → Contains list g → length g.row ≡ suc n
 
-pub told : (p : Polyhedron) → IsPolyhedron p → AreWide p.dims p.rows → AreWide p.dims p.generators → AreSmall p.generators → TellsPolyhedron p (shown_polyhedron p)
+pub told : (p : Polyhedron) → IsPolyhedron p → AreWide p.dims p.rows → AreWide p.dims p.generators → AreSmall p.generators → TellsPolyhedron p
+    (shown_polyhedron p)
 told p (inl none) wide_rows wide_generators small =
     subst (TellsPolyhedron p) (sym (no_part p none.1))
     (record {
@@ -267,7 +281,8 @@ spelled p (inr h) small_rows small =
     (record { rows = rows_spelled p h small_rows; generators = generators_spelled p h small }, tt)
 
 -- ---- two lists
-any_listed : (rows : List (List ℤ)) (kinds : List GenKind) (part : Part) → length kinds ≡ length rows → 0 < length kinds → part_if_any (given_by is_line rows kinds) part ≡ part ∷ []
+any_listed : (rows : List (List ℤ)) (kinds : List GenKind) (part : Part) → length kinds ≡ length rows → 0 < length kinds → part_if_any
+    (given_by is_line rows kinds) part ≡ part ∷ []
 any_listed [] [] part long some = absurd (omega (arith, some))
 any_listed [] (k ∷ kinds) part long some = absurd (omega (arith, long))
 any_listed (r ∷ rows) [] part long some = absurd (omega (arith, some))
@@ -281,12 +296,15 @@ none_listed (r ∷ rows) (k ∷ kinds) part none = absurd (omega (arith, none))
 pub none_shown : (rows : Listed ConKind) (gens : Listed GenKind) → length gens.kinds ≡ 0 → [] ≡ shown_polyhedron (polyhedron_of rows gens)
 none_shown rows gens none = none_listed gens.rows gens.kinds (part_of (polyhedron_of rows gens)) none
 
-pub some_shown : (rows : Listed ConKind) (gens : Listed GenKind) (part : Part) → FitKinds gens.rows gens.kinds → length gens.kinds ≡ length gens.rows → 0 < length gens.kinds
-    → part.rows ≡ shown_rows rows.rows rows.kinds → part.generators ≡ shown_generators gens.rows gens.kinds → part ∷ [] ≡ shown_polyhedron (polyhedron_of rows gens)
+pub some_shown : (rows : Listed ConKind) (gens : Listed GenKind) (part : Part) → FitKinds gens.rows gens.kinds → length gens.kinds ≡ length gens.rows → 0 <
+    length gens.kinds
+    → part.rows ≡ shown_rows rows.rows rows.kinds → part.generators ≡ shown_generators gens.rows gens.kinds → part ∷ [] ≡ shown_polyhedron
+    (polyhedron_of rows gens)
 some_shown rows gens part fit long some of_rows of_generators =
     let is : part ≡ part_of (polyhedron_of rows gens) =
     ap (λ (rs : List Row). record { rows = rs; generators = part.generators }) (of_rows ∙ rows_again rows.rows rows.kinds)
-    ∙ ap (λ (gs : List Generator). record { rows = map shown_constraint (constraints rows); generators = gs }) (of_generators ∙ generators_again gens.rows gens.kinds fit) in
+    ∙ ap (λ (gs : List Generator). record { rows = map shown_constraint (constraints rows); generators = gs })
+    (of_generators ∙ generators_again gens.rows gens.kinds fit) in
     ap (λ (p : Part). p ∷ []) is ∙ sym (any_listed gens.rows gens.kinds (part_of (polyhedron_of rows gens)) long some)
 
 -- what is said of the polyhedron's state, of one that is the same
@@ -303,7 +321,8 @@ module _ (rows : Listed ConKind) (gens : Listed GenKind) (is : IsPolyhedron (pol
   told_so state e =
       subst (TellsPolyhedron (polyhedron_of rows gens)) (sym e)
       (told (polyhedron_of rows gens) is (members is_equality (λ (r : List ℤ). length r ≡ suc rows.dims) rows.rows rows.kinds wide_rows)
-      (subst (λ (n : ℕ). AreWide n (generators gens)) same (members is_line (λ (r : List ℤ). length r ≡ suc gens.dims) gens.rows gens.kinds wide_generators)) generators_small)
+      (subst (λ (n : ℕ). AreWide n (generators gens)) same (members is_line (λ (r : List ℤ). length r ≡ suc gens.dims) gens.rows gens.kinds wide_generators))
+      generators_small)
 
   pub spelled_so : (state : Invariant) → state ≡ shown_polyhedron (polyhedron_of rows gens) → AllByRecursion IsSpelledPart state
   spelled_so state e = subst (AllByRecursion IsSpelledPart) (sym e) (spelled (polyhedron_of rows gens) is rows_small generators_small)

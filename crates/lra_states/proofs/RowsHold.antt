@@ -17,7 +17,7 @@ use Rattle.lra_domain.specs.Meaning.{Meaning}
 use Rattle.lra_domain.specs.Laws.{PartsTell}
 use Rattle.lra_domain.specs.Parts.{SomePartHolds}
 use Rattle.lra_show.specs.Part.{Part}
-use Rattle.lra_findings.specs.Report.{Holds}
+use Rattle.lra_report.specs.Report.{Holds}
 use Rattle.lra_show.specs.Rows.{RowHolds, Row}
 use Rattle.lra_states.specs.Shown.{shown_part, MeansValue}
 
@@ -36,14 +36,19 @@ row_held [] Ge s h = omega (arith, ints)
 row_held [] Eq s h = refl
 row_held (c ∷ cs) k s h = subst (λ (z : ℤ). HoldsWith (is_equality k) z) (sym (row_value c cs s)) h
 
-rows_hold : (rows : List (List ℤ)) (kinds : List ConKind) (s : List ℤ) → Con (given_by is_equality rows kinds) (pos 1 ∷ s) → AllByRecursion (λ (r : Row). RowHolds r s) (shown_rows rows kinds)
+rows_hold : (rows : List (List ℤ)) (kinds : List ConKind) (s : List ℤ) → Con (given_by is_equality rows kinds) (pos 1 ∷ s) → AllByRecursion
+    (λ (r : Row). RowHolds r s) (shown_rows rows kinds)
 rows_hold [] kinds s h = tt
 rows_hold (r ∷ rows) [] s h = tt
 rows_hold (r ∷ rows) (k ∷ kinds) s h =
-    let g : Given = record { row = r; equal = is_equality k } in
-    (row_holds r k s (h g (contains_head g (given_by is_equality rows kinds))), rows_hold rows kinds s (λ x i. h x (contains_tail g x (given_by is_equality rows kinds) i)))
+    let g : Given = record { row = r; equal = is_equality k } in (
+      row_holds r k s (h g (contains_head g (given_by is_equality rows kinds))),
+      rows_hold rows kinds s
+          (λ x i. h x (contains_tail g x (given_by is_equality rows kinds) i)),
+    )
 
-rows_held : (rows : List (List ℤ)) (kinds : List ConKind) (s : List ℤ) → AllByRecursion (λ (r : Row). RowHolds r s) (shown_rows rows kinds) → Con (given_by is_equality rows kinds) (pos 1 ∷ s)
+rows_held : (rows : List (List ℤ)) (kinds : List ConKind) (s : List ℤ) → AllByRecursion (λ (r : Row). RowHolds r s) (shown_rows rows kinds) → Con
+    (given_by is_equality rows kinds) (pos 1 ∷ s)
 rows_held [] kinds s h g i = absurd (contains_none g i)
 rows_held (r ∷ rows) [] s h g i = absurd (contains_none g i)
 rows_held (r ∷ rows) (k ∷ kinds) s h g i =
@@ -81,7 +86,8 @@ pub both_wide : (n : ℕ) (xs ys : List (List ℤ)) → AreWide n xs → AreWide
 both_wide n [] ys h i = i
 both_wide n (x ∷ xs) ys h i = (h.0, both_wide n xs ys h.1 i)
 
-pub shown_wide : (n : ℕ) (rows : List (List ℤ)) (kinds : List ConKind) → AreWide n rows → AllByRecursion (λ (r : Row). length r.coefficients ≡ n) (shown_rows rows kinds)
+pub shown_wide : (n : ℕ) (rows : List (List ℤ)) (kinds : List ConKind) → AreWide n rows → AllByRecursion (λ (r : Row). length r.coefficients ≡ n)
+    (shown_rows rows kinds)
 shown_wide n [] kinds h = tt
 shown_wide n (r ∷ rows) [] h = tt
 shown_wide n (r ∷ rows) (k ∷ kinds) h = (shown r h.0, shown_wide n rows kinds h.1)
@@ -107,6 +113,7 @@ inequalities_directed : (rows : List (List ℤ)) → AllByRecursion IsDirectedRo
 inequalities_directed [] = tt
 inequalities_directed (r ∷ rows) = (inequality_directed r, inequalities_directed rows)
 
-pub rows_directed : (xs ys : List (List ℤ)) → AllByRecursion IsStraight xs → AllByRecursion IsDirectedRow (shown_rows (xs ++ ys) (replicate (length xs) Eq ++ replicate (length ys) Ge))
+pub rows_directed : (xs ys : List (List ℤ)) → AllByRecursion IsStraight xs → AllByRecursion IsDirectedRow
+    (shown_rows (xs ++ ys) (replicate (length xs) Eq ++ replicate (length ys) Ge))
 rows_directed [] ys h = inequalities_directed ys
 rows_directed (x ∷ xs) ys h = (h.0, rows_directed xs ys h.1)

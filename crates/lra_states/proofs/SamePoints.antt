@@ -1,5 +1,6 @@
 -- The rows and generators that show two lists tell the points of the lists.
-use Rattle.std.proofs.Common.{◌≡◌, ◌∙◌, ℕ, zero, suc, ℤ, pos, negsuc, ◌+ℤ◌, ◌*ℤ◌, ◌≤ℤ◌, Bool, true, false, cond, List, [], ◌∷◌, map, inl, inr, refl, sym, ap, subst, arith}
+use Rattle.std.proofs.Common.{◌≡◌, ◌∙◌, ℕ, zero, suc, ℤ, pos, negsuc, ◌+ℤ◌, ◌*ℤ◌, ◌≤ℤ◌, Bool, true, false, cond, List, [], ◌∷◌, map, inl, inr, refl, sym, ap}
+use Rattle.std.proofs.Common.{subst, arith}
 use Rattle.std.specs.Prelude.{get_or}
 use Rattle.std.proofs.lemmas.Int.{ints}
 use Rattle.lra_linear.specs.Descriptions.{Given, IsGenerator, AreGenerators, lines_of, rays_of, HoldsWith, Holds, Con, Gen}
@@ -11,7 +12,7 @@ use Rattle.lra_linear.specs.declared.GenKind.TheVariants.{Line}
 use Rattle.lra_show.specs.Shown.{report_row, report_generator}
 use Rattle.lra_show.specs.ShownDescriptions.{generator_kind, shown_constraint, shown_generator}
 use Rattle.lra_show.specs.Part.{Generator}
-use Rattle.lra_findings.specs.Parts.{RationalPoint, RowHoldsAt, IsWithin, IsFactor, AreFactors, IsGenerated}
+use Rattle.lra_report.specs.Parts.{RationalPoint, RowHoldsAt, IsWithin, IsFactor, AreFactors, IsGenerated}
 
 -- a point as a row of the lists
 abbrev pub as_row : RationalPoint → List ℤ
@@ -67,7 +68,8 @@ column gs j = map (λ (g : Given). entry g.row j) gs
 divisors_are : (gs : List Given) → AreGenerators gs → map (λ (g : Generator). pos g.divisor) (map shown_generator gs) ≡ column gs 0
 divisors_are [] are = refl
 divisors_are (g ∷ gs) are =
-    ap (λ z. z ∷ map (λ (g : Generator). pos g.divisor) (map shown_generator gs)) (divisor_is g.row g.equal (generator_kind g.equal (entry g.row 0)) (are g (contains_head g gs)))
+    ap (λ z. z ∷ map (λ (g : Generator). pos g.divisor) (map shown_generator gs))
+    (divisor_is g.row g.equal (generator_kind g.equal (entry g.row 0)) (are g (contains_head g gs)))
     ∙ ap (λ zs. entry g.row 0 ∷ zs) (divisors_are gs (λ x k. are x (contains_tail g x gs k)))
 
 numbers_are : (gs : List Given) (j : ℕ) → map (λ (g : Generator). get_or g.numbers j (pos 0)) (map shown_generator gs) ≡ column gs (suc j)
@@ -109,7 +111,8 @@ record Halves (lines rays : List (List ℤ)) (total : ℕ → ℤ) : Type 0 wher
   factors : List ℕ
   same : (j : ℕ) → signed_sum free lines j +ℤ sum_of factors rays j ≡ total j
 
-halve_first : (row : List ℤ) (b : Bool) (z : ℤ) (lines rays : List (List ℤ)) (total : ℕ → ℤ) → IsFactor (shown_generator (record { row = row; equal = b })).kind z → Halves lines rays total
+halve_first : (row : List ℤ) (b : Bool) (z : ℤ) (lines rays : List (List ℤ)) (total : ℕ → ℤ) → IsFactor
+    (shown_generator (record { row = row; equal = b })).kind z → Halves lines rays total
     → Halves (cond b (row ∷ lines) lines) (cond b rays (row ∷ rays)) (λ j. (z *ℤ entry row j) +ℤ total j)
 halve_first row true z lines rays total f h = record {
   free = z ∷ h.free;
@@ -146,7 +149,8 @@ none_second a b c e = omega (arith, ints, e)
 
 join_first : (row : List ℤ) (b : Bool) (rest : List Generator) (columns : ℕ → List ℤ) (lines rays : List (List ℤ)) (free : List ℤ) (factors : List ℕ)
     → ((fs : List ℤ) (ns : List ℕ) → Whole rest columns (both_sums fs ns lines rays))
-    → Whole (shown_generator (record { row = row; equal = b }) ∷ rest) (λ j. entry row j ∷ columns j) (both_sums free factors (cond b (row ∷ lines) lines) (cond b rays (row ∷ rays)))
+    → Whole (shown_generator (record { row = row; equal = b }) ∷ rest) (λ j. entry row j ∷ columns j)
+    (both_sums free factors (cond b (row ∷ lines) lines) (cond b rays (row ∷ rays)))
 join_first row true rest columns lines rays [] factors later = let w = later [] factors in record {
   factors = pos 0 ∷ w.factors;
   are = (line_factor row (pos 0), w.are);

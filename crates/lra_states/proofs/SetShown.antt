@@ -13,8 +13,8 @@ use Rattle.lra_options.specs.declared.options.Domain.{Domain}
 use Rattle.lra_report.specs.Listing.{HasWidth}
 use Rattle.lra_report.proofs.Every.{every_append}
 use Rattle.lra_show.specs.Part.{Part}
-use Rattle.lra_findings.specs.Report.{Invariant, Holds}
-use Rattle.lra_findings.specs.Parts.{Tells}
+use Rattle.lra_report.specs.Report.{Invariant, Holds}
+use Rattle.lra_report.specs.Parts.{Tells}
 use Rattle.lra_states.specs.Canonical.{AreCanonicallyShown, IsCanonicalFor, IsCanonicalState}
 use Rattle.lra_states.specs.Shown.{IsShown, AreShown}
 use Rattle.lra_states.specs.Sets.{shown_set}
@@ -93,7 +93,8 @@ module _ {V H : Type 0} (m : Meaning V H) (domain : Domain) (shown : V → Invar
   state_told v ps same fit (Err e) is are = tt
 
   -- canonical states of the parts make one of the set
-  each_canonical : (n : ℕ) (ps : List V) → EachPart (PartFits m n) ps → AreCanonicallyShown domain m.dims shown ps → IsCanonicalState domain n (flat_map shown ps)
+  each_canonical : (n : ℕ) (ps : List V) → EachPart (PartFits m n) ps → AreCanonicallyShown domain m.dims shown ps → IsCanonicalState domain n
+      (flat_map shown ps)
   each_canonical n [] fit are = tt
   each_canonical n (p ∷ ps) fit are =
       every_append (IsCanonicalFor domain n) (shown p) (flat_map shown ps)
@@ -101,7 +102,8 @@ module _ {V H : Type 0} (m : Meaning V H) (domain : Domain) (shown : V → Invar
       (each_canonical n ps fit.1 are.1)
 
   pub state_canonical : {E : Type 0} (v : Parts V) (ps : List V) → ps ≡ v.parts → EachPart (PartFits m v.dims) v.parts → (x : Result (Vec Part Global) E)
-      → IfOk x (λ s. s.items ≡ flat_map shown ps) → IfOk x (λ _. AreCanonicallyShown domain m.dims shown ps) → IfOk x (λ s. IsCanonicalState domain v.dims s.items)
+      → IfOk x (λ s. s.items ≡ flat_map shown ps) → IfOk x (λ _. AreCanonicallyShown domain m.dims shown ps) → IfOk x
+      (λ s. IsCanonicalState domain v.dims s.items)
   state_canonical v ps same fit (Ok s) is are =
       subst (λ (state : Invariant). IsCanonicalState domain v.dims state) (sym (is ∙ ap (flat_map shown) same))
       (each_canonical v.dims v.parts fit (subst (AreCanonicallyShown domain m.dims shown) same are))

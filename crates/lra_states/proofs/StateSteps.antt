@@ -16,10 +16,13 @@ part_is p y rows none =
     ap (λ (rs : List Row). record { rows = rs; generators = p.generators }) rows
     ∙ ap (λ gs. record { rows = shown_rows y.rows y.kinds; generators = gs }) none
 
-pub pushed : (old new : List Part) (p : Part) (ys : List (Listed ConKind)) (y : Listed ConKind) → old ≡ map shown_part ys → new ≡ old ++ p ∷ [] → p.rows ≡ shown_rows y.rows y.kinds → p.generators ≡ []
+pub pushed : (old new : List Part) (p : Part) (ys : List (Listed ConKind)) (y : Listed ConKind) → old ≡ map shown_part ys → new ≡ old ++ p ∷ [] → p.rows ≡
+    shown_rows y.rows y.kinds → p.generators ≡ []
     → new ≡ map shown_part (ys ++ y ∷ [])
 pushed old new p ys y so_far is rows none =
-    is ∙ ap (λ (l : List Part). l ++ p ∷ []) so_far ∙ ap (λ (q : Part). map shown_part ys ++ q ∷ []) (part_is p y rows none) ∙ sym (map-append shown_part ys (y ∷ []))
+    is ∙ ap (λ (l : List Part). l ++ p ∷ []) so_far ∙ ap (λ (q : Part). map shown_part ys ++ q ∷ []) (part_is p y rows none) ∙ sym
+    (map-append shown_part ys (y ∷ []))
 
-pub pushed_in_range : (old new : List Part) (p : Part) → AllByRecursion IsPartInRange old → new ≡ old ++ p ∷ [] → IsPartInRange p → AllByRecursion IsPartInRange new
+pub pushed_in_range : (old new : List Part) (p : Part) → AllByRecursion IsPartInRange old → new ≡ old ++ p ∷ [] → IsPartInRange p → AllByRecursion
+    IsPartInRange new
 pushed_in_range old new p so_far is one = subst (AllByRecursion IsPartInRange) (sym is) (every_append IsPartInRange old (p ∷ []) so_far (one, tt))

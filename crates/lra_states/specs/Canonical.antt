@@ -3,7 +3,7 @@ use Rattle.std.specs.Prelude.{◌≡◌, ℕ, List, map, ⊤}
 use Rattle.std.specs.List.{AllByRecursion}
 use Rattle.lra_options.specs.declared.options.Domain.{Domain}
 use Rattle.lra_options.specs.declared.options.Domain.TheVariants.{Poly, Box, Oct}
-use Rattle.lra_findings.specs.Report.{Invariant}
+use Rattle.lra_report.specs.Report.{Invariant}
 use Rattle.lra_show.specs.Part.{Part}
 use Rattle.lra_linear.specs.Formed.{IsFormed}
 use Rattle.lra_linear.specs.Polyhedra.{Polyhedron}

@@ -9,8 +9,8 @@ use Rattle.lra_sys.specs.Listed.{Listed, constraints, generators}
 use Rattle.lra_options.specs.declared.options.Domain.TheVariants.{Poly}
 use Rattle.lra_show.specs.ShownDescriptions.{shown_constraint, shown_generator}
 use Rattle.lra_show.specs.Part.{Part}
-use Rattle.lra_findings.specs.Report.{Invariant, Holds}
-use Rattle.lra_findings.specs.Parts.{Tells}
+use Rattle.lra_report.specs.Report.{Invariant, Holds}
+use Rattle.lra_report.specs.Parts.{Tells}
 use Rattle.lra_report.specs.Listing.{HasWidth}
 
 -- no part where there is no generator

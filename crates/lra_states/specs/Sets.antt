@@ -1,7 +1,7 @@
 -- How a set of parts is shown.
 use Rattle.std.specs.Prelude.{flat_map}
 use Rattle.lra_set.specs.Content.{Parts}
-use Rattle.lra_findings.specs.Report.{Invariant}
+use Rattle.lra_report.specs.Report.{Invariant}
 
 -- by the states of its parts, one after another
 abbrev pub shown_set : {V : Type 0} → (V → Invariant) → Parts V → Invariant

@@ -7,8 +7,8 @@ use Rattle.lra_show.specs.Lists.{shown_rows}
 use Rattle.lra_domain.specs.Meaning.{Meaning}
 use Rattle.lra_options.specs.declared.options.Domain.{Domain}
 use Rattle.lra_show.specs.Part.{Part}
-use Rattle.lra_findings.specs.Report.{Invariant, Holds}
-use Rattle.lra_findings.specs.Parts.{Tells}
+use Rattle.lra_report.specs.Report.{Invariant, Holds}
+use Rattle.lra_report.specs.Parts.{Tells}
 use Rattle.lra_show.specs.Rows.{Row}
 use Rattle.lra_report.specs.Listing.{HasWidth}
 use Rattle.lra_report.specs.Spelled.{IsDirected}

@@ -3,7 +3,7 @@
 ghost use Rattle.std.specs.Prelude.{◌≡◌, IfOk};
 ghost use Rattle.std.specs.List.{AllByRecursion};
 ghost use Rattle.lra_options.specs.declared.options.Domain as options;
-ghost use Rattle.lra_findings.specs.Report.{Invariant};
+ghost use Rattle.lra_report.specs.Report.{Invariant};
 ghost use Rattle.lra_report.specs.Spelled.{IsSpelledPart};
 ghost use Rattle.lra_states.specs.Canonical.{IsCanonicalState};
 ghost use Rattle.lra_states.specs.Shown.{IsShown};

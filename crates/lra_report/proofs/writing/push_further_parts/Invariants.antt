@@ -1,5 +1,5 @@
 use Rattle.std.proofs.Common.{◌≡◌, ◌++◌, drop, string_bytes}
-use Rattle.lra_findings.specs.ReportText.{further_parts_text}
+use Rattle.lra_report.specs.ReportText.{further_parts_text}
 use Rattle.lra_report.proofs.writing.push_further_parts.Given as goal
 
 abbrev pub invariant-loop-part : goal.invariant-loop-part

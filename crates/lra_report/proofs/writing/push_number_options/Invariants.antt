@@ -1,7 +1,7 @@
 use Rattle.std.proofs.Common.{◌≡◌, ◌++◌, take, string_bytes}
 use Rattle.std.specs.List.{flat_map}
 use Rattle.lra_options.specs.OptionRows.{number_options}
-use Rattle.lra_findings.specs.ReportText.{number_text}
+use Rattle.lra_report.specs.ReportText.{number_text}
 use Rattle.lra_report.proofs.writing.push_number_options.Given as goal
 
 abbrev pub invariant-loop-option : goal.invariant-loop-option

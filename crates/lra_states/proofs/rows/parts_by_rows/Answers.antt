@@ -5,6 +5,7 @@ use Rattle.lra_states.proofs.rows.parts_by_rows.Goals as goal
 pub each-preserved : goal.each-preserved
 each-preserved g c = record {
   shown =
-      pushed c.each.state.items c.push.new.self.items c.new.result c.each.yielded c.in-Some.part c.each.invariant.shown c.in_ok-push.ensures.items c.new.ensures.rows c.new.ensures.generators;
+      pushed c.each.state.items c.push.new.self.items c.new.result c.each.yielded c.in-Some.part c.each.invariant.shown c.in_ok-push.ensures.items
+      c.new.ensures.rows c.new.ensures.generators;
   in_range = pushed_in_range c.each.state.items c.push.new.self.items c.new.result c.each.invariant.in_range c.in_ok-push.ensures.items c.new.ensures.in_range;
 }

@@ -10,4 +10,5 @@ returns-clause-told c =
     told box_meaning Box boxes_are_shown c.args.self.now c.parts_by_rows.result c.parts_by_rows.ensures.shown c.parts_by_rows.ensures.mean
 
 pub returns-clause-spelled : goal.returns-clause-spelled
-returns-clause-spelled c = spelled box_meaning Box boxes_are_shown c.args.self.now c.parts_by_rows.result c.parts_by_rows.ensures.shown c.parts_by_rows.ensures.in_range
+returns-clause-spelled c = spelled box_meaning Box boxes_are_shown c.args.self.now c.parts_by_rows.result c.parts_by_rows.ensures.shown
+    c.parts_by_rows.ensures.in_range

@@ -8,8 +8,8 @@ use Rattle.lra_show.specs.Part.{Generator}
 use Rattle.lra_linear.specs.Vectors.{product}
 use Rattle.lra_linear.proofs.Products.{product_none}
 use Rattle.lra_show.specs.Rows.{Row}
-use Rattle.lra_findings.specs.Parts.{RationalPoint, IsWithin, IsGenerated, HasSamePoints, Tells}
-use Rattle.lra_findings.proofs.ReportTextExamples.{both, rows_alone, a_point, a_ray, is_positive}
+use Rattle.lra_report.specs.Parts.{RationalPoint, IsWithin, IsGenerated, HasSamePoints, Tells}
+use Rattle.lra_report.proofs.ReportTextExamples.{both, rows_alone, a_point, a_ray, is_positive}
 
 abbrev rational : ℕ → List ℤ → RationalPoint
 rational d xs = record { divisor = d; numerators = xs }

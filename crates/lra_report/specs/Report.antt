@@ -8,8 +8,8 @@ use Rattle.lra_program.specs.Program.{Program}
 use Rattle.lra_program.specs.Run.{Point, At}
 use Rattle.lra_show.specs.Part.{Part}
 use Rattle.lra_show.specs.Rows.{RowHolds}
-use Rattle.lra_findings.specs.declared.verdict_kinds.VerdictKind.{VerdictKind}
-use Rattle.lra_findings.specs.VerdictKinds.{Breaks}
+use Rattle.lra_report.specs.declared.verdict_kinds.VerdictKind.{VerdictKind}
+use Rattle.lra_report.specs.VerdictKinds.{Breaks}
 
 -- what is known at a point: one of the parts holds; no part says that no run comes here
 abbrev pub Invariant : Type 0

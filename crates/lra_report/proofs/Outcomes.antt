@@ -3,8 +3,9 @@ use Rattle.std.proofs.Common.{◌≡◌, ℕ, Bool, true, false, List, [], ◌�
 use Rattle.std.specs.Prelude.{get_or}
 use Rattle.std.proofs.lemmas.List.{append_cancel_left}
 use Rattle.std.proofs.lemmas.Bool.{eqb-false}
-use Rattle.lra_findings.specs.declared.verdict_kinds.VerdictKind.{VerdictKind}
-use Rattle.lra_findings.specs.VerdictKinds.{row_of, outcome_text}
+use Rattle.lra_report.specs.declared.verdict_kinds.VerdictKind.{VerdictKind}
+use Rattle.lra_report.specs.VerdictKinds.{row_of, outcome_text}
+use Rattle.lra_report.proofs.Fronts.{rest_same}
 
 -- the first byte of a line's end is the word's, or the line feed
 first_of : (w u : List ℕ) → get_or (w ++ (10 ∷ u)) 0 10 ≡ get_or w 0 10
@@ -17,9 +18,6 @@ apart kind u v e =
     let no = (row_of kind).if_open in
     let first : get_or yes 0 10 ≡ get_or no 0 10 = sym (first_of yes u) ∙ ap (λ (t : List ℕ). get_or t 0 10) e ∙ first_of no v in
     eqb-false (get_or yes 0 10) (get_or no 0 10) (row_of kind).apart first
-
-rest_same : {x y : ℕ} {xs ys : List ℕ} → x ∷ xs ≡ y ∷ ys → xs ≡ ys
-rest_same e = cc
 
 -- what stands behind an outcome at the end of a line
 pub outcome_same : (kind : VerdictKind) (b c : Bool) (u v : List ℕ) → outcome_text kind b ++ (10 ∷ u) ≡ outcome_text kind c ++ (10 ∷ v) → (b ≡ c) × (u ≡ v)

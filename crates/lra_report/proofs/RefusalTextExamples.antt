@@ -3,7 +3,7 @@ use Rattle.std.proofs.Common.{◌≡◌, [], ◌∷◌, ◌++◌, refl}
 use Rattle.std.specs.Prelude.{codes}
 use Rattle.std.specs.Fmt.{digits}
 use Rattle.lra_base.specs.declared.refusals.Cause.TheVariants.{TooLong, TooManyPoints}
-use Rattle.lra_findings.specs.RefusalText.{refusal_text}
+use Rattle.lra_report.specs.RefusalText.{refusal_text}
 
 refusal_line : refusal_text TooLong (record { line = 1; column = 65537 }) ≡ codes "refused 1 TooLong at 1:65537" ++ 10 ∷ []
 unfolding digits

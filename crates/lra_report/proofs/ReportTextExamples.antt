@@ -7,14 +7,14 @@ use Rattle.lra_options.specs.declared.options.Domain.{Domain}
 use Rattle.lra_options.specs.declared.options.Domain.TheVariants.{Poly, Box}
 use Rattle.lra_options.specs.declared.options.Options.{Options}
 use Rattle.lra_options.specs.OptionRows.{default_options}
-use Rattle.lra_findings.specs.declared.verdict_kinds.VerdictKind.TheVariants.{Assertion}
-use Rattle.lra_findings.specs.Report.{Place, PointReport, Verdict, Report}
+use Rattle.lra_report.specs.declared.verdict_kinds.VerdictKind.TheVariants.{Assertion}
+use Rattle.lra_report.specs.Report.{Place, PointReport, Verdict, Report}
 use Rattle.lra_show.specs.Part.{Generator, Part}
 use Rattle.lra_linear.specs.declared.GenKind.TheVariants.{Point, Ray, Line}
 use Rattle.lra_linear.specs.declared.ConKind.TheVariants.{Ge, Eq}
 use Rattle.lra_show.specs.Rows.{Row}
 use Rattle.lra_show.specs.Texts.{text_line, row_text, generator_text}
-use Rattle.lra_findings.specs.ReportText.{state_text, flag_text, report_text, path_text}
+use Rattle.lra_report.specs.ReportText.{state_text, flag_text, report_text, path_text}
 
 abbrev at : ℕ → ℕ → Place
 at l c = record { line = l; column = c }

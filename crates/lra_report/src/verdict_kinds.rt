@@ -1,7 +1,7 @@
 //! What is judged of a program at its points.
 
 ghost use Rattle.std.specs.Prelude.{◌≡◌};
-ghost use Rattle.lra_findings.specs.VerdictKinds.{row_of, outcome_text};
+ghost use Rattle.lra_report.specs.VerdictKinds.{row_of, outcome_text};
 
 use lra_options::Options;
 

@@ -5,7 +5,7 @@ use Rattle.lra_base.specs.declared.refusals.Place.{Place}
 use Rattle.lra_base.specs.declared.refusals.Cause.{Cause}
 use Rattle.lra_base.specs.Causes.{cause_number, cause_name}
 use Rattle.lra_show.specs.Texts.{text_line}
-use Rattle.lra_findings.specs.ReportText.{place_text}
+use Rattle.lra_report.specs.ReportText.{place_text}
 
 -- refused K NAME at LINE:COLUMN
 abbrev pub refusal_text : Cause → Place → List ℕ

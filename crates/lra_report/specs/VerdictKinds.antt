@@ -1,16 +1,18 @@
 -- What is judged of a program at its points: a row for each kind. From it come a verdict's line, its place in the JSON,
 -- and whether it counts.
 use Rattle.std.specs.Prelude.{◌≡◌, refl, ℕ, nat_eq, List, [], ◌∷◌, get_or, Bool, true, false, codes, if◌then◌else◌}
+use Rattle.std.specs.List.{list_any}
+use Rattle.std.specs.Str.{bytes_eq}
 use Rattle.lra_options.specs.declared.options.Options.{Options}
 use Rattle.lra_program.specs.Program.{Program}
 use Rattle.lra_program.specs.Run.{Point, Fails}
-use Rattle.lra_findings.specs.declared.verdict_kinds.VerdictKind.{VerdictKind}
-use Rattle.lra_findings.specs.declared.verdict_kinds.VerdictKind.TheVariants.{Assertion}
+use Rattle.lra_report.specs.declared.verdict_kinds.VerdictKind.{VerdictKind}
+use Rattle.lra_report.specs.declared.verdict_kinds.VerdictKind.TheVariants.{Assertion}
 
 -- `word` begins its lines. Its outcome is `if_holds` where no run breaks it, `if_open` where that isn't known. Those
 -- that count are in the last line and in the status. `own_place`: they have a place of their own, not their point's,
 -- and JSON tells it. In JSON they stand under `key`, where it `stands` for these options and for whether any verdict
--- is told under it.
+-- is told under it: surely where one is.
 pub record VerdictRow : Type 0 where
   pub word : List ℕ
   pub if_holds : List ℕ
@@ -19,6 +21,7 @@ pub record VerdictRow : Type 0 where
   pub own_place : Bool
   pub key : List ℕ
   pub stands : Options → Bool → Bool
+  pub tells : (options : Options) → stands options true ≡ true
   -- the word begins with another byte than a blank, and the outcomes with different bytes: a text tells which it has
   pub begins : nat_eq (get_or word 0 32) 32 ≡ false
   pub apart : nat_eq (get_or if_holds 0 10) (get_or if_open 0 10) ≡ false
@@ -32,6 +35,7 @@ assertion_row = record {
   own_place = false;
   key = codes "asserts";
   stands = λ options is_listed. true;
+  tells = λ options. refl;
   begins = refl;
   apart = refl;
 }
@@ -42,6 +46,10 @@ row_of Assertion = assertion_row
 -- all kinds
 abbrev pub kinds : List VerdictKind
 kinds = Assertion ∷ []
+
+-- none is left out: each has the key of one of these
+pub among_kinds : (kind : VerdictKind) → list_any (λ k. bytes_eq (row_of kind).key (row_of k).key) kinds ≡ true
+among_kinds Assertion = refl
 
 abbrev pub outcome_text : VerdictKind → Bool → List ℕ
 outcome_text kind holds = if holds then (row_of kind).if_holds else (row_of kind).if_open
