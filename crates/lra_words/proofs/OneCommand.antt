@@ -1,6 +1,6 @@
 -- Words give one command or are refused, wherever in memory the names of the domains lie.
-use Rattle.std.proofs.Common.{◌≡◌, ◌∙◌, ◌⊎◌, inl, inr, List, [], ◌∷◌, map, Option, Some, ap, refl, sym, subst, drop, codes}
-use Rattle.std.specs.Prelude.{unwrap_or}
+use Rattle.std.proofs.Common.{◌≡◌, ◌∙◌, ◌⊎◌, inl, inr, List, [], ◌∷◌, map, Option, Some, ap, refl, sym, drop, codes}
+use Rattle.std.specs.Prelude.{None, unwrap_or}
 use Rattle.std.specs.Borrow.{Bor}
 use Rattle.clap.specs.Faults.{built_fault}
 use Rattle.clap.specs.Simple.{built, entered, names_of}
@@ -15,6 +15,7 @@ use Rattle.lra_words.specs.CommandLine.{TakesDomains, command_line}
 use Rattle.lra_words.specs.declared.chosen.Command.{Command}
 use Rattle.lra_words.proofs.SameWalk.{placed, in_app, entered_same, stop_same}
 use Rattle.lra_words.proofs.SameFaults.{built_same}
+use Rattle.lra_words.proofs.Conflicts.{Gives, no_command, within}
 use Rattle.lra_words.proofs.TakenWords.{words_give}
 
 -- the parser of these names, each at one place
@@ -77,7 +78,11 @@ module _ (words : List Text) where
 
   -- words that ask for a command don't ask for none
   pub asks_not_none : (c : Command) → Asks words c → AsksNone words → ⊥
-  asks_not_none c asks none = none.2 (one_fault none.0 asks.0 none.1 asks.1 ∙ asks.2)
+  asks_not_none c asks none =
+      let nothing = no_command (subcommand_of (command_line none.0) words) (none.2 (one_fault none.0 asks.0 none.1 asks.1 ∙ asks.2)) in
+      let both : Some c ≡ None = sym asks.3 ∙ ap command_of (one_rows asks.0 none.0 asks.1 none.1) ∙ nothing in
+      let wrong : ⊥ = cc in
+      absurd wrong
 
   -- and ask for one command
   pub one_asked : (c d : Command) → Asks words c → Asks words d → c ≡ d
@@ -87,17 +92,18 @@ module _ (words : List Text) where
 
   -- whose values lie in their ranges
   pub asks_within : (c : Command) → Asks words c → IsWithinRanges c
-  asks_within c asks =
-      let (d, is, within) = words_give asks.0 asks.1 words asks.2 in
-      let both : Some d ≡ Some c = sym is ∙ asks.3 in
-      subst IsWithinRanges (ap (λ (o : Option Command). unwrap_or o d) both) within
+  asks_within c asks = within (subcommand_of (command_line asks.0) words) c (words_give asks.0 asks.1 words asks.2) asks.3
 
   -- they ask for one, or for none
   pub each_asks : AsksNone words ⊎ ((c : Command) × Asks words c × IsWithinRanges c × ((d : Command) → Asks words d → d ≡ c))
   each_asks = elim (no_fault (fault_of (command_line the_domains) words)) [
-    | inl none ↦
-        let (c, is, within) = words_give the_domains takes_the_domains words none in
-        let asks : Asks words c = (the_domains, takes_the_domains, none, is) in
-        inr (c, asks, within, λ d other. one_asked d c other asks)
-    | inr some ↦ inl (the_domains, takes_the_domains, some)
+    | inl none ↦ by_given none (words_give the_domains takes_the_domains words none)
+    | inr some ↦ inl (the_domains, takes_the_domains, λ none. absurd (some none))
   ]
+    where
+      by_given : fault_of (command_line the_domains) words ≡ [] → Gives (subcommand_of (command_line the_domains) words)
+          → AsksNone words ⊎ ((c : Command) × Asks words c × IsWithinRanges c × ((d : Command) → Asks words d → d ≡ c))
+      by_given none (inl (c, is, ranges)) =
+          let asks : Asks words c = (the_domains, takes_the_domains, none, is) in
+          inr (c, asks, ranges, λ d other. one_asked d c other asks)
+      by_given none (inr conflicting) = inl (the_domains, takes_the_domains, λ e. conflicting)

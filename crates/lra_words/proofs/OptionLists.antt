@@ -2,7 +2,8 @@
 use Rattle.std.proofs.Common.{◌≡◌, ◌∙◌, ◌<◌, ◌+◌, ◌^◌, ◌||◌, ℕ, Bool, true, false, List, [], ◌∷◌, Option, Some, length, take, get_or, refl, ap, ap₂, sym, fold}
 use Rattle.std.proofs.lemmas.List.Sums.{fold-append}
 use Rattle.std.proofs.lemmas.Grind.{take_at_read}
-use Rattle.clap.specs.Words.{App, Row, Rule, with_rule}
+use Rattle.clap.specs.Words.{App, Row, Rule, with_rule, with_subcommand}
+use Rattle.clap.specs.Simple.{Shape}
 use Rattle.lra_options.specs.declared.options.Options.{Options}
 use Rattle.lra_options.specs.declared.options.NumberOption.{NumberOption}
 use Rattle.lra_options.specs.declared.options.FlagOption.{FlagOption}
@@ -23,6 +24,15 @@ declared_on {A} rule now next start own xs i d within before more is =
 pub stays_local : (new old start own : Bool) → new ≡ (old || own) → own ≡ false → old ≡ start → new ≡ start
 stays_local _ true _ _ is _ before = is ∙ before
 stays_local _ false _ _ is local before = is ∙ local ∙ before
+
+-- one command without options more
+pub commands_on : {A : Type 0} (shape : A → Shape) (now next start : App) (own : Shape) (xs : List A) (i : ℕ) (d : A) → i < length xs
+    → now ≡ fold (λ so x. with_subcommand so (shape x)) start (take i xs) → next ≡ with_subcommand now own → own ≡ shape (get_or xs i d)
+    → next ≡ fold (λ so x. with_subcommand so (shape x)) start (take (i + 1) xs)
+commands_on {A} shape now next start own xs i d within before more is =
+    let step = λ (so : App) (x : A). with_subcommand so (shape x) in
+    more ∙ ap₂ with_subcommand before is ∙ sym (fold-append step start (take i xs) (get_or xs i d ∷ []))
+    ∙ ap (fold step start) (sym (take_at_read xs i d within).1)
 
 -- ---- read
 

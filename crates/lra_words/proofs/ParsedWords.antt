@@ -1,5 +1,5 @@
 -- What the clauses of a parse say of the words.
-use Rattle.std.proofs.Common.{◌≡◌, ◌∙◌, List, [], ◌∷◌, Option, Some, None, ap, inl, inr, refl, subst, sym, true}
+use Rattle.std.proofs.Common.{◌≡◌, ◌∙◌, List, [], ◌∷◌, Option, Some, None, ap, inl, inr, refl, sym, true}
 use Rattle.std.specs.Prelude.{option_map, unwrap_or}
 use Rattle.std.specs.Borrow.{Bor}
 use Rattle.clap.specs.Simple.{subcommand_rows}
@@ -16,6 +16,7 @@ use Rattle.lra_words.specs.CommandLine.{DeclaresCommandLine, TakesDomains, comma
 use Rattle.lra_words.specs.Refusals.{refusal}
 use Rattle.lra_words.specs.declared.chosen.Command.{Command}
 use Rattle.lra_words.specs.declared.words.Refusal.TheVariants.{Usage}
+use Rattle.lra_words.proofs.Conflicts.{Gives, conflict, within}
 use Rattle.lra_words.proofs.TakenWords.{words_give}
 
 line_is_simple_and_free : (domains : ValueParser) → is_simple_and_free (command_line domains) ≡ true
@@ -38,8 +39,8 @@ refused a words e declares kinds passes usage =
     let line_kinds = rw declares.2 at kinds in
     let line_passes = rw declares.2 at passes in
     let has : HasKind (fault_of (command_line declares.0) words) e = line_kinds (line_is_simple_and_free declares.0) in (
-      (declares.0, declares.1, λ f. none (fault_of (command_line declares.0) words) f has),
-      (declares.0, declares.1, λ t. not_memory (kind_of e) usage (line_passes t)),
+      (declares.0, declares.1, λ f. absurd (none (fault_of (command_line declares.0) words) f has)),
+      (declares.0, declares.1, λ t. absurd (not_memory (kind_of e) usage (line_passes t))),
     )
   where
     none : (ks : List ErrorKind) → ks ≡ [] → HasKind ks e → ⊥
@@ -47,12 +48,13 @@ refused a words e declares kinds passes usage =
     none [] f (inr z) = absurd z
     none (k ∷ ks) f h = cc
 
--- the command of a parse that succeeded
+-- the matches of a parse that succeeded, and what they give
 pub record Succeeds (words : List Text) (m : ArgMatches) : Type 0 where
-  pub chosen : Command
-  pub is_command : command_of (subcommand_rows_of m) ≡ Some chosen
-  pub taken : Asks words chosen
-  pub ranges : IsWithinRanges chosen
+  pub parser : ValueParser
+  pub takes : TakesDomains parser
+  pub none : fault_of (command_line parser) words ≡ []
+  pub rows : subcommand_rows_of m ≡ subcommand_of (command_line parser) words
+  pub gives : Gives (subcommand_of (command_line parser) words)
 
 pub succeeds : (a : App) (words : List Text) (m : ArgMatches) → DeclaresCommandLine a → (is_simple_and_free a ≡ true → fault_of a words ≡ [])
     → HasMatchesOf a words m → Succeeds words m
@@ -60,12 +62,13 @@ succeeds a words m declares kinds matches =
     let line_kinds = rw declares.2 at kinds in
     let line_matches = rw declares.2 at matches in
     let none = line_kinds (line_is_simple_and_free declares.0) in
-    gives declares.0 declares.1 none (line_matches (line_is_simple declares.0)).1 (words_give declares.0 declares.1 words none)
-  where
-    gives : (domains : ValueParser) → TakesDomains domains → fault_of (command_line domains) words ≡ [] → subcommand_rows_of m ≡ subcommand_of (command_line domains) words
-        → ((c : Command) × (command_of (subcommand_of (command_line domains) words) ≡ Some c) × IsWithinRanges c) → Succeeds words m
-    gives domains takes none rows given =
-        record { chosen = given.0; is_command = ap command_of rows ∙ given.1; taken = (domains, takes, none, given.1); ranges = given.2 }
+    record {
+      parser = declares.0;
+      takes = declares.1;
+      none = none;
+      rows = (line_matches (line_is_simple declares.0)).1;
+      gives = words_give declares.0 declares.1 words none;
+    }
 
 option_map_map : {A B C : Type 0} (f : A → B) (g : B → C) (o : Option A) → option_map g (option_map f o) ≡ option_map (λ x. g (f x)) o
 option_map_map f g None = refl
@@ -89,13 +92,16 @@ chosen_of m r name inner chosen names rows is chose =
         rw (same_name, same_rows) refl
 
 module _ (words : List Text) (m : ArgMatches) (done : Succeeds words m) where
+  given : (chosen : Option Command) → chosen ≡ command_of (subcommand_rows_of m) → chosen ≡ command_of (subcommand_of (command_line done.parser) words)
+  given chosen is = is ∙ ap command_of done.rows
+
   pub taken_as : (chosen : Option Command) (c : Command) → chosen ≡ command_of (subcommand_rows_of m) → chosen ≡ Some c → Asks words c × IsWithinRanges c
   taken_as chosen c is some =
-      let same : Some done.chosen ≡ Some c = sym done.is_command ∙ (sym is ∙ some) in
-      let one : done.chosen ≡ c = ap (λ (o : Option Command). unwrap_or o c) same in
-      (subst (Asks words) one done.taken, subst IsWithinRanges one done.ranges)
+      let same : command_of (subcommand_of (command_line done.parser) words) ≡ Some c = sym (given chosen is) ∙ some in
+      ((done.parser, done.takes, done.none, same), within (subcommand_of (command_line done.parser) words) c done.gives same)
 
-  pub never_none : (chosen : Option Command) → chosen ≡ command_of (subcommand_rows_of m) → chosen ≡ None → ⊥
-  never_none chosen is none =
-      let bad : Some done.chosen ≡ None = sym done.is_command ∙ (sym is ∙ none) in
-      cc
+  -- options that can't be given together: words that ask for no command
+  pub asks_none : (chosen : Option Command) → chosen ≡ command_of (subcommand_rows_of m) → chosen ≡ None → AsksNone words × IsUntaken words
+  asks_none chosen is none =
+      let conflicting = conflict (subcommand_of (command_line done.parser) words) done.gives (sym (given chosen is) ∙ none) in
+      ((done.parser, done.takes, λ e. conflicting), (done.parser, done.takes, λ e. conflicting))

@@ -1,8 +1,8 @@
--- Words without a fault give a command, with each value in its option's range.
-use Rattle.std.proofs.Common.{◌≡◌, ◌∙◌, ◌<◌, ◌≤◌, ◌^◌, ◌&&◌, ◌||◌, ℕ, Bool, List, [], ◌∷◌, Option, Some, None, ap, arith, codes, lit<, map, not, refl, sym}
-use Rattle.std.proofs.Common.{subst, true, false, lt-ltb, nat_le, nat_lt}
+-- Words without a fault give a command, each value of which lies in its option's range, or their options conflict.
+use Rattle.std.proofs.Common.{◌≡◌, ◌∙◌, ◌<◌, ◌≤◌, ◌^◌, ◌&&◌, ◌||◌, ℕ, Bool, List, [], ◌∷◌, Option, Some, None, ap, arith, codes, inl, inr, lit<, map, not, refl, sym}
+use Rattle.std.proofs.Common.{◌+◌, ◌++◌, length, subst, true, false, lt-ltb, nat_le, nat_lt}
 use Rattle.std.specs.Prelude.{find, is_some, option_and_then, option_map}
-use Rattle.std.specs.List.{list_any}
+use Rattle.std.specs.List.{AllByRecursion, list_any}
 use Rattle.std.specs.Option.{option_map_or}
 use Rattle.std.specs.Str.{bytes_eq}
 use Rattle.std.specs.Str.Parse.{digits_value, without_leading_plus}
@@ -11,6 +11,7 @@ use Rattle.std.proofs.lemmas.Slice.Eq.{bytes_eq-Decides}
 use Rattle.clap.specs.Facts.{explicit_source}
 use Rattle.clap.specs.Faults.{check_fault, entered_fault, fault_of, level_fault}
 use Rattle.clap.specs.Kinds.{check_kinds}
+use Rattle.clap.specs.Simple.{built_leaf, inherited, marked_built, with_leaf_noted}
 use Rattle.clap.specs.Simple.{Shape, argument_words, built, entered, filled, label_of, names_of, help_rule, new_shape, rows_at, subcommand_of, with_index}
 use Rattle.clap.specs.Takes.{is_given}
 use Rattle.clap.specs.ValueTests.{accepts, is_numeral}
@@ -18,16 +19,19 @@ use Rattle.clap.specs.Walk.{Row, Rule, Text, answers_to, finished, nothing_held,
 use Rattle.clap.specs.declared.builder.value_parser.ValueParser.{ValueParser}
 use Rattle.clap.specs.declared.builder.value_parser.ValueParser.TheVariants as vp
 use Rattle.clap.proofs.WalkLemmas.{both, list_any-map}
-use Rattle.lra_words.specs.Chosen.{IsWithinRanges, analyse_of, command_of, domain_at, domain_named, flag_at, format_of, number_at, number_below, options_of, sample_of, truth_of}
-use Rattle.lra_words.specs.CommandLine.{TakesDomains, command_line, domain_rule, json_rule, flag, number_rule, seed_option, size_option}
+use Rattle.lra_words.specs.Chosen.{HasInRange, IsWithinRanges, domain_at, domain_named, flag_at, format_of, gives_any, number_at, number_below, options_of, sample_of, truth_of}
+use Rattle.lra_words.specs.CommandLine.{plain, plain_commands, named_plain}
+use Rattle.lra_words.specs.CommandLine.{TakesDomains, best_rule, command_line, domain_rule, json_rule, flag, number_rule, seed_option, size_option}
 use Rattle.lra_options.specs.declared.options.NumberOption.TheVariants.{Parts, Delay, Narrow}
-use Rattle.lra_options.specs.declared.options.FlagOption.TheVariants.{Limited}
-use Rattle.lra_options.specs.OptionRows.{NumberRow, IsInRange, number_row, flag_row, default_options}
+use Rattle.lra_options.specs.declared.options.FlagOption.TheVariants.{Limited, Thresholds}
+use Rattle.lra_options.specs.OptionRows.{NumberRow, IsInRange, agree, best_options, number_options, number_row, flag_row, default_options}
 use Rattle.lra_options.specs.declared.options.Options.{Options}
 use Rattle.lra_words.specs.declared.chosen.Command.{Command}
-use Rattle.lra_words.specs.declared.chosen.Command.TheVariants.{Analyse, Sample, Calc}
+use Rattle.lra_words.specs.declared.chosen.PlainCommand.{PlainCommand}
+use Rattle.lra_words.specs.declared.chosen.Command.TheVariants.{Analyse, Plain, Sample}
 use Rattle.lra_options.specs.declared.options.Domain.{Domain}
 use Rattle.lra_options.specs.Domains.{domains, domain_name}
+use Rattle.lra_words.proofs.Conflicts.{Gives}
 use Rattle.lra_words.proofs.OptionLists.{number_read, flag_read}
 use Rattle.lra_words.proofs.OptionRows.{AllOwn, IsNoHelp, defaulted_value, flag_adds, given_there, help_adds, level_parts, level_rows, option_adds, value_there, walk_stop}
 
@@ -110,17 +114,32 @@ truth_at id rows text one passed =
 
 pub options_from : (rows : List Row) (options : Options) → domain_at (codes "domain") rows ≡ Some options.domain → number_at (codes "parts") (2 ^ 32) rows ≡ Some options.parts
     → number_at (codes "delay") (2 ^ 32) rows ≡ Some options.delay → number_at (codes "narrow") (2 ^ 32) rows ≡ Some options.narrow
-    → flag_at (codes "limited") rows ≡ Some options.limited → options_of rows ≡ Some options
-options_from rows options domain parts delay narrow limited =
+    → flag_at (codes "limited") rows ≡ Some options.limited → flag_at (codes "thresholds") rows ≡ Some options.thresholds → options_of rows ≡ Some options
+options_from rows options domain parts delay narrow limited thresholds =
     let begun = ap (option_map (λ (d : Domain). record default_options { domain = d })) domain in
     let one = number_read rows _ _ Parts options.parts begun parts in
     let two = number_read rows _ _ Delay options.delay one delay in
     let three = number_read rows _ _ Narrow options.narrow two narrow in
-    flag_read rows _ _ Limited options.limited three limited
+    let four = flag_read rows _ _ Limited options.limited three limited in
+    flag_read rows _ _ Thresholds options.thresholds four thresholds
 
-analyse_from : (rows : List Row) (options : Options) (json : Bool) → options_of rows ≡ Some options → flag_at (codes "json") rows ≡ Some json
-    → analyse_of rows ≡ Some (Analyse options (format_of json))
-analyse_from rows options json taken flag = rw (taken, flag) refl
+-- the ranges that options have are those of their command; `--best` stands for some within them
+best_within : AllByRecursion (HasInRange best_options) number_options
+best_within = ((omega arith, omega arith), ((omega arith, omega arith), ((omega arith, omega arith), tt)))
+
+-- what is chosen of options that were read, with `--best` and without it
+chosen_from : (rows : List Row) (options : Options) (best json : Bool) → options_of rows ≡ Some options → flag_at (codes "best") rows ≡ Some best
+    → flag_at (codes "json") rows ≡ Some json → AllByRecursion (HasInRange options) number_options → Gives (Some (codes "analyse", rows))
+chosen_from rows options true json taken is as_json within = beside (gives_any rows) refl
+  where
+    beside : (any : Bool) → gives_any rows ≡ any → Gives (Some (codes "analyse", rows))
+    beside true any = inr (refl, inl (is, any))
+    beside false any = inl (Analyse best_options (format_of json), rw (is, any, as_json) refl, best_within)
+chosen_from rows options false json taken is as_json within = alone (agree options) refl
+  where
+    alone : (fits : Bool) → agree options ≡ fits → Gives (Some (codes "analyse", rows))
+    alone true fits = inl (Analyse options (format_of json), rw (is, taken, fits, as_json) refl, within)
+    alone false apart = inr (refl, inr (options, is, taken, apart))
 
 sample_from : (rows : List Row) (seed size : ℕ) → number_at (codes "seed") (2 ^ 64) rows ≡ Some seed → number_at (codes "size") (2 ^ 32) rows ≡ Some size
     → sample_of rows ≡ Some (Sample seed size)
@@ -146,8 +165,14 @@ analyse_own parser = (
         (
           (refl, flag_adds (built_rule (flag (flag_row Limited).name)) (codes "true") refl refl),
           (
-            (refl, flag_adds (built_rule json_rule) (codes "true") refl refl),
-            ((refl, help_adds (built_rule help_rule) refl), tt),
+            (refl, flag_adds (built_rule (flag (flag_row Thresholds).name)) (codes "true") refl refl),
+            (
+              (refl, flag_adds (built_rule best_rule) (codes "true") refl refl),
+              (
+                (refl, flag_adds (built_rule json_rule) (codes "true") refl refl),
+                ((refl, help_adds (built_rule help_rule) refl), tt),
+              ),
+            ),
           ),
         ),
       ),
@@ -156,7 +181,7 @@ analyse_own parser = (
 )
 
 analyse_taken : (parser : ValueParser) → TakesDomains parser → (words : List Text) → level_fault (sub_at parser 0) [] nothing_held words false [] ≡ []
-    → (c : Command) × (analyse_of (rows_after (sub_at parser 0).rules [] words) ≡ Some c) × IsWithinRanges c
+    → Gives (Some (rows_at (sub_at parser 0) words))
 analyse_taken parser takes words e =
     let shape = sub_at parser 0 in
     let rows = rows_after shape.rules [] words in
@@ -166,17 +191,21 @@ analyse_taken parser takes words e =
     let delay_text = defaulted_value shape words (built_rule (number_rule (number_row Delay))) fit refl refl refl in
     let narrow_text = defaulted_value shape words (built_rule (number_rule (number_row Narrow))) fit refl refl refl in
     let limited_text = defaulted_value shape words (built_rule (flag (flag_row Limited).name)) fit refl refl refl in
+    let thresholds_text = defaulted_value shape words (built_rule (flag (flag_row Thresholds).name)) fit refl refl refl in
+    let best_text = defaulted_value shape words (built_rule best_rule) fit refl refl refl in
     let json_text = defaulted_value shape words (built_rule json_rule) fit refl refl refl in
     let domain = domain_passed parser domain_text.text takes domain_text.passed in
     let parts = number_of (number_row Parts) (2 ^ 32) rows parts_text.text (lit< tt) parts_text.one parts_text.passed in
     let delay = number_of (number_row Delay) (2 ^ 32) rows delay_text.text (lit< tt) delay_text.one delay_text.passed in
     let narrow = number_of (number_row Narrow) (2 ^ 32) rows narrow_text.text (lit< tt) narrow_text.one narrow_text.passed in
     let limited = truth_at (codes "limited") rows limited_text.text limited_text.one limited_text.passed in
+    let thresholds = truth_at (codes "thresholds") rows thresholds_text.text thresholds_text.one thresholds_text.passed in
+    let best = truth_at (codes "best") rows best_text.text best_text.one best_text.passed in
     let json = truth_at (codes "json") rows json_text.text json_text.one json_text.passed in
-    let options : Options = record { domain = domain.0; parts = parts.0; delay = delay.0; narrow = narrow.0; limited = limited.0 } in
+    let options : Options = record { domain = domain.0; parts = parts.0; delay = delay.0; narrow = narrow.0; limited = limited.0; thresholds = thresholds.0 } in
     let has_domain : domain_at (codes "domain") rows ≡ Some domain.0 = ap (option_and_then domain_named) domain_text.first ∙ domain.1 in
-    let taken = options_from rows options has_domain parts.1 delay.1 narrow.1 limited.1 in
-    (Analyse options (format_of json.0), analyse_from rows options json.0 taken json.1, (parts.2, (delay.2, (narrow.2, tt))))
+    let taken = options_from rows options has_domain parts.1 delay.1 narrow.1 limited.1 thresholds.1 in
+    chosen_from rows options best.0 json.0 taken best.1 json.1 (parts.2, (delay.2, (narrow.2, tt)))
 
 sample_own : (parser : ValueParser) → AllOwn (sub_at parser 1).rules (sub_at parser 1).rules
 sample_own parser = (
@@ -215,40 +244,55 @@ sample_taken parser words e =
 
 -- ---- the whole parse
 
--- one of four, or none
-among : (C : Option Shape → Type 0) (test : Shape → Bool) (a b c d : Shape) → (test a ≡ true → C (Some a)) → (test b ≡ true → C (Some b)) → (test c ≡ true → C (Some c))
-    → (test d ≡ true → C (Some d)) → C None → C (find test (a ∷ (b ∷ (c ∷ (d ∷ [])))))
-among C test a b c d on_a on_b on_c on_d none = go (test a) refl (test b) refl (test c) refl (test d) refl
+-- the first of a list, or one behind it
+first_or : (C : Option Shape → Type 0) (test : Shape → Bool) (a : Shape) (rest : List Shape)
+    → (test a ≡ true → C (Some a)) → C (find test rest) → C (find test (a ∷ rest))
+first_or C test a rest on_a later = go (test a) refl
   where
-    go : (ta : Bool) → test a ≡ ta → (tb : Bool) → test b ≡ tb → (tc : Bool) → test c ≡ tc → (td : Bool) → test d ≡ td → C (find test (a ∷ (b ∷ (c ∷ (d ∷ [])))))
-    go true ea tb eb tc ec td ed = rw ea (on_a ea)
-    go false ea true eb tc ec td ed = rw (ea, eb) (on_b eb)
-    go false ea false eb true ec td ed = rw (ea, eb, ec) (on_c ec)
-    go false ea false eb false ec true ed = rw (ea, eb, ec, ed) (on_d ed)
-    go false ea false eb false ec false ed = rw (ea, eb, ec, ed) none
+    go : (t : Bool) → test a ≡ t → C (find test (a ∷ rest))
+    go true is = rw is (on_a is)
+    go false is = rw is later
+
+-- one of the commands without options, or one behind them
+plain_or : (C : Option Shape → Type 0) (test : Shape → Bool) (shape : PlainCommand → Shape) (cs : List PlainCommand) (rest : List Shape)
+    → ((c : PlainCommand) → test (shape c) ≡ true → C (Some (shape c))) → C (find test rest) → C (find test (map shape cs ++ rest))
+plain_or C test shape [] rest on_each later = later
+plain_or C test shape (c ∷ cs) rest on_each later = first_or C test (shape c) (map shape cs ++ rest) (on_each c) (plain_or C test shape cs rest on_each later)
+
+-- a command without options as a parse builds it
+abbrev plain_built : ValueParser → PlainCommand → Shape
+plain_built parser c = built_leaf (inherited (with_leaf_noted (marked_built (command_line parser).top)) (plain c).top)
+
+-- `help`
+abbrev last_sub : ValueParser → Shape
+last_sub parser = sub_at parser (2 + length plain_commands)
 
 -- what the subcommand gives that a walk stopped at
-abbrev Gives : List Text → Option Shape → Type 0
-Gives words o = option_map_or (λ s. level_fault s [] nothing_held words false []) o [] ≡ [] → is_some (option_map (λ s. rows_at s words) o) ≡ true
-    → (c : Command) × (command_of (option_map (λ s. rows_at s words) o) ≡ Some c) × IsWithinRanges c
+abbrev GivesAt : List Text → Option Shape → Type 0
+GivesAt words o = option_map_or (λ s. level_fault s [] nothing_held words false []) o [] ≡ [] → is_some (option_map (λ s. rows_at s words) o) ≡ true
+    → Gives (option_map (λ s. rows_at s words) o)
 
 stop_gives : (parser : ValueParser) → TakesDomains parser → (stop : Option (Text × List Text)) → IsNoHelp stop → entered_fault (built (command_line parser)) stop ≡ []
-    → is_some (entered (built (command_line parser)) stop) ≡ true
-    → (c : Command) × (command_of (entered (built (command_line parser)) stop) ≡ Some c) × IsWithinRanges c
+    → is_some (entered (built (command_line parser)) stop) ≡ true → Gives (entered (built (command_line parser)) stop)
 stop_gives parser takes None no_help e some = cc
 stop_gives parser takes (Some p) no_help e some =
-    among (Gives p.1) (λ s. answers_to p.0 (label_of s)) (sub_at parser 0) (sub_at parser 1) (sub_at parser 2) (sub_at parser 3) analyse sample calc help (λ f h. cc) e some
+    let test = λ (s : Shape). answers_to p.0 (label_of s) in
+    let later = map (plain_built parser) plain_commands ++ last_sub parser ∷ [] in
+    first_or (GivesAt p.1) test (sub_at parser 0) (sub_at parser 1 ∷ later) analyse
+    (first_or (GivesAt p.1) test (sub_at parser 1) later sample
+    (plain_or (GivesAt p.1) test (plain_built parser) plain_commands (last_sub parser ∷ []) plain_one
+    (first_or (GivesAt p.1) test (last_sub parser) [] help (λ f h. cc)))) e some
   where
-    analyse : answers_to p.0 (label_of (sub_at parser 0)) ≡ true → Gives p.1 (Some (sub_at parser 0))
+    analyse : answers_to p.0 (label_of (sub_at parser 0)) ≡ true → GivesAt p.1 (Some (sub_at parser 0))
     analyse named f h = analyse_taken parser takes p.1 f
 
-    sample : answers_to p.0 (label_of (sub_at parser 1)) ≡ true → Gives p.1 (Some (sub_at parser 1))
-    sample named f h = sample_taken parser p.1 f
+    sample : answers_to p.0 (label_of (sub_at parser 1)) ≡ true → GivesAt p.1 (Some (sub_at parser 1))
+    sample named f h = inl (sample_taken parser p.1 f)
 
-    calc : answers_to p.0 (label_of (sub_at parser 2)) ≡ true → Gives p.1 (Some (sub_at parser 2))
-    calc named f h = (Calc, refl, tt)
+    plain_one : (c : PlainCommand) → answers_to p.0 (label_of (plain_built parser c)) ≡ true → GivesAt p.1 (Some (plain_built parser c))
+    plain_one c named f h = inl (Plain c, rw (named_plain c) refl, tt)
 
-    help : answers_to p.0 (label_of (sub_at parser 3)) ≡ true → Gives p.1 (Some (sub_at parser 3))
+    help : answers_to p.0 (label_of (last_sub parser)) ≡ true → GivesAt p.1 (Some (last_sub parser))
     help named f h =
         let is : codes "help" ≡ p.0 = is_text (codes "help") p.0 (only (bytes_eq (codes "help") p.0) named) in
         let bad : true ≡ false = rw (← is) at no_help in
@@ -267,9 +311,8 @@ subcommand_met s rows false required e =
     let bad : true ≡ false = sym required ∙ wanted.0 in
     cc
 
--- words without a fault give a command
-pub words_give : (parser : ValueParser) → TakesDomains parser → (words : List Text) → fault_of (command_line parser) words ≡ []
-    → (c : Command) × (command_of (subcommand_of (command_line parser) words) ≡ Some c) × IsWithinRanges c
+-- words without a fault give a command within its ranges, or their options conflict
+pub words_give : (parser : ValueParser) → TakesDomains parser → (words : List Text) → fault_of (command_line parser) words ≡ [] → Gives (subcommand_of (command_line parser) words)
 words_give parser takes words e =
     let whole = built (command_line parser) in
     let rest = argument_words (command_line parser) words in

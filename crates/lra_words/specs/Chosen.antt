@@ -1,9 +1,10 @@
 -- The command that the matches of the command line are.
-use Rattle.std.specs.Prelude.{◌≡◌, ◌^◌, ◌&&◌, ◌⊎◌, ℕ, Bool, true, false, List, [], fold, Option, Some}
+use Rattle.std.specs.Prelude.{◌≡◌, ◌^◌, ◌&&◌, ◌||◌, ◌⊎◌, ℕ, Bool, true, false, List, [], fold, Option, Some}
 use Rattle.std.specs.Prelude.{None, codes, if◌then◌else◌, find, nat_lt, option_and_then, option_map, ⊤}
-use Rattle.std.specs.List.{AllByRecursion}
+use Rattle.std.specs.List.{AllByRecursion, list_any}
 use Rattle.std.specs.Str.{bytes_eq}
 use Rattle.std.specs.Str.Parse.{digits_value, without_leading_plus}
+use Rattle.clap.specs.Takes.{is_given}
 use Rattle.clap.specs.ValueTests.{is_numeral}
 use Rattle.clap.specs.Words.{Row, Text, fault_of, first_of, one_of, subcommand_of, takes}
 use Rattle.clap.specs.declared.builder.value_parser.ValueParser.{ValueParser}
@@ -12,14 +13,16 @@ use Rattle.lra_options.specs.declared.options.NumberOption.{NumberOption}
 use Rattle.lra_options.specs.declared.options.FlagOption.{FlagOption}
 use Rattle.lra_options.specs.OptionRows.{IsInRange, number_row, number_value, set_number, number_options}
 use Rattle.lra_options.specs.OptionRows.{flag_row, set_flag, flag_options}
+use Rattle.lra_options.specs.OptionRows.{agree, best_options}
 pub use Rattle.lra_options.specs.OptionRows.{default_options}
 use Rattle.lra_options.specs.declared.options.Domain.{Domain}
 use Rattle.lra_options.specs.declared.options.Options.{Options}
-use Rattle.lra_words.specs.CommandLine.{TakesDomains, command_line, seed_option, size_option}
+use Rattle.lra_words.specs.CommandLine.{TakesDomains, command_line, plain_named, seed_option, size_option}
 use Rattle.lra_words.specs.declared.chosen.Command.{Command}
+use Rattle.lra_words.specs.declared.chosen.PlainCommand.{PlainCommand}
 use Rattle.lra_words.specs.declared.chosen.Format.{Format}
 use Rattle.lra_words.specs.declared.chosen.Format.TheVariants.{Lines, Json}
-use Rattle.lra_words.specs.declared.chosen.Command.TheVariants.{Analyse, Sample, Calc}
+use Rattle.lra_words.specs.declared.chosen.Command.TheVariants.{Analyse, Sample, Plain}
 
 -- the number that a text writes, by decimal digits after at most one plus, where it is below
 -- `limit`
@@ -62,6 +65,28 @@ with_domain rows = option_map (λ domain. record default_options { domain = doma
 abbrev pub options_of : List Row → Option Options
 options_of rows = fold (with_flag rows) (fold (with_number rows) (with_domain rows) number_options) flag_options
 
+-- the words themselves give one of the options, be it with the value that it has by default
+abbrev pub gives_number : List Row → Bool
+gives_number rows = list_any (λ option. is_given (number_row option).name rows) number_options
+
+abbrev pub gives_flag : List Row → Bool
+gives_flag rows = list_any (λ option. is_given (flag_row option).name rows) flag_options
+
+abbrev pub gives_any : List Row → Bool
+gives_any rows = is_given (codes "domain") rows || (gives_number rows || gives_flag rows)
+
+-- `--best` stands alone for its options; without it those that are read have to agree
+abbrev pub best_of : List Row → Option Options
+best_of rows = if gives_any rows then None else Some best_options
+
+abbrev pub agreeing : Options → Option Options
+agreeing o = if agree o then Some o else None
+
+abbrev pub chosen_options : List Row → Option Options
+chosen_options rows =
+    option_and_then (λ best. if best then best_of rows else option_and_then agreeing (options_of rows))
+    (flag_at (codes "best") rows)
+
 -- the output that the flags ask for
 abbrev pub format_of : Bool → Format
 format_of true = Json
@@ -73,7 +98,7 @@ format_at rows = option_map format_of (flag_at (codes "json") rows)
 abbrev pub analyse_of : List Row → Option Command
 analyse_of rows = option_and_then (λ options. option_map (λ format. Analyse options format)
     (format_at rows))
-    (options_of rows)
+    (chosen_options rows)
 
 abbrev pub sample_of : List Row → Option Command
 sample_of rows = option_and_then (λ seed. option_map (λ size. Sample seed size)
@@ -81,11 +106,17 @@ sample_of rows = option_and_then (λ seed. option_map (λ size. Sample seed size
     (number_at seed_option.name (2 ^ 64) rows)
 
 -- the command of the subcommand's name and matches
-abbrev pub named_command : Text → List Row → Option Command
-named_command name rows =
+abbrev pub optioned_command : Text → List Row → Option Command
+optioned_command name rows =
     if bytes_eq name (codes "analyse") then analyse_of rows
-    else (if bytes_eq name (codes "sample") then sample_of rows
-    else (if bytes_eq name (codes "calc") then Some Calc else None))
+    else (if bytes_eq name (codes "sample") then sample_of rows else None)
+
+abbrev pub or_optioned : Option PlainCommand → Text → List Row → Option Command
+or_optioned (Some c) name rows = Some (Plain c)
+or_optioned None name rows = optioned_command name rows
+
+abbrev pub named_command : Text → List Row → Option Command
+named_command name rows = or_optioned (plain_named name) name rows
 
 abbrev pub command_of : Option (Text × List Row) → Option Command
 command_of None = None
@@ -98,17 +129,31 @@ HasInRange o option = IsInRange (number_row option) (number_value option o)
 abbrev pub IsWithinRanges : Command → Type 0
 IsWithinRanges (Analyse options format) = AllByRecursion (HasInRange options) number_options
 IsWithinRanges (Sample seed size) = IsInRange seed_option seed × IsInRange size_option size
-IsWithinRanges Calc = ⊤
+IsWithinRanges (Plain c) = ⊤
 
--- the words ask for no command: the parse has a kind of error for them
+-- an option stands beside `--best`, which stands for all of them
+abbrev pub IsBesideBest : List Row → Type 0
+IsBesideBest rows = (flag_at (codes "best") rows ≡ Some true) × (gives_any rows ≡ true)
+
+-- without `--best`, the options that are read can't be given together
+abbrev pub Disagrees : List Row → Type 0
+Disagrees rows = (o : Options) × (flag_at (codes "best") rows ≡ Some false)
+    × (options_of rows ≡ Some o) × (agree o ≡ false)
+
+-- the matches are an analysis whose options conflict
+abbrev pub Conflicting : Option (Text × List Row) → Type 0
+Conflicting None = ⊥
+Conflicting (Some chosen) = (chosen.0 ≡ codes "analyse") × (IsBesideBest chosen.1 ⊎ Disagrees chosen.1)
+
+-- the words ask for no command: the parse has a kind of error for them, or else their options conflict
 abbrev pub AsksNone : List Text → Type 0
 AsksNone words = (parser : ValueParser) × TakesDomains parser
-    × (fault_of (command_line parser) words ≡ [] → ⊥)
+    × (fault_of (command_line parser) words ≡ [] → Conflicting (subcommand_of (command_line parser) words))
 
--- nor does the command line take them
+-- nor does the command line take them, unless their options conflict
 abbrev pub IsUntaken : List Text → Type 0
 IsUntaken words = (parser : ValueParser) × TakesDomains parser
-    × (takes (command_line parser) words ≡ true → ⊥)
+    × (takes (command_line parser) words ≡ true → Conflicting (subcommand_of (command_line parser) words))
 
 -- the words ask for this command: the command line takes them, and it is that of the matches
 abbrev pub Asks : List Text → Command → Type 0

@@ -1,12 +1,15 @@
 -- The command line, as a parse reads it.
-use Rattle.std.specs.Prelude.{◌≡◌, ◌^◌, ◌-◌, ℕ, map, fold, codes, Option, None, Some, List, [], ◌∷◌, true}
+use Rattle.std.specs.Prelude.{◌≡◌, refl, ◌^◌, ◌-◌, ℕ, map, fold, find, codes, Option, None, Some, List, [], ◌∷◌, true}
 use Rattle.std.specs.Borrow.{Bor}
+use Rattle.std.specs.Str.{bytes_eq}
 use Rattle.clap.specs.Words.{App, Rule, Text, new_app, new_rule, with_rule, with_subcommand}
 use Rattle.clap.specs.declared.builder.value_parser.ValueParser.{ValueParser}
 use Rattle.clap.specs.declared.builder.value_parser.ValueParser.TheVariants as vp
 use Rattle.lra_options.specs.Domains.{domains, domain_name}
 use Rattle.lra_options.specs.OptionRows.{NumberRow, number_row, number_options, flag_row, flag_options, default_options}
 use Rattle.clap.specs.declared.builder.action.ArgAction.TheVariants.{SetTrue}
+use Rattle.lra_words.specs.declared.chosen.PlainCommand.{PlainCommand}
+use Rattle.lra_words.specs.declared.chosen.PlainCommand.TheVariants.{Calc}
 
 -- `--name VALUE` with this parser
 abbrev pub valued : Text → ValueParser → Rule
@@ -45,6 +48,10 @@ number_rule row = either_rule row.default row.name (number row.least row.greates
 abbrev pub domain_rule : ValueParser → Rule
 domain_rule parser = defaulted (codes "domain") parser (domain_name default_options.domain)
 
+-- for whoever doesn't want to choose
+abbrev pub best_rule : Rule
+best_rule = flag (codes "best")
+
 abbrev pub json_rule : Rule
 json_rule = flag (codes "json")
 
@@ -56,14 +63,30 @@ abbrev pub with_flags : App → App
 with_flags a = fold (λ so option. with_rule so (flag (flag_row option).name)) a flag_options
 
 abbrev pub analyse : ValueParser → App
-analyse parser = with_rule (with_flags (with_numbers (with_rule (new_app (codes "analyse")) (domain_rule parser))))
-    json_rule
+analyse parser = with_rule (with_rule (with_flags (with_numbers (with_rule (new_app (codes "analyse"))
+    (domain_rule parser)))) best_rule) json_rule
 
 abbrev pub sample : App
 sample = with_rule (with_rule (new_app (codes "sample")) (number_rule seed_option)) (number_rule size_option)
 
-abbrev pub calc : App
-calc = new_app (codes "calc")
+-- commands without options of their own: their names, in the order of the command line; each is the one of its name
+abbrev pub plain_name : PlainCommand → Text
+plain_name Calc = codes "calc"
+
+abbrev pub plain_commands : List PlainCommand
+plain_commands = Calc ∷ []
+
+abbrev pub plain_named : Text → Option PlainCommand
+plain_named name = find (λ c. bytes_eq name (plain_name c)) plain_commands
+
+pub named_plain : (c : PlainCommand) → plain_named (plain_name c) ≡ Some c
+named_plain Calc = refl
+
+abbrev pub plain : PlainCommand → App
+plain c = new_app (plain_name c)
+
+abbrev pub with_plain : App → App
+with_plain a = fold (λ so c. with_subcommand so (plain c).top) a plain_commands
 
 -- a subcommand has to be named
 abbrev pub requiring : App → App
@@ -71,8 +94,7 @@ requiring a = record a { top = record a.top { subcommand_required = true } }
 
 abbrev pub command_line : ValueParser → App
 command_line parser =
-    with_subcommand (with_subcommand (with_subcommand (requiring (new_app (codes "lra")))
-    (analyse parser).top) sample.top) calc.top
+    with_plain (with_subcommand (with_subcommand (requiring (new_app (codes "lra"))) (analyse parser).top) sample.top)
 
 -- the parser takes the domains' names
 abbrev pub TakesDomains : ValueParser → Type 0

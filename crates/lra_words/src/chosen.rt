@@ -1,4 +1,7 @@
 //! The commands that words can choose.
+ghost use Rattle.std.specs.Prelude.{◌≡◌};
+ghost use Rattle.lra_words.specs.CommandLine.{plain_name};
+
 use lra_options::Options;
 
 /// How a report is written.
@@ -10,6 +13,27 @@ pub enum Format {
     Json,
 }
 
+/// A command without options of its own.
+#[derive(Clone, Copy, PartialEq, Eq, Debug)]
+pub enum PlainCommand {
+    /// Run a script of the library's calls.
+    Calc,
+}
+
+/// These commands, in the order in which the command line has them.
+pub const PLAIN_COMMANDS: [PlainCommand; 1] = [PlainCommand::Calc];
+
+impl PlainCommand {
+    /// Its name among the words.
+    pub fn name(self) -> &'static str
+        ensures { result.now ≡ plain_name self }
+    {
+        match self {
+            PlainCommand::Calc => "calc",
+        }
+    }
+}
+
 /// What the words ask for.
 #[derive(Clone, Copy, PartialEq, Debug)]
 pub enum Command {
@@ -17,6 +41,6 @@ pub enum Command {
     Analyse { options: Options, format: Format },
     /// Make a source from a seed and a size, 0 to 400, analyse it and print a summary.
     Sample { seed: u64, size: u32 },
-    /// Run a script of the library's calls.
-    Calc,
+    /// What the command's name says alone.
+    Plain(PlainCommand),
 }

@@ -9,8 +9,9 @@ ghost use Rattle.clap.specs.Words.{app_of, rule_of, with_subcommand};
 ghost use Rattle.clap.specs.declared.builder.command.Command.TheViews.{out-Command};
 ghost use Rattle.lra_words.specs.CommandLine.{DeclaresAnalyse, DeclaresCommandLine, DeclaresDomain};
 ghost use Rattle.lra_words.specs.CommandLine.{defaulted, flag, number, number_rule, required, sample, valued};
-ghost use Rattle.lra_words.specs.CommandLine.{with_flags, with_numbers};
+ghost use Rattle.lra_words.specs.CommandLine.{with_flags, with_numbers, with_plain};
 
+use crate::chosen::PLAIN_COMMANDS;
 use clap::builder::ValueParser;
 use clap::{Arg, ArgAction, Command, value_parser};
 use lra_options::{FLAG_OPTIONS, NUMBER_OPTIONS, NumberOption};
@@ -117,6 +118,7 @@ fn analyse_command<'a>(alloc: Global) -> Result<Command<'a>, AllocError>
     let command = Command::new(alloc, "analyse").arg(domain_arg(alloc))?;
     let command = add_numbers(alloc, command)?;
     let command = add_flags(alloc, command)?;
+    let command = command.arg(flag_arg(alloc, "best"))?;
     let command = command.arg(flag_arg(alloc, "json"))?;
     Ok(command)
 }
@@ -141,12 +143,24 @@ fn add_sample<'a>(alloc: Global, app: Command<'a>) -> Result<Command<'a>, AllocE
     app.subcommand(sample_command(alloc)?)
 }
 
-/// The command line with its subcommands `analyse`, `sample` and `calc`.
+/// The command line so far, and the commands without options.
+fn add_plain<'a>(alloc: Global, app: Command<'a>) -> Result<Command<'a>, AllocError>
+    ensures { IfOk result (λ c. app_of c ≡ with_plain (app_of app.entry)) }
+{
+    let mut declared = app;
+    for command in PLAIN_COMMANDS.iter() {
+        let name: &'a str = command.name();
+        declared = declared.subcommand(Command::new(alloc, name))?;
+    }
+    Ok(declared)
+}
+
+/// The command line with its subcommands `analyse` and `sample`, and with those without options.
 pub(crate) fn declare<'a>(alloc: Global) -> Result<Command<'a>, AllocError>
     ensures { IfOk result (λ c. DeclaresCommandLine (app_of c)) }
 {
     let analyse = analyse_command(alloc)?;
     let app = Command::new(alloc, "lra").subcommand_required(true);
     let app = add_sample(alloc, app.subcommand(analyse)?)?;
-    app.subcommand(Command::new(alloc, "calc"))
+    add_plain(alloc, app)
 }

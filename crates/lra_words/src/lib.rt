@@ -9,7 +9,7 @@ mod command_line;
 pub mod law;
 pub mod words;
 
-pub use chosen::{Command, Format};
+pub use chosen::{Command, Format, PLAIN_COMMANDS, PlainCommand};
 pub use law::each_list;
 pub use lra_options::default_options;
 pub use words::{Refusal, find_command, parse_command};

@@ -1,23 +1,29 @@
 //! The command that a list of words gives.
 ghost use Rattle.std.specs.Prelude.{◌≡◌, ◌^◌, Err, IfOk, IfSome, Some, codes, fold, map, string_bytes};
+ghost use Rattle.clap.specs.Takes.{is_given};
 ghost use Rattle.clap.specs.Words.{found_of, kind_of, rows_of};
 ghost use Rattle.lra_words.specs.Chosen.{Asks, AsksFor, AsksNone, IsUntaken, IsWithinRanges, command_of, domain_at};
-ghost use Rattle.lra_words.specs.Chosen.{analyse_of, domain_named, flag_at, format_at, format_of};
+ghost use Rattle.lra_words.specs.Chosen.{agreeing, analyse_of, best_of, chosen_options, domain_named, flag_at};
+ghost use Rattle.lra_words.specs.Chosen.{format_at, format_of, gives_any, gives_flag, gives_number, optioned_command};
 ghost use Rattle.lra_words.specs.Chosen.{number_at, options_of, sample_of, with_domain, with_flag, with_number};
 ghost use Rattle.lra_options.specs.OptionRows.{number_options, flag_options};
+ghost use Rattle.lra_words.specs.CommandLine.{plain_named};
 ghost use Rattle.lra_words.specs.Refusals.{refusal};
 
-use crate::chosen::{Command, Format};
+use crate::chosen::{Command, Format, PLAIN_COMMANDS, PlainCommand};
 use crate::command_line::declare;
 use clap::ArgMatches;
 use clap::error::ErrorKind;
-use lra_options::{DOMAINS, Domain, FLAG_OPTIONS, NUMBER_OPTIONS, Options, default_options};
+use clap::parser::ValueSource;
+use lra_options::{
+    DOMAINS, Domain, FLAG_OPTIONS, NUMBER_OPTIONS, Options, best_options, default_options,
+};
 use std::alloc::{AllocError, Global};
 
 /// Why words give no command.
 #[derive(Clone, Copy, PartialEq, Debug)]
 pub enum Refusal {
-    /// The command line doesn't take the words.
+    /// The command line doesn't take the words, or their options conflict.
     Usage,
     /// Memory ran out.
     Memory,
@@ -101,6 +107,76 @@ fn read_options(matches: &ArgMatches) -> Option<Options>
     read_flags(matches, options)
 }
 
+/// Whether the words themselves give the option, and it hasn't its default alone.
+fn is_given(matches: &ArgMatches, option: &str) -> bool
+    ensures { result ≡ is_given option.now (rows_of (found_of matches.now)) }
+{
+    match matches.value_source(option) {
+        Some(ValueSource::DefaultValue) => false,
+        Some(ValueSource::CommandLine) => true,
+        None => matches.contains_id(option),
+    }
+}
+
+/// Whether they give one of the options that are numbers.
+fn gives_number(matches: &ArgMatches) -> bool
+    ensures { result ≡ gives_number (rows_of (found_of matches.now)) }
+{
+    for option in NUMBER_OPTIONS.iter() {
+        if is_given(matches, option.name()) {
+            return true;
+        }
+    }
+    false
+}
+
+/// Whether they give one of the options that are flags.
+fn gives_flag(matches: &ArgMatches) -> bool
+    ensures { result ≡ gives_flag (rows_of (found_of matches.now)) }
+{
+    for option in FLAG_OPTIONS.iter() {
+        if is_given(matches, option.name()) {
+            return true;
+        }
+    }
+    false
+}
+
+fn gives_any(matches: &ArgMatches) -> bool
+    ensures { result ≡ gives_any (rows_of (found_of matches.now)) }
+{
+    is_given(matches, "domain") || gives_number(matches) || gives_flag(matches)
+}
+
+/// The options for which `--best` stands, if no other option is given beside it.
+fn read_best(matches: &ArgMatches) -> Option<Options>
+    ensures { result ≡ best_of (rows_of (found_of matches.now)) }
+{
+    if gives_any(matches) {
+        None
+    } else {
+        Some(best_options())
+    }
+}
+
+/// The options, if they can be given together.
+fn check_agree(options: Options) -> Option<Options>
+    ensures { result ≡ agreeing options }
+{
+    if options.agree() { Some(options) } else { None }
+}
+
+fn choose_options(matches: &ArgMatches) -> Option<Options>
+    ensures { result ≡ chosen_options (rows_of (found_of matches.now)) }
+{
+    let best = read_flag(matches, "best")?;
+    if best {
+        return read_best(matches);
+    }
+    let options = read_options(matches)?;
+    check_agree(options)
+}
+
 fn choose_format(json: bool) -> Format
     ensures { result ≡ format_of json }
 {
@@ -117,7 +193,7 @@ fn read_format(matches: &ArgMatches) -> Option<Format>
 fn read_analyse(matches: &ArgMatches) -> Option<Command>
     ensures { result ≡ analyse_of (rows_of (found_of matches.now)) }
 {
-    let options = read_options(matches)?;
+    let options = choose_options(matches)?;
     let format = read_format(matches)?;
     Some(Command::Analyse { options, format })
 }
@@ -136,21 +212,39 @@ fn read_sample(matches: &ArgMatches) -> Option<Command>
     Some(Command::Sample { seed, size })
 }
 
-fn choose_command(name: &str, matches: &ArgMatches) -> Option<Command>
-    ensures { result ≡ command_of (Some (name.now, rows_of (found_of matches.now))) }
+fn find_plain(name: &str) -> Option<PlainCommand>
+    ensures { result ≡ plain_named name.now }
+{
+    PLAIN_COMMANDS
+        .iter()
+        .copied()
+        .find(|command| name == command.name())
+}
+
+/// The command of this name with the options that are read.
+fn read_optioned(name: &str, matches: &ArgMatches) -> Option<Command>
+    ensures { result ≡ optioned_command name.now (rows_of (found_of matches.now)) }
 {
     match name {
         "analyse" => read_analyse(matches),
         "sample" => read_sample(matches),
-        "calc" => Some(Command::Calc),
         _ => None,
+    }
+}
+
+fn choose_command(name: &str, matches: &ArgMatches) -> Option<Command>
+    ensures { result ≡ command_of (Some (name.now, rows_of (found_of matches.now))) }
+{
+    match find_plain(name) {
+        Some(command) => Some(Command::Plain(command)),
+        None => read_optioned(name, matches),
     }
 }
 
 /// The command that the words give; the first word is the program's name.
 ///
-/// `Usage` comes exactly where the command line doesn't take the words, `Memory` only for want of
-/// memory. Nothing is printed.
+/// `Usage` comes exactly where the command line doesn't take the words, or where options are among them that can't be
+/// given together; `Memory` only for want of memory. Nothing is printed.
 pub fn parse_command(alloc: Global, words: &[String]) -> Result<Command, Refusal>
     ensures usage { result ≡ Err Refusal.Usage →
         AsksNone (map string_bytes words.now) × IsUntaken (map string_bytes words.now) }
@@ -173,7 +267,7 @@ pub fn parse_command(alloc: Global, words: &[String]) -> Result<Command, Refusal
     }
 }
 
-/// The command that the words ask for, `None` where the command line doesn't take them.
+/// The command that the words ask for, `None` where the command line doesn't take them or their options conflict.
 pub fn find_command(alloc: Global, words: &[String]) -> Result<Option<Command>, AllocError>
     ensures asks { IfOk result (λ asked. AsksFor (map string_bytes words.now) asked) }
     ensures ranges { IfOk result (λ asked. IfSome asked IsWithinRanges) }

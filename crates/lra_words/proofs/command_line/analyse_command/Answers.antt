@@ -10,4 +10,5 @@ returns-clause-app c =
     let one = c.in_ok-command.ensures.shape c.domain_arg.ensures.local ∙ ap₂ with_rule c.new.ensures.app domain.2 in
     let two = c.in_ok-command-2.ensures.app ∙ ap with_numbers one in
     let three = c.in_ok-command-3.ensures.app ∙ ap with_flags two in
-    (domain.0, domain.1, c.in_ok-command-4.ensures.shape c.flag_arg.ensures.local ∙ ap₂ with_rule three c.flag_arg.ensures.rule)
+    let four = c.in_ok-command-4.ensures.shape c.flag_arg.ensures.local ∙ ap₂ with_rule three c.flag_arg.ensures.rule in
+    (domain.0, domain.1, c.in_ok-command-5.ensures.shape c.flag_arg-2.ensures.local ∙ ap₂ with_rule four c.flag_arg-2.ensures.rule)

@@ -1,6 +1,6 @@
 -- Goals of `parse_command`: `Usage` comes exactly where the command line doesn't take the words, `Memory` only for want
 -- of memory.
-use Rattle.lra_words.proofs.ParsedWords.{chosen_of, refused, succeeds, taken_as, never_none}
+use Rattle.lra_words.proofs.ParsedWords.{asks_none, chosen_of, refused, succeeds, taken_as}
 use Rattle.lra_words.proofs.words.parse_command.Goals as goal
 
 pub returns-in-Err-clause-usage : goal.returns-in-Err-clause-usage
@@ -28,4 +28,4 @@ returns-clause-usage c =
     let done = succeeds _ _ parse.matches c.in-Ok.ensures parse.ensures.kinds parse.ensures.matches in
     let is = chosen_of parse.matches c.subcommand.result c.in-Some.name c.in-Some.inner c.choose_command.result c.subcommand.ensures.name c.subcommand.ensures.rows c.in-Some.is
     c.choose_command.ensures in
-    λ e. absurd (never_none _ parse.matches done c.choose_command.result is c.in-None.is)
+    λ e. asks_none _ parse.matches done c.choose_command.result is c.in-None.is
