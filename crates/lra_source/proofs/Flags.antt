@@ -11,7 +11,7 @@ use Rattle.lra_operations.specs.Inlined.{Spot, move, HasSite, Inl, InlAll, Decla
 use Rattle.lra_operations.specs.Inlined.{as_return, as_return_value, as_return_call, as_end, as_end_value, as_end_call, as_assert, as_assume, as_none, as_declaration, as_statement, as_fresh, as_given}
 use Rattle.lra_operations.specs.Inlined.{is_loop, as_value, as_result}
 use Rattle.lra_operations.specs.Agree.{IsGraph}
-use Rattle.lra_options.specs.declared.options.Options.{Options}
+use Rattle.lra_flow.specs.Plan.{Plan, Widening}
 use Rattle.lra_flow.specs.Operations.{Operations}
 use Rattle.lra_flow.specs.Pass.{Result, noted, jumps, behind, Through, GoesRound, Grows, Narrows, Pass}
 use Rattle.lra_flow.specs.Analysis.{Iteration}
@@ -103,10 +103,10 @@ module _ (V H : Type 0) (ops : Operations V H) (n : ℕ) where
     round_below : (f : Option ℕ) (v : V) (r : Result V) → GoesRound V H ops q base c body f v r → IsBelow n f → IsBelow n r.flag
     round_below f v r (w, e, s, on, turn, is) b = subst (λ (x : Result V). IsBelow n x.flag) (sym is) (inside (noted q e f) w s turn (noted_below n q e f l b))
 
-    grows_below : (limited : Bool) (left : ℕ) (f : Option ℕ) (h : H) (later : List H) (v : V) (r : Result V) → Grows V H ops q base c body limited left f h later v r → IsBelow n f → IsBelow n r.flag
-    grows_below limited left f h [] v r ((e, valued, turn), stays) b = round_below (noted q e f) v r turn (noted_below n q e f l b)
-    grows_below limited left f h (next ∷ later) v r (u, s, e, (d, valued, turn), grown, rest) b =
-        grows_below limited (left - 1) (noted q e s.flag) next later v r rest
+    grows_below : (widening : Widening) (left : ℕ) (f : Option ℕ) (h : H) (later : List H) (v : V) (r : Result V) → Grows V H ops q base c body widening left f h later v r → IsBelow n f → IsBelow n r.flag
+    grows_below widening left f h [] v r ((e, valued, turn), stays) b = round_below (noted q e f) v r turn (noted_below n q e f l b)
+    grows_below widening left f h (next ∷ later) v r (u, s, e, (d, valued, turn), grown, rest) b =
+        grows_below widening (left - 1) (noted q e s.flag) next later v r rest
         (noted_below n q e s.flag l (round_below (noted q d f) u s turn (noted_below n q d f l b)))
 
     narrows_below : (more : ℕ) (first u : V) (s : Result V) (v : V) (r : Result V) → Narrows V H ops q base c body more first u s v r → IsBelow n s.flag → IsBelow n r.flag
@@ -114,7 +114,7 @@ module _ (V H : Type 0) (ops : Operations V H) (n : ℕ) where
     narrows_below (suc more) first u s v r (next, t, e, joined, turn, rest) b =
         narrows_below more first next t v r rest (round_below (noted q e s.flag) next t turn (noted_below n q e s.flag l b))
 
-  pub pass_below : (set : Options) (g : Node) (f : Option ℕ) (v : V) (r : Result V) → Pass V H ops set g f v r → AreBelow n g → IsBelow n f → IsBelow n r.flag
+  pub pass_below : (set : Plan) (g : Node) (f : Option ℕ) (v : V) (r : Result V) → Pass V H ops set g f v r → AreBelow n g → IsBelow n f → IsBelow n r.flag
   pass_below set empty f v r is a b = result_is r _ is b
   pass_below set (point q) f v r is a b = result_is r _ is b
   pass_below set (act q op) f v r (w, e, done, is) a b = result_is r _ is (noted_below n q e f a b)
@@ -125,12 +125,12 @@ module _ (V H : Type 0) (ops : Operations V H) (n : ℕ) where
       result_is r _ is (noted_below n q i t.flag a.0 (pass_below set y (noted q e s.flag) off t two a.2
       (noted_below n q e s.flag a.0 (pass_below set x (noted q d f) on s one a.1 (noted_below n q d f a.0 b)))))
   pass_below set (iterate q base c x) f v r (h, later, u, top, out, s, t, e, started, grown, narrowed, off, is) a b =
-      let g = grows_below q base c (Pass V H ops set x) a.0 (λ f' v' r' p k. pass_below set x f' v' r' p a.1 k) set.limited set.delay f h later u s grown b in
+      let g = grows_below q base c (Pass V H ops set x) a.0 (λ f' v' r' p k. pass_below set x f' v' r' p a.1 k) set.widening set.delay f h later u s grown b in
       let m = narrows_below q base c (Pass V H ops set x) a.0 (λ f' v' r' p k. pass_below set x f' v' r' p a.1 k) set.narrow v u s top t narrowed g in
       result_is r _ is (noted_below n q e t.flag a.0 m)
   pass_below set (catch q j x) f v r (w, e, s, one, joined, is) a b =
       result_is r _ is (flag_is _ (noted q e s.flag) (behind_flag j s w (noted q e s.flag)) (noted_below n q e s.flag a.0 (pass_below set x f v s one a.1 b)))
   pass_below set (leave m j) f v r (w, nothing, is) a b = result_is r _ is (flag_is _ f (jump_flag j v w f) b)
 
-  pub iteration_below : (set : Options) (P : Program) (g : Node) (r : Result V) → 0 < n → AreBelow n g → Iteration ops set P g r → IsBelow n r.flag
+  pub iteration_below : (set : Plan) (P : Program) (g : Node) (r : Result V) → 0 < n → AreBelow n g → Iteration ops set P g r → IsBelow n r.flag
   iteration_below set P g r low below (none, first, e, universal, values, pass) = pass_below set g (noted 0 e None) first r pass below (noted_below n 0 e None low tt)

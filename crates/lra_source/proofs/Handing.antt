@@ -13,9 +13,9 @@ use Rattle.lra_operations.specs.Graph.{Node}
 use Rattle.lra_program.specs.Sites.{Site, sites_of}
 use Rattle.lra_operations.specs.Agree.{IsGraph}
 use Rattle.lra_options.specs.declared.options.Domain.{Domain}
-use Rattle.lra_findings.specs.Report.{Invariant}
+use Rattle.lra_report.specs.Report.{Invariant}
 use Rattle.lra_report.specs.Listing.{HasWidth}
-use Rattle.lra_options.specs.declared.options.Options.{Options}
+use Rattle.lra_flow.specs.Plan.{Plan}
 use Rattle.lra_flow.specs.Operations.{dropping}
 use Rattle.lra_flow.specs.Pass.{Result}
 use Rattle.lra_flow.specs.Analysis.{Derivation, Solves}
@@ -71,10 +71,10 @@ at_place Q [] i x all at = absurd (none-some _ at)
 at_place Q (y ∷ ys) zero x all at = subst Q (same_Some _ _ at) all.0
 at_place Q (y ∷ ys) (suc i) x all at = at_place Q ys i x all.1 at
 
-module _ {V H : Type 0} (m : Meaning V H) (settings : Options) (P : Program) (g : Node) (r : Result V) (values : List V) (verdicts : List (ℕ × Bool)) (flagged : Option ℕ)
-    (graph : IsGraph P g) (derived : Derivation m settings P g r) (solves : Solves m r values verdicts flagged) where
+module _ {V H : Type 0} (m : Meaning V H) (plan : Plan) (P : Program) (g : Node) (r : Result V) (values : List V) (verdicts : List (ℕ × Bool)) (flagged : Option ℕ)
+    (graph : IsGraph P g) (derived : Derivation m plan P g r) (solves : Solves m r values verdicts flagged) where
   counts : (q : ℕ) → Found q r.entries (values_in g q) (checks_in g q)
-  counts q = iteration_found V H (dropping m) q settings P g r derived
+  counts q = iteration_found V H (dropping m) q plan P g r derived
 
   numbers : IsNumbered (sites_of P) g
   numbers = numbered P g graph
@@ -129,12 +129,12 @@ module _ {V H : Type 0} (m : Meaning V H) (settings : Options) (P : Program) (g 
   flag_there q is =
       let n = length (sites_of P) in
       let all = graph.all in
-      let below = iteration_below V H (dropping m) n settings P g r (omega (arith, all)) (graph_below P g graph) derived in
+      let below = iteration_below V H (dropping m) n plan P g r (omega (arith, all)) (graph_below P g graph) derived in
       subst (λ (o : Option ℕ). IsBelow n o) (sym solves.is_flagged ∙ is) below
 
   -- a value has a dimension for each variable that lives at its point
   pub value_dims : Laws m → (q : ℕ) (v : V) (s : Site) → slice_get values q ≡ Some v → slice_get (sites_of P) q ≡ Some s → m.dims v ≡ s.live
-  value_dims laws q v s there site = values_wide m laws (sites_of P) settings P g r (graph_lives P g graph) derived q v s ((solves.is_value q v).0 there) site
+  value_dims laws q v s there site = values_wide m laws (sites_of P) plan P g r (graph_lives P g graph) derived q v s ((solves.is_value q v).0 there) site
 
   module _ (shown : V → Invariant) where
     -- as many states as points

@@ -1,5 +1,5 @@
 -- Two answers to one source without a flag are the same report.
-use Rattle.std.proofs.Common.{◌≡◌, ◌∙◌, ℕ, zero, suc, List, [], ◌∷◌, map, Option, None, Some, Bool, refl, sym, ap, subst, inl, inr}
+use Rattle.std.proofs.Common.{◌≡◌, ◌∙◌, ℕ, zero, suc, ℤ, List, [], ◌∷◌, map, Option, None, Some, Bool, refl, sym, ap, subst, inl, inr}
 use Rattle.std.specs.Prelude.{option_map}
 use Rattle.std.specs.List.{Contains}
 use Rattle.std.proofs.lemmas.Option.{none-some}
@@ -25,12 +25,14 @@ use Rattle.lra_meaning.specs.Resolve.{resolve}
 use Rattle.lra_program.specs.Program.{Program}
 use Rattle.lra_program.specs.Sites.{Site, sites_of}
 use Rattle.lra_options.specs.declared.options.Options.{Options}
-use Rattle.lra_findings.specs.Report.{Invariant, PointReport, Report, Verdict}
-use Rattle.lra_findings.specs.declared.verdict_kinds.VerdictKind.{VerdictKind}
-use Rattle.lra_findings.specs.declared.verdict_kinds.VerdictKind.TheVariants.{Assertion}
+use Rattle.lra_report.specs.Report.{Invariant, PointReport, Report, Verdict}
+use Rattle.lra_report.specs.declared.verdict_kinds.VerdictKind.{VerdictKind}
+use Rattle.lra_report.specs.declared.verdict_kinds.VerdictKind.TheVariants.{Assertion}
 use Rattle.lra_report.specs.Listing.{AreListed, Subject, subjects, AreJudged, Lists, listed_point, listed_verdict}
 use Rattle.lra_listing.specs.Given.{told, told_of, state_of}
 use Rattle.lra_operations.specs.Graph.{Node}
+use Rattle.lra_front.specs.Stages.{OneConstants}
+use Rattle.lra_flow.specs.Plan.{plan_of}
 use Rattle.lra_flow.specs.Analysis.{Written}
 use Rattle.lra_flow.proofs.OneTree.{one_tree}
 use Rattle.lra_iter.proofs.OneSolution.{one_solution}
@@ -101,13 +103,15 @@ pub record SayTheSame (r s : Report) : Type 0 where
   pub states : map state_of r.points ≡ map state_of s.points
   pub verdicts : (k : VerdictKind) (n : ℕ) (a b : Bool) → Contains (map told_of r.verdicts) (k, n, a) → Contains (map told_of s.verdicts) (k, n, b) → a ≡ b
 
-pub one_analysis : {V H : Type 0} (m : Meaning V H) → SingleLaws m → (shown : V → Invariant) (o : Options) (P : Program) (r s : Report) → IsAnalysed m shown o P r → IsAnalysed m shown o P s
+pub one_analysis : {V H : Type 0} (m : Meaning V H) → SingleLaws m → (shown : V → Invariant) (o : Options) (constants : List ℤ) (P : Program) (r s : Report) → IsAnalysed m shown o constants P r
+    → IsAnalysed m shown o constants P s
     → r.flagged ≡ None → s.flagged ≡ None → SayTheSame r s
-one_analysis m laws shown o P r s a b e f =
+one_analysis m laws shown o constants P r s a b e f =
+    let plan = plan_of o constants in
     let tree : b.tree ≡ a.tree = one_tree P b.tree a.tree b.is_graph a.is_graph in
-    let first : Written m o P a.tree a.result = a.written (one_flag a.flagged r.flagged a.flag e) in
-    let second : Written m o P a.tree b.result = subst (λ (g : Node). Written m o P g b.result) tree (b.written (one_flag b.flagged s.flagged b.flag f)) in
-    let one = one_solution m laws o P a.tree a.result b.result a.values b.values a.verdicts b.verdicts a.flagged b.flagged (numbered P a.tree a.is_graph) first second a.solves b.solves in
+    let first : Written m plan P a.tree a.result = a.written (one_flag a.flagged r.flagged a.flag e) in
+    let second : Written m plan P a.tree b.result = subst (λ (g : Node). Written m plan P g b.result) tree (b.written (one_flag b.flagged s.flagged b.flag f)) in
+    let one = one_solution m laws plan P a.tree a.result b.result a.values b.values a.verdicts b.verdicts a.flagged b.flagged (numbered P a.tree a.is_graph) first second a.solves b.solves in
     record {
       states = a.states ∙ ap (map shown) one.0 ∙ sym b.states;
       verdicts = λ k n c d i j.
@@ -130,13 +134,16 @@ module _ (a b : Saying) (X : Type 0) (follows : (V H : Type 0) (m : Meaning V H)
   by_domain Box n h k = by_number n _ _ _ _ box_single box_plain h k
   by_domain Oct n h k = by_number n _ _ _ _ octagon_single octagon_plain h k
 
-pub one_unflagged : OneAnswer Spells → OneUnflaggedReport
-one_unflagged one o source r s x y e f =
+pub one_unflagged : OneAnswer Spells → OneConstants → OneUnflaggedReport
+one_unflagged one one_list o source r s x y e f =
     let t = x.report.tree in
+    let ks = x.constants in
+    let same_constants : y.constants ≡ ks = one_list source y.constants ks y.own x.own in
     let tree : y.report.tree ≡ t = (one source).0 y.report.tree t y.report.accepted x.report.accepted in
-    let other : TellsAnalysis o (resolve t) s = subst (λ (u : FileTree). TellsAnalysis o (resolve u) s) tree y.analysed in
-    let same : SayTheSame r s = by_domain (λ V H m shown. IsAnalysed m shown o (resolve t) r) (λ V H m shown. IsAnalysed m shown o (resolve t) s) (SayTheSame r s)
-    (λ V H m shown l a b. one_analysis m l shown o (resolve t) r s a b e f) o.domain o.parts x.analysed other in
+    let there : TellsAnalysis o y.constants (resolve t) s = subst (λ (u : FileTree). TellsAnalysis o y.constants (resolve u) s) tree y.analysed in
+    let other : TellsAnalysis o ks (resolve t) s = subst (λ (zs : List ℤ). TellsAnalysis o zs (resolve t) s) same_constants there in
+    let same : SayTheSame r s = by_domain (λ V H m shown. IsAnalysed m shown o ks (resolve t) r) (λ V H m shown. IsAnalysed m shown o ks (resolve t) s) (SayTheSame r s)
+    (λ V H m shown l a b. one_analysis m l shown o ks (resolve t) r s a b e f) o.domain o.parts x.analysed other in
     let lists : Lists t s = subst (λ (u : FileTree). Lists u s) tree y.report.lists in
     let points : r.points ≡ s.points = same_points (globals_named t.parts) (labels_of t) 1 (sites_of (resolve t)) r.points s.points x.report.lists.points lists.points same.states in
     let verdicts : r.verdicts ≡ s.verdicts = same_verdicts (labels_of t)

@@ -6,7 +6,7 @@ use Rattle.lra_tree.specs.Trees.{FileTree}
 use Rattle.lra_tree.specs.Labels.{Labelled, labels_of}
 use Rattle.lra_meaning.specs.Resolve.{resolve}
 use Rattle.lra_program.specs.Sites.{Site, sites_of}
-use Rattle.lra_findings.specs.Report.{Invariant, PointReport, Report}
+use Rattle.lra_report.specs.Report.{Invariant, PointReport, Report}
 use Rattle.lra_meaning.specs.ShownNames.{shown_names}
 use Rattle.lra_report.specs.Listing.{HasWidth, AreListed, Lists}
 use Rattle.lra_meaning.specs.LiveNames.{live_names, globals_named}

@@ -4,6 +4,9 @@ use Rattle.std.specs.Prelude.{option_map, nat_lt, if◌then◌else◌, slice_get
 use Rattle.std.specs.List.{AllByRecursion}
 use Rattle.std.proofs.lemmas.Bool.Decides.{nat_tests}
 use Rattle.lra_base.specs.declared.refusals.Refusal.{Refusal}
+use Rattle.lra_program.specs.Program.{Program}
+use Rattle.lra_program.specs.declared.program.Program as declared
+use Rattle.lra_program.specs.ProgramViews.{program_view}
 use Rattle.lra_tree.specs.Trees.{FileTree}
 use Rattle.lra_operations.specs.Graph.{Node}
 use Rattle.lra_tree.specs.Labels.{Labelled, labels_of}
@@ -11,15 +14,16 @@ use Rattle.lra_program.specs.Sites.{Site, Event, comes, one_call_more, events_of
 use Rattle.lra_meaning.specs.Resolve.{resolve}
 use Rattle.lra_options.specs.declared.options.Domain.{Domain}
 use Rattle.lra_options.specs.declared.options.Options.{Options}
-use Rattle.lra_findings.specs.Report.{Invariant, Report}
+use Rattle.lra_report.specs.Report.{Invariant, Report}
 use Rattle.lra_report.specs.Listing.{Lists}
 use Rattle.lra_meaning.specs.Refuse.{greatest_live, greatest_points, limit_fault}
 use Rattle.lra_domain.specs.Meaning.{Meaning}
 use Rattle.lra_domain.specs.Laws.{Laws}
+use Rattle.lra_flow.specs.Plan.{Plan, plan_of}
 use Rattle.lra_iter.specs.Fits.{TreeFits}
 use Rattle.lra_iter.specs.Numbers.{IsNumbered}
 use Rattle.lra_iter.specs.Solved.{IsSolved}
-use Rattle.lra_findings.specs.declared.verdict_kinds.VerdictKind.TheVariants.{Assertion}
+use Rattle.lra_report.specs.declared.verdict_kinds.VerdictKind.TheVariants.{Assertion}
 use Rattle.lra_listing.specs.Given.{AreInvariants, AreVerdicts, state_of, told_of, told}
 use Rattle.lra_report.specs.Spelled.{IsSpelledPart}
 use Rattle.lra_states.specs.Canonical.{AreCanonicallyShown}
@@ -35,6 +39,10 @@ use Rattle.lra_source.proofs.Readable.{canonical, readable}
 
 pub fits : (t : FileTree) (g : Node) (sites : List Site) (globals : List ℤ) → HasGraph t g sites → (resolve t).globals ≡ globals → TreeFits g (length globals)
 fits t g sites globals has is = subst (λ (l : List ℤ). TreeFits g (length l)) is (tree_fits (resolve t) g has.well has.few has.is_graph)
+
+-- the first values of the globals, as they are handed on
+pub globals_seen : (p : declared.Program) (t : FileTree) (globals : List ℤ) → program_view p ≡ resolve t → globals ≡ p.globals.items → (resolve t).globals ≡ globals
+globals_seen p t globals is same = sym (ap (λ (P : Program). P.globals) is) ∙ sym same
 
 pub small_globals : (t : FileTree) (g : Node) (sites : List Site) (globals : List ℤ) → HasGraph t g sites → (resolve t).globals ≡ globals → length globals ≤ 2 ^ 30
 small_globals t g sites globals has is =
@@ -86,34 +94,34 @@ canonical_there {V} dims shown domain named values listed is same are =
 
 -- what the listing asks ----------------------------------------------------------------------------------------------
 
-module _ {V H : Type 0} (m : Meaning V H) (t : FileTree) (g : Node) (sites : List Site) (has : HasGraph t g sites) (settings : Options)
-    (values : List V) (verdicts : List (ℕ × Bool)) (flagged : Option ℕ) (solved : IsSolved m settings (resolve t) g values verdicts flagged) where
+module _ {V H : Type 0} (m : Meaning V H) (t : FileTree) (g : Node) (sites : List Site) (has : HasGraph t g sites) (plan : Plan)
+    (values : List V) (verdicts : List (ℕ × Bool)) (flagged : Option ℕ) (solved : IsSolved m plan (resolve t) g values verdicts flagged) where
   pub states_handed : Laws m → (domain : Domain) (shown : V → Invariant) → AreShown m domain shown values
       → (states : List Invariant) → states ≡ map shown values → AreInvariants (sites_of (resolve t)) states
   states_handed laws domain shown are states is = record {
-    as_many = ap length is ∙ states_as_many m settings (resolve t) g solved.result values verdicts flagged has.is_graph solved.derived solved.solves shown;
-    wide = λ q s state there got. states_wide m settings (resolve t) g solved.result values verdicts flagged has.is_graph solved.derived solved.solves shown laws domain are q s state there
+    as_many = ap length is ∙ states_as_many m plan (resolve t) g solved.result values verdicts flagged has.is_graph solved.derived solved.solves shown;
+    wide = λ q s state there got. states_wide m plan (resolve t) g solved.result values verdicts flagged has.is_graph solved.derived solved.solves shown laws domain are q s state there
         (ap (λ (l : List Invariant). slice_get l q) (sym is) ∙ got);
   }
 
   pub verdicts_handed : AreVerdicts (sites_of (resolve t)) verdicts
   verdicts_handed = record {
-    of_assertions = of_assertions m settings (resolve t) g solved.result values verdicts flagged has.is_graph solved.derived solved.solves;
-    of_all = of_all m settings (resolve t) g solved.result values verdicts flagged has.is_graph solved.derived solved.solves;
+    of_assertions = of_assertions m plan (resolve t) g solved.result values verdicts flagged has.is_graph solved.derived solved.solves;
+    of_all = of_all m plan (resolve t) g solved.result values verdicts flagged has.is_graph solved.derived solved.solves;
     in_order = solved.solves.in_order;
   }
 
   pub flag_handed : (q : ℕ) → flagged ≡ Some q → q < length (sites_of (resolve t))
-  flag_handed = flag_there m settings (resolve t) g solved.result values verdicts flagged has.is_graph solved.derived solved.solves
+  flag_handed = flag_there m plan (resolve t) g solved.result values verdicts flagged has.is_graph solved.derived solved.solves
 
 -- the report ---------------------------------------------------------------------------------------------------------
 
-pub is_told : {V H : Type 0} (m : Meaning V H) (shown : V → Invariant) (o : Options) (t : FileTree) (g : Node) (sites : List Site)
+pub is_told : {V H : Type 0} (m : Meaning V H) (shown : V → Invariant) (o : Options) (constants : List ℤ) (t : FileTree) (g : Node) (sites : List Site)
     (values : List V) (verdicts : List (ℕ × Bool)) (flagged : Option ℕ) (states : List Invariant) (r : Report)
-    → HasGraph t g sites → IsSolved m o (resolve t) g values verdicts flagged → states ≡ map shown values → AreShown m o.domain shown values
+    → HasGraph t g sites → IsSolved m (plan_of o constants) (resolve t) g values verdicts flagged → states ≡ map shown values → AreShown m o.domain shown values
     → AllByRecursion (AllByRecursion IsSpelledPart) states → Laws m → AreCanonicallyShown o.domain m.dims shown values → r.options ≡ o → Lists t r → map state_of r.points ≡ states
-    → map told_of r.verdicts ≡ map (told Assertion) verdicts → r.flagged ≡ option_map suc flagged → IsToldOf m shown o t r
-is_told m shown o t g sites values verdicts flagged states r has solved are are_shown spelled laws lists_shown options lists same judged flag = record {
+    → map told_of r.verdicts ≡ map (told Assertion) verdicts → r.flagged ≡ option_map suc flagged → IsToldOf m shown o constants t r
+is_told m shown o constants t g sites values verdicts flagged states r has solved are are_shown spelled laws lists_shown options lists same judged flag = record {
   names = has.names;
   straight = has.straight;
   within = has.within;
@@ -137,14 +145,14 @@ is_told m shown o t g sites values verdicts flagged states r has solved are are_
   };
   agrees = has.agrees;
   canonical = canonical o t r lists (λ k s state there got.
-      states_canonical m o (resolve t) g solved.result values verdicts flagged has.is_graph solved.derived solved.solves shown laws o.domain lists_shown k s state there
+      states_canonical m (plan_of o constants) (resolve t) g solved.result values verdicts flagged has.is_graph solved.derived solved.solves shown laws o.domain lists_shown k s state there
       (ap (λ (l : List Invariant). slice_get l k) (sym (same ∙ are)) ∙ got));
   readable = readable t r flagged lists (subst (AllByRecursion (AllByRecursion IsSpelledPart)) (sym same) spelled) flag low;
 }
   where
     low : (q : ℕ) → flagged ≡ Some q → q < 2048
     low q is =
-        let there = flag_handed m t g sites has o values verdicts flagged solved q is in
+        let there = flag_handed m t g sites has (plan_of o constants) values verdicts flagged solved q is in
         let few = few_points t g sites has in
         let same : length sites ≡ length (sites_of (resolve t)) = ap length has.points in
         omega (arith, there, few, same)

@@ -1,5 +1,5 @@
 -- A report that lists a program's points, tells what the iteration found, and shows values as they are, is right, and is a report of its source.
-use Rattle.std.proofs.Common.{◌≡◌, ℕ, zero, suc, ◌+◌, ◌≤◌, ◌<◌, List, [], ◌∷◌, length, Option, Some, None, Bool, map, refl, sym, ap, ◌∙◌, subst, arith}
+use Rattle.std.proofs.Common.{◌≡◌, ℕ, zero, suc, ℤ, ◌+◌, ◌≤◌, ◌<◌, List, [], ◌∷◌, length, Option, Some, None, Bool, map, refl, sym, ap, ◌∙◌, subst, arith}
 use Rattle.std.specs.Prelude.{slice_get, option_map, IsTrue}
 use Rattle.std.specs.List.{AllByRecursion, Contains}
 use Rattle.std.proofs.lemmas.Option.{none-some, same_Some}
@@ -8,19 +8,20 @@ use Rattle.lra_tree.specs.Grammar.{Spells}
 use Rattle.lra_program.specs.Run.{At, Fails}
 use Rattle.lra_meaning.specs.Resolve.{resolve}
 use Rattle.lra_program.specs.Sites.{Site, sites_of}
-use Rattle.lra_operations.specs.Agree.{point_of, Agrees}
+use Rattle.lra_operations.specs.Agree.{Agrees}
 use Rattle.lra_tree.specs.Labels.{Labelled, labels_of}
 use Rattle.lra_options.specs.declared.options.Domain.{Domain}
 use Rattle.lra_options.specs.declared.options.Options.{Options}
-use Rattle.lra_findings.specs.Report.{Invariant, Holds, PointReport, Verdict, Report, IsInvariant, IsRight, IsSound}
-use Rattle.lra_findings.specs.Parts.{Tells}
+use Rattle.lra_report.specs.Report.{Invariant, Holds, PointReport, Verdict, Report, IsInvariant, IsRight, IsSound}
+use Rattle.lra_report.specs.Parts.{Tells}
 use Rattle.lra_meaning.specs.Refuse.{Accepts}
-use Rattle.lra_findings.specs.declared.verdict_kinds.VerdictKind.{VerdictKind}
-use Rattle.lra_findings.specs.declared.verdict_kinds.VerdictKind.TheVariants.{Assertion}
-use Rattle.lra_findings.specs.VerdictKinds.{Breaks}
+use Rattle.lra_report.specs.declared.verdict_kinds.VerdictKind.{VerdictKind}
+use Rattle.lra_report.specs.declared.verdict_kinds.VerdictKind.TheVariants.{Assertion}
+use Rattle.lra_report.specs.VerdictKinds.{Breaks}
 use Rattle.lra_report.specs.Listing.{AreListed, Subject, subject, subjects, Lists, IsFlag, AreParts, IsReportOf}
 use Rattle.lra_program.specs.Assertions.{assertions_from}
 use Rattle.lra_meaning.specs.LiveNames.{globals_named}
+use Rattle.lra_flow.specs.Plan.{plan_of}
 use Rattle.lra_flow.specs.Operations.{dropping}
 use Rattle.lra_domain.specs.Meaning.{Meaning}
 use Rattle.lra_domain.specs.Laws.{Laws}
@@ -65,8 +66,8 @@ listed_length o ls n (s ∷ ss) (p ∷ ps) l = ap suc (listed_length o ls (suc n
 
 -- reports ------------------------------------------------------------------------------------------------------------
 
-module _ {V H : Type 0} (m : Meaning V H) (laws : Laws m) (shown : V → Invariant) (settings : Options) (t : FileTree) (r : Report) (lists : Lists t r)
-    (x : IsAnalysed m shown settings (resolve t) r) (agrees : Agrees (resolve t) x.tree) where
+module _ {V H : Type 0} (m : Meaning V H) (laws : Laws m) (shown : V → Invariant) (settings : Options) (constants : List ℤ) (t : FileTree) (r : Report) (lists : Lists t r)
+    (x : IsAnalysed m shown settings constants (resolve t) r) (agrees : Agrees (resolve t) x.tree) where
   -- the value at a listed point, by whose state it is shown
   value_of : (k : ℕ) (p : PointReport) → slice_get r.points k ≡ Some p → (v : V) × (slice_get x.values k ≡ Some v) × (p.state ≡ shown v)
   value_of k p listed = map_at (λ (q : PointReport). q.state) shown r.points x.values x.states k p listed
@@ -74,7 +75,7 @@ module _ {V H : Type 0} (m : Meaning V H) (laws : Laws m) (shown : V → Invaria
   invariant : (k : ℕ) (s : Site) (p : PointReport) → slice_get (sites_of (resolve t)) k ≡ Some s → slice_get r.points k ≡ Some p → IsListed (globals_named t.parts) (labels_of t) s p
       → IsInvariant (resolve t) p
   invariant k s p there listed (is, names) store at =
-      let (v, found, has, long) = value_there V H m laws settings (resolve t) x.tree x.result x.derived agrees x.values x.verdicts x.flagged x.solves k s store there
+      let (v, found, has, long) = value_there V H m laws (plan_of settings constants) (resolve t) x.tree x.result x.derived agrees x.values x.verdicts x.flagged x.solves k s store there
       (subst (λ y. At (resolve t) y store) is at) in
       let (w, found', state) = value_of k p listed in
       let same : v ≡ w = same_Some v w (sym found ∙ found') in
@@ -89,8 +90,8 @@ module _ {V H : Type 0} (m : Meaning V H) (laws : Laws m) (shown : V → Invaria
       let (y, found, is_told) = map_at told_of (told Assertion) r.verdicts x.verdicts x.proved k v listed in
       let place : y.0 ≡ q = numbers v.number y.0 a.0 q (ap (λ (z : VerdictKind × ℕ × Bool). z.1) is_told) on.number is in
       let same : y ≡ (q, v.holds) = pair y.0 q y.1 v.holds place (sym (ap (λ (z : VerdictKind × ℕ × Bool). z.2) is_told)) in
-      proved_holds V H m laws settings (resolve t) x.tree x.result x.derived agrees x.values x.verdicts x.flagged x.solves
-      (iteration_fails_once (dropping m) settings (resolve t) x.tree x.result (numbered (resolve t) x.tree x.is_graph) x.derived)
+      proved_holds V H m laws (plan_of settings constants) (resolve t) x.tree x.result x.derived agrees x.values x.verdicts x.flagged x.solves
+      (iteration_fails_once (dropping m) (plan_of settings constants) (resolve t) x.tree x.result (numbered (resolve t) x.tree x.is_graph) x.derived)
       q a.1 v.holds site (subst (λ (z : ℕ × Bool). Contains x.verdicts z) same (contained x.verdicts k y found)) holds
       (subst (λ z. Fails (resolve t) z) on.point fails)
     where
@@ -120,7 +121,7 @@ module _ {V H : Type 0} (m : Meaning V H) (laws : Laws m) (shown : V → Invaria
   flag_there : IsFlag (length r.points) r.flagged
   flag_there =
       let low : 0 < length (sites_of (resolve t)) = omega (arith, x.is_graph.all) in
-      let below = iteration_below V H (dropping m) (length (sites_of (resolve t))) settings (resolve t) x.tree x.result low (graph_below (resolve t) x.tree x.is_graph) x.derived in
+      let below = iteration_below V H (dropping m) (length (sites_of (resolve t))) (plan_of settings constants) (resolve t) x.tree x.result low (graph_below (resolve t) x.tree x.is_graph) x.derived in
       let long : length r.points ≡ length (sites_of (resolve t)) = listed_length (globals_named t.parts) (labels_of t) 1 (sites_of (resolve t)) r.points lists.points in
       let there : IsBelow (length r.points) x.flagged = subst (λ (n : ℕ). IsBelow n x.flagged) (sym long)
       (subst (λ (o : Option ℕ). IsBelow (length (sites_of (resolve t))) o) (sym x.solves.is_flagged) below) in
@@ -134,10 +135,10 @@ module _ {V H : Type 0} (m : Meaning V H) (laws : Laws m) (shown : V → Invaria
       let (v, found, state) = value_of k p listed in
       let here = contained x.values k v found in
       let one = x.are_shown v here in
-      let capped = solved_capped m laws settings some (resolve t) x.tree x.result x.values x.verdicts x.flagged x.derived x.solves v here in
+      let capped = solved_capped m laws (plan_of settings constants) some (resolve t) x.tree x.result x.values x.verdicts x.flagged x.derived x.solves v here in
       let cap : length (m.parts v) ≤ settings.parts = laws.capped_parts v settings.parts capped in
       let few : length (shown v) ≤ o.parts = let many = one.as_many in omega (arith, many, cap, room) in
-      let dims : m.dims v ≡ s.live = value_dims m settings (resolve t) x.tree x.result x.values x.verdicts x.flagged x.is_graph x.derived x.solves laws k v s found there in
+      let dims : m.dims v ≡ s.live = value_dims m (plan_of settings constants) (resolve t) x.tree x.result x.values x.verdicts x.flagged x.is_graph x.derived x.solves laws k v s found there in
       let named : m.dims v ≡ length p.names = dims ∙ sym (ap length names ∙ shown_as_many t k s there) in
       record {
         few = subst (λ (y : Invariant). length y ≤ o.parts) (sym state) few;

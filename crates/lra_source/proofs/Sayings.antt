@@ -1,10 +1,10 @@
 -- What is said of a domain or of its sets, as the options name them.
-use Rattle.std.proofs.Common.{◌≡◌, ℕ, zero, suc, ◌≤◌, ◌<◌, List, sym, subst, arith}
+use Rattle.std.proofs.Common.{◌≡◌, ℕ, zero, suc, ℤ, ◌≤◌, ◌<◌, List, sym, subst, arith}
 use Rattle.lra_options.specs.declared.options.Domain.{Domain}
 use Rattle.lra_options.specs.declared.options.Domain.TheVariants.{Poly, Box, Oct}
 use Rattle.lra_options.specs.declared.options.Options.{Options}
 use Rattle.lra_domain.specs.Meaning.{Meaning}
-use Rattle.lra_findings.specs.Report.{Invariant, Report}
+use Rattle.lra_report.specs.Report.{Invariant, Report}
 use Rattle.lra_meaning.specs.Resolve.{resolve}
 use Rattle.lra_program.specs.Program.{Program}
 use Rattle.lra_set.specs.Content.{Parts, Head}
@@ -45,16 +45,16 @@ module _ (d : Domain) (o : Options) (source : List ℕ) {V H : Type 0} (m : Mean
   abbrev Answers : ℕ → Type 0
   Answers n = AloneOrSets n (λ V H m shown. IsAnsweredOver m shown o source r) V H m shown
 
-  abbrev Analyses : ℕ → Program → Saying
-  Analyses n P = AloneOrSets n (λ V H m shown. IsAnalysed m shown o P r)
+  abbrev Analyses : ℕ → List ℤ → Program → Saying
+  Analyses n constants P = AloneOrSets n (λ V H m shown. IsAnalysed m shown o constants P r)
 
-  tells : (P : Program) → Analyses o.parts P V H m shown → TellsAnalysis o P r
-  tells P h = subst (λ (e : Domain). OverDomain e (Analyses o.parts P)) (sym is) (names (Analyses o.parts P) h)
+  tells : (constants : List ℤ) (P : Program) → Analyses o.parts constants P V H m shown → TellsAnalysis o constants P r
+  tells constants P h = subst (λ (e : Domain). OverDomain e (Analyses o.parts constants P)) (sym is) (names (Analyses o.parts constants P) h)
 
-  answers : (n : ℕ) → Answers n → ((P : Program) → Analyses n P V H m shown → TellsAnalysis o P r) → IsAnswered o source r
-  answers zero a told = record { report = a.report; analysed = told (resolve a.report.tree) a.analysed; canonical = a.canonical; readable = a.readable }
-  answers (suc zero) a told = record { report = a.report; analysed = told (resolve a.report.tree) a.analysed; canonical = a.canonical; readable = a.readable }
-  answers (suc (suc n)) a told = record { report = a.report; analysed = told (resolve a.report.tree) a.analysed; canonical = a.canonical; readable = a.readable }
+  answers : (n : ℕ) → Answers n → ((constants : List ℤ) (P : Program) → Analyses n constants P V H m shown → TellsAnalysis o constants P r) → IsAnswered o source r
+  answers zero a told = record { report = a.report; constants = a.constants; own = a.own; analysed = told a.constants (resolve a.report.tree) a.analysed; canonical = a.canonical; readable = a.readable }
+  answers (suc zero) a told = record { report = a.report; constants = a.constants; own = a.own; analysed = told a.constants (resolve a.report.tree) a.analysed; canonical = a.canonical; readable = a.readable }
+  answers (suc (suc n)) a told = record { report = a.report; constants = a.constants; own = a.own; analysed = told a.constants (resolve a.report.tree) a.analysed; canonical = a.canonical; readable = a.readable }
 
   pub over_domain : Answers o.parts → IsAnswered o source r
   over_domain a = answers o.parts a tells

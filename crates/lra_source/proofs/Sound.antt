@@ -8,7 +8,7 @@ use Rattle.lra_domain.specs.Laws.{Laws}
 use Rattle.lra_program.specs.Program.{Program}
 use Rattle.lra_program.specs.Run.{begun, At, Fails}
 use Rattle.lra_operations.specs.Graph.{Node}
-use Rattle.lra_findings.specs.Report.{PointReport, Verdict}
+use Rattle.lra_report.specs.Report.{PointReport, Verdict}
 use Rattle.lra_tree.specs.Labels.{Labelled}
 use Rattle.lra_program.specs.Sites.{Site, sites_of}
 use Rattle.lra_operations.specs.Agree.{point_of, Agrees}
@@ -16,7 +16,7 @@ use Rattle.lra_meaning.specs.ShownNames.{shown_names}
 use Rattle.lra_meaning.specs.LiveNames.{live_names}
 use Rattle.lra_report.specs.Listing.{Subject, AreListed, AreJudged}
 use Rattle.lra_program.specs.Assertions.{assertions_from}
-use Rattle.lra_options.specs.declared.options.Options.{Options}
+use Rattle.lra_flow.specs.Plan.{Plan}
 use Rattle.lra_flow.specs.Pass.{failing, Result}
 use Rattle.lra_flow.specs.Analysis.{Derivation, Solves, IsUnreachable}
 use Rattle.lra_flow.proofs.Covers.{Covers, Has}
@@ -25,7 +25,7 @@ use Rattle.lra_iter.proofs.Covering.{begun_covers}
 -- runs -----------------------------------------------------------------------------------------------------------------
 
 module _ (V H : Type 0) (m : Meaning V H) where
-  module _ (laws : Laws m) (set : Options) (P : Program) (g : Node) (r : Result V) where
+  module _ (laws : Laws m) (set : Plan) (P : Program) (g : Node) (r : Result V) where
     -- from the globals on, whatever is drawn, the iteration has the stores of the tree's runs
     pub derivation_covers : Derivation m set P g r → (draws : List ℤ) → Covers m g (begun P.globals draws) r
     derivation_covers (none, first, e, universal, values, pass) draws = begun_covers m laws set P.globals g none first e r universal values pass draws

@@ -1,25 +1,25 @@
 -- What a tree's report is told to be, as the answer of its source.
-use Rattle.std.proofs.Common.{ℕ, ◌≤◌, List, refl, arith}
+use Rattle.std.proofs.Common.{ℕ, ℤ, ◌≤◌, List, refl, arith}
 use Rattle.lra_tree.specs.Trees.{FileTree}
 use Rattle.lra_tree.specs.Grammar.{Spells}
 use Rattle.lra_options.specs.declared.options.Options.{Options}
-use Rattle.lra_findings.specs.Report.{Invariant, Report}
+use Rattle.lra_report.specs.Report.{Invariant, Report}
 use Rattle.lra_meaning.specs.Refuse.{Accepts}
 use Rattle.lra_domain.specs.Meaning.{Meaning}
 use Rattle.lra_domain.specs.Laws.{Laws}
-use Rattle.lra_front.specs.Stages.{HasTree}
+use Rattle.lra_front.specs.Stages.{HasConstants, HasTree}
 use Rattle.lra_front.proofs.StageSteps.{accepted}
 use Rattle.lra_source.specs.Answers.{IsAnsweredOver}
 use Rattle.lra_source.specs.Stages.{IsToldOf}
 use Rattle.lra_source.proofs.Reports.{sound, is_report}
 
-module _ {V H : Type 0} (m : Meaning V H) (laws : Laws m) (shown : V → Invariant) (o : Options) (source : List ℕ) (t : FileTree) (r : Report)
-    (has : HasTree source t) (is : IsToldOf m shown o t r) (some : 1 ≤ o.parts) where
+module _ {V H : Type 0} (m : Meaning V H) (laws : Laws m) (shown : V → Invariant) (o : Options) (constants : List ℤ) (source : List ℕ) (t : FileTree)
+    (r : Report) (has : HasTree source t) (own : HasConstants source constants) (is : IsToldOf m shown o constants t r) (some : 1 ≤ o.parts) where
   -- a source whose tree's report is told
   pub is_answered : IsAnsweredOver m shown o source r
   is_answered =
       let taken : Accepts Spells source t = accepted source t has is.names is.straight is.within in
-      let whole = is_report m laws shown o t r is.lists is.analysed is.agrees o source refl some (omega arith) is.options taken in
+      let whole = is_report m laws shown o constants t r is.lists is.analysed is.agrees o source refl some (omega arith) is.options taken in
       record {
         report = record {
           options = is.options;
@@ -27,9 +27,11 @@ module _ {V H : Type 0} (m : Meaning V H) (laws : Laws m) (shown : V → Invaria
           accepted = taken;
           lists = is.lists;
           parts = whole.parts;
-          sound = sound m laws shown o t r is.lists is.analysed is.agrees;
+          sound = sound m laws shown o constants t r is.lists is.analysed is.agrees;
           flag = whole.flag;
         };
+        constants = constants;
+        own = own;
         analysed = is.analysed;
         canonical = is.canonical;
         readable = is.readable;

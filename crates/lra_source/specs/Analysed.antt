@@ -1,21 +1,22 @@
 -- What a report tells of the iteration over a program: what is shown of each point's value, the verdicts, the first
 -- flagged point.
-use Rattle.std.specs.Prelude.{◌≡◌, ℕ, suc, List, map, Bool, Option, None, Some, option_map}
+use Rattle.std.specs.Prelude.{◌≡◌, ℕ, suc, ℤ, List, map, Bool, Option, None, Some, option_map}
 use Rattle.lra_domain.specs.Meaning.{Meaning}
 use Rattle.lra_program.specs.Program.{Program}
 use Rattle.lra_operations.specs.Graph.{Node}
 use Rattle.lra_operations.specs.Agree.{IsGraph}
-use Rattle.lra_findings.specs.Report.{Invariant, PointReport, Report}
+use Rattle.lra_report.specs.Report.{Invariant, PointReport, Report}
 use Rattle.lra_options.specs.declared.options.Options.{Options}
+use Rattle.lra_flow.specs.Plan.{plan_of}
 use Rattle.lra_flow.specs.Pass.{Result}
 use Rattle.lra_flow.specs.Analysis.{Written, Derivation, Strains, Solves}
-use Rattle.lra_findings.specs.declared.verdict_kinds.VerdictKind.TheVariants.{Assertion}
+use Rattle.lra_report.specs.declared.verdict_kinds.VerdictKind.TheVariants.{Assertion}
 use Rattle.lra_listing.specs.Given.{told, told_of}
 use Rattle.lra_states.specs.Shown.{AreShown}
 
--- `shown` is what the domain shows of a value
-pub record IsAnalysed {V H : Type 0} (m : Meaning V H) (shown : V → Invariant) (settings : Options) (P : Program)
-    (r : Report) : Type 0 where
+-- `shown` is what the domain shows of a value; the program has these constants
+pub record IsAnalysed {V H : Type 0} (m : Meaning V H) (shown : V → Invariant) (settings : Options)
+    (constants : List ℤ) (P : Program) (r : Report) : Type 0 where
   pub tree : Node
   pub is_graph : IsGraph P tree
   pub result : Result V
@@ -26,9 +27,9 @@ pub record IsAnalysed {V H : Type 0} (m : Meaning V H) (shown : V → Invariant)
   pub solves : Solves m result values verdicts flagged
   -- a derivation with drops; without a flag the written iteration; the first flag is where the written iteration
   -- strains
-  pub derived : Derivation m settings P tree result
-  pub written : flagged ≡ None → Written m settings P tree result
-  pub strained : (q : ℕ) → flagged ≡ Some q → Strains m settings P tree q
+  pub derived : Derivation m (plan_of settings constants) P tree result
+  pub written : flagged ≡ None → Written m (plan_of settings constants) P tree result
+  pub strained : (q : ℕ) → flagged ≡ Some q → Strains m (plan_of settings constants) P tree q
   -- each value is shown as it is: the rows of its state mean it
   pub are_shown : AreShown m settings.domain shown values
   -- and the report tells it

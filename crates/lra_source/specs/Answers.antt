@@ -1,10 +1,10 @@
 -- What a source deserves: its one refusal (`Refuse`), or a report of it that tells the analysis.
-use Rattle.std.specs.Prelude.{ℕ, suc, List, length}
+use Rattle.std.specs.Prelude.{ℕ, suc, ℤ, List, length}
 use Rattle.std.specs.List.{AllByRecursion}
 use Rattle.lra_options.specs.declared.options.Domain.{Domain}
 use Rattle.lra_options.specs.declared.options.Domain.TheVariants.{Poly, Box, Oct}
 use Rattle.lra_options.specs.declared.options.Options.{Options}
-use Rattle.lra_findings.specs.Report.{Invariant, PointReport, Report}
+use Rattle.lra_report.specs.Report.{Invariant, PointReport, Report}
 use Rattle.lra_meaning.specs.Resolve.{resolve}
 use Rattle.lra_program.specs.Program.{Program}
 use Rattle.lra_tree.specs.Grammar.{Spells}
@@ -20,18 +20,22 @@ use Rattle.lra_states.specs.Polyhedra.{shown_polyhedron}
 use Rattle.lra_states.specs.Sets.{shown_set}
 use Rattle.lra_states.specs.Canonical.{IsCanonicalState}
 use Rattle.lra_states.specs.Shown.{shown_state}
+use Rattle.lra_front.specs.Stages.{HasConstants}
 use Rattle.lra_source.specs.Analysed.{IsAnalysed}
 
 -- over polyhedra each state is shown by canonical lists, flagged or not
 abbrev pub AreCanonical : Options → Report → Type 0
 AreCanonical o r = AllByRecursion (λ (p : PointReport). IsCanonicalState o.domain (length p.names) p.state) r.points
 
--- a report of the source that tells an analysis over a domain with this meaning, by canonical lists over polyhedra; it
--- is told by its text, which has numbers of the range and each part as wide as its point has names
+-- a report of the source that tells an analysis over a domain with this meaning, by the source's constants, with
+-- canonical lists over polyhedra; it is told by its text, which has numbers of the range and each part as wide as its
+-- point has names
 pub record IsAnsweredOver {V H : Type 0} (m : Meaning V H) (shown : V → Invariant) (o : Options) (source : List ℕ)
     (r : Report) : Type 0 where
   pub report : IsReportOf Spells o source r
-  pub analysed : IsAnalysed m shown o (resolve report.tree) r
+  pub constants : List ℤ
+  pub own : HasConstants source constants
+  pub analysed : IsAnalysed m shown o constants (resolve report.tree) r
   pub canonical : AreCanonical o r
   pub readable : IsReadable r
 
@@ -54,13 +58,15 @@ OverDomain Oct say = say _ _ octagon_meaning (shown_state octagon_meaning)
 abbrev pub Over : Options → Saying → Type 0
 Over o say = OverDomain o.domain (AloneOrSets o.parts say)
 
--- the report tells an analysis of the program over these
-abbrev pub TellsAnalysis : Options → Program → Report → Type 0
-TellsAnalysis o P r = Over o (λ V H m shown. IsAnalysed m shown o P r)
+-- the report tells an analysis of the program, which has these constants, over these
+abbrev pub TellsAnalysis : Options → List ℤ → Program → Report → Type 0
+TellsAnalysis o constants P r = Over o (λ V H m shown. IsAnalysed m shown o constants P r)
 
 -- so a source is answered: over the domain and the number of parts that the options name
 pub record IsAnswered (o : Options) (source : List ℕ) (r : Report) : Type 0 where
   pub report : IsReportOf Spells o source r
-  pub analysed : TellsAnalysis o (resolve report.tree) r
+  pub constants : List ℤ
+  pub own : HasConstants source constants
+  pub analysed : TellsAnalysis o constants (resolve report.tree) r
   pub canonical : AreCanonical o r
   pub readable : IsReadable r

@@ -1,11 +1,11 @@
 -- What follows of the tree of a well-formed program, and of a report that tells an analysis.
-use Rattle.std.specs.Prelude.{◌≡◌, ◌≤◌, ℕ, List, length, None}
+use Rattle.std.specs.Prelude.{◌≡◌, ◌≤◌, ℕ, ℤ, List, length, None}
 use Rattle.lra_tree.specs.Trees.{FileTree}
 use Rattle.lra_program.specs.Program.{Program}
 use Rattle.lra_operations.specs.Graph.{Node}
 use Rattle.lra_options.specs.declared.options.Options.{Options}
-use Rattle.lra_findings.specs.Report.{Invariant, Report, IsSound}
-use Rattle.lra_findings.specs.ReportText.{report_text}
+use Rattle.lra_report.specs.Report.{Invariant, Report, IsSound}
+use Rattle.lra_report.specs.ReportText.{report_text}
 use Rattle.lra_meaning.specs.Resolve.{resolve}
 use Rattle.lra_program.specs.Sites.{sites_of}
 use Rattle.lra_operations.specs.Agree.{IsGraph, Agrees}
@@ -30,15 +30,16 @@ TreesAreNumbered = (P : Program) (g : Node) → IsGraph P g → IsNumbered (site
 
 -- where tree and runs agree the states hold in all runs, and no assertion that is marked proved fails
 abbrev pub AnalysedAreSound : {V H : Type 0} → Meaning V H → Type 0
-AnalysedAreSound {V} m = (shown : V → Invariant) (settings : Options) (t : FileTree) (r : Report)
-    → (x : IsAnalysed m shown settings (resolve t) r) → Agrees (resolve t) x.tree → Lists t r → IsSound (resolve t) r
+AnalysedAreSound {V} m = (shown : V → Invariant) (settings : Options) (constants : List ℤ) (t : FileTree) (r : Report)
+    → (x : IsAnalysed m shown settings constants (resolve t) r) → Agrees (resolve t) x.tree → Lists t r
+    → IsSound (resolve t) r
 
 -- and of an accepted source it is a report, under options that name the analysis' domain and allow as many parts as it
 -- had, or more
 abbrev pub AnalysedAreReports : {V H : Type 0} → Meaning V H → Type 0
-AnalysedAreReports {V} m = (shown : V → Invariant) (o : Options) (settings : Options) (source : List ℕ) (t : FileTree)
-    (r : Report)
-    → (x : IsAnalysed m shown settings (resolve t) r)
+AnalysedAreReports {V} m = (shown : V → Invariant) (o : Options) (settings : Options) (constants : List ℤ)
+    (source : List ℕ) (t : FileTree) (r : Report)
+    → (x : IsAnalysed m shown settings constants (resolve t) r)
     → o.domain ≡ settings.domain → 1 ≤ settings.parts → settings.parts ≤ o.parts
     → Agrees (resolve t) x.tree → Lists t r → r.options ≡ o → Accepts Spells source t → IsReportOf Spells o source r
 

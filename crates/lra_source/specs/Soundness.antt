@@ -7,7 +7,7 @@ use Rattle.lra_operations.specs.Graph.{Node}
 use Rattle.lra_program.specs.Run.{At, Fails}
 use Rattle.lra_program.specs.Sites.{Site, sites_of}
 use Rattle.lra_operations.specs.Agree.{IsGraph, point_of, Agrees}
-use Rattle.lra_options.specs.declared.options.Options.{Options}
+use Rattle.lra_flow.specs.Plan.{Plan}
 use Rattle.lra_flow.specs.Analysis.{IsUnreachable}
 use Rattle.lra_iter.specs.Solved.{IsSolved}
 
@@ -25,6 +25,6 @@ pub record HoldsInRuns {V H : Type 0} (m : Meaning V H) (P : Program) (values : 
 -- so it is with what is found over a tree that agrees with its program's runs
 abbrev pub SolvedAreSound : {V H : Type 0} → Meaning V H → Type 0
 SolvedAreSound {V} m =
-    (settings : Options) (P : Program) (tree : Node) (values : List V) (verdicts : List (ℕ × Bool))
-    (flagged : Option ℕ) → IsSolved m settings P tree values verdicts flagged → IsGraph P tree → Agrees P tree
+    (plan : Plan) (P : Program) (tree : Node) (values : List V) (verdicts : List (ℕ × Bool))
+    (flagged : Option ℕ) → IsSolved m plan P tree values verdicts flagged → IsGraph P tree → Agrees P tree
     → HoldsInRuns m P values verdicts

@@ -1,5 +1,5 @@
 -- What is known of a report before it is one of its source.
-use Rattle.std.specs.Prelude.{◌≡◌, [], None}
+use Rattle.std.specs.Prelude.{◌≡◌, ℤ, List, [], None}
 use Rattle.lra_tree.specs.Trees.{FileTree}
 use Rattle.lra_meaning.specs.NameFaults.{name_faults}
 use Rattle.lra_tree.specs.Labels.{labels_of}
@@ -7,7 +7,7 @@ use Rattle.lra_meaning.specs.Resolve.{resolve}
 use Rattle.lra_program.specs.Sites.{events_of}
 use Rattle.lra_operations.specs.Agree.{Agrees}
 use Rattle.lra_options.specs.declared.options.Options.{Options}
-use Rattle.lra_findings.specs.Report.{Invariant, Report}
+use Rattle.lra_report.specs.Report.{Invariant, Report}
 use Rattle.lra_report.specs.Listing.{Lists}
 use Rattle.lra_meaning.specs.Refuse.{limit_fault}
 use Rattle.lra_tree.specs.Reach.{NotRecursive}
@@ -18,14 +18,14 @@ use Rattle.lra_source.specs.Answers.{AreCanonical}
 
 -- a report that lists the points of an accepted source's tree, tells what an analysis of its program found, by
 -- canonical lists over polyhedra, and is told by its text
-pub record IsToldOf {V H : Type 0} (m : Meaning V H) (shown : V → Invariant) (o : Options) (t : FileTree) (r : Report)
-    : Type 0 where
+pub record IsToldOf {V H : Type 0} (m : Meaning V H) (shown : V → Invariant) (o : Options) (constants : List ℤ)
+    (t : FileTree) (r : Report) : Type 0 where
   pub names : name_faults t ≡ []
   pub straight : NotRecursive t
   pub within : limit_fault (labels_of t) 0 (events_of (resolve t)) ≡ None
   pub options : r.options ≡ o
   pub lists : Lists t r
-  pub analysed : IsAnalysed m shown o (resolve t) r
+  pub analysed : IsAnalysed m shown o constants (resolve t) r
   pub agrees : Agrees (resolve t) analysed.tree
   pub canonical : AreCanonical o r
   pub readable : IsReadable r

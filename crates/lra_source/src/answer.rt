@@ -3,7 +3,9 @@
 ghost use Rattle.std.specs.Prelude.{◌≡◌, ◌≤◌, ◌<◌, ◌+◌, ◌^◌, length, map, IfOk};
 ghost use Rattle.lra_base.specs.Refused.{IfRefused};
 ghost use Rattle.lra_tree.specs.Views.{tree_view};
+ghost use Rattle.lra_program.specs.ProgramViews.{program_view};
 ghost use Rattle.lra_operations.specs.GraphViews.{node_view, site_view};
+ghost use Rattle.lra_flow.specs.Plan.{plan_of};
 ghost use Rattle.lra_tree.specs.Labels.{labels_of};
 ghost use Rattle.lra_meaning.specs.Resolve.{resolve};
 ghost use Rattle.lra_tree.specs.Grammar.{Spells};
@@ -16,43 +18,41 @@ ghost use Rattle.lra_source.specs.Stages.{IsToldOf};
 use lra_base::SourceError;
 use lra_box::Boxes;
 use lra_domain::Plain;
-use lra_front::read_source;
-use lra_iter::analyse;
+use lra_front::{Front, read_source};
+use lra_iter::{Plan, analyse};
 use lra_listing::{Outline, list};
-use lra_meaning::Labels;
 use lra_oct::Octagon;
-use lra_operations::Graph;
 use lra_options::{Domain, Options};
 use lra_polydom::Polyhedron;
 use lra_report::Report;
 use lra_set::PowerSet;
 use lra_states::{Show, states_of};
-use lra_tree::Tree;
 use std::alloc::{AllocError, Global};
 
-/// The report of the iteration over a program's tree of operations.
-fn report_graph<D: Show>(
+/// The report of the iteration over the tree of operations of what is read of a source.
+fn report_front<D: Show>(
     alloc: Global,
     options: Options,
-    tree: &Tree,
-    labels: &Labels,
-    globals: &[i64],
-    graph: &Graph,
+    plan: &Plan,
+    front: &Front,
 ) -> Result<Report, AllocError>
     requires parts { 1 ≤ options.parts }
     requires named { options.domain ≡ D.named }
-    requires graph { HasGraph (tree_view tree.now) (node_view graph.now.tree) (map site_view graph.now.sites.items) }
-    requires labels { labels.now.labels ≡ labels_of (tree_view tree.now) }
-    requires globals { (resolve (tree_view tree.now)).globals ≡ globals.now }
-    ensures { IfOk result (λ r. IsToldOf D.meaning D.shown options
-        (tree_view tree.now) (report_of r)) }
+    requires plan { plan.now ≡ plan_of options front.now.constants.items }
+    requires graph { HasGraph (tree_view front.now.tree) (node_view front.now.graph.tree)
+        (map site_view front.now.graph.sites.items) }
+    requires labels { front.now.resolution.labels.labels ≡ labels_of (tree_view front.now.tree) }
+    requires program { program_view front.now.resolution.program ≡ resolve (tree_view front.now.tree) }
+    ensures { IfOk result (λ r. IsToldOf D.meaning D.shown options front.now.constants.items
+        (tree_view front.now.tree) (report_of r)) }
 {
-    let solution = analyse::<D>(alloc, &options, globals, graph)?;
+    let globals = front.resolution.program.globals.as_slice();
+    let solution = analyse::<D>(alloc, plan, globals, &front.graph)?;
     let states = states_of(alloc, &solution.values)?;
-    let sites = graph.sites.as_slice();
+    let sites = front.graph.sites.as_slice();
     let outline = Outline {
-        tree,
-        labels,
+        tree: &front.tree,
+        labels: &front.resolution.labels,
         sites,
     };
     let report = list(
@@ -80,14 +80,8 @@ fn analyse_over<D: Show>(
     ensures refused { IfRefused result (λ r. Refuse Spells bytes.now r.cause r.place) }
 {
     let front = read_source(alloc, bytes)?;
-    let report = report_graph::<D>(
-        alloc,
-        options,
-        &front.tree,
-        &front.resolution.labels,
-        &front.resolution.program.globals,
-        &front.graph,
-    )?;
+    let plan = Plan::of(alloc, options, &front.constants)?;
+    let report = report_front::<D>(alloc, options, &plan, &front)?;
     Ok(report)
 }
 

@@ -6,7 +6,7 @@ ghost use Rattle.lra_source.specs.Claims.{OneAnsweredText, TreesFit, TreesAreNum
 ghost use Rattle.lra_source.specs.Claims.{AnalysedAreReports, OneUnflaggedReport};
 
 use lra_domain::Domain;
-use lra_front::one_answer;
+use lra_front::{one_answer, one_constants};
 
 /// Two reports that answer one source under one list of options and have the same text are the same report.
 pub fn one_answered_text()
@@ -20,6 +20,7 @@ pub fn one_unflagged_report()
     ensures { OneUnflaggedReport }
 {
     one_answer();
+    one_constants();
 }
 
 /// The tree of operations of a well-formed program fits the iteration, and has each point once.

@@ -3,4 +3,4 @@ use Rattle.lra_source.proofs.OneReport.{one_unflagged}
 use Rattle.lra_source.proofs.laws.one_unflagged_report.Goals as goal
 
 pub returns : goal.returns
-returns c = one_unflagged c.one_answer.ensures
+returns c = one_unflagged c.one_answer.ensures c.one_constants.ensures
