@@ -1,6 +1,6 @@
 -- From the parts of a call of `run` to the record that tells the whole, and from that to each of its clauses.
-use Rattle.std.proofs.Common.{◌≡◌, ◌≢◌, ◌≤◌, ◌<◌, ◌+◌, ℕ, List, length, refl, sym, ap, subst, Bool, inl, inr, ◌⊎◌, arith}
-use Rattle.std.specs.Prelude.{Option, Some, None, Result, Ok, Err, IfOk, IsOk, Vec}
+use Rattle.std.proofs.Common.{◌≡◌, ◌≢◌, ◌≤◌, ◌<◌, ℕ, List, length, refl, sym, ap, subst, inl, inr, ◌⊎◌, arith}
+use Rattle.std.specs.Prelude.{Option, Some, None, Result, Ok, Err, IfOk, IsOk}
 use Rattle.std.specs.Io.KnownBytes.{Appends, Keeps}
 use Rattle.lra_edge.specs.Causes.{AppendsPart, Rose}
 use Rattle.lra_options.specs.declared.options.Options.{Options}
@@ -8,8 +8,8 @@ use Rattle.lra_words.specs.Chosen.{Asks, AsksNone, IsUntaken}
 use Rattle.lra_words.specs.declared.chosen.Command.{Command}
 use Rattle.lra_words.specs.declared.chosen.Format.{Format}
 use Rattle.lra_words.specs.declared.chosen.Command.TheVariants.{Analyse, Sample}
-use Rattle.lra_top.specs.Exit.{exit_of}
-use Rattle.lra_top.specs.Statuses.{Ends, reported, answered, silent, faults}
+use Rattle.lra_answers.specs.Exit.{exit_of}
+use Rattle.lra_answers.specs.Statuses.{Ends, reported, answered, silent, faults}
 use Rattle.lra_top.specs.SourceAnswer.{written_report}
 use Rattle.lra_top.specs.Commands.{asked_limit, CallsFor}
 use Rattle.lra_top.specs.Run.{IsAsked, IsDeserved, Writes, WritesPart, IsRead, IsCounted}
@@ -18,9 +18,9 @@ use Rattle.lra_top.specs.Prepared.{IsReadBy, PrepareCause, Told, IsWritten, Endi
 use Rattle.lra_top.proofs.Reading.{read_as}
 use Rattle.lra_top.proofs.Ways.{asked_ends, answered_status, usage_status}
 use Rattle.lra_top.proofs.Headline.{holds, is_written, same_points, writes_report, writes_summary}
-use Rattle.lra_top.specs.declared.status.Status.{Status}
-use Rattle.lra_top.specs.declared.status.Status.TheVariants.{Proved, Unknown, Refused, Usage, ReadFault, WriteFault, Memory}
-use Rattle.lra_top.specs.declared.answer.Answer.{Answer}
+use Rattle.lra_answers.specs.declared.status.Status.{Status}
+use Rattle.lra_answers.specs.declared.status.Status.TheVariants.{Usage, ReadFault, WriteFault, Memory}
+use Rattle.lra_answers.specs.declared.answer.Answer.{Answer}
 use Rattle.lra_top.specs.declared.top_call.NoAnswer.{NoAnswer}
 use Rattle.lra_top.specs.declared.top_call.NoAnswer.TheVariants as none
 

@@ -1,5 +1,5 @@
 -- From what a source deserves to what is claimed of its report.
-use Rattle.std.proofs.Common.{◌≡◌, ◌∙◌, ℕ, suc, List, [], ◌∷◌, Bool, length, refl, sym, subst, inl, inr, ◌⊎◌}
+use Rattle.std.proofs.Common.{◌≡◌, ◌∙◌, ℕ, suc, ℤ, List, [], ◌∷◌, length, refl, sym, subst, inl, inr}
 use Rattle.std.specs.Prelude.{Option, None, Some, option_map}
 use Rattle.std.specs.List.{AllByRecursion}
 use Rattle.std.specs.Io.KnownBytes.{Appends}
@@ -10,9 +10,9 @@ use Rattle.lra_domain.specs.Meaning.{Meaning}
 use Rattle.lra_program.specs.Program.{Program}
 use Rattle.lra_flow.specs.Analysis.{Solves}
 use Rattle.lra_meaning.specs.Resolve.{resolve}
-use Rattle.lra_findings.specs.Report.{Invariant, Holds, PointReport, Report, IsInvariant}
+use Rattle.lra_report.specs.Report.{Invariant, Holds, PointReport, Report, IsInvariant}
 use Rattle.lra_show.specs.Part.{Part}
-use Rattle.lra_findings.specs.Parts.{Tells, HasSamePoints}
+use Rattle.lra_report.specs.Parts.{Tells, HasSamePoints}
 use Rattle.lra_report.specs.Listing.{AreParts}
 use Rattle.lra_source.specs.Analysed.{IsAnalysed}
 use Rattle.lra_source.specs.Answers.{IsAnswered}
@@ -22,13 +22,13 @@ use Rattle.lra_sample.specs.Summary.{summary_text}
 use Rattle.lra_words.specs.Chosen.{Asks, default_options}
 use Rattle.lra_words.specs.declared.chosen.Format.{Format}
 use Rattle.lra_words.specs.declared.chosen.Command.TheVariants.{Analyse, Sample}
-use Rattle.lra_top.specs.Statuses.{Ends, reported}
+use Rattle.lra_answers.specs.Statuses.{Ends, reported}
 use Rattle.lra_top.specs.SourceAnswer.{DeservesSource, written_report}
 use Rattle.lra_top.specs.Run.{IsInput, Writes}
 use Rattle.lra_top.specs.Headline.{WritesReport, IsNeverReached, HoldsInAllRuns, TellsWritten, IsWrittenUnlessFlagged, ShowsSamePoints, TellsSamePoints, WritesSummary}
 use Rattle.lra_top.proofs.Ways.{asked_input}
-use Rattle.lra_top.specs.declared.status.Status.{Status}
-use Rattle.lra_top.specs.declared.status.Status.TheVariants.{Refused}
+use Rattle.lra_answers.specs.declared.status.Status.{Status}
+use Rattle.lra_answers.specs.declared.status.Status.TheVariants.{Refused}
 
 -- invariants ----------------------------------------------------------------------
 
@@ -54,8 +54,9 @@ unflagged : (o : Option ℕ) → option_map suc o ≡ None → o ≡ None
 unflagged None e = refl
 unflagged (Some q) e = let wrong : ⊥ = cc in absurd wrong
 
-tells_written : {V H : Type 0} (m : Meaning V H) (shown : V → Invariant) (o : Options) (P : Program) (r : Report) → r.flagged ≡ None → IsAnalysed m shown o P r → TellsWritten m shown o P r
-tells_written m shown o P r free x =
+tells_written : {V H : Type 0} (m : Meaning V H) (shown : V → Invariant) (o : Options) (constants : List ℤ) (P : Program) (r : Report) → r.flagged ≡ None
+    → IsAnalysed m shown o constants P r → TellsWritten m shown o constants P r
+tells_written m shown o constants P r free x =
     let none = unflagged x.flagged (sym x.flag ∙ free) in
     record {
       tree = x.tree;
@@ -74,9 +75,12 @@ pub is_written : (o : Options) (bytes : List ℕ) (r : Report) → IsAnswered o 
 is_written o bytes r a = record {
   tree = a.report.tree;
   accepted = a.report.accepted;
+  constants = a.constants;
+  own = a.own;
   tells = λ free.
       let P = resolve a.report.tree in
-      over_each (λ V H m shown. IsAnalysed m shown o P r) (λ V H m shown. TellsWritten m shown o P r) (λ V H m shown x. tells_written m shown o P r free x) o a.analysed;
+      let ks = a.constants in
+      over_each (λ V H m shown. IsAnalysed m shown o ks P r) (λ V H m shown. TellsWritten m shown o ks P r) (λ V H m shown x. tells_written m shown o ks P r free x) o a.analysed;
 }
 
 -- rows and generators -------------------------------------------------------------

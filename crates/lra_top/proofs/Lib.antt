@@ -1,4 +1,3 @@
-pub mod Answering
 pub mod ScriptWays
 pub mod SourceWays
 pub mod SampleWays

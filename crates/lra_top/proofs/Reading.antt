@@ -1,6 +1,6 @@
 -- From what is read of an input to what that tells of it.
-use Rattle.std.proofs.Common.{◌≡◌, ◌∙◌, ◌≤◌, ◌<◌, ◌+◌, ◌^◌, ℕ, List, [], ◌++◌, length, refl, sym, arith, append-nil, subst, inl, inr, ◌⊎◌}
-use Rattle.std.specs.Prelude.{Option, Some, None, Result, Ok, Err, IfOk, IsOk, IsErrOf, Vec}
+use Rattle.std.proofs.Common.{◌≡◌, ◌∙◌, ◌<◌, ◌+◌, ◌^◌, ℕ, List, [], ◌++◌, length, refl, sym, arith, append-nil, subst, inl, inr}
+use Rattle.std.specs.Prelude.{Option, Some, None, Result, Ok, Err, IfOk}
 use Rattle.std.specs.Io.KnownBytes.{Consumes, IsAtEnd}
 use Rattle.lra_edge.specs.ReadEnd.{LosesFront, IsWhole, IsPastLimit}
 use Rattle.lra_words.specs.declared.chosen.Command.{Command}
@@ -9,7 +9,6 @@ use Rattle.lra_top.specs.Run.{IsInput, IsRead, TakesBytes}
 use Rattle.lra_top.specs.Prepared.{IsTaken, IsReadBy}
 use Rattle.lra_top.proofs.Rows.{answering}
 use Rattle.lra_top.specs.declared.top_call.NoAnswer.{NoAnswer}
-use Rattle.lra_top.specs.declared.top_call.NoAnswer.TheVariants as none
 
 -- within a limit --------------------------------------------------------------------
 

@@ -5,9 +5,9 @@ use Rattle.lra_base.specs.declared.refusals.Cause.{Cause}
 use Rattle.lra_base.specs.declared.refusals.Place.{Place}
 use Rattle.lra_base.specs.declared.refusals.Refusal.{Refusal}
 use Rattle.lra_options.specs.declared.options.Options.{Options}
-use Rattle.lra_findings.specs.Report.{Report}
-use Rattle.lra_findings.specs.ReportText.{unknown_count}
-use Rattle.lra_findings.specs.RefusalText.{refusal_text}
+use Rattle.lra_report.specs.Report.{Report}
+use Rattle.lra_report.specs.ReportText.{unknown_count}
+use Rattle.lra_report.specs.RefusalText.{refusal_text}
 use Rattle.lra_tree.specs.Grammar.{Spells}
 use Rattle.lra_meaning.specs.Refuse.{Refuse}
 use Rattle.lra_sample.specs.Sample.{sample_source}
@@ -17,14 +17,15 @@ use Rattle.lra_source.specs.Answers.{IsAnswered}
 use Rattle.lra_options.specs.OptionRows.{IsInRange}
 use Rattle.lra_words.specs.CommandLine.{seed_option, size_option}
 use Rattle.lra_words.specs.Chosen.{default_options}
-use Rattle.lra_top.specs.Statuses.{reported}
+use Rattle.lra_answers.specs.Statuses.{reported}
 use Rattle.lra_top.specs.SourceAnswer.{report_status}
 use Rattle.lra_top.specs.SampleAnswer.{DeservesSample}
-use Rattle.lra_top.proofs.Answering.{IsAnswering}
-use Rattle.lra_top.proofs.SourceWays.{deserves_report, deserves_refusal, accepted_ends}
-use Rattle.lra_top.specs.declared.answer.Answer.{Answer}
-use Rattle.lra_top.specs.declared.status.Status.{Status}
-use Rattle.lra_top.specs.declared.status.Status.TheVariants.{Refused}
+use Rattle.lra_answers.proofs.Answering.{IsAnswering}
+use Rattle.lra_answers.proofs.ToldWays.{accepted_ends}
+use Rattle.lra_top.proofs.SourceWays.{deserves_report, deserves_refusal, report_telling}
+use Rattle.lra_answers.specs.declared.answer.Answer.{Answer}
+use Rattle.lra_answers.specs.declared.status.Status.{Status}
+use Rattle.lra_answers.specs.declared.status.Status.TheVariants.{Refused}
 
 deserves_summary : (seed size : ℕ) (o : Options) (source : List ℕ) (r : Report) (text : List ℕ) (status : Status) → o ≡ default_options → source ≡ sample_source seed size
     → IsAnswered o source r → text ≡ summary_text seed size r → status ≡ report_status (unknown_count r.verdicts) → DeservesSample seed size text status
@@ -60,7 +61,7 @@ sample_answering seed size = record {
   own = λ status ends. inr ends;
   ends = λ bytes text status within d.
       let (tree, is) = accepted seed size within.1.1 in
-      accepted_ends default_options (summary_text seed size) (sample_source seed size) text status tree d is;
+      accepted_ends (report_telling default_options (summary_text seed size)) (sample_source seed size) text status tree d is;
   called = λ bytes text status among d calls. absurd calls;
   too_long = λ n bytes text status some long d. absurd (let wrong : ⊥ = cc in wrong);
 }

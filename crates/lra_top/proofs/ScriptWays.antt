@@ -1,17 +1,16 @@
 -- From what a script deserves to how a call ends that answers it.
-use Rattle.std.proofs.Common.{◌≡◌, ◌∙◌, ◌≤◌, ◌<◌, ℕ, List, ◌++◌, length, take, refl, ap, sym, subst, arith, inl, inr, ◌⊎◌}
-use Rattle.std.specs.Prelude.{Some, None, Result, Ok, Err}
+use Rattle.std.proofs.Common.{◌≡◌, ◌∙◌, ◌≤◌, ◌<◌, ℕ, List, ◌++◌, length, take, refl, ap, sym, subst, arith, inl, inr}
+use Rattle.std.specs.Prelude.{Some, Result, Ok, Err}
 use Rattle.std.proofs.lemmas.Grind.{common_steps}
 use Rattle.std.proofs.lemmas.List.{take-append-le}
 use Rattle.lra_base.specs.Places.{greatest_length, place_behind}
 use Rattle.lra_calc.specs.Script as script
 use Rattle.lra_calc.proofs.Limit.{answer_too_long, long_answer}
-use Rattle.lra_top.specs.Statuses.{Ends, refused}
-use Rattle.lra_top.specs.ScriptAnswer.{IsScriptRefusal, DeservesScript, CallsScript, script_statuses}
-use Rattle.lra_top.specs.SourceAnswer.{source_statuses}
-use Rattle.lra_top.proofs.Answering.{IsAnswering, small, past}
-use Rattle.lra_top.specs.declared.status.Status.{Status}
-use Rattle.lra_top.specs.declared.status.Status.TheVariants.{Proved, Refused}
+use Rattle.lra_answers.specs.Statuses.{Ends, refused, source_statuses}
+use Rattle.lra_top.specs.ScriptAnswer.{DeservesScript, CallsScript, script_statuses}
+use Rattle.lra_answers.proofs.Answering.{IsAnswering, small, past}
+use Rattle.lra_answers.specs.declared.status.Status.{Status}
+use Rattle.lra_answers.specs.declared.status.Status.TheVariants.{Proved, Refused}
 
 -- answers ------------------------------------------------------------------------
 

@@ -1,18 +1,17 @@
 -- From what words and their input deserve to what is made of them before the writing, and to the statuses of an answer.
-use Rattle.std.proofs.Common.{◌≡◌, ◌≤◌, ◌<◌, ◌+◌, ℕ, List, ◌++◌, length, refl, sym, subst, Bool, inl, inr, ◌⊎◌, arith}
-use Rattle.std.specs.Prelude.{Option, Some, None, Result, Ok, Err, IfOk, IsOk}
-use Rattle.lra_words.specs.Chosen.{Asks, AsksNone, AsksFor, IsUntaken, IsWithinRanges}
+use Rattle.std.proofs.Common.{◌≡◌, ◌<◌, ℕ, List, ◌++◌, length, refl, sym, subst, inl, inr, ◌⊎◌, arith}
+use Rattle.std.specs.Prelude.{Option, Some, None, Result, Ok, Err}
+use Rattle.lra_words.specs.Chosen.{Asks, AsksNone, AsksFor, IsUntaken}
 use Rattle.lra_words.specs.declared.chosen.Command.{Command}
 use Rattle.lra_words.proofs.OneCommand.{one_asked, asks_not_none, asks_within}
-use Rattle.lra_top.specs.Statuses.{Ends, refused, answered}
-use Rattle.lra_top.specs.SourceAnswer.{source_statuses}
-use Rattle.lra_top.specs.Commands.{limit_of, DeservesInput, statuses_of, CallsInput, IsTooLong, IsKnown, asked_limit, CallsFor}
-use Rattle.lra_top.specs.Run.{IsInput, IsAsked, usage_text, Deserves, IsDeserved, IsRead, TakesBytes}
+use Rattle.lra_answers.specs.Statuses.{Ends, refused, answered, source_statuses}
+use Rattle.lra_top.specs.Commands.{limit_of, DeservesInput, CallsInput, IsTooLong, IsKnown, asked_limit, CallsFor}
+use Rattle.lra_top.specs.Run.{IsInput, IsAsked, usage_text, Deserves, IsDeserved, TakesBytes}
 use Rattle.lra_top.specs.Prepared.{IsInputText, IsTaken, IsReadBy}
 use Rattle.lra_top.proofs.Rows.{answering}
 use Rattle.lra_top.proofs.Reading.{unread, read_as, whole_input, begun_input, some_input}
-use Rattle.lra_top.specs.declared.status.Status.{Status}
-use Rattle.lra_top.specs.declared.status.Status.TheVariants.{Usage}
+use Rattle.lra_answers.specs.declared.status.Status.{Status}
+use Rattle.lra_answers.specs.declared.status.Status.TheVariants.{Usage}
 use Rattle.lra_top.specs.declared.top_call.NoAnswer.{NoAnswer}
 use Rattle.lra_top.specs.declared.top_call.NoAnswer.TheVariants as none
 

@@ -13,12 +13,14 @@ use Rattle.lra_program.specs.Run.{At}
 use Rattle.lra_operations.specs.Graph.{Node}
 use Rattle.lra_operations.specs.Agree.{IsGraph}
 use Rattle.lra_domain.specs.Meaning.{Meaning}
+use Rattle.lra_front.specs.Stages.{HasConstants}
+use Rattle.lra_flow.specs.Plan.{plan_of}
 use Rattle.lra_flow.specs.Pass.{Result}
 use Rattle.lra_flow.specs.Analysis.{Written, Solves}
-use Rattle.lra_findings.specs.Report.{Invariant, PointReport, Report, IsSound}
-use Rattle.lra_findings.specs.Parts.{HasSamePoints}
+use Rattle.lra_report.specs.Report.{Invariant, PointReport, Report, IsSound}
+use Rattle.lra_report.specs.Parts.{HasSamePoints}
 use Rattle.lra_report.specs.Listing.{Lists}
-use Rattle.lra_findings.specs.declared.verdict_kinds.VerdictKind.TheVariants.{Assertion}
+use Rattle.lra_report.specs.declared.verdict_kinds.VerdictKind.TheVariants.{Assertion}
 use Rattle.lra_listing.specs.Given.{told, told_of}
 use Rattle.lra_sample.specs.Sample.{sample_source}
 use Rattle.lra_sample.specs.Summary.{summary_text}
@@ -51,14 +53,15 @@ pub record HoldsInAllRuns (bytes : List ℕ) (r : Report) : Type 0 where
   pub sound : IsSound (resolve tree) r
   pub unreached : AllByRecursion (IsNeverReached (resolve tree)) r.points
 
--- the report tells what the written iteration finds: at each point the state that shows its value there, whose rows
+-- the report tells what the written iteration finds, whose loops have these constants as thresholds where the options
+-- ask for such: at each point the state that shows its value there, whose rows
 -- mean the value, and on each assertion its verdict
-pub record TellsWritten {V H : Type 0} (m : Meaning V H) (shown : V → Invariant) (o : Options) (P : Program)
-    (r : Report) : Type 0 where
+pub record TellsWritten {V H : Type 0} (m : Meaning V H) (shown : V → Invariant) (o : Options) (constants : List ℤ)
+    (P : Program) (r : Report) : Type 0 where
   pub tree : Node
   pub is_graph : IsGraph P tree
   pub result : Result V
-  pub written : Written m o P tree result
+  pub written : Written m (plan_of o constants) P tree result
   pub values : List V
   pub verdicts : List (ℕ × Bool)
   pub solves : Solves m result values verdicts None
@@ -66,11 +69,13 @@ pub record TellsWritten {V H : Type 0} (m : Meaning V H) (shown : V → Invarian
   pub are_shown : AreShown m o.domain shown values
   pub proved : map told_of r.verdicts ≡ map (told Assertion) verdicts
 
--- where nothing is flagged, every value is the written iteration's
+-- where nothing is flagged, every value is the written iteration's, by the source's own constants
 pub record IsWrittenUnlessFlagged (o : Options) (bytes : List ℕ) (r : Report) : Type 0 where
   pub tree : FileTree
   pub accepted : Accepts Spells bytes tree
-  pub tells : r.flagged ≡ None → Over o (λ V H m shown. TellsWritten m shown o (resolve tree) r)
+  pub constants : List ℤ
+  pub own : HasConstants bytes constants
+  pub tells : r.flagged ≡ None → Over o (λ V H m shown. TellsWritten m shown o constants (resolve tree) r)
 
 abbrev pub ShowsSamePoints : PointReport → Type 0
 ShowsSamePoints p = AllByRecursion (HasSamePoints (length p.names)) p.state

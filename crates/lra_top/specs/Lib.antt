@@ -1,11 +1,9 @@
--- In the order in which they are to be read: sets of statuses, what a source, a sample and a script deserve, a row for
--- each command, what `run` does with words and input, and what it claims of a report.
-pub mod Statuses
+-- In the order in which they are to be read: what a source, a sample and a script deserve, a row for each command, what
+-- `run` does with words and input, and what it claims of a report.
 pub mod SourceAnswer
 pub mod SampleAnswer
 pub mod ScriptAnswer
 pub mod Commands
 pub mod Run
 pub mod Headline
-pub mod Exit
 pub mod Prepared

@@ -5,9 +5,9 @@ use Rattle.lra_edge.specs.Causes.{AppendsPart, Rose}
 use Rattle.lra_words.specs.declared.chosen.Command.{Command}
 use Rattle.lra_top.specs.Commands.{DeservesInput, asked_limit}
 use Rattle.lra_top.specs.Run.{IsInput, IsAsked, IsDeserved, IsRead, TakesBytes}
-use Rattle.lra_top.specs.declared.status.Status.{Status}
-use Rattle.lra_top.specs.declared.status.Status.TheVariants.{ReadFault, WriteFault, Memory}
-use Rattle.lra_top.specs.declared.answer.Answer.{Answer}
+use Rattle.lra_answers.specs.declared.status.Status.{Status}
+use Rattle.lra_answers.specs.declared.status.Status.TheVariants.{ReadFault, WriteFault, Memory}
+use Rattle.lra_answers.specs.declared.answer.Answer.{Answer}
 use Rattle.lra_top.specs.declared.top_call.NoAnswer.{NoAnswer}
 use Rattle.lra_top.specs.declared.top_call.NoAnswer.TheVariants as none
 

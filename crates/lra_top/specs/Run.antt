@@ -7,8 +7,8 @@ use Rattle.lra_show.specs.Texts.{text_line}
 use Rattle.lra_words.specs.Chosen.{Asks, AsksFor, AsksNone}
 use Rattle.lra_words.specs.declared.chosen.Command.{Command}
 use Rattle.lra_top.specs.Commands.{DeservesInput}
-use Rattle.lra_top.specs.declared.status.Status.{Status}
-use Rattle.lra_top.specs.declared.status.Status.TheVariants.{Usage}
+use Rattle.lra_answers.specs.declared.status.Status.{Status}
+use Rattle.lra_answers.specs.declared.status.Status.TheVariants.{Usage}
 
 -- all bytes that are left of an input, where it tells them
 abbrev pub IsInput : Option (List ℕ) → List ℕ → Type 0

@@ -4,7 +4,7 @@ use Rattle.lra_sample.specs.Sample.{sample_source}
 use Rattle.lra_sample.specs.Summary.{summary_text}
 use Rattle.lra_words.specs.Chosen.{default_options}
 use Rattle.lra_top.specs.SourceAnswer.{DeservesSource}
-use Rattle.lra_top.specs.declared.status.Status.{Status}
+use Rattle.lra_answers.specs.declared.status.Status.{Status}
 
 -- the text and the status that the sample of a seed and a size deserves, analysed as a source is where words name no
 -- option

@@ -1,9 +1,9 @@
 -- What a script deserves.
 use Rattle.std.specs.Prelude.{◌≡◌, ◌⊎◌, ℕ, List, ◌∷◌, Ok, Err}
 use Rattle.lra_calc.specs.Script as script
-use Rattle.lra_top.specs.Statuses.{printed, refused}
-use Rattle.lra_top.specs.declared.status.Status.{Status}
-use Rattle.lra_top.specs.declared.status.Status.TheVariants.{Proved, Refused}
+use Rattle.lra_answers.specs.Statuses.{printed, refused}
+use Rattle.lra_answers.specs.declared.status.Status.{Status}
+use Rattle.lra_answers.specs.declared.status.Status.TheVariants.{Proved, Refused}
 
 -- the text is that of a refusal of the script
 pub record IsScriptRefusal (bytes text : List ℕ) : Type 0 where

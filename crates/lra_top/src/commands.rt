@@ -3,12 +3,12 @@ ghost use Rattle.std.specs.Prelude.{◌≡◌, ◌<◌, ◌+◌, ◌^◌, length
 ghost use Rattle.lra_words.specs.Chosen.{IsWithinRanges};
 ghost use Rattle.lra_top.specs.Commands.{limit_of, DeservesInput};
 
-use crate::answer::Answer;
 use crate::sample_answer::answer_sample;
 use crate::script_answer::answer_script;
 use crate::source_answer::answer_source;
+use lra_answers::Answer;
 use lra_base::GREATEST_LENGTH;
-use lra_words::Command;
+use lra_words::{Command, PlainCommand};
 use std::alloc::{AllocError, Global};
 
 /// The most bytes that a command takes of its input, where it reads it.
@@ -19,7 +19,7 @@ pub fn limit_of(command: Command) -> Option<usize>
     match command {
         Command::Analyse { .. } => Some(GREATEST_LENGTH),
         Command::Sample { .. } => None,
-        Command::Calc => Some(GREATEST_LENGTH),
+        Command::Plain(PlainCommand::Calc) => Some(GREATEST_LENGTH),
     }
 }
 
@@ -32,6 +32,6 @@ pub fn answer_command(alloc: Global, command: Command, bytes: &[u8]) -> Result<A
     match command {
         Command::Analyse { options, format } => answer_source(alloc, options, format, bytes),
         Command::Sample { seed, size } => answer_sample(alloc, seed, size),
-        Command::Calc => answer_script(alloc, bytes),
+        Command::Plain(PlainCommand::Calc) => answer_script(alloc, bytes),
     }
 }

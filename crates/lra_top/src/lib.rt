@@ -2,15 +2,13 @@
 //! of a sample's summary, of a script's output or of a refusal.
 #![tactic(auto)]
 
-mod answer;
 mod commands;
 mod law;
 mod sample_answer;
 mod script_answer;
 mod source_answer;
-mod status;
 mod top_call;
 
 pub use law::one_written_report;
-pub use status::Status;
+pub use lra_answers::Status;
 pub use top_call::run;

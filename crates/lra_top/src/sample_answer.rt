@@ -1,14 +1,14 @@
 // What a sample deserves: what is told of its source's report.
 ghost use Rattle.std.specs.Prelude.{◌≡◌, ◌≤◌, IfOk};
-ghost use Rattle.lra_findings.specs.ReportText.{unknown_count};
+ghost use Rattle.lra_report.specs.ReportText.{unknown_count};
 ghost use Rattle.lra_report.specs.View as view;
 ghost use Rattle.lra_sample.specs.Sample.{sample_source};
 ghost use Rattle.lra_sample.specs.Summary.{summary_text};
 ghost use Rattle.lra_top.specs.SourceAnswer.{report_status};
 ghost use Rattle.lra_top.specs.SampleAnswer.{DeservesSample};
 
-use crate::answer::Answer;
-use crate::source_answer::{answer_refusal, status_of};
+use crate::source_answer::status_of;
+use lra_answers::{Answer, answer_refusal};
 use lra_base::SourceError;
 use lra_report::Report;
 use lra_sample::{program, summary};

@@ -2,8 +2,7 @@
 ghost use Rattle.std.specs.Prelude.{IfOk};
 ghost use Rattle.lra_top.specs.ScriptAnswer.{DeservesScript};
 
-use crate::answer::Answer;
-use crate::status::Status;
+use lra_answers::{Answer, Status};
 use lra_calc::{CalcError, script};
 use std::alloc::{AllocError, Global};
 

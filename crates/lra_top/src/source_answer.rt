@@ -1,16 +1,14 @@
 // What a source deserves: its report, as lines or as JSON, or its refusal.
 ghost use Rattle.std.specs.Prelude.{◌≡◌, ◌≤◌, ◌<◌, ◌+◌, ◌^◌, length, IfOk};
-ghost use Rattle.lra_findings.specs.ReportText.{unknown_count};
-ghost use Rattle.lra_findings.specs.RefusalText as refusal_line;
+ghost use Rattle.lra_report.specs.ReportText.{unknown_count};
 ghost use Rattle.lra_report.specs.View as view;
 ghost use Rattle.lra_top.specs.SourceAnswer.{DeservesSource, report_status, written_report};
 
-use crate::answer::Answer;
-use crate::status::Status;
-use lra_base::{Refusal, SourceError};
+use lra_answers::{Answer, Status, answer_refusal};
+use lra_base::SourceError;
 use lra_json::json_text;
 use lra_options::Options;
-use lra_report::{Report, refusal_text, text};
+use lra_report::{Report, text};
 use lra_source::analyse_source;
 use lra_words::Format;
 use std::alloc::{AllocError, Global};
@@ -46,17 +44,6 @@ fn answer_report(alloc: Global, format: Format, report: &Report) -> Result<Answe
     Ok(Answer {
         text: write_report(alloc, format, report)?,
         status,
-    })
-}
-
-/// The text of a refusal.
-pub(crate) fn answer_refusal(alloc: Global, refusal: Refusal) -> Result<Answer, AllocError>
-    ensures text { IfOk result (λ a. a.text.items ≡ refusal_line.refusal_text refusal.cause refusal.place) }
-    ensures status { IfOk result (λ a. a.status ≡ Status.Refused) }
-{
-    Ok(Answer {
-        text: refusal_text(alloc, refusal)?.into_bytes(),
-        status: Status::Refused,
     })
 }
 

@@ -8,7 +8,7 @@ ghost use Rattle.lra_words.specs.declared.chosen.Command.TheVariants.{Analyse, S
 ghost use Rattle.lra_words.specs.declared.chosen.Format.{Format};
 ghost use Rattle.lra_words.specs.Chosen.{Asks, AsksNone, IsUntaken, IsWithinRanges};
 ghost use Rattle.lra_options.specs.declared.options.Options.{Options};
-ghost use Rattle.lra_top.specs.Statuses.{Ends, reported, answered, silent, faults};
+ghost use Rattle.lra_answers.specs.Statuses.{Ends, reported, answered, silent, faults};
 ghost use Rattle.lra_top.specs.SourceAnswer.{written_report};
 ghost use Rattle.lra_top.specs.Commands.{limit_of, asked_limit, CallsFor};
 ghost use Rattle.lra_top.specs.Run.{usage_text, IsAsked, IsDeserved, Writes, WritesPart, IsRead, IsCounted};
@@ -16,9 +16,8 @@ ghost use Rattle.lra_top.specs.Headline.{WritesReport, HoldsInAllRuns, IsWritten
 ghost use Rattle.lra_top.specs.Headline.{TellsSamePoints, WritesSummary};
 ghost use Rattle.lra_top.specs.Prepared.{IsInputText, IsTaken, IsReadBy, PrepareCause, Ending};
 
-use crate::answer::Answer;
 use crate::commands::{answer_command, limit_of};
-use crate::status::Status;
+use lra_answers::{Answer, Status};
 use lra_edge::{ReadEnd, Sink, Source, read_whole, write_whole};
 use lra_words::{Command, find_command};
 use std::alloc::{AllocError, Global};
@@ -189,7 +188,7 @@ pub fn run<S: Source, K: Sink>(
 
     // With which statuses what the words ask for may end: those of its answer, by what the input tells of its bytes, or
     // of a fault. (Where a flagged set is widened, both answers to a script may be right: which depends on the set.)
-    // Usage: exactly where they ask for no command, and the command line doesn't take them.
+    // Usage: only where they ask for no command: the command line doesn't take them, or their options conflict.
     ensures ends { (asked : Option Command) → IsAsked (map string_bytes words.now) asked → (among : List _) →
         CallsFor asked (S.left source.old) among → Ends among result ⊎ Ends (faults (asked_limit asked)) result }
     ensures usage { result ≡ Status.Usage →

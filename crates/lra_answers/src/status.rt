@@ -1,8 +1,8 @@
-// How a call of `run` ends.
+// How a call of the analyser ends.
 ghost use Rattle.std.specs.Prelude.{◌≡◌};
-ghost use Rattle.lra_top.specs.Exit.{exit_of};
+ghost use Rattle.lra_answers.specs.Exit.{exit_of};
 
-/// How a call of [`run`](crate::run) ended.
+/// How a call of the analyser's `run` ended.
 #[derive(Clone, Copy, Debug, PartialEq, Eq)]
 pub enum Status {
     /// The report, or what is told of a sample's, is written, and each assertion is proved; or a script's output is.

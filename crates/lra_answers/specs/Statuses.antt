@@ -1,8 +1,8 @@
 -- Sets of statuses, as lists.
 use Rattle.std.specs.Prelude.{◌≡◌, ◌⊎◌, ℕ, List, [], ◌∷◌, Option, None, Some}
-use Rattle.lra_top.specs.declared.status.Status.{Status}
-use Rattle.lra_top.specs.declared.status.Status.TheVariants.{Proved, Unknown, Refused, Usage, ReadFault, WriteFault}
-use Rattle.lra_top.specs.declared.status.Status.TheVariants.{Memory}
+use Rattle.lra_answers.specs.declared.status.Status.{Status}
+use Rattle.lra_answers.specs.declared.status.Status.TheVariants.{Proved, Unknown, Refused, Usage, ReadFault, WriteFault}
+use Rattle.lra_answers.specs.declared.status.Status.TheVariants.{Memory}
 
 -- the status is one of these
 abbrev pub Ends : List Status → Status → Type 0
@@ -20,6 +20,10 @@ printed = Proved ∷ []
 -- a refusal is written
 abbrev pub refused : List Status
 refused = Refused ∷ []
+
+-- the statuses of an answer to a source: all that a command's answer has
+abbrev pub source_statuses : List Status
+source_statuses = Refused ∷ reported
 
 -- a text is written whole
 abbrev pub answered : List Status

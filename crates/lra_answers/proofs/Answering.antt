@@ -1,10 +1,9 @@
--- What the rest of the crate knows of a command's answer.
+-- What a call knows of a command's answer.
 use Rattle.std.proofs.Common.{◌≡◌, ◌<◌, ◌+◌, ◌^◌, ℕ, List, ◌++◌, length, subst, sym, arith}
 use Rattle.std.specs.Prelude.{Option, Some, None}
 use Rattle.lra_base.specs.Places.{greatest_length}
-use Rattle.lra_top.specs.Statuses.{Ends, refused}
-use Rattle.lra_top.specs.SourceAnswer.{source_statuses}
-use Rattle.lra_top.specs.declared.status.Status.{Status}
+use Rattle.lra_answers.specs.Statuses.{Ends, refused, source_statuses}
+use Rattle.lra_answers.specs.declared.status.Status.{Status}
 
 -- with values in their ranges, a limit of bytes, what its input deserves, and the statuses of its answers: all of them,
 -- and by the bytes

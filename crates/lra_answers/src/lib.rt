@@ -1,0 +1,9 @@
+//! What a command answers: a text, and the status with which it is written. To a source of which something is told,
+//! that is what is told of it, or its refusal.
+#![tactic(auto)]
+
+mod answer;
+mod status;
+
+pub use answer::{Answer, answer_refusal};
+pub use status::Status;
