@@ -7,6 +7,7 @@ pub use Rattle.lra_linear.specs.OperationStrain
 pub use Rattle.lra_pair.specs.KeptRows
 pub use Rattle.lra_duality.specs.Rows as TestRows
 pub use Rattle.lra_poly.specs.Outcomes
+pub use Rattle.lra_poly.specs.Equality
 pub use Rattle.lra_poly.specs.Narrowed
 pub use Rattle.lra_poly.specs.United
 pub use Rattle.lra_poly.specs.StrainsBehind
@@ -26,12 +27,18 @@ pub use Rattle.lra_queries.specs.Related
 pub use Rattle.lra_queries.specs.Expanded
 pub use Rattle.lra_queries.specs.Relations
 pub use Rattle.lra_queries.specs.Shapes
+pub use Rattle.lra_queries.specs.Simplified
+pub use Rattle.lra_queries.specs.Boxed
+pub use Rattle.lra_queries.specs.Parted
 pub use Rattle.lra_queries.specs.declared.minimum.Minimum
 pub use Rattle.lra_queries.specs.declared.relation.Relation
+pub use Rattle.lra_queries.specs.declared.boxes.Extent
+pub use Rattle.lra_queries.specs.declared.boxes.Fraction
 pub use Rattle.lra_lists.specs.Moving
 pub use Rattle.lra_images.specs.Forgetting
 pub use Rattle.lra_images.specs.FormedPreimages
 pub use Rattle.lra_widen.specs.Rank as WideningRank
 pub use Rattle.lra_widen.specs.Widenings
+pub use Rattle.lra_widen.specs.Tightest
 pub use Rattle.lra_widen.specs.StayingRows
 pub use Rattle.lra_widen.specs.declared.error.WidenError

@@ -29,7 +29,9 @@ pub use lra_poly::{Outcome, Poly};
 pub use lra_polydom as polyhedra;
 pub use lra_polydom::Polyhedron;
 pub use lra_queries as queries;
-pub use lra_queries::{Minimum, Relation, minimise, relate};
+pub use lra_queries::{
+    Extent, Fraction, Minimum, Relation, least_box, minimise, polyhedra_of, relate, simplify,
+};
 pub use lra_row as numbers;
 pub use lra_row::{Row, RowError};
 pub use lra_set as sets;
