@@ -1,5 +1,5 @@
-use lra_options::{DEFAULT_OPTIONS, Domain, Options};
-use lra_words::{Command, Format, Refusal, find_command, parse_command};
+use lra_options::{BEST_OPTIONS, DEFAULT_OPTIONS, Domain, Options};
+use lra_words::{Command, Format, PlainCommand, Refusal, find_command, parse_command};
 use std::alloc::{AllocError, Global};
 use std::process::Abort;
 
@@ -107,6 +107,52 @@ static ONE_OPTION: [(&str, Command); 14] = [
     ),
 ];
 
+/// Lines that ask for thresholds, alone or among the options for which one word stands.
+static THRESHOLDS: [(&str, Command); 5] = [
+    (
+        "lra analyse --thresholds",
+        Command::Analyse {
+            options: Options {
+                thresholds: true,
+                ..DEFAULTS
+            },
+            format: Format::Lines,
+        },
+    ),
+    (
+        "lra analyse --parts 4 --thresholds --json",
+        Command::Analyse {
+            options: BEST_OPTIONS,
+            format: Format::Json,
+        },
+    ),
+    (
+        "lra analyse --best",
+        Command::Analyse {
+            options: BEST_OPTIONS,
+            format: Format::Lines,
+        },
+    ),
+    (
+        "lra analyse --json --best",
+        Command::Analyse {
+            options: BEST_OPTIONS,
+            format: Format::Json,
+        },
+    ),
+    (
+        "lra analyse --domain=poly --narrow 0 --thresholds --",
+        Command::Analyse {
+            options: Options {
+                narrow: 0,
+                thresholds: true,
+                ..DEFAULTS
+            },
+            format: Format::Lines,
+        },
+    ),
+];
+
 /// The same, with several options or none.
 static SEVERAL: [(&str, Command); 13] = [
     (
@@ -174,6 +220,7 @@ static SEVERAL: [(&str, Command); 13] = [
                 delay: 2,
                 narrow: 3,
                 limited: true,
+                thresholds: false,
             },
             format: Format::Json,
         },
@@ -193,9 +240,9 @@ static SEVERAL: [(&str, Command); 13] = [
         "lra sample --seed +5 --size=+7 --",
         Command::Sample { seed: 5, size: 7 },
     ),
-    ("other calc", Command::Calc),
-    ("lra calc", Command::Calc),
-    ("lra calc --", Command::Calc),
+    ("other calc", Command::Plain(PlainCommand::Calc)),
+    ("lra calc", Command::Plain(PlainCommand::Calc)),
+    ("lra calc --", Command::Plain(PlainCommand::Calc)),
 ];
 
 /// The words of a line, between single spaces.
@@ -226,6 +273,7 @@ fn are_taken(rt: &impl Abort, alloc: Global, lines: &[(&str, Command)]) {
 fn commands_are_taken(rt: HostRuntime) {
     are_taken(&rt, rt.alloc(), &ONE_OPTION);
     are_taken(&rt, rt.alloc(), &SEVERAL);
+    are_taken(&rt, rt.alloc(), &THRESHOLDS);
 }
 
 /// Whether the words of the line ask for no command.
@@ -318,6 +366,24 @@ static COUNTS: [&str; 17] = [
     "lra analyse --json --json",
 ];
 
+/// Options that can't be given together, be they given with their defaults.
+static APART: [&str; 14] = [
+    "lra analyse --thresholds --limited",
+    "lra analyse --limited --thresholds",
+    "lra analyse --domain box --thresholds",
+    "lra analyse --thresholds --domain=oct",
+    "lra analyse --thresholds --thresholds",
+    "lra analyse --thresholds=yes",
+    "lra analyse --best --domain poly",
+    "lra analyse --parts 4 --best",
+    "lra analyse --best --delay=1",
+    "lra analyse --best --narrow 1",
+    "lra analyse --best --thresholds",
+    "lra analyse --best --limited",
+    "lra analyse --best --best",
+    "lra sample --seed 1 --size 1 --best",
+];
+
 /// Seeds and sizes out of their range, without their value, twice, or left out.
 static SAMPLES: [&str; 16] = [
     "lra sample",
@@ -344,6 +410,7 @@ fn other_lines_ask_for_nothing(rt: HostRuntime) {
     are_other(&rt, rt.alloc(), &HELP);
     are_other(&rt, rt.alloc(), &FORMS);
     are_other(&rt, rt.alloc(), &COUNTS);
+    are_other(&rt, rt.alloc(), &APART);
     are_other(&rt, rt.alloc(), &SAMPLES);
 }
 

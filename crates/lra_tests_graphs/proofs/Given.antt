@@ -12,7 +12,7 @@ use Rattle.lra_meaning.specs.Resolve.{resolve}
 use Rattle.lra_program.specs.Program.{Program}
 use Rattle.lra_program.specs.Sites.{Site, sites_of}
 use Rattle.lra_show.specs.Part.{Part}
-use Rattle.lra_findings.specs.Report.{Invariant}
+use Rattle.lra_report.specs.Report.{Invariant}
 use Rattle.lra_operations.specs.declared.graph.Site as code_site
 use Rattle.lra_operations.specs.GraphViews.{site_view}
 use Rattle.lra_report.specs.Listing.{HasWidth}

@@ -4,6 +4,10 @@
 #![tactic(auto)]
 
 #[cfg(test)]
+mod boxes;
+#[cfg(test)]
+mod contexts;
+#[cfg(test)]
 mod minima;
 #[cfg(test)]
 mod moves;

@@ -1,9 +1,10 @@
 //! Dimensions moved and folded, polyhedra side by side, and constraints rounded to whole points.
 
 use crate::shapes::{Constraint, NOWHERE, RIGHT, RIGHT_OF_ONE, Unfit, list_of, set_of};
-use lra_queries::{concatenate, expand, fold_dims, image_relation, map_dims, tighten};
+use lra_poly::Poly;
+use lra_queries::{concatenate, expand, fold_dims, image_relation, map_dims, relate, tighten};
 use lra_row::Row;
-use lra_sys::{ConKind, are_same};
+use lra_sys::{ConKind, GenKind, GenSys, are_same};
 use std::alloc::Global;
 
 /// A constraint, and the same rounded.
@@ -58,8 +59,8 @@ fn is_moved(
     dims: &[usize],
     wanted: &[Constraint],
 ) -> Result<bool, Unfit> {
-    let (made, _) = map_dims(&set_of(alloc, given)?, dims)?;
-    Ok(made.same(&set_of(alloc, wanted)?))
+    let (made, outcome) = map_dims(&set_of(alloc, given)?, dims)?;
+    Ok(outcome.is_exact() && made.same(&set_of(alloc, wanted)?))
 }
 
 #[test]
@@ -71,11 +72,39 @@ fn moved(rt: HostRuntime) {
     assert!(rt; is_moved(alloc, &[NOWHERE], &[1, 0], &[NOWHERE]) == Ok(true));
 }
 
+// The point in three dimensions.
+fn point_at(alloc: Global, numbers: [i64; 3]) -> Result<Poly, Unfit> {
+    let [x, y, z] = numbers;
+    let mut list = GenSys::new(alloc, 3);
+    list.push(Row::of(alloc, &[1, x, y, z])?, GenKind::Point)?;
+    let (made, _) = Poly::from_generators(alloc, &list)?;
+    Ok(made)
+}
+
+// Whether each of three dimensions stands where the next one is to be.
+fn is_turned(
+    alloc: Global,
+    given: [i64; 3],
+    dims: &[usize],
+    wanted: [i64; 3],
+) -> Result<bool, Unfit> {
+    let (made, outcome) = map_dims(&point_at(alloc, given)?, dims)?;
+    Ok(outcome.is_exact() && made.same(&point_at(alloc, wanted)?))
+}
+
+#[test]
+fn turned(rt: HostRuntime) {
+    let alloc = rt.alloc();
+    assert!(rt; is_turned(alloc, [1, 2, 3], &[1, 2, 0], [2, 3, 1]) == Ok(true));
+    assert!(rt; is_turned(alloc, [1, 2, 3], &[2, 0, 1], [3, 1, 2]) == Ok(true));
+    assert!(rt; is_turned(alloc, [1, 2, 3], &[1, 2, 0], [3, 1, 2]) == Ok(false));
+}
+
 // Whether x folded with y is x from 0 to 3.
 fn is_folded(alloc: Global, given: &[Constraint]) -> Result<bool, Unfit> {
-    let (made, _) = fold_dims(&set_of(alloc, given)?, &[0], &[1])?;
+    let (made, outcome) = fold_dims(&set_of(alloc, given)?, &[0], &[1])?;
     let (wanted, _) = map_dims(&set_of(alloc, &[RIGHT, LEFT_OF_THREE])?, &[0])?;
-    Ok(made.same(&wanted))
+    Ok(outcome.is_exact() && made.same(&wanted))
 }
 
 #[test]
@@ -88,10 +117,10 @@ fn folded(rt: HostRuntime) {
 // Whether both are found again along their own dimensions.
 fn are_side_by_side(alloc: Global, one: &[Constraint], two: &[Constraint]) -> Result<bool, Unfit> {
     let (first, last) = (set_of(alloc, one)?, set_of(alloc, two)?);
-    let (both, _) = concatenate(&first, &last)?;
+    let (both, outcome) = concatenate(&first, &last)?;
     let (front, _) = map_dims(&both, &[0, 1])?;
     let (back, _) = map_dims(&both, &[2, 3])?;
-    Ok(front.same(&first) && back.same(&last))
+    Ok(outcome.is_exact() && front.same(&first) && back.same(&last))
 }
 
 #[test]
@@ -104,23 +133,37 @@ fn side_by_side(rt: HostRuntime) {
 // Whether both y and its twin are found again beside x.
 fn has_twin(alloc: Global, given: &[Constraint]) -> Result<bool, Unfit> {
     let set = set_of(alloc, given)?;
-    let (made, _) = expand(&set, 1)?;
+    let (made, outcome) = expand(&set, 1)?;
     let (own, _) = map_dims(&made, &[0, 1])?;
     let (twin, _) = map_dims(&made, &[0, 2])?;
-    Ok(own.same(&set) && twin.same(&set))
+    Ok(outcome.is_exact() && own.same(&set) && twin.same(&set))
+}
+
+// Whether y and its twin are the same at each point.
+fn has_equal_twin(alloc: Global, given: &[Constraint]) -> Result<bool, Unfit> {
+    let (made, _) = expand(&set_of(alloc, given)?, 1)?;
+    let apart = Row::of(alloc, &[0, 0, 1, -1])?;
+    match relate(&made, &apart, ConKind::Eq) {
+        Ok(relation) => Ok(relation.holds_on_all),
+        Err(_) => Err(Unfit::Range),
+    }
 }
 
 #[test]
 fn twins(rt: HostRuntime) {
-    assert!(rt; has_twin(rt.alloc(), &[STEEP, RIGHT]) == Ok(true));
+    let alloc = rt.alloc();
+    assert!(rt; has_twin(alloc, &[STEEP, RIGHT]) == Ok(true));
+    assert!(rt; has_equal_twin(alloc, &[STEEP, RIGHT]) == Ok(false));
+    assert!(rt; has_twin(alloc, &[SLOPE]) == Ok(true));
+    assert!(rt; has_equal_twin(alloc, &[SLOPE]) == Ok(true));
 }
 
 // x becomes any number that is at most y.
 fn is_related(alloc: Global, given: &[Constraint], wanted: &[Constraint]) -> Result<bool, Unfit> {
     let set = set_of(alloc, given)?;
     let row = Row::of(alloc, &[0, 0, 1, -1])?;
-    let (made, _) = image_relation(&set, 0, &row, ConKind::Ge)?;
-    Ok(made.same(&set_of(alloc, wanted)?))
+    let (made, outcome) = image_relation(&set, 0, &row, ConKind::Ge)?;
+    Ok(outcome.is_exact() && made.same(&set_of(alloc, wanted)?))
 }
 
 #[test]

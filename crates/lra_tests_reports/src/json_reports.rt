@@ -1,10 +1,9 @@
 //! Reports as JSON.
 
 use lra_base::Place;
-use lra_findings::VerdictKind;
 use lra_json::{json_text, to_value};
 use lra_options::{DEFAULT_OPTIONS, Domain, Options};
-use lra_report::{Part, Point, PointReport, Report, Verdict};
+use lra_report::{Part, Point, PointReport, Report, Verdict, VerdictKind};
 use lra_row::Row;
 use lra_show::Names;
 use lra_sys::{ConKind, ConSys, GenKind, GenSys};

@@ -1,9 +1,10 @@
 //! Worked reports.
 
 use lra_base::Place;
-use lra_findings::VerdictKind;
 use lra_options::{DEFAULT_OPTIONS, Domain, Options};
-use lra_report::{CallPlace, Part, Point, PointReport, Report, Verdict, names_at, path_text, text};
+use lra_report::{
+    CallPlace, Part, Point, PointReport, Report, Verdict, VerdictKind, names_at, path_text, text,
+};
 use lra_row::Row;
 use lra_show::Names;
 use lra_sys::{ConKind, ConSys, GenKind, GenSys};

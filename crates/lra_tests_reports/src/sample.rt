@@ -1,9 +1,8 @@
 //! Sample sources, and what is told of their reports.
 
 use lra_base::Place;
-use lra_findings::VerdictKind;
 use lra_options::DEFAULT_OPTIONS;
-use lra_report::{Point, PointReport, Report, Verdict};
+use lra_report::{Point, PointReport, Report, Verdict, VerdictKind};
 use lra_sample::{program, summary};
 use lra_show::Names;
 use std::alloc::{AllocError, Global};

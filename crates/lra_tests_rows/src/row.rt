@@ -8,6 +8,7 @@ ghost use Rattle.lra_linear.specs.Vectors.{product};
 use lra_row::{Excess, Operation, Row, RowError, add, floor_div, gcd, mul, ratio_cmp};
 use std::alloc::{AllocError, Global};
 use std::cmp::Ordering;
+use std::hash::{DefaultHasher, Hash, Hasher};
 
 const MAX: i128 = i128::MAX;
 
@@ -59,6 +60,21 @@ fn are_ordered(alloc: Global) -> Result<bool, AllocError> {
     Ok(row.compare(&form) == Ordering::Greater)
 }
 
+fn hash_of(row: &Row) -> u64 {
+    let mut state = DefaultHasher::new();
+    row.hash(&mut state);
+    state.finish()
+}
+
+// Whether one row that is made in two ways is one key, which stands before another.
+fn are_keys(alloc: Global) -> Result<bool, AllocError> {
+    let row = Row::from_slice(alloc, &[1, -2, 3])?;
+    let same = Row::of(alloc, &[-1, 2, -3])?.negate()?;
+    let later = Row::of(alloc, &[0, -1, 3])?;
+    let is_one = row == same && hash_of(&row) == hash_of(&same);
+    Ok(is_one && row != later && row < later && hash_of(&row) != hash_of(&later))
+}
+
 fn is_row(row: &Row, pivot: usize, entries: &[i128]) -> bool {
     row.entries() == entries && row.width() == entries.len() && row.pivot() == pivot
 }
@@ -107,12 +123,13 @@ fn rows(rt: HostRuntime) {
     let answers = [
         have_no_product(rt.alloc()),
         are_ordered(rt.alloc()),
+        are_keys(rt.alloc()),
         substitutes(rt.alloc()),
         combines(rt.alloc()),
         lowers(rt.alloc()),
         blends(rt.alloc()),
     ];
-    assert!(rt; answers == [Ok(true); 6]);
+    assert!(rt; answers == [Ok(true); 7]);
 }
 
 // What passes the range, where no row is made for it.

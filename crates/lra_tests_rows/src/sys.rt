@@ -6,6 +6,7 @@ use lra_row::Row;
 use lra_sys::{ConKind, ConSys, GenKind, GenSys, Holds};
 use std::alloc::{AllocError, Global};
 use std::cmp::Ordering;
+use std::hash::{DefaultHasher, Hash, Hasher};
 
 const MAX: i128 = i128::MAX;
 
@@ -102,4 +103,29 @@ fn second_row(alloc: Global) -> Result<bool, AllocError> {
 #[test]
 fn places(rt: HostRuntime) {
     assert!(rt; second_row(rt.alloc()) == Ok(true));
+}
+
+fn hash_of(list: &ConSys) -> u64 {
+    let mut state = DefaultHasher::new();
+    list.hash(&mut state);
+    state.finish()
+}
+
+// Whether a list and its copy are one key, and lists of other dimensions, rows and kinds are others.
+fn are_keys(alloc: Global) -> Result<bool, AllocError> {
+    let list = line(alloc)?;
+    let same = list.copy()?;
+    let mut half = ConSys::new(alloc, 1);
+    half.push(Row::of(alloc, &[-1, 2])?, ConKind::Ge)?;
+    let is_one = list == same && hash_of(&list) == hash_of(&same);
+    let other_kinds = half < list && hash_of(&half) != hash_of(&list);
+    let none = ConSys::new(alloc, 1);
+    let other_rows = none < list && none != list;
+    let other_dimensions = none < ConSys::new(alloc, 2);
+    Ok(is_one && other_kinds && other_rows && other_dimensions && list < quarter(alloc)?)
+}
+
+#[test]
+fn keys(rt: HostRuntime) {
+    assert!(rt; are_keys(rt.alloc()) == Ok(true));
 }

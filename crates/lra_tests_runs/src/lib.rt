@@ -22,3 +22,5 @@ mod refusals;
 mod samples;
 #[cfg(test)]
 mod scripts;
+#[cfg(test)]
+mod thresholds;
