@@ -105,7 +105,9 @@ static ONE_PART: [Line; 11] = [
         ONE,
         BOUNDED,
         Status::Proved,
-        "point 4 main 1:50\n  row i >= 0\n  row i <= 4\n  gen point i=0\n  gen point i=4\n\
+        "point 2 main 1:27\n  row i >= 0\n  row i <= 5\n  gen point i=0\n  gen point i=5\n\
+            point 3 main 1:42\n  row i >= 0\n  row i <= 5\n  gen point i=0\n  gen point i=5\n\
+            point 4 main 1:50\n  row i >= 0\n  row i <= 4\n  gen point i=0\n  gen point i=4\n\
             point 5 main 1:57\n  row i >= 0\n  row i <= 5\n  gen point i=0\n  gen point i=5\n",
     ),
     // 60 is no literal: the rows around the condition in the loop
