@@ -258,6 +258,25 @@ impl Poly {
         &self.by_generators
     }
 
+    /// Both lists, given up: the constraints and the generators, in canonical order. `from_canonical` takes them back.
+    pub fn into_parts(self) -> (ConSys, GenSys)
+        ensures dims { result.0.dims ≡ self.dims }
+        ensures rows { constraints result.0 ≡ self.rows }
+        ensures generator_dims { result.1.dims ≡ self.dims }
+        ensures generators { generators result.1 ≡ self.generators }
+        ensures kinds { FitKinds result.1.rows result.1.kinds }
+        ensures canonical { IsPolyhedron self }
+        ensures limit { KeepsLimit self }
+    {
+        let Poly {
+            alloc: _,
+            rows,
+            by_generators,
+            saturation: _,
+        } = self;
+        (rows, by_generators)
+    }
+
     /// Which constraints are tight at which generators: a row for each constraint with a column for each generator,
     /// true exactly where their product is 0. It is made with the two lists, so there always is one.
     pub fn saturation(&self) -> Option<&SatMatrix>

@@ -1,0 +1,8 @@
+-- Goals of `into_parts`: the lists keep the limit, as those of each polyhedron do.
+use Rattle.std.proofs.Common.{subst}
+use Rattle.lra_linear.specs.Formed.{KeepsLimit}
+use Rattle.lra_linear.specs.Polyhedra.{Polyhedron}
+use Rattle.lra_poly.proofs.poly.Poly.into_parts.Goals as goal
+
+pub returns-clause-limit : goal.returns-clause-limit
+returns-clause-limit c = subst (λ (p : Polyhedron). KeepsLimit p) c.self.view_is c.self.invariant.4
