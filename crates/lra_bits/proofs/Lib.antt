@@ -3,7 +3,9 @@ pub mod Packing
 pub mod Pairs
 pub mod Removal
 pub mod Widening
+pub mod Lengthening
 pub mod CommonPlaces
+pub mod CommonBits
 pub mod Turning
 pub mod WithinRows
 pub mod Places

@@ -13,12 +13,12 @@ use Rattle.lra_bits.specs.Words.{bit_of, unpacked, words_needed, common_words, A
 use Rattle.lra_bits.proofs.Packing.{length_unpacked, value_unpacked, place_inside}
 
 -- ---- where both are true
-common_length : (xs ys : List ℕ) → length xs ≡ length ys → length (common_words xs ys) ≡ length xs
+pub common_length : (xs ys : List ℕ) → length xs ≡ length ys → length (common_words xs ys) ≡ length xs
 common_length [] ys e = refl
 common_length (x ∷ xs) [] e = absurd (omega (arith, e))
 common_length (x ∷ xs) (y ∷ ys) e = ap suc (common_length xs ys (omega (arith, e)))
 
-common_word : (xs ys : List ℕ) (i : ℕ) → length xs ≡ length ys → get_or (common_words xs ys) i 0 ≡ bit_and (get_or xs i 0) (get_or ys i 0)
+pub common_word : (xs ys : List ℕ) (i : ℕ) → length xs ≡ length ys → get_or (common_words xs ys) i 0 ≡ bit_and (get_or xs i 0) (get_or ys i 0)
 common_word [] ys i e = refl
 common_word (x ∷ xs) [] i e = absurd (omega (arith, e))
 common_word (x ∷ xs) (y ∷ ys) zero e = refl

@@ -1,5 +1,5 @@
 -- Matrices of truth values.
-use Rattle.std.specs.Prelude.{◌≡◌, ◌≢◌, ℕ, ◌<◌, Bool, true, cond, List, [], ◌∷◌, length, slice_index_or}
+use Rattle.std.specs.Prelude.{◌≡◌, ◌≢◌, ℕ, ◌<◌, Bool, true, cond, List, [], ◌∷◌, ◌++◌, length, slice_index_or}
 use Rattle.std.specs.Prelude.{Option, Some, None}
 use Rattle.lra_bits.specs.TruthValues.{value_at, both, IsSubset}
 
@@ -13,6 +13,12 @@ abbrev pub unmarked : {A : Type 0} → List Bool → List A → List A
 unmarked marks [] = []
 unmarked [] (r ∷ rows) = r ∷ rows
 unmarked (m ∷ marks) (r ∷ rows) = cond m (unmarked marks rows) (r ∷ unmarked marks rows)
+
+-- each row with a value behind it
+abbrev pub lengthened_rows : List (List Bool) → List Bool → List (List Bool)
+lengthened_rows [] last = []
+lengthened_rows (r ∷ rows) [] = []
+lengthened_rows (r ∷ rows) (b ∷ last) = (r ++ b ∷ []) ∷ lengthened_rows rows last
 
 -- of the first n of these rows, each that is marked is true at the place
 abbrev pub IsCommon : Matrix → List ℕ → List Bool → ℕ → ℕ → Type 0

@@ -1,5 +1,5 @@
 -- Lists of truth values.
-use Rattle.std.specs.Prelude.{◌≡◌, ℕ, ◌<◌, Bool, true, false, ◌&&◌, List, [], ◌∷◌, length, slice_index_or}
+use Rattle.std.specs.Prelude.{◌≡◌, ℕ, suc, ◌<◌, Bool, true, false, cond, ◌&&◌, List, [], ◌∷◌, length, slice_index_or}
 use Rattle.std.specs.List.{All}
 
 -- the truth value at a place, false past the end
@@ -9,6 +9,11 @@ value_at values k = slice_index_or values k false
 abbrev pub are_true : List Bool → Bool
 are_true [] = true
 are_true (x ∷ xs) = x && are_true xs
+
+-- how many are true
+abbrev pub true_count : List Bool → ℕ
+true_count [] = 0
+true_count (x ∷ xs) = cond x (suc (true_count xs)) (true_count xs)
 
 -- where a value of the first list is true, that of the second is
 abbrev pub IsSubset : List Bool → List Bool → Type 0

@@ -1,5 +1,6 @@
 -- Truth values in words of 64 bits.
-use Rattle.std.specs.Prelude.{◌≡◌, ℕ, ◌+◌, ◌/◌, ◌%◌, ◌==◌, ◌<◌, Bool, List, [], ◌∷◌, length, slice_index, map}
+use Rattle.std.specs.Prelude.{◌≡◌, ℕ, zero, suc, ◌+◌, ◌/◌, ◌%◌, ◌==◌, ◌<◌, Bool, count_ones}
+use Rattle.std.specs.Prelude.{List, [], ◌∷◌, length, slice_index, map}
 use Rattle.std.specs.Int.Bits.{bit_and}
 use Rattle.std.specs.Int.{bit_at}
 use Rattle.std.specs.List.{range_with_len}
@@ -28,6 +29,11 @@ abbrev pub common_words : List ℕ → List ℕ → List ℕ
 common_words [] ys = []
 common_words (x ∷ xs) [] = []
 common_words (x ∷ xs) (y ∷ ys) = bit_and x y ∷ common_words xs ys
+
+-- how many bits are set in both, in the first n words
+abbrev pub common_bits : List ℕ → List ℕ → ℕ → ℕ
+common_bits xs ys zero = 0
+common_bits xs ys (suc n) = common_bits xs ys n + count_ones (bit_and (slice_index xs n) (slice_index ys n))
 
 -- each bit that is set in a word of the first is set in that of the second
 abbrev pub AreWithin : List ℕ → List ℕ → Type 0

@@ -1,9 +1,9 @@
 //! Lists of truth values as words.
 
-ghost use Rattle.std.specs.Prelude.{◌≡◌, ℕ, ◌<◌, ◌≤◌, ◌↔◌, ◌++◌, ◌∷◌, Bool, true, false, List, [], length};
-ghost use Rattle.std.specs.Prelude.{replicate, slice_set, IfOk, OnOk, OnErr, IsTrue, ◌+◌, ◌*◌, ◌==◌, min};
+ghost use Rattle.std.specs.Prelude.{◌≡◌, ◌≢◌, ℕ, ◌<◌, ◌≤◌, ◌↔◌, ◌++◌, ◌∷◌, Bool, true, false, List, [], length};
+ghost use Rattle.std.specs.Prelude.{replicate, slice_set, IfOk, OnOk, OnErr, IsTrue, ◌+◌, ◌*◌, ◌%◌, ◌^◌, ◌==◌, min};
 ghost use Rattle.std.specs.Int.{bit_at};
-ghost use Rattle.lra_bits.specs.TruthValues.{value_at, are_true, ArePlaces, IsSubset, both};
+ghost use Rattle.lra_bits.specs.TruthValues.{value_at, are_true, true_count, ArePlaces, IsSubset, both};
 ghost use Rattle.lra_bits.specs.Words.{bit_of, unpacked, words_needed, ArePacked};
 
 use crate::words::{self, WORD, clear};
@@ -33,6 +33,17 @@ impl BitRow {
     {
         let words = vec![in alloc; 0u64; width.div_ceil(WORD)]?;
         Ok(BitRow { width, words })
+    }
+
+    /// So many truth values, all true.
+    pub fn all_true(alloc: Global, width: usize) -> Result<BitRow, AllocError>
+        ensures { IfOk result (λ row. row ≡ replicate width true) }
+    {
+        let mut row = BitRow::new(alloc, width)?;
+        for k in 0..width {
+            row.set(k, true);
+        }
+        Ok(row)
     }
 
     /// The same list again.
@@ -135,6 +146,26 @@ impl BitRow {
         Ok(())
     }
 
+    // One more value, false, in a word that is there.
+    fn widen_within(&mut self)
+        requires room { length self.old % 64 ≢ 0 }
+        requires few { length self.old + 1 < 2 ^ 64 }
+        ensures { self.new ≡ self.old ++ false ∷ [] }
+    {
+        self.width += 1;
+    }
+
+    /// Puts a truth value behind the others, in a word that is there. Takes no memory.
+    pub fn push_within(&mut self, v: bool)
+        requires room { length self.old % 64 ≢ 0 }
+        requires few { length self.old + 1 < 2 ^ 64 }
+        ensures { self.new ≡ self.old ++ v ∷ [] }
+    {
+        let last = self.width;
+        self.widen_within();
+        self.set(last, v);
+    }
+
     /// Each value that is true is true in the other list too.
     pub fn subset(&self, other: &BitRow) -> bool
         requires { length self.now ≡ length other.now }
@@ -153,6 +184,14 @@ impl BitRow {
             width: self.width,
             words,
         })
+    }
+
+    /// Whether at least so many values are true in both. Takes no memory.
+    pub fn shares(&self, other: &BitRow, least: usize) -> bool
+        requires { length self.now ≡ length other.now }
+        ensures { IsTrue result ↔ (least ≤ true_count (both self.now other.now)) }
+    {
+        words::share_bits(&self.words, &other.words, least)
     }
 
     /// Each value that is true here and in the second list is true in the third too. Takes no memory.

@@ -1,10 +1,10 @@
 //! Matrices of truth values, which say which rows are tight at which vectors.
 
-ghost use Rattle.std.specs.Prelude.{◌≡◌, ◌<◌, ◌++◌, ◌∷◌, [], length, IfOk, OnOk, OnErr, slice_index_or};
+ghost use Rattle.std.specs.Prelude.{◌≡◌, ◌≢◌, ◌<◌, ◌++◌, ◌∷◌, [], length, IfOk, OnOk, OnErr, slice_index_or};
 ghost use Rattle.std.specs.List.{All};
-ghost use Rattle.std.specs.Prelude.{ℕ, ◌↔◌, ◌+◌, ◌*◌};
+ghost use Rattle.std.specs.Prelude.{ℕ, ◌↔◌, ◌+◌, ◌*◌, ◌%◌, ◌^◌, suc, take};
 ghost use Rattle.std.specs.Int.{bit_at};
-ghost use Rattle.lra_bits.specs.Matrix.{Matrix, unmarked, IsCommon, TellsCommon, TellsWithin};
+ghost use Rattle.lra_bits.specs.Matrix.{Matrix, lengthened_rows, unmarked, IsCommon, TellsCommon, TellsWithin};
 ghost use Rattle.std.specs.Prelude.{Bool, false, replicate, IsTrue};
 ghost use Rattle.lra_bits.specs.TruthValues.{value_at, ArePlaces};
 ghost use Rattle.lra_bits.specs.Turned.{AreColumns, AreWider, IsMarked, is_in_word};
@@ -76,6 +76,15 @@ impl SatMatrix {
         &self.rows[i]
     }
 
+    /// The rows, handed on.
+    pub fn into_rows(self) -> Vec<BitRow>
+        ensures rows { result.items ≡ self.rows }
+        ensures width { All (λ r. length r ≡ self.width) result.items }
+    {
+        let SatMatrix { width: _, rows } = self;
+        rows
+    }
+
     /// Puts a row behind the others.
     pub fn add_row(&mut self, row: BitRow) -> Result<(), AllocError>
         requires { length row ≡ self.old.width }
@@ -99,6 +108,122 @@ impl SatMatrix {
             }
         }
         self.rows.truncate(kept);
+    }
+
+    // The rows with a value behind each.
+    fn lengthened(&self, last: &BitRow) -> Result<Vec<BitRow>, AllocError>
+        requires { length last.now ≡ length self.now.rows }
+        ensures { IfOk result (λ rows. rows.items ≡ lengthened_rows self.now.rows last.now) }
+    {
+        let mut rows = Vec::with_capacity(*self.rows.allocator(), self.rows.len())?;
+        for k in 0..self.rows.len() {
+            let mut row = self.rows[k].copy()?;
+            row.push(last.get(k))?;
+            rows.push(row)?;
+        }
+        Ok(rows)
+    }
+
+    // A further column, in words that are there.
+    fn push_in_place(&mut self, last: &BitRow)
+        requires each { length last.now ≡ length self.old.rows }
+        requires room { self.old.width % 64 ≢ 0 }
+        requires few { self.old.width + 1 < 2 ^ 64 }
+        ensures { self.new ≡ record {
+          width = suc self.old.width;
+          rows = lengthened_rows self.old.rows last.now;
+        } }
+    {
+        push_values(self.rows.as_mut_slice(), last);
+        self.width += 1;
+    }
+
+    // A further column, by rows that are made anew.
+    fn push_anew(&mut self, last: &BitRow) -> Result<(), AllocError>
+        requires each { length last.now ≡ length self.old.rows }
+        requires few { self.old.width + 1 < 2 ^ 64 }
+        ensures pushed { OnOk result (self.new ≡ record {
+          width = suc self.old.width;
+          rows = lengthened_rows self.old.rows last.now;
+        }) }
+        ensures unchanged { OnErr result (self.new ≡ self.old) }
+    {
+        let rows = self.lengthened(last)?;
+        self.rows = rows;
+        self.width += 1;
+        Ok(())
+    }
+
+    /// Puts a value behind each row: a further column. Memory is taken for each 64th column alone; where there is none,
+    /// the matrix stays as it was.
+    pub fn push_column(&mut self, last: &BitRow) -> Result<(), AllocError>
+        requires { length last.now ≡ length self.old.rows }
+        ensures pushed { OnOk result (self.new ≡ record {
+          width = suc self.old.width;
+          rows = lengthened_rows self.old.rows last.now;
+        }) }
+        ensures unchanged { OnErr result (self.new ≡ self.old) }
+    {
+        let width = self.width();
+        if width == usize::MAX {
+            return Err(AllocError);
+        }
+        if width % WORD == 0 {
+            return self.push_anew(last);
+        }
+        self.push_in_place(last);
+        Ok(())
+    }
+
+    /// Puts the rows of another matrix behind its own. Want of memory leaves it as it was.
+    pub fn append(&mut self, more: SatMatrix) -> Result<(), AllocError>
+        requires { more.width ≡ self.old.width }
+        ensures appended { OnOk result
+            (self.new ≡ record self.old { rows = self.old.rows ++ more.rows }) }
+        ensures unchanged { OnErr result (self.new ≡ self.old) }
+    {
+        let mut rows = more.into_rows();
+        self.rows.reserve(rows.len())?;
+        let _ = self.rows.append(&mut rows);
+        Ok(())
+    }
+
+    // Keeps so many rows at the front.
+    fn truncate(&mut self, count: usize)
+        ensures { self.new ≡ record self.old { rows = take count self.old.rows } }
+    {
+        self.rows.truncate(count);
+    }
+
+    /// Puts further rows behind its own and a value behind each, and takes out those that are marked as gone. Want of
+    /// memory leaves the matrix as it was.
+    pub fn exchange(
+        &mut self,
+        more: SatMatrix,
+        last: &BitRow,
+        gone: &BitRow,
+    ) -> Result<(), AllocError>
+        requires width { more.width ≡ self.old.width }
+        requires each { length last.now ≡ length (self.old.rows ++ more.rows) }
+        requires marks { length gone.now ≡ length (self.old.rows ++ more.rows) }
+        ensures exchanged { OnOk result (self.new ≡ record {
+          width = suc self.old.width;
+          rows = unmarked gone.now (lengthened_rows (self.old.rows ++ more.rows) last.now);
+        }) }
+        ensures unchanged { OnErr result (self.new ≡ self.old) }
+    {
+        let height = self.rows.len();
+        self.append(more)?;
+        match self.push_column(last) {
+            Ok(()) => {
+                self.remove_rows(gone);
+                Ok(())
+            }
+            Err(_) => {
+                self.truncate(height);
+                Err(AllocError)
+            }
+        }
     }
 
     /// A row but these two that is true wherever both are, if there is one. Takes no memory.
@@ -197,6 +322,18 @@ impl SatMatrix {
             }
         }
         None
+    }
+}
+
+// Puts a value behind each row, in words that are there.
+fn push_values(rows: &mut [BitRow], last: &BitRow)
+    requires each { length last.now ≡ length rows.old }
+    requires room { All (λ r. length r % 64 ≢ 0) rows.old }
+    requires few { All (λ r. length r + 1 < 2 ^ 64) rows.old }
+    ensures { rows.new ≡ lengthened_rows rows.old last.now }
+{
+    for k in 0..rows.len() {
+        rows[k].push_within(last.get(k));
     }
 }
 

@@ -1,10 +1,11 @@
 //! Two lists of words, word by word.
 
-ghost use Rattle.std.specs.Prelude.{◌≡◌, ◌≢◌, ℕ, ◌<◌, ◌+◌, ◌*◌, ◌^◌, ◌↔◌, length, IfOk, IsTrue, slice_index};
+ghost use Rattle.std.specs.Prelude.{◌≡◌, ◌≢◌, ℕ, ◌<◌, ◌≤◌, ◌+◌, ◌-◌, ◌*◌, ◌^◌, ◌↔◌};
+ghost use Rattle.std.specs.Prelude.{length, IfOk, IsTrue, slice_index, count_ones};
 ghost use Rattle.std.specs.Int.Bits.{bit_and};
 ghost use Rattle.std.specs.Int.{bit_at};
 ghost use Rattle.std.specs.List.{All};
-ghost use Rattle.lra_bits.specs.Words.{common_words, AreWithin, AreCommonWithin};
+ghost use Rattle.lra_bits.specs.Words.{common_words, common_bits, AreWithin, AreCommonWithin};
 
 use std::alloc::{AllocError, Global};
 
@@ -90,4 +91,38 @@ pub fn are_common_within_from(xs: &[u64], ys: &[u64], zs: &[u64], from: usize) -
         }
     }
     true
+}
+
+// What is left of the number after one for each bit that is set, down to 0. Takes a step for each bit, as few are set
+// where it matters, and there may be no instruction that counts them.
+#[inline(always)]
+fn take_ones(word: u64, number: usize) -> usize
+    ensures { result ≡ number - count_ones word }
+{
+    let mut bits = word;
+    let mut left = number;
+    while bits != 0 {
+        if left == 0 {
+            return 0;
+        }
+        left -= 1;
+        bits &= bits - 1;
+    }
+    left
+}
+
+/// Whether at least so many bits are set in both.
+pub fn share_bits(xs: &[u64], ys: &[u64], least: usize) -> bool
+    requires { length xs.now ≡ length ys.now }
+    ensures enough { IsTrue result ↔ (least ≤ common_bits xs.now ys.now (length xs.now)) }
+    ensures fit { All (λ x. x < 2 ^ 64) xs.now }
+{
+    let mut left = least;
+    for i in 0..xs.len() {
+        left = take_ones(xs[i] & ys[i], left);
+        if left == 0 {
+            return true;
+        }
+    }
+    left == 0
 }

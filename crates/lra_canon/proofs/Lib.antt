@@ -9,3 +9,4 @@ pub mod Irredundant
 pub mod Orders
 pub mod CanonExamples
 pub mod Covers
+pub mod MarkedOrder

@@ -3,3 +3,5 @@ pub mod Reduced
 pub mod Echelons
 pub mod Irredundant
 pub mod Ordered
+-- Rows with truth values that go with them.
+pub mod MarkedRows

@@ -8,6 +8,6 @@ mod reduction;
 mod redundancy;
 
 pub use forms::echelon;
-pub use order::{Order, canonical_order};
+pub use order::{Marked, Order, canonical_order, order_marked};
 pub use reduction::reduce;
 pub use redundancy::{drop_redundant, remove_marked};

@@ -4,7 +4,9 @@ ghost use Rattle.std.specs.Prelude.{◌≡◌, OnOk, OnErr};
 ghost use Rattle.std.specs.List.Sorted.{IsPermutation, IsSorted};
 ghost use Rattle.lra_linear.specs.RowOrder.{inequality_cmp};
 ghost use Rattle.lra_canon.specs.Ordered.{cmp_by, pivot_cmp, IsOneOrder};
+ghost use Rattle.lra_canon.specs.MarkedRows.{rows_in};
 
+use lra_bits::BitRow;
 use lra_row::Row;
 use std::alloc::AllocError;
 use std::cmp::Ordering;
@@ -56,5 +58,23 @@ pub fn canonical_order(rows: &mut Vec<Row>, order: Order) -> Result<(), AllocErr
     ensures unchanged { OnErr result (rows.new.items ≡ rows.old.items) }
 {
     rows.sort_by(|left, right| compare_by(order, left, right))?;
+    Ok(())
+}
+
+/// A row, and truth values that go with it.
+#[derive(Drop)]
+pub struct Marked {
+    pub row: Row,
+    pub bits: BitRow,
+}
+
+/// Puts marked rows in the order of their rows; what goes with each goes with it. Want of memory leaves the list as it
+/// was.
+pub fn order_marked(marked: &mut Vec<Marked>, order: Order) -> Result<(), AllocError>
+    ensures same { IsPermutation marked.old.items marked.new.items }
+    ensures sorted { OnOk result (IsSorted (cmp_by order) (rows_in marked.new.items)) }
+    ensures unchanged { OnErr result (marked.new.items ≡ marked.old.items) }
+{
+    marked.sort_by(|left, right| compare_by(order, &left.row, &right.row))?;
     Ok(())
 }

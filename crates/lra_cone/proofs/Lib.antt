@@ -1,5 +1,8 @@
 -- The lemmas, from bottom to top.
 pub mod TightRows
+pub mod Homogeneous
+pub mod ThirdRays
+pub mod FewCommon
 pub mod RayCase
 pub mod Reordered
 pub mod Cutting
@@ -11,3 +14,4 @@ pub mod FlatCones
 pub mod WholeSpace
 pub mod PositiveCone
 pub mod RowsTaken
+pub mod TakenBack

@@ -215,16 +215,17 @@ cut_taken s g products m cut k ep em x =
     unmarked_are g.equal g.row s.rays cut.rays.items (length x.pairs) in
     subst (RayCase g.equal g.row (system_of s.taken) s.rays) (sym are) (cut_case (suc s.dims) g.row s.taken s.lines s.rays k.dual k.canonical g.equal x.pairs cut.rays.items pairs sums)
 
-pub cut_matrix : (s : Shape) (g : Given) (products : List ℤ) (m : Matrix) (cut : Cut) → IsCone s → products ≡ map (product g.row) s.rays → m ≡ saturation_of s.taken s.rays →
-    IsCut g.equal products s.rays m cut →
-    cut.saturation ≡ saturation_of (s.taken ++ g ∷ []) (unmarked cut.gone (s.rays ++ cut.rays.items))
-cut_matrix s g products m cut k ep em x =
+pub cut_matrix : (s : Shape) (g : Given) (products : List ℤ) (m : Matrix) (cut : Cut) (made : Matrix) → IsCone s → products ≡ map (product g.row) s.rays → m ≡ saturation_of s.taken s.rays →
+    (x : IsCut g.equal products s.rays m cut) →
+    made ≡ record { width = suc m.width; rows = unmarked cut.gone (lengthened_rows m.rows (map (λ p. int_eq p (pos 0)) products) ++ tight_rows x.pairs) } →
+    made ≡ saturation_of (s.taken ++ g ∷ []) (unmarked cut.gone (s.rays ++ cut.rays.items))
+cut_matrix s g products m cut made k ep em x is =
     let sums : AreCombined (map (product g.row) s.rays) s.rays x.pairs cut.rays.items = subst (λ (q : List ℤ). AreCombined q s.rays x.pairs cut.rays.items) ep x.combined in
     let each : (p : Pair) → Contains x.pairs p → IsAdjacentPair (map (product g.row) s.rays) (saturation_rows s.taken s.rays) p =
     λ p i. subst (λ (q : List ℤ). IsAdjacentPair q (saturation_rows s.taken s.rays) p) ep (subst (λ (y : Matrix). IsAdjacentPair products y.rows p) em (x.are_pairs.each p i)) in
     let later = pair_rows (suc s.dims) g.row s.taken s.lines s.rays k.dual k.canonical x.pairs cut.rays.items g refl each sums in
     let all : List Given = s.taken ++ g ∷ [] in
-    x.matrix ∙ ap (λ (y : Matrix). record { width = suc y.width; rows = unmarked cut.gone (lengthened_rows y.rows (map (λ p. int_eq p (pos 0)) products) ++ tight_rows x.pairs) }) em ∙
+    is ∙ ap (λ (y : Matrix). record { width = suc y.width; rows = unmarked cut.gone (lengthened_rows y.rows (map (λ p. int_eq p (pos 0)) products) ++ tight_rows x.pairs) }) em ∙
     ap (λ (q : List ℤ). record { width = suc (length s.taken); rows = unmarked cut.gone (lengthened_rows (saturation_rows s.taken s.rays) (map (λ p. int_eq p (pos 0)) q) ++ tight_rows x.pairs) }) ep ∙
     ap (λ (y : List (List Bool)). record { width = suc (length s.taken); rows = unmarked cut.gone (y ++ tight_rows x.pairs) }) (sym (kept_rows s.taken g s.rays)) ∙
     ap (λ (y : List (List Bool)). record { width = suc (length s.taken); rows = unmarked cut.gone (saturation_rows all s.rays ++ y) }) later ∙

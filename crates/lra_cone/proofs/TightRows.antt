@@ -16,10 +16,10 @@ use Rattle.lra_linear.proofs.Widening.{zero_said}
 use Rattle.std.proofs.lemmas.Bool.{and_parts}
 use Rattle.lra_cone.specs.Cones.{tight_values, saturation_rows}
 
-zero_yes : (z : ℤ) → z ≡ pos 0 → int_eq z (pos 0) ≡ true
+pub zero_yes : (z : ℤ) → z ≡ pos 0 → int_eq z (pos 0) ≡ true
 zero_yes z h = (Decides-int_eq z (pos 0)).1 h
 
-both_yes : (a b : Bool) → a ≡ true → b ≡ true → (a && b) ≡ true
+pub both_yes : (a b : Bool) → a ≡ true → b ≡ true → (a && b) ≡ true
 both_yes true b h k = k
 both_yes false b h k = h
 

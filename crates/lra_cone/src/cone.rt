@@ -12,9 +12,10 @@ ghost use Rattle.lra_linear.specs.ConeStrain.{IsMet};
 ghost use Rattle.lra_sys.specs.Dimensions.{too_many_dimensions};
 ghost use Rattle.lra_sys.specs.Listed.{constraints};
 ghost use Rattle.lra_linear.specs.Kinds.{is_equality};
-ghost use Rattle.lra_cone.specs.Cones.{Shape, IsCone, IsTakenIn, saturation_of, whole_space};
+ghost use Rattle.lra_cone.specs.Cones.{Shape, IsCone, IsTakenIn, saturation_of, saturation_rows, whole_space};
 ghost use Rattle.lra_steps.specs.Pairs.{IsCut};
 ghost use Rattle.lra_steps.specs.Steps.{IsLastAcross};
+ghost use Rattle.lra_steps.specs.Thirds.{FewHaveThird};
 ghost use Rattle.lra_cone.specs.Strains.{IsConeError};
 ghost use Rattle.lra_cone.specs.Flat.{AreFlat, IsFlatError};
 
@@ -245,6 +246,15 @@ impl Cone {
         Ok(())
     }
 
+    // At least so many rows are tight at both of two adjacent rays: one fewer than there are dimensions beside the
+    // lines.
+    fn least_shared(&self) -> usize
+        ensures { FewHaveThird (saturation_rows self.now.taken self.now.rays) result }
+    {
+        let free = self.taken.dims().saturating_sub(self.lines.len());
+        free.saturating_sub(1)
+    }
+
     // Takes a row in where its product with each line is 0.
     fn cut(&mut self, row: &Row, kind: ConKind, products: &[i128]) -> Result<(), ConeError>
         requires width { length row.now ≡ suc self.old.dims }
@@ -256,7 +266,8 @@ impl Cone {
         ensures unchanged { OnErr result (self.new ≡ self.old) }
     {
         let alloc = *self.lines.allocator();
-        let made = cut_rays(alloc, &self.rays, &self.saturation, products, kind)?;
+        let least = self.least_shared();
+        let made = cut_rays(alloc, &self.rays, &self.saturation, products, kind, least)?;
         self.exchange_rays(row, kind, made)?;
         Ok(())
     }
@@ -273,14 +284,22 @@ impl Cone {
         let Cut {
             gone,
             rays: mut new_rays,
-            saturation,
+            tight,
+            more,
         } = made;
         self.rays.reserve(new_rays.len())?;
         self.taken.push_copy(row, kind)?;
-        let _ = self.rays.append(&mut new_rays);
-        remove_marked(&mut self.rays, &gone);
-        self.saturation = saturation;
-        Ok(())
+        match self.saturation.exchange(more, &tight, &gone) {
+            Ok(()) => {
+                let _ = self.rays.append(&mut new_rays);
+                remove_marked(&mut self.rays, &gone);
+                Ok(())
+            }
+            Err(_) => {
+                self.taken.pop();
+                Err(AllocError)
+            }
+        }
     }
 }
 

@@ -5,16 +5,15 @@ use Rattle.std.specs.List.{Contains}
 use Rattle.std.proofs.lemmas.Bool.{cases_lt}
 use Rattle.std.proofs.lemmas.Bool.Decides.{Decides-int_eq}
 use Rattle.std.proofs.lemmas.Int.{ints}
-use Rattle.std.proofs.lemmas.List.{take_more, append_assoc, get_or_past}
+use Rattle.std.proofs.lemmas.List.{take_more, get_or_past}
 use Rattle.std.proofs.lemmas.List.Elements.{Contains-append_cases, Contains-append_left, Contains-append_right}
-use Rattle.lra_bits.specs.Matrix.{Matrix}
 use Rattle.lra_bits.specs.TruthValues.{both}
 use Rattle.lra_linear.specs.Descriptions.{HoldsWith}
 use Rattle.lra_linear.specs.LowestTerms.{IsLowest}
 use Rattle.lra_linear.proofs.Membership.{contains_none, contains_cases, contains_head, contains_tail}
 use Rattle.lra_bits.proofs.Pairs.{both_length}
 use Rattle.lra_steps.specs.declared.pairs.Pair.{Pair}
-use Rattle.lra_steps.specs.Pairs.{HasThird, NoThird, TellsAdjacent, both_tight, IsAdjacentPair, AreApart, IsBefore, ArePairs, pair_sum, AreCombined, tight_rows}
+use Rattle.lra_steps.specs.Pairs.{HasThird, NoThird, TellsAdjacent, both_tight, IsAdjacentPair, AreApart, IsBefore, ArePairs, pair_sum, AreCombined}
 use Rattle.lra_steps.specs.Steps.{is_inside, inside_count}
 use Rattle.lra_steps.specs.declared.strained.ConeError as C
 use Rattle.lra_steps.specs.declared.strained.ConeError.TheVariants as of_cone
@@ -190,19 +189,6 @@ pub combined_more : (products : List ℤ) (rays : List (List ℤ)) (pairs : List
 combined_more products rays pairs k p ts new t h e n l a =
     subst (λ (ps : List Pair). AreCombined products rays ps new) (sym (take_more pairs k p h ∙ ap (λ (q : Pair). take k pairs ++ q ∷ []) (sym e)))
     (subst (λ (x : List (List ℤ)). AreCombined products rays (take k pairs ++ p ∷ []) x) (sym n) (combined_end products rays (take k pairs) ts p t a l))
-
-tight_push : (ps : List Pair) (p : Pair) → tight_rows (ps ++ p ∷ []) ≡ tight_rows ps ++ (p.tight ++ true ∷ []) ∷ []
-tight_push [] p = refl
-tight_push (q ∷ ps) p = ap (λ (x : List (List Bool)). (q.tight ++ true ∷ []) ∷ x) (tight_push ps p)
-
-pub tight_step : (first old new : Matrix) (pairs : List Pair) (k : ℕ) (p : Pair) (r : List Bool) → k < length pairs → p ≡ get_or pairs k p →
-    old ≡ record first { rows = first.rows ++ tight_rows (take k pairs) } → new ≡ record old { rows = old.rows ++ r ∷ [] } →
-    r ≡ p.tight ++ true ∷ [] → new ≡ record first { rows = first.rows ++ tight_rows (take (k + 1) pairs) }
-tight_step first old new pairs k p r h e i n q =
-    n ∙ ap (λ (m : Matrix). record m { rows = m.rows ++ r ∷ [] }) i ∙
-    ap (λ (ys : List (List Bool)). record { width = first.width; rows = ys })
-    (append_assoc first.rows (tight_rows (take k pairs)) (r ∷ []) ∙ ap (λ (y : List Bool). first.rows ++ (tight_rows (take k pairs) ++ y ∷ [])) q ∙
-    ap (λ (ys : List (List Bool)). first.rows ++ ys) (sym (ap tight_rows (take_more pairs k p h ∙ ap (λ (x : Pair). take k pairs ++ x ∷ []) (sym e)) ∙ tight_push (take k pairs) p)))
 
 -- ---- counting
 count_push : (equal : Bool) (ps : List ℤ) (p : ℤ) → inside_count equal (ps ++ p ∷ []) ≡ inside_count equal ps + cond (is_inside equal p) 1 0

@@ -1,11 +1,13 @@
 -- Third rays, as rows of the matrix that are true wherever two others are.
-use Rattle.std.proofs.Common.{◌≡◌, ℕ, ◌+◌, Bool, false, List, Option, Some, None, sym, subst, ◌∙◌, arith, inl, inr}
+use Rattle.std.proofs.Common.{◌≡◌, ℕ, ◌+◌, ◌<◌, ◌≤◌, Bool, false, List, [], length, get_or, Option, Some, None, ap, sym, subst, ◌∙◌, arith, inl, inr}
+use Rattle.std.specs.Prelude.{IsTrue}
 use Rattle.std.proofs.lemmas.Bool.{cases_lt}
 use Rattle.lra_bits.specs.Matrix.{Matrix, TellsWithin}
-use Rattle.lra_bits.specs.TruthValues.{value_at}
-use Rattle.lra_steps.specs.Pairs.{both_tight}
+use Rattle.lra_bits.specs.TruthValues.{value_at, both, true_count}
+use Rattle.lra_bits.proofs.WithinRows.{not_said}
+use Rattle.lra_steps.specs.Pairs.{HasThird, both_tight}
 use Rattle.lra_steps.specs.Steps.{IsFilled}
-use Rattle.lra_steps.specs.Thirds.{TellsThird}
+use Rattle.lra_steps.specs.Thirds.{TellsThird, FewHaveThird}
 
 -- ---- a value that stays false
 pub filled_skip : (f : ℕ → Bool) (n k : ℕ) (values : List Bool) (b : Bool) → b ≡ f k → b ≡ false → IsFilled f n k values → IsFilled f n (k + 1) values
@@ -23,3 +25,13 @@ filled_skip f n k values b e z h = (
 pub within_told : (m : Matrix) (up down : ℕ) (r : Option ℕ) → TellsWithin m up down r → TellsThird m.rows up down (both_tight m.rows up down) r
 within_told m up down None none = none
 within_told m up down (Some k) h = record { third = k; inside = h.0; not_up = h.1; not_down = h.2; covers = h.3 }
+
+-- two rays of which it is told that they don't share so many rows have a third
+pub few_told : (rows : List (List Bool)) (up down least : ℕ) (first second : List Bool) (b : Bool) → first ≡ get_or rows up [] → second ≡ get_or rows down [] →
+    (least ≤ true_count (both first second) → IsTrue b) → b ≡ false → FewHaveThird rows least → up < length rows → down < length rows → HasThird rows up down (both_tight rows up down)
+few_told rows up down least first second b ef es told e few hu hd =
+    let is : both first second ≡ both_tight rows up down = ap (λ (x : List Bool). both x second) ef ∙ ap (both (get_or rows up [])) es in
+    few up down hu hd (elim (cases_lt (true_count (both_tight rows up down)) least) [
+      | inl h ↦ h
+      | inr g ↦ absurd (not_said b e told (subst (λ (x : List Bool). least ≤ true_count x) (sym is) g))
+    ])

@@ -91,11 +91,13 @@ cut_matrix m products pairs gone = record {
   rows = unmarked gone (lengthened_rows m.rows (map (λ p. int_eq p (pos 0)) products) ++ tight_rows pairs);
 }
 
--- the marks of the rays that go, the rays that come, and the matrix of the new rays
+-- The marks of the rays that go, and the rays that come; where the row is tight at the rays and at the pairs' rays, and
+-- the rows that are tight at both of each pair.
 pub record IsCut (equal : Bool) (products : List ℤ) (rays : List (List ℤ)) (m : Matrix) (cut : Cut) : Type 0 where
   pub pairs : List Pair
   pub are_pairs : ArePairs products m.rows (length products) 0 pairs
   pub combined : AreCombined products rays pairs cut.rays.items
   pub marks : cut.gone ≡ outside_marks equal products ++ replicate (length pairs) false
-  pub matrix : cut.saturation ≡ cut_matrix m products pairs cut.gone
+  pub tight : cut.tight ≡ map (λ p. int_eq p (pos 0)) products ++ replicate (length pairs) true
+  pub more : cut.more ≡ record { width = m.width; rows = map (λ p. p.tight) pairs }
   pub few : inside_count equal products + length pairs ≤ row_limit

@@ -5,6 +5,7 @@ use Rattle.std.specs.Prelude.{false, cond, List, [], ◌∷◌, ◌++◌, length
 use Rattle.std.specs.Prelude.{take, drop, replicate, Result, Ok, Option, Some, None, slice_index_or}
 use Rattle.std.specs.Ordering.{int_eq}
 use Rattle.lra_bits.specs.Matrix.{Matrix}
+pub use Rattle.lra_bits.specs.Matrix.{lengthened_rows}
 use Rattle.lra_bits.specs.TruthValues.{value_at}
 use Rattle.lra_linear.specs.declared.Excess as E
 use Rattle.lra_linear.specs.Vectors.{entry, negated}
@@ -69,12 +70,6 @@ AreFlatRays equal line products rays new =
     (flat : List (List ℤ)) × (new ≡ cond equal flat (line.up ∷ flat)) × AreFlattened line products rays flat
 
 -- ---- the matrix
--- each row with a value behind it
-abbrev pub lengthened_rows : List (List Bool) → List Bool → List (List Bool)
-lengthened_rows [] last = []
-lengthened_rows (r ∷ rows) [] = []
-lengthened_rows (r ∷ rows) (b ∷ last) = (r ++ b ∷ []) ∷ lengthened_rows rows last
-
 -- with a line across: for an inequality the line is tight at all rows but the new one; the others are tight at it too
 abbrev pub flat_matrix : Bool → Matrix → Matrix
 flat_matrix equal m = record {

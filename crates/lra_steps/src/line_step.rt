@@ -12,9 +12,9 @@ ghost use Rattle.lra_steps.specs.Strains.{strained_pair, IsFlatteningError};
 ghost use Rattle.lra_steps.specs.declared.strained.Family.TheVariants.{Lines, Rays};
 ghost use Rattle.lra_linear.specs.Kinds.{is_equality};
 
-use crate::saturation::{all_true, lengthen, one_more, push_lengthened};
+use crate::saturation::{lengthen, one_more, push_lengthened};
 use crate::strained::{ConeError, Family, Member, Strained};
-use lra_bits::SatMatrix;
+use lra_bits::{BitRow, SatMatrix};
 use lra_linear::{ConKind, Excess};
 use lra_row::{Row, RowError, opposite, push_copies};
 use std::alloc::{AllocError, Global};
@@ -175,7 +175,7 @@ fn push_line(alloc: Global, wider: &mut SatMatrix, width: usize) -> Result<(), A
     ensures { OnOk result (wider.new ≡ record wider.old
         { rows = wider.old.rows ++ (replicate width true ++ false ∷ []) ∷ [] }) }
 {
-    let of_line = lengthen(&all_true(alloc, width)?, false)?;
+    let of_line = lengthen(&BitRow::all_true(alloc, width)?, false)?;
     wider.add_row(of_line)?;
     Ok(())
 }
@@ -193,7 +193,7 @@ pub fn flat_saturation(
     if kind == ConKind::Ge {
         push_line(alloc, &mut wider, width)?;
     }
-    let tight = all_true(alloc, saturation.height())?;
+    let tight = BitRow::all_true(alloc, saturation.height())?;
     push_lengthened(&mut wider, saturation, &tight)?;
     Ok(wider)
 }

@@ -7,7 +7,7 @@ ghost use Rattle.lra_bits.specs.TruthValues.{ArePlaces, IsSubset};
 ghost use Rattle.lra_steps.specs.Pairs.{TellsAdjacent, HasThird, ArePairs, both_tight};
 ghost use Rattle.lra_steps.specs.Below.{AreBelow};
 ghost use Rattle.lra_bits.specs.Turned.{AreColumns};
-ghost use Rattle.lra_steps.specs.Thirds.{TellsThird};
+ghost use Rattle.lra_steps.specs.Thirds.{TellsThird, FewHaveThird};
 
 use crate::columns::find_columns;
 use crate::sides::{count_above, places_below};
@@ -83,44 +83,52 @@ fn are_adjacent(
     }
 }
 
-// The adjacent pairs with the first ray at `up` and the second at one of these places, behind what is there.
+// The adjacent pairs with the first ray at `up` and the second at one of these places, behind what is there. Two rays
+// that share fewer tight rows than `least` are passed at once.
 fn push_pairs_of(
     pairs: &mut Vec<Pair>,
     up: usize,
     downs: &[usize],
     saturation: &SatMatrix,
     columns: &SatMatrix,
+    least: usize,
 ) -> Result<(), AllocError>
     requires inside { up < length saturation.now.rows }
     requires each { All (λ down. down < length saturation.now.rows) downs.now }
     requires columns { AreColumns saturation.now (length columns.now.rows) columns.now }
     requires most { length columns.now.rows ≤ saturation.now.width }
+    requires few { FewHaveThird saturation.now.rows least }
     ensures { OnOk result ((products : List ℤ) →
         pos 0 <ℤ slice_index_or products up (pos 0) → AreBelow products 0 (length products) downs.now →
         ArePairs products saturation.now.rows up 0 pairs.old.items →
         ArePairs products saturation.now.rows (up + 1) 0 pairs.new.items) }
 {
-    let places = saturation
-        .row(up)
-        .places(*pairs.allocator(), columns.height())?;
+    let first = saturation.row(up);
+    let places = first.places(*pairs.allocator(), columns.height())?;
     let mut known = up;
     for i in 0..downs.len() {
         let down = downs[i];
-        if are_adjacent(saturation, columns, &places, up, down, &mut known) {
-            let tight = saturation.row(up).common(saturation.row(down))?;
+        let second = saturation.row(down);
+        if first.shares(second, least)
+            && are_adjacent(saturation, columns, &places, up, down, &mut known)
+        {
+            let tight = first.common(second)?;
             pairs.push(Pair { up, down, tight })?;
         }
     }
     Ok(())
 }
 
-/// The adjacent pairs of rays on both sides.
+/// The adjacent pairs of rays on both sides. Two rays that share fewer tight rows than `least` are known not to be
+/// adjacent.
 pub fn adjacent_pairs(
     alloc: Global,
     products: &[i128],
     saturation: &SatMatrix,
+    least: usize,
 ) -> Result<Vec<Pair>, AllocError>
-    requires { length products.now ≡ length saturation.now.rows }
+    requires each { length products.now ≡ length saturation.now.rows }
+    requires few { FewHaveThird saturation.now.rows least }
     ensures { IfOk result (λ pairs. ArePairs products.now saturation.now.rows (length products.now) 0 pairs.items) }
 {
     let downs = places_below(alloc, products)?;
@@ -128,7 +136,7 @@ pub fn adjacent_pairs(
     let mut pairs = Vec::new(alloc);
     for up in 0..products.len() {
         if products[up] > 0 {
-            push_pairs_of(&mut pairs, up, &downs, saturation, &columns)?;
+            push_pairs_of(&mut pairs, up, &downs, saturation, &columns, least)?;
         }
     }
     Ok(pairs)

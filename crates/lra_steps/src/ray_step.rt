@@ -1,19 +1,20 @@
 //! The step where the product of each line with the row is 0: rays on the wrong side go, and adjacent pairs are
 //! combined.
 
-ghost use Rattle.std.specs.Prelude.{◌≡◌, ◌<◌, ◌≤◌, ◌^◌, ◌+◌, ◌++◌, suc, length, replicate, false, IfOk, IfErr, OnOk};
+ghost use Rattle.std.specs.Prelude.{◌≡◌, ◌<◌, ◌≤◌, ◌^◌, ◌+◌, ◌++◌, length, map, replicate, false, IfOk, IfErr};
 ghost use Rattle.std.specs.List.{All};
 ghost use Rattle.lra_linear.specs.LowestTerms.{IsLowest};
 ghost use Rattle.lra_linear.specs.Range.{InRange};
 ghost use Rattle.lra_linear.specs.ConeStrain.{row_limit};
 ghost use Rattle.lra_linear.specs.Kinds.{is_equality};
-ghost use Rattle.lra_steps.specs.Pairs.{HaveOneWidth, pair_sum, AreCombined, tight_rows, cut_matrix, IsCut};
+ghost use Rattle.lra_steps.specs.Pairs.{HaveOneWidth, pair_sum, AreCombined, IsCut};
 ghost use Rattle.lra_steps.specs.Steps.{outside_marks, inside_count};
+ghost use Rattle.lra_steps.specs.Thirds.{FewHaveThird};
 ghost use Rattle.lra_steps.specs.Strains.{IsPairError, ArePairsError, IsCutError};
 ghost use Rattle.lra_steps.specs.declared.strained.Family.TheVariants.{Rays};
 
 use crate::pairs::{Pair, adjacent_pairs};
-use crate::saturation::{lengthen, mark_tight, one_more, push_lengthened};
+use crate::saturation::mark_tight;
 use crate::strained::{ConeError, Family, Member, Strained};
 use lra_bits::{BitRow, SatMatrix};
 use lra_linear::ConKind;
@@ -112,56 +113,43 @@ pub fn combine_pairs(
     Ok(rows)
 }
 
-/// For each pair the rows that are tight at both, and the new row, behind what is there.
-pub fn push_tight(saturation: &mut SatMatrix, pairs: &[Pair]) -> Result<(), AllocError>
-    requires width { All (λ p. suc (length p.tight) ≡ saturation.old.width) pairs.now }
-    ensures { OnOk result (saturation.new ≡ record saturation.old
-        { rows = saturation.old.rows ++ tight_rows pairs.now }) }
+// For each pair the rows that are tight at both.
+fn rows_of_pairs(alloc: Global, width: usize, pairs: Vec<Pair>) -> Result<SatMatrix, AllocError>
+    requires { All (λ p. length p.tight ≡ width) pairs.items }
+    ensures { IfOk result (λ more.
+        more ≡ record { width = width; rows = map (λ p. p.tight) pairs.items }) }
 {
-    for pair in pairs {
-        let row = lengthen(&pair.tight, true)?;
-        saturation.add_row(row)?;
+    let mut more = SatMatrix::new(alloc, width);
+    'each: for pair in pairs {
+        let Pair {
+            up: _,
+            down: _,
+            tight,
+        } = pair;
+        more.add_row(tight)?;
     }
-    Ok(())
+    Ok(more)
 }
 
-// The matrix of the new rays: one more column, without the rows that are marked as gone, and a row for each pair.
-fn cut_saturation(
-    alloc: Global,
-    saturation: &SatMatrix,
-    products: &[i128],
-    pairs: &[Pair],
-    gone: &BitRow,
-) -> Result<SatMatrix, AllocError>
-    requires each { length products.now ≡ length saturation.now.rows }
-    requires tight { All (λ p. length p.tight ≡ saturation.now.width) pairs.now }
-    requires marks { length gone.now ≡ length products.now + length pairs.now }
-    ensures { IfOk result (λ made. made ≡ cut_matrix saturation.now products.now pairs.now gone.now) }
-{
-    let width = one_more(saturation.width())?;
-    let mut wider = SatMatrix::new(alloc, width);
-    push_lengthened(&mut wider, saturation, &mark_tight(alloc, products)?)?;
-    push_tight(&mut wider, pairs)?;
-    wider.remove_rows(gone);
-    Ok(wider)
-}
-
-/// What a row makes of the rays: those marked as gone go, and these come behind the others; and the matrix of the new
-/// rays.
+/// What a row makes of the rays: those marked as gone go, and these come behind the others. Where the row is tight at
+/// the rays and at these, and for each of these the rows of the matrix that are tight at it.
 #[derive(Drop)]
 pub struct Cut {
     pub gone: BitRow,
     pub rays: Vec<Row>,
-    pub saturation: SatMatrix,
+    pub tight: BitRow,
+    pub more: SatMatrix,
 }
 
-/// Takes the row with these products in.
+/// Takes the row with these products in. Two rays that share fewer tight rows than `least` are known not to be
+/// adjacent.
 pub fn cut_rays(
     alloc: Global,
     rays: &[Row],
     saturation: &SatMatrix,
     products: &[i128],
     kind: ConKind,
+    least: usize,
 ) -> Result<Cut, ConeError>
     requires each { length products.now ≡ length rays.now }
     requires matrix { length products.now ≡ length saturation.now.rows }
@@ -169,10 +157,11 @@ pub fn cut_rays(
     requires in_range { All InRange products.now }
     requires widths { HaveOneWidth rays.now }
     requires few { length rays.now ≤ row_limit }
+    requires thirds { FewHaveThird saturation.now.rows least }
     ensures ok { IfOk result (IsCut (is_equality kind) products.now rays.now saturation.now) }
     ensures strained { IfErr result (IsCutError (is_equality kind) products.now rays.now saturation.now) }
 {
-    let pairs = adjacent_pairs(alloc, products, saturation)?;
+    let pairs = adjacent_pairs(alloc, products, saturation, least)?;
     let count = count_inside(products, kind) + pairs.len();
     if count > RAY_LIMIT {
         return Err(ConeError::Strained(Strained::TooMany(count)));
@@ -182,10 +171,12 @@ pub fn cut_rays(
         Err(error) => return Err(error),
     };
     let gone = mark_outside(alloc, products, kind, pairs.len())?;
-    let made = cut_saturation(alloc, saturation, products, &pairs, &gone)?;
+    let tight = mark_tight(alloc, products, pairs.len())?;
+    let more = rows_of_pairs(alloc, saturation.width(), pairs)?;
     Ok(Cut {
         gone,
         rays: new_rays,
-        saturation: made,
+        tight,
+        more,
     })
 }

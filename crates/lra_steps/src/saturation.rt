@@ -1,28 +1,20 @@
 //! The matrix of the rows that are tight at the rays, as a row is taken in.
 
-ghost use Rattle.std.specs.Prelude.{◌≡◌, ◌+◌, ◌++◌, ◌∷◌, [], pos, suc, length, map, replicate, true, IfOk, OnOk};
+ghost use Rattle.std.specs.Prelude.{◌≡◌, ◌+◌, ◌<◌, ◌^◌, ◌++◌, ◌∷◌, [], pos, suc, true, length, map};
+ghost use Rattle.std.specs.Prelude.{replicate, IfOk, OnOk};
 ghost use Rattle.std.specs.Ordering.{int_eq};
 ghost use Rattle.lra_steps.specs.Steps.{lengthened_rows};
 
 use lra_bits::{BitRow, SatMatrix};
 use std::alloc::{AllocError, Global};
 
-/// So many truth values, all true.
-pub fn all_true(alloc: Global, width: usize) -> Result<BitRow, AllocError>
-    ensures { IfOk result (λ values. values ≡ replicate width true) }
+/// True where the product is 0, and at so many further places.
+pub fn mark_tight(alloc: Global, products: &[i128], further: usize) -> Result<BitRow, AllocError>
+    requires { length products.now + further < 2 ^ 64 }
+    ensures { IfOk result (λ values.
+        values ≡ map (λ p. int_eq p (pos 0)) products.now ++ replicate further true) }
 {
-    let mut values = BitRow::new(alloc, width)?;
-    for k in 0..width {
-        values.set(k, true);
-    }
-    Ok(values)
-}
-
-/// True where the product is 0.
-pub fn mark_tight(alloc: Global, products: &[i128]) -> Result<BitRow, AllocError>
-    ensures { IfOk result (λ values. values ≡ map (λ p. int_eq p (pos 0)) products.now) }
-{
-    let mut values = BitRow::new(alloc, products.len())?;
+    let mut values = BitRow::all_true(alloc, products.len() + further)?;
     for k in 0..products.len() {
         values.set(k, products[k] == 0);
     }

@@ -4,3 +4,4 @@ pub mod Generators
 pub mod MembershipExamples
 pub mod GivenRows
 pub mod SameLists
+pub mod Popped

@@ -1,6 +1,7 @@
 //! Rows of one width, each with a kind.
 
-ghost use Rattle.std.specs.Prelude.{◌≡◌, ◌++◌, ◌∷◌, [], suc, ◌<◌, length, IfOk, OnOk, OnErr, Some, slice_get};
+ghost use Rattle.std.specs.Prelude.{◌≡◌, ◌++◌, ◌∷◌, [], suc, ◌<◌, ◌-◌, length, take, IfOk, OnOk, OnErr};
+ghost use Rattle.std.specs.Prelude.{Some, slice_get};
 ghost use Rattle.std.specs.List.{All};
 ghost use Rattle.lra_linear.specs.Range.{InRange};
 ghost use Rattle.lra_sys.specs.Dimensions.{too_many_dimensions};
@@ -118,6 +119,16 @@ impl<K: Copy> System<K> {
     {
         let copied = row.copy()?;
         self.push(copied, kind)
+    }
+
+    /// Takes the last row out, if there is one.
+    pub fn pop(&mut self)
+        ensures dims { self.new.dims ≡ self.old.dims }
+        ensures rows { self.new.rows ≡ take (length self.old.rows - 1) self.old.rows }
+        ensures kinds { self.new.kinds ≡ take (length self.old.kinds - 1) self.old.kinds }
+    {
+        let _row = self.rows.pop();
+        let _kind = self.kinds.pop();
     }
 
     /// The rows, in order.

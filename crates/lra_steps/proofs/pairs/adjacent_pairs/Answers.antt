@@ -26,7 +26,7 @@ pub push_pairs_of-requires-clause-each : goal.push_pairs_of-requires-clause-each
 push_pairs_of-requires-clause-each c =
     let downs = c.in_ok-downs.downs.items in
     let inside = below_inside c.args.products.now 0 (length c.args.products.now) downs c.in_ok-downs.ensures in
-    rw c.deref.ensures.value (subst (λ (n : ℕ). All (λ (down : ℕ). down < n) downs) c.requires inside)
+    rw c.deref.ensures.value (subst (λ (n : ℕ). All (λ (down : ℕ). down < n) downs) c.requires.each inside)
 
 pub returns : goal.returns
 returns c =

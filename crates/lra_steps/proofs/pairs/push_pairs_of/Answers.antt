@@ -1,9 +1,11 @@
 -- Goals of `push_pairs_of`: the adjacent pairs with the first ray at `up`, behind what is there.
 use Rattle.std.proofs.Common.{refl, get_or}
-use Rattle.lra_steps.proofs.PairLists.{pairs_skip_third, pairs_push}
+use Rattle.lra_steps.proofs.PairLists.{pairs_skip, pairs_skip_third, pairs_push}
 use Rattle.lra_steps.proofs.PairsBelow.{goes_first, pairs_here, below_here, goes_next, goes_end}
+use Rattle.lra_steps.proofs.Thirds.{few_told}
 use Rattle.lra_steps.proofs.pairs.push_pairs_of.Goals as goal
-use Rattle.lra_steps.proofs.pairs.push_pairs_of.Goals.{then-are_adjacent+in_ok-tight+in_ok-push, else-are_adjacent}
+use Rattle.lra_steps.proofs.pairs.push_pairs_of.Goals.{then-shares+then-are_adjacent+in_ok-tight+in_ok-push, else-shares}
+use Rattle.lra_steps.proofs.pairs.push_pairs_of.Goals.{else-shares-via-then-shares+else-are_adjacent, else-shares-via-else-shares}
 
 pub loop-i-init : goal.loop-i-init
 loop-i-init c = λ products above below first. goes_first products c.args.saturation.now.rows c.args.up c.args.downs.now c.args.pairs.now.items below first
@@ -19,13 +21,18 @@ loop-i-preserved c = λ products above below first.
     let before = c.loop-i.invariant products above below first in
     let inside = c.loop-i-test.true in
     let here = pairs_here products rows up downs i ps inside before in
-    elim c.if-are_adjacent.branch [
-      | then-are_adjacent+in_ok-tight+in_ok-push w ↦ rw (w.pairs-is) (goes_next products rows up downs i ps inside before w.push.new.self.items
-          (pairs_push products rows up down ps w.push.new.self.items _ w.row-then-are_adjacent.result.now w.row-then-are_adjacent-2.result.now c.are_adjacent.result refl refl
-          w.in_ok-push.ensures.items above (below_here products rows up downs i ps inside before) w.row-then-are_adjacent.ensures.row w.row-then-are_adjacent-2.ensures.row
-          w.in_ok-tight.ensures c.are_adjacent.ensures w.if-are_adjacent.true here))
-      | else-are_adjacent w ↦ rw (w.pairs-is) (goes_next products rows up downs i ps inside before ps
-          (pairs_skip_third products rows up down ps c.are_adjacent.result c.are_adjacent.ensures w.if-are_adjacent.false here))
+    elim c.if-shares.branch [
+      | then-shares+then-are_adjacent+in_ok-tight+in_ok-push w ↦ rw (w.pairs-is) (goes_next products rows up downs i ps inside before w.push.new.self.items
+          (pairs_push products rows up down ps w.push.new.self.items _ c.row-first.result.now c.row-second.result.now w.are_adjacent.result refl refl
+          w.in_ok-push.ensures.items above (below_here products rows up downs i ps inside before) c.row-first.ensures.row c.row-second.ensures.row
+          w.in_ok-tight.ensures w.are_adjacent.ensures w.if-are_adjacent.true here))
+      | else-shares w ↦ elim w.else-shares.branch [
+        | else-shares-via-then-shares+else-are_adjacent v ↦ rw (w.pairs-is) (goes_next products rows up downs i ps inside before ps
+            (pairs_skip_third products rows up down ps v.are_adjacent.result v.are_adjacent.ensures v.if-are_adjacent.false here))
+        | else-shares-via-else-shares v ↦ rw (w.pairs-is) (goes_next products rows up downs i ps inside before ps
+            (pairs_skip products rows up down ps (λ _ _. few_told rows up down c.args.least c.row-first.result.now c.row-second.result.now c.shares.result c.row-first.ensures.row
+            c.row-second.ensures.row c.shares.ensures.1 v.if-shares.false c.requires.few c.requires.inside (c.requires.each i 0 inside)) here))
+      ]
     ]
 
 pub returns : goal.returns

@@ -9,8 +9,9 @@ use Rattle.lra_linear.specs.Vectors.{product}
 use Rattle.lra_linear.specs.Descriptions.{Given}
 use Rattle.lra_sys.specs.Listed.{constraints}
 use Rattle.lra_linear.specs.Kinds.{is_equality}
-use Rattle.lra_cone.specs.Cones.{Shape, IsCone, saturation_of}
+use Rattle.lra_cone.specs.Cones.{Shape, IsCone, saturation_of, saturation_rows}
 use Rattle.lra_steps.specs.Pairs.{IsCut}
+use Rattle.lra_steps.specs.Thirds.{FewHaveThird}
 use Rattle.lra_steps.specs.Strains.{IsCutError}
 use Rattle.lra_cone.specs.Strains.{IsConeError}
 use Rattle.lra_cone.proofs.StrainLemmas.{cut_cone_error}
@@ -42,6 +43,12 @@ cut_rays-requires-clause-widths c =
     let products = c.args.products.now in
     let er : products ≡ map (product row) s.rays = c.requires.of_rays ∙ ap (λ (x : Shape). map (product row) x.rays) (sym c.self.view_is) in
     rays_have_one_width s c.deref.result.now k c.deref.ensures.value
+
+pub cut_rays-requires-clause-thirds : goal.cut_rays-requires-clause-thirds
+cut_rays-requires-clause-thirds c =
+    let least = c.least_shared-least.result in
+    subst (λ (m : Matrix). FewHaveThird m.rows least) (sym c.self.invariant.1)
+    (subst (λ (z : Shape). FewHaveThird (saturation_rows z.taken z.rays) least) (sym c.self.view_is) c.least_shared-least.ensures)
 
 pub exchange_rays-requires-clause-cut : goal.exchange_rays-requires-clause-cut
 exchange_rays-requires-clause-cut c =

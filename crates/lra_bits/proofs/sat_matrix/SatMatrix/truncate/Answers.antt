@@ -1,0 +1,11 @@
+-- Goals of `SatMatrix::truncate`: keeps so many rows at the front.
+use Rattle.std.proofs.Common.{List, Bool, length, subst, sym, ◌≡◌}
+use Rattle.std.specs.List.{All}
+use Rattle.std.proofs.lemmas.List.Elements.{All-take}
+use Rattle.lra_bits.proofs.sat_matrix.SatMatrix.truncate.Goals as goal
+
+pub invariant_of-self : goal.invariant_of-self
+invariant_of-self c =
+    let i = c.self.inside in
+    subst (All (λ (r : List Bool). length r ≡ i.width)) (sym c.truncate.ensures.items)
+    (All-take (λ (r : List Bool). length r ≡ i.width) c.args.count i.rows.items c.self.invariant)
