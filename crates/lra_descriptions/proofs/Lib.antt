@@ -2,3 +2,5 @@
 pub mod SeveralKinds
 pub mod Parted
 pub mod Validity
+pub mod KnownLists
+pub mod TightLemmas

@@ -170,17 +170,26 @@ one_left f appends rows k r items h e none ei = ei ∙ sym (append-nil (f (take 
 All-from_contains : (P : List ℤ → Type 0) (rows : List (List ℤ)) → ((r : List ℤ) → Contains rows r → P r) → All P rows
 All-from_contains P rows h = All-from_get_or P rows [] (λ i l. h (get_or rows i []) (Contains-get_or rows i [] l))
 
+pub all_points : (w : ℕ) (rays : List (List ℤ)) → All (λ r. length r ≡ w) rays → All (λ r. length r ≡ w) (points_of rays)
+all_points w rays h = All-from_contains (λ r. length r ≡ w) (points_of rays) (λ r m. All-contains (λ r. length r ≡ w) rays r h (points_from rays r m).0)
+
+pub all_directions : (w : ℕ) (rays : List (List ℤ)) → All (λ r. length r ≡ w) rays → All (λ r. length r ≡ w) (directions_of rays)
+all_directions w rays h = All-from_contains (λ r. length r ≡ w) (directions_of rays) (λ r m. All-contains (λ r. length r ≡ w) rays r h (directions_from rays r m).0)
+
+pub all_without : (w : ℕ) (row : List ℤ) (rays : List (List ℤ)) → All (λ r. length r ≡ w) rays → All (λ r. length r ≡ w) (without row rays)
+all_without w row rays h = All-from_contains (λ r. length r ≡ w) (without row rays) (λ r m. All-contains (λ r. length r ≡ w) rays r h (without_from row rays r m).0)
+
 pub points_widths : (w : ℕ) (rays points : List (List ℤ)) → All (λ r. length r ≡ w) rays → IsPermutation (points_of rays) points → All (λ r. length r ≡ w) points
 points_widths w rays points h p = All-permutation (λ r. length r ≡ w) (points_of rays) points p
-    (All-from_contains (λ r. length r ≡ w) (points_of rays) (λ r m. All-contains (λ r. length r ≡ w) rays r h (points_from rays r m).0))
+    (all_points w rays h)
 
 pub directions_widths : (w : ℕ) (rays directions : List (List ℤ)) → All (λ r. length r ≡ w) rays → IsPermutation (directions_of rays) directions → All (λ r. length r ≡ w) directions
 directions_widths w rays directions h p = All-permutation (λ r. length r ≡ w) (directions_of rays) directions p
-    (All-from_contains (λ r. length r ≡ w) (directions_of rays) (λ r m. All-contains (λ r. length r ≡ w) rays r h (directions_from rays r m).0))
+    (all_directions w rays h)
 
 pub without_widths : (w : ℕ) (row : List ℤ) (rays others : List (List ℤ)) → All (λ r. length r ≡ w) rays → IsPermutation (without row rays) others → All (λ r. length r ≡ w) others
 without_widths w row rays others h p = All-permutation (λ r. length r ≡ w) (without row rays) others p
-    (All-from_contains (λ r. length r ≡ w) (without row rays) (λ r m. All-contains (λ r. length r ≡ w) rays r h (without_from row rays r m).0))
+    (all_without w row rays h)
 
 -- ---- the list of generators, as it is put together
 pub put_together : {E : Type 0} (lines rays points directions : List (List ℤ)) (result : Result (Listed GenKind) E) → IsPermutation (points_of rays) points →

@@ -1,2 +1,4 @@
 -- The lists that are shown of a cone.
 pub mod ShownLists
+-- Which rows are tight at which others.
+pub mod Tightness

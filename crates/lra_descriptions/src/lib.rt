@@ -1,8 +1,10 @@
 //! Lists that describe sets of points: as they are shown of a cone, and as they are taken into one.
 #![tactic(auto)]
 
+mod known;
 mod lists;
 mod shown;
 
+pub use known::{KnownConstraints, KnownGenerators, known_constraints, known_generators};
 pub use lists::{dual_rows, has_point, nothing, valid_rows};
 pub use shown::{constraint_list, generator_list};

@@ -18,7 +18,7 @@ use lra_sys::{ConKind, ConSys, GenKind, GenSys};
 use std::alloc::{AllocError, Global};
 
 // Whether column 0 is above 0.
-fn is_point(ray: &Row) -> bool
+pub(crate) fn is_point(ray: &Row) -> bool
     requires { 0 < length ray.now }
     ensures { result ≡ int_lt (pos 0) (entry ray.now 0) }
 {
@@ -26,7 +26,7 @@ fn is_point(ray: &Row) -> bool
 }
 
 // Whether the rows are equal.
-fn are_same(row: &Row, other: &Row) -> bool
+pub(crate) fn are_same(row: &Row, other: &Row) -> bool
     ensures { result ≡ is_eq (row_cmp row.now other.now) }
 {
     row.compare(other).is_eq()
@@ -74,7 +74,11 @@ fn others(alloc: Global, rows: &[Row], row: &Row) -> Result<Vec<Row>, AllocError
 }
 
 // The rows behind what is there.
-fn push_generators(list: &mut GenSys, rows: &[Row], kind: GenKind) -> Result<(), AllocError>
+pub(crate) fn push_generators(
+    list: &mut GenSys,
+    rows: &[Row],
+    kind: GenKind,
+) -> Result<(), AllocError>
     requires { All (λ r. length r ≡ suc list.old.dims) rows.now }
     ensures dims { list.new.dims ≡ list.old.dims }
     ensures rows { OnOk result (list.new.rows ≡ list.old.rows ++ rows.now) }
@@ -99,7 +103,11 @@ fn move_generators(list: &mut GenSys, rows: Vec<Row>, kind: GenKind) -> Result<(
     Ok(())
 }
 
-fn push_constraints(list: &mut ConSys, rows: &[Row], kind: ConKind) -> Result<(), AllocError>
+pub(crate) fn push_constraints(
+    list: &mut ConSys,
+    rows: &[Row],
+    kind: ConKind,
+) -> Result<(), AllocError>
     requires { All (λ r. length r ≡ suc list.old.dims) rows.now }
     ensures dims { list.new.dims ≡ list.old.dims }
     ensures rows { OnOk result (list.new.rows ≡ list.old.rows ++ rows.now) }

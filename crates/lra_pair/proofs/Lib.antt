@@ -10,3 +10,4 @@ pub mod PairLists
 pub mod PairLosses
 pub mod GeneratorPairs
 pub mod MadeLemmas
+pub mod KnownPairs

@@ -162,7 +162,7 @@ given_length : (b : Bool) (rows : List (List ℤ)) → length (given_as b rows) 
 given_length b [] = refl
 given_length b (r ∷ rows) = ap suc (given_length b rows)
 
-many_generators : (s : Shape) → length (cone_generators s) ≡ length s.rays + length s.lines
+pub many_generators : (s : Shape) → length (cone_generators s) ≡ length s.rays + length s.lines
 many_generators s = length-append (given_as false s.rays) (given_as true s.lines) ∙ ap (λ (n : ℕ). n + length (given_as true s.lines)) (given_length false s.rays) ∙
     ap (λ (n : ℕ). length s.rays + n) (given_length true s.lines)
 

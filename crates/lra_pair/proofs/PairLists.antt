@@ -80,7 +80,7 @@ few_lists p system g c a b e f few less =
     at_most x y same less = subst (λ (z : ℕ). z ≤ row_limit) (sym same) less
 
 -- another description of what a system generates is dual to the same rows
-own_dual : (w : ℕ) (system rows lines rays : List (List ℤ)) → AreDual w system rows → IsCanonicalOf w system lines rays → AreDual w rows (all_rows lines rays)
+pub own_dual : (w : ℕ) (system rows lines rays : List (List ℤ)) → AreDual w system rows → IsCanonicalOf w system lines rays → AreDual w rows (all_rows lines rays)
 own_dual w system rows lines rays d o =
     dual_same_cone w rows system (all_rows lines rays) (dual_flipped w system rows d) o.widths (λ t m. (o.same (entry t)).0 (generated_row system t m))
     (λ t m. (o.same (entry t)).1 (generated_row (all_rows lines rays) t m))

@@ -11,7 +11,9 @@ use Rattle.lra_linear.specs.Polyhedra.{positivity}
 use Rattle.lra_linear.specs.declared.Cause.{Cause}
 use Rattle.lra_linear.specs.declared.Cause.TheVariants as of_cause
 use Rattle.lra_linear.specs.Strain.{Loss, is_tight_at, tight_rows, OwnReductionPasses, OwnTooMany}
+use Rattle.lra_bits.specs.Matrix.{Matrix}
 use Rattle.lra_bits.specs.TruthValues.{value_at}
+use Rattle.lra_descriptions.specs.Tightness.{tight_matrix}
 use Rattle.lra_linear.specs.Reduction.{ReductionPasses}
 use Rattle.lra_canon.specs.Reduced.{IsReducedBy}
 use Rattle.lra_row.specs.declared.error.RowError.{RowError}
@@ -88,3 +90,14 @@ pub record TellsOwnLoss (s : Shape) (reason : Cause) (before after : List Loss) 
   pub loss : Loss
   pub told : after ≡ before ++ loss ∷ []
   pub own : IsOwnLoss s reason loss
+
+-- ---- which rows are tight at which others
+-- the rays of a cone, and behind them its lines
+abbrev pub columns_of : Shape → List (List ℤ)
+columns_of s = s.rays ++ s.lines
+
+-- Where the old matrix says at which of the cone's rays and lines each row is tight, and all are at its lines, the new
+-- one says at which of the rows each of those shown is tight.
+abbrev pub TurnsTo : Shape → Matrix → List (List ℤ) → Matrix → Type 0
+TurnsTo s old shown new = (rows : List (List ℤ)) → old ≡ tight_matrix (columns_of s) rows →
+    ((l r : List ℤ) → Contains s.lines l → Contains rows r → product l r ≡ pos 0) → new ≡ tight_matrix rows shown

@@ -9,7 +9,8 @@ ghost use Rattle.lra_linear.specs.Descriptions.{rows_of};
 ghost use Rattle.lra_canon.specs.Reduced.{IsForm};
 ghost use Rattle.lra_canon.specs.Echelons.{HaveWidth};
 ghost use Rattle.lra_pair.specs.OwnLists.{TellsTight, AreParts, AreReducedBy, AnyReductionExcess};
-ghost use Rattle.lra_pair.specs.OwnLists.{IsOwnCause, IsOwnList, IsOwnExcess, tight_value};
+ghost use Rattle.lra_pair.specs.OwnLists.{IsOwnCause, IsOwnList, IsOwnExcess, columns_of, tight_value};
+ghost use Rattle.lra_descriptions.specs.Tightness.{tight_matrix};
 ghost use Rattle.lra_sys.specs.Dimensions.{too_many_dimensions};
 
 use lra_bits::{BitRow, SatMatrix};
@@ -98,6 +99,8 @@ fn read_row(
 // The parts of the rows taken in.
 fn part_rows(alloc: Global, cone: &Cone) -> Result<Parts, AllocError>
     ensures cone { IsCone cone.now }
+    ensures width { IfOk result (λ p.
+        p.saturation.width ≡ length cone.now.rays + length cone.now.lines) }
     ensures parts { IfOk result (λ p. AreParts cone.now.rays (length cone.now.lines) (rows_of cone.now.taken)
         p.tight.items p.loose.items p.saturation.rows) }
 {
@@ -165,11 +168,22 @@ pub struct Own {
     pub rays: Vec<Row>,
 }
 
+/// Lines and rays as of `Own`, and at which of the cone's rays, and lines behind them, each of the rays is tight.
+#[derive(Drop)]
+pub struct MarkedOwn {
+    pub lines: Vec<Row>,
+    pub rays: Vec<Row>,
+    pub saturation: SatMatrix,
+}
+
 /// The canonical description of what the rows taken into the cone generate: of constraints the canonical equalities and
-/// inequalities, of generators the canonical lines and rays. Or names a number that passes the range in it.
-pub fn find_own_list(alloc: Global, cone: &Cone) -> Result<Own, RowError>
+/// inequalities, of generators the canonical lines and rays, with the matrix of its rays. Or names a number that passes
+/// the range in it.
+pub fn find_marked_list(alloc: Global, cone: &Cone) -> Result<MarkedOwn, RowError>
     requires { cone.now.dims < too_many_dimensions }
     ensures ok { IfOk result (λ own. IsOwnList cone.now own.lines.items own.rays.items) }
+    ensures matrix { IfOk result (λ own.
+        own.saturation ≡ tight_matrix (columns_of cone.now) own.rays.items) }
     ensures excess { IfErr result (IsOwnExcess cone.now) }
 {
     let Parts {
@@ -180,18 +194,40 @@ pub fn find_own_list(alloc: Global, cone: &Cone) -> Result<Own, RowError>
     echelon(&mut lines)?;
     reduce_all(&mut rays, &lines, cone.dims() + 1)?;
     drop_redundant(&mut rays, &mut saturation)?;
+    Ok(MarkedOwn {
+        lines,
+        rays,
+        saturation,
+    })
+}
+
+/// The canonical description of what the rows taken into the cone generate: of constraints the canonical equalities and
+/// inequalities, of generators the canonical lines and rays. Or names a number that passes the range in it.
+pub fn find_own_list(alloc: Global, cone: &Cone) -> Result<Own, RowError>
+    requires { cone.now.dims < too_many_dimensions }
+    ensures ok { IfOk result (λ own. IsOwnList cone.now own.lines.items own.rays.items) }
+    ensures excess { IfErr result (IsOwnExcess cone.now) }
+{
+    let own = find_marked_list(alloc, cone)?;
+    let MarkedOwn {
+        lines,
+        rays,
+        saturation: _,
+    } = own;
     Ok(Own { lines, rays })
 }
 
-/// The canonical description of what the rows taken into the cone generate, within the limit of a description; or why
-/// there is none: a number passes the range in it, or it has too many rays.
-pub fn limit_own_list(alloc: Global, cone: &Cone) -> Result<Result<Own, Cause>, AllocError>
+/// The canonical description of what the rows taken into the cone generate, within the limit of a description, with the
+/// matrix of its rays; or why there is none: a number passes the range in it, or it has too many rays.
+pub fn limit_own_list(alloc: Global, cone: &Cone) -> Result<Result<MarkedOwn, Cause>, AllocError>
     requires { cone.now.dims < too_many_dimensions }
     ensures list { IfOk result (λ list. IfOk list (λ own. IsOwnList cone.now own.lines.items own.rays.items)) }
     ensures few { IfOk result (λ list. IfOk list (λ own. length own.rays.items ≤ row_limit)) }
+    ensures matrix { IfOk result (λ list. IfOk list (λ own.
+        own.saturation ≡ tight_matrix (columns_of cone.now) own.rays.items)) }
     ensures cause { IfOk result (λ list. IfErr list (IsOwnCause cone.now)) }
 {
-    match find_own_list(alloc, cone) {
+    match find_marked_list(alloc, cone) {
         Ok(own) => {
             let count = own.rays.len();
             if count > RAY_LIMIT {

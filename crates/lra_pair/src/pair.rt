@@ -16,23 +16,32 @@ ghost use Rattle.lra_linear.specs.declared.Cause as told;
 ghost use Rattle.lra_linear.specs.declared.GenKind.TheVariants.{Point};
 ghost use Rattle.lra_pair.specs.KeptRows.{IsOfSome};
 ghost use Rattle.lra_pair.specs.Made.{IsMadeOfGenerators, IsMadeOfRows};
+ghost use Rattle.lra_descriptions.specs.ShownLists.{ShowsConstraints, ShowsGenerators};
+ghost use Rattle.lra_descriptions.specs.Tightness.{saturation_of, tight_matrix};
 ghost use Rattle.lra_pair.specs.OwnLists.{IsOwnCause, IsOwnList, IsOwnLoss, IsPositive, TellsOwnLoss};
+ghost use Rattle.lra_pair.specs.OwnLists.{TurnsTo, columns_of};
 ghost use Rattle.lra_pair.specs.TakenPoints.{AreTaken, IsMadeOfPoints, IsOfFirst, IsOfPoints, most_kept};
 ghost use Rattle.lra_pair.specs.TriedRows.{IsMadeOf, IsOfTried, StrainsWhenTried};
 
-use crate::own::{Own, limit_own_list};
+use crate::own::{MarkedOwn, limit_own_list};
 use crate::valid::valid_list;
+use lra_bits::{BitRow, SatMatrix};
 use lra_cone::{Cone, Conversion, Loss, positive_cone, take_rows};
-use lra_descriptions::{constraint_list, dual_rows, generator_list, has_point, nothing};
+use lra_descriptions::{
+    KnownConstraints, KnownGenerators, dual_rows, generator_list, has_point, known_constraints,
+    known_generators, nothing,
+};
 use lra_linear::Cause;
 use lra_sys::{ConSys, GenSys, TOO_MANY_DIMENSIONS, unit};
 use std::alloc::{AllocError, Global};
 use std::marker::Model;
 
-/// A closed polyhedron by its canonical constraints and its canonical generators.
+/// A closed polyhedron by its canonical constraints and its canonical generators, and which of the ones are tight at
+/// which of the others.
 pub struct Pair {
     rows: ConSys,
     by_generators: GenSys,
+    saturation: SatMatrix,
 }
 
 impl Drop for Pair {
@@ -40,6 +49,7 @@ impl Drop for Pair {
         let Pair {
             rows: _,
             by_generators: _,
+            saturation: _,
         } = self;
     }
 }
@@ -49,6 +59,7 @@ impl Model for Pair {
     ghost use Rattle.lra_linear.specs.Formed.{KeepsLimit};
     ghost use Rattle.lra_linear.specs.Polyhedra.{Polyhedron, IsPolyhedron};
     ghost use Rattle.lra_sys.specs.Listed.{constraints, generators, FitKinds};
+    ghost use Rattle.lra_descriptions.specs.Tightness.{saturation_of};
 
     ghost Value = { Polyhedron };
 
@@ -59,7 +70,8 @@ impl Model for Pair {
         IsPolyhedron (record { dims = s.rows.dims; rows = constraints s.rows; generators = generators s.by_generators })
         × (s.by_generators.dims ≡ s.rows.dims) × FitKinds s.by_generators.rows s.by_generators.kinds
         × KeepsLimit
-        (record { dims = s.rows.dims; rows = constraints s.rows; generators = generators s.by_generators }) };
+        (record { dims = s.rows.dims; rows = constraints s.rows; generators = generators s.by_generators })
+        × (s.saturation ≡ saturation_of (constraints s.rows) (generators s.by_generators)) };
 }
 
 impl Pair {
@@ -91,21 +103,24 @@ impl Pair {
         &self.by_generators
     }
 
-    /// Both lists, handed on: the constraints and the generators.
-    pub fn into_lists(self) -> (ConSys, GenSys)
+    /// Both lists, handed on: the constraints and the generators; and which of the ones are tight at which of the
+    /// others.
+    pub fn into_parts(self) -> (ConSys, GenSys, SatMatrix)
         ensures dims { result.0.dims ≡ self.dims }
         ensures rows { constraints result.0 ≡ self.rows }
         ensures generator_dims { result.1.dims ≡ self.dims }
         ensures generators { generators result.1 ≡ self.generators }
         ensures kinds { FitKinds result.1.rows result.1.kinds }
+        ensures saturation { result.2 ≡ saturation_of (constraints result.0) (generators result.1) }
         ensures canonical { IsPolyhedron self }
         ensures limit { KeepsLimit self }
     {
         let Pair {
             rows,
             by_generators,
+            saturation,
         } = self;
-        (rows, by_generators)
+        (rows, by_generators, saturation)
     }
 }
 
@@ -116,9 +131,15 @@ fn empty(alloc: Global, n: usize) -> Result<Pair, AllocError>
     ensures rows { IfOk result (λ p. p.rows ≡ inequality (falsity n) ∷ []) }
     ensures generators { IfOk result (λ p. p.generators ≡ []) }
 {
+    let rows = nothing(alloc, n)?;
+    let by_generators = GenSys::new(alloc, n);
+    let bits = BitRow::new(alloc, 0)?;
+    let mut saturation = SatMatrix::new(alloc, 0);
+    saturation.add_row(bits)?;
     Ok(Pair {
-        rows: nothing(alloc, n)?,
-        by_generators: GenSys::new(alloc, n),
+        rows,
+        by_generators,
+        saturation,
     })
 }
 
@@ -129,52 +150,136 @@ pub fn universe(alloc: Global, n: usize) -> Result<Pair, AllocError>
 {
     let cone = positive_cone(alloc, n)?;
     let generators = generator_list(alloc, n, cone.lines(), cone.rays())?;
-    Ok(Pair {
-        rows: ConSys::new(alloc, n),
-        by_generators: generators,
-    })
-}
-
-// The polyhedron of the rows that were taken into the cone, of which this is the own list.
-fn of_rows(alloc: Global, n: usize, cone: &Cone, own: &Own) -> Result<Pair, AllocError>
-    requires small { n < too_many_dimensions }
-    requires dims { cone.now.dims ≡ n }
-    requires positive { IsPositive n cone.now.taken }
-    requires own { IsOwnList cone.now own.now.lines.items own.now.rays.items }
-    requires few { length own.now.rays.items ≤ row_limit }
-    ensures { IfOk result (IsPolyhedronOf n (Con (drop 1 cone.now.taken))) }
-{
-    let (lines, rays) = (cone.lines(), cone.rays());
-    let generators = generator_list(alloc, n, lines, rays)?;
-    if generators.rows().is_empty() {
-        let pair = empty(alloc, n)?;
-        return Ok(pair);
-    }
-    let positivity = unit(alloc, n, 0)?;
-    let rows = constraint_list(alloc, &own.lines, &own.rays, &positivity, n)?;
+    let rows = ConSys::new(alloc, n);
+    let kinds = generators.kinds();
+    let saturation = SatMatrix::new(alloc, kinds.len());
     Ok(Pair {
         rows,
         by_generators: generators,
+        saturation,
+    })
+}
+
+// The cone's generators, and at which of these rows each is tight, where the matrix says at which of the cone's rays
+// and lines each row is.
+fn show_generators(
+    alloc: Global,
+    n: usize,
+    cone: &Cone,
+    matrix: &SatMatrix,
+) -> Result<KnownGenerators, AllocError>
+    requires small { n < too_many_dimensions }
+    requires dims { cone.now.dims ≡ n }
+    requires width { matrix.now.width ≡ length (columns_of cone.now) }
+    ensures cone { IsCone cone.now }
+    ensures dims { IfOk result (λ known. known.list.dims ≡ n) }
+    ensures shown { IfOk result (λ known. ShowsGenerators cone.now.lines cone.now.rays known.list) }
+    ensures matrix { IfOk result (λ known.
+        TurnsTo cone.now matrix.now known.list.rows known.matrix) }
+{
+    let (lines, rays) = (cone.lines(), cone.rays());
+    let columns = matrix.turned(alloc)?;
+    let _width = columns.width();
+    known_generators(alloc, n, lines, rays, columns)
+}
+
+// The same of the cone's constraints.
+fn show_constraints(
+    alloc: Global,
+    n: usize,
+    cone: &Cone,
+    matrix: &SatMatrix,
+) -> Result<KnownConstraints, AllocError>
+    requires small { n < too_many_dimensions }
+    requires dims { cone.now.dims ≡ n }
+    requires width { matrix.now.width ≡ length (columns_of cone.now) }
+    ensures cone { IsCone cone.now }
+    ensures dims { IfOk result (λ known. known.list.dims ≡ n) }
+    ensures shown { IfOk result (λ known.
+        ShowsConstraints n cone.now.lines cone.now.rays known.list) }
+    ensures matrix { IfOk result (λ known.
+        TurnsTo cone.now matrix.now known.list.rows known.matrix) }
+{
+    let (lines, rays) = (cone.lines(), cone.rays());
+    let columns = matrix.turned(alloc)?;
+    let _width = columns.width();
+    let positivity = unit(alloc, n, 0)?;
+    known_constraints(alloc, lines, rays, columns, &positivity, n)
+}
+
+// The polyhedron of the rows that were taken into the cone, of which this is the own list.
+fn of_rows(alloc: Global, n: usize, cone: &Cone, own: MarkedOwn) -> Result<Pair, AllocError>
+    requires small { n < too_many_dimensions }
+    requires dims { cone.now.dims ≡ n }
+    requires positive { IsPositive n cone.now.taken }
+    requires own { IsOwnList cone.now own.lines.items own.rays.items }
+    requires few { length own.rays.items ≤ row_limit }
+    requires matrix { own.saturation ≡ tight_matrix (columns_of cone.now) own.rays.items }
+    ensures { IfOk result (IsPolyhedronOf n (Con (drop 1 cone.now.taken))) }
+{
+    let _lines = cone.lines();
+    let positivity = unit(alloc, n, 0)?;
+    let MarkedOwn {
+        lines,
+        rays,
+        saturation,
+    } = own;
+    let listed = known_constraints(alloc, &lines, &rays, saturation, &positivity, n)?;
+    let shown = show_generators(alloc, n, cone, &listed.matrix)?;
+    let (_kinds, _column_kinds) = (listed.list.kinds(), shown.list.kinds());
+    if shown.list.rows().is_empty() {
+        let pair = empty(alloc, n)?;
+        return Ok(pair);
+    }
+    let turned = shown.matrix.turned(alloc)?;
+    let _width = turned.width();
+    let KnownConstraints {
+        list: rows,
+        matrix: _,
+    } = listed;
+    let KnownGenerators {
+        list: by_generators,
+        matrix: _,
+    } = shown;
+    Ok(Pair {
+        rows,
+        by_generators,
+        saturation: turned,
     })
 }
 
 // The polyhedron of the generators that were taken into the cone, some of them points, of which this is the own list.
-fn of_generators(alloc: Global, n: usize, cone: &Cone, own: &Own) -> Result<Pair, AllocError>
+fn of_generators(alloc: Global, n: usize, cone: &Cone, own: MarkedOwn) -> Result<Pair, AllocError>
     requires small { n < too_many_dimensions }
     requires dims { cone.now.dims ≡ n }
     requires columns { AreGenerators cone.now.taken }
     requires some { ¬ (IsEmptySet n (Gen cone.now.taken)) }
-    requires own { IsOwnList cone.now own.now.lines.items own.now.rays.items }
-    requires few { length own.now.rays.items ≤ row_limit }
+    requires own { IsOwnList cone.now own.lines.items own.rays.items }
+    requires few { length own.rays.items ≤ row_limit }
+    requires matrix { own.saturation ≡ tight_matrix (columns_of cone.now) own.rays.items }
     ensures { IfOk result (IsPolyhedronOf n (Gen cone.now.taken)) }
 {
-    let (lines, rays) = (cone.lines(), cone.rays());
-    let generators = generator_list(alloc, n, &own.lines, &own.rays)?;
-    let positivity = unit(alloc, n, 0)?;
-    let rows = constraint_list(alloc, lines, rays, &positivity, n)?;
+    let _lines = cone.lines();
+    let MarkedOwn {
+        lines,
+        rays,
+        saturation,
+    } = own;
+    let listed = known_generators(alloc, n, &lines, &rays, saturation)?;
+    let shown = show_constraints(alloc, n, cone, &listed.matrix)?;
+    let (_column_kinds, _kinds) = (listed.list.kinds(), shown.list.kinds());
+    let KnownGenerators {
+        list: by_generators,
+        matrix: _,
+    } = listed;
+    let KnownConstraints {
+        list: rows,
+        matrix: turned,
+    } = shown;
     Ok(Pair {
         rows,
-        by_generators: generators,
+        by_generators,
+        saturation: turned,
     })
 }
 
@@ -220,7 +325,7 @@ fn of_taken_rows(
 {
     match limit_own_list(alloc, cone)? {
         Ok(own) => {
-            let pair = of_rows(alloc, n, cone, &own)?;
+            let pair = of_rows(alloc, n, cone, own)?;
             Ok((pair, losses))
         }
         Err(cause) => {
@@ -325,7 +430,7 @@ fn of_taken_generators(
     let mut losses = Vec::new(alloc);
     match limit_own_list(alloc, cone)? {
         Ok(own) => {
-            let pair = of_generators(alloc, n, cone, &own)?;
+            let pair = of_generators(alloc, n, cone, own)?;
             Ok((pair, losses))
         }
         Err(cause) => {
@@ -385,7 +490,7 @@ fn convert_own_list(alloc: Global, n: usize, cone: &Cone) -> Result<Option<Pair>
 {
     match limit_own_list(alloc, cone)? {
         Ok(own) => {
-            let pair = of_generators(alloc, n, cone, &own)?;
+            let pair = of_generators(alloc, n, cone, own)?;
             Ok(Some(pair))
         }
         Err(_) => Ok(None),

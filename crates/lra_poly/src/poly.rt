@@ -79,17 +79,16 @@ impl Model for Poly {
 }
 
 // The polyhedron of the pair.
-fn of_pair(alloc: Global, pair: Pair) -> Result<Poly, AllocError>
-    ensures { IfOk result (λ p. p ≡ pair) }
+fn of_pair(alloc: Global, pair: Pair) -> Poly
+    ensures { result ≡ pair }
 {
-    let (rows, by_generators) = pair.into_lists();
-    let saturation = saturation_matrix(alloc, &rows, &by_generators)?;
-    Ok(Poly {
+    let (rows, by_generators, saturation) = pair.into_parts();
+    Poly {
         alloc,
         rows,
         by_generators,
         saturation,
-    })
+    }
 }
 
 // The polyhedron of the constraints that were taken into the cone behind the positivity row, and of further ones.
@@ -100,7 +99,7 @@ fn of_cone(alloc: Global, cone: Cone, more: &ConSys) -> Result<(Poly, Outcome), 
     ensures { IfOk result (λ r. IsTried more.now.dims cone.taken (constraints more.now) r.0 r.1) }
 {
     let (pair, losses) = lra_pair::from_cone(alloc, cone, more)?;
-    let made = of_pair(alloc, pair)?;
+    let made = of_pair(alloc, pair);
     Ok((made, outcome_of(losses)))
 }
 
@@ -118,7 +117,7 @@ fn of_facets(alloc: Global, cone: Cone, more: &GenSys) -> Result<Option<Poly>, A
 {
     match lra_pair::with_generators(alloc, cone, more)? {
         Some(pair) => {
-            let made = of_pair(alloc, pair)?;
+            let made = of_pair(alloc, pair);
             Ok(Some(made))
         }
         None => Ok(None),
@@ -132,7 +131,7 @@ impl Poly {
         ensures { IfOk result (IsPolyhedronOf n (Con [])) }
     {
         let pair = lra_pair::universe(alloc, n)?;
-        let all = of_pair(alloc, pair)?;
+        let all = of_pair(alloc, pair);
         Ok(all)
     }
 
@@ -162,7 +161,7 @@ impl Poly {
             IsTried rows.now.dims (with_positivity rows.now.dims []) (constraints rows.now) r.0 r.1) }
     {
         let (pair, losses) = lra_pair::from_rows(alloc, rows)?;
-        let made = of_pair(alloc, pair)?;
+        let made = of_pair(alloc, pair);
         Ok((made, outcome_of(losses)))
     }
 
@@ -174,7 +173,7 @@ impl Poly {
             IfFlagged (λ _. AreTriedPoints given.now.dims (generators given.now) r.0 r.1) r.1) }
     {
         let (pair, losses) = lra_pair::from_generators(alloc, given)?;
-        let made = of_pair(alloc, pair)?;
+        let made = of_pair(alloc, pair);
         Ok((made, outcome_of(losses)))
     }
 

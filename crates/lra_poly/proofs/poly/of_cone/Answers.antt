@@ -5,5 +5,5 @@ use Rattle.lra_poly.proofs.MetRows.{tried_of}
 use Rattle.lra_poly.proofs.poly.of_cone.Goals as goal
 
 pub returns : goal.returns
-returns c = tried_of c.args.more.now.dims c.args.cone.taken (constraints c.args.more.now) c.in_ok-made.made c.in_ok-pair.pair c.outcome_of.result c.in_ok-pair.losses.items
-    c.in_ok-made.ensures c.outcome_of.ensures c.in_ok-pair.ensures.tried
+returns c = tried_of c.args.more.now.dims c.args.cone.taken (constraints c.args.more.now) c.of_pair-made.result c.in_ok-pair.pair c.outcome_of.result c.in_ok-pair.losses.items
+    c.of_pair-made.ensures c.outcome_of.ensures c.in_ok-pair.ensures.tried
