@@ -358,3 +358,65 @@ fn strains(rt: HostRuntime) {
     assert!(rt; strains_in_rays(rt.alloc()) == Ok(true));
     assert!(rt; strains_in_lines(rt.alloc()) == Ok(true));
 }
+
+// The numbers 1, t, and so on to t^n.
+fn powers(alloc: Global, n: usize, t: i128) -> Result<Vec<i128>, Unfit> {
+    let mut numbers = Vec::with_capacity(alloc, n)?;
+    let mut power = 1i128;
+    numbers.push(power)?;
+    for _ in 0..n {
+        power = match power.checked_mul(t) {
+            Some(next) => next,
+            None => return Err(Unfit::Row),
+        };
+        numbers.push(power)?;
+    }
+    Ok(numbers)
+}
+
+// The cone of the rows that are not negative on the points of the moment curve at 1, 2, and so on, so many of them.
+fn cyclic_cone(alloc: Global, n: usize, points: usize) -> Result<Cone, Unfit> {
+    if n > 12 || points > 1000 {
+        return Err(Unfit::Dimensions);
+    }
+    let mut cone = Cone::whole(alloc, n)?;
+    for t in 1..points + 1 {
+        let numbers = powers(alloc, n, t as i128)?;
+        if told(alloc, &mut cone, ConKind::Ge, &numbers)?.is_some() {
+            return Err(Unfit::Strained);
+        }
+    }
+    Ok(cone)
+}
+
+// How many rays it has.
+fn count_facets(alloc: Global, n: usize, points: usize) -> Result<usize, Unfit> {
+    let cone = cyclic_cone(alloc, n, points)?;
+    Ok(cone.rays().len())
+}
+
+/// A cyclic polytope has as many facets as its dimensions and points say: most pairs of rays share too few rows.
+#[test]
+fn cyclic_polytopes(rt: HostRuntime) {
+    assert!(rt; count_facets(rt.alloc(), 3, 10) == Ok(16));
+    assert!(rt; count_facets(rt.alloc(), 4, 8) == Ok(20));
+    assert!(rt; count_facets(rt.alloc(), 6, 9) == Ok(30));
+}
+
+// Whether the cone of so many points in three dimensions has so many rays, and a matrix that agrees.
+fn has_facets(alloc: Global, points: usize, facets: usize) -> Result<bool, Unfit> {
+    let cone = cyclic_cone(alloc, 3, points)?;
+    Ok(cone.rays().len() == facets && agrees(&cone))
+}
+
+/// A matrix takes columns in place but at each word's end: there, and beside it, a cone has the rays that it has by
+/// their definition.
+#[test]
+fn rows_at_a_words_end(rt: HostRuntime) {
+    for (points, facets) in [(63, 122), (64, 124), (65, 126), (128, 252), (129, 254)] {
+        assert!(rt;
+            has_facets(rt.alloc(), points, facets) == Ok(true),
+            "{points}"
+        );
+    }
+}

@@ -47,6 +47,14 @@ fn common_lie_so(alloc: Global, width: usize) -> Result<bool, AllocError> {
     Ok(sixth && fourth == (width < 7))
 }
 
+// Whether those of 2 and 3 share as many as there are of 6, and not one more.
+fn share_so(alloc: Global, width: usize) -> Result<bool, AllocError> {
+    let even = row_of(alloc, width, 2)?;
+    let third = row_of(alloc, width, 3)?;
+    let common = width.div_ceil(6);
+    Ok(even.shares(&third, common) && !even.shares(&third, common + 1))
+}
+
 // Whether the row is true at the multiples of 6, and has so many places.
 fn is_sixth(row: &BitRow, width: usize) -> bool {
     for k in 0..row.width() {
@@ -135,6 +143,7 @@ fn rows_lie_in_others(rt: HostRuntime) {
     for width in WIDTHS {
         assert!(rt; lie_so(rt.alloc(), width) == Ok(true), "{width}");
         assert!(rt; common_lie_so(rt.alloc(), width) == Ok(true), "{width}");
+        assert!(rt; share_so(rt.alloc(), width) == Ok(true), "{width}");
     }
 }
 
