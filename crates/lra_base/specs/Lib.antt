@@ -1,5 +1,6 @@
 pub mod Places
 pub mod TextOrder
+pub mod NumberTypes
 pub mod Operators
 pub mod OperatorViews
 pub mod Causes

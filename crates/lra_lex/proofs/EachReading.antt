@@ -14,7 +14,7 @@ use Rattle.lra_tree.specs.declared.tokens.Kind.{Kind}
 use Rattle.lra_tree.specs.declared.tokens.Kind.TheVariants as kind
 use Rattle.lra_tree.specs.declared.tokens.Token.{Token}
 use Rattle.lra_tree.specs.Lexeme.{is_letter, is_digit, is_word_byte, is_name_word, is_among, further_words, suffixes, Base, octal, decimal_base, hexadecimal}
-use Rattle.lra_tree.specs.Lexeme.{number_behind, IsLiteral, greatest_literal}
+use Rattle.lra_tree.specs.Lexeme.{number_behind, IsLiteral, greatest_literal, literal_type}
 use Rattle.lra_tree.specs.Lexeme.{mark_text, SpellsToken, name, mark_of, reserved}
 use Rattle.lra_base.specs.Places.{place_from}
 use Rattle.lra_tree.specs.Tokens.{is_blank, bytes_of, Lex, IsTokenFault, end_token}
@@ -193,7 +193,11 @@ number_token : (rest : List ℕ) → 0 < length rest → is_digit (get_or rest 0
 number_token rest l h =
     let s = take (prefix_len is_word_byte rest) rest in
     elim (literals s) [
-      | inl lit ↦ inl (_, kind.Number lit.0, number_token_is rest s (prefix_len is_word_byte rest) lit.0 l h refl refl lit.1 lit.2)
+      | inl lit ↦ inl (
+        _,
+        kind.Number (literal_type lit.1.suffix lit.0) lit.0,
+        number_token_is rest s (prefix_len is_word_byte rest) lit.0 (literal_type lit.1.suffix lit.0) l h refl refl lit.1 refl lit.2,
+      )
       | inr none ↦ inr (BadLiteral, bad_literal rest s (prefix_len is_word_byte rest) l h refl refl none)
     ]
 

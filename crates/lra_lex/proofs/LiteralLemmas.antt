@@ -6,10 +6,11 @@ use Rattle.std.proofs.lemmas.List.{take_at, drop_at, take-append-drop, drop_more
 use Rattle.std.proofs.lemmas.List.Sums.{prefix_len-le-length}
 use Rattle.std.proofs.lemmas.Bool.Decides.{nat_tests}
 use Rattle.std.specs.List.{list_all, prefix_len}
-use Rattle.std.specs.Prelude.{◌≢◌, if◌then◌else◌, IfSome, IfNone, Option, Some, None}
-use Rattle.lra_tree.specs.Lexeme.{Base, octal, decimal_base, hexadecimal, base_number, is_digit_of, is_digit, is_between, digit_value, number_behind, IsFront, IsLiteral, suffixes, is_among}
+use Rattle.std.specs.Prelude.{◌≢◌, if◌then◌else◌}
+use Rattle.lra_base.specs.declared.number_types.NumberType.{NumberType}
+use Rattle.lra_tree.specs.Lexeme.{Base, octal, decimal_base, hexadecimal, base_number, is_digit_of, is_digit, is_between, digit_value, number_behind, IsFront, IsLiteral, suffixes, is_among, literal_type}
 use Rattle.lra_tree.specs.Lexeme.{greatest_literal}
-use Rattle.lra_lex.specs.Literal.{base_at, front_size}
+use Rattle.lra_lex.specs.Literal.{base_at, front_size, IsTyped}
 use Rattle.lra_lex.proofs.RunLemmas.{run_is, run_exact, Stops}
 use Rattle.lra_lex.proofs.MarkLemmas.{among_all}
 
@@ -94,9 +95,11 @@ some_digits octal front digits b n e = n refl
 some_digits hexadecimal front digits b n e = b.1 e
 some_digits decimal_base front digits (c, cs, b, f, p) n e = let g : c ∷ cs ≡ [] = sym f ∙ e in absurd (cc)
 
-cut_of : (s : List ℕ) (n : ℕ) (base : Base) (front digits suffix : List ℕ) → s ≡ (front ++ digits) ++ suffix → IsFront base front digits
-    → list_all (is_digit_of base) digits ≡ true → is_among suffix suffixes ≡ true → n ≡ number_behind base 0 digits → IsCut s n
-cut_of s n base front digits suffix e b d k v =
+-- the digits and the suffix are those of the word in its base
+parts_cut : (s : List ℕ) (base : Base) (front digits suffix : List ℕ) → s ≡ (front ++ digits) ++ suffix → IsFront base front digits
+    → list_all (is_digit_of base) digits ≡ true → is_among suffix suffixes ≡ true
+    → (base ≡ base_at s) × (digits_of (base_at s) s ≡ digits) × (suffix_of (base_at s) s ≡ suffix)
+parts_cut s base front digits suffix e b d k =
     let p : PartsAre s base digits suffix = subst (λ (z : List ℕ). PartsAre z base digits suffix) (sym e) (parts_of base front digits suffix b d k) in
     let body : body_of (base_at s) s ≡ digits ++ suffix = subst (λ (z : Base). body_of z s ≡ digits ++ suffix) p.0 p.1 in
     let d' : list_all (is_digit_of (base_at s)) digits ≡ true = subst (λ (z : Base). list_all (is_digit_of z) digits ≡ true) p.0 d in
@@ -104,6 +107,14 @@ cut_of s n base front digits suffix e b d k v =
     let size : prefix_len (is_digit_of (base_at s)) (body_of (base_at s) s) ≡ length digits = ap (prefix_len (is_digit_of (base_at s))) body ∙ n' in
     let ds : digits_of (base_at s) s ≡ digits = rw (size, body) (take_at digits suffix (length digits) refl) in
     let ss : suffix_of (base_at s) s ≡ suffix = rw (size, body) (drop_at digits suffix (length digits) refl) in
+    (p.0, ds, ss)
+
+cut_of : (s : List ℕ) (n : ℕ) (base : Base) (front digits suffix : List ℕ) → s ≡ (front ++ digits) ++ suffix → IsFront base front digits
+    → list_all (is_digit_of base) digits ≡ true → is_among suffix suffixes ≡ true → n ≡ number_behind base 0 digits → IsCut s n
+cut_of s n base front digits suffix e b d k v =
+    let p = parts_cut s base front digits suffix e b d k in
+    let ds : digits_of (base_at s) s ≡ digits = p.1 in
+    let ss : suffix_of (base_at s) s ≡ suffix = p.2 in
     record {
       suffix = rw ss k;
       digits = λ o f. some_digits base front digits b (λ g. o (sym p.0 ∙ g)) (sym ds ∙ f);
@@ -116,6 +127,15 @@ literal_cut s n l = cut_of s n l.base l.front l.digits l.suffix l.parts l.begins
 -- one word, one number
 pub literal_one : (s : List ℕ) (n m : ℕ) → IsLiteral s n → IsLiteral s m → n ≡ m
 literal_one s n m l k = (literal_cut s n l).number ∙ sym (literal_cut s m k).number
+
+pub literal_suffix : (s : List ℕ) (n : ℕ) (l : IsLiteral s n) → suffix_of (base_at s) s ≡ l.suffix
+literal_suffix s n l = (parts_cut s l.base l.front l.digits l.suffix l.parts l.begins l.all_digits l.is_suffix).2
+
+-- and one type
+pub type_one : (s : List ℕ) (n m : ℕ) (t u : NumberType) (l : IsLiteral s n) (k : IsLiteral s m) → t ≡ literal_type l.suffix n → u ≡ literal_type k.suffix m → t ≡ u
+type_one s n m t u l k e f =
+    let same : l.suffix ≡ k.suffix = sym (literal_suffix s n l) ∙ literal_suffix s m k in
+    e ∙ ap (λ (z : List ℕ). literal_type z n) same ∙ ap (λ (z : ℕ). literal_type k.suffix z) (literal_one s n m l k) ∙ sym f
 
 -- what is so cut is a literal ------------------------------------------------------------------------------------------------
 
@@ -200,20 +220,20 @@ pub record IsSplit (b : Base) (s digits suffix : List ℕ) : Type 0 where
   pub digits_are : digits ≡ digits_of b s
   pub suffix_is : suffix ≡ suffix_of b s
 
-pub value_in : (b : Base) (s digits suffix : List ℕ) (o : Option ℕ) → IsSplit b s digits suffix → is_among suffix suffixes ≡ true → (b ≢ octal → digits ≢ [])
-    → IfSome o (λ n. n ≡ number_behind b 0 digits) → IfSome o (IsLiteral s)
-value_in b s digits suffix None p f d h = tt
-value_in b s digits suffix (Some n) p f d h =
+pub typed_in : (b : Base) (s digits suffix : List ℕ) (n : ℕ) (t : NumberType) → IsSplit b s digits suffix → is_among suffix suffixes ≡ true → (b ≢ octal → digits ≢ [])
+    → n ≡ number_behind b 0 digits → t ≡ literal_type suffix n → IsTyped s t n
+typed_in b s digits suffix n t p f d h is =
     let g : is_among (suffix_of b s) suffixes ≡ true = rw p.suffix_is at f in
     let k : n ≡ number_behind b 0 (digits_of b s) = rw p.digits_are at h in
-    literal_in b s n p.base (g, (λ o e. d o (p.digits_are ∙ e)), k)
+    let l = literal_in b s n p.base (g, (λ o e. d o (p.digits_are ∙ e)), k) in
+    let same : suffix ≡ l.suffix = p.suffix_is ∙ ap (λ (z : Base). suffix_of z s) p.base ∙ literal_suffix s n l in
+    (l, is ∙ ap (λ (z : List ℕ). literal_type z n) same)
 
-pub none_in : (b : Base) (s digits suffix : List ℕ) (o : Option ℕ) → IsSplit b s digits suffix → IfNone o (greatest_literal < number_behind b 0 digits)
-    → IfNone o ((n : ℕ) → IsLiteral s n → n ≤ greatest_literal → ⊥)
-none_in b s digits suffix None p h = λ n l k.
+pub none_in : (b : Base) (s digits suffix : List ℕ) → IsSplit b s digits suffix → greatest_literal < number_behind b 0 digits
+    → (n : ℕ) → IsLiteral s n → n ≤ greatest_literal → ⊥
+none_in b s digits suffix p h n l k =
     let c = cut_in b s n p.base l in
     let g : greatest_literal < number_behind b 0 (digits_of b s) = rw p.digits_are at h in omega (arith, g, c.2)
-none_in b s digits suffix (Some n) p h = tt
 
 -- what isn't well cut is no literal
 pub no_literal : (b : Base) (s digits suffix : List ℕ) → IsSplit b s digits suffix → (is_among suffix suffixes ≡ true → (b ≢ octal → digits ≢ []) → ⊥)

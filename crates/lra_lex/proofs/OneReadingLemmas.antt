@@ -9,6 +9,7 @@ use Rattle.std.specs.Prelude.{codes, if◌then◌else◌}
 use Rattle.lra_base.specs.declared.refusals.Place.{Place}
 use Rattle.lra_base.specs.declared.refusals.Cause.{Cause}
 use Rattle.lra_base.specs.declared.refusals.Cause.TheVariants.{BadByte, BadLiteral}
+use Rattle.lra_base.specs.declared.number_types.NumberType.{NumberType}
 use Rattle.lra_tree.specs.declared.tokens.Mark.{Mark}
 use Rattle.lra_tree.specs.declared.tokens.Mark.TheVariants as mark
 use Rattle.lra_tree.specs.declared.tokens.Kind.{Kind}
@@ -25,7 +26,7 @@ use Rattle.lra_lex.proofs.RunLemmas.{run_exact, Stops, differ}
 use Rattle.lra_lex.proofs.MarkLemmas.{mark_one, mark_some, mark_named, mark_no_number, mark_no_further, among_all}
 use Rattle.lra_lex.proofs.LexemeLemmas.{not_or}
 use Rattle.lra_lex.proofs.GapLemmas.{include_in_line}
-use Rattle.lra_lex.proofs.LiteralLemmas.{literal_one}
+use Rattle.lra_lex.proofs.LiteralLemmas.{literal_one, type_one}
 
 -- gaps -----------------------------------------------------------------------------------------------------------------------
 
@@ -131,27 +132,28 @@ comment_mark s m e u = let h : opens_comment (mark_text m) ≡ true = rw (sym e 
 
 spells_one : (s : List ℕ) (k l : Kind) → SpellsToken s k → SpellsToken s l → k ≡ l
 spells_one s k l (name w n f) (name v p g) = refl
-spells_one s k l (name w n f) (number x v i b) = absurd (word_number s w v)
+spells_one s k l (name w n f) (number x t v i is b) = absurd (word_number s w v)
 spells_one s k l (name w n f) (mark_of m e) = absurd (name_mark s m w n e)
 spells_one s k l (name w n f) (reserved h) = absurd (differ h f)
 spells_one s k l (name w n f) (comment u) = absurd (comment_word s w u)
-spells_one s k l (number x v i b) (name w n f) = absurd (word_number s w v)
-spells_one s k l (number x v i b) (number y w j c) = ap kind.Number (literal_one s x y i j)
-spells_one s k l (number x v i b) (mark_of m e) = absurd (number_mark s m v e)
-spells_one s k l (number x v i b) (reserved h) = absurd (word_number s (further_word s h) v)
-spells_one s k l (number x v i b) (comment u) = absurd (comment_number s v u)
+spells_one s k l (number x t v i is b) (name w n f) = absurd (word_number s w v)
+spells_one s k l (number x t v i is b) (number y u w j same c) =
+    ap (λ (z : NumberType). kind.Number z x) (type_one s x y t u i j is same) ∙ ap (λ (z : ℕ). kind.Number u z) (literal_one s x y i j)
+spells_one s k l (number x t v i is b) (mark_of m e) = absurd (number_mark s m v e)
+spells_one s k l (number x t v i is b) (reserved h) = absurd (word_number s (further_word s h) v)
+spells_one s k l (number x t v i is b) (comment u) = absurd (comment_number s v u)
 spells_one s k l (mark_of m e) (name w n f) = absurd (name_mark s m w n e)
-spells_one s k l (mark_of m e) (number x v i b) = absurd (number_mark s m v e)
+spells_one s k l (mark_of m e) (number x t v i is b) = absurd (number_mark s m v e)
 spells_one s k l (mark_of m e) (mark_of n f) = ap kind.Mark (mark_one m n (sym e ∙ f))
 spells_one s k l (mark_of m e) (reserved h) = absurd (differ (rw e at h) (mark_no_further m))
 spells_one s k l (mark_of m e) (comment u) = absurd (comment_mark s m e u)
 spells_one s k l (reserved h) (name w n f) = absurd (differ h f)
-spells_one s k l (reserved h) (number x v i b) = absurd (word_number s (further_word s h) v)
+spells_one s k l (reserved h) (number x t v i is b) = absurd (word_number s (further_word s h) v)
 spells_one s k l (reserved h) (mark_of m e) = absurd (differ (rw e at h) (mark_no_further m))
 spells_one s k l (reserved h) (reserved i) = refl
 spells_one s k l (reserved h) (comment u) = absurd (comment_word s (further_word s h) u)
 spells_one s k l (comment u) (name w n f) = absurd (comment_word s w u)
-spells_one s k l (comment u) (number x v i b) = absurd (comment_number s v u)
+spells_one s k l (comment u) (number x t v i is b) = absurd (comment_number s v u)
 spells_one s k l (comment u) (mark_of m e) = absurd (comment_mark s m e u)
 spells_one s k l (comment u) (reserved h) = absurd (comment_word s (further_word s h) u)
 spells_one s k l (comment u) (comment v) = refl
@@ -170,7 +172,7 @@ final_gap before rest g a (inr (_, q)) f h = absurd q
 
 no_number : (s : List ℕ) (k : Kind) → is_number_word s ≡ true → ((n : ℕ) → IsLiteral s n → n ≤ greatest_literal → ⊥) → SpellsToken s k → ⊥
 no_number s k w h (name v n f) = word_number s v w
-no_number s k w h (number x v i b) = h x i b
+no_number s k w h (number x t v i is b) = h x i b
 no_number s k w h (mark_of m e) = number_mark s m w e
 no_number s k w h (reserved r) = word_number s (further_word s r) w
 no_number s k w h (comment u) = comment_number s w u

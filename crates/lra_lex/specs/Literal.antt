@@ -1,6 +1,7 @@
--- How a number word is cut into the parts of a literal.
-use Rattle.std.specs.Prelude.{ℕ, nat_eq, ◌||◌, List, slice_index, if◌then◌else◌}
-use Rattle.lra_tree.specs.Lexeme.{Base, octal, decimal_base, hexadecimal}
+-- How a number word is cut into the parts of a literal, and the type of the literal that it is.
+use Rattle.std.specs.Prelude.{◌≡◌, ℕ, nat_eq, ◌||◌, List, slice_index, if◌then◌else◌}
+use Rattle.lra_base.specs.declared.number_types.NumberType.{NumberType}
+use Rattle.lra_tree.specs.Lexeme.{Base, octal, decimal_base, hexadecimal, IsLiteral, literal_type}
 use Rattle.lra_lex.specs.declared.literals.Radix.{Radix}
 use Rattle.lra_lex.specs.declared.literals.Radix.TheVariants.{Octal, Decimal, Hexadecimal}
 
@@ -20,3 +21,7 @@ abbrev pub front_size : Base → ℕ
 front_size octal = 1
 front_size decimal_base = 0
 front_size hexadecimal = 2
+
+-- a literal of this type and value
+abbrev pub IsTyped : List ℕ → NumberType → ℕ → Type 0
+IsTyped s t n = (l : IsLiteral s n) × (t ≡ literal_type l.suffix n)

@@ -52,7 +52,7 @@ fn take_token(constants: &mut Vec<i64>, minus: bool, kind: &Kind) -> Result<(), 
     ensures { OnOk result (constants.new.items ≡ fold with_constant constants.old.items (literal_at minus kind.now)) }
 {
     match kind {
-        Kind::Number(number) => take_literal(constants, minus, *number),
+        Kind::Number(_, number) => take_literal(constants, minus, *number),
         _ => Ok(()),
     }
 }

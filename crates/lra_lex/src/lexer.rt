@@ -72,7 +72,7 @@ fn read_number(rest: &[u8]) -> Option<(usize, Kind)>
     let length = word_length(rest);
     let (word, _) = rest.split_at(length);
     match parse_literal(word) {
-        Some(value) => Some((length, Kind::Number(value))),
+        Some(literal) => Some((length, Kind::Number(literal.number_type, literal.value))),
         None => None,
     }
 }

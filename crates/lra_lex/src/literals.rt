@@ -1,15 +1,19 @@
-//! The values of literals (ISO/IEC 9899:2011, 6.4.4.1).
+//! The types and values of literals (ISO/IEC 9899:2011, 6.4.4.1).
 
 ghost use Rattle.std.specs.Prelude.{◌≡◌, ◌≤◌, ◌<◌, ◌≢◌, ℕ, [], length, true, IfSome, IfNone, IsTrue};
 ghost use Rattle.std.specs.List.{prefix_len};
 ghost use Rattle.lra_tree.specs.Lexeme.{IsLiteral, octal, base_number, digit_value, greatest_literal, is_among};
-ghost use Rattle.lra_tree.specs.Lexeme.{is_digit_of, number_behind, suffixes};
-ghost use Rattle.lra_lex.specs.Literal.{base_at, base_of, front_size};
+ghost use Rattle.lra_tree.specs.Lexeme.{is_digit_of, literal_type, number_behind, suffixes};
+ghost use Rattle.lra_lex.specs.Literal.{base_at, base_of, front_size, IsTyped};
 
 use crate::marks::is_among;
+use lra_base::NumberType;
 
 /// The greatest value of a literal: 2^63 - 1.
 const GREATEST: u128 = 9_223_372_036_854_775_807;
+
+/// The greatest value of a literal that is an `int`: 2^31 - 1.
+const GREATEST_INT: u64 = 2_147_483_647;
 
 const SUFFIXES: [&[u8]; 5] = [b"", b"l", b"L", b"ll", b"LL"];
 
@@ -120,11 +124,32 @@ fn is_well_cut(radix: Radix, digits: &[u8], suffix: &[u8]) -> bool
     is_suffix(suffix) && (!digits.is_empty() || matches!(radix, Radix::Octal))
 }
 
-/// The value of the literal that the word is, if it is one.
-pub fn parse_literal(word: &[u8]) -> Option<u64>
+/// The type of a literal with this suffix and this value.
+fn literal_type(suffix: &[u8], value: u64) -> NumberType
+    ensures { result ≡ literal_type suffix.now value }
+{
+    if !suffix.is_empty() {
+        return NumberType::Long;
+    }
+    if value <= GREATEST_INT {
+        NumberType::Int
+    } else {
+        NumberType::Long
+    }
+}
+
+/// A literal's type and value.
+#[derive(Clone, Copy)]
+pub struct Literal {
+    pub number_type: NumberType,
+    pub value: u64,
+}
+
+/// The literal that the word is, if it is one.
+pub fn parse_literal(word: &[u8]) -> Option<Literal>
     requires { 0 < length word.now }
-    ensures value { IfSome result (IsLiteral word.now) }
-    ensures bounded { IfSome result (λ n. n ≤ greatest_literal) }
+    ensures value { IfSome result (λ l. IsTyped word.now l.number_type l.value) }
+    ensures bounded { IfSome result (λ l. l.value ≤ greatest_literal) }
     ensures none { IfNone result ((n : ℕ) → IsLiteral word.now n → n ≤ greatest_literal → ⊥) }
 {
     let radix = Radix::of_word(word);
@@ -133,5 +158,11 @@ pub fn parse_literal(word: &[u8]) -> Option<u64>
     if !is_well_cut(radix, digits, suffix) {
         return None;
     }
-    parse_digits(radix, digits)
+    match parse_digits(radix, digits) {
+        Some(value) => Some(Literal {
+            number_type: literal_type(suffix, value),
+            value,
+        }),
+        None => None,
+    }
 }

@@ -2,7 +2,7 @@
 use Rattle.std.proofs.Common.{◌≡◌, ℕ, ◌⊎◌, Option, Some, None, List, [], ◌∷◌, ◌++◌, ap, ◌∙◌, inl, inr}
 use Rattle.lra_base.specs.declared.refusals.Place.{Place}
 use Rattle.lra_base.specs.declared.number_types.NumberType.{NumberType}
-use Rattle.lra_base.specs.declared.number_types.NumberType.TheVariants.{Long}
+use Rattle.lra_base.specs.declared.number_types.NumberType.TheVariants.{Int, Long}
 use Rattle.lra_tree.specs.declared.tokens.Mark.{Mark}
 use Rattle.lra_tree.specs.declared.tokens.Mark.TheVariants as mark
 use Rattle.lra_tree.specs.declared.tokens.Kind.{Kind}
@@ -28,11 +28,11 @@ begins_behind : (x y z : Pieces) → z ≡ x ++ y → x ≡ [] → BeginsWithMar
 begins_behind x y z e f b = (b.0, b.1, b.2, b.3, e ∙ ap (λ (w : Pieces). w ++ y) f ∙ b.4)
 
 begins_type : (t : NumberType) (z : Pieces) → IsType t z → BeginsWithMark z
+begins_type Int z s = begins_mark mark.Int 0 z s
 begins_type Long z (x, y, e, s, t) = begins_front x y z e (begins_mark mark.Long 0 x s)
 
 begins_head : (t : Option NumberType) (name : Identifier) (z : Pieces) → IsHead t name z → BeginsWithMark z
-begins_head (Some Long) name z (inl (w, (x, y, e, s, t))) = begins_front x y z e (begins_mark mark.Int 0 x s)
-begins_head (Some Long) name z (inr (x, y, e, s, t)) = begins_front x y z e (begins_type Long x s)
+begins_head (Some w) name z (x, y, e, s, t) = begins_front x y z e (begins_type w x s)
 begins_head None name z (x, y, e, s, t) = begins_front x y z e (begins_mark mark.Void 0 x s)
 
 begins_reserved : (z : Pieces) → IsReservedHead z → BeginsWithMark z

@@ -1,6 +1,7 @@
 -- Trees and their tokens, and levels. Which slip an example would catch stands beside it.
 use Rattle.std.proofs.Common.{ℕ, [], ◌∷◌, refl}
 use Rattle.std.specs.Prelude.{codes, None}
+use Rattle.lra_base.specs.declared.number_types.NumberType.TheVariants.{Int}
 use Rattle.lra_tree.specs.declared.tokens.Kind.{Kind}
 use Rattle.lra_tree.specs.declared.tokens.Kind.TheVariants.{Name, Number, Mark as MarkOf}
 use Rattle.lra_tree.specs.declared.tokens.Mark.{Mark}
@@ -31,8 +32,8 @@ farther = if_else (at 1) one (if_only (at 7) one (nothing (at 13))) (nothing (at
 -- if(1) if(1) ; else ;
 -- the levels: the outer branch is level 2, and those of the inner `if` level 3; the first token of a branch opens its level
 abbrev dangling : Pieces
-dangling = marked mark.If 1 0 ∷ marked mark.OpenParen 3 0 ∷ piece (Number 1) 4 0 ∷ marked mark.CloseParen 5 0
-    ∷ marked mark.If 7 2 ∷ marked mark.OpenParen 9 0 ∷ piece (Number 1) 10 0 ∷ marked mark.CloseParen 11 0
+dangling = marked mark.If 1 0 ∷ marked mark.OpenParen 3 0 ∷ piece (Number Int 1) 4 0 ∷ marked mark.CloseParen 5 0
+    ∷ marked mark.If 7 2 ∷ marked mark.OpenParen 9 0 ∷ piece (Number Int 1) 10 0 ∷ marked mark.CloseParen 11 0
     ∷ marked mark.Semicolon 13 3 ∷ marked mark.Else 15 0 ∷ marked mark.Semicolon 20 3 ∷ []
 
 nearest_else : IsStmt 0 1 nearest dangling
@@ -74,5 +75,5 @@ not_a_condition l z s = s.1
 
 -- (x<1) is a condition
 grouped_condition : IsTest 1 (group_of (tested (compare (use_of (x_at 2)) below (number 1))))
-    (marked mark.OpenParen 1 2 ∷ piece (Name (codes "x")) 2 0 ∷ marked mark.Less 3 0 ∷ piece (Number 1) 4 0 ∷ marked mark.CloseParen 5 0 ∷ [])
+    (marked mark.OpenParen 1 2 ∷ piece (Name (codes "x")) 2 0 ∷ marked mark.Less 3 0 ∷ piece (Number Int 1) 4 0 ∷ marked mark.CloseParen 5 0 ∷ [])
 grouped_condition = ((_, _, refl, (at 1, refl), (_, _, refl, (_, _, refl, refl, (_, _, refl, (at 3, refl), (at 4, refl))), (at 5, refl))), tt)

@@ -3,6 +3,7 @@ use Rattle.std.proofs.Common.{◌≡◌, ℕ, Bool, true, false, not, ◌&&◌, 
 use Rattle.std.specs.Prelude.{codes, bytes_eq, nat_le}
 use Rattle.std.proofs.lemmas.Bool.Decides.{nat_tests}
 use Rattle.std.proofs.lemmas.Slice.Eq.{bytes_eq-Decides}
+use Rattle.lra_base.specs.declared.number_types.NumberType.TheVariants.{Int, Long}
 use Rattle.lra_tree.specs.declared.tokens.Kind.{Kind}
 use Rattle.lra_tree.specs.declared.tokens.Kind.TheVariants.{Name, Number, Reserved, Mark as MarkOf, Unclosed, End}
 use Rattle.lra_tree.specs.declared.tokens.Mark.{Mark}
@@ -29,7 +30,7 @@ abbrev pub word_of : List ℕ → Item
 word_of s = lexeme_of s (Name s)
 
 abbrev pub one : Item
-one = lexeme_of (codes "1") (Number 1)
+one = lexeme_of (codes "1") (Number Int 1)
 
 -- the test ---------------------------------------------------------------------------------------------------------
 
@@ -38,7 +39,8 @@ is_plain_name s = is_name_word s && (not (is_among s named_words) && not (is_amo
 
 abbrev is_spelled : List ℕ → Kind → Bool
 is_spelled s (Name w) = bytes_eq s w && is_plain_name s
-is_spelled s (Number n) = bytes_eq s (codes "1") && nat_eq n 1
+is_spelled s (Number Long n) = false
+is_spelled s (Number Int n) = bytes_eq s (codes "1") && nat_eq n 1
 is_spelled s (MarkOf m) = bytes_eq s (mark_text m)
 is_spelled s Reserved = false
 is_spelled s Unclosed = false
@@ -68,7 +70,7 @@ is_off false e = refl
 same_number : (n : ℕ) → nat_eq n 1 ≡ true → n ≡ 1
 same_number n e = grind (arith, nat_tests)
 
-one_literal : IsLiteral (codes "1") 1
+abbrev one_literal : IsLiteral (codes "1") 1
 one_literal = record { base = decimal_base; front = []; digits = codes "1"; suffix = []; parts = refl; begins = (49, [], refl, refl, refl); all_digits = refl; is_suffix = refl; number = refl }
 
 plain_name : (s w : List ℕ) → (bytes_eq s w && is_plain_name s) ≡ true → Lexeme s × SpellsToken s (Name w)
@@ -83,17 +85,18 @@ plain_name s w e =
           (is_off (is_among s further_words) (and_second (not (is_among s named_words)) (not (is_among s further_words)) others))),
     )
 
-the_one : (s : List ℕ) (n : ℕ) → (bytes_eq s (codes "1") && nat_eq n 1) ≡ true → Lexeme s × SpellsToken s (Number n)
+the_one : (s : List ℕ) (n : ℕ) → (bytes_eq s (codes "1") && nat_eq n 1) ≡ true → Lexeme s × SpellsToken s (Number Int n)
 the_one s n e =
     let same = (bytes_eq-Decides s (codes "1")).0 (and_first (bytes_eq s (codes "1")) (nat_eq n 1) e) in
     let is = same_number n (and_second (bytes_eq s (codes "1")) (nat_eq n 1) e) in
-    subst (λ (z : List ℕ). Lexeme z × SpellsToken z (Number n)) (sym same)
-    (subst (λ (k : ℕ). Lexeme (codes "1") × SpellsToken (codes "1") (Number k)) (sym is)
-    (number_word refl, number 1 refl one_literal (omega arith)))
+    subst (λ (z : List ℕ). Lexeme z × SpellsToken z (Number Int n)) (sym same)
+    (subst (λ (k : ℕ). Lexeme (codes "1") × SpellsToken (codes "1") (Number Int k)) (sym is)
+    (number_word refl, number 1 Int refl one_literal refl (omega arith)))
 
 spelled : (s : List ℕ) (k : Kind) → is_spelled s k ≡ true → Lexeme s × SpellsToken s k
 spelled s (Name w) e = plain_name s w e
-spelled s (Number n) e = the_one s n e
+spelled s (Number Long n) e = cc
+spelled s (Number Int n) e = the_one s n e
 spelled s (MarkOf m) e = let same = (bytes_eq-Decides s (mark_text m)).0 e in (mark_word m same, mark_of m same)
 spelled s Reserved e = cc
 spelled s Unclosed e = cc

@@ -7,11 +7,12 @@ use Rattle.std.proofs.lemmas.List.Folds.{list_all-append}
 use Rattle.std.proofs.lemmas.List.{append-nil}
 use Rattle.lra_base.specs.declared.refusals.Place.{Place}
 use Rattle.lra_base.specs.declared.refusals.Cause.TheVariants.{BadByte, BadLiteral}
+use Rattle.lra_base.specs.declared.number_types.NumberType.TheVariants.{Int, Long}
 use Rattle.lra_tree.specs.declared.tokens.Kind.{Kind}
 use Rattle.lra_tree.specs.declared.tokens.Kind.TheVariants.{Name, Number, Mark, Reserved, End}
 use Rattle.lra_tree.specs.declared.tokens.Mark.TheVariants as mark
 use Rattle.lra_tree.specs.declared.tokens.Token.{Token}
-use Rattle.lra_tree.specs.Lexeme.{octal, decimal_base, hexadecimal, IsLiteral, Base, IsFront, is_digit, is_digit_of, number_behind, greatest_literal, is_between, is_among, suffixes, word, number_word}
+use Rattle.lra_tree.specs.Lexeme.{octal, decimal_base, hexadecimal, IsLiteral, Base, IsFront, is_digit, is_digit_of, number_behind, greatest_literal, is_between, is_among, suffixes, word, number_word, literal_type}
 use Rattle.lra_tree.specs.Lexeme.{mark_word, name, number, mark_of, reserved}
 use Rattle.lra_base.specs.Places.{place_behind}
 use Rattle.lra_tree.specs.Tokens.{blank, line_comment, block_comment, skipped_line, gap, token, Lex, IsTokenFault}
@@ -60,7 +61,7 @@ greatest_literal_is = record {
   number = refl;
 }
 
-short_literal : IsLiteral (codes "0x1f") 31
+abbrev short_literal : IsLiteral (codes "0x1f") 31
 short_literal = record {
   base = hexadecimal;
   front = codes "0x";
@@ -72,6 +73,10 @@ short_literal = record {
   is_suffix = refl;
   number = refl;
 }
+
+-- 2147483647, 2147483648, 1L: catches a type by the value alone, and a limit that is one too small
+types_of_literals : (literal_type [] 2147483647 ≡ Int) × (literal_type [] 2147483648 ≡ Long) × (literal_type (codes "L") 1 ≡ Long)
+types_of_literals = (refl, refl, refl)
 
 -- places -----------------------------------------------------------------------------------------------------------
 
@@ -90,16 +95,16 @@ include_line = codes "#include <assert.h>"
 abbrev short_source : List ℕ
 short_source = include_line ++ (10 ∷ codes "x+=0x1f/* c */;")
 
-short_tokens : Lex short_source (token_at (Name (codes "x")) 2 1 ∷ token_at (Mark mark.PlusAssign) 2 2 ∷ token_at (Number 31) 2 4 ∷ token_at (Mark mark.Semicolon) 2 15 ∷ token_at End 2 16 ∷ [])
+short_tokens : Lex short_source (token_at (Name (codes "x")) 2 1 ∷ token_at (Mark mark.PlusAssign) 2 2 ∷ token_at (Number Int 31) 2 4 ∷ token_at (Mark mark.Semicolon) 2 15 ∷ token_at End 2 16 ∷ [])
 short_tokens = (
   gap include_line ∷ gap (10 ∷ []) ∷ token (codes "x") (token_at (Name (codes "x")) 2 1) ∷ token (codes "+=") (token_at (Mark mark.PlusAssign) 2 2)
-      ∷ token (codes "0x1f") (token_at (Number 31) 2 4) ∷ gap (codes "/* c */") ∷ token (codes ";") (token_at (Mark mark.Semicolon) 2 15) ∷ [],
+      ∷ token (codes "0x1f") (token_at (Number Int 31) 2 4) ∷ gap (codes "/* c */") ∷ token (codes ";") (token_at (Mark mark.Semicolon) 2 15) ∷ [],
   refl,
   skipped_line [] (codes " <assert.h>") refl (record { lines = []; blanks = []; parts = refl; whole_lines = inl refl; only_blanks = refl }) refl refl refl refl
       ⨾ blank 10 refl refl
       ⨾ as_token (include_line ++ 10 ∷ []) (codes "x") (codes "+=0x1f/* c */;") (Name (codes "x")) (word refl) (name refl refl refl) refl refl refl
       ⨾ as_token (include_line ++ (10 ∷ codes "x")) (codes "+=") (codes "0x1f/* c */;") (Mark mark.PlusAssign) (mark_word mark.PlusAssign refl) (mark_of mark.PlusAssign refl) refl refl refl
-      ⨾ as_token (include_line ++ (10 ∷ codes "x+=")) (codes "0x1f") (codes "/* c */;") (Number 31) (number_word refl) (number 31 refl short_literal (omega arith)) refl refl refl
+      ⨾ as_token (include_line ++ (10 ∷ codes "x+=")) (codes "0x1f") (codes "/* c */;") (Number Int 31) (number_word refl) (number 31 Int refl short_literal refl (omega arith)) refl refl refl
       ⨾ block_comment (codes " c ") refl (is_open (codes " c *") refl)
       ⨾ as_token (include_line ++ (10 ∷ codes "x+=0x1f/* c */")) (codes ";") [] (Mark mark.Semicolon) (mark_word mark.Semicolon refl) (mark_of mark.Semicolon refl) refl refl refl
       ⨾ tt,

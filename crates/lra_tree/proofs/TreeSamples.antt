@@ -1,7 +1,7 @@
 -- Trees of some sources, each standing on one line.
 use Rattle.std.specs.Prelude.{ℕ, List, [], ◌∷◌, codes, Option, Some, None, suc}
 use Rattle.lra_base.specs.declared.refusals.Place.{Place}
-use Rattle.lra_base.specs.declared.number_types.NumberType.TheVariants.{Long}
+use Rattle.lra_base.specs.declared.number_types.NumberType.TheVariants.{Int, Long}
 use Rattle.lra_tree.specs.declared.trees.Identifier.{Identifier}
 use Rattle.lra_tree.specs.declared.trees.Parameter.{Parameter}
 use Rattle.lra_base.specs.Operators.{below, at_least, equal}
@@ -23,7 +23,7 @@ abbrev pub alone : UnaryTree → ExprTree
 alone u = term (unary u)
 
 abbrev pub number : ℕ → ExprTree
-number n = alone (literal n)
+number n = alone (literal Int n)
 
 abbrev pub use_of : Identifier → ExprTree
 use_of x = alone (variable x)
@@ -46,9 +46,13 @@ function_of word c parameters body end = record { result_type = Some Long; name 
 abbrev pub void_of : List ℕ → ℕ → List Parameter → ItemsTree → ℕ → FunctionTree
 void_of word c parameters body end = record { result_type = None; name = name_at word c; parameters = parameters; body = body; end = at end }
 
--- int main(void){ and the body, up to the `}` and the end
+-- int main(void){ and the body, up to the `}`
+abbrev pub main_function : ℕ → ItemsTree → ℕ → FunctionTree
+main_function c body end = record { result_type = Some Int; name = name_at (codes "main") c; parameters = []; body = body; end = at end }
+
+-- and the whole file, up to the `}` and the end
 abbrev pub main_of : ItemsTree → ℕ → FileTree
-main_of body end = record { parts = function (function_of (codes "main") 5 [] body end) ∷ []; end = at (suc end) }
+main_of body end = record { parts = function (main_function 5 body end) ∷ []; end = at (suc end) }
 
 -- int main(void){ long x; x = 3; assert(x >= 3); }
 abbrev pub one_variable : FileTree
@@ -59,8 +63,8 @@ one_variable = main_of (declaration (declared_as (x_at 22) None) (statement (ass
 abbrev pub called_twice : FileTree
 called_twice = record {
   parts = function (function_of (codes "inc") 6 (long_parameter (x_at 15) ∷ [])
-      (statement (assign (set (x_at 19) (expression (plus (use_of (x_at 21)) (unary (literal 1)))))) (statement (return (at 26) (Some (expression (use_of (x_at 33))))) no_items)) 36)
-      ∷ function (function_of (codes "main") 42 []
+      (statement (assign (set (x_at 19) (expression (plus (use_of (x_at 21)) (unary (literal Int 1)))))) (statement (return (at 26) (Some (expression (use_of (x_at 33))))) no_items)) 36)
+      ∷ function (main_function 42
       (declaration (declared_as (x_at 59) (Some (result (call_of (name_at (codes "inc") 61) (number 1 ∷ [])))))
       (statement (assign (set (x_at 69) (result (call_of (name_at (codes "inc") 71) (use_of (x_at 75) ∷ [])))))
       (statement (assert (at 79) (tested (compare (use_of (x_at 86)) equal (number 3)))) no_items))) 93)
@@ -71,7 +75,7 @@ called_twice = record {
 -- long k(long d){ return d+1; } and the functions behind it
 abbrev next_number : FunctionTree
 next_number = function_of (codes "k") 6 (long_parameter (name_at (codes "d") 13) ∷ [])
-    (statement (return (at 17) (Some (expression (plus (use_of (name_at (codes "d") 24)) (unary (literal 1)))))) no_items) 29
+    (statement (return (at 17) (Some (expression (plus (use_of (name_at (codes "d") 24)) (unary (literal Int 1)))))) no_items) 29
 
 -- long k(long d){ return d+1; } long h(long a){ for(long i=0;i<a;i=k(i)) ; return k(a); } int main(void){ long m=h(2); }
 abbrev pub call_in_step : FileTree
@@ -82,7 +86,7 @@ call_in_step = record {
       (Some (tested (compare (use_of (name_at (codes "i") 60)) below (use_of (name_at (codes "a") 62)))))
       (Some (set (name_at (codes "i") 64) (result (call_of (name_at (codes "k") 66) (use_of (name_at (codes "i") 68) ∷ []))))) (nothing (at 72)))
       (statement (return (at 74) (Some (result (call_of (name_at (codes "k") 81) (use_of (name_at (codes "a") 83) ∷ []))))) no_items)) 87)
-      ∷ function (function_of (codes "main") 93 [] (declaration (declared_as (name_at (codes "m") 110) (Some (result (call_of (name_at (codes "h") 112) (number 2 ∷ []))))) no_items) 118)
+      ∷ function (main_function 93 (declaration (declared_as (name_at (codes "m") 110) (Some (result (call_of (name_at (codes "h") 112) (number 2 ∷ []))))) no_items) 118)
       ∷ [];
   end = at 119;
 }
@@ -91,7 +95,7 @@ call_in_step = record {
 abbrev pub repeated_step : FileTree
 repeated_step = record {
   parts = function next_number
-      ∷ function (function_of (codes "main") 35 []
+      ∷ function (main_function 35
       (statement (for (at 47) (declared (declared_as (name_at (codes "i") 56) (Some (expression (number 0)))))
       (Some (tested (compare (use_of (name_at (codes "i") 60)) below (number 9))))
       (Some (set (name_at (codes "i") 64) (result (call_of (name_at (codes "k") 66) (use_of (name_at (codes "i") 68) ∷ [])))))

@@ -1,5 +1,6 @@
 -- Values of the front end's types, and the trees that they stand for.
 use Rattle.std.proofs.Common.{◌≡◌, ℕ, map, rules, Box, Global}
+use Rattle.lra_base.specs.declared.number_types.NumberType.{NumberType}
 use Rattle.lra_tree.specs.declared.trees.Unary.{Unary, Literal, Negated, the_lemmas}
 use Rattle.lra_tree.specs.declared.trees.Factor.{Factor}
 use Rattle.lra_tree.specs.declared.trees.Term.{Term}
@@ -16,8 +17,8 @@ use Rattle.lra_base.specs.declared.refusals.Place.{Place}
 use Rattle.lra_tree.specs.Trees as tree
 use Rattle.lra_tree.specs.Views.{unary_view, unary_step, factor_view, factor_step, term_view, term_step, summand_step, expr_step, product, cond_view, stmt_view}
 
-literal_view : (n : ℕ) → unary_view (Literal n) ≡ tree.literal n
-literal_view n = search (rules, the_lemmas)
+literal_view : (t : NumberType) (n : ℕ) → unary_view (Literal t n) ≡ tree.literal t n
+literal_view t n = search (rules, the_lemmas)
 
 negated_view : (u : Box Unary Global) → unary_view (Negated u) ≡ tree.negated (unary_view u.value)
 negated_view u = search (rules, the_lemmas)

@@ -14,7 +14,7 @@ signed true n = neg_ℤ (pos n)
 signed false n = pos n
 
 abbrev pub literal_at : Bool → Kind → List ℤ
-literal_at minus (Number n) = signed minus n ∷ []
+literal_at minus (Number t n) = signed minus n ∷ []
 literal_at minus kind = []
 
 abbrev pub is_minus : Kind → Bool

@@ -2,14 +2,15 @@
 -- l is the level of nesting at which a part stands, o the level that its first token opens. A function's body is level
 -- 1; a block, a branch of an `if`, a loop's body, a grouping parenthesis and a unary operator open one more, from their
 -- first to their last token.
-use Rattle.std.specs.Prelude.{◌≡◌, ℕ, ◌+◌, ◌⊎◌, ℤ, pos, neg_ℤ, List, [], ◌∷◌, codes, Option, Some}
+use Rattle.std.specs.Prelude.{◌≡◌, ℕ, ◌+◌, ◌⊎◌, pos, neg_ℤ, List, [], ◌∷◌, Option, Some}
 use Rattle.std.specs.Prelude.{None, ⊤}
 use Rattle.lra_base.specs.declared.number_types.NumberType.{NumberType}
-use Rattle.lra_base.specs.declared.number_types.NumberType.TheVariants.{Long}
+use Rattle.lra_base.specs.declared.number_types.NumberType.TheVariants.{Int, Long}
 use Rattle.lra_tree.specs.declared.tokens.Mark.{Mark}
 use Rattle.lra_tree.specs.declared.tokens.Mark.TheVariants as mark
 use Rattle.lra_tree.specs.declared.trees.Identifier.{Identifier}
 use Rattle.lra_tree.specs.declared.trees.Parameter.{Parameter}
+use Rattle.lra_tree.specs.declared.trees.SignedLiteral.{SignedLiteral}
 use Rattle.lra_base.specs.Operators as operators
 use Rattle.lra_tree.specs.Trees.{UnaryTree, negated, positive, literal, variable, input, group, TermTree, unary, times}
 use Rattle.lra_tree.specs.Trees.{over, modulo, ExprTree, term, plus, minus, NegationTree, opposite_again}
@@ -20,7 +21,8 @@ use Rattle.lra_tree.specs.Trees.{before, DeclaratorTree, DeclarationTree, InitTr
 use Rattle.lra_tree.specs.Trees.{StmtTree, block, nothing, assign, call, if_only, if_else, while, for, break, continue}
 use Rattle.lra_tree.specs.Trees.{return, assert, assume, ItemsTree, no_items, declaration, statement, FunctionTree}
 use Rattle.lra_tree.specs.Trees.{GlobalTree, GlobalsTree, PartTree, prototype, globals, function, FileTree}
-use Rattle.lra_tree.specs.Texts.{Texts, ◌⋅◌, ◌∣◌, empty, opens, mark, opens_at, name, number, end_at, separated}
+use Rattle.lra_tree.specs.Texts.{Texts, ◌⋅◌, ◌∣◌, empty, opens, mark, opens_at, name, number, number_at}
+use Rattle.lra_tree.specs.Texts.{end_at, separated}
 
 -- expressions ------------------------------------------------------------------------------------------------------
 -- In the productions of unaries, whose first token may open a level, o is not needed: a name or a literal opens none.
@@ -29,7 +31,7 @@ abbrev mutual
   pub IsUnary : ℕ → UnaryTree → Texts
   IsUnary l (negated u) = opens mark.Minus (l + 1) ⋅ IsUnary (l + 1) u
   IsUnary l (positive u) = opens mark.Plus (l + 1) ⋅ IsUnary (l + 1) u
-  IsUnary l (literal n) = number n
+  IsUnary l (literal t n) = number t n
   IsUnary l (variable x) = name x 0
   IsUnary l input = mark mark.Input ⋅ mark mark.OpenParen ⋅ mark mark.CloseParen
   IsUnary l (group e) = opens mark.OpenParen (l + 1) ⋅ IsExpr (l + 1) e ⋅ mark mark.CloseParen
@@ -119,8 +121,9 @@ IsAssign o l (before at s x) = opens_at (step_mark s) at o ⋅ name x 0
 
 -- declarations -----------------------------------------------------------------------------------------------------
 
--- `long`, `long long`, `long int`, `long long int`
+-- `int`; `long`, `long long`, `long int`, `long long int`
 abbrev pub IsType : NumberType → Texts
+IsType Int = mark mark.Int
 IsType Long = mark mark.Long ⋅ (mark mark.Long ∣ empty) ⋅ (mark mark.Int ∣ empty)
 
 abbrev pub IsSomeType : Texts
@@ -196,12 +199,9 @@ abbrev mutual
 
 -- the whole --------------------------------------------------------------------------------------------------------
 
-abbrev pub IsMainName : Identifier → Texts
-IsMainName x z = (x.word ≡ codes "main") × (mark mark.Int ⋅ name x 0) z
-
--- `int main`, or the type of the result and the name
+-- the type of the result, and the name
 abbrev pub IsHead : Option NumberType → Identifier → Texts
-IsHead (Some Long) x = IsMainName x ∣ (IsType Long ⋅ name x 0)
+IsHead (Some t) x = IsType t ⋅ name x 0
 IsHead None x = mark mark.Void ⋅ name x 0
 
 abbrev pub IsParameter : Parameter → Texts
@@ -216,14 +216,15 @@ IsFunction f =
     IsHead f.result_type f.name ⋅ mark mark.OpenParen ⋅ AreParameters f.parameters ⋅ mark mark.CloseParen
     ⋅ opens mark.OpenBrace 1 ⋅ AreItems 1 f.body ⋅ opens_at mark.CloseBrace f.end 0
 
--- a literal with or without a sign
-abbrev pub IsSigned : ℤ → Texts
-IsSigned v z = (n : ℕ) × (((v ≡ pos n) × number n z) ⊎ ((v ≡ neg_ℤ (pos n)) × (mark mark.Minus ⋅ number n) z))
+-- a literal of any type, with or without a sign
+abbrev pub IsSigned : SignedLiteral → Texts
+IsSigned v z = (t : NumberType) × (n : ℕ) × (((v.value ≡ pos n) × number_at t n v.place z) ⊎
+    ((v.value ≡ neg_ℤ (pos n)) × (mark mark.Minus ⋅ number_at t n v.place) z))
 
 abbrev pub IsGlobal : GlobalTree → Texts
 IsGlobal g = name g.name 0 ⋅ IsFirstValue g.value
   where
-    IsFirstValue : Option ℤ → Texts
+    IsFirstValue : Option SignedLiteral → Texts
     IsFirstValue None = empty
     IsFirstValue (Some v) = mark mark.Assign ⋅ IsSigned v
 

@@ -2,6 +2,8 @@
 use Rattle.std.specs.Prelude.{◌≡◌, ℕ, ◌≤◌, Bool, true, false, ◌||◌, ◌&&◌, nat_eq, nat_le, List, [], ◌∷◌, ◌++◌, codes}
 use Rattle.std.specs.Prelude.{bytes_eq, ◌*◌, ◌⊎◌, if◌then◌else◌, ◌≢◌, ◌+◌, ◌-◌}
 use Rattle.std.specs.List.{list_all, list_any}
+use Rattle.lra_base.specs.declared.number_types.NumberType.{NumberType}
+use Rattle.lra_base.specs.declared.number_types.NumberType.TheVariants.{Int, Long}
 use Rattle.lra_tree.specs.declared.tokens.Mark.{Mark}
 use Rattle.lra_tree.specs.declared.tokens.Mark.TheVariants as mark
 use Rattle.lra_tree.specs.declared.tokens.Kind.{Kind}
@@ -152,6 +154,16 @@ pub record IsLiteral (s : List ℕ) (n : ℕ) : Type 0 where
 abbrev pub greatest_literal : ℕ
 greatest_literal = 9223372036854775807
 
+-- 2^31 - 1
+abbrev pub greatest_int_literal : ℕ
+greatest_int_literal = 2147483647
+
+-- the type of a literal with this suffix and this value: an `int` where it has no suffix and fits one. (In C one of
+-- octal or hexadecimal digits may be unsigned as well; here no type is.)
+abbrev pub literal_type : List ℕ → ℕ → NumberType
+literal_type [] n = if nat_le n greatest_int_literal then Int else Long
+literal_type (c ∷ cs) n = Long
+
 -- comments (6.4.9) -------------------------------------------------------------------------------------------------
 
 -- no `*/` in it
@@ -175,7 +187,8 @@ pub data Lexeme (s : List ℕ) : Type 0 where
 pub data SpellsToken (s : List ℕ) : Kind → Type 0 where
   name : is_name_word s ≡ true → is_among s named_words ≡ false → is_among s further_words ≡ false
       → SpellsToken s (Name s)
-  number : (n : ℕ) → is_number_word s ≡ true → IsLiteral s n → n ≤ greatest_literal → SpellsToken s (Number n)
+  number : (n : ℕ) (t : NumberType) → is_number_word s ≡ true → (l : IsLiteral s n) → t ≡ literal_type l.suffix n →
+      n ≤ greatest_literal → SpellsToken s (Number t n)
   mark_of : (m : Mark) → s ≡ mark_text m → SpellsToken s (MarkOf m)
   reserved : is_among s further_words ≡ true → SpellsToken s Reserved
   comment : IsUnclosed s → SpellsToken s Unclosed

@@ -1,6 +1,7 @@
 -- Languages of tokens. A piece is a token with the level of nesting that it opens, or 0.
 use Rattle.std.specs.Prelude.{◌≡◌, ℕ, ◌⊎◌, List, [], ◌∷◌, ◌++◌, map}
 use Rattle.lra_base.specs.declared.refusals.Place.{Place}
+use Rattle.lra_base.specs.declared.number_types.NumberType.{NumberType}
 use Rattle.lra_tree.specs.declared.tokens.Mark.{Mark}
 use Rattle.lra_tree.specs.declared.tokens.Mark.TheVariants.{Comma}
 use Rattle.lra_tree.specs.declared.tokens.Kind.TheVariants.{Name, Number, Mark as MarkOf, End}
@@ -49,8 +50,12 @@ opens_at m at o z = z ≡ (record { kind = MarkOf m; place = at }, o) ∷ []
 abbrev pub name : Identifier → ℕ → Texts
 name x o z = z ≡ (record { kind = Name x.word; place = x.place }, o) ∷ []
 
-abbrev pub number : ℕ → Texts
-number n z = (at : Place) × (z ≡ (record { kind = Number n; place = at }, 0) ∷ [])
+-- a literal at a place of the tree
+abbrev pub number_at : NumberType → ℕ → Place → Texts
+number_at t n at z = z ≡ (record { kind = Number t n; place = at }, 0) ∷ []
+
+abbrev pub number : NumberType → ℕ → Texts
+number t n z = (at : Place) × number_at t n at z
 
 abbrev pub end_at : Place → Texts
 end_at at z = z ≡ (record { kind = End; place = at }, 0) ∷ []

@@ -1,10 +1,11 @@
 -- Trees of sources, apart from where they lie in memory. A chain of operators nests to the left; a list is in text
 -- order.
-use Rattle.std.specs.Prelude.{ℕ, ℤ, List, Option}
+use Rattle.std.specs.Prelude.{ℕ, List, Option}
 use Rattle.lra_base.specs.declared.refusals.Place.{Place}
 use Rattle.lra_base.specs.declared.number_types.NumberType.{NumberType}
 use Rattle.lra_tree.specs.declared.trees.Identifier.{Identifier}
 use Rattle.lra_tree.specs.declared.trees.Parameter.{Parameter}
+use Rattle.lra_tree.specs.declared.trees.SignedLiteral.{SignedLiteral}
 use Rattle.lra_base.specs.Operators.{Operator, Comparison}
 
 -- expressions (ISO/IEC 9899:2011, 6.5.1, 6.5.3, 6.5.5, 6.5.6)
@@ -12,7 +13,7 @@ mutual
   pub data UnaryTree : Type 0 where
     negated : UnaryTree → UnaryTree
     positive : UnaryTree → UnaryTree
-    literal : ℕ → UnaryTree
+    literal : NumberType → ℕ → UnaryTree
     variable : Identifier → UnaryTree
     input : UnaryTree
     group : ExprTree → UnaryTree
@@ -122,7 +123,7 @@ pub record FunctionTree : Type 0 where
 -- a global variable and its signed literal
 pub record GlobalTree : Type 0 where
   pub name : Identifier
-  pub value : Option ℤ
+  pub value : Option SignedLiteral
 
 pub record GlobalsTree : Type 0 where
   pub number_type : NumberType

@@ -69,7 +69,7 @@ UnaryLayer = Unary-F tree.UnaryTree tree.ExprTree (FactorOperator × tree.UnaryT
 abbrev pub unary_step : UnaryLayer → tree.UnaryTree
 unary_step (Unary-F.Negated u) = tree.negated u.value
 unary_step (Unary-F.Positive u) = tree.positive u.value
-unary_step (Unary-F.Literal n) = tree.literal n
+unary_step (Unary-F.Literal t n) = tree.literal t n
 unary_step (Unary-F.Variable x) = tree.variable x
 unary_step Unary-F.Input = tree.input
 unary_step (Unary-F.Group e) = tree.group e.value

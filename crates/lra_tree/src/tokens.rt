@@ -2,7 +2,7 @@
 
 ghost use Rattle.std.specs.Prelude.{◌≡◌, IfOk};
 
-use lra_base::Place;
+use lra_base::{NumberType, Place};
 use std::alloc::{AllocError, Global};
 use std::marker::Model;
 
@@ -103,8 +103,8 @@ impl Model for Word {
 /// What a token is.
 pub enum Kind {
     Name(Word),
-    /// A literal's value, at most 2^63 - 1.
-    Number(u64),
+    /// A literal's type, and its value, at most 2^63 - 1.
+    Number(NumberType, u64),
     Mark(Mark),
     /// A reserved word that the grammar doesn't name.
     Reserved,
@@ -118,7 +118,7 @@ impl Drop for Kind {
     fn drop(self) {
         match self {
             Kind::Name(_) => {}
-            Kind::Number(_) => {}
+            Kind::Number(_, _) => {}
             Kind::Mark(_) => {}
             Kind::Reserved => {}
             Kind::Unclosed => {}

@@ -42,7 +42,7 @@ impl Identifier {
 pub enum Unary {
     Negated(Box<Unary>),
     Positive(Box<Unary>),
-    Literal(u64),
+    Literal(NumberType, u64),
     Variable(Identifier),
     Input,
     Group(Box<Expr>),
@@ -54,7 +54,7 @@ impl Drop for Unary {
         match self {
             Unary::Negated(_) => {}
             Unary::Positive(_) => {}
-            Unary::Literal(_) => {}
+            Unary::Literal(_, _) => {}
             Unary::Variable(_) => {}
             Unary::Input => {}
             Unary::Group(_) => {}
@@ -530,11 +530,19 @@ impl Drop for Function {
     }
 }
 
+/// A literal with its sign.
+#[derive(Clone, Copy, PartialEq, Eq, Debug)]
+pub struct SignedLiteral {
+    pub value: i64,
+    /// The place of the literal, which stands behind the sign.
+    pub place: Place,
+}
+
 /// A global variable.
 pub struct Global {
     pub name: Identifier,
-    /// Its signed literal.
-    pub value: Option<i64>,
+    /// Its first value.
+    pub value: Option<SignedLiteral>,
 }
 
 impl Drop for Global {
