@@ -1,23 +1,24 @@
 -- Names: what they mean, and the faults of names at their places. Which slip an example would catch stands beside it.
-use Rattle.std.proofs.Common.{◌≡◌, ℕ, zero, suc, ◌<◌, List, [], ◌∷◌, ◌++◌, length, Some, None, refl, ap, subst, sym, ◌∙◌, arith}
+use Rattle.std.proofs.Common.{◌≡◌, ℕ, zero, suc, ◌<◌, ℤ, pos, negsuc, List, [], ◌∷◌, ◌++◌, length, Some, None, refl, ap, subst, sym, ◌∙◌, arith}
 use Rattle.lra_tree.specs.Functions.{functions_of}
 use Rattle.std.specs.Prelude.{codes, map, Contains}
-use Rattle.lra_base.specs.declared.number_types.NumberType.TheVariants.{Long}
+use Rattle.lra_base.specs.declared.number_types.NumberType.{NumberType}
+use Rattle.lra_base.specs.declared.number_types.NumberType.TheVariants.{Int, Long}
 use Rattle.lra_base.specs.declared.refusals.Refusal.{Refusal}
 use Rattle.lra_tree.specs.declared.trees.Identifier.{Identifier}
 use Rattle.lra_base.specs.declared.refusals.Cause.{Cause}
-use Rattle.lra_base.specs.declared.refusals.Cause.TheVariants.{NoMain, UnknownName, DuplicateName, BadCall, Misplaced, Recursive}
+use Rattle.lra_base.specs.declared.refusals.Cause.TheVariants.{BadLiteral, NoMain, UnknownName, DuplicateName, BadCall, Misplaced, Recursive}
 use Rattle.lra_program.specs.Program as program
 use Rattle.lra_base.specs.Operators as operators
 use Rattle.lra_tree.specs.Trees.{value, compare, conjunction, test, and, or, expression, result, set, after, increment, declared, block, nothing, assign, call, for, break, return, no_items}
-use Rattle.lra_tree.specs.Trees.{declaration, statement, globals, function, FileTree, FunctionTree}
+use Rattle.lra_tree.specs.Trees.{declaration, statement, globals, function, FileTree, FunctionTree, GlobalTree}
 use Rattle.lra_tree.specs.Labels.{labels_of}
 use Rattle.lra_meaning.specs.NameFaults.{name_faults}
 use Rattle.lra_meaning.specs.Resolve.{resolve, resolve_cond}
 use Rattle.lra_tree.specs.Reach.{calls_of, ReachesByCalls, there, by_call, IsRecursive, IsFirstRecursive, NotRecursive}
 use Rattle.lra_meaning.specs.Refuse.{RefusesTree, recursive}
 use Rattle.lra_program.proofs.RunExamples as run
-use Rattle.lra_tree.proofs.TreeSamples.{at, name_at, x_at, number, use_of, tested, call_of, declared_as, long_parameter, function_of, void_of, main_of, one_variable, called_twice}
+use Rattle.lra_tree.proofs.TreeSamples.{at, name_at, x_at, number, use_of, tested, call_of, declared_as, long_parameter, main_function, void_of, main_of, one_variable, called_twice}
 
 abbrev fault : Cause → ℕ → Refusal
 fault c column = record { cause = c; place = at column }
@@ -42,10 +43,10 @@ shadowed = main_of (declaration (declared_as (x_at 22) None)
     (statement (block (declaration (declared_as (x_at 32) None) (statement (assign (set (x_at 35) (expression (number 1)))) no_items)) (at 42))
     (statement (assign (set (x_at 44) (expression (number 2)))) no_items))) 51
 
-shadowed_body : (resolve shadowed).main.body ≡ program.declaration (record { label = 1; rvalue = None })
-    (program.statement (program.block (program.declaration (record { label = 2; rvalue = None })
-    (program.statement (program.assign 3 (program.local 1) (program.value (program.literal 1))) program.no_more)) 4)
-    (program.statement (program.assign 5 (program.local 0) (program.value (program.literal 2))) program.no_more))
+shadowed_body : (resolve shadowed).main.body ≡ program.declaration (record { label = 1; number_type = Long; rvalue = None })
+    (program.statement (program.block (program.declaration (record { label = 2; number_type = Long; rvalue = None })
+    (program.statement (program.assign 3 (run.long_variable (program.local 1)) (program.value (program.literal Int 1))) program.no_more)) 4)
+    (program.statement (program.assign 5 (run.long_variable (program.local 0)) (program.value (program.literal Int 2))) program.no_more))
 shadowed_body = refl
 
 shadowed_allowed : name_faults shadowed ≡ []
@@ -56,9 +57,9 @@ abbrev one_for : FileTree
 one_for = main_of (statement (for (at 17) (declared (declared_as (x_at 26) (Some (expression (number 0))))) (Some (tested (compare (use_of (x_at 31)) operators.below (number 3))))
     (Some (after (x_at 36) increment)) (nothing (at 41))) no_items) 43
 
-one_for_body : (resolve one_for).main.body ≡ program.statement (program.for 1 (program.declaration (record { label = 2; rvalue = Some (program.value (program.literal 0)) }) program.no_more)
-    (program.compare operators.below (program.read (program.local 0)) (program.literal 3)) (program.nothing 4)
-    (program.assign 3 (program.local 0) (program.value (program.binary operators.plus (program.read (program.local 0)) (program.literal 1))))) program.no_more
+one_for_body : (resolve one_for).main.body ≡ program.statement (program.for 1 (program.declaration (record { label = 2; number_type = Long; rvalue = Some (program.value (program.literal Int 0)) }) program.no_more)
+    (program.compare operators.below (program.read (run.long_variable (program.local 0))) (program.literal Int 3)) (program.nothing 4)
+    (program.assign 3 (run.long_variable (program.local 0)) (program.value (program.binary operators.plus (program.read (run.long_variable (program.local 0))) (program.literal Int 1))))) program.no_more
 one_for_body = refl
 
 one_for_places : (map (λ l. l.place.column) (labels_of one_for) ≡ 17 ∷ 26 ∷ 36 ∷ 41 ∷ 43 ∷ []) ×
@@ -68,9 +69,9 @@ one_for_places = (refl, refl)
 -- a*b+c is (a*b)+c and a-b-c is (a-b)-c, while a&&b&&c is a&&(b&&c) and a||b||c is a||(b||c)
 chain : resolve_cond (record { globals = record { name = codes "x"; number_type = Long } ∷ []; locals = []; outer = 0 })
     (or (or (conjunction (test (value (use_of (x_at 1))))) (and (and (test (value (number 1))) (value (number 2))) (value (number 3)))) (test (value (number 4))))
-    ≡ program.either_of (program.nonzero (program.read (program.global 0)))
-    (program.either_of (program.both_of (program.nonzero (program.literal 1)) (program.both_of (program.nonzero (program.literal 2)) (program.nonzero (program.literal 3))))
-    (program.nonzero (program.literal 4)))
+    ≡ program.either_of (program.nonzero (program.read (run.long_variable (program.global 0))))
+    (program.either_of (program.both_of (program.nonzero (program.literal Int 1)) (program.both_of (program.nonzero (program.literal Int 2)) (program.nonzero (program.literal Int 3))))
+    (program.nonzero (program.literal Int 4)))
 chain = refl
 
 -- faults -----------------------------------------------------------------------------------------------------------
@@ -90,7 +91,7 @@ duplicate_name = refl
 -- void f(void){} int main(void){ f(1); }
 abbrev pub calls_with_one : FileTree
 calls_with_one = record {
-  parts = function (void_of (codes "f") 6 [] no_items 14) ∷ function (function_of (codes "main") 20 [] (statement (call (call_of (name_at (codes "f") 32) (number 1 ∷ []))) no_items) 38) ∷ [];
+  parts = function (void_of (codes "f") 6 [] no_items 14) ∷ function (main_function 20 (statement (call (call_of (name_at (codes "f") 32) (number 1 ∷ []))) no_items) 38) ∷ [];
   end = at 39;
 }
 
@@ -100,7 +101,7 @@ bad_call = refl
 -- void f(void){ return 1; } int main(void){ long x=f(); } : the value of a void function, given and used
 void_values : name_faults (record {
   parts = function (void_of (codes "f") 6 [] (statement (return (at 15) (Some (expression (number 1)))) no_items) 25)
-      ∷ function (function_of (codes "main") 31 [] (declaration (declared_as (x_at 48) (Some (result (call_of (name_at (codes "f") 50) [])))) no_items) 55) ∷ [];
+      ∷ function (main_function 31 (declaration (declared_as (x_at 48) (Some (result (call_of (name_at (codes "f") 50) [])))) no_items) 55) ∷ [];
   end = at 56;
 }) ≡ fault BadCall 15 ∷ fault BadCall 50 ∷ []
 void_values = refl
@@ -120,7 +121,7 @@ gone = refl
 
 -- void f(long x){ long x; } int main(void){} : parameters and the body's declarations are one scope
 parameter_again : name_faults (record {
-  parts = function (void_of (codes "f") 6 (long_parameter (x_at 13) ∷ []) (declaration (declared_as (x_at 22) None) no_items) 25) ∷ function (function_of (codes "main") 31 [] no_items 42) ∷ [];
+  parts = function (void_of (codes "f") 6 (long_parameter (x_at 13) ∷ []) (declaration (declared_as (x_at 22) None) no_items) 25) ∷ function (main_function 31 no_items 42) ∷ [];
   end = at 43;
 }) ≡ fault DuplicateName 22 ∷ []
 parameter_again = refl
@@ -128,15 +129,41 @@ parameter_again = refl
 -- long x; void x(void){} int main(void){} : functions and globals share a scope
 global_and_function : name_faults (record {
   parts = globals (record { number_type = Long; first = record { name = x_at 6; value = None }; rest = [] })
-      ∷ function (void_of (codes "x") 14 [] no_items 22) ∷ function (function_of (codes "main") 28 [] no_items 39) ∷
+      ∷ function (void_of (codes "x") 14 [] no_items 22) ∷ function (main_function 28 no_items 39) ∷
       [];
   end = at 40;
 }) ≡ fault DuplicateName 14 ∷ []
 global_and_function = refl
 
+-- the first values of globals: the literal's place, behind its sign; a name's fault stands before its literal's
+abbrev int_global : Identifier → ℤ → ℕ → GlobalTree
+int_global x z c = record { name = x; value = Some (record { value = z; place = at c }) }
+
+abbrev with_globals : NumberType → List GlobalTree → FileTree
+with_globals t [] = main_of no_items 40
+with_globals t (g ∷ gs) = record { parts = globals (record { number_type = t; first = g; rest = gs }) ∷ function (main_function 30 no_items 40) ∷ []; end = at 41 }
+
+-- int g=2147483648; : catches a limit of 64 bits
+wide_int : name_faults (with_globals Int (int_global (name_at (codes "g") 5) (pos 2147483648) 7 ∷ [])) ≡ fault BadLiteral 7 ∷ []
+wide_int = refl
+
+-- int g=-2147483648; and long g=2147483648; : catches a literal asked without its sign, and a `long` that is asked as an `int`
+least_int : (name_faults (with_globals Int (int_global (name_at (codes "g") 5) (negsuc 2147483647) 8 ∷ [])) ≡ []) ×
+    (name_faults (with_globals Long (int_global (name_at (codes "g") 6) (pos 2147483648) 8 ∷ [])) ≡ [])
+least_int = (refl, refl)
+
+-- int g=-2147483649;
+below_least : name_faults (with_globals Int (int_global (name_at (codes "g") 5) (negsuc 2147483648) 8 ∷ [])) ≡ fault BadLiteral 8 ∷ []
+below_least = refl
+
+-- int g, g=2147483648; : both faults, the name's first
+name_before_literal : name_faults (with_globals Int (record { name = name_at (codes "g") 5; value = None } ∷ int_global (name_at (codes "g") 8) (pos 2147483648) 10 ∷ [])) ≡
+    fault DuplicateName 8 ∷ fault BadLiteral 10 ∷ []
+name_before_literal = refl
+
 -- int main(void){ f(); x=1; } void f(void){} long x; : a function may be defined behind its call, a global must stand before its use
 later : name_faults (record {
-  parts = function (function_of (codes "main") 5 [] (statement (call (call_of (name_at (codes "f") 17) [])) (statement (assign (set (x_at 22) (expression (number 1)))) no_items)) 27)
+  parts = function (main_function 5 (statement (call (call_of (name_at (codes "f") 17) [])) (statement (assign (set (x_at 22) (expression (number 1)))) no_items)) 27)
       ∷ function (void_of (codes "f") 34 [] no_items 42) ∷ globals (record { number_type = Long; first = record { name = x_at 49; value = None }; rest = [] }) ∷ [];
   end = at 51;
 }) ≡ fault UnknownName 22 ∷ []
@@ -145,7 +172,7 @@ later = refl
 -- void f(void){ f(); } int main(void){}
 abbrev pub itself : FileTree
 itself = record {
-  parts = function (void_of (codes "f") 6 [] (statement (call (call_of (name_at (codes "f") 15) [])) no_items) 20) ∷ function (function_of (codes "main") 26 [] no_items 37) ∷ [];
+  parts = function (void_of (codes "f") 6 [] (statement (call (call_of (name_at (codes "f") 15) [])) no_items) 20) ∷ function (main_function 26 no_items 37) ∷ [];
   end = at 38;
 }
 
@@ -161,7 +188,7 @@ abbrev caller : FunctionTree
 caller = void_of (codes "f") 6 [] (statement (call (call_of (name_at (codes "main") 15) [])) no_items) 23
 
 abbrev last : FunctionTree
-last = function_of (codes "main") 29 [] no_items 40
+last = main_function 29 no_items 40
 
 abbrev main_called : FileTree
 main_called = record { parts = function caller ∷ function last ∷ []; end = at 41 }
@@ -197,7 +224,7 @@ main_called_allowed = (refl, λ at r. not_at r.0 r.1 r.2 r.3 r.5)
 -- f and g reach each other, and f's call is the first in text order: main's call of f isn't recursive, since f never reaches main
 abbrev one_another : FileTree
 one_another = record {
-  parts = function (function_of (codes "main") 5 [] (statement (call (call_of (name_at (codes "f") 17) [])) no_items) 22)
+  parts = function (main_function 5 (statement (call (call_of (name_at (codes "f") 17) [])) no_items) 22)
       ∷ function (void_of (codes "f") 29 [] (statement (call (call_of (name_at (codes "g") 38) [])) no_items) 43)
       ∷ function (void_of (codes "g") 50 [] (statement (call (call_of (name_at (codes "f") 59) [])) no_items) 64) ∷ [];
   end = at 65;

@@ -23,7 +23,7 @@ use Rattle.lra_tree.proofs.FirstTokens.{not_unclosed}
 use Rattle.lra_tree.proofs.Lexemes.{Item, faulty}
 use Rattle.lra_tree.proofs.LexedByTest.{space, sign, word_of, are_read_by}
 use Rattle.lra_tree.proofs.TokenExamples.{too_large}
-use Rattle.lra_tree.proofs.TreeSamples.{at, name_at, call_of, long_parameter, function_of, void_of, main_of, declared_as, number as number_of}
+use Rattle.lra_tree.proofs.TreeSamples.{at, name_at, call_of, long_parameter, main_function, void_of, main_of, declared_as, number as number_of}
 
 abbrev limits : FileTree → Option Refusal
 limits t = limit_fault (labels_of t) 0 (events_of (resolve t))
@@ -61,7 +61,7 @@ enough_in_for = refl
 abbrev with_callee : ℕ → FileTree
 with_callee n = record {
   parts = function (void_of (codes "f") 6 (long_parameter (name_at (codes "d") 13) ∷ []) (statement (nothing (at 16)) no_items) 17)
-      ∷ function (function_of (codes "main") 23 []
+      ∷ function (main_function 23
       (declaration (record { number_type = Long; first = record { name = name_at (codes "v") 40; rvalue = None }; rest = variables n })
       (statement (call (call_of (name_at (codes "f") 132) (number_of 0 ∷ []))) no_items)) 138)
       ∷ [];
@@ -93,7 +93,7 @@ chain zero = function (void_of (97 ∷ 0 ∷ []) 6 [] no_items 14) ∷ []
 chain (suc n) = function (void_of (97 ∷ suc n ∷ []) 6 [] (statement (call (call_of (name_at (97 ∷ n ∷ []) (suc n)) [])) no_items) 14) ∷ chain n
 
 abbrev calling : ℕ → FileTree
-calling n = record { parts = function (function_of (codes "main") 5 [] (statement (call (call_of (name_at (97 ∷ n ∷ []) 17) [])) no_items) 24) ∷ chain n; end = at 25 }
+calling n = record { parts = function (main_function 5 (statement (call (call_of (name_at (97 ∷ n ∷ []) 17) [])) no_items) 24) ∷ chain n; end = at 25 }
 
 -- 32 calls on the longest path; with one function more the call of the last, in the last but one, is refused at its name
 calls_enough : limits (calling 31) ≡ None

@@ -7,7 +7,10 @@ use Rattle.lra_base.specs.declared.number_types.NumberType.{NumberType}
 use Rattle.lra_base.specs.declared.refusals.Place.{Place}
 use Rattle.lra_base.specs.declared.refusals.Refusal.{Refusal}
 use Rattle.lra_base.specs.declared.refusals.Cause.{Cause}
-use Rattle.lra_base.specs.declared.refusals.Cause.TheVariants.{NoMain, UnknownName, DuplicateName, BadCall, Misplaced}
+use Rattle.lra_base.specs.declared.refusals.Cause.TheVariants.{BadLiteral, NoMain, UnknownName, DuplicateName, BadCall}
+use Rattle.lra_base.specs.declared.refusals.Cause.TheVariants.{Misplaced}
+use Rattle.lra_base.specs.NumberTypes.{fits}
+use Rattle.lra_tree.specs.declared.trees.SignedLiteral.{SignedLiteral}
 use Rattle.lra_tree.specs.declared.trees.Identifier.{Identifier}
 use Rattle.lra_tree.specs.declared.trees.Parameter.{Parameter}
 use Rattle.lra_tree.specs.Trees.{UnaryTree, negated, positive, literal, variable, input, group, TermTree, unary, times}
@@ -34,7 +37,7 @@ abbrev mutual
   pub unary_faults : Scope → UnaryTree → List Refusal
   unary_faults s (negated u) = unary_faults s u
   unary_faults s (positive u) = unary_faults s u
-  unary_faults s (literal n) = []
+  unary_faults s (literal t n) = []
   unary_faults s (variable x) = use_faults s x
   unary_faults s input = []
   unary_faults s (group e) = expr_faults s e
@@ -175,10 +178,16 @@ function_faults F outside f =
     ++ items_faults (record { functions = F; has_result = is_some f.result_type; in_loop = false })
     (function_scope outside f.parameters) f.body
 
-abbrev pub globals_faults : List (List ℕ) → List GlobalTree → List Refusal
-globals_faults names [] = []
-globals_faults names (g ∷ gs) = fault_if (is_taken g.name.word names) DuplicateName g.name.place ++
-    globals_faults (names ++ g.name.word ∷ []) gs
+-- a first value, with its sign, is one of its variable's type; of 64 bits each literal is, with a sign or without
+abbrev pub first_value_faults : NumberType → Option SignedLiteral → List Refusal
+first_value_faults t None = []
+first_value_faults t (Some v) = fault_if (not (fits t v.value)) BadLiteral v.place
+
+-- of one type
+abbrev pub globals_faults : NumberType → List (List ℕ) → List GlobalTree → List Refusal
+globals_faults t names [] = []
+globals_faults t names (g ∷ gs) = fault_if (is_taken g.name.word names) DuplicateName g.name.place ++
+    first_value_faults t g.value ++ globals_faults t (names ++ g.name.word ∷ []) gs
 
 abbrev pub global_names : List GlobalTree → List (List ℕ)
 global_names gs = map (λ (g : GlobalTree). g.name.word) gs
@@ -188,7 +197,7 @@ abbrev pub parts_faults : List FunctionTree → List (List ℕ) → List Entry �
 parts_faults F names outside [] = []
 parts_faults F names outside (prototype ∷ ps) = parts_faults F names outside ps
 parts_faults F names outside (globals g ∷ ps) =
-    globals_faults names (g.first ∷ g.rest) ++
+    globals_faults g.number_type names (g.first ∷ g.rest) ++
     parts_faults F (names ++ global_names (g.first ∷ g.rest)) (outside ++ global_entries g) ps
 parts_faults F names outside (function f ∷ ps) =
     fault_if (is_taken f.name.word names) DuplicateName f.name.place ++ function_faults F outside f ++

@@ -2,17 +2,22 @@
 -- functions (ISO/IEC 9899:2011, 6.2.1), and labels are given in text order. A call has the label of its statement or
 -- declarator.
 -- All functions of the source can be called, `main` among them.
-use Rattle.std.specs.Prelude.{ℕ, suc, ◌+◌, ℤ, pos, List, [], ◌∷◌, ◌++◌, length, map, Option, Some, None, unwrap_or}
+use Rattle.std.specs.Prelude.{ℕ, suc, ◌+◌, ℤ, pos, List, [], ◌∷◌, ◌++◌, length, map, Option, Some, None}
 use Rattle.std.specs.Prelude.{cond}
 use Rattle.lra_base.specs.declared.number_types.NumberType.{NumberType}
+use Rattle.lra_base.specs.declared.number_types.NumberType.TheVariants.{Int}
+use Rattle.lra_tree.specs.declared.trees.SignedLiteral.{SignedLiteral}
+use Rattle.lra_tree.specs.declared.trees.Parameter.{Parameter}
+use Rattle.lra_program.specs.declared.program.GlobalVariable.{GlobalVariable}
 use Rattle.lra_tree.specs.declared.trees.Identifier.{Identifier}
 use Rattle.lra_tree.specs.Trees as tree
-use Rattle.lra_program.specs.Program.{Slot, global, Expr, literal, read, input, negate, binary, Cond, compare, nonzero}
+use Rattle.lra_program.specs.Program.{Slot, global, Variable, Expr, literal, read, input, negate, binary, Cond, compare}
+use Rattle.lra_program.specs.Program.{nonzero}
 use Rattle.lra_program.specs.Program.{opposite, both_of, either_of, Call, Rvalue, value, result, Stmt, absent, nothing}
 use Rattle.lra_program.specs.Program.{block, assign, call, if, loop, for, break, continue, return, assert, assume}
 use Rattle.lra_program.specs.Program.{BlockItems, no_more, declaration, statement, Function, Program}
 use Rattle.lra_base.specs.Operators.{Operator, plus, minus, times, over, modulo}
-use Rattle.lra_meaning.specs.Scope.{Entry, Scope, slot_of, with_local, declarator_entry, global_entries}
+use Rattle.lra_meaning.specs.Scope.{Entry, Scope, slot_of, type_at, with_local, declarator_entry, global_entries}
 use Rattle.lra_meaning.specs.Scope.{with_declarators, inner, for_scope, function_scope}
 use Rattle.lra_tree.specs.Functions.{functions_of, is_named, is_main}
 use Rattle.lra_tree.specs.Labels.{init_labels, step_labels, stmt_labels}
@@ -23,8 +28,10 @@ abbrev pub slot_or : Option Slot → Slot
 slot_or None = global 0
 slot_or (Some v) = v
 
-abbrev pub variable : Scope → Identifier → Slot
-variable s x = slot_or (slot_of s x.word)
+abbrev pub variable : Scope → Identifier → Variable
+variable s x =
+    let slot = slot_or (slot_of s x.word) in
+    record { slot = slot; number_type = type_at s slot }
 
 -- the place of the first function of this name
 abbrev pub function_place : List tree.FunctionTree → List ℕ → ℕ
@@ -37,7 +44,7 @@ abbrev mutual
   pub resolve_unary : Scope → tree.UnaryTree → Expr
   resolve_unary s (tree.negated u) = negate (resolve_unary s u)
   resolve_unary s (tree.positive u) = resolve_unary s u
-  resolve_unary s (tree.literal n) = literal n
+  resolve_unary s (tree.literal t n) = literal t n
   resolve_unary s (tree.variable x) = read (variable s x)
   resolve_unary s tree.input = input
   resolve_unary s (tree.group e) = resolve_expr s e
@@ -83,7 +90,7 @@ abbrev mutual
 abbrev pub resolve_cond : Scope → tree.CondTree → Cond
 resolve_cond s c = any_of s c None
 
--- calls and assignments: `x op= e` is `x = x op (e)`, and `x++` and `++x` are `x = x + 1` ---------------------------
+-- calls and assignments: `x op= e` is `x = x op (e)`, and `x++` and `++x` are `x = x + 1`, 1 an `int` -----------------
 
 abbrev pub resolve_call : List tree.FunctionTree → Scope → ℕ → tree.CallTree → Call
 resolve_call F s n c = record {
@@ -109,9 +116,9 @@ resolve_assign F s n (tree.set x e) = assign n (variable s x) (resolve_rvalue F 
 resolve_assign F s n (tree.update x op e) = assign n (variable s x)
     (value (binary op (read (variable s x)) (resolve_expr s e)))
 resolve_assign F s n (tree.after x step) = assign n (variable s x)
-    (value (binary (step_operator step) (read (variable s x)) (literal 1)))
+    (value (binary (step_operator step) (read (variable s x)) (literal Int 1)))
 resolve_assign F s n (tree.before at step x) = assign n (variable s x)
-    (value (binary (step_operator step) (read (variable s x)) (literal 1)))
+    (value (binary (step_operator step) (read (variable s x)) (literal Int 1)))
 
 -- declarations of one type: n is the first label, and the items behind follow -----------------------------------------
 
@@ -120,7 +127,7 @@ abbrev pub resolve_declarators : List tree.FunctionTree → Scope → ℕ → Nu
 resolve_declarators F s n t [] items = items
 resolve_declarators F s n t (d ∷ ds) items =
     let inside = with_local s (declarator_entry t d) in
-    declaration (record { label = n; rvalue = resolve_given F inside n d.rvalue })
+    declaration (record { label = n; number_type = t; rvalue = resolve_given F inside n d.rvalue })
     (resolve_declarators F inside (suc n) t ds items)
 
 abbrev pub resolve_init : List tree.FunctionTree → Scope → ℕ → tree.InitTree → BlockItems
@@ -130,7 +137,7 @@ resolve_init F s n (tree.assigned a) = statement (resolve_assign F s n a) no_mor
 
 -- a test that isn't there is true
 abbrev pub resolve_for_test : Scope → Option tree.CondTree → Cond
-resolve_for_test s None = nonzero (literal 1)
+resolve_for_test s None = nonzero (literal Int 1)
 resolve_for_test s (Some c) = resolve_cond s c
 
 abbrev pub resolve_step : List tree.FunctionTree → Scope → ℕ → Option tree.AssignTree → Stmt
@@ -191,19 +198,24 @@ abbrev mutual
 
 abbrev pub resolve_function : List tree.FunctionTree → List Entry → ℕ → tree.FunctionTree → Function
 resolve_function F outside n f = record {
-  parameters = length f.parameters;
+  result_type = f.result_type;
+  parameters = map (λ (p : Parameter). p.number_type) f.parameters;
   body = resolve_items F (function_scope outside f.parameters) n f.body;
   end = n + items_count f.body;
 }
 
-abbrev pub global_value : tree.GlobalTree → ℤ
-global_value g = unwrap_or g.value (pos 0)
+-- 0 where it has none
+abbrev pub value_or_zero : Option SignedLiteral → ℤ
+value_or_zero None = pos 0
+value_or_zero (Some v) = v.value
 
--- the first values of the globals
-abbrev pub globals_in : List tree.PartTree → List ℤ
+abbrev pub resolve_global : NumberType → tree.GlobalTree → GlobalVariable
+resolve_global t g = record { number_type = t; value = value_or_zero g.value }
+
+abbrev pub globals_in : List tree.PartTree → List GlobalVariable
 globals_in [] = []
 globals_in (tree.prototype ∷ ps) = globals_in ps
-globals_in (tree.globals g ∷ ps) = map global_value (g.first ∷ g.rest) ++ globals_in ps
+globals_in (tree.globals g ∷ ps) = map (resolve_global g.number_type) (g.first ∷ g.rest) ++ globals_in ps
 globals_in (tree.function f ∷ ps) = globals_in ps
 
 -- the functions behind some globals, from the label n on
@@ -219,8 +231,8 @@ resolved_functions t = resolve_parts (functions_of t) [] 1 t.parts
 
 -- the first `main` among them
 abbrev pub main_of : List tree.FunctionTree → List Function → Function
-main_of [] gs = record { parameters = 0; body = no_more; end = 0 }
-main_of (f ∷ fs) [] = record { parameters = 0; body = no_more; end = 0 }
+main_of [] gs = record { result_type = None; parameters = []; body = no_more; end = 0 }
+main_of (f ∷ fs) [] = record { result_type = None; parameters = []; body = no_more; end = 0 }
 main_of (f ∷ fs) (g ∷ gs) = cond (is_main f) g (main_of fs gs)
 
 abbrev pub resolve : tree.FileTree → Program

@@ -1,8 +1,9 @@
 -- Scopes (ISO/IEC 9899:2011, 6.2.1): which variable a name means.
 use Rattle.std.specs.Prelude.{ℕ, suc, Bool, if◌then◌else◌, List, [], ◌∷◌, ◌++◌, length, drop, bytes_eq, Option, Some}
-use Rattle.std.specs.Prelude.{None, map}
+use Rattle.std.specs.Prelude.{None, map, slice_get}
 use Rattle.std.specs.List.{list_any}
 use Rattle.lra_base.specs.declared.number_types.NumberType.{NumberType}
+use Rattle.lra_base.specs.declared.number_types.NumberType.TheVariants.{Long}
 use Rattle.lra_tree.specs.declared.trees.Parameter.{Parameter}
 use Rattle.lra_program.specs.Program.{Slot, global, local}
 use Rattle.lra_tree.specs.Trees.{DeclaratorTree, InitTree, no_init, declared, assigned, GlobalTree, GlobalsTree}
@@ -40,6 +41,15 @@ slot_in None None = None
 -- the variable that the name means: the newest one
 abbrev pub slot_of : Scope → List ℕ → Option Slot
 slot_of s name = slot_in (newest name (names_in s.locals)) (newest name (names_in s.globals))
+
+-- the type of the variable there; which one is told where there is none is of no use
+abbrev pub type_or_none : Option Entry → NumberType
+type_or_none None = Long
+type_or_none (Some e) = e.number_type
+
+abbrev pub type_at : Scope → Slot → NumberType
+type_at s (global k) = type_or_none (slice_get s.globals k)
+type_at s (local k) = type_or_none (slice_get s.locals k)
 
 -- whether this scope has declared the name
 abbrev pub is_declared : Scope → List ℕ → Bool

@@ -1,7 +1,9 @@
 -- Trails of small trees.
-use Rattle.std.proofs.Common.{ℕ, suc, ℤ, pos, [], ◌∷◌, Some, inl, inr, refl}
+use Rattle.std.proofs.Common.{ℕ, suc, ℤ, pos, [], ◌∷◌, inl, inr, refl}
+use Rattle.lra_base.specs.declared.number_types.NumberType.TheVariants.{Int, Long}
 use Rattle.lra_base.specs.Operators.{plus, below}
-use Rattle.lra_program.specs.Program.{Cond, literal, read, binary, compare, local}
+use Rattle.lra_program.specs.Program.{Variable, Cond, literal, read, binary, compare, local}
+use Rattle.lra_program.specs.Receivers.{variable_at}
 use Rattle.lra_program.specs.Step.{State, give}
 use Rattle.lra_program.specs.Trails.{passes, Trail, Alone}
 use Rattle.lra_operations.specs.Graph.{broken, Node, point, act, seq, iterate, check, catch, leave}
@@ -13,12 +15,16 @@ x_is z = record { store = z ∷ []; draws = [] }
 abbrev starts : State → Trail ℕ
 starts s = record { state = s; met = [] }
 
+-- the one variable
+abbrev x : Variable
+x = record { slot = local 0; number_type = Long }
+
 abbrev x_below : ℕ → Cond
-x_below n = compare below (read (local 0)) (literal n)
+x_below n = compare below (read x) (literal Int n)
 
 -- while(x<2) x=x+1; : the points 0 of the loop and 1 of the assignment
 abbrev counting : Node
-counting = iterate 0 0 (x_below 2) (seq (point 1) (act 1 (give 0 (Some 0) (binary plus (read (local 0)) (literal 1)))))
+counting = iterate 0 0 (x_below 2) (seq (point 1) (act 1 (give 0 (variable_at 0 Long) (binary plus (read x) (literal Int 1)))))
 
 -- from x = 1: the loop's point, the assignment's, and the loop's again, where the test is false; the latest first
 counted : Goes (λ q. q) Alone counting (starts (x_is (pos 1))) to_end

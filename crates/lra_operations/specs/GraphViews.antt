@@ -11,7 +11,7 @@ use Rattle.lra_operations.specs.declared.graph.Site.{Site}
 use Rattle.lra_program.specs.Step as step
 use Rattle.lra_operations.specs.Graph as graph
 use Rattle.lra_program.specs.Sites as sites
-use Rattle.lra_program.specs.ProgramViews.{expr_view, cond_view}
+use Rattle.lra_program.specs.ProgramViews.{expr_view, argument_view, cond_view}
 
 abbrev pub exit_view : Exit → graph.Exit
 exit_view exit.Broken = graph.broken
@@ -19,10 +19,10 @@ exit_view exit.Continued = graph.continued
 exit_view exit.Returned = graph.returned
 
 abbrev pub op_view : Op → step.Op
-op_view op.Append = step.append
+op_view (op.Append t) = step.append t
 op_view (op.Give base x e) = step.give base x (expr_view e)
 op_view (op.GiveAny x) = step.give_any x
-op_view (op.Push base es) = step.push base (map expr_view es.items)
+op_view (op.Push base given) = step.push base (map argument_view given.items)
 op_view (op.Keep n) = step.keep n
 op_view (op.Test base c wanted) = step.test base (cond_view c) wanted
 

@@ -3,11 +3,16 @@
 -- T is the list of the program's points in the order of their numbers.
 use Rattle.std.specs.Prelude.{◌≡◌, ℕ, suc, ◌+◌, ◌≤◌, Bool, true, false, List, ◌∷◌, length, Option, Some, None}
 use Rattle.std.specs.Prelude.{slice_get, []}
-use Rattle.lra_program.specs.Program.{Slot, Expr, Cond, Call, Rvalue, value, result, Declarator, Stmt, absent, nothing}
+use Rattle.lra_program.specs.Program.{Variable, Expr, Cond, Call, Rvalue, value, result, Declarator, Stmt, absent}
+use Rattle.lra_program.specs.Program.{nothing}
 use Rattle.lra_program.specs.Program.{block, assign, call, if, loop, for, break, continue, return, assert, assume}
 use Rattle.lra_program.specs.Program.{BlockItems, no_more, declaration, statement, Function, Program}
 use Rattle.lra_program.specs.Value.{index_of}
-use Rattle.lra_program.specs.Step.{Op, append, give, give_any, push, keep, test, Here, Back}
+use Rattle.lra_base.specs.declared.number_types.NumberType.{NumberType}
+use Rattle.lra_program.specs.declared.receivers.Receiver.{Receiver}
+use Rattle.lra_program.specs.Receivers.{variable_at, nobody, behind_result}
+use Rattle.lra_program.specs.Value.{Argument}
+use Rattle.lra_program.specs.Step.{Op, append, give, give_any, push, keep, test, Here, Back, arguments_for, behind_main}
 use Rattle.lra_operations.specs.Graph.{broken, continued, returned, Node, empty, point, act, check, seq, choose}
 use Rattle.lra_operations.specs.Graph.{iterate, catch, leave}
 use Rattle.lra_program.specs.Sites.{Site}
@@ -19,26 +24,26 @@ pub record Frame : Type 0 where
   pub loop : Option ℕ
   pub back : Option Back
 
--- in a call that runs with n live variables and gives x its value
-abbrev pub callee : Frame → ℕ → Option ℕ → Call → Frame
+-- in a call that runs with n live variables and gives the receiver its value
+abbrev pub callee : Frame → ℕ → Receiver → Call → Frame
 callee f n x c = record {
   here = record { path = c.label ∷ f.here.path; base = n };
   loop = None;
-  back = Some (record { target = x; here = f.here; length = n });
+  back = Some (record { receiver = x; here = f.here; length = n });
 }
 
 -- `break` comes out behind the loop, `continue` behind the body and before the step
 abbrev pub loop_node : ℕ → ℕ → Cond → Node → Node → Node
 loop_node q base c a step = catch q broken (iterate q base c (seq (catch q continued a) step))
 
--- the call's own point is q, and r that of its body's end; there the body's variables go, the target gets a draw, and
+-- the call's own point is q, and r that of its body's end; there the body's variables go, the receiver gets a draw, and
 -- the parameters go
-abbrev pub call_node : ℕ → ℕ → ℕ → ℕ → Option ℕ → List Expr → ℕ → Node → Node
-call_node q r base n x es params g =
-    seq (act q (push base es)) (catch q returned (seq g
+abbrev pub call_node : ℕ → ℕ → ℕ → ℕ → Receiver → List Argument → ℕ → Node → Node
+call_node q r base n x given params g =
+    seq (act q (push base given)) (catch q returned (seq g
     (seq (point r) (seq (act r (keep (n + params))) (seq (act r (give_any x)) (act r (keep n)))))))
 
--- where so many variables live, the target gets the value, and the store is cut to the caller's n
+-- where so many variables live, the receiver gets the value, and the store is cut to the caller's n
 abbrev pub return_node : ℕ → Op → ℕ → ℕ → Node
 return_node q op n live = seq (act q op) (seq (act q (keep n)) (leave live returned))
 
@@ -63,7 +68,7 @@ abbrev pub within : Spot → Option ℕ → ℕ → Spot
 within s length next = spot_of (record s.frame { loop = length }) s.live next
 
 -- where the called function's body begins
-abbrev pub into_callee : Spot → Option ℕ → Call → ℕ → ℕ → Spot
+abbrev pub into_callee : Spot → Receiver → Call → ℕ → ℕ → Spot
 into_callee s x c params next = spot_of (callee s.frame s.live x c) (s.live + params) next
 
 -- the point of the list where the spot is
@@ -82,11 +87,11 @@ mutual
         InlAll P T s body g n q → Has T (move s n q) end
         → Inl P T s (block body end) (seq g (seq (point q) (act q (keep s.live)))) (suc q)
     as_absent : {s : Spot} → Inl P T s absent empty s.next
-    as_assign : {s : Spot} {at : ℕ} {x : Slot} {e : Rvalue} {g : Node} {q : ℕ} → Has T s at →
-        Gives P T s (suc s.next) (Some (index_of s.frame.here.base x)) e g q
+    as_assign : {s : Spot} {at : ℕ} {x : Variable} {e : Rvalue} {g : Node} {q : ℕ} → Has T s at →
+        Gives P T s (suc s.next) (variable_at (index_of s.frame.here.base x.slot) x.number_type) e g q
         → Inl P T s (assign at x e) (seq (point s.next) g) q
     as_call : {s : Spot} {at : ℕ} {c : Call} {g : Node} {q : ℕ} → Has T s at →
-        Gives P T s (suc s.next) None (result c) g q
+        Gives P T s (suc s.next) nobody (result c) g q
         → Inl P T s (call at c) (seq (point s.next) g) q
     as_if : {s : Spot} {at : ℕ} {c : Cond} {a b : Stmt} {g h : Node} {r q : ℕ} → Has T s at
         → Inl P T (at_point s (suc s.next)) a g r → Inl P T (at_point s r) b h q →
@@ -100,22 +105,23 @@ mutual
     as_continue : {s : Spot} {at m : ℕ} → s.frame.loop ≡ Some m → m ≤ s.live → Has T s at
         → Inl P T s (continue at) (seq (point s.next) (seq (act s.next (keep m)) (leave s.live continued))) (suc s.next)
     as_return : {s : Spot} {at : ℕ} {b : Back} → s.frame.back ≡ Some b → b.length ≤ s.live → Has T s at
-        → Inl P T s (return at None) (seq (point s.next) (return_node s.next (give_any b.target) b.length s.live))
+        → Inl P T s (return at None) (seq (point s.next) (return_node s.next (give_any b.receiver) b.length s.live))
         (suc s.next)
     as_return_value : {s : Spot} {at : ℕ} {e : Expr} {b : Back} → s.frame.back ≡ Some b → b.length ≤ s.live → Has T s at
         → Inl P T s (return at (Some (value e))) (seq (point s.next)
-        (return_node s.next (give s.frame.here.base b.target e) b.length s.live)) (suc s.next)
+        (return_node s.next (give s.frame.here.base b.receiver e) b.length s.live)) (suc s.next)
     as_return_call : {s : Spot} {at : ℕ} {c : Call} {b : Back} {g : Node} {q : ℕ} → s.frame.back ≡ Some b →
         b.length ≤ s.live → Has T s at
-        → Gives P T s (suc s.next) b.target (result c) g q
+        → Gives P T s (suc s.next) b.receiver (result c) g q
         → Inl P T s (return at (Some (result c))) (seq (point s.next)
         (seq g (seq (act s.next (keep b.length)) (leave s.live returned)))) q
     as_end : {s : Spot} {at : ℕ} → s.frame.back ≡ None → Has T s at →
         Inl P T s (return at None) (seq (point s.next) (leave s.live returned)) (suc s.next)
     as_end_value : {s : Spot} {at : ℕ} {e : Expr} → s.frame.back ≡ None → Has T s at
-        → Inl P T s (return at (Some (value e))) (seq (point s.next) (leave s.live returned)) (suc s.next)
+        → Inl P T s (return at (Some (value e))) (seq (point s.next)
+        (seq (act s.next (give s.frame.here.base (behind_main P) e)) (leave s.live returned))) (suc s.next)
     as_end_call : {s : Spot} {at : ℕ} {c : Call} {g : Node} {q : ℕ} → s.frame.back ≡ None → Has T s at →
-        Gives P T s (suc s.next) None (result c) g q
+        Gives P T s (suc s.next) (behind_main P) (result c) g q
         → Inl P T s (return at (Some (result c))) (seq (point s.next) (seq g (leave s.live returned))) q
     as_assert : {s : Spot} {at : ℕ} {c : Cond} → HasSite T s at true →
         Inl P T s (assert at c) (seq (point s.next) (check s.next s.frame.here.base c)) (suc s.next)
@@ -126,18 +132,19 @@ mutual
   pub data InlAll (P : Program) (T : List Site) : Spot → BlockItems → Node → ℕ → ℕ → Type 0 where
     as_none : {s : Spot} → InlAll P T s no_more empty s.live s.next
     as_declaration : {s : Spot} {d : Declarator} {b : BlockItems} {g h : Node} {r n q : ℕ} →
-        Has T s d.label → Declares P T s (suc s.next) d.rvalue g r → InlAll P T (move s (suc s.live) r) b h n q
+        Has T s d.label → Declares P T s (suc s.next) d.number_type d.rvalue g r →
+        InlAll P T (move s (suc s.live) r) b h n q
         → InlAll P T s (declaration d b) (seq (seq (point s.next) g) h) n q
     as_statement : {s : Spot} {a : Stmt} {b : BlockItems} {g h : Node} {r n q : ℕ} →
         Inl P T s a g r → InlAll P T (at_point s r) b h n q
         → InlAll P T s (statement a b) (seq g h) n q
 
-  -- a declarator at its point: a new variable, and what it gets; r is the next one's number
-  pub data Declares (P : Program) (T : List Site) : Spot → ℕ → Option Rvalue → Node → ℕ → Type 0 where
-    as_fresh : {s : Spot} {r : ℕ} → Declares P T s r None (act s.next append) r
-    as_given : {s : Spot} {r : ℕ} {e : Rvalue} {g : Node} {q : ℕ} →
-        Gives P T (move s (suc s.live) s.next) r (Some s.live) e g q
-        → Declares P T s r (Some e) (seq (act s.next append) g) q
+  -- a declarator at its point: a new variable of this type, and what it gets; r is the next one's number
+  pub data Declares (P : Program) (T : List Site) : Spot → ℕ → NumberType → Option Rvalue → Node → ℕ → Type 0 where
+    as_fresh : {s : Spot} {r : ℕ} {t : NumberType} → Declares P T s r t None (act s.next (append t)) r
+    as_given : {s : Spot} {r : ℕ} {t : NumberType} {e : Rvalue} {g : Node} {q : ℕ} →
+        Gives P T (move s (suc s.live) s.next) r (variable_at s.live t) e g q
+        → Declares P T s r t (Some e) (seq (act s.next (append t)) g) q
 
   -- a loop at its own point; its step comes before its body in text order
   pub data Loops (P : Program) (T : List Site) : Spot → ℕ → Stmt → Node → ℕ → Type 0 where
@@ -145,16 +152,16 @@ mutual
         → Inl P T (within s None r) step h m → Inl P T (within s (Some s.live) m) a g q
         → Loops P T s r (loop at c a step) (loop_node s.next s.frame.here.base c g h) q
 
-  -- what the variable gets, where there is one, at the statement's point; r is the next one's number
-  pub data Gives (P : Program) (T : List Site) : Spot → ℕ → Option ℕ → Rvalue → Node → ℕ → Type 0 where
-    as_value : {s : Spot} {r : ℕ} {x : Option ℕ} {e : Expr} →
+  -- what the receiver gets at the statement's point; r is the next one's number
+  pub data Gives (P : Program) (T : List Site) : Spot → ℕ → Receiver → Rvalue → Node → ℕ → Type 0 where
+    as_value : {s : Spot} {r : ℕ} {x : Receiver} {e : Expr} →
         Gives P T s r x (value e) (act s.next (give s.frame.here.base x e)) r
-    as_result : {s : Spot} {r : ℕ} {x : Option ℕ} {c : Call} {fn : Function} {g : Node} {n q : ℕ}
-        → slice_get P.functions c.function ≡ Some fn → length c.arguments ≡ fn.parameters
-        → InlAll P T (into_callee s x c fn.parameters r) fn.body g n q
-        → Has T (move (into_callee s x c fn.parameters r) n q) fn.end
-        → Gives P T s r x (result c)
-        (call_node s.next q s.frame.here.base s.live x c.arguments fn.parameters g) (suc q)
+    as_result : {s : Spot} {r : ℕ} {x : Receiver} {c : Call} {fn : Function} {g : Node} {n q : ℕ}
+        → slice_get P.functions c.function ≡ Some fn → length c.arguments ≡ length fn.parameters
+        → InlAll P T (into_callee s (behind_result fn.result_type x) c (length fn.parameters) r) fn.body g n q
+        → Has T (move (into_callee s (behind_result fn.result_type x) c (length fn.parameters) r) n q) fn.end
+        → Gives P T s r x (result c) (call_node s.next q s.frame.here.base s.live (behind_result fn.result_type x)
+        (arguments_for fn.parameters c.arguments) (length fn.parameters) g) (suc q)
 
 abbrev pub main_frame : Program → Frame
 main_frame P = record { here = record { path = []; base = length P.globals }; loop = None; back = None }

@@ -4,5 +4,6 @@ pub mod Trails
 pub mod Inlined
 pub mod Agree
 pub mod TrailsAgree
+pub mod Asked
 pub mod GraphViews
 pub mod Sizes

@@ -1,14 +1,16 @@
 //! The forms of which a program's tree is made, from their parts.
 
-ghost use Rattle.std.specs.Prelude.{◌≡◌, ◌+◌, ◌<◌, ◌^◌, ◌++◌, ◌∷◌, [], map, IfOk};
+ghost use Rattle.std.specs.Prelude.{◌≡◌, ◌+◌, ◌<◌, ◌^◌, ◌++◌, ◌∷◌, [], length, map, IfOk};
 ghost use Rattle.lra_program.specs.Step as step;
+ghost use Rattle.lra_program.specs.Step.{arguments_for};
 ghost use Rattle.lra_operations.specs.Graph as graph;
 ghost use Rattle.lra_operations.specs.Inlined.{loop_node, call_node, return_node};
 ghost use Rattle.lra_program.specs.ProgramViews.{expr_view, cond_view};
 ghost use Rattle.lra_operations.specs.GraphViews.{op_view, exit_view, node_view, row};
 
 use crate::{Exit, Node, Op};
-use lra_program::{Cond, Expr, copy_expressions};
+use lra_base::NumberType;
+use lra_program::{Cond, Expr, Receiver, pair_arguments};
 use std::alloc::{AllocError, Global};
 
 /// The one, then the other.
@@ -55,12 +57,17 @@ fn put_act(alloc: Global, point: usize, op: Op, node: Node) -> Result<Node, Allo
     put_in_turn(alloc, Node::Act(point, op), node)
 }
 
-/// A declarator whose variable gets a value: its point, the new variable, and what gives the value.
-pub fn declare(alloc: Global, point: usize, given: Node) -> Result<Node, AllocError>
+/// A declarator whose variable gets a value: its point, the new variable of this type, and what gives the value.
+pub fn declare(
+    alloc: Global,
+    point: usize,
+    number_type: NumberType,
+    given: Node,
+) -> Result<Node, AllocError>
     ensures { IfOk result (λ g. node_view g ≡ graph.seq (graph.point point)
-        (graph.seq (graph.act point step.append) (node_view given))) }
+        (graph.seq (graph.act point (step.append number_type)) (node_view given))) }
 {
-    let variable = put_act(alloc, point, Op::Append, given)?;
+    let variable = put_act(alloc, point, Op::Append(number_type), given)?;
     put_point(alloc, point, variable)
 }
 
@@ -162,21 +169,21 @@ pub fn give_and_leave(
     put_act(alloc, point, op, leave)
 }
 
-/// The end of a called function: its body's variables go, the target gets any value, the parameters go.
+/// The end of a called function: its body's variables go, the receiver gets any value, the parameters go.
 fn call_end(
     alloc: Global,
     end: usize,
     live: usize,
     parameters: usize,
-    target: Option<usize>,
+    receiver: Receiver,
 ) -> Result<Node, AllocError>
     requires { live + parameters < 2 ^ 64 }
     ensures { IfOk result (λ g. node_view g
         ≡ graph.seq (graph.point end) (graph.seq (graph.act end (step.keep (live + parameters)))
-        (graph.seq (graph.act end (step.give_any target)) (graph.act end (step.keep live))))) }
+        (graph.seq (graph.act end (step.give_any receiver)) (graph.act end (step.keep live))))) }
 {
     let last = Node::Act(end, Op::Keep(live));
-    let given = put_act(alloc, end, Op::GiveAny(target), last)?;
+    let given = put_act(alloc, end, Op::GiveAny(receiver), last)?;
     let cut = put_act(alloc, end, Op::Keep(live + parameters), given)?;
     put_point(alloc, end, cut)
 }
@@ -192,26 +199,32 @@ pub struct CallPlace {
     pub base: usize,
     /// How many variables live there.
     pub live: usize,
-    /// The variable that gets the result, if one does.
-    pub target: Option<usize>,
+    /// What gets the result, behind the type that the callee gives it.
+    pub receiver: Receiver,
 }
 
-/// A call of a function with so many parameters and this body.
+/// A call of a function with parameters of these types and this body.
 pub fn enclose_call(
     alloc: Global,
     place: CallPlace,
+    parameters: &[NumberType],
     arguments: &[Expr],
-    parameters: usize,
     body: Node,
 ) -> Result<Node, AllocError>
-    requires { place.live + parameters < 2 ^ 64 }
+    requires { place.live + length parameters.now < 2 ^ 64 }
     ensures { IfOk result (λ g. node_view g
-        ≡ call_node place.point place.end place.base place.live place.target (map expr_view arguments.now) parameters
-        (node_view body)) }
+        ≡ call_node place.point place.end place.base place.live place.receiver
+        (arguments_for parameters.now (map expr_view arguments.now)) (length parameters.now) (node_view body)) }
 {
-    let end = call_end(alloc, place.end, place.live, parameters, place.target)?;
+    let end = call_end(
+        alloc,
+        place.end,
+        place.live,
+        parameters.len(),
+        place.receiver,
+    )?;
     let whole = put_in_turn(alloc, body, end)?;
     let inside = catch_exit(alloc, place.point, Exit::Returned, whole)?;
-    let arguments = copy_expressions(alloc, arguments)?;
+    let arguments = pair_arguments(alloc, parameters, arguments)?;
     put_act(alloc, place.point, Op::Push(place.base, arguments), inside)
 }

@@ -3,7 +3,8 @@
 ghost use Rattle.std.specs.Prelude.{◌≡◌, ◌+◌, ◌<◌, ◌∷◌, [], IfOk, IfSome};
 ghost use Rattle.lra_operations.specs.Sizes.{whole_size, hung_size};
 
-use lra_program::{Cond, Expr};
+use lra_base::NumberType;
+use lra_program::{Argument, Cond, Expr, Receiver};
 use std::alloc::{AllocError, Global};
 use std::marker::Model;
 use std::mem;
@@ -19,14 +20,14 @@ pub enum Exit {
 /// A least change of the store: a number is a place in it, or its length. The first number of `Give`, `Push` and `Test`
 /// is where the variables of the call that runs begin.
 pub enum Op {
-    /// A new variable, of any value.
-    Append,
-    /// The variable, where there is one, gets the value.
-    Give(usize, Option<usize>, Expr),
-    /// The variable, where there is one, gets any value.
-    GiveAny(Option<usize>),
+    /// A new variable of this type, of any value.
+    Append(NumberType),
+    /// The receiver gets the value.
+    Give(usize, Receiver, Expr),
+    /// The receiver gets any value.
+    GiveAny(Receiver),
     /// The arguments' values, as new variables.
-    Push(usize, Vec<Expr>),
+    Push(usize, Vec<Argument>),
     /// Only the oldest so many variables stay.
     Keep(usize),
     /// Nothing, where the condition has this value.
@@ -36,7 +37,7 @@ pub enum Op {
 impl Drop for Op {
     fn drop(self) {
         match self {
-            Op::Append => {}
+            Op::Append(_) => {}
             Op::Give(_, _, _) => {}
             Op::GiveAny(_) => {}
             Op::Push(_, _) => {}

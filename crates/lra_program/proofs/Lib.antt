@@ -5,3 +5,6 @@ pub mod TrailLaws
 mod TrailExamples
 mod WellFormedExamples
 mod ProgramViewExamples
+mod TypeExamples
+pub mod GivenArguments
+pub mod TypeLaws

@@ -1,7 +1,8 @@
 -- Runs of small programs: the points that they pass, each with its call path, label and store.
 -- Labels number statements, declarators and ends of blocks in text order from 1, over the whole source.
 use Rattle.std.proofs.Common.{◌≡◌, ℕ, zero, suc, ℤ, pos, negsuc, List, [], ◌∷◌, Option, Some, None, refl}
-use Rattle.lra_program.specs.Program.{global, local, Expr, literal, read, input, negate, binary, compare, nonzero, value, result, Declarator, Stmt, absent, nothing, block, assign, call, if, loop, for}
+use Rattle.lra_base.specs.declared.number_types.NumberType.TheVariants.{Int, Long}
+use Rattle.lra_program.specs.Program.{Slot, global, local, Variable, Expr, literal, read, input, negate, binary, compare, nonzero, value, result, Declarator, Stmt, absent, nothing, block, assign, call, if, loop, for}
 use Rattle.lra_program.specs.Program.{break, continue, return, assert, assume, BlockItems, no_more, declaration, statement, Function, Program}
 use Rattle.lra_base.specs.Operators.{plus, minus, over, times, below, at_least, equal, differs}
 use Rattle.lra_program.specs.Step.{Config, Item, run, all, end_of, turn, Here, next}
@@ -24,25 +25,29 @@ visits P (suc n) (Some c) = point_at (label_on c.items) c.here.path c.state.stor
 abbrev pub visited : Program → List ℤ → Visits
 visited P draws = visits P 100 (Some (start P draws))
 
+-- a variable of 64 bits
+abbrev pub long_variable : Slot → Variable
+long_variable s = record { slot = s; number_type = Long }
+
 abbrev pub main_alone : BlockItems → ℕ → Program
-main_alone body end = record { globals = []; functions = []; main = record { parameters = 0; body = body; end = end } }
+main_alone body end = record { globals = []; functions = []; main = record { result_type = Some Int; parameters = []; body = body; end = end } }
 
 abbrev fresh : ℕ → Declarator
-fresh at = record { label = at; rvalue = None }
+fresh at = record { label = at; number_type = Long; rvalue = None }
 
 abbrev set_to : ℕ → Expr → Declarator
-set_to at e = record { label = at; rvalue = Some (value e) }
+set_to at e = record { label = at; number_type = Long; rvalue = Some (value e) }
 
 abbrev x : Expr
-x = read (local 0)
+x = read (long_variable (local 0))
 
 abbrev y : Expr
-y = read (local 1)
+y = read (long_variable (local 1))
 
 -- int main(void){ long x; x = 3; assert(x >= 3); }
 -- catches a declarator without a draw: the run with draw 7 has x = 7 before the assignment
 abbrev pub one_variable : Program
-one_variable = main_alone (declaration (fresh 1) (statement (assign 2 (local 0) (value (literal 3))) (statement (assert 3 (compare at_least x (literal 3))) no_more))) 4
+one_variable = main_alone (declaration (fresh 1) (statement (assign 2 (long_variable (local 0)) (value (literal Int 3))) (statement (assert 3 (compare at_least x (literal Int 3))) no_more))) 4
 
 one_variable_run : visited one_variable (pos 7 ∷ []) ≡ ([], 1, []) ∷ ([], 2, pos 7 ∷ []) ∷ ([], 3, pos 3 ∷ []) ∷ ([], 4, pos 3 ∷ []) ∷ []
 one_variable_run = refl
@@ -53,7 +58,7 @@ no_draw = refl
 -- int main(void){ long x; x = 2; assert(x >= 3); }
 -- the run ends at the assertion: nothing behind it is reached
 abbrev pub failing : Program
-failing = main_alone (declaration (fresh 1) (statement (assign 2 (local 0) (value (literal 2))) (statement (assert 3 (compare at_least x (literal 3))) no_more))) 4
+failing = main_alone (declaration (fresh 1) (statement (assign 2 (long_variable (local 0)) (value (literal Int 2))) (statement (assert 3 (compare at_least x (literal Int 3))) no_more))) 4
 
 failing_run : visited failing (pos 7 ∷ []) ≡ ([], 1, []) ∷ ([], 2, pos 7 ∷ []) ∷ ([], 3, pos 2 ∷ []) ∷ []
 failing_run = refl
@@ -70,7 +75,7 @@ assertion_fails = (
 -- int main(void){ long i=0; while(i<2) i=i+1; }
 -- the loop's point comes at each round, before the test
 abbrev counting : Program
-counting = main_alone (declaration (set_to 1 (literal 0)) (statement (loop 2 (compare below x (literal 2)) (assign 3 (local 0) (value (binary plus x (literal 1)))) absent) no_more)) 4
+counting = main_alone (declaration (set_to 1 (literal Int 0)) (statement (loop 2 (compare below x (literal Int 2)) (assign 3 (long_variable (local 0)) (value (binary plus x (literal Int 1)))) absent) no_more)) 4
 
 counting_run : visited counting (pos 9 ∷ []) ≡ ([], 1, []) ∷ ([], 2, pos 0 ∷ []) ∷ ([], 3, pos 0 ∷ []) ∷ ([], 2, pos 1 ∷ []) ∷ ([], 3, pos 1 ∷ []) ∷ ([], 2, pos 2 ∷ []) ∷ ([], 4, pos 2 ∷ []) ∷ []
 counting_run = refl
@@ -78,27 +83,27 @@ counting_run = refl
 -- int main(void){ while(1){} assert(0); }
 -- the loop's point and the `}` of its body alternate, and the assertion's point is never reached
 abbrev endless : Program
-endless = main_alone (statement (loop 1 (nonzero (literal 1)) (block no_more 2) absent) (statement (assert 3 (nonzero (literal 0))) no_more)) 4
+endless = main_alone (statement (loop 1 (nonzero (literal Int 1)) (block no_more 2) absent) (statement (assert 3 (nonzero (literal Int 0))) no_more)) 4
 
 endless_run : visits endless 14 (Some (start endless [])) ≡ ([], 1, []) ∷ ([], 2, []) ∷ ([], 1, []) ∷ ([], 2, []) ∷ ([], 1, []) ∷ []
 endless_run = refl
 
 -- int main(void){ long x; if(2*x==1) assert(0); } : no number's double is 1
 abbrev odd_double : Program
-odd_double = main_alone (declaration (fresh 1) (statement (if 2 (compare equal (binary times (literal 2) x) (literal 1)) (assert 3 (nonzero (literal 0))) absent) no_more)) 4
+odd_double = main_alone (declaration (fresh 1) (statement (if 2 (compare equal (binary times (literal Int 2) x) (literal Int 1)) (assert 3 (nonzero (literal Int 0))) absent) no_more)) 4
 
 odd_double_run : visited odd_double (pos 5 ∷ []) ≡ ([], 1, []) ∷ ([], 2, pos 5 ∷ []) ∷ ([], 4, pos 5 ∷ []) ∷ []
 odd_double_run = refl
 
 -- int main(void){ long a=0, b=0; while(a<5){ b=0; while(1){ if(b>=3) break; if(input()) return 0; b=b+1; } a=a+1; } assert(a==5); }
 abbrev inner_loop : Stmt
-inner_loop = loop 5 (nonzero (literal 1)) (block (statement (if 6 (compare at_least y (literal 3)) (break 7) absent)
-    (statement (if 8 (nonzero input) (return 9 (Some (value (literal 0)))) absent) (statement (assign 10 (local 1) (value (binary plus y (literal 1)))) no_more))) 11) absent
+inner_loop = loop 5 (nonzero (literal Int 1)) (block (statement (if 6 (compare at_least y (literal Int 3)) (break 7) absent)
+    (statement (if 8 (nonzero input) (return 9 (Some (value (literal Int 0)))) absent) (statement (assign 10 (long_variable (local 1)) (value (binary plus y (literal Int 1)))) no_more))) 11) absent
 
 abbrev nested : ℕ → Program
-nested rounds = main_alone (declaration (set_to 1 (literal 0)) (declaration (set_to 2 (literal 0)) (statement (loop 3 (compare below x (literal rounds))
-    (block (statement (assign 4 (local 1) (value (literal 0))) (statement inner_loop (statement (assign 12 (local 0) (value (binary plus x (literal 1)))) no_more))) 13) absent)
-    (statement (assert 14 (compare equal x (literal rounds))) no_more)))) 15
+nested rounds = main_alone (declaration (set_to 1 (literal Int 0)) (declaration (set_to 2 (literal Int 0)) (statement (loop 3 (compare below x (literal Int rounds))
+    (block (statement (assign 4 (long_variable (local 1)) (value (literal Int 0))) (statement inner_loop (statement (assign 12 (long_variable (local 0)) (value (binary plus x (literal Int 1)))) no_more))) 13) absent)
+    (statement (assert 14 (compare equal x (literal Int rounds))) no_more)))) 15
 
 -- a `return` inside two loops ends main's run: catches one that only leaves the loop
 return_in_loop : visited (nested 5) (pos 0 ∷ pos 0 ∷ pos 1 ∷ []) ≡ ([], 1, []) ∷ ([], 2, pos 0 ∷ []) ∷ ([], 3, pos 0 ∷ pos 0 ∷ []) ∷ ([], 4, pos 0 ∷ pos 0 ∷ [])
@@ -119,16 +124,17 @@ break_in_loop = refl
 -- catches a callee's variable that shares its caller's place, and a store that isn't cut back behind the call;
 -- the function's `}` (3) isn't passed by `return`
 abbrev pub inc : Function
-inc = record { parameters = 1; body = statement (assign 1 (local 0) (value (binary plus x (literal 1)))) (statement (return 2 (Some (value x))) no_more); end = 3 }
+inc = record { result_type = Some Long; parameters = Long ∷ []; body = statement (assign 1 (long_variable (local 0)) (value (binary plus x (literal Int 1)))) (statement (return 2 (Some (value x))) no_more); end = 3 }
 
 abbrev pub called_twice : Program
 called_twice = record {
   globals = [];
   functions = inc ∷ [];
   main = record {
-    parameters = 0;
-    body = declaration (record { label = 4; rvalue = Some (result (record { label = 4; function = 0; arguments = literal 1 ∷ [] })) })
-        (statement (assign 5 (local 0) (result (record { label = 5; function = 0; arguments = x ∷ [] }))) (statement (assert 6 (compare equal x (literal 3))) no_more));
+    result_type = Some Int;
+    parameters = [];
+    body = declaration (record { label = 4; number_type = Long; rvalue = Some (result (record { label = 4; function = 0; arguments = literal Int 1 ∷ [] })) })
+        (statement (assign 5 (long_variable (local 0)) (result (record { label = 5; function = 0; arguments = x ∷ [] }))) (statement (assert 6 (compare equal x (literal Int 3))) no_more));
     end = 7;
   };
 }
@@ -141,12 +147,13 @@ called_twice_run = refl
 -- a global keeps its value from call to call; the end of a function without a result takes no draw
 abbrev pub counted : Program
 counted = record {
-  globals = pos 2 ∷ [];
-  functions = record { parameters = 0; body = statement (assign 1 (global 0) (value (binary plus (read (global 0)) (literal 1)))) no_more; end = 2 } ∷ [];
+  globals = record { number_type = Long; value = pos 2 } ∷ [];
+  functions = record { result_type = None; parameters = []; body = statement (assign 1 (long_variable (global 0)) (value (binary plus (read (long_variable (global 0))) (literal Int 1)))) no_more; end = 2 } ∷ [];
   main = record {
-    parameters = 0;
+    result_type = Some Int;
+    parameters = [];
     body = statement (call 3 (record { label = 3; function = 0; arguments = [] })) (statement (call 4 (record { label = 4; function = 0; arguments = [] }))
-        (statement (assert 5 (compare equal (read (global 0)) (literal 4))) no_more));
+        (statement (assert 5 (compare equal (read (long_variable (global 0))) (literal Int 4))) no_more));
     end = 6;
   };
 }
@@ -160,9 +167,9 @@ counted_run = refl
 abbrev handed_on : Program
 handed_on = record {
   globals = [];
-  functions = record { parameters = 0; body = statement (return 1 (Some (result (record { label = 1; function = 1; arguments = [] })))) no_more; end = 2 }
-      ∷ record { parameters = 0; body = no_more; end = 3 } ∷ [];
-  main = record { parameters = 0; body = declaration (record { label = 4; rvalue = Some (result (record { label = 4; function = 0; arguments = [] })) }) no_more; end = 5 };
+  functions = record { result_type = Some Long; parameters = []; body = statement (return 1 (Some (result (record { label = 1; function = 1; arguments = [] })))) no_more; end = 2 }
+      ∷ record { result_type = Some Long; parameters = []; body = no_more; end = 3 } ∷ [];
+  main = record { result_type = Some Int; parameters = []; body = declaration (record { label = 4; number_type = Long; rvalue = Some (result (record { label = 4; function = 0; arguments = [] })) }) no_more; end = 5 };
 }
 
 handed_on_run : visited handed_on (pos 1 ∷ pos 2 ∷ pos 3 ∷ []) ≡ ([], 4, []) ∷ (4 ∷ [], 1, pos 1 ∷ []) ∷ (1 ∷ 4 ∷ [], 3, pos 1 ∷ []) ∷ ([], 5, pos 2 ∷ []) ∷ []
@@ -172,8 +179,8 @@ handed_on_run = refl
 abbrev bare_return : Program
 bare_return = record {
   globals = [];
-  functions = record { parameters = 0; body = statement (return 1 None) no_more; end = 2 } ∷ [];
-  main = record { parameters = 0; body = declaration (record { label = 3; rvalue = Some (result (record { label = 3; function = 0; arguments = [] })) }) no_more; end = 4 };
+  functions = record { result_type = Some Long; parameters = []; body = statement (return 1 None) no_more; end = 2 } ∷ [];
+  main = record { result_type = Some Int; parameters = []; body = declaration (record { label = 3; number_type = Long; rvalue = Some (result (record { label = 3; function = 0; arguments = [] })) }) no_more; end = 4 };
 }
 
 bare_return_run : visited bare_return (pos 1 ∷ pos 2 ∷ []) ≡ ([], 3, []) ∷ (3 ∷ [], 1, pos 1 ∷ []) ∷ ([], 4, pos 2 ∷ []) ∷ []
@@ -182,9 +189,9 @@ bare_return_run = refl
 -- int main(void){ for (long i=0; ; i=i+1) { long j=i; if (j==1) break; continue; } }
 -- catches a store that stays long: `continue` and `break` cut off j, the loop's end cuts off i; `continue` goes to the step
 abbrev pub left_blocks : Program
-left_blocks = main_alone (statement (for 1 (declaration (set_to 2 (literal 0)) no_more) (nonzero (literal 1))
-    (block (declaration (set_to 4 x) (statement (if 5 (compare equal y (literal 1)) (break 6) absent) (statement (continue 7) no_more))) 8)
-    (assign 3 (local 0) (value (binary plus x (literal 1))))) no_more) 9
+left_blocks = main_alone (statement (for 1 (declaration (set_to 2 (literal Int 0)) no_more) (nonzero (literal Int 1))
+    (block (declaration (set_to 4 x) (statement (if 5 (compare equal y (literal Int 1)) (break 6) absent) (statement (continue 7) no_more))) 8)
+    (assign 3 (long_variable (local 0)) (value (binary plus x (literal Int 1))))) no_more) 9
 
 left_blocks_run : visited left_blocks (pos 5 ∷ pos 6 ∷ pos 7 ∷ []) ≡ ([], 2, []) ∷ ([], 1, pos 0 ∷ []) ∷ ([], 4, pos 0 ∷ []) ∷ ([], 5, pos 0 ∷ pos 0 ∷ []) ∷ ([], 7, pos 0 ∷ pos 0 ∷ [])
     ∷ ([], 3, pos 0 ∷ []) ∷ ([], 1, pos 1 ∷ []) ∷ ([], 4, pos 1 ∷ []) ∷ ([], 5, pos 1 ∷ pos 1 ∷ []) ∷ ([], 6, pos 1 ∷ pos 1 ∷ []) ∷ ([], 9, []) ∷ []
@@ -199,29 +206,29 @@ inner_block_run = refl
 
 -- int main(void){ long x; x = input()/0; x = 1; } : the run ends at the zero divisor
 abbrev divided : Program
-divided = main_alone (declaration (fresh 1) (statement (assign 2 (local 0) (value (binary over input (literal 0)))) (statement (assign 3 (local 0) (value (literal 1))) no_more))) 4
+divided = main_alone (declaration (fresh 1) (statement (assign 2 (long_variable (local 0)) (value (binary over input (literal Int 0)))) (statement (assign 3 (long_variable (local 0)) (value (literal Int 1))) no_more))) 4
 
 divided_run : visited divided (pos 1 ∷ pos 2 ∷ []) ≡ ([], 1, []) ∷ ([], 2, pos 1 ∷ []) ∷ []
 divided_run = refl
 
 -- int main(void){ long x=9223372036854775807; x=x+1; } : the run ends at the overflow
 abbrev overflowing : Program
-overflowing = main_alone (declaration (set_to 1 (literal 9223372036854775807)) (statement (assign 2 (local 0) (value (binary plus x (literal 1)))) no_more)) 3
+overflowing = main_alone (declaration (set_to 1 (literal Long 9223372036854775807)) (statement (assign 2 (long_variable (local 0)) (value (binary plus x (literal Int 1)))) no_more)) 3
 
 overflowing_run : visited overflowing (pos 0 ∷ []) ≡ ([], 1, []) ∷ ([], 2, pos 9223372036854775807 ∷ []) ∷ []
 overflowing_run = refl
 
 -- int main(void){ long x=-9223372036854775807-1; x=x/-1; }
 abbrev least_divided : Program
-least_divided = main_alone (declaration (set_to 1 (binary minus (negate (literal 9223372036854775807)) (literal 1)))
-    (statement (assign 2 (local 0) (value (binary over x (negate (literal 1))))) no_more)) 3
+least_divided = main_alone (declaration (set_to 1 (binary minus (negate (literal Long 9223372036854775807)) (literal Int 1)))
+    (statement (assign 2 (long_variable (local 0)) (value (binary over x (negate (literal Int 1))))) no_more)) 3
 
 least_divided_run : visited least_divided (pos 0 ∷ []) ≡ ([], 1, []) ∷ ([], 2, negsuc 9223372036854775807 ∷ []) ∷ []
 least_divided_run = refl
 
 -- int main(void){ long x=input(); assume(x!=0); x=1; } : a false assumption ends the run, a true one changes nothing
 abbrev assumed : Program
-assumed = main_alone (declaration (set_to 1 input) (statement (assume 2 (compare differs x (literal 0))) (statement (assign 3 (local 0) (value (literal 1))) no_more))) 4
+assumed = main_alone (declaration (set_to 1 input) (statement (assume 2 (compare differs x (literal Int 0))) (statement (assign 3 (long_variable (local 0)) (value (literal Int 1))) no_more))) 4
 
 assumed_run : (visited assumed (pos 9 ∷ pos 0 ∷ []) ≡ ([], 1, []) ∷ ([], 2, pos 0 ∷ []) ∷ []) ×
     (visited assumed (pos 9 ∷ pos 4 ∷ []) ≡ ([], 1, []) ∷ ([], 2, pos 4 ∷ []) ∷ ([], 3, pos 4 ∷ []) ∷ ([], 4, pos 1 ∷ []) ∷ [])

@@ -1,10 +1,12 @@
 -- In the order in which they are to be read.
 pub mod Program
-pub mod ProgramViews
 pub mod Value
+pub mod ProgramViews
+pub mod Receivers
 pub mod Step
 pub mod Run
 pub mod Trails
+pub mod Overflow
 -- Points, and programs that sources mean.
 pub mod Sites
 pub mod Assertions

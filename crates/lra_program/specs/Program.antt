@@ -1,6 +1,10 @@
 -- A program whose names are resolved: a variable is a place in the store, a function a place in a list.
 -- Statements, declarators and the ends of blocks carry labels: the n-th of them in text order has the label n, from 1.
-use Rattle.std.specs.Prelude.{ℕ, ℤ, List, Option}
+use Rattle.std.specs.Prelude.{ℕ, List, Option}
+use Rattle.lra_base.specs.declared.number_types.NumberType.{NumberType}
+use Rattle.lra_base.specs.declared.number_types.NumberType.TheVariants.{Long}
+use Rattle.lra_base.specs.NumberTypes.{wider}
+use Rattle.lra_program.specs.declared.program.GlobalVariable.{GlobalVariable}
 use Rattle.lra_base.specs.Operators.{Operator, Comparison}
 
 -- a variable of the whole program, or of the call that runs
@@ -8,13 +12,26 @@ pub data Slot : Type 0 where
   global : ℕ → Slot
   local : ℕ → Slot
 
+-- with its type, which the declaration has
+pub record Variable : Type 0 where
+  pub slot : Slot
+  pub number_type : NumberType
+
 -- `input` stands for any number of 64 bits, a new one each time
 pub data Expr : Type 0 where
-  literal : ℕ → Expr
-  read : Slot → Expr
+  literal : NumberType → ℕ → Expr
+  read : Variable → Expr
   input : Expr
   negate : Expr → Expr
   binary : Operator → Expr → Expr → Expr
+
+-- the type of its value (ISO/IEC 9899:2011, 6.3.1.8): in `a + b + c` the first `+` has that of a and b alone
+abbrev pub type_of : Expr → NumberType
+type_of (literal t n) = t
+type_of (read v) = v.number_type
+type_of input = Long
+type_of (negate e) = type_of e
+type_of (binary op a b) = wider (type_of a) (type_of b)
 
 -- a comparison; an expression that isn't 0; `!`, `&&`, `||`
 pub data Cond : Type 0 where
@@ -38,6 +55,7 @@ pub data Rvalue : Type 0 where
 -- `NAME` or `NAME = rvalue` in a declaration
 pub record Declarator : Type 0 where
   pub label : ℕ
+  pub number_type : NumberType
   pub rvalue : Option Rvalue
 
 mutual
@@ -48,7 +66,7 @@ mutual
     nothing : ℕ → Stmt
     -- its items, and the label of its `}`
     block : BlockItems → ℕ → Stmt
-    assign : ℕ → Slot → Rvalue → Stmt
+    assign : ℕ → Variable → Rvalue → Stmt
     call : ℕ → Call → Stmt
     -- the branch where the condition is true, and the one where it is false
     if : ℕ → Cond → Stmt → Stmt → Stmt
@@ -68,14 +86,16 @@ mutual
     declaration : Declarator → BlockItems → BlockItems
     statement : Stmt → BlockItems → BlockItems
 
--- a function: how many parameters it has, its body's items, and the label of its `}`
+-- a function: the type of its result, where it has one, those of its parameters, its body's items, and the label of its
+-- `}`
 pub record Function : Type 0 where
-  pub parameters : ℕ
+  pub result_type : Option NumberType
+  pub parameters : List NumberType
   pub body : BlockItems
   pub end : ℕ
 
--- the first values of the global variables, the functions that can be called, and `main`
+-- the global variables with their first values, the functions that can be called, and `main`
 pub record Program : Type 0 where
-  pub globals : List ℤ
+  pub globals : List GlobalVariable
   pub functions : List Function
   pub main : Function

@@ -3,6 +3,7 @@
 use Rattle.std.specs.Prelude.{List, [], ◌∷◌, map, option_map, Option, Some, None, slice_get}
 use Rattle.lra_program.specs.declared.program.Slot.{Slot}
 use Rattle.lra_program.specs.declared.program.Slot.TheVariants as slot
+use Rattle.lra_program.specs.declared.program.Variable.{Variable}
 use Rattle.lra_program.specs.declared.program.Expr.{Expr}
 use Rattle.lra_program.specs.declared.program.Operation.{Operation}
 use Rattle.lra_program.specs.declared.program.Expr.TheFolds.{fold-Expr, fold-Operation}
@@ -21,13 +22,18 @@ use Rattle.lra_program.specs.declared.program.BlockItems.{BlockItems}
 use Rattle.lra_program.specs.declared.program.Stmt.{Stmt}
 use Rattle.lra_program.specs.declared.program.Function.{Function}
 use Rattle.lra_program.specs.declared.program.Program.{Program}
+use Rattle.lra_program.specs.declared.program.Argument.{Argument}
 use Rattle.lra_program.specs.Program as program
+use Rattle.lra_program.specs.Value as value
 use Rattle.lra_base.specs.Operators as operators
 use Rattle.lra_base.specs.OperatorViews.{operator_view, comparison_view}
 
 abbrev pub slot_view : Slot → program.Slot
 slot_view (slot.Global k) = program.global k
 slot_view (slot.Local k) = program.local k
+
+abbrev pub variable_view : Variable → program.Variable
+variable_view v = record { slot = slot_view v.slot; number_type = v.number_type }
 
 -- expressions: a chain nests to the left -----------------------------------------------------------------------------
 
@@ -36,8 +42,8 @@ chained e [] = e
 chained e (o ∷ os) = chained (program.binary o.0 e o.1) os
 
 abbrev pub expr_step : Expr-F program.Expr (operators.Operator × program.Expr) → program.Expr
-expr_step (Expr-F.Literal n) = program.literal n
-expr_step (Expr-F.Read v) = program.read (slot_view v)
+expr_step (Expr-F.Literal t n) = program.literal t n
+expr_step (Expr-F.Read v) = program.read (variable_view v)
 expr_step Expr-F.Input = program.input
 expr_step (Expr-F.Negate e) = program.negate e.value
 expr_step (Expr-F.Chain e os) = chained e.value os.items
@@ -77,6 +83,9 @@ cond_view = fold-Cond program.Cond cond_step
 abbrev pub call_view : Call → program.Call
 call_view c = record { label = c.label; function = c.function; arguments = map expr_view c.arguments.items }
 
+abbrev pub argument_view : Argument → value.Argument
+argument_view a = record { number_type = a.number_type; value = expr_view a.value }
+
 abbrev pub rvalue_view : Rvalue → program.Rvalue
 rvalue_view (rvalue.Value e) = program.value (expr_view e)
 rvalue_view (rvalue.Result c) = program.result (call_view c)
@@ -85,7 +94,7 @@ abbrev pub given_view : Option Rvalue → Option program.Rvalue
 given_view = option_map rvalue_view
 
 abbrev pub declarator_view : Declarator → program.Declarator
-declarator_view d = record { label = d.label; rvalue = given_view d.rvalue }
+declarator_view d = record { label = d.label; number_type = d.number_type; rvalue = given_view d.rvalue }
 
 -- statements: an item of a block is what it puts before the items behind it -----------------------
 
@@ -106,7 +115,7 @@ abbrev pub stmt_step : Stmt-F (program.BlockItems → program.BlockItems) progra
 stmt_step Stmt-F.Absent = program.absent
 stmt_step (Stmt-F.Nothing at) = program.nothing at
 stmt_step (Stmt-F.Block b end) = program.block b end
-stmt_step (Stmt-F.Assign at x e) = program.assign at (slot_view x) (rvalue_view e)
+stmt_step (Stmt-F.Assign at x e) = program.assign at (variable_view x) (rvalue_view e)
 stmt_step (Stmt-F.Call at c) = program.call at (call_view c)
 stmt_step (Stmt-F.If at c a b) = program.if at (cond_view c) a.value b.value
 stmt_step (Stmt-F.Loop at c a step) = program.loop at (cond_view c) a.value step.value
@@ -132,14 +141,23 @@ items_view = fold-BlockItems (program.BlockItems → program.BlockItems) program
 -- the whole ----------------------------------------------------------------------------------------------------------
 
 abbrev pub function_view : Function → program.Function
-function_view f = record { parameters = f.parameters; body = items_view f.body; end = f.end }
+function_view f = record {
+  result_type = f.result_type;
+  parameters = f.parameters.items;
+  body = items_view f.body;
+  end = f.end;
+}
 
 -- the function at the place; one that isn't there does nothing
 abbrev pub function_or : Option program.Function → program.Function
-function_or None = record { parameters = 0; body = program.no_more; end = 0 }
+function_or None = record { result_type = None; parameters = []; body = program.no_more; end = 0 }
 function_or (Some f) = f
 
 abbrev pub program_view : Program → program.Program
 program_view p =
     let functions = map function_view p.functions.items in
-    record { globals = p.globals.items; functions = functions; main = function_or (slice_get functions p.main) }
+    record {
+      globals = p.globals.items;
+      functions = functions;
+      main = function_or (slice_get functions p.main);
+    }

@@ -1,8 +1,9 @@
 -- Runs: lists of configurations, each following the one before, from main's start with any draws of 64 bits.
-use Rattle.std.specs.Prelude.{◌≡◌, ℕ, zero, suc, ℤ, List, [], ◌∷◌, length, Option, Some, None, false, IsTrue}
+use Rattle.std.specs.Prelude.{◌≡◌, ℕ, zero, suc, ℤ, List, [], ◌∷◌, length, map, Option, Some, None, false, IsTrue}
 use Rattle.std.specs.List.{AllByRecursion}
 use Rattle.lra_program.specs.Program.{Stmt, absent, nothing, block, assign, call, if, loop, for, break, continue}
 use Rattle.lra_program.specs.Program.{return, assert, assume, Program}
+use Rattle.lra_program.specs.declared.program.GlobalVariable.{GlobalVariable}
 use Rattle.lra_program.specs.Value.{is_word}
 use Rattle.lra_program.specs.Step.{State, test, run_op, Here, Item, run, declare, all, end_of, turn, cut, mark}
 use Rattle.lra_program.specs.Step.{leave_call, Config, next}
@@ -13,8 +14,8 @@ Steps P zero c d = c ≡ d
 Steps P (suc n) c d = (e : Config) × (next P c ≡ Some e) × Steps P n e d
 
 -- where a run begins: the globals at their first values, and its draws
-abbrev pub begun : List ℤ → List ℤ → State
-begun globals draws = record { store = globals; draws = draws }
+abbrev pub begun : List GlobalVariable → List ℤ → State
+begun globals draws = record { store = map (λ (g : GlobalVariable). g.value) globals; draws = draws }
 
 -- main's body, from there
 abbrev pub start : Program → List ℤ → Config

@@ -70,8 +70,8 @@ module _ (inside : List ℕ → ℕ → Call → List Event) (path : List ℕ) w
 abbrev pub function_events : (List ℕ → ℕ → Call → List Event) → List ℕ → ℕ → Option Function → List Event
 function_events inside path live None = []
 function_events inside path live (Some f) =
-    items_events inside path (live + f.parameters) f.body ++
-    plain_site path f.end (live_behind (live + f.parameters) f.body) ∷ []
+    items_events inside path (live + length f.parameters) f.body ++
+    plain_site path f.end (live_behind (live + length f.parameters) f.body) ∷ []
 
 -- a call's points, where the path may have so many calls more
 abbrev pub call_events : Program → ℕ → List ℕ → ℕ → Call → List Event

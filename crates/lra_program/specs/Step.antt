@@ -5,7 +5,12 @@ use Rattle.std.specs.Prelude.{slice_get, slice_set}
 use Rattle.lra_program.specs.Program.{Expr, Cond, Call, Rvalue, value, result, Declarator, Stmt, absent, nothing, block}
 use Rattle.lra_program.specs.Program.{assign, call, if, loop, for, break, continue, return, assert, assume, BlockItems}
 use Rattle.lra_program.specs.Program.{no_more, declaration, statement, Function, Program}
-use Rattle.lra_program.specs.Value.{◌>>=◌, index_of, Scene, Drawn, draw, value_of, values_of, truth_of}
+use Rattle.lra_base.specs.declared.number_types.NumberType.{NumberType}
+use Rattle.lra_program.specs.declared.receivers.Target.{Target}
+use Rattle.lra_program.specs.declared.receivers.Receiver.{Receiver}
+use Rattle.lra_program.specs.Receivers.{variable_at, nobody, behind_result, accepts}
+use Rattle.lra_program.specs.Value.{◌>>=◌, number, index_of, Scene, Drawn, draw, value_of, Argument, values_of}
+use Rattle.lra_program.specs.Value.{truth_of}
 
 -- the variables, oldest first, and the draws that are left
 pub record State : Type 0 where
@@ -18,49 +23,56 @@ scene_at base s = record { base = base; store = s.store }
 
 -- the least changes of a state, of which all steps are made; a number is a place in the store, or a length
 pub data Op : Type 0 where
-  -- a new variable, which gets a draw
-  append : Op
-  -- the variable, where there is one, gets the value; `base` is where the call's own variables begin
-  give : ℕ → Option ℕ → Expr → Op
-  give_any : Option ℕ → Op
+  -- a new variable of this type, which gets a draw
+  append : NumberType → Op
+  -- the receiver gets the value; `base` is where the call's own variables begin
+  give : ℕ → Receiver → Expr → Op
+  give_any : Receiver → Op
   -- the arguments' values, as new variables
-  push : ℕ → List Expr → Op
+  push : ℕ → List Argument → Op
   -- only the oldest so many variables stay
   keep : ℕ → Op
   -- nothing, where the condition is so
   test : ℕ → Cond → Bool → Op
 
-abbrev pub put : Option ℕ → ℤ → List ℤ → List ℤ
+abbrev pub put : Option Target → ℤ → List ℤ → List ℤ
 put None z store = store
-put (Some x) z store = slice_set store x z
+put (Some t) z store = slice_set store t.place z
 
-abbrev pub receive : Option ℕ → State → Drawn ℤ → Option State
-receive x s None = None
-receive x s (Some r) = Some (record s { store = put x r.0 s.store; draws = r.1 })
-
-abbrev pub pushed : State → Drawn (List ℤ) → Option State
-pushed s None = None
-pushed s (Some r) = Some (record s { store = s.store ++ r.0; draws = r.1 })
-
+-- the state, where the one is as the other
 abbrev pub kept_if : Bool → Bool → State → Option State
 kept_if true true s = Some s
 kept_if false false s = Some s
 kept_if true false s = None
 kept_if false true s = None
 
+-- none where a type on the value's way doesn't have it
+abbrev pub receive : Receiver → State → Drawn ℤ → Option State
+receive x s None = None
+receive x s (Some r) = kept_if true (accepts x r.0) (record s { store = put x.target r.0 s.store; draws = r.1 })
+
+abbrev pub pushed : State → Drawn (List ℤ) → Option State
+pushed s None = None
+pushed s (Some r) = Some (record s { store = s.store ++ r.0; draws = r.1 })
+
 abbrev pub tested : Bool → State → Drawn Bool → Option State
 tested wanted s None = None
 tested wanted s (Some r) = kept_if wanted r.0 (record s { draws = r.1 })
 
-abbrev pub run_any : Option ℕ → State → Option State
-run_any None s = Some s
-run_any (Some x) s = receive (Some x) s (draw s.draws)
+-- a draw for the target; none is needed without one
+abbrev pub drawn_for : Option Target → Receiver → State → Option State
+drawn_for None x s = Some s
+drawn_for (Some t) x s = receive x s (draw s.draws)
+
+abbrev pub run_any : Receiver → State → Option State
+run_any x s = drawn_for x.target x s
 
 abbrev pub run_op : Op → State → Option State
-run_op append s = draw s.draws >>= λ r. Some (record s { store = s.store ++ r.0 ∷ []; draws = r.1 })
+run_op (append t) s = draw s.draws >>= λ r. number t r.0 >>= λ z.
+    Some (record s { store = s.store ++ z ∷ []; draws = r.1 })
 run_op (give base x e) s = receive x s (value_of e (scene_at base s) s.draws)
 run_op (give_any x) s = run_any x s
-run_op (push base es) s = pushed s (values_of es (scene_at base s) s.draws)
+run_op (push base given) s = pushed s (values_of given (scene_at base s) s.draws)
 run_op (keep n) s = Some (record s { store = take n s.store })
 run_op (test base c wanted) s = tested wanted s (truth_of c (scene_at base s) s.draws)
 
@@ -71,7 +83,7 @@ pub record Here : Type 0 where
 
 -- what a call leaves for its end: what gets the value, the caller, and how long the store was
 pub record Back : Type 0 where
-  pub target : Option ℕ
+  pub receiver : Receiver
   pub here : Here
   pub length : ℕ
 
@@ -128,9 +140,14 @@ to_mark (cut n ∷ k) = to_mark k
 to_mark (mark b ∷ k) = Some (record { back = b; rest = k })
 to_mark (leave_call ∷ k) = to_mark k
 
-abbrev pub target_of : Option Called → Option ℕ
-target_of None = None
-target_of (Some m) = m.back.target
+-- what gets the value that `main` returns: nobody, but it has to be one of main's type
+abbrev pub behind_main : Program → Receiver
+behind_main P = behind_result P.main.result_type nobody
+
+-- what gets the value that the function that runs returns
+abbrev pub receiver_of : Program → Option Called → Receiver
+receiver_of P None = behind_main P
+receiver_of P (Some m) = m.back.receiver
 
 abbrev pub go : List Item → Here → Option State → Option Config
 go k h None = None
@@ -145,15 +162,22 @@ abbrev pub go_by : List Item → List Item → Here → State → Drawn Bool →
 go_by on off h s None = None
 go_by on off h s (Some r) = Some (record { items = branch r.0 on off; here = h; state = record s { draws = r.1 } })
 
+-- the values that a call gives, each with its parameter's type
+abbrev pub arguments_for : List NumberType → List Expr → List Argument
+arguments_for [] es = []
+arguments_for (t ∷ ts) [] = []
+arguments_for (t ∷ ts) (e ∷ es) = record { number_type = t; value = e } ∷ arguments_for ts es
+
 -- arguments are evaluated and appended; then the callee's body, its end and its mark
-abbrev pub enter : Option Function → Call → Option ℕ → List Item → Here → State → Option Config
+abbrev pub enter : Option Function → Call → Receiver → List Item → Here → State → Option Config
 enter None c x k h s = None
 enter (Some f) c x k h s =
-    go (all f.body ∷ end_of f.end (length s.store + f.parameters) ∷
-    mark (record { target = x; here = h; length = length s.store }) ∷ k)
-    (record { path = c.label ∷ h.path; base = length s.store }) (run_op (push h.base c.arguments) s)
+    go (all f.body ∷ end_of f.end (length s.store + length f.parameters) ∷
+    mark (record { receiver = behind_result f.result_type x; here = h; length = length s.store }) ∷ k)
+    (record { path = c.label ∷ h.path; base = length s.store })
+    (run_op (push h.base (arguments_for f.parameters c.arguments)) s)
 
-abbrev pub do_rvalue : Program → Option ℕ → Rvalue → List Item → Here → State → Option Config
+abbrev pub do_rvalue : Program → Receiver → Rvalue → List Item → Here → State → Option Config
 do_rvalue P x (value e) k h s = go k h (run_op (give h.base x e) s)
 do_rvalue P x (result c) k h s = enter (slice_get P.functions c.function) c x k h s
 
@@ -174,16 +198,16 @@ do_leave None s = None
 do_leave (Some m) s = go_on s (λ t. go m.rest m.back.here (run_op (keep m.back.length) t))
 
 abbrev pub do_return : Program → Option Rvalue → List Item → Here → State → Option Config
-do_return P None k h s = do_leave (to_mark k) (run_any (target_of (to_mark k)) s)
-do_return P (Some (value e)) k h s = do_leave (to_mark k) (run_op (give h.base (target_of (to_mark k)) e) s)
-do_return P (Some (result c)) k h s = do_rvalue P (target_of (to_mark k)) (result c) (leave_call ∷ k) h s
+do_return P None k h s = do_leave (to_mark k) (run_any (receiver_of P (to_mark k)) s)
+do_return P (Some (value e)) k h s = do_leave (to_mark k) (run_op (give h.base (receiver_of P (to_mark k)) e) s)
+do_return P (Some (result c)) k h s = do_rvalue P (receiver_of P (to_mark k)) (result c) (leave_call ∷ k) h s
 
 abbrev pub do_stmt : Program → Stmt → List Item → Here → State → Option Config
 do_stmt P absent k h s = go k h (Some s)
 do_stmt P (nothing at) k h s = go k h (Some s)
 do_stmt P (block body end) k h s = go (all body ∷ end_of end (length s.store) ∷ k) h (Some s)
-do_stmt P (assign at x e) k h s = do_rvalue P (Some (index_of h.base x)) e k h s
-do_stmt P (call at c) k h s = do_rvalue P None (result c) k h s
+do_stmt P (assign at x e) k h s = do_rvalue P (variable_at (index_of h.base x.slot) x.number_type) e k h s
+do_stmt P (call at c) k h s = do_rvalue P nobody (result c) k h s
 do_stmt P (if at c a b) k h s = go_by (run a ∷ k) (run b ∷ k) h s (truth_of c (scene_at h.base s) s.draws)
 do_stmt P (loop at c a step) k h s = go_by (run a ∷ turn step (loop at c a step) (length s.store) ∷ k) k h s
     (truth_of c (scene_at h.base s) s.draws)
@@ -195,9 +219,9 @@ do_stmt P (assert at c) k h s = go k h (run_op (test h.base c true) s)
 do_stmt P (assume at c) k h s = go k h (run_op (test h.base c true) s)
 
 -- a new variable; its value is given by the declarator's rvalue, where it has one
-abbrev pub do_declare : Program → Option Rvalue → List Item → Here → State → Option Config
-do_declare P None k h s = go k h (run_op append s)
-do_declare P (Some e) k h s = go_on (run_op append s) (do_rvalue P (Some (length s.store)) e k h)
+abbrev pub do_declare : Program → NumberType → Option Rvalue → List Item → Here → State → Option Config
+do_declare P t None k h s = go k h (run_op (append t) s)
+do_declare P t (Some e) k h s = go_on (run_op (append t) s) (do_rvalue P (variable_at (length s.store) t) e k h)
 
 abbrev pub do_all : BlockItems → List Item → Here → State → Option Config
 do_all no_more k h s = go k h (Some s)
@@ -207,12 +231,12 @@ do_all (statement a b) k h s = go (run a ∷ all b ∷ k) h (Some s)
 abbrev pub next_at : Program → List Item → Here → State → Option Config
 next_at P [] h s = None
 next_at P (run a ∷ k) h s = do_stmt P a k h s
-next_at P (declare d ∷ k) h s = do_declare P d.rvalue k h s
+next_at P (declare d ∷ k) h s = do_declare P d.number_type d.rvalue k h s
 next_at P (all a ∷ k) h s = do_all a k h s
 next_at P (end_of at n ∷ k) h s = go k h (run_op (keep n) s)
 next_at P (turn step again n ∷ k) h s = go (run step ∷ run again ∷ k) h (Some s)
 next_at P (cut n ∷ k) h s = go k h (run_op (keep n) s)
-next_at P (mark b ∷ k) h s = go_on (run_any b.target s) (λ t. go k b.here (run_op (keep b.length) t))
+next_at P (mark b ∷ k) h s = go_on (run_any b.receiver s) (λ t. go k b.here (run_op (keep b.length) t))
 next_at P (leave_call ∷ k) h s = do_leave (to_mark k) (Some s)
 
 -- the configuration that follows, or none where the run ends

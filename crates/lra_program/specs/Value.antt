@@ -1,10 +1,15 @@
--- The value of an expression and of a condition, with the draws that are left; none where the run stops:
--- at a number that doesn't fit 64 bits, at a divisor 0, at -2^63 divided by -1 (also for `%`), and where a draw is
--- needed and none is left (ISO/IEC 9899:2011, 6.5; overflow, undefined there, ends the run here).
-use Rattle.std.specs.Prelude.{ℕ, zero, suc, ℤ, pos, negsuc, ◌+ℤ◌, ◌-ℤ◌, ◌*ℤ◌, ◌+◌, List, [], ◌∷◌, Option, Some, None}
-use Rattle.std.specs.Prelude.{Bool, true, false, not, if◌then◌else◌, slice_get, int_div, int_rem, int_lt, int_le}
-use Rattle.lra_program.specs.Program.{Slot, global, local, Expr, literal, read, input, negate, binary, Cond, compare}
-use Rattle.lra_program.specs.Program.{nonzero, opposite, both_of, either_of}
+-- The value of an expression, a number of its type, and of a condition, with the draws that are left; none where the
+-- run stops: at a number that doesn't fit the type in which it is computed, at a divisor 0, at that type's least number
+-- divided by -1 (also for `%`), at an argument that doesn't fit its parameter, and where a draw is needed and none is
+-- left (ISO/IEC 9899:2011, 6.5; overflow, undefined there, ends the run here).
+use Rattle.std.specs.Prelude.{◌≡◌, ℕ, zero, suc, ℤ, pos, negsuc, ◌+ℤ◌, ◌-ℤ◌, ◌*ℤ◌, ◌+◌, List, [], ◌∷◌, Option, Some}
+use Rattle.std.specs.Prelude.{None, Bool, true, false, not, if◌then◌else◌, slice_get, int_div, int_rem, int_lt, int_le}
+use Rattle.std.specs.Prelude.{IsTrue}
+use Rattle.lra_base.specs.declared.number_types.NumberType.{NumberType}
+use Rattle.lra_base.specs.declared.number_types.NumberType.TheVariants.{Long}
+use Rattle.lra_base.specs.NumberTypes.{fits, wider}
+use Rattle.lra_program.specs.Program.{Slot, global, local, Expr, literal, read, input, negate, binary, type_of, Cond}
+use Rattle.lra_program.specs.Program.{compare, nonzero, opposite, both_of, either_of}
 use Rattle.lra_base.specs.Operators.{Operator, plus, minus, times, over, modulo, Comparison, below, at_most, above}
 use Rattle.lra_base.specs.Operators.{at_least, equal, differs}
 
@@ -16,11 +21,11 @@ None >>= f = None
 
 -- -2^63 to 2^63 - 1
 abbrev pub is_word : ℤ → Bool
-is_word z = if int_le (negsuc 9223372036854775807) z then int_le z (pos 9223372036854775807) else false
+is_word z = fits Long z
 
--- the number, where it has 64 bits
-abbrev pub word : ℤ → Option ℤ
-word z = if is_word z then Some z else None
+-- the number, where it is one of the type
+abbrev pub number : NumberType → ℤ → Option ℤ
+number t z = if fits t z then Some z else None
 
 abbrev pub is_zero : ℤ → Bool
 is_zero (pos zero) = true
@@ -28,15 +33,16 @@ is_zero (pos (suc n)) = false
 is_zero (negsuc n) = false
 
 -- `/` truncates towards 0, and `%` gives what is left: (x / y) * y + x % y is x
-abbrev pub quotient : (ℤ → ℤ → ℤ) → ℤ → ℤ → Option ℤ
-quotient f x y = if is_zero y then None else word (int_div x y) >>= λ _. Some (f x y)
+abbrev pub quotient : NumberType → (ℤ → ℤ → ℤ) → ℤ → ℤ → Option ℤ
+quotient t f x y = if is_zero y then None else number t (int_div x y) >>= λ _. number t (f x y)
 
-abbrev pub apply : Operator → ℤ → ℤ → Option ℤ
-apply plus x y = word (x +ℤ y)
-apply minus x y = word (x -ℤ y)
-apply times x y = word (x *ℤ y)
-apply over x y = quotient int_div x y
-apply modulo x y = quotient int_rem x y
+-- in this type
+abbrev pub apply : NumberType → Operator → ℤ → ℤ → Option ℤ
+apply t plus x y = number t (x +ℤ y)
+apply t minus x y = number t (x -ℤ y)
+apply t times x y = number t (x *ℤ y)
+apply t over x y = quotient t int_div x y
+apply t modulo x y = quotient t int_rem x y
 
 abbrev pub compares : Comparison → ℤ → ℤ → Bool
 compares below x y = int_lt x y
@@ -60,24 +66,37 @@ pub record Scene : Type 0 where
 abbrev pub Drawn : Type 0 → Type 0
 Drawn A = Option (A × List ℤ)
 
--- the first draw
+-- the first draw, a number of 64 bits
 abbrev pub draw : List ℤ → Drawn ℤ
 draw [] = None
-draw (d ∷ ds) = Some (d, ds)
+draw (d ∷ ds) = number Long d >>= λ z. Some (z, ds)
 
--- operands from left to right
+-- Operands from left to right. What a variable holds is asked, too; in a run it has the variable's type, since nothing
+-- else is kept there.
 abbrev pub value_of : Expr → Scene → List ℤ → Drawn ℤ
-value_of (literal n) s draws = Some (pos n, draws)
-value_of (read v) s draws = slice_get s.store (index_of s.base v) >>= λ z. Some (z, draws)
+value_of (literal t n) s draws = number t (pos n) >>= λ z. Some (z, draws)
+value_of (read v) s draws =
+    slice_get s.store (index_of s.base v.slot) >>= λ y. number v.number_type y >>= λ z. Some (z, draws)
 value_of input s draws = draw draws
-value_of (negate e) s draws = value_of e s draws >>= λ r. word (pos 0 -ℤ r.0) >>= λ z. Some (z, r.1)
-value_of (binary op a b) s draws =
-    value_of a s draws >>= λ r. value_of b s r.1 >>= λ q. apply op r.0 q.0 >>= λ z. Some (z, q.1)
+value_of (negate e) s draws = value_of e s draws >>= λ r. number (type_of e) (pos 0 -ℤ r.0) >>= λ z. Some (z, r.1)
+value_of (binary op a b) s draws = value_of a s draws >>= λ r. value_of b s r.1 >>= λ q.
+    apply (wider (type_of a) (type_of b)) op r.0 q.0 >>= λ z. Some (z, q.1)
 
--- arguments from left to right
-abbrev pub values_of : List Expr → Scene → List ℤ → Drawn (List ℤ)
+-- a value, where there is one, is a number of its expression's type
+abbrev pub ValuesHaveTypes : Type 0
+ValuesHaveTypes = (e : Expr) (s : Scene) (draws left : List ℤ) (z : ℤ) → value_of e s draws ≡ Some (z, left) →
+    IsTrue (fits (type_of e) z)
+
+-- what a call gives to a parameter of this type
+pub record Argument : Type 0 where
+  pub number_type : NumberType
+  pub value : Expr
+
+-- from left to right; each is one of its parameter's type before the next is computed
+abbrev pub values_of : List Argument → Scene → List ℤ → Drawn (List ℤ)
 values_of [] s draws = Some ([], draws)
-values_of (e ∷ es) s draws = value_of e s draws >>= λ r. values_of es s r.1 >>= λ q. Some (r.0 ∷ q.0, q.1)
+values_of (a ∷ rest) s draws = value_of a.value s draws >>= λ r. number a.number_type r.0 >>= λ z.
+    values_of rest s r.1 >>= λ q. Some (z ∷ q.0, q.1)
 
 -- `&&` and `||` stop early
 abbrev pub truth_of : Cond → Scene → List ℤ → Drawn Bool

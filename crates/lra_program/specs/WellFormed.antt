@@ -1,7 +1,7 @@
 -- Well-formed programs: what holds of the program that a source without faults means. A program made by hand may have a
--- number past 64 bits, one label twice, a variable that isn't there or a call without a callee; its runs are told all
--- the same, and stop or go on as they may.
-use Rattle.std.specs.Prelude.{◌≡◌, ℕ, suc, ◌<◌, Bool, true, false, List, [], ◌∷◌, ◌++◌, length, Option, Some, None}
+-- number that its type doesn't have, one label twice, a variable that isn't there or has another type than it is told
+-- to have, or a call without a callee; its runs are told all the same, and stop or go on as they may.
+use Rattle.std.specs.Prelude.{◌≡◌, ℕ, suc, ◌<◌, pos, Bool, true, false, List, [], ◌∷◌, ◌++◌, length, Option, Some, None}
 use Rattle.std.specs.Prelude.{slice_get, IsTrue, ⊤}
 use Rattle.std.specs.List.{AllByRecursion, Contains, flat_map, range_with_len}
 use Rattle.lra_base.specs.TextOrder.{for_order}
@@ -9,7 +9,8 @@ use Rattle.lra_program.specs.Program.{Slot, global, local, Expr, literal, read, 
 use Rattle.lra_program.specs.Program.{nonzero, opposite, both_of, either_of, Call, Rvalue, value, result, Stmt, absent}
 use Rattle.lra_program.specs.Program.{nothing, block, assign, call, if, loop, for, break, continue, return, assert}
 use Rattle.lra_program.specs.Program.{assume, BlockItems, no_more, declaration, statement, Function, Program}
-use Rattle.lra_program.specs.Value.{is_word}
+use Rattle.lra_program.specs.declared.program.GlobalVariable.{GlobalVariable}
+use Rattle.lra_base.specs.NumberTypes.{fits}
 use Rattle.lra_program.specs.Sites.{live_behind}
 
 -- labels -----------------------------------------------------------------------------------------------------------
@@ -50,10 +51,10 @@ module _ (P : Program) where
   IsLive live (global k) = k < length P.globals
   IsLive live (local k) = k < live
 
-  -- literals are below 2^63, and variables live
+  -- literals have their type, and variables live
   abbrev pub IsGoodExpr : ℕ → Expr → Type 0
-  IsGoodExpr live (literal n) = n < 9223372036854775808
-  IsGoodExpr live (read v) = IsLive live v
+  IsGoodExpr live (literal t n) = IsTrue (fits t (pos n))
+  IsGoodExpr live (read v) = IsLive live v.slot
   IsGoodExpr live input = ⊤
   IsGoodExpr live (negate e) = IsGoodExpr live e
   IsGoodExpr live (binary op a b) = IsGoodExpr live a × IsGoodExpr live b
@@ -70,7 +71,7 @@ module _ (P : Program) where
     pub label : c.label ≡ at
     pub callee : Function
     pub is_callee : slice_get P.functions c.function ≡ Some callee
-    pub width : length c.arguments ≡ callee.parameters
+    pub width : length c.arguments ≡ length callee.parameters
     pub arguments : AllByRecursion (IsGoodExpr live) c.arguments
 
   abbrev pub IsGoodRvalue : ℕ → ℕ → Rvalue → Type 0
@@ -87,7 +88,7 @@ module _ (P : Program) where
     IsGoodStmt in_loop live absent = ⊤
     IsGoodStmt in_loop live (nothing at) = ⊤
     IsGoodStmt in_loop live (block items end) = AreGoodItems in_loop live items
-    IsGoodStmt in_loop live (assign at x e) = IsLive live x × IsGoodRvalue at live e
+    IsGoodStmt in_loop live (assign at x e) = IsLive live x.slot × IsGoodRvalue at live e
     IsGoodStmt in_loop live (call at c) = IsGoodCall at live c
     IsGoodStmt in_loop live (if at c a b) = IsGoodCond live c × IsGoodStmt in_loop live a × IsGoodStmt in_loop live b
     IsGoodStmt in_loop live (loop at c a step) = IsGoodCond live c × IsGoodStmt true live a × IsGoodStmt false live step
@@ -108,12 +109,16 @@ module _ (P : Program) where
     AreGoodItems in_loop live (statement s items) = IsGoodStmt in_loop live s × AreGoodItems in_loop live items
 
   abbrev pub IsGoodFunction : Function → Type 0
-  IsGoodFunction f = AreGoodItems false f.parameters f.body
+  IsGoodFunction f = AreGoodItems false (length f.parameters) f.body
+
+-- first values are numbers of their types
+abbrev pub AreGoodGlobals : List GlobalVariable → Type 0
+AreGoodGlobals gs = AllByRecursion (λ g. IsTrue (fits g.number_type g.value)) gs
 
 pub record IsWellFormed (P : Program) : Type 0 where
-  pub globals : AllByRecursion (λ z. IsTrue (is_word z)) P.globals
+  pub globals : AreGoodGlobals P.globals
   pub labels : AreInTextOrder P.functions
   pub functions : AllByRecursion (IsGoodFunction P) P.functions
   -- `main` is one of them, without parameters
   pub main : Contains P.functions P.main
-  pub alone : P.main.parameters ≡ 0
+  pub alone : P.main.parameters ≡ []

@@ -4,8 +4,10 @@
 #![tactic(auto)]
 
 mod program;
+mod receivers;
 
 pub use program::{
-    BlockItem, BlockItems, Call, Cond, Declarator, Expr, Function, Operation, Program, Rvalue,
-    Slot, Stmt, copy_expressions,
+    Argument, BlockItem, BlockItems, Call, Cond, Declarator, Expr, Function, GlobalVariable,
+    Operation, Program, Rvalue, Slot, Stmt, Variable, pair_arguments,
 };
+pub use receivers::{Receiver, Target, Way};

@@ -3,9 +3,10 @@
 //! ends of blocks from 1.
 
 ghost use Rattle.std.specs.Prelude.{◌≡◌, ◌∷◌, [], map, IfOk};
-ghost use Rattle.lra_program.specs.ProgramViews.{expr_view, operation_view, cond_view};
+ghost use Rattle.lra_program.specs.ProgramViews.{expr_view, operation_view, cond_view, argument_view};
+ghost use Rattle.lra_program.specs.Step.{arguments_for};
 
-use lra_base::{Comparison, Operator};
+use lra_base::{Comparison, NumberType, Operator};
 use std::alloc::{AllocError, Global};
 
 /// A variable of the whole program, or of the call that runs, by its place from the oldest on.
@@ -15,12 +16,19 @@ pub enum Slot {
     Local(usize),
 }
 
+/// A variable with the type that its declaration has.
+#[derive(Clone, Copy, PartialEq, Eq, Debug)]
+pub struct Variable {
+    pub slot: Slot,
+    pub number_type: NumberType,
+}
+
 /// An expression.
 #[cycle(resolved_expression)]
 pub enum Expr {
-    /// Below 2^63.
-    Literal(u64),
-    Read(Slot),
+    /// Of its type.
+    Literal(NumberType, u64),
+    Read(Variable),
     /// `input()`
     Input,
     Negate(Box<Expr>),
@@ -32,7 +40,7 @@ impl Drop for Expr {
     #[cycle(resolved_expression_drop)]
     fn drop(self) {
         match self {
-            Expr::Literal(_) => {}
+            Expr::Literal(_, _) => {}
             Expr::Read(_) => {}
             Expr::Input => {}
             Expr::Negate(_) => {}
@@ -117,6 +125,7 @@ impl Drop for Rvalue {
 /// A declarator under its label, and what its variable gets, if anything.
 pub struct Declarator {
     pub label: usize,
+    pub number_type: NumberType,
     pub rvalue: Option<Rvalue>,
 }
 
@@ -124,6 +133,7 @@ impl Drop for Declarator {
     fn drop(self) {
         let Declarator {
             label: _,
+            number_type: _,
             rvalue: _,
         } = self;
     }
@@ -138,7 +148,7 @@ pub enum Stmt {
     Nothing(usize),
     /// A block's items, and the label of its `}`.
     Block(BlockItems, usize),
-    Assign(usize, Slot, Rvalue),
+    Assign(usize, Variable, Rvalue),
     Call(usize, Call),
     /// The branch where the condition is true, and the one where it is false.
     If(usize, Cond, Box<Stmt>, Box<Stmt>),
@@ -216,10 +226,27 @@ impl Drop for BlockItems {
     }
 }
 
+/// An expression that is given to a parameter of this type.
+pub struct Argument {
+    pub number_type: NumberType,
+    pub value: Expr,
+}
+
+impl Drop for Argument {
+    fn drop(self) {
+        let Argument {
+            number_type: _,
+            value: _,
+        } = self;
+    }
+}
+
 /// A function with its body.
 pub struct Function {
-    /// How many parameters it has.
-    pub parameters: usize,
+    /// The type of its result; `void` has none.
+    pub result_type: Option<NumberType>,
+    /// The types of its parameters.
+    pub parameters: Vec<NumberType>,
     pub body: BlockItems,
     /// The label of its `}`.
     pub end: usize,
@@ -228,6 +255,7 @@ pub struct Function {
 impl Drop for Function {
     fn drop(self) {
         let Function {
+            result_type: _,
             parameters: _,
             body: _,
             end: _,
@@ -235,10 +263,17 @@ impl Drop for Function {
     }
 }
 
+/// A global variable.
+#[derive(Clone, Copy, PartialEq, Eq, Debug)]
+pub struct GlobalVariable {
+    pub number_type: NumberType,
+    /// Its first value.
+    pub value: i64,
+}
+
 /// A program.
 pub struct Program {
-    /// The first values of the global variables.
-    pub globals: Vec<i64>,
+    pub globals: Vec<GlobalVariable>,
     /// All functions in text order.
     pub functions: Vec<Function>,
     /// The place of `main` among them.
@@ -262,8 +297,8 @@ impl Expr {
         ensures { IfOk result (λ e. expr_view e ≡ expr_view self.now) }
     {
         Ok(match self {
-            Expr::Literal(n) => Expr::Literal(*n),
-            Expr::Read(slot) => Expr::Read(*slot),
+            Expr::Literal(number_type, n) => Expr::Literal(*number_type, *n),
+            Expr::Read(variable) => Expr::Read(*variable),
             Expr::Input => Expr::Input,
             Expr::Negate(e) => Expr::Negate(Box::new(alloc, e.copy(alloc)?)?),
             Expr::Chain(first, rest) => {
@@ -322,13 +357,22 @@ fn copy_conditions(alloc: Global, conditions: &[Cond]) -> Result<Vec<Cond>, Allo
     Ok(copies)
 }
 
-/// Copies of expressions, as those of a call's arguments.
-pub fn copy_expressions(alloc: Global, expressions: &[Expr]) -> Result<Vec<Expr>, AllocError>
-    ensures { IfOk result (λ v. map expr_view v.items ≡ map expr_view expressions.now) }
+/// Copies of expressions, each with the type of its parameter, as a call gives them.
+pub fn pair_arguments(
+    alloc: Global,
+    parameters: &[NumberType],
+    expressions: &[Expr],
+) -> Result<Vec<Argument>, AllocError>
+    ensures { IfOk result (λ v. map argument_view v.items
+        ≡ arguments_for parameters.now (map expr_view expressions.now)) }
 {
-    let mut copies = Vec::new(alloc);
-    'expressions: for expression in expressions {
-        copies.push(expression.copy(alloc)?)?;
+    let mut given = Vec::new(alloc);
+    for (number_type, expression) in parameters.iter().zip(expressions) {
+        let value = expression.copy(alloc)?;
+        given.push(Argument {
+            number_type: *number_type,
+            value,
+        })?;
     }
-    Ok(copies)
+    Ok(given)
 }

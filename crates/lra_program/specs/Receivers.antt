@@ -1,0 +1,79 @@
+-- What a value meets on its way to a variable: the types of the functions that pass it on as their result, and the
+-- variable's own. A number of 64 bits that one of them doesn't have ends the run (in C, ISO/IEC 9899:2011, 6.3.1.3, the
+-- compiler says what becomes of it).
+use Rattle.std.specs.Prelude.{ℕ, ℤ, Bool, true, false, ◌&&◌, ◌||◌, Option, None, Some}
+use Rattle.lra_base.specs.declared.number_types.NumberType.{NumberType}
+use Rattle.lra_base.specs.declared.number_types.NumberType.TheVariants.{Int, Long}
+use Rattle.lra_base.specs.NumberTypes.{fits}
+use Rattle.lra_program.specs.declared.receivers.Way.{Way}
+use Rattle.lra_program.specs.declared.receivers.Way.TheVariants.{Wide, Short, Shortened}
+use Rattle.lra_program.specs.declared.receivers.Target.{Target}
+use Rattle.lra_program.specs.declared.receivers.Receiver.{Receiver}
+
+-- a further type stands before those of the way, which are told as far as they matter
+abbrev pub through : NumberType → Way → Way
+through Int Wide = Short
+through Int Short = Short
+through Int Shortened = Shortened
+through Long Wide = Wide
+through Long Short = Shortened
+through Long Shortened = Shortened
+
+-- a function's result goes on this way; `void` has no type
+abbrev pub passed_on : Option NumberType → Way → Way
+passed_on None w = w
+passed_on (Some t) w = through t w
+
+-- a number may go this way
+abbrev pub lets_through : Way → ℤ → Bool
+lets_through Wide z = true
+lets_through Short z = fits Int z
+lets_through Shortened z = fits Int z
+
+-- a value of this type is converted on it from 64 bits to 32
+abbrev pub converts : NumberType → Way → Bool
+converts t Wide = false
+converts Int Short = false
+converts Long Short = true
+converts t Shortened = true
+
+-- the variable at the place
+abbrev pub variable_at : ℕ → NumberType → Receiver
+variable_at place t = record {
+  target = Some (record { place = place; number_type = t });
+  way = through t Wide;
+}
+
+-- a call whose result nobody asks for
+abbrev pub nobody : Receiver
+nobody = record { target = None; way = Wide }
+
+-- what a function with this result gives it to, called for the receiver
+abbrev pub behind_result : Option NumberType → Receiver → Receiver
+behind_result t r = record r { way = passed_on t r.way }
+
+-- a parameter of this type, whose place is told elsewhere
+abbrev pub parameter_of : NumberType → Receiver
+parameter_of t = behind_result (Some t) nobody
+
+abbrev pub is_shorter : NumberType → NumberType → Bool
+is_shorter Long Int = true
+is_shorter Long Long = false
+is_shorter Int t = false
+
+-- a value of this type is converted from 64 bits to 32 on its way to the receiver. (Of each receiver made above the way
+-- alone tells it: the target's type is on it.)
+abbrev pub shortens : NumberType → Option Target → Bool
+shortens t None = false
+shortens t (Some x) = is_shorter t x.number_type
+
+abbrev pub converts_to : NumberType → Receiver → Bool
+converts_to t r = converts t r.way || shortens t r.target
+
+abbrev pub target_accepts : Option Target → ℤ → Bool
+target_accepts None z = true
+target_accepts (Some t) z = fits t.number_type z
+
+-- the number is one of all types on the way and of the target's
+abbrev pub accepts : Receiver → ℤ → Bool
+accepts r z = lets_through r.way z && target_accepts r.target z

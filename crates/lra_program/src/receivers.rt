@@ -1,0 +1,127 @@
+//! What a value meets on its way to a variable.
+
+ghost use Rattle.std.specs.Prelude.{◌≡◌};
+ghost use Rattle.lra_program.specs.Receivers.{through, converts, is_shorter, shortens, converts_to};
+ghost use Rattle.lra_program.specs.Receivers.{variable_at, nobody, behind_result};
+
+use lra_base::NumberType;
+
+/// The types on a way, as far as they matter.
+#[derive(Clone, Copy, PartialEq, Eq, Debug)]
+pub enum Way {
+    /// All have 64 bits, or there is none.
+    Wide,
+    /// One has 32 bits, and none before it 64.
+    Short,
+    /// One of 32 bits stands behind one of 64.
+    Shortened,
+}
+
+impl Way {
+    /// The way with a further type before those of this one.
+    pub fn behind(self, number_type: NumberType) -> Self
+        ensures { result ≡ through number_type self }
+    {
+        match number_type {
+            NumberType::Int => match self {
+                Way::Wide | Way::Short => Way::Short,
+                Way::Shortened => Way::Shortened,
+            },
+            NumberType::Long => match self {
+                Way::Wide => Way::Wide,
+                Way::Short | Way::Shortened => Way::Shortened,
+            },
+        }
+    }
+
+    /// Whether a value of this type is converted on it from 64 bits to 32.
+    pub fn converts(self, number_type: NumberType) -> bool
+        ensures { result ≡ converts number_type self }
+    {
+        match self {
+            Way::Wide => false,
+            Way::Short => match number_type {
+                NumberType::Int => false,
+                NumberType::Long => true,
+            },
+            Way::Shortened => true,
+        }
+    }
+}
+
+/// A variable by its place in the store.
+#[derive(Clone, Copy, PartialEq, Eq, Debug)]
+pub struct Target {
+    pub place: usize,
+    pub number_type: NumberType,
+}
+
+/// What gets a value, where anything does, and the way there.
+#[derive(Clone, Copy, PartialEq, Eq, Debug)]
+pub struct Receiver {
+    pub target: Option<Target>,
+    pub way: Way,
+}
+
+impl Receiver {
+    /// The variable at a place.
+    pub fn variable(place: usize, number_type: NumberType) -> Self
+        ensures { result ≡ variable_at place number_type }
+    {
+        Receiver {
+            target: Some(Target { place, number_type }),
+            way: Way::Wide.behind(number_type),
+        }
+    }
+
+    /// Of a result for which nobody asks.
+    pub fn nobody() -> Self
+        ensures { result ≡ nobody }
+    {
+        Receiver {
+            target: None,
+            way: Way::Wide,
+        }
+    }
+
+    /// Whether a value of this type is converted from 64 bits to 32 on its way here.
+    pub fn converts(self, number_type: NumberType) -> bool
+        ensures { result ≡ converts_to number_type self }
+    {
+        self.way.converts(number_type) || self.shortens(number_type)
+    }
+
+    /// What a function with this result gives it to, called for this receiver.
+    pub fn behind_result(self, result_type: Option<NumberType>) -> Self
+        ensures { result ≡ behind_result result_type self }
+    {
+        match result_type {
+            Some(number_type) => Receiver {
+                target: self.target,
+                way: self.way.behind(number_type),
+            },
+            None => self,
+        }
+    }
+
+    fn shortens(self, number_type: NumberType) -> bool
+        ensures { result ≡ shortens number_type self.target }
+    {
+        match self.target {
+            Some(target) => is_shorter(number_type, target.number_type),
+            None => false,
+        }
+    }
+}
+
+fn is_shorter(from: NumberType, to: NumberType) -> bool
+    ensures { result ≡ is_shorter from to }
+{
+    match from {
+        NumberType::Int => false,
+        NumberType::Long => match to {
+            NumberType::Int => true,
+            NumberType::Long => false,
+        },
+    }
+}
