@@ -61,7 +61,7 @@ slot_lives P live (Some k) g at h i e = h k refl
 slot_lives P live None (Some k) at h i e = i k refl
 slot_lives P live None None at h i e = absurd cc
 
-pub variable_lives : (P : Program) (live : ℕ) (s : Scope) (x : Identifier) → Sees P live s → use_faults s x ≡ [] → IsLive P live (variable s x)
+pub variable_lives : (P : Program) (live : ℕ) (s : Scope) (x : Identifier) → Sees P live s → use_faults s x ≡ [] → IsLive P live (variable s x).slot
 variable_lives P live s x h e =
     let count = λ (es : List Entry). length-map es (λ (e : Entry). e.name) in
     slot_lives P live (newest x.word (names_in s.locals)) (newest x.word (names_in s.globals)) x.place

@@ -1,5 +1,5 @@
 -- What a tree means is good, where nothing of it is at fault and its literals are small.
-use Rattle.std.proofs.Common.{◌≡◌, ℕ, suc, ◌+◌, List, [], ◌∷◌, ◌++◌, length, map, Option, Some, None, Bool, true, false, not, refl, sym, ◌∙◌, arith}
+use Rattle.std.proofs.Common.{◌≡◌, ℕ, suc, ◌+◌, List, [], ◌∷◌, ◌++◌, length, map, Option, Some, None, Bool, true, false, not, refl, sym, ◌∙◌}
 use Rattle.std.specs.Prelude.{⊤, slice_get}
 use Rattle.std.specs.List.{AllByRecursion, flat_map}
 use Rattle.std.proofs.lemmas.List.{length-map}
@@ -26,7 +26,7 @@ module _ (P : Program) where
       good_unary : (u : tree.UnaryTree) → IsSmallUnary u → unary_faults s u ≡ [] → IsGoodExpr P live (resolve_unary s u)
       good_unary (tree.negated u) small e = good_unary u small e
       good_unary (tree.positive u) small e = good_unary u small e
-      good_unary (tree.literal n) small e = small
+      good_unary (tree.literal t n) small e = small
       good_unary (tree.variable x) small e = variable_lives P live s x sees e
       good_unary tree.input small e = tt
       good_unary (tree.group x) small e = good_expr x small e
@@ -88,7 +88,7 @@ module _ (P : Program) where
   -- the called functions of the source are those of the program
   abbrev pub AreCallees : List tree.FunctionTree → Type 0
   AreCallees F = (name : List ℕ) (f : tree.FunctionTree) → function_named F name ≡ Some f → (g : Function) × (slice_get P.functions (function_place F name) ≡ Some g) ×
-      (g.parameters ≡ length f.parameters)
+      (length g.parameters ≡ length f.parameters)
 
   module _ (F : List tree.FunctionTree) (callees : AreCallees F) where
     good_call : (at live : ℕ) (s : Scope) (c : tree.CallTree) (used : Bool) → Sees P live s → IsSmallCall c → call_faults F s c used ≡ [] → IsGoodCall P at live (resolve_call F s at c)
@@ -119,8 +119,8 @@ module _ (P : Program) where
     good_assign b at live s (tree.update x op e) sees small none =
         let lives = variable_lives P live s x sees (none_left (use_faults s x) (expr_faults s e) none) in
         (lives, (lives, good_expr live s sees e small (none_right (use_faults s x) (expr_faults s e) none)))
-    good_assign b at live s (tree.after x step) sees small none = let lives = variable_lives P live s x sees none in (lives, (lives, omega arith))
-    good_assign b at live s (tree.before p step x) sees small none = let lives = variable_lives P live s x sees none in (lives, (lives, omega arith))
+    good_assign b at live s (tree.after x step) sees small none = let lives = variable_lives P live s x sees none in (lives, (lives, refl))
+    good_assign b at live s (tree.before p step x) sees small none = let lives = variable_lives P live s x sees none in (lives, (lives, refl))
 
     -- declarators, and the items behind them
     good_declarators : (b : Bool) (n live : ℕ) (s : Scope) (t : NumberType) (ds : List tree.DeclaratorTree) (rest : BlockItems) → Sees P live s → AllByRecursion IsSmallDeclarator ds
@@ -152,7 +152,7 @@ module _ (P : Program) where
     sees_for n live s (tree.assigned a) sees = sees_inner P live s sees
 
     good_for_test : (live : ℕ) (s : Scope) (c : Option tree.CondTree) → Sees P live s → IsSmallForTest c → test_of_for_faults s c ≡ [] → IsGoodCond P live (resolve_for_test s c)
-    good_for_test live s None sees small e = omega arith
+    good_for_test live s None sees small e = refl
     good_for_test live s (Some c) sees small e = good_cond live s sees c small e
 
     good_step : (n live : ℕ) (s : Scope) (a : Option tree.AssignTree) → Sees P live s → IsSmallStep a → step_faults F s a ≡ [] → IsGoodStmt P false live (resolve_step F s n a)

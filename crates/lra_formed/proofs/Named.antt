@@ -15,7 +15,7 @@ use Rattle.lra_meaning.specs.NameFaults.{global_names}
 use Rattle.lra_tree.specs.Labels.{Labelled, plain_label, label_with, called_of, assign_label, with_names, declarator_labels, init_labels, step_labels, stmt_labels, items_labels, live_in_for}
 use Rattle.lra_tree.specs.Labels.{function_labels, labels_of, label_at}
 use Rattle.lra_meaning.specs.Resolve.{resolve_call, resolve_rvalue, resolve_given, resolve_assign, resolve_declarators, resolve_init, resolve_step, init_count, step_count, stmt_count, items_count}
-use Rattle.lra_meaning.specs.Resolve.{declarator_count, resolve_stmt, resolve_items, resolve_function, global_value, globals_in, resolve_parts, main_of, resolve}
+use Rattle.lra_meaning.specs.Resolve.{declarator_count, resolve_stmt, resolve_items, resolve_function, resolve_global, globals_in, resolve_parts, main_of, resolve}
 use Rattle.lra_program.specs.Sites.{Site, Event, comes, one_call_more, greatest_calls, plain_site, live_behind, rvalue_events, given_events, stmt_events, items_events, function_events, call_events}
 use Rattle.lra_program.specs.Sites.{sites_in, sites_of}
 use Rattle.lra_meaning.specs.ShownNames.{shown_names}
@@ -271,10 +271,11 @@ module _ (outside : List (List ℕ)) (ls : List Labelled) where
     function_has n live scope f h stand =
         let names = map (λ (p : Parameter). p.name.word) f.parameters in
         let m = n + items_count f.body in
-        let more = live + length f.parameters in
+        let more = live + length (map (λ (p : Parameter). p.number_type) f.parameters) in
         let s = function_scope scope f.parameters in
         let body = resolve_items F s n f.body in
         let k = length-map f.parameters (λ (p : Parameter). p.name.word) in
+        let types = length-map f.parameters (λ (p : Parameter). p.number_type) in
         let j : width_of path + length names ≡ more = omega (arith, h) in
         let both = items_have n m more s f.body f.end names j refl stand in
         each_then HasAsMany (items_events inside path more body) (plain_site path m (live_behind more body) ∷ []) both.0 (both.1, tt)
@@ -316,7 +317,7 @@ module _ (outside : List (List ℕ)) (ls : List Labelled) where
       calls_have zero path live c h = tt
       calls_have (suc more) path live c h = callee_has more (calls_have more) (c.label ∷ path) live P.functions c.function labelled h
 
-      no_main : (more live : ℕ) → width_of [] ≡ live → EachPoint HasAsMany (function_events (call_events P more) [] live (Some (record { parameters = 0; body = no_more; end = 0 })))
+      no_main : (more live : ℕ) → width_of [] ≡ live → EachPoint HasAsMany (function_events (call_events P more) [] live (Some (record { result_type = None; parameters = []; body = no_more; end = 0 })))
       no_main more live h = let a = length-append (outside ++ []) [] in let b : length (outside ++ [] ++ []) ≡ live + 0 = omega (arith, h) in (b, tt)
 
       one_of : (more live : ℕ) (b : Bool) (g x : Function) → EachPoint HasAsMany (function_events (call_events P more) [] live (Some g)) →
@@ -341,8 +342,8 @@ globals_as_many (tree.globals g ∷ ps) =
     let gs = g.first ∷ g.rest in
     let a = length-append (global_names gs) (globals_named ps) in
     let b = length-map gs (λ (x : tree.GlobalTree). x.name.word) in
-    let c = length-append (map global_value gs) (globals_in ps) in
-    let d = length-map gs global_value in
+    let c = length-append (map (resolve_global g.number_type) gs) (globals_in ps) in
+    let d = length-map gs (resolve_global g.number_type) in
     let e = globals_as_many ps in omega arith
 globals_as_many (tree.function f ∷ ps) = globals_as_many ps
 

@@ -1,54 +1,26 @@
--- Literals are numbers of tokens, and so small.
-use Rattle.std.proofs.Common.{◌≡◌, ℕ, zero, suc, ◌+◌, ◌<◌, List, [], ◌∷◌, ◌++◌, Option, Some, None, inl, inr, refl, sym, subst, arith}
-use Rattle.std.specs.Prelude.{ℤ, pos, neg_ℤ, IsTrue, unwrap_or}
+-- Literals are numbers of tokens, and so numbers of their types.
+use Rattle.std.proofs.Common.{◌≡◌, ℕ, ◌+◌, List, [], ◌∷◌, ◌++◌, Option, Some, None, sym, subst}
+use Rattle.std.specs.Prelude.{pos, IsTrue}
 use Rattle.std.specs.List.{AllByRecursion}
-use Rattle.std.proofs.lemmas.Bool.{le-leb}
+use Rattle.lra_base.specs.declared.number_types.NumberType.{NumberType}
+use Rattle.lra_base.specs.NumberTypes.{fits}
 use Rattle.lra_tree.specs.declared.tokens.Token.{Token}
-use Rattle.lra_tree.specs.declared.tokens.Kind.{Kind}
-use Rattle.lra_tree.specs.declared.tokens.Kind.TheVariants.{Number, End}
-use Rattle.lra_tree.specs.declared.trees.Identifier.{Identifier}
+use Rattle.lra_tree.specs.declared.tokens.Kind.TheVariants.{Number}
 use Rattle.lra_tree.specs.Trees as tree
-use Rattle.lra_program.specs.Value.{is_word}
-use Rattle.lra_tree.specs.Lexeme.{SpellsToken, name, number, mark_of, reserved, comment}
+use Rattle.lra_readers.specs.Files.{IsSmallKind}
+use Rattle.lra_readers.proofs.Ended.{lexed_small}
 use Rattle.lra_tree.specs.Tokens as lexical
 use Rattle.lra_tree.specs.Texts.{Piece, Pieces, plain, Texts, ◌⋅◌, further, separated}
 use Rattle.lra_tree.specs.Texts as text
 use Rattle.lra_tree.specs.Grammar.{IsUnary, IsTerm, IsExpr, IsNegation, IsTest, IsConjunction, IsCond, InParens, IsCall, IsRvalue, IsAssign, IsGiven, IsDeclarator, IsDeclaration, IsInit, IsForTest}
-use Rattle.lra_tree.specs.Grammar.{IsForStep, IsReturned, IsStmt, AreItems, IsSigned, IsGlobal, IsPart, AreParts, Spells}
+use Rattle.lra_tree.specs.Grammar.{IsForStep, IsReturned, IsStmt, AreItems, IsPart, AreParts, Spells}
 use Rattle.lra_formed.specs.Literals.{IsSmallUnary, IsSmallTerm, IsSmallExpr, IsSmallNegation, IsSmallTest, IsSmallConjunction, IsSmallCond, IsSmallCall, IsSmallRvalue, IsSmallGiven, IsSmallAssign}
-use Rattle.lra_formed.specs.Literals.{IsSmallDeclarator, IsSmallDeclaration, IsSmallInit, IsSmallForTest, IsSmallStep, IsSmallStmt, AreSmallItems, IsSmallGlobal, IsSmallPart, HasSmallLiterals}
+use Rattle.lra_formed.specs.Literals.{IsSmallDeclarator, IsSmallDeclaration, IsSmallInit, IsSmallForTest, IsSmallStep, IsSmallStmt, AreSmallItems, IsSmallPart, HasSmallLiterals}
 
 -- tokens -----------------------------------------------------------------------------------------------------------
 
 abbrev pub IsSmallToken : Token → Type 0
-IsSmallToken t = (n : ℕ) → t.kind ≡ Number n → n < 9223372036854775808
-
-same_number : (x n : ℕ) → Number x ≡ Number n → x ≡ n
-same_number x n e = cc
-
-spelled_is_small : (s : List ℕ) (k : Kind) → SpellsToken s k → (n : ℕ) → k ≡ Number n → n < 9223372036854775808
-spelled_is_small s k (name w f g) n e = absurd cc
-spelled_is_small s k (number x w l b) n e = let same = same_number x n e in omega (arith, b, same)
-spelled_is_small s k (mark_of m f) n e = absurd cc
-spelled_is_small s k (reserved r) n e = absurd cc
-spelled_is_small s k (comment u) n e = absurd cc
-
-read_are_small : (before : List ℕ) (ps : List lexical.Fragment) (after : List ℕ) → lexical.IsReading before ps after → AllByRecursion IsSmallToken (lexical.tokens_of ps)
-read_are_small before [] after h = tt
-read_are_small before (lexical.gap bytes ∷ ps) after h = read_are_small (before ++ bytes) ps after h.1
-read_are_small before (lexical.token bytes t ∷ ps) after h = (λ n e. spelled_is_small bytes t.kind h.0.spells n e, read_are_small (before ++ bytes) ps after h.1)
-
-all_then : {A : Type 0} (Q : A → Type 0) (xs ys : List A) → AllByRecursion Q xs → AllByRecursion Q ys → AllByRecursion Q (xs ++ ys)
-all_then Q [] ys h k = k
-all_then Q (x ∷ xs) ys h k = (h.0, all_then Q xs ys h.1 k)
-
-lexed_are_small : (source : List ℕ) (tokens : List Token) → lexical.Lex source tokens → AllByRecursion IsSmallToken tokens
-lexed_are_small source tokens (ps, same, reading, is) =
-    subst (AllByRecursion IsSmallToken) (sym is)
-    (all_then IsSmallToken (lexical.tokens_of ps) (lexical.end_token source ∷ []) (read_are_small [] ps [] reading) (λ n e. absurd (end_number n e), tt))
-  where
-    end_number : (n : ℕ) → End ≡ Number n → ⊥
-    end_number n e = cc
+IsSmallToken t = IsSmallKind t.kind
 
 -- pieces -----------------------------------------------------------------------------------------------------------
 
@@ -73,8 +45,8 @@ front x y z e h = in_front x y (subst AreSmall e h)
 back : (x y z : Pieces) → z ≡ x ++ y → AreSmall z → AreSmall y
 back x y z e h = in_back x y (subst AreSmall e h)
 
-small_number : (n : ℕ) (z : Pieces) → text.number n z → AreSmall z → n < 9223372036854775808
-small_number n z (at, e) h = let all : AreSmall ((record { kind = Number n; place = at }, 0) ∷ []) = subst AreSmall e h in all.0 n refl
+small_number : (t : NumberType) (n : ℕ) (z : Pieces) → text.number t n z → AreSmall z → IsTrue (fits t (pos n))
+small_number t n z (at, e) h = let all : AreSmall ((record { kind = Number t n; place = at }, 0) ∷ []) = subst AreSmall e h in all.0
 
 -- each of the items with commas between
 small_further : {A : Type 0} (R : A → Texts) (Q : A → Type 0) → ((a : A) (z : Pieces) → R a z → AreSmall z → Q a) → (items : List A) (z : Pieces) → further R items z → AreSmall z →
@@ -94,7 +66,7 @@ mutual
   small_unary : (l : ℕ) (u : tree.UnaryTree) (z : Pieces) → IsUnary l u z → AreSmall z → IsSmallUnary u
   small_unary l (tree.negated u) z (x, y, e, sign, s) h = small_unary (l + 1) u y s (back x y z e h)
   small_unary l (tree.positive u) z (x, y, e, sign, s) h = small_unary (l + 1) u y s (back x y z e h)
-  small_unary l (tree.literal n) z s h = small_number n z s h
+  small_unary l (tree.literal t n) z s h = small_number t n z s h
   small_unary l (tree.variable v) z s h = tt
   small_unary l tree.input z s h = tt
   small_unary l (tree.group a) z (x, y, e, opening, (x2, y2, e2, s, closing)) h = small_expr (l + 1) a x2 s (front x2 y2 y e2 (back x y z e h))
@@ -228,27 +200,9 @@ mutual
 
 -- the whole --------------------------------------------------------------------------------------------------------
 
-word_of_number : (n : ℕ) → n < 9223372036854775808 → IsTrue (is_word (pos n))
-word_of_number n h = le-leb n 9223372036854775807 (omega arith)
-
-word_of_opposite : (n : ℕ) → n < 9223372036854775808 → IsTrue (is_word (neg_ℤ (pos n)))
-word_of_opposite zero h = refl
-word_of_opposite (suc n) h = rw (le-leb n 9223372036854775807 (omega arith)) refl
-
-small_signed : (v : ℤ) (z : Pieces) → IsSigned v z → AreSmall z → IsTrue (is_word v)
-small_signed v z (n, inl (is, s)) h = subst (λ (w : ℤ). IsTrue (is_word w)) (sym is) (word_of_number n (small_number n z s h))
-small_signed v z (n, inr (is, (x, y, e, sign, s))) h = subst (λ (w : ℤ). IsTrue (is_word w)) (sym is) (word_of_opposite n (small_number n y s (back x y z e h)))
-
-small_value : (x : Identifier) (v : Option ℤ) (z : Pieces) → IsGlobal (record { name = x; value = v }) z → AreSmall z → IsTrue (is_word (unwrap_or v (pos 0)))
-small_value g None z s h = refl
-small_value g (Some v) z (x, y, e, declared, (x2, y2, e2, sign, s)) h = small_signed v y2 s (back x2 y2 y e2 (back x y z e h))
-
-small_global : (g : tree.GlobalTree) (z : Pieces) → IsGlobal g z → AreSmall z → IsSmallGlobal g
-small_global g z s h = small_value g.name g.value z s h
-
 small_part : (p : tree.PartTree) (z : Pieces) → IsPart p z → AreSmall z → IsSmallPart p
 small_part tree.prototype z s h = tt
-small_part (tree.globals g) z (x, y, e, type, (x2, y2, e2, s, closing)) h = small_separated IsGlobal IsSmallGlobal small_global (g.first ∷ g.rest) x2 s (front x2 y2 y e2 (back x y z e h))
+small_part (tree.globals g) z s h = tt
 small_part (tree.function f) z (x, y, e, head, (x2, y2, e2, opening, (x3, y3, e3, parameters, (x4, y4, e4, closing, (x5, y5, e5, begin, (x6, y6, e6, s, end)))))) h =
     small_items 1 f.body x6 s (front x6 y6 y5 e6 (back x5 y5 y4 e5 (back x4 y4 y3 e4 (back x3 y3 y2 e3 (back x2 y2 y e2 (back x y z e h))))))
 
@@ -258,4 +212,4 @@ small_parts (p ∷ ps) z (x, y, e, s, r) h = (small_part p x s (front x y z e h)
 
 pub spelled_are_small : (source : List ℕ) (tokens : List Token) (t : tree.FileTree) (z : Pieces) → lexical.Lex source tokens → Spells t z → plain z ≡ tokens → HasSmallLiterals t
 spelled_are_small source tokens t z lexed (x, y, e, s, end) same =
-    small_parts t.parts x s (front x y z e (plain_are_small z (subst (AllByRecursion IsSmallToken) (sym same) (lexed_are_small source tokens lexed))))
+    small_parts t.parts x s (front x y z e (plain_are_small z (subst (AllByRecursion IsSmallToken) (sym same) (lexed_small source tokens lexed))))

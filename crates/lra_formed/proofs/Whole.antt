@@ -1,44 +1,74 @@
 -- The program of a source whose literals are small and whose names have no faults is well-formed.
-use Rattle.std.proofs.Common.{◌≡◌, ℕ, suc, ◌+◌, ◌≤◌, List, [], ◌∷◌, ◌++◌, length, map, Option, Some, Bool, true, false, not, nat_eq, cond, refl, ap, ◌∙◌, arith, length-append}
-use Rattle.std.specs.Prelude.{IsTrue, is_some, slice_get, codes, if◌then◌else◌, ◌||◌, ℤ}
+use Rattle.std.proofs.Common.{◌≡◌, ℕ, suc, ◌+◌, ◌≤◌, List, [], ◌∷◌, ◌++◌, length, map, Option, Some, None, Bool, true, false, not, nat_eq, cond, refl, sym, subst, ap, ◌∙◌, arith, length-append}
+use Rattle.std.specs.Prelude.{IsTrue, is_some, slice_get, codes, if◌then◌else◌, ◌||◌}
 use Rattle.std.specs.List.{AllByRecursion, Contains, list_any}
 use Rattle.std.proofs.lemmas.Bool.{eqb-true}
 use Rattle.std.proofs.lemmas.List.{length-map}
 use Rattle.std.proofs.lemmas.Option.{same_Some, none-some}
+use Rattle.lra_base.specs.declared.number_types.NumberType.{NumberType}
+use Rattle.lra_base.specs.declared.number_types.NumberType.TheVariants.{Int, Long}
+use Rattle.lra_base.specs.NumberTypes.{fits}
+use Rattle.lra_tree.specs.declared.trees.Parameter.{Parameter}
+use Rattle.lra_tree.specs.declared.trees.SignedLiteral.{SignedLiteral}
 use Rattle.lra_tree.specs.Trees as tree
 use Rattle.lra_program.specs.Program.{Function, Program}
-use Rattle.lra_program.specs.Value.{is_word}
+use Rattle.lra_program.specs.declared.program.GlobalVariable.{GlobalVariable}
 use Rattle.lra_meaning.specs.Scope.{Entry, parameter_entry, global_entry, global_entries, function_scope}
 use Rattle.lra_tree.specs.Functions.{functions_in, functions_of, is_named, is_main, function_named}
-use Rattle.lra_meaning.specs.NameFaults.{parameters_faults, function_faults, globals_faults, global_names, parts_faults, name_faults}
-use Rattle.lra_meaning.specs.Resolve.{function_place, items_count, resolve_function, global_value, globals_in, resolve_parts, main_of, resolve}
-use Rattle.lra_program.specs.WellFormed.{IsGoodFunction, IsWellFormed}
-use Rattle.lra_formed.specs.Literals.{IsSmallGlobal, IsSmallPart, HasSmallLiterals}
+use Rattle.lra_meaning.specs.NameFaults.{parameters_faults, function_faults, first_value_faults, globals_faults, global_names, parts_faults, name_faults}
+use Rattle.lra_meaning.specs.Resolve.{function_place, items_count, resolve_items, resolve_function, value_or_zero, resolve_global, globals_in, resolve_parts, main_of, resolve}
+use Rattle.lra_program.specs.WellFormed.{AreGoodItems, IsGoodFunction, IsWellFormed}
+use Rattle.lra_formed.specs.Literals.{IsSmallPart, HasSmallLiterals}
 use Rattle.lra_formed.proofs.Faultless.{none_left, none_right, none_if, is_not}
 use Rattle.lra_formed.proofs.Good.{AreCallees, good_items}
 use Rattle.lra_formed.proofs.Numbered.{parts_run, run_is_range}
 
 -- globals ----------------------------------------------------------------------------------------------------------
 
-small_then : (gs : List tree.GlobalTree) (zs : List ℤ) → AllByRecursion IsSmallGlobal gs → AllByRecursion (λ z. IsTrue (is_word z)) zs →
-    AllByRecursion (λ z. IsTrue (is_word z)) (map global_value gs ++ zs)
-small_then [] zs h k = k
-small_then (g ∷ gs) zs h k = (h.0, small_then gs zs h.1 k)
+abbrev HasItsType : GlobalVariable → Type 0
+HasItsType g = IsTrue (fits g.number_type g.value)
 
-globals_are_words : (ps : List tree.PartTree) → AllByRecursion IsSmallPart ps → AllByRecursion (λ z. IsTrue (is_word z)) (globals_in ps)
-globals_are_words [] h = tt
-globals_are_words (tree.prototype ∷ ps) h = globals_are_words ps h.1
-globals_are_words (tree.globals g ∷ ps) h = small_then (g.first ∷ g.rest) (globals_in ps) h.0 (globals_are_words ps h.1)
-globals_are_words (tree.function f ∷ ps) h = globals_are_words ps h.1
+first_fits : (t : NumberType) (v : Option SignedLiteral) → first_value_faults t v ≡ [] → IsTrue (fits t (value_or_zero v))
+first_fits Int None e = refl
+first_fits Long None e = refl
+first_fits t (Some v) e = is_not (fits t v.value) (none_if (not (fits t v.value)) _ v.place e)
+
+have_then : (t : NumberType) (names : List (List ℕ)) (gs : List tree.GlobalTree) (rest : List GlobalVariable) → globals_faults t names gs ≡ [] → AllByRecursion HasItsType rest →
+    AllByRecursion HasItsType (map (resolve_global t) gs ++ rest)
+have_then t names [] rest e h = h
+have_then t names (g ∷ gs) rest e h =
+    let later = globals_faults t (names ++ g.name.word ∷ []) gs in
+    let front = none_left _ later e in
+    (first_fits t g.value (none_right _ (first_value_faults t g.value) front), have_then t (names ++ g.name.word ∷ []) gs rest (none_right _ later e) h)
+
+globals_have_types : (F : List tree.FunctionTree) (names : List (List ℕ)) (outside : List Entry) (ps : List tree.PartTree) → parts_faults F names outside ps ≡ [] →
+    AllByRecursion HasItsType (globals_in ps)
+globals_have_types F names outside [] e = tt
+globals_have_types F names outside (tree.prototype ∷ ps) e = globals_have_types F names outside ps e
+globals_have_types F names outside (tree.globals g ∷ ps) e =
+    let gs = g.first ∷ g.rest in
+    let later = parts_faults F (names ++ global_names gs) (outside ++ global_entries g) ps in
+    have_then g.number_type names gs (globals_in ps) (none_left (globals_faults g.number_type names gs) later e)
+    (globals_have_types F (names ++ global_names gs) (outside ++ global_entries g) ps (none_right (globals_faults g.number_type names gs) later e))
+globals_have_types F names outside (tree.function f ∷ ps) e =
+    globals_have_types F (names ++ f.name.word ∷ []) outside ps (none_right _ (parts_faults F (names ++ f.name.word ∷ []) outside ps) e)
 
 -- functions --------------------------------------------------------------------------------------------------------
+
+abbrev parameter_type : Parameter → NumberType
+parameter_type p = p.number_type
+
+types_length : (ps : List Parameter) → length (map parameter_type ps) ≡ length ps
+types_length ps = length-map ps parameter_type
 
 module _ (P : Program) (F : List tree.FunctionTree) (callees : AreCallees P F) where
   good_function : (n : ℕ) (outside : List Entry) (f : tree.FunctionTree) → length outside ≤ length P.globals → IsSmallPart (tree.function f) → function_faults F outside f ≡ [] →
       IsGoodFunction P (resolve_function F outside n f)
   good_function n outside f few small e =
-      good_items P F callees (is_some f.result_type) false n (length f.parameters) (function_scope outside f.parameters) f.body
-      (record { globals = few; locals = length-map f.parameters parameter_entry }) small (none_right (parameters_faults [] f.parameters) _ e)
+      let s = function_scope outside f.parameters in
+      let body = resolve_items F s n f.body in
+      subst (λ (k : ℕ). AreGoodItems P false k body) (sym (types_length f.parameters)) (good_items P F callees (is_some f.result_type) false n (length f.parameters) (function_scope outside f.parameters) f.body
+      (record { globals = few; locals = length-map f.parameters parameter_entry }) small (none_right (parameters_faults [] f.parameters) _ e))
 
   good_functions : (n : ℕ) (names : List (List ℕ)) (outside : List Entry) (ps : List tree.PartTree) → length outside + length (globals_in ps) ≤ length P.globals → AllByRecursion IsSmallPart ps
       → parts_faults F names outside ps ≡ [] → AllByRecursion (IsGoodFunction P) (resolve_parts F outside n ps)
@@ -50,9 +80,9 @@ module _ (P : Program) (F : List tree.FunctionTree) (callees : AreCallees P F) w
       let new = global_entries g in
       let a = length-append outside new in
       let b = length-map gs (global_entry g.number_type) in
-      let c = length-append (map global_value gs) (globals_in ps) in
-      let d = length-map gs global_value in
-      good_functions n (names ++ more) (outside ++ new) ps (omega (arith, few)) small.1 (none_right (globals_faults names gs) (parts_faults F (names ++ more) (outside ++ new) ps) e)
+      let c = length-append (map (resolve_global g.number_type) gs) (globals_in ps) in
+      let d = length-map gs (resolve_global g.number_type) in
+      good_functions n (names ++ more) (outside ++ new) ps (omega (arith, few)) small.1 (none_right (globals_faults g.number_type names gs) (parts_faults F (names ++ more) (outside ++ new) ps) e)
   good_functions n names outside (tree.function f ∷ ps) few small e =
       let later = parts_faults F (names ++ f.name.word ∷ []) outside ps in
       let front = none_left _ later e in (
@@ -64,9 +94,9 @@ module _ (P : Program) (F : List tree.FunctionTree) (callees : AreCallees P F) w
 
 -- the program's function at a place
 abbrev IsCallee : List Function → ℕ → tree.FunctionTree → Type 0
-IsCallee gs k f = (g : Function) × (slice_get gs k ≡ Some g) × (g.parameters ≡ length f.parameters)
+IsCallee gs k f = (g : Function) × (slice_get gs k ≡ Some g) × (length g.parameters ≡ length f.parameters)
 
-callee_case : (b : Bool) (first f : tree.FunctionTree) (found : Option tree.FunctionTree) (g : Function) (gs : List Function) (k : ℕ) → g.parameters ≡ length first.parameters
+callee_case : (b : Bool) (first f : tree.FunctionTree) (found : Option tree.FunctionTree) (g : Function) (gs : List Function) (k : ℕ) → length g.parameters ≡ length first.parameters
     → (found ≡ Some f → IsCallee gs k f) → cond b (Some first) found ≡ Some f → IsCallee (g ∷ gs) (cond b 0 (suc k)) f
 callee_case true first f found g gs k same later e = (g, refl, same ∙ ap (λ (h : tree.FunctionTree). length h.parameters) (same_Some first f e))
 callee_case false first f found g gs k same later e = later e
@@ -78,25 +108,29 @@ callees_in F n outside (tree.prototype ∷ ps) name f e = callees_in F n outside
 callees_in F n outside (tree.globals g ∷ ps) name f e = callees_in F n _ ps name f e
 callees_in F n outside (tree.function h ∷ ps) name f e =
     let k = n + suc (items_count h.body) in
-    callee_case (is_named name h) h f (function_named (functions_in ps) name) (resolve_function F outside n h) (resolve_parts F outside k ps) (function_place (functions_in ps) name) refl
+    callee_case (is_named name h) h f (function_named (functions_in ps) name) (resolve_function F outside n h) (resolve_parts F outside k ps) (function_place (functions_in ps) name) (types_length h.parameters)
     (λ found. callees_in F k outside ps name f found) e
 
 -- `main` -----------------------------------------------------------------------------------------------------------
 
 abbrev IsMain : List Function → Function → Type 0
-IsMain gs g = Contains gs g × (g.parameters ≡ 0)
+IsMain gs g = Contains gs g × (g.parameters ≡ [])
 
 later_main : (g x : Function) (gs : List Function) → IsMain gs x → IsMain (g ∷ gs) x
 later_main g x gs h = ((suc h.0.0, omega (arith, h.0.1), h.0.2), h.1)
 
-main_alone : (f : tree.FunctionTree) → is_main f ≡ true → length f.parameters ≡ 0
-main_alone f e = eqb-true (length f.parameters) 0 (second (is_named (codes "main") f) (nat_eq (length f.parameters) 0) e)
+no_types : (ps : List Parameter) → length ps ≡ 0 → map parameter_type ps ≡ []
+no_types [] e = refl
+no_types (p ∷ ps) e = absurd (omega (arith, e))
+
+main_alone : (f : tree.FunctionTree) → is_main f ≡ true → map parameter_type f.parameters ≡ []
+main_alone f e = no_types f.parameters (eqb-true (length f.parameters) 0 (second (is_named (codes "main") f) (nat_eq (length f.parameters) 0) e))
   where
     second : (a b : Bool) → (if a then b else false) ≡ true → b ≡ true
     second true b e = e
     second false b e = absurd cc
 
-main_case : (b rest : Bool) (g x : Function) (gs : List Function) → (b ≡ true → g.parameters ≡ 0) → (rest ≡ true → IsMain gs x) → (b || rest) ≡ true → IsMain (g ∷ gs) (cond b g x)
+main_case : (b rest : Bool) (g x : Function) (gs : List Function) → (b ≡ true → g.parameters ≡ []) → (rest ≡ true → IsMain gs x) → (b || rest) ≡ true → IsMain (g ∷ gs) (cond b g x)
 main_case true rest g x gs alone later e = ((0, omega arith, refl), alone refl)
 main_case false rest g x gs alone later e = later_main g x gs (later e)
 
@@ -119,7 +153,7 @@ well_formed t small e =
     let mains = main_in F 1 [] t.parts (is_not (list_any is_main F) (none_if (not (list_any is_main F)) _ _ (none_right parts _ e))) in
     let labels = parts_run F 1 [] t.parts in
     record {
-      globals = globals_are_words t.parts small;
+      globals = globals_have_types F [] [] t.parts (none_left parts _ e);
       labels = run_is_range 1 labels.0 _ labels.1;
       functions = good_functions (resolve t) F (λ name f found. callees_in F 1 [] t.parts name f found) 1 [] [] t.parts (omega arith) small (none_left parts _ e);
       main = mains.0;

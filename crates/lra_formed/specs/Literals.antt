@@ -1,6 +1,5 @@
--- Trees whose literals are numbers of 64 bits: those in expressions are below 2^63, and the first values of globals are
--- from -2^63 to 2^63 - 1.
-use Rattle.std.specs.Prelude.{◌<◌, Option, Some, None, IsTrue, ⊤, ◌∷◌}
+-- Trees whose literals in expressions are numbers of their types.
+use Rattle.std.specs.Prelude.{Option, Some, None, pos, IsTrue, ⊤, ◌∷◌}
 use Rattle.std.specs.List.{AllByRecursion}
 use Rattle.lra_tree.specs.Trees.{UnaryTree, negated, positive, literal, variable, input, group, TermTree, unary, times}
 use Rattle.lra_tree.specs.Trees.{over, modulo, ExprTree, term, plus, minus, NegationTree, opposite_again}
@@ -9,10 +8,9 @@ use Rattle.lra_tree.specs.Trees.{ConjunctionTree, test, and, CondTree, conjuncti
 use Rattle.lra_tree.specs.Trees.{expression, result, AssignTree, set, update, after, before, DeclaratorTree}
 use Rattle.lra_tree.specs.Trees.{DeclarationTree, InitTree, no_init, declared, assigned, StmtTree, block, nothing}
 use Rattle.lra_tree.specs.Trees.{assign, call, if_only, if_else, while, for, break, continue, return, assert, assume}
-use Rattle.lra_tree.specs.Trees.{ItemsTree, no_items, declaration, statement, GlobalTree, PartTree, prototype, globals}
+use Rattle.lra_tree.specs.Trees.{ItemsTree, no_items, declaration, statement, PartTree, prototype, globals}
 use Rattle.lra_tree.specs.Trees.{function, FileTree}
-use Rattle.lra_program.specs.Value.{is_word}
-use Rattle.lra_meaning.specs.Resolve.{global_value}
+use Rattle.lra_base.specs.NumberTypes.{fits}
 
 -- expressions ------------------------------------------------------------------------------------------------------
 
@@ -20,7 +18,7 @@ abbrev mutual
   pub IsSmallUnary : UnaryTree → Type 0
   IsSmallUnary (negated u) = IsSmallUnary u
   IsSmallUnary (positive u) = IsSmallUnary u
-  IsSmallUnary (literal n) = n < 9223372036854775808
+  IsSmallUnary (literal t n) = IsTrue (fits t (pos n))
   IsSmallUnary (variable x) = ⊤
   IsSmallUnary input = ⊤
   IsSmallUnary (group e) = IsSmallExpr e
@@ -121,12 +119,9 @@ abbrev mutual
 
 -- the whole --------------------------------------------------------------------------------------------------------
 
-abbrev pub IsSmallGlobal : GlobalTree → Type 0
-IsSmallGlobal g = IsTrue (is_word (global_value g))
-
 abbrev pub IsSmallPart : PartTree → Type 0
 IsSmallPart prototype = ⊤
-IsSmallPart (globals g) = AllByRecursion IsSmallGlobal (g.first ∷ g.rest)
+IsSmallPart (globals g) = ⊤
 IsSmallPart (function f) = AreSmallItems f.body
 
 abbrev pub HasSmallLiterals : FileTree → Type 0

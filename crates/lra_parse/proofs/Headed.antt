@@ -1,52 +1,17 @@
 -- Readers of parts and files as the code takes them.
-use Rattle.std.proofs.Common.{◌≡◌, ℕ, ◌<◌, Bool, true, false, bytes_eq, codes, List, [], ◌∷◌, ◌++◌, length, Option, Some, None, Ok, Err, refl, sym, ap, subst, arith}
+use Rattle.std.proofs.Common.{◌≡◌, ℕ, ◌<◌, true, false, List, [], ◌∷◌, ◌++◌, length, Ok, Err, refl, sym, ap, subst, arith}
 use Rattle.lra_base.specs.declared.refusals.Place.{Place}
-use Rattle.lra_base.specs.declared.refusals.Cause.TheVariants.{Syntax}
 use Rattle.lra_tree.specs.declared.tokens.Mark.{Mark}
-use Rattle.lra_tree.specs.declared.trees.Identifier.{Identifier}
 use Rattle.lra_tree.specs.Trees.{PartTree}
 use Rattle.lra_readers.specs.declared.reading.Fault.{Fault}
 use Rattle.lra_readers.specs.declared.reading.Stopped.{Stopped}
 use Rattle.lra_readers.specs.declared.reading.Stopped.TheVariants as stopped
 use Rattle.lra_readers.specs.Tests.{first}
-use Rattle.lra_readers.specs.Reading.{Text, Read, Parse, stop, map_read, tail, expect, take_by, taken, next_name, list_step, GivesErr}
+use Rattle.lra_readers.specs.Reading.{Text, Read, Parse, map_read, expect, take_by, list_step, GivesErr}
 use Rattle.lra_readers.specs.Expressions.{ended}
-use Rattle.lra_readers.specs.Files.{is_main, next_main, part_at, begins_part, parts_at, next_end, file_of, file_at}
+use Rattle.lra_readers.specs.Files.{part_at, begins_part, parts_at, next_end, file_of, file_at}
 use Rattle.lra_readers.proofs.Exact.{bind_ok, ok_is}
 use Rattle.lra_phrases.proofs.Turning.{Left, turn_on, turn_err, turn_off, expect_err}
-
--- the name `main` ----------------------------------------------------------------------------------------------------
-
-abbrev pub names_main : Identifier → Bool
-names_main x = bytes_eq x.word (codes "main")
-
-given_main : (o : Option Identifier) (T R : Text) (x : Identifier) → taken o T ≡ Ok (x, R) → names_main x ≡ true → taken (is_main o) T ≡ Ok (x, R)
-given_main None T R x e m = absurd cc
-given_main (Some y) T R x e m =
-    let same : y ≡ x = ap (λ (r : Identifier × Text). r.0) (ok_is (y, tail T) (x, R) e) in
-    let m' : names_main y ≡ true = subst (λ (k : Identifier). names_main k ≡ true) (sym same) m in
-    rw m' e
-
-given_other : (o : Option Identifier) (T R : Text) (x : Identifier) → taken o T ≡ Ok (x, R) → names_main x ≡ false → taken (is_main o) T ≡ stop Syntax T
-given_other None T R x e m = absurd cc
-given_other (Some y) T R x e m =
-    let same : y ≡ x = ap (λ (r : Identifier × Text). r.0) (ok_is (y, tail T) (x, R) e) in
-    let m' : names_main y ≡ false = subst (λ (k : Identifier). names_main k ≡ false) (sym same) m in
-    rw m' refl
-
-given_none : (o : Option Identifier) (T : Text) (e : Stopped) → GivesErr e (taken o T) → GivesErr e (taken (is_main o) T)
-given_none None T e g = g
-given_none (Some y) T stopped.Memory g = tt
-given_none (Some y) T (stopped.Fault f) g = absurd cc
-
-pub main_gives : (T R : Text) (x : Identifier) → take_by next_name T ≡ Ok (x, R) → names_main x ≡ true → take_by next_main T ≡ Ok (x, R)
-main_gives T R x e m = given_main (next_name (first T)) T R x e m
-
-pub main_stops : (T R : Text) (x : Identifier) → take_by next_name T ≡ Ok (x, R) → names_main x ≡ false → take_by next_main T ≡ stop Syntax T
-main_stops T R x e m = given_other (next_name (first T)) T R x e m
-
-pub main_exit : (T : Text) (e : Stopped) → GivesErr e (take_by next_name T) → GivesErr e (take_by next_main T)
-main_exit T e g = given_none (next_name (first T)) T e g
 
 -- the loop of a file -------------------------------------------------------------------------------------------------
 

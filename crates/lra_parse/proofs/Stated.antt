@@ -19,7 +19,7 @@ use Rattle.lra_readers.specs.declared.reading.Stopped.{Stopped}
 use Rattle.lra_readers.specs.declared.reading.Stopped.TheVariants as stopped
 use Rattle.lra_readers.specs.Tests.{first, is_mark}
 use Rattle.lra_readers.specs.Reading.{Text, Read, Parse, stop, ◌>>=◌, map_read, expect, expect_at, list_step, GivesErr}
-use Rattle.lra_readers.specs.Statements.{declaration_at, ItemTree, declared, stated, put, items_from, begins_item, stated_of, body_of, block_from, too_deep, levels, branch_at, block_at, simple_at}
+use Rattle.lra_readers.specs.Statements.{declaration_at, ItemTree, declared, stated, put, items_from, begins_type, begins_item, stated_of, body_of, block_from, too_deep, levels, branch_at, block_at, simple_at}
 use Rattle.lra_readers.specs.Statements.{item_at, items_at}
 use Rattle.lra_phrases.proofs.Turning.{Left, turn_on, turn_err, turn_off}
 
@@ -65,23 +65,23 @@ on_side : {A : Type 0} (b : Bool) (x y : A) → true ≡ b → cond b x y ≡ x
 on_side true x y e = refl
 on_side false x y e = absurd cc
 
-pub item_declared : (d : ℕ) (T : Text) → true ≡ is_mark mark.Long (first T) → map_read put (item_at d) T ≡ map_read (λ (x : DeclarationTree) (t : ItemsTree). declaration x t) (declaration_at d) T
+pub item_declared : (d : ℕ) (T : Text) → true ≡ begins_type (first T) → map_read put (item_at d) T ≡ map_read (λ (x : DeclarationTree) (t : ItemsTree). declaration x t) (declaration_at d) T
 item_declared d T e =
     let side : item_at d T ≡ map_read declared (declaration_at d) T =
-    on_side (is_mark mark.Long (first T)) (map_read declared (declaration_at d) T) (map_read stated (stated_of (simple_at d) (map_read block_from (block_at d))) T) e in
+    on_side (begins_type (first T)) (map_read declared (declaration_at d) T) (map_read stated (stated_of (simple_at d) (map_read block_from (block_at d))) T) e in
     ap (λ (r : Read ItemTree). r >>= (λ x. Ok (put x.0, x.1))) side ∙ twice (declaration_at d T) declared put
 
-pub item_block : (d : ℕ) (T : Text) → false ≡ is_mark mark.Long (first T) → true ≡ is_mark mark.OpenBrace (first T) →
+pub item_block : (d : ℕ) (T : Text) → false ≡ begins_type (first T) → true ≡ is_mark mark.OpenBrace (first T) →
     map_read put (item_at d) T ≡ map_read (λ (b : ItemsTree × Place) (t : ItemsTree). statement (block_from b) t) (block_at d) T
 item_block d T e f = rw (sym e, sym f) (thrice (block_at d T) block_from stated put)
 
-pub item_simple : (d : ℕ) (T : Text) → false ≡ is_mark mark.Long (first T) → false ≡ is_mark mark.OpenBrace (first T) →
+pub item_simple : (d : ℕ) (T : Text) → false ≡ begins_type (first T) → false ≡ is_mark mark.OpenBrace (first T) →
     map_read put (item_at d) T ≡ map_read (λ (x : StmtTree) (t : ItemsTree). statement x t) (simple_at d) T
 item_simple d T e f = rw (sym e, sym f) (twice (simple_at d T) stated put)
 
 pub ruleset item_rules = (item_declared, item_block, item_simple)
 
-pub item_other : (d : ℕ) (T R : Text) (t : StmtTree) → false ≡ is_mark mark.Long (first T) → false ≡ is_mark mark.OpenBrace (first T) → simple_at d T ≡ Ok (t, R)
+pub item_other : (d : ℕ) (T R : Text) (t : StmtTree) → false ≡ begins_type (first T) → false ≡ is_mark mark.OpenBrace (first T) → simple_at d T ≡ Ok (t, R)
     → map_read put (item_at d) T ≡ Ok ((λ (items : ItemsTree). statement t items), R)
 item_other d T R t e f g = item_simple d T e f ∙ rw g refl
 

@@ -6,7 +6,7 @@ ghost use Rattle.lra_readers.specs.declared.lead.Lead.TheVariants as lead;
 ghost use Rattle.lra_readers.specs.Tests.{first};
 ghost use Rattle.lra_readers.specs.Reading.{Gives, map_read, take_by, has};
 ghost use Rattle.lra_readers.specs.Statements.{commas, listed};
-ghost use Rattle.lra_readers.specs.Files.{AreSmall, next_main, next_end, next_built_in, named, lead_behind, at_type};
+ghost use Rattle.lra_readers.specs.Files.{AreSmall, next_end, next_built_in, named, lead_behind, at_type};
 ghost use Rattle.lra_readers.specs.Files.{at_void};
 ghost use Rattle.lra_readers.specs.Files.{lead_form, plain_lead, read_lead, ends_parameter, name_or_none, parameter_at};
 ghost use Rattle.lra_readers.specs.Files.{parameters_at, all_named, signature_of, function_of, ending, signature_at};
@@ -20,19 +20,6 @@ use lra_phrases::read_type;
 use lra_readers::{Lead, Stopped, expect, next_is, next_is_name, read_name, stop, tail};
 use lra_tree::{Block, Function, Identifier, Item, Kind, Mark, Parameter, Parameters, Token, Tree};
 use std::alloc::{AllocError, Global};
-
-/// The name `main`.
-fn read_main(alloc: Global, rest: &[Token]) -> Result<(Identifier, &[Token]), Stopped>
-    ensures shorter { IfOk result (λ r. length r.1.now < length rest.now) }
-    ensures gives { Gives (λ r. (r.0, r.1.now)) result (take_by next_main rest.now) }
-{
-    let (name, after) = read_name(alloc, rest)?;
-    if name.word.as_slice() == b"main".as_slice() {
-        Ok((name, after))
-    } else {
-        stop(Cause::Syntax, rest)
-    }
-}
 
 /// The part, behind what it begins with.
 fn read_rest(alloc: Global, lead: Lead, rest: &[Token]) -> Result<(Item, &[Token]), Stopped>
@@ -105,15 +92,13 @@ fn read_void_lead(alloc: Global, rest: &[Token]) -> Result<(Lead, &[Token]), Sto
     Ok((lead, after))
 }
 
-/// What a part begins with behind `extern`, or without it: behind `int` only `main`.
+/// What a part begins with behind `extern`, or without it.
 fn read_plain_lead(alloc: Global, rest: &[Token]) -> Result<(Lead, &[Token]), Stopped>
     ensures shorter { IfOk result (λ r. length r.1.now < length rest.now) }
     ensures gives { Gives (λ r. (r.0, r.1.now)) result (plain_lead rest.now) }
 {
     if next_is(rest, Mark::Int) {
-        let word = expect(rest, Mark::Int)?;
-        let (name, after) = read_main(alloc, word)?;
-        return Ok((Lead::Main(name), after));
+        return read_typed_lead(alloc, rest);
     }
     if next_is(rest, Mark::Long) {
         return read_typed_lead(alloc, rest);

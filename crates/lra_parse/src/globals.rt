@@ -1,48 +1,55 @@
 //! Globals.
 
-ghost use Rattle.std.specs.Prelude.{◌≡◌, ◌<◌, ◌≤◌, pos, length, IfOk};
+ghost use Rattle.std.specs.Prelude.{◌≡◌, ◌<◌, ◌≤◌, length, IfOk};
 ghost use Rattle.lra_tree.specs.Views.{global_view, globals_view, part_view};
 ghost use Rattle.lra_tree.specs.Trees.{globals};
 ghost use Rattle.lra_readers.specs.Reading.{Gives, map_read};
 ghost use Rattle.lra_readers.specs.Statements.{commas_from};
-ghost use Rattle.lra_readers.specs.Files.{AreSmall, opposite, signed_at, value_at, global_at, globals_of, globals_at};
+ghost use Rattle.lra_readers.specs.Files.{AreSmall, negative, positive, signed_at, value_at, global_at, globals_of, globals_at};
 
 use lra_base::{Cause, NumberType};
-use lra_readers::{Stopped, expect, next_is, next_number, read_name, stop, tail};
-use lra_tree::{Global as Variable, Globals, Identifier, Item, Mark, Token};
+use lra_readers::{Literal, Stopped, expect, next_is, next_literal, read_name, stop, tail};
+use lra_tree::{Global as Variable, Globals, Identifier, Item, Mark, SignedLiteral, Token};
 use std::alloc::Global;
 
-/// A number of 63 bits as a signed one.
-fn to_signed(value: u64) -> i64
-    requires { value < 9223372036854775808 }
-    ensures { result ≡ pos value }
+/// A literal of 63 bits without a sign.
+fn positive(literal: Literal) -> SignedLiteral
+    requires { literal.value < 9223372036854775808 }
+    ensures { result ≡ positive literal }
 {
-    value as i64
+    SignedLiteral {
+        value: literal.value as i64,
+        place: literal.place,
+    }
 }
 
-/// The opposite of a number of 63 bits.
-fn negate(value: u64) -> i64
-    requires { value < 9223372036854775808 }
-    ensures { result ≡ opposite value }
+/// A literal of 63 bits behind a sign.
+fn negative(literal: Literal) -> SignedLiteral
+    requires { literal.value < 9223372036854775808 }
+    ensures { result ≡ negative literal }
 {
-    -(value as i64)
+    SignedLiteral {
+        value: -(literal.value as i64),
+        place: literal.place,
+    }
 }
 
 /// A literal, with or without a sign.
-fn read_signed(rest: &[Token]) -> Result<(i64, &[Token]), Stopped>
+#[tactic(auto, using(lra_readers::proofs::Small::small_limit))]
+fn read_signed(rest: &[Token]) -> Result<(SignedLiteral, &[Token]), Stopped>
     requires { AreSmall rest.now }
     ensures shorter { IfOk result (λ r. length r.1.now ≤ length rest.now) }
     ensures gives { Gives (λ r. (r.0, r.1.now)) result (signed_at rest.now) }
 {
     if next_is(rest, Mark::Minus) {
         let behind = expect(rest, Mark::Minus)?;
-        return match next_number(behind) {
-            Some(value) => Ok((negate(value), tail(behind))),
+        return match next_literal(behind) {
+            Some(literal) => Ok((negative(literal), tail(behind))),
             None => stop(Cause::Syntax, behind),
         };
     }
-    match next_number(rest) {
-        Some(value) => Ok((to_signed(value), tail(rest))),
+    match next_literal(rest) {
+        Some(literal) => Ok((positive(literal), tail(rest))),
         None => stop(Cause::Syntax, rest),
     }
 }

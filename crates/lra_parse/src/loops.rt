@@ -13,7 +13,7 @@ ghost use Rattle.lra_readers.specs.Statements.{read_jump, read_return};
 ghost use Rattle.lra_parse.specs.Heads.{head_view};
 
 use lra_base::Place;
-use lra_phrases::{read_assign, read_cond, read_declaration, read_rvalue};
+use lra_phrases::{next_is_type, read_assign, read_cond, read_declaration, read_rvalue};
 use lra_readers::{Stopped, expect, expect_at, next_is, tail};
 use lra_tree::{Assign, Cond, Init, Mark, Rvalue, Stmt, Token};
 use std::alloc::Global;
@@ -118,7 +118,7 @@ fn read_init(alloc: Global, rest: &[Token], depth: usize) -> Result<(Init, &[Tok
     ensures shorter { IfOk result (λ r. length r.1.now ≤ length rest.now) }
     ensures gives { Gives (λ r. (init_view r.0, r.1.now)) result (init_at depth rest.now) }
 {
-    if next_is(rest, Mark::Long) {
+    if next_is_type(rest) {
         let (declaration, after) = read_declaration(alloc, rest, depth)?;
         return Ok((Init::Declaration(declaration), after));
     }

@@ -14,7 +14,9 @@ ghost use Rattle.lra_parse.specs.Begun.{GoesOn, rest_of};
 use crate::heads::{Begun, add_branch, begin_for, begin_if, begin_while, begin_whole, read_parens};
 use crate::loops::{begins_jump, begins_loop, read_break, read_continue, read_return};
 use lra_base::Cause;
-use lra_phrases::{next_step, read_assign, read_assign_rest, read_call, read_declaration};
+use lra_phrases::{
+    next_is_type, next_step, read_assign, read_assign_rest, read_call, read_declaration,
+};
 use lra_readers::{
     Stopped, expect, expect_at, next_is, next_is_name, push_boxed, read_name, stop, tail,
 };
@@ -66,7 +68,7 @@ fn begins_item(rest: &[Token]) -> bool
     if begins_stmt(rest) {
         return true;
     }
-    next_is(rest, Mark::Long)
+    next_is_type(rest)
 }
 
 /// `;`
@@ -310,7 +312,7 @@ fn read_item(
     ensures shorter { IfOk result (λ r. length r.1.now < length rest.now) }
     ensures gives { Gives (λ r. (item_view r.0.value, r.1.now)) result (map_read put (item_at depth) rest.now) }
 {
-    if next_is(rest, Mark::Long) {
+    if next_is_type(rest) {
         return read_declared(alloc, rest, depth);
     }
     if next_is(rest, Mark::OpenBrace) {

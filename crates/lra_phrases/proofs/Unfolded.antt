@@ -8,10 +8,11 @@ use Rattle.lra_tree.specs.declared.tokens.Kind.{Kind}
 use Rattle.lra_tree.specs.declared.tokens.Kind.TheVariants.{Name, Number, Mark as MarkOf, Reserved, Unclosed, End}
 use Rattle.lra_tree.specs.declared.tokens.Token.{Token}
 use Rattle.lra_tree.specs.declared.trees.Identifier.{Identifier}
-use Rattle.lra_tree.specs.Trees.{UnaryTree, negated, positive, group, literal, variable, ExprTree, NegationTree, opposite, opposite_again, value_of_unary, CondTree, result}
+use Rattle.lra_tree.specs.Trees.{UnaryTree, negated, positive, group, variable, ExprTree, NegationTree, opposite, opposite_again, value_of_unary, CondTree, result}
 use Rattle.lra_readers.specs.Tests.{first, is_mark, is_kind}
-use Rattle.lra_readers.specs.Reading.{Text, Read, Parse, stop, ◌>>=◌, seq, map_read, tail, expect, take_by, taken, next_name, next_number, number_of, identifier_of, one_of, GivesErr}
-use Rattle.lra_readers.specs.Expressions.{behind, in_parens, unary_marks, unary_mark, unary_form, unary_at, expr_at, negated_at, positive_at, grouped_at, read_input, TestMark, at_not, at_open}
+use Rattle.lra_readers.specs.Reading.{Text, Read, Parse, stop, ◌>>=◌, seq, map_read, tail, expect, take_by, taken, next_name, next_literal, literal_of, identifier_of, one_of, GivesErr}
+use Rattle.lra_readers.specs.declared.reading.Literal.{Literal}
+use Rattle.lra_readers.specs.Expressions.{behind, in_parens, unary_marks, unary_mark, unary_form, unary_at, expr_at, negated_at, positive_at, grouped_at, literal_tree, read_input, TestMark, at_not, at_open}
 use Rattle.lra_readers.specs.Expressions.{test_mark, test_form, compared, alone, from_unary}
 use Rattle.lra_readers.specs.declared.reading.Stopped.{Stopped}
 use Rattle.lra_readers.specs.declared.reading.Stopped.TheVariants as stopped
@@ -61,45 +62,45 @@ pub input_is : (d : ℕ) (T : Text) → false ≡ is_mark mark.Minus (first T) �
 input_is d T m p o i = unary_is d T ∙ rw (sym m, sym p, sym o, sym i) (rw (sym i) refl)
 
 pub name_exit : (d : ℕ) (T : Text) (s : Stopped) → false ≡ is_mark mark.Minus (first T) → false ≡ is_mark mark.Plus (first T) → false ≡ is_mark mark.OpenParen (first T)
-    → false ≡ is_mark mark.Input (first T) → next_number (first T) ≡ None → GivesErr s (take_by next_name T) → GivesErr s (unary_at d T)
+    → false ≡ is_mark mark.Input (first T) → next_literal (first T) ≡ None → GivesErr s (take_by next_name T) → GivesErr s (unary_at d T)
 name_exit d T stopped.Memory m p o i n g = tt
 name_exit d T (stopped.Fault f) m p o i n g = unary_is d T ∙ rw (sym m, sym p, sym o, sym i) (rw n (rw g refl))
 
 -- the next token is a literal, or a name ------------------------------------------------------------------------------
 
-number_mark : (k : Kind) (v : ℕ) (m : Mark) → number_of k ≡ Some v → is_kind m k ≡ false
-number_mark (Name w) v m e = absurd cc
-number_mark (Number n) v m e = refl
-number_mark (MarkOf k) v m e = absurd cc
-number_mark Reserved v m e = absurd cc
-number_mark Unclosed v m e = absurd cc
-number_mark End v m e = absurd cc
+literal_mark : (k : Kind) (at : Place) (l : Literal) (m : Mark) → literal_of k at ≡ Some l → is_kind m k ≡ false
+literal_mark (Name w) at l m e = absurd cc
+literal_mark (Number t n) at l m e = refl
+literal_mark (MarkOf k) at l m e = absurd cc
+literal_mark Reserved at l m e = absurd cc
+literal_mark Unclosed at l m e = absurd cc
+literal_mark End at l m e = absurd cc
 
 name_mark : (k : Kind) (at : Place) (x : Identifier) (m : Mark) → identifier_of k at ≡ Some x → is_kind m k ≡ false
 name_mark (Name w) at x m e = refl
-name_mark (Number n) at x m e = absurd cc
+name_mark (Number t n) at x m e = absurd cc
 name_mark (MarkOf k) at x m e = absurd cc
 name_mark Reserved at x m e = absurd cc
 name_mark Unclosed at x m e = absurd cc
 name_mark End at x m e = absurd cc
 
-name_number : (k : Kind) (at : Place) (x : Identifier) → identifier_of k at ≡ Some x → number_of k ≡ None
-name_number (Name w) at x e = refl
-name_number (Number n) at x e = absurd cc
-name_number (MarkOf k) at x e = absurd cc
-name_number Reserved at x e = absurd cc
-name_number Unclosed at x e = absurd cc
-name_number End at x e = absurd cc
+name_literal : (k : Kind) (at : Place) (x : Identifier) → identifier_of k at ≡ Some x → literal_of k at ≡ None
+name_literal (Name w) at x e = refl
+name_literal (Number t n) at x e = absurd cc
+name_literal (MarkOf k) at x e = absurd cc
+name_literal Reserved at x e = absurd cc
+name_literal Unclosed at x e = absurd cc
+name_literal End at x e = absurd cc
 
 -- no mark of a table is a token that is no mark
 pub no_table : {A : Type 0} (ks : List (Mark × A)) (o : Option Token) → ((m : Mark) → is_mark m o ≡ false) → one_of ks o ≡ None
 no_table [] o h = refl
 no_table (k ∷ ks) o h = rw (h k.0) (no_table ks o h)
 
-pub literal_gives : (d : ℕ) (T : Text) (v : ℕ) → next_number (first T) ≡ Some v → unary_at d T ≡ Ok (literal v, tail T)
-literal_gives d [] v e = absurd cc
-literal_gives d (t ∷ T) v e =
-    let none : unary_mark (Some t) ≡ None = no_table unary_marks (Some t) (λ m. number_mark t.kind v m e) in
+pub literal_gives : (d : ℕ) (T : Text) (l : Literal) → next_literal (first T) ≡ Some l → unary_at d T ≡ Ok (literal_tree l, tail T)
+literal_gives d [] l e = absurd cc
+literal_gives d (t ∷ T) l e =
+    let none : unary_mark (Some t) ≡ None = no_table unary_marks (Some t) (λ m. literal_mark t.kind t.place l m e) in
     rw (unary_is d (t ∷ T), none, e) refl
 
 taken_name : (o : Option Identifier) (T R : Text) (x : Identifier) → taken o T ≡ Ok (x, R) → (o ≡ Some x)
@@ -111,8 +112,8 @@ variable_gives d [] R x e = absurd cc
 variable_gives d (t ∷ T) R x e =
     let name : identifier_of t.kind t.place ≡ Some x = taken_name (identifier_of t.kind t.place) (t ∷ T) R x e in
     let none : unary_mark (Some t) ≡ None = no_table unary_marks (Some t) (λ m. name_mark t.kind t.place x m name) in
-    let number : number_of t.kind ≡ None = name_number t.kind t.place x name in
-    rw (unary_is d (t ∷ T), none, number) (rw e refl)
+    let other : literal_of t.kind t.place ≡ None = name_literal t.kind t.place x name in
+    rw (unary_is d (t ∷ T), none, other) (rw e refl)
 
 pub grouped_gives : (d : ℕ) (T U R R' : Text) (e : ExprTree) → (d ≡ 0 → ⊥) → expect mark.OpenParen (tt {0}) T ≡ Ok (tt {0}, U) → expr_at (d - 1) U ≡ Ok (e, R) →
     expect mark.CloseParen (tt {0}) R ≡ Ok (tt {0}, R') → grouped_at d T ≡ Ok (group e, R')

@@ -1,6 +1,7 @@
 -- Trees that values of the code stand for.
 use Rattle.std.proofs.Common.{◌≡◌, ℕ, ◌≤◌, List, [], ◌∷◌, ◌++◌, length, map, Result, Ok, Err, IfOk, rules, refl, sym, subst, Bor, Box, Global}
 use Rattle.std.specs.Prelude.{MatchResult}
+use Rattle.lra_base.specs.declared.number_types.NumberType.{NumberType}
 use Rattle.lra_tree.specs.declared.trees.Unary.{Unary, Literal, Variable, Group, the_lemmas}
 use Rattle.lra_tree.specs.declared.trees.Factor.{Factor}
 use Rattle.lra_tree.specs.declared.trees.Term.{Term}
@@ -26,8 +27,8 @@ use Rattle.lra_tree.specs.Trees as tree
 use Rattle.lra_tree.specs.Views.{unary_view, unary_step, factor_view, factor_step, term_view, term_step, summand_view, summand_step, expr_view, expr_step, product, sum_of, further_factor}
 use Rattle.lra_tree.specs.Views.{further_term, negation_view, negation_step, test_view, test_step, conjunction_view, conjunction_step, cond_view, cond_step, all_tests, any_conjunction}
 
-pub literal_is : (n : ℕ) → unary_view (Literal n) ≡ tree.literal n
-literal_is n = search (rules, the_lemmas)
+pub literal_is : (t : NumberType) (n : ℕ) → unary_view (Literal t n) ≡ tree.literal t n
+literal_is t n = search (rules, the_lemmas)
 
 pub variable_is : (x : Identifier) → unary_view (Variable x) ≡ tree.variable x
 variable_is x = search (rules, the_lemmas)

@@ -5,7 +5,7 @@ ghost use Rattle.lra_tree.specs.Views.{assign_view, declarator_view, declaration
 ghost use Rattle.lra_readers.specs.Tests.{first};
 ghost use Rattle.lra_readers.specs.Reading.{Gives, map_read};
 ghost use Rattle.lra_readers.specs.Statements.{skip, commas, update_operator, next_step, assign_rest, step_first};
-ghost use Rattle.lra_readers.specs.Statements.{assign_at, type_words, declarator_at, declaration_of};
+ghost use Rattle.lra_readers.specs.Statements.{assign_at, begins_type, type_words, declarator_at, declaration_of};
 ghost use Rattle.lra_readers.specs.Statements.{declaration_at};
 
 use crate::calls::read_rvalue;
@@ -115,11 +115,26 @@ pub fn read_assign(
     read_assign_rest(alloc, name, after, depth)
 }
 
-/// A type, and what comes behind its words: `long`, maybe `long`, maybe `int`.
+/// Whether the next token begins a type.
+pub fn next_is_type(rest: &[Token]) -> bool
+    ensures { result ≡ begins_type (first rest.now) }
+{
+    if next_is(rest, Mark::Int) {
+        return true;
+    }
+    next_is(rest, Mark::Long)
+}
+
+/// A type, and what comes behind its words: `int`; or `long`, maybe `long`, maybe `int`.
+#[tactic(auto, using(crate::proofs::Typed::type_rules))]
 pub fn read_type(rest: &[Token]) -> Result<(NumberType, &[Token]), Stopped>
     ensures shorter { IfOk result (λ r. length r.1.now < length rest.now) }
     ensures gives { Gives (λ r. (r.0, r.1.now)) result (type_words rest.now) }
 {
+    if next_is(rest, Mark::Int) {
+        let word = expect(rest, Mark::Int)?;
+        return Ok((NumberType::Int, word));
+    }
     let word = expect(rest, Mark::Long)?;
     Ok((NumberType::Long, skip(skip(word, Mark::Long), Mark::Int)))
 }

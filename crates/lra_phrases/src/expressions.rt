@@ -9,7 +9,7 @@ ghost use Rattle.lra_readers.specs.Expressions.{factor_operator, sum_operator, u
 ghost use Rattle.lra_readers.specs.Expressions.{grouped_at, read_input, factors, term_of, summands, expr_at};
 
 use lra_base::Cause;
-use lra_readers::{Stopped, expect, next_is, next_number, read_name, stop, tail};
+use lra_readers::{Stopped, expect, next_is, next_literal, read_name, stop, tail};
 use lra_tree::{Expr, Factor, FactorOperator, Mark, SumOperator, Summand, Term, Token, Unary};
 use std::alloc::Global;
 
@@ -70,8 +70,9 @@ pub fn read_unary(alloc: Global, rest: &[Token], depth: usize) -> Result<(Unary,
     if next_is(rest, Mark::Input) {
         return read_input(rest);
     }
-    if let Some(value) = next_number(rest) {
-        return Ok((Unary::Literal(value), tail(rest)));
+    if let Some(literal) = next_literal(rest) {
+        let unary = Unary::Literal(literal.number_type, literal.value);
+        return Ok((unary, tail(rest)));
     }
     let (name, after) = read_name(alloc, rest)?;
     Ok((Unary::Variable(name), after))

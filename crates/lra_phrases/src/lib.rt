@@ -8,6 +8,8 @@ mod calls;
 mod conditions;
 mod expressions;
 
-pub use assignments::{next_step, read_assign, read_assign_rest, read_declaration, read_type};
+pub use assignments::{
+    next_is_type, next_step, read_assign, read_assign_rest, read_declaration, read_type,
+};
 pub use calls::{read_call, read_rvalue};
 pub use conditions::read_cond;

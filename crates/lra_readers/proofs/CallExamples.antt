@@ -1,6 +1,7 @@
 -- Trees and first faults of sources with calls, found by reading their tokens.
 use Rattle.std.proofs.Common.{◌≡◌, ℕ, List, [], ◌∷◌, codes, Some, Ok, Err, refl}
 use Rattle.lra_base.specs.declared.refusals.Cause.TheVariants.{Syntax}
+use Rattle.lra_base.specs.declared.number_types.NumberType.TheVariants.{Int}
 use Rattle.lra_tree.specs.declared.tokens.Mark.TheVariants as mark
 use Rattle.lra_tree.specs.declared.tokens.Token.{Token}
 use Rattle.lra_tree.specs.declared.tokens.Kind.TheVariants.{Name, Number}
@@ -26,11 +27,11 @@ named_at word column = record { word = word; place = in_line column }
 
 -- int main(void){ f(1,x); x=g(); return f(2,x); }
 abbrev called : Text
-called = main_head (word_at (codes "f") 17 ∷ mark_token mark.OpenParen 18 ∷ token_at (Number 1) 19 ∷ mark_token mark.Comma 20 ∷ word_at (codes "x") 21 ∷ mark_token mark.CloseParen 22 ∷
+called = main_head (word_at (codes "f") 17 ∷ mark_token mark.OpenParen 18 ∷ token_at (Number Int 1) 19 ∷ mark_token mark.Comma 20 ∷ word_at (codes "x") 21 ∷ mark_token mark.CloseParen 22 ∷
     mark_token mark.Semicolon 23
     ∷ word_at (codes "x") 25 ∷ mark_token mark.Assign 26 ∷ word_at (codes "g") 27 ∷ mark_token mark.OpenParen 28 ∷ mark_token mark.CloseParen 29 ∷ mark_token mark.Semicolon 30 ∷
     mark_token mark.Return 32 ∷ word_at (codes "f") 39
-    ∷ mark_token mark.OpenParen 40 ∷ token_at (Number 2) 41 ∷ mark_token mark.Comma 42 ∷ word_at (codes "x") 43 ∷ mark_token mark.CloseParen 44 ∷ mark_token mark.Semicolon 45 ∷
+    ∷ mark_token mark.OpenParen 40 ∷ token_at (Number Int 2) 41 ∷ mark_token mark.Comma 42 ∷ word_at (codes "x") 43 ∷ mark_token mark.CloseParen 44 ∷ mark_token mark.Semicolon 45 ∷
     mark_token mark.CloseBrace 47 ∷ [])
 
 abbrev called_tree : FileTree
@@ -50,7 +51,7 @@ called_found = tree_found (ended_at called 48) [] called_tree (ends called 48 re
 -- int main(void){ x=f(y)+1; }: a call is no part of an expression
 abbrev summed : Text
 summed = main_head (word_at (codes "x") 17 ∷ mark_token mark.Assign 18 ∷ word_at (codes "f") 19 ∷ mark_token mark.OpenParen 20 ∷ word_at (codes "y") 21 ∷ mark_token mark.CloseParen 22 ∷
-    mark_token mark.Plus 23 ∷ token_at (Number 1) 24
+    mark_token mark.Plus 23 ∷ token_at (Number Int 1) 24
     ∷ mark_token mark.Semicolon 25 ∷ mark_token mark.CloseBrace 27 ∷ [])
 
 summed_stops : file_at 63 (ended_at summed 28) ≡ Err (record { cause = Syntax; left = 5 })
@@ -63,7 +64,7 @@ call_in_sum = text_fault (ended_at summed 28) (record { cause = Syntax; left = 5
 -- int main(void){ x=y+f(1); }: nor behind an operator
 abbrev added : Text
 added = main_head (word_at (codes "x") 17 ∷ mark_token mark.Assign 18 ∷ word_at (codes "y") 19 ∷ mark_token mark.Plus 20 ∷ word_at (codes "f") 21 ∷ mark_token mark.OpenParen 22 ∷
-    token_at (Number 1) 23 ∷ mark_token mark.CloseParen 24
+    token_at (Number Int 1) 23 ∷ mark_token mark.CloseParen 24
     ∷ mark_token mark.Semicolon 25 ∷ mark_token mark.CloseBrace 27 ∷ [])
 
 added_stops : file_at 63 (ended_at added 28) ≡ Err (record { cause = Syntax; left = 6 })
@@ -75,7 +76,7 @@ call_behind_sum = text_fault (ended_at added 28) (record { cause = Syntax; left 
 
 -- int main(void){ x+=f(1); }: what `+=` adds is an expression
 abbrev updated : Text
-updated = main_head (word_at (codes "x") 17 ∷ mark_token mark.PlusAssign 18 ∷ word_at (codes "f") 20 ∷ mark_token mark.OpenParen 21 ∷ token_at (Number 1) 22 ∷ mark_token mark.CloseParen 23 ∷
+updated = main_head (word_at (codes "x") 17 ∷ mark_token mark.PlusAssign 18 ∷ word_at (codes "f") 20 ∷ mark_token mark.OpenParen 21 ∷ token_at (Number Int 1) 22 ∷ mark_token mark.CloseParen 23 ∷
     mark_token mark.Semicolon 24 ∷ mark_token mark.CloseBrace 26 ∷ [])
 
 updated_stops : file_at 63 (ended_at updated 27) ≡ Err (record { cause = Syntax; left = 6 })
@@ -87,7 +88,7 @@ call_in_update = text_fault (ended_at updated 27) (record { cause = Syntax; left
 
 -- int main(void){ f(1,); }: a comma asks for another argument
 abbrev trailing : Text
-trailing = main_head (word_at (codes "f") 17 ∷ mark_token mark.OpenParen 18 ∷ token_at (Number 1) 19 ∷ mark_token mark.Comma 20 ∷ mark_token mark.CloseParen 21 ∷ mark_token mark.Semicolon 22 ∷
+trailing = main_head (word_at (codes "f") 17 ∷ mark_token mark.OpenParen 18 ∷ token_at (Number Int 1) 19 ∷ mark_token mark.Comma 20 ∷ mark_token mark.CloseParen 21 ∷ mark_token mark.Semicolon 22 ∷
     mark_token mark.CloseBrace 24 ∷ [])
 
 trailing_stops : file_at 63 (ended_at trailing 25) ≡ Err (record { cause = Syntax; left = 4 })
@@ -99,7 +100,7 @@ missing_argument = text_fault (ended_at trailing 25) (record { cause = Syntax; l
 
 -- int main(void){ f(g(1)); }: an argument is an expression, and no call
 abbrev inner_call : Text
-inner_call = main_head (word_at (codes "f") 17 ∷ mark_token mark.OpenParen 18 ∷ word_at (codes "g") 19 ∷ mark_token mark.OpenParen 20 ∷ token_at (Number 1) 21 ∷ mark_token mark.CloseParen 22 ∷
+inner_call = main_head (word_at (codes "f") 17 ∷ mark_token mark.OpenParen 18 ∷ word_at (codes "g") 19 ∷ mark_token mark.OpenParen 20 ∷ token_at (Number Int 1) 21 ∷ mark_token mark.CloseParen 22 ∷
     mark_token mark.CloseParen 23 ∷ mark_token mark.Semicolon 24
     ∷ mark_token mark.CloseBrace 26 ∷ [])
 

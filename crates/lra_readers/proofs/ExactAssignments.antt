@@ -1,9 +1,10 @@
 -- The readers of assignments and declarations are exact.
-use Rattle.std.proofs.Common.{◌≡◌, ℕ, ◌+◌, ◌≤◌, true, false, ◌⊎◌, List, [], ◌∷◌, ◌++◌, Option, Some, None, Ok, Err, refl, sym, ap, subst, ◌∙◌, arith, inl, inr, option_map}
+use Rattle.std.proofs.Common.{◌≡◌, ℕ, ◌+◌, ◌≤◌, Bool, true, false, cond, ◌⊎◌, List, [], ◌∷◌, ◌++◌, Option, Some, None, Ok, Err, refl, sym, ap, subst, ◌∙◌, arith, inl, inr, option_map}
 use Rattle.std.specs.Bool.{⊤}
 use Rattle.lra_base.specs.declared.number_types.NumberType.{NumberType}
-use Rattle.lra_base.specs.declared.number_types.NumberType.TheVariants.{Long}
+use Rattle.lra_base.specs.declared.number_types.NumberType.TheVariants.{Int, Long}
 use Rattle.lra_base.specs.declared.refusals.Place.{Place}
+use Rattle.lra_base.specs.declared.refusals.Cause.TheVariants.{Syntax}
 use Rattle.lra_tree.specs.declared.tokens.Mark.{Mark}
 use Rattle.lra_tree.specs.declared.tokens.Mark.TheVariants as mark
 use Rattle.lra_tree.specs.declared.tokens.Kind.TheVariants.{Name, Mark as MarkOf}
@@ -19,9 +20,9 @@ use Rattle.lra_tree.specs.Trees.{RvalueTree, expression, result, StepTree, incre
 use Rattle.lra_base.specs.OperatorViews.{operator_view}
 use Rattle.lra_tree.specs.Views.{step_view}
 use Rattle.lra_tree.specs.Grammar.{IsExpr, IsRvalue, update_mark, step_mark, IsAssign, IsType, IsDeclarator, IsDeclaration}
-use Rattle.lra_readers.specs.Tests.{is_mark}
-use Rattle.lra_readers.specs.Reading.{Text, Read, Parse, ◌>>=◌, seq, map_read, expect, take_by, has, one_of}
-use Rattle.lra_readers.specs.Statements.{skip, update_operators, update_operator, step_marks, next_step, assign_rest, assign_at, type_words, declared_value, declarator_at, declaration_of}
+use Rattle.lra_readers.specs.Tests.{first, is_mark}
+use Rattle.lra_readers.specs.Reading.{Text, Read, Parse, stop, ◌>>=◌, seq, map_read, tail, expect, take_by, has, one_of}
+use Rattle.lra_readers.specs.Statements.{skip, update_operators, update_operator, step_marks, next_step, assign_rest, assign_at, begins_type, type_words, declared_value, declarator_at, declaration_of}
 use Rattle.lra_readers.specs.Statements.{commas, declaration_at}
 use Rattle.lra_readers.specs.Expressions.{ended}
 use Rattle.lra_readers.proofs.Marks.{is_mark_some}
@@ -269,29 +270,62 @@ skipped_first S F m k other begins a x o (u, v, e, inr s, t) f =
 abbrev pub TypedText : {A : Type 0} → (NumberType → A → Pieces → Type 0) → A → Texts
 TypedText S b z = (t : NumberType) × (IsType t ⋅ S t b) z
 
-from_typed : {A : Type 0} (S : NumberType → A → Pieces → Type 0) (b : A) (z : Pieces) → TypedText S b z
-    → (opens mark.Long 0 ⋅ ((spells mark.Long ∣ empty) ⋅ ((spells mark.Int ∣ empty) ⋅ S Long b))) z
-from_typed S b z (Long, s) = type_in (S Long b) z s
+-- `int`, or `long` with what may stand behind it
+abbrev EitherType : {A : Type 0} → (NumberType → A → Pieces → Type 0) → A → Texts
+EitherType S b z = (opens mark.Int 0 ⋅ S Int b) z ⊎ (opens mark.Long 0 ⋅ ((spells mark.Long ∣ empty) ⋅ ((spells mark.Int ∣ empty) ⋅ S Long b))) z
 
-pub type_first : (t : NumberType) (x y z : Pieces) (o : Option Token) (P : Option Token → Type 0) → z ≡ x ++ y → IsType t x → ((at : Place) → P (Some (token mark.Long at))) → P (first_or z o)
-type_first Long x y z o P e (a, b, f, s, t) k = first_opened P mark.Long 0 a (b ++ y) z o (e ∙ regroup x y a b f) s k
+to_typed : {A : Type 0} (S : NumberType → A → Pieces → Type 0) (b : A) (z : Pieces) → EitherType S b z → TypedText S b z
+to_typed S b z (inl s) = (Int, s)
+to_typed S b z (inr s) = (Long, type_out (S Long b) z s)
+
+from_typed : {A : Type 0} (S : NumberType → A → Pieces → Type 0) (b : A) (z : Pieces) → TypedText S b z → EitherType S b z
+from_typed S b z (Int, s) = inl s
+from_typed S b z (Long, s) = inr (type_in (S Long b) z s)
+
+pub type_first : (t : NumberType) (x y z : Pieces) (o : Option Token) (P : Option Token → Type 0) → z ≡ x ++ y → IsType t x → ((at : Place) → P (Some (token mark.Long at))) →
+    ((at : Place) → P (Some (token mark.Int at))) → P (first_or z o)
+type_first Int x y z o P e s long int = first_opened P mark.Int 0 x y z o e s int
+type_first Long x y z o P e (a, b, f, s, t) long int = first_opened P mark.Long 0 a (b ++ y) z o (e ∙ regroup x y a b f) s long
 
 abbrev LongBegins : {A : Type 0} → Mark → (NumberType → A → Pieces → Type 0) → (A → Option Token → Type 0) → Type 0
 LongBegins {A} m S F = (a : A) (x : Pieces) (o : Option Token) → S Long a x → (x ≡ [] → F a o) → is_mark m (first_or x o) ≡ false
 
+valued : {A : Type 0} (b : Bool) (T : Text) (p : NumberType → Parse A) →
+    ((let r : Read NumberType = cond b (Ok (Int, tail T)) (stop Syntax T) in r) >>= (λ x. p x.0 x.1)) ≡
+    ((let r : Read (Unit {0}) = cond b (Ok (tt {0}, tail T)) (stop Syntax T) in r) >>= (λ x. p Int x.1))
+valued true T p = refl
+valued false T p = refl
+
+either_word : {A : Type 0} (b : Bool) (r q : Read NumberType) (f : NumberType × Text → Read A) → (cond b r q >>= f) ≡ cond b (r >>= f) (q >>= f)
+either_word true r q f = refl
+either_word false r q f = refl
+
+sides_same : {A : Type 0} (b : Bool) (r s q u : Read A) → r ≡ s → q ≡ u → cond b r q ≡ cond b s u
+sides_same true r s q u e f = e
+sides_same false r s q u e f = f
+
 -- behind a type
 pub exact_type : {n : ℕ} {A : Type 0} {F : A → Option Token → Type 0} (p : NumberType → Parse A) (S : NumberType → A → Pieces → Type 0)
-    → ((t : NumberType) → Exact n IsInner (p t) Any (S t) (S t) F) → (some : (a : A) × (x : Pieces) × S Long a x)
+    → ((t : NumberType) → Exact n IsInner (p t) Any (S t) (S t) F) → ((t : NumberType) → (a : A) × (x : Pieces) × S t a x)
     → LongBegins mark.Int S F → LongBegins mark.Long S F → Exact n IsInner (seq type_words p) Any (TypedText S) (TypedText S) F
-exact_type {n} {A} {F = F} p S each some no_int no_long =
-    let P = each Long in
-    let ints = exact_skip mark.Int P some no_int in
+exact_type {n} {A} {F = F} p S each every no_int no_long =
+    let some : (a : A) × (x : Pieces) × S Long a x = every Long in
+    let ints = exact_skip mark.Int (each Long) some no_int in
     let some_int : (a : A) × (x : Pieces) × ((spells mark.Int ∣ empty) ⋅ S Long a) x = (some.0, some.1, ([], some.1, refl, inr refl, some.2)) in
     let longs = exact_skip mark.Long ints some_int (λ a x o s f. skipped_first (S Long) F mark.Long mark.Int (λ at. refl) no_long a x o s f) in
     let some_long : (a : A) × (x : Pieces) × ((spells mark.Long ∣ empty) ⋅ ((spells mark.Int ∣ empty) ⋅ S Long a)) x = (some.0, some.1, ([], some.1, refl, inr refl, some_int.2)) in
-    let t = exact_behind mark.Long 0 (omega arith) longs some_long in
-    let s = same_where t (seq type_words p) (λ T i. sym (twice (expect mark.Long (tt {0}) T) (λ T. skip mark.Int (skip mark.Long T)) p)) in
-    retell s (TypedText S) (λ b z s. (Long, type_out (S Long b) z s)) (λ b z s. from_typed S b z s)
+    let long = exact_behind mark.Long 0 (omega arith) longs some_long in
+    let int = exact_behind mark.Int 0 (omega arith) (each Int) (every Int) in
+    let W = EitherType S in
+    let b = branch (is_mark mark.Int) (entry (widen int W (λ b z s. inl s)) (λ o. ⊤ × (is_mark mark.Int o ≡ true)) (λ o i. tt))
+    (entry (widen long W (λ b z s. inr s)) (λ o. ⊤ × (is_mark mark.Int o ≡ false)) (λ o i. tt))
+    (λ b z o s f. first_opened (λ i. is_mark mark.Int i ≡ true) mark.Int 0 s.0 s.1 z o s.2 s.3 (λ at. refl))
+    (λ b z o s f. first_opened (λ i. is_mark mark.Int i ≡ false) mark.Long 0 s.0 s.1 z o s.2 s.3 (λ at. refl)) in
+    let rest : Text → Text = λ T. skip mark.Int (skip mark.Long T) in
+    let whole = same_where b (seq type_words p) (λ T i. sym (
+    either_word (is_mark mark.Int (first T)) (expect mark.Int Int T) (expect mark.Long (tt {0}) T >>= (λ x. Ok (Long, rest x.1))) (λ x. p x.0 x.1) ∙
+    sides_same (is_mark mark.Int (first T)) _ _ _ _ (valued (is_mark mark.Int (first T)) T p) (twice (expect mark.Long (tt {0}) T) rest p))) in
+    retell whole (TypedText S) (λ b z s. to_typed S b z s) (λ b z s. from_typed S b z s)
 
 abbrev AfterGiven : Option RvalueTree → Option Token → Type 0
 AfterGiven None o = is_mark mark.Assign o ≡ false
@@ -362,8 +396,8 @@ last_stops (e ∷ ds) d at = last_stops ds e at
 declared_begins : (l : ℕ) (m : Mark) (b : DeclarationTree) (x : Pieces) (o : Option Token) → DeclaredEnd l Long b x → is_mark m (first_or x o) ≡ false
 declared_begins l m b x o (u, v, f, (ds, g, (p, q, i, (a, c, j, s, t), r)), w) = rw (f, i, j, s) refl
 
-pub declaration_first : (l : ℕ) (d : DeclarationTree) (z : Pieces) (k : Option Token) → IsDeclaration l d z → is_mark mark.Long (first_or z k) ≡ true
-declaration_first l d z k (x, y, e, s, t) = type_first d.number_type x y z k (λ i. is_mark mark.Long i ≡ true) e s (λ at. refl)
+pub declaration_first : (l : ℕ) (d : DeclarationTree) (z : Pieces) (k : Option Token) → IsDeclaration l d z → begins_type (first_or z k) ≡ true
+declaration_first l d z k (x, y, e, s, t) = type_first d.number_type x y z k (λ i. begins_type i ≡ true) e s (λ at. refl) (λ at. refl)
 
 pub exact_declaration : (n d l : ℕ) → d + l ≡ n → Exact n IsInner (declaration_at d) Any (IsDeclaration l) (IsDeclaration l) Free
 exact_declaration n d l h =
@@ -371,8 +405,8 @@ exact_declaration n d l h =
     let made = λ (k : NumberType). mapped list (declaration_of k) (λ b o. AfterCommas AfterDeclarator (b.first, b.rest) o) (λ i o f. f) (λ i o f. f) in
     let whole = λ (k : NumberType). exact_ended mark.Semicolon (made k) (λ b at. (last_stops b.rest b.first at, refl)) in
     let some = some_declarator l in
-    let t = exact_type (λ k. ended mark.Semicolon (map_read (declaration_of k) (commas (declarator_at d)))) (DeclaredEnd l) whole (
-      declaration_of Long (some.0, []),
+    let t = exact_type (λ k. ended mark.Semicolon (map_read (declaration_of k) (commas (declarator_at d)))) (DeclaredEnd l) whole (λ k. (
+      declaration_of k (some.0, []),
       _,
       (
         _,
@@ -381,6 +415,6 @@ exact_declaration n d l h =
         ((some.0, []), refl, (_, _, refl, some.2, refl)),
         (some_place, refl),
       ),
-    ) (λ b x o s f. declared_begins l mark.Int b x o s)
+    )) (λ b x o s f. declared_begins l mark.Int b x o s)
     (λ b x o s f. declared_begins l mark.Long b x o s) in
     retell t (IsDeclaration l) (λ b z s. to_declaration l b z s) (λ b z s. from_declaration l b z s)

@@ -19,7 +19,7 @@ use Rattle.lra_tree.specs.Views.{step_view}
 use Rattle.lra_tree.specs.Grammar.{IsAssign, IsDeclaration, IsStmt, AreItems}
 use Rattle.lra_readers.specs.Tests.{is_mark}
 use Rattle.lra_readers.specs.Reading.{Parse, stop, map_read, identifier_of, has, one_of}
-use Rattle.lra_readers.specs.Statements.{next_step, step_marks, StmtMark, at_nothing, at_if, at_while, at_for, at_break, at_continue, at_return, at_assert, at_assume, stmt_marks, stmt_mark}
+use Rattle.lra_readers.specs.Statements.{begins_type, next_step, step_marks, StmtMark, at_nothing, at_if, at_while, at_for, at_break, at_continue, at_return, at_assert, at_assume, stmt_marks, stmt_mark}
 use Rattle.lra_readers.specs.Statements.{begins_stmt}
 use Rattle.lra_readers.specs.Statements.{ItemTree, declared, stated, items_from, begins_item, stated_of, item_of, items_of, body_of, block_from, too_deep, levels, branch_at, block_at, simple_at}
 use Rattle.lra_readers.specs.Statements.{items_at}
@@ -141,27 +141,27 @@ not_brace_marks at_return at = refl
 not_brace_marks at_assert at = refl
 not_brace_marks at_assume at = refl
 
-not_long_marks : (m : StmtMark) (at : Place) → is_mark mark.Long (Some (token (mark_of_stmt m) at)) ≡ false
-not_long_marks at_nothing at = refl
-not_long_marks at_if at = refl
-not_long_marks at_while at = refl
-not_long_marks at_for at = refl
-not_long_marks at_break at = refl
-not_long_marks at_continue at = refl
-not_long_marks at_return at = refl
-not_long_marks at_assert at = refl
-not_long_marks at_assume at = refl
+no_type_marks : (m : StmtMark) (at : Place) → begins_type (Some (token (mark_of_stmt m) at)) ≡ false
+no_type_marks at_nothing at = refl
+no_type_marks at_if at = refl
+no_type_marks at_while at = refl
+no_type_marks at_for at = refl
+no_type_marks at_break at = refl
+no_type_marks at_continue at = refl
+no_type_marks at_return at = refl
+no_type_marks at_assert at = refl
+no_type_marks at_assume at = refl
 
-not_long_steps : (s : Step) (at : Place) → is_mark mark.Long (Some (token (mark_of_step s) at)) ≡ false
-not_long_steps step.Increment at = refl
-not_long_steps step.Decrement at = refl
+no_type_steps : (s : Step) (at : Place) → begins_type (Some (token (mark_of_step s) at)) ≡ false
+no_type_steps step.Increment at = refl
+no_type_steps step.Decrement at = refl
 
 not_brace_steps : (s : Step) (at : Place) → is_mark mark.OpenBrace (Some (token (mark_of_step s) at)) ≡ false
 not_brace_steps step.Increment at = refl
 not_brace_steps step.Decrement at = refl
 
-no_long : Begins (λ o. is_mark mark.Long o ≡ false)
-no_long = record { braces = λ at. refl; marks = not_long_marks; names = λ x. refl; steps = not_long_steps }
+no_type : Begins (λ o. begins_type o ≡ false)
+no_type = record { braces = λ at. refl; marks = no_type_marks; names = λ x. refl; steps = no_type_steps }
 
 -- a statement that begins with each token that begins one ----------------------------------------------------------
 
@@ -208,7 +208,7 @@ start_name o x = (assign (after x increment), _, (_, _, refl, (_, _, refl, refl,
 
 named : (k : Kind) (at : Place) → has (identifier_of k at) ≡ true → (x : Identifier) × (k ≡ Name x.word) × (at ≡ x.place)
 named (Name w) at e = (record { word = w; place = at }, refl, refl)
-named (Number n) at e = absurd cc
+named (Number t n) at e = absurd cc
 named (MarkOf m) at e = absurd cc
 named Reserved at e = absurd cc
 named Unclosed at e = absurd cc
@@ -393,10 +393,10 @@ item_first : (l : ℕ) (i : ItemTree) (z : Pieces) (k : Option Token) → ItemTe
 item_first l (declared d) z k s = or_right (begins_stmt (first_or z k)) _ (declaration_first l d z k s)
 item_first l (stated t) z k s = item_stmt l t z k (from_stated l t z s)
 
-stated_long : (l : ℕ) (t : StmtTree) (z : Pieces) (k : Option Token) → StatedText l t z → is_mark mark.Long (first_or z k) ≡ false
-stated_long l t z k s = elim (from_stated l t z s) [
-  | inl b ↦ stmt_begins (λ o. is_mark mark.Long o ≡ false) no_long (l + 1) (l + 1) t z k b.0
-  | inr b ↦ stmt_begins (λ o. is_mark mark.Long o ≡ false) no_long 0 l t z k b.0
+stated_no_type : (l : ℕ) (t : StmtTree) (z : Pieces) (k : Option Token) → StatedText l t z → begins_type (first_or z k) ≡ false
+stated_no_type l t z k s = elim (from_stated l t z s) [
+  | inl b ↦ stmt_begins (λ o. begins_type o ≡ false) no_type (l + 1) (l + 1) t z k b.0
+  | inr b ↦ stmt_begins (λ o. begins_type o ≡ false) no_type 0 l t z k b.0
 ]
 
 -- no item begins with `else`
@@ -439,15 +439,15 @@ module _ (n d l : ℕ) (simple inner : Parse StmtTree) (h : d + l ≡ n) (I : Ex
     (S : Exact n IsInner simple Any (SimpleText 0 l) (SimpleText 0 l) AfterStmt) where
   exact_item : Exact n IsInner (item_of d simple inner) Any (ItemText l) (ItemText l) AfterItem
   exact_item =
-      let D = entry (mapped (exact_declaration n d l h) declared AfterItem (λ i o f. tt) (λ i o f. tt)) (λ k. ⊤ × (is_mark mark.Long k ≡ true)) (λ k i. tt) in
+      let D = entry (mapped (exact_declaration n d l h) declared AfterItem (λ i o f. tt) (λ i o f. tt)) (λ k. ⊤ × (begins_type k ≡ true)) (λ k i. tt) in
       let stmts = exact_stated {o = 0} {l = l} I (λ t z k s. block_first (l + 1) (l + 1) t z k s (λ i. is_mark mark.OpenBrace i ≡ true) (λ at. refl)) S in
       let T = retell stmts (λ t z. StatedText l t z) (λ t z s. to_stated l t z s) (λ t z s. from_stated l t z s) in
       let T' = mapped T stated AfterItem (λ t o f. f) (λ t o f. f) in
       let W = ItemText l in
-      let b = branch (is_mark mark.Long) (widen D W (λ i z s. subst (λ (c : ItemTree). W c z) s.1 s.2))
-      (entry (widen T' W (λ i z s. subst (λ (c : ItemTree). W c z) s.1 s.2)) (λ k. ⊤ × (is_mark mark.Long k ≡ false)) (λ k i. tt))
+      let b = branch begins_type (widen D W (λ i z s. subst (λ (c : ItemTree). W c z) s.1 s.2))
+      (entry (widen T' W (λ i z s. subst (λ (c : ItemTree). W c z) s.1 s.2)) (λ k. ⊤ × (begins_type k ≡ false)) (λ k i. tt))
       (λ i z k s f. declaration_first l s.0 z k s.2)
-      (λ i z k s f. stated_long l s.0 z k s.2) in
+      (λ i z k s f. stated_no_type l s.0 z k s.2) in
       rename b W (λ i z s. elim s [ inl k ↦ subst (λ (c : ItemTree). W c z) k.1 k.2 | inr k ↦ subst (λ (c : ItemTree). W c z) k.1 k.2 ]) (λ i z s. item_sides l i z s)
 
   closing : (is : List ItemTree) (end : Place) (y : Pieces) (k : Option Token) → opens_at mark.CloseBrace end 0 y → AfterLast AfterItem Any is (first_or y k) × (begins_item (first_or y k) ≡ false)

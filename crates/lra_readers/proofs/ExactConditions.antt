@@ -97,7 +97,7 @@ begun_by m o x y z e s = ((token m s.0, o), y, e ∙ ap (λ (v : Pieces). v ++ y
 unary_begun : (l : ℕ) (a : UnaryTree) (z : Pieces) → IsUnary l a z → Begun z
 unary_begun l (negated u) z (x, y, e, s, t) = begun_by mark.Minus (l + 1) x y z e s
 unary_begun l (positive u) z (x, y, e, s, t) = begun_by mark.Plus (l + 1) x y z e s
-unary_begun l (literal i) z s = (_, [], s.1)
+unary_begun l (literal t i) z s = (_, [], s.1)
 unary_begun l (variable x) z s = (_, [], s)
 unary_begun l input z (x, y, e, s, t) = begun_by mark.Input 0 x y z e s
 unary_begun l (group e) z (x, y, f, s, t) = begun_by mark.OpenParen (l + 1) x y z f s
@@ -230,7 +230,7 @@ abbrev IsGroup : UnaryTree → Type 0
 IsGroup (group e) = ⊤
 IsGroup (negated u) = ⊥
 IsGroup (positive u) = ⊥
-IsGroup (literal i) = ⊥
+IsGroup (literal t i) = ⊥
 IsGroup (variable x) = ⊥
 IsGroup input = ⊥
 
@@ -238,7 +238,7 @@ IsGroup input = ⊥
 unary_key : (l : ℕ) (a : UnaryTree) (v w z : Pieces) → z ≡ v ++ w → IsUnary l a v → (IsGroup a → ⊥) → test_mark (first_or z None) ≡ None
 unary_key l (negated u) v w z e (x, y, f, s, t) g = first_opened (λ i. test_mark i ≡ None) mark.Minus (l + 1) x (y ++ w) z None (e ∙ regroup v w x y f) s (λ at. refl)
 unary_key l (positive u) v w z e (x, y, f, s, t) g = first_opened (λ i. test_mark i ≡ None) mark.Plus (l + 1) x (y ++ w) z None (e ∙ regroup v w x y f) s (λ at. refl)
-unary_key l (literal i) v w z e s g = rw (e, s.1) refl
+unary_key l (literal t i) v w z e s g = rw (e, s.1) refl
 unary_key l (variable i) v w z e s g = rw (e, s) refl
 unary_key l input v w z e (x, y, f, s, t) g = first_opened (λ i. test_mark i ≡ None) mark.Input 0 x (y ++ w) z None (e ∙ regroup v w x y f) s (λ at. refl)
 unary_key l (group i) v w z e s g = absurd (g tt)
@@ -247,7 +247,7 @@ by_unary : (l : ℕ) (b : TestTree) (z : Pieces) → Plain l b z → (a : UnaryT
 by_unary l b z p (group e) (v, w, f, h, k) = (Some at_open, (conjunction (one_test (value e)), (v, w, f, h, k)))
 by_unary l b z p (negated u) (v, w, f, h, k) = (None, (p, unary_key l (negated u) v w z f h (λ g. g)))
 by_unary l b z p (positive u) (v, w, f, h, k) = (None, (p, unary_key l (positive u) v w z f h (λ g. g)))
-by_unary l b z p (literal i) (v, w, f, h, k) = (None, (p, unary_key l (literal i) v w z f h (λ g. g)))
+by_unary l b z p (literal t i) (v, w, f, h, k) = (None, (p, unary_key l (literal t i) v w z f h (λ g. g)))
 by_unary l b z p (variable x) (v, w, f, h, k) = (None, (p, unary_key l (variable x) v w z f h (λ g. g)))
 by_unary l b z p input (v, w, f, h, k) = (None, (p, unary_key l input v w z f h (λ g. g)))
 
@@ -343,7 +343,7 @@ from_negation l (opposite_again a) z (x, y, e, s, t) = (Some at_not, (x, y, e, s
 from_negation l (value_of_unary (group e)) z h = (Some at_open, (conjunction (one_test (value e)), refl, h))
 from_negation l (value_of_unary (negated u)) z h = (None, ((_, refl, h), unary_key l (negated u) z [] z (sym (append-nil z)) h (λ g. g)))
 from_negation l (value_of_unary (positive u)) z h = (None, ((_, refl, h), unary_key l (positive u) z [] z (sym (append-nil z)) h (λ g. g)))
-from_negation l (value_of_unary (literal i)) z h = (None, ((_, refl, h), unary_key l (literal i) z [] z (sym (append-nil z)) h (λ g. g)))
+from_negation l (value_of_unary (literal t i)) z h = (None, ((_, refl, h), unary_key l (literal t i) z [] z (sym (append-nil z)) h (λ g. g)))
 from_negation l (value_of_unary (variable x)) z h = (None, ((_, refl, h), unary_key l (variable x) z [] z (sym (append-nil z)) h (λ g. g)))
 from_negation l (value_of_unary input) z h = (None, ((_, refl, h), unary_key l input z [] z (sym (append-nil z)) h (λ g. g)))
 from_negation l (group_opposed c) z h = (Some at_open, (c, strict_negated c h.1, h.0))

@@ -10,17 +10,17 @@ use Rattle.lra_tree.specs.declared.trees.FactorOperator.{FactorOperator}
 use Rattle.lra_tree.specs.declared.trees.FactorOperator.TheVariants as factor
 use Rattle.lra_tree.specs.declared.trees.SumOperator.{SumOperator}
 use Rattle.lra_tree.specs.declared.trees.SumOperator.TheVariants as sum
-use Rattle.lra_tree.specs.Texts.{Piece, Pieces, Texts, ◌⋅◌, opens, mark as spells, name, number}
+use Rattle.lra_tree.specs.Texts.{Piece, Pieces, Texts, ◌⋅◌, opens, mark as spells, name}
 use Rattle.lra_tree.specs.Trees.{UnaryTree, negated, positive, literal, variable, input, group, TermTree, unary, times, over, modulo, ExprTree, term, plus, minus}
 use Rattle.lra_tree.specs.Views.{further_factor, further_term}
 use Rattle.lra_tree.specs.Grammar.{IsUnary, IsTerm, IsExpr}
 use Rattle.lra_readers.specs.Tests.{first}
-use Rattle.lra_readers.specs.Reading.{Parse, stop, next_number, has}
+use Rattle.lra_readers.specs.Reading.{Parse, stop, next_literal, has}
 use Rattle.lra_readers.specs.Expressions.{factor_operators, factor_operator, sum_operators, sum_operator, factors, term_of, summands, expr_of, UnaryMark, at_minus, at_plus, at_group, at_input}
-use Rattle.lra_readers.specs.Expressions.{unary_marks, unary_mark, read_input, atom, unary_form, unary_at, expr_at}
+use Rattle.lra_readers.specs.Expressions.{unary_marks, unary_mark, literal_tree, read_input, atom, unary_form, unary_at, expr_at}
 use Rattle.lra_readers.proofs.Exact.{Exact, Any, Free, first_or}
 use Rattle.lra_readers.proofs.Forms.{rename, widen, entry, mapped, choose, branch, exact_deep}
-use Rattle.lra_readers.proofs.Tokens.{IsInner, exact_expect, exact_name, exact_number, exact_operator, some_place, some_name}
+use Rattle.lra_readers.proofs.Tokens.{IsInner, exact_expect, exact_name, LiteralText, exact_literal, exact_operator, some_place, some_name}
 use Rattle.lra_readers.proofs.Chain.{IsFollow, IsOperator, Step_to, Split, split_more, split_start, whole, steps_first, exact_rest, exact_chain}
 use Rattle.lra_readers.proofs.Turns.{Steps}
 use Rattle.lra_readers.proofs.Parts.{token, exact_behind, exact_ended, table_mark, by_table}
@@ -157,7 +157,7 @@ UnaryAt l (Some at_minus) b = opens mark.Minus (l + 1) ⋅ Of negated (IsUnary (
 UnaryAt l (Some at_plus) b = opens mark.Plus (l + 1) ⋅ Of positive (IsUnary (l + 1)) b
 UnaryAt l (Some at_group) b = Of group (λ e. opens mark.OpenParen (l + 1) ⋅ (IsExpr (l + 1) e ⋅ opens mark.CloseParen 0)) b
 UnaryAt l (Some at_input) b = InputText b
-UnaryAt l None b = λ z. Of literal number b z ⊎ Of variable (λ x. name x 0) b z
+UnaryAt l None b = λ z. Of literal_tree LiteralText b z ⊎ Of variable (λ x. name x 0) b z
 
 to_input : (l : ℕ) (b : UnaryTree) (z : Pieces) → InputText b z → IsUnary l b z
 to_input l b z (x, y, e, s, (u, v, f, t, (g, h))) = subst (λ (c : UnaryTree). IsUnary l c z) (sym g) (x, y, e, s, (u, v, f, t, h))
@@ -167,13 +167,13 @@ to_unary l (Some at_minus) b z (x, y, e, s, (a, f, t)) = subst (λ (c : UnaryTre
 to_unary l (Some at_plus) b z (x, y, e, s, (a, f, t)) = subst (λ (c : UnaryTree). IsUnary l c z) f (x, y, e, s, t)
 to_unary l (Some at_group) b z (a, f, t) = subst (λ (c : UnaryTree). IsUnary l c z) f t
 to_unary l (Some at_input) b z s = to_input l b z s
-to_unary l None b z (inl (a, f, t)) = subst (λ (c : UnaryTree). IsUnary l c z) f t
+to_unary l None b z (inl (a, f, t)) = subst (λ (c : UnaryTree). IsUnary l c z) f (a.place, t)
 to_unary l None b z (inr (a, f, t)) = subst (λ (c : UnaryTree). IsUnary l c z) f t
 
 pub from_unary : (l : ℕ) (b : UnaryTree) (z : Pieces) → IsUnary l b z → (k : Option UnaryMark) × UnaryAt l k b z
 from_unary l (negated u) z (x, y, e, s, t) = (Some at_minus, (x, y, e, s, (u, refl, t)))
 from_unary l (positive u) z (x, y, e, s, t) = (Some at_plus, (x, y, e, s, (u, refl, t)))
-from_unary l (literal i) z s = (None, inl (i, refl, s))
+from_unary l (literal t n) z (at, s) = (None, inl (record { number_type = t; value = n; place = at }, refl, s))
 from_unary l (variable x) z s = (None, inr (x, refl, s))
 from_unary l input z (x, y, e, s, (u, v, f, t, h)) = (Some at_input, (x, y, e, s, (u, v, f, t, (refl, h))))
 from_unary l (group e) z s = (Some at_group, (e, refl, s))
@@ -187,25 +187,25 @@ unary_begins l (Some at_minus) b z o (x, y, e, s, t) = first_opened (λ i. unary
 unary_begins l (Some at_plus) b z o (x, y, e, s, t) = first_opened (λ i. unary_mark i ≡ Some at_plus) mark.Plus (l + 1) x y z o e s (λ at. refl)
 unary_begins l (Some at_group) b z o (a, f, (x, y, e, s, t)) = first_opened (λ i. unary_mark i ≡ Some at_group) mark.OpenParen (l + 1) x y z o e s (λ at. refl)
 unary_begins l (Some at_input) b z o (x, y, e, s, t) = first_opened (λ i. unary_mark i ≡ Some at_input) mark.Input 0 x y z o e s (λ at. refl)
-unary_begins l None b z o (inl (a, f, (at, e))) = subst (λ (w : Pieces). unary_mark (first_or w o) ≡ None) (sym e) refl
+unary_begins l None b z o (inl (a, f, e)) = subst (λ (w : Pieces). unary_mark (first_or w o) ≡ None) (sym e) refl
 unary_begins l None b z o (inr (a, f, e)) = subst (λ (w : Pieces). unary_mark (first_or w o) ≡ None) (sym e) refl
 
 exact_input : (n : ℕ) → Exact n IsInner read_input Any InputText InputText Free
 exact_input n = exact_behind mark.Input 0 (omega arith) (exact_behind mark.OpenParen 0 (omega arith) (exact_expect n mark.CloseParen 0 (omega arith) input) (input, _, (refl, (some_place, refl))))
     (input, _, (_, _, refl, (some_place, refl), (refl, (some_place, refl))))
 
-literal_begins : (b : UnaryTree) (z : Pieces) (o : Option Token) → Of literal number b z → has (next_number (first_or z o)) ≡ true
-literal_begins b z o (a, f, (at, e)) = rw e refl
+literal_begins : (b : UnaryTree) (z : Pieces) (o : Option Token) → Of literal_tree LiteralText b z → has (next_literal (first_or z o)) ≡ true
+literal_begins b z o (a, f, e) = rw e refl
 
-variable_begins : (b : UnaryTree) (z : Pieces) (o : Option Token) → Of variable (λ x. name x 0) b z → has (next_number (first_or z o)) ≡ false
+variable_begins : (b : UnaryTree) (z : Pieces) (o : Option Token) → Of variable (λ x. name x 0) b z → has (next_literal (first_or z o)) ≡ false
 variable_begins b z o (a, f, e) = rw e refl
 
 exact_atom : (n l : ℕ) → Exact n IsInner atom Any (UnaryAt l None) (UnaryAt l None) Free
 exact_atom n l =
-    let p = mapped (exact_number n) literal Free (λ a o f. tt) (λ a o f. tt) in
+    let p = mapped (exact_literal n) literal_tree Free (λ a o f. tt) (λ a o f. tt) in
     let q = mapped (exact_name n 0 (omega arith)) variable Free (λ a o f. tt) (λ a o f. tt) in
-    branch (λ o. has (next_number o)) (entry (widen p (UnaryAt l None) (λ b z s. inl s)) (λ o. ⊤ × (has (next_number o) ≡ true)) (λ o i. tt))
-    (entry (widen q (UnaryAt l None) (λ b z s. inr s)) (λ o. ⊤ × (has (next_number o) ≡ false)) (λ o i. tt))
+    branch (λ o. has (next_literal o)) (entry (widen p (UnaryAt l None) (λ b z s. inl s)) (λ o. ⊤ × (has (next_literal o) ≡ true)) (λ o i. tt))
+    (entry (widen q (UnaryAt l None) (λ b z s. inr s)) (λ o. ⊤ × (has (next_literal o) ≡ false)) (λ o i. tt))
     (λ b z o s f. literal_begins b z o s) (λ b z o s f. variable_begins b z o s)
 
 abbrev pub At : Option UnaryMark → Option Token → Type 0

@@ -73,7 +73,6 @@ exact_signature n d e h =
 
 -- globals, behind a type and a name
 abbrev OnlyGlobals : Lead → PartTree → Texts
-OnlyGlobals (lead.Main x) p = λ z. ⊥
 OnlyGlobals (lead.Typed t x) p = GlobalsText t x p
 OnlyGlobals (lead.Void x) p = λ z. ⊥
 OnlyGlobals lead.Bare p = λ z. ⊥
@@ -85,7 +84,6 @@ exact_signed : (n d : ℕ) → d + 1 ≡ n → (l : Lead) → ((p : PartTree) (z
 exact_signed n d e l none = retell (exact_signature n d e (head_of l)) (RestText l) (λ p z s. inl s) (λ p z s. elim s [ inl k ↦ k | inr k ↦ absurd (none p z k) ])
 
 exact_rest : (n d : ℕ) → d + 1 ≡ n → (l : Lead) → Exact n IsInner (rest_at d l) Any (RestText l) (RestText l) Free
-exact_rest n d e (lead.Main x) = exact_signed n d e (lead.Main x) (λ p z k. k)
 exact_rest n d e (lead.Typed t x) =
     branch (is_mark mark.OpenParen)
     (entry (widen (exact_signature n d e (Some (Some t, x))) (RestText (lead.Typed t x)) (λ p z s. inl s)) (λ o. ⊤ × (is_mark mark.OpenParen o ≡ true)) (λ o i. tt))
@@ -114,7 +112,6 @@ body_is None p z t = absurd t
 body_is (Some s) p z t = (s, refl, t)
 
 globals_part : (l : Lead) (p : PartTree) (x y z : Pieces) → z ≡ x ++ y → LeadText l x → OnlyGlobals l p y → IsPart p z
-globals_part (lead.Main i) p x y z e s r = absurd r
 globals_part (lead.Typed w i) p x y z e (inl (a, b, f, o, (k, g, t))) r = absurd cc
 globals_part (lead.Typed w i) p x y z e (inr (t, n, f, type, name)) r =
     let k = globals_out w i p t n y z (e ∙ ap (λ (w : Pieces). w ++ y) f) type name r in
@@ -207,7 +204,7 @@ part_first p z o t =
 
 end_is : (k : Kind) (at p : Place) → end_of k at ≡ Some p → (k ≡ End) × (at ≡ p)
 end_is (Name w) at p e = absurd cc
-end_is (Number n) at p e = absurd cc
+end_is (Number t n) at p e = absurd cc
 end_is (MarkOf m) at p e = absurd cc
 end_is Reserved at p e = absurd cc
 end_is Unclosed at p e = absurd cc

@@ -1,20 +1,23 @@
 -- The reader of globals is exact.
 use Rattle.std.proofs.Common.{◌≡◌, ℕ, true, false, ◌⊎◌, List, [], ◌∷◌, ◌++◌, Option, Some, None, refl, sym, ap, subst, ◌∙◌, append_assoc, arith, inl, inr}
-use Rattle.std.specs.Prelude.{ℤ, pos}
+use Rattle.std.specs.Prelude.{ℤ, pos, neg_ℤ}
 use Rattle.std.specs.Bool.{⊤}
 use Rattle.lra_base.specs.declared.number_types.NumberType.{NumberType}
+use Rattle.lra_base.specs.declared.number_types.NumberType.TheVariants.{Int}
 use Rattle.lra_base.specs.declared.refusals.Place.{Place}
 use Rattle.lra_tree.specs.declared.tokens.Mark.TheVariants as mark
 use Rattle.lra_tree.specs.declared.tokens.Token.{Token}
 use Rattle.lra_tree.specs.declared.trees.Identifier.{Identifier}
-use Rattle.lra_tree.specs.Texts.{Pieces, Texts, ◌⋅◌, opens, mark as spells, name, number, further}
+use Rattle.lra_tree.specs.declared.trees.SignedLiteral.{SignedLiteral}
+use Rattle.lra_tree.specs.Texts.{Pieces, Texts, ◌⋅◌, opens, mark as spells, name, further}
 use Rattle.lra_tree.specs.Trees.{GlobalTree, GlobalsTree, PartTree, globals}
 use Rattle.lra_tree.specs.Grammar.{IsType, IsSigned, IsGlobal, AreGlobals}
 use Rattle.lra_readers.specs.Tests.{is_mark}
-use Rattle.lra_readers.specs.Files.{opposite, signed_at, with_value, without_value, value_at, global_at, globals_of, globals_at}
+use Rattle.lra_readers.specs.Reading.{Literal}
+use Rattle.lra_readers.specs.Files.{positive, negative, signed_at, with_value, without_value, value_at, global_at, globals_of, globals_at}
 use Rattle.lra_readers.proofs.Exact.{Exact, Any, Free, Both, first_or, then}
 use Rattle.lra_readers.proofs.Forms.{widen, retell, entry, mapped, branch, exact_done}
-use Rattle.lra_readers.proofs.Tokens.{IsInner, exact_name, exact_number, some_place, some_name}
+use Rattle.lra_readers.proofs.Tokens.{IsInner, exact_name, LiteralText, exact_literal, some_literal, some_name}
 use Rattle.lra_readers.proofs.Chain.{regroup, all_last}
 use Rattle.lra_readers.proofs.Parts.{token, exact_behind, exact_ended}
 use Rattle.lra_readers.proofs.ExactExpressions.{Of, first_opened}
@@ -22,40 +25,46 @@ use Rattle.lra_readers.proofs.ExactLists.{exact_commas_from}
 
 -- literals with signs ----------------------------------------------------------------------------------------------
 
-abbrev NegativeText : ℤ → Texts
-NegativeText v = opens mark.Minus 0 ⋅ Of opposite (λ n. number n) v
+abbrev NegativeText : SignedLiteral → Texts
+NegativeText v = opens mark.Minus 0 ⋅ Of negative LiteralText v
 
-abbrev PositiveText : ℤ → Texts
-PositiveText v z = Of pos (λ n. number n) v z
+abbrev PositiveText : SignedLiteral → Texts
+PositiveText v z = Of positive LiteralText v z
 
-abbrev EitherSign : ℤ → Texts
+abbrev EitherSign : SignedLiteral → Texts
 EitherSign v z = NegativeText v z ⊎ PositiveText v z
 
-to_signed : (v : ℤ) (z : Pieces) → EitherSign v z → IsSigned v z
-to_signed v z (inl (x, y, e, s, (n, f, t))) = (n, inr (sym f, (x, y, e, s, t)))
-to_signed v z (inr (n, f, t)) = (n, inl (sym f, t))
+to_signed : (v : SignedLiteral) (z : Pieces) → EitherSign v z → IsSigned v z
+to_signed v z (inl (x, y, e, s, (l, f, t))) = subst (λ (c : SignedLiteral). IsSigned c z) f (l.number_type, l.value, inr (refl, (x, y, e, s, t)))
+to_signed v z (inr (l, f, t)) = subst (λ (c : SignedLiteral). IsSigned c z) f (l.number_type, l.value, inl (refl, t))
 
-from_signed : (v : ℤ) (z : Pieces) → IsSigned v z → EitherSign v z
-from_signed v z (n, inl (f, t)) = inr (n, sym f, t)
-from_signed v z (n, inr (f, (x, y, e, s, t))) = inl (x, y, e, s, (n, sym f, t))
+signed_same : (v : SignedLiteral) (i : ℤ) → v.value ≡ i → record { value = i; place = v.place } ≡ v
+signed_same v i e = ap (λ (j : ℤ). record { value = j; place = v.place }) (sym e)
 
-no_minus : (v : ℤ) (z : Pieces) (o : Option Token) → PositiveText v z → is_mark mark.Minus (first_or z o) ≡ false
-no_minus v z o (n, f, (at, e)) = rw e refl
+abbrev literal_at : NumberType → ℕ → Place → Literal
+literal_at t n at = record { number_type = t; value = n; place = at }
+
+from_signed : (v : SignedLiteral) (z : Pieces) → IsSigned v z → EitherSign v z
+from_signed v z (t, n, inl (f, s)) = inr (literal_at t n v.place, signed_same v (pos n) f, s)
+from_signed v z (t, n, inr (f, (x, y, e, s, r))) = inl (x, y, e, s, (literal_at t n v.place, signed_same v (neg_ℤ (pos n)) f, r))
+
+no_minus : (v : SignedLiteral) (z : Pieces) (o : Option Token) → PositiveText v z → is_mark mark.Minus (first_or z o) ≡ false
+no_minus v z o (l, f, e) = rw e refl
 
 exact_signed : (n : ℕ) → Exact n IsInner signed_at Any IsSigned IsSigned Free
 exact_signed n =
-    let negative = exact_behind mark.Minus 0 (omega arith) (mapped (exact_number n) opposite Free (λ i o f. tt) (λ i o f. tt)) (opposite 0, _, (0, refl, (some_place, refl))) in
-    let positive = mapped (exact_number n) pos Free (λ i o f. tt) (λ i o f. tt) in
+    let behind_sign = exact_behind mark.Minus 0 (omega arith) (mapped (exact_literal n) negative Free (λ i o f. tt) (λ i o f. tt)) (negative some_literal, _, (some_literal, refl, refl)) in
+    let without = mapped (exact_literal n) positive Free (λ i o f. tt) (λ i o f. tt) in
     let b = branch (is_mark mark.Minus)
-    (entry (widen negative EitherSign (λ v z s. inl s)) (λ o. ⊤ × (is_mark mark.Minus o ≡ true)) (λ o i. tt))
-    (entry (widen positive EitherSign (λ v z s. inr s)) (λ o. ⊤ × (is_mark mark.Minus o ≡ false)) (λ o i. tt))
+    (entry (widen behind_sign EitherSign (λ v z s. inl s)) (λ o. ⊤ × (is_mark mark.Minus o ≡ true)) (λ o i. tt))
+    (entry (widen without EitherSign (λ v z s. inr s)) (λ o. ⊤ × (is_mark mark.Minus o ≡ false)) (λ o i. tt))
     (λ v z o s f. first_opened (λ i. is_mark mark.Minus i ≡ true) mark.Minus 0 s.0 s.1 z o s.2 s.3 (λ at. refl))
     (λ v z o s f. no_minus v z o s) in
     retell b IsSigned to_signed from_signed
 
 -- first values -----------------------------------------------------------------------------------------------------
 
-abbrev AfterFirst : Option ℤ → Option Token → Type 0
+abbrev AfterFirst : Option SignedLiteral → Option Token → Type 0
 AfterFirst None o = is_mark mark.Assign o ≡ false
 AfterFirst (Some v) o = ⊤
 
@@ -72,7 +81,7 @@ no_value x g z o e f h = rw f (let k : AfterGlobal (without_value x) o = subst (
 pub exact_value : (n : ℕ) (x : Identifier) → Exact n IsInner (value_at x) Any (ValueText x) (ValueText x) AfterGlobal
 exact_value n x =
     let some = exact_behind mark.Assign 0 (omega arith) (mapped (exact_signed n) (with_value x) AfterGlobal (λ v o f. tt) (λ v o f. tt))
-    (with_value x (pos 0), _, (pos 0, refl, (0, inl (refl, (some_place, refl))))) in
+    (with_value x (positive some_literal), _, (positive some_literal, refl, (Int, 0, inl (refl, refl)))) in
     branch (is_mark mark.Assign) (entry (widen some (ValueText x) (λ g z s. inl s)) (λ o. ⊤ × (is_mark mark.Assign o ≡ true)) (λ o i. tt))
     (widen (exact_done n IsInner (without_value x) (λ o. ⊤ × (is_mark mark.Assign o ≡ false)) (λ g z. (g ≡ without_value x) × (z ≡ [])) AfterGlobal (λ o i. i.1)) (ValueText x) (λ g z s. inr s))
     (λ g z o s f. first_opened (λ i. is_mark mark.Assign i ≡ true) mark.Assign 0 s.0 s.1 z o s.2 s.3 (λ at. refl))
@@ -90,7 +99,7 @@ valued x g u v z e s (inr (h, f)) = subst (λ (c : GlobalTree). IsGlobal c z) (s
 to_global : (g : GlobalTree) (z : Pieces) → NamedValue g z → IsGlobal g z
 to_global g z (x, (u, v, e, s, t)) = valued x g u v z e s t
 
-from_global : (x : Identifier) (m : Option ℤ) (z : Pieces) → IsGlobal (record { name = x; value = m }) z → NamedValue (record { name = x; value = m }) z
+from_global : (x : Identifier) (m : Option SignedLiteral) (z : Pieces) → IsGlobal (record { name = x; value = m }) z → NamedValue (record { name = x; value = m }) z
 from_global x None z (u, v, e, s, t) = (x, (u, v, e, s, inr (refl, t)))
 from_global x (Some a) z (u, v, e, s, (p, q, f, m, t)) = (x, (u, v, e, s, inl (p, q, f, m, (a, refl, t))))
 
@@ -108,11 +117,11 @@ Listed x gs = ValueText x gs.0 ⋅ further IsGlobal gs.1
 abbrev pub GlobalsText : NumberType → Identifier → PartTree → Texts
 GlobalsText k x p z = Of (globals_of k) (λ gs. Listed x gs ⋅ spells mark.Semicolon) p z
 
-goes_on : (g : GlobalTree) (m : Option ℤ) (at : Place) → AfterFirst m (Some (token mark.Comma at))
+goes_on : (g : GlobalTree) (m : Option SignedLiteral) (at : Place) → AfterFirst m (Some (token mark.Comma at))
 goes_on g None at = refl
 goes_on g (Some v) at = tt
 
-stops_here : (m : Option ℤ) (at : Place) → AfterFirst m (Some (token mark.Semicolon at))
+stops_here : (m : Option SignedLiteral) (at : Place) → AfterFirst m (Some (token mark.Semicolon at))
 stops_here None at = refl
 stops_here (Some v) at = tt
 

@@ -13,7 +13,7 @@ use Rattle.lra_tree.specs.Trees.{TestTree, opposite, value, compare, group_of, C
 use Rattle.lra_tree.specs.Grammar.{IsTest, IsConjunction, IsCond, IsRvalue, IsAssign, IsDeclaration, IsInit, IsForTest, IsForStep, IsReturned}
 use Rattle.lra_readers.specs.Tests.{is_mark}
 use Rattle.lra_readers.specs.Reading.{Parse}
-use Rattle.lra_readers.specs.Statements.{rvalue_at, up_to, init_of, init_at, for_head_at}
+use Rattle.lra_readers.specs.Statements.{begins_type, rvalue_at, up_to, init_of, init_at, for_head_at}
 use Rattle.lra_readers.proofs.Marks.{is_mark_self}
 use Rattle.lra_readers.proofs.Exact.{Exact, Any, Free, Both, first_or, first_or-both, then}
 use Rattle.lra_readers.proofs.Forms.{rename, widen, retell, entry, mapped, branch, exact_done}
@@ -114,10 +114,14 @@ first_assign : (l : ℕ) (i : Option AssignTree) (z : Pieces) → FirstAssign l 
 first_assign l None z (x, y, e, s, m) = subst (λ (w : Pieces). spells mark.Semicolon w) (sym (e ∙ ap (λ (w : Pieces). w ++ y) s)) m
 first_assign l (Some a) z s = s
 
-first_no_long : (l : ℕ) (i : Option AssignTree) (z : Pieces) (k : Option Token) → FirstAssign l i z → is_mark mark.Long (first_or z k) ≡ false
-first_no_long l None z k s = let w : spells mark.Semicolon z = first_assign l None z s in first_opened (λ o. is_mark mark.Long o ≡ false) mark.Semicolon 0 z [] z k (sym (append-nil z)) w (λ at. refl)
-first_no_long l (Some a) z k (x, y, e, s, m) = subst (λ (w : Pieces). is_mark mark.Long (first_or w k) ≡ false) (sym e)
-    (subst (λ (o : Option Token). is_mark mark.Long o ≡ false) (sym (first_or-both x y k)) (assign_is_not mark.Long refl refl l a x (first_or y k) s))
+neither_type : (o : Option Token) → is_mark mark.Int o ≡ false → is_mark mark.Long o ≡ false → begins_type o ≡ false
+neither_type o e f = rw (e, f) refl
+
+first_no_type : (l : ℕ) (i : Option AssignTree) (z : Pieces) (k : Option Token) → FirstAssign l i z → begins_type (first_or z k) ≡ false
+first_no_type l None z k s = let w : spells mark.Semicolon z = first_assign l None z s in first_opened (λ o. begins_type o ≡ false) mark.Semicolon 0 z [] z k (sym (append-nil z)) w (λ at. refl)
+first_no_type l (Some a) z k (x, y, e, s, m) =
+    let other = neither_type (first_or x (first_or y k)) (assign_is_not mark.Int refl refl l a x (first_or y k) s) (assign_is_not mark.Long refl refl l a x (first_or y k) s) in
+    subst (λ (w : Pieces). begins_type (first_or w k) ≡ false) (sym e) (subst (λ (o : Option Token). begins_type o ≡ false) (sym (first_or-both x y k)) other)
 
 init_sides : (l : ℕ) (i : InitTree) (z : Pieces) → IsInit l i z → Of declared (IsDeclaration l) i z ⊎ Of init_of (FirstAssign l) i z
 init_sides l no_init z s = inr (None, refl, ([], z, refl, refl, s))
@@ -128,12 +132,12 @@ exact_init : (n d l : ℕ) → d + l ≡ n → Exact n IsInner (init_at d) Any (
 exact_init n d l h =
     let low : 0 ≤ n = omega arith in
     let W = IsInit l in
-    let D = entry (mapped (exact_declaration n d l h) declared Free (λ i o f. tt) (λ i o f. tt)) (λ k. ⊤ × (is_mark mark.Long k ≡ true)) (λ k i. tt) in
+    let D = entry (mapped (exact_declaration n d l h) declared Free (λ i o f. tt) (λ i o f. tt)) (λ k. ⊤ × (begins_type k ≡ true)) (λ k i. tt) in
     let A = mapped (exact_up_to mark.Semicolon (exact_assign n d l 0 h low) (assign_is_not mark.Semicolon refl refl l) assign_stops) init_of Free (λ i o f. tt) (λ i o f. tt) in
-    let b = branch (is_mark mark.Long) (widen D W (λ i z s. subst (λ (c : InitTree). W c z) s.1 s.2))
-    (entry (widen A W (λ i z s. subst (λ (c : InitTree). W c z) s.1 (first_assign l s.0 z s.2))) (λ k. ⊤ × (is_mark mark.Long k ≡ false)) (λ k i. tt))
+    let b = branch begins_type (widen D W (λ i z s. subst (λ (c : InitTree). W c z) s.1 s.2))
+    (entry (widen A W (λ i z s. subst (λ (c : InitTree). W c z) s.1 (first_assign l s.0 z s.2))) (λ k. ⊤ × (begins_type k ≡ false)) (λ k i. tt))
     (λ i z k s f. declaration_first l s.0 z k s.2)
-    (λ i z k s f. first_no_long l s.0 z k s.2) in
+    (λ i z k s f. first_no_type l s.0 z k s.2) in
     rename b W (λ i z s. elim s [ inl k ↦ subst (λ (c : InitTree). W c z) k.1 k.2 | inr k ↦ subst (λ (c : InitTree). W c z) k.1 (first_assign l k.0 z k.2) ]) (λ i z s. init_sides l i z s)
 
 abbrev pub StepText : ℕ → InitTree → Option CondTree → ForHeadTree → Texts

@@ -1,73 +1,28 @@
 -- The reader of what a part begins with is exact.
-use Rattle.std.proofs.Common.{◌≡◌, ℕ, true, false, bytes_eq, codes, ◌⊎◌, List, [], ◌∷◌, ◌++◌, Option, Some, None, refl, sym, ap, subst, ◌∙◌, arith, inl, inr}
+use Rattle.std.proofs.Common.{◌≡◌, ℕ, true, false, ◌⊎◌, [], ◌++◌, Option, Some, None, refl, sym, ap, subst, ◌∙◌, arith, inl, inr}
 use Rattle.std.specs.Bool.{⊤}
-use Rattle.std.proofs.lemmas.Slice.Eq.{bytes_eq-Decides}
 use Rattle.lra_base.specs.declared.number_types.NumberType.{NumberType}
 use Rattle.lra_base.specs.declared.number_types.NumberType.TheVariants.{Long}
 use Rattle.lra_base.specs.declared.refusals.Place.{Place}
 use Rattle.lra_tree.specs.declared.tokens.Mark.{Mark}
 use Rattle.lra_tree.specs.declared.tokens.Mark.TheVariants as mark
-use Rattle.lra_tree.specs.declared.tokens.Kind.{Kind}
-use Rattle.lra_tree.specs.declared.tokens.Kind.TheVariants.{Name, End}
 use Rattle.lra_tree.specs.declared.tokens.Token.{Token}
 use Rattle.lra_tree.specs.declared.trees.Identifier.{Identifier}
 use Rattle.lra_tree.specs.Texts.{Pieces, Texts, ◌⋅◌, ◌∣◌, opens, mark as spells, name}
-use Rattle.lra_tree.specs.Grammar.{IsType, IsMainName, IsHead, IsReservedHead, IsSomeHead}
+use Rattle.lra_tree.specs.Grammar.{IsType, IsHead, IsReservedHead, IsSomeHead}
 use Rattle.lra_readers.specs.declared.lead.Lead.{Lead}
 use Rattle.lra_readers.specs.declared.lead.Lead.TheVariants as lead
 use Rattle.lra_readers.specs.Tests.{is_mark}
-use Rattle.lra_readers.specs.Reading.{take_by, identifier_of, has}
-use Rattle.lra_readers.specs.Files.{is_main, next_main, Heading, HeadMark, at_int, at_type, at_void, head_mark, BuiltIn, of_input, of_assert, of_assume}
+use Rattle.lra_readers.specs.Reading.{take_by, has}
+use Rattle.lra_readers.specs.Files.{Heading, HeadMark, at_type, at_void, head_mark, BuiltIn, of_input, of_assert, of_assume}
 use Rattle.lra_readers.specs.Files.{built_ins, next_built_in, named, lead_behind, lead_form}
 use Rattle.lra_readers.specs.Files.{plain_lead, read_lead, begins_part}
-use Rattle.lra_readers.proofs.Exact.{Exact, Any, Free, test, first_or}
-use Rattle.lra_readers.proofs.Forms.{rename, widen, retell, entry, mapped, choose, branch, exact_stop, exact_take}
-use Rattle.lra_readers.proofs.Tokens.{IsInner, name_is, exact_name, exact_operator, some_place, some_name}
+use Rattle.lra_readers.proofs.Exact.{Exact, Any, Free, first_or}
+use Rattle.lra_readers.proofs.Forms.{rename, widen, entry, mapped, choose, branch, exact_stop}
+use Rattle.lra_readers.proofs.Tokens.{IsInner, exact_name, exact_operator, some_place, some_name}
 use Rattle.lra_readers.proofs.Parts.{token, exact_behind}
 use Rattle.lra_readers.proofs.ExactExpressions.{Of, first_opened}
 use Rattle.lra_readers.proofs.ExactAssignments.{TypedText, type_first, exact_type}
-
--- `main` -----------------------------------------------------------------------------------------------------------
-
-abbrev main_word : Identifier → Type 0
-main_word x = x.word ≡ codes "main"
-
-abbrev MainText : Identifier → Texts
-MainText x z = name x 0 z × main_word x
-
-same_bytes : (s t : List ℕ) → bytes_eq s t ≡ true → s ≡ t
-same_bytes s t e = (bytes_eq-Decides s t).0 e
-
-bytes_same : (s t : List ℕ) → s ≡ t → bytes_eq s t ≡ true
-bytes_same s t e = (bytes_eq-Decides s t).1 e
-
-main_is : (m : Option Identifier) (x : Identifier) → is_main m ≡ Some x → (m ≡ Some x) × main_word x
-main_is None x e = absurd cc
-main_is (Some y) x e = elim (test (bytes_eq y.word (codes "main"))) [
-  | inl on ↦ let e' : (let r : Option Identifier = Some y in r) ≡ Some x = rw on at e in let f : y ≡ x = cc in (e', subst main_word f (same_bytes y.word (codes "main") on))
-  | inr off ↦ let e' : (let r : Option Identifier = None in r) ≡ Some x = rw off at e in absurd cc
-]
-
-main_self : (x : Identifier) → main_word x → is_main (Some x) ≡ Some x
-main_self x e = rw (bytes_same x.word (codes "main") e) refl
-
-abbrev some_main : Identifier
-some_main = record { word = codes "main"; place = some_place }
-
-main_token : (t : Token) (x : Identifier) → next_main (Some t) ≡ Some x → t ≡ record { kind = Name x.word; place = x.place }
-main_token t x e =
-    let m = main_is (identifier_of t.kind t.place) x e in
-    let k = name_is t.kind t.place x m.0 in
-    ap (λ (j : Kind). record { kind = j; place = t.place }) k.0 ∙ ap (λ (p : Place). record { kind = Name x.word; place = p }) k.1
-
-exact_main : (n : ℕ) → Exact n IsInner (take_by next_main) Any MainText MainText Free
-exact_main n =
-    let t = exact_take n IsInner next_main 0 (omega arith) refl (λ t x e f.
-    let k = ap (λ (u : Token). u.kind) (main_token t x e) in let g : Name x.word ≡ End = sym k ∙ f in cc)
-    some_main (record { kind = Name (codes "main"); place = some_place }) (main_self some_main refl) in
-    retell t MainText
-    (λ x z s. (s.1 ∙ ap (λ (u : Token). (u, 0) ∷ []) (main_token s.0 x s.2), (main_is (identifier_of s.0.kind s.0.place) x s.2).1))
-    (λ x z s. (record { kind = Name x.word; place = x.place }, s.0, main_self x s.1))
 
 -- a name, or a word in its place -----------------------------------------------------------------------------------
 
@@ -130,7 +85,6 @@ called_no_long b l z o (inr (x, f, e)) = rw e refl
 -- without `extern` -------------------------------------------------------------------------------------------------
 
 abbrev pub PlainLead : Lead → Texts
-PlainLead (lead.Main x) = IsMainName x
 PlainLead (lead.Typed t x) = IsType t ⋅ name x 0
 PlainLead (lead.Void x) = spells mark.Void ⋅ name x 0
 PlainLead lead.Bare = IsReservedHead
@@ -139,7 +93,6 @@ abbrev CalledType : NumberType → Lead → Texts
 CalledType t l = CalledText (Some t) l
 
 abbrev LeadAt : Option HeadMark → Lead → Texts
-LeadAt (Some at_int) l = opens mark.Int 0 ⋅ Of lead.Main MainText l
 LeadAt (Some at_type) l = TypedText CalledType l
 LeadAt (Some at_void) l = opens mark.Void 0 ⋅ CalledText None l
 LeadAt None l = λ z. ⊥
@@ -158,7 +111,6 @@ word_in z (inr (inl s)) = (of_assert, s)
 word_in z (inr (inr s)) = (of_assume, s)
 
 to_plain : (k : Option HeadMark) (l : Lead) (z : Pieces) → LeadAt k l z → PlainLead l z
-to_plain (Some at_int) l z (x, y, e, s, (i, f, t)) = subst (λ (c : Lead). PlainLead c z) f (t.1, (x, y, e, s, t.0))
 to_plain (Some at_type) l z (k, (x, y, e, s, inl (w, f, t))) = subst (λ (c : Lead). PlainLead c z) f (x, y, e, inr (k, s), word_out w y t)
 to_plain (Some at_type) l z (k, (x, y, e, s, inr (i, f, t))) = subst (λ (c : Lead). PlainLead c z) f (x, y, e, s, t)
 to_plain (Some at_void) l z (x, y, e, s, inl (w, f, t)) = subst (λ (c : Lead). PlainLead c z) f (x, y, e, inl s, word_out w y t)
@@ -166,16 +118,14 @@ to_plain (Some at_void) l z (x, y, e, s, inr (i, f, t)) = subst (λ (c : Lead). 
 to_plain None l z s = absurd s
 
 from_plain : (l : Lead) (z : Pieces) → PlainLead l z → (k : Option HeadMark) × LeadAt k l z
-from_plain (lead.Main i) z (w, (x, y, e, s, t)) = (Some at_int, (x, y, e, s, (i, refl, (t, w))))
 from_plain (lead.Typed k i) z (x, y, e, s, t) = (Some at_type, (k, (x, y, e, s, inr (i, refl, t))))
 from_plain (lead.Void i) z (x, y, e, s, t) = (Some at_void, (x, y, e, s, inr (i, refl, t)))
 from_plain lead.Bare z (x, y, e, inl s, t) = let k = word_in y t in (Some at_void, (x, y, e, s, inl (k.0, refl, k.1)))
 from_plain lead.Bare z (x, y, e, inr (w, s), t) = let k = word_in y t in (Some at_type, (w, (x, y, e, s, inl (k.0, refl, k.1))))
 
-lead_begins : (k : Option HeadMark) (l : Lead) (z : Pieces) (o : Option Token) (P : Option Token → Type 0) → LeadAt k l z → ((at : Place) → k ≡ Some at_int → P (Some (token mark.Int at)))
+lead_begins : (k : Option HeadMark) (l : Lead) (z : Pieces) (o : Option Token) (P : Option Token → Type 0) → LeadAt k l z → ((at : Place) → k ≡ Some at_type → P (Some (token mark.Int at)))
     → ((at : Place) → k ≡ Some at_type → P (Some (token mark.Long at))) → ((at : Place) → k ≡ Some at_void → P (Some (token mark.Void at))) → P (first_or z o)
-lead_begins (Some at_int) l z o P (x, y, e, s, t) a b c = first_opened P mark.Int 0 x y z o e s (λ at. a at refl)
-lead_begins (Some at_type) l z o P (w, (x, y, e, s, t)) a b c = type_first w x y z o P e s (λ at. b at refl)
+lead_begins (Some at_type) l z o P (w, (x, y, e, s, t)) a b c = type_first w x y z o P e s (λ at. b at refl) (λ at. a at refl)
 lead_begins (Some at_void) l z o P (x, y, e, s, t) a b c = first_opened P mark.Void 0 x y z o e s (λ at. c at refl)
 lead_begins None l z o P s a b c = absurd s
 
@@ -186,11 +136,8 @@ abbrev HeadKey : Option HeadMark → Option Token → Type 0
 HeadKey k o = (head_mark o ≡ k) × Any o
 
 each_lead : (n : ℕ) (k : Option HeadMark) → Exact n IsInner (lead_form k) (HeadKey k) (LeadAt k) PlainLead Free
-each_lead n (Some at_int) =
-    let p = exact_behind mark.Int 0 (omega arith) (mapped (exact_main n) lead.Main Free (λ x o f. tt) (λ x o f. tt)) (lead.Main some_main, _, (some_main, refl, (refl, refl))) in
-    entry (widen p PlainLead (λ l z s. to_plain (Some at_int) l z s)) (HeadKey (Some at_int)) (λ o i. tt)
 each_lead n (Some at_type) =
-    let p = exact_type (λ t. lead_behind (Some t)) CalledType (λ t. exact_called n (Some t)) (some_called (Some Long)) (λ l z o s f. called_no_int (Some Long) l z o s)
+    let p = exact_type (λ t. lead_behind (Some t)) CalledType (λ t. exact_called n (Some t)) (λ t. some_called (Some t)) (λ l z o s f. called_no_int (Some Long) l z o s)
     (λ l z o s f. called_no_long (Some Long) l z o s) in
     entry (widen p PlainLead (λ l z s. to_plain (Some at_type) l z s)) (HeadKey (Some at_type)) (λ o i. tt)
 each_lead n (Some at_void) =
@@ -234,24 +181,20 @@ lead_first l z o (inr s) = let k = from_plain l z s in lead_begins k.0 l z o (λ
 
 -- the type of the result, where there is one, and the name; `extern` and the words in place of a name are no function's
 abbrev pub head_of : Lead → Option Heading
-head_of (lead.Main x) = Some (Some Long, x)
 head_of (lead.Typed t x) = Some (Some t, x)
 head_of (lead.Void x) = Some (None, x)
 head_of lead.Bare = None
 
 -- the head of a function
 pub lead_head : (l : Lead) (h : Heading) (z : Pieces) → head_of l ≡ Some h → LeadText l z → IsHead h.0 h.1 z
-lead_head (lead.Main i) h z e (inl (x, y, f, s, (k, g, t))) = absurd cc
 lead_head (lead.Typed w i) h z e (inl (x, y, f, s, (k, g, t))) = absurd cc
 lead_head (lead.Void i) h z e (inl (x, y, f, s, (k, g, t))) = absurd cc
-lead_head (lead.Main i) h z e (inr s) = let f : (Some Long, i) ≡ h = cc in subst (λ (c : Heading). IsHead c.0 c.1 z) f (inl s)
-lead_head (lead.Typed Long i) h z e (inr s) = let f : (Some Long, i) ≡ h = cc in subst (λ (c : Heading). IsHead c.0 c.1 z) f (inr s)
+lead_head (lead.Typed w i) h z e (inr s) = let f : (Some w, i) ≡ h = cc in subst (λ (c : Heading). IsHead c.0 c.1 z) f s
 lead_head (lead.Void i) h z e (inr s) = let f : (None, i) ≡ h = cc in subst (λ (c : Heading). IsHead c.0 c.1 z) f s
 lead_head lead.Bare h z e s = absurd cc
 
 pub head_lead : (b : Option NumberType) (i : Identifier) (z : Pieces) → IsHead b i z → (l : Lead) × (head_of l ≡ Some (b, i)) × PlainLead l z
-head_lead (Some Long) i z (inl s) = (lead.Main i, refl, s)
-head_lead (Some Long) i z (inr s) = (lead.Typed Long i, refl, s)
+head_lead (Some w) i z s = (lead.Typed w i, refl, s)
 head_lead None i z s = (lead.Void i, refl, s)
 
 -- of a prototype
@@ -259,8 +202,7 @@ abbrev pub OuterText : Texts
 OuterText = (spells mark.Extern ∣ (λ z. z ≡ [])) ⋅ (IsSomeHead ∣ IsReservedHead)
 
 plain_some : (l : Lead) (z : Pieces) → PlainLead l z → (IsSomeHead ∣ IsReservedHead) z
-plain_some (lead.Main i) z s = inl (Some Long, i, inl s)
-plain_some (lead.Typed Long i) z s = inl (Some Long, i, inr s)
+plain_some (lead.Typed w i) z s = inl (Some w, i, s)
 plain_some (lead.Void i) z s = inl (None, i, s)
 plain_some lead.Bare z s = inr s
 

@@ -101,7 +101,7 @@ from_parameter None z (k, s) = (k, (z, [], sym (append-nil z), s, inr (refl, ref
 from_parameter (Some q) z (x, y, e, s, t) = (q.number_type, (x, y, e, s, inl (q.name, refl, t)))
 
 exact_parameter : (n : ℕ) → Exact n IsInner parameter_at Any IsPrototypeParameter IsPrototypeParameter AfterName
-exact_parameter n = retell (exact_type name_or_none NameText (exact_name_or_none n) (parameter_of Long some_name, _, inl (some_name, refl, refl)) no_int no_long)
+exact_parameter n = retell (exact_type name_or_none NameText (exact_name_or_none n) (λ t. (parameter_of t some_name, _, inl (some_name, refl, refl))) no_int no_long)
     IsPrototypeParameter to_parameter from_parameter
 
 -- each with a name or without
@@ -147,16 +147,17 @@ parameters_sides [] z (x, y, e, inr s, t) = inl (refl, subst (λ (w : Pieces). o
 parameters_sides (i ∷ is) z (x, y, e, s, t) = inr (inr (x, y, e, ((i, is), refl, s), t))
 
 parameter_first : (p : Option Parameter) (x y z : Pieces) (o : Option Token) (P : Option Token → Type 0) → z ≡ x ++ y → IsPrototypeParameter p x → ((at : Place) → P (Some (token mark.Long at))) →
-    P (first_or z o)
-parameter_first None x y z o P e (w, s) k = type_first w x y z o P e s k
-parameter_first (Some q) x y z o P e (u, v, f, s, t) k = type_first q.number_type u (v ++ y) z o P (e ∙ regroup x y u v f) s k
+    ((at : Place) → P (Some (token mark.Int at))) → P (first_or z o)
+parameter_first None x y z o P e (w, s) long int = type_first w x y z o P e s long int
+parameter_first (Some q) x y z o P e (u, v, f, s, t) long int = type_first q.number_type u (v ++ y) z o P (e ∙ regroup x y u v f) s long int
 
-some_long : (ps : List (Option Parameter)) (z : Pieces) (o : Option Token) (P : Option Token → Type 0) → SomeParameters ps z → ((at : Place) → P (Some (token mark.Long at))) → P (first_or z o)
-some_long ps z o P (x, y, e, (xs, f, (p, q, g, s, t)), w) k = parameter_first xs.0 p (q ++ y) z o P (e ∙ regroup x y p q g) s k
+some_type : (ps : List (Option Parameter)) (z : Pieces) (o : Option Token) (P : Option Token → Type 0) → SomeParameters ps z → ((at : Place) → P (Some (token mark.Long at))) →
+    ((at : Place) → P (Some (token mark.Int at))) → P (first_or z o)
+some_type ps z o P (x, y, e, (xs, f, (p, q, g, s, t)), w) long int = parameter_first xs.0 p (q ++ y) z o P (e ∙ regroup x y p q g) s long int
 
 other_begins : (ps : List (Option Parameter)) (z : Pieces) (o : Option Token) → OtherText ps z → is_mark mark.CloseParen (first_or z o) ≡ false
 other_begins ps z o (inl (x, y, e, s, t)) = first_opened (λ i. is_mark mark.CloseParen i ≡ false) mark.Void 0 x y z o e s (λ at. refl)
-other_begins ps z o (inr s) = some_long ps z o (λ i. is_mark mark.CloseParen i ≡ false) s (λ at. refl)
+other_begins ps z o (inr s) = some_type ps z o (λ i. is_mark mark.CloseParen i ≡ false) s (λ at. refl) (λ at. refl)
 
 name_closes : (p : Option Parameter) (at : Place) → AfterName p (Some (token mark.CloseParen at))
 name_closes None at = refl
@@ -183,7 +184,7 @@ exact_parameters n =
     (entry (widen voids OtherText (λ ps z s. inl s)) (λ o. (⊤ × (is_mark mark.CloseParen o ≡ false)) × (is_mark mark.Void o ≡ true)) (λ o i. tt))
     (entry (widen some OtherText (λ ps z s. inr s)) (λ o. (⊤ × (is_mark mark.CloseParen o ≡ false)) × (is_mark mark.Void o ≡ false)) (λ o i. tt))
     (λ ps z o s f. first_opened (λ i. is_mark mark.Void i ≡ true) mark.Void 0 s.0 s.1 z o s.2 s.3 (λ at. refl))
-    (λ ps z o s f. some_long ps z o (λ i. is_mark mark.Void i ≡ false) s (λ at. refl)) in
+    (λ ps z o s f. some_type ps z o (λ i. is_mark mark.Void i ≡ false) s (λ at. refl) (λ at. refl)) in
     let b = branch (is_mark mark.CloseParen) (entry (widen closed ParametersText closed_out) (λ o. ⊤ × (is_mark mark.CloseParen o ≡ true)) (λ o i. tt))
     (widen others ParametersText other_out)
     (λ ps z o s f. first_opened (λ i. is_mark mark.CloseParen i ≡ true) mark.CloseParen 0 z [] z o (sym (append-nil z)) s.1 (λ at. refl))

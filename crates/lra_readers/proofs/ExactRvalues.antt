@@ -42,7 +42,7 @@ front x y z k e f = subst (λ (w : Pieces). Inside (first_or w k)) (sym e) (subs
 unary_inside : (l : ℕ) (a : UnaryTree) (z : Pieces) (k : Option Token) → IsUnary l a z → Inside (first_or z k)
 unary_inside l (negated u) z k (x, y, e, s, t) = first_opened Inside mark.Minus (l + 1) x y z k e s (λ at. (refl, refl))
 unary_inside l (positive u) z k (x, y, e, s, t) = first_opened Inside mark.Plus (l + 1) x y z k e s (λ at. (refl, refl))
-unary_inside l (literal i) z k s = rw (s.1) (refl, refl)
+unary_inside l (literal t i) z k s = rw (s.1) (refl, refl)
 unary_inside l (variable x) z k s = rw s (refl, refl)
 unary_inside l input z k (x, y, e, s, t) = first_opened Inside mark.Input 0 x y z k e s (λ at. (refl, refl))
 unary_inside l (group a) z k (x, y, e, s, t) = first_opened Inside mark.OpenParen (l + 1) x y z k e s (λ at. (refl, refl))
@@ -130,7 +130,7 @@ abbrev IsName : TermTree → Type 0
 IsName (unary (variable x)) = ⊤
 IsName (unary (negated u)) = ⊥
 IsName (unary (positive u)) = ⊥
-IsName (unary (literal i)) = ⊥
+IsName (unary (literal t i)) = ⊥
 IsName (unary input) = ⊥
 IsName (unary (group e)) = ⊥
 IsName (times t u) = ⊥
@@ -264,7 +264,7 @@ named_out l b z (x, (u, v, e, s, inr (t, (p, q, f, m, (a, g, r))))) =
 unary_no_name : (l : ℕ) (a : UnaryTree) (v w z : Pieces) → z ≡ v ++ w → IsUnary l a v → (IsName (unary a) → ⊥) → has (next_name (first_or z None)) ≡ false
 unary_no_name l (negated u) v w z e (x, y, f, s, t) g = first_opened (λ i. has (next_name i) ≡ false) mark.Minus (l + 1) x (y ++ w) z None (e ∙ regroup v w x y f) s (λ at. refl)
 unary_no_name l (positive u) v w z e (x, y, f, s, t) g = first_opened (λ i. has (next_name i) ≡ false) mark.Plus (l + 1) x (y ++ w) z None (e ∙ regroup v w x y f) s (λ at. refl)
-unary_no_name l (literal i) v w z e s g = rw (e, s.1) refl
+unary_no_name l (literal t i) v w z e s g = rw (e, s.1) refl
 unary_no_name l (variable i) v w z e s g = absurd (g tt)
 unary_no_name l input v w z e (x, y, f, s, t) g = first_opened (λ i. has (next_name i) ≡ false) mark.Input 0 x (y ++ w) z None (e ∙ regroup v w x y f) s (λ at. refl)
 unary_no_name l (group i) v w z e (x, y, f, s, t) g = first_opened (λ i. has (next_name i) ≡ false) mark.OpenParen (l + 1) x (y ++ w) z None (e ∙ regroup v w x y f) s (λ at. refl)
@@ -274,7 +274,7 @@ by_first : (l : ℕ) (e : ExprTree) (a : UnaryTree) (z p q : Pieces) → IsExpr 
 by_first l e (variable x) z p q h f s r = inl (x, (p, q, f, s, inr r))
 by_first l e (negated u) z p q h f s r = inr ((e, refl, h), unary_no_name l (negated u) p q z f s (λ g. g))
 by_first l e (positive u) z p q h f s r = inr ((e, refl, h), unary_no_name l (positive u) p q z f s (λ g. g))
-by_first l e (literal i) z p q h f s r = inr ((e, refl, h), unary_no_name l (literal i) p q z f s (λ g. g))
+by_first l e (literal t i) z p q h f s r = inr ((e, refl, h), unary_no_name l (literal t i) p q z f s (λ g. g))
 by_first l e input z p q h f s r = inr ((e, refl, h), unary_no_name l input p q z f s (λ g. g))
 by_first l e (group i) z p q h f s r = inr ((e, refl, h), unary_no_name l (group i) p q z f s (λ g. g))
 
@@ -290,7 +290,7 @@ alone_begins : (l : ℕ) (t : TermTree) (z : Pieces) → IsName t → IsTerm l t
 alone_begins l (unary (variable x)) z j s = rw s refl
 alone_begins l (unary (negated u)) z j s = absurd j
 alone_begins l (unary (positive u)) z j s = absurd j
-alone_begins l (unary (literal i)) z j s = absurd j
+alone_begins l (unary (literal t i)) z j s = absurd j
 alone_begins l (unary input) z j s = absurd j
 alone_begins l (unary (group e)) z j s = absurd j
 alone_begins l (times t u) z j s = absurd j

@@ -3,6 +3,7 @@ use Rattle.std.proofs.Common.{◌≡◌, ◌≢◌, ℕ, Bool, true, false, cond
 use Rattle.std.specs.List.{AllByRecursion}
 use Rattle.lra_base.specs.declared.refusals.Place.{Place}
 use Rattle.lra_base.specs.declared.refusals.Cause.TheVariants.{Syntax}
+use Rattle.lra_base.specs.declared.number_types.NumberType.TheVariants.{Int}
 use Rattle.lra_tree.specs.declared.tokens.Mark.{Mark}
 use Rattle.lra_tree.specs.declared.tokens.Mark.TheVariants as mark
 use Rattle.lra_tree.specs.declared.tokens.Kind.{Kind}
@@ -66,8 +67,8 @@ unclosed_comment = text_fault (unclosed_front ++ token_at End 19 ∷ []) (record
 
 -- `int main(void){ long x; x = (x<1)+1; }`: a condition in parentheses is no expression
 abbrev compared_rest : Text
-compared_rest = mark_token mark.OpenParen 29 ∷ token_at (Name (codes "x")) 30 ∷ mark_token mark.Less 31 ∷ token_at (Number 1) 32 ∷ mark_token mark.CloseParen 33 ∷ mark_token mark.Plus 34 ∷
-    token_at (Number 1) 35 ∷ mark_token mark.Semicolon 36
+compared_rest = mark_token mark.OpenParen 29 ∷ token_at (Name (codes "x")) 30 ∷ mark_token mark.Less 31 ∷ token_at (Number Int 1) 32 ∷ mark_token mark.CloseParen 33 ∷ mark_token mark.Plus 34 ∷
+    token_at (Number Int 1) 35 ∷ mark_token mark.Semicolon 36
     ∷ mark_token mark.CloseBrace 38 ∷ []
 
 abbrev compared_front : Text

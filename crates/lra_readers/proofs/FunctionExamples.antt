@@ -1,6 +1,6 @@
 -- Trees and first faults of sources with functions, found by reading their tokens.
 use Rattle.std.proofs.Common.{◌≡◌, [], ◌∷◌, codes, Some, None, Ok, Err, refl}
-use Rattle.lra_base.specs.declared.number_types.NumberType.TheVariants.{Long}
+use Rattle.lra_base.specs.declared.number_types.NumberType.TheVariants.{Int, Long}
 use Rattle.lra_base.specs.declared.refusals.Cause.TheVariants.{Syntax}
 use Rattle.lra_tree.specs.declared.tokens.Mark.TheVariants as mark
 use Rattle.lra_tree.specs.declared.tokens.Kind.TheVariants.{Number}
@@ -26,7 +26,7 @@ three = mark_token mark.Void 1 ∷ word_at (codes "f") 6 ∷ mark_token mark.Ope
     mark_token mark.OpenParen 40 ∷ mark_token mark.CloseParen 41
     ∷ mark_token mark.OpenBrace 42 ∷ mark_token mark.CloseBrace 43 ∷ mark_token mark.Int 45 ∷ word_at (codes "main") 49 ∷ mark_token mark.OpenParen 53 ∷ mark_token mark.CloseParen 54 ∷
     mark_token mark.OpenBrace 55 ∷ word_at (codes "f") 56
-    ∷ mark_token mark.OpenParen 57 ∷ token_at (Number 1) 58 ∷ mark_token mark.Comma 59 ∷ token_at (Number 2) 60 ∷ mark_token mark.CloseParen 61 ∷ mark_token mark.Semicolon 62 ∷
+    ∷ mark_token mark.OpenParen 57 ∷ token_at (Number Int 1) 58 ∷ mark_token mark.Comma 59 ∷ token_at (Number Int 2) 60 ∷ mark_token mark.CloseParen 61 ∷ mark_token mark.Semicolon 62 ∷
     mark_token mark.CloseBrace 63 ∷ []
 
 abbrev long_parameter : Identifier → Parameter
@@ -43,7 +43,7 @@ three_tree = record {
   })
       ∷ function (record { result_type = Some Long; name = named_at (codes "g") 39; parameters = []; body = no_items; end = in_line 43 })
       ∷ function (record {
-        result_type = Some Long;
+        result_type = Some Int;
         name = named_at (codes "main") 49;
         parameters = [];
         body = statement (call (record { name = named_at (codes "f") 56; arguments = number 1 ∷ number 2 ∷ [] })) no_items;
@@ -60,17 +60,23 @@ three_read = refl
 pub three_found : IsTree Spells (ended_at three 64) three_tree
 three_found = tree_found (ended_at three 64) [] three_tree (ends three 64 refl) three_read
 
--- int f(void){}: the type `int` alone is that of `main`
+-- int f(void){}: the type `int` is that of any function
 abbrev int_result : Text
 int_result = mark_token mark.Int 1 ∷ word_at (codes "f") 5 ∷ mark_token mark.OpenParen 6 ∷ mark_token mark.Void 7 ∷ mark_token mark.CloseParen 11 ∷ mark_token mark.OpenBrace 12 ∷
     mark_token mark.CloseBrace 13 ∷ []
 
-int_result_stops : file_at 63 (ended_at int_result 14) ≡ Err (record { cause = Syntax; left = 7 })
-unfolding loop unary_at tests levels
-int_result_stops = refl
+abbrev int_tree : FileTree
+int_tree = record {
+  parts = function (record { result_type = Some Int; name = named_at (codes "f") 5; parameters = []; body = no_items; end = in_line 13 }) ∷ [];
+  end = in_line 14;
+}
 
-pub int_function : IsTextFault Spells (ended_at int_result 14) Syntax (in_line 5)
-int_function = text_fault (ended_at int_result 14) (record { cause = Syntax; left = 7 }) (ends int_result 14 refl) int_result_stops (word_at (codes "f") 5) refl
+int_result_read : file_at 63 (ended_at int_result 14) ≡ Ok (int_tree, [])
+unfolding loop unary_at tests levels
+int_result_read = refl
+
+pub int_function : IsTree Spells (ended_at int_result 14) int_tree
+int_function = tree_found (ended_at int_result 14) [] int_tree (ends int_result 14 refl) int_result_read
 
 -- void f(void,long a){}: nothing stands beside `void`
 abbrev void_more : Text

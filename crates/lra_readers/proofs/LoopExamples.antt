@@ -1,6 +1,6 @@
 -- Trees and first faults of sources with loops, found by reading their tokens.
 use Rattle.std.proofs.Common.{◌≡◌, ℕ, ◌+◌, zero, suc, true, List, [], ◌∷◌, ◌++◌, codes, Some, None, Ok, Err, refl}
-use Rattle.lra_base.specs.declared.number_types.NumberType.TheVariants.{Long}
+use Rattle.lra_base.specs.declared.number_types.NumberType.TheVariants.{Int, Long}
 use Rattle.lra_base.specs.declared.refusals.Cause.TheVariants.{Syntax, TooDeep}
 use Rattle.lra_tree.specs.declared.tokens.Mark.TheVariants as mark
 use Rattle.lra_tree.specs.declared.tokens.Kind.TheVariants.{Name, Number, End}
@@ -28,7 +28,7 @@ ends T column e = record { front = T; last = token_at End column; parts = refl; 
 abbrev pub main_of : ItemsTree → ℕ → FileTree
 main_of body column =
     record {
-      parts = function (record { result_type = Some Long; name = record { word = codes "main"; place = in_line 5 }; parameters = []; body = body; end = in_line column }) ∷ [];
+      parts = function (record { result_type = Some Int; name = record { word = codes "main"; place = in_line 5 }; parameters = []; body = body; end = in_line column }) ∷ [];
       end = in_line (column + 1);
     }
 
@@ -36,7 +36,7 @@ abbrev x_at : ℕ → Identifier
 x_at column = record { word = codes "x"; place = in_line column }
 
 abbrev pub number : ℕ → ExprTree
-number n = term (unary (literal n))
+number n = term (unary (literal Int n))
 
 abbrev nonzero : ℕ → CondTree
 nonzero n = conjunction (test (value (number n)))
@@ -45,14 +45,14 @@ nonzero n = conjunction (test (value (number n)))
 
 -- int main(void){ while 1) ; }
 abbrev unopened : Text
-unopened = main_head (mark_token mark.While 17 ∷ token_at (Number 1) 23 ∷ mark_token mark.CloseParen 24 ∷ mark_token mark.Semicolon 26 ∷ mark_token mark.CloseBrace 28 ∷ [])
+unopened = main_head (mark_token mark.While 17 ∷ token_at (Number Int 1) 23 ∷ mark_token mark.CloseParen 24 ∷ mark_token mark.Semicolon 26 ∷ mark_token mark.CloseBrace 28 ∷ [])
 
 unopened_stops : file_at 63 (ended_at unopened 29) ≡ Err (record { cause = Syntax; left = 5 })
 unfolding loop unary_at tests levels
 unopened_stops = refl
 
 pub unopened_loop : IsTextFault Spells (ended_at unopened 29) Syntax (in_line 23)
-unopened_loop = text_fault (ended_at unopened 29) (record { cause = Syntax; left = 5 }) (ends unopened 29 refl) unopened_stops (token_at (Number 1) 23) refl
+unopened_loop = text_fault (ended_at unopened 29) (record { cause = Syntax; left = 5 }) (ends unopened 29 refl) unopened_stops (token_at (Number Int 1) 23) refl
 
 -- int main(void){ for(;;
 abbrev cut_off : Text
@@ -67,7 +67,7 @@ cut_off_head = text_fault (ended_at cut_off 23) (record { cause = Syntax; left =
 
 -- int main(void){ for(long i=0,;;) ; }: a comma asks for another name
 abbrev declares : Text
-declares = main_head (mark_token mark.For 17 ∷ mark_token mark.OpenParen 20 ∷ mark_token mark.Long 21 ∷ token_at (Name (codes "i")) 26 ∷ mark_token mark.Assign 27 ∷ token_at (Number 0) 28 ∷
+declares = main_head (mark_token mark.For 17 ∷ mark_token mark.OpenParen 20 ∷ mark_token mark.Long 21 ∷ token_at (Name (codes "i")) 26 ∷ mark_token mark.Assign 27 ∷ token_at (Number Int 0) 28 ∷
     mark_token mark.Comma 29 ∷ mark_token mark.Semicolon 30
     ∷ mark_token mark.Semicolon 31 ∷ mark_token mark.CloseParen 32 ∷ mark_token mark.Semicolon 34 ∷ mark_token mark.CloseBrace 36 ∷ [])
 
@@ -80,7 +80,7 @@ unfinished_declaration = text_fault (ended_at declares 37) (record { cause = Syn
 
 -- int main(void){ if(1) long i; }: a branch is a statement, and a declaration is none
 abbrev declared_branch : Text
-declared_branch = main_head (mark_token mark.If 17 ∷ mark_token mark.OpenParen 19 ∷ token_at (Number 1) 20 ∷ mark_token mark.CloseParen 21 ∷ mark_token mark.Long 23 ∷ token_at (Name (codes "i")) 28 ∷
+declared_branch = main_head (mark_token mark.If 17 ∷ mark_token mark.OpenParen 19 ∷ token_at (Number Int 1) 20 ∷ mark_token mark.CloseParen 21 ∷ mark_token mark.Long 23 ∷ token_at (Name (codes "i")) 28 ∷
     mark_token mark.Semicolon 29 ∷ mark_token mark.CloseBrace 31 ∷ [])
 
 declared_branch_stops : file_at 63 (ended_at declared_branch 32) ≡ Err (record { cause = Syntax; left = 5 })
@@ -92,7 +92,7 @@ declaration_as_branch = text_fault (ended_at declared_branch 32) (record { cause
 
 -- int main(void){ for(;;1) ; }: an expression is no step
 abbrev stepless : Text
-stepless = main_head (mark_token mark.For 17 ∷ mark_token mark.OpenParen 20 ∷ mark_token mark.Semicolon 21 ∷ mark_token mark.Semicolon 22 ∷ token_at (Number 1) 23 ∷ mark_token mark.CloseParen 24 ∷
+stepless = main_head (mark_token mark.For 17 ∷ mark_token mark.OpenParen 20 ∷ mark_token mark.Semicolon 21 ∷ mark_token mark.Semicolon 22 ∷ token_at (Number Int 1) 23 ∷ mark_token mark.CloseParen 24 ∷
     mark_token mark.Semicolon 26 ∷ mark_token mark.CloseBrace 28 ∷ [])
 
 stepless_stops : file_at 63 (ended_at stepless 29) ≡ Err (record { cause = Syntax; left = 5 })
@@ -100,11 +100,11 @@ unfolding loop unary_at tests levels
 stepless_stops = refl
 
 pub expression_as_step : IsTextFault Spells (ended_at stepless 29) Syntax (in_line 23)
-expression_as_step = text_fault (ended_at stepless 29) (record { cause = Syntax; left = 5 }) (ends stepless 29 refl) stepless_stops (token_at (Number 1) 23) refl
+expression_as_step = text_fault (ended_at stepless 29) (record { cause = Syntax; left = 5 }) (ends stepless 29 refl) stepless_stops (token_at (Number Int 1) 23) refl
 
 -- int main(void){ while(1) ; else ; }: no `if` is near
 abbrev lone_else : Text
-lone_else = main_head (mark_token mark.While 17 ∷ mark_token mark.OpenParen 22 ∷ token_at (Number 1) 23 ∷ mark_token mark.CloseParen 24 ∷ mark_token mark.Semicolon 26 ∷ mark_token mark.Else 28 ∷
+lone_else = main_head (mark_token mark.While 17 ∷ mark_token mark.OpenParen 22 ∷ token_at (Number Int 1) 23 ∷ mark_token mark.CloseParen 24 ∷ mark_token mark.Semicolon 26 ∷ mark_token mark.Else 28 ∷
     mark_token mark.Semicolon 33 ∷ mark_token mark.CloseBrace 35 ∷ [])
 
 lone_else_stops : file_at 63 (ended_at lone_else 36) ≡ Err (record { cause = Syntax; left = 4 })
@@ -118,7 +118,7 @@ else_behind_loop = text_fault (ended_at lone_else 36) (record { cause = Syntax; 
 
 -- int main(void){ break; return 2; }: where a `break` may stand is no matter of the grammar
 abbrev jumps : Text
-jumps = main_head (mark_token mark.Break 17 ∷ mark_token mark.Semicolon 22 ∷ mark_token mark.Return 24 ∷ token_at (Number 2) 31 ∷ mark_token mark.Semicolon 32 ∷ mark_token mark.CloseBrace 34 ∷ [])
+jumps = main_head (mark_token mark.Break 17 ∷ mark_token mark.Semicolon 22 ∷ mark_token mark.Return 24 ∷ token_at (Number Int 2) 31 ∷ mark_token mark.Semicolon 32 ∷ mark_token mark.CloseBrace 34 ∷ [])
 
 abbrev jumps_tree : FileTree
 jumps_tree = main_of (statement (break (in_line 17)) (statement (return (in_line 24) (Some (expression (number 2)))) no_items)) 34
@@ -154,8 +154,8 @@ inner_found = tree_found (ended_at inner 54) [] inner_tree (ends inner 54 refl) 
 
 -- int main(void){ for(x=0;x<9;++x) continue; return; }
 abbrev whole_for : Text
-whole_for = main_head (mark_token mark.For 17 ∷ mark_token mark.OpenParen 20 ∷ token_at (Name (codes "x")) 21 ∷ mark_token mark.Assign 22 ∷ token_at (Number 0) 23 ∷ mark_token mark.Semicolon 24 ∷
-    token_at (Name (codes "x")) 25 ∷ mark_token mark.Less 26 ∷ token_at (Number 9) 27
+whole_for = main_head (mark_token mark.For 17 ∷ mark_token mark.OpenParen 20 ∷ token_at (Name (codes "x")) 21 ∷ mark_token mark.Assign 22 ∷ token_at (Number Int 0) 23 ∷ mark_token mark.Semicolon 24 ∷
+    token_at (Name (codes "x")) 25 ∷ mark_token mark.Less 26 ∷ token_at (Number Int 9) 27
     ∷ mark_token mark.Semicolon 28 ∷ mark_token mark.Increment 29 ∷ token_at (Name (codes "x")) 31 ∷ mark_token mark.CloseParen 32 ∷ mark_token mark.Continue 34 ∷ mark_token mark.Semicolon 42 ∷
     mark_token mark.Return 44 ∷ mark_token mark.Semicolon 50 ∷ mark_token mark.CloseBrace 52 ∷ [])
 
@@ -173,10 +173,10 @@ whole_for_found = tree_found (ended_at whole_for 53) [] whole_for_tree (ends who
 
 -- int main(void){ if(1) while(2) for(;;) if(3) ; else ; }: the `else` belongs to the nearest `if`
 abbrev nearest : Text
-nearest = main_head (mark_token mark.If 17 ∷ mark_token mark.OpenParen 19 ∷ token_at (Number 1) 20 ∷ mark_token mark.CloseParen 21 ∷ mark_token mark.While 23 ∷ mark_token mark.OpenParen 28 ∷
-    token_at (Number 2) 29 ∷ mark_token mark.CloseParen 30
+nearest = main_head (mark_token mark.If 17 ∷ mark_token mark.OpenParen 19 ∷ token_at (Number Int 1) 20 ∷ mark_token mark.CloseParen 21 ∷ mark_token mark.While 23 ∷ mark_token mark.OpenParen 28 ∷
+    token_at (Number Int 2) 29 ∷ mark_token mark.CloseParen 30
     ∷ mark_token mark.For 32 ∷ mark_token mark.OpenParen 35 ∷ mark_token mark.Semicolon 36 ∷ mark_token mark.Semicolon 37 ∷ mark_token mark.CloseParen 38 ∷ mark_token mark.If 40 ∷
-    mark_token mark.OpenParen 42 ∷ token_at (Number 3) 43 ∷ mark_token mark.CloseParen 44
+    mark_token mark.OpenParen 42 ∷ token_at (Number Int 3) 43 ∷ mark_token mark.CloseParen 44
     ∷ mark_token mark.Semicolon 46 ∷ mark_token mark.Else 48 ∷ mark_token mark.Semicolon 53 ∷ mark_token mark.CloseBrace 55 ∷ [])
 
 abbrev nearest_tree : FileTree
@@ -192,9 +192,9 @@ nearest_found = tree_found (ended_at nearest 56) [] nearest_tree (ends nearest 5
 
 -- int main(void){ if(1) { while(2) if(3) ; } else ; }: braces leave the `else` to the outer `if`
 abbrev braced : Text
-braced = main_head (mark_token mark.If 17 ∷ mark_token mark.OpenParen 19 ∷ token_at (Number 1) 20 ∷ mark_token mark.CloseParen 21 ∷ mark_token mark.OpenBrace 23
-    ∷ mark_token mark.While 25 ∷ mark_token mark.OpenParen 30 ∷ token_at (Number 2) 31 ∷ mark_token mark.CloseParen 32
-    ∷ mark_token mark.If 34 ∷ mark_token mark.OpenParen 36 ∷ token_at (Number 3) 37 ∷ mark_token mark.CloseParen 38 ∷ mark_token mark.Semicolon 40
+braced = main_head (mark_token mark.If 17 ∷ mark_token mark.OpenParen 19 ∷ token_at (Number Int 1) 20 ∷ mark_token mark.CloseParen 21 ∷ mark_token mark.OpenBrace 23
+    ∷ mark_token mark.While 25 ∷ mark_token mark.OpenParen 30 ∷ token_at (Number Int 2) 31 ∷ mark_token mark.CloseParen 32
+    ∷ mark_token mark.If 34 ∷ mark_token mark.OpenParen 36 ∷ token_at (Number Int 3) 37 ∷ mark_token mark.CloseParen 38 ∷ mark_token mark.Semicolon 40
     ∷ mark_token mark.CloseBrace 42 ∷ mark_token mark.Else 44 ∷ mark_token mark.Semicolon 49 ∷ mark_token mark.CloseBrace 51 ∷ [])
 
 abbrev braced_tree : FileTree

@@ -63,7 +63,7 @@ same_mark m k e = same_true the_type tt m k (same_is m k ∙ e)
 
 pub is_kind_mark : (m : Mark) (k : Kind) → is_kind m k ≡ true → k ≡ MarkOf m
 is_kind_mark m (Name w) e = absurd cc
-is_kind_mark m (Number n) e = absurd cc
+is_kind_mark m (Number t n) e = absurd cc
 is_kind_mark m (MarkOf k) e = ap MarkOf (same_mark k m e)
 is_kind_mark m Reserved e = absurd cc
 is_kind_mark m Unclosed e = absurd cc

@@ -1,6 +1,6 @@
 -- Trees and first faults of sources with prototypes, found by reading their tokens.
 use Rattle.std.proofs.Common.{◌≡◌, [], ◌∷◌, codes, Some, Ok, Err, refl}
-use Rattle.lra_base.specs.declared.number_types.NumberType.TheVariants.{Long}
+use Rattle.lra_base.specs.declared.number_types.NumberType.TheVariants.{Int}
 use Rattle.lra_base.specs.declared.refusals.Cause.TheVariants.{Syntax}
 use Rattle.lra_tree.specs.declared.tokens.Mark.TheVariants as mark
 use Rattle.lra_tree.specs.Faults.{IsTree, IsTextFault}
@@ -26,7 +26,7 @@ declared = mark_token mark.Extern 1 ∷ mark_token mark.Long 8 ∷ word_at (code
 
 abbrev declared_tree : FileTree
 declared_tree = record {
-  parts = prototype ∷ prototype ∷ function (record { result_type = Some Long; name = named_at (codes "main") 52; parameters = []; body = no_items; end = in_line 59 }) ∷ [];
+  parts = prototype ∷ prototype ∷ function (record { result_type = Some Int; name = named_at (codes "main") 52; parameters = []; body = no_items; end = in_line 59 }) ∷ [];
   end = in_line 60;
 }
 

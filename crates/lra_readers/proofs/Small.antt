@@ -1,5 +1,8 @@
--- What is left of tokens whose numbers are small has small numbers.
-use Rattle.std.proofs.Common.{◌≡◌, ℕ, ◌<◌, [], ◌∷◌, ◌++◌, Option, Some, Ok, refl, sym, subst, arith}
+-- What is left of tokens whose numbers are those of their types has such numbers.
+use Rattle.std.proofs.Common.{◌≡◌, ℕ, ◌<◌, [], ◌∷◌, ◌++◌, Option, Some, Ok, refl, sym, subst, arith, pos, IsTrue}
+use Rattle.lra_base.specs.declared.refusals.Place.{Place}
+use Rattle.lra_base.specs.NumberTypes.{fits}
+use Rattle.lra_base.proofs.TypeLimits.{natural_limit}
 use Rattle.lra_tree.specs.declared.tokens.Mark.{Mark}
 use Rattle.lra_tree.specs.declared.tokens.Kind.{Kind}
 use Rattle.lra_tree.specs.declared.tokens.Kind.TheVariants.{Name, Number, Mark as MarkOf, Reserved, Unclosed, End}
@@ -9,7 +12,7 @@ use Rattle.lra_tree.specs.Texts.{Pieces, plain}
 use Rattle.lra_tree.specs.Trees.{GlobalTree, PartTree}
 use Rattle.lra_readers.specs.declared.lead.Lead.{Lead}
 use Rattle.lra_readers.specs.Tests.{first}
-use Rattle.lra_readers.specs.Reading.{Text, Parse, tail, expect, take_by, number_of, next_number, next_name}
+use Rattle.lra_readers.specs.Reading.{Text, Parse, tail, expect, take_by, Literal, literal_of, next_literal, next_name}
 use Rattle.lra_readers.specs.Files.{IsSmallKind, AreSmall, value_at, global_at, read_lead, part_at}
 use Rattle.lra_readers.proofs.Exact.{Exact}
 use Rattle.lra_readers.proofs.Tokens.{exact_name, exact_expect}
@@ -48,14 +51,22 @@ small_lead T R l e h = small_behind (exact_lead 0) T R l tt e h
 pub small_part : (T R : Text) (p : PartTree) → part_at 63 T ≡ Ok (p, R) → AreSmall T → AreSmall R
 small_part T R p e h = small_behind (exact_part 64 63 refl) T R p tt e h
 
-small_kind : (k : Kind) (n : ℕ) → IsSmallKind k → Some n ≡ number_of k → n < 9223372036854775808
-small_kind (Name w) n h e = absurd cc
-small_kind (Number i) n h e = let f : i ≡ n = cc in subst (λ (j : ℕ). j < 9223372036854775808) f h
-small_kind (MarkOf m) n h e = absurd cc
-small_kind Reserved n h e = absurd cc
-small_kind Unclosed n h e = absurd cc
-small_kind End n h e = absurd cc
+abbrev Fits : Literal → Type 0
+Fits l = IsTrue (fits l.number_type (pos l.value))
 
-pub small_next : (T : Text) (n : ℕ) → AreSmall T → Some n ≡ next_number (first T) → n < 9223372036854775808
-small_next [] n h e = absurd cc
-small_next (t ∷ T) n h e = small_kind t.kind n h.0 e
+small_kind : (k : Kind) (at : Place) (l : Literal) → IsSmallKind k → Some l ≡ literal_of k at → Fits l
+small_kind (Name w) at l h e = absurd cc
+small_kind (Number t n) at l h e = let f : record { number_type = t; value = n; place = at } ≡ l = cc in subst Fits f h
+small_kind (MarkOf m) at l h e = absurd cc
+small_kind Reserved at l h e = absurd cc
+small_kind Unclosed at l h e = absurd cc
+small_kind End at l h e = absurd cc
+
+-- the next literal is one of its type
+pub small_next : (T : Text) (l : Literal) → AreSmall T → Some l ≡ next_literal (first T) → Fits l
+small_next [] l h e = absurd cc
+small_next (t ∷ T) l h e = small_kind t.kind t.place l h.0 e
+
+-- and its value one of 64 bits
+pub small_limit : (T : Text) (l : Literal) → AreSmall T → Some l ≡ next_literal (first T) → l.value < 9223372036854775808
+small_limit T l h e = natural_limit l.number_type l.value (small_next T l h e)

@@ -1,5 +1,6 @@
 -- Exact readers of single tokens.
 use Rattle.std.proofs.Common.{◌≡◌, ℕ, ◌≤◌, Bool, true, false, cond, List, [], ◌∷◌, Option, Some, None, Ok, refl, sym, ap, subst, ◌∙◌, arith, inl, inr}
+use Rattle.lra_base.specs.declared.number_types.NumberType.TheVariants.{Int}
 use Rattle.lra_base.specs.declared.refusals.Place.{Place}
 use Rattle.lra_base.specs.declared.refusals.Cause.TheVariants.{Syntax}
 use Rattle.lra_tree.specs.declared.tokens.Mark.{Mark}
@@ -7,9 +8,9 @@ use Rattle.lra_tree.specs.declared.tokens.Kind.{Kind}
 use Rattle.lra_tree.specs.declared.tokens.Kind.TheVariants.{Name, Number, Mark as MarkOf, Reserved, Unclosed, End}
 use Rattle.lra_tree.specs.declared.tokens.Token.{Token}
 use Rattle.lra_tree.specs.declared.trees.Identifier.{Identifier}
-use Rattle.lra_tree.specs.Texts.{opens, opens_at, mark, name, number}
+use Rattle.lra_tree.specs.Texts.{Texts, opens, opens_at, mark, name, number_at}
 use Rattle.lra_readers.specs.Tests.{first, is_mark}
-use Rattle.lra_readers.specs.Reading.{Text, stop, tail, expect, expect_at, place_of, take_by, taken, next_name, identifier_of, next_number, number_of, one_of}
+use Rattle.lra_readers.specs.Reading.{Text, stop, tail, expect, expect_at, place_of, take_by, taken, next_name, identifier_of, Literal, next_literal, literal_of, one_of}
 use Rattle.lra_readers.proofs.Marks.{is_mark_some, is_mark_self}
 use Rattle.lra_readers.proofs.Exact.{Exact, Any, Free, test}
 use Rattle.lra_readers.proofs.Forms.{retell, same_where, exact_take}
@@ -71,11 +72,11 @@ module _ (n : ℕ) (m : Mark) (o : ℕ) (low : o ≤ n) where
       (is_mark_some m s.0 k.0 ∙ ap (λ (at : Place). record { kind = MarkOf m; place = at }) k.1))
       (λ b z s. (record { kind = MarkOf m; place = b }, s, rw (is_mark_self m (record { kind = MarkOf m; place = b }) refl) refl))
 
--- names and numbers ------------------------------------------------------------------------------------------------
+-- names and literals -----------------------------------------------------------------------------------------------
 
 pub name_is : (k : Kind) (at : Place) (x : Identifier) → identifier_of k at ≡ Some x → (k ≡ Name x.word) × (at ≡ x.place)
 name_is (Name w) at x e = let f : record { word = w; place = at } ≡ x = cc in (ap (λ (i : Identifier). Name i.word) f, ap (λ (i : Identifier). i.place) f)
-name_is (Number n) at x e = absurd cc
+name_is (Number t n) at x e = absurd cc
 name_is (MarkOf m) at x e = absurd cc
 name_is Reserved at x e = absurd cc
 name_is Unclosed at x e = absurd cc
@@ -100,21 +101,31 @@ exact_name n o low =
     (λ x z s. let k = name_is s.0.kind s.0.place x s.2 in s.1 ∙ ap (λ (t : Token). (t, o) ∷ []) (token_is s.0 (Name x.word) x.place k.0 k.1))
     (λ x z s. (record { kind = Name x.word; place = x.place }, s, refl))
 
-number_is : (k : Kind) (i : ℕ) → number_of k ≡ Some i → k ≡ Number i
-number_is (Name w) i e = absurd cc
-number_is (Number n) i e = ap Number cc
-number_is (MarkOf m) i e = absurd cc
-number_is Reserved i e = absurd cc
-number_is Unclosed i e = absurd cc
-number_is End i e = absurd cc
+literal_is : (k : Kind) (at : Place) (l : Literal) → literal_of k at ≡ Some l → (k ≡ Number l.number_type l.value) × (at ≡ l.place)
+literal_is (Name w) at l e = absurd cc
+literal_is (Number t n) at l e =
+    let f : record { number_type = t; value = n; place = at } ≡ l = cc in
+    (ap (λ (i : Literal). Number i.number_type i.value) f, ap (λ (i : Literal). i.place) f)
+literal_is (MarkOf m) at l e = absurd cc
+literal_is Reserved at l e = absurd cc
+literal_is Unclosed at l e = absurd cc
+literal_is End at l e = absurd cc
 
-pub exact_number : (n : ℕ) → Exact n IsInner (take_by next_number) Any (λ i z. number i z) (λ i z. number i z) Free
-exact_number n =
-    let t = exact_take n IsInner next_number 0 (omega arith) refl (λ t i e. λ f. let k = number_is t.kind i e in let g : Number i ≡ End = sym k ∙ f in cc)
-    0 (record { kind = Number 0; place = some_place }) refl in
-    retell t (λ i z. number i z)
-    (λ i z s. (s.0.place, s.1 ∙ ap (λ (t : Token). (t, 0) ∷ []) (token_is s.0 (Number i) s.0.place (number_is s.0.kind i s.2) refl)))
-    (λ i z s. (record { kind = Number i; place = s.0 }, s.1, refl))
+-- a literal that stands for any
+abbrev pub some_literal : Literal
+some_literal = record { number_type = Int; value = 0; place = some_place }
+
+abbrev pub LiteralText : Literal → Texts
+LiteralText l z = number_at l.number_type l.value l.place z
+
+pub exact_literal : (n : ℕ) → Exact n IsInner (take_by next_literal) Any LiteralText LiteralText Free
+exact_literal n =
+    let t = exact_take n IsInner next_literal 0 (omega arith) refl
+    (λ t l e. λ f. let k = (literal_is t.kind t.place l e).0 in let g : Number l.number_type l.value ≡ End = sym k ∙ f in cc)
+    some_literal (record { kind = Number Int 0; place = some_place }) refl in
+    retell t LiteralText
+    (λ l z s. let k = literal_is s.0.kind s.0.place l s.2 in s.1 ∙ ap (λ (t : Token). (t, 0) ∷ []) (token_is s.0 (Number l.number_type l.value) l.place k.0 k.1))
+    (λ l z s. (record { kind = Number l.number_type l.value; place = l.place }, s, refl))
 
 -- tables of operators ----------------------------------------------------------------------------------------------
 

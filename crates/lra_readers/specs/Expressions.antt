@@ -17,7 +17,8 @@ use Rattle.lra_tree.specs.Trees.{or}
 use Rattle.lra_tree.specs.Views.{further_factor, further_term}
 use Rattle.lra_base.specs.OperatorViews.{comparison_view}
 use Rattle.lra_readers.specs.Tests.{first}
-use Rattle.lra_readers.specs.Reading.{Parse, stop, seq, map_read, done_with, expect, take_by, next_name, next_number}
+use Rattle.lra_readers.specs.Reading.{Parse, stop, seq, map_read, done_with, expect, take_by, next_name, Literal}
+use Rattle.lra_readers.specs.Reading.{next_literal}
 use Rattle.lra_readers.specs.Reading.{has}
 use Rattle.lra_readers.specs.Reading.{one_of, chain, chain_rest}
 
@@ -89,8 +90,11 @@ unary_marks = (mark.Minus, at_minus) ∷ (mark.Plus, at_plus) ∷ (mark.OpenPare
 abbrev pub unary_mark : Option Token → Option UnaryMark
 unary_mark o = one_of unary_marks o
 
+abbrev pub literal_tree : Literal → UnaryTree
+literal_tree l = literal l.number_type l.value
+
 abbrev pub read_literal : Parse UnaryTree
-read_literal = map_read literal (take_by next_number)
+read_literal = map_read literal_tree (take_by next_literal)
 
 abbrev pub read_variable : Parse UnaryTree
 read_variable = map_read variable (take_by next_name)
@@ -99,7 +103,7 @@ abbrev pub read_input : Parse UnaryTree
 read_input = behind mark.Input (behind mark.OpenParen (expect mark.CloseParen input))
 
 abbrev pub atom : Parse UnaryTree
-atom T = cond (has (next_number (first T))) (read_literal T) (read_variable T)
+atom T = cond (has (next_literal (first T))) (read_literal T) (read_variable T)
 
 -- the forms of a unary
 abbrev pub unary_form : Parse UnaryTree → Parse UnaryTree → Parse UnaryTree → Option UnaryMark → Parse UnaryTree

@@ -1,9 +1,9 @@
 -- The reader of a whole file, and the shape of the lists of tokens that are read.
-use Rattle.std.specs.Prelude.{◌≡◌, ◌≢◌, ℕ, ◌<◌, ℤ, pos, neg_ℤ, ⊤, Bool, true, false, cond, bytes_eq, codes, List, []}
+use Rattle.std.specs.Prelude.{◌≡◌, ◌≢◌, ℕ, pos, neg_ℤ, ⊤, Bool, true, false, cond, List, [], IsTrue}
 use Rattle.std.specs.Prelude.{◌∷◌, ◌++◌, Option, Some, None, option_map, Result, Ok, Err}
 use Rattle.std.specs.List.{AllByRecursion}
 use Rattle.lra_base.specs.declared.number_types.NumberType.{NumberType}
-use Rattle.lra_base.specs.declared.number_types.NumberType.TheVariants.{Long}
+use Rattle.lra_base.specs.NumberTypes.{fits}
 use Rattle.lra_base.specs.declared.refusals.Place.{Place}
 use Rattle.lra_base.specs.declared.refusals.Cause.TheVariants.{Syntax}
 use Rattle.lra_tree.specs.declared.tokens.Mark.{Mark}
@@ -13,11 +13,13 @@ use Rattle.lra_tree.specs.declared.tokens.Kind.TheVariants.{Name, Number, Mark a
 use Rattle.lra_tree.specs.declared.tokens.Token.{Token}
 use Rattle.lra_tree.specs.declared.trees.Identifier.{Identifier}
 use Rattle.lra_tree.specs.declared.trees.Parameter.{Parameter}
+use Rattle.lra_tree.specs.declared.trees.SignedLiteral.{SignedLiteral}
 use Rattle.lra_tree.specs.Trees.{ItemsTree, FunctionTree, GlobalTree, PartTree, prototype, globals, function, FileTree}
 use Rattle.lra_readers.specs.declared.lead.Lead.{Lead}
 use Rattle.lra_readers.specs.declared.lead.Lead.TheVariants as lead
 use Rattle.lra_readers.specs.Tests.{first, is_mark}
-use Rattle.lra_readers.specs.Reading.{Parse, stop, seq, map_read, done_with, expect, take_by, next_name, next_number}
+use Rattle.lra_readers.specs.Reading.{Parse, stop, seq, map_read, done_with, expect, take_by, next_name, Literal}
+use Rattle.lra_readers.specs.Reading.{next_literal}
 use Rattle.lra_readers.specs.Reading.{has}
 use Rattle.lra_readers.specs.Reading.{one_of, list_of}
 use Rattle.lra_readers.specs.Expressions.{behind, ended}
@@ -31,10 +33,10 @@ pub record EndsOnce (tokens : List Token) : Type 0 where
   pub is_end : last.kind ≡ End
   pub no_other : AllByRecursion (λ (t : Token). t.kind ≢ End) front
 
--- each number has 64 bits with its sign or without it
+-- each number is one of its type; with a sign, too, one of 64 bits
 abbrev pub IsSmallKind : Kind → Type 0
 IsSmallKind (Name w) = ⊤
-IsSmallKind (Number n) = n < 9223372036854775808
+IsSmallKind (Number t n) = IsTrue (fits t (pos n))
 IsSmallKind (MarkOf m) = ⊤
 IsSmallKind Reserved = ⊤
 IsSmallKind Unclosed = ⊤
@@ -45,22 +47,13 @@ AreSmall tokens = AllByRecursion (λ (t : Token). IsSmallKind t.kind) tokens
 
 -- what a part begins with -------------------------------------------------------------------------------------------
 
-abbrev pub is_main : Option Identifier → Option Identifier
-is_main None = None
-is_main (Some x) = cond (bytes_eq x.word (codes "main")) (Some x) None
-
--- the name `main`
-abbrev pub next_main : Option Token → Option Identifier
-next_main o = is_main (next_name o)
-
 -- the words that a part begins with, `extern` aside
 pub data HeadMark : Type 0 where
-  at_int : HeadMark
   at_type : HeadMark
   at_void : HeadMark
 
 abbrev pub head_marks : List (Mark × HeadMark)
-head_marks = (mark.Int, at_int) ∷ (mark.Long, at_type) ∷ (mark.Void, at_void) ∷ []
+head_marks = (mark.Int, at_type) ∷ (mark.Long, at_type) ∷ (mark.Void, at_void) ∷ []
 
 abbrev pub head_mark : Option Token → Option HeadMark
 head_mark o = one_of head_marks o
@@ -87,7 +80,6 @@ lead_behind t T = cond (has (next_built_in (first T))) (map_read (λ w. lead.Bar
     (map_read (named t) (take_by next_name) T)
 
 abbrev pub lead_form : Option HeadMark → Parse Lead
-lead_form (Some at_int) = behind mark.Int (map_read lead.Main (take_by next_main))
 lead_form (Some at_type) = seq type_words (λ t. lead_behind (Some t))
 lead_form (Some at_void) = behind mark.Void (lead_behind None)
 lead_form None = stop Syntax
@@ -163,15 +155,18 @@ signature_at d h = behind mark.OpenParen (seq parameters_at (λ ps. ending d (si
 
 -- globals -----------------------------------------------------------------------------------------------------------
 
-abbrev pub opposite : ℕ → ℤ
-opposite n = neg_ℤ (pos n)
+abbrev pub positive : Literal → SignedLiteral
+positive l = record { value = pos l.value; place = l.place }
 
--- a literal with or without a sign
-abbrev pub signed_at : Parse ℤ
-signed_at T = cond (is_mark mark.Minus (first T)) (behind mark.Minus (map_read opposite (take_by next_number)) T)
-    (map_read pos (take_by next_number) T)
+abbrev pub negative : Literal → SignedLiteral
+negative l = record { value = neg_ℤ (pos l.value); place = l.place }
 
-abbrev pub with_value : Identifier → ℤ → GlobalTree
+-- a literal of any type, with or without a sign
+abbrev pub signed_at : Parse SignedLiteral
+signed_at T = cond (is_mark mark.Minus (first T)) (behind mark.Minus (map_read negative (take_by next_literal)) T)
+    (map_read positive (take_by next_literal) T)
+
+abbrev pub with_value : Identifier → SignedLiteral → GlobalTree
 with_value x v = record { name = x; value = Some v }
 
 abbrev pub without_value : Identifier → GlobalTree
@@ -196,7 +191,6 @@ globals_at t x = map_read (globals_of t) (ended mark.Semicolon (commas_from (val
 
 -- what a part may go on as: with a name behind a type as a function or as globals, else with this head of a signature
 abbrev pub split_lead : Lead → Result (NumberType × Identifier) (Option Heading)
-split_lead (lead.Main x) = Err (Some (Some Long, x))
 split_lead (lead.Typed t x) = Ok (t, x)
 split_lead (lead.Void x) = Err (Some (None, x))
 split_lead lead.Bare = Err None
@@ -220,7 +214,7 @@ parts_at d = list_of begins_part (part_at d)
 
 abbrev pub end_of : Kind → Place → Option Place
 end_of (Name w) at = None
-end_of (Number n) at = None
+end_of (Number t n) at = None
 end_of (MarkOf m) at = None
 end_of Reserved at = None
 end_of Unclosed at = None

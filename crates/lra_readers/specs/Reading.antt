@@ -10,6 +10,7 @@ use Rattle.lra_tree.specs.declared.tokens.Kind.{Kind}
 use Rattle.lra_tree.specs.declared.tokens.Kind.TheVariants.{Name, Number, Mark as MarkOf, Reserved, Unclosed, End}
 use Rattle.lra_tree.specs.declared.trees.Identifier.{Identifier}
 use Rattle.lra_readers.specs.declared.reading.Fault.{Fault}
+pub use Rattle.lra_readers.specs.declared.reading.Literal.{Literal}
 use Rattle.lra_readers.specs.declared.reading.Stopped.{Stopped}
 use Rattle.lra_readers.specs.declared.reading.Stopped.TheVariants as stopped
 use Rattle.lra_readers.specs.Tests.{first, is_mark}
@@ -70,7 +71,7 @@ expect_at m T = cond (is_mark m (first T)) (Ok (place_of (first T), tail T)) (st
 
 abbrev pub identifier_of : Kind → Place → Option Identifier
 identifier_of (Name w) at = Some (record { word = w; place = at })
-identifier_of (Number n) at = None
+identifier_of (Number t n) at = None
 identifier_of (MarkOf m) at = None
 identifier_of Reserved at = None
 identifier_of Unclosed at = None
@@ -80,17 +81,17 @@ abbrev pub next_name : Option Token → Option Identifier
 next_name None = None
 next_name (Some t) = identifier_of t.kind t.place
 
-abbrev pub number_of : Kind → Option ℕ
-number_of (Name w) = None
-number_of (Number n) = Some n
-number_of (MarkOf m) = None
-number_of Reserved = None
-number_of Unclosed = None
-number_of End = None
+abbrev pub literal_of : Kind → Place → Option Literal
+literal_of (Name w) at = None
+literal_of (Number t n) at = Some (record { number_type = t; value = n; place = at })
+literal_of (MarkOf m) at = None
+literal_of Reserved at = None
+literal_of Unclosed at = None
+literal_of End at = None
 
-abbrev pub next_number : Option Token → Option ℕ
-next_number None = None
-next_number (Some t) = number_of t.kind
+abbrev pub next_literal : Option Token → Option Literal
+next_literal None = None
+next_literal (Some t) = literal_of t.kind t.place
 
 -- what the next token has, or a syntax fault there
 abbrev pub taken : {A : Type 0} → Option A → Parse A

@@ -2,7 +2,7 @@
 use Rattle.std.specs.Prelude.{ℕ, zero, suc, Bool, true, cond, ◌||◌, List, [], ◌∷◌, Option, Some, None, Ok}
 use Rattle.std.specs.Prelude.{option_map}
 use Rattle.lra_base.specs.declared.number_types.NumberType.{NumberType}
-use Rattle.lra_base.specs.declared.number_types.NumberType.TheVariants.{Long}
+use Rattle.lra_base.specs.declared.number_types.NumberType.TheVariants.{Int, Long}
 use Rattle.lra_base.specs.declared.refusals.Place.{Place}
 use Rattle.lra_base.specs.declared.refusals.Cause.TheVariants.{Syntax, TooDeep}
 use Rattle.lra_tree.specs.declared.tokens.Mark.{Mark}
@@ -99,9 +99,14 @@ assign_at d T = cond (has (next_step (first T))) (step_first T) (seq (take_by ne
 
 -- declarations -----------------------------------------------------------------------------------------------------
 
--- `long`, `long long`, `long int`, `long long int`
+-- the words with which types begin
+abbrev pub begins_type : Option Token → Bool
+begins_type o = is_mark mark.Int o || is_mark mark.Long o
+
+-- `int`; `long`, `long long`, `long int`, `long long int`
 abbrev pub type_words : Parse NumberType
-type_words = seq (expect mark.Long (tt {0})) (λ _ T. Ok (Long, skip mark.Int (skip mark.Long T)))
+type_words T = cond (is_mark mark.Int (first T)) (expect mark.Int Int T)
+    (seq (expect mark.Long (tt {0})) (λ _ T. Ok (Long, skip mark.Int (skip mark.Long T))) T)
 
 -- behind the name of the variable
 abbrev pub declared_value : ℕ → Identifier → Parse DeclaratorTree
@@ -170,7 +175,7 @@ init_of (Some a) = assigned a
 
 -- what a loop begins with, and the semicolon behind it
 abbrev pub init_at : ℕ → Parse InitTree
-init_at d T = cond (is_mark mark.Long (first T)) (map_read declared_first (declaration_at d) T)
+init_at d T = cond (begins_type (first T)) (map_read declared_first (declaration_at d) T)
     (map_read init_of (up_to mark.Semicolon (assign_at d)) T)
 
 -- the parentheses of a `for`: its beginning, its test and its step
@@ -239,14 +244,14 @@ items_from [] = no_items
 items_from (i ∷ is) = put i (items_from is)
 
 abbrev pub begins_item : Option Token → Bool
-begins_item o = begins_stmt o || is_mark mark.Long o
+begins_item o = begins_stmt o || begins_type o
 
 abbrev pub stated_of : Parse StmtTree → Parse StmtTree → Parse StmtTree
 stated_of simple inner T = cond (is_mark mark.OpenBrace (first T)) (inner T) (simple T)
 
 -- inner reads a block
 abbrev pub item_of : ℕ → Parse StmtTree → Parse StmtTree → Parse ItemTree
-item_of d simple inner T = cond (is_mark mark.Long (first T)) (map_read declared (declaration_at d) T)
+item_of d simple inner T = cond (begins_type (first T)) (map_read declared (declaration_at d) T)
     (map_read stated (stated_of simple inner) T)
 
 abbrev pub items_of : ℕ → Parse StmtTree → Parse StmtTree → Parse (List ItemTree)

@@ -53,7 +53,7 @@ mark_number mark.While = 41
 
 abbrev pub is_kind : Mark → Kind → Bool
 is_kind m (Name word) = false
-is_kind m (Number n) = false
+is_kind m (Number t n) = false
 is_kind m (MarkOf k) = nat_eq (mark_number k) (mark_number m)
 is_kind m Reserved = false
 is_kind m Unclosed = false

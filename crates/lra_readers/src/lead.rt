@@ -8,8 +8,6 @@ use lra_tree::Identifier;
 
 /// What a part begins with.
 pub enum Lead {
-    /// `int main`.
-    Main(Identifier),
     /// A type and a name.
     Typed(NumberType, Identifier),
     /// `void` and a name.
@@ -21,7 +19,6 @@ pub enum Lead {
 impl Drop for Lead {
     fn drop(self) {
         match self {
-            Lead::Main(_) => {}
             Lead::Typed(_, _) => {}
             Lead::Void(_) => {}
             Lead::Bare => {}
@@ -36,7 +33,6 @@ impl Lead {
         ensures { result ≡ split_lead self }
     {
         match self {
-            Lead::Main(name) => Err(Some((Some(NumberType::Long), name))),
             Lead::Typed(number_type, name) => Ok((number_type, name)),
             Lead::Void(name) => Err(Some((None, name))),
             Lead::Bare => Err(None),

@@ -2,9 +2,9 @@
 
 ghost use Rattle.std.specs.Prelude.{◌≡◌, ℕ, ◌<◌, ◌≤◌, [], ◌∷◌, ◌++◌, length, IfOk};
 ghost use Rattle.lra_readers.specs.Tests.{is_mark, first};
-ghost use Rattle.lra_readers.specs.Reading.{Gives, expect, expect_at, has, next_name, next_number, tail, take_by};
+ghost use Rattle.lra_readers.specs.Reading.{Gives, expect, expect_at, has, next_name, next_literal, tail, take_by};
 
-use lra_base::{Cause, Place};
+use lra_base::{Cause, NumberType, Place};
 use lra_tree::{Identifier, Kind, Mark, Token};
 use std::alloc::{AllocError, AllocFailed, Global};
 
@@ -100,13 +100,25 @@ pub fn expect_at(rest: &[Token], mark: Mark) -> Result<(Place, &[Token]), Stoppe
     }
 }
 
-/// The value of the next token, if it is a literal.
-pub fn next_number(rest: &[Token]) -> Option<u64>
-    ensures { result ≡ next_number (first rest.now) }
+/// A literal with its type and its place.
+#[derive(Clone, Copy, PartialEq, Eq, Debug)]
+pub struct Literal {
+    pub number_type: NumberType,
+    pub value: u64,
+    pub place: Place,
+}
+
+/// The next token, if it is a literal.
+pub fn next_literal(rest: &[Token]) -> Option<Literal>
+    ensures { result ≡ next_literal (first rest.now) }
 {
     match rest.first() {
         Some(token) => match &token.kind {
-            Kind::Number(value) => Some(*value),
+            Kind::Number(number_type, value) => Some(Literal {
+                number_type: *number_type,
+                value: *value,
+                place: token.place,
+            }),
             _ => None,
         },
         None => None,

@@ -1,5 +1,6 @@
 -- The tokens of a line of a sample source are the longest at their places, and its bytes are those of the source.
 use Rattle.std.proofs.Common.{◌≡◌, ℕ, false, List, [], ◌∷◌, ◌++◌, refl, append_assoc}
+use Rattle.lra_base.specs.declared.number_types.NumberType.TheVariants.{Int}
 use Rattle.lra_tree.specs.declared.tokens.Kind.TheVariants.{Number}
 use Rattle.lra_tree.specs.declared.tokens.Mark.TheVariants as mark
 use Rattle.lra_tree.specs.Lexeme.{is_word_byte}
@@ -12,7 +13,7 @@ use Rattle.lra_sample.proofs.Numerals.{word_ends, zero_good, one_good, is_name}
 use Rattle.lra_sample.proofs.Lines.{Line, items_as}
 
 is_constant : (l : Line) (c : ℕ) {cs : List ℕ} → is_word_byte c ≡ false →
-    IsRead l.head l.tail (Number l.value) 0 (c ∷ cs)
+    IsRead l.head l.tail (Number Int l.value) 0 (c ∷ cs)
 is_constant l c e = as_read l.good (word_ends l.head l.digit.only l.tail c e) refl
 
 pub line_read : (k : Kind) (l : Line) (xs : List Item) → AreRead xs → AreRead (items_as k l ++ xs)

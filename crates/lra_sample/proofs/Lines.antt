@@ -1,5 +1,6 @@
 -- The lines of a sample source: their tokens and their trees.
 use Rattle.std.proofs.Common.{ℕ, ◌+◌, List, [], ◌∷◌, ◌++◌, refl, drop, get_or}
+use Rattle.lra_base.specs.declared.number_types.NumberType.TheVariants.{Int}
 use Rattle.lra_base.specs.declared.refusals.Place.{Place}
 use Rattle.lra_base.specs.Operators.{below, at_least, at_most}
 use Rattle.lra_tree.specs.declared.tokens.Kind.TheVariants.{Name, Number, Mark as MarkOf}
@@ -29,7 +30,7 @@ pub record Line : Type 0 where
   pub is_first : IsVariable first
   pub is_second : IsVariable second
   pub digit : IsFirstDigit head
-  pub good : IsGood head tail (Number value)
+  pub good : IsGood head tail (Number Int value)
 
 -- tokens -------------------------------------------------------------------------------------------------------------
 
@@ -45,10 +46,10 @@ named x o = lexeme 118 (x ∷ []) (Name (118 ∷ x ∷ [])) o
 
 -- a numeral of one digit
 abbrev pub small : ℕ → Item
-small n = lexeme (48 + n) [] (Number n) 0
+small n = lexeme (48 + n) [] (Number Int n) 0
 
 abbrev pub constant : Line → Item
-constant l = lexeme l.head l.tail (Number l.value) 0
+constant l = lexeme l.head l.tail (Number Int l.value) 0
 
 abbrev pub items_as : Kind → Line → List Item
 items_as Sum l = named l.first 0 ∷ sign mark.Assign ∷ named l.second 0 ∷ sign mark.Plus ∷ constant l ∷
@@ -81,7 +82,7 @@ given x at e = assign (set (var x at) (expression e))
 
 -- x + n
 abbrev pub sum_of : ℕ → Place → ℕ → ExprTree
-sum_of x at n = plus (use_of (var x at)) (unary (literal n))
+sum_of x at n = plus (use_of (var x at)) (unary (literal Int n))
 
 -- the items of a block behind those of a line; of the numbers of the line's tokens with their places
 abbrev pub tree_as : Kind → Line → (ℕ → Place) → ItemsTree → ItemsTree

@@ -6,10 +6,11 @@ use Rattle.std.proofs.lemmas.Fmt.{decimal_digit, decimal_step}
 use Rattle.std.specs.Fmt.{decimal}
 use Rattle.std.specs.List.{list_all}
 use Rattle.std.specs.Prelude.{codes, is_none, nat_le}
-use Rattle.lra_base.specs.declared.number_types.NumberType.TheVariants.{Long}
+use Rattle.std.proofs.lemmas.Bool.Decides.{nat_tests}
+use Rattle.lra_base.specs.declared.number_types.NumberType.TheVariants.{Int, Long}
 use Rattle.lra_tree.specs.declared.tokens.Kind.TheVariants.{Name, Number}
 use Rattle.lra_tree.specs.Lexeme.{is_between, is_digit, is_word_byte, is_letter, digit_value, number_behind}
-use Rattle.lra_tree.specs.Lexeme.{decimal_base, octal, greatest_literal, number_word, word, name, number}
+use Rattle.lra_tree.specs.Lexeme.{decimal_base, octal, greatest_literal, greatest_int_literal, literal_type, number_word, word, name, number}
 use Rattle.lra_tree.proofs.LongestByTest.{is_lexeme, begins_gap}
 use Rattle.lra_meaning.specs.Scope.{Entry, Scope, slot_of}
 use Rattle.lra_tree.specs.Faults.{greatest_level}
@@ -117,10 +118,14 @@ a_front = digit_cases (λ x. 48 < x → IsFront x)
 
 -- numerals below 100 -------------------------------------------------------------------------------------------------
 
-pub zero_good : IsGood 48 [] (Number 0)
+-- a small one without a suffix is an `int`
+is_int : (n : ℕ) → n ≤ greatest_int_literal → Int ≡ literal_type [] n
+is_int n l = let small : nat_le n greatest_int_literal ≡ true = grind (arith, nat_tests) in rw small refl
+
+pub zero_good : IsGood 48 [] (Number Int 0)
 zero_good = record {
   lexeme = number_word refl;
-  spells = number 0 refl (record {
+  spells = number 0 Int refl (record {
     base = octal;
     front = codes "0";
     digits = [];
@@ -130,14 +135,14 @@ zero_good = record {
     all_digits = refl;
     is_suffix = refl;
     number = refl;
-  }) (omega arith);
+  }) refl (omega arith);
   gapless = refl;
 }
 
-one_digit : (x : ℕ) → IsFront x → IsDigit x → IsGood x [] (Number (number_behind decimal_base 0 (x ∷ [])))
+one_digit : (x : ℕ) → IsFront x → IsDigit x → IsGood x [] (Number Int (number_behind decimal_base 0 (x ∷ [])))
 one_digit x f d = record {
   lexeme = number_word (rw d.digit refl);
-  spells = number (number_behind decimal_base 0 (x ∷ [])) (rw d.digit refl)
+  spells = number (number_behind decimal_base 0 (x ∷ [])) Int (rw d.digit refl)
       (record {
         base = decimal_base;
         front = [];
@@ -149,20 +154,23 @@ one_digit x f d = record {
         is_suffix = refl;
         number = refl;
       })
-      (fits (digit_value x) d.small);
+      (is_int (number_behind decimal_base 0 (x ∷ [])) (few (digit_value x) d.small)) (fits (digit_value x) d.small);
   gapless = f.gapless;
 }
   where
+    few : (a : ℕ) → a ≤ 9 → 0 * 10 + a ≤ greatest_int_literal
+    few a l = omega (arith, l)
+
     fits : (a : ℕ) → a ≤ 9 → 0 * 10 + a ≤ greatest_literal
     fits a l = omega (arith, l)
 
-pub one_good : IsGood 49 [] (Number 1)
+pub one_good : IsGood 49 [] (Number Int 1)
 one_good = one_digit 49 (a_front 1 (omega arith) (omega arith)) (a_digit 1 (omega arith))
 
-two_digits : (x y : ℕ) → IsFront x → IsDigit x → IsDigit y → IsGood x (y ∷ []) (Number (number_behind decimal_base 0 (x ∷ y ∷ [])))
+two_digits : (x y : ℕ) → IsFront x → IsDigit x → IsDigit y → IsGood x (y ∷ []) (Number Int (number_behind decimal_base 0 (x ∷ y ∷ [])))
 two_digits x y f d b = record {
   lexeme = number_word (rw (d.digit, digit_is y b.digit) refl);
-  spells = number (number_behind decimal_base 0 (x ∷ y ∷ [])) (rw (d.digit, digit_is y b.digit) refl)
+  spells = number (number_behind decimal_base 0 (x ∷ y ∷ [])) Int (rw (d.digit, digit_is y b.digit) refl)
       (record {
         base = decimal_base;
         front = [];
@@ -174,10 +182,13 @@ two_digits x y f d b = record {
         is_suffix = refl;
         number = refl;
       })
-      (fits (digit_value x) (digit_value y) d.small b.small);
+      (is_int (number_behind decimal_base 0 (x ∷ y ∷ [])) (few (digit_value x) (digit_value y) d.small b.small)) (fits (digit_value x) (digit_value y) d.small b.small);
   gapless = f.gapless;
 }
   where
+    few : (a b : ℕ) → a ≤ 9 → b ≤ 9 → (0 * 10 + a) * 10 + b ≤ greatest_int_literal
+    few a b l m = omega (arith, l, m)
+
     fits : (a b : ℕ) → a ≤ 9 → b ≤ 9 → (0 * 10 + a) * 10 + b ≤ greatest_literal
     fits a b l m = omega (arith, l, m)
 
@@ -191,7 +202,7 @@ pub record Numeral (s : List ℕ) : Type 0 where
   pub value : ℕ
   pub spelled : s ≡ head ∷ tail
   pub first : IsFirstDigit head
-  pub good : IsGood head tail (Number value)
+  pub good : IsGood head tail (Number Int value)
 
 one_of : (n : ℕ) → n < 10 → Numeral (decimal n)
 one_of zero l = record {

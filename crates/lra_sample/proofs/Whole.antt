@@ -3,7 +3,7 @@ use Rattle.std.proofs.Common.{◌≡◌, ℕ, List, [], ◌∷◌, ◌++◌, Som
 use Rattle.std.proofs.Common.{inl, inr}
 use Rattle.std.proofs.lemmas.List.{append-nil}
 use Rattle.std.specs.Prelude.{codes}
-use Rattle.lra_base.specs.declared.number_types.NumberType.TheVariants.{Long}
+use Rattle.lra_base.specs.declared.number_types.NumberType.TheVariants.{Int, Long}
 use Rattle.lra_base.specs.declared.refusals.Place.{Place}
 use Rattle.lra_base.specs.Operators.{at_most}
 use Rattle.lra_tree.specs.declared.tokens.Kind.TheVariants.{Name}
@@ -154,7 +154,7 @@ body_tree before ls = declarations_tree before four_digits (λ b. lines_tree b l
 
 abbrev pub main_tree : List Line → FunctionTree
 main_tree ls = record {
-  result_type = Some Long;
+  result_type = Some Int;
   name = record { word = codes "main"; place = item_place [] head_items 2 };
   parameters = [];
   body = body_tree (behind [] head_items) ls;
@@ -205,7 +205,7 @@ body_spells before ls =
 
 function_spells : (ls : List Line) (body : Pieces) → AreItems 1 (main_tree ls).body body → IsFunction (main_tree ls)
     (pieces [] head_items ++ (body ++ pieces (behind (behind [] head_items) (body_items ls)) close_items))
-function_spells ls body b = both _ _ (inl (refl, both _ _ (_, refl) refl))
+function_spells ls body b = both _ _ (both _ _ (_, refl) refl)
     (both _ _ (_, refl) (both _ _ (inl (_, refl)) (both _ _ (_, refl) (both _ _ (_, refl) (both body _ b refl)))))
 
 spelled : (source : List ℕ) (ls : List Line) → Spells (file_tree source ls)

@@ -46,5 +46,5 @@ read_branch-returns-then-next_is-clause-gives t c =
 
 pub read_item-returns-clause-gives : goal.read_item-returns-clause-gives
 read_item-returns-clause-gives t c =
-    item_other c.args.depth c.args.rest.now c.in_ok-stmt-2.left.now (stmt_view c.in_ok-stmt-2.stmt.value) c.if-next_is.ensures c.if-next_is-2.ensures c.in_ok-stmt-2.ensures.gives
+    item_other c.args.depth c.args.rest.now c.in_ok-stmt-2.left.now (stmt_view c.in_ok-stmt-2.stmt.value) c.if-next_is_type.ensures c.if-next_is.ensures c.in_ok-stmt-2.ensures.gives
     ∙ ap (λ (i : ItemsTree → ItemsTree). Ok (i, c.in_ok-stmt-2.left.now)) (sym c.in_ok-item-2.ensures)

@@ -19,8 +19,9 @@ use Rattle.lra_phrases.proofs.Unfolded.{negated_some, positive_zero, positive_so
 use Rattle.lra_phrases.proofs.expressions.+expression.Goals as goal
 
 pub read_unary-returns-in-Some-clause-gives : goal.read_unary-returns-in-Some-clause-gives
-read_unary-returns-in-Some-clause-gives t c = literal_gives c.args.depth c.args.rest.now c.in-Some.value (sym c.in-Some.ensures) ∙
-    ap (λ (u : UnaryTree). Ok (u, tail c.args.rest.now)) (sym (literal_is c.in-Some.value)) ∙ ap (λ (R : Text). Ok (unary_view (Literal c.in-Some.value), R)) (sym c.tail.ensures.value)
+read_unary-returns-in-Some-clause-gives t c = literal_gives c.args.depth c.args.rest.now c.in-Some.literal (sym c.in-Some.ensures) ∙
+    ap (λ (u : UnaryTree). Ok (u, tail c.args.rest.now)) (sym (literal_is c.in-Some.literal.number_type c.in-Some.literal.value)) ∙
+    ap (λ (R : Text). Ok (unary_view (Literal c.in-Some.literal.number_type c.in-Some.literal.value), R)) (sym c.tail.ensures.value)
 
 pub read_unary-returns-clause-gives : goal.read_unary-returns-clause-gives
 read_unary-returns-clause-gives t c = variable_gives c.args.depth c.args.rest.now c.in_ok-name.after.now c.in_ok-name.name c.in_ok-name.ensures.gives ∙
