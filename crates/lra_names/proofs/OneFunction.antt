@@ -1,5 +1,5 @@
 -- One function: its parameters, then its body in their scope.
-use Rattle.std.proofs.Common.{◌≡◌, ℕ, ◌+◌, Bool, false, List, [], ◌++◌, length, refl, sym, is_some}
+use Rattle.std.proofs.Common.{◌≡◌, ℕ, ◌+◌, Bool, false, List, [], ◌++◌, map, refl, sym, is_some}
 use Rattle.lra_tree.specs.declared.trees.Parameter.{Parameter}
 use Rattle.lra_tree.specs.Trees.{FunctionTree}
 use Rattle.lra_program.specs.Program as program
@@ -15,6 +15,7 @@ pub function_faults_split : (F : List FunctionTree) (outside : List Entry) (f : 
     function_faults F outside f ≡ parameters_faults [] ps ++ items_faults (around_body F b) s f.body
 function_faults_split F outside f b ps s has same at = rw (has, at, same) refl
 
-pub function_found : (F : List FunctionTree) (outside : List Entry) (n : ℕ) (f : FunctionTree) (made : program.Function) → made.parameters ≡ length f.parameters →
+pub function_found : (F : List FunctionTree) (outside : List Entry) (n : ℕ) (f : FunctionTree) (made : program.Function) → made.result_type ≡ f.result_type
+    → made.parameters ≡ map (λ (p : Parameter). p.number_type) f.parameters →
     made.body ≡ resolve_items F (function_scope outside f.parameters) n f.body → made.end ≡ n + items_count f.body → made ≡ resolve_function F outside n f
-function_found F outside n f made ep eb ee = rw (sym ep, sym eb, sym ee) refl
+function_found F outside n f made et ep eb ee = rw (sym et, sym ep, sym eb, sym ee) refl

@@ -9,10 +9,10 @@ ghost use Rattle.lra_tree.specs.Views.{tree_view};
 ghost use Rattle.lra_program.specs.ProgramViews.{function_view, program_view};
 ghost use Rattle.lra_meaning.specs.Scope.{function_scope, global_entry, global_entries};
 ghost use Rattle.lra_tree.specs.Functions.{is_main, functions_in};
-ghost use Rattle.lra_meaning.specs.NameFaults.{parameters_faults, function_faults, globals_faults, global_names};
-ghost use Rattle.lra_meaning.specs.NameFaults.{parts_faults, name_faults};
-ghost use Rattle.lra_meaning.specs.Resolve.{resolve_function, global_value, globals_in, resolve_parts, items_count};
-ghost use Rattle.lra_meaning.specs.Resolve.{resolve};
+ghost use Rattle.lra_meaning.specs.NameFaults.{parameters_faults, function_faults, first_value_faults, globals_faults};
+ghost use Rattle.lra_meaning.specs.NameFaults.{global_names, parts_faults, name_faults};
+ghost use Rattle.lra_meaning.specs.Resolve.{resolve_function, value_or_zero, resolve_global, globals_in};
+ghost use Rattle.lra_meaning.specs.Resolve.{resolve_parts, items_count, resolve};
 ghost use Rattle.lra_scopes.specs.Calls.{functions_at};
 ghost use Rattle.lra_tree.specs.Labels.{function_labels, labels_of};
 ghost use Rattle.lra_simple.specs.Labelling.{labels_of_functions};
@@ -22,11 +22,11 @@ ghost use Rattle.lra_scopes.specs.Outcome.{Tells, TellsOf};
 use crate::statements::resolve_items;
 use lra_base::{Cause, NumberType, SourceError};
 use lra_meaning::Labels;
-use lra_program::Program;
+use lra_program::{GlobalVariable, Program};
 use lra_scopes::{Functions, Names, Scope, refuse};
 use lra_simple::{Around, Labelling};
-use lra_tree::{Function, Globals, Item, Parameter, Tree};
-use std::alloc::Global;
+use lra_tree::{Function, Globals, Item, Parameter, SignedLiteral, Tree};
+use std::alloc::{AllocError, Global};
 
 /// Begins a function's scope with its parameters.
 fn declare_parameters(
@@ -53,6 +53,17 @@ fn declare_parameters(
     Ok(())
 }
 
+/// The types of parameters.
+fn types_of(alloc: Global, parameters: &[Parameter]) -> Result<Vec<NumberType>, AllocError>
+    ensures { IfOk result (λ v. v.items ≡ map (λ p. p.number_type) parameters.now) }
+{
+    let mut types = Vec::new(alloc);
+    'parameters: for parameter in parameters {
+        types.push(parameter.number_type)?;
+    }
+    Ok(types)
+}
+
 #[tactic(auto, using(crate::proofs::FunctionLaws::function_rules))]
 fn resolve_function(
     alloc: Global,
@@ -71,7 +82,9 @@ fn resolve_function(
     ensures labelled { OnOk result (labels.new.labels ≡
         labels.old.labels ++ function_labels (tree_function_view function.now)) }
 {
-    declare_parameters(alloc, scope, labels, &function.parameters.items)?;
+    let parameters: &[Parameter] = &function.parameters.items;
+    let types = types_of(alloc, parameters)?;
+    declare_parameters(alloc, scope, labels, parameters)?;
     let around = Around {
         alloc,
         functions,
@@ -81,7 +94,8 @@ fn resolve_function(
     let body = resolve_items(&around, scope, labels, &function.body)?;
     let end = labels.add(function.body.end, None)?;
     Ok(lra_program::Function {
-        parameters: function.parameters.items.len(),
+        result_type: function.result_type,
+        parameters: types,
         body,
         end,
     })
@@ -94,8 +108,25 @@ pub struct Resolved {
     names: Names,
     scope: Scope,
     labels: Labelling,
-    globals: Vec<i64>,
+    globals: Vec<GlobalVariable>,
     functions: Vec<lra_program::Function>,
+}
+
+/// The first value of a global of this type: its literal, or 0.
+fn first_value(number_type: NumberType, value: Option<SignedLiteral>) -> Result<i64, SourceError>
+    ensures told { TellsOf (first_value_faults number_type value) result }
+    ensures found { IfOk result (λ z. z ≡ value_or_zero value) }
+{
+    match value {
+        Some(literal) => {
+            if number_type.fits(i128::from(literal.value)) {
+                Ok(literal.value)
+            } else {
+                refuse(Cause::BadLiteral, literal.place)
+            }
+        }
+        None => Ok(0),
+    }
 }
 
 #[tactic(auto, using(crate::proofs::FunctionLaws::global_rules))]
@@ -106,42 +137,41 @@ fn add_global(
     global: &lra_tree::Global,
 ) -> Result<(), SourceError>
     ensures told { IfErr result (λ e. (rest : List GlobalTree)
-        → Tells (globals_faults resolved.old.names (global_view global.now ∷ rest)) e) }
+        → Tells (globals_faults number_type resolved.old.names (global_view global.now ∷ rest)) e) }
     ensures clean { OnOk result ((rest : List GlobalTree)
-        → globals_faults resolved.old.names (global_view global.now ∷ rest)
-        ≡ globals_faults resolved.new.names rest) }
+        → globals_faults number_type resolved.old.names (global_view global.now ∷ rest)
+        ≡ globals_faults number_type resolved.new.names rest) }
     ensures named { OnOk result (resolved.new.names ≡ resolved.old.names ++ global.now.name.word ∷ []) }
     ensures scoped { OnOk result (resolved.new.scope.globals ≡ resolved.old.scope.globals
         ++ global_entry number_type (global_view global.now) ∷ []) }
     ensures valued { OnOk result (resolved.new.globals.items ≡ resolved.old.globals.items
-        ++ global_value (global_view global.now) ∷ []) }
+        ++ resolve_global number_type (global_view global.now) ∷ []) }
     ensures labels { OnOk result (resolved.new.labels ≡ resolved.old.labels) }
     ensures functions { OnOk result (resolved.new.functions.items ≡ resolved.old.functions.items) }
 {
     if resolved.names.has_behind(0, &global.name.word) {
         return refuse(Cause::DuplicateName, global.name.place);
     }
+    let value = first_value(number_type, global.value)?;
     resolved.names.push(alloc, &global.name.word)?;
     resolved
         .scope
         .declare_global(alloc, &global.name.word, number_type)?;
-    let value = match global.value {
-        Some(value) => value,
-        None => 0,
-    };
-    resolved.globals.push(value)?;
+    resolved
+        .globals
+        .push(GlobalVariable { number_type, value })?;
     Ok(())
 }
 
 fn add_globals(alloc: Global, resolved: &mut Resolved, globals: &Globals) -> Result<(), SourceError>
-    ensures told { TellsOf (globals_faults resolved.old.names
+    ensures told { TellsOf (globals_faults globals.now.number_type resolved.old.names
         (global_view globals.now.first ∷ map global_view globals.now.rest.items)) result }
     ensures named { OnOk result (resolved.new.names ≡ resolved.old.names
         ++ global_names (global_view globals.now.first ∷ map global_view globals.now.rest.items)) }
     ensures scoped { OnOk result (resolved.new.scope.globals ≡ resolved.old.scope.globals
         ++ global_entries (globals_view globals.now)) }
     ensures valued { OnOk result (resolved.new.globals.items ≡ resolved.old.globals.items
-        ++ map global_value (global_view globals.now.first ∷ map global_view globals.now.rest.items)) }
+        ++ map (resolve_global globals.now.number_type) (global_view globals.now.first ∷ map global_view globals.now.rest.items)) }
     ensures labels { OnOk result (resolved.new.labels ≡ resolved.old.labels) }
     ensures functions { OnOk result (resolved.new.functions.items ≡ resolved.old.functions.items) }
 {

@@ -2,11 +2,12 @@
 
 ghost use Rattle.std.specs.Prelude.{◌≡◌, ◌||◌, ◌&&◌, not, nat_eq, ◌∷◌, ◌++◌, [], map, length, flat_map, Option, Some};
 ghost use Rattle.std.specs.Prelude.{None, option_map, IfOk};
+ghost use Rattle.lra_base.specs.declared.number_types.NumberType.TheVariants.{Int};
 ghost use Rattle.lra_program.specs.Program.{assign as assign_stmt, binary, literal, read, value};
 ghost use Rattle.lra_base.specs.OperatorViews.{operator_view};
 ghost use Rattle.lra_tree.specs.Views.{step_view, expr_view as tree_expr_view, call_view as tree_call_view};
 ghost use Rattle.lra_tree.specs.Views.{rvalue_view as tree_rvalue_view, assign_view};
-ghost use Rattle.lra_program.specs.ProgramViews.{slot_view, expr_view, call_view, rvalue_view, given_view, stmt_view};
+ghost use Rattle.lra_program.specs.ProgramViews.{variable_view, expr_view, call_view, rvalue_view, given_view, stmt_view};
 ghost use Rattle.lra_tree.specs.Functions.{function_named};
 ghost use Rattle.lra_meaning.specs.NameFaults.{use_faults, expr_faults, called_faults, call_faults, rvalue_faults};
 ghost use Rattle.lra_meaning.specs.NameFaults.{given_faults, assign_faults};
@@ -19,8 +20,8 @@ use crate::errors::refuse;
 use crate::expressions::{resolve_expr, resolve_variable};
 use crate::scopes::Scope;
 use crate::signatures::{Functions, Signature};
-use lra_base::{Cause, Operator, SourceError};
-use lra_program::{Operation, Slot};
+use lra_base::{Cause, NumberType, Operator, SourceError};
+use lra_program::{Operation, Variable};
 use lra_tree::{Assign, Call, Expr, Identifier, Rvalue, Step};
 use std::alloc::{AllocError, Global};
 
@@ -149,16 +150,16 @@ pub fn resolve_given(
 /// The variable's value, an operator and an operand.
 fn build_update(
     alloc: Global,
-    slot: Slot,
+    variable: Variable,
     operator: Operator,
     operand: lra_program::Expr,
 ) -> Result<lra_program::Rvalue, AllocError>
-    ensures { IfOk result (λ e. rvalue_view e ≡ value (binary (operator_view operator) (read (slot_view slot))
+    ensures { IfOk result (λ e. rvalue_view e ≡ value (binary (operator_view operator) (read (variable_view variable))
         (expr_view operand))) }
 {
     let mut rest = Vec::new(alloc);
     rest.push(Operation { operator, operand })?;
-    let first = Box::new(alloc, lra_program::Expr::Read(slot))?;
+    let first = Box::new(alloc, lra_program::Expr::Read(variable))?;
     Ok(lra_program::Rvalue::Value(lra_program::Expr::Chain(first, rest)))
 }
 
@@ -172,15 +173,19 @@ fn step_operator(step: Step) -> Operator
 }
 
 /// `x++` and `++x` alike: one more, or one less.
-fn build_step(alloc: Global, slot: Slot, step: Step) -> Result<lra_program::Rvalue, AllocError>
-    ensures { IfOk result (λ e. rvalue_view e ≡ value (binary (step_operator (step_view step)) (read (slot_view slot))
-        (literal 1))) }
+fn build_step(
+    alloc: Global,
+    variable: Variable,
+    step: Step,
+) -> Result<lra_program::Rvalue, AllocError>
+    ensures { IfOk result (λ e. rvalue_view e ≡ value (binary (step_operator (step_view step)) (read (variable_view variable))
+        (literal Int 1))) }
 {
     build_update(
         alloc,
-        slot,
+        variable,
         step_operator(step),
-        lra_program::Expr::Literal(1),
+        lra_program::Expr::Literal(NumberType::Int, 1),
     )
 }
 
@@ -199,9 +204,9 @@ fn resolve_set(
     ensures found { IfOk result (λ s. stmt_view s ≡ assign_stmt label (variable scope.now x.now)
         (resolve_rvalue (functions_at functions.now) scope.now label (tree_rvalue_view rvalue.now))) }
 {
-    let slot = resolve_variable(scope, x)?;
+    let variable = resolve_variable(scope, x)?;
     let rvalue = resolve_rvalue(alloc, functions, scope, label, rvalue)?;
-    Ok(lra_program::Stmt::Assign(label, slot, rvalue))
+    Ok(lra_program::Stmt::Assign(label, variable, rvalue))
 }
 
 /// `x op= e`
@@ -219,10 +224,10 @@ fn resolve_update(
         (value (binary (operator_view operator) (read (variable scope.now x.now))
         (resolve_expr scope.now (tree_expr_view expr.now))))) }
 {
-    let slot = resolve_variable(scope, x)?;
+    let variable = resolve_variable(scope, x)?;
     let operand = resolve_expr(alloc, scope, expr)?;
-    let rvalue = build_update(alloc, slot, operator, operand)?;
-    Ok(lra_program::Stmt::Assign(label, slot, rvalue))
+    let rvalue = build_update(alloc, variable, operator, operand)?;
+    Ok(lra_program::Stmt::Assign(label, variable, rvalue))
 }
 
 /// `x++`, `x--`, and with the sign in front.
@@ -235,11 +240,11 @@ fn resolve_increment(
 ) -> Result<lra_program::Stmt, SourceError>
     ensures told { TellsOf (use_faults scope.now x.now) result }
     ensures found { IfOk result (λ s. stmt_view s ≡ assign_stmt label (variable scope.now x.now)
-        (value (binary (step_operator (step_view step)) (read (variable scope.now x.now)) (literal 1)))) }
+        (value (binary (step_operator (step_view step)) (read (variable scope.now x.now)) (literal Int 1)))) }
 {
-    let slot = resolve_variable(scope, x)?;
-    let rvalue = build_step(alloc, slot, step)?;
-    Ok(lra_program::Stmt::Assign(label, slot, rvalue))
+    let variable = resolve_variable(scope, x)?;
+    let rvalue = build_step(alloc, variable, step)?;
+    Ok(lra_program::Stmt::Assign(label, variable, rvalue))
 }
 
 /// An assignment under its label: `x += e` and `x++` read `x` first.

@@ -3,7 +3,7 @@
 ghost use Rattle.std.specs.Prelude.{◌≡◌, map, IfOk, IfErr, flat_map};
 ghost use Rattle.lra_base.specs.OperatorViews.{operator_view};
 ghost use Rattle.lra_tree.specs.Views.{unary_view, term_view, factor_view, summand_view, expr_view as tree_expr_view};
-ghost use Rattle.lra_program.specs.ProgramViews.{slot_view, expr_view, operation_view, chained};
+ghost use Rattle.lra_program.specs.ProgramViews.{variable_view, expr_view, operation_view, chained};
 ghost use Rattle.lra_meaning.specs.NameFaults.{use_faults, unary_faults, term_faults, expr_faults};
 ghost use Rattle.lra_meaning.specs.Resolve.{variable, resolve_unary, resolve_term, resolve_expr};
 ghost use Rattle.lra_scopes.specs.Chains.{factor_operator, sum_operator, factor_faults, resolve_factor, summand_faults};
@@ -13,17 +13,18 @@ ghost use Rattle.lra_scopes.specs.Outcome.{TellsOf};
 use crate::errors::refuse;
 use crate::scopes::Scope;
 use lra_base::{Cause, Operator, SourceError};
-use lra_program::{Operation, Slot};
+use lra_program::{Operation, Variable};
 use lra_tree::{Expr, Factor, FactorOperator, Identifier, SumOperator, Summand, Term, Unary};
 use std::alloc::Global;
 
-/// The variable that a name means; `UnknownName` where none is in scope.
-pub fn resolve_variable(scope: &Scope, x: &Identifier) -> Result<Slot, SourceError>
+/// The variable that a name means, with its type; `UnknownName` where none is in scope.
+#[tactic(auto, using(crate::proofs::FoundLaws::variable_found))]
+pub fn resolve_variable(scope: &Scope, x: &Identifier) -> Result<Variable, SourceError>
     ensures told { TellsOf (use_faults scope.now x.now) result }
-    ensures found { IfOk result (λ v. slot_view v ≡ variable scope.now x.now) }
+    ensures found { IfOk result (λ v. variable_view v ≡ variable scope.now x.now) }
 {
-    match scope.slot_of(&x.word) {
-        Some(slot) => Ok(slot),
+    match scope.find(&x.word) {
+        Some(variable) => Ok(variable),
         None => refuse(Cause::UnknownName, x.place),
     }
 }
@@ -81,10 +82,10 @@ pub fn resolve_unary(
             Ok(lra_program::Expr::Negate(Box::new(alloc, inner)?))
         }
         Unary::Positive(inner) => resolve_unary(alloc, scope, inner),
-        Unary::Literal(n) => Ok(lra_program::Expr::Literal(*n)),
+        Unary::Literal(number_type, n) => Ok(lra_program::Expr::Literal(*number_type, *n)),
         Unary::Variable(x) => {
-            let slot = resolve_variable(scope, x)?;
-            Ok(lra_program::Expr::Read(slot))
+            let variable = resolve_variable(scope, x)?;
+            Ok(lra_program::Expr::Read(variable))
         }
         Unary::Input => Ok(lra_program::Expr::Input),
         Unary::Group(inner) => resolve_expr(alloc, scope, inner),

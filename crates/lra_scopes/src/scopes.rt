@@ -1,13 +1,13 @@
 //! Scopes: the variables that can be named, oldest first.
 
-ghost use Rattle.std.specs.Prelude.{◌≡◌, ◌∷◌, ◌++◌, [], length, option_map, IfOk};
-ghost use Rattle.lra_meaning.specs.Scope.{slot_of, is_declared, with_local, inner};
+ghost use Rattle.std.specs.Prelude.{◌≡◌, ◌∷◌, ◌++◌, [], length, option_map, IfOk, IfSome};
+ghost use Rattle.lra_meaning.specs.Scope.{slot_of, type_at, is_declared, with_local, inner};
 ghost use Rattle.lra_program.specs.ProgramViews.{slot_view};
 ghost use Rattle.lra_scopes.specs.Scopes.{left_to};
 
 use crate::variables::Variables;
 use lra_base::NumberType;
-use lra_program::Slot;
+use lra_program::{Slot, Variable};
 use lra_tree::Word;
 use std::alloc::{AllocError, Global};
 use std::marker::Model;
@@ -39,14 +39,21 @@ impl Model for Scope {
 }
 
 impl Scope {
-    /// The variable that the name means.
-    pub fn slot_of(&self, name: &Word) -> Option<Slot>
-        ensures { option_map slot_view result ≡ slot_of self.now name.now }
+    /// The variable that the name means, with its type.
+    pub fn find(&self, name: &Word) -> Option<Variable>
+        ensures found { option_map (λ v. slot_view v.slot) result ≡ slot_of self.now name.now }
+        ensures typed { IfSome result (λ v. v.number_type ≡ type_at self.now (slot_view v.slot)) }
     {
         match self.locals.newest(name) {
-            Some(place) => Some(Slot::Local(place)),
+            Some(place) => Some(Variable {
+                slot: Slot::Local(place),
+                number_type: self.locals.type_at(place),
+            }),
             None => match self.globals.newest(name) {
-                Some(place) => Some(Slot::Global(place)),
+                Some(place) => Some(Variable {
+                    slot: Slot::Global(place),
+                    number_type: self.globals.type_at(place),
+                }),
                 None => None,
             },
         }

@@ -1,8 +1,8 @@
 //! Variables in the order of their declarations, each with its type.
 
-ghost use Rattle.std.specs.Prelude.{◌≡◌, ◌++◌, ◌∷◌, [], length, take, drop, bytes_eq, IfOk};
+ghost use Rattle.std.specs.Prelude.{◌≡◌, ◌++◌, ◌∷◌, [], length, take, drop, slice_get, bytes_eq, IfOk};
 ghost use Rattle.std.specs.List.{list_any};
-ghost use Rattle.lra_meaning.specs.Scope.{names_in, newest};
+ghost use Rattle.lra_meaning.specs.Scope.{names_in, newest, type_or_none};
 
 use crate::names::Names;
 use lra_base::NumberType;
@@ -58,6 +58,16 @@ impl Variables {
         ensures { result ≡ newest name.now (names_in self.now) }
     {
         self.names.newest(name)
+    }
+
+    /// The type of the one at the place; that of another is of no use.
+    pub fn type_at(&self, place: usize) -> NumberType
+        ensures { result ≡ type_or_none (slice_get self.now place) }
+    {
+        match self.types.get(place) {
+            Some(number_type) => *number_type,
+            None => NumberType::Long,
+        }
     }
 
     /// Whether one behind the oldest `count` has the name.

@@ -24,13 +24,13 @@ pub declarators_split : (F : List FunctionTree) (s : Scope) (t : NumberType) (d 
 declarators_split F s t d ds = refl
 
 pub declarator_found : (F : List FunctionTree) (s s' : Scope) (n n' : ℕ) (t : NumberType) (d : DeclaratorTree) (r : Declarator) (old new : List BlockItem)
-    → new ≡ old ++ code_item.Declaration r ∷ [] → declarator_view r ≡ record { label = n; rvalue = resolve_given F (with_local s (declarator_entry t d)) n d.rvalue }
+    → new ≡ old ++ code_item.Declaration r ∷ [] → declarator_view r ≡ record { label = n; number_type = t; rvalue = resolve_given F (with_local s (declarator_entry t d)) n d.rvalue }
     → s' ≡ with_local s (declarator_entry t d) → n' ≡ suc n → (rest : List DeclaratorTree) (more : program.BlockItems)
     → followed (map item_view old) (resolve_declarators F s n t (d ∷ rest) more) ≡ followed (map item_view new) (resolve_declarators F s' n' t rest more)
 declarator_found F s s' n n' t d r old new is e scope next rest more =
     let v : item_view (code_item.Declaration r) ≡ program.declaration (declarator_view r) = search (rules, the_lemmas) in
     rw (is, map-append item_view old (code_item.Declaration r ∷ []), v, e, scope, next)
-    (sym (followed_push (map item_view old) (program.declaration (record { label = n; rvalue = resolve_given F (with_local s (declarator_entry t d)) n d.rvalue }))
+    (sym (followed_push (map item_view old) (program.declaration (record { label = n; number_type = t; rvalue = resolve_given F (with_local s (declarator_entry t d)) n d.rvalue }))
     (resolve_declarators F (with_local s (declarator_entry t d)) (suc n) t rest more)))
 
 pub ruleset declarator_rules = (followed_push, declarators_split, tells_front, tells_behind)

@@ -35,6 +35,7 @@ fn resolve_declarator(
     ensures found { IfOk result (λ d. program_declarator_view d
         ≡ record {
           label = labels.old.next;
+          number_type = number_type;
           rvalue = resolve_given (functions_at functions.now)
               (with_local scope.old (declarator_entry number_type (declarator_view declarator.now))) labels.old.next
               (option_map rvalue_view declarator.now.rvalue);
@@ -51,7 +52,11 @@ fn resolve_declarator(
     let called = copy_given_callee(alloc, &declarator.rvalue)?;
     let label = labels.add_declarator(alloc, &declarator.name, called)?;
     let rvalue = resolve_given(alloc, functions, scope, label, &declarator.rvalue)?;
-    Ok(lra_program::Declarator { label, rvalue })
+    Ok(lra_program::Declarator {
+        label,
+        number_type,
+        rvalue,
+    })
 }
 
 /// Resolves a declarator of this type into a further item.

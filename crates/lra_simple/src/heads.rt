@@ -20,7 +20,7 @@ use crate::around::Around;
 use crate::declarations::add_declaration;
 use crate::labelling::Labelling;
 use crate::simple::resolve_assignment;
-use lra_base::{Place, SourceError};
+use lra_base::{NumberType, Place, SourceError};
 use lra_scopes::{Scope, resolve_cond};
 use lra_tree::{Assign, Cond, Init};
 use std::alloc::Global;
@@ -235,7 +235,10 @@ fn resolve_for_test(
     ensures found { IfOk result (λ c. cond_view c ≡ resolve_for_test scope.now (option_map tree_cond_view test.now)) }
 {
     match test {
-        None => Ok(lra_program::Cond::Nonzero(lra_program::Expr::Literal(1))),
+        None => {
+            let one = lra_program::Expr::Literal(NumberType::Int, 1);
+            Ok(lra_program::Cond::Nonzero(one))
+        }
         Some(cond) => resolve_cond(alloc, scope, cond),
     }
 }

@@ -12,5 +12,5 @@ returns-in_err-add_global-clause-told c =
 pub returns-in_err-add_global-2-clause-told : goal.returns-in_err-add_global-2-clause-told
 returns-in_err-add_global-2-clause-told c =
     exit_tells _ c.from_residual-in_err-add_global-2.result _ c.from_residual-in_err-add_global-2.ensures.1
-    (rest_tells (globals_faults c.globals.resolved.names) global_view c.deref-global-items.result.now c.globals.global-index
+    (rest_tells (globals_faults c.args.globals.now.number_type c.globals.resolved.names) global_view c.deref-global-items.result.now c.globals.global-index
     c.global-item.result _ _ c.globals-test.true c.global-item.is c.globals.invariant.clean c.in_err-add_global-2.ensures.told)

@@ -1,5 +1,5 @@
 -- Goals of `resolve_function`.
-use Rattle.std.proofs.Common.{List, ◌+◌, ◌++◌, ap, ap₂, arith, length, map, refl, sym, ◌∙◌, ℕ}
+use Rattle.std.proofs.Common.{List, ◌+◌, ◌++◌, ap, ap₂, arith, map, refl, ◌∙◌, ℕ}
 use Rattle.lra_base.specs.declared.refusals.Place.{Place}
 use Rattle.lra_tree.specs.declared.trees.Parameter.{Parameter}
 use Rattle.lra_tree.specs.Labels.{Labelled, items_labels}
@@ -17,15 +17,15 @@ pub returns-in_err-declare_parameters-clause-told : goal.returns-in_err-declare_
 returns-in_err-declare_parameters-clause-told c =
     let f = tree_function_view c.args.function.now in
     let outside = c.args.scope.now.globals in
-    first_told _ _ _ c.from_residual.result _
-    (function_faults_split (functions_at c.args.functions.now) outside f _ c.deref.result.now (function_scope outside c.deref.result.now) refl c.deref.ensures.value refl)
-    c.from_residual.ensures.1 c.in_err-declare_parameters.ensures.told
+    first_told _ _ _ c.from_residual-in_err-declare_parameters.result _
+    (function_faults_split (functions_at c.args.functions.now) outside f _ c.deref-parameters.result.now (function_scope outside c.deref-parameters.result.now) refl c.deref-parameters.ensures.value refl)
+    c.from_residual-in_err-declare_parameters.ensures.1 c.in_err-declare_parameters.ensures.told
 
 pub returns-in_err-body-clause-told : goal.returns-in_err-body-clause-told
 returns-in_err-body-clause-told c =
     let f = tree_function_view c.args.function.now in
     second_told _ _ _ c.from_residual-in_err-body.result _
-    (function_faults_split (functions_at c.args.functions.now) c.args.scope.now.globals f c.is_some.result c.deref.result.now c.declare_parameters.new.scope c.is_some.ensures c.deref.ensures.value
+    (function_faults_split (functions_at c.args.functions.now) c.args.scope.now.globals f c.is_some.result c.deref-parameters.result.now c.declare_parameters.new.scope c.is_some.ensures c.deref-parameters.ensures.value
     c.in_ok-declare_parameters.ensures.declared)
     c.in_ok-declare_parameters.ensures.told c.from_residual-in_err-body.ensures.1 c.in_err-body.ensures.told
 
@@ -38,7 +38,7 @@ pub returns-clause-told : goal.returns-clause-told
 returns-clause-told c =
     let f = tree_function_view c.args.function.now in
     both_clean _ _ _
-    (function_faults_split (functions_at c.args.functions.now) c.args.scope.now.globals f c.is_some.result c.deref.result.now c.declare_parameters.new.scope c.is_some.ensures c.deref.ensures.value
+    (function_faults_split (functions_at c.args.functions.now) c.args.scope.now.globals f c.is_some.result c.deref-parameters.result.now c.declare_parameters.new.scope c.is_some.ensures c.deref-parameters.ensures.value
     c.in_ok-declare_parameters.ensures.declared)
     c.in_ok-declare_parameters.ensures.told c.in_ok-body.ensures.told
 
@@ -48,8 +48,9 @@ returns-clause-found c =
     let f = tree_function_view c.args.function.now in
     let outside = c.args.scope.now.globals in
     let counted = c.in_ok-declare_parameters.ensures.counted in
-    function_found F outside c.args.labels.now.next f _ (c.len.ensures ∙ sym c.deref.ensures.len ∙ ap length c.deref.ensures.value)
-    (c.in_ok-body.ensures.found ∙ ap₂ (λ (s : Scope) (n : ℕ). resolve_items F s n f.body) (c.in_ok-declare_parameters.ensures.declared ∙ ap (function_scope outside) c.deref.ensures.value) counted)
+    function_found F outside c.args.labels.now.next f _ refl
+    (c.in_ok-types.ensures ∙ ap (map (λ (p : Parameter). p.number_type)) c.deref-parameters.ensures.value)
+    (c.in_ok-body.ensures.found ∙ ap₂ (λ (s : Scope) (n : ℕ). resolve_items F s n f.body) (c.in_ok-declare_parameters.ensures.declared ∙ ap (function_scope outside) c.deref-parameters.ensures.value) counted)
     (c.in_ok-end.ensures.label ∙ c.in_ok-body.ensures.counted ∙ ap (λ (n : ℕ). n + items_count f.body) counted)
 
 pub returns-clause-counted : goal.returns-clause-counted
@@ -61,5 +62,5 @@ returns-clause-labelled c =
     let words = map (λ (p : Parameter). p.name.word) in
     c.in_ok-end.ensures.adds.labels ∙ c.in_ok-body.ensures.fills.labels c.args.function.now.body.end
     ∙ ap₂ (λ (ls : List Labelled) (live : List (List ℕ)). ls ++ items_labels live f.body c.args.function.now.body.end) c.in_ok-declare_parameters.ensures.labelled
-    (c.in_ok-declare_parameters.ensures.lives ∙ ap words c.deref.ensures.value)
+    (c.in_ok-declare_parameters.ensures.lives ∙ ap words c.deref-parameters.ensures.value)
     ∙ ap (λ (end : Place). c.args.labels.now.labels ++ items_labels (words f.parameters) f.body end) (block_end c.args.function.now.body)
