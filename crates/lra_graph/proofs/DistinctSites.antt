@@ -140,8 +140,8 @@ module _ (P : Program) where
           (spread_items b here live items good.1 (differ_right (stmt_numbers s) (items_numbers items) d)))
 
     spread_function : (live : ℕ) (f : Function) → IsGoodFunction P f → AllDiffer (function_numbers f) → Spread path (function_numbers f) (keys_in (function_events inside path live (Some f)))
-    spread_function live f good d = rw keys_append (spread_join path (items_numbers f.body) (f.end ∷ []) (keys_in (items_events inside path (live + f.parameters) f.body)) ((f.end ∷ path) ∷ [])
-        (differ_apart (items_numbers f.body) (f.end ∷ []) d) (spread_items _ f.parameters (live + f.parameters) f.body good (differ_left (items_numbers f.body) (f.end ∷ []) d))
+    spread_function live f good d = rw keys_append (spread_join path (items_numbers f.body) (f.end ∷ []) (keys_in (items_events inside path (live + length f.parameters) f.body)) ((f.end ∷ path) ∷ [])
+        (differ_apart (items_numbers f.body) (f.end ∷ []) d) (spread_items _ (length f.parameters) (live + length f.parameters) f.body good (differ_left (items_numbers f.body) (f.end ∷ []) d))
         (spread_alone f.end path))
 
 pub all_at : (P : Program) (fs : List Function) (i : ℕ) (f : Function) → AllByRecursion (IsGoodFunction P) fs → slice_get fs i ≡ Some f → IsGoodFunction P f

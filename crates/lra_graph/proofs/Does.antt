@@ -1,11 +1,15 @@
 -- What the tree reaches, a run reaches, on the same trail.
-use Rattle.std.proofs.Common.{◌≡◌, ◌≢◌, ℕ, zero, suc, ◌+◌, ◌≤◌, ℤ, List, ◌∷◌, length, Option, Some, None, Bool, true, false, inl, inr, refl, sym, ap, ◌∙◌, subst, slice_get}
+use Rattle.std.proofs.Common.{◌≡◌, ◌≢◌, ℕ, zero, suc, ◌+◌, ◌≤◌, List, ◌∷◌, length, Option, Some, None, Bool, true, false, inl, inr, refl, sym, ap, ◌∙◌, subst}
+use Rattle.std.proofs.Common.{slice_get}
 use Rattle.std.proofs.lemmas.Option.{same_Some, none-some}
 use Rattle.lra_program.specs.Program.{Expr, Cond, Call, Rvalue, value, result, Declarator, Stmt, absent, nothing, block, assign, call, if, loop, for, break, continue, return, assert, assume}
 use Rattle.lra_program.specs.Program.{BlockItems, no_more, declaration, statement, Function, Program}
 use Rattle.lra_program.specs.Value.{Drawn, index_of, truth_of}
+use Rattle.lra_program.specs.declared.receivers.Receiver.{Receiver}
+use Rattle.lra_program.specs.Receivers.{variable_at, nobody}
 use Rattle.lra_program.specs.Step.{State, Op, append, give, give_any, push, keep, test, run_op, run_any, tested, Here, Back, Item, run, declare, all, end_of, turn, cut, mark, leave_call, Config, Turn}
-use Rattle.lra_program.specs.Step.{scene_at, to_turn, Called, to_mark, target_of, go, go_by, go_on, enter, do_rvalue, do_leave, do_break, do_continue, do_stmt, do_declare, next, next_at}
+use Rattle.lra_program.specs.Step.{scene_at, to_turn, Called, to_mark, behind_main, receiver_of, go, go_by, go_on, enter, do_rvalue, do_leave, do_break}
+use Rattle.lra_program.specs.Step.{do_continue, do_stmt, do_declare, next, next_at}
 use Rattle.lra_program.specs.Run.{label_on, Point, IsFailing}
 use Rattle.lra_program.specs.Trails.{Met, passes, Trail, met_on, Becomes, Walks}
 use Rattle.lra_program.proofs.TrailLaws.{walk_on}
@@ -17,7 +21,9 @@ use Rattle.lra_operations.specs.Inlined.{Frame, Spot, spot_of, move, Has, HasSit
 use Rattle.lra_operations.specs.Inlined.{as_for, as_break}
 use Rattle.lra_operations.specs.Inlined.{as_continue, as_return, as_return_value, as_return_call, as_end, as_end_value, as_end_call, as_assert, as_assume, as_none, as_declaration, as_statement}
 use Rattle.lra_operations.specs.Inlined.{as_fresh, as_given, is_loop, as_value, as_result, loop_node, call_node, return_node}
-use Rattle.lra_graph.proofs.Shapes.{seq_inv, act_inv, leave_inv, point_seq, act_seq, jump_inv, EndsBody, GoesCall, call_returned, call_ended, call_stopped, call_at_end, call_inv, Round}
+use Rattle.lra_program.proofs.GivenArguments.{given_width}
+use Rattle.lra_graph.proofs.Shapes.{inner, given, width, seq_inv, act_inv, leave_inv, point_seq, act_seq, jump_inv, EndsBody, GoesCall, call_returned}
+use Rattle.lra_graph.proofs.Shapes.{call_ended, call_stopped, call_at_end, call_inv, Round}
 use Rattle.lra_graph.proofs.Shapes.{EndsBodyRound, LeavesRound, EndsLoop, loop_done, loop_at, loop_broken, loop_left, loop_inv}
 use Rattle.lra_graph.proofs.Lengths.{LengthAt, Length, length_one, length_all, length_declarator, length_loop, length_test}
 use Rattle.lra_graph.proofs.Lengths.{length_push, length_append, grows_all, tests_length, in_loop, mid_length, rounds_length}
@@ -53,9 +59,9 @@ leave_step None b v u t e a i o d = absurd (none-some e d)
 leave_step (Some r) b v u t e a i o d =
     rw i (go_is r.rest r.back.here (run_op (keep r.back.length) u) t (subst (λ (w : Back). run_op (keep w.length) u ≡ Some t) (sym (same_Some r.back b a)) o) ∙ d)
 
-target_back : (o : Option Called) (b : Back) → back_of o ≡ Some b → target_of o ≡ b.target
-target_back None b e = absurd (none-some b e)
-target_back (Some r) b e = ap (λ (w : Back). w.target) (same_Some r.back b e)
+receiver_back : (P : Program) (o : Option Called) (b : Back) → back_of o ≡ Some b → receiver_of P o ≡ b.receiver
+receiver_back P None b e = absurd (none-some b e)
+receiver_back P (Some r) b e = ap (λ (w : Back). w.receiver) (same_Some r.back b e)
 
 no_landing : (o : Option Called) (t : State) (e : Config) → o ≡ None → land_returned o t ≡ Some e → ⊥
 no_landing o t e i z = none-some e (subst (λ w. land_returned w t ≡ Some e) i z)
@@ -169,7 +175,7 @@ module _ (may : State → State → Type 0) (keeps : KeepsWidth may) (P : Progra
     pub runs : (k : List Item) (a : Trail Point) (u : Outcome) (b : Trail Point) → Matches f k → length a.state.store ≡ n → G g a u b → Pends f.here (i ∷ k) k u a b
 
   -- and of what a variable gets
-  pub record GivesDoes (f : Frame) (n : ℕ) (x : Option ℕ) (v : Rvalue) (g : Node) : Type 0 where
+  pub record GivesDoes (f : Frame) (n : ℕ) (x : Receiver) (v : Rvalue) (g : Node) : Type 0 where
     pub runs : (k : List Item) (a : Trail Point) (u : Outcome) (b : Trail Point) → length a.state.store ≡ n → G g a u b
         → (e : Config) × (do_rvalue P x v k f.here a.state ≡ Some e) × Fulfils f.here k u b e a.met
 
@@ -303,82 +309,104 @@ module _ (may : State → State → Type 0) (keeps : KeepsWidth may) (P : Progra
           → Fulfils spot.frame.here k u b (config (i ∷ k) spot.frame.here w.state) a.met
       moved k u b w i a e x = subst (λ xs. Fulfils spot.frame.here k u b (config (i ∷ k) spot.frame.here w.state) xs) e x
 
-  follows_give : (spot : Spot) (x : Option ℕ) (v : Expr) → GivesDoes spot.frame spot.live x (value v) (act spot.next (give spot.frame.here.base x v))
+  follows_give : (spot : Spot) (x : Receiver) (v : Expr) → GivesDoes spot.frame spot.live x (value v) (act spot.next (give spot.frame.here.base x v))
   follows_give spot x v = record {
     runs = λ k a u b l y. let z = act_inv (point_at T) may spot.next (give spot.frame.here.base x v) a u b y in
         rw z.0 (config k spot.frame.here b.state, go_is k spot.frame.here (run_op (give spot.frame.here.base x v) a.state) b.state z.1.0, (0, (refl, sym z.1.1)));
   }
 
   -- a statement that only gives a variable its value
-  follows_rvalue : (spot : Spot) (i : Stmt) (x : Option ℕ) (v : Rvalue) (g : Node)
+  follows_rvalue : (spot : Spot) (i : Stmt) (x : Receiver) (v : Rvalue) (g : Node)
       → ((k : List Item) (s : State) → length s.store ≡ spot.live → do_stmt P i k spot.frame.here s ≡ do_rvalue P x v k spot.frame.here s)
       → GivesDoes spot.frame spot.live x v g → Follows spot.frame spot.live (run i) g
   follows_rvalue spot i x v g same y = record {
     runs = λ k a u b m l z. let r = y.runs k a u b l z in pends spot.frame.here (run i ∷ k) k u a b r.0 (same k a.state l ∙ r.1) r.2;
   }
 
-  abbrev call_behind : Spot → Function → Option ℕ → List Item → List Item
-  call_behind spot fn x k = end_of fn.end (spot.live + fn.parameters) ∷ mark (record { target = x; here = spot.frame.here; length = spot.live }) ∷ k
+  abbrev call_behind : Spot → Function → Receiver → List Item → List Item
+  call_behind spot fn x k = end_of fn.end (spot.live + width fn) ∷ mark (record { receiver = inner fn x; here = spot.frame.here; length = spot.live }) ∷ k
 
-  does_call : (spot : Spot) (r' : ℕ) (x : Option ℕ) (c : Call) (fn : Function) (g : Node) (n' : ℕ) → slice_get P.functions c.function ≡ Some fn → length c.arguments ≡ fn.parameters
-      → Length (point_at T) may keeps (callee spot.frame spot.live x c) (spot.live + fn.parameters) n' g → spot.live + fn.parameters ≤ n' →
-      Has T (spot_of (callee spot.frame spot.live x c) n' r') fn.end
-      → Does (callee spot.frame spot.live x c) (spot.live + fn.parameters) (all fn.body) g
-      → GivesDoes spot.frame spot.live x (result c) (call_node spot.next r' spot.frame.here.base spot.live x c.arguments fn.parameters g)
+  does_call : (spot : Spot) (r' : ℕ) (x : Receiver) (c : Call) (fn : Function) (g : Node) (n' : ℕ) → slice_get P.functions c.function ≡ Some fn → length
+      c.arguments ≡ length fn.parameters
+      → Length (point_at T) may keeps (callee spot.frame spot.live (inner fn x) c) (spot.live + width fn) n' g → spot.live + width fn ≤ n' →
+      Has T (spot_of (callee spot.frame spot.live (inner fn x) c) n' r') fn.end
+      → Does (callee spot.frame spot.live (inner fn x) c) (spot.live + width fn) (all fn.body) g
+      → GivesDoes spot.frame spot.live x (result c) (call_node spot.next r' spot.frame.here.base spot.live (inner fn x) (given fn c) (width fn) g)
   does_call spot r' x c fn g n' found i len up has y = record {
-    runs = λ k a u b l z. let w = call_inv (point_at T) may spot r' x c.arguments fn.parameters g a u b z in
-        (config (all fn.body ∷ call_behind spot fn x k) (callee spot.frame spot.live x c).here w.0.state, enters k a w.0 l w.1, moved k u b a w.0 w.1.1 (by k w.0 u b (long a w.0 l w.1) w.2));
+    runs = λ k a u b l z. let w = call_inv (point_at T) may spot r' (inner fn x) (given fn c) (width fn) g a u b z in (
+      config (all fn.body ∷ call_behind spot fn x k) (callee spot.frame spot.live (inner fn x) c).here w.0.state,
+      enters k a w.0 l w.1,
+      moved k u b a w.0
+          w.1.1 (by k w.0 u b (long a w.0 l w.1) w.2),
+    );
   }
     where
-      long : (a w : Trail Point) → length a.state.store ≡ spot.live → Performs (push spot.frame.here.base c.arguments) a w → length w.state.store ≡ spot.live + fn.parameters
-      long a w l o = length_push spot.frame.here.base c.arguments a.state w.state o.0 ∙ rw (l, i) refl
+      long : (a w : Trail Point) → length a.state.store ≡ spot.live → Performs (push spot.frame.here.base (given fn c)) a w → length w.state.store ≡ spot.live
+          + width fn
+      long a w l o = length_push spot.frame.here.base (given fn c) a.state w.state o.0 ∙ rw (l, given_width fn.parameters c.arguments i) refl
 
-      matches : (k : List Item) → Matches (callee spot.frame spot.live x c) (end_of fn.end (spot.live + fn.parameters) ∷ mark (record { target = x; here = spot.frame.here; length = spot.live }) ∷ k)
+      matches : (k : List Item) → Matches (callee spot.frame spot.live (inner fn x) c)
+          (end_of fn.end (spot.live + width fn) ∷ mark (record { receiver = inner fn x; here = spot.frame.here; length = spot.live }) ∷ k)
       matches k = record { loops = λ m z. absurd (none-some m z); backs = refl }
 
-      enters : (k : List Item) (a w : Trail Point) → length a.state.store ≡ spot.live → Performs (push spot.frame.here.base c.arguments) a w
-          → do_rvalue P x (result c) k spot.frame.here a.state ≡ Some (config (all fn.body ∷ call_behind spot fn x k) (callee spot.frame spot.live x c).here w.state)
-      enters k a w l o = subst (λ v. enter v c x k spot.frame.here a.state ≡ Some (config (all fn.body ∷ call_behind spot fn x k) (callee spot.frame spot.live x c).here w.state)) (sym found)
-          (rw l (go_is (all fn.body ∷ call_behind spot fn x k) (callee spot.frame spot.live x c).here (run_op (push spot.frame.here.base c.arguments) a.state) w.state o.0))
+      enters : (k : List Item) (a w : Trail Point) → length a.state.store ≡ spot.live → Performs (push spot.frame.here.base (given fn c)) a w
+          → do_rvalue P x (result c) k spot.frame.here a.state ≡ Some (config (all fn.body ∷ call_behind spot fn x k)
+          (callee spot.frame spot.live (inner fn x) c).here w.state)
+      enters k a w l o = subst (λ v. enter v c x k spot.frame.here a.state ≡ Some
+          (config (all fn.body ∷ call_behind spot fn x k) (callee spot.frame spot.live (inner fn x) c).here w.state)) (sym found)
+          (rw l (go_is (all fn.body ∷ call_behind spot fn x k) (callee spot.frame spot.live (inner fn x) c).here
+          (run_op (push spot.frame.here.base (given fn c)) a.state) w.state o.0))
 
       moved : (k : List Item) (u : Outcome) (b a w : Trail Point) → w.met ≡ a.met →
-          Fulfils spot.frame.here k u b (config (all fn.body ∷ call_behind spot fn x k) (callee spot.frame spot.live x c).here w.state) w.met
-          → Fulfils spot.frame.here k u b (config (all fn.body ∷ call_behind spot fn x k) (callee spot.frame spot.live x c).here w.state) a.met
-      moved k u b a w e z = subst (λ xs. Fulfils spot.frame.here k u b (config (all fn.body ∷ call_behind spot fn x k) (callee spot.frame spot.live x c).here w.state) xs) e z
+          Fulfils spot.frame.here k u b (config (all fn.body ∷ call_behind spot fn x k) (callee spot.frame spot.live (inner fn x) c).here w.state) w.met
+          → Fulfils spot.frame.here k u b (config (all fn.body ∷ call_behind spot fn x k) (callee spot.frame spot.live (inner fn x) c).here w.state) a.met
+      moved k u b a w e z = subst (λ xs. Fulfils spot.frame.here k u b (config (all fn.body ∷ call_behind spot fn x k)
+          (callee spot.frame spot.live (inner fn x) c).here w.state) xs) e z
 
-      no_jump : (z : Stop) (w b : Trail Point) → z ≢ by_jump returned → LengthAt (callee spot.frame spot.live x c) n' (stopped z) b.state → (j : Exit) → z ≢ by_jump j
+      no_jump : (z : Stop) (w b : Trail Point) → z ≢ by_jump returned → LengthAt (callee spot.frame spot.live (inner fn x) c) n' (stopped z) b.state →
+          (j : Exit) → z ≢ by_jump j
       no_jump (by_jump broken) w b d v j e = none-some _ v.1
       no_jump (by_jump continued) w b d v j e = none-some _ v.1
       no_jump (by_jump returned) w b d v j e = d refl
       no_jump (to_point q) w b d v j e = cc
       no_jump (to_failure q) w b d v j e = cc
 
-      through_end : (k : List Item) (w b : Trail Point) → EndsBody (point_at T) may r' spot.live x fn.parameters g w b → length w.state.store ≡ spot.live + fn.parameters
-          → RunsTo (config (all fn.body ∷ call_behind spot fn x k) (callee spot.frame spot.live x c).here w.state) w.met (config k spot.frame.here b.state) b.met
+      through_end : (k : List Item) (w b : Trail Point) → EndsBody (point_at T) may r' spot.live (inner fn x) (width fn) g w b → length w.state.store ≡
+          spot.live + width fn
+          → RunsTo (config (all fn.body ∷ call_behind spot fn x k) (callee spot.frame spot.live (inner fn x) c).here w.state) w.met
+          (config k spot.frame.here b.state) b.met
       through_end k w b z l =
-          let marked : List Item = mark (record { target = x; here = spot.frame.here; length = spot.live }) ∷ k in
-          let inner : Here = (callee spot.frame spot.live x c).here in
+          let marked : List Item = mark (record { receiver = inner fn x; here = spot.frame.here; length = spot.live }) ∷ k in
+          let there : Here = (callee spot.frame spot.live (inner fn x) c).here in
           let one = y.runs (call_behind spot fn x k) w to_end z.before (matches k) l z.body in
-          let two = step_at (call_behind spot fn x k) (spot_of (callee spot.frame spot.live x c) n' r') fn.end false z.before z.past (config marked inner z.cut.state) has refl z.passed
-          (go_is marked inner (run_op (keep (spot.live + fn.parameters)) z.past.state) z.cut.state z.cuts.0) in
-          let three = step_plain (config marked inner z.cut.state) (config k spot.frame.here b.state) z.past.met refl
-          (go_on_is (run_any x z.cut.state) (λ v. go k spot.frame.here (run_op (keep spot.live) v)) z.set.state z.sets.0 ∙ go_is k spot.frame.here (run_op (keep spot.live) z.set.state) b.state
+          let two = step_at (call_behind spot fn x k) (spot_of (callee spot.frame spot.live (inner fn x) c) n' r') fn.end false z.before z.past
+          (config marked there z.cut.state) has refl z.passed
+          (go_is marked there (run_op (keep (spot.live + width fn)) z.past.state) z.cut.state z.cuts.0) in
+          let three = step_plain (config marked there z.cut.state) (config k spot.frame.here b.state) z.past.met refl
+          (go_on_is (run_any (inner fn x) z.cut.state) (λ v. go k spot.frame.here (run_op (keep spot.live) v)) z.set.state z.sets.0 ∙ go_is k spot.frame.here
+          (run_op (keep spot.live) z.set.state) b.state
           z.back.0) in
-          join (config (all fn.body ∷ call_behind spot fn x k) inner w.state) (config (call_behind spot fn x k) inner z.before.state) (config k spot.frame.here b.state) w.met z.before.met b.met one
-          (join (config (call_behind spot fn x k) inner z.before.state) (config marked inner z.cut.state) (config k spot.frame.here b.state) z.before.met z.past.met b.met two
-          (met_same (config marked inner z.cut.state) (config k spot.frame.here b.state) z.past.met z.past.met b.met (z.back.1 ∙ (z.sets.1 ∙ z.cuts.1)) three))
+          join (config (all fn.body ∷ call_behind spot fn x k) there w.state) (config (call_behind spot fn x k) there z.before.state)
+          (config k spot.frame.here b.state) w.met z.before.met b.met one
+          (join (config (call_behind spot fn x k) there z.before.state) (config marked there z.cut.state) (config k spot.frame.here b.state) z.before.met
+          z.past.met b.met two
+          (met_same (config marked there z.cut.state) (config k spot.frame.here b.state) z.past.met z.past.met b.met (z.back.1 ∙ (z.sets.1 ∙ z.cuts.1)) three))
 
-      by : (k : List Item) (w : Trail Point) (u : Outcome) (b : Trail Point) → length w.state.store ≡ spot.live + fn.parameters → GoesCall (point_at T) may spot r' x c.arguments fn.parameters g w b u
-          → Fulfils spot.frame.here k u b (config (all fn.body ∷ call_behind spot fn x k) (callee spot.frame spot.live x c).here w.state) w.met
+      by : (k : List Item) (w : Trail Point) (u : Outcome) (b : Trail Point) → length w.state.store ≡ spot.live + width fn → GoesCall (point_at T) may spot r'
+          (inner fn x) (given fn c) (width fn) g w b u
+          → Fulfils spot.frame.here k u b (config (all fn.body ∷ call_behind spot fn x k) (callee spot.frame spot.live (inner fn x) c).here w.state) w.met
       by k w _ b l (call_returned z) = y.runs (call_behind spot fn x k) w (stopped (by_jump returned)) b (matches k) l z (config k spot.frame.here b.state) refl
       by k w _ b l (call_ended z) = through_end k w b z l
       by k w _ b l (call_stopped v d z) =
-          across (callee spot.frame spot.live x c).here spot.frame.here (call_behind spot fn x k) k v b
-          (config (all fn.body ∷ call_behind spot fn x k) (callee spot.frame spot.live x c).here w.state) w.met
+          across (callee spot.frame spot.live (inner fn x) c).here spot.frame.here (call_behind spot fn x k) k v b
+          (config (all fn.body ∷ call_behind spot fn x k) (callee spot.frame spot.live (inner fn x) c).here w.state) w.met
           (no_jump v w b d (len.ends w b (stopped v) l z)) (y.runs (call_behind spot fn x k) w (stopped v) b (matches k) l z)
-      by k w _ b l (call_at_end z) = later spot.frame.here k (stopped (to_point r')) b (config (all fn.body ∷ call_behind spot fn x k) (callee spot.frame spot.live x c).here w.state)
-          (config (call_behind spot fn x k) (callee spot.frame spot.live x c).here b.state) w.met b.met (y.runs (call_behind spot fn x k) w to_end b (matches k) l z)
-          (stands_here (spot_of (callee spot.frame spot.live x c) n' r') fn.end false (call_behind spot fn x k) b b has refl (len.ends w b to_end l z) refl)
+      by k w _ b l (call_at_end z) = later spot.frame.here k (stopped (to_point r')) b
+          (config (all fn.body ∷ call_behind spot fn x k) (callee spot.frame spot.live (inner fn x) c).here w.state)
+          (config (call_behind spot fn x k) (callee spot.frame spot.live (inner fn x) c).here b.state) w.met b.met
+          (y.runs (call_behind spot fn x k) w to_end b (matches k) l z)
+          (stands_here (spot_of (callee spot.frame spot.live (inner fn x) c) n' r') fn.end false (call_behind spot fn x k) b b has refl
+          (len.ends w b to_end l z) refl)
 
   module _ (spot : Spot) (at : ℕ) (c : Cond) (s step : Stmt) (g h : Node) (has : Has T spot at) (body : Does (in_loop spot.frame (Some spot.live)) spot.live (run s) g)
       (stepping : Does (in_loop spot.frame None) spot.live (run step) h)
@@ -505,7 +533,7 @@ module _ (may : State → State → Type 0) (keeps : KeepsWidth may) (P : Progra
 
   -- a return that gives its value, or any
   follows_return : (spot : Spot) (i : Item) (op : Op) (r : Back) → spot.frame.back ≡ Some r
-      → ((k : List Item) (s : State) → target_of (to_mark k) ≡ r.target → next P (config (i ∷ k) spot.frame.here s) ≡ do_leave (to_mark k) (run_op op s))
+      → ((k : List Item) (s : State) → receiver_of P (to_mark k) ≡ r.receiver → next P (config (i ∷ k) spot.frame.here s) ≡ do_leave (to_mark k) (run_op op s))
       → Follows spot.frame spot.live i (return_node spot.next op r.length spot.live)
   follows_return spot i op r is same = record {
     runs = λ k a u b mm l y.
@@ -514,12 +542,13 @@ module _ (may : State → State → Type 0) (keeps : KeepsWidth may) (P : Progra
         let back = mm.backs ∙ is in
         rw x.0 (λ e z. (
           e,
-          same k a.state (target_back (to_mark k) r back) ∙ leave_step (to_mark k) r (run_op op a.state) one.0.state b.state e back one.1.0 x.1.0 z,
+          same k a.state (receiver_back P (to_mark k) r back) ∙ leave_step (to_mark k) r (run_op op a.state) one.0.state b.state e back one.1.0 x.1.0 z,
           (0, (refl, sym (x.1.1 ∙ one.1.1))),
         ));
   }
 
-  follows_return_call : (spot : Spot) (at : ℕ) (v : Call) (r : Back) (g : Node) → spot.frame.back ≡ Some r → GivesDoes spot.frame spot.live r.target (result v) g
+  follows_return_call : (spot : Spot) (at : ℕ) (v : Call) (r : Back) (g : Node) → spot.frame.back ≡ Some r → GivesDoes spot.frame spot.live r.receiver
+      (result v) g
       → Follows spot.frame spot.live (run (return at (Some (result v)))) (seq g (seq (act spot.next (keep r.length)) (leave spot.live returned)))
   follows_return_call spot at v r g is y = record {
     runs = λ k a u b mm l z. elim (seq_inv (point_at T) may g (seq (act spot.next (keep r.length)) (leave spot.live returned)) a u b z) as
@@ -540,9 +569,10 @@ module _ (may : State → State → Type 0) (keeps : KeepsWidth may) (P : Progra
         ];
   }
     where
-      starts : (k : List Item) (s : State) (e : Config) → back_of (to_mark k) ≡ Some r → do_rvalue P r.target (result v) (leave_call ∷ k) spot.frame.here s ≡ Some e
+      starts : (k : List Item) (s : State) (e : Config) → back_of (to_mark k) ≡ Some r → do_rvalue P r.receiver (result v) (leave_call ∷ k) spot.frame.here s ≡
+          Some e
           → next P (config (run (return at (Some (result v))) ∷ k) spot.frame.here s) ≡ Some e
-      starts k s e back z = subst (λ w. do_rvalue P w (result v) (leave_call ∷ k) spot.frame.here s ≡ Some e) (sym (target_back (to_mark k) r back)) z
+      starts k s e back z = subst (λ w. do_rvalue P w (result v) (leave_call ∷ k) spot.frame.here s ≡ Some e) (sym (receiver_back P (to_mark k) r back)) z
 
   -- in `main` nothing follows
   follows_stop : (spot : Spot) (i : Item) → spot.frame.back ≡ None → Follows spot.frame spot.live i (leave spot.live returned)
@@ -551,7 +581,15 @@ module _ (may : State → State → Type 0) (keeps : KeepsWidth may) (P : Progra
         rw x.0 (λ e z. absurd (no_landing (to_mark k) b.state e (mark_none (to_mark k) (mm.backs ∙ is)) z));
   }
 
-  follows_stop_call : (spot : Spot) (at : ℕ) (v : Call) (g : Node) → spot.frame.back ≡ None → GivesDoes spot.frame spot.live None (result v) g →
+  -- its value is given
+  follows_stop_value : (spot : Spot) (i : Item) (op : Op) → spot.frame.back ≡ None → Follows spot.frame spot.live i
+      (seq (act spot.next op) (leave spot.live returned))
+  follows_stop_value spot i op is = record {
+    runs = λ k a u b mm l y. let x = jump_inv (point_at T) may spot.next op spot.live returned a u b y in
+        rw x.0 (λ e z. absurd (no_landing (to_mark k) b.state e (mark_none (to_mark k) (mm.backs ∙ is)) z));
+  }
+
+  follows_stop_call : (spot : Spot) (at : ℕ) (v : Call) (g : Node) → spot.frame.back ≡ None → GivesDoes spot.frame spot.live (behind_main P) (result v) g →
       Follows spot.frame spot.live (run (return at (Some (result v)))) (seq g (leave spot.live returned))
   follows_stop_call spot at v g is y = record {
     runs = λ k a u b mm l z. elim (seq_inv (point_at T) may g (leave spot.live returned) a u b z) as (λ _. Pends spot.frame.here (run (return at (Some (result v))) ∷ k) k u a b) [
@@ -563,24 +601,27 @@ module _ (may : State → State → Type 0) (keeps : KeepsWidth may) (P : Progra
     ];
   }
     where
-      starts : (k : List Item) (s : State) (e : Config) → to_mark k ≡ None → do_rvalue P None (result v) (leave_call ∷ k) spot.frame.here s ≡ Some e
+      starts : (k : List Item) (s : State) (e : Config) → to_mark k ≡ None → do_rvalue P (behind_main P) (result v) (leave_call ∷ k) spot.frame.here s ≡ Some e
           → next P (config (run (return at (Some (result v))) ∷ k) spot.frame.here s) ≡ Some e
-      starts k s e i z = subst (λ w. do_rvalue P (target_of w) (result v) (leave_call ∷ k) spot.frame.here s ≡ Some e) (sym i) z
+      starts k s e i z = subst (λ w. do_rvalue P (receiver_of P w) (result v) (leave_call ∷ k) spot.frame.here s ≡ Some e) (sym i) z
 
   -- a declarator that gives its variable a value
-  follows_given : (spot : Spot) (d : Declarator) (v : Rvalue) (g : Node) → d.rvalue ≡ Some v → GivesDoes spot.frame (suc spot.live) (Some spot.live) v g →
-      Follows spot.frame spot.live (declare d) (seq (act spot.next append) g)
+  follows_given : (spot : Spot) (d : Declarator) (v : Rvalue) (g : Node) → d.rvalue ≡ Some v → GivesDoes spot.frame (suc spot.live)
+      (variable_at spot.live d.number_type) v g →
+      Follows spot.frame spot.live (declare d) (seq (act spot.next (append d.number_type)) g)
   follows_given spot d v g same y = record {
     runs = λ k a u b mm l z.
-        let one = act_seq (point_at T) may spot.next append g a u b z in
-        let r = y.runs k one.0 u b (length_append a.state one.0.state one.1.0 ∙ ap suc l) one.2 in
+        let one = act_seq (point_at T) may spot.next (append d.number_type) g a u b z in
+        let r = y.runs k one.0 u b (length_append d.number_type a.state one.0.state one.1.0 ∙ ap suc l) one.2 in
         pends spot.frame.here (declare d ∷ k) k u a b r.0 (starts k a.state one.0.state r.0 l one.1.0 r.1) (subst (λ xs. Fulfils spot.frame.here k u b r.0 xs) one.1.1 r.2);
   }
     where
-      starts : (k : List Item) (s u : State) (e : Config) → length s.store ≡ spot.live → run_op append s ≡ Some u → do_rvalue P (Some spot.live) v k spot.frame.here u ≡ Some e
+      starts : (k : List Item) (s u : State) (e : Config) → length s.store ≡ spot.live → run_op (append d.number_type) s ≡ Some u → do_rvalue P
+          (variable_at spot.live d.number_type) v k spot.frame.here u ≡ Some e
           → next P (config (declare d ∷ k) spot.frame.here s) ≡ Some e
-      starts k s u e l o z = subst (λ w. do_declare P w k spot.frame.here s ≡ Some e) (sym same)
-          (go_on_is (run_op append s) (do_rvalue P (Some (length s.store)) v k spot.frame.here) u o ∙ subst (λ w. do_rvalue P (Some w) v k spot.frame.here u ≡ Some e) (sym l) z)
+      starts k s u e l o z = subst (λ w. do_declare P d.number_type w k spot.frame.here s ≡ Some e) (sym same)
+          (go_on_is (run_op (append d.number_type) s) (do_rvalue P (variable_at (length s.store) d.number_type) v k spot.frame.here) u o
+          ∙ subst (λ w. do_rvalue P (variable_at w d.number_type) v k spot.frame.here u ≡ Some e) (sym l) z)
 
   does_cut : (f : Frame) (n q m : ℕ) → Does f n (cut m) (act q (keep m))
   does_cut f n q m = does_plain f n (cut m) (act q (keep m)) (λ k. refl) (follows_act f n q (keep m) (cut m) (λ k s. refl))
@@ -623,9 +664,9 @@ module _ (may : State → State → Type 0) (keeps : KeepsWidth may) (P : Progra
         (λ k s l. rw l refl) (λ k. refl) (λ k. refl) (length_all (point_at T) may keeps d) (does_all d) (does_end (move spot n' q') spot.live end i)
     does_one (as_absent {s = spot}) = does_plain spot.frame spot.live (run absent) empty (λ k. refl) (follows_empty spot.frame spot.live (run absent) (λ k s. refl))
     does_one (as_assign {s = spot} {at = at} {x = x} {e = e} {g = g} i d) = does_point spot at (run (assign at x e)) g i (λ k. refl)
-        (follows_rvalue spot (assign at x e) (Some (index_of spot.frame.here.base x)) e g (λ k s l. refl) (does_gives d))
+        (follows_rvalue spot (assign at x e) (variable_at (index_of spot.frame.here.base x.slot) x.number_type) e g (λ k s l. refl) (does_gives d))
     does_one (as_call {s = spot} {at = at} {c = c} {g = g} i d) = does_point spot at (run (call at c)) g i (λ k. refl)
-        (follows_rvalue spot (call at c) None (result c) g (λ k s l. refl) (does_gives d))
+        (follows_rvalue spot (call at c) nobody (result c) g (λ k s l. refl) (does_gives d))
     does_one (as_if {s = spot} {at = at} {c = c} {a = s} {b = s'} {g = g} {h = h} i d e) =
         does_point spot at (run (if at c s s')) (choose spot.next spot.frame.here.base c g h) i (λ k. refl)
         (follows_if spot at c s s' g h (does_one d) (does_one e))
@@ -637,19 +678,20 @@ module _ (may : State → State → Type 0) (keeps : KeepsWidth may) (P : Progra
     does_one (as_continue {s = spot} {at = at} {m = m} i k j) = does_point spot at (run (continue at))
         (seq (act spot.next (keep m)) (leave spot.live continued)) j (λ k. refl) (follows_continue spot at m i)
     does_one (as_return {s = spot} {at = at} {b = b} i k j) = does_point spot at (run (return at None))
-        (return_node spot.next (give_any b.target) b.length spot.live) j (λ k. refl)
-        (follows_return spot (run (return at None)) (give_any b.target) b i (λ k s z. ap (λ x. do_leave (to_mark k) (run_any x s)) z))
+        (return_node spot.next (give_any b.receiver) b.length spot.live) j (λ k. refl)
+        (follows_return spot (run (return at None)) (give_any b.receiver) b i (λ k s z. ap (λ x. do_leave (to_mark k) (run_any x s)) z))
     does_one (as_return_value {s = spot} {at = at} {e = e} {b = b} i k j) =
-        does_point spot at (run (return at (Some (value e)))) (return_node spot.next (give spot.frame.here.base b.target e) b.length spot.live) j (λ k. refl)
-        (follows_return spot (run (return at (Some (value e)))) (give spot.frame.here.base b.target e) b i
+        does_point spot at (run (return at (Some (value e)))) (return_node spot.next (give spot.frame.here.base b.receiver e) b.length spot.live) j (λ k. refl)
+        (follows_return spot (run (return at (Some (value e)))) (give spot.frame.here.base b.receiver e) b i
         (λ k s z. ap (λ x. do_leave (to_mark k) (run_op (give spot.frame.here.base x e) s)) z))
     does_one (as_return_call {s = spot} {at = at} {c = c} {b = b} {g = g} i k j d) =
         does_point spot at (run (return at (Some (result c)))) (seq g (seq (act spot.next (keep b.length)) (leave spot.live returned))) j
         (λ k. refl) (follows_return_call spot at c b g i (does_gives d))
     does_one (as_end {s = spot} {at = at} i j) = does_point spot at (run (return at None)) (leave spot.live returned) j (λ k. refl)
         (follows_stop spot (run (return at None)) i)
-    does_one (as_end_value {s = spot} {at = at} {e = e} i j) = does_point spot at (run (return at (Some (value e)))) (leave spot.live returned) j
-        (λ k. refl) (follows_stop spot (run (return at (Some (value e)))) i)
+    does_one (as_end_value {s = spot} {at = at} {e = e} i j) = does_point spot at (run (return at (Some (value e))))
+        (seq (act spot.next (give spot.frame.here.base (behind_main P) e)) (leave spot.live returned)) j
+        (λ k. refl) (follows_stop_value spot (run (return at (Some (value e)))) (give spot.frame.here.base (behind_main P) e) i)
     does_one (as_end_call {s = spot} {at = at} {c = c} {g = g} i j d) = does_point spot at (run (return at (Some (result c))))
         (seq g (leave spot.live returned)) j (λ k. refl) (follows_stop_call spot at c g i (does_gives d))
     does_one (as_assert {s = spot} {at = at} {c = c} i) = does_assert spot at c i
@@ -666,16 +708,17 @@ module _ (may : State → State → Type 0) (keeps : KeepsWidth may) (P : Progra
         does_two spot.frame spot.live spot.live (all (statement s b)) (run s) (all b) g h (λ k. refl) (λ k s l. refl) (λ k. refl) (λ k. refl) (length_one (point_at T) may keeps d)
         (does_one d) (does_all e)
 
-    pub does_declares : {spot : Spot} {r : ℕ} {o : Option Rvalue} {g : Node} {q : ℕ} (d : Declarator) → Declares P T spot r o g q → d.rvalue ≡ o
+    pub does_declares : {spot : Spot} {r : ℕ} {o : Option Rvalue} {g : Node} {q : ℕ} (d : Declarator) → Declares P T spot r d.number_type o g q → d.rvalue ≡ o
         → Follows spot.frame spot.live (declare d) g
-    does_declares d (as_fresh {s = spot}) same = follows_act spot.frame spot.live spot.next append (declare d) (λ k s. ap (λ w. do_declare P w k spot.frame.here s) same)
+    does_declares d (as_fresh {s = spot}) same = follows_act spot.frame spot.live spot.next (append d.number_type) (declare d)
+        (λ k s. ap (λ w. do_declare P d.number_type w k spot.frame.here s) same)
     does_declares d (as_given {s = spot} {e = e} {g = g} x) same = follows_given spot d e g same (does_gives x)
 
     pub does_loops : {spot : Spot} {r : ℕ} {s : Stmt} {g : Node} {q : ℕ} → Loops P T spot r s g q → Does spot.frame spot.live (run s) g
     does_loops (is_loop {s = spot} {at = at} {c = c} {a = s} {step = step} {g = g} {h = h} i d e) =
         does_loop spot at c s step g h i (does_one e) (does_one d) (length_one (point_at T) may keeps e) (length_one (point_at T) may keeps d)
 
-    pub does_gives : {spot : Spot} {r : ℕ} {x : Option ℕ} {e : Rvalue} {g : Node} {q : ℕ} → Gives P T spot r x e g q → GivesDoes spot.frame spot.live x e g
+    pub does_gives : {spot : Spot} {r : ℕ} {x : Receiver} {e : Rvalue} {g : Node} {q : ℕ} → Gives P T spot r x e g q → GivesDoes spot.frame spot.live x e g
     does_gives (as_value {s = spot} {x = x} {e = e}) = follows_give spot x e
     does_gives (as_result {s = spot} {x = x} {c = c} {fn = fn} {g = g} {n = n'} {q = r'} i j d k) =
         does_call spot r' x c fn g n' i j (length_all (point_at T) may keeps d) (grows_all d) k (does_all d)

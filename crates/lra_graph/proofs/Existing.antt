@@ -5,7 +5,10 @@ use Rattle.std.proofs.lemmas.Option.{none-some}
 use Rattle.lra_program.specs.Program.{Call, Rvalue, value, result, Stmt, absent, nothing, block, assign, call, if, loop, for, break, continue, return, assert, assume, BlockItems, no_more, declaration}
 use Rattle.lra_program.specs.Program.{statement, Program}
 use Rattle.lra_program.specs.Value.{index_of}
-use Rattle.lra_program.specs.Step.{append, give, give_any, keep}
+use Rattle.lra_program.specs.Step.{append, give, give_any, keep, arguments_for}
+use Rattle.lra_base.specs.declared.number_types.NumberType.{NumberType}
+use Rattle.lra_program.specs.declared.receivers.Receiver.{Receiver}
+use Rattle.lra_program.specs.Receivers.{variable_at, nobody, behind_result}
 use Rattle.lra_operations.specs.Graph.{returned, Node, empty, point, act, seq, choose, leave}
 use Rattle.lra_tree.specs.Labels.{Labelled}
 use Rattle.lra_program.specs.Sites.{Site, Event, comes, one_call_more, plain_site, live_behind, rvalue_events, given_events, stmt_events, items_events, function_events, call_events, events_of}
@@ -15,7 +18,6 @@ use Rattle.lra_program.specs.WellFormed.{IsWellFormed}
 use Rattle.lra_meaning.specs.Refuse.{greatest_live, greatest_points, limit_fault}
 use Rattle.lra_graph.specs.declared.points.Limit.TheVariants.{Variables, Points, Calls}
 use Rattle.lra_graph.specs.declared.frame.Frame.{Frame}
-use Rattle.lra_graph.specs.declared.frame.Back.{Back}
 use Rattle.lra_graph.specs.Limits.{Progress, passed, stopped, walk}
 use Rattle.lra_graph.specs.Building.{inside, StmtStands, ItemsStand, GivenStands, CallStands, WritesStmt, WritesItems, WritesRvalue, WritesDeclared}
 use Rattle.lra_graph.proofs.Walking.{not_passed, passed_same, chosen_then, chosen_passed}
@@ -44,46 +46,51 @@ walk_parts S (comes s ∷ es) fs U e =
 walk_parts S (one_call_more at ∷ es) fs U e = absurd (not_passed (Calls at) U e)
 
 module _ (P : Program) where
-  abbrev HasRvalue : List ℕ → Frame → ℕ → Option ℕ → List Site → List Site → Rvalue → Type 0
+  abbrev HasRvalue : List ℕ → Frame → ℕ → Receiver → List Site → List Site → Rvalue → Type 0
   HasRvalue path r q x S U e = (g : Node) × WritesRvalue P path r q x S e g U
 
   -- calls that may make so many calls more are written out
   abbrev HaveCalls : ℕ → Type 0
-  HaveCalls more = (c : Call) (path : List ℕ) (r : Frame) (q : ℕ) (x : Option ℕ) (S U : List Site) → r.calls_left ≡ more → CallStands P r c
+  HaveCalls more = (c : Call) (path : List ℕ) (r : Frame) (q : ℕ) (x : Receiver) (S U : List Site) → r.calls_left ≡ more → CallStands P r c
       → walk S (inside P path r path r.live c) ≡ passed U → HasRvalue path r q x S U (result c)
 
   module _ (more : ℕ) (calls : HaveCalls more) where
-    rvalue : (e : Rvalue) (path : List ℕ) (r : Frame) (q : ℕ) (x : Option ℕ) (S U : List Site) → r.calls_left ≡ more → GivenStands P r (Some e)
+    rvalue : (e : Rvalue) (path : List ℕ) (r : Frame) (q : ℕ) (x : Receiver) (S U : List Site) → r.calls_left ≡ more → GivenStands P r (Some e)
         → walk S (rvalue_events (inside P path r) path r.live e) ≡ passed U → HasRvalue path r q x S U e
     rvalue (value e) path r q x S U left stands w =
         let g = act q (give r.base x e) in
         (g, subst (λ V. WritesRvalue P path r q x S (value e) g V) (passed_same S U w) (value_written P path r S q x e g refl))
     rvalue (result c) path r q x S U left stands w = calls c path r q x S U left (result_stands P r c stands) w
 
-    given : (o : Option Rvalue) (path : List ℕ) (r : Frame) (q : ℕ) (S U : List Site) → r.calls_left ≡ more → GivenStands P (record r { live = suc r.live }) o
-        → walk S (given_events (inside P path r) path (suc r.live) o) ≡ passed U → (g : Node) × WritesDeclared P path r q S o g U
-    given None path r q S U left stands w =
-        (act q append, subst (λ V. WritesDeclared P path r q S None (act q append) V) (passed_same S U w) (fresh_written P path r S q (act q append) refl))
-    given (Some e) path r q S U left stands w =
-        let (h, y) = rvalue e path (record r { live = suc r.live }) q (Some r.live) S U left stands w in
-        (seq (act q append) h, given_written P path r S U q (suc r.live) e h (seq (act q append) h) refl y refl)
+    given : (t : NumberType) (o : Option Rvalue) (path : List ℕ) (r : Frame) (q : ℕ) (S U : List Site) → r.calls_left ≡ more → GivenStands P
+        (record r { live = suc r.live }) o
+        → walk S (given_events (inside P path r) path (suc r.live) o) ≡ passed U → (g : Node) × WritesDeclared P path r q S t o g U
+    given t None path r q S U left stands w = (
+      act q (append t),
+      subst (λ V. WritesDeclared P path r q S t None (act q (append t)) V) (passed_same S U w)
+          (fresh_written P path r S q t (act q (append t)) refl),
+    )
+    given t (Some e) path r q S U left stands w =
+        let (h, y) = rvalue e path (record r { live = suc r.live }) q (variable_at r.live t) S U left stands w in
+        (seq (act q (append t)) h, given_written P path r S U q (suc r.live) t e h (seq (act q (append t)) h) refl y refl)
 
     abbrev HasReturn : List ℕ → Frame → ℕ → List Site → List Site → Option Rvalue → Type 0
     HasReturn path r q S U o = (g : Node) × WritesReturn P path r q S o g U
 
     -- back to a caller
-    returned_to : (o : Option Rvalue) (b : Back) (path : List ℕ) (r : Frame) (q : ℕ) (S U : List Site) → r.back ≡ Some b → b.length ≤ r.live → r.calls_left ≡ more → GivenStands P r o
+    returned_to : (o : Option Rvalue) (n : ℕ) (path : List ℕ) (r : Frame) (q : ℕ) (S U : List Site) → r.back ≡ Some n → n ≤ r.live → r.calls_left ≡ more →
+        GivenStands P r o
         → walk S (given_events (inside P path r) path r.live o) ≡ passed U → HasReturn path r q S U o
-    returned_to None b path r q S U back low left stands w =
-        let g = return_node q (give_any b.target) b.length r.live in
-        (g, subst (λ V. WritesReturn P path r q S None g V) (passed_same S U w) (return_any_written P path r S q b back low g refl))
-    returned_to (Some (value e)) b path r q S U back low left stands w =
-        let g = return_node q (give r.base b.target e) b.length r.live in
-        (g, subst (λ V. WritesReturn P path r q S (Some (value e)) g V) (passed_same S U w) (return_value_written P path r S q b back low e g refl))
-    returned_to (Some (result c)) b path r q S U back low left stands w =
-        let (h, y) = calls c path r q b.target S U left (result_stands P r c stands) w in
-        let k = seq (act q (keep b.length)) (leave r.live returned) in
-        (seq h k, return_call_written P path r S q b back low U c h k (seq h k) y refl refl)
+    returned_to None n path r q S U back low left stands w =
+        let g = return_node q (give_any r.receiver) n r.live in
+        (g, subst (λ V. WritesReturn P path r q S None g V) (passed_same S U w) (return_any_written P path r S q n back low g refl))
+    returned_to (Some (value e)) n path r q S U back low left stands w =
+        let g = return_node q (give r.base r.receiver e) n r.live in
+        (g, subst (λ V. WritesReturn P path r q S (Some (value e)) g V) (passed_same S U w) (return_value_written P path r S q n back low e g refl))
+    returned_to (Some (result c)) n path r q S U back low left stands w =
+        let (h, y) = calls c path r q r.receiver S U left (result_stands P r c stands) w in
+        let k = seq (act q (keep n)) (leave r.live returned) in
+        (seq h k, return_call_written P path r S q n back low U c h k (seq h k) y refl refl)
 
     -- out of `main`
     returned_out : (o : Option Rvalue) (path : List ℕ) (r : Frame) (q : ℕ) (S U : List Site) → r.back ≡ None → r.calls_left ≡ more → GivenStands P r o
@@ -92,14 +99,15 @@ module _ (P : Program) where
         let g = leave r.live returned in
         (g, subst (λ V. WritesReturn P path r q S None g V) (passed_same S U w) (end_any_written P path r S q back g refl))
     returned_out (Some (value e)) path r q S U back left stands w =
-        let g = leave r.live returned in
+        let g = seq (act q (give r.base r.receiver e)) (leave r.live returned) in
         (g, subst (λ V. WritesReturn P path r q S (Some (value e)) g V) (passed_same S U w) (end_value_written P path r S q back e g refl))
     returned_out (Some (result c)) path r q S U back left stands w =
-        let (h, y) = calls c path r q None S U left (result_stands P r c stands) w in
+        let (h, y) = calls c path r q r.receiver S U left (result_stands P r c stands) w in
         let g = seq h (leave r.live returned) in
         (g, end_call_written P path r S q back U c h g y refl)
 
-    returned_by : (back : Option Back) (o : Option Rvalue) (path : List ℕ) (r : Frame) (q : ℕ) (S U : List Site) → r.back ≡ back → ((b : Back) → r.back ≡ Some b → b.length ≤ r.live)
+    returned_by : (back : Option ℕ) (o : Option Rvalue) (path : List ℕ) (r : Frame) (q : ℕ) (S U : List Site) → r.back ≡ back →
+        ((n : ℕ) → r.back ≡ Some n → n ≤ r.live)
         → r.calls_left ≡ more → GivenStands P r o → walk S (given_events (inside P path r) path r.live o) ≡ passed U → HasReturn path r q S U o
     returned_by None o path r q S U is low left stands w = returned_out o path r q S U is left stands w
     returned_by (Some b) o path r q S U is low left stands w = returned_to o b path r q S U is (low b is) left stands w
@@ -117,12 +125,12 @@ module _ (P : Program) where
           (seq h tail, block_written P path r S V U (length V) n end b h tail (seq h tail) x refl refl e refl refl)
       stmt (assign at v e) path r S U left stands w =
           let (V, a, f) = walk_parts S (plain_site path at r.live ∷ []) (rvalue_events (inside P path r) path r.live e) U w in
-          let (h, y) = rvalue e path r (length S) (Some (index_of r.base v)) V U left (assign_stands P r at v e stands) f in
+          let (h, y) = rvalue e path r (length S) (variable_at (index_of r.base v.slot) v.number_type) V U left (assign_stands P r at v e stands) f in
           let g = seq (point (length S)) h in
-          (g, assign_written P path r S V U (length S) at (index_of r.base v) v e h g refl a refl y refl)
+          (g, assign_written P path r S V U (length S) at (index_of r.base v.slot) v e h g refl a refl y refl)
       stmt (call at c) path r S U left stands w =
           let (V, a, f) = walk_parts S (plain_site path at r.live ∷ []) (inside P path r path r.live c) U w in
-          let (h, y) = calls c path r (length S) None V U left (call_stands P r at c stands) f in
+          let (h, y) = calls c path r (length S) nobody V U left (call_stands P r at c stands) f in
           let g = seq (point (length S)) h in
           (g, call_written P path r S V U (length S) at c h g refl a y refl)
       stmt (if at c s t) path r S U left stands w =
@@ -177,7 +185,7 @@ module _ (P : Program) where
           let rest = items_events (inside P path r) path (suc r.live) b in
           let (V, a, e) = walk_parts S (plain_site path d.label r.live ∷ []) (given_events (inside P path r) path (suc r.live) d.rvalue ++ rest) U w in
           let (W, f, i) = walk_parts V (given_events (inside P path r) path (suc r.live) d.rvalue) rest U e in
-          let (h, x) = given d.rvalue path r (length S) V W left (declared_stands P r (suc r.live) d b refl stands) f in
+          let (h, x) = given d.number_type d.rvalue path r (length S) V W left (declared_stands P r (suc r.live) d b refl stands) f in
           let (k, y) = items b path (record r { live = suc r.live }) W U left (behind_stand P r (suc r.live) d b refl stands) i in
           let first = seq (point (length S)) h in
           (seq first k, declaration_written P path r S V W U (length S) (suc r.live) d b h first k (seq first k) refl refl a x y refl refl)
@@ -192,15 +200,28 @@ module _ (P : Program) where
     have_calls zero c path r q x S U left stands w = absurd (not_passed (Calls c.label) U (sym (no_call_more P path r.calls_left r.live S c left) ∙ w))
     have_calls (suc more) c path r q x S U left stands w =
         let (fn, found, fits) = the_callee P r c stands in
-        let n = live_behind (r.live + fn.parameters) fn.body in
+        let n = live_behind (r.live + length fn.parameters) fn.body in
         let here : walk S (call_events P (suc more) path r.live c) ≡ passed U = subst (λ z. walk S (call_events P z path r.live c) ≡ passed U) left w in
         let inner : walk S (function_events (call_events P more) (c.label ∷ path) r.live (Some fn)) ≡ passed U =
         subst (λ o. walk S (function_events (call_events P more) (c.label ∷ path) r.live o) ≡ passed U) found here in
-        let (V, a, e) = walk_parts S (items_events (call_events P more) (c.label ∷ path) (r.live + fn.parameters) fn.body) (plain_site (c.label ∷ path) fn.end n ∷ []) U inner in
-        let frame : Frame = record { base = r.live; live = r.live + fn.parameters; calls_left = more; loop_length = None; back = Some (record { target = x; length = r.live }) } in
-        let (h, y) = items more (have_calls more) fn.body (c.label ∷ path) frame S V refl (callee_stands P r r.live more (r.live + fn.parameters) x c fn well stands found refl refl) a in
-        let g = call_node q (length V) r.base r.live x c.arguments fn.parameters h in
-        (g, invoked P path r S c fn more x (c.label ∷ path) fn.parameters fn.body left found refl refl refl V U q (length V) n h g fits y refl refl e refl)
+        let (V, a, e) = walk_parts S (items_events (call_events P more) (c.label ∷ path) (r.live + length fn.parameters) fn.body)
+        (plain_site (c.label ∷ path) fn.end n ∷ []) U inner in
+        let frame : Frame = record {
+          base = r.live;
+          live = r.live + length fn.parameters;
+          calls_left = more;
+          loop_length = None;
+          receiver = behind_result
+              fn.result_type x;
+          back = Some r.live;
+        } in
+        let (h, y) = items more (have_calls more) fn.body (c.label ∷ path) frame S V refl
+        (callee_stands P r r.live more (r.live + length fn.parameters) (behind_result fn.result_type x) c fn well stands found refl refl) a in
+        let g = call_node q (length V) r.base r.live (behind_result fn.result_type x) (arguments_for fn.parameters c.arguments) (length fn.parameters) h in (
+          g,
+          invoked P path r S c fn more x (c.label ∷ path) (length fn.parameters) fn.body left found refl refl refl V U q (length V) n h g fits y refl refl e
+              refl,
+        )
 
     main_graph : (U : List Site) → walk [] (events_of P) ≡ passed U → (g : Node) × IsGraph P g
     main_graph U w =

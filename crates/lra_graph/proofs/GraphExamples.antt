@@ -5,10 +5,14 @@ use Rattle.lra_meaning.specs.Resolve.{resolve}
 use Rattle.lra_program.specs.Sites.{sites_of}
 use Rattle.lra_operations.specs.Graph.{Node, returned, empty, point, act, seq, choose, catch, leave}
 use Rattle.lra_program.specs.Step.{append, give, give_any, push, keep}
+use Rattle.lra_base.specs.declared.number_types.NumberType.TheVariants.{Int, Long}
+use Rattle.lra_program.specs.Value.{Argument}
+use Rattle.lra_program.specs.Receivers.{variable_at}
 use Rattle.lra_operations.specs.Inlined.{InlAll, as_absent, as_if, as_declaration, as_given, as_assign, as_assert, as_return_value, as_none, as_statement, as_value, as_result, main_spot}
 use Rattle.lra_program.specs.Program as program
 use Rattle.lra_tree.specs.Trees.{FileTree, function, statement, declaration, no_items, if_only, return, value, expression, result}
-use Rattle.lra_tree.proofs.TreeSamples.{at, x_at, name_at, number, use_of, tested, call_of, declared_as, long_parameter, function_of, called_twice}
+use Rattle.lra_tree.proofs.TreeSamples.{at, x_at, name_at, number, use_of, tested, call_of, declared_as, long_parameter, function_of, main_function}
+use Rattle.lra_tree.proofs.TreeSamples.{called_twice}
 use Rattle.lra_program.proofs.RunExamples as run
 
 -- its tree is derived, one case for each statement
@@ -31,24 +35,28 @@ two_returns = record {
   parts = function (function_of (codes "f") 6 (long_parameter (name_at (codes "a") 13) ∷ [])
       (statement (if_only (at 17) (tested (value (use_of (name_at (codes "a") 20)))) (return (at 23) (Some (expression (number 1)))))
       (statement (return (at 33) (Some (expression (number 2)))) no_items)) 43)
-      ∷ function (function_of (codes "main") 49 [] (declaration (declared_as (x_at 66) (Some (result (call_of (name_at (codes "f") 68) (number 0 ∷ []))))) no_items) 74)
+      ∷ function (main_function 49 (declaration (declared_as (x_at 66) (Some (result (call_of (name_at (codes "f") 68) (number 0 ∷ []))))) no_items) 74)
       ∷ [];
   end = at 75;
 }
 
 -- a `return` of the point q: x gets the value, and the store is cut to x
 abbrev returned_from : ℕ → ℕ → Node
-returned_from q n = seq (point q) (seq (act q (give 1 (Some 0) (program.literal n))) (seq (act q (keep 1)) (leave 2 returned)))
+returned_from q n = seq (point q) (seq (act q (give 1 (variable_at 0 Long) (program.literal Int n))) (seq (act q (keep 1)) (leave 2 returned)))
+
+abbrev zero_given : Argument
+zero_given = record { number_type = Long; value = program.literal Int 0 }
 
 -- the call's tree has its returns in text order and then its end, where the target gets a draw: catches an end before the returns
 two_returns_graph : InlAll (resolve two_returns) (sites_of (resolve two_returns)) (main_spot (resolve two_returns)) (resolve two_returns).main.body
-    (seq (seq (point 0) (seq (act 0 append) (seq (act 0 (push 0 (program.literal 0 ∷ [])))
+    (seq (seq (point 0) (seq (act 0 (append Long)) (seq (act 0 (push 0 (zero_given ∷ [])))
     (catch 0 returned (seq
-    (seq (seq (point 1) (choose 1 1 (program.nonzero (program.read (program.local 0))) (returned_from 2 1) empty)) (seq (returned_from 3 2) empty))
-    (seq (point 4) (seq (act 4 (keep 2)) (seq (act 4 (give_any (Some 0))) (act 4 (keep 1)))))))))) empty) 1 5
+    (seq (seq (point 1) (choose 1 1 (program.nonzero (program.read (run.long_variable (program.local 0)))) (returned_from 2 1) empty))
+    (seq (returned_from 3 2) empty))
+    (seq (point 4) (seq (act 4 (keep 2)) (seq (act 4 (give_any (variable_at 0 Long))) (act 4 (keep 1)))))))))) empty) 1 5
 two_returns_graph =
     as_declaration refl
-    (as_given (as_result {fn = (record { parameters = 1; body = _; end = 4 })} refl refl
+    (as_given (as_result {fn = (record { result_type = Some Long; parameters = Long ∷ []; body = _; end = 4 })} refl refl
     (as_statement (as_if refl (as_return_value refl (omega arith) refl) as_absent)
     (as_statement (as_return_value refl (omega arith) refl) as_none)) refl))
     as_none

@@ -1,5 +1,5 @@
 -- Where a jump leads on a list of items, and what a step must have done.
-use Rattle.std.proofs.Common.{◌≡◌, ℕ, ℤ, List, ◌∷◌, Option, Some, None, Bool, true, false, ◌⊎◌, inl, inr, refl, sym, ap}
+use Rattle.std.proofs.Common.{◌≡◌, ℕ, List, ◌∷◌, Option, Some, None, Bool, true, false, ◌⊎◌, inl, inr, refl, sym, ap}
 use Rattle.std.proofs.lemmas.Option.{same_Some, none-some}
 use Rattle.lra_program.specs.Value.{Drawn}
 use Rattle.lra_program.specs.Step.{State, tested, Here, Back, Item, turn, Config, Turn, to_turn, Called, to_mark, go, go_by, go_on}

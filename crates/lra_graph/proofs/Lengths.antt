@@ -1,11 +1,19 @@
 -- How long the store is where a statement is left.
 use Rattle.std.proofs.Common.{◌≡◌, ◌≢◌, ℕ, zero, suc, ◌+◌, ◌≤◌, ℤ, List, [], ◌∷◌, ◌++◌, length, Option, Some, None, Bool, true, false, ◌⊎◌, inl, inr, refl, sym, ap, ◌∙◌, arith, length-append}
 use Rattle.std.proofs.lemmas.Option.{same_Some, none-some}
-use Rattle.std.proofs.lemmas.List.{length-set, length-take-le}
+use Rattle.std.proofs.lemmas.List.{length-map, length-set, length-take-le}
 use Rattle.lra_program.specs.Program.{Expr, Cond, Rvalue, Stmt, BlockItems, Program}
-use Rattle.lra_program.specs.Value.{◌>>=◌, draw, Scene, value_of, values_of, truth_of, Drawn}
-use Rattle.lra_program.specs.Step.{State, scene_at, Op, append, give, give_any, push, keep, test, run_op, run_any, put, receive, pushed, kept_if, tested, Back}
-use Rattle.lra_program.specs.Run.{Point}
+use Rattle.lra_base.specs.declared.number_types.NumberType.{NumberType}
+use Rattle.lra_program.specs.declared.receivers.Target.{Target}
+use Rattle.lra_program.specs.declared.receivers.Receiver.{Receiver}
+use Rattle.lra_program.specs.Receivers.{accepts}
+use Rattle.lra_program.specs.Value.{◌>>=◌, number, draw, Scene, Argument, value_of, values_of, truth_of, Drawn}
+use Rattle.lra_program.proofs.TypeLaws.{bind_some}
+use Rattle.lra_program.proofs.GivenArguments.{given_width}
+use Rattle.lra_program.specs.Step.{State, scene_at, Op, append, give, give_any, push, keep, test, run_op, run_any, drawn_for, put, receive, pushed, kept_if}
+use Rattle.lra_program.specs.Step.{tested, Back}
+use Rattle.lra_program.specs.declared.program.GlobalVariable.{GlobalVariable}
+use Rattle.lra_program.specs.Run.{Point, begun}
 use Rattle.lra_program.specs.Trails.{Trail}
 use Rattle.lra_operations.specs.Graph.{Exit, broken, continued, returned, Node, empty, choose, point, act, seq, leave, check}
 use Rattle.lra_operations.specs.Trails.{Stop, by_jump, to_point, to_failure, Outcome, to_end, stopped, Goes, Tests, TrailRounds}
@@ -15,23 +23,33 @@ use Rattle.lra_operations.specs.Inlined.{Frame, Spot, callee, Inl, InlAll, Decla
 use Rattle.lra_operations.specs.Inlined.{as_return, as_return_value, as_return_call, as_end, as_end_value, as_end_call, as_assert, as_assume, as_none, as_declaration, as_statement, as_fresh, as_given}
 use Rattle.lra_operations.specs.Inlined.{is_loop, as_value, as_result, loop_node, call_node, return_node}
 use Rattle.lra_graph.proofs.Shapes.{seq_inv, act_inv, leave_inv, EndsBody, GoesCall, call_returned, call_ended, call_stopped, call_at_end}
-use Rattle.lra_graph.proofs.Shapes.{call_inv, Round, EndsBodyRound, LeavesRound, EndsLoop, loop_done, loop_at, loop_broken, loop_left, loop_inv}
+use Rattle.lra_graph.proofs.Shapes.{inner, given, width, call_inv, Round, EndsBodyRound, LeavesRound, EndsLoop, loop_done, loop_at, loop_broken, loop_left}
+use Rattle.lra_graph.proofs.Shapes.{loop_inv}
 
-length_put : (x : Option ℕ) (z : ℤ) (store : List ℤ) → length (put x z store) ≡ length store
+-- a run begins with one variable for each global
+pub begun_length : (globals : List GlobalVariable) (draws : List ℤ) → length (begun globals draws).store ≡ length globals
+begun_length globals draws = length-map globals (λ (x : GlobalVariable). x.value)
+
+length_put : (x : Option Target) (z : ℤ) (store : List ℤ) → length (put x z store) ≡ length store
 length_put None z store = refl
-length_put (Some x) z store = length-set store x z
+length_put (Some x) z store = length-set store x.place z
 
-length_given : (x : Option ℕ) (s : State) (v : Drawn ℤ) (t : State) → receive x s v ≡ Some t → length t.store ≡ length s.store
+length_received : (b : Bool) (x : Receiver) (s : State) (z : ℤ) (ds : List ℤ) (t : State) → kept_if true b
+    (record s { store = put x.target z s.store; draws = ds }) ≡ Some t
+    → length t.store ≡ length s.store
+length_received true x s z ds t e = rw (← same_Some _ t e) (length_put x.target z s.store)
+length_received false x s z ds t e = absurd (none-some t e)
+
+length_given : (x : Receiver) (s : State) (v : Drawn ℤ) (t : State) → receive x s v ≡ Some t → length t.store ≡ length s.store
 length_given x s None t e = absurd (none-some t e)
-length_given x s (Some r) t e = rw (← same_Some _ t e) (length_put x r.0 s.store)
+length_given x s (Some r) t e = length_received (accepts x r.0) x s r.0 r.1 t e
 
-length_any : (x : Option ℕ) (s t : State) → run_any x s ≡ Some t → length t.store ≡ length s.store
-length_any None s t e = rw (← same_Some s t e) refl
-length_any (Some x) s t e = length_given (Some x) s (draw s.draws) t e
-
-length_appended : (s t : State) (v : Drawn ℤ) → (v >>= λ r. Some (record s { store = s.store ++ r.0 ∷ []; draws = r.1 })) ≡ Some t → length t.store ≡ suc (length s.store)
-length_appended s t None e = absurd (none-some t e)
-length_appended s t (Some r) e = rw (← same_Some _ t e, length-append) (omega arith)
+length_any : (x : Receiver) (s t : State) → run_any x s ≡ Some t → length t.store ≡ length s.store
+length_any x s t e = by x.target e
+  where
+    by : (o : Option Target) → drawn_for o x s ≡ Some t → length t.store ≡ length s.store
+    by None e = rw (← same_Some s t e) refl
+    by (Some y) e = length_given x s (draw s.draws) t e
 
 length_kept_if : (b d : Bool) (s t : State) → kept_if b d s ≡ Some t → t ≡ s
 length_kept_if true true s t e = sym (same_Some s t e)
@@ -54,24 +72,25 @@ length_cons : (z : ℤ) (n : ℕ) (v : Drawn (List ℤ)) (r : List ℤ × List �
 length_cons z n None r h e = absurd (none-some r e)
 length_cons z n (Some q) r h e = rw (← same_Some _ r e) (ap suc (h q refl))
 
-length_values : (es : List Expr) (s : Scene) (draws : List ℤ) (r : List ℤ × List ℤ) → values_of es s draws ≡ Some r → length r.0 ≡ length es
+length_values : (given : List Argument) (s : Scene) (draws : List ℤ) (r : List ℤ × List ℤ) → values_of given s draws ≡ Some r → length r.0 ≡ length given
 length_values [] s draws r e = rw (← same_Some _ r e) refl
-length_values (a ∷ es) s draws r e = first (value_of a s draws) (λ ds q. length_values es s ds q) r e
-  where
-    first : (v : Drawn ℤ) → ((ds : List ℤ) (q : List ℤ × List ℤ) → values_of es s ds ≡ Some q → length q.0 ≡ length es) → (r : List ℤ × List ℤ)
-        → (v >>= λ w. values_of es s w.1 >>= λ q. Some (w.0 ∷ q.0, q.1)) ≡ Some r → length r.0 ≡ suc (length es)
-    first None h r e = absurd (none-some r e)
-    first (Some w) h r e = length_cons w.0 (length es) (values_of es s w.1) r (h w.1) e
+length_values (a ∷ rest) s draws r e =
+    let (v, got, to) = bind_some (value_of a.value s draws) (λ v. number a.number_type v.0 >>= λ z. values_of rest s v.1 >>= λ q. Some (z ∷ q.0, q.1)) r e in
+    let (z, fit, made) = bind_some (number a.number_type v.0) (λ z. values_of rest s v.1 >>= λ q. Some (z ∷ q.0, q.1)) r to in
+    length_cons z (length rest) (values_of rest s v.1) r (λ q h. length_values rest s v.1 q h) made
 
 length_pushed : (s : State) (n : ℕ) (v : Drawn (List ℤ)) (t : State) → ((r : List ℤ × List ℤ) → v ≡ Some r → length r.0 ≡ n) → pushed s v ≡ Some t → length t.store ≡ length s.store + n
 length_pushed s n None t h e = absurd (none-some t e)
 length_pushed s n (Some r) t h e = rw (← same_Some _ t e, length-append, h r refl) refl
 
-pub length_push : (base : ℕ) (es : List Expr) (s t : State) → run_op (push base es) s ≡ Some t → length t.store ≡ length s.store + length es
+pub length_push : (base : ℕ) (es : List Argument) (s t : State) → run_op (push base es) s ≡ Some t → length t.store ≡ length s.store + length es
 length_push base es s t e = length_pushed s (length es) (values_of es (scene_at base s) s.draws) t (length_values es (scene_at base s) s.draws) e
 
-pub length_append : (s t : State) → run_op append s ≡ Some t → length t.store ≡ suc (length s.store)
-length_append s t e = length_appended s t (draw s.draws) e
+pub length_append : (x : NumberType) (s t : State) → run_op (append x) s ≡ Some t → length t.store ≡ suc (length s.store)
+length_append x s t e =
+    let (r, got, to) = bind_some (draw s.draws) (λ r. number x r.0 >>= λ z. Some (record s { store = s.store ++ z ∷ []; draws = r.1 })) t e in
+    let (z, fit, made) = bind_some (number x r.0) (λ z. Some (record s { store = s.store ++ z ∷ []; draws = r.1 })) t to in
+    rw (← same_Some _ t made, length-append) (omega arith)
 
 -- where a jump leads, the store is as long as it was there
 abbrev pub JumpLength : Frame → Exit → State → Type 0
@@ -137,13 +156,13 @@ module _ (name : ℕ → Point) (may : State → State → Type 0) (keeps : Keep
   keep_length : {f : Frame} {n : ℕ} (q m : ℕ) → m ≤ n → Length f n m (act q (keep m))
   keep_length q m k = act_length q (keep m) (λ s t l e. length_keep m s t (omega arith) e)
 
-  append_length : {f : Frame} {n : ℕ} (q : ℕ) → Length f n (suc n) (act q append)
-  append_length q = act_length q append (λ s t l e. length_appended s t (draw s.draws) e ∙ ap suc l)
+  append_length : {f : Frame} {n : ℕ} (q : ℕ) (x : NumberType) → Length f n (suc n) (act q (append x))
+  append_length q x = act_length q (append x) (λ s t l e. length_append x s t e ∙ ap suc l)
 
-  give_length : {f : Frame} {n : ℕ} (q base : ℕ) (x : Option ℕ) (a : Expr) → Length f n n (act q (give base x a))
+  give_length : {f : Frame} {n : ℕ} (q base : ℕ) (x : Receiver) (a : Expr) → Length f n n (act q (give base x a))
   give_length q base x a = act_length q (give base x a) (λ s t l e. length_given x s (value_of a (scene_at base s) s.draws) t e ∙ l)
 
-  any_length : {f : Frame} {n : ℕ} (q : ℕ) (x : Option ℕ) → Length f n n (act q (give_any x))
+  any_length : {f : Frame} {n : ℕ} (q : ℕ) (x : Receiver) → Length f n n (act q (give_any x))
   any_length q x = act_length q (give_any x) (λ s t l e. length_any x s t e ∙ l)
 
   test_length : {f : Frame} {n : ℕ} (q base : ℕ) (c : Cond) (b : Bool) → Length f n n (act q (test base c b))
@@ -223,8 +242,10 @@ module _ (name : ℕ → Point) (may : State → State → Type 0) (keeps : Keep
     }
 
   -- of a call whose body is g
-  module _ (spot : Spot) (r : ℕ) (x : Option ℕ) (es : List Expr) (params : ℕ) (g : Node) (f' : Frame) (n' : ℕ) (i : length es ≡ params) (no_loop : f'.loop ≡ None)
-      (j : f'.back ≡ Some (record { target = x; here = spot.frame.here; length = spot.live })) (d : spot.live + params ≤ n') (y : Length f' (spot.live + params) n' g) where
+  module _ (spot : Spot) (r : ℕ) (x : Receiver) (es : List Argument) (params : ℕ) (g : Node) (f' : Frame) (n' : ℕ) (i : length es ≡ params)
+      (no_loop : f'.loop ≡ None)
+      (j : f'.back ≡ Some (record { receiver = x; here = spot.frame.here; length = spot.live })) (d : spot.live + params ≤ n')
+      (y : Length f' (spot.live + params) n' g) where
     end_of_body : (u t : Trail Point) → length u.state.store ≡ spot.live + params → EndsBody name may r spot.live x params g u t → length t.state.store ≡ spot.live
     end_of_body u t o b =
         let one : length b.before.state.store ≡ n' = y.ends u b.before to_end o b.body in
@@ -269,13 +290,15 @@ module _ (name : ℕ → Point) (may : State → State → Type 0) (keeps : Keep
     length_one (as_for {s = spot} d e) = seq_length _ _ (length_all d) (seq_length _ _ (length_loop e) (keep_length spot.next spot.live (grows_all d)))
     length_one (as_break {s = spot} {m = m} i k j) = seq_length _ _ (point_length spot.next) (seq_length _ _ (keep_length spot.next m k) (break_length spot.live i))
     length_one (as_continue {s = spot} {m = m} i k j) = seq_length _ _ (point_length spot.next) (seq_length _ _ (keep_length spot.next m k) (continue_length spot.live i))
-    length_one (as_return {s = spot} {b = b} i k j) = seq_length _ _ (point_length spot.next) (return_node_length spot.next _ b i k (any_length spot.next b.target))
+    length_one (as_return {s = spot} {b = b} i k j) = seq_length _ _ (point_length spot.next)
+        (return_node_length spot.next _ b i k (any_length spot.next b.receiver))
     length_one (as_return_value {s = spot} {e = e} {b = b} i k j) = seq_length _ _ (point_length spot.next)
-        (return_node_length spot.next _ b i k (give_length spot.next spot.frame.here.base b.target e))
+        (return_node_length spot.next _ b i k (give_length spot.next spot.frame.here.base b.receiver e))
     length_one (as_return_call {s = spot} {b = b} i k j d) = seq_length _ _ (point_length spot.next)
         (seq_length _ _ (length_gives d) (seq_length _ _ (keep_length spot.next b.length k) (return_length spot.live b i)))
     length_one (as_end {s = spot} i j) = seq_length _ _ (point_length spot.next) (end_length spot.live i)
-    length_one (as_end_value {s = spot} i j) = seq_length _ _ (point_length spot.next) (end_length spot.live i)
+    length_one (as_end_value {s = spot} {e = e} i j) = seq_length _ _ (point_length spot.next)
+        (seq_length _ _ (give_length spot.next spot.frame.here.base _ e) (end_length spot.live i))
     length_one (as_end_call {s = spot} i j d) = seq_length _ _ (point_length spot.next) (seq_length _ _ (length_gives d) (end_length spot.live i))
     length_one (as_assert {s = spot} {c = c} i) = seq_length _ _ (point_length spot.next) (check_length spot.next spot.frame.here.base c)
     length_one (as_assume {s = spot} {c = c} i) = seq_length _ _ (point_length spot.next) (test_length spot.next spot.frame.here.base c true)
@@ -285,19 +308,23 @@ module _ (name : ℕ → Point) (may : State → State → Type 0) (keeps : Keep
     length_all (as_declaration {s = spot} i j e) = seq_length _ _ (seq_length _ _ (point_length spot.next) (length_declares j)) (length_all e)
     length_all (as_statement d e) = seq_length _ _ (length_one d) (length_all e)
 
-    pub length_declares : {P : Program} {T : List Site} {spot : Spot} {r : ℕ} {e : Option Rvalue} {g : Node} {q : ℕ} → Declares P T spot r e g q → Length spot.frame spot.live (suc spot.live) g
-    length_declares (as_fresh {s = spot}) = append_length spot.next
-    length_declares (as_given {s = spot} d) = seq_length _ _ (append_length spot.next) (length_gives d)
+    pub length_declares : {P : Program} {T : List Site} {spot : Spot} {r : ℕ} {t : NumberType} {e : Option Rvalue} {g : Node} {q : ℕ} → Declares P T spot r t e
+        g q → Length spot.frame spot.live (suc spot.live) g
+    length_declares (as_fresh {s = spot} {t = t}) = append_length spot.next t
+    length_declares (as_given {s = spot} {t = t} d) = seq_length _ _ (append_length spot.next t) (length_gives d)
 
     pub length_loop : {P : Program} {T : List Site} {spot : Spot} {r : ℕ} {s : Stmt} {g : Node} {q : ℕ} → Loops P T spot r s g q → Length spot.frame spot.live spot.live g
     length_loop (is_loop {s = spot} {c = c} {g = g} {h = h} i d e) = loop_length spot.frame spot.live g h (length_one e) (length_one d) spot.next spot.frame.here.base c
 
-    pub length_gives : {P : Program} {T : List Site} {spot : Spot} {r : ℕ} {x : Option ℕ} {e : Rvalue} {g : Node} {q : ℕ} → Gives P T spot r x e g q → Length spot.frame spot.live spot.live g
+    pub length_gives : {P : Program} {T : List Site} {spot : Spot} {r : ℕ} {x : Receiver} {e : Rvalue} {g : Node} {q : ℕ} → Gives P T spot r x e g q → Length
+        spot.frame spot.live spot.live g
     length_gives (as_value {s = spot} {x = x} {e = e}) = give_length spot.next spot.frame.here.base x e
     length_gives (as_result {s = spot} {x = x} {c = c} {fn = fn} {g = g} {n = n'} {q = r'} i j d k) =
-        call_length spot r' x c.arguments fn.parameters g (callee spot.frame spot.live x c) n' j refl refl (grows_all d) (length_all d)
+        call_length spot r' (inner fn x) (given fn c) (width fn) g (callee spot.frame spot.live (inner fn x) c) n' (given_width fn.parameters c.arguments j)
+        refl refl (grows_all d) (length_all d)
 
   -- a declarator's point, and what follows it
-  pub length_declarator : {P : Program} {T : List Site} {spot : Spot} {r : ℕ} {e : Option Rvalue} {g : Node} {q : ℕ} → Declares P T spot r e g q →
+  pub length_declarator : {P : Program} {T : List Site} {spot : Spot} {r : ℕ} {t : NumberType} {e : Option Rvalue} {g : Node} {q : ℕ} → Declares P T spot r t e
+      g q →
       Length spot.frame spot.live (suc spot.live) (seq (point spot.next) g)
   length_declarator {spot} d = seq_length _ _ (point_length spot.next) (length_declares d)

@@ -32,6 +32,7 @@ pub mod Items
 mod ItemRows
 mod Opening
 mod OpenPlaces
+mod StepsLeft
 pub mod Programs
 -- Trees of sources.
 mod GraphExamples

@@ -141,25 +141,25 @@ module _ (P : Program) where
       callee_within e = e ∙ o.path ∙ ap (λ z. from.call.now.label ∷ z) (sym o.continues.path)
 
       -- the body, as the code sees it
-      body_there : WritesBody P from.path f from.caller.target (call_view from.call.now) whole.before g n V
-      body_there = subst (λ z. WritesBody P z f from.caller.target (call_view from.call.now) whole.before g n V) (sym o.continues.path)
-          (subst (λ z. WritesBody P whole.path z from.caller.target (call_view from.call.now) whole.before g n V) (sym o.frame) (o.continues.writes g n V w))
+      body_there : WritesBody P from.path f from.caller.receiver (call_view from.call.now) whole.before g n V
+      body_there = subst (λ z. WritesBody P z f from.caller.receiver (call_view from.call.now) whole.before g n V) (sym o.continues.path)
+          (subst (λ z. WritesBody P whole.path z from.caller.receiver (call_view from.call.now) whole.before g n V) (sym o.frame) (o.continues.writes g n V w))
 
-      whole_call : (h : Node) (U : List Site) → WritesRvalue P from.path f from.caller.point from.caller.target whole.before (result (call_view from.call.now)) h U → IsWritten P whole h f.live U
+      whole_call : (h : Node) (U : List Site) → WritesRvalue P from.path f from.caller.point from.caller.receiver whole.before (result (call_view from.call.now)) h U → IsWritten P whole h f.live U
       whole_call h U y = rw o.continues.is (
-        subst (λ z. WritesRvalue P z whole.frame from.caller.point from.caller.target whole.before (result (call_view from.call.now)) h U) o.continues.path
-            (subst (λ z. WritesRvalue P from.path z from.caller.point from.caller.target whole.before (result (call_view from.call.now)) h U) o.frame y),
+        subst (λ z. WritesRvalue P z whole.frame from.caller.point from.caller.receiver whole.before (result (call_view from.call.now)) h U) o.continues.path
+            (subst (λ z. WritesRvalue P from.path z from.caller.point from.caller.receiver whole.before (result (call_view from.call.now)) h U) o.frame y),
         ap (λ z. z.live) o.frame,
       )
 
       pub callee_closes : (x : code.Node) (p : List ℕ) (U : List Site) → p ≡ from.path
-          → ((S : List Site) → WritesBody P from.path f from.caller.target (call_view from.call.now) S g n V
-          → WritesRvalue P from.path f from.caller.point from.caller.target S (result (call_view from.call.now)) (node_view x) U)
+          → ((S : List Site) → WritesBody P from.path f from.caller.receiver (call_view from.call.now) S g n V
+          → WritesRvalue P from.path f from.caller.point from.caller.receiver S (result (call_view from.call.now)) (node_view x) U)
           → Leads P whole (next.Written (record { node = x; live = f.live })) p U
       callee_closes x p U back h = (whole_call (node_view x) U (h whole.before body_there), back ∙ o.continues.path)
 
       pub callee_stops : (l : Limit)
-          → ((S : List Site) → WritesBody P from.path f from.caller.target (call_view from.call.now) S g n V
+          → ((S : List Site) → WritesBody P from.path f from.caller.receiver (call_view from.call.now) S g n V
           → walk S (call_events P f.calls_left from.path f.live (call_view from.call.now)) ≡ stopped l)
           → Stops P whole l
       callee_stops l h = rw o.continues.is (

@@ -1,10 +1,12 @@
 -- The first step into a form leads to the whole: where a place opens, with what is written of the part in it the whole is
 -- written, and the limit that the part passes is the whole's.
-use Rattle.std.proofs.Common.{◌≡◌, ℕ, suc, ◌≤◌, List, [], ◌∷◌, length, Option, Some, None, false, refl, sym, ◌∙◌, subst, arith}
+use Rattle.std.proofs.Common.{◌≡◌, ℕ, suc, ◌≤◌, List, [], ◌∷◌, length, Some, None, false, refl, sym, ◌∙◌, subst, arith}
 use Rattle.lra_program.specs.Program as program
-use Rattle.lra_program.specs.Program.{Slot, Expr, value, result, assign, call, if, block, return, BlockItems, Program}
+use Rattle.lra_program.specs.Program.{Variable, Expr, value, result, assign, call, if, block, return, BlockItems, Program}
 use Rattle.lra_program.specs.Value.{index_of}
 use Rattle.lra_program.specs.Step.{append, give}
+use Rattle.lra_program.specs.declared.receivers.Receiver.{Receiver}
+use Rattle.lra_program.specs.Receivers.{variable_at, nobody}
 use Rattle.lra_program.specs.Sites.{Site, Event, plain_site, live_behind, stmt_events, items_events}
 use Rattle.lra_program.specs.declared.program.Stmt.{Stmt}
 use Rattle.lra_program.specs.ProgramViews.{cond_view, stmt_view}
@@ -15,7 +17,7 @@ use Rattle.lra_graph.specs.declared.places.Branches.{Branches}
 use Rattle.lra_graph.specs.declared.places.Place.TheVariants as place
 use Rattle.lra_graph.specs.declared.places.Forked.TheVariants as forked
 use Rattle.lra_graph.specs.Limits.{walk, stopped}
-use Rattle.lra_graph.specs.Building.{inside, receiver, StmtStands, ItemsStand, ItemStands, GivenStands, WritesStmt, WritesRvalue, WritesItem}
+use Rattle.lra_graph.specs.Building.{inside, StmtStands, ItemsStand, ItemStands, GivenStands, WritesStmt, WritesRvalue, WritesItem}
 use Rattle.lra_graph.specs.Inlining.{loop_of, for_of}
 use Rattle.lra_graph.specs.Open.{due, a_stmt, a_declaration, all_items, a_call, all_rounds, IsOpen, StandsAs}
 use Rattle.lra_graph.proofs.Walking.{walk_stop}
@@ -94,44 +96,57 @@ module _ (P : Program) (path : List ℕ) (r : Frame) (S : List Site) where
         )
 
     -- the value that a call gives
-    pub assign_opens : (x : Slot) (c : program.Call) (k : ℕ) → k ≡ index_of r.base x → StmtStands P r (assign at x (result c)) → r.live ≤ 24
-        → IsOpen P (due (a_stmt (assign at x (result c))) path r S) (due (a_call (record { point = q; target = Some k }) c) path r V) (record { frame = r; place = place.Given q })
-        × StandsAs P (a_call (record { point = q; target = Some k }) c) r
-    assign_opens x c k is s few = (
+    pub assign_opens : (x : Variable) (c : program.Call) (k : ℕ) (y : Receiver) → k ≡ index_of r.base x.slot → y ≡ variable_at k x.number_type → StmtStands P r
+        (assign at x (result c)) → r.live ≤ 24
+        → IsOpen P (due (a_stmt (assign at x (result c))) path r S) (due (a_call (record { point = q; receiver = y }) c) path r V)
+        (record { frame = r; place = place.Given q })
+        × StandsAs P (a_call (record { point = q; receiver = y }) c) r
+    assign_opens x c k y is gets s few = (
       record {
         frame = refl;
         path = refl;
-        continues = λ g n U w. (assign_written P path r S V U q at k x (result c) g _ number pointed is w.0 refl, refl);
+        continues = λ g n U w. (
+          assign_written P path r S V U q at k x (result c) g _ number pointed is
+              (subst (λ z. WritesRvalue P path r q z V (result c) g U) gets w.0) refl,
+          refl,
+        );
         stops = λ l h. second_stopped S V (own at) (inside P path r path r.live c) l pointed h;
       },
       (result_stands P r c (assign_stands P r at x (result c) s), omega (arith, few)),
     )
 
-    pub value_assigned : (x : Slot) (e : Expr) (k : ℕ) → k ≡ index_of r.base x → (h g : Node) → h ≡ act q (give r.base (Some k) e) → g ≡ seq (point q) h
+    pub value_assigned : (x : Variable) (e : Expr) (k : ℕ) (y : Receiver) → k ≡ index_of r.base x.slot → y ≡ variable_at k x.number_type → (h g : Node) → h ≡
+        act q (give r.base y e) → g ≡ seq (point q) h
         → WritesStmt P path r S (assign at x (value e)) g V
-    value_assigned x e k is h g a b = assign_written P path r S V V q at k x (value e) h g number pointed is (value_written P path r V q (Some k) e h a) b
+    value_assigned x e k y is gets h g a b = assign_written P path r S V V q at k x (value e) h g number pointed is
+        (subst (λ z. WritesRvalue P path r q z V (value e) h V) gets (value_written P path r V q y e h a)) b
 
-    pub call_opens : (c : program.Call) → StmtStands P r (call at c) → r.live ≤ 24
-        → IsOpen P (due (a_stmt (call at c)) path r S) (due (a_call (record { point = q; target = None }) c) path r V) (record { frame = r; place = place.Given q })
-        × StandsAs P (a_call (record { point = q; target = None }) c) r
-    call_opens c s few = (
+    pub call_opens : (c : program.Call) (y : Receiver) → y ≡ nobody → StmtStands P r (call at c) → r.live ≤ 24
+        → IsOpen P (due (a_stmt (call at c)) path r S) (due (a_call (record { point = q; receiver = y }) c) path r V)
+        (record { frame = r; place = place.Given q })
+        × StandsAs P (a_call (record { point = q; receiver = y }) c) r
+    call_opens c y gets s few = (
       record {
         frame = refl;
         path = refl;
-        continues = λ g n U w. (call_written P path r S V U q at c g _ number pointed w.0 refl, refl);
+        continues = λ g n U w. (
+          call_written P path r S V U q at c g _ number pointed (subst (λ z. WritesRvalue P path r q z V (result c) g U) gets w.0) refl,
+          refl,
+        );
         stops = λ l h. second_stopped S V (own at) (inside P path r path r.live c) l pointed h;
       },
       (call_stands P r at c s, omega (arith, few)),
     )
 
-    pub return_opens : (c : program.Call) (x : Option ℕ) → x ≡ receiver r.back → StmtStands P r (return at (Some (result c))) → r.live ≤ 24
-        → IsOpen P (due (a_stmt (return at (Some (result c)))) path r S) (due (a_call (record { point = q; target = x }) c) path r V) (record { frame = r; place = place.Returned q })
-        × StandsAs P (a_call (record { point = q; target = x }) c) r
-    return_opens c x is s few = (
+    pub return_opens : (c : program.Call) → StmtStands P r (return at (Some (result c))) → r.live ≤ 24
+        → IsOpen P (due (a_stmt (return at (Some (result c)))) path r S) (due (a_call (record { point = q; receiver = r.receiver }) c) path r V)
+        (record { frame = r; place = place.Returned q })
+        × StandsAs P (a_call (record { point = q; receiver = r.receiver }) c) r
+    return_opens c s few = (
       record {
         frame = refl;
         path = refl;
-        continues = λ g n U w. (call_returned P path r V q s.back_low S at _ number pointed U c g (subst (λ z. WritesRvalue P path r q z V (result c) g U) is w.0) refl, refl);
+        continues = λ g n U w. (call_returned P path r V q s.back_low S at _ number pointed U c g w.0 refl, refl);
         stops = λ l h. second_stopped S V (own at) (inside P path r path r.live c) l pointed h;
       },
       (result_stands P r c (return_stands P r at (Some (result c)) s), omega (arith, few)),
@@ -139,29 +154,35 @@ module _ (P : Program) (path : List ℕ) (r : Frame) (S : List Site) where
 
   -- a declarator
   module _ (d : program.Declarator) (V : List Site) (q n : ℕ) where
-    pub fresh_declared : (h g : Node) → q ≡ length S → Pointed S (site P path r d.label r.live false) V → n ≡ suc r.live → d.rvalue ≡ None → h ≡ act q append → g ≡ seq (point q) h
+    pub fresh_declared : (h g : Node) → q ≡ length S → Pointed S (site P path r d.label r.live false) V → n ≡ suc r.live → d.rvalue ≡ None → h ≡ act q
+        (append d.number_type) → g ≡ seq (point q) h
         → WritesItem P path r S (program.declaration d) g n V
-    fresh_declared h g number pointed same given a b = declared_item P path r S d V V q n h g number same pointed (rw given (fresh_written P path r V q h a)) b
+    fresh_declared h g number pointed same given a b = declared_item P path r S d V V q n h g number same pointed
+        (rw given (fresh_written P path r V q d.number_type h a)) b
 
-    pub value_declared : (e : Expr) (h g : Node) → q ≡ length S → Pointed S (site P path r d.label r.live false) V → n ≡ suc r.live → d.rvalue ≡ Some (value e)
-        → h ≡ act q (give r.base (Some r.live) e) → g ≡ seq (point q) (seq (act q append) h) → WritesItem P path r S (program.declaration d) g n V
-    value_declared e h g number pointed same given a b = declared_item P path r S d V V q n (seq (act q append) h) g number same pointed
-        (rw given (given_written P path r V V q n (value e) h _ same (value_written P path (record r { live = n }) V q (Some r.live) e h a) refl)) b
+    pub value_declared : (e : Expr) (y : Receiver) (h g : Node) → y ≡ variable_at r.live d.number_type → q ≡ length S → Pointed S
+        (site P path r d.label r.live false) V → n ≡ suc r.live → d.rvalue ≡ Some (value e)
+        → h ≡ act q (give r.base y e) → g ≡ seq (point q) (seq (act q (append d.number_type)) h) → WritesItem P path r S (program.declaration d) g n V
+    value_declared e y h g gets number pointed same given a b = declared_item P path r S d V V q n (seq (act q (append d.number_type)) h) g number same pointed
+        (rw given (given_written P path r V V q n d.number_type (value e) h _ same
+        (subst (λ z. WritesRvalue P path (record r { live = n }) q z V (value e) h V) gets (value_written P path (record r { live = n }) V q y e h a)) refl)) b
 
   -- one whose value a call gives
-  pub declaration_opens : (d : program.Declarator) (V : List Site) (q n : ℕ) (c : program.Call) → q ≡ length S → Pointed S (site P path r d.label r.live false) V → n ≡ suc r.live
+  pub declaration_opens : (d : program.Declarator) (V : List Site) (q n : ℕ) (c : program.Call) (y : Receiver) → y ≡ variable_at r.live d.number_type → q ≡
+      length S → Pointed S (site P path r d.label r.live false) V → n ≡ suc r.live
       → d.rvalue ≡ Some (result c)
       → ItemStands P r (program.declaration d) → r.live ≤ 24
-      → IsOpen P (due (a_declaration d) path r S) (due (a_call (record { point = q; target = Some r.live }) c) path (record r { live = n }) V)
-      (record { frame = r; place = place.Declared q })
-      × StandsAs P (a_call (record { point = q; target = Some r.live }) c) (record r { live = n })
-  declaration_opens d V q n c number pointed same given s few = (
+      → IsOpen P (due (a_declaration d) path r S) (due (a_call (record { point = q; receiver = y }) c) path (record r { live = n }) V)
+      (record { frame = r; place = place.Declared q d.number_type })
+      × StandsAs P (a_call (record { point = q; receiver = y }) c) (record r { live = n })
+  declaration_opens d V q n c y gets number pointed same given s few = (
     record {
       frame = refl;
       path = refl;
-      continues = λ g m U w. subst (λ z. WritesItem P path r S (program.declaration d) (seq (point q) (seq (act q append) g)) z U) (sym w.1)
-          (declared_item P path r S d V U q n (seq (act q append) g) _ number same pointed
-          (rw given (given_written P path r V U q n (result c) g _ same w.0 refl)) refl);
+      continues = λ g m U w. subst (λ z. WritesItem P path r S (program.declaration d) (seq (point q) (seq (act q (append d.number_type)) g)) z U) (sym w.1)
+          (declared_item P path r S d V U q n (seq (act q (append d.number_type)) g) _ number same pointed
+          (rw given (given_written P path r V U q n d.number_type (result c) g _ same
+          (subst (λ z. WritesRvalue P path (record r { live = n }) q z V (result c) g U) gets w.0) refl)) refl);
       stops = λ l h. given_stops P path r S d V n pointed same l (rw given h);
     },
     (result_stands P (record r { live = n }) c (subst (λ z. GivenStands P (record r { live = n }) z) given (given_item_stands P path r S d n same s)), omega (arith, few, same)),

@@ -11,7 +11,7 @@ use Rattle.lra_operations.specs.TrailsAgree.{KeepsWidth, point_at}
 use Rattle.lra_program.specs.Sites.{Site, sites_of}
 use Rattle.lra_operations.specs.Inlined.{move, Has, InlAll, main_frame, main_spot}
 use Rattle.lra_operations.specs.Agree.{IsGraph}
-use Rattle.lra_graph.proofs.Lengths.{length_all}
+use Rattle.lra_graph.proofs.Lengths.{begun_length, length_all}
 use Rattle.lra_graph.proofs.Landing.{config, Matches}
 use Rattle.lra_graph.proofs.Split.{trail}
 use Rattle.lra_graph.proofs.Does.{Fulfils, Stands, Denied, later, stands_here, does_all}
@@ -38,7 +38,9 @@ module _ (may : State → State → Type 0) (keeps : KeepsWidth may) where
 
   module _ (P : Program) (g : Node) (is : IsGraph P g) (draws : List ℤ) where
     pub performed : (q : ℕ) (b : Trail Point) → Goes (point_at (sites_of P)) may g (trail (begun P.globals draws) []) (stopped (to_point q)) b → Stands may keeps P (sites_of P) (start P draws) [] q b
-    performed q b x = fulfils P (sites_of P) is.body is.last is.live is.inlined is.ends (trail (begun P.globals draws) []) (to_point q) b refl (rw is.parts at x)
+    performed q b x = fulfils P (sites_of P) is.body is.last is.live is.inlined is.ends (trail (begun P.globals draws) []) (to_point q) b
+        (begun_length P.globals draws) (rw is.parts at x)
 
     pub failed : (q : ℕ) (b : Trail Point) → Goes (point_at (sites_of P)) may g (trail (begun P.globals draws) []) (stopped (to_failure q)) b → Denied may keeps P (sites_of P) (start P draws) [] q b
-    failed q b x = fulfils P (sites_of P) is.body is.last is.live is.inlined is.ends (trail (begun P.globals draws) []) (to_failure q) b refl (rw is.parts at x)
+    failed q b x = fulfils P (sites_of P) is.body is.last is.live is.inlined is.ends (trail (begun P.globals draws) []) (to_failure q) b
+        (begun_length P.globals draws) (rw is.parts at x)

@@ -1,5 +1,6 @@
 -- Which function of the defined program a function of the code's stands for, and that `main` is one of them.
-use Rattle.std.proofs.Common.{◌≡◌, ℕ, ◌+◌, ◌≤◌, ◌<◌, List, Option, [], ◌∷◌, length, map, Some, None, option_map, slice_get, get_or, inl, inr, refl, sym, ap, ◌∙◌, subst, arith}
+use Rattle.std.proofs.Common.{◌≡◌, ℕ, ◌+◌, ◌≤◌, ◌<◌, List, [], ◌∷◌, length, map, Some, None, option_map, slice_get, get_or, inl, inr, refl, sym, ap, ◌∙◌, subst}
+use Rattle.std.proofs.Common.{arith}
 use Rattle.std.specs.Vec.{vec_len}
 use Rattle.std.proofs.lemmas.List.{length-map}
 use Rattle.std.proofs.lemmas.Option.{none-some, same_Some, slice_get-map, slice_get_cases, slice_get_read, get_or_from_slice_get}
@@ -18,6 +19,9 @@ use Rattle.lra_graph.proofs.Calling.{IsCallee}
 use Rattle.lra_graph.proofs.Shown.{shown_items}
 use Rattle.lra_graph.proofs.Standing.{the_callee}
 use Rattle.lra_graph.proofs.Totals.{first_frame}
+use Rattle.lra_program.specs.declared.receivers.Receiver.{Receiver}
+use Rattle.lra_program.specs.Receivers.{nobody, behind_result}
+use Rattle.lra_program.specs.Step.{behind_main}
 
 -- labels are counted from 1
 end_counts : (P : resolved.Program) → IsWellFormed P → 1 ≤ P.main.end
@@ -41,8 +45,12 @@ main_below p well = let l = main_there p well in let ok = p.functions.ok.0 in om
 pub main_read : (p : Program) (f : Function) → IsWellFormed (program_view p) → f ≡ get_or p.functions.items p.main f → slice_get p.functions.items p.main ≡ Some f
 main_read p f well read = slice_get_read p.functions.items (length p.functions.items) p.main f refl (main_there p well) read
 
-pub frame_first : (p : Program) (n : ℕ) → n ≡ vec_len p.globals → (let r : Frame = record { base = n; live = n; calls_left = 32; loop_length = None; back = None } in r) ≡ first_frame (program_view p)
-frame_first p n e = ap (λ z. record { base = z; live = z; calls_left = 32; loop_length = None; back = None }) (e ∙ p.globals.ok.0)
+-- where main's items stand, in code
+abbrev pub begun_at : ℕ → Receiver → Frame
+begun_at n x = record { base = n; live = n; calls_left = 32; loop_length = None; receiver = x; back = None }
+
+pub frame_first : (p : Program) (n : ℕ) (x : Receiver) → n ≡ vec_len p.globals → x ≡ behind_main (program_view p) → begun_at n x ≡ first_frame (program_view p)
+frame_first p n x e gets = ap (λ z. begun_at z x) (e ∙ p.globals.ok.0) ∙ ap (λ y. begun_at (length p.globals.items) y) gets
 
 module _ (p : Program) (f : Function) where
   pub function_there : (i : ℕ) → slice_get p.functions.items i ≡ Some f → slice_get (program_view p).functions i ≡ Some (function_view f)
@@ -53,6 +61,19 @@ module _ (p : Program) (f : Function) where
 
   pub main_end : slice_get p.functions.items p.main ≡ Some f → (program_view p).main.end ≡ f.end
   main_end e = ap (λ o. (function_or o).end) (function_there p.main e)
+
+  -- what gets main's value
+  pub main_receives : slice_get p.functions.items p.main ≡ Some f → (y x : Receiver) → y ≡ nobody → x ≡ behind_result f.result_type y → x ≡ behind_main
+      (program_view p)
+  main_receives e y x none gets = gets ∙ ap (λ z. behind_result f.result_type z) none ∙ ap (λ o. behind_result (function_or o).result_type nobody)
+      (sym (function_there p.main e))
+
+-- as many arguments as there may be fit behind the variables that live
+pub arguments_fit : (live k : ℕ) (c : Call) → k ≡ vec_len c.arguments → live ≤ 25 → live + k < 18446744073709551616
+arguments_fit live k c e few =
+    let within = c.arguments.ok.1 in
+    let small = c.arguments.small in
+    omega (arith, e, few, within, small)
 
 -- the callee of a call that stands in the program
 module _ (p : Program) (r : Frame) (c : Call) (stands : CallStands (program_view p) r (call_view c)) where
@@ -70,29 +91,25 @@ module _ (p : Program) (r : Frame) (c : Call) (stands : CallStands (program_view
     ]
 
   module _ (f : Function) (found : slice_get (program_view p).functions c.function ≡ Some (function_view f)) where
-    pub called_fits : length (call_view c).arguments ≡ f.parameters
+    pub called_fits : length (call_view c).arguments ≡ length f.parameters.items
     called_fits =
         let z = the_callee (program_view p) r (call_view c) stands in
-        z.2 ∙ ap (λ (g : resolved.Function). g.parameters) (same_Some z.0 (function_view f) (sym z.1 ∙ found))
+        z.2 ∙ ap (λ (g : resolved.Function). length g.parameters) (same_Some z.0 (function_view f) (sym z.1 ∙ found))
 
-    pub called_wide : (k : ℕ) → k ≡ vec_len c.arguments → k ≡ f.parameters
-    called_wide k e = e ∙ c.arguments.ok.0 ∙ sym (length-map c.arguments.items expr_view) ∙ called_fits
+    -- as many parameters as arguments, behind the variables that live
+    pub called_few : (live : ℕ) → live ≤ 25 → live + length f.parameters.items < 18446744073709551616
+    called_few live few = subst (λ k. live + k < 18446744073709551616) (c.arguments.ok.0 ∙ sym (length-map c.arguments.items expr_view) ∙ called_fits)
+        (arguments_fit live (vec_len c.arguments) c refl few)
 
     -- its body, under the path and in the frame that are made for it
-    pub callee_is : (path : List ℕ) (x : Option ℕ) (q : List ℕ) (s : Frame) (items : List BlockItem) → (r.calls_left ≡ 0 → ⊥) → q ≡ c.label ∷ path
-        → s ≡ callee_frame r x (length (call_view c).arguments) → items ≡ f.body.items.items → IsCallee (program_view p) path r x (call_view c) q s (items_of (map item_view items))
-    callee_is path x q s items some within frame body = record {
+    pub callee_is : (path : List ℕ) (x y : Receiver) (q : List ℕ) (s : Frame) (items : List BlockItem) → (r.calls_left ≡ 0 → ⊥) → q ≡ c.label ∷ path
+        → y ≡ behind_result f.result_type x → s ≡ callee_frame r y (length (call_view c).arguments) → items ≡ f.body.items.items → IsCallee (program_view p)
+        path r x (call_view c) q s (items_of (map item_view items))
+    callee_is path x y q s items some within gets frame body = record {
       fn = function_view f;
       found = found;
       some_left = some;
       within = within;
-      frame = frame ∙ ap (λ k. callee_frame r x k) called_fits;
+      frame = frame ∙ ap (λ z. callee_frame r z (length (call_view c).arguments)) gets ∙ ap (λ k. callee_frame r (behind_result f.result_type x) k) called_fits;
       body = ap (λ (z : List BlockItem). items_of (map item_view z)) body ∙ sym (shown_items f.body);
     }
-
--- as many arguments as there may be fit behind the variables that live
-pub arguments_fit : (live k : ℕ) (c : Call) → k ≡ vec_len c.arguments → live ≤ 25 → live + k < 18446744073709551616
-arguments_fit live k c e few =
-    let within = c.arguments.ok.1 in
-    let small = c.arguments.small in
-    omega (arith, e, few, within, small)

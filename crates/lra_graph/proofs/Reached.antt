@@ -10,7 +10,7 @@ use Rattle.lra_operations.specs.TrailsAgree.{KeepsWidth, point_at}
 use Rattle.lra_program.specs.Sites.{Site, sites_of}
 use Rattle.lra_operations.specs.Inlined.{move, Has, InlAll, main_frame, main_spot}
 use Rattle.lra_operations.specs.Agree.{IsGraph}
-use Rattle.lra_graph.proofs.Lengths.{length_all}
+use Rattle.lra_graph.proofs.Lengths.{begun_length, length_all}
 use Rattle.lra_graph.proofs.Landing.{config, go_some}
 use Rattle.lra_graph.proofs.Split.{trail, Hit, Splits, hits, ended, jumped, all_below, hit_seq, hit_then, hit_there, enters, plain}
 
@@ -42,5 +42,6 @@ module _ (may : State → State → Type 0) (keeps : KeepsWidth may) where
   reached P g is c zs p draws n w on =
       let cut = (all_below may keeps P (sites_of P) c zs p.label on.label (suc n)).every (main_spot P) P.main.body is.body is.live is.last is.inlined
       (end_of P.main.end (length P.globals) ∷ []) (trail (begun P.globals draws) []) n
-      (record { loops = λ m e. absurd (none-some m e); backs = refl }) refl (omega arith) w in
-      rw is.parts (whole P (sites_of P) c zs p.label on.label is.body is.last is.live is.inlined is.ends (trail (begun P.globals draws) []) n refl cut)
+      (record { loops = λ m e. absurd (none-some m e); backs = refl }) (begun_length P.globals draws) (omega arith) w in
+      rw is.parts (whole P (sites_of P) c zs p.label on.label is.body is.last is.live is.inlined is.ends (trail (begun P.globals draws) []) n
+      (begun_length P.globals draws) cut)

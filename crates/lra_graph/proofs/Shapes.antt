@@ -1,14 +1,27 @@
 -- What a run of each shape of tree is made of, with its trail.
-use Rattle.std.proofs.Common.{◌≡◌, ◌≢◌, ℕ, zero, suc, ◌+◌, List, Option, true, false, ◌⊎◌, inl, inr, refl, ap}
-use Rattle.lra_program.specs.Program.{Expr, Cond}
-use Rattle.lra_program.specs.Step.{State, Op, push, keep, give_any}
+use Rattle.std.proofs.Common.{◌≡◌, ◌≢◌, ℕ, zero, suc, ◌+◌, List, true, false, length, ◌⊎◌, inl, inr, refl, ap}
+use Rattle.lra_program.specs.Program.{Cond, Call, Function}
+use Rattle.lra_program.specs.Value.{Argument}
+use Rattle.lra_program.specs.declared.receivers.Receiver.{Receiver}
+use Rattle.lra_program.specs.Receivers.{behind_result}
+use Rattle.lra_program.specs.Step.{State, Op, push, keep, give_any, arguments_for}
 use Rattle.lra_program.specs.Run.{Point}
 use Rattle.lra_program.specs.Trails.{Trail}
 use Rattle.lra_operations.specs.Graph.{Exit, broken, continued, returned, Node, point, act, seq, catch, leave}
 use Rattle.lra_operations.specs.Trails.{Stop, by_jump, to_point, to_failure, Outcome, to_end, stopped, Goes, Tests, TrailRounds, Performs, Passes}
 use Rattle.lra_operations.specs.Inlined.{Spot, loop_node, call_node}
 
-abbrev pub tail_node : ℕ → ℕ → Option ℕ → ℕ → Node
+-- a call's receiver, as the called function's body has it, what it gives, and to how many parameters
+abbrev pub inner : Function → Receiver → Receiver
+inner fn x = behind_result fn.result_type x
+
+abbrev pub given : Function → Call → List Argument
+given fn c = arguments_for fn.parameters c.arguments
+
+abbrev pub width : Function → ℕ
+width fn = length fn.parameters
+
+abbrev pub tail_node : ℕ → ℕ → Receiver → ℕ → Node
 tail_node r n x params = seq (point r) (seq (act r (keep (n + params))) (seq (act r (give_any x)) (act r (keep n))))
 
 module _ (name : ℕ → Point) (may : State → State → Type 0) where
@@ -61,7 +74,7 @@ module _ (name : ℕ → Point) (may : State → State → Type 0) where
   jump_join q op n k s t e = inr (t, e, (refl, refl))
 
   -- the callee comes to its end
-  pub record EndsBody (r n : ℕ) (x : Option ℕ) (params : ℕ) (g : Node) (u t : Trail Point) : Type 0 where
+  pub record EndsBody (r n : ℕ) (x : Receiver) (params : ℕ) (g : Node) (u t : Trail Point) : Type 0 where
     pub before : Trail Point
     pub past : Trail Point
     pub cut : Trail Point
@@ -73,13 +86,14 @@ module _ (name : ℕ → Point) (may : State → State → Type 0) where
     pub back : Performs (keep n) set t
 
   -- of a call at the spot; r is the point of the callee's end
-  pub data GoesCall (spot : Spot) (r : ℕ) (x : Option ℕ) (es : List Expr) (params : ℕ) (g : Node) (w : Trail Point) (t : Trail Point) : Outcome → Type 0 where
-    call_returned : G g w (stopped (by_jump returned)) t → GoesCall spot r x es params g w t to_end
-    call_ended : EndsBody r spot.live x params g w t → GoesCall spot r x es params g w t to_end
-    call_stopped : (z : Stop) → z ≢ by_jump returned → G g w (stopped z) t → GoesCall spot r x es params g w t (stopped z)
-    call_at_end : G g w to_end t → GoesCall spot r x es params g w t (stopped (to_point r))
+  pub data GoesCall (spot : Spot) (r : ℕ) (x : Receiver) (es : List Argument) (params : ℕ) (g : Node) (w : Trail Point) (t : Trail Point) : Outcome → Type 0
+    where
+      call_returned : G g w (stopped (by_jump returned)) t → GoesCall spot r x es params g w t to_end
+      call_ended : EndsBody r spot.live x params g w t → GoesCall spot r x es params g w t to_end
+      call_stopped : (z : Stop) → z ≢ by_jump returned → G g w (stopped z) t → GoesCall spot r x es params g w t (stopped z)
+      call_at_end : G g w to_end t → GoesCall spot r x es params g w t (stopped (to_point r))
 
-  module _ (spot : Spot) (r : ℕ) (x : Option ℕ) (es : List Expr) (params : ℕ) (g : Node) where
+  module _ (spot : Spot) (r : ℕ) (x : Receiver) (es : List Argument) (params : ℕ) (g : Node) where
     abbrev call_tree : Node
     call_tree = call_node spot.next r spot.frame.here.base spot.live x es params g
 

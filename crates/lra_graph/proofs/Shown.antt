@@ -2,7 +2,7 @@
 use Rattle.std.proofs.Common.{◌≡◌, ℕ, map, Option, Some, ap, ◌∙◌, rules, Box, Global}
 use Rattle.lra_program.specs.Program as program
 use Rattle.lra_operations.specs.Graph as graph
-use Rattle.lra_program.specs.declared.program.Slot.{Slot}
+use Rattle.lra_program.specs.declared.program.Variable.{Variable}
 use Rattle.lra_program.specs.declared.program.Cond.{Cond}
 use Rattle.lra_program.specs.declared.program.Rvalue.{Rvalue}
 use Rattle.lra_program.specs.declared.program.Rvalue.TheVariants as code_rvalue
@@ -17,7 +17,7 @@ use Rattle.lra_program.specs.declared.program.Stmt as code
 use Rattle.lra_operations.specs.declared.graph.Op.{Op}
 use Rattle.lra_operations.specs.declared.graph.Node.{the_lemmas as node_lemmas}
 use Rattle.lra_operations.specs.declared.graph.Node as code_node
-use Rattle.lra_program.specs.ProgramViews.{slot_view, expr_view, cond_view, call_view, rvalue_view, given_view, declarator_view, stmt_view, item_view, items_of, items_view}
+use Rattle.lra_program.specs.ProgramViews.{variable_view, expr_view, cond_view, call_view, rvalue_view, given_view, declarator_view, stmt_view, item_view, items_of, items_view}
 use Rattle.lra_operations.specs.GraphViews.{op_view, node_view}
 
 pub shown_empty : node_view code_node.Empty ≡ graph.empty
@@ -50,7 +50,7 @@ shown_nothing at = search (rules, stmt_lemmas)
 pub shown_block : (b : BlockItems) (at : ℕ) → stmt_view (code.Block b at) ≡ program.block (items_of (map item_view b.items.items)) at
 shown_block b at = search (rules, stmt_lemmas)
 
-pub shown_assign : (at : ℕ) (x : Slot) (e : Rvalue) → stmt_view (code.Assign at x e) ≡ program.assign at (slot_view x) (rvalue_view e)
+pub shown_assign : (at : ℕ) (x : Variable) (e : Rvalue) → stmt_view (code.Assign at x e) ≡ program.assign at (variable_view x) (rvalue_view e)
 shown_assign at x e = search (rules, stmt_lemmas)
 
 pub shown_call : (at : ℕ) (c : Call) → stmt_view (code.Call at c) ≡ program.call at (call_view c)

@@ -5,7 +5,11 @@ use Rattle.lra_program.specs.Program.{Cond, Call, Rvalue, value, result, Declara
 use Rattle.lra_program.specs.Program.{no_more, declaration, statement, Function, Program}
 use Rattle.lra_program.specs.Value.{index_of, truth_of}
 use Rattle.lra_program.specs.Step.{State, Op, append, give, give_any, push, keep, test, run_op, run_any, Here, Back, Item, run, declare, all, end_of, turn, cut, mark, leave_call, Config, to_turn}
-use Rattle.lra_program.specs.Step.{scene_at, to_mark, target_of, go, enter, do_rvalue, do_leave, do_break, do_continue, do_declare, next, next_at}
+use Rattle.lra_base.specs.declared.number_types.NumberType.{NumberType}
+use Rattle.lra_program.specs.declared.receivers.Receiver.{Receiver}
+use Rattle.lra_program.specs.Receivers.{variable_at, nobody}
+use Rattle.lra_program.specs.Step.{scene_at, to_mark, behind_main, receiver_of, go, enter, do_rvalue, do_leave, do_break, do_continue, do_declare, next}
+use Rattle.lra_program.specs.Step.{next_at}
 use Rattle.lra_program.specs.Run.{label_on, Point, IsFailing}
 use Rattle.lra_program.specs.Trails.{Met, passes, Trail, met_on, Becomes, Walks}
 use Rattle.lra_operations.specs.Graph.{Exit, broken, continued, returned, Node, point, act, check, seq, choose, leave}
@@ -16,7 +20,9 @@ use Rattle.lra_operations.specs.Inlined.{Frame, Spot, move, at_point, within, in
 use Rattle.lra_operations.specs.Inlined.{as_call, as_if, as_loop, as_for, as_break}
 use Rattle.lra_operations.specs.Inlined.{as_continue, as_return, as_return_value, as_return_call, as_end, as_end_value, as_end_call, as_assert, as_assume, as_none, as_declaration, as_statement}
 use Rattle.lra_operations.specs.Inlined.{as_fresh, as_given, is_loop, as_value, as_result, loop_node, call_node, return_node}
-use Rattle.lra_graph.proofs.Shapes.{call_ends, Round, EndsBodyRound, loop_join, loop_at, loop_done, loop_broken, loop_left, EndsLoop, loop_first, jump_join}
+use Rattle.lra_program.proofs.GivenArguments.{given_width}
+use Rattle.lra_graph.proofs.Shapes.{inner, given, width, call_ends, Round, EndsBodyRound, loop_join, loop_at, loop_done, loop_broken, loop_left, EndsLoop}
+use Rattle.lra_graph.proofs.Shapes.{loop_first, jump_join}
 use Rattle.lra_graph.proofs.Lengths.{Length, length_declarator, length_one, length_all, length_test, length_push, length_append, tests_length, mid_length, round_length}
 use Rattle.lra_graph.proofs.Landing.{config, land, land_skip, Matches, matches_skip, turn_some, mark_some, mark_none, go_some, go_on_some, go_by_some, lands_broken, lands_continued, lands_returned}
 
@@ -190,7 +196,7 @@ module _ (may : State → State → Type 0) (keeps : KeepsWidth may) (P : Progra
   splits_act : (q : ℕ) (op : Op) (h : Here) (k : List Item) (a : Trail Point) (j : ℕ) (e : Config) → go k h (run_op op a.state) ≡ Some e → W j e a.met → Splits h k (suc j) (act q op) a
   splits_act q op h k a j e x r = let y = go_some k h (run_op op a.state) e x in ended j (trail y.0 a.met) (omega arith) (y.1, refl) (rw y.2 r)
 
-  pub record Tail (r : ℕ) (h : Here) (n : ℕ) (x : Option ℕ) (params : ℕ) (k : List Item) (count : ℕ) (a : Trail Point) : Type 0 where
+  pub record Tail (r : ℕ) (h : Here) (n : ℕ) (x : Receiver) (params : ℕ) (k : List Item) (count : ℕ) (a : Trail Point) : Type 0 where
     pub left : ℕ
     pub over : Trail Point
     pub cut : Trail Point
@@ -203,8 +209,8 @@ module _ (may : State → State → Type 0) (keeps : KeepsWidth may) (P : Progra
     pub backs : Performs (keep n) set final
     pub rest : Walks may P left (config k h final.state) final.met c zs
 
-  abbrev call_items : Function → ℕ → Option ℕ → Here → List Item → List Item
-  call_items fn n x h k = end_of fn.end (n + fn.parameters) ∷ mark (record { target = x; here = h; length = n }) ∷ k
+  abbrev call_items : Function → ℕ → Receiver → Here → List Item → List Item
+  call_items fn n x h k = end_of fn.end (n + width fn) ∷ mark (record { receiver = x; here = h; length = n }) ∷ k
 
   -- runs of fewer steps are cut so
   pub record Below (fuel : ℕ) : Type 0 where
@@ -219,20 +225,24 @@ module _ (may : State → State → Type 0) (keeps : KeepsWidth may) (P : Progra
 
   module _ (fuel : ℕ) (below : Below fuel) where
     -- what a callee's body leaves: its end, and the call's
-    call_tail : (spot : Spot) (n : ℕ) (h : Here) (x : Option ℕ) (end params : ℕ) (k : List Item) (count : ℕ) (a : Trail Point) → Has T spot end → length a.state.store ≡ spot.live
-        → W count (config (end_of end (n + params) ∷ mark (record { target = x; here = h; length = n }) ∷ k) spot.frame.here a.state) a.met
+    call_tail : (spot : Spot) (n : ℕ) (h : Here) (x : Receiver) (end params : ℕ) (k : List Item) (count : ℕ) (a : Trail Point) → Has T spot end → length
+        a.state.store ≡ spot.live
+        → W count (config (end_of end (n + params) ∷ mark (record { receiver = x; here = h; length = n }) ∷ k) spot.frame.here a.state) a.met
         → H (point spot.next) a ⊎ Tail spot.next h n x params k count a
-    call_tail spot n h x end params k zero a has l e = inl (here spot end false (end_of end (n + params) ∷ mark (record { target = x; here = h; length = n }) ∷ k) a (point spot.next)
+    call_tail spot n h x end params k zero a has l e = inl (here spot end false
+        (end_of end (n + params) ∷ mark (record { receiver = x; here = h; length = n }) ∷ k) a (point spot.next)
         has l refl (refl, refl) (λ b m v. absurd v) e)
     call_tail spot n h x end params k (suc i) a has l r =
-        let y = enters (end_of end (n + params) ∷ mark (record { target = x; here = h; length = n }) ∷ k) spot end false i a has l refl r in
-        let cutting = go_some (mark (record { target = x; here = h; length = n }) ∷ k) spot.frame.here (run_op (keep (n + params)) y.past.state) y.goal y.step in
+        let y = enters (end_of end (n + params) ∷ mark (record { receiver = x; here = h; length = n }) ∷ k) spot end false i a has l refl r in
+        let cutting = go_some (mark (record { receiver = x; here = h; length = n }) ∷ k) spot.frame.here (run_op (keep (n + params)) y.past.state) y.goal
+        y.step in
         marked y.past y.passed cutting.0 cutting.1 (rw cutting.2 y.rest)
       where
         marked : (b : Trail Point) → Passes (point_at T) may spot.next a b → (short : State) → run_op (keep (n + params)) b.state ≡ Some short
-            → W i (config (mark (record { target = x; here = h; length = n }) ∷ k) spot.frame.here short) b.met → H (point spot.next) a ⊎ Tail spot.next h n x params k (suc i) a
+            → W i (config (mark (record { receiver = x; here = h; length = n }) ∷ k) spot.frame.here short) b.met → H (point spot.next) a ⊎ Tail spot.next h n
+            x params k (suc i) a
         marked b m short o rest =
-            let v = plain (config (mark (record { target = x; here = h; length = n }) ∷ k) spot.frame.here short) b.met i refl rest in
+            let v = plain (config (mark (record { receiver = x; here = h; length = n }) ∷ k) spot.frame.here short) b.met i refl rest in
             let few = v.2 in
             let setting = go_on_some (run_any x short) (λ t. go k h (run_op (keep n) t)) v.1 v.3 in
             let back = go_some k h (run_op (keep n) setting.0) v.1 setting.2 in
@@ -250,47 +260,56 @@ module _ (may : State → State → Type 0) (keeps : KeepsWidth may) (P : Progra
               rest = rw back.2 v.4;
             })
 
-    abbrev tree_of_call : Spot → ℕ → Option ℕ → Call → Function → Node → Node
-    tree_of_call spot r x b fn g = call_node spot.next r spot.frame.here.base spot.live x b.arguments fn.parameters g
+    abbrev tree_of_call : Spot → ℕ → Receiver → Call → Function → Node → Node
+    tree_of_call spot r x b fn g = call_node spot.next r spot.frame.here.base spot.live (inner fn x) (given fn b) (width fn) g
 
     abbrev tree_of_loop : Spot → Cond → Node → Node → Node
     tree_of_loop spot b g h = loop_node spot.next spot.frame.here.base b g h
 
-    splits_call : (spot : Spot) (r : ℕ) (x : Option ℕ) (b : Call) (fn : Function) (g : Node) (n' r' : ℕ) (k : List Item) (a : Trail Point) (j : ℕ) (e : Config)
-        → length b.arguments ≡ fn.parameters → InlAll P T (into_callee spot x b fn.parameters r) fn.body g n' r' → Has T (move (into_callee spot x b fn.parameters r) n' r') fn.end
+    splits_call : (spot : Spot) (r : ℕ) (x : Receiver) (b : Call) (fn : Function) (g : Node) (n' r' : ℕ) (k : List Item) (a : Trail Point) (j : ℕ) (e : Config)
+        → length b.arguments ≡ length fn.parameters → InlAll P T (into_callee spot (inner fn x) b (width fn) r) fn.body g n' r' → Has T
+        (move (into_callee spot (inner fn x) b (width fn) r) n' r') fn.end
         → length a.state.store ≡ spot.live → j < fuel → enter (Some fn) b x k spot.frame.here a.state ≡ Some e → W j e a.met
-        → Splits spot.frame.here k (suc j) (call_node spot.next r' spot.frame.here.base spot.live x b.arguments fn.parameters g) a
+        → Splits spot.frame.here k (suc j) (call_node spot.next r' spot.frame.here.base spot.live (inner fn x) (given fn b) (width fn) g) a
     splits_call spot r x b fn g n' r' k a j e i d has l less y rest =
-        let y' : go (all fn.body ∷ call_items fn spot.live x spot.frame.here k) (callee spot.frame spot.live x b).here (run_op (push spot.frame.here.base b.arguments) a.state) ≡ Some e = rw (← l) y in
-        let entering = go_some (all fn.body ∷ call_items fn spot.live x spot.frame.here k) (callee spot.frame spot.live x b).here (run_op (push spot.frame.here.base b.arguments) a.state) e y' in
+        let y' : go (all fn.body ∷ call_items fn spot.live (inner fn x) spot.frame.here k) (callee spot.frame spot.live (inner fn x) b).here
+        (run_op (push spot.frame.here.base (given fn b)) a.state) ≡ Some e = rw (← l) y in
+        let entering = go_some (all fn.body ∷ call_items fn spot.live (inner fn x) spot.frame.here k) (callee spot.frame spot.live (inner fn x) b).here
+        (run_op (push spot.frame.here.base (given fn b)) a.state) e y' in
         inside (trail entering.0 a.met) (entering.1, refl) (rw entering.2 rest)
       where
-        ended_inside : (u : Trail Point) → Performs (push spot.frame.here.base b.arguments) a u → (i : ℕ) (m : Trail Point) → i < j → G g u to_end m
-            → H (point r') m ⊎ Tail r' spot.frame.here spot.live x fn.parameters k i m → Splits spot.frame.here k (suc j) (tree_of_call spot r' x b fn g) a
+        ended_inside : (u : Trail Point) → Performs (push spot.frame.here.base (given fn b)) a u → (i : ℕ) (m : Trail Point) → i < j → G g u to_end m
+            → H (point r') m ⊎ Tail r' spot.frame.here spot.live (inner fn x) (width fn) k i m → Splits spot.frame.here k (suc j)
+            (tree_of_call spot r' x b fn g) a
         ended_inside u o i m z v (inl h) = hits (hit_of (point r') (tree_of_call spot r' x b fn g) m a (λ s d n w. inr (u, o, (n returned, inr (m, v, inl w)))) h)
         ended_inside u o i m z v (inr t) = let few = t.fewer in ended t.left t.final (omega arith)
-            (call_ends (point_at T) may spot r' x b.arguments fn.parameters g a u t.final o
+            (call_ends (point_at T) may spot r' (inner fn x) (given fn b) (width fn) g a u t.final o
             (record { before = m; past = t.over; cut = t.cut; set = t.set; body = v; passed = t.passed; cuts = t.cuts; sets = t.sets; back = t.backs })) t.rest
 
-        long : (u : Trail Point) → Performs (push spot.frame.here.base b.arguments) a u → length u.state.store ≡ spot.live + fn.parameters
-        long u o = length_push spot.frame.here.base b.arguments a.state u.state o.0 ∙ rw (l, i) refl
+        long : (u : Trail Point) → Performs (push spot.frame.here.base (given fn b)) a u → length u.state.store ≡ spot.live + width fn
+        long u o = length_push spot.frame.here.base (given fn b) a.state u.state o.0 ∙ rw (l, given_width fn.parameters b.arguments i) refl
 
-        after : (u : Trail Point) → Performs (push spot.frame.here.base b.arguments) a u → Splits (callee spot.frame spot.live x b).here (call_items fn spot.live x spot.frame.here k) j g u
+        after : (u : Trail Point) → Performs (push spot.frame.here.base (given fn b)) a u → Splits (callee spot.frame spot.live (inner fn x) b).here
+            (call_items fn spot.live (inner fn x) spot.frame.here k) j g u
             → Splits spot.frame.here k (suc j) (tree_of_call spot r' x b fn g) a
         after u o (hits h) = hits (hit_of g (tree_of_call spot r' x b fn g) u a (λ s d n w. inr (u, o, (n returned, inl w))) h)
         after u o (jumped i' broken m d' z v l' t) = absurd (none-some d' l')
         after u o (jumped i' continued m d' z v l' t) = absurd (none-some d' l')
         after u o (jumped i' returned m d' z v l' t) = ended i' m (omega arith) (u, o, inr (inl v)) (rw (same_Some (config k spot.frame.here m.state) d' l') t)
-        after u o (ended i' m z v t) = ended_inside u o i' m z v (call_tail (move (into_callee spot x b fn.parameters r) n' r') spot.live spot.frame.here x fn.end fn.parameters k i' m has
+        after u o (ended i' m z v t) = ended_inside u o i' m z v (call_tail (move (into_callee spot (inner fn x) b (width fn) r) n' r') spot.live
+            spot.frame.here (inner fn x) fn.end (width fn) k i' m has
             ((len_all d).ends u m to_end (long u o) v) t)
 
-        inside : (u : Trail Point) → Performs (push spot.frame.here.base b.arguments) a u →
-            W j (config (all fn.body ∷ call_items fn spot.live x spot.frame.here k) (callee spot.frame spot.live x b).here u.state) a.met →
+        inside : (u : Trail Point) → Performs (push spot.frame.here.base (given fn b)) a u →
+            W j (config (all fn.body ∷ call_items fn spot.live (inner fn x) spot.frame.here k) (callee spot.frame spot.live (inner fn x) b).here u.state) a.met
+            →
             Splits spot.frame.here k (suc j) (tree_of_call spot r' x b fn g) a
-        inside u o t = after u o (below.every (into_callee spot x b fn.parameters r) fn.body g n' r' d (call_items fn spot.live x spot.frame.here k) u j
+        inside u o t = after u o (below.every (into_callee spot (inner fn x) b (width fn) r) fn.body g n' r' d
+            (call_items fn spot.live (inner fn x) spot.frame.here k) u j
             (record { loops = λ m z. absurd (none-some m z); backs = refl }) (long u o) less (rw o.1 t))
 
-    splits_gives : (spot : Spot) (r : ℕ) (x : Option ℕ) (v : Rvalue) (g : Node) (q : ℕ) (k : List Item) (a : Trail Point) (j : ℕ) (e : Config) → Gives P T spot r x v g q
+    splits_gives : (spot : Spot) (r : ℕ) (x : Receiver) (v : Rvalue) (g : Node) (q : ℕ) (k : List Item) (a : Trail Point) (j : ℕ) (e : Config) → Gives P T spot
+        r x v g q
         → length a.state.store ≡ spot.live → j < fuel → do_rvalue P x v k spot.frame.here a.state ≡ Some e → W j e a.met → Splits spot.frame.here k (suc j) g a
     splits_gives _ _ _ _ _ _ k a j e (as_value {s = spot} {x = x} {e = v}) l less y rest = splits_act spot.next (give spot.frame.here.base x v) spot.frame.here k a j e y rest
     splits_gives _ _ _ _ _ _ k a j e (as_result {s = spot} {r = r} {x = x} {c = b} {fn = fn} {g = g'} {n = n'} {q = r'} found i d has) l less y rest =
@@ -456,8 +475,8 @@ module _ (may : State → State → Type 0) (keeps : KeepsWidth may) (P : Progra
         splits_more f.here k (suc v.0) count (seq (act q (keep b.length)) (leave live returned)) a (omega (arith, few))
         (subst (λ u. Splits f.here k (suc v.0) (seq (act q (keep b.length)) (leave live returned)) (trail u a.met)) (sym (same_Some a.state x.0 x.1)) x.2)
 
-    target_is : (f : Frame) (k : List Item) (b : Back) → f.back ≡ Some b → Matches f k → target_of (to_mark k) ≡ b.target
-    target_is f k b i mm = let marked = mark_some (to_mark k) b (mm.backs ∙ i) in rw marked.1 refl
+    receiver_is : (f : Frame) (k : List Item) (b : Back) → f.back ≡ Some b → Matches f k → receiver_of P (to_mark k) ≡ b.receiver
+    receiver_is f k b i mm = let marked = mark_some (to_mark k) b (mm.backs ∙ i) in rw marked.1 refl
 
     no_mark : (f : Frame) (k : List Item) → f.back ≡ None → Matches f k → to_mark k ≡ None
     no_mark f k i mm = mark_none (to_mark k) (mm.backs ∙ i)
@@ -495,21 +514,26 @@ module _ (may : State → State → Type 0) (keeps : KeepsWidth may) (P : Progra
         splits_loop spot r at b s step g h r' q' i d e k a count m l less t
 
     -- a declarator: the point, the new variable, and what it gets
-    splits_declare : (spot : Spot) (d : Declarator) (g : Node) (q' : ℕ) → Has T spot d.label → Declares P T spot (suc spot.next) d.rvalue g q' → (k : List Item) (a : Trail Point) (count : ℕ)
+    splits_declare : (spot : Spot) (d : Declarator) (g : Node) (q' : ℕ) → Has T spot d.label → Declares P T spot (suc spot.next) d.number_type d.rvalue g q' →
+        (k : List Item) (a : Trail Point) (count : ℕ)
         → length a.state.store ≡ spot.live → count < suc fuel
         → W count (config (declare d ∷ k) spot.frame.here a.state) a.met → Splits spot.frame.here k count (seq (point spot.next) g) a
     splits_declare spot d g q' i x k a count l less t = splits_point spot d.label false (declare d) g k a count i l refl (λ b v. absurd v) t
-        (λ j b e j' l' y w. splits_more spot.frame.here k (suc j) count g b (omega arith) (by_rvalue spot (suc spot.next) d.rvalue g q' x k b j e l' (omega arith) y w))
+        (λ j b e j' l' y w. splits_more spot.frame.here k (suc j) count g b (omega arith)
+        (by_rvalue spot (suc spot.next) d.number_type d.rvalue g q' x k b j e l' (omega arith) y w))
       where
-        by_rvalue : (spot : Spot) (r : ℕ) (o : Option Rvalue) (g : Node) (q' : ℕ) → Declares P T spot r o g q' → (k : List Item) (a : Trail Point) (j : ℕ) (e : Config) →
+        by_rvalue : (spot : Spot) (r : ℕ) (t : NumberType) (o : Option Rvalue) (g : Node) (q' : ℕ) → Declares P T spot r t o g q' → (k : List Item)
+            (a : Trail Point) (j : ℕ) (e : Config) →
             length a.state.store ≡ spot.live → j < fuel
-            → do_declare P o k spot.frame.here a.state ≡ Some e → W j e a.met → Splits spot.frame.here k (suc j) g a
-        by_rvalue _ _ _ _ _ (as_fresh {s = spot}) k a j e l less y w = splits_act spot.next append spot.frame.here k a j e y w
-        by_rvalue _ _ _ _ _ (as_given {s = spot} {r = r} {e = b} {g = g} {q = q'} d) k a j e l less y w =
-            let x = go_on_some (run_op append a.state) (do_rvalue P (Some (length a.state.store)) b k spot.frame.here) e y in
-            let y' : do_rvalue P (Some spot.live) b k spot.frame.here x.0 ≡ Some e = subst (λ v. do_rvalue P (Some v) b k spot.frame.here x.0 ≡ Some e) l x.2 in
-            after_act spot.next append g spot.frame.here k (suc j) a (trail x.0 a.met) (x.1, refl)
-            (splits_gives (move spot (suc spot.live) spot.next) r (Some spot.live) b g q' k (trail x.0 a.met) j e d (length_append a.state x.0 x.1 ∙ ap suc l) less y' w)
+            → do_declare P t o k spot.frame.here a.state ≡ Some e → W j e a.met → Splits spot.frame.here k (suc j) g a
+        by_rvalue _ _ _ _ _ _ (as_fresh {s = spot} {t = t}) k a j e l less y w = splits_act spot.next (append t) spot.frame.here k a j e y w
+        by_rvalue _ _ _ _ _ _ (as_given {s = spot} {r = r} {t = t} {e = b} {g = g} {q = q'} d) k a j e l less y w =
+            let x = go_on_some (run_op (append t) a.state) (do_rvalue P (variable_at (length a.state.store) t) b k spot.frame.here) e y in
+            let y' : do_rvalue P (variable_at spot.live t) b k spot.frame.here x.0 ≡ Some e = subst
+            (λ v. do_rvalue P (variable_at v t) b k spot.frame.here x.0 ≡ Some e) l x.2 in
+            after_act spot.next (append t) g spot.frame.here k (suc j) a (trail x.0 a.met) (x.1, refl)
+            (splits_gives (move spot (suc spot.live) spot.next) r (variable_at spot.live t) b g q' k (trail x.0 a.met) j e d
+            (length_append t a.state x.0 x.1 ∙ ap suc l) less y' w)
 
     splits_every : (spot : Spot) (b : BlockItems) (g : Node) (n q : ℕ) → InlAll P T spot b g n q → (k : List Item) (a : Trail Point) (count : ℕ) → Matches spot.frame k →
         length a.state.store ≡ spot.live
@@ -562,9 +586,10 @@ module _ (may : State → State → Type 0) (keeps : KeepsWidth may) (P : Progra
         let x = past (config (run absent ∷ k) spot.frame.here a.state) (config k spot.frame.here a.state) a.met count refl refl t in
         ended x.0 a (omega arith) refl x.2
     splits_one _ _ _ _ (as_assign {s = spot} {at = at} {x = x} {e = v} {g = g} {q = q'} i d) k a count m l less t = at_its_point spot at (assign at x v) g k a count less i l refl (λ b v. v) t
-        (λ j b e less' l' y w. splits_gives spot (suc spot.next) (Some (index_of spot.frame.here.base x)) v g q' k b j e d l' less' y w)
+        (λ j b e less' l' y w. splits_gives spot (suc spot.next) (variable_at (index_of spot.frame.here.base x.slot) x.number_type) v g q' k b j e d l' less' y
+        w)
     splits_one _ _ _ _ (as_call {s = spot} {at = at} {c = b} {g = g} {q = q'} i d) k a count m l less t = at_its_point spot at (call at b) g k a count less i l refl (λ b v. v) t
-        (λ j u e less' l' y w. splits_gives spot (suc spot.next) None (result b) g q' k u j e d l' less' y w)
+        (λ j u e less' l' y w. splits_gives spot (suc spot.next) nobody (result b) g q' k u j e d l' less' y w)
     splits_one _ _ _ _ (as_if {s = spot} {at = at} {c = b} {a = s} {b = s'} {g = g} {h = h} {r = r} {q = q'} i d d') k a count m l less t =
         at_its_point spot at (if at b s s') (choose spot.next spot.frame.here.base b g h) k a count less i l refl (λ b v. v) t
         (λ j u e less' l' y w. elim (go_by_some (run s ∷ k) (run s' ∷ k) spot.frame.here u.state (truth_of b (scene_at spot.frame.here.base u.state) u.state.draws) e y) as
@@ -589,36 +614,40 @@ module _ (may : State → State → Type 0) (keeps : KeepsWidth may) (P : Progra
         at_its_point spot at (continue at) (seq (act spot.next (keep b)) (leave spot.live continued)) k a count less has l refl (λ b v. v) t
         (λ j u e less' l' y w. splits_continue spot.frame spot.next b spot.live k u j e i m y w)
     splits_one _ _ _ _ (as_return {s = spot} {at = at} {b = b} i i' has) k a count m l less t =
-        at_its_point spot at (return at None) (return_node spot.next (give_any b.target) b.length spot.live) k a count less has l refl (λ b v. v) t
+        at_its_point spot at (return at None) (return_node spot.next (give_any b.receiver) b.length spot.live) k a count less has l refl (λ b v. v) t
         (λ j u e less' l' y w.
-        let y' : do_leave (to_mark k) (run_any b.target u.state) ≡ Some e = subst (λ v. do_leave (to_mark k) (run_any v u.state) ≡ Some e) (target_is spot.frame k b i m) y in
-        splits_return spot.frame spot.next spot.live (give_any b.target) b k u j e i m y' w)
+        let y' : do_leave (to_mark k) (run_any b.receiver u.state) ≡ Some e = subst (λ v. do_leave (to_mark k) (run_any v u.state) ≡ Some e)
+        (receiver_is spot.frame k b i m) y in
+        splits_return spot.frame spot.next spot.live (give_any b.receiver) b k u j e i m y' w)
     splits_one _ _ _ _ (as_return_value {s = spot} {at = at} {e = v} {b = b} i i' has) k a count m l less t =
-        at_its_point spot at (return at (Some (value v))) (return_node spot.next (give spot.frame.here.base b.target v) b.length spot.live) k a count less has l refl (λ b v. v) t
+        at_its_point spot at (return at (Some (value v))) (return_node spot.next (give spot.frame.here.base b.receiver v) b.length spot.live) k a count less
+        has l refl (λ b v. v) t
         (λ j u e less' l' y w.
-        let y' : do_leave (to_mark k) (run_op (give spot.frame.here.base b.target v) u.state) ≡ Some e =
-        subst (λ x. do_leave (to_mark k) (run_op (give spot.frame.here.base x v) u.state) ≡ Some e) (target_is spot.frame k b i m) y in
-        splits_return spot.frame spot.next spot.live (give spot.frame.here.base b.target v) b k u j e i m y' w)
+        let y' : do_leave (to_mark k) (run_op (give spot.frame.here.base b.receiver v) u.state) ≡ Some e =
+        subst (λ x. do_leave (to_mark k) (run_op (give spot.frame.here.base x v) u.state) ≡ Some e) (receiver_is spot.frame k b i m) y in
+        splits_return spot.frame spot.next spot.live (give spot.frame.here.base b.receiver v) b k u j e i m y' w)
     splits_one _ _ _ _ (as_return_call {s = spot} {at = at} {c = v} {b = b} {g = g} {q = q'} i i' has d) k a count m l less t =
         at_its_point spot at (return at (Some (result v))) (seq g (seq (act spot.next (keep b.length)) (leave spot.live returned))) k a count less has l refl (λ b v. v) t
         (λ j u e less' l' y w.
-        let y' : do_rvalue P b.target (result v) (leave_call ∷ k) spot.frame.here u.state ≡ Some e =
-        subst (λ x. do_rvalue P x (result v) (leave_call ∷ k) spot.frame.here u.state ≡ Some e) (target_is spot.frame k b i m) y in
+        let y' : do_rvalue P b.receiver (result v) (leave_call ∷ k) spot.frame.here u.state ≡ Some e =
+        subst (λ x. do_rvalue P x (result v) (leave_call ∷ k) spot.frame.here u.state ≡ Some e) (receiver_is spot.frame k b i m) y in
         splits_seq spot.frame.here k (leave_call ∷ k) (suc j) g (seq (act spot.next (keep b.length)) (leave spot.live returned)) u (skip_one spot.frame.here leave_call k refl refl)
-        (splits_gives spot (suc spot.next) b.target (result v) g q' (leave_call ∷ k) u j e d l' less' y' w)
+        (splits_gives spot (suc spot.next) b.receiver (result v) g q' (leave_call ∷ k) u j e d l' less' y' w)
         (λ j'' u' z f b'. leave_tail spot.frame spot.next spot.live b k u' j'' i m b'))
     splits_one _ _ _ _ (as_end {s = spot} {at = at} i has) k a count m l less t = at_its_point spot at (return at None) (leave spot.live returned) k a count less has l refl (λ b v. v) t
-        (λ j u e less' l' y w. absurd (none-some e (subst (λ o. do_leave o (run_any (target_of o) u.state) ≡ Some e) (no_mark spot.frame k i m) y)))
+        (λ j u e less' l' y w. absurd (none-some e (subst (λ o. do_leave o (run_any (receiver_of P o) u.state) ≡ Some e) (no_mark spot.frame k i m) y)))
     splits_one _ _ _ _ (as_end_value {s = spot} {at = at} {e = v} i has) k a count m l less t =
-        at_its_point spot at (return at (Some (value v))) (leave spot.live returned) k a count less has l refl (λ b v. v) t
-        (λ j u e less' l' y w. absurd (none-some e (subst (λ o. do_leave o (run_op (give spot.frame.here.base (target_of o) v) u.state) ≡ Some e) (no_mark spot.frame k i m) y)))
+        at_its_point spot at (return at (Some (value v))) (seq (act spot.next (give spot.frame.here.base (behind_main P) v)) (leave spot.live returned)) k a
+        count less has l refl (λ b v. v) t
+        (λ j u e less' l' y w. absurd (none-some e (subst (λ o. do_leave o (run_op (give spot.frame.here.base (receiver_of P o) v) u.state) ≡ Some e)
+        (no_mark spot.frame k i m) y)))
     splits_one _ _ _ _ (as_end_call {s = spot} {at = at} {c = v} {g = g} {q = q'} i has d) k a count m l less t =
         at_its_point spot at (return at (Some (result v))) (seq g (leave spot.live returned)) k a count less has l refl (λ b v. v) t
         (λ j u e less' l' y w.
-        let y' : do_rvalue P None (result v) (leave_call ∷ k) spot.frame.here u.state ≡ Some e =
-        subst (λ o. do_rvalue P (target_of o) (result v) (leave_call ∷ k) spot.frame.here u.state ≡ Some e) (no_mark spot.frame k i m) y in
+        let y' : do_rvalue P (behind_main P) (result v) (leave_call ∷ k) spot.frame.here u.state ≡ Some e =
+        subst (λ o. do_rvalue P (receiver_of P o) (result v) (leave_call ∷ k) spot.frame.here u.state ≡ Some e) (no_mark spot.frame k i m) y in
         splits_seq spot.frame.here k (leave_call ∷ k) (suc j) g (leave spot.live returned) u (skip_one spot.frame.here leave_call k refl refl)
-        (splits_gives spot (suc spot.next) None (result v) g q' (leave_call ∷ k) u j e d l' less' y' w)
+        (splits_gives spot (suc spot.next) (behind_main P) (result v) g q' (leave_call ∷ k) u j e d l' less' y' w)
         (λ j'' u' z f b'. end_tail_of spot.frame k u' j'' (leave spot.live returned) (no_mark spot.frame k i m) b'))
     splits_one _ _ _ _ (as_assert {s = spot} {at = at} {c = b} i) k a count m l less t =
         splits_point spot at true (run (assert at b)) (check spot.next spot.frame.here.base b) k a count i l refl (λ u v. (refl, refl, v.0, v.1)) t

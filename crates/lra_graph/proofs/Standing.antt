@@ -1,12 +1,12 @@
 -- Where a part of a well-formed program stands, its own parts stand.
 use Rattle.std.proofs.Common.{◌≡◌, ℕ, suc, ◌+◌, ◌≤◌, length, Option, Some, None, Bool, true, false, slice_get, refl, sym, ap, ◌∙◌, arith}
 use Rattle.std.proofs.lemmas.Option.{none-some, same_Some}
-use Rattle.lra_program.specs.Program.{Slot, Cond, Call, Rvalue, result, Declarator, Stmt, block, assign, call, if, loop, for, break, continue, return, BlockItems, no_more, declaration}
+use Rattle.lra_program.specs.Program.{Variable, Cond, Call, Rvalue, result, Declarator, Stmt, block, assign, call, if, loop, for, break, continue, return, BlockItems, no_more, declaration}
 use Rattle.lra_program.specs.Program.{statement, Function, Program}
 use Rattle.lra_program.specs.Sites.{live_behind}
 use Rattle.lra_program.specs.WellFormed.{IsWellFormed}
 use Rattle.lra_graph.specs.declared.frame.Frame.{Frame}
-use Rattle.lra_graph.specs.declared.frame.Back.{Back}
+use Rattle.lra_program.specs.declared.receivers.Receiver.{Receiver}
 use Rattle.lra_graph.specs.Building.{Stands, StmtStands, ItemsStand, GivenStands, CallStands}
 use Rattle.lra_graph.proofs.DistinctSites.{all_at, main_at}
 use Rattle.lra_graph.proofs.LiveInside.{live_low}
@@ -23,7 +23,7 @@ module _ (P : Program) (r : Frame) where
   pub block_stands : (items : BlockItems) (end : ℕ) → StmtStands P r (block items end) → ItemsStand P r items
   block_stands items end x = stands_as r _ _ (λ b n g. g) x
 
-  pub assign_stands : (at : ℕ) (v : Slot) (e : Rvalue) → StmtStands P r (assign at v e) → GivenStands P r (Some e)
+  pub assign_stands : (at : ℕ) (v : Variable) (e : Rvalue) → StmtStands P r (assign at v e) → GivenStands P r (Some e)
   assign_stands at v e x = stands_as r _ _ (λ b n g. (at, g.1)) x
 
   pub call_stands : (at : ℕ) (c : Call) → StmtStands P r (call at c) → CallStands P r c
@@ -128,16 +128,16 @@ module _ (P : Program) (r : Frame) where
       false_true e = cc
 
   -- a callee's body in its own frame
-  pub callee_stands : (n more k : ℕ) (x : Option ℕ) (c : Call) (fn : Function) → IsWellFormed P → CallStands P r c → slice_get P.functions c.function ≡ Some fn → n ≡ r.live → k ≡ n + fn.parameters
-      → ItemsStand P (record { base = n; live = k; calls_left = more; loop_length = None; back = Some (record { target = x; length = n }) }) fn.body
+  pub callee_stands : (n more k : ℕ) (x : Receiver) (c : Call) (fn : Function) → IsWellFormed P → CallStands P r c → slice_get P.functions c.function ≡ Some fn → n ≡ r.live → k ≡ n + length fn.parameters
+      → ItemsStand P (record { base = n; live = k; calls_left = more; loop_length = None; receiver = x; back = Some n }) fn.body
   callee_stands n more k x c fn well stands found same wide = record {
     in_loop = false;
-    own = fn.parameters;
+    own = length fn.parameters;
     good = all_at P P.functions c.function fn well.functions found;
     within = omega arith;
     loops = λ e. absurd (false_true e);
     loop_low = λ m e. absurd (none-some m e);
-    back_low = λ b e. let h = ap (λ (z : Back). z.length) (same_Some _ b e) in omega arith;
+    back_low = λ b e. let h = same_Some _ b e in omega arith;
   }
     where
       false_true : false ≡ true → ⊥
@@ -149,9 +149,9 @@ module _ (P : Program) (r : Frame) where
       let at = main_at P well in
       record {
         in_loop = false;
-        own = P.main.parameters;
+        own = length P.main.parameters;
         good = all_at P P.functions at.0 P.main well.functions at.1;
-        within = let alone = well.alone in omega (arith, alone);
+        within = let alone = ap length well.alone in omega (arith, alone);
         loops = λ e. absurd (false_true e);
         loop_low = λ m e. absurd (none-some m (sym no_loop ∙ e));
         back_low = λ b e. absurd (none-some b (sym no_back ∙ e));
@@ -161,7 +161,7 @@ module _ (P : Program) (r : Frame) where
       false_true e = cc
 
   -- the callee of a call, and how many arguments it takes
-  pub the_callee : (c : Call) → CallStands P r c → (fn : Function) × (slice_get P.functions c.function ≡ Some fn) × (length c.arguments ≡ fn.parameters)
+  pub the_callee : (c : Call) → CallStands P r c → (fn : Function) × (slice_get P.functions c.function ≡ Some fn) × (length c.arguments ≡ length fn.parameters)
   the_callee c x = let g = x.good.1 in (g.callee, g.is_callee, g.width)
 
   -- the loop of a `break` or a `continue`

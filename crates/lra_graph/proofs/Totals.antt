@@ -7,6 +7,7 @@ use Rattle.std.proofs.lemmas.Bool.{lt-ltb}
 use Rattle.std.proofs.lemmas.Option.{none-some, same_Some}
 use Rattle.lra_base.specs.declared.refusals.Refusal.{Refusal}
 use Rattle.lra_program.specs.Program.{BlockItems, Program}
+use Rattle.lra_program.specs.Step.{behind_main}
 use Rattle.lra_tree.specs.Labels.{Labelled}
 use Rattle.lra_operations.specs.Graph.{Node, seq, point}
 use Rattle.lra_program.specs.Sites.{Site, Event, comes, one_call_more, plain_site, live_behind, items_events, call_events, events_of, sites_in, sites_of}
@@ -69,9 +70,9 @@ pub refused_there : (P : Program) (x : Limit) (ls : List Labelled) → walk [] (
 refused_there P x ls e = sym (walk_fault ls [] (events_of P)) ∙ ap (fault_in ls) e
 
 abbrev pub first_frame : Program → Frame
-first_frame P = record { base = length P.globals; live = length P.globals; calls_left = 32; loop_length = None; back = None }
+first_frame P = record { base = length P.globals; live = length P.globals; calls_left = 32; loop_length = None; receiver = behind_main P; back = None }
 
-module _ (P : Program) (alone : P.main.parameters ≡ 0) where
+module _ (P : Program) (alone : P.main.parameters ≡ []) where
   -- main's items, and the point of its end
   abbrev main_events : List Event
   main_events = items_events (call_events P 32) [] (length P.globals) P.main.body ++ plain_site [] P.main.end (live_behind (length P.globals) P.main.body) ∷ []
@@ -105,7 +106,7 @@ module _ (P : Program) (alone : P.main.parameters ≡ 0) where
   whole_graph V U h g q x e i a =
       let n = live_behind (length P.globals) P.main.body in
       let same : U ≡ sites_of P = whole_sites U (whole_walk V U h x e) in
-      let is : IsFrame [] (first_frame P) (main_frame P) = record { path = refl; base = refl; loop = refl; back = refl } in
+      let is : IsFrame P [] (first_frame P) (main_frame P) = record { path = refl; base = refl; loop = refl; receiver = refl; back = refl } in
       record {
         body = h;
         last = length V;

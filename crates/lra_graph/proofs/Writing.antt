@@ -1,11 +1,15 @@
 -- Each form of a statement, written out behind the points before it.
 use Rattle.std.proofs.Common.{◌≡◌, ℕ, suc, ◌+◌, ◌≤◌, List, [], ◌∷◌, ◌++◌, length, Option, Some, None, Bool, true, false, slice_get, refl, sym, ap, ◌∙◌, subst, append_assoc}
 use Rattle.std.proofs.lemmas.Option.{none-some, same_Some}
-use Rattle.lra_program.specs.Program.{Slot, Expr, Cond, Call, Rvalue, value, result, Declarator, Stmt, absent, nothing, block, assign, call, if, loop, for, break, continue, return, assert, assume}
+use Rattle.lra_program.specs.Program.{Variable, Expr, Cond, Call, Rvalue, value, result, Declarator, Stmt, absent, nothing, block, assign, call, if, loop, for}
+use Rattle.lra_program.specs.Program.{break, continue, return, assert, assume}
 use Rattle.lra_program.specs.Program.{BlockItems, no_more, declaration, statement, Function, Program}
 use Rattle.lra_program.specs.Value.{index_of}
 use Rattle.lra_program.specs.Step as step
-use Rattle.lra_program.specs.Step.{append, give, give_any, keep, test}
+use Rattle.lra_program.specs.Step.{append, give, give_any, keep, test, arguments_for, behind_main}
+use Rattle.lra_base.specs.declared.number_types.NumberType.{NumberType}
+use Rattle.lra_program.specs.declared.receivers.Receiver.{Receiver}
+use Rattle.lra_program.specs.Receivers.{variable_at, nobody, behind_result}
 use Rattle.lra_operations.specs.Graph.{Exit, broken, continued, returned, Node, empty, point, act, check, seq, choose, leave}
 use Rattle.lra_program.specs.Sites.{Site, comes, plain_site, live_behind, rvalue_events, given_events, stmt_events, items_events, function_events, call_events}
 use Rattle.lra_operations.specs.Inlined as inlined
@@ -14,9 +18,9 @@ use Rattle.lra_operations.specs.Inlined.{as_for, as_break, as_continue}
 use Rattle.lra_operations.specs.Inlined.{as_return, as_return_value, as_return_call, as_end, as_end_value, as_end_call, as_assert, as_assume, as_none, as_declaration, as_statement, as_fresh, as_given}
 use Rattle.lra_operations.specs.Inlined.{is_loop, as_value, as_result, loop_node, call_node, return_node}
 use Rattle.lra_graph.specs.declared.frame.Frame.{Frame}
-use Rattle.lra_graph.specs.declared.frame.Back.{Back}
 use Rattle.lra_graph.specs.Limits.{walk, passed}
-use Rattle.lra_graph.specs.Building.{receiver, any_left, value_left, call_left, back_parts, IsFrame, Begins, inside, WritesStmt, WritesItems, WritesRvalue, WritesLoop, WritesDeclared, Writes}
+use Rattle.lra_graph.specs.Building.{any_left, value_left, call_left, back_length, receiver_behind, IsFrame, Begins, inside, WritesStmt, WritesItems}
+use Rattle.lra_graph.specs.Building.{WritesRvalue, WritesLoop, WritesDeclared, Writes}
 use Rattle.lra_graph.specs.Building.{LeavesLoop}
 use Rattle.lra_graph.proofs.Walking.{walk_then, begins_walk, point_there, one_longer}
 
@@ -27,17 +31,25 @@ begins_join S T U f g i x e = g i x (f i x e)
 abbrev pub Pointed : List Site → Site → List Site → Type 0
 Pointed S x U = walk S (comes x ∷ []) ≡ passed U
 
-in_loop : {path : List ℕ} {r : Frame} {f : inlined.Frame} (l : Option ℕ) → IsFrame path r f → IsFrame path (record r { loop_length = l }) (record f { loop = l })
-in_loop l is = record { path = is.path; base = is.base; loop = refl; back = is.back }
+in_loop : {P : Program} {path : List ℕ} {r : Frame} {f : inlined.Frame} (l : Option ℕ) → IsFrame P path r f → IsFrame P path (record r { loop_length = l })
+    (record f { loop = l })
+in_loop l is = record { path = is.path; base = is.base; loop = refl; receiver = is.receiver; back = is.back }
 
-with_live : {path : List ℕ} {r : Frame} {f : inlined.Frame} (n : ℕ) → IsFrame path r f → IsFrame path (record r { live = n }) f
-with_live n is = record { path = is.path; base = is.base; loop = is.loop; back = is.back }
+with_live : {P : Program} {path : List ℕ} {r : Frame} {f : inlined.Frame} (n : ℕ) → IsFrame P path r f → IsFrame P path (record r { live = n }) f
+with_live n is = record { path = is.path; base = is.base; loop = is.loop; receiver = is.receiver; back = is.back }
 
-back_there : (o : Option step.Back) (b : Back) → back_parts o ≡ Some b → (c : step.Back) × (o ≡ Some c) × (c.target ≡ b.target) × (c.length ≡ b.length)
-back_there None b e = absurd (none-some b e)
-back_there (Some c) b e = let h = same_Some _ b e in (c, refl, ap (λ (x : Back). x.target) h, ap (λ (x : Back). x.length) h)
+back_there : (o : Option step.Back) (n : ℕ) → back_length o ≡ Some n → (c : step.Back) × (o ≡ Some c) × (c.length ≡ n)
+back_there None n e = absurd (none-some n e)
+back_there (Some c) n e = (c, refl, same_Some c.length n e)
 
-no_back_there : (o : Option step.Back) → back_parts o ≡ None → o ≡ None
+-- what gets the value of the function that runs: a called one's, and `main`'s
+receiver_there : (P : Program) (o : Option step.Back) (c : step.Back) (x : Receiver) → o ≡ Some c → receiver_behind P o ≡ x → c.receiver ≡ x
+receiver_there P o c x e is = sym (ap (receiver_behind P) e) ∙ is
+
+main_there : (P : Program) (o : Option step.Back) (x : Receiver) → o ≡ None → receiver_behind P o ≡ x → behind_main P ≡ x
+main_there P o x e is = sym (ap (receiver_behind P) e) ∙ is
+
+no_back_there : (o : Option step.Back) → back_length o ≡ None → o ≡ None
 no_back_there None e = refl
 no_back_there (Some c) e = absurd (none-some _ (sym e))
 
@@ -53,10 +65,11 @@ module _ (P : Program) (path : List ℕ) (r : Frame) where
 
   -- a return behind its point q
   abbrev pub WritesReturn : ℕ → List Site → Option Rvalue → Node → List Site → Type 0
-  WritesReturn q S o g U = Writes path r (given_events (inside P path r) path N o) S U
+  WritesReturn q S o g U = Writes P path r (given_events (inside P path r) path N o) S U
       (λ T f. (at : ℕ) → length S ≡ suc q → Has T (spot_of f N q) at → Inl P T (spot_of f N q) (return at o) (seq (point q) g) (length U))
 
-  has_point : (S U T : List Site) (f : inlined.Frame) (at n : ℕ) (asserts : Bool) → Pointed S (site at n asserts) U → Begins U T → IsFrame path r f → HasSite T (spot_of f n (length S)) at asserts
+  has_point : (S U T : List Site) (f : inlined.Frame) (at n : ℕ) (asserts : Bool) → Pointed S (site at n asserts) U → Begins U T → IsFrame P path r f → HasSite
+      T (spot_of f n (length S)) at asserts
   has_point S U T f at n asserts e b is = rw is.path (point_there S U T (site at n asserts) e b)
 
   pub stmt_as : (S U : List Site) (s s' : Stmt) (g g' : Node) → s ≡ s' → g ≡ g' → WritesStmt P path r S s' g' U → WritesStmt P path r S s g U
@@ -83,7 +96,8 @@ module _ (P : Program) (path : List ℕ) (r : Frame) where
             (has_point V U T f end (live_behind N items) false e' b is));
       }
 
-  gives_as : (T : List Site) (f : inlined.Frame) (n k k' m m' : ℕ) (x x' : Option ℕ) (s : Rvalue) (h : Node) (u : ℕ) → k ≡ k' → m ≡ m' → x ≡ x' → Gives P T (spot_of f n k) m x s h u
+  gives_as : (T : List Site) (f : inlined.Frame) (n k k' m m' : ℕ) (x x' : Receiver) (s : Rvalue) (h : Node) (u : ℕ) → k ≡ k' → m ≡ m' → x ≡ x' → Gives P T
+      (spot_of f n k) m x s h u
       → Gives P T (spot_of f n k') m' x' s h u
   gives_as T f n k k' m m' x x' s h u a b c y =
       subst (λ z. Gives P T (spot_of f n k') m' z s h u) c (subst (λ z. Gives P T (spot_of f n k') z x s h u) b (subst (λ z. Gives P T (spot_of f n z) m x s h u) a y))
@@ -91,25 +105,29 @@ module _ (P : Program) (path : List ℕ) (r : Frame) where
   inl_as : (T : List Site) (f : inlined.Frame) (n k k' : ℕ) (s : Stmt) (h : Node) (u : ℕ) → k ≡ k' → Inl P T (spot_of f n k) s h u → Inl P T (spot_of f n k') s h u
   inl_as T f n k k' s h u e y = subst (λ z. Inl P T (spot_of f n z) s h u) e y
 
-  pub assign_written : (S V U : List Site) (q at place : ℕ) (x : Slot) (s : Rvalue) (h g : Node) → q ≡ length S → Pointed S (site at N false) V → place ≡ index_of r.base x
-      → WritesRvalue P path r q (Some place) V s h U
+  pub assign_written : (S V U : List Site) (q at place : ℕ) (x : Variable) (s : Rvalue) (h g : Node) → q ≡ length S → Pointed S (site at N false) V → place ≡
+      index_of r.base x.slot
+      → WritesRvalue P path r q (variable_at place x.number_type) V s h U
       → g ≡ seq (point q) h → WritesStmt P path r S (assign at x s) g U
   assign_written S V U q at place x s h g i e j y a = record {
     walked = walk_then S (plain_site path at N ∷ []) (rvalue_events (inside P path r) path N s) V (passed U) e y.walked;
     placed = λ T f b is.
         let b' = begins_join V U T (begins_walk V (rvalue_events (inside P path r) path N s) U y.walked) b in
-        let y' = gives_as T f N q (length S) (length V) (suc (length S)) (Some place) (Some (index_of f.here.base x)) s h (length U) i (one_longer S V (site at N false) e)
-        (ap (λ z. Some z) j ∙ ap (λ z. Some (index_of z x)) (sym is.base)) (y.placed T f b is) in
+        let y' = gives_as T f N q (length S) (length V) (suc (length S)) (variable_at place x.number_type)
+        (variable_at (index_of f.here.base x.slot) x.number_type) s h (length U) i
+        (one_longer S V (site at N false) e) (ap (λ z. variable_at z x.number_type) (j ∙ ap (λ z. index_of z x.slot) (sym is.base))) (y.placed T f b is) in
         rw (a, i) (as_assign (has_point S V T f at N false e b' is) y');
   }
 
-  pub call_written : (S V U : List Site) (q at : ℕ) (c : Call) (h g : Node) → q ≡ length S → Pointed S (site at N false) V → WritesRvalue P path r q None V (result c) h U
+  pub call_written : (S V U : List Site) (q at : ℕ) (c : Call) (h g : Node) → q ≡ length S → Pointed S (site at N false) V → WritesRvalue P path r q nobody V
+      (result c) h U
       → g ≡ seq (point q) h → WritesStmt P path r S (call at c) g U
   call_written S V U q at c h g i e y a = record {
     walked = walk_then S (plain_site path at N ∷ []) (inside P path r path N c) V (passed U) e y.walked;
     placed = λ T f b is.
         let b' = begins_join V U T (begins_walk V (inside P path r path N c) U y.walked) b in
-        let y' = gives_as T f N q (length S) (length V) (suc (length S)) None None (result c) h (length U) i (one_longer S V (site at N false) e) refl (y.placed T f b is) in
+        let y' = gives_as T f N q (length S) (length V) (suc (length S)) nobody nobody (result c) h (length U) i (one_longer S V (site at N false) e) refl
+        (y.placed T f b is) in
         rw (a, i) (as_call (has_point S V T f at N false e b' is) y');
   }
 
@@ -214,81 +232,95 @@ module _ (P : Program) (path : List ℕ) (r : Frame) where
         rw a (inl_as T f N q (length S) (return at o) (seq (point q) h) (length U) i (x.placed T f b is at (one_longer S V (site at N false) e ∙ ap suc (sym i)) has));
   }
 
-  return_as : (T : List Site) (f : inlined.Frame) (q : ℕ) (s : Stmt) (op : Option ℕ → step.Op) (u : ℕ) (t t' : Option ℕ) (m m' : ℕ) → t ≡ t' → m ≡ m'
+  return_as : (T : List Site) (f : inlined.Frame) (q : ℕ) (s : Stmt) (op : Receiver → step.Op) (u : ℕ) (t t' : Receiver) (m m' : ℕ) → t ≡ t' → m ≡ m'
       → Inl P T (spot_of f N q) s (seq (point q) (return_node q (op t) m N)) u
       → Inl P T (spot_of f N q) s (seq (point q) (return_node q (op t') m' N)) u
   return_as T f q s op u t t' m m' a b y = subst (λ z. Inl P T (spot_of f N q) s (seq (point q) (return_node q (op t') z N)) u) b
       (subst (λ z. Inl P T (spot_of f N q) s (seq (point q) (return_node q (op z) m N)) u) a y)
 
-  module _ (S : List Site) (q : ℕ) (b : Back) (back : r.back ≡ Some b) (low : b.length ≤ N) where
-    pub return_any_written : (g : Node) → g ≡ return_node q (give_any b.target) b.length N → WritesReturn q S None g S
+  module _ (S : List Site) (q n : ℕ) (back : r.back ≡ Some n) (low : n ≤ N) where
+    pub return_any_written : (g : Node) → g ≡ return_node q (give_any r.receiver) n N → WritesReturn q S None g S
     return_any_written g a = record {
       walked = refl;
       placed = λ T f bs is at long has.
-          let z = back_there f.back b (is.back ∙ back) in
-          let low' : z.0.length ≤ N = subst (λ m. m ≤ N) (sym z.3) low in
-          rw (a, long) (return_as T f q (return at None) give_any (suc q) z.0.target b.target z.0.length b.length z.2 z.3 (as_return z.1 low' has));
+          let z = back_there f.back n (is.back ∙ back) in
+          let low' : z.0.length ≤ N = subst (λ m. m ≤ N) (sym z.2) low in
+          rw (a, long) (return_as T f q (return at None) give_any (suc q) z.0.receiver r.receiver z.0.length n
+          (receiver_there P f.back z.0 r.receiver z.1 is.receiver) z.2 (as_return z.1 low' has));
     }
 
-    pub return_value_written : (e : Expr) (g : Node) → g ≡ return_node q (give r.base b.target e) b.length N → WritesReturn q S (Some (value e)) g S
+    pub return_value_written : (e : Expr) (g : Node) → g ≡ return_node q (give r.base r.receiver e) n N → WritesReturn q S (Some (value e)) g S
     return_value_written e g a = record {
       walked = refl;
       placed = λ T f bs is at long has.
-          let z = back_there f.back b (is.back ∙ back) in
-          let low' : z.0.length ≤ N = subst (λ m. m ≤ N) (sym z.3) low in
-          rw (a, long, ← is.base) (return_as T f q (return at (Some (value e))) (λ t. give f.here.base t e) (suc q) z.0.target b.target z.0.length b.length z.2 z.3
-          (as_return_value z.1 low' has));
+          let z = back_there f.back n (is.back ∙ back) in
+          let low' : z.0.length ≤ N = subst (λ m. m ≤ N) (sym z.2) low in
+          rw (a, long, ← is.base) (return_as T f q (return at (Some (value e))) (λ t. give f.here.base t e) (suc q) z.0.receiver r.receiver z.0.length n
+          (receiver_there P f.back z.0 r.receiver z.1 is.receiver) z.2 (as_return_value z.1 low' has));
     }
 
-    pub return_call_written : (U : List Site) (c : Call) (h k g : Node) → WritesRvalue P path r q b.target S (result c) h U → k ≡ seq (act q (keep b.length)) (leave N returned) → g ≡ seq h k
+    pub return_call_written : (U : List Site) (c : Call) (h k g : Node) → WritesRvalue P path r q r.receiver S (result c) h U → k ≡ seq (act q (keep n))
+        (leave N returned) → g ≡ seq h k
         → WritesReturn q S (Some (result c)) g U
     return_call_written U c h k g y a a' = record {
       walked = y.walked;
       placed = λ T f bs is at long has.
-          let z = back_there f.back b (is.back ∙ back) in
-          let low' : z.0.length ≤ N = subst (λ m. m ≤ N) (sym z.3) low in
-          rw (a', a, ← z.3) (as_return_call z.1 low' has
-          (gives_as T f N q q (length S) (suc q) b.target z.0.target (result c) h (length U) refl long (sym z.2) (y.placed T f bs is)));
+          let z = back_there f.back n (is.back ∙ back) in
+          let low' : z.0.length ≤ N = subst (λ m. m ≤ N) (sym z.2) low in
+          rw (a', a, ← z.2) (as_return_call z.1 low' has
+          (gives_as T f N q q (length S) (suc q) r.receiver z.0.receiver (result c) h (length U) refl long
+          (sym (receiver_there P f.back z.0 r.receiver z.1 is.receiver)) (y.placed T f bs is)));
     }
 
   module _ (S : List Site) (q : ℕ) (back : r.back ≡ None) where
     pub end_any_written : (g : Node) → g ≡ leave N returned → WritesReturn q S None g S
     end_any_written g a = record { walked = refl; placed = λ T f bs is at long has. rw (a, long) (as_end (no_back_there f.back (is.back ∙ back)) has) }
 
-    pub end_value_written : (e : Expr) (g : Node) → g ≡ leave N returned → WritesReturn q S (Some (value e)) g S
-    end_value_written e g a = record { walked = refl; placed = λ T f bs is at long has. rw (a, long) (as_end_value (no_back_there f.back (is.back ∙ back)) has) }
+    pub end_value_written : (e : Expr) (g : Node) → g ≡ seq (act q (give r.base r.receiver e)) (leave N returned) → WritesReturn q S (Some (value e)) g S
+    end_value_written e g a = record {
+      walked = refl;
+      placed = λ T f bs is at long has.
+          let none = no_back_there f.back (is.back ∙ back) in
+          rw (a, long, ← is.base) (subst (λ x. Inl P T (spot_of f N q) (return at (Some (value e)))
+          (seq (point q) (seq (act q (give f.here.base x e)) (leave N returned))) (suc q))
+          (main_there P f.back r.receiver none is.receiver) (as_end_value none has));
+    }
 
-    pub end_call_written : (U : List Site) (c : Call) (h g : Node) → WritesRvalue P path r q None S (result c) h U → g ≡ seq h (leave N returned) → WritesReturn q S (Some (result c)) g U
+    pub end_call_written : (U : List Site) (c : Call) (h g : Node) → WritesRvalue P path r q r.receiver S (result c) h U → g ≡ seq h (leave N returned) →
+        WritesReturn q S (Some (result c)) g U
     end_call_written U c h g y a = record {
       walked = y.walked;
       placed = λ T f bs is at long has.
-          rw a (as_end_call (no_back_there f.back (is.back ∙ back)) has
-          (gives_as T f N q q (length S) (suc q) None None (result c) h (length U) refl long refl (y.placed T f bs is)));
+          let none = no_back_there f.back (is.back ∙ back) in
+          rw a (as_end_call none has
+          (gives_as T f N q q (length S) (suc q) r.receiver (behind_main P) (result c) h (length U) refl long
+          (sym (main_there P f.back r.receiver none is.receiver)) (y.placed T f bs is)));
     }
 
   -- a whole `return`, in a called function or in `main`
-  module _ (V : List Site) (q : ℕ) (low : (b : Back) → r.back ≡ Some b → b.length ≤ N) where
-    any_back : (o : Option Back) → r.back ≡ o → WritesReturn q V None (any_left o q N) V
+  module _ (V : List Site) (q : ℕ) (low : (n : ℕ) → r.back ≡ Some n → n ≤ N) where
+    any_back : (o : Option ℕ) → r.back ≡ o → WritesReturn q V None (any_left o r.receiver q N) V
     any_back None e = end_any_written V q e (leave N returned) refl
-    any_back (Some b) e = return_any_written V q b e (low b e) (any_left (Some b) q N) refl
+    any_back (Some n) e = return_any_written V q n e (low n e) (any_left (Some n) r.receiver q N) refl
 
-    value_back : (x : Expr) (o : Option Back) → r.back ≡ o → WritesReturn q V (Some (value x)) (value_left o q r.base x N) V
-    value_back x None e = end_value_written V q e x (leave N returned) refl
-    value_back x (Some b) e = return_value_written V q b e (low b e) x (value_left (Some b) q r.base x N) refl
+    value_back : (x : Expr) (o : Option ℕ) → r.back ≡ o → WritesReturn q V (Some (value x)) (value_left o r.receiver q r.base x N) V
+    value_back x None e = end_value_written V q e x (value_left None r.receiver q r.base x N) refl
+    value_back x (Some n) e = return_value_written V q n e (low n e) x (value_left (Some n) r.receiver q r.base x N) refl
 
-    call_back : (U : List Site) (c : Call) (h : Node) (o : Option Back) → r.back ≡ o → WritesRvalue P path r q (receiver o) V (result c) h U
+    call_back : (U : List Site) (c : Call) (h : Node) (o : Option ℕ) → r.back ≡ o → WritesRvalue P path r q r.receiver V (result c) h U
         → WritesReturn q V (Some (result c)) (call_left o q h N) U
     call_back U c h None e y = end_call_written V q e U c h (call_left None q h N) y refl
-    call_back U c h (Some b) e y = return_call_written V q b e (low b e) U c h (seq (act q (keep b.length)) (leave N returned)) (call_left (Some b) q h N) y refl refl
+    call_back U c h (Some n) e y = return_call_written V q n e (low n e) U c h (seq (act q (keep n)) (leave N returned)) (call_left (Some n) q h N) y refl refl
 
     module _ (S : List Site) (at : ℕ) (g : Node) (i : q ≡ length S) (pointed : Pointed S (site at N false) V) where
-      pub any_returned : g ≡ seq (point q) (any_left r.back q N) → WritesStmt P path r S (return at None) g V
-      any_returned a = return_written S V V q at None (any_left r.back q N) g i pointed (any_back r.back refl) a
+      pub any_returned : g ≡ seq (point q) (any_left r.back r.receiver q N) → WritesStmt P path r S (return at None) g V
+      any_returned a = return_written S V V q at None (any_left r.back r.receiver q N) g i pointed (any_back r.back refl) a
 
-      pub value_returned : (x : Expr) → g ≡ seq (point q) (value_left r.back q r.base x N) → WritesStmt P path r S (return at (Some (value x))) g V
-      value_returned x a = return_written S V V q at (Some (value x)) (value_left r.back q r.base x N) g i pointed (value_back x r.back refl) a
+      pub value_returned : (x : Expr) → g ≡ seq (point q) (value_left r.back r.receiver q r.base x N) → WritesStmt P path r S (return at (Some (value x))) g V
+      value_returned x a = return_written S V V q at (Some (value x)) (value_left r.back r.receiver q r.base x N) g i pointed (value_back x r.back refl) a
 
-      pub call_returned : (U : List Site) (c : Call) (h : Node) → WritesRvalue P path r q (receiver r.back) V (result c) h U → g ≡ seq (point q) (call_left r.back q h N)
+      pub call_returned : (U : List Site) (c : Call) (h : Node) → WritesRvalue P path r q r.receiver V (result c) h U → g ≡ seq (point q)
+          (call_left r.back q h N)
           → WritesStmt P path r S (return at (Some (result c))) g U
       call_returned U c h y a = return_written S V U q at (Some (result c)) (call_left r.back q h N) g i pointed (call_back U c h r.back refl y) a
 
@@ -305,7 +337,7 @@ module _ (P : Program) (path : List ℕ) (r : Frame) where
   }
 
   pub declaration_written : (S V W U : List Site) (q n : ℕ) (d : Declarator) (b : BlockItems) (h j k g : Node) → q ≡ length S → n ≡ suc N → Pointed S (site d.label N false) V
-      → WritesDeclared P path r q V d.rvalue h W
+      → WritesDeclared P path r q V d.number_type d.rvalue h W
       → WritesItems P path (record r { live = n }) W b k U → j ≡ seq (point q) h → g ≡ seq j k → WritesItems P path r S (declaration d b) g U
   declaration_written S V W U q n d b h j k g i same e x y a a' =
       let y' = subst (λ z. WritesItems P path (record r { live = z }) W b k U) same y in
@@ -316,45 +348,66 @@ module _ (P : Program) (path : List ℕ) (r : Frame) where
         placed = λ T f bs is.
             let bs' = begins_join W U T (begins_walk W rest U y'.walked) bs in
             let bs'' = begins_join V W T (begins_walk V mid W x.walked) bs' in
-            let x' : Declares P T (spot_of f N (length S)) (suc (length S)) d.rvalue h (length W) =
-            subst (λ z. Declares P T (spot_of f N (length S)) z d.rvalue h (length W)) (one_longer S V (site d.label N false) e)
-            (subst (λ z. Declares P T (spot_of f N z) (length V) d.rvalue h (length W)) i (x.placed T f bs' is)) in
+            let x' : Declares P T (spot_of f N (length S)) (suc (length S)) d.number_type d.rvalue h (length W) =
+            subst (λ z. Declares P T (spot_of f N (length S)) z d.number_type d.rvalue h (length W)) (one_longer S V (site d.label N false) e)
+            (subst (λ z. Declares P T (spot_of f N z) (length V) d.number_type d.rvalue h (length W)) i (x.placed T f bs' is)) in
             rw (a', a, i) (as_declaration (has_point S V T f d.label N false e bs'' is) x'
             (y'.placed T f bs (with_live (suc N) is)));
       }
 
-  pub fresh_written : (S : List Site) (q : ℕ) (g : Node) → g ≡ act q append → WritesDeclared P path r q S None g S
-  fresh_written S q g a = record { walked = refl; placed = λ T f b is. rw a as_fresh }
+  pub fresh_written : (S : List Site) (q : ℕ) (t : NumberType) (g : Node) → g ≡ act q (append t) → WritesDeclared P path r q S t None g S
+  fresh_written S q t g a = record { walked = refl; placed = λ T f b is. rw a as_fresh }
 
-  pub given_written : (S U : List Site) (q n : ℕ) (e : Rvalue) (h g : Node) → n ≡ suc N → WritesRvalue P path (record r { live = n }) q (Some r.live) S e h U → g ≡ seq (act q append) h
-      → WritesDeclared P path r q S (Some e) g U
-  given_written S U q n e h g same y a =
-      let y' = subst (λ z. WritesRvalue P path (record r { live = z }) q (Some r.live) S e h U) same y in
+  pub given_written : (S U : List Site) (q n : ℕ) (t : NumberType) (e : Rvalue) (h g : Node) → n ≡ suc N → WritesRvalue P path (record r { live = n }) q
+      (variable_at r.live t) S e h U
+      → g ≡ seq (act q (append t)) h → WritesDeclared P path r q S t (Some e) g U
+  given_written S U q n t e h g same y a =
+      let y' = subst (λ z. WritesRvalue P path (record r { live = z }) q (variable_at r.live t) S e h U) same y in
       record { walked = y'.walked; placed = λ T f b is. rw a (as_given (y'.placed T f b (with_live (suc N) is))) }
 
-  pub value_written : (S : List Site) (q : ℕ) (x : Option ℕ) (e : Expr) (g : Node) → g ≡ act q (give r.base x e) → WritesRvalue P path r q x S (value e) g S
+  pub value_written : (S : List Site) (q : ℕ) (x : Receiver) (e : Expr) (g : Node) → g ≡ act q (give r.base x e) → WritesRvalue P path r q x S (value e) g S
   value_written S q x e g a = record { walked = refl; placed = λ T f b is. rw (a, ← is.base) as_value }
 
   -- a call that may still be made
-  pub result_written : (S V U : List Site) (q k n more : ℕ) (x : Option ℕ) (c : Call) (fn : Function) (h g : Node) → r.calls_left ≡ suc more → slice_get P.functions c.function ≡ Some fn
-      → length c.arguments ≡ fn.parameters
-      → WritesItems P (c.label ∷ path) (record { base = r.live; live = r.live + fn.parameters; calls_left = more; loop_length = None; back = Some (record { target = x; length = r.live }) }) S
+  pub result_written : (S V U : List Site) (q k n more : ℕ) (x : Receiver) (c : Call) (fn : Function) (h g : Node) → r.calls_left ≡ suc more → slice_get
+      P.functions c.function ≡ Some fn
+      → length c.arguments ≡ length fn.parameters
+      → WritesItems P (c.label ∷ path) (record {
+        base = r.live;
+        live = r.live + length fn.parameters;
+        calls_left = more;
+        loop_length = None;
+        receiver =
+            behind_result fn.result_type x;
+        back = Some r.live;
+      }) S
       fn.body h V
-      → n ≡ live_behind (N + fn.parameters) fn.body → k ≡ length V → Pointed V (record { path = c.label ∷ path; label = fn.end; live = n; asserts = false }) U
-      → g ≡ call_node q k r.base N x c.arguments fn.parameters h → WritesRvalue P path r q x S (result c) g U
+      → n ≡ live_behind (N + length fn.parameters) fn.body → k ≡ length V → Pointed V
+      (record { path = c.label ∷ path; label = fn.end; live = n; asserts = false }) U
+      → g ≡ call_node q k r.base N (behind_result fn.result_type x) (arguments_for fn.parameters c.arguments) (length fn.parameters) h → WritesRvalue P path r
+      q x S (result c) g U
   result_written S V U q k n more x c fn h g left found wide y same i e a =
-      let m = live_behind (N + fn.parameters) fn.body in
+      let m = live_behind (N + length fn.parameters) fn.body in
       let last : Site = record { path = c.label ∷ path; label = fn.end; live = m; asserts = false } in
       let e' : Pointed V last U = subst (λ z. Pointed V (record { path = c.label ∷ path; label = fn.end; live = z; asserts = false }) U) same e in
       record {
         walked = subst (λ z. walk S (call_events P z path N c) ≡ passed U) (sym left) (subst (λ o. walk S (function_events (call_events P more) (c.label ∷ path) N o) ≡ passed U) (sym found)
-            (walk_then S (items_events (call_events P more) (c.label ∷ path) (N + fn.parameters) fn.body) (plain_site (c.label ∷ path) fn.end m ∷ []) V (passed U) y.walked e'));
+            (walk_then S (items_events (call_events P more) (c.label ∷ path) (N + length fn.parameters) fn.body) (plain_site (c.label ∷ path) fn.end m ∷ []) V
+            (passed U) y.walked e'));
         placed = λ T f b is.
-            let is' : IsFrame (c.label ∷ path)
-            (record { base = r.live; live = r.live + fn.parameters; calls_left = more; loop_length = None; back = Some (record { target = x; length = r.live }) }) (callee f N x c) = record
-            { path = ap (λ z. c.label ∷ z) is.path; base = refl; loop = refl; back = refl } in
+            let is' : IsFrame P (c.label ∷ path)
+            (record {
+              base = r.live;
+              live = r.live + length fn.parameters;
+              calls_left = more;
+              loop_length = None;
+              receiver = behind_result fn.result_type x;
+              back = Some r.live;
+            }) (callee f N (behind_result fn.result_type x) c) = record
+            { path = ap (λ z. c.label ∷ z) is.path; base = refl; loop = refl; receiver = refl; back = refl } in
             rw (a, i, ← is.base, one_longer V U last e')
-            (as_result {s = spot_of f N q} found wide (y.placed T (callee f N x c) (begins_join V U T (pointed_begins V U last e') b) is')
+            (as_result {s = spot_of f N q} found wide (y.placed T (callee f N (behind_result fn.result_type x) c)
+            (begins_join V U T (pointed_begins V U last e') b) is')
             (rw is.path (point_there V U T last e' b)));
       }
 

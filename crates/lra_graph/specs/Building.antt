@@ -5,7 +5,10 @@ use Rattle.std.specs.Prelude.{slice_get}
 use Rattle.lra_program.specs.Program.{Expr, Cond, Call, Rvalue, Stmt, loop, break, continue, return, BlockItems}
 use Rattle.lra_program.specs.Program.{Function, Program}
 use Rattle.lra_program.specs.Step as step
-use Rattle.lra_program.specs.Step.{give, give_any, keep}
+use Rattle.lra_program.specs.Step.{give, give_any, keep, behind_main}
+use Rattle.lra_base.specs.declared.number_types.NumberType.{NumberType}
+use Rattle.lra_program.specs.declared.receivers.Receiver.{Receiver}
+use Rattle.lra_program.specs.Receivers.{behind_result}
 use Rattle.lra_operations.specs.Graph.{Exit, broken, continued, returned, Node, act, leave, seq}
 use Rattle.lra_program.specs.Sites.{Site, Event, live_behind, rvalue_events, given_events, stmt_events, items_events}
 use Rattle.lra_program.specs.Sites.{call_events}
@@ -14,20 +17,25 @@ use Rattle.lra_program.specs.WellFormed.{IsGoodCall, IsGoodGiven, IsGoodStmt, Ar
 use Rattle.lra_graph.specs.Limits.{walk, passed, stopped}
 use Rattle.lra_graph.specs.declared.points.Limit.{Limit}
 use Rattle.lra_graph.specs.declared.frame.Frame.{Frame}
-use Rattle.lra_graph.specs.declared.frame.Back.{Back}
 
 -- frames ------------------------------------------------------------------------------------------------------------
 
--- what of the caller is of use at the end
-abbrev pub back_parts : Option step.Back → Option Back
-back_parts None = None
-back_parts (Some b) = Some (record { target = b.target; length = b.length })
+-- how long the caller's store is
+abbrev pub back_length : Option step.Back → Option ℕ
+back_length None = None
+back_length (Some b) = Some b.length
 
-pub record IsFrame (calls : List ℕ) (r : Frame) (f : inlined.Frame) : Type 0 where
+-- what gets the value of the function that runs
+abbrev pub receiver_behind : Program → Option step.Back → Receiver
+receiver_behind P None = behind_main P
+receiver_behind P (Some b) = b.receiver
+
+pub record IsFrame (P : Program) (calls : List ℕ) (r : Frame) (f : inlined.Frame) : Type 0 where
   pub path : f.here.path ≡ calls
   pub base : f.here.base ≡ r.base
   pub loop : f.loop ≡ r.loop_length
-  pub back : back_parts f.back ≡ r.back
+  pub receiver : receiver_behind P f.back ≡ r.receiver
+  pub back : back_length f.back ≡ r.back
 
 -- a well-formed part stands in the frame: the call's own variables live, `break` finds its loop, and what is cut to
 -- lives
@@ -38,7 +46,7 @@ pub record Stands (r : Frame) (X : Bool → ℕ → Type 0) : Type 0 where
   pub within : r.base + own ≤ r.live
   pub loops : in_loop ≡ true → (m : ℕ) × (r.loop_length ≡ Some m)
   pub loop_low : (m : ℕ) → r.loop_length ≡ Some m → m ≤ r.live
-  pub back_low : (b : Back) → r.back ≡ Some b → b.length ≤ r.live
+  pub back_low : (n : ℕ) → r.back ≡ Some n → n ≤ r.live
 
 module _ (P : Program) (r : Frame) where
   abbrev pub StmtStands : Stmt → Type 0
@@ -54,32 +62,29 @@ module _ (P : Program) (r : Frame) where
   CallStands c = Stands r (λ in_loop own. (at : ℕ) × IsGoodCall P at own c)
 
 -- where the body of a called function stands
-abbrev pub callee_frame : Frame → Option ℕ → ℕ → Frame
+abbrev pub callee_frame : Frame → Receiver → ℕ → Frame
 callee_frame r x params = record {
   base = r.live;
   live = r.live + params;
   calls_left = r.calls_left - 1;
   loop_length = None;
-  back = Some (record { target = x; length = r.live });
+  receiver = x;
+  back = Some r.live;
 }
 
--- what a `return` does behind its point q: in a called function the target gets the value, and the store is cut to the
--- caller's
-abbrev pub receiver : Option Back → Option ℕ
-receiver None = None
-receiver (Some b) = b.target
+-- what a `return` does behind its point q: the receiver gets the value, in `main` too, where nothing is kept; in a
+-- called function the store is cut to the caller's n
+abbrev pub any_left : Option ℕ → Receiver → ℕ → ℕ → Node
+any_left None x q live = leave live returned
+any_left (Some n) x q live = inlined.return_node q (give_any x) n live
 
-abbrev pub any_left : Option Back → ℕ → ℕ → Node
-any_left None q live = leave live returned
-any_left (Some b) q live = inlined.return_node q (give_any b.target) b.length live
+abbrev pub value_left : Option ℕ → Receiver → ℕ → ℕ → Expr → ℕ → Node
+value_left None x q base e live = seq (act q (give base x e)) (leave live returned)
+value_left (Some n) x q base e live = inlined.return_node q (give base x e) n live
 
-abbrev pub value_left : Option Back → ℕ → ℕ → Expr → ℕ → Node
-value_left None q base e live = leave live returned
-value_left (Some b) q base e live = inlined.return_node q (give base b.target e) b.length live
-
-abbrev pub call_left : Option Back → ℕ → Node → ℕ → Node
+abbrev pub call_left : Option ℕ → ℕ → Node → ℕ → Node
 call_left None q g live = seq g (leave live returned)
-call_left (Some b) q g live = seq g (seq (act q (keep b.length)) (leave live returned))
+call_left (Some n) q g live = seq g (seq (act q (keep n)) (leave live returned))
 
 -- what is written ---------------------------------------------------------------------------------------------------
 
@@ -87,48 +92,49 @@ call_left (Some b) q g live = seq g (seq (act q (keep b.length)) (leave live ret
 abbrev pub Begins : List Site → List Site → Type 0
 Begins S T = (i : ℕ) (x : Site) → slice_get S i ≡ Some x → slice_get T i ≡ Some x
 
-pub record Writes (path : List ℕ) (r : Frame) (es : List Event) (S U : List Site)
+pub record Writes (P : Program) (path : List ℕ) (r : Frame) (es : List Event) (S U : List Site)
     (X : List Site → inlined.Frame → Type 0) : Type 0 where
   pub walked : walk S es ≡ passed U
-  pub placed : (T : List Site) (f : inlined.Frame) → Begins U T → IsFrame path r f → X T f
+  pub placed : (T : List Site) (f : inlined.Frame) → Begins U T → IsFrame P path r f → X T f
 
 module _ (P : Program) (path : List ℕ) (r : Frame) where
   abbrev pub inside : List ℕ → ℕ → Call → List Event
   inside = call_events P r.calls_left
 
   abbrev pub WritesStmt : List Site → Stmt → Node → List Site → Type 0
-  WritesStmt S s g U = Writes path r (stmt_events inside path r.live s) S U
+  WritesStmt S s g U = Writes P path r (stmt_events inside path r.live s) S U
       (λ T f. inlined.Inl P T (inlined.spot_of f r.live (length S)) s g (length U))
 
   abbrev pub WritesItems : List Site → BlockItems → Node → List Site → Type 0
-  WritesItems S b g U = Writes path r (items_events inside path r.live b) S U
+  WritesItems S b g U = Writes P path r (items_events inside path r.live b) S U
       (λ T f. inlined.InlAll P T (inlined.spot_of f r.live (length S)) b g (live_behind r.live b) (length U))
 
-  -- what a variable gets, from the point q on
-  abbrev pub WritesRvalue : ℕ → Option ℕ → List Site → Rvalue → Node → List Site → Type 0
-  WritesRvalue q x S e g U = Writes path r (rvalue_events inside path r.live e) S U
+  -- what a receiver gets, from the point q on
+  abbrev pub WritesRvalue : ℕ → Receiver → List Site → Rvalue → Node → List Site → Type 0
+  WritesRvalue q x S e g U = Writes P path r (rvalue_events inside path r.live e) S U
       (λ T f. inlined.Gives P T (inlined.spot_of f r.live q) (length S) x e g (length U))
 
   -- a loop behind its own point q
   abbrev pub WritesLoop : ℕ → List Site → Cond → Stmt → Stmt → Node → List Site → Type 0
   WritesLoop q S c a step g U =
-      Writes path r (stmt_events inside path r.live step ++ stmt_events inside path r.live a) S U
+      Writes P path r (stmt_events inside path r.live step ++ stmt_events inside path r.live a) S U
       (λ T f. (at : ℕ) → inlined.Has T (inlined.spot_of f r.live q) at
       → inlined.Loops P T (inlined.spot_of f r.live q) (length S) (loop at c a step) g (length U))
 
   -- a declarator, and its variable's value, behind its point q
-  abbrev pub WritesDeclared : ℕ → List Site → Option Rvalue → Node → List Site → Type 0
-  WritesDeclared q S o g U = Writes path r (given_events inside path (suc r.live) o) S U
-      (λ T f. inlined.Declares P T (inlined.spot_of f r.live q) (length S) o g (length U))
+  abbrev pub WritesDeclared : ℕ → List Site → NumberType → Option Rvalue → Node → List Site → Type 0
+  WritesDeclared q S t o g U = Writes P path r (given_events inside path (suc r.live) o) S U
+      (λ T f. inlined.Declares P T (inlined.spot_of f r.live q) (length S) t o g (length U))
 
 -- the body of the function that a call names, from the points S to V, behind which n live
-pub record WritesBody (P : Program) (path : List ℕ) (r : Frame) (x : Option ℕ) (c : Call) (S : List Site) (g : Node)
+pub record WritesBody (P : Program) (path : List ℕ) (r : Frame) (x : Receiver) (c : Call) (S : List Site) (g : Node)
     (n : ℕ) (V : List Site) : Type 0 where
   pub fn : Function
   pub found : slice_get P.functions c.function ≡ Some fn
   pub some_left : r.calls_left ≢ 0
-  pub written : WritesItems P (c.label ∷ path) (callee_frame r x fn.parameters) S fn.body g V
-  pub last : n ≡ live_behind (r.live + fn.parameters) fn.body
+  pub written : WritesItems P (c.label ∷ path)
+      (callee_frame r (behind_result fn.result_type x) (length fn.parameters)) S fn.body g V
+  pub last : n ≡ live_behind (r.live + length fn.parameters) fn.body
 
 -- an item takes what stands behind it: it stands in the frame with some items behind it
 abbrev pub ItemStands : Program → Frame → (BlockItems → BlockItems) → Type 0

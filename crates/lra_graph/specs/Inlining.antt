@@ -1,8 +1,9 @@
 -- What is owed for a part, by what stands around it in code, and by the points before it and behind it.
-use Rattle.std.specs.Prelude.{◌≡◌, ℕ, List, [], ◌∷◌, map, Option, true, ⊤, Vec}
+use Rattle.std.specs.Prelude.{◌≡◌, ℕ, List, [], ◌∷◌, map, true, ⊤, Vec}
 use Rattle.std.specs.declared.alloc.Global.{Global}
 use Rattle.lra_operations.specs.declared.graph.Node as code
 use Rattle.lra_operations.specs.declared.graph.Site as code_site
+use Rattle.lra_program.specs.declared.receivers.Receiver.{Receiver}
 use Rattle.lra_program.specs.Program.{Call, Stmt, block, assign, call, if, loop, for, return}
 use Rattle.lra_program.specs.Program.{result, BlockItems, Program}
 use Rattle.lra_operations.specs.Graph.{Exit}
@@ -103,7 +104,7 @@ module _ (at : Around) where
     StopsItem item = building.StopsItem program_around at.path.now at.frame (points_in before) item
 
     -- behind its callee's body, wherever that begins
-    abbrev pub StopsBehind : Option ℕ → Call → code.Node → ℕ → Limit → Type 0
+    abbrev pub StopsBehind : Receiver → Call → code.Node → ℕ → Limit → Type 0
     StopsBehind x c g n l =
         (S : List Site) → building.WritesBody program_around at.path.now at.frame x c S (node_view g) n
         (points_in before)
@@ -134,7 +135,7 @@ module _ (at : Around) where
           building.WritesItems program_around at.path.now at.frame (points_in before) b (node_view g) (points_in after)
 
       -- g is the call's tree, where h is its callee's body, wherever that begins
-      abbrev pub IsCall : ℕ → Option ℕ → Call → code.Node → ℕ → code.Node → Type 0
+      abbrev pub IsCall : ℕ → Receiver → Call → code.Node → ℕ → code.Node → Type 0
       IsCall q x c h n g =
           (S : List Site)
           → building.WritesBody program_around at.path.now at.frame x c S (node_view h) n (points_in before)

@@ -71,7 +71,7 @@ module _ (P : Program) where
   WrittenAs (a_declaration d) path r S g n V = WritesItem P path r S (declaration d) g n V
   WrittenAs (all_items b) path r S g n V = WritesItems P path r S b g V × (n ≡ live_behind r.live b)
   WrittenAs (a_call caller c) path r S g n V =
-      WritesRvalue P path r caller.point caller.target S (result c) g V × (n ≡ r.live)
+      WritesRvalue P path r caller.point caller.receiver S (result c) g V × (n ≡ r.live)
   WrittenAs (all_rounds q c a step) path r S g n V = WritesLoop P path r q S c a step g V
 
   abbrev pub IsWritten : Due → Node → ℕ → List Site → Type 0
@@ -147,7 +147,7 @@ module _ (P : Program) where
     pub stands : CallStands P whole.frame (call_view from.call.now)
     pub few : whole.frame.live ≤ 25
     pub writes : (g : Node) (n : ℕ) (V : List Site) → IsWritten under g n V
-        → WritesBody P whole.path whole.frame from.caller.target (call_view from.call.now) whole.before g n V
+        → WritesBody P whole.path whole.frame from.caller.receiver (call_view from.call.now) whole.before g n V
 
   -- one case for each kind of place
   abbrev pub ForkContinues : Due → Due → forked.Forked → Type 0
@@ -174,8 +174,8 @@ module _ (P : Program) where
       (λ h. seq (node_view g) (seq h (act q (keep whole.frame.live)))) whole.frame.live
   Continues whole under (Block end) = Ends whole under end
   Continues whole under (Given q) = Closes whole under (λ g. seq (point q) g) whole.frame.live
-  Continues whole under (Declared q) = (g : Node) (n : ℕ) (V : List Site) → IsWritten under g n V
-      → IsWritten whole (seq (point q) (seq (act q append) g)) n V
+  Continues whole under (Declared q t) = (g : Node) (n : ℕ) (V : List Site) → IsWritten under g n V
+      → IsWritten whole (seq (point q) (seq (act q (append t)) g)) n V
   Continues whole under (Returned q) = Closes whole under
       (λ g. seq (point q) (call_left whole.frame.back q g whole.frame.live)) whole.frame.live
   Continues whole under (Callee from) = IsBody whole under from

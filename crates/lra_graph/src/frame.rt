@@ -1,15 +1,8 @@
 //! Where a statement stands.
 
 use lra_operations::Path;
-use lra_program::{Cond, Program, Stmt};
+use lra_program::{Cond, Program, Receiver, Stmt};
 use std::alloc::Global;
-
-/// Where the call that runs goes back to: what gets its value, and how many variables live at the call.
-#[derive(Clone, Copy)]
-pub struct Back {
-    pub target: Option<usize>,
-    pub length: usize,
-}
 
 /// Where a statement stands.
 #[derive(Clone, Copy)]
@@ -22,8 +15,10 @@ pub struct Frame {
     pub calls_left: usize,
     /// How many variables live at the nearest loop.
     pub loop_length: Option<usize>,
-    /// None in `main`.
-    pub back: Option<Back>,
+    /// What gets the value of the function that runs.
+    pub receiver: Receiver,
+    /// How many variables live at the call; none in `main`.
+    pub back: Option<usize>,
 }
 
 /// What stands around a part that is written out.
@@ -43,11 +38,11 @@ pub struct Source<'a> {
     pub program: &'a Program,
 }
 
-/// What calls: its point, and the variable that gets the value, where there is one.
+/// What calls: its point, and what gets the value.
 #[derive(Clone, Copy)]
 pub struct Caller {
     pub point: usize,
-    pub target: Option<usize>,
+    pub receiver: Receiver,
 }
 
 /// What a loop repeats: its body, then its step, while its condition is true.

@@ -7,6 +7,7 @@ ghost use Rattle.lra_graph.specs.declared.places.Next.TheVariants as next;
 
 use crate::frame::{Caller, Frame, Repeated};
 use crate::points::GraphError;
+use lra_base::NumberType;
 use lra_operations::{Node, Path};
 use lra_program::{BlockItem, Call, Cond, Declarator, Stmt};
 use std::alloc::AllocError;
@@ -78,8 +79,8 @@ pub enum Place<'a> {
     Block(usize),
     /// The call of a statement with this point is under way.
     Given(usize),
-    /// The call of a declarator with this point is under way.
-    Declared(usize),
+    /// The call of a declarator with this point is under way, for a variable of this type.
+    Declared(usize, NumberType),
     /// The call of a `return` with this point is under way.
     Returned(usize),
     /// A called function's body is under way.

@@ -8,11 +8,11 @@ ghost use Rattle.lra_graph.specs.Building.{callee_frame};
 ghost use Rattle.lra_graph.specs.declared.frame.Frame.{Frame};
 ghost use Rattle.lra_graph.specs.Inlining.{CallStands, IsCall, StopsAnywhere, StopsBehind};
 
-use crate::frame::{Around, Back, Caller, Frame};
+use crate::frame::{Around, Caller, Frame};
 use crate::points::{GraphError, Limit, add_point, finish};
 use lra_operations::forms::{CallPlace, enclose_call};
 use lra_operations::{Node, Path, Site};
-use lra_program::{Call, Function, Program};
+use lra_program::{Call, Function, Program, Receiver};
 
 /// The function that the call names.
 pub fn callee<'a>(program: &'a Program, call: &Call) -> &'a Function
@@ -23,16 +23,17 @@ pub fn callee<'a>(program: &'a Program, call: &Call) -> &'a Function
     &program.functions[call.function]
 }
 
-/// The path of the callee's body, and where that stands; or that the path may have no call more.
+/// The path of the callee's body, whose value the receiver gets, and where that stands; or that the path may have no
+/// call more.
 pub fn enter_call(
     around: &Around<'_>,
-    target: Option<usize>,
+    receiver: Receiver,
     call: &Call,
 ) -> Result<(Path, Frame), GraphError>
     requires { around.now.frame.live ≤ 25 }
     ensures path { IfOk result (λ r. r.0 ≡ call.now.label ∷ around.now.path.now) }
     ensures frame { IfOk result (λ r. r.1
-        ≡ callee_frame around.now.frame target (length (call_view call.now).arguments)) }
+        ≡ callee_frame around.now.frame receiver (length (call_view call.now).arguments)) }
     ensures some_left { IfOk result (λ _. around.now.frame.calls_left ≢ 0) }
     ensures limit { OnLimit result (StopsAnywhere around.now (call_view call.now)) }
 {
@@ -46,10 +47,8 @@ pub fn enter_call(
         live: frame.live + call.arguments.len(),
         calls_left: frame.calls_left - 1,
         loop_length: None,
-        back: Some(Back {
-            target,
-            length: frame.live,
-        }),
+        receiver,
+        back: Some(frame.live),
     };
     Ok((path, inner))
 }
@@ -67,9 +66,9 @@ pub fn end_call(
     requires few { around.now.frame.live ≤ 25 }
     requires stands { CallStands around.now (call_view call.now) }
     requires within { path.now ≡ call.now.label ∷ around.now.path.now }
-    ensures written { IfOk result (IsCall around.now sites.old sites.new caller.point caller.target
-        (call_view call.now) body.0 body.1) }
-    ensures limit { OnLimit result (StopsBehind around.now sites.old caller.target
+    ensures written { IfOk result (IsCall around.now sites.old sites.new caller.point
+        caller.receiver (call_view call.now) body.0 body.1) }
+    ensures limit { OnLimit result (StopsBehind around.now sites.old caller.receiver
         (call_view call.now) body.0 body.1) }
 {
     let (inside, last) = body;
@@ -80,8 +79,13 @@ pub fn end_call(
         end,
         base: around.frame.base,
         live: around.frame.live,
-        target: caller.target,
+        receiver: caller.receiver.behind_result(function.result_type),
     };
-    let parameters = call.arguments.len();
-    finish(enclose_call(around.alloc, place, &call.arguments, parameters, inside))
+    finish(enclose_call(
+        around.alloc,
+        place,
+        &function.parameters,
+        &call.arguments,
+        inside,
+    ))
 }

@@ -186,7 +186,9 @@ pub fn go_on<'a>(
         }
         Place::Block(end) => end_block(alloc, path, frame, end, part, sites),
         Place::Given(point) => close(put_point(alloc, point, part.node), frame.live),
-        Place::Declared(point) => close(declare(alloc, point, part.node), part.live),
+        Place::Declared(point, number_type) => {
+            close(declare(alloc, point, number_type, part.node), part.live)
+        }
         Place::Returned(point) => close(leave_call(alloc, frame, point, part.node), frame.live),
         Place::Callee(from) => end_callee(source, path, sites, frame, from, part),
     }

@@ -4,7 +4,7 @@ ghost use Rattle.std.specs.Prelude.{◌≡◌, ◌<◌, ◌+◌, ◌^◌, ℕ, m
 ghost use Rattle.lra_program.specs.Program as resolved;
 ghost use Rattle.lra_program.specs.Sites.{live_behind};
 ghost use Rattle.lra_program.specs.Value.{index_of};
-ghost use Rattle.lra_program.specs.ProgramViews.{slot_view, cond_view, call_view, rvalue_view, stmt_view};
+ghost use Rattle.lra_program.specs.ProgramViews.{slot_view, variable_view, cond_view, call_view, rvalue_view, stmt_view};
 ghost use Rattle.lra_program.specs.ProgramViews.{declarator_view, item_view, items_of};
 ghost use Rattle.lra_meaning.specs.Refuse.{greatest_live};
 ghost use Rattle.lra_graph.specs.Limits.{OnLimit};
@@ -23,7 +23,7 @@ use crate::places::{Branches, Forked, Next, Open, Part, Place, Written, close};
 use crate::points::{GraphError, Limit, add_point};
 use lra_operations::forms::{declare, put_point};
 use lra_operations::{Node, Op, Site};
-use lra_program::{BlockItem, Call, Cond, Declarator, Rvalue, Slot, Stmt};
+use lra_program::{BlockItem, Call, Cond, Declarator, Receiver, Rvalue, Slot, Stmt, Variable};
 
 /// Where the variable stands in the store.
 fn store_index(base: usize, slot: Slot) -> usize
@@ -140,25 +140,26 @@ fn open_for<'a>(
 fn open_assign<'a>(
     here: &Around<'_>,
     label: usize,
-    slot: Slot,
+    variable: Variable,
     rvalue: &'a Rvalue,
     sites: &mut Vec<Site>,
 ) -> Result<Next<'a>, GraphError>
-    requires { StmtStands here.now (resolved.assign label (slot_view slot) (rvalue_view rvalue.now)) }
+    requires { StmtStands here.now (resolved.assign label (variable_view variable) (rvalue_view rvalue.now)) }
     ensures leads { IfOk result (LeadsFrom here.now sites.old sites.new
-        (a_stmt (resolved.assign label (slot_view slot) (rvalue_view rvalue.now)))) }
+        (a_stmt (resolved.assign label (variable_view variable) (rvalue_view rvalue.now)))) }
     ensures limit { OnLimit result (StopsStmt here.now sites.old
-        (resolved.assign label (slot_view slot) (rvalue_view rvalue.now))) }
+        (resolved.assign label (variable_view variable) (rvalue_view rvalue.now))) }
     ensures falls { IfOk result (FallsFrom here.now
-        (a_stmt (resolved.assign label (slot_view slot) (rvalue_view rvalue.now)))) }
+        (a_stmt (resolved.assign label (variable_view variable) (rvalue_view rvalue.now)))) }
 {
     let frame = here.frame;
     let point = open_point(here, label, sites)?;
-    let target = Some(store_index(frame.base, slot));
+    let place = store_index(frame.base, variable.slot);
+    let receiver = Receiver::variable(place, variable.number_type);
     match rvalue {
         Rvalue::Value(value) => {
             let value = value.copy(here.alloc)?;
-            let give = Op::Give(frame.base, target, value);
+            let give = Op::Give(frame.base, receiver, value);
             close(
                 put_point(here.alloc, point, Node::Act(point, give)),
                 frame.live,
@@ -166,7 +167,7 @@ fn open_assign<'a>(
         }
         Rvalue::Result(call) => {
             let place = Place::Given(point);
-            let part = Part::Call(Caller { point, target }, call);
+            let part = Part::Call(Caller { point, receiver }, call);
             Ok(Next::Opens(Open { frame, place }, frame, part))
         }
     }
@@ -188,8 +189,8 @@ fn open_call_statement<'a>(
     let frame = here.frame;
     let point = open_point(here, label, sites)?;
     let place = Place::Given(point);
-    let target = None;
-    let part = Part::Call(Caller { point, target }, call);
+    let receiver = Receiver::nobody();
+    let part = Part::Call(Caller { point, receiver }, call);
     Ok(Next::Opens(Open { frame, place }, frame, part))
 }
 
@@ -206,7 +207,9 @@ fn open_simple<'a>(
     ensures falls { IfOk result (FallsFrom here.now (a_stmt (stmt_view stmt.now))) }
 {
     match stmt {
-        Stmt::Assign(label, slot, rvalue) => open_assign(here, *label, *slot, rvalue, sites),
+        Stmt::Assign(label, variable, rvalue) => {
+            open_assign(here, *label, *variable, rvalue, sites)
+        }
         Stmt::Call(label, call) => open_call_statement(here, *label, call, sites),
         Stmt::Return(label, rvalue) => open_return(here, *label, rvalue, sites),
         _ => {
@@ -270,21 +273,25 @@ pub fn open_declaration<'a>(
 {
     let alloc = here.alloc;
     let frame = here.frame;
-    let variable = frame.live;
+    let number_type = declarator.number_type;
+    let receiver = Receiver::variable(frame.live, number_type);
     let point = open_point(here, declarator.label, sites)?;
-    let live = variable + 1;
+    let live = frame.live + 1;
     match &declarator.rvalue {
-        None => close(put_point(alloc, point, Node::Act(point, Op::Append)), live),
+        None => {
+            let append = Op::Append(number_type);
+            close(put_point(alloc, point, Node::Act(point, append)), live)
+        }
         Some(Rvalue::Value(value)) => {
             let value = value.copy(alloc)?;
-            let give = Op::Give(frame.base, Some(variable), value);
-            close(declare(alloc, point, Node::Act(point, give)), live)
+            let give = Op::Give(frame.base, receiver, value);
+            let node = Node::Act(point, give);
+            close(declare(alloc, point, number_type, node), live)
         }
         Some(Rvalue::Result(call)) => {
-            let place = Place::Declared(point);
+            let place = Place::Declared(point, number_type);
             let behind_it = Frame { live, ..frame };
-            let target = Some(variable);
-            let part = Part::Call(Caller { point, target }, call);
+            let part = Part::Call(Caller { point, receiver }, call);
             Ok(Next::Opens(Open { frame, place }, behind_it, part))
         }
     }

@@ -84,8 +84,9 @@ fn open_call<'a>(
         path: &*path,
         frame,
     };
-    let (inside, within) = enter_call(&here, caller.target, call)?;
     let function = callee(source.program, call);
+    let receiver = caller.receiver.behind_result(function.result_type);
+    let (inside, within) = enter_call(&here, receiver, call)?;
     let callers = mem::replace(path, inside);
     let place = Place::Callee(CalledFrom {
         path: callers,

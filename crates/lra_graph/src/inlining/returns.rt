@@ -5,14 +5,14 @@ ghost use Rattle.lra_program.specs.Program as resolved;
 ghost use Rattle.lra_program.specs.ProgramViews.{expr_view, call_view, given_view};
 ghost use Rattle.lra_operations.specs.Graph.{seq, point as own};
 ghost use Rattle.lra_operations.specs.GraphViews.{node_view};
-ghost use Rattle.lra_graph.specs.Building.{receiver, any_left, value_left, call_left};
+ghost use Rattle.lra_graph.specs.Building.{any_left, value_left, call_left};
 ghost use Rattle.lra_graph.specs.Limits.{OnLimit};
 ghost use Rattle.lra_graph.specs.Inlining.{StmtStands, StopsStmt};
 ghost use Rattle.lra_graph.specs.Open.{a_stmt, LeadsFrom};
 ghost use Rattle.lra_graph.specs.Steps.{FallsFrom};
 
 use super::lone::open_point;
-use crate::frame::{Around, Back, Caller, Frame};
+use crate::frame::{Around, Caller, Frame};
 use crate::places::{Next, Open, Part, Place, close};
 use crate::points::GraphError;
 use lra_operations::forms::{cut_and_leave, give_and_leave, put_in_turn, put_point};
@@ -20,47 +20,42 @@ use lra_operations::{Exit, Node, Op, Site};
 use lra_program::{Call, Expr, Rvalue};
 use std::alloc::{AllocError, Global};
 
-/// What gets the value, where the caller takes it.
-fn receiver_of(back: Option<Back>) -> Option<usize>
-    ensures { result ≡ receiver back }
-{
-    match back {
-        Some(back) => back.target,
-        None => None,
-    }
-}
-
 /// The point of a `return` without a value, and what leaves the call.
 fn leave_any(around: &Around<'_>, point: usize) -> Result<Node, AllocError>
-    ensures { IfOk result (λ g. node_view g
-        ≡ seq (own point) (any_left around.now.frame.back point around.now.frame.live)) }
+    ensures { IfOk result (λ g. node_view g ≡ seq (own point)
+        (any_left around.now.frame.back around.now.frame.receiver point around.now.frame.live)) }
 {
     let alloc = around.alloc;
     let frame = around.frame;
     match frame.back {
-        Some(back) => {
-            let any = Op::GiveAny(back.target);
-            let left = give_and_leave(alloc, point, any, back.length, frame.live)?;
+        Some(length) => {
+            let any = Op::GiveAny(frame.receiver);
+            let left = give_and_leave(alloc, point, any, length, frame.live)?;
             put_point(alloc, point, left)
         }
         None => put_point(alloc, point, Node::Leave(frame.live, Exit::Returned)),
     }
 }
 
-/// The point of a `return` with a value that no call gives, and what leaves the call. In `main` nothing gets the value.
+/// The point of a `return` with a value that no call gives, and what leaves the call. In `main` too the value has to be
+/// one of its type.
 fn leave_value(around: &Around<'_>, point: usize, value: &Expr) -> Result<Node, AllocError>
-    ensures { IfOk result (λ g. node_view g ≡ seq (own point)
-        (value_left around.now.frame.back point around.now.frame.base (expr_view value.now) around.now.frame.live)) }
+    ensures { IfOk result (λ g. node_view g ≡ seq (own point) (value_left around.now.frame.back
+        around.now.frame.receiver point around.now.frame.base (expr_view value.now) around.now.frame.live)) }
 {
     let alloc = around.alloc;
     let frame = around.frame;
+    let give = Op::Give(frame.base, frame.receiver, value.copy(alloc)?);
     match frame.back {
-        Some(back) => {
-            let give = Op::Give(frame.base, back.target, value.copy(alloc)?);
-            let left = give_and_leave(alloc, point, give, back.length, frame.live)?;
+        Some(length) => {
+            let left = give_and_leave(alloc, point, give, length, frame.live)?;
             put_point(alloc, point, left)
         }
-        None => put_point(alloc, point, Node::Leave(frame.live, Exit::Returned)),
+        None => {
+            let leave = Node::Leave(frame.live, Exit::Returned);
+            let left = put_in_turn(alloc, Node::Act(point, give), leave)?;
+            put_point(alloc, point, left)
+        }
     }
 }
 
@@ -70,8 +65,8 @@ pub fn leave_call(alloc: Global, frame: Frame, point: usize, call: Node) -> Resu
         (call_left frame.back point (node_view call) frame.live)) }
 {
     match frame.back {
-        Some(back) => {
-            let leave = cut_and_leave(alloc, point, back.length, frame.live, Exit::Returned)?;
+        Some(length) => {
+            let leave = cut_and_leave(alloc, point, length, frame.live, Exit::Returned)?;
             let left = put_in_turn(alloc, call, leave)?;
             put_point(alloc, point, left)
         }
@@ -134,8 +129,8 @@ fn return_call<'a>(
     let frame = here.frame;
     let point = open_point(here, label, sites)?;
     let place = Place::Returned(point);
-    let target = receiver_of(frame.back);
-    let part = Part::Call(Caller { point, target }, call);
+    let receiver = frame.receiver;
+    let part = Part::Call(Caller { point, receiver }, call);
     Ok(Next::Opens(Open { frame, place }, frame, part))
 }
 

@@ -16,7 +16,7 @@ use crate::frame::{Around, Frame};
 use crate::points::{GREATEST_CALLS, GraphError, add_point};
 use lra_operations::forms::put_in_turn;
 use lra_operations::{Graph, Node, Path};
-use lra_program::Program;
+use lra_program::{Program, Receiver};
 use std::alloc::Global;
 
 /// The program's tree and its points, or the first limit that it passes.
@@ -40,6 +40,7 @@ pub fn build(alloc: Global, program: &Program) -> Result<Graph, GraphError>
         live: globals,
         calls_left: GREATEST_CALLS,
         loop_length: None,
+        receiver: Receiver::nobody().behind_result(main.result_type),
         back: None,
     };
     let around = Around {

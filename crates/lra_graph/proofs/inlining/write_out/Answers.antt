@@ -4,6 +4,7 @@ use Rattle.std.proofs.lemmas.List.{nil_from_length}
 use Rattle.lra_graph.specs.Inlining.{points_in, program_of}
 use Rattle.lra_graph.specs.Open.{part_view, Stops, StopsAs}
 use Rattle.lra_graph.proofs.OpenPlaces.{all_stopped, part_stands, one_more, part_stopped, behind, all_written}
+use Rattle.lra_graph.proofs.StepsLeft.{fewer_left}
 use Rattle.lra_graph.proofs.Stopping.{err_stopped}
 use Rattle.lra_graph.proofs.inlining.write_out.Goals as goal
 
@@ -62,3 +63,9 @@ returns-in-None-clause-written c = λ whole lead.
     let P = program_of c.args.source in
     all_written P whole c.places.places.items c.places.next c.places.path (points_in c.places.sites) (c.places.invariant whole lead)
     c.in-Written.part c.in-Written.is (nil_from_length c.places.places.items (sym c.places.places.ok.0 ∙ c.in-None.ensures.cases.0))
+
+pub places-smaller : goal.places-smaller
+places-smaller c =
+    let P = program_of c.args.source in
+    fewer_left P c.places.places.items c.pop.new.self.items c.in-Some.place c.places.next c.in_ok-next-in-Some.next c.in-Written.part c.in-Some.ensures.items c.in-Written.is
+    (c.in_ok-next-in-Some.ensures.falls P)

@@ -7,7 +7,7 @@ use Rattle.lra_graph.specs.Limits.{walk, stopped}
 use Rattle.lra_graph.specs.Inlining.{points_in, program_around, StopsBehind}
 use Rattle.lra_graph.proofs.Stopping.{err_stopped, made_ok, made_limit}
 use Rattle.lra_graph.proofs.Calling.{end_stopped, end_written}
-use Rattle.lra_graph.proofs.Programs.{called_fits, called_wide, arguments_fit}
+use Rattle.lra_graph.proofs.Programs.{called_fits, called_few}
 use Rattle.lra_graph.proofs.inlining.calls.end_call.Goals as goal
 
 pub returns-in_err-end-clause-limit : goal.returns-in_err-end-clause-limit
@@ -15,13 +15,14 @@ returns-in_err-end-clause-limit c =
     let here = c.args.around.now in
     let call = call_view c.args.call.now in
     err_stopped c.from_residual.result _ (λ l. walk (points_in c.args.sites.now) (plain_site c.args.path.now c.callee-function.result.now.end c.args.body.1 ∷ []) ≡ stopped l)
-    (StopsBehind here c.args.sites.now c.args.caller.target call c.args.body.0 c.args.body.1) c.from_residual.ensures.1
-    (λ l h S w. end_stopped (program_around here) here.path.now here.frame c.args.caller.target call S (points_in c.args.sites.now) (node_view c.args.body.0) c.args.body.1 w
+    (StopsBehind here c.args.sites.now c.args.caller.receiver call c.args.body.0 c.args.body.1) c.from_residual.ensures.1
+    (λ l h S w. end_stopped (program_around here) here.path.now here.frame c.args.caller.receiver call S (points_in c.args.sites.now) (node_view c.args.body.0) c.args.body.1 w
     (function_view c.callee-function.result.now) c.callee-function.ensures c.args.path.now c.requires.within l h)
     c.in_err-end.ensures.limit
 
 pub enclose_call-requires : goal.enclose_call-requires
-enclose_call-requires c = arguments_fit c.args.around.now.frame.live c.len-parameters.result c.args.call.now c.len-parameters.ensures c.requires.few
+enclose_call-requires c = rw c.deref.ensures.value (called_few c.args.around.now.program.now c.args.around.now.frame c.args.call.now c.requires.stands c.callee-function.result.now
+    c.callee-function.ensures c.args.around.now.frame.live c.requires.few)
 
 pub returns-clause-written : goal.returns-clause-written
 returns-clause-written c =
@@ -29,11 +30,10 @@ returns-clause-written c =
     let call = call_view c.args.call.now in
     let fn = c.callee-function.result.now in
     made_ok c.finish.result c.enclose_call.result _ _ c.finish.ensures.tree c.enclose_call.ensures
-    (λ g a S w. end_written (program_around here) here.path.now here.frame c.args.caller.target call S (points_in c.args.sites.now) (node_view c.args.body.0) c.args.body.1 w (function_view fn)
-    c.callee-function.ensures c.args.path.now c.requires.within (points_in c.add_point.new.sites) c.args.caller.point c.in_ok-end.end c.len-parameters.result (node_view g)
+    (λ g a S w. end_written (program_around here) here.path.now here.frame c.args.caller.receiver call S (points_in c.args.sites.now) (node_view c.args.body.0) c.args.body.1 w (function_view fn)
+    c.callee-function.ensures c.args.path.now c.requires.within (points_in c.add_point.new.sites) c.args.caller.point c.in_ok-end.end (node_view g)
     (called_fits here.program.now here.frame c.args.call.now c.requires.stands fn c.callee-function.ensures)
-    (called_wide here.program.now here.frame c.args.call.now c.requires.stands fn c.callee-function.ensures c.len-parameters.result c.len-parameters.ensures) c.in_ok-end.ensures.number
-    c.in_ok-end.ensures.walked (rw c.deref.ensures.value at a))
+    c.in_ok-end.ensures.number c.in_ok-end.ensures.walked (rw (c.deref.ensures.value, c.deref-2.ensures.value, c.behind_result.ensures) at a))
 
 pub returns-clause-limit : goal.returns-clause-limit
 returns-clause-limit c = made_limit c.finish.result _ c.finish.ensures.memory

@@ -22,4 +22,4 @@ overflow_sub-inner c = let h = c.if-frame-eq0.false in omega (arith, h)
 pub returns-clause-frame : goal.returns-clause-frame
 returns-clause-frame c =
     let d = c.args.call.now.arguments in
-    ap (λ k. callee_frame c.args.around.now.frame c.args.target k) (c.len.ensures ∙ d.ok.0 ∙ sym (length-map d.items expr_view))
+    ap (λ k. callee_frame c.args.around.now.frame c.args.receiver k) (c.len.ensures ∙ d.ok.0 ∙ sym (length-map d.items expr_view))

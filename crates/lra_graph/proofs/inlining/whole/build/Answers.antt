@@ -1,5 +1,5 @@
 -- The items of `main` and the point of its end are the whole program's.
-use Rattle.std.proofs.Common.{◌≡◌, List, [], ◌∷◌, map, Some, None, refl, sym, ap, ◌∙◌, arith}
+use Rattle.std.proofs.Common.{◌≡◌, List, [], ◌∷◌, map, Some, refl, sym, ap, ◌∙◌, arith}
 use Rattle.std.proofs.lemmas.Result.{err_from_is_err_and}
 use Rattle.lra_operations.specs.Graph.{seq}
 use Rattle.lra_tree.specs.Labels.{Labelled}
@@ -11,7 +11,7 @@ use Rattle.lra_graph.specs.Limits.{walk, stopped, refusal_of}
 use Rattle.lra_graph.proofs.Agreement.{graphs_agree}
 use Rattle.lra_graph.proofs.DistinctSites.{distinct_sites}
 use Rattle.lra_graph.proofs.Items.{items_stand_as}
-use Rattle.lra_graph.proofs.Programs.{main_below, main_read, frame_first, main_body, main_end}
+use Rattle.lra_graph.proofs.Programs.{main_below, main_read, begun_at, frame_first, main_body, main_end, main_receives}
 use Rattle.lra_graph.proofs.Shown.{shown_point}
 use Rattle.lra_graph.proofs.Standing.{main_stands}
 use Rattle.lra_graph.proofs.Stopping.{limit_to}
@@ -23,10 +23,10 @@ index-main-requires c = main_below c.args.program.now c.requires
 
 pub inline_items-requires-clause-stands : goal.inline_items-requires-clause-stands
 inline_items-requires-clause-stands c = items_stand_as (program_view c.args.program.now)
-    (record { base = c.len-globals.result; live = c.len-globals.result; calls_left = 32; loop_length = None; back = None }) _ _
+    (begun_at c.len-globals.result c.behind_result.result) _ _
     (main_body c.args.program.now c.index-main.result.now (main_read c.args.program.now c.index-main.result.now c.requires c.index-main.ensures)
     ∙ sym (ap (λ z. items_of (map item_view z)) c.deref.ensures.value))
-    (main_stands (program_view c.args.program.now) (record { base = c.len-globals.result; live = c.len-globals.result; calls_left = 32; loop_length = None; back = None }) c.requires
+    (main_stands (program_view c.args.program.now) (begun_at c.len-globals.result c.behind_result.result) c.requires
     (omega arith) refl refl)
 
 pub returns-in_err-body-clause-limit : goal.returns-in_err-body-clause-limit
@@ -35,8 +35,10 @@ returns-in_err-body-clause-limit c = let p = err_from_is_err_and c.from_residual
     (items_events (call_events (program_view c.args.program.now) 32) c.empty-path.result c.len-globals.result (items_of (map item_view c.deref.result.now))) ≡ stopped x)
     (λ x. (ls : List Labelled) → limit_fault ls 0 (events_of (program_view c.args.program.now)) ≡ Some (refusal_of ls x)) p.1 p.2
     (refused_in_items (program_view c.args.program.now) c.requires c.empty-path.result
-    (record { base = c.len-globals.result; live = c.len-globals.result; calls_left = 32; loop_length = None; back = None }) (map site_view c.new-sites.result.items)
-    (items_of (map item_view c.deref.result.now)) c.index-main.result.now.end c.empty-path.ensures (frame_first c.args.program.now c.len-globals.result c.len-globals.ensures)
+    (begun_at c.len-globals.result c.behind_result.result) (map site_view c.new-sites.result.items)
+    (items_of (map item_view c.deref.result.now)) c.index-main.result.now.end c.empty-path.ensures (frame_first c.args.program.now c.len-globals.result c.behind_result.result c.len-globals.ensures
+    (main_receives c.args.program.now c.index-main.result.now (main_read c.args.program.now c.index-main.result.now c.requires c.index-main.ensures)
+    c.nobody.result c.behind_result.result c.nobody.ensures c.behind_result.ensures))
     (ap (λ z. map site_view z) c.new-sites.ensures.items)
     (main_body c.args.program.now c.index-main.result.now (main_read c.args.program.now c.index-main.result.now c.requires c.index-main.ensures)
     ∙ sym (ap (λ z. items_of (map item_view z)) c.deref.ensures.value))
@@ -47,8 +49,10 @@ returns-in_err-end-clause-limit c = let p = err_from_is_err_and c.from_residual-
     (λ x. walk (map site_view c.inline_items.new.sites.items) (plain_site c.empty-path.result c.index-main.result.now.end c.in_ok-body.body.live ∷ []) ≡ stopped x)
     (λ x. (ls : List Labelled) → limit_fault ls 0 (events_of (program_view c.args.program.now)) ≡ Some (refusal_of ls x)) p.1 p.2
     (λ x h. refused_at_end (program_view c.args.program.now) c.requires c.empty-path.result
-    (record { base = c.len-globals.result; live = c.len-globals.result; calls_left = 32; loop_length = None; back = None }) (map site_view c.new-sites.result.items)
-    (items_of (map item_view c.deref.result.now)) c.index-main.result.now.end c.empty-path.ensures (frame_first c.args.program.now c.len-globals.result c.len-globals.ensures)
+    (begun_at c.len-globals.result c.behind_result.result) (map site_view c.new-sites.result.items)
+    (items_of (map item_view c.deref.result.now)) c.index-main.result.now.end c.empty-path.ensures (frame_first c.args.program.now c.len-globals.result c.behind_result.result c.len-globals.ensures
+    (main_receives c.args.program.now c.index-main.result.now (main_read c.args.program.now c.index-main.result.now c.requires c.index-main.ensures)
+    c.nobody.result c.behind_result.result c.nobody.ensures c.behind_result.ensures))
     (ap (λ z. map site_view z) c.new-sites.ensures.items)
     (main_body c.args.program.now c.index-main.result.now (main_read c.args.program.now c.index-main.result.now c.requires c.index-main.ensures)
     ∙ sym (ap (λ z. items_of (map item_view z)) c.deref.ensures.value))
@@ -57,8 +61,10 @@ returns-in_err-end-clause-limit c = let p = err_from_is_err_and c.from_residual-
 
 pub returns-clause-graph : goal.returns-clause-graph
 returns-clause-graph c = made_graph (program_view c.args.program.now) c.requires c.empty-path.result
-    (record { base = c.len-globals.result; live = c.len-globals.result; calls_left = 32; loop_length = None; back = None }) (map site_view c.new-sites.result.items)
-    (items_of (map item_view c.deref.result.now)) c.index-main.result.now.end c.empty-path.ensures (frame_first c.args.program.now c.len-globals.result c.len-globals.ensures)
+    (begun_at c.len-globals.result c.behind_result.result) (map site_view c.new-sites.result.items)
+    (items_of (map item_view c.deref.result.now)) c.index-main.result.now.end c.empty-path.ensures (frame_first c.args.program.now c.len-globals.result c.behind_result.result c.len-globals.ensures
+    (main_receives c.args.program.now c.index-main.result.now (main_read c.args.program.now c.index-main.result.now c.requires c.index-main.ensures)
+    c.nobody.result c.behind_result.result c.nobody.ensures c.behind_result.ensures))
     (ap (λ z. map site_view z) c.new-sites.ensures.items)
     (main_body c.args.program.now c.index-main.result.now (main_read c.args.program.now c.index-main.result.now c.requires c.index-main.ensures)
     ∙ sym (ap (λ z. items_of (map item_view z)) c.deref.ensures.value))
@@ -70,8 +76,10 @@ returns-clause-graph c = made_graph (program_view c.args.program.now) c.requires
 pub returns-clause-agrees : goal.returns-clause-agrees
 returns-clause-agrees c = graphs_agree (program_view c.args.program.now) (node_view c.in_ok-tree.tree) (distinct_sites (program_view c.args.program.now) c.requires)
     (made_graph (program_view c.args.program.now) c.requires c.empty-path.result
-    (record { base = c.len-globals.result; live = c.len-globals.result; calls_left = 32; loop_length = None; back = None }) (map site_view c.new-sites.result.items)
-    (items_of (map item_view c.deref.result.now)) c.index-main.result.now.end c.empty-path.ensures (frame_first c.args.program.now c.len-globals.result c.len-globals.ensures)
+    (begun_at c.len-globals.result c.behind_result.result) (map site_view c.new-sites.result.items)
+    (items_of (map item_view c.deref.result.now)) c.index-main.result.now.end c.empty-path.ensures (frame_first c.args.program.now c.len-globals.result c.behind_result.result c.len-globals.ensures
+    (main_receives c.args.program.now c.index-main.result.now (main_read c.args.program.now c.index-main.result.now c.requires c.index-main.ensures)
+    c.nobody.result c.behind_result.result c.nobody.ensures c.behind_result.ensures))
     (ap (λ z. map site_view z) c.new-sites.ensures.items)
     (main_body c.args.program.now c.index-main.result.now (main_read c.args.program.now c.index-main.result.now c.requires c.index-main.ensures)
     ∙ sym (ap (λ z. items_of (map item_view z)) c.deref.ensures.value))
@@ -82,8 +90,10 @@ returns-clause-agrees c = graphs_agree (program_view c.args.program.now) (node_v
 
 pub returns-clause-sites : goal.returns-clause-sites
 returns-clause-sites c = made_sites (program_view c.args.program.now) c.requires c.empty-path.result
-    (record { base = c.len-globals.result; live = c.len-globals.result; calls_left = 32; loop_length = None; back = None }) (map site_view c.new-sites.result.items)
-    (items_of (map item_view c.deref.result.now)) c.index-main.result.now.end c.empty-path.ensures (frame_first c.args.program.now c.len-globals.result c.len-globals.ensures)
+    (begun_at c.len-globals.result c.behind_result.result) (map site_view c.new-sites.result.items)
+    (items_of (map item_view c.deref.result.now)) c.index-main.result.now.end c.empty-path.ensures (frame_first c.args.program.now c.len-globals.result c.behind_result.result c.len-globals.ensures
+    (main_receives c.args.program.now c.index-main.result.now (main_read c.args.program.now c.index-main.result.now c.requires c.index-main.ensures)
+    c.nobody.result c.behind_result.result c.nobody.ensures c.behind_result.ensures))
     (ap (λ z. map site_view z) c.new-sites.ensures.items)
     (main_body c.args.program.now c.index-main.result.now (main_read c.args.program.now c.index-main.result.now c.requires c.index-main.ensures)
     ∙ sym (ap (λ z. items_of (map item_view z)) c.deref.ensures.value))
@@ -93,8 +103,10 @@ returns-clause-sites c = made_sites (program_view c.args.program.now) c.requires
 
 pub returns-clause-few : goal.returns-clause-few
 returns-clause-few c = made_few (program_view c.args.program.now) c.requires c.empty-path.result
-    (record { base = c.len-globals.result; live = c.len-globals.result; calls_left = 32; loop_length = None; back = None }) (map site_view c.new-sites.result.items)
-    (items_of (map item_view c.deref.result.now)) c.index-main.result.now.end c.empty-path.ensures (frame_first c.args.program.now c.len-globals.result c.len-globals.ensures)
+    (begun_at c.len-globals.result c.behind_result.result) (map site_view c.new-sites.result.items)
+    (items_of (map item_view c.deref.result.now)) c.index-main.result.now.end c.empty-path.ensures (frame_first c.args.program.now c.len-globals.result c.behind_result.result c.len-globals.ensures
+    (main_receives c.args.program.now c.index-main.result.now (main_read c.args.program.now c.index-main.result.now c.requires c.index-main.ensures)
+    c.nobody.result c.behind_result.result c.nobody.ensures c.behind_result.ensures))
     (ap (λ z. map site_view z) c.new-sites.ensures.items)
     (main_body c.args.program.now c.index-main.result.now (main_read c.args.program.now c.index-main.result.now c.requires c.index-main.ensures)
     ∙ sym (ap (λ z. items_of (map item_view z)) c.deref.ensures.value))
@@ -104,8 +116,10 @@ returns-clause-few c = made_few (program_view c.args.program.now) c.requires c.e
 
 pub returns-clause-within : goal.returns-clause-within
 returns-clause-within c = made_within (program_view c.args.program.now) c.requires c.empty-path.result
-    (record { base = c.len-globals.result; live = c.len-globals.result; calls_left = 32; loop_length = None; back = None }) (map site_view c.new-sites.result.items)
-    (items_of (map item_view c.deref.result.now)) c.index-main.result.now.end c.empty-path.ensures (frame_first c.args.program.now c.len-globals.result c.len-globals.ensures)
+    (begun_at c.len-globals.result c.behind_result.result) (map site_view c.new-sites.result.items)
+    (items_of (map item_view c.deref.result.now)) c.index-main.result.now.end c.empty-path.ensures (frame_first c.args.program.now c.len-globals.result c.behind_result.result c.len-globals.ensures
+    (main_receives c.args.program.now c.index-main.result.now (main_read c.args.program.now c.index-main.result.now c.requires c.index-main.ensures)
+    c.nobody.result c.behind_result.result c.nobody.ensures c.behind_result.ensures))
     (ap (λ z. map site_view z) c.new-sites.ensures.items)
     (main_body c.args.program.now c.index-main.result.now (main_read c.args.program.now c.index-main.result.now c.requires c.index-main.ensures)
     ∙ sym (ap (λ z. items_of (map item_view z)) c.deref.ensures.value))
