@@ -9,7 +9,8 @@ use Rattle.lra_domain.specs.Parts.{CapsWithin}
 use Rattle.lra_domain.specs.Meaning.{Meaning, Meets}
 use Rattle.lra_flow.specs.Linear.{constant_form}
 use Rattle.lra_domain.specs.Meaning.{worse}
-use Rattle.lra_flow.specs.MovesOf.{append_set, first_values}
+use Rattle.lra_program.specs.declared.program.GlobalVariable.{GlobalVariable}
+use Rattle.lra_flow.specs.MovesOf.{within_type, append_set, first_values}
 use Rattle.lra_change.specs.Changes.{Does}
 use Rattle.lra_change.proofs.ChangeSteps.{done_one}
 
@@ -34,7 +35,8 @@ appended {V} {H} m z f v x w c d first dims caps is second same more =
     )
 
 -- the first global, and the others
-pub appended_all : {V H : Type 0} (m : Meaning V H) (z : ℤ) (zs : List ℤ) (v x w : V) (c d : Exactness) → Does m (append_set (m.dims v) (Some (constant_form (suc (m.dims v)) z))) v c x →
+pub appended_all : {V H : Type 0} (m : Meaning V H) (z : GlobalVariable) (zs : List GlobalVariable) (v x w : V) (c d : Exactness)
+    → Does m (within_type z.number_type (suc (m.dims v)) (m.dims v) (append_set (m.dims v) (Some (constant_form (suc (m.dims v)) z.value)))) v c x →
     m.dims x ≡ suc (m.dims v)
     → Does m (first_values (m.dims x) zs) x d w → Does m (first_values (m.dims v) (z ∷ zs)) v (worse c d) w
 appended_all m z zs v x w c d one live others = (x, c, d, one, subst (λ (n : ℕ). Does m (first_values n zs) x d w) live others, refl)

@@ -1,5 +1,5 @@
 mod CompareSteps
 mod SideSteps
 mod ChainSteps
-mod ChangeSteps
+pub mod ChangeSteps
 mod GlobalSteps

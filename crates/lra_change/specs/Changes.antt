@@ -3,6 +3,7 @@ use Rattle.std.specs.Prelude.{ℕ, suc, ◌+◌, ◌-◌, ◌^◌, ◌<◌, ◌�
 use Rattle.lra_domain.specs.declared.Exactness.{Exactness}
 use Rattle.lra_domain.specs.Meaning.{Meaning}
 use Rattle.lra_program.specs.Step.{Op, append, give, give_any, push, keep, test}
+use Rattle.lra_program.specs.declared.receivers.Target.{Target}
 use Rattle.lra_flow.specs.Operations.{dropping}
 use Rattle.lra_domain.specs.Moves.{Moves}
 use Rattle.lra_flow.specs.Moves.{AreMade}
@@ -18,23 +19,23 @@ ChangesTo m op v e w = Changes (dropping m) op v e w
 
 -- how many variables live behind the change of a store with so many
 abbrev pub dims_behind : Op → ℕ → ℕ
-dims_behind append n = suc n
+dims_behind (append t) n = suc n
 dims_behind (give base x e) n = n
 dims_behind (give_any x) n = n
-dims_behind (push base es) n = n + length es
+dims_behind (push base given) n = n + length given
 dims_behind (keep k) n = n - (n - k)
 dims_behind (test base c wanted) n = n
 
 -- the place, where there is one, is that of one of so many variables
-abbrev pub PlaceFits : Option ℕ → ℕ → Type 0
+abbrev pub PlaceFits : Option Target → ℕ → Type 0
 PlaceFits None n = ⊤
-PlaceFits (Some x) n = x < n
+PlaceFits (Some t) n = t.place < n
 
 -- the change can be made of a store of so many variables, and leaves at most 2^30
 abbrev pub OpFits : Op → ℕ → Type 0
-OpFits append n = n < 2 ^ 30
-OpFits (give base x e) n = PlaceFits x n
-OpFits (give_any x) n = PlaceFits x n
-OpFits (push base es) n = n + length es ≤ 2 ^ 30
+OpFits (append t) n = n < 2 ^ 30
+OpFits (give base x e) n = PlaceFits x.target n
+OpFits (give_any x) n = PlaceFits x.target n
+OpFits (push base given) n = n + length given ≤ 2 ^ 30
 OpFits (keep k) n = ⊤
 OpFits (test base c wanted) n = ⊤

@@ -1,21 +1,22 @@
 //! What a least change of the program does to a value.
 
-ghost use Rattle.std.specs.Prelude.{◌≡◌, ◌≤◌, ◌<◌, ◌+◌, ◌-◌, ◌^◌, Some, suc, map, length, IfOk, OnOk};
+ghost use Rattle.std.specs.Prelude.{◌≡◌, ◌≤◌, ◌<◌, ◌+◌, ◌-◌, ◌^◌, None, Some, suc, map, length, IfOk, OnOk};
 ghost use Rattle.lra_domain.specs.Parts.{CapsWithin};
 ghost use Rattle.lra_domain.specs.Meaning.{Meets};
-ghost use Rattle.lra_program.specs.Step as step;
-ghost use Rattle.lra_program.specs.Step.{append, give_any};
-ghost use Rattle.lra_program.specs.ProgramViews.{expr_view};
+ghost use Rattle.lra_program.specs.Step.{append};
+ghost use Rattle.lra_program.specs.ProgramViews.{argument_view, expr_view};
 ghost use Rattle.lra_operations.specs.GraphViews.{op_view};
 ghost use Rattle.lra_flow.specs.Linear.{form_of};
-ghost use Rattle.lra_flow.specs.MovesOf.{set_to, append_set, push_all, drop_last};
+ghost use Rattle.lra_flow.specs.MovesOf.{within_type, set_to, set_target, append_set, push_all, drop_last};
 ghost use Rattle.lra_change.specs.Changes.{Does, ChangesTo, OpFits, dims_behind};
 
 use crate::conditions::leave;
+use crate::types::hold_type;
+use lra_base::NumberType;
 use lra_domain::{Domain, Exactness, worse};
 use lra_forms::form_of_expression;
 use lra_operations::Op;
-use lra_program::Expr;
+use lra_program::{Argument, Expr, Target};
 use std::alloc::{AllocError, Global};
 
 /// The variable at the place gets the expression's value: that of its form, or any value where there is none.
@@ -45,38 +46,41 @@ fn set<D: Domain>(
     }
 }
 
-/// A new variable, with the value of an argument.
+/// A new variable of its parameter's type, with the value of an argument.
 fn push_one<D: Domain>(
     alloc: Global,
     base: usize,
-    e: &Expr,
+    argument: &Argument,
     value: &mut D,
 ) -> Result<Exactness, AllocError>
     requires { D.meaning.dims value.old < 2 ^ 30 }
-    ensures pushes { IfOk result (λ a. Does D.meaning
-        (append_set (D.meaning.dims value.old) (form_of (suc (D.meaning.dims value.old)) base (expr_view e.now)))
+    ensures pushes { IfOk result (λ a. Does D.meaning (within_type argument.now.number_type
+        (suc (D.meaning.dims value.old)) (D.meaning.dims value.old)
+        (append_set (D.meaning.dims value.old)
+        (form_of (suc (D.meaning.dims value.old)) base (expr_view argument.now.value))))
         value.old a value.new) }
     ensures dims { OnOk result (D.meaning.dims value.new ≡ suc (D.meaning.dims value.old)) }
 {
     let place = value.dims();
     let one = value.embed(1)?;
-    let two = set(alloc, base, place, e, value)?;
-    Ok(worse(one, two))
+    let two = set(alloc, base, place, &argument.value, value)?;
+    let held = hold_type(alloc, argument.number_type, place, value, worse(one, two))?;
+    Ok(held)
 }
 
 /// The arguments, each a new variable with its value.
 fn push_all_of<D: Domain>(
     alloc: Global,
     base: usize,
-    es: &[Expr],
+    arguments: &[Argument],
     value: &mut D,
 ) -> Result<Exactness, AllocError>
-    requires { D.meaning.dims value.old + length es.now ≤ 2 ^ 30 }
+    requires { D.meaning.dims value.old + length arguments.now ≤ 2 ^ 30 }
     ensures pushes { IfOk result (λ a. Does D.meaning
-        (push_all (D.meaning.dims value.old) base (map expr_view es.now)) value.old a value.new) }
-    ensures dims { OnOk result (D.meaning.dims value.new ≡ D.meaning.dims value.old + length es.now) }
+        (push_all (D.meaning.dims value.old) base (map argument_view arguments.now)) value.old a value.new) }
+    ensures dims { OnOk result (D.meaning.dims value.new ≡ D.meaning.dims value.old + length arguments.now) }
 {
-    let Some((first, later)) = es.split_first() else {
+    let Some((first, later)) = arguments.split_first() else {
         return Ok(Exactness::Exact);
     };
     let one = push_one(alloc, base, first, value)?;
@@ -97,43 +101,56 @@ fn keep<D: Domain>(n: usize, value: &mut D) -> Result<Exactness, AllocError>
     Ok(exactness)
 }
 
-/// A new variable, with any value.
-fn append_any<D: Domain>(value: &mut D) -> Result<Exactness, AllocError>
+/// A new variable of this type, with any value.
+fn append_any<D: Domain>(
+    alloc: Global,
+    number_type: NumberType,
+    value: &mut D,
+) -> Result<Exactness, AllocError>
     requires { D.meaning.dims value.old < 2 ^ 30 }
-    ensures changes { IfOk result (λ a. ChangesTo D.meaning append value.old a value.new) }
+    ensures changes { IfOk result (λ a. ChangesTo D.meaning (append number_type) value.old a value.new) }
     ensures dims { OnOk result (D.meaning.dims value.new ≡ suc (D.meaning.dims value.old)) }
 {
+    let place = value.dims();
     let exactness = value.embed(1)?;
-    Ok(exactness)
+    let held = hold_type(alloc, number_type, place, value, exactness)?;
+    Ok(held)
 }
 
-/// The variable at the place gets any value.
-fn give_any_value<D: Domain>(place: usize, value: &mut D) -> Result<Exactness, AllocError>
+/// The target gets any value of its type.
+fn give_any_value<D: Domain>(
+    alloc: Global,
+    target: Target,
+    value: &mut D,
+) -> Result<Exactness, AllocError>
     requires few { D.meaning.dims value.old ≤ 2 ^ 30 }
-    requires place { place < D.meaning.dims value.old }
-    ensures changes { IfOk result (λ a. ChangesTo D.meaning (give_any (Some place)) value.old a value.new) }
+    requires place { target.place < D.meaning.dims value.old }
+    ensures gives { IfOk result (λ a. Does D.meaning
+        (set_target (D.meaning.dims value.old) (Some target) None) value.old a value.new) }
     ensures dims { OnOk result (D.meaning.dims value.new ≡ D.meaning.dims value.old) }
 {
-    let exactness = value.forget(place)?;
-    Ok(exactness)
+    let exactness = value.forget(target.place)?;
+    let held = hold_type(alloc, target.number_type, target.place, value, exactness)?;
+    Ok(held)
 }
 
-/// The variable at the place gets the expression's value, as a change of its own.
+/// The target gets the expression's value, which is one of its type.
 fn give<D: Domain>(
     alloc: Global,
     base: usize,
-    place: usize,
+    target: Target,
     e: &Expr,
     value: &mut D,
 ) -> Result<Exactness, AllocError>
     requires few { D.meaning.dims value.old ≤ 2 ^ 30 }
-    requires place { place < D.meaning.dims value.old }
-    ensures changes { IfOk result (λ a. ChangesTo D.meaning (step.give base (Some place) (expr_view e.now))
-        value.old a value.new) }
+    requires place { target.place < D.meaning.dims value.old }
+    ensures gives { IfOk result (λ a. Does D.meaning (set_target (D.meaning.dims value.old) (Some target)
+        (form_of (D.meaning.dims value.old) base (expr_view e.now))) value.old a value.new) }
     ensures dims { OnOk result (D.meaning.dims value.new ≡ D.meaning.dims value.old) }
 {
-    let exactness = set(alloc, base, place, e, value)?;
-    Ok(exactness)
+    let exactness = set(alloc, base, target.place, e, value)?;
+    let held = hold_type(alloc, target.number_type, target.place, value, exactness)?;
+    Ok(held)
 }
 
 /// What the least change of the program does to the value.
@@ -144,11 +161,16 @@ pub fn change<D: Domain>(alloc: Global, op: &Op, value: &mut D) -> Result<Exactn
     ensures dims { OnOk result (D.meaning.dims value.new ≡ dims_behind (op_view op.now) (D.meaning.dims value.old)) }
 {
     match op {
-        Op::Append => append_any(value),
-        Op::Give(_, None, _) | Op::GiveAny(None) => Ok(Exactness::Exact),
-        Op::Give(base, Some(place), e) => give(alloc, *base, *place, e, value),
-        Op::GiveAny(Some(place)) => give_any_value(*place, value),
-        Op::Push(base, es) => push_all_of(alloc, *base, es, value),
+        Op::Append(number_type) => append_any(alloc, *number_type, value),
+        Op::Give(base, receiver, e) => match receiver.target {
+            None => Ok(Exactness::Exact),
+            Some(target) => give(alloc, *base, target, e, value),
+        },
+        Op::GiveAny(receiver) => match receiver.target {
+            None => Ok(Exactness::Exact),
+            Some(target) => give_any_value(alloc, target, value),
+        },
+        Op::Push(base, arguments) => push_all_of(alloc, *base, arguments, value),
         Op::Keep(n) => keep(*n, value),
         Op::Test(base, condition, wanted) => {
             leave(alloc, *base, condition, *wanted, value, Exactness::Exact)

@@ -12,7 +12,7 @@ ghost use Rattle.lra_change.specs.Sides.{AreJoinedBack, AllKeptHave, IsEitherSoF
 
 use crate::comparisons::{Surroundings, leave_comparison};
 use crate::sides::{Kept, divide, join_back};
-use lra_base::Comparison;
+use lra_base::{Comparison, NumberType};
 use lra_domain::{Domain, Exactness};
 use lra_forms::comparison_where;
 use lra_program::{Cond, Expr};
@@ -32,7 +32,7 @@ fn leave_nonzero<D: Domain>(
         value.old before value.new a) }
     ensures dims { OnOk result (D.meaning.dims value.new ≡ D.meaning.dims value.old) }
 {
-    let zero = Expr::Literal(0);
+    let zero = Expr::Literal(NumberType::Int, 0);
     let op = comparison_where(Comparison::Differs, wanted);
     leave_comparison(around, op, e, &zero, value, before)
 }

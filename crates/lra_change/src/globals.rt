@@ -2,36 +2,41 @@
 
 ghost use Rattle.std.specs.Prelude.{◌≡◌, ◌+◌, ◌<◌, ◌≤◌, ◌^◌, suc, length, Some, IfOk, OnOk};
 ghost use Rattle.lra_flow.specs.Linear.{constant_form};
-ghost use Rattle.lra_flow.specs.MovesOf.{append_set, first_values};
+ghost use Rattle.lra_flow.specs.MovesOf.{within_type, append_set, first_values};
 ghost use Rattle.lra_change.specs.Changes.{Does};
 
+use crate::types::hold_type;
 use lra_domain::{Domain, Exactness, worse};
 use lra_forms::constant_of;
+use lra_program::GlobalVariable;
 use std::alloc::{AllocError, Global};
 
-/// A new variable, with this value.
-fn append_constant<D: Domain>(
+/// A new variable, with the global's first value.
+fn append_global<D: Domain>(
     alloc: Global,
-    constant: &i64,
+    global: &GlobalVariable,
     value: &mut D,
 ) -> Result<Exactness, AllocError>
     requires { D.meaning.dims value.old < 2 ^ 30 }
-    ensures appends { IfOk result (λ a. Does D.meaning
-        (append_set (D.meaning.dims value.old) (Some (constant_form (suc (D.meaning.dims value.old)) constant.now)))
+    ensures appends { IfOk result (λ a. Does D.meaning (within_type global.now.number_type
+        (suc (D.meaning.dims value.old)) (D.meaning.dims value.old)
+        (append_set (D.meaning.dims value.old)
+        (Some (constant_form (suc (D.meaning.dims value.old)) global.now.value))))
         value.old a value.new) }
     ensures dims { OnOk result (D.meaning.dims value.new ≡ suc (D.meaning.dims value.old)) }
 {
     let place = value.dims();
     let one = value.embed(1)?;
-    let form = constant_of(alloc, place + 1, constant)?;
+    let form = constant_of(alloc, place + 1, &global.value)?;
     let two = value.assign(place, &form)?;
-    Ok(worse(one, two))
+    let held = hold_type(alloc, global.number_type, place, value, worse(one, two))?;
+    Ok(held)
 }
 
 /// The global variables, each with its first value.
 pub fn append_globals<D: Domain>(
     alloc: Global,
-    globals: &[i64],
+    globals: &[GlobalVariable],
     value: &mut D,
 ) -> Result<Exactness, AllocError>
     requires { D.meaning.dims value.old + length globals.now ≤ 2 ^ 30 }
@@ -42,7 +47,7 @@ pub fn append_globals<D: Domain>(
     let Some((first, later)) = globals.split_first() else {
         return Ok(Exactness::Exact);
     };
-    let one = append_constant(alloc, first, value)?;
+    let one = append_global(alloc, first, value)?;
     let others = append_globals(alloc, later, value)?;
     Ok(worse(one, others))
 }

@@ -6,6 +6,7 @@ mod comparisons;
 mod conditions;
 mod globals;
 mod sides;
+mod types;
 
 pub use changes::change;
 pub use conditions::leave;

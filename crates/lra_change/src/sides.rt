@@ -8,7 +8,7 @@ ghost use Rattle.lra_program.specs.ProgramViews.{all_of, any_of, expr_view, cond
 ghost use Rattle.lra_change.specs.Sides.{SplitsBy, AreJoinedTo, AreJoinedBack, AllKeptHave};
 
 use crate::comparisons::{Surroundings, leave_comparison};
-use lra_base::Comparison;
+use lra_base::{Comparison, NumberType};
 use lra_domain::{Domain, Exactness, worse};
 use lra_forms::opposite_of;
 use lra_program::{Cond, Expr};
@@ -127,7 +127,7 @@ fn split_nonzero<D: Domain>(
     requires { D.meaning.dims from.value < 2 ^ 62 }
     ensures { IfOk result (λ s. SplitsBy D.meaning base true (nonzero (expr_view e.now)) from s) }
 {
-    let zero = Expr::Literal(0);
+    let zero = Expr::Literal(NumberType::Int, 0);
     split_comparison(alloc, base, Comparison::Differs, e, &zero, from)
 }
 

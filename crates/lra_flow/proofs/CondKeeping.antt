@@ -10,7 +10,9 @@ use Rattle.lra_lin.specs.declared.test.Test.{Test}
 use Rattle.lra_flow.specs.Linear.{TestHolds, comparison_test, difference_in}
 use Rattle.lra_domain.specs.Moves.{join_of, MayLead}
 use Rattle.lra_flow.specs.MovesOf.{opposite_comparison, comparison_as, test_moves, comparison_moves, guard}
-use Rattle.lra_flow.proofs.FormLemmas.{bind_some, some_first, test_is_right, differs_by_tests, difference_is_right, compared}
+use Rattle.lra_base.specs.declared.number_types.NumberType.TheVariants.{Int}
+use Rattle.lra_program.proofs.TypeLaws.{bind_some}
+use Rattle.lra_flow.proofs.FormLemmas.{some_first, test_is_right, differs_by_tests, difference_is_right, compared}
 
 -- what `!` does to a comparison
 opposite_is : (op : Comparison) (x y : ℤ) → compares op x y ≡ false → compares (opposite_comparison op) x y ≡ true
@@ -100,7 +102,7 @@ module _ (s : Scene) where
   cond_leads (nonzero e) wanted draws left ran =
       let (r, got, to) = bind_some (value_of e s draws) (λ r. Some (not (is_zero r.0), r.1)) (wanted, left) ran in
       let so = zero_differs r.0 ∙ some_first (not (is_zero r.0)) wanted r.1 left to in
-      compare_leads (comparison_as wanted differs) e (literal 0) draws r.1 r.1 r.0 (pos 0) (difference_in s e (literal 0)) refl got refl (as_wanted wanted differs r.0 (pos 0) so)
+      compare_leads (comparison_as wanted differs) e (literal Int 0) draws r.1 r.1 r.0 (pos 0) (difference_in s e (literal Int 0)) refl got refl (as_wanted wanted differs r.0 (pos 0) so)
   cond_leads (opposite c) wanted draws left ran =
       let (r, got, to) = bind_some (truth_of c s draws) (λ r. Some (not r.0, r.1)) (wanted, left) ran in
       let answer : r.0 ≡ not wanted = not_is r.0 wanted (some_first (not r.0) wanted r.1 left to) in

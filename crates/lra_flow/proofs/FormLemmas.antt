@@ -12,15 +12,13 @@ use Rattle.lra_lin.specs.declared.test.Test.{Test}
 use Rattle.lra_lin.proofs.FormLemmas.{product_negated}
 use Rattle.lra_linear.proofs.Ring.{ring, v, ⊖, ◌⊕◌, ◌⊗◌}
 use Rattle.lra_base.specs.Operators.{Operator, plus, minus, times, over, modulo, Comparison, below, at_most, above, at_least, equal, differs}
-use Rattle.lra_program.specs.Program.{Expr, literal, read, input, negate, binary, compare}
-use Rattle.lra_program.specs.Value.{◌>>=◌, word, is_word, is_zero, index_of, Scene, apply, compares, value_of, truth_of}
-use Rattle.lra_flow.specs.Linear.{fitting, entrywise, combined, scaled, is_constant, operator_form, constant_form, live_form, variable_form, form_of, form_in, FormsAreRight, TestHolds, negated_form, less_one}
+use Rattle.lra_base.specs.declared.number_types.NumberType.{NumberType}
+use Rattle.lra_base.specs.NumberTypes.{fits, wider}
+use Rattle.lra_program.specs.Program.{Expr, literal, read, input, negate, binary, type_of, compare}
+use Rattle.lra_program.proofs.TypeLaws.{bind_some}
+use Rattle.lra_program.specs.Value.{◌>>=◌, number, is_word, is_zero, index_of, Scene, apply, compares, value_of, truth_of}
+use Rattle.lra_flow.specs.Linear.{fitting, entrywise, combined, scaled, is_constant, operator_form, constant_form, live_form, variable_form, form_of, form_in, exactly, OperatorFormsAreExact, FormsAreRight, TestHolds, negated_form, less_one}
 use Rattle.lra_flow.specs.Linear.{at_least_zero, comparison_test, difference_in, TestsAreRight, DiffersIsRight}
-
--- what led to something
-pub bind_some : {A B : Type 0} (o : Option A) (f : A → Option B) (y : B) → (o >>= f) ≡ Some y → (x : A) × (o ≡ Some x) × (f x ≡ Some y)
-bind_some None f y e = cc
-bind_some (Some x) f y e = (x, refl, e)
 
 -- of two pairs that are there
 pub some_first : {A B : Type 0} (x y : A) (u w : B) → (let p : A × B = (x, u) in Some p) ≡ (let q : A × B = (y, w) in Some q) → x ≡ y
@@ -42,8 +40,8 @@ if_some false x y e = cc
 pub fitting_same : (f g : Form) → fitting f ≡ Some g → f ≡ g
 fitting_same f g e = if_some (is_word f.constant && list_all is_word f.coefficients) f g e
 
-pub word_same : (x y : ℤ) → word x ≡ Some y → x ≡ y
-word_same x y e = if_some (is_word x) x y e
+pub number_same : (t : NumberType) (x y : ℤ) → number t x ≡ Some y → x ≡ y
+number_same t x y e = if_some (fits t x) x y e
 
 -- the forms before they are held to 64 bits
 abbrev combination : (ℤ → ℤ → ℤ) → Form → Form → Form
@@ -59,16 +57,27 @@ product_zeros zero xs = refl
 product_zeros (suc n) [] = product_none (pos 0 ∷ replicate n (pos 0))
 product_zeros (suc n) (x ∷ xs) = let e = product_zeros n xs in ring (v (pos 0) ⊗ v x ⊕ v (product (replicate n (pos 0)) xs)) (v (product (replicate n (pos 0)) xs)) (omega arith) ∙ e
 
-product_unit : (n place : ℕ) (xs : List ℤ) (z : ℤ) → n ≡ length xs → slice_get xs place ≡ Some z → product (slice_set (replicate n (pos 0)) place (pos 1)) xs ≡ z
-product_unit n place [] z e is = cc
-product_unit zero place (x ∷ xs) z e is = absurd (omega (arith, e))
-product_unit (suc n) zero (x ∷ xs) z e is =
+-- with one number at a place, and where the place isn't there
+pub product_at : (c : ℤ) (n place : ℕ) (xs : List ℤ) (z : ℤ) → n ≡ length xs → slice_get xs place ≡ Some z → product (slice_set (replicate n (pos 0)) place c) xs ≡ c *ℤ z
+product_at c n place [] z e is = cc
+product_at c zero place (x ∷ xs) z e is = absurd (omega (arith, e))
+product_at c (suc n) zero (x ∷ xs) z e is =
     let same : x ≡ z = cc in
-    ring (v (pos 1) ⊗ v x ⊕ v (product (replicate n (pos 0)) xs)) (v x ⊕ v (product (replicate n (pos 0)) xs)) (omega arith) ∙ ap (λ (y : ℤ). x +ℤ y) (product_zeros n xs) ∙
-    ring (v x ⊕ v (pos 0)) (v x) (omega arith) ∙ same
-product_unit (suc n) (suc place) (x ∷ xs) z e is =
-    let rest = product (slice_set (replicate n (pos 0)) place (pos 1)) xs in
-    ring (v (pos 0) ⊗ v x ⊕ v rest) (v rest) (omega arith) ∙ product_unit n place xs z (omega (arith, e)) is
+    ap (λ (y : ℤ). (c *ℤ x) +ℤ y) (product_zeros n xs) ∙ ring (v c ⊗ v x ⊕ v (pos 0)) (v c ⊗ v x) (omega arith) ∙ ap (λ (y : ℤ). c *ℤ y) same
+product_at c (suc n) (suc place) (x ∷ xs) z e is =
+    let rest = product (slice_set (replicate n (pos 0)) place c) xs in
+    ring (v (pos 0) ⊗ v x ⊕ v rest) (v rest) (omega arith) ∙ product_at c n place xs z (omega (arith, e)) is
+
+pub product_out : (c : ℤ) (n place : ℕ) (xs : List ℤ) → slice_get xs place ≡ None → product (slice_set (replicate n (pos 0)) place c) xs ≡ pos 0
+product_out c n place [] is = product_none (slice_set (replicate n (pos 0)) place c)
+product_out c zero place (x ∷ xs) is = refl
+product_out c (suc n) zero (x ∷ xs) is = cc
+product_out c (suc n) (suc place) (x ∷ xs) is =
+    let rest = product (slice_set (replicate n (pos 0)) place c) xs in
+    ring (v (pos 0) ⊗ v x ⊕ v rest) (v rest) (omega arith) ∙ product_out c n place xs is
+
+product_unit : (n place : ℕ) (xs : List ℤ) (z : ℤ) → n ≡ length xs → slice_get xs place ≡ Some z → product (slice_set (replicate n (pos 0)) place (pos 1)) xs ≡ z
+product_unit n place xs z e is = product_at (pos 1) n place xs z e is ∙ ring (v (pos 1) ⊗ v z) (v z) (omega arith)
 
 product_sum : (fs gs xs : List ℤ) → length fs ≡ length xs → length gs ≡ length xs → product (entrywise (λ x y. x +ℤ y) fs gs) xs ≡ product fs xs +ℤ product gs xs
 product_sum [] [] [] e h = refl
@@ -80,7 +89,7 @@ product_sum (f ∷ fs) (g ∷ gs) (x ∷ xs) e h =
     ap (λ (y : ℤ). ((f +ℤ g) *ℤ x) +ℤ y) (product_sum fs gs xs (omega (arith, e)) (omega (arith, h))) ∙
     ring ((v f ⊕ v g) ⊗ v x ⊕ (v (product fs xs) ⊕ v (product gs xs))) ((v f ⊗ v x ⊕ v (product fs xs)) ⊕ (v g ⊗ v x ⊕ v (product gs xs))) (omega arith)
 
-minus_is : (x y : ℤ) → x -ℤ y ≡ x +ℤ (negsuc 0 *ℤ y)
+pub minus_is : (x y : ℤ) → x -ℤ y ≡ x +ℤ (negsuc 0 *ℤ y)
 minus_is x y = omega (arith, ints, ring (v (negsuc 0) ⊗ v y) (⊖ (v y)) (omega arith))
 
 product_difference : (fs gs xs : List ℤ) → length fs ≡ length xs → length gs ≡ length xs → product (entrywise (λ x y. x -ℤ y) fs gs) xs ≡ product fs xs -ℤ product gs xs
@@ -174,10 +183,10 @@ live_same live place f is = by_test (nat_lt place live) is
     by_test false e = cc
 
 pub form_wide : (live base : ℕ) (e : Expr) (f : Form) → form_of live base e ≡ Some f → Wide live f
-form_wide live base (literal n) f is = wide_same live _ f (fitting_same (constant_form live (pos n)) f is) (record { width = copies_length live (pos 0) })
+form_wide live base (literal t n) f is = wide_same live _ f (fitting_same (constant_form live (pos n)) f is) (record { width = copies_length live (pos 0) })
 form_wide live base (read x) f is =
-    let same = live_same live (index_of base x) f is in
-    wide_same live _ f same (record { width = set_length (replicate live (pos 0)) (index_of base x) (pos 1) ∙ copies_length live (pos 0) })
+    let same = live_same live (index_of base x.slot) f is in
+    wide_same live _ f same (record { width = set_length (replicate live (pos 0)) (index_of base x.slot) (pos 1) ∙ copies_length live (pos 0) })
 form_wide live base input f is = cc
 form_wide live base (negate e) f is =
     let (g, of, to) = bind_some (form_of live base e) (λ h. scaled (negsuc 0) h) f is in
@@ -196,6 +205,9 @@ pub scaled_value : (k : ℤ) (f h : Form) (store : List ℤ) → scaled k f ≡ 
 scaled_value k f h store e =
     value_same _ h store (fitting_same (multiple k f) h e) ∙ ap (λ (y : ℤ). (k *ℤ f.constant) +ℤ y) (product_scaled k f.coefficients store) ∙
     ring (v k ⊗ v f.constant ⊕ v k ⊗ v (product f.coefficients store)) (v k ⊗ (v f.constant ⊕ v (product f.coefficients store))) (omega arith)
+
+pub constant_form_value : (n : ℕ) (z : ℤ) (store : List ℤ) → form_value (constant_form n z) store ≡ z
+constant_form_value n z store = ap (λ (y : ℤ). z +ℤ y) (product_zeros n store) ∙ ring (v z ⊕ v (pos 0)) (v z) (omega arith)
 
 sum_value : (f g h : Form) (store : List ℤ) → Wide (length store) f → Wide (length store) g → combined (λ x y. x +ℤ y) f g ≡ Some h → form_value h store ≡ form_value f store +ℤ form_value g store
 sum_value f g h store a b e =
@@ -226,43 +238,61 @@ product_value f g h store false true is also e =
     ring (v (form_value g store) ⊗ v (form_value f store)) (v (form_value f store) ⊗ v (form_value g store)) (omega arith)
 product_value f g h store false false is also e = cc
 
-operator_value : (op : Operator) (f g h : Form) (store : List ℤ) (x y z : ℤ) → Wide (length store) f → Wide (length store) g → operator_form op f g ≡ Some h
-    → form_value f store ≡ x → form_value g store ≡ y → apply op x y ≡ Some z → form_value h store ≡ z
-operator_value plus f g h store x y z a b e is also to = sum_value f g h store a b e ∙ (let sum : form_value f store +ℤ form_value g store ≡ x +ℤ y = cc in sum) ∙ word_same (x +ℤ y) z to
-operator_value minus f g h store x y z a b e is also to = difference_value f g h store a b e ∙ (let less : form_value f store -ℤ form_value g store ≡ x -ℤ y = cc in less) ∙ word_same (x -ℤ y) z to
-operator_value times f g h store x y z a b e is also to =
-    product_value f g h store (is_constant f) (is_constant g) refl refl e ∙ (let times : form_value f store *ℤ form_value g store ≡ x *ℤ y = cc in times) ∙ word_same (x *ℤ y) z to
-operator_value over f g h store x y z a b e is also to = cc
-operator_value modulo f g h store x y z a b e is also to = cc
+-- an operator's form has the exact sum, difference or product of the values, whatever fits
+operator_value : (op : Operator) (f g h : Form) (store : List ℤ) (x y : ℤ) → Wide (length store) f → Wide (length store) g → operator_form op f g ≡ Some h
+    → form_value f store ≡ x → form_value g store ≡ y → form_value h store ≡ exactly op x y
+operator_value plus f g h store x y a b e is also = sum_value f g h store a b e ∙ (let sum : form_value f store +ℤ form_value g store ≡ x +ℤ y = cc in sum)
+operator_value minus f g h store x y a b e is also = difference_value f g h store a b e ∙ (let less : form_value f store -ℤ form_value g store ≡ x -ℤ y = cc in less)
+operator_value times f g h store x y a b e is also =
+    product_value f g h store (is_constant f) (is_constant g) refl refl e ∙ (let times : form_value f store *ℤ form_value g store ≡ x *ℤ y = cc in times)
+operator_value over f g h store x y a b e is also = cc
+operator_value modulo f g h store x y a b e is also = cc
+
+pub exact_forms : OperatorFormsAreExact
+exact_forms op f g h s a b e = operator_value op f g h s (form_value f s) (form_value g s) (record { width = a }) (record { width = b }) e refl refl
+
+-- where the operator has a value in a type, that is it
+exactly_is : (t : NumberType) (op : Operator) (f g h : Form) (x y z : ℤ) → operator_form op f g ≡ Some h → apply t op x y ≡ Some z → exactly op x y ≡ z
+exactly_is t plus f g h x y z e to = number_same t (x +ℤ y) z to
+exactly_is t minus f g h x y z e to = number_same t (x -ℤ y) z to
+exactly_is t times f g h x y z e to = number_same t (x *ℤ y) z to
+exactly_is t over f g h x y z e to = cc
+exactly_is t modulo f g h x y z e to = cc
+
+negated_value : (g f : Form) (store : List ℤ) (x : ℤ) → scaled (negsuc 0) g ≡ Some f → form_value g store ≡ x → form_value f store ≡ pos 0 -ℤ x
+negated_value g f store x to is =
+    scaled_value (negsuc 0) g f store to ∙ ap (λ (y : ℤ). negsuc 0 *ℤ y) is ∙ ring (v (negsuc 0) ⊗ v x) (v (pos 0) ⊕ v (negsuc 0) ⊗ v x) (omega arith) ∙ sym (minus_is (pos 0) x)
 
 pub forms_are_right : FormsAreRight
-forms_are_right s (literal n) f draws left z is ran =
-    let same : pos n ≡ z = some_first (pos n) z draws left ran in
-    value_same _ f s.store (fitting_same (constant_form (length s.store) (pos n)) f is) ∙ ap (λ (y : ℤ). pos n +ℤ y) (product_zeros (length s.store) s.store) ∙
-    ring (v (pos n) ⊕ v (pos 0)) (v (pos n)) (omega arith) ∙ same
-forms_are_right s (read x) f draws left z is ran =
-    let same = live_same (length s.store) (index_of s.base x) f is in
-    let (y, got, to) = bind_some (slice_get s.store (index_of s.base x)) (λ r. Some (r, draws)) (z, left) ran in
+forms_are_right s (literal t n) f draws left z is ran =
+    let (y, got, to) = bind_some (number t (pos n)) (λ r. Some (r, draws)) (z, left) ran in
     let is_z : y ≡ z = some_first y z draws left to in
-    value_same _ f s.store same ∙ ap (λ (r : ℤ). pos 0 +ℤ r) (product_unit (length s.store) (index_of s.base x) s.store y refl got) ∙ ring (v (pos 0) ⊕ v y) (v y) (omega arith) ∙ is_z
+    value_same _ f s.store (fitting_same (constant_form (length s.store) (pos n)) f is) ∙ ap (λ (y : ℤ). pos n +ℤ y) (product_zeros (length s.store) s.store) ∙
+    ring (v (pos n) ⊕ v (pos 0)) (v (pos n)) (omega arith) ∙ number_same t (pos n) y got ∙ is_z
+forms_are_right s (read x) f draws left z is ran =
+    let same = live_same (length s.store) (index_of s.base x.slot) f is in
+    let (y, there, on) = bind_some (slice_get s.store (index_of s.base x.slot)) (λ y. number x.number_type y >>= λ r. Some (r, draws)) (z, left) ran in
+    let (u, got, to) = bind_some (number x.number_type y) (λ r. Some (r, draws)) (z, left) on in
+    let is_z : u ≡ z = some_first u z draws left to in
+    value_same _ f s.store same ∙ ap (λ (r : ℤ). pos 0 +ℤ r) (product_unit (length s.store) (index_of s.base x.slot) s.store y refl there) ∙ ring (v (pos 0) ⊕ v y) (v y) (omega arith) ∙
+    number_same x.number_type y u got ∙ is_z
 forms_are_right s input f draws left z is ran = cc
 forms_are_right s (negate e) f draws left z is ran =
     let (g, of, to) = bind_some (form_in s e) (λ h. scaled (negsuc 0) h) f is in
-    let (r, got, on) = bind_some (value_of e s draws) (λ r. word (pos 0 -ℤ r.0) >>= λ z. Some (z, r.1)) (z, left) ran in
-    let (y, fits, last) = bind_some (word (pos 0 -ℤ r.0)) (λ z. Some (z, r.1)) (z, left) on in
+    let (r, got, on) = bind_some (value_of e s draws) (λ r. number (type_of e) (pos 0 -ℤ r.0) >>= λ z. Some (z, r.1)) (z, left) ran in
+    let (y, fit, last) = bind_some (number (type_of e) (pos 0 -ℤ r.0)) (λ z. Some (z, r.1)) (z, left) on in
     let same : y ≡ z = some_first y z r.1 left last in
-    scaled_value (negsuc 0) g f s.store to ∙ ap (λ (x : ℤ). negsuc 0 *ℤ x) (forms_are_right s e g draws r.1 r.0 of got) ∙
-    (let opposite : negsuc 0 *ℤ r.0 ≡ pos 0 -ℤ r.0 = ring (v (negsuc 0) ⊗ v r.0) (v (pos 0) ⊕ v (negsuc 0) ⊗ v r.0) (omega arith) ∙ sym (minus_is (pos 0) r.0) in opposite) ∙
-    word_same (pos 0 -ℤ r.0) y fits ∙ same
+    negated_value g f s.store r.0 to (forms_are_right s e g draws r.1 r.0 of got) ∙ number_same (type_of e) (pos 0 -ℤ r.0) y fit ∙ same
 forms_are_right s (binary op a b) f draws left z is ran =
+    let t = wider (type_of a) (type_of b) in
     let (g, of, to) = bind_some (form_in s a) (λ x. form_in s b >>= λ y. operator_form op x y) f is in
     let (h, of_too, result) = bind_some (form_in s b) (λ y. operator_form op g y) f to in
-    let (r, got, on) = bind_some (value_of a s draws) (λ r. value_of b s r.1 >>= λ q. apply op r.0 q.0 >>= λ z. Some (z, q.1)) (z, left) ran in
-    let (q, got_too, last) = bind_some (value_of b s r.1) (λ q. apply op r.0 q.0 >>= λ z. Some (z, q.1)) (z, left) on in
-    let (y, fits, end) = bind_some (apply op r.0 q.0) (λ z. Some (z, q.1)) (z, left) last in
+    let (r, got, on) = bind_some (value_of a s draws) (λ r. value_of b s r.1 >>= λ q. apply (wider (type_of a) (type_of b)) op r.0 q.0 >>= λ z. Some (z, q.1)) (z, left) ran in
+    let (q, got_too, last) = bind_some (value_of b s r.1) (λ q. apply (wider (type_of a) (type_of b)) op r.0 q.0 >>= λ z. Some (z, q.1)) (z, left) on in
+    let (y, fit, end) = bind_some (apply (wider (type_of a) (type_of b)) op r.0 q.0) (λ z. Some (z, q.1)) (z, left) last in
     let same : y ≡ z = some_first y z q.1 left end in
-    operator_value op g h f s.store r.0 q.0 y (form_wide (length s.store) s.base a g of) (form_wide (length s.store) s.base b h of_too) result
-    (forms_are_right s a g draws r.1 r.0 of got) (forms_are_right s b h r.1 q.1 q.0 of_too got_too) fits ∙ same
+    operator_value op g h f s.store r.0 q.0 (form_wide (length s.store) s.base a g of) (form_wide (length s.store) s.base b h of_too) result
+    (forms_are_right s a g draws r.1 r.0 of got) (forms_are_right s b h r.1 q.1 q.0 of_too got_too) ∙ exactly_is t op g h f r.0 q.0 y result fit ∙ same
 
 -- tests ----------------------------------------------------------------------------------------------------------------
 

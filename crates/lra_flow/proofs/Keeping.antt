@@ -1,18 +1,32 @@
 -- The moves of a least change of a program lead where the change leads.
-use Rattle.std.proofs.Common.{◌≡◌, ℕ, zero, suc, ◌+◌, ◌-◌, ◌≤◌, ◌++◌, ℤ, pos, List, [], ◌∷◌, Option, Some, None, Bool, true, false, length, take, refl, sym, ap, subst, ◌∙◌, arith}
+use Rattle.std.proofs.Common.{◌≡◌, ℕ, zero, suc, ◌+◌, ◌-◌, ◌≤◌, ◌++◌, ℤ, pos, List, [], ◌∷◌, Option, Some, None, Bool, true, false, length, take, refl, sym, ap, subst, ◌∙◌, arith, inl, inr}
 use Rattle.std.proofs.Common.{append_assoc, append-nil, length-append}
-use Rattle.std.specs.Prelude.{◌-ℤ◌, slice_set, slice_get}
-use Rattle.lra_domain.specs.Actions.{Leads}
+use Rattle.std.specs.Prelude.{map, ◌-ℤ◌, ◌+ℤ◌, ◌*ℤ◌, ◌≤ℤ◌, negsuc, ◌⊎◌, replicate, slice_set, slice_get}
+use Rattle.lra_domain.specs.Actions.{Leads, embed}
 use Rattle.lra_lin.specs.Form.{Form}
-use Rattle.lra_program.specs.Program.{Expr, literal, read, input, negate, binary, Cond}
-use Rattle.lra_program.specs.Value.{◌>>=◌, word, index_of, Scene, apply, Drawn, draw, value_of, values_of, truth_of}
-use Rattle.lra_program.specs.Step.{State, Op, append, give, give_any, push, keep, put, receive, pushed, scene_at, run_op}
+use Rattle.lra_base.specs.declared.number_types.NumberType.{NumberType}
+use Rattle.lra_base.specs.declared.number_types.NumberType.TheVariants.{Int, Long}
+use Rattle.lra_base.specs.NumberTypes.{fits, wider, least_of}
+use Rattle.lra_base.proofs.TypeLimits.{limits_of}
+use Rattle.lra_program.specs.declared.program.GlobalVariable.{GlobalVariable}
+use Rattle.lra_program.specs.WellFormed.{AreGoodGlobals}
+use Rattle.lra_program.specs.declared.receivers.Target.{Target}
+use Rattle.lra_program.specs.declared.receivers.Receiver.{Receiver}
+use Rattle.lra_program.specs.Receivers.{lets_through, target_accepts, accepts}
+use Rattle.lra_program.specs.Program.{Expr, literal, read, input, negate, binary, type_of, Cond}
+use Rattle.lra_program.specs.Value.{◌>>=◌, number, index_of, Scene, apply, Argument, Drawn, draw, value_of, values_of, truth_of}
+use Rattle.lra_program.specs.Step.{State, Op, append, give, give_any, push, keep, put, receive, kept_if, drawn_for, pushed, scene_at, run_op}
+use Rattle.lra_program.proofs.TypeLaws.{bind_some, number_fits}
 use Rattle.lra_program.specs.Step as step
 use Rattle.lra_flow.specs.Linear as linear
 use Rattle.lra_flow.specs.Linear.{form_in}
-use Rattle.lra_domain.specs.Moves.{MayLead}
-use Rattle.lra_flow.specs.MovesOf.{set_to, append_set, push_all, drop_last, moves_of, guard}
-use Rattle.lra_flow.proofs.FormLemmas.{bind_some, pair_first, forms_are_right}
+use Rattle.lra_domain.specs.Moves.{Moves, make, MayLead}
+use Rattle.lra_flow.specs.MovesOf.{above_least, below_greatest, within_type, set_to, append_set, push_all, set_target, drop_last, moves_of, first_values, guard}
+use Rattle.lra_linear.proofs.Ring.{ring, v, ◌⊗◌}
+use Rattle.std.proofs.lemmas.Bool.{and_parts}
+use Rattle.std.proofs.lemmas.Int.{ints}
+use Rattle.lra_lin.specs.Form.{form_value}
+use Rattle.lra_flow.proofs.FormLemmas.{number_same, pair_first, product_at, product_out, minus_is, set_length, constant_form_value, forms_are_right}
 use Rattle.lra_flow.proofs.CondKeeping.{cond_leads}
 
 -- values with more variables -------------------------------------------------------------------------------------------
@@ -31,19 +45,20 @@ longer s more = record s { store = s.store ++ more }
 
 -- these change no value
 value_longer : (e : Expr) (s : Scene) (more draws : List ℤ) (r : ℤ × List ℤ) → value_of e s draws ≡ Some r → value_of e (longer s more) draws ≡ Some r
-value_longer (literal n) s more draws r is = is
+value_longer (literal t n) s more draws r is = is
 value_longer (read x) s more draws r is =
-    let (z, got, to) = bind_some (slice_get s.store (index_of s.base x)) (λ z. Some (z, draws)) r is in
-    then_is (slice_get (s.store ++ more) (index_of s.base x)) (λ z. Some (z, draws)) z (Some r) (get_longer s.store more (index_of s.base x) z got) to
+    let (y, got, to) = bind_some (slice_get s.store (index_of s.base x.slot)) (λ y. number x.number_type y >>= λ z. Some (z, draws)) r is in
+    then_is (slice_get (s.store ++ more) (index_of s.base x.slot)) (λ y. number x.number_type y >>= λ z. Some (z, draws)) y (Some r) (get_longer s.store more (index_of s.base x.slot) y got) to
 value_longer input s more draws r is = is
 value_longer (negate e) s more draws r is =
-    let (p, got, to) = bind_some (value_of e s draws) (λ p. word (pos 0 -ℤ p.0) >>= λ z. Some (z, p.1)) r is in
-    then_is (value_of e (longer s more) draws) (λ p. word (pos 0 -ℤ p.0) >>= λ z. Some (z, p.1)) p (Some r) (value_longer e s more draws p got) to
+    let (p, got, to) = bind_some (value_of e s draws) (λ p. number (type_of e) (pos 0 -ℤ p.0) >>= λ z. Some (z, p.1)) r is in
+    then_is (value_of e (longer s more) draws) (λ p. number (type_of e) (pos 0 -ℤ p.0) >>= λ z. Some (z, p.1)) p (Some r) (value_longer e s more draws p got) to
 value_longer (binary op a b) s more draws r is =
-    let (p, got, to) = bind_some (value_of a s draws) (λ p. value_of b s p.1 >>= λ q. apply op p.0 q.0 >>= λ z. Some (z, q.1)) r is in
-    let (q, got_too, last) = bind_some (value_of b s p.1) (λ q. apply op p.0 q.0 >>= λ z. Some (z, q.1)) r to in
-    then_is (value_of a (longer s more) draws) (λ p. value_of b (longer s more) p.1 >>= λ q. apply op p.0 q.0 >>= λ z. Some (z, q.1)) p (Some r) (value_longer a s more draws p got)
-    (then_is (value_of b (longer s more) p.1) (λ q. apply op p.0 q.0 >>= λ z. Some (z, q.1)) q (Some r) (value_longer b s more p.1 q got_too) last)
+    let t = wider (type_of a) (type_of b) in
+    let (p, got, to) = bind_some (value_of a s draws) (λ p. value_of b s p.1 >>= λ q. apply t op p.0 q.0 >>= λ z. Some (z, q.1)) r is in
+    let (q, got_too, last) = bind_some (value_of b s p.1) (λ q. apply t op p.0 q.0 >>= λ z. Some (z, q.1)) r to in
+    then_is (value_of a (longer s more) draws) (λ p. value_of b (longer s more) p.1 >>= λ q. apply t op p.0 q.0 >>= λ z. Some (z, q.1)) p (Some r) (value_longer a s more draws p got)
+    (then_is (value_of b (longer s more) p.1) (λ q. apply t op p.0 q.0 >>= λ z. Some (z, q.1)) q (Some r) (value_longer b s more p.1 q got_too) last)
 
 -- a state that is there
 pub some_is : {A : Type 0} (x y : A) → Some x ≡ Some y → x ≡ y
@@ -51,6 +66,47 @@ some_is x y e = cc
 
 pub store_is : (s t : State) → Some s ≡ Some t → s.store ≡ t.store
 store_is s t e = ap (λ (x : State). x.store) (some_is s t e)
+
+-- types -----------------------------------------------------------------------------------------------------------------
+
+-- the number at the place, or no such place
+abbrev MayBeAt : List ℤ → ℕ → ℤ → Type 0
+MayBeAt xs k z = (slice_get xs k ≡ Some z) ⊎ (slice_get xs k ≡ None)
+
+get_last : (xs : List ℤ) (z : ℤ) → slice_get (xs ++ z ∷ []) (length xs) ≡ Some z
+get_last [] z = refl
+get_last (x ∷ xs) z = get_last xs z
+
+get_set : (xs : List ℤ) (k : ℕ) (z : ℤ) → MayBeAt (slice_set xs k z) k z
+get_set [] k z = inr refl
+get_set (x ∷ xs) zero z = inl refl
+get_set (x ∷ xs) (suc k) z = get_set xs k z
+
+-- a form of one variable alone
+alone_value : (c k : ℤ) (n x : ℕ) (u : List ℤ) (z : ℤ) → n ≡ length u → MayBeAt u x z
+    → (let f : Form = record { constant = k; coefficients = slice_set (replicate n (pos 0)) x c } in (form_value f u ≡ k +ℤ (c *ℤ z)) ⊎ (form_value f u ≡ k +ℤ pos 0))
+alone_value c k n x u z e (inl there) = inl (ap (λ (y : ℤ). k +ℤ y) (product_at c n x u z e there))
+alone_value c k n x u z e (inr out) = inr (ap (λ (y : ℤ). k +ℤ y) (product_out c n x u out))
+
+above_holds : (w z : ℤ) → least_of Int ≤ℤ z → (w ≡ pos 2147483648 +ℤ (pos 1 *ℤ z)) ⊎ (w ≡ pos 2147483648 +ℤ pos 0) → pos 0 ≤ℤ w
+above_holds w z low (inl e) = let one : pos 1 *ℤ z ≡ z = ring (v (pos 1) ⊗ v z) (v z) (omega arith) in rw (e, one) (omega (arith, ints, low))
+above_holds w z low (inr e) = rw e (omega (arith, ints))
+
+below_holds : (w z : ℤ) → z ≤ℤ pos 2147483647 → (w ≡ pos 2147483647 +ℤ (negsuc 0 *ℤ z)) ⊎ (w ≡ pos 2147483647 +ℤ pos 0) → pos 0 ≤ℤ w
+below_holds w z high (inl e) = rw (e, ← minus_is (pos 2147483647) z) (omega (arith, ints, high))
+below_holds w z high (inr e) = rw e (omega (arith, ints))
+
+-- what gives a variable a number of its type passes the tests behind it
+within_type_keeps : (t : NumberType) (p : Moves) (n : ℕ) (s u : List ℤ) (x : ℕ) (z : ℤ) → n ≡ length u → MayBeAt u x z → fits t z ≡ true → MayLead p s u → MayLead (within_type t n x p) s u
+within_type_keeps Long p n s u x z e there fit led = led
+within_type_keeps Int p n s u x z e there fit led =
+    let between = limits_of Int z fit in
+    let low = above_holds (form_value (above_least Int n x) u) z between.0 (alone_value (pos 1) (pos 2147483648) n x u z e there) in
+    let high = below_holds (form_value (below_greatest Int n x) u) z between.1 (alone_value (negsuc 0) (pos 2147483647) n x u z e there) in
+    (u, led, (u, (low, refl), (high, refl)))
+
+last_long : (xs : List ℤ) (z : ℤ) → suc (length xs) ≡ length (xs ++ z ∷ [])
+last_long xs z = let one : suc (length xs) ≡ length xs + 1 = omega arith in one ∙ sym (length-append xs (z ∷ []))
 
 -- least changes ---------------------------------------------------------------------------------------------------------
 
@@ -65,60 +121,95 @@ set_last [] z = refl
 set_last (x ∷ xs) z = ap (λ (ys : List ℤ). x ∷ ys) (set_last xs z)
 
 -- a new variable with the value of an argument that is evaluated without the variables behind
-argument_leads : (s : Scene) (e : Expr) (more draws left : List ℤ) (z : ℤ) → value_of e s draws ≡ Some (z, left)
-    → (let all : List ℤ = s.store ++ more in MayLead (append_set (length all) (linear.form_of (suc (length all)) s.base e)) all (all ++ z ∷ []))
-argument_leads s e more draws left z ran =
+argument_leads : (s : Scene) (t : NumberType) (e : Expr) (more draws left : List ℤ) (z : ℤ) → value_of e s draws ≡ Some (z, left) → fits t z ≡ true
+    → (let all : List ℤ = s.store ++ more in MayLead (within_type t (suc (length all)) (length all) (append_set (length all) (linear.form_of (suc (length all)) s.base e))) all (all ++ z ∷ []))
+argument_leads s t e more draws left z ran fit =
     let all = s.store ++ more in
     let next = all ++ z ∷ [] in
-    let long : length next ≡ suc (length all) = length-append all (z ∷ []) ∙ (let one : length all + 1 ≡ suc (length all) = omega arith in one) in
+    let long : length next ≡ suc (length all) = sym (last_long all z) in
     let longer_yet : value_of e (record s { store = next }) draws ≡ Some (z, left) =
     subst (λ (xs : List ℤ). value_of e (record s { store = xs }) draws ≡ Some (z, left)) (sym (append_assoc s.store more (z ∷ []))) (value_longer e s (more ++ z ∷ []) draws (z, left) ran) in
     let led : Leads (set_to (length all) (linear.form_of (length next) s.base e)) next (slice_set next (length all) z) =
     set_leads (record s { store = next }) (length all) e draws left z (linear.form_of (length next) s.base e) refl longer_yet in
     let there : Leads (set_to (length all) (linear.form_of (suc (length all)) s.base e)) next (slice_set next (length all) z) =
     subst (λ (n : ℕ). Leads (set_to (length all) (linear.form_of n s.base e)) next (slice_set next (length all) z)) long led in
+    within_type_keeps t (append_set (length all) (linear.form_of (suc (length all)) s.base e)) (suc (length all)) all next (length all) z (last_long all z) (inl (get_last all z)) fit
     (next, (z ∷ [], refl, refl), subst (λ (xs : List ℤ). Leads (set_to (length all) (linear.form_of (suc (length all)) s.base e)) next xs) (set_last all z) there)
 
-arguments_lead : (s : Scene) (es : List Expr) (more draws : List ℤ) (r : List ℤ × List ℤ) → values_of es s draws ≡ Some r
-    → (let all : List ℤ = s.store ++ more in MayLead (push_all (length all) s.base es) all (all ++ r.0))
+arguments_lead : (s : Scene) (given : List Argument) (more draws : List ℤ) (r : List ℤ × List ℤ) → values_of given s draws ≡ Some r
+    → (let all : List ℤ = s.store ++ more in MayLead (push_all (length all) s.base given) all (all ++ r.0))
 arguments_lead s [] more draws r is =
     let p : List ℤ × List ℤ = ([], draws) in
     let none : [] ≡ r.0 = pair_first p r is in
     subst (λ (xs : List ℤ). (s.store ++ more) ++ xs ≡ s.store ++ more) none (append-nil (s.store ++ more))
-arguments_lead s (e ∷ es) more draws r is =
-    let (p, got, to) = bind_some (value_of e s draws) (λ p. values_of es s p.1 >>= λ q. Some (p.0 ∷ q.0, q.1)) r is in
-    let (q, got_too, last) = bind_some (values_of es s p.1) (λ q. Some (p.0 ∷ q.0, q.1)) r to in
-    let both : List ℤ × List ℤ = (p.0 ∷ q.0, q.1) in
-    let same : p.0 ∷ q.0 ≡ r.0 = pair_first both r last in
+arguments_lead s (a ∷ rest) more draws r is =
+    let (p, got, on) = bind_some (value_of a.value s draws) (λ p. number a.number_type p.0 >>= λ z. values_of rest s p.1 >>= λ q. Some (z ∷ q.0, q.1)) r is in
+    let (z, held, to) = bind_some (number a.number_type p.0) (λ z. values_of rest s p.1 >>= λ q. Some (z ∷ q.0, q.1)) r on in
+    let (q, got_too, last) = bind_some (values_of rest s p.1) (λ q. Some (z ∷ q.0, q.1)) r to in
+    let both : List ℤ × List ℤ = (z ∷ q.0, q.1) in
+    let is_z : p.0 ≡ z = number_same a.number_type p.0 z held in
+    let same : p.0 ∷ q.0 ≡ r.0 = ap (λ (y : ℤ). y ∷ q.0) is_z ∙ pair_first both r last in
+    let fit : fits a.number_type p.0 ≡ true = subst (λ (y : ℤ). fits a.number_type y ≡ true) (sym is_z) (number_fits a.number_type p.0 z held) in
     let all = s.store ++ more in
     let next = all ++ p.0 ∷ [] in
-    let long : length next ≡ suc (length all) = length-append all (p.0 ∷ []) ∙ (let one : length all + 1 ≡ suc (length all) = omega arith in one) in
-    let later : MayLead (push_all (length next) s.base es) next (next ++ q.0) =
-    subst (λ (xs : List ℤ). MayLead (push_all (length xs) s.base es) xs (xs ++ q.0)) (sym (append_assoc s.store more (p.0 ∷ []))) (arguments_lead s es (more ++ p.0 ∷ []) p.1 q got_too) in
-    let then_later : MayLead (push_all (suc (length all)) s.base es) next (next ++ q.0) = subst (λ (n : ℕ). MayLead (push_all n s.base es) next (next ++ q.0)) long later in
+    let long : length next ≡ suc (length all) = sym (last_long all p.0) in
+    let later : MayLead (push_all (length next) s.base rest) next (next ++ q.0) =
+    subst (λ (xs : List ℤ). MayLead (push_all (length xs) s.base rest) xs (xs ++ q.0)) (sym (append_assoc s.store more (p.0 ∷ []))) (arguments_lead s rest (more ++ p.0 ∷ []) p.1 q got_too) in
+    let then_later : MayLead (push_all (suc (length all)) s.base rest) next (next ++ q.0) = subst (λ (n : ℕ). MayLead (push_all n s.base rest) next (next ++ q.0)) long later in
     let ended : next ++ q.0 ≡ all ++ r.0 = append_assoc all (p.0 ∷ []) q.0 ∙ ap (λ (xs : List ℤ). all ++ xs) same in
-    (next, argument_leads s e more draws p.1 p.0 got, subst (λ (xs : List ℤ). MayLead (push_all (suc (length all)) s.base es) next xs) ended then_later)
+    (next, argument_leads s a.number_type a.value more draws p.1 p.0 got fit, subst (λ (xs : List ℤ). MayLead (push_all (suc (length all)) s.base rest) next xs) ended then_later)
 
--- a variable that gets any number, where there is one
-any_leads : (x : Option ℕ) (s t : State) (o : Drawn ℤ) → receive x s o ≡ Some t → (z : ℤ) × (put x z s.store ≡ t.store)
-any_leads x s t None is = cc
-any_leads x s t (Some r) is = (r.0, store_is (record s { store = put x r.0 s.store; draws = r.1 }) t is)
+-- what a receiver takes
+record Received (x : Receiver) (s t : State) (o : Drawn ℤ) : Type 0 where
+  drawn : ℤ × List ℤ
+  is : o ≡ Some drawn
+  accepted : target_accepts x.target drawn.0 ≡ true
+  stored : put x.target drawn.0 s.store ≡ t.store
 
-given_leads : (base x : ℕ) (e : Expr) (s t : State) (o : Drawn ℤ) → value_of e (scene_at base s) s.draws ≡ o → receive (Some x) s o ≡ Some t
-    → Leads (set_to x (linear.form_of (length s.store) base e)) s.store t.store
-given_leads base x e s t None ran is = cc
-given_leads base x e s t (Some r) ran is =
-    subst (λ (xs : List ℤ). Leads (set_to x (linear.form_of (length s.store) base e)) s.store xs) (store_is (record s { store = slice_set s.store x r.0; draws = r.1 }) t is)
-    (set_leads (scene_at base s) x e s.draws r.1 r.0 (linear.form_of (length s.store) base e) refl ran)
+received : (x : Receiver) (s t : State) (o : Drawn ℤ) → receive x s o ≡ Some t → Received x s t o
+received x s t None e = cc
+received x s t (Some r) e = by (accepts x r.0) refl e
+  where
+    by : (b : Bool) → accepts x r.0 ≡ b → kept_if true b (record s { store = put x.target r.0 s.store; draws = r.1 }) ≡ Some t → Received x s t (Some r)
+    by true ok h = record {
+      drawn = r;
+      is = refl;
+      accepted = (and_parts (lets_through x.way r.0) (target_accepts x.target r.0) ok).1;
+      stored = store_is (record s { store = put x.target r.0 s.store; draws = r.1 }) t h;
+    }
+    by false ok h = cc
 
-pushed_leads : (base : ℕ) (es : List Expr) (s t : State) (o : Drawn (List ℤ)) → values_of es (scene_at base s) s.draws ≡ o → pushed s o ≡ Some t
-    → MayLead (push_all (length s.store) base es) s.store t.store
-pushed_leads base es s t None ran is = cc
-pushed_leads base es s t (Some r) ran is =
+-- the target, where there is one, gets a number of its type
+target_leads : (o : Option Target) (f : Option Form) (store : List ℤ) (z : ℤ) → target_accepts o z ≡ true → ((x : ℕ) → Leads (set_to x f) store (slice_set store x z))
+    → MayLead (set_target (length store) o f) store (put o z store)
+target_leads None f store z ok led = refl
+target_leads (Some t) f store z ok led = within_type_keeps t.number_type (make (set_to t.place f)) (length store) store (slice_set store t.place z) t.place z (sym (set_length store t.place z))
+    (get_set store t.place z) ok (led t.place)
+
+given_leads : (base : ℕ) (x : Receiver) (e : Expr) (s t : State) → receive x s (value_of e (scene_at base s) s.draws) ≡ Some t
+    → MayLead (set_target (length s.store) x.target (linear.form_of (length s.store) base e)) s.store t.store
+given_leads base x e s t is =
+    let r = received x s t (value_of e (scene_at base s) s.draws) is in
+    let f = linear.form_of (length s.store) base e in
+    subst (λ (xs : List ℤ). MayLead (set_target (length s.store) x.target f) s.store xs) r.stored
+    (target_leads x.target f s.store r.drawn.0 r.accepted (λ k. set_leads (scene_at base s) k e s.draws r.drawn.1 r.drawn.0 f refl r.is))
+
+any_leads : (o : Option Target) (x : Receiver) (s t : State) → x.target ≡ o → drawn_for o x s ≡ Some t → MayLead (set_target (length s.store) o None) s.store t.store
+any_leads None x s t same is = sym (store_is s t is)
+any_leads (Some y) x s t same is =
+    let r = received x s t (draw s.draws) is in
+    let stored : put (Some y) r.drawn.0 s.store ≡ t.store = subst (λ (o : Option Target). put o r.drawn.0 s.store ≡ t.store) same r.stored in
+    subst (λ (xs : List ℤ). MayLead (set_target (length s.store) (Some y) None) s.store xs) stored
+    (target_leads (Some y) None s.store r.drawn.0 (subst (λ (o : Option Target). target_accepts o r.drawn.0 ≡ true) same r.accepted) (λ k. (r.drawn.0, refl)))
+
+pushed_leads : (base : ℕ) (given : List Argument) (s t : State) (o : Drawn (List ℤ)) → values_of given (scene_at base s) s.draws ≡ o → pushed s o ≡ Some t
+    → MayLead (push_all (length s.store) base given) s.store t.store
+pushed_leads base given s t None ran is = cc
+pushed_leads base given s t (Some r) ran is =
     let store = s.store in
-    let lead : MayLead (push_all (length (store ++ [])) base es) (store ++ []) ((store ++ []) ++ r.0) = arguments_lead (scene_at base s) es [] s.draws r ran in
-    let same : MayLead (push_all (length store) base es) store (store ++ r.0) = subst (λ (xs : List ℤ). MayLead (push_all (length xs) base es) xs (xs ++ r.0)) (append-nil store) lead in
-    subst (λ (xs : List ℤ). MayLead (push_all (length store) base es) store xs) (store_is (record s { store = store ++ r.0; draws = r.1 }) t is) same
+    let lead : MayLead (push_all (length (store ++ [])) base given) (store ++ []) ((store ++ []) ++ r.0) = arguments_lead (scene_at base s) given [] s.draws r ran in
+    let same : MayLead (push_all (length store) base given) store (store ++ r.0) = subst (λ (xs : List ℤ). MayLead (push_all (length xs) base given) xs (xs ++ r.0)) (append-nil store) lead in
+    subst (λ (xs : List ℤ). MayLead (push_all (length store) base given) store xs) (store_is (record s { store = store ++ r.0; draws = r.1 }) t is) same
 
 take_all : (xs : List ℤ) (n : ℕ) → length xs ≤ n → take n xs ≡ xs
 take_all [] zero h = refl
@@ -148,15 +239,37 @@ test_leads base c false s t (Some (true, left)) ran is = cc
 
 -- the moves of a least change lead where it leads
 pub op_leads : (op : Op) (s t : State) → run_op op s ≡ Some t → MayLead (moves_of (length s.store) op) s.store t.store
-op_leads append s t is =
-    let (r, got, to) = bind_some (draw s.draws) (λ r. Some (record s { store = s.store ++ r.0 ∷ []; draws = r.1 })) t is in
-    (r.0 ∷ [], refl, sym (store_is (record s { store = s.store ++ r.0 ∷ []; draws = r.1 }) t to))
-op_leads (give base None e) s t is = sym (any_leads None s t (value_of e (scene_at base s) s.draws) is).1
-op_leads (give base (Some x) e) s t is = given_leads base x e s t (value_of e (scene_at base s) s.draws) refl is
-op_leads (give_any None) s t is = sym (store_is s t is)
-op_leads (give_any (Some x)) s t is = let any = any_leads (Some x) s t (draw s.draws) is in (any.0, sym any.1)
-op_leads (push base es) s t is = pushed_leads base es s t (values_of es (scene_at base s) s.draws) refl is
+op_leads (append x) s t is =
+    let (r, got, on) = bind_some (draw s.draws) (λ r. number x r.0 >>= λ z. Some (record s { store = s.store ++ z ∷ []; draws = r.1 })) t is in
+    let (z, held, to) = bind_some (number x r.0) (λ z. Some (record s { store = s.store ++ z ∷ []; draws = r.1 })) t on in
+    let next = s.store ++ z ∷ [] in
+    subst (λ (xs : List ℤ). MayLead (moves_of (length s.store) (append x)) s.store xs) (store_is (record s { store = next; draws = r.1 }) t to)
+    (within_type_keeps x (make (embed 1)) (suc (length s.store)) s.store next (length s.store) z (last_long s.store z) (inl (get_last s.store z)) (number_fits x r.0 z held) (z ∷ [], refl, refl))
+op_leads (give base x e) s t is = given_leads base x e s t is
+op_leads (give_any x) s t is = any_leads x.target x s t refl is
+op_leads (push base given) s t is = pushed_leads base given s t (values_of given (scene_at base s) s.draws) refl is
 op_leads (keep n) s t is =
     subst (λ (xs : List ℤ). MayLead (drop_last (length s.store - n)) s.store xs) (store_is (record s { store = take n s.store }) t is)
     (dropped_leads s.store n (length s.store - n) refl)
 op_leads (step.test base c wanted) s t is = test_leads base c wanted s t (truth_of c (scene_at base s) s.draws) refl is
+
+-- globals ----------------------------------------------------------------------------------------------------------------
+
+constant_is : (s : List ℤ) (z : ℤ) → (let next : List ℤ = s ++ z ∷ [] in next ≡ slice_set next (length s) (form_value (linear.constant_form (suc (length s)) z) next))
+constant_is s z = let next = s ++ z ∷ [] in
+    sym (ap (λ (y : ℤ). slice_set next (length s) y) (constant_form_value (suc (length s)) z next) ∙ set_last s z)
+
+-- from any store the first values follow it
+pub first_lead : (gs : List GlobalVariable) → AreGoodGlobals gs → (s : List ℤ) → MayLead (first_values (length s) gs) s (s ++ map (λ (g : GlobalVariable). g.value) gs)
+first_lead [] good s = append-nil s
+first_lead (g ∷ gs) good s =
+    let z = g.value in
+    let next = s ++ z ∷ [] in
+    let rest : List ℤ = map (λ (g : GlobalVariable). g.value) gs in
+    let p = append_set (length s) (Some (linear.constant_form (suc (length s)) z)) in
+    let later : MayLead (first_values (suc (length s)) gs) next (next ++ rest) =
+    subst (λ (n : ℕ). MayLead (first_values n gs) next (next ++ rest)) (sym (last_long s z)) (first_lead gs good.1 next) in (
+      next,
+      within_type_keeps g.number_type p (suc (length s)) s next (length s) z (last_long s z) (inl (get_last s z)) good.0 (next, (z ∷ [], refl, refl), constant_is s z),
+      subst (λ (xs : List ℤ). MayLead (first_values (suc (length s)) gs) next xs) (append_assoc s (z ∷ []) rest) later,
+    )

@@ -4,12 +4,19 @@
 use Rattle.std.proofs.Common.{◌≡◌, ℕ, zero, suc, ◌-◌, ℤ, List, [], ◌∷◌, ◌++◌, Option, None, Some, Bool, true, false, refl, sym, ap, subst, ◌∙◌}
 use Rattle.std.specs.Prelude.{◌↔◌, not}
 use Rattle.lra_base.specs.Operators.{Comparison, below, at_most, above, at_least, equal, differs}
-use Rattle.lra_domain.specs.Actions.{Action, forget, embed, remove_last}
+use Rattle.lra_domain.specs.Actions as action
+use Rattle.lra_domain.specs.Actions.{Action, embed, remove_last}
 use Rattle.lra_domain.specs.Meaning.{worse}
 use Rattle.lra_domain.specs.declared.Exactness.{Exactness}
 use Rattle.lra_domain.specs.declared.Exactness.TheVariants.{Exact}
 use Rattle.lra_lin.specs.Form.{Form}
 use Rattle.lra_lin.specs.declared.test.Test.{Test}
+use Rattle.lra_base.specs.declared.number_types.NumberType.TheVariants.{Int, Long}
+use Rattle.lra_base.specs.declared.number_types.NumberType.{NumberType}
+use Rattle.lra_linear.specs.declared.ConKind.TheVariants.{Ge}
+use Rattle.lra_program.specs.declared.program.GlobalVariable.{GlobalVariable}
+use Rattle.lra_program.specs.declared.receivers.Target.{Target}
+use Rattle.lra_program.specs.Value.{Argument}
 use Rattle.lra_program.specs.Program.{Expr, literal, Cond, compare, nonzero, opposite, both_of, either_of}
 use Rattle.lra_program.specs.Step.{Op, append, give, give_any, push, keep, test}
 use Rattle.lra_flow.specs.Linear as linear
@@ -17,38 +24,44 @@ use Rattle.lra_flow.specs.Linear.{comparison_test, difference_form}
 use Rattle.lra_flow.specs.Operations.{Operations}
 use Rattle.lra_flow.specs.Given.{comparison_rows, inequalities, given_rows, guard_rows}
 use Rattle.lra_flow.proofs.Takes.{worse_exact, worse_worse, stay_takes, then_takes, join_takes, takes_made}
-use Rattle.lra_domain.specs.Moves.{Moves, stay, first_then, join_of}
+use Rattle.lra_domain.specs.Moves.{Moves, stay, make, first_then, join_of}
 use Rattle.lra_flow.specs.Moves.{AreMade, Takes}
-use Rattle.lra_flow.specs.MovesOf.{opposite_comparison, comparison_as, tested, test_moves, comparison_moves, guard, set_to, append_set, push_all, drop_last, first_values}
+use Rattle.lra_flow.specs.MovesOf.{opposite_comparison, comparison_as, tested, test_moves, comparison_moves, guard, above_least, below_greatest, within_type, set_to, append_set, push_all, set_target, drop_last, first_values}
 use Rattle.lra_flow.specs.Pass.{Leaves, Changes}
 
 -- as it was said -------------------------------------------------------------------------------------------------------
 
--- a least change other than a condition, as a list of actions
+-- a least change other than a condition, as a list of actions; behind what gives an `int` its value two tests
+abbrev pub within_steps : NumberType → ℕ → ℕ → List Action → List Action
+within_steps Long live x steps = steps
+within_steps Int live x steps = steps ++ action.test Ge (above_least Int live x) ∷ action.test Ge (below_greatest Int live x) ∷ []
+
 abbrev pub set_last : ℕ → Option Form → List Action
 set_last live f = embed 1 ∷ set_to live f ∷ []
 
-abbrev pub all_pushed : ℕ → ℕ → List Expr → List Action
+abbrev pub all_pushed : ℕ → ℕ → List Argument → List Action
 all_pushed live base [] = []
-all_pushed live base (e ∷ es) = set_last live (linear.form_of (suc live) base e) ++ all_pushed (suc live) base es
+all_pushed live base (a ∷ rest) = within_steps a.number_type (suc live) live (set_last live (linear.form_of (suc live) base a.value)) ++ all_pushed (suc live) base rest
 
 abbrev pub last_dropped : ℕ → List Action
 last_dropped zero = []
 last_dropped (suc k) = remove_last (suc k) ∷ []
 
+abbrev pub target_steps : ℕ → Option Target → Option Form → List Action
+target_steps live None f = []
+target_steps live (Some t) f = within_steps t.number_type live t.place (set_to t.place f ∷ [])
+
 abbrev pub actions_of : ℕ → Op → List Action
-actions_of live append = embed 1 ∷ []
-actions_of live (give base None e) = []
-actions_of live (give base (Some x) e) = set_to x (linear.form_of live base e) ∷ []
-actions_of live (give_any None) = []
-actions_of live (give_any (Some x)) = forget x ∷ []
-actions_of live (push base es) = all_pushed live base es
+actions_of live (append t) = within_steps t (suc live) live (embed 1 ∷ [])
+actions_of live (give base x e) = target_steps live x.target (linear.form_of live base e)
+actions_of live (give_any x) = target_steps live x.target None
+actions_of live (push base given) = all_pushed live base given
 actions_of live (keep n) = last_dropped (live - n)
 actions_of live (test base c wanted) = []
 
-abbrev pub values_first : ℕ → List ℤ → List Action
+abbrev pub values_first : ℕ → List GlobalVariable → List Action
 values_first live [] = []
-values_first live (z ∷ zs) = set_last live (Some (linear.constant_form (suc live) z)) ++ values_first (suc live) zs
+values_first live (g ∷ gs) = within_steps g.number_type (suc live) live (set_last live (Some (linear.constant_form (suc live) g.value))) ++ values_first (suc live) gs
 
 -- a condition without `!`
 pub data Pushed : Type 0 where
@@ -63,7 +76,7 @@ atom_of false op a b = atom (opposite_comparison op) a b
 
 abbrev pub pushed : Bool → Cond → Pushed
 pushed wanted (compare op a b) = atom_of wanted op a b
-pushed wanted (nonzero e) = atom_of wanted differs e (literal 0)
+pushed wanted (nonzero e) = atom_of wanted differs e (literal Int 0)
 pushed wanted (opposite c) = pushed (not wanted) c
 pushed true (both_of a b) = behind (pushed true a) (pushed true b)
 pushed false (both_of a b) = one_or (pushed false a) (pushed true a) (pushed false b)
@@ -122,25 +135,63 @@ module _ (V H : Type 0) (ops : Operations V H) where
         subst (λ (y : V). ops.changed step v e y) (sym same) (subst (λ (a : Exactness). ops.changed step v a x) (sym so) one),
   )
 
-  -- a new variable with its value, and what comes behind it
-  set_then : (live : ℕ) (f : Option Form) (p : Moves) (steps : List Action) → ((v : V) (e : Exactness) (w : V) → AreMade ops p v e w ↔ Done steps v e w)
-      → (v : V) (e : Exactness) (w : V) → AreMade ops (first_then (append_set live f) p) v e w ↔ Done (set_last live f ++ steps) v e w
-  set_then live f p steps agree v e w = (
-    λ (x, c, d, (y, a, b, one, two, inner), rest, is).
-        (y, a, worse b d, one, (x, b, d, two, (agree x d w).0 rest, refl), is ∙ ap (λ (z : Exactness). worse z d) inner ∙ worse_worse a b d),
-    λ (y, a, c, one, (x, b, d, two, rest, inner), is).
-        (x, worse a b, d, (y, a, b, one, two, refl), (agree x d w).1 rest, is ∙ ap (worse a) inner ∙ sym (worse_worse a b d)),
+  -- one list behind the other
+  split : (before later : List Action) (v : V) (e : Exactness) (w : V) → Done (before ++ later) v e w ↔
+      ((x : V) × (c d : Exactness) × Done before v c x × Done later x d w × (e ≡ worse c d))
+  split [] later v e w = (
+    λ h. (v, Exact, e, (refl, refl), h, refl),
+    λ (x, c, d, (same, exact), rest, is).
+        let so : d ≡ e = sym (is ∙ ap (λ (z : Exactness). worse z d) exact) in
+        subst (λ (y : V). Done later y e w) same (subst (λ (z : Exactness). Done later x z w) so rest),
+  )
+  split (step ∷ before) later v e w = (
+    λ (x, c, d, one, rest, is).
+        let (y, f, g, most, last, inner) = (split before later x d w).0 rest in
+        (y, worse c f, g, (x, c, f, one, most, refl), last, is ∙ ap (worse c) inner ∙ sym (worse_worse c f g)),
+    λ (y, h, g, (x, c, f, one, most, inner), last, is).
+        (x, c, worse f g, one, (split before later x (worse f g) w).1 (y, f, g, most, last, refl), is ∙ ap (λ (z : Exactness). worse z g) inner ∙ worse_worse c f g),
   )
 
-  push_agrees : (live base : ℕ) (es : List Expr) (v : V) (e : Exactness) (w : V) → AreMade ops (push_all live base es) v e w ↔ Done (all_pushed live base es) v e w
-  push_agrees live base [] v e w = (λ h. h, λ h. h)
-  push_agrees live base (x ∷ xs) v e w =
-      set_then live (linear.form_of (suc live) base x) (push_all (suc live) base xs) (all_pushed (suc live) base xs) (push_agrees (suc live) base xs) v e w
+  -- the moves are made where the actions are done
+  abbrev Agree : Moves → List Action → Type 0
+  Agree p steps = (v : V) (e : Exactness) (w : V) → AreMade ops p v e w ↔ Done steps v e w
 
-  pub first_agrees : (live : ℕ) (zs : List ℤ) (v : V) (e : Exactness) (w : V) → AreMade ops (first_values live zs) v e w ↔ Done (values_first live zs) v e w
+  then_agree : (p q : Moves) (before later : List Action) → Agree p before → Agree q later → Agree (first_then p q) (before ++ later)
+  then_agree p q before later a b v e w = (
+    λ (x, c, d, one, two, is). (split before later v e w).1 (x, c, d, (a v c x).0 one, (b x d w).0 two, is),
+    λ h.
+        let (x, c, d, one, two, is) = (split before later v e w).0 h in
+        (x, c, d, (a v c x).1 one, (b x d w).1 two, is),
+  )
+
+  within_agree : (t : NumberType) (live x : ℕ) (p : Moves) (steps : List Action) → Agree p steps → Agree (within_type t live x p) (within_steps t live x steps)
+  within_agree Long live x p steps a = a
+  within_agree Int live x p steps a =
+      let low = action.test Ge (above_least Int live x) in
+      let high = action.test Ge (below_greatest Int live x) in
+      then_agree p (first_then (make low) (make high)) steps (low ∷ high ∷ []) a (then_agree (make low) (make high) (low ∷ []) (high ∷ []) (one_made low) (one_made high))
+
+  -- a new variable with its value
+  set_agrees : (live : ℕ) (f : Option Form) → Agree (append_set live f) (set_last live f)
+  set_agrees live f = then_agree (make (embed 1)) (make (set_to live f)) (embed 1 ∷ []) (set_to live f ∷ []) (one_made (embed 1)) (one_made (set_to live f))
+
+  push_agrees : (live base : ℕ) (given : List Argument) → Agree (push_all live base given) (all_pushed live base given)
+  push_agrees live base [] v e w = (λ h. h, λ h. h)
+  push_agrees live base (a ∷ rest) v e w =
+      let f = linear.form_of (suc live) base a.value in
+      then_agree (within_type a.number_type (suc live) live (append_set live f)) (push_all (suc live) base rest) (within_steps a.number_type (suc live) live (set_last live f))
+      (all_pushed (suc live) base rest) (within_agree a.number_type (suc live) live (append_set live f) (set_last live f) (set_agrees live f)) (push_agrees (suc live) base rest) v e w
+
+  target_agrees : (live : ℕ) (o : Option Target) (f : Option Form) → Agree (set_target live o f) (target_steps live o f)
+  target_agrees live None f v e w = (λ h. h, λ h. h)
+  target_agrees live (Some t) f v e w = within_agree t.number_type live t.place (make (set_to t.place f)) (set_to t.place f ∷ []) (one_made (set_to t.place f)) v e w
+
+  pub first_agrees : (live : ℕ) (gs : List GlobalVariable) → Agree (first_values live gs) (values_first live gs)
   first_agrees live [] v e w = (λ h. h, λ h. h)
-  first_agrees live (z ∷ zs) v e w =
-      set_then live (Some (linear.constant_form (suc live) z)) (first_values (suc live) zs) (values_first (suc live) zs) (first_agrees (suc live) zs) v e w
+  first_agrees live (g ∷ gs) v e w =
+      let f = Some (linear.constant_form (suc live) g.value) in
+      then_agree (within_type g.number_type (suc live) live (append_set live f)) (first_values (suc live) gs) (within_steps g.number_type (suc live) live (set_last live f))
+      (values_first (suc live) gs) (within_agree g.number_type (suc live) live (append_set live f) (set_last live f) (set_agrees live f)) (first_agrees (suc live) gs) v e w
 
   drop_agrees : (k : ℕ) (v : V) (e : Exactness) (w : V) → AreMade ops (drop_last k) v e w ↔ Done (last_dropped k) v e w
   drop_agrees zero v e w = (λ h. h, λ h. h)
@@ -215,7 +266,7 @@ module _ (V H : Type 0) (ops : Operations V H) where
 
     guard_agrees : (c : Cond) (wanted : Bool) → Agrees (pushed wanted c) (guard live base wanted c)
     guard_agrees (compare op a b) wanted = atom_agrees wanted op a b
-    guard_agrees (nonzero e) wanted = atom_agrees wanted differs e (literal 0)
+    guard_agrees (nonzero e) wanted = atom_agrees wanted differs e (literal Int 0)
     guard_agrees (opposite c) wanted = guard_agrees c (not wanted)
     guard_agrees (both_of a b) true = both_agree true a b (guard_agrees a true) (guard_agrees b true)
     guard_agrees (both_of a b) false = one_agrees false a b (guard_agrees a false) (guard_agrees a true) (guard_agrees b false)
@@ -244,12 +295,10 @@ module _ (V H : Type 0) (ops : Operations V H) where
       (λ h. agree.1 (e, h, refl), λ h. takes_made ops (guard (ops.dims v) base wanted c) v w e (agree.0 h))
 
   pub changes_agree : (op : Op) (v : V) (e : Exactness) (w : V) → Changes ops op v e w ↔ DoesChange V H ops op v e w
-  changes_agree append v e w = one_made V H ops (embed 1) v e w
-  changes_agree (give base None x) v e w = (λ h. h, λ h. h)
-  changes_agree (give base (Some x) y) v e w = one_made V H ops (set_to x (linear.form_of (ops.dims v) base y)) v e w
-  changes_agree (give_any None) v e w = (λ h. h, λ h. h)
-  changes_agree (give_any (Some x)) v e w = one_made V H ops (forget x) v e w
-  changes_agree (push base es) v e w = push_agrees V H ops (ops.dims v) base es v e w
+  changes_agree (append t) v e w = within_agree V H ops t (suc (ops.dims v)) (ops.dims v) (make (embed 1)) (embed 1 ∷ []) (one_made V H ops (embed 1)) v e w
+  changes_agree (give base x y) v e w = target_agrees V H ops (ops.dims v) x.target (linear.form_of (ops.dims v) base y) v e w
+  changes_agree (give_any x) v e w = target_agrees V H ops (ops.dims v) x.target None v e w
+  changes_agree (push base given) v e w = push_agrees V H ops (ops.dims v) base given v e w
   changes_agree (keep n) v e w = drop_agrees V H ops (ops.dims v - n) v e w
   changes_agree (test base c wanted) v e w = leaves_agree base c wanted v e w
 

@@ -1,5 +1,6 @@
 -- Moves of conditions. Which slip an example would catch stands beside it.
 use Rattle.std.proofs.Common.{◌≡◌, ℤ, pos, negsuc, [], ◌∷◌, true, false, refl, inr}
+use Rattle.lra_program.proofs.RunExamples.{long_variable}
 use Rattle.lra_program.specs.Program.{local, Expr, read, input, compare, nonzero, opposite, both_of, either_of}
 use Rattle.lra_base.specs.Operators.{below, equal, differs}
 use Rattle.lra_linear.specs.declared.ConKind.TheVariants.{Ge, Eq}
@@ -9,10 +10,10 @@ use Rattle.lra_flow.specs.MovesOf.{guard}
 
 -- two live variables
 abbrev x : Expr
-x = read (local 0)
+x = read (long_variable (local 0))
 
 abbrev y : Expr
-y = read (local 1)
+y = read (long_variable (local 1))
 
 -- c + a*x + b*y >= 0, or = 0
 abbrev at_least_0 : ℤ → ℤ → ℤ → Action

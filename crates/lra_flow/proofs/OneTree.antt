@@ -1,6 +1,9 @@
 -- A program has one tree of operations: the statement, where it stands and the points behind it leave no choice.
-use Rattle.std.proofs.Common.{◌≡◌, ◌∙◌, ℕ, suc, List, Option, Some, None, refl, sym, ap, subst}
+use Rattle.std.proofs.Common.{◌≡◌, ◌∙◌, ℕ, suc, List, length, Option, Some, None, refl, sym, ap, subst}
 use Rattle.std.proofs.lemmas.Option.{same_Some, none-some}
+use Rattle.lra_base.specs.declared.number_types.NumberType.{NumberType}
+use Rattle.lra_program.specs.declared.receivers.Receiver.{Receiver}
+use Rattle.lra_program.specs.Receivers.{variable_at, behind_result}
 use Rattle.lra_program.specs.Program.{Call, Rvalue, Stmt, BlockItems, Function, Program}
 use Rattle.lra_program.specs.Step.{Back}
 use Rattle.lra_program.specs.Value.{index_of}
@@ -25,7 +28,8 @@ inside s t l q r a b = rw (a, b) refl
 inside_live : (s t : Spot) (q r : ℕ) → s ≡ t → q ≡ r → within s (Some s.live) q ≡ within t (Some t.live) r
 inside_live s t q r a b = rw (a, b) refl
 
-called : (s t : Spot) (x y : Option ℕ) (i j : ℕ) (c : Call) (f g : Function) → s ≡ t → x ≡ y → i ≡ j → f ≡ g → into_callee s x c f.parameters i ≡ into_callee t y c g.parameters j
+called : (s t : Spot) (x y : Receiver) (i j : ℕ) (c : Call) (f g : Function) → s ≡ t → x ≡ y → i ≡ j → f ≡ g
+    → into_callee s (behind_result f.result_type x) c (length f.parameters) i ≡ into_callee t (behind_result g.result_type y) c (length g.parameters) j
 called s t x y i j c f g a b d e = rw (a, b, d, e) refl
 
 module _ (P : Program) (T : List Site) where
@@ -35,7 +39,7 @@ module _ (P : Program) (T : List Site) where
     one_statement z (as_block d i) (as_block e j) = let (x, y, w) = one_list z d e in rw (z, x, w) (refl, refl)
     one_statement z as_absent as_absent = rw z (refl, refl)
     one_statement z (as_assign {s = s} {x = x} i d) (as_assign {s = t} j e) =
-        let (k, l) = one_value z (ap (λ (u : Spot). suc u.next) z) (ap (λ (u : Spot). Some (index_of u.frame.here.base x)) z) d e in rw (z, k, l) (refl, refl)
+        let (k, l) = one_value z (ap (λ (u : Spot). suc u.next) z) (ap (λ (u : Spot). variable_at (index_of u.frame.here.base x.slot) x.number_type) z) d e in rw (z, k, l) (refl, refl)
     one_statement z (as_call i d) (as_call j e) = let (k, l) = one_value z (ap (λ (u : Spot). suc u.next) z) refl d e in rw (z, k, l) (refl, refl)
     one_statement z (as_if {s = s} i d k) (as_if {s = t} j e l) =
         let (x, y) = one_statement (ap (λ (u : Spot). at_point u (suc u.next)) z) d e in
@@ -52,7 +56,7 @@ module _ (P : Program) (T : List Site) where
     one_statement z (as_return_value i k d) (as_return_value j l e) = rw (same_Some _ _ (sym i ∙ ap (λ (u : Spot). u.frame.back) z ∙ j), z) (refl, refl)
     one_statement z (as_return_call i k d u) (as_return_call j l e v) =
         let b = same_Some _ _ (sym i ∙ ap (λ (u : Spot). u.frame.back) z ∙ j) in
-        let (x, y) = one_value z (ap (λ (u : Spot). suc u.next) z) (ap (λ (r : Back). r.target) b) u v in
+        let (x, y) = one_value z (ap (λ (u : Spot). suc u.next) z) (ap (λ (r : Back). r.receiver) b) u v in
         rw (z, b, x, y) (refl, refl)
     one_statement z (as_end i d) (as_end j e) = rw z (refl, refl)
     one_statement z (as_end_value i d) (as_end_value j e) = rw z (refl, refl)
@@ -112,10 +116,10 @@ module _ (P : Program) (T : List Site) where
         let (v, n, w) = one_list (moved _ _ _ _ _ _ z (ap (λ (u : Spot). u.live) z) y) k l in
         rw (x, v, n, w) (refl, refl, refl)
 
-    one_declarator : {s t : Spot} {i j : ℕ} {e : Option Rvalue} {g h : Node} {q r : ℕ} → s ≡ t → i ≡ j → Declares P T s i e g q → Declares P T t j e h r → Same g h q r
+    one_declarator : {s t : Spot} {i j : ℕ} {o : NumberType} {e : Option Rvalue} {g h : Node} {q r : ℕ} → s ≡ t → i ≡ j → Declares P T s i o e g q → Declares P T t j o e h r → Same g h q r
     one_declarator z n as_fresh as_fresh = rw (z, n) (refl, refl)
-    one_declarator z n (as_given d) (as_given e) =
-        let (x, y) = one_value (moved _ _ _ _ _ _ z (ap (λ (u : Spot). suc u.live) z) (ap (λ (u : Spot). u.next) z)) n (ap (λ (u : Spot). Some u.live) z) d e in
+    one_declarator z n (as_given {t = o} d) (as_given e) =
+        let (x, y) = one_value (moved _ _ _ _ _ _ z (ap (λ (u : Spot). suc u.live) z) (ap (λ (u : Spot). u.next) z)) n (ap (λ (u : Spot). variable_at u.live o) z) d e in
         rw (z, x, y) (refl, refl)
 
     one_loop : {s t : Spot} {i j : ℕ} {a : Stmt} {g h : Node} {q r : ℕ} → s ≡ t → i ≡ j → Loops P T s i a g q → Loops P T t j a h r → Same g h q r
@@ -124,11 +128,11 @@ module _ (P : Program) (T : List Site) where
         let (v, w) = one_statement (inside_live _ _ _ _ z y) k l in
         rw (z, x, v, w) (refl, refl)
 
-    one_value : {s t : Spot} {i j : ℕ} {x y : Option ℕ} {e : Rvalue} {g h : Node} {q r : ℕ} → s ≡ t → i ≡ j → x ≡ y → Gives P T s i x e g q → Gives P T t j y e h r → Same g h q r
+    one_value : {s t : Spot} {i j : ℕ} {x y : Receiver} {e : Rvalue} {g h : Node} {q r : ℕ} → s ≡ t → i ≡ j → x ≡ y → Gives P T s i x e g q → Gives P T t j y e h r → Same g h q r
     one_value z n k as_value as_value = rw (z, n, k) (refl, refl)
     one_value z n k (as_result {s = s} {r = i} {x = x} {c = c} {fn = fn} f a d l) (as_result {s = t} {r = j} {x = y} {fn = fn'} {g = g'} {n = n'} {q = q'} f' a' e l') =
         let m : fn ≡ fn' = same_Some _ _ (sym f ∙ f') in
-        let (o, v, w) = one_list (called s t x y i j c fn fn' z k n m) d (subst (λ (u : Function). InlAll P T (into_callee t y c fn'.parameters j) u.body g' n' q') (sym m) e) in
+        let (o, v, w) = one_list (called s t x y i j c fn fn' z k n m) d (subst (λ (u : Function). InlAll P T (into_callee t (behind_result fn'.result_type y) c (length fn'.parameters) j) u.body g' n' q') (sym m) e) in
         rw (z, k, m, o, w) (refl, refl)
 
 pub one_tree : (P : Program) (g h : Node) → IsGraph P g → IsGraph P h → g ≡ h

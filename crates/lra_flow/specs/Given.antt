@@ -4,6 +4,7 @@ use Rattle.lra_sys.specs.Listed.{Listed}
 use Rattle.lra_linear.specs.declared.ConKind.{ConKind}
 use Rattle.lra_linear.specs.declared.ConKind.TheVariants.{Ge}
 use Rattle.lra_base.specs.Operators.{Comparison, equal, differs}
+use Rattle.lra_base.specs.declared.number_types.NumberType.TheVariants.{Int}
 use Rattle.lra_program.specs.Program.{literal, Cond, compare, nonzero, opposite, both_of, either_of}
 use Rattle.lra_lin.specs.Form.{Form}
 use Rattle.lra_lin.specs.declared.test.Test.{Test}
@@ -34,7 +35,7 @@ abbrev pub guard_rows : ℕ → ℕ → Bool → Cond → List (List ℤ)
 guard_rows live base wanted (compare op a b) =
     comparison_rows (comparison_as wanted op) (difference_form live base a b)
 guard_rows live base wanted (nonzero e) =
-    comparison_rows (comparison_as wanted differs) (difference_form live base e (literal 0))
+    comparison_rows (comparison_as wanted differs) (difference_form live base e (literal Int 0))
 guard_rows live base wanted (opposite c) = guard_rows live base (not wanted) c
 guard_rows live base wanted (both_of a b) = guard_rows live base wanted a ++ guard_rows live base wanted b
 guard_rows live base wanted (either_of a b) = guard_rows live base wanted a ++ guard_rows live base wanted b

@@ -59,11 +59,25 @@ live_form live place = if nat_lt place live then Some (variable_form live place)
 -- with so many live variables, of which the call's own come behind the first `base`; none where the expression isn't
 -- linear
 abbrev pub form_of : ℕ → ℕ → Expr → Option Form
-form_of live base (literal n) = fitting (constant_form live (pos n))
-form_of live base (read v) = live_form live (index_of base v)
+form_of live base (literal t n) = fitting (constant_form live (pos n))
+form_of live base (read v) = live_form live (index_of base v.slot)
 form_of live base input = None
 form_of live base (negate e) = form_of live base e >>= λ f. scaled (negsuc 0) f
 form_of live base (binary op a b) = form_of live base a >>= λ f. form_of live base b >>= λ g. operator_form op f g
+
+-- What an operator's form has as its value, whatever fits: the exact sum, difference or product. The form of `a / b`
+-- and `a % b` isn't there.
+abbrev pub exactly : Operator → ℤ → ℤ → ℤ
+exactly plus x y = x +ℤ y
+exactly minus x y = x -ℤ y
+exactly times x y = x *ℤ y
+exactly over x y = pos 0
+exactly modulo x y = pos 0
+
+abbrev pub OperatorFormsAreExact : Type 0
+OperatorFormsAreExact = (op : Operator) (f g h : Form) (s : List ℤ) → length f.coefficients ≡ length s →
+    length g.coefficients ≡ length s → operator_form op f g ≡ Some h →
+    form_value h s ≡ exactly op (form_value f s) (form_value g s)
 
 -- of what is read in a scene
 abbrev pub form_in : Scene → Expr → Option Form

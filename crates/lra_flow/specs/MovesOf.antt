@@ -1,10 +1,19 @@
 -- The moves of a program's least changes and of its conditions, over so many live variables. An assignment of a linear
--- form assigns, any other one forgets. Conditions (Cousot and Halbwachs 1978): `!` is pushed to the comparisons; a
+-- form assigns, any other one forgets; behind each that an `int` gets, and behind its declaration, stand the tests that
+-- it lies within 32 bits. Conditions (Cousot and Halbwachs 1978): `!` is pushed to the comparisons; a
 -- comparison tests, where its difference is linear; `&&` is the one behind the other; `||` joins what the left side
 -- leaves with what the right side leaves where the left one is false.
-use Rattle.std.specs.Prelude.{ℕ, zero, suc, ◌-◌, ℤ, List, [], ◌∷◌, Bool, true, false, not, Option, None, Some}
+use Rattle.std.specs.Prelude.{ℕ, zero, suc, ◌-◌, pos, negsuc, neg_ℤ, List, [], ◌∷◌, Bool, true, false, not, Option}
+use Rattle.std.specs.Prelude.{None, Some, replicate, slice_set}
+use Rattle.lra_linear.specs.declared.ConKind.TheVariants.{Ge}
+use Rattle.lra_base.specs.declared.number_types.NumberType.{NumberType}
+use Rattle.lra_base.specs.declared.number_types.NumberType.TheVariants.{Int, Long}
+use Rattle.lra_base.specs.NumberTypes.{least_of, greatest_of}
 use Rattle.lra_base.specs.Operators.{Comparison, below, at_most, above, at_least, equal, differs}
-use Rattle.lra_program.specs.Program.{Expr, literal, Cond, compare, nonzero, opposite, both_of, either_of}
+use Rattle.lra_program.specs.Program.{literal, Cond, compare, nonzero, opposite, both_of, either_of}
+use Rattle.lra_program.specs.declared.program.GlobalVariable.{GlobalVariable}
+use Rattle.lra_program.specs.declared.receivers.Target.{Target}
+use Rattle.lra_program.specs.Value.{Argument}
 use Rattle.lra_program.specs.Step.{Op, append, give, give_any, push, keep}
 use Rattle.lra_program.specs.Step as step
 use Rattle.lra_lin.specs.Form.{Form}
@@ -50,7 +59,7 @@ comparison_moves op (Some d) = test_moves (comparison_test op d)
 abbrev pub guard : ℕ → ℕ → Bool → Cond → Moves
 guard live base wanted (compare op a b) = comparison_moves (comparison_as wanted op) (difference_form live base a b)
 guard live base wanted (nonzero e) =
-    comparison_moves (comparison_as wanted differs) (difference_form live base e (literal 0))
+    comparison_moves (comparison_as wanted differs) (difference_form live base e (literal Int 0))
 guard live base wanted (opposite c) = guard live base (not wanted) c
 guard live base true (both_of a b) = first_then (guard live base true a) (guard live base true b)
 guard live base false (both_of a b) =
@@ -58,6 +67,25 @@ guard live base false (both_of a b) =
 guard live base true (either_of a b) =
     join_of (guard live base true a) (first_then (guard live base false a) (guard live base true b))
 guard live base false (either_of a b) = first_then (guard live base false a) (guard live base false b)
+
+-- types -----------------------------------------------------------------------------------------------------------
+
+-- x - the least number of the type, the greatest one - x
+abbrev pub above_least : NumberType → ℕ → ℕ → Form
+above_least t live x = record (linear.variable_form live x) { constant = neg_ℤ (least_of t) }
+
+abbrev pub below_greatest : NumberType → ℕ → ℕ → Form
+below_greatest t live x = record {
+  constant = greatest_of t;
+  coefficients = slice_set (replicate live (pos 0)) x (negsuc 0);
+}
+
+-- Behind what gives the variable a value, where so many live then: an `int` lies within 32 bits. Nothing is tested of
+-- 64 bits, which every number of a store has.
+abbrev pub within_type : NumberType → ℕ → ℕ → Moves → Moves
+within_type Long live x p = p
+within_type Int live x p = first_then p (first_then (make (action.test Ge (above_least Int live x)))
+    (make (action.test Ge (below_greatest Int live x))))
 
 -- least changes ---------------------------------------------------------------------------------------------------
 
@@ -70,11 +98,17 @@ set_to x (Some f) = assign x f
 abbrev pub append_set : ℕ → Option Form → Moves
 append_set live f = first_then (make (embed 1)) (make (set_to live f))
 
--- the arguments, each a new variable with its value
-abbrev pub push_all : ℕ → ℕ → List Expr → Moves
+-- the arguments, each a new variable of its parameter's type, with its value
+abbrev pub push_all : ℕ → ℕ → List Argument → Moves
 push_all live base [] = stay
-push_all live base (e ∷ es) =
-    first_then (append_set live (linear.form_of (suc live) base e)) (push_all (suc live) base es)
+push_all live base (a ∷ rest) = first_then
+    (within_type a.number_type (suc live) live (append_set live (linear.form_of (suc live) base a.value)))
+    (push_all (suc live) base rest)
+
+-- the target, where there is one, is set so
+abbrev pub set_target : ℕ → Option Target → Option Form → Moves
+set_target live None f = stay
+set_target live (Some t) f = within_type t.number_type live t.place (make (set_to t.place f))
 
 -- so many of the newest variables go; where none goes there is nothing to do
 abbrev pub drop_last : ℕ → Moves
@@ -82,17 +116,16 @@ drop_last zero = stay
 drop_last (suc k) = make (remove_last (suc k))
 
 abbrev pub moves_of : ℕ → Op → Moves
-moves_of live append = make (embed 1)
-moves_of live (give base None e) = stay
-moves_of live (give base (Some x) e) = make (set_to x (linear.form_of live base e))
-moves_of live (give_any None) = stay
-moves_of live (give_any (Some x)) = make (forget x)
-moves_of live (push base es) = push_all live base es
+moves_of live (append t) = within_type t (suc live) live (make (embed 1))
+moves_of live (give base x e) = set_target live x.target (linear.form_of live base e)
+moves_of live (give_any x) = set_target live x.target None
+moves_of live (push base given) = push_all live base given
 moves_of live (keep n) = drop_last (live - n)
 moves_of live (step.test base c wanted) = guard live base wanted c
 
 -- the globals at their first values
-abbrev pub first_values : ℕ → List ℤ → Moves
+abbrev pub first_values : ℕ → List GlobalVariable → Moves
 first_values live [] = stay
-first_values live (z ∷ zs) =
-    first_then (append_set live (Some (linear.constant_form (suc live) z))) (first_values (suc live) zs)
+first_values live (g ∷ gs) = first_then
+    (within_type g.number_type (suc live) live (append_set live (Some (linear.constant_form (suc live) g.value))))
+    (first_values (suc live) gs)

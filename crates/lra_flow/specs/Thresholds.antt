@@ -8,6 +8,7 @@ use Rattle.std.specs.List.{filter, flat_map, list_all, list_any}
 use Rattle.std.specs.Ordering.{int_eq}
 use Rattle.lra_sys.specs.Listed.{Listed}
 use Rattle.lra_linear.specs.declared.ConKind.{ConKind}
+use Rattle.lra_base.specs.declared.number_types.NumberType.TheVariants.{Int}
 use Rattle.lra_program.specs.Program.{literal, Cond, compare, nonzero, opposite, both_of, either_of}
 use Rattle.lra_program.specs.Step.{Op, append, give, give_any, push, keep, test}
 use Rattle.lra_operations.specs.Graph.{Node, empty, point, act, check, seq, choose, iterate, catch, leave}
@@ -33,14 +34,14 @@ rows_around (Some d) =
 -- around each comparison of the condition, in text order, whatever its sign; a bare `e` is compared with 0
 abbrev pub condition_rows : ℕ → ℕ → Cond → List (List ℤ)
 condition_rows live base (compare op a b) = rows_around (difference_form live base a b)
-condition_rows live base (nonzero e) = rows_around (difference_form live base e (literal 0))
+condition_rows live base (nonzero e) = rows_around (difference_form live base e (literal Int 0))
 condition_rows live base (opposite c) = condition_rows live base c
 condition_rows live base (both_of a b) = condition_rows live base a ++ condition_rows live base b
 condition_rows live base (either_of a b) = condition_rows live base a ++ condition_rows live base b
 
 -- of the changes a test has a condition, that of an `assume`
 abbrev pub op_rows : ℕ → Op → List (List ℤ)
-op_rows live append = []
+op_rows live (append t) = []
 op_rows live (give base x e) = []
 op_rows live (give_any x) = []
 op_rows live (push base es) = []

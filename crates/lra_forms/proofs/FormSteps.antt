@@ -8,7 +8,8 @@ use Rattle.std.proofs.lemmas.List.Elements.{All-nil, All-cons, All-head, All-tai
 use Rattle.std.specs.Prelude.{◌&&◌, ◌⊎◌, if◌then◌else◌, replicate}
 use Rattle.std.specs.List.{All, list_all}
 use Rattle.std.specs.Option.{SomeIff}
-use Rattle.lra_program.specs.Value.{◌>>=◌, word, is_word}
+use Rattle.lra_base.specs.declared.number_types.NumberType.TheVariants.{Long}
+use Rattle.lra_program.specs.Value.{◌>>=◌, number, is_word}
 use Rattle.lra_lin.specs.Form.{Form, FormFits}
 use Rattle.lra_base.specs.Operators.{Operator}
 use Rattle.lra_program.specs.Program.{Expr, binary}
@@ -31,7 +32,7 @@ word_is z x true is e = (some_is x z e, refl)
 word_is z x false is e = cc
 
 -- one more of them
-pub so_far_next : (all there left : List ℤ) (z x : ℤ) → SoFar all there (z ∷ left) → Some x ≡ word z → SoFar all (there ++ x ∷ []) left
+pub so_far_next : (all there left : List ℤ) (z x : ℤ) → SoFar all there (z ∷ left) → Some x ≡ number Long z → SoFar all (there ++ x ∷ []) left
 so_far_next all there left z x so_far e =
     let fits = word_is z x (is_word z) refl e in
     record {

@@ -3,7 +3,8 @@
 ghost use Rattle.std.specs.Prelude.{◌≡◌, ℤ, pos, ◌*ℤ◌, ◌<◌, ◌≤◌, ◌^◌, ◌⊎◌, Some, slice_set, replicate, IfOk};
 ghost use Rattle.std.specs.Prelude.{MatchOption, true, false, map};
 ghost use Rattle.std.specs.List.{list_all};
-ghost use Rattle.lra_program.specs.Value.{word, is_word, index_of};
+ghost use Rattle.lra_program.specs.Value.{number, is_word, index_of};
+ghost use Rattle.lra_base.specs.declared.number_types.NumberType.TheVariants.{Long};
 ghost use Rattle.lra_base.specs.OperatorViews.{operator_view};
 ghost use Rattle.lra_program.specs.ProgramViews.{expr_view, operation_view, slot_view};
 ghost use Rattle.lra_flow.specs.Linear.{fitting, entrywise, combined, scaled, is_constant, product_form, operator_form};
@@ -17,7 +18,7 @@ use std::alloc::{AllocError, Global};
 
 /// The sum or the difference, where it has 64 bits.
 fn sum_entry(minus: bool, a: i64, b: i64) -> Option<i64>
-    ensures { result ≡ word (sum_of minus a b) }
+    ensures { result ≡ number Long (sum_of minus a b) }
 {
     if minus {
         a.checked_sub(b)
@@ -28,7 +29,7 @@ fn sum_entry(minus: bool, a: i64, b: i64) -> Option<i64>
 
 /// The product, where it has 64 bits.
 fn product_entry(a: &i64, b: &i64) -> Option<i64>
-    ensures { result ≡ word (a.now *ℤ b.now) }
+    ensures { result ≡ number Long (a.now *ℤ b.now) }
 {
     a.checked_mul(*b)
 }
@@ -179,16 +180,40 @@ pub fn constant_of(alloc: Global, live: usize, constant: &i64) -> Result<LinExpr
     Ok(form)
 }
 
-/// Zeros, and 1 in the place where it is one of them.
-fn unit_entries(alloc: Global, live: usize, place: usize) -> Result<Vec<i64>, AllocError>
+/// Zeros, and the coefficient in the place where it is one of them.
+fn one_entry(
+    alloc: Global,
+    live: usize,
+    place: usize,
+    coefficient: i64,
+) -> Result<Vec<i64>, AllocError>
     requires { live < 2 ^ 62 }
-    ensures { IfOk result (λ v. v.items ≡ slice_set (replicate live (pos 0)) place (pos 1)) }
+    ensures { IfOk result (λ v. v.items ≡ slice_set (replicate live (pos 0)) place coefficient) }
 {
     let mut entries = vec![in alloc; 0i64; live]?;
     if place < live {
-        entries[place] = 1;
+        entries[place] = coefficient;
     }
     Ok(entries)
+}
+
+/// The form of this constant, and of the variable of this place with its coefficient.
+pub fn form_of_one(
+    alloc: Global,
+    live: usize,
+    place: usize,
+    coefficient: i64,
+    constant: i64,
+) -> Result<LinExpr, AllocError>
+    requires { live < 2 ^ 62 }
+    ensures { IfOk result (λ f. f ≡ record {
+      constant = constant;
+      coefficients = slice_set (replicate live (pos 0)) place coefficient;
+    }) }
+{
+    let entries = one_entry(alloc, live, place, coefficient)?;
+    let form = LinExpr::new(alloc, constant, entries.as_slice())?;
+    Ok(form)
 }
 
 /// Where the variable stands in the store; a place too large to be told is past every variable that may live.
@@ -207,8 +232,7 @@ pub fn unit_form(alloc: Global, live: usize, place: usize) -> Result<LinExpr, Al
     requires { live < 2 ^ 62 }
     ensures { IfOk result (λ f. f ≡ variable_form live place) }
 {
-    let entries = unit_entries(alloc, live, place)?;
-    let form = LinExpr::new(alloc, 0, entries.as_slice())?;
+    let form = form_of_one(alloc, live, place, 1, 0)?;
     Ok(form)
 }
 
@@ -259,8 +283,8 @@ pub fn form_of_expression(
     ensures { IfOk result (λ o. o ≡ form_of live base (expr_view e.now)) }
 {
     match e {
-        Expr::Literal(number) => literal_of(alloc, live, *number),
-        Expr::Read(slot) => variable_of(alloc, live, base, *slot),
+        Expr::Literal(_, number) => literal_of(alloc, live, *number),
+        Expr::Read(variable) => variable_of(alloc, live, base, variable.slot),
         Expr::Input => Ok(None),
         Expr::Negate(inner) => match form_of_expression(alloc, live, base, inner)? {
             None => Ok(None),

@@ -11,7 +11,7 @@ ghost use Rattle.lra_flow.specs.Given.{row_of, opposite_row, test_rows, comparis
 ghost use Rattle.lra_forms.specs.Given.{HasMore};
 
 use crate::comparisons::{comparison_where, difference_of, test_of};
-use lra_base::Comparison;
+use lra_base::{Comparison, NumberType};
 use lra_lin::LinExpr;
 use lra_program::{Cond, Expr};
 use lra_row::Row;
@@ -121,7 +121,7 @@ fn give(
         }
         Cond::Nonzero(e) => {
             let op = comparison_where(Comparison::Differs, wanted);
-            let zero = Expr::Literal(0);
+            let zero = Expr::Literal(NumberType::Int, 0);
             give_comparison(alloc, base, op, e, &zero, rows)
         }
         Cond::Opposite(inner) => give(alloc, base, inner, !wanted, rows),

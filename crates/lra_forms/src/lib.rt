@@ -8,6 +8,6 @@ mod given;
 mod thresholds;
 
 pub use comparisons::{comparison_where, difference_of, opposite_of, test_of};
-pub use forms::{constant_of, form_of_expression};
+pub use forms::{constant_of, form_of_expression, form_of_one};
 pub use given::given_of;
 pub use thresholds::thresholds_of;

@@ -17,6 +17,7 @@ ghost use Rattle.lra_forms.specs.Thresholds.{HasTaken};
 use crate::comparisons::difference_of;
 use crate::forms::unit_form;
 use crate::given::push_negated;
+use lra_base::NumberType;
 use lra_lin::LinExpr;
 use lra_linear::ConKind;
 use lra_operations::{Node, Op};
@@ -205,7 +206,7 @@ fn take_condition(
     match condition {
         Cond::Compare(_, left, right) => take_comparison(alloc, base, left, right, rows),
         Cond::Nonzero(e) => {
-            let zero = Expr::Literal(0);
+            let zero = Expr::Literal(NumberType::Int, 0);
             take_comparison(alloc, base, e, &zero, rows)
         }
         Cond::Opposite(inner) => take_condition(alloc, base, inner, rows),

@@ -1,6 +1,6 @@
 -- What a derivation's values, verdicts and first flag say of the written iteration.
 use Rattle.std.proofs.Common.{◌≡◌, ℕ, List, Option, None, Bool, sym, ◌∙◌, subst}
-use Rattle.std.specs.Prelude.{ℤ}
+use Rattle.lra_program.specs.declared.program.GlobalVariable.{GlobalVariable}
 use Rattle.lra_domain.specs.Meaning.{Meaning}
 use Rattle.lra_domain.specs.Laws.{Laws}
 use Rattle.lra_domain.specs.declared.Exactness.{Exactness}
@@ -27,8 +27,8 @@ solved m laws plan P tree result values verdicts flagged derived solves = record
 }
 
 -- from the value that has all stores, by the globals' first values and a pass
-pub derived_from : {V H : Type 0} (m : Meaning V H) (plan : Plan) (P : Program) (tree : Node) (globals : List ℤ) (whole first : V) (e : Exactness) (result : Result V) → P.globals ≡ globals
+pub derived_from : {V H : Type 0} (m : Meaning V H) (plan : Plan) (P : Program) (tree : Node) (globals : List GlobalVariable) (whole first : V) (e : Exactness) (result : Result V) → P.globals ≡ globals
     → m.universal 0 plan.parts whole × m.formed whole → Does m (first_values 0 globals) whole e first
     → Pass V H (dropping m) plan tree (noted 0 e None) first result → Derivation m plan P tree result
 derived_from {V} {H} m plan P tree globals whole first e result is universal done pass =
-    (whole, first, e, universal, subst (λ (zs : List ℤ). Does m (first_values 0 zs) whole e first) (sym is) done, pass)
+    (whole, first, e, universal, subst (λ (zs : List GlobalVariable). Does m (first_values 0 zs) whole e first) (sym is) done, pass)

@@ -1,14 +1,19 @@
 -- The value that an iteration has at a point has a dimension for each variable that lives there.
 use Rattle.std.proofs.Common.{◌≡◌, ℕ, zero, suc, ◌+◌, ◌-◌, ◌++◌, List, [], ◌∷◌, length, Option, Some, None, Bool, true, false, inl, inr, refl, sym, ap, ◌∙◌, subst, arith}
-use Rattle.std.specs.Prelude.{ℤ, not, slice_get}
+use Rattle.std.specs.Prelude.{not, slice_get}
 use Rattle.std.specs.List.{AllByRecursion, Contains}
 use Rattle.lra_linear.proofs.Membership.{contains_none, contains_cases}
-use Rattle.lra_domain.specs.Actions.{dims_after}
+use Rattle.lra_base.specs.declared.number_types.NumberType.{NumberType}
+use Rattle.lra_base.specs.declared.number_types.NumberType.TheVariants.{Int, Long}
+use Rattle.lra_program.specs.declared.program.GlobalVariable.{GlobalVariable}
+use Rattle.lra_program.specs.declared.receivers.Target.{Target}
+use Rattle.lra_program.specs.Value.{Argument}
+use Rattle.lra_domain.specs.Actions.{embed}
 use Rattle.lra_domain.specs.declared.Exactness.{Exactness}
 use Rattle.lra_domain.specs.Meaning.{Meaning}
 use Rattle.lra_domain.specs.Laws.{Laws}
 use Rattle.lra_base.specs.Operators.{Comparison, below, at_most, above, at_least, equal, differs}
-use Rattle.lra_program.specs.Program.{Expr, Cond, Program, literal, compare, nonzero, opposite, both_of, either_of}
+use Rattle.lra_program.specs.Program.{Cond, Program, literal, compare, nonzero, opposite, both_of, either_of}
 use Rattle.lra_flow.specs.Linear as linear
 use Rattle.lra_lin.specs.Form.{Form}
 use Rattle.lra_lin.specs.declared.test.Test.{Test}
@@ -21,24 +26,31 @@ use Rattle.lra_operations.specs.Graph.{Exit, broken, continued, returned, Node, 
 use Rattle.lra_program.specs.Sites.{Site}
 use Rattle.lra_flow.specs.Plan.{Plan, Widening}
 use Rattle.lra_flow.specs.Operations.{dropping}
-use Rattle.lra_flow.specs.MovesOf.{set_to, push_all, drop_last, moves_of, first_values, test_moves, comparison_moves, comparison_as, guard}
+use Rattle.lra_flow.specs.MovesOf.{within_type, set_to, append_set, set_target, push_all, drop_last, moves_of, first_values, test_moves, comparison_moves, comparison_as, guard}
 use Rattle.lra_flow.specs.Pass.{AreJoined, Leaves, Entry, value, failing, Result, noted, jumps, first_of_call, values_behind, behind, Through, Changes, GoesRound, Grows, Narrows, Pass}
 use Rattle.lra_flow.specs.Analysis.{Derivation, Solves}
 use Rattle.lra_flow.proofs.Caps.{all_both}
 use Rattle.lra_change.specs.Changes.{dims_behind}
+use Rattle.lra_change.proofs.ChangeSteps.{set_dims}
 use Rattle.lra_iter.specs.Fits.{live_after}
 use Rattle.lra_iter.specs.Lives.{LiveAt, PointsHave, AreWide}
 
 -- operations ---------------------------------------------------------------------------------------------------------
 
-set_after : (x : ℕ) (o : Option Form) (n : ℕ) → dims_after (set_to x o) n ≡ n
-set_after x None n = refl
-set_after x (Some f) n = refl
+-- the tests behind an `int` change none
+within_after : (t : NumberType) (live x : ℕ) (p : Moves) (n k : ℕ) → dims_moved p n ≡ k → dims_moved (within_type t live x p) n ≡ k
+within_after Long live x p n k e = e
+within_after Int live x p n k e = e
 
-push_after : (live base : ℕ) (es : List Expr) (n : ℕ) → dims_moved (push_all live base es) n ≡ n + length es
+push_after : (live base : ℕ) (given : List Argument) (n : ℕ) → dims_moved (push_all live base given) n ≡ n + length given
 push_after live base [] n = omega arith
-push_after live base (e ∷ es) n =
-    ap (dims_moved (push_all (suc live) base es)) (set_after live (linear.form_of (suc live) base e) (n + 1)) ∙ push_after (suc live) base es (n + 1) ∙ omega arith
+push_after live base (a ∷ rest) n =
+    let f = linear.form_of (suc live) base a.value in
+    ap (dims_moved (push_all (suc live) base rest)) (within_after a.number_type (suc live) live (append_set live f) n (n + 1) (set_dims live f (n + 1))) ∙ push_after (suc live) base rest (n + 1) ∙ omega arith
+
+target_after : (live : ℕ) (o : Option Target) (f : Option Form) (n : ℕ) → dims_moved (set_target live o f) n ≡ n
+target_after live None f n = refl
+target_after live (Some t) f n = within_after t.number_type live t.place (make (set_to t.place f)) n n (set_dims t.place f n)
 
 drop_after : (k n : ℕ) → dims_moved (drop_last k) n ≡ n - k
 drop_after zero n = omega arith
@@ -59,16 +71,18 @@ comparison_after equal (Some d) n = test_after (comparison_test equal d) n
 
 guard_after : (live base : ℕ) (wanted : Bool) (c : Cond) (n : ℕ) → dims_moved (guard live base wanted c) n ≡ n
 guard_after live base wanted (compare op a b) n = comparison_after (comparison_as wanted op) (difference_form live base a b) n
-guard_after live base wanted (nonzero e) n = comparison_after (comparison_as wanted differs) (difference_form live base e (literal 0)) n
+guard_after live base wanted (nonzero e) n = comparison_after (comparison_as wanted differs) (difference_form live base e (literal Int 0)) n
 guard_after live base wanted (opposite c) n = guard_after live base (not wanted) c n
 guard_after live base true (both_of a b) n = ap (dims_moved (guard live base true b)) (guard_after live base true a n) ∙ guard_after live base true b n
 guard_after live base false (both_of a b) n = guard_after live base false a n
 guard_after live base true (either_of a b) n = guard_after live base true a n
 guard_after live base false (either_of a b) n = ap (dims_moved (guard live base false b)) (guard_after live base false a n) ∙ guard_after live base false b n
 
-first_after : (zs : List ℤ) (live n : ℕ) → dims_moved (first_values live zs) n ≡ n + length zs
+first_after : (gs : List GlobalVariable) (live n : ℕ) → dims_moved (first_values live gs) n ≡ n + length gs
 first_after [] live n = omega arith
-first_after (z ∷ zs) live n = first_after zs (suc live) (n + 1) ∙ omega arith
+first_after (g ∷ gs) live n =
+    ap (dims_moved (first_values (suc live) gs)) (within_after g.number_type (suc live) live (append_set live (Some (linear.constant_form (suc live) g.value))) n (n + 1) refl) ∙
+    first_after gs (suc live) (n + 1) ∙ omega arith
 
 module _ (V H : Type 0) (m : Meaning V H) where
   made_dims : (p : Moves) (v : V) (e : Exactness) (w : V) → AreMade (dropping m) p v e w → m.dims w ≡ dims_moved p (m.dims v)
@@ -81,12 +95,10 @@ module _ (V H : Type 0) (m : Meaning V H) where
   leaves_dims base c wanted v e w is = made_dims (guard (m.dims v) base wanted c) v e w is ∙ guard_after (m.dims v) base wanted c (m.dims v)
 
   op_after : (op : Op) (n : ℕ) → dims_moved (moves_of n op) n ≡ dims_behind op n
-  op_after append n = omega arith
-  op_after (give base None x) n = refl
-  op_after (give base (Some x) y) n = set_after x (linear.form_of n base y) n
-  op_after (give_any None) n = refl
-  op_after (give_any (Some x)) n = refl
-  op_after (step.push base es) n = push_after n base es n
+  op_after (append t) n = within_after t (suc n) n (make (embed 1)) n (suc n) (omega arith)
+  op_after (give base x y) n = target_after n x.target (linear.form_of n base y) n
+  op_after (give_any x) n = target_after n x.target None n
+  op_after (step.push base given) n = push_after n base given n
   op_after (keep k) n = drop_after (n - k) n
   op_after (test base c wanted) n = guard_after n base wanted c n
 

@@ -2,12 +2,13 @@
 use Rattle.std.specs.Prelude.{◌≡◌, ℕ, ℤ, List, length, Bool, true, Some, slice_get}
 use Rattle.std.specs.List.{Contains}
 use Rattle.lra_domain.specs.Meaning.{Meaning}
+use Rattle.lra_program.specs.declared.program.GlobalVariable.{GlobalVariable}
 use Rattle.lra_program.specs.Step.{State}
 use Rattle.lra_program.specs.Run.{begun}
 use Rattle.lra_operations.specs.Graph.{Node, Comes, FailsAt}
 use Rattle.lra_flow.specs.Analysis.{IsUnreachable}
 
-pub record HoldsInTree {V H : Type 0} (m : Meaning V H) (globals : List ℤ) (tree : Node) (values : List V)
+pub record HoldsInTree {V H : Type 0} (m : Meaning V H) (globals : List GlobalVariable) (tree : Node) (values : List V)
     (verdicts : List (ℕ × Bool)) : Type 0 where
   -- where a run comes to a point, the value there has its store, and as many dimensions as that has numbers
   pub stores : (q : ℕ) (draws : List ℤ) (t : State) → Comes tree (begun globals draws) q t → (v : V) ×

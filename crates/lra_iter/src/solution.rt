@@ -4,6 +4,7 @@ ghost use Rattle.std.specs.Prelude.{◌≡◌, ◌≤◌, ◌^◌, map, length, 
 ghost use Rattle.lra_program.specs.Program.{Program};
 ghost use Rattle.lra_operations.specs.GraphViews.{node_view, site_view};
 ghost use Rattle.lra_program.specs.Assertions.{assertions_from};
+ghost use Rattle.lra_program.specs.WellFormed.{AreGoodGlobals};
 ghost use Rattle.lra_domain.specs.declared.Exactness.{Exactness};
 ghost use Rattle.lra_flow.specs.Plan.{Plan};
 ghost use Rattle.lra_flow.specs.Analysis.{Solves};
@@ -26,6 +27,7 @@ use crate::tables::{number_held, tables_of, take_held};
 use lra_change::append_globals;
 use lra_domain::Domain;
 use lra_operations::{Graph, Site};
+use lra_program::GlobalVariable;
 use std::alloc::{AllocError, Global};
 
 /// What is found of a program: the value at each of its points, in the order of their numbers; of each assertion its
@@ -64,7 +66,7 @@ fn solution_of<D: Domain>(
 fn begin<D: Domain>(
     alloc: Global,
     plan: &Plan,
-    globals: &[i64],
+    globals: &[GlobalVariable],
 ) -> Result<(D, Option<usize>), AllocError>
     requires parts { 1 ≤ plan.now.parts }
     requires few { length globals.now ≤ 2 ^ 30 }
@@ -82,11 +84,12 @@ fn begin<D: Domain>(
 pub fn analyse<D: Domain>(
     alloc: Global,
     plan: &Plan,
-    globals: &[i64],
+    globals: &[GlobalVariable],
     graph: &Graph,
 ) -> Result<Solution<D>, AllocError>
     requires parts { 1 ≤ plan.now.parts }
     requires few { length globals.now ≤ 2 ^ 30 }
+    requires globals { AreGoodGlobals globals.now }
     requires fits { TreeFits (node_view graph.now.tree) (length globals.now) }
     requires numbered { IsNumbered (map site_view graph.now.sites.items) (node_view graph.now.tree) }
     ensures solved { IfOk result (λ s. (P : Program) → P.globals ≡ globals.now →

@@ -2,6 +2,9 @@
 use Rattle.std.proofs.Common.{[], None, Some, refl, inl, inr, ◌^◌, ◌-◌, arith}
 use Rattle.std.proofs.lemmas.Int.{ints}
 use Rattle.lra_domain.specs.declared.Exactness.TheVariants.{Exact, Flagged}
+use Rattle.lra_base.specs.declared.number_types.NumberType.TheVariants.{Int, Long}
+use Rattle.lra_program.proofs.RunExamples.{long_variable}
+use Rattle.lra_program.specs.Receivers.{variable_at}
 use Rattle.lra_program.specs.Program.{local, Expr, literal, read, binary}
 use Rattle.lra_base.specs.Operators.{plus}
 use Rattle.lra_program.specs.Step.{give, keep}
@@ -14,7 +17,7 @@ use Rattle.lra_walks.proofs.LoopExamples.{boxes, one, between, at_least, narrowe
 use Rattle.lra_walks.proofs.NestedExamples.{two, nowhere}
 
 abbrev i : Expr
-i = read (local 0)
+i = read (long_variable (local 0))
 
 -- a `break` in a block with a variable of its own goes out without it; behind the `break` it still lives
 cut_break : Pass Content Content boxes (narrowed 1) (seq (act 6 (keep 1)) (leave 2 broken)) None (two (between 0 3) (between 1 1)) (jumps broken (one (between 0 3)) nowhere None)
@@ -27,7 +30,7 @@ cut_break = (
 )
 
 -- i = i + 1 of i in 0..2^127 - 1 strains: the new bound would pass the range
-strained_example : Pass Content Content (straining box_meaning) (narrowed 1) (act 5 (give 0 (Some 0) (binary plus i (literal 1)))) None (one (between 0 (2 ^ 127 - 1)))
+strained_example : Pass Content Content (straining box_meaning) (narrowed 1) (act 5 (give 0 (variable_at 0 Long) (binary plus i (literal Int 1)))) None (one (between 0 (2 ^ 127 - 1)))
     (goes_on [] (one (at_least 1)) (Some 5))
 strained_example = (
   one (at_least 1),

@@ -4,6 +4,10 @@ use Rattle.std.proofs.Common.{◌≡◌, ℕ, pos, List, [], ◌∷◌, ◌++◌
 use Rattle.lra_lin.specs.Form.{Form}
 use Rattle.lra_domain.specs.Actions.{assign}
 use Rattle.lra_domain.specs.declared.Exactness.TheVariants.{Exact}
+use Rattle.lra_base.specs.declared.number_types.NumberType.TheVariants.{Int, Long}
+use Rattle.lra_program.proofs.RunExamples.{long_variable}
+use Rattle.lra_program.specs.Receivers.{variable_at}
+use Rattle.lra_program.specs.Value.{Argument}
 use Rattle.lra_program.specs.Program.{local, literal, read, input, nonzero, Call, Function, Program, declaration, statement, no_more, absent}
 use Rattle.lra_program.specs.Program as program
 use Rattle.lra_program.specs.Step.{Op, append, give, give_any, keep}
@@ -23,14 +27,15 @@ use Rattle.lra_walks.proofs.LoopExamples.{boxes, between, one, none, narrowed, b
 use Rattle.lra_walks.proofs.NestedExamples.{two, nowhere}
 
 abbrev called : Call
-called = record { label = 6; function = 0; arguments = literal 0 ∷ [] }
+called = record { label = 6; function = 0; arguments = literal Int 0 ∷ [] }
 
 abbrev f_alone : Function
 f_alone = record {
-  parameters = 1;
-  body = statement (program.if 1 (nonzero input) (program.return 2 (Some (program.value (literal 1)))) absent)
-      (statement (program.assign 3 (local 0) (program.value (literal 2)))
-      (statement (program.return 4 (Some (program.value (read (local 0))))) no_more));
+  result_type = Some Long;
+  parameters = Long ∷ [];
+  body = statement (program.if 1 (nonzero input) (program.return 2 (Some (program.value (literal Int 1)))) absent)
+      (statement (program.assign 3 (long_variable (local 0)) (program.value (literal Int 2)))
+      (statement (program.return 4 (Some (program.value (read (long_variable (local 0)))))) no_more));
   end = 5;
 }
 
@@ -38,30 +43,39 @@ abbrev calling : Program
 calling = record {
   globals = [];
   functions = f_alone ∷ [];
-  main = record { parameters = 0; body = declaration (record { label = 6; rvalue = Some (program.result called) }) no_more; end = 7 };
+  main = record {
+    result_type = Some Int;
+    parameters = [];
+    body = declaration (record { label = 6; number_type = Long; rvalue = Some (program.result called) })
+        no_more;
+    end = 7;
+  };
 }
 
 -- both variables live where f returns, and r alone behind the call
 abbrev returns_one : Node
-returns_one = seq (point 2) (return_node 2 (give 1 (Some 0) (literal 1)) 1 2)
+returns_one = seq (point 2) (return_node 2 (give 1 (variable_at 0 Long) (literal Int 1)) 1 2)
 
 abbrev may_return : Node
 may_return = seq (point 1) (choose 1 1 (nonzero input) returns_one empty)
 
 abbrev sets_two : Node
-sets_two = seq (point 3) (act 3 (give 1 (Some 1) (literal 2)))
+sets_two = seq (point 3) (act 3 (give 1 (variable_at 1 Long) (literal Int 2)))
 
 abbrev returns_x : Node
-returns_x = seq (point 4) (return_node 4 (give 1 (Some 0) (read (local 0))) 1 2)
+returns_x = seq (point 4) (return_node 4 (give 1 (variable_at 0 Long) (read (long_variable (local 0)))) 1 2)
 
 abbrev inside : Node
 inside = seq may_return (seq sets_two (seq returns_x empty))
 
+abbrev zero_given : Argument
+zero_given = record { number_type = Long; value = literal Int 0 }
+
 abbrev whole_call : Node
-whole_call = call_node 0 5 0 1 (Some 0) (literal 0 ∷ []) 1 inside
+whole_call = call_node 0 5 0 1 (variable_at 0 Long) (zero_given ∷ []) 1 inside
 
 abbrev calling_tree : Node
-calling_tree = seq (seq (seq (point 0) (seq (act 0 append) whole_call)) empty) (point 6)
+calling_tree = seq (seq (seq (point 0) (seq (act 0 (append Long)) whole_call)) empty) (point 6)
 
 -- the tree is that of the program
 calling_graph : IsGraph calling calling_tree
@@ -132,7 +146,8 @@ returning q op r x s given = (
   refl,
 )
 
-gives_one : Pass Content Content boxes (narrowed 1) (act 2 (give 1 (Some 0) (literal 1))) None at_first (goes_on [] (two (between 1 1) (between 0 0)) None)
+gives_one : Pass Content Content boxes (narrowed 1) (act 2 (give 1 (variable_at 0 Long) (literal Int 1))) None at_first
+    (goes_on [] (two (between 1 1) (between 0 0)) None)
 gives_one = (
   two (between 1 1) (between 0 0),
   Exact,
@@ -140,7 +155,8 @@ gives_one = (
   refl,
 )
 
-gives_x : Pass Content Content boxes (narrowed 1) (act 4 (give 1 (Some 0) (read (local 0)))) None at_last (goes_on [] (two (between 2 2) (between 2 2)) None)
+gives_x : Pass Content Content boxes (narrowed 1) (act 4 (give 1 (variable_at 0 Long) (read (long_variable (local 0))))) None at_last
+    (goes_on [] (two (between 2 2) (between 2 2)) None)
 gives_x = (
   two (between 2 2) (between 2 2),
   Exact,
@@ -165,7 +181,7 @@ may_return_pass = (
     returned_with 2 at_first (between 1 1),
     goes_on [] at_first None,
     (refl, refl),
-    returning 2 (give 1 (Some 0) (literal 1)) open_interval (between 0 0) (between 1 1) gives_one,
+    returning 2 (give 1 (variable_at 0 Long) (literal Int 1)) open_interval (between 0 0) (between 1 1) gives_one,
     (refl, refl),
     refl,
     (refl, refl),
@@ -203,7 +219,7 @@ inside_pass = (
     (
       returned_with 4 at_last (between 2 2),
       goes_on [] nowhere None,
-      returning 4 (give 1 (Some 0) (read (local 0))) open_interval (between 2 2) (between 2 2) gives_x,
+      returning 4 (give 1 (variable_at 0 Long) (read (long_variable (local 0)))) open_interval (between 2 2) (between 2 2) gives_x,
       refl,
       refl,
     ),
@@ -216,7 +232,7 @@ abbrev nowhere_alone : Content
 nowhere_alone = record { dims = 1; bounds = None }
 
 -- at the end of f both variables live, though no run comes there
-f_ends : Pass Content Content boxes (narrowed 1) (seq (point 5) (seq (act 5 (keep 2)) (seq (act 5 (give_any (Some 0))) (act 5 (keep 1))))) None nowhere
+f_ends : Pass Content Content boxes (narrowed 1) (seq (point 5) (seq (act 5 (keep 2)) (seq (act 5 (give_any (variable_at 0 Long))) (act 5 (keep 1))))) None nowhere
     (goes_on (value 5 nowhere ∷ []) nowhere_alone None)
 f_ends = (
   goes_on (value 5 nowhere ∷ []) nowhere None,

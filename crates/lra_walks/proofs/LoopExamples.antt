@@ -5,6 +5,9 @@ use Rattle.lra_lin.specs.Form.{Form}
 use Rattle.lra_linear.specs.declared.ConKind.TheVariants.{Ge}
 use Rattle.lra_domain.specs.Actions.{assign, test}
 use Rattle.lra_domain.specs.declared.Exactness.TheVariants.{Exact}
+use Rattle.lra_base.specs.declared.number_types.NumberType.TheVariants.{Int, Long}
+use Rattle.lra_program.proofs.RunExamples.{long_variable}
+use Rattle.lra_program.specs.Receivers.{variable_at}
 use Rattle.lra_program.specs.Program.{local, Expr, literal, read, binary, Cond, compare, Program, declaration, statement, no_more, loop, absent}
 use Rattle.lra_base.specs.Operators.{plus, below}
 use Rattle.lra_program.specs.Program as program
@@ -43,28 +46,29 @@ abbrev pub narrowed : ℕ → Plan
 narrowed n = record (plan_of default_options []) { narrow = n }
 
 abbrev i : Expr
-i = read (local 0)
+i = read (long_variable (local 0))
 
 abbrev is_small : Cond
-is_small = compare below i (literal 10)
+is_small = compare below i (literal Int 10)
 
 abbrev counting : Program
 counting = record {
   globals = [];
   functions = [];
   main = record {
-    parameters = 0;
-    body = declaration (record { label = 1; rvalue = Some (program.value (literal 0)) })
-        (statement (loop 2 is_small (program.assign 3 (local 0) (program.value (binary plus i (literal 1)))) absent) no_more);
+    result_type = Some Int;
+    parameters = [];
+    body = declaration (record { label = 1; number_type = Long; rvalue = Some (program.value (literal Int 0)) })
+        (statement (loop 2 is_small (program.assign 3 (long_variable (local 0)) (program.value (binary plus i (literal Int 1)))) absent) no_more);
     end = 4;
   };
 }
 
 abbrev increase : Node
-increase = seq (point 2) (act 2 (give 0 (Some 0) (binary plus i (literal 1))))
+increase = seq (point 2) (act 2 (give 0 (variable_at 0 Long) (binary plus i (literal Int 1))))
 
 abbrev pub declared : Node
-declared = seq (point 0) (seq (act 0 append) (act 0 (give 0 (Some 0) (literal 0))))
+declared = seq (point 0) (seq (act 0 (append Long)) (act 0 (give 0 (variable_at 0 Long) (literal Int 0))))
 
 abbrev counting_tree : Node
 counting_tree = seq (seq declared (seq (loop_node 1 0 is_small increase empty) empty)) (point 3)

@@ -8,6 +8,10 @@ use Rattle.lra_linear.specs.declared.ConKind.TheVariants.{Ge}
 use Rattle.lra_domain.specs.Actions.{assign, test}
 use Rattle.lra_domain.specs.declared.Exactness.TheVariants.{Exact}
 use Rattle.lra_domain.specs.Bounds.{greater, stable, lesser_low}
+use Rattle.lra_base.specs.declared.number_types.NumberType.TheVariants.{Int, Long}
+use Rattle.lra_program.proofs.RunExamples.{long_variable}
+use Rattle.lra_program.specs.declared.receivers.Receiver.{Receiver}
+use Rattle.lra_program.specs.Receivers.{variable_at, nobody, behind_result}
 use Rattle.lra_program.specs.Program.{local, Expr, literal, read, input, binary, Cond, compare, nonzero}
 use Rattle.lra_base.specs.Operators.{plus, below, equal}
 use Rattle.lra_program.specs.Program as program
@@ -38,26 +42,30 @@ abbrev pub nowhere : Content
 nowhere = record { dims = 2; bounds = None }
 
 abbrev a_is : Expr
-a_is = read (local 0)
+a_is = read (long_variable (local 0))
 
 abbrev b_is : Expr
-b_is = read (local 1)
+b_is = read (long_variable (local 1))
 
 -- the inner loop's body: its point is 4, and the points inside are 5 to 10
 abbrev leaving : Node
-leaving = seq (point 5) (choose 5 0 (compare operators.at_least b_is (literal 3)) (seq (point 6) (seq (act 6 (keep 2)) (leave 2 broken))) empty)
+leaving = seq (point 5) (choose 5 0 (compare operators.at_least b_is (literal Int 3)) (seq (point 6) (seq (act 6 (keep 2)) (leave 2 broken))) empty)
+
+-- nobody asks for main's result, which has to be an `int`
+abbrev to_main : Receiver
+to_main = behind_result (Some Int) nobody
 
 abbrev returning : Node
-returning = seq (point 7) (choose 7 0 (nonzero input) (seq (point 8) (leave 2 returned)) empty)
+returning = seq (point 7) (choose 7 0 (nonzero input) (seq (point 8) (seq (act 8 (give 0 to_main (literal Int 0))) (leave 2 returned))) empty)
 
 abbrev counting_b : Node
-counting_b = seq (point 9) (act 9 (give 0 (Some 1) (binary plus b_is (literal 1))))
+counting_b = seq (point 9) (act 9 (give 0 (variable_at 1 Long) (binary plus b_is (literal Int 1))))
 
 abbrev inner_body : Node
 inner_body = seq (seq leaving (seq returning (seq counting_b empty))) (seq (point 10) (act 10 (keep 2)))
 
 abbrev endless : Cond
-endless = nonzero (literal 1)
+endless = nonzero (literal Int 1)
 
 -- b is at least 3; b is at most 2; b + 1
 abbrev three : Form
@@ -143,7 +151,13 @@ module _ (set : Plan) (a x y z : Interval) (o : Option (List Interval))
       returned_at (two a y),
       goes_on [] (two a y) None,
       (refl, refl),
-      (goes_on (value 8 (two a y) ∷ []) (two a y) None, jumps returned (two a y) nowhere None, refl, (nowhere, refl, refl), refl),
+      (
+        goes_on (value 8 (two a y) ∷ []) (two a y) None,
+        jumps returned (two a y) nowhere None,
+        refl,
+        (goes_on [] (two a y) None, jumps returned (two a y) nowhere None, (two a y, Exact, (refl, refl), refl), (nowhere, refl, refl), refl),
+        refl,
+      ),
       (refl, refl),
       refl,
       (refl, refl),
@@ -309,11 +323,11 @@ inner_loop_pass a sound order low_joined high_joined low_widened high_widened = 
 
 -- the outer loop's body: its point is 2, and the points inside are 3 to 12
 abbrev outer_body : Node
-outer_body = seq (seq (seq (point 3) (act 3 (give 0 (Some 1) (literal 0)))) (seq inner_loop (seq (seq (point 11) (act 11 (give 0 (Some 0) (binary plus a_is (literal 1))))) empty)))
+outer_body = seq (seq (seq (point 3) (act 3 (give 0 (variable_at 1 Long) (literal Int 0)))) (seq inner_loop (seq (seq (point 11) (act 11 (give 0 (variable_at 0 Long) (binary plus a_is (literal Int 1))))) empty)))
     (seq (point 12) (act 12 (keep 2)))
 
 abbrev outer_condition : Cond
-outer_condition = compare below a_is (literal 5)
+outer_condition = compare below a_is (literal Int 5)
 
 abbrev outer_loop : Node
 outer_loop = loop_node 2 0 outer_condition outer_body empty
@@ -511,7 +525,7 @@ outer_loop_pass = (
 )
 
 -- assert(a == 5): where it is false there is nothing, below 5 and above it
-asserted : Pass Content Content boxes (narrowed 1) (seq (point 13) (check 13 0 (compare equal a_is (literal 5)))) None (two (between 5 5) (between 0 3))
+asserted : Pass Content Content boxes (narrowed 1) (seq (point 13) (check 13 0 (compare equal a_is (literal Int 5)))) None (two (between 5 5) (between 0 3))
     (goes_on (value 13 (two (between 5 5) (between 0 3)) ∷ failing 13 nowhere ∷ []) (two (between 5 5) (between 0 3)) None)
 asserted = (
   goes_on (value 13 (two (between 5 5) (between 0 3)) ∷ []) (two (between 5 5) (between 0 3)) None,
@@ -530,35 +544,36 @@ asserted = (
 )
 
 abbrev zero_at : ℕ → program.Declarator
-zero_at at = record { label = at; rvalue = Some (program.value (literal 0)) }
+zero_at at = record { label = at; number_type = Long; rvalue = Some (program.value (literal Int 0)) }
 
 abbrev inner_block : program.Stmt
-inner_block = program.block (program.statement (program.if 6 (compare operators.at_least b_is (literal 3)) (program.break 7) program.absent)
-    (program.statement (program.if 8 (nonzero input) (program.return 9 (Some (program.value (literal 0)))) program.absent)
-    (program.statement (program.assign 10 (local 1) (program.value (binary plus b_is (literal 1)))) program.no_more))) 11
+inner_block = program.block (program.statement (program.if 6 (compare operators.at_least b_is (literal Int 3)) (program.break 7) program.absent)
+    (program.statement (program.if 8 (nonzero input) (program.return 9 (Some (program.value (literal Int 0)))) program.absent)
+    (program.statement (program.assign 10 (long_variable (local 1)) (program.value (binary plus b_is (literal Int 1)))) program.no_more))) 11
 
 abbrev outer_block : program.Stmt
-outer_block = program.block (program.statement (program.assign 4 (local 1) (program.value (literal 0)))
+outer_block = program.block (program.statement (program.assign 4 (long_variable (local 1)) (program.value (literal Int 0)))
     (program.statement (program.loop 5 endless inner_block program.absent)
-    (program.statement (program.assign 12 (local 0) (program.value (binary plus a_is (literal 1)))) program.no_more))) 13
+    (program.statement (program.assign 12 (long_variable (local 0)) (program.value (binary plus a_is (literal Int 1)))) program.no_more))) 13
 
 abbrev nested : program.Program
 nested = record {
   globals = [];
   functions = [];
   main = record {
-    parameters = 0;
+    result_type = Some Int;
+    parameters = [];
     body = program.declaration (zero_at 1) (program.declaration (zero_at 2)
-        (program.statement (program.loop 3 outer_condition outer_block program.absent) (program.statement (program.assert 14 (compare equal a_is (literal 5))) program.no_more)));
+        (program.statement (program.loop 3 outer_condition outer_block program.absent) (program.statement (program.assert 14 (compare equal a_is (literal Int 5))) program.no_more)));
     end = 15;
   };
 }
 
 abbrev declared_b : Node
-declared_b = seq (point 1) (seq (act 1 append) (act 1 (give 0 (Some 1) (literal 0))))
+declared_b = seq (point 1) (seq (act 1 (append Long)) (act 1 (give 0 (variable_at 1 Long) (literal Int 0))))
 
 abbrev nested_tree : Node
-nested_tree = seq (seq declared (seq declared_b (seq outer_loop (seq (seq (point 13) (check 13 0 (compare equal a_is (literal 5)))) empty)))) (point 14)
+nested_tree = seq (seq declared (seq declared_b (seq outer_loop (seq (seq (point 13) (check 13 0 (compare equal a_is (literal Int 5)))) empty)))) (point 14)
 
 -- the tree is that of the program
 nested_graph : IsGraph nested nested_tree

@@ -3,6 +3,8 @@ use Rattle.std.proofs.Common.{◌≡◌, ℕ, zero, suc, ◌<◌, ◌≤◌, Lis
 use Rattle.std.specs.Prelude.{slice_get, option_map}
 use Rattle.std.proofs.lemmas.List.{length-map}
 use Rattle.std.proofs.lemmas.Option.{none-some, slice_get-map, slice_get_within}
+use Rattle.lra_base.specs.declared.number_types.NumberType.{NumberType}
+use Rattle.lra_program.specs.Receivers.{variable_at}
 use Rattle.lra_program.specs.Program.{Expr, Cond}
 use Rattle.lra_program.specs.Step.{append, give}
 use Rattle.lra_operations.specs.Graph.{Node, point, act, check, seq, choose}
@@ -13,9 +15,9 @@ use Rattle.lra_iter.specs.Numbers.{one_if, values_in, checks_in, asserts_of, IsN
 use Rattle.lra_walks.specs.Sample.{sample_asserts}
 use Rattle.lra_iter.proofs.Counting.{one_other}
 
-abbrev pub sample_tree : Expr → Cond → Cond → Cond → Node
-sample_tree e c d f =
-    seq (point 0) (seq (act 0 append) (seq (act 0 (give 0 (Some 0) e)) (seq (seq (point 1) (choose 1 0 c (seq (point 2) (check 2 0 d)) (seq (point 3) (check 3 0 f)))) (point 4))))
+abbrev pub sample_tree : NumberType → Expr → Cond → Cond → Cond → Node
+sample_tree t e c d f =
+    seq (point 0) (seq (act 0 (append t)) (seq (act 0 (give 0 (variable_at 0 t) e)) (seq (seq (point 1) (choose 1 0 c (seq (point 2) (check 2 0 d)) (seq (point 3) (check 3 0 f)))) (point 4))))
 
 past : {A : Type 0} (xs : List A) (k : ℕ) → slice_get xs k ≡ None → length xs ≤ k
 past [] k e = omega arith
@@ -31,8 +33,8 @@ unfolding flag_count
 asserts_count None = refl
 asserts_count (Some s) = refl
 
-module _ (e : Expr) (c d f : Cond) where
-  values_once : (k : ℕ) → k < 5 → values_in (sample_tree e c d f) k ≡ 1
+module _ (t : NumberType) (e : Expr) (c d f : Cond) where
+  values_once : (k : ℕ) → k < 5 → values_in (sample_tree t e c d f) k ≡ 1
   unfolding one_if
   values_once zero h = refl
   values_once (suc zero) h = refl
@@ -41,7 +43,7 @@ module _ (e : Expr) (c d f : Cond) where
   values_once (suc (suc (suc (suc zero)))) h = refl
   values_once (suc (suc (suc (suc (suc k))))) h = absurd (omega (arith, h))
 
-  no_more_values : (k : ℕ) → 5 ≤ k → values_in (sample_tree e c d f) k ≡ 0
+  no_more_values : (k : ℕ) → 5 ≤ k → values_in (sample_tree t e c d f) k ≡ 0
   no_more_values k h =
       let a = one_other 0 k (λ e. omega (arith, h, e)) in
       let b = one_other 1 k (λ e. omega (arith, h, e)) in
@@ -50,7 +52,7 @@ module _ (e : Expr) (c d f : Cond) where
       let r = one_other 4 k (λ e. omega (arith, h, e)) in
       omega (arith, a, b, p, q, r)
 
-  checks_once : (k : ℕ) → checks_in (sample_tree e c d f) k ≡ flag_count (slice_get sample_asserts k)
+  checks_once : (k : ℕ) → checks_in (sample_tree t e c d f) k ≡ flag_count (slice_get sample_asserts k)
   unfolding one_if flag_count
   checks_once zero = refl
   checks_once (suc zero) = refl
@@ -62,11 +64,11 @@ module _ (e : Expr) (c d f : Cond) where
       let q = one_other 3 (suc (suc (suc (suc (suc k))))) (λ e. omega (arith, e)) in
       omega (arith, p, q)
 
-pub sample_numbered : (T : List Site) (g : Node) (e : Expr) (c d f : Cond) → g ≡ sample_tree e c d f → map (λ (s : Site). s.asserts) T ≡ sample_asserts → IsNumbered T g
-sample_numbered T g e c d f is are = subst (λ (t : Node). IsNumbered T t) (sym is) (record {
-  values = λ k s there. values_once e c d f k (let h = slice_get_within T k s there in omega (arith, long, h));
-  no_values = λ k there. no_more_values e c d f k (let h = past T k there in omega (arith, long, h));
-  checks = λ k. checks_once e c d f k ∙ sym (asserts_count (slice_get T k) ∙ ap flag_count (sym (slice_get-map (λ (s : Site). s.asserts) T k) ∙ ap (λ (bs : List Bool). slice_get bs k) are));
+pub sample_numbered : (T : List Site) (g : Node) (t : NumberType) (e : Expr) (c d f : Cond) → g ≡ sample_tree t e c d f → map (λ (s : Site). s.asserts) T ≡ sample_asserts → IsNumbered T g
+sample_numbered T g t e c d f is are = subst (λ (h : Node). IsNumbered T h) (sym is) (record {
+  values = λ k s there. values_once t e c d f k (let h = slice_get_within T k s there in omega (arith, long, h));
+  no_values = λ k there. no_more_values t e c d f k (let h = past T k there in omega (arith, long, h));
+  checks = λ k. checks_once t e c d f k ∙ sym (asserts_count (slice_get T k) ∙ ap flag_count (sym (slice_get-map (λ (s : Site). s.asserts) T k) ∙ ap (λ (bs : List Bool). slice_get bs k) are));
 })
   where
     long : length T ≡ 5

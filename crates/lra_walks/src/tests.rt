@@ -1,5 +1,5 @@
-//! Analyses over boxes of `long x = input(); if (..) assert(x >= 0); else assert(x >= 0);` and its end, where the
-//! condition is `x >= 1` in parentheses of ever more levels.
+//! Analyses of `long x = input(); if (..) assert(x >= 0); else assert(x >= 0);` and its end, where the condition is
+//! `x >= 1` in parentheses of ever more levels; and of the same with `int x`.
 
 ghost use Rattle.std.specs.Prelude.{◌≡◌, map, IfOk};
 ghost use Rattle.lra_operations.specs.Graph as graph;
@@ -9,29 +9,33 @@ ghost use Rattle.lra_iter.specs.Fits.{TreeFits};
 ghost use Rattle.lra_iter.specs.Numbers.{IsNumbered};
 ghost use Rattle.lra_walks.specs.Sample.{sample_asserts};
 
-use lra_base::Comparison;
+use lra_base::{Comparison, NumberType};
 use lra_box::Boxes;
 use lra_domain::Domain;
-use lra_iter::{Plan, analyse};
+use lra_iter::{Plan, Solution, analyse};
+use lra_oct::Octagon;
 use lra_operations::{Graph, Node, Op, Path, Site};
-use lra_program::{Cond, Expr, Slot};
+use lra_program::{Cond, Expr, Receiver, Slot, Variable};
 use std::alloc::{AllocError, Global};
 
-/// `x >= bound`
-fn at_least(bound: u64) -> Cond {
+/// `x >= bound`, of an `x` of this type.
+fn at_least(number_type: NumberType, bound: u64) -> Cond {
     Cond::Compare(
         Comparison::AtLeast,
-        Expr::Read(Slot::Local(0)),
-        Expr::Literal(bound),
+        Expr::Read(Variable {
+            slot: Slot::Local(0),
+            number_type,
+        }),
+        Expr::Literal(NumberType::Int, bound),
     )
 }
 
 /// `x >= 1`, behind which so many levels of parentheses say `|| x >= 1` and `&& x >= 1` in turn.
-fn nested(alloc: Global, levels: u32) -> Result<Cond, AllocError> {
-    let mut condition = at_least(1);
+fn nested(alloc: Global, number_type: NumberType, levels: u32) -> Result<Cond, AllocError> {
+    let mut condition = at_least(number_type, 1);
     'levels: for level in 0..levels {
         let mut others = Vec::new(alloc);
-        others.push(at_least(1))?;
+        others.push(at_least(number_type, 1))?;
         let first = Box::new(alloc, condition)?;
         condition = if level % 2 == 0 {
             Cond::Any(first, others)
@@ -105,24 +109,25 @@ fn sites(alloc: Global) -> Result<Vec<Site>, AllocError>
     Ok(sites)
 }
 
-/// The tree and its points.
-fn sample(alloc: Global, condition: Cond) -> Result<Graph, AllocError>
+/// The tree and its points, of an `x` of this type.
+fn sample(alloc: Global, number_type: NumberType, condition: Cond) -> Result<Graph, AllocError>
     ensures fits { IfOk result (λ g. TreeFits (node_view g.tree) 0) }
     ensures numbered { IfOk result (λ g. IsNumbered (map site_view g.sites.items) (node_view g.tree)) }
 {
-    let yes = assertion(alloc, 2, at_least(0))?;
-    let no = assertion(alloc, 3, at_least(0))?;
+    let yes = assertion(alloc, 2, at_least(number_type, 0))?;
+    let no = assertion(alloc, 3, at_least(number_type, 0))?;
     let branches = choice(alloc, condition, yes, no)?;
     let rest = before_point(alloc, branches, 4)?;
-    let given = behind(alloc, Op::Give(0, Some(0), Expr::Input), rest)?;
-    let declared = behind(alloc, Op::Append, given)?;
+    let receiver = Receiver::variable(0, number_type);
+    let given = behind(alloc, Op::Give(0, receiver, Expr::Input), rest)?;
+    let declared = behind(alloc, Op::Append(number_type), given)?;
     let tree = behind_point(alloc, 0, declared)?;
     let sites = sites(alloc)?;
     Ok(Graph { tree, sites })
 }
 
 /// The rows of the value's parts over one variable, one behind the other.
-fn rows_of(alloc: Global, value: &Boxes) -> Result<Vec<[i128; 2]>, AllocError> {
+fn rows_of<D: Domain>(alloc: Global, value: &D) -> Result<Vec<[i128; 2]>, AllocError> {
     let mut rows = Vec::new(alloc);
     for part in &value.parts(alloc)? {
         for row in part.rows() {
@@ -134,27 +139,67 @@ fn rows_of(alloc: Global, value: &Boxes) -> Result<Vec<[i128; 2]>, AllocError> {
     Ok(rows)
 }
 
+/// What is found over a domain, of an `x` of this type.
+fn solve<D: Domain>(
+    alloc: Global,
+    number_type: NumberType,
+    levels: u32,
+) -> Result<Solution<D>, AllocError> {
+    let plan = Plan::of(alloc, lra_options::DEFAULT_OPTIONS, &[])?;
+    let condition = nested(alloc, number_type, levels)?;
+    let graph = sample(alloc, number_type, condition)?;
+    let solution = analyse::<D>(alloc, &plan, &[], &graph)?;
+    Ok(solution)
+}
+
+/// Whether the points have these rows, the first assertion alone is proved, and nothing is flagged.
+fn tells<D: Domain>(
+    alloc: Global,
+    solution: &Solution<D>,
+    want: &[&[[i128; 2]]],
+) -> Result<bool, AllocError> {
+    let mut found = Vec::new(alloc);
+    'points: for value in &solution.values {
+        found.push(rows_of(alloc, value)?)?;
+    }
+    let same = found
+        .iter()
+        .map(|rows| rows.as_slice())
+        .eq(want.iter().copied());
+    let judged = solution.verdicts.as_slice() == [(2, true), (3, false)].as_slice();
+    Ok(same && judged && solution.flagged.is_none())
+}
+
 /// Where x >= 1 the assertion x >= 0 is proved, and elsewhere it isn't; x >= 0 holds at the end. Sixty-three levels
 /// take the time of sixty-three comparisons: were each side of a condition made by itself, nobody would wait for it.
 #[test]
 fn levels_of_conditions(rt: HostRuntime) -> Result<(), AllocError> {
     let alloc = rt.alloc();
-    let plan = Plan::of(alloc, lra_options::DEFAULT_OPTIONS, &[])?;
     let want: [&[[i128; 2]]; 5] = [&[], &[], &[[-1, 1]], &[[0, -1]], &[[0, 1]]];
     'levels: for levels in &[0, 1, 63] {
-        let graph = sample(alloc, nested(alloc, *levels)?)?;
-        let solution = analyse::<Boxes>(alloc, &plan, &[], &graph)?;
-        let mut found = Vec::new(alloc);
-        'points: for value in &solution.values {
-            found.push(rows_of(alloc, value)?)?;
-        }
-        let same = found
-            .iter()
-            .map(|rows| rows.as_slice())
-            .eq(want.iter().copied());
-        assert!(rt; same, "{levels} levels");
-        let judged = solution.verdicts.as_slice() == [(2, true), (3, false)].as_slice();
-        assert!(rt; judged && solution.flagged.is_none(), "{levels} levels");
+        let solution = solve::<Boxes>(alloc, NumberType::Long, *levels)?;
+        assert!(rt;
+            tells(alloc, &solution, want.as_slice())?,
+            "{levels} levels"
+        );
     }
+    Ok(())
+}
+
+/// An `int` lies within 32 bits behind its declaration and behind each value that it gets.
+#[test]
+fn ints_lie_within_32_bits(rt: HostRuntime) -> Result<(), AllocError> {
+    let alloc = rt.alloc();
+    let want: [&[[i128; 2]]; 5] = [
+        &[],
+        &[[2_147_483_648, 1], [2_147_483_647, -1]],
+        &[[-1, 1], [2_147_483_647, -1]],
+        &[[2_147_483_648, 1], [0, -1]],
+        &[[0, 1], [2_147_483_647, -1]],
+    ];
+    let boxes = solve::<Boxes>(alloc, NumberType::Int, 0)?;
+    assert!(rt; tells(alloc, &boxes, want.as_slice())?, "boxes");
+    let octagons = solve::<Octagon>(alloc, NumberType::Int, 0)?;
+    assert!(rt; tells(alloc, &octagons, want.as_slice())?, "octagons");
     Ok(())
 }

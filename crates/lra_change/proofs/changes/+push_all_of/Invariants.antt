@@ -2,4 +2,4 @@ use Rattle.std.proofs.Common.{length}
 use Rattle.lra_change.proofs.changes.+push_all_of.Given as goal
 
 abbrev pub decreases-push_all_of : goal.decreases-push_all_of
-decreases-push_all_of g l = length l.es.now
+decreases-push_all_of g l = length l.arguments.now

@@ -52,7 +52,7 @@ returns-clause-sound g c =
     let counted = pass_counted (dropping m) (map site_view graph.sites.items) c.args.plan.now
     (node_view graph.tree) c.in_ok-value.flag c.in_ok-value.value result c.requires.numbered c.in_ok-outcome.ensures.passed.pass in
     covered_holds m g.met.D.Domain.laws c.args.globals.now (node_view graph.tree) result (map site_view graph.sites.items) solution.values.items solution.verdicts.items solution.flagged
-    (begun_covers m g.met.D.Domain.laws c.args.plan.now c.args.globals.now (node_view graph.tree) begun.0 c.in_ok-value.value begun.1 result
+    (begun_covers m g.met.D.Domain.laws c.args.plan.now c.args.globals.now c.requires.globals (node_view graph.tree) begun.0 c.in_ok-value.value begun.1 result
     begun.2 begun.3 pass)
     counted c.in_ok-solution.ensures.solves
 
