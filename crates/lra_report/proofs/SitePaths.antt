@@ -55,8 +55,8 @@ module _ (inside : List ℕ → ℕ → Call → List Event) (path : List ℕ) (
   function_shallow : (live : ℕ) (f : Option Function) → AllByRecursion IsShallow (function_events inside path live f)
   function_shallow live None = tt
   function_shallow live (Some f) =
-      every_append IsShallow (items_events inside path (live + f.parameters) f.body) (plain_site path f.end (live_behind (live + f.parameters) f.body) ∷ [])
-      (items_shallow (live + f.parameters) f.body) (here, tt)
+      let n = live + length f.parameters in
+      every_append IsShallow (items_events inside path n f.body) (plain_site path f.end (live_behind n f.body) ∷ []) (items_shallow n f.body) (here, tt)
 
 call_shallow : (P : Program) (more : ℕ) (path : List ℕ) (live : ℕ) (c : Call) → length path + more ≤ greatest_calls → AllByRecursion IsShallow (call_events P more path live c)
 call_shallow P zero path live c h = (tt, tt)

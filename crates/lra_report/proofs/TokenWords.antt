@@ -19,7 +19,7 @@ HasWord k = ⊤
 
 named_word : (s : List ℕ) (k : Kind) → SpellsToken s k → HasWord k
 named_word s _ (name w named further) = w
-named_word s _ (number n w value most) = tt
+named_word s _ (number n t w value same most) = tt
 named_word s _ (mark_of m e) = tt
 named_word s _ (reserved among) = tt
 named_word s _ (comment u) = tt

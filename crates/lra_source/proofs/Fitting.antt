@@ -5,8 +5,12 @@ use Rattle.std.specs.List.{AllByRecursion, Contains}
 use Rattle.std.proofs.lemmas.Option.{none-some, same_Some}
 use Rattle.lra_linear.proofs.Membership.{contains_none, contains_cases}
 use Rattle.lra_program.specs.Program.{Slot, global, local, Expr, Cond, Rvalue, Stmt, BlockItems, Program}
-use Rattle.lra_program.specs.Value.{index_of}
-use Rattle.lra_program.specs.Step.{Op, append, give, give_any, push, keep, test, Back}
+use Rattle.lra_base.specs.declared.number_types.NumberType.{NumberType}
+use Rattle.lra_program.specs.declared.receivers.Target.{Target}
+use Rattle.lra_program.specs.declared.receivers.Receiver.{Receiver}
+use Rattle.lra_program.specs.Receivers.{variable_at, behind_result}
+use Rattle.lra_program.specs.Value.{index_of, Argument}
+use Rattle.lra_program.specs.Step.{Op, append, give, give_any, push, keep, test, Back, arguments_for}
 use Rattle.lra_operations.specs.Graph.{Exit, broken, continued, returned, Node, empty, point, act, check, seq, choose, catch, leave}
 use Rattle.lra_program.specs.Sites.{Site, sites_of}
 use Rattle.lra_program.specs.Sites as sites
@@ -16,6 +20,7 @@ use Rattle.lra_operations.specs.Inlined.{is_loop, as_value, as_result, loop_node
 use Rattle.lra_operations.specs.Agree.{IsGraph}
 use Rattle.lra_program.specs.WellFormed.{IsLive, IsGoodRvalue, IsGoodGiven, IsGoodStmt, AreGoodItems, IsGoodFunction, IsWellFormed}
 use Rattle.lra_change.specs.Changes.{dims_behind, PlaceFits, OpFits}
+use Rattle.lra_program.proofs.GivenArguments.{given_width}
 use Rattle.lra_iter.specs.Fits.{live_after, JumpsWith, TreeFits}
 
 -- how many live where a jump leads
@@ -73,19 +78,19 @@ keep_is n m h = omega arith
 keep_fit : {f : Frame} {n : ℕ} (q m : ℕ) → m ≤ n → Fit f n m (act q (keep m))
 keep_fit {n = n} q m h = act_fit q (keep m) tt (keep_is n m h)
 
-append_fit : {f : Frame} {n : ℕ} (q : ℕ) → Few (suc n) → Fit f n (suc n) (act q append)
-append_fit {n = n} q few = act_fit q append (few_more n few) refl
+append_fit : {f : Frame} {n : ℕ} (q : ℕ) (t : NumberType) → Few (suc n) → Fit f n (suc n) (act q (append t))
+append_fit {n = n} q t few = act_fit q (append t) (few_more n few) refl
 
-give_fit : {f : Frame} {n : ℕ} (q base : ℕ) (x : Option ℕ) (e : Expr) → PlaceFits x n → Fit f n n (act q (give base x e))
+give_fit : {f : Frame} {n : ℕ} (q base : ℕ) (x : Receiver) (e : Expr) → PlaceFits x.target n → Fit f n n (act q (give base x e))
 give_fit q base x e h = act_fit q (give base x e) h refl
 
-any_fit : {f : Frame} {n : ℕ} (q : ℕ) (x : Option ℕ) → PlaceFits x n → Fit f n n (act q (give_any x))
+any_fit : {f : Frame} {n : ℕ} (q : ℕ) (x : Receiver) → PlaceFits x.target n → Fit f n n (act q (give_any x))
 any_fit q x h = act_fit q (give_any x) h refl
 
 test_fit : {f : Frame} {n : ℕ} (q base : ℕ) (c : Cond) (b : Bool) → Fit f n n (act q (test base c b))
 test_fit q base c b = act_fit q (test base c b) tt refl
 
-place_more : (x : Option ℕ) (n m : ℕ) → n ≤ m → PlaceFits x n → PlaceFits x m
+place_more : (x : Option Target) (n m : ℕ) → n ≤ m → PlaceFits x n → PlaceFits x m
 place_more None n m h p = tt
 place_more (Some x) n m h p = omega arith
 
@@ -176,15 +181,17 @@ module _ (f : Frame) (n : ℕ) (g step : Node) (few : Few n) (x : Fit (in_loop f
   }
 
 -- of a call whose body is g
-module _ (f : Frame) (n r : ℕ) (x : Option ℕ) (es : List Expr) (params : ℕ) (g : Node) (f' : Frame) (n' : ℕ) (i : length es ≡ params) (no_loop : f'.loop ≡ None)
-    (j : f'.back ≡ Some (record { target = x; here = f.here; length = n })) (low : n + params ≤ n') (few : Few n') (place : PlaceFits x n) (y : Fit f' (n + params) n' g) where
+module _ (f : Frame) (n r : ℕ) (x : Receiver) (es : List Argument) (params : ℕ) (g : Node) (f' : Frame) (n' : ℕ) (i : length es ≡ params)
+    (no_loop : f'.loop ≡ None)
+    (j : f'.back ≡ Some (record { receiver = x; here = f.here; length = n })) (low : n + params ≤ n') (few : Few n') (place : PlaceFits x.target n)
+    (y : Fit f' (n + params) n' g) where
   abbrev inner : Node
   inner = seq g (seq (point r) (seq (act r (keep (n + params))) (seq (act r (give_any x)) (act r (keep n)))))
 
   inner_fit : Fit f' (n + params) n inner
   inner_fit =
       seq_fit _ _ few y (seq_fit _ _ few (point_fit r) (seq_fit _ _ (omega arith) (keep_fit r (n + params) low)
-      (seq_fit _ _ (omega arith) (any_fit r x (place_more x n (n + params) (omega arith) place)) (keep_fit r n (omega arith)))))
+      (seq_fit _ _ (omega arith) (any_fit r x (place_more x.target n (n + params) (omega arith) place)) (keep_fit r n (omega arith)))))
 
   caught_jump : (k : Exit) (m : ℕ) → k ≢ returned → JumpFits f' k m → JumpFits f k m
   caught_jump broken m d z = absurd (none-some m (sym no_loop ∙ z))
@@ -216,11 +223,12 @@ all_at P (y ∷ xs) (suc k) x h e = all_at P xs k x h.1 e
 pub record Standing (P : Program) (f : Frame) (n own : ℕ) : Type 0 where
   pub globals : length P.globals ≤ n
   pub within : f.here.base + own ≤ n
-  pub target : (b : Back) → f.back ≡ Some b → PlaceFits b.target b.length
+  pub target : (b : Back) → f.back ≡ Some b → PlaceFits b.receiver.target b.length
 
-standing_place : (P : Program) (f : Frame) (n own : ℕ) (x : Slot) → Standing P f n own → IsLive P own x → PlaceFits (Some (index_of f.here.base x)) n
-standing_place P f n own (global k) st live = let g = st.globals in omega arith
-standing_place P f n own (local k) st live = let w = st.within in omega arith
+standing_place : (P : Program) (f : Frame) (n own : ℕ) (x : Slot) (t : NumberType) → Standing P f n own → IsLive P own x → PlaceFits
+    (variable_at (index_of f.here.base x) t).target n
+standing_place P f n own (global k) t st live = let g = st.globals in omega arith
+standing_place P f n own (local k) t st live = let w = st.within in omega arith
 
 one_more : (P : Program) (f : Frame) (n own : ℕ) → Standing P f n own → Standing P f (suc n) (suc own)
 one_more P f n own st = record { globals = (let g = st.globals in omega arith); within = (let w = st.within in omega arith); target = st.target }
@@ -245,12 +253,13 @@ module _ (P : Program) (T : List Site) (few : AllFew T) (well : IsWellFormed P) 
   behind_init : (f : Frame) (n n' own : ℕ) (items : BlockItems) → Standing P f n own → n ≤ n' → f.here.base + sites.live_behind own items ≤ n' → Standing P f n' (sites.live_behind own items)
   behind_init f n n' own items st low w = record { globals = (let g = st.globals in omega arith); within = w; target = st.target }
 
-  in_callee : (f : Frame) (n own params : ℕ) (x : Option ℕ) (f' : Frame) → Standing P f n own → PlaceFits x n → f'.here.base ≡ n → f'.back ≡ Some (record { target = x; here = f.here; length = n })
+  in_callee : (f : Frame) (n own params : ℕ) (x : Receiver) (f' : Frame) → Standing P f n own → PlaceFits x.target n → f'.here.base ≡ n → f'.back ≡ Some
+      (record { receiver = x; here = f.here; length = n })
       → Standing P f' (n + params) params
   in_callee f n own params x f' st place base back = record {
     globals = (let g = st.globals in omega arith);
     within = omega (arith, base);
-    target = λ b e. subst (λ (c : Back). PlaceFits c.target c.length) (same_Some _ b (sym back ∙ e)) place;
+    target = λ b e. subst (λ (c : Back). PlaceFits c.receiver.target c.length) (same_Some _ b (sym back ∙ e)) place;
   }
 
   mutual
@@ -261,7 +270,7 @@ module _ (P : Program) (T : List Site) (few : AllFew T) (well : IsWellFormed P) 
         let fw' : Few n' = few q' _ i in seq_fit _ _ fw' (fit_all d l own st fw' good) (seq_fit _ _ fw' (point_fit q') (keep_fit q' spot.live (low_all d)))
     fit_one as_absent l own st fw good = empty_fit
     fit_one (as_assign {s = spot} {at = at} {x = x} i d) l own st fw good =
-        seq_fit _ _ fw (point_fit spot.next) (fit_gives d at own st fw (standing_place P spot.frame spot.live own x st good.0) good.1)
+        seq_fit _ _ fw (point_fit spot.next) (fit_gives d at own st fw (standing_place P spot.frame spot.live own x.slot x.number_type st good.0) good.1)
     fit_one (as_call {s = spot} {at = at} i d) l own st fw good = seq_fit _ _ fw (point_fit spot.next) (fit_gives d at own st fw tt good)
     fit_one (as_if {s = spot} {c = c} {g = g} {h = h} i d e) l own st fw good =
         seq_fit _ _ fw (point_fit spot.next) (choose_fit spot.next spot.frame.here.base c g h (fit_one d l own st fw good.1) (fit_one e l own st fw good.2))
@@ -275,14 +284,17 @@ module _ (P : Program) (T : List Site) (few : AllFew T) (well : IsWellFormed P) 
     fit_one (as_break {s = spot} {m = m} i k j) l own st fw good = seq_fit _ _ fw (point_fit spot.next) (seq_fit _ _ (omega arith) (keep_fit spot.next m k) (break_fit fw i))
     fit_one (as_continue {s = spot} {m = m} i k j) l own st fw good = seq_fit _ _ fw (point_fit spot.next) (seq_fit _ _ (omega arith) (keep_fit spot.next m k) (continue_fit fw i))
     fit_one (as_return {s = spot} {b = b} i k j) l own st fw good =
-        seq_fit _ _ fw (point_fit spot.next) (return_node_fit spot.next _ b i k fw (any_fit spot.next b.target (place_more b.target b.length spot.live k (st.target b i))))
+        seq_fit _ _ fw (point_fit spot.next) (return_node_fit spot.next _ b i k fw
+        (any_fit spot.next b.receiver (place_more b.receiver.target b.length spot.live k (st.target b i))))
     fit_one (as_return_value {s = spot} {e = e} {b = b} i k j) l own st fw good =
-        seq_fit _ _ fw (point_fit spot.next) (return_node_fit spot.next _ b i k fw (give_fit spot.next spot.frame.here.base b.target e (place_more b.target b.length spot.live k (st.target b i))))
+        seq_fit _ _ fw (point_fit spot.next) (return_node_fit spot.next _ b i k fw
+        (give_fit spot.next spot.frame.here.base b.receiver e (place_more b.receiver.target b.length spot.live k (st.target b i))))
     fit_one (as_return_call {s = spot} {at = at} {b = b} i k j d) l own st fw good =
-        seq_fit _ _ fw (point_fit spot.next) (seq_fit _ _ fw (fit_gives d at own st fw (place_more b.target b.length spot.live k (st.target b i)) good)
+        seq_fit _ _ fw (point_fit spot.next) (seq_fit _ _ fw (fit_gives d at own st fw (place_more b.receiver.target b.length spot.live k (st.target b i)) good)
         (seq_fit _ _ (omega arith) (keep_fit spot.next b.length k) (return_fit b fw i)))
     fit_one (as_end {s = spot} i j) l own st fw good = seq_fit _ _ fw (point_fit spot.next) (end_fit fw i)
-    fit_one (as_end_value {s = spot} i j) l own st fw good = seq_fit _ _ fw (point_fit spot.next) (end_fit fw i)
+    fit_one (as_end_value {s = spot} {e = e} i j) l own st fw good =
+        seq_fit _ _ fw (point_fit spot.next) (seq_fit _ _ fw (give_fit spot.next spot.frame.here.base _ e tt) (end_fit fw i))
     fit_one (as_end_call {s = spot} {at = at} i j d) l own st fw good = seq_fit _ _ fw (point_fit spot.next) (seq_fit _ _ fw (fit_gives d at own st fw tt good) (end_fit fw i))
     fit_one (as_assert {s = spot} {c = c} i) l own st fw good = seq_fit _ _ fw (point_fit spot.next) (check_fit spot.next spot.frame.here.base c)
     fit_one (as_assume {s = spot} {c = c} i) l own st fw good = seq_fit _ _ fw (point_fit spot.next) (test_fit spot.next spot.frame.here.base c true)
@@ -300,12 +312,14 @@ module _ (P : Program) (T : List Site) (few : AllFew T) (well : IsWellFormed P) 
         let now : Few spot.live = omega arith in
         seq_fit _ _ now (fit_one d l own st now good.0) (fit_all e l own st fw good.1)
 
-    fit_declares : {spot : Spot} {r : ℕ} {e : Option Rvalue} {g : Node} {q : ℕ} → Declares P T spot r e g q → (at own : ℕ) → Standing P spot.frame spot.live own → Few (suc spot.live) →
+    fit_declares : {spot : Spot} {r : ℕ} {t : NumberType} {e : Option Rvalue} {g : Node} {q : ℕ} → Declares P T spot r t e g q → (at own : ℕ) → Standing P
+        spot.frame spot.live own → Few (suc spot.live) →
         IsGoodGiven P at (suc own) e →
         Fit spot.frame spot.live (suc spot.live) g
-    fit_declares (as_fresh {s = spot}) at own st fw good = append_fit spot.next fw
-    fit_declares (as_given {s = spot} d) at own st fw good =
-        seq_fit _ _ fw (append_fit spot.next fw) (fit_gives d at (suc own) (one_more P spot.frame spot.live own st) fw (let last : spot.live < suc spot.live = omega arith in last) good)
+    fit_declares (as_fresh {s = spot} {t = t}) at own st fw good = append_fit spot.next t fw
+    fit_declares (as_given {s = spot} {t = t} d) at own st fw good =
+        seq_fit _ _ fw (append_fit spot.next t fw) (fit_gives d at (suc own) (one_more P spot.frame spot.live own st) fw
+        (let last : spot.live < suc spot.live = omega arith in last) good)
 
     fit_loop : {spot : Spot} {r : ℕ} {s : Stmt} {g : Node} {q : ℕ} → Loops P T spot r s g q → (l : Bool) (own : ℕ) → Standing P spot.frame spot.live own → IsGoodStmt P l own s →
         Fit spot.frame spot.live spot.live g
@@ -314,14 +328,18 @@ module _ (P : Program) (T : List Site) (few : AllFew T) (well : IsWellFormed P) 
         loop_fit spot.frame spot.live g h fw (fit_one e true own (other_loop P spot.frame spot.live own (Some spot.live) st) fw good.1)
         (fit_one d false own (other_loop P spot.frame spot.live own None st) fw good.2) spot.next spot.frame.here.base c
 
-    fit_gives : {spot : Spot} {r : ℕ} {x : Option ℕ} {e : Rvalue} {g : Node} {q : ℕ} → Gives P T spot r x e g q → (at own : ℕ) → Standing P spot.frame spot.live own → Few spot.live →
-        PlaceFits x spot.live →
+    fit_gives : {spot : Spot} {r : ℕ} {x : Receiver} {e : Rvalue} {g : Node} {q : ℕ} → Gives P T spot r x e g q → (at own : ℕ) → Standing P spot.frame
+        spot.live own → Few spot.live →
+        PlaceFits x.target spot.live →
         IsGoodRvalue P at own e → Fit spot.frame spot.live spot.live g
     fit_gives (as_value {s = spot} {x = x} {e = e}) at own st fw place good = give_fit spot.next spot.frame.here.base x e place
     fit_gives (as_result {s = spot} {x = x} {c = c} {fn = fn} {g = g} {n = n'} {q = r'} i j d k) at own st fw place good =
         let fw' : Few n' = few r' _ k in
-        call_fit spot.frame spot.live r' x c.arguments fn.parameters g (callee spot.frame spot.live x c) n' j refl refl (low_all d) fw' place
-        (fit_all d false fn.parameters (in_callee spot.frame spot.live own fn.parameters x (callee spot.frame spot.live x c) st place refl refl) fw'
+        let y = behind_result fn.result_type x in
+        let params = length fn.parameters in
+        call_fit spot.frame spot.live r' y (arguments_for fn.parameters c.arguments) params g (callee spot.frame spot.live y c) n'
+        (given_width fn.parameters c.arguments j) refl refl (low_all d) fw' place
+        (fit_all d false params (in_callee spot.frame spot.live own params y (callee spot.frame spot.live y c) st place refl refl) fw'
         (all_at (IsGoodFunction P) P.functions c.function fn well.functions i)) spot.next
 
 contains_at : {A : Type 0} (P : A → Type 0) (xs : List A) (x : A) → AllByRecursion P xs → Contains xs x → P x
@@ -335,7 +353,8 @@ tree_fits P g well few graph =
     let fw : Few graph.live = few graph.last _ graph.ends in
     let low : n ≤ graph.live = low_all graph.inlined in
     let st : Standing P (main_frame P) n 0 = record { globals = omega arith; within = omega arith; target = λ b e. absurd (none-some b e) } in
-    let good : AreGoodItems P false 0 P.main.body = subst (λ (k : ℕ). AreGoodItems P false k P.main.body) well.alone (contains_at (IsGoodFunction P) P.functions P.main well.functions well.main) in
+    let good : AreGoodItems P false 0 P.main.body = subst (λ (k : ℕ). AreGoodItems P false k P.main.body) (ap length well.alone)
+    (contains_at (IsGoodFunction P) P.functions P.main well.functions well.main) in
     let body : Fit (main_frame P) n graph.live graph.body = fit_all P (sites_of P) few well graph.inlined false 0 st fw good in
     subst (λ (h : Node). TreeFits h n) (sym graph.parts) (seq_fit {f = main_frame P} graph.body (point graph.last) fw body (point_fit graph.last)).fits
 

@@ -5,6 +5,8 @@ use Rattle.std.proofs.lemmas.Option.{slice_get_within}
 use Rattle.lra_domain.specs.declared.Exactness.{Exactness}
 use Rattle.lra_domain.specs.declared.Exactness.TheVariants.{Exact, Flagged}
 use Rattle.lra_program.specs.Program.{Cond, Rvalue, Stmt, BlockItems, Program}
+use Rattle.lra_base.specs.declared.number_types.NumberType.{NumberType}
+use Rattle.lra_program.specs.declared.receivers.Receiver.{Receiver}
 use Rattle.lra_operations.specs.Graph.{Exit, broken, continued, returned, Node, empty, point, act, check, seq, choose, iterate, catch, leave}
 use Rattle.lra_program.specs.Sites.{Site, sites_of}
 use Rattle.lra_operations.specs.Inlined.{Spot, move, HasSite, Inl, InlAll, Declares, Loops, Gives, as_nothing, as_block, as_absent, as_assign, as_call, as_if, as_loop, as_for, as_break, as_continue}
@@ -51,7 +53,7 @@ module _ (P : Program) (T : List Site) where
     below_one (as_return_value {s = spot} {at = at} i l j) = (tt, (site_below spot at _ j, (site_below spot at _ j, tt)))
     below_one (as_return_call {s = spot} {at = at} i l j d) = (tt, (below_gives d (site_below spot at _ j), (site_below spot at _ j, tt)))
     below_one (as_end i j) = (tt, tt)
-    below_one (as_end_value i j) = (tt, tt)
+    below_one (as_end_value {s = spot} {at = at} i j) = (tt, (site_below spot at _ j, tt))
     below_one (as_end_call {s = spot} {at = at} i j d) = (tt, (below_gives d (site_below spot at _ j), tt))
     below_one (as_assert {s = spot} {at = at} i) = (tt, site_below spot at _ i)
     below_one (as_assume {s = spot} {at = at} i) = (tt, site_below spot at _ i)
@@ -61,14 +63,15 @@ module _ (P : Program) (T : List Site) where
     below_all (as_declaration {s = spot} i j e) = ((tt, below_declares j (site_below spot _ _ i)), below_all e)
     below_all (as_statement d e) = (below_one d, below_all e)
 
-    below_declares : {spot : Spot} {r : ℕ} {e : Option Rvalue} {g : Node} {q : ℕ} → Declares P T spot r e g q → spot.next < length T → Below g
+    below_declares : {spot : Spot} {r : ℕ} {t : NumberType} {e : Option Rvalue} {g : Node} {q : ℕ} → Declares P T spot r t e g q → spot.next < length T → Below
+        g
     below_declares as_fresh l = l
     below_declares (as_given d) l = (l, below_gives d l)
 
     below_loop : {spot : Spot} {r : ℕ} {s : Stmt} {g : Node} {q : ℕ} → Loops P T spot r s g q → LoopBelow g spot.next
     below_loop (is_loop {s = spot} {at = at} i d e) = let l = site_below spot at _ i in (l, (l, (l, ((l, below_one e), below_one d))))
 
-    below_gives : {spot : Spot} {r : ℕ} {x : Option ℕ} {e : Rvalue} {g : Node} {q : ℕ} → Gives P T spot r x e g q → spot.next < length T → Below g
+    below_gives : {spot : Spot} {r : ℕ} {x : Receiver} {e : Rvalue} {g : Node} {q : ℕ} → Gives P T spot r x e g q → spot.next < length T → Below g
     below_gives as_value l = l
     below_gives (as_result {q = r'} i j d h) l = let m = slice_get_within T r' _ h in (l, (l, (below_all d, (tt, (m, (m, m))))))
 

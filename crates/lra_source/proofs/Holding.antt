@@ -9,9 +9,9 @@ use Rattle.lra_source.proofs.Numbering.{numbered}
 use Rattle.lra_source.proofs.Sound.{value_there, proved_holds, none_comes}
 
 pub solved_holds : (V H : Type 0) (m : Meaning V H) → Laws m → SolvedAreSound m
-solved_holds V H m laws plan P tree values verdicts flagged solved graph agrees = record {
-  stores = value_there V H m laws plan P tree solved.result solved.derived agrees values verdicts flagged solved.solves;
-  proved = λ q s there listed. proved_holds V H m laws plan P tree solved.result solved.derived agrees values verdicts flagged solved.solves
+solved_holds V H m laws plan P tree values verdicts flagged solved good graph agrees = record {
+  stores = value_there V H m laws plan P good tree solved.result solved.derived agrees values verdicts flagged solved.solves;
+  proved = λ q s there listed. proved_holds V H m laws plan P good tree solved.result solved.derived agrees values verdicts flagged solved.solves
       (iteration_fails_once (dropping m) plan P tree solved.result (numbered P tree graph) solved.derived) q s true there listed refl;
-  unreached = none_comes V H m laws plan P tree solved.result solved.derived agrees values verdicts flagged solved.solves;
+  unreached = none_comes V H m laws plan P good tree solved.result solved.derived agrees values verdicts flagged solved.solves;
 }

@@ -4,6 +4,9 @@ use Rattle.std.specs.Prelude.{slice_get, cond}
 use Rattle.std.proofs.lemmas.Bool.{cases_lt}
 use Rattle.std.proofs.lemmas.Option.{none-some, slice_get_within}
 use Rattle.lra_program.specs.Program.{Rvalue, Stmt, BlockItems, Program}
+use Rattle.lra_base.specs.declared.number_types.NumberType.{NumberType}
+use Rattle.lra_program.specs.declared.receivers.Receiver.{Receiver}
+use Rattle.lra_program.specs.Receivers.{behind_result}
 use Rattle.lra_operations.specs.Graph.{Node, seq, point}
 use Rattle.lra_program.specs.Sites.{Site, sites_of}
 use Rattle.lra_operations.specs.Inlined.{Spot, spot_of, move, callee, Has, HasSite, Inl, InlAll, Declares, Loops, Gives, as_nothing, as_block, as_absent, as_assign, as_call, as_if, as_loop, as_for}
@@ -129,7 +132,7 @@ module _ (T : List Site) (k : ℕ) where
           (then (values_in g k) (checks_in g k) (values_in h k) (checks_in h k) _ _ (suc spot.next) r q' (in_declares j) (in_all e) refl refl) (omega arith) (omega arith)
       in_all (as_statement {s = spot} {g = g} {h = h} {r = r} {q = q'} d e) = then (values_in g k) (checks_in g k) (values_in h k) (checks_in h k) _ _ spot.next r q' (in_one d) (in_all e) refl refl
 
-      in_declares : {spot : Spot} {r : ℕ} {e : Option Rvalue} {g : Node} {q : ℕ} → Declares P T spot r e g q → In g r q
+      in_declares : {spot : Spot} {r : ℕ} {t : NumberType} {e : Option Rvalue} {g : Node} {q : ℕ} → Declares P T spot r t e g q → In g r q
       in_declares (as_fresh {r = r}) = none r
       in_declares (as_given {r = r} {g = g} {q = q'} d) = same (values_in g k) (checks_in g k) _ _ r q' (in_gives d) (omega arith) (omega arith)
 
@@ -141,10 +144,10 @@ module _ (T : List Site) (k : ℕ) where
         is = refl;
       }
 
-      in_gives : {spot : Spot} {r : ℕ} {x : Option ℕ} {e : Rvalue} {g : Node} {q : ℕ} → Gives P T spot r x e g q → In g r q
+      in_gives : {spot : Spot} {r : ℕ} {x : Receiver} {e : Rvalue} {g : Node} {q : ℕ} → Gives P T spot r x e g q → In g r q
       in_gives (as_value {r = r}) = none r
       in_gives (as_result {s = spot} {r = r} {x = x} {c = c} {fn = fn} {g = g} {n = n'} {q = r'} i j d l) =
-          then (values_in g k) (checks_in g k) (one_if r' k) 0 _ _ r r' (suc r') (in_all d) (plain (spot_of (callee spot.frame spot.live x c) n' r') fn.end l) (omega arith) (omega arith)
+          then (values_in g k) (checks_in g k) (one_if r' k) 0 _ _ r r' (suc r') (in_all d) (plain (spot_of (callee spot.frame spot.live (behind_result fn.result_type x) c) n' r') fn.end l) (omega arith) (omega arith)
 
 past_none : {A : Type 0} (xs : List A) (k : ℕ) → slice_get xs k ≡ None → length xs ≤ k
 past_none [] k e = omega arith

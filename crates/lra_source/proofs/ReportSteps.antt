@@ -1,4 +1,6 @@
 -- From the tree of operations of a source to its report: what the iteration and the listing ask, and what they give.
+use Rattle.lra_program.specs.declared.program.GlobalVariable.{GlobalVariable}
+use Rattle.lra_program.specs.WellFormed.{AreGoodGlobals}
 use Rattle.std.proofs.Common.{◌≡◌, ◌≤◌, ◌<◌, ◌+◌, ◌^◌, ℕ, suc, ℤ, List, [], ◌∷◌, length, map, Bool, true, false, Option, Some, None, refl, sym, ap, ◌∙◌, subst, arith}
 use Rattle.std.specs.Prelude.{option_map, nat_lt, if◌then◌else◌, slice_get}
 use Rattle.std.specs.List.{AllByRecursion}
@@ -37,18 +39,25 @@ use Rattle.lra_source.proofs.Readable.{canonical, readable}
 
 -- what the iteration asks --------------------------------------------------------------------------------------------
 
-pub fits : (t : FileTree) (g : Node) (sites : List Site) (globals : List ℤ) → HasGraph t g sites → (resolve t).globals ≡ globals → TreeFits g (length globals)
-fits t g sites globals has is = subst (λ (l : List ℤ). TreeFits g (length l)) is (tree_fits (resolve t) g has.well has.few has.is_graph)
+pub fits : (t : FileTree) (g : Node) (sites : List Site) (globals : List GlobalVariable) → HasGraph t g sites → (resolve t).globals ≡ globals → TreeFits g
+    (length globals)
+fits t g sites globals has is = subst (λ (l : List GlobalVariable). TreeFits g (length l)) is (tree_fits (resolve t) g has.well has.few has.is_graph)
 
--- the first values of the globals, as they are handed on
-pub globals_seen : (p : declared.Program) (t : FileTree) (globals : List ℤ) → program_view p ≡ resolve t → globals ≡ p.globals.items → (resolve t).globals ≡ globals
+-- the globals, as they are handed on
+pub globals_seen : (p : declared.Program) (t : FileTree) (globals : List GlobalVariable) → program_view p ≡ resolve t → globals ≡ p.globals.items →
+    (resolve t).globals ≡ globals
 globals_seen p t globals is same = sym (ap (λ (P : Program). P.globals) is) ∙ sym same
 
-pub small_globals : (t : FileTree) (g : Node) (sites : List Site) (globals : List ℤ) → HasGraph t g sites → (resolve t).globals ≡ globals → length globals ≤ 2 ^ 30
+pub small_globals : (t : FileTree) (g : Node) (sites : List Site) (globals : List GlobalVariable) → HasGraph t g sites → (resolve t).globals ≡ globals → length
+    globals ≤ 2 ^ 30
 small_globals t g sites globals has is =
     let few = few_globals (resolve t) g has.few has.is_graph in
     let same : length (resolve t).globals ≡ length globals = ap length is in
     omega (arith, few, same)
+
+pub good_globals : (t : FileTree) (g : Node) (sites : List Site) (globals : List GlobalVariable) → HasGraph t g sites → (resolve t).globals ≡ globals →
+    AreGoodGlobals globals
+good_globals t g sites globals has is = subst AreGoodGlobals is has.well.globals
 
 pub is_numbered : (t : FileTree) (g : Node) (sites : List Site) → HasGraph t g sites → IsNumbered sites g
 is_numbered t g sites has = subst (λ (T : List Site). IsNumbered T g) (sym has.points) (numbered (resolve t) g has.is_graph)
@@ -128,6 +137,7 @@ is_told m shown o constants t g sites values verdicts flagged states r has solve
   options = options;
   lists = lists;
   analysed = record {
+    globals = has.well.globals;
     tree = g;
     is_graph = has.is_graph;
     result = solved.result;

@@ -75,7 +75,7 @@ module _ {V H : Type 0} (m : Meaning V H) (laws : Laws m) (shown : V → Invaria
   invariant : (k : ℕ) (s : Site) (p : PointReport) → slice_get (sites_of (resolve t)) k ≡ Some s → slice_get r.points k ≡ Some p → IsListed (globals_named t.parts) (labels_of t) s p
       → IsInvariant (resolve t) p
   invariant k s p there listed (is, names) store at =
-      let (v, found, has, long) = value_there V H m laws (plan_of settings constants) (resolve t) x.tree x.result x.derived agrees x.values x.verdicts x.flagged x.solves k s store there
+      let (v, found, has, long) = value_there V H m laws (plan_of settings constants) (resolve t) x.globals x.tree x.result x.derived agrees x.values x.verdicts x.flagged x.solves k s store there
       (subst (λ y. At (resolve t) y store) is at) in
       let (w, found', state) = value_of k p listed in
       let same : v ≡ w = same_Some v w (sym found ∙ found') in
@@ -90,7 +90,7 @@ module _ {V H : Type 0} (m : Meaning V H) (laws : Laws m) (shown : V → Invaria
       let (y, found, is_told) = map_at told_of (told Assertion) r.verdicts x.verdicts x.proved k v listed in
       let place : y.0 ≡ q = numbers v.number y.0 a.0 q (ap (λ (z : VerdictKind × ℕ × Bool). z.1) is_told) on.number is in
       let same : y ≡ (q, v.holds) = pair y.0 q y.1 v.holds place (sym (ap (λ (z : VerdictKind × ℕ × Bool). z.2) is_told)) in
-      proved_holds V H m laws (plan_of settings constants) (resolve t) x.tree x.result x.derived agrees x.values x.verdicts x.flagged x.solves
+      proved_holds V H m laws (plan_of settings constants) (resolve t) x.globals x.tree x.result x.derived agrees x.values x.verdicts x.flagged x.solves
       (iteration_fails_once (dropping m) (plan_of settings constants) (resolve t) x.tree x.result (numbered (resolve t) x.tree x.is_graph) x.derived)
       q a.1 v.holds site (subst (λ (z : ℕ × Bool). Contains x.verdicts z) same (contained x.verdicts k y found)) holds
       (subst (λ z. Fails (resolve t) z) on.point fails)

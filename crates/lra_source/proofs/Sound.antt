@@ -6,6 +6,7 @@ use Rattle.std.proofs.lemmas.Option.{none-some, same_Some}
 use Rattle.lra_domain.specs.Meaning.{Meaning}
 use Rattle.lra_domain.specs.Laws.{Laws}
 use Rattle.lra_program.specs.Program.{Program}
+use Rattle.lra_program.specs.WellFormed.{AreGoodGlobals}
 use Rattle.lra_program.specs.Run.{begun, At, Fails}
 use Rattle.lra_operations.specs.Graph.{Node}
 use Rattle.lra_report.specs.Report.{PointReport, Verdict}
@@ -25,10 +26,10 @@ use Rattle.lra_iter.proofs.Covering.{begun_covers}
 -- runs -----------------------------------------------------------------------------------------------------------------
 
 module _ (V H : Type 0) (m : Meaning V H) where
-  module _ (laws : Laws m) (set : Plan) (P : Program) (g : Node) (r : Result V) where
+  module _ (laws : Laws m) (set : Plan) (P : Program) (good : AreGoodGlobals P.globals) (g : Node) (r : Result V) where
     -- from the globals on, whatever is drawn, the iteration has the stores of the tree's runs
     pub derivation_covers : Derivation m set P g r → (draws : List ℤ) → Covers m g (begun P.globals draws) r
-    derivation_covers (none, first, e, universal, values, pass) draws = begun_covers m laws set P.globals g none first e r universal values pass draws
+    derivation_covers (none, first, e, universal, values, pass) draws = begun_covers m laws set P.globals good g none first e r universal values pass draws
 
     module _ (derived : Derivation m set P g r) (agrees : Agrees P g) (values : List V) (verdicts : List (ℕ × Bool)) (flagged : Option ℕ) (solves : Solves m r values verdicts flagged) where
       -- where a run comes to a point, the value there has its store

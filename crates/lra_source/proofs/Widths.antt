@@ -3,7 +3,11 @@ use Rattle.std.proofs.Common.{◌≡◌, ℕ, suc, ◌+◌, ◌-◌, ◌≤◌, 
 use Rattle.std.proofs.lemmas.Option.{same_Some}
 use Rattle.lra_program.specs.Program.{Cond, Rvalue, Stmt, BlockItems, Program}
 use Rattle.lra_program.specs.Step as step
-use Rattle.lra_program.specs.Step.{Op, append, give, give_any, keep, test}
+use Rattle.lra_program.specs.Step.{Op, append, give, give_any, keep, test, arguments_for}
+use Rattle.lra_base.specs.declared.number_types.NumberType.{NumberType}
+use Rattle.lra_program.specs.declared.receivers.Receiver.{Receiver}
+use Rattle.lra_program.specs.Receivers.{behind_result}
+use Rattle.lra_program.proofs.GivenArguments.{given_width}
 use Rattle.lra_operations.specs.Graph.{Exit, broken, continued, returned, Node, point, act, seq, catch, leave}
 use Rattle.lra_program.specs.Sites.{Site, sites_of}
 use Rattle.lra_operations.specs.Inlined.{Spot, spot_of, move, callee, HasSite, Inl, InlAll, Declares, Loops, Gives, as_nothing, as_block, as_absent, as_assign, as_call, as_if, as_loop, as_for}
@@ -77,13 +81,15 @@ module _ (T : List Site) where
       lives_one (as_for {s = spot} d e) = then_lives _ _ (lives_all d) (then_lives _ _ (lives_loop e) (keeps spot.next spot.live (low_all d)))
       lives_one (as_break {s = spot} {at = at} {m = m} i l j) = then_lives _ _ (at_point spot.next (live_at T spot at _ j)) (then_lives _ _ (keeps spot.next m l) (leaves spot.live broken))
       lives_one (as_continue {s = spot} {at = at} {m = m} i l j) = then_lives _ _ (at_point spot.next (live_at T spot at _ j)) (then_lives _ _ (keeps spot.next m l) (leaves spot.live continued))
-      lives_one (as_return {s = spot} {at = at} {b = b} i l j) = then_lives _ _ (at_point spot.next (live_at T spot at _ j)) (returns spot.next (give_any b.target) b.length l refl)
+      lives_one (as_return {s = spot} {at = at} {b = b} i l j) = then_lives _ _ (at_point spot.next (live_at T spot at _ j))
+          (returns spot.next (give_any b.receiver) b.length l refl)
       lives_one (as_return_value {s = spot} {at = at} {e = e} {b = b} i l j) = then_lives _ _ (at_point spot.next (live_at T spot at _ j))
-          (returns spot.next (give spot.frame.here.base b.target e) b.length l refl)
+          (returns spot.next (give spot.frame.here.base b.receiver e) b.length l refl)
       lives_one (as_return_call {s = spot} {at = at} {b = b} i l j d) =
           then_lives _ _ (at_point spot.next (live_at T spot at _ j)) (then_lives _ _ (lives_gives d) (then_lives _ _ (keeps spot.next b.length l) (leaves spot.live returned)))
       lives_one (as_end {s = spot} {at = at} i j) = then_lives _ _ (at_point spot.next (live_at T spot at _ j)) (leaves spot.live returned)
-      lives_one (as_end_value {s = spot} {at = at} i j) = then_lives _ _ (at_point spot.next (live_at T spot at _ j)) (leaves spot.live returned)
+      lives_one (as_end_value {s = spot} {at = at} {e = e} i j) = then_lives _ _ (at_point spot.next (live_at T spot at _ j))
+          (then_lives _ _ (acts spot.next (give spot.frame.here.base _ e) refl) (leaves spot.live returned))
       lives_one (as_end_call {s = spot} {at = at} i j d) = then_lives _ _ (at_point spot.next (live_at T spot at _ j)) (then_lives _ _ (lives_gives d) (leaves spot.live returned))
       lives_one (as_assert {s = spot} {at = at} i) = then_lives _ _ (at_point spot.next (live_at T spot at _ i)) (record { points = tt; behind = refl })
       lives_one (as_assume {s = spot} {at = at} {c = c} i) = then_lives _ _ (at_point spot.next (live_at T spot at _ i)) (acts spot.next (test spot.frame.here.base c true) refl)
@@ -93,21 +99,28 @@ module _ (T : List Site) where
       lives_all (as_declaration {s = spot} {d = d} i j e) = then_lives _ _ (then_lives _ _ (at_point spot.next (live_at T spot d.label _ i)) (lives_declares j)) (lives_all e)
       lives_all (as_statement d e) = then_lives _ _ (lives_one d) (lives_all e)
 
-      lives_declares : {spot : Spot} {r : ℕ} {e : Option Rvalue} {g : Node} {q : ℕ} → Declares P T spot r e g q → Lives T spot.live (suc spot.live) g
-      lives_declares (as_fresh {s = spot}) = acts spot.next append refl
-      lives_declares (as_given {s = spot} d) = then_lives _ _ (acts spot.next append refl) (lives_gives d)
+      lives_declares : {spot : Spot} {r : ℕ} {t : NumberType} {e : Option Rvalue} {g : Node} {q : ℕ} → Declares P T spot r t e g q → Lives T spot.live
+          (suc spot.live) g
+      lives_declares (as_fresh {s = spot} {t = t}) = acts spot.next (append t) refl
+      lives_declares (as_given {s = spot} {t = t} d) = then_lives _ _ (acts spot.next (append t) refl) (lives_gives d)
 
       lives_loop : {spot : Spot} {r : ℕ} {s : Stmt} {g : Node} {q : ℕ} → Loops P T spot r s g q → Lives T spot.live spot.live g
       lives_loop (is_loop {s = spot} {at = at} {c = c} {g = g} {h = h} i d e) = loops spot.next spot.frame.here.base c g h (live_at T spot at _ i) (lives_one e) (lives_one d)
 
-      lives_gives : {spot : Spot} {r : ℕ} {x : Option ℕ} {e : Rvalue} {g : Node} {q : ℕ} → Gives P T spot r x e g q → Lives T spot.live spot.live g
+      lives_gives : {spot : Spot} {r : ℕ} {x : Receiver} {e : Rvalue} {g : Node} {q : ℕ} → Gives P T spot r x e g q → Lives T spot.live spot.live g
       lives_gives (as_value {s = spot} {x = x} {e = e}) = acts spot.next (give spot.frame.here.base x e) refl
       lives_gives (as_result {s = spot} {x = x} {c = c} {fn = fn} {g = g} {n = n'} {q = r'} i j d k) =
-          let low : spot.live + fn.parameters ≤ n' = low_all d in
-          let inner : Lives T (spot.live + fn.parameters) spot.live (seq g (seq (point r') (seq (act r' (keep (spot.live + fn.parameters))) (seq (act r' (give_any x)) (act r' (keep spot.live)))))) =
-          then_lives _ _ (lives_all d) (then_lives _ _ (at_point r' (live_at T (spot_of (callee spot.frame spot.live x c) n' r') fn.end _ k)) (then_lives _ _ (keeps r' (spot.live + fn.parameters) low)
-          (then_lives _ _ (acts r' (give_any x) refl) (keeps r' spot.live (omega arith))))) in
-          then_lives _ _ (acts spot.next (step.push spot.frame.here.base c.arguments) (ap (λ (k : ℕ). spot.live + k) j)) (record { points = inner.points; behind = inner.behind })
+          let y = behind_result fn.result_type x in
+          let given = arguments_for fn.parameters c.arguments in
+          let params = length fn.parameters in
+          let low : spot.live + params ≤ n' = low_all d in
+          let inner : Lives T (spot.live + params) spot.live (seq g (seq (point r')
+          (seq (act r' (keep (spot.live + params))) (seq (act r' (give_any y)) (act r' (keep spot.live)))))) =
+          then_lives _ _ (lives_all d) (then_lives _ _ (at_point r' (live_at T (spot_of (callee spot.frame spot.live y c) n' r') fn.end _ k))
+          (then_lives _ _ (keeps r' (spot.live + params) low)
+          (then_lives _ _ (acts r' (give_any y) refl) (keeps r' spot.live (omega arith))))) in
+          then_lives _ _ (acts spot.next (step.push spot.frame.here.base given) (ap (λ (k : ℕ). spot.live + k) (given_width fn.parameters c.arguments j)))
+          (record { points = inner.points; behind = inner.behind })
 
 pub graph_lives : (P : Program) (g : Node) → IsGraph P g → PointsHave (sites_of P) g (length P.globals)
 graph_lives P g graph =

@@ -3,6 +3,7 @@
 use Rattle.std.specs.Prelude.{◌≡◌, ℕ, suc, ℤ, List, map, Bool, Option, None, Some, option_map}
 use Rattle.lra_domain.specs.Meaning.{Meaning}
 use Rattle.lra_program.specs.Program.{Program}
+use Rattle.lra_program.specs.WellFormed.{AreGoodGlobals}
 use Rattle.lra_operations.specs.Graph.{Node}
 use Rattle.lra_operations.specs.Agree.{IsGraph}
 use Rattle.lra_report.specs.Report.{Invariant, PointReport, Report}
@@ -17,6 +18,8 @@ use Rattle.lra_states.specs.Shown.{AreShown}
 -- `shown` is what the domain shows of a value; the program has these constants
 pub record IsAnalysed {V H : Type 0} (m : Meaning V H) (shown : V → Invariant) (settings : Options)
     (constants : List ℤ) (P : Program) (r : Report) : Type 0 where
+  -- the globals begin with numbers of their types
+  pub globals : AreGoodGlobals P.globals
   pub tree : Node
   pub is_graph : IsGraph P tree
   pub result : Result V

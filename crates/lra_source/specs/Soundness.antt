@@ -3,6 +3,7 @@ use Rattle.std.specs.Prelude.{◌≡◌, ℕ, ℤ, List, length, Bool, true, Opt
 use Rattle.std.specs.List.{Contains}
 use Rattle.lra_domain.specs.Meaning.{Meaning}
 use Rattle.lra_program.specs.Program.{Program}
+use Rattle.lra_program.specs.WellFormed.{AreGoodGlobals}
 use Rattle.lra_operations.specs.Graph.{Node}
 use Rattle.lra_program.specs.Run.{At, Fails}
 use Rattle.lra_program.specs.Sites.{Site, sites_of}
@@ -22,9 +23,10 @@ pub record HoldsInRuns {V H : Type 0} (m : Meaning V H) (P : Program) (values : 
   pub unreached : (q : ℕ) (s : Site) (v : V) (store : List ℤ) → slice_get (sites_of P) q ≡ Some s
       → slice_get values q ≡ Some v → IsUnreachable m v → At P (point_of s) store → ⊥
 
--- so it is with what is found over a tree that agrees with its program's runs
+-- so it is with what is found over a tree that agrees with its program's runs, where first values are numbers of
+-- their types
 abbrev pub SolvedAreSound : {V H : Type 0} → Meaning V H → Type 0
 SolvedAreSound {V} m =
     (plan : Plan) (P : Program) (tree : Node) (values : List V) (verdicts : List (ℕ × Bool))
-    (flagged : Option ℕ) → IsSolved m plan P tree values verdicts flagged → IsGraph P tree → Agrees P tree
-    → HoldsInRuns m P values verdicts
+    (flagged : Option ℕ) → IsSolved m plan P tree values verdicts flagged → AreGoodGlobals P.globals
+    → IsGraph P tree → Agrees P tree → HoldsInRuns m P values verdicts

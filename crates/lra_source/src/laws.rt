@@ -36,7 +36,8 @@ pub fn analyses_are_right<D: Domain>()
     ensures reports { AnalysedAreReports D.meaning }
 {}
 
-/// What an iteration over a domain finds holds in all runs.
+/// What an iteration over a domain finds, of a program whose first values are numbers of their types, holds in all
+/// runs.
 pub fn solved_are_sound<D: Domain>()
     ensures { SolvedAreSound D.meaning }
 {}

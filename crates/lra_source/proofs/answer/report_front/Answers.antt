@@ -9,11 +9,16 @@ use Rattle.lra_flow.specs.Plan.{plan_of}
 use Rattle.lra_report.specs.View.{report_of}
 use Rattle.lra_report.specs.declared.verdict_kinds.VerdictKind.TheVariants.{Assertion}
 use Rattle.lra_listing.specs.Given.{AreVerdicts, told}
-use Rattle.lra_source.proofs.ReportSteps.{fits, globals_seen, small_globals, is_numbered, few_points, canonical_there, shown_there, states_handed, verdicts_handed, flag_handed, is_told}
+use Rattle.lra_source.proofs.ReportSteps.{fits, globals_seen, small_globals, good_globals, is_numbered, few_points, canonical_there, shown_there, states_handed}
+use Rattle.lra_source.proofs.ReportSteps.{verdicts_handed, flag_handed, is_told}
 use Rattle.lra_source.proofs.answer.report_front.Goals as goal
 
 pub analyse-requires-clause-few : goal.analyse-requires-clause-few
 analyse-requires-clause-few g c = small_globals (tree_view c.args.front.now.tree) (node_view c.args.front.now.graph.tree)
+    (map site_view c.args.front.now.graph.sites.items) c.as_slice-globals.result.now c.requires.graph (globals_seen c.args.front.now.resolution.program (tree_view c.args.front.now.tree) c.as_slice-globals.result.now c.requires.program c.as_slice-globals.ensures.value)
+
+pub analyse-requires-clause-globals : goal.analyse-requires-clause-globals
+analyse-requires-clause-globals g c = good_globals (tree_view c.args.front.now.tree) (node_view c.args.front.now.graph.tree)
     (map site_view c.args.front.now.graph.sites.items) c.as_slice-globals.result.now c.requires.graph (globals_seen c.args.front.now.resolution.program (tree_view c.args.front.now.tree) c.as_slice-globals.result.now c.requires.program c.as_slice-globals.ensures.value)
 
 pub analyse-requires-clause-fits : goal.analyse-requires-clause-fits
