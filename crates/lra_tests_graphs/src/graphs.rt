@@ -37,9 +37,11 @@ fn is_small(tree: &Node) -> Option<bool> {
     let [declared, assigned, choice] = items_before(tree, 4)? else {
         return None;
     };
-    let fresh = matches!(behind_its_point(declared, 0)?, Node::Act(0, Op::Append));
+    let fresh = matches!(behind_its_point(declared, 0)?, Node::Act(0, Op::Append(_)));
     let given = match behind_its_point(assigned, 1)? {
-        Node::Act(1, Op::Give(0, Some(0), Expr::Literal(2))) => true,
+        Node::Act(1, Op::Give(0, receiver, Expr::Literal(_, 2))) => {
+            matches!(&receiver.target, Some(target) if target.place == 0)
+        }
         _ => false,
     };
     let tested = match behind_its_point(choice, 2)? {

@@ -24,3 +24,5 @@ mod samples;
 mod scripts;
 #[cfg(test)]
 mod thresholds;
+#[cfg(test)]
+mod types;

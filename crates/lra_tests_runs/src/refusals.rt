@@ -65,8 +65,8 @@ static MISSHAPEN: [(&str, &str); 10] = [
         "refused 4 Syntax at 1:13\n",
     ),
     (
-        "int f(void){} int main(void){}",
-        "refused 4 Syntax at 1:5\n",
+        "int f(void a){} int main(void){}",
+        "refused 4 Syntax at 1:12\n",
     ),
     (
         "void f(void,long a){} int main(void){}",

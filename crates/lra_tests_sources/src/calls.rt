@@ -96,7 +96,7 @@ fn identifier(alloc: Global, name: &str, line: u32, column: u32) -> Result<Ident
 /// A function of this name. What it calls is told by its labels.
 fn function(alloc: Global, name: &str, line: u32) -> Result<Function, AllocError> {
     Ok(Function {
-        result_type: Some(NumberType::Long),
+        result_type: Some(NumberType::Int),
         name: identifier(alloc, name, line, 5)?,
         parameters: Parameters {
             items: Vec::new(alloc),
@@ -145,7 +145,8 @@ fn add_line(
         .push(Item::Function(function(alloc, name, line)?))?;
     let end = add_labels(alloc, called, line, &mut lines.labels)?;
     lines.functions.push(lra_program::Function {
-        parameters: 0,
+        result_type: Some(NumberType::Int),
+        parameters: Vec::new(alloc),
         body: BlockItems {
             items: Vec::new(alloc),
         },

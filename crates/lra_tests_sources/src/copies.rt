@@ -1,11 +1,11 @@
 //! Copies of resolved expressions and conditions.
 
-use lra_base::Operator;
-use lra_program::{Cond, Expr, Operation, copy_expressions};
+use lra_base::{NumberType, Operator};
+use lra_program::{Cond, Expr, Operation, pair_arguments};
 use std::test::Fail;
 
 fn is_literal(e: &Expr, value: u64) -> bool {
-    matches!(e, Expr::Literal(n) if *n == value)
+    matches!(e, Expr::Literal(_, n) if *n == value)
 }
 
 /// Whether it is the sum of two literals.
@@ -31,12 +31,15 @@ fn copies_keep_the_literals(rt: HostRuntime) -> Result<(), Fail> {
     let mut rest = Vec::new(rt.alloc());
     rest.push(Operation {
         operator: Operator::Plus,
-        operand: Expr::Literal(3),
+        operand: Expr::Literal(NumberType::Int, 3),
     })?;
-    let sum = Expr::Chain(Box::new(rt.alloc(), Expr::Literal(2))?, rest);
-    let copies = copy_expressions(rt.alloc(), &[sum])?;
+    let sum = Expr::Chain(
+        Box::new(rt.alloc(), Expr::Literal(NumberType::Int, 2))?,
+        rest,
+    );
+    let copies = pair_arguments(rt.alloc(), &[NumberType::Long], &[sum])?;
     assert_eq!(rt; copies.len(), 1);
-    assert!(rt; is_sum(&copies[0], 2, 3));
+    assert!(rt; is_sum(&copies[0].value, 2, 3));
     Ok(())
 }
 

@@ -1,6 +1,6 @@
 //! Sources and their tokens, or their first fault, each with its place.
 
-use lra_base::{Refusal, SourceError};
+use lra_base::{NumberType, Refusal, SourceError};
 use lra_lex::{one_reading, tokens};
 use lra_tree::{Kind, Token};
 use std::alloc::{AllocError, Global};
@@ -63,17 +63,21 @@ static MARKS: [(&[u8], &str); 17] = [
 ];
 
 /// Numbers.
-static NUMBERS: [(&[u8], &str); 11] = [
+static NUMBERS: [(&[u8], &str); 12] = [
     (
         b"9223372036854775807 0x7fffffffffffffff 0777777777777777777777",
-        "9223372036854775807@1:1 9223372036854775807@1:21 9223372036854775807@1:40 End@1:62",
+        "9223372036854775807L@1:1 9223372036854775807L@1:21 9223372036854775807L@1:40 End@1:62",
+    ),
+    (
+        b"2147483647 2147483648 0x7fffffff 0x80000000",
+        "2147483647@1:1 2147483648L@1:12 2147483647@1:23 2147483648L@1:34 End@1:44",
     ),
     (b"x=9223372036854775808", "BadLiteral@1:3"),
     (b"0x8000000000000000", "BadLiteral@1:1"),
     (b"01000000000000000000000", "BadLiteral@1:1"),
     (
         b"0 00 0L 017 1l 1L 1ll 1LL 0xFfLL 0Xa",
-        "0@1:1 0@1:3 0@1:6 15@1:9 1@1:13 1@1:16 1@1:19 1@1:23 255@1:27 10@1:34 End@1:37",
+        "0@1:1 0@1:3 0L@1:6 15@1:9 1L@1:13 1L@1:16 1L@1:19 1L@1:23 255L@1:27 10@1:34 End@1:37",
     ),
     (b"08", "BadLiteral@1:1"),
     (b"0x", "BadLiteral@1:1"),
@@ -111,7 +115,10 @@ fn write_kind(text: &mut String, kind: &Kind) -> Result<(), AllocError> {
             let name = word.as_str();
             write!(text, "name {name}")
         }
-        Kind::Number(value) => write!(text, "{value}"),
+        Kind::Number(number_type, value) => match number_type {
+            NumberType::Int => write!(text, "{value}"),
+            NumberType::Long => write!(text, "{value}L"),
+        },
         Kind::Mark(mark) => write!(text, "{mark:?}"),
         Kind::Reserved => text.push_str("Reserved"),
         Kind::Unclosed => text.push_str("Unclosed"),

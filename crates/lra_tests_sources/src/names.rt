@@ -2,10 +2,10 @@
 
 use lra_base::{Cause, NumberType, Place, Refusal, SourceError};
 use lra_names::resolve;
-use lra_program::{BlockItem as ProgramItem, Program, Slot, Stmt as ProgramStmt};
+use lra_program::{BlockItem as ProgramItem, Program, Slot, Stmt as ProgramStmt, Variable};
 use lra_tree::{
     Arguments, Assign, Block, BlockItem, Call, Declaration, Declarator, Function, Global, Globals,
-    Identifier, Init, Item, Parameter, Parameters, Rvalue, Step, Stmt, Tree, Word,
+    Identifier, Init, Item, Parameter, Parameters, Rvalue, SignedLiteral, Step, Stmt, Tree, Word,
 };
 use std::alloc::{AllocError, Global as Allocator};
 use std::process::Abort;
@@ -38,15 +38,17 @@ enum Part {
     Prototype,
     /// `int x;`
     Global,
-    /// A function with a result or none, its name, how many parameters `a` it has, and its body.
+    /// `int x = ..;`
+    Given(i64),
+    /// A function with a result of `int` or none, its name, how many parameters `long a` it has, and its body.
     Function(bool, &'static str, usize, Body),
 }
 
 /// Where a function or a global variable is named.
 const NAME: u32 = 5;
 
-/// Where a function has its parameters.
-const PARAMETER: u32 = 10;
+/// Where a function has its parameters, and a global variable its first value.
+const BEHIND: u32 = 10;
 
 /// Where a function's statement begins.
 const STATEMENT: u32 = 20;
@@ -89,7 +91,7 @@ fn declaration(alloc: Allocator, line: u32) -> Result<Declaration, AllocError> {
     let mut rest = Vec::new(alloc);
     rest.push(declarator(alloc, line, SECOND)?)?;
     Ok(Declaration {
-        number_type: NumberType::Long,
+        number_type: NumberType::Int,
         first: declarator(alloc, line, STATEMENT)?,
         rest,
     })
@@ -141,7 +143,7 @@ fn parameters(alloc: Allocator, line: u32, count: usize) -> Result<Parameters, A
     for _ in 0..count {
         items.push(Parameter {
             number_type: NumberType::Long,
-            name: identifier(alloc, "a", line, PARAMETER)?,
+            name: identifier(alloc, "a", line, BEHIND)?,
         })?;
     }
     Ok(Parameters { items })
@@ -158,23 +160,34 @@ fn block(alloc: Allocator, line: u32, body: Body) -> Result<Block, AllocError> {
 
 fn result_type(has_result: bool) -> Option<NumberType> {
     if has_result {
-        Some(NumberType::Long)
+        Some(NumberType::Int)
     } else {
         None
     }
 }
 
+/// `int x;`, or with a first value.
+fn global(alloc: Allocator, line: u32, value: Option<SignedLiteral>) -> Result<Item, AllocError> {
+    let first = Global {
+        name: identifier(alloc, "x", line, NAME)?,
+        value,
+    };
+    Ok(Item::Globals(Globals {
+        number_type: NumberType::Int,
+        first,
+        rest: Vec::new(alloc),
+    }))
+}
+
 fn file_item(alloc: Allocator, line: u32, part: Part) -> Result<Item, AllocError> {
     match part {
         Part::Prototype => Ok(Item::Prototype),
-        Part::Global => Ok(Item::Globals(Globals {
-            number_type: NumberType::Long,
-            first: Global {
-                name: identifier(alloc, "x", line, NAME)?,
-                value: None,
-            },
-            rest: Vec::new(alloc),
-        })),
+        Part::Global => global(alloc, line, None),
+        Part::Given(value) => {
+            let column = BEHIND;
+            let place = Place { line, column };
+            global(alloc, line, Some(SignedLiteral { value, place }))
+        }
         Part::Function(has_result, name, count, body) => Ok(Item::Function(Function {
             result_type: result_type(has_result),
             name: identifier(alloc, name, line, NAME)?,
@@ -195,11 +208,17 @@ fn tree(alloc: Allocator, first: Part, second: Part) -> Result<Tree, AllocError>
     })
 }
 
+/// The first global variable, an `int`.
+const COUNTED: Variable = Variable {
+    slot: Slot::Global(0),
+    number_type: NumberType::Int,
+};
+
 /// Whether the item counts up the first global variable under the label 1.
 fn counts_up(item: &ProgramItem) -> bool {
     match item {
-        ProgramItem::Statement(ProgramStmt::Assign(label, slot, _)) => *label == 1
-            && *slot == Slot::Global(0),
+        ProgramItem::Statement(ProgramStmt::Assign(label, variable, _)) => *label == 1
+            && *variable == COUNTED,
         _ => false,
     }
 }
@@ -225,6 +244,26 @@ fn has_program(alloc: Allocator) -> Result<bool, SourceError> {
 #[test]
 fn a_source_has_its_program(rt: HostRuntime) {
     assert!(rt; has_program(rt.alloc()) == Ok(true));
+}
+
+/// Whether the first global variable is an `int` that begins with this value.
+fn begins_with(program: &Program, value: i64) -> bool {
+    match program.globals.first() {
+        Some(first) => first.number_type == NumberType::Int && first.value == value,
+        None => false,
+    }
+}
+
+/// Whether `int x` can begin with this value, and does.
+fn is_first_value(alloc: Allocator, value: i64) -> Result<bool, SourceError> {
+    let tree = tree(alloc, Part::Given(value), MAIN)?;
+    Ok(begins_with(&resolve(alloc, &tree)?.program, value))
+}
+
+#[test]
+fn the_ends_of_int_are_first_values(rt: HostRuntime) {
+    assert!(rt; is_first_value(rt.alloc(), -2147483648) == Ok(true));
+    assert!(rt; is_first_value(rt.alloc(), 2147483647) == Ok(true));
 }
 
 /// `int main() { ; }`
@@ -255,7 +294,7 @@ static FAULTS: [Fault; 14] = [
         MAIN,
         Cause::DuplicateName,
         1,
-        PARAMETER,
+        BEHIND,
     ),
     (
         Part::Prototype,
@@ -322,6 +361,19 @@ static FAULTS: [Fault; 14] = [
     ),
 ];
 
+/// First values that are no `int`.
+static FIRST_VALUES: [Fault; 3] = [
+    (Part::Given(2147483648), MAIN, Cause::BadLiteral, 1, BEHIND),
+    (Part::Given(-2147483649), MAIN, Cause::BadLiteral, 1, BEHIND),
+    (
+        Part::Global,
+        Part::Given(2147483648),
+        Cause::DuplicateName,
+        2,
+        NAME,
+    ),
+];
+
 /// Whether a source of these lines is refused so.
 fn is_refused(
     alloc: Allocator,
@@ -352,4 +404,5 @@ fn are_refused(rt: &impl Abort, alloc: Allocator, faults: &[Fault]) {
 #[test]
 fn a_source_is_refused_at_its_first_fault(rt: HostRuntime) {
     are_refused(&rt, rt.alloc(), &FAULTS);
+    are_refused(&rt, rt.alloc(), &FIRST_VALUES);
 }
