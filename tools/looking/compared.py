@@ -1,0 +1,91 @@
+"""Two reports, compared. Outside of what is proved."""
+import re
+from dataclasses import dataclass
+
+from looking.findings import Fingerprints
+from looking.reports import STEP, Point, Report
+from looking.sources import Source
+
+Key = tuple[object, ...]
+
+
+@dataclass(frozen=True)
+class Told:
+    """A point, with the verdict on it."""
+
+    point: Point
+    verdict: str
+
+    @property
+    def where(self) -> str:
+        return f'{self.point.line}:{self.point.column} {self.point.path}'
+
+
+class Names:
+    """The keys by which points of two versions are told: of their statements and of the calls on their paths."""
+
+    def __init__(self, source: Source) -> None:
+        self.source = source
+        self.fingerprints = Fingerprints(source)
+        self.known: dict[int, Key] = {}
+
+    def prepare(self, report: Report) -> None:
+        """Names all statements, in text order."""
+        for offset in report.places():
+            self.known[offset] = self.fingerprints.count('', offset)
+
+    def step(self, found: re.Match[str]) -> str:
+        """A step of a path, by its call's statement instead of its place."""
+        offset = self.source.offset(int(found['line']), int(found['column']))
+        index = max((own for own in self.known if offset is not None and own <= offset), default=0)
+        return f'{found["name"]}@{self.known.get(index)}'
+
+    def key(self, point: Point) -> Key:
+        return (*self.known[point.offset], STEP.sub(self.step, point.path))
+
+
+def told_of(report: Report, names: Names | None) -> dict[Key, Told]:
+    """The points of a report by their keys: by place and path, or by the statement's name and path."""
+    if names:
+        names.prepare(report)
+    found = {}
+    for point in report.points:
+        verdict = report.verdicts.get(point.number)
+        word = (verdict.kind.known if verdict.is_known else verdict.kind.unknown) if verdict else ''
+        key = names.key(point) if names else (point.line, point.column, point.path)
+        found[key] = Told(point, word if point.parts or not word else f'{word}, never reached')
+    return found
+
+
+def rows_of(point: Point) -> set[str]:
+    """The rows of a point; of several parts each part's together."""
+    if len(point.parts) == 1:
+        return set(point.parts[0].rows)
+    return {f'({", ".join(part.rows) or "any values"})' for part in point.parts}
+
+
+def change_of(old: Told, new: Told) -> list[str]:
+    """What changed at a point."""
+    lines = []
+    if old.verdict != new.verdict:
+        lines.append(f'{new.where}: {old.verdict or "no assertion"} became {new.verdict or "no assertion"}')
+    if bool(old.point.parts) != bool(new.point.parts):
+        return lines + [f'{new.where}: {"reached now" if new.point.parts else "never reached now"}']
+    lost, won = rows_of(old.point) - rows_of(new.point), rows_of(new.point) - rows_of(old.point)
+    lines += [f'{new.where}: lost {row}' for row in sorted(lost)]
+    return lines + [f'{new.where}: won {row}' for row in sorted(won)]
+
+
+def changes(old: Report, new: Report, old_source: Source | None, new_source: Source | None) -> list[str]:
+    """What changed, in the order of the new report; then what is gone."""
+    before = told_of(old, Names(old_source) if old_source else None)
+    after = told_of(new, Names(new_source) if new_source else None)
+    lines = []
+    for key, told in after.items():
+        if key in before:
+            lines += change_of(before[key], told)
+        elif told.verdict:
+            lines.append(f'{told.where}: new, {told.verdict}')
+    return lines + [
+        f'{told.where}: gone, was {told.verdict}' for key, told in before.items() if key not in after and told.verdict
+    ]

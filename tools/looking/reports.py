@@ -1,0 +1,296 @@
+"""Reports as JSON: read, checked against their source, and asked for of `lra`. Outside of what is proved."""
+import json
+import os
+import re
+import subprocess
+from dataclasses import dataclass, field
+from typing import Any
+
+from looking.rows import GENERATOR_TEXT, ROW_TEXT
+from looking.sources import Source
+
+TOP = os.path.dirname(os.path.dirname(os.path.dirname(os.path.realpath(__file__))))
+PROGRAM = os.path.join(TOP, 'crates', 'lra', 'out', 'lra')
+PLACE = re.compile(r'([1-9]\d*):([1-9]\d*)', re.ASCII)
+STEP = re.compile(r'(?P<name>[A-Za-z_]\w*)@(?P<line>[1-9]\d*):(?P<column>[1-9]\d*)', re.ASCII)
+REFUSED = re.compile(r'refused (\d+) (\w+) at ([1-9]\d*):([1-9]\d*)\n', re.ASCII)
+
+
+class Fault(Exception):
+    """What the tools refuse, in one line."""
+
+
+class Failed(Exception):
+    """The program ended with a status that tells no report: that status, in one line."""
+
+    def __init__(self, said: str, status: int) -> None:
+        super().__init__(said)
+        self.status = status
+
+
+@dataclass(frozen=True)
+class Kind:
+    """A kind of verdict: the list that has them in a report, the words for what is known and what isn't, and how
+    both are told."""
+
+    key: str
+    rule: str
+    known: str
+    unknown: str
+    passes: str
+    fails: str
+    asks: bytes
+    help: str
+
+
+# A later kind of verdict is a row here.
+KINDS = (
+    Kind(
+        'asserts',
+        'assert',
+        'proved',
+        'unknown',
+        'assertion is proved',
+        "assertion isn't proved",
+        b'assert',
+        "Something is left of what is known there where the assertion's condition is false: an execution may fail it, "
+        'or more has to be known. Look at the rows that hold there; then try `--best`, or state in an `assume` what '
+        'the surroundings promise.',
+    ),
+)
+
+
+@dataclass(frozen=True)
+class Part:
+    """Rows, and over polyhedra their generators, as texts."""
+
+    rows: tuple[str, ...]
+    generators: tuple[str, ...] | None
+
+
+@dataclass(frozen=True)
+class Point:
+    """A place of the program on a path of calls, with what holds there; no parts where no execution is there."""
+
+    number: int
+    path: str
+    line: int
+    column: int
+    offset: int
+    parts: tuple[Part, ...]
+
+
+@dataclass(frozen=True)
+class Verdict:
+    """What a report says of a point that asks something."""
+
+    kind: Kind
+    is_known: bool
+
+
+@dataclass
+class Report:
+    """A report of a source that was taken."""
+
+    analysis: dict[str, Any]
+    flagged: int
+    points: list[Point]
+    verdicts: dict[int, Verdict]
+    milliseconds: float = 0.0
+
+    @property
+    def status(self) -> int:
+        """The exit status of the run that tells it."""
+        return 0 if all(verdict.is_known for verdict in self.verdicts.values()) else 1
+
+    @property
+    def options(self) -> str:
+        """The options, as the first line of a report tells them."""
+        told = self.analysis
+        limited = 'yes' if told['limited'] else 'no'
+        tail = ' thresholds yes' if told.get('thresholds') else ''
+        numbers = f'parts {told["parts"]} delay {told["delay"]} narrow {told["narrow"]}'
+        return f'{told["domain"]} {numbers} limited {limited}{tail}'
+
+    @property
+    def words(self) -> str:
+        """The options, as words of a command."""
+        flags = ''.join(f' --{name}' for name in ('limited', 'thresholds') if self.analysis.get(name))
+        return ' '.join(f'--{name} {self.analysis[name]}' for name in ('domain', 'parts', 'delay', 'narrow')) + flags
+
+    def places(self) -> dict[int, list[Point]]:
+        """The points by their offset, in text order; those of one offset in the report's order."""
+        found: dict[int, list[Point]] = {}
+        for point in self.points:
+            found.setdefault(point.offset, []).append(point)
+        return dict(sorted(found.items()))
+
+
+@dataclass(frozen=True)
+class Refusal:
+    """The one refusal that a source deserves."""
+
+    number: int
+    name: str
+    line: int
+    column: int
+    offset: int
+    status: int = field(default=2)
+
+
+Answer = Report | Refusal
+
+
+def expect(is_so: bool, said: str) -> None:
+    """Refuses where something isn't as a report has it."""
+    if not is_so:
+        raise Fault(said)
+
+
+def is_count(value: object) -> bool:
+    """Whether it is a whole number that isn't negative."""
+    return isinstance(value, int) and not isinstance(value, bool) and value >= 0
+
+
+def texts(value: object, form: re.Pattern[str], said: str) -> tuple[str, ...]:
+    """A list of texts of this form."""
+    expect(
+        isinstance(value, list) and all(isinstance(text, str) for text in value),
+        'rows and generators are lists of texts',
+    )
+    assert isinstance(value, list)
+    for text in value:
+        expect(form.fullmatch(text) is not None, f'`{text[:80]}` is no {said}')
+    return tuple(value)
+
+
+def read_part(told: object, domain: str) -> Part:
+    """One part of a state."""
+    expect(isinstance(told, dict) and 'rows' in told, 'a part has rows')
+    assert isinstance(told, dict)
+    expect(('generators' in told) == (domain == 'poly'), 'a part has generators exactly over polyhedra')
+    generators = texts(told['generators'], GENERATOR_TEXT, 'generator') if domain == 'poly' else None
+    return Part(texts(told['rows'], ROW_TEXT, 'row'), generators)
+
+
+def offset_in(source: Source, line: int, column: int) -> int:
+    """The offset of a place of the report, which has to be in the file."""
+    offset = source.offset(line, column)
+    if offset is None:
+        raise Fault(f'the report is of another source: {line}:{column} is outside the file')
+    return offset
+
+
+def read_point(told: object, number: int, domain: str, source: Source) -> Point:
+    """The point with this number."""
+    expect(isinstance(told, dict) and told.get('number') == number, f'no point {number}')
+    assert isinstance(told, dict)
+    place = PLACE.fullmatch(told['place']) if isinstance(told.get('place'), str) else None
+    expect(
+        place is not None and isinstance(told.get('path'), str) and isinstance(told.get('parts'), list),
+        f'point {number} has no place, path or parts',
+    )
+    assert place is not None
+    line, column = int(place[1]), int(place[2])
+    offset = offset_in(source, line, column)
+    expect(source.index_at(offset) is not None, f'the report is of another source: nothing begins at {line}:{column}')
+    first, *steps = told['path'].split('/')
+    for step in steps:
+        found = STEP.fullmatch(step)
+        expect(found is not None, f'`{told["path"]}` is no path of calls')
+        assert found is not None
+        offset_in(source, int(found['line']), int(found['column']))
+    expect(first == 'main', f'`{told["path"]}` is no path of calls')
+    return Point(number, told['path'], line, column, offset, tuple(read_part(part, domain) for part in told['parts']))
+
+
+def read_verdicts(told: dict[str, Any], points: list[Point], source: Source) -> dict[int, Verdict]:
+    """The verdicts of all kinds, by their points' numbers."""
+    found: dict[int, Verdict] = {}
+    for kind in KINDS:
+        listed = told.get(kind.key)
+        expect(isinstance(listed, list), f'no list of {kind.key}')
+        assert isinstance(listed, list)
+        for row in listed:
+            expect(
+                isinstance(row, dict)
+                and row.get('verdict') in (kind.known, kind.unknown)
+                and is_count(row.get('point'))
+                and 1 <= row['point'] <= len(points),
+                f'{kind.key} has a row without a point or a verdict',
+            )
+            point = points[row['point'] - 1]
+            token = source.tokens[source.index_at(point.offset) or 0]
+            expect(
+                not kind.asks or token.text == kind.asks,
+                f'the report is of another source: no {kind.rule} at {point.line}:{point.column}',
+            )
+            found[point.number] = Verdict(kind, row['verdict'] == kind.known)
+    return found
+
+
+def read_report(data: bytes, source: Source) -> Report:
+    """The report that these bytes tell, checked: what isn't one, or is one of another source, is refused."""
+    try:
+        told = json.loads(data.decode('utf-8'))
+    except (ValueError, RecursionError):
+        raise Fault('no JSON, or one that was cut off') from None
+    expect(
+        isinstance(told, dict) and isinstance(told.get('analysis'), dict) and isinstance(told.get('points'), list),
+        'a JSON that is no report',
+    )
+    analysis = told['analysis']
+    expect(
+        analysis.get('domain') in ('poly', 'box', 'oct')
+        and isinstance(analysis.get('limited'), bool)
+        and all(is_count(analysis.get(key)) for key in ('parts', 'delay', 'narrow')),
+        'a report without its options',
+    )
+    points = [read_point(point, number, analysis['domain'], source) for number, point in enumerate(told['points'], 1)]
+    expect(is_count(told.get('flagged')) and told['flagged'] <= len(points), 'a report without its flag')
+    verdicts = read_verdicts(told, points, source)
+    counts = [
+        sum(verdict.is_known == known for verdict in verdicts.values() if verdict.kind is KINDS[0])
+        for known in (True, False)
+    ]
+    expect(counts == [told.get('proved'), told.get('unknown')], "a report whose counts aren't those of its verdicts")
+    return Report(analysis, told['flagged'], points, verdicts)
+
+
+def read_source(name: str) -> Source:
+    """The source in this file."""
+    try:
+        with open(name, 'rb') as file:
+            return Source(name, file.read())
+    except OSError as fault:
+        raise Fault(f'{name}: {fault.strerror}') from None
+
+
+def read_refusal(text: str, source: Source) -> Refusal | None:
+    """The refusal that this line tells."""
+    found = REFUSED.fullmatch(text)
+    if not found:
+        return None
+    line, column = int(found[3]), int(found[4])
+    return Refusal(int(found[1]), found[2], line, column, offset_in(source, line, column))
+
+
+def analyse(source: Source, program: str, words: list[str]) -> Answer:
+    """What the program says of the source under these options."""
+    try:
+        run = subprocess.run(
+            [program, 'analyse', '--json', *words], input=source.data, capture_output=True, check=False
+        )
+    except OSError:
+        raise Fault(f'{program} is no program that runs; ./lra builds it, --lra names another one') from None
+    if run.returncode == 2 and (refusal := read_refusal(run.stdout.decode('utf-8', 'replace'), source)):
+        return refusal
+    if run.returncode not in (0, 1):
+        said = (run.stdout + run.stderr).decode('utf-8', 'replace').strip().split('\n')[0]
+        raise Failed(
+            f'{source.name}: {program} ended with status {run.returncode}: {said or "no word"}', abs(run.returncode)
+        )
+    try:
+        return read_report(run.stdout, source)
+    except Fault as fault:
+        raise Fault(f'{source.name}: what {program} printed: {fault}') from None
