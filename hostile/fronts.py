@@ -5,16 +5,18 @@
 """
 from trial import answer, ended, refused, tell
 
-SOURCE = 'int main(void){ long x; x = 3; assert(x >= 3); }'
-PLACES = {2: '1:1', 3: '1:4', 11: '1:10', 47: '1:48'}
+SOURCES = {
+    'int main(void){ long x; x = 3; assert(x >= 3); }': {2: '1:1', 3: '1:4', 11: '1:10', 47: '1:48'},
+    'int main(void){ int x=input(); for(int i=0;i<x;i++) ; }': {19: '1:20', 20: '1:21', 37: '1:38', 54: '1:55'},
+}
 
-assert len(SOURCE) == 48
 refused('no byte', '', 'refused 6 NoMain at 1:1')
-for count in range(1, len(SOURCE)):
-    if count in PLACES:
-        refused(f'{count} bytes', SOURCE[:count], f'refused 4 Syntax at {PLACES[count]}')
-        continue
-    status, text, _ = answer('analyse', SOURCE[:count])
-    told = text.startswith('refused 4 Syntax at 1:') and text.endswith('\n') and text.count('\n') == 1
-    tell(f'{count} bytes', status == 2 and told, (status, text))
+for source, places in SOURCES.items():
+    for count in range(1, len(source)):
+        if count in places:
+            refused(f'{count} bytes of {source}', source[:count], f'refused 4 Syntax at {places[count]}')
+            continue
+        status, text, _ = answer('analyse', source[:count])
+        told = text.startswith('refused 4 Syntax at 1:') and text.endswith('\n') and text.count('\n') == 1
+        tell(f'{count} bytes of {source}', status == 2 and told, (status, text))
 ended()

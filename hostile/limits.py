@@ -43,6 +43,18 @@ case('the greatest literal', BOX, 'int main(void){ long x=9223372036854775807; }
 refused('one more', 'int main(void){ long x=9223372036854775808; }', 'refused 3 BadLiteral at 1:24')
 refused('an octal 8', 'int main(void){ long x=08; }', 'refused 3 BadLiteral at 1:24')
 
+# first values of globals, and numbers of 32 bits
+case('the least and the greatest int', BOX, 'int g=-2147483648, h=2147483647; int main(void){}', 0,
+     holds=['  row g = -2147483648\n  row h = 2147483647\n'])
+refused('one less', 'int g=-2147483649; int main(void){}', 'refused 3 BadLiteral at 1:8')
+refused('one more than the greatest int', 'int g=2147483648; int main(void){}', 'refused 3 BadLiteral at 1:7')
+refused('the same with a suffix', 'int g=2147483648L; int main(void){}', 'refused 3 BadLiteral at 1:7')
+case('the same as a long', BOX, 'long g=2147483648; int main(void){}', 0, holds=['  row g = 2147483648\n'])
+case('an int past the greatest', BOX, 'int main(void){ int x=2147483648; }', 0,
+     holds=['point 2 main 1:35\n  unreachable\n'])
+case('63 signs of an int', BOX, 'int main(void){ int x=' + '- ' * 63 + '1; }', 0, holds=['  row x = -1\n'])
+refused('64 signs of an int', 'int main(void){ int x=' + '- ' * 64 + '1; }', 'refused 5 TooDeep at 1:149')
+
 # calls in a path: the one past the limit is that of `a0` in `a1`
 case('32 calls in a path', BOX, chain(31), 0)
 refused('33 calls in a path', chain(32), 'refused 13 TooManyPoints at 2:16')
@@ -50,6 +62,7 @@ refused('33 calls in a path', chain(32), 'refused 13 TooManyPoints at 2:16')
 # variables that live at a point, at once and through a call
 case('24 variables', BOX, 'int main(void){ long ' + ','.join(NAMES[:24]) + ';}', 0, holds=['point 25 main '])
 refused('25 variables', 'int main(void){ long ' + ','.join(NAMES) + ';}', 'refused 12 TooManyVariables at 1:113')
+case('24 ints', BOX, 'int main(void){ int ' + ','.join(NAMES[:24]) + ';}', 0, holds=['point 25 main '])
 THROUGH = 'void f(long p){}\nint main(void){ long %s; f(1);}'
 case('23 variables and a parameter', BOX, THROUGH % ','.join(NAMES[:23]), 0)
 refused('24 variables and a parameter', THROUGH % ','.join(NAMES[:24]), 'refused 12 TooManyVariables at 1:16')

@@ -82,12 +82,19 @@ def cube(names):
     return 'int main(void){ ' + ' '.join(lines) + ' }'
 
 
+def unknown(names):
+    """Each of the variables is an `int` that may have any value: two to their number of points."""
+    return 'int main(void){ int ' + ', '.join(names) + '; }'
+
+
 # texts that open what they don't close
 refused('65,536 opening parentheses', '(' * 65536, 'refused 4 Syntax at 1:1')
 refused('a comment without an end', '/*' + 'x' * 65000, 'refused 4 Syntax at 1:1')
 refused('65,500 opening braces', 'int main(void){' + '{' * 65500, 'refused 5 TooDeep at 1:79')
 refused('65,500 negations', 'int main(void){ assert(' + '!' * 65500, 'refused 5 TooDeep at 1:87')
-case('a form of 31,000 terms', BOX, 'int main(void){ long x=1' + '+1' * 30999 + ';}', 0, holds=['  row x = 31000\n'])
+for type in ('long', 'int'):
+    case(f'a form of 31,000 terms, {type}', BOX, f'int main(void){{ {type} x=1' + '+1' * 30999 + ';}', 0,
+         holds=['  row x = 31000\n'])
 
 # calls that double
 for times in (3, 8):
@@ -125,6 +132,10 @@ for parts in (1, 16):
          whole=doubled_in_loop(parts))
 case('a cube of 12 dimensions', 'analyse', cube('abcdefghijkl'), 0, holds=['\nflagged 0\n'], limit=10)
 case('a cube of 13 dimensions', 'analyse', cube('abcdefghijklm'), 0, holds=['\nflagged at point 26\n'], limit=10)
+case('12 unknown ints', 'analyse', unknown('abcdefghijkl'), 0, holds=['\nflagged 0\n'], limit=10)
+case('13 unknown ints', 'analyse', unknown('abcdefghijklm'), 0, holds=['\nflagged at point 13\n'], limit=10)
+case('24 unknown ints over octagons', 'analyse --domain oct', unknown('abcdefghijklmnopqrstuvwx'), 0,
+     holds=['\nflagged 0\n', '\n  row x >= -2147483648\n  row x <= 2147483647\nverdicts '])
 case('an image whose number passes', 'calc', f'dims 1\ngen P point 1 {M}\nimage Q P 1 0 2\nshow Q\n', 0,
      whole='show Q\n  row true\n  gen point x1=0\n  gen line x1=1\nflagged at line 3\n')
 case('an image whose number does not', 'calc', f'dims 1\ngen P point 1 {M}\nimage Q P 1 0 1\nshow Q\n', 0,
