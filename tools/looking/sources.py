@@ -30,7 +30,7 @@ def decode(data: bytes) -> str:
 
 def units(data: bytes) -> int:
     """How many UTF-16 units the text of these bytes has."""
-    return sum(2 if ord(mark) > 0xFFFF else 1 for mark in decode(data))
+    return len(data) if data.isascii() else len(decode(data).encode('utf-16-le')) // 2
 
 
 class Source:
