@@ -1,7 +1,7 @@
 //! Programs with their calls written out.
 
 use crate::sources::{program_of, tree_of};
-use lra_base::SourceError;
+use lra_base::{NumberType, SourceError};
 use lra_graph::{GraphError, Limit, build};
 use lra_operations::{Node, Op, Site};
 use lra_program::Expr;
@@ -37,10 +37,16 @@ fn is_small(tree: &Node) -> Option<bool> {
     let [declared, assigned, choice] = items_before(tree, 4)? else {
         return None;
     };
-    let fresh = matches!(behind_its_point(declared, 0)?, Node::Act(0, Op::Append(_)));
+    let fresh = matches!(
+        behind_its_point(declared, 0)?,
+        Node::Act(0, Op::Append(NumberType::Long))
+    );
     let given = match behind_its_point(assigned, 1)? {
-        Node::Act(1, Op::Give(0, receiver, Expr::Literal(_, 2))) => {
-            matches!(&receiver.target, Some(target) if target.place == 0)
+        Node::Act(1, Op::Give(0, receiver, Expr::Literal(NumberType::Int, 2))) => {
+            matches!(
+                &receiver.target,
+                Some(target) if target.place == 0 && target.number_type == NumberType::Long
+            )
         }
         _ => false,
     };
