@@ -26,10 +26,10 @@ fn refusal(tokens: &[Token], fault: Fault) -> Refusal
     }
 }
 
-/// The tree of the tokens, whose last and no other is the end, and whose numbers are those of their types; or the first fault:
-/// the first token with which no source begins, or that opens a level past the 64th. Both are exact: no text has two
-/// trees, and a fault is the only one (`one_tree`). The time is linear in the number of tokens, and calls nest at most
-/// in proportion to the levels.
+/// The tree of the tokens, whose last and no other is the end, and whose numbers are those of their types; or the first
+/// fault: the first token with which no source begins, or that opens a level past the 64th. Both are exact: no text has
+/// two trees, and a fault is the only one (`one_tree`). The time is linear in the number of tokens, and calls nest at
+/// most in proportion to the levels.
 pub fn parse(alloc: Global, tokens: &[Token]) -> Result<Tree, SourceError>
     requires ends { EndsOnce tokens.now }
     requires small { AreSmall tokens.now }
