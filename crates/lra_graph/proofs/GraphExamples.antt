@@ -16,7 +16,8 @@ use Rattle.lra_tree.proofs.TreeSamples.{called_twice}
 use Rattle.lra_program.proofs.RunExamples as run
 
 -- its tree is derived, one case for each statement
-called_twice_graph : (g : Node) × InlAll (resolve called_twice) (sites_of (resolve called_twice)) (main_spot (resolve called_twice)) (resolve called_twice).main.body g 1 9
+unfoldable pub called_twice_graph : (g : Node) × InlAll (resolve called_twice) (sites_of (resolve called_twice)) (main_spot (resolve called_twice))
+    (resolve called_twice).main.body g 1 9
 called_twice_graph = (
   _,
   as_declaration refl

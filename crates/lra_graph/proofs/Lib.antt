@@ -3,6 +3,7 @@ pub mod Shapes
 pub mod Lengths
 -- Runs of programs against runs of trees, from programs to trees and back.
 pub mod Landing
+pub mod Asking
 pub mod Split
 pub mod Does
 -- Whole programs.
@@ -13,6 +14,9 @@ pub mod Pieces
 -- Points are distinct.
 pub mod DistinctLists
 pub mod DistinctSites
+-- What a tree asks.
+pub mod AskedOnce
+pub mod Asked
 -- Parts of a program written out: their points, their trees, and where a limit stops them.
 pub mod Walking
 pub mod Writing
@@ -36,3 +40,5 @@ mod StepsLeft
 pub mod Programs
 -- Trees of sources.
 mod GraphExamples
+-- And what they ask.
+mod AskedExamples

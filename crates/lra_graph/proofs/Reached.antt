@@ -19,9 +19,10 @@ module _ (may : State → State → Type 0) (keeps : KeepsWidth may) where
       (d : InlAll P T (main_spot P) P.main.body body live last) (has : Has T (move (main_spot P) live last) P.main.end) where
     -- main's end is there, or nothing follows it
     at_end : (m : Trail Point) (n : ℕ) → length m.state.store ≡ live → Walks may P n (config (end_of P.main.end (length P.globals) ∷ []) (main_frame P).here m.state) m.met c zs
-        → Hit may T c zs p (point last) m
+        → Hit may P T c zs p (point last) m
     at_end m zero l t =
-        hit_there may T c zs p (move (main_spot P) live last) P.main.end false (end_of P.main.end (length P.globals) ∷ []) m (point last) on has l refl (refl, refl) (λ b w z. absurd z) t
+        hit_there may P T c zs p (move (main_spot P) live last) P.main.end false (end_of P.main.end (length P.globals) ∷ []) m (point last) on has l refl
+        (refl, refl) (λ b w z. absurd z) (λ over fresh. absurd over) t
     at_end m (suc n) l t =
         let x = enters may keeps P T c zs p on (end_of P.main.end (length P.globals) ∷ []) (move (main_spot P) live last) P.main.end false n m has l refl t in
         let y = go_some [] (main_frame P).here (run_op (keep (length P.globals)) x.past.state) x.goal x.step in
@@ -29,16 +30,16 @@ module _ (may : State → State → Type 0) (keeps : KeepsWidth may) where
         absurd (none-some z.1 z.3)
 
     whole : (a : Trail Point) (n : ℕ) → length a.state.store ≡ length P.globals → Splits may keeps P T c zs p on (main_frame P).here (end_of P.main.end (length P.globals) ∷ []) n body a
-        → Hit may T c zs p (seq body (point last)) a
-    whole a n l (hits x) = hit_seq may T c zs p body (point last) a x
-    whole a n l (ended j m i e t) = hit_then may T c zs p body (point last) a m e (at_end m j ((length_all (point_at T) may keeps d).ends a m _ l e) t)
+        → Hit may P T c zs p (seq body (point last)) a
+    whole a n l (hits x) = hit_seq may P T c zs p body (point last) a x
+    whole a n l (ended j m i e t) = hit_then may P T c zs p body (point last) a m e (at_end m j ((length_all (point_at T) may keeps d).ends a m _ l e) t)
     whole a n l (jumped j broken m e i x b t) = absurd (none-some e b)
     whole a n l (jumped j continued m e i x b t) = absurd (none-some e b)
     whole a n l (jumped j returned m e i x b t) = absurd (none-some e b)
 
   -- the tree comes to each point at which a run stands, and fails where the run fails
   pub reached : (P : Program) (g : Node) → IsGraph P g → (c : Config) (zs : List (Met Point)) (p : Point) (draws : List ℤ) (n : ℕ) → Walks may P n (start P draws) [] c zs → IsOn c p
-      → Hit may (sites_of P) c zs p.label g (trail (begun P.globals draws) [])
+      → Hit may P (sites_of P) c zs p.label g (trail (begun P.globals draws) [])
   reached P g is c zs p draws n w on =
       let cut = (all_below may keeps P (sites_of P) c zs p.label on.label (suc n)).every (main_spot P) P.main.body is.body is.live is.last is.inlined
       (end_of P.main.end (length P.globals) ∷ []) (trail (begun P.globals draws) []) n

@@ -1,5 +1,6 @@
 -- A run that comes to a point, cut at the statement on top: the point is inside, or the statement ends or jumps before.
-use Rattle.std.proofs.Common.{◌≡◌, ◌≢◌, ℕ, zero, suc, ◌+◌, ◌<◌, ◌≤◌, List, ◌∷◌, length, Option, Some, None, Bool, true, false, ◌⊎◌, inl, inr, refl, sym, ap, ◌∙◌, subst, slice_get, arith}
+use Rattle.std.proofs.Common.{◌≡◌, ◌≢◌, ℕ, zero, suc, ◌+◌, ◌<◌, ◌≤◌, List, [], ◌∷◌, ◌++◌, length, Option, Some, None, Bool, true, false, ◌⊎◌, inl, inr, refl}
+use Rattle.std.proofs.Common.{sym, ap, ◌∙◌, subst, slice_get, arith}
 use Rattle.std.proofs.lemmas.Option.{same_Some, none-some}
 use Rattle.lra_program.specs.Program.{Cond, Call, Rvalue, value, result, Declarator, Stmt, absent, nothing, block, assign, call, if, loop, for, break, continue, return, assert, assume, BlockItems}
 use Rattle.lra_program.specs.Program.{no_more, declaration, statement, Function, Program}
@@ -12,10 +13,12 @@ use Rattle.lra_program.specs.Step.{scene_at, to_mark, behind_main, receiver_of, 
 use Rattle.lra_program.specs.Step.{next_at}
 use Rattle.lra_program.specs.Run.{label_on, Point, IsFailing}
 use Rattle.lra_program.specs.Trails.{Met, passes, Trail, met_on, Becomes, Walks}
+use Rattle.lra_program.specs.Overflow.{OpOverflows, IsOverflowing}
 use Rattle.lra_operations.specs.Graph.{Exit, broken, continued, returned, Node, point, act, check, seq, choose, leave}
 use Rattle.lra_operations.specs.Trails.{Stop, by_jump, to_point, to_failure, Outcome, to_end, stopped, Goes, Tests, Performs, Passes}
 use Rattle.lra_operations.specs.TrailsAgree.{KeepsWidth, point_at, point_or_none}
 use Rattle.lra_program.specs.Sites.{Site}
+use Rattle.lra_operations.specs.Asked.{asked_of, asked_in}
 use Rattle.lra_operations.specs.Inlined.{Frame, Spot, move, at_point, within, into_callee, Has, HasSite, callee, Inl, InlAll, Declares, Loops, Gives, as_nothing, as_block, as_absent, as_assign}
 use Rattle.lra_operations.specs.Inlined.{as_call, as_if, as_loop, as_for, as_break}
 use Rattle.lra_operations.specs.Inlined.{as_continue, as_return, as_return_value, as_return_call, as_end, as_end_value, as_end_call, as_assert, as_assume, as_none, as_declaration, as_statement}
@@ -24,6 +27,8 @@ use Rattle.lra_program.proofs.GivenArguments.{given_width}
 use Rattle.lra_graph.proofs.Shapes.{inner, given, width, call_ends, Round, EndsBodyRound, loop_join, loop_at, loop_done, loop_broken, loop_left, EndsLoop}
 use Rattle.lra_graph.proofs.Shapes.{loop_first, jump_join}
 use Rattle.lra_graph.proofs.Lengths.{Length, length_declarator, length_one, length_all, length_test, length_push, length_append, tests_length, mid_length, round_length}
+use Rattle.lra_graph.proofs.Asking.{Asks, AsksAs, asks_left, asks_own, asks_given, asks_declared, asks_first, asks_second, asks_true, asks_false, asks_body}
+use Rattle.lra_graph.proofs.Asking.{asks_step, asks_callee, asks_callee_end}
 use Rattle.lra_graph.proofs.Landing.{config, land, land_skip, Matches, matches_skip, turn_some, mark_some, mark_none, go_some, go_on_some, go_by_some, lands_broken, lands_continued, lands_returned}
 
 returned_broken : by_jump returned ≡ by_jump broken → ⊥
@@ -38,19 +43,21 @@ broken_continued e = cc
 abbrev pub trail : State → List (Met Point) → Trail Point
 trail s xs = record { state = s; met = xs }
 
-module _ (may : State → State → Type 0) (T : List Site) where
+module _ (may : State → State → Type 0) (P : Program) (T : List Site) where
   -- what the tree has to show where the program stands at the point of this number
   abbrev pub Shows : (c : Config) (zs : List (Met Point)) (p number : ℕ) → Stop → Trail Point → Type 0
   Shows c zs p number (by_jump j) b = ⊥
   Shows c zs p number (to_point q) b = (q ≡ number) × (b ≡ trail c.state zs)
   Shows c zs p number (to_failure q) b = (q ≡ number) × may c.state b.state × IsFailing c.items c.here b.state × (b.met ≡ passes (record { path = c.here.path; label = p }) c.state ∷ zs)
 
-  -- the tree comes to a point of the configuration's path, with this label, and its state and trail; and fails there, where the configuration does
+  -- the tree comes to a point of the configuration's path, with this label, and its state and trail; it fails there,
+  -- where the configuration does, and asks there what stops by a number
   pub record Hit (c : Config) (zs : List (Met Point)) (p : ℕ) (g : Node) (a : Trail Point) : Type 0 where
     pub number : ℕ
     pub asserts : Bool
     pub site : slice_get T number ≡ Some (record { path = c.here.path; label = p; live = length c.state.store; asserts = asserts })
     pub leads : (z : Stop) (b : Trail Point) → Shows c zs p number z b → Goes (point_at T) may g a (stopped z) b
+    pub asks : (fresh : Option NumberType) → IsOverflowing P c.items c.here c.state → Asks (asked_in fresh g) number c.state
 
   no_jump : (c : Config) (zs : List (Met Point)) (p number : ℕ) (z : Stop) (b : Trail Point) → Shows c zs p number z b → (j : Exit) → z ≢ by_jump j
   no_jump c zs p number (by_jump k) b x j e = x
@@ -59,9 +66,15 @@ module _ (may : State → State → Type 0) (T : List Site) where
 
   -- what is so of all that comes to a point is so of the whole
   pub hit_as : (c : Config) (zs : List (Met Point)) (p : ℕ) (g h : Node) (a b : Trail Point)
-      → ((z : Stop) (d : Trail Point) → ((j : Exit) → z ≢ by_jump j) → Goes (point_at T) may g a (stopped z) d → Goes (point_at T) may h b (stopped z) d) → Hit c zs p g a → Hit c zs p h b
-  hit_as c zs p g h a b f x =
-      record { number = x.number; asserts = x.asserts; site = x.site; leads = λ z d shows. f z d (no_jump c zs p x.number z d shows) (x.leads z d shows) }
+      → ((z : Stop) (d : Trail Point) → ((j : Exit) → z ≢ by_jump j) → Goes (point_at T) may g a (stopped z) d → Goes (point_at T) may h b (stopped z) d) →
+      AsksAs g h → Hit c zs p g a → Hit c zs p h b
+  hit_as c zs p g h a b f asked x = record {
+    number = x.number;
+    asserts = x.asserts;
+    site = x.site;
+    leads = λ z d shows. f z d (no_jump c zs p x.number z d shows) (x.leads z d shows);
+    asks = λ fresh over. asked fresh x.number c.state (λ before. x.asks before over);
+  }
 
   pub named : (spot : Spot) (at : ℕ) (asserts : Bool) → HasSite T spot at asserts → point_at T spot.next ≡ record { path = spot.frame.here.path; label = at }
   named spot at asserts has = ap point_or_none has
@@ -69,13 +82,16 @@ module _ (may : State → State → Type 0) (T : List Site) where
   pub hit_there : (c : Config) (zs : List (Met Point)) (p : ℕ) (spot : Spot) (at : ℕ) (asserts : Bool) (is : List Item) (a : Trail Point) (g : Node) → label_on c.items ≡ Some p
       → HasSite T spot at asserts → length a.state.store ≡ spot.live → label_on is ≡ Some at → Goes (point_at T) may g a (stopped (to_point spot.next)) a
       → ((b : Trail Point) → Passes (point_at T) may spot.next a b → IsFailing is spot.frame.here b.state → Goes (point_at T) may g a (stopped (to_failure spot.next)) b)
+      → (IsOverflowing P is spot.frame.here a.state → (fresh : Option NumberType) → Asks (asked_in fresh g) spot.next a.state)
       → (config is spot.frame.here a.state ≡ c) × (a.met ≡ zs) → Hit c zs p g a
-  hit_there c zs p spot at asserts is a g on has l lab x y (e, f) = subst (λ ys. Hit c ys p g a) f (subst (λ (d : Config). label_on d.items ≡ Some p → Hit d a.met p g a) e (λ o. record {
-    number = spot.next;
-    asserts = asserts;
-    site = rw (l, ← same_Some _ _ (sym lab ∙ o)) has;
-    leads = shown (same_Some _ _ (sym lab ∙ o));
-  }) on)
+  hit_there c zs p spot at asserts is a g on has l lab x y asked (e, f) = subst (λ ys. Hit c ys p g a) f
+      (subst (λ (d : Config). label_on d.items ≡ Some p → Hit d a.met p g a) e (λ o. record {
+        number = spot.next;
+        asserts = asserts;
+        site = rw (l, ← same_Some _ _ (sym lab ∙ o)) has;
+        leads = shown (same_Some _ _ (sym lab ∙ o));
+        asks = λ fresh over. asked over fresh;
+      }) on)
     where
       shown : at ≡ p → (z : Stop) (b : Trail Point) → Shows (config is spot.frame.here a.state) a.met p spot.next z b → Goes (point_at T) may g a (stopped z) b
       shown o (by_jump j) b v = absurd v
@@ -86,10 +102,10 @@ module _ (may : State → State → Type 0) (T : List Site) where
           rw i (y b (m, j ∙ ap (λ w. w ∷ a.met) same) v)
 
   pub hit_seq : (c : Config) (zs : List (Met Point)) (p : ℕ) (g h : Node) (a : Trail Point) → Hit c zs p g a → Hit c zs p (seq g h) a
-  hit_seq c zs p g h a x = hit_as c zs p g (seq g h) a a (λ z d n y. inl y) x
+  hit_seq c zs p g h a x = hit_as c zs p g (seq g h) a a (λ z d n y. inl y) (asks_first g h) x
 
   pub hit_then : (c : Config) (zs : List (Met Point)) (p : ℕ) (g h : Node) (a m : Trail Point) → Goes (point_at T) may g a to_end m → Hit c zs p h m → Hit c zs p (seq g h) a
-  hit_then c zs p g h a m e x = hit_as c zs p h (seq g h) m a (λ z d n y. inr (m, e, y)) x
+  hit_then c zs p g h a m e x = hit_as c zs p h (seq g h) m a (λ z d n y. inr (m, e, y)) (asks_second g h) x
 
 pub not_there : (c d : Config) (p : ℕ) → label_on c.items ≡ Some p → label_on d.items ≡ None → d ≡ c → ⊥
 not_there c d p on lab e = none-some p (sym lab ∙ (ap (λ (x : Config). label_on x.items) e ∙ on))
@@ -102,15 +118,17 @@ module _ (may : State → State → Type 0) (keeps : KeepsWidth may) (P : Progra
   W n d xs = Walks may P n d xs c zs
 
   abbrev H : Node → Trail Point → Type 0
-  H g a = Hit may T c zs p g a
+  H g a = Hit may P T c zs p g a
 
-  hit_of : (g h : Node) (a b : Trail Point) → ((z : Stop) (d : Trail Point) → ((j : Exit) → z ≢ by_jump j) → G g a (stopped z) d → G h b (stopped z) d) → H g a → H h b
-  hit_of g h a b f x = hit_as may T c zs p g h a b f x
+  hit_of : (g h : Node) (a b : Trail Point) → ((z : Stop) (d : Trail Point) → ((j : Exit) → z ≢ by_jump j) → G g a (stopped z) d → G h b (stopped z) d) →
+      AsksAs g h → H g a → H h b
+  hit_of g h a b f asked x = hit_as may P T c zs p g h a b f asked x
 
   here : (spot : Spot) (at : ℕ) (asserts : Bool) (is : List Item) (a : Trail Point) (g : Node) → HasSite T spot at asserts → length a.state.store ≡ spot.live → label_on is ≡ Some at
       → G g a (stopped (to_point spot.next)) a → ((b : Trail Point) → Passes (point_at T) may spot.next a b → IsFailing is spot.frame.here b.state → G g a (stopped (to_failure spot.next)) b)
+      → (IsOverflowing P is spot.frame.here a.state → (fresh : Option NumberType) → Asks (asked_in fresh g) spot.next a.state)
       → W zero (config is spot.frame.here a.state) a.met → H g a
-  here spot at asserts is a g has l lab x y e = hit_there may T c zs p spot at asserts is a g on has l lab x y e
+  here spot at asserts is a g has l lab x y asked e = hit_there may P T c zs p spot at asserts is a g on has l lab x y asked e
 
   len_one : {spot : Spot} {s : Stmt} {g : Node} {q : ℕ} → Inl P T spot s g q → Length (point_at T) may keeps spot.frame spot.live spot.live g
   len_one d = length_one (point_at T) may keeps d
@@ -120,7 +138,7 @@ module _ (may : State → State → Type 0) (keeps : KeepsWidth may) (P : Progra
 
   -- what n steps to c make of the tree that stands for the items above k
   pub data Splits (h : Here) (k : List Item) (n : ℕ) (g : Node) (a : Trail Point) : Type 0 where
-    hits : Hit may T c zs p g a → Splits h k n g a
+    hits : Hit may P T c zs p g a → Splits h k n g a
     ended : (j : ℕ) (m : Trail Point) → j < n → Goes (point_at T) may g a to_end m → Walks may P j (config k h m.state) m.met c zs → Splits h k n g a
     jumped : (j : ℕ) (kind : Exit) (m : Trail Point) (d : Config) → j < n → Goes (point_at T) may g a (stopped (by_jump kind)) m → land kind h k m.state ≡ Some d → Walks may P j d m.met c zs
         → Splits h k n g a
@@ -133,12 +151,12 @@ module _ (may : State → State → Type 0) (keeps : KeepsWidth may) (P : Progra
   -- one tree after another; the items of the second stand above k
   splits_seq : (h : Here) (k k' : List Item) (n : ℕ) (f g : Node) (a : Trail Point) → ((j : Exit) (m : State) → land j h k' m ≡ land j h k m) → Splits h k' n f a
       → ((j : ℕ) (m : Trail Point) → j < n → G f a to_end m → W j (config k' h m.state) m.met → Splits h k j g m) → Splits h k n (seq f g) a
-  splits_seq h k k' n f g a skip (hits x) then = hits (hit_seq may T c zs p f g a x)
+  splits_seq h k k' n f g a skip (hits x) then = hits (hit_seq may P T c zs p f g a x)
   splits_seq h k k' n f g a skip (jumped j kind m d i e l r) then = jumped j kind m d i (inl e) (sym (skip kind m.state) ∙ l) r
   splits_seq h k k' n f g a skip (ended j m i e r) then = after (then j m i e r)
     where
       after : Splits h k j g m → Splits h k n (seq f g) a
-      after (hits x) = hits (hit_then may T c zs p f g a m e x)
+      after (hits x) = hits (hit_then may P T c zs p f g a m e x)
       after (ended j' m' i' e' r') = ended j' m' (omega arith) (m, e, e') r'
       after (jumped j' kind m' d i' e' l r') = jumped j' kind m' d (omega arith) (inr (m, e, e')) l r'
 
@@ -156,7 +174,7 @@ module _ (may : State → State → Type 0) (keeps : KeepsWidth may) (P : Progra
   enters is spot at asserts j a has l lab (s, e, b, x, r) =
       let m : may a.state s = subst (λ o. Becomes may o a.state s) lab b in
       let same : met_on (label_on is) spot.frame.here.path a.state a.met ≡ passes (point_at T spot.next) a.state ∷ a.met =
-      ap (λ o. met_on o spot.frame.here.path a.state a.met) lab ∙ ap (λ r. passes r a.state ∷ a.met) (sym (named may T spot at asserts has)) in
+      ap (λ o. met_on o spot.frame.here.path a.state a.met) lab ∙ ap (λ r. passes r a.state ∷ a.met) (sym (named may P T spot at asserts has)) in
       record {
         past = trail s (passes (point_at T spot.next) a.state ∷ a.met);
         goal = e;
@@ -175,21 +193,22 @@ module _ (may : State → State → Type 0) (keeps : KeepsWidth may) (P : Progra
   past : (d e : Config) (xs : List (Met Point)) (n : ℕ) → label_on d.items ≡ None → next P d ≡ Some e → W n d xs → (j : ℕ) × (n ≡ suc j) × W j e xs
   past d e xs n lab x r = let y = plain d xs n lab r in (y.0, y.2, rw (same_Some e y.1 (sym x ∙ y.3)) y.4)
 
-  -- an item with a point of its own, which fails where the tree behind the point does
+  -- an item with a point of its own, which fails where the tree behind the point does, and stops by a number where that asks
   splits_point : (spot : Spot) (at : ℕ) (asserts : Bool) (i : Item) (g : Node) (k : List Item) (a : Trail Point) (count : ℕ) → HasSite T spot at asserts → length a.state.store ≡ spot.live →
       label_on (i ∷ k) ≡ Some at
-      → ((b : Trail Point) → IsFailing (i ∷ k) spot.frame.here b.state → G g b (stopped (to_failure spot.next)) b) → W count (config (i ∷ k) spot.frame.here a.state) a.met
+      → ((b : Trail Point) → IsFailing (i ∷ k) spot.frame.here b.state → G g b (stopped (to_failure spot.next)) b)
+      → (IsOverflowing P (i ∷ k) spot.frame.here a.state → Asks (asked_in None g) spot.next a.state) → W count (config (i ∷ k) spot.frame.here a.state) a.met
       → ((j : ℕ) (b : Trail Point) (e : Config) → suc j ≡ count → length b.state.store ≡ spot.live → next_at P (i ∷ k) spot.frame.here b.state ≡ Some e → W j e b.met
       → Splits spot.frame.here k count g b)
       → Splits spot.frame.here k count (seq (point spot.next) g) a
-  splits_point spot at asserts i g k a zero has l lab fails r inner =
-      hits (here spot at asserts (i ∷ k) a (seq (point spot.next) g) has l lab (inl (refl, refl)) (λ b m v. inr (b, m, fails b v)) r)
-  splits_point spot at asserts i g k a (suc j) has l lab fails r inner =
+  splits_point spot at asserts i g k a zero has l lab fails asked r inner =
+      hits (here spot at asserts (i ∷ k) a (seq (point spot.next) g) has l lab (inl (refl, refl)) (λ b m v. inr (b, m, fails b v)) (λ over fresh. asked over) r)
+  splits_point spot at asserts i g k a (suc j) has l lab fails asked r inner =
       let x = enters (i ∷ k) spot at asserts j a has l lab r in
       after x.past x.passed (inner j x.past x.goal refl x.long x.step x.rest)
     where
       after : (b : Trail Point) → Passes (point_at T) may spot.next a b → Splits spot.frame.here k (suc j) g b → Splits spot.frame.here k (suc j) (seq (point spot.next) g) a
-      after b m (hits y) = hits (hit_then may T c zs p (point spot.next) g a b m y)
+      after b m (hits y) = hits (hit_then may P T c zs p (point spot.next) g a b m y)
       after b m (ended j' m' i y z) = ended j' m' i (b, m, y) z
       after b m (jumped j' kind m' d i y l z) = jumped j' kind m' d i (inr (b, m, y)) l z
 
@@ -231,7 +250,7 @@ module _ (may : State → State → Type 0) (keeps : KeepsWidth may) (P : Progra
         → H (point spot.next) a ⊎ Tail spot.next h n x params k count a
     call_tail spot n h x end params k zero a has l e = inl (here spot end false
         (end_of end (n + params) ∷ mark (record { receiver = x; here = h; length = n }) ∷ k) a (point spot.next)
-        has l refl (refl, refl) (λ b m v. absurd v) e)
+        has l refl (refl, refl) (λ b m v. absurd v) (λ over fresh. absurd over) e)
     call_tail spot n h x end params k (suc i) a has l r =
         let y = enters (end_of end (n + params) ∷ mark (record { receiver = x; here = h; length = n }) ∷ k) spot end false i a has l refl r in
         let cutting = go_some (mark (record { receiver = x; here = h; length = n }) ∷ k) spot.frame.here (run_op (keep (n + params)) y.past.state) y.goal
@@ -281,7 +300,8 @@ module _ (may : State → State → Type 0) (keeps : KeepsWidth may) (P : Progra
         ended_inside : (u : Trail Point) → Performs (push spot.frame.here.base (given fn b)) a u → (i : ℕ) (m : Trail Point) → i < j → G g u to_end m
             → H (point r') m ⊎ Tail r' spot.frame.here spot.live (inner fn x) (width fn) k i m → Splits spot.frame.here k (suc j)
             (tree_of_call spot r' x b fn g) a
-        ended_inside u o i m z v (inl h) = hits (hit_of (point r') (tree_of_call spot r' x b fn g) m a (λ s d n w. inr (u, o, (n returned, inr (m, v, inl w)))) h)
+        ended_inside u o i m z v (inl h) = hits (hit_of (point r') (tree_of_call spot r' x b fn g) m a (λ s d n w. inr (u, o, (n returned, inr (m, v, inl w))))
+            (asks_callee_end spot r' (inner fn x) (given fn b) (width fn) g) h)
         ended_inside u o i m z v (inr t) = let few = t.fewer in ended t.left t.final (omega arith)
             (call_ends (point_at T) may spot r' (inner fn x) (given fn b) (width fn) g a u t.final o
             (record { before = m; past = t.over; cut = t.cut; set = t.set; body = v; passed = t.passed; cuts = t.cuts; sets = t.sets; back = t.backs })) t.rest
@@ -292,7 +312,8 @@ module _ (may : State → State → Type 0) (keeps : KeepsWidth may) (P : Progra
         after : (u : Trail Point) → Performs (push spot.frame.here.base (given fn b)) a u → Splits (callee spot.frame spot.live (inner fn x) b).here
             (call_items fn spot.live (inner fn x) spot.frame.here k) j g u
             → Splits spot.frame.here k (suc j) (tree_of_call spot r' x b fn g) a
-        after u o (hits h) = hits (hit_of g (tree_of_call spot r' x b fn g) u a (λ s d n w. inr (u, o, (n returned, inl w))) h)
+        after u o (hits h) = hits (hit_of g (tree_of_call spot r' x b fn g) u a (λ s d n w. inr (u, o, (n returned, inl w)))
+            (asks_callee spot r' (inner fn x) (given fn b) (width fn) g) h)
         after u o (jumped i' broken m d' z v l' t) = absurd (none-some d' l')
         after u o (jumped i' continued m d' z v l' t) = absurd (none-some d' l')
         after u o (jumped i' returned m d' z v l' t) = ended i' m (omega arith) (u, o, inr (inl v)) (rw (same_Some (config k spot.frame.here m.state) d' l') t)
@@ -323,7 +344,9 @@ module _ (may : State → State → Type 0) (keeps : KeepsWidth may) (P : Progra
     splits_loop spot r at b s step g h r' q' has d e k a zero m l less t =
         hits (here spot at false (run (loop at b s step) ∷ k) a (loop_node spot.next spot.frame.here.base b g h) has l refl
         (loop_join (point_at T) may spot.next spot.frame.here.base b g h a 0 a _ a refl (loop_at refl))
-        (λ b m v. absurd v) t)
+        (λ b m v. absurd v)
+        (λ over fresh. asks_left (asked_of spot.next None (test spot.frame.here.base b true)) (asked_in None g ++ asked_in None h) spot.next a.state
+        (asks_own spot.next (test spot.frame.here.base b true) a.state over)) t)
     splits_loop spot r at b s step g h r' q' has d e k a (suc j) m l less t =
         let x = enters (run (loop at b s step) ∷ k) spot at false j a has l refl t in
         elim (go_by_some (run s ∷ turn step (loop at b s step) (length x.past.state.store) ∷ k) k spot.frame.here x.past.state
@@ -349,7 +372,7 @@ module _ (may : State → State → Type 0) (keeps : KeepsWidth may) (P : Progra
 
             shift : Splits spot.frame.here k i (tree_of_loop spot b g h) v → Splits spot.frame.here k (suc j) (tree_of_loop spot b g h) a
             shift (hits y') = hits (hit_of (tree_of_loop spot b g h) (tree_of_loop spot b g h) v a
-                (λ z w n y. loop_first (point_at T) may spot.next spot.frame.here.base b g h a v (stopped z) w whole y) y')
+                (λ z w n y. loop_first (point_at T) may spot.next spot.frame.here.base b g h a v (stopped z) w whole y) (λ fresh q u y. y fresh) y')
             shift (ended i' m' z e' t') = ended i' m' (omega arith) (loop_first (point_at T) may spot.next spot.frame.here.base b g h a v to_end m' whole e') t'
             shift (jumped i' kind m' d' z e' l' t') =
                 jumped i' kind m' d' (omega arith) (loop_first (point_at T) may spot.next spot.frame.here.base b g h a v (stopped (by_jump kind)) m' whole e') l' t'
@@ -368,7 +391,8 @@ module _ (may : State → State → Type 0) (keeps : KeepsWidth may) (P : Progra
             long = mid_length (point_at T) may keeps spot.frame spot.live g h (len_one e) (len_one d) on' mid (tests_length (point_at T) may keeps spot.next spot.frame.here.base b true a on' o ∙ l) x
 
             cases : (i' : ℕ) → i' < j → Splits spot.frame.here (run (loop at b s step) ∷ k) i' h mid → Splits spot.frame.here k (suc j) (tree_of_loop spot b g h) a
-            cases i' less'' (hits y') = hits (hit_of h (tree_of_loop spot b g h) mid a (λ z w n y. (n broken, (0, a, refl, inr (on', o, inr (mid, x, y))))) y')
+            cases i' less'' (hits y') = hits (hit_of h (tree_of_loop spot b g h) mid a (λ z w n y. (n broken, (0, a, refl, inr (on', o, inr (mid, x, y)))))
+                (asks_step spot.next spot.frame.here.base b g h) y')
             cases i' less'' (ended i'' v z e' t') = again on' mid v o x e' i'' (omega arith) t'
             cases i' less'' (jumped i'' broken v d' z e' l' t') = absurd (none-some _ ((len_one d).ends mid v (stopped (by_jump broken)) long e').1)
             cases i' less'' (jumped i'' continued v d' z e' l' t') = absurd (none-some _ ((len_one d).ends mid v (stopped (by_jump continued)) long e').1)
@@ -382,7 +406,8 @@ module _ (may : State → State → Type 0) (keeps : KeepsWidth may) (P : Progra
             (tests_length (point_at T) may keeps spot.next spot.frame.here.base b true a on' o ∙ l) (omega arith) t)
           where
             cases : Splits spot.frame.here (turn step (loop at b s step) spot.live ∷ k) j g on' → Splits spot.frame.here k (suc j) (tree_of_loop spot b g h) a
-            cases (hits y') = hits (hit_of g (tree_of_loop spot b g h) on' a (λ z w n y. (n broken, (0, a, refl, inr (on', o, inl (n continued, y))))) y')
+            cases (hits y') = hits (hit_of g (tree_of_loop spot b g h) on' a (λ z w n y. (n broken, (0, a, refl, inr (on', o, inl (n continued, y)))))
+                (asks_body spot.next spot.frame.here.base b g h) y')
             cases (ended i m' z x t') = stepping on' m' o (inl x) i z t'
             cases (jumped i broken m' d' z x l' t') = ended i m' (omega arith) (last to_end m' (loop_broken on' o (inl (broken_continued, x))))
                 (rw (same_Some (config k spot.frame.here m'.state) d' l') t')
@@ -397,7 +422,8 @@ module _ (may : State → State → Type 0) (keeps : KeepsWidth may) (P : Progra
     end_tail : (spot : Spot) (n at : ℕ) (k : List Item) (a : Trail Point) (count : ℕ) → Has T spot at → length a.state.store ≡ spot.live →
         W count (config (end_of at n ∷ k) spot.frame.here a.state) a.met
         → Splits spot.frame.here k count (seq (point spot.next) (act spot.next (keep n))) a
-    end_tail spot n at k a count has l t = splits_point spot at false (end_of at n) (act spot.next (keep n)) k a count has l refl (λ b v. absurd v) t
+    end_tail spot n at k a count has l t = splits_point spot at false (end_of at n) (act spot.next (keep n)) k a count has l refl (λ b v. absurd v)
+        (λ over. absurd over) t
         (λ j b e j' l' y w. splits_more spot.frame.here k (suc j) count (act spot.next (keep n)) b (omega arith) (splits_act spot.next (keep n) spot.frame.here k b j e y w))
 
     -- the end of a `for`
@@ -407,19 +433,19 @@ module _ (may : State → State → Type 0) (keeps : KeepsWidth may) (P : Progra
         splits_more h k (suc x.0) count (act q (keep n)) a (omega arith) (splits_act q (keep n) h k a x.0 x.1 x.3 x.4)
 
     after_act : (q : ℕ) (op : Op) (g : Node) (h : Here) (k : List Item) (n : ℕ) (a b : Trail Point) → Performs op a b → Splits h k n g b → Splits h k n (seq (act q op) g) a
-    after_act q op g h k n a b o (hits x) = hits (hit_then may T c zs p (act q op) g a b o x)
+    after_act q op g h k n a b o (hits x) = hits (hit_then may P T c zs p (act q op) g a b o x)
     after_act q op g h k n a b o (ended j m i e r) = ended j m i (b, o, e) r
     after_act q op g h k n a b o (jumped j kind m d i e l r) = jumped j kind m d i (inr (b, o, e)) l r
 
     choose_on : (q base : ℕ) (b : Cond) (g g' : Node) (h : Here) (k : List Item) (n : ℕ) (a t : Trail Point) → Performs (test base b true) a t → Splits h k n g t →
         Splits h k n (choose q base b g g') a
-    choose_on q base b g g' h k n a t o (hits x) = hits (hit_of g (choose q base b g g') t a (λ z w m y. inl (t, o, y)) x)
+    choose_on q base b g g' h k n a t o (hits x) = hits (hit_of g (choose q base b g g') t a (λ z w m y. inl (t, o, y)) (asks_true q base b g g') x)
     choose_on q base b g g' h k n a t o (ended j m i e r) = ended j m i (inl (t, o, e)) r
     choose_on q base b g g' h k n a t o (jumped j kind m d i e l r) = jumped j kind m d i (inl (t, o, e)) l r
 
     choose_off : (q base : ℕ) (b : Cond) (g g' : Node) (h : Here) (k : List Item) (n : ℕ) (a t : Trail Point) → Performs (test base b false) a t → Splits h k n g' t →
         Splits h k n (choose q base b g g') a
-    choose_off q base b g g' h k n a t o (hits x) = hits (hit_of g' (choose q base b g g') t a (λ z w m y. inr (t, o, y)) x)
+    choose_off q base b g g' h k n a t o (hits x) = hits (hit_of g' (choose q base b g g') t a (λ z w m y. inr (t, o, y)) (asks_false q base b g g') x)
     choose_off q base b g g' h k n a t o (ended j m i e r) = ended j m i (inr (t, o, e)) r
     choose_off q base b g g' h k n a t o (jumped j kind m d i e l r) = jumped j kind m d i (inr (t, o, e)) l r
 
@@ -518,7 +544,8 @@ module _ (may : State → State → Type 0) (keeps : KeepsWidth may) (P : Progra
         (k : List Item) (a : Trail Point) (count : ℕ)
         → length a.state.store ≡ spot.live → count < suc fuel
         → W count (config (declare d ∷ k) spot.frame.here a.state) a.met → Splits spot.frame.here k count (seq (point spot.next) g) a
-    splits_declare spot d g q' i x k a count l less t = splits_point spot d.label false (declare d) g k a count i l refl (λ b v. absurd v) t
+    splits_declare spot d g q' i x k a count l less t = splits_point spot d.label false (declare d) g k a count i l refl (λ b v. absurd v)
+        (asks_declared x a.state l) t
         (λ j b e j' l' y w. splits_more spot.frame.here k (suc j) count g b (omega arith)
         (by_rvalue spot (suc spot.next) d.number_type d.rvalue g q' x k b j e l' (omega arith) y w))
       where
@@ -560,17 +587,21 @@ module _ (may : State → State → Type 0) (keeps : KeepsWidth may) (P : Progra
     -- a statement at its point, by what its step makes
     at_its_point : (spot : Spot) (at : ℕ) (s : Stmt) (g : Node) (k : List Item) (a : Trail Point) (count : ℕ) → count < suc fuel → Has T spot at → length a.state.store ≡ spot.live →
         label_on (run s ∷ k) ≡ Some at
-        → ((b : State) → IsFailing (run s ∷ k) spot.frame.here b → ⊥) → W count (config (run s ∷ k) spot.frame.here a.state) a.met
+        → ((b : State) → IsFailing (run s ∷ k) spot.frame.here b → ⊥) →
+        (IsOverflowing P (run s ∷ k) spot.frame.here a.state → Asks (asked_in None g) spot.next a.state) → W count
+        (config (run s ∷ k) spot.frame.here a.state) a.met
         → ((j : ℕ) (b : Trail Point) (e : Config) → j < fuel → length b.state.store ≡ spot.live → next_at P (run s ∷ k) spot.frame.here b.state ≡ Some e → W j e b.met → Splits spot.frame.here k
         (suc j) g b)
         → Splits spot.frame.here k count (seq (point spot.next) g) a
-    at_its_point spot at s g k a count less has l lab sure t inner = splits_point spot at false (run s) g k a count has l lab (λ b v. absurd (sure b.state v)) t
+    at_its_point spot at s g k a count less has l lab sure asked t inner = splits_point spot at false (run s) g k a count has l lab
+        (λ b v. absurd (sure b.state v)) asked t
         (λ j b e j' l' y w. splits_more spot.frame.here k (suc j) count g b (omega arith) (inner j b e (omega arith) l' y w))
 
     splits_one : (spot : Spot) (s : Stmt) (g : Node) (q : ℕ) → Inl P T spot s g q → (k : List Item) (a : Trail Point) (count : ℕ) → Matches spot.frame k → length a.state.store ≡ spot.live →
         count < suc fuel
         → W count (config (run s ∷ k) spot.frame.here a.state) a.met → Splits spot.frame.here k count g a
-    splits_one _ _ _ _ (as_nothing {s = spot} {at = at} i) k a zero m l less t = hits (here spot at false (run (nothing at) ∷ k) a (point spot.next) i l refl (refl, refl) (λ b m v. absurd v) t)
+    splits_one _ _ _ _ (as_nothing {s = spot} {at = at} i) k a zero m l less t = hits
+        (here spot at false (run (nothing at) ∷ k) a (point spot.next) i l refl (refl, refl) (λ b m v. absurd v) (λ over fresh. absurd over) t)
     splits_one _ _ _ _ (as_nothing {s = spot} {at = at} i) k a (suc j) m l less t =
         let x = enters (run (nothing at) ∷ k) spot at false j a i l refl t in
         ended j x.past (omega arith) x.passed (rw (same_Some (config k spot.frame.here x.past.state) x.goal x.step) x.rest)
@@ -585,13 +616,18 @@ module _ (may : State → State → Type 0) (keeps : KeepsWidth may) (P : Progra
     splits_one _ _ _ _ (as_absent {s = spot}) k a count m l less t =
         let x = past (config (run absent ∷ k) spot.frame.here a.state) (config k spot.frame.here a.state) a.met count refl refl t in
         ended x.0 a (omega arith) refl x.2
-    splits_one _ _ _ _ (as_assign {s = spot} {at = at} {x = x} {e = v} {g = g} {q = q'} i d) k a count m l less t = at_its_point spot at (assign at x v) g k a count less i l refl (λ b v. v) t
+    splits_one _ _ _ _ (as_assign {s = spot} {at = at} {x = x} {e = v} {g = g} {q = q'} i d) k a count m l less t = at_its_point spot at (assign at x v) g k a
+        count less i l refl (λ b v. v) (asks_given d a.state) t
         (λ j b e less' l' y w. splits_gives spot (suc spot.next) (variable_at (index_of spot.frame.here.base x.slot) x.number_type) v g q' k b j e d l' less' y
         w)
-    splits_one _ _ _ _ (as_call {s = spot} {at = at} {c = b} {g = g} {q = q'} i d) k a count m l less t = at_its_point spot at (call at b) g k a count less i l refl (λ b v. v) t
+    splits_one _ _ _ _ (as_call {s = spot} {at = at} {c = b} {g = g} {q = q'} i d) k a count m l less t = at_its_point spot at (call at b) g k a count less i l
+        refl (λ b v. v) (asks_given d a.state) t
         (λ j u e less' l' y w. splits_gives spot (suc spot.next) nobody (result b) g q' k u j e d l' less' y w)
     splits_one _ _ _ _ (as_if {s = spot} {at = at} {c = b} {a = s} {b = s'} {g = g} {h = h} {r = r} {q = q'} i d d') k a count m l less t =
-        at_its_point spot at (if at b s s') (choose spot.next spot.frame.here.base b g h) k a count less i l refl (λ b v. v) t
+        at_its_point spot at (if at b s s') (choose spot.next spot.frame.here.base b g h) k a count less i l refl (λ b v. v)
+        (λ over. asks_left (asked_of spot.next None (test spot.frame.here.base b true) ++ asked_in None g) (asked_in None h) spot.next a.state
+        (asks_left (asked_of spot.next None (test spot.frame.here.base b true)) (asked_in None g) spot.next a.state
+        (asks_own spot.next (test spot.frame.here.base b true) a.state over))) t
         (λ j u e less' l' y w. elim (go_by_some (run s ∷ k) (run s' ∷ k) spot.frame.here u.state (truth_of b (scene_at spot.frame.here.base u.state) u.state.draws) e y) as
         (λ z. Splits spot.frame.here k (suc j) (choose spot.next spot.frame.here.base b g h) u) [
           | inl z ↦ splits_more spot.frame.here k j (suc j) (choose spot.next spot.frame.here.base b g h) u (omega arith)
@@ -608,41 +644,53 @@ module _ (may : State → State → Type 0) (keeps : KeepsWidth may) (P : Progra
         splits_more spot.frame.here k x.0 count (seq g (seq h (act spot.next (keep spot.live)))) a (omega arith)
         (splits_for spot at init b s step g h n' r q' d e k a x.0 m l (omega arith) (subst (λ w. W x.0 (config (all init ∷ run (loop at b s step) ∷ cut w ∷ k) spot.frame.here a.state) a.met) l x.2))
     splits_one _ _ _ _ (as_break {s = spot} {at = at} {m = b} i i' has) k a count m l less t =
-        at_its_point spot at (break at) (seq (act spot.next (keep b)) (leave spot.live broken)) k a count less has l refl (λ b v. v) t
+        at_its_point spot at (break at) (seq (act spot.next (keep b)) (leave spot.live broken)) k a count less has l refl (λ b v. v) (λ over. absurd over) t
         (λ j u e less' l' y w. splits_break spot.frame spot.next b spot.live k u j e i m y w)
     splits_one _ _ _ _ (as_continue {s = spot} {at = at} {m = b} i i' has) k a count m l less t =
-        at_its_point spot at (continue at) (seq (act spot.next (keep b)) (leave spot.live continued)) k a count less has l refl (λ b v. v) t
+        at_its_point spot at (continue at) (seq (act spot.next (keep b)) (leave spot.live continued)) k a count less has l refl (λ b v. v)
+        (λ over. absurd over) t
         (λ j u e less' l' y w. splits_continue spot.frame spot.next b spot.live k u j e i m y w)
     splits_one _ _ _ _ (as_return {s = spot} {at = at} {b = b} i i' has) k a count m l less t =
-        at_its_point spot at (return at None) (return_node spot.next (give_any b.receiver) b.length spot.live) k a count less has l refl (λ b v. v) t
+        at_its_point spot at (return at None) (return_node spot.next (give_any b.receiver) b.length spot.live) k a count less has l refl (λ b v. v)
+        (λ over. absurd over) t
         (λ j u e less' l' y w.
         let y' : do_leave (to_mark k) (run_any b.receiver u.state) ≡ Some e = subst (λ v. do_leave (to_mark k) (run_any v u.state) ≡ Some e)
         (receiver_is spot.frame k b i m) y in
         splits_return spot.frame spot.next spot.live (give_any b.receiver) b k u j e i m y' w)
     splits_one _ _ _ _ (as_return_value {s = spot} {at = at} {e = v} {b = b} i i' has) k a count m l less t =
         at_its_point spot at (return at (Some (value v))) (return_node spot.next (give spot.frame.here.base b.receiver v) b.length spot.live) k a count less
-        has l refl (λ b v. v) t
+        has l refl (λ b v. v)
+        (λ over. asks_left (asked_of spot.next None (give spot.frame.here.base b.receiver v)) [] spot.next a.state
+        (asks_own spot.next (give spot.frame.here.base b.receiver v) a.state
+        (subst (λ x. OpOverflows (give spot.frame.here.base x v) a.state) (receiver_is spot.frame k b i m) over))) t
         (λ j u e less' l' y w.
         let y' : do_leave (to_mark k) (run_op (give spot.frame.here.base b.receiver v) u.state) ≡ Some e =
         subst (λ x. do_leave (to_mark k) (run_op (give spot.frame.here.base x v) u.state) ≡ Some e) (receiver_is spot.frame k b i m) y in
         splits_return spot.frame spot.next spot.live (give spot.frame.here.base b.receiver v) b k u j e i m y' w)
     splits_one _ _ _ _ (as_return_call {s = spot} {at = at} {c = v} {b = b} {g = g} {q = q'} i i' has d) k a count m l less t =
-        at_its_point spot at (return at (Some (result v))) (seq g (seq (act spot.next (keep b.length)) (leave spot.live returned))) k a count less has l refl (λ b v. v) t
+        at_its_point spot at (return at (Some (result v))) (seq g (seq (act spot.next (keep b.length)) (leave spot.live returned))) k a count less has l refl
+        (λ b v. v)
+        (λ over. asks_left (asked_in None g) [] spot.next a.state (asks_given d a.state over)) t
         (λ j u e less' l' y w.
         let y' : do_rvalue P b.receiver (result v) (leave_call ∷ k) spot.frame.here u.state ≡ Some e =
         subst (λ x. do_rvalue P x (result v) (leave_call ∷ k) spot.frame.here u.state ≡ Some e) (receiver_is spot.frame k b i m) y in
         splits_seq spot.frame.here k (leave_call ∷ k) (suc j) g (seq (act spot.next (keep b.length)) (leave spot.live returned)) u (skip_one spot.frame.here leave_call k refl refl)
         (splits_gives spot (suc spot.next) b.receiver (result v) g q' (leave_call ∷ k) u j e d l' less' y' w)
         (λ j'' u' z f b'. leave_tail spot.frame spot.next spot.live b k u' j'' i m b'))
-    splits_one _ _ _ _ (as_end {s = spot} {at = at} i has) k a count m l less t = at_its_point spot at (return at None) (leave spot.live returned) k a count less has l refl (λ b v. v) t
+    splits_one _ _ _ _ (as_end {s = spot} {at = at} i has) k a count m l less t = at_its_point spot at (return at None) (leave spot.live returned) k a count
+        less has l refl (λ b v. v) (λ over. absurd over) t
         (λ j u e less' l' y w. absurd (none-some e (subst (λ o. do_leave o (run_any (receiver_of P o) u.state) ≡ Some e) (no_mark spot.frame k i m) y)))
     splits_one _ _ _ _ (as_end_value {s = spot} {at = at} {e = v} i has) k a count m l less t =
         at_its_point spot at (return at (Some (value v))) (seq (act spot.next (give spot.frame.here.base (behind_main P) v)) (leave spot.live returned)) k a
-        count less has l refl (λ b v. v) t
+        count less has l refl (λ b v. v)
+        (λ over. asks_left (asked_of spot.next None (give spot.frame.here.base (behind_main P) v)) [] spot.next a.state
+        (asks_own spot.next (give spot.frame.here.base (behind_main P) v) a.state
+        (subst (λ o. OpOverflows (give spot.frame.here.base (receiver_of P o) v) a.state) (no_mark spot.frame k i m) over))) t
         (λ j u e less' l' y w. absurd (none-some e (subst (λ o. do_leave o (run_op (give spot.frame.here.base (receiver_of P o) v) u.state) ≡ Some e)
         (no_mark spot.frame k i m) y)))
     splits_one _ _ _ _ (as_end_call {s = spot} {at = at} {c = v} {g = g} {q = q'} i has d) k a count m l less t =
-        at_its_point spot at (return at (Some (result v))) (seq g (leave spot.live returned)) k a count less has l refl (λ b v. v) t
+        at_its_point spot at (return at (Some (result v))) (seq g (leave spot.live returned)) k a count less has l refl (λ b v. v)
+        (λ over. asks_left (asked_in None g) [] spot.next a.state (asks_given d a.state over)) t
         (λ j u e less' l' y w.
         let y' : do_rvalue P (behind_main P) (result v) (leave_call ∷ k) spot.frame.here u.state ≡ Some e =
         subst (λ o. do_rvalue P (receiver_of P o) (result v) (leave_call ∷ k) spot.frame.here u.state ≡ Some e) (no_mark spot.frame k i m) y in
@@ -650,10 +698,12 @@ module _ (may : State → State → Type 0) (keeps : KeepsWidth may) (P : Progra
         (splits_gives spot (suc spot.next) (behind_main P) (result v) g q' (leave_call ∷ k) u j e d l' less' y' w)
         (λ j'' u' z f b'. end_tail_of spot.frame k u' j'' (leave spot.live returned) (no_mark spot.frame k i m) b'))
     splits_one _ _ _ _ (as_assert {s = spot} {at = at} {c = b} i) k a count m l less t =
-        splits_point spot at true (run (assert at b)) (check spot.next spot.frame.here.base b) k a count i l refl (λ u v. (refl, refl, v.0, v.1)) t
+        splits_point spot at true (run (assert at b)) (check spot.next spot.frame.here.base b) k a count i l refl (λ u v. (refl, refl, v.0, v.1))
+        (asks_own spot.next (test spot.frame.here.base b true) a.state) t
         (λ j u e j' l' y w. let x = go_some k spot.frame.here (run_op (test spot.frame.here.base b true) u.state) e y in ended j (trail x.0 u.met) (omega arith) (x.1, refl) (rw x.2 w))
     splits_one _ _ _ _ (as_assume {s = spot} {at = at} {c = b} i) k a count m l less t =
-        at_its_point spot at (assume at b) (act spot.next (test spot.frame.here.base b true)) k a count less i l refl (λ b v. v) t
+        at_its_point spot at (assume at b) (act spot.next (test spot.frame.here.base b true)) k a count less i l refl (λ b v. v)
+        (asks_own spot.next (test spot.frame.here.base b true) a.state) t
         (λ j u e less' l' y w. splits_act spot.next (test spot.frame.here.base b true) spot.frame.here k u j e y w)
 
   nothing_below : Below zero

@@ -4,6 +4,7 @@ use Rattle.lra_operations.specs.Graph.{Node}
 use Rattle.lra_program.specs.Sites.{sites_of}
 use Rattle.lra_operations.specs.Agree.{IsGraph, AreDistinct, Agrees}
 use Rattle.lra_operations.specs.TrailsAgree.{TrailsAgree}
+use Rattle.lra_operations.specs.Asked.{AsksWell}
 use Rattle.lra_program.specs.Trails.{Alone}
 use Rattle.lra_program.specs.WellFormed.{IsWellFormed}
 
@@ -18,3 +19,7 @@ WellFormedAgree = (P : Program) (g : Node) → IsWellFormed P → IsGraph P g �
 -- and has its trails
 abbrev pub WellFormedHaveTrails : Type 0
 WellFormedHaveTrails = (P : Program) (g : Node) → IsWellFormed P → IsGraph P g → TrailsAgree Alone P g
+
+-- and asks well
+abbrev pub WellFormedAskWell : Type 0
+WellFormedAskWell = (P : Program) (g : Node) → IsWellFormed P → IsGraph P g → AsksWell P g

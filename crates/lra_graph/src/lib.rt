@@ -12,7 +12,8 @@ mod refused;
 
 ghost use Rattle.lra_operations.specs.Agree.{GraphsAgree};
 ghost use Rattle.lra_operations.specs.TrailsAgree.{GraphsHaveTrails};
-ghost use Rattle.lra_graph.specs.Agreement.{WellFormedAreDistinct, WellFormedAgree, WellFormedHaveTrails};
+ghost use Rattle.lra_operations.specs.Asked.{GraphsAskWell};
+ghost use Rattle.lra_graph.specs.Agreement.{WellFormedAreDistinct, WellFormedAgree, WellFormedHaveTrails, WellFormedAskWell};
 
 pub use inlining::build;
 pub use points::{GraphError, Limit};
@@ -33,4 +34,13 @@ pub fn graphs_agree()
 pub fn trails_agree()
     ensures theorem { GraphsHaveTrails }
     ensures well_formed { WellFormedHaveTrails }
+{}
+
+/// A program's tree asks of each operation that can stop a run by a number, once at its point: where a run stops so, the
+/// tree asks of that operation there.
+///
+/// Does nothing: its contract is the theorem.
+pub fn graphs_ask_well()
+    ensures theorem { GraphsAskWell }
+    ensures well_formed { WellFormedAskWell }
 {}
