@@ -1,5 +1,5 @@
 mod CompareSteps
-mod SideSteps
+pub mod SideSteps
 mod ChainSteps
 pub mod ChangeSteps
 mod GlobalSteps

@@ -159,7 +159,7 @@ combined_wide : (live : ℕ) (op : ℤ → ℤ → ℤ) (f g h : Form) → combi
 combined_wide live op f g h e a b =
     wide_same live _ h (fitting_same (combination op f g) h e) (record { width = entrywise_length op f.coefficients g.coefficients (a.width ∙ sym b.width) ∙ a.width })
 
-scaled_wide : (live : ℕ) (k : ℤ) (f h : Form) → scaled k f ≡ Some h → Wide live f → Wide live h
+pub scaled_wide : (live : ℕ) (k : ℤ) (f h : Form) → scaled k f ≡ Some h → Wide live f → Wide live h
 scaled_wide live k f h e a = wide_same live _ h (fitting_same (multiple k f) h e) (record { width = map_length (λ c. k *ℤ c) f.coefficients ∙ a.width })
 
 product_wide : (live : ℕ) (f g h : Form) (p q : Bool) → (if p then scaled f.constant g else (if q then scaled g.constant f else None)) ≡ Some h → Wide live f → Wide live g → Wide live h
@@ -167,7 +167,7 @@ product_wide live f g h true q e a b = scaled_wide live f.constant g h e b
 product_wide live f g h false true e a b = scaled_wide live g.constant f h e a
 product_wide live f g h false false e a b = cc
 
-operator_wide : (live : ℕ) (op : Operator) (f g h : Form) → operator_form op f g ≡ Some h → Wide live f → Wide live g → Wide live h
+pub operator_wide : (live : ℕ) (op : Operator) (f g h : Form) → operator_form op f g ≡ Some h → Wide live f → Wide live g → Wide live h
 operator_wide live plus f g h e a b = combined_wide live (λ x y. x +ℤ y) f g h e a b
 operator_wide live minus f g h e a b = combined_wide live (λ x y. x -ℤ y) f g h e a b
 operator_wide live times f g h e a b = product_wide live f g h (is_constant f) (is_constant g) e a b
@@ -227,7 +227,7 @@ difference_value f g h store a b e =
     sym (minus_is (f.constant +ℤ p) (g.constant +ℤ q))
 
 -- where no variable occurs the value is the constant
-constant_value : (f : Form) (store : List ℤ) → is_constant f ≡ true → form_value f store ≡ f.constant
+pub constant_value : (f : Form) (store : List ℤ) → is_constant f ≡ true → form_value f store ≡ f.constant
 constant_value f store e = ap (λ (y : ℤ). f.constant +ℤ y) (product_constant f.coefficients store e) ∙ ring (v f.constant ⊕ v (pos 0)) (v f.constant) (omega arith)
 
 product_value : (f g h : Form) (store : List ℤ) (p q : Bool) → is_constant f ≡ p → is_constant g ≡ q
@@ -259,7 +259,7 @@ exactly_is t times f g h x y z e to = number_same t (x *ℤ y) z to
 exactly_is t over f g h x y z e to = cc
 exactly_is t modulo f g h x y z e to = cc
 
-negated_value : (g f : Form) (store : List ℤ) (x : ℤ) → scaled (negsuc 0) g ≡ Some f → form_value g store ≡ x → form_value f store ≡ pos 0 -ℤ x
+pub negated_value : (g f : Form) (store : List ℤ) (x : ℤ) → scaled (negsuc 0) g ≡ Some f → form_value g store ≡ x → form_value f store ≡ pos 0 -ℤ x
 negated_value g f store x to is =
     scaled_value (negsuc 0) g f store to ∙ ap (λ (y : ℤ). negsuc 0 *ℤ y) is ∙ ring (v (negsuc 0) ⊗ v x) (v (pos 0) ⊕ v (negsuc 0) ⊗ v x) (omega arith) ∙ sym (minus_is (pos 0) x)
 

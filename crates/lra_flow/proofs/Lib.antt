@@ -9,6 +9,8 @@ pub mod Keeping
 pub mod Covers
 pub mod Sound
 pub mod Keeps
+-- What is judged to fit doesn't stop a run by a number.
+pub mod FitsSound
 -- The values of a derivation have no more parts than the options say.
 pub mod Caps
 -- Single definitions on small operands.
@@ -16,9 +18,12 @@ mod PieceExamples
 mod LinearExamples
 mod MovesExamples
 mod ThresholdExamples
+mod FitsExamples
 -- What moves do behind others.
 pub mod Takes
 -- Moves say what lists of actions and conditions said apart.
 mod MovesAgree
 pub mod OneTree
 pub mod OneIteration
+-- The same values tell one thing of what fits.
+pub mod OneJudgement

@@ -55,7 +55,8 @@ module _ (V H : Type 0) (ops : Operations V H) (single : Single ops) where
       let (f, g) = single.joined m n c i w x joined (rw (z, u) added) in
       (is ∙ rw (y, t, f) refl ∙ sym same, g)
 
-  one_left : (base : ℕ) (c : Cond) (wanted : Bool) (v : V) (e d : Exactness) (w x : V) → Leaves ops base c wanted v e w → Leaves ops base c wanted v d x → (e ≡ d) × (w ≡ x)
+  pub one_left : (base : ℕ) (c : Cond) (wanted : Bool) (v : V) (e d : Exactness) (w x : V) → Leaves ops base c wanted v e w → Leaves ops base c wanted v d x →
+      (e ≡ d) × (w ≡ x)
   one_left base c wanted v e d w x a b = one_made (guard (ops.dims v) base wanted c) v e d w x a b
 
   one_join : (us : List V) (v : V) (e d : Exactness) (w x : V) → AreJoined ops v us e w → AreJoined ops v us d x → (e ≡ d) × (w ≡ x)

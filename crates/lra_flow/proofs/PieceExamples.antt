@@ -4,7 +4,6 @@ use Rattle.lra_lin.specs.Form.{Form}
 use Rattle.lra_domain.specs.Actions.{assign, forget, embed, remove_last, test}
 use Rattle.lra_domain.specs.declared.Exactness.TheVariants.{Flagged}
 use Rattle.lra_domain.specs.declared.Mode.TheVariants.{Join, Widen, Limited, Tightest}
-use Rattle.std.specs.Prelude.{true, false}
 use Rattle.lra_base.specs.declared.number_types.NumberType.TheVariants.{Int, Long}
 use Rattle.lra_program.proofs.RunExamples.{long_variable}
 use Rattle.lra_base.specs.declared.number_types.NumberType.{NumberType}

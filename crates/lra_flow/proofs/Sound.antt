@@ -1,5 +1,5 @@
 -- A pass with drops covers the runs of its tree, where each least change keeps its stores.
-use Rattle.std.proofs.Common.{◌≡◌, ◌≢◌, inl, inr, ℕ, zero, suc, ◌-◌, ◌++◌, ℤ, List, [], ◌∷◌, Option, Some, Bool, true, false, refl, subst, sym, arith}
+use Rattle.std.proofs.Common.{◌≡◌, ◌≢◌, inl, inr, ℕ, zero, suc, ◌-◌, ◌++◌, ℤ, List, [], ◌∷◌, Option, Some, true, false, refl, subst, sym, arith}
 use Rattle.std.specs.List.{Contains}
 use Rattle.std.proofs.lemmas.List.Elements.{Contains-append_left, Contains-append_right}
 use Rattle.lra_linear.proofs.Membership.{contains_cases, contains_head, contains_tail}

@@ -7,7 +7,7 @@ use Rattle.lra_program.proofs.RunExamples.{long_variable}
 use Rattle.lra_program.specs.Receivers.{variable_at}
 use Rattle.lra_program.specs.Program.{local, Expr, literal, read, input, binary, Cond, compare, nonzero, opposite, either_of}
 use Rattle.lra_program.specs.Step.{give, keep, push, test}
-use Rattle.lra_operations.specs.Graph.{Node, continued, returned, empty, point, act, check, seq, choose, iterate, catch, leave}
+use Rattle.lra_operations.specs.Graph.{Node, continued, returned, empty, point, act, check, seq, choose, iterate, catch}
 use Rattle.lra_flow.specs.Given.{given_rows}
 use Rattle.lra_flow.specs.Plan.{standard, limited, by_thresholds, plan_of}
 use Rattle.lra_flow.specs.Thresholds.{all_rows, condition_rows, constant_rows, loop_rows, rows_in, rows_once}

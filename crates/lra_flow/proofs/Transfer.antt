@@ -56,7 +56,8 @@ module _ (V H : Type 0) (a b : Operations V H) (Keeps : Exactness → Type 0) (F
       let l = matters.parts c d j.0 in
       (x, y, c, d, i, made p v c x l.0 one, made q v d y l.1 two, moves.joined x y i w j.1 joined, is)
 
-  leaves : (base : ℕ) (c : Cond) (wanted : Bool) (v : V) (e : Exactness) (w : V) → Keeps e → Leaves a base c wanted v e w → Leaves (aligned a b) base c wanted v e w
+  pub leaves : (base : ℕ) (c : Cond) (wanted : Bool) (v : V) (e : Exactness) (w : V) → Keeps e → Leaves a base c wanted v e w → Leaves (aligned a b) base c
+      wanted v e w
   leaves base c wanted v e w k h = made (guard (a.dims v) base wanted c) v e w k h
 
   joins : (v : V) (us : List V) (e : Exactness) (w : V) → Keeps e → AreJoined a v us e w → AreJoined (aligned a b) v us e w

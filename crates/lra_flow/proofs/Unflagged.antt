@@ -24,13 +24,13 @@ exact_before q e (Some p) h = cc
 exact_before q Exact None h = (refl, refl)
 exact_before q Flagged None h = cc
 
-none_flagged : Matters (λ e. e ≡ Exact) (λ f. f ≡ None)
+pub none_flagged : Matters (λ e. e ≡ Exact) (λ f. f ≡ None)
 none_flagged = record { parts = exact_parts; before = exact_before }
 
 pub any_matters : Matters (λ e. Unit {0}) (λ f. Unit {0})
 any_matters = record { parts = λ c d k. (tt, tt); before = λ q e f k. (tt, tt) }
 
-exact_ones : {V H : Type 0} (m : Meaning V H) → Laws m → Transfers (λ e. e ≡ Exact) (dropping m) (defined m)
+pub exact_ones : {V H : Type 0} (m : Meaning V H) → Laws m → Transfers (λ e. e ≡ Exact) (dropping m) (defined m)
 exact_ones m laws = record {
   changed = λ step v e w k h. (k, h.0.exact k);
   joined = λ u v e w k h. (k, h.0.exact k);
@@ -41,7 +41,7 @@ exact_ones m laws = record {
   void = λ n cap v is. is.0;
 }
 
-strained_ones : {V H : Type 0} (m : Meaning V H) → Laws m → Transfers (λ e. Unit {0}) (dropping m) (straining m)
+pub strained_ones : {V H : Type 0} (m : Meaning V H) → Laws m → Transfers (λ e. Unit {0}) (dropping m) (straining m)
 strained_ones m laws = record {
   changed = λ step v e w k h. (h.0.exact, h.0.flagged);
   joined = λ u v e w k h. (h.0.exact, h.0.flagged);

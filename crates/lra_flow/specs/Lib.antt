@@ -9,3 +9,5 @@ pub mod Given
 pub mod Thresholds
 pub mod Pass
 pub mod Analysis
+-- What can stop a run by a number.
+pub mod Fits

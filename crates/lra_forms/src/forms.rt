@@ -116,7 +116,7 @@ pub fn multiple_of(alloc: Global, factor: i64, f: &LinExpr) -> Result<Option<Lin
 }
 
 /// Whether no variable occurs.
-fn has_no_variable(f: &LinExpr) -> bool
+pub fn has_no_variable(f: &LinExpr) -> bool
     ensures { result ≡ is_constant f.now }
 {
     let mut left = f.coefficients();
@@ -145,7 +145,7 @@ fn product_of(alloc: Global, f: &LinExpr, g: &LinExpr) -> Result<Option<LinExpr>
 }
 
 /// What the operator makes of two forms; `/` and `%` have none.
-fn apply_operator(
+pub fn apply_operator(
     alloc: Global,
     operator: Operator,
     f: &LinExpr,

@@ -8,6 +8,8 @@ mod given;
 mod thresholds;
 
 pub use comparisons::{comparison_where, difference_of, opposite_of, test_of};
-pub use forms::{constant_of, form_of_expression, form_of_one};
+pub use forms::{
+    apply_operator, constant_of, form_of_expression, form_of_one, has_no_variable, multiple_of,
+};
 pub use given::given_of;
 pub use thresholds::thresholds_of;

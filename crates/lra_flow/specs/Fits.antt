@@ -1,0 +1,159 @@
+-- Which operations can't stop a run by a number, as the values at the points tell it. An operation is asked whether all
+-- that it computes fits: each operator and each sign, in the order in which they are computed, and each conversion from
+-- 64 bits to 32. Each is asked of the value that its operation has: the right side of `&&` and `||` of what the left
+-- side leaves to it.
+use Rattle.std.specs.Prelude.{◌≡◌, ◌≢◌, ◌↔◌, ◌⊎◌, ◌<◌, ◌++◌, ℕ, ℤ, pos, negsuc, List, [], ◌∷◌, map, Option, None, Some}
+use Rattle.std.specs.Prelude.{Bool, true, false, IsTrue, Contains, slice_get}
+use Rattle.std.specs.List.{list_all}
+use Rattle.lra_lin.specs.Form.{Form}
+use Rattle.lra_domain.specs.Meaning.{Meaning, worse}
+use Rattle.lra_domain.specs.declared.Exactness.{Exactness}
+use Rattle.lra_domain.specs.declared.Exactness.TheVariants.{Exact}
+use Rattle.lra_base.specs.declared.number_types.NumberType.{NumberType}
+use Rattle.lra_base.specs.declared.number_types.NumberType.TheVariants.{Int}
+use Rattle.lra_base.specs.NumberTypes.{fits, wider}
+use Rattle.lra_base.specs.Operators.{Operator, plus, minus, times, over, modulo}
+use Rattle.lra_program.specs.declared.receivers.Receiver.{Receiver}
+use Rattle.lra_program.specs.Receivers.{parameter_of, converts_to}
+use Rattle.lra_program.specs.Program.{Expr, literal, read, input, negate, binary, type_of, Cond, compare, nonzero}
+use Rattle.lra_program.specs.Program.{opposite, both_of, either_of}
+use Rattle.lra_program.specs.Value.{Argument}
+use Rattle.lra_program.specs.Step.{State, Op, append, give, give_any, push, keep, test}
+use Rattle.lra_operations.specs.Graph.{Node}
+use Rattle.lra_operations.specs.Asked.{Asked, asked_in, AskedOverflows}
+use Rattle.lra_flow.specs.Linear.{is_constant, form_of}
+use Rattle.lra_flow.specs.Operations.{Operations, dropping}
+use Rattle.lra_flow.specs.Pass.{noted, Leaves, Changes}
+use Rattle.lra_flow.specs.Analysis.{IsUnreachable}
+
+-- what is found of an operation that is asked: its point, whether all fits that it computes, and whether what had to be
+-- made for the answer is exact
+pub record Judgement : Type 0 where
+  pub point : ℕ
+  pub fits : Bool
+  pub exactness : Exactness
+
+-- a judgement without its flag
+abbrev pub fitting_of : Judgement → ℕ × Bool
+fitting_of j = (j.point, j.fits)
+
+-- the first flagged point, behind what is flagged so far
+abbrev pub first_flagged : Option ℕ → List Judgement → Option ℕ
+first_flagged f [] = f
+first_flagged f (j ∷ js) = first_flagged (noted j.point j.exactness f) js
+
+-- a constant by which each number of a type can be divided
+abbrev pub IsDivisor : Option Form → Type 0
+IsDivisor None = ⊥
+IsDivisor (Some f) = IsTrue (is_constant f) × (f.constant ≢ pos 0) × (f.constant ≢ negsuc 0)
+
+module _ {V H : Type 0} (m : Meaning V H) where
+  -- what one value tells ---------------------------------------------------------------------------------------------
+
+  module _ (v : V) where
+    -- what is told of the form's values lies in the type
+    abbrev pub LiesIn : NumberType → Option Form → Type 0
+    LiesIn t None = ⊥
+    LiesIn t (Some f) = (l h : ℤ) × m.bounded v f (Some l) (Some h) × IsTrue (fits t l) × IsTrue (fits t h)
+
+    -- the operator's own form, and that of its right side
+    abbrev pub OperatorFits : NumberType → Operator → Option Form → Option Form → Type 0
+    OperatorFits t plus f g = LiesIn t f
+    OperatorFits t minus f g = LiesIn t f
+    OperatorFits t times f g = LiesIn t f
+    OperatorFits t over f g = IsDivisor g
+    OperatorFits t modulo f g = IsDivisor g
+
+    -- an answer: it is so, or no run comes here
+    abbrev pub Answers : Bool → Type 0 → Type 0
+    Answers b so = IsTrue b ↔ (IsUnreachable m v ⊎ so)
+
+  -- all that is computed of it, where the call's own variables begin at `base`
+  module _ (v : V) (base : ℕ) where
+    -- the answers on an expression
+    abbrev pub ExprJudged : Expr → List Bool → Type 0
+    ExprJudged (literal t n) bs = bs ≡ []
+    ExprJudged (read x) bs = bs ≡ []
+    ExprJudged input bs = bs ≡ []
+    ExprJudged (negate e) bs = (xs : List Bool) × (b : Bool) × ExprJudged e xs ×
+        Answers v b (LiesIn v (type_of e) (form_of (m.dims v) base (negate e))) × (bs ≡ xs ++ b ∷ [])
+    ExprJudged (binary op a b) bs = (xs ys : List Bool) × (c : Bool) × ExprJudged a xs × ExprJudged b ys ×
+        Answers v c (OperatorFits v (wider (type_of a) (type_of b)) op (form_of (m.dims v) base (binary op a b))
+        (form_of (m.dims v) base b)) × (bs ≡ (xs ++ ys) ++ c ∷ [])
+
+    -- and on the conversion of its value, where there is one
+    abbrev pub ConversionJudged : Bool → Expr → List Bool → Type 0
+    ConversionJudged false e bs = bs ≡ []
+    ConversionJudged true e bs = (b : Bool) × Answers v b (LiesIn v Int (form_of (m.dims v) base e)) × (bs ≡ b ∷ [])
+
+    abbrev pub GivenJudged : Receiver → Expr → List Bool → Type 0
+    GivenJudged x e bs = (xs ys : List Bool) × ExprJudged e xs × ConversionJudged (converts_to (type_of e) x) e ys ×
+        (bs ≡ xs ++ ys)
+
+    -- arguments: nothing is pushed before all are computed
+    abbrev pub ArgumentsJudged : List Argument → List Bool → Type 0
+    ArgumentsJudged [] bs = bs ≡ []
+    ArgumentsJudged (a ∷ rest) bs = (xs ys : List Bool) × GivenJudged (parameter_of a.number_type) a.value xs ×
+        ArgumentsJudged rest ys × (bs ≡ xs ++ ys)
+
+  -- operations; what a left side leaves may be flagged ----------------------------------------------------------------
+
+  module _ (ops : Operations V H) where
+    abbrev pub CondJudged : ℕ → Cond → V → List Bool → Exactness → Type 0
+    CondJudged base (compare op a b) v bs e = (xs ys : List Bool) × ExprJudged v base a xs × ExprJudged v base b ys ×
+        (bs ≡ xs ++ ys) × (e ≡ Exact)
+    CondJudged base (nonzero a) v bs e = ExprJudged v base a bs × (e ≡ Exact)
+    CondJudged base (opposite c) v bs e = CondJudged base c v bs e
+    CondJudged base (both_of c d) v bs e = (xs ys : List Bool) × (w : V) × (f g h : Exactness) ×
+        CondJudged base c v xs f × Leaves ops base c true v g w × CondJudged base d w ys h × (bs ≡ xs ++ ys) ×
+        (e ≡ worse (worse f g) h)
+    CondJudged base (either_of c d) v bs e = (xs ys : List Bool) × (w : V) × (f g h : Exactness) ×
+        CondJudged base c v xs f × Leaves ops base c false v g w × CondJudged base d w ys h × (bs ≡ xs ++ ys) ×
+        (e ≡ worse (worse f g) h)
+
+    abbrev pub OpJudged : Op → V → List Bool → Exactness → Type 0
+    OpJudged (append t) v bs e = (bs ≡ []) × (e ≡ Exact)
+    OpJudged (give base x a) v bs e = GivenJudged v base x a bs × (e ≡ Exact)
+    OpJudged (give_any x) v bs e = (bs ≡ []) × (e ≡ Exact)
+    OpJudged (push base given) v bs e = ArgumentsJudged v base given bs × (e ≡ Exact)
+    OpJudged (keep n) v bs e = (bs ≡ []) × (e ≡ Exact)
+    OpJudged (test base c wanted) v bs e = CondJudged base c v bs e
+
+    -- behind the new variable, where there is one
+    abbrev pub Declares : Option NumberType → V → Exactness → V → Type 0
+    Declares None v e w = (w ≡ v) × (e ≡ Exact)
+    Declares (Some t) v e w = Changes ops (append t) v e w
+
+    -- whether all fits that an operation computes, by the values at the points
+    abbrev pub AskedJudged : List V → Asked → Bool → Exactness → Type 0
+    AskedJudged values a b e = (v w : V) × (bs : List Bool) × (c d : Exactness) × (slice_get values a.point ≡ Some v) ×
+        Declares a.fresh v c w × OpJudged a.op w bs d × (b ≡ list_all (λ x. x) bs) × (e ≡ worse c d)
+
+    -- the judgement is on one of these
+    abbrev pub IsOnOneOf : List Asked → List V → Judgement → Type 0
+    IsOnOneOf asked values j = (a : Asked) × Contains asked a × (a.point ≡ j.point) ×
+        AskedJudged values a j.fits j.exactness
+
+    -- all of a tree: what is found at the points where it asks, in the order of their numbers; flags come behind all of
+    -- the iteration's
+    pub record Judges (g : Node) (values : List V) (flagged : Option ℕ) (fitting : List (ℕ × Bool))
+        (behind : Option ℕ) : Type 0 where
+      pub found : List Judgement
+      pub is_asked : (j : Judgement) → Contains found j → IsOnOneOf (asked_in None g) values j
+      pub has_asked : (a : Asked) → Contains (asked_in None g) a → (j : Judgement) × Contains found j ×
+          (j.point ≡ a.point)
+      pub in_order : (i k : ℕ) (j l : Judgement) → i < k → slice_get found i ≡ Some j → slice_get found k ≡ Some l →
+          j.point < l.point
+      pub told : fitting ≡ map fitting_of found
+      pub flags : behind ≡ first_flagged flagged found
+
+    -- where it is asked for; else nothing is told, and nothing done
+    abbrev pub JudgesIf : Bool → Node → List V → Option ℕ → List (ℕ × Bool) → Option ℕ → Type 0
+    JudgesIf true g values flagged fitting behind = Judges g values flagged fitting behind
+    JudgesIf false g values flagged fitting behind = (fitting ≡ []) × (behind ≡ flagged)
+
+-- What is judged to fit by a value with a run's store doesn't stop that run by a number.
+abbrev pub FittingNeverOverflow : {V H : Type 0} → Meaning V H → Type 0
+FittingNeverOverflow {V} m = (values : List V) (a : Asked) (e : Exactness) (v : V) (s : State)
+    → slice_get values a.point ≡ Some v → m.formed v → m.has v s.store → AskedJudged m (dropping m) values a true e
+    → AskedOverflows a s → ⊥
