@@ -1,0 +1,5 @@
+mod ConditionSteps
+pub mod ComputesSteps
+pub mod ExpressionSteps
+pub mod TableSteps
+pub mod TreeSteps

@@ -1,0 +1,458 @@
+-- A tree that is gone along by a list of what is due: each step leaves less of it, and what is done is in the table.
+use Rattle.std.proofs.Common.{rules, Box, Vec, Global, ◌≡◌, ◌∙◌, ℕ, ◌+◌, ◌*◌, ◌<◌, List, [], ◌∷◌, ◌++◌}
+use Rattle.std.proofs.Common.{length, map, Option, Some, None, Bool, true, false, refl, sym, ap, subst, append_assoc, arith}
+use Rattle.std.specs.Prelude.{slice_get, slice_set, Contains, if◌then◌else◌}
+use Rattle.std.specs.Prelude as outcome
+use Rattle.std.specs.Prelude.{IfOk, OnOk}
+use Rattle.std.specs.List.{sum_by}
+use Rattle.std.proofs.lemmas.List.{append-nil}
+use Rattle.std.proofs.lemmas.List.Elements.{Contains-append_left, Contains-append_right}
+use Rattle.std.proofs.lemmas.Result.{IfOk-weaker, on_ok_weaker}
+use Rattle.std.proofs.lemmas.List.Sums.{sum_by-cons, sum_by_push}
+use Rattle.lra_linear.proofs.Membership.{contains_head}
+use Rattle.lra_domain.specs.Meaning.{Meaning}
+use Rattle.lra_base.specs.declared.number_types.NumberType.{NumberType}
+use Rattle.lra_program.specs.declared.program.Cond.{Cond}
+use Rattle.lra_program.specs.Overflow.{op_computes}
+use Rattle.lra_program.specs.ProgramViews.{cond_view}
+use Rattle.lra_program.specs.Step.{Op, test}
+use Rattle.lra_operations.specs.Asked.{Asked, asked_of, asked_in, fresh_behind, fresh_of}
+use Rattle.lra_operations.specs.Graph.{Node, empty, point, act, check, seq, choose, iterate, catch, leave}
+use Rattle.lra_operations.specs.GraphViews.{exit_view, node_view, op_view, row}
+use Rattle.lra_operations.specs.Sizes.{sizes, whole_size}
+use Rattle.lra_operations.specs.declared.graph.Exit as declared_exit
+use Rattle.lra_operations.specs.declared.graph.Node as declared
+use Rattle.lra_operations.specs.declared.graph.Op as declared_op
+use Rattle.lra_operations.specs.declared.graph.Node.{the_lemmas as node_lemmas}
+use Rattle.lra_operations.specs.declared.graph.Node.TheVariants as at
+use Rattle.lra_fits.specs.declared.operations.Verdict.{Verdict}
+use Rattle.lra_fits.specs.declared.trees.Due.{Due}
+use Rattle.lra_forms.proofs.TreeViews.{act_view, catch_view, check_view, choose_view, empty_view, iterate_view, leave_view, point_view, seq_view}
+use Rattle.lra_fits.specs.Due.{due_view, due_before, all_due, apart_before, due_size, all_left, fresh_at, own_asked, own_of, IsOnWay, IsOpened}
+use Rattle.lra_fits.specs.Judged.{AreBelow, Fills, JudgesAsked}
+use Rattle.lra_fits.proofs.TableSteps.{none_fills, one_fills, then_fills}
+
+-- one operation ----------------------------------------------------------------------------------------------------------
+
+asked_one : (q : ℕ) (fresh : Option NumberType) (op : Op) → op_computes op ≡ true → asked_of q fresh op ≡ record { point = q; fresh = fresh; op = op } ∷ []
+asked_one q fresh op e = ap (λ (b : Bool). if b then record { point = q; fresh = fresh; op = op } ∷ [] else []) e
+
+asked_none : (q : ℕ) (fresh : Option NumberType) (op : Op) → op_computes op ≡ false → asked_of q fresh op ≡ []
+asked_none q fresh op e = ap (λ (b : Bool). if b then record { point = q; fresh = fresh; op = op } ∷ [] else []) e
+
+-- its point has a value
+pub asked_inside : (n q : ℕ) (fresh : Option NumberType) (op : Op) → op_computes op ≡ true → AreBelow n (asked_of q fresh op) → q < n
+asked_inside n q fresh op e below =
+    let a : Asked = record { point = q; fresh = fresh; op = op } in
+    below a (subst (λ (xs : List Asked). Contains xs a) (sym (asked_one q fresh op e)) (contains_head a []))
+
+module _ {V H : Type 0} (m : Meaning V H) (values : List V) (q : ℕ) (fresh : Option NumberType) (op : Op) where
+  pub asked_fills : (v : V) (j : Verdict) (t u : List (Option Verdict)) → op_computes op ≡ true → slice_get values q ≡ Some v → JudgesAsked m fresh op v j
+      → q < length t → u ≡ slice_set t q (Some j) → Fills m values (asked_of q fresh op) t u
+  asked_fills v j t u computes there judged inside is =
+      let (w, c, behind, settled) = judged in
+      let (bs, e, so, fits, exact) = settled in
+      let a : Asked = record { point = q; fresh = fresh; op = op } in
+      let written = one_fills m values a j t inside (v, w, bs, c, e, there, behind, so, fits, exact) in
+      subst (Fills m values (asked_of q fresh op) t) (sym is)
+      (subst (λ (xs : List Asked). Fills m values xs t (slice_set t q (Some j))) (sym (asked_one q fresh op computes)) written)
+
+  pub unasked_fills : (t : List (Option Verdict)) → op_computes op ≡ false → Fills m values (asked_of q fresh op) t t
+  unasked_fills t computes = subst (λ (xs : List Asked). Fills m values xs t t) (sym (asked_none q fresh op computes)) (none_fills m values t)
+
+-- what is due ------------------------------------------------------------------------------------------------------------
+
+before_push : (g : Node) (ds : List Due) (d : Due) → due_before g (ds ++ d ∷ []) ≡ seq (due_view d) (due_before g ds)
+before_push g [] d = refl
+before_push g (e ∷ ds) d = before_push (seq (due_view e) g) ds d
+
+pub due_push : (ds es : List Due) (d : Due) → es ≡ ds ++ d ∷ [] → all_due es ≡ seq (due_view d) (all_due ds)
+due_push ds es d e = ap all_due e ∙ before_push empty ds d
+
+pub left_push : (ds es : List Due) (d : Due) → es ≡ ds ++ d ∷ [] → all_left es ≡ all_left ds + due_size d
+left_push ds es d e = ap all_left e ∙ sum_by_push due_size ds d
+
+-- the trees in a tree ------------------------------------------------------------------------------------------------------
+
+-- what each does itself, and what is new behind that
+own_empty : (fresh : Option NumberType) → own_of fresh at.Empty ≡ ([], fresh)
+own_empty fresh = search (rules, node_lemmas)
+
+own_point : (q : ℕ) (fresh : Option NumberType) → own_of fresh (at.Point q) ≡ ([], None)
+own_point q fresh = search (rules, node_lemmas)
+
+own_act : (q : ℕ) (o : declared_op.Op) (fresh : Option NumberType) → own_of fresh (at.Act q o) ≡ (asked_of q fresh (op_view o), fresh_of (op_view o))
+own_act q o fresh = search (rules, node_lemmas)
+
+own_check : (q base : ℕ) (c : Cond) (fresh : Option NumberType) → own_of fresh (at.Check q base c) ≡ (asked_of q None (test base (cond_view c) true), None)
+own_check q base c fresh = search (rules, node_lemmas)
+
+own_seq : (gs : Vec declared.Node Global) (b : Box declared.Node Global) (fresh : Option NumberType) → own_of fresh (at.Seq gs b) ≡ ([], fresh)
+own_seq gs b fresh = search (rules, node_lemmas)
+
+own_choose : (q base : ℕ) (c : Cond) (a b : Box declared.Node Global) (fresh : Option NumberType)
+    → own_of fresh (at.Choose q base c a b) ≡ (asked_of q None (test base (cond_view c) true), None)
+own_choose q base c a b fresh = search (rules, node_lemmas)
+
+own_iterate : (q base : ℕ) (c : Cond) (a : Box declared.Node Global) (fresh : Option NumberType)
+    → own_of fresh (at.Iterate q base c a) ≡ (asked_of q None (test base (cond_view c) true), None)
+own_iterate q base c a fresh = search (rules, node_lemmas)
+
+own_catch : (q : ℕ) (k : declared_exit.Exit) (a : Box declared.Node Global) (fresh : Option NumberType) → own_of fresh (at.Catch q k a) ≡ ([], None)
+own_catch q k a fresh = search (rules, node_lemmas)
+
+own_leave : (n : ℕ) (k : declared_exit.Exit) (fresh : Option NumberType) → own_of fresh (at.Leave n k) ≡ ([], None)
+own_leave n k fresh = search (rules, node_lemmas)
+
+module _ (fresh : Option NumberType) (n : declared.Node) where
+  asks_as : (k : declared.Node) (xs : List Asked) (later : Option NumberType) → n ≡ k → own_of fresh k ≡ (xs, later) → own_asked fresh n ≡ xs
+  asks_as k xs later is own = ap (own_asked fresh) is ∙ ap (λ (x : List Asked × Option NumberType). x.0) own
+
+  pub asks_act : (q : ℕ) (o : declared_op.Op) → n ≡ at.Act q o → own_asked fresh n ≡ asked_of q fresh (op_view o)
+  asks_act q o is = asks_as (at.Act q o) (asked_of q fresh (op_view o)) (fresh_of (op_view o)) is (own_act q o fresh)
+
+  pub asks_check : (q base : ℕ) (c : Cond) → n ≡ at.Check q base c → own_asked fresh n ≡ asked_of q None (test base (cond_view c) true)
+  asks_check q base c is = asks_as (at.Check q base c) (asked_of q None (test base (cond_view c) true)) None is (own_check q base c fresh)
+
+  pub asks_choose : (q base : ℕ) (c : Cond) (a b : Box declared.Node Global) → n ≡ at.Choose q base c a b
+      → own_asked fresh n ≡ asked_of q None (test base (cond_view c) true)
+  asks_choose q base c a b is = asks_as (at.Choose q base c a b) (asked_of q None (test base (cond_view c) true)) None is (own_choose q base c a b fresh)
+
+  pub asks_iterate : (q base : ℕ) (c : Cond) (a : Box declared.Node Global) → n ≡ at.Iterate q base c a
+      → own_asked fresh n ≡ asked_of q None (test base (cond_view c) true)
+  asks_iterate q base c a is = asks_as (at.Iterate q base c a) (asked_of q None (test base (cond_view c) true)) None is (own_iterate q base c a fresh)
+
+  pub empty_asks : n ≡ at.Empty → own_asked fresh n ≡ []
+  empty_asks is = asks_as at.Empty [] fresh is (own_empty fresh)
+
+  pub point_asks : (q : ℕ) → n ≡ at.Point q → own_asked fresh n ≡ []
+  point_asks q is = asks_as (at.Point q) [] None is (own_point q fresh)
+
+  pub seq_asks : (gs : Vec declared.Node Global) (b : Box declared.Node Global) → n ≡ at.Seq gs b → own_asked fresh n ≡ []
+  seq_asks gs b is = asks_as (at.Seq gs b) [] fresh is (own_seq gs b fresh)
+
+  pub catch_asks : (q : ℕ) (k : declared_exit.Exit) (a : Box declared.Node Global) → n ≡ at.Catch q k a → own_asked fresh n ≡ []
+  catch_asks q k a is = asks_as (at.Catch q k a) [] None is (own_catch q k a fresh)
+
+  pub leave_asks : (m : ℕ) (k : declared_exit.Exit) → n ≡ at.Leave m k → own_asked fresh n ≡ []
+  leave_asks m k is = asks_as (at.Leave m k) [] None is (own_leave m k fresh)
+
+  -- and then
+  new_as : (k : declared.Node) (xs : List Asked) (later : Option NumberType) → n ≡ k → own_of fresh k ≡ (xs, later) → later ≡ fresh_at fresh n
+  new_as k xs later is own = sym (ap (fresh_at fresh) is ∙ ap (λ (x : List Asked × Option NumberType). x.1) own)
+
+  pub empty_new : n ≡ at.Empty → fresh ≡ fresh_at fresh n
+  empty_new is = new_as at.Empty [] fresh is (own_empty fresh)
+
+  pub seq_new : (gs : Vec declared.Node Global) (b : Box declared.Node Global) → n ≡ at.Seq gs b → fresh ≡ fresh_at fresh n
+  seq_new gs b is = new_as (at.Seq gs b) [] fresh is (own_seq gs b fresh)
+
+  pub act_new : (q : ℕ) (o : declared_op.Op) → n ≡ at.Act q o → fresh_of (op_view o) ≡ fresh_at fresh n
+  act_new q o is = new_as (at.Act q o) (asked_of q fresh (op_view o)) (fresh_of (op_view o)) is (own_act q o fresh)
+
+  pub point_new : (q : ℕ) → n ≡ at.Point q → None ≡ fresh_at fresh n
+  point_new q is = new_as (at.Point q) [] None is (own_point q fresh)
+
+  pub check_new : (q base : ℕ) (c : Cond) → n ≡ at.Check q base c → None ≡ fresh_at fresh n
+  check_new q base c is = new_as (at.Check q base c) (asked_of q None (test base (cond_view c) true)) None is (own_check q base c fresh)
+
+  pub choose_new : (q base : ℕ) (c : Cond) (a b : Box declared.Node Global) → n ≡ at.Choose q base c a b → None ≡ fresh_at fresh n
+  choose_new q base c a b is = new_as (at.Choose q base c a b) (asked_of q None (test base (cond_view c) true)) None is (own_choose q base c a b fresh)
+
+  pub iterate_new : (q base : ℕ) (c : Cond) (a : Box declared.Node Global) → n ≡ at.Iterate q base c a → None ≡ fresh_at fresh n
+  iterate_new q base c a is = new_as (at.Iterate q base c a) (asked_of q None (test base (cond_view c) true)) None is (own_iterate q base c a fresh)
+
+  pub catch_new : (q : ℕ) (k : declared_exit.Exit) (a : Box declared.Node Global) → n ≡ at.Catch q k a → None ≡ fresh_at fresh n
+  catch_new q k a is = new_as (at.Catch q k a) [] None is (own_catch q k a fresh)
+
+  pub leave_new : (m : ℕ) (k : declared_exit.Exit) → n ≡ at.Leave m k → None ≡ fresh_at fresh n
+  leave_new m k is = new_as (at.Leave m k) [] None is (own_leave m k fresh)
+
+-- behind it the others are due
+opens : (n : declared.Node) (g : Node) (own : Option NumberType → List Asked × Option NumberType) (old new : List Due) → node_view n ≡ g
+    → ((fresh : Option NumberType) → own_of fresh n ≡ own fresh)
+    → ((fresh : Option NumberType) → asked_in fresh (seq g (all_due old)) ≡ (own fresh).0 ++ asked_in (own fresh).1 (all_due new)) → IsOpened n old new
+opens n g own old new seen is asks = λ fresh.
+    ap (λ (h : Node). asked_in fresh (seq h (all_due old))) seen ∙ asks fresh
+    ∙ sym (ap (λ (x : List Asked × Option NumberType). x.0 ++ asked_in x.1 (all_due new)) (is fresh))
+
+module _ (old : List Due) where
+  empty_opened : IsOpened at.Empty old old
+  empty_opened = opens at.Empty empty (λ fresh. ([], fresh)) old old empty_view own_empty (λ fresh. refl)
+
+  point_opened : (q : ℕ) → IsOpened (at.Point q) old old
+  point_opened q = opens (at.Point q) (point q) (λ fresh. ([], None)) old old (point_view q) (own_point q) (λ fresh. refl)
+
+  act_opened : (q : ℕ) (o : declared_op.Op) → IsOpened (at.Act q o) old old
+  act_opened q o = opens (at.Act q o) (act q (op_view o)) (λ fresh. (asked_of q fresh (op_view o), fresh_of (op_view o))) old old (act_view q o) (own_act q o)
+      (λ fresh. refl)
+
+  check_opened : (q base : ℕ) (c : Cond) → IsOpened (at.Check q base c) old old
+  check_opened q base c = opens (at.Check q base c) (check q base (cond_view c)) (λ fresh. (asked_of q None (test base (cond_view c) true), None)) old old
+      (check_view q base c) (own_check q base c) (λ fresh. refl)
+
+  leave_opened : (n : ℕ) (k : declared_exit.Exit) → IsOpened (at.Leave n k) old old
+  leave_opened n k = opens (at.Leave n k) (leave n (exit_view k)) (λ fresh. ([], None)) old old (leave_view n k) (own_leave n k) (λ fresh. refl)
+
+  module _ (new : List Due) where
+    seq_opened : (gs : Vec declared.Node Global) (b : Box declared.Node Global)
+        → all_due new ≡ seq (row (map node_view gs.items) (node_view b.value)) (all_due old)
+        → IsOpened (at.Seq gs b) old new
+    seq_opened gs b e = opens (at.Seq gs b) (row (map node_view gs.items) (node_view b.value)) (λ fresh. ([], fresh)) old new (seq_view gs b) (own_seq gs b)
+        (λ fresh. ap (asked_in fresh) (sym e))
+
+    choose_opened : (q base : ℕ) (c : Cond) (a b : Box declared.Node Global)
+        → all_due new ≡ apart_before (node_view a.value) (apart_before (node_view b.value) (all_due old)) → IsOpened (at.Choose q base c a b) old new
+    choose_opened q base c a b e =
+        let own = asked_of q None (test base (cond_view c) true) in
+        opens (at.Choose q base c a b) (choose q base (cond_view c) (node_view a.value) (node_view b.value)) (λ fresh. (own, None)) old new
+        (choose_view q base c a b) (own_choose q base c a b)
+        (λ fresh. append_assoc (own ++ asked_in None (node_view a.value)) (asked_in None (node_view b.value)) (asked_in None (all_due old))
+        ∙ append_assoc own (asked_in None (node_view a.value)) (asked_in None (node_view b.value) ++ asked_in None (all_due old))
+        ∙ ap (λ (h : Node). own ++ asked_in None h) (sym e))
+
+    iterate_opened : (q base : ℕ) (c : Cond) (a : Box declared.Node Global) → all_due new ≡ apart_before (node_view a.value) (all_due old)
+        → IsOpened (at.Iterate q base c a) old new
+    iterate_opened q base c a e =
+        let own = asked_of q None (test base (cond_view c) true) in
+        opens (at.Iterate q base c a) (iterate q base (cond_view c) (node_view a.value)) (λ fresh. (own, None)) old new
+        (iterate_view q base c a) (own_iterate q base c a)
+        (λ fresh. append_assoc own (asked_in None (node_view a.value)) (asked_in None (all_due old)) ∙ ap (λ (h : Node). own ++ asked_in None h) (sym e))
+
+    catch_opened : (q : ℕ) (k : declared_exit.Exit) (a : Box declared.Node Global) → all_due new ≡ apart_before (node_view a.value) (all_due old)
+        → IsOpened (at.Catch q k a) old new
+    catch_opened q k a e = opens (at.Catch q k a) (catch q (exit_view k) (node_view a.value)) (λ fresh. ([], None)) old new (catch_view q k a) (own_catch q k a)
+        (λ fresh. ap (asked_in None) (sym e))
+
+-- the way ----------------------------------------------------------------------------------------------------------------
+
+-- what is asked among others
+pub front_below : (n : ℕ) (all xs ys : List Asked) → all ≡ xs ++ ys → AreBelow n all → AreBelow n xs
+front_below n all xs ys e below = λ a k. below a (subst (λ (zs : List Asked). Contains zs a) (sym e) (Contains-append_left xs ys a k))
+
+back_below : (n : ℕ) (all xs ys : List Asked) → all ≡ xs ++ ys → AreBelow n all → AreBelow n ys
+back_below n all xs ys e below = λ a k. below a (subst (λ (zs : List Asked). Contains zs a) (sym e) (Contains-append_right xs ys a k))
+
+pub below_as : (n : ℕ) (xs ys : List Asked) → xs ≡ ys → AreBelow n xs → AreBelow n ys
+below_as n xs ys e below = subst (AreBelow n) e below
+
+-- a row's first tree, and then the others, which are due behind it
+pub row_asks : (fresh : Option NumberType) (v r h : Node) (ts xs : List declared.Node) (x l : declared.Node) → v ≡ row (map node_view ts) (node_view l)
+    → ts ≡ x ∷ xs
+    → h ≡ seq (row (map node_view xs) (node_view l)) r → asked_in fresh (seq v r) ≡ asked_in fresh (seq (node_view x) h)
+row_asks fresh v r h ts xs x l view is due =
+    let f = node_view x in
+    let g = row (map node_view xs) (node_view l) in
+    let seen : v ≡ seq f g = view ∙ ap (λ (ys : List declared.Node). row (map node_view ys) (node_view l)) is in
+    ap (λ (w : Node). asked_in fresh (seq w r)) seen
+    ∙ append_assoc (asked_in fresh f) (asked_in (fresh_behind fresh f) g) (asked_in (fresh_behind (fresh_behind fresh f) g) r)
+    ∙ ap (λ (w : Node). asked_in fresh (seq f w)) (sym due)
+
+pub last_asks : (fresh : Option NumberType) (v r : Node) (ts : List declared.Node) (l : declared.Node) → v ≡ row (map node_view ts) (node_view l) → ts ≡ []
+    → asked_in fresh (seq v r) ≡ asked_in fresh (seq (node_view l) r)
+last_asks fresh v r ts l view is =
+    ap (λ (w : Node). asked_in fresh (seq w r)) (view ∙ ap (λ (ys : List declared.Node). row (map node_view ys) (node_view l)) is)
+
+module _ {V H : Type 0} (m : Meaning V H) (values : List V) where
+  pub way_by : (n : declared.Node) (fresh later : Option NumberType) (old new : List Due) (t u : List (Option Verdict)) → IsOpened n old new
+      → later ≡ fresh_at fresh n
+      → Fills m values (own_asked fresh n) t u → IsOnWay m values fresh (seq (node_view n) (all_due old)) later (all_due new) t u
+  way_by n fresh later old new t u opened behind fills = record {
+    done = own_asked fresh n;
+    is = opened fresh ∙ ap (λ (k : Option NumberType). own_asked fresh n ++ asked_in k (all_due new)) (sym behind);
+    fills = fills;
+  }
+
+  -- what is asked, told otherwise
+  pub fills_as : {T E : Type 0} (r : outcome.Result T E) (xs ys : List Asked) (t u : List (Option Verdict)) → xs ≡ ys → OnOk r (Fills m values ys t u)
+      → OnOk r (Fills m values xs t u)
+  fills_as r xs ys t u e h = subst (λ (zs : List Asked). OnOk r (Fills m values zs t u)) (sym e) h
+
+  pub asks_none : (t : List (Option Verdict)) (xs : List Asked) → xs ≡ [] → Fills m values xs t t
+  asks_none t xs e = subst (λ (zs : List Asked). Fills m values zs t t) (sym e) (none_fills m values t)
+
+  -- the same is asked
+  way_as : (fresh later : Option NumberType) (f g h : Node) (t u : List (Option Verdict)) → asked_in fresh f ≡ asked_in fresh g
+      → IsOnWay m values fresh g later h t u
+      → IsOnWay m values fresh f later h t u
+  way_as fresh later f g h t u e way = record { done = way.done; is = e ∙ way.is; fills = way.fills }
+
+  pub way_if : {E : Type 0} (r : outcome.Result (Option NumberType) E) (fresh : Option NumberType) (f g h : Node) (t u : List (Option Verdict))
+      → asked_in fresh f ≡ asked_in fresh g → IfOk r (λ later. IsOnWay m values fresh g later h t u) → IfOk r (λ later. IsOnWay m values fresh f later h t u)
+  way_if r fresh f g h t u e way = IfOk-weaker r (λ later. IsOnWay m values fresh g later h t u) (λ later. IsOnWay m values fresh f later h t u)
+      (λ later. way_as fresh later f g h t u e) way
+
+  pub apart_way : (fresh : Option NumberType) (v h : Node) (t : List (Option Verdict)) → v ≡ point 0 → IsOnWay m values fresh (seq v h) None h t t
+  apart_way fresh v h t e = record { done = []; is = ap (λ (w : Node). asked_in fresh (seq w h)) e; fills = none_fills m values t }
+
+  -- the whole is due
+  pub way_first : (g : Node) (ds es : List Due) (d : Due) (t : List (Option Verdict)) → es ≡ ds ++ d ∷ [] → ds ≡ [] → due_view d ≡ g
+      → IsOnWay m values None g None (all_due es) t t
+  way_first g ds es d t e none is = record {
+    done = [];
+    is = sym (append-nil (asked_in None g)) ∙ ap (λ (h : Node). asked_in None (seq h empty)) (sym is)
+        ∙ ap (asked_in None) (sym (due_push ds es d e ∙ ap (λ (fs : List Due). seq (due_view d) (all_due fs)) none));
+    fills = none_fills m values t;
+  }
+
+  -- what is next: its points have values, a step of it is one of the whole
+  module _ (g : Node) (ds es : List Due) (d : Due) (t u : List (Option Verdict)) (fresh : Option NumberType) (next : es ≡ ds ++ d ∷ [])
+      (way : IsOnWay m values None g fresh (all_due es) t u) where
+    here : asked_in None g ≡ way.done ++ asked_in fresh (seq (due_view d) (all_due ds))
+    here = way.is ∙ ap (λ (h : Node). way.done ++ asked_in fresh h) (due_push ds es d next)
+
+    pub next_below : (n : ℕ) → AreBelow n (asked_in None g) → AreBelow n (asked_in fresh (seq (due_view d) (all_due ds)))
+    next_below n below = back_below n (asked_in None g) way.done (asked_in fresh (seq (due_view d) (all_due ds))) here below
+
+    pub next_way : (later : Option NumberType) (fs : List Due) (w : List (Option Verdict))
+        → IsOnWay m values fresh (seq (due_view d) (all_due ds)) later (all_due fs) u w → IsOnWay m values None g later (all_due fs) t w
+    next_way later fs w step = record {
+      done = way.done ++ step.done;
+      is = here ∙ ap (λ (xs : List Asked). way.done ++ xs) step.is ∙ sym (append_assoc way.done step.done (asked_in later (all_due fs)));
+      fills = then_fills m values way.done step.done t u w way.fills step.fills;
+    }
+
+  -- at the end the whole is done
+  pub way_whole : (g : Node) (es : List Due) (later : Option NumberType) (t u : List (Option Verdict)) → es ≡ []
+      → IsOnWay m values None g later (all_due es) t u
+      → Fills m values (asked_in None g) t u
+  way_whole g es later t u e way = subst (λ (xs : List Asked). Fills m values xs t u)
+      (sym (way.is ∙ ap (λ (ds : List Due). way.done ++ asked_in later (all_due ds)) e ∙ append-nil way.done)) way.fills
+
+-- sizes ------------------------------------------------------------------------------------------------------------------
+
+whole_of_seq : (gs : Vec declared.Node Global) (b : Box declared.Node Global)
+    → whole_size (at.Seq gs b) ≡ 2 + (sum_by (λ (g : ℕ × ℕ). g.0) (map sizes gs.items) + whole_size b.value)
+whole_of_seq gs b = search (rules, node_lemmas)
+
+sums : (gs : List declared.Node) → sum_by (λ (g : ℕ × ℕ). g.0) (map sizes gs) ≡ sum_by whole_size gs
+sums [] = refl
+sums (g ∷ gs) =
+    sum_by-cons (λ (x : ℕ × ℕ). x.0) (sizes g) (map sizes gs) ∙ ap (λ (n : ℕ). whole_size g + n) (sums gs) ∙ sym (sum_by-cons whole_size g gs)
+
+seq_size : (gs : Vec declared.Node Global) (b : Box declared.Node Global) → whole_size (at.Seq gs b) ≡ 2 + (sum_by whole_size gs.items + whole_size b.value)
+seq_size gs b = whole_of_seq gs b ∙ ap (λ (n : ℕ). 2 + (n + whole_size b.value)) (sums gs.items)
+
+choose_size : (q base : ℕ) (c : Cond) (a b : Box declared.Node Global) → whole_size (at.Choose q base c a b) ≡ 2 + (whole_size a.value + whole_size b.value)
+choose_size q base c a b = search (rules, node_lemmas)
+
+iterate_size : (q base : ℕ) (c : Cond) (a : Box declared.Node Global) → whole_size (at.Iterate q base c a) ≡ 2 + whole_size a.value
+iterate_size q base c a = search (rules, node_lemmas)
+
+catch_size : (q : ℕ) (k : declared_exit.Exit) (a : Box declared.Node Global) → whole_size (at.Catch q k a) ≡ 2 + whole_size a.value
+catch_size q k a = search (rules, node_lemmas)
+
+-- a tree with none in it
+empty_size : whole_size at.Empty ≡ 1
+empty_size = search (rules, node_lemmas)
+
+point_size : (q : ℕ) → whole_size (at.Point q) ≡ 1
+point_size q = search (rules, node_lemmas)
+
+act_size : (q : ℕ) (o : declared_op.Op) → whole_size (at.Act q o) ≡ 1
+act_size q o = search (rules, node_lemmas)
+
+check_size : (q base : ℕ) (c : Cond) → whole_size (at.Check q base c) ≡ 1
+check_size q base c = search (rules, node_lemmas)
+
+leave_size : (n : ℕ) (k : declared_exit.Exit) → whole_size (at.Leave n k) ≡ 1
+leave_size n k = search (rules, node_lemmas)
+
+leaf_falls : (n k : declared.Node) (a : ℕ) → n ≡ k → whole_size k ≡ 1 → a < a + 2 * whole_size n
+leaf_falls n k a is size = let one : whole_size n ≡ 1 = ap whole_size is ∙ size in omega (arith, one)
+
+pub both_left : {T E : Type 0} (r : outcome.Result T E) (left between new x y : ℕ) → between ≡ left + 1 + 2 * y → OnOk r (new ≡ between + 1 + 2 * x)
+    → OnOk r (new ≡ left + 2 + 2 * (x + y))
+both_left r left between new x y e h = on_ok_weaker {P = new ≡ between + 1 + 2 * x} {Q = new ≡ left + 2 + 2 * (x + y)} r (sum e) h
+  where
+    sum : between ≡ left + 1 + 2 * y → new ≡ between + 1 + 2 * x → new ≡ left + 2 + 2 * (x + y)
+    sum e d = omega (arith, e, d)
+
+-- in a step
+pub apart_falls : (n size : ℕ) → size ≡ 1 → n < n + size
+apart_falls n size e = omega (arith, e)
+
+pub last_falls : {T E : Type 0} (r : outcome.Result T E) (new left size sum w : ℕ) → size ≡ 1 + (2 * sum + 2 * w) → OnOk r (new < left + 2 * w)
+    → OnOk r (new < left + size)
+last_falls r new left size sum w e h = on_ok_weaker {P = new < left + 2 * w} {Q = new < left + size} r (more e) h
+  where
+    more : size ≡ 1 + (2 * sum + 2 * w) → new < left + 2 * w → new < left + size
+    more e less = omega (arith, e, less)
+
+pub row_falls : {T E : Type 0} (r : outcome.Result T E) (new between left size w : ℕ) (ts xs : List declared.Node) (x : declared.Node)
+    → size ≡ 1 + (2 * sum_by whole_size ts + 2 * w) → ts ≡ x ∷ xs → between ≡ left + 1 + 2 * (sum_by whole_size xs + w)
+    → OnOk r (new < between + 2 * whole_size x) → OnOk r (new < left + size)
+row_falls r new between left size w ts xs x e is d h =
+    on_ok_weaker {P = new < between + 2 * whole_size x} {Q = new < left + size} r (more e (ap (sum_by whole_size) is ∙ sum_by-cons whole_size x xs) d) h
+  where
+    more : size ≡ 1 + (2 * sum_by whole_size ts + 2 * w) → sum_by whole_size ts ≡ whole_size x + sum_by whole_size xs
+        → between ≡ left + 1 + 2 * (sum_by whole_size xs + w) → new < between + 2 * whole_size x → new < left + size
+    more e sum d less = omega (arith, e, sum, d, less)
+
+pub fewer_left : (ds es fs : List Due) (d : Due) → es ≡ ds ++ d ∷ [] → all_left fs < all_left ds + due_size d → all_left fs < all_left es
+fewer_left ds es fs d e less = let sum = left_push ds es d e in omega (arith, sum, less)
+
+-- ---- a tree that is opened, behind calls that may fail
+module _ {T E : Type 0} (r : outcome.Result T E) (n : declared.Node) (old new : List Due) where
+  seen_opened : (k : declared.Node) (so : Type 0) → n ≡ k → (so → IsOpened k old new) → OnOk r so → OnOk r (IsOpened n old new)
+  seen_opened k so is opened h = on_ok_weaker {P = so} {Q = IsOpened n old new} r (λ e. subst (λ (x : declared.Node). IsOpened x old new) (sym is) (opened e)) h
+
+  seen_falls : (k : declared.Node) (size left : ℕ) → n ≡ k → whole_size k ≡ size → left < all_left old + 2 * size → OnOk r (all_left new ≡ left)
+      → OnOk r (all_left new < all_left old + 2 * whole_size n)
+  seen_falls k size left is whole less h = on_ok_weaker {P = all_left new ≡ left} {Q = all_left new < all_left old + 2 * whole_size n} r (falls is whole less) h
+    where
+      falls : n ≡ k → whole_size k ≡ size → left < all_left old + 2 * size → all_left new ≡ left → all_left new < all_left old + 2 * whole_size n
+      falls is whole less e = let all : whole_size n ≡ size = ap whole_size is ∙ whole in omega (arith, all, less, e)
+
+  module _ (gs : Vec declared.Node Global) (b : Box declared.Node Global) (is : n ≡ at.Seq gs b) where
+    pub seq_opens : OnOk r (all_due new ≡ seq (row (map node_view gs.items) (node_view b.value)) (all_due old)) → OnOk r (IsOpened n old new)
+    seq_opens = seen_opened (at.Seq gs b) _ is (seq_opened old new gs b)
+
+    pub seq_falls : OnOk r (all_left new ≡ all_left old + 1 + 2 * (sum_by whole_size gs.items + whole_size b.value))
+        → OnOk r (all_left new < all_left old + 2 * whole_size n)
+    seq_falls = seen_falls (at.Seq gs b) (2 + (sum_by whole_size gs.items + whole_size b.value)) _ is (seq_size gs b) (omega arith)
+
+  module _ (q base : ℕ) (c : Cond) (a b : Box declared.Node Global) (is : n ≡ at.Choose q base c a b) where
+    pub choose_opens : OnOk r (all_due new ≡ apart_before (node_view a.value) (apart_before (node_view b.value) (all_due old))) → OnOk r (IsOpened n old new)
+    choose_opens = seen_opened (at.Choose q base c a b) _ is (choose_opened old new q base c a b)
+
+    pub choose_falls : OnOk r (all_left new ≡ all_left old + 2 + 2 * (whole_size a.value + whole_size b.value))
+        → OnOk r (all_left new < all_left old + 2 * whole_size n)
+    choose_falls = seen_falls (at.Choose q base c a b) (2 + (whole_size a.value + whole_size b.value)) _ is (choose_size q base c a b) (omega arith)
+
+  module _ (q base : ℕ) (c : Cond) (a : Box declared.Node Global) (is : n ≡ at.Iterate q base c a) where
+    pub iterate_opens : OnOk r (all_due new ≡ apart_before (node_view a.value) (all_due old)) → OnOk r (IsOpened n old new)
+    iterate_opens = seen_opened (at.Iterate q base c a) _ is (iterate_opened old new q base c a)
+
+    pub iterate_falls : OnOk r (all_left new ≡ all_left old + 1 + 2 * whole_size a.value) → OnOk r (all_left new < all_left old + 2 * whole_size n)
+    iterate_falls = seen_falls (at.Iterate q base c a) (2 + whole_size a.value) _ is (iterate_size q base c a) (omega arith)
+
+  module _ (q : ℕ) (k : declared_exit.Exit) (a : Box declared.Node Global) (is : n ≡ at.Catch q k a) where
+    pub catch_opens : OnOk r (all_due new ≡ apart_before (node_view a.value) (all_due old)) → OnOk r (IsOpened n old new)
+    catch_opens = seen_opened (at.Catch q k a) _ is (catch_opened old new q k a)
+
+    pub catch_falls : OnOk r (all_left new ≡ all_left old + 1 + 2 * whole_size a.value) → OnOk r (all_left new < all_left old + 2 * whole_size n)
+    catch_falls = seen_falls (at.Catch q k a) (2 + whole_size a.value) _ is (catch_size q k a) (omega arith)
+
+-- a tree with none in it
+module _ (n : declared.Node) (left : List Due) where
+  abbrev pub Rests : Type 0
+  Rests = IsOpened n left left × (all_left left < all_left left + 2 * whole_size n)
+
+  leaf_rests : (k : declared.Node) → n ≡ k → IsOpened k left left → whole_size k ≡ 1 → Rests
+  leaf_rests k is opened size = (subst (λ (x : declared.Node). IsOpened x left left) (sym is) opened, leaf_falls n k (all_left left) is size)
+
+  pub empty_rests : n ≡ at.Empty → Rests
+  empty_rests is = leaf_rests at.Empty is (empty_opened left) empty_size
+
+  pub point_rests : (q : ℕ) → n ≡ at.Point q → Rests
+  point_rests q is = leaf_rests (at.Point q) is (point_opened left q) (point_size q)
+
+  pub act_rests : (q : ℕ) (o : declared_op.Op) → n ≡ at.Act q o → Rests
+  act_rests q o is = leaf_rests (at.Act q o) is (act_opened left q o) (act_size q o)
+
+  pub check_rests : (q base : ℕ) (c : Cond) → n ≡ at.Check q base c → Rests
+  check_rests q base c is = leaf_rests (at.Check q base c) is (check_opened left q base c) (check_size q base c)
+
+  pub leave_rests : (m : ℕ) (k : declared_exit.Exit) → n ≡ at.Leave m k → Rests
+  leave_rests m k is = leaf_rests (at.Leave m k) is (leave_opened left m k) (leave_size m k)

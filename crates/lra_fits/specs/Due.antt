@@ -1,0 +1,79 @@
+-- What is still to be judged while a tree is gone along, and how far that is done.
+use Rattle.std.specs.Prelude.{◌≡◌, ℕ, ◌+◌, ◌*◌, List, [], ◌∷◌, ◌++◌, map, Option, None, true}
+use Rattle.std.specs.List.{sum_by}
+use Rattle.lra_base.specs.declared.number_types.NumberType.{NumberType}
+use Rattle.lra_domain.specs.Meaning.{Meaning}
+use Rattle.lra_program.specs.ProgramViews.{cond_view}
+use Rattle.lra_program.specs.Step.{test}
+use Rattle.lra_operations.specs.Asked.{Asked, asked_in, asked_of, fresh_of}
+use Rattle.lra_operations.specs.Graph.{Node, empty, point, seq}
+use Rattle.lra_operations.specs.GraphViews.{node_view, op_view, row}
+use Rattle.lra_operations.specs.Sizes.{whole_size}
+use Rattle.lra_operations.specs.declared.graph.Node as declared
+use Rattle.lra_operations.specs.declared.graph.Node.TheFolds.{fold-Node}
+use Rattle.lra_operations.specs.declared.graph.Node.TheOpen.{Node-F}
+use Rattle.lra_fits.specs.declared.operations.Verdict.{Verdict}
+use Rattle.lra_fits.specs.declared.trees.Due.{Due}
+use Rattle.lra_fits.specs.declared.trees.Due.TheVariants.{Tree, Row, Apart}
+use Rattle.lra_fits.specs.Judged.{Fills}
+
+-- as a tree: behind a point no variable is new
+abbrev pub due_view : Due → Node
+due_view (Tree n) = node_view n.now
+due_view (Row trees last) = row (map node_view trees.now) (node_view last.now)
+due_view Apart = point 0
+
+-- all of them as one tree, the last of the list first, and this tree behind them
+abbrev pub due_before : Node → List Due → Node
+due_before g [] = g
+due_before g (d ∷ ds) = due_before (seq (due_view d) g) ds
+
+abbrev pub all_due : List Due → Node
+all_due ds = due_before empty ds
+
+-- the one, behind which no variable is new, and then the other
+abbrev pub apart_before : Node → Node → Node
+apart_before g h = seq g (seq (point 0) h)
+
+-- what a tree asks itself, and what is new behind that: the trees in it come then
+abbrev pub own_step : Option NumberType → Node-F (List Asked × Option NumberType) → List Asked × Option NumberType
+own_step fresh Node-F.Empty = ([], fresh)
+own_step fresh (Node-F.Point q) = ([], None)
+own_step fresh (Node-F.Act q o) = (asked_of q fresh (op_view o), fresh_of (op_view o))
+own_step fresh (Node-F.Check q base c) = (asked_of q None (test base (cond_view c) true), None)
+own_step fresh (Node-F.Seq gs last) = ([], fresh)
+own_step fresh (Node-F.Choose q base c a b) = (asked_of q None (test base (cond_view c) true), None)
+own_step fresh (Node-F.Iterate q base c a) = (asked_of q None (test base (cond_view c) true), None)
+own_step fresh (Node-F.Catch q k a) = ([], None)
+own_step fresh (Node-F.Leave n k) = ([], None)
+
+abbrev pub own_of : Option NumberType → declared.Node → List Asked × Option NumberType
+own_of fresh = fold-Node (List Asked × Option NumberType) (own_step fresh)
+
+abbrev pub own_asked : Option NumberType → declared.Node → List Asked
+own_asked fresh n = (own_of fresh n).0
+
+abbrev pub fresh_at : Option NumberType → declared.Node → Option NumberType
+fresh_at fresh n = (own_of fresh n).1
+
+-- behind what the tree does itself, these are due in place of those behind it
+abbrev pub IsOpened : declared.Node → List Due → List Due → Type 0
+IsOpened n old new = (fresh : Option NumberType) → asked_in fresh (seq (node_view n) (all_due old)) ≡
+    own_asked fresh n ++ asked_in (fresh_at fresh n) (all_due new)
+
+-- how much is left, so that the going along ends
+abbrev pub due_size : Due → ℕ
+due_size (Tree n) = 2 * whole_size n.now
+due_size (Row trees last) = 1 + (2 * sum_by whole_size trees.now + 2 * whole_size last.now)
+due_size Apart = 1
+
+abbrev pub all_left : List Due → ℕ
+all_left ds = sum_by due_size ds
+
+-- Of a tree, at whose beginning a variable may be new, this is left, with that which is new then: the table has the
+-- verdicts on what was asked between.
+pub record IsOnWay {V H : Type 0} (m : Meaning V H) (values : List V) (fresh : Option NumberType) (g : Node)
+    (later : Option NumberType) (h : Node) (old new : List (Option Verdict)) : Type 0 where
+  pub done : List Asked
+  pub is : asked_in fresh g ≡ done ++ asked_in later h
+  pub fills : Fills m values done old new

@@ -1,0 +1,4 @@
+pub mod Due
+pub mod Judged
+pub mod Operands
+pub mod Sides
