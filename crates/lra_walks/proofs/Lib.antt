@@ -3,5 +3,8 @@ mod LoopExamples
 mod NestedExamples
 mod CallExamples
 mod BoxExamples
+mod FitsExamples
 -- The tree of the program that is tried.
 mod SampleTree
+-- The tree whose steps are judged.
+mod StepsTree

@@ -91,11 +91,11 @@ given_example : (given_rows 1 0 is_small).rows ≡ (pos 9 ∷ negsuc 0 ∷ []) �
 given_example = refl
 
 -- i + 1
-abbrev next : Form
+abbrev pub next : Form
 next = form (pos 1) (pos 1 ∷ [])
 
 -- the table's result of i = i + 1, its bounds the least and the greatest value
-increased : (x : Interval) → IsSound x → StepsTo (assign 0 next) (one x) (stepped (assign 0 next) (one x))
+pub increased : (x : Interval) → IsSound x → StepsTo (assign 0 next) (one x) (stepped (assign 0 next) (one x))
 increased x sound = record { table = refl; extremes = (end_is_extreme Low next (x ∷ []) (sound, tt) refl, end_is_extreme High next (x ∷ []) (sound, tt) refl) }
 
 -- of 9 - i >= 0

@@ -3,4 +3,6 @@
 #![tactic(auto)]
 
 #[cfg(test)]
+mod fitting;
+#[cfg(test)]
 mod tests;
