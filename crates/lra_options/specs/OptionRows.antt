@@ -8,7 +8,7 @@ use Rattle.lra_options.specs.declared.options.Options.{Options}
 use Rattle.lra_options.specs.declared.options.NumberOption.{NumberOption}
 use Rattle.lra_options.specs.declared.options.NumberOption.TheVariants.{Parts, Delay, Narrow}
 use Rattle.lra_options.specs.declared.options.FlagOption.{FlagOption}
-use Rattle.lra_options.specs.declared.options.FlagOption.TheVariants.{Limited, Thresholds}
+use Rattle.lra_options.specs.declared.options.FlagOption.TheVariants.{Limited, Thresholds, Fits}
 use Rattle.lra_options.specs.Domains.{stops_at_rows}
 
 -- numbers ----------------------------------------------------------------------------------------------------------
@@ -60,26 +60,31 @@ default_number option = written_number (number_row option).default
 
 -- flags ------------------------------------------------------------------------------------------------------------
 
--- a flag: off where words don't give it; a report tells it always, or only where it is on
+-- a flag: off where words don't give it; a report tells it always, or only where it is on. Those that change no state
+-- stand beside `--best`
 pub record FlagRow : Type 0 where
   pub name : List ℕ
   pub is_always_told : Bool
+  pub stands_beside_best : Bool
 
 abbrev pub flag_row : FlagOption → FlagRow
-flag_row Limited = record { name = codes "limited"; is_always_told = true }
-flag_row Thresholds = record { name = codes "thresholds"; is_always_told = false }
+flag_row Limited = record { name = codes "limited"; is_always_told = true; stands_beside_best = false }
+flag_row Thresholds = record { name = codes "thresholds"; is_always_told = false; stands_beside_best = false }
+flag_row Fits = record { name = codes "fits"; is_always_told = false; stands_beside_best = true }
 
 abbrev pub flag_value : FlagOption → Options → Bool
 flag_value Limited o = o.limited
 flag_value Thresholds o = o.thresholds
+flag_value Fits o = o.fits
 
 abbrev pub set_flag : FlagOption → Bool → Options → Options
 set_flag Limited value o = record o { limited = value }
 set_flag Thresholds value o = record o { thresholds = value }
+set_flag Fits value o = record o { fits = value }
 
 -- in the order of the first line, behind the numbers
 abbrev pub flag_options : List FlagOption
-flag_options = Limited ∷ Thresholds ∷ []
+flag_options = Limited ∷ Thresholds ∷ Fits ∷ []
 
 abbrev pub is_told : FlagOption → Options → Bool
 is_told option o = (flag_row option).is_always_told || flag_value option o
@@ -95,6 +100,7 @@ default_options = record {
   narrow = default_number Narrow;
   limited = false;
   thresholds = false;
+  fits = false;
 }
 
 -- those for which the word `best` stands
@@ -106,6 +112,7 @@ best_options = record {
   narrow = 1;
   limited = false;
   thresholds = true;
+  fits = false;
 }
 
 -- they can be given together: a widening is limited in one way, and thresholds limit heads that can stop at rows

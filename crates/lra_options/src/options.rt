@@ -71,6 +71,8 @@ pub struct Options {
     pub limited: bool,
     /// Whether it is limited by thresholds: by the conditions of a loop and in it, and by the program's constants.
     pub thresholds: bool,
+    /// Whether it is told which operations fit their types.
+    pub fits: bool,
 }
 
 impl Options {
@@ -202,10 +204,16 @@ pub enum FlagOption {
     Limited,
     /// Whether loops grow by the tightest of the program's own constants and conditions.
     Thresholds,
+    /// Whether it is told which operations fit their types.
+    Fits,
 }
 
 /// These options, in the order of a report's first line, where they stand behind the numbers.
-pub const FLAG_OPTIONS: [FlagOption; 2] = [FlagOption::Limited, FlagOption::Thresholds];
+pub const FLAG_OPTIONS: [FlagOption; 3] = [
+    FlagOption::Limited,
+    FlagOption::Thresholds,
+    FlagOption::Fits,
+];
 
 impl FlagOption {
     /// Its name, as words and reports have it.
@@ -215,6 +223,7 @@ impl FlagOption {
         match self {
             FlagOption::Limited => "limited",
             FlagOption::Thresholds => "thresholds",
+            FlagOption::Fits => "fits",
         }
     }
 
@@ -225,6 +234,18 @@ impl FlagOption {
         match self {
             FlagOption::Limited => true,
             FlagOption::Thresholds => false,
+            FlagOption::Fits => false,
+        }
+    }
+
+    /// Whether it stands beside `--best`, since it changes no state.
+    pub fn stands_beside_best(self) -> bool
+        ensures { result ≡ (flag_row self).stands_beside_best }
+    {
+        match self {
+            FlagOption::Limited => false,
+            FlagOption::Thresholds => false,
+            FlagOption::Fits => true,
         }
     }
 
@@ -235,6 +256,7 @@ impl FlagOption {
         match self {
             FlagOption::Limited => options.limited,
             FlagOption::Thresholds => options.thresholds,
+            FlagOption::Fits => options.fits,
         }
     }
 
@@ -249,6 +271,10 @@ impl FlagOption {
             },
             FlagOption::Thresholds => Options {
                 thresholds: value,
+                ..options
+            },
+            FlagOption::Fits => Options {
+                fits: value,
                 ..options
             },
         }
@@ -270,6 +296,7 @@ pub const DEFAULT_OPTIONS: Options = Options {
     narrow: 1,
     limited: false,
     thresholds: false,
+    fits: false,
 };
 
 /// The options for which one word stands, for whoever doesn't want to choose: polyhedra of up to four parts, limited by
@@ -281,6 +308,7 @@ pub const BEST_OPTIONS: Options = Options {
     narrow: 1,
     limited: false,
     thresholds: true,
+    fits: false,
 };
 
 /// These options; each number is the one that its text writes.

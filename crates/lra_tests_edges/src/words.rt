@@ -153,6 +153,50 @@ static THRESHOLDS: [(&str, Command); 5] = [
     ),
 ];
 
+/// Lines that ask which operations fit, alone or beside the options for which one word stands.
+static FITS: [(&str, Command); 4] = [
+    (
+        "lra analyse --fits",
+        Command::Analyse {
+            options: Options {
+                fits: true,
+                ..DEFAULTS
+            },
+            format: Format::Lines,
+        },
+    ),
+    (
+        "lra analyse --domain box --fits --json",
+        Command::Analyse {
+            options: Options {
+                fits: true,
+                ..BOXES
+            },
+            format: Format::Json,
+        },
+    ),
+    (
+        "lra analyse --best --fits",
+        Command::Analyse {
+            options: Options {
+                fits: true,
+                ..BEST_OPTIONS
+            },
+            format: Format::Lines,
+        },
+    ),
+    (
+        "lra analyse --fits --json --best",
+        Command::Analyse {
+            options: Options {
+                fits: true,
+                ..BEST_OPTIONS
+            },
+            format: Format::Json,
+        },
+    ),
+];
+
 /// The same, with several options or none.
 static SEVERAL: [(&str, Command); 13] = [
     (
@@ -221,6 +265,7 @@ static SEVERAL: [(&str, Command); 13] = [
                 narrow: 3,
                 limited: true,
                 thresholds: false,
+                fits: false,
             },
             format: Format::Json,
         },
@@ -274,6 +319,7 @@ fn commands_are_taken(rt: HostRuntime) {
     are_taken(&rt, rt.alloc(), &ONE_OPTION);
     are_taken(&rt, rt.alloc(), &SEVERAL);
     are_taken(&rt, rt.alloc(), &THRESHOLDS);
+    are_taken(&rt, rt.alloc(), &FITS);
 }
 
 /// Whether the words of the line ask for no command.
@@ -367,7 +413,7 @@ static COUNTS: [&str; 17] = [
 ];
 
 /// Options that can't be given together, be they given with their defaults.
-static APART: [&str; 14] = [
+static APART: [&str; 17] = [
     "lra analyse --thresholds --limited",
     "lra analyse --limited --thresholds",
     "lra analyse --domain box --thresholds",
@@ -381,6 +427,9 @@ static APART: [&str; 14] = [
     "lra analyse --best --thresholds",
     "lra analyse --best --limited",
     "lra analyse --best --best",
+    "lra analyse --fits --fits",
+    "lra analyse --fits=yes",
+    "lra analyse --best --fits --limited",
     "lra sample --seed 1 --size 1 --best",
 ];
 

@@ -28,7 +28,16 @@ threshold_analyse : Asks (codes "lra" ∷ (codes "analyse" ∷ (codes "--thresho
 unfolding the_names clap_on_literals
 threshold_analyse = (vp.Names the_names, (the_names, refl, refl), refl, refl)
 
--- `--best` beside an option, be it with its default
+fits_analyse : Asks (codes "lra" ∷ (codes "analyse" ∷ (codes "--fits" ∷ []))) (Analyse (record default_options { fits = true }) Lines)
+unfolding the_names clap_on_literals
+fits_analyse = (vp.Names the_names, (the_names, refl, refl), refl, refl)
+
+-- what changes no state stands beside `--best`
+best_fits : Asks (codes "lra" ∷ (codes "analyse" ∷ (codes "--best" ∷ (codes "--fits" ∷ [])))) (Analyse (record best_options { fits = true }) Lines)
+unfolding the_names clap_on_literals
+best_fits = (vp.Names the_names, (the_names, refl, refl), refl, refl)
+
+-- `--best` beside an option that it stands for, be it with its default
 best_beside : AsksNone (codes "lra" ∷ (codes "analyse" ∷ (codes "--best" ∷ (codes "--delay=1" ∷ []))))
 unfolding the_names clap_on_literals
 best_beside = (vp.Names the_names, (the_names, refl, refl), λ none. (refl, inl (refl, refl)))

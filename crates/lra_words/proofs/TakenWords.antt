@@ -19,11 +19,12 @@ use Rattle.clap.specs.Walk.{Row, Rule, Text, answers_to, finished, nothing_held,
 use Rattle.clap.specs.declared.builder.value_parser.ValueParser.{ValueParser}
 use Rattle.clap.specs.declared.builder.value_parser.ValueParser.TheVariants as vp
 use Rattle.clap.proofs.WalkLemmas.{both, list_any-map}
-use Rattle.lra_words.specs.Chosen.{HasInRange, IsWithinRanges, domain_at, domain_named, flag_at, format_of, gives_any, number_at, number_below, options_of, sample_of, truth_of}
+use Rattle.lra_words.specs.Chosen.{HasInRange, IsWithinRanges, best_of, domain_at, domain_named, flag_at, format_of, gives_any, number_at, number_below}
+use Rattle.lra_words.specs.Chosen.{options_of, sample_of, truth_of}
 use Rattle.lra_words.specs.CommandLine.{plain, plain_commands, named_plain}
 use Rattle.lra_words.specs.CommandLine.{TakesDomains, best_rule, command_line, domain_rule, json_rule, flag, number_rule, seed_option, size_option}
 use Rattle.lra_options.specs.declared.options.NumberOption.TheVariants.{Parts, Delay, Narrow}
-use Rattle.lra_options.specs.declared.options.FlagOption.TheVariants.{Limited, Thresholds}
+use Rattle.lra_options.specs.declared.options.FlagOption.TheVariants.{Limited, Thresholds, Fits}
 use Rattle.lra_options.specs.OptionRows.{NumberRow, IsInRange, agree, best_options, number_options, number_row, flag_row, default_options}
 use Rattle.lra_options.specs.declared.options.Options.{Options}
 use Rattle.lra_words.specs.declared.chosen.Command.{Command}
@@ -114,31 +115,44 @@ truth_at id rows text one passed =
 
 pub options_from : (rows : List Row) (options : Options) → domain_at (codes "domain") rows ≡ Some options.domain → number_at (codes "parts") (2 ^ 32) rows ≡ Some options.parts
     → number_at (codes "delay") (2 ^ 32) rows ≡ Some options.delay → number_at (codes "narrow") (2 ^ 32) rows ≡ Some options.narrow
-    → flag_at (codes "limited") rows ≡ Some options.limited → flag_at (codes "thresholds") rows ≡ Some options.thresholds → options_of rows ≡ Some options
-options_from rows options domain parts delay narrow limited thresholds =
+    → flag_at (codes "limited") rows ≡ Some options.limited → flag_at (codes "thresholds") rows ≡ Some options.thresholds
+    → flag_at (codes "fits") rows ≡ Some options.fits → options_of rows ≡ Some options
+options_from rows options domain parts delay narrow limited thresholds fits =
     let begun = ap (option_map (λ (d : Domain). record default_options { domain = d })) domain in
     let one = number_read rows _ _ Parts options.parts begun parts in
     let two = number_read rows _ _ Delay options.delay one delay in
     let three = number_read rows _ _ Narrow options.narrow two narrow in
     let four = flag_read rows _ _ Limited options.limited three limited in
-    flag_read rows _ _ Thresholds options.thresholds four thresholds
+    let five = flag_read rows _ _ Thresholds options.thresholds four thresholds in
+    flag_read rows _ _ Fits options.fits five fits
 
--- the ranges that options have are those of their command; `--best` stands for some within them
-best_within : AllByRecursion (HasInRange best_options) number_options
-best_within = ((omega arith, omega arith), ((omega arith, omega arith), ((omega arith, omega arith), tt)))
+-- the ranges that options have are those of their command; `--best` stands for some within them, whatever flag stands
+-- beside it
+best_within : (fits : Bool) → AllByRecursion (HasInRange (record best_options { fits = fits })) number_options
+best_within fits = ((omega arith, omega arith), ((omega arith, omega arith), ((omega arith, omega arith), tt)))
+
+-- with the flags that stand beside it
+best_from : (rows : List Row) (fits : Bool) → flag_at (codes "fits") rows ≡ Some fits → gives_any rows ≡ false
+    → best_of rows ≡ Some (record best_options { fits = fits })
+best_from rows fits is none = rw (none, is) refl
 
 -- what is chosen of options that were read, with `--best` and without it
 chosen_from : (rows : List Row) (options : Options) (best json : Bool) → options_of rows ≡ Some options → flag_at (codes "best") rows ≡ Some best
-    → flag_at (codes "json") rows ≡ Some json → AllByRecursion (HasInRange options) number_options → Gives (Some (codes "analyse", rows))
-chosen_from rows options true json taken is as_json within = beside (gives_any rows) refl
+    → flag_at (codes "json") rows ≡ Some json → flag_at (codes "fits") rows ≡ Some options.fits → AllByRecursion (HasInRange options) number_options
+    → Gives (Some (codes "analyse", rows))
+chosen_from rows options true json taken is as_json fits within = beside (gives_any rows) refl
   where
     beside : (any : Bool) → gives_any rows ≡ any → Gives (Some (codes "analyse", rows))
     beside true any = inr (refl, inl (is, any))
-    beside false any = inl (Analyse best_options (format_of json), rw (is, any, as_json) refl, best_within)
-chosen_from rows options false json taken is as_json within = alone (agree options) refl
+    beside false any = inl (
+      Analyse (record best_options { fits = options.fits }) (format_of json),
+      rw (is, best_from rows options.fits fits any, as_json) refl,
+      best_within options.fits,
+    )
+chosen_from rows options false json taken is as_json fits within = alone (agree options) refl
   where
-    alone : (fits : Bool) → agree options ≡ fits → Gives (Some (codes "analyse", rows))
-    alone true fits = inl (Analyse options (format_of json), rw (is, taken, fits, as_json) refl, within)
+    alone : (so : Bool) → agree options ≡ so → Gives (Some (codes "analyse", rows))
+    alone true agreed = inl (Analyse options (format_of json), rw (is, taken, agreed, as_json) refl, within)
     alone false apart = inr (refl, inr (options, is, taken, apart))
 
 sample_from : (rows : List Row) (seed size : ℕ) → number_at (codes "seed") (2 ^ 64) rows ≡ Some seed → number_at (codes "size") (2 ^ 32) rows ≡ Some size
@@ -167,10 +181,13 @@ analyse_own parser = (
           (
             (refl, flag_adds (built_rule (flag (flag_row Thresholds).name)) (codes "true") refl refl),
             (
-              (refl, flag_adds (built_rule best_rule) (codes "true") refl refl),
+              (refl, flag_adds (built_rule (flag (flag_row Fits).name)) (codes "true") refl refl),
               (
-                (refl, flag_adds (built_rule json_rule) (codes "true") refl refl),
-                ((refl, help_adds (built_rule help_rule) refl), tt),
+                (refl, flag_adds (built_rule best_rule) (codes "true") refl refl),
+                (
+                  (refl, flag_adds (built_rule json_rule) (codes "true") refl refl),
+                  ((refl, help_adds (built_rule help_rule) refl), tt),
+                ),
               ),
             ),
           ),
@@ -192,6 +209,7 @@ analyse_taken parser takes words e =
     let narrow_text = defaulted_value shape words (built_rule (number_rule (number_row Narrow))) fit refl refl refl in
     let limited_text = defaulted_value shape words (built_rule (flag (flag_row Limited).name)) fit refl refl refl in
     let thresholds_text = defaulted_value shape words (built_rule (flag (flag_row Thresholds).name)) fit refl refl refl in
+    let fits_text = defaulted_value shape words (built_rule (flag (flag_row Fits).name)) fit refl refl refl in
     let best_text = defaulted_value shape words (built_rule best_rule) fit refl refl refl in
     let json_text = defaulted_value shape words (built_rule json_rule) fit refl refl refl in
     let domain = domain_passed parser domain_text.text takes domain_text.passed in
@@ -200,12 +218,21 @@ analyse_taken parser takes words e =
     let narrow = number_of (number_row Narrow) (2 ^ 32) rows narrow_text.text (lit< tt) narrow_text.one narrow_text.passed in
     let limited = truth_at (codes "limited") rows limited_text.text limited_text.one limited_text.passed in
     let thresholds = truth_at (codes "thresholds") rows thresholds_text.text thresholds_text.one thresholds_text.passed in
+    let fits = truth_at (codes "fits") rows fits_text.text fits_text.one fits_text.passed in
     let best = truth_at (codes "best") rows best_text.text best_text.one best_text.passed in
     let json = truth_at (codes "json") rows json_text.text json_text.one json_text.passed in
-    let options : Options = record { domain = domain.0; parts = parts.0; delay = delay.0; narrow = narrow.0; limited = limited.0; thresholds = thresholds.0 } in
+    let options : Options = record {
+      domain = domain.0;
+      parts = parts.0;
+      delay = delay.0;
+      narrow = narrow.0;
+      limited = limited.0;
+      thresholds = thresholds.0;
+      fits = fits.0;
+    } in
     let has_domain : domain_at (codes "domain") rows ≡ Some domain.0 = ap (option_and_then domain_named) domain_text.first ∙ domain.1 in
-    let taken = options_from rows options has_domain parts.1 delay.1 narrow.1 limited.1 thresholds.1 in
-    chosen_from rows options best.0 json.0 taken best.1 json.1 (parts.2, (delay.2, (narrow.2, tt)))
+    let taken = options_from rows options has_domain parts.1 delay.1 narrow.1 limited.1 thresholds.1 fits.1 in
+    chosen_from rows options best.0 json.0 taken best.1 json.1 fits.1 (parts.2, (delay.2, (narrow.2, tt)))
 
 sample_own : (parser : ValueParser) → AllOwn (sub_at parser 1).rules (sub_at parser 1).rules
 sample_own parser = (

@@ -1,6 +1,6 @@
 -- The command that the matches of the command line are.
 use Rattle.std.specs.Prelude.{◌≡◌, ◌^◌, ◌&&◌, ◌||◌, ◌⊎◌, ℕ, Bool, true, false, List, [], fold, Option, Some}
-use Rattle.std.specs.Prelude.{None, codes, if◌then◌else◌, find, nat_lt, option_and_then, option_map, ⊤}
+use Rattle.std.specs.Prelude.{not, None, codes, if◌then◌else◌, find, nat_lt, option_and_then, option_map, ⊤}
 use Rattle.std.specs.List.{AllByRecursion, list_any}
 use Rattle.std.specs.Str.{bytes_eq}
 use Rattle.std.specs.Str.Parse.{digits_value, without_leading_plus}
@@ -69,15 +69,23 @@ options_of rows = fold (with_flag rows) (fold (with_number rows) (with_domain ro
 abbrev pub gives_number : List Row → Bool
 gives_number rows = list_any (λ option. is_given (number_row option).name rows) number_options
 
+-- a flag that `--best` stands for
+abbrev pub gives_settled : List Row → FlagOption → Bool
+gives_settled rows option = not (flag_row option).stands_beside_best && is_given (flag_row option).name rows
+
 abbrev pub gives_flag : List Row → Bool
-gives_flag rows = list_any (λ option. is_given (flag_row option).name rows) flag_options
+gives_flag rows = list_any (gives_settled rows) flag_options
 
 abbrev pub gives_any : List Row → Bool
 gives_any rows = is_given (codes "domain") rows || (gives_number rows || gives_flag rows)
 
--- `--best` stands alone for its options; without it those that are read have to agree
+-- `--best` stands alone for its options; flags that stand beside it are read. Without it those that are read have to
+-- agree
+abbrev pub with_beside : List Row → Option Options → FlagOption → Option Options
+with_beside rows so option = if (flag_row option).stands_beside_best then with_flag rows so option else so
+
 abbrev pub best_of : List Row → Option Options
-best_of rows = if gives_any rows then None else Some best_options
+best_of rows = if gives_any rows then None else fold (with_beside rows) (Some best_options) flag_options
 
 abbrev pub agreeing : Options → Option Options
 agreeing o = if agree o then Some o else None
@@ -131,7 +139,7 @@ IsWithinRanges (Analyse options format) = AllByRecursion (HasInRange options) nu
 IsWithinRanges (Sample seed size) = IsInRange seed_option seed × IsInRange size_option size
 IsWithinRanges (Plain c) = ⊤
 
--- an option stands beside `--best`, which stands for all of them
+-- an option stands beside `--best`, which stands for it
 abbrev pub IsBesideBest : List Row → Type 0
 IsBesideBest rows = (flag_at (codes "best") rows ≡ Some true) × (gives_any rows ≡ true)
 

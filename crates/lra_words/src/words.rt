@@ -4,9 +4,10 @@ ghost use Rattle.clap.specs.Takes.{is_given};
 ghost use Rattle.clap.specs.Words.{found_of, kind_of, rows_of};
 ghost use Rattle.lra_words.specs.Chosen.{Asks, AsksFor, AsksNone, IsUntaken, IsWithinRanges, command_of, domain_at};
 ghost use Rattle.lra_words.specs.Chosen.{agreeing, analyse_of, best_of, chosen_options, domain_named, flag_at};
-ghost use Rattle.lra_words.specs.Chosen.{format_at, format_of, gives_any, gives_flag, gives_number, optioned_command};
-ghost use Rattle.lra_words.specs.Chosen.{number_at, options_of, sample_of, with_domain, with_flag, with_number};
-ghost use Rattle.lra_options.specs.OptionRows.{number_options, flag_options};
+ghost use Rattle.lra_words.specs.Chosen.{format_at, format_of, gives_any, gives_flag, gives_number, gives_settled};
+ghost use Rattle.lra_words.specs.Chosen.{number_at, optioned_command, options_of, sample_of, with_beside, with_domain};
+ghost use Rattle.lra_words.specs.Chosen.{with_flag, with_number};
+ghost use Rattle.lra_options.specs.OptionRows.{best_options, number_options, flag_options};
 ghost use Rattle.lra_words.specs.CommandLine.{plain_named};
 ghost use Rattle.lra_words.specs.Refusals.{refusal};
 
@@ -16,7 +17,8 @@ use clap::ArgMatches;
 use clap::error::ErrorKind;
 use clap::parser::ValueSource;
 use lra_options::{
-    DOMAINS, Domain, FLAG_OPTIONS, NUMBER_OPTIONS, Options, best_options, default_options,
+    DOMAINS, Domain, FLAG_OPTIONS, FlagOption, NUMBER_OPTIONS, Options, best_options,
+    default_options,
 };
 use std::alloc::{AllocError, Global};
 
@@ -130,12 +132,19 @@ fn gives_number(matches: &ArgMatches) -> bool
     false
 }
 
-/// Whether they give one of the options that are flags.
+/// Whether they give this flag, and `--best` stands for it.
+fn gives_settled(matches: &ArgMatches, option: FlagOption) -> bool
+    ensures { result ≡ gives_settled (rows_of (found_of matches.now)) option }
+{
+    !option.stands_beside_best() && is_given(matches, option.name())
+}
+
+/// Whether they give one of the flags for which `--best` stands.
 fn gives_flag(matches: &ArgMatches) -> bool
     ensures { result ≡ gives_flag (rows_of (found_of matches.now)) }
 {
     for option in FLAG_OPTIONS.iter() {
-        if is_given(matches, option.name()) {
+        if gives_settled(matches, *option) {
             return true;
         }
     }
@@ -148,14 +157,38 @@ fn gives_any(matches: &ArgMatches) -> bool
     is_given(matches, "domain") || gives_number(matches) || gives_flag(matches)
 }
 
-/// The options for which `--best` stands, if no other option is given beside it.
+/// These options with a flag that is read, if it stands beside `--best`.
+fn read_beside(matches: &ArgMatches, option: FlagOption, options: Options) -> Option<Options>
+    ensures { result ≡ with_beside (rows_of (found_of matches.now)) (Some options) option }
+{
+    if option.stands_beside_best() {
+        let is_on = read_flag(matches, option.name())?;
+        Some(option.set(is_on, options))
+    } else {
+        Some(options)
+    }
+}
+
+/// The options for which `--best` stands, with the flags that stand beside it.
+fn read_settled(matches: &ArgMatches) -> Option<Options>
+    ensures { result ≡
+        fold (with_beside (rows_of (found_of matches.now))) (Some best_options) flag_options }
+{
+    let mut read = best_options();
+    for option in FLAG_OPTIONS.iter() {
+        read = read_beside(matches, *option, read)?;
+    }
+    Some(read)
+}
+
+/// The same, if none of those for which it stands is given beside it.
 fn read_best(matches: &ArgMatches) -> Option<Options>
     ensures { result ≡ best_of (rows_of (found_of matches.now)) }
 {
     if gives_any(matches) {
         None
     } else {
-        Some(best_options())
+        read_settled(matches)
     }
 }
 
