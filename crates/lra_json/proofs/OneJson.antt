@@ -325,7 +325,17 @@ module _ (o : Options) (r : Report) (key : List ℕ) where
 -- two reports that list the same points and judge the same
 module _ (t : FileTree) (o : Options) (r s : Report)
     (words : AllByRecursion (λ x. AreWords (live_names (globals_named t.parts) (labels_of t) x)) (sites_of (resolve t))) (lr : Lists t r) (ls : Lists t s)
-    (gr : AllByRecursion (GoodPoint o.domain) r.points) (gs : AllByRecursion (GoodPoint o.domain) s.points) where
+    (gr : AllByRecursion (GoodPoint o.domain) r.points) (gs : AllByRecursion (GoodPoint o.domain) s.points) (same_options : r.options ≡ s.options) where
+  -- what is judged, by the tree of the first
+  abbrev what : List Subject
+  what = subjects r.options lr.tree t
+
+  first_judged : AreJudged (labels_of t) what r.verdicts
+  first_judged = lr.verdicts lr.tree lr.is_graph
+
+  second_judged : AreJudged (labels_of t) what s.verdicts
+  second_judged = subst (λ (x : Options). AreJudged (labels_of t) (subjects x lr.tree t) s.verdicts) (sym same_options) (ls.verdicts lr.tree lr.is_graph)
+
   points_told : (u v : List ℕ) → compact_text (list_of (point_data o.domain) r.points) ++ u ≡ compact_text (list_of (point_data o.domain) s.points) ++ v
       → (r.points ≡ s.points) × (u ≡ v)
   points_told u v e =
@@ -338,9 +348,8 @@ module _ (t : FileTree) (o : Options) (r s : Report)
       → compact_text (list_of verdict_data (under key r.verdicts)) ++ u ≡ compact_text (list_of verdict_data (under key s.verdicts)) ++ v
       → (under key r.verdicts ≡ under key s.verdicts) × (u ≡ v)
   judged_told key u v e =
-      let judged = subjects t in
-      verdicts_same (labels_of t) false (on key judged) (under key r.verdicts) (under key s.verdicts) u v
-      (judged_under (labels_of t) key judged r.verdicts lr.verdicts) (judged_under (labels_of t) key judged s.verdicts ls.verdicts) (rest_same e)
+      verdicts_same (labels_of t) false (on key what) (under key r.verdicts) (under key s.verdicts) u v
+      (judged_under (labels_of t) key what r.verdicts first_judged) (judged_under (labels_of t) key what s.verdicts second_judged) (rest_same e)
 
   judged_apart : (key : List ℕ) → Apart (list_of verdict_data (under key r.verdicts)) (list_of verdict_data (under key s.verdicts))
   judged_apart key u v cu cv e = let told = judged_told key u v e in (ap (λ (vs : List Verdict). compact_text (list_of verdict_data vs)) told.0, told.1)
@@ -349,7 +358,7 @@ module _ (t : FileTree) (o : Options) (r s : Report)
   one_alike ms ns kind alike =
       let key = (row_of kind).key in
       let same : list_any (is_under key) r.verdicts ≡ list_any (is_under key) s.verdicts =
-      listed_alike (labels_of t) key (subjects t) r.verdicts s.verdicts lr.verdicts ls.verdicts in
+      listed_alike (labels_of t) key what r.verdicts s.verdicts first_judged second_judged in
       let other = λ (b : Bool). if (row_of kind).stands o b then put key (list_of verdict_data (under key s.verdicts)) ns else ns in
       subst (λ (b : Bool). Alike (with_verdicts (report_under o r) ms kind) (other b)) same (go ((row_of kind).stands o (list_any (is_under key) r.verdicts)))
     where
@@ -386,7 +395,7 @@ module _ (t : FileTree) (o : Options) (r s : Report)
   verdicts_at e key has = go (list_any (is_under key) r.verdicts) refl
     where
       same : list_any (is_under key) s.verdicts ≡ list_any (is_under key) r.verdicts
-      same = listed_alike (labels_of t) key (subjects t) s.verdicts r.verdicts ls.verdicts lr.verdicts
+      same = listed_alike (labels_of t) key what s.verdicts r.verdicts second_judged first_judged
 
       go : (b : Bool) → list_any (is_under key) r.verdicts ≡ b → under key r.verdicts ≡ under key s.verdicts
       go false none = none_under key r.verdicts none ∙ sym (none_under key s.verdicts (same ∙ none))
@@ -401,7 +410,7 @@ module _ (t : FileTree) (o : Options) (r s : Report)
   one_json_of k l small_r small_s flag_r flag_s e =
       let flag = flag_same k l r.flagged s.flagged small_r small_s flag_r flag_s (fixed_at e (codes "flagged") refl) in
       let points = (points_told [] [] (ap (λ (text : List ℕ). text ++ []) (fixed_at e (codes "points") refl))).0 in
-      let verdicts = told_by_keys (labels_of t) (subjects t) r.verdicts s.verdicts lr.verdicts ls.verdicts
+      let verdicts = told_by_keys (labels_of t) what r.verdicts s.verdicts first_judged second_judged
       (λ kind. verdicts_at e (row_of kind).key (among_kinds kind)) in
       (flag, points, verdicts)
 
@@ -412,5 +421,6 @@ one_source_json L spelled r s o source one a b readable_r readable_s e =
     let here : report_json (report_under o r) ≡ report_json (report_under o s) =
     ap (λ x. report_json (report_under x r)) (sym a.options) ∙ e ∙ ap (λ x. report_json (report_under x s)) b.options in
     let same = one_json_of a.tree o r s (accepted_words L spelled source a.tree a.accepted) a.lists listed_s (good_points o r.points a.parts readable_r.points)
-    (good_points o s.points b.parts readable_s.points) (length r.points) (length s.points) readable_r.flag readable_s.flag a.flag b.flag here in
+    (good_points o s.points b.parts readable_s.points) (a.options ∙ sym b.options) (length r.points) (length s.points) readable_r.flag readable_s.flag a.flag
+    b.flag here in
     report_by r s (a.options ∙ sym b.options) same.0 same.1 same.2

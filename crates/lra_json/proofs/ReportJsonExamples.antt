@@ -1,5 +1,5 @@
 -- The JSON of reports. Which slip an example would catch stands beside it.
-use Rattle.std.proofs.Common.{◌≡◌, pos, negsuc, List, [], ◌∷◌, ◌++◌, Some, None, refl}
+use Rattle.std.proofs.Common.{◌≡◌, pos, negsuc, List, [], ◌∷◌, ◌++◌, Some, None, true, refl}
 use Rattle.std.specs.Prelude.{codes}
 use Rattle.std.specs.Fmt.{digits}
 use Rattle.serde_json.proofs.OnLiterals.{serde_json_on_literals}
@@ -7,7 +7,8 @@ use Rattle.lra_options.specs.declared.options.Domain.TheVariants.{Box}
 use Rattle.lra_report.specs.Report.{Place, PointReport}
 use Rattle.lra_show.specs.Part.{Part}
 use Rattle.lra_show.specs.Texts.{text_line}
-use Rattle.lra_report.proofs.ReportTextExamples.{empty_main, rows_alone, is_zero}
+use Rattle.lra_options.specs.OptionRows.{default_options}
+use Rattle.lra_report.proofs.ReportTextExamples.{empty_main, fitting, rows_alone, is_zero}
 use Rattle.serde_json.specs.Written.{compact_text}
 use Rattle.lra_json.specs.ReportJson.{flag_data, point_data, report_json}
 
@@ -17,6 +18,22 @@ empty_main_json : report_json empty_main
     ++ codes ",\"flagged\":0,\"points\":[{\"number\":1,\"parts\":[{\"generators\":[\"point\"],\"rows\":[]}],\"path\":\"main\",\"place\":\"1:16\"}],\"proved\":0,\"unknown\":0}")
 unfolding digits serde_json_on_literals
 empty_main_json = refl
+
+-- verdicts of two kinds; catches what fits among the assertions
+fitting_json : report_json fitting
+    ≡ text_line (codes "{\"analysis\":{\"delay\":1,\"domain\":\"box\",\"fits\":true,\"limited\":false,\"narrow\":1,\"parts\":1},\"asserts\":[]"
+    ++ codes ",\"fits\":[{\"point\":2,\"verdict\":\"fits\"},{\"point\":3,\"verdict\":\"may overflow\"}],\"flagged\":0"
+    ++ codes ",\"points\":[{\"number\":4,\"parts\":[{\"rows\":[\"x >= -2147483648\",\"x <= 2147483647\"]}],\"path\":\"main\",\"place\":\"1:40\"}]"
+    ++ codes ",\"proved\":0,\"unknown\":0}")
+unfolding digits serde_json_on_literals
+fitting_json = refl
+
+-- where it is asked what fits and nothing is computed
+nothing_computed : report_json (record empty_main { options = record default_options { fits = true }; points = [] })
+    ≡ text_line (codes "{\"analysis\":{\"delay\":1,\"domain\":\"poly\",\"fits\":true,\"limited\":false,\"narrow\":1,\"parts\":1},\"asserts\":[]"
+    ++ codes ",\"fits\":[],\"flagged\":0,\"points\":[],\"proved\":0,\"unknown\":0}")
+unfolding digits serde_json_on_literals
+nothing_computed = refl
 
 -- int main(void){ long x; if(input()) x=0; else x=5; } at its end
 abbrev end_of : List Part → PointReport

@@ -4,4 +4,4 @@
 
 mod listing;
 
-pub use listing::{Outline, list};
+pub use listing::{Found, Outline, list};

@@ -1,7 +1,9 @@
 //! The report of what an analysis found.
 
-ghost use Rattle.std.specs.Prelude.{◌≡◌, ◌++◌, ◌∷◌, ◌<◌, ◌^◌, [], ℕ, suc, Bool, length, map, Some, option_map, IfOk};
+ghost use Rattle.std.specs.Prelude.{◌≡◌, ◌++◌, ◌∷◌, ◌<◌, ◌^◌, ℕ, suc, length, map, Some, option_map, IfOk};
 ghost use Rattle.std.specs.Prelude.{string_bytes, List, All};
+ghost use Rattle.lra_operations.specs.Agree.{IsGraph};
+ghost use Rattle.lra_operations.specs.Graph.{Node};
 ghost use Rattle.lra_operations.specs.GraphViews.{site_view};
 ghost use Rattle.lra_tree.specs.Trees.{PartTree};
 ghost use Rattle.lra_tree.specs.Views.{tree_view, part_view, global_view};
@@ -12,11 +14,12 @@ ghost use Rattle.lra_meaning.specs.NameFaults.{global_names};
 ghost use Rattle.lra_meaning.specs.ShownNames.{shown_names};
 ghost use Rattle.lra_report.specs.ReportText.{path_text};
 ghost use Rattle.lra_meaning.specs.LiveNames.{globals_named, names_outside, live_names};
-ghost use Rattle.lra_report.specs.declared.verdict_kinds.VerdictKind.TheVariants.{Assertion};
+ghost use Rattle.lra_report.specs.declared.verdict_kinds.VerdictKind.TheVariants.{Assertion, Fit};
 ghost use Rattle.lra_report.specs.Listing.{call_at, called_at, calls_on, listed_point, listed_verdict, AreListed};
 ghost use Rattle.lra_report.specs.Listing.{Lists, judged_place, subject};
 ghost use Rattle.lra_report.specs.View.{call_place_of, point_report_of, verdict_of, report_of};
-ghost use Rattle.lra_listing.specs.Given.{AreInvariants, AreVerdicts, state_of, told_of, told, verdict_at};
+ghost use Rattle.lra_listing.specs.Given.{AreFitting, AreInvariants, AreVerdicts, state_of, told_all, told_of};
+ghost use Rattle.lra_listing.specs.Given.{verdict_at};
 
 use lra_base::Place;
 use lra_meaning::Labels;
@@ -192,7 +195,7 @@ fn judged_place(labels: &Labels, kind: VerdictKind, site: &Site) -> Place
     ensures { result ≡ judged_place labels.now.labels kind (site_view site.now) }
 {
     match kind {
-        VerdictKind::Assertion => labels.place(site.label),
+        VerdictKind::Assertion | VerdictKind::Fit => labels.place(site.label),
     }
 }
 
@@ -316,42 +319,80 @@ pub struct Outline<'a> {
     pub sites: &'a [Site],
 }
 
-/// The report of what an analysis found in a source, whose points are numbered from 0 here: the state at each point,
-/// the verdicts on assertions in order, each with its point's number and whether it holds, and the first flagged point.
+/// What an analysis found, beside its states: verdicts on assertions, and on points at which something is computed where
+/// it is asked what fits, each in order, with its point's number and whether it holds; and the first flagged point.
+#[derive(Clone, Copy)]
+pub struct Found<'a> {
+    pub assertions: &'a [(usize, bool)],
+    pub fitting: &'a [(usize, bool)],
+    pub flagged: Option<usize>,
+}
+
+/// All verdicts, as a report lists them.
+fn list_verdicts(
+    alloc: Global,
+    labels: &Labels,
+    sites: &[Site],
+    found: &Found<'_>,
+) -> Result<Vec<Verdict>, AllocError>
+    requires numbers { length sites.now < 2 ^ 32 }
+    requires assertions { All (λ v. v.0 < length sites.now) found.now.assertions.now }
+    requires fitting { All (λ v. v.0 < length sites.now) found.now.fitting.now }
+    ensures { IfOk result (λ vs. map verdict_of vs.items ≡
+        map (verdict_at labels.now.labels (map site_view sites.now) Assertion)
+        found.now.assertions.now ++
+        map (verdict_at labels.now.labels (map site_view sites.now) Fit) found.now.fitting.now) }
+{
+    let mut listed = Vec::new(alloc);
+    let asserted = VerdictKind::Assertion;
+    push_verdicts(
+        alloc,
+        labels,
+        sites,
+        asserted,
+        found.assertions,
+        &mut listed,
+    )?;
+    push_verdicts(
+        alloc,
+        labels,
+        sites,
+        VerdictKind::Fit,
+        found.fitting,
+        &mut listed,
+    )?;
+    Ok(listed)
+}
+
+/// The report of what an analysis found in a source, whose points are numbered from 0 here, and the state at each of
+/// them.
 pub fn list(
     alloc: Global,
     outline: &Outline<'_>,
     options: Options,
     states: Vec<Vec<Part>>,
-    verdicts: &[(usize, bool)],
-    flagged: Option<usize>,
+    found: &Found<'_>,
 ) -> Result<Report, AllocError>
+    requires graph { (g : Node) × IsGraph (resolve (tree_view outline.now.tree.now)) g }
     requires labels { outline.now.labels.now.labels ≡ labels_of (tree_view outline.now.tree.now) }
     requires sites { map site_view outline.now.sites.now ≡ sites_of (resolve (tree_view outline.now.tree.now)) }
     requires numbers { length outline.now.sites.now < 2 ^ 32 }
-    requires states { AreInvariants (sites_of (resolve (tree_view outline.now.tree.now)))
-        (map (λ x. x.items) states.items) }
-    requires verdicts { AreVerdicts (sites_of (resolve (tree_view outline.now.tree.now))) verdicts.now }
-    requires flag { (q : ℕ) → flagged ≡ Some q → q < length outline.now.sites.now }
+    requires states { AreInvariants (map site_view outline.now.sites.now) (map (λ x. x.items) states.items) }
+    requires verdicts { AreVerdicts (map site_view outline.now.sites.now) found.now.assertions.now }
+    requires fitting { (g : Node) → IsGraph (resolve (tree_view outline.now.tree.now)) g →
+        AreFitting options.fits g (map site_view outline.now.sites.now) found.now.fitting.now }
+    requires flag { (q : ℕ) → found.now.flagged ≡ Some q → q < length outline.now.sites.now }
     ensures lists { IfOk result (λ r. Lists (tree_view outline.now.tree.now) (report_of r)) }
     ensures states { IfOk result (λ r. map state_of (report_of r).points ≡ map (λ x. x.items) states.items) }
     ensures verdicts { IfOk result (λ r. map told_of (report_of r).verdicts ≡
-        map (told Assertion) verdicts.now) }
+        told_all found.now.assertions.now found.now.fitting.now) }
     ensures options { IfOk result (λ r. r.options ≡ options) }
-    ensures flag { IfOk result (λ r. r.flagged ≡ option_map suc flagged) }
+    ensures flag { IfOk result (λ r. r.flagged ≡ option_map suc found.now.flagged) }
 {
     let globals = names_of_globals(alloc, outline.tree)?;
     let points = list_points(alloc, outline.labels, &globals, outline.sites, states)?;
-    let mut listed = Vec::new(alloc);
-    push_verdicts(
-        alloc,
-        outline.labels,
-        outline.sites,
-        VerdictKind::Assertion,
-        verdicts,
-        &mut listed,
-    )?;
-    let flagged = match flagged {
+    let verdicts = list_verdicts(alloc, outline.labels, outline.sites, found)?;
+    let flagged = match found.flagged {
         None => None,
         Some(index) => Some(number_of(index)),
     };
@@ -359,6 +400,6 @@ pub fn list(
         options,
         flagged,
         points,
-        verdicts: listed,
+        verdicts,
     })
 }

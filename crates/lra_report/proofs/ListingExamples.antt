@@ -1,11 +1,13 @@
 -- What the report of a source lists.
 use Rattle.std.proofs.Common.{◌≡◌, ℕ, [], ◌∷◌, refl}
-use Rattle.std.specs.Prelude.{codes}
+use Rattle.std.specs.Prelude.{codes, nat_lt}
 use Rattle.std.specs.Fmt.{digits}
 use Rattle.lra_report.specs.Report.{PointReport}
 use Rattle.lra_tree.specs.Labels.{labels_of}
-use Rattle.lra_program.specs.Sites.{Site}
-use Rattle.lra_report.specs.Listing.{listed_point, Lists}
+use Rattle.lra_program.specs.Sites.{Site, sites_of}
+use Rattle.lra_meaning.specs.Resolve.{resolve}
+use Rattle.lra_operations.specs.Graph.{Node}
+use Rattle.lra_report.specs.Listing.{listed_point, computing_from, subjects, AreListed, AreJudged}
 use Rattle.lra_meaning.specs.LiveNames.{globals_named}
 use Rattle.lra_tree.proofs.TreeSamples.{at, number, one_variable, called_twice, call_in_step}
 use Rattle.lra_report.proofs.ReportTextExamples as report
@@ -40,8 +42,13 @@ unfolding digits
 call_in_step_listed = (refl, refl, refl, refl, refl, refl, refl, refl, refl, refl)
 
 -- int main(void){ long x; x = 3; assert(x >= 3); } : the report with four points and one verdict lists what the source has; catches a report that leaves a point out
-one_variable_lists : Lists one_variable report.one_variable
-one_variable_lists = record {
-  points = (refl, ((tt, tt), tt), (refl, ((tt, tt), tt), (refl, (((refl, tt), tt), tt), (refl, (((refl, tt), tt), tt), tt))));
-  verdicts = (refl, tt);
-}
+one_variable_points : AreListed (globals_named one_variable.parts) (labels_of one_variable) 1 (sites_of (resolve one_variable)) report.one_variable.points
+one_variable_points = (refl, ((tt, tt), tt), (refl, ((tt, tt), tt), (refl, (((refl, tt), tt), tt), (refl, (((refl, tt), tt), tt), tt))))
+
+-- where nothing is asked of what fits, the tree of operations tells nothing
+one_variable_judged : (g : Node) → AreJudged (labels_of one_variable) (subjects report.one_variable.options g one_variable) report.one_variable.verdicts
+one_variable_judged g = (refl, tt)
+
+-- of three points a tree computes at the second and the third
+two_compute : computing_from (λ q. nat_lt 0 q) 0 (site [] 1 0 ∷ site [] 2 1 ∷ site [] 3 1 ∷ []) ≡ (2, site [] 2 1) ∷ (3, site [] 3 1) ∷ []
+two_compute = refl

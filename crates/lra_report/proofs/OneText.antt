@@ -15,6 +15,7 @@ use Rattle.lra_report.proofs.Outcomes.{outcome_same}
 use Rattle.lra_report.specs.ReportText.{place_text, path_text, heading_text, options_text, flag_text, state_text, point_text, verdict_text, counts_line, report_text}
 use Rattle.lra_meaning.specs.ShownNames.{shown_names}
 use Rattle.lra_meaning.specs.LiveNames.{live_names, globals_named}
+use Rattle.lra_options.specs.declared.options.Options.{Options}
 use Rattle.lra_report.specs.Listing.{calls_on, listed_point, Subject, subjects, judged_place, listed_verdict, AreListed, AreJudged}
 use Rattle.lra_report.specs.Spelled.{IsReadablePart, IsReadablePoint, IsSmallFlag, AreWords, OneText}
 use Rattle.lra_report.proofs.Fronts.{first_same, rest_same, both_same}
@@ -145,5 +146,7 @@ one_report r s t words listed_r listed_s options hr hs e =
     let flags = flag_same r.flagged s.flagged _ _ hr.flag hs.flag (append_cancel_left (options_text s.options) (tail r) (tail s) here) in
     let points = points_same (globals_named t.parts) (labels_of t) 1 (sites_of (resolve t)) r.points s.points _ _ words listed_r.points listed_s.points hr.points hs.points
     (counts_letter r.verdicts r.verdicts) (counts_letter s.verdicts s.verdicts) flags.1 in
-    let verdicts = verdicts_same (labels_of t) (subjects t) r.verdicts s.verdicts _ _ listed_r.verdicts listed_s.verdicts points.1 in
+    let g = listed_r.tree in
+    let judged_s = subst (λ (o : Options). AreJudged (labels_of t) (subjects o g t) s.verdicts) (sym options) (listed_s.verdicts g listed_r.is_graph) in
+    let verdicts = verdicts_same (labels_of t) (subjects r.options g t) r.verdicts s.verdicts _ _ (listed_r.verdicts g listed_r.is_graph) judged_s points.1 in
     report_by r s options flags.0 points.0 verdicts

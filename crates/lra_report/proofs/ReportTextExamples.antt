@@ -7,7 +7,7 @@ use Rattle.lra_options.specs.declared.options.Domain.{Domain}
 use Rattle.lra_options.specs.declared.options.Domain.TheVariants.{Poly, Box}
 use Rattle.lra_options.specs.declared.options.Options.{Options}
 use Rattle.lra_options.specs.OptionRows.{default_options}
-use Rattle.lra_report.specs.declared.verdict_kinds.VerdictKind.TheVariants.{Assertion}
+use Rattle.lra_report.specs.declared.verdict_kinds.VerdictKind.TheVariants.{Assertion, Fit}
 use Rattle.lra_report.specs.Report.{Place, PointReport, Verdict, Report}
 use Rattle.lra_show.specs.Part.{Generator, Part}
 use Rattle.lra_linear.specs.declared.GenKind.TheVariants.{Point, Ray, Line}
@@ -97,6 +97,33 @@ unknown_text : report_text (record one_variable {
     ∷ [])
 unfolding digits
 unknown_text = refl
+
+abbrev fit : ℕ → Place → Bool → Verdict
+fit number place holds = record (verdict number place holds) { kind = Fit }
+
+-- int main(void){ int x=1; x=x+1; x=x/x; } at its end, where it is asked what fits
+abbrev pub fitting : Report
+fitting = record {
+  options = record default_options { domain = Box; fits = true };
+  flagged = None;
+  points = in_main 4 (at 1 40) (codes "x" ∷ [])
+      (rows_alone (is_positive (pos 2147483648) (pos 1 ∷ []) ∷ is_positive (pos 2147483647) (negsuc 0 ∷ []) ∷ []) ∷ []) ∷ [];
+  verdicts = fit 2 (at 1 26) true ∷ fit 3 (at 1 33) false ∷ [];
+}
+
+-- catches a line of what fits that counts, or an option that isn't told
+fitting_text : report_text fitting ≡ lines (
+    codes "analysis box parts 1 delay 1 narrow 1 limited no fits yes"
+    ∷ codes "flagged 0"
+    ∷ codes "point 4 main 1:40"
+    ∷ codes "  row x >= -2147483648"
+    ∷ codes "  row x <= 2147483647"
+    ∷ codes "fit 2 main 1:26 fits"
+    ∷ codes "fit 3 main 1:33 may overflow"
+    ∷ codes "verdicts proved 0 unknown 0"
+    ∷ [])
+unfolding digits
+fitting_text = refl
 
 -- int main(void){}
 abbrev pub empty_main : Report

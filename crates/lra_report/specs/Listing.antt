@@ -1,13 +1,14 @@
 -- Which points and verdicts the report of a source lists: all points in the order of their numbers, from 1, each with
 -- its path, its place, the names of its live variables, and rows and generators over these; and a verdict on each of
--- what is judged, in order: on each assertion.
-use Rattle.std.specs.Prelude.{◌≡◌, ℕ, suc, Bool, List, [], ◌∷◌, ◌++◌, length, map, Option, Some, None, ⊤, ◌<◌, ◌≤◌}
-use Rattle.std.specs.List.{AllByRecursion}
+-- what is judged, in order: on each assertion, and where it is asked for on each point at which something is computed.
+use Rattle.std.specs.Prelude.{◌≡◌, ℕ, suc, Bool, true, false, List, [], ◌∷◌, ◌++◌, length, map, Option, Some, None, ⊤}
+use Rattle.std.specs.Prelude.{◌<◌, ◌≤◌, cond, nat_eq}
+use Rattle.std.specs.List.{AllByRecursion, list_any}
 use Rattle.lra_tree.specs.declared.trees.Identifier.{Identifier}
 use Rattle.lra_options.specs.declared.options.Options.{Options}
 use Rattle.lra_base.specs.declared.refusals.Place.{Place}
 use Rattle.lra_report.specs.declared.verdict_kinds.VerdictKind.{VerdictKind}
-use Rattle.lra_report.specs.declared.verdict_kinds.VerdictKind.TheVariants.{Assertion}
+use Rattle.lra_report.specs.declared.verdict_kinds.VerdictKind.TheVariants.{Assertion, Fit}
 use Rattle.lra_show.specs.Part.{Generator, Part}
 use Rattle.lra_report.specs.Report.{Invariant, PointReport, Verdict, Report, IsSound}
 use Rattle.lra_show.specs.Rows.{Row}
@@ -22,6 +23,9 @@ use Rattle.lra_tree.specs.Faults.{Language}
 use Rattle.lra_meaning.specs.Refuse.{Accepts}
 use Rattle.lra_meaning.specs.LiveNames.{globals_named, live_names}
 use Rattle.lra_program.specs.Assertions.{assertions_from}
+use Rattle.lra_operations.specs.Graph.{Node}
+use Rattle.lra_operations.specs.Asked.{Asked, asked_in}
+use Rattle.lra_operations.specs.Agree.{IsGraph}
 
 abbrev pub call_at : Option Identifier → List CallPlace
 call_at None = []
@@ -58,6 +62,7 @@ subject kind number site = record { kind = kind; number = number; site = site }
 -- where a verdict on it is printed
 abbrev pub judged_place : List Labelled → VerdictKind → Site → Place
 judged_place ls Assertion s = label_place (label_at ls s.label)
+judged_place ls Fit s = label_place (label_at ls s.label)
 
 -- but for whether it holds
 abbrev pub listed_verdict : List Labelled → Subject → Bool → Verdict
@@ -74,9 +79,25 @@ listed_verdict ls x holds = record {
 abbrev pub subjects_of : VerdictKind → List (ℕ × Site) → List Subject
 subjects_of kind points = map (λ (p : ℕ × Site). subject kind p.0 p.1) points
 
--- what is judged of a source's program, in order
-abbrev pub subjects : FileTree → List Subject
-subjects t = subjects_of Assertion (assertions_from 1 (sites_of (resolve t)))
+-- at the point of this number, from 0, the tree of operations computes something
+abbrev pub computes_at : Node → ℕ → Bool
+computes_at g q = list_any (λ (a : Asked). nat_eq a.point q) (asked_in None g)
+
+-- the points of which that is so, with their numbers from 1; the first of the sites has this number from 0
+abbrev pub computing_from : (ℕ → Bool) → ℕ → List Site → List (ℕ × Site)
+computing_from computes q [] = []
+computing_from computes q (s ∷ ss) =
+    cond (computes q) ((suc q, s) ∷ computing_from computes (suc q) ss) (computing_from computes (suc q) ss)
+
+-- what is asked whether it fits, where that is asked for
+abbrev pub fits_asked : Bool → Node → List Site → List Subject
+fits_asked true g sites = subjects_of Fit (computing_from (computes_at g) 0 sites)
+fits_asked false g sites = []
+
+-- what is judged of a source's program, by its tree of operations, in order
+abbrev pub subjects : Options → Node → FileTree → List Subject
+subjects o g t = subjects_of Assertion (assertions_from 1 (sites_of (resolve t))) ++
+    fits_asked o.fits g (sites_of (resolve t))
 
 -- a number for each of so many variables
 abbrev pub HasWidth : ℕ → Part → Type 0
@@ -100,7 +121,10 @@ AreJudged ls (x ∷ rest) (v ∷ vs) = (v ≡ listed_verdict ls x v.holds) × Ar
 
 pub record Lists (t : FileTree) (r : Report) : Type 0 where
   pub points : AreListed (globals_named t.parts) (labels_of t) 1 (sites_of (resolve t)) r.points
-  pub verdicts : AreJudged (labels_of t) (subjects t) r.verdicts
+  -- by each of the program's trees, of which there is one
+  pub tree : Node
+  pub is_graph : IsGraph (resolve t) tree
+  pub verdicts : (g : Node) → IsGraph (resolve t) g → AreJudged (labels_of t) (subjects r.options g t) r.verdicts
 
 -- the number of the first flagged point, where there is one, is that of a point
 abbrev pub IsFlag : ℕ → Option ℕ → Type 0
@@ -114,7 +138,8 @@ pub record AreParts (o : Options) (p : PointReport) : Type 0 where
   pub tell : AllByRecursion (Tells o.domain (length p.names)) p.state
 
 -- what is written of an accepted source of the language L under these options: all its points and what is judged of
--- them; at each point what every run meets there; no assertion that fails is proved
+-- them; at each point what every run meets there; no assertion that fails is proved, and no run stops by a number where
+-- all is told to fit
 pub record IsReportOf (L : Language) (o : Options) (source : List ℕ) (r : Report) : Type 0 where
   pub options : r.options ≡ o
   pub tree : FileTree

@@ -1,13 +1,15 @@
 -- What is judged of a program at its points: a row for each kind. From it come a verdict's line, its place in the JSON,
 -- and whether it counts.
-use Rattle.std.specs.Prelude.{◌≡◌, refl, ℕ, nat_eq, List, [], ◌∷◌, get_or, Bool, true, false, codes, if◌then◌else◌}
+use Rattle.std.specs.Prelude.{◌≡◌, refl, ℕ, nat_eq, List, [], ◌∷◌, get_or, Bool, true, false, ◌||◌, codes}
+use Rattle.std.specs.Prelude.{if◌then◌else◌}
 use Rattle.std.specs.List.{list_any}
 use Rattle.std.specs.Str.{bytes_eq}
 use Rattle.lra_options.specs.declared.options.Options.{Options}
 use Rattle.lra_program.specs.Program.{Program}
+use Rattle.lra_program.specs.Overflow.{Overflows}
 use Rattle.lra_program.specs.Run.{Point, Fails}
 use Rattle.lra_report.specs.declared.verdict_kinds.VerdictKind.{VerdictKind}
-use Rattle.lra_report.specs.declared.verdict_kinds.VerdictKind.TheVariants.{Assertion}
+use Rattle.lra_report.specs.declared.verdict_kinds.VerdictKind.TheVariants.{Assertion, Fit}
 
 -- `word` begins its lines. Its outcome is `if_holds` where no run breaks it, `if_open` where that isn't known. Those
 -- that count are in the last line and in the status. `own_place`: they have a place of their own, not their point's,
@@ -40,16 +42,33 @@ assertion_row = record {
   apart = refl;
 }
 
+-- an operation that computes something; its key stands where it is asked for, be it that nothing computes
+abbrev pub fit_row : VerdictRow
+fit_row = record {
+  word = codes "fit";
+  if_holds = codes "fits";
+  if_open = codes "may overflow";
+  counts = false;
+  own_place = false;
+  key = codes "fits";
+  stands = λ options is_listed. is_listed || options.fits;
+  tells = λ options. refl;
+  begins = refl;
+  apart = refl;
+}
+
 abbrev pub row_of : VerdictKind → VerdictRow
 row_of Assertion = assertion_row
+row_of Fit = fit_row
 
 -- all kinds
 abbrev pub kinds : List VerdictKind
-kinds = Assertion ∷ []
+kinds = Assertion ∷ Fit ∷ []
 
 -- none is left out: each has the key of one of these
 pub among_kinds : (kind : VerdictKind) → list_any (λ k. bytes_eq (row_of kind).key (row_of k).key) kinds ≡ true
 among_kinds Assertion = refl
+among_kinds Fit = refl
 
 abbrev pub outcome_text : VerdictKind → Bool → List ℕ
 outcome_text kind holds = if holds then (row_of kind).if_holds else (row_of kind).if_open
@@ -57,3 +76,4 @@ outcome_text kind holds = if holds then (row_of kind).if_holds else (row_of kind
 -- what no run does at a point where a verdict of the kind holds
 abbrev pub Breaks : VerdictKind → Program → Point → Type 0
 Breaks Assertion P p = Fails P p
+Breaks Fit P p = Overflows P p

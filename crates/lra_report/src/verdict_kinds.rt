@@ -10,10 +10,12 @@ use lra_options::Options;
 pub enum VerdictKind {
     /// An assertion.
     Assertion,
+    /// Whether all fits its type that is computed at the point.
+    Fit,
 }
 
 /// All kinds.
-pub const VERDICT_KINDS: [VerdictKind; 1] = [VerdictKind::Assertion];
+pub const VERDICT_KINDS: [VerdictKind; 2] = [VerdictKind::Assertion, VerdictKind::Fit];
 
 impl VerdictKind {
     /// The word with which its lines begin.
@@ -22,6 +24,7 @@ impl VerdictKind {
     {
         match self {
             VerdictKind::Assertion => "assert",
+            VerdictKind::Fit => "fit",
         }
     }
 
@@ -32,6 +35,8 @@ impl VerdictKind {
         match (self, holds) {
             (VerdictKind::Assertion, true) => "proved",
             (VerdictKind::Assertion, false) => "unknown",
+            (VerdictKind::Fit, true) => "fits",
+            (VerdictKind::Fit, false) => "may overflow",
         }
     }
 
@@ -41,6 +46,7 @@ impl VerdictKind {
     {
         match self {
             VerdictKind::Assertion => true,
+            VerdictKind::Fit => false,
         }
     }
 
@@ -50,6 +56,7 @@ impl VerdictKind {
     {
         match self {
             VerdictKind::Assertion => false,
+            VerdictKind::Fit => false,
         }
     }
 
@@ -59,6 +66,7 @@ impl VerdictKind {
     {
         match self {
             VerdictKind::Assertion => "asserts",
+            VerdictKind::Fit => "fits",
         }
     }
 
@@ -68,6 +76,7 @@ impl VerdictKind {
     {
         match (self, options, is_listed) {
             (VerdictKind::Assertion, _, _) => true,
+            (VerdictKind::Fit, options, is_listed) => is_listed || options.fits,
         }
     }
 }

@@ -13,6 +13,8 @@ use Rattle.lra_program.specs.Program.{Program}
 use Rattle.lra_program.specs.Sites.{Site, sites_of}
 use Rattle.lra_show.specs.Part.{Part}
 use Rattle.lra_report.specs.Report.{Invariant}
+use Rattle.lra_operations.specs.Agree.{IsGraph}
+use Rattle.lra_operations.specs.Graph.{Node}
 use Rattle.lra_operations.specs.declared.graph.Site as code_site
 use Rattle.lra_operations.specs.GraphViews.{site_view}
 use Rattle.lra_report.specs.Listing.{HasWidth}
@@ -85,7 +87,7 @@ kept ss s q (x, at, asserts) = (x, at_old ss s q x at, asserts)
 -- behind a point that is no assertion
 verdicts_same : (ss : List Site) (s : Site) (vs : Verdicts) → AreVerdicts ss vs → (IsTrue s.asserts → ⊥) → AreVerdicts (ss ++ s ∷ []) vs
 verdicts_same ss s vs are never = record {
-  of_assertions = λ q b h. kept ss s q (are.of_assertions q b h);
+  of_these = λ q b h. kept ss s q (are.of_these q b h);
   of_all = λ q a. elim (at_more ss s q a.0 a.1) [
     | inl old ↦ are.of_all q (a.0, old, a.2)
     | inr new ↦ absurd (never (subst (λ (z : Site). IsTrue z.asserts) (sym new.1) a.2))
@@ -99,8 +101,8 @@ alone n q b is = subst (λ (k : ℕ). Contains {X = ℕ × Bool} ((n, b) ∷ [])
 -- behind an assertion
 verdicts_more : (ss : List Site) (s : Site) (vs : Verdicts) (b : Bool) → AreVerdicts ss vs → IsTrue s.asserts → AreVerdicts (ss ++ s ∷ []) (vs ++ (length ss, b) ∷ [])
 verdicts_more ss s vs b are asserts = record {
-  of_assertions = λ q c h. elim (Contains-push_cases vs (length ss, b) (q, c) h) [
-    | inl old ↦ kept ss s q (are.of_assertions q c old)
+  of_these = λ q c h. elim (Contains-push_cases vs (length ss, b) (q, c) h) [
+    | inl old ↦ kept ss s q (are.of_these q c old)
     | inr new ↦ subst (λ (k : ℕ). IsAssertion (ss ++ s ∷ []) k) (ap (λ (v : ℕ × Bool). v.0) new) (s, at_last ss s, asserts)
   ];
   of_all = λ q a. elim (at_more ss s q a.0 a.1) [
@@ -114,7 +116,7 @@ verdicts_more ss s vs b are asserts = record {
     ]
     | inr new ↦ elim (at_more vs (length ss, b) i v x) [
       | inl older ↦
-          let there = are.of_assertions v.0 v.1 (listed vs i v older) in
+          let there = are.of_these v.0 v.1 (listed vs i v older) in
           let inside = slice_get_within ss v.0 there.0 there.1 in let e : length ss ≡ w.0 = ap (λ (z : ℕ × Bool). z.0) new.1 in omega (arith, inside, e)
       | inr last ↦ let e = last.0 in let f = new.0 in absurd (omega (arith, e, f, l))
     ]
@@ -142,7 +144,7 @@ verdicts_pushed sites vs more s n b are inside read asserts pushed =
 
 pub no_verdicts : AreVerdicts [] []
 no_verdicts = record {
-  of_assertions = λ q b h. absurd (contains_none (q, b) h);
+  of_these = λ q b h. absurd (contains_none (q, b) h);
   of_all = λ q a. absurd (none-some a.0 a.1);
   in_order = λ i j v w l x y. absurd (none-some v x);
 }
@@ -151,6 +153,9 @@ no_verdicts = record {
 
 pub sites_there : (t : FileTree) (P : Program) (given sites : List code_site.Site) → given ≡ sites → map site_view sites ≡ sites_of P → P ≡ resolve t → map site_view given ≡ sites_of (resolve t)
 sites_there t P given sites same are is = ap (map site_view) same ∙ are ∙ ap sites_of is
+
+pub graph_there : (t : FileTree) (P : Program) (g : Node) → IsGraph P g → P ≡ resolve t → (h : Node) × IsGraph (resolve t) h
+graph_there t P g graph is = (g, subst (λ (Q : Program). IsGraph Q g) is graph)
 
 pub states_there : (ss tt : List Site) (states : List (Vec Part Global)) → ss ≡ tt → AreInvariants ss (map parts_of states) → AreInvariants tt (map parts_of states)
 states_there ss tt states same are = subst (λ (xs : List Site). AreInvariants xs (map parts_of states)) same are

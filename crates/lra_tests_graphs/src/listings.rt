@@ -6,6 +6,8 @@ ghost use Rattle.lra_tree.specs.Views.{tree_view};
 ghost use Rattle.lra_tree.specs.Labels.{labels_of};
 ghost use Rattle.lra_meaning.specs.Resolve.{resolve};
 ghost use Rattle.lra_program.specs.Sites.{sites_of};
+ghost use Rattle.lra_operations.specs.Agree.{IsGraph};
+ghost use Rattle.lra_operations.specs.Graph.{Node};
 ghost use Rattle.lra_operations.specs.GraphViews.{site_view};
 ghost use Rattle.lra_report.specs.Listing.{HasWidth};
 ghost use Rattle.lra_listing.specs.Given.{AreInvariants, AreVerdicts};
@@ -13,7 +15,7 @@ ghost use Rattle.lra_listing.specs.Given.{AreInvariants, AreVerdicts};
 use crate::sources::{program_of, tree_of};
 use lra_base::SourceError;
 use lra_graph::build;
-use lra_listing::{Outline, list};
+use lra_listing::{Found, Outline, list};
 use lra_meaning::Labels;
 use lra_operations::Site;
 use lra_options::{DEFAULT_OPTIONS, Domain, Options};
@@ -95,6 +97,7 @@ fn report_of(
     requires labels { labels.now.labels ≡ labels_of (tree_view tree.now) }
     requires sites { map site_view sites.now ≡ sites_of (resolve (tree_view tree.now)) }
     requires five { length sites.now ≡ 5 }
+    requires graph { (g : Node) × IsGraph (resolve (tree_view tree.now)) g }
 {
     let states = states_at(alloc, sites)?;
     let verdicts = verdicts_on(alloc, sites)?;
@@ -103,7 +106,12 @@ fn report_of(
         labels,
         sites,
     };
-    let report = list(alloc, &outline, OPTIONS, states, &verdicts, Some(1))?;
+    let found = Found {
+        assertions: &verdicts,
+        fitting: &[],
+        flagged: Some(1),
+    };
+    let report = list(alloc, &outline, OPTIONS, states, &found)?;
     Ok(report)
 }
 

@@ -1,33 +1,44 @@
 -- Goals of `list`: the report of what an analysis found in a source, whose points are numbered from 0 here.
-use Rattle.std.proofs.Common.{List, map, refl}
+use Rattle.std.proofs.Common.{List, map, ◌++◌, refl, subst}
 use Rattle.lra_operations.specs.GraphViews.{site_view}
 use Rattle.lra_tree.specs.Views.{tree_view}
 use Rattle.lra_meaning.specs.Resolve.{resolve}
 use Rattle.lra_program.specs.Sites.{Site, sites_of}
 use Rattle.lra_tree.specs.Labels.{Labelled, labels_of}
-use Rattle.lra_report.specs.declared.verdict_kinds.VerdictKind.TheVariants.{Assertion}
+use Rattle.lra_report.specs.declared.verdict_kinds.VerdictKind.TheVariants.{Assertion, Fit}
+use Rattle.lra_program.specs.Assertions.{assertions_from}
+use Rattle.lra_report.specs.Listing.{fits_asked, subjects_of}
 use Rattle.lra_report.specs.View.{verdict_of, report_of}
-use Rattle.lra_listing.specs.Given.{verdict_at}
-use Rattle.lra_listing.proofs.Verdicts.{added_to_none, are_judged, are_told}
-use Rattle.lra_listing.proofs.Reports.{lists_by_parts, verdicts_there}
+use Rattle.lra_listing.specs.Given.{AreFitting, AreVerdicts, verdict_at}
+use Rattle.lra_listing.proofs.Verdicts.{all_told, are_fitting, are_judged, judged_append}
+use Rattle.lra_listing.proofs.Reports.{fitting_there, lists_by_parts, verdicts_there}
 use Rattle.lra_listing.proofs.listing.list.Goals as goal
 
-pub push_verdicts-requires-clause-there : goal.push_verdicts-requires-clause-there
-push_verdicts-requires-clause-there c =
-    verdicts_there c.args.outline.now.sites.now (sites_of (resolve (tree_view c.args.outline.now.tree.now))) c.args.verdicts.now c.requires.sites c.requires.verdicts
+pub list_verdicts-requires-clause-assertions : goal.list_verdicts-requires-clause-assertions
+list_verdicts-requires-clause-assertions c = verdicts_there c.args.outline.now.sites.now c.args.found.now.assertions.now c.requires.verdicts
+
+pub list_verdicts-requires-clause-fitting : goal.list_verdicts-requires-clause-fitting
+list_verdicts-requires-clause-fitting c =
+    fitting_there c.args.outline.now.sites.now c.args.options.fits c.requires.graph.0 c.args.found.now.fitting.now
+    (c.requires.fitting c.requires.graph.0 c.requires.graph.1)
 
 pub returns-clause-lists : goal.returns-clause-lists
 returns-clause-lists c =
     let tree = tree_view c.args.outline.now.tree.now in
-    let found = λ (ls : List Labelled) (ss : List Site). map (verdict_at ls ss Assertion) c.args.verdicts.now in
+    let asserted = c.args.found.now.assertions.now in
+    let fitting = c.args.found.now.fitting.now in
+    let found = λ (ls : List Labelled) (ss : List Site). map (verdict_at ls ss Assertion) asserted ++ map (verdict_at ls ss Fit) fitting in
     lists_by_parts tree c.in_ok-globals.globals c.args.outline.now.labels.now.labels (map site_view c.args.outline.now.sites.now) found
-    (report_of (record { options = c.args.options; flagged = c.match-flagged.flagged; points = c.in_ok-points.points; verdicts = c.push_verdicts.new.listed }))
-    c.in_ok-globals.ensures c.requires.labels c.requires.sites c.in_ok-points.ensures.listed
-    (added_to_none verdict_of _ _ _ c.in_ok-push_verdicts.ensures c.new-listed.ensures.items)
-    (are_judged (labels_of tree) Assertion (sites_of (resolve tree)) c.args.verdicts.now _ refl c.requires.verdicts)
+    (report_of (record { options = c.args.options; flagged = c.match-found.flagged; points = c.in_ok-points.points; verdicts = c.in_ok-verdicts.verdicts }))
+    c.in_ok-globals.ensures c.requires.labels c.requires.sites c.in_ok-points.ensures.listed c.in_ok-verdicts.ensures c.requires.graph.0 c.requires.graph.1
+    (λ g graph. judged_append (labels_of tree) (subjects_of Assertion (assertions_from 1 (sites_of (resolve tree))))
+    (fits_asked c.args.options.fits g (sites_of (resolve tree))) _ _
+    (are_judged (labels_of tree) (sites_of (resolve tree)) asserted _ refl
+    (subst (λ (T : List Site). AreVerdicts T asserted) c.requires.sites c.requires.verdicts))
+    (are_fitting (labels_of tree) c.args.options.fits g (sites_of (resolve tree)) fitting _ refl
+    (subst (λ (T : List Site). AreFitting c.args.options.fits g T fitting) c.requires.sites (c.requires.fitting g graph))))
 
 pub returns-clause-verdicts : goal.returns-clause-verdicts
 returns-clause-verdicts c =
-    are_told c.args.outline.now.labels.now.labels Assertion (map site_view c.args.outline.now.sites.now) c.args.verdicts.now
-    (map verdict_of c.push_verdicts.new.listed.items)
-    (added_to_none verdict_of _ _ _ c.in_ok-push_verdicts.ensures c.new-listed.ensures.items)
+    all_told c.args.outline.now.labels.now.labels (map site_view c.args.outline.now.sites.now) c.args.found.now.assertions.now c.args.found.now.fitting.now
+    (map verdict_of c.in_ok-verdicts.verdicts.items) c.in_ok-verdicts.ensures

@@ -1,10 +1,16 @@
 -- Goals of `writes_report`.
 use Rattle.lra_tree.specs.Views.{tree_view}
 use Rattle.lra_program.specs.ProgramViews.{program_view}
-use Rattle.lra_tests_graphs.proofs.Given.{sites_there}
+use Rattle.lra_operations.specs.GraphViews.{node_view}
+use Rattle.lra_tests_graphs.proofs.Given.{graph_there, sites_there}
 use Rattle.lra_tests_graphs.proofs.listings.writes_report.Goals as goal
 
 pub report_of-requires-clause-sites : goal.report_of-requires-clause-sites
 report_of-requires-clause-sites c =
     sites_there (tree_view c.in_ok-tree.tree) (program_view c.in_ok-resolution.resolution.program) c.as_slice-sites.result.now c.in-Ok.graph.sites.items
     c.as_slice-sites.ensures.value c.in-Ok.ensures.sites c.in_ok-resolution.ensures.program
+
+pub report_of-requires-clause-graph : goal.report_of-requires-clause-graph
+report_of-requires-clause-graph c =
+    graph_there (tree_view c.in_ok-tree.tree) (program_view c.in_ok-resolution.resolution.program) (node_view c.in-Ok.graph.tree) c.in-Ok.ensures.graph
+    c.in_ok-resolution.ensures.program
