@@ -5,7 +5,7 @@ use Rattle.std.specs.Prelude.{slice_get, IsTrue}
 use Rattle.std.specs.List.{AllByRecursion, Contains}
 use Rattle.std.proofs.lemmas.List.{length-map}
 use Rattle.std.proofs.lemmas.Option.{none-some, same_Some}
-use Rattle.lra_linear.proofs.Membership.{contains_head, contains_tail}
+use Rattle.lra_linear.proofs.Membership.{contains_head, contains_tail, map_from}
 use Rattle.lra_domain.specs.Meaning.{Meaning}
 use Rattle.lra_domain.specs.Laws.{Laws}
 use Rattle.lra_program.specs.Program.{Program}
@@ -15,13 +15,14 @@ use Rattle.lra_operations.specs.Agree.{IsGraph}
 use Rattle.lra_options.specs.declared.options.Domain.{Domain}
 use Rattle.lra_report.specs.Report.{Invariant}
 use Rattle.lra_report.specs.Listing.{HasWidth}
+use Rattle.lra_report.specs.declared.verdict_kinds.VerdictKind.{VerdictKind}
 use Rattle.lra_flow.specs.Plan.{Plan}
 use Rattle.lra_flow.specs.Operations.{dropping}
 use Rattle.lra_flow.specs.Pass.{Result}
 use Rattle.lra_flow.specs.Analysis.{Derivation, Solves}
 use Rattle.lra_iter.specs.Numbers.{values_in, checks_in, asserts_of, IsNumbered}
 use Rattle.lra_iter.proofs.Counting.{Found, iteration_found, value_counted, failing_counted, counted_value, counted_failing}
-use Rattle.lra_listing.specs.Given.{IsAssertion}
+use Rattle.lra_listing.specs.Given.{IsAssertion, told}
 use Rattle.lra_states.specs.Canonical.{AreCanonicallyShown, IsCanonicalState}
 use Rattle.lra_states.specs.Shown.{AreShown}
 use Rattle.lra_source.proofs.Numbering.{numbered}
@@ -38,7 +39,7 @@ no_longer (x ∷ xs) [] f = let there = f 0 x refl in absurd (none-some there.0 
 no_longer (x ∷ xs) (y ∷ ys) f = let rest = no_longer xs ys (λ k. f (suc k)) in omega (arith, rest)
 
 -- where a place of the images comes from
-image_of : {A B : Type 0} (f : A → B) (xs : List A) (k : ℕ) (y : B) → slice_get (map f xs) k ≡ Some y → (x : A) × (slice_get xs k ≡ Some x) × (f x ≡ y)
+pub image_of : {A B : Type 0} (f : A → B) (xs : List A) (k : ℕ) (y : B) → slice_get (map f xs) k ≡ Some y → (x : A) × (slice_get xs k ≡ Some x) × (f x ≡ y)
 image_of f [] k y e = absurd (none-some y e)
 image_of f (x ∷ xs) zero y e = (x, refl, same_Some (f x) y e)
 image_of f (x ∷ xs) (suc k) y e = image_of f xs k y e
@@ -48,6 +49,17 @@ pub contained : {A : Type 0} (xs : List A) (k : ℕ) (x : A) → slice_get xs k 
 contained [] k x e = absurd (none-some x e)
 contained (y ∷ xs) zero x e = subst (λ (z : _). Contains (y ∷ xs) z) (same_Some y x e) (contains_head y xs)
 contained (y ∷ xs) (suc k) x e = contains_tail y x xs (contained xs k x e)
+
+-- a verdict that is told is one of its kind
+pub one_told : (own : VerdictKind) (vs : List (ℕ × Bool)) (kind : VerdictKind) (n : ℕ) (b : Bool) → Contains (map (told own) vs) (kind, n, b)
+    → (q : ℕ) × (kind ≡ own) × (n ≡ suc q) × Contains vs (q, b)
+one_told own vs kind n b h =
+    let (v, among, is) = map_from (told own) vs (kind, n, b) h in (
+      v.0,
+      sym (ap (λ (z : VerdictKind × ℕ × Bool). z.0) is),
+      sym (ap (λ (z : VerdictKind × ℕ × Bool). z.1) is),
+      subst (λ (c : Bool). Contains vs (v.0, c)) (ap (λ (z : VerdictKind × ℕ × Bool). z.2) is) among,
+    )
 
 -- assertions ---------------------------------------------------------------------------------------------------------
 

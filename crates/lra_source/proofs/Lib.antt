@@ -2,6 +2,8 @@ pub mod Fitting
 pub mod Sound
 pub mod Numbering
 pub mod Flags
+pub mod FitsHold
+pub mod FitsHanded
 pub mod Reports
 pub mod StageSteps
 pub mod Widths

@@ -1,9 +1,9 @@
 -- Two answers to one source without a flag are the same report.
-use Rattle.std.proofs.Common.{◌≡◌, ◌∙◌, ℕ, zero, suc, ℤ, List, [], ◌∷◌, map, Option, None, Some, Bool, refl, sym, ap, subst, inl, inr}
+use Rattle.std.proofs.Common.{◌≡◌, ◌∙◌, ℕ, zero, suc, ℤ, List, [], ◌∷◌, map, Option, None, Some, Bool, true, false, arith, refl, sym, ap, subst, inl, inr}
 use Rattle.std.specs.Prelude.{option_map}
 use Rattle.std.specs.List.{Contains}
 use Rattle.std.proofs.lemmas.Option.{none-some}
-use Rattle.lra_linear.proofs.Membership.{contains_head, contains_tail, contains_cases, contains_none}
+use Rattle.lra_linear.proofs.Membership.{contains_head, contains_tail, contains_none}
 use Rattle.lra_domain.specs.Laws.{SingleLaws, PlainLaws}
 use Rattle.lra_box.specs.Laws.{box_single, box_plain}
 use Rattle.lra_oct.specs.Single.{octagon_single}
@@ -27,10 +27,19 @@ use Rattle.lra_program.specs.Sites.{Site, sites_of}
 use Rattle.lra_options.specs.declared.options.Options.{Options}
 use Rattle.lra_report.specs.Report.{Invariant, PointReport, Report, Verdict}
 use Rattle.lra_report.specs.declared.verdict_kinds.VerdictKind.{VerdictKind}
-use Rattle.lra_report.specs.declared.verdict_kinds.VerdictKind.TheVariants.{Assertion}
+use Rattle.lra_report.specs.declared.verdict_kinds.VerdictKind.TheVariants.{Assertion, Fit}
 use Rattle.lra_report.specs.Listing.{AreListed, Subject, subjects, AreJudged, Lists, listed_point, listed_verdict}
-use Rattle.lra_listing.specs.Given.{told, told_of, state_of}
+use Rattle.lra_listing.specs.Given.{told, told_all, told_of, state_of}
 use Rattle.lra_operations.specs.Graph.{Node}
+use Rattle.lra_operations.specs.Asked.{Asked, AsksWell}
+use Rattle.lra_flow.specs.Operations.{defined, dropping}
+use Rattle.lra_flow.specs.Fits.{AskedJudged, Judges, JudgesIf}
+use Rattle.lra_flow.proofs.OneIteration.{defined_single}
+use Rattle.lra_flow.proofs.OneJudgement.{one_asked}
+use Rattle.std.proofs.lemmas.List.Elements.{Contains-append_cases}
+use Rattle.lra_source.proofs.FitsHold.{found_of, one_asked_there}
+use Rattle.lra_source.proofs.Handing.{one_told}
+use Rattle.lra_source.proofs.FitsHanded.{unflagged_before}
 use Rattle.lra_front.specs.Stages.{OneConstants}
 use Rattle.lra_flow.specs.Plan.{plan_of}
 use Rattle.lra_flow.specs.Analysis.{Written}
@@ -82,23 +91,63 @@ same_verdicts ls (x ∷ xs) (v ∷ vs) (w ∷ ws) a b same =
     (λ k n c d i j. same k n c d (contains_tail (told_of v) (k, n, c) (map told_of vs) i) (contains_tail (told_of w) (k, n, d) (map told_of ws) j)) in
     rw (head, tail) refl
 
--- a verdict that is told is one of those that were found
-found_told : (kind : VerdictKind) (vs : List (ℕ × Bool)) (k : VerdictKind) (n : ℕ) (b : Bool) → Contains (map (told kind) vs) (k, n, b) →
-    (q : ℕ) × (n ≡ suc q) × Contains vs (q, b)
-found_told kind [] k n b h = absurd (contains_none (k, n, b) h)
-found_told kind (v ∷ vs) k n b h = elim (contains_cases (told kind v) (k, n, b) (map (told kind) vs) h) [
-  | inl is ↦
-      let last : v.1 ≡ b = ap (λ (t : VerdictKind × ℕ × Bool). t.2) is in
-      let has : Contains (v ∷ vs) (v.0, v.1) = contains_head v vs in
-      (v.0, sym (ap (λ (t : VerdictKind × ℕ × Bool). t.1) is), subst (λ (c : Bool). Contains (v ∷ vs) (v.0, c)) last has)
-  | inr later ↦ let (q, is, has) = found_told kind vs k n b later in (q, is, contains_tail v (q, b) vs has)
-]
+-- of both kinds: what says the same of each says the same of both
+all_same : (vs us fs gs : List (ℕ × Bool)) → ((q : ℕ) (a b : Bool) → Contains vs (q, a) → Contains us (q, b) → a ≡ b) →
+    ((q : ℕ) (a b : Bool) → Contains fs (q, a) → Contains gs (q, b) → a ≡ b)
+    → (k : VerdictKind) (n : ℕ) (a b : Bool) → Contains (told_all vs fs) (k, n, a) → Contains (told_all us gs) (k, n, b) → a ≡ b
+all_same vs us fs gs one two k n a b i j =
+    elim (Contains-append_cases (map (told Assertion) vs) (map (told Fit) fs) (k, n, a) i) [
+      | inl x ↦
+          let (p, own, is, has) = one_told Assertion vs k n a x in
+          elim (Contains-append_cases (map (told Assertion) us) (map (told Fit) gs) (k, n, b) j) [
+            | inl y ↦ let (q, also, same, there) = one_told Assertion us k n b y in one p a b has
+                (subst (λ l. Contains us (l, b)) (equal q p n same is) there)
+            | inr y ↦ let (q, also, same, there) = one_told Fit gs k n b y in absurd (apart k own also)
+          ]
+      | inr x ↦
+          let (p, own, is, has) = one_told Fit fs k n a x in
+          elim (Contains-append_cases (map (told Assertion) us) (map (told Fit) gs) (k, n, b) j) [
+            | inl y ↦ let (q, also, same, there) = one_told Assertion us k n b y in absurd (apart k also own)
+            | inr y ↦ let (q, also, same, there) = one_told Fit gs k n b y in two p a b has (subst (λ l. Contains gs (l, b)) (equal q p n same is) there)
+          ]
+    ]
+  where
+    apart : (k : VerdictKind) → k ≡ Assertion → k ≡ Fit → ⊥
+    apart k e f = cc
+
+    equal : (q p n : ℕ) → n ≡ suc q → n ≡ suc p → q ≡ p
+    equal q p n e f = omega (arith, e, f)
+
+-- what is judged twice of the same values is one thing
+module _ {V H : Type 0} (m : Meaning V H) (laws : SingleLaws m) (P : Program) (g : Node) (well : AsksWell P g) (values : List V) where
+  judged_once : (fs gs : List (ℕ × Bool)) (c d : Option ℕ) → Judges m (defined m) g values None fs c → Judges m (defined m) g values None gs d
+      → (q : ℕ) (a b : Bool) → Contains fs (q, a) → Contains gs (q, b) → a ≡ b
+  judged_once fs gs c d x y q a b i j =
+      let (k, among, at, fits) = found_of x.found q a (subst (λ l. Contains l (q, a)) x.told i) in
+      let (l, also, there, same) = found_of y.found q b (subst (λ l. Contains l (q, b)) y.told j) in
+      let (u, one, point, judged) = x.is_asked k among in
+      let (w, two, place, other) = y.is_asked l also in
+      let equal : w ≡ u = one_asked_there P g well w u two one (place ∙ there ∙ sym (point ∙ at)) in
+      let here : AskedJudged m (defined m) values u l.fits l.exactness = subst (λ (z : Asked). AskedJudged m (defined m) values z l.fits l.exactness) equal
+      other in
+      sym fits ∙ one_asked m (defined m) (defined_single m laws) values u k.fits l.fits k.exactness l.exactness judged here ∙ same
+
+  judged_same : (b : Bool) (fs gs : List (ℕ × Bool)) → JudgesIf m (defined m) b g values None fs None → JudgesIf m (defined m) b g values None gs None
+      → (q : ℕ) (a c : Bool) → Contains fs (q, a) → Contains gs (q, c) → a ≡ c
+  judged_same true fs gs x y q a c i j = judged_once fs gs None None x y q a c i j
+  judged_same false fs gs x y q a c i j = absurd (contains_none (q, a) (subst (λ l. Contains l (q, a)) x.0 i))
 
 one_flag : (f : Option ℕ) (told : Option ℕ) → told ≡ option_map suc f → told ≡ None → f ≡ None
 one_flag None told is none = refl
 one_flag (Some q) told is none = absurd (none-some _ (sym none ∙ is))
 
--- two reports that tell the written iteration of one program show the same states, and the same of each assertion
+unflagged_first : {V H : Type 0} (m : Meaning V H) {shown : V → Invariant} {o : Options} {constants : List ℤ} {P : Program} {r : Report} →
+    (x : IsAnalysed m shown o constants P r)
+    → x.behind ≡ None → x.flagged ≡ None
+unflagged_first m {o = o} x none = unflagged_before m (dropping m) o.fits x.tree x.values x.flagged x.fitting x.behind none x.judged
+
+-- two reports that tell the written iteration of one program show the same states, and the same of each assertion and of
+-- what fits
 pub record SayTheSame (r s : Report) : Type 0 where
   pub states : map state_of r.points ≡ map state_of s.points
   pub verdicts : (k : VerdictKind) (n : ℕ) (a b : Bool) → Contains (map told_of r.verdicts) (k, n, a) → Contains (map told_of s.verdicts) (k, n, b) → a ≡ b
@@ -109,16 +158,18 @@ pub one_analysis : {V H : Type 0} (m : Meaning V H) → SingleLaws m → (shown 
 one_analysis m laws shown o constants P r s a b e f =
     let plan = plan_of o constants in
     let tree : b.tree ≡ a.tree = one_tree P b.tree a.tree b.is_graph a.is_graph in
-    let first : Written m plan P a.tree a.result = a.written (one_flag a.flagged r.flagged a.flag e) in
-    let second : Written m plan P a.tree b.result = subst (λ (g : Node). Written m plan P g b.result) tree (b.written (one_flag b.flagged s.flagged b.flag f)) in
+    let first : Written m plan P a.tree a.result = a.written (unflagged_first m a (one_flag a.behind r.flagged a.flag e)) in
+    let second : Written m plan P a.tree b.result = subst (λ (g : Node). Written m plan P g b.result) tree
+    (b.written (unflagged_first m b (one_flag b.behind s.flagged b.flag f))) in
     let one = one_solution m laws plan P a.tree a.result b.result a.values b.values a.verdicts b.verdicts a.flagged b.flagged (numbered P a.tree a.is_graph) first second a.solves b.solves in
     record {
       states = a.states ∙ ap (map shown) one.0 ∙ sym b.states;
       verdicts = λ k n c d i j.
-          let (p, is, has) = found_told Assertion a.verdicts k n c (subst (λ l. Contains l (k, n, c)) a.proved i) in
-          let (q, same, in_second) = found_told Assertion b.verdicts k n d (subst (λ l. Contains l (k, n, d)) b.proved j) in
-          let equal : q ≡ p = cc in
-          one.1 p c d has (subst (λ k. Contains b.verdicts (k, d)) equal in_second);
+          all_same a.verdicts b.verdicts a.fitting b.fitting one.1 (judged_same m laws P a.tree a.asks a.values o.fits a.fitting b.fitting
+          (a.judged_written (one_flag a.behind r.flagged a.flag e))
+          (subst (λ (vs : _). JudgesIf m (defined m) o.fits a.tree vs None b.fitting None) (sym one.0)
+          (subst (λ (g : Node). JudgesIf m (defined m) o.fits g b.values None b.fitting None) tree (b.judged_written (one_flag b.behind s.flagged b.flag f)))))
+          k n c d (subst (λ l. Contains l (k, n, c)) a.proved i) (subst (λ l. Contains l (k, n, d)) b.proved j);
     }
 
 -- what follows of two things that are said of each domain with one value of each definition follows of those that are said
@@ -146,8 +197,11 @@ one_unflagged one one_list o source r s x y e f =
     (λ V H m shown l a b. one_analysis m l shown o ks (resolve t) r s a b e f) o.domain o.parts x.analysed other in
     let lists : Lists t s = subst (λ (u : FileTree). Lists u s) tree y.report.lists in
     let points : r.points ≡ s.points = same_points (globals_named t.parts) (labels_of t) 1 (sites_of (resolve t)) r.points s.points x.report.lists.points lists.points same.states in
+    let g = lists.tree in
+    let options : r.options ≡ s.options = x.report.options ∙ sym y.report.options in
+    let other_judged = subst (λ (z : Options). AreJudged (labels_of t) (subjects z g t) s.verdicts) (sym options) (lists.verdicts g lists.is_graph) in
     let verdicts : r.verdicts ≡ s.verdicts = same_verdicts (labels_of t)
-    (subjects t) r.verdicts s.verdicts x.report.lists.verdicts lists.verdicts same.verdicts in
+    (subjects r.options g t) r.verdicts s.verdicts (x.report.lists.verdicts g lists.is_graph) other_judged same.verdicts in
     one_record r s (x.report.options ∙ sym y.report.options) (e ∙ sym f) points verdicts
   where
     one_record : (r s : Report) → r.options ≡ s.options → r.flagged ≡ s.flagged → r.points ≡ s.points → r.verdicts ≡ s.verdicts → r ≡ s

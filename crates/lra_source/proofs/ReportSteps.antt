@@ -25,8 +25,7 @@ use Rattle.lra_flow.specs.Plan.{Plan, plan_of}
 use Rattle.lra_iter.specs.Fits.{TreeFits}
 use Rattle.lra_iter.specs.Numbers.{IsNumbered}
 use Rattle.lra_iter.specs.Solved.{IsSolved}
-use Rattle.lra_report.specs.declared.verdict_kinds.VerdictKind.TheVariants.{Assertion}
-use Rattle.lra_listing.specs.Given.{AreInvariants, AreVerdicts, state_of, told_of, told}
+use Rattle.lra_listing.specs.Given.{AreInvariants, AreVerdicts, AreFitting, state_of, told_of, told_all}
 use Rattle.lra_report.specs.Spelled.{IsSpelledPart}
 use Rattle.lra_states.specs.Canonical.{AreCanonicallyShown}
 use Rattle.lra_states.specs.Shown.{AreShown}
@@ -34,7 +33,20 @@ use Rattle.lra_front.specs.Stages.{HasGraph}
 use Rattle.lra_source.specs.Stages.{IsToldOf}
 use Rattle.lra_source.proofs.Fitting.{tree_fits, few_globals}
 use Rattle.lra_source.proofs.Numbering.{numbered}
-use Rattle.lra_source.proofs.Handing.{states_as_many, of_assertions, of_all, states_canonical, states_wide, flag_there}
+use Rattle.std.specs.Prelude.{All, get_or}
+use Rattle.std.proofs.lemmas.Option.{slice_get-get_or}
+use Rattle.lra_operations.specs.Agree.{IsGraph}
+use Rattle.lra_operations.specs.Asked.{asked_in}
+use Rattle.lra_flow.specs.Operations.{defined, dropping, straining}
+use Rattle.lra_flow.specs.Fits.{JudgesIf}
+use Rattle.lra_flow.proofs.OneJudgement.{judged_written, judged_strained}
+use Rattle.lra_flow.proofs.OneTree.{one_tree}
+use Rattle.lra_fits.specs.Judged.{AreBelow}
+use Rattle.lra_graph.proofs.Asked.{graphs_ask_well}
+use Rattle.lra_graph.proofs.DistinctSites.{distinct_sites}
+use Rattle.lra_source.proofs.Flags.{graph_below}
+use Rattle.lra_source.proofs.FitsHanded.{asked_below, fitting_on, flagged_below, site_there, unflagged_before}
+use Rattle.lra_source.proofs.Handing.{as_many, value_dims, states_as_many, of_assertions, of_all, states_canonical, states_wide, flag_there}
 use Rattle.lra_source.proofs.Readable.{canonical, readable}
 
 -- what the iteration asks --------------------------------------------------------------------------------------------
@@ -106,63 +118,114 @@ canonical_there {V} dims shown domain named values listed is same are =
 module _ {V H : Type 0} (m : Meaning V H) (t : FileTree) (g : Node) (sites : List Site) (has : HasGraph t g sites) (plan : Plan)
     (values : List V) (verdicts : List (ℕ × Bool)) (flagged : Option ℕ) (solved : IsSolved m plan (resolve t) g values verdicts flagged) where
   pub states_handed : Laws m → (domain : Domain) (shown : V → Invariant) → AreShown m domain shown values
-      → (states : List Invariant) → states ≡ map shown values → AreInvariants (sites_of (resolve t)) states
-  states_handed laws domain shown are states is = record {
+      → (states : List Invariant) → states ≡ map shown values → AreInvariants sites states
+  states_handed laws domain shown are states is = subst (λ (T : List Site). AreInvariants T states) (sym has.points) (record {
     as_many = ap length is ∙ states_as_many m plan (resolve t) g solved.result values verdicts flagged has.is_graph solved.derived solved.solves shown;
     wide = λ q s state there got. states_wide m plan (resolve t) g solved.result values verdicts flagged has.is_graph solved.derived solved.solves shown laws domain are q s state there
         (ap (λ (l : List Invariant). slice_get l q) (sym is) ∙ got);
-  }
+  })
 
-  pub verdicts_handed : AreVerdicts (sites_of (resolve t)) verdicts
-  verdicts_handed = record {
-    of_assertions = of_assertions m plan (resolve t) g solved.result values verdicts flagged has.is_graph solved.derived solved.solves;
+  pub verdicts_handed : AreVerdicts sites verdicts
+  verdicts_handed = subst (λ (T : List Site). AreVerdicts T verdicts) (sym has.points) (record {
+    of_these = of_assertions m plan (resolve t) g solved.result values verdicts flagged has.is_graph solved.derived solved.solves;
     of_all = of_all m plan (resolve t) g solved.result values verdicts flagged has.is_graph solved.derived solved.solves;
     in_order = solved.solves.in_order;
-  }
+  })
 
   pub flag_handed : (q : ℕ) → flagged ≡ Some q → q < length (sites_of (resolve t))
   flag_handed = flag_there m plan (resolve t) g solved.result values verdicts flagged has.is_graph solved.derived solved.solves
 
+  values_as_many : length values ≡ length (sites_of (resolve t))
+  values_as_many = as_many m plan (resolve t) g solved.result values verdicts flagged has.is_graph solved.derived solved.solves
+
+  -- what the judging asks: each value has few dimensions, each operation that is asked a value
+  pub few_dims : Laws m → All (λ (v : V). m.dims v < 2 ^ 30) values
+  few_dims laws k d h =
+      let v = get_or values k d in
+      let there : slice_get values k ≡ Some v = slice_get-get_or values k d h in
+      let (s, site) = site_there (sites_of (resolve t)) k (subst (λ (n : ℕ). k < n) values_as_many h) in
+      let dims = value_dims m plan (resolve t) g solved.result values verdicts flagged has.is_graph solved.derived solved.solves laws k v s there site in
+      let few = has.few k s site in
+      omega (arith, dims, few)
+
+  pub asked_handed : AreBelow (length values) (asked_in None g)
+  asked_handed a h = subst (λ (n : ℕ). a.point < n) (sym values_as_many)
+      (asked_below (length (sites_of (resolve t))) g None (graph_below (resolve t) g has.is_graph) a h)
+
+  -- what the listing asks of what is judged, by whichever tree: there is one
+  pub fitting_handed : (b : Bool) (fitting : List (ℕ × Bool)) (behind : Option ℕ) → JudgesIf m (dropping m) b g values flagged fitting behind
+      → (h : Node) → IsGraph (resolve t) h → AreFitting b h sites fitting
+  fitting_handed b fitting behind judged h also =
+      subst (λ (k : Node). AreFitting b k sites fitting) (one_tree (resolve t) g h has.is_graph also) (go b judged)
+    where
+      go : (c : Bool) → JudgesIf m (dropping m) c g values flagged fitting behind → AreFitting c g sites fitting
+      go true j = fitting_on m (dropping m) g values flagged fitting behind sites (values_as_many ∙ sym (ap length has.points)) j
+      go false none = none.0
+
+  pub behind_handed : (b : Bool) (fitting : List (ℕ × Bool)) (behind : Option ℕ) → JudgesIf m (dropping m) b g values flagged fitting behind
+      → (q : ℕ) → behind ≡ Some q → q < length (sites_of (resolve t))
+  behind_handed true fitting behind j q is =
+      flagged_below m (dropping m) g values flagged fitting behind (length (sites_of (resolve t))) values_as_many j flag_handed q is
+  behind_handed false fitting behind none q is = flag_handed q (sym none.1 ∙ is)
+
 -- the report ---------------------------------------------------------------------------------------------------------
 
 pub is_told : {V H : Type 0} (m : Meaning V H) (shown : V → Invariant) (o : Options) (constants : List ℤ) (t : FileTree) (g : Node) (sites : List Site)
-    (values : List V) (verdicts : List (ℕ × Bool)) (flagged : Option ℕ) (states : List Invariant) (r : Report)
-    → HasGraph t g sites → IsSolved m (plan_of o constants) (resolve t) g values verdicts flagged → states ≡ map shown values → AreShown m o.domain shown values
+    (values : List V) (verdicts : List (ℕ × Bool)) (flagged : Option ℕ) (fitting : List (ℕ × Bool)) (behind : Option ℕ) (states : List Invariant) (r : Report)
+    → HasGraph t g sites → IsSolved m (plan_of o constants) (resolve t) g values verdicts flagged → JudgesIf m (dropping m) o.fits g values flagged fitting
+    behind → states ≡ map shown values → AreShown m o.domain shown values
     → AllByRecursion (AllByRecursion IsSpelledPart) states → Laws m → AreCanonicallyShown o.domain m.dims shown values → r.options ≡ o → Lists t r → map state_of r.points ≡ states
-    → map told_of r.verdicts ≡ map (told Assertion) verdicts → r.flagged ≡ option_map suc flagged → IsToldOf m shown o constants t r
-is_told m shown o constants t g sites values verdicts flagged states r has solved are are_shown spelled laws lists_shown options lists same judged flag = record {
-  names = has.names;
-  straight = has.straight;
-  within = has.within;
-  options = options;
-  lists = lists;
-  analysed = record {
-    globals = has.well.globals;
-    tree = g;
-    is_graph = has.is_graph;
-    result = solved.result;
-    values = values;
-    verdicts = verdicts;
-    flagged = flagged;
-    solves = solved.solves;
-    derived = solved.derived;
-    written = solved.written;
-    strained = solved.strained;
-    are_shown = are_shown;
-    states = same ∙ are;
-    proved = judged;
-    flag = flag;
-  };
-  agrees = has.agrees;
-  canonical = canonical o t r lists (λ k s state there got.
-      states_canonical m (plan_of o constants) (resolve t) g solved.result values verdicts flagged has.is_graph solved.derived solved.solves shown laws o.domain lists_shown k s state there
-      (ap (λ (l : List Invariant). slice_get l k) (sym (same ∙ are)) ∙ got));
-  readable = readable t r flagged lists (subst (AllByRecursion (AllByRecursion IsSpelledPart)) (sym same) spelled) flag low;
-}
+    → map told_of r.verdicts ≡ told_all verdicts fitting → r.flagged ≡ option_map suc behind → IsToldOf m shown o constants t r
+is_told m shown o constants t g sites values verdicts flagged fitting behind states r has solved judging are are_shown spelled laws lists_shown options lists
+    same judged flag = record {
+      names = has.names;
+      straight = has.straight;
+      within = has.within;
+      options = options;
+      lists = lists;
+      analysed = record {
+        globals = has.well.globals;
+        tree = g;
+        is_graph = has.is_graph;
+        asks = graphs_ask_well (resolve t) g (distinct_sites (resolve t) has.well) has.is_graph;
+        result = solved.result;
+        values = values;
+        verdicts = verdicts;
+        flagged = flagged;
+        solves = solved.solves;
+        derived = solved.derived;
+        written = solved.written;
+        strained = solved.strained;
+        are_shown = are_shown;
+        states = same ∙ are;
+        fitting = fitting;
+        behind = behind;
+        judged = judging;
+        judged_written = λ none. written_if none;
+        judged_strained = λ q none some.
+            subst (λ (f : Option ℕ). JudgesIf m (straining m) o.fits g values f fitting (Some q)) none
+            (subst (λ (f : Option ℕ). JudgesIf m (straining m) o.fits g values flagged fitting f) some
+            (judged_strained m laws o.fits g values flagged fitting behind judging));
+        proved = judged;
+        flag = flag;
+      };
+      agrees = has.agrees;
+      canonical = canonical o t r lists (λ k s state there got.
+          states_canonical m (plan_of o constants) (resolve t) g solved.result values verdicts flagged has.is_graph solved.derived solved.solves
+          shown laws o.domain lists_shown k s state there (ap (λ (l : List Invariant). slice_get l k) (sym (same ∙ are)) ∙ got));
+      readable = readable t r behind lists (subst (AllByRecursion (AllByRecursion IsSpelledPart)) (sym same) spelled) flag low;
+    }
   where
-    low : (q : ℕ) → flagged ≡ Some q → q < 2048
+    written_if : behind ≡ None → JudgesIf m (defined m) o.fits g values None fitting None
+    written_if none =
+        let judged_so = judged_written m laws o.fits g values flagged fitting behind none judging in
+        let first : flagged ≡ None = unflagged_before m (dropping m) o.fits g values flagged fitting behind none judging in
+        subst (λ (f : Option ℕ). JudgesIf m (defined m) o.fits g values None fitting f) none
+        (subst (λ (f : Option ℕ). JudgesIf m (defined m) o.fits g values f fitting behind) first judged_so)
+
+    low : (q : ℕ) → behind ≡ Some q → q < 2048
     low q is =
-        let there = flag_handed m t g sites has (plan_of o constants) values verdicts flagged solved q is in
+        let there = behind_handed m t g sites has (plan_of o constants) values verdicts flagged solved o.fits fitting behind judging q is in
         let few = few_points t g sites has in
         let same : length sites ≡ length (sites_of (resolve t)) = ap length has.points in
         omega (arith, there, few, same)

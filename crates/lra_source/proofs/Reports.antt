@@ -1,14 +1,18 @@
 -- A report that lists a program's points, tells what the iteration found, and shows values as they are, is right, and is a report of its source.
-use Rattle.std.proofs.Common.{◌≡◌, ℕ, zero, suc, ℤ, ◌+◌, ◌≤◌, ◌<◌, List, [], ◌∷◌, length, Option, Some, None, Bool, map, refl, sym, ap, ◌∙◌, subst, arith}
-use Rattle.std.specs.Prelude.{slice_get, option_map, IsTrue}
+use Rattle.std.proofs.Common.{◌≡◌, ℕ, zero, suc, ℤ, ◌≤◌, ◌<◌, List, [], ◌∷◌, length, Option, Some, None, Bool, true, false, ◌++◌, map, inl, inr, refl, sym}
+use Rattle.std.proofs.Common.{ap, ◌∙◌, subst, arith}
+use Rattle.std.specs.Prelude.{◌⊎◌, slice_get, option_map, IsTrue}
 use Rattle.std.specs.List.{AllByRecursion, Contains}
-use Rattle.std.proofs.lemmas.Option.{none-some, same_Some}
+use Rattle.std.proofs.lemmas.Option.{none-some, same_Some, slice_get-map}
+use Rattle.std.proofs.lemmas.List.Elements.{Contains-append_cases}
+use Rattle.lra_linear.proofs.Membership.{contains_none}
 use Rattle.lra_tree.specs.Trees.{FileTree}
 use Rattle.lra_tree.specs.Grammar.{Spells}
+use Rattle.lra_program.specs.Overflow.{Overflows}
 use Rattle.lra_program.specs.Run.{At, Fails}
 use Rattle.lra_meaning.specs.Resolve.{resolve}
 use Rattle.lra_program.specs.Sites.{Site, sites_of}
-use Rattle.lra_operations.specs.Agree.{Agrees}
+use Rattle.lra_operations.specs.Agree.{point_of, Agrees}
 use Rattle.lra_tree.specs.Labels.{Labelled, labels_of}
 use Rattle.lra_options.specs.declared.options.Domain.{Domain}
 use Rattle.lra_options.specs.declared.options.Options.{Options}
@@ -16,24 +20,28 @@ use Rattle.lra_report.specs.Report.{Invariant, Holds, PointReport, Verdict, Repo
 use Rattle.lra_report.specs.Parts.{Tells}
 use Rattle.lra_meaning.specs.Refuse.{Accepts}
 use Rattle.lra_report.specs.declared.verdict_kinds.VerdictKind.{VerdictKind}
-use Rattle.lra_report.specs.declared.verdict_kinds.VerdictKind.TheVariants.{Assertion}
+use Rattle.lra_report.specs.declared.verdict_kinds.VerdictKind.TheVariants.{Assertion, Fit}
 use Rattle.lra_report.specs.VerdictKinds.{Breaks}
-use Rattle.lra_report.specs.Listing.{AreListed, Subject, subject, subjects, Lists, IsFlag, AreParts, IsReportOf}
+use Rattle.lra_report.specs.Listing.{AreListed, Subject, subject, subjects_of, fits_asked, computes_at, computing_from, subjects, Lists, IsFlag, AreParts}
+use Rattle.lra_report.specs.Listing.{IsReportOf}
 use Rattle.lra_program.specs.Assertions.{assertions_from}
 use Rattle.lra_meaning.specs.LiveNames.{globals_named}
 use Rattle.lra_flow.specs.Plan.{plan_of}
 use Rattle.lra_flow.specs.Operations.{dropping}
+use Rattle.lra_flow.specs.Fits.{JudgesIf}
 use Rattle.lra_domain.specs.Meaning.{Meaning}
 use Rattle.lra_domain.specs.Laws.{Laws}
 use Rattle.lra_flow.proofs.Caps.{solved_capped}
-use Rattle.lra_listing.specs.Given.{told, told_of}
+use Rattle.lra_listing.specs.Given.{told, told_all, told_of}
 use Rattle.lra_source.specs.Analysed.{IsAnalysed}
 use Rattle.lra_source.proofs.Numbering.{numbered}
 use Rattle.lra_iter.proofs.Counting.{iteration_fails_once}
 use Rattle.lra_source.proofs.Flags.{IsBelow, graph_below, iteration_below}
 use Rattle.lra_formed.proofs.Named.{shown_as_many}
-use Rattle.lra_source.proofs.Handing.{contained, value_dims}
-use Rattle.lra_source.proofs.Sound.{value_there, proved_holds, IsListed, listed_all, IsOn, judged_all, assertion_site}
+use Rattle.lra_source.proofs.Handing.{as_many, contained, one_told, value_dims}
+use Rattle.lra_source.proofs.FitsHanded.{flagged_below}
+use Rattle.lra_source.proofs.Sound.{value_there, proved_holds, IsListed, listed_all, IsOn, judged_all, assertion_site, computing_site}
+use Rattle.lra_source.proofs.FitsHold.{fitting_holds}
 
 -- lists --------------------------------------------------------------------------------------------------------------
 
@@ -57,6 +65,12 @@ slice_get_of_map : {A B : Type 0} (f : A → B) (xs : List A) (k : ℕ) (y : B) 
 slice_get_of_map f [] k y there = absurd (none-some y there)
 slice_get_of_map f (x ∷ xs) zero y there = (x, refl, sym (same_Some (f x) y there))
 slice_get_of_map f (x ∷ xs) (suc k) y there = slice_get_of_map f xs k y there
+
+-- in the one list or in the other
+get_either : {A : Type 0} (xs ys : List A) (k : ℕ) (x : A) → slice_get (xs ++ ys) k ≡ Some x → (slice_get xs k ≡ Some x) ⊎ ((j : ℕ) × (slice_get ys j ≡ Some x))
+get_either [] ys k x there = inr (k, there)
+get_either (y ∷ xs) ys zero x there = inl there
+get_either (y ∷ xs) ys (suc k) x there = get_either xs ys k x there
 
 listed_length : (outside : List (List ℕ)) (ls : List Labelled) (number : ℕ) (ss : List Site) (ps : List PointReport) → AreListed outside ls number ss ps → length ps ≡ length ss
 listed_length o ls n [] [] l = refl
@@ -82,41 +96,104 @@ module _ {V H : Type 0} (m : Meaning V H) (laws : Laws m) (shown : V → Invaria
       subst (λ (y : Invariant). Holds y store) (sym (state ∙ ap shown (sym same))) ((x.are_shown v (contained x.values k v found)).holds store has)
 
   -- a verdict on an assertion
-  right_at : (k : ℕ) (a : ℕ × Site) (v : Verdict) → slice_get (assertions_from 1 (sites_of (resolve t))) k ≡ Some a → slice_get r.verdicts k ≡ Some v →
-      IsOn (subject Assertion a.0 a.1) v →
-      IsTrue v.holds → Fails (resolve t) v.point → ⊥
-  right_at k a v there listed on holds fails =
-      let (q, is, site) = assertion_site 1 (sites_of (resolve t)) k a there in
-      let (y, found, is_told) = map_at told_of (told Assertion) r.verdicts x.verdicts x.proved k v listed in
-      let place : y.0 ≡ q = numbers v.number y.0 a.0 q (ap (λ (z : VerdictKind × ℕ × Bool). z.1) is_told) on.number is in
-      let same : y ≡ (q, v.holds) = pair y.0 q y.1 v.holds place (sym (ap (λ (z : VerdictKind × ℕ × Bool). z.2) is_told)) in
+  asserted : (q : ℕ) (s : Site) (so : Bool) → slice_get (sites_of (resolve t)) q ≡ Some s → Contains x.verdicts (q, so) → IsTrue so → Fails (resolve t)
+      (point_of s) → ⊥
+  asserted q s so site found holds fails =
       proved_holds V H m laws (plan_of settings constants) (resolve t) x.globals x.tree x.result x.derived agrees x.values x.verdicts x.flagged x.solves
-      (iteration_fails_once (dropping m) (plan_of settings constants) (resolve t) x.tree x.result (numbered (resolve t) x.tree x.is_graph) x.derived)
-      q a.1 v.holds site (subst (λ (z : ℕ × Bool). Contains x.verdicts z) same (contained x.verdicts k y found)) holds
-      (subst (λ z. Fails (resolve t) z) on.point fails)
+      (iteration_fails_once (dropping m) (plan_of settings constants) (resolve t) x.tree x.result (numbered (resolve t) x.tree x.is_graph) x.derived) q s so
+      site found holds fails
+
+  -- on what is computed
+  fitting : (q : ℕ) (s : Site) (so : Bool) → slice_get (sites_of (resolve t)) q ≡ Some s → Contains x.fitting (q, so) → IsTrue so → Overflows (resolve t)
+      (point_of s) → ⊥
+  fitting q s so site found holds over = by settings.fits x.judged
     where
-      numbers : (n y m q : ℕ) → n ≡ suc y → n ≡ m → m ≡ 1 + q → y ≡ q
-      numbers n y m q a b c = omega arith
+      by : (b : Bool) → JudgesIf m (dropping m) b x.tree x.values x.flagged x.fitting x.behind → ⊥
+      by true judges =
+          fitting_holds V H m laws (plan_of settings constants) (resolve t) x.globals x.tree x.result x.derived agrees x.values x.verdicts x.flagged x.solves
+          x.asks
+          x.fitting x.behind judges q s so site found holds over
+      by false none = contains_none (q, so) (subst (λ (fs : List (ℕ × Bool)). Contains fs (q, so)) none.0 found)
 
-      pair : (a b : ℕ) (c d : Bool) → a ≡ b → c ≡ d → (let u : ℕ × Bool = (a, c) in u) ≡ (b, d)
-      pair a b c d e f = cc
+  -- each verdict is told of one that was found, of its kind and number
+  told_there : (k : ℕ) (v : Verdict) → slice_get r.verdicts k ≡ Some v → Contains (told_all x.verdicts x.fitting) (told_of v)
+  told_there k v listed = subst (λ (ts : List (VerdictKind × ℕ × Bool)). Contains ts (told_of v)) x.proved
+      (contained (map told_of r.verdicts) k (told_of v) (slice_get-map told_of r.verdicts k ∙ ap (option_map told_of) listed))
 
-  right : (k : ℕ) (s : Subject) (v : Verdict) → slice_get (subjects t) k ≡ Some s → slice_get r.verdicts k ≡ Some v → IsOn s v →
-      IsRight (resolve t) v
+  right_of : (kind : VerdictKind) (q : ℕ) (s : Site) (so : Bool) → slice_get (sites_of (resolve t)) q ≡ Some s → Contains (told_all x.verdicts x.fitting)
+      (kind, suc q, so) → IsTrue so
+      → Breaks kind (resolve t) (point_of s) → ⊥
+  right_of kind q s so site told_so holds breaks = elim (Contains-append_cases (map (told Assertion) x.verdicts) (map (told Fit) x.fitting) (kind, suc q, so)
+      told_so) [
+        | inl a ↦
+            let (p, n, here, found) = one_told Assertion x.verdicts kind (suc q) so a in
+            asserted q s so site (subst (λ (i : ℕ). Contains x.verdicts (i, so)) (less p q here) found) holds
+            (subst (λ (k : VerdictKind). Breaks k (resolve t) (point_of s)) n breaks)
+        | inr b ↦
+            let (p, n, here, found) = one_told Fit x.fitting kind (suc q) so b in
+            fitting q s so site (subst (λ (i : ℕ). Contains x.fitting (i, so)) (less p q here) found) holds
+            (subst (λ (k : VerdictKind). Breaks k (resolve t) (point_of s)) n breaks)
+      ]
+    where
+      less : (p q : ℕ) → suc q ≡ suc p → p ≡ q
+      less p q e = omega (arith, e)
+
+  -- the site of a subject, by its number
+  subject_site : (k : ℕ) (s : Subject) → slice_get (subjects r.options x.tree t) k ≡ Some s → (q : ℕ) × (s.number ≡ suc q) ×
+      (slice_get (sites_of (resolve t)) q ≡ Some s.site)
+  subject_site k s there = elim (get_either (subjects_of Assertion (assertions_from 1 (sites_of (resolve t))))
+      (fits_asked r.options.fits x.tree (sites_of (resolve t))) k s there) [
+        | inl a ↦
+            let (y, found, is) = slice_get_of_map (λ (p : ℕ × Site). subject Assertion p.0 p.1) (assertions_from 1 (sites_of (resolve t))) k s a in
+            let (q, number, site) = assertion_site 1 (sites_of (resolve t)) k y found in
+            (q, ap (λ (u : Subject). u.number) is ∙ number ∙ omega arith, site ∙ ap (λ (u : Subject). Some u.site) (sym is))
+        | inr (j, b) ↦ asked_site r.options.fits j s b
+      ]
+    where
+      asked_site : (b : Bool) (j : ℕ) (s : Subject) → slice_get (fits_asked b x.tree (sites_of (resolve t))) j ≡ Some s → (q : ℕ) × (s.number ≡ suc q) ×
+          (slice_get (sites_of (resolve t)) q ≡ Some s.site)
+      asked_site true j s there =
+          let (y, found, is) = slice_get_of_map (λ (p : ℕ × Site). subject Fit p.0 p.1) (computing_from (computes_at x.tree) 0 (sites_of (resolve t))) j s
+          there in
+          let (q, number, site) = computing_site (computes_at x.tree) 0 (sites_of (resolve t)) j y found in
+          (q, ap (λ (u : Subject). u.number) is ∙ number ∙ omega arith, site ∙ ap (λ (u : Subject). Some u.site) (sym is))
+      asked_site false j s there = absurd (none-some s there)
+
+  right : (k : ℕ) (s : Subject) (v : Verdict) → slice_get (subjects r.options x.tree t) k ≡ Some s → slice_get r.verdicts k ≡ Some v → IsOn s v → IsRight
+      (resolve t) v
   right k s v there listed on holds breaks =
-      let (a, found, is) = slice_get_of_map (λ (p : ℕ × Site). subject Assertion p.0 p.1) (assertions_from 1 (sites_of (resolve t))) k s there in
-      let here : IsOn (subject Assertion a.0 a.1) v = subst (λ (y : Subject). IsOn y v) is on in
-      right_at k a v found listed here holds (subst (λ (kind : VerdictKind). Breaks kind (resolve t) v.point) here.kind breaks)
+      let (q, number, site) = subject_site k s there in
+      right_of v.kind q s.site v.holds site (subst (λ (n : ℕ). Contains (told_all x.verdicts x.fitting) (v.kind, n, v.holds)) (on.number ∙ number)
+      (told_there k v listed)) holds
+      (subst (λ z. Breaks v.kind (resolve t) z) on.point breaks)
 
   pub sound : IsSound (resolve t) r
   sound = record {
     invariants = listed_all (IsInvariant (resolve t)) (globals_named t.parts) (labels_of t) 1 (sites_of (resolve t)) r.points lists.points invariant;
-    verdicts = judged_all (IsRight (resolve t)) (labels_of t) (subjects t) r.verdicts lists.verdicts right;
+    verdicts = judged_all (IsRight (resolve t)) (labels_of t) (subjects r.options x.tree t) r.verdicts (lists.verdicts x.tree x.is_graph) right;
   }
 
   is_flag : (count : ℕ) (o : Option ℕ) → IsBelow count o → IsFlag count (option_map suc o)
   is_flag count None h = tt
   is_flag count (Some q) h = (omega arith, omega arith)
+
+  -- what is flagged by what is judged stands at a point, too
+  behind_there : (n : ℕ) → n ≡ length (sites_of (resolve t)) → IsBelow n x.flagged → IsBelow n x.behind
+  behind_there n is below = by settings.fits x.judged
+    where
+      option_below : (f : Option ℕ) → ((q : ℕ) → f ≡ Some q → q < n) → IsBelow n f
+      option_below None low = tt
+      option_below (Some q) low = low q refl
+
+      below_option : (f : Option ℕ) → IsBelow n f → (q : ℕ) → f ≡ Some q → q < n
+      below_option f h q e = subst (λ (y : Option ℕ). IsBelow n y) e h
+
+      by : (b : Bool) → JudgesIf m (dropping m) b x.tree x.values x.flagged x.fitting x.behind → IsBelow n x.behind
+      by true judges =
+          let many = as_many m (plan_of settings constants) (resolve t) x.tree x.result x.values x.verdicts x.flagged x.is_graph x.derived x.solves in
+          option_below x.behind (flagged_below m (dropping m) x.tree x.values x.flagged x.fitting x.behind n (many ∙ sym is) judges
+          (below_option x.flagged below))
+      by false none = subst (IsBelow n) (sym none.1) below
 
   flag_there : IsFlag (length r.points) r.flagged
   flag_there =
@@ -125,7 +202,7 @@ module _ {V H : Type 0} (m : Meaning V H) (laws : Laws m) (shown : V → Invaria
       let long : length r.points ≡ length (sites_of (resolve t)) = listed_length (globals_named t.parts) (labels_of t) 1 (sites_of (resolve t)) r.points lists.points in
       let there : IsBelow (length r.points) x.flagged = subst (λ (n : ℕ). IsBelow n x.flagged) (sym long)
       (subst (λ (o : Option ℕ). IsBelow (length (sites_of (resolve t))) o) (sym x.solves.is_flagged) below) in
-      subst (λ (o : Option ℕ). IsFlag (length r.points) o) (sym x.flag) (is_flag (length r.points) x.flagged there)
+      subst (λ (o : Option ℕ). IsFlag (length r.points) o) (sym x.flag) (is_flag (length r.points) x.behind (behind_there (length r.points) long there))
 
   -- no more parts than the value's cap, each over the variables that are named
   parts_are : (o : Options) → o.domain ≡ settings.domain → 1 ≤ settings.parts → settings.parts ≤ o.parts

@@ -7,6 +7,11 @@ use Rattle.lra_domain.specs.Meaning.{Meaning}
 use Rattle.lra_report.specs.Report.{Invariant, Report}
 use Rattle.lra_meaning.specs.Resolve.{resolve}
 use Rattle.lra_program.specs.Program.{Program}
+use Rattle.lra_box.specs.Meaning.{box_meaning}
+use Rattle.lra_oct.specs.Meaning.{octagon_meaning}
+use Rattle.lra_polydom.specs.Meaning.{polyhedron_meaning}
+use Rattle.lra_states.specs.Polyhedra.{shown_polyhedron}
+use Rattle.lra_states.specs.Shown.{shown_state}
 use Rattle.lra_set.specs.Content.{Parts, Head}
 use Rattle.lra_set.specs.Meaning.{set_meaning}
 use Rattle.lra_states.specs.Sets.{shown_set}
@@ -38,6 +43,21 @@ module _ (say tell : Saying) (follows : (V H : Type 0) (m : Meaning V H) (shown 
 
   pub over_each : (o : Options) → Over o say → Over o tell
   over_each o h = each_domain o.domain o.parts h
+
+-- and what doesn't name the domain follows as it is
+module _ (X : Type 0) where
+  same_number : (n : ℕ) (V H : Type 0) (m : Meaning V H) (shown : V → Invariant) → AloneOrSets n (λ V H m shown. X) V H m shown → X
+  same_number zero V H m shown h = h
+  same_number (suc zero) V H m shown h = h
+  same_number (suc (suc n)) V H m shown h = h
+
+  same_domain : (d : Domain) (n : ℕ) → OverDomain d (AloneOrSets n (λ V H m shown. X)) → X
+  same_domain Poly n h = same_number n _ _ polyhedron_meaning shown_polyhedron h
+  same_domain Box n h = same_number n _ _ box_meaning (shown_state box_meaning) h
+  same_domain Oct n h = same_number n _ _ octagon_meaning (shown_state octagon_meaning) h
+
+  pub over_same : (o : Options) → Over o (λ V H m shown. X) → X
+  over_same o h = same_domain o.domain o.parts h
 
 -- what answers over this domain answers as the options say
 module _ (d : Domain) (o : Options) (source : List ℕ) {V H : Type 0} (m : Meaning V H) (shown : V → Invariant) (is : o.domain ≡ d) (names : (say : Saying) → say V H m shown → OverDomain d say)

@@ -15,7 +15,7 @@ use Rattle.lra_program.specs.Sites.{Site, sites_of}
 use Rattle.lra_operations.specs.Agree.{point_of, Agrees}
 use Rattle.lra_meaning.specs.ShownNames.{shown_names}
 use Rattle.lra_meaning.specs.LiveNames.{live_names}
-use Rattle.lra_report.specs.Listing.{Subject, AreListed, AreJudged}
+use Rattle.lra_report.specs.Listing.{Subject, computing_from, AreListed, AreJudged}
 use Rattle.lra_program.specs.Assertions.{assertions_from}
 use Rattle.lra_flow.specs.Plan.{Plan}
 use Rattle.lra_flow.specs.Pass.{failing, Result}
@@ -33,7 +33,7 @@ module _ (V H : Type 0) (m : Meaning V H) where
 
     module _ (derived : Derivation m set P g r) (agrees : Agrees P g) (values : List V) (verdicts : List (ℕ × Bool)) (flagged : Option ℕ) (solves : Solves m r values verdicts flagged) where
       -- where a run comes to a point, the value there has its store
-      held_there : (q : ℕ) (s : Site) (store : List ℤ) → slice_get (sites_of P) q ≡ Some s → At P (point_of s) store
+      pub held_there : (q : ℕ) (s : Site) (store : List ℤ) → slice_get (sites_of P) q ≡ Some s → At P (point_of s) store
           → (v : V) × (slice_get values q ≡ Some v) × Has m v store × (length store ≡ m.dims v)
       held_there q s store there at =
           let (draws, words, t, comes, is) = (agrees.comes q s store there).0 at in
@@ -123,3 +123,10 @@ chosen_site number s ss x rest f false k e = later_site number s ss x (f k e)
 pub assertion_site : (number : ℕ) (ss : List Site) (k : ℕ) (x : ℕ × Site) → slice_get (assertions_from number ss) k ≡ Some x → SiteAt number ss x
 assertion_site number [] k x e = absurd (none-some x e)
 assertion_site number (s ∷ ss) k x e = chosen_site number s ss x (assertions_from (suc number) ss) (λ j d. assertion_site (suc number) ss j x d) s.asserts k e
+
+-- so it is with a point at which something is computed
+pub computing_site : (computes : ℕ → Bool) (q : ℕ) (ss : List Site) (k : ℕ) (x : ℕ × Site) → slice_get (computing_from computes q ss) k ≡ Some x → SiteAt
+    (suc q) ss x
+computing_site computes q [] k x e = absurd (none-some x e)
+computing_site computes q (s ∷ ss) k x e = chosen_site (suc q) s ss x (computing_from computes (suc q) ss) (λ j d. computing_site computes (suc q) ss j x d)
+    (computes q) k e

@@ -6,13 +6,15 @@ use Rattle.lra_program.specs.Program.{Program}
 use Rattle.lra_program.specs.WellFormed.{AreGoodGlobals}
 use Rattle.lra_operations.specs.Graph.{Node}
 use Rattle.lra_operations.specs.Agree.{IsGraph}
+use Rattle.lra_operations.specs.Asked.{AsksWell}
 use Rattle.lra_report.specs.Report.{Invariant, PointReport, Report}
 use Rattle.lra_options.specs.declared.options.Options.{Options}
 use Rattle.lra_flow.specs.Plan.{plan_of}
 use Rattle.lra_flow.specs.Pass.{Result}
 use Rattle.lra_flow.specs.Analysis.{Written, Derivation, Strains, Solves}
-use Rattle.lra_report.specs.declared.verdict_kinds.VerdictKind.TheVariants.{Assertion}
-use Rattle.lra_listing.specs.Given.{told, told_of}
+use Rattle.lra_flow.specs.Operations.{defined, dropping, straining}
+use Rattle.lra_flow.specs.Fits.{JudgesIf}
+use Rattle.lra_listing.specs.Given.{told_all, told_of}
 use Rattle.lra_states.specs.Shown.{AreShown}
 
 -- `shown` is what the domain shows of a value; the program has these constants
@@ -22,6 +24,8 @@ pub record IsAnalysed {V H : Type 0} (m : Meaning V H) (shown : V → Invariant)
   pub globals : AreGoodGlobals P.globals
   pub tree : Node
   pub is_graph : IsGraph P tree
+  -- which asks at each point of the operation that can stop a run there by a number
+  pub asks : AsksWell P tree
   pub result : Result V
   pub values : List V
   -- a verdict is unknown exactly where something is left of the value at which the assertion's condition is false
@@ -37,5 +41,13 @@ pub record IsAnalysed {V H : Type 0} (m : Meaning V H) (shown : V → Invariant)
   pub are_shown : AreShown m settings.domain shown values
   -- and the report tells it
   pub states : map (λ (p : PointReport). p.state) r.points ≡ map shown values
-  pub proved : map told_of r.verdicts ≡ map (told Assertion) verdicts
-  pub flag : r.flagged ≡ option_map suc flagged
+  -- what fits, where it is asked for, and the first flag behind that; without a flag by what the written iteration
+  -- leaves; a first flag there is where what it leaves strains
+  pub fitting : List (ℕ × Bool)
+  pub behind : Option ℕ
+  pub judged : JudgesIf m (dropping m) settings.fits tree values flagged fitting behind
+  pub judged_written : behind ≡ None → JudgesIf m (defined m) settings.fits tree values None fitting None
+  pub judged_strained : (q : ℕ) → flagged ≡ None → behind ≡ Some q →
+      JudgesIf m (straining m) settings.fits tree values None fitting (Some q)
+  pub proved : map told_of r.verdicts ≡ told_all verdicts fitting
+  pub flag : r.flagged ≡ option_map suc behind

@@ -10,6 +10,10 @@ use Rattle.lra_program.specs.Sites.{Site, sites_of}
 use Rattle.lra_operations.specs.Agree.{IsGraph, point_of, Agrees}
 use Rattle.lra_flow.specs.Plan.{Plan}
 use Rattle.lra_flow.specs.Analysis.{IsUnreachable}
+use Rattle.lra_flow.specs.Operations.{dropping}
+use Rattle.lra_flow.specs.Fits.{Judges}
+use Rattle.lra_operations.specs.Asked.{AsksWell}
+use Rattle.lra_program.specs.Overflow.{Overflows}
 use Rattle.lra_iter.specs.Solved.{IsSolved}
 
 -- the value at a point has each store that a run brings there, no assertion that is proved fails, and no run comes
@@ -30,3 +34,13 @@ SolvedAreSound {V} m =
     (plan : Plan) (P : Program) (tree : Node) (values : List V) (verdicts : List (ℕ × Bool))
     (flagged : Option ℕ) → IsSolved m plan P tree values verdicts flagged → AreGoodGlobals P.globals
     → IsGraph P tree → Agrees P tree → HoldsInRuns m P values verdicts
+
+-- where all that is computed at a point is judged to fit by what is found, no run stops there by a number
+abbrev pub FittingIsSound : {V H : Type 0} → Meaning V H → Type 0
+FittingIsSound {V} m =
+    (plan : Plan) (P : Program) (tree : Node) (values : List V) (verdicts fitting : List (ℕ × Bool))
+    (flagged behind : Option ℕ) → IsSolved m plan P tree values verdicts flagged → AreGoodGlobals P.globals
+    → IsGraph P tree → Agrees P tree → AsksWell P tree
+    → Judges m (dropping m) tree values flagged fitting behind
+    → (q : ℕ) (s : Site) → slice_get (sites_of P) q ≡ Some s → Contains fitting (q, true) → Overflows P (point_of s)
+    → ⊥

@@ -1,7 +1,7 @@
 //! Laws: each of these does nothing, and its contract is the theorem.
 
 ghost use Rattle.lra_flow.specs.Linear.{FormsAreRight, TestsAreRight, DiffersIsRight};
-ghost use Rattle.lra_source.specs.Soundness.{SolvedAreSound};
+ghost use Rattle.lra_source.specs.Soundness.{SolvedAreSound, FittingIsSound};
 ghost use Rattle.lra_source.specs.Claims.{OneAnsweredText, TreesFit, TreesAreNumbered, AnalysedAreSound};
 ghost use Rattle.lra_source.specs.Claims.{AnalysedAreReports, OneUnflaggedReport};
 
@@ -40,6 +40,11 @@ pub fn analyses_are_right<D: Domain>()
 /// runs.
 pub fn solved_are_sound<D: Domain>()
     ensures { SolvedAreSound D.meaning }
+{}
+
+/// Where all that is computed at a point is judged to fit, no run stops there by a number.
+pub fn fitting_is_sound<D: Domain>()
+    ensures { FittingIsSound D.meaning }
 {}
 
 /// Linear forms have the value of their expressions wherever it exists, and tests pass exactly where their comparisons

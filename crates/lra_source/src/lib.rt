@@ -10,6 +10,6 @@ mod laws;
 
 pub use answer::analyse_source;
 pub use laws::{
-    analyses_are_right, forms_are_right, one_answered_text, one_unflagged_report, solved_are_sound,
-    trees_fit,
+    analyses_are_right, fitting_is_sound, forms_are_right, one_answered_text, one_unflagged_report,
+    solved_are_sound, trees_fit,
 };

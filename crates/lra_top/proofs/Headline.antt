@@ -1,6 +1,6 @@
 -- From what a source deserves to what is claimed of its report.
-use Rattle.std.proofs.Common.{◌≡◌, ◌∙◌, ℕ, suc, ℤ, List, [], ◌∷◌, length, refl, sym, subst, inl, inr}
-use Rattle.std.specs.Prelude.{Option, None, Some, option_map}
+use Rattle.std.proofs.Common.{◌≡◌, ◌∙◌, ℕ, suc, ℤ, List, [], ◌∷◌, length, map, Bool, true, false, ap, refl, sym, subst, inl, inr}
+use Rattle.std.specs.Prelude.{IsTrue, Option, None, Some, option_map}
 use Rattle.std.specs.List.{AllByRecursion}
 use Rattle.std.specs.Io.KnownBytes.{Appends}
 use Rattle.lra_options.specs.declared.options.Domain.{Domain}
@@ -9,6 +9,11 @@ use Rattle.lra_options.specs.declared.options.Options.{Options}
 use Rattle.lra_domain.specs.Meaning.{Meaning}
 use Rattle.lra_program.specs.Program.{Program}
 use Rattle.lra_flow.specs.Analysis.{Solves}
+use Rattle.lra_flow.specs.Operations.{dropping}
+use Rattle.lra_flow.specs.Fits.{Judges, JudgesIf}
+use Rattle.lra_operations.specs.Graph.{Node}
+use Rattle.lra_listing.specs.Given.{told_all, told_of}
+use Rattle.lra_source.proofs.FitsHanded.{unflagged_before}
 use Rattle.lra_meaning.specs.Resolve.{resolve}
 use Rattle.lra_report.specs.Report.{Invariant, Holds, PointReport, Report, IsInvariant}
 use Rattle.lra_show.specs.Part.{Part}
@@ -16,7 +21,7 @@ use Rattle.lra_report.specs.Parts.{Tells, HasSamePoints}
 use Rattle.lra_report.specs.Listing.{AreParts}
 use Rattle.lra_source.specs.Analysed.{IsAnalysed}
 use Rattle.lra_source.specs.Answers.{IsAnswered}
-use Rattle.lra_source.proofs.Sayings.{over_each}
+use Rattle.lra_source.proofs.Sayings.{over_each, over_same}
 use Rattle.lra_sample.specs.Sample.{sample_source}
 use Rattle.lra_sample.specs.Summary.{summary_text}
 use Rattle.lra_words.specs.Chosen.{Asks, default_options}
@@ -25,7 +30,8 @@ use Rattle.lra_words.specs.declared.chosen.Command.TheVariants.{Analyse, Sample}
 use Rattle.lra_answers.specs.Statuses.{Ends, reported}
 use Rattle.lra_top.specs.SourceAnswer.{DeservesSource, written_report}
 use Rattle.lra_top.specs.Run.{IsInput, Writes}
-use Rattle.lra_top.specs.Headline.{WritesReport, IsNeverReached, HoldsInAllRuns, TellsWritten, IsWrittenUnlessFlagged, ShowsSamePoints, TellsSamePoints, WritesSummary}
+use Rattle.lra_top.specs.Headline.{WritesReport, IsNeverReached, HoldsInAllRuns, TellsWritten, IsWrittenUnlessFlagged, TellsFitting, TellsFits, ShowsSamePoints}
+use Rattle.lra_top.specs.Headline.{TellsSamePoints, WritesSummary}
 use Rattle.lra_top.proofs.Ways.{asked_input}
 use Rattle.lra_answers.specs.declared.status.Status.{Status}
 use Rattle.lra_answers.specs.declared.status.Status.TheVariants.{Refused}
@@ -57,7 +63,8 @@ unflagged (Some q) e = let wrong : ⊥ = cc in absurd wrong
 tells_written : {V H : Type 0} (m : Meaning V H) (shown : V → Invariant) (o : Options) (constants : List ℤ) (P : Program) (r : Report) → r.flagged ≡ None
     → IsAnalysed m shown o constants P r → TellsWritten m shown o constants P r
 tells_written m shown o constants P r free x =
-    let none = unflagged x.flagged (sym x.flag ∙ free) in
+    let none_behind = unflagged x.behind (sym x.flag ∙ free) in
+    let none = unflagged_before m (dropping m) o.fits x.tree x.values x.flagged x.fitting x.behind none_behind x.judged in
     record {
       tree = x.tree;
       is_graph = x.is_graph;
@@ -68,6 +75,8 @@ tells_written m shown o constants P r free x =
       solves = subst (λ (f : Option ℕ). Solves m x.result x.values x.verdicts f) none x.solves;
       states = x.states;
       are_shown = x.are_shown;
+      fitting = x.fitting;
+      judged = x.judged_written none_behind;
       proved = x.proved;
     }
 
@@ -81,6 +90,55 @@ is_written o bytes r a = record {
       let P = resolve a.report.tree in
       let ks = a.constants in
       over_each (λ V H m shown. IsAnalysed m shown o ks P r) (λ V H m shown. TellsWritten m shown o ks P r) (λ V H m shown x. tells_written m shown o ks P r free x) o a.analysed;
+}
+
+-- what fits -----------------------------------------------------------------------
+
+judges_so : {V H : Type 0} (m : Meaning V H) (b : Bool) (g : Node) (values : List V) (flagged : Option ℕ) (fitting : List (ℕ × Bool)) (behind : Option ℕ) → b ≡
+    true
+    → JudgesIf m (dropping m) b g values flagged fitting behind → Judges m (dropping m) g values flagged fitting behind
+judges_so m true g values flagged fitting behind is j = j
+judges_so m false g values flagged fitting behind is j = absurd (let wrong : ⊥ = cc in wrong)
+
+judges_none : {V H : Type 0} (m : Meaning V H) (b : Bool) (g : Node) (values : List V) (flagged : Option ℕ) (fitting : List (ℕ × Bool)) (behind : Option ℕ) → b
+    ≡ false
+    → JudgesIf m (dropping m) b g values flagged fitting behind → fitting ≡ []
+judges_none m true g values flagged fitting behind is j = absurd (let wrong : ⊥ = cc in wrong)
+judges_none m false g values flagged fitting behind is j = j.0
+
+tells_fitting : {V H : Type 0} (m : Meaning V H) (shown : V → Invariant) (o : Options) (constants : List ℤ) (P : Program) (r : Report) → IsTrue o.fits
+    → IsAnalysed m shown o constants P r → TellsFitting m shown o P r
+tells_fitting m shown o constants P r asked x = record {
+  tree = x.tree;
+  is_graph = x.is_graph;
+  values = x.values;
+  states = x.states;
+  are_shown = x.are_shown;
+  verdicts = x.verdicts;
+  flagged = x.flagged;
+  fitting = x.fitting;
+  behind = x.behind;
+  judged = judges_so m o.fits x.tree x.values x.flagged x.fitting x.behind asked x.judged;
+  told = x.proved;
+  flag = x.flag;
+}
+
+abbrev Silent : Report → Type 0
+Silent r = (verdicts : List (ℕ × Bool)) × (map told_of r.verdicts ≡ told_all verdicts [])
+
+pub tells_fits : (o : Options) (bytes : List ℕ) (r : Report) → IsAnswered o bytes r → TellsFits o bytes r
+tells_fits o bytes r a = record {
+  tree = a.report.tree;
+  accepted = a.report.accepted;
+  right = a.report.sound.verdicts;
+  tells = λ asked.
+      let P = resolve a.report.tree in
+      over_each (λ V H m shown. IsAnalysed m shown o a.constants P r) (λ V H m shown. TellsFitting m shown o P r)
+      (λ V H m shown x. tells_fitting m shown o a.constants P r asked x) o a.analysed;
+  silent = λ never.
+      over_same (Silent r) o (over_each (λ V H m shown. IsAnalysed m shown o a.constants (resolve a.report.tree) r) (λ V H m shown. Silent r)
+      (λ V H m shown x. (x.verdicts, x.proved ∙ ap (told_all x.verdicts) (judges_none m o.fits x.tree x.values x.flagged x.fitting x.behind never x.judged))) o
+      a.analysed);
 }
 
 -- rows and generators -------------------------------------------------------------

@@ -1,5 +1,6 @@
 -- What is claimed of the report that a call writes.
-use Rattle.std.specs.Prelude.{◌≡◌, ℕ, ℤ, List, [], length, map, Bool, Option, None, Some}
+use Rattle.std.specs.Prelude.{◌≡◌, ℕ, suc, ℤ, List, [], length, map, Bool, false, IsTrue, Option, None, Some}
+use Rattle.std.specs.Prelude.{option_map}
 use Rattle.std.specs.List.{AllByRecursion}
 use Rattle.std.specs.Io.KnownBytes.{Appends}
 use Rattle.lra_options.specs.declared.options.Domain.TheVariants.{Poly}
@@ -17,11 +18,12 @@ use Rattle.lra_front.specs.Stages.{HasConstants}
 use Rattle.lra_flow.specs.Plan.{plan_of}
 use Rattle.lra_flow.specs.Pass.{Result}
 use Rattle.lra_flow.specs.Analysis.{Written, Solves}
-use Rattle.lra_report.specs.Report.{Invariant, PointReport, Report, IsSound}
+use Rattle.lra_flow.specs.Operations.{defined, dropping}
+use Rattle.lra_flow.specs.Fits.{Judges, JudgesIf}
+use Rattle.lra_report.specs.Report.{Invariant, PointReport, Report, IsRight, IsSound}
 use Rattle.lra_report.specs.Parts.{HasSamePoints}
 use Rattle.lra_report.specs.Listing.{Lists}
-use Rattle.lra_report.specs.declared.verdict_kinds.VerdictKind.TheVariants.{Assertion}
-use Rattle.lra_listing.specs.Given.{told, told_of}
+use Rattle.lra_listing.specs.Given.{told_all, told_of}
 use Rattle.lra_sample.specs.Sample.{sample_source}
 use Rattle.lra_sample.specs.Summary.{summary_text}
 use Rattle.lra_source.specs.Answers.{Over, IsAnswered}
@@ -44,8 +46,9 @@ pub record WritesReport (o : Options) (write : Report → List ℕ) (so : List �
 abbrev pub IsNeverReached : Program → PointReport → Type 0
 IsNeverReached P p = p.state ≡ [] → (store : List ℤ) → At P p.point store → ⊥
 
--- The report lists all points and assertions of the accepted source. Each state holds whenever a run is at its point,
--- no assertion that is marked proved fails, and no point that is shown as unreachable is reached.
+-- The report lists all points of the accepted source and what is judged of them. Each state holds whenever a run is at
+-- its point, no assertion that is marked proved fails, no run stops by a number where all is told to fit, and no point
+-- that is shown as unreachable is reached.
 pub record HoldsInAllRuns (bytes : List ℕ) (r : Report) : Type 0 where
   pub tree : FileTree
   pub accepted : Accepts Spells bytes tree
@@ -55,7 +58,8 @@ pub record HoldsInAllRuns (bytes : List ℕ) (r : Report) : Type 0 where
 
 -- the report tells what the written iteration finds, whose loops have these constants as thresholds where the options
 -- ask for such: at each point the state that shows its value there, whose rows
--- mean the value, and on each assertion its verdict
+-- mean the value, on each assertion its verdict and, where it is asked for, at each point at which something is
+-- computed whether all of it fits
 pub record TellsWritten {V H : Type 0} (m : Meaning V H) (shown : V → Invariant) (o : Options) (constants : List ℤ)
     (P : Program) (r : Report) : Type 0 where
   pub tree : Node
@@ -67,7 +71,9 @@ pub record TellsWritten {V H : Type 0} (m : Meaning V H) (shown : V → Invarian
   pub solves : Solves m result values verdicts None
   pub states : map (λ (p : PointReport). p.state) r.points ≡ map shown values
   pub are_shown : AreShown m o.domain shown values
-  pub proved : map told_of r.verdicts ≡ map (told Assertion) verdicts
+  pub fitting : List (ℕ × Bool)
+  pub judged : JudgesIf m (defined m) o.fits tree values None fitting None
+  pub proved : map told_of r.verdicts ≡ told_all verdicts fitting
 
 -- where nothing is flagged, every value is the written iteration's, by the source's own constants
 pub record IsWrittenUnlessFlagged (o : Options) (bytes : List ℕ) (r : Report) : Type 0 where
@@ -76,6 +82,31 @@ pub record IsWrittenUnlessFlagged (o : Options) (bytes : List ℕ) (r : Report) 
   pub constants : List ℤ
   pub own : HasConstants bytes constants
   pub tells : r.flagged ≡ None → Over o (λ V H m shown. TellsWritten m shown o constants (resolve tree) r)
+
+-- Where it is asked for, a line for each point at which something is computed tells whether all of it fits by the
+-- values whose states are shown: it may overflow exactly where something doesn't.
+pub record TellsFitting {V H : Type 0} (m : Meaning V H) (shown : V → Invariant) (o : Options) (P : Program)
+    (r : Report) : Type 0 where
+  pub tree : Node
+  pub is_graph : IsGraph P tree
+  pub values : List V
+  pub states : map (λ (p : PointReport). p.state) r.points ≡ map shown values
+  pub are_shown : AreShown m o.domain shown values
+  pub verdicts : List (ℕ × Bool)
+  pub flagged : Option ℕ
+  pub fitting : List (ℕ × Bool)
+  pub behind : Option ℕ
+  pub judged : Judges m (dropping m) tree values flagged fitting behind
+  pub told : map told_of r.verdicts ≡ told_all verdicts fitting
+  pub flag : r.flagged ≡ option_map suc behind
+
+-- and where all of it fits no run stops there by a number; where it isn't asked for nothing is told of it
+pub record TellsFits (o : Options) (bytes : List ℕ) (r : Report) : Type 0 where
+  pub tree : FileTree
+  pub accepted : Accepts Spells bytes tree
+  pub right : AllByRecursion (IsRight (resolve tree)) r.verdicts
+  pub tells : IsTrue o.fits → Over o (λ V H m shown. TellsFitting m shown o (resolve tree) r)
+  pub silent : o.fits ≡ false → (verdicts : List (ℕ × Bool)) × (map told_of r.verdicts ≡ told_all verdicts [])
 
 abbrev pub ShowsSamePoints : PointReport → Type 0
 ShowsSamePoints p = AllByRecursion (HasSamePoints (length p.names)) p.state

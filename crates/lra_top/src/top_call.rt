@@ -13,7 +13,7 @@ ghost use Rattle.lra_top.specs.SourceAnswer.{written_report};
 ghost use Rattle.lra_top.specs.Commands.{limit_of, asked_limit, CallsFor};
 ghost use Rattle.lra_top.specs.Run.{usage_text, IsAsked, IsDeserved, Writes, WritesPart, IsRead, IsCounted};
 ghost use Rattle.lra_top.specs.Headline.{WritesReport, HoldsInAllRuns, IsWrittenUnlessFlagged};
-ghost use Rattle.lra_top.specs.Headline.{TellsSamePoints, WritesSummary};
+ghost use Rattle.lra_top.specs.Headline.{TellsFits, TellsSamePoints, WritesSummary};
 ghost use Rattle.lra_top.specs.Prepared.{IsInputText, IsTaken, IsReadBy, PrepareCause, Ending};
 
 use crate::commands::{answer_command, limit_of};
@@ -177,6 +177,12 @@ pub fn run<S: Source, K: Sink>(
     ensures is_written { (options : Options) (format : Format) →
         Asks (map string_bytes words.now) (Analyse options format) → Ends reported result →
         WritesReport options (written_report format) (IsWrittenUnlessFlagged options) (S.left source.old)
+        (K.held sink.old) (K.held sink.new) }
+    // Where they ask which operations fit: where all that is computed at a point is told to fit, no run stops there by
+    // a number, and that is told exactly where it fits by the values at the points.
+    ensures fits { (options : Options) (format : Format) →
+        Asks (map string_bytes words.now) (Analyse options format) → Ends reported result →
+        WritesReport options (written_report format) (TellsFits options) (S.left source.old)
         (K.held sink.old) (K.held sink.new) }
     ensures same_points { (options : Options) (format : Format) →
         Asks (map string_bytes words.now) (Analyse options format) → Ends reported result →
