@@ -11,6 +11,8 @@ mod answers;
 mod boxes;
 #[cfg(test)]
 mod checks;
+#[cfg(test)]
+mod fits;
 pub mod memory;
 #[cfg(test)]
 mod parts;

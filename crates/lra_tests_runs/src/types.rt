@@ -5,41 +5,45 @@ use crate::memory::{BOXES, SOUND};
 use lra_top::Status;
 
 /// A loop that counts to ten.
-const COUNTING: &str = "int main(void){ int i=0; while(i<10) i=i+1; }";
+pub const COUNTING: &str = "int main(void){ int i=0; while(i<10) i=i+1; }";
 
 /// A number that is read, and the one above it.
-const READ: &str = "int main(void){ int x=input(); x=x+1; }";
+pub const READ: &str = "int main(void){ int x=input(); x=x+1; }";
 
 /// What is told of it behind the number read.
 const ABOVE: &str = "point 2 main 1:32\n  row x >= -2147483648\n  row x <= 2147483647\n";
 
 /// A head whose upper bound is forgotten, since the body may leave x as it is.
-const WIDENED: &str =
+pub const WIDENED: &str =
     "int main(void){ int x=0; while(input()){ if(input()) { if(x<5) x=x+1; } else { if(x>0) x=x-1; } } \
     assert(x>=0); }";
 
 /// The same where it is told in the body.
-const TOLD: &str =
+pub const TOLD: &str =
     "int main(void){ int x=0; while(input()){ assume(x<=2147483647); if(input()) { if(x<5) x=x+1; } else { if(x>0) \
     x=x-1; } } assert(x>=0); }";
 
 /// A result of 32 bits, given to a `long` and then to an `int`.
-const RESULTS: &str =
+pub const RESULTS: &str =
     "int f(void){} int main(void){ long x=f(); assert(x<=2147483647); int y=f(); assert(y<=2147483647); }";
 
 /// Sums, signs and products of both types.
-const MIXED: &str = "int main(void){ int x; long y; x+=y; y+=x; x=x*1L; x=+x; return -y; }";
+pub const MIXED: &str = "int main(void){ int x; long y; x+=y; y+=x; x=x*1L; x=+x; return -y; }";
 
 /// A sum and its opposite; a product of `long`s.
-const OPPOSITE: &str = "int main(void){ int x; x=x+1; x=-x; long y=x; y=y*y; }";
+pub const OPPOSITE: &str = "int main(void){ int x; x=x+1; x=-x; long y=x; y=y*y; }";
 
 /// Constants of both types.
-const CONSTANTS: &str =
+pub const CONSTANTS: &str =
     "int main(void){ long a=65536*65536, b=65536L*65536; int c=-2147483648, d=0x80000000; }";
 
 /// A call with an argument that is read.
-const GIVEN: &str =
+pub const GIVEN: &str =
     "int f(int a, long b){ return a; } int main(void){ int x=f(input(), 7); f(x, x); }";
+
+/// A call in the `return` of `main`, of a function that has a prototype.
+pub const RETURNED: &str =
+    "int f(int a, long b); int f(int a, long b){ return a; } int main(void){ return f(1, 2); }";
 
 /// Lines over each domain.
 static EACH_DOMAIN: [Line; 9] = [
@@ -202,9 +206,10 @@ static GIVING: [Line; 9] = [
     ),
     (
         BOXES,
-        "int f(int a, long b); int f(int a, long b){ return a; } int main(void){ return f(1, 2); }",
+        RETURNED,
         Status::Proved,
-        "\nflagged 0\n",
+        "point 2 main/f@1:80 1:45\n  row a = 1\n  row b = 2\npoint 3 main/f@1:80 1:55\n  unreachable\n\
+            point 4 main 1:89\n  unreachable\nverdicts proved 0 unknown 0\n",
     ),
     (
         BOXES,
@@ -235,7 +240,7 @@ static JSON: [Answer; 1] = [(
 )];
 
 /// First values that their types don't have, and words that are no type.
-static REFUSED: [(&str, &str); 11] = [
+static REFUSED: [(&str, &str); 16] = [
     (
         "int g=2147483648; int main(void){}",
         "refused 3 BadLiteral at 1:7\n",
@@ -247,6 +252,27 @@ static REFUSED: [(&str, &str); 11] = [
     (
         "int g=5, h=2147483648L; int main(void){}",
         "refused 3 BadLiteral at 1:12\n",
+    ),
+    // each number with its own sign; of a number past 2^63 - 1 no sign makes a literal
+    (
+        "int g=-2147483648, h=-2147483649; int main(void){}",
+        "refused 3 BadLiteral at 1:23\n",
+    ),
+    (
+        "long g=-9223372036854775808; int main(void){}",
+        "refused 3 BadLiteral at 1:9\n",
+    ),
+    (
+        "int g=0x80000000; int main(void){}",
+        "refused 3 BadLiteral at 1:7\n",
+    ),
+    (
+        "int main(void){ int x=1u; }",
+        "refused 3 BadLiteral at 1:23\n",
+    ),
+    (
+        "int main(void){ unsigned x; }",
+        "refused 4 Syntax at 1:17\n",
     ),
     // of two faults the first in the text; a fault of the tokens comes before one of the names
     (
