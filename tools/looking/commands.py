@@ -13,7 +13,7 @@ from looking.sources import Source
 # The exit status where a tool itself refuses.
 REFUSED = 7
 VALUED = ('domain', 'parts', 'delay', 'narrow')
-FLAGS = ('limited', 'thresholds', 'best')
+FLAGS = ('limited', 'thresholds', 'fits', 'best')
 
 
 class Words(argparse.ArgumentParser):

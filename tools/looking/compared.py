@@ -3,7 +3,7 @@ import re
 from dataclasses import dataclass
 
 from looking.findings import Fingerprints
-from looking.reports import STEP, Point, Report
+from looking.reports import KINDS, STEP, Kind, Point, Report
 from looking.sources import Source
 
 Key = tuple[object, ...]
@@ -11,10 +11,14 @@ Key = tuple[object, ...]
 
 @dataclass(frozen=True)
 class Told:
-    """A point, with the verdict on it."""
+    """A point, with the words of the verdicts on it."""
 
     point: Point
-    verdict: str
+    words: dict[Kind, str]
+
+    @property
+    def verdict(self) -> str:
+        return ', '.join(self.words.values())
 
     @property
     def where(self) -> str:
@@ -50,10 +54,10 @@ def told_of(report: Report, names: Names | None) -> dict[Key, Told]:
         names.prepare(report)
     found = {}
     for point in report.points:
-        verdict = report.verdicts.get(point.number)
-        word = (verdict.kind.known if verdict.is_known else verdict.kind.unknown) if verdict else ''
+        reached = '' if point.parts else ', never reached'
+        words = {verdict.kind: f'{verdict.word}{reached}' for verdict in report.verdicts.get(point.number, ())}
         key = names.key(point) if names else (point.line, point.column, point.path)
-        found[key] = Told(point, word if point.parts or not word else f'{word}, never reached')
+        found[key] = Told(point, words)
     return found
 
 
@@ -64,11 +68,10 @@ def rows_of(point: Point) -> set[str]:
     return {f'({", ".join(part.rows) or "any values"})' for part in point.parts}
 
 
-def change_of(old: Told, new: Told) -> list[str]:
-    """What changed at a point."""
-    lines = []
-    if old.verdict != new.verdict:
-        lines.append(f'{new.where}: {old.verdict or "no assertion"} became {new.verdict or "no assertion"}')
+def change_of(old: Told, new: Told, kinds: list[Kind]) -> list[str]:
+    """What changed at a point, of verdicts of these kinds."""
+    said = [(old.words.get(kind, kind.none), new.words.get(kind, kind.none)) for kind in kinds]
+    lines = [f'{new.where}: {before} became {after}' for before, after in said if before != after]
     if bool(old.point.parts) != bool(new.point.parts):
         return lines + [f'{new.where}: {"reached now" if new.point.parts else "never reached now"}']
     lost, won = rows_of(old.point) - rows_of(new.point), rows_of(new.point) - rows_of(old.point)
@@ -80,10 +83,11 @@ def changes(old: Report, new: Report, old_source: Source | None, new_source: Sou
     """What changed, in the order of the new report; then what is gone."""
     before = told_of(old, Names(old_source) if old_source else None)
     after = told_of(new, Names(new_source) if new_source else None)
+    kinds = [kind for kind in KINDS if kind.stands(old.analysis) and kind.stands(new.analysis)]
     lines = []
     for key, told in after.items():
         if key in before:
-            lines += change_of(before[key], told)
+            lines += change_of(before[key], told, kinds)
         elif told.verdict:
             lines.append(f'{told.where}: new, {told.verdict}')
     return lines + [

@@ -6,7 +6,7 @@ from dataclasses import dataclass, field
 from functools import cached_property
 
 from looking.examples import Example, told_example
-from looking.reports import Answer, Kind, Point, Refusal, Report
+from looking.reports import KINDS, Answer, Kind, Point, Refusal, Report
 from looking.sources import Source
 
 # So many states of a part are tried for an example, so many for all examples of a source; so many points have one.
@@ -71,9 +71,11 @@ class Findings:
     def open(self) -> list[Asked]:
         return [asked for asked in self.asked if not asked.is_known]
 
-    def example(self, point: Point) -> Example | None:
-        """A state that isn't excluded at a point that isn't known: of the first ones only, and of many fewer states
-        are tried."""
+    def example(self, kind: Kind, point: Point) -> Example | None:
+        """A state that isn't excluded at a point whose condition isn't known: of the first ones only, and of many
+        fewer states are tried."""
+        if not kind.asks:
+            return None
         if point.number not in self.examples and len(self.examples) < MOST_EXAMPLES:
             most = min(MOST_TRIED, MOST_TRIED_IN_ALL // min(MOST_EXAMPLES, self.open_count))
             self.examples[point.number] = told_example(self.source, point, most)
@@ -81,24 +83,19 @@ class Findings:
 
     @cached_property
     def open_count(self) -> int:
-        """How many points aren't known, at least 1."""
-        return max(1, sum(len(asked.open_points) for asked in self.open))
+        """At how many points a condition isn't known, at least 1."""
+        return max(1, sum(len(asked.open_points) for asked in self.open if asked.kind.asks))
 
 
 def asked_in(report: Report) -> list[Asked]:
-    """The places that ask something, in text order."""
+    """The places that ask something, in text order; those of one place in the order of the kinds."""
     found = []
     for offset, points in report.places().items():
-        kinds = {verdict.kind.rule: verdict.kind for point in points if (verdict := report.verdicts.get(point.number))}
-        for kind in kinds.values():
-            own = tuple(
-                point
-                for point in points
-                if point.number in report.verdicts and report.verdicts[point.number].kind is kind
-            )
-            found.append(
-                Asked(kind, offset, own, tuple(point for point in own if not report.verdicts[point.number].is_known))
-            )
+        for kind in KINDS:
+            said = [(point, verdict) for point in points if (verdict := report.verdict(point, kind))]
+            if said:
+                own = tuple(point for point, _ in said)
+                found.append(Asked(kind, offset, own, tuple(point for point, verdict in said if not verdict.is_known)))
     return found
 
 

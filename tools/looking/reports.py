@@ -30,32 +30,62 @@ class Failed(Exception):
 
 @dataclass(frozen=True)
 class Kind:
-    """A kind of verdict: the list that has them in a report, the words for what is known and what isn't, and how
-    both are told."""
+    """A kind of verdict: the list that has them in a report, the option under which it stands (none: always), whether
+    they count, the words for what is known and what isn't, in a report and on a page, how both are told, and the word
+    that begins a statement that asks it: a condition, of which a state may be an example (none: any statement)."""
 
     key: str
+    option: str
+    counts: bool
     rule: str
     known: str
     unknown: str
+    open: str
+    none: str
     passes: str
     fails: str
     asks: bytes
     help: str
+
+    def stands(self, analysis: dict[str, Any]) -> bool:
+        """Whether a report under these options has them."""
+        return not self.option or bool(analysis.get(self.option))
 
 
 # A later kind of verdict is a row here.
 KINDS = (
     Kind(
         'asserts',
+        '',
+        True,
         'assert',
         'proved',
         'unknown',
+        'not proved',
+        'no assertion',
         'assertion is proved',
         "assertion isn't proved",
         b'assert',
         "Something is left of what is known there where the assertion's condition is false: an execution may fail it, "
         'or more has to be known. Look at the rows that hold there; then try `--best`, or state in an `assume` what '
         'the surroundings promise.',
+    ),
+    Kind(
+        'fits',
+        'fits',
+        False,
+        'overflow',
+        'fits',
+        'may overflow',
+        'may overflow',
+        'nothing computed',
+        'all that is computed here fits',
+        'this may overflow',
+        b'',
+        'What is known there leaves a number that its type does not have, something that is not linear, or a '
+        'divisor that is no constant other than 0 and -1: an execution may end here. Look at the rows that hold '
+        'there; then read into a `long`, state in an `assume` what the surroundings promise, and convert; or '
+        'compute in 64 bits (`1000L`).',
     ),
 )
 
@@ -87,6 +117,11 @@ class Verdict:
     kind: Kind
     is_known: bool
 
+    @property
+    def word(self) -> str:
+        """Its word in a report."""
+        return self.kind.known if self.is_known else self.kind.unknown
+
 
 @dataclass
 class Report:
@@ -95,27 +130,36 @@ class Report:
     analysis: dict[str, Any]
     flagged: int
     points: list[Point]
-    verdicts: dict[int, Verdict]
+    verdicts: dict[int, tuple[Verdict, ...]]
     milliseconds: float = 0.0
+
+    def all_of(self, kind: Kind) -> list[Verdict]:
+        """All verdicts of this kind."""
+        return [verdict for told in self.verdicts.values() for verdict in told if verdict.kind is kind]
+
+    def verdict(self, point: Point, kind: Kind) -> Verdict | None:
+        """The verdict of this kind on a point."""
+        return next((verdict for verdict in self.verdicts.get(point.number, ()) if verdict.kind is kind), None)
 
     @property
     def status(self) -> int:
         """The exit status of the run that tells it."""
-        return 0 if all(verdict.is_known for verdict in self.verdicts.values()) else 1
+        counted = [verdict for kind in KINDS if kind.counts for verdict in self.all_of(kind)]
+        return 0 if all(verdict.is_known for verdict in counted) else 1
 
     @property
     def options(self) -> str:
         """The options, as the first line of a report tells them."""
         told = self.analysis
         limited = 'yes' if told['limited'] else 'no'
-        tail = ' thresholds yes' if told.get('thresholds') else ''
+        tail = ''.join(f' {name} yes' for name in ('thresholds', 'fits') if told.get(name))
         numbers = f'parts {told["parts"]} delay {told["delay"]} narrow {told["narrow"]}'
         return f'{told["domain"]} {numbers} limited {limited}{tail}'
 
     @property
     def words(self) -> str:
         """The options, as words of a command."""
-        flags = ''.join(f' --{name}' for name in ('limited', 'thresholds') if self.analysis.get(name))
+        flags = ''.join(f' --{name}' for name in ('limited', 'thresholds', 'fits') if self.analysis.get(name))
         return ' '.join(f'--{name} {self.analysis[name]}' for name in ('domain', 'parts', 'delay', 'narrow')) + flags
 
     def places(self) -> dict[int, list[Point]]:
@@ -204,13 +248,14 @@ def read_point(told: object, number: int, domain: str, source: Source) -> Point:
     return Point(number, told['path'], line, column, offset, tuple(read_part(part, domain) for part in told['parts']))
 
 
-def read_verdicts(told: dict[str, Any], points: list[Point], source: Source) -> dict[int, Verdict]:
-    """The verdicts of all kinds, by their points' numbers."""
-    found: dict[int, Verdict] = {}
+def read_verdicts(told: dict[str, Any], points: list[Point], source: Source) -> dict[int, tuple[Verdict, ...]]:
+    """The verdicts of all kinds, by their points' numbers; those on one point in the order of the kinds."""
+    found: dict[int, tuple[Verdict, ...]] = {}
     for kind in KINDS:
-        listed = told.get(kind.key)
+        listed = told.get(kind.key, None if kind.stands(told['analysis']) else [])
         expect(isinstance(listed, list), f'no list of {kind.key}')
         assert isinstance(listed, list)
+        expect(not listed or kind.stands(told['analysis']), f'{kind.key}, and they are not asked for')
         for row in listed:
             expect(
                 isinstance(row, dict)
@@ -225,7 +270,9 @@ def read_verdicts(told: dict[str, Any], points: list[Point], source: Source) -> 
                 not kind.asks or token.text == kind.asks,
                 f'the report is of another source: no {kind.rule} at {point.line}:{point.column}',
             )
-            found[point.number] = Verdict(kind, row['verdict'] == kind.known)
+            said = found.get(point.number, ())
+            expect(all(verdict.kind is not kind for verdict in said), f'two rows of {kind.key} on one point')
+            found[point.number] = (*said, Verdict(kind, row['verdict'] == kind.known))
     return found
 
 
@@ -243,18 +290,20 @@ def read_report(data: bytes, source: Source) -> Report:
     expect(
         analysis.get('domain') in ('poly', 'box', 'oct')
         and isinstance(analysis.get('limited'), bool)
+        and all(isinstance(analysis.get(key, False), bool) for key in ('thresholds', 'fits'))
         and all(is_count(analysis.get(key)) for key in ('parts', 'delay', 'narrow')),
         'a report without its options',
     )
     points = [read_point(point, number, analysis['domain'], source) for number, point in enumerate(told['points'], 1)]
     expect(is_count(told.get('flagged')) and told['flagged'] <= len(points), 'a report without its flag')
     verdicts = read_verdicts(told, points, source)
-    counts = [
-        sum(verdict.is_known == known for verdict in verdicts.values() if verdict.kind is KINDS[0])
-        for known in (True, False)
-    ]
-    expect(counts == [told.get('proved'), told.get('unknown')], "a report whose counts aren't those of its verdicts")
-    return Report(analysis, told['flagged'], points, verdicts)
+    report = Report(analysis, told['flagged'], points, verdicts)
+    counted = [verdict.is_known for kind in KINDS if kind.counts for verdict in report.all_of(kind)]
+    expect(
+        [counted.count(True), counted.count(False)] == [told.get('proved'), told.get('unknown')],
+        "a report whose counts aren't those of its verdicts",
+    )
+    return report
 
 
 def read_source(name: str) -> Source:

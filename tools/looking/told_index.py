@@ -4,11 +4,11 @@ from dataclasses import dataclass
 from urllib.parse import quote
 
 from looking.findings import Findings
-from looking.reports import Refusal
+from looking.reports import KINDS, Refusal
 from looking.sources import decode
 from looking.told_page import POLICY, escaped, own_file
 
-COLUMNS = ('file', 'points', 'proved', 'unknown', 'unreachable', 'refused', 'flagged', 'milliseconds')
+COLUMNS = ('file', 'points', 'proved', 'unknown', 'overflow', 'unreachable', 'refused', 'flagged', 'milliseconds')
 
 
 @dataclass(frozen=True)
@@ -19,6 +19,7 @@ class Outcome:
     points: int = 0
     proved: int = 0
     unknown: int = 0
+    overflow: int | None = None
     unreachable: int = 0
     refused: str = ''
     flagged: str = ''
@@ -26,17 +27,20 @@ class Outcome:
 
     def cells(self) -> list[str]:
         if self.refused:
-            return [self.name, '', '', '', '', self.refused, '', f'{self.milliseconds:.0f}']
-        counts = (self.points, self.proved, self.unknown, self.unreachable)
-        return [self.name, *(str(count) for count in counts), '', self.flagged, f'{self.milliseconds:.0f}']
+            return [self.name, '', '', '', '', '', self.refused, '', f'{self.milliseconds:.0f}']
+        overflow = '' if self.overflow is None else str(self.overflow)
+        counts = (str(self.points), str(self.proved), str(self.unknown), overflow, str(self.unreachable))
+        return [self.name, *counts, '', self.flagged, f'{self.milliseconds:.0f}']
 
 
 def outcome_of(findings: Findings) -> Outcome:
-    """The row of one source; what no run reaches is counted in stretches of statements."""
+    """The row of one source; what may overflow is counted where it is asked for, what no run reaches in stretches of
+    statements."""
     answer, name = findings.answer, findings.source.name
     if isinstance(answer, Refusal):
         return Outcome(name, refused=f'{answer.name} at {answer.line}:{answer.column}')
-    known = sum(verdict.is_known for verdict in answer.verdicts.values())
+    asserted, fitting = (answer.all_of(kind) for kind in KINDS)
+    known = sum(verdict.is_known for verdict in asserted)
     flagged = ''
     if answer.flagged:
         point = answer.points[answer.flagged - 1]
@@ -45,7 +49,8 @@ def outcome_of(findings: Findings) -> Outcome:
         name,
         len(answer.points),
         known,
-        len(answer.verdicts) - known,
+        len(asserted) - known,
+        sum(not verdict.is_known for verdict in fitting) if KINDS[1].stands(answer.analysis) else None,
         len(findings.dead),
         '',
         flagged,
@@ -62,6 +67,7 @@ def total_of(outcomes: list[Outcome]) -> Outcome:
         sum(one.points for one in outcomes),
         sum(one.proved for one in outcomes),
         sum(one.unknown for one in outcomes),
+        sum(asked) if (asked := [one.overflow for one in outcomes if one.overflow is not None]) else None,
         sum(one.unreachable for one in outcomes),
         '',
         '',
@@ -73,7 +79,7 @@ def table_text(outcomes: list[Outcome]) -> str:
     """The table as text: columns of numbers to the right."""
     rows = [list(COLUMNS)] + [one.cells() for one in [*outcomes, total_of(outcomes)]]
     widths = [max(len(row[index]) for row in rows) for index in range(len(COLUMNS))]
-    left = (0, 5, 6)
+    left = (0, 6, 7)
     lines = [
         '  '.join(
             cell.ljust(width) if index in left else cell.rjust(width)
@@ -104,7 +110,11 @@ def index_row(one: Outcome, page: str) -> str:
     """A row of the page of links."""
     name, *cells = [escaped(decode(os.fsencode(cell))) for cell in one.cells()]
     link = f'<a href="{quote(os.fsencode(page))}">{name}</a>' if page else name
-    styles = {2: 'unknown' if one.unknown else '', 4: 'refused' if one.refused else ''}
+    styles = {
+        2: 'unknown' if one.unknown else '',
+        3: 'unknown' if one.overflow else '',
+        5: 'refused' if one.refused else '',
+    }
     return (
         f'<tr><th scope="row">{link}</th>'
         + ''.join(f'<td class="{styles.get(index, "")}">{cell}</td>' for index, cell in enumerate(cells))

@@ -25,7 +25,7 @@ def notes_of(findings: Findings, asked: Asked, place: str) -> list[str]:
     for point in asked.open_points:
         path = f'in {point.path}: ' if len(asked.points) > 1 or '/' in point.path else ''
         notes.append(f'{place}: note: {path}what is known here: {rows_text(point)}')
-        if told := findings.example(point):
+        if told := findings.example(asked.kind, point):
             notes.append(f'{place}: note: {path}{told.text}')
     return notes
 

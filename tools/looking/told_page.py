@@ -5,7 +5,7 @@ from collections.abc import Iterator
 from dataclasses import dataclass
 
 from looking.findings import REFUSALS, Findings
-from looking.reports import Part, Point, Refusal, Report
+from looking.reports import KINDS, Kind, Part, Point, Refusal, Report
 from looking.rows import read_generator
 from looking.sources import Source, decode
 
@@ -52,9 +52,17 @@ class Verdict:
         return f'<span class="verdict {self.style}">{self.sign} {word}</span>'
 
 
-PROVED, UNKNOWN = Verdict('proved', '✓', 'proved'), Verdict('unknown', '?', 'not proved')
 NEVER, REFUSED = Verdict('never', '∅', 'never reached'), Verdict('refused', '✗', 'refused')
-PROVED_NEVER = Verdict('proved', '✓', 'proved: never reached')
+
+
+def known_of(kind: Kind, is_reached: bool = True) -> Verdict:
+    """That it is known."""
+    return Verdict('proved', '✓', kind.known if is_reached else f'{kind.known}: never reached')
+
+
+def open_of(kind: Kind) -> Verdict:
+    """That it isn't."""
+    return Verdict('unknown', '?', kind.open)
 
 
 class Page:
@@ -126,27 +134,30 @@ class Page:
             generators_left = max(0, generators_left - len(part.generators or ()))
         return head + '<p class="or">or</p>'.join(parts)
 
-    def verdict(self, points: list[Point]) -> Verdict | None:
-        """What is said of these points of one place."""
+    def verdicts(self, points: list[Point]) -> list[tuple[Kind, Verdict]]:
+        """What is said of these points of one place, for each kind that is asked there."""
         assert self.report
-        told = [self.report.verdicts[point.number] for point in points if point.number in self.report.verdicts]
-        if not told:
-            return None
-        if not all(verdict.is_known for verdict in told):
-            return UNKNOWN
-        return PROVED if any(point.parts for point in points) else PROVED_NEVER
+        is_reached = any(point.parts for point in points)
+        found = []
+        for kind in KINDS:
+            told = [verdict for point in points if (verdict := self.report.verdict(point, kind))]
+            if told:
+                is_known = all(verdict.is_known for verdict in told)
+                found.append((kind, known_of(kind, is_reached) if is_known else open_of(kind)))
+        return found
 
     def point(self, point: Point, several: bool) -> str:
-        """One point: its path, its verdict, an example, what holds."""
-        verdict = self.verdict([point])
+        """One point: its path, its verdicts, an example, what holds."""
         path = (
             f'<p class="path">on the path <code>{escaped(point.path)}</code></p>'
             if several or '/' in point.path
             else ''
         )
-        told = f'<p>{verdict.text()}</p>' if verdict else ''
-        if verdict is UNKNOWN and (found := self.findings.example(point)):
-            told += f'<p class="example">{escaped(found.text)}</p>'
+        told = ''
+        for kind, verdict in self.verdicts([point]):
+            told += f'<p>{verdict.text()}</p>'
+            if verdict == open_of(kind) and (found := self.findings.example(kind, point)):
+                told += f'<p class="example">{escaped(found.text)}</p>'
         head = f'<div class="point" id="p{point.number}" data-path="{escaped(point.path)}">'
         return f'{head}{path}{told}{self.state(point)}</div>'
 
@@ -196,17 +207,18 @@ class Page:
         return texts
 
     def signs(self) -> dict[int, str]:
-        """The verdicts of each line, behind its text."""
+        """The verdicts of each line, behind its text; of kinds that don't count only what isn't known."""
         found: dict[int, str] = {}
         if isinstance(self.findings.answer, Refusal):
             return {self.findings.answer.line: f' {REFUSED.text()}'}
         for offset, points in self.places.items():
-            if verdict := self.verdict(points):
-                line, column = points[0].line, points[0].column
-                found[line] = (
-                    found.get(line, '')
-                    + f' <a class="sign" tabindex="-1" href="#a{line}-{column}">{verdict.text()}</a>'
-                )
+            for kind, verdict in self.verdicts(points):
+                if kind.counts or verdict == open_of(kind):
+                    line, column = points[0].line, points[0].column
+                    found[line] = (
+                        found.get(line, '')
+                        + f' <a class="sign" tabindex="-1" href="#a{line}-{column}">{verdict.text()}</a>'
+                    )
         for stretch in self.findings.dead:
             line = self.source.place(stretch.start)[0]
             if NEVER.word not in found.get(line, ''):
@@ -248,13 +260,12 @@ class Page:
                 f'{REFUSED.text()} line {answer.line}, column {self.source.utf16_column(answer.offset)}: {answer.name}'
                 f'{": " + escaped(meaning) if meaning else ""}'
             )
-        known = sum(asked.is_known for asked in self.findings.asked)
-        unknown = len(self.findings.asked) - known
-        told = [
-            verdict.text(count)
-            for count, verdict in ((unknown, UNKNOWN), (known, PROVED), (len(self.findings.dead), NEVER))
-            if count
-        ]
+        told = []
+        for kind in KINDS:
+            known = [asked.is_known for asked in self.findings.asked if asked.kind is kind]
+            told += [(known.count(False), open_of(kind)), (known.count(True), known_of(kind))]
+        told.append((len(self.findings.dead), NEVER))
+        counted = ' '.join(verdict.text(count) for count, verdict in told if count)
         flag = (
             f' · flagged from line {answer.points[answer.flagged - 1].line} on: what is told holds, and may be '
             'weaker than it could be'
@@ -262,7 +273,7 @@ class Page:
             else ''
         )
         domain = DOMAINS[answer.analysis['domain']]
-        return f'{" ".join(told) or "no assertion"} · over {domain}, <code>{answer.words}</code>{flag}'
+        return f'{counted or "no assertion"} · over {domain}, <code>{answer.words}</code>{flag}'
 
     def to_look_at(self) -> str:
         """Links to what is open."""

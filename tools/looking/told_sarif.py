@@ -108,7 +108,7 @@ def asked_message(findings: Findings, asked: Asked) -> str:
         if len(asked.points) > 1
         else ''
     )
-    told = findings.example(first)
+    told = findings.example(asked.kind, first)
     said = f'{asked.kind.fails[0].upper()}{asked.kind.fails[1:]}{count}. What is known here: {rows_text(first)}.'
     return f'{said} The state {told.text}.' if told else said
 
