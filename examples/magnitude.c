@@ -1,7 +1,7 @@
 #include "analysed.h"
 
-/* The magnitude of an int. Of the least int there is none: a run that asks for it ends, and of all others it is told
-   that none is below 0. The magnitude of a sample of 12 bits and a sign is at most 4096. */
+/* The magnitude of an int; of the least one there is none. With any int the sign may overflow, and a run where it does
+   ends: behind it none is below 0. With a sample of 12 bits and a sign it fits, and is at most 4096. */
 int magnitude(int x) {
   if (x < 0) return -x;
   return x;

@@ -1,7 +1,7 @@
 #include "analysed.h"
 
-/* The middle of two places in a sorted array, as binary search asks for it. Their distance is an int; their sum
-   can leave it where the array has more than 2^30 places (J. Bloch, 2006), and the run ends there: behind it the lower
+/* The middle of two places in a sorted array, as binary search asks for it. Their distance fits an int; their sum
+   may overflow where the array has more than 2^30 places (J. Bloch, 2006), and the run ends there: behind it the lower
    place is below 2^30. */
 int main(void) {
   long from = input(), to = input();

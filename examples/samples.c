@@ -1,6 +1,6 @@
 #include "analysed.h"
 
-/* A sum of at most 1,000 samples of 16 bits stays an int; that it does is a relation between the sum and the count. */
+/* A sum of at most 1,000 samples of 16 bits fits an int: a relation of sum and count, which only polyhedra tell. */
 int main(void) {
   int sum = 0, count = 0;
   while (count < 1000) {

@@ -6,47 +6,14 @@
 Each run has a stack of 1 MB and ten seconds of processor time. A function nests 63 levels in its body; 32 calls may stand
 on a path, 2,048 points in a program, 24 variables live at a point. Wants `cc` for its last row.
 """
+from levels import BLOCK, COUNTING, DECLARED, IF, IF_BLOCK, MIXED, SINGLE, WHILE, WHILE_BLOCK
+from levels import nested, points_of, stacked
 from memory import refuse_each
 from trial import case, ended, refused
 
 DOMAINS = ('box', 'oct', 'poly')
 WAYS = [f'analyse --domain {domain}{more}' for domain in DOMAINS for more in ('', ' --parts 16 --delay 8')]
 LIMIT = 10
-
-# What opens a level, how many points it has, what closes it, and where the token stands that opens the level, from the
-# end of what opens it.
-WHILE = ('while(input()) ', 1, '', 1)
-IF = ('if(input()) ', 1, '', 1)
-FOR = ('for(;input();) ', 1, '', 1)
-BLOCK = ('{ ', 1, '}', -1)
-ELSE = ('if(input()) ; else ', 2, '', -6)
-WHILE_BLOCK = ('while(input()){ ', 2, '}', -1)
-IF_BLOCK = ('if(input()){ ', 2, '}', -1)
-MIXED = ('while(input()) if(input()) { for(;input();) ', 4, '}', 1)
-COUNTING = ('for(x=1;x<3;x=x+1) ', 3, '', 1)
-DECLARED = ('{ long v; ', 2, '}', 1)
-SINGLE = {'while': WHILE, 'if': IF, 'for': FOR, 'blocks': BLOCK, 'else': ELSE}
-
-
-def nested(level, depth, inside=';'):
-    """So many levels, one in the other."""
-    return level[0] * depth + inside + level[2] * depth
-
-
-def stacked(level, depth, functions, begins='', inside=';'):
-    """Functions each of which nests so many levels round a call of the one before it; `main` is the last."""
-    lines = []
-    for number in range(functions):
-        body = begins + nested(level, depth, f'f{number - 1}();' if number else inside)
-        head = 'int main(void)' if number == functions - 1 else f'void f{number}(void)'
-        lines.append(f'{head}{{ {body} }}')
-    return '\n'.join(lines)
-
-
-def points_of(level, depth, functions):
-    """The points of `stacked`: those of the levels, and in each function that of what stands inside, and its end."""
-    return functions * (level[1] * depth + 2)
-
 
 def answered(name, source, points, lacks=('unreachable',)):
     """A row in each way: nothing is flagged, and each of the points has its line."""

@@ -48,6 +48,10 @@ RUNS = [
         '{"analysis":{"delay":1,"domain":"poly","limited":false,"narrow":1,"parts":1},"asserts":[],"flagged":0,'
         '"points":[{"number":1,"parts":[{"generators":["point"],"rows":[]}],"path":"main","place":"1:16"}],'
         '"proved":0,"unknown":0}\n']),
+    ('analyse --domain box --fits',
+     'int f(long a){ return a; } int main(void){ int x; if(x>-5 && -x>0) x=f(x*2L); }', 0, [
+         '\nfit 2 main 1:51 fits\nfit 3 main 1:68 fits\n'
+         'fit 4 main/f@1:70 1:16 fits\nverdicts proved 0 unknown 0\n']),
     ('analyse --domain cube', '', 3, ['refused usage\n']),
 ]
 
