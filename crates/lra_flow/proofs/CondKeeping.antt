@@ -5,14 +5,18 @@ use Rattle.std.proofs.lemmas.Int.{ints}
 use Rattle.lra_base.specs.Operators.{Comparison, below, at_most, above, at_least, equal, differs}
 use Rattle.lra_program.specs.Program.{Expr, literal, Cond, compare, nonzero, opposite, both_of, either_of}
 use Rattle.lra_program.specs.Value.{Scene, Drawn, is_zero, compares, value_of, truth_of}
-use Rattle.lra_lin.specs.Form.{Form, form_value}
 use Rattle.lra_lin.specs.declared.test.Test.{Test}
-use Rattle.lra_flow.specs.Linear.{TestHolds, comparison_test, difference_in}
-use Rattle.lra_domain.specs.Moves.{join_of, MayLead}
-use Rattle.lra_flow.specs.MovesOf.{opposite_comparison, comparison_as, test_moves, comparison_moves, guard}
+use Rattle.lra_flow.specs.declared.seen.Division.{Division}
+use Rattle.lra_flow.specs.declared.seen.Seen.{Seen}
+use Rattle.lra_flow.specs.declared.seen.Seen.TheVariants.{Linear, Divided, Unseen}
+use Rattle.lra_flow.specs.Linear.{TestHolds, comparison_test}
+use Rattle.lra_flow.specs.Seen.{Divides, with_both, seen_of, difference_seen}
+use Rattle.lra_domain.specs.Moves.{MayLead}
+use Rattle.lra_flow.specs.MovesOf.{opposite_comparison, comparison_as, tested, test_moves, case_moves, seen_moves, split_moves, comparison_moves, guard}
 use Rattle.lra_base.specs.declared.number_types.NumberType.TheVariants.{Int}
 use Rattle.lra_program.proofs.TypeLaws.{bind_some}
-use Rattle.lra_flow.proofs.FormLemmas.{some_first, test_is_right, differs_by_tests, difference_is_right, compared}
+use Rattle.lra_flow.proofs.FormLemmas.{some_first, lt_decides, gt_decides, ne_decides, test_is_right, compared}
+use Rattle.lra_flow.proofs.DivisionLemmas.{SeenIs, seen_tested, subtracted_is, seen_right}
 
 -- what `!` does to a comparison
 opposite_is : (op : Comparison) (x y : ℤ) → compares op x y ≡ false → compares (opposite_comparison op) x y ≡ true
@@ -68,41 +72,64 @@ module _ (store : List ℤ) where
   test_leads None passes = refl
   test_leads (Some t) passes = (passes t refl, refl)
 
-  -- one side of `!=` passes, or has no test
-  differs_leads : (d : Form) (x y : ℤ) (one two : Option Test) → form_value d store ≡ x -ℤ y → IsTrue (compares differs x y)
-      → comparison_test below d ≡ one → comparison_test above d ≡ two → MayLead (join_of (test_moves one) (test_moves two)) store store
-  differs_leads d x y None two is so less more = inl refl
-  differs_leads d x y (Some t) None is so less more = inr refl
-  differs_leads d x y (Some t) (Some u) is so less more = elim ((differs_by_tests d t u store x y is less more).0 so) [ inl a ↦ inl (a, refl) | inr b ↦ inr (b, refl) ]
+  -- over a division's cases, too
+  case_leads : (c : Division) (o : Option Test) → Divides c (length store) → ((t : Test) → o ≡ Some t → TestHolds t (with_both c store))
+      → MayLead (case_moves (length store) c o) store store
+  case_leads c None divides passes = refl
+  case_leads c (Some t) divides passes = seen_tested c (tested t) store divides (passes t refl, refl)
 
-  comparison_leads : (op : Comparison) (d : Form) (x y : ℤ) → form_value d store ≡ x -ℤ y → IsTrue (compares op x y) → MayLead (comparison_moves op (Some d)) store store
-  comparison_leads differs d x y is so = differs_leads d x y (comparison_test below d) (comparison_test above d) is so refl refl
-  comparison_leads below d x y is so = test_leads (comparison_test below d) (λ t e. (test_is_right below d t store x y is e).0 so)
-  comparison_leads at_most d x y is so = test_leads (comparison_test at_most d) (λ t e. (test_is_right at_most d t store x y is e).0 so)
-  comparison_leads above d x y is so = test_leads (comparison_test above d) (λ t e. (test_is_right above d t store x y is e).0 so)
-  comparison_leads at_least d x y is so = test_leads (comparison_test at_least d) (λ t e. (test_is_right at_least d t store x y is e).0 so)
-  comparison_leads equal d x y is so = test_leads (comparison_test equal d) (λ t e. (test_is_right equal d t store x y is e).0 so)
+  -- a comparison other than `!=`, where its test passes wherever it is true
+  seen_leads : (op : Comparison) (w : Seen) (x y : ℤ) → SeenIs w store (x -ℤ y) → IsTrue (compares op x y)
+      → MayLead (seen_moves (length store) op w) store store
+  seen_leads op (Linear d) x y is so = test_leads (comparison_test op d) (λ t e. (test_is_right op d t store x y is.1 e).0 so)
+  seen_leads op (Divided c d) x y is so = case_leads c (comparison_test op d) is.0.0 (λ t e. (test_is_right op d t (with_both c store) x y is.1 e).0 so)
+  seen_leads op Unseen x y is so = refl
+
+  -- over whole numbers the one is below the other, or above it
+  differs_is : (x y : ℤ) → IsTrue (compares differs x y) → IsTrue (compares below x y) ⊎ IsTrue (compares above x y)
+  differs_is x y so = elim ((ne_decides x y (x -ℤ y) refl).0 so) [
+    | inl a ↦ inl ((lt_decides x y (x -ℤ y) refl).1 a)
+    | inr b ↦ inr ((gt_decides x y (x -ℤ y) refl).1 b)
+  ]
+
+  split_leads : (op : Comparison) (w : Seen) (x y : ℤ) → SeenIs w store (x -ℤ y) → IsTrue (compares op x y)
+      → MayLead (split_moves (length store) op w) store store
+  split_leads differs w x y is so = elim (differs_is x y so) [ inl a ↦ inl (seen_leads below w x y is a) | inr b ↦ inr (seen_leads above w x y is b) ]
+  split_leads below w x y is so = seen_leads below w x y is so
+  split_leads at_most w x y is so = seen_leads at_most w x y is so
+  split_leads above w x y is so = seen_leads above w x y is so
+  split_leads at_least w x y is so = seen_leads at_least w x y is so
+  split_leads equal w x y is so = seen_leads equal w x y is so
+
+  comparison_leads : (op : Comparison) (w : Seen) (x y : ℤ) → SeenIs w store (x -ℤ y) → IsTrue (compares op x y)
+      → MayLead (comparison_moves (length store) op w) store store
+  comparison_leads op (Linear d) x y is so = split_leads op (Linear d) x y is so
+  comparison_leads op (Divided c d) x y is so = split_leads op (Divided c d) x y is so
+  comparison_leads op Unseen x y is so = refl
 
 module _ (s : Scene) where
   -- the first answer of a condition
   answered : (c : Cond) (draws rest : List ℤ) (so wanted : Bool) → so ≡ wanted → truth_of c s draws ≡ Some (so, rest) → truth_of c s draws ≡ Some (wanted, rest)
   answered c draws rest so wanted e got = subst (λ (b : Bool). truth_of c s draws ≡ Some (b, rest)) e got
 
-  -- linear or not
-  compare_leads : (op : Comparison) (a b : Expr) (draws middle last : List ℤ) (x y : ℤ) (o : Option Form) → difference_in s a b ≡ o
-      → value_of a s draws ≡ Some (x, middle) → value_of b s middle ≡ Some (y, last) → IsTrue (compares op x y) → MayLead (comparison_moves op o) s.store s.store
-  compare_leads op a b draws middle last x y None is has_x has_y so = refl
-  compare_leads op a b draws middle last x y (Some d) is has_x has_y so = comparison_leads s.store op d x y (difference_is_right s a b d draws middle last x y is has_x has_y) so
+  -- by what is seen of both sides
+  compare_leads : (op : Comparison) (a b : Expr) (draws middle last : List ℤ) (x y : ℤ) → value_of a s draws ≡ Some (x, middle)
+      → value_of b s middle ≡ Some (y, last) → IsTrue (compares op x y)
+      → MayLead (comparison_moves (length s.store) op (difference_seen (length s.store) s.base a b)) s.store s.store
+  compare_leads op a b draws middle last x y has_x has_y so =
+      let n = length s.store in
+      comparison_leads s.store op (difference_seen n s.base a b) x y
+      (subtracted_is (seen_of n s.base a) (seen_of n s.base b) s.store x y (seen_right s a draws middle x has_x) (seen_right s b middle last y has_y)) so
 
   -- a condition that is as wanted at the store leaves it
   pub cond_leads : (c : Cond) (wanted : Bool) (draws left : List ℤ) → truth_of c s draws ≡ Some (wanted, left) → MayLead (guard (length s.store) s.base wanted c) s.store s.store
   cond_leads (compare op a b) wanted draws left ran =
       let c = compared s op a b draws left wanted ran in
-      compare_leads (comparison_as wanted op) a b draws c.middle c.last c.x c.y (difference_in s a b) refl c.has_x c.has_y (as_wanted wanted op c.x c.y c.is)
+      compare_leads (comparison_as wanted op) a b draws c.middle c.last c.x c.y c.has_x c.has_y (as_wanted wanted op c.x c.y c.is)
   cond_leads (nonzero e) wanted draws left ran =
       let (r, got, to) = bind_some (value_of e s draws) (λ r. Some (not (is_zero r.0), r.1)) (wanted, left) ran in
       let so = zero_differs r.0 ∙ some_first (not (is_zero r.0)) wanted r.1 left to in
-      compare_leads (comparison_as wanted differs) e (literal Int 0) draws r.1 r.1 r.0 (pos 0) (difference_in s e (literal Int 0)) refl got refl (as_wanted wanted differs r.0 (pos 0) so)
+      compare_leads (comparison_as wanted differs) e (literal Int 0) draws r.1 r.1 r.0 (pos 0) got refl (as_wanted wanted differs r.0 (pos 0) so)
   cond_leads (opposite c) wanted draws left ran =
       let (r, got, to) = bind_some (truth_of c s draws) (λ r. Some (not r.0, r.1)) (wanted, left) ran in
       let answer : r.0 ≡ not wanted = not_is r.0 wanted (some_first (not r.0) wanted r.1 left to) in

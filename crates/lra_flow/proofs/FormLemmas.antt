@@ -135,11 +135,11 @@ entrywise_length op [] gs e = refl
 entrywise_length op (f ∷ fs) [] e = absurd (omega (arith, e))
 entrywise_length op (f ∷ fs) (g ∷ gs) e = ap suc (entrywise_length op fs gs (omega (arith, e)))
 
-map_length : (f : ℤ → ℤ) (xs : List ℤ) → length (map f xs) ≡ length xs
+pub map_length : (f : ℤ → ℤ) (xs : List ℤ) → length (map f xs) ≡ length xs
 map_length f [] = refl
 map_length f (x ∷ xs) = ap suc (map_length f xs)
 
-copies_length : (n : ℕ) (z : ℤ) → length (replicate n z) ≡ n
+pub copies_length : (n : ℕ) (z : ℤ) → length (replicate n z) ≡ n
 copies_length zero z = refl
 copies_length (suc n) z = ap suc (copies_length n z)
 
@@ -155,7 +155,7 @@ pub record Wide (live : ℕ) (f : Form) : Type 0 where
 wide_same : (live : ℕ) (f g : Form) → f ≡ g → Wide live f → Wide live g
 wide_same live f g e w = record { width = sym (ap (λ (x : Form). length x.coefficients) e) ∙ w.width }
 
-combined_wide : (live : ℕ) (op : ℤ → ℤ → ℤ) (f g h : Form) → combined op f g ≡ Some h → Wide live f → Wide live g → Wide live h
+pub combined_wide : (live : ℕ) (op : ℤ → ℤ → ℤ) (f g h : Form) → combined op f g ≡ Some h → Wide live f → Wide live g → Wide live h
 combined_wide live op f g h e a b =
     wide_same live _ h (fitting_same (combination op f g) h e) (record { width = entrywise_length op f.coefficients g.coefficients (a.width ∙ sym b.width) ∙ a.width })
 
@@ -321,13 +321,13 @@ passes_same f t store z e is =
     (λ h. subst (λ (x : Test). TestHolds x store) e (subst (λ (y : ℤ). pos 0 ≤ℤ y) (sym is) h), λ h. subst (λ (y : ℤ). pos 0 ≤ℤ y) is (subst (λ (x : Test). TestHolds x store) (sym e) h))
 
 -- over whole numbers
-lt_decides : (x y w : ℤ) → w ≡ x -ℤ y → IsTrue (int_lt x y) ↔ (pos 0 ≤ℤ ((pos 0 -ℤ w) -ℤ pos 1))
+pub lt_decides : (x y w : ℤ) → w ≡ x -ℤ y → IsTrue (int_lt x y) ↔ (pos 0 ≤ℤ ((pos 0 -ℤ w) -ℤ pos 1))
 lt_decides x y w e = (λ h. grind (arith, ints), λ h. grind (arith, ints))
 
 le_decides : (x y w : ℤ) → w ≡ x -ℤ y → IsTrue (int_le x y) ↔ (pos 0 ≤ℤ (pos 0 -ℤ w))
 le_decides x y w e = (λ h. grind (arith, ints), λ h. grind (arith, ints))
 
-gt_decides : (x y w : ℤ) → w ≡ x -ℤ y → IsTrue (int_lt y x) ↔ (pos 0 ≤ℤ (w -ℤ pos 1))
+pub gt_decides : (x y w : ℤ) → w ≡ x -ℤ y → IsTrue (int_lt y x) ↔ (pos 0 ≤ℤ (w -ℤ pos 1))
 gt_decides x y w e = (λ h. grind (arith, ints), λ h. grind (arith, ints))
 
 ge_decides : (x y w : ℤ) → w ≡ x -ℤ y → IsTrue (int_le y x) ↔ (pos 0 ≤ℤ w)
@@ -336,7 +336,8 @@ ge_decides x y w e = (λ h. grind (arith, ints), λ h. grind (arith, ints))
 eq_decides : (x y w : ℤ) → w ≡ x -ℤ y → IsTrue (if int_le x y then int_le y x else false) ↔ (w ≡ pos 0)
 eq_decides x y w e = (λ h. grind (arith, ints), λ h. grind (arith, ints))
 
-ne_decides : (x y w : ℤ) → w ≡ x -ℤ y → IsTrue (not (if int_le x y then int_le y x else false)) ↔ ((pos 0 ≤ℤ ((pos 0 -ℤ w) -ℤ pos 1)) ⊎ (pos 0 ≤ℤ (w -ℤ pos 1)))
+pub ne_decides : (x y w : ℤ) → w ≡ x -ℤ y → IsTrue (not (if int_le x y then int_le y x else false))
+    ↔ ((pos 0 ≤ℤ ((pos 0 -ℤ w) -ℤ pos 1)) ⊎ (pos 0 ≤ℤ (w -ℤ pos 1)))
 ne_decides x y w e = (λ h. grind (arith, ints), λ h. grind (arith, ints))
 
 both_ways : {A B C : Type 0} → A ↔ B → B ↔ C → A ↔ C

@@ -2,7 +2,7 @@
 use Rattle.std.proofs.Common.{◌≡◌, ℕ, zero, suc, ◌+◌, ◌-◌, ◌≤◌, ◌++◌, ℤ, pos, List, [], ◌∷◌, Option, Some, None, Bool, true, false, length, take, refl, sym, ap, subst, ◌∙◌, arith, inl, inr}
 use Rattle.std.proofs.Common.{append_assoc, append-nil, length-append}
 use Rattle.std.specs.Prelude.{map, ◌-ℤ◌, ◌+ℤ◌, ◌*ℤ◌, ◌≤ℤ◌, negsuc, ◌⊎◌, replicate, slice_set, slice_get}
-use Rattle.lra_domain.specs.Actions.{Leads, embed}
+use Rattle.lra_domain.specs.Actions.{embed}
 use Rattle.lra_lin.specs.Form.{Form}
 use Rattle.lra_base.specs.declared.number_types.NumberType.{NumberType}
 use Rattle.lra_base.specs.declared.number_types.NumberType.TheVariants.{Int, Long}
@@ -19,14 +19,17 @@ use Rattle.lra_program.specs.Step.{State, Op, append, give, give_any, push, keep
 use Rattle.lra_program.proofs.TypeLaws.{bind_some, number_fits}
 use Rattle.lra_program.specs.Step as step
 use Rattle.lra_flow.specs.Linear as linear
-use Rattle.lra_flow.specs.Linear.{form_in}
+use Rattle.lra_flow.specs.declared.seen.Seen.{Seen}
+use Rattle.lra_flow.specs.declared.seen.Seen.TheVariants.{Linear, Unseen}
+use Rattle.lra_flow.specs.Seen.{seen_of}
 use Rattle.lra_domain.specs.Moves.{Moves, make, MayLead}
 use Rattle.lra_flow.specs.MovesOf.{above_least, below_greatest, within_type, set_to, append_set, push_all, set_target, drop_last, moves_of, first_values, guard}
 use Rattle.lra_linear.proofs.Ring.{ring, v, ◌⊗◌}
 use Rattle.std.proofs.lemmas.Bool.{and_parts}
 use Rattle.std.proofs.lemmas.Int.{ints}
 use Rattle.lra_lin.specs.Form.{form_value}
-use Rattle.lra_flow.proofs.FormLemmas.{number_same, pair_first, product_at, product_out, minus_is, set_length, constant_form_value, forms_are_right}
+use Rattle.lra_flow.proofs.FormLemmas.{number_same, pair_first, product_at, product_out, minus_is, set_length, constant_form_value}
+use Rattle.lra_flow.proofs.DivisionLemmas.{seen_set, seen_right}
 use Rattle.lra_flow.proofs.CondKeeping.{cond_leads}
 
 -- values with more variables -------------------------------------------------------------------------------------------
@@ -111,10 +114,9 @@ last_long xs z = let one : suc (length xs) ≡ length xs + 1 = omega arith in on
 -- least changes ---------------------------------------------------------------------------------------------------------
 
 -- the variable gets the expression's value
-set_leads : (s : Scene) (x : ℕ) (e : Expr) (draws left : List ℤ) (z : ℤ) (o : Option Form) → form_in s e ≡ o → value_of e s draws ≡ Some (z, left)
-    → Leads (set_to x o) s.store (slice_set s.store x z)
-set_leads s x e draws left z None is ran = (z, refl)
-set_leads s x e draws left z (Some f) is ran = ap (λ (y : ℤ). slice_set s.store x y) (sym (forms_are_right s e f draws left z is ran))
+set_leads : (s : Scene) (x : ℕ) (e : Expr) (draws left : List ℤ) (z : ℤ) → value_of e s draws ≡ Some (z, left)
+    → MayLead (set_to (length s.store) x (seen_of (length s.store) s.base e)) s.store (slice_set s.store x z)
+set_leads s x e draws left z ran = seen_set (seen_of (length s.store) s.base e) s.store x z (seen_right s e draws left z ran)
 
 set_last : (xs : List ℤ) (z : ℤ) → slice_set (xs ++ z ∷ []) (length xs) z ≡ xs ++ z ∷ []
 set_last [] z = refl
@@ -122,19 +124,24 @@ set_last (x ∷ xs) z = ap (λ (ys : List ℤ). x ∷ ys) (set_last xs z)
 
 -- a new variable with the value of an argument that is evaluated without the variables behind
 argument_leads : (s : Scene) (t : NumberType) (e : Expr) (more draws left : List ℤ) (z : ℤ) → value_of e s draws ≡ Some (z, left) → fits t z ≡ true
-    → (let all : List ℤ = s.store ++ more in MayLead (within_type t (suc (length all)) (length all) (append_set (length all) (linear.form_of (suc (length all)) s.base e))) all (all ++ z ∷ []))
+    → (let all : List ℤ = s.store ++ more in
+    MayLead (within_type t (suc (length all)) (length all) (append_set (length all) (seen_of (suc (length all)) s.base e))) all (all ++ z ∷ []))
 argument_leads s t e more draws left z ran fit =
     let all = s.store ++ more in
     let next = all ++ z ∷ [] in
     let long : length next ≡ suc (length all) = sym (last_long all z) in
     let longer_yet : value_of e (record s { store = next }) draws ≡ Some (z, left) =
     subst (λ (xs : List ℤ). value_of e (record s { store = xs }) draws ≡ Some (z, left)) (sym (append_assoc s.store more (z ∷ []))) (value_longer e s (more ++ z ∷ []) draws (z, left) ran) in
-    let led : Leads (set_to (length all) (linear.form_of (length next) s.base e)) next (slice_set next (length all) z) =
-    set_leads (record s { store = next }) (length all) e draws left z (linear.form_of (length next) s.base e) refl longer_yet in
-    let there : Leads (set_to (length all) (linear.form_of (suc (length all)) s.base e)) next (slice_set next (length all) z) =
-    subst (λ (n : ℕ). Leads (set_to (length all) (linear.form_of n s.base e)) next (slice_set next (length all) z)) long led in
-    within_type_keeps t (append_set (length all) (linear.form_of (suc (length all)) s.base e)) (suc (length all)) all next (length all) z (last_long all z) (inl (get_last all z)) fit
-    (next, (z ∷ [], refl, refl), subst (λ (xs : List ℤ). Leads (set_to (length all) (linear.form_of (suc (length all)) s.base e)) next xs) (set_last all z) there)
+    let led : MayLead (set_to (length next) (length all) (seen_of (length next) s.base e)) next (slice_set next (length all) z) =
+    set_leads (record s { store = next }) (length all) e draws left z longer_yet in
+    let there : MayLead (set_to (suc (length all)) (length all) (seen_of (suc (length all)) s.base e)) next (slice_set next (length all) z) =
+    subst (λ (n : ℕ). MayLead (set_to n (length all) (seen_of n s.base e)) next (slice_set next (length all) z)) long led in
+    within_type_keeps t (append_set (length all) (seen_of (suc (length all)) s.base e)) (suc (length all)) all next (length all) z
+    (last_long all z) (inl (get_last all z)) fit (
+      next,
+      (z ∷ [], refl, refl),
+      subst (λ (xs : List ℤ). MayLead (set_to (suc (length all)) (length all) (seen_of (suc (length all)) s.base e)) next xs) (set_last all z) there,
+    )
 
 arguments_lead : (s : Scene) (given : List Argument) (more draws : List ℤ) (r : List ℤ × List ℤ) → values_of given s draws ≡ Some r
     → (let all : List ℤ = s.store ++ more in MayLead (push_all (length all) s.base given) all (all ++ r.0))
@@ -180,27 +187,30 @@ received x s t (Some r) e = by (accepts x r.0) refl e
     by false ok h = cc
 
 -- the target, where there is one, gets a number of its type
-target_leads : (o : Option Target) (f : Option Form) (store : List ℤ) (z : ℤ) → target_accepts o z ≡ true → ((x : ℕ) → Leads (set_to x f) store (slice_set store x z))
-    → MayLead (set_target (length store) o f) store (put o z store)
-target_leads None f store z ok led = refl
-target_leads (Some t) f store z ok led = within_type_keeps t.number_type (make (set_to t.place f)) (length store) store (slice_set store t.place z) t.place z (sym (set_length store t.place z))
-    (get_set store t.place z) ok (led t.place)
+target_leads : (o : Option Target) (w : Seen) (store : List ℤ) (z : ℤ) → target_accepts o z ≡ true
+    → ((x : ℕ) → MayLead (set_to (length store) x w) store (slice_set store x z))
+    → MayLead (set_target (length store) o w) store (put o z store)
+target_leads None w store z ok led = refl
+target_leads (Some t) w store z ok led =
+    within_type_keeps t.number_type (set_to (length store) t.place w) (length store) store (slice_set store t.place z) t.place z
+    (sym (set_length store t.place z)) (get_set store t.place z) ok (led t.place)
 
 given_leads : (base : ℕ) (x : Receiver) (e : Expr) (s t : State) → receive x s (value_of e (scene_at base s) s.draws) ≡ Some t
-    → MayLead (set_target (length s.store) x.target (linear.form_of (length s.store) base e)) s.store t.store
+    → MayLead (set_target (length s.store) x.target (seen_of (length s.store) base e)) s.store t.store
 given_leads base x e s t is =
     let r = received x s t (value_of e (scene_at base s) s.draws) is in
-    let f = linear.form_of (length s.store) base e in
-    subst (λ (xs : List ℤ). MayLead (set_target (length s.store) x.target f) s.store xs) r.stored
-    (target_leads x.target f s.store r.drawn.0 r.accepted (λ k. set_leads (scene_at base s) k e s.draws r.drawn.1 r.drawn.0 f refl r.is))
+    let w = seen_of (length s.store) base e in
+    subst (λ (xs : List ℤ). MayLead (set_target (length s.store) x.target w) s.store xs) r.stored
+    (target_leads x.target w s.store r.drawn.0 r.accepted (λ k. set_leads (scene_at base s) k e s.draws r.drawn.1 r.drawn.0 r.is))
 
-any_leads : (o : Option Target) (x : Receiver) (s t : State) → x.target ≡ o → drawn_for o x s ≡ Some t → MayLead (set_target (length s.store) o None) s.store t.store
+any_leads : (o : Option Target) (x : Receiver) (s t : State) → x.target ≡ o → drawn_for o x s ≡ Some t
+    → MayLead (set_target (length s.store) o Unseen) s.store t.store
 any_leads None x s t same is = sym (store_is s t is)
 any_leads (Some y) x s t same is =
     let r = received x s t (draw s.draws) is in
     let stored : put (Some y) r.drawn.0 s.store ≡ t.store = subst (λ (o : Option Target). put o r.drawn.0 s.store ≡ t.store) same r.stored in
-    subst (λ (xs : List ℤ). MayLead (set_target (length s.store) (Some y) None) s.store xs) stored
-    (target_leads (Some y) None s.store r.drawn.0 (subst (λ (o : Option Target). target_accepts o r.drawn.0 ≡ true) same r.accepted) (λ k. (r.drawn.0, refl)))
+    subst (λ (xs : List ℤ). MayLead (set_target (length s.store) (Some y) Unseen) s.store xs) stored
+    (target_leads (Some y) Unseen s.store r.drawn.0 (subst (λ (o : Option Target). target_accepts o r.drawn.0 ≡ true) same r.accepted) (λ k. (r.drawn.0, refl)))
 
 pushed_leads : (base : ℕ) (given : List Argument) (s t : State) (o : Drawn (List ℤ)) → values_of given (scene_at base s) s.draws ≡ o → pushed s o ≡ Some t
     → MayLead (push_all (length s.store) base given) s.store t.store
@@ -266,7 +276,7 @@ first_lead (g ∷ gs) good s =
     let z = g.value in
     let next = s ++ z ∷ [] in
     let rest : List ℤ = map (λ (g : GlobalVariable). g.value) gs in
-    let p = append_set (length s) (Some (linear.constant_form (suc (length s)) z)) in
+    let p = append_set (length s) (Linear (linear.constant_form (suc (length s)) z)) in
     let later : MayLead (first_values (suc (length s)) gs) next (next ++ rest) =
     subst (λ (n : ℕ). MayLead (first_values n gs) next (next ++ rest)) (sym (last_long s z)) (first_lead gs good.1 next) in (
       next,

@@ -3,6 +3,7 @@ pub mod Transfer
 pub mod Unflagged
 -- Forms and tests mean what their expressions and comparisons do.
 pub mod FormLemmas
+pub mod DivisionLemmas
 pub mod CondKeeping
 pub mod Keeping
 -- The values of a derivation have all stores of the runs.
@@ -17,6 +18,7 @@ pub mod Caps
 mod PieceExamples
 mod LinearExamples
 mod MovesExamples
+mod DivisionExamples
 mod ThresholdExamples
 mod FitsExamples
 -- What moves do behind others.

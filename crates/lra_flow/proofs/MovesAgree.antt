@@ -1,15 +1,14 @@
--- Moves say what four definitions said apart: lists of actions for the least changes, conditions with `!` pushed to
--- their comparisons, tests and joins of pairs of a value and the exactness of what led to it, and the rows that a loop's
--- condition gives. Both say the same, so a pass by the ones is a pass by the others.
+-- Moves say what four definitions said apart: lists of steps for the least changes, each an action or a division's two cases, conditions
+-- with `!` pushed to their comparisons, tests and joins of pairs of a value and the exactness of what led to it, and the rows that a
+-- loop's condition gives. Both say the same, so a pass by the ones is a pass by the others.
 use Rattle.std.proofs.Common.{◌≡◌, ℕ, zero, suc, ◌-◌, ℤ, List, [], ◌∷◌, ◌++◌, Option, None, Some, Bool, true, false, refl, sym, ap, subst, ◌∙◌}
 use Rattle.std.specs.Prelude.{◌↔◌, not}
 use Rattle.lra_base.specs.Operators.{Comparison, below, at_most, above, at_least, equal, differs}
 use Rattle.lra_domain.specs.Actions as action
-use Rattle.lra_domain.specs.Actions.{Action, embed, remove_last}
+use Rattle.lra_domain.specs.Actions.{Action, assign, forget, embed, remove_last}
 use Rattle.lra_domain.specs.Meaning.{worse}
 use Rattle.lra_domain.specs.declared.Exactness.{Exactness}
 use Rattle.lra_domain.specs.declared.Exactness.TheVariants.{Exact}
-use Rattle.lra_lin.specs.Form.{Form}
 use Rattle.lra_lin.specs.declared.test.Test.{Test}
 use Rattle.lra_base.specs.declared.number_types.NumberType.TheVariants.{Int, Long}
 use Rattle.lra_base.specs.declared.number_types.NumberType.{NumberType}
@@ -21,47 +20,69 @@ use Rattle.lra_program.specs.Program.{Expr, literal, Cond, compare, nonzero, opp
 use Rattle.lra_program.specs.Step.{Op, append, give, give_any, push, keep, test}
 use Rattle.lra_flow.specs.Linear as linear
 use Rattle.lra_flow.specs.Linear.{comparison_test, difference_form}
+use Rattle.lra_flow.specs.declared.seen.Division.{Division}
+use Rattle.lra_flow.specs.declared.seen.Seen.{Seen}
+use Rattle.lra_flow.specs.declared.seen.Seen.TheVariants.{Linear, Divided, Unseen}
+use Rattle.lra_flow.specs.Seen.{seen_of, difference_seen}
 use Rattle.lra_flow.specs.Operations.{Operations}
 use Rattle.lra_flow.specs.Given.{comparison_rows, inequalities, given_rows, guard_rows}
 use Rattle.lra_flow.proofs.Takes.{worse_exact, worse_worse, stay_takes, then_takes, join_takes, takes_made}
 use Rattle.lra_domain.specs.Moves.{Moves, stay, make, first_then, join_of}
 use Rattle.lra_flow.specs.Moves.{AreMade, Takes}
-use Rattle.lra_flow.specs.MovesOf.{opposite_comparison, comparison_as, tested, test_moves, comparison_moves, guard, above_least, below_greatest, within_type, set_to, append_set, push_all, set_target, drop_last, first_values}
+use Rattle.lra_flow.specs.MovesOf.{opposite_comparison, comparison_as, tested, first_case, second_case, in_case, in_cases, test_moves, case_moves, seen_moves}
+use Rattle.lra_flow.specs.MovesOf.{split_moves, comparison_moves, guard, above_least, below_greatest, within_type, set_to, append_set, push_all, set_target}
+use Rattle.lra_flow.specs.MovesOf.{drop_last, first_values}
 use Rattle.lra_flow.specs.Pass.{Leaves, Changes}
 
 -- as it was said -------------------------------------------------------------------------------------------------------
 
--- a least change other than a condition, as a list of actions; behind what gives an `int` its value two tests
-abbrev pub within_steps : NumberType → ℕ → ℕ → List Action → List Action
+-- an action, or one list of actions and another one, whose values are joined
+pub data Step : Type 0 where
+  act : Action → Step
+  two_cases : List Action → List Action → Step
+
+-- an action as a division's cases have it
+abbrev pub in_both : ℕ → Division → Action → Step
+in_both live d step = two_cases (first_case live d ++ step ∷ remove_last 2 ∷ []) (second_case live d ++ step ∷ remove_last 2 ∷ [])
+
+abbrev pub set_step : ℕ → ℕ → Seen → Step
+set_step live x (Linear f) = act (assign x f)
+set_step live x (Divided d f) = in_both live d (assign x f)
+set_step live x Unseen = act (forget x)
+
+-- a least change other than a condition, as a list of steps; behind what gives an `int` its value two tests
+abbrev pub within_steps : NumberType → ℕ → ℕ → List Step → List Step
 within_steps Long live x steps = steps
-within_steps Int live x steps = steps ++ action.test Ge (above_least Int live x) ∷ action.test Ge (below_greatest Int live x) ∷ []
+within_steps Int live x steps = steps ++ act (action.test Ge (above_least Int live x)) ∷ act (action.test Ge (below_greatest Int live x)) ∷ []
 
-abbrev pub set_last : ℕ → Option Form → List Action
-set_last live f = embed 1 ∷ set_to live f ∷ []
+abbrev pub set_last : ℕ → Seen → List Step
+set_last live w = act (embed 1) ∷ set_step (suc live) live w ∷ []
 
-abbrev pub all_pushed : ℕ → ℕ → List Argument → List Action
+abbrev pub all_pushed : ℕ → ℕ → List Argument → List Step
 all_pushed live base [] = []
-all_pushed live base (a ∷ rest) = within_steps a.number_type (suc live) live (set_last live (linear.form_of (suc live) base a.value)) ++ all_pushed (suc live) base rest
+all_pushed live base (a ∷ rest) = within_steps a.number_type (suc live) live (set_last live (seen_of (suc live) base a.value)) ++
+    all_pushed (suc live) base rest
 
-abbrev pub last_dropped : ℕ → List Action
+abbrev pub last_dropped : ℕ → List Step
 last_dropped zero = []
-last_dropped (suc k) = remove_last (suc k) ∷ []
+last_dropped (suc k) = act (remove_last (suc k)) ∷ []
 
-abbrev pub target_steps : ℕ → Option Target → Option Form → List Action
-target_steps live None f = []
-target_steps live (Some t) f = within_steps t.number_type live t.place (set_to t.place f ∷ [])
+abbrev pub target_steps : ℕ → Option Target → Seen → List Step
+target_steps live None w = []
+target_steps live (Some t) w = within_steps t.number_type live t.place (set_step live t.place w ∷ [])
 
-abbrev pub actions_of : ℕ → Op → List Action
-actions_of live (append t) = within_steps t (suc live) live (embed 1 ∷ [])
-actions_of live (give base x e) = target_steps live x.target (linear.form_of live base e)
-actions_of live (give_any x) = target_steps live x.target None
-actions_of live (push base given) = all_pushed live base given
-actions_of live (keep n) = last_dropped (live - n)
-actions_of live (test base c wanted) = []
+abbrev pub steps_of : ℕ → Op → List Step
+steps_of live (append t) = within_steps t (suc live) live (act (embed 1) ∷ [])
+steps_of live (give base x e) = target_steps live x.target (seen_of live base e)
+steps_of live (give_any x) = target_steps live x.target Unseen
+steps_of live (push base given) = all_pushed live base given
+steps_of live (keep n) = last_dropped (live - n)
+steps_of live (test base c wanted) = []
 
-abbrev pub values_first : ℕ → List GlobalVariable → List Action
+abbrev pub values_first : ℕ → List GlobalVariable → List Step
 values_first live [] = []
-values_first live (g ∷ gs) = within_steps g.number_type (suc live) live (set_last live (Some (linear.constant_form (suc live) g.value))) ++ values_first (suc live) gs
+values_first live (g ∷ gs) = within_steps g.number_type (suc live) live (set_last live (Linear (linear.constant_form (suc live) g.value))) ++
+    values_first (suc live) gs
 
 -- a condition without `!`
 pub data Pushed : Type 0 where
@@ -90,9 +111,19 @@ pushed_rows live base (one_or a opposed b) = pushed_rows live base a ++ pushed_r
 
 module _ (V H : Type 0) (ops : Operations V H) where
   -- one action behind the other
-  abbrev pub AreDone : List Action → V → Exactness → V → Type 0
+  abbrev pub AreActed : List Action → V → Exactness → V → Type 0
+  AreActed [] v e w = (w ≡ v) × (e ≡ Exact)
+  AreActed (step ∷ steps) v e w = (x : V) × (c d : Exactness) × ops.changed step v c x × AreActed steps x d w × (e ≡ worse c d)
+
+  abbrev pub IsDone : Step → V → Exactness → V → Type 0
+  IsDone (act step) v e w = ops.changed step v e w
+  IsDone (two_cases xs ys) v e w =
+      (one two : V) × (c d i : Exactness) × AreActed xs v c one × AreActed ys v d two × ops.joined one two i w × (e ≡ worse (worse c d) i)
+
+  -- one step behind the other
+  abbrev pub AreDone : List Step → V → Exactness → V → Type 0
   AreDone [] v e w = (w ≡ v) × (e ≡ Exact)
-  AreDone (step ∷ steps) v e w = (x : V) × (c d : Exactness) × ops.changed step v c x × AreDone steps x d w × (e ≡ worse c d)
+  AreDone (step ∷ steps) v e w = (x : V) × (c d : Exactness) × IsDone step v c x × AreDone steps x d w × (e ≡ worse c d)
 
   -- a value with the exactness of what led to it
   abbrev pub Told : Type 0
@@ -105,38 +136,123 @@ module _ (V H : Type 0) (ops : Operations V H) where
   IsTestedBy None v w = w ≡ v
   IsTestedBy (Some t) v w = (e : Exactness) × ops.changed (tested t) v.0 e w.0 × (w.1 ≡ worse v.1 e)
 
-  abbrev pub IsAtom : Comparison → Option Form → Told → Told → Type 0
-  IsAtom op None v w = w ≡ v
-  IsAtom differs (Some d) v w = (less : Told) × (more : Told) × IsTestedBy (comparison_test below d) v less ×
-      IsTestedBy (comparison_test above d) v more × IsJoined less more w
-  IsAtom op (Some d) v w = IsTestedBy (comparison_test op d) v w
+  -- in a division's cases
+  abbrev pub IsTestedIn : ℕ → Division → Option Test → Told → Told → Type 0
+  IsTestedIn live c None v w = w ≡ v
+  IsTestedIn live c (Some t) v w = (e : Exactness) × IsDone (in_both live c (tested t)) v.0 e w.0 × (w.1 ≡ worse v.1 e)
+
+  abbrev pub IsSeenTo : ℕ → Comparison → Seen → Told → Told → Type 0
+  IsSeenTo live op (Linear d) v w = IsTestedBy (comparison_test op d) v w
+  IsSeenTo live op (Divided c d) v w = IsTestedIn live c (comparison_test op d) v w
+  IsSeenTo live op Unseen v w = w ≡ v
+
+  abbrev pub IsSplit : ℕ → Comparison → Seen → Told → Told → Type 0
+  IsSplit live differs d v w = (less : Told) × (more : Told) × IsSeenTo live below d v less × IsSeenTo live above d v more × IsJoined less more w
+  IsSplit live op d v w = IsSeenTo live op d v w
+
+  abbrev pub IsAtom : ℕ → Comparison → Seen → Told → Told → Type 0
+  IsAtom live op (Linear d) v w = IsSplit live op (Linear d) v w
+  IsAtom live op (Divided c d) v w = IsSplit live op (Divided c d) v w
+  IsAtom live op Unseen v w = w ≡ v
 
   abbrev pub IsPushed : ℕ → ℕ → Pushed → Told → Told → Type 0
-  IsPushed live base (atom op a b) v w = IsAtom op (difference_form live base a b) v w
+  IsPushed live base (atom op a b) v w = IsAtom live op (difference_seen live base a b) v w
   IsPushed live base (behind a b) v w = (m : Told) × IsPushed live base a v m × IsPushed live base b m w
   IsPushed live base (one_or a opposed b) v w = (left : Told) × (m : Told) × (right : Told) × IsPushed live base a v left ×
       IsPushed live base opposed v m × IsPushed live base b m right × IsJoined left right w
 
   abbrev pub DoesChange : Op → V → Exactness → V → Type 0
   DoesChange (test base c wanted) v e w = IsPushed (ops.dims v) base (pushed wanted c) (v, Exact) (w, e)
-  DoesChange op v e w = AreDone (actions_of (ops.dims v) op) v e w
+  DoesChange op v e w = AreDone (steps_of (ops.dims v) op) v e w
 
--- lists of actions -----------------------------------------------------------------------------------------------------
+-- lists of steps -------------------------------------------------------------------------------------------------------
 
 module _ (V H : Type 0) (ops : Operations V H) where
-  abbrev Done : List Action → V → Exactness → V → Type 0
+  abbrev Done : List Step → V → Exactness → V → Type 0
   Done = AreDone V H ops
 
-  one_made : (step : Action) (v : V) (e : Exactness) (w : V) → ops.changed step v e w ↔ Done (step ∷ []) v e w
-  one_made step v e w = (
+  acted : (begun : List Action) (step : Action) (v : V) (e : Exactness) (w : V)
+      → AreMade ops (in_case begun step) v e w ↔ AreActed V H ops (begun ++ step ∷ remove_last 2 ∷ []) v e w
+  acted [] step v e w = (
+    λ (x, c, d, (same, exact), (y, f, g, one, two, inner), is). (
+      y,
+      f,
+      g,
+      subst (λ (z : V). ops.changed step z f y) same one,
+      (w, g, Exact, two, (refl, refl), sym (worse_exact g)),
+      is ∙ ap (λ (i : Exactness). worse i d) exact ∙ inner,
+    ),
+    λ (y, f, g, one, (x, c, d, two, (same, exact), inner), is). (
+      v,
+      Exact,
+      worse f c,
+      (refl, refl),
+      (y, f, c, one, subst (λ (z : V). ops.changed (remove_last 2) y c z) (sym same) two, refl),
+      is ∙ ap (worse f) (inner ∙ ap (worse c) exact ∙ worse_exact c),
+    ),
+  )
+  acted (first ∷ begun) step v e w = (
+    λ (x, c, d, (y, f, g, one, others, inner), last, is). (
+      y,
+      f,
+      worse g d,
+      one,
+      (acted begun step y (worse g d) w).0 (x, g, d, others, last, refl),
+      is ∙ ap (λ (i : Exactness). worse i d) inner ∙ worse_worse f g d,
+    ),
+    λ (y, f, h, one, rest, is).
+        let (x, g, d, others, last, inner) = (acted begun step y h w).1 rest in
+        (x, worse f g, d, (y, f, g, one, others, refl), last, is ∙ ap (worse f) inner ∙ sym (worse_worse f g d)),
+  )
+
+  cases_made : (live : ℕ) (d : Division) (step : Action) (v : V) (e : Exactness) (w : V)
+      → AreMade ops (in_cases live d step) v e w ↔ IsDone V H ops (in_both live d step) v e w
+  cases_made live d step v e w = (
+    λ (x, y, c, f, i, one, two, joined, is). (
+      x,
+      y,
+      c,
+      f,
+      i,
+      (acted (first_case live d) step v c x).0 one,
+      (acted (second_case live d) step v f y).0 two,
+      joined,
+      is,
+    ),
+    λ (x, y, c, f, i, one, two, joined, is). (
+      x,
+      y,
+      c,
+      f,
+      i,
+      (acted (first_case live d) step v c x).1 one,
+      (acted (second_case live d) step v f y).1 two,
+      joined,
+      is,
+    ),
+  )
+
+  one_done : (step : Step) (v : V) (e : Exactness) (w : V) → IsDone V H ops step v e w ↔ Done (step ∷ []) v e w
+  one_done step v e w = (
     λ h. (w, e, Exact, h, (refl, refl), sym (worse_exact e)),
     λ (x, c, d, one, (same, exact), worst).
         let so : e ≡ c = worst ∙ ap (worse c) exact ∙ worse_exact c in
-        subst (λ (y : V). ops.changed step v e y) (sym same) (subst (λ (a : Exactness). ops.changed step v a x) (sym so) one),
+        subst (λ (y : V). IsDone V H ops step v e y) (sym same) (subst (λ (a : Exactness). IsDone V H ops step v a x) (sym so) one),
   )
 
+  one_made : (step : Action) (v : V) (e : Exactness) (w : V) → ops.changed step v e w ↔ Done (act step ∷ []) v e w
+  one_made step v e w = one_done (act step) v e w
+
+  set_made : (live x : ℕ) (s : Seen) (v : V) (e : Exactness) (w : V) → AreMade ops (set_to live x s) v e w ↔ Done (set_step live x s ∷ []) v e w
+  set_made live x (Linear f) v e w = one_made (assign x f) v e w
+  set_made live x (Divided d f) v e w =
+      let c = cases_made live d (assign x f) v e w in
+      let o = one_done (in_both live d (assign x f)) v e w in
+      (λ h. o.0 (c.0 h), λ h. c.1 (o.1 h))
+  set_made live x Unseen v e w = one_made (forget x) v e w
+
   -- one list behind the other
-  split : (before later : List Action) (v : V) (e : Exactness) (w : V) → Done (before ++ later) v e w ↔
+  split : (before later : List Step) (v : V) (e : Exactness) (w : V) → Done (before ++ later) v e w ↔
       ((x : V) × (c d : Exactness) × Done before v c x × Done later x d w × (e ≡ worse c d))
   split [] later v e w = (
     λ h. (v, Exact, e, (refl, refl), h, refl),
@@ -153,10 +269,10 @@ module _ (V H : Type 0) (ops : Operations V H) where
   )
 
   -- the moves are made where the actions are done
-  abbrev Agree : Moves → List Action → Type 0
+  abbrev Agree : Moves → List Step → Type 0
   Agree p steps = (v : V) (e : Exactness) (w : V) → AreMade ops p v e w ↔ Done steps v e w
 
-  then_agree : (p q : Moves) (before later : List Action) → Agree p before → Agree q later → Agree (first_then p q) (before ++ later)
+  then_agree : (p q : Moves) (before later : List Step) → Agree p before → Agree q later → Agree (first_then p q) (before ++ later)
   then_agree p q before later a b v e w = (
     λ (x, c, d, one, two, is). (split before later v e w).1 (x, c, d, (a v c x).0 one, (b x d w).0 two, is),
     λ h.
@@ -164,32 +280,36 @@ module _ (V H : Type 0) (ops : Operations V H) where
         (x, c, d, (a v c x).1 one, (b x d w).1 two, is),
   )
 
-  within_agree : (t : NumberType) (live x : ℕ) (p : Moves) (steps : List Action) → Agree p steps → Agree (within_type t live x p) (within_steps t live x steps)
+  within_agree : (t : NumberType) (live x : ℕ) (p : Moves) (steps : List Step) → Agree p steps → Agree (within_type t live x p) (within_steps t live x steps)
   within_agree Long live x p steps a = a
   within_agree Int live x p steps a =
       let low = action.test Ge (above_least Int live x) in
       let high = action.test Ge (below_greatest Int live x) in
-      then_agree p (first_then (make low) (make high)) steps (low ∷ high ∷ []) a (then_agree (make low) (make high) (low ∷ []) (high ∷ []) (one_made low) (one_made high))
+      then_agree p (first_then (make low) (make high)) steps (act low ∷ act high ∷ []) a
+      (then_agree (make low) (make high) (act low ∷ []) (act high ∷ []) (one_made low) (one_made high))
 
   -- a new variable with its value
-  set_agrees : (live : ℕ) (f : Option Form) → Agree (append_set live f) (set_last live f)
-  set_agrees live f = then_agree (make (embed 1)) (make (set_to live f)) (embed 1 ∷ []) (set_to live f ∷ []) (one_made (embed 1)) (one_made (set_to live f))
+  set_agrees : (live : ℕ) (w : Seen) → Agree (append_set live w) (set_last live w)
+  set_agrees live w =
+      then_agree (make (embed 1)) (set_to (suc live) live w) (act (embed 1) ∷ []) (set_step (suc live) live w ∷ []) (one_made (embed 1))
+      (set_made (suc live) live w)
 
   push_agrees : (live base : ℕ) (given : List Argument) → Agree (push_all live base given) (all_pushed live base given)
   push_agrees live base [] v e w = (λ h. h, λ h. h)
   push_agrees live base (a ∷ rest) v e w =
-      let f = linear.form_of (suc live) base a.value in
+      let f = seen_of (suc live) base a.value in
       then_agree (within_type a.number_type (suc live) live (append_set live f)) (push_all (suc live) base rest) (within_steps a.number_type (suc live) live (set_last live f))
       (all_pushed (suc live) base rest) (within_agree a.number_type (suc live) live (append_set live f) (set_last live f) (set_agrees live f)) (push_agrees (suc live) base rest) v e w
 
-  target_agrees : (live : ℕ) (o : Option Target) (f : Option Form) → Agree (set_target live o f) (target_steps live o f)
-  target_agrees live None f v e w = (λ h. h, λ h. h)
-  target_agrees live (Some t) f v e w = within_agree t.number_type live t.place (make (set_to t.place f)) (set_to t.place f ∷ []) (one_made (set_to t.place f)) v e w
+  target_agrees : (live : ℕ) (o : Option Target) (s : Seen) → Agree (set_target live o s) (target_steps live o s)
+  target_agrees live None s v e w = (λ h. h, λ h. h)
+  target_agrees live (Some t) s v e w =
+      within_agree t.number_type live t.place (set_to live t.place s) (set_step live t.place s ∷ []) (set_made live t.place s) v e w
 
   pub first_agrees : (live : ℕ) (gs : List GlobalVariable) → Agree (first_values live gs) (values_first live gs)
   first_agrees live [] v e w = (λ h. h, λ h. h)
   first_agrees live (g ∷ gs) v e w =
-      let f = Some (linear.constant_form (suc live) g.value) in
+      let f = Linear (linear.constant_form (suc live) g.value) in
       then_agree (within_type g.number_type (suc live) live (append_set live f)) (first_values (suc live) gs) (within_steps g.number_type (suc live) live (set_last live f))
       (values_first (suc live) gs) (within_agree g.number_type (suc live) live (append_set live f) (set_last live f) (set_agrees live f)) (first_agrees (suc live) gs) v e w
 
@@ -214,29 +334,45 @@ module _ (V H : Type 0) (ops : Operations V H) where
   test_agrees None v w = stay_agrees v w
   test_agrees (Some t) v w = (λ h. h, λ h. h)
 
-  comparison_agrees : (op : Comparison) (o : Option Form) (v w : V × Exactness) → IsAtom V H ops op o v w ↔ Leads (comparison_moves op o) v w
-  comparison_agrees op None v w = stay_agrees v w
-  comparison_agrees differs (Some d) v w =
-      let j = join_takes ops v.0 v.1 w.0 w.1 (test_moves (comparison_test below d)) (test_moves (comparison_test above d)) in (
-        λ (l, r, one, two, (i, join, is)).
-            j.0 (l.0, r.0, l.1, r.1, i, (test_agrees (comparison_test below d) v l).0 one, (test_agrees (comparison_test above d) v r).0 two, join, is),
+  case_agrees : (live : ℕ) (c : Division) (o : Option Test) (v w : V × Exactness) → IsTestedIn V H ops live c o v w ↔ Leads (case_moves live c o) v w
+  case_agrees live c None v w = stay_agrees v w
+  case_agrees live c (Some t) v w = (
+    λ (e, done, is). (e, (cases_made V H ops live c (tested t) v.0 e w.0).1 done, is),
+    λ (e, made, is). (e, (cases_made V H ops live c (tested t) v.0 e w.0).0 made, is),
+  )
+
+  seen_agrees : (live : ℕ) (op : Comparison) (s : Seen) (v w : V × Exactness) → IsSeenTo V H ops live op s v w ↔ Leads (seen_moves live op s) v w
+  seen_agrees live op (Linear d) v w = test_agrees (comparison_test op d) v w
+  seen_agrees live op (Divided c d) v w = case_agrees live c (comparison_test op d) v w
+  seen_agrees live op Unseen v w = stay_agrees v w
+
+  split_agrees : (live : ℕ) (op : Comparison) (s : Seen) (v w : V × Exactness) → IsSplit V H ops live op s v w ↔ Leads (split_moves live op s) v w
+  split_agrees live differs s v w =
+      let j = join_takes ops v.0 v.1 w.0 w.1 (seen_moves live below s) (seen_moves live above s) in (
+        λ (l, r, one, two, (i, join, is)). j.0 (l.0, r.0, l.1, r.1, i, (seen_agrees live below s v l).0 one, (seen_agrees live above s v r).0 two, join, is),
         λ h.
             let (x, y, a, b, i, one, two, join, is) = j.1 h in
-            ((x, a), (y, b), (test_agrees (comparison_test below d) v (x, a)).1 one, (test_agrees (comparison_test above d) v (y, b)).1 two, (i, join, is)),
+            ((x, a), (y, b), (seen_agrees live below s v (x, a)).1 one, (seen_agrees live above s v (y, b)).1 two, (i, join, is)),
       )
-  comparison_agrees below (Some d) v w = test_agrees (comparison_test below d) v w
-  comparison_agrees at_most (Some d) v w = test_agrees (comparison_test at_most d) v w
-  comparison_agrees above (Some d) v w = test_agrees (comparison_test above d) v w
-  comparison_agrees at_least (Some d) v w = test_agrees (comparison_test at_least d) v w
-  comparison_agrees equal (Some d) v w = test_agrees (comparison_test equal d) v w
+  split_agrees live below s v w = seen_agrees live below s v w
+  split_agrees live at_most s v w = seen_agrees live at_most s v w
+  split_agrees live above s v w = seen_agrees live above s v w
+  split_agrees live at_least s v w = seen_agrees live at_least s v w
+  split_agrees live equal s v w = seen_agrees live equal s v w
+
+  comparison_agrees : (live : ℕ) (op : Comparison) (s : Seen) (v w : V × Exactness) → IsAtom V H ops live op s v w ↔ Leads (comparison_moves live op s) v w
+  comparison_agrees live op (Linear d) v w = split_agrees live op (Linear d) v w
+  comparison_agrees live op (Divided c d) v w = split_agrees live op (Divided c d) v w
+  comparison_agrees live op Unseen v w = stay_agrees v w
 
   module _ (live base : ℕ) where
     abbrev Agrees : Pushed → Moves → Type 0
     Agrees old p = (v w : V × Exactness) → IsPushed V H ops live base old v w ↔ Leads p v w
 
-    atom_agrees : (wanted : Bool) (op : Comparison) (a b : Expr) → Agrees (atom_of wanted op a b) (comparison_moves (comparison_as wanted op) (difference_form live base a b))
-    atom_agrees true op a b v w = comparison_agrees op (difference_form live base a b) v w
-    atom_agrees false op a b v w = comparison_agrees (opposite_comparison op) (difference_form live base a b) v w
+    atom_agrees : (wanted : Bool) (op : Comparison) (a b : Expr)
+        → Agrees (atom_of wanted op a b) (comparison_moves live (comparison_as wanted op) (difference_seen live base a b))
+    atom_agrees true op a b v w = comparison_agrees live op (difference_seen live base a b) v w
+    atom_agrees false op a b v w = comparison_agrees live (opposite_comparison op) (difference_seen live base a b) v w
 
     abbrev AgreesAt : Bool → Cond → Type 0
     AgreesAt wanted c = Agrees (pushed wanted c) (guard live base wanted c)
@@ -295,9 +431,10 @@ module _ (V H : Type 0) (ops : Operations V H) where
       (λ h. agree.1 (e, h, refl), λ h. takes_made ops (guard (ops.dims v) base wanted c) v w e (agree.0 h))
 
   pub changes_agree : (op : Op) (v : V) (e : Exactness) (w : V) → Changes ops op v e w ↔ DoesChange V H ops op v e w
-  changes_agree (append t) v e w = within_agree V H ops t (suc (ops.dims v)) (ops.dims v) (make (embed 1)) (embed 1 ∷ []) (one_made V H ops (embed 1)) v e w
-  changes_agree (give base x y) v e w = target_agrees V H ops (ops.dims v) x.target (linear.form_of (ops.dims v) base y) v e w
-  changes_agree (give_any x) v e w = target_agrees V H ops (ops.dims v) x.target None v e w
+  changes_agree (append t) v e w =
+      within_agree V H ops t (suc (ops.dims v)) (ops.dims v) (make (embed 1)) (act (embed 1) ∷ []) (one_made V H ops (embed 1)) v e w
+  changes_agree (give base x y) v e w = target_agrees V H ops (ops.dims v) x.target (seen_of (ops.dims v) base y) v e w
+  changes_agree (give_any x) v e w = target_agrees V H ops (ops.dims v) x.target Unseen v e w
   changes_agree (push base given) v e w = push_agrees V H ops (ops.dims v) base given v e w
   changes_agree (keep n) v e w = drop_agrees V H ops (ops.dims v - n) v e w
   changes_agree (test base c wanted) v e w = leaves_agree base c wanted v e w

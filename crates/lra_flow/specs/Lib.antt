@@ -1,9 +1,11 @@
 -- How an analysis sees expressions.
 pub mod Linear
+pub mod Seen
 -- The iteration.
 pub mod Plan
 pub mod Operations
 pub mod Moves
+pub mod Room
 pub mod MovesOf
 pub mod Given
 pub mod Thresholds

@@ -1,11 +1,13 @@
 -- The moves of a program's least changes and of its conditions, over so many live variables. An assignment of a linear
--- form assigns, any other one forgets; behind each that an `int` gets, and behind its declaration, stand the tests that
--- it lies within 32 bits. Conditions (Cousot and Halbwachs 1978): `!` is pushed to the comparisons; a
--- comparison tests, where its difference is linear; `&&` is the one behind the other; `||` joins what the left side
--- leaves with what the right side leaves where the left one is false.
-use Rattle.std.specs.Prelude.{ℕ, zero, suc, ◌-◌, pos, negsuc, neg_ℤ, List, [], ◌∷◌, Bool, true, false, not, Option}
-use Rattle.std.specs.Prelude.{None, Some, replicate, slice_set}
-use Rattle.lra_linear.specs.declared.ConKind.TheVariants.{Ge}
+-- form assigns, that of a division does so in two cases, where what is divided is at least 0 and where it is below 0,
+-- and joins them; any other one forgets. Behind each that an `int` gets, and behind its declaration, stand the tests
+-- that it lies within 32 bits. Conditions (Cousot and Halbwachs 1978): `!` is pushed to the comparisons; a
+-- comparison tests, where its difference is linear, and in the two cases, where one side is a division and the other
+-- one linear; `&&` is the one behind the other; `||` joins what the left side leaves with what the right side leaves
+-- where the left one is false.
+use Rattle.std.specs.Prelude.{ℕ, zero, suc, ◌-◌, pos, negsuc, neg_ℤ, ◌-ℤ◌, List, [], ◌∷◌, Bool, true, false, not}
+use Rattle.std.specs.Prelude.{Option, None, Some, replicate, slice_set}
+use Rattle.lra_linear.specs.declared.ConKind.TheVariants.{Ge, Eq}
 use Rattle.lra_base.specs.declared.number_types.NumberType.{NumberType}
 use Rattle.lra_base.specs.declared.number_types.NumberType.TheVariants.{Int, Long}
 use Rattle.lra_base.specs.NumberTypes.{least_of, greatest_of}
@@ -21,8 +23,37 @@ use Rattle.lra_lin.specs.declared.test.Test.{Test}
 use Rattle.lra_domain.specs.Actions.{Action, assign, forget, embed, remove_last}
 use Rattle.lra_domain.specs.Actions as action
 use Rattle.lra_flow.specs.Linear as linear
-use Rattle.lra_flow.specs.Linear.{comparison_test, difference_form}
+use Rattle.lra_flow.specs.Linear.{comparison_test}
+use Rattle.lra_flow.specs.declared.seen.Division.{Division}
+use Rattle.lra_flow.specs.declared.seen.Seen.{Seen}
+use Rattle.lra_flow.specs.declared.seen.Seen.TheVariants.{Linear, Divided, Unseen}
+use Rattle.lra_flow.specs.Seen.{behind_form, remainder_form, left_over, seen_of, difference_seen}
 use Rattle.lra_domain.specs.Moves.{Moves, stay, make, first_then, join_of}
+
+-- divisions -------------------------------------------------------------------------------------------------------
+
+abbrev pub in_turn : List Action → Moves
+in_turn [] = stay
+in_turn (step ∷ steps) = first_then (make step) (in_turn steps)
+
+-- where A is at least 0: t and r come behind the live variables, and 0 <= r, r <= k - 1, A = k*t + r
+abbrev pub first_case : ℕ → Division → List Action
+first_case live d = action.test Ge d.numerator ∷ embed 2 ∷ action.test Ge (remainder_form live)
+    ∷ action.test Ge (behind_form live (d.divisor -ℤ pos 1) (pos 0) (negsuc 0)) ∷ action.test Eq (left_over d) ∷ []
+
+-- where it is below 0: 1 - k <= r, r <= 0, A = k*t + r
+abbrev pub second_case : ℕ → Division → List Action
+second_case live d = action.test Ge d.opposite ∷ embed 2
+    ∷ action.test Ge (behind_form live (d.divisor -ℤ pos 1) (pos 0) (pos 1))
+    ∷ action.test Ge (behind_form live (pos 0) (pos 0) (negsuc 0)) ∷ action.test Eq (left_over d) ∷ []
+
+-- so begun, the action; then both go
+abbrev pub in_case : List Action → Action → Moves
+in_case begun step = first_then (in_turn begun) (first_then (make step) (make (remove_last 2)))
+
+-- the action in both cases, joined in this order
+abbrev pub in_cases : ℕ → Division → Action → Moves
+in_cases live d step = join_of (in_case (first_case live d) step) (in_case (second_case live d) step)
 
 -- conditions ------------------------------------------------------------------------------------------------------
 
@@ -47,19 +78,33 @@ abbrev pub test_moves : Option Test → Moves
 test_moves None = stay
 test_moves (Some t) = make (tested t)
 
--- by the left side minus the right one; a comparison that isn't linear does nothing, and `!=` joins `<` with `>`, in
--- this order
-abbrev pub comparison_moves : Comparison → Option Form → Moves
-comparison_moves op None = stay
-comparison_moves differs (Some d) =
-    join_of (test_moves (comparison_test below d)) (test_moves (comparison_test above d))
-comparison_moves op (Some d) = test_moves (comparison_test op d)
+abbrev pub case_moves : ℕ → Division → Option Test → Moves
+case_moves live d None = stay
+case_moves live d (Some t) = in_cases live d (tested t)
+
+-- the test of the comparison, by what is seen of the left side minus the right one
+abbrev pub seen_moves : ℕ → Comparison → Seen → Moves
+seen_moves live op (Linear d) = test_moves (comparison_test op d)
+seen_moves live op (Divided c d) = case_moves live c (comparison_test op d)
+seen_moves live op Unseen = stay
+
+-- `!=` joins `<` with `>`, in this order
+abbrev pub split_moves : ℕ → Comparison → Seen → Moves
+split_moves live differs d = join_of (seen_moves live below d) (seen_moves live above d)
+split_moves live op d = seen_moves live op d
+
+-- a comparison of which nothing is seen does nothing
+abbrev pub comparison_moves : ℕ → Comparison → Seen → Moves
+comparison_moves live op (Linear d) = split_moves live op (Linear d)
+comparison_moves live op (Divided c d) = split_moves live op (Divided c d)
+comparison_moves live op Unseen = stay
 
 -- the condition where it is to be so; a bare `e` is `e != 0`
 abbrev pub guard : ℕ → ℕ → Bool → Cond → Moves
-guard live base wanted (compare op a b) = comparison_moves (comparison_as wanted op) (difference_form live base a b)
+guard live base wanted (compare op a b) =
+    comparison_moves live (comparison_as wanted op) (difference_seen live base a b)
 guard live base wanted (nonzero e) =
-    comparison_moves (comparison_as wanted differs) (difference_form live base e (literal Int 0))
+    comparison_moves live (comparison_as wanted differs) (difference_seen live base e (literal Int 0))
 guard live base wanted (opposite c) = guard live base (not wanted) c
 guard live base true (both_of a b) = first_then (guard live base true a) (guard live base true b)
 guard live base false (both_of a b) =
@@ -89,26 +134,27 @@ within_type Int live x p = first_then p (first_then (make (action.test Ge (above
 
 -- least changes ---------------------------------------------------------------------------------------------------
 
--- the variable gets the form's value; any value where there is no form
-abbrev pub set_to : ℕ → Option Form → Action
-set_to x None = forget x
-set_to x (Some f) = assign x f
+-- the variable gets the number that is seen; any value where nothing is seen
+abbrev pub set_to : ℕ → ℕ → Seen → Moves
+set_to live x (Linear f) = make (assign x f)
+set_to live x (Divided d f) = in_cases live d (assign x f)
+set_to live x Unseen = make (forget x)
 
 -- a new variable that gets this value, behind so many
-abbrev pub append_set : ℕ → Option Form → Moves
-append_set live f = first_then (make (embed 1)) (make (set_to live f))
+abbrev pub append_set : ℕ → Seen → Moves
+append_set live v = first_then (make (embed 1)) (set_to (suc live) live v)
 
 -- the arguments, each a new variable of its parameter's type, with its value
 abbrev pub push_all : ℕ → ℕ → List Argument → Moves
 push_all live base [] = stay
 push_all live base (a ∷ rest) = first_then
-    (within_type a.number_type (suc live) live (append_set live (linear.form_of (suc live) base a.value)))
+    (within_type a.number_type (suc live) live (append_set live (seen_of (suc live) base a.value)))
     (push_all (suc live) base rest)
 
 -- the target, where there is one, is set so
-abbrev pub set_target : ℕ → Option Target → Option Form → Moves
-set_target live None f = stay
-set_target live (Some t) f = within_type t.number_type live t.place (make (set_to t.place f))
+abbrev pub set_target : ℕ → Option Target → Seen → Moves
+set_target live None v = stay
+set_target live (Some t) v = within_type t.number_type live t.place (set_to live t.place v)
 
 -- so many of the newest variables go; where none goes there is nothing to do
 abbrev pub drop_last : ℕ → Moves
@@ -117,8 +163,8 @@ drop_last (suc k) = make (remove_last (suc k))
 
 abbrev pub moves_of : ℕ → Op → Moves
 moves_of live (append t) = within_type t (suc live) live (make (embed 1))
-moves_of live (give base x e) = set_target live x.target (linear.form_of live base e)
-moves_of live (give_any x) = set_target live x.target None
+moves_of live (give base x e) = set_target live x.target (seen_of live base e)
+moves_of live (give_any x) = set_target live x.target Unseen
 moves_of live (push base given) = push_all live base given
 moves_of live (keep n) = drop_last (live - n)
 moves_of live (step.test base c wanted) = guard live base wanted c
@@ -127,5 +173,5 @@ moves_of live (step.test base c wanted) = guard live base wanted c
 abbrev pub first_values : ℕ → List GlobalVariable → Moves
 first_values live [] = stay
 first_values live (g ∷ gs) = first_then
-    (within_type g.number_type (suc live) live (append_set live (Some (linear.constant_form (suc live) g.value))))
+    (within_type g.number_type (suc live) live (append_set live (Linear (linear.constant_form (suc live) g.value))))
     (first_values (suc live) gs)
