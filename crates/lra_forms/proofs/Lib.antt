@@ -1,7 +1,8 @@
 pub mod FormSteps
 pub mod CondSizes
 pub mod CondSteps
-mod GivenSteps
+pub mod SeenSteps
+pub mod GivenSteps
 mod TreeSizes
 pub mod TreeViews
 mod ThresholdSteps

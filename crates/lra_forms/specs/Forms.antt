@@ -1,10 +1,12 @@
--- Sums and chains, of which a linear form is made.
-use Rattle.std.specs.Prelude.{ℕ, List, [], ◌∷◌, ℤ, ◌+ℤ◌, ◌-ℤ◌, Bool, true, false, Option}
+-- Sums and chains, of which a linear form is made, and a division's parts.
+use Rattle.std.specs.Prelude.{ℕ, List, [], ◌∷◌, ℤ, ◌+ℤ◌, ◌-ℤ◌, Bool, true, false, Option, Some}
 use Rattle.lra_lin.specs.Form.{Form}
 use Rattle.lra_base.specs.Operators.{Operator}
 use Rattle.lra_program.specs.Program.{Expr}
 use Rattle.lra_program.specs.Value.{◌>>=◌}
+use Rattle.lra_flow.specs.declared.seen.Division.{Division}
 use Rattle.lra_flow.specs.Linear as linear
+use Rattle.lra_flow.specs.Seen.{division}
 
 -- plus, or minus
 abbrev pub sum_of : Bool → ℤ → ℤ → ℤ
@@ -16,3 +18,7 @@ abbrev pub rest_form : ℕ → ℕ → Option Form → List (Operator × Expr) �
 rest_form live base f [] = f
 rest_form live base f (o ∷ os) = rest_form live base
     (f >>= λ x. linear.form_of live base o.1 >>= λ y. linear.operator_form o.0 x y) os
+
+-- the division of a form by an operand's, with the form of what it gives
+abbrev pub share_by : ℕ → ℕ → Form → Form → Expr → Option (Division × Form)
+share_by live base h f e = linear.form_of live base e >>= λ g. division f g >>= λ d. Some (d, h)

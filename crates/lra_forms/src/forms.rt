@@ -299,7 +299,7 @@ pub fn form_of_expression(
 
 /// The form of a chain that begins with `first`.
 #[cycle(form)]
-fn form_of_chain(
+pub fn form_of_chain(
     alloc: Global,
     live: usize,
     base: usize,
