@@ -1,24 +1,36 @@
 -- Steps of the proofs on changes of values.
-use Rattle.std.proofs.Common.{◌≡◌, ℕ, suc, ◌+◌, Option, Some, None, length, refl, sym, ap, ◌∙◌, subst}
+use Rattle.std.proofs.Common.{◌≡◌, ℕ, suc, ◌+◌, ◌-◌, ◌≤◌, ◌<◌, List, ◌∷◌, Some, length, refl, sym, ap, ◌∙◌, subst, arith}
 use Rattle.lra_lin.specs.Form.{Form}
-use Rattle.lra_domain.specs.Actions.{Action, embed, dims_after}
+use Rattle.lra_domain.specs.Actions.{Action, assign, embed, remove_last, dims_after}
+use Rattle.lra_domain.specs.Changes.{AllCanBeMade}
 use Rattle.lra_domain.specs.declared.Exactness.{Exactness}
 use Rattle.lra_domain.specs.declared.Exactness.TheVariants.{Exact}
 use Rattle.lra_domain.specs.Parts.{CapsWithin}
 use Rattle.lra_domain.specs.Meaning.{Meaning, Meets}
 use Rattle.lra_program.specs.Program.{Expr}
-use Rattle.lra_flow.specs.Linear as linear
+use Rattle.lra_flow.specs.Linear.{constant_form, comparison_test}
+use Rattle.lra_lin.specs.declared.test.Test.{Test}
+use Rattle.lra_base.specs.declared.operators.Comparison.{Comparison}
+use Rattle.lra_base.specs.OperatorViews.{comparison_view}
+use Rattle.lra_forms.proofs.GivenSteps.{test_wide}
+use Rattle.lra_flow.specs.declared.seen.Division.{Division}
+use Rattle.lra_flow.specs.declared.seen.Seen.{Seen}
+use Rattle.lra_flow.specs.declared.seen.Seen.TheVariants.{Linear, Divided, Unseen}
+use Rattle.lra_flow.specs.Seen.{Divides, SeenFits, seen_of, difference_seen}
+use Rattle.lra_flow.specs.Room.{most_live}
+use Rattle.lra_flow.specs.Operations.{dropping}
 use Rattle.lra_domain.specs.Meaning.{worse}
 use Rattle.lra_base.specs.declared.number_types.NumberType.{NumberType}
 use Rattle.lra_base.specs.declared.number_types.NumberType.TheVariants.{Int}
 use Rattle.lra_domain.specs.Actions.{test}
 use Rattle.lra_linear.specs.declared.ConKind.TheVariants.{Ge}
-use Rattle.lra_domain.specs.Moves.{Moves, stay, make}
-use Rattle.lra_flow.specs.MovesOf.{above_least, below_greatest, within_type, set_to, append_set}
-use Rattle.std.specs.Prelude.{ℤ, pos, replicate, slice_set}
+use Rattle.lra_domain.specs.Moves.{Moves, stay, make, dims_moved}
+use Rattle.lra_flow.specs.MovesOf.{tested, in_turn, in_case, first_case, second_case, in_cases, above_least, below_greatest, within_type, set_to, append_set}
+use Rattle.std.specs.Prelude.{ℤ, pos, negsuc, neg_ℤ, ◌-ℤ◌, replicate, slice_set}
 use Rattle.std.proofs.lemmas.List.{length-replicate}
-use Rattle.lra_flow.proofs.FormLemmas.{form_wide, set_length}
-use Rattle.lra_change.specs.Changes.{Does}
+use Rattle.lra_flow.proofs.FormLemmas.{set_length}
+use Rattle.lra_flow.proofs.DivisionLemmas.{constant_length, extended_length, opposite_length, room, seen_fits, subtracted_fits}
+use Rattle.lra_change.specs.Changes.{Does, Stays}
 
 -- one change alone
 pub done_one : {V H : Type 0} (m : Meaning V H) (step : Action) (v : V) (e : Exactness) (w : V) → Meets m step v e w → m.dims w ≡ dims_after step (m.dims v) → CapsWithin (m.capped v) (m.capped w)
@@ -28,28 +40,105 @@ done_one m step v e w meets dims caps = (meets, dims, caps)
 pub done_none : {V H : Type 0} (m : Meaning V H) (v : V) → Does m stay v Exact v
 done_none m v = (refl, refl)
 
-pub set_dims : (x : ℕ) (o : Option Form) (n : ℕ) → dims_after (set_to x o) n ≡ n
-set_dims x None n = refl
-set_dims x (Some f) n = refl
+-- changes in turn ----------------------------------------------------------------------------------------------------
 
-pub done_set : {V H : Type 0} (m : Meaning V H) (x : ℕ) (o : Option Form) (v : V) (e : Exactness) (w : V) → Meets m (set_to x o) v e w → m.dims w ≡ m.dims v → CapsWithin (m.capped v) (m.capped w)
-    → Does m (make (set_to x o)) v e w
-done_set m x o v e w meets dims caps = done_one m (set_to x o) v e w meets (dims ∙ sym (set_dims x o (m.dims v))) caps
+-- an action that keeps the number of dimensions, in both cases of a division
+pub cases_dims : (live : ℕ) (d : Division) (step : Action) (n : ℕ) → dims_after step (n + 2) ≡ n + 2 → dims_moved (in_cases live d step) n ≡ n
+cases_dims live d step n same = ap (λ (k : ℕ). k - 2) same ∙ omega arith
+
+pub set_dims : (live x : ℕ) (s : Seen) (n : ℕ) → dims_moved (set_to live x s) n ≡ n
+set_dims live x (Linear f) n = refl
+set_dims live x (Divided d f) n = cases_dims live d (assign x f) n refl
+set_dims live x Unseen n = refl
+
+-- how a division's cases begin can be made where two dimensions more are there
+pub first_made : (d : Division) (n : ℕ) → Divides d n → n ≤ most_live → AllCanBeMade (first_case n d) n
+first_made d n h few = (
+  h.wide,
+  (
+    room n few,
+    (
+      extended_length (constant_form n (pos 0)) (pos 0) (pos 1) n (constant_length n (pos 0)),
+      (
+        extended_length (constant_form n (d.divisor -ℤ pos 1)) (pos 0) (negsuc 0) n (constant_length n (d.divisor -ℤ pos 1)),
+        (extended_length d.numerator (neg_ℤ d.divisor) (negsuc 0) n h.wide, tt),
+      ),
+    ),
+  ),
+)
+
+pub second_made : (d : Division) (n : ℕ) → Divides d n → n ≤ most_live → AllCanBeMade (second_case n d) n
+second_made d n h few = (
+  opposite_length d n h,
+  (
+    room n few,
+    (
+      extended_length (constant_form n (d.divisor -ℤ pos 1)) (pos 0) (pos 1) n (constant_length n (d.divisor -ℤ pos 1)),
+      (
+        extended_length (constant_form n (pos 0)) (pos 0) (negsuc 0) n (constant_length n (pos 0)),
+        (extended_length d.numerator (neg_ℤ d.divisor) (negsuc 0) n h.wide, tt),
+      ),
+    ),
+  ),
+)
+
+-- one behind the other
+pub turn_more : {V H : Type 0} (m : Meaning V H) (step : Action) (steps all : List Action) (v x w : V) (c d : Exactness) → all ≡ step ∷ steps
+    → Does m (make step) v c x
+    → Does m (in_turn steps) x d w → Does m (in_turn all) v (worse c d) w
+turn_more m step steps all v x w c d is one others = subst (λ (xs : List Action). Does m (in_turn xs) v (worse c d) w) (sym is) (x, c, d, one, others, refl)
+
+pub case_made : {V H : Type 0} (m : Meaning V H) (begun : List Action) (step : Action) (v x y w : V) (c d e : Exactness) → Does m (in_turn begun) v c x
+    → Does m (make step) x d y
+    → Does m (make (remove_last 2)) y e w → Does m (in_case begun step) v (worse c (worse d e)) w
+case_made m begun step v x y w c d e one two three = (x, c, worse d e, one, (y, d, e, two, three, refl), refl)
+
+pub cases_made : {V H : Type 0} (m : Meaning V H) (live : ℕ) (d : Division) (step : Action) (v x y w : V) (c e i : Exactness)
+    → Does m (in_case (first_case live d) step) v c x
+    → Does m (in_case (second_case live d) step) v e y → (dropping m).joined x y i w → Does m (in_cases live d step) v (worse (worse c e) i) w
+cases_made m live d step v x y w c e i one two joined = (x, y, c, e, i, one, two, joined, refl)
+
+-- what is seen of an expression fits
+seen_there : (live n base : ℕ) (e : Expr) (s t : Seen) → live ≡ n → s ≡ t → s ≡ seen_of live base e → SeenFits t n
+seen_there live n base e s t same is h =
+    let fits : SeenFits (seen_of n base e) n = seen_fits n base e in
+    let found : t ≡ seen_of n base e = sym is ∙ h ∙ ap (λ (k : ℕ). seen_of k base e) same in
+    subst (λ (r : Seen). SeenFits r n) (sym found) fits
+
+pub seen_width : (live n base : ℕ) (e : Expr) (s : Seen) (f : Form) → live ≡ n → s ≡ Linear f → s ≡ seen_of live base e → length f.coefficients ≡ n
+seen_width live n base e s f same is h = seen_there live n base e s (Linear f) same is h
+
+pub seen_divides : (live n base : ℕ) (e : Expr) (s : Seen) (d : Division) (f : Form) → live ≡ n → s ≡ Divided d f → s ≡ seen_of live base e → Divides d n
+    × (length f.coefficients ≡ n + 2)
+seen_divides live n base e s d f same is h = seen_there live n base e s (Divided d f) same is h
+
+pub assign_stays : (x : ℕ) (f : Form) (n : ℕ) → x < n → length f.coefficients ≡ n + 2 → Stays (assign x f) (n + 2)
+assign_stays x f n lives wide = (((let further : x < n + 2 = omega (arith, lives) in further), wide), refl)
+
+-- and so does what is seen of a difference
+pub difference_fits : (live n base : ℕ) (a b : Expr) (s : Seen) → live ≡ n → s ≡ difference_seen live base a b → SeenFits s n
+difference_fits live n base a b s same is =
+    let fits = subtracted_fits (seen_of n base a) (seen_of n base b) n (seen_fits n base a) (seen_fits n base b) in
+    subst (λ (r : Seen). SeenFits r n) (sym (is ∙ ap (λ (k : ℕ). difference_seen k base a b) same)) fits
+
+-- a test of a form that is as wide keeps the dimensions
+pub test_stays : (op : Comparison) (d : Form) (t : Test) (n : ℕ) → length d.coefficients ≡ n + 2 → comparison_test (comparison_view op) d ≡ Some t
+    → Stays (tested t) (n + 2)
+test_stays op d t n wide is = (test_wide op d t (sym is) ∙ wide, refl)
+
+-- what is seen, by how it was found
+pub set_as : {V H : Type 0} (m : Meaning V H) (live x : ℕ) (s t : Seen) (v : V) (e : Exactness) (w : V) → t ≡ s → Does m (set_to live x t) v e w
+    → Does m (set_to live x s) v e w
+set_as m live x s t v e w is made = subst (λ (r : Seen). Does m (set_to live x r) v e w) is made
 
 -- a new variable and its value
 pub done_append : {V H : Type 0} (m : Meaning V H) (base : ℕ) (e : Expr) (v x w : V) (c d : Exactness) → Meets m (embed 1) v c x → m.dims x ≡ m.dims v + 1
     → CapsWithin (m.capped v) (m.capped x) → suc (m.dims v) ≡ m.dims v + 1
-    → Meets m (set_to (m.dims v) (linear.form_of (m.dims x) base e)) x d w → m.dims w ≡ m.dims x → CapsWithin (m.capped x) (m.capped w)
-    → Does m (append_set (m.dims v) (linear.form_of (suc (m.dims v)) base e)) v (worse c d) w
-done_append m base e v x w c d first dims caps one second same more =
-    let live : m.dims x ≡ suc (m.dims v) = dims ∙ sym one in (
-      x,
-      c,
-      d,
-      (first, dims, caps),
-      done_set m (m.dims v) (linear.form_of (suc (m.dims v)) base e) x d w (subst (λ (n : ℕ). Meets m (set_to (m.dims v) (linear.form_of n base e)) x d w) live second) same more,
-      refl,
-    )
+    → Does m (set_to (m.dims x) (m.dims v) (seen_of (m.dims x) base e)) x d w
+    → Does m (append_set (m.dims v) (seen_of (suc (m.dims v)) base e)) v (worse c d) w
+done_append m base e v x w c d first dims caps one second =
+    let live : m.dims x ≡ suc (m.dims v) = dims ∙ sym one in
+    (x, c, d, (first, dims, caps), subst (λ (n : ℕ). Does m (set_to n (m.dims v) (seen_of n base e)) x d w) live second, refl)
 
 -- a form of one variable alone has a coefficient for each variable
 pub one_wide : (f : Form) (n x : ℕ) (c k : ℤ) → f ≡ record { constant = k; coefficients = slice_set (replicate n (pos 0)) x c } → length f.coefficients ≡ n
@@ -82,9 +171,3 @@ done_int m p x v u y w before c d f g low high made one same caps two also more 
   ),
   refl,
 )
-
--- a form that is there has a coefficient for each variable
-pub form_there : (live n base : ℕ) (e : Expr) (o : Option Form) (f : Form) → live ≡ n → o ≡ Some f → o ≡ linear.form_of live base e → length f.coefficients ≡ n
-form_there live n base e o f is some h =
-    let there : Some f ≡ linear.form_of live base e = subst (λ (x : Option Form). x ≡ linear.form_of live base e) some h in
-    (form_wide live base e f (sym there)).width ∙ is

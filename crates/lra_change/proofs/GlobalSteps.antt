@@ -1,5 +1,5 @@
 -- Steps of the proofs on the globals' first values.
-use Rattle.std.proofs.Common.{◌≡◌, ℕ, suc, ◌+◌, ℤ, List, ◌∷◌, Some, length, refl, ap, ◌∙◌, subst, arith}
+use Rattle.std.proofs.Common.{◌≡◌, ℕ, suc, ◌+◌, ℤ, List, ◌∷◌, length, refl, ap, ◌∙◌, subst, arith}
 use Rattle.std.specs.Prelude.{pos}
 use Rattle.std.proofs.lemmas.List.{length-replicate}
 use Rattle.lra_lin.specs.Form.{Form}
@@ -8,6 +8,7 @@ use Rattle.lra_domain.specs.declared.Exactness.{Exactness}
 use Rattle.lra_domain.specs.Parts.{CapsWithin}
 use Rattle.lra_domain.specs.Meaning.{Meaning, Meets}
 use Rattle.lra_flow.specs.Linear.{constant_form}
+use Rattle.lra_flow.specs.declared.seen.Seen.TheVariants.{Linear}
 use Rattle.lra_domain.specs.Meaning.{worse}
 use Rattle.lra_program.specs.declared.program.GlobalVariable.{GlobalVariable}
 use Rattle.lra_flow.specs.MovesOf.{within_type, append_set, first_values}
@@ -22,7 +23,7 @@ constant_wide f n z is = ap (λ (g : Form). length g.coefficients) is ∙ length
 pub appended : {V H : Type 0} (m : Meaning V H) (z : ℤ) (f : Form) (v x w : V) (c d : Exactness) → Meets m (embed 1) v c x → m.dims x ≡ m.dims v + 1
     → CapsWithin (m.capped v) (m.capped x) → f ≡ constant_form (m.dims v + 1) z
     → Meets m (assign (m.dims v) f) x d w → m.dims w ≡ m.dims x → CapsWithin (m.capped x) (m.capped w)
-    → Does m (append_set (m.dims v) (Some (constant_form (suc (m.dims v)) z))) v (worse c d) w
+    → Does m (append_set (m.dims v) (Linear (constant_form (suc (m.dims v)) z))) v (worse c d) w
 appended {V} {H} m z f v x w c d first dims caps is second same more =
     let one : m.dims v + 1 ≡ suc (m.dims v) = omega arith in
     let form : f ≡ constant_form (suc (m.dims v)) z = is ∙ ap (λ (n : ℕ). constant_form n z) one in (
@@ -36,7 +37,7 @@ appended {V} {H} m z f v x w c d first dims caps is second same more =
 
 -- the first global, and the others
 pub appended_all : {V H : Type 0} (m : Meaning V H) (z : GlobalVariable) (zs : List GlobalVariable) (v x w : V) (c d : Exactness)
-    → Does m (within_type z.number_type (suc (m.dims v)) (m.dims v) (append_set (m.dims v) (Some (constant_form (suc (m.dims v)) z.value)))) v c x →
+    → Does m (within_type z.number_type (suc (m.dims v)) (m.dims v) (append_set (m.dims v) (Linear (constant_form (suc (m.dims v)) z.value)))) v c x →
     m.dims x ≡ suc (m.dims v)
     → Does m (first_values (m.dims x) zs) x d w → Does m (first_values (m.dims v) (z ∷ zs)) v (worse c d) w
 appended_all m z zs v x w c d one live others = (x, c, d, one, subst (λ (n : ℕ). Does m (first_values n zs) x d w) live others, refl)

@@ -1,5 +1,7 @@
 -- Changes of values, in the derivation with drops.
-use Rattle.std.specs.Prelude.{ℕ, suc, ◌+◌, ◌-◌, ◌^◌, ◌<◌, ◌≤◌, ⊤, length, Option, None, Some}
+use Rattle.std.specs.Prelude.{◌≡◌, ℕ, suc, ◌+◌, ◌-◌, ◌<◌, ◌≤◌, ⊤, length, Option, None, Some}
+use Rattle.lra_domain.specs.Actions.{Action, dims_after}
+use Rattle.lra_domain.specs.Changes.{CanBeMade}
 use Rattle.lra_domain.specs.declared.Exactness.{Exactness}
 use Rattle.lra_domain.specs.Meaning.{Meaning}
 use Rattle.lra_program.specs.Step.{Op, append, give, give_any, push, keep, test}
@@ -8,6 +10,7 @@ use Rattle.lra_flow.specs.Operations.{dropping}
 use Rattle.lra_domain.specs.Moves.{Moves}
 use Rattle.lra_flow.specs.Moves.{AreMade}
 use Rattle.lra_flow.specs.Pass.{Changes}
+use Rattle.lra_flow.specs.Room.{most_live}
 
 -- the moves lead from the first value to the second one, with this exactness
 abbrev pub Does : {V H : Type 0} → Meaning V H → Moves → V → Exactness → V → Type 0
@@ -16,6 +19,10 @@ Does m moves v e w = AreMade (dropping m) moves v e w
 -- and so does a least change
 abbrev pub ChangesTo : {V H : Type 0} → Meaning V H → Op → V → Exactness → V → Type 0
 ChangesTo m op v e w = Changes (dropping m) op v e w
+
+-- an action that can be made of a value of so many dimensions, and leaves as many
+abbrev pub Stays : Action → ℕ → Type 0
+Stays step n = CanBeMade step n × (dims_after step n ≡ n)
 
 -- how many variables live behind the change of a store with so many
 abbrev pub dims_behind : Op → ℕ → ℕ
@@ -31,11 +38,11 @@ abbrev pub PlaceFits : Option Target → ℕ → Type 0
 PlaceFits None n = ⊤
 PlaceFits (Some t) n = t.place < n
 
--- the change can be made of a store of so many variables, and leaves at most 2^30
+-- the change can be made of a store of so many variables, and leaves no more than may live
 abbrev pub OpFits : Op → ℕ → Type 0
-OpFits (append t) n = n < 2 ^ 30
+OpFits (append t) n = n < most_live
 OpFits (give base x e) n = PlaceFits x.target n
 OpFits (give_any x) n = PlaceFits x.target n
-OpFits (push base given) n = n + length given ≤ 2 ^ 30
+OpFits (push base given) n = n + length given ≤ most_live
 OpFits (keep k) n = ⊤
 OpFits (test base c wanted) n = ⊤

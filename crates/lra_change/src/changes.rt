@@ -1,25 +1,28 @@
 //! What a least change of the program does to a value.
 
-ghost use Rattle.std.specs.Prelude.{◌≡◌, ◌≤◌, ◌<◌, ◌+◌, ◌-◌, ◌^◌, None, Some, suc, map, length, IfOk, OnOk};
-ghost use Rattle.lra_domain.specs.Parts.{CapsWithin};
-ghost use Rattle.lra_domain.specs.Meaning.{Meets};
+ghost use Rattle.std.specs.Prelude.{◌≡◌, ◌≤◌, ◌<◌, ◌+◌, ◌-◌, Some, suc, map, length, IfOk, OnOk};
 ghost use Rattle.lra_program.specs.Step.{append};
 ghost use Rattle.lra_program.specs.ProgramViews.{argument_view, expr_view};
 ghost use Rattle.lra_operations.specs.GraphViews.{op_view};
-ghost use Rattle.lra_flow.specs.Linear.{form_of};
+ghost use Rattle.lra_flow.specs.Room.{most_live};
+ghost use Rattle.lra_flow.specs.Seen.{seen_of};
+ghost use Rattle.lra_flow.specs.declared.seen.Seen.TheVariants.{Unseen};
 ghost use Rattle.lra_flow.specs.MovesOf.{within_type, set_to, set_target, append_set, push_all, drop_last};
 ghost use Rattle.lra_change.specs.Changes.{Does, ChangesTo, OpFits, dims_behind};
 
+use crate::cases::assign_in_cases;
 use crate::conditions::leave;
 use crate::types::hold_type;
 use lra_base::NumberType;
 use lra_domain::{Domain, Exactness, worse};
-use lra_forms::form_of_expression;
+use lra_flow::Seen;
+use lra_forms::see;
 use lra_operations::Op;
 use lra_program::{Argument, Expr, Target};
 use std::alloc::{AllocError, Global};
 
-/// The variable at the place gets the expression's value: that of its form, or any value where there is none.
+/// The variable at the place gets the expression's value, as far as it is seen: that of its form; that of a division,
+/// in two cases; or any value.
 fn set<D: Domain>(
     alloc: Global,
     base: usize,
@@ -27,20 +30,24 @@ fn set<D: Domain>(
     e: &Expr,
     value: &mut D,
 ) -> Result<Exactness, AllocError>
-    requires few { D.meaning.dims value.old < 2 ^ 62 }
+    requires few { D.meaning.dims value.old ≤ most_live }
     requires place { place < D.meaning.dims value.old }
-    ensures sets { IfOk result (λ a. Meets D.meaning (set_to place
-        (form_of (D.meaning.dims value.old) base (expr_view e.now))) value.old a value.new) }
+    ensures sets { IfOk result (λ a. Does D.meaning (set_to (D.meaning.dims value.old) place
+        (seen_of (D.meaning.dims value.old) base (expr_view e.now))) value.old a value.new) }
     ensures dims { OnOk result (D.meaning.dims value.new ≡ D.meaning.dims value.old) }
-    ensures capped { OnOk result (CapsWithin (D.meaning.capped value.old) (D.meaning.capped value.new)) }
 {
-    match form_of_expression(alloc, value.dims(), base, e)? {
-        None => {
+    let seen = see(alloc, value.dims(), base, e)?;
+    match &seen {
+        Seen::Unseen => {
             let exactness = value.forget(place)?;
             Ok(exactness)
         }
-        Some(form) => {
-            let exactness = value.assign(place, &form)?;
+        Seen::Linear(form) => {
+            let exactness = value.assign(place, form)?;
+            Ok(exactness)
+        }
+        Seen::Divided(division, form) => {
+            let exactness = assign_in_cases(alloc, place, division, form, value)?;
             Ok(exactness)
         }
     }
@@ -53,11 +60,11 @@ fn push_one<D: Domain>(
     argument: &Argument,
     value: &mut D,
 ) -> Result<Exactness, AllocError>
-    requires { D.meaning.dims value.old < 2 ^ 30 }
+    requires { D.meaning.dims value.old < most_live }
     ensures pushes { IfOk result (λ a. Does D.meaning (within_type argument.now.number_type
         (suc (D.meaning.dims value.old)) (D.meaning.dims value.old)
         (append_set (D.meaning.dims value.old)
-        (form_of (suc (D.meaning.dims value.old)) base (expr_view argument.now.value))))
+        (seen_of (suc (D.meaning.dims value.old)) base (expr_view argument.now.value))))
         value.old a value.new) }
     ensures dims { OnOk result (D.meaning.dims value.new ≡ suc (D.meaning.dims value.old)) }
 {
@@ -75,7 +82,7 @@ fn push_all_of<D: Domain>(
     arguments: &[Argument],
     value: &mut D,
 ) -> Result<Exactness, AllocError>
-    requires { D.meaning.dims value.old + length arguments.now ≤ 2 ^ 30 }
+    requires { D.meaning.dims value.old + length arguments.now ≤ most_live }
     ensures pushes { IfOk result (λ a. Does D.meaning
         (push_all (D.meaning.dims value.old) base (map argument_view arguments.now)) value.old a value.new) }
     ensures dims { OnOk result (D.meaning.dims value.new ≡ D.meaning.dims value.old + length arguments.now) }
@@ -107,7 +114,7 @@ fn append_any<D: Domain>(
     number_type: NumberType,
     value: &mut D,
 ) -> Result<Exactness, AllocError>
-    requires { D.meaning.dims value.old < 2 ^ 30 }
+    requires { D.meaning.dims value.old < most_live }
     ensures changes { IfOk result (λ a. ChangesTo D.meaning (append number_type) value.old a value.new) }
     ensures dims { OnOk result (D.meaning.dims value.new ≡ suc (D.meaning.dims value.old)) }
 {
@@ -123,10 +130,10 @@ fn give_any_value<D: Domain>(
     target: Target,
     value: &mut D,
 ) -> Result<Exactness, AllocError>
-    requires few { D.meaning.dims value.old ≤ 2 ^ 30 }
+    requires few { D.meaning.dims value.old ≤ most_live }
     requires place { target.place < D.meaning.dims value.old }
     ensures gives { IfOk result (λ a. Does D.meaning
-        (set_target (D.meaning.dims value.old) (Some target) None) value.old a value.new) }
+        (set_target (D.meaning.dims value.old) (Some target) Unseen) value.old a value.new) }
     ensures dims { OnOk result (D.meaning.dims value.new ≡ D.meaning.dims value.old) }
 {
     let exactness = value.forget(target.place)?;
@@ -142,10 +149,10 @@ fn give<D: Domain>(
     e: &Expr,
     value: &mut D,
 ) -> Result<Exactness, AllocError>
-    requires few { D.meaning.dims value.old ≤ 2 ^ 30 }
+    requires few { D.meaning.dims value.old ≤ most_live }
     requires place { target.place < D.meaning.dims value.old }
     ensures gives { IfOk result (λ a. Does D.meaning (set_target (D.meaning.dims value.old) (Some target)
-        (form_of (D.meaning.dims value.old) base (expr_view e.now))) value.old a value.new) }
+        (seen_of (D.meaning.dims value.old) base (expr_view e.now))) value.old a value.new) }
     ensures dims { OnOk result (D.meaning.dims value.new ≡ D.meaning.dims value.old) }
 {
     let exactness = set(alloc, base, target.place, e, value)?;
@@ -155,7 +162,7 @@ fn give<D: Domain>(
 
 /// What the least change of the program does to the value.
 pub fn change<D: Domain>(alloc: Global, op: &Op, value: &mut D) -> Result<Exactness, AllocError>
-    requires few { D.meaning.dims value.old ≤ 2 ^ 30 }
+    requires few { D.meaning.dims value.old ≤ most_live }
     requires fits { OpFits (op_view op.now) (D.meaning.dims value.old) }
     ensures changes { IfOk result (λ a. ChangesTo D.meaning (op_view op.now) value.old a value.new) }
     ensures dims { OnOk result (D.meaning.dims value.new ≡ dims_behind (op_view op.now) (D.meaning.dims value.old)) }

@@ -1,30 +1,56 @@
 //! What a comparison leaves of a value.
 
-ghost use Rattle.std.specs.Prelude.{◌≡◌, ◌<◌, ◌^◌, Some, length, IfOk, OnOk};
+ghost use Rattle.std.specs.Prelude.{◌≡◌, ◌≤◌, ◌+◌, length, IfOk, OnOk};
 ghost use Rattle.lra_base.specs.Operators.{below, differs};
 ghost use Rattle.lra_base.specs.OperatorViews.{comparison_view};
 ghost use Rattle.lra_program.specs.ProgramViews.{expr_view};
-ghost use Rattle.lra_flow.specs.Linear.{difference_form, comparison_test};
+ghost use Rattle.lra_flow.specs.Linear.{comparison_test};
+ghost use Rattle.lra_flow.specs.Seen.{Divides, SeenFits, difference_seen};
+ghost use Rattle.lra_flow.specs.Room.{most_live};
 ghost use Rattle.lra_flow.specs.Operations.{dropping};
 ghost use Rattle.lra_flow.specs.Moves.{Takes};
-ghost use Rattle.lra_flow.specs.MovesOf.{test_moves, comparison_moves};
+ghost use Rattle.lra_flow.specs.MovesOf.{test_moves, case_moves, seen_moves, split_moves, comparison_moves};
 
+use crate::cases::change_in_cases;
 use lra_base::Comparison;
-use lra_domain::{Domain, Exactness, worse};
-use lra_forms::{difference_of, test_of};
+use lra_domain::{Change, Domain, Exactness, worse};
+use lra_flow::{Division, Seen};
+use lra_forms::{see_difference, test_of};
 use lra_lin::LinExpr;
 use lra_program::Expr;
 use std::alloc::{AllocError, Global};
 
-/// What the comparison's test leaves of the value; all of it where there is none.
+/// What the comparison's test leaves of the value, by what is seen of its difference; all of it where there is none.
 fn leave_test<D: Domain>(
+    alloc: Global,
+    op: Comparison,
+    seen: &Seen,
+    value: &mut D,
+    before: Exactness,
+) -> Result<Exactness, AllocError>
+    requires few { D.meaning.dims value.old ≤ most_live }
+    requires width { SeenFits seen.now (D.meaning.dims value.old) }
+    ensures leaves { IfOk result (λ e. Takes (dropping D.meaning)
+        (seen_moves (D.meaning.dims value.old) (comparison_view op) seen.now)
+        value.old before value.new e) }
+    ensures dims { OnOk result (D.meaning.dims value.new ≡ D.meaning.dims value.old) }
+{
+    match seen {
+        Seen::Unseen => Ok(before),
+        Seen::Linear(d) => leave_linear(alloc, op, d, value, before),
+        Seen::Divided(division, d) => leave_divided(alloc, op, division, d, value, before),
+    }
+}
+
+/// What the test of a linear difference leaves.
+fn leave_linear<D: Domain>(
     alloc: Global,
     op: Comparison,
     d: &LinExpr,
     value: &mut D,
     before: Exactness,
 ) -> Result<Exactness, AllocError>
-    requires few { D.meaning.dims value.old < 2 ^ 62 }
+    requires few { D.meaning.dims value.old ≤ most_live }
     requires width { length d.now.coefficients ≡ D.meaning.dims value.old }
     ensures leaves { IfOk result (λ e. Takes (dropping D.meaning)
         (test_moves (comparison_test (comparison_view op) d.now)) value.old before value.new e) }
@@ -39,42 +65,90 @@ fn leave_test<D: Domain>(
     }
 }
 
+/// What the test of a difference leaves that is linear over a division's variables, too: in both cases, joined.
+fn leave_divided<D: Domain>(
+    alloc: Global,
+    op: Comparison,
+    division: &Division,
+    d: &LinExpr,
+    value: &mut D,
+    before: Exactness,
+) -> Result<Exactness, AllocError>
+    requires few { D.meaning.dims value.old ≤ most_live }
+    requires divides { Divides division.now (D.meaning.dims value.old) }
+    requires width { length d.now.coefficients ≡ D.meaning.dims value.old + 2 }
+    ensures leaves { IfOk result (λ e. Takes (dropping D.meaning)
+        (case_moves (D.meaning.dims value.old) division.now
+        (comparison_test (comparison_view op) d.now))
+        value.old before value.new e) }
+    ensures dims { OnOk result (D.meaning.dims value.new ≡ D.meaning.dims value.old) }
+{
+    match test_of(alloc, op, d)? {
+        None => Ok(before),
+        Some(test) => {
+            let exactness = change_in_cases(alloc, division, &Change::Test(test), value)?;
+            Ok(worse(before, exactness))
+        }
+    }
+}
+
 /// What `<` leaves of the value, which itself stays.
 fn leave_below<D: Domain>(
     alloc: Global,
-    d: &LinExpr,
+    seen: &Seen,
     value: &D,
     before: Exactness,
 ) -> Result<(D, Exactness), AllocError>
-    requires few { D.meaning.dims value.now < 2 ^ 62 }
-    requires width { length d.now.coefficients ≡ D.meaning.dims value.now }
+    requires few { D.meaning.dims value.now ≤ most_live }
+    requires width { SeenFits seen.now (D.meaning.dims value.now) }
     ensures leaves { IfOk result (λ r. Takes (dropping D.meaning)
-        (test_moves (comparison_test below d.now)) value.now before r.0 r.1) }
+        (seen_moves (D.meaning.dims value.now) below seen.now) value.now before r.0 r.1) }
     ensures dims { IfOk result (λ r. D.meaning.dims r.0 ≡ D.meaning.dims value.now) }
 {
     let mut less = value.copy(alloc)?;
-    let exactness = leave_test(alloc, Comparison::Below, d, &mut less, before)?;
+    let exactness = leave_test(alloc, Comparison::Below, seen, &mut less, before)?;
     Ok((less, exactness))
 }
 
 /// What `<` or `>` leaves of the value.
 fn leave_differs<D: Domain>(
     alloc: Global,
-    d: &LinExpr,
+    seen: &Seen,
     value: &mut D,
     before: Exactness,
 ) -> Result<Exactness, AllocError>
-    requires few { D.meaning.dims value.old < 2 ^ 62 }
-    requires width { length d.now.coefficients ≡ D.meaning.dims value.old }
+    requires few { D.meaning.dims value.old ≤ most_live }
+    requires width { SeenFits seen.now (D.meaning.dims value.old) }
     ensures leaves { IfOk result (λ e. Takes (dropping D.meaning)
-        (comparison_moves differs (Some d.now)) value.old before value.new e) }
+        (split_moves (D.meaning.dims value.old) differs seen.now) value.old before value.new e) }
     ensures dims { OnOk result (D.meaning.dims value.new ≡ D.meaning.dims value.old) }
 {
-    let (mut less, one) = leave_below(alloc, d, value, before)?;
-    let two = leave_test(alloc, Comparison::Above, d, value, before)?;
+    let (mut less, one) = leave_below(alloc, seen, value, before)?;
+    let two = leave_test(alloc, Comparison::Above, seen, value, before)?;
     let joined = less.join(value)?;
     *value = less;
     Ok(worse(worse(one, two), joined))
+}
+
+/// What a comparison leaves of the value, by what is seen of its difference; `!=` is `<` or `>`.
+fn leave_seen<D: Domain>(
+    alloc: Global,
+    op: Comparison,
+    seen: &Seen,
+    value: &mut D,
+    before: Exactness,
+) -> Result<Exactness, AllocError>
+    requires few { D.meaning.dims value.old ≤ most_live }
+    requires width { SeenFits seen.now (D.meaning.dims value.old) }
+    ensures leaves { IfOk result (λ e. Takes (dropping D.meaning)
+        (split_moves (D.meaning.dims value.old) (comparison_view op) seen.now)
+        value.old before value.new e) }
+    ensures dims { OnOk result (D.meaning.dims value.new ≡ D.meaning.dims value.old) }
+{
+    match op {
+        Comparison::Differs => leave_differs(alloc, seen, value, before),
+        _ => leave_test(alloc, op, seen, value, before),
+    }
 }
 
 /// In what a condition is read: the allocator of what is built for it, and where the variables of its call begin.
@@ -84,7 +158,7 @@ pub struct Surroundings {
     pub base: usize,
 }
 
-/// What a comparison leaves of the value; all of it where the difference isn't linear.
+/// What a comparison leaves of the value; all of it where nothing is seen of the difference.
 pub fn leave_comparison<D: Domain>(
     around: Surroundings,
     op: Comparison,
@@ -93,17 +167,17 @@ pub fn leave_comparison<D: Domain>(
     value: &mut D,
     before: Exactness,
 ) -> Result<Exactness, AllocError>
-    requires { D.meaning.dims value.old < 2 ^ 62 }
-    ensures leaves { IfOk result (λ e. Takes (dropping D.meaning) (comparison_moves (comparison_view op)
-        (difference_form (D.meaning.dims value.old) around.base (expr_view left.now) (expr_view right.now)))
+    requires { D.meaning.dims value.old ≤ most_live }
+    ensures leaves { IfOk result (λ e. Takes (dropping D.meaning)
+        (comparison_moves (D.meaning.dims value.old) (comparison_view op)
+        (difference_seen (D.meaning.dims value.old) around.base
+        (expr_view left.now) (expr_view right.now)))
         value.old before value.new e) }
     ensures dims { OnOk result (D.meaning.dims value.new ≡ D.meaning.dims value.old) }
 {
-    let Some(d) = difference_of(around.alloc, value.dims(), around.base, left, right)? else {
-        return Ok(before);
-    };
-    match op {
-        Comparison::Differs => leave_differs(around.alloc, &d, value, before),
-        _ => leave_test(around.alloc, op, &d, value, before),
+    let seen = see_difference(around.alloc, value.dims(), around.base, left, right)?;
+    match &seen {
+        Seen::Unseen => Ok(before),
+        _ => leave_seen(around.alloc, op, &seen, value, before),
     }
 }

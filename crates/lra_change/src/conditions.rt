@@ -1,9 +1,10 @@
 //! What a condition leaves of a value. What is never inlined is there so that the functions that call themselves at each
 //! level of nesting take little of the stack.
 
-ghost use Rattle.std.specs.Prelude.{◌≡◌, ◌<◌, ◌^◌, ◌∷◌, [], map, length, slice_index_or, IfOk, OnOk};
+ghost use Rattle.std.specs.Prelude.{◌≡◌, ◌≤◌, ◌∷◌, [], map, length, slice_index_or, IfOk, OnOk};
 ghost use Rattle.lra_program.specs.Program.{nonzero};
 ghost use Rattle.lra_program.specs.ProgramViews.{all_of, any_of, cond_view, expr_view};
+ghost use Rattle.lra_flow.specs.Room.{most_live};
 ghost use Rattle.lra_flow.specs.Operations.{dropping};
 ghost use Rattle.lra_flow.specs.Moves.{Takes};
 ghost use Rattle.lra_flow.specs.MovesOf.{guard};
@@ -26,7 +27,7 @@ fn leave_nonzero<D: Domain>(
     value: &mut D,
     before: Exactness,
 ) -> Result<Exactness, AllocError>
-    requires { D.meaning.dims value.old < 2 ^ 62 }
+    requires { D.meaning.dims value.old ≤ most_live }
     ensures leaves { IfOk result (λ a. Takes (dropping D.meaning)
         (guard (D.meaning.dims value.old) around.base wanted (nonzero (expr_view e.now)))
         value.old before value.new a) }
@@ -67,7 +68,7 @@ fn divide_lefts<'a, D: Domain>(
     wanted: bool,
     from: Kept<D>,
 ) -> Result<Apart<'a, D>, AllocError>
-    requires { D.meaning.dims from.value < 2 ^ 62 }
+    requires { D.meaning.dims from.value ≤ most_live }
     ensures apart { IfOk result (λ a. IsEitherSoFar D.meaning around.base wanted (cond_view first.now)
         (map cond_view rest.now) from a.lefts.items a.off (cond_view a.last.now) []) }
     ensures last { IfOk result (λ a. a.last.now ≡ slice_index_or (first.now ∷ rest.now) (length rest.now) a.last.now) }
@@ -117,7 +118,7 @@ pub fn leave<D: Domain>(
     value: &mut D,
     before: Exactness,
 ) -> Result<Exactness, AllocError>
-    requires { D.meaning.dims value.old < 2 ^ 62 }
+    requires { D.meaning.dims value.old ≤ most_live }
     ensures leaves { IfOk result (λ e. Takes (dropping D.meaning)
         (guard (D.meaning.dims value.old) base wanted (cond_view condition.now)) value.old before value.new e) }
     ensures dims { OnOk result (D.meaning.dims value.new ≡ D.meaning.dims value.old) }
@@ -149,7 +150,7 @@ fn leave_all<D: Domain>(
     value: &mut D,
     before: Exactness,
 ) -> Result<Exactness, AllocError>
-    requires { D.meaning.dims value.old < 2 ^ 62 }
+    requires { D.meaning.dims value.old ≤ most_live }
     ensures leaves { IfOk result (λ e. Takes (dropping D.meaning)
         (guard (D.meaning.dims value.old) around.base wanted (all_of (cond_view first.now) (map cond_view rest.now)))
         value.old before value.new e) }
@@ -172,7 +173,7 @@ fn leave_any<D: Domain>(
     value: &mut D,
     before: Exactness,
 ) -> Result<Exactness, AllocError>
-    requires { D.meaning.dims value.old < 2 ^ 62 }
+    requires { D.meaning.dims value.old ≤ most_live }
     ensures leaves { IfOk result (λ e. Takes (dropping D.meaning)
         (guard (D.meaning.dims value.old) around.base wanted (any_of (cond_view first.now) (map cond_view rest.now)))
         value.old before value.new e) }
@@ -195,7 +196,7 @@ fn leave_in_turn<D: Domain>(
     value: &mut D,
     before: Exactness,
 ) -> Result<Exactness, AllocError>
-    requires { D.meaning.dims value.old < 2 ^ 62 }
+    requires { D.meaning.dims value.old ≤ most_live }
     ensures leaves { IfOk result (λ e. Takes (dropping D.meaning)
         (in_turn_of (D.meaning.dims value.old) around.base wanted (cond_view first.now) (map cond_view rest.now))
         value.old before value.new e) }
@@ -218,7 +219,7 @@ fn leave_either<D: Domain>(
     value: &mut D,
     before: Exactness,
 ) -> Result<Exactness, AllocError>
-    requires { D.meaning.dims value.old < 2 ^ 62 }
+    requires { D.meaning.dims value.old ≤ most_live }
     ensures leaves { IfOk result (λ e. Takes (dropping D.meaning)
         (either_of (D.meaning.dims value.old) around.base wanted (cond_view first.now) (map cond_view rest.now))
         value.old before value.new e) }

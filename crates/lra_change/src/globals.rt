@@ -1,7 +1,9 @@
 //! The global variables at their first values, with which an iteration begins.
 
-ghost use Rattle.std.specs.Prelude.{◌≡◌, ◌+◌, ◌<◌, ◌≤◌, ◌^◌, suc, length, Some, IfOk, OnOk};
+ghost use Rattle.std.specs.Prelude.{◌≡◌, ◌+◌, ◌<◌, ◌≤◌, suc, length, IfOk, OnOk};
 ghost use Rattle.lra_flow.specs.Linear.{constant_form};
+ghost use Rattle.lra_flow.specs.declared.seen.Seen.TheVariants.{Linear};
+ghost use Rattle.lra_flow.specs.Room.{most_live};
 ghost use Rattle.lra_flow.specs.MovesOf.{within_type, append_set, first_values};
 ghost use Rattle.lra_change.specs.Changes.{Does};
 
@@ -17,11 +19,11 @@ fn append_global<D: Domain>(
     global: &GlobalVariable,
     value: &mut D,
 ) -> Result<Exactness, AllocError>
-    requires { D.meaning.dims value.old < 2 ^ 30 }
+    requires { D.meaning.dims value.old < most_live }
     ensures appends { IfOk result (λ a. Does D.meaning (within_type global.now.number_type
         (suc (D.meaning.dims value.old)) (D.meaning.dims value.old)
         (append_set (D.meaning.dims value.old)
-        (Some (constant_form (suc (D.meaning.dims value.old)) global.now.value))))
+        (Linear (constant_form (suc (D.meaning.dims value.old)) global.now.value))))
         value.old a value.new) }
     ensures dims { OnOk result (D.meaning.dims value.new ≡ suc (D.meaning.dims value.old)) }
 {
@@ -39,7 +41,7 @@ pub fn append_globals<D: Domain>(
     globals: &[GlobalVariable],
     value: &mut D,
 ) -> Result<Exactness, AllocError>
-    requires { D.meaning.dims value.old + length globals.now ≤ 2 ^ 30 }
+    requires { D.meaning.dims value.old + length globals.now ≤ most_live }
     ensures appends { IfOk result (λ a. Does D.meaning
         (first_values (D.meaning.dims value.old) globals.now) value.old a value.new) }
     ensures dims { OnOk result (D.meaning.dims value.new ≡ D.meaning.dims value.old + length globals.now) }

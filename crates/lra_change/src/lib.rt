@@ -1,6 +1,7 @@
 //! What conditions and least changes of a program do to a value, for any domain.
 #![tactic(auto)]
 
+mod cases;
 mod changes;
 mod comparisons;
 mod conditions;

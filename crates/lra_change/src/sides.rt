@@ -1,10 +1,11 @@
 //! What a condition leaves of a value where it is true, together with what it leaves where it is false.
 //! What is never inlined holds nothing while the function for a condition inside this one runs.
 
-ghost use Rattle.std.specs.Prelude.{◌≡◌, ◌<◌, ◌^◌, map, true, IfOk};
+ghost use Rattle.std.specs.Prelude.{◌≡◌, ◌≤◌, map, true, IfOk};
 ghost use Rattle.lra_base.specs.OperatorViews.{comparison_view};
 ghost use Rattle.lra_program.specs.Program.{compare, nonzero};
 ghost use Rattle.lra_program.specs.ProgramViews.{all_of, any_of, expr_view, cond_view};
+ghost use Rattle.lra_flow.specs.Room.{most_live};
 ghost use Rattle.lra_change.specs.Sides.{SplitsBy, AreJoinedTo, AreJoinedBack, AllKeptHave};
 
 use crate::comparisons::{Surroundings, leave_comparison};
@@ -92,7 +93,7 @@ fn split_comparison<D: Domain>(
     right: &Expr,
     from: Kept<D>,
 ) -> Result<Sides<D>, AllocError>
-    requires { D.meaning.dims from.value < 2 ^ 62 }
+    requires { D.meaning.dims from.value ≤ most_live }
     ensures { IfOk result (λ s. SplitsBy D.meaning base true
         (compare (comparison_view op) (expr_view left.now) (expr_view right.now)) from s) }
 {
@@ -124,7 +125,7 @@ fn split_nonzero<D: Domain>(
     e: &Expr,
     from: Kept<D>,
 ) -> Result<Sides<D>, AllocError>
-    requires { D.meaning.dims from.value < 2 ^ 62 }
+    requires { D.meaning.dims from.value ≤ most_live }
     ensures { IfOk result (λ s. SplitsBy D.meaning base true (nonzero (expr_view e.now)) from s) }
 {
     let zero = Expr::Literal(NumberType::Int, 0);
@@ -140,7 +141,7 @@ pub fn split<D: Domain>(
     condition: &Cond,
     from: Kept<D>,
 ) -> Result<Sides<D>, AllocError>
-    requires { D.meaning.dims from.value < 2 ^ 62 }
+    requires { D.meaning.dims from.value ≤ most_live }
     ensures { IfOk result (λ s. SplitsBy D.meaning base true (cond_view condition.now) from s) }
 {
     match condition {
@@ -164,7 +165,7 @@ fn split_all<D: Domain>(
     rest: &[Cond],
     from: Kept<D>,
 ) -> Result<Sides<D>, AllocError>
-    requires { D.meaning.dims from.value < 2 ^ 62 }
+    requires { D.meaning.dims from.value ≤ most_live }
     ensures { IfOk result (λ s. SplitsBy D.meaning base true
         (all_of (cond_view first.now) (map cond_view rest.now)) from s) }
 {
@@ -187,7 +188,7 @@ fn split_any<D: Domain>(
     rest: &[Cond],
     from: Kept<D>,
 ) -> Result<Sides<D>, AllocError>
-    requires { D.meaning.dims from.value < 2 ^ 62 }
+    requires { D.meaning.dims from.value ≤ most_live }
     ensures { IfOk result (λ s. SplitsBy D.meaning base true
         (any_of (cond_view first.now) (map cond_view rest.now)) from s) }
 {
@@ -209,7 +210,7 @@ pub fn divide<D: Domain>(
     wanted: bool,
     from: Kept<D>,
 ) -> Result<Sides<D>, AllocError>
-    requires { D.meaning.dims from.value < 2 ^ 62 }
+    requires { D.meaning.dims from.value ≤ most_live }
     ensures { IfOk result (λ s. SplitsBy D.meaning base wanted (cond_view condition.now) from s) }
 {
     let sides = split(alloc, base, condition, from)?;

@@ -1,8 +1,9 @@
 //! What is left of a value where a variable lies within its type.
 
-ghost use Rattle.std.specs.Prelude.{◌≡◌, ◌≤◌, ◌^◌, IfOk, OnOk};
+ghost use Rattle.std.specs.Prelude.{◌≡◌, ◌≤◌, IfOk, OnOk};
 ghost use Rattle.lra_base.specs.declared.number_types.NumberType.TheVariants.{Int};
 ghost use Rattle.lra_domain.specs.Moves.{Moves};
+ghost use Rattle.lra_flow.specs.Room.{most_live};
 ghost use Rattle.lra_flow.specs.MovesOf.{within_type};
 ghost use Rattle.lra_change.specs.Changes.{Does};
 
@@ -21,7 +22,7 @@ fn hold_int<D: Domain>(
     value: &mut D,
     before: Exactness,
 ) -> Result<Exactness, AllocError>
-    requires { D.meaning.dims value.old ≤ 2 ^ 30 }
+    requires { D.meaning.dims value.old ≤ most_live }
     ensures holds { IfOk result (λ a. (p : Moves) (v : D) → Does D.meaning p v before value.old
         → Does D.meaning (within_type Int (D.meaning.dims value.old) place p) v a value.new) }
     ensures dims { OnOk result (D.meaning.dims value.new ≡ D.meaning.dims value.old) }
@@ -51,7 +52,7 @@ pub fn hold_type<D: Domain>(
     value: &mut D,
     before: Exactness,
 ) -> Result<Exactness, AllocError>
-    requires { D.meaning.dims value.old ≤ 2 ^ 30 }
+    requires { D.meaning.dims value.old ≤ most_live }
     ensures holds { IfOk result (λ a. (p : Moves) (v : D) → Does D.meaning p v before value.old
         → Does D.meaning (within_type number_type (D.meaning.dims value.old) place p)
         v a value.new) }

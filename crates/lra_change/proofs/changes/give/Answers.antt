@@ -1,10 +1,9 @@
 -- Goals of `give`: the target gets the expression's value.
 use Rattle.std.proofs.Common.{refl}
-use Rattle.lra_domain.specs.Moves.{make}
 use Rattle.lra_program.specs.ProgramViews.{expr_view}
-use Rattle.lra_flow.specs.Linear.{form_of}
+use Rattle.lra_flow.specs.Seen.{seen_of}
 use Rattle.lra_flow.specs.MovesOf.{set_to}
-use Rattle.lra_change.proofs.ChangeSteps.{done_set, held_as}
+use Rattle.lra_change.proofs.ChangeSteps.{held_as}
 use Rattle.lra_change.proofs.changes.give.Goals as goal
 
 pub returns-clause-gives : goal.returns-clause-gives
@@ -12,8 +11,6 @@ returns-clause-gives g c =
     let m = g.D.Domain.meaning in
     let v = c.args.value.now in
     let x = c.args.target.place in
-    let f = form_of (m.dims v) c.args.base (expr_view c.args.e.now) in
-    let made = done_set m x f v c.in_ok-exactness.exactness c.set.new.value c.in_ok-exactness.ensures.sets c.in_ok-exactness.ensures.dims
-    c.in_ok-exactness.ensures.capped in
-    held_as m c.args.target.number_type (make (set_to x f)) (m.dims c.set.new.value) (m.dims v) x x v c.in_ok-held.held c.hold_type.new.value
-    c.in_ok-exactness.ensures.dims refl (c.in_ok-held.ensures.holds (make (set_to x f)) v made)
+    let moves = set_to (m.dims v) x (seen_of (m.dims v) c.args.base (expr_view c.args.e.now)) in
+    held_as m c.args.target.number_type moves (m.dims c.set.new.value) (m.dims v) x x v c.in_ok-held.held c.hold_type.new.value
+    c.in_ok-exactness.ensures.dims refl (c.in_ok-held.ensures.holds moves v c.in_ok-exactness.ensures.sets)

@@ -2,18 +2,18 @@
 use Rattle.std.proofs.Common.{refl, sym, ◌∙◌}
 use Rattle.lra_base.specs.Operators.{below, above}
 use Rattle.lra_domain.specs.Meaning.{worse}
-use Rattle.lra_flow.specs.Linear.{comparison_test}
 use Rattle.lra_flow.specs.Operations.{dropping}
-use Rattle.lra_flow.specs.MovesOf.{test_moves}
+use Rattle.lra_flow.specs.MovesOf.{seen_moves}
 use Rattle.lra_flow.proofs.Takes.{join_takes}
 use Rattle.lra_change.proofs.comparisons.leave_differs.Goals as goal
 
 pub returns-clause-leaves : goal.returns-clause-leaves
 returns-clause-leaves g c =
     let m = g.D.Domain.meaning in
-    let d = c.args.d.now in
+    let n = m.dims c.args.value.now in
+    let d = c.args.seen.now in
     rw (c.worse-2.ensures.is, c.worse.ensures.is) ((join_takes (dropping m) c.args.value.now c.args.before c.join.new.self (worse (worse c.in_ok-less.one c.in_ok-two.two) c.in_ok-joined.joined)
-    (test_moves (comparison_test below d)) (test_moves (comparison_test above d))).0 (
+    (seen_moves n below d) (seen_moves n above d)).0 (
       c.in_ok-less.less,
       c.leave_test.new.value,
       c.in_ok-less.one,

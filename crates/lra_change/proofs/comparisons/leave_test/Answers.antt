@@ -1,19 +1,28 @@
--- Goals of `leave_test`: what the comparison's test leaves of the value.
-use Rattle.std.proofs.Common.{◌≡◌, None, Some, refl, sym, ◌∙◌}
-use Rattle.lra_base.specs.OperatorViews.{comparison_view}
-use Rattle.lra_flow.specs.Linear.{comparison_test}
+-- Goals of `leave_test`: what the comparison's test leaves of the value, by what is seen of its difference.
+use Rattle.std.proofs.Common.{refl}
 use Rattle.lra_flow.specs.Operations.{dropping}
 use Rattle.lra_flow.proofs.Takes.{stay_takes}
 use Rattle.lra_change.proofs.comparisons.leave_test.Goals as goal
 
-pub returns-in-None-clause-leaves : goal.returns-in-None-clause-leaves
-returns-in-None-clause-leaves g c =
-    let none : comparison_test (comparison_view c.args.op) c.args.d.now ≡ None = sym c.in_ok-test_of.ensures ∙ c.in-None.is in
-    rw none ((stay_takes (dropping g.D.Domain.meaning) c.args.value.now c.args.before c.args.value.now c.args.before).0 (refl, refl))
+pub leave_linear-requires-clause-width : goal.leave_linear-requires-clause-width
+leave_linear-requires-clause-width g c = rw c.in-Linear.is at c.requires.width
 
-pub returns-in_ok-exactness-in-Some-clause-leaves : goal.returns-in_ok-exactness-in-Some-clause-leaves
-returns-in_ok-exactness-in-Some-clause-leaves g c =
-    let some : comparison_test (comparison_view c.args.op) c.args.d.now ≡ Some c.in-Some.test =
-    sym c.in_ok-test_of.ensures ∙ c.in-Some.is in
-    let tested = c.in_ok-exactness-in-Some.ensures in
-    rw some (c.in_ok-exactness-in-Some.exactness, (tested.meets, tested.dims, tested.capped), c.worse.ensures.is)
+pub leave_divided-requires-clause-divides : goal.leave_divided-requires-clause-divides
+leave_divided-requires-clause-divides g c =
+    let fits = rw c.in-Divided.is at c.requires.width in
+    fits.0
+
+pub leave_divided-requires-clause-width : goal.leave_divided-requires-clause-width
+leave_divided-requires-clause-width g c =
+    let fits = rw c.in-Divided.is at c.requires.width in
+    fits.1
+
+pub returns-in-Unseen-clause-leaves : goal.returns-in-Unseen-clause-leaves
+returns-in-Unseen-clause-leaves g c =
+    rw c.in-Unseen.is ((stay_takes (dropping g.D.Domain.meaning) c.args.value.now c.args.before c.args.value.now c.args.before).0 (refl, refl))
+
+pub returns-in-Linear-clause-leaves : goal.returns-in-Linear-clause-leaves
+returns-in-Linear-clause-leaves g c = rw c.in-Linear.is c.leave_linear.ensures.leaves
+
+pub returns-in-Divided-clause-leaves : goal.returns-in-Divided-clause-leaves
+returns-in-Divided-clause-leaves g c = rw c.in-Divided.is c.leave_divided.ensures.leaves

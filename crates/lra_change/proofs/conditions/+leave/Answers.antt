@@ -5,7 +5,7 @@ use Rattle.lra_base.specs.OperatorViews.{comparison_view}
 use Rattle.lra_program.specs.Program.{nonzero}
 use Rattle.lra_program.specs.ProgramViews.{all_of, any_of, cond_view, expr_view}
 use Rattle.lra_base.specs.Operators.{Comparison}
-use Rattle.lra_flow.specs.Linear.{difference_form}
+use Rattle.lra_flow.specs.Seen.{difference_seen}
 use Rattle.lra_flow.specs.MovesOf.{comparison_moves, guard}
 use Rattle.lra_forms.specs.Conditions.{in_turn_of, either_of}
 use Rattle.lra_forms.proofs.CondSteps.{all_true, any_false, all_false, any_true}
@@ -18,12 +18,12 @@ pub leave-returns-in-Compare-clause-leaves : goal.leave-returns-in-Compare-claus
 leave-returns-in-Compare-clause-leaves g t c =
     let m = g.D.Domain.meaning in
     let n = m.dims c.args.value.now in
-    let difference = difference_form n c.args.base (expr_view c.in-Compare.left) (expr_view c.in-Compare.right) in
+    let difference = difference_seen n c.args.base (expr_view c.in-Compare.left) (expr_view c.in-Compare.right) in
     let shown = ap cond_view c.in-Compare.is ∙ compare_view c.in-Compare.op c.in-Compare.left c.in-Compare.right in
     leaves_as m c.leave_comparison.result c.args.value.now c.args.before c.leave_comparison.new.value
-    (comparison_moves (comparison_view c.comparison_where-wanted_one.result) difference)
+    (comparison_moves n (comparison_view c.comparison_where-wanted_one.result) difference)
     (guard n c.args.base c.args.wanted (cond_view c.args.condition.now))
-    (ap (guard n c.args.base c.args.wanted) shown ∙ ap (λ (o : Comparison). comparison_moves o difference) (sym c.comparison_where-wanted_one.ensures))
+    (ap (guard n c.args.base c.args.wanted) shown ∙ ap (λ (o : Comparison). comparison_moves n o difference) (sym c.comparison_where-wanted_one.ensures))
     c.leave_comparison.ensures.leaves
 
 pub leave-returns-in-Nonzero-clause-leaves : goal.leave-returns-in-Nonzero-clause-leaves

@@ -1,6 +1,7 @@
 -- Goals of `append_global`: a new variable, with the global's first value.
-use Rattle.std.proofs.Common.{◌≡◌, ◌+◌, suc, Some, ◌∙◌, arith}
+use Rattle.std.proofs.Common.{◌≡◌, ◌+◌, suc, ◌∙◌, arith}
 use Rattle.lra_flow.specs.Linear.{constant_form}
+use Rattle.lra_flow.specs.declared.seen.Seen.TheVariants.{Linear}
 use Rattle.lra_flow.specs.MovesOf.{append_set}
 use Rattle.lra_change.proofs.ChangeSteps.{held_as}
 use Rattle.lra_change.proofs.GlobalSteps.{constant_wide, appended}
@@ -22,7 +23,7 @@ returns-clause-appends g c =
     let z = c.args.global.now.value in
     let made = appended m z c.in_ok-form.form v c.embed.new.self c.assign.new.self c.in_ok-one.one c.in_ok-two.two
     c.in_ok-one.ensures.meets c.in_ok-one.ensures.dims c.in_ok-one.ensures.capped form assigns c.in_ok-two.ensures.dims c.in_ok-two.ensures.capped in
-    let p = append_set (m.dims v) (Some (constant_form (suc (m.dims v)) z)) in
+    let p = append_set (m.dims v) (Linear (constant_form (suc (m.dims v)) z)) in
     let one : m.dims v + 1 ≡ suc (m.dims v) = omega arith in
     held_as m c.args.global.now.number_type p (m.dims c.assign.new.self) (suc (m.dims v)) c.dims-place.result (m.dims v) v c.in_ok-held.held
     c.hold_type.new.value

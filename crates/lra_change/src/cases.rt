@@ -1,0 +1,98 @@
+//! What is done to a value in a division's two cases.
+
+ghost use Rattle.std.specs.Prelude.{◌≡◌, ◌≤◌, ◌<◌, ◌+◌, length, IfOk, OnOk};
+ghost use Rattle.lra_domain.specs.Actions.{assign};
+ghost use Rattle.lra_domain.specs.Changes.{action_of, actions_of, AllCanBeMade, dims_behind};
+ghost use Rattle.lra_flow.specs.Room.{most_live};
+ghost use Rattle.lra_flow.specs.MovesOf.{in_turn, in_case, in_cases};
+ghost use Rattle.lra_flow.specs.Seen.{Divides};
+ghost use Rattle.lra_change.specs.Changes.{Does, Stays};
+
+use lra_domain::{Change, Domain, Exactness, worse};
+use lra_flow::Division;
+use lra_forms::{first_case, second_case};
+use lra_lin::LinExpr;
+use std::alloc::{AllocError, Global};
+
+/// Makes the changes, one behind the other.
+fn change_in_turn<D: Domain>(changes: &[Change], value: &mut D) -> Result<Exactness, AllocError>
+    requires { AllCanBeMade (actions_of changes.now) (D.meaning.dims value.old) }
+    ensures changes { IfOk result (λ a.
+        Does D.meaning (in_turn (actions_of changes.now)) value.old a value.new) }
+    ensures dims { OnOk result (D.meaning.dims value.new ≡
+        dims_behind (actions_of changes.now) (D.meaning.dims value.old)) }
+{
+    let Some((first, later)) = changes.split_first() else {
+        return Ok(Exactness::Exact);
+    };
+    let one = value.change(first)?;
+    let others = change_in_turn(later, value)?;
+    Ok(worse(one, others))
+}
+
+/// One case: it begins so, then comes the change, then the two variables of the case go.
+fn change_in_case<D: Domain>(
+    begun: &[Change],
+    step: &Change,
+    value: &mut D,
+) -> Result<Exactness, AllocError>
+    requires begins { AllCanBeMade (actions_of begun.now) (D.meaning.dims value.old) }
+    requires two { dims_behind (actions_of begun.now) (D.meaning.dims value.old) ≡
+        D.meaning.dims value.old + 2 }
+    requires stays { Stays (action_of step.now) (D.meaning.dims value.old + 2) }
+    ensures changes { IfOk result (λ a. Does D.meaning
+        (in_case (actions_of begun.now) (action_of step.now)) value.old a value.new) }
+    ensures dims { OnOk result (D.meaning.dims value.new ≡ D.meaning.dims value.old) }
+{
+    let one = change_in_turn(begun, value)?;
+    let two = value.change(step)?;
+    let three = value.remove_last(2)?;
+    Ok(worse(one, worse(two, three)))
+}
+
+/// The change in both cases of the division, joined in order.
+pub fn change_in_cases<D: Domain>(
+    alloc: Global,
+    division: &Division,
+    step: &Change,
+    value: &mut D,
+) -> Result<Exactness, AllocError>
+    requires few { D.meaning.dims value.old ≤ most_live }
+    requires divides { Divides division.now (D.meaning.dims value.old) }
+    requires stays { Stays (action_of step.now) (D.meaning.dims value.old + 2) }
+    ensures changes { IfOk result (λ a. Does D.meaning
+        (in_cases (D.meaning.dims value.old) division.now (action_of step.now))
+        value.old a value.new) }
+    ensures dims { OnOk result (D.meaning.dims value.new ≡ D.meaning.dims value.old) }
+{
+    let live = value.dims();
+    let first = first_case(alloc, live, division)?;
+    let second = second_case(alloc, live, division)?;
+    let mut other = value.copy(alloc)?;
+    let one = change_in_case(first.as_slice(), step, value)?;
+    let two = change_in_case(second.as_slice(), step, &mut other)?;
+    let joined = value.join(&other)?;
+    Ok(worse(worse(one, two), joined))
+}
+
+/// The variable at the place gets the form's value in both cases of the division, joined in order.
+pub fn assign_in_cases<D: Domain>(
+    alloc: Global,
+    place: usize,
+    division: &Division,
+    form: &LinExpr,
+    value: &mut D,
+) -> Result<Exactness, AllocError>
+    requires few { D.meaning.dims value.old ≤ most_live }
+    requires place { place < D.meaning.dims value.old }
+    requires divides { Divides division.now (D.meaning.dims value.old) }
+    requires width { length form.now.coefficients ≡ D.meaning.dims value.old + 2 }
+    ensures changes { IfOk result (λ a. Does D.meaning
+        (in_cases (D.meaning.dims value.old) division.now (assign place form.now))
+        value.old a value.new) }
+    ensures dims { OnOk result (D.meaning.dims value.new ≡ D.meaning.dims value.old) }
+{
+    let copy = form.copy(alloc)?;
+    let step = Change::Assign(place, copy);
+    change_in_cases(alloc, division, &step, value)
+}
