@@ -1,5 +1,6 @@
 -- Rows with no tree in their trees, that are passed along behind what was found before them.
-use Rattle.std.proofs.Common.{◌≡◌, ℕ, suc, ◌+◌, ◌≤◌, ◌^◌, List, ◌∷◌, Option, refl, sym, ap, subst, ◌∙◌, arith}
+use Rattle.std.proofs.Common.{◌≡◌, ℕ, suc, ◌+◌, ◌≤◌, List, ◌∷◌, Option, refl, sym, ap, subst, ◌∙◌, arith}
+use Rattle.lra_flow.specs.Room.{most_live}
 use Rattle.lra_flow.specs.Plan.{Plan}
 use Rattle.lra_domain.specs.Meaning.{Meaning}
 use Rattle.lra_operations.specs.Graph as graph
@@ -28,13 +29,13 @@ other_takes k a one more = omega (arith, one, more)
 module _ {V H : Type 0} (m : Meaning V H) (set : Plan) where
   -- whatever a pass of the rest finds, the whole finds that, behind what was found before the row
   pub record FlatLoop (g rest : graph.Node) (begun so_far : Outcome V) : Type 0 where
-    pub few : m.dims so_far.normal ≤ 2 ^ 30
+    pub few : m.dims so_far.normal ≤ most_live
     pub fits : TreeFits rest (m.dims so_far.normal)
     pub passes : (t : Result V) → IsPassed m set rest so_far.flag so_far.normal t → (s : Result V) ×
         IsPassed m set g begun.flag begun.normal s × (s.normal ≡ t.normal) × (s.flag ≡ t.flag) ×
         ((v : V) (f : Option ℕ) → in_turn (seen begun) s v f ≡ in_turn (seen so_far) t v f)
 
-  pub flat_begins : (g : graph.Node) (begun : Outcome V) → m.dims begun.normal ≤ 2 ^ 30 →
+  pub flat_begins : (g : graph.Node) (begun : Outcome V) → m.dims begun.normal ≤ most_live →
       TreeFits g (m.dims begun.normal) → FlatLoop g g begun begun
   flat_begins g begun few fits = record {
     few = few;
@@ -51,7 +52,7 @@ module _ {V H : Type 0} (m : Meaning V H) (set : Plan) where
       let fits : TreeFits (graph.seq next others) (m.dims so_far.normal) =
       subst (λ x. TreeFits x (m.dims so_far.normal)) is loop.fits in
       record {
-        few = subst (λ (v : V). m.dims v ≤ 2 ^ 30) (sym followed.3) (subst (λ (n : ℕ). n ≤ 2 ^ 30) (sym one.dims) fits.1);
+        few = subst (λ (v : V). m.dims v ≤ most_live) (sym followed.3) (subst (λ (n : ℕ). n ≤ most_live) (sym one.dims) fits.1);
         fits = subst (λ (v : V). TreeFits others (m.dims v)) (sym followed.3)
             (subst (λ (n : ℕ). TreeFits others n) (sym one.dims) fits.2);
         passes = λ t two.

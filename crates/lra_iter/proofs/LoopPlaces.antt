@@ -1,11 +1,12 @@
 -- Places at loops: what their bodies are passed from, and what comes behind a round.
-use Rattle.std.proofs.Common.{◌≡◌, ◌≤◌, ◌^◌, ℕ, suc, Option, Some, None, refl, sym, ap, subst, ◌∙◌}
+use Rattle.std.proofs.Common.{◌≡◌, ◌≤◌, ℕ, suc, Option, Some, None, refl, sym, ap, subst, ◌∙◌}
 use Rattle.lra_domain.specs.Meaning.{Meaning}
 use Rattle.lra_domain.specs.Rank.{RankFits}
 use Rattle.lra_domain.specs.declared.Exactness.{Exactness}
 use Rattle.lra_program.specs.ProgramViews.{cond_view}
 use Rattle.lra_operations.specs.Graph.{Node, iterate}
 use Rattle.lra_operations.specs.GraphViews.{node_view}
+use Rattle.lra_flow.specs.Room.{most_live}
 use Rattle.lra_flow.specs.Plan.{Plan, mode_at}
 use Rattle.lra_flow.specs.Thresholds.{loop_rows}
 use Rattle.lra_flow.specs.Operations.{dropping}
@@ -64,7 +65,7 @@ module _ {V H : Type 0} (m : Meaning V H) (set : Plan) where
               same = has.4;
             },
             record {
-              few = subst (λ (n : ℕ). n ≤ 2 ^ 30) (sym dims) may.few;
+              few = subst (λ (n : ℕ). n ≤ most_live) (sym dims) may.few;
               fits = subst (λ (n : ℕ). TreeFits (node_view l.body.now) n) (sym dims) loop_fits.0;
               remembers = remembers_later m set (node_view l.body.now) flag inside memory
                   (later_noted l.point has.0 flag inside has.2) remembers;
@@ -119,8 +120,8 @@ module _ {V H : Type 0} (m : Meaning V H) (set : Plan) where
 
   module _ (l : Loop) (whole : Due V) (first : V) (flag : Option ℕ) (memory : Memory V)
       (here : IsLoopDue m set l whole first flag memory) where
-    pub due_few : m.dims first ≤ 2 ^ 30
-    due_few = subst (λ (v : V). m.dims v ≤ 2 ^ 30) here.first_is here.may.few
+    pub due_few : m.dims first ≤ most_live
+    due_few = subst (λ (v : V). m.dims v ≤ most_live) here.first_is here.may.few
 
     due_remembers : Remembers m set (iterate l.point l.base (cond_view l.condition.now) (node_view l.body.now)) whole.flag
         whole.memory
@@ -177,8 +178,8 @@ module _ {V H : Type 0} (m : Meaning V H) (set : Plan) where
     growing_wide = head_wide m set l.point l.base (cond_view l.condition.now) (node_view l.body.now) whole.value whole.flag
         growing turn here.begun memory here.head
 
-    pub growing_few : m.dims growing.value ≤ 2 ^ 30
-    growing_few = subst (λ (n : ℕ). n ≤ 2 ^ 30) (sym growing_wide) may.few
+    pub growing_few : m.dims growing.value ≤ most_live
+    growing_few = subst (λ (n : ℕ). n ≤ most_live) (sym growing_wide) may.few
 
     growing_remembers : Remembers m set (node_view l.body.now) growing.flag memory
     growing_remembers = remembers_on m set (node_view l.body.now) whole.flag here.head.so_far growing.flag here.begun memory
@@ -319,8 +320,8 @@ module _ {V H : Type 0} (m : Meaning V H) (set : Plan) where
     narrowed_wide : m.dims last.value ≡ m.dims whole.value
     narrowed_wide = here.narrowed.dims
 
-    pub narrowed_few : m.dims last.value ≤ 2 ^ 30
-    narrowed_few = subst (λ (n : ℕ). n ≤ 2 ^ 30) (sym narrowed_wide) may.few
+    pub narrowed_few : m.dims last.value ≤ most_live
+    narrowed_few = subst (λ (n : ℕ). n ≤ most_live) (sym narrowed_wide) may.few
 
     pub narrowed_behind : m.dims last.turn.outcome.normal ≡ m.dims first
     narrowed_behind = here.narrowed.behind ∙ ap m.dims (sym here.loop.first_is)
@@ -398,8 +399,8 @@ module _ {V H : Type 0} (m : Meaning V H) (set : Plan) where
 
   module _ (n : Narrowing V) (whole : Due V) (flag : Option ℕ) (memory : Memory V) (may : MayBePassed m set whole)
       (here : IsWaiting m set n whole flag memory) where
-    pub waiting_few : m.dims n.top ≤ 2 ^ 30
-    waiting_few = subst (λ (k : ℕ). k ≤ 2 ^ 30) (sym here.dims) may.few
+    pub waiting_few : m.dims n.top ≤ most_live
+    waiting_few = subst (λ (k : ℕ). k ≤ most_live) (sym here.dims) may.few
 
     pub waiting_kept : (kept : Turn V) → IsKept m set (node_view n.the_loop.body.now) flag kept.entered (seen kept.outcome) →
         AreKept m n.the_loop.plan.now (node_view n.the_loop.body.now) flag (Some kept)

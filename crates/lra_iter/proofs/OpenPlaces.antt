@@ -1,5 +1,5 @@
 -- Places that are open: one more and one less of them, and what comes next at rows, choices and catches.
-use Rattle.std.proofs.Common.{Box, Global, ◌≡◌, ◌≤◌, ◌^◌, true, false, ℕ, List, [], ◌∷◌, ◌++◌, map, Option, Some, refl, sym, ap, subst, ◌∙◌}
+use Rattle.std.proofs.Common.{Box, Global, ◌≡◌, ◌≤◌, true, false, ℕ, List, [], ◌∷◌, ◌++◌, map, Option, Some, refl, sym, ap, subst, ◌∙◌}
 use Rattle.std.specs.Prelude.{option_to_list, IfOk, MatchResult, OnOk}
 use Rattle.std.specs.Prelude as outcome_or
 use Rattle.lra_domain.specs.Meaning.{Meaning}
@@ -10,6 +10,7 @@ use Rattle.lra_operations.specs.declared.graph.Node as node
 use Rattle.lra_operations.specs.declared.graph.Exit as exit
 use Rattle.lra_operations.specs.Graph.{Node, choose, catch}
 use Rattle.lra_operations.specs.GraphViews.{exit_view, node_view, row}
+use Rattle.lra_flow.specs.Room.{most_live}
 use Rattle.lra_flow.specs.Plan.{Plan}
 use Rattle.lra_flow.specs.Operations.{dropping}
 use Rattle.lra_flow.specs.MovesOf.{guard}
@@ -240,7 +241,7 @@ module _ {V H : Type 0} (m : Meaning V H) (set : Plan) where
           kept = refl;
         },
         record {
-          few = subst (λ (k : ℕ). k ≤ 2 ^ 30) (sym on_dims) may.few;
+          few = subst (λ (k : ℕ). k ≤ most_live) (sym on_dims) may.few;
           fits = subst (λ (k : ℕ). TreeFits (node_view n) k) (sym on_dims) fits.0;
           remembers = remembers_first m set k.choice.point k.choice.base (cond_view k.choice.condition.now)
               (node_view n) (node_view k.choice.no.now) whole.flag flag whole.flag whole.flag whole.memory
@@ -299,7 +300,7 @@ module _ {V H : Type 0} (m : Meaning V H) (set : Plan) where
           off_flagged = flagged;
         }),
         record {
-          few = subst (λ (n : ℕ). n ≤ 2 ^ 30) (sym owed.off_dims) may.few;
+          few = subst (λ (n : ℕ). n ≤ most_live) (sym owed.off_dims) may.few;
           fits = subst (λ (n : ℕ). TreeFits (node_view k.choice.no.now) n) (sym owed.off_dims) fits.1;
           remembers = remembers_second m set k.choice.point k.choice.base c part.tree (node_view k.choice.no.now) whole.flag
               part.flag first.flag flag whole.memory memory
@@ -354,7 +355,7 @@ module _ {V H : Type 0} (m : Meaning V H) (set : Plan) where
       subst (λ (g : Node). Remembers m set g whole.flag whole.memory) is may.remembers in (
         (is, same, flagged, refl),
         record {
-          few = subst (λ (v : V). m.dims v ≤ 2 ^ 30) (sym same) may.few;
+          few = subst (λ (v : V). m.dims v ≤ most_live) (sym same) may.few;
           fits = subst (λ (v : V). TreeFits (node_view n) (m.dims v)) (sym same) fits.0;
           remembers = subst (λ (f : Option ℕ). Remembers m set (node_view n) f whole.memory) (sym flagged)
               remembers;

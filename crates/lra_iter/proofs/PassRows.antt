@@ -1,6 +1,6 @@
 -- Trees that are passed one after the other, along a sequence of them: what was found so far, with whatever the rest
 -- finds behind it, is what a pass of the whole finds.
-use Rattle.std.proofs.Common.{◌≡◌, ℕ, suc, ◌+◌, ◌≤◌, ◌^◌, List, [], ◌∷◌, map, Option, refl}
+use Rattle.std.proofs.Common.{◌≡◌, ℕ, suc, ◌+◌, ◌≤◌, List, [], ◌∷◌, map, Option, refl}
 use Rattle.std.proofs.Common.{sym, ap, subst, ◌∙◌, arith}
 use Rattle.std.specs.List.{sum_by}
 use Rattle.std.proofs.lemmas.List.{append_assoc}
@@ -9,6 +9,7 @@ use Rattle.lra_domain.specs.Meaning.{Meaning}
 use Rattle.lra_operations.specs.declared.graph.Node.{Node}
 use Rattle.lra_operations.specs.GraphViews.{node_view, row}
 use Rattle.lra_operations.specs.Graph as graph
+use Rattle.lra_flow.specs.Room.{most_live}
 use Rattle.lra_flow.specs.Plan.{Plan}
 use Rattle.lra_flow.specs.Pass.{Entry, Result, goes_on, in_turn}
 use Rattle.lra_iter.specs.Fits.{live_after, TreeFits}
@@ -82,7 +83,7 @@ module _ {V H : Type 0} (m : Meaning V H) (set : Plan) where
   }
 
   -- nothing is found yet
-  row_starts : (g : graph.Node) (f : Option ℕ) (v : V) (found : Found V) (memory : Memory V) → m.dims v ≤ 2 ^ 30 →
+  row_starts : (g : graph.Node) (f : Option ℕ) (v : V) (found : Found V) (memory : Memory V) → m.dims v ≤ most_live →
       TreeFits g (m.dims v) → ((u : V) (d : Option ℕ) → ended found u d ≡ goes_on [] u d)
       → RowLoop m set g f v g found v f memory memory
   row_starts g f v found memory few fits none = record {
@@ -92,7 +93,7 @@ module _ {V H : Type 0} (m : Meaning V H) (set : Plan) where
     passes = λ t one. subst (λ (x : Result V). IsPassed m set g f v (in_turn x t t.normal t.flag)) (sym (none v f)) one;
   }
 
-  pub row_begins : (g : graph.Node) (f : Option ℕ) (v : V) (begun : Outcome V) (memory : Memory V) → m.dims v ≤ 2 ^ 30 →
+  pub row_begins : (g : graph.Node) (f : Option ℕ) (v : V) (begun : Outcome V) (memory : Memory V) → m.dims v ≤ most_live →
       TreeFits g (m.dims v) → ((u : V) (d : Option ℕ) → ended begun.found u d ≡ goes_on [] u d)
       → begun.normal ≡ v → begun.flag ≡ f → RowLoop m set g f v g begun.found begun.normal begun.flag memory memory
   row_begins g f v begun memory few fits none one two =
@@ -125,7 +126,7 @@ module _ {V H : Type 0} (m : Meaning V H) (set : Plan) where
           subst (λ x. TreeFits x (m.dims behind)) is loop.fits in
           subst (λ (x : V). RowLoop m set g f v others all x flag old new) (sym value-is)
           (subst (λ (x : Option ℕ). RowLoop m set g f v others all part.normal x old new) (sym flag-is) (record {
-            few = subst (λ (n : ℕ). n ≤ 2 ^ 30) (sym one.dims) fits.1;
+            few = subst (λ (n : ℕ). n ≤ most_live) (sym one.dims) fits.1;
             fits = subst (λ (n : ℕ). TreeFits others n) (sym one.dims) fits.2;
             stays = λ loops has kept. (let now = next_has loops has kept in (now.0.1, stays loops now.0.0 now.1));
             passes = λ t two.

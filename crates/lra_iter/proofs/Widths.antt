@@ -15,9 +15,12 @@ use Rattle.lra_domain.specs.Laws.{Laws}
 use Rattle.lra_base.specs.Operators.{Comparison, below, at_most, above, at_least, equal, differs}
 use Rattle.lra_program.specs.Program.{Cond, Program, literal, compare, nonzero, opposite, both_of, either_of}
 use Rattle.lra_flow.specs.Linear as linear
-use Rattle.lra_lin.specs.Form.{Form}
 use Rattle.lra_lin.specs.declared.test.Test.{Test}
-use Rattle.lra_flow.specs.Linear.{comparison_test, difference_form}
+use Rattle.lra_flow.specs.Linear.{comparison_test}
+use Rattle.lra_flow.specs.declared.seen.Division.{Division}
+use Rattle.lra_flow.specs.declared.seen.Seen.{Seen}
+use Rattle.lra_flow.specs.declared.seen.Seen.TheVariants.{Linear, Divided, Unseen}
+use Rattle.lra_flow.specs.Seen.{seen_of, difference_seen}
 use Rattle.lra_domain.specs.Moves.{Moves, stay, make, first_then, join_of, dims_moved}
 use Rattle.lra_flow.specs.Moves.{AreMade}
 use Rattle.lra_program.specs.Step as step
@@ -26,12 +29,13 @@ use Rattle.lra_operations.specs.Graph.{Exit, broken, continued, returned, Node, 
 use Rattle.lra_program.specs.Sites.{Site}
 use Rattle.lra_flow.specs.Plan.{Plan, Widening}
 use Rattle.lra_flow.specs.Operations.{dropping}
-use Rattle.lra_flow.specs.MovesOf.{within_type, set_to, append_set, set_target, push_all, drop_last, moves_of, first_values, test_moves, comparison_moves, comparison_as, guard}
+use Rattle.lra_flow.specs.MovesOf.{within_type, set_to, append_set, set_target, push_all, drop_last, moves_of, first_values, tested, test_moves, case_moves}
+use Rattle.lra_flow.specs.MovesOf.{seen_moves, split_moves, comparison_moves, comparison_as, guard}
 use Rattle.lra_flow.specs.Pass.{AreJoined, Leaves, Entry, value, failing, Result, noted, jumps, first_of_call, values_behind, behind, Through, Changes, GoesRound, Grows, Narrows, Pass}
 use Rattle.lra_flow.specs.Analysis.{Derivation, Solves}
 use Rattle.lra_flow.proofs.Caps.{all_both}
 use Rattle.lra_change.specs.Changes.{dims_behind}
-use Rattle.lra_change.proofs.ChangeSteps.{set_dims}
+use Rattle.lra_change.proofs.ChangeSteps.{cases_dims, set_dims}
 use Rattle.lra_iter.specs.Fits.{live_after}
 use Rattle.lra_iter.specs.Lives.{LiveAt, PointsHave, AreWide}
 
@@ -45,12 +49,14 @@ within_after Int live x p n k e = e
 push_after : (live base : ℕ) (given : List Argument) (n : ℕ) → dims_moved (push_all live base given) n ≡ n + length given
 push_after live base [] n = omega arith
 push_after live base (a ∷ rest) n =
-    let f = linear.form_of (suc live) base a.value in
-    ap (dims_moved (push_all (suc live) base rest)) (within_after a.number_type (suc live) live (append_set live f) n (n + 1) (set_dims live f (n + 1))) ∙ push_after (suc live) base rest (n + 1) ∙ omega arith
+    let w = seen_of (suc live) base a.value in
+    ap (dims_moved (push_all (suc live) base rest))
+    (within_after a.number_type (suc live) live (append_set live w) n (n + 1) (set_dims (suc live) live w (n + 1))) ∙
+    push_after (suc live) base rest (n + 1) ∙ omega arith
 
-target_after : (live : ℕ) (o : Option Target) (f : Option Form) (n : ℕ) → dims_moved (set_target live o f) n ≡ n
-target_after live None f n = refl
-target_after live (Some t) f n = within_after t.number_type live t.place (make (set_to t.place f)) n n (set_dims t.place f n)
+target_after : (live : ℕ) (o : Option Target) (w : Seen) (n : ℕ) → dims_moved (set_target live o w) n ≡ n
+target_after live None w n = refl
+target_after live (Some t) w n = within_after t.number_type live t.place (set_to live t.place w) n n (set_dims live t.place w n)
 
 drop_after : (k n : ℕ) → dims_moved (drop_last k) n ≡ n - k
 drop_after zero n = omega arith
@@ -60,18 +66,31 @@ test_after : (o : Option Test) (n : ℕ) → dims_moved (test_moves o) n ≡ n
 test_after None n = refl
 test_after (Some t) n = refl
 
-comparison_after : (op : Comparison) (o : Option Form) (n : ℕ) → dims_moved (comparison_moves op o) n ≡ n
-comparison_after op None n = refl
-comparison_after differs (Some d) n = test_after (comparison_test below d) n
-comparison_after below (Some d) n = test_after (comparison_test below d) n
-comparison_after at_most (Some d) n = test_after (comparison_test at_most d) n
-comparison_after above (Some d) n = test_after (comparison_test above d) n
-comparison_after at_least (Some d) n = test_after (comparison_test at_least d) n
-comparison_after equal (Some d) n = test_after (comparison_test equal d) n
+case_after : (live : ℕ) (c : Division) (o : Option Test) (n : ℕ) → dims_moved (case_moves live c o) n ≡ n
+case_after live c None n = refl
+case_after live c (Some t) n = cases_dims live c (tested t) n refl
+
+seen_after : (live : ℕ) (op : Comparison) (w : Seen) (n : ℕ) → dims_moved (seen_moves live op w) n ≡ n
+seen_after live op (Linear d) n = test_after (comparison_test op d) n
+seen_after live op (Divided c d) n = case_after live c (comparison_test op d) n
+seen_after live op Unseen n = refl
+
+split_after : (live : ℕ) (op : Comparison) (w : Seen) (n : ℕ) → dims_moved (split_moves live op w) n ≡ n
+split_after live differs w n = seen_after live below w n
+split_after live below w n = seen_after live below w n
+split_after live at_most w n = seen_after live at_most w n
+split_after live above w n = seen_after live above w n
+split_after live at_least w n = seen_after live at_least w n
+split_after live equal w n = seen_after live equal w n
+
+comparison_after : (live : ℕ) (op : Comparison) (w : Seen) (n : ℕ) → dims_moved (comparison_moves live op w) n ≡ n
+comparison_after live op (Linear d) n = split_after live op (Linear d) n
+comparison_after live op (Divided c d) n = split_after live op (Divided c d) n
+comparison_after live op Unseen n = refl
 
 guard_after : (live base : ℕ) (wanted : Bool) (c : Cond) (n : ℕ) → dims_moved (guard live base wanted c) n ≡ n
-guard_after live base wanted (compare op a b) n = comparison_after (comparison_as wanted op) (difference_form live base a b) n
-guard_after live base wanted (nonzero e) n = comparison_after (comparison_as wanted differs) (difference_form live base e (literal Int 0)) n
+guard_after live base wanted (compare op a b) n = comparison_after live (comparison_as wanted op) (difference_seen live base a b) n
+guard_after live base wanted (nonzero e) n = comparison_after live (comparison_as wanted differs) (difference_seen live base e (literal Int 0)) n
 guard_after live base wanted (opposite c) n = guard_after live base (not wanted) c n
 guard_after live base true (both_of a b) n = ap (dims_moved (guard live base true b)) (guard_after live base true a n) ∙ guard_after live base true b n
 guard_after live base false (both_of a b) n = guard_after live base false a n
@@ -81,7 +100,8 @@ guard_after live base false (either_of a b) n = ap (dims_moved (guard live base 
 first_after : (gs : List GlobalVariable) (live n : ℕ) → dims_moved (first_values live gs) n ≡ n + length gs
 first_after [] live n = omega arith
 first_after (g ∷ gs) live n =
-    ap (dims_moved (first_values (suc live) gs)) (within_after g.number_type (suc live) live (append_set live (Some (linear.constant_form (suc live) g.value))) n (n + 1) refl) ∙
+    ap (dims_moved (first_values (suc live) gs))
+    (within_after g.number_type (suc live) live (append_set live (Linear (linear.constant_form (suc live) g.value))) n (n + 1) refl) ∙
     first_after gs (suc live) (n + 1) ∙ omega arith
 
 module _ (V H : Type 0) (m : Meaning V H) where
@@ -96,8 +116,8 @@ module _ (V H : Type 0) (m : Meaning V H) where
 
   op_after : (op : Op) (n : ℕ) → dims_moved (moves_of n op) n ≡ dims_behind op n
   op_after (append t) n = within_after t (suc n) n (make (embed 1)) n (suc n) (omega arith)
-  op_after (give base x y) n = target_after n x.target (linear.form_of n base y) n
-  op_after (give_any x) n = target_after n x.target None n
+  op_after (give base x y) n = target_after n x.target (seen_of n base y) n
+  op_after (give_any x) n = target_after n x.target Unseen n
   op_after (step.push base given) n = push_after n base given n
   op_after (keep k) n = drop_after (n - k) n
   op_after (test base c wanted) n = guard_after n base wanted c n

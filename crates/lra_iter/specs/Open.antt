@@ -1,6 +1,6 @@
 -- What is owed where a pass is under way along a list of open places: in each of them a tree is under way, and with
 -- that the pass of the place's own tree is to be made.
-use Rattle.std.specs.Prelude.{◌≡◌, ℕ, ◌≤◌, ◌^◌, true, false, List, [], ◌∷◌, map, Option}
+use Rattle.std.specs.Prelude.{◌≡◌, ℕ, ◌≤◌, true, false, List, [], ◌∷◌, map, Option}
 use Rattle.std.specs.Prelude.{None}
 use Rattle.lra_domain.specs.declared.Exactness.{Exactness}
 use Rattle.lra_domain.specs.Meaning.{Meaning}
@@ -9,6 +9,7 @@ use Rattle.lra_program.specs.Program.{Cond}
 use Rattle.lra_program.specs.ProgramViews.{cond_view}
 use Rattle.lra_operations.specs.Graph.{Node, seq, choose, iterate, catch}
 use Rattle.lra_operations.specs.GraphViews.{exit_view, node_view, row}
+use Rattle.lra_flow.specs.Room.{most_live}
 use Rattle.lra_flow.specs.Plan.{Plan}
 use Rattle.lra_flow.specs.Operations.{dropping}
 use Rattle.lra_flow.specs.Pass.{Leaves, Result, noted, in_turn, Pass, Grows, Narrows}
@@ -52,7 +53,7 @@ due e memory = record { tree = node_view e.node.now; value = e.value; flag = e.f
 -- as a pass of the whole
 pub record RowLoop {V H : Type 0} (m : Meaning V H) (set : Plan) (g : Node) (f : Option ℕ) (v : V)
     (rest : Node) (found : Found V) (behind : V) (so_far : Option ℕ) (old memory : Memory V) : Type 0 where
-  pub few : m.dims behind ≤ 2 ^ 30
+  pub few : m.dims behind ≤ most_live
   pub fits : TreeFits rest (m.dims behind)
   pub stays : (loops : ℕ → Node) → HasLoops loops g → MayRecall m set loops f old → HasLoops loops rest ×
       MayRecall m set loops so_far memory
@@ -93,7 +94,7 @@ pub record NarrowLoop {V H : Type 0} (m : Meaning V H) (set : Plan) (q base : �
 module _ {V H : Type 0} (m : Meaning V H) (set : Plan) where
   -- the pass can be made
   pub record MayBePassed (d : Due V) : Type 0 where
-    pub few : m.dims d.value ≤ 2 ^ 30
+    pub few : m.dims d.value ≤ most_live
     pub fits : TreeFits d.tree (m.dims d.value)
     pub remembers : Remembers m set d.tree d.flag d.memory
 

@@ -1,8 +1,9 @@
 //! Choices.
 
-ghost use Rattle.std.specs.Prelude.{◌≡◌, ◌≤◌, ◌<◌, ◌^◌, ◌+◌, ℕ, true, false, IfOk};
+ghost use Rattle.std.specs.Prelude.{◌≡◌, ◌≤◌, ◌<◌, ◌+◌, ℕ, true, false, IfOk};
 ghost use Rattle.lra_domain.specs.declared.Exactness.{Exactness};
 ghost use Rattle.lra_operations.specs.Graph.{choose};
+ghost use Rattle.lra_flow.specs.Room.{most_live};
 ghost use Rattle.lra_flow.specs.Plan.{Plan};
 ghost use Rattle.lra_program.specs.ProgramViews.{cond_view};
 ghost use Rattle.lra_operations.specs.GraphViews.{node_view};
@@ -22,7 +23,7 @@ use std::alloc::{AllocError, Global};
 
 /// What a choice's condition leaves of the value: where it is true, and where it is false.
 fn sides_of<D: Domain>(alloc: Global, choice: &Choice<'_>, value: D) -> Result<Sides<D>, AllocError>
-    requires { D.meaning.dims value ≤ 2 ^ 30 }
+    requires { D.meaning.dims value ≤ most_live }
     ensures { IfOk result (λ s. SplitsBy D.meaning choice.now.base true (cond_view choice.now.condition.now)
         (record { value = value; exactness = Exactness.Exact }) s) }
 {
@@ -40,7 +41,7 @@ pub fn open_choice<'a, D: Domain>(
     value: D,
     flag: Option<usize>,
 ) -> Result<Next<'a, D, D::Head>, AllocError>
-    requires { D.meaning.dims value ≤ 2 ^ 30 }
+    requires { D.meaning.dims value ≤ most_live }
     ensures leads { (set : Plan) (whole : Due D) → choice.entry.plan.now ≡ set →
         whole.tree ≡ choose choice.entry.point choice.entry.base (cond_view choice.entry.condition.now)
         (node_view choice.entry.yes.now) (node_view choice.entry.no.now) → whole.value ≡ value → whole.flag ≡ flag →

@@ -1,7 +1,8 @@
 //! Trees that are passed where they stand: those with no tree in them, and rows of such.
 
+ghost use Rattle.lra_flow.specs.Room.{most_live};
 ghost use Rattle.lra_flow.specs.Plan.{Plan};
-ghost use Rattle.std.specs.Prelude.{◌≡◌, ◌≤◌, ◌^◌, true, map, IfSome, OnOk};
+ghost use Rattle.std.specs.Prelude.{◌≡◌, ◌≤◌, true, map, IfSome, OnOk};
 ghost use Rattle.lra_operations.specs.GraphViews.{node_view, row};
 ghost use Rattle.lra_iter.specs.Fits.{TreeFits};
 ghost use Rattle.lra_iter.specs.Flat.{flat_view, AreLeaves, Follows, HasLeaves, IsLeaf};
@@ -69,7 +70,7 @@ fn pass_along<D: Domain>(
     so_far: &mut Outcome<D>,
 ) -> Result<(), AllocError>
     requires parts { 1 ≤ plan.now.parts }
-    requires few { D.meaning.dims so_far.old.normal ≤ 2 ^ 30 }
+    requires few { D.meaning.dims so_far.old.normal ≤ most_live }
     requires fits { TreeFits (row (map node_view the_row.trees.now) (node_view the_row.last.now))
         (D.meaning.dims so_far.old.normal) }
     requires leaves { HasLeaves the_row }
@@ -107,7 +108,7 @@ impl<'a> Flat<'a> {
         so_far: &mut Outcome<D>,
     ) -> Result<(), AllocError>
         requires parts { 1 ≤ plan.now.parts }
-        requires few { D.meaning.dims so_far.old.normal ≤ 2 ^ 30 }
+        requires few { D.meaning.dims so_far.old.normal ≤ most_live }
         requires fits { TreeFits (flat_view self) (D.meaning.dims so_far.old.normal) }
         requires leaves { AreLeaves self }
         ensures { OnOk result (Follows D.meaning plan.now (flat_view self.entry) so_far.old so_far.new) }

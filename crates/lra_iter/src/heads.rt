@@ -4,6 +4,7 @@ ghost use Rattle.std.specs.Prelude.{◌≡◌, ◌<◌, ◌≤◌, ◌^◌, true
 ghost use Rattle.lra_domain.specs.Rank.{RankFits};
 ghost use Rattle.lra_domain.specs.declared.Exactness.{Exactness};
 ghost use Rattle.lra_program.specs.ProgramViews.{cond_view};
+ghost use Rattle.lra_flow.specs.Room.{most_live};
 ghost use Rattle.lra_flow.specs.Plan.{mode_at};
 ghost use Rattle.lra_flow.specs.Thresholds.{loop_rows};
 ghost use Rattle.lra_operations.specs.GraphViews.{node_view};
@@ -93,7 +94,7 @@ pub fn start<D: Domain>(
     first: &D,
     flag: Option<usize>,
 ) -> Result<Growing<D, D::Head>, AllocError>
-    requires { D.meaning.dims first.now ≤ 2 ^ 30 }
+    requires { D.meaning.dims first.now ≤ most_live }
     ensures started { IfOk result (λ h. (dropping D.meaning).started first.now
         (loop_rows the_loop.now.plan.now.widening (D.meaning.dims first.now) the_loop.now.base
         (cond_view the_loop.now.condition.now) (node_view the_loop.now.body.now)) h.head) }

@@ -1,9 +1,10 @@
 //! The pass over trees with no tree in them.
 
-ghost use Rattle.std.specs.Prelude.{◌≡◌, ◌≤◌, ◌^◌, IfOk, OnOk};
+ghost use Rattle.std.specs.Prelude.{◌≡◌, ◌≤◌, IfOk, OnOk};
 ghost use Rattle.lra_operations.specs.Graph.{act, check, leave, point as point_node};
 ghost use Rattle.lra_program.specs.ProgramViews.{cond_view};
 ghost use Rattle.lra_operations.specs.GraphViews.{exit_view, op_view};
+ghost use Rattle.lra_flow.specs.Room.{most_live};
 ghost use Rattle.lra_flow.specs.Plan.{Plan};
 ghost use Rattle.lra_change.specs.Changes.{OpFits};
 ghost use Rattle.lra_iter.specs.Fits.{TreeFits};
@@ -40,7 +41,7 @@ fn pass_act<D: Domain>(
     op: &Op,
     so_far: &mut Outcome<D>,
 ) -> Result<(), AllocError>
-    requires few { D.meaning.dims so_far.old.normal ≤ 2 ^ 30 }
+    requires few { D.meaning.dims so_far.old.normal ≤ most_live }
     requires fits { OpFits (op_view op.now) (D.meaning.dims so_far.old.normal) }
     ensures { (plan : Plan) → OnOk result (Follows D.meaning plan (act point (op_view op.now)) so_far.old
         so_far.new) }
@@ -58,7 +59,7 @@ fn pass_check<D: Domain>(
     condition: &Cond,
     so_far: &mut Outcome<D>,
 ) -> Result<(), AllocError>
-    requires { D.meaning.dims so_far.old.normal ≤ 2 ^ 30 }
+    requires { D.meaning.dims so_far.old.normal ≤ most_live }
     ensures { (plan : Plan) → OnOk result (Follows D.meaning plan
         (check point base (cond_view condition.now)) so_far.old so_far.new) }
 {
@@ -84,7 +85,7 @@ fn pass_leave<D: Domain>(
     so_far: &mut Outcome<D>,
 ) -> Result<(), AllocError>
     requires parts { 1 ≤ plan.now.parts }
-    requires few { live ≤ 2 ^ 30 }
+    requires few { live ≤ most_live }
     ensures { OnOk result (Follows D.meaning plan.now (leave live (exit_view exit)) so_far.old so_far.new) }
 {
     let nothing = D::empty(alloc, live, plan.parts())?;
@@ -100,7 +101,7 @@ pub fn pass_on<D: Domain>(
     so_far: &mut Outcome<D>,
 ) -> Result<(), AllocError>
     requires parts { 1 ≤ plan.now.parts }
-    requires few { D.meaning.dims so_far.old.normal ≤ 2 ^ 30 }
+    requires few { D.meaning.dims so_far.old.normal ≤ most_live }
     requires fits { TreeFits (leaf_view leaf.now) (D.meaning.dims so_far.old.normal) }
     ensures { OnOk result (Follows D.meaning plan.now (leaf_view leaf.now) so_far.old so_far.new) }
 {
@@ -122,7 +123,7 @@ pub fn pass_leaf<D: Domain>(
     flag: Option<usize>,
 ) -> Result<Outcome<D>, AllocError>
     requires parts { 1 ≤ plan.now.parts }
-    requires few { D.meaning.dims value ≤ 2 ^ 30 }
+    requires few { D.meaning.dims value ≤ most_live }
     requires fits { TreeFits (leaf_view leaf.now) (D.meaning.dims value) }
     ensures { IfOk result (λ r. IsPassed D.meaning plan.now (leaf_view leaf.now) flag value (seen r)) }
 {

@@ -3,6 +3,7 @@
 ghost use Rattle.std.specs.Prelude.{◌≡◌, ◌≤◌, ◌<◌, ◌^◌, ◌+◌, ◌*◌, ℕ, suc, Option, true, false, IfOk};
 ghost use Rattle.lra_domain.specs.declared.Exactness.{Exactness};
 ghost use Rattle.lra_operations.specs.Graph as graph;
+ghost use Rattle.lra_flow.specs.Room.{most_live};
 ghost use Rattle.lra_flow.specs.Plan.{Plan};
 ghost use Rattle.lra_program.specs.ProgramViews.{cond_view};
 ghost use Rattle.lra_operations.specs.GraphViews.{node_view};
@@ -61,7 +62,7 @@ fn leave_loop<D: Domain>(
     top: D,
     last: Outcome<D>,
 ) -> Result<Outcome<D>, AllocError>
-    requires { D.meaning.dims top ≤ 2 ^ 30 }
+    requires { D.meaning.dims top ≤ most_live }
     ensures left { IfOk result (λ r. LeavesWith D.meaning the_loop.now.point the_loop.now.base
         (cond_view the_loop.now.condition.now) top (seen last) (seen r)) }
     ensures dims { IfOk result (λ r. D.meaning.dims r.normal ≡ D.meaning.dims top) }
@@ -91,7 +92,7 @@ fn finish<D: Domain>(
     first: D,
     last: HeadTurn<D>,
 ) -> Result<Outcome<D>, AllocError>
-    requires { D.meaning.dims last.value ≤ 2 ^ 30 }
+    requires { D.meaning.dims last.value ≤ most_live }
     ensures left { IfOk result (λ r. LeavesWith D.meaning the_loop.now.point the_loop.now.base
         (cond_view the_loop.now.condition.now) last.value (seen last.turn.outcome) (seen r)) }
     ensures dims { IfOk result (λ r. D.meaning.dims r.normal ≡ D.meaning.dims last.value) }
@@ -115,7 +116,7 @@ fn enter<D: Domain>(
     flag: Option<usize>,
     kept: Option<Turn<D>>,
 ) -> Result<Entered<D>, AllocError>
-    requires few { D.meaning.dims value.now ≤ 2 ^ 30 }
+    requires few { D.meaning.dims value.now ≤ most_live }
     requires kept { AreKept D.meaning the_loop.now.plan.now (node_view the_loop.now.body.now) flag kept }
     ensures { IfOk result (IsEntered D.meaning the_loop.now.plan.now the_loop.now.point the_loop.now.base
         (cond_view the_loop.now.condition.now) (node_view the_loop.now.body.now) flag value.now) }

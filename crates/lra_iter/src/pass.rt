@@ -1,6 +1,7 @@
 //! The pass over a tree of operations.
 
 ghost use Rattle.std.specs.Prelude.{◌≡◌, ◌≤◌, ◌<◌, ◌^◌, ◌++◌, ◌∷◌, [], ℕ, Ok, Err, IfOk, OnOk, MatchResult};
+ghost use Rattle.lra_flow.specs.Room.{most_live};
 ghost use Rattle.lra_flow.specs.Plan.{Plan};
 ghost use Rattle.lra_operations.specs.GraphViews.{node_view};
 ghost use Rattle.lra_iter.specs.Fits.{TreeFits};
@@ -171,7 +172,7 @@ pub fn pass<'a, D: Domain>(
     flag: Option<usize>,
 ) -> Result<Outcome<D>, AllocError>
     requires parts { 1 ≤ plan.now.parts }
-    requires few { D.meaning.dims value ≤ 2 ^ 30 }
+    requires few { D.meaning.dims value ≤ most_live }
     requires fits { TreeFits (node_view node.now) (D.meaning.dims value) }
     requires remembers { Remembers D.meaning plan.now (node_view node.now) flag memory.old }
     ensures passed { IfOk result (λ r. IsPassed D.meaning plan.now (node_view node.now) flag value (seen r)) }

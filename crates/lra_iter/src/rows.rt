@@ -1,6 +1,7 @@
 //! Trees one after the other.
 
-ghost use Rattle.std.specs.Prelude.{◌≡◌, ◌<◌, ◌≤◌, ◌^◌, ◌∷◌, [], ℕ, List, map, IfOk};
+ghost use Rattle.std.specs.Prelude.{◌≡◌, ◌<◌, ◌≤◌, ◌∷◌, [], ℕ, List, map, IfOk};
+ghost use Rattle.lra_flow.specs.Room.{most_live};
 ghost use Rattle.lra_flow.specs.Plan.{Plan};
 ghost use Rattle.lra_operations.specs.declared.graph.Node.{Node};
 ghost use Rattle.lra_operations.specs.GraphViews.{node_view, row};
@@ -51,7 +52,7 @@ fn next_of_last<'a, D: Domain>(
     mut so_far: Outcome<D>,
 ) -> Result<Next<'a, D, D::Head>, AllocError>
     requires parts { 1 ≤ plan.now.parts }
-    requires few { D.meaning.dims so_far.normal ≤ 2 ^ 30 }
+    requires few { D.meaning.dims so_far.normal ≤ most_live }
     requires fits { TreeFits (node_view node.now) (D.meaning.dims so_far.normal) }
     ensures leads { (set : Plan) (whole : Due D) (memory : Memory D) → plan.now ≡ set →
         MayBePassed D.meaning set whole → RowLoop D.meaning set whole.tree whole.flag whole.value

@@ -1,11 +1,12 @@
 //! What is found of a whole program.
 
-ghost use Rattle.std.specs.Prelude.{◌≡◌, ◌≤◌, ◌^◌, map, length, None, IfOk};
+ghost use Rattle.std.specs.Prelude.{◌≡◌, ◌≤◌, map, length, None, IfOk};
 ghost use Rattle.lra_program.specs.Program.{Program};
 ghost use Rattle.lra_operations.specs.GraphViews.{node_view, site_view};
 ghost use Rattle.lra_program.specs.Assertions.{assertions_from};
 ghost use Rattle.lra_program.specs.WellFormed.{AreGoodGlobals};
 ghost use Rattle.lra_domain.specs.declared.Exactness.{Exactness};
+ghost use Rattle.lra_flow.specs.Room.{most_live};
 ghost use Rattle.lra_flow.specs.Plan.{Plan};
 ghost use Rattle.lra_flow.specs.Analysis.{Solves};
 ghost use Rattle.lra_flow.specs.MovesOf.{first_values};
@@ -69,7 +70,7 @@ fn begin<D: Domain>(
     globals: &[GlobalVariable],
 ) -> Result<(D, Option<usize>), AllocError>
     requires parts { 1 ≤ plan.now.parts }
-    requires few { length globals.now ≤ 2 ^ 30 }
+    requires few { length globals.now ≤ most_live }
     ensures begins { IfOk result (λ r. (whole : D) × (e : Exactness) ×
         (D.meaning.universal 0 plan.now.parts whole × D.meaning.formed whole) ×
         Does D.meaning (first_values 0 globals.now) whole e r.0 × (r.1 ≡ noted 0 e None)) }
@@ -88,7 +89,7 @@ pub fn analyse<D: Domain>(
     graph: &Graph,
 ) -> Result<Solution<D>, AllocError>
     requires parts { 1 ≤ plan.now.parts }
-    requires few { length globals.now ≤ 2 ^ 30 }
+    requires few { length globals.now ≤ most_live }
     requires globals { AreGoodGlobals globals.now }
     requires fits { TreeFits (node_view graph.now.tree) (length globals.now) }
     requires numbered { IsNumbered (map site_view graph.now.sites.items) (node_view graph.now.tree) }
