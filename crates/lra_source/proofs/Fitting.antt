@@ -1,5 +1,6 @@
 -- The tree of a well-formed program whose points have few variables fits the iteration.
-use Rattle.std.proofs.Common.{◌≡◌, ◌≢◌, ℕ, zero, suc, ◌+◌, ◌-◌, ◌^◌, ◌≤◌, ◌<◌, List, [], ◌∷◌, length, Option, Some, None, Bool, true, false, inl, inr, refl, sym, ap, ◌∙◌, subst, arith}
+use Rattle.std.proofs.Common.{◌≡◌, ◌≢◌, ℕ, zero, suc, ◌+◌, ◌-◌, ◌≤◌, ◌<◌, List, [], ◌∷◌, length, Option, Some, None, Bool, true, false, inl, inr, refl, sym, ap}
+use Rattle.std.proofs.Common.{◌∙◌, subst, arith}
 use Rattle.std.specs.Prelude.{slice_get}
 use Rattle.std.specs.List.{AllByRecursion, Contains}
 use Rattle.std.proofs.lemmas.Option.{none-some, same_Some}
@@ -22,6 +23,7 @@ use Rattle.lra_program.specs.WellFormed.{IsLive, IsGoodRvalue, IsGoodGiven, IsGo
 use Rattle.lra_change.specs.Changes.{dims_behind, PlaceFits, OpFits}
 use Rattle.lra_program.proofs.GivenArguments.{given_width}
 use Rattle.lra_iter.specs.Fits.{live_after, JumpsWith, TreeFits}
+use Rattle.lra_flow.specs.Room.{most_live}
 
 -- how many live where a jump leads
 abbrev JumpFits : Frame → Exit → ℕ → Type 0
@@ -39,10 +41,10 @@ pub record Fit (f : Frame) (n n' : ℕ) (g : Node) : Type 0 where
 abbrev pub Few : ℕ → Type 0
 Few n = n ≤ 24
 
-few_is_small : (n : ℕ) → Few n → n ≤ 2 ^ 30
+few_is_small : (n : ℕ) → Few n → n ≤ most_live
 few_is_small n h = omega (arith, h)
 
-few_more : (n : ℕ) → Few (suc n) → n < 2 ^ 30
+few_more : (n : ℕ) → Few (suc n) → n < most_live
 few_more n h = omega (arith, h)
 
 abbrev pub AllFew : List Site → Type 0
@@ -67,7 +69,7 @@ seq_fit : {f : Frame} {n n1 n2 : ℕ} (a b : Node) → Few n1 → Fit f n n1 a �
 seq_fit {f = f} {n = n} {n1 = n1} {n2 = n2} a b few x y =
     let z = fit_at f n1 (live_after a n) n2 b (sym x.behind) y in
     record {
-      fits = (x.fits, subst (λ (m : ℕ). m ≤ 2 ^ 30) (sym x.behind) (few_is_small n1 few), z.fits);
+      fits = (x.fits, subst (λ (m : ℕ). m ≤ most_live) (sym x.behind) (few_is_small n1 few), z.fits);
       behind = z.behind;
       jumps = λ k m j. elim j [ inl l ↦ x.jumps k m l | inr r ↦ z.jumps k m r ];
     }
@@ -175,7 +177,7 @@ module _ (f : Frame) (n : ℕ) (g step : Node) (few : Few n) (x : Fit (in_loop f
 
   loop_fit : (q base : ℕ) (c : Cond) → Fit f n n (loop_node q base c g step)
   loop_fit q base c = record {
-    fits = ((((x.fits, body_continues), subst (λ (m : ℕ). m ≤ 2 ^ 30) (sym x.behind) (few_is_small n few), step_at.fits), step_at.behind), body_breaks q);
+    fits = ((((x.fits, body_continues), subst (λ (m : ℕ). m ≤ most_live) (sym x.behind) (few_is_small n few), step_at.fits), step_at.behind), body_breaks q);
     behind = refl;
     jumps = λ k m j. outer_jump q k m j.0 j.1;
   }
@@ -208,7 +210,7 @@ module _ (f : Frame) (n r : ℕ) (x : Receiver) (es : List Argument) (params : �
   few_params : Few (n + params)
   few_params = omega arith
 
-  push_fits : n + length es ≤ 2 ^ 30
+  push_fits : n + length es ≤ most_live
   push_fits = rw i (few_is_small (n + params) few_params)
 
   call_fit : (q : ℕ) → Fit f n n (call_node q r f.here.base n x es params g)

@@ -1,7 +1,8 @@
 -- From the tree of operations of a source to its report: what the iteration and the listing ask, and what they give.
 use Rattle.lra_program.specs.declared.program.GlobalVariable.{GlobalVariable}
 use Rattle.lra_program.specs.WellFormed.{AreGoodGlobals}
-use Rattle.std.proofs.Common.{◌≡◌, ◌≤◌, ◌<◌, ◌+◌, ◌^◌, ℕ, suc, ℤ, List, [], ◌∷◌, length, map, Bool, true, false, Option, Some, None, refl, sym, ap, ◌∙◌, subst, arith}
+use Rattle.std.proofs.Common.{◌≡◌, ◌≤◌, ◌<◌, ◌+◌, ℕ, suc, ℤ, List, [], ◌∷◌, length, map, Bool, true, false, Option, Some, None, refl, sym, ap, ◌∙◌, subst}
+use Rattle.std.proofs.Common.{arith}
 use Rattle.std.specs.Prelude.{option_map, nat_lt, if◌then◌else◌, slice_get}
 use Rattle.std.specs.List.{AllByRecursion}
 use Rattle.std.proofs.lemmas.Bool.Decides.{nat_tests}
@@ -21,6 +22,7 @@ use Rattle.lra_report.specs.Listing.{Lists}
 use Rattle.lra_meaning.specs.Refuse.{greatest_live, greatest_points, limit_fault}
 use Rattle.lra_domain.specs.Meaning.{Meaning}
 use Rattle.lra_domain.specs.Laws.{Laws}
+use Rattle.lra_flow.specs.Room.{most_live}
 use Rattle.lra_flow.specs.Plan.{Plan, plan_of}
 use Rattle.lra_iter.specs.Fits.{TreeFits}
 use Rattle.lra_iter.specs.Numbers.{IsNumbered}
@@ -61,7 +63,7 @@ pub globals_seen : (p : declared.Program) (t : FileTree) (globals : List GlobalV
 globals_seen p t globals is same = sym (ap (λ (P : Program). P.globals) is) ∙ sym same
 
 pub small_globals : (t : FileTree) (g : Node) (sites : List Site) (globals : List GlobalVariable) → HasGraph t g sites → (resolve t).globals ≡ globals → length
-    globals ≤ 2 ^ 30
+    globals ≤ most_live
 small_globals t g sites globals has is =
     let few = few_globals (resolve t) g has.few has.is_graph in
     let same : length (resolve t).globals ≡ length globals = ap length is in
@@ -139,7 +141,7 @@ module _ {V H : Type 0} (m : Meaning V H) (t : FileTree) (g : Node) (sites : Lis
   values_as_many = as_many m plan (resolve t) g solved.result values verdicts flagged has.is_graph solved.derived solved.solves
 
   -- what the judging asks: each value has few dimensions, each operation that is asked a value
-  pub few_dims : Laws m → All (λ (v : V). m.dims v < 2 ^ 30) values
+  pub few_dims : Laws m → All (λ (v : V). m.dims v < most_live) values
   few_dims laws k d h =
       let v = get_or values k d in
       let there : slice_get values k ≡ Some v = slice_get-get_or values k d h in

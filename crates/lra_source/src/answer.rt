@@ -6,6 +6,7 @@ ghost use Rattle.lra_tree.specs.Views.{tree_view};
 ghost use Rattle.lra_program.specs.ProgramViews.{program_view};
 ghost use Rattle.lra_operations.specs.GraphViews.{node_view, site_view};
 ghost use Rattle.lra_operations.specs.Asked.{asked_in};
+ghost use Rattle.lra_flow.specs.Room.{most_live};
 ghost use Rattle.lra_flow.specs.Plan.{plan_of};
 ghost use Rattle.lra_flow.specs.Operations.{dropping};
 ghost use Rattle.lra_flow.specs.Fits.{JudgesIf};
@@ -43,7 +44,7 @@ fn judge_if<D: AbstractDomain>(
     values: &[D],
     flagged: Option<usize>,
 ) -> Result<Fitting, AllocError>
-    requires few { All (λ v. D.meaning.dims v < 2 ^ 30) values.now }
+    requires few { All (λ v. D.meaning.dims v < most_live) values.now }
     requires below { AreBelow (length values.now) (asked_in None (node_view tree.now)) }
     ensures { IfOk result (λ f. JudgesIf D.meaning (dropping D.meaning) asked (node_view tree.now)
         values.now flagged f.verdicts.items f.flagged) }

@@ -1,6 +1,7 @@
 //! Laws: each of these does nothing, and its contract is the theorem.
 
 ghost use Rattle.lra_flow.specs.Linear.{FormsAreRight, TestsAreRight, DiffersIsRight};
+ghost use Rattle.lra_flow.specs.Seen.{SeenIsRight};
 ghost use Rattle.lra_source.specs.Soundness.{SolvedAreSound, FittingIsSound};
 ghost use Rattle.lra_source.specs.Claims.{OneAnsweredText, TreesFit, TreesAreNumbered, AnalysedAreSound};
 ghost use Rattle.lra_source.specs.Claims.{AnalysedAreReports, OneUnflaggedReport};
@@ -47,10 +48,11 @@ pub fn fitting_is_sound<D: Domain>()
     ensures { FittingIsSound D.meaning }
 {}
 
-/// Linear forms have the value of their expressions wherever it exists, and tests pass exactly where their comparisons
-/// are true.
+/// Linear forms have the value of their expressions wherever it exists, and so has what is seen of divisions, over the
+/// quotient and what it leaves; tests pass exactly where their comparisons are true.
 pub fn forms_are_right()
     ensures forms { FormsAreRight }
+    ensures seen { SeenIsRight }
     ensures tests { TestsAreRight }
     ensures differs { DiffersIsRight }
 {}
