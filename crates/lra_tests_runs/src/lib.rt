@@ -12,6 +12,8 @@ mod boxes;
 #[cfg(test)]
 mod checks;
 #[cfg(test)]
+mod divisions;
+#[cfg(test)]
 mod fits;
 pub mod memory;
 #[cfg(test)]
