@@ -1,12 +1,11 @@
 #include "analysed.h"
 
 /* Heap sort's index bounds, after P. Cousot and N. Halbwachs (POPL 1978): the keys are T[1] to T[n]; each comparison's
-   outcome is an input, each index is asserted in place of a use. Half of n, rounded down, is told by two rows. */
+   outcome is an input, each index is asserted in place of a use. Half of n is rounded down. */
 int main(void) {
   long n = input();
   assume(n >= 2);
-  long half = input();
-  assume(2 * half <= n && n <= 2 * half + 1);
+  long half = n / 2;
   long left = half + 1, right = n;
   if (left >= 2) {
     left = left - 1;
