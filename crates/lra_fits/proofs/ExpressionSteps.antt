@@ -25,6 +25,7 @@ use Rattle.lra_flow.specs.Linear.{form_of}
 use Rattle.lra_flow.specs.Fits.{LiesIn, OperatorFits, Answers, ExprJudged, ConversionJudged, GivenJudged, ArgumentsJudged}
 use Rattle.lra_flow.proofs.FormLemmas.{form_wide, operator_wide, scaled_wide}
 use Rattle.lra_forms.proofs.FormSteps.{operation_is}
+use Rattle.lra_forms.proofs.SeenSteps.{chained_last}
 use Rattle.lra_fits.specs.declared.expressions.Computed.{Computed}
 use Rattle.lra_fits.specs.Judged.{IsWide, HasAnswers, IsComputed}
 use Rattle.lra_fits.specs.Sides.{between_sides, with_other_sign}
@@ -61,17 +62,13 @@ pub negate_view : (e : Box declared.Expr Global) → expr_view (Negate e) ≡ ne
 negate_view e = search (rules, the_lemmas)
 
 -- an operation more at the end of a chain
-chained_behind : (e : Expr) (os : List (Operator × Expr)) (o : Operator × Expr) → chained e (os ++ o ∷ []) ≡ binary o.0 (chained e os) o.1
-chained_behind e [] o = refl
-chained_behind e (p ∷ os) o = chained_behind (binary p.0 e p.1) os o
-
 chained_more : (e : Expr) (os : List Operation) (i : ℕ) (o : Operation) → i < length os → o ≡ get_or os i o
     → chained e (map operation_view (take (i + 1) os))
     ≡ binary (operator_view o.operator) (chained e (map operation_view (take i os))) (expr_view o.operand)
 chained_more e os i o h is =
     let so_many = map operation_view (take i os) in
     ap (chained e) (map_more operation_view os i o h ∙ ap (λ (x : Operation). so_many ++ operation_view x ∷ []) (sym is)) ∙
-    chained_behind e so_many (operation_view o) ∙ ap (λ (p : Operator × Expr). binary p.0 (chained e so_many) p.1) (operation_is o)
+    chained_last e so_many (operation_view o) ∙ ap (λ (p : Operator × Expr). binary p.0 (chained e so_many) p.1) (operation_is o)
 
 module _ {V H : Type 0} (m : Meaning V H) (v : V) (base : ℕ) where
   -- a sign behind what is computed

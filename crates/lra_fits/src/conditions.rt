@@ -1,9 +1,10 @@
 //! The answers on a condition: on the right of `&&` and `||` by what the left side leaves.
 
-ghost use Rattle.std.specs.Prelude.{◌≡◌, ◌<◌, ◌^◌, map, IfOk, OnOk};
+ghost use Rattle.std.specs.Prelude.{◌≡◌, ◌≤◌, map, IfOk, OnOk};
 ghost use Rattle.lra_base.specs.Operators.{Comparison};
 ghost use Rattle.lra_program.specs.Program.{compare, nonzero};
 ghost use Rattle.lra_program.specs.ProgramViews.{cond_view, expr_view};
+ghost use Rattle.lra_flow.specs.Room.{most_live};
 ghost use Rattle.lra_fits.specs.Judged.{IsJudged, sides_of};
 ghost use Rattle.lra_fits.specs.Operands.{IsPassed};
 
@@ -28,7 +29,7 @@ fn judge_both<D: Domain>(
     value: &D,
     answers: &mut Vec<bool>,
 ) -> Result<Exactness, AllocError>
-    requires { D.meaning.dims value.now < 2 ^ 62 }
+    requires { D.meaning.dims value.now ≤ most_live }
     ensures { IfOk result (λ e. (op : Comparison) → IsJudged D.meaning around.base
         (compare op (expr_view left.now) (expr_view right.now))
         value.now answers.old.items e answers.new.items) }
@@ -45,7 +46,7 @@ fn judge_nonzero<D: Domain>(
     value: &D,
     answers: &mut Vec<bool>,
 ) -> Result<Exactness, AllocError>
-    requires { D.meaning.dims value.now < 2 ^ 62 }
+    requires { D.meaning.dims value.now ≤ most_live }
     ensures { IfOk result (λ a. IsJudged D.meaning around.base (nonzero (expr_view e.now))
         value.now answers.old.items a answers.new.items) }
 {
@@ -61,7 +62,7 @@ pub fn judge_condition<D: Domain>(
     value: &D,
     answers: &mut Vec<bool>,
 ) -> Result<Exactness, AllocError>
-    requires { D.meaning.dims value.now < 2 ^ 62 }
+    requires { D.meaning.dims value.now ≤ most_live }
     ensures { IfOk result (λ e. IsJudged D.meaning around.base (cond_view condition.now)
         value.now answers.old.items e answers.new.items) }
 {
@@ -88,7 +89,7 @@ fn pass_operand<D: Domain>(
     before: Exactness,
     answers: &mut Vec<bool>,
 ) -> Result<Exactness, AllocError>
-    requires { D.meaning.dims value.old < 2 ^ 62 }
+    requires { D.meaning.dims value.old ≤ most_live }
     ensures passed { IfOk result (λ e. IsPassed D.meaning around.base (cond_view operand.now) wanted
         value.old before answers.old.items value.new e answers.new.items) }
     ensures dims { OnOk result (D.meaning.dims value.new ≡ D.meaning.dims value.old) }
@@ -114,7 +115,7 @@ fn judge_sides<D: Domain>(
     from: &D,
     answers: &mut Vec<bool>,
 ) -> Result<Exactness, AllocError>
-    requires { D.meaning.dims from.now < 2 ^ 62 }
+    requires { D.meaning.dims from.now ≤ most_live }
     ensures { IfOk result (λ e. IsJudged D.meaning around.base
         (sides_of wanted (cond_view first.now) (map cond_view rest.now))
         from.now answers.old.items e answers.new.items) }

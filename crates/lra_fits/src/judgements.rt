@@ -1,11 +1,12 @@
 //! What is judged of a whole program.
 
-ghost use Rattle.std.specs.Prelude.{◌≡◌, ◌<◌, ◌^◌, None, length, map, replicate, All, IfOk};
+ghost use Rattle.std.specs.Prelude.{◌≡◌, ◌<◌, None, length, map, replicate, All, IfOk};
 ghost use Rattle.lra_operations.specs.Asked.{asked_in};
 ghost use Rattle.lra_operations.specs.GraphViews.{node_view};
 ghost use Rattle.lra_flow.specs.Fits.{Judges, first_flagged, fitting_of};
 ghost use Rattle.lra_flow.specs.Operations.{dropping};
 ghost use Rattle.lra_flow.specs.Pass.{noted};
+ghost use Rattle.lra_flow.specs.Room.{most_live};
 ghost use Rattle.lra_fits.specs.Judged.{AreBelow, judgements_from};
 
 use crate::operations::Verdict;
@@ -78,7 +79,7 @@ pub fn judge<D: Domain>(
     values: &[D],
     flagged: Option<usize>,
 ) -> Result<Fitting, AllocError>
-    requires few { All (λ v. D.meaning.dims v < 2 ^ 30) values.now }
+    requires few { All (λ v. D.meaning.dims v < most_live) values.now }
     requires below { AreBelow (length values.now) (asked_in None (node_view tree.now)) }
     ensures { IfOk result (λ f. Judges D.meaning (dropping D.meaning) (node_view tree.now)
         values.now flagged f.verdicts.items f.flagged) }

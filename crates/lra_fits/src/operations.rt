@@ -1,10 +1,11 @@
 //! Whether all fits that an operation computes: its answers taken together.
 
-ghost use Rattle.std.specs.Prelude.{◌≡◌, ◌<◌, ◌^◌, None, true, IfOk};
+ghost use Rattle.std.specs.Prelude.{◌≡◌, ◌≤◌, ◌<◌, None, true, IfOk};
 ghost use Rattle.std.specs.List.{list_all};
 ghost use Rattle.lra_program.specs.Step.{test};
 ghost use Rattle.lra_program.specs.ProgramViews.{cond_view};
 ghost use Rattle.lra_operations.specs.GraphViews.{op_view};
+ghost use Rattle.lra_flow.specs.Room.{most_live};
 ghost use Rattle.lra_fits.specs.Judged.{IsOpJudged, IsSettled, JudgesAsked};
 
 use crate::conditions::{Surroundings, judge_condition};
@@ -42,7 +43,7 @@ fn answer_operation<D: Domain>(
     value: &D,
     answers: &mut Vec<bool>,
 ) -> Result<Exactness, AllocError>
-    requires { D.meaning.dims value.now < 2 ^ 62 }
+    requires { D.meaning.dims value.now ≤ most_live }
     ensures { IfOk result (λ e. IsOpJudged D.meaning (op_view op.now)
         value.now answers.old.items e answers.new.items) }
 {
@@ -70,7 +71,7 @@ fn settle<D: Domain>(
     value: &D,
     before: Exactness,
 ) -> Result<Verdict, AllocError>
-    requires { D.meaning.dims value.now < 2 ^ 62 }
+    requires { D.meaning.dims value.now ≤ most_live }
     ensures { IfOk result (λ j. IsSettled D.meaning (op_view op.now) value.now before j) }
 {
     let mut answers = Vec::new(alloc);
@@ -88,7 +89,7 @@ pub fn judge_operation<D: Domain>(
     op: &Op,
     value: &D,
 ) -> Result<Verdict, AllocError>
-    requires { D.meaning.dims value.now < 2 ^ 30 }
+    requires { D.meaning.dims value.now < most_live }
     ensures { IfOk result (λ j. JudgesAsked D.meaning fresh (op_view op.now) value.now j) }
 {
     match fresh {
@@ -108,7 +109,7 @@ pub fn judge_test<D: Domain>(
     condition: &Cond,
     value: &D,
 ) -> Result<Verdict, AllocError>
-    requires { D.meaning.dims value.now < 2 ^ 62 }
+    requires { D.meaning.dims value.now ≤ most_live }
     ensures { IfOk result (λ j. JudgesAsked D.meaning None
         (test base (cond_view condition.now) true) value.now j) }
 {

@@ -1,6 +1,6 @@
 //! All operations of a tree that are asked, each by the value at its point.
 
-ghost use Rattle.std.specs.Prelude.{◌≡◌, ◌<◌, ◌+◌, ◌*◌, ◌^◌, None, Some, true, length, map, slice_set, All, IfOk, OnOk};
+ghost use Rattle.std.specs.Prelude.{◌≡◌, ◌<◌, ◌+◌, ◌*◌, None, Some, true, length, map, slice_set, All, IfOk, OnOk};
 ghost use Rattle.std.specs.List.{sum_by};
 ghost use Rattle.lra_program.specs.Step.{test};
 ghost use Rattle.lra_program.specs.ProgramViews.{cond_view};
@@ -8,6 +8,7 @@ ghost use Rattle.lra_operations.specs.Asked.{asked_in, asked_of, fresh_of};
 ghost use Rattle.lra_operations.specs.Graph.{seq};
 ghost use Rattle.lra_operations.specs.GraphViews.{node_view, op_view, row};
 ghost use Rattle.lra_operations.specs.Sizes.{whole_size};
+ghost use Rattle.lra_flow.specs.Room.{most_live};
 ghost use Rattle.lra_fits.specs.Due.{all_due, all_left, apart_before, due_size, due_view, fresh_at};
 ghost use Rattle.lra_fits.specs.Due.{own_asked, IsOnWay, IsOpened};
 ghost use Rattle.lra_fits.specs.Judged.{AreBelow, Fills};
@@ -47,7 +48,7 @@ fn judge_act<D: Domain>(
     op: &Op,
     table: &mut Vec<Option<Verdict>>,
 ) -> Result<(), AllocError>
-    requires few { All (λ v. D.meaning.dims v < 2 ^ 30) values.now }
+    requires few { All (λ v. D.meaning.dims v < most_live) values.now }
     requires long { length table.old.items ≡ length values.now }
     requires below { AreBelow (length values.now) (asked_of point fresh (op_view op.now)) }
     ensures { OnOk result (Fills D.meaning values.now (asked_of point fresh (op_view op.now))
@@ -69,7 +70,7 @@ fn judge_choice<D: Domain>(
     condition: &Cond,
     table: &mut Vec<Option<Verdict>>,
 ) -> Result<(), AllocError>
-    requires few { All (λ v. D.meaning.dims v < 2 ^ 30) values.now }
+    requires few { All (λ v. D.meaning.dims v < most_live) values.now }
     requires long { length table.old.items ≡ length values.now }
     requires below { AreBelow (length values.now) (asked_of point None
         (test base (cond_view condition.now) true)) }
@@ -180,7 +181,7 @@ fn judge_own<D: Domain>(
     node: &Node,
     table: &mut Vec<Option<Verdict>>,
 ) -> Result<(), AllocError>
-    requires few { All (λ v. D.meaning.dims v < 2 ^ 30) values.now }
+    requires few { All (λ v. D.meaning.dims v < most_live) values.now }
     requires long { length table.old.items ≡ length values.now }
     requires below { AreBelow (length values.now) (own_asked fresh node.now) }
     ensures { OnOk result (Fills D.meaning values.now (own_asked fresh node.now)
@@ -215,7 +216,7 @@ fn judge_node<'a, D: Domain>(
     left: &mut Vec<Due<'a>>,
     table: &mut Vec<Option<Verdict>>,
 ) -> Result<Option<NumberType>, AllocError>
-    requires few { All (λ v. D.meaning.dims v < 2 ^ 30) values.now }
+    requires few { All (λ v. D.meaning.dims v < most_live) values.now }
     requires long { length table.old.items ≡ length values.now }
     requires below { AreBelow (length values.now)
         (asked_in fresh (seq (node_view node.now) (all_due left.old.items))) }
@@ -238,7 +239,7 @@ fn judge_next<'a, D: Domain>(
     left: &mut Vec<Due<'a>>,
     table: &mut Vec<Option<Verdict>>,
 ) -> Result<Option<NumberType>, AllocError>
-    requires few { All (λ v. D.meaning.dims v < 2 ^ 30) values.now }
+    requires few { All (λ v. D.meaning.dims v < most_live) values.now }
     requires long { length table.old.items ≡ length values.now }
     requires below { AreBelow (length values.now)
         (asked_in fresh (seq (due_view due) (all_due left.old.items))) }
@@ -267,7 +268,7 @@ pub fn judge_tree<D: Domain>(
     node: &Node,
     table: &mut Vec<Option<Verdict>>,
 ) -> Result<(), AllocError>
-    requires few { All (λ v. D.meaning.dims v < 2 ^ 30) values.now }
+    requires few { All (λ v. D.meaning.dims v < most_live) values.now }
     requires long { length table.old.items ≡ length values.now }
     requires below { AreBelow (length values.now) (asked_in None (node_view node.now)) }
     ensures { OnOk result (Fills D.meaning values.now (asked_in None (node_view node.now))

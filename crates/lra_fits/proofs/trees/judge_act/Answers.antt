@@ -1,7 +1,8 @@
 -- Goals of `judge_act`: the verdict on a least change, where it is asked.
-use Rattle.std.proofs.Common.{◌∙◌, ◌<◌, ◌^◌, length, refl, sym, subst, arith}
+use Rattle.std.proofs.Common.{◌∙◌, ◌<◌, length, refl, sym, subst, arith}
 use Rattle.std.proofs.lemmas.Option.{slice_get_read}
 use Rattle.lra_operations.specs.GraphViews.{op_view}
+use Rattle.lra_flow.specs.Room.{most_live}
 use Rattle.lra_fits.proofs.TreeSteps.{asked_inside, asked_fills, unasked_fills}
 use Rattle.lra_fits.proofs.trees.judge_act.Goals as goal
 
@@ -21,7 +22,7 @@ pub judge_operation-requires : goal.judge_operation-requires
 judge_operation-requires g c =
     let inside = asked_inside (length c.args.values.now) c.args.point c.args.fresh (op_view c.args.op.now)
     (sym c.operation_computes.ensures ∙ c.if-operation_computes.true) c.requires.below in
-    subst (λ (v : g.row.D.Denot). g.D.Domain.meaning.dims v < 2 ^ 30) (sym c.index-values-point.is)
+    subst (λ (v : g.row.D.Denot). g.D.Domain.meaning.dims v < most_live) (sym c.index-values-point.is)
     (c.requires.few c.args.point c.index-values-point.result inside)
 
 pub fill-requires : goal.fill-requires

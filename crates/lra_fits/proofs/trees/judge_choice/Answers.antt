@@ -1,8 +1,9 @@
 -- Goals of `judge_choice`: the verdict on a condition, where it is asked.
-use Rattle.std.proofs.Common.{◌∙◌, ◌<◌, ◌^◌, length, None, refl, sym, subst, true, arith}
+use Rattle.std.proofs.Common.{◌∙◌, ◌<◌, length, None, refl, sym, subst, true, arith}
 use Rattle.std.proofs.lemmas.Option.{slice_get_read}
 use Rattle.lra_program.specs.ProgramViews.{cond_view}
 use Rattle.lra_program.specs.Step.{test}
+use Rattle.lra_flow.specs.Room.{most_live}
 use Rattle.lra_fits.proofs.TreeSteps.{asked_inside, asked_fills, unasked_fills}
 use Rattle.lra_fits.proofs.trees.judge_choice.Goals as goal
 
@@ -22,7 +23,7 @@ pub judge_test-requires : goal.judge_test-requires
 judge_test-requires g c =
     let inside = asked_inside (length c.args.values.now) c.args.point None (test c.args.base (cond_view c.args.condition.now) true)
     (sym c.condition_computes.ensures ∙ c.if-condition_computes.true) c.requires.below in
-    let few = subst (λ (v : g.row.D.Denot). g.D.Domain.meaning.dims v < 2 ^ 30) (sym c.index-values-point.is)
+    let few = subst (λ (v : g.row.D.Denot). g.D.Domain.meaning.dims v < most_live) (sym c.index-values-point.is)
     (c.requires.few c.args.point c.index-values-point.result inside) in
     omega (arith, few)
 
