@@ -1,6 +1,6 @@
 -- The tree whose steps are judged fits the iteration, and has each of its points once; its values have few dimensions.
 use Rattle.std.proofs.Common.{◌≡◌, ◌∙◌, ℕ, zero, suc, ◌<◌, ◌≤◌, List, [], ◌∷◌, length, map, Some, None, refl, sym, ap, subst, arith, inl, inr}
-use Rattle.std.specs.Prelude.{◌^◌, slice_get, All, get_or}
+use Rattle.std.specs.Prelude.{slice_get, All, get_or}
 use Rattle.std.proofs.lemmas.List.{length-map}
 use Rattle.std.proofs.lemmas.Option.{none-some, same_Some, slice_get-get_or}
 use Rattle.lra_linear.proofs.Membership.{contains_none, contains_cases}
@@ -9,6 +9,7 @@ use Rattle.lra_operations.specs.declared.graph.Site as coded
 use Rattle.lra_operations.specs.GraphViews.{site_view}
 use Rattle.lra_operations.specs.Asked.{Asked, asked_in}
 use Rattle.lra_program.specs.Sites.{Site}
+use Rattle.lra_flow.specs.Room.{most_live}
 use Rattle.lra_iter.specs.Fits.{TreeFits}
 use Rattle.lra_iter.specs.Lives.{PointsHave, AreWide}
 use Rattle.lra_iter.specs.Numbers.{one_if, values_in, checks_in, asserts_of, IsNumbered}
@@ -23,10 +24,10 @@ steps_fit = (
   ((tt, one, place), one, ((tt, one, place), one, tt)),
 )
   where
-    none : 0 ≤ 2 ^ 30
+    none : 0 ≤ most_live
     none = omega arith
 
-    one : 1 ≤ 2 ^ 30
+    one : 1 ≤ most_live
     one = omega arith
 
     place : 0 < 1
@@ -86,7 +87,7 @@ as_many sites values are many = many ∙ sym (length-map sites site_view) ∙ ap
 
 -- what the judging asks: each value has few dimensions, each operation that is asked a value
 pub steps_few : {V H : Type 0} (m : Meaning V H) (values : List V) → length values ≡ 4
-    → (PointsHave steps_sites steps_tree 0 → AreWide m steps_sites values) → All (λ (v : V). m.dims v < 2 ^ 30) values
+    → (PointsHave steps_sites steps_tree 0 → AreWide m steps_sites values) → All (λ (v : V). m.dims v < most_live) values
 steps_few m values many wide k d h =
     let (s, there, low) = one_at_most k (subst (λ (n : ℕ). k < n) many h) in
     let dims = wide steps_live k (get_or values k d) (slice_get-get_or values k d h) s there in
