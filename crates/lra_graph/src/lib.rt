@@ -36,8 +36,8 @@ pub fn trails_agree()
     ensures well_formed { WellFormedHaveTrails }
 {}
 
-/// A program's tree asks of each operation that can stop a run by a number, once at its point: where a run stops so, the
-/// tree asks of that operation there.
+/// A program's tree asks of each operation that can stop a run by a number, once at its point: where a run stops so,
+/// the tree asks of that operation there.
 ///
 /// Does nothing: its contract is the theorem.
 pub fn graphs_ask_well()

@@ -1,5 +1,5 @@
--- What an analysis hands over: a state for each point, a verdict for each assertion and, where it is asked what fits, one
--- for each point at which something is computed. Points are numbered from 0 here.
+-- What an analysis hands over: a state for each point, a verdict for each assertion and, where it is asked what fits,
+-- one for each point at which something is computed. Points are numbered from 0 here.
 use Rattle.std.specs.Prelude.{◌≡◌, ◌<◌, ℕ, suc, Bool, false, List, [], length, Some, slice_get, slice_index_or, IsTrue}
 use Rattle.std.specs.Prelude.{true, map, ◌++◌, Contains}
 use Rattle.std.specs.List.{AllByRecursion}

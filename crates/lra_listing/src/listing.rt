@@ -319,8 +319,9 @@ pub struct Outline<'a> {
     pub sites: &'a [Site],
 }
 
-/// What an analysis found, beside its states: verdicts on assertions, and on points at which something is computed where
-/// it is asked what fits, each in order, with its point's number and whether it holds; and the first flagged point.
+/// What an analysis found, beside its states: verdicts on assertions, and on points at which something is computed
+/// where it is asked what fits, each in order, with its point's number and whether it holds; and the first flagged
+/// point.
 #[derive(Clone, Copy)]
 pub struct Found<'a> {
     pub assertions: &'a [(usize, bool)],

@@ -71,8 +71,8 @@ abbrev pub draw : List ℤ → Drawn ℤ
 draw [] = None
 draw (d ∷ ds) = number Long d >>= λ z. Some (z, ds)
 
--- Operands from left to right. What a variable holds is asked, too; in a run it has the variable's type, since nothing
--- else is kept there.
+-- Operands from left to right. What a variable holds is asked, too: where it is no number of the variable's type, there
+-- is no value.
 abbrev pub value_of : Expr → Scene → List ℤ → Drawn ℤ
 value_of (literal t n) s draws = number t (pos n) >>= λ z. Some (z, draws)
 value_of (read v) s draws =
