@@ -36,8 +36,7 @@ const CALLS: &str =
     assert(2*h<=n); assert(2*h>=n-1); assert(6*m<=n); }";
 
 /// Numbers on both sides of 0.
-const BOTH: &str =
-    "int main(void){ long x=input(), q, r; assume(x>=-7&&x<=7); q=x/2; r=x%2; }";
+const BOTH: &str = "int main(void){ long x=input(), q, r; assume(x>=-7&&x<=7); q=x/2; r=x%2; }";
 
 /// An `int` that gets its own half.
 const INTS: &str = "int main(void){ int x; x=x/2; if(x%2) ; }";

@@ -209,7 +209,8 @@ static CALLS: [Line; 7] = [
         "point 16 main 1:155\n  row y >= -2147483647\n  row y <= 2147483647\n  row x >= -2147483648\n\
             \x20 row x <= 2147483647\nfit 2 main 1:67 fits\nfit 3 main 1:75 fits\nfit 4 main 1:81 fits\n\
             fit 5 main 1:88 may overflow\nfit 6 main 1:96 may overflow\nfit 8 main/f@1:105 1:16 fits\n\
-            fit 10 main 1:111 fits\nfit 12 main 1:140 may overflow\nfit 13 main 1:147 may overflow\nverdicts proved 0 unknown 0\n",
+            fit 10 main 1:111 fits\nfit 12 main 1:140 may overflow\nfit 13 main 1:147 may overflow\n\
+            verdicts proved 0 unknown 0\n",
     ),
     (
         FITS,
