@@ -200,7 +200,7 @@ static CALLS: [Line; 7] = [
         Status::Proved,
         "point 11 main 1:99\n  unreachable\nfit 2 main/half@1:56 1:19 may overflow\n\
             fit 5 main/half@1:71 1:19 may overflow\nfit 8 main/half@1:80 1:19 may overflow\n\
-            fit 10 main 1:89 may overflow\nverdicts proved 0 unknown 0\n",
+            fit 10 main 1:89 fits\nverdicts proved 0 unknown 0\n",
     ),
     (
         FITS,
