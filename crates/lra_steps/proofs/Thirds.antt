@@ -1,9 +1,10 @@
 -- Third rays, as rows of the matrix that are true wherever two others are.
-use Rattle.std.proofs.Common.{◌≡◌, ℕ, ◌+◌, ◌<◌, ◌≤◌, Bool, false, List, [], length, get_or, Option, Some, None, ap, sym, subst, ◌∙◌, arith, inl, inr}
+use Rattle.std.proofs.Common.{◌≡◌, ℕ, ◌+◌, ◌-◌, ◌<◌, ◌≤◌, Bool, false, List, [], length, get_or, Option, Some, None, ap, sym, subst, ◌∙◌, arith, inl, inr}
 use Rattle.std.specs.Prelude.{IsTrue}
+use Rattle.std.specs.List.{ReversedBelow}
 use Rattle.std.proofs.lemmas.Bool.{cases_lt}
 use Rattle.lra_bits.specs.Matrix.{Matrix, TellsWithin}
-use Rattle.lra_bits.specs.TruthValues.{value_at, both, true_count}
+use Rattle.lra_bits.specs.TruthValues.{value_at, both, true_count, ArePlaces}
 use Rattle.lra_bits.proofs.WithinRows.{not_said}
 use Rattle.lra_steps.specs.Pairs.{HasThird, both_tight}
 use Rattle.lra_steps.specs.Steps.{IsFilled}
@@ -35,3 +36,20 @@ few_told rows up down least first second b ef es told e few hu hd =
       | inl h ↦ h
       | inr g ↦ absurd (not_said b e told (subst (λ (x : List Bool). least ≤ true_count x) (sym is) g))
     ])
+
+-- the same places, the last first
+last_first_all : (values : List Bool) (n : ℕ) (places turned : List ℕ) → length turned ≡ length places → ReversedBelow places turned (length places) →
+    ArePlaces values n places → ArePlaces values n turned
+last_first_all values n places turned same by a = record {
+  inside = λ k d l. omega (arith, by k d (omega (arith, l, same)), a.inside (length places - 1 - k) d (omega (arith, l, same)));
+  each = λ i l. ap (value_at values) (by i 0 (omega (arith, l, same))) ∙ a.each (length places - 1 - i) (omega (arith, l, same));
+  whole = λ c l v.
+      let w = a.whole c l v in
+      let at = length places - 1 - w.0 in
+      let back : length places - 1 - at ≡ w.0 = omega (arith, w.1) in
+      (at, omega (arith, same, w.1), by at 0 (omega (arith, w.1)) ∙ ap (λ i. get_or places i 0) back ∙ w.2);
+}
+
+pub last_first : (values : List Bool) (n : ℕ) (places turned : List ℕ) (count : ℕ) → count ≡ length places → length turned ≡ length places →
+    ReversedBelow places turned count → ArePlaces values n places → ArePlaces values n turned
+last_first values n places turned count all same by a = last_first_all values n places turned same (subst (λ k. ReversedBelow places turned k) all by) a

@@ -104,7 +104,9 @@ fn push_pairs_of(
         ArePairs products saturation.now.rows (up + 1) 0 pairs.new.items) }
 {
     let first = saturation.row(up);
-    let places = first.places(*pairs.allocator(), columns.height())?;
+    let mut places = first.places(*pairs.allocator(), columns.height())?;
+    // the rows taken in last first, since they leave the fewest rays
+    places.reverse();
     let mut known = up;
     for i in 0..downs.len() {
         let down = downs[i];

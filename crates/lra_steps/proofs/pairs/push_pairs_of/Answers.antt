@@ -1,11 +1,21 @@
 -- Goals of `push_pairs_of`: the adjacent pairs with the first ray at `up`, behind what is there.
-use Rattle.std.proofs.Common.{refl, get_or}
+use Rattle.std.proofs.Common.{◌≡◌, [], refl, sym, ◌∙◌, get_or, length, arith}
+use Rattle.std.proofs.lemmas.Grind.{common_steps}
+use Rattle.std.specs.Vec.{vec_len}
 use Rattle.lra_steps.proofs.PairLists.{pairs_skip, pairs_skip_third, pairs_push}
 use Rattle.lra_steps.proofs.PairsBelow.{goes_first, pairs_here, below_here, goes_next, goes_end}
-use Rattle.lra_steps.proofs.Thirds.{few_told}
+use Rattle.lra_steps.proofs.Thirds.{few_told, last_first}
 use Rattle.lra_steps.proofs.pairs.push_pairs_of.Goals as goal
 use Rattle.lra_steps.proofs.pairs.push_pairs_of.Goals.{then-shares+then-are_adjacent+in_ok-tight+in_ok-push, else-shares}
 use Rattle.lra_steps.proofs.pairs.push_pairs_of.Goals.{else-shares-via-then-shares+else-are_adjacent, else-shares-via-else-shares}
+
+pub are_adjacent-requires-clause-places : goal.are_adjacent-requires-clause-places
+are_adjacent-requires-clause-places c =
+    let before : length c.in_ok-places.places.items ≡ vec_len c.in_ok-places.places = grind (arith, common_steps) in
+    let after : length c.reverse.new.self.items ≡ vec_len c.reverse.new.self = grind (arith, common_steps) in
+    rw (c.deref.ensures.value, ← c.row-first.ensures.row, ← c.height.ensures) (last_first c.row-first.result.now c.height.result
+    c.in_ok-places.places.items c.reverse.new.self.items (vec_len c.in_ok-places.places) (sym before) (after ∙ c.reverse.ensures.len ∙ sym before)
+    c.reverse.ensures.by_index c.in_ok-places.ensures)
 
 pub loop-i-init : goal.loop-i-init
 loop-i-init c = λ products above below first. goes_first products c.args.saturation.now.rows c.args.up c.args.downs.now c.args.pairs.now.items below first
