@@ -34,6 +34,12 @@ impl From<AllocFailed<i128>> for Unfit {
     }
 }
 
+impl From<AllocFailed<Row>> for Unfit {
+    fn from(_: AllocFailed<Row>) -> Unfit {
+        Unfit::Memory
+    }
+}
+
 // The row with these numbers, where they are of the range.
 pub fn row_of(alloc: Global, numbers: &[i128]) -> Result<Row, Unfit> {
     let mut entries = Vec::with_capacity(alloc, numbers.len())?;
@@ -360,7 +366,7 @@ fn strains(rt: HostRuntime) {
 }
 
 // The numbers 1, t, and so on to t^n.
-fn powers(alloc: Global, n: usize, t: i128) -> Result<Vec<i128>, Unfit> {
+pub fn powers(alloc: Global, n: usize, t: i128) -> Result<Vec<i128>, Unfit> {
     let mut numbers = Vec::with_capacity(alloc, n)?;
     let mut power = 1i128;
     numbers.push(power)?;

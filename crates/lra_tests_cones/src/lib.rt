@@ -9,3 +9,5 @@ mod canon;
 mod cone;
 #[cfg(test)]
 mod cone_lists;
+#[cfg(test)]
+mod steps;
