@@ -1,0 +1,26 @@
+-- Worked examples.
+mod WayExamples
+-- Runs of trees go along ways.
+pub mod Lists
+pub mod Came
+-- Operations lead where their actions lead.
+pub mod SideSteps
+pub mod OpLengths
+pub mod WrittenSteps
+-- Pieces of runs go along paths.
+pub mod CoverSteps
+pub mod LawsOfPaths
+pub mod ManyPaths
+-- Ways of trees in one list, from the leaves up.
+pub mod FlatSteps
+pub mod StretchSteps
+pub mod StretchLists
+pub mod DueSteps
+-- Sides, from tables of moves.
+pub mod TableSteps
+pub mod SideLists
+pub mod WeaveSteps
+pub mod ChainSteps
+pub mod WayMoveSteps
+pub mod DepartureSteps
+pub mod SourceSteps

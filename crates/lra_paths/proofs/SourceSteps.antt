@@ -1,0 +1,91 @@
+-- Paths to one goal, way by way.
+use Rattle.std.proofs.Common.{◌≡◌, ◌≤◌, ◌<◌, ℕ, suc, ◌+◌, List, [], ◌∷◌, ◌++◌, length, take, sym, ap, ◌∙◌, arith, append-nil}
+use Rattle.std.proofs.Common.{get_or, length-append, Bool, true, false, cond, subst, refl, inl, inr, ◌⊎◌}
+use Rattle.std.proofs.lemmas.Bool.{cases_lt, eqb-true}
+use Rattle.std.proofs.lemmas.List.{take_all}
+use Rattle.std.proofs.Math.Seq.{take-suc}
+use Rattle.std.proofs.lemmas.Grind.{flat_map-append}
+use Rattle.std.proofs.lemmas.List.Folds.{length-flat_map-take}
+use Rattle.lra_domain.specs.Actions.{Action}
+use Rattle.lra_paths.specs.Ways.{Goal, comes_to, denies}
+use Rattle.lra_paths.specs.Sides.{sides}
+use Rattle.lra_paths.specs.Paths.{greatest_paths, same_goal}
+use Rattle.lra_paths.specs.Sources.{AreFewFor, AreFewTo, to_goal, to_goal_by}
+use Rattle.lra_paths.specs.StretchViews.{goal_view}
+use Rattle.lra_paths.specs.Tables.{capped, moves_at}
+use Rattle.lra_paths.specs.declared.sources.Led.{Led}
+use Rattle.lra_paths.specs.declared.tables.Entry.{Entry}
+use Rattle.lra_paths.proofs.TableSteps.{capped_few, capped_many, capped_plus}
+
+module _ (es : List Entry) (goal : Goal) (ways : List Led) (i : ℕ) (d : Led) (inside : i < length ways) where
+  pub few_at : (n : ℕ) → length (to_goal es ways goal) ≤ n → length (to_goal_by es goal (get_or ways i d)) ≤ n
+  few_at n few = let least = length-flat_map-take (to_goal_by es goal) ways i d inside in omega (arith, few, least)
+
+  pub goal_next : (old new : List (List Action)) → old ≡ to_goal es (take i ways) goal → new ≡ old ++ to_goal_by es goal (get_or ways i d)
+      → new ≡ to_goal es (take (i + 1) ways) goal
+  goal_next old new before e =
+      e ∙ ap (λ w. w ++ to_goal_by es goal (get_or ways i d)) before
+      ∙ ap (λ w. to_goal es (take i ways) goal ++ w) (sym (append-nil (to_goal_by es goal (get_or ways i d))))
+      ∙ sym (flat_map-append (to_goal_by es goal) (take i ways) (get_or ways i d ∷ []))
+      ∙ ap (λ ws. to_goal es ws goal) (sym (take-suc ways i d inside))
+      ∙ ap (λ k. to_goal es (take k ways) goal) (let next : suc i ≡ i + 1 = omega arith in next)
+
+  pub count_next : (count part next : ℕ) → count ≡ capped (length (to_goal es (take i ways) goal))
+      → part ≡ capped (length (to_goal_by es goal (get_or ways i d))) → next ≡ capped (count + part)
+      → next ≡ capped (length (to_goal es (take (i + 1) ways) goal))
+  count_next count part next one two both =
+      let before = to_goal es (take i ways) goal in
+      let last = to_goal_by es goal (get_or ways i d) in
+      both ∙ ap (λ n. capped (n + part)) one ∙ ap (λ n. capped (capped (length before) + n)) two ∙ capped_plus (length before) (length last)
+      ∙ ap capped (sym (length-append before last)) ∙ ap (λ w. capped (length w)) (goal_next before (before ++ last) refl refl)
+
+-- many and few, by counts ------------------------------------------------------------------------------------------------
+
+pub over : (n count : ℕ) → count ≡ capped n → 1024 < count → greatest_paths < n
+over n count is more = elim (cases_lt n 1025) [
+  | inl few ↦ let same = capped_few n few in omega (arith, is, same, more)
+  | inr many ↦ many
+]
+
+pub under : (n count : ℕ) → count ≡ capped n → count ≤ 1024 → n ≤ greatest_paths
+under n count is less = elim (cases_lt n 1025) [
+  | inl few ↦ omega (arith, few)
+  | inr many ↦ let same = capped_many n many in absurd (omega (arith, is, same, less))
+]
+
+alike : (a b : Goal) → same_goal a b ≡ true → a ≡ b
+alike (comes_to p) (comes_to q) same = ap comes_to (eqb-true p q same)
+alike (comes_to p) (denies q) same = absurd (let no : false ≡ true = same in cc)
+alike (denies p) (comes_to q) same = absurd (let no : false ≡ true = same in cc)
+alike (denies p) (denies q) same = ap denies (eqb-true p q same)
+
+module _ (es : List Entry) (all : List Led) where
+  few_or : (w : Led) (ws : List Led) (goal : Goal) (b : Bool) → same_goal (goal_view w.goal) goal ≡ b
+      → length (to_goal es all (goal_view w.goal)) ≤ greatest_paths → (to_goal es ws goal ≡ []) ⊎ (length (to_goal es all goal) ≤ greatest_paths)
+      → (to_goal es (w ∷ ws) goal ≡ []) ⊎ (length (to_goal es all goal) ≤ greatest_paths)
+  few_or w ws goal true is here rest = inr (subst (λ g. length (to_goal es all g) ≤ greatest_paths) (alike (goal_view w.goal) goal is) here)
+  few_or w ws goal false is here (inl none) = inl (ap (λ b. cond b (sides (moves_at es w.place)) [] ++ to_goal es ws goal) is ∙ none)
+  few_or w ws goal false is here (inr few) = inr few
+
+  none_or : (ws : List Led) (goal : Goal) → AreFewFor es all ws → (to_goal es ws goal ≡ []) ⊎ (length (to_goal es all goal) ≤ greatest_paths)
+  none_or [] goal are = inl refl
+  none_or (w ∷ ws) goal (here, are) = few_or w ws goal (same_goal (goal_view w.goal) goal) refl here (none_or ws goal are)
+
+  pub few_to_all : AreFewFor es all all → AreFewTo es all
+  few_to_all are goal = elim (none_or all goal are) [
+    | inl none ↦ let long = ap length none in omega (arith, long)
+    | inr few ↦ few
+  ]
+
+  few_last : (ws : List Led) (w : Led) → AreFewFor es all ws → length (to_goal es all (goal_view w.goal)) ≤ greatest_paths → AreFewFor es all (ws ++ w ∷ [])
+  few_last [] w are few = (few, tt)
+  few_last (x ∷ ws) w (here, are) few = (here, few_last ws w are few)
+
+  pub few_next : (ws : List Led) (i : ℕ) (d : Led) → i < length ws → AreFewFor es all (take i ws)
+      → length (to_goal es all (goal_view (get_or ws i d).goal)) ≤ greatest_paths → AreFewFor es all (take (i + 1) ws)
+  few_next ws i d inside are few =
+      let next : suc i ≡ i + 1 = omega arith in
+      subst (AreFewFor es all) (sym (take-suc ws i d inside) ∙ ap (λ n. take n ws) next) (few_last (take i ws) (get_or ws i d) are few)
+
+  pub few_at_end : (ws : List Led) (i : ℕ) → length ws ≤ i → ws ≡ all → AreFewFor es all (take i ws) → AreFewTo es all
+  few_at_end ws i past is are = few_to_all (subst (AreFewFor es all) (take_all i ws past ∙ is) are)

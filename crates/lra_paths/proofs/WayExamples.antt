@@ -1,0 +1,120 @@
+-- Ways of small trees, and what they are written out as. Which slip an example would catch stands beside it.
+use Rattle.std.proofs.Common.{◌≡◌, ℤ, pos, negsuc, [], ◌∷◌, true, false, refl}
+use Rattle.lra_linear.specs.declared.ConKind.TheVariants.{Ge, Eq}
+use Rattle.lra_base.specs.declared.number_types.NumberType.TheVariants.{Long}
+use Rattle.lra_base.specs.Operators.{below, differs}
+use Rattle.lra_program.specs.Program.{Expr, Cond, literal, read, input, compare, local}
+use Rattle.lra_program.specs.Step.{Op, keep, test}
+use Rattle.lra_program.proofs.RunExamples.{long_variable}
+use Rattle.lra_operations.specs.Graph.{broken, continued, normal, Node, empty, point, act, check, seq, choose, iterate, catch, leave}
+use Rattle.lra_domain.specs.Actions.{Action}
+use Rattle.lra_domain.specs.Actions as action
+use Rattle.lra_domain.specs.Moves.{make, first_then, join_of}
+use Rattle.lra_paths.specs.Ways.{comes_to, denies, through, enter, outs, inside}
+use Rattle.lra_paths.specs.Sides.{sides, written, extended}
+
+abbrev x : Expr
+x = read (long_variable (local 0))
+
+abbrev is_so : Cond
+is_so = compare below x (literal Long 2)
+
+abbrev drop_all : Op
+drop_all = keep 0
+
+abbrev drop_more : Op
+drop_more = keep 1
+
+-- ; ; : from the one point to the other
+abbrev two_points : Node
+two_points = seq (point 0) (seq (act 0 drop_all) (point 1))
+
+two_first : enter two_points ≡ record { ops = []; goal = comes_to 0 } ∷ []
+two_first = refl
+
+two_next : inside two_points ≡ record { source = 0; way = record { ops = drop_all ∷ []; goal = comes_to 1 } } ∷ []
+two_next = refl
+
+-- a loop: into its body, back to its point, and out of it; catches a way past the loop's point
+abbrev a_loop : Node
+a_loop = iterate 0 0 is_so (seq (point 1) (act 1 drop_all))
+
+no_way_past : through a_loop normal ≡ []
+no_way_past = refl
+
+loop_next : inside a_loop ≡ record { source = 0; way = record { ops = test 0 is_so true ∷ []; goal = comes_to 1 } }
+    ∷ record { source = 1; way = record { ops = drop_all ∷ []; goal = comes_to 0 } } ∷ []
+loop_next = refl
+
+loop_outs : outs a_loop normal ≡ record { source = 0; ops = test 0 is_so false ∷ [] } ∷ []
+loop_outs = refl
+
+-- `continue` goes to the step, and with it to the loop's point: catches a step that is skipped
+abbrev with_step : Node
+with_step = iterate 0 0 is_so (seq (catch 0 continued (seq (point 1) (leave 1 continued))) (act 0 drop_more))
+
+step_next : inside with_step ≡ record { source = 0; way = record { ops = test 0 is_so true ∷ []; goal = comes_to 1 } }
+    ∷ record { source = 1; way = record { ops = drop_more ∷ []; goal = comes_to 0 } } ∷ []
+step_next = refl
+
+-- `break` goes behind the loop, and on
+abbrev broken_off : Node
+broken_off = seq (catch 0 broken (iterate 0 0 is_so (seq (point 1) (leave 1 broken)))) (point 2)
+
+broken_next : inside broken_off ≡ record { source = 0; way = record { ops = test 0 is_so true ∷ []; goal = comes_to 1 } }
+    ∷ record { source = 0; way = record { ops = test 0 is_so false ∷ []; goal = comes_to 2 } }
+    ∷ record { source = 1; way = record { ops = []; goal = comes_to 2 } } ∷ []
+broken_next = refl
+
+-- an assertion: on where it is true, and a goal of its own where it is false
+abbrev asserted : Node
+asserted = seq (point 0) (seq (check 0 0 is_so) (point 1))
+
+asserted_next : inside asserted ≡ record { source = 0; way = record { ops = test 0 is_so false ∷ []; goal = denies 0 } }
+    ∷ record { source = 0; way = record { ops = test 0 is_so true ∷ []; goal = comes_to 1 } } ∷ []
+asserted_next = refl
+
+-- a branch without a point is passed at once, on its own side
+branch_through : through (choose 0 0 is_so empty (act 0 drop_all)) normal ≡ (test 0 is_so true ∷ []) ∷ (test 0 is_so false ∷ drop_all ∷ []) ∷ []
+branch_through = refl
+
+-- sides ------------------------------------------------------------------------------------------------------------------
+
+abbrev a : Action
+a = action.forget 0
+
+abbrev b : Action
+b = action.forget 1
+
+abbrev c : Action
+c = action.forget 2
+
+abbrev d : Action
+d = action.forget 3
+
+-- of one join behind another the later's sides are the outer ones: catches the other order
+outer_sides : sides (first_then (join_of (make a) (make b)) (join_of (make c) (make d)))
+    ≡ (a ∷ c ∷ []) ∷ (b ∷ c ∷ []) ∷ (a ∷ d ∷ []) ∷ (b ∷ d ∷ []) ∷ []
+outer_sides = refl
+
+-- as the paths of a list are extended
+outer_extended : extended (first_then (join_of (make a) (make b)) (join_of (make c) (make d))) ([] ∷ [])
+    ≡ (a ∷ c ∷ []) ∷ (b ∷ c ∷ []) ∷ (a ∷ d ∷ []) ∷ (b ∷ d ∷ []) ∷ []
+outer_extended = refl
+
+-- c0 + c1*x >= 0
+abbrev at_least_0 : ℤ → ℤ → Action
+at_least_0 k z = action.test Ge (record { constant = k; coefficients = z ∷ [] })
+
+-- x != 2: below first, and both sides are there
+two_sides : written 1 (test 0 (compare differs x (literal Long 2)) true ∷ []) ≡ (at_least_0 (pos 1) (negsuc 0) ∷ []) ∷ (at_least_0 (negsuc 2) (pos 1) ∷ []) ∷ []
+two_sides = refl
+
+-- where it isn't so, it is equal
+one_side : written 1 (test 0 (compare differs x (literal Long 2)) false ∷ []) ≡
+    (action.test Eq (record { constant = negsuc 1; coefficients = pos 1 ∷ [] }) ∷ []) ∷ []
+one_side = refl
+
+-- what isn't linear tests nothing
+no_test : written 1 (test 0 (compare below x input) true ∷ []) ≡ [] ∷ []
+no_test = refl

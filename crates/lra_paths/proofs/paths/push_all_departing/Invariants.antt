@@ -1,0 +1,10 @@
+use Rattle.std.proofs.Common.{take}
+use Rattle.lra_paths.specs.Sources.{Adds, all_departing}
+use Rattle.lra_paths.specs.StretchViews.{seen}
+use Rattle.lra_paths.specs.Tables.{moves_at}
+use Rattle.lra_paths.proofs.paths.push_all_departing.Given as goal
+
+-- those of the stretches so far have come
+abbrev pub invariant-ways : goal.invariant-ways
+invariant-ways l = Adds l.fn.source l.source (all_departing (moves_at l.fn.source.entries.items l.departure.before) l.departure.live l.departure.point
+    (seen (take l.stretch-index l.ways)))

@@ -1,0 +1,17 @@
+-- Goals of `open_node`: a row's last tree, and then those before it, are due; all but four have no tree in them.
+use Rattle.lra_paths.specs.Due.{stack}
+use Rattle.lra_paths.proofs.DueSteps.{leaf_falls, rest_is_leaf, seq_runs}
+use Rattle.lra_paths.proofs.trees.open_node.Goals as goal
+
+pub returns-in-Seq-clause-runs : goal.returns-in-Seq-clause-runs
+returns-in-Seq-clause-runs c =
+    seq_runs c.push_both.result c.args.node.now c.args.left.now.items c.push_both.new.left.items (stack c.args.done.now.items)
+    c.in-Seq.trees c.in-Seq.last c.in-Seq.is (rw (c.deref.ensures, c.as_slice.ensures.value) at c.push_both.ensures.runs)
+
+pub put_leaf-requires : goal.put_leaf-requires
+put_leaf-requires c =
+    rest_is_leaf c.args.node.now c.in_default.not-Seq c.in_default.not-Choose c.in_default.not-Iterate c.in_default.not-Catch
+
+pub returns-in_default-clause-falls : goal.returns-in_default-clause-falls
+returns-in_default-clause-falls c = leaf_falls c.put_leaf.result c.args.node.now c.args.left.now.items
+    (rest_is_leaf c.args.node.now c.in_default.not-Seq c.in_default.not-Choose c.in_default.not-Iterate c.in_default.not-Catch)

@@ -1,0 +1,108 @@
+-- What paths owe to runs: each piece of a run goes along one of them, and what they keep holds in all runs.
+use Rattle.std.specs.Prelude.{◌≡◌, ℕ, suc, ℤ, List, [], ◌∷◌, Bool, IsTrue, Some, slice_get, Contains, length}
+use Rattle.lra_domain.specs.Moves.{SomeLeads}
+use Rattle.lra_program.specs.Program.{Program}
+use Rattle.lra_program.specs.WellFormed.{AreGoodGlobals}
+use Rattle.lra_program.specs.Step.{State, Op, Config}
+use Rattle.lra_program.specs.Run.{start, Point, IsOn, Reaches, At, Fails, IsFailing}
+use Rattle.lra_program.specs.Sites.{Site, sites_of}
+use Rattle.lra_program.specs.Trails.{Met, passes, Trail, Alone, Walks, Piece}
+use Rattle.lra_operations.specs.Graph.{normal, jump, Node}
+use Rattle.lra_operations.specs.Trails.{by_jump, to_point, to_failure, Outcome, to_end, stopped, Goes}
+use Rattle.lra_operations.specs.Agree.{Agrees, AreDistinct, point_of}
+use Rattle.lra_operations.specs.TrailsAgree.{TreeGoes, TrailsAgree}
+use Rattle.lra_paths.specs.Ways.{Goal, comes_to, denies, through, enter, outs, inside, RunsOps}
+use Rattle.lra_paths.specs.Paths.{live_at, leading}
+
+-- trees ------------------------------------------------------------------------------------------------------------
+
+-- the operations are those of a way from the tree's start so far, past no point
+abbrev pub IsFirst : Node → Outcome → List Op → Type 0
+IsFirst g to_end ops = Contains (through g normal) ops
+IsFirst g (stopped (by_jump j)) ops = Contains (through g (jump j)) ops
+IsFirst g (stopped (to_point q)) ops = Contains (enter g) (record { ops = ops; goal = comes_to q })
+IsFirst g (stopped (to_failure q)) ops = Contains (enter g) (record { ops = ops; goal = denies q })
+
+-- those of a way from the point in it so far, past no further point
+abbrev pub IsNext : ℕ → Node → Outcome → List Op → Type 0
+IsNext p g to_end ops = Contains (outs g normal) (record { source = p; ops = ops })
+IsNext p g (stopped (by_jump j)) ops = Contains (outs g (jump j)) (record { source = p; ops = ops })
+IsNext p g (stopped (to_point q)) ops =
+    Contains (inside g) (record { source = p; way = record { ops = ops; goal = comes_to q } })
+IsNext p g (stopped (to_failure q)) ops =
+    Contains (inside g) (record { source = p; way = record { ops = ops; goal = denies q } })
+
+-- the operations lead from the one state to the other; an assertion that is false leaves the store as it was
+abbrev pub LeadsSo : Outcome → List Op → State → State → Type 0
+LeadsSo to_end ops s t = RunsOps ops s t
+LeadsSo (stopped (by_jump j)) ops s t = RunsOps ops s t
+LeadsSo (stopped (to_point q)) ops s t = RunsOps ops s t
+LeadsSo (stopped (to_failure q)) ops s t = (u : State) × RunsOps ops s u × (u.store ≡ t.store)
+
+-- the run has met no point, and has gone along a way from the tree's start; or along one from the point that it met
+-- last, to which the tree comes on what was met before
+pub data HasGone {A : Type 0} (name : ℕ → A) (g : Node) (a : Trail A) (u : Outcome) (b : Trail A) : Type 0 where
+  along_first : (ops : List Op) → b.met ≡ a.met → IsFirst g u ops → LeadsSo u ops a.state b.state →
+      HasGone name g a u b
+  along_next : (p : ℕ) (m : State) (before : List (Met A)) (ops : List Op) → b.met ≡ passes (name p) m ∷ before →
+      Goes name Alone g a (stopped (to_point p)) (record { state = m; met = before }) →
+      IsNext p g u ops → LeadsSo u ops m b.state → HasGone name g a u b
+
+abbrev pub WaysCover : Type 0
+WaysCover = (g : Node) (a : Trail ℕ) (u : Outcome) (b : Trail ℕ) → Goes (λ q. q) Alone g a u b →
+    HasGone (λ q. q) g a u b
+
+-- programs ---------------------------------------------------------------------------------------------------------
+
+-- a program and the tree of its operations, which comes to the points of the program's runs, on their trails; no two
+-- points are the same
+pub record HasTree (P : Program) (g : Node) : Type 0 where
+  pub globals : AreGoodGlobals P.globals
+  pub distinct : AreDistinct (sites_of P)
+  pub agrees : Agrees P g
+  pub trails : TrailsAgree Alone P g
+  -- the tree has no other points than these
+  pub points : (q : ℕ) (draws : List ℤ) (a : Trail Point) → TreeGoes Alone P g draws (to_point q) a → (s : Site) ×
+      (slice_get (sites_of P) q ≡ Some s)
+
+pub record PathsCover (P : Program) (g : Node) : Type 0 where
+  -- from the start to the first point
+  pub starts : (draws : List ℤ) (n : ℕ) (d : Config) (q : ℕ) (s : Site) →
+      slice_get (sites_of P) q ≡ Some s → Walks Alone P n (start P draws) [] d [] →
+      IsOn d (point_of s) → SomeLeads (leading P g 0 (comes_to q)) [] d.state.store
+  -- from a point to the next one
+  pub goes : (c d : Config) (p q : ℕ) (r s : Site) → slice_get (sites_of P) p ≡ Some r →
+      slice_get (sites_of P) q ≡ Some s → Reaches P c → Piece Alone P (point_of r) c d → IsOn d (point_of s) →
+      SomeLeads (leading P g (suc p) (comes_to q)) c.state.store d.state.store
+  -- where an assertion is false
+  pub denied : (c : Config) (q : ℕ) (s : Site) → slice_get (sites_of P) q ≡ Some s → Reaches P c →
+      IsOn c (point_of s) → IsFailing c.items c.here c.state →
+      SomeLeads (leading P g (suc q) (denies q)) c.state.store c.state.store
+
+abbrev pub AllPathsCover : Type 0
+AllPathsCover = (P : Program) (g : Node) → HasTree P g → PathsCover P g
+
+-- its point is one of the program's
+abbrev pub IsGoalOf : Program → Goal → Type 0
+IsGoalOf P (comes_to q) = (s : Site) × (slice_get (sites_of P) q ≡ Some s)
+IsGoalOf P (denies q) = (s : Site) × (slice_get (sites_of P) q ≡ Some s)
+
+-- What is kept of stores: each path from the start to a point leads to a store of which this holds, and so does each
+-- path from a point with a store of which it holds.
+pub record AreKept (P : Program) (g : Node) (holds : Goal → List ℤ → Type 0) : Type 0 where
+  pub first : (goal : Goal) (t : List ℤ) → IsGoalOf P goal → SomeLeads (leading P g 0 goal) [] t → holds goal t
+  pub next : (p : ℕ) (r : Site) (goal : Goal) (s t : List ℤ) → slice_get (sites_of P) p ≡ Some r →
+      length s ≡ live_at P p → IsGoalOf P goal → holds (comes_to p) s →
+      SomeLeads (leading P g (suc p) goal) s t → holds goal t
+
+-- it holds of the stores with which runs are at a point, and of one at each assertion that is false in some run
+pub record HoldInAllRuns (P : Program) (holds : Goal → List ℤ → Type 0) : Type 0 where
+  pub comes : (q : ℕ) (s : Site) (store : List ℤ) → slice_get (sites_of P) q ≡ Some s → At P (point_of s) store →
+      holds (comes_to q) store
+  pub fails : (q : ℕ) (s : Site) → slice_get (sites_of P) q ≡ Some s → Fails P (point_of s) → (store : List ℤ) ×
+      holds (denies q) store
+
+-- as a law of tests; for any relation it is the lemma from which this follows (`kept` of the proofs)
+abbrev pub WhatPathsKeepHolds : Type 0
+WhatPathsKeepHolds = (P : Program) (g : Node) → HasTree P g → (holds : Goal → List ℤ → Bool) →
+    AreKept P g (λ goal t. IsTrue (holds goal t)) → HoldInAllRuns P (λ goal t. IsTrue (holds goal t))

@@ -1,0 +1,98 @@
+-- The ways from one source, with a table of their moves, and the paths that are written out of it.
+use Rattle.std.specs.Prelude.{◌≡◌, ◌<◌, ◌≤◌, ℕ, zero, suc, List, [], ◌∷◌, ◌++◌, Bool, true, false, cond, nat_eq, length}
+use Rattle.std.specs.Prelude.{Option, Some, None, slice_get}
+use Rattle.std.specs.List.{flat_map}
+use Rattle.lra_domain.specs.Actions.{Action}
+use Rattle.lra_domain.specs.Moves.{Moves, stay, first_then}
+use Rattle.lra_program.specs.declared.program.GlobalVariable.{GlobalVariable}
+use Rattle.lra_program.specs.Sites.{Site}
+use Rattle.lra_program.specs.Step.{Op}
+use Rattle.lra_flow.specs.MovesOf.{first_values}
+use Rattle.lra_paths.specs.Ways.{Goal}
+use Rattle.lra_paths.specs.Sides.{sides}
+use Rattle.lra_paths.specs.Paths.{greatest_paths, live_of, same_goal}
+use Rattle.lra_paths.specs.Stretches.{End, leaves, meets, Stretch}
+use Rattle.lra_paths.specs.StretchViews.{goal_view}
+use Rattle.lra_paths.specs.Tables.{Has, IsTable, Grows, moves_at}
+use Rattle.lra_paths.specs.WayMoves.{way_moves}
+use Rattle.lra_paths.specs.declared.paths.Departure.{Departure}
+use Rattle.lra_paths.specs.declared.sources.Led.{Led}
+use Rattle.lra_paths.specs.declared.sources.Source.{Source}
+use Rattle.lra_paths.specs.declared.tables.Entry.{Entry}
+
+-- the paths of a way, where it has this goal
+abbrev pub to_goal_by : List Entry → Goal → Led → List (List Action)
+to_goal_by es goal way = cond (same_goal (goal_view way.goal) goal) (sides (moves_at es way.place)) []
+
+-- in the order of the ways
+abbrev pub to_goal : List Entry → List Led → Goal → List (List Action)
+to_goal es ways goal = flat_map (to_goal_by es goal) ways
+
+-- no more than may be lead to each goal, or more to one
+abbrev pub AreFewTo : List Entry → List Led → Type 0
+AreFewTo es ways = (goal : Goal) → length (to_goal es ways goal) ≤ greatest_paths
+
+abbrev pub AreManyTo : List Entry → List Led → Type 0
+AreManyTo es ways = (goal : Goal) × (greatest_paths < length (to_goal es ways goal))
+
+-- to the goals of these ways
+abbrev pub AreFewFor : List Entry → List Led → List Led → Type 0
+AreFewFor es ways [] = Unit {0}
+AreFewFor es ways (w ∷ ws) = (length (to_goal es ways (goal_view w.goal)) ≤ greatest_paths) × AreFewFor es ways ws
+
+-- from a source ----------------------------------------------------------------------------------------------------
+
+abbrev pub same_point : Option ℕ → Option ℕ → Bool
+same_point None None = true
+same_point None (Some q) = false
+same_point (Some p) None = false
+same_point (Some p) (Some q) = nat_eq p q
+
+-- what is done first, and then these operations, where a goal is met that is this one
+abbrev pub ending : Moves → ℕ → Goal → List Op → End → List (List Action)
+ending before live goal ops (leaves h) = []
+ending before live goal ops (meets g) = cond (same_goal g goal) (sides (first_then before (way_moves live ops))) []
+
+-- of a stretch, where it is from this point
+abbrev pub departing : Moves → ℕ → Option ℕ → Goal → Stretch → List (List Action)
+departing before live point goal s = cond (same_point s.source point) (ending before live goal s.ops s.end) []
+
+abbrev pub all_departing : Moves → ℕ → Option ℕ → List Stretch → Goal → List (List Action)
+all_departing before live point ss goal = flat_map (departing before live point goal) ss
+
+-- what is done first from the source of this number, how many variables live behind that, and which point it is
+abbrev pub first_from : List GlobalVariable → ℕ → Moves
+first_from globals zero = first_values 0 globals
+first_from globals (suc p) = stay
+
+abbrev pub live_from : List GlobalVariable → List Site → ℕ → ℕ
+live_from globals sites zero = length globals
+live_from globals sites (suc p) = live_of (slice_get sites p)
+
+abbrev pub point_from : ℕ → Option ℕ
+point_from zero = None
+point_from (suc p) = Some p
+
+pub record IsDeparture (globals : List GlobalVariable) (sites : List Site) (p : ℕ) (es : List Entry) (d : Departure) :
+    Type 0 where
+  pub first : Has es d.before (first_from globals p)
+  pub live : d.live ≡ live_from globals sites p
+  pub point : d.point ≡ point_from p
+
+-- tables -----------------------------------------------------------------------------------------------------------
+
+-- the moves of each way stand in the table
+abbrev pub AreLed : List Entry → List Led → Type 0
+AreLed es [] = Unit {0}
+AreLed es (w ∷ ws) = (w.place < length es) × AreLed es ws
+
+pub record IsSource (s : Source) : Type 0 where
+  pub table : IsTable s.entries.items
+  pub led : AreLed s.entries.items s.ways.items
+
+-- these paths come behind the others
+pub record Adds (s t : Source) (paths : Goal → List (List Action)) : Type 0 where
+  pub is : IsSource t
+  pub grows : Grows s.entries.items t.entries.items
+  pub more : (goal : Goal) → to_goal t.entries.items t.ways.items goal ≡
+      to_goal s.entries.items s.ways.items goal ++ paths goal

@@ -1,0 +1,142 @@
+-- Ways of a tree of operations: what is done from one point to the next, or to where the assertion at a point is false.
+-- A loop isn't passed without its point, so there are finitely many of them.
+use Rattle.std.specs.Prelude.{◌≡◌, ℕ, List, [], ◌∷◌, ◌++◌, map, Bool, true, false, if◌then◌else◌, Some}
+use Rattle.std.specs.List.{flat_map}
+use Rattle.lra_program.specs.Program.{Cond}
+use Rattle.lra_program.specs.Step.{State, Op, run_op, test}
+use Rattle.lra_operations.specs.Graph.{Exit, broken, continued, returned, How, normal, jump, Node, empty, point, act}
+use Rattle.lra_operations.specs.Graph.{check, seq, choose, iterate, catch, leave}
+
+-- where a way leads: to a point, or to where the assertion at a point is false
+pub data Goal : Type 0 where
+  comes_to : ℕ → Goal
+  denies : ℕ → Goal
+
+pub record Way : Type 0 where
+  pub ops : List Op
+  pub goal : Goal
+
+-- from the point of this number
+pub record Leg : Type 0 where
+  pub source : ℕ
+  pub way : Way
+
+-- from the point of this number out of a tree
+pub record Exodus : Type 0 where
+  pub source : ℕ
+  pub ops : List Op
+
+abbrev pub same_exit : Exit → Exit → Bool
+same_exit broken broken = true
+same_exit continued continued = true
+same_exit returned returned = true
+same_exit j k = false
+
+-- each of the ones, then each of the others: with the first of the others first
+abbrev pub each_then : {A : Type 0} → List (List A) → List (List A) → List (List A)
+each_then xs ys = flat_map (λ y. map (λ x. x ++ y) xs) ys
+
+-- the operations, and then the way
+abbrev pub then_way : Way → List Op → Way
+then_way way x = record way { ops = x ++ way.ops }
+
+abbrev pub then_ways : List (List Op) → List Way → List Way
+then_ways xs ways = flat_map (λ way. map (then_way way) xs) ways
+
+-- out of the one tree, and then through another
+abbrev pub then_out : List Op → Exodus → Exodus
+then_out y x = record x { ops = x.ops ++ y }
+
+abbrev pub then_outs : List Exodus → List (List Op) → List Exodus
+then_outs xs ys = flat_map (λ y. map (then_out y) xs) ys
+
+-- out of the one tree, and then to a first point of another
+abbrev pub leg_by : Way → Exodus → Leg
+leg_by way x = record { source = x.source; way = then_way way x.ops }
+
+abbrev pub legs_by : List Exodus → List Way → List Leg
+legs_by xs ways = flat_map (λ way. map (leg_by way) xs) ways
+
+-- a test first
+abbrev pub tested : ℕ → Cond → Bool → List Op → List Op
+tested base c wanted x = test base c wanted ∷ x
+
+abbrev pub tested_way : ℕ → Cond → Bool → Way → Way
+tested_way base c wanted way = record way { ops = tested base c wanted way.ops }
+
+-- from the loop's point into its body: to a first point of that, out of it, or back to the loop's point
+abbrev pub into_body : ℕ → ℕ → Cond → Way → Leg
+into_body q base c way = record { source = q; way = tested_way base c true way }
+
+abbrev pub out_of_body : ℕ → ℕ → Cond → List Op → Exodus
+out_of_body q base c x = record { source = q; ops = tested base c true x }
+
+-- on to a point
+abbrev pub leg_to : ℕ → Exodus → Leg
+leg_to q x = record { source = x.source; way = record { ops = x.ops; goal = comes_to q } }
+
+-- through the tree past no point, left so
+abbrev pub through : Node → How → List (List Op)
+through empty normal = [] ∷ []
+through empty (jump j) = []
+through (point q) h = []
+through (act q op) normal = (op ∷ []) ∷ []
+through (act q op) (jump j) = []
+through (check q base c) normal = (test base c true ∷ []) ∷ []
+through (check q base c) (jump j) = []
+through (seq a b) normal = each_then (through a normal) (through b normal)
+through (seq a b) (jump j) = through a (jump j) ++ each_then (through a normal) (through b (jump j))
+through (choose q base c a b) h = map (tested base c true) (through a h) ++
+    map (tested base c false) (through b h)
+through (iterate q base c a) h = []
+through (catch q k a) normal = through a normal ++ through a (jump k)
+through (catch q k a) (jump j) = if same_exit j k then [] else through a (jump j)
+through (leave n k) normal = []
+through (leave n k) (jump j) = if same_exit j k then [] ∷ [] else []
+
+-- from the tree's start to a first point, or to where an assertion before that is false
+abbrev pub enter : Node → List Way
+enter empty = []
+enter (point q) = record { ops = []; goal = comes_to q } ∷ []
+enter (act q op) = []
+enter (check q base c) = record { ops = test base c false ∷ []; goal = denies q } ∷ []
+enter (seq a b) = enter a ++ then_ways (through a normal) (enter b)
+enter (choose q base c a b) = map (tested_way base c true) (enter a) ++ map (tested_way base c false) (enter b)
+enter (iterate q base c a) = record { ops = []; goal = comes_to q } ∷ []
+enter (catch q k a) = enter a
+enter (leave n k) = []
+
+-- from the points of the tree out of it, left so
+abbrev pub outs : Node → How → List Exodus
+outs empty h = []
+outs (point q) normal = record { source = q; ops = [] } ∷ []
+outs (point q) (jump j) = []
+outs (act q op) h = []
+outs (check q base c) h = []
+outs (seq a b) normal = then_outs (outs a normal) (through b normal) ++ outs b normal
+outs (seq a b) (jump j) = outs a (jump j) ++ then_outs (outs a normal) (through b (jump j)) ++ outs b (jump j)
+outs (choose q base c a b) h = outs a h ++ outs b h
+outs (iterate q base c a) normal = record { source = q; ops = test base c false ∷ [] } ∷ []
+outs (iterate q base c a) (jump j) =
+    map (out_of_body q base c) (through a (jump j)) ++ outs a (jump j)
+outs (catch q k a) normal = outs a normal ++ outs a (jump k)
+outs (catch q k a) (jump j) = if same_exit j k then [] else outs a (jump j)
+outs (leave n k) h = []
+
+-- from the points of the tree to the next ones
+abbrev pub inside : Node → List Leg
+inside empty = []
+inside (point q) = []
+inside (act q op) = []
+inside (check q base c) = []
+inside (seq a b) = inside a ++ legs_by (outs a normal) (enter b) ++ inside b
+inside (choose q base c a b) = inside a ++ inside b
+inside (iterate q base c a) = map (into_body q base c) (enter a) ++
+    map (λ x. leg_to q (out_of_body q base c x)) (through a normal) ++ map (leg_to q) (outs a normal) ++ inside a
+inside (catch q k a) = inside a
+inside (leave n k) = []
+
+-- the operations lead from the first state to the second
+abbrev pub RunsOps : List Op → State → State → Type 0
+RunsOps [] s t = t ≡ s
+RunsOps (op ∷ ops) s t = (m : State) × (run_op op s ≡ Some m) × RunsOps ops m t

@@ -1,0 +1,236 @@
+//! The paths of a program, from one source after the other: they are counted, and each source's moves are put into a
+//! table, out of which its paths are written.
+
+ghost use Rattle.std.specs.Prelude.{◌≡◌, ◌<◌, ℕ, length, map, slice_get, Err, IfOk, OnOk};
+ghost use Rattle.lra_operations.specs.Graph.{Node};
+ghost use Rattle.lra_operations.specs.GraphViews.{node_view, site_view};
+ghost use Rattle.lra_paths.specs.Paths.{AreFewIn, HasTooManyIn, leading_in, live_of};
+ghost use Rattle.lra_paths.specs.Sources as sources;
+ghost use Rattle.lra_paths.specs.Sources.{Adds, IsDeparture, IsSource, all_departing, departing, ending};
+ghost use Rattle.lra_paths.specs.Sources.{same_point, to_goal};
+ghost use Rattle.lra_paths.specs.Stretches as ways;
+ghost use Rattle.lra_paths.specs.Stretches.{AreWays};
+ghost use Rattle.lra_paths.specs.StretchViews.{end_view, goal_view, move_view, seen, stretch_view};
+ghost use Rattle.lra_paths.specs.Tables.{IsTable, moves_at};
+ghost use Rattle.lra_paths.specs.Ways as trees;
+ghost use Rattle.lra_paths.specs.declared.paths.PathsFailure.TheVariants.{TooMany};
+
+use crate::changes::{push_globals, push_way};
+use crate::sources::{Led, Source};
+use crate::stretches::{End, Goal, Move, Stretch};
+use crate::tables::{Entry, push_first_then, push_stay};
+use crate::trees::ways_of;
+use lra_operations::{Graph, Site};
+use lra_program::GlobalVariable;
+use std::alloc::{AllocError, Global};
+
+/// The globals and the points of a program, and all its ways.
+#[derive(Drop)]
+pub struct Paths<'g> {
+    pub globals: &'g [GlobalVariable],
+    pub sites: &'g [Site],
+    pub ways: Vec<Stretch<'g>>,
+}
+
+/// Why a program has no paths: more than 1,024 lead from the source of this number to one goal, or the memory fails.
+#[derive(Clone, Copy, PartialEq, Eq, Debug)]
+pub enum PathsFailure {
+    TooMany(usize),
+    Memory,
+}
+
+impl From<AllocError> for PathsFailure {
+    ghost use Rattle.lra_paths.specs.declared.paths.PathsFailure.TheVariants.{Memory};
+
+    ghost from_gives = { λ _ e. e ≡ Memory };
+
+    fn from(_: AllocError) -> Self {
+        PathsFailure::Memory
+    }
+}
+
+/// Where ways begin: at a point, or at the start where there is none; how many variables live there, and the place of
+/// what is done before.
+#[derive(Clone, Copy)]
+struct Departure {
+    point: Option<usize>,
+    live: usize,
+    before: usize,
+}
+
+fn is_same_point(one: Option<usize>, other: Option<usize>) -> bool
+    ensures { result ≡ same_point one other }
+{
+    match one {
+        None => other.is_none(),
+        Some(point) => match other {
+            None => false,
+            Some(wanted) => point == wanted,
+        },
+    }
+}
+
+// ways --------------------------------------------------------------------------------------------
+
+/// A way to the goal by these moves comes behind the others.
+fn push_led(
+    alloc: Global,
+    departure: Departure,
+    goal: Goal,
+    moves: &[Move<'_>],
+    source: &mut Source,
+) -> Result<(), AllocError>
+    requires is { IsSource source.old }
+    requires before { departure.before < length source.old.entries.items }
+    ensures { OnOk result (Adds source.old source.new (λ g.
+        ending (moves_at source.old.entries.items departure.before) departure.live g
+        (map move_view moves.now) (ways.meets (goal_view goal)))) }
+{
+    let way = push_way(alloc, departure.live, moves, &mut source.entries)?;
+    let place = push_first_then(&mut source.entries, departure.before, way)?;
+    source.ways.push(Led { goal, place })?;
+    Ok(())
+}
+
+/// Where a goal is met, the way comes behind the others.
+fn push_meeting(
+    alloc: Global,
+    departure: Departure,
+    stretch: &Stretch<'_>,
+    source: &mut Source,
+) -> Result<(), AllocError>
+    requires is { IsSource source.old }
+    requires before { departure.before < length source.old.entries.items }
+    ensures { OnOk result (Adds source.old source.new (λ g.
+        ending (moves_at source.old.entries.items departure.before) departure.live g
+        (map move_view stretch.now.moves.items) (end_view stretch.now.end))) }
+{
+    match stretch.end {
+        End::Leaves(_) => Ok(()),
+        End::Meets(goal) => push_led(alloc, departure, goal, stretch.moves.as_slice(), source),
+    }
+}
+
+/// Where the stretch is from there, its way comes behind the others.
+fn push_departing(
+    alloc: Global,
+    departure: Departure,
+    stretch: &Stretch<'_>,
+    source: &mut Source,
+) -> Result<(), AllocError>
+    requires is { IsSource source.old }
+    requires before { departure.before < length source.old.entries.items }
+    ensures { OnOk result (Adds source.old source.new (λ g.
+        departing (moves_at source.old.entries.items departure.before) departure.live
+        departure.point g (stretch_view stretch.now))) }
+{
+    if is_same_point(stretch.source, departure.point) {
+        push_meeting(alloc, departure, stretch, source)
+    } else {
+        Ok(())
+    }
+}
+
+/// All ways from there come behind the others, in their order.
+fn push_all_departing(
+    alloc: Global,
+    departure: Departure,
+    ways: &[Stretch<'_>],
+    source: &mut Source,
+) -> Result<(), AllocError>
+    requires is { IsSource source.old }
+    requires before { departure.before < length source.old.entries.items }
+    ensures { OnOk result (Adds source.old source.new (all_departing
+        (moves_at source.old.entries.items departure.before) departure.live departure.point
+        (seen ways.now))) }
+{
+    'ways: for stretch in ways {
+        push_departing(alloc, departure, stretch, source)?;
+    }
+    Ok(())
+}
+
+// sources -----------------------------------------------------------------------------------------
+
+/// How many variables live at the point.
+fn live_at(sites: &[Site], point: usize) -> usize
+    ensures { result ≡ live_of (slice_get (map site_view sites.now) point) }
+{
+    match sites.get(point) {
+        None => 0,
+        Some(site) => site.live,
+    }
+}
+
+impl Paths<'_> {
+    /// The start is the source 0; what is done first there is that the globals come to their first values.
+    fn depart(
+        &self,
+        alloc: Global,
+        source: usize,
+        entries: &mut Vec<Entry>,
+    ) -> Result<Departure, AllocError>
+        requires { IsTable entries.old.items }
+        ensures table { OnOk result (IsTable entries.new.items) }
+        ensures is { IfOk result (λ d. IsDeparture self.now.globals.now
+            (map site_view self.now.sites.now) source entries.new.items d) }
+    {
+        match source.checked_sub(1) {
+            None => Ok(Departure {
+                point: None,
+                live: self.globals.len(),
+                before: push_globals(alloc, self.globals, entries)?,
+            }),
+            Some(point) => Ok(Departure {
+                point: Some(point),
+                live: live_at(self.sites, point),
+                before: push_stay(entries)?,
+            }),
+        }
+    }
+
+    /// The ways from the source of this number: 0 is the start, and the points have the numbers from 1 on.
+    pub fn from(&self, alloc: Global, source: usize) -> Result<Source, AllocError>
+        ensures table { IfOk result (λ s. IsTable s.entries.items) }
+        ensures leads { IfOk result (λ s. (g : Node) → AreWays (seen self.now.ways.items) g →
+            (goal : trees.Goal) → to_goal s.entries.items s.ways.items goal ≡ leading_in
+            self.now.globals.now (map site_view self.now.sites.now) g source goal) }
+    {
+        let mut entries = Vec::new(alloc);
+        let departure = self.depart(alloc, source, &mut entries)?;
+        let mut led = Source {
+            entries,
+            ways: Vec::new(alloc),
+        };
+        push_all_departing(alloc, departure, self.ways.as_slice(), &mut led)?;
+        Ok(led)
+    }
+}
+
+/// All ways of the program, of which no more than 1,024 paths may lead from one source to one goal.
+pub fn find_paths<'g>(
+    alloc: Global,
+    globals: &'g [GlobalVariable],
+    graph: &'g Graph,
+) -> Result<Paths<'g>, PathsFailure>
+    ensures few { IfOk result (λ p. AreFewIn globals.now (map site_view graph.now.sites.items)
+        (node_view graph.now.tree)) }
+    ensures of { IfOk result (λ p. (p.globals.now ≡ globals.now) ×
+        (p.sites.now ≡ graph.now.sites.items) ×
+        AreWays (seen p.ways.items) (node_view graph.now.tree)) }
+    ensures many { (q : ℕ) → result ≡ Err (TooMany q) → HasTooManyIn globals.now
+        (map site_view graph.now.sites.items) (node_view graph.now.tree) q }
+{
+    let paths = Paths {
+        globals,
+        sites: graph.sites.as_slice(),
+        ways: ways_of(alloc, &graph.tree)?,
+    };
+    'sources: for source in 0..=graph.sites.len() {
+        let led = paths.from(alloc, source)?;
+        if led.has_too_many() {
+            return Err(PathsFailure::TooMany(source));
+        }
+    }
+    Ok(paths)
+}
