@@ -1,9 +1,11 @@
-//! Tests of programs with their calls written out, and of their listing: each public call that allocates, and values
-//! from outside.
+//! Tests of programs with their calls written out, of their listing and of their paths: each public call that
+//! allocates, and values from outside.
 //!
 //! They stand apart from what they try, since a crate that has tests in it is proved twice.
 #![tactic(auto)]
 
+#[cfg(test)]
+mod between;
 #[cfg(test)]
 mod graphs;
 #[cfg(test)]
