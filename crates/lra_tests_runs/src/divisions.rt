@@ -30,6 +30,11 @@ const SEVENTHS: &str =
     "int main(void){ long x=input(); assume(x>=0 && x<=100); if(x/7!=3) ; else assert(x>=21 && x<=27); if(x%7==x/7) ; \
     if(7>x%8) ; }";
 
+/// The middle of two places as one expression: what is added to isn't a form, and its quotient isn't known.
+const WHOLE: &str =
+    "int main(void){ long from=input(), to=input(); assume(0<=from && from<=to && to<=2147483647); \
+    int low=from, high=to; int middle=low+(high-low)/2; assert(low<=middle && middle<=high); }";
+
 /// What a `return` gives, and an argument.
 const CALLS: &str =
     "long half(long x){ return x/2; } int main(void){ long n=input(), h, m; assume(n>=0); h=half(n); m=half(n/3); \
@@ -46,7 +51,7 @@ const CONSTANTS: &str =
     "int main(void){ long x=7/2; assert(x==3); x=-7/2; assert(x==-3); x=-7%2; assert(x==-1); x=7/-2; assert(x==-3); }";
 
 /// Lines over polyhedra.
-static POLYHEDRA: [Line; 7] = [
+static POLYHEDRA: [Line; 10] = [
     (
         "lra analyse",
         HALF,
@@ -87,6 +92,24 @@ static POLYHEDRA: [Line; 7] = [
     ),
     (
         "lra analyse",
+        SEVENTHS,
+        Status::Proved,
+        "point 7 main 1:112\n  row x >= 0\n  row x <= 100\n",
+    ),
+    (
+        "lra analyse",
+        SEVENTHS,
+        Status::Proved,
+        "point 9 main 1:124\n  row x >= 0\n  row x <= 100\n",
+    ),
+    (
+        "lra analyse --fits",
+        WHOLE,
+        Status::Unknown,
+        "assert 7 main 1:147 unknown\nfit 4 main 1:99 fits\nfit 5 main 1:109 fits\nfit 6 main 1:122 may overflow\n",
+    ),
+    (
+        "lra analyse",
         CALLS,
         Status::Proved,
         "assert 11 main 1:110 proved\nassert 12 main 1:126 proved\nassert 13 main 1:144 proved\n",
@@ -94,7 +117,7 @@ static POLYHEDRA: [Line; 7] = [
 ];
 
 /// Lines over boxes, and over sets of two of them.
-static OVER_BOXES: [Line; 5] = [
+static OVER_BOXES: [Line; 6] = [
     (
         BOXES,
         HALF,
@@ -121,6 +144,12 @@ static OVER_BOXES: [Line; 5] = [
         "point 3 main 1:31\n  row x >= -1073741824\n  row x <= 1073741823\npoint 4 main 1:39\n\
             \x20 row x >= -1073741824\n  row x <= 1073741823\npoint 5 main 1:41\n  row x >= -1073741824\n\
             \x20 row x <= 1073741823\n",
+    ),
+    (
+        "lra analyse --domain box --fits",
+        INTS,
+        Status::Proved,
+        "fit 2 main 1:24 fits\nfit 3 main 1:31 fits\nverdicts proved 0 unknown 0\n",
     ),
     (
         BOXES,
