@@ -17,7 +17,7 @@ use Rattle.lra_linear.specs.Range.{InRange, in_range}
 use Rattle.lra_linear.proofs.CheckedArithmetic.{in_range_yes}
 use Rattle.lra_script.specs.ScriptText.{is_name, is_number, number_of}
 
-both : (a b : Bool) → a && b ≡ true → (a ≡ true) × (b ≡ true)
+pub both : (a b : Bool) → a && b ≡ true → (a ≡ true) × (b ≡ true)
 both true b h = (refl, h)
 both false b h = cc
 
@@ -50,7 +50,7 @@ digits_of ds h = let p = both (not (nat_eq (length ds) 0)) (list_all is_ascii_di
 test_of_digits : IsDigitsTest (λ ds. list_all is_ascii_digit ds ≡ true)
 test_of_digits = search rules
 
-all_digits : (ds : List ℕ) → list_all is_ascii_digit ds ≡ true → AllDigits 10 ds
+pub all_digits : (ds : List ℕ) → list_all is_ascii_digit ds ≡ true → AllDigits 10 ds
 all_digits ds h = (numerals_by_value _ test_of_digits).to ds h
 
 not_plus : (c : ℕ) (cs : List ℕ) → list_all is_ascii_digit (c ∷ cs) ≡ true → c ≢ 43
