@@ -12,7 +12,8 @@ use Rattle.lra_program.specs.Step as step
 use Rattle.lra_program.specs.Trails.{passes, Trail, Alone}
 use Rattle.lra_operations.specs.Graph.{Exit, broken, continued, returned, normal, jump, Node, empty, point, act, check, seq, choose, iterate, catch, leave}
 use Rattle.lra_operations.specs.Trails.{Stop, by_jump, to_point, to_failure, IsPoint, Outcome, to_end, stopped, Goes, Tests, TrailRounds}
-use Rattle.lra_paths.specs.Ways.{Goal, comes_to, denies, Way, Leg, Exodus, same_exit, each_then, then_way, then_out, leg_by, leg_to, tested_way, into_body}
+use Rattle.lra_paths.specs.Ways.{Goal, comes_to, denies, Way, Segment, Suffix, same_exit, each_then, then_way, then_out, segment_by, segment_to, tested_way}
+use Rattle.lra_paths.specs.Ways.{into_body}
 use Rattle.lra_paths.specs.Ways.{out_of_body, through, enter, outs, inside, RunsOps}
 use Rattle.lra_paths.specs.Ways as ways
 use Rattle.lra_paths.specs.Covers.{IsFirst, IsNext, LeadsSo, HasGone, along_first, along_next}
@@ -68,10 +69,10 @@ next_then_first p g h (stopped (by_jump k)) x y i j =
     (pairs_have then_out (outs g normal) (through h (jump k)) (record { source = p; ops = x }) y i j))
 next_then_first p g h (stopped (to_point q)) x y i j =
     Contains-append_left _ (inside h) _ (Contains-append_right (inside g) _ _
-    (pairs_have leg_by (outs g normal) (enter h) (record { source = p; ops = x }) (record { ops = y; goal = comes_to q }) i j))
+    (pairs_have segment_by (outs g normal) (enter h) (record { source = p; ops = x }) (record { ops = y; goal = comes_to q }) i j))
 next_then_first p g h (stopped (to_failure q)) x y i j =
     Contains-append_left _ (inside h) _ (Contains-append_right (inside g) _ _
-    (pairs_have leg_by (outs g normal) (enter h) (record { source = p; ops = x }) (record { ops = y; goal = denies q }) i j))
+    (pairs_have segment_by (outs g normal) (enter h) (record { source = p; ops = x }) (record { ops = y; goal = denies q }) i j))
 
 next_in_second : (p : ℕ) (g h : Node) (u : Outcome) (x : List Op) → IsNext p h u x → IsNext p (seq g h) u x
 next_in_second p g h to_end x i = Contains-append_right _ (outs h normal) _ i
@@ -132,26 +133,26 @@ module _ (q base : ℕ) (c : Cond) (g : Node) where
   into (to_failure r) x i = Contains-append_left _ _ _ (Contains-append_left _ _ _
       (Contains-append_left _ _ _ (map_has (into_body q base c) (enter g) (record { ops = x; goal = denies r }) i)))
 
-  abbrev entering : List Leg
+  abbrev entering : List Segment
   entering = map (into_body q base c) (enter g)
 
-  abbrev rounds : List Leg
-  rounds = map (λ y. leg_to q (out_of_body q base c y)) (through g normal)
+  abbrev rounds : List Segment
+  rounds = map (λ y. segment_to q (out_of_body q base c y)) (through g normal)
 
-  abbrev backs : List Leg
-  backs = map (leg_to q) (outs g normal)
+  abbrev backs : List Segment
+  backs = map (segment_to q) (outs g normal)
 
   round : (x : List Op) → IsFirst g to_end x → IsNext q loop (stopped (to_point q)) (test base c true ∷ x)
   round x i =
-      let leg : Leg = leg_to q (out_of_body q base c x) in
-      Contains-append_left ((entering ++ rounds) ++ backs) (inside g) leg (Contains-append_left (entering ++ rounds) backs leg
-      (Contains-append_right entering rounds leg (map_has (λ y. leg_to q (out_of_body q base c y)) (through g normal) x i)))
+      let segment : Segment = segment_to q (out_of_body q base c x) in
+      Contains-append_left ((entering ++ rounds) ++ backs) (inside g) segment (Contains-append_left (entering ++ rounds) backs segment
+      (Contains-append_right entering rounds segment (map_has (λ y. segment_to q (out_of_body q base c y)) (through g normal) x i)))
 
   back : (p : ℕ) (x : List Op) → IsNext p g to_end x → IsNext p loop (stopped (to_point q)) x
   back p x i =
-      let leg : Leg = leg_to q (record { source = p; ops = x }) in
-      Contains-append_left ((entering ++ rounds) ++ backs) (inside g) leg (Contains-append_right (entering ++ rounds) backs leg
-      (map_has (leg_to q) (outs g normal) (record { source = p; ops = x }) i))
+      let segment : Segment = segment_to q (record { source = p; ops = x }) in
+      Contains-append_left ((entering ++ rounds) ++ backs) (inside g) segment (Contains-append_right (entering ++ rounds) backs segment
+      (map_has (segment_to q) (outs g normal) (record { source = p; ops = x }) i))
 
 -- a jump of another kind goes on
 differs : (j k : Exit) → j ≢ k → same_exit j k ≡ false

@@ -17,11 +17,12 @@ use Rattle.lra_operations.specs.Graph.{Node}
 use Rattle.lra_operations.specs.Trails.{to_point, to_failure, stopped}
 use Rattle.lra_operations.specs.Agree.{point_of}
 use Rattle.lra_operations.specs.TrailsAgree.{point_at, point_or_none, TreeGoes}
-use Rattle.lra_paths.specs.Ways.{Goal, comes_to, denies, Way, Leg, enter, inside}
+use Rattle.lra_paths.specs.Ways.{Goal, comes_to, denies, Way, Segment, enter, inside}
 use Rattle.lra_paths.specs.Sides.{written}
-use Rattle.lra_paths.specs.Paths.{same_goal, live_of, live_at, from_start, first_ways, next_legs, leading}
-use Rattle.lra_paths.specs.Covers.{HasGone, along_first, along_next, HasTree, PathsCover, AreKept, HoldInAllRuns}
+use Rattle.lra_paths.specs.Paths.{same_goal, live_of, live_at, from_start, first_ways, next_segments, leading}
+use Rattle.lra_paths.specs.Covers.{HasGone, along_first, along_next, PathsCover, AreKept, HoldInAllRuns}
 use Rattle.lra_paths.proofs.Came.{came}
+use Rattle.lra_paths.proofs.FollowedRuns.{FollowsRuns}
 use Rattle.lra_paths.proofs.SideSteps.{some_left, some_right}
 use Rattle.lra_paths.proofs.WrittenSteps.{written_from, start_leads}
 
@@ -51,8 +52,21 @@ next_leads : (P : Program) (g : Node) (p : ℕ) (ops : List Op) (goal : Goal) (s
     (record { source = p; way = record { ops = ops; goal = goal } })
     → SomeLeads (written (live_at P p) ops) s t → SomeLeads (leading P g (suc p) goal) s t
 next_leads P g p ops goal s t k led =
-    one_leads (λ (leg : Leg). written (live_at P p) leg.way.ops) (next_legs g p goal) (record { source = p; way = record { ops = ops; goal = goal } }) s t
-    (filter_has (λ (leg : Leg). nat_eq leg.source p && same_goal leg.way.goal goal) (inside g) (record { source = p; way = record { ops = ops; goal = goal } })
+    one_leads (λ (segment : Segment). written (live_at P p) segment.way.ops) (next_segments g p goal) (record {
+      source = p;
+      way = record {
+        ops = ops;
+        goal =
+            goal;
+      };
+    }) s t
+    (filter_has (λ (segment : Segment). nat_eq segment.source p && same_goal segment.way.goal goal) (inside g) (record {
+      source = p;
+      way = record {
+        ops = ops;
+        goal = goal;
+      };
+    })
     k
     (both_true (same_self p) (goal_self goal))) led
 
@@ -77,7 +91,7 @@ met_before (x ∷ xs) = xs
 nothing : (x : Met Point) (xs : List (Met Point)) → [] ≡ x ∷ xs → ⊥
 nothing x xs e = subst IsNothing e tt
 
-module _ (P : Program) (g : Node) (has : HasTree P g) where
+module _ (P : Program) (g : Node) (has : FollowsRuns P g) where
   abbrev T : List Site
   T = sites_of P
 

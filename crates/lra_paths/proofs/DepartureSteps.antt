@@ -14,24 +14,24 @@ use Rattle.lra_program.specs.Sites.{Site}
 use Rattle.lra_program.specs.Step.{Op}
 use Rattle.lra_operations.specs.Graph.{Node}
 use Rattle.lra_flow.specs.MovesOf.{first_values}
-use Rattle.lra_paths.specs.Ways.{Goal, each_then, enter, inside, Way, Leg}
+use Rattle.lra_paths.specs.Ways.{Goal, each_then, enter, inside, Way, Segment}
 use Rattle.lra_paths.specs.Sides.{sides, written}
 use Rattle.lra_paths.specs.Paths.{live_of, same_goal, started, leading_in, greatest_paths, AreFewFrom, HasTooManyIn}
 use Rattle.lra_paths.specs.Stretches.{AreWays, entered, met, Stretch, stretch, End, leaves, meets}
-use Rattle.lra_paths.specs.Sources.{AreLed, all_departing, departing, ending, to_goal, to_goal_by, first_from, live_from, point_from, same_point}
+use Rattle.lra_paths.specs.Sources.{ArePlaced, all_departing, departing, ending, to_goal, to_goal_by, first_from, live_from, point_from, same_point}
 use Rattle.lra_paths.specs.Sources.{AreFewTo, AreManyTo, IsDeparture, IsSource, Adds}
 use Rattle.lra_paths.specs.StretchViews.{goal_view, seen, stretch_view}
 use Rattle.lra_paths.specs.Tables.{IsTable, Has, Grows, moves_at}
 use Rattle.lra_paths.specs.WayMoves.{way_moves}
 use Rattle.lra_paths.specs.declared.paths.Departure.{Departure}
-use Rattle.lra_paths.specs.declared.sources.Led.{Led}
+use Rattle.lra_paths.specs.declared.sources.SourceWay.{SourceWay}
 use Rattle.lra_paths.specs.declared.stretches.Goal as declared
 use Rattle.lra_paths.specs.declared.stretches.Stretch as declared_stretch
 use Rattle.lra_paths.specs.declared.sources.Source.{Source}
 use Rattle.lra_paths.specs.declared.tables.Entry.{Entry}
 use Rattle.lra_paths.proofs.FlatSteps.{flat_same, flat_filter, flat_flat, both_same}
 use Rattle.lra_paths.proofs.TableSteps.{has_at, within}
-use Rattle.lra_paths.proofs.WeaveSteps.{still_in, still_at, grows_on}
+use Rattle.lra_paths.proofs.GuardSteps.{still_in, still_at, grows_on}
 use Rattle.lra_paths.proofs.WayMoveSteps.{way_sides}
 
 -- one list ---------------------------------------------------------------------------------------------------------------
@@ -68,23 +68,23 @@ module _ (before : Moves) (live : ℕ) (goal : Goal) (writes : List Op → List 
       ∙ sym (flat_filter (λ way. same_goal way.goal goal) (λ way. writes way.ops) (flat_map entered ss))
 
   from_point_at : (q : ℕ) (p : Option ℕ) (ops : List Op) (e : End) → departing before live (Some q) goal (stretch p ops e) ≡ flat_map
-      (λ leg. cond (nat_eq leg.source q && same_goal leg.way.goal goal) (writes leg.way.ops) []) (met (stretch p ops e))
+      (λ segment. cond (nat_eq segment.source q && same_goal segment.way.goal goal) (writes segment.way.ops) []) (met (stretch p ops e))
   from_point_at q None ops e = refl
   from_point_at q (Some p) ops (leaves h) = both_same (nat_eq p q) []
   from_point_at q (Some p) ops (meets g) = picked_both (nat_eq p q) (same_goal g goal) (each_then (sides before) (sides (way_moves live ops)))
       (writes ops) (same ops)
 
   from_point_by : (q : ℕ) (s : Stretch) → departing before live (Some q) goal s ≡ flat_map
-      (λ leg. cond (nat_eq leg.source q && same_goal leg.way.goal goal) (writes leg.way.ops) []) (met s)
+      (λ segment. cond (nat_eq segment.source q && same_goal segment.way.goal goal) (writes segment.way.ops) []) (met s)
   from_point_by q s = from_point_at q s.source s.ops s.end
 
-  pub all_from_point : (q : ℕ) (ss : List Stretch) → all_departing before live (Some q) ss goal ≡ flat_map (λ leg. writes leg.way.ops)
-      (filter (λ leg. nat_eq leg.source q && same_goal leg.way.goal goal) (flat_map met ss))
+  pub all_from_point : (q : ℕ) (ss : List Stretch) → all_departing before live (Some q) ss goal ≡ flat_map (λ segment. writes segment.way.ops)
+      (filter (λ segment. nat_eq segment.source q && same_goal segment.way.goal goal) (flat_map met ss))
   all_from_point q ss =
       flat_same (departing before live (Some q) goal)
-      (λ s. flat_map (λ leg. cond (nat_eq leg.source q && same_goal leg.way.goal goal) (writes leg.way.ops) []) (met s)) (from_point_by q) ss
-      ∙ sym (flat_flat (λ leg. cond (nat_eq leg.source q && same_goal leg.way.goal goal) (writes leg.way.ops) []) met ss)
-      ∙ sym (flat_filter (λ leg. nat_eq leg.source q && same_goal leg.way.goal goal) (λ leg. writes leg.way.ops) (flat_map met ss))
+      (λ s. flat_map (λ segment. cond (nat_eq segment.source q && same_goal segment.way.goal goal) (writes segment.way.ops) []) (met s)) (from_point_by q) ss
+      ∙ sym (flat_flat (λ segment. cond (nat_eq segment.source q && same_goal segment.way.goal goal) (writes segment.way.ops) []) met ss)
+      ∙ sym (flat_filter (λ segment. nat_eq segment.source q && same_goal segment.way.goal goal) (λ segment. writes segment.way.ops) (flat_map met ss))
 
 -- all ways from a source are those that lead from it
 pub all_lead : (globals : List GlobalVariable) (sites : List Site) (p : ℕ) (ss : List Stretch) (g : Node) → AreWays ss g → (goal : Goal)
@@ -97,24 +97,25 @@ all_lead globals sites (suc q) ss g are goal =
     let live = live_of (slice_get sites q) in
     all_from_point stay live goal (written live)
     (λ ops. after_nothing (sides (way_moves live ops)) ∙ way_sides live ops) q ss
-    ∙ ap (λ legs. flat_map (λ (leg : Leg). written live leg.way.ops) (filter (λ leg. nat_eq leg.source q && same_goal leg.way.goal goal) legs)) are.meets
+    ∙ ap (λ segments. flat_map (λ (segment : Segment). written live segment.way.ops) (filter (λ segment. nat_eq segment.source q && same_goal segment.way.goal
+    goal) segments)) are.meets
 
 -- tables -----------------------------------------------------------------------------------------------------------------
 
 module _ (es fs : List Entry) (grows : Grows es fs) where
-  pub still_led : (ws : List Led) → AreLed es ws → AreLed fs ws
-  still_led [] are = tt
-  still_led (w ∷ ws) (here, are) = (still_in es fs grows w.place here, still_led ws are)
+  pub still_placed : (ws : List SourceWay) → ArePlaced es ws → ArePlaced fs ws
+  still_placed [] are = tt
+  still_placed (w ∷ ws) (here, are) = (still_in es fs grows w.place here, still_placed ws are)
 
-  pub still_to : (goal : Goal) (ws : List Led) → AreLed es ws → to_goal fs ws goal ≡ to_goal es ws goal
+  pub still_to : (goal : Goal) (ws : List SourceWay) → ArePlaced es ws → to_goal fs ws goal ≡ to_goal es ws goal
   still_to goal [] are = refl
   still_to goal (w ∷ ws) (here, are) =
       ap (λ p. cond (same_goal (goal_view w.goal) goal) (sides p) [] ++ to_goal fs ws goal) (still_at es fs grows w.place here)
       ∙ ap (λ u. to_goal_by es goal w ++ u) (still_to goal ws are)
 
-led_last : (es : List Entry) (ws : List Led) (w : Led) → AreLed es ws → w.place < length es → AreLed es (ws ++ w ∷ [])
-led_last es [] w are here = (here, tt)
-led_last es (x ∷ ws) w (first, are) here = (first, led_last es ws w are here)
+placed_last : (es : List Entry) (ws : List SourceWay) (w : SourceWay) → ArePlaced es ws → w.place < length es → ArePlaced es (ws ++ w ∷ [])
+placed_last es [] w are here = (here, tt)
+placed_last es (x ∷ ws) w (first, are) here = (first, placed_last es ws w are here)
 
 -- nothing comes
 pub adds_none : (s : Source) (paths : Goal → List (List Action)) → IsSource s → ((goal : Goal) → paths goal ≡ []) → Adds s s paths
@@ -133,7 +134,7 @@ adds_one s t fs goal before way place live ops is less one has table two put mor
     let es = s.entries.items in
     let gs = t.entries.items in
     let grows = grows_on es fs gs one two in
-    let led : Led = record { goal = goal; place = place } in
+    let newest : SourceWay = record { goal = goal; place = place } in
     let moves : moves_at gs place ≡ first_then (moves_at es before) (way_moves live ops) =
     has_at gs place (first_then (moves_at fs before) (moves_at fs way)) put
     ∙ ap (λ p. first_then p (moves_at fs way)) (still_at es fs one before less)
@@ -141,13 +142,13 @@ adds_one s t fs goal before way place live ops is less one has table two put mor
     record {
       is = record {
         table = table;
-        led = subst (AreLed gs) (sym more) (led_last gs s.ways.items led (still_led es gs grows s.ways.items is.led)
+        placed = subst (ArePlaced gs) (sym more) (placed_last gs s.ways.items newest (still_placed es gs grows s.ways.items is.placed)
             (within gs place (first_then (moves_at fs before) (moves_at fs way)) put));
       };
       grows = grows;
-      more = λ g. ap (λ ws. to_goal gs ws g) more ∙ flat_map-append (to_goal_by gs g) s.ways.items (led ∷ [])
-          ∙ ap (λ u. u ++ (to_goal_by gs g led ++ [])) (still_to es gs grows g s.ways.items is.led)
-          ∙ ap (λ u. to_goal es s.ways.items g ++ u) (append-nil (to_goal_by gs g led))
+      more = λ g. ap (λ ws. to_goal gs ws g) more ∙ flat_map-append (to_goal_by gs g) s.ways.items (newest ∷ [])
+          ∙ ap (λ u. u ++ (to_goal_by gs g newest ++ [])) (still_to es gs grows g s.ways.items is.placed)
+          ∙ ap (λ u. to_goal es s.ways.items g ++ u) (append-nil (to_goal_by gs g newest))
           ∙ ap (λ p. to_goal es s.ways.items g ++ cond (same_goal (goal_view goal) g) (sides p) []) moves;
     }
 

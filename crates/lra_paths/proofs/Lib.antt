@@ -8,18 +8,20 @@ pub mod SideSteps
 pub mod OpLengths
 pub mod WrittenSteps
 -- Pieces of runs go along paths.
+pub mod FollowedRuns
 pub mod CoverSteps
 pub mod LawsOfPaths
 pub mod ManyPaths
+pub mod OwnDenials
 -- Ways of trees in one list, from the leaves up.
 pub mod FlatSteps
 pub mod StretchSteps
 pub mod StretchLists
-pub mod DueSteps
+pub mod TaskSteps
 -- Sides, from tables of moves.
 pub mod TableSteps
 pub mod SideLists
-pub mod WeaveSteps
+pub mod GuardSteps
 pub mod ChainSteps
 pub mod WayMoveSteps
 pub mod DepartureSteps

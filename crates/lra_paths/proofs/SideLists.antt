@@ -15,9 +15,9 @@ use Rattle.lra_domain.specs.Moves.{Moves, stay, make, first_then, join_of}
 use Rattle.lra_paths.specs.Ways.{each_then}
 use Rattle.lra_paths.specs.Sides.{sides}
 use Rattle.lra_paths.specs.Tables.{capped, count_of, moves_at, side_at}
-use Rattle.lra_paths.specs.TableSides.{side_due, all_due, one_of, moves_size, due_size, all_left}
+use Rattle.lra_paths.specs.TableSides.{side_pending, all_pending, one_of, moves_size, pending_size, all_left}
 use Rattle.lra_paths.specs.declared.tables.Entry.{Entry}
-use Rattle.lra_paths.specs.declared.tables.Due.{Due}
+use Rattle.lra_paths.specs.declared.tables.PendingSide.{PendingSide}
 use Rattle.lra_paths.proofs.TableSteps.{get_left, capped_few, capped_some, length_each}
 
 -- moves have sides -------------------------------------------------------------------------------------------------------
@@ -43,75 +43,78 @@ size_some (join_of a b) = omega arith
 -- steps ------------------------------------------------------------------------------------------------------------------
 
 module _ (es : List Entry) where
-  pub due_append : (xs ys : List Due) → all_due es (xs ++ ys) ≡ all_due es ys ++ all_due es xs
-  due_append [] ys = sym (append-nil (all_due es ys))
-  due_append (x ∷ xs) ys = ap (λ w. w ++ side_due es x) (due_append xs ys) ∙ append_assoc (all_due es ys) (all_due es xs) (side_due es x)
+  pub pending_append : (xs ys : List PendingSide) → all_pending es (xs ++ ys) ≡ all_pending es ys ++ all_pending es xs
+  pending_append [] ys = sym (append-nil (all_pending es ys))
+  pending_append (x ∷ xs) ys = ap (λ w. w ++ side_pending es x) (pending_append xs ys) ∙ append_assoc (all_pending es ys) (all_pending es xs) (side_pending es
+      x)
 
-  pub left_append : (xs ys : List Due) → all_left es (xs ++ ys) ≡ all_left es xs + all_left es ys
-  left_append xs ys = sum_by-append (due_size es) xs ys
+  pub left_append : (xs ys : List PendingSide) → all_left es (xs ++ ys) ≡ all_left es xs + all_left es ys
+  left_append xs ys = sum_by-append (pending_size es) xs ys
 
-  module _ (d : Due) (done : List Action) (left : List Due) where
-    pub stays : moves_at es d.place ≡ stay → done ++ all_due es left ≡ done ++ (side_due es d ++ all_due es left)
-    stays is = ap (λ p. done ++ (side_at p d.number ++ all_due es left)) (sym is)
+  module _ (d : PendingSide) (done : List Action) (left : List PendingSide) where
+    pub stays : moves_at es d.place ≡ stay → done ++ all_pending es left ≡ done ++ (side_pending es d ++ all_pending es left)
+    stays is = ap (λ p. done ++ (side_at p d.number ++ all_pending es left)) (sym is)
 
-    pub falls_by : all_left es left < all_left es left + due_size es d
+    pub falls_by : all_left es left < all_left es left + pending_size es d
     falls_by = let some = size_some (moves_at es d.place) in omega (arith, some)
 
     pub makes : {T E : Type 0} (r : outcome.Result T E) (a : Action) (new : List Action) → moves_at es d.place ≡ make a → OnOk r (new ≡ done ++ a ∷ [])
-        → OnOk r (new ++ all_due es left ≡ done ++ (side_due es d ++ all_due es left))
+        → OnOk r (new ++ all_pending es left ≡ done ++ (side_pending es d ++ all_pending es left))
     makes (outcome.Ok v) a new is e =
-        ap (λ w. w ++ all_due es left) e ∙ append_assoc done (a ∷ []) (all_due es left)
-        ∙ ap (λ p. done ++ (side_at p d.number ++ all_due es left)) (sym is)
+        ap (λ w. w ++ all_pending es left) e ∙ append_assoc done (a ∷ []) (all_pending es left)
+        ∙ ap (λ p. done ++ (side_at p d.number ++ all_pending es left)) (sym is)
     makes (outcome.Err x) a new is e = tt
 
-    pub falls_on : {T E : Type 0} (r : outcome.Result T E) → OnOk r (all_left es left < all_left es left + due_size es d)
+    pub falls_on : {T E : Type 0} (r : outcome.Result T E) → OnOk r (all_left es left < all_left es left + pending_size es d)
     falls_on (outcome.Ok v) = falls_by
     falls_on (outcome.Err x) = tt
 
     module _ (a b : ℕ) where
-      pub splits : {T E : Type 0} (r : outcome.Result T E) (n : ℕ) (new : List Due) → moves_at es d.place ≡ first_then (moves_at es a) (moves_at es b)
+      pub splits : {T E : Type 0} (r : outcome.Result T E) (n : ℕ) (new : List PendingSide) → moves_at es d.place ≡ first_then (moves_at es a) (moves_at es b)
           → n ≡ capped (count_of (moves_at es a))
           → OnOk r (new ≡ left ++ record { place = b; number = d.number / n } ∷ record { place = a; number = d.number % n } ∷ [])
-          → OnOk r (done ++ all_due es new ≡ done ++ (side_due es d ++ all_due es left))
+          → OnOk r (done ++ all_pending es new ≡ done ++ (side_pending es d ++ all_pending es left))
       splits (outcome.Ok v) n new is count e =
-          ap (λ ds. done ++ all_due es ds) e
-          ∙ ap (λ w. done ++ w) (due_append left (record { place = b; number = d.number / n } ∷ record { place = a; number = d.number % n } ∷ []))
-          ∙ ap (λ m. done ++ ((side_at (moves_at es a) (d.number % m) ++ side_at (moves_at es b) (d.number / m)) ++ all_due es left)) count
-          ∙ ap (λ p. done ++ (side_at p d.number ++ all_due es left)) (sym is)
+          ap (λ ds. done ++ all_pending es ds) e
+          ∙ ap (λ w. done ++ w) (pending_append left (record { place = b; number = d.number / n } ∷ record { place = a; number = d.number % n } ∷ []))
+          ∙ ap (λ m. done ++ ((side_at (moves_at es a) (d.number % m) ++ side_at (moves_at es b) (d.number / m)) ++ all_pending es left)) count
+          ∙ ap (λ p. done ++ (side_at p d.number ++ all_pending es left)) (sym is)
       splits (outcome.Err x) n new is count e = tt
 
-      pub splits_fall : {T E : Type 0} (r : outcome.Result T E) (m n : ℕ) (new : List Due) → moves_at es d.place ≡ first_then (moves_at es a) (moves_at es b)
+      pub splits_fall : {T E : Type 0} (r : outcome.Result T E) (m n : ℕ) (new : List PendingSide) → moves_at es d.place ≡
+          first_then (moves_at es a) (moves_at es b)
           → OnOk r (new ≡ left ++ record { place = b; number = m } ∷ record { place = a; number = n } ∷ [])
-          → OnOk r (all_left es new < all_left es left + due_size es d)
+          → OnOk r (all_left es new < all_left es left + pending_size es d)
       splits_fall (outcome.Ok v) m n new is e =
           let whole = ap moves_size is in
           let all = ap (all_left es) e ∙ left_append left (record { place = b; number = m } ∷ record { place = a; number = n } ∷ []) in
           omega (arith, whole, all)
       splits_fall (outcome.Err x) m n new is e = tt
 
-      one_side : (t : Bool) (m n k : ℕ) → side_due es (if t then (record { place = a; number = m }) else (record { place = b; number = k }))
+      one_side : (t : Bool) (m n k : ℕ) → side_pending es (if t then (record { place = a; number = m }) else (record { place = b; number = k }))
           ≡ if t then side_at (moves_at es a) m else side_at (moves_at es b) k
       one_side true m n k = refl
       one_side false m n k = refl
 
-      one_size : (t : Bool) (m k : ℕ) → due_size es (if t then (record { place = a; number = m }) else (record { place = b; number = k }))
+      one_size : (t : Bool) (m k : ℕ) → pending_size es (if t then (record { place = a; number = m }) else (record { place = b; number = k }))
           ≤ moves_size (moves_at es a) + moves_size (moves_at es b)
       one_size true m k = omega arith
       one_size false m k = omega arith
 
-      pub chooses : {T E : Type 0} (r : outcome.Result T E) (n : ℕ) (new : List Due) → moves_at es d.place ≡ join_of (moves_at es a) (moves_at es b)
+      pub chooses : {T E : Type 0} (r : outcome.Result T E) (n : ℕ) (new : List PendingSide) → moves_at es d.place ≡ join_of (moves_at es a) (moves_at es b)
           → n ≡ capped (count_of (moves_at es a)) → OnOk r (new ≡ left ++ one_of n a b d.number ∷ [])
-          → OnOk r (done ++ all_due es new ≡ done ++ (side_due es d ++ all_due es left))
+          → OnOk r (done ++ all_pending es new ≡ done ++ (side_pending es d ++ all_pending es left))
       chooses (outcome.Ok v) n new is count e =
-          ap (λ ds. done ++ all_due es ds) e ∙ ap (λ w. done ++ w) (due_append left (one_of n a b d.number ∷ []))
-          ∙ ap (λ w. done ++ (w ++ all_due es left)) (one_side (nat_lt d.number n) d.number n (d.number - n))
+          ap (λ ds. done ++ all_pending es ds) e ∙ ap (λ w. done ++ w) (pending_append left (one_of n a b d.number ∷ []))
+          ∙ ap (λ w. done ++ (w ++ all_pending es left)) (one_side (nat_lt d.number n) d.number n (d.number - n))
           ∙ ap (λ m. done ++ ((if nat_lt d.number m then side_at (moves_at es a) d.number
-          else side_at (moves_at es b) (d.number - m)) ++ all_due es left)) count
-          ∙ ap (λ p. done ++ (side_at p d.number ++ all_due es left)) (sym is)
+          else side_at (moves_at es b) (d.number - m)) ++ all_pending es left)) count
+          ∙ ap (λ p. done ++ (side_at p d.number ++ all_pending es left)) (sym is)
       chooses (outcome.Err x) n new is count e = tt
 
-      pub chooses_fall : {T E : Type 0} (r : outcome.Result T E) (n : ℕ) (new : List Due) → moves_at es d.place ≡ join_of (moves_at es a) (moves_at es b)
-          → OnOk r (new ≡ left ++ one_of n a b d.number ∷ []) → OnOk r (all_left es new < all_left es left + due_size es d)
+      pub chooses_fall : {T E : Type 0} (r : outcome.Result T E) (n : ℕ) (new : List PendingSide) → moves_at es d.place ≡
+          join_of (moves_at es a) (moves_at es b)
+          → OnOk r (new ≡ left ++ one_of n a b d.number ∷ []) → OnOk r (all_left es new < all_left es left + pending_size es d)
       chooses_fall (outcome.Ok v) n new is e =
           let whole = ap moves_size is in
           let all = ap (all_left es) e ∙ left_append left (one_of n a b d.number ∷ []) in
@@ -120,23 +123,26 @@ module _ (es : List Entry) where
       chooses_fall (outcome.Err x) n new is e = tt
 
   -- the loop
-  pub due_first : (done : List Action) (left : List Due) (d : Due) → done ≡ [] → left ≡ d ∷ [] → done ++ all_due es left ≡ side_due es d
-  due_first done left d nothing one = ap (λ w. w ++ all_due es left) nothing ∙ ap (all_due es) one
+  pub pending_first : (done : List Action) (left : List PendingSide) (d : PendingSide) → done ≡ [] → left ≡ d ∷ [] → done ++ all_pending es left ≡
+      side_pending es d
+  pending_first done left d nothing one = ap (λ w. w ++ all_pending es left) nothing ∙ ap (all_pending es) one
 
-  pub due_next : (all now : List Due) (d : Due) (left : List Due) (done new w : List Action) → all ≡ left ++ d ∷ [] → done ++ all_due es all ≡ w
-      → new ++ all_due es now ≡ done ++ (side_due es d ++ all_due es left) → new ++ all_due es now ≡ w
-  due_next all now d left done new w is e h =
-      h ∙ ap (λ x. done ++ x) (sym (due_append left (d ∷ []))) ∙ ap (λ ds. done ++ all_due es ds) (sym is) ∙ e
+  pub pending_next : (all now : List PendingSide) (d : PendingSide) (left : List PendingSide) (done new w : List Action) → all ≡ left ++ d ∷ [] → done ++
+      all_pending es all ≡ w
+      → new ++ all_pending es now ≡ done ++ (side_pending es d ++ all_pending es left) → new ++ all_pending es now ≡ w
+  pending_next all now d left done new w is e h =
+      h ∙ ap (λ x. done ++ x) (sym (pending_append left (d ∷ []))) ∙ ap (λ ds. done ++ all_pending es ds) (sym is) ∙ e
 
-  pub due_less : (all now : List Due) (d : Due) (left : List Due) → all ≡ left ++ d ∷ [] → all_left es now < all_left es left + due_size es d
+  pub pending_less : (all now : List PendingSide) (d : PendingSide) (left : List PendingSide) → all ≡ left ++ d ∷ [] →
+      all_left es now < all_left es left + pending_size es d
       → all_left es now < all_left es all
-  due_less all now d left is less =
+  pending_less all now d left is less =
       let whole = ap (all_left es) is ∙ left_append left (d ∷ []) in
       omega (arith, whole, less)
 
-  pub due_last : (left : List Due) (done w : List Action) → length left ≡ 0 → done ++ all_due es left ≡ w → done ≡ w
-  due_last [] done w none e = sym (append-nil done) ∙ e
-  due_last (d ∷ ds) done w none e = absurd (omega (arith, none))
+  pub pending_last : (left : List PendingSide) (done w : List Action) → length left ≡ 0 → done ++ all_pending es left ≡ w → done ≡ w
+  pending_last [] done w none e = sym (append-nil done) ∙ e
+  pending_last (d ∷ ds) done w none e = absurd (omega (arith, none))
 
 -- sides by their numbers -------------------------------------------------------------------------------------------------
 

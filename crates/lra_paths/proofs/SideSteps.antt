@@ -1,20 +1,116 @@
--- Sides are conditions over lists of paths, and moves lead where one of their sides leads.
-use Rattle.std.proofs.Common.{◌≡◌, ℤ, List, [], ◌∷◌, ◌++◌, map, inl, inr, refl, sym, ap, ◌∙◌, subst, append-nil}
+-- Sides are what an iteration over lists of paths makes, and the cases of moves; moves lead where one of their sides leads.
+use Rattle.std.proofs.Common.{◌≡◌, ℤ, List, [], ◌∷◌, ◌++◌, map, inl, inr, refl, sym, ap, ◌∙◌, subst, append-nil, append_assoc}
 use Rattle.std.specs.Prelude.{◌↔◌, ◌⊎◌}
 use Rattle.lra_domain.specs.Actions.{Action}
-use Rattle.lra_domain.specs.Moves.{Moves, stay, make, first_then, join_of, MayLead, LeadsAll, SomeLeads}
+use Rattle.std.specs.List.{flat_map}
+use Rattle.std.specs.List.Sorted.{IsPermutation}
+use Rattle.std.proofs.lemmas.List.Sorted.{IsPermutation-refl, IsPermutation-append, IsPermutation-append_left, IsPermutation-append_right}
+use Rattle.std.proofs.lemmas.List.Sorted.{IsPermutation-append_comm, IsPermutation-cons, IsPermutation-trans, IsPermutation-map}
+use Rattle.lra_domain.specs.Meaning.{worse}
+use Rattle.lra_domain.specs.declared.Exactness.{Exactness}
+use Rattle.lra_domain.specs.declared.Exactness.TheVariants.{Exact}
+use Rattle.lra_domain.specs.Moves.{Moves, stay, make, first_then, join_of, MayLead, LeadsAll, SomeLeads, cases}
+use Rattle.lra_flow.specs.Moves.{AreMade}
 use Rattle.lra_paths.specs.Ways.{each_then}
-use Rattle.lra_paths.specs.Sides.{sides, extended}
+use Rattle.lra_paths.specs.Sides.{sides, on_paths, SidesAreMade}
 use Rattle.lra_paths.proofs.Lists.{each_then_nil, each_then_append, each_then_assoc}
+use Rattle.lra_paths.proofs.FlatSteps.{flat_none}
 
-pub sides_extend : (p : Moves) (paths : List (List Action)) → extended p paths ≡ each_then paths (sides p)
-sides_extend stay paths = sym (each_then_nil paths)
-sides_extend (make step) paths = sym (append-nil (map (λ path. path ++ step ∷ []) paths))
-sides_extend (first_then a b) paths =
-    sides_extend b (extended a paths) ∙ ap (λ w. each_then w (sides b)) (sides_extend a paths) ∙ sym (each_then_assoc paths (sides a) (sides b))
-sides_extend (join_of a b) paths =
-    ap (λ w. w ++ extended b paths) (sides_extend a paths) ∙ ap (λ w. each_then paths (sides a) ++ w) (sides_extend b paths) ∙ sym
-    (each_then_append paths (sides a) (sides b))
+-- an iteration over lists of paths makes the sides ---------------------------------------------------------------------------
+
+module _ (p : Moves) (paths : List (List Action)) where
+  abbrev Behind : Exactness → List (List Action) → Type 0
+  Behind e more = (more ≡ each_then paths (sides p)) × (e ≡ Exact)
+
+both_exact : (e c d : Exactness) → e ≡ worse c d → c ≡ Exact → d ≡ Exact → e ≡ Exact
+both_exact e c d worst one two = worst ∙ ap (λ x. worse x d) one ∙ two
+
+pub made_behind : (p : Moves) (paths : List (List Action)) (e : Exactness) (more : List (List Action)) → AreMade on_paths p paths e more → Behind p paths e more
+made_behind stay paths e more (same, exact) = (same ∙ sym (each_then_nil paths), exact)
+made_behind (make step) paths e more (exact, is) = (is ∙ sym (append-nil (map (λ path. path ++ step ∷ []) paths)), exact)
+made_behind (first_then a b) paths e more (x, c, d, one, two, worst) =
+    let (first, left) = made_behind a paths c x one in
+    let (last, right) = made_behind b x d more two in
+    (last ∙ ap (λ w. each_then w (sides b)) first ∙ sym (each_then_assoc paths (sides a) (sides b)), both_exact e c d worst left right)
+made_behind (join_of a b) paths e more (x, y, c, d, i, one, two, (exact, both), worst) =
+    let (first, left) = made_behind a paths c x one in
+    let (last, right) = made_behind b paths d y two in (
+      both ∙ ap (λ w. w ++ y) first ∙ ap (λ w. each_then paths (sides a) ++ w) last ∙ sym (each_then_append paths (sides a) (sides b)),
+      both_exact e (worse c d) i worst (both_exact (worse c d) c d refl left right) exact,
+    )
+
+pub behind_made : (p : Moves) (paths : List (List Action)) → AreMade on_paths p paths Exact (each_then paths (sides p))
+behind_made stay paths = (each_then_nil paths, refl)
+behind_made (make step) paths = (refl, append-nil (map (λ path. path ++ step ∷ []) paths))
+behind_made (first_then a b) paths =
+    let last = subst (λ w. AreMade on_paths b (each_then paths (sides a)) Exact w) (sym (each_then_assoc paths (sides a) (sides b)))
+    (behind_made b (each_then paths (sides a))) in
+    (each_then paths (sides a), Exact, Exact, behind_made a paths, last, refl)
+behind_made (join_of a b) paths = (
+  each_then paths (sides a),
+  each_then paths (sides b),
+  Exact,
+  Exact,
+  Exact,
+  behind_made a paths,
+  behind_made b paths,
+  (refl, each_then_append paths (sides a) (sides b)),
+  refl,
+)
+
+pub sides_made : SidesAreMade
+sides_made p paths e more = (
+  made_behind p paths e more,
+  λ is. subst (λ w. AreMade on_paths p paths e w) (sym is.0) (subst (λ x. AreMade on_paths p paths x (each_then paths (sides p))) (sym is.1)
+      (behind_made p paths)),
+)
+
+-- the sides are the cases in another order --------------------------------------------------------------------------------
+
+module _ {A B : Type 0} where
+  flat_permuted : (f g : A → List B) → ((x : A) → IsPermutation (f x) (g x)) → (xs : List A) → IsPermutation (flat_map f xs) (flat_map g xs)
+  flat_permuted f g h [] = IsPermutation-refl []
+  flat_permuted f g h (x ∷ xs) = IsPermutation-append (f x) (g x) (flat_map f xs) (flat_map g xs) (h x) (flat_permuted f g h xs)
+
+  -- one of each before all
+  one_before : (f : A → B) (g : A → List B) (xs : List A) → IsPermutation (map f xs ++ flat_map g xs) (flat_map (λ x. f x ∷ g x) xs)
+  one_before f g [] = IsPermutation-refl []
+  one_before f g (x ∷ xs) =
+      let swapped = subst2 (append_assoc (map f xs) (g x) (flat_map g xs)) (append_assoc (g x) (map f xs) (flat_map g xs))
+      (IsPermutation-append_left (flat_map g xs) (map f xs ++ g x) (g x ++ map f xs) (IsPermutation-append_comm (map f xs) (g x))) in
+      let rest = IsPermutation-append_right (g x) (map f xs ++ flat_map g xs) (flat_map (λ y. f y ∷ g y) xs) (one_before f g xs) in
+      IsPermutation-cons (f x) (map f xs ++ (g x ++ flat_map g xs)) (g x ++ flat_map (λ y. f y ∷ g y) xs)
+      (IsPermutation-trans (map f xs ++ (g x ++ flat_map g xs)) (g x ++ (map f xs ++ flat_map g xs)) (g x ++ flat_map (λ y. f y ∷ g y) xs) swapped rest)
+    where
+      subst2 : {us vs ws zs : List B} → us ≡ vs → ws ≡ zs → IsPermutation us ws → IsPermutation vs zs
+      subst2 {us} {vs} {ws} {zs} e d h = subst (λ l. IsPermutation vs l) d (subst (λ l. IsPermutation l ws) e h)
+
+-- pairs, whichever of the two is the outer one
+module _ {A B C : Type 0} (f : A → B → C) where
+  none_paired : (ys : List B) → flat_map (λ y. map (λ x. f x y) []) ys ≡ []
+  none_paired ys = flat_none (λ y. map (λ x. f x y) []) (λ y. refl) ys
+
+  pairs_turned : (xs : List A) (ys : List B) → IsPermutation (flat_map (λ x. map (f x) ys) xs) (flat_map (λ y. map (λ x. f x y) xs) ys)
+  pairs_turned [] ys = subst (λ l. IsPermutation [] l) (sym (none_paired ys)) (IsPermutation-refl [])
+  pairs_turned (x ∷ xs) ys = IsPermutation-trans (map (f x) ys ++ flat_map (λ z. map (f z) ys) xs) (map (f x) ys ++ flat_map (λ y. map (λ z. f z y) xs) ys)
+      (flat_map (λ y. f x y ∷ map (λ z. f z y) xs) ys)
+      (IsPermutation-append_right (map (f x) ys) (flat_map (λ z. map (f z) ys) xs) (flat_map (λ y. map (λ z. f z y) xs) ys) (pairs_turned xs ys))
+      (one_before (f x) (λ y. map (λ z. f z y) xs) ys)
+
+pub sides_are_cases : (p : Moves) → IsPermutation (cases p) (sides p)
+sides_are_cases stay = IsPermutation-refl ([] ∷ [])
+sides_are_cases (make step) = IsPermutation-refl ((step ∷ []) ∷ [])
+sides_are_cases (first_then a b) =
+    let later = flat_permuted (λ (x : List Action). map (λ y. x ++ y) (cases b)) (λ x. map (λ y. x ++ y) (sides b))
+    (λ x. IsPermutation-map (λ y. x ++ y) (cases b) (sides b) (sides_are_cases b)) (cases a) in
+    let turned = pairs_turned (λ (x : List Action) (y : List Action). x ++ y) (cases a) (sides b) in
+    let sooner = flat_permuted (λ (y : List Action). map (λ x. x ++ y) (cases a)) (λ y. map (λ x. x ++ y) (sides a))
+    (λ y. IsPermutation-map (λ x. x ++ y) (cases a) (sides a) (sides_are_cases a)) (sides b) in
+    IsPermutation-trans (cases (first_then a b)) (each_then (cases a) (sides b)) (each_then (sides a) (sides b))
+    (IsPermutation-trans (cases (first_then a b)) (flat_map (λ x. map (λ y. x ++ y) (sides b)) (cases a)) (each_then (cases a) (sides b)) later turned) sooner
+sides_are_cases (join_of a b) = IsPermutation-append (cases a) (sides a) (cases b) (sides b) (sides_are_cases a) (sides_are_cases b)
+
+-- moves lead where one of their sides leads ---------------------------------------------------------------------------------
 
 -- one list and then the other lead through a store between them
 leads_through : (one two : List Action) (s t : List ℤ) → LeadsAll (one ++ two) s t ↔ ((u : List ℤ) × LeadsAll one s u × LeadsAll two u t)

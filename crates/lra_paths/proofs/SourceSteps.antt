@@ -13,11 +13,11 @@ use Rattle.lra_paths.specs.Paths.{greatest_paths, same_goal}
 use Rattle.lra_paths.specs.Sources.{AreFewFor, AreFewTo, to_goal, to_goal_by}
 use Rattle.lra_paths.specs.StretchViews.{goal_view}
 use Rattle.lra_paths.specs.Tables.{capped, moves_at}
-use Rattle.lra_paths.specs.declared.sources.Led.{Led}
+use Rattle.lra_paths.specs.declared.sources.SourceWay.{SourceWay}
 use Rattle.lra_paths.specs.declared.tables.Entry.{Entry}
 use Rattle.lra_paths.proofs.TableSteps.{capped_few, capped_many, capped_plus}
 
-module _ (es : List Entry) (goal : Goal) (ways : List Led) (i : ℕ) (d : Led) (inside : i < length ways) where
+module _ (es : List Entry) (goal : Goal) (ways : List SourceWay) (i : ℕ) (d : SourceWay) (inside : i < length ways) where
   pub few_at : (n : ℕ) → length (to_goal es ways goal) ≤ n → length (to_goal_by es goal (get_or ways i d)) ≤ n
   few_at n few = let least = length-flat_map-take (to_goal_by es goal) ways i d inside in omega (arith, few, least)
 
@@ -59,15 +59,15 @@ alike (comes_to p) (denies q) same = absurd (let no : false ≡ true = same in c
 alike (denies p) (comes_to q) same = absurd (let no : false ≡ true = same in cc)
 alike (denies p) (denies q) same = ap denies (eqb-true p q same)
 
-module _ (es : List Entry) (all : List Led) where
-  few_or : (w : Led) (ws : List Led) (goal : Goal) (b : Bool) → same_goal (goal_view w.goal) goal ≡ b
+module _ (es : List Entry) (all : List SourceWay) where
+  few_or : (w : SourceWay) (ws : List SourceWay) (goal : Goal) (b : Bool) → same_goal (goal_view w.goal) goal ≡ b
       → length (to_goal es all (goal_view w.goal)) ≤ greatest_paths → (to_goal es ws goal ≡ []) ⊎ (length (to_goal es all goal) ≤ greatest_paths)
       → (to_goal es (w ∷ ws) goal ≡ []) ⊎ (length (to_goal es all goal) ≤ greatest_paths)
   few_or w ws goal true is here rest = inr (subst (λ g. length (to_goal es all g) ≤ greatest_paths) (alike (goal_view w.goal) goal is) here)
   few_or w ws goal false is here (inl none) = inl (ap (λ b. cond b (sides (moves_at es w.place)) [] ++ to_goal es ws goal) is ∙ none)
   few_or w ws goal false is here (inr few) = inr few
 
-  none_or : (ws : List Led) (goal : Goal) → AreFewFor es all ws → (to_goal es ws goal ≡ []) ⊎ (length (to_goal es all goal) ≤ greatest_paths)
+  none_or : (ws : List SourceWay) (goal : Goal) → AreFewFor es all ws → (to_goal es ws goal ≡ []) ⊎ (length (to_goal es all goal) ≤ greatest_paths)
   none_or [] goal are = inl refl
   none_or (w ∷ ws) goal (here, are) = few_or w ws goal (same_goal (goal_view w.goal) goal) refl here (none_or ws goal are)
 
@@ -77,15 +77,16 @@ module _ (es : List Entry) (all : List Led) where
     | inr few ↦ few
   ]
 
-  few_last : (ws : List Led) (w : Led) → AreFewFor es all ws → length (to_goal es all (goal_view w.goal)) ≤ greatest_paths → AreFewFor es all (ws ++ w ∷ [])
+  few_last : (ws : List SourceWay) (w : SourceWay) → AreFewFor es all ws → length (to_goal es all (goal_view w.goal)) ≤ greatest_paths →
+      AreFewFor es all (ws ++ w ∷ [])
   few_last [] w are few = (few, tt)
   few_last (x ∷ ws) w (here, are) few = (here, few_last ws w are few)
 
-  pub few_next : (ws : List Led) (i : ℕ) (d : Led) → i < length ws → AreFewFor es all (take i ws)
+  pub few_next : (ws : List SourceWay) (i : ℕ) (d : SourceWay) → i < length ws → AreFewFor es all (take i ws)
       → length (to_goal es all (goal_view (get_or ws i d).goal)) ≤ greatest_paths → AreFewFor es all (take (i + 1) ws)
   few_next ws i d inside are few =
       let next : suc i ≡ i + 1 = omega arith in
       subst (AreFewFor es all) (sym (take-suc ws i d inside) ∙ ap (λ n. take n ws) next) (few_last (take i ws) (get_or ws i d) are few)
 
-  pub few_at_end : (ws : List Led) (i : ℕ) → length ws ≤ i → ws ≡ all → AreFewFor es all (take i ws) → AreFewTo es all
+  pub few_at_end : (ws : List SourceWay) (i : ℕ) → length ws ≤ i → ws ≡ all → AreFewFor es all (take i ws) → AreFewTo es all
   few_at_end ws i past is are = few_to_all (subst (AreFewFor es all) (take_all i ws past ∙ is) are)

@@ -4,12 +4,12 @@ use Rattle.std.proofs.Common.{append-nil}
 use Rattle.lra_program.specs.Program.{Cond}
 use Rattle.lra_program.specs.Step.{Op, test}
 use Rattle.lra_operations.specs.Graph.{Exit, broken, continued, returned, How, normal, jump, Node, empty, point, act, check, seq, choose, iterate, catch, leave}
-use Rattle.lra_paths.specs.Ways.{Goal, comes_to, Way, Leg, Exodus, same_exit, each_then, then_way, then_ways, then_out, then_outs, leg_by, legs_by}
-use Rattle.lra_paths.specs.Ways.{tested, tested_way, into_body, out_of_body, leg_to, through, enter, outs, inside}
+use Rattle.lra_paths.specs.Ways.{Goal, comes_to, Way, Segment, Suffix, same_exit, each_then, then_way, then_ways, then_out, then_outs, segment_by, segments_by}
+use Rattle.lra_paths.specs.Ways.{tested, tested_way, into_body, out_of_body, segment_to, through, enter, outs, inside}
 use Rattle.lra_paths.specs.Stretches.{End, leaves, meets, Stretch, stretch, starts, same_how, leaves_so, starting, leaving, those, others, joined}
-use Rattle.lra_paths.specs.Stretches.{all_joined, in_turn}
-use Rattle.lra_paths.specs.Stretches.{led_by, led, chosen, source_or, back_to, turned, body_order, looped, ended, caught, stretches}
-use Rattle.lra_paths.specs.Stretches.{ways_at, exoduses, legs_at, passed, entered, gone, met, AreWays}
+use Rattle.lra_paths.specs.Stretches.{all_joined, sequenced}
+use Rattle.lra_paths.specs.Stretches.{prefixed_by, prefixed, chosen, source_or, back_to, turned, body_order, looped, ended, caught, stretches}
+use Rattle.lra_paths.specs.Stretches.{ways_at, suffixes_at, segments_at, passed, entered, gone, met, AreWays}
 use Rattle.lra_paths.proofs.FlatSteps.{flat_same, flat_none, flat_picked, flat_both, flat_unless, flat_two, flat_mapped, mapped_flat, flat_flat}
 use Rattle.lra_paths.proofs.FlatSteps.{all_mapped, both_same}
 
@@ -19,9 +19,9 @@ ends s = leaves_so normal s.end
 abbrev begins : Stretch → Bool
 begins s = starts s.source
 
-no_leg : (p : Option ℕ) (ops : List Op) (h : How) → legs_at p ops (leaves h) ≡ []
-no_leg None ops h = refl
-no_leg (Some p) ops h = refl
+no_segment : (p : Option ℕ) (ops : List Op) (h : How) → segments_at p ops (leaves h) ≡ []
+no_segment None ops h = refl
+no_segment (Some p) ops h = refl
 
 -- one tree and then another ----------------------------------------------------------------------------------------------
 
@@ -54,13 +54,13 @@ pass_enter true false ops way = refl
 pass_enter false true ops way = refl
 pass_enter false false ops way = refl
 
-go_pass : (b : Bool) (p : Option ℕ) (ops ys : List Op) → cond b (exoduses p (ops ++ ys)) [] ≡ map (then_out ys) (cond b (exoduses p ops) [])
+go_pass : (b : Bool) (p : Option ℕ) (ops ys : List Op) → cond b (suffixes_at p (ops ++ ys)) [] ≡ map (then_out ys) (cond b (suffixes_at p ops) [])
 go_pass true None ops ys = refl
 go_pass true (Some p) ops ys = refl
 go_pass false p ops ys = refl
 
-go_enter : (b : Bool) (p : Option ℕ) (ops ys : List Op) (goal : Goal) → cond b (legs_at p (ops ++ ys) (meets goal)) [] ≡ map
-    (leg_by (record { ops = ys; goal = goal })) (cond b (exoduses p ops) [])
+go_enter : (b : Bool) (p : Option ℕ) (ops ys : List Op) (goal : Goal) → cond b (segments_at p (ops ++ ys) (meets goal)) [] ≡ map
+    (segment_by (record { ops = ys; goal = goal })) (cond b (suffixes_at p ops) [])
 go_enter true None ops ys goal = refl
 go_enter true (Some p) ops ys goal = refl
 go_enter false p ops ys goal = refl
@@ -82,18 +82,20 @@ module _ (xs : List Stretch) where
       joined_one (λ (x : Stretch). cond (begins x) (then_way way x.ops ∷ []) []) (passed normal) (then_way way) xs
       (λ x. pass_enter (begins x) (ends x) x.ops way)
 
-  go_with : (c d : Bool) (ys : List Op) → cond c (flat_map (λ (x : Stretch). cond d (exoduses x.source (x.ops ++ ys)) []) (filter ends xs)) []
+  go_with : (c d : Bool) (ys : List Op) → cond c (flat_map (λ (x : Stretch). cond d (suffixes_at x.source (x.ops ++ ys)) []) (filter ends xs)) []
       ≡ flat_map (λ b. map (then_out b) (flat_map (gone normal) xs)) (cond c (cond d (ys ∷ []) []) [])
   go_with false d ys = refl
   go_with true false ys = flat_none (λ (x : Stretch). []) (λ x. refl) (filter ends xs)
-  go_with true true ys = joined_one (λ (x : Stretch). exoduses x.source (x.ops ++ ys)) (gone normal) (then_out ys) xs (λ x. go_pass (ends x) x.source x.ops ys)
+  go_with true true ys = joined_one (λ (x : Stretch). suffixes_at x.source (x.ops ++ ys)) (gone normal) (then_out ys) xs (λ x. go_pass (ends x) x.source x.ops
+      ys)
 
-  meet_with : (c : Bool) (ys : List Op) (e : End) → cond c (flat_map (λ (x : Stretch). legs_at x.source (x.ops ++ ys) e) (filter ends xs)) []
-      ≡ flat_map (λ way. map (leg_by way) (flat_map (gone normal) xs)) (cond c (ways_at ys e) [])
+  meet_with : (c : Bool) (ys : List Op) (e : End) → cond c (flat_map (λ (x : Stretch). segments_at x.source (x.ops ++ ys) e) (filter ends xs)) []
+      ≡ flat_map (λ way. map (segment_by way) (flat_map (gone normal) xs)) (cond c (ways_at ys e) [])
   meet_with false ys e = refl
-  meet_with true ys (leaves k) = flat_none (λ (x : Stretch). legs_at x.source (x.ops ++ ys) (leaves k)) (λ x. no_leg x.source (x.ops ++ ys) k) (filter ends xs)
+  meet_with true ys (leaves k) = flat_none (λ (x : Stretch). segments_at x.source (x.ops ++ ys) (leaves k)) (λ x. no_segment x.source (x.ops ++
+      ys) k) (filter ends xs)
   meet_with true ys (meets goal) =
-      joined_one (λ (x : Stretch). legs_at x.source (x.ops ++ ys) (meets goal)) (gone normal) (leg_by (record { ops = ys; goal = goal })) xs
+      joined_one (λ (x : Stretch). segments_at x.source (x.ops ++ ys) (meets goal)) (gone normal) (segment_by (record { ops = ys; goal = goal })) xs
       (λ x. go_enter (ends x) x.source x.ops ys goal)
 
 -- what doesn't end the first tree stays
@@ -116,18 +118,18 @@ stay_entered false ops (leaves normal) = refl
 stay_entered a ops (leaves (jump k)) = refl
 stay_entered a ops (meets goal) = refl
 
-stay_gone : (p : Option ℕ) (ops : List Op) (j : Exit) (e : End) → cond (not (leaves_so normal e)) (cond (leaves_so (jump j) e) (exoduses p ops) []) [] ≡ cond
-    (leaves_so (jump j) e) (exoduses p ops) []
+stay_gone : (p : Option ℕ) (ops : List Op) (j : Exit) (e : End) → cond (not (leaves_so normal e)) (cond (leaves_so (jump j) e) (suffixes_at p ops) []) [] ≡ cond
+    (leaves_so (jump j) e) (suffixes_at p ops) []
 stay_gone p ops j (leaves normal) = refl
 stay_gone p ops j (leaves (jump k)) = refl
 stay_gone p ops j (meets goal) = refl
 
-gone_gone : (b : Bool) (p : Option ℕ) (ops : List Op) → cond (not b) (cond b (exoduses p ops) []) [] ≡ []
+gone_gone : (b : Bool) (p : Option ℕ) (ops : List Op) → cond (not b) (cond b (suffixes_at p ops) []) [] ≡ []
 gone_gone true p ops = refl
 gone_gone false p ops = refl
 
-stay_met : (p : Option ℕ) (ops : List Op) (e : End) → cond (not (leaves_so normal e)) (legs_at p ops e) [] ≡ legs_at p ops e
-stay_met p ops (leaves normal) = sym (no_leg p ops normal)
+stay_met : (p : Option ℕ) (ops : List Op) (e : End) → cond (not (leaves_so normal e)) (segments_at p ops e) [] ≡ segments_at p ops e
+stay_met p ops (leaves normal) = sym (no_segment p ops normal)
 stay_met p ops (leaves (jump k)) = refl
 stay_met p ops (meets goal) = refl
 
@@ -136,12 +138,12 @@ later_none : {B : Type 0} (a : Bool) (xs : List B) → cond (not a) (cond a xs [
 later_none true xs = refl
 later_none false xs = refl
 
-later_gone : (p : Option ℕ) (ops : List Op) (b : Bool) → cond (not (starts p)) (cond b (exoduses p ops) []) [] ≡ cond b (exoduses p ops) []
+later_gone : (p : Option ℕ) (ops : List Op) (b : Bool) → cond (not (starts p)) (cond b (suffixes_at p ops) []) [] ≡ cond b (suffixes_at p ops) []
 later_gone None ops true = refl
 later_gone None ops false = refl
 later_gone (Some p) ops b = refl
 
-later_met : (p : Option ℕ) (ops : List Op) (e : End) → cond (not (starts p)) (legs_at p ops e) [] ≡ legs_at p ops e
+later_met : (p : Option ℕ) (ops : List Op) (e : End) → cond (not (starts p)) (segments_at p ops e) [] ≡ segments_at p ops e
 later_met None ops e = refl
 later_met (Some p) ops e = refl
 
@@ -174,10 +176,10 @@ module _ (g h : Node) (xs ys : List Stretch) (a : AreWays xs g) (b : AreWays ys 
       joined_all (gone w) (gone normal) (passed w) then_out xs (λ y. go_with xs (begins y) (leaves_so w y.end) y.ops) ys
       ∙ ap (λ u. then_outs u (flat_map (passed w) ys)) (a.goes normal) ∙ ap (λ u. then_outs (outs g normal) u) (b.passes w)
 
-  both_meet : flat_map met both ≡ legs_by (outs g normal) (enter h)
+  both_meet : flat_map met both ≡ segments_by (outs g normal) (enter h)
   both_meet =
-      joined_all met (gone normal) entered leg_by xs (λ y. meet_with xs (begins y) y.ops y.end) ys
-      ∙ ap (λ u. legs_by u (flat_map entered ys)) (a.goes normal) ∙ ap (λ u. legs_by (outs g normal) u) b.enters
+      joined_all met (gone normal) entered segment_by xs (λ y. meet_with xs (begins y) y.ops y.end) ys
+      ∙ ap (λ u. segments_by u (flat_map entered ys)) (a.goes normal) ∙ ap (λ u. segments_by (outs g normal) u) b.enters
 
   left_passes : (j : Exit) → flat_map (passed (jump j)) left ≡ through g (jump j)
   left_passes j = flat_picked (λ s. not (ends s)) (passed (jump j)) (passed (jump j)) (λ s. stay_passed (begins s) s.ops j s.end) xs ∙ a.passes (jump j)
@@ -210,7 +212,7 @@ module _ (g h : Node) (xs ys : List Stretch) (a : AreWays xs g) (b : AreWays ys 
   right_meets : flat_map met right ≡ inside h
   right_meets = flat_picked (λ s. not (begins s)) met met (λ s. later_met s.source s.ops s.end) ys ∙ b.meets
 
-  turn_passes : (w : How) → flat_map (passed w) (in_turn xs ys) ≡ through (seq g h) w
+  turn_passes : (w : How) → flat_map (passed w) (sequenced xs ys) ≡ through (seq g h) w
   turn_passes normal =
       three_parts (passed normal) left both right [] (each_then (through g normal) (through h normal)) [] left_none (both_pass normal) (right_passes normal)
       ∙ append-nil (each_then (through g normal) (through h normal))
@@ -219,73 +221,73 @@ module _ (g h : Node) (xs ys : List Stretch) (a : AreWays xs g) (b : AreWays ys 
       (both_pass (jump j)) (right_passes (jump j))
       ∙ append-nil (through g (jump j) ++ each_then (through g normal) (through h (jump j)))
 
-  turn_goes : (w : How) → flat_map (gone w) (in_turn xs ys) ≡ outs (seq g h) w
+  turn_goes : (w : How) → flat_map (gone w) (sequenced xs ys) ≡ outs (seq g h) w
   turn_goes normal = three_parts (gone normal) left both right [] (then_outs (outs g normal) (through h normal)) (outs h normal) left_gone (both_go normal)
       (right_goes normal)
   turn_goes (jump j) =
       three_parts (gone (jump j)) left both right (outs g (jump j)) (then_outs (outs g normal) (through h (jump j))) (outs h (jump j)) (left_goes j)
       (both_go (jump j)) (right_goes (jump j))
 
-  turn_ways : AreWays (in_turn xs ys) (seq g h)
+  turn_ways : AreWays (sequenced xs ys) (seq g h)
   turn_ways = record {
     passes = turn_passes;
     enters = three_parts entered left both right (enter g) (then_ways (through g normal) (enter h)) [] left_enters both_enter right_enters
         ∙ append-nil (enter g ++ then_ways (through g normal) (enter h));
     goes = turn_goes;
-    meets = three_parts met left both right (inside g) (legs_by (outs g normal) (enter h)) (inside h) left_meets both_meet right_meets;
+    meets = three_parts met left both right (inside g) (segments_by (outs g normal) (enter h)) (inside h) left_meets both_meet right_meets;
   }
 
 -- choices ----------------------------------------------------------------------------------------------------------------
 
 module _ (op : Op) where
-  led_bool : (b : Bool) (ops : List Op) → cond b ((op ∷ ops) ∷ []) [] ≡ map (λ x. op ∷ x) (cond b (ops ∷ []) [])
-  led_bool true ops = refl
-  led_bool false ops = refl
+  prefixed_bool : (b : Bool) (ops : List Op) → cond b ((op ∷ ops) ∷ []) [] ≡ map (λ x. op ∷ x) (cond b (ops ∷ []) [])
+  prefixed_bool true ops = refl
+  prefixed_bool false ops = refl
 
-  led_passed : (h : How) (p : Option ℕ) (ops : List Op) (e : End) → passed h (led_by op p ops e) ≡ map (λ x. op ∷ x)
+  prefixed_passed : (h : How) (p : Option ℕ) (ops : List Op) (e : End) → passed h (prefixed_by op p ops e) ≡ map (λ x. op ∷ x)
       (cond (starts p) (cond (leaves_so h e) (ops ∷ []) []) [])
-  led_passed h None ops e = led_bool (leaves_so h e) ops
-  led_passed h (Some p) ops e = refl
+  prefixed_passed h None ops e = prefixed_bool (leaves_so h e) ops
+  prefixed_passed h (Some p) ops e = refl
 
-  abbrev led_way : Way → Way
-  led_way way = record way { ops = op ∷ way.ops }
+  abbrev prefixed_way : Way → Way
+  prefixed_way way = record way { ops = op ∷ way.ops }
 
-  led_entered : (p : Option ℕ) (ops : List Op) (e : End) → entered (led_by op p ops e) ≡ map led_way (cond (starts p) (ways_at ops e) [])
-  led_entered None ops (leaves k) = refl
-  led_entered None ops (meets goal) = refl
-  led_entered (Some p) ops e = refl
+  prefixed_entered : (p : Option ℕ) (ops : List Op) (e : End) → entered (prefixed_by op p ops e) ≡ map prefixed_way (cond (starts p) (ways_at ops e) [])
+  prefixed_entered None ops (leaves k) = refl
+  prefixed_entered None ops (meets goal) = refl
+  prefixed_entered (Some p) ops e = refl
 
-  led_gone : (h : How) (p : Option ℕ) (ops : List Op) (e : End) → gone h (led_by op p ops e) ≡ cond (leaves_so h e) (exoduses p ops) []
-  led_gone h None ops e = refl
-  led_gone h (Some p) ops e = refl
+  prefixed_gone : (h : How) (p : Option ℕ) (ops : List Op) (e : End) → gone h (prefixed_by op p ops e) ≡ cond (leaves_so h e) (suffixes_at p ops) []
+  prefixed_gone h None ops e = refl
+  prefixed_gone h (Some p) ops e = refl
 
-  led_met : (p : Option ℕ) (ops : List Op) (e : End) → met (led_by op p ops e) ≡ legs_at p ops e
-  led_met None ops e = refl
-  led_met (Some p) ops e = refl
+  prefixed_met : (p : Option ℕ) (ops : List Op) (e : End) → met (prefixed_by op p ops e) ≡ segments_at p ops e
+  prefixed_met None ops e = refl
+  prefixed_met (Some p) ops e = refl
 
-  all_passed : (h : How) (xs : List Stretch) → flat_map (passed h) (map (led op) xs) ≡ map (λ x. op ∷ x) (flat_map (passed h) xs)
-  all_passed h xs = all_mapped (led op) (passed h) (passed h) (λ x. op ∷ x) (λ s. led_passed h s.source s.ops s.end) xs
+  all_passed : (h : How) (xs : List Stretch) → flat_map (passed h) (map (prefixed op) xs) ≡ map (λ x. op ∷ x) (flat_map (passed h) xs)
+  all_passed h xs = all_mapped (prefixed op) (passed h) (passed h) (λ x. op ∷ x) (λ s. prefixed_passed h s.source s.ops s.end) xs
 
-  all_entered : (xs : List Stretch) → flat_map entered (map (led op) xs) ≡ map led_way (flat_map entered xs)
-  all_entered xs = all_mapped (led op) entered entered led_way (λ s. led_entered s.source s.ops s.end) xs
+  all_entered : (xs : List Stretch) → flat_map entered (map (prefixed op) xs) ≡ map prefixed_way (flat_map entered xs)
+  all_entered xs = all_mapped (prefixed op) entered entered prefixed_way (λ s. prefixed_entered s.source s.ops s.end) xs
 
-  all_gone : (h : How) (xs : List Stretch) → flat_map (gone h) (map (led op) xs) ≡ flat_map (gone h) xs
-  all_gone h xs = flat_mapped (gone h) (led op) xs ∙ flat_same (λ s. gone h (led op s)) (gone h) (λ s. led_gone h s.source s.ops s.end) xs
+  all_gone : (h : How) (xs : List Stretch) → flat_map (gone h) (map (prefixed op) xs) ≡ flat_map (gone h) xs
+  all_gone h xs = flat_mapped (gone h) (prefixed op) xs ∙ flat_same (λ s. gone h (prefixed op s)) (gone h) (λ s. prefixed_gone h s.source s.ops s.end) xs
 
-  all_met : (xs : List Stretch) → flat_map met (map (led op) xs) ≡ flat_map met xs
-  all_met xs = flat_mapped met (led op) xs ∙ flat_same (λ s. met (led op s)) met (λ s. led_met s.source s.ops s.end) xs
+  all_met : (xs : List Stretch) → flat_map met (map (prefixed op) xs) ≡ flat_map met xs
+  all_met xs = flat_mapped met (prefixed op) xs ∙ flat_same (λ s. met (prefixed op s)) met (λ s. prefixed_met s.source s.ops s.end) xs
 
 choice_ways : (q base : ℕ) (c : Cond) (g h : Node) (xs ys : List Stretch) → AreWays xs g → AreWays ys h → AreWays (chosen base c xs ys) (choose q base c g h)
 choice_ways q base c g h xs ys a b =
     let on : Op = test base c true in
     let off : Op = test base c false in
-    let yes : List Stretch = map (led on) xs in
-    let no : List Stretch = map (led off) ys in
+    let yes : List Stretch = map (prefixed on) xs in
+    let no : List Stretch = map (prefixed off) ys in
     record {
       passes = λ w. flat_two (passed w) yes no (map (tested base c true) (through g w)) (map (tested base c false) (through h w))
           (all_passed on w xs ∙ ap (map (λ x. on ∷ x)) (a.passes w)) (all_passed off w ys ∙ ap (map (λ x. off ∷ x)) (b.passes w));
       enters = flat_two entered yes no (map (tested_way base c true) (enter g)) (map (tested_way base c false) (enter h))
-          (all_entered on xs ∙ ap (map (led_way on)) a.enters) (all_entered off ys ∙ ap (map (led_way off)) b.enters);
+          (all_entered on xs ∙ ap (map (prefixed_way on)) a.enters) (all_entered off ys ∙ ap (map (prefixed_way off)) b.enters);
       goes = λ w. flat_two (gone w) yes no (outs g w) (outs h w) (all_gone on w xs ∙ a.goes w) (all_gone off w ys ∙ b.goes w);
       meets = flat_two met yes no (inside g) (inside h) (all_met on xs ∙ a.meets) (all_met off ys ∙ b.meets);
     }
@@ -298,7 +300,7 @@ module _ (q base : ℕ) (c : Cond) where
   on = test base c true
 
   abbrev turn : Option ℕ → List Op → End → Stretch
-  turn p ops e = stretch (Some (source_or q p)) (led_by on p ops e).ops (back_to q e)
+  turn p ops e = stretch (Some (source_or q p)) (prefixed_by on p ops e).ops (back_to q e)
 
   no_passed : (h : How) (s : Stretch) → passed h (turned q on s) ≡ []
   no_passed h s = refl
@@ -311,7 +313,7 @@ module _ (q base : ℕ) (c : Cond) where
   no_gone p ops (leaves (jump k)) = refl
   no_gone p ops (meets goal) = refl
 
-  out_bool : (b : Bool) (ops : List Op) → cond b (exoduses (Some q) (on ∷ ops)) [] ≡ map (out_of_body q base c) (cond b (ops ∷ []) [])
+  out_bool : (b : Bool) (ops : List Op) → cond b (suffixes_at (Some q) (on ∷ ops)) [] ≡ map (out_of_body q base c) (cond b (ops ∷ []) [])
   out_bool true ops = refl
   out_bool false ops = refl
 
@@ -335,7 +337,7 @@ module _ (q base : ℕ) (c : Cond) where
   back_gone j (Some p) ops (meets goal) = refl
 
   rest_gone : (j : Exit) (p : Option ℕ) (ops : List Op) (e : End) → cond (not (starts p)) (cond (not (leaves_so normal e)) (gone (jump j) (turn p ops e)) []) []
-      ≡ cond (leaves_so (jump j) e) (exoduses p ops) []
+      ≡ cond (leaves_so (jump j) e) (suffixes_at p ops) []
   rest_gone j None ops e = sym (both_same (leaves_so (jump j) e) [])
   rest_gone j (Some p) ops (leaves normal) = refl
   rest_gone j (Some p) ops (leaves (jump k)) = refl
@@ -348,8 +350,8 @@ module _ (q base : ℕ) (c : Cond) where
   into_met None ops (meets goal) = refl
   into_met (Some p) ops e = refl
 
-  abbrev round : List Op → Leg
-  round x = leg_to q (out_of_body q base c x)
+  abbrev round : List Op → Segment
+  round x = segment_to q (out_of_body q base c x)
 
   past_met : (p : Option ℕ) (ops : List Op) (e : End) → cond (starts p) (cond (leaves_so normal e) (met (turn p ops e)) []) []
       ≡ map round (cond (starts p) (cond (leaves_so normal e) (ops ∷ []) []) [])
@@ -359,7 +361,7 @@ module _ (q base : ℕ) (c : Cond) where
   past_met (Some p) ops e = refl
 
   back_met : (p : Option ℕ) (ops : List Op) (e : End) → cond (not (starts p)) (cond (leaves_so normal e) (met (turn p ops e)) []) []
-      ≡ map (leg_to q) (cond (leaves_so normal e) (exoduses p ops) [])
+      ≡ map (segment_to q) (cond (leaves_so normal e) (suffixes_at p ops) [])
   back_met None ops (leaves normal) = refl
   back_met None ops (leaves (jump k)) = refl
   back_met None ops (meets goal) = refl
@@ -367,7 +369,7 @@ module _ (q base : ℕ) (c : Cond) where
   back_met (Some p) ops (leaves (jump k)) = refl
   back_met (Some p) ops (meets goal) = refl
 
-  rest_met : (p : Option ℕ) (ops : List Op) (e : End) → cond (not (starts p)) (cond (not (leaves_so normal e)) (met (turn p ops e)) []) [] ≡ legs_at p ops e
+  rest_met : (p : Option ℕ) (ops : List Op) (e : End) → cond (not (starts p)) (cond (not (leaves_so normal e)) (met (turn p ops e)) []) [] ≡ segments_at p ops e
   rest_met None ops e = refl
   rest_met (Some p) ops (leaves normal) = refl
   rest_met (Some p) ops (leaves (jump k)) = refl
@@ -400,7 +402,7 @@ module _ (q base : ℕ) (c : Cond) where
     loop_goes normal =
         let e = flat_mapped (gone normal) (turned q on) (body_order ss) ∙ flat_none (λ s. gone normal (turned q on s)) (λ s. no_gone s.source s.ops s.end)
         (body_order ss) in
-        ap (λ (u : List Exodus). record { source = q; ops = test base c false ∷ [] } ∷ u) e
+        ap (λ (u : List Suffix). record { source = q; ops = test base c false ∷ [] } ∷ u) e
     loop_goes (jump j) =
         let f = λ (s : Stretch). gone (jump j) (turned q on s) in
         four_parts (gone (jump j)) ss (map (out_of_body q base c) (through g (jump j))) [] [] (outs g (jump j))
@@ -409,19 +411,19 @@ module _ (q base : ℕ) (c : Cond) where
         (flat_both begins ends f (λ s. []) (λ s. past_gone j s.source s.ops s.end) ss ∙ flat_none (λ s. []) (λ s. refl) ss)
         (flat_both (λ s. not (begins s)) ends f (λ s. []) (λ s. back_gone j s.source s.ops s.end) ss ∙ flat_none (λ s. []) (λ s. refl) ss)
         (flat_both (λ s. not (begins s)) (λ s. not (ends s)) f (gone (jump j)) (λ s. rest_gone j s.source s.ops s.end) ss ∙ a.goes (jump j))
-        ∙ ap (λ (u : List Exodus). u ++ outs g (jump j)) (append-nil (map (out_of_body q base c) (through g (jump j)) ++ []) ∙ append-nil
+        ∙ ap (λ (u : List Suffix). u ++ outs g (jump j)) (append-nil (map (out_of_body q base c) (through g (jump j)) ++ []) ∙ append-nil
         (map (out_of_body q base c) (through g (jump j))))
 
     loop_meets : flat_map met (looped q base c ss) ≡ inside (iterate q base c g)
     loop_meets =
         let f = λ (s : Stretch). met (turned q on s) in
-        four_parts met ss (map (into_body q base c) (enter g)) (map round (through g normal)) (map (leg_to q) (outs g normal)) (inside g)
+        four_parts met ss (map (into_body q base c) (enter g)) (map round (through g normal)) (map (segment_to q) (outs g normal)) (inside g)
         (flat_both begins (λ s. not (ends s)) f (λ s. map (into_body q base c) (entered s)) (λ s. into_met s.source s.ops s.end) ss
         ∙ sym (mapped_flat (into_body q base c) entered ss) ∙ ap (map (into_body q base c)) a.enters)
         (flat_both begins ends f (λ s. map round (passed normal s)) (λ s. past_met s.source s.ops s.end) ss ∙ sym (mapped_flat round (passed normal) ss) ∙ ap
         (map round) (a.passes normal))
-        (flat_both (λ s. not (begins s)) ends f (λ s. map (leg_to q) (gone normal s)) (λ s. back_met s.source s.ops s.end) ss
-        ∙ sym (mapped_flat (leg_to q) (gone normal) ss) ∙ ap (map (leg_to q)) (a.goes normal))
+        (flat_both (λ s. not (begins s)) ends f (λ s. map (segment_to q) (gone normal s)) (λ s. back_met s.source s.ops s.end) ss
+        ∙ sym (mapped_flat (segment_to q) (gone normal) ss) ∙ ap (map (segment_to q)) (a.goes normal))
         (flat_both (λ s. not (begins s)) (λ s. not (ends s)) f met (λ s. rest_met s.source s.ops s.end) ss ∙ a.meets)
 
     loop_ways : AreWays (looped q base c ss) (iterate q base c g)
@@ -497,21 +499,21 @@ module _ (k : Exit) where
   kept_enter a ops (leaves h) = never (not (leaves_so (jump k) (leaves h))) a [] ∙ sym (both_same a [])
   kept_enter a ops (meets goal) = refl
 
-  kept_go : (p : Option ℕ) (ops : List Op) (e : End) → cond (not (leaves_so (jump k) e)) (cond (leaves_so normal e) (exoduses p ops) []) [] ≡ cond
-      (leaves_so normal e) (exoduses p ops) []
+  kept_go : (p : Option ℕ) (ops : List Op) (e : End) → cond (not (leaves_so (jump k) e)) (cond (leaves_so normal e) (suffixes_at p ops) []) [] ≡ cond
+      (leaves_so normal e) (suffixes_at p ops) []
   kept_go p ops (leaves normal) = refl
   kept_go p ops (leaves (jump i)) = both_same (not (same_exit k i)) []
   kept_go p ops (meets goal) = refl
 
-  kept_off : (j : Exit) (p : Option ℕ) (ops : List Op) (e : End) → cond (not (leaves_so (jump k) e)) (cond (leaves_so (jump j) e) (exoduses p ops) []) []
-      ≡ cond (same_exit j k) [] (cond (leaves_so (jump j) e) (exoduses p ops) [])
+  kept_off : (j : Exit) (p : Option ℕ) (ops : List Op) (e : End) → cond (not (leaves_so (jump k) e)) (cond (leaves_so (jump j) e) (suffixes_at p ops) []) []
+      ≡ cond (same_exit j k) [] (cond (leaves_so (jump j) e) (suffixes_at p ops) [])
   kept_off j p ops (leaves normal) = sym (both_same (same_exit j k) [])
-  kept_off j p ops (leaves (jump i)) = not_caught j k i (exoduses p ops)
+  kept_off j p ops (leaves (jump i)) = not_caught j k i (suffixes_at p ops)
   kept_off j p ops (meets goal) = sym (both_same (same_exit j k) [])
 
-  kept_meet : (p : Option ℕ) (ops : List Op) (e : End) → cond (not (leaves_so (jump k) e)) (legs_at p ops e) [] ≡ legs_at p ops e
-  kept_meet p ops (leaves h) = ap (λ (u : List Leg). cond (not (leaves_so (jump k) (leaves h))) u []) (no_leg p ops h) ∙ both_same
-      (not (leaves_so (jump k) (leaves h))) [] ∙ sym (no_leg p ops h)
+  kept_meet : (p : Option ℕ) (ops : List Op) (e : End) → cond (not (leaves_so (jump k) e)) (segments_at p ops e) [] ≡ segments_at p ops e
+  kept_meet p ops (leaves h) = ap (λ (u : List Segment). cond (not (leaves_so (jump k) (leaves h))) u []) (no_segment p ops h) ∙ both_same
+      (not (leaves_so (jump k) (leaves h))) [] ∙ sym (no_segment p ops h)
   kept_meet p ops (meets goal) = refl
 
   module _ (q : ℕ) (g : Node) (ss : List Stretch) (a : AreWays ss g) where
@@ -547,7 +549,7 @@ module _ (k : Exit) where
     catch_goes (jump j) =
         flat_two (gone (jump j)) kept came (cond (same_exit j k) [] (outs g (jump j))) []
         (flat_picked (λ s. not (jumps s)) (gone (jump j)) (λ s. cond (same_exit j k) [] (gone (jump j) s)) (λ s. kept_off j s.source s.ops s.end) ss
-        ∙ flat_unless (same_exit j k) (gone (jump j)) ss ∙ ap (λ (u : List Exodus). cond (same_exit j k) [] u) (a.goes (jump j)))
+        ∙ flat_unless (same_exit j k) (gone (jump j)) ss ∙ ap (λ (u : List Suffix). cond (same_exit j k) [] u) (a.goes (jump j)))
         (none_came (gone (jump j)) (λ s. refl))
         ∙ append-nil (cond (same_exit j k) [] (outs g (jump j)))
 
@@ -563,7 +565,7 @@ module _ (k : Exit) where
       meets =
           flat_two met kept came (inside g) []
           (flat_picked (λ s. not (jumps s)) met met (λ s. kept_meet s.source s.ops s.end) ss ∙ a.meets)
-          (none_came met (λ s. no_leg s.source s.ops normal))
+          (none_came met (λ s. no_segment s.source s.ops normal))
           ∙ append-nil (inside g);
     }
 
@@ -610,7 +612,7 @@ check_goes q base c normal = refl
 check_goes q base c (jump j) = refl
 
 leave_goes : (n : ℕ) (k : Exit) (w : How) → flat_map (gone w) (stretches (leave n k)) ≡ outs (leave n k) w
-leave_goes n k w = ap (λ (u : List Exodus). u ++ []) (no_outs w (jump k) [])
+leave_goes n k w = ap (λ (u : List Suffix). u ++ []) (no_outs w (jump k) [])
 
 pub are_ways : (g : Node) → AreWays (stretches g) g
 are_ways empty = record { passes = empty_passes; enters = refl; goes = empty_goes; meets = refl }

@@ -9,9 +9,9 @@ use Rattle.lra_program.proofs.RunExamples.{long_variable}
 use Rattle.lra_operations.specs.Graph.{broken, continued, normal, Node, empty, point, act, check, seq, choose, iterate, catch, leave}
 use Rattle.lra_domain.specs.Actions.{Action}
 use Rattle.lra_domain.specs.Actions as action
-use Rattle.lra_domain.specs.Moves.{make, first_then, join_of}
+use Rattle.lra_domain.specs.Moves.{make, first_then, join_of, cases}
 use Rattle.lra_paths.specs.Ways.{comes_to, denies, through, enter, outs, inside}
-use Rattle.lra_paths.specs.Sides.{sides, written, extended}
+use Rattle.lra_paths.specs.Sides.{sides, written}
 
 abbrev x : Expr
 x = read (long_variable (local 0))
@@ -97,10 +97,10 @@ outer_sides : sides (first_then (join_of (make a) (make b)) (join_of (make c) (m
     ≡ (a ∷ c ∷ []) ∷ (b ∷ c ∷ []) ∷ (a ∷ d ∷ []) ∷ (b ∷ d ∷ []) ∷ []
 outer_sides = refl
 
--- as the paths of a list are extended
-outer_extended : extended (first_then (join_of (make a) (make b)) (join_of (make c) (make d))) ([] ∷ [])
-    ≡ (a ∷ c ∷ []) ∷ (b ∷ c ∷ []) ∷ (a ∷ d ∷ []) ∷ (b ∷ d ∷ []) ∷ []
-outer_extended = refl
+-- in the cases of the moves those of the earlier are
+outer_cases : cases (first_then (join_of (make a) (make b)) (join_of (make c) (make d)))
+    ≡ (a ∷ c ∷ []) ∷ (a ∷ d ∷ []) ∷ (b ∷ c ∷ []) ∷ (b ∷ d ∷ []) ∷ []
+outer_cases = refl
 
 -- c0 + c1*x >= 0
 abbrev at_least_0 : ℤ → ℤ → Action

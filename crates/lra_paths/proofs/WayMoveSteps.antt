@@ -18,7 +18,7 @@ use Rattle.lra_paths.specs.declared.stretches.Move.{Move}
 use Rattle.lra_paths.specs.declared.tables.Entry.{Entry}
 use Rattle.lra_paths.specs.WayMoves.{live_behind, way_moves, way_on}
 use Rattle.lra_paths.proofs.Lists.{each_then_assoc, each_then_nil}
-use Rattle.lra_paths.proofs.WeaveSteps.{then_has}
+use Rattle.lra_paths.proofs.GuardSteps.{then_has}
 
 -- before them nothing
 nil_then : (ys : List (List Action)) → each_then ([] ∷ []) ys ≡ ys

@@ -2,15 +2,14 @@
 use Rattle.std.specs.Prelude.{◌≡◌, ℕ, suc, ℤ, List, [], ◌∷◌, Bool, IsTrue, Some, slice_get, Contains, length}
 use Rattle.lra_domain.specs.Moves.{SomeLeads}
 use Rattle.lra_program.specs.Program.{Program}
-use Rattle.lra_program.specs.WellFormed.{AreGoodGlobals}
+use Rattle.lra_program.specs.WellFormed.{IsWellFormed}
 use Rattle.lra_program.specs.Step.{State, Op, Config}
 use Rattle.lra_program.specs.Run.{start, Point, IsOn, Reaches, At, Fails, IsFailing}
 use Rattle.lra_program.specs.Sites.{Site, sites_of}
 use Rattle.lra_program.specs.Trails.{Met, passes, Trail, Alone, Walks, Piece}
 use Rattle.lra_operations.specs.Graph.{normal, jump, Node}
 use Rattle.lra_operations.specs.Trails.{by_jump, to_point, to_failure, Outcome, to_end, stopped, Goes}
-use Rattle.lra_operations.specs.Agree.{Agrees, AreDistinct, point_of}
-use Rattle.lra_operations.specs.TrailsAgree.{TreeGoes, TrailsAgree}
+use Rattle.lra_operations.specs.Agree.{IsGraph, point_of}
 use Rattle.lra_paths.specs.Ways.{Goal, comes_to, denies, through, enter, outs, inside, RunsOps}
 use Rattle.lra_paths.specs.Paths.{live_at, leading}
 
@@ -52,18 +51,7 @@ abbrev pub WaysCover : Type 0
 WaysCover = (g : Node) (a : Trail ℕ) (u : Outcome) (b : Trail ℕ) → Goes (λ q. q) Alone g a u b →
     HasGone (λ q. q) g a u b
 
--- programs ---------------------------------------------------------------------------------------------------------
-
--- a program and the tree of its operations, which comes to the points of the program's runs, on their trails; no two
--- points are the same
-pub record HasTree (P : Program) (g : Node) : Type 0 where
-  pub globals : AreGoodGlobals P.globals
-  pub distinct : AreDistinct (sites_of P)
-  pub agrees : Agrees P g
-  pub trails : TrailsAgree Alone P g
-  -- the tree has no other points than these
-  pub points : (q : ℕ) (draws : List ℤ) (a : Trail Point) → TreeGoes Alone P g draws (to_point q) a → (s : Site) ×
-      (slice_get (sites_of P) q ≡ Some s)
+-- programs: well-formed ones, with the tree that stands for each -----------------------------------------------------
 
 pub record PathsCover (P : Program) (g : Node) : Type 0 where
   -- from the start to the first point
@@ -80,7 +68,7 @@ pub record PathsCover (P : Program) (g : Node) : Type 0 where
       SomeLeads (leading P g (suc q) (denies q)) c.state.store c.state.store
 
 abbrev pub AllPathsCover : Type 0
-AllPathsCover = (P : Program) (g : Node) → HasTree P g → PathsCover P g
+AllPathsCover = (P : Program) (g : Node) → IsWellFormed P → IsGraph P g → PathsCover P g
 
 -- its point is one of the program's
 abbrev pub IsGoalOf : Program → Goal → Type 0
@@ -104,5 +92,5 @@ pub record HoldInAllRuns (P : Program) (holds : Goal → List ℤ → Type 0) : 
 
 -- as a law of tests; for any relation it is the lemma from which this follows (`kept` of the proofs)
 abbrev pub WhatPathsKeepHolds : Type 0
-WhatPathsKeepHolds = (P : Program) (g : Node) → HasTree P g → (holds : Goal → List ℤ → Bool) →
+WhatPathsKeepHolds = (P : Program) (g : Node) → IsWellFormed P → IsGraph P g → (holds : Goal → List ℤ → Bool) →
     AreKept P g (λ goal t. IsTrue (holds goal t)) → HoldInAllRuns P (λ goal t. IsTrue (holds goal t))

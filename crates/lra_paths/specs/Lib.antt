@@ -2,10 +2,11 @@
 pub mod Ways
 pub mod Stretches
 pub mod StretchViews
-pub mod Due
+pub mod Tasks
 pub mod Sides
 pub mod Paths
 pub mod FewPaths
+pub mod Denials
 pub mod Covers
 pub mod Tables
 pub mod TableSides

@@ -10,7 +10,7 @@ use Rattle.lra_program.specs.Step.{Op}
 use Rattle.lra_program.specs.Sites.{Site, sites_of}
 use Rattle.lra_operations.specs.Graph.{Node}
 use Rattle.lra_flow.specs.MovesOf.{first_values}
-use Rattle.lra_paths.specs.Ways.{Goal, comes_to, denies, Way, Leg, each_then, enter, inside}
+use Rattle.lra_paths.specs.Ways.{Goal, comes_to, denies, Way, Segment, each_then, enter, inside}
 use Rattle.lra_paths.specs.Sides.{sides, written}
 
 abbrev pub same_goal : Goal → Goal → Bool
@@ -38,15 +38,15 @@ from_start P ops = started P.globals ops
 abbrev pub first_ways : Node → Goal → List Way
 first_ways g goal = filter (λ way. same_goal way.goal goal) (enter g)
 
-abbrev pub next_legs : Node → ℕ → Goal → List Leg
-next_legs g p goal = filter (λ leg. nat_eq leg.source p && same_goal leg.way.goal goal) (inside g)
+abbrev pub next_segments : Node → ℕ → Goal → List Segment
+next_segments g p goal = filter (λ segment. nat_eq segment.source p && same_goal segment.way.goal goal) (inside g)
 
 -- from the source to the goal, in the order of the ways, and of the sides of each: in a program with these globals and
 -- these points
 abbrev pub leading_in : List GlobalVariable → List Site → Node → ℕ → Goal → List (List Action)
 leading_in globals sites g zero goal = flat_map (λ way. started globals way.ops) (first_ways g goal)
 leading_in globals sites g (suc p) goal =
-    flat_map (λ leg. written (live_of (slice_get sites p)) leg.way.ops) (next_legs g p goal)
+    flat_map (λ segment. written (live_of (slice_get sites p)) segment.way.ops) (next_segments g p goal)
 
 abbrev pub leading : Program → Node → ℕ → Goal → List (List Action)
 leading P g p goal = leading_in P.globals (sites_of P) g p goal

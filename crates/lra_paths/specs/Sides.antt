@@ -1,9 +1,14 @@
 -- Moves written out: one list of actions for each side of their joins.
 use Rattle.std.specs.Prelude.{◌≡◌, ◌↔◌, ℕ, ℤ, List, [], ◌∷◌, ◌++◌, map, length}
+use Rattle.std.specs.List.Sorted.{IsPermutation}
 use Rattle.lra_domain.specs.Actions.{Action}
-use Rattle.lra_domain.specs.Moves.{Moves, stay, make, first_then, join_of, MayLead, SomeLeads}
+use Rattle.lra_domain.specs.Moves.{Moves, stay, make, first_then, join_of, MayLead, SomeLeads, cases}
+use Rattle.lra_domain.specs.declared.Exactness.{Exactness}
+use Rattle.lra_domain.specs.declared.Exactness.TheVariants.{Exact}
 use Rattle.lra_program.specs.Step.{State, Op}
+use Rattle.lra_flow.specs.Moves.{AreMade}
 use Rattle.lra_flow.specs.MovesOf.{moves_of}
+use Rattle.lra_flow.specs.Operations.{Operations}
 use Rattle.lra_change.specs.Changes.{dims_behind}
 use Rattle.lra_paths.specs.Ways.{each_then, RunsOps}
 
@@ -19,16 +24,29 @@ abbrev pub written : ℕ → List Op → List (List Action)
 written live [] = [] ∷ []
 written live (op ∷ ops) = each_then (sides (moves_of live op)) (written (dims_behind op live) ops)
 
--- what moves make of a list of paths: an action is done at the end of each, and a join has the paths of both sides
-abbrev pub extended : Moves → List (List Action) → List (List Action)
-extended stay paths = paths
-extended (make step) paths = map (λ path. path ++ step ∷ []) paths
-extended (first_then a b) paths = extended b (extended a paths)
-extended (join_of a b) paths = extended a paths ++ extended b paths
+-- the operations of an iteration whose values are lists of paths: an action is done at the end of each path, and a join
+-- has the paths of the one and then those of the other; there are no heads of loops
+abbrev pub on_paths : Operations (List (List Action)) (Unit {0})
+on_paths = record {
+  dims = λ paths. 0;
+  universal = λ n cap paths. paths ≡ [] ∷ [];
+  void = λ n cap paths. paths ≡ [];
+  changed = λ step paths e more. (e ≡ Exact) × (more ≡ map (λ path. path ++ step ∷ []) paths);
+  joined = λ one other e both. (e ≡ Exact) × (both ≡ one ++ other);
+  started = λ paths rows h. ⊥;
+  stays = λ h paths mode. ⊥;
+  grown = λ h paths mode e next. ⊥;
+  valued = λ h e paths. ⊥;
+}
 
--- that is: the sides, each behind each of the paths
-abbrev pub SidesExtend : Type 0
-SidesExtend = (p : Moves) (paths : List (List Action)) → extended p paths ≡ each_then paths (sides p)
+-- what an iteration makes of a list of paths by these moves: the sides, each behind each of the paths
+abbrev pub SidesAreMade : Type 0
+SidesAreMade = (p : Moves) (paths : List (List Action)) (e : Exactness) (more : List (List Action)) →
+    AreMade on_paths p paths e more ↔ ((more ≡ each_then paths (sides p)) × (e ≡ Exact))
+
+-- the sides are the cases of the moves, in another order: there those of the earlier are the outer ones
+abbrev pub SidesAreCases : Type 0
+SidesAreCases = (p : Moves) → IsPermutation (cases p) (sides p)
 
 -- moves may lead where one of their sides leads
 abbrev pub SidesLead : Type 0

@@ -16,27 +16,27 @@ use Rattle.lra_paths.specs.StretchViews.{goal_view}
 use Rattle.lra_paths.specs.Tables.{Has, IsTable, Grows, moves_at}
 use Rattle.lra_paths.specs.WayMoves.{way_moves}
 use Rattle.lra_paths.specs.declared.paths.Departure.{Departure}
-use Rattle.lra_paths.specs.declared.sources.Led.{Led}
+use Rattle.lra_paths.specs.declared.sources.SourceWay.{SourceWay}
 use Rattle.lra_paths.specs.declared.sources.Source.{Source}
 use Rattle.lra_paths.specs.declared.tables.Entry.{Entry}
 
 -- the paths of a way, where it has this goal
-abbrev pub to_goal_by : List Entry → Goal → Led → List (List Action)
+abbrev pub to_goal_by : List Entry → Goal → SourceWay → List (List Action)
 to_goal_by es goal way = cond (same_goal (goal_view way.goal) goal) (sides (moves_at es way.place)) []
 
 -- in the order of the ways
-abbrev pub to_goal : List Entry → List Led → Goal → List (List Action)
+abbrev pub to_goal : List Entry → List SourceWay → Goal → List (List Action)
 to_goal es ways goal = flat_map (to_goal_by es goal) ways
 
 -- no more than may be lead to each goal, or more to one
-abbrev pub AreFewTo : List Entry → List Led → Type 0
+abbrev pub AreFewTo : List Entry → List SourceWay → Type 0
 AreFewTo es ways = (goal : Goal) → length (to_goal es ways goal) ≤ greatest_paths
 
-abbrev pub AreManyTo : List Entry → List Led → Type 0
+abbrev pub AreManyTo : List Entry → List SourceWay → Type 0
 AreManyTo es ways = (goal : Goal) × (greatest_paths < length (to_goal es ways goal))
 
 -- to the goals of these ways
-abbrev pub AreFewFor : List Entry → List Led → List Led → Type 0
+abbrev pub AreFewFor : List Entry → List SourceWay → List SourceWay → Type 0
 AreFewFor es ways [] = Unit {0}
 AreFewFor es ways (w ∷ ws) = (length (to_goal es ways (goal_view w.goal)) ≤ greatest_paths) × AreFewFor es ways ws
 
@@ -82,13 +82,13 @@ pub record IsDeparture (globals : List GlobalVariable) (sites : List Site) (p : 
 -- tables -----------------------------------------------------------------------------------------------------------
 
 -- the moves of each way stand in the table
-abbrev pub AreLed : List Entry → List Led → Type 0
-AreLed es [] = Unit {0}
-AreLed es (w ∷ ws) = (w.place < length es) × AreLed es ws
+abbrev pub ArePlaced : List Entry → List SourceWay → Type 0
+ArePlaced es [] = Unit {0}
+ArePlaced es (w ∷ ws) = (w.place < length es) × ArePlaced es ws
 
 pub record IsSource (s : Source) : Type 0 where
   pub table : IsTable s.entries.items
-  pub led : AreLed s.entries.items s.ways.items
+  pub placed : ArePlaced s.entries.items s.ways.items
 
 -- these paths come behind the others
 pub record Adds (s t : Source) (paths : Goal → List (List Action)) : Type 0 where

@@ -7,7 +7,7 @@ use Rattle.lra_program.specs.Program.{Cond}
 use Rattle.lra_program.specs.Step.{Op, test}
 use Rattle.lra_operations.specs.Graph.{Exit, How, normal, jump, Node, empty, point, act}
 use Rattle.lra_operations.specs.Graph.{check, seq, choose, iterate, catch, leave}
-use Rattle.lra_paths.specs.Ways.{Goal, comes_to, denies, Way, Leg, Exodus, same_exit, through, enter, outs, inside}
+use Rattle.lra_paths.specs.Ways.{Goal, comes_to, denies, Way, Segment, Suffix, same_exit, through, enter, outs, inside}
 
 -- where a stretch ends: the tree is left so, or a goal is met
 pub data End : Type 0 where
@@ -63,20 +63,20 @@ joined x y = stretch x.source (x.ops ++ y.ops) y.end
 abbrev pub all_joined : List Stretch → List Stretch → List Stretch
 all_joined xs ys = flat_map (λ y. map (λ x. joined x y) xs) ys
 
-abbrev pub in_turn : List Stretch → List Stretch → List Stretch
-in_turn xs ys = others (leaving normal) xs ++
+abbrev pub sequenced : List Stretch → List Stretch → List Stretch
+sequenced xs ys = others (leaving normal) xs ++
     all_joined (those (leaving normal) xs) (those starting ys) ++ others starting ys
 
 -- behind a test, where it begins at the tree's start
-abbrev pub led_by : Op → Option ℕ → List Op → End → Stretch
-led_by op None ops e = stretch None (op ∷ ops) e
-led_by op (Some p) ops e = stretch (Some p) ops e
+abbrev pub prefixed_by : Op → Option ℕ → List Op → End → Stretch
+prefixed_by op None ops e = stretch None (op ∷ ops) e
+prefixed_by op (Some p) ops e = stretch (Some p) ops e
 
-abbrev pub led : Op → Stretch → Stretch
-led op s = led_by op s.source s.ops s.end
+abbrev pub prefixed : Op → Stretch → Stretch
+prefixed op s = prefixed_by op s.source s.ops s.end
 
 abbrev pub chosen : ℕ → Cond → List Stretch → List Stretch → List Stretch
-chosen base c xs ys = map (led (test base c true)) xs ++ map (led (test base c false)) ys
+chosen base c xs ys = map (prefixed (test base c true)) xs ++ map (prefixed (test base c false)) ys
 
 -- in a loop the body is entered from the loop's point, and its end is that point
 abbrev pub source_or : ℕ → Option ℕ → ℕ
@@ -89,7 +89,7 @@ back_to q (leaves (jump k)) = leaves (jump k)
 back_to q (meets goal) = meets goal
 
 abbrev pub turned : ℕ → Op → Stretch → Stretch
-turned q op s = stretch (Some (source_or q s.source)) (led op s).ops (back_to q s.end)
+turned q op s = stretch (Some (source_or q s.source)) (prefixed op s).ops (back_to q s.end)
 
 -- those of the body: into it, through it, out of it at its end, all others
 abbrev pub body_order : List Stretch → List Stretch
@@ -116,7 +116,7 @@ stretches (point q) = stretch None [] (meets (comes_to q)) ∷ stretch (Some q) 
 stretches (act q op) = stretch None (op ∷ []) (leaves normal) ∷ []
 stretches (check q base c) =
     stretch None (test base c true ∷ []) (leaves normal) ∷ stretch None (test base c false ∷ []) (meets (denies q)) ∷ []
-stretches (seq a b) = in_turn (stretches a) (stretches b)
+stretches (seq a b) = sequenced (stretches a) (stretches b)
 stretches (choose q base c a b) = chosen base c (stretches a) (stretches b)
 stretches (iterate q base c a) = looped q base c (stretches a)
 stretches (catch q k a) = caught k (stretches a)
@@ -129,14 +129,14 @@ abbrev pub ways_at : List Op → End → List Way
 ways_at ops (leaves k) = []
 ways_at ops (meets goal) = record { ops = ops; goal = goal } ∷ []
 
-abbrev pub exoduses : Option ℕ → List Op → List Exodus
-exoduses None ops = []
-exoduses (Some p) ops = record { source = p; ops = ops } ∷ []
+abbrev pub suffixes_at : Option ℕ → List Op → List Suffix
+suffixes_at None ops = []
+suffixes_at (Some p) ops = record { source = p; ops = ops } ∷ []
 
-abbrev pub legs_at : Option ℕ → List Op → End → List Leg
-legs_at None ops e = []
-legs_at (Some p) ops (leaves k) = []
-legs_at (Some p) ops (meets goal) = record { source = p; way = record { ops = ops; goal = goal } } ∷ []
+abbrev pub segments_at : Option ℕ → List Op → End → List Segment
+segments_at None ops e = []
+segments_at (Some p) ops (leaves k) = []
+segments_at (Some p) ops (meets goal) = record { source = p; way = record { ops = ops; goal = goal } } ∷ []
 
 -- a stretch as one of each kind of ways
 abbrev pub passed : How → Stretch → List (List Op)
@@ -145,11 +145,11 @@ passed h s = if starts s.source then (if leaves_so h s.end then s.ops ∷ [] els
 abbrev pub entered : Stretch → List Way
 entered s = if starts s.source then ways_at s.ops s.end else []
 
-abbrev pub gone : How → Stretch → List Exodus
-gone h s = if leaves_so h s.end then exoduses s.source s.ops else []
+abbrev pub gone : How → Stretch → List Suffix
+gone h s = if leaves_so h s.end then suffixes_at s.source s.ops else []
 
-abbrev pub met : Stretch → List Leg
-met s = legs_at s.source s.ops s.end
+abbrev pub met : Stretch → List Segment
+met s = segments_at s.source s.ops s.end
 
 -- the stretches are the tree's ways, each kind in its order
 pub record AreWays (ss : List Stretch) (g : Node) : Type 0 where

@@ -9,7 +9,7 @@ use Rattle.lra_domain.specs.declared.changes.Change.{Change}
 use Rattle.lra_domain.specs.Moves.{Moves, stay, make, first_then, join_of}
 use Rattle.lra_paths.specs.Tables.{moves_at, side_at}
 use Rattle.lra_paths.specs.declared.tables.Entry.{Entry}
-use Rattle.lra_paths.specs.declared.tables.Due.{Due}
+use Rattle.lra_paths.specs.declared.tables.PendingSide.{PendingSide}
 
 -- what is written
 abbrev pub all_done : List (Bor Change) → List Action
@@ -19,14 +19,14 @@ abbrev pub lists_done : List (Vec (Bor Change) Global) → List (List Action)
 lists_done lists = map (λ v. all_done v.items) lists
 
 -- what is due, the last of the list first
-abbrev pub side_due : List Entry → Due → List Action
-side_due es d = side_at (moves_at es d.place) d.number
+abbrev pub side_pending : List Entry → PendingSide → List Action
+side_pending es d = side_at (moves_at es d.place) d.number
 
-abbrev pub all_due : List Entry → List Due → List Action
-all_due es [] = []
-all_due es (d ∷ ds) = all_due es ds ++ side_due es d
+abbrev pub all_pending : List Entry → List PendingSide → List Action
+all_pending es [] = []
+all_pending es (d ∷ ds) = all_pending es ds ++ side_pending es d
 
-abbrev pub one_of : ℕ → ℕ → ℕ → ℕ → Due
+abbrev pub one_of : ℕ → ℕ → ℕ → ℕ → PendingSide
 one_of count one other n = if nat_lt n count then (record { place = one; number = n })
     else (record { place = other; number = n - count })
 
@@ -37,8 +37,8 @@ moves_size (make step) = 1
 moves_size (first_then a b) = 1 + (moves_size a + moves_size b)
 moves_size (join_of a b) = 1 + (moves_size a + moves_size b)
 
-abbrev pub due_size : List Entry → Due → ℕ
-due_size es d = moves_size (moves_at es d.place)
+abbrev pub pending_size : List Entry → PendingSide → ℕ
+pending_size es d = moves_size (moves_at es d.place)
 
-abbrev pub all_left : List Entry → List Due → ℕ
-all_left es ds = sum_by (due_size es) ds
+abbrev pub all_left : List Entry → List PendingSide → ℕ
+all_left es ds = sum_by (pending_size es) ds

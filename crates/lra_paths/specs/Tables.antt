@@ -1,11 +1,12 @@
 -- Moves in a table, each behind those of which it is made, so that what stands in several of them stands there once;
 -- and how many sides each has, counted no further than is asked.
-use Rattle.std.specs.Prelude.{◌≡◌, ◌<◌, ℕ, ◌-◌, ◌/◌, ◌%◌, min, nat_lt, if◌then◌else◌, List, [], ◌∷◌, ◌++◌, length}
+use Rattle.std.specs.Prelude.{◌≡◌, ◌<◌, ℕ, suc, ◌-◌, ◌/◌, ◌%◌, min, nat_lt, if◌then◌else◌, List, [], ◌∷◌, ◌++◌, length}
 use Rattle.std.specs.Prelude.{Option, Some, None, slice_get}
 use Rattle.lra_domain.specs.Actions.{Action}
 use Rattle.lra_domain.specs.Changes.{action_of}
 use Rattle.lra_domain.specs.Moves.{Moves, stay, make, first_then, join_of}
 use Rattle.lra_paths.specs.Sides.{sides}
+use Rattle.lra_paths.specs.Paths.{greatest_paths}
 use Rattle.lra_paths.specs.declared.tables.Entry.{Entry}
 use Rattle.lra_paths.specs.declared.tables.Shape.{Shape}
 use Rattle.lra_paths.specs.declared.tables.Shape.TheVariants.{Stay, Make, FirstThen, JoinOf}
@@ -17,7 +18,7 @@ count_of p = length (sides p)
 
 -- no further than to one more than the greatest number of paths
 abbrev pub capped : ℕ → ℕ
-capped n = min n 1025
+capped n = min n (suc greatest_paths)
 
 -- tables ------------------------------------------------------------------------------------------------------------
 

@@ -17,12 +17,12 @@ pub record Way : Type 0 where
   pub goal : Goal
 
 -- from the point of this number
-pub record Leg : Type 0 where
+pub record Segment : Type 0 where
   pub source : ℕ
   pub way : Way
 
 -- from the point of this number out of a tree
-pub record Exodus : Type 0 where
+pub record Suffix : Type 0 where
   pub source : ℕ
   pub ops : List Op
 
@@ -44,18 +44,18 @@ abbrev pub then_ways : List (List Op) → List Way → List Way
 then_ways xs ways = flat_map (λ way. map (then_way way) xs) ways
 
 -- out of the one tree, and then through another
-abbrev pub then_out : List Op → Exodus → Exodus
+abbrev pub then_out : List Op → Suffix → Suffix
 then_out y x = record x { ops = x.ops ++ y }
 
-abbrev pub then_outs : List Exodus → List (List Op) → List Exodus
+abbrev pub then_outs : List Suffix → List (List Op) → List Suffix
 then_outs xs ys = flat_map (λ y. map (then_out y) xs) ys
 
 -- out of the one tree, and then to a first point of another
-abbrev pub leg_by : Way → Exodus → Leg
-leg_by way x = record { source = x.source; way = then_way way x.ops }
+abbrev pub segment_by : Way → Suffix → Segment
+segment_by way x = record { source = x.source; way = then_way way x.ops }
 
-abbrev pub legs_by : List Exodus → List Way → List Leg
-legs_by xs ways = flat_map (λ way. map (leg_by way) xs) ways
+abbrev pub segments_by : List Suffix → List Way → List Segment
+segments_by xs ways = flat_map (λ way. map (segment_by way) xs) ways
 
 -- a test first
 abbrev pub tested : ℕ → Cond → Bool → List Op → List Op
@@ -65,15 +65,15 @@ abbrev pub tested_way : ℕ → Cond → Bool → Way → Way
 tested_way base c wanted way = record way { ops = tested base c wanted way.ops }
 
 -- from the loop's point into its body: to a first point of that, out of it, or back to the loop's point
-abbrev pub into_body : ℕ → ℕ → Cond → Way → Leg
+abbrev pub into_body : ℕ → ℕ → Cond → Way → Segment
 into_body q base c way = record { source = q; way = tested_way base c true way }
 
-abbrev pub out_of_body : ℕ → ℕ → Cond → List Op → Exodus
+abbrev pub out_of_body : ℕ → ℕ → Cond → List Op → Suffix
 out_of_body q base c x = record { source = q; ops = tested base c true x }
 
 -- on to a point
-abbrev pub leg_to : ℕ → Exodus → Leg
-leg_to q x = record { source = x.source; way = record { ops = x.ops; goal = comes_to q } }
+abbrev pub segment_to : ℕ → Suffix → Segment
+segment_to q x = record { source = x.source; way = record { ops = x.ops; goal = comes_to q } }
 
 -- through the tree past no point, left so
 abbrev pub through : Node → How → List (List Op)
@@ -107,7 +107,7 @@ enter (catch q k a) = enter a
 enter (leave n k) = []
 
 -- from the points of the tree out of it, left so
-abbrev pub outs : Node → How → List Exodus
+abbrev pub outs : Node → How → List Suffix
 outs empty h = []
 outs (point q) normal = record { source = q; ops = [] } ∷ []
 outs (point q) (jump j) = []
@@ -124,15 +124,16 @@ outs (catch q k a) (jump j) = if same_exit j k then [] else outs a (jump j)
 outs (leave n k) h = []
 
 -- from the points of the tree to the next ones
-abbrev pub inside : Node → List Leg
+abbrev pub inside : Node → List Segment
 inside empty = []
 inside (point q) = []
 inside (act q op) = []
 inside (check q base c) = []
-inside (seq a b) = inside a ++ legs_by (outs a normal) (enter b) ++ inside b
+inside (seq a b) = inside a ++ segments_by (outs a normal) (enter b) ++ inside b
 inside (choose q base c a b) = inside a ++ inside b
 inside (iterate q base c a) = map (into_body q base c) (enter a) ++
-    map (λ x. leg_to q (out_of_body q base c x)) (through a normal) ++ map (leg_to q) (outs a normal) ++ inside a
+    map (λ x. segment_to q (out_of_body q base c x)) (through a normal) ++ map (segment_to q) (outs a normal) ++
+    inside a
 inside (catch q k a) = inside a
 inside (leave n k) = []
 

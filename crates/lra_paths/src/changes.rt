@@ -19,9 +19,9 @@ ghost use Rattle.lra_paths.specs.WayMoves.{way_moves};
 ghost use Rattle.lra_program.specs.ProgramViews.{argument_view, cond_view, expr_view};
 
 use crate::conditions::{Frame, push_cases};
+use crate::guards::push_guards;
 use crate::stretches::Move;
 use crate::tables::{Entry, push_first_then, push_make, push_stay};
-use crate::weave::weave;
 use lra_base::NumberType;
 use lra_domain::Change;
 use lra_flow::Seen;
@@ -426,7 +426,7 @@ fn push_guard(
         (guard frame.live frame.base wanted (cond_view condition.now))) }
 {
     ensure_room(frame.live)?;
-    let both = weave(frame, condition, entries)?;
+    let both = push_guards(frame, condition, entries)?;
     Ok(if wanted { both.so } else { both.not })
 }
 

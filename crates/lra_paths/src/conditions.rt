@@ -217,7 +217,7 @@ fn push_comparison(
 }
 
 /// Both sides of a comparison.
-pub fn weave_comparison(
+pub fn push_comparison_guards(
     frame: Frame,
     op: Comparison,
     left: &Expr,
@@ -287,7 +287,11 @@ pub fn either_of(one: Both, other: Both, entries: &mut Vec<Entry>) -> Result<Bot
 }
 
 /// Both sides of `e != 0`.
-pub fn weave_nonzero(frame: Frame, e: &Expr, entries: &mut Vec<Entry>) -> Result<Both, AllocError>
+pub fn push_nonzero_guards(
+    frame: Frame,
+    e: &Expr,
+    entries: &mut Vec<Entry>,
+) -> Result<Both, AllocError>
     requires table { IsTable entries.old.items }
     requires few { frame.live < 2 ^ 62 - 2 }
     ensures table { OnOk result (IsTable entries.new.items) }
@@ -296,5 +300,5 @@ pub fn weave_nonzero(frame: Frame, e: &Expr, entries: &mut Vec<Entry>) -> Result
         (nonzero (expr_view e.now)) b) }
 {
     let zero = Expr::Literal(NumberType::Int, 0);
-    weave_comparison(frame, Comparison::Differs, e, &zero, entries)
+    push_comparison_guards(frame, Comparison::Differs, e, &zero, entries)
 }

@@ -1,8 +1,9 @@
 //! Laws: each of these does nothing, and its contract is the theorem.
 
 ghost use Rattle.lra_paths.specs.Covers.{AllPathsCover, WaysCover, WhatPathsKeepHolds};
+ghost use Rattle.lra_paths.specs.Denials.{DenialsAreOwn};
 ghost use Rattle.lra_paths.specs.FewPaths.{FewExcludeMany};
-ghost use Rattle.lra_paths.specs.Sides.{SidesExtend, SidesLead, WrittenLead};
+ghost use Rattle.lra_paths.specs.Sides.{SidesAreCases, SidesAreMade, SidesLead, WrittenLead};
 ghost use Rattle.lra_paths.specs.Stretches.{StretchesAreWays};
 
 /// What a run of a tree has done since the last point that it met goes along a way of the tree.
@@ -10,11 +11,17 @@ pub fn ways_cover()
     ensures { WaysCover }
 {}
 
-/// The sides of moves are what these make of a list of paths: an action ends each path, and a join has the paths of
-/// both its sides.
-#[tactic(auto, using(crate::proofs::SideSteps::sides_extend))]
-pub fn sides_extend()
-    ensures { SidesExtend }
+/// The sides of moves are what an iteration makes by these of a list of paths, where an action ends each path and a
+/// join has the paths of both its sides.
+#[tactic(auto, using(crate::proofs::SideSteps::sides_made))]
+pub fn sides_are_made()
+    ensures { SidesAreMade }
+{}
+
+/// The sides of moves are their cases: no other lists of actions, each as often, in another order.
+#[tactic(auto, using(crate::proofs::SideSteps::sides_are_cases))]
+pub fn sides_are_cases()
+    ensures { SidesAreCases }
 {}
 
 /// Moves may lead where one of their sides leads.
@@ -46,6 +53,12 @@ pub fn kept_in_runs()
 #[tactic(auto, using(crate::proofs::ManyPaths::not_both))]
 pub fn few_exclude_many()
     ensures { FewExcludeMany }
+{}
+
+/// Where the assertion at a point is false, no paths lead but those from that point.
+#[tactic(auto, using(crate::proofs::OwnDenials::denials_are_own))]
+pub fn denials_are_own()
+    ensures { DenialsAreOwn }
 {}
 
 /// The stretches of a tree, which are made in one list from its leaves up, are its ways, each kind in its order.

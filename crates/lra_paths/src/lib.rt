@@ -7,26 +7,27 @@
 
 mod changes;
 mod conditions;
+mod guards;
 mod laws;
 mod paths;
 mod sources;
 mod stretches;
 mod tables;
 mod trees;
-mod weave;
 
 pub use changes::{push_globals, push_way};
 pub use conditions::{
-    Both, Frame, both_of, either_of, push_cases, weave_comparison, weave_nonzero,
+    Both, Frame, both_of, either_of, push_cases, push_comparison_guards, push_nonzero_guards,
 };
 pub use laws::{
-    few_exclude_many, kept_in_runs, paths_cover, sides_extend, sides_lead, stretches_are_ways,
-    ways_cover, written_lead,
+    denials_are_own, few_exclude_many, kept_in_runs, paths_cover, sides_are_cases, sides_are_made,
+    sides_lead, stretches_are_ways, ways_cover, written_lead,
 };
 pub use paths::{Paths, PathsFailure, find_paths};
-pub use sources::{Led, Source};
+pub use sources::{Source, SourceWay};
 pub use stretches::{End, Goal, How, Move, Stretch};
 pub use tables::{
-    Entry, Shape, push_first_then, push_join, push_make, push_stay, sides_at, write_sides,
+    Entry, GREATEST_PATHS, Shape, push_first_then, push_join, push_make, push_stay, sides_at,
+    write_sides,
 };
 pub use trees::ways_of;

@@ -16,7 +16,7 @@ ghost use Rattle.lra_paths.specs.Ways as trees;
 ghost use Rattle.lra_paths.specs.declared.paths.PathsFailure.TheVariants.{TooMany};
 
 use crate::changes::{push_globals, push_way};
-use crate::sources::{Led, Source};
+use crate::sources::{Source, SourceWay};
 use crate::stretches::{End, Goal, Move, Stretch};
 use crate::tables::{Entry, push_first_then, push_stay};
 use crate::trees::ways_of;
@@ -73,7 +73,7 @@ fn is_same_point(one: Option<usize>, other: Option<usize>) -> bool
 // ways --------------------------------------------------------------------------------------------
 
 /// A way to the goal by these moves comes behind the others.
-fn push_led(
+fn push_source_way(
     alloc: Global,
     departure: Departure,
     goal: Goal,
@@ -88,7 +88,7 @@ fn push_led(
 {
     let way = push_way(alloc, departure.live, moves, &mut source.entries)?;
     let place = push_first_then(&mut source.entries, departure.before, way)?;
-    source.ways.push(Led { goal, place })?;
+    source.ways.push(SourceWay { goal, place })?;
     Ok(())
 }
 
@@ -107,7 +107,13 @@ fn push_meeting(
 {
     match stretch.end {
         End::Leaves(_) => Ok(()),
-        End::Meets(goal) => push_led(alloc, departure, goal, stretch.moves.as_slice(), source),
+        End::Meets(goal) => push_source_way(
+            alloc,
+            departure,
+            goal,
+            stretch.moves.as_slice(),
+            source,
+        ),
     }
 }
 
@@ -198,12 +204,12 @@ impl Paths<'_> {
     {
         let mut entries = Vec::new(alloc);
         let departure = self.depart(alloc, source, &mut entries)?;
-        let mut led = Source {
+        let mut found = Source {
             entries,
             ways: Vec::new(alloc),
         };
-        push_all_departing(alloc, departure, self.ways.as_slice(), &mut led)?;
-        Ok(led)
+        push_all_departing(alloc, departure, self.ways.as_slice(), &mut found)?;
+        Ok(found)
     }
 }
 
@@ -227,8 +233,8 @@ pub fn find_paths<'g>(
         ways: ways_of(alloc, &graph.tree)?,
     };
     'sources: for source in 0..=graph.sites.len() {
-        let led = paths.from(alloc, source)?;
-        if led.has_too_many() {
+        let found = paths.from(alloc, source)?;
+        if found.has_too_many() {
             return Err(PathsFailure::TooMany(source));
         }
     }

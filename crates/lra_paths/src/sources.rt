@@ -9,13 +9,13 @@ ghost use Rattle.lra_paths.specs.TableSides.{lists_done};
 ghost use Rattle.lra_paths.specs.Tables.{IsTable, capped, count_of, moves_at};
 
 use crate::stretches::Goal;
-use crate::tables::{Entry, add_capped, sides_at, write_sides};
+use crate::tables::{Entry, GREATEST_PATHS, add_capped, sides_at, write_sides};
 use lra_domain::Change;
 use std::alloc::{AllocError, Global};
 
 /// A way from the source: its goal, and where its moves stand in the source's table.
 #[derive(Clone, Copy)]
-pub struct Led {
+pub struct SourceWay {
     pub goal: Goal,
     pub place: usize,
 }
@@ -24,7 +24,7 @@ pub struct Led {
 #[derive(Drop)]
 pub struct Source {
     pub entries: Vec<Entry>,
-    pub ways: Vec<Led>,
+    pub ways: Vec<SourceWay>,
 }
 
 fn is_same_goal(one: Goal, other: Goal) -> bool
@@ -92,7 +92,7 @@ impl Source {
         ensures few { result ≡ false → AreFewTo self.now.entries.items self.now.ways.items }
     {
         'ways: for way in &self.ways {
-            if self.count_to(way.goal) > 1024 {
+            if self.count_to(way.goal) > GREATEST_PATHS {
                 return true;
             }
         }

@@ -211,13 +211,13 @@ fn join_parts<'g>(
 }
 
 /// The ways of one tree and then another.
-pub fn in_turn<'g>(
+pub fn sequence<'g>(
     alloc: Global,
     first: Vec<Stretch<'g>>,
     second: Vec<Stretch<'g>>,
 ) -> Result<Vec<Stretch<'g>>, AllocError>
     ensures { IfOk result (λ v. seen v.items ≡
-        ways.in_turn (seen first.entry.items) (seen second.entry.items)) }
+        ways.sequenced (seen first.entry.items) (seen second.entry.items)) }
 {
     let ones = part(alloc, first, Kind::Leaving(How::Normal))?;
     let twos = part(alloc, second, Kind::Starting)?;
@@ -227,9 +227,9 @@ pub fn in_turn<'g>(
 // choices -----------------------------------------------------------------------------------------
 
 /// Behind a move, where it begins at the tree's start.
-fn lead<'g>(first: Move<'g>, stretch: Stretch<'g>) -> Result<Stretch<'g>, AllocError>
+fn prefix<'g>(first: Move<'g>, stretch: Stretch<'g>) -> Result<Stretch<'g>, AllocError>
     ensures { IfOk result (λ s. stretch_view s ≡
-        ways.led (move_view first.entry) (stretch_view stretch.entry)) }
+        ways.prefixed (move_view first.entry) (stretch_view stretch.entry)) }
 {
     let Stretch {
         source,
@@ -246,17 +246,17 @@ fn lead<'g>(first: Move<'g>, stretch: Stretch<'g>) -> Result<Stretch<'g>, AllocE
 }
 
 /// Each behind a move, where it begins at the tree's start, behind all.
-fn push_led<'g>(
+fn push_prefixed<'g>(
     first: Move<'g>,
     stretches: Vec<Stretch<'g>>,
     all: &mut Vec<Stretch<'g>>,
 ) -> Result<(), AllocError>
     ensures { OnOk result (seen all.new.items ≡ seen all.old.items
-        ++ map (λ s. ways.led (move_view first.entry) s) (seen stretches.entry.items)) }
+        ++ map (λ s. ways.prefixed (move_view first.entry) s) (seen stretches.entry.items)) }
 {
     'each: for stretch in stretches {
-        let led = lead(first, stretch)?;
-        all.push(led)?;
+        let prefixed = prefix(first, stretch)?;
+        all.push(prefixed)?;
     }
     Ok(())
 }
@@ -274,8 +274,8 @@ pub fn choose<'g>(
         (seen on_false.entry.items)) }
 {
     let mut all = Vec::new(alloc);
-    push_led(Move::Test(base, condition, true), on_true, &mut all)?;
-    push_led(Move::Test(base, condition, false), on_false, &mut all)?;
+    push_prefixed(Move::Test(base, condition, true), on_true, &mut all)?;
+    push_prefixed(Move::Test(base, condition, false), on_false, &mut all)?;
     Ok(all)
 }
 
@@ -326,7 +326,7 @@ fn turn<'g>(point: usize, first: Move<'g>, stretch: Stretch<'g>) -> Result<Stret
     ensures { IfOk result (λ s. stretch_view s ≡
         ways.turned point (move_view first.entry) (stretch_view stretch.entry)) }
 {
-    let Stretch { source, moves, end } = lead(first, stretch)?;
+    let Stretch { source, moves, end } = prefix(first, stretch)?;
     Ok(Stretch {
         source: Some(source.unwrap_or(point)),
         moves,

@@ -5,10 +5,11 @@ ghost use Rattle.std.specs.Prelude.{[], ◌∷◌, ◌≡◌, ◌<◌, ◌≤◌
 ghost use Rattle.std.specs.Prelude.{IfOk, OnOk};
 ghost use Rattle.lra_domain.specs.Changes.{action_of};
 ghost use Rattle.lra_domain.specs.Moves.{stay, make, first_then, join_of};
+ghost use Rattle.lra_paths.specs.Paths.{greatest_paths};
 ghost use Rattle.lra_paths.specs.Sides.{sides};
 ghost use Rattle.lra_paths.specs.Tables.{all_moves, capped, count_of, made_of, moves_at, side_at};
-ghost use Rattle.lra_paths.specs.TableSides.{all_done, all_due, all_left, due_size, lists_done};
-ghost use Rattle.lra_paths.specs.TableSides.{one_of, side_due};
+ghost use Rattle.lra_paths.specs.TableSides.{all_done, all_pending, all_left, pending_size, lists_done};
+ghost use Rattle.lra_paths.specs.TableSides.{one_of, side_pending};
 ghost use Rattle.lra_paths.specs.Tables.{IsBehind, IsTable, Has, Grows};
 
 use lra_domain::Change;
@@ -34,7 +35,7 @@ impl Drop for Shape {
     }
 }
 
-/// Moves, and how many sides they have, counted no further than to 1,025.
+/// Moves, and how many sides they have, counted no further than to one more than the greatest number of paths.
 pub struct Entry {
     pub sides: usize,
     pub moves: Shape,
@@ -48,18 +49,21 @@ impl Drop for Entry {
 
 // counts ------------------------------------------------------------------------------------------
 
+/// No more paths than these may lead from one source to one goal.
+pub const GREATEST_PATHS: usize = 1024;
+
 /// So many sides, each with each of so many others.
 fn multiply_capped(one: usize, other: usize) -> usize
     ensures { result ≡ capped (one * other) }
 {
-    one.saturating_mul(other).min(1025)
+    one.saturating_mul(other).min(GREATEST_PATHS + 1)
 }
 
 /// So many sides, and then so many others.
 pub fn add_capped(one: usize, other: usize) -> usize
     ensures { result ≡ capped (one + other) }
 {
-    one.saturating_add(other).min(1025)
+    one.saturating_add(other).min(GREATEST_PATHS + 1)
 }
 
 /// How many sides the moves at the place have.
@@ -152,7 +156,7 @@ pub fn push_join(entries: &mut Vec<Entry>, one: usize, other: usize) -> Result<u
 
 /// A side that is still to be written: this one of the moves at the place.
 #[derive(Clone, Copy)]
-pub struct Due {
+pub struct PendingSide {
     pub place: usize,
     pub number: usize,
 }
@@ -160,16 +164,16 @@ pub struct Due {
 /// What is done first of a side comes behind what is written; the rest of it is due.
 fn write_next<'t>(
     entries: &'t [Entry],
-    due: Due,
-    left: &mut Vec<Due>,
+    due: PendingSide,
+    left: &mut Vec<PendingSide>,
     side: &mut Vec<&'t Change>,
 ) -> Result<(), AllocError>
     requires { IsTable entries.now }
-    ensures writes { OnOk result (all_done side.new.items ++ all_due entries.now left.new.items ≡
+    ensures writes { OnOk result (all_done side.new.items ++ all_pending entries.now left.new.items ≡
         all_done side.old.items ++
-        (side_due entries.now due ++ all_due entries.now left.old.items)) }
+        (side_pending entries.now due ++ all_pending entries.now left.old.items)) }
     ensures falls { OnOk result (all_left entries.now left.new.items <
-        all_left entries.now left.old.items + due_size entries.now due) }
+        all_left entries.now left.old.items + pending_size entries.now due) }
 {
     match entries.get(due.place) {
         None => Ok(()),
@@ -179,11 +183,11 @@ fn write_next<'t>(
             Shape::FirstThen(first, then) => {
                 let count = sides_at(entries, *first);
                 push_two(
-                    Due {
+                    PendingSide {
                         place: *then,
                         number: due.number / count,
                     },
-                    Due {
+                    PendingSide {
                         place: *first,
                         number: due.number % count,
                     },
@@ -210,7 +214,11 @@ fn push_change<'t>(change: &'t Change, side: &mut Vec<&'t Change>) -> Result<(),
 }
 
 /// Both are due, the second of them first.
-fn push_two(later: Due, sooner: Due, left: &mut Vec<Due>) -> Result<(), AllocError>
+fn push_two(
+    later: PendingSide,
+    sooner: PendingSide,
+    left: &mut Vec<PendingSide>,
+) -> Result<(), AllocError>
     ensures { OnOk result (left.new.items ≡ left.old.items ++ later ∷ sooner ∷ []) }
 {
     left.push(later)?;
@@ -224,14 +232,14 @@ fn push_one_of(
     one: usize,
     other: usize,
     number: usize,
-    left: &mut Vec<Due>,
+    left: &mut Vec<PendingSide>,
 ) -> Result<(), AllocError>
     ensures { OnOk result (left.new.items ≡ left.old.items ++ one_of count one other number ∷ []) }
 {
     let due = if number < count {
-        Due { place: one, number }
+        PendingSide { place: one, number }
     } else {
-        Due {
+        PendingSide {
             place: other,
             number: number - count,
         }
@@ -252,7 +260,7 @@ pub fn write_side<'t>(
 {
     let mut side = Vec::new(alloc);
     let mut left = Vec::new(alloc);
-    left.push(Due { place, number })?;
+    left.push(PendingSide { place, number })?;
     'left: while let Some(due) = left.pop() {
         write_next(entries, due, &mut left, &mut side)?;
     }
@@ -267,7 +275,7 @@ pub fn write_sides<'t>(
     all: &mut Vec<Vec<&'t Change>>,
 ) -> Result<(), AllocError>
     requires table { IsTable entries.now }
-    requires few { count_of (moves_at entries.now place) ≤ 1024 }
+    requires few { count_of (moves_at entries.now place) ≤ greatest_paths }
     ensures { OnOk result (lists_done all.new.items ≡
         lists_done all.old.items ++ sides (moves_at entries.now place)) }
 {

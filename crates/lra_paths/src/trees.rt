@@ -5,13 +5,14 @@ ghost use Rattle.std.specs.Prelude.{◌≡◌, ◌<◌, ◌+◌, [], ◌∷◌, 
 ghost use Rattle.lra_program.specs.ProgramViews.{cond_view};
 ghost use Rattle.lra_operations.specs.Graph as graph;
 ghost use Rattle.lra_operations.specs.GraphViews.{exit_view, node_view};
-ghost use Rattle.lra_paths.specs.Due.{all_left, below, due_size, effect, row_on, row_size, run, stack, steps_of, top};
+ghost use Rattle.lra_paths.specs.Tasks.{all_left, below, task_size, effect, row_on, row_size, run, stack, steps_of};
+ghost use Rattle.lra_paths.specs.Tasks.{top};
 ghost use Rattle.lra_paths.specs.Stretches as ways;
 ghost use Rattle.lra_paths.specs.Stretches.{AreWays, stretch, stretches};
 ghost use Rattle.lra_paths.specs.StretchViews.{end_view, move_view, seen};
 
 use crate::stretches::{
-    End, Goal, How, Move, Stretch, catch_jumps, choose, go_round, in_turn, push_short,
+    End, Goal, How, Move, Stretch, catch_jumps, choose, go_round, push_short, sequence,
 };
 use lra_operations::{Exit, Node};
 use lra_program::Cond;
@@ -19,13 +20,13 @@ use std::alloc::{AllocError, Global};
 
 /// What is still to be done with the ways that are there, of which the last are the newest.
 #[derive(Clone, Copy)]
-pub enum Due<'g> {
+pub enum Task<'g> {
     /// The ways of the tree come behind.
     Tree(&'g Node),
     /// These trees stand before that of the last ways.
     Row(&'g [Node]),
     /// The tree of the last ways stands before that of those before them.
-    InTurn,
+    Sequence,
     /// The last ways are those where the condition is true, those before them where it is false.
     Choice(usize, &'g Cond),
     /// The last ways are those of the body of a loop with this point.
@@ -116,12 +117,12 @@ fn put_check<'g>(
 }
 
 fn join_last<'g>(alloc: Global, done: &mut Vec<Vec<Stretch<'g>>>) -> Result<(), AllocError>
-    ensures { OnOk result (stack done.new.items ≡ ways.in_turn (top (stack done.old.items))
+    ensures { OnOk result (stack done.new.items ≡ ways.sequenced (top (stack done.old.items))
         (top (below (stack done.old.items))) ∷ below (below (stack done.old.items))) }
 {
     let first = take_last(alloc, done);
     let second = take_last(alloc, done);
-    let whole = in_turn(alloc, first, second)?;
+    let whole = sequence(alloc, first, second)?;
     put_last(done, whole)
 }
 
@@ -174,29 +175,33 @@ fn catch_last<'g>(
 // what is due -------------------------------------------------------------------------------------
 
 /// This is due before the others.
-fn push_due<'g>(left: &mut Vec<Due<'g>>, due: Due<'g>) -> Result<(), AllocError>
+fn push_task<'g>(left: &mut Vec<Task<'g>>, due: Task<'g>) -> Result<(), AllocError>
     ensures runs { OnOk result ((s : List (List ways.Stretch)) → run left.new.items s ≡
         run left.old.items (effect due.entry s)) }
     ensures size { OnOk result (all_left left.new.items ≡
-        all_left left.old.items + due_size due.entry) }
+        all_left left.old.items + task_size due.entry) }
 {
     left.push(due)?;
     Ok(())
 }
 
 /// The tree, and then this, are due before the others.
-fn push_both<'g>(left: &mut Vec<Due<'g>>, first: &'g Node, then: Due<'g>) -> Result<(), AllocError>
+fn push_both<'g>(
+    left: &mut Vec<Task<'g>>,
+    first: &'g Node,
+    then: Task<'g>,
+) -> Result<(), AllocError>
     ensures runs { OnOk result ((s : List (List ways.Stretch)) → run left.new.items s ≡
         run left.old.items (effect then.entry (stretches (node_view first.now) ∷ s))) }
     ensures size { OnOk result (all_left left.new.items ≡
-        all_left left.old.items + due_size then.entry + steps_of first.now) }
+        all_left left.old.items + task_size then.entry + steps_of first.now) }
 {
-    push_due(left, then)?;
-    push_due(left, Due::Tree(first))
+    push_task(left, then)?;
+    push_task(left, Task::Tree(first))
 }
 
 /// The trees in a row, the last of them first: each stands before those behind it.
-fn open_row<'g>(trees: &'g [Node], left: &mut Vec<Due<'g>>) -> Result<(), AllocError>
+fn open_row<'g>(trees: &'g [Node], left: &mut Vec<Task<'g>>) -> Result<(), AllocError>
     ensures runs { OnOk result ((s : List (List ways.Stretch)) →
         run left.new.items s ≡ run left.old.items (row_on (map node_view trees.now) s)) }
     ensures falls { OnOk result (all_left left.new.items <
@@ -205,9 +210,9 @@ fn open_row<'g>(trees: &'g [Node], left: &mut Vec<Due<'g>>) -> Result<(), AllocE
     match trees.split_last() {
         None => Ok(()),
         Some((last, before)) => {
-            push_due(left, Due::Row(before))?;
-            push_due(left, Due::InTurn)?;
-            push_due(left, Due::Tree(last))
+            push_task(left, Task::Row(before))?;
+            push_task(left, Task::Sequence)?;
+            push_task(left, Task::Tree(last))
         }
     }
 }
@@ -218,7 +223,7 @@ fn open_choice<'g>(
     condition: &'g Cond,
     on_true: &'g Node,
     on_false: &'g Node,
-    left: &mut Vec<Due<'g>>,
+    left: &mut Vec<Task<'g>>,
 ) -> Result<(), AllocError>
     ensures runs { OnOk result ((s : List (List ways.Stretch)) → run left.new.items s ≡
         run left.old.items (ways.chosen base (cond_view condition.now)
@@ -226,8 +231,8 @@ fn open_choice<'g>(
     ensures size { OnOk result (all_left left.new.items ≡
         all_left left.old.items + (1 + steps_of on_true.now + steps_of on_false.now)) }
 {
-    push_both(left, on_true, Due::Choice(base, condition))?;
-    push_due(left, Due::Tree(on_false))
+    push_both(left, on_true, Task::Choice(base, condition))?;
+    push_task(left, Task::Tree(on_false))
 }
 
 /// The ways of a tree with no tree in it come last.
@@ -259,7 +264,7 @@ fn put_leaf<'g>(
 fn open_node<'g>(
     alloc: Global,
     node: &'g Node,
-    left: &mut Vec<Due<'g>>,
+    left: &mut Vec<Task<'g>>,
     done: &mut Vec<Vec<Stretch<'g>>>,
 ) -> Result<(), AllocError>
     ensures runs { OnOk result (run left.new.items (stack done.new.items)
@@ -268,14 +273,14 @@ fn open_node<'g>(
         all_left left.old.items + steps_of node.now) }
 {
     match node {
-        Node::Seq(trees, last) => push_both(left, last, Due::Row(trees.as_slice())),
+        Node::Seq(trees, last) => push_both(left, last, Task::Row(trees.as_slice())),
         Node::Choose(_, base, condition, on_true, on_false) => {
             open_choice(*base, condition, on_true, on_false, left)
         }
         Node::Iterate(point, base, condition, body) => {
-            push_both(left, body, Due::Round(*point, *base, condition))
+            push_both(left, body, Task::Round(*point, *base, condition))
         }
-        Node::Catch(_, exit, body) => push_both(left, body, Due::Catch(*exit)),
+        Node::Catch(_, exit, body) => push_both(left, body, Task::Catch(*exit)),
         _ => put_leaf(alloc, node, done),
     }
 }
@@ -283,22 +288,22 @@ fn open_node<'g>(
 /// One step.
 fn do_next<'g>(
     alloc: Global,
-    due: Due<'g>,
-    left: &mut Vec<Due<'g>>,
+    due: Task<'g>,
+    left: &mut Vec<Task<'g>>,
     done: &mut Vec<Vec<Stretch<'g>>>,
 ) -> Result<(), AllocError>
     ensures runs { OnOk result (run left.new.items (stack done.new.items)
         ≡ run left.old.items (effect due.entry (stack done.old.items))) }
     ensures falls { OnOk result (all_left left.new.items <
-        all_left left.old.items + due_size due.entry) }
+        all_left left.old.items + task_size due.entry) }
 {
     match due {
-        Due::Tree(node) => open_node(alloc, node, left, done),
-        Due::Row(trees) => open_row(trees, left),
-        Due::InTurn => join_last(alloc, done),
-        Due::Choice(base, condition) => choose_last(alloc, base, condition, done),
-        Due::Round(point, base, condition) => go_round_last(alloc, point, base, condition, done),
-        Due::Catch(exit) => catch_last(alloc, exit, done),
+        Task::Tree(node) => open_node(alloc, node, left, done),
+        Task::Row(trees) => open_row(trees, left),
+        Task::Sequence => join_last(alloc, done),
+        Task::Choice(base, condition) => choose_last(alloc, base, condition, done),
+        Task::Round(point, base, condition) => go_round_last(alloc, point, base, condition, done),
+        Task::Catch(exit) => catch_last(alloc, exit, done),
     }
 }
 
@@ -308,7 +313,7 @@ pub fn ways_of<'g>(alloc: Global, node: &'g Node) -> Result<Vec<Stretch<'g>>, Al
     ensures ways { IfOk result (λ v. AreWays (seen v.items) (node_view node.now)) }
 {
     let mut left = Vec::new(alloc);
-    left.push(Due::Tree(node))?;
+    left.push(Task::Tree(node))?;
     let mut done = Vec::new(alloc);
     'trees: while let Some(due) = left.pop() {
         do_next(alloc, due, &mut left, &mut done)?;

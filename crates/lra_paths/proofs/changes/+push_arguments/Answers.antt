@@ -1,7 +1,7 @@
 -- Goals of `push_arguments`: the first argument, and the others behind it.
 use Rattle.std.proofs.Common.{rules, ◌≡◌, ◌∷◌}
 use Rattle.lra_paths.proofs.TableSteps.{within}
-use Rattle.lra_paths.proofs.WeaveSteps.{both_has}
+use Rattle.lra_paths.proofs.GuardSteps.{both_has}
 use Rattle.lra_paths.proofs.changes.+push_arguments.Goals as goal
 
 pub push_first_then-requires-clause-first : goal.push_first_then-requires-clause-first

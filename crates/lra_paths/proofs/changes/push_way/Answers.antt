@@ -1,7 +1,7 @@
 -- Goals of `push_way`: what is done so far, and then one more.
 use Rattle.std.proofs.Common.{◌≤◌, length, arith}
 use Rattle.lra_paths.proofs.TableSteps.{within}
-use Rattle.lra_paths.proofs.WeaveSteps.{grows_on}
+use Rattle.lra_paths.proofs.GuardSteps.{grows_on}
 use Rattle.lra_paths.proofs.WayMoveSteps.{alive_on, way_more, way_whole}
 use Rattle.lra_paths.proofs.changes.push_way.Goals as goal
 

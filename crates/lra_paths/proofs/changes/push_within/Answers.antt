@@ -1,7 +1,7 @@
 -- Goals of `push_within`: the moves stay where they are.
 use Rattle.lra_paths.proofs.TableSteps.{within}
 use Rattle.lra_paths.specs.Tables.{moves_at}
-use Rattle.lra_paths.proofs.WeaveSteps.{both_has, still_in, there_at}
+use Rattle.lra_paths.proofs.GuardSteps.{both_has, still_in, there_at}
 use Rattle.lra_paths.proofs.changes.push_within.Goals as goal
 
 pub push_first_then-requires-clause-first : goal.push_first_then-requires-clause-first

@@ -3,7 +3,7 @@ use Rattle.std.proofs.Common.{◌∙◌, ap, Some}
 use Rattle.lra_domain.specs.Moves.{first_then}
 use Rattle.lra_paths.specs.Tables.{moves_at}
 use Rattle.lra_paths.proofs.TableSteps.{within}
-use Rattle.lra_paths.proofs.WeaveSteps.{grows_on, still_at, still_in, there_at, join_has}
+use Rattle.lra_paths.proofs.GuardSteps.{grows_on, still_at, still_in, there_at, join_has}
 use Rattle.lra_paths.proofs.conditions.both_of.Goals as goal
 
 pub push_first_then-requires-2-clause-first : goal.push_first_then-requires-2-clause-first

@@ -2,7 +2,7 @@
 use Rattle.lra_domain.specs.Changes.{actions_of}
 use Rattle.lra_flow.specs.MovesOf.{in_turn}
 use Rattle.lra_paths.proofs.TableSteps.{within}
-use Rattle.lra_paths.proofs.WeaveSteps.{still_in, case_has}
+use Rattle.lra_paths.proofs.GuardSteps.{still_in, case_has}
 use Rattle.lra_paths.proofs.conditions.push_case.Goals as goal
 
 pub push_first_then-requires-clause-first : goal.push_first_then-requires-clause-first

@@ -5,7 +5,7 @@ use Rattle.lra_domain.specs.Moves.{make, first_then}
 use Rattle.lra_flow.specs.MovesOf.{first_case, in_turn, second_case}
 use Rattle.lra_paths.specs.Tables.{moves_at}
 use Rattle.lra_paths.proofs.TableSteps.{within}
-use Rattle.lra_paths.proofs.WeaveSteps.{cases_have, grows_on, grows_to}
+use Rattle.lra_paths.proofs.GuardSteps.{cases_have, grows_on, grows_to}
 use Rattle.lra_paths.proofs.conditions.push_cases.Goals as goal
 
 pub push_case-requires-clause-end : goal.push_case-requires-clause-end

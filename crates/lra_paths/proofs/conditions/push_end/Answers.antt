@@ -3,7 +3,7 @@ use Rattle.lra_domain.specs.Actions.{remove_last}
 use Rattle.lra_domain.specs.Changes.{action_of}
 use Rattle.lra_domain.specs.Moves.{make}
 use Rattle.lra_paths.proofs.TableSteps.{within}
-use Rattle.lra_paths.proofs.WeaveSteps.{both_has, grows_to, grows_on}
+use Rattle.lra_paths.proofs.GuardSteps.{both_has, grows_to, grows_on}
 use Rattle.lra_paths.proofs.conditions.push_end.Goals as goal
 
 pub push_first_then-requires-clause-first : goal.push_first_then-requires-clause-first

@@ -2,7 +2,7 @@
 use Rattle.lra_domain.specs.Changes.{action_of, actions_of}
 use Rattle.lra_domain.specs.Moves.{make}
 use Rattle.lra_paths.proofs.TableSteps.{within}
-use Rattle.lra_paths.proofs.WeaveSteps.{turned_in}
+use Rattle.lra_paths.proofs.GuardSteps.{turned_in}
 use Rattle.lra_paths.proofs.conditions.push_in_turn.Goals as goal
 
 pub push_first_then-requires-clause-first : goal.push_first_then-requires-clause-first

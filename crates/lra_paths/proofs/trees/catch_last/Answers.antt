@@ -1,9 +1,9 @@
 -- The goal of `catch_last`: jumps come out behind the last.
 use Rattle.lra_operations.specs.GraphViews.{exit_view}
-use Rattle.lra_paths.specs.Due.{stack}
+use Rattle.lra_paths.specs.Tasks.{stack}
 use Rattle.lra_paths.specs.Stretches.{caught}
 use Rattle.lra_paths.specs.StretchViews.{seen}
-use Rattle.lra_paths.proofs.DueSteps.{one_used}
+use Rattle.lra_paths.proofs.TaskSteps.{one_used}
 use Rattle.lra_paths.proofs.trees.catch_last.Goals as goal
 
 pub returns : goal.returns

@@ -1,9 +1,9 @@
 -- The goal of `choose_last`: the last two are the branches of a choice.
 use Rattle.lra_program.specs.ProgramViews.{cond_view}
-use Rattle.lra_paths.specs.Due.{stack}
+use Rattle.lra_paths.specs.Tasks.{stack}
 use Rattle.lra_paths.specs.Stretches.{chosen}
 use Rattle.lra_paths.specs.StretchViews.{seen}
-use Rattle.lra_paths.proofs.DueSteps.{two_used}
+use Rattle.lra_paths.proofs.TaskSteps.{two_used}
 use Rattle.lra_paths.proofs.trees.choose_last.Goals as goal
 
 pub returns : goal.returns

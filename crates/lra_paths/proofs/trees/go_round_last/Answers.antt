@@ -1,9 +1,9 @@
 -- The goal of `go_round_last`: the last is the body of a loop.
 use Rattle.lra_program.specs.ProgramViews.{cond_view}
-use Rattle.lra_paths.specs.Due.{stack}
+use Rattle.lra_paths.specs.Tasks.{stack}
 use Rattle.lra_paths.specs.Stretches.{looped}
 use Rattle.lra_paths.specs.StretchViews.{seen}
-use Rattle.lra_paths.proofs.DueSteps.{one_used}
+use Rattle.lra_paths.proofs.TaskSteps.{one_used}
 use Rattle.lra_paths.proofs.trees.go_round_last.Goals as goal
 
 pub returns : goal.returns

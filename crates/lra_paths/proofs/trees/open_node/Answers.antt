@@ -1,6 +1,6 @@
 -- Goals of `open_node`: a row's last tree, and then those before it, are due; all but four have no tree in them.
-use Rattle.lra_paths.specs.Due.{stack}
-use Rattle.lra_paths.proofs.DueSteps.{leaf_falls, rest_is_leaf, seq_runs}
+use Rattle.lra_paths.specs.Tasks.{stack}
+use Rattle.lra_paths.proofs.TaskSteps.{leaf_falls, rest_is_leaf, seq_runs}
 use Rattle.lra_paths.proofs.trees.open_node.Goals as goal
 
 pub returns-in-Seq-clause-runs : goal.returns-in-Seq-clause-runs

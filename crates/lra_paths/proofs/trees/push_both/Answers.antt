@@ -1,10 +1,10 @@
 -- The goal of `push_both`: the tree, and then this, are due.
 use Rattle.lra_operations.specs.GraphViews.{node_view}
-use Rattle.lra_paths.specs.Due.{effect}
+use Rattle.lra_paths.specs.Tasks.{effect}
 use Rattle.lra_paths.specs.Stretches.{stretches}
-use Rattle.lra_paths.proofs.DueSteps.{both_run}
+use Rattle.lra_paths.proofs.TaskSteps.{both_run}
 use Rattle.lra_paths.proofs.trees.push_both.Goals as goal
 
 pub returns-clause-runs : goal.returns-clause-runs
-returns-clause-runs c = both_run c.push_due-2.result c.args.left.now.items c.push_due.new.left.items c.push_due-2.new.left.items (effect c.args.then)
-    (stretches (node_view c.args.first.now)) c.in_ok-push_due.ensures.runs c.push_due-2.ensures.runs
+returns-clause-runs c = both_run c.push_task-2.result c.args.left.now.items c.push_task.new.left.items c.push_task-2.new.left.items (effect c.args.then)
+    (stretches (node_view c.args.first.now)) c.in_ok-push_task.ensures.runs c.push_task-2.ensures.runs

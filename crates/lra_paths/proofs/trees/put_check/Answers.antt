@@ -1,7 +1,7 @@
 -- The goal of `put_check`: a tree with two ways.
-use Rattle.lra_paths.specs.Due.{stack}
+use Rattle.lra_paths.specs.Tasks.{stack}
 use Rattle.lra_paths.specs.StretchViews.{seen}
-use Rattle.lra_paths.proofs.DueSteps.{first_put, second_put, put_as}
+use Rattle.lra_paths.proofs.TaskSteps.{first_put, second_put, put_as}
 use Rattle.lra_paths.proofs.trees.put_check.Goals as goal
 
 pub returns : goal.returns

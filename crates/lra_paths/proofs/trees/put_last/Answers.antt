@@ -1,5 +1,5 @@
 -- The goal of `put_last`: these ways come last.
-use Rattle.lra_paths.proofs.DueSteps.{stack_push}
+use Rattle.lra_paths.proofs.TaskSteps.{stack_push}
 use Rattle.lra_paths.proofs.trees.put_last.Goals as goal
 
 pub returns : goal.returns

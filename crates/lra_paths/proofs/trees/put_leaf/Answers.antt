@@ -1,5 +1,5 @@
 -- Goals of `put_leaf`: there is no other tree with one step.
-use Rattle.lra_paths.proofs.DueSteps.{no_leaf}
+use Rattle.lra_paths.proofs.TaskSteps.{no_leaf}
 use Rattle.lra_paths.proofs.trees.put_leaf.Goals as goal
 
 pub unreachable-requires : goal.unreachable-requires

@@ -1,7 +1,7 @@
 -- The goal of `put_short`: a tree with one way.
-use Rattle.lra_paths.specs.Due.{stack}
+use Rattle.lra_paths.specs.Tasks.{stack}
 use Rattle.lra_paths.specs.StretchViews.{seen}
-use Rattle.lra_paths.proofs.DueSteps.{first_put, put_as}
+use Rattle.lra_paths.proofs.TaskSteps.{first_put, put_as}
 use Rattle.lra_paths.proofs.trees.put_short.Goals as goal
 
 pub returns : goal.returns

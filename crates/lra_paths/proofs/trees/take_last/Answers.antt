@@ -1,6 +1,6 @@
 -- Goals of `take_last`: the last ways, or none.
 use Rattle.std.proofs.Common.{◌∙◌, sym}
-use Rattle.lra_paths.proofs.DueSteps.{top_of, below_of, top_of_none, below_of_none}
+use Rattle.lra_paths.proofs.TaskSteps.{top_of, below_of, top_of_none, below_of_none}
 use Rattle.lra_paths.proofs.trees.take_last.Goals as goal
 
 pub returns-in-Some-clause-top : goal.returns-in-Some-clause-top

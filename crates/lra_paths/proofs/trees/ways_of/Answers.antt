@@ -1,9 +1,9 @@
 -- Goals of `ways_of`: the ways of a tree, along a list of what is due.
 use Rattle.std.proofs.Common.{◌∙◌, refl, sym}
 use Rattle.lra_operations.specs.GraphViews.{node_view}
-use Rattle.lra_paths.specs.Due.{stack}
+use Rattle.lra_paths.specs.Tasks.{stack}
 use Rattle.lra_paths.specs.Stretches.{stretches}
-use Rattle.lra_paths.proofs.DueSteps.{run_first, run_last, step_falls, step_runs, ways_made}
+use Rattle.lra_paths.proofs.TaskSteps.{run_first, run_last, step_falls, step_runs, ways_made}
 use Rattle.lra_paths.proofs.trees.ways_of.Goals as goal
 
 pub trees-init : goal.trees-init

@@ -1,6 +1,6 @@
 use Rattle.std.proofs.Common.{◌≡◌, [], ◌∷◌}
 use Rattle.lra_operations.specs.GraphViews.{node_view}
-use Rattle.lra_paths.specs.Due.{all_left, run, stack}
+use Rattle.lra_paths.specs.Tasks.{all_left, run, stack}
 use Rattle.lra_paths.specs.Stretches.{stretches}
 use Rattle.lra_paths.proofs.trees.ways_of.Given as goal
 

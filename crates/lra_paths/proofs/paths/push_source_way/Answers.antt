@@ -1,11 +1,11 @@
--- Goals of `push_led`: what is done before stands where it was, and the way's moves stand behind all others.
+-- Goals of `push_source_way`: what is done before stands where it was, and the way's moves stand behind all others.
 use Rattle.std.proofs.Common.{map}
 use Rattle.lra_paths.specs.StretchViews.{move_view}
 use Rattle.lra_paths.specs.WayMoves.{way_moves}
 use Rattle.lra_paths.proofs.TableSteps.{within}
-use Rattle.lra_paths.proofs.WeaveSteps.{still_in}
+use Rattle.lra_paths.proofs.GuardSteps.{still_in}
 use Rattle.lra_paths.proofs.DepartureSteps.{adds_one}
-use Rattle.lra_paths.proofs.paths.push_led.Goals as goal
+use Rattle.lra_paths.proofs.paths.push_source_way.Goals as goal
 
 pub push_first_then-requires-clause-first : goal.push_first_then-requires-clause-first
 push_first_then-requires-clause-first c = still_in c.args.source.now.entries.items c.push_way.new.entries.items c.in_ok-way.ensures.grows

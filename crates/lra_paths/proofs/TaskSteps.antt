@@ -15,12 +15,12 @@ use Rattle.lra_operations.specs.declared.graph.Op as declared_op
 use Rattle.lra_operations.specs.declared.graph.Node.{the_lemmas as node_lemmas, Node-F, out-Node, roll-Node, roll-out-Node}
 use Rattle.lra_operations.specs.declared.graph.Node.TheVariants as at
 use Rattle.lra_forms.proofs.TreeViews.{seq_view}
-use Rattle.lra_paths.specs.Stretches.{AreWays, Stretch, in_turn, stretches}
+use Rattle.lra_paths.specs.Stretches.{AreWays, Stretch, sequenced, stretches}
 use Rattle.lra_paths.proofs.StretchSteps.{are_ways}
 use Rattle.lra_paths.specs.StretchViews.{seen}
 use Rattle.lra_paths.specs.declared.stretches.Stretch as declared_stretch
-use Rattle.lra_paths.specs.declared.trees.Due.{Due}
-use Rattle.lra_paths.specs.Due.{stack_on, stack, top, below, row_on, effect, run, steps_in_row, steps_of, due_size, all_left}
+use Rattle.lra_paths.specs.declared.trees.Task.{Task}
+use Rattle.lra_paths.specs.Tasks.{stack_on, stack, top, below, row_on, effect, run, steps_in_row, steps_of, task_size, all_left}
 
 abbrev V : Type 0
 V = Vec declared_stretch.Stretch Global
@@ -51,38 +51,38 @@ below_of_none vs ws e f =
 
 -- what is due --------------------------------------------------------------------------------------------------------------
 
-run_more : (ds : List Due) (d : Due) (s : List (List Stretch)) → run (ds ++ d ∷ []) s ≡ run ds (effect d s)
+run_more : (ds : List Task) (d : Task) (s : List (List Stretch)) → run (ds ++ d ∷ []) s ≡ run ds (effect d s)
 run_more [] d s = refl
 run_more (e ∷ ds) d s = ap (effect e) (run_more ds d s)
 
-pub run_push : (ds es : List Due) (d : Due) → es ≡ ds ++ d ∷ [] → (s : List (List Stretch)) → run es s ≡ run ds (effect d s)
+pub run_push : (ds es : List Task) (d : Task) → es ≡ ds ++ d ∷ [] → (s : List (List Stretch)) → run es s ≡ run ds (effect d s)
 run_push ds es d e s = ap (λ u. run u s) e ∙ run_more ds d s
 
 -- rows -----------------------------------------------------------------------------------------------------------------------
 
-row_more : (gs : List Node) (g : Node) (s : List (List Stretch)) → row_on (gs ++ g ∷ []) s ≡ row_on gs (in_turn (stretches g) (top s) ∷ below s)
+row_more : (gs : List Node) (g : Node) (s : List (List Stretch)) → row_on (gs ++ g ∷ []) s ≡ row_on gs (sequenced (stretches g) (top s) ∷ below s)
 row_more [] g s = refl
-row_more (h ∷ gs) g s = ap (λ u. in_turn (stretches h) (top u) ∷ below u) (row_more gs g s)
+row_more (h ∷ gs) g s = ap (λ u. sequenced (stretches h) (top u) ∷ below u) (row_more gs g s)
 
 pub row_made : (gs : List Node) (h : Node) (s : List (List Stretch)) → row_on gs (stretches h ∷ s) ≡ stretches (row gs h) ∷ s
 row_made [] h s = refl
-row_made (g ∷ gs) h s = ap (λ u. in_turn (stretches g) (top u) ∷ below u) (row_made gs h s)
+row_made (g ∷ gs) h s = ap (λ u. sequenced (stretches g) (top u) ∷ below u) (row_made gs h s)
 
 -- the last tree of a row stands before what is there
 pub row_opened : (gs hs : List declared.Node) (g : declared.Node) (s : List (List Stretch)) → gs ≡ hs ++ g ∷ []
-    → row_on (map node_view gs) s ≡ row_on (map node_view hs) (in_turn (stretches (node_view g)) (top s) ∷ below s)
+    → row_on (map node_view gs) s ≡ row_on (map node_view hs) (sequenced (stretches (node_view g)) (top s) ∷ below s)
 row_opened gs hs g s e = ap (λ u. row_on u s) (ap (map node_view) e ∙ map-append node_view hs (g ∷ [])) ∙ row_more (map node_view hs) (node_view g) s
 
 -- three are due in place of a row
-pub row_runs : {T E : Type 0} (r : outcome.Result T E) (ds es fs gs : List Due) (trees before : List declared.Node) (last : declared.Node) → trees ≡ before ++
+pub row_runs : {T E : Type 0} (r : outcome.Result T E) (ds es fs gs : List Task) (trees before : List declared.Node) (last : declared.Node) → trees ≡ before ++
     last ∷ []
     → ((s : List (List Stretch)) → run es s ≡ run ds (row_on (map node_view before) s))
-    → ((s : List (List Stretch)) → run fs s ≡ run es (in_turn (top s) (top (below s)) ∷ below (below s)))
+    → ((s : List (List Stretch)) → run fs s ≡ run es (sequenced (top s) (top (below s)) ∷ below (below s)))
     → OnOk r ((s : List (List Stretch)) → run gs s ≡ run fs (stretches (node_view last) ∷ s))
     → OnOk r ((s : List (List Stretch)) → run gs s ≡ run ds (row_on (map node_view trees) s))
 row_runs (outcome.Ok v) ds es fs gs trees before last is h k i = λ s.
     let w = stretches (node_view last) in
-    i s ∙ k (w ∷ s) ∙ h (in_turn w (top s) ∷ below s) ∙ ap (run ds) (sym (row_opened trees before last s is))
+    i s ∙ k (w ∷ s) ∙ h (sequenced w (top s) ∷ below s) ∙ ap (run ds) (sym (row_opened trees before last s is))
 row_runs (outcome.Err e) ds es fs gs trees before last is h k i = tt
 
 -- steps ------------------------------------------------------------------------------------------------------------------------
@@ -159,21 +159,21 @@ module _ (n : declared.Node) (leaf : steps_of n ≡ 1) (no_empty : n ≡ at.Empt
   pub no_leaf : ⊥
   no_leaf = opened_is_none (out-Node n) (sym (roll-out-Node n))
 
-pub leaf_falls : {T E : Type 0} (r : outcome.Result T E) (n : declared.Node) (ds : List Due) → steps_of n ≡ 1 → OnOk r (all_left ds < all_left ds + steps_of n)
+pub leaf_falls : {T E : Type 0} (r : outcome.Result T E) (n : declared.Node) (ds : List Task) → steps_of n ≡ 1 → OnOk r (all_left ds < all_left ds + steps_of n)
 leaf_falls (outcome.Ok v) n ds leaf = omega (arith, leaf)
 leaf_falls (outcome.Err e) n ds leaf = tt
 
 -- trees with trees in them -------------------------------------------------------------------------------------------------------
 
 -- the tree, and then this
-pub both_run : {T E : Type 0} (r : outcome.Result T E) (ds es fs : List Due) (f : List (List Stretch) → List (List Stretch)) (w : List Stretch)
+pub both_run : {T E : Type 0} (r : outcome.Result T E) (ds es fs : List Task) (f : List (List Stretch) → List (List Stretch)) (w : List Stretch)
     → ((u : List (List Stretch)) → run es u ≡ run ds (f u)) → OnOk r ((u : List (List Stretch)) → run fs u ≡ run es (w ∷ u))
     → OnOk r ((u : List (List Stretch)) → run fs u ≡ run ds (f (w ∷ u)))
 both_run (outcome.Ok v) ds es fs f w h k = λ u. k u ∙ h (w ∷ u)
 both_run (outcome.Err e) ds es fs f w h k = tt
 
 -- a row's last tree, and then the others
-pub seq_runs : {T E : Type 0} (r : outcome.Result T E) (n : declared.Node) (ds fs : List Due) (s : List (List Stretch)) (gs : Vec declared.Node Global)
+pub seq_runs : {T E : Type 0} (r : outcome.Result T E) (n : declared.Node) (ds fs : List Task) (s : List (List Stretch)) (gs : Vec declared.Node Global)
     (b : Box declared.Node Global) → n ≡ at.Seq gs b
     → OnOk r ((u : List (List Stretch)) → run fs u ≡ run ds (row_on (map node_view gs.items) (stretches (node_view b.value) ∷ u)))
     → OnOk r (run fs s ≡ run ds (stretches (node_view n) ∷ s))
@@ -210,19 +210,20 @@ module _ {T E : Type 0} (r : outcome.Result T E) where
 -- one step, and all of them ------------------------------------------------------------------------------------------------------------
 
 -- what is due next was the last of the list
-pub step_runs : (before left later : List Due) (d : Due) (s t : List (List Stretch)) (w : List Stretch) → left ≡ before ++ d ∷ [] → run left s ≡ w ∷ []
+pub step_runs : (before left later : List Task) (d : Task) (s t : List (List Stretch)) (w : List Stretch) → left ≡ before ++ d ∷ [] → run left s ≡ w ∷ []
     → run later t ≡ run before (effect d s) → run later t ≡ w ∷ []
 step_runs before left later d s t w e i h = h ∙ sym (run_push before left d e s) ∙ i
 
-pub step_falls : (before left later : List Due) (d : Due) → left ≡ before ++ d ∷ [] → all_left later < all_left before + due_size d → all_left later < all_left
+pub step_falls : (before left later : List Task) (d : Task) → left ≡ before ++ d ∷ [] → all_left later < all_left before + task_size d →
+    all_left later < all_left
     left
-step_falls before left later d e h = let size = ap all_left e ∙ sum_by_push due_size before d in omega (arith, size, h)
+step_falls before left later d e h = let size = ap all_left e ∙ sum_by_push task_size before d in omega (arith, size, h)
 
-pub run_first : (ds es : List Due) (d : Due) (vs : List V) (w : List Stretch) → es ≡ ds ++ d ∷ [] → ds ≡ [] → vs ≡ [] → effect d [] ≡ w ∷ [] → run es
+pub run_first : (ds es : List Task) (d : Task) (vs : List V) (w : List Stretch) → es ≡ ds ++ d ∷ [] → ds ≡ [] → vs ≡ [] → effect d [] ≡ w ∷ [] → run es
     (stack vs) ≡ w ∷ []
 run_first ds es d vs w e none empty is = run_push ds es d e (stack vs) ∙ ap (λ u. run u (effect d (stack vs))) none ∙ ap (λ u. effect d (stack u)) empty ∙ is
 
-pub run_last : (ds : List Due) (vs : List V) (xs : List declared_stretch.Stretch) (w : List Stretch) → length ds ≡ 0 → run ds (stack vs) ≡ w ∷ [] → seen xs ≡
+pub run_last : (ds : List Task) (vs : List V) (xs : List declared_stretch.Stretch) (w : List Stretch) → length ds ≡ 0 → run ds (stack vs) ≡ w ∷ [] → seen xs ≡
     top (stack vs) → seen xs ≡ w
 run_last ds vs xs w none i h = h ∙ ap top (sym (ap (λ u. run u (stack vs)) (nil_from_length ds none)) ∙ i)
 

@@ -8,11 +8,11 @@ use Rattle.lra_operations.specs.GraphViews.{exit_view, node_view}
 use Rattle.lra_operations.specs.declared.graph.Node as declared
 use Rattle.lra_operations.specs.declared.graph.Node.TheFolds.{fold-Node}
 use Rattle.lra_operations.specs.declared.graph.Node.TheOpen.{Node-F}
-use Rattle.lra_paths.specs.Stretches.{Stretch, in_turn, chosen, looped, caught, stretches}
+use Rattle.lra_paths.specs.Stretches.{Stretch, sequenced, chosen, looped, caught, stretches}
 use Rattle.lra_paths.specs.StretchViews.{seen}
 use Rattle.lra_paths.specs.declared.stretches.Stretch as declared_stretch
-use Rattle.lra_paths.specs.declared.trees.Due.{Due}
-use Rattle.lra_paths.specs.declared.trees.Due.TheVariants.{Tree, Row, InTurn, Choice, Round, Catch}
+use Rattle.lra_paths.specs.declared.trees.Task.{Task}
+use Rattle.lra_paths.specs.declared.trees.Task.TheVariants.{Tree, Row, Sequence, Choice, Round, Catch}
 
 -- the ways that are there: the last list of them is the first here
 abbrev pub stack_on : List (List Stretch) → List (Vec declared_stretch.Stretch Global) → List (List Stretch)
@@ -33,19 +33,19 @@ below (x ∷ xs) = xs
 -- trees before that of the last ways
 abbrev pub row_on : List Node → List (List Stretch) → List (List Stretch)
 row_on [] s = s
-row_on (g ∷ gs) s = in_turn (stretches g) (top (row_on gs s)) ∷ below (row_on gs s)
+row_on (g ∷ gs) s = sequenced (stretches g) (top (row_on gs s)) ∷ below (row_on gs s)
 
 -- what is made of the ways that are there
-abbrev pub effect : Due → List (List Stretch) → List (List Stretch)
+abbrev pub effect : Task → List (List Stretch) → List (List Stretch)
 effect (Tree n) s = stretches (node_view n.now) ∷ s
 effect (Row gs) s = row_on (map node_view gs.now) s
-effect InTurn s = in_turn (top s) (top (below s)) ∷ below (below s)
+effect Sequence s = sequenced (top s) (top (below s)) ∷ below (below s)
 effect (Choice base c) s = chosen base (cond_view c.now) (top s) (top (below s)) ∷ below (below s)
 effect (Round q base c) s = looped q base (cond_view c.now) (top s) ∷ below s
 effect (Catch k) s = caught (exit_view k) (top s) ∷ below s
 
 -- all that is due, the last of the list first
-abbrev pub run : List Due → List (List Stretch) → List (List Stretch)
+abbrev pub run : List Task → List (List Stretch) → List (List Stretch)
 run [] s = s
 run (d ∷ ds) s = effect d (run ds s)
 
@@ -70,13 +70,13 @@ steps_of = fold-Node ℕ steps_step
 abbrev pub row_size : List declared.Node → ℕ
 row_size gs = 1 + steps_in_row (map steps_of gs)
 
-abbrev pub due_size : Due → ℕ
-due_size (Tree n) = steps_of n.now
-due_size (Row gs) = row_size gs.now
-due_size InTurn = 1
-due_size (Choice base c) = 1
-due_size (Round q base c) = 1
-due_size (Catch k) = 1
+abbrev pub task_size : Task → ℕ
+task_size (Tree n) = steps_of n.now
+task_size (Row gs) = row_size gs.now
+task_size Sequence = 1
+task_size (Choice base c) = 1
+task_size (Round q base c) = 1
+task_size (Catch k) = 1
 
-abbrev pub all_left : List Due → ℕ
-all_left ds = sum_by due_size ds
+abbrev pub all_left : List Task → ℕ
+all_left ds = sum_by task_size ds

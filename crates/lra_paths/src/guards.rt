@@ -7,7 +7,7 @@ ghost use Rattle.lra_paths.specs.Tables.{Grows, IsTable};
 ghost use Rattle.lra_program.specs.ProgramViews.{cond_view};
 
 use crate::conditions::{
-    Both, Frame, both_of, either_of, opposite_both, weave_comparison, weave_nonzero,
+    Both, Frame, both_of, either_of, opposite_both, push_comparison_guards, push_nonzero_guards,
 };
 use crate::tables::Entry;
 use lra_program::Cond;
@@ -36,8 +36,12 @@ fn join_operands(
 }
 
 /// Both sides of a condition, each of its comparisons taken once.
-#[cycle(weave)]
-pub fn weave(frame: Frame, condition: &Cond, entries: &mut Vec<Entry>) -> Result<Both, AllocError>
+#[cycle(guards)]
+pub fn push_guards(
+    frame: Frame,
+    condition: &Cond,
+    entries: &mut Vec<Entry>,
+) -> Result<Both, AllocError>
     requires table { IsTable entries.old.items }
     requires few { frame.live < 2 ^ 62 - 2 }
     ensures table { OnOk result (IsTable entries.new.items) }
@@ -46,20 +50,20 @@ pub fn weave(frame: Frame, condition: &Cond, entries: &mut Vec<Entry>) -> Result
         (cond_view condition.now) b) }
 {
     match condition {
-        Cond::Compare(op, left, right) => weave_comparison(frame, *op, left, right, entries),
-        Cond::Nonzero(e) => weave_nonzero(frame, e, entries),
+        Cond::Compare(op, left, right) => push_comparison_guards(frame, *op, left, right, entries),
+        Cond::Nonzero(e) => push_nonzero_guards(frame, e, entries),
         Cond::Opposite(inner) => {
-            let both = weave(frame, inner, entries)?;
+            let both = push_guards(frame, inner, entries)?;
             Ok(opposite_both(both))
         }
-        Cond::All(first, rest) => weave_chain(frame, false, first, rest.as_slice(), entries),
-        Cond::Any(first, rest) => weave_chain(frame, true, first, rest.as_slice(), entries),
+        Cond::All(first, rest) => push_chain_guards(frame, false, first, rest.as_slice(), entries),
+        Cond::Any(first, rest) => push_chain_guards(frame, true, first, rest.as_slice(), entries),
     }
 }
 
 /// One operand more of a chain, in front of what the later ones make.
-#[cycle(weave)]
-fn weave_operand(
+#[cycle(guards)]
+fn push_operand_guards(
     frame: Frame,
     any: bool,
     operand: &Cond,
@@ -74,13 +78,13 @@ fn weave_operand(
     ensures puts { IfOk result (λ b. PutsInFront entries.old.items entries.new.items frame.live
         frame.base any (cond_view operand.now) later b) }
 {
-    let one = weave(frame, operand, entries)?;
+    let one = push_guards(frame, operand, entries)?;
     join_operands(any, one, later, entries)
 }
 
 /// Both sides of a chain, from its last operand back.
-#[cycle(weave)]
-fn weave_chain(
+#[cycle(guards)]
+fn push_chain_guards(
     frame: Frame,
     any: bool,
     first: &Cond,
@@ -95,13 +99,13 @@ fn weave_chain(
         (chain_of any (cond_view first.now) (map cond_view rest.now)) b) }
 {
     let Some((last, before)) = rest.split_last() else {
-        return weave(frame, first, entries);
+        return push_guards(frame, first, entries);
     };
-    let mut whole = weave(frame, last, entries)?;
+    let mut whole = push_guards(frame, last, entries)?;
     let mut left = before;
     'operands: while let Some((next, earlier)) = left.split_last() {
-        whole = weave_operand(frame, any, next, whole, entries)?;
+        whole = push_operand_guards(frame, any, next, whole, entries)?;
         left = earlier;
     }
-    weave_operand(frame, any, first, whole, entries)
+    push_operand_guards(frame, any, first, whole, entries)
 }

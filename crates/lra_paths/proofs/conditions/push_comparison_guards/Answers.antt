@@ -1,8 +1,8 @@
--- Goals of `weave_comparison`: what is seen of the difference fits.
+-- Goals of `push_comparison_guards`: what is seen of the difference fits.
 use Rattle.std.proofs.Common.{refl}
 use Rattle.lra_change.proofs.ChangeSteps.{difference_fits}
 use Rattle.lra_program.specs.ProgramViews.{expr_view}
-use Rattle.lra_paths.proofs.conditions.weave_comparison.Goals as goal
+use Rattle.lra_paths.proofs.conditions.push_comparison_guards.Goals as goal
 
 pub push_comparison-requires-clause-width : goal.push_comparison-requires-clause-width
 push_comparison-requires-clause-width c = difference_fits c.args.frame.live c.args.frame.live c.args.frame.base (expr_view c.args.left.now)

@@ -1,0 +1,34 @@
+-- The tree that stands for a well-formed program follows its runs.
+use Rattle.std.proofs.Common.{◌≡◌, ℕ, ℤ, List, length, Some, ap}
+use Rattle.std.specs.Prelude.{slice_get}
+use Rattle.lra_program.specs.Program.{Program}
+use Rattle.lra_program.specs.WellFormed.{AreGoodGlobals, IsWellFormed}
+use Rattle.lra_program.specs.Step.{State}
+use Rattle.lra_program.specs.Run.{Point}
+use Rattle.lra_program.specs.Sites.{Site, sites_of}
+use Rattle.lra_program.specs.Trails.{Trail, Alone}
+use Rattle.lra_operations.specs.Graph.{Node}
+use Rattle.lra_operations.specs.Trails.{to_point}
+use Rattle.lra_operations.specs.Agree.{AreDistinct, IsGraph}
+use Rattle.lra_operations.specs.TrailsAgree.{TreeGoes, TrailsAgree}
+use Rattle.lra_graph.proofs.Agreement.{graphs_have_trails}
+use Rattle.lra_graph.proofs.DistinctSites.{distinct_sites}
+use Rattle.lra_graph.proofs.Performed.{performed}
+
+-- the tree comes to the points of the program's runs, on their trails; no two points are the same
+pub record FollowsRuns (P : Program) (g : Node) : Type 0 where
+  pub globals : AreGoodGlobals P.globals
+  pub distinct : AreDistinct (sites_of P)
+  pub trails : TrailsAgree Alone P g
+  -- the tree has no other points than these
+  pub points : (q : ℕ) (draws : List ℤ) (a : Trail Point) → TreeGoes Alone P g draws (to_point q) a → (s : Site) × (slice_get (sites_of P) q ≡ Some s)
+
+pub graphs_follow_runs : (P : Program) (g : Node) → IsWellFormed P → IsGraph P g → FollowsRuns P g
+graphs_follow_runs P g well is = record {
+  globals = well.globals;
+  distinct = distinct_sites P well;
+  trails = graphs_have_trails P g (distinct_sites P well) is;
+  points = λ q draws a x.
+      let y = performed Alone (λ s t e. ap (λ (x : State). length x.store) e) P g is draws q a x in
+      (record { path = y.there.here.path; label = y.label; live = length y.there.state.store; asserts = y.asserts }, y.site);
+}
