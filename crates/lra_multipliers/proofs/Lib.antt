@@ -1,0 +1,5 @@
+-- What the check answers, and what multipliers show.
+pub mod CheckSteps
+pub mod CheckLoops
+pub mod CheckAnswers
+pub mod ShownRows

@@ -1,0 +1,6 @@
+use Rattle.lra_multipliers.specs.Columns.{column_agrees, AgreeBelow}
+use Rattle.lra_multipliers.specs.MultiplierViews.{multipliers_view}
+use Rattle.lra_multipliers.proofs.columns.columns_agree.Given as goal
+
+abbrev pub invariant-loop-column : goal.invariant-loop-column
+invariant-loop-column l = AgreeBelow (column_agrees l.rows l.claim (multipliers_view l.m)) l.column l.agree

@@ -1,0 +1,5 @@
+-- In the order in which they are to be read.
+pub mod Symbols
+pub mod Multipliers
+pub mod Columns
+pub mod MultiplierViews

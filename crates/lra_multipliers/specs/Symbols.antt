@@ -1,0 +1,86 @@
+-- What a path does to its variables, as rows over symbols: one symbol for each variable at its source, and a new one
+-- for each value of which nothing is told. Column 0 of a row is its constant. All rows of a path have one width.
+use Rattle.std.specs.Prelude.{ℕ, suc, ◌+◌, ◌-◌, ℤ, pos, List, [], ◌∷◌, ◌++◌, map, length, take, slice_set, Result, Ok}
+use Rattle.std.specs.List.{range_with_len}
+use Rattle.lra_linear.specs.declared.Excess.{Excess}
+use Rattle.lra_linear.specs.CheckedArithmetic.{checked_added, and_then}
+use Rattle.lra_linear.specs.Descriptions.{Given}
+use Rattle.lra_linear.specs.Kinds.{is_equality}
+use Rattle.lra_linear.specs.Vectors.{zeros}
+use Rattle.lra_lin.specs.Form.{form_row}
+use Rattle.lra_domain.specs.Actions.{Action, assign, forget, test, embed, remove_last}
+
+-- the row of one symbol, and those of so many, from this column on
+abbrev pub symbol : ℕ → ℕ → List ℤ
+symbol width column = slice_set (zeros width) column (pos 1)
+
+abbrev pub symbols : ℕ → ℕ → ℕ → List (List ℤ)
+symbols width first count = map (symbol width) (range_with_len first count)
+
+-- the row of a constant
+abbrev pub constant_row : ℕ → ℤ → List ℤ
+constant_row width k = slice_set (zeros width) 0 k
+
+-- The row of a form: from the constant on each coefficient times its variable's row is added, in column order; or the
+-- first product or partial sum that passes.
+abbrev pub composed_from : List ℤ → List ℤ → List (List ℤ) → Result (List ℤ) Excess
+composed_from sum [] forms = Ok sum
+composed_from sum (c ∷ cs) [] = Ok sum
+composed_from sum (c ∷ cs) (form ∷ forms) = and_then (checked_added c sum form) (λ next. composed_from next cs forms)
+
+abbrev pub composed : ℕ → List ℤ → List (List ℤ) → Result (List ℤ) Excess
+composed width [] forms = Ok (zeros width)
+composed width (k ∷ cs) forms = composed_from (constant_row width k) cs forms
+
+-- a path so far: the rows of the variables that live, its tests, and the first column that is free
+pub record Walked : Type 0 where
+  pub forms : List (List ℤ)
+  pub tests : List Given
+  pub free : ℕ
+
+abbrev pub tests_too : Walked → Given → Walked
+tests_too w g = record w { tests = w.tests ++ g ∷ [] }
+
+abbrev pub gives : Walked → ℕ → List ℤ → Walked
+gives w x row = record w { forms = slice_set w.forms x row }
+
+-- a further action, over rows of this width
+abbrev pub walked_by : ℕ → Action → Walked → Result Walked Excess
+walked_by width (assign x e) w = and_then (composed width (form_row e) w.forms) (λ row. Ok (gives w x row))
+walked_by width (forget x) w = Ok (record (gives w x (symbol width w.free)) { free = suc w.free })
+walked_by width (test kind e) w = and_then (composed width (form_row e) w.forms)
+    (λ row. Ok (tests_too w (record { row = row; equal = is_equality kind })))
+walked_by width (embed k) w = Ok (record w { forms = w.forms ++ symbols width w.free k; free = w.free + k })
+walked_by width (remove_last k) w = Ok (record w { forms = take (length w.forms - k) w.forms })
+
+abbrev pub walked : ℕ → List Action → Walked → Result Walked Excess
+walked width [] w = Ok w
+walked width (step ∷ steps) w = and_then (walked_by width step w) (λ next. walked width steps next)
+
+-- how many symbols actions bring, and how many tests they make
+abbrev pub new_symbols : List Action → ℕ
+new_symbols [] = 0
+new_symbols (assign x e ∷ steps) = new_symbols steps
+new_symbols (forget x ∷ steps) = suc (new_symbols steps)
+new_symbols (test kind e ∷ steps) = new_symbols steps
+new_symbols (embed k ∷ steps) = k + new_symbols steps
+new_symbols (remove_last k ∷ steps) = new_symbols steps
+
+abbrev pub tests_in : List Action → ℕ
+tests_in [] = 0
+tests_in (assign x e ∷ steps) = tests_in steps
+tests_in (forget x ∷ steps) = tests_in steps
+tests_in (test kind e ∷ steps) = suc (tests_in steps)
+tests_in (embed k ∷ steps) = tests_in steps
+tests_in (remove_last k ∷ steps) = tests_in steps
+
+-- from a source with so many variables
+abbrev pub width_of : ℕ → List Action → ℕ
+width_of live steps = suc (live + new_symbols steps)
+
+abbrev pub walk_of : ℕ → List Action → Result Walked Excess
+walk_of live steps = walked (width_of live steps) steps (record {
+  forms = symbols (width_of live steps) 1 live;
+  tests = [];
+  free = suc live;
+})
