@@ -1,0 +1,34 @@
+-- What rows over symbols stand for.
+pub mod WalkedRows
+pub mod WalkedWidths
+-- What a certificate that meets its program says is kept, and holds in all runs.
+pub mod CertificatesKept
+pub mod CertificatesHold
+-- Lines and their numbers.
+pub mod LineSteps
+pub mod NumberSteps
+pub mod NumberText
+pub mod Told
+pub mod WalkSteps
+pub mod WalkChanges
+pub mod TrackSteps
+pub mod ShowSteps
+pub mod PointSteps
+pub mod EdgeSteps
+pub mod ListedSteps
+pub mod EndSteps
+pub mod HeadSteps
+-- What is read has the text of a certificate, and what is written is read again.
+pub mod ReadText
+pub mod ReadPaths
+pub mod SourceRows
+pub mod ReadCertificate
+pub mod WriteText
+pub mod WritePoints
+pub mod WritePaths
+pub mod WriteCertificate
+pub mod JudgedBothWays
+pub mod VerifySteps
+pub mod Deserved
+-- Worked examples.
+mod CertificateExamples
