@@ -18,10 +18,12 @@ pub enum Format {
 pub enum PlainCommand {
     /// Run a script of the library's calls.
     Calc,
+    /// Check a certificate of a source.
+    Verify,
 }
 
 /// These commands, in the order in which the command line has them.
-pub const PLAIN_COMMANDS: [PlainCommand; 1] = [PlainCommand::Calc];
+pub const PLAIN_COMMANDS: [PlainCommand; 2] = [PlainCommand::Calc, PlainCommand::Verify];
 
 impl PlainCommand {
     /// Its name among the words.
@@ -30,6 +32,7 @@ impl PlainCommand {
     {
         match self {
             PlainCommand::Calc => "calc",
+            PlainCommand::Verify => "verify",
         }
     }
 }
