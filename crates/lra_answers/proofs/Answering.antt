@@ -18,6 +18,14 @@ pub record IsAnswering (ranges : Type 0) (limit : Option ℕ) (deserves : List �
   pub called : (bytes text : List ℕ) (status : Status) (among : List Status) → deserves bytes text status → calls bytes among → Ends among status
   pub too_long : (n : ℕ) (bytes text : List ℕ) (status : Status) → limit ≡ Some n → n < length bytes → deserves bytes text status → Ends refused status
 
+-- a limit that is this number --------------------------------------------------------------
+
+pub small_as : (most : ℕ) → most + 2 < 2 ^ 32 → (limit : ℕ) → Some most ≡ Some limit → limit + 2 < 2 ^ 32
+small_as most few limit e = let same : most ≡ limit = cc in subst (λ n. n + 2 < 2 ^ 32) same few
+
+pub past_as : (most limit : ℕ) (bytes : List ℕ) → Some most ≡ Some limit → limit < length bytes → most < length bytes
+past_as most limit bytes e long = let same : most ≡ limit = cc in subst (λ n. n < length bytes) (sym same) long
+
 -- the limit of sources and scripts --------------------------------------------------------
 
 small_length : greatest_length + 2 < 2 ^ 32
@@ -25,7 +33,7 @@ unfolding greatest_length
 small_length = omega arith
 
 pub small : (limit : ℕ) → Some greatest_length ≡ Some limit → limit + 2 < 2 ^ 32
-small limit e = let same : greatest_length ≡ limit = cc in subst (λ n. n + 2 < 2 ^ 32) same small_length
+small limit e = small_as greatest_length small_length limit e
 
 pub past : (limit : ℕ) (bytes : List ℕ) → Some greatest_length ≡ Some limit → limit < length bytes → greatest_length < length bytes
-past limit bytes e long = let same : greatest_length ≡ limit = cc in subst (λ n. n < length bytes) (sym same) long
+past limit bytes e long = past_as greatest_length limit bytes e long

@@ -7,19 +7,21 @@ use Rattle.lra_options.specs.declared.options.Options.{Options}
 use Rattle.lra_words.specs.Chosen.{Asks, AsksNone, IsUntaken}
 use Rattle.lra_words.specs.declared.chosen.Command.{Command}
 use Rattle.lra_words.specs.declared.chosen.Format.{Format}
-use Rattle.lra_words.specs.declared.chosen.Command.TheVariants.{Analyse, Sample}
+use Rattle.lra_words.specs.declared.chosen.Command.TheVariants.{Analyse, Sample, Plain}
+use Rattle.lra_words.specs.declared.chosen.PlainCommand.TheVariants.{Verify}
 use Rattle.lra_answers.specs.Exit.{exit_of}
 use Rattle.lra_answers.specs.Statuses.{Ends, reported, answered, silent, faults}
 use Rattle.lra_top.specs.SourceAnswer.{written_report}
 use Rattle.lra_top.specs.Commands.{asked_limit, CallsFor}
 use Rattle.lra_top.specs.Run.{IsAsked, IsDeserved, Writes, WritesPart, IsRead, IsCounted}
-use Rattle.lra_top.specs.Headline.{WritesReport, HoldsInAllRuns, IsWrittenUnlessFlagged, TellsFits, TellsSamePoints, WritesSummary}
+use Rattle.lra_top.specs.Headline.{WritesReport, HoldsInAllRuns, IsWrittenUnlessFlagged, TellsFits, TellsSamePoints, WritesSummary, WritesVerified}
 use Rattle.lra_top.specs.Prepared.{IsReadBy, PrepareCause, Told, IsWritten, Ending}
 use Rattle.lra_top.proofs.Reading.{read_as}
 use Rattle.lra_top.proofs.Ways.{asked_ends, answered_status, usage_status}
 use Rattle.lra_top.proofs.Headline.{holds, is_written, same_points, tells_fits, writes_report, writes_summary}
+use Rattle.lra_top.proofs.Verified.{writes_verified}
 use Rattle.lra_answers.specs.declared.status.Status.{Status}
-use Rattle.lra_answers.specs.declared.status.Status.TheVariants.{Usage, ReadFault, WriteFault, Memory}
+use Rattle.lra_answers.specs.declared.status.Status.TheVariants.{Proved, Usage, ReadFault, WriteFault, Memory}
 use Rattle.lra_answers.specs.declared.answer.Answer.{Answer}
 use Rattle.lra_top.specs.declared.top_call.NoAnswer.{NoAnswer}
 use Rattle.lra_top.specs.declared.top_call.NoAnswer.TheVariants as none
@@ -171,6 +173,9 @@ module _ {words : List (List ℕ)} {t : Told} {status : Status} (e : Ending word
 
   pub sampled : (seed size : ℕ) → Asks words (Sample seed size) → Ends reported status → WritesSummary seed size t.held t.held_now
   sampled seed size asks ends = writes_summary words t.left t.held t.held_now seed size status asks ends (written (reported_answered status ends))
+
+  pub verified : Asks words (Plain Verify) → status ≡ Proved → WritesVerified t.left t.held t.held_now
+  verified asks is = writes_verified words t.left t.held t.held_now status asks is (written (inl is))
 
   pub ends : (asked : Option Command) → IsAsked words asked → (among : List Status) → CallsFor asked t.left among → Ends among status ⊎ Ends (faults (asked_limit asked)) status
   ends asked asks among calls = ends_by words t status e.result e.deserved e.written asked asks among calls (e.reads asked asks)

@@ -1,9 +1,13 @@
 pub mod ScriptWays
+pub mod OneVerified
+pub mod SomeVerified
+pub mod CertificateWays
 pub mod SourceWays
 pub mod SampleWays
 pub mod Rows
 pub mod Reading
 pub mod Ways
 pub mod Headline
+pub mod Verified
 pub mod Ending
 pub mod OneWritten

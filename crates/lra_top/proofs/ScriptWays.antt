@@ -58,7 +58,7 @@ script_called bytes text status among (inr (answers, is)) (inr (never, calls)) =
 too_long_never_runs : (bytes : List ℕ) → greatest_length < length bytes → script.NeverRuns bytes
 too_long_never_runs bytes long = λ output a. absurd (let e = long_answer bytes (Ok output) long a in cc)
 
-script_own : (status : Status) → Ends script_statuses status → Ends source_statuses status
+pub script_own : (status : Status) → Ends script_statuses status → Ends source_statuses status
 script_own status (inl is) = inl is
 script_own status (inr (inl is)) = inr (inl is)
 script_own status (inr (inr none)) = absurd none

@@ -1,6 +1,6 @@
--- What is claimed of the report that a call writes.
+-- What is claimed of the report that a call writes, and of what it says is verified.
 use Rattle.std.specs.Prelude.{◌≡◌, ℕ, suc, ℤ, List, [], length, map, Bool, false, IsTrue, Option, None, Some}
-use Rattle.std.specs.Prelude.{option_map}
+use Rattle.std.specs.Prelude.{◌∷◌, pos, option_map, slice_get, Contains}
 use Rattle.std.specs.List.{AllByRecursion}
 use Rattle.std.specs.Io.KnownBytes.{Appends}
 use Rattle.lra_options.specs.declared.options.Domain.TheVariants.{Poly}
@@ -10,9 +10,11 @@ use Rattle.lra_tree.specs.Grammar.{Spells}
 use Rattle.lra_meaning.specs.Refuse.{Accepts}
 use Rattle.lra_meaning.specs.Resolve.{resolve}
 use Rattle.lra_program.specs.Program.{Program}
-use Rattle.lra_program.specs.Run.{At}
+use Rattle.lra_program.specs.Run.{At, Fails}
+use Rattle.lra_program.specs.Sites.{Site, sites_of}
 use Rattle.lra_operations.specs.Graph.{Node}
-use Rattle.lra_operations.specs.Agree.{IsGraph}
+use Rattle.lra_operations.specs.Agree.{IsGraph, point_of}
+use Rattle.lra_linear.specs.Descriptions.{Given, Con}
 use Rattle.lra_domain.specs.Meaning.{Meaning}
 use Rattle.lra_front.specs.Stages.{HasConstants}
 use Rattle.lra_flow.specs.Plan.{plan_of}
@@ -27,8 +29,11 @@ use Rattle.lra_listing.specs.Given.{told_all, told_of}
 use Rattle.lra_sample.specs.Sample.{sample_source}
 use Rattle.lra_sample.specs.Summary.{summary_text}
 use Rattle.lra_source.specs.Answers.{Over, IsAnswered}
+use Rattle.lra_certificate.specs.Certificates.{Listed, Certificate}
+use Rattle.lra_certificate.specs.Claims.{IsCertificate}
 use Rattle.lra_states.specs.Shown.{AreShown}
 use Rattle.lra_words.specs.Chosen.{default_options}
+use Rattle.lra_top.specs.CertificateAnswer.{verified_text}
 use Rattle.lra_top.specs.Run.{IsInput}
 
 -- What `write` makes of a report that the input deserves under the options is written whole, and so it is with the
@@ -121,3 +126,24 @@ WritesSummary seed size held_old held_new = WritesReport default_options (summar
     (λ source r. HoldsInAllRuns source r × IsWrittenUnlessFlagged default_options source r
     × TellsSamePoints default_options source r)
     (Some (sample_source seed size)) held_old held_new
+
+-- In all runs the rows of a certificate hold whenever a run is at their point, no run comes to a point that is empty
+-- there, and no listed assertion is false. Points are counted from 0.
+pub record IsVerifiedInAllRuns (P : Program) (c : Certificate) : Type 0 where
+  pub rows : (q : ℕ) (s : Site) (store : List ℤ) (given : List Given) → slice_get (sites_of P) q ≡ Some s →
+      slice_get c.states q ≡ Some (Some given) → At P (point_of s) store → Con given (pos 1 ∷ store)
+  pub unreached : (q : ℕ) (s : Site) (store : List ℤ) → slice_get (sites_of P) q ≡ Some s →
+      slice_get c.states q ≡ Some None → At P (point_of s) store → ⊥
+  pub asserted : (one : Listed) (s : Site) → Contains c.asserted one → slice_get (sites_of P) one.number ≡ Some s →
+      Fails P (point_of s) → ⊥
+
+-- the input is a certificate that meets the program of its source, all of this is so of it, and the numbers of its
+-- points and of its listed assertions are written whole
+pub record WritesVerified (left held_old held_new : Option (List ℕ)) : Type 0 where
+  pub bytes : List ℕ
+  pub input : IsInput left bytes
+  pub is : IsCertificate bytes
+  pub accepted : Accepts Spells is.certificate.source is.program.tree
+  pub holds : IsVerifiedInAllRuns (resolve is.program.tree) is.certificate
+  pub written : Appends held_old held_new
+      (verified_text (length (sites_of (resolve is.program.tree))) (length is.certificate.asserted))

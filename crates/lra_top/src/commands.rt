@@ -3,11 +3,13 @@ ghost use Rattle.std.specs.Prelude.{◌≡◌, ◌<◌, ◌+◌, ◌^◌, length
 ghost use Rattle.lra_words.specs.Chosen.{IsWithinRanges};
 ghost use Rattle.lra_top.specs.Commands.{limit_of, DeservesInput};
 
+use crate::certificate_answer::answer_certificate;
 use crate::sample_answer::answer_sample;
 use crate::script_answer::answer_script;
 use crate::source_answer::answer_source;
 use lra_answers::Answer;
 use lra_base::GREATEST_LENGTH;
+use lra_certificate::GREATEST_CERTIFICATE;
 use lra_words::{Command, PlainCommand};
 use std::alloc::{AllocError, Global};
 
@@ -20,6 +22,7 @@ pub fn limit_of(command: Command) -> Option<usize>
         Command::Analyse { .. } => Some(GREATEST_LENGTH),
         Command::Sample { .. } => None,
         Command::Plain(PlainCommand::Calc) => Some(GREATEST_LENGTH),
+        Command::Plain(PlainCommand::Verify) => Some(GREATEST_CERTIFICATE),
     }
 }
 
@@ -33,5 +36,6 @@ pub fn answer_command(alloc: Global, command: Command, bytes: &[u8]) -> Result<A
         Command::Analyse { options, format } => answer_source(alloc, options, format, bytes),
         Command::Sample { seed, size } => answer_sample(alloc, seed, size),
         Command::Plain(PlainCommand::Calc) => answer_script(alloc, bytes),
+        Command::Plain(PlainCommand::Verify) => answer_certificate(alloc, bytes),
     }
 }

@@ -1,7 +1,8 @@
 //! The one call of the analyser: from the words of a command line and the bytes of its input to the text of a report,
-//! of a sample's summary, of a script's output or of a refusal.
+//! of a sample's summary, of a script's output, of what is verified or of a refusal.
 #![tactic(auto)]
 
+mod certificate_answer;
 mod commands;
 mod law;
 mod sample_answer;
@@ -9,6 +10,6 @@ mod script_answer;
 mod source_answer;
 mod top_call;
 
-pub use law::one_written_report;
+pub use law::{each_certificate_answer, one_written_report};
 pub use lra_answers::Status;
 pub use top_call::run;
