@@ -52,6 +52,9 @@ RUNS = [
      'int f(long a){ return a; } int main(void){ int x; if(x>-5 && -x>0) x=f(x*2L); }', 0, [
          '\nfit 2 main 1:51 fits\nfit 3 main 1:68 fits\n'
          'fit 4 main/f@1:70 1:16 fits\nverdicts proved 0 unknown 0\n']),
+    ('verify', 'certificate bytes 48\nint main(void){ long x; x = 3; assert(x >= 3); }\npoint 1\npoint 2\npoint 3\n'
+     '  = -3 1\npoint 4\n  = -3 1\nedge 0 1\nedge 1 2\nedge 2 3\nby 1 0\nby 1 0\nedge 3 4\nby 1 0 1 0\nby 1 0 -1 0\n'
+     'assert 3\ndead 1 0 1 1\nend\n', 0, ['verified points 4 proved 1\n']),
     ('analyse --domain cube', '', 3, ['refused usage\n']),
 ]
 

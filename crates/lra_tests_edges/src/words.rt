@@ -198,7 +198,7 @@ static FITS: [(&str, Command); 4] = [
 ];
 
 /// The same, with several options or none.
-static SEVERAL: [(&str, Command); 13] = [
+static SEVERAL: [(&str, Command); 15] = [
     (
         "lra analyse --delay 3 --domain box --limited",
         Command::Analyse {
@@ -288,6 +288,8 @@ static SEVERAL: [(&str, Command); 13] = [
     ("other calc", Command::Plain(PlainCommand::Calc)),
     ("lra calc", Command::Plain(PlainCommand::Calc)),
     ("lra calc --", Command::Plain(PlainCommand::Calc)),
+    ("lra verify", Command::Plain(PlainCommand::Verify)),
+    ("lra verify --", Command::Plain(PlainCommand::Verify)),
 ];
 
 /// The words of a line, between single spaces.
@@ -338,7 +340,7 @@ fn are_other(rt: &impl Abort, alloc: Global, lines: &[&str]) {
 }
 
 /// No subcommand, a stray word, an unknown one, an option in the wrong place.
-static STRAY: [&str; 19] = [
+static STRAY: [&str; 23] = [
     "lra",
     "",
     "lra ",
@@ -356,6 +358,10 @@ static STRAY: [&str; 19] = [
     "lra calc x",
     "lra calc -- x",
     "lra calc --json",
+    "lra verify x",
+    "lra verify calc",
+    "lra verify --json",
+    "lra verify --domain box",
     "lra analyse --seed 1",
     "lra sample --seed 1 --size 1 --json",
 ];

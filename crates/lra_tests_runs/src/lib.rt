@@ -10,6 +10,8 @@ mod answers;
 #[cfg(test)]
 mod boxes;
 #[cfg(test)]
+mod certificates;
+#[cfg(test)]
 mod checks;
 #[cfg(test)]
 mod divisions;
