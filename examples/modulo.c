@@ -1,0 +1,1 @@
+int main(void){ long x=0; while(input()){ x=x+1; if(x==100) x=0; } assert(x<=99); }
