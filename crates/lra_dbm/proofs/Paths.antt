@@ -1,12 +1,16 @@
 -- The loops over pivots, rows and columns, with coherent writes, give shortest paths.
-use Rattle.std.proofs.Common.{◌≡◌, ◌≢◌, ℕ, zero, suc, ◌*◌, ◌<◌, ◌≤◌, ◌⊎◌, inl, inr, ℤ, pos, Option, None, Some, refl, sym, ap, ◌∙◌, arith, false}
+use Rattle.std.proofs.Common.{◌≡◌, ◌≢◌, ℕ, zero, suc, ◌*◌, ◌<◌, ◌≤◌, ◌⊎◌, inl, inr, ℤ, pos, Option, None, Some, refl, sym, ap, ◌∙◌, arith}
+use Rattle.std.proofs.Common.{Bool, true, false, cond, subst}
+use Rattle.std.specs.Prelude.{◌||◌}
+use Rattle.std.proofs.lemmas.Bool.{cases_Bool}
 use Rattle.std.proofs.lemmas.Int.{ints}
 use Rattle.std.proofs.lemmas.Bool.Decides.{eqb_tells, leb_tells}
 use Rattle.lra_dbm.specs.Entry.{◌⊑◌, ◌⊞◌}
 use Rattle.lra_dbm.specs.Tight.{Entries, opposite}
 use Rattle.lra_dbm.proofs.Ways.{Below, HasTriangles, by_way_of, IsClosed}
 use Rattle.lra_dbm.specs.Cells.{Cells, cell, outside, entries, IsMatrix}
-use Rattle.lra_dbm.specs.Steps.{Progress, in_turn, relaxed, row_relaxed, pivot_relaxed, shortest}
+use Rattle.lra_dbm.specs.Steps.{Progress, in_turn, any_below, relaxed, row_relaxed, pivot_relaxed, shortest}
+use Rattle.lra_dbm.specs.Steps.{is_negative, negative_diagonal, relaxed_unless_negative}
 use Rattle.lra_dbm.proofs.EntryLemmas.{le_same, le_none, le_trans, le_antisym, sum_grows, sum_swap, lesser_left, lesser_right, le_lesser}
 use Rattle.lra_dbm.proofs.Pivots.{way_closes, way_keeps, way_lowers}
 use Rattle.lra_dbm.proofs.Strong.{opposite_twice}
@@ -38,6 +42,34 @@ triangles_beyond n cells q far = record {
     | inr e ↦ rw (beyond n cells i q (inr far) e.1) (le_none (entries n cells i j))
   ];
 }
+
+-- ---- an entry of the diagonal that is below 0
+
+or_true : (a b : Bool) → (a || b) ≡ true → (a ≡ true) ⊎ (b ≡ true)
+or_true true b h = inl refl
+or_true false b h = inr h
+
+pub any_true : (f : ℕ → Bool) (k : ℕ) → any_below f k ≡ true → (i : ℕ) × (i < k) × (f i ≡ true)
+any_true f zero h = absurd (cc)
+any_true f (suc k) h = elim (or_true (any_below f k) (f k) h) [
+  | inl e ↦ (let r = any_true f k e in (r.0, omega (arith, r.1), r.2))
+  | inr e ↦ (k, omega arith, e)
+]
+
+pub negative_absurd : (x : Option ℤ) → is_negative x ≡ true → Some (pos 0) ⊑ x → ⊥
+negative_absurd None h k = absurd (cc)
+negative_absurd (Some v) h k = let p = k.at_most in grind (arith, ints)
+
+calm_diagonal : (n : ℕ) (cells : Cells) → ((i : ℕ) → Some (pos 0) ⊑ entries n cells i i) → negative_diagonal cells (2 * n) ≡ false
+calm_diagonal n cells d = elim (cases_Bool (negative_diagonal cells (2 * n))) [
+  | inl e ↦ let r = any_true (λ i. is_negative (cell cells i i)) (2 * n) e in
+      absurd (negative_absurd (cell cells r.0 r.0) r.2 (le_trans (d r.0) (le_same (entries_inside n cells r.0 r.0 r.1 r.1))))
+  | inr e ↦ e
+]
+
+either : (P : Progress → Type 0) (b : Bool) (x y : Progress) → P x → P y → P (cond b x y)
+either P true x y h k = h
+either P false x y h k = k
 
 -- ---- the loops
 
@@ -147,30 +179,60 @@ module _ (n : ℕ) where
           | inr w ↦ elim w [ inl e ↦ rw e at_k | inr t ↦ way_keeps k' q (by_way_of k m) h' (way_keeps k q m h t) ]
         ])
 
+  turn_comes : (k : ℕ) (p : Progress) → k < 2 * n → IsMatrix n p.cells → Comes n p (relaxed_unless_negative n k p)
+  turn_comes k p hk is =
+      either (λ q. Comes n p q) (negative_diagonal p.cells (2 * n)) p (pivot_relaxed n k p) (comes_here n p is) (pivot_comes k p hk is)
+
   pub shortest_comes : (k : ℕ) (p : Progress) → k ≤ 2 * n → IsMatrix n p.cells → Comes n p (shortest n k p)
   unfolding shortest
-  shortest_comes k p h is = in_turn_keeps (λ q. Comes n p q) (pivot_relaxed n) k (λ i q l c. comes_on c (pivot_comes i q (omega arith) c.is)) p (comes_here n p is)
+  shortest_comes k p h is = in_turn_keeps (λ q. Comes n p q) (relaxed_unless_negative n) k
+      (λ i q l c. comes_on c (turn_comes i q (omega arith) c.is)) p (comes_here n p is)
+
+  turn_kept : (c : Entries) → ((q : ℕ) → HasTriangles q c) → (k : ℕ) (p : Progress) → k < 2 * n → IsMatrix n p.cells → Below c (entries n p.cells)
+      → Below c (entries n (relaxed_unless_negative n k p).cells)
+  turn_kept c pass k p hk is b = either (λ q. Below c (entries n q.cells)) (negative_diagonal p.cells (2 * n)) p (pivot_relaxed n k p) b
+      (pivot_kept c k hk (pass k) (pass (opposite k)) p is b)
 
   pub shortest_kept : (c : Entries) → ((q : ℕ) → HasTriangles q c) → (k : ℕ) (p : Progress) → k ≤ 2 * n → IsMatrix n p.cells → Below c (entries n p.cells) → Below c (entries n (shortest n k p).cells)
   unfolding shortest
-  shortest_kept c pass k p most is b = (in_turn_keeps (λ q. Comes n p q × Below c (entries n q.cells)) (pivot_relaxed n) k
-      (λ i q l h. (comes_on h.0 (pivot_comes i q (omega arith) h.0.is), pivot_kept c i (omega arith) (pass i) (pass (opposite i)) q h.0.is h.1)) p (comes_here n p is, b)).1
+  shortest_kept c pass k p most is b = (in_turn_keeps (λ q. Comes n p q × Below c (entries n q.cells)) (relaxed_unless_negative n) k
+      (λ i q l h. (comes_on h.0 (turn_comes i q (omega arith) h.0.is), turn_kept c pass i q (omega arith) h.0.is h.1))
+      p (comes_here n p is, b)).1
+
+  -- ---- every pivot
+
+  abbrev all_relaxed : ℕ → Progress → Progress
+  all_relaxed k = in_turn (pivot_relaxed n) k
+
+  all_comes : (k : ℕ) (p : Progress) → k ≤ 2 * n → IsMatrix n p.cells → Comes n p (all_relaxed k p)
+  all_comes k p h is = in_turn_keeps (λ q. Comes n p q) (pivot_relaxed n) k (λ i q l c. comes_on c (pivot_comes i q (omega arith) c.is)) p (comes_here n p is)
+
+  -- where no entry of the diagonal is below 0 in the end, none was before, and every pivot was taken
+  all_taken : (k : ℕ) (p : Progress) → k ≤ 2 * n → IsMatrix n p.cells → ((i : ℕ) → Some (pos 0) ⊑ entries n (shortest n k p).cells i i)
+      → shortest n k p ≡ all_relaxed k p
+  unfolding shortest
+  all_taken zero p h is d = refl
+  all_taken (suc k) p h is d =
+      let q = in_turn (relaxed_unless_negative n) k p in
+      let turn = turn_comes k q (omega arith) (shortest_comes k p (omega arith) is).is in
+      let before : (i : ℕ) → Some (pos 0) ⊑ entries n q.cells i i = λ i. le_trans (d i) (turn.lowers.at i i) in
+      ap (λ b. cond b q (pivot_relaxed n k q)) (calm_diagonal n q.cells before) ∙ ap (pivot_relaxed n k) (all_taken k p (omega arith) is before)
 
   opposite_even : (t : ℕ) → opposite (2 * t) ≡ suc (2 * t)
   unfolding opposite
   opposite_even t = omega arith
 
   one_more : (t : ℕ) (p : Progress) → t < n → IsMatrix n p.cells
-      → ((shortest n (2 * t) p).flagged ≡ false → ((i : ℕ) → Some (pos 0) ⊑ entries n (shortest n (2 * t) p).cells i i) → (q : ℕ) → q < 2 * t → HasTriangles q (entries n (shortest n (2 * t) p).cells))
-      → (shortest n (suc (suc (2 * t))) p).flagged ≡ false → ((i : ℕ) → Some (pos 0) ⊑ entries n (shortest n (suc (suc (2 * t))) p).cells i i)
-      → (q : ℕ) → q < suc (suc (2 * t)) → HasTriangles q (entries n (shortest n (suc (suc (2 * t))) p).cells)
-  unfolding shortest
+      → ((all_relaxed (2 * t) p).flagged ≡ false → ((i : ℕ) → Some (pos 0) ⊑ entries n (all_relaxed (2 * t) p).cells i i) → (q : ℕ) → q < 2 * t
+      → HasTriangles q (entries n (all_relaxed (2 * t) p).cells))
+      → (all_relaxed (suc (suc (2 * t))) p).flagged ≡ false → ((i : ℕ) → Some (pos 0) ⊑ entries n (all_relaxed (suc (suc (2 * t))) p).cells i i)
+      → (q : ℕ) → q < suc (suc (2 * t)) → HasTriangles q (entries n (all_relaxed (suc (suc (2 * t))) p).cells)
   one_more t p h is before f d q l =
-      let p0 = in_turn (pivot_relaxed n) (2 * t) p in
+      let p0 = all_relaxed (2 * t) p in
       let p1 = pivot_relaxed n (2 * t) p0 in
       let hk : 2 * t < 2 * n = omega arith in
       let hk' : suc (2 * t) < 2 * n = omega arith in
-      let comes0 = shortest_comes (2 * t) p (omega arith) is in
+      let comes0 = all_comes (2 * t) p (omega arith) is in
       let comes1 = pivot_comes (2 * t) p0 hk comes0.is in
       let comes2 = pivot_comes (suc (2 * t)) p1 hk' comes1.is in
       pair_triangles (2 * t) (suc (2 * t)) (opposite_even t) hk hk' p0 comes0.is f d q (elim (eqb_tells q (suc (2 * t))) [
@@ -182,22 +244,32 @@ module _ (n : ℕ) where
       ])
 
   -- after the first t variables
-  pub shortest_triangles : (t : ℕ) (p : Progress) → t ≤ n → IsMatrix n p.cells → (shortest n (2 * t) p).flagged ≡ false
-      → ((i : ℕ) → Some (pos 0) ⊑ entries n (shortest n (2 * t) p).cells i i) → (q : ℕ) → q < 2 * t → HasTriangles q (entries n (shortest n (2 * t) p).cells)
-  shortest_triangles zero p h is f d q l = absurd (omega arith)
-  shortest_triangles (suc t) p h is f d q l =
+  all_triangles : (t : ℕ) (p : Progress) → t ≤ n → IsMatrix n p.cells → (all_relaxed (2 * t) p).flagged ≡ false
+      → ((i : ℕ) → Some (pos 0) ⊑ entries n (all_relaxed (2 * t) p).cells i i) → (q : ℕ) → q < 2 * t → HasTriangles q (entries n (all_relaxed (2 * t) p).cells)
+  all_triangles zero p h is f d q l = absurd (omega arith)
+  all_triangles (suc t) p h is f d q l =
       let e : 2 * suc t ≡ suc (suc (2 * t)) = omega arith in
-      rw e (one_more t p (omega arith) is (shortest_triangles t p (omega arith) is) (rw e at f) (rw e at d) q (omega arith))
+      rw e (one_more t p (omega arith) is (all_triangles t p (omega arith) is) (rw e at f) (rw e at d) q (omega arith))
 
-  pub shortest_closed : (p : Progress) → IsMatrix n p.cells → (shortest n (2 * n) p).flagged ≡ false → ((i : ℕ) → Some (pos 0) ⊑ entries n (shortest n (2 * n) p).cells i i)
-      → IsClosed (entries n (shortest n (2 * n) p).cells)
-  shortest_closed p is f d =
-      let all = shortest_comes (2 * n) p (omega arith) is in
+  all_closed : (p : Progress) → IsMatrix n p.cells → (all_relaxed (2 * n) p).flagged ≡ false
+      → ((i : ℕ) → Some (pos 0) ⊑ entries n (all_relaxed (2 * n) p).cells i i)
+      → IsClosed (entries n (all_relaxed (2 * n) p).cells)
+  all_closed p is f d =
+      let all = all_comes (2 * n) p (omega arith) is in
       record {
         diagonal = λ i. le_antisym (all.is.diagonal i) (d i);
         coherent = all.is.coherent;
         triangle = λ i q j. elim (leb_tells (suc q) (2 * n)) [
-          | inl l ↦ (shortest_triangles n p (omega arith) is f d q l.1).triangle i j
-          | inr l ↦ (triangles_beyond n (shortest n (2 * n) p).cells q (omega (arith, l.1))).triangle i j
+          | inl l ↦ (all_triangles n p (omega arith) is f d q l.1).triangle i j
+          | inr l ↦ (triangles_beyond n (all_relaxed (2 * n) p).cells q (omega (arith, l.1))).triangle i j
         ];
       }
+
+  pub shortest_closed : (p : Progress) → IsMatrix n p.cells → (shortest n (2 * n) p).flagged ≡ false
+      → ((i : ℕ) → Some (pos 0) ⊑ entries n (shortest n (2 * n) p).cells i i)
+      → IsClosed (entries n (shortest n (2 * n) p).cells)
+  shortest_closed p is f d =
+      let e = all_taken (2 * n) p (omega arith) is d in
+      let calm = subst (λ (q : Progress). q.flagged ≡ false) e f in
+      let room = subst (λ (q : Progress). (i : ℕ) → Some (pos 0) ⊑ entries n q.cells i i) e d in
+      subst (λ (q : Progress). IsClosed (entries n q.cells)) (sym e) (all_closed p is calm room)

@@ -1,6 +1,6 @@
 -- Closing gives the tight matrix with the same stores.
-use Rattle.std.proofs.Common.{◌≡◌, ℕ, zero, suc, ◌*◌, ◌<◌, ◌≤◌, ◌⊎◌, inl, inr, ℤ, pos, List, Option, None, Some, refl, sym, ap, ◌∙◌, arith, Bool, true, false, cond}
-use Rattle.std.specs.Prelude.{neg_ℤ, ◌||◌}
+use Rattle.std.proofs.Common.{◌≡◌, ℕ, zero, suc, ◌*◌, ◌<◌, ◌≤◌, inl, inr, ℤ, pos, List, Option, None, Some, refl, sym, ap, ◌∙◌, arith, Bool, true, false, cond}
+use Rattle.std.specs.Prelude.{neg_ℤ}
 use Rattle.std.proofs.lemmas.Int.{ints}
 use Rattle.std.proofs.lemmas.Bool.Decides.{leb_tells}
 use borrow.Author.Count.{below_more}
@@ -9,14 +9,14 @@ use Rattle.lra_dbm.specs.Tight.{Entries, opposite, signed_value, IsStore, IsTigh
 use Rattle.lra_dbm.proofs.Ways.{IsTightlyClosed, Below, IsClosed, strengthened}
 use Rattle.lra_dbm.specs.Cells.{Cells, cell, entries, IsMatrix}
 use Rattle.lra_dbm.specs.Steps.{Progress, shortest, any_below, is_negative, negative_diagonal, all_rounded, bounds_sum, crossed, crossing_passes, all_strengthened}
-use Rattle.lra_dbm.specs.Closing.{AfterClosing, after_crossing, from_rounded, closing, Closes}
+use Rattle.lra_dbm.specs.Closing.{AfterClosing, after_crossing, found_empty, from_rounded, closing, Closes}
 use Rattle.lra_dbm.proofs.EntryLemmas.{le_same, le_none, le_trans, le_antisym, sum_grows, sum_swap, lesser_left, le_lesser}
 use Rattle.lra_dbm.proofs.Strong.{opposite_twice, strengthened_closed}
 use Rattle.lra_dbm.proofs.Stores.{tightly_closed_is_tight}
 use Rattle.lra_dbm.proofs.CellLemmas.{opposite_below, entries_inside}
 use Rattle.lra_dbm.proofs.Lowering.{Comes, comes_on, le_within_range, within_range_same, or_false}
 use Rattle.lra_dbm.proofs.Diagonal.{all_rounded_diagonal, strengthened_diagonal}
-use Rattle.lra_dbm.proofs.Paths.{beyond, beyond_self, shortest_comes, shortest_closed}
+use Rattle.lra_dbm.proofs.Paths.{beyond, beyond_self, any_true, negative_absurd, shortest_comes, shortest_closed}
 use Rattle.std.proofs.Common.{subst}
 use Rattle.std.proofs.Math.Path.{fun_ext}
 use Rattle.lra_dbm.proofs.Closed.{difference, difference_closed, store_below, below_store, half_room, all_rounded_comes}
@@ -28,24 +28,9 @@ any_false f (suc k) h i l =
     let parts = or_false (any_below f k) (f k) h in
     below_more (λ i. f i ≡ false) k (λ i m. any_false f k parts.0 i m) parts.1 i (omega arith)
 
-or_true : (a b : Bool) → (a || b) ≡ true → (a ≡ true) ⊎ (b ≡ true)
-or_true true b h = inl refl
-or_true false b h = inr h
-
-any_true : (f : ℕ → Bool) (k : ℕ) → any_below f k ≡ true → (i : ℕ) × (i < k) × (f i ≡ true)
-any_true f zero h = absurd (cc)
-any_true f (suc k) h = elim (or_true (any_below f k) (f k) h) [
-  | inl e ↦ (let r = any_true f k e in (r.0, omega (arith, r.1), r.2))
-  | inr e ↦ (k, omega arith, e)
-]
-
 not_negative : (x : Option ℤ) → is_negative x ≡ false → Some (pos 0) ⊑ x
 not_negative None h = le_none (Some (pos 0))
 not_negative (Some v) h = record { at_most = grind (arith, ints) }
-
-negative_absurd : (x : Option ℤ) → is_negative x ≡ true → Some (pos 0) ⊑ x → ⊥
-negative_absurd None h k = absurd (cc)
-negative_absurd (Some v) h k = let p = k.at_most in grind (arith, ints)
 
 opposite_other : (i : ℕ) → i ≡ opposite i → ⊥
 unfolding opposite
@@ -207,11 +192,12 @@ module _ (n : ℕ) (cells : Cells) (is : IsMatrix n cells) where
   pub closing_closes : IsMatrix n (closing n cells).progress.cells × Closes n cells (closing n cells).progress.cells (closing n cells).empty (closing n cells).progress.flagged
   closing_closes =
       by_test (λ r. IsMatrix n r.progress.cells × Closes n cells r.progress.cells r.empty r.progress.flagged) (negative_diagonal paths.cells (2 * n))
-      (record { empty = true; progress = paths }) (from_rounded n even_bounds)
+      (found_empty paths) (from_rounded n even_bounds)
       (λ e. (
         to_paths.is,
         record {
           none = λ f s m. no_low s m e;
+          exact = λ f. refl;
           kept = λ s m. below_store n paths.cells s m.width (on_paths s m);
           same = as_before paths.cells to_paths.lowers;
           diagonal = λ f. absurd (cc);
@@ -219,11 +205,12 @@ module _ (n : ℕ) (cells : Cells) (is : IsMatrix n cells) where
         },
       ))
       (λ e. by_test (λ r. IsMatrix n r.progress.cells × Closes n cells r.progress.cells r.empty r.progress.flagged) (crossed even_bounds.cells (2 * n))
-      (record { empty = true; progress = after_crossing n even_bounds }) (record { empty = false; progress = strong })
+      (found_empty even_bounds) (record { empty = false; progress = strong })
       (λ g. (
         to_even.is,
         record {
           none = λ f s m. no_crossing s m g;
+          exact = λ f. refl;
           kept = λ s m. below_store n even_bounds.cells s m.width (on_even s m);
           same = as_before even_bounds.cells (comes_on to_paths to_even).lowers;
           diagonal = λ f. absurd (cc);
@@ -234,6 +221,7 @@ module _ (n : ℕ) (cells : Cells) (is : IsMatrix n cells) where
         to_strong.is,
         record {
           none = λ f. absurd (cc);
+          exact = λ f. absurd (cc);
           kept = λ s m. below_store n strong.cells s m.width (on_strong s m);
           same = as_before strong.cells (record { at = λ i j. le_trans (to_strong.lowers.at i j) ((comes_on to_paths to_even).lowers.at i j) });
           diagonal = λ f. zero_after e g;

@@ -14,23 +14,25 @@ pub record AfterClosing : Type 0 where
 abbrev pub after_crossing : ℕ → Progress → Progress
 after_crossing n p = record p { flagged = p.flagged || crossing_passes p.cells (2 * n) }
 
+-- there is no store, and that is exact, whatever number passed before
+abbrev pub found_empty : Progress → AfterClosing
+found_empty p = record { empty = true; progress = record p { flagged = false } }
+
 abbrev pub from_rounded : ℕ → Progress → AfterClosing
-from_rounded n p = cond (crossed p.cells (2 * n))
-    (record { empty = true; progress = after_crossing n p })
+from_rounded n p = cond (crossed p.cells (2 * n)) (found_empty p)
     (record { empty = false; progress = all_strengthened n (2 * n) (after_crossing n p) })
 
 abbrev pub from_shortest : ℕ → Progress → AfterClosing
-from_shortest n p = cond (negative_diagonal p.cells (2 * n))
-    (record { empty = true; progress = p })
-    (from_rounded n (all_rounded (2 * n) p))
+from_shortest n p = cond (negative_diagonal p.cells (2 * n)) (found_empty p) (from_rounded n (all_rounded (2 * n) p))
 
 abbrev pub closing : ℕ → Cells → AfterClosing
 closing n cells = from_shortest n (shortest n (2 * n) (record { cells = cells; flagged = false }))
 
--- after closing: no store where it answers that there is none, else the same stores and a diagonal of 0; and the matrix
--- is tight where no number passed the range
+-- after closing: no store where it answers that there is none, which is never flagged, else the same stores and a
+-- diagonal of 0; and the matrix is tight where no number passed the range
 pub record Closes (n : ℕ) (old new : Cells) (empty flagged : Bool) : Type 0 where
   pub none : empty ≡ true → (s : List ℤ) → IsStore n (entries n old) s → ⊥
+  pub exact : empty ≡ true → flagged ≡ false
   pub kept : (s : List ℤ) → IsStore n (entries n old) s → IsStore n (entries n new) s
   pub same : (s : List ℤ) → IsStore n (entries n new) s → IsStore n (entries n old) s
   pub diagonal : empty ≡ false → (i : ℕ) → entries n new i i ≡ Some (pos 0)

@@ -1,5 +1,5 @@
 -- The numbered steps of closing (Bagnara, Hill and Zaffanella, 2008), as a fold over indices.
-use Rattle.std.specs.Prelude.{ℕ, zero, suc, ◌*◌, ◌||◌, Bool, false, ℤ, pos, int_lt, Option, None, Some}
+use Rattle.std.specs.Prelude.{ℕ, zero, suc, ◌*◌, ◌||◌, Bool, false, cond, ℤ, pos, int_lt, Option, None, Some}
 use Rattle.lra_dbm.specs.Entry.{◌⊞◌, half_of, within_range, passes_range}
 use Rattle.lra_dbm.specs.Tight.{opposite}
 use Rattle.lra_dbm.specs.Cells.{Cells, cell, entered}
@@ -26,7 +26,15 @@ any_below f (suc k) = any_below f k || f k
 abbrev pub lowered : ℕ → ℕ → Option ℤ → Progress → Progress
 lowered i j v p = record { cells = entered i j (within_range v) p.cells; flagged = p.flagged || passes_range v }
 
--- 1. Shortest paths: for every k, then i, then j, the entry becomes the lesser of itself and of the sum by way of k.
+abbrev pub is_negative : Option ℤ → Bool
+is_negative None = false
+is_negative (Some v) = int_lt v (pos 0)
+
+abbrev pub negative_diagonal : Cells → ℕ → Bool
+negative_diagonal cells = any_below (λ i. is_negative (cell cells i i))
+
+-- 1. Shortest paths: for every k, then i, then j, the entry becomes the lesser of itself and of the sum by way of k. Once
+-- an entry of the diagonal is below 0 there is no store, and no further k is taken.
 
 abbrev pub relaxed : ℕ → ℕ → ℕ → Progress → Progress
 relaxed k i j p = lowered i j (cell p.cells i k ⊞ cell p.cells k j) p
@@ -37,17 +45,13 @@ row_relaxed n k i = in_turn (relaxed k i) (2 * n)
 abbrev pub pivot_relaxed : ℕ → ℕ → Progress → Progress
 pivot_relaxed n k = in_turn (row_relaxed n k) (2 * n)
 
+abbrev pub relaxed_unless_negative : ℕ → ℕ → Progress → Progress
+relaxed_unless_negative n k p = cond (negative_diagonal p.cells (2 * n)) p (pivot_relaxed n k p)
+
 unfoldable pub shortest : ℕ → ℕ → Progress → Progress
-shortest n k = in_turn (pivot_relaxed n) k
+shortest n k = in_turn (relaxed_unless_negative n) k
 
 -- 2. Empty where an entry of the diagonal is below 0.
-
-abbrev pub is_negative : Option ℤ → Bool
-is_negative None = false
-is_negative (Some v) = int_lt v (pos 0)
-
-abbrev pub negative_diagonal : Cells → ℕ → Bool
-negative_diagonal cells = any_below (λ i. is_negative (cell cells i i))
 
 -- 3. Each unary entry, a bound of twice a variable, is rounded down to even.
 

@@ -102,9 +102,9 @@ impl Matrix {
     }
 
     /// Closes the matrix in place by numbered steps: shortest paths, rounding of the unary entries, strengthening
-    /// (Bagnara, Hill and Zaffanella, 2008). Empty comes only where there is no store. Otherwise the stores stay, and
-    /// the matrix is tight where no number of the steps passes the range. A number that passes counts as infinite and
-    /// flags.
+    /// (Bagnara, Hill and Zaffanella, 2008). Empty comes only where there is no store, and is exact. Otherwise the
+    /// stores stay, and the matrix is tight where no number of the steps passes the range. A number that passes counts
+    /// as infinite and flags.
     pub fn close(&mut self) -> (Closing, Exactness)
         ensures dims { self.new.dims ≡ self.old.dims }
         ensures steps { closing self.old.dims self.old.cells

@@ -2,7 +2,7 @@
 
 ghost use Rattle.std.specs.Prelude.{◌≡◌, ◌≤◌, ◌<◌, ◌^◌, ◌*◌, false, length};
 ghost use Rattle.lra_dbm.specs.Cells.{size, IsMatrix};
-ghost use Rattle.lra_dbm.specs.Steps.{progress, relaxed, row_relaxed, pivot_relaxed, shortest};
+ghost use Rattle.lra_dbm.specs.Steps.{progress, relaxed, row_relaxed, pivot_relaxed, relaxed_unless_negative, shortest};
 ghost use Rattle.lra_dbm.specs.Steps.{negative_diagonal, rounded, all_rounded, crossed, crossing_passes};
 ghost use Rattle.lra_dbm.specs.Steps.{strengthened_at, row_strengthened, all_strengthened};
 ghost use Rattle.lra_dbm.specs.Closing.{closing, Closes};
@@ -52,8 +52,21 @@ fn relax_pivot(n: usize, cells: &mut [Option<i128>], flagged: bool, k: usize) ->
     passed
 }
 
+/// Relaxes by way of `k`, unless an entry of the diagonal is below 0 already.
+fn relax_unless_negative(n: usize, cells: &mut [Option<i128>], flagged: bool, k: usize) -> bool
+    requires few { n ≤ 2 ^ 30 }
+    requires full { length cells.old ≡ size n }
+    requires pivot { k < 2 * n }
+    ensures { progress cells.new result ≡ relaxed_unless_negative n k (progress cells.old flagged) }
+{
+    if has_negative_diagonal(n, cells) {
+        return flagged;
+    }
+    relax_pivot(n, cells, flagged, k)
+}
+
 #[tactic(auto, using(crate::proofs::Turns::in_turn_more), unfolding(crate::specs::Steps::shortest))]
-/// Step 1: shortest paths.
+/// Step 1: shortest paths, until an entry of the diagonal is below 0.
 fn shorten(n: usize, cells: &mut [Option<i128>]) -> bool
     requires few { n ≤ 2 ^ 30 }
     requires full { length cells.old ≡ size n }
@@ -61,7 +74,7 @@ fn shorten(n: usize, cells: &mut [Option<i128>]) -> bool
 {
     let mut passed = false;
     for k in 0..2 * n {
-        passed = relax_pivot(n, cells, passed, k);
+        passed = relax_unless_negative(n, cells, passed, k);
     }
     passed
 }
@@ -177,7 +190,7 @@ fn strengthen_all(n: usize, cells: &mut [Option<i128>], flagged: bool) -> bool
     passed
 }
 
-/// Whether closing found no store, and whether a number passed the range.
+/// Whether closing found no store, which is exact, and otherwise whether a number passed the range.
 #[derive(Clone, Copy, Debug, PartialEq, Eq)]
 pub struct Found {
     pub is_empty: bool,
@@ -202,14 +215,14 @@ fn run_steps(n: usize, cells: &mut [Option<i128>]) -> Found
 {
     let passed = shorten(n, cells);
     if has_negative_diagonal(n, cells) {
-        return answer(true, passed);
+        return answer(true, false);
     }
     let passed = round_all(n, cells, passed);
     let crossing = find_crossing(n, cells);
-    let passed = passed || crossing.passes;
     if crossing.is_crossed {
-        return answer(true, passed);
+        return answer(true, false);
     }
+    let passed = passed || crossing.passes;
     let passed = strengthen_all(n, cells, passed);
     answer(false, passed)
 }
