@@ -140,6 +140,14 @@ pub fn spelling_of(mark: Mark) -> &'static [u8]
     }
 }
 
+/// Whether the mark is spelled like this, which the first byte mostly tells.
+fn has_spelling(mark: Mark, spelling: &[u8]) -> bool
+    ensures { result ≡ bytes_eq (mark_text mark) spelling.now }
+{
+    let own = spelling_of(mark);
+    !spelling.is_empty() && own[0] == spelling[0] && own == spelling
+}
+
 /// The operator, or reserved word that the grammar names, of this spelling.
 pub fn find_mark(spelling: &[u8]) -> Option<Mark>
     ensures { result ≡ found_mark spelling.now }
@@ -147,7 +155,7 @@ pub fn find_mark(spelling: &[u8]) -> Option<Mark>
     MARKS
         .iter()
         .copied()
-        .find(|mark| spelling_of(*mark) == spelling)
+        .find(|mark| has_spelling(*mark, spelling))
 }
 
 /// Whether the word is one of these.
