@@ -4,7 +4,7 @@
     hostile/depth.py [PROGRAM]
 
 Each run has a stack of 1 MB and ten seconds of processor time. A function nests 63 levels in its body; 32 calls may stand
-on a path, 2,048 points in a program, 24 variables live at a point. Wants `cc` for its last row.
+on a path, 2,048 points in a program, 32 variables live at a point. Wants `cc` for its last row.
 """
 from levels import BLOCK, COUNTING, DECLARED, IF, IF_BLOCK, MIXED, SINGLE, WHILE, WHILE_BLOCK
 from levels import nested, points_of, stacked
@@ -69,14 +69,14 @@ answered('10 functions of 60 for that count', 'long x;\n' + stacked(COUNTING, 60
 # declarations: as many variables as may live at a point, and one more. Each loop keeps what its last pass found, so what
 # loops in loops take grows with the square of their number; where that passes the memory there is, nothing is written
 for name, level, depth in (('while', WHILE, 10), ('if', IF, 60)):
-    source = stacked(level, depth, 24, begins='long v; ')
-    answered(f'24 functions of {depth} {name}, each with a variable', source, points_of(level, depth, 24) + 24)
-    source = stacked(level, 60, 25, begins='long v; ')
+    source = stacked(level, depth, 32, begins='long v; ')
+    answered(f'32 functions of {depth} {name}, each with a variable', source, points_of(level, depth, 32) + 32)
+    source = stacked(level, 60, 33, begins='long v; ')
     refused(f'a variable more, {name}', source, f'refused 12 TooManyVariables at {place_of(source, level[0])}')
 case('24 functions of 60 while, each with a variable', 'analyse --domain oct', stacked(WHILE, 60, 24, begins='long v; '),
      6, whole='', limit=LIMIT)
-answered('23 blocks with a variable each', f'int main(void){{ long w; {nested(DECLARED, 23)} }}',
-         points_of(DECLARED, 23, 1) + 1)
+answered('31 blocks with a variable each', f'int main(void){{ long w; {nested(DECLARED, 31)} }}',
+         points_of(DECLARED, 31, 1) + 1)
 
 # chains of operands, which nest nothing: as many as a source has room for
 for operator in ('||', '&&'):

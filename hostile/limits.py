@@ -6,7 +6,7 @@
 from trial import case, ended, refused
 
 BOX = 'analyse --domain box'
-NAMES = ['v%d' % k for k in range(1, 26)]
+NAMES = ['v%d' % k for k in range(1, 34)]
 
 
 def chain(last):
@@ -60,12 +60,12 @@ case('32 calls in a path', BOX, chain(31), 0)
 refused('33 calls in a path', chain(32), 'refused 13 TooManyPoints at 2:16')
 
 # variables that live at a point, at once and through a call
-case('24 variables', BOX, 'int main(void){ long ' + ','.join(NAMES[:24]) + ';}', 0, holds=['point 25 main '])
-refused('25 variables', 'int main(void){ long ' + ','.join(NAMES) + ';}', 'refused 12 TooManyVariables at 1:113')
-case('24 ints', BOX, 'int main(void){ int ' + ','.join(NAMES[:24]) + ';}', 0, holds=['point 25 main '])
+case('32 variables', BOX, 'int main(void){ long ' + ','.join(NAMES[:32]) + ';}', 0, holds=['point 33 main '])
+refused('33 variables', 'int main(void){ long ' + ','.join(NAMES) + ';}', 'refused 12 TooManyVariables at 1:145')
+case('32 ints', BOX, 'int main(void){ int ' + ','.join(NAMES[:32]) + ';}', 0, holds=['point 33 main '])
 THROUGH = 'void f(long p){}\nint main(void){ long %s; f(1);}'
-case('23 variables and a parameter', BOX, THROUGH % ','.join(NAMES[:23]), 0)
-refused('24 variables and a parameter', THROUGH % ','.join(NAMES[:24]), 'refused 12 TooManyVariables at 1:16')
+case('31 variables and a parameter', BOX, THROUGH % ','.join(NAMES[:31]), 0)
+refused('32 variables and a parameter', THROUGH % ','.join(NAMES[:32]), 'refused 12 TooManyVariables at 1:16')
 
 # points, in one body and through calls: a call of `f` is one, its body's n statements and its end n + 1
 case('2,048 points', BOX, 'int main(void){' + ';' * 2047 + '}', 0, holds=['point 2048 main 1:2063\n'],

@@ -24,7 +24,7 @@ REFUSALS = {
     'BadCall': 'the number of arguments differs, or a result is used that there is not',
     'Misplaced': 'not in a loop',
     'Recursive': "the call's callee reaches the function that holds the call",
-    'TooManyVariables': 'more than 24 variables live here',
+    'TooManyVariables': 'more than 32 variables live here',
     'TooManyPoints': 'there are more than 2,048 points, or 32 calls on a path',
 }
 

@@ -1,13 +1,15 @@
-//! What all stages share: places in a source with the causes for which it is refused, and operators.
+//! What all stages share: places in a source with the causes for which it is refused, limits, and operators.
 #![tactic(auto)]
 
 mod error;
+mod limits;
 mod number_types;
 mod operators;
 mod places;
 mod refusals;
 
 pub use error::SourceError;
+pub use limits::GREATEST_LIVE;
 pub use number_types::NumberType;
 pub use operators::{Comparison, Operator};
 pub use places::{GREATEST_LENGTH, place_behind};

@@ -32,7 +32,7 @@ pub enum Cause {
     Misplaced,
     /// A call by which a function reaches itself.
     Recursive,
-    /// More than 24 variables live at a point.
+    /// More than `GREATEST_LIVE` variables live at a point.
     TooManyVariables,
     /// Point 2,049, or a call path of 33 calls.
     TooManyPoints,

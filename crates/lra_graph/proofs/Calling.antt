@@ -1,6 +1,7 @@
 -- A call written out as the code has it: the callee's path, its body and the number of its parameters are known by equations.
 use Rattle.std.proofs.Common.{◌≡◌, ◌≢◌, ℕ, suc, ◌+◌, ◌-◌, ◌<◌, ◌≤◌, List, [], ◌∷◌, length, Some, None, false, slice_get, refl, sym, ap, ◌∙◌, subst, arith}
 use Rattle.std.proofs.lemmas.Option.{same_Some}
+use Rattle.lra_base.specs.Limits.{greatest_live}
 use Rattle.lra_program.specs.Program.{Call, result, BlockItems, Function, Program}
 use Rattle.lra_program.specs.declared.receivers.Receiver.{Receiver}
 use Rattle.lra_program.specs.Receivers.{behind_result}
@@ -124,7 +125,7 @@ module _ (P : Program) (path : List ℕ) (r : Frame) (x : Receiver) (c : Call) (
 -- the place of a call opens, in which its callee's body is under way
 pub body_opens : (P : Program) (path : List ℕ) (r : Frame) (S : List Site) (p : List ℕ) (f : Frame) (b : BlockItems) (from : CalledFrom)
     → IsCallee P path r from.caller.receiver (call_view from.call.now) p f b → from.path ≡ path → IsWellFormed P → CallStands P r (call_view from.call.now) →
-    r.live ≤ 25
+    r.live ≤ greatest_live + 1
     → IsOpen P (due (a_call from.caller (call_view from.call.now)) path r S) (due (all_items b) p f S) (record { frame = r; place = place.Callee from }) × ItemsStand P f b
 body_opens P path r S p f b from is at well stands few =
     let x = from.caller.receiver in

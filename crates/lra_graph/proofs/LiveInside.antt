@@ -1,6 +1,7 @@
 -- How many variables live behind the items of a block, item by item.
 use Rattle.std.proofs.Common.{◌≡◌, ℕ, suc, ◌+◌, ◌<◌, ◌≤◌, List, ◌∷◌, length, map, drop, get_or, refl, sym, ap, ◌∙◌, arith, add-one, drop-cons}
 use Rattle.std.proofs.lemmas.List.{drop_all}
+use Rattle.lra_base.specs.Limits.{greatest_live}
 use Rattle.lra_program.specs.Program as program
 use Rattle.lra_program.specs.Program.{no_more, declaration, statement}
 use Rattle.lra_program.specs.Sites.{live_behind}
@@ -32,7 +33,7 @@ stated_behind items i n x s l e f = rw (items_at items i x l e, f, shown_stateme
 
 -- where the number no longer fits
 pub beyond : (items : List BlockItem) (i n whole : ℕ) (x : BlockItem) (d : Declarator) → i < length items → x ≡ get_or items i x → x ≡ code_item.Declaration d
-    → behind_items n (drop i items) ≡ whole → (n + 1 < 18446744073709551616 → ⊥) → 24 < whole
+    → behind_items n (drop i items) ≡ whole → (n + 1 < 18446744073709551616 → ⊥) → greatest_live < whole
 beyond items i n whole x d l e f same h =
     let low = live_low (suc n) (items_of (map item_view (drop (i + 1) items))) in
     let step = declared_behind items i n (suc n) x d l e f (omega arith) in

@@ -1,6 +1,7 @@
 -- Places that are open, from the outermost on: one more, one less; and the next step at the innermost leads to the whole.
-use Rattle.std.proofs.Common.{◌≡◌, ℕ, ◌≤◌, Some, List, [], ◌∷◌, ◌++◌, map, length, Result, Ok, Err, IfOk, refl, sym, ap, ◌∙◌, subst}
+use Rattle.std.proofs.Common.{◌≡◌, ℕ, ◌+◌, ◌≤◌, Some, List, [], ◌∷◌, ◌++◌, map, length, Result, Ok, Err, IfOk, refl, sym, ap, ◌∙◌, subst}
 use Rattle.std.proofs.lemmas.List.{map-append}
+use Rattle.lra_base.specs.Limits.{greatest_live}
 use Rattle.lra_program.specs.Program.{Program, BlockItems, result}
 use Rattle.lra_program.specs.Step.{keep}
 use Rattle.lra_program.specs.Sites.{Site, plain_site, call_events}
@@ -131,8 +132,8 @@ module _ (P : Program) where
 
     -- behind a called function's body
     module _ (from : CalledFrom) (g : Node) (o : IsOpen P whole under (record { frame = f; place = place.Callee from })) (w : IsWritten P under g n V) where
-      pub callee_few : f.live ≤ 25
-      callee_few = subst (λ z. z.live ≤ 25) (sym o.frame) o.continues.few
+      pub callee_few : f.live ≤ greatest_live + 1
+      callee_few = subst (λ z. z.live ≤ greatest_live + 1) (sym o.frame) o.continues.few
 
       pub callee_stands : CallStands P f (call_view from.call.now)
       callee_stands = subst (λ z. CallStands P z (call_view from.call.now)) (sym o.frame) o.continues.stands

@@ -1,6 +1,7 @@
 -- The first step into a form leads to the whole: where a place opens, with what is written of the part in it the whole is
 -- written, and the limit that the part passes is the whole's.
 use Rattle.std.proofs.Common.{◌≡◌, ℕ, suc, ◌≤◌, List, [], ◌∷◌, length, Some, None, false, refl, sym, ◌∙◌, subst, arith}
+use Rattle.lra_base.specs.Limits.{greatest_live}
 use Rattle.lra_program.specs.Program as program
 use Rattle.lra_program.specs.Program.{Variable, Expr, value, result, assign, call, if, block, return, BlockItems, Program}
 use Rattle.lra_program.specs.Value.{index_of}
@@ -97,7 +98,7 @@ module _ (P : Program) (path : List ℕ) (r : Frame) (S : List Site) where
 
     -- the value that a call gives
     pub assign_opens : (x : Variable) (c : program.Call) (k : ℕ) (y : Receiver) → k ≡ index_of r.base x.slot → y ≡ variable_at k x.number_type → StmtStands P r
-        (assign at x (result c)) → r.live ≤ 24
+        (assign at x (result c)) → r.live ≤ greatest_live
         → IsOpen P (due (a_stmt (assign at x (result c))) path r S) (due (a_call (record { point = q; receiver = y }) c) path r V)
         (record { frame = r; place = place.Given q })
         × StandsAs P (a_call (record { point = q; receiver = y }) c) r
@@ -121,7 +122,7 @@ module _ (P : Program) (path : List ℕ) (r : Frame) (S : List Site) where
     value_assigned x e k y is gets h g a b = assign_written P path r S V V q at k x (value e) h g number pointed is
         (subst (λ z. WritesRvalue P path r q z V (value e) h V) gets (value_written P path r V q y e h a)) b
 
-    pub call_opens : (c : program.Call) (y : Receiver) → y ≡ nobody → StmtStands P r (call at c) → r.live ≤ 24
+    pub call_opens : (c : program.Call) (y : Receiver) → y ≡ nobody → StmtStands P r (call at c) → r.live ≤ greatest_live
         → IsOpen P (due (a_stmt (call at c)) path r S) (due (a_call (record { point = q; receiver = y }) c) path r V)
         (record { frame = r; place = place.Given q })
         × StandsAs P (a_call (record { point = q; receiver = y }) c) r
@@ -138,7 +139,7 @@ module _ (P : Program) (path : List ℕ) (r : Frame) (S : List Site) where
       (call_stands P r at c s, omega (arith, few)),
     )
 
-    pub return_opens : (c : program.Call) → StmtStands P r (return at (Some (result c))) → r.live ≤ 24
+    pub return_opens : (c : program.Call) → StmtStands P r (return at (Some (result c))) → r.live ≤ greatest_live
         → IsOpen P (due (a_stmt (return at (Some (result c)))) path r S) (due (a_call (record { point = q; receiver = r.receiver }) c) path r V)
         (record { frame = r; place = place.Returned q })
         × StandsAs P (a_call (record { point = q; receiver = r.receiver }) c) r
@@ -171,7 +172,7 @@ module _ (P : Program) (path : List ℕ) (r : Frame) (S : List Site) where
   pub declaration_opens : (d : program.Declarator) (V : List Site) (q n : ℕ) (c : program.Call) (y : Receiver) → y ≡ variable_at r.live d.number_type → q ≡
       length S → Pointed S (site P path r d.label r.live false) V → n ≡ suc r.live
       → d.rvalue ≡ Some (result c)
-      → ItemStands P r (program.declaration d) → r.live ≤ 24
+      → ItemStands P r (program.declaration d) → r.live ≤ greatest_live
       → IsOpen P (due (a_declaration d) path r S) (due (a_call (record { point = q; receiver = y }) c) path (record r { live = n }) V)
       (record { frame = r; place = place.Declared q d.number_type })
       × StandsAs P (a_call (record { point = q; receiver = y }) c) (record r { live = n })

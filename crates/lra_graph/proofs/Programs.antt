@@ -4,6 +4,7 @@ use Rattle.std.proofs.Common.{arith}
 use Rattle.std.specs.Vec.{vec_len}
 use Rattle.std.proofs.lemmas.List.{length-map}
 use Rattle.std.proofs.lemmas.Option.{none-some, same_Some, slice_get-map, slice_get_cases, slice_get_read, get_or_from_slice_get}
+use Rattle.lra_base.specs.Limits.{greatest_live}
 use Rattle.lra_program.specs.Program as resolved
 use Rattle.lra_program.specs.declared.program.BlockItem.{BlockItem}
 use Rattle.lra_program.specs.declared.program.Call.{Call}
@@ -69,7 +70,7 @@ module _ (p : Program) (f : Function) where
       (sym (function_there p.main e))
 
 -- as many arguments as there may be fit behind the variables that live
-pub arguments_fit : (live k : ℕ) (c : Call) → k ≡ vec_len c.arguments → live ≤ 25 → live + k < 18446744073709551616
+pub arguments_fit : (live k : ℕ) (c : Call) → k ≡ vec_len c.arguments → live ≤ greatest_live + 1 → live + k < 18446744073709551616
 arguments_fit live k c e few =
     let within = c.arguments.ok.1 in
     let small = c.arguments.small in
@@ -97,7 +98,7 @@ module _ (p : Program) (r : Frame) (c : Call) (stands : CallStands (program_view
         z.2 ∙ ap (λ (g : resolved.Function). length g.parameters) (same_Some z.0 (function_view f) (sym z.1 ∙ found))
 
     -- as many parameters as arguments, behind the variables that live
-    pub called_few : (live : ℕ) → live ≤ 25 → live + length f.parameters.items < 18446744073709551616
+    pub called_few : (live : ℕ) → live ≤ greatest_live + 1 → live + length f.parameters.items < 18446744073709551616
     called_few live few = subst (λ k. live + k < 18446744073709551616) (c.arguments.ok.0 ∙ sym (length-map c.arguments.items expr_view) ∙ called_fits)
         (arguments_fit live (vec_len c.arguments) c refl few)
 

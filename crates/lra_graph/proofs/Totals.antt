@@ -50,15 +50,15 @@ walk_fault ls S (comes s ∷ es) =
 walk_fault ls S (one_call_more at ∷ es) = refl
 
 -- no point has more live variables than may be
-few_there : (n : ℕ) (full : Bool) (x y : Limit) (r : Progress) (U : List Site) → chosen (nat_lt greatest_live n) full x y r ≡ passed U → n ≤ 24
+few_there : (n : ℕ) (full : Bool) (x y : Limit) (r : Progress) (U : List Site) → chosen (nat_lt greatest_live n) full x y r ≡ passed U → n ≤ greatest_live
 few_there n full x y r U e =
-    let no : 24 < n → ⊥ = λ l. not_passed x U (subst (λ many. chosen many full x y r ≡ passed U) (lt-ltb greatest_live n l) e) in
+    let no : greatest_live < n → ⊥ = λ l. not_passed x U (subst (λ many. chosen many full x y r ≡ passed U) (lt-ltb greatest_live n l) e) in
     omega (arith, no)
 
-pub few_live : (S : List Site) (es : List Event) (U : List Site) → walk S es ≡ passed U → (q : ℕ) (s : Site) → slice_get (sites_in es) q ≡ Some s → s.live ≤ 24
+pub few_live : (S : List Site) (es : List Event) (U : List Site) → walk S es ≡ passed U → (q : ℕ) (s : Site) → slice_get (sites_in es) q ≡ Some s → s.live ≤ greatest_live
 few_live S [] U e q s f = absurd (none-some s f)
 few_live S (comes t ∷ es) U e zero s f =
-    subst (λ (z : Site). z.live ≤ 24) (same_Some t s f) (few_there t.live (nat_lt greatest_points (suc (length S))) (Variables t.label) (Points t.label) (walk (S ++ t ∷ []) es) U e)
+    subst (λ (z : Site). z.live ≤ greatest_live) (same_Some t s f) (few_there t.live (nat_lt greatest_points (suc (length S))) (Variables t.label) (Points t.label) (walk (S ++ t ∷ []) es) U e)
 few_live S (comes t ∷ es) U e (suc q) s f =
     few_live (S ++ t ∷ []) es U (chosen_passed (nat_lt greatest_live t.live) (nat_lt greatest_points (suc (length S))) (Variables t.label) (Points t.label) (walk (S ++ t ∷ []) es) U e) q s f
 few_live S (one_call_more at ∷ es) U e q s f = absurd (not_passed (Calls at) U e)
@@ -144,7 +144,7 @@ module _ (P : Program) (well : IsWellFormed P) (p : List ℕ) (r : Frame) (S : L
     pub made_graph : (g : Node) → q ≡ length V → g ≡ seq h (point q) → IsGraph P g
     made_graph g i a = whole_graph P well.alone V U h g q (writes_as h V x) (end_as n V (passed U) same e) i a
 
-    pub made_few : (k : ℕ) (s : Site) → slice_get (sites_of P) k ≡ Some s → s.live ≤ 24
+    pub made_few : (k : ℕ) (s : Site) → slice_get (sites_of P) k ≡ Some s → s.live ≤ greatest_live
     made_few k s f = few_live [] (events_of P) U made_walk k s f
 
     pub made_within : (ls : List Labelled) → limit_fault ls 0 (events_of P) ≡ None

@@ -1,6 +1,7 @@
 -- What is owed where a program is written out along a list of open places: in each of them a part is under way, and
 -- with that the place's own part is written.
-use Rattle.std.specs.Prelude.{◌≡◌, ℕ, ◌≤◌, List, [], ◌∷◌, ◌++◌, map, length, Some, None}
+use Rattle.std.specs.Prelude.{◌≡◌, ℕ, ◌+◌, ◌≤◌, List, [], ◌∷◌, ◌++◌, map, length, Some, None}
+use Rattle.lra_base.specs.Limits.{greatest_live}
 use Rattle.lra_program.specs.Program as resolved
 use Rattle.lra_program.specs.Program.{result, Declarator, declaration, BlockItems, Program, Cond}
 use Rattle.lra_program.specs.Step.{append, keep}
@@ -94,7 +95,7 @@ module _ (P : Program) where
   StandsAs (a_stmt s) r = StmtStands P r s
   StandsAs (a_declaration d) r = ItemStands P r (declaration d)
   StandsAs (all_items b) r = ItemsStand P r b
-  StandsAs (a_call caller c) r = CallStands P r c × (r.live ≤ 25)
+  StandsAs (a_call caller c) r = CallStands P r c × (r.live ≤ greatest_live + 1)
   StandsAs (all_rounds q c a step) r =
       StmtStands P (record r { loop_length = Some r.live }) a × StmtStands P (record r { loop_length = None }) step
 
@@ -145,7 +146,7 @@ module _ (P : Program) where
     pub is : whole.part ≡ a_call from.caller (call_view from.call.now)
     pub path : from.path ≡ whole.path
     pub stands : CallStands P whole.frame (call_view from.call.now)
-    pub few : whole.frame.live ≤ 25
+    pub few : whole.frame.live ≤ greatest_live + 1
     pub writes : (g : Node) (n : ℕ) (V : List Site) → IsWritten under g n V
         → WritesBody P whole.path whole.frame from.caller.receiver (call_view from.call.now) whole.before g n V
 

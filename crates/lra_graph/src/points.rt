@@ -6,11 +6,10 @@ ghost use Rattle.lra_operations.specs.GraphViews.{site_view};
 ghost use Rattle.lra_meaning.specs.Refuse.{greatest_live};
 ghost use Rattle.lra_graph.specs.Limits.{walk, passed, stopped, OnLimit};
 
+use lra_base::GREATEST_LIVE;
 use lra_operations::{Node, Path, Site};
 use std::alloc::{AllocError, Global};
 
-/// The most variables that may live at a point.
-pub const GREATEST_LIVE: usize = 24;
 /// The most points that a program may have.
 pub const GREATEST_POINTS: usize = 2048;
 /// The most calls on a path.
@@ -19,7 +18,7 @@ pub const GREATEST_CALLS: usize = 32;
 /// The limit that a program passes, and the label of the point or call that first passes it.
 #[derive(Clone, Copy, PartialEq, Eq, Debug)]
 pub enum Limit {
-    /// More than 24 variables live at the point.
+    /// More than `GREATEST_LIVE` variables live at the point.
     Variables(usize),
     /// The point is one more than 2048.
     Points(usize),

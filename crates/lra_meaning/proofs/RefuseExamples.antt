@@ -35,26 +35,26 @@ abbrev variables : ℕ → List DeclaratorTree
 variables zero = []
 variables (suc n) = record { name = name_at (118 ∷ n ∷ []) 22; rvalue = None } ∷ variables n
 
--- int main(void){ long v1,..,v25;} : all live at the `}`
+-- int main(void){ long v1,..,v33;} : all live at the `}`
 abbrev with_variables : ℕ → FileTree
-with_variables n = main_of (declaration (record { number_type = Long; first = record { name = name_at (codes "v") 22; rvalue = None }; rest = variables n }) no_items) 113
+with_variables n = main_of (declaration (record { number_type = Long; first = record { name = name_at (codes "v") 22; rvalue = None }; rest = variables n }) no_items) 145
 
-too_many_variables : limits (with_variables 24) ≡ Some (record { cause = TooManyVariables; place = at 113 })
+too_many_variables : limits (with_variables 32) ≡ Some (record { cause = TooManyVariables; place = at 145 })
 too_many_variables = refl
 
-variables_enough : limits (with_variables 23) ≡ None
+variables_enough : limits (with_variables 31) ≡ None
 variables_enough = refl
 
 -- int main(void){ long v1,..,vN; for(long i=0;;) ; }
 abbrev with_for : ℕ → FileTree
 with_for n = main_of (declaration (record { number_type = Long; first = record { name = name_at (codes "v") 22; rvalue = None }; rest = variables n })
-    (statement (for (at 114) (declared (declared_as (name_at (codes "i") 123) (Some (expression (number_of 0))))) None None (nothing (at 130))) no_items)) 132
+    (statement (for (at 146) (declared (declared_as (name_at (codes "i") 155) (Some (expression (number_of 0))))) None None (nothing (at 162))) no_items)) 164
 
--- i is the 25th: the first point where it lives is that of the word `for`, which comes before its declarator's
-too_many_in_for : limits (with_for 23) ≡ Some (record { cause = TooManyVariables; place = at 114 })
+-- i is the 33rd: the first point where it lives is that of the word `for`, which comes before its declarator's
+too_many_in_for : limits (with_for 31) ≡ Some (record { cause = TooManyVariables; place = at 146 })
 too_many_in_for = refl
 
-enough_in_for : limits (with_for 22) ≡ None
+enough_in_for : limits (with_for 30) ≡ None
 enough_in_for = refl
 
 -- void f(long d){;} int main(void){ long v1,..,vN; f(0); }
@@ -63,16 +63,16 @@ with_callee n = record {
   parts = function (void_of (codes "f") 6 (long_parameter (name_at (codes "d") 13) ∷ []) (statement (nothing (at 16)) no_items) 17)
       ∷ function (main_function 23
       (declaration (record { number_type = Long; first = record { name = name_at (codes "v") 40; rvalue = None }; rest = variables n })
-      (statement (call (call_of (name_at (codes "f") 132) (number_of 0 ∷ []))) no_items)) 138)
+      (statement (call (call_of (name_at (codes "f") 164) (number_of 0 ∷ []))) no_items)) 170)
       ∷ [];
-  end = at 139;
+  end = at 171;
 }
 
--- d is the 25th, at the callee's first point: main's variables count there
-too_many_in_callee : limits (with_callee 23) ≡ Some (record { cause = TooManyVariables; place = at 16 })
+-- d is the 33rd, at the callee's first point: main's variables count there
+too_many_in_callee : limits (with_callee 31) ≡ Some (record { cause = TooManyVariables; place = at 16 })
 too_many_in_callee = refl
 
-enough_in_callee : limits (with_callee 22) ≡ None
+enough_in_callee : limits (with_callee 30) ≡ None
 enough_in_callee = refl
 
 -- so many `;` from a column on

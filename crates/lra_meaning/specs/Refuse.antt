@@ -9,6 +9,7 @@ use Rattle.lra_base.specs.declared.refusals.Cause.TheVariants.{TooLong, Recursiv
 use Rattle.lra_base.specs.declared.refusals.Refusal.{Refusal}
 use Rattle.lra_tree.specs.declared.tokens.Token.{Token}
 use Rattle.lra_tree.specs.Trees.{FileTree}
+pub use Rattle.lra_base.specs.Limits.{greatest_live}
 use Rattle.lra_base.specs.Places.{place_behind, greatest_length}
 use Rattle.lra_tree.specs.Tokens.{Lex, IsTokenFault}
 use Rattle.lra_tree.specs.Faults.{Language, IsTree, IsTextFault}
@@ -21,9 +22,6 @@ use Rattle.lra_tree.specs.Grammar.{Spells}
 use Rattle.lra_program.specs.WellFormed.{IsWellFormed}
 
 -- limits -----------------------------------------------------------------------------------------------------------
-
-abbrev pub greatest_live : ℕ
-greatest_live = 24
 
 abbrev pub greatest_points : ℕ
 greatest_points = 2048

@@ -60,8 +60,8 @@ given_rows = (refl, refl, refl)
 show_lines : (said (codes "show P") ≡ Some (Ask (Show (codes "P")))) × (said (codes "show") ≡ None) × (said (codes "show P Q") ≡ None) × (said (codes "show 1") ≡ None)
 show_lines = (refl, refl, refl, refl)
 
--- catches 25 dimensions, and a divisor 0
-limits : (said (codes "dims 24") ≡ Some (Dims 24)) × (said (codes "dims 25") ≡ None) × (said (codes "dims -1") ≡ None) × (said (codes "dims 1 2") ≡ None) × (said (codes "dims") ≡ None)
+-- catches 33 dimensions, and a divisor 0
+limits : (said (codes "dims 32") ≡ Some (Dims 32)) × (said (codes "dims 33") ≡ None) × (said (codes "dims -1") ≡ None) × (said (codes "dims 1 2") ≡ None) × (said (codes "dims") ≡ None)
     × (said (codes "holds P 0 1") ≡ None) × (said (codes "holds P -1 1") ≡ None) × (said (codes "holds P") ≡ Some (Ask (Holds (codes "P") [])))
 limits = (refl, refl, refl, refl, refl, refl, refl, refl)
 
@@ -80,12 +80,12 @@ widened_lines = (refl, refl, refl, refl, refl, refl, refl)
 
 -- catches a form before its coordinate, and a coefficient of more than 64 bits
 map_lines : (said (codes "image R P 1 0 2") ≡ Some (Make (codes "R") (Map Image (codes "P") 1 (pos 0 ∷ pos 2 ∷ [])))) ×
-    (said (codes "preimage R P 2") ≡ Some (Make (codes "R") (Map Preimage (codes "P") 2 []))) × (said (codes "image R P") ≡ None) × (said (codes "image R P 25 0 1") ≡ None) ×
+    (said (codes "preimage R P 2") ≡ Some (Make (codes "R") (Map Preimage (codes "P") 2 []))) × (said (codes "image R P") ≡ None) × (said (codes "image R P 33 0 1") ≡ None) ×
     (said (codes "image R P 1 0 9223372036854775808") ≡ None)
 map_lines = (refl, refl, refl, refl, refl)
 
 -- catches a coordinate that is no number, and one that can be none
-forget_lines : (said (codes "forget R P 2") ≡ Some (Make (codes "R") (Forget (codes "P") 2))) × (said (codes "forget R P") ≡ None) × (said (codes "forget R P 25") ≡ None) ×
+forget_lines : (said (codes "forget R P 2") ≡ Some (Make (codes "R") (Forget (codes "P") 2))) × (said (codes "forget R P") ≡ None) × (said (codes "forget R P 33") ≡ None) ×
     (said (codes "forget R P -1") ≡ None) × (said (codes "forget R P x1") ≡ None) × (said (codes "forget R P 1 2") ≡ None)
 forget_lines = (refl, refl, refl, refl, refl, refl)
 

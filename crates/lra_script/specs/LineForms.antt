@@ -4,6 +4,7 @@ use Rattle.std.specs.Prelude.{codes, bytes_eq}
 use Rattle.std.specs.Prelude.{if◌then◌else◌, Option, Some, None, option_map, option_and_then}
 use Rattle.std.specs.List.{slice_split}
 use Rattle.std.specs.Option.{option_or}
+use Rattle.lra_base.specs.Limits.{greatest_live}
 use Rattle.lra_linear.specs.Descriptions.{Given, generator, line}
 use Rattle.lra_linear.specs.declared.GenKind.{GenKind}
 use Rattle.lra_linear.specs.declared.GenKind.TheVariants as gen
@@ -65,7 +66,7 @@ all_of one (x ∷ xs) = with_first (one x) (all_of one xs)
 
 -- the most dimensions
 abbrev pub greatest_dims : ℕ
-greatest_dims = 24
+greatest_dims = greatest_live
 
 -- a number of dimensions, or of a coordinate
 abbrev pub small_count : ℤ → Option ℕ

@@ -14,6 +14,7 @@ ghost use Rattle.lra_script.specs.LineForms as form;
 ghost use Rattle.lra_script.specs.LineForms.{all_of};
 ghost use Rattle.lra_script.specs.Views.{texts, items_of};
 
+use lra_base::GREATEST_LIVE;
 use std::alloc::{AllocError, Global};
 use std::str;
 
@@ -114,9 +115,9 @@ pub fn number_of(word: &[u8]) -> Option<i128>
 }
 
 /// The most dimensions.
-const MOST_DIMS: i128 = 24;
+const MOST_DIMS: i128 = GREATEST_LIVE as i128;
 
-/// The number of a word, where it is one from 0 to 24.
+/// The number of a word, where it is one from 0 to the most dimensions.
 pub fn small_number(word: &[u8]) -> Option<usize>
     ensures count { result ≡ form.small_number word.now }
     ensures small { IfSome result (λ n. n ≤ form.greatest_dims) }
@@ -127,7 +128,7 @@ pub fn small_number(word: &[u8]) -> Option<usize>
     }
 }
 
-/// The number of the only word, where it is one from 0 to 24.
+/// The number of the only word, where it is one from 0 to the most dimensions.
 pub fn lone_number(words: &[&[u8]]) -> Option<usize>
     ensures count { result ≡ form.lone_number (texts words.now) }
     ensures small { IfSome result (λ n. n ≤ form.greatest_dims) }

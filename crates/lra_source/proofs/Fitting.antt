@@ -6,6 +6,7 @@ use Rattle.std.specs.List.{AllByRecursion, Contains}
 use Rattle.std.proofs.lemmas.Option.{none-some, same_Some}
 use Rattle.lra_linear.proofs.Membership.{contains_none, contains_cases}
 use Rattle.lra_program.specs.Program.{Slot, global, local, Expr, Cond, Rvalue, Stmt, BlockItems, Program}
+use Rattle.lra_base.specs.Limits.{greatest_live}
 use Rattle.lra_base.specs.declared.number_types.NumberType.{NumberType}
 use Rattle.lra_program.specs.declared.receivers.Target.{Target}
 use Rattle.lra_program.specs.declared.receivers.Receiver.{Receiver}
@@ -39,7 +40,7 @@ pub record Fit (f : Frame) (n n' : ℕ) (g : Node) : Type 0 where
 
 -- at most this many live anywhere
 abbrev pub Few : ℕ → Type 0
-Few n = n ≤ 24
+Few n = n ≤ greatest_live
 
 few_is_small : (n : ℕ) → Few n → n ≤ most_live
 few_is_small n h = omega (arith, h)
@@ -348,7 +349,7 @@ contains_at : {A : Type 0} (P : A → Type 0) (xs : List A) (x : A) → AllByRec
 contains_at P [] x h there = absurd (contains_none x there)
 contains_at P (y ∷ xs) x h there = elim (contains_cases y x xs there) [ inl same ↦ subst P same h.0 | inr later ↦ contains_at P xs x h.1 later ]
 
--- the tree of a well-formed program with at most 24 live variables at each point fits the iteration
+-- the tree of a well-formed program whose points each have few live variables fits the iteration
 pub tree_fits : (P : Program) (g : Node) → IsWellFormed P → AllFew (sites_of P) → IsGraph P g → TreeFits g (length P.globals)
 tree_fits P g well few graph =
     let n = length P.globals in
@@ -361,7 +362,7 @@ tree_fits P g well few graph =
     subst (λ (h : Node). TreeFits h n) (sym graph.parts) (seq_fit {f = main_frame P} graph.body (point graph.last) fw body (point_fit graph.last)).fits
 
 -- no more globals than variables may live
-pub few_globals : (P : Program) (g : Node) → AllFew (sites_of P) → IsGraph P g → length P.globals ≤ 24
+pub few_globals : (P : Program) (g : Node) → AllFew (sites_of P) → IsGraph P g → length P.globals ≤ greatest_live
 few_globals P g few graph =
     let fw : Few graph.live = few graph.last _ graph.ends in
     let low : length P.globals ≤ graph.live = low_all graph.inlined in

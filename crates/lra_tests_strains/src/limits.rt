@@ -10,7 +10,7 @@ const MANY: Pieces = (
     "int main(void){ long v1,v2,v3,v4,v5,v6,v7,v8,v9,v10,v11,v12",
     "",
     0,
-    ",v13,v14,v15,v16,v17,v18,v19,v20,v21,v22,v23,v24,v25;}",
+    ",v13,v14,v15,v16,v17,v18,v19,v20,v21,v22,v23,v24,v25,v26,v27,v28,v29,v30,v31,v32,v33;}",
 );
 
 /// Sources past a limit, or as long as it without a function, and the whole text that is written.
@@ -22,7 +22,7 @@ static PAST: [(Pieces, &str); 9] = [
     ),
     (("", "\n", 65535, "abc"), "refused 1 TooLong at 65536:2\n"),
     (("", " ", 65536, ""), "refused 6 NoMain at 1:65537\n"),
-    (MANY, "refused 12 TooManyVariables at 1:113\n"),
+    (MANY, "refused 12 TooManyVariables at 1:145\n"),
     (
         ("int main(void){", ";", 2048, "}"),
         "refused 13 TooManyPoints at 1:2064\n",
@@ -34,7 +34,7 @@ static PAST: [(Pieces, &str); 9] = [
             "void f(long p){}\nint main(void){ long v1,v2,v3,v4,v5,v6,v7,v8,v9,v10,v11,v12",
             "",
             0,
-            ",v13,v14,v15,v16,v17,v18,v19,v20,v21,v22,v23,v24; f(1);}",
+            ",v13,v14,v15,v16,v17,v18,v19,v20,v21,v22,v23,v24,v25,v26,v27,v28,v29,v30,v31,v32; f(1);}",
         ),
         "refused 12 TooManyVariables at 1:16\n",
     ),
@@ -55,9 +55,9 @@ static WITHIN: [(Pieces, &str); 5] = [
             "int main(void){ long v1,v2,v3,v4,v5,v6,v7,v8,v9,v10,v11,v12",
             "",
             0,
-            ",v13,v14,v15,v16,v17,v18,v19,v20,v21,v22,v23,v24;}",
+            ",v13,v14,v15,v16,v17,v18,v19,v20,v21,v22,v23,v24,v25,v26,v27,v28,v29,v30,v31,v32;}",
         ),
-        "point 25 main 1:109\n  row true\n",
+        "point 33 main 1:141\n  row true\n",
     ),
     (
         ("int main(void){", ";", 2047, "}"),
@@ -68,9 +68,9 @@ static WITHIN: [(Pieces, &str); 5] = [
             "void f(long p){}\nint main(void){ long v1,v2,v3,v4,v5,v6,v7,v8,v9,v10,v11,v12",
             "",
             0,
-            ",v13,v14,v15,v16,v17,v18,v19,v20,v21,v22,v23; f(1);}",
+            ",v13,v14,v15,v16,v17,v18,v19,v20,v21,v22,v23,v24,v25,v26,v27,v28,v29,v30,v31; f(1);}",
         ),
-        "point 25 main/f@2:106 1:16\n  row p = 1\n",
+        "point 33 main/f@2:138 1:16\n  row p = 1\n",
     ),
     (
         ("void f(void){", ";", 2045, "} int main(void){ f(); }"),
@@ -97,7 +97,7 @@ static SCRIPTS: [(Pieces, Status, &str); 3] = [
 #[test]
 fn sources_past_a_limit_are_refused(rt: HostRuntime) {
     are_refused(&rt, rt.alloc(), &PAST);
-    let lines = "refused 12 TooManyVariables at 1:113\n";
+    let lines = "refused 12 TooManyVariables at 1:145\n";
     let ended = tells(rt.alloc(), "lra analyse", MANY, lines);
     agrees(&rt, ended, Status::Refused, "lra analyse", lines);
 }

@@ -1,6 +1,7 @@
 //! What a call is but for its callee's body: where that stands, and what comes behind it.
 
-ghost use Rattle.std.specs.Prelude.{◌≡◌, ◌≢◌, ◌≤◌, ◌∷◌, length, Some, slice_get, IfOk};
+ghost use Rattle.std.specs.Prelude.{◌≡◌, ◌≢◌, ◌+◌, ◌≤◌, ◌∷◌, length, Some, slice_get, IfOk};
+ghost use Rattle.lra_base.specs.Limits.{greatest_live};
 ghost use Rattle.lra_program.specs.ProgramViews.{call_view, function_view, program_view};
 ghost use Rattle.lra_graph.specs.Limits.{OnLimit};
 ghost use Rattle.lra_graph.specs.Building as building;
@@ -30,7 +31,7 @@ pub fn enter_call(
     receiver: Receiver,
     call: &Call,
 ) -> Result<(Path, Frame), GraphError>
-    requires { around.now.frame.live ≤ 25 }
+    requires { around.now.frame.live ≤ greatest_live + 1 }
     ensures path { IfOk result (λ r. r.0 ≡ call.now.label ∷ around.now.path.now) }
     ensures frame { IfOk result (λ r. r.1
         ≡ callee_frame around.now.frame receiver (length (call_view call.now).arguments)) }
@@ -63,7 +64,7 @@ pub fn end_call(
     body: (Node, usize),
     sites: &mut Vec<Site>,
 ) -> Result<Node, GraphError>
-    requires few { around.now.frame.live ≤ 25 }
+    requires few { around.now.frame.live ≤ greatest_live + 1 }
     requires stands { CallStands around.now (call_view call.now) }
     requires within { path.now ≡ call.now.label ∷ around.now.path.now }
     ensures written { IfOk result (IsCall around.now sites.old sites.new caller.point

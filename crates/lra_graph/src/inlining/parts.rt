@@ -1,6 +1,7 @@
 //! The first step into a part that is to be written out.
 
-ghost use Rattle.std.specs.Prelude.{◌≡◌, ◌≤◌, ◌<◌, ℕ, List, map, IfOk};
+ghost use Rattle.std.specs.Prelude.{◌≡◌, ◌+◌, ◌≤◌, ◌<◌, ℕ, List, map, IfOk};
+ghost use Rattle.lra_base.specs.Limits.{greatest_live};
 ghost use Rattle.lra_program.specs.Program as resolved;
 ghost use Rattle.lra_program.specs.Sites as points;
 ghost use Rattle.lra_program.specs.Sites.{call_events};
@@ -69,7 +70,7 @@ fn open_call<'a>(
 ) -> Result<Next<'a>, GraphError>
     requires well { IsWellFormed (program_of source) }
     requires stands { building.CallStands (program_of source) frame (call_view call.now) }
-    requires few { frame.live ≤ 25 }
+    requires few { frame.live ≤ greatest_live + 1 }
     ensures leads { IfOk result (λ next. (S : List points.Site) → Leads (program_of source.entry)
         (due (a_call caller (call_view call.now)) path.old frame S) next path.new S) }
     ensures limit { OnLimit result (λ l. (S : List points.Site)
