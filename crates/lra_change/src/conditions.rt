@@ -1,5 +1,5 @@
-//! What a condition leaves of a value. What is never inlined is there so that the functions that call themselves at each
-//! level of nesting take little of the stack.
+//! What a condition leaves of a value. What is never inlined is there so that the functions that call themselves at
+//! each level of nesting take little of the stack.
 
 ghost use Rattle.std.specs.Prelude.{◌≡◌, ◌≤◌, ◌∷◌, [], map, length, slice_index_or, IfOk, OnOk};
 ghost use Rattle.lra_program.specs.Program.{nonzero};

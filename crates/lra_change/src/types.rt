@@ -14,8 +14,8 @@ use lra_lin::Test;
 use lra_linear::ConKind;
 use std::alloc::{AllocError, Global};
 
-/// What is left where the variable at the place lies within 32 bits, behind what led to the value: `x + 2^31 >= 0`, then
-/// `2^31 - 1 - x >= 0`.
+/// What is left where the variable at the place lies within 32 bits, behind what led to the value: `x + 2^31 >= 0`,
+/// then `2^31 - 1 - x >= 0`.
 fn hold_int<D: Domain>(
     alloc: Global,
     place: usize,

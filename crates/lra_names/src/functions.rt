@@ -171,7 +171,8 @@ fn add_globals(alloc: Global, resolved: &mut Resolved, globals: &Globals) -> Res
     ensures scoped { OnOk result (resolved.new.scope.globals ≡ resolved.old.scope.globals
         ++ global_entries (globals_view globals.now)) }
     ensures valued { OnOk result (resolved.new.globals.items ≡ resolved.old.globals.items
-        ++ map (resolve_global globals.now.number_type) (global_view globals.now.first ∷ map global_view globals.now.rest.items)) }
+        ++ map (resolve_global globals.now.number_type)
+        (global_view globals.now.first ∷ map global_view globals.now.rest.items)) }
     ensures labels { OnOk result (resolved.new.labels ≡ resolved.old.labels) }
     ensures functions { OnOk result (resolved.new.functions.items ≡ resolved.old.functions.items) }
 {

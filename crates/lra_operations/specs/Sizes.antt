@@ -1,5 +1,5 @@
--- How large trees are while they are taken apart, so that this ends: a tree that is still to be opened counts two, if it
--- has trees in it, and what those count; a tree with none in it counts one. A tree that hangs open before a rest counts
+-- How large trees are while they are taken apart, so that this ends: a tree that is still to be opened counts two, if
+-- it has trees in it, and what those count; a tree with none in it counts one. A tree that hangs open before a rest counts
 -- one for itself.
 use Rattle.std.specs.Prelude.{ℕ, ◌+◌}
 use Rattle.std.specs.List.{sum_by}

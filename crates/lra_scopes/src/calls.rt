@@ -178,8 +178,8 @@ fn build_step(
     variable: Variable,
     step: Step,
 ) -> Result<lra_program::Rvalue, AllocError>
-    ensures { IfOk result (λ e. rvalue_view e ≡ value (binary (step_operator (step_view step)) (read (variable_view variable))
-        (literal Int 1))) }
+    ensures { IfOk result (λ e. rvalue_view e ≡ value (binary (step_operator (step_view step))
+        (read (variable_view variable)) (literal Int 1))) }
 {
     build_update(
         alloc,
