@@ -4,7 +4,7 @@ use Rattle.lra_base.specs.declared.refusals.Cause.{Cause}
 use Rattle.lra_base.specs.declared.refusals.Cause.TheVariants.{TooLong, BadByte, BadLiteral, Syntax, TooDeep, NoMain}
 use Rattle.lra_base.specs.declared.refusals.Cause.TheVariants.{UnknownName, DuplicateName, BadCall, Misplaced}
 use Rattle.lra_base.specs.declared.refusals.Cause.TheVariants.{Recursive}
-use Rattle.lra_base.specs.declared.refusals.Cause.TheVariants.{TooManyVariables, TooManyPoints}
+use Rattle.lra_base.specs.declared.refusals.Cause.TheVariants.{TooManyVariables, TooManyPoints, DuplicateCase}
 
 abbrev pub cause_number : Cause → ℕ
 cause_number TooLong = 1
@@ -20,6 +20,7 @@ cause_number Misplaced = 10
 cause_number Recursive = 11
 cause_number TooManyVariables = 12
 cause_number TooManyPoints = 13
+cause_number DuplicateCase = 14
 
 abbrev pub cause_name : Cause → List ℕ
 cause_name TooLong = codes "TooLong"
@@ -35,3 +36,4 @@ cause_name Misplaced = codes "Misplaced"
 cause_name Recursive = codes "Recursive"
 cause_name TooManyVariables = codes "TooManyVariables"
 cause_name TooManyPoints = codes "TooManyPoints"
+cause_name DuplicateCase = codes "DuplicateCase"

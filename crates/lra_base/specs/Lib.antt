@@ -4,5 +4,6 @@ pub mod TextOrder
 pub mod NumberTypes
 pub mod Operators
 pub mod OperatorViews
+pub mod CaseLabels
 pub mod Causes
 pub mod Refused

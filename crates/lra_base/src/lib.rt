@@ -1,6 +1,7 @@
 //! What all stages share: places in a source with the causes for which it is refused, limits, and operators.
 #![tactic(auto)]
 
+mod case_labels;
 mod error;
 mod limits;
 mod number_types;
@@ -8,6 +9,7 @@ mod operators;
 mod places;
 mod refusals;
 
+pub use case_labels::CaseLabel;
 pub use error::SourceError;
 pub use limits::GREATEST_LIVE;
 pub use number_types::NumberType;

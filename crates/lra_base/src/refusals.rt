@@ -28,7 +28,7 @@ pub enum Cause {
     DuplicateName,
     /// Another number of arguments; a result that a function doesn't have is used or given.
     BadCall,
-    /// `break` or `continue` outside a loop.
+    /// `break` outside a loop or `switch`, or `continue` outside a loop.
     Misplaced,
     /// A call by which a function reaches itself.
     Recursive,
@@ -36,6 +36,8 @@ pub enum Cause {
     TooManyVariables,
     /// Point 2,049, or a call path of 33 calls.
     TooManyPoints,
+    /// A value, or `default`, a second time in one `switch`.
+    DuplicateCase,
 }
 
 impl Cause {
@@ -60,6 +62,7 @@ impl Cause {
             Cause::Recursive => 11,
             Cause::TooManyVariables => 12,
             Cause::TooManyPoints => 13,
+            Cause::DuplicateCase => 14,
         }
     }
 
@@ -81,6 +84,7 @@ impl Cause {
             Cause::Recursive => "Recursive",
             Cause::TooManyVariables => "TooManyVariables",
             Cause::TooManyPoints => "TooManyPoints",
+            Cause::DuplicateCase => "DuplicateCase",
         }
     }
 }

@@ -1,0 +1,18 @@
+-- The labels of a `switch`, and behind which of them it goes on (ISO/IEC 9899:2011, 6.8.1, 6.8.4.2). Values are compared
+-- as whole numbers: none is converted.
+use Rattle.std.specs.Prelude.{ℤ, Bool, true, false, if◌then◌else◌, List}
+use Rattle.std.specs.Ordering.{int_eq}
+use Rattle.std.specs.List.{list_any}
+use Rattle.lra_base.specs.declared.case_labels.CaseLabel.{CaseLabel}
+use Rattle.lra_base.specs.declared.case_labels.CaseLabel.TheVariants.{Case, Default}
+
+-- they name one value, or both are `default`
+abbrev pub are_alike : CaseLabel → CaseLabel → Bool
+are_alike (Case y) (Case z) = int_eq y z
+are_alike (Case y) Default = false
+are_alike Default (Case z) = false
+are_alike Default Default = true
+
+-- behind the label that names the value, wherever it stands; where none does, behind `default`
+abbrev pub goal_of : ℤ → List CaseLabel → CaseLabel
+goal_of z labels = if list_any (are_alike (Case z)) labels then Case z else Default
