@@ -2,6 +2,7 @@
 mod ValueExamples
 pub mod RunExamples
 pub mod TrailLaws
+pub mod SwitchExamples
 mod TrailExamples
 mod WellFormedExamples
 mod ProgramViewExamples

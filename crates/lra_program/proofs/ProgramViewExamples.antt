@@ -3,11 +3,13 @@ use Rattle.std.proofs.Common.{◌≡◌, ℕ, ◌∷◌, [], map, refl, rules, B
 use Rattle.lra_program.specs.declared.program.Expr.{Expr, Negate, Chain, the_lemmas as expr_lemmas}
 use Rattle.lra_program.specs.declared.program.Operation.{Operation}
 use Rattle.lra_program.specs.declared.program.Cond.{Cond, All, the_lemmas as cond_lemmas}
-use Rattle.lra_program.specs.declared.program.Stmt.{Stmt, Block, Loop, the_lemmas as stmt_lemmas}
+use Rattle.lra_program.specs.declared.program.Stmt.{Stmt, Block, Loop, Switch, the_lemmas as stmt_lemmas}
 use Rattle.lra_program.specs.declared.program.BlockItems.{BlockItems}
+use Rattle.lra_program.specs.declared.program.CaseItem.{CaseItem}
+use Rattle.lra_base.specs.declared.case_labels.CaseLabel.{CaseLabel}
 use Rattle.lra_program.specs.Program as program
 use Rattle.lra_base.specs.Operators as operators
-use Rattle.lra_program.specs.ProgramViews.{expr_view, operation_view, chained, cond_view, all_of, stmt_view, items_view}
+use Rattle.lra_program.specs.ProgramViews.{expr_view, operation_view, chained, cond_view, all_of, stmt_view, items_view, case_view, cases_of}
 
 negate_view : (e : Box Expr Global) → expr_view (Negate e) ≡ program.negate (expr_view e.value)
 negate_view e = search (rules, expr_lemmas)
@@ -29,3 +31,10 @@ block_view b end = search (rules, stmt_lemmas)
 
 loop_view : (at : ℕ) (c : Cond) (a step : Box Stmt Global) → stmt_view (Loop at c a step) ≡ program.loop at (cond_view c) (stmt_view a.value) (stmt_view step.value)
 loop_view at c a step = search (rules, stmt_lemmas)
+
+-- labels and statements in the order of their list
+switch_view : (at : ℕ) (e : Expr) (cs : Vec CaseItem Global) → stmt_view (Switch at e cs) ≡ program.switch at (expr_view e) (cases_of (map case_view cs.items))
+switch_view at e cs = search (rules, stmt_lemmas)
+
+two_cases : (l : CaseLabel) (a : program.Stmt) → cases_of (program.labelled l ∷ program.stated a ∷ []) ≡ program.labelled l (program.stated a program.no_cases)
+two_cases l a = refl

@@ -3,7 +3,7 @@ use Rattle.std.proofs.Common.{◌≡◌, ap, ℕ, [], ◌∷◌, length, Option,
 use Rattle.std.specs.Prelude.{get_or}
 use Rattle.lra_base.specs.declared.number_types.NumberType.TheVariants.{Int, Long}
 use Rattle.lra_program.specs.Program.{global, literal, read, nothing, break, statement, no_more, Function}
-use Rattle.lra_program.specs.WellFormed.{AreInTextOrder, IsGoodExpr, IsGoodStmt, IsGoodCall, IsGoodFunction}
+use Rattle.lra_program.specs.WellFormed.{AreInTextOrder, no_jumps, IsGoodExpr, IsGoodStmt, IsGoodCall, IsGoodFunction}
 use Rattle.lra_program.proofs.RunExamples as run
 
 -- int main(void){ for (long i=0; ; i=i+1) { long j=i; if (j==1) break; continue; } }
@@ -34,7 +34,7 @@ no_callee : IsGoodCall run.called_twice 4 1 (record { label = 4; function = 1; a
 no_callee h = let missing = h.is_callee in cc
 
 -- `break` outside a loop
-break_alone : IsGoodStmt run.one_variable false 0 (break 1) → ⊥
+break_alone : IsGoodStmt run.one_variable no_jumps 0 (break 1) → ⊥
 break_alone h = let e : false ≡ true = h in cc
 
 -- a label twice, and labels from 2 on

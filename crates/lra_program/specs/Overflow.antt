@@ -8,13 +8,13 @@ use Rattle.lra_base.specs.NumberTypes.{wider}
 use Rattle.lra_program.specs.Program.{Expr, literal, read, input, negate, binary, type_of, Cond, compare, nonzero}
 use Rattle.lra_program.specs.Program.{opposite, both_of, either_of, Call, Rvalue, value, result, Stmt, absent, nothing}
 use Rattle.lra_program.specs.Program.{block, assign, call, if, loop, for, break, continue, return, assert, assume}
-use Rattle.lra_program.specs.Program.{Function, Program}
+use Rattle.lra_program.specs.Program.{switch, Function, Program}
 use Rattle.lra_program.specs.Value.{number, apply, index_of, Scene, value_of, Argument, truth_of}
 use Rattle.lra_program.specs.declared.receivers.Receiver.{Receiver}
 use Rattle.lra_program.specs.Receivers.{variable_at, parameter_of, converts_to, accepts}
 use Rattle.lra_program.specs.Step.{State, scene_at, Op, append, give, give_any, push, keep, test, run_op, Here, Item}
-use Rattle.lra_program.specs.Step.{run, declare, all, end_of, turn, cut, mark, leave_call, Config, to_mark, receiver_of}
-use Rattle.lra_program.specs.Step.{arguments_for}
+use Rattle.lra_program.specs.Step.{run, declare, all, end_of, turn, cases, end_switch, cut, mark, leave_call, Config}
+use Rattle.lra_program.specs.Step.{to_mark, receiver_of, arguments_for}
 use Rattle.lra_program.specs.Run.{Point, IsOn, Reaches}
 
 -- expressions and conditions, in the order in which they are computed -----------------------------------------------
@@ -137,6 +137,7 @@ StmtOverflows P (continue at) k h s = ⊥
 StmtOverflows P (return at e) k h s = ReturnOverflows P e k h s
 StmtOverflows P (assert at c) k h s = OpOverflows (test h.base c true) s
 StmtOverflows P (assume at c) k h s = OpOverflows (test h.base c true) s
+StmtOverflows P (switch at e cs) k h s = ExprOverflows e (scene_at h.base s) s.draws
 
 -- what is on top stops by a number
 abbrev pub IsOverflowing : Program → List Item → Here → State → Type 0
@@ -146,6 +147,8 @@ IsOverflowing P (declare d ∷ k) h s = DeclaredOverflows P d.number_type d.rval
 IsOverflowing P (all a ∷ k) h s = ⊥
 IsOverflowing P (end_of at n ∷ k) h s = ⊥
 IsOverflowing P (turn step again n ∷ k) h s = ⊥
+IsOverflowing P (cases cs ∷ k) h s = ⊥
+IsOverflowing P (end_switch n ∷ k) h s = ⊥
 IsOverflowing P (cut n ∷ k) h s = ⊥
 IsOverflowing P (mark b ∷ k) h s = ⊥
 IsOverflowing P (leave_call ∷ k) h s = ⊥

@@ -1,9 +1,10 @@
 -- A program whose names are resolved: a variable is a place in the store, a function a place in a list.
 -- Statements, declarators and the ends of blocks carry labels: the n-th of them in text order has the label n, from 1.
-use Rattle.std.specs.Prelude.{ℕ, List, Option}
+use Rattle.std.specs.Prelude.{ℕ, List, [], ◌∷◌, Option}
 use Rattle.lra_base.specs.declared.number_types.NumberType.{NumberType}
 use Rattle.lra_base.specs.declared.number_types.NumberType.TheVariants.{Long}
 use Rattle.lra_base.specs.NumberTypes.{wider}
+use Rattle.lra_base.specs.declared.case_labels.CaseLabel.{CaseLabel}
 use Rattle.lra_program.specs.declared.program.GlobalVariable.{GlobalVariable}
 use Rattle.lra_base.specs.Operators.{Operator, Comparison}
 
@@ -79,12 +80,25 @@ mutual
     return : ℕ → Option Rvalue → Stmt
     assert : ℕ → Cond → Stmt
     assume : ℕ → Cond → Stmt
+    switch : ℕ → Expr → Cases → Stmt
+
+  -- the labels of a `switch` and its statements, in text order
+  pub data Cases : Type 0 where
+    no_cases : Cases
+    labelled : CaseLabel → Cases → Cases
+    stated : Stmt → Cases → Cases
 
   -- the items of a block in text order
   pub data BlockItems : Type 0 where
     no_more : BlockItems
     declaration : Declarator → BlockItems → BlockItems
     statement : Stmt → BlockItems → BlockItems
+
+-- its labels alone
+abbrev pub labels_of : Cases → List CaseLabel
+labels_of no_cases = []
+labels_of (labelled l cs) = l ∷ labels_of cs
+labels_of (stated a cs) = labels_of cs
 
 -- a function: the type of its result, where it has one, those of its parameters, its body's items, and the label of its
 -- `}`

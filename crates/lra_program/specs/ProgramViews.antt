@@ -15,9 +15,11 @@ use Rattle.lra_program.specs.declared.program.Call.{Call}
 use Rattle.lra_program.specs.declared.program.Rvalue.{Rvalue}
 use Rattle.lra_program.specs.declared.program.Rvalue.TheVariants as rvalue
 use Rattle.lra_program.specs.declared.program.Declarator.{Declarator}
-use Rattle.lra_program.specs.declared.program.BlockItem.TheFolds.{fold-BlockItem, fold-Stmt, fold-BlockItems}
-use Rattle.lra_program.specs.declared.program.BlockItem.TheOpen.{BlockItem-F, Stmt-F, BlockItems-F}
+use Rattle.lra_program.specs.declared.program.BlockItem.TheFolds.{fold-BlockItem, fold-Stmt, fold-CaseItem}
+use Rattle.lra_program.specs.declared.program.BlockItem.TheFolds.{fold-BlockItems}
+use Rattle.lra_program.specs.declared.program.BlockItem.TheOpen.{BlockItem-F, Stmt-F, CaseItem-F, BlockItems-F}
 use Rattle.lra_program.specs.declared.program.BlockItem.{BlockItem}
+use Rattle.lra_program.specs.declared.program.CaseItem.{CaseItem}
 use Rattle.lra_program.specs.declared.program.BlockItems.{BlockItems}
 use Rattle.lra_program.specs.declared.program.Stmt.{Stmt}
 use Rattle.lra_program.specs.declared.program.Function.{Function}
@@ -98,20 +100,33 @@ declarator_view d = record { label = d.label; number_type = d.number_type; rvalu
 
 -- statements: an item of a block is what it puts before the items behind it -----------------------
 
-abbrev pub items_of : List (program.BlockItems → program.BlockItems) → program.BlockItems
+abbrev pub ItemPart : Type 0
+ItemPart = program.BlockItems → program.BlockItems
+
+abbrev pub items_of : List ItemPart → program.BlockItems
 items_of [] = program.no_more
 items_of (f ∷ fs) = f (items_of fs)
 
-abbrev pub item_step : BlockItem-F (program.BlockItems → program.BlockItems) program.Stmt program.BlockItems →
-    program.BlockItems → program.BlockItems
+-- and one of a `switch` is what it puts before those behind it
+abbrev pub CasePart : Type 0
+CasePart = program.Cases → program.Cases
+
+abbrev pub cases_of : List CasePart → program.Cases
+cases_of [] = program.no_cases
+cases_of (f ∷ fs) = f (cases_of fs)
+
+abbrev pub case_step : CaseItem-F ItemPart CasePart program.Stmt program.BlockItems → CasePart
+case_step (CaseItem-F.Label l) = program.labelled l
+case_step (CaseItem-F.Stated s) = program.stated s
+
+abbrev pub item_step : BlockItem-F ItemPart CasePart program.Stmt program.BlockItems → ItemPart
 item_step (BlockItem-F.Declaration d) = program.declaration (declarator_view d)
 item_step (BlockItem-F.Statement s) = program.statement s
 
-abbrev pub items_step : BlockItems-F (program.BlockItems → program.BlockItems) program.Stmt program.BlockItems →
-    program.BlockItems
+abbrev pub items_step : BlockItems-F ItemPart CasePart program.Stmt program.BlockItems → program.BlockItems
 items_step b = items_of b.items.items
 
-abbrev pub stmt_step : Stmt-F (program.BlockItems → program.BlockItems) program.Stmt program.BlockItems → program.Stmt
+abbrev pub stmt_step : Stmt-F ItemPart CasePart program.Stmt program.BlockItems → program.Stmt
 stmt_step Stmt-F.Absent = program.absent
 stmt_step (Stmt-F.Nothing at) = program.nothing at
 stmt_step (Stmt-F.Block b end) = program.block b end
@@ -125,18 +140,19 @@ stmt_step (Stmt-F.Continue at) = program.continue at
 stmt_step (Stmt-F.Return at e) = program.return at (given_view e)
 stmt_step (Stmt-F.Assert at c) = program.assert at (cond_view c)
 stmt_step (Stmt-F.Assume at c) = program.assume at (cond_view c)
+stmt_step (Stmt-F.Switch at e cs) = program.switch at (expr_view e) (cases_of cs.items)
 
-abbrev pub item_view : BlockItem → program.BlockItems → program.BlockItems
-item_view = fold-BlockItem (program.BlockItems → program.BlockItems) program.Stmt program.BlockItems item_step stmt_step
-    items_step
+abbrev pub item_view : BlockItem → ItemPart
+item_view = fold-BlockItem ItemPart CasePart program.Stmt program.BlockItems item_step case_step stmt_step items_step
+
+abbrev pub case_view : CaseItem → CasePart
+case_view = fold-CaseItem ItemPart CasePart program.Stmt program.BlockItems item_step case_step stmt_step items_step
 
 abbrev pub stmt_view : Stmt → program.Stmt
-stmt_view = fold-Stmt (program.BlockItems → program.BlockItems) program.Stmt program.BlockItems item_step stmt_step
-    items_step
+stmt_view = fold-Stmt ItemPart CasePart program.Stmt program.BlockItems item_step case_step stmt_step items_step
 
 abbrev pub items_view : BlockItems → program.BlockItems
-items_view = fold-BlockItems (program.BlockItems → program.BlockItems) program.Stmt program.BlockItems item_step
-    stmt_step items_step
+items_view = fold-BlockItems ItemPart CasePart program.Stmt program.BlockItems item_step case_step stmt_step items_step
 
 -- the whole ----------------------------------------------------------------------------------------------------------
 

@@ -2,11 +2,11 @@
 use Rattle.std.specs.Prelude.{◌≡◌, ℕ, zero, suc, ℤ, List, [], ◌∷◌, length, map, Option, Some, None, false, IsTrue}
 use Rattle.std.specs.List.{AllByRecursion}
 use Rattle.lra_program.specs.Program.{Stmt, absent, nothing, block, assign, call, if, loop, for, break, continue}
-use Rattle.lra_program.specs.Program.{return, assert, assume, Program}
+use Rattle.lra_program.specs.Program.{return, assert, assume, switch, Program}
 use Rattle.lra_program.specs.declared.program.GlobalVariable.{GlobalVariable}
 use Rattle.lra_program.specs.Value.{is_word}
-use Rattle.lra_program.specs.Step.{State, test, run_op, Here, Item, run, declare, all, end_of, turn, cut, mark}
-use Rattle.lra_program.specs.Step.{leave_call, Config, next}
+use Rattle.lra_program.specs.Step.{State, test, run_op, Here, Item, run, declare, all, end_of, turn}
+use Rattle.lra_program.specs.Step.{cases, end_switch, cut, mark, leave_call, Config, next}
 
 -- so many steps lead from the one to the other
 abbrev pub Steps : Program → ℕ → Config → Config → Type 0
@@ -40,6 +40,7 @@ label_of (continue at) = Some at
 label_of (return at e) = Some at
 label_of (assert at c) = Some at
 label_of (assume at c) = Some at
+label_of (switch at e cs) = Some at
 
 abbrev pub label_on : List Item → Option ℕ
 label_on [] = None
@@ -48,6 +49,8 @@ label_on (declare d ∷ k) = Some d.label
 label_on (all s ∷ k) = None
 label_on (end_of at n ∷ k) = Some at
 label_on (turn step again n ∷ k) = None
+label_on (cases cs ∷ k) = None
+label_on (end_switch n ∷ k) = None
 label_on (cut n ∷ k) = None
 label_on (mark b ∷ k) = None
 label_on (leave_call ∷ k) = None

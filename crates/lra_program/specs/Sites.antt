@@ -4,8 +4,8 @@ use Rattle.std.specs.Prelude.{ℕ, zero, suc, ◌+◌, Bool, true, false, List, 
 use Rattle.std.specs.Prelude.{slice_get}
 use Rattle.lra_base.specs.TextOrder.{for_order}
 use Rattle.lra_program.specs.Program.{Call, Rvalue, value, result, Stmt, absent, nothing, block, assign, call, if, loop}
-use Rattle.lra_program.specs.Program.{for, break, continue, return, assert, assume, BlockItems, no_more, declaration}
-use Rattle.lra_program.specs.Program.{statement, Function, Program}
+use Rattle.lra_program.specs.Program.{for, break, continue, return, assert, assume, switch, Cases, no_cases, labelled}
+use Rattle.lra_program.specs.Program.{stated, BlockItems, no_more, declaration, statement, Function, Program}
 
 -- a point: its calls, the innermost first, its label, how many variables live there, and whether it is an assertion
 pub record Site : Type 0 where
@@ -59,6 +59,13 @@ module _ (inside : List ℕ → ℕ → Call → List Event) (path : List ℕ) w
     stmt_events live (return at e) = plain_site path at live ∷ given_events live e
     stmt_events live (assert at c) = comes (record { path = path; label = at; live = live; asserts = true }) ∷ []
     stmt_events live (assume at c) = plain_site path at live ∷ []
+    stmt_events live (switch at e cs) = plain_site path at live ∷ cases_events live cs
+
+    -- labels are no points, and nothing is declared among the statements
+    pub cases_events : ℕ → Cases → List Event
+    cases_events live no_cases = []
+    cases_events live (labelled l cs) = cases_events live cs
+    cases_events live (stated a cs) = stmt_events live a ++ cases_events live cs
 
     pub items_events : ℕ → BlockItems → List Event
     items_events live no_more = []

@@ -1,10 +1,13 @@
 -- One step of a run. A configuration is a list of pending items, the call that runs, and a state; the top item decides,
 -- and exactly one case applies to it. The step is a function, since a state holds the draws that are left.
 use Rattle.std.specs.Prelude.{ℕ, ◌+◌, ℤ, List, [], ◌∷◌, ◌++◌, length, take, Option, Some, None, Bool, true, false}
-use Rattle.std.specs.Prelude.{slice_get, slice_set}
+use Rattle.std.specs.Prelude.{slice_get, slice_set, cond}
 use Rattle.lra_program.specs.Program.{Expr, Cond, Call, Rvalue, value, result, Declarator, Stmt, absent, nothing, block}
-use Rattle.lra_program.specs.Program.{assign, call, if, loop, for, break, continue, return, assert, assume, BlockItems}
-use Rattle.lra_program.specs.Program.{no_more, declaration, statement, Function, Program}
+use Rattle.lra_program.specs.Program.{assign, call, if, loop, for, break, continue, return, assert, assume, switch}
+use Rattle.lra_program.specs.Program.{Cases, no_cases, labelled, stated, labels_of, BlockItems, no_more, declaration}
+use Rattle.lra_program.specs.Program.{statement, Function, Program}
+use Rattle.lra_base.specs.declared.case_labels.CaseLabel.{CaseLabel}
+use Rattle.lra_base.specs.CaseLabels.{are_alike, goal_of}
 use Rattle.lra_base.specs.declared.number_types.NumberType.{NumberType}
 use Rattle.lra_program.specs.declared.receivers.Target.{Target}
 use Rattle.lra_program.specs.declared.receivers.Receiver.{Receiver}
@@ -95,6 +98,10 @@ pub data Item : Type 0 where
   end_of : ℕ → ℕ → Item
   -- a round's end: the loop's step, the loop, and how long the store is there
   turn : Stmt → Stmt → ℕ → Item
+  -- what is left of a `switch`: its labels do nothing
+  cases : Cases → Item
+  -- behind a `switch`, and how long the store is there
+  end_switch : ℕ → Item
   cut : ℕ → Item
   -- a function's end
   mark : Back → Item
@@ -106,7 +113,25 @@ pub record Config : Type 0 where
   pub here : Here
   pub state : State
 
--- the nearest round's end of this call, and the items behind it
+-- what `break` leaves: how long the store is at the nearest loop or `switch` of this call, and the items behind it
+pub record Outside : Type 0 where
+  pub length : ℕ
+  pub rest : List Item
+
+abbrev pub to_outside : List Item → Option Outside
+to_outside [] = None
+to_outside (run s ∷ k) = to_outside k
+to_outside (declare d ∷ k) = to_outside k
+to_outside (all s ∷ k) = to_outside k
+to_outside (end_of at n ∷ k) = to_outside k
+to_outside (turn step again n ∷ k) = Some (record { length = n; rest = k })
+to_outside (cases cs ∷ k) = to_outside k
+to_outside (end_switch n ∷ k) = Some (record { length = n; rest = k })
+to_outside (cut n ∷ k) = to_outside k
+to_outside (mark b ∷ k) = None
+to_outside (leave_call ∷ k) = to_outside k
+
+-- where `continue` goes on: the nearest round's end of this call, and the items behind it
 pub record Turn : Type 0 where
   pub step : Stmt
   pub again : Stmt
@@ -120,6 +145,8 @@ to_turn (declare d ∷ k) = to_turn k
 to_turn (all s ∷ k) = to_turn k
 to_turn (end_of at n ∷ k) = to_turn k
 to_turn (turn step again n ∷ k) = Some (record { step = step; again = again; length = n; rest = k })
+to_turn (cases cs ∷ k) = to_turn k
+to_turn (end_switch n ∷ k) = to_turn k
 to_turn (cut n ∷ k) = to_turn k
 to_turn (mark b ∷ k) = None
 to_turn (leave_call ∷ k) = to_turn k
@@ -136,6 +163,8 @@ to_mark (declare d ∷ k) = to_mark k
 to_mark (all s ∷ k) = to_mark k
 to_mark (end_of at n ∷ k) = to_mark k
 to_mark (turn step again n ∷ k) = to_mark k
+to_mark (cases cs ∷ k) = to_mark k
+to_mark (end_switch n ∷ k) = to_mark k
 to_mark (cut n ∷ k) = to_mark k
 to_mark (mark b ∷ k) = Some (record { back = b; rest = k })
 to_mark (leave_call ∷ k) = to_mark k
@@ -185,7 +214,7 @@ abbrev pub go_on : Option State → (State → Option Config) → Option Config
 go_on None f = None
 go_on (Some s) f = f s
 
-abbrev pub do_break : Option Turn → Here → State → Option Config
+abbrev pub do_break : Option Outside → Here → State → Option Config
 do_break None h s = None
 do_break (Some t) h s = go t.rest h (run_op (keep t.length) s)
 
@@ -202,6 +231,21 @@ do_return P None k h s = do_leave (to_mark k) (run_any (receiver_of P (to_mark k
 do_return P (Some (value e)) k h s = do_leave (to_mark k) (run_op (give h.base (receiver_of P (to_mark k)) e) s)
 do_return P (Some (result c)) k h s = do_rvalue P (receiver_of P (to_mark k)) (result c) (leave_call ∷ k) h s
 
+-- what stands behind the first such label
+abbrev pub behind_label : CaseLabel → Cases → Cases
+behind_label l no_cases = no_cases
+behind_label l (labelled m cs) = cond (are_alike l m) cs (behind_label l cs)
+behind_label l (stated a cs) = behind_label l cs
+
+-- what runs of them for this value: what stands behind the label that names it, else behind `default`, else nothing
+abbrev pub chosen : ℤ → Cases → Cases
+chosen z cs = behind_label (goal_of z (labels_of cs)) cs
+
+abbrev pub do_switch : Cases → List Item → Here → State → Drawn ℤ → Option Config
+do_switch cs k h s None = None
+do_switch cs k h s (Some r) =
+    go (cases (chosen r.0 cs) ∷ end_switch (length s.store) ∷ k) h (Some (record s { draws = r.1 }))
+
 abbrev pub do_stmt : Program → Stmt → List Item → Here → State → Option Config
 do_stmt P absent k h s = go k h (Some s)
 do_stmt P (nothing at) k h s = go k h (Some s)
@@ -212,11 +256,12 @@ do_stmt P (if at c a b) k h s = go_by (run a ∷ k) (run b ∷ k) h s (truth_of 
 do_stmt P (loop at c a step) k h s = go_by (run a ∷ turn step (loop at c a step) (length s.store) ∷ k) k h s
     (truth_of c (scene_at h.base s) s.draws)
 do_stmt P (for at init c a step) k h s = go (all init ∷ run (loop at c a step) ∷ cut (length s.store) ∷ k) h (Some s)
-do_stmt P (break at) k h s = do_break (to_turn k) h s
+do_stmt P (break at) k h s = do_break (to_outside k) h s
 do_stmt P (continue at) k h s = do_continue (to_turn k) h s
 do_stmt P (return at e) k h s = do_return P e k h s
 do_stmt P (assert at c) k h s = go k h (run_op (test h.base c true) s)
 do_stmt P (assume at c) k h s = go k h (run_op (test h.base c true) s)
+do_stmt P (switch at e cs) k h s = do_switch cs k h s (value_of e (scene_at h.base s) s.draws)
 
 -- a new variable; its value is given by the declarator's rvalue, where it has one
 abbrev pub do_declare : Program → NumberType → Option Rvalue → List Item → Here → State → Option Config
@@ -228,6 +273,12 @@ do_all no_more k h s = go k h (Some s)
 do_all (declaration d b) k h s = go (declare d ∷ all b ∷ k) h (Some s)
 do_all (statement a b) k h s = go (run a ∷ all b ∷ k) h (Some s)
 
+-- the statements behind a label run one after the other, past further labels
+abbrev pub do_cases : Cases → List Item → Here → State → Option Config
+do_cases no_cases k h s = go k h (Some s)
+do_cases (labelled l cs) k h s = go (cases cs ∷ k) h (Some s)
+do_cases (stated a cs) k h s = go (run a ∷ cases cs ∷ k) h (Some s)
+
 abbrev pub next_at : Program → List Item → Here → State → Option Config
 next_at P [] h s = None
 next_at P (run a ∷ k) h s = do_stmt P a k h s
@@ -235,6 +286,8 @@ next_at P (declare d ∷ k) h s = do_declare P d.number_type d.rvalue k h s
 next_at P (all a ∷ k) h s = do_all a k h s
 next_at P (end_of at n ∷ k) h s = go k h (run_op (keep n) s)
 next_at P (turn step again n ∷ k) h s = go (run step ∷ run again ∷ k) h (Some s)
+next_at P (cases cs ∷ k) h s = do_cases cs k h s
+next_at P (end_switch n ∷ k) h s = go k h (Some s)
 next_at P (cut n ∷ k) h s = go k h (run_op (keep n) s)
 next_at P (mark b ∷ k) h s = go_on (run_any b.receiver s) (λ t. go k b.here (run_op (keep b.length) t))
 next_at P (leave_call ∷ k) h s = do_leave (to_mark k) (Some s)

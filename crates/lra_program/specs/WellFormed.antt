@@ -9,7 +9,8 @@ use Rattle.lra_base.specs.TextOrder.{for_order}
 use Rattle.lra_program.specs.Program.{Slot, global, local, Expr, literal, read, input, negate, binary, Cond, compare}
 use Rattle.lra_program.specs.Program.{nonzero, opposite, both_of, either_of, Call, Rvalue, value, result, Stmt, absent}
 use Rattle.lra_program.specs.Program.{nothing, block, assign, call, if, loop, for, break, continue, return, assert}
-use Rattle.lra_program.specs.Program.{assume, BlockItems, no_more, declaration, statement, Function, Program}
+use Rattle.lra_program.specs.Program.{assume, switch, Cases, no_cases, labelled, stated, BlockItems, no_more}
+use Rattle.lra_program.specs.Program.{declaration, statement, Function, Program}
 use Rattle.lra_program.specs.declared.program.GlobalVariable.{GlobalVariable}
 use Rattle.lra_base.specs.NumberTypes.{fits}
 use Rattle.lra_program.specs.Sites.{live_behind}
@@ -32,6 +33,12 @@ abbrev mutual
   stmt_numbers (return at e) = at ∷ []
   stmt_numbers (assert at c) = at ∷ []
   stmt_numbers (assume at c) = at ∷ []
+  stmt_numbers (switch at e cs) = at ∷ cases_numbers cs
+
+  pub cases_numbers : Cases → List ℕ
+  cases_numbers no_cases = []
+  cases_numbers (labelled l cs) = cases_numbers cs
+  cases_numbers (stated a cs) = stmt_numbers a ++ cases_numbers cs
 
   pub items_numbers : BlockItems → List ℕ
   items_numbers no_more = []
@@ -44,6 +51,21 @@ function_numbers f = items_numbers f.body ++ f.end ∷ []
 -- the labels of the functions, in their order, are 1, 2, 3 ..
 abbrev pub AreInTextOrder : List Function → Type 0
 AreInTextOrder fs = flat_map function_numbers fs ≡ range_with_len 1 (length (flat_map function_numbers fs))
+
+-- whether a loop or a `switch` is there for `break` to leave, and a loop for `continue` to go on with
+pub record Jumps : Type 0 where
+  pub breaks : Bool
+  pub continues : Bool
+
+abbrev pub no_jumps : Jumps
+no_jumps = record { breaks = false; continues = false }
+
+abbrev pub in_loop : Jumps
+in_loop = record { breaks = true; continues = true }
+
+-- in a `switch`, `continue` goes where it does around it
+abbrev pub in_switch : Jumps → Jumps
+in_switch j = record j { breaks = true }
 
 -- what stands in a program, where so many of the call's own variables live ------------------------
 
@@ -84,33 +106,40 @@ module _ (P : Program) where
   IsGoodGiven at live (Some e) = IsGoodRvalue at live e
 
   abbrev mutual
-    -- `break` and `continue` stand in a loop's body
-    pub IsGoodStmt : Bool → ℕ → Stmt → Type 0
-    IsGoodStmt in_loop live absent = ⊤
-    IsGoodStmt in_loop live (nothing at) = ⊤
-    IsGoodStmt in_loop live (block items end) = AreGoodItems in_loop live items
-    IsGoodStmt in_loop live (assign at x e) = IsLive live x.slot × IsGoodRvalue at live e
-    IsGoodStmt in_loop live (call at c) = IsGoodCall at live c
-    IsGoodStmt in_loop live (if at c a b) = IsGoodCond live c × IsGoodStmt in_loop live a × IsGoodStmt in_loop live b
-    IsGoodStmt in_loop live (loop at c a step) = IsGoodCond live c × IsGoodStmt true live a × IsGoodStmt false live step
-    IsGoodStmt in_loop live (for at init c a step) =
+    -- `break` stands in a loop's body or a `switch`, `continue` in a loop's body
+    pub IsGoodStmt : Jumps → ℕ → Stmt → Type 0
+    IsGoodStmt j live absent = ⊤
+    IsGoodStmt j live (nothing at) = ⊤
+    IsGoodStmt j live (block items end) = AreGoodItems j live items
+    IsGoodStmt j live (assign at x e) = IsLive live x.slot × IsGoodRvalue at live e
+    IsGoodStmt j live (call at c) = IsGoodCall at live c
+    IsGoodStmt j live (if at c a b) = IsGoodCond live c × IsGoodStmt j live a × IsGoodStmt j live b
+    IsGoodStmt j live (loop at c a step) = IsGoodCond live c × IsGoodStmt in_loop live a × IsGoodStmt no_jumps live step
+    IsGoodStmt j live (for at init c a step) =
         let inside = live_behind live init in
-        AreGoodItems false live init × IsGoodCond inside c × IsGoodStmt true inside a × IsGoodStmt false inside step
-    IsGoodStmt in_loop live (break at) = IsTrue in_loop
-    IsGoodStmt in_loop live (continue at) = IsTrue in_loop
-    IsGoodStmt in_loop live (return at e) = IsGoodGiven at live e
-    IsGoodStmt in_loop live (assert at c) = IsGoodCond live c
-    IsGoodStmt in_loop live (assume at c) = IsGoodCond live c
+        AreGoodItems no_jumps live init × IsGoodCond inside c × IsGoodStmt in_loop inside a ×
+        IsGoodStmt no_jumps inside step
+    IsGoodStmt j live (break at) = IsTrue j.breaks
+    IsGoodStmt j live (continue at) = IsTrue j.continues
+    IsGoodStmt j live (return at e) = IsGoodGiven at live e
+    IsGoodStmt j live (assert at c) = IsGoodCond live c
+    IsGoodStmt j live (assume at c) = IsGoodCond live c
+    IsGoodStmt j live (switch at e cs) = IsGoodExpr live e × AreGoodCases (in_switch j) live cs
+
+    pub AreGoodCases : Jumps → ℕ → Cases → Type 0
+    AreGoodCases j live no_cases = ⊤
+    AreGoodCases j live (labelled l cs) = AreGoodCases j live cs
+    AreGoodCases j live (stated a cs) = IsGoodStmt j live a × AreGoodCases j live cs
 
     -- a declarator's variable lives in what it gets
-    pub AreGoodItems : Bool → ℕ → BlockItems → Type 0
-    AreGoodItems in_loop live no_more = ⊤
-    AreGoodItems in_loop live (declaration d items) = IsGoodGiven d.label (suc live) d.rvalue ×
-        AreGoodItems in_loop (suc live) items
-    AreGoodItems in_loop live (statement s items) = IsGoodStmt in_loop live s × AreGoodItems in_loop live items
+    pub AreGoodItems : Jumps → ℕ → BlockItems → Type 0
+    AreGoodItems j live no_more = ⊤
+    AreGoodItems j live (declaration d items) = IsGoodGiven d.label (suc live) d.rvalue ×
+        AreGoodItems j (suc live) items
+    AreGoodItems j live (statement s items) = IsGoodStmt j live s × AreGoodItems j live items
 
   abbrev pub IsGoodFunction : Function → Type 0
-  IsGoodFunction f = AreGoodItems false (length f.parameters) f.body
+  IsGoodFunction f = AreGoodItems no_jumps (length f.parameters) f.body
 
 -- first values are numbers of their types
 abbrev pub AreGoodGlobals : List GlobalVariable → Type 0

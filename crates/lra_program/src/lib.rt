@@ -7,7 +7,7 @@ mod program;
 mod receivers;
 
 pub use program::{
-    Argument, BlockItem, BlockItems, Call, Cond, Declarator, Expr, Function, GlobalVariable,
-    Operation, Program, Rvalue, Slot, Stmt, Variable, pair_arguments,
+    Argument, BlockItem, BlockItems, Call, CaseItem, Cond, Declarator, Expr, Function,
+    GlobalVariable, Operation, Program, Rvalue, Slot, Stmt, Variable, pair_arguments,
 };
 pub use receivers::{Receiver, Target, Way};

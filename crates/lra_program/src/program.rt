@@ -6,7 +6,7 @@ ghost use Rattle.std.specs.Prelude.{◌≡◌, ◌∷◌, [], map, IfOk};
 ghost use Rattle.lra_program.specs.ProgramViews.{expr_view, operation_view, cond_view, argument_view};
 ghost use Rattle.lra_program.specs.Step.{arguments_for};
 
-use lra_base::{Comparison, NumberType, Operator};
+use lra_base::{CaseLabel, Comparison, NumberType, Operator};
 use std::alloc::{AllocError, Global};
 
 /// A variable of the whole program, or of the call that runs, by its place from the oldest on.
@@ -167,6 +167,8 @@ pub enum Stmt {
     Return(usize, Option<Rvalue>),
     Assert(usize, Cond),
     Assume(usize, Cond),
+    /// Labels and statements in text order, all in one list.
+    Switch(usize, Expr, Vec<CaseItem>),
 }
 
 impl Drop for Stmt {
@@ -192,6 +194,24 @@ impl Drop for Stmt {
             Stmt::Return(_, _) => {}
             Stmt::Assert(_, _) => {}
             Stmt::Assume(_, _) => {}
+            Stmt::Switch(_, _, _) => {}
+        }
+    }
+}
+
+/// A label of a `switch`, or a statement.
+#[cycle(resolved_statement)]
+pub enum CaseItem {
+    Label(CaseLabel),
+    Stated(Stmt),
+}
+
+impl Drop for CaseItem {
+    #[cycle(resolved_statement_drop)]
+    fn drop(self) {
+        match self {
+            CaseItem::Label(_) => {}
+            CaseItem::Stated(_) => {}
         }
     }
 }
