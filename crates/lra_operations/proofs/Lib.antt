@@ -4,4 +4,5 @@ mod DistinctExamples
 pub mod SizeLaws
 pub mod TrailLaws
 pub mod TrailUses
+pub mod ArmRows
 mod TrailExamples

@@ -1,8 +1,12 @@
 -- A value of the tree of operations, and what it stands for.
-use Rattle.std.proofs.Common.{◌≡◌, ◌∷◌, [], map, refl, rules, Box, Vec, Global}
-use Rattle.lra_operations.specs.declared.graph.Node.{Node, Seq, the_lemmas as node_lemmas}
+use Rattle.std.proofs.Common.{◌≡◌, ℕ, ◌∷◌, [], map, refl, rules, Box, Vec, Global}
+use Rattle.lra_operations.specs.declared.graph.Node.{Node, Seq, Select, the_lemmas as node_lemmas}
 use Rattle.lra_operations.specs.Graph as graph
-use Rattle.lra_operations.specs.GraphViews.{node_view, row}
+use Rattle.lra_operations.specs.GraphViews.{node_view, row, arm_view, arms_of}
+use Rattle.lra_operations.specs.declared.graph.Arm.{Arm}
+use Rattle.lra_program.specs.declared.program.Expr.{Expr}
+use Rattle.lra_program.specs.ProgramViews.{expr_view}
+use Rattle.lra_base.specs.declared.case_labels.CaseLabel.{CaseLabel}
 
 -- trees one after the other nest to the right
 seq_view : (gs : Vec Node Global) (last : Box Node Global) → node_view (Seq gs last) ≡ row (map node_view gs.items) (node_view last.value)
@@ -10,3 +14,11 @@ seq_view gs last = search (rules, node_lemmas)
 
 two_in_a_row : (a b last : graph.Node) → row (a ∷ b ∷ []) last ≡ graph.seq a (graph.seq b last)
 two_in_a_row a b last = refl
+
+-- arms in the order of their list
+select_view : (q base : ℕ) (e : Expr) (arms : Vec Arm Global)
+    → node_view (Select q base e arms) ≡ graph.select q base (expr_view e) (arms_of (map arm_view arms.items))
+select_view q base e arms = search (rules, node_lemmas)
+
+two_arms : (l : CaseLabel) (g : graph.Node) → arms_of (graph.entry l ∷ graph.arm g ∷ []) ≡ graph.entry l (graph.arm g graph.no_arms)
+two_arms l g = refl

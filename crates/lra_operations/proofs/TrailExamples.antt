@@ -1,12 +1,13 @@
 -- Trails of small trees.
-use Rattle.std.proofs.Common.{ℕ, suc, ℤ, pos, [], ◌∷◌, inl, inr, refl}
+use Rattle.std.proofs.Common.{ℕ, suc, ℤ, pos, [], ◌∷◌, false, inl, inr, refl}
 use Rattle.lra_base.specs.declared.number_types.NumberType.TheVariants.{Int, Long}
+use Rattle.lra_base.specs.declared.case_labels.CaseLabel.TheVariants.{Case, Default}
 use Rattle.lra_base.specs.Operators.{plus, below}
 use Rattle.lra_program.specs.Program.{Variable, Cond, literal, read, binary, compare, local}
 use Rattle.lra_program.specs.Receivers.{variable_at}
 use Rattle.lra_program.specs.Step.{State, give}
 use Rattle.lra_program.specs.Trails.{passes, Trail, Alone}
-use Rattle.lra_operations.specs.Graph.{broken, Node, point, act, seq, iterate, check, catch, leave}
+use Rattle.lra_operations.specs.Graph.{broken, Node, point, act, seq, iterate, check, catch, leave, select, Arms, no_arms, entry, arm, normal, ArmsEnd}
 use Rattle.lra_operations.specs.Trails.{to_point, to_failure, to_end, stopped, Goes}
 
 abbrev x_is : ℤ → State
@@ -54,3 +55,29 @@ left = inr (inr (_, (refl, refl), (refl, refl)))
 named : Goes (λ q. suc q) Alone (seq (point 4) (point 5)) (starts (x_is (pos 0))) to_end
     (record { state = x_is (pos 0); met = passes 6 (x_is (pos 0)) ∷ passes 5 (x_is (pos 0)) ∷ [] })
 named = (_, (refl, refl), (refl, refl))
+
+-- switch(x){ default: ; case 2: ; break; case 3: ; } : the points 1 to 4
+abbrev arms : Arms
+arms = entry Default (arm (point 1) (entry (Case (pos 2))
+    (arm (point 2) (arm (seq (point 3) (leave 1 broken)) (entry (Case (pos 3)) (arm (point 4) no_arms))))))
+
+abbrev switch_of_x : Node
+switch_of_x = catch 0 broken (select 0 0 (read x) arms)
+
+-- from x = 2: past the points 2 and 3, and out by `break`; catches `default` that is entered though a value stands behind it
+entered : Goes (λ q. q) Alone switch_of_x (starts (x_is (pos 2))) to_end
+    (record { state = x_is (pos 2); met = passes 3 (x_is (pos 2)) ∷ passes 2 (x_is (pos 2)) ∷ [] })
+entered = inr (Case (pos 2), _, ((pos 2, refl, refl, refl), refl), inr (_, (refl, refl), inl (inr (_, (refl, refl), (refl, refl)))))
+
+-- from x = 3: past point 4 to the end
+last_entered : Goes (λ q. q) Alone switch_of_x (starts (x_is (pos 3))) to_end (record { state = x_is (pos 3); met = passes 4 (x_is (pos 3)) ∷ [] })
+last_entered = inl (Case (pos 3), _, ((pos 3, refl, refl, refl), refl), (_, (refl, refl), refl))
+
+-- from x = 7: `default`, from which it falls past the label 2; catches arms that end at the next label
+fallen : Goes (λ q. q) Alone switch_of_x (starts (x_is (pos 7))) (stopped (to_point 3))
+    (record { state = x_is (pos 7); met = passes 2 (x_is (pos 7)) ∷ passes 1 (x_is (pos 7)) ∷ [] })
+fallen = (λ e. cc, (Default, _, ((pos 7, refl, refl, refl), refl), inr (_, (refl, refl), inr (_, (refl, refl), inl (inl (refl, refl))))))
+
+-- without a label for the value nothing is run
+none_entered : ArmsEnd Default false (entry (Case (pos 2)) (arm (leave 1 broken) no_arms)) (x_is (pos 7)) normal (x_is (pos 7))
+none_entered = refl

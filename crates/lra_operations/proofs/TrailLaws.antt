@@ -1,10 +1,13 @@
 -- A tree's run where nothing changes the state at points is one without its list, and the other way round.
-use Rattle.std.proofs.Common.{◌≡◌, ℕ, zero, suc, ◌∷◌, List, Bool, Some, true, false, inl, inr, refl, ap, subst}
+use Rattle.std.proofs.Common.{◌≡◌, ℕ, zero, suc, ◌∷◌, List, Bool, Some, true, false, ◌||◌, inl, inr, refl, ap, subst}
+use Rattle.lra_base.specs.declared.case_labels.CaseLabel.{CaseLabel}
+use Rattle.lra_base.specs.CaseLabels.{are_alike}
 use Rattle.lra_program.specs.Program.{Cond}
 use Rattle.lra_program.specs.Step.{State, run_op, test}
 use Rattle.lra_program.specs.Trails.{Met, passes, Trail, Alone}
-use Rattle.lra_operations.specs.Graph.{Exit, normal, jump, Node, empty, point, act, check, seq, choose, iterate, catch, leave, Rounds, Ends, Comes, FailsAt}
-use Rattle.lra_operations.specs.Trails.{by_jump, to_point, to_failure, to_end, stopped, Goes, Tests, TrailRounds}
+use Rattle.lra_operations.specs.Graph.{Exit, normal, jump, Node, empty, point, act, check, seq, choose, iterate, catch, leave, select, Arms, no_arms, entry, arm}
+use Rattle.lra_operations.specs.Graph.{Rounds, Ends, ArmsEnd, Comes, ArmsCome, FailsAt, ArmsFail}
+use Rattle.lra_operations.specs.Trails.{by_jump, to_point, to_failure, to_end, stopped, Goes, ArmsGo, Tests, TrailRounds}
 
 same_exit : {j k : Exit} → by_jump j ≡ by_jump k → j ≡ k
 same_exit e = cc
@@ -39,6 +42,14 @@ module _ {A : Type 0} (name : ℕ → A) where
     ends_of (catch q k g) a b (inl x) = inl (ends_of g a b x)
     ends_of (catch q k g) a b (inr x) = inr (jumps_of g k a b x)
     ends_of (leave n k) a b x = absurd x
+    ends_of (select q base e arms) a b (l, m, (s, i), x) = (l, m.state, s, arms_end_of l false arms m b x)
+
+    arms_end_of : (l : CaseLabel) (met : Bool) (arms : Arms) (a b : Trail A) → ArmsGo name Alone l met arms a to_end b
+        → ArmsEnd l met arms a.state normal b.state
+    arms_end_of l met no_arms a b e = ap (λ (x : Trail A). x.state) e
+    arms_end_of l met (entry k arms) a b x = arms_end_of l (met || are_alike l k) arms a b x
+    arms_end_of l false (arm g arms) a b x = arms_end_of l false arms a b x
+    arms_end_of l true (arm g arms) a b (m, x, y) = (m.state, ends_of g a m x, arms_end_of l true arms m b y)
 
     pub jumps_of : (g : Node) (j : Exit) (a b : Trail A) → Goes name Alone g a (stopped (by_jump j)) b → Ends g a.state (jump j) b.state
     jumps_of empty j a b x = absurd x
@@ -53,34 +64,65 @@ module _ {A : Type 0} (name : ℕ → A) where
     jumps_of (iterate q base c g) j a b (n, m, r, inr (w, t, x)) = (n, m.state, w.state, rounds_of q base c g (ends_of g) n a m r, tests_alone q base c true m w t, jumps_of g j w b x)
     jumps_of (catch q k g) j a b (d, x) = (λ e. d (ap by_jump e), jumps_of g j a b x)
     jumps_of (leave n k) j a b (e, i) = (same_exit e, ap (λ (x : Trail A). x.state) i)
+    jumps_of (select q base e arms) j a b (l, m, (s, i), x) = (l, m.state, s, arms_jump_of l false arms j m b x)
 
-  pub comes_of : (g : Node) (p : ℕ) (a b : Trail A) → Goes name Alone g a (stopped (to_point p)) b → Comes g a.state p b.state
-  comes_of empty p a b x = absurd x
-  comes_of (point q) p a b (e, i) = (e, ap (λ (x : Trail A). x.state) i)
-  comes_of (act q op) p a b x = absurd x
-  comes_of (check q base c) p a b x = absurd x.0
-  comes_of (seq g h) p a b (inl x) = inl (comes_of g p a b x)
-  comes_of (seq g h) p a b (inr (m, x, y)) = inr (m.state, ends_of g a m x, comes_of h p m b y)
-  comes_of (choose q base c g h) p a b (inl (m, (e, i), x)) = inl (m.state, e, comes_of g p m b x)
-  comes_of (choose q base c g h) p a b (inr (m, (e, i), x)) = inr (m.state, e, comes_of h p m b x)
-  comes_of (iterate q base c g) p a b (n, m, r, inl (e, i)) = (n, m.state, rounds_of q base c g (ends_of g) n a m r, inl (e, ap (λ (x : Trail A). x.state) i))
-  comes_of (iterate q base c g) p a b (n, m, r, inr (w, t, x)) = (n, m.state, rounds_of q base c g (ends_of g) n a m r, inr (w.state, tests_alone q base c true m w t, comes_of g p w b x))
-  comes_of (catch q k g) p a b (d, x) = comes_of g p a b x
-  comes_of (leave n k) p a b (e, i) = absurd cc
+    arms_jump_of : (l : CaseLabel) (met : Bool) (arms : Arms) (j : Exit) (a b : Trail A) → ArmsGo name Alone l met arms a (stopped (by_jump j)) b
+        → ArmsEnd l met arms a.state (jump j) b.state
+    arms_jump_of l met no_arms j a b x = absurd x
+    arms_jump_of l met (entry k arms) j a b x = arms_jump_of l (met || are_alike l k) arms j a b x
+    arms_jump_of l false (arm g arms) j a b x = arms_jump_of l false arms j a b x
+    arms_jump_of l true (arm g arms) j a b (inl x) = inl (jumps_of g j a b x)
+    arms_jump_of l true (arm g arms) j a b (inr (m, x, y)) = inr (m.state, ends_of g a m x, arms_jump_of l true arms j m b y)
 
-  pub fails_of : (g : Node) (p : ℕ) (a b : Trail A) → Goes name Alone g a (stopped (to_failure p)) b → FailsAt g a.state p
-  fails_of empty p a b x = absurd x
-  fails_of (point q) p a b (x, e) = absurd x
-  fails_of (act q op) p a b x = absurd x
-  fails_of (check q base c) p a b (e, i, t, x) = (e, t, x)
-  fails_of (seq g h) p a b (inl x) = inl (fails_of g p a b x)
-  fails_of (seq g h) p a b (inr (m, x, y)) = inr (m.state, ends_of g a m x, fails_of h p m b y)
-  fails_of (choose q base c g h) p a b (inl (m, (e, i), x)) = inl (m.state, e, fails_of g p m b x)
-  fails_of (choose q base c g h) p a b (inr (m, (e, i), x)) = inr (m.state, e, fails_of h p m b x)
-  fails_of (iterate q base c g) p a b (n, m, r, inl (x, e)) = absurd x
-  fails_of (iterate q base c g) p a b (n, m, r, inr (w, t, x)) = (n, m.state, rounds_of q base c g (ends_of g) n a m r, w.state, tests_alone q base c true m w t, fails_of g p w b x)
-  fails_of (catch q k g) p a b (d, x) = fails_of g p a b x
-  fails_of (leave n k) p a b (e, i) = absurd cc
+  mutual
+    pub comes_of : (g : Node) (p : ℕ) (a b : Trail A) → Goes name Alone g a (stopped (to_point p)) b → Comes g a.state p b.state
+    comes_of empty p a b x = absurd x
+    comes_of (point q) p a b (e, i) = (e, ap (λ (x : Trail A). x.state) i)
+    comes_of (act q op) p a b x = absurd x
+    comes_of (check q base c) p a b x = absurd x.0
+    comes_of (seq g h) p a b (inl x) = inl (comes_of g p a b x)
+    comes_of (seq g h) p a b (inr (m, x, y)) = inr (m.state, ends_of g a m x, comes_of h p m b y)
+    comes_of (choose q base c g h) p a b (inl (m, (e, i), x)) = inl (m.state, e, comes_of g p m b x)
+    comes_of (choose q base c g h) p a b (inr (m, (e, i), x)) = inr (m.state, e, comes_of h p m b x)
+    comes_of (iterate q base c g) p a b (n, m, r, inl (e, i)) = (n, m.state, rounds_of q base c g (ends_of g) n a m r, inl (e, ap (λ (x : Trail A). x.state) i))
+    comes_of (iterate q base c g) p a b (n, m, r, inr (w, t, x)) =
+        (n, m.state, rounds_of q base c g (ends_of g) n a m r, inr (w.state, tests_alone q base c true m w t, comes_of g p w b x))
+    comes_of (catch q k g) p a b (d, x) = comes_of g p a b x
+    comes_of (leave n k) p a b (e, i) = absurd cc
+    comes_of (select q base e arms) p a b (l, m, (s, i), x) = (l, m.state, s, arms_come_of l false arms p m b x)
+
+    arms_come_of : (l : CaseLabel) (met : Bool) (arms : Arms) (p : ℕ) (a b : Trail A) → ArmsGo name Alone l met arms a (stopped (to_point p)) b
+        → ArmsCome l met arms a.state p b.state
+    arms_come_of l met no_arms p a b x = absurd x
+    arms_come_of l met (entry k arms) p a b x = arms_come_of l (met || are_alike l k) arms p a b x
+    arms_come_of l false (arm g arms) p a b x = arms_come_of l false arms p a b x
+    arms_come_of l true (arm g arms) p a b (inl x) = inl (comes_of g p a b x)
+    arms_come_of l true (arm g arms) p a b (inr (m, x, y)) = inr (m.state, ends_of g a m x, arms_come_of l true arms p m b y)
+
+  mutual
+    pub fails_of : (g : Node) (p : ℕ) (a b : Trail A) → Goes name Alone g a (stopped (to_failure p)) b → FailsAt g a.state p
+    fails_of empty p a b x = absurd x
+    fails_of (point q) p a b (x, e) = absurd x
+    fails_of (act q op) p a b x = absurd x
+    fails_of (check q base c) p a b (e, i, t, x) = (e, t, x)
+    fails_of (seq g h) p a b (inl x) = inl (fails_of g p a b x)
+    fails_of (seq g h) p a b (inr (m, x, y)) = inr (m.state, ends_of g a m x, fails_of h p m b y)
+    fails_of (choose q base c g h) p a b (inl (m, (e, i), x)) = inl (m.state, e, fails_of g p m b x)
+    fails_of (choose q base c g h) p a b (inr (m, (e, i), x)) = inr (m.state, e, fails_of h p m b x)
+    fails_of (iterate q base c g) p a b (n, m, r, inl (x, e)) = absurd x
+    fails_of (iterate q base c g) p a b (n, m, r, inr (w, t, x)) =
+        (n, m.state, rounds_of q base c g (ends_of g) n a m r, w.state, tests_alone q base c true m w t, fails_of g p w b x)
+    fails_of (catch q k g) p a b (d, x) = fails_of g p a b x
+    fails_of (leave n k) p a b (e, i) = absurd cc
+    fails_of (select q base e arms) p a b (l, m, (s, i), x) = (l, m.state, s, arms_fail_of l false arms p m b x)
+
+    arms_fail_of : (l : CaseLabel) (met : Bool) (arms : Arms) (p : ℕ) (a b : Trail A) → ArmsGo name Alone l met arms a (stopped (to_failure p)) b
+        → ArmsFail l met arms a.state p
+    arms_fail_of l met no_arms p a b x = absurd x
+    arms_fail_of l met (entry k arms) p a b x = arms_fail_of l (met || are_alike l k) arms p a b x
+    arms_fail_of l false (arm g arms) p a b x = arms_fail_of l false arms p a b x
+    arms_fail_of l true (arm g arms) p a b (inl x) = inl (fails_of g p a b x)
+    arms_fail_of l true (arm g arms) p a b (inr (m, x, y)) = inr (m.state, ends_of g a m x, arms_fail_of l true arms p m b y)
 
   -- and with what is met ---------------------------------------------------------------------------------------------
 
@@ -127,6 +169,17 @@ module _ {A : Type 0} (name : ℕ → A) where
     goes_on (catch q k g) a t (inl x) = let r = goes_on g a t x in (r.0, inl r.1)
     goes_on (catch q k g) a t (inr x) = let r = jumps_on g k a t x in (r.0, inr r.1)
     goes_on (leave n k) a t x = absurd x
+    goes_on (select q base e arms) a t (l, m, s, x) = let r = arms_go_on l false arms (with m a.met) t x in (r.0, (l, with m a.met, (s, refl), r.1))
+
+    arms_go_on : (l : CaseLabel) (met : Bool) (arms : Arms) (a : Trail A) (t : State) → ArmsEnd l met arms a.state normal t
+        → (xs : List (Met A)) × ArmsGo name Alone l met arms a to_end (with t xs)
+    arms_go_on l met no_arms a t e = (a.met, rw e refl)
+    arms_go_on l met (entry k arms) a t x = arms_go_on l (met || are_alike l k) arms a t x
+    arms_go_on l false (arm g arms) a t x = arms_go_on l false arms a t x
+    arms_go_on l true (arm g arms) a t (m, x, y) =
+        let one = goes_on g a m x in
+        let two = arms_go_on l true arms (with m one.0) t y in
+        (two.0, (with m one.0, one.1, two.1))
 
     pub jumps_on : (g : Node) (j : Exit) (a : Trail A) (t : State) → Ends g a.state (jump j) t → (xs : List (Met A)) × Goes name Alone g a (stopped (by_jump j)) (with t xs)
     jumps_on empty j a t x = absurd x
@@ -146,44 +199,83 @@ module _ {A : Type 0} (name : ℕ → A) where
         (last.0, (n, with m rounds.0, rounds.1, inr (tested q (with m rounds.0) w, test_alone q base c true (with m rounds.0) w e, last.1)))
     jumps_on (catch q k g) j a t (d, x) = let r = jumps_on g j a t x in (r.0, (λ e. d (same_exit e), r.1))
     jumps_on (leave n k) j a t (e, i) = (a.met, (ap by_jump e, rw i refl))
+    jumps_on (select q base e arms) j a t (l, m, s, x) = let r = arms_jump_on l false arms j (with m a.met) t x in (r.0, (l, with m a.met, (s, refl), r.1))
 
-  pub comes_on : (g : Node) (p : ℕ) (a : Trail A) (t : State) → Comes g a.state p t → (xs : List (Met A)) × Goes name Alone g a (stopped (to_point p)) (with t xs)
-  comes_on empty p a t x = absurd x
-  comes_on (point q) p a t (e, i) = (a.met, (e, rw i refl))
-  comes_on (act q op) p a t x = absurd x
-  comes_on (check q base c) p a t x = absurd x
-  comes_on (seq g h) p a t (inl x) = let r = comes_on g p a t x in (r.0, inl r.1)
-  comes_on (seq g h) p a t (inr (m, x, y)) =
-      let one = goes_on g a m x in
-      let two = comes_on h p (with m one.0) t y in
-      (two.0, inr (with m one.0, one.1, two.1))
-  comes_on (choose q base c g h) p a t (inl (m, e, x)) = let r = comes_on g p (with m a.met) t x in (r.0, inl (with m a.met, (e, refl), r.1))
-  comes_on (choose q base c g h) p a t (inr (m, e, x)) = let r = comes_on h p (with m a.met) t x in (r.0, inr (with m a.met, (e, refl), r.1))
-  comes_on (iterate q base c g) p a t (n, m, r, inl (e, i)) =
-      let rounds = goes_rounds q base c g (goes_on g) n a m r in
-      (rounds.0, (n, with m rounds.0, rounds.1, inl (e, rw i refl)))
-  comes_on (iterate q base c g) p a t (n, m, r, inr (w, e, x)) =
-      let rounds = goes_rounds q base c g (goes_on g) n a m r in
-      let last = comes_on g p (tested q (with m rounds.0) w) t x in
-      (last.0, (n, with m rounds.0, rounds.1, inr (tested q (with m rounds.0) w, test_alone q base c true (with m rounds.0) w e, last.1)))
-  comes_on (catch q k g) p a t x = let r = comes_on g p a t x in (r.0, (λ e. cc, r.1))
-  comes_on (leave n k) p a t x = absurd x
+    arms_jump_on : (l : CaseLabel) (met : Bool) (arms : Arms) (j : Exit) (a : Trail A) (t : State) → ArmsEnd l met arms a.state (jump j) t
+        → (xs : List (Met A)) × ArmsGo name Alone l met arms a (stopped (by_jump j)) (with t xs)
+    arms_jump_on l met no_arms j a t x = absurd x
+    arms_jump_on l met (entry k arms) j a t x = arms_jump_on l (met || are_alike l k) arms j a t x
+    arms_jump_on l false (arm g arms) j a t x = arms_jump_on l false arms j a t x
+    arms_jump_on l true (arm g arms) j a t (inl x) = let r = jumps_on g j a t x in (r.0, inl r.1)
+    arms_jump_on l true (arm g arms) j a t (inr (m, x, y)) =
+        let one = goes_on g a m x in
+        let two = arms_jump_on l true arms j (with m one.0) t y in
+        (two.0, inr (with m one.0, one.1, two.1))
 
-  pub fails_on : (g : Node) (p : ℕ) (a : Trail A) → FailsAt g a.state p → (b : Trail A) × Goes name Alone g a (stopped (to_failure p)) b
-  fails_on empty p a x = absurd x
-  fails_on (point q) p a x = absurd x
-  fails_on (act q op) p a x = absurd x
-  fails_on (check q base c) p a (e, t, x) = (a, (e, refl, t, x))
-  fails_on (seq g h) p a (inl x) = let r = fails_on g p a x in (r.0, inl r.1)
-  fails_on (seq g h) p a (inr (m, x, y)) =
-      let one = goes_on g a m x in
-      let two = fails_on h p (with m one.0) y in
-      (two.0, inr (with m one.0, one.1, two.1))
-  fails_on (choose q base c g h) p a (inl (m, e, x)) = let r = fails_on g p (with m a.met) x in (r.0, inl (with m a.met, (e, refl), r.1))
-  fails_on (choose q base c g h) p a (inr (m, e, x)) = let r = fails_on h p (with m a.met) x in (r.0, inr (with m a.met, (e, refl), r.1))
-  fails_on (iterate q base c g) p a (n, m, r, w, e, x) =
-      let rounds = goes_rounds q base c g (goes_on g) n a m r in
-      let last = fails_on g p (tested q (with m rounds.0) w) x in
-      (last.0, (n, with m rounds.0, rounds.1, inr (tested q (with m rounds.0) w, test_alone q base c true (with m rounds.0) w e, last.1)))
-  fails_on (catch q k g) p a x = let r = fails_on g p a x in (r.0, (λ e. cc, r.1))
-  fails_on (leave n k) p a x = absurd x
+  mutual
+    pub comes_on : (g : Node) (p : ℕ) (a : Trail A) (t : State) → Comes g a.state p t
+        → (xs : List (Met A)) × Goes name Alone g a (stopped (to_point p)) (with t xs)
+    comes_on empty p a t x = absurd x
+    comes_on (point q) p a t (e, i) = (a.met, (e, rw i refl))
+    comes_on (act q op) p a t x = absurd x
+    comes_on (check q base c) p a t x = absurd x
+    comes_on (seq g h) p a t (inl x) = let r = comes_on g p a t x in (r.0, inl r.1)
+    comes_on (seq g h) p a t (inr (m, x, y)) =
+        let one = goes_on g a m x in
+        let two = comes_on h p (with m one.0) t y in
+        (two.0, inr (with m one.0, one.1, two.1))
+    comes_on (choose q base c g h) p a t (inl (m, e, x)) = let r = comes_on g p (with m a.met) t x in (r.0, inl (with m a.met, (e, refl), r.1))
+    comes_on (choose q base c g h) p a t (inr (m, e, x)) = let r = comes_on h p (with m a.met) t x in (r.0, inr (with m a.met, (e, refl), r.1))
+    comes_on (iterate q base c g) p a t (n, m, r, inl (e, i)) =
+        let rounds = goes_rounds q base c g (goes_on g) n a m r in
+        (rounds.0, (n, with m rounds.0, rounds.1, inl (e, rw i refl)))
+    comes_on (iterate q base c g) p a t (n, m, r, inr (w, e, x)) =
+        let rounds = goes_rounds q base c g (goes_on g) n a m r in
+        let last = comes_on g p (tested q (with m rounds.0) w) t x in
+        (last.0, (n, with m rounds.0, rounds.1, inr (tested q (with m rounds.0) w, test_alone q base c true (with m rounds.0) w e, last.1)))
+    comes_on (catch q k g) p a t x = let r = comes_on g p a t x in (r.0, (λ e. cc, r.1))
+    comes_on (leave n k) p a t x = absurd x
+    comes_on (select q base e arms) p a t (l, m, s, x) = let r = arms_come_on l false arms p (with m a.met) t x in (r.0, (l, with m a.met, (s, refl), r.1))
+
+    arms_come_on : (l : CaseLabel) (met : Bool) (arms : Arms) (p : ℕ) (a : Trail A) (t : State) → ArmsCome l met arms a.state p t
+        → (xs : List (Met A)) × ArmsGo name Alone l met arms a (stopped (to_point p)) (with t xs)
+    arms_come_on l met no_arms p a t x = absurd x
+    arms_come_on l met (entry k arms) p a t x = arms_come_on l (met || are_alike l k) arms p a t x
+    arms_come_on l false (arm g arms) p a t x = arms_come_on l false arms p a t x
+    arms_come_on l true (arm g arms) p a t (inl x) = let r = comes_on g p a t x in (r.0, inl r.1)
+    arms_come_on l true (arm g arms) p a t (inr (m, x, y)) =
+        let one = goes_on g a m x in
+        let two = arms_come_on l true arms p (with m one.0) t y in
+        (two.0, inr (with m one.0, one.1, two.1))
+
+  mutual
+    pub fails_on : (g : Node) (p : ℕ) (a : Trail A) → FailsAt g a.state p → (b : Trail A) × Goes name Alone g a (stopped (to_failure p)) b
+    fails_on empty p a x = absurd x
+    fails_on (point q) p a x = absurd x
+    fails_on (act q op) p a x = absurd x
+    fails_on (check q base c) p a (e, t, x) = (a, (e, refl, t, x))
+    fails_on (seq g h) p a (inl x) = let r = fails_on g p a x in (r.0, inl r.1)
+    fails_on (seq g h) p a (inr (m, x, y)) =
+        let one = goes_on g a m x in
+        let two = fails_on h p (with m one.0) y in
+        (two.0, inr (with m one.0, one.1, two.1))
+    fails_on (choose q base c g h) p a (inl (m, e, x)) = let r = fails_on g p (with m a.met) x in (r.0, inl (with m a.met, (e, refl), r.1))
+    fails_on (choose q base c g h) p a (inr (m, e, x)) = let r = fails_on h p (with m a.met) x in (r.0, inr (with m a.met, (e, refl), r.1))
+    fails_on (iterate q base c g) p a (n, m, r, w, e, x) =
+        let rounds = goes_rounds q base c g (goes_on g) n a m r in
+        let last = fails_on g p (tested q (with m rounds.0) w) x in
+        (last.0, (n, with m rounds.0, rounds.1, inr (tested q (with m rounds.0) w, test_alone q base c true (with m rounds.0) w e, last.1)))
+    fails_on (catch q k g) p a x = let r = fails_on g p a x in (r.0, (λ e. cc, r.1))
+    fails_on (leave n k) p a x = absurd x
+    fails_on (select q base e arms) p a (l, m, s, x) = let r = arms_fail_on l false arms p (with m a.met) x in (r.0, (l, with m a.met, (s, refl), r.1))
+
+    arms_fail_on : (l : CaseLabel) (met : Bool) (arms : Arms) (p : ℕ) (a : Trail A) → ArmsFail l met arms a.state p
+        → (b : Trail A) × ArmsGo name Alone l met arms a (stopped (to_failure p)) b
+    arms_fail_on l met no_arms p a x = absurd x
+    arms_fail_on l met (entry k arms) p a x = arms_fail_on l (met || are_alike l k) arms p a x
+    arms_fail_on l false (arm g arms) p a x = arms_fail_on l false arms p a x
+    arms_fail_on l true (arm g arms) p a (inl x) = let r = fails_on g p a x in (r.0, inl r.1)
+    arms_fail_on l true (arm g arms) p a (inr (m, x, y)) =
+        let one = goes_on g a m x in
+        let two = arms_fail_on l true arms p (with m one.0) y in
+        (two.0, inr (with m one.0, one.1, two.1))

@@ -1,10 +1,12 @@
 -- Laws for the use of trees' trails: points by other names, and what was met before.
-use Rattle.std.proofs.Common.{◌≡◌, ℕ, zero, suc, List, [], ◌∷◌, ◌++◌, map, Bool, true, false, inl, inr, refl, sym, ap, ◌∙◌, subst, append_assoc}
-use Rattle.lra_program.specs.Program.{Cond}
+use Rattle.std.proofs.Common.{◌≡◌, ℕ, zero, suc, List, [], ◌∷◌, ◌++◌, map, Bool, true, false, ◌||◌, inl, inr, refl, sym, ap, ◌∙◌, subst, append_assoc}
+use Rattle.lra_base.specs.declared.case_labels.CaseLabel.{CaseLabel}
+use Rattle.lra_base.specs.CaseLabels.{are_alike}
+use Rattle.lra_program.specs.Program.{Expr, Cond}
 use Rattle.lra_program.specs.Step.{State, Op, test}
 use Rattle.lra_program.specs.Trails.{Met, passes, Trail}
-use Rattle.lra_operations.specs.Graph.{Node, empty, point, act, check, seq, choose, iterate, catch, leave}
-use Rattle.lra_operations.specs.Trails.{by_jump, Outcome, to_end, stopped, Goes, Tests, TrailRounds, Performs, Passes}
+use Rattle.lra_operations.specs.Graph.{Node, empty, point, act, check, seq, choose, iterate, catch, leave, select, Arms, no_arms, entry, arm}
+use Rattle.lra_operations.specs.Trails.{by_jump, Outcome, to_end, stopped, Goes, ArmsGo, Finds, Tests, TrailRounds, Performs, Passes}
 
 -- points by other names ------------------------------------------------------------------------------------------------
 
@@ -39,30 +41,49 @@ module _ {A B : Type 0} (f : A → B) (name : ℕ → A) (may : State → State 
   turns_renamed q base c g each (suc n) a b (m, r, (w, t, x)) = (renamed f m, turns_renamed q base c g each n a m r, (renamed f w, tests_renamed q base c true m w t, each w b x))
 
   -- a trail by the one names is one by the others
-  pub goes_renamed : (g : Node) (a : Trail A) (u : Outcome) (b : Trail A) → G g a u b → R g (renamed f a) u (renamed f b)
-  goes_renamed empty a to_end b e = ap (renamed f) e
-  goes_renamed empty a (stopped z) b x = absurd x
-  goes_renamed (point q) a to_end b x = passes_renamed q a b x
-  goes_renamed (point q) a (stopped z) b (i, e) = (i, ap (renamed f) e)
-  goes_renamed (act q op) a to_end b (o, e) = (o, ap (map (renamed_met f)) e)
-  goes_renamed (act q op) a (stopped z) b x = absurd x
-  goes_renamed (check q base c) a to_end b (o, e) = (o, ap (map (renamed_met f)) e)
-  goes_renamed (check q base c) a (stopped z) b (i, e, t, o) = (i, ap (renamed f) e, t, o)
-  goes_renamed (seq g h) a to_end b (m, x, y) = (renamed f m, goes_renamed g a to_end m x, goes_renamed h m to_end b y)
-  goes_renamed (seq g h) a (stopped z) b (inl x) = inl (goes_renamed g a (stopped z) b x)
-  goes_renamed (seq g h) a (stopped z) b (inr (m, x, y)) = inr (renamed f m, goes_renamed g a to_end m x, goes_renamed h m (stopped z) b y)
-  goes_renamed (choose q base c g h) a u b (inl (m, (o, e), x)) = inl (renamed f m, (o, ap (map (renamed_met f)) e), goes_renamed g m u b x)
-  goes_renamed (choose q base c g h) a u b (inr (m, (o, e), x)) = inr (renamed f m, (o, ap (map (renamed_met f)) e), goes_renamed h m u b x)
-  goes_renamed (iterate q base c g) a to_end b (n, m, r, t) =
-      (n, renamed f m, turns_renamed q base c g (λ a b x. goes_renamed g a to_end b x) n a m r, tests_renamed q base c false m b t)
-  goes_renamed (iterate q base c g) a (stopped z) b (n, m, r, inl (i, e)) = (n, renamed f m, turns_renamed q base c g (λ a b x. goes_renamed g a to_end b x) n a m r, inl (i, ap (renamed f) e))
-  goes_renamed (iterate q base c g) a (stopped z) b (n, m, r, inr (w, t, x)) =
-      (n, renamed f m, turns_renamed q base c g (λ a b x. goes_renamed g a to_end b x) n a m r, inr (renamed f w, tests_renamed q base c true m w t, goes_renamed g w (stopped z) b x))
-  goes_renamed (catch q k g) a to_end b (inl x) = inl (goes_renamed g a to_end b x)
-  goes_renamed (catch q k g) a to_end b (inr x) = inr (goes_renamed g a (stopped (by_jump k)) b x)
-  goes_renamed (catch q k g) a (stopped z) b (d, x) = (d, goes_renamed g a (stopped z) b x)
-  goes_renamed (leave n k) a to_end b x = absurd x
-  goes_renamed (leave n k) a (stopped z) b (i, e) = (i, ap (renamed f) e)
+  mutual
+    pub goes_renamed : (g : Node) (a : Trail A) (u : Outcome) (b : Trail A) → G g a u b → R g (renamed f a) u (renamed f b)
+    goes_renamed empty a to_end b e = ap (renamed f) e
+    goes_renamed empty a (stopped z) b x = absurd x
+    goes_renamed (point q) a to_end b x = passes_renamed q a b x
+    goes_renamed (point q) a (stopped z) b (i, e) = (i, ap (renamed f) e)
+    goes_renamed (act q op) a to_end b (o, e) = (o, ap (map (renamed_met f)) e)
+    goes_renamed (act q op) a (stopped z) b x = absurd x
+    goes_renamed (check q base c) a to_end b (o, e) = (o, ap (map (renamed_met f)) e)
+    goes_renamed (check q base c) a (stopped z) b (i, e, t, o) = (i, ap (renamed f) e, t, o)
+    goes_renamed (seq g h) a to_end b (m, x, y) = (renamed f m, goes_renamed g a to_end m x, goes_renamed h m to_end b y)
+    goes_renamed (seq g h) a (stopped z) b (inl x) = inl (goes_renamed g a (stopped z) b x)
+    goes_renamed (seq g h) a (stopped z) b (inr (m, x, y)) = inr (renamed f m, goes_renamed g a to_end m x, goes_renamed h m (stopped z) b y)
+    goes_renamed (choose q base c g h) a u b (inl (m, (o, e), x)) = inl (renamed f m, (o, ap (map (renamed_met f)) e), goes_renamed g m u b x)
+    goes_renamed (choose q base c g h) a u b (inr (m, (o, e), x)) = inr (renamed f m, (o, ap (map (renamed_met f)) e), goes_renamed h m u b x)
+    goes_renamed (iterate q base c g) a to_end b (n, m, r, t) =
+        (n, renamed f m, turns_renamed q base c g (λ a b x. goes_renamed g a to_end b x) n a m r, tests_renamed q base c false m b t)
+    goes_renamed (iterate q base c g) a (stopped z) b (n, m, r, inl (i, e)) =
+        (n, renamed f m, turns_renamed q base c g (λ a b x. goes_renamed g a to_end b x) n a m r, inl (i, ap (renamed f) e))
+    goes_renamed (iterate q base c g) a (stopped z) b (n, m, r, inr (w, t, x)) = (
+      n,
+      renamed f m,
+      turns_renamed q base c g (λ a b x. goes_renamed g a to_end b x) n a m r,
+      inr
+          (renamed f w, tests_renamed q base c true m w t, goes_renamed g w (stopped z) b x),
+    )
+    goes_renamed (catch q k g) a to_end b (inl x) = inl (goes_renamed g a to_end b x)
+    goes_renamed (catch q k g) a to_end b (inr x) = inr (goes_renamed g a (stopped (by_jump k)) b x)
+    goes_renamed (catch q k g) a (stopped z) b (d, x) = (d, goes_renamed g a (stopped z) b x)
+    goes_renamed (leave n k) a to_end b x = absurd x
+    goes_renamed (leave n k) a (stopped z) b (i, e) = (i, ap (renamed f) e)
+    goes_renamed (select q base e arms) a u b (l, m, (s, i), x) = (l, renamed f m, (s, ap (map (renamed_met f)) i), arms_renamed l false arms m u b x)
+
+    arms_renamed : (l : CaseLabel) (met : Bool) (arms : Arms) (a : Trail A) (u : Outcome) (b : Trail A) → ArmsGo name may l met arms a u b
+        → ArmsGo (λ q. f (name q)) may l met arms (renamed f a) u (renamed f b)
+    arms_renamed l met no_arms a to_end b e = ap (renamed f) e
+    arms_renamed l met no_arms a (stopped z) b x = absurd x
+    arms_renamed l met (entry k arms) a u b x = arms_renamed l (met || are_alike l k) arms a u b x
+    arms_renamed l false (arm g arms) a u b x = arms_renamed l false arms a u b x
+    arms_renamed l true (arm g arms) a to_end b (m, x, y) = (renamed f m, goes_renamed g a to_end m x, arms_renamed l true arms m to_end b y)
+    arms_renamed l true (arm g arms) a (stopped z) b (inl x) = inl (goes_renamed g a (stopped z) b x)
+    arms_renamed l true (arm g arms) a (stopped z) b (inr (m, x, y)) = inr
+        (renamed f m, goes_renamed g a to_end m x, arms_renamed l true arms m (stopped z) b y)
 
   -- the other way: a run by the others is one by the ones --------------------------------------------------------------
 
@@ -90,50 +111,73 @@ module _ {A B : Type 0} (f : A → B) (name : ℕ → A) (may : State → State 
   performed_named : (op : Op) (a : Trail A) (b : Trail B) → Performs op (renamed f a) b → (d : Trail A) × Performs op a d × (b ≡ renamed f d)
   performed_named op a b (o, e) = (record { state = b.state; met = a.met }, (o, refl), ap (λ xs. let t : Trail B = record { state = b.state; met = xs } in t) e)
 
-  pub goes_named : (g : Node) (a : Trail A) (u : Outcome) (b : Trail B) → R g (renamed f a) u b → Named g a u b
-  goes_named empty a to_end b e = (a, refl, e)
-  goes_named empty a (stopped z) b x = absurd x
-  goes_named (point q) a to_end b (m, e) =
-      (record { state = b.state; met = passes (name q) a.state ∷ a.met }, (m, refl), ap (λ xs. let t : Trail B = record { state = b.state; met = xs } in t) e)
-  goes_named (point q) a (stopped z) b (i, e) = (a, (i, refl), e)
-  goes_named (act q op) a to_end b x = performed_named op a b x
-  goes_named (act q op) a (stopped z) b x = absurd x
-  goes_named (check q base c) a to_end b x = performed_named (test base c true) a b x
-  goes_named (check q base c) a (stopped z) b (i, e, t, o) = (a, (i, refl, t, o), e)
-  goes_named (seq g h) a to_end b (m, x, y) =
-      let (d, x', i) = goes_named g a to_end m x in
-      let (e, y', j) = goes_named h d to_end b (subst (λ v. R h v to_end b) i y) in
-      (e, (d, x', y'), j)
-  goes_named (seq g h) a (stopped z) b (inl x) = let (d, x', i) = goes_named g a (stopped z) b x in (d, inl x', i)
-  goes_named (seq g h) a (stopped z) b (inr (m, x, y)) =
-      let (d, x', i) = goes_named g a to_end m x in
-      let (e, y', j) = goes_named h d (stopped z) b (subst (λ v. R h v (stopped z) b) i y) in
-      (e, inr (d, x', y'), j)
-  goes_named (choose q base c g h) a u b (inl (m, o, x)) =
-      let (d, o', i) = performed_named (test base c true) a m o in
-      let (e, x', j) = goes_named g d u b (subst (λ v. R g v u b) i x) in
-      (e, inl (d, o', x'), j)
-  goes_named (choose q base c g h) a u b (inr (m, o, x)) =
-      let (d, o', i) = performed_named (test base c false) a m o in
-      let (e, x', j) = goes_named h d u b (subst (λ v. R h v u b) i x) in
-      (e, inr (d, o', x'), j)
-  goes_named (iterate q base c g) a to_end b (n, m, r, t) =
-      let (d, r', i) = turns_named q base c g (λ a b x. goes_named g a to_end b x) n a m r in
-      let (e, t', j) = tests_named q base c false d b (subst (λ v. Tests (λ q. f (name q)) may q base c false v b) i t) in
-      (e, (n, d, r', t'), j)
-  goes_named (iterate q base c g) a (stopped z) b (n, m, r, inl (p, e)) =
-      let (d, r', i) = turns_named q base c g (λ a b x. goes_named g a to_end b x) n a m r in
-      (d, (n, d, r', inl (p, refl)), e ∙ i)
-  goes_named (iterate q base c g) a (stopped z) b (n, m, r, inr (w, t, x)) =
-      let (d, r', i) = turns_named q base c g (λ a b x. goes_named g a to_end b x) n a m r in
-      let (e, t', j) = tests_named q base c true d w (subst (λ v. Tests (λ q. f (name q)) may q base c true v w) i t) in
-      let (v, x', k) = goes_named g e (stopped z) b (subst (λ y. R g y (stopped z) b) j x) in
-      (v, (n, d, r', inr (e, t', x')), k)
-  goes_named (catch q k g) a to_end b (inl x) = let (d, x', i) = goes_named g a to_end b x in (d, inl x', i)
-  goes_named (catch q k g) a to_end b (inr x) = let (d, x', i) = goes_named g a (stopped (by_jump k)) b x in (d, inr x', i)
-  goes_named (catch q k g) a (stopped z) b (n, x) = let (d, x', i) = goes_named g a (stopped z) b x in (d, (n, x'), i)
-  goes_named (leave n k) a to_end b x = absurd x
-  goes_named (leave n k) a (stopped z) b (i, e) = (a, (i, refl), e)
+  mutual
+    pub goes_named : (g : Node) (a : Trail A) (u : Outcome) (b : Trail B) → R g (renamed f a) u b → Named g a u b
+    goes_named empty a to_end b e = (a, refl, e)
+    goes_named empty a (stopped z) b x = absurd x
+    goes_named (point q) a to_end b (m, e) =
+        (record { state = b.state; met = passes (name q) a.state ∷ a.met }, (m, refl), ap (λ xs. let t : Trail B = record { state = b.state; met = xs } in t) e)
+    goes_named (point q) a (stopped z) b (i, e) = (a, (i, refl), e)
+    goes_named (act q op) a to_end b x = performed_named op a b x
+    goes_named (act q op) a (stopped z) b x = absurd x
+    goes_named (check q base c) a to_end b x = performed_named (test base c true) a b x
+    goes_named (check q base c) a (stopped z) b (i, e, t, o) = (a, (i, refl, t, o), e)
+    goes_named (seq g h) a to_end b (m, x, y) =
+        let (d, x', i) = goes_named g a to_end m x in
+        let (e, y', j) = goes_named h d to_end b (subst (λ v. R h v to_end b) i y) in
+        (e, (d, x', y'), j)
+    goes_named (seq g h) a (stopped z) b (inl x) = let (d, x', i) = goes_named g a (stopped z) b x in (d, inl x', i)
+    goes_named (seq g h) a (stopped z) b (inr (m, x, y)) =
+        let (d, x', i) = goes_named g a to_end m x in
+        let (e, y', j) = goes_named h d (stopped z) b (subst (λ v. R h v (stopped z) b) i y) in
+        (e, inr (d, x', y'), j)
+    goes_named (choose q base c g h) a u b (inl (m, o, x)) =
+        let (d, o', i) = performed_named (test base c true) a m o in
+        let (e, x', j) = goes_named g d u b (subst (λ v. R g v u b) i x) in
+        (e, inl (d, o', x'), j)
+    goes_named (choose q base c g h) a u b (inr (m, o, x)) =
+        let (d, o', i) = performed_named (test base c false) a m o in
+        let (e, x', j) = goes_named h d u b (subst (λ v. R h v u b) i x) in
+        (e, inr (d, o', x'), j)
+    goes_named (iterate q base c g) a to_end b (n, m, r, t) =
+        let (d, r', i) = turns_named q base c g (λ a b x. goes_named g a to_end b x) n a m r in
+        let (e, t', j) = tests_named q base c false d b (subst (λ v. Tests (λ q. f (name q)) may q base c false v b) i t) in
+        (e, (n, d, r', t'), j)
+    goes_named (iterate q base c g) a (stopped z) b (n, m, r, inl (p, e)) =
+        let (d, r', i) = turns_named q base c g (λ a b x. goes_named g a to_end b x) n a m r in
+        (d, (n, d, r', inl (p, refl)), e ∙ i)
+    goes_named (iterate q base c g) a (stopped z) b (n, m, r, inr (w, t, x)) =
+        let (d, r', i) = turns_named q base c g (λ a b x. goes_named g a to_end b x) n a m r in
+        let (e, t', j) = tests_named q base c true d w (subst (λ v. Tests (λ q. f (name q)) may q base c true v w) i t) in
+        let (v, x', k) = goes_named g e (stopped z) b (subst (λ y. R g y (stopped z) b) j x) in
+        (v, (n, d, r', inr (e, t', x')), k)
+    goes_named (catch q k g) a to_end b (inl x) = let (d, x', i) = goes_named g a to_end b x in (d, inl x', i)
+    goes_named (catch q k g) a to_end b (inr x) = let (d, x', i) = goes_named g a (stopped (by_jump k)) b x in (d, inr x', i)
+    goes_named (catch q k g) a (stopped z) b (n, x) = let (d, x', i) = goes_named g a (stopped z) b x in (d, (n, x'), i)
+    goes_named (leave n k) a to_end b x = absurd x
+    goes_named (leave n k) a (stopped z) b (i, e) = (a, (i, refl), e)
+    goes_named (select q base e arms) a u b (l, m, (s, i), x) =
+        let d : Trail A = record { state = m.state; met = a.met } in
+        let same : m ≡ renamed f d = ap (λ xs. let t : Trail B = record { state = m.state; met = xs } in t) i in
+        let (v, x', j) = arms_named l false arms d u b (subst (λ w. ArmsGo (λ q. f (name q)) may l false arms w u b) same x) in
+        (v, (l, d, (s, refl), x'), j)
+
+    arms_named : (l : CaseLabel) (met : Bool) (arms : Arms) (a : Trail A) (u : Outcome) (b : Trail B)
+        → ArmsGo (λ q. f (name q)) may l met arms (renamed f a) u b
+        → (d : Trail A) × ArmsGo name may l met arms a u d × (b ≡ renamed f d)
+    arms_named l met no_arms a to_end b e = (a, refl, e)
+    arms_named l met no_arms a (stopped z) b x = absurd x
+    arms_named l met (entry k arms) a u b x = arms_named l (met || are_alike l k) arms a u b x
+    arms_named l false (arm g arms) a u b x = arms_named l false arms a u b x
+    arms_named l true (arm g arms) a to_end b (m, x, y) =
+        let (d, x', i) = goes_named g a to_end m x in
+        let (e, y', j) = arms_named l true arms d to_end b (subst (λ v. ArmsGo (λ q. f (name q)) may l true arms v to_end b) i y) in
+        (e, (d, x', y'), j)
+    arms_named l true (arm g arms) a (stopped z) b (inl x) = let (d, x', i) = goes_named g a (stopped z) b x in (d, inl x', i)
+    arms_named l true (arm g arms) a (stopped z) b (inr (m, x, y)) =
+        let (d, x', i) = goes_named g a to_end m x in
+        let (e, y', j) = arms_named l true arms d (stopped z) b (subst (λ v. ArmsGo (λ q. f (name q)) may l true arms v (stopped z) b) i y) in
+        (e, inr (d, x', y'), j)
 
 -- what was met before --------------------------------------------------------------------------------------------------
 
@@ -178,47 +222,77 @@ module _ {A : Type 0} (name : ℕ → A) (may : State → State → Type 0) wher
   turns_onward q base c g each n a b r = rounds_onward (Turning q base c g) (λ u v o. onward_then (Tests name may q base c true) (λ a b. Goes name may g a to_end b) (Turning q base c g)
       (λ a m b y z. (m, y, z)) u o.0 v (tests_onward q base c true u o.0 o.1) (each o.0 v o.2)) n a b r
 
+  finds_onward : (base : ℕ) (e : Expr) (arms : Arms) (l : CaseLabel) (a b : Trail A) → Finds base e arms a l b → Onward (λ a b. Finds base e arms a l b) a b
+  finds_onward base e arms l a b (s, i) = ([], i, λ zs. (s, refl))
+
   -- what is met doesn't depend on what was met before
-  pub goes_onward : (g : Node) (a : Trail A) (u : Outcome) (b : Trail A) → Goes name may g a u b → Onward (λ a b. Goes name may g a u b) a b
-  goes_onward empty a to_end b e = stays_onward a b e
-  goes_onward empty a (stopped z) b x = absurd x
-  goes_onward (point q) a to_end b (m, e) = (passes (name q) a.state ∷ [], e, λ zs. (m, refl))
-  goes_onward (point q) a (stopped z) b (i, e) = onward_as (λ a b. b ≡ a) (λ a b. Goes name may (point q) a (stopped z) b) (λ a b y. (i, y)) a b (stays_onward a b e)
-  goes_onward (act q op) a to_end b x = performs_onward op a b x
-  goes_onward (act q op) a (stopped z) b x = absurd x
-  goes_onward (check q base c) a to_end b x = performs_onward (test base c true) a b x
-  goes_onward (check q base c) a (stopped z) b (i, e, t, o) = ([], ap (λ (t : Trail A). t.met) e, λ zs. (i, ap (λ (t : Trail A). with t.state zs) e, t, o))
-  goes_onward (seq g h) a to_end b (m, x, y) = onward_then (λ a b. Goes name may g a to_end b) (λ a b. Goes name may h a to_end b) (λ a b. Goes name may (seq g h) a to_end b)
-      (λ a m b y z. (m, y, z)) a m b (goes_onward g a to_end m x) (goes_onward h m to_end b y)
-  goes_onward (seq g h) a (stopped z) b (inl x) = onward_as (λ a b. Goes name may g a (stopped z) b) (λ a b. Goes name may (seq g h) a (stopped z) b) (λ a b y. inl y) a b
-      (goes_onward g a (stopped z) b x)
-  goes_onward (seq g h) a (stopped z) b (inr (m, x, y)) =
-      onward_then (λ a b. Goes name may g a to_end b) (λ a b. Goes name may h a (stopped z) b) (λ a b. Goes name may (seq g h) a (stopped z) b)
-      (λ a m b y z. inr (m, y, z)) a m b (goes_onward g a to_end m x) (goes_onward h m (stopped z) b y)
-  goes_onward (choose q base c g h) a u b (inl (m, o, x)) =
-      onward_then (Performs (test base c true)) (λ a b. Goes name may g a u b) (λ a b. Goes name may (choose q base c g h) a u b)
-      (λ a m b y z. inl (m, y, z)) a m b (performs_onward (test base c true) a m o) (goes_onward g m u b x)
-  goes_onward (choose q base c g h) a u b (inr (m, o, x)) =
-      onward_then (Performs (test base c false)) (λ a b. Goes name may h a u b) (λ a b. Goes name may (choose q base c g h) a u b)
-      (λ a m b y z. inr (m, y, z)) a m b (performs_onward (test base c false) a m o) (goes_onward h m u b x)
-  goes_onward (iterate q base c g) a to_end b (n, m, r, t) =
-      onward_then (TrailRounds (Turning q base c g) n) (Tests name may q base c false) (λ a b. Goes name may (iterate q base c g) a to_end b)
-      (λ a m b y z. (n, m, y, z)) a m b (turns_onward q base c g (λ a b x. goes_onward g a to_end b x) n a m r) (tests_onward q base c false m b t)
-  goes_onward (iterate q base c g) a (stopped z) b (n, m, r, inl (i, e)) =
-      onward_then (TrailRounds (Turning q base c g) n) (λ a b. b ≡ a) (λ a b. Goes name may (iterate q base c g) a (stopped z) b)
-      (λ a m b y x. (n, m, y, inl (i, x))) a m b (turns_onward q base c g (λ a b x. goes_onward g a to_end b x) n a m r) (stays_onward m b e)
-  goes_onward (iterate q base c g) a (stopped z) b (n, m, r, inr (w, t, x)) =
-      onward_then (TrailRounds (Turning q base c g) n) (λ a b. (w : Trail A) × Tests name may q base c true a w × Goes name may g w (stopped z) b)
-      (λ a b. Goes name may (iterate q base c g) a (stopped z) b)
-      (λ a m b y x. (n, m, y, inr x)) a m b (turns_onward q base c g (λ a b x. goes_onward g a to_end b x) n a m r)
-      (onward_then (Tests name may q base c true) (λ a b. Goes name may g a (stopped z) b) (λ a b. (w : Trail A) × Tests name may q base c true a w × Goes name may g w (stopped z) b)
-      (λ a m b y z. (m, y, z)) m w b (tests_onward q base c true m w t) (goes_onward g w (stopped z) b x))
-  goes_onward (catch q k g) a to_end b (inl x) =
-      onward_as (λ a b. Goes name may g a to_end b) (λ a b. Goes name may (catch q k g) a to_end b) (λ a b y. inl y) a b (goes_onward g a to_end b x)
-  goes_onward (catch q k g) a to_end b (inr x) =
-      onward_as (λ a b. Goes name may g a (stopped (by_jump k)) b) (λ a b. Goes name may (catch q k g) a to_end b) (λ a b y. inr y) a b (goes_onward g a (stopped (by_jump k)) b x)
-  goes_onward (catch q k g) a (stopped z) b (d, x) =
-      onward_as (λ a b. Goes name may g a (stopped z) b) (λ a b. Goes name may (catch q k g) a (stopped z) b) (λ a b y. (d, y)) a b (goes_onward g a (stopped z) b x)
-  goes_onward (leave n k) a to_end b x = absurd x
-  goes_onward (leave n k) a (stopped z) b (i, e) =
-      onward_as (λ a b. b ≡ a) (λ a b. Goes name may (leave n k) a (stopped z) b) (λ a b y. (i, y)) a b (stays_onward a b e)
+  mutual
+    pub goes_onward : (g : Node) (a : Trail A) (u : Outcome) (b : Trail A) → Goes name may g a u b → Onward (λ a b. Goes name may g a u b) a b
+    goes_onward empty a to_end b e = stays_onward a b e
+    goes_onward empty a (stopped z) b x = absurd x
+    goes_onward (point q) a to_end b (m, e) = (passes (name q) a.state ∷ [], e, λ zs. (m, refl))
+    goes_onward (point q) a (stopped z) b (i, e) = onward_as (λ a b. b ≡ a) (λ a b. Goes name may (point q) a (stopped z) b) (λ a b y. (i, y)) a b
+        (stays_onward a b e)
+    goes_onward (act q op) a to_end b x = performs_onward op a b x
+    goes_onward (act q op) a (stopped z) b x = absurd x
+    goes_onward (check q base c) a to_end b x = performs_onward (test base c true) a b x
+    goes_onward (check q base c) a (stopped z) b (i, e, t, o) = ([], ap (λ (t : Trail A). t.met) e, λ zs. (i, ap (λ (t : Trail A). with t.state zs) e, t, o))
+    goes_onward (seq g h) a to_end b (m, x, y) = onward_then (λ a b. Goes name may g a to_end b) (λ a b. Goes name may h a to_end b)
+        (λ a b. Goes name may (seq g h) a to_end b)
+        (λ a m b y z. (m, y, z)) a m b (goes_onward g a to_end m x) (goes_onward h m to_end b y)
+    goes_onward (seq g h) a (stopped z) b (inl x) = onward_as (λ a b. Goes name may g a (stopped z) b) (λ a b. Goes name may (seq g h) a (stopped z) b)
+        (λ a b y. inl y) a b
+        (goes_onward g a (stopped z) b x)
+    goes_onward (seq g h) a (stopped z) b (inr (m, x, y)) =
+        onward_then (λ a b. Goes name may g a to_end b) (λ a b. Goes name may h a (stopped z) b) (λ a b. Goes name may (seq g h) a (stopped z) b)
+        (λ a m b y z. inr (m, y, z)) a m b (goes_onward g a to_end m x) (goes_onward h m (stopped z) b y)
+    goes_onward (choose q base c g h) a u b (inl (m, o, x)) =
+        onward_then (Performs (test base c true)) (λ a b. Goes name may g a u b) (λ a b. Goes name may (choose q base c g h) a u b)
+        (λ a m b y z. inl (m, y, z)) a m b (performs_onward (test base c true) a m o) (goes_onward g m u b x)
+    goes_onward (choose q base c g h) a u b (inr (m, o, x)) =
+        onward_then (Performs (test base c false)) (λ a b. Goes name may h a u b) (λ a b. Goes name may (choose q base c g h) a u b)
+        (λ a m b y z. inr (m, y, z)) a m b (performs_onward (test base c false) a m o) (goes_onward h m u b x)
+    goes_onward (iterate q base c g) a to_end b (n, m, r, t) =
+        onward_then (TrailRounds (Turning q base c g) n) (Tests name may q base c false) (λ a b. Goes name may (iterate q base c g) a to_end b)
+        (λ a m b y z. (n, m, y, z)) a m b (turns_onward q base c g (λ a b x. goes_onward g a to_end b x) n a m r) (tests_onward q base c false m b t)
+    goes_onward (iterate q base c g) a (stopped z) b (n, m, r, inl (i, e)) =
+        onward_then (TrailRounds (Turning q base c g) n) (λ a b. b ≡ a) (λ a b. Goes name may (iterate q base c g) a (stopped z) b)
+        (λ a m b y x. (n, m, y, inl (i, x))) a m b (turns_onward q base c g (λ a b x. goes_onward g a to_end b x) n a m r) (stays_onward m b e)
+    goes_onward (iterate q base c g) a (stopped z) b (n, m, r, inr (w, t, x)) =
+        onward_then (TrailRounds (Turning q base c g) n) (λ a b. (w : Trail A) × Tests name may q base c true a w × Goes name may g w (stopped z) b)
+        (λ a b. Goes name may (iterate q base c g) a (stopped z) b)
+        (λ a m b y x. (n, m, y, inr x)) a m b (turns_onward q base c g (λ a b x. goes_onward g a to_end b x) n a m r)
+        (onward_then (Tests name may q base c true) (λ a b. Goes name may g a (stopped z) b) (λ a b. (w : Trail A) × Tests name may q base c true a w
+        × Goes name may g w (stopped z) b)
+        (λ a m b y z. (m, y, z)) m w b (tests_onward q base c true m w t) (goes_onward g w (stopped z) b x))
+    goes_onward (catch q k g) a to_end b (inl x) =
+        onward_as (λ a b. Goes name may g a to_end b) (λ a b. Goes name may (catch q k g) a to_end b) (λ a b y. inl y) a b (goes_onward g a to_end b x)
+    goes_onward (catch q k g) a to_end b (inr x) =
+        onward_as (λ a b. Goes name may g a (stopped (by_jump k)) b) (λ a b. Goes name may (catch q k g) a to_end b) (λ a b y. inr y) a b
+        (goes_onward g a (stopped (by_jump k)) b x)
+    goes_onward (catch q k g) a (stopped z) b (d, x) =
+        onward_as (λ a b. Goes name may g a (stopped z) b) (λ a b. Goes name may (catch q k g) a (stopped z) b) (λ a b y. (d, y)) a b
+        (goes_onward g a (stopped z) b x)
+    goes_onward (leave n k) a to_end b x = absurd x
+    goes_onward (leave n k) a (stopped z) b (i, e) =
+        onward_as (λ a b. b ≡ a) (λ a b. Goes name may (leave n k) a (stopped z) b) (λ a b y. (i, y)) a b (stays_onward a b e)
+    goes_onward (select q base e arms) a u b (l, m, t, x) =
+        onward_then (λ a b. Finds base e arms a l b) (λ a b. ArmsGo name may l false arms a u b) (λ a b. Goes name may (select q base e arms) a u b)
+        (λ a m b y z. (l, m, y, z)) a m b (finds_onward base e arms l a m t) (arms_onward l false arms m u b x)
+
+    arms_onward : (l : CaseLabel) (met : Bool) (arms : Arms) (a : Trail A) (u : Outcome) (b : Trail A) → ArmsGo name may l met arms a u b
+        → Onward (λ a b. ArmsGo name may l met arms a u b) a b
+    arms_onward l met no_arms a to_end b e = stays_onward a b e
+    arms_onward l met no_arms a (stopped z) b x = absurd x
+    arms_onward l met (entry k arms) a u b x = arms_onward l (met || are_alike l k) arms a u b x
+    arms_onward l false (arm g arms) a u b x = arms_onward l false arms a u b x
+    arms_onward l true (arm g arms) a to_end b (m, x, y) =
+        onward_then (λ a b. Goes name may g a to_end b) (λ a b. ArmsGo name may l true arms a to_end b) (λ a b. ArmsGo name may l true (arm g arms) a to_end b)
+        (λ a m b y z. (m, y, z)) a m b (goes_onward g a to_end m x) (arms_onward l true arms m to_end b y)
+    arms_onward l true (arm g arms) a (stopped z) b (inl x) =
+        onward_as (λ a b. Goes name may g a (stopped z) b) (λ a b. ArmsGo name may l true (arm g arms) a (stopped z) b) (λ a b y. inl y) a b
+        (goes_onward g a (stopped z) b x)
+    arms_onward l true (arm g arms) a (stopped z) b (inr (m, x, y)) =
+        onward_then (λ a b. Goes name may g a to_end b) (λ a b. ArmsGo name may l true arms a (stopped z) b)
+        (λ a b. ArmsGo name may l true (arm g arms) a (stopped z) b)
+        (λ a m b y z. inr (m, y, z)) a m b (goes_onward g a to_end m x) (arms_onward l true arms m (stopped z) b y)

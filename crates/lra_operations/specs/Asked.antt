@@ -8,7 +8,9 @@ use Rattle.lra_program.specs.Step.{State, Op, append, give, give_any, push, keep
 use Rattle.lra_program.specs.Run.{IsOn, Reaches}
 use Rattle.lra_program.specs.Overflow.{op_computes, OpOverflows, IsOverflowing}
 use Rattle.lra_program.specs.Sites.{Site, sites_of}
-use Rattle.lra_operations.specs.Graph.{Node, empty, point, act, check, seq, choose, iterate, catch, leave}
+use Rattle.lra_program.specs.Receivers.{nobody}
+use Rattle.lra_operations.specs.Graph.{Node, empty, point, act, check, seq, choose, iterate, catch, leave, select}
+use Rattle.lra_operations.specs.Graph.{Arms, no_arms, entry, arm}
 use Rattle.lra_operations.specs.Agree.{IsGraph, point_of, AreDistinct}
 
 -- an operation that computes something: its point, the type of the variable that is new before it, where one is, and
@@ -40,18 +42,28 @@ fresh_behind fresh (choose q base c a b) = None
 fresh_behind fresh (iterate q base c a) = None
 fresh_behind fresh (catch q k a) = None
 fresh_behind fresh (leave n k) = None
+fresh_behind fresh (select q base e arms) = None
 
--- all of a tree; a condition is asked once, whichever side goes on
-abbrev pub asked_in : Option NumberType → Node → List Asked
-asked_in fresh empty = []
-asked_in fresh (point q) = []
-asked_in fresh (act q op) = asked_of q fresh op
-asked_in fresh (check q base c) = asked_of q None (test base c true)
-asked_in fresh (seq a b) = asked_in fresh a ++ asked_in (fresh_behind fresh a) b
-asked_in fresh (choose q base c a b) = asked_of q None (test base c true) ++ asked_in None a ++ asked_in None b
-asked_in fresh (iterate q base c a) = asked_of q None (test base c true) ++ asked_in None a
-asked_in fresh (catch q k a) = asked_in None a
-asked_in fresh (leave n k) = []
+abbrev mutual
+  -- all of a tree; a condition is asked once, whichever side goes on
+  pub asked_in : Option NumberType → Node → List Asked
+  asked_in fresh empty = []
+  asked_in fresh (point q) = []
+  asked_in fresh (act q op) = asked_of q fresh op
+  asked_in fresh (check q base c) = asked_of q None (test base c true)
+  asked_in fresh (seq a b) = asked_in fresh a ++ asked_in (fresh_behind fresh a) b
+  asked_in fresh (choose q base c a b) = asked_of q None (test base c true) ++ asked_in None a ++ asked_in None b
+  asked_in fresh (iterate q base c a) = asked_of q None (test base c true) ++ asked_in None a
+  asked_in fresh (catch q k a) = asked_in None a
+  asked_in fresh (leave n k) = []
+  -- a value that is looked for goes to nobody
+  asked_in fresh (select q base e arms) = asked_of q None (give base nobody e) ++ asked_in_arms None arms
+
+  -- one behind the other
+  pub asked_in_arms : Option NumberType → Arms → List Asked
+  asked_in_arms fresh no_arms = []
+  asked_in_arms fresh (entry l arms) = asked_in_arms fresh arms
+  asked_in_arms fresh (arm a arms) = asked_in fresh a ++ asked_in_arms (fresh_behind fresh a) arms
 
 -- where the point is on top in this state, the operation stops by a number
 abbrev pub FreshOverflows : Option NumberType → Op → State → Type 0

@@ -5,8 +5,9 @@ use Rattle.lra_operations.specs.declared.graph.Exit.TheVariants as exit
 use Rattle.lra_operations.specs.declared.graph.Op.{Op}
 use Rattle.lra_operations.specs.declared.graph.Op.TheVariants as op
 use Rattle.lra_operations.specs.declared.graph.Node.{Node}
-use Rattle.lra_operations.specs.declared.graph.Node.TheFolds.{fold-Node}
-use Rattle.lra_operations.specs.declared.graph.Node.TheOpen.{Node-F}
+use Rattle.lra_operations.specs.declared.graph.Arm.{Arm}
+use Rattle.lra_operations.specs.declared.graph.Arm.TheFolds.{fold-Arm, fold-Node}
+use Rattle.lra_operations.specs.declared.graph.Arm.TheOpen.{Arm-F, Node-F}
 use Rattle.lra_operations.specs.declared.graph.Site.{Site}
 use Rattle.lra_program.specs.Step as step
 use Rattle.lra_operations.specs.Graph as graph
@@ -31,7 +32,23 @@ abbrev pub row : List graph.Node → graph.Node → graph.Node
 row [] h = h
 row (g ∷ gs) h = graph.seq g (row gs h)
 
-abbrev pub node_step : Node-F graph.Node → graph.Node
+-- an arm is what it puts before those behind it
+abbrev pub ArmPart : Type 0
+ArmPart = graph.Arms → graph.Arms
+
+-- these, and what stands behind them
+abbrev pub arms_before : List ArmPart → graph.Arms → graph.Arms
+arms_before [] h = h
+arms_before (f ∷ fs) h = f (arms_before fs h)
+
+abbrev pub arms_of : List ArmPart → graph.Arms
+arms_of fs = arms_before fs graph.no_arms
+
+abbrev pub arm_step : Arm-F ArmPart graph.Node → ArmPart
+arm_step (Arm-F.Entry l) = graph.entry l
+arm_step (Arm-F.Tree g) = graph.arm g
+
+abbrev pub node_step : Node-F ArmPart graph.Node → graph.Node
 node_step Node-F.Empty = graph.empty
 node_step (Node-F.Point q) = graph.point q
 node_step (Node-F.Act q o) = graph.act q (op_view o)
@@ -41,9 +58,13 @@ node_step (Node-F.Choose q base c a b) = graph.choose q base (cond_view c) a.val
 node_step (Node-F.Iterate q base c a) = graph.iterate q base (cond_view c) a.value
 node_step (Node-F.Catch q k a) = graph.catch q (exit_view k) a.value
 node_step (Node-F.Leave n k) = graph.leave n (exit_view k)
+node_step (Node-F.Select q base e arms) = graph.select q base (expr_view e) (arms_of arms.items)
 
 abbrev pub node_view : Node → graph.Node
-node_view = fold-Node graph.Node node_step
+node_view = fold-Node ArmPart graph.Node arm_step node_step
+
+abbrev pub arm_view : Arm → ArmPart
+arm_view = fold-Arm ArmPart graph.Node arm_step node_step
 
 abbrev pub site_view : Site → sites.Site
 site_view s = record { path = s.path; label = s.label; live = s.live; asserts = s.asserts }

@@ -4,9 +4,10 @@
 use Rattle.std.specs.Prelude.{◌≡◌, ℕ, suc, ◌+◌, ◌≤◌, Bool, true, false, List, ◌∷◌, length, Option, Some, None}
 use Rattle.std.specs.Prelude.{slice_get, []}
 use Rattle.lra_program.specs.Program.{Variable, Expr, Cond, Call, Rvalue, value, result, Declarator, Stmt, absent}
-use Rattle.lra_program.specs.Program.{nothing}
-use Rattle.lra_program.specs.Program.{block, assign, call, if, loop, for, break, continue, return, assert, assume}
-use Rattle.lra_program.specs.Program.{BlockItems, no_more, declaration, statement, Function, Program}
+use Rattle.lra_program.specs.Program.{nothing, block, assign, call, if, loop, for, break, continue, return, assert}
+use Rattle.lra_program.specs.Program.{assume, switch, Cases, no_cases, labelled, stated, BlockItems, no_more}
+use Rattle.lra_program.specs.Program.{declaration, statement, Function, Program}
+use Rattle.lra_base.specs.declared.case_labels.CaseLabel.{CaseLabel}
 use Rattle.lra_program.specs.Value.{index_of}
 use Rattle.lra_base.specs.declared.number_types.NumberType.{NumberType}
 use Rattle.lra_program.specs.declared.receivers.Receiver.{Receiver}
@@ -14,27 +15,33 @@ use Rattle.lra_program.specs.Receivers.{variable_at, nobody, behind_result}
 use Rattle.lra_program.specs.Value.{Argument}
 use Rattle.lra_program.specs.Step.{Op, append, give, give_any, push, keep, test, Here, Back, arguments_for, behind_main}
 use Rattle.lra_operations.specs.Graph.{broken, continued, returned, Node, empty, point, act, check, seq, choose}
-use Rattle.lra_operations.specs.Graph.{iterate, catch, leave}
+use Rattle.lra_operations.specs.Graph.{iterate, catch, leave, select, Arms, no_arms, entry, arm}
 use Rattle.lra_program.specs.Sites.{Site}
 
--- where a statement stands: its call, how long the store is at the nearest loop, and what its return goes back to;
--- `main` has no such
+-- where a statement stands: its call, how long the store is where `break` comes out - the nearest loop or `switch` - and
+-- where `continue` goes on, and what its return goes back to; `main` has no such
 pub record Frame : Type 0 where
   pub here : Here
-  pub loop : Option ℕ
+  pub breaks : Option ℕ
+  pub continues : Option ℕ
   pub back : Option Back
 
 -- in a call that runs with n live variables and gives the receiver its value
 abbrev pub callee : Frame → ℕ → Receiver → Call → Frame
 callee f n x c = record {
   here = record { path = c.label ∷ f.here.path; base = n };
-  loop = None;
+  breaks = None;
+  continues = None;
   back = Some (record { receiver = x; here = f.here; length = n });
 }
 
 -- `break` comes out behind the loop, `continue` behind the body and before the step
 abbrev pub loop_node : ℕ → ℕ → Cond → Node → Node → Node
 loop_node q base c a step = catch q broken (iterate q base c (seq (catch q continued a) step))
+
+-- `break` comes out behind the arms
+abbrev pub switch_node : ℕ → ℕ → Expr → Arms → Node
+switch_node q base e arms = catch q broken (select q base e arms)
 
 -- the call's own point is q, and r that of its body's end; there the body's variables go, the receiver gets a draw, and
 -- the parameters go
@@ -65,7 +72,11 @@ at_point s next = move s s.live next
 
 -- in a loop's body, or in its step
 abbrev pub within : Spot → Option ℕ → ℕ → Spot
-within s length next = spot_of (record s.frame { loop = length }) s.live next
+within s length next = spot_of (record s.frame { breaks = length; continues = length }) s.live next
+
+-- in a `switch`
+abbrev pub among_cases : Spot → ℕ → Spot
+among_cases s next = spot_of (record s.frame { breaks = Some s.live }) s.live next
 
 -- where the called function's body begins
 abbrev pub into_callee : Spot → Receiver → Call → ℕ → ℕ → Spot
@@ -100,9 +111,9 @@ mutual
     as_for : {s : Spot} {at : ℕ} {init : BlockItems} {c : Cond} {a step : Stmt} {g h : Node} {n r q : ℕ} →
         InlAll P T (at_point s (suc s.next)) init g n r → Loops P T (move s n s.next) r (loop at c a step) h q
         → Inl P T s (for at init c a step) (seq g (seq h (act s.next (keep s.live)))) q
-    as_break : {s : Spot} {at m : ℕ} → s.frame.loop ≡ Some m → m ≤ s.live → Has T s at
+    as_break : {s : Spot} {at m : ℕ} → s.frame.breaks ≡ Some m → m ≤ s.live → Has T s at
         → Inl P T s (break at) (seq (point s.next) (seq (act s.next (keep m)) (leave s.live broken))) (suc s.next)
-    as_continue : {s : Spot} {at m : ℕ} → s.frame.loop ≡ Some m → m ≤ s.live → Has T s at
+    as_continue : {s : Spot} {at m : ℕ} → s.frame.continues ≡ Some m → m ≤ s.live → Has T s at
         → Inl P T s (continue at) (seq (point s.next) (seq (act s.next (keep m)) (leave s.live continued))) (suc s.next)
     as_return : {s : Spot} {at : ℕ} {b : Back} → s.frame.back ≡ Some b → b.length ≤ s.live → Has T s at
         → Inl P T s (return at None) (seq (point s.next) (return_node s.next (give_any b.receiver) b.length s.live))
@@ -127,6 +138,18 @@ mutual
         Inl P T s (assert at c) (seq (point s.next) (check s.next s.frame.here.base c)) (suc s.next)
     as_assume : {s : Spot} {at : ℕ} {c : Cond} → Has T s at →
         Inl P T s (assume at c) (seq (point s.next) (act s.next (test s.frame.here.base c true))) (suc s.next)
+    as_switch : {s : Spot} {at : ℕ} {e : Expr} {cs : Cases} {arms : Arms} {q : ℕ} → Has T s at →
+        InlCases P T (among_cases s (suc s.next)) cs arms q
+        → Inl P T s (switch at e cs) (seq (point s.next) (switch_node s.next s.frame.here.base e arms)) q
+
+  -- the statements of a `switch`, behind their labels
+  pub data InlCases (P : Program) (T : List Site) : Spot → Cases → Arms → ℕ → Type 0 where
+    as_no_cases : {s : Spot} → InlCases P T s no_cases no_arms s.next
+    as_labelled : {s : Spot} {l : CaseLabel} {cs : Cases} {arms : Arms} {q : ℕ} → InlCases P T s cs arms q
+        → InlCases P T s (labelled l cs) (entry l arms) q
+    as_stated : {s : Spot} {a : Stmt} {cs : Cases} {g : Node} {arms : Arms} {r q : ℕ} →
+        Inl P T s a g r → InlCases P T (at_point s r) cs arms q
+        → InlCases P T s (stated a cs) (arm g arms) q
 
   -- behind the items n live, and q is next
   pub data InlAll (P : Program) (T : List Site) : Spot → BlockItems → Node → ℕ → ℕ → Type 0 where
@@ -164,7 +187,12 @@ mutual
         (arguments_for fn.parameters c.arguments) (length fn.parameters) g) (suc q)
 
 abbrev pub main_frame : Program → Frame
-main_frame P = record { here = record { path = []; base = length P.globals }; loop = None; back = None }
+main_frame P = record {
+  here = record { path = []; base = length P.globals };
+  breaks = None;
+  continues = None;
+  back = None;
+}
 
 -- where main's items begin
 abbrev pub main_spot : Program → Spot

@@ -4,11 +4,11 @@ ghost use Rattle.std.specs.Prelude.{◌≡◌, ◌+◌, ◌<◌, ◌^◌, ◌++�
 ghost use Rattle.lra_program.specs.Step as step;
 ghost use Rattle.lra_program.specs.Step.{arguments_for};
 ghost use Rattle.lra_operations.specs.Graph as graph;
-ghost use Rattle.lra_operations.specs.Inlined.{loop_node, call_node, return_node};
+ghost use Rattle.lra_operations.specs.Inlined.{loop_node, switch_node, call_node, return_node};
 ghost use Rattle.lra_program.specs.ProgramViews.{expr_view, cond_view};
-ghost use Rattle.lra_operations.specs.GraphViews.{op_view, exit_view, node_view, row};
+ghost use Rattle.lra_operations.specs.GraphViews.{op_view, exit_view, node_view, row, arm_view, arms_of};
 
-use crate::{Exit, Node, Op};
+use crate::{Arm, Exit, Node, Op};
 use lra_base::NumberType;
 use lra_program::{Cond, Expr, Receiver, pair_arguments};
 use std::alloc::{AllocError, Global};
@@ -139,6 +139,31 @@ pub fn rounds(
     let round = put_in_turn(alloc, body, step)?;
     let all = Node::Iterate(point, base, cond, Box::new(alloc, round)?);
     catch_exit(alloc, point, Exit::Broken, all)
+}
+
+/// One arm more, behind the others.
+pub fn add_arm(arms: &mut Vec<Arm>, arm: Arm) -> Result<(), AllocError>
+    ensures { IfOk result (λ _. arms.new.items ≡ arms.old.items ++ arm ∷ []) }
+{
+    arms.push(arm)?;
+    Ok(())
+}
+
+/// A `switch`: the point, then the arms behind the label to which the value goes; `break` comes out behind them.
+pub fn selection(
+    alloc: Global,
+    point: usize,
+    base: usize,
+    value: &Expr,
+    arms: Vec<Arm>,
+) -> Result<Node, AllocError>
+    ensures { IfOk result (λ g. node_view g ≡ graph.seq (graph.point point)
+        (switch_node point base (expr_view value.now) (arms_of (map arm_view arms.items)))) }
+{
+    let value = value.copy(alloc)?;
+    let select = Node::Select(point, base, value, arms);
+    let all = catch_exit(alloc, point, Exit::Broken, select)?;
+    put_point(alloc, point, all)
 }
 
 /// A jump, which first cuts the store.

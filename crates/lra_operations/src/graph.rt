@@ -1,9 +1,10 @@
 //! A program with its calls written out, as a tree of operations, and its points. Points are numbered from 0 here.
 
-ghost use Rattle.std.specs.Prelude.{◌≡◌, ◌+◌, ◌<◌, ◌∷◌, [], IfOk, IfSome};
+ghost use Rattle.std.specs.Prelude.{◌≡◌, ◌+◌, ◌<◌, ◌∷◌, [], IfOk, IfSome, MatchOption};
 ghost use Rattle.lra_operations.specs.Sizes.{whole_size, hung_size};
+ghost use Rattle.lra_operations.specs.declared.graph.Arm.TheVariants as arm;
 
-use lra_base::NumberType;
+use lra_base::{CaseLabel, NumberType};
 use lra_program::{Argument, Cond, Expr, Receiver};
 use std::alloc::{AllocError, Global};
 use std::marker::Model;
@@ -48,7 +49,8 @@ impl Drop for Op {
 }
 
 /// A tree of operations. The first number is that of the point to which an operation belongs; the number before a
-/// condition is where the variables of its call begin.
+/// condition or an expression is where the variables of its call begin.
+#[cycle(tree)]
 pub enum Node {
     Empty,
     Point(usize),
@@ -65,6 +67,37 @@ pub enum Node {
     Catch(usize, Exit, Box<Node>),
     /// The tree is left; so many variables live where the jump's statement stands, before what it cuts.
     Leave(usize, Exit),
+    /// The trees behind the label to which the value goes, one after the other.
+    Select(usize, usize, Expr, Vec<Arm>),
+}
+
+/// A label of a `switch`, or a tree behind labels.
+#[cycle(tree)]
+pub enum Arm {
+    Entry(CaseLabel),
+    Tree(Node),
+}
+
+impl Drop for Arm {
+    fn drop(self) {
+        match self {
+            Arm::Entry(_) => {}
+            Arm::Tree(_) => {}
+        }
+    }
+}
+
+impl Arm {
+    /// The arm's tree; a label has none.
+    fn into_tree(self) -> Option<Node>
+        ensures { MatchOption result ((l : CaseLabel) × (self ≡ arm.Entry l))
+            (λ g. self ≡ arm.Tree g) }
+    {
+        match self {
+            Arm::Entry(_) => None,
+            Arm::Tree(tree) => Some(tree),
+        }
+    }
 }
 
 impl Drop for Node {
@@ -85,7 +118,7 @@ impl Drop for Node {
 
 impl Node {
     /// A tree of those in this one that is next, and what is left: the others hang before the rest, in the box of the
-    /// tree that is next. None where nothing is left.
+    /// tree that is next, or in place of the last arm. None where nothing is left.
     fn take_apart(self, rest: Node) -> Option<(Node, Node)>
         ensures { IfSome result (λ r. whole_size r.0 + hung_size r.1 < whole_size self + hung_size rest) }
     {
@@ -100,6 +133,19 @@ impl Node {
                 let tree = mem::replace(&mut *hook, rest);
                 Some((tree, Node::Choose(point, base, condition, hook, no)))
             }
+            Node::Select(point, base, value, mut arms) => match arms.pop() {
+                Some(arm) => match arm.into_tree() {
+                    Some(tree) => {
+                        arms.push_reserved(Arm::Tree(rest));
+                        Some((tree, Node::Select(point, base, value, arms)))
+                    }
+                    None => Some((Node::Select(point, base, value, arms), rest)),
+                },
+                None => {
+                    arms.destroy_empty();
+                    rest.take_next()
+                }
+            },
             Node::Iterate(_, _, _, body) => Some((Box::into_inner(body), rest)),
             Node::Catch(_, _, body) => Some((Box::into_inner(body), rest)),
             Node::Empty => rest.take_next(),
@@ -125,6 +171,16 @@ impl Node {
             Node::Choose(_, _, _, rest, tree) => {
                 Some((Box::into_inner(tree), Box::into_inner(rest)))
             }
+            Node::Select(point, base, value, mut arms) => match arms.pop() {
+                Some(arm) => match arm.into_tree() {
+                    Some(rest) => Some((Node::Select(point, base, value, arms), rest)),
+                    None => Some((Node::Select(point, base, value, arms), Node::Empty)),
+                },
+                None => {
+                    arms.destroy_empty();
+                    None
+                }
+            },
             Node::Iterate(_, _, _, tree) => Some((Box::into_inner(tree), Node::Empty)),
             Node::Catch(_, _, tree) => Some((Box::into_inner(tree), Node::Empty)),
             Node::Empty => None,

@@ -6,4 +6,4 @@
 pub mod forms;
 mod graph;
 
-pub use graph::{Exit, Graph, Node, Op, Path, Site};
+pub use graph::{Arm, Exit, Graph, Node, Op, Path, Site};
