@@ -19,8 +19,9 @@ use Rattle.lra_tree.specs.Trees.{ConjunctionTree, test, and, CondTree, conjuncti
 use Rattle.lra_tree.specs.Trees.{expression, result, StepTree, increment, decrement, AssignTree, set, update, after}
 use Rattle.lra_tree.specs.Trees.{before, DeclaratorTree, DeclarationTree, InitTree, no_init, declared, assigned}
 use Rattle.lra_tree.specs.Trees.{StmtTree, block, nothing, assign, call, if_only, if_else, while, for, break, continue}
-use Rattle.lra_tree.specs.Trees.{return, assert, assume, ItemsTree, no_items, declaration, statement, FunctionTree}
-use Rattle.lra_tree.specs.Trees.{GlobalTree, GlobalsTree, PartTree, prototype, globals, function, FileTree}
+use Rattle.lra_tree.specs.Trees.{return, assert, assume, switch, ItemsTree, no_items, declaration, statement}
+use Rattle.lra_tree.specs.Trees.{FunctionTree, GlobalTree, GlobalsTree, PartTree, prototype, globals, function}
+use Rattle.lra_tree.specs.Trees.{FileTree}
 use Rattle.lra_tree.specs.Texts.{Texts, ◌⋅◌, ◌∣◌, empty, opens, mark, opens_at, name, number, number_at}
 use Rattle.lra_tree.specs.Texts.{end_at, separated}
 
@@ -188,6 +189,8 @@ abbrev mutual
   IsStmt o l (return at e) = opens_at mark.Return at o ⋅ IsReturned l e ⋅ mark mark.Semicolon
   IsStmt o l (assert at c) = opens_at mark.Assert at o ⋅ InParens l c ⋅ mark mark.Semicolon
   IsStmt o l (assume at c) = opens_at mark.Assume at o ⋅ InParens l c ⋅ mark mark.Semicolon
+  -- no text has one
+  IsStmt o l (switch at e cs) = λ z. ⊥
 
   -- a block among the items opens a level, another statement there opens none
   pub AreItems : ℕ → ItemsTree → Texts

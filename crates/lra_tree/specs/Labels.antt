@@ -8,8 +8,9 @@ use Rattle.lra_tree.specs.declared.trees.Identifier.{Identifier}
 use Rattle.lra_tree.specs.declared.trees.Parameter.{Parameter}
 use Rattle.lra_tree.specs.Trees.{RvalueTree, expression, result, AssignTree, set, update, after, before, DeclaratorTree}
 use Rattle.lra_tree.specs.Trees.{InitTree, no_init, declared, assigned, StmtTree, block, nothing, assign, call, if_only}
-use Rattle.lra_tree.specs.Trees.{if_else, while, for, break, continue, return, assert, assume, ItemsTree, no_items}
-use Rattle.lra_tree.specs.Trees.{declaration, statement, FunctionTree, FileTree}
+use Rattle.lra_tree.specs.Trees.{if_else, while, for, break, continue, return, assert, assume, switch, CasesTree}
+use Rattle.lra_tree.specs.Trees.{no_cases, labelled, stated, ItemsTree, no_items, declaration, statement}
+use Rattle.lra_tree.specs.Trees.{FunctionTree, FileTree}
 use Rattle.lra_tree.specs.Functions.{functions_of}
 
 -- a statement, declarator or end of a block, which a label stands for
@@ -96,6 +97,13 @@ abbrev mutual
   stmt_labels live (return at e) = label_with at (called_of e) live ∷ []
   stmt_labels live (assert at c) = plain_label at live ∷ []
   stmt_labels live (assume at c) = plain_label at live ∷ []
+  stmt_labels live (switch at e cs) = plain_label at live ∷ cases_labels live cs
+
+  -- the statements of a `switch`: what stands before them, as `case 1:`, has no label of these
+  pub cases_labels : List (List ℕ) → CasesTree → List Labelled
+  cases_labels live no_cases = []
+  cases_labels live (labelled l cs) = cases_labels live cs
+  cases_labels live (stated t cs) = stmt_labels live t ++ cases_labels live cs
 
   -- a block's items and its end
   pub items_labels : List (List ℕ) → ItemsTree → Place → List Labelled

@@ -6,6 +6,7 @@ use Rattle.lra_base.specs.declared.number_types.NumberType.{NumberType}
 use Rattle.lra_tree.specs.declared.trees.Identifier.{Identifier}
 use Rattle.lra_tree.specs.declared.trees.Parameter.{Parameter}
 use Rattle.lra_tree.specs.declared.trees.SignedLiteral.{SignedLiteral}
+use Rattle.lra_tree.specs.declared.trees.PlacedLabel.{PlacedLabel}
 use Rattle.lra_base.specs.Operators.{Operator, Comparison}
 
 -- expressions (ISO/IEC 9899:2011, 6.5.1, 6.5.3, 6.5.5, 6.5.6)
@@ -104,6 +105,13 @@ mutual
     return : Place → Option RvalueTree → StmtTree
     assert : Place → CondTree → StmtTree
     assume : Place → CondTree → StmtTree
+    switch : Place → ExprTree → CasesTree → StmtTree
+
+  -- the labels of a `switch` (6.8.1) and its statements, in text order
+  pub data CasesTree : Type 0 where
+    no_cases : CasesTree
+    labelled : PlacedLabel → CasesTree → CasesTree
+    stated : StmtTree → CasesTree → CasesTree
 
   pub data ItemsTree : Type 0 where
     no_items : ItemsTree

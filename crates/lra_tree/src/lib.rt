@@ -11,5 +11,6 @@ pub use tokens::{Kind, Mark, Token, Word};
 pub use trees::{
     Arguments, Assign, Block, BlockItem, Call, Cond, Conjunction, Declaration, Declarator, Expr,
     Factor, FactorOperator, Function, Global, Globals, Identifier, Init, Item, Negation, Parameter,
-    Parameters, Rvalue, SignedLiteral, Step, Stmt, SumOperator, Summand, Term, Test, Tree, Unary,
+    Parameters, PlacedLabel, Rvalue, SignedLiteral, Step, Stmt, SumOperator, Summand, Term, Test,
+    Tree, Unary,
 };

@@ -10,7 +10,7 @@ ghost use Rattle.lra_tree.specs.declared.trees.BlockItem.{size-BlockItem};
 ghost use Rattle.lra_tree.specs.Views.{all_tests, any_conjunction, expr_view, test_view, conjunction_view, cond_view};
 
 use crate::tokens::Word;
-use lra_base::{Comparison, NumberType, Operator, Place};
+use lra_base::{CaseLabel, Comparison, NumberType, Operator, Place};
 use std::alloc::AllocError;
 
 /// A name and its place.
@@ -535,6 +535,13 @@ impl Drop for Function {
 pub struct SignedLiteral {
     pub value: i64,
     /// The place of the literal, which stands behind the sign.
+    pub place: Place,
+}
+
+/// A label of a `switch`, and its place: that of its literal, which stands behind the sign, or of `default`.
+#[derive(Clone, Copy, PartialEq, Eq, Debug)]
+pub struct PlacedLabel {
+    pub label: CaseLabel,
     pub place: Place,
 }
 
