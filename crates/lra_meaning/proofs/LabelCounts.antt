@@ -2,8 +2,8 @@
 use Rattle.std.proofs.Common.{◌≡◌, ℕ, suc, List, [], ◌∷◌, ◌++◌, length, refl, sym, ap, ◌∙◌, length-append, arith, Option, Some, None}
 use Rattle.lra_base.specs.declared.refusals.Place.{Place}
 use Rattle.lra_tree.specs.Trees.{AssignTree, DeclaratorTree, InitTree, no_init, declared, assigned, StmtTree, block, nothing, assign, call, if_only, if_else, while, for, break, continue, return}
-use Rattle.lra_tree.specs.Trees.{assert, assume, ItemsTree, no_items, declaration, statement}
-use Rattle.lra_tree.specs.Labels.{Labelled, with_names, declarator_labels, init_labels, step_labels, stmt_labels, items_labels, live_in_for}
+use Rattle.lra_tree.specs.Trees.{assert, assume, switch, CasesTree, no_cases, labelled, stated, ItemsTree, no_items, declaration, statement}
+use Rattle.lra_tree.specs.Labels.{Labelled, with_names, declarator_labels, init_labels, step_labels, stmt_labels, cases_labels, items_labels, live_in_for}
 use Rattle.lra_meaning.specs.Resolve.{stmt_count, items_count, init_count, step_count}
 
 pub count_declarators : (live : List (List ℕ)) (ds : List DeclaratorTree) → length (declarator_labels live ds) ≡ length ds
@@ -44,6 +44,13 @@ mutual
   count_stmt live (return at e) = refl
   count_stmt live (assert at c) = refl
   count_stmt live (assume at c) = refl
+  count_stmt live (switch at e cs) = ap suc (alike_cases live cs)
+
+  alike_cases : (live : List (List ℕ)) (cs : CasesTree) → length (cases_labels live cs) ≡ length (cases_labels [] cs)
+  alike_cases live no_cases = refl
+  alike_cases live (labelled l cs) = alike_cases live cs
+  alike_cases live (stated t cs) =
+      both_alike (stmt_labels live t) (cases_labels live cs) (stmt_labels [] t) (cases_labels [] cs) (count_stmt live t) (alike_cases live cs)
 
   alike_items : (live : List (List ℕ)) (items : ItemsTree) (end : Place) → length (items_labels live items end) ≡ length (items_labels [] items end)
   alike_items live no_items end = refl

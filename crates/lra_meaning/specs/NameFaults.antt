@@ -1,5 +1,5 @@
 -- All faults of names in a source, in text order; at one token the lower number comes first (ISO/IEC 9899:2011, 6.2.1,
--- 6.5.2.2, 6.7, 6.8.6, 6.9).
+-- 6.5.2.2, 6.7, 6.8.4.2, 6.8.6, 6.9).
 use Rattle.std.specs.Prelude.{ℕ, Bool, true, false, not, if◌then◌else◌, ◌||◌, ◌&&◌, nat_eq, List, [], ◌∷◌, ◌++◌, length}
 use Rattle.std.specs.Prelude.{Option, Some, None, bytes_eq, map, is_none, is_some}
 use Rattle.std.specs.List.{list_any, flat_map}
@@ -8,7 +8,9 @@ use Rattle.lra_base.specs.declared.refusals.Place.{Place}
 use Rattle.lra_base.specs.declared.refusals.Refusal.{Refusal}
 use Rattle.lra_base.specs.declared.refusals.Cause.{Cause}
 use Rattle.lra_base.specs.declared.refusals.Cause.TheVariants.{BadLiteral, NoMain, UnknownName, DuplicateName, BadCall}
-use Rattle.lra_base.specs.declared.refusals.Cause.TheVariants.{Misplaced}
+use Rattle.lra_base.specs.declared.refusals.Cause.TheVariants.{Misplaced, DuplicateCase}
+use Rattle.lra_base.specs.declared.case_labels.CaseLabel.{CaseLabel}
+use Rattle.lra_base.specs.CaseLabels.{are_alike}
 use Rattle.lra_base.specs.NumberTypes.{fits}
 use Rattle.lra_tree.specs.declared.trees.SignedLiteral.{SignedLiteral}
 use Rattle.lra_tree.specs.declared.trees.Identifier.{Identifier}
@@ -19,8 +21,10 @@ use Rattle.lra_tree.specs.Trees.{value_of_unary, group_opposed, TestTree, opposi
 use Rattle.lra_tree.specs.Trees.{ConjunctionTree, test, and, CondTree, conjunction, or, CallTree, RvalueTree}
 use Rattle.lra_tree.specs.Trees.{expression, result, AssignTree, set, update, after, before, DeclaratorTree, InitTree}
 use Rattle.lra_tree.specs.Trees.{no_init, declared, assigned, StmtTree, block, nothing, assign, call, if_only, if_else}
-use Rattle.lra_tree.specs.Trees.{while, for, break, continue, return, assert, assume, ItemsTree, no_items, declaration}
-use Rattle.lra_tree.specs.Trees.{statement, FunctionTree, GlobalTree, PartTree, prototype, globals, function, FileTree}
+use Rattle.lra_tree.specs.Trees.{while, for, break, continue, return, assert, assume, switch, CasesTree, no_cases}
+use Rattle.lra_tree.specs.Trees.{labelled, stated, ItemsTree, no_items, declaration, statement, FunctionTree}
+use Rattle.lra_tree.specs.Trees.{GlobalTree, PartTree, prototype, globals, function, FileTree}
+use Rattle.lra_program.specs.WellFormed.{Jumps, no_jumps, in_loop, in_switch}
 use Rattle.lra_meaning.specs.Scope.{Entry, Scope, slot_of, is_declared, with_local, declarator_entry, global_entries}
 use Rattle.lra_meaning.specs.Scope.{with_declarators, inner, for_scope, function_scope}
 use Rattle.lra_tree.specs.Functions.{functions_of, function_named, is_main}
@@ -124,14 +128,17 @@ step_faults F s (Some a) = assign_faults F s a
 
 -- statements -------------------------------------------------------------------------------------------------------
 
--- where a statement stands: in a function with or without a result, in a loop or not
+-- where a statement stands: in a function with or without a result, in loops and `switch`es or not
 pub record Around : Type 0 where
   pub functions : List FunctionTree
   pub has_result : Bool
-  pub in_loop : Bool
+  pub jumps : Jumps
 
 abbrev pub in_a_loop : Around → Around
-in_a_loop a = record a { in_loop = true }
+in_a_loop a = record a { jumps = in_loop }
+
+abbrev pub in_a_switch : Around → Around
+in_a_switch a = record a { jumps = in_switch a.jumps }
 
 abbrev pub return_faults : Around → Scope → Place → Option RvalueTree → List Refusal
 return_faults a s at None = []
@@ -150,11 +157,19 @@ abbrev mutual
       let t = for_scope s i in
       init_faults a.functions s i ++ test_of_for_faults t c ++ step_faults a.functions t e ++
       stmt_faults (in_a_loop a) t b
-  stmt_faults a s (break at) = fault_if (not a.in_loop) Misplaced at
-  stmt_faults a s (continue at) = fault_if (not a.in_loop) Misplaced at
+  stmt_faults a s (break at) = fault_if (not a.jumps.breaks) Misplaced at
+  stmt_faults a s (continue at) = fault_if (not a.jumps.continues) Misplaced at
   stmt_faults a s (return at e) = return_faults a s at e
   stmt_faults a s (assert at c) = cond_faults s c
   stmt_faults a s (assume at c) = cond_faults s c
+  stmt_faults a s (switch at e cs) = expr_faults s e ++ cases_faults (in_a_switch a) s [] cs
+
+  -- behind these labels of the same `switch`, none of which stands again
+  pub cases_faults : Around → Scope → List CaseLabel → CasesTree → List Refusal
+  cases_faults a s earlier no_cases = []
+  cases_faults a s earlier (labelled l cs) = fault_if (list_any (are_alike l.label) earlier) DuplicateCase l.place ++
+      cases_faults a s (l.label ∷ earlier) cs
+  cases_faults a s earlier (stated t cs) = stmt_faults a s t ++ cases_faults a s earlier cs
 
   pub items_faults : Around → Scope → ItemsTree → List Refusal
   items_faults a s no_items = []
@@ -175,7 +190,7 @@ parameters_faults names (p ∷ ps) = fault_if (is_taken p.name.word names) Dupli
 abbrev pub function_faults : List FunctionTree → List Entry → FunctionTree → List Refusal
 function_faults F outside f =
     parameters_faults [] f.parameters
-    ++ items_faults (record { functions = F; has_result = is_some f.result_type; in_loop = false })
+    ++ items_faults (record { functions = F; has_result = is_some f.result_type; jumps = no_jumps })
     (function_scope outside f.parameters) f.body
 
 -- a first value, with its sign, is one of its variable's type; of 64 bits each literal is, with a sign or without

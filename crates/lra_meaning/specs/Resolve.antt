@@ -15,7 +15,8 @@ use Rattle.lra_program.specs.Program.{Slot, global, Variable, Expr, literal, rea
 use Rattle.lra_program.specs.Program.{nonzero}
 use Rattle.lra_program.specs.Program.{opposite, both_of, either_of, Call, Rvalue, value, result, Stmt, absent, nothing}
 use Rattle.lra_program.specs.Program.{block, assign, call, if, loop, for, break, continue, return, assert, assume}
-use Rattle.lra_program.specs.Program.{BlockItems, no_more, declaration, statement, Function, Program}
+use Rattle.lra_program.specs.Program.{switch, Cases, no_cases, labelled, stated, BlockItems, no_more, declaration}
+use Rattle.lra_program.specs.Program.{statement, Function, Program}
 use Rattle.lra_base.specs.Operators.{Operator, plus, minus, times, over, modulo}
 use Rattle.lra_meaning.specs.Scope.{Entry, Scope, slot_of, type_at, with_local, declarator_entry, global_entries}
 use Rattle.lra_meaning.specs.Scope.{with_declarators, inner, for_scope, function_scope}
@@ -185,6 +186,13 @@ abbrev mutual
   resolve_stmt F s n (tree.return at e) = return n (resolve_given F s n e)
   resolve_stmt F s n (tree.assert at c) = assert n (resolve_cond s c)
   resolve_stmt F s n (tree.assume at c) = assume n (resolve_cond s c)
+  resolve_stmt F s n (tree.switch at e cs) = switch n (resolve_expr s e) (resolve_cases F s (suc n) cs)
+
+  -- all in one scope: nothing is declared among them
+  pub resolve_cases : List tree.FunctionTree → Scope → ℕ → tree.CasesTree → Cases
+  resolve_cases F s n tree.no_cases = no_cases
+  resolve_cases F s n (tree.labelled l cs) = labelled l.label (resolve_cases F s n cs)
+  resolve_cases F s n (tree.stated t cs) = stated (resolve_stmt F s n t) (resolve_cases F s (n + stmt_count t) cs)
 
   pub resolve_items : List tree.FunctionTree → Scope → ℕ → tree.ItemsTree → BlockItems
   resolve_items F s n tree.no_items = no_more
