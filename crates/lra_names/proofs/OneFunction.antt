@@ -4,11 +4,12 @@ use Rattle.lra_tree.specs.declared.trees.Parameter.{Parameter}
 use Rattle.lra_tree.specs.Trees.{FunctionTree}
 use Rattle.lra_program.specs.Program as program
 use Rattle.lra_meaning.specs.Scope.{Entry, Scope, function_scope}
+use Rattle.lra_program.specs.WellFormed.{no_jumps}
 use Rattle.lra_meaning.specs.NameFaults.{Around, function_faults, items_faults, parameters_faults}
 use Rattle.lra_meaning.specs.Resolve.{items_count, resolve_function, resolve_items}
 
 abbrev around_body : List FunctionTree → Bool → Around
-around_body F b = record { functions = F; has_result = b; in_loop = false }
+around_body F b = record { functions = F; has_result = b; jumps = no_jumps }
 
 pub function_faults_split : (F : List FunctionTree) (outside : List Entry) (f : FunctionTree) (b : Bool) (ps : List Parameter) (s : Scope) → b ≡ is_some f.result_type
     → ps ≡ f.parameters → s ≡ function_scope outside ps →

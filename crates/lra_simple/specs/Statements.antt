@@ -4,7 +4,7 @@ use Rattle.lra_base.specs.declared.number_types.NumberType.{NumberType}
 use Rattle.lra_base.specs.declared.refusals.Place.{Place}
 use Rattle.lra_base.specs.declared.refusals.Refusal.{Refusal}
 use Rattle.lra_base.specs.declared.refusals.Cause.TheVariants.{DuplicateName}
-use Rattle.lra_tree.specs.Trees.{FunctionTree, DeclaratorTree, CondTree, StmtTree, block, if_only, if_else, while, for}
+use Rattle.lra_tree.specs.Trees.{FunctionTree, DeclaratorTree, CondTree, StmtTree, block, if_only, if_else, while, for, switch}
 use Rattle.lra_simple.specs.declared.around.Around.{Around}
 use Rattle.lra_scopes.specs.Calls.{functions_at}
 use Rattle.lra_meaning.specs.Scope.{Scope, is_declared, with_local, declarator_entry}
@@ -13,7 +13,11 @@ use Rattle.lra_program.specs.Program as program
 
 -- among the functions of these parts, in a function with a result or not, in a loop or not
 abbrev pub around_of : Around → faults.Around
-around_of a = record { functions = functions_at a.functions.now; has_result = a.has_result; in_loop = a.in_loop }
+around_of a = record {
+  functions = functions_at a.functions.now;
+  has_result = a.has_result;
+  jumps = record { breaks = a.in_loop; continues = a.in_loop };
+}
 
 -- of one declarator of a type
 abbrev pub declarator_faults : List FunctionTree → Scope → NumberType → DeclaratorTree → List Refusal
@@ -32,6 +36,7 @@ IsSimple (if_only at c t) = ⊥
 IsSimple (if_else at c t e) = ⊥
 IsSimple (while at c b) = ⊥
 IsSimple (for at i c e b) = ⊥
+IsSimple (switch at e cs) = ⊥
 IsSimple t = ⊤
 
 -- some items, each of which is what it puts before those behind it, before others
