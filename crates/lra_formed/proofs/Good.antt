@@ -11,13 +11,14 @@ use Rattle.lra_program.specs.Sites.{live_behind}
 use Rattle.lra_meaning.specs.Scope.{Scope, with_local, declarator_entry, with_declarators, inner, for_scope}
 use Rattle.lra_tree.specs.Functions.{function_named}
 use Rattle.lra_meaning.specs.NameFaults.{use_faults, unary_faults, term_faults, expr_faults, negation_faults, test_faults, conjunction_faults, cond_faults, called_faults, call_faults, rvalue_faults}
-use Rattle.lra_meaning.specs.NameFaults.{assign_faults, given_faults, declarators_faults, init_faults, test_of_for_faults, step_faults, Around, return_faults, stmt_faults, items_faults}
+use Rattle.lra_meaning.specs.NameFaults.{assign_faults, given_faults, declarators_faults, init_faults, test_of_for_faults, step_faults, Around, return_faults, stmt_faults, cases_faults, items_faults}
 use Rattle.lra_meaning.specs.Resolve.{function_place, resolve_unary, resolve_term, resolve_expr, resolve_negation, resolve_test, all_of, any_of, resolve_cond, resolve_call, resolve_rvalue}
 use Rattle.lra_meaning.specs.Resolve.{resolve_given, resolve_assign, resolve_declarators, resolve_init, resolve_for_test, resolve_step, init_count, step_count, stmt_count, declarator_count}
-use Rattle.lra_meaning.specs.Resolve.{resolve_stmt, resolve_items}
-use Rattle.lra_program.specs.WellFormed.{IsGoodExpr, IsGoodCond, IsGoodCall, IsGoodRvalue, IsGoodGiven, IsGoodStmt, AreGoodItems}
+use Rattle.lra_meaning.specs.Resolve.{resolve_stmt, resolve_cases, resolve_items}
+use Rattle.lra_program.specs.WellFormed.{IsGoodExpr, IsGoodCond, IsGoodCall, IsGoodRvalue, IsGoodGiven, IsGoodStmt, AreGoodCases, AreGoodItems, Jumps, no_jumps, in_loop, in_switch}
 use Rattle.lra_formed.specs.Literals.{IsSmallUnary, IsSmallTerm, IsSmallExpr, IsSmallNegation, IsSmallTest, IsSmallConjunction, IsSmallCond, IsSmallCall, IsSmallRvalue, IsSmallGiven, IsSmallAssign}
-use Rattle.lra_formed.specs.Literals.{IsSmallDeclarator, IsSmallInit, IsSmallForTest, IsSmallStep, IsSmallStmt, AreSmallItems}
+use Rattle.lra_formed.specs.Literals.{IsSmallDeclarator, IsSmallInit, IsSmallForTest, IsSmallStep, IsSmallStmt, AreSmallCases, AreSmallItems}
+use Rattle.lra_base.specs.declared.case_labels.CaseLabel.{CaseLabel}
 use Rattle.lra_formed.proofs.Faultless.{none_left, none_right, none_if, is_not, Sees, sees_local, sees_inner, variable_lives, called_is}
 
 module _ (P : Program) where
@@ -113,7 +114,7 @@ module _ (P : Program) where
     good_given at live s None sees small e = tt
     good_given at live s (Some x) sees small e = good_rvalue at live s x sees small e
 
-    good_assign : (b : Bool) (at live : ℕ) (s : Scope) (a : tree.AssignTree) → Sees P live s → IsSmallAssign a → assign_faults F s a ≡ [] → IsGoodStmt P b live (resolve_assign F s at a)
+    good_assign : (b : Jumps) (at live : ℕ) (s : Scope) (a : tree.AssignTree) → Sees P live s → IsSmallAssign a → assign_faults F s a ≡ [] → IsGoodStmt P b live (resolve_assign F s at a)
     good_assign b at live s (tree.set x e) sees small none =
         (variable_lives P live s x sees (none_left (use_faults s x) (rvalue_faults F s e) none), good_rvalue at live s e sees small (none_right (use_faults s x) (rvalue_faults F s e) none))
     good_assign b at live s (tree.update x op e) sees small none =
@@ -123,7 +124,7 @@ module _ (P : Program) where
     good_assign b at live s (tree.before p step x) sees small none = let lives = variable_lives P live s x sees none in (lives, (lives, refl))
 
     -- declarators, and the items behind them
-    good_declarators : (b : Bool) (n live : ℕ) (s : Scope) (t : NumberType) (ds : List tree.DeclaratorTree) (rest : BlockItems) → Sees P live s → AllByRecursion IsSmallDeclarator ds
+    good_declarators : (b : Jumps) (n live : ℕ) (s : Scope) (t : NumberType) (ds : List tree.DeclaratorTree) (rest : BlockItems) → Sees P live s → AllByRecursion IsSmallDeclarator ds
         → declarators_faults F s t ds ≡ []
         → ((more : ℕ) → Sees P more (with_declarators s t ds) → AreGoodItems P b more rest) → AreGoodItems P b live (resolve_declarators F s n t ds rest)
     good_declarators b n live s t [] rest sees small e good = good live sees
@@ -141,10 +142,10 @@ module _ (P : Program) where
     sees_declarators n live s t (d ∷ ds) sees = sees_declarators (suc n) (suc live) (with_local s (declarator_entry t d)) t ds (sees_local P live s (declarator_entry t d) sees)
 
     -- how a `for` begins
-    good_init : (n live : ℕ) (s : Scope) (i : tree.InitTree) → Sees P live s → IsSmallInit i → init_faults F s i ≡ [] → AreGoodItems P false live (resolve_init F s n i)
+    good_init : (n live : ℕ) (s : Scope) (i : tree.InitTree) → Sees P live s → IsSmallInit i → init_faults F s i ≡ [] → AreGoodItems P no_jumps live (resolve_init F s n i)
     good_init n live s tree.no_init sees small e = tt
-    good_init n live s (tree.declared d) sees small e = good_declarators false n live (inner s) d.number_type (d.first ∷ d.rest) no_more (sees_inner P live s sees) small e (λ more h. tt)
-    good_init n live s (tree.assigned a) sees small e = (good_assign false n live s a sees small e, tt)
+    good_init n live s (tree.declared d) sees small e = good_declarators no_jumps n live (inner s) d.number_type (d.first ∷ d.rest) no_more (sees_inner P live s sees) small e (λ more h. tt)
+    good_init n live s (tree.assigned a) sees small e = (good_assign no_jumps n live s a sees small e, tt)
 
     sees_for : (n live : ℕ) (s : Scope) (i : tree.InitTree) → Sees P live s → Sees P (live_behind live (resolve_init F s n i)) (for_scope s i)
     sees_for n live s tree.no_init sees = sees_inner P live s sees
@@ -155,20 +156,20 @@ module _ (P : Program) where
     good_for_test live s None sees small e = refl
     good_for_test live s (Some c) sees small e = good_cond live s sees c small e
 
-    good_step : (n live : ℕ) (s : Scope) (a : Option tree.AssignTree) → Sees P live s → IsSmallStep a → step_faults F s a ≡ [] → IsGoodStmt P false live (resolve_step F s n a)
+    good_step : (n live : ℕ) (s : Scope) (a : Option tree.AssignTree) → Sees P live s → IsSmallStep a → step_faults F s a ≡ [] → IsGoodStmt P no_jumps live (resolve_step F s n a)
     good_step n live s None sees small e = tt
-    good_step n live s (Some a) sees small e = good_assign false n live s a sees small e
+    good_step n live s (Some a) sees small e = good_assign no_jumps n live s a sees small e
 
-    abbrev around : Bool → Bool → Around
-    around r b = record { functions = F; has_result = r; in_loop = b }
+    abbrev around : Bool → Jumps → Around
+    around r b = record { functions = F; has_result = r; jumps = b }
 
-    good_return : (r b : Bool) (n live : ℕ) (s : Scope) (at : Place) (x : Option tree.RvalueTree) → Sees P live s → IsSmallGiven x → return_faults (around r b) s at x ≡ [] →
+    good_return : (r : Bool) (b : Jumps) (n live : ℕ) (s : Scope) (at : Place) (x : Option tree.RvalueTree) → Sees P live s → IsSmallGiven x → return_faults (around r b) s at x ≡ [] →
         IsGoodGiven P n live (resolve_given F s n x)
     good_return r b n live s at None sees small e = tt
     good_return r b n live s at (Some x) sees small e = good_rvalue n live s x sees small (none_right _ (rvalue_faults F s x) e)
 
     mutual
-      good_stmt : (r b : Bool) (n live : ℕ) (s : Scope) (t : tree.StmtTree) → Sees P live s → IsSmallStmt t → stmt_faults (around r b) s t ≡ [] → IsGoodStmt P b live (resolve_stmt F s n t)
+      good_stmt : (r : Bool) (b : Jumps) (n live : ℕ) (s : Scope) (t : tree.StmtTree) → Sees P live s → IsSmallStmt t → stmt_faults (around r b) s t ≡ [] → IsGoodStmt P b live (resolve_stmt F s n t)
       good_stmt r b n live s (tree.block items end) sees small e = good_items r b n live (inner s) items (sees_inner P live s sees) small e
       good_stmt r b n live s (tree.nothing at) sees small e = tt
       good_stmt r b n live s (tree.assign a) sees small e = good_assign b n live s a sees small e
@@ -183,28 +184,42 @@ module _ (P : Program) where
             good_stmt r b (suc n + stmt_count t) live s u sees small.2 (none_right (cond_faults s c ++ stmt_faults (around r b) s t) (stmt_faults (around r b) s u) e),
           )
       good_stmt r b n live s (tree.while at c t) sees small e =
-          let faults = stmt_faults (around r true) s t in
-          (good_cond live s sees c small.0 (none_left (cond_faults s c) faults e), good_stmt r true (suc n) live s t sees small.1 (none_right (cond_faults s c) faults e), tt)
+          let faults = stmt_faults (around r in_loop) s t in
+          (good_cond live s sees c small.0 (none_left (cond_faults s c) faults e), good_stmt r in_loop (suc n) live s t sees small.1 (none_right (cond_faults s c) faults e), tt)
       good_stmt r b n live s (tree.for at i c a t) sees small e =
           let u = for_scope s i in
           let m = suc n + init_count i in
           let more = live_behind live (resolve_init F s (suc n) i) in
           let after = sees_for (suc n) live s i sees in
-          let body = stmt_faults (around r true) u t in
+          let body = stmt_faults (around r in_loop) u t in
           let to_step = none_left _ body e in
           let to_test = none_left _ (step_faults F u a) to_step in (
             good_init (suc n) live s i sees small.0 (none_left (init_faults F s i) (test_of_for_faults u c) to_test),
             good_for_test more u c after small.1 (none_right (init_faults F s i) (test_of_for_faults u c) to_test),
-            good_stmt r true (m + step_count a) more u t after small.3 (none_right _ body e),
+            good_stmt r in_loop (m + step_count a) more u t after small.3 (none_right _ body e),
             good_step m more u a after small.2 (none_right _ (step_faults F u a) to_step),
           )
-      good_stmt r b n live s (tree.break at) sees small e = is_not b (none_if (not b) _ at e)
-      good_stmt r b n live s (tree.continue at) sees small e = is_not b (none_if (not b) _ at e)
+      good_stmt r b n live s (tree.break at) sees small e = is_not b.breaks (none_if (not b.breaks) _ at e)
+      good_stmt r b n live s (tree.continue at) sees small e = is_not b.continues (none_if (not b.continues) _ at e)
       good_stmt r b n live s (tree.return at x) sees small e = good_return r b n live s at x sees small e
       good_stmt r b n live s (tree.assert at c) sees small e = good_cond live s sees c small e
       good_stmt r b n live s (tree.assume at c) sees small e = good_cond live s sees c small e
+      good_stmt r b n live s (tree.switch at v cs) sees small e =
+          let faults = cases_faults (around r (in_switch b)) s [] cs in
+          (good_expr live s sees v small.0 (none_left (expr_faults s v) faults e), good_cases r (in_switch b) (suc n) live s [] cs sees small.1 (none_right (expr_faults s v) faults e))
 
-      pub good_items : (r b : Bool) (n live : ℕ) (s : Scope) (items : tree.ItemsTree) → Sees P live s → AreSmallItems items → items_faults (around r b) s items ≡ [] →
+      good_cases : (r : Bool) (b : Jumps) (n live : ℕ) (s : Scope) (earlier : List CaseLabel) (cs : tree.CasesTree) → Sees P live s → AreSmallCases cs → cases_faults (around r b) s earlier cs ≡ [] →
+          AreGoodCases P b live (resolve_cases F s n cs)
+      good_cases r b n live s earlier tree.no_cases sees small e = tt
+      good_cases r b n live s earlier (tree.labelled l cs) sees small e =
+          good_cases r b n live s (l.label ∷ earlier) cs sees small (none_right _ (cases_faults (around r b) s (l.label ∷ earlier) cs) e)
+      good_cases r b n live s earlier (tree.stated t cs) sees small e =
+          let faults = cases_faults (around r b) s earlier cs in (
+            good_stmt r b n live s t sees small.0 (none_left (stmt_faults (around r b) s t) faults e),
+            good_cases r b (n + stmt_count t) live s earlier cs sees small.1 (none_right (stmt_faults (around r b) s t) faults e),
+          )
+
+      pub good_items : (r : Bool) (b : Jumps) (n live : ℕ) (s : Scope) (items : tree.ItemsTree) → Sees P live s → AreSmallItems items → items_faults (around r b) s items ≡ [] →
           AreGoodItems P b live (resolve_items F s n items)
       good_items r b n live s tree.no_items sees small e = tt
       good_items r b n live s (tree.declaration d items) sees small e =

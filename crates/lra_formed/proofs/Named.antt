@@ -12,11 +12,11 @@ use Rattle.lra_program.specs.Program.{Call, BlockItems, no_more, Function, Progr
 use Rattle.lra_meaning.specs.Scope.{Entry, Scope, with_local, declarator_entry, with_declarators, inner, for_scope, function_scope}
 use Rattle.lra_tree.specs.Functions.{functions_in, functions_of, is_main}
 use Rattle.lra_meaning.specs.NameFaults.{global_names}
-use Rattle.lra_tree.specs.Labels.{Labelled, plain_label, label_with, called_of, assign_label, with_names, declarator_labels, init_labels, step_labels, stmt_labels, items_labels, live_in_for}
+use Rattle.lra_tree.specs.Labels.{Labelled, plain_label, label_with, called_of, assign_label, with_names, declarator_labels, init_labels, step_labels, stmt_labels, cases_labels, items_labels, live_in_for}
 use Rattle.lra_tree.specs.Labels.{function_labels, labels_of, label_at}
 use Rattle.lra_meaning.specs.Resolve.{resolve_call, resolve_rvalue, resolve_given, resolve_assign, resolve_declarators, resolve_init, resolve_step, init_count, step_count, stmt_count, items_count}
-use Rattle.lra_meaning.specs.Resolve.{declarator_count, resolve_stmt, resolve_items, resolve_function, resolve_global, globals_in, resolve_parts, main_of, resolve}
-use Rattle.lra_program.specs.Sites.{Site, Event, comes, one_call_more, greatest_calls, plain_site, live_behind, rvalue_events, given_events, stmt_events, items_events, function_events, call_events}
+use Rattle.lra_meaning.specs.Resolve.{declarator_count, resolve_stmt, resolve_cases, resolve_items, resolve_function, resolve_global, globals_in, resolve_parts, main_of, resolve}
+use Rattle.lra_program.specs.Sites.{Site, Event, comes, one_call_more, greatest_calls, plain_site, live_behind, rvalue_events, given_events, stmt_events, cases_events, items_events, function_events, call_events}
 use Rattle.lra_program.specs.Sites.{sites_in, sites_of}
 use Rattle.lra_meaning.specs.ShownNames.{shown_names}
 use Rattle.lra_meaning.specs.LiveNames.{globals_named, live_in_call_at, live_at, names_outside, live_names}
@@ -227,6 +227,19 @@ module _ (outside : List (List ℕ)) (ls : List Labelled) where
           let l = label_with at (called_of x) names in (point_has n live false l h stand.0, given_has n live s x l h stand.0)
       stmt_has n live s (tree.assert at c) names h stand = (point_has n live true (plain_label at names) h stand.0, tt)
       stmt_has n live s (tree.assume at c) names h stand = (point_has n live false (plain_label at names) h stand.0, tt)
+      stmt_has n live s (tree.switch at e cs) names h stand = (point_has n live false (plain_label at names) h stand.0, cases_have (suc n) live s cs names h stand.1)
+
+      cases_have : (n live : ℕ) (s : Scope) (cs : tree.CasesTree) (names : List (List ℕ)) → width_of path + length names ≡ live → StandFrom ls n (cases_labels names cs)
+          → EachPoint HasAsMany (cases_events inside path live (resolve_cases F s n cs))
+      cases_have n live s tree.no_cases names h stand = tt
+      cases_have n live s (tree.labelled l cs) names h stand = cases_have n live s cs names h stand
+      cases_have n live s (tree.stated t cs) names h stand =
+          let m = n + stmt_count t in
+          let front = stmt_labels names t in
+          let back = cases_labels names cs in
+          let e : n + length front ≡ m = ap (λ (i : ℕ). n + i) (count_stmt names t) in
+          each_then HasAsMany (stmt_events inside path live (resolve_stmt F s n t)) (cases_events inside path live (resolve_cases F s m cs))
+          (stmt_has n live s t names h (stand_left ls n front back stand)) (cases_have m live s cs names h (stand_right ls n m front back e stand))
 
       -- the points of items, and that of their block's end
       items_have : (n m live : ℕ) (s : Scope) (items : tree.ItemsTree) (end : Place) (names : List (List ℕ)) → width_of path + length names ≡ live → n + items_count items ≡ m

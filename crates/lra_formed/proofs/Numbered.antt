@@ -6,10 +6,10 @@ use Rattle.lra_base.specs.declared.refusals.Place.{Place}
 use Rattle.lra_tree.specs.Trees as tree
 use Rattle.lra_program.specs.Program.{BlockItems, no_more}
 use Rattle.lra_meaning.specs.Scope.{Entry, Scope, with_local, declarator_entry, with_declarators, inner, for_scope}
-use Rattle.lra_tree.specs.Labels.{init_labels, step_labels, stmt_labels, live_in_for}
-use Rattle.lra_meaning.specs.Resolve.{resolve_assign, resolve_declarators, resolve_init, resolve_step, init_count, step_count, stmt_count, items_count, declarator_count, resolve_stmt, resolve_items}
+use Rattle.lra_tree.specs.Labels.{init_labels, step_labels, stmt_labels, cases_labels, live_in_for}
+use Rattle.lra_meaning.specs.Resolve.{resolve_assign, resolve_declarators, resolve_init, resolve_step, init_count, step_count, stmt_count, items_count, declarator_count, resolve_stmt, resolve_cases, resolve_items}
 use Rattle.lra_meaning.specs.Resolve.{resolve_function, resolve_parts}
-use Rattle.lra_program.specs.WellFormed.{stmt_numbers, items_numbers, function_numbers}
+use Rattle.lra_program.specs.WellFormed.{stmt_numbers, cases_numbers, items_numbers, function_numbers}
 use Rattle.lra_meaning.proofs.LabelCounts.{count_stmt, count_declarators, count_items, count_step}
 
 -- numbers one after the other ----------------------------------------------------------------------------------------
@@ -121,6 +121,20 @@ module _ (F : List tree.FunctionTree) where
     stmt_run n s (tree.return at x) = (refl, one_more n)
     stmt_run n s (tree.assert at c) = (refl, one_more n)
     stmt_run n s (tree.assume at c) = (refl, one_more n)
+    stmt_run n s (tree.switch at e cs) = (
+      refl,
+      run_to (suc n) (suc n + length (cases_labels [] cs)) (n + stmt_count (tree.switch at e cs)) (cases_numbers (resolve_cases F s (suc n) cs)) (omega arith) (cases_run (suc n) s cs),
+    )
+
+    cases_run : (n : ℕ) (s : Scope) (cs : tree.CasesTree) → IsRun n (cases_numbers (resolve_cases F s n cs)) (n + length (cases_labels [] cs))
+    cases_run n s tree.no_cases = omega arith
+    cases_run n s (tree.labelled l cs) = cases_run n s cs
+    cases_run n s (tree.stated t cs) =
+        let m = n + stmt_count t in
+        let last = n + length (cases_labels [] (tree.stated t cs)) in
+        let back = cases_numbers (resolve_cases F s m cs) in
+        let both = length-append (stmt_labels [] t) (cases_labels [] cs) in
+        run_then n m last (stmt_numbers (resolve_stmt F s n t)) back (stmt_run n s t) (run_to m (m + length (cases_labels [] cs)) last back (omega (arith, both)) (cases_run m s cs))
 
     items_run : (n : ℕ) (s : Scope) (items : tree.ItemsTree) → IsRun n (items_numbers (resolve_items F s n items)) (n + items_count items)
     items_run n s tree.no_items = omega arith

@@ -189,6 +189,7 @@ mutual
   small_stmt o l (tree.return at a) z (x, y, e, word, (x2, y2, e2, s, closing)) h = small_returned l a x2 s (front x2 y2 y e2 (back x y z e h))
   small_stmt o l (tree.assert at c) z (x, y, e, word, (x2, y2, e2, s, closing)) h = small_in_parens l c x2 s (front x2 y2 y e2 (back x y z e h))
   small_stmt o l (tree.assume at c) z (x, y, e, word, (x2, y2, e2, s, closing)) h = small_in_parens l c x2 s (front x2 y2 y e2 (back x y z e h))
+  small_stmt o l (tree.switch at e cs) z s h = absurd s
 
   small_items : (l : ℕ) (items : tree.ItemsTree) (z : Pieces) → AreItems l items z → AreSmall z → AreSmallItems items
   small_items l tree.no_items z s h = tt

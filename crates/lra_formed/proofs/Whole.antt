@@ -21,6 +21,7 @@ use Rattle.lra_program.specs.WellFormed.{AreGoodItems, IsGoodFunction, IsWellFor
 use Rattle.lra_formed.specs.Literals.{IsSmallPart, HasSmallLiterals}
 use Rattle.lra_formed.proofs.Faultless.{none_left, none_right, none_if, is_not}
 use Rattle.lra_formed.proofs.Good.{AreCallees, good_items}
+use Rattle.lra_program.specs.WellFormed.{no_jumps}
 use Rattle.lra_formed.proofs.Numbered.{parts_run, run_is_range}
 
 -- globals ----------------------------------------------------------------------------------------------------------
@@ -67,7 +68,7 @@ module _ (P : Program) (F : List tree.FunctionTree) (callees : AreCallees P F) w
   good_function n outside f few small e =
       let s = function_scope outside f.parameters in
       let body = resolve_items F s n f.body in
-      subst (λ (k : ℕ). AreGoodItems P false k body) (sym (types_length f.parameters)) (good_items P F callees (is_some f.result_type) false n (length f.parameters) (function_scope outside f.parameters) f.body
+      subst (λ (k : ℕ). AreGoodItems P no_jumps k body) (sym (types_length f.parameters)) (good_items P F callees (is_some f.result_type) no_jumps n (length f.parameters) (function_scope outside f.parameters) f.body
       (record { globals = few; locals = length-map f.parameters parameter_entry }) small (none_right (parameters_faults [] f.parameters) _ e))
 
   good_functions : (n : ℕ) (names : List (List ℕ)) (outside : List Entry) (ps : List tree.PartTree) → length outside + length (globals_in ps) ≤ length P.globals → AllByRecursion IsSmallPart ps

@@ -8,6 +8,7 @@ use Rattle.lra_tree.specs.Trees.{ConjunctionTree, test, and, CondTree, conjuncti
 use Rattle.lra_tree.specs.Trees.{expression, result, AssignTree, set, update, after, before, DeclaratorTree}
 use Rattle.lra_tree.specs.Trees.{DeclarationTree, InitTree, no_init, declared, assigned, StmtTree, block, nothing}
 use Rattle.lra_tree.specs.Trees.{assign, call, if_only, if_else, while, for, break, continue, return, assert, assume}
+use Rattle.lra_tree.specs.Trees.{switch, CasesTree, no_cases, labelled, stated}
 use Rattle.lra_tree.specs.Trees.{ItemsTree, no_items, declaration, statement, PartTree, prototype, globals}
 use Rattle.lra_tree.specs.Trees.{function, FileTree}
 use Rattle.lra_base.specs.NumberTypes.{fits}
@@ -111,6 +112,12 @@ abbrev mutual
   IsSmallStmt (return at e) = IsSmallGiven e
   IsSmallStmt (assert at c) = IsSmallCond c
   IsSmallStmt (assume at c) = IsSmallCond c
+  IsSmallStmt (switch at e cs) = IsSmallExpr e × AreSmallCases cs
+
+  pub AreSmallCases : CasesTree → Type 0
+  AreSmallCases no_cases = ⊤
+  AreSmallCases (labelled l cs) = AreSmallCases cs
+  AreSmallCases (stated t cs) = IsSmallStmt t × AreSmallCases cs
 
   pub AreSmallItems : ItemsTree → Type 0
   AreSmallItems no_items = ⊤

@@ -14,7 +14,7 @@ use Rattle.lra_tree.specs.declared.trees.Step.{Step}
 use Rattle.lra_tree.specs.declared.trees.Step.TheVariants as step
 use Rattle.lra_tree.specs.Texts.{Piece, Pieces, Texts, ◌⋅◌, opens, opens_at}
 use Rattle.lra_tree.specs.Trees.{StmtTree, block, nothing, assign, call, if_only, if_else, while, for, break, continue, return, assert, assume, increment, after, before, no_init, ItemsTree, no_items}
-use Rattle.lra_tree.specs.Trees.{declaration, statement}
+use Rattle.lra_tree.specs.Trees.{switch, declaration, statement}
 use Rattle.lra_tree.specs.Views.{step_view}
 use Rattle.lra_tree.specs.Grammar.{IsAssign, IsDeclaration, IsStmt, AreItems}
 use Rattle.lra_readers.specs.Tests.{is_mark}
@@ -66,6 +66,7 @@ is_block (continue at) = inr (λ b. b)
 is_block (return at e) = inr (λ b. b)
 is_block (assert at c) = inr (λ b. b)
 is_block (assume at c) = inr (λ b. b)
+is_block (switch at e cs) = inr (λ b. b)
 
 abbrev BlockText : ℕ → ℕ → StmtTree → Texts
 BlockText o l t z = IsStmt o l t z × IsBlock t
@@ -84,6 +85,7 @@ block_first o l (continue at) z i s P f = absurd s.1
 block_first o l (return at e) z i s P f = absurd s.1
 block_first o l (assert at c) z i s P f = absurd s.1
 block_first o l (assume at c) z i s P f = absurd s.1
+block_first o l (switch at e cs) z i s P f = absurd s.1
 
 -- what holds of each token that begins a statement
 pub record Begins (P : Option Token → Type 0) : Type 0 where
@@ -281,6 +283,7 @@ stated_in l (continue at) items z h = h
 stated_in l (return at e) items z h = h
 stated_in l (assert at c) items z h = h
 stated_in l (assume at c) items z h = h
+stated_in l (switch at e cs) items z h = h
 
 stated_out : (l : ℕ) (t : StmtTree) (items : ItemsTree) (z : Pieces) → AreItems l (statement t items) z → (StatedText l t ⋅ AreItems l items) z
 stated_out l (block is end) items z h = h
@@ -296,6 +299,7 @@ stated_out l (continue at) items z h = h
 stated_out l (return at e) items z h = h
 stated_out l (assert at c) items z h = h
 stated_out l (assume at c) items z h = h
+stated_out l (switch at e cs) items z h = h
 
 pub to_items : (l : ℕ) (is : List ItemTree) (z : Pieces) → Items (ItemText l) is z → AreItems l (items_from is) z
 to_items l [] z e = e
@@ -355,6 +359,8 @@ to_stated l (assert at c) z (inl s) = absurd s.1
 to_stated l (assert at c) z (inr s) = s.0
 to_stated l (assume at c) z (inl s) = absurd s.1
 to_stated l (assume at c) z (inr s) = s.0
+to_stated l (switch at e cs) z (inl s) = absurd s.1
+to_stated l (switch at e cs) z (inr s) = s.0
 
 from_stated : (l : ℕ) (t : StmtTree) (z : Pieces) → StatedText l t z → BlockText (l + 1) (l + 1) t z ⊎ SimpleText 0 l t z
 from_stated l (block is end) z s = inl (s, tt)
@@ -370,6 +376,7 @@ from_stated l (continue at) z s = inr (s, (λ b. b))
 from_stated l (return at e) z s = inr (s, (λ b. b))
 from_stated l (assert at c) z s = inr (s, (λ b. b))
 from_stated l (assume at c) z s = inr (s, (λ b. b))
+from_stated l (switch at e cs) z s = inr (s, (λ b. b))
 
 either_stmt : (o l : ℕ) (t : StmtTree) (z : Pieces) → BlockText o l t z ⊎ SimpleText o l t z → IsStmt o l t z
 either_stmt o l t z (inl s) = s.0
@@ -495,6 +502,7 @@ from_block o l (continue at) z s = absurd s.1
 from_block o l (return at e) z s = absurd s.1
 from_block o l (assert at c) z s = absurd s.1
 from_block o l (assume at c) z s = absurd s.1
+from_block o l (switch at e cs) z s = absurd s.1
 
 placed_over : (n o : ℕ) (m : Mark) (at : Place) (x y z : Pieces) → n < o → z ≡ x ++ y → opens_at m at o x → (t : Piece) × (w : Pieces) × (z ≡ t ∷ w) × (n < t.1)
 placed_over n o m at x y z h e s = ((token m at, o), y, e ∙ ap (λ (v : Pieces). v ++ y) s, h)
@@ -519,6 +527,7 @@ stmt_over n o l (continue at) z h (x, y, f, s, r) = placed_over n o mark.Continu
 stmt_over n o l (return at e) z h (x, y, f, s, r) = placed_over n o mark.Return at x y z h f s
 stmt_over n o l (assert at c) z h (x, y, e, s, r) = placed_over n o mark.Assert at x y z h e s
 stmt_over n o l (assume at c) z h (x, y, e, s, r) = placed_over n o mark.Assume at x y z h e s
+stmt_over n o l (switch at e cs) z h s = absurd s
 
 exact_too_deep : (n o : ℕ) → n < o → Exact n IsInner too_deep Any (IsStmt o o) (IsStmt o o) AfterStmt
 exact_too_deep n o h =

@@ -11,7 +11,7 @@ use Rattle.lra_tree.specs.declared.trees.Step.{Step}
 use Rattle.lra_tree.specs.declared.trees.Step.TheVariants as step
 use Rattle.lra_tree.specs.Texts.{Pieces, Texts, ◌⋅◌, opens, mark as spells, opens_at, name}
 use Rattle.lra_tree.specs.Trees.{CondTree, CallTree, AssignTree, increment, after, InitTree, StmtTree, block, nothing, assign, call, if_only, if_else, while, for, break, continue, return, assert}
-use Rattle.lra_tree.specs.Trees.{assume}
+use Rattle.lra_tree.specs.Trees.{assume, switch}
 use Rattle.lra_tree.specs.Grammar.{InParens, IsRvalue, IsAssign, TakesElse, IsStmt}
 use Rattle.lra_readers.specs.Tests.{is_mark}
 use Rattle.lra_readers.specs.Reading.{Parse, seq, next_name, has}
@@ -49,6 +49,7 @@ IsBlock (continue at) = ⊥
 IsBlock (return at e) = ⊥
 IsBlock (assert at c) = ⊥
 IsBlock (assume at c) = ⊥
+IsBlock (switch at e cs) = ⊥
 
 abbrev pub SimpleText : ℕ → ℕ → StmtTree → Texts
 SimpleText o l t z = IsStmt o l t z × (IsBlock t → ⊥)
@@ -186,6 +187,7 @@ from_simple o l (continue at) z ((x, y, e, s, t), n) = (Some at_continue, (at, r
 from_simple o l (return at a) z ((x, y, e, s, (u, v, f, r, t)), n) = (Some at_return, (at, (x, y, e, s, (a, refl, (u, v, f, from_returned l a u r, t)))))
 from_simple o l (assert at c) z ((x, y, e, s, t), n) = (Some at_assert, (at, (x, y, e, s, (c, refl, t))))
 from_simple o l (assume at c) z ((x, y, e, s, t), n) = (Some at_assume, (at, (x, y, e, s, (c, refl, t))))
+from_simple o l (switch at e cs) z (s, n) = absurd s
 
 some_none : {A : Type 0} {a : A} → (let o : Option A = Some a in o) ≡ None → ⊥
 some_none e = cc

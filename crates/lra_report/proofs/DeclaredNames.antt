@@ -8,7 +8,7 @@ use Rattle.lra_tree.specs.declared.trees.Parameter.{Parameter}
 use Rattle.lra_tree.specs.Lexeme.{is_name_word}
 use Rattle.lra_tree.specs.Texts.{Piece, Pieces, Texts, ◌⋅◌, name, further, separated}
 use Rattle.lra_tree.specs.Trees.{AssignTree, DeclaratorTree, DeclarationTree, InitTree, no_init, declared, assigned, StmtTree, block, nothing, assign, call, if_only, if_else, while, for, break}
-use Rattle.lra_tree.specs.Trees.{continue, return, assert, assume, ItemsTree, no_items, declaration, statement, FunctionTree, GlobalTree, GlobalsTree, PartTree, prototype, globals, function}
+use Rattle.lra_tree.specs.Trees.{continue, return, assert, assume, switch, ItemsTree, no_items, declaration, statement, FunctionTree, GlobalTree, GlobalsTree, PartTree, prototype, globals, function}
 use Rattle.lra_tree.specs.Grammar.{IsDeclarator, IsDeclaration, IsInit, IsStmt, AreItems, IsParameter, AreParameters, IsFunction, IsGlobal, AreGlobals, AreParts}
 use Rattle.lra_tree.specs.Functions.{functions_in}
 use Rattle.lra_meaning.specs.NameFaults.{global_names}
@@ -185,6 +185,7 @@ mutual
   stmt_few most o l (return at r) live z is h = let few = room_few most live z h in ((few, few), tt)
   stmt_few most o l (assert at c) live z is h = let few = room_few most live z h in ((few, few), tt)
   stmt_few most o l (assume at c) live z is h = let few = room_few most live z h in ((few, few), tt)
+  stmt_few most o l (switch at e cs) live z is h = absurd is
 
   items_few : (most l : ℕ) (items : ItemsTree) (end : Place) (live : List (List ℕ)) (z : Pieces) → AreItems l items z → HasRoom most live z →
       AllByRecursion (AreFewAt most) (items_labels live items end)

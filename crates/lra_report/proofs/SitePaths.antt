@@ -3,8 +3,8 @@ use Rattle.std.proofs.Common.{ℕ, zero, suc, ◌+◌, ◌≤◌, List, [], ◌�
 use Rattle.std.specs.Prelude.{⊤}
 use Rattle.std.specs.List.{AllByRecursion}
 use Rattle.lra_program.specs.Program.{Call, Rvalue, value, result, Stmt, absent, nothing, block, assign, call, if, loop, for, break, continue, return, assert, assume, BlockItems, no_more, declaration}
-use Rattle.lra_program.specs.Program.{statement, Function, Program}
-use Rattle.lra_program.specs.Sites.{Site, Event, comes, one_call_more, greatest_calls, plain_site, live_behind, rvalue_events, given_events, stmt_events, items_events, function_events}
+use Rattle.lra_program.specs.Program.{switch, Cases, no_cases, labelled, stated, statement, Function, Program}
+use Rattle.lra_program.specs.Sites.{Site, Event, comes, one_call_more, greatest_calls, plain_site, live_behind, rvalue_events, given_events, stmt_events, cases_events, items_events, function_events}
 use Rattle.lra_program.specs.Sites.{call_events, events_of, sites_in, sites_of}
 use Rattle.lra_report.proofs.Every.{every_append}
 
@@ -44,6 +44,13 @@ module _ (inside : List ℕ → ℕ → Call → List Event) (path : List ℕ) (
     stmt_shallow live (return at e) = (here, given_shallow live e)
     stmt_shallow live (assert at c) = (here, tt)
     stmt_shallow live (assume at c) = (here, tt)
+    stmt_shallow live (switch at e cs) = (here, cases_shallow live cs)
+
+    cases_shallow : (live : ℕ) (cs : Cases) → AllByRecursion IsShallow (cases_events inside path live cs)
+    cases_shallow live no_cases = tt
+    cases_shallow live (labelled l cs) = cases_shallow live cs
+    cases_shallow live (stated a cs) =
+        every_append IsShallow (stmt_events inside path live a) (cases_events inside path live cs) (stmt_shallow live a) (cases_shallow live cs)
 
     items_shallow : (live : ℕ) (items : BlockItems) → AllByRecursion IsShallow (items_events inside path live items)
     items_shallow live no_more = tt
