@@ -5,16 +5,17 @@ use Rattle.std.specs.Prelude.{if◌then◌else◌}
 use Rattle.std.proofs.lemmas.Option.{same_Some, none-some}
 use Rattle.lra_base.specs.declared.number_types.NumberType.{NumberType}
 use Rattle.lra_program.specs.declared.receivers.Receiver.{Receiver}
-use Rattle.lra_program.specs.Program.{Rvalue, Stmt, BlockItems, Program}
+use Rattle.lra_program.specs.Receivers.{nobody}
+use Rattle.lra_program.specs.Program.{Rvalue, Stmt, Cases, BlockItems, Program}
 use Rattle.lra_program.specs.Step.{Op, append, give, push, test, behind_main}
 use Rattle.lra_program.specs.Overflow.{op_computes}
 use Rattle.lra_program.specs.Sites.{Site}
-use Rattle.lra_operations.specs.Graph.{Node}
+use Rattle.lra_operations.specs.Graph.{Node, Arms}
 use Rattle.lra_operations.specs.Agree.{IsGraph}
-use Rattle.lra_operations.specs.Asked.{Asked, asked_of, asked_in, fresh_behind, AreAskedOnce}
+use Rattle.lra_operations.specs.Asked.{Asked, asked_of, asked_in, asked_in_arms, fresh_behind, AreAskedOnce}
 use Rattle.lra_operations.specs.Inlined.{Spot, Inl, InlAll, Declares, Loops, Gives, as_nothing, as_block, as_absent, as_assign, as_call, as_if, as_loop, as_for}
 use Rattle.lra_operations.specs.Inlined.{as_break, as_continue}
-use Rattle.lra_operations.specs.Inlined.{as_return, as_return_value, as_return_call, as_end, as_end_value, as_end_call, as_assert, as_assume, as_none}
+use Rattle.lra_operations.specs.Inlined.{as_return, as_return_value, as_return_call, as_end, as_end_value, as_end_call, as_assert, as_assume, as_switch, as_no_cases, as_labelled, as_stated, InlCases, as_none}
 use Rattle.lra_operations.specs.Inlined.{as_declaration, as_statement, as_fresh, as_given}
 use Rattle.lra_operations.specs.Inlined.{is_loop, as_value, as_result}
 use Rattle.lra_graph.proofs.Shapes.{given}
@@ -181,6 +182,18 @@ mutual
       once_end None spot.next q' q' (asked_in None g) (omega arith) (once_from spot.next (suc spot.next) q' (asked_in None g) (once_gives d (omega arith) None))
   once_one (as_assert {s = spot} {c = c} i) fresh = once_alone spot.next (test spot.frame.here.base c true)
   once_one (as_assume {s = spot} {c = c} i) fresh = once_alone spot.next (test spot.frame.here.base c true)
+  once_one (as_switch {s = spot} {e = e} {arms = arms} {q = q'} i d) fresh =
+      let own : List Asked = asked_of spot.next None (give spot.frame.here.base nobody e) in
+      once_from spot.next (suc spot.next) q' (own ++ asked_in_arms None arms)
+      (once_both (Some spot.next) (suc spot.next) (suc spot.next) q' own (asked_in_arms None arms)
+      (once_op spot.next (suc spot.next) None (give spot.frame.here.base nobody e) (omega arith)) (once_cases d None))
+
+  once_cases : {P : Program} {T : List Site} {spot : Spot} {cs : Cases} {arms : Arms} {q : ℕ} → InlCases P T spot cs arms q → (fresh : Option NumberType)
+      → Once None spot.next q (asked_in_arms fresh arms)
+  once_cases (as_no_cases {s = spot}) fresh = once_none spot.next spot.next (omega arith)
+  once_cases (as_labelled d) fresh = once_cases d fresh
+  once_cases (as_stated {s = spot} {g = g} {arms = arms} {r = r} {q = q'} d e) fresh =
+      once_both None spot.next r q' (asked_in fresh g) (asked_in_arms (fresh_behind fresh g) arms) (once_one d fresh) (once_cases e (fresh_behind fresh g))
 
   once_all : {P : Program} {T : List Site} {spot : Spot} {b : BlockItems} {g : Node} {n q : ℕ} → InlAll P T spot b g n q → (fresh : Option NumberType) → Once
       None spot.next q (asked_in fresh g)

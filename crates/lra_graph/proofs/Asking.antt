@@ -1,21 +1,24 @@
 -- What a tree asks at a point where a run stops by a number: the operation of which it stops.
-use Rattle.std.proofs.Common.{◌≡◌, ℕ, List, [], ◌∷◌, ◌++◌, length, Option, Some, None, Bool, true, false, refl, sym, ◌∙◌, subst, IsTrue, arith}
-use Rattle.std.specs.Prelude.{if◌then◌else◌}
+use Rattle.std.proofs.Common.{◌≡◌, ℕ, List, [], ◌∷◌, ◌++◌, length, Option, Some, None, Bool, true, false, inl, refl, sym, ◌∙◌, subst, IsTrue, arith}
+use Rattle.std.specs.Prelude.{if◌then◌else◌, cond}
 use Rattle.std.specs.List.{Contains}
 use Rattle.std.proofs.lemmas.List.Elements.{Contains-append_left, Contains-append_right}
 use Rattle.std.proofs.lemmas.Option.{same_Some}
 use Rattle.lra_base.specs.declared.number_types.NumberType.{NumberType}
 use Rattle.lra_program.specs.declared.receivers.Receiver.{Receiver}
-use Rattle.lra_program.specs.Receivers.{variable_at}
-use Rattle.lra_program.specs.Program.{Cond, Rvalue, Function, Program}
+use Rattle.lra_program.specs.Receivers.{variable_at, nobody}
+use Rattle.lra_program.specs.Program.{Expr, Cond, Rvalue, Function, Program}
 use Rattle.lra_program.specs.Value.{Argument}
-use Rattle.lra_program.specs.Step.{State, Op, give, push, test, arguments_for}
-use Rattle.lra_program.specs.Overflow.{op_computes, OpOverflows, RvalueOverflows, DeclaredOverflows}
+use Rattle.lra_program.specs.Step.{State, scene_at, Op, give, push, test, arguments_for}
+use Rattle.lra_program.specs.Overflow.{op_computes, ExprOverflows, OpOverflows, RvalueOverflows, DeclaredOverflows}
 use Rattle.lra_program.proofs.TypeLaws.{overflowing_compute}
 use Rattle.lra_program.specs.Sites.{Site}
-use Rattle.lra_operations.specs.Graph.{Node, point, seq, choose}
-use Rattle.lra_operations.specs.Asked.{Asked, asked_of, asked_in, fresh_behind, FreshOverflows, AskedOverflows}
-use Rattle.lra_operations.specs.Inlined.{Spot, Declares, Gives, as_fresh, as_given, as_value, as_result, loop_node, call_node}
+use Rattle.lra_operations.specs.Graph.{Node, point, seq, choose, Arms, no_arms, entry, arm}
+use Rattle.lra_base.specs.declared.case_labels.CaseLabel.{CaseLabel}
+use Rattle.lra_base.specs.CaseLabels.{are_alike}
+use Rattle.lra_operations.proofs.ArmRows.{arms_row, row_behind, asked_in_row}
+use Rattle.lra_operations.specs.Asked.{Asked, asked_of, asked_in, asked_in_arms, fresh_behind, FreshOverflows, AskedOverflows}
+use Rattle.lra_operations.specs.Inlined.{Spot, Declares, Gives, as_fresh, as_given, as_value, as_result, loop_node, switch_node, call_node}
 use Rattle.lra_graph.proofs.Shapes.{given}
 
 -- one of these operations is at the point, and stops by a number where the point is on top in this state
@@ -74,6 +77,29 @@ module _ (n base : ℕ) (c : Cond) (g h : Node) where
 
   pub asks_step : AsksAs h (loop_node n base c g h)
   asks_step fresh q s x = asks_right tested (asked_in None g ++ asked_in None h) q s (asks_right (asked_in None g) (asked_in None h) q s (x None))
+
+-- a `switch`: the arms behind a label
+asks_entered : (l : CaseLabel) (arms : Arms) (t : Bool) (fresh : Option NumberType) (q : ℕ) (s : State)
+    → (((before : Option NumberType) → Asks (asked_in before (row_behind l arms)) q s) → Asks (asked_in_arms fresh arms) q s)
+    → ((before : Option NumberType) → Asks (asked_in before (cond t (arms_row arms) (row_behind l arms))) q s) → Asks (asked_in_arms fresh arms) q s
+asks_entered l arms true fresh q s each x = subst (λ xs. Asks xs q s) (asked_in_row fresh arms) (x fresh)
+asks_entered l arms false fresh q s each x = each x
+
+asks_behind : (l : CaseLabel) (arms : Arms) (fresh : Option NumberType) (q : ℕ) (s : State)
+    → ((before : Option NumberType) → Asks (asked_in before (row_behind l arms)) q s)
+    → Asks (asked_in_arms fresh arms) q s
+asks_behind l no_arms fresh q s x = x fresh
+asks_behind l (entry k arms) fresh q s x = asks_entered l arms (are_alike l k) fresh q s (asks_behind l arms fresh q s) x
+asks_behind l (arm a arms) fresh q s x = asks_right (asked_in fresh a) (asked_in_arms (fresh_behind fresh a) arms) q s
+    (asks_behind l arms (fresh_behind fresh a) q s x)
+
+pub asks_selected : (n base : ℕ) (e : Expr) (arms : Arms) (l : CaseLabel) → AsksAs (row_behind l arms) (switch_node n base e arms)
+asks_selected n base e arms l fresh q s x = asks_right (asked_of n None (give base nobody e)) (asked_in_arms None arms) q s (asks_behind l arms None q s x)
+
+-- and its own value
+pub asks_value : (n base : ℕ) (e : Expr) (arms : Arms) (s : State) → ExprOverflows e (scene_at base s) s.draws
+    → Asks (asked_in None (switch_node n base e arms)) n s
+asks_value n base e arms s over = asks_left (asked_of n None (give base nobody e)) (asked_in_arms None arms) n s (asks_own n (give base nobody e) s (inl over))
 
 -- a called function's body, and its end
 module _ (spot : Spot) (r : ℕ) (x : Receiver) (es : List Argument) (params : ℕ) (g : Node) where

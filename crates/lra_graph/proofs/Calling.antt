@@ -63,7 +63,15 @@ module _ (P : Program) (path : List ℕ) (r : Frame) (S : List Site) (c : Call) 
       (end_as n V (stopped l) same f))
 
   abbrev inner : ℕ → Frame
-  inner m = record { base = r.live; live = r.live + m; calls_left = less; loop_length = None; receiver = behind_result fn.result_type x; back = Some r.live }
+  inner m = record {
+    base = r.live;
+    live = r.live + m;
+    calls_left = less;
+    breaks = None;
+    continues = None;
+    receiver = behind_result fn.result_type x;
+    back = Some r.live;
+  }
 
   pub invoked : (V U : List Site) (q e n : ℕ) (h g : Node) → length c.arguments ≡ length fn.parameters → WritesItems P p (inner k) S b h V → n ≡ live_behind
       (r.live + k) b → e ≡ length V

@@ -1,14 +1,15 @@
 -- The points of a well-formed program differ in call path or label: a call has the label of its statement, and labels are distinct,
 -- so a path of labels names one chain of calls.
-use Rattle.std.proofs.Common.{◌≡◌, ℕ, zero, suc, ◌+◌, List, [], ◌∷◌, ◌++◌, length, Option, Some, None, Bool, slice_get, inl, inr, refl, sym, ap, ◌∙◌, subst, append_assoc}
+use Rattle.std.proofs.Common.{◌≡◌, ℕ, zero, suc, ◌+◌, List, [], ◌∷◌, ◌++◌, length, Option, Some, None, slice_get, inl, inr, refl, sym, ap, ◌∙◌, subst, append_assoc}
 use Rattle.std.specs.List.{AllByRecursion}
 use Rattle.std.proofs.lemmas.Option.{same_Some, none-some, slice_get-get_or}
 use Rattle.lra_program.specs.Program.{Call, Rvalue, value, result, Stmt, absent, nothing, block, assign, call, if, loop, for, break, continue, return, assert, assume, BlockItems, no_more, declaration}
-use Rattle.lra_program.specs.Program.{statement, Function, Program}
-use Rattle.lra_program.specs.Sites.{Site, Event, comes, one_call_more, live_behind, rvalue_events, given_events, stmt_events, items_events, function_events, call_events, events_of, sites_in, sites_of}
+use Rattle.lra_program.specs.Program.{statement, switch, Cases, no_cases, labelled, stated, Function, Program}
+use Rattle.lra_program.specs.Sites.{Site, Event, comes, one_call_more, live_behind, rvalue_events, given_events, stmt_events, cases_events, items_events, function_events, call_events, events_of, sites_in, sites_of}
 use Rattle.lra_program.specs.Sites.{greatest_calls}
 use Rattle.lra_operations.specs.Agree.{AreDistinct}
-use Rattle.lra_program.specs.WellFormed.{stmt_numbers, items_numbers, function_numbers, IsGoodCall, IsGoodRvalue, IsGoodGiven, IsGoodStmt, AreGoodItems, IsGoodFunction, IsWellFormed}
+use Rattle.lra_program.specs.WellFormed.{stmt_numbers, cases_numbers, items_numbers, function_numbers, Jumps, in_switch, IsGoodCall, IsGoodRvalue, IsGoodGiven, IsGoodStmt, AreGoodCases, AreGoodItems}
+use Rattle.lra_program.specs.WellFormed.{IsGoodFunction, IsWellFormed}
 use Rattle.lra_graph.proofs.DistinctLists.{IsIn, AllDiffer, in_left, in_right, in_either, differ_join, differ_left, differ_right, differ_apart, differ_range, differ_piece, one_place, longer}
 use Rattle.lra_graph.proofs.DistinctLists.{one_before}
 
@@ -91,7 +92,8 @@ module _ (P : Program) where
     spread_given at here live (Some e) good = spread_rvalue at here live e good
 
     mutual
-      spread_stmt : (b : Bool) (here live : ℕ) (s : Stmt) → IsGoodStmt P b here s → AllDiffer (stmt_numbers s) → Spread path (stmt_numbers s) (keys_in (stmt_events inside path live s))
+      spread_stmt : (b : Jumps) (here live : ℕ) (s : Stmt) → IsGoodStmt P b here s → AllDiffer (stmt_numbers s)
+          → Spread path (stmt_numbers s) (keys_in (stmt_events inside path live s))
       spread_stmt b here live absent good d = spread_none path []
       spread_stmt b here live (nothing at) good d = spread_alone at path
       spread_stmt b here live (block items end) good d = rw keys_append (spread_join path (items_numbers items) (end ∷ []) (keys_in (items_events inside path live items)) ((end ∷ path) ∷ [])
@@ -125,8 +127,20 @@ module _ (P : Program) where
       spread_stmt b here live (return at e) good d = let y = spread_given at here live e good in spread_point at path y.0 (keys_in (given_events inside path live e)) y.1
       spread_stmt b here live (assert at c) good d = spread_alone at path
       spread_stmt b here live (assume at c) good d = spread_alone at path
+      spread_stmt b here live (switch at e cs) good d = spread_join path (at ∷ []) (cases_numbers cs) ((at ∷ path) ∷ [])
+          (keys_in (cases_events inside path live cs))
+          (head_apart at (cases_numbers cs) d.0) (spread_alone at path) (spread_cases (in_switch b) here live cs good.1 d.1)
 
-      spread_items : (b : Bool) (here live : ℕ) (items : BlockItems) → AreGoodItems P b here items → AllDiffer (items_numbers items)
+      spread_cases : (b : Jumps) (here live : ℕ) (cs : Cases) → AreGoodCases P b here cs → AllDiffer (cases_numbers cs)
+          → Spread path (cases_numbers cs) (keys_in (cases_events inside path live cs))
+      spread_cases b here live no_cases good d = spread_none path []
+      spread_cases b here live (labelled l cs) good d = spread_cases b here live cs good d
+      spread_cases b here live (stated s cs) good d = rw keys_append
+          (spread_join path (stmt_numbers s) (cases_numbers cs) (keys_in (stmt_events inside path live s)) (keys_in (cases_events inside path live cs))
+          (differ_apart (stmt_numbers s) (cases_numbers cs) d) (spread_stmt b here live s good.0 (differ_left (stmt_numbers s) (cases_numbers cs) d))
+          (spread_cases b here live cs good.1 (differ_right (stmt_numbers s) (cases_numbers cs) d)))
+
+      spread_items : (b : Jumps) (here live : ℕ) (items : BlockItems) → AreGoodItems P b here items → AllDiffer (items_numbers items)
           → Spread path (items_numbers items) (keys_in (items_events inside path live items))
       spread_items b here live no_more good d = spread_none path []
       spread_items b here live (declaration e items) good d =

@@ -1,33 +1,39 @@
 -- What the tree reaches, a run reaches, on the same trail.
 use Rattle.std.proofs.Common.{◌≡◌, ◌≢◌, ℕ, zero, suc, ◌+◌, ◌≤◌, List, ◌∷◌, length, Option, Some, None, Bool, true, false, inl, inr, refl, sym, ap, ◌∙◌, subst}
 use Rattle.std.proofs.Common.{slice_get}
+use Rattle.std.specs.Prelude.{cond}
 use Rattle.std.proofs.lemmas.Option.{same_Some, none-some}
 use Rattle.lra_program.specs.Program.{Expr, Cond, Call, Rvalue, value, result, Declarator, Stmt, absent, nothing, block, assign, call, if, loop, for, break, continue, return, assert, assume}
+use Rattle.lra_base.specs.declared.case_labels.CaseLabel.{CaseLabel}
+use Rattle.lra_base.specs.CaseLabels.{are_alike}
+use Rattle.lra_program.specs.Program.{switch, Cases, no_cases, labelled, stated, labels_of}
 use Rattle.lra_program.specs.Program.{BlockItems, no_more, declaration, statement, Function, Program}
 use Rattle.lra_program.specs.Value.{Drawn, index_of, truth_of}
 use Rattle.lra_program.specs.declared.receivers.Receiver.{Receiver}
 use Rattle.lra_program.specs.Receivers.{variable_at, nobody}
-use Rattle.lra_program.specs.Step.{State, Op, append, give, give_any, push, keep, test, run_op, run_any, tested, Here, Back, Item, run, declare, all, end_of, turn, cut, mark, leave_call, Config, Turn}
-use Rattle.lra_program.specs.Step.{scene_at, to_turn, Called, to_mark, behind_main, receiver_of, go, go_by, go_on, enter, do_rvalue, do_leave, do_break}
-use Rattle.lra_program.specs.Step.{do_continue, do_stmt, do_declare, next, next_at}
+use Rattle.lra_program.specs.Step.{State, Op, append, give, give_any, push, keep, test, run_op, run_any, tested, Here, Back, Item, run, declare, all, end_of, turn, cut, mark, leave_call, Config, Outside, Turn}
+use Rattle.lra_program.specs.Step.{scene_at, to_outside, to_turn, Called, to_mark, behind_main, receiver_of, go, go_by, go_on, enter, do_rvalue, do_leave, do_break}
+use Rattle.lra_program.specs.Step.{cases, end_switch, behind_label, do_continue, do_stmt, do_declare, next, next_at}
 use Rattle.lra_program.specs.Run.{label_on, Point, IsFailing}
 use Rattle.lra_program.specs.Trails.{Met, passes, Trail, met_on, Becomes, Walks}
 use Rattle.lra_program.proofs.TrailLaws.{walk_on}
-use Rattle.lra_operations.specs.Graph.{Exit, broken, continued, returned, Node, empty, point, act, check, seq, choose, leave}
-use Rattle.lra_operations.specs.Trails.{Stop, by_jump, to_point, to_failure, Outcome, to_end, stopped, Goes, Tests, TrailRounds, Performs, Passes}
+use Rattle.lra_operations.specs.Graph.{Exit, broken, continued, returned, Node, empty, point, act, check, seq, choose, leave, Arms, entries_of}
+use Rattle.lra_operations.specs.Trails.{Stop, by_jump, to_point, to_failure, Outcome, to_end, stopped, Goes, ArmsGo, Finds, Tests, TrailRounds, Performs, Passes}
 use Rattle.lra_operations.specs.TrailsAgree.{KeepsWidth, point_at, point_or_none}
 use Rattle.lra_program.specs.Sites.{Site}
 use Rattle.lra_operations.specs.Inlined.{Frame, Spot, spot_of, move, Has, HasSite, callee, Inl, InlAll, Declares, Loops, Gives, as_nothing, as_block, as_absent, as_assign, as_call, as_if, as_loop}
 use Rattle.lra_operations.specs.Inlined.{as_for, as_break}
-use Rattle.lra_operations.specs.Inlined.{as_continue, as_return, as_return_value, as_return_call, as_end, as_end_value, as_end_call, as_assert, as_assume, as_none, as_declaration, as_statement}
+use Rattle.lra_operations.specs.Inlined.{as_continue, as_return, as_return_value, as_return_call, as_end, as_end_value, as_end_call, as_assert, as_assume, as_switch, as_no_cases, as_labelled, as_stated, InlCases, switch_node, as_none, as_declaration, as_statement}
 use Rattle.lra_operations.specs.Inlined.{as_fresh, as_given, is_loop, as_value, as_result, loop_node, call_node, return_node}
 use Rattle.lra_program.proofs.GivenArguments.{given_width}
+use Rattle.lra_operations.proofs.ArmRows.{arms_row, row_behind, row_of_behind}
+use Rattle.lra_graph.proofs.Selecting.{entries_are}
 use Rattle.lra_graph.proofs.Shapes.{inner, given, width, seq_inv, act_inv, leave_inv, point_seq, act_seq, jump_inv, EndsBody, GoesCall, call_returned}
 use Rattle.lra_graph.proofs.Shapes.{call_ended, call_stopped, call_at_end, call_inv, Round}
 use Rattle.lra_graph.proofs.Shapes.{EndsBodyRound, LeavesRound, EndsLoop, loop_done, loop_at, loop_broken, loop_left, loop_inv}
 use Rattle.lra_graph.proofs.Lengths.{LengthAt, Length, length_one, length_all, length_declarator, length_loop, length_test}
 use Rattle.lra_graph.proofs.Lengths.{length_push, length_append, grows_all, tests_length, in_loop, mid_length, rounds_length}
-use Rattle.lra_graph.proofs.Landing.{config, land, land_skip, Matches, matches_skip, mark_none, turn_length, back_of, land_broken, land_continued, land_returned}
+use Rattle.lra_graph.proofs.Landing.{config, land, land_skip, Matches, matches_skip, mark_none, outside_length, turn_length, back_of, land_broken, land_continued, land_returned}
 
 go_is : (k : List Item) (h : Here) (o : Option State) (t : State) → o ≡ Some t → go k h o ≡ Some (config k h t)
 go_is k h o t e = rw e refl
@@ -45,7 +51,8 @@ go_by_false a b h s None t e = absurd (none-some t e)
 go_by_false a b h s (Some (true, ds)) t e = absurd (none-some t e)
 go_by_false a b h s (Some (false, ds)) t e = ap (λ (u : State). Some (config b h u)) (same_Some _ t e)
 
-break_step : (o : Option Turn) (m : ℕ) (h : Here) (s t : State) (e : Config) → turn_length o ≡ Some m → run_op (keep m) s ≡ Some t → land_broken o h t ≡ Some e → do_break o h s ≡ Some e
+break_step : (o : Option Outside) (m : ℕ) (h : Here) (s t : State) (e : Config) → outside_length o ≡ Some m → run_op (keep m) s ≡ Some t
+    → land_broken o h t ≡ Some e → do_break o h s ≡ Some e
 break_step None m h s t e a b d = absurd (none-some e d)
 break_step (Some r) m h s t e a b d = go_is r.rest h (run_op (keep r.length) s) t (subst (λ w. run_op (keep w) s ≡ Some t) (sym (same_Some r.length m a)) b) ∙ d
 
@@ -140,11 +147,12 @@ module _ (may : State → State → Type 0) (keeps : KeepsWidth may) (P : Progra
       }
 
   -- a stop above more items is one above fewer
-  lower : (h : Here) (i : Item) (k : List Item) (z : Stop) (b : Trail Point) (c : Config) (xs : List (Met Point)) → to_turn (i ∷ k) ≡ to_turn k → to_mark (i ∷ k) ≡ to_mark k
+  lower : (h : Here) (i : Item) (k : List Item) (z : Stop) (b : Trail Point) (c : Config) (xs : List (Met Point)) → to_outside (i ∷ k) ≡ to_outside k
+      → to_turn (i ∷ k) ≡ to_turn k → to_mark (i ∷ k) ≡ to_mark k
       → Fulfils h (i ∷ k) (stopped z) b c xs → Fulfils h k (stopped z) b c xs
-  lower h i k (by_jump j) b c xs sa sb x = λ e l. x e (land_skip j h i k b.state sa sb ∙ l)
-  lower h i k (to_point q) b c xs sa sb x = x
-  lower h i k (to_failure q) b c xs sa sb x = x
+  lower h i k (by_jump j) b c xs so sa sb x = λ e l. x e (land_skip j h i k b.state so sa sb ∙ l)
+  lower h i k (to_point q) b c xs so sa sb x = x
+  lower h i k (to_failure q) b c xs so sa sb x = x
 
   -- one that isn't a jump is one anywhere
   across : (h h' : Here) (k k' : List Item) (z : Stop) (b : Trail Point) (c : Config) (xs : List (Met Point)) → ((j : Exit) → z ≢ by_jump j) → Fulfils h k (stopped z) b c xs →
@@ -271,25 +279,29 @@ module _ (may : State → State → Type 0) (keeps : KeepsWidth may) (P : Progra
       by k a (stopped z) b y = absurd y
 
   -- two trees, whose items stand above k
-  does_seq : (f : Frame) (n n' : ℕ) (i i' : Item) (g g' : Node) → ((k : List Item) → to_turn (i' ∷ k) ≡ to_turn k) → ((k : List Item) → to_mark (i' ∷ k) ≡ to_mark k)
+  does_seq : (f : Frame) (n n' : ℕ) (i i' : Item) (g g' : Node) → ((k : List Item) → to_outside (i' ∷ k) ≡ to_outside k)
+      → ((k : List Item) → to_turn (i' ∷ k) ≡ to_turn k) → ((k : List Item) → to_mark (i' ∷ k) ≡ to_mark k)
       → Length (point_at T) may keeps f n n' g → Does f n i g → Does f n' i' g' → (k : List Item) (a : Trail Point) (u : Outcome) (b : Trail Point) → Matches f k → length a.state.store ≡ n
       → G (seq g g') a u b → Fulfils f.here k u b (config (i ∷ i' ∷ k) f.here a.state) a.met
-  does_seq f n n' i i' g g' sa sb len x y k a u b m l z = elim (seq_inv (point_at T) may g g' a u b z) as (λ _. Fulfils f.here k u b (config (i ∷ i' ∷ k) f.here a.state) a.met) [
-    | inl w ↦ rw w.1 (lower f.here i' k w.0 b (config (i ∷ i' ∷ k) f.here a.state) a.met (sa k) (sb k) (x.runs (i' ∷ k) a (stopped w.0) b m' l w.2))
-    | inr w ↦ later f.here k u b (config (i ∷ i' ∷ k) f.here a.state) (config (i' ∷ k) f.here w.0.state) a.met w.0.met (x.runs (i' ∷ k) a to_end w.0 m' l w.1)
-        (y.runs k w.0 u b m (len.ends a w.0 to_end l w.1) w.2)
-  ]
+  does_seq f n n' i i' g g' so sa sb len x y k a u b m l z = elim (seq_inv (point_at T) may g g' a u b z) as
+      (λ _. Fulfils f.here k u b (config (i ∷ i' ∷ k) f.here a.state) a.met) [
+        | inl w ↦ rw w.1 (lower f.here i' k w.0 b (config (i ∷ i' ∷ k) f.here a.state) a.met (so k) (sa k) (sb k) (x.runs (i' ∷ k) a (stopped w.0) b m' l w.2))
+        | inr w ↦ later f.here k u b (config (i ∷ i' ∷ k) f.here a.state) (config (i' ∷ k) f.here w.0.state) a.met w.0.met (x.runs (i' ∷ k) a to_end w.0 m' l w.1)
+            (y.runs k w.0 u b m (len.ends a w.0 to_end l w.1) w.2)
+      ]
     where
       m' : Matches f (i' ∷ k)
-      m' = matches_skip f i' k (sa k) (sb k) m
+      m' = matches_skip f i' k (so k) (sa k) (sb k) m
 
   -- an item that takes one step to two others
   does_two : (f : Frame) (n n' : ℕ) (i j j' : Item) (g g' : Node) → ((k : List Item) → label_on (i ∷ k) ≡ None)
       → ((k : List Item) (s : State) → length s.store ≡ n → next P (config (i ∷ k) f.here s) ≡ Some (config (j ∷ j' ∷ k) f.here s))
-      → ((k : List Item) → to_turn (j' ∷ k) ≡ to_turn k) → ((k : List Item) → to_mark (j' ∷ k) ≡ to_mark k) → Length (point_at T) may keeps f n n' g → Does f n j g → Does f n' j' g' →
+      → ((k : List Item) → to_outside (j' ∷ k) ≡ to_outside k) → ((k : List Item) → to_turn (j' ∷ k) ≡ to_turn k)
+      → ((k : List Item) → to_mark (j' ∷ k) ≡ to_mark k) → Length (point_at T) may keeps f n n' g → Does f n j g → Does f n' j' g' →
       Does f n i (seq g g')
-  does_two f n n' i j j' g g' lab nx sa sb len x y = does_plain f n i (seq g g') lab (record {
-    runs = λ k a u b m l z. pends f.here (i ∷ k) k u a b (config (j ∷ j' ∷ k) f.here a.state) (nx k a.state l) (does_seq f n n' j j' g g' sa sb len x y k a u b m l z);
+  does_two f n n' i j j' g g' lab nx so sa sb len x y = does_plain f n i (seq g g') lab (record {
+    runs = λ k a u b m l z. pends f.here (i ∷ k) k u a b (config (j ∷ j' ∷ k) f.here a.state) (nx k a.state l)
+        (does_seq f n n' j j' g g' so sa sb len x y k a u b m l z);
   })
 
   follows_if : (spot : Spot) (at : ℕ) (c : Cond) (s s' : Stmt) (g h : Node) → Does spot.frame spot.live (run s) g → Does spot.frame spot.live (run s') h →
@@ -347,7 +359,7 @@ module _ (may : State → State → Type 0) (keeps : KeepsWidth may) (P : Progra
 
       matches : (k : List Item) → Matches (callee spot.frame spot.live (inner fn x) c)
           (end_of fn.end (spot.live + width fn) ∷ mark (record { receiver = inner fn x; here = spot.frame.here; length = spot.live }) ∷ k)
-      matches k = record { loops = λ m z. absurd (none-some m z); backs = refl }
+      matches k = record { breaks = λ m z. absurd (none-some m z); continues = λ m z. absurd (none-some m z); backs = refl }
 
       enters : (k : List Item) (a w : Trail Point) → length a.state.store ≡ spot.live → Performs (push spot.frame.here.base (given fn c)) a w
           → do_rvalue P x (result c) k spot.frame.here a.state ≡ Some (config (all fn.body ∷ call_behind spot fn x k)
@@ -436,10 +448,10 @@ module _ (may : State → State → Type 0) (keeps : KeepsWidth may) (P : Progra
         (go_by_false (run s ∷ turn step (loop at c s step) (length m.state.store) ∷ k) k spot.frame.here m.state (truth_of c (scene_at spot.frame.here.base m.state) m.state.draws) w.state o.0))
 
     in_body : (k : List Item) → Matches spot.frame k → Matches (in_loop spot.frame (Some spot.live)) (behind k)
-    in_body k m = record { loops = λ w z. z; backs = m.backs }
+    in_body k m = record { breaks = λ w z. z; continues = λ w z. z; backs = m.backs }
 
     in_step : (k : List Item) → Matches spot.frame k → Matches (in_loop spot.frame None) (L ∷ k)
-    in_step k m = record { loops = λ w z. absurd (none-some w z); backs = m.backs }
+    in_step k m = record { breaks = λ w z. absurd (none-some w z); continues = λ w z. absurd (none-some w z); backs = m.backs }
 
     -- from the body's end to the step
     turns : (k : List Item) (w mid : Trail Point) → RunsTo (config (run s ∷ behind k) spot.frame.here w.state) w.met (config (behind k) spot.frame.here mid.state) mid.met
@@ -519,16 +531,18 @@ module _ (may : State → State → Type 0) (keeps : KeepsWidth may) (P : Progra
           (last_round k m r.1 u b (rounds_length (point_at T) may keeps spot.frame spot.live g h body_length step_length spot.next spot.frame.here.base c r.0 a r.1 l r.2) r.3);
     }
 
-  follows_break : (spot : Spot) (at m : ℕ) → spot.frame.loop ≡ Some m → Follows spot.frame spot.live (run (break at)) (seq (act spot.next (keep m)) (leave spot.live broken))
+  follows_break : (spot : Spot) (at m : ℕ) → spot.frame.breaks ≡ Some m
+      → Follows spot.frame spot.live (run (break at)) (seq (act spot.next (keep m)) (leave spot.live broken))
   follows_break spot at m i = record {
     runs = λ k a u b mm l y. let x = jump_inv (point_at T) may spot.next (keep m) spot.live broken a u b y in
-        rw x.0 (λ e z. (e, break_step (to_turn k) m spot.frame.here a.state b.state e (mm.loops m i) x.1.0 z, (0, (refl, sym x.1.1))));
+        rw x.0 (λ e z. (e, break_step (to_outside k) m spot.frame.here a.state b.state e (mm.breaks m i) x.1.0 z, (0, (refl, sym x.1.1))));
   }
 
-  follows_continue : (spot : Spot) (at m : ℕ) → spot.frame.loop ≡ Some m → Follows spot.frame spot.live (run (continue at)) (seq (act spot.next (keep m)) (leave spot.live continued))
+  follows_continue : (spot : Spot) (at m : ℕ) → spot.frame.continues ≡ Some m
+      → Follows spot.frame spot.live (run (continue at)) (seq (act spot.next (keep m)) (leave spot.live continued))
   follows_continue spot at m i = record {
     runs = λ k a u b mm l y. let x = jump_inv (point_at T) may spot.next (keep m) spot.live continued a u b y in
-        rw x.0 (λ e z. (e, continue_step (to_turn k) m spot.frame.here a.state b.state e (mm.loops m i) x.1.0 z, (0, (refl, sym x.1.1))));
+        rw x.0 (λ e z. (e, continue_step (to_turn k) m spot.frame.here a.state b.state e (mm.continues m i) x.1.0 z, (0, (refl, sym x.1.1))));
   }
 
   -- a return that gives its value, or any
@@ -555,7 +569,7 @@ module _ (may : State → State → Type 0) (keeps : KeepsWidth may) (P : Progra
         (λ _. Pends spot.frame.here (run (return at (Some (result v))) ∷ k) k u a b) [
           | inl w ↦ let q = y.runs (leave_call ∷ k) a (stopped w.0) b l w.2 in
               rw w.1 (pends spot.frame.here (run (return at (Some (result v))) ∷ k) k (stopped w.0) a b q.0 (starts k a.state q.0 (mm.backs ∙ is) q.1)
-              (lower spot.frame.here leave_call k w.0 b q.0 a.met refl refl q.2))
+              (lower spot.frame.here leave_call k w.0 b q.0 a.met refl refl refl q.2))
           | inr w ↦ let q = y.runs (leave_call ∷ k) a to_end w.0 l w.1 in
               let x = jump_inv (point_at T) may spot.next (keep r.length) spot.live returned w.0 u b w.2 in
               rw x.0 (λ e n. (
@@ -595,7 +609,7 @@ module _ (may : State → State → Type 0) (keeps : KeepsWidth may) (P : Progra
     runs = λ k a u b mm l z. elim (seq_inv (point_at T) may g (leave spot.live returned) a u b z) as (λ _. Pends spot.frame.here (run (return at (Some (result v))) ∷ k) k u a b) [
       | inl w ↦ let q = y.runs (leave_call ∷ k) a (stopped w.0) b l w.2 in
           rw w.1 (pends spot.frame.here (run (return at (Some (result v))) ∷ k) k (stopped w.0) a b q.0 (starts k a.state q.0 (mark_none (to_mark k) (mm.backs ∙ is)) q.1)
-          (lower spot.frame.here leave_call k w.0 b q.0 a.met refl refl q.2))
+          (lower spot.frame.here leave_call k w.0 b q.0 a.met refl refl refl q.2))
       | inr w ↦ let x = leave_inv (point_at T) may spot.live returned w.0 u b w.2 in
           rw x.0 (λ e n. absurd (no_landing (to_mark k) b.state e (mark_none (to_mark k) (mm.backs ∙ is)) n))
     ];
@@ -634,23 +648,94 @@ module _ (may : State → State → Type 0) (keeps : KeepsWidth may) (P : Progra
         (starts k a.state l)
         (elim (seq_inv (point_at T) may g (seq h (act spot.next (keep spot.live))) a u b z) as
         (λ _. Fulfils spot.frame.here k u b (config (all init ∷ run (loop at c s step) ∷ cut spot.live ∷ k) spot.frame.here a.state) a.met) [
-          | inl w ↦ rw w.1 (lower spot.frame.here (cut spot.live) k w.0 b _ a.met refl refl
-              (lower spot.frame.here (run (loop at c s step)) (cut spot.live ∷ k) w.0 b _ a.met refl refl (x.runs (run (loop at c s step) ∷ cut spot.live ∷ k) a (stopped w.0) b (deeper k mm) l w.2)))
+          | inl w ↦ rw w.1 (lower spot.frame.here (cut spot.live) k w.0 b _ a.met refl refl refl
+              (lower spot.frame.here (run (loop at c s step)) (cut spot.live ∷ k) w.0 b _ a.met refl refl refl
+              (x.runs (run (loop at c s step) ∷ cut spot.live ∷ k) a (stopped w.0) b (deeper k mm) l w.2)))
           | inr w ↦ later spot.frame.here k u b (config (all init ∷ run (loop at c s step) ∷ cut spot.live ∷ k) spot.frame.here a.state)
               (config (run (loop at c s step) ∷ cut spot.live ∷ k) spot.frame.here w.0.state)
               a.met w.0.met (x.runs (run (loop at c s step) ∷ cut spot.live ∷ k) a to_end w.0 (deeper k mm) l w.1)
-              (does_seq spot.frame n' n' (run (loop at c s step)) (cut spot.live) h (act spot.next (keep spot.live)) (λ k. refl) (λ k. refl) lh y (does_cut spot.frame n' spot.next spot.live) k
+              (does_seq spot.frame n' n' (run (loop at c s step)) (cut spot.live) h (act spot.next (keep spot.live)) (λ k. refl) (λ k. refl) (λ k. refl) lh y
+              (does_cut spot.frame n' spot.next spot.live) k
               w.0 u b mm
               (lg.ends a w.0 to_end l w.1) w.2)
         ]);
   })
     where
       deeper : (k : List Item) → Matches spot.frame k → Matches spot.frame (run (loop at c s step) ∷ cut spot.live ∷ k)
-      deeper k m = matches_skip spot.frame (run (loop at c s step)) (cut spot.live ∷ k) refl refl (matches_skip spot.frame (cut spot.live) k refl refl m)
+      deeper k m = matches_skip spot.frame (run (loop at c s step)) (cut spot.live ∷ k) refl refl refl
+          (matches_skip spot.frame (cut spot.live) k refl refl refl m)
 
       starts : (k : List Item) (t : State) → length t.store ≡ spot.live → next P (config (run (for at init c s step) ∷ k) spot.frame.here t) ≡
           Some (config (all init ∷ run (loop at c s step) ∷ cut spot.live ∷ k) spot.frame.here t)
       starts k t l = rw l refl
+
+  -- one step to another item
+  does_past : (f : Frame) (n : ℕ) (i j : Item) (g : Node) → ((k : List Item) → label_on (i ∷ k) ≡ None)
+      → ((k : List Item) (s : State) → next P (config (i ∷ k) f.here s) ≡ Some (config (j ∷ k) f.here s))
+      → Does f n j g → Does f n i g
+  does_past f n i j g lab nx x = does_plain f n i g lab
+      (record { runs = λ k a u b m l z. pends f.here (i ∷ k) k u a b (config (j ∷ k) f.here a.state) (nx k a.state) (x.runs k a u b m l z) })
+
+  does_by : (f : Frame) (n : ℕ) (t : Bool) (cs ds : Cases) (g h : Node) → Does f n (cases cs) g → Does f n (cases ds) h
+      → Does f n (cases (cond t cs ds)) (cond t g h)
+  does_by f n true cs ds g h x y = x
+  does_by f n false cs ds g h x y = y
+
+  -- a `switch`: the cases that its value chooses, above its end
+  module _ (spot : Spot) (at : ℕ) (e : Expr) (cs : Cases) (arms : Arms) (same : entries_of arms ≡ labels_of cs)
+      (inside : (l : CaseLabel) → Does (record spot.frame { breaks = Some spot.live }) spot.live (cases (behind_label l cs)) (row_behind l arms)) where
+    abbrev above_end : List Item → List Item
+    above_end k = end_switch spot.live ∷ k
+
+    among : (k : List Item) → Matches spot.frame k → Matches (record spot.frame { breaks = Some spot.live }) (above_end k)
+    among k m = record { breaks = λ w z. z; continues = m.continues; backs = m.backs }
+
+    abbrev chosen_config : List Item → CaseLabel → State → Config
+    chosen_config k l s = config (cases (behind_label l cs) ∷ above_end k) spot.frame.here s
+
+    -- the step to what is chosen
+    switch_step : (k : List Item) (a m : Trail Point) (l : CaseLabel) → length a.state.store ≡ spot.live → Finds spot.frame.here.base e arms a l m
+        → next_at P (run (switch at e cs) ∷ k) spot.frame.here a.state ≡ Some (chosen_config k l m.state)
+    switch_step k a m l n ((z, got, store, is), met) = rw (got, n, is, same, ← store) refl
+
+    follows_switch : Follows spot.frame spot.live (run (switch at e cs)) (switch_node spot.next spot.frame.here.base e arms)
+    follows_switch = record { runs = λ k a u b m l x. by k a u b m l x }
+      where
+        found : (k : List Item) (a w b : Trail Point) (l : CaseLabel) (u : Outcome) → Matches spot.frame k → length a.state.store ≡ spot.live
+            → Finds spot.frame.here.base e arms a l w
+            → ArmsGo (point_at T) may l false arms w u b → Fulfils spot.frame.here (above_end k) u b (chosen_config k l w.state) a.met
+        found k a w b l u m n f x = subst (λ xs. Fulfils spot.frame.here (above_end k) u b (chosen_config k l w.state) xs) f.1
+            ((inside l).runs (above_end k) w u b (among k m) (ap length f.0.2 ∙ n) (row_of_behind (point_at T) may l arms w u b x))
+
+        -- past the end of the `switch`
+        past_end : (k : List Item) (b : Trail Point) (c : Config) (xs : List (Met Point)) → RunsTo c xs (config (above_end k) spot.frame.here b.state) b.met
+            → RunsTo c xs (config k spot.frame.here b.state) b.met
+        past_end k b c xs r = join c (config (above_end k) spot.frame.here b.state) (config k spot.frame.here b.state) xs b.met b.met r
+            (step_plain (config (above_end k) spot.frame.here b.state) (config k spot.frame.here b.state) b.met refl refl)
+
+        by : (k : List Item) (a : Trail Point) (u : Outcome) (b : Trail Point) → Matches spot.frame k → length a.state.store ≡ spot.live
+            → G (switch_node spot.next spot.frame.here.base e arms) a u b → Pends spot.frame.here (run (switch at e cs) ∷ k) k u a b
+        by k a to_end b m n (inl (l, w, f, x)) = (
+          chosen_config k l w.state,
+          switch_step k a w l n f,
+          past_end k b (chosen_config k l w.state) a.met
+              (found k a w b l to_end m n f x),
+        )
+        by k a to_end b m n (inr (l, w, f, x)) = (
+          chosen_config k l w.state,
+          switch_step k a w l n f,
+          found k a w b l (stopped (by_jump broken)) m n f x
+              (config k spot.frame.here b.state) refl,
+        )
+        by k a (stopped (by_jump broken)) b m n (d, x) = absurd (d refl)
+        by k a (stopped (by_jump continued)) b m n (d, (l, w, f, x)) = λ c i.
+            (chosen_config k l w.state, switch_step k a w l n f, found k a w b l (stopped (by_jump continued)) m n f x c i)
+        by k a (stopped (by_jump returned)) b m n (d, (l, w, f, x)) = λ c i.
+            (chosen_config k l w.state, switch_step k a w l n f, found k a w b l (stopped (by_jump returned)) m n f x c i)
+        by k a (stopped (to_point q)) b m n (d, (l, w, f, x)) =
+            (chosen_config k l w.state, switch_step k a w l n f, found k a w b l (stopped (to_point q)) m n f x)
+        by k a (stopped (to_failure q)) b m n (d, (l, w, f, x)) =
+            (chosen_config k l w.state, switch_step k a w l n f, found k a w b l (stopped (to_failure q)) m n f x)
 
   -- a block's end
   does_end : (spot : Spot) (n at : ℕ) → Has T spot at → Does spot.frame spot.live (end_of at n) (seq (point spot.next) (act spot.next (keep n)))
@@ -661,7 +746,7 @@ module _ (may : State → State → Type 0) (keeps : KeepsWidth may) (P : Progra
     does_one (as_nothing {s = spot} {at = at} i) = does_nothing spot at i
     does_one (as_block {s = spot} {body = body} {end = end} {g = g} {n = n'} {q = q'} d i) =
         does_two spot.frame spot.live n' (run (block body end)) (all body) (end_of end spot.live) g (seq (point q') (act q' (keep spot.live))) (λ k. refl)
-        (λ k s l. rw l refl) (λ k. refl) (λ k. refl) (length_all (point_at T) may keeps d) (does_all d) (does_end (move spot n' q') spot.live end i)
+        (λ k s l. rw l refl) (λ k. refl) (λ k. refl) (λ k. refl) (length_all (point_at T) may keeps d) (does_all d) (does_end (move spot n' q') spot.live end i)
     does_one (as_absent {s = spot}) = does_plain spot.frame spot.live (run absent) empty (λ k. refl) (follows_empty spot.frame spot.live (run absent) (λ k s. refl))
     does_one (as_assign {s = spot} {at = at} {x = x} {e = e} {g = g} i d) = does_point spot at (run (assign at x e)) g i (λ k. refl)
         (follows_rvalue spot (assign at x e) (variable_at (index_of spot.frame.here.base x.slot) x.number_type) e g (λ k s l. refl) (does_gives d))
@@ -697,15 +782,38 @@ module _ (may : State → State → Type 0) (keeps : KeepsWidth may) (P : Progra
     does_one (as_assert {s = spot} {at = at} {c = c} i) = does_assert spot at c i
     does_one (as_assume {s = spot} {at = at} {c = c} i) = does_point spot at (run (assume at c)) (act spot.next (test spot.frame.here.base c true)) i
         (λ k. refl) (follows_act spot.frame spot.live spot.next (test spot.frame.here.base c true) (run (assume at c)) (λ k s. refl))
+    does_one (as_switch {s = spot} {at = at} {e = e} {cs = cs} {arms = arms} i d) = does_point spot at (run (switch at e cs))
+        (switch_node spot.next spot.frame.here.base e arms) i (λ k. refl)
+        (follows_switch spot at e cs arms (entries_are d) (λ l. does_behind d l))
+
+    -- what runs behind a label
+    pub does_cases : {spot : Spot} {cs : Cases} {arms : Arms} {q : ℕ} → InlCases P T spot cs arms q → Does spot.frame spot.live (cases cs) (arms_row arms)
+    does_cases (as_no_cases {s = spot}) = does_plain spot.frame spot.live (cases no_cases) empty (λ k. refl)
+        (follows_empty spot.frame spot.live (cases no_cases) (λ k s. refl))
+    does_cases (as_labelled {s = spot} {l = l} {cs = cs} {arms = arms} d) = does_past spot.frame spot.live (cases (labelled l cs)) (cases cs) (arms_row arms)
+        (λ k. refl) (λ k s. refl) (does_cases d)
+    does_cases (as_stated {s = spot} {a = s} {cs = cs} {g = g} {arms = arms} d e) =
+        does_two spot.frame spot.live spot.live (cases (stated s cs)) (run s) (cases cs) g (arms_row arms) (λ k. refl) (λ k s l. refl) (λ k. refl)
+        (λ k. refl) (λ k. refl)
+        (length_one (point_at T) may keeps d) (does_one d) (does_cases e)
+
+    pub does_behind : {spot : Spot} {cs : Cases} {arms : Arms} {q : ℕ} → InlCases P T spot cs arms q → (l : CaseLabel)
+        → Does spot.frame spot.live (cases (behind_label l cs)) (row_behind l arms)
+    does_behind (as_no_cases {s = spot}) l = does_plain spot.frame spot.live (cases no_cases) empty (λ k. refl)
+        (follows_empty spot.frame spot.live (cases no_cases) (λ k s. refl))
+    does_behind (as_labelled {s = spot} {l = m} {cs = cs} {arms = arms} d) l = does_by spot.frame spot.live (are_alike l m) cs (behind_label l cs)
+        (arms_row arms) (row_behind l arms) (does_cases d) (does_behind d l)
+    does_behind (as_stated d e) l = does_behind e l
 
     pub does_all : {spot : Spot} {b : BlockItems} {g : Node} {n q : ℕ} → InlAll P T spot b g n q → Does spot.frame spot.live (all b) g
     does_all (as_none {s = spot}) = does_plain spot.frame spot.live (all no_more) empty (λ k. refl) (follows_empty spot.frame spot.live (all no_more) (λ k s. refl))
     does_all (as_declaration {s = spot} {d = d} {b = b} {g = g} {h = h} i j e) =
         does_two spot.frame spot.live (suc spot.live) (all (declaration d b)) (declare d) (all b) (seq (point spot.next) g) h (λ k. refl) (λ k s l. refl) (λ k. refl)
-        (λ k. refl) (length_declarator (point_at T) may keeps j)
+        (λ k. refl) (λ k. refl) (length_declarator (point_at T) may keeps j)
         (does_point spot d.label (declare d) g i (λ k. refl) (does_declares d j refl)) (does_all e)
     does_all (as_statement {s = spot} {a = s} {b = b} {g = g} {h = h} d e) =
-        does_two spot.frame spot.live spot.live (all (statement s b)) (run s) (all b) g h (λ k. refl) (λ k s l. refl) (λ k. refl) (λ k. refl) (length_one (point_at T) may keeps d)
+        does_two spot.frame spot.live spot.live (all (statement s b)) (run s) (all b) g h (λ k. refl) (λ k s l. refl) (λ k. refl) (λ k. refl) (λ k. refl)
+        (length_one (point_at T) may keeps d)
         (does_one d) (does_all e)
 
     pub does_declares : {spot : Spot} {r : ℕ} {o : Option Rvalue} {g : Node} {q : ℕ} (d : Declarator) → Declares P T spot r d.number_type o g q → d.rvalue ≡ o

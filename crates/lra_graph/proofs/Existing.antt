@@ -3,29 +3,31 @@ use Rattle.std.proofs.Common.{◌≡◌, ℕ, zero, suc, ◌+◌, ◌≤◌, Lis
 use Rattle.std.specs.Prelude.{nat_lt}
 use Rattle.std.proofs.lemmas.Option.{none-some}
 use Rattle.lra_program.specs.Program.{Call, Rvalue, value, result, Stmt, absent, nothing, block, assign, call, if, loop, for, break, continue, return, assert, assume, BlockItems, no_more, declaration}
-use Rattle.lra_program.specs.Program.{statement, Program}
+use Rattle.lra_program.specs.Program.{statement, switch, Cases, no_cases, labelled, stated, Program}
 use Rattle.lra_program.specs.Value.{index_of}
 use Rattle.lra_program.specs.Step.{append, give, give_any, keep, arguments_for}
 use Rattle.lra_base.specs.declared.number_types.NumberType.{NumberType}
 use Rattle.lra_program.specs.declared.receivers.Receiver.{Receiver}
 use Rattle.lra_program.specs.Receivers.{variable_at, nobody, behind_result}
-use Rattle.lra_operations.specs.Graph.{returned, Node, empty, point, act, seq, choose, leave}
+use Rattle.lra_operations.specs.Graph.{returned, Node, empty, point, act, seq, choose, leave, Arms, no_arms, entry, arm}
 use Rattle.lra_tree.specs.Labels.{Labelled}
-use Rattle.lra_program.specs.Sites.{Site, Event, comes, one_call_more, plain_site, live_behind, rvalue_events, given_events, stmt_events, items_events, function_events, call_events, events_of}
-use Rattle.lra_operations.specs.Inlined.{return_node, call_node, loop_node}
+use Rattle.lra_program.specs.Sites.{Site, Event, comes, one_call_more, plain_site, live_behind, rvalue_events, given_events, stmt_events, cases_events, items_events, function_events, call_events, events_of}
+use Rattle.lra_operations.specs.Inlined.{return_node, call_node, loop_node, switch_node}
 use Rattle.lra_operations.specs.Agree.{IsGraph}
 use Rattle.lra_program.specs.WellFormed.{IsWellFormed}
 use Rattle.lra_meaning.specs.Refuse.{greatest_live, greatest_points, limit_fault}
 use Rattle.lra_graph.specs.declared.points.Limit.TheVariants.{Variables, Points, Calls}
 use Rattle.lra_graph.specs.declared.frame.Frame.{Frame}
 use Rattle.lra_graph.specs.Limits.{Progress, passed, stopped, walk}
-use Rattle.lra_graph.specs.Building.{inside, StmtStands, ItemsStand, GivenStands, CallStands, WritesStmt, WritesItems, WritesRvalue, WritesDeclared}
+use Rattle.lra_graph.specs.Building.{inside, StmtStands, CasesStand, ItemsStand, GivenStands, CallStands, cases_frame, WritesStmt, WritesCases, WritesItems, WritesRvalue, WritesDeclared}
 use Rattle.lra_graph.proofs.Walking.{not_passed, passed_same, chosen_then, chosen_passed}
 use Rattle.lra_graph.proofs.Writing.{absent_written, nothing_written, block_written, assign_written, call_written, if_written, rounds_written, loop_written, break_written, continue_written}
 use Rattle.lra_graph.proofs.Writing.{assert_written, assume_written, for_written, return_written, return_any_written, return_value_written, return_call_written, end_any_written, end_value_written}
+use Rattle.lra_graph.proofs.Writing.{no_cases_written, labelled_written, stated_written, switch_written}
 use Rattle.lra_graph.proofs.Writing.{WritesReturn, end_call_written, none_written, statement_written, declaration_written, fresh_written, given_written, value_written}
 use Rattle.lra_graph.proofs.Calling.{no_call_more, invoked}
 use Rattle.lra_graph.proofs.Standing.{block_stands, assign_stands, call_stands, true_stands, false_stands, return_stands, first_stands, others_stand, result_stands, declared_stands, behind_stand}
+use Rattle.lra_graph.proofs.Standing.{switch_stands, labelled_stand, first_case_stands, other_cases_stand}
 use Rattle.lra_graph.proofs.Standing.{body_stands, step_stands, init_stands, for_again, callee_stands, main_stands, the_callee, break_stands, continue_stands}
 use Rattle.lra_graph.proofs.Totals.{fault_in, walk_fault, first_frame, events_are, whole_graph}
 
@@ -143,8 +145,8 @@ module _ (P : Program) where
       stmt (loop at c s t) path r S U left stands w =
           let (V, a, e) = walk_parts S (plain_site path at r.live ∷ []) (stmt_events (inside P path r) path r.live t ++ stmt_events (inside P path r) path r.live s) U w in
           let (W, b, d) = walk_parts V (stmt_events (inside P path r) path r.live t) (stmt_events (inside P path r) path r.live s) U e in
-          let (h, x) = stmt t path (record r { loop_length = None }) V W left (step_stands P r at c s t stands) b in
-          let (h', y) = stmt s path (record r { loop_length = Some r.live }) W U left (body_stands P r at c s t stands) d in
+          let (h, x) = stmt t path (record r { breaks = None; continues = None }) V W left (step_stands P r at c s t stands) b in
+          let (h', y) = stmt s path (record r { breaks = Some r.live; continues = Some r.live }) W U left (body_stands P r at c s t stands) d in
           let rounds = loop_node (length S) r.base c h' h in
           (rounds, loop_written P path r S V U (length S) at c s t rounds refl a (rounds_written P path r V W U (length S) c s t h' h rounds x y refl))
       stmt (for at init c s t) path r S U left stands w =
@@ -157,8 +159,9 @@ module _ (P : Program) where
           let (W, b, i) = walk_parts V begin turns X c' in
           let (k, z) = items init path r V W left (init_stands P r at init c s t stands) b in
           let inner = for_again P r at init c s t n refl stands in
-          let (h, x) = stmt t path (record r { live = n; loop_length = None }) W X left (step_stands P (record r { live = n }) at c s t inner) i in
-          let (h', y) = stmt s path (record r { live = n; loop_length = Some n }) X U left (body_stands P (record r { live = n }) at c s t inner) j in
+          let (h, x) = stmt t path (record r { live = n; breaks = None; continues = None }) W X left (step_stands P (record r { live = n }) at c s t inner) i in
+          let (h', y) = stmt s path (record r { live = n; breaks = Some n; continues = Some n }) X U left
+          (body_stands P (record r { live = n }) at c s t inner) j in
           let rounds = loop_node (length S) r.base c h' h in
           let tail = seq rounds (act (length S) (keep r.live)) in (
             seq k tail,
@@ -167,16 +170,34 @@ module _ (P : Program) where
           )
       stmt (break at) path r S U left stands w =
           let (m, is) = break_stands P r at stands in
-          (_, break_written P path r S U (length S) at m _ _ refl w is (stands.loop_low m is) refl refl)
+          (_, break_written P path r S U (length S) at m _ _ refl w is (stands.break_low m is) refl refl)
       stmt (continue at) path r S U left stands w =
           let (m, is) = continue_stands P r at stands in
-          (_, continue_written P path r S U (length S) at m _ _ refl w is (stands.loop_low m is) refl refl)
+          (_, continue_written P path r S U (length S) at m _ _ refl w is (stands.continue_low m is) refl refl)
       stmt (return at o) path r S U left stands w =
           let (V, a, e) = walk_parts S (plain_site path at r.live ∷ []) (given_events (inside P path r) path r.live o) U w in
           let (h, y) = returned_by r.back o path r (length S) V U refl stands.back_low left (return_stands P r at o stands) e in
           (seq (point (length S)) h, return_written P path r S V U (length S) at o h (seq (point (length S)) h) refl a y refl)
       stmt (assert at c) path r S U left stands w = (_, assert_written P path r S U (length S) at c _ refl w refl)
       stmt (assume at c) path r S U left stands w = (_, assume_written P path r S U (length S) at c _ refl w refl)
+      stmt (switch at e cs) path r S U left stands w =
+          let (V, a, f) = walk_parts S (plain_site path at r.live ∷ []) (cases_events (inside P path r) path r.live cs) U w in
+          let (arms, y) = cases cs path (cases_frame r) V U left (switch_stands P r at e cs stands) f in
+          let g = seq (point (length S)) (switch_node (length S) r.base e arms) in
+          (g, switch_written P path r S V U (length S) at e cs arms g refl a y refl)
+
+      cases : (cs : Cases) (path : List ℕ) (r : Frame) (S U : List Site) → r.calls_left ≡ more → CasesStand P r cs
+          → walk S (cases_events (inside P path r) path r.live cs) ≡ passed U → (arms : Arms) × WritesCases P path r S cs arms U
+      cases no_cases path r S U left stands w =
+          (no_arms, subst (λ V. WritesCases P path r S no_cases no_arms V) (passed_same S U w) (no_cases_written P path r S))
+      cases (labelled l cs) path r S U left stands w =
+          let (arms, x) = cases cs path r S U left (labelled_stand P r l cs stands) w in
+          (entry l arms, labelled_written P path r S U l cs arms x)
+      cases (stated s cs) path r S U left stands w =
+          let (V, a, e) = walk_parts S (stmt_events (inside P path r) path r.live s) (cases_events (inside P path r) path r.live cs) U w in
+          let (h, x) = stmt s path r S V left (first_case_stands P r s cs stands) a in
+          let (arms, y) = cases cs path r V U left (other_cases_stand P r s cs stands) e in
+          (arm h arms, stated_written P path r S V U s cs h arms x y)
 
       items : (b : BlockItems) (path : List ℕ) (r : Frame) (S U : List Site) → r.calls_left ≡ more → ItemsStand P r b
           → walk S (items_events (inside P path r) path r.live b) ≡ passed U → (g : Node) × WritesItems P path r S b g U
@@ -210,7 +231,8 @@ module _ (P : Program) where
           base = r.live;
           live = r.live + length fn.parameters;
           calls_left = more;
-          loop_length = None;
+          breaks = None;
+          continues = None;
           receiver = behind_result
               fn.result_type x;
           back = Some r.live;
@@ -228,7 +250,7 @@ module _ (P : Program) where
         let n = live_behind (length P.globals) P.main.body in
         let (V, a, e) = walk_parts [] (items_events (call_events P 32) [] (length P.globals) P.main.body) (plain_site [] P.main.end n ∷ []) U
         (subst (λ es. walk [] es ≡ passed U) (sym (events_are P well.alone)) w) in
-        let (h, y) = items 32 (have_calls 32) P.main.body [] (first_frame P) [] V refl (main_stands P (first_frame P) well (omega arith) refl refl) a in
+        let (h, y) = items 32 (have_calls 32) P.main.body [] (first_frame P) [] V refl (main_stands P (first_frame P) well (omega arith) refl refl refl) a in
         (seq h (point (length V)), whole_graph P well.alone V U h (seq h (point (length V))) (length V) y e refl refl)
 
     walked_graph : (p : Progress) → walk [] (events_of P) ≡ p → (ls : List Labelled) → limit_fault ls 0 (events_of P) ≡ None → (g : Node) × IsGraph P g

@@ -1,19 +1,30 @@
 -- Trees of operations of sources, derived case by case.
-use Rattle.std.proofs.Common.{ℕ, [], ◌∷◌, Some, refl, arith}
+use Rattle.std.proofs.Common.{ℕ, pos, ◌≤◌, [], ◌∷◌, Some, None, refl, arith}
 use Rattle.std.specs.Prelude.{codes}
 use Rattle.lra_meaning.specs.Resolve.{resolve}
 use Rattle.lra_program.specs.Sites.{sites_of}
-use Rattle.lra_operations.specs.Graph.{Node, returned, empty, point, act, seq, choose, catch, leave}
+use Rattle.lra_operations.specs.Graph.{Node, broken, continued, returned, empty, point, act, seq, choose, catch, leave, no_arms, entry, arm}
 use Rattle.lra_program.specs.Step.{append, give, give_any, push, keep}
 use Rattle.lra_base.specs.declared.number_types.NumberType.TheVariants.{Int, Long}
+use Rattle.lra_base.specs.declared.case_labels.CaseLabel.TheVariants.{Case, Default}
 use Rattle.lra_program.specs.Value.{Argument}
 use Rattle.lra_program.specs.Receivers.{variable_at}
-use Rattle.lra_operations.specs.Inlined.{InlAll, as_absent, as_if, as_declaration, as_given, as_assign, as_assert, as_return_value, as_none, as_statement, as_value, as_result, main_spot}
+use Rattle.lra_operations.specs.Inlined.{InlAll, loop_node, switch_node, as_absent, as_block, as_if, as_loop, is_loop, as_break}
+use Rattle.lra_operations.specs.Inlined.{as_continue, as_switch, as_no_cases, as_labelled, as_stated, as_declaration, as_fresh, as_given, as_assign}
+use Rattle.lra_operations.specs.Inlined.{as_assert, as_return_value, as_none, as_statement, as_value, as_result, main_spot}
 use Rattle.lra_program.specs.Program as program
 use Rattle.lra_tree.specs.Trees.{FileTree, function, statement, declaration, no_items, if_only, return, value, expression, result}
-use Rattle.lra_tree.proofs.TreeSamples.{at, x_at, name_at, number, use_of, tested, call_of, declared_as, long_parameter, function_of, main_function}
+use Rattle.lra_tree.specs.Trees.{block, while, break, continue, switch, no_cases, labelled, stated}
+use Rattle.lra_tree.proofs.TreeSamples.{at, x_at, name_at, number, use_of, tested, call_of, declared_as, long_parameter, function_of, main_function, main_of}
 use Rattle.lra_tree.proofs.TreeSamples.{called_twice}
 use Rattle.lra_program.proofs.RunExamples as run
+
+-- the length to which a store is cut is at most that from which it is cut
+pub one_of_two : 1 ≤ 2
+one_of_two = omega arith
+
+two_of_two : 2 ≤ 2
+two_of_two = omega arith
 
 -- its tree is derived, one case for each statement
 unfoldable pub called_twice_graph : (g : Node) × InlAll (resolve called_twice) (sites_of (resolve called_twice)) (main_spot (resolve called_twice))
@@ -23,10 +34,10 @@ called_twice_graph = (
   as_declaration refl
       (as_given (as_result {fn = run.inc} refl refl
       (as_statement (as_assign refl as_value)
-      (as_statement (as_return_value refl (omega arith) refl) as_none)) refl))
+      (as_statement (as_return_value refl one_of_two refl) as_none)) refl))
       (as_statement (as_assign refl (as_result {fn = run.inc} refl refl
       (as_statement (as_assign refl as_value)
-      (as_statement (as_return_value refl (omega arith) refl) as_none)) refl))
+      (as_statement (as_return_value refl one_of_two refl) as_none)) refl))
       (as_statement (as_assert refl) as_none)),
 )
 
@@ -58,6 +69,30 @@ two_returns_graph : InlAll (resolve two_returns) (sites_of (resolve two_returns)
 two_returns_graph =
     as_declaration refl
     (as_given (as_result {fn = (record { result_type = Some Long; parameters = Long ∷ []; body = _; end = 4 })} refl refl
-    (as_statement (as_if refl (as_return_value refl (omega arith) refl) as_absent)
-    (as_statement (as_return_value refl (omega arith) refl) as_none)) refl))
+    (as_statement (as_if refl (as_return_value refl one_of_two refl) as_absent)
+    (as_statement (as_return_value refl one_of_two refl) as_none)) refl))
     as_none
+
+-- int main(void){ long x; while(x){ long y; switch(x){ case 1: continue; default: break; } } }
+abbrev jumps_apart : FileTree
+jumps_apart = main_of (declaration (declared_as (x_at 22) None) (statement (while (at 25) (tested (value (use_of (x_at 31))))
+    (block (declaration (declared_as (name_at (codes "y") 40) None) (statement (switch (at 43) (use_of (x_at 50))
+    (labelled (record { label = Case (pos 1); place = at 59 }) (stated (continue (at 62))
+    (labelled (record { label = Default; place = at 72 }) (stated (break (at 81)) no_cases))))) no_items)) (at 90))) no_items)) 92
+
+abbrev x_read : program.Expr
+x_read = program.read (run.long_variable (program.local 0))
+
+-- labels have no points; `continue` cuts the store to the loop's length, `break` to the `switch`'s: catches the one for the other
+jumps_apart_graph : InlAll (resolve jumps_apart) (sites_of (resolve jumps_apart)) (main_spot (resolve jumps_apart)) (resolve jumps_apart).main.body
+    (seq (seq (point 0) (act 0 (append Long))) (seq (loop_node 1 0 (program.nonzero x_read)
+    (seq (seq (seq (point 2) (act 2 (append Long))) (seq (seq (point 3) (switch_node 3 0 x_read
+    (entry (Case (pos 1)) (arm (seq (point 4) (seq (act 4 (keep 1)) (leave 2 continued)))
+    (entry Default (arm (seq (point 5) (seq (act 5 (keep 2)) (leave 2 broken))) no_arms)))))) empty))
+    (seq (point 6) (act 6 (keep 1)))) empty) empty)) 1 7
+jumps_apart_graph =
+    as_declaration refl as_fresh
+    (as_statement (as_loop (is_loop refl as_absent (as_block
+    (as_declaration refl as_fresh (as_statement (as_switch refl
+    (as_labelled (as_stated (as_continue refl one_of_two refl) (as_labelled (as_stated (as_break refl two_of_two refl) as_no_cases))))) as_none)) refl)))
+    as_none)

@@ -27,12 +27,14 @@ module _ (P : Program) (path : List ℕ) (r : Frame) (S : List Site) where
       pub stmt_handed : (s s' : Stmt) → s ≡ s' → IfOk b (λ g. WritesStmt P path r S s' (view g) U) → IfOk b (λ g. WritesStmt P path r S s (view g) U)
       stmt_handed s s' e h = subst (λ z. IfOk b (λ g. WritesStmt P path r S z (view g) U)) (sym e) h
 
-      pub break_handed : (s : Stmt) (at : ℕ) → s ≡ break at → ((m : ℕ) → r.loop_length ≡ Some m → m ≤ r.live) → IfOk b (λ g. LeavesLoop path r S at broken (view g) U)
+      pub break_handed : (s : Stmt) (at : ℕ) → s ≡ break at → ((m : ℕ) → r.breaks ≡ Some m → m ≤ r.live)
+          → IfOk b (λ g. LeavesLoop path r S at broken (view g) U)
           → IfOk b (λ g. WritesStmt P path r S s (view g) U)
       break_handed s at e low h = stmt_handed s (break at) e
           (ok_through b (λ g. LeavesLoop path r S at broken (view g) U) (λ g. WritesStmt P path r S (break at) (view g) U) (λ g x. x P not_broken low) h)
 
-      pub continue_handed : (s : Stmt) (at : ℕ) → s ≡ continue at → ((m : ℕ) → r.loop_length ≡ Some m → m ≤ r.live) → IfOk b (λ g. LeavesLoop path r S at continued (view g) U)
+      pub continue_handed : (s : Stmt) (at : ℕ) → s ≡ continue at → ((m : ℕ) → r.continues ≡ Some m → m ≤ r.live)
+          → IfOk b (λ g. LeavesLoop path r S at continued (view g) U)
           → IfOk b (λ g. WritesStmt P path r S s (view g) U)
       continue_handed s at e low h = stmt_handed s (continue at) e (ok_through b (λ g. LeavesLoop path r S at continued (view g) U) (λ g. WritesStmt P path r S (continue at) (view g) U)
           (λ g x. x P not_continued low) h)

@@ -2,14 +2,14 @@
 use Rattle.std.proofs.Common.{◌≡◌, ℕ, List, ◌∷◌, Option, Some, None, Bool, true, false, ◌⊎◌, inl, inr, refl, sym, ap}
 use Rattle.std.proofs.lemmas.Option.{same_Some, none-some}
 use Rattle.lra_program.specs.Value.{Drawn}
-use Rattle.lra_program.specs.Step.{State, tested, Here, Back, Item, turn, Config, Turn, to_turn, Called, to_mark, go, go_by, go_on}
+use Rattle.lra_program.specs.Step.{State, tested, Here, Back, Item, turn, Config, Outside, to_outside, Turn, to_turn, Called, to_mark, go, go_by, go_on}
 use Rattle.lra_operations.specs.Graph.{Exit, broken, continued, returned}
 use Rattle.lra_operations.specs.Inlined.{Frame}
 
 abbrev pub config : List Item → Here → State → Config
 config k h s = record { items = k; here = h; state = s }
 
-abbrev pub land_broken : Option Turn → Here → State → Option Config
+abbrev pub land_broken : Option Outside → Here → State → Option Config
 land_broken None h s = None
 land_broken (Some t) h s = Some (config t.rest h s)
 
@@ -23,14 +23,20 @@ land_returned (Some r) s = Some (config r.rest r.back.here s)
 
 -- where a jump leads from above these items
 abbrev pub land : Exit → Here → List Item → State → Option Config
-land broken h k s = land_broken (to_turn k) h s
+land broken h k s = land_broken (to_outside k) h s
 land continued h k s = land_continued (to_turn k) h s
 land returned h k s = land_returned (to_mark k) s
 
-pub land_skip : (j : Exit) (h : Here) (i : Item) (k : List Item) (s : State) → to_turn (i ∷ k) ≡ to_turn k → to_mark (i ∷ k) ≡ to_mark k → land j h (i ∷ k) s ≡ land j h k s
-land_skip broken h i k s e f = rw e refl
-land_skip continued h i k s e f = rw e refl
-land_skip returned h i k s e f = rw f refl
+pub land_skip : (j : Exit) (h : Here) (i : Item) (k : List Item) (s : State) → to_outside (i ∷ k) ≡ to_outside k → to_turn (i ∷ k) ≡ to_turn k
+    → to_mark (i ∷ k) ≡ to_mark k
+    → land j h (i ∷ k) s ≡ land j h k s
+land_skip broken h i k s d e f = rw d refl
+land_skip continued h i k s d e f = rw e refl
+land_skip returned h i k s d e f = rw f refl
+
+abbrev pub outside_length : Option Outside → Option ℕ
+outside_length None = None
+outside_length (Some t) = Some t.length
 
 abbrev pub turn_length : Option Turn → Option ℕ
 turn_length None = None
@@ -42,11 +48,17 @@ back_of (Some r) = Some r.back
 
 -- the items below are those of the frame
 pub record Matches (f : Frame) (k : List Item) : Type 0 where
-  pub loops : (m : ℕ) → f.loop ≡ Some m → turn_length (to_turn k) ≡ Some m
+  pub breaks : (m : ℕ) → f.breaks ≡ Some m → outside_length (to_outside k) ≡ Some m
+  pub continues : (m : ℕ) → f.continues ≡ Some m → turn_length (to_turn k) ≡ Some m
   pub backs : back_of (to_mark k) ≡ f.back
 
-pub matches_skip : (f : Frame) (i : Item) (k : List Item) → to_turn (i ∷ k) ≡ to_turn k → to_mark (i ∷ k) ≡ to_mark k → Matches f k → Matches f (i ∷ k)
-matches_skip f i k e g m = record { loops = λ n h. rw e (m.loops n h); backs = rw g m.backs }
+pub matches_skip : (f : Frame) (i : Item) (k : List Item) → to_outside (i ∷ k) ≡ to_outside k → to_turn (i ∷ k) ≡ to_turn k → to_mark (i ∷ k) ≡ to_mark k
+    → Matches f k → Matches f (i ∷ k)
+matches_skip f i k d e g m = record { breaks = λ n h. rw d (m.breaks n h); continues = λ n h. rw e (m.continues n h); backs = rw g m.backs }
+
+pub outside_some : (o : Option Outside) (m : ℕ) → outside_length o ≡ Some m → (t : Outside) × (o ≡ Some t) × (t.length ≡ m)
+outside_some None m e = absurd (none-some m e)
+outside_some (Some t) m e = (t, refl, same_Some t.length m e)
 
 pub turn_some : (o : Option Turn) (m : ℕ) → turn_length o ≡ Some m → (t : Turn) × (o ≡ Some t) × (t.length ≡ m)
 turn_some None m e = absurd (none-some m e)
@@ -74,7 +86,7 @@ go_by_some on off h s None e x = absurd (none-some e x)
 go_by_some on off h s (Some (true, ds)) e x = inl (record s { draws = ds }, refl, same_Some _ e x)
 go_by_some on off h s (Some (false, ds)) e x = inr (record s { draws = ds }, refl, same_Some _ e x)
 
-pub lands_broken : (o : Option Turn) (t : Turn) (h : Here) (s : State) (e : Config) → o ≡ Some t → config t.rest h s ≡ e → land_broken o h s ≡ Some e
+pub lands_broken : (o : Option Outside) (t : Outside) (h : Here) (s : State) (e : Config) → o ≡ Some t → config t.rest h s ≡ e → land_broken o h s ≡ Some e
 lands_broken o t h s e i j = rw i (ap Some j)
 
 pub lands_continued : (o : Option Turn) (t : Turn) (h : Here) (s : State) (e : Config) → o ≡ Some t → config (turn t.step t.again t.length ∷ t.rest) h s ≡ e → land_continued o h s ≡ Some e

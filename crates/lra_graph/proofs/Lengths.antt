@@ -1,8 +1,10 @@
 -- How long the store is where a statement is left.
-use Rattle.std.proofs.Common.{◌≡◌, ◌≢◌, ℕ, zero, suc, ◌+◌, ◌≤◌, ℤ, List, [], ◌∷◌, ◌++◌, length, Option, Some, None, Bool, true, false, ◌⊎◌, inl, inr, refl, sym, ap, ◌∙◌, arith, length-append}
+use Rattle.std.proofs.Common.{◌≡◌, ◌≢◌, ℕ, zero, suc, ◌+◌, ◌≤◌, ℤ, List, [], ◌∷◌, ◌++◌, length, Option, Some, None, Bool, true, false, ◌||◌, ◌⊎◌, inl, inr, refl, sym, ap, ◌∙◌, arith, length-append}
 use Rattle.std.proofs.lemmas.Option.{same_Some, none-some}
 use Rattle.std.proofs.lemmas.List.{length-map, length-set, length-take-le}
-use Rattle.lra_program.specs.Program.{Expr, Cond, Rvalue, Stmt, BlockItems, Program}
+use Rattle.lra_base.specs.declared.case_labels.CaseLabel.{CaseLabel}
+use Rattle.lra_base.specs.CaseLabels.{are_alike}
+use Rattle.lra_program.specs.Program.{Expr, Cond, Rvalue, Stmt, Cases, BlockItems, Program}
 use Rattle.lra_base.specs.declared.number_types.NumberType.{NumberType}
 use Rattle.lra_program.specs.declared.receivers.Target.{Target}
 use Rattle.lra_program.specs.declared.receivers.Receiver.{Receiver}
@@ -15,13 +17,13 @@ use Rattle.lra_program.specs.Step.{tested, Back}
 use Rattle.lra_program.specs.declared.program.GlobalVariable.{GlobalVariable}
 use Rattle.lra_program.specs.Run.{Point, begun}
 use Rattle.lra_program.specs.Trails.{Trail}
-use Rattle.lra_operations.specs.Graph.{Exit, broken, continued, returned, Node, empty, choose, point, act, seq, leave, check}
-use Rattle.lra_operations.specs.Trails.{Stop, by_jump, to_point, to_failure, Outcome, to_end, stopped, Goes, Tests, TrailRounds}
+use Rattle.lra_operations.specs.Graph.{Exit, broken, continued, returned, Node, empty, choose, point, act, seq, leave, check, Arms}
+use Rattle.lra_operations.specs.Trails.{Stop, by_jump, to_point, to_failure, Outcome, to_end, stopped, Goes, ArmsGo, Finds, Tests, TrailRounds}
 use Rattle.lra_operations.specs.TrailsAgree.{KeepsWidth}
 use Rattle.lra_program.specs.Sites.{Site}
-use Rattle.lra_operations.specs.Inlined.{Frame, Spot, callee, Inl, InlAll, Declares, Loops, Gives, as_nothing, as_block, as_absent, as_assign, as_call, as_if, as_loop, as_for, as_break, as_continue}
+use Rattle.lra_operations.specs.Inlined.{Frame, Spot, callee, Inl, InlCases, InlAll, Declares, Loops, Gives, as_nothing, as_block, as_absent, as_assign, as_call, as_if, as_loop, as_for, as_break, as_continue}
 use Rattle.lra_operations.specs.Inlined.{as_return, as_return_value, as_return_call, as_end, as_end_value, as_end_call, as_assert, as_assume, as_none, as_declaration, as_statement, as_fresh, as_given}
-use Rattle.lra_operations.specs.Inlined.{is_loop, as_value, as_result, loop_node, call_node, return_node}
+use Rattle.lra_operations.specs.Inlined.{is_loop, as_value, as_result, as_switch, as_no_cases, as_labelled, as_stated, loop_node, switch_node, call_node, return_node}
 use Rattle.lra_graph.proofs.Shapes.{seq_inv, act_inv, leave_inv, EndsBody, GoesCall, call_returned, call_ended, call_stopped, call_at_end}
 use Rattle.lra_graph.proofs.Shapes.{inner, given, width, call_inv, Round, EndsBodyRound, LeavesRound, EndsLoop, loop_done, loop_at, loop_broken, loop_left}
 use Rattle.lra_graph.proofs.Shapes.{loop_inv}
@@ -94,8 +96,8 @@ length_append x s t e =
 
 -- where a jump leads, the store is as long as it was there
 abbrev pub JumpLength : Frame → Exit → State → Type 0
-JumpLength f broken t = (m : ℕ) × (f.loop ≡ Some m) × (length t.store ≡ m)
-JumpLength f continued t = (m : ℕ) × (f.loop ≡ Some m) × (length t.store ≡ m)
+JumpLength f broken t = (m : ℕ) × (f.breaks ≡ Some m) × (length t.store ≡ m)
+JumpLength f continued t = (m : ℕ) × (f.continues ≡ Some m) × (length t.store ≡ m)
 JumpLength f returned t = (b : Back) → f.back ≡ Some b → length t.store ≡ b.length
 
 abbrev pub LengthAt : Frame → ℕ → Outcome → State → Type 0
@@ -114,7 +116,7 @@ grows_all (as_declaration i j e) = let rest = grows_all e in omega arith
 grows_all (as_statement d e) = grows_all e
 
 abbrev pub in_loop : Frame → Option ℕ → Frame
-in_loop f l = record f { loop = l }
+in_loop f l = record f { breaks = l; continues = l }
 
 returned_broken : returned ≡ broken → ⊥
 returned_broken i = cc
@@ -178,10 +180,10 @@ module _ (name : ℕ → Point) (may : State → State → Type 0) (keeps : Keep
       by s t (stopped (to_failure p)) l e = tt
 
   -- behind a jump any number
-  break_length : {f : Frame} {m n : ℕ} (live : ℕ) → f.loop ≡ Some m → Length f m n (leave live broken)
+  break_length : {f : Frame} {m n : ℕ} (live : ℕ) → f.breaks ≡ Some m → Length f m n (leave live broken)
   break_length {m = m} live i = record { ends = λ s t u l e. let x = leave_inv name may live broken s u t e in rw (x.0, x.1) (m, i, l) }
 
-  continue_length : {f : Frame} {m n : ℕ} (live : ℕ) → f.loop ≡ Some m → Length f m n (leave live continued)
+  continue_length : {f : Frame} {m n : ℕ} (live : ℕ) → f.continues ≡ Some m → Length f m n (leave live continued)
   continue_length {m = m} live i = record { ends = λ s t u l e. let x = leave_inv name may live continued s u t e in rw (x.0, x.1) (m, i, l) }
 
   return_length : {f : Frame} {n : ℕ} (live : ℕ) (b : Back) → f.back ≡ Some b → Length f b.length n (leave live returned)
@@ -243,7 +245,7 @@ module _ (name : ℕ → Point) (may : State → State → Type 0) (keeps : Keep
 
   -- of a call whose body is g
   module _ (spot : Spot) (r : ℕ) (x : Receiver) (es : List Argument) (params : ℕ) (g : Node) (f' : Frame) (n' : ℕ) (i : length es ≡ params)
-      (no_loop : f'.loop ≡ None)
+      (no_break : f'.breaks ≡ None) (no_continue : f'.continues ≡ None)
       (j : f'.back ≡ Some (record { receiver = x; here = spot.frame.here; length = spot.live })) (d : spot.live + params ≤ n')
       (y : Length f' (spot.live + params) n' g) where
     end_of_body : (u t : Trail Point) → length u.state.store ≡ spot.live + params → EndsBody name may r spot.live x params g u t → length t.state.store ≡ spot.live
@@ -255,8 +257,8 @@ module _ (name : ℕ → Point) (may : State → State → Type 0) (keeps : Keep
         length_keep spot.live b.set.state t.state (omega arith) b.back.0
 
     stop_length : (z : Stop) (u t : Trail Point) → z ≢ by_jump returned → LengthAt f' n' (stopped z) t.state → LengthAt spot.frame spot.live (stopped z) t.state
-    stop_length (by_jump broken) u t z w = absurd (none-some _ (sym no_loop ∙ w.1))
-    stop_length (by_jump continued) u t z w = absurd (none-some _ (sym no_loop ∙ w.1))
+    stop_length (by_jump broken) u t z w = absurd (none-some _ (sym no_break ∙ w.1))
+    stop_length (by_jump continued) u t z w = absurd (none-some _ (sym no_continue ∙ w.1))
     stop_length (by_jump returned) u t z w = absurd (z refl)
     stop_length (to_point p) u t z w = tt
     stop_length (to_failure p) u t z w = tt
@@ -273,6 +275,24 @@ module _ (name : ℕ → Point) (may : State → State → Type 0) (keeps : Keep
           let c = call_inv name may spot r x es params g s u t e in
           call_outcome c.0 t u (length_push spot.frame.here.base es s.state c.0.state c.1.0 ∙ rw (l, i) refl) c.2;
     }
+
+  -- of a `switch`, by what its arms leave: `break` comes out behind it
+  module _ (spot : Spot) (arms : Arms) (e : Expr) (inside : (l : CaseLabel) (s t : Trail Point) (u : Outcome) → length s.state.store ≡ spot.live
+      → ArmsGo name may l false arms s u t → LengthAt (record spot.frame { breaks = Some spot.live }) spot.live u t.state) where
+    selected_length : (l : CaseLabel) (s m : Trail Point) → Finds spot.frame.here.base e arms s l m → length s.state.store ≡ spot.live
+        → length m.state.store ≡ spot.live
+    selected_length l s m (found, met) k = ap length found.2 ∙ k
+
+    switch_outcome : (s t : Trail Point) (u : Outcome) → length s.state.store ≡ spot.live
+        → Goes name may (switch_node spot.next spot.frame.here.base e arms) s u t → LengthAt spot.frame spot.live u t.state
+    switch_outcome s t to_end k (inl (l, m, f, x)) = inside l m t to_end (selected_length l s m f k) x
+    switch_outcome s t to_end k (inr (l, m, f, x)) = let z = inside l m t (stopped (by_jump broken)) (selected_length l s m f k) x in z.2
+        ∙ sym (same_Some _ _ z.1)
+    switch_outcome s t (stopped (by_jump broken)) k (d, x) = absurd (d refl)
+    switch_outcome s t (stopped (by_jump continued)) k (d, (l, m, f, x)) = inside l m t (stopped (by_jump continued)) (selected_length l s m f k) x
+    switch_outcome s t (stopped (by_jump returned)) k (d, (l, m, f, x)) = inside l m t (stopped (by_jump returned)) (selected_length l s m f k) x
+    switch_outcome s t (stopped (to_point p)) k (d, x) = tt
+    switch_outcome s t (stopped (to_failure p)) k (d, x) = tt
 
   empty_length : (f : Frame) (n : ℕ) (s t : Trail Point) (u : Outcome) → length s.state.store ≡ n → Goes name may empty s u t → LengthAt f n u t.state
   empty_length f n s t to_end l e = rw e l
@@ -302,6 +322,21 @@ module _ (name : ℕ → Point) (may : State → State → Type 0) (keeps : Keep
     length_one (as_end_call {s = spot} i j d) = seq_length _ _ (point_length spot.next) (seq_length _ _ (length_gives d) (end_length spot.live i))
     length_one (as_assert {s = spot} {c = c} i) = seq_length _ _ (point_length spot.next) (check_length spot.next spot.frame.here.base c)
     length_one (as_assume {s = spot} {c = c} i) = seq_length _ _ (point_length spot.next) (test_length spot.next spot.frame.here.base c true)
+    length_one (as_switch {s = spot} {e = e} {arms = arms} i d) = seq_length _ _ (point_length spot.next) (record {
+      ends = λ s t u l x. switch_outcome spot arms e (λ k a b v m y. length_cases d k false a b v m y) s t u l x;
+    })
+
+    -- behind the label, or before it
+    pub length_cases : {P : Program} {T : List Site} {spot : Spot} {cs : Cases} {arms : Arms} {q : ℕ} → InlCases P T spot cs arms q
+        → (l : CaseLabel) (met : Bool) (s t : Trail Point) (u : Outcome)
+        → length s.state.store ≡ spot.live → ArmsGo name may l met arms s u t → LengthAt spot.frame spot.live u t.state
+    length_cases as_no_cases l met s t to_end k x = rw x k
+    length_cases as_no_cases l met s t (stopped z) k x = absurd x
+    length_cases (as_labelled {l = m} d) l met s t u k x = length_cases d l (met || are_alike l m) s t u k x
+    length_cases (as_stated d e) l false s t u k x = length_cases e l false s t u k x
+    length_cases (as_stated d e) l true s t to_end k (m, x, y) = length_cases e l true m t to_end ((length_one d).ends s m to_end k x) y
+    length_cases (as_stated d e) l true s t (stopped z) k (inl x) = (length_one d).ends s t (stopped z) k x
+    length_cases (as_stated d e) l true s t (stopped z) k (inr (m, x, y)) = length_cases e l true m t (stopped z) ((length_one d).ends s m to_end k x) y
 
     pub length_all : {P : Program} {T : List Site} {spot : Spot} {s : BlockItems} {g : Node} {n q : ℕ} → InlAll P T spot s g n q → Length spot.frame spot.live n g
     length_all (as_none {s = spot}) = record { ends = λ s t u l e. empty_length spot.frame spot.live s t u l e }
@@ -321,7 +356,7 @@ module _ (name : ℕ → Point) (may : State → State → Type 0) (keeps : Keep
     length_gives (as_value {s = spot} {x = x} {e = e}) = give_length spot.next spot.frame.here.base x e
     length_gives (as_result {s = spot} {x = x} {c = c} {fn = fn} {g = g} {n = n'} {q = r'} i j d k) =
         call_length spot r' (inner fn x) (given fn c) (width fn) g (callee spot.frame spot.live (inner fn x) c) n' (given_width fn.parameters c.arguments j)
-        refl refl (grows_all d) (length_all d)
+        refl refl refl (grows_all d) (length_all d)
 
   -- a declarator's point, and what follows it
   pub length_declarator : {P : Program} {T : List Site} {spot : Spot} {r : ℕ} {t : NumberType} {e : Option Rvalue} {g : Node} {q : ℕ} → Declares P T spot r t e

@@ -1,5 +1,6 @@
 -- What runs of trees are made of, and how long stores are.
 pub mod Shapes
+mod Selecting
 pub mod Lengths
 -- Runs of programs against runs of trees, from programs to trees and back.
 pub mod Landing
@@ -34,6 +35,7 @@ pub mod Lone
 -- Open places: what opens, and what comes behind.
 pub mod Items
 mod ItemRows
+mod CaseRows
 mod Opening
 mod OpenPlaces
 mod StepsLeft

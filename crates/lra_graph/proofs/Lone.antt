@@ -4,11 +4,12 @@ use Rattle.lra_program.specs.Program as program
 use Rattle.lra_program.specs.declared.program.Stmt.{Stmt, Stmt-F, out-Stmt, roll-Stmt, roll-out-Stmt}
 use Rattle.lra_program.specs.declared.program.Stmt as code
 use Rattle.lra_program.specs.declared.program.BlockItem.{BlockItem}
+use Rattle.lra_program.specs.declared.program.CaseItem.{CaseItem}
 use Rattle.lra_program.specs.declared.program.BlockItems.{BlockItems}
 use Rattle.lra_program.specs.declared.program.Cond.{Cond}
 use Rattle.lra_program.specs.ProgramViews.{stmt_view}
 use Rattle.lra_graph.specs.Inlining.{IsLone}
-use Rattle.lra_graph.proofs.Shown.{shown_block, shown_assign, shown_call, shown_if, shown_loop, shown_for, shown_return}
+use Rattle.lra_graph.proofs.Shown.{shown_block, shown_assign, shown_call, shown_if, shown_loop, shown_for, shown_return, shown_switch}
 
 module _ (s : Stmt) (c : Stmt) (t : program.Stmt) (e : s ≡ c) (f : stmt_view c ≡ t) where
   not_lone : IsLone (stmt_view s) → IsLone t
@@ -21,7 +22,7 @@ module _ (s : Stmt) (lone : IsLone (stmt_view s))
     (no_continue : (at : ℕ) → s ≡ code.Continue at → ⊥)
     (no_assert : (at : ℕ) (c : Cond) → s ≡ code.Assert at c → ⊥)
     (no_assume : (at : ℕ) (c : Cond) → s ≡ code.Assume at c → ⊥) where
-  opened_is_other : (o : Stmt-F BlockItem Stmt BlockItems) → s ≡ roll-Stmt o → ⊥
+  opened_is_other : (o : Stmt-F BlockItem CaseItem Stmt BlockItems) → s ≡ roll-Stmt o → ⊥
   unfolding roll-Stmt denote.Hole.Carrier.roll
   opened_is_other Stmt-F.Absent e = no_absent e
   opened_is_other (Stmt-F.Nothing at) e = no_nothing at e
@@ -36,6 +37,7 @@ module _ (s : Stmt) (lone : IsLone (stmt_view s))
   opened_is_other (Stmt-F.Return at x) e = not_lone s _ _ e (shown_return at x) lone
   opened_is_other (Stmt-F.Assert at c) e = no_assert at c e
   opened_is_other (Stmt-F.Assume at c) e = no_assume at c e
+  opened_is_other (Stmt-F.Switch at v cs) e = not_lone s _ _ e (shown_switch at v cs) lone
 
   pub no_other : ⊥
   no_other = opened_is_other (out-Stmt s) (sym (roll-out-Stmt s))

@@ -2,13 +2,14 @@
 use Rattle.std.proofs.Common.{◌≡◌, ℕ, ◌+◌, ◌≤◌, Some, List, [], ◌∷◌, ◌++◌, map, length, Result, Ok, Err, IfOk, refl, sym, ap, ◌∙◌, subst}
 use Rattle.std.proofs.lemmas.List.{map-append}
 use Rattle.lra_base.specs.Limits.{greatest_live}
-use Rattle.lra_program.specs.Program.{Program, BlockItems, result}
+use Rattle.lra_program.specs.Program.{Program, BlockItems, result, switch, Cases}
 use Rattle.lra_program.specs.Step.{keep}
 use Rattle.lra_program.specs.Sites.{Site, plain_site, call_events}
-use Rattle.lra_program.specs.ProgramViews.{call_view, item_view, items_of}
+use Rattle.lra_program.specs.ProgramViews.{expr_view, call_view, item_view, items_of, case_view, cases_of}
 use Rattle.lra_operations.specs.declared.graph.Node as code
-use Rattle.lra_operations.specs.Graph.{Node, point, act, seq}
-use Rattle.lra_operations.specs.GraphViews.{node_view}
+use Rattle.lra_operations.specs.declared.graph.Arm as code_arm
+use Rattle.lra_operations.specs.Graph.{Node, point, act, seq, arm}
+use Rattle.lra_operations.specs.GraphViews.{node_view, arm_view}
 use Rattle.lra_graph.specs.declared.points.Limit.{Limit}
 use Rattle.lra_graph.specs.declared.points.GraphError.{GraphError}
 use Rattle.lra_graph.specs.declared.frame.Frame.{Frame}
@@ -16,6 +17,7 @@ use Rattle.lra_graph.specs.declared.frame.Repeated.{Repeated}
 use Rattle.lra_graph.specs.declared.places.Branches.{Branches}
 use Rattle.lra_graph.specs.declared.places.CalledFrom.{CalledFrom}
 use Rattle.lra_graph.specs.declared.places.ItemRow.{ItemRow}
+use Rattle.lra_graph.specs.declared.places.CaseRow.{CaseRow}
 use Rattle.lra_graph.specs.declared.places.Open.{Open}
 use Rattle.lra_graph.specs.declared.places.Next as next_type
 use Rattle.lra_graph.specs.declared.places.Next.TheVariants as next
@@ -28,7 +30,8 @@ use Rattle.lra_graph.specs.declared.places.Forked as forked_type
 use Rattle.lra_graph.specs.declared.places.Forked.TheVariants as forked
 use Rattle.lra_graph.specs.Limits.{walk, passed, stopped}
 use Rattle.lra_graph.specs.Building.{CallStands, WritesBody, WritesRvalue}
-use Rattle.lra_graph.specs.Open.{Due, due, all_items, part_view, Closes, Forks, ItemsLoop, IsOpen, IsWritten, AreOpen, AreUnderWay, Leads, Stops, StopsAs, StandsAs}
+use Rattle.lra_graph.proofs.Shown.{shown_tree}
+use Rattle.lra_graph.specs.Open.{Due, due, a_stmt, all_items, part_view, Closes, Forks, ItemsLoop, SwitchLoop, IsOpen, IsWritten, AreOpen, AreUnderWay, Leads, Stops, StopsAs, StandsAs}
 
 module _ (P : Program) where
   pub open_more : (whole under n : Due) (os : List Open) (o : Open) → AreOpen P whole under os → IsOpen P under n o → AreOpen P whole n (os ++ o ∷ [])
@@ -57,7 +60,7 @@ module _ (P : Program) where
 
     pub false_next : (b : Branches) (g : code.Node) → IsOpen P whole under (record { frame = f; place = place.Forked (forked.OnTrue b) })
         → IsWritten P under (node_view g) n V → path ≡ under.path
-        → Leads P whole (next.Opens (record { frame = f; place = place.Forked (forked.OnFalse b g) }) f (part.Stmt b.on_false)) path V
+        → Leads P whole (next.Opens (record { frame = f; place = place.Forked (forked.OnFalse b.point b.cond g) }) f (part.Stmt b.on_false)) path V
     false_next b g o w e = rw (e ∙ o.path, o.frame) (
       record {
         frame = refl;
@@ -70,7 +73,8 @@ module _ (P : Program) where
 
     pub body_next : (q : ℕ) (x : Repeated) (g : code.Node) → IsOpen P whole under (record { frame = f; place = place.Forked (forked.Step q x) })
         → IsWritten P under (node_view g) n V → path ≡ under.path
-        → Leads P whole (next.Opens (record { frame = f; place = place.Forked (forked.Body q x g) }) (record f { loop_length = Some f.live }) (part.Stmt x.body)) path V
+        → Leads P whole (next.Opens (record { frame = f; place = place.Forked (forked.Body q x.cond g) })
+        (record f { breaks = Some f.live; continues = Some f.live }) (part.Stmt x.body)) path V
     body_next q x g o w e = rw (e ∙ o.path, o.frame) (
       record {
         frame = refl;
@@ -117,6 +121,28 @@ module _ (P : Program) where
         let done = h whole.path whole.before V k.all (subst (λ z. ItemsLoop P whole.path z whole.before k.all (items_of (map item_view x.rest.now)) (map node_view gs) n V) (sym o.frame) loop) in
         subst (λ z. IfOk b (λ y. Leads P z y path V)) (due_is (due (all_items k.all) whole.path f whole.before) refl o.frame (sym k.is) refl)
         (subst (λ z. IfOk b (λ y. Leads P (due (all_items k.all) whole.path f whole.before) y z V)) (sym (e ∙ o.path)) done)
+
+    -- behind one of the statements of a `switch`
+    pub cases_next : (x : CaseRow) (p : code.Node) (arms : List code_arm.Arm) (b : Result next_type.Next GraphError)
+        → IsOpen P whole under (record { frame = f; place = place.Cases x }) → IsWritten P under (node_view p) n V → path ≡ under.path
+        → arms ≡ x.arms.items ++ code_arm.Tree p ∷ []
+        → ((at : List ℕ) (S U : List Site) (label : ℕ) (all : Cases)
+        → SwitchLoop P at f S x.point label (expr_view x.value.now) all (cases_of (map case_view x.rest.now)) (map arm_view arms) U
+        → IfOk b (λ k. Leads P (due (a_stmt (switch label (expr_view x.value.now) all)) at f S) k at U))
+        → IfOk b (λ k. Leads P whole k path V)
+    cases_next x p arms b o w e pushed h =
+        let k = o.continues in
+        let v = expr_view x.value.now in
+        let rest = cases_of (map case_view x.rest.now) in
+        let all = a_stmt (switch k.at v k.all) in
+        let pieces : map arm_view x.arms.items ++ arm (node_view p) ∷ [] ≡ map arm_view arms = sym (ap (map arm_view) pushed
+        ∙ map-append arm_view x.arms.items (code_arm.Tree p ∷ []) ∙ ap (λ z. map arm_view x.arms.items ++ z ∷ []) (shown_tree p)) in
+        let loop : SwitchLoop P whole.path whole.frame whole.before x.point k.at v k.all rest (map arm_view arms) V =
+        subst (λ z. SwitchLoop P whole.path whole.frame whole.before x.point k.at v k.all rest z V) pieces (k.writes (node_view p) n V w) in
+        let done = h whole.path whole.before V k.at k.all (subst (λ z. SwitchLoop P whole.path z whole.before x.point k.at v k.all rest (map arm_view arms) V)
+        (sym o.frame) loop) in
+        subst (λ z. IfOk b (λ y. Leads P z y path V)) (due_is (due all whole.path f whole.before) refl o.frame (sym k.is) refl)
+        (subst (λ z. IfOk b (λ y. Leads P (due all whole.path f whole.before) y z V)) (sym (e ∙ o.path)) done)
 
     -- behind a block's items
     pub block_closes : (end : ℕ) (g : Node) (x : code.Node) (U : List Site) → IsOpen P whole under (record { frame = f; place = place.Block end }) → IsWritten P under g n V → path ≡ under.path

@@ -76,9 +76,9 @@ module _ (P : Program) (path : List ℕ) (r : Frame) (S : List Site) where
         )
 
     pub loop_opens : (x : Repeated) → StmtStands P r (loop_of at x)
-        → IsOpen P (due (a_stmt (loop_of at x)) path r S) (due (a_stmt (stmt_view x.step.now)) path (record r { loop_length = None }) V)
+        → IsOpen P (due (a_stmt (loop_of at x)) path r S) (due (a_stmt (stmt_view x.step.now)) path (record r { breaks = None; continues = None }) V)
         (record { frame = r; place = place.Forked (forked.Step q x) })
-        × StmtStands P (record r { loop_length = None }) (stmt_view x.step.now)
+        × StmtStands P (record r { breaks = None; continues = None }) (stmt_view x.step.now)
     loop_opens x s =
         let c = cond_view x.cond.now in
         let a = stmt_view x.body.now in
@@ -214,9 +214,10 @@ module _ (P : Program) (path : List ℕ) (r : Frame) (S : List Site) where
 
   -- the rounds of a loop
   pub rounds_open : (q : ℕ) (x : Repeated) → StandsAs P (all_rounds q (cond_view x.cond.now) (stmt_view x.body.now) (stmt_view x.step.now)) r
-      → IsOpen P (due (all_rounds q (cond_view x.cond.now) (stmt_view x.body.now) (stmt_view x.step.now)) path r S) (due (a_stmt (stmt_view x.step.now)) path (record r { loop_length = None }) S)
+      → IsOpen P (due (all_rounds q (cond_view x.cond.now) (stmt_view x.body.now) (stmt_view x.step.now)) path r S)
+      (due (a_stmt (stmt_view x.step.now)) path (record r { breaks = None; continues = None }) S)
       (record { frame = r; place = place.Forked (forked.Step q x) })
-      × StmtStands P (record r { loop_length = None }) (stmt_view x.step.now)
+      × StmtStands P (record r { breaks = None; continues = None }) (stmt_view x.step.now)
   rounds_open q x s =
       let c = cond_view x.cond.now in
       let a = stmt_view x.body.now in

@@ -20,7 +20,7 @@ abbrev bottom : Program → List Item
 bottom P = end_of P.main.end (length P.globals) ∷ []
 
 bottom_matches : (P : Program) → Matches (main_frame P) (bottom P)
-bottom_matches P = record { loops = λ m e. absurd (none-some m e); backs = refl }
+bottom_matches P = record { breaks = λ m e. absurd (none-some m e); continues = λ m e. absurd (none-some m e); backs = refl }
 
 module _ (may : State → State → Type 0) (keeps : KeepsWidth may) where
   module _ (P : Program) (T : List Site) (body : Node) (last live : ℕ) (d : InlAll P T (main_spot P) P.main.body body live last)

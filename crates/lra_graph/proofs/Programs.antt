@@ -48,7 +48,7 @@ main_read p f well read = slice_get_read p.functions.items (length p.functions.i
 
 -- where main's items stand, in code
 abbrev pub begun_at : ℕ → Receiver → Frame
-begun_at n x = record { base = n; live = n; calls_left = 32; loop_length = None; receiver = x; back = None }
+begun_at n x = record { base = n; live = n; calls_left = 32; breaks = None; continues = None; receiver = x; back = None }
 
 pub frame_first : (p : Program) (n : ℕ) (x : Receiver) → n ≡ vec_len p.globals → x ≡ behind_main (program_view p) → begun_at n x ≡ first_frame (program_view p)
 frame_first p n x e gets = ap (λ z. begun_at z x) (e ∙ p.globals.ok.0) ∙ ap (λ y. begun_at (length p.globals.items) y) gets

@@ -43,6 +43,7 @@ module _ (may : State → State → Type 0) (keeps : KeepsWidth may) where
   reached P g is c zs p draws n w on =
       let cut = (all_below may keeps P (sites_of P) c zs p.label on.label (suc n)).every (main_spot P) P.main.body is.body is.live is.last is.inlined
       (end_of P.main.end (length P.globals) ∷ []) (trail (begun P.globals draws) []) n
-      (record { loops = λ m e. absurd (none-some m e); backs = refl }) (begun_length P.globals draws) (omega arith) w in
+      (record { breaks = λ m e. absurd (none-some m e); continues = λ m e. absurd (none-some m e); backs = refl }) (begun_length P.globals draws)
+      (omega arith) w in
       rw is.parts (whole P (sites_of P) c zs p.label on.label is.body is.last is.live is.inlined is.ends (trail (begun P.globals draws) []) n
       (begun_length P.globals draws) cut)

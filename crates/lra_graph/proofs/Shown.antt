@@ -1,5 +1,5 @@
 -- What values of the code's types stand for, form by form.
-use Rattle.std.proofs.Common.{◌≡◌, ℕ, map, Option, Some, ap, ◌∙◌, rules, Box, Global}
+use Rattle.std.proofs.Common.{◌≡◌, ℕ, map, Option, Some, ap, ◌∙◌, rules, Box, Vec, Global}
 use Rattle.lra_program.specs.Program as program
 use Rattle.lra_operations.specs.Graph as graph
 use Rattle.lra_program.specs.declared.program.Variable.{Variable}
@@ -11,14 +11,19 @@ use Rattle.lra_program.specs.declared.program.Declarator.{Declarator}
 use Rattle.lra_program.specs.declared.program.Call.{Call}
 use Rattle.lra_program.specs.declared.program.BlockItem.{the_lemmas as item_lemmas}
 use Rattle.lra_program.specs.declared.program.BlockItem as code_item
+use Rattle.lra_program.specs.declared.program.CaseItem.{CaseItem}
+use Rattle.lra_program.specs.declared.program.CaseItem as code_case
+use Rattle.lra_base.specs.declared.case_labels.CaseLabel.{CaseLabel}
 use Rattle.lra_program.specs.declared.program.BlockItems.{BlockItems, the_lemmas as items_lemmas}
 use Rattle.lra_program.specs.declared.program.Stmt.{Stmt, the_lemmas as stmt_lemmas}
 use Rattle.lra_program.specs.declared.program.Stmt as code
 use Rattle.lra_operations.specs.declared.graph.Op.{Op}
 use Rattle.lra_operations.specs.declared.graph.Node.{the_lemmas as node_lemmas}
 use Rattle.lra_operations.specs.declared.graph.Node as code_node
-use Rattle.lra_program.specs.ProgramViews.{variable_view, expr_view, cond_view, call_view, rvalue_view, given_view, declarator_view, stmt_view, item_view, items_of, items_view}
-use Rattle.lra_operations.specs.GraphViews.{op_view, node_view}
+use Rattle.lra_operations.specs.declared.graph.Arm as code_arm
+use Rattle.lra_program.specs.ProgramViews.{variable_view, expr_view, cond_view, call_view, rvalue_view, given_view, declarator_view, stmt_view, item_view, items_of, items_view, case_view, cases_of}
+use Rattle.lra_operations.specs.GraphViews.{op_view, node_view, arm_view}
+use Rattle.lra_graph.specs.Open.{entry_part}
 
 pub shown_empty : node_view code_node.Empty ≡ graph.empty
 shown_empty = search (rules, node_lemmas)
@@ -31,6 +36,12 @@ shown_act q o = search (rules, node_lemmas)
 
 pub shown_check : (q base : ℕ) (c : Cond) → node_view (code_node.Check q base c) ≡ graph.check q base (cond_view c)
 shown_check q base c = search (rules, node_lemmas)
+
+pub shown_entry : (l : CaseLabel) → arm_view (code_arm.Entry l) ≡ entry_part l
+shown_entry l = search (rules, node_lemmas)
+
+pub shown_tree : (g : code_node.Node) → arm_view (code_arm.Tree g) ≡ graph.arm (node_view g)
+shown_tree g = search (rules, node_lemmas)
 
 pub shown_items : (b : BlockItems) → items_view b ≡ items_of (map item_view b.items.items)
 shown_items b = search (rules, items_lemmas)
@@ -80,6 +91,22 @@ shown_assert at c = search (rules, stmt_lemmas)
 
 pub shown_assume : (at : ℕ) (c : Cond) → stmt_view (code.Assume at c) ≡ program.assume at (cond_view c)
 shown_assume at c = search (rules, stmt_lemmas)
+
+pub shown_switch : (at : ℕ) (e : Expr) (cs : Vec CaseItem Global)
+    → stmt_view (code.Switch at e cs) ≡ program.switch at (expr_view e) (cases_of (map case_view cs.items))
+shown_switch at e cs = search (rules, stmt_lemmas)
+
+pub shown_label : (l : CaseLabel) (cs : program.Cases) → case_view (code_case.Label l) cs ≡ program.labelled l cs
+shown_label l cs = ap (λ f. f cs) shown
+  where
+    shown : case_view (code_case.Label l) ≡ program.labelled l
+    shown = search (rules, stmt_lemmas)
+
+pub shown_stated : (s : Stmt) (cs : program.Cases) → case_view (code_case.Stated s) cs ≡ program.stated (stmt_view s) cs
+shown_stated s cs = ap (λ f. f cs) shown
+  where
+    shown : case_view (code_case.Stated s) ≡ program.stated (stmt_view s)
+    shown = search (rules, stmt_lemmas)
 
 pub shown_result : (o : Option Rvalue) (x : Rvalue) (c : Call) → o ≡ Some x → x ≡ code_rvalue.Result c → given_view o ≡ Some (program.result (call_view c))
 shown_result o x c e f = ap given_view e ∙ ap (λ (y : Rvalue). Some (rvalue_view y)) f

@@ -1,11 +1,19 @@
 -- A run that comes to a point, cut at the statement on top: the point is inside, or the statement ends or jumps before.
-use Rattle.std.proofs.Common.{◌≡◌, ◌≢◌, ℕ, zero, suc, ◌+◌, ◌<◌, ◌≤◌, List, [], ◌∷◌, ◌++◌, length, Option, Some, None, Bool, true, false, ◌⊎◌, inl, inr, refl}
+use Rattle.std.proofs.Common.{◌≡◌, ◌≢◌, ℕ, ℤ, zero, suc, ◌+◌, ◌<◌, ◌≤◌, List, [], ◌∷◌, ◌++◌, length, Option, Some, None, Bool, true, false, ◌⊎◌, inl, inr, refl}
 use Rattle.std.proofs.Common.{sym, ap, ◌∙◌, subst, slice_get, arith}
 use Rattle.std.proofs.lemmas.Option.{same_Some, none-some}
+use Rattle.std.specs.Prelude.{cond}
 use Rattle.lra_program.specs.Program.{Cond, Call, Rvalue, value, result, Declarator, Stmt, absent, nothing, block, assign, call, if, loop, for, break, continue, return, assert, assume, BlockItems}
+use Rattle.lra_base.specs.declared.case_labels.CaseLabel.{CaseLabel}
+use Rattle.lra_base.specs.CaseLabels.{are_alike, goal_of}
+use Rattle.lra_program.specs.Program.{Expr, switch, Cases, no_cases, labelled, stated, labels_of}
+use Rattle.lra_program.specs.Step.{cases as cases_item, end_switch, behind_label, chosen, do_switch}
+use Rattle.lra_program.specs.Value.{Drawn, value_of}
+use Rattle.lra_operations.proofs.ArmRows.{arms_row, row_behind, behind_of_row}
+use Rattle.lra_graph.proofs.Selecting.{entries_are}
 use Rattle.lra_program.specs.Program.{no_more, declaration, statement, Function, Program}
 use Rattle.lra_program.specs.Value.{index_of, truth_of}
-use Rattle.lra_program.specs.Step.{State, Op, append, give, give_any, push, keep, test, run_op, run_any, Here, Back, Item, run, declare, all, end_of, turn, cut, mark, leave_call, Config, to_turn}
+use Rattle.lra_program.specs.Step.{State, Op, append, give, give_any, push, keep, test, run_op, run_any, Here, Back, Item, run, declare, all, end_of, turn, cut, mark, leave_call, Config, to_outside, to_turn}
 use Rattle.lra_base.specs.declared.number_types.NumberType.{NumberType}
 use Rattle.lra_program.specs.declared.receivers.Receiver.{Receiver}
 use Rattle.lra_program.specs.Receivers.{variable_at, nobody}
@@ -14,22 +22,22 @@ use Rattle.lra_program.specs.Step.{next_at}
 use Rattle.lra_program.specs.Run.{label_on, Point, IsFailing}
 use Rattle.lra_program.specs.Trails.{Met, passes, Trail, met_on, Becomes, Walks}
 use Rattle.lra_program.specs.Overflow.{OpOverflows, IsOverflowing}
-use Rattle.lra_operations.specs.Graph.{Exit, broken, continued, returned, Node, point, act, check, seq, choose, leave}
-use Rattle.lra_operations.specs.Trails.{Stop, by_jump, to_point, to_failure, Outcome, to_end, stopped, Goes, Tests, Performs, Passes}
+use Rattle.lra_operations.specs.Graph.{Exit, broken, continued, returned, Node, point, act, check, seq, choose, leave, Arms, no_arms}
+use Rattle.lra_operations.specs.Trails.{Stop, by_jump, to_point, to_failure, Outcome, to_end, stopped, Goes, ArmsGo, Finds, Tests, Performs, Passes}
 use Rattle.lra_operations.specs.TrailsAgree.{KeepsWidth, point_at, point_or_none}
 use Rattle.lra_program.specs.Sites.{Site}
 use Rattle.lra_operations.specs.Asked.{asked_of, asked_in}
 use Rattle.lra_operations.specs.Inlined.{Frame, Spot, move, at_point, within, into_callee, Has, HasSite, callee, Inl, InlAll, Declares, Loops, Gives, as_nothing, as_block, as_absent, as_assign}
 use Rattle.lra_operations.specs.Inlined.{as_call, as_if, as_loop, as_for, as_break}
-use Rattle.lra_operations.specs.Inlined.{as_continue, as_return, as_return_value, as_return_call, as_end, as_end_value, as_end_call, as_assert, as_assume, as_none, as_declaration, as_statement}
+use Rattle.lra_operations.specs.Inlined.{as_continue, as_return, as_return_value, as_return_call, as_end, as_end_value, as_end_call, as_assert, as_assume, as_switch, as_no_cases, as_labelled, as_stated, InlCases, among_cases, switch_node, as_none, as_declaration, as_statement}
 use Rattle.lra_operations.specs.Inlined.{as_fresh, as_given, is_loop, as_value, as_result, loop_node, call_node, return_node}
 use Rattle.lra_program.proofs.GivenArguments.{given_width}
 use Rattle.lra_graph.proofs.Shapes.{inner, given, width, call_ends, Round, EndsBodyRound, loop_join, loop_at, loop_done, loop_broken, loop_left, EndsLoop}
 use Rattle.lra_graph.proofs.Shapes.{loop_first, jump_join}
 use Rattle.lra_graph.proofs.Lengths.{Length, length_declarator, length_one, length_all, length_test, length_push, length_append, tests_length, mid_length, round_length}
 use Rattle.lra_graph.proofs.Asking.{Asks, AsksAs, asks_left, asks_own, asks_given, asks_declared, asks_first, asks_second, asks_true, asks_false, asks_body}
-use Rattle.lra_graph.proofs.Asking.{asks_step, asks_callee, asks_callee_end}
-use Rattle.lra_graph.proofs.Landing.{config, land, land_skip, Matches, matches_skip, turn_some, mark_some, mark_none, go_some, go_on_some, go_by_some, lands_broken, lands_continued, lands_returned}
+use Rattle.lra_graph.proofs.Asking.{asks_selected, asks_value, asks_step, asks_callee, asks_callee_end}
+use Rattle.lra_graph.proofs.Landing.{config, land, land_skip, Matches, matches_skip, outside_some, turn_some, mark_some, mark_none, go_some, go_on_some, go_by_some, lands_broken, lands_continued, lands_returned}
 
 returned_broken : by_jump returned ≡ by_jump broken → ⊥
 returned_broken e = cc
@@ -238,6 +246,10 @@ module _ (may : State → State → Type 0) (keeps : KeepsWidth may) (P : Progra
     pub every : (spot : Spot) (s : BlockItems) (g : Node) (n q : ℕ) → InlAll P T spot s g n q → (k : List Item) (a : Trail Point) (count : ℕ) → Matches spot.frame k →
         length a.state.store ≡ spot.live → count < fuel
         → Walks may P count (config (all s ∷ k) spot.frame.here a.state) a.met c zs → Splits spot.frame.here k count g a
+    pub among : (spot : Spot) (cs : Cases) (arms : Arms) (q : ℕ) → InlCases P T spot cs arms q → (k : List Item) (a : Trail Point) (count : ℕ)
+        → Matches spot.frame k →
+        length a.state.store ≡ spot.live → count < fuel
+        → Walks may P count (config (cases_item cs ∷ k) spot.frame.here a.state) a.met c zs → Splits spot.frame.here k count (arms_row arms) a
     pub loops : (spot : Spot) (r : ℕ) (s : Stmt) (g : Node) (q : ℕ) → Loops P T spot r s g q → (k : List Item) (a : Trail Point) (count : ℕ) → Matches spot.frame k →
         length a.state.store ≡ spot.live → count < fuel
         → Walks may P count (config (run s ∷ k) spot.frame.here a.state) a.met c zs → Splits spot.frame.here k count g a
@@ -327,7 +339,7 @@ module _ (may : State → State → Type 0) (keeps : KeepsWidth may) (P : Progra
             Splits spot.frame.here k (suc j) (tree_of_call spot r' x b fn g) a
         inside u o t = after u o (below.every (into_callee spot (inner fn x) b (width fn) r) fn.body g n' r' d
             (call_items fn spot.live (inner fn x) spot.frame.here k) u j
-            (record { loops = λ m z. absurd (none-some m z); backs = refl }) (long u o) less (rw o.1 t))
+            (record { breaks = λ m z. absurd (none-some m z); continues = λ m z. absurd (none-some m z); backs = refl }) (long u o) less (rw o.1 t))
 
     splits_gives : (spot : Spot) (r : ℕ) (x : Receiver) (v : Rvalue) (g : Node) (q : ℕ) (k : List Item) (a : Trail Point) (j : ℕ) (e : Config) → Gives P T spot
         r x v g q
@@ -384,7 +396,8 @@ module _ (may : State → State → Type 0) (keeps : KeepsWidth may) (P : Progra
             let moved = past (config (turn step (loop at b s step) spot.live ∷ k) spot.frame.here mid.state) (config (run step ∷ run (loop at b s step) ∷ k) spot.frame.here mid.state) mid.met i
             refl refl t in
             let few = moved.1 in
-            cases moved.0 (omega (arith, few)) (below.one (within spot None r) step h r' d (run (loop at b s step) ∷ k) mid moved.0 (record { loops = λ w z. absurd (none-some w z); backs = m.backs })
+            cases moved.0 (omega (arith, few)) (below.one (within spot None r) step h r' d (run (loop at b s step) ∷ k) mid moved.0
+            (record { breaks = λ w z. absurd (none-some w z); continues = λ w z. absurd (none-some w z); backs = m.backs })
             long (omega (arith, few)) moved.2)
           where
             long : length mid.state.store ≡ spot.live
@@ -402,7 +415,8 @@ module _ (may : State → State → Type 0) (keeps : KeepsWidth may) (P : Progra
         round : (on' : Trail Point) → Tests (point_at T) may spot.next spot.frame.here.base b true a on' →
             W j (config (run s ∷ turn step (loop at b s step) spot.live ∷ k) spot.frame.here on'.state) on'.met
             → Splits spot.frame.here k (suc j) (tree_of_loop spot b g h) a
-        round on' o t = cases (below.one (within spot (Some spot.live) r') s g q' e (turn step (loop at b s step) spot.live ∷ k) on' j (record { loops = λ w z. z; backs = m.backs })
+        round on' o t = cases (below.one (within spot (Some spot.live) r') s g q' e (turn step (loop at b s step) spot.live ∷ k) on' j
+            (record { breaks = λ w z. z; continues = λ w z. z; backs = m.backs })
             (tests_length (point_at T) may keeps spot.next spot.frame.here.base b true a on' o ∙ l) (omega arith) t)
           where
             cases : Splits spot.frame.here (turn step (loop at b s step) spot.live ∷ k) j g on' → Splits spot.frame.here k (suc j) (tree_of_loop spot b g h) a
@@ -415,8 +429,9 @@ module _ (may : State → State → Type 0) (keeps : KeepsWidth may) (P : Progra
             cases (jumped i returned m' d' z x l' t') = jumped i returned m' d' (omega arith)
                 (last (stopped (by_jump returned)) m' (loop_left on' (by_jump returned) o (inl (returned_continued, x)) returned_broken)) l' t'
 
-    skip_one : (h : Here) (i : Item) (k : List Item) → to_turn (i ∷ k) ≡ to_turn k → to_mark (i ∷ k) ≡ to_mark k → (j : Exit) (m : State) → land j h (i ∷ k) m ≡ land j h k m
-    skip_one h i k e e' j m = land_skip j h i k m e e'
+    skip_one : (h : Here) (i : Item) (k : List Item) → to_outside (i ∷ k) ≡ to_outside k → to_turn (i ∷ k) ≡ to_turn k → to_mark (i ∷ k) ≡ to_mark k
+        → (j : Exit) (m : State) → land j h (i ∷ k) m ≡ land j h k m
+    skip_one h i k d e e' j m = land_skip j h i k m d e e'
 
     -- a block's end
     end_tail : (spot : Spot) (n at : ℕ) (k : List Item) (a : Trail Point) (count : ℕ) → Has T spot at → length a.state.store ≡ spot.live →
@@ -449,20 +464,22 @@ module _ (may : State → State → Type 0) (keeps : KeepsWidth may) (P : Progra
     choose_off q base b g g' h k n a t o (ended j m i e r) = ended j m i (inr (t, o, e)) r
     choose_off q base b g g' h k n a t o (jumped j kind m d i e l r) = jumped j kind m d i (inr (t, o, e)) l r
 
-    splits_break : (f : Frame) (q m live : ℕ) (k : List Item) (a : Trail Point) (j : ℕ) (e : Config) → f.loop ≡ Some m → Matches f k → do_break (to_turn k) f.here a.state ≡ Some e → W j e a.met
+    splits_break : (f : Frame) (q m live : ℕ) (k : List Item) (a : Trail Point) (j : ℕ) (e : Config) → f.breaks ≡ Some m → Matches f k
+        → do_break (to_outside k) f.here a.state ≡ Some e → W j e a.met
         → Splits f.here k (suc j) (seq (act q (keep m)) (leave live broken)) a
     splits_break f q m live k a j e i mm y t =
-        let turning = turn_some (to_turn k) m (mm.loops m i) in
+        let turning = outside_some (to_outside k) m (mm.breaks m i) in
         let y' : go turning.0.rest f.here (run_op (keep turning.0.length) a.state) ≡ Some e = subst (λ o. do_break o f.here a.state ≡ Some e) turning.1 y in
         let x = go_some turning.0.rest f.here (run_op (keep turning.0.length) a.state) e y' in
         let o : run_op (keep m) a.state ≡ Some x.0 = subst (λ w. run_op (keep w) a.state ≡ Some x.0) turning.2 x.1 in
         jumped j broken (trail x.0 a.met) e (omega arith) (jump_join (point_at T) may q (keep m) live broken a (trail x.0 a.met) (o, refl))
-        (lands_broken (to_turn k) turning.0 f.here x.0 e turning.1 x.2) t
+        (lands_broken (to_outside k) turning.0 f.here x.0 e turning.1 x.2) t
 
-    splits_continue : (f : Frame) (q m live : ℕ) (k : List Item) (a : Trail Point) (j : ℕ) (e : Config) → f.loop ≡ Some m → Matches f k → do_continue (to_turn k) f.here a.state ≡ Some e → W j e a.met
+    splits_continue : (f : Frame) (q m live : ℕ) (k : List Item) (a : Trail Point) (j : ℕ) (e : Config) → f.continues ≡ Some m → Matches f k
+        → do_continue (to_turn k) f.here a.state ≡ Some e → W j e a.met
         → Splits f.here k (suc j) (seq (act q (keep m)) (leave live continued)) a
     splits_continue f q m live k a j e i mm y t =
-        let turning = turn_some (to_turn k) m (mm.loops m i) in
+        let turning = turn_some (to_turn k) m (mm.continues m i) in
         let r : List Item = turn turning.0.step turning.0.again turning.0.length ∷ turning.0.rest in
         let y' : go r f.here (run_op (keep turning.0.length) a.state) ≡ Some e = subst (λ o. do_continue o f.here a.state ≡ Some e) turning.1 y in
         let x = go_some r f.here (run_op (keep turning.0.length) a.state) e y' in
@@ -507,10 +524,12 @@ module _ (may : State → State → Type 0) (keeps : KeepsWidth may) (P : Progra
     no_mark : (f : Frame) (k : List Item) → f.back ≡ None → Matches f k → to_mark k ≡ None
     no_mark f k i mm = mark_none (to_mark k) (mm.backs ∙ i)
 
-    land_two : (h : Here) (i i' : Item) (k : List Item) → to_turn (i ∷ i' ∷ k) ≡ to_turn (i' ∷ k) → to_mark (i ∷ i' ∷ k) ≡ to_mark (i' ∷ k) → to_turn (i' ∷ k) ≡ to_turn k →
+    land_two : (h : Here) (i i' : Item) (k : List Item) → to_outside (i ∷ i' ∷ k) ≡ to_outside (i' ∷ k) → to_turn (i ∷ i' ∷ k) ≡ to_turn (i' ∷ k)
+        → to_mark (i ∷ i' ∷ k) ≡ to_mark (i' ∷ k)
+        → to_outside (i' ∷ k) ≡ to_outside k → to_turn (i' ∷ k) ≡ to_turn k →
         to_mark (i' ∷ k) ≡ to_mark k
         → (j : Exit) (m : State) → land j h (i ∷ i' ∷ k) m ≡ land j h k m
-    land_two h i i' k a b d e j m = land_skip j h i (i' ∷ k) m a b ∙ land_skip j h i' k m d e
+    land_two h i i' k o a b p d e j m = land_skip j h i (i' ∷ k) m o a b ∙ land_skip j h i' k m p d e
 
     splits_for : (spot : Spot) (at : ℕ) (init : BlockItems) (b : Cond) (s step : Stmt) (g h : Node) (n' r q' : ℕ) → InlAll P T (at_point spot (suc spot.next)) init g n' r →
         Loops P T (move spot n' spot.next) r (loop at b s step) h q'
@@ -519,11 +538,14 @@ module _ (may : State → State → Type 0) (keeps : KeepsWidth may) (P : Progra
         Splits spot.frame.here k count (seq g (seq h (act spot.next (keep spot.live)))) a
     splits_for spot at init b s step g h n' r q' d e k a count m l less t =
         splits_seq spot.frame.here k (run (loop at b s step) ∷ cut spot.live ∷ k) count g (seq h (act spot.next (keep spot.live))) a
-        (land_two spot.frame.here (run (loop at b s step)) (cut spot.live) k refl refl refl refl)
+        (land_two spot.frame.here (run (loop at b s step)) (cut spot.live) k refl refl refl refl refl refl)
         (below.every (at_point spot (suc spot.next)) init g n' r d (run (loop at b s step) ∷ cut spot.live ∷ k) a count
-        (matches_skip spot.frame (run (loop at b s step)) (cut spot.live ∷ k) refl refl (matches_skip spot.frame (cut spot.live) k refl refl m)) l less t)
-        (λ j u i z w. splits_seq spot.frame.here k (cut spot.live ∷ k) j h (act spot.next (keep spot.live)) u (skip_one spot.frame.here (cut spot.live) k refl refl)
-        (below.loops (move spot n' spot.next) r (loop at b s step) h q' e (cut spot.live ∷ k) u j (matches_skip spot.frame (cut spot.live) k refl refl m) ((len_all d).ends a u to_end l z)
+        (matches_skip spot.frame (run (loop at b s step)) (cut spot.live ∷ k) refl refl refl
+        (matches_skip spot.frame (cut spot.live) k refl refl refl m)) l less t)
+        (λ j u i z w. splits_seq spot.frame.here k (cut spot.live ∷ k) j h (act spot.next (keep spot.live)) u
+        (skip_one spot.frame.here (cut spot.live) k refl refl refl)
+        (below.loops (move spot n' spot.next) r (loop at b s step) h q' e (cut spot.live ∷ k) u j
+        (matches_skip spot.frame (cut spot.live) k refl refl refl m) ((len_all d).ends a u to_end l z)
         (omega arith) w)
         (λ j' u' i' z' w'. cut_tail spot.frame.here spot.live spot.next k u' j' w'))
 
@@ -573,16 +595,116 @@ module _ (may : State → State → Type 0) (keeps : KeepsWidth may) (P : Progra
         let x = past (config (all (declaration d' b) ∷ k) spot.frame.here a.state) (config (declare d' ∷ all b ∷ k) spot.frame.here a.state) a.met count refl refl t in
         let few : x.0 < count = omega arith in
         splits_more spot.frame.here k x.0 count (seq (seq (point spot.next) g) h) a (omega arith)
-        (splits_seq spot.frame.here k (all b ∷ k) x.0 (seq (point spot.next) g) h a (skip_one spot.frame.here (all b) k refl refl)
+        (splits_seq spot.frame.here k (all b ∷ k) x.0 (seq (point spot.next) g) h a (skip_one spot.frame.here (all b) k refl refl refl)
         (splits_declare spot d' g r i d (all b ∷ k) a x.0 l (omega arith) x.2)
         (λ j u less' z w. below.every (move spot (suc spot.live) r) b h n' q' e k u j m ((length_declarator (point_at T) may keeps d).ends a u to_end l z) (omega arith) w))
     splits_every _ _ _ _ _ (as_statement {s = spot} {a = s} {b = b} {g = g} {h = h} {r = r} {n = n'} {q = q'} d e) k a count m l less t =
         let x = past (config (all (statement s b) ∷ k) spot.frame.here a.state) (config (run s ∷ all b ∷ k) spot.frame.here a.state) a.met count refl refl t in
         let few : x.0 < count = omega arith in
         splits_more spot.frame.here k x.0 count (seq g h) a (omega arith)
-        (splits_seq spot.frame.here k (all b ∷ k) x.0 g h a (skip_one spot.frame.here (all b) k refl refl)
-        (below.one spot s g r d (all b ∷ k) a x.0 (matches_skip spot.frame (all b) k refl refl m) l (omega arith) x.2)
+        (splits_seq spot.frame.here k (all b ∷ k) x.0 g h a (skip_one spot.frame.here (all b) k refl refl refl)
+        (below.one spot s g r d (all b ∷ k) a x.0 (matches_skip spot.frame (all b) k refl refl refl m) l (omega arith) x.2)
         (λ j u i z w. below.every (at_point spot r) b h n' q' e k u j m ((len_one d).ends a u to_end l z) (omega arith) w))
+
+    splits_among : (spot : Spot) (cs : Cases) (arms : Arms) (q : ℕ) → InlCases P T spot cs arms q → (k : List Item) (a : Trail Point) (count : ℕ)
+        → Matches spot.frame k →
+        length a.state.store ≡ spot.live → count < suc fuel
+        → W count (config (cases_item cs ∷ k) spot.frame.here a.state) a.met → Splits spot.frame.here k count (arms_row arms) a
+    splits_among _ _ _ _ (as_no_cases {s = spot}) k a count m l less t =
+        let x = past (config (cases_item no_cases ∷ k) spot.frame.here a.state) (config k spot.frame.here a.state) a.met count refl refl t in
+        ended x.0 a (omega arith) refl x.2
+    splits_among _ _ _ _ (as_labelled {s = spot} {l = n} {cs = cs} {arms = arms} {q = q'} d) k a count m l less t =
+        let x = past (config (cases_item (labelled n cs) ∷ k) spot.frame.here a.state)
+        (config (cases_item cs ∷ k) spot.frame.here a.state) a.met count refl refl t in
+        let few : x.0 < count = omega arith in
+        splits_more spot.frame.here k x.0 count (arms_row arms) a (omega arith) (below.among spot cs arms q' d k a x.0 m l (omega arith) x.2)
+    splits_among _ _ _ _ (as_stated {s = spot} {a = s} {cs = cs} {g = g} {arms = arms} {r = r} {q = q'} d e) k a count m l less t =
+        let x = past (config (cases_item (stated s cs) ∷ k) spot.frame.here a.state)
+        (config (run s ∷ cases_item cs ∷ k) spot.frame.here a.state) a.met count refl refl t in
+        let few : x.0 < count = omega arith in
+        splits_more spot.frame.here k x.0 count (seq g (arms_row arms)) a (omega arith)
+        (splits_seq spot.frame.here k (cases_item cs ∷ k) x.0 g (arms_row arms) a (skip_one spot.frame.here (cases_item cs) k refl refl refl)
+        (below.one spot s g r d (cases_item cs ∷ k) a x.0 (matches_skip spot.frame (cases_item cs) k refl refl refl m) l (omega arith) x.2)
+        (λ j u i z w. below.among (at_point spot r) cs arms q' e k u j m ((len_one d).ends a u to_end l z) (omega arith) w))
+
+    -- behind a label
+    abbrev SplitsCases : Spot → Cases → Node → Type 0
+    SplitsCases spot cs g = (k : List Item) (a : Trail Point) (count : ℕ) → Matches spot.frame k → length a.state.store ≡ spot.live → count < fuel
+        → W count (config (cases_item cs ∷ k) spot.frame.here a.state) a.met → Splits spot.frame.here k count g a
+
+    splits_by : (spot : Spot) (t : Bool) (cs ds : Cases) (g h : Node) → SplitsCases spot cs g → SplitsCases spot ds h
+        → SplitsCases spot (cond t cs ds) (cond t g h)
+    splits_by spot true cs ds g h x y = x
+    splits_by spot false cs ds g h x y = y
+
+    splits_behind : (spot : Spot) (cs : Cases) (arms : Arms) (q : ℕ) → InlCases P T spot cs arms q → (l : CaseLabel)
+        → SplitsCases spot (behind_label l cs) (row_behind l arms)
+    splits_behind _ _ _ _ (as_no_cases {s = spot}) l = λ k a count m n less t. below.among spot no_cases no_arms spot.next
+        (as_no_cases {s = spot}) k a count m n less t
+    splits_behind _ _ _ _ (as_labelled {s = spot} {l = n} {cs = cs} {arms = arms} {q = q'} d) l = splits_by spot (are_alike l n) cs (behind_label l cs)
+        (arms_row arms) (row_behind l arms)
+        (λ k a count m i less t. below.among spot cs arms q' d k a count m i less t) (splits_behind spot cs arms q' d l)
+    splits_behind _ _ _ _ (as_stated {s = spot} {cs = cs} {arms = arms} {r = r} {q = q'} d e) l = splits_behind (at_point spot r) cs arms q' e l
+
+    -- what a `switch` goes on to
+    pub record Chosen (k : List Item) (h : Here) (cs : Cases) (o : Drawn ℤ) (s : State) (e : Config) : Type 0 where
+      pub value : ℤ
+      pub left : List ℤ
+      pub is : o ≡ Some (value, left)
+      pub goes : config (cases_item (chosen value cs) ∷ end_switch (length s.store) ∷ k) h (record s { draws = left }) ≡ e
+
+    do_switch_some : (k : List Item) (h : Here) (cs : Cases) (o : Drawn ℤ) (s : State) (e : Config) → do_switch cs k h s o ≡ Some e → Chosen k h cs o s e
+    do_switch_some k h cs None s e x = absurd (none-some e x)
+    do_switch_some k h cs (Some (z, left)) s e x = record { value = z; left = left; is = refl; goes = same_Some _ e x }
+
+    splits_switch : (spot : Spot) (v : Expr) (cs : Cases) (arms : Arms) (q : ℕ) → InlCases P T (among_cases spot (suc spot.next)) cs arms q
+        → (k : List Item) (u : Trail Point) (j : ℕ) (e : Config)
+        → Matches spot.frame k → length u.state.store ≡ spot.live → j < fuel
+        → do_switch cs k spot.frame.here u.state (value_of v (scene_at spot.frame.here.base u.state) u.state.draws) ≡ Some e → W j e u.met
+        → Splits spot.frame.here k (suc j) (switch_node spot.next spot.frame.here.base v arms) u
+    splits_switch spot v cs arms q d k u j e m n less y w = after inside
+      where
+        x : Chosen k spot.frame.here cs (value_of v (scene_at spot.frame.here.base u.state) u.state.draws) u.state e
+        x = do_switch_some k spot.frame.here cs (value_of v (scene_at spot.frame.here.base u.state) u.state.draws) u.state e y
+
+        l : CaseLabel
+        l = goal_of x.value (labels_of cs)
+
+        drawn : Trail Point
+        drawn = trail (record u.state { draws = x.left }) u.met
+
+        found : Finds spot.frame.here.base v arms u l drawn
+        found = ((x.value, x.is, refl, ap (goal_of x.value) (sym (entries_are d))), refl)
+
+        behind : List Item
+        behind = end_switch spot.live ∷ k
+
+        at_end : (i : ℕ) (b : Trail Point) → W i (config behind spot.frame.here b.state) b.met
+            → (i' : ℕ) × (i ≡ suc i') × W i' (config k spot.frame.here b.state) b.met
+        at_end i b t = past (config behind spot.frame.here b.state) (config k spot.frame.here b.state) b.met i refl refl t
+
+        tree : Node
+        tree = switch_node spot.next spot.frame.here.base v arms
+
+        go_in : (o : Outcome) (b : Trail Point) → G (row_behind l arms) drawn o b → ArmsGo (point_at T) may l false arms drawn o b
+        go_in o b z = behind_of_row (point_at T) may l arms drawn o b z
+
+        after : Splits spot.frame.here behind j (row_behind l arms) drawn → Splits spot.frame.here k (suc j) tree u
+        after (hits h) = hits (hit_of (row_behind l arms) tree drawn u (λ z b no t. (no broken, (l, drawn, found, go_in (stopped z) b t)))
+            (asks_selected spot.next spot.frame.here.base v arms l) h)
+        after (ended i b few t r) = let z = at_end i b r in let one = z.1 in ended z.0 b (omega arith) (inl (l, drawn, found, go_in to_end b t)) z.2
+        after (jumped i broken b c' few t lands r) = ended i b (omega arith) (inr (l, drawn, found, go_in (stopped (by_jump broken)) b t))
+            (rw (same_Some (config k spot.frame.here b.state) c' lands) r)
+        after (jumped i continued b c' few t lands r) = jumped i continued b c' (omega arith)
+            ((λ z. broken_continued (sym z)), (l, drawn, found, go_in (stopped (by_jump continued)) b t)) lands r
+        after (jumped i returned b c' few t lands r) = jumped i returned b c' (omega arith)
+            (returned_broken, (l, drawn, found, go_in (stopped (by_jump returned)) b t)) lands r
+
+        inside : Splits spot.frame.here behind j (row_behind l arms) drawn
+        inside = splits_behind (among_cases spot (suc spot.next)) cs arms q d l behind drawn j
+            (record { breaks = λ w z. z; continues = m.continues; backs = m.backs }) n less
+            (subst (λ o. W j (config (cases_item (chosen x.value cs) ∷ end_switch o ∷ k) spot.frame.here (record u.state { draws = x.left })) u.met) n
+            (rw x.goes w))
 
     -- a statement at its point, by what its step makes
     at_its_point : (spot : Spot) (at : ℕ) (s : Stmt) (g : Node) (k : List Item) (a : Trail Point) (count : ℕ) → count < suc fuel → Has T spot at → length a.state.store ≡ spot.live →
@@ -610,8 +732,10 @@ module _ (may : State → State → Type 0) (keeps : KeepsWidth may) (P : Progra
         let t' = subst (λ w. W x.0 (config (all body ∷ end_of end w ∷ k) spot.frame.here a.state) a.met) l x.2 in
         let few : x.0 < count = omega arith in
         splits_more spot.frame.here k x.0 count (seq g (seq (point q') (act q' (keep spot.live)))) a (omega arith)
-        (splits_seq spot.frame.here k (end_of end spot.live ∷ k) x.0 g (seq (point q') (act q' (keep spot.live))) a (skip_one spot.frame.here (end_of end spot.live) k refl refl)
-        (below.every spot body g n' q' d (end_of end spot.live ∷ k) a x.0 (matches_skip spot.frame (end_of end spot.live) k refl refl m) l (omega arith) t')
+        (splits_seq spot.frame.here k (end_of end spot.live ∷ k) x.0 g (seq (point q') (act q' (keep spot.live))) a
+        (skip_one spot.frame.here (end_of end spot.live) k refl refl refl)
+        (below.every spot body g n' q' d (end_of end spot.live ∷ k) a x.0 (matches_skip spot.frame (end_of end spot.live) k refl refl refl m) l
+        (omega arith) t')
         (λ j u less' z w. end_tail (move spot n' q') spot.live end k u j i ((len_all d).ends a u to_end l z) w))
     splits_one _ _ _ _ (as_absent {s = spot}) k a count m l less t =
         let x = past (config (run absent ∷ k) spot.frame.here a.state) (config k spot.frame.here a.state) a.met count refl refl t in
@@ -674,7 +798,8 @@ module _ (may : State → State → Type 0) (keeps : KeepsWidth may) (P : Progra
         (λ j u e less' l' y w.
         let y' : do_rvalue P b.receiver (result v) (leave_call ∷ k) spot.frame.here u.state ≡ Some e =
         subst (λ x. do_rvalue P x (result v) (leave_call ∷ k) spot.frame.here u.state ≡ Some e) (receiver_is spot.frame k b i m) y in
-        splits_seq spot.frame.here k (leave_call ∷ k) (suc j) g (seq (act spot.next (keep b.length)) (leave spot.live returned)) u (skip_one spot.frame.here leave_call k refl refl)
+        splits_seq spot.frame.here k (leave_call ∷ k) (suc j) g (seq (act spot.next (keep b.length)) (leave spot.live returned)) u
+        (skip_one spot.frame.here leave_call k refl refl refl)
         (splits_gives spot (suc spot.next) b.receiver (result v) g q' (leave_call ∷ k) u j e d l' less' y' w)
         (λ j'' u' z f b'. leave_tail spot.frame spot.next spot.live b k u' j'' i m b'))
     splits_one _ _ _ _ (as_end {s = spot} {at = at} i has) k a count m l less t = at_its_point spot at (return at None) (leave spot.live returned) k a count
@@ -694,7 +819,7 @@ module _ (may : State → State → Type 0) (keeps : KeepsWidth may) (P : Progra
         (λ j u e less' l' y w.
         let y' : do_rvalue P (behind_main P) (result v) (leave_call ∷ k) spot.frame.here u.state ≡ Some e =
         subst (λ o. do_rvalue P (receiver_of P o) (result v) (leave_call ∷ k) spot.frame.here u.state ≡ Some e) (no_mark spot.frame k i m) y in
-        splits_seq spot.frame.here k (leave_call ∷ k) (suc j) g (leave spot.live returned) u (skip_one spot.frame.here leave_call k refl refl)
+        splits_seq spot.frame.here k (leave_call ∷ k) (suc j) g (leave spot.live returned) u (skip_one spot.frame.here leave_call k refl refl refl)
         (splits_gives spot (suc spot.next) (behind_main P) (result v) g q' (leave_call ∷ k) u j e d l' less' y' w)
         (λ j'' u' z f b'. end_tail_of spot.frame k u' j'' (leave spot.live returned) (no_mark spot.frame k i m) b'))
     splits_one _ _ _ _ (as_assert {s = spot} {at = at} {c = b} i) k a count m l less t =
@@ -705,14 +830,25 @@ module _ (may : State → State → Type 0) (keeps : KeepsWidth may) (P : Progra
         at_its_point spot at (assume at b) (act spot.next (test spot.frame.here.base b true)) k a count less i l refl (λ b v. v)
         (asks_own spot.next (test spot.frame.here.base b true) a.state) t
         (λ j u e less' l' y w. splits_act spot.next (test spot.frame.here.base b true) spot.frame.here k u j e y w)
+    splits_one _ _ _ _ (as_switch {s = spot} {at = at} {e = v} {cs = cs} {arms = arms} {q = q'} i d) k a count m l less t =
+        at_its_point spot at (switch at v cs) (switch_node spot.next spot.frame.here.base v arms) k a count less i l refl (λ b z. z)
+        (asks_value spot.next spot.frame.here.base v arms a.state) t
+        (λ j u e less' l' y w. splits_switch spot v cs arms q' d k u j e m l' less' y w)
 
   nothing_below : Below zero
   nothing_below = record {
     one = λ spot s g q d k a count m l less t. absurd (omega arith);
     every = λ spot s g n q d k a count m l less t. absurd (omega arith);
+    among = λ spot cs arms q d k a count m l less t. absurd (omega arith);
     loops = λ spot r s g q d k a count m l less t. absurd (omega arith);
   }
 
   pub all_below : (fuel : ℕ) → Below fuel
   all_below zero = nothing_below
-  all_below (suc fuel) = record { one = splits_one fuel (all_below fuel); every = splits_every fuel (all_below fuel); loops = of_loop fuel (all_below fuel) }
+  all_below (suc fuel) = record {
+    one = splits_one fuel (all_below fuel);
+    every = splits_every fuel (all_below fuel);
+    among = splits_among fuel
+        (all_below fuel);
+    loops = of_loop fuel (all_below fuel);
+  }

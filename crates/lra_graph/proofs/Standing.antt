@@ -1,18 +1,29 @@
 -- Where a part of a well-formed program stands, its own parts stand.
-use Rattle.std.proofs.Common.{◌≡◌, ℕ, suc, ◌+◌, ◌≤◌, length, Option, Some, None, Bool, true, false, slice_get, refl, sym, ap, ◌∙◌, arith}
+use Rattle.std.proofs.Common.{◌≡◌, ℕ, suc, ◌+◌, ◌≤◌, length, Option, Some, None, true, false, slice_get, refl, sym, ap, ◌∙◌, arith}
 use Rattle.std.proofs.lemmas.Option.{none-some, same_Some}
 use Rattle.lra_program.specs.Program.{Variable, Cond, Call, Rvalue, result, Declarator, Stmt, block, assign, call, if, loop, for, break, continue, return, BlockItems, no_more, declaration}
-use Rattle.lra_program.specs.Program.{statement, Function, Program}
+use Rattle.lra_program.specs.Program.{statement, switch, Cases, labelled, stated, Expr, Function, Program}
+use Rattle.lra_base.specs.declared.case_labels.CaseLabel.{CaseLabel}
 use Rattle.lra_program.specs.Sites.{live_behind}
-use Rattle.lra_program.specs.WellFormed.{IsWellFormed}
+use Rattle.lra_program.specs.WellFormed.{Jumps, no_jumps, in_loop, in_switch, IsWellFormed}
 use Rattle.lra_graph.specs.declared.frame.Frame.{Frame}
 use Rattle.lra_program.specs.declared.receivers.Receiver.{Receiver}
-use Rattle.lra_graph.specs.Building.{Stands, StmtStands, ItemsStand, GivenStands, CallStands}
+use Rattle.lra_graph.specs.Building.{Stands, StmtStands, CasesStand, cases_frame, ItemsStand, GivenStands, CallStands}
 use Rattle.lra_graph.proofs.DistinctSites.{all_at, main_at}
 use Rattle.lra_graph.proofs.LiveInside.{live_low}
 
-stands_as : (r : Frame) (X Y : Bool → ℕ → Type 0) → ((b : Bool) (n : ℕ) → X b n → Y b n) → Stands r X → Stands r Y
-stands_as r X Y f x = record { in_loop = x.in_loop; own = x.own; good = f x.in_loop x.own x.good; within = x.within; loops = x.loops; loop_low = x.loop_low; back_low = x.back_low }
+stands_as : (r : Frame) (X Y : Jumps → ℕ → Type 0) → ((b : Jumps) (n : ℕ) → X b n → Y b n) → Stands r X → Stands r Y
+stands_as r X Y f x = record {
+  jumps = x.jumps;
+  own = x.own;
+  good = f x.jumps x.own x.good;
+  within = x.within;
+  breaks = x.breaks;
+  continues = x.continues;
+  break_low = x.break_low;
+  continue_low = x.continue_low;
+  back_low = x.back_low;
+}
 
 both_live : (base own live : ℕ) (b : BlockItems) → base + own ≤ live → base + live_behind own b ≤ live_behind live b
 both_live base own live no_more l = l
@@ -47,48 +58,80 @@ module _ (P : Program) (r : Frame) where
   pub result_stands : (c : Call) → GivenStands P r (Some (result c)) → CallStands P r c
   result_stands c x = stands_as r _ _ (λ l n g. g) x
 
+  -- among the cases of a `switch`
+  pub switch_stands : (at : ℕ) (e : Expr) (cs : Cases) → StmtStands P r (switch at e cs) → CasesStand P (cases_frame r) cs
+  switch_stands at e cs x = record {
+    jumps = in_switch x.jumps;
+    own = x.own;
+    good = x.good.1;
+    within = x.within;
+    breaks = λ e. (r.live, refl);
+    continues = x.continues;
+    break_low = λ m e. let h = same_Some _ m e in omega arith;
+    continue_low = x.continue_low;
+    back_low = x.back_low;
+  }
+
+  pub labelled_stand : (l : CaseLabel) (cs : Cases) → CasesStand P r (labelled l cs) → CasesStand P r cs
+  labelled_stand l cs x = stands_as r _ _ (λ b n g. g) x
+
+  pub first_case_stands : (s : Stmt) (cs : Cases) → CasesStand P r (stated s cs) → StmtStands P r s
+  first_case_stands s cs x = stands_as r _ _ (λ b n g. g.0) x
+
+  pub other_cases_stand : (s : Stmt) (cs : Cases) → CasesStand P r (stated s cs) → CasesStand P r cs
+  other_cases_stand s cs x = stands_as r _ _ (λ b n g. g.1) x
+
   -- one variable more
   pub declared_stands : (n : ℕ) (d : Declarator) (b : BlockItems) → n ≡ suc r.live → ItemsStand P r (declaration d b) → GivenStands P (record r { live = n }) d.rvalue
   declared_stands n d b same x = record {
-    in_loop = x.in_loop;
+    jumps = x.jumps;
     own = suc x.own;
     good = (d.label, x.good.0);
     within = let w = x.within in omega arith;
-    loops = x.loops;
-    loop_low = λ m e. let l = x.loop_low m e in omega arith;
+    breaks = x.breaks;
+    continues = x.continues;
+    break_low = λ m e. let l = x.break_low m e in omega arith;
+    continue_low = λ m e. let l = x.continue_low m e in omega arith;
     back_low = λ a e. let l = x.back_low a e in omega arith;
   }
 
   pub behind_stand : (n : ℕ) (d : Declarator) (b : BlockItems) → n ≡ suc r.live → ItemsStand P r (declaration d b) → ItemsStand P (record r { live = n }) b
   behind_stand n d b same x = record {
-    in_loop = x.in_loop;
+    jumps = x.jumps;
     own = suc x.own;
     good = x.good.1;
     within = let w = x.within in omega arith;
-    loops = x.loops;
-    loop_low = λ m e. let l = x.loop_low m e in omega arith;
+    breaks = x.breaks;
+    continues = x.continues;
+    break_low = λ m e. let l = x.break_low m e in omega arith;
+    continue_low = λ m e. let l = x.continue_low m e in omega arith;
     back_low = λ a e. let l = x.back_low a e in omega arith;
   }
 
-  pub body_stands : (at : ℕ) (c : Cond) (s t : Stmt) → StmtStands P r (loop at c s t) → StmtStands P (record r { loop_length = Some r.live }) s
+  pub body_stands : (at : ℕ) (c : Cond) (s t : Stmt) → StmtStands P r (loop at c s t)
+      → StmtStands P (record r { breaks = Some r.live; continues = Some r.live }) s
   body_stands at c s t x = record {
-    in_loop = true;
+    jumps = in_loop;
     own = x.own;
     good = x.good.1;
     within = x.within;
-    loops = λ e. (r.live, refl);
-    loop_low = λ m e. let h = same_Some _ m e in omega arith;
+    breaks = λ e. (r.live, refl);
+    continues = λ e. (r.live, refl);
+    break_low = λ m e. let h = same_Some _ m e in omega arith;
+    continue_low = λ m e. let h = same_Some _ m e in omega arith;
     back_low = x.back_low;
   }
 
-  pub step_stands : (at : ℕ) (c : Cond) (s t : Stmt) → StmtStands P r (loop at c s t) → StmtStands P (record r { loop_length = None }) t
+  pub step_stands : (at : ℕ) (c : Cond) (s t : Stmt) → StmtStands P r (loop at c s t) → StmtStands P (record r { breaks = None; continues = None }) t
   step_stands at c s t x = record {
-    in_loop = false;
+    jumps = no_jumps;
     own = x.own;
     good = x.good.2;
     within = x.within;
-    loops = λ e. absurd (false_true e);
-    loop_low = λ m e. absurd (none-some m e);
+    breaks = λ e. absurd (false_true e);
+    continues = λ e. absurd (false_true e);
+    break_low = λ m e. absurd (none-some m e);
+    continue_low = λ m e. absurd (none-some m e);
     back_low = x.back_low;
   }
     where
@@ -97,12 +140,14 @@ module _ (P : Program) (r : Frame) where
 
   pub init_stands : (at : ℕ) (init : BlockItems) (c : Cond) (s t : Stmt) → StmtStands P r (for at init c s t) → ItemsStand P r init
   init_stands at init c s t x = record {
-    in_loop = false;
+    jumps = no_jumps;
     own = x.own;
     good = x.good.0;
     within = x.within;
-    loops = λ e. absurd (false_true e);
-    loop_low = x.loop_low;
+    breaks = λ e. absurd (false_true e);
+    continues = λ e. absurd (false_true e);
+    break_low = x.break_low;
+    continue_low = x.continue_low;
     back_low = x.back_low;
   }
     where
@@ -115,12 +160,14 @@ module _ (P : Program) (r : Frame) where
   for_again at init c s t n same x =
       let low = live_low r.live init in
       record {
-        in_loop = false;
+        jumps = no_jumps;
         own = live_behind x.own init;
         good = (x.good.1, x.good.2, x.good.3);
         within = let w = both_live r.base x.own r.live init x.within in omega arith;
-        loops = λ e. absurd (false_true e);
-        loop_low = λ m e. let l = x.loop_low m e in omega arith;
+        breaks = λ e. absurd (false_true e);
+        continues = λ e. absurd (false_true e);
+        break_low = λ m e. let l = x.break_low m e in omega arith;
+        continue_low = λ m e. let l = x.continue_low m e in omega arith;
         back_low = λ a e. let l = x.back_low a e in omega arith;
       }
     where
@@ -129,14 +176,16 @@ module _ (P : Program) (r : Frame) where
 
   -- a callee's body in its own frame
   pub callee_stands : (n more k : ℕ) (x : Receiver) (c : Call) (fn : Function) → IsWellFormed P → CallStands P r c → slice_get P.functions c.function ≡ Some fn → n ≡ r.live → k ≡ n + length fn.parameters
-      → ItemsStand P (record { base = n; live = k; calls_left = more; loop_length = None; receiver = x; back = Some n }) fn.body
+      → ItemsStand P (record { base = n; live = k; calls_left = more; breaks = None; continues = None; receiver = x; back = Some n }) fn.body
   callee_stands n more k x c fn well stands found same wide = record {
-    in_loop = false;
+    jumps = no_jumps;
     own = length fn.parameters;
     good = all_at P P.functions c.function fn well.functions found;
     within = omega arith;
-    loops = λ e. absurd (false_true e);
-    loop_low = λ m e. absurd (none-some m e);
+    breaks = λ e. absurd (false_true e);
+    continues = λ e. absurd (false_true e);
+    break_low = λ m e. absurd (none-some m e);
+    continue_low = λ m e. absurd (none-some m e);
     back_low = λ b e. let h = same_Some _ b e in omega arith;
   }
     where
@@ -144,16 +193,18 @@ module _ (P : Program) (r : Frame) where
       false_true e = cc
 
   -- the body of `main`
-  pub main_stands : IsWellFormed P → r.base ≤ r.live → r.loop_length ≡ None → r.back ≡ None → ItemsStand P r P.main.body
-  main_stands well low no_loop no_back =
+  pub main_stands : IsWellFormed P → r.base ≤ r.live → r.breaks ≡ None → r.continues ≡ None → r.back ≡ None → ItemsStand P r P.main.body
+  main_stands well low no_break no_continue no_back =
       let at = main_at P well in
       record {
-        in_loop = false;
+        jumps = no_jumps;
         own = length P.main.parameters;
         good = all_at P P.functions at.0 P.main well.functions at.1;
         within = let alone = ap length well.alone in omega (arith, alone);
-        loops = λ e. absurd (false_true e);
-        loop_low = λ m e. absurd (none-some m (sym no_loop ∙ e));
+        breaks = λ e. absurd (false_true e);
+        continues = λ e. absurd (false_true e);
+        break_low = λ m e. absurd (none-some m (sym no_break ∙ e));
+        continue_low = λ m e. absurd (none-some m (sym no_continue ∙ e));
         back_low = λ b e. absurd (none-some b (sym no_back ∙ e));
       }
     where
@@ -164,9 +215,9 @@ module _ (P : Program) (r : Frame) where
   pub the_callee : (c : Call) → CallStands P r c → (fn : Function) × (slice_get P.functions c.function ≡ Some fn) × (length c.arguments ≡ length fn.parameters)
   the_callee c x = let g = x.good.1 in (g.callee, g.is_callee, g.width)
 
-  -- the loop of a `break` or a `continue`
-  pub break_stands : (at : ℕ) → StmtStands P r (break at) → (m : ℕ) × (r.loop_length ≡ Some m)
-  break_stands at x = x.loops x.good
+  -- where a `break` or a `continue` goes
+  pub break_stands : (at : ℕ) → StmtStands P r (break at) → (m : ℕ) × (r.breaks ≡ Some m)
+  break_stands at x = x.breaks x.good
 
-  pub continue_stands : (at : ℕ) → StmtStands P r (continue at) → (m : ℕ) × (r.loop_length ≡ Some m)
-  continue_stands at x = x.loops x.good
+  pub continue_stands : (at : ℕ) → StmtStands P r (continue at) → (m : ℕ) × (r.continues ≡ Some m)
+  continue_stands at x = x.continues x.good

@@ -70,7 +70,15 @@ pub refused_there : (P : Program) (x : Limit) (ls : List Labelled) → walk [] (
 refused_there P x ls e = sym (walk_fault ls [] (events_of P)) ∙ ap (fault_in ls) e
 
 abbrev pub first_frame : Program → Frame
-first_frame P = record { base = length P.globals; live = length P.globals; calls_left = 32; loop_length = None; receiver = behind_main P; back = None }
+first_frame P = record {
+  base = length P.globals;
+  live = length P.globals;
+  calls_left = 32;
+  breaks = None;
+  continues = None;
+  receiver = behind_main P;
+  back = None;
+}
 
 module _ (P : Program) (alone : P.main.parameters ≡ []) where
   -- main's items, and the point of its end
@@ -106,7 +114,14 @@ module _ (P : Program) (alone : P.main.parameters ≡ []) where
   whole_graph V U h g q x e i a =
       let n = live_behind (length P.globals) P.main.body in
       let same : U ≡ sites_of P = whole_sites U (whole_walk V U h x e) in
-      let is : IsFrame P [] (first_frame P) (main_frame P) = record { path = refl; base = refl; loop = refl; receiver = refl; back = refl } in
+      let is : IsFrame P [] (first_frame P) (main_frame P) = record {
+        path = refl;
+        base = refl;
+        breaks = refl;
+        continues = refl;
+        receiver = refl;
+        back = refl;
+      } in
       record {
         body = h;
         last = length V;

@@ -2,7 +2,8 @@
 use Rattle.std.proofs.Common.{◌≡◌, ℕ, suc, ◌+◌, ◌≤◌, List, [], ◌∷◌, ◌++◌, length, Option, Some, None, Bool, true, false, slice_get, refl, sym, ap, ◌∙◌, subst, append_assoc}
 use Rattle.std.proofs.lemmas.Option.{none-some, same_Some}
 use Rattle.lra_program.specs.Program.{Variable, Expr, Cond, Call, Rvalue, value, result, Declarator, Stmt, absent, nothing, block, assign, call, if, loop, for}
-use Rattle.lra_program.specs.Program.{break, continue, return, assert, assume}
+use Rattle.lra_program.specs.Program.{break, continue, return, assert, assume, switch, Cases, no_cases, labelled, stated}
+use Rattle.lra_base.specs.declared.case_labels.CaseLabel.{CaseLabel}
 use Rattle.lra_program.specs.Program.{BlockItems, no_more, declaration, statement, Function, Program}
 use Rattle.lra_program.specs.Value.{index_of}
 use Rattle.lra_program.specs.Step as step
@@ -10,18 +11,18 @@ use Rattle.lra_program.specs.Step.{append, give, give_any, keep, test, arguments
 use Rattle.lra_base.specs.declared.number_types.NumberType.{NumberType}
 use Rattle.lra_program.specs.declared.receivers.Receiver.{Receiver}
 use Rattle.lra_program.specs.Receivers.{variable_at, nobody, behind_result}
-use Rattle.lra_operations.specs.Graph.{Exit, broken, continued, returned, Node, empty, point, act, check, seq, choose, leave}
-use Rattle.lra_program.specs.Sites.{Site, comes, plain_site, live_behind, rvalue_events, given_events, stmt_events, items_events, function_events, call_events}
+use Rattle.lra_operations.specs.Graph.{Exit, broken, continued, returned, Node, empty, point, act, check, seq, choose, leave, Arms, no_arms, entry, arm}
+use Rattle.lra_program.specs.Sites.{Site, comes, plain_site, live_behind, rvalue_events, given_events, stmt_events, cases_events, items_events, function_events, call_events}
 use Rattle.lra_operations.specs.Inlined as inlined
-use Rattle.lra_operations.specs.Inlined.{spot_of, Has, HasSite, callee, Inl, InlAll, Declares, Loops, Gives, as_nothing, as_block, as_absent, as_assign, as_call, as_if, as_loop}
-use Rattle.lra_operations.specs.Inlined.{as_for, as_break, as_continue}
+use Rattle.lra_operations.specs.Inlined.{spot_of, Has, HasSite, callee, Inl, InlCases, InlAll, Declares, Loops, Gives, as_nothing, as_block, as_absent, as_assign, as_call, as_if, as_loop}
+use Rattle.lra_operations.specs.Inlined.{as_for, as_break, as_continue, as_switch, as_no_cases, as_labelled, as_stated, switch_node}
 use Rattle.lra_operations.specs.Inlined.{as_return, as_return_value, as_return_call, as_end, as_end_value, as_end_call, as_assert, as_assume, as_none, as_declaration, as_statement, as_fresh, as_given}
 use Rattle.lra_operations.specs.Inlined.{is_loop, as_value, as_result, loop_node, call_node, return_node}
 use Rattle.lra_graph.specs.declared.frame.Frame.{Frame}
 use Rattle.lra_graph.specs.Limits.{walk, passed}
 use Rattle.lra_graph.specs.Building.{any_left, value_left, call_left, back_length, receiver_behind, IsFrame, Begins, inside, WritesStmt, WritesItems}
 use Rattle.lra_graph.specs.Building.{WritesRvalue, WritesLoop, WritesDeclared, Writes}
-use Rattle.lra_graph.specs.Building.{LeavesLoop}
+use Rattle.lra_graph.specs.Building.{cases_frame, WritesCases, length_left, LeavesLoop}
 use Rattle.lra_graph.proofs.Walking.{walk_then, begins_walk, point_there, one_longer}
 
 begins_join : (S T U : List Site) → Begins S T → Begins T U → Begins S U
@@ -31,12 +32,17 @@ begins_join S T U f g i x e = g i x (f i x e)
 abbrev pub Pointed : List Site → Site → List Site → Type 0
 Pointed S x U = walk S (comes x ∷ []) ≡ passed U
 
-in_loop : {P : Program} {path : List ℕ} {r : Frame} {f : inlined.Frame} (l : Option ℕ) → IsFrame P path r f → IsFrame P path (record r { loop_length = l })
-    (record f { loop = l })
-in_loop l is = record { path = is.path; base = is.base; loop = refl; receiver = is.receiver; back = is.back }
+in_loop : {P : Program} {path : List ℕ} {r : Frame} {f : inlined.Frame} (l : Option ℕ) → IsFrame P path r f
+    → IsFrame P path (record r { breaks = l; continues = l })
+    (record f { breaks = l; continues = l })
+in_loop l is = record { path = is.path; base = is.base; breaks = refl; continues = refl; receiver = is.receiver; back = is.back }
+
+among_cases : {P : Program} {path : List ℕ} {r : Frame} {f : inlined.Frame} → IsFrame P path r f
+    → IsFrame P path (cases_frame r) (record f { breaks = Some r.live })
+among_cases is = record { path = is.path; base = is.base; breaks = refl; continues = is.continues; receiver = is.receiver; back = is.back }
 
 with_live : {P : Program} {path : List ℕ} {r : Frame} {f : inlined.Frame} (n : ℕ) → IsFrame P path r f → IsFrame P path (record r { live = n }) f
-with_live n is = record { path = is.path; base = is.base; loop = is.loop; receiver = is.receiver; back = is.back }
+with_live n is = record { path = is.path; base = is.base; breaks = is.breaks; continues = is.continues; receiver = is.receiver; back = is.back }
 
 back_there : (o : Option step.Back) (n : ℕ) → back_length o ≡ Some n → (c : step.Back) × (o ≡ Some c) × (c.length ≡ n)
 back_there None n e = absurd (none-some n e)
@@ -145,15 +151,16 @@ module _ (P : Program) (path : List ℕ) (r : Frame) where
   }
 
   -- a loop behind its own point
-  pub rounds_written : (V W U : List Site) (q : ℕ) (c : Cond) (s t : Stmt) (h h' g : Node) → WritesStmt P path (record r { loop_length = None }) V t h' W
-      → WritesStmt P path (record r { loop_length = Some r.live }) W s h U
+  pub rounds_written : (V W U : List Site) (q : ℕ) (c : Cond) (s t : Stmt) (h h' g : Node)
+      → WritesStmt P path (record r { breaks = None; continues = None }) V t h' W
+      → WritesStmt P path (record r { breaks = Some r.live; continues = Some r.live }) W s h U
       → g ≡ loop_node q r.base c h h' → WritesLoop P path r q V c s t g U
   rounds_written V W U q c s t h h' g x y a = record {
     walked = walk_then V (stmt_events (inside P path r) path N t) (stmt_events (inside P path r) path N s) W (passed U) x.walked y.walked;
     placed = λ T f b is at has.
         let b' = begins_join W U T (begins_walk W (stmt_events (inside P path r) path N s) U y.walked) b in
-        rw (a, ← is.base) (is_loop has (x.placed T (record f { loop = None }) b' (in_loop None is))
-        (y.placed T (record f { loop = Some N }) b (in_loop (Some N) is)));
+        rw (a, ← is.base) (is_loop has (x.placed T (record f { breaks = None; continues = None }) b' (in_loop None is))
+        (y.placed T (record f { breaks = Some N; continues = Some N }) b (in_loop (Some N) is)));
   }
 
   loops_as : (T : List Site) (f : inlined.Frame) (n k k' m m' : ℕ) (s : Stmt) (g : Node) (u : ℕ) → k ≡ k' → m ≡ m' → Loops P T (spot_of f n k) m s g u → Loops P T (spot_of f n k') m' s g u
@@ -170,20 +177,21 @@ module _ (P : Program) (path : List ℕ) (r : Frame) where
         (loops_as T f N q (length S) (length V) (suc (length S)) (loop at c s t) g (length U) i (one_longer S V (site at N false) e) (x.placed T f b is at has));
   }
 
-  pub break_written : (S U : List Site) (q at m : ℕ) (h g : Node) → q ≡ length S → Pointed S (site at N false) U → r.loop_length ≡ Some m → m ≤ N → h ≡ seq (act q (keep m)) (leave N broken)
+  pub break_written : (S U : List Site) (q at m : ℕ) (h g : Node) → q ≡ length S → Pointed S (site at N false) U → r.breaks ≡ Some m → m ≤ N
+      → h ≡ seq (act q (keep m)) (leave N broken)
       → g ≡ seq (point q) h
       → WritesStmt P path r S (break at) g U
   break_written S U q at m h g i e j low a a' = record {
     walked = e;
-    placed = λ T f b is. rw (a', a, i, one_longer S U (site at N false) e) (as_break (is.loop ∙ j) low (has_point S U T f at N false e b is));
+    placed = λ T f b is. rw (a', a, i, one_longer S U (site at N false) e) (as_break (is.breaks ∙ j) low (has_point S U T f at N false e b is));
   }
 
-  pub continue_written : (S U : List Site) (q at m : ℕ) (h g : Node) → q ≡ length S → Pointed S (site at N false) U → r.loop_length ≡ Some m → m ≤ N
+  pub continue_written : (S U : List Site) (q at m : ℕ) (h g : Node) → q ≡ length S → Pointed S (site at N false) U → r.continues ≡ Some m → m ≤ N
       → h ≡ seq (act q (keep m)) (leave N continued) → g ≡ seq (point q) h
       → WritesStmt P path r S (continue at) g U
   continue_written S U q at m h g i e j low a a' = record {
     walked = e;
-    placed = λ T f b is. rw (a', a, i, one_longer S U (site at N false) e) (as_continue (is.loop ∙ j) low (has_point S U T f at N false e b is));
+    placed = λ T f b is. rw (a', a, i, one_longer S U (site at N false) e) (as_continue (is.continues ∙ j) low (has_point S U T f at N false e b is));
   }
 
   pub assert_written : (S U : List Site) (q at : ℕ) (c : Cond) (g : Node) → q ≡ length S → Pointed S (site at N true) U → g ≡ seq (point q) (check q r.base c) → WritesStmt P path r S (assert at c) g U
@@ -324,6 +332,39 @@ module _ (P : Program) (path : List ℕ) (r : Frame) where
           → WritesStmt P path r S (return at (Some (result c))) g U
       call_returned U c h y a = return_written S V U q at (Some (result c)) (call_left r.back q h N) g i pointed (call_back U c h r.back refl y) a
 
+  -- the statements of a `switch`, one after the other
+  pub no_cases_written : (S : List Site) → WritesCases P path r S no_cases no_arms S
+  no_cases_written S = record { walked = refl; placed = λ T f b is. as_no_cases }
+
+  pub labelled_written : (S U : List Site) (l : CaseLabel) (cs : Cases) (arms : Arms) → WritesCases P path r S cs arms U
+      → WritesCases P path r S (labelled l cs) (entry l arms) U
+  labelled_written S U l cs arms x = record { walked = x.walked; placed = λ T f b is. as_labelled (x.placed T f b is) }
+
+  pub stated_written : (S V U : List Site) (a : Stmt) (cs : Cases) (h : Node) (arms : Arms) → WritesStmt P path r S a h V → WritesCases P path r V cs arms U
+      → WritesCases P path r S (stated a cs) (arm h arms) U
+  stated_written S V U a cs h arms x y = record {
+    walked = walk_then S (stmt_events (inside P path r) path N a) (cases_events (inside P path r) path N cs) V (passed U) x.walked y.walked;
+    placed = λ T f b is.
+        let b' = begins_join V U T (begins_walk V (cases_events (inside P path r) path N cs) U y.walked) b in
+        as_stated (x.placed T f b' is) (y.placed T f b is);
+  }
+
+  cases_as : (T : List Site) (f : inlined.Frame) (n k k' : ℕ) (cs : Cases) (arms : Arms) (u : ℕ) → k ≡ k' → InlCases P T (spot_of f n k) cs arms u
+      → InlCases P T (spot_of f n k') cs arms u
+  cases_as T f n k k' cs arms u e y = subst (λ z. InlCases P T (spot_of f n z) cs arms u) e y
+
+  pub switch_written : (S V U : List Site) (q at : ℕ) (e : Expr) (cs : Cases) (arms : Arms) (g : Node) → q ≡ length S → Pointed S (site at N false) V
+      → WritesCases P path (cases_frame r) V cs arms U
+      → g ≡ seq (point q) (switch_node q r.base e arms) → WritesStmt P path r S (switch at e cs) g U
+  switch_written S V U q at e cs arms g i pointed y a = record {
+    walked = walk_then S (plain_site path at N ∷ []) (cases_events (inside P path r) path N cs) V (passed U) pointed y.walked;
+    placed = λ T f b is.
+        let b' = begins_join V U T (begins_walk V (cases_events (inside P path r) path N cs) U y.walked) b in
+        let y' = cases_as T (record f { breaks = Some N }) N (length V) (suc (length S)) cs arms (length U) (one_longer S V (site at N false) pointed)
+        (y.placed T (record f { breaks = Some N }) b (among_cases is)) in
+        rw (a, i, ← is.base) (as_switch (has_point S V T f at N false pointed b' is) y');
+  }
+
   pub none_written : (S : List Site) → WritesItems P path r S no_more empty S
   none_written S = record { walked = refl; placed = λ T f b is. as_none }
 
@@ -376,7 +417,8 @@ module _ (P : Program) (path : List ℕ) (r : Frame) where
         base = r.live;
         live = r.live + length fn.parameters;
         calls_left = more;
-        loop_length = None;
+        breaks = None;
+        continues = None;
         receiver =
             behind_result fn.result_type x;
         back = Some r.live;
@@ -400,11 +442,12 @@ module _ (P : Program) (path : List ℕ) (r : Frame) where
               base = r.live;
               live = r.live + length fn.parameters;
               calls_left = more;
-              loop_length = None;
+              breaks = None;
+              continues = None;
               receiver = behind_result fn.result_type x;
               back = Some r.live;
             }) (callee f N (behind_result fn.result_type x) c) = record
-            { path = ap (λ z. c.label ∷ z) is.path; base = refl; loop = refl; receiver = refl; back = refl } in
+            { path = ap (λ z. c.label ∷ z) is.path; base = refl; breaks = refl; continues = refl; receiver = refl; back = refl } in
             rw (a, i, ← is.base, one_longer V U last e')
             (as_result {s = spot_of f N q} found wide (y.placed T (callee f N (behind_result fn.result_type x) c)
             (begins_join V U T (pointed_begins V U last e') b) is')
@@ -414,7 +457,7 @@ module _ (P : Program) (path : List ℕ) (r : Frame) where
 -- `break` and `continue`
 module _ (path : List ℕ) (r : Frame) where
   pub leaves_written : (S U : List Site) (q at m : ℕ) (exit : Exit) (h g : Node) → q ≡ length S
-      → Pointed S (record { path = path; label = at; live = r.live; asserts = false }) U → r.loop_length ≡ Some m
+      → Pointed S (record { path = path; label = at; live = r.live; asserts = false }) U → length_left exit r ≡ Some m
       → h ≡ seq (act q (keep m)) (leave r.live exit) → g ≡ seq (point q) h → LeavesLoop path r S at exit g U
   leaves_written S U q at m broken h g i e j a a' P d low = break_written P path r S U q at m h g i e j (low m j) a a'
   leaves_written S U q at m continued h g i e j a a' P d low = continue_written P path r S U q at m h g i e j (low m j) a a'

@@ -1,19 +1,19 @@
 -- What is owed for each part of a program that is written out: its points stand behind those before it, and whatever
 -- points follow, its tree is that of the definition.
-use Rattle.std.specs.Prelude.{◌≡◌, ◌≢◌, ℕ, suc, ◌+◌, ◌-◌, ◌≤◌, Bool, true, List, ◌∷◌, ◌++◌, length, Option, Some, None}
+use Rattle.std.specs.Prelude.{◌≡◌, ◌≢◌, ℕ, suc, ◌+◌, ◌-◌, ◌≤◌, true, List, ◌∷◌, ◌++◌, length, Option, Some, None}
 use Rattle.std.specs.Prelude.{slice_get}
-use Rattle.lra_program.specs.Program.{Expr, Cond, Call, Rvalue, Stmt, loop, break, continue, return, BlockItems}
+use Rattle.lra_program.specs.Program.{Expr, Cond, Call, Rvalue, Stmt, loop, break, continue, return, Cases, BlockItems}
 use Rattle.lra_program.specs.Program.{Function, Program}
 use Rattle.lra_program.specs.Step as step
 use Rattle.lra_program.specs.Step.{give, give_any, keep, behind_main}
 use Rattle.lra_base.specs.declared.number_types.NumberType.{NumberType}
 use Rattle.lra_program.specs.declared.receivers.Receiver.{Receiver}
 use Rattle.lra_program.specs.Receivers.{behind_result}
-use Rattle.lra_operations.specs.Graph.{Exit, broken, continued, returned, Node, act, leave, seq}
-use Rattle.lra_program.specs.Sites.{Site, Event, live_behind, rvalue_events, given_events, stmt_events, items_events}
-use Rattle.lra_program.specs.Sites.{call_events}
+use Rattle.lra_operations.specs.Graph.{Exit, broken, continued, returned, Node, act, leave, seq, Arms}
+use Rattle.lra_program.specs.Sites.{Site, Event, live_behind, rvalue_events, given_events, stmt_events}
+use Rattle.lra_program.specs.Sites.{cases_events, items_events, call_events}
 use Rattle.lra_operations.specs.Inlined as inlined
-use Rattle.lra_program.specs.WellFormed.{IsGoodCall, IsGoodGiven, IsGoodStmt, AreGoodItems}
+use Rattle.lra_program.specs.WellFormed.{Jumps, IsGoodCall, IsGoodGiven, IsGoodStmt, AreGoodCases, AreGoodItems}
 use Rattle.lra_graph.specs.Limits.{walk, passed, stopped}
 use Rattle.lra_graph.specs.declared.points.Limit.{Limit}
 use Rattle.lra_graph.specs.declared.frame.Frame.{Frame}
@@ -33,33 +33,43 @@ receiver_behind P (Some b) = b.receiver
 pub record IsFrame (P : Program) (calls : List ℕ) (r : Frame) (f : inlined.Frame) : Type 0 where
   pub path : f.here.path ≡ calls
   pub base : f.here.base ≡ r.base
-  pub loop : f.loop ≡ r.loop_length
+  pub breaks : f.breaks ≡ r.breaks
+  pub continues : f.continues ≡ r.continues
   pub receiver : receiver_behind P f.back ≡ r.receiver
   pub back : back_length f.back ≡ r.back
 
--- a well-formed part stands in the frame: the call's own variables live, `break` finds its loop, and what is cut to
--- lives
-pub record Stands (r : Frame) (X : Bool → ℕ → Type 0) : Type 0 where
-  pub in_loop : Bool
+-- a well-formed part stands in the frame: the call's own variables live, `break` and `continue` find where they go, and
+-- what is cut to lives
+pub record Stands (r : Frame) (X : Jumps → ℕ → Type 0) : Type 0 where
+  pub jumps : Jumps
   pub own : ℕ
-  pub good : X in_loop own
+  pub good : X jumps own
   pub within : r.base + own ≤ r.live
-  pub loops : in_loop ≡ true → (m : ℕ) × (r.loop_length ≡ Some m)
-  pub loop_low : (m : ℕ) → r.loop_length ≡ Some m → m ≤ r.live
+  pub breaks : jumps.breaks ≡ true → (m : ℕ) × (r.breaks ≡ Some m)
+  pub continues : jumps.continues ≡ true → (m : ℕ) × (r.continues ≡ Some m)
+  pub break_low : (m : ℕ) → r.breaks ≡ Some m → m ≤ r.live
+  pub continue_low : (m : ℕ) → r.continues ≡ Some m → m ≤ r.live
   pub back_low : (n : ℕ) → r.back ≡ Some n → n ≤ r.live
 
 module _ (P : Program) (r : Frame) where
   abbrev pub StmtStands : Stmt → Type 0
-  StmtStands s = Stands r (λ in_loop own. IsGoodStmt P in_loop own s)
+  StmtStands s = Stands r (λ jumps own. IsGoodStmt P jumps own s)
+
+  abbrev pub CasesStand : Cases → Type 0
+  CasesStand cs = Stands r (λ jumps own. AreGoodCases P jumps own cs)
 
   abbrev pub ItemsStand : BlockItems → Type 0
-  ItemsStand items = Stands r (λ in_loop own. AreGoodItems P in_loop own items)
+  ItemsStand items = Stands r (λ jumps own. AreGoodItems P jumps own items)
 
   abbrev pub GivenStands : Option Rvalue → Type 0
-  GivenStands o = Stands r (λ in_loop own. (at : ℕ) × IsGoodGiven P at own o)
+  GivenStands o = Stands r (λ jumps own. (at : ℕ) × IsGoodGiven P at own o)
 
   abbrev pub CallStands : Call → Type 0
-  CallStands c = Stands r (λ in_loop own. (at : ℕ) × IsGoodCall P at own c)
+  CallStands c = Stands r (λ jumps own. (at : ℕ) × IsGoodCall P at own c)
+
+-- where the statements of a `switch` stand
+abbrev pub cases_frame : Frame → Frame
+cases_frame r = record r { breaks = Some r.live }
 
 -- where the body of a called function stands
 abbrev pub callee_frame : Frame → Receiver → ℕ → Frame
@@ -67,7 +77,8 @@ callee_frame r x params = record {
   base = r.live;
   live = r.live + params;
   calls_left = r.calls_left - 1;
-  loop_length = None;
+  breaks = None;
+  continues = None;
   receiver = x;
   back = Some r.live;
 }
@@ -104,6 +115,11 @@ module _ (P : Program) (path : List ℕ) (r : Frame) where
   abbrev pub WritesStmt : List Site → Stmt → Node → List Site → Type 0
   WritesStmt S s g U = Writes P path r (stmt_events inside path r.live s) S U
       (λ T f. inlined.Inl P T (inlined.spot_of f r.live (length S)) s g (length U))
+
+  -- the statements of a `switch`
+  abbrev pub WritesCases : List Site → Cases → Arms → List Site → Type 0
+  WritesCases S cs arms U = Writes P path r (cases_events inside path r.live cs) S U
+      (λ T f. inlined.InlCases P T (inlined.spot_of f r.live (length S)) cs arms (length U))
 
   abbrev pub WritesItems : List Site → BlockItems → Node → List Site → Type 0
   WritesItems S b g U = Writes P path r (items_events inside path r.live b) S U
@@ -155,7 +171,13 @@ module _ (P : Program) (path : List ℕ) (r : Frame) where
   abbrev pub StopsItem : List Site → (BlockItems → BlockItems) → Limit → Type 0
   StopsItem S item x = (b : BlockItems) → walk S (items_events (inside P path r) path r.live (item b)) ≡ stopped x
 
--- `break` and `continue`: the statement that leaves the loop so
+-- how long the store is where the jump comes out
+abbrev pub length_left : Exit → Frame → Option ℕ
+length_left broken r = r.breaks
+length_left continued r = r.continues
+length_left returned r = r.back
+
+-- `break` and `continue`: the statement that leaves so
 abbrev pub leaving : Exit → ℕ → Stmt
 leaving broken at = break at
 leaving continued at = continue at
@@ -163,5 +185,5 @@ leaving returned at = return at None
 
 abbrev pub LeavesLoop : List ℕ → Frame → List Site → ℕ → Exit → Node → List Site → Type 0
 LeavesLoop path r S at exit g U =
-    (P : Program) → exit ≢ returned → ((m : ℕ) → r.loop_length ≡ Some m → m ≤ r.live)
+    (P : Program) → exit ≢ returned → ((m : ℕ) → length_left exit r ≡ Some m → m ≤ r.live)
     → WritesStmt P path r S (leaving exit at) g U

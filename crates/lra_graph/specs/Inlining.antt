@@ -4,12 +4,14 @@ use Rattle.std.specs.declared.alloc.Global.{Global}
 use Rattle.lra_operations.specs.declared.graph.Node as code
 use Rattle.lra_operations.specs.declared.graph.Site as code_site
 use Rattle.lra_program.specs.declared.receivers.Receiver.{Receiver}
-use Rattle.lra_program.specs.Program.{Call, Stmt, block, assign, call, if, loop, for, return}
+use Rattle.lra_program.specs.declared.program.Expr as code_expr
+use Rattle.lra_program.specs.declared.program.CaseItem as code_case
+use Rattle.lra_program.specs.Program.{Call, Stmt, block, assign, call, if, loop, for, return, switch}
 use Rattle.lra_program.specs.Program.{result, BlockItems, Program}
 use Rattle.lra_operations.specs.Graph.{Exit}
 use Rattle.lra_program.specs.Sites.{Site, Event, comes, plain_site, stmt_events}
 use Rattle.lra_program.specs.Sites.{items_events, call_events}
-use Rattle.lra_program.specs.ProgramViews.{cond_view, stmt_view, program_view}
+use Rattle.lra_program.specs.ProgramViews.{expr_view, cond_view, stmt_view, case_view, cases_of, program_view}
 use Rattle.lra_operations.specs.GraphViews.{node_view, site_view}
 use Rattle.lra_graph.specs.Limits.{walk, passed, stopped}
 use Rattle.lra_graph.specs.Building as building
@@ -34,12 +36,17 @@ loop_of at r = loop at (cond_view r.cond.now) (stmt_view r.body.now) (stmt_view 
 abbrev pub for_of : ℕ → BlockItems → Repeated → Stmt
 for_of at init r = for at init (cond_view r.cond.now) (stmt_view r.body.now) (stmt_view r.step.now)
 
+-- a `switch`, by its expression and its cases
+abbrev pub switch_of : ℕ → code_expr.Expr → List code_case.CaseItem → Stmt
+switch_of at e cs = switch at (expr_view e) (cases_of (map case_view cs))
+
 -- a statement with no statements in it
 abbrev pub IsSimple : Stmt → Type 0
 IsSimple (block items end) = ⊥
 IsSimple (if label c a b) = ⊥
 IsSimple (loop label c a step) = ⊥
 IsSimple (for label init c a step) = ⊥
+IsSimple (switch label e cs) = ⊥
 IsSimple s = ⊤
 
 -- a statement with no part to be written out, which makes no call
@@ -51,6 +58,7 @@ IsLone (if label c a b) = ⊥
 IsLone (loop label c a step) = ⊥
 IsLone (for label init c a step) = ⊥
 IsLone (return label e) = ⊥
+IsLone (switch label e cs) = ⊥
 IsLone s = ⊤
 
 module _ (at : Around) where

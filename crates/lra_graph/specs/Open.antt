@@ -1,19 +1,24 @@
 -- What is owed where a program is written out along a list of open places: in each of them a part is under way, and
 -- with that the place's own part is written.
-use Rattle.std.specs.Prelude.{◌≡◌, ℕ, ◌+◌, ◌≤◌, List, [], ◌∷◌, ◌++◌, map, length, Some, None}
+use Rattle.std.specs.Prelude.{◌≡◌, ℕ, ◌+◌, ◌≤◌, List, [], ◌∷◌, ◌++◌, map, length, Option, Some, None}
 use Rattle.lra_base.specs.Limits.{greatest_live}
+use Rattle.lra_base.specs.declared.case_labels.CaseLabel.{CaseLabel}
+use Rattle.lra_program.specs.declared.program.CaseItem.{CaseItem}
+use Rattle.lra_operations.specs.declared.graph.Arm.{Arm}
 use Rattle.lra_program.specs.Program as resolved
 use Rattle.lra_program.specs.Program.{result, Declarator, declaration, BlockItems, Program, Cond}
 use Rattle.lra_program.specs.Step.{append, keep}
-use Rattle.lra_program.specs.Sites.{Site, live_behind, plain_site, stmt_events, items_events, call_events}
-use Rattle.lra_program.specs.ProgramViews.{cond_view, call_view, stmt_view, declarator_view, item_view, items_of}
-use Rattle.lra_operations.specs.Graph.{Node, point, act, seq, choose}
-use Rattle.lra_operations.specs.GraphViews.{node_view, row}
-use Rattle.lra_operations.specs.Inlined.{loop_node}
+use Rattle.lra_program.specs.Sites.{Site, live_behind, plain_site, stmt_events, cases_events, items_events, call_events}
+use Rattle.lra_program.specs.ProgramViews.{expr_view, cond_view, call_view, stmt_view, declarator_view, item_view}
+use Rattle.lra_program.specs.ProgramViews.{items_of, case_view, cases_of}
+use Rattle.lra_operations.specs.Graph as graph
+use Rattle.lra_operations.specs.Graph.{Node, point, act, seq, choose, Arms}
+use Rattle.lra_operations.specs.GraphViews.{node_view, row, ArmPart, arm_view, arms_before}
+use Rattle.lra_operations.specs.Inlined.{loop_node, switch_node}
 use Rattle.lra_graph.specs.Limits.{walk, passed, stopped}
-use Rattle.lra_graph.specs.Building.{inside, call_left, ItemsStand, ItemStands, StmtStands, CallStands}
-use Rattle.lra_graph.specs.Building.{WritesStmt, WritesItems, WritesItem, WritesRvalue, WritesLoop}
-use Rattle.lra_graph.specs.Building.{WritesBody, StopsItem}
+use Rattle.lra_graph.specs.Building.{inside, call_left, ItemsStand, ItemStands, StmtStands, CasesStand, CallStands}
+use Rattle.lra_graph.specs.Building.{cases_frame, WritesStmt, WritesCases, WritesItems, WritesItem, WritesRvalue}
+use Rattle.lra_graph.specs.Building.{WritesLoop, WritesBody, StopsItem}
 use Rattle.lra_graph.specs.Inlining.{Points, points_in, program_around}
 use Rattle.lra_graph.specs.declared.points.Limit.{Limit}
 use Rattle.lra_graph.specs.declared.frame.Frame.{Frame}
@@ -24,7 +29,9 @@ use Rattle.lra_graph.specs.declared.places.Part.TheVariants.{Stmt, Declaration, 
 use Rattle.lra_graph.specs.declared.places.ItemRow.{ItemRow}
 use Rattle.lra_graph.specs.declared.places.CalledFrom.{CalledFrom}
 use Rattle.lra_graph.specs.declared.places.Place as place
-use Rattle.lra_graph.specs.declared.places.Place.TheVariants.{Items as ItemsAt, Forked, Init}
+use Rattle.lra_graph.specs.declared.places.CaseRow.{CaseRow}
+use Rattle.lra_graph.specs.declared.places.NextCase.{NextCase}
+use Rattle.lra_graph.specs.declared.places.Place.TheVariants.{Items as ItemsAt, Cases as CasesAt, Forked, Init}
 use Rattle.lra_graph.specs.declared.places.Place.TheVariants.{Around as AroundAt, Block, Given, Declared}
 use Rattle.lra_graph.specs.declared.places.Place.TheVariants.{Returned, Callee}
 use Rattle.lra_graph.specs.declared.places.Forked as forked
@@ -97,7 +104,8 @@ module _ (P : Program) where
   StandsAs (all_items b) r = ItemsStand P r b
   StandsAs (a_call caller c) r = CallStands P r c × (r.live ≤ greatest_live + 1)
   StandsAs (all_rounds q c a step) r =
-      StmtStands P (record r { loop_length = Some r.live }) a × StmtStands P (record r { loop_length = None }) step
+      StmtStands P (record r { breaks = Some r.live; continues = Some r.live }) a ×
+      StmtStands P (record r { breaks = None; continues = None }) step
 
   -- places -----------------------------------------------------------------------------------------------------------
 
@@ -141,6 +149,26 @@ module _ (P : Program) where
         → ItemsLoop whole.path whole.frame whole.before all (items_of (map item_view r.rest.now))
         (map node_view r.parts.items ++ g ∷ []) n V
 
+  -- a `switch` behind its point q, of which these arms are written and these cases are left: whatever is written of
+  -- those comes behind them
+  pub record SwitchLoop (path : List ℕ) (r : Frame) (S : List Site) (q at : ℕ) (e : resolved.Expr)
+      (all rest : resolved.Cases) (arms : List ArmPart) (V : List Site) : Type 0 where
+    pub stands : CasesStand P (cases_frame r) rest
+    pub writes : (h : Arms) (U : List Site) → WritesCases P path (cases_frame r) V rest h U
+        → WritesStmt P path r S (resolved.switch at e all)
+        (seq (point q) (switch_node q r.base e (arms_before arms h))) U
+    pub stops : (l : Limit) → walk V (cases_events (inside P path r) path r.live rest) ≡ stopped l
+        → walk S (stmt_events (inside P path r) path r.live (resolved.switch at e all)) ≡ stopped l
+
+  -- the statement under way stands behind what is written of the `switch`, and before what is left
+  pub record IsCaseRow (whole under : Due) (r : CaseRow) : Type 0 where
+    pub at : ℕ
+    pub all : resolved.Cases
+    pub is : whole.part ≡ a_stmt (resolved.switch at (expr_view r.value.now) all)
+    pub writes : (g : Node) (n : ℕ) (V : List Site) → IsWritten under g n V
+        → SwitchLoop whole.path whole.frame whole.before r.point at (expr_view r.value.now) all
+        (cases_of (map case_view r.rest.now)) (map arm_view r.arms.items ++ graph.arm g ∷ []) V
+
   -- the body of the function that the call names
   pub record IsBody (whole under : Due) (from : CalledFrom) : Type 0 where
     pub is : whole.part ≡ a_call from.caller (call_view from.call.now)
@@ -155,18 +183,18 @@ module _ (P : Program) where
   ForkContinues whole under (OnTrue b) = Forks whole under
       (λ n V. due (a_stmt (stmt_view b.on_false.now)) whole.path whole.frame V)
       (λ g h. seq (point b.point) (choose b.point whole.frame.base (cond_view b.cond.now) g h))
-  ForkContinues whole under (OnFalse b g) = Closes whole under
-      (λ h. seq (point b.point) (choose b.point whole.frame.base (cond_view b.cond.now) (node_view g) h))
-      whole.frame.live
+  ForkContinues whole under (OnFalse q c g) = Closes whole under
+      (λ h. seq (point q) (choose q whole.frame.base (cond_view c.now) (node_view g) h)) whole.frame.live
   ForkContinues whole under (Step q r) = Forks whole under
       (λ n V. due (a_stmt (stmt_view r.body.now)) whole.path
-      (record whole.frame { loop_length = Some whole.frame.live }) V)
+      (record whole.frame { breaks = Some whole.frame.live; continues = Some whole.frame.live }) V)
       (λ g h. loop_node q whole.frame.base (cond_view r.cond.now) h g)
-  ForkContinues whole under (Body q r g) = Closes whole under
-      (λ h. loop_node q whole.frame.base (cond_view r.cond.now) h (node_view g)) whole.frame.live
+  ForkContinues whole under (Body q c g) = Closes whole under
+      (λ h. loop_node q whole.frame.base (cond_view c.now) h (node_view g)) whole.frame.live
 
   abbrev pub Continues : Due → Due → place.Place → Type 0
   Continues whole under (ItemsAt r) = IsRow whole under r
+  Continues whole under (CasesAt r) = IsCaseRow whole under r
   Continues whole under (Forked x) = ForkContinues whole under x
   Continues whole under (Init q r) = Forks whole under
       (λ n V. due (part_view (Rounds q r)) whole.path (record whole.frame { live = n }) V)
@@ -206,6 +234,26 @@ module _ (P : Program) where
   -- the loop: what comes next leads to what the innermost place has under way
   abbrev pub AreUnderWay : Due → List Open → next.Next → List ℕ → List Site → Type 0
   AreUnderWay whole places n path V = (under : Due) × AreOpen whole under places × Leads under n path V
+
+-- these labels, then the cases
+abbrev pub labelled_all : List CaseLabel → resolved.Cases → resolved.Cases
+labelled_all [] cs = cs
+labelled_all (l ∷ ls) cs = resolved.labelled l (labelled_all ls cs)
+
+-- the next statement of a `switch` and what stands behind it; none where no statement is left
+abbrev pub from_next : Option NextCase → resolved.Cases
+from_next None = resolved.no_cases
+from_next (Some x) = resolved.stated (stmt_view x.stmt.now) (cases_of (map case_view x.rest.now))
+
+-- a label, before the arms behind it
+abbrev pub entry_part : CaseLabel → ArmPart
+entry_part l = graph.entry l
+
+-- the labels before what is left are written behind the arms
+abbrev pub PassesLabels : List Arm → List Arm → List CaseItem → resolved.Cases → Type 0
+PassesLabels before after cases left =
+    (labels : List CaseLabel) × (cases_of (map case_view cases) ≡ labelled_all labels left)
+    × (map arm_view after ≡ map arm_view before ++ map entry_part labels)
 
 -- the same, by what stands around in code and the points before and behind it
 abbrev pub LeadsFrom : Around → Points → Points → Work → next.Next → Type 0

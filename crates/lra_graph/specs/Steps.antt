@@ -2,14 +2,15 @@
 use Rattle.std.specs.Prelude.{◌<◌, ℕ, zero, suc, ◌+◌, List, map, Option, Some, None, slice_get}
 use Rattle.std.specs.List.{sum_by}
 use Rattle.lra_program.specs.Program.{Call, Rvalue, value, result, Stmt, absent, nothing, block, assign, call}
-use Rattle.lra_program.specs.Program.{if, loop, for, break, continue, return, assert, assume, BlockItems, no_more}
-use Rattle.lra_program.specs.Program.{declaration, statement, Function, Program}
-use Rattle.lra_program.specs.ProgramViews.{stmt_view, item_view, items_of}
+use Rattle.lra_program.specs.Program.{if, loop, for, break, continue, return, assert, assume, switch, Cases, no_cases}
+use Rattle.lra_program.specs.Program.{labelled, stated, BlockItems, no_more, declaration, statement, Function, Program}
+use Rattle.lra_program.specs.ProgramViews.{stmt_view, item_view, items_of, case_view, cases_of}
+use Rattle.lra_program.specs.declared.program.CaseItem.{CaseItem}
 use Rattle.lra_graph.specs.declared.frame.Frame.{Frame}
 use Rattle.lra_graph.specs.declared.frame.Around.{Around}
 use Rattle.lra_graph.specs.declared.places.Part.TheVariants.{Rounds}
 use Rattle.lra_graph.specs.declared.places.Place as place
-use Rattle.lra_graph.specs.declared.places.Place.TheVariants.{Items as ItemsAt, Forked, Init}
+use Rattle.lra_graph.specs.declared.places.Place.TheVariants.{Items as ItemsAt, Cases as CasesAt, Forked, Init}
 use Rattle.lra_graph.specs.declared.places.Forked.TheVariants.{OnTrue, Step}
 use Rattle.lra_graph.specs.declared.places.Open.{Open}
 use Rattle.lra_graph.specs.declared.places.Next as next
@@ -42,6 +43,13 @@ module _ (called : Call → ℕ) where
     stmt_steps (return at e) = 1 + given_steps e
     stmt_steps (assert at c) = 1
     stmt_steps (assume at c) = 1
+    stmt_steps (switch at e cs) = 1 + cases_steps cs
+
+    -- labels take none of their own
+    pub cases_steps : Cases → ℕ
+    cases_steps no_cases = 1
+    cases_steps (labelled l cs) = cases_steps cs
+    cases_steps (stated a cs) = 1 + (stmt_steps a + cases_steps cs)
 
     pub items_steps : BlockItems → ℕ
     items_steps no_more = 1
@@ -66,9 +74,14 @@ module _ (P : Program) where
   work_steps r (all_rounds q c a step) =
       3 + (stmt_steps (call_steps P r.calls_left) a + stmt_steps (call_steps P r.calls_left) step)
 
+  -- of a `switch`, what stands behind those that are written
+  abbrev pub cases_left : Frame → List CaseItem → ℕ
+  cases_left r cs = cases_steps (call_steps P r.calls_left) (cases_of (map case_view cs))
+
   -- at a place, behind the part that is under way there
   abbrev pub kind_left : Frame → place.Place → ℕ
   kind_left r (ItemsAt row) = work_steps r (all_items (items_of (map item_view row.rest.now)))
+  kind_left r (CasesAt row) = cases_left r row.rest.now
   kind_left r (Forked (OnTrue b)) = 2 + work_steps r (a_stmt (stmt_view b.on_false.now))
   kind_left r (Forked (Step q x)) = 2 + work_steps r (a_stmt (stmt_view x.body.now))
   kind_left r (Init q x) = 2 + work_steps r (part_view (Rounds q x))

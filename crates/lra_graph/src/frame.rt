@@ -1,6 +1,10 @@
 //! Where a statement stands.
 
-use lra_operations::Path;
+ghost use Rattle.std.specs.Prelude.{◌≡◌};
+ghost use Rattle.lra_operations.specs.GraphViews.{exit_view};
+ghost use Rattle.lra_graph.specs.Building.{length_left};
+
+use lra_operations::{Exit, Path};
 use lra_program::{Cond, Program, Receiver, Stmt};
 use std::alloc::Global;
 
@@ -13,12 +17,27 @@ pub struct Frame {
     pub live: usize,
     /// How many calls more the path may have.
     pub calls_left: usize,
-    /// How many variables live at the nearest loop.
-    pub loop_length: Option<usize>,
+    /// How many variables live at the nearest loop or `switch`, behind which `break` comes out.
+    pub breaks: Option<usize>,
+    /// How many variables live at the nearest loop, with which `continue` goes on.
+    pub continues: Option<usize>,
     /// What gets the value of the function that runs.
     pub receiver: Receiver,
     /// How many variables live at the call; none in `main`.
     pub back: Option<usize>,
+}
+
+impl Frame {
+    /// How long the store is where this jump comes out.
+    pub fn length_left(self, exit: Exit) -> Option<usize>
+        ensures { result ≡ length_left (exit_view exit) self }
+    {
+        match exit {
+            Exit::Broken => self.breaks,
+            Exit::Continued => self.continues,
+            Exit::Returned => self.back,
+        }
+    }
 }
 
 /// What stands around a part that is written out.

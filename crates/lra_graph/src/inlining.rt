@@ -2,6 +2,7 @@
 //! is called twice has its points twice, under two paths.
 
 mod calls;
+mod cases;
 mod going_on;
 mod lone;
 mod opening;

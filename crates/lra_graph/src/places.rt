@@ -8,8 +8,8 @@ ghost use Rattle.lra_graph.specs.declared.places.Next.TheVariants as next;
 use crate::frame::{Caller, Frame, Repeated};
 use crate::points::GraphError;
 use lra_base::NumberType;
-use lra_operations::{Node, Path};
-use lra_program::{BlockItem, Call, Cond, Declarator, Stmt};
+use lra_operations::{Arm, Node, Path};
+use lra_program::{BlockItem, Call, CaseItem, Cond, Declarator, Expr, Stmt};
 use std::alloc::AllocError;
 
 /// What is to be written out.
@@ -37,6 +37,23 @@ pub struct ItemRow<'a> {
     pub rest: &'a [BlockItem],
 }
 
+/// A `switch` of which one statement is under way: its point and its expression, what is written of its labels and of
+/// the statements before that one, and what stands behind it.
+#[derive(Drop)]
+pub struct CaseRow<'a> {
+    pub point: usize,
+    pub value: &'a Expr,
+    pub arms: Vec<Arm>,
+    pub rest: &'a [CaseItem],
+}
+
+/// The next statement of a `switch`, and what stands behind it.
+#[derive(Clone, Copy)]
+pub struct NextCase<'a> {
+    pub stmt: &'a Stmt,
+    pub rest: &'a [CaseItem],
+}
+
 /// A choice behind its own point, and the branch where its condition is false.
 #[derive(Clone, Copy)]
 pub struct Branches<'a> {
@@ -58,18 +75,19 @@ pub struct CalledFrom<'a> {
 pub enum Forked<'a> {
     /// A choice's first branch.
     OnTrue(Branches<'a>),
-    /// A choice's second branch.
-    OnFalse(Branches<'a>, Node),
+    /// The second branch of a choice with this point.
+    OnFalse(usize, &'a Cond, Node),
     /// The step of a loop with this point.
     Step(usize, Repeated<'a>),
     /// The body of a loop with this point.
-    Body(usize, Repeated<'a>, Node),
+    Body(usize, &'a Cond, Node),
 }
 
 /// A place where a part is under way, and what is still to be written there.
 #[derive(Drop)]
 pub enum Place<'a> {
     Items(ItemRow<'a>),
+    Cases(CaseRow<'a>),
     Forked(Forked<'a>),
     /// How a `for` with this point begins is under way.
     Init(usize, Repeated<'a>),

@@ -47,7 +47,8 @@ pub fn enter_call(
         base: frame.live,
         live: frame.live + call.arguments.len(),
         calls_left: frame.calls_left - 1,
-        loop_length: None,
+        breaks: None,
+        continues: None,
         receiver,
         back: Some(frame.live),
     };

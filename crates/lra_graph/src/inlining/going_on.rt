@@ -10,6 +10,7 @@ ghost use Rattle.lra_graph.specs.Steps.{next_left, kind_left, place_left};
 ghost use Rattle.lra_graph.specs.declared.places.Place.TheVariants as place;
 
 use super::calls::end_call;
+use super::cases::go_on_cases;
 use super::parts::next_item;
 use super::returns::leave_call;
 use crate::frame::{Around, Frame, Source};
@@ -59,30 +60,29 @@ fn go_on_forked<'a>(
 {
     match forked {
         Forked::OnTrue(branches) => {
-            let on_false = Part::Stmt(branches.on_false);
-            let place = Place::Forked(Forked::OnFalse(branches, part.node));
-            Ok(Next::Opens(Open { frame, place }, frame, on_false))
-        }
-        Forked::OnFalse(branches, on_true) => {
             let Branches {
                 point,
                 cond,
-                on_false: _,
+                on_false,
             } = branches;
+            let place = Place::Forked(Forked::OnFalse(point, cond, part.node));
+            Ok(Next::Opens(Open { frame, place }, frame, Part::Stmt(on_false)))
+        }
+        Forked::OnFalse(point, cond, on_true) => {
             let all = choice(alloc, point, frame.base, cond, on_true, part.node);
             close(all, frame.live)
         }
         Forked::Step(point, repeated) => {
             let inside = Frame {
-                loop_length: Some(frame.live),
+                breaks: Some(frame.live),
+                continues: Some(frame.live),
                 ..frame
             };
-            let body = Part::Stmt(repeated.body);
-            let place = Place::Forked(Forked::Body(point, repeated, part.node));
-            Ok(Next::Opens(Open { frame, place }, inside, body))
+            let place = Place::Forked(Forked::Body(point, repeated.cond, part.node));
+            Ok(Next::Opens(Open { frame, place }, inside, Part::Stmt(repeated.body)))
         }
-        Forked::Body(point, repeated, step) => {
-            let all = rounds(alloc, point, frame.base, repeated.cond, part.node, step);
+        Forked::Body(point, cond, step) => {
+            let all = rounds(alloc, point, frame.base, cond, part.node, step);
             close(all, frame.live)
         }
     }
@@ -172,6 +172,7 @@ pub fn go_on<'a>(
     let alloc = source.alloc;
     match place {
         Place::Items(row) => go_on_items(alloc, frame, row, part),
+        Place::Cases(row) => go_on_cases(alloc, frame, row, part),
         Place::Forked(forked) => go_on_forked(alloc, frame, forked, part),
         Place::Init(point, repeated) => {
             let Written { node, live } = part;

@@ -7,6 +7,7 @@ ghost use Rattle.lra_operations.specs.GraphViews.{exit_view};
 ghost use Rattle.lra_meaning.specs.Refuse.{greatest_live};
 ghost use Rattle.lra_graph.specs.Limits.{OnLimit};
 ghost use Rattle.lra_graph.specs.Inlining.{points_in, own_events, assertion_events, Passes, Stops, StmtStands};
+ghost use Rattle.lra_graph.specs.Building.{length_left};
 ghost use Rattle.lra_graph.specs.Inlining.{StopsStmt, IsLone, IsStmt, IsPlain, IsExit};
 
 use crate::frame::Around;
@@ -39,20 +40,20 @@ fn lone_point(around: &Around<'_>, label: usize, sites: &mut Vec<Site>) -> Resul
     Ok(Node::Point(point))
 }
 
-/// Out of a loop, or on to its next round.
+/// Out of a loop or a `switch`, or on to a loop's next round: the store is cut to what lived there.
 fn leave_loop(
     around: &Around<'_>,
     label: usize,
     exit: Exit,
     sites: &mut Vec<Site>,
 ) -> Result<Node, GraphError>
-    requires { (m : ℕ) × (around.now.frame.loop_length ≡ Some m) }
+    requires { (m : ℕ) × (length_left (exit_view exit) around.now.frame ≡ Some m) }
     ensures written { IfOk result (IsExit around.now sites.old sites.new label (exit_view exit)) }
     ensures limit { OnLimit result (Stops around.now sites.old (own_events around.now label)) }
 {
     let point = open_point(around, label, sites)?;
     let frame = around.frame;
-    match frame.loop_length {
+    match frame.length_left(exit) {
         Some(length) => {
             let leave = cut_and_leave(around.alloc, point, length, frame.live, exit)?;
             finish(put_point(around.alloc, point, leave))

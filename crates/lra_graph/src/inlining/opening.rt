@@ -8,7 +8,7 @@ ghost use Rattle.lra_program.specs.ProgramViews.{slot_view, variable_view, cond_
 ghost use Rattle.lra_program.specs.ProgramViews.{declarator_view, item_view, items_of};
 ghost use Rattle.lra_meaning.specs.Refuse.{greatest_live};
 ghost use Rattle.lra_graph.specs.Limits.{OnLimit};
-ghost use Rattle.lra_graph.specs.Inlining.{StmtStands, ItemStands, StopsStmt, StopsItem, IsSimple, loop_of, for_of};
+ghost use Rattle.lra_graph.specs.Inlining.{StmtStands, ItemStands, StopsStmt, StopsItem, IsSimple, loop_of, for_of, switch_of};
 ghost use Rattle.lra_graph.specs.Open.{a_stmt, a_declaration, LeadsFrom};
 ghost use Rattle.lra_graph.specs.Steps.{FallsFrom};
 ghost use Rattle.lra_graph.specs.declared.places.Next.TheVariants as next;
@@ -16,14 +16,17 @@ ghost use Rattle.lra_graph.specs.declared.places.Part.TheVariants as part;
 ghost use Rattle.lra_graph.specs.declared.places.Place.TheVariants as place;
 ghost use Rattle.lra_graph.specs.declared.places.Forked.TheVariants as forked;
 
+use super::cases::next_case;
 use super::lone::{inline_lone, open_point};
 use super::returns::open_return;
 use crate::frame::{Around, Caller, Frame, Repeated};
-use crate::places::{Branches, Forked, Next, Open, Part, Place, Written, close};
+use crate::places::{Branches, CaseRow, Forked, Next, Open, Part, Place, Written, close};
 use crate::points::{GraphError, Limit, add_point};
 use lra_operations::forms::{declare, put_point};
 use lra_operations::{Node, Op, Site};
-use lra_program::{BlockItem, Call, Cond, Declarator, Receiver, Rvalue, Slot, Stmt, Variable};
+use lra_program::{
+    BlockItem, Call, CaseItem, Cond, Declarator, Expr, Receiver, Rvalue, Slot, Stmt, Variable,
+};
 
 /// Where the variable stands in the store.
 fn store_index(base: usize, slot: Slot) -> usize
@@ -85,11 +88,12 @@ fn open_if<'a>(
 /// The rounds of a loop behind its own point. Its step's points come before those of its body.
 pub fn open_rounds<'a>(frame: Frame, point: usize, repeated: Repeated<'a>) -> Next<'a>
     ensures { result ≡ next.Opens (record { frame = frame; place = place.Forked (forked.Step point repeated.entry) })
-        (record frame { loop_length = None }) (part.Stmt repeated.entry.step) }
+        (record frame { breaks = None; continues = None }) (part.Stmt repeated.entry.step) }
 {
     let place = Place::Forked(Forked::Step(point, repeated));
     let outside = Frame {
-        loop_length: None,
+        breaks: None,
+        continues: None,
         ..frame
     };
     Next::Opens(Open { frame, place }, outside, Part::Stmt(repeated.step))
@@ -109,6 +113,32 @@ fn open_loop<'a>(
 {
     let point = open_point(here, label, sites)?;
     Ok(open_rounds(here.frame, point, *repeated))
+}
+
+/// A `switch`: its point, and its statements, which stand behind their labels.
+fn open_switch<'a>(
+    here: &Around<'_>,
+    label: usize,
+    value: &'a Expr,
+    cases: &'a [CaseItem],
+    sites: &mut Vec<Site>,
+) -> Result<Next<'a>, GraphError>
+    requires { StmtStands here.now (switch_of label value.now cases.now) }
+    ensures leads { IfOk result (LeadsFrom here.now sites.old sites.new
+        (a_stmt (switch_of label value.now cases.now))) }
+    ensures limit { OnLimit result (StopsStmt here.now sites.old
+        (switch_of label value.now cases.now)) }
+    ensures falls { IfOk result (FallsFrom here.now
+        (a_stmt (switch_of label value.now cases.now))) }
+{
+    let point = open_point(here, label, sites)?;
+    let row = CaseRow {
+        point,
+        value,
+        arms: Vec::new(here.alloc),
+        rest: cases,
+    };
+    next_case(here.alloc, here.frame, row)
 }
 
 /// A `for`: its point, at which its variables live already, and how it begins.
@@ -244,6 +274,7 @@ pub fn open_stmt<'a>(
             let repeated = Repeated { cond, body, step };
             open_loop(here, *label, &repeated, sites)
         }
+        Stmt::Switch(label, value, cases) => open_switch(here, *label, value, cases, sites),
         Stmt::For {
             label,
             init,

@@ -39,7 +39,8 @@ pub fn build(alloc: Global, program: &Program) -> Result<Graph, GraphError>
         base: globals,
         live: globals,
         calls_left: GREATEST_CALLS,
-        loop_length: None,
+        breaks: None,
+        continues: None,
         receiver: Receiver::nobody().behind_result(main.result_type),
         back: None,
     };

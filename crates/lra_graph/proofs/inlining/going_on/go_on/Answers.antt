@@ -17,6 +17,13 @@ returns-in-Items-clause-leads c = λ whole under b.
     let k = opened P whole under f _ _ c.in-Items.is b.0 in
     c.go_on_items.ensures.leads P whole under c.args.path.now (points_in c.args.sites.now) (k, b.1, b.2)
 
+pub returns-in-Cases-clause-leads : goal.returns-in-Cases-clause-leads
+returns-in-Cases-clause-leads c = λ whole under b.
+    let P = program_view c.args.source.program.now in
+    let f = c.args.place.frame in
+    let k = opened P whole under f _ _ c.in-Cases.is b.0 in
+    c.go_on_cases.ensures.leads P whole under c.args.path.now (points_in c.args.sites.now) (k, b.1, b.2)
+
 pub returns-in-Forked-clause-leads : goal.returns-in-Forked-clause-leads
 returns-in-Forked-clause-leads c = λ whole under b.
     let P = program_view c.args.source.program.now in
@@ -104,6 +111,9 @@ returns-in-Returned-clause-leads c = λ whole under b.
 
 pub returns-in-Items-clause-falls : goal.returns-in-Items-clause-falls
 returns-in-Items-clause-falls c = λ P. rw c.in-Items.is (c.go_on_items.ensures.falls P)
+
+pub returns-in-Cases-clause-falls : goal.returns-in-Cases-clause-falls
+returns-in-Cases-clause-falls c = λ P. rw c.in-Cases.is (c.go_on_cases.ensures.falls P)
 
 pub returns-in-Callee-clause-falls : goal.returns-in-Callee-clause-falls
 returns-in-Callee-clause-falls c = λ P. rw c.in-Callee.is (c.end_callee.ensures.falls P)

@@ -23,9 +23,9 @@ pub returns-in-OnFalse-clause-leads : goal.returns-in-OnFalse-clause-leads
 returns-in-OnFalse-clause-leads c = λ P whole under path V b.
     let f = c.args.frame in
     let k = forked_seen P whole under f _ _ c.in-OnFalse.is b.0 in
-    let x = c.in-OnFalse.branches in
     closed_ok P c.close.result _ _ c.choice-all.result f.live c.close.ensures.written c.choice-all.ensures
-    (λ g a. closed P whole under f path c.args.part.live V (λ (r : Frame) h. seq (point x.point) (choose x.point r.base (cond_view x.cond.now) (node_view c.in-OnFalse.on_true) h))
+    (λ g a. closed P whole under f path c.args.part.live V (λ (r : Frame) h. seq (point c.in-OnFalse.point)
+    (choose c.in-OnFalse.point r.base (cond_view c.in-OnFalse.cond.now) (node_view c.in-OnFalse.on_true) h))
     (λ (r : Frame). r.live) (node_view c.args.part.node) g k.frame k.path b.2 k.continues b.1 a)
 
 pub returns-in-Body-clause-leads : goal.returns-in-Body-clause-leads
@@ -33,5 +33,6 @@ returns-in-Body-clause-leads c = λ P whole under path V b.
     let f = c.args.frame in
     let k = forked_seen P whole under f _ _ c.in-Body.is b.0 in
     closed_ok P c.close-in-Body.result _ _ c.rounds-all.result f.live c.close-in-Body.ensures.written c.rounds-all.ensures
-    (λ g a. closed P whole under f path c.args.part.live V (λ (r : Frame) h. loop_node c.in-Body.point r.base (cond_view c.in-Body.repeated.cond.now) h (node_view c.in-Body.step))
+    (λ g a. closed P whole under f path c.args.part.live V (λ (r : Frame) h. loop_node c.in-Body.point r.base (cond_view c.in-Body.cond.now) h
+    (node_view c.in-Body.step))
     (λ (r : Frame). r.live) (node_view c.args.part.node) g k.frame k.path b.2 k.continues b.1 a)

@@ -41,7 +41,7 @@ pub returns-in-Break-clause-written : goal.returns-in-Break-clause-written
 returns-in-Break-clause-written c =
     let here = c.args.around.now in
     break_handed (program_around here) here.path.now here.frame (points_in c.args.sites.now) c.leave_loop.result node_view _ (stmt_view c.args.stmt.now) c.in-Break.label (ap stmt_view
-    c.in-Break.is ∙ shown_break c.in-Break.label) c.requires.stands.loop_low c.leave_loop.ensures.written
+    c.in-Break.is ∙ shown_break c.in-Break.label) c.requires.stands.break_low c.leave_loop.ensures.written
 
 pub returns-in-Break-clause-limit : goal.returns-in-Break-clause-limit
 returns-in-Break-clause-limit c =
@@ -59,7 +59,7 @@ pub returns-in-Continue-clause-written : goal.returns-in-Continue-clause-written
 returns-in-Continue-clause-written c =
     let here = c.args.around.now in
     continue_handed (program_around here) here.path.now here.frame (points_in c.args.sites.now) c.leave_loop-in-Continue.result node_view _ (stmt_view c.args.stmt.now) c.in-Continue.label
-    (ap stmt_view c.in-Continue.is ∙ shown_continue c.in-Continue.label) c.requires.stands.loop_low c.leave_loop-in-Continue.ensures.written
+    (ap stmt_view c.in-Continue.is ∙ shown_continue c.in-Continue.label) c.requires.stands.continue_low c.leave_loop-in-Continue.ensures.written
 
 pub returns-in-Continue-clause-limit : goal.returns-in-Continue-clause-limit
 returns-in-Continue-clause-limit c =

@@ -27,7 +27,7 @@ inline_items-requires-clause-stands c = items_stand_as (program_view c.args.prog
     (main_body c.args.program.now c.index-main.result.now (main_read c.args.program.now c.index-main.result.now c.requires c.index-main.ensures)
     ∙ sym (ap (λ z. items_of (map item_view z)) c.deref.ensures.value))
     (main_stands (program_view c.args.program.now) (begun_at c.len-globals.result c.behind_result.result) c.requires
-    (omega arith) refl refl)
+    (omega arith) refl refl refl)
 
 pub returns-in_err-body-clause-limit : goal.returns-in_err-body-clause-limit
 returns-in_err-body-clause-limit c = let p = err_from_is_err_and c.from_residual.result c.from_residual.ensures.1 in limit_to c.from_residual.result p.0 _
