@@ -1,5 +1,5 @@
 -- What each operation of an iteration keeps, all its values have; so none has more parts than the options say.
-use Rattle.std.proofs.Common.{◌≡◌, ℕ, zero, suc, ◌-◌, ◌≤◌, ◌++◌, List, [], ◌∷◌, length, Option, None, Bool, true, false, inl, inr, refl, sym, subst}
+use Rattle.std.proofs.Common.{◌≡◌, ℕ, zero, suc, ℤ, ◌-◌, ◌≤◌, ◌++◌, List, [], ◌∷◌, length, Option, None, Some, Bool, true, false, inl, inr, refl, sym, subst}
 use Rattle.std.specs.List.{AllByRecursion, Contains}
 use Rattle.std.proofs.lemmas.Option.{slice_get_read}
 use Rattle.lra_linear.proofs.Membership.{contains_none, contains_cases}
@@ -10,14 +10,18 @@ use Rattle.lra_domain.specs.declared.Mode.{Mode}
 use Rattle.lra_domain.specs.declared.Exactness.{Exactness}
 use Rattle.lra_domain.specs.Meaning.{Meaning}
 use Rattle.lra_domain.specs.Laws.{Laws}
-use Rattle.lra_program.specs.Program.{Cond, Program}
-use Rattle.lra_operations.specs.Graph.{Exit, broken, continued, returned, Node, empty, point, act, check, seq, choose, iterate, catch, leave}
+use Rattle.lra_base.specs.declared.case_labels.CaseLabel.{CaseLabel}
+use Rattle.lra_base.specs.declared.case_labels.CaseLabel.TheVariants.{Case, Default}
+use Rattle.lra_program.specs.Program.{Expr, Cond, Program}
+use Rattle.lra_operations.specs.Graph.{Exit, broken, continued, returned, Node, empty, point, act, check, seq, choose, iterate, catch, leave, select, Arms}
+use Rattle.lra_operations.specs.Graph.{no_arms, entry, arm, entries_of}
 use Rattle.lra_flow.specs.Plan.{Plan, Widening}
 use Rattle.lra_flow.specs.Operations.{Operations, dropping}
 use Rattle.lra_domain.specs.Moves.{Moves, stay, make, first_then, join_of}
 use Rattle.lra_flow.specs.Moves.{AreMade}
-use Rattle.lra_flow.specs.MovesOf.{guard, moves_of, first_values}
-use Rattle.lra_flow.specs.Pass.{Entry, value, failing, Result, noted, goes_on, jumps, in_turn, first_of_call, values_behind, behind, AreJoined, Leaves, Through, GoesRound, Grows, Narrows, Pass}
+use Rattle.lra_flow.specs.MovesOf.{guard, value_moves, moves_of, first_values}
+use Rattle.lra_flow.specs.Pass.{Entry, value, failing, Result, noted, goes_on, jumps, in_turn, first_of_call, values_behind, behind, AreJoined, Leaves, Through}
+use Rattle.lra_flow.specs.Pass.{GoesRound, Grows, Narrows, Pass, ArmsPass, ValueIs, MatchesNone, Enters, JoinsRunning, ComesOut, RunsFrom}
 use Rattle.lra_flow.specs.Analysis.{Derivation, Solves}
 
 -- what has no operand has the property, and each operation keeps it, where this many parts are asked for
@@ -114,29 +118,81 @@ module _ (V H : Type 0) (ops : Operations V H) (set : Plan) (Good : V → Type 0
         let top = keeps.joined first s.normal e next joined g h.normal in
         narrows_good more first next t v r rest g top (round_good (noted q e s.flag) next t turn top)
 
-  pub pass_good : (tree : Node) (f : Option ℕ) (v : V) (r : Result V) → Pass V H ops set tree f v r → Good v → AreGood r
-  pass_good empty f v r is g = same_good r _ is (on_good [] v f tt g)
-  pass_good (point q) f v r is g = same_good r _ is (on_good (value q v ∷ []) v f (g, tt) g)
-  pass_good (act q op) f v r (w, e, done, is) g = same_good r _ is (on_good [] w (noted q e f) tt (made_good (moves_of (ops.dims v) op) v e w done g))
-  pass_good (check q base c) f v r (u, w, d, e, off, on, is) g =
-      same_good r _ is (on_good (failing q u ∷ []) w (noted q e (noted q d f)) (leaves_good base c false v d u off g, tt) (leaves_good base c true v e w on g))
-  pass_good (seq a b) f v r (s, t, one, two, is) g =
-      let x = pass_good a f v s one g in
-      let y = pass_good b s.flag s.normal t two x.normal in
-      same_good r _ is (both_good s t t.normal t.flag x y y.normal)
-  pass_good (choose q base c a b) f v r (on, off, w, d, e, i, s, t, holds, one, fails, two, joined, is) g =
-      let x = pass_good a (noted q d f) on s one (leaves_good base c true v d on holds g) in
-      let y = pass_good b (noted q e s.flag) off t two (leaves_good base c false v e off fails g) in
-      same_good r _ is (both_good s t w (noted q i t.flag) x y (keeps.joined s.normal t.normal i w joined x.normal y.normal))
-  pass_good (iterate q base c a) f v r (h, later, u, top, out, s, t, e, started, grown, narrowed, off, is) g =
-      let x = grows_good q base c (Pass V H ops set a) (pass_good a) set.widening set.delay f h later u s grown (keeps.started v _ h started g) in
-      let y = narrows_good q base c (Pass V H ops set a) (pass_good a) set.narrow v u s top t narrowed g x.0 x.1 in
-      let z = y.1 in
-      same_good r _ is (record { normal = leaves_good base c false top e out off y.0; breaks = z.breaks; continues = z.continues; returns = z.returns; entries = z.entries })
-  pass_good (catch q k a) f v r (w, e, s, one, joined, is) g =
-      let x = pass_good a f v s one g in
-      same_good r _ is (behind_good k s w (noted q e s.flag) x (caught_good k s e w joined x))
-  pass_good (leave n k) f v r (w, nothing, is) g = same_good r _ is (jump_good k v w f g (keeps.void n w nothing))
+  looked_for_good : (base : ℕ) (e : Expr) (z : ℤ) (wanted : Bool) (v : V) (x : Exactness) (w : V) → ValueIs ops base e z wanted v x w → Good v → Good w
+  looked_for_good base e z wanted v x w is g = made_good (value_moves (ops.dims v) base wanted e z) v x w is g
+
+  matches_good : (base : ℕ) (e : Expr) (labels : List CaseLabel) (v : V) (x : Exactness) (w : V) → MatchesNone ops base e labels v x w → Good v → Good w
+  matches_good base e [] v x w (same, exact) g = subst Good (sym same) g
+  matches_good base e (Case z ∷ labels) v x w (u, c, d, one, rest, worst) g = matches_good base e labels u d w rest (looked_for_good base e z false v c u one g)
+  matches_good base e (Default ∷ labels) v x w rest g = matches_good base e labels v x w rest g
+
+  enters_good : (base : ℕ) (e : Expr) (l : CaseLabel) (v other : V) (x : Exactness) (w : V) → Enters ops base e l v other x w → Good v → Good other → Good w
+  enters_good base e (Case z) v other x w is g h = looked_for_good base e z true v x w is g
+  enters_good base e Default v other x w (same, exact) g h = subst Good (sym same) h
+
+  -- where something runs, it is good
+  abbrev RunsGood : Option V → Type 0
+  RunsGood None = Unit {0}
+  RunsGood (Some u) = Good u
+
+  joins_good : (o : Option V) (u : V) (x : Exactness) (w : V) → JoinsRunning ops o u x w → RunsGood o → Good u → Good w
+  joins_good None u x w (same, exact) h g = subst Good (sym same) g
+  joins_good (Some running) u x w joined h g = keeps.joined running u x w joined h g
+
+  out_good : (d : Bool) (o : Option V) (other : V) (x : Exactness) (w : V) → ComesOut ops d o other x w → RunsGood o → Good other → Good w
+  out_good d None other x w (same, exact) h g = subst Good (sym same) g
+  out_good true (Some running) other x w (same, exact) h g = subst Good (sym same) h
+  out_good false (Some running) other x w joined h g = keeps.joined running other x w joined h g
+
+  from_good : (live : ℕ) (o : Option V) (w : V) → RunsFrom ops live set.parts o w → RunsGood o → Good w
+  from_good live None w nothing h = keeps.void live w nothing
+  from_good live (Some running) w same h = subst Good (sym same) h
+
+  mutual
+    pub pass_good : (tree : Node) (f : Option ℕ) (v : V) (r : Result V) → Pass V H ops set tree f v r → Good v → AreGood r
+    pass_good empty f v r is g = same_good r _ is (on_good [] v f tt g)
+    pass_good (point q) f v r is g = same_good r _ is (on_good (value q v ∷ []) v f (g, tt) g)
+    pass_good (act q op) f v r (w, e, done, is) g = same_good r _ is (on_good [] w (noted q e f) tt (made_good (moves_of (ops.dims v) op) v e w done g))
+    pass_good (check q base c) f v r (u, w, d, e, off, on, is) g =
+        same_good r _ is (on_good (failing q u ∷ []) w (noted q e (noted q d f)) (leaves_good base c false v d u off g, tt)
+        (leaves_good base c true v e w on g))
+    pass_good (seq a b) f v r (s, t, one, two, is) g =
+        let x = pass_good a f v s one g in
+        let y = pass_good b s.flag s.normal t two x.normal in
+        same_good r _ is (both_good s t t.normal t.flag x y y.normal)
+    pass_good (choose q base c a b) f v r (on, off, w, d, e, i, s, t, holds, one, fails, two, joined, is) g =
+        let x = pass_good a (noted q d f) on s one (leaves_good base c true v d on holds g) in
+        let y = pass_good b (noted q e s.flag) off t two (leaves_good base c false v e off fails g) in
+        same_good r _ is (both_good s t w (noted q i t.flag) x y (keeps.joined s.normal t.normal i w joined x.normal y.normal))
+    pass_good (iterate q base c a) f v r (h, later, u, top, out, s, t, e, started, grown, narrowed, off, is) g =
+        let x = grows_good q base c (Pass V H ops set a) (pass_good a) set.widening set.delay f h later u s grown (keeps.started v _ h started g) in
+        let y = narrows_good q base c (Pass V H ops set a) (pass_good a) set.narrow v u s top t narrowed g x.0 x.1 in
+        let z = y.1 in
+        same_good r _ is (record {
+          normal = leaves_good base c false top e out off y.0;
+          breaks = z.breaks;
+          continues = z.continues;
+          returns = z.returns;
+          entries = z.entries;
+        })
+    pass_good (catch q k a) f v r (w, e, s, one, joined, is) g =
+        let x = pass_good a f v s one g in
+        same_good r _ is (behind_good k s w (noted q e s.flag) x (caught_good k s e w joined x))
+    pass_good (leave n k) f v r (w, nothing, is) g = same_good r _ is (jump_good k v w f g (keeps.void n w nothing))
+    pass_good (select q base e arms) f v r (other, x, none, pass) g =
+        arms_good q base e _ v other arms (noted q x f) None r pass g (matches_good base e (entries_of arms) v x other none g) tt
+
+    arms_good : (q base : ℕ) (e : Expr) (d : Bool) (v other : V) (arms : Arms) (f : Option ℕ) (o : Option V) (r : Result V)
+        → ArmsPass V H ops set q base e d v other arms f o r
+        → Good v → Good other → RunsGood o → AreGood r
+    arms_good q base e d v other no_arms f o r (w, x, out, is) g h k = same_good r _ is (on_good [] w (noted q x f) tt (out_good d o other x w out k h))
+    arms_good q base e d v other (entry l arms) f o r (u, w, x, y, enters, joins, rest) g h k =
+        arms_good q base e d v other arms (noted q y (noted q x f)) (Some w) r rest g h
+        (joins_good o u y w joins k (enters_good base e l v other x u enters g h))
+    arms_good q base e d v other (arm a arms) f o r (w, s, t, from, one, rest, is) g h k =
+        let x = pass_good a f w s one (from_good (ops.dims v) o w from k) in
+        let y = arms_good q base e d v other arms s.flag (Some s.normal) t rest g h x.normal in
+        same_good r _ is (both_good s t t.normal t.flag x y y.normal)
 
   value_good : (xs : List (Entry V)) (q : ℕ) (v : V) → AllByRecursion IsGood xs → Contains xs (value q v) → Good v
   value_good [] q v h there = absurd (contains_none (value q v) there)

@@ -9,14 +9,15 @@ use Rattle.lra_lin.specs.declared.test.Test.{Test}
 use Rattle.lra_flow.specs.declared.seen.Division.{Division}
 use Rattle.lra_flow.specs.declared.seen.Seen.{Seen}
 use Rattle.lra_flow.specs.declared.seen.Seen.TheVariants.{Linear, Divided, Unseen}
-use Rattle.lra_flow.specs.Linear.{TestHolds, comparison_test}
-use Rattle.lra_flow.specs.Seen.{Divides, with_both, seen_of, difference_seen}
+use Rattle.lra_flow.specs.Linear.{TestHolds, constant_form, comparison_test}
+use Rattle.lra_flow.specs.Seen.{Divides, with_both, seen_of, subtracted, difference_seen}
 use Rattle.lra_domain.specs.Moves.{MayLead}
 use Rattle.lra_flow.specs.MovesOf.{opposite_comparison, comparison_as, tested, test_moves, case_moves, seen_moves, split_moves, comparison_moves, guard}
+use Rattle.lra_flow.specs.MovesOf.{value_moves}
 use Rattle.lra_base.specs.declared.number_types.NumberType.TheVariants.{Int}
 use Rattle.lra_program.proofs.TypeLaws.{bind_some}
-use Rattle.lra_flow.proofs.FormLemmas.{some_first, lt_decides, gt_decides, ne_decides, test_is_right, compared}
-use Rattle.lra_flow.proofs.DivisionLemmas.{SeenIs, seen_tested, subtracted_is, seen_right}
+use Rattle.lra_flow.proofs.FormLemmas.{constant_form_value, some_first, lt_decides, gt_decides, ne_decides, test_is_right, compared}
+use Rattle.lra_flow.proofs.DivisionLemmas.{constant_form_wide, SeenIs, seen_tested, subtracted_is, seen_right}
 
 -- what `!` does to a comparison
 opposite_is : (op : Comparison) (x y : ℤ) → compares op x y ≡ false → compares (opposite_comparison op) x y ≡ true
@@ -62,7 +63,7 @@ or_false true rest left d e = absurd (let no : true ≡ false = some_first true 
 or_false false rest left d e = (refl, e)
 
 -- a comparison, or its opposite, is true where it is to be so
-as_wanted : (wanted : Bool) (op : Comparison) (x y : ℤ) → compares op x y ≡ wanted → IsTrue (compares (comparison_as wanted op) x y)
+pub as_wanted : (wanted : Bool) (op : Comparison) (x y : ℤ) → compares op x y ≡ wanted → IsTrue (compares (comparison_as wanted op) x y)
 as_wanted true op x y is = is
 as_wanted false op x y is = opposite_is op x y is
 
@@ -101,7 +102,7 @@ module _ (store : List ℤ) where
   split_leads at_least w x y is so = seen_leads at_least w x y is so
   split_leads equal w x y is so = seen_leads equal w x y is so
 
-  comparison_leads : (op : Comparison) (w : Seen) (x y : ℤ) → SeenIs w store (x -ℤ y) → IsTrue (compares op x y)
+  pub comparison_leads : (op : Comparison) (w : Seen) (x y : ℤ) → SeenIs w store (x -ℤ y) → IsTrue (compares op x y)
       → MayLead (comparison_moves (length store) op w) store store
   comparison_leads op (Linear d) x y is so = split_leads op (Linear d) x y is so
   comparison_leads op (Divided c d) x y is so = split_leads op (Divided c d) x y is so
@@ -154,3 +155,13 @@ module _ (s : Scene) where
       let (r, got, to) = bind_some (truth_of a s draws) (λ r. if r.0 then Some (true, r.1) else truth_of b s r.1) (false, left) ran in
       let (so, on) = or_false r.0 r.1 left (truth_of b s r.1) to in
       (s.store, cond_leads a false draws r.1 (answered a draws r.1 r.0 false so got), cond_leads b false r.1 left on)
+
+-- an expression that has the value or, where it is not wanted, another one
+pub value_leads : (s : Scene) (e : Expr) (z : ℤ) (wanted : Bool) (draws left : List ℤ) (y : ℤ) → value_of e s draws ≡ Some (y, left)
+    → compares equal y z ≡ wanted
+    → MayLead (value_moves (length s.store) s.base wanted e z) s.store s.store
+value_leads s e z wanted draws left y got is =
+    let n = length s.store in
+    comparison_leads s.store (comparison_as wanted equal) (subtracted (seen_of n s.base e) (Linear (constant_form n z))) y z
+    (subtracted_is (seen_of n s.base e) (Linear (constant_form n z)) s.store y z (seen_right s e draws left y got)
+    ((constant_form_wide n z).width, constant_form_value n z s.store)) (as_wanted wanted equal y z is)

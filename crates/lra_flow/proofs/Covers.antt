@@ -1,15 +1,19 @@
 -- What a pass with drops owes: its values have all stores of the tree's runs.
-use Rattle.std.specs.Prelude.{◌≡◌, ℕ, ℤ, List, Some}
+use Rattle.std.specs.Prelude.{◌≡◌, ℕ, ℤ, List, Some, Bool}
+use Rattle.lra_base.specs.declared.case_labels.CaseLabel.{CaseLabel}
+use Rattle.lra_base.specs.Operators.{equal}
+use Rattle.lra_program.specs.Program.{Expr}
+use Rattle.lra_program.specs.Value.{value_of, compares}
 use Rattle.std.specs.List.{Contains}
 use Rattle.lra_domain.specs.Actions.{Within}
 use Rattle.lra_domain.specs.Laws.{Laws}
 use Rattle.lra_domain.specs.Meaning.{Meaning}
 use Rattle.lra_domain.specs.declared.Mode.{Mode}
 use Rattle.lra_domain.specs.declared.Exactness.{Exactness}
-use Rattle.lra_program.specs.Step.{State, Op, run_op}
-use Rattle.lra_operations.specs.Graph.{Exit, normal, jump, Node, Ends, Comes, FailsAt}
+use Rattle.lra_program.specs.Step.{State, scene_at, Op, run_op}
+use Rattle.lra_operations.specs.Graph.{Exit, normal, jump, Node, Ends, Comes, FailsAt, Arms, ArmsEnd, ArmsCome, ArmsFail}
 use Rattle.lra_flow.specs.Operations.{dropping}
-use Rattle.lra_flow.specs.Pass.{value, failing, Result, Changes, jumps_of}
+use Rattle.lra_flow.specs.Pass.{value, failing, Result, Changes, ValueIs, jumps_of}
 
 -- the list is a store of a value that is held, or of a head that is
 abbrev pub Has : {V H : Type 0} → Meaning V H → V → List ℤ → Type 0
@@ -35,6 +39,12 @@ abbrev pub ChangesKeep : {V H : Type 0} → Meaning V H → Type 0
 ChangesKeep {V} m = (op : Op) (v : V) (e : Exactness) (w : V) → Changes (dropping m) op v e w → (s t : State) →
     Has m v s.store → run_op op s ≡ Some t → Has m w t.store
 
+-- what is left of a value where an expression has another value, or has not, keeps each store at which it has the one
+abbrev pub ValuesKeep : {V H : Type 0} → Meaning V H → Type 0
+ValuesKeep {V} m = (base : ℕ) (e : Expr) (z : ℤ) (wanted : Bool) (v : V) (x : Exactness) (w : V) → ValueIs (dropping m) base e z wanted v x w
+    → (s : State) (y : ℤ) (left : List ℤ) →
+    Has m v s.store → value_of e (scene_at base s) s.draws ≡ Some (y, left) → compares equal y z ≡ wanted → Has m w s.store
+
 -- the result has the stores of the tree's runs from this state: behind the tree, at its jumps, at its points and where
 -- an assertion fails
 pub record Covers {V H : Type 0} (m : Meaning V H) (g : Node) (s : State) (r : Result V) : Type 0 where
@@ -42,3 +52,10 @@ pub record Covers {V H : Type 0} (m : Meaning V H) (g : Node) (s : State) (r : R
   pub leaves : (k : Exit) (t : State) → Ends g s (jump k) t → SomeHas m (jumps_of k r) t.store
   pub comes : (p : ℕ) (t : State) → Comes g s p t → (w : V) × Contains r.entries (value p w) × Has m w t.store
   pub fails : (p : ℕ) → FailsAt g s p → (w : V) × (t : State) × Contains r.entries (failing p w) × Has m w t.store
+
+-- the same of arms, by the label to which a value goes, and whether it was met
+pub record ArmsCover {V H : Type 0} (m : Meaning V H) (l : CaseLabel) (met : Bool) (arms : Arms) (s : State) (r : Result V) : Type 0 where
+  pub ends : (t : State) → ArmsEnd l met arms s normal t → Has m r.normal t.store
+  pub leaves : (k : Exit) (t : State) → ArmsEnd l met arms s (jump k) t → SomeHas m (jumps_of k r) t.store
+  pub comes : (p : ℕ) (t : State) → ArmsCome l met arms s p t → (w : V) × Contains r.entries (value p w) × Has m w t.store
+  pub fails : (p : ℕ) → ArmsFail l met arms s p → (w : V) × (t : State) × Contains r.entries (failing p w) × Has m w t.store

@@ -3,16 +3,17 @@ use Rattle.std.proofs.Common.{ℕ, ℤ, List, Option, sym, subst, inl, inr}
 use Rattle.lra_domain.specs.declared.Exactness.{Exactness}
 use Rattle.lra_domain.specs.Meaning.{Meaning}
 use Rattle.lra_domain.specs.Laws.{Laws}
-use Rattle.lra_program.specs.Step.{State}
+use Rattle.lra_program.specs.Step.{State, scene_at}
 use Rattle.lra_operations.specs.Graph.{Node}
 use Rattle.lra_flow.specs.Plan.{Plan}
 use Rattle.lra_flow.specs.Operations.{dropping}
 use Rattle.lra_domain.specs.Moves.{Moves, stay, make, first_then, join_of, MayLead}
 use Rattle.lra_flow.specs.Moves.{AreMade}
-use Rattle.lra_flow.specs.MovesOf.{moves_of}
+use Rattle.lra_flow.specs.MovesOf.{moves_of, value_moves}
 use Rattle.lra_flow.specs.Pass.{Result, Pass}
-use Rattle.lra_flow.proofs.Covers.{ChangesKeep, Covers, Has, covered_has}
+use Rattle.lra_flow.proofs.Covers.{ChangesKeep, ValuesKeep, Covers, Has, covered_has}
 use Rattle.lra_flow.proofs.Keeping.{op_leads}
+use Rattle.lra_flow.proofs.CondKeeping.{value_leads}
 use Rattle.lra_flow.proofs.Sound.{covers}
 
 module _ (V H : Type 0) (m : Meaning V H) (laws : Laws m) where
@@ -29,7 +30,13 @@ module _ (V H : Type 0) (m : Meaning V H) (laws : Laws m) where
   changes_keep op v e w made s t h ran =
       moves_keep (moves_of (m.dims v) op) v e w made s.store t.store h (subst (λ (n : ℕ). MayLead (moves_of n op) s.store t.store) (laws.sized v s.store h.0 h.1) (op_leads op s t ran))
 
+  pub values_keep : ValuesKeep m
+  values_keep base e z wanted v x w made s y left h got is =
+      moves_keep (value_moves (m.dims v) base wanted e z) v x w made s.store s.store h
+      (subst (λ (n : ℕ). MayLead (value_moves n base wanted e z) s.store s.store) (laws.sized v s.store h.0 h.1)
+      (value_leads (scene_at base s) e z wanted s.draws left y got is))
+
 -- from one of its value's stores, a pass with drops covers the tree's runs
 pub pass_covers : {V H : Type 0} (m : Meaning V H) → Laws m → (set : Plan) (g : Node) (f : Option ℕ) (v : V) (r : Result V) → Pass V H (dropping m) set g f v r
     → (s : State) → Has m v s.store → Covers m g s r
-pass_covers {V} {H} m laws set g f v r pass s h = covers V H m laws (changes_keep V H m laws) set g f v r pass s h
+pass_covers {V} {H} m laws set g f v r pass s h = covers V H m laws (changes_keep V H m laws) (values_keep V H m laws) set g f v r pass s h

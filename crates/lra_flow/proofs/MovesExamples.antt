@@ -1,12 +1,13 @@
 -- Moves of conditions. Which slip an example would catch stands beside it.
 use Rattle.std.proofs.Common.{◌≡◌, ℤ, pos, negsuc, [], ◌∷◌, true, false, refl, inr}
 use Rattle.lra_program.proofs.RunExamples.{long_variable}
-use Rattle.lra_program.specs.Program.{local, Expr, read, input, compare, nonzero, opposite, both_of, either_of}
-use Rattle.lra_base.specs.Operators.{below, equal, differs}
+use Rattle.lra_program.specs.Program.{local, Expr, literal, read, input, negate, binary, compare, nonzero, opposite, both_of, either_of}
+use Rattle.lra_base.specs.declared.number_types.NumberType.TheVariants.{Int, Long}
+use Rattle.lra_base.specs.Operators.{modulo, below, equal, differs}
 use Rattle.lra_linear.specs.declared.ConKind.TheVariants.{Ge, Eq}
 use Rattle.lra_domain.specs.Actions.{Action, test, embed, forget}
 use Rattle.lra_domain.specs.Moves.{stay, make, first_then, join_of, MayLead, cases, dims_moved}
-use Rattle.lra_flow.specs.MovesOf.{guard}
+use Rattle.lra_flow.specs.MovesOf.{guard, value_moves}
 
 -- two live variables
 abbrev x : Expr
@@ -58,3 +59,22 @@ right_leads = inr (refl, refl)
 
 two_more : dims_moved (first_then (make (embed 1)) (join_of (make (embed 1)) (make (embed 1)))) 2 ≡ 4
 two_more = refl
+
+-- switch(x){ case 5: .. }: what has the value 5 is what the comparison with the literal leaves, and so for what hasn't
+value_5 : value_moves 2 0 true x (pos 5) ≡ make (is_0 (negsuc 4) (pos 1) (pos 0))
+value_5 = refl
+
+as_compared : (value_moves 2 0 true x (pos 5) ≡ guard 2 0 true (compare equal x (literal Int 5))) ×
+    (value_moves 2 0 false x (pos 5) ≡ guard 2 0 true (compare differs x (literal Int 5)))
+as_compared = (refl, refl)
+
+-- case -1, over a remainder: catches the sign of the literal that is lost, and a division that isn't seen
+remainder_compared : (value_moves 2 0 true (binary modulo x (literal Int 3)) (negsuc 0) ≡ guard 2 0 true
+    (compare equal (binary modulo x (literal Int 3)) (negate (literal Int 1))))
+    × (value_moves 2 0 false (binary modulo x (literal Int 3)) (negsuc 0) ≡ guard 2 0 true
+    (compare differs (binary modulo x (literal Int 3)) (negate (literal Int 1))))
+remainder_compared = (refl, refl)
+
+-- nothing is seen of `input()`
+input_compared : value_moves 2 0 true input (pos 5) ≡ stay
+input_compared = refl

@@ -1,5 +1,5 @@
 -- The written iteration finds one value at each point: where each operation has one result, so has a pass.
-use Rattle.std.proofs.Common.{◌≡◌, ◌∙◌, ℕ, zero, suc, ◌-◌, List, [], ◌∷◌, Option, None, Bool, true, false, refl, sym, subst}
+use Rattle.std.proofs.Common.{◌≡◌, ◌∙◌, ℕ, zero, suc, ℤ, ◌-◌, List, [], ◌∷◌, Option, None, Some, Bool, true, false, refl, sym, subst}
 use Rattle.lra_sys.specs.Listed.{Listed}
 use Rattle.lra_linear.specs.declared.ConKind.{ConKind}
 use Rattle.lra_domain.specs.Actions.{Action}
@@ -7,15 +7,18 @@ use Rattle.lra_domain.specs.Laws.{SingleLaws}
 use Rattle.lra_domain.specs.Meaning.{Meaning}
 use Rattle.lra_domain.specs.declared.Mode.{Mode}
 use Rattle.lra_domain.specs.declared.Exactness.{Exactness}
-use Rattle.lra_program.specs.Program.{Cond, Program}
-use Rattle.lra_operations.specs.Graph.{Node, empty, point, act, check, seq, choose, iterate, catch, leave}
+use Rattle.lra_base.specs.declared.case_labels.CaseLabel.{CaseLabel}
+use Rattle.lra_base.specs.declared.case_labels.CaseLabel.TheVariants.{Case, Default}
+use Rattle.lra_program.specs.Program.{Expr, Cond, Program}
+use Rattle.lra_operations.specs.Graph.{Node, empty, point, act, check, seq, choose, iterate, catch, leave, select, Arms, no_arms, entry, arm, entries_of}
 use Rattle.lra_flow.specs.Plan.{Plan, Widening, mode_at}
 use Rattle.lra_flow.specs.Operations.{Operations, defined}
 use Rattle.lra_domain.specs.Moves.{Moves, stay, make, first_then, join_of}
 use Rattle.lra_flow.specs.Moves.{AreMade}
-use Rattle.lra_flow.specs.MovesOf.{guard, moves_of, first_values}
+use Rattle.lra_flow.specs.MovesOf.{guard, value_moves, moves_of, first_values}
 use Rattle.lra_flow.specs.Thresholds.{loop_rows}
-use Rattle.lra_flow.specs.Pass.{Result, noted, values_behind, AreJoined, Leaves, Through, GoesRound, GoesFrom, Grows, Narrows, Pass}
+use Rattle.lra_flow.specs.Pass.{Result, noted, values_behind, AreJoined, Leaves, Through, GoesRound, GoesFrom, Grows, Narrows, Pass, ArmsPass, ValueIs}
+use Rattle.lra_flow.specs.Pass.{MatchesNone, Enters, JoinsRunning, ComesOut, RunsFrom}
 use Rattle.lra_flow.specs.Analysis.{Written, Iteration}
 
 -- each operation has one exactness and one result; a head doesn't grow where it is stable
@@ -104,40 +107,93 @@ module _ (V H : Type 0) (ops : Operations V H) (single : Single ops) where
         let k = one_round (noted q e s.flag) next i j turn (rw (y, z) round) in
         one_narrowing more first next i v w r t rest (rw (z, k) last)
 
-  pub one_pass : (set : Plan) (g : Node) → IsOne (Pass V H ops set g)
-  one_pass set empty f v r s is same = is ∙ sym same
-  one_pass set (point q) f v r s is same = is ∙ sym same
-  one_pass set (act q op) f v r s (w, e, a, is) (x, d, b, same) =
-      let (y, z) = one_made (moves_of (ops.dims v) op) v e d w x a b in is ∙ rw (y, z) refl ∙ sym same
-  one_pass set (check q base c) f v r s (u, w, d, e, off, on, is) (x, y, i, j, off', on', same) =
-      let (k, l) = one_left base c false v d i u x off off' in
-      let (m, n) = one_left base c true v e j w y on on' in
-      is ∙ rw (k, l, m, n) refl ∙ sym same
-  one_pass set (seq a b) f v r s (i, j, one, two, is) (k, l, one', two', same) =
-      let y = one_pass set a f v i k one one' in
-      let z = one_pass set b i.flag i.normal j l two (rw y two') in
-      is ∙ rw (y, z) refl ∙ sym same
-  one_pass set (choose q base c a b) f v r s (on, off, w, d, e, i, x, y, when, one, else, two, joined, is) (on', off', w', d', e', i', x', y', when', one', else', two', joined', same) =
-      let (k, l) = one_left base c true v d d' on on' when when' in
-      let m = one_pass set a (noted q d f) on x x' one (rw (k, l) one') in
-      let (n, o) = one_left base c false v e e' off off' else else' in
-      let p = one_pass set b (noted q e x.flag) off y y' two (rw (n, o, m) two') in
-      let (t, u) = single.joined x.normal y.normal i i' w w' joined (rw (m, p) joined') in
-      is ∙ rw (m, p, t, u) refl ∙ sym same
-  one_pass set (iterate q base c a) f v r s (h, later, u, top, out, x, y, e, started, grown, narrowed, off, is) (h', later', u', top', out', x', y', e', started', grown', narrowed', off', same) =
-      let k = single.started v (loop_rows set.widening (ops.dims v) base c a) h h' started started' in
-      let body = Pass V H ops set a in
-      let (l, m) = one_growth q base c body (one_pass set a) set.widening set.delay f h later later' u u' x x' grown (rw k grown') in
-      let (n, o) = one_narrowing q base c body (one_pass set a) set.narrow v u x top top' y y' narrowed (rw (l, m) narrowed') in
-      let (p, t) = one_left base c false top e e' out out' off (rw n off') in
-      is ∙ rw (o, p, t) refl ∙ sym same
-  one_pass set (catch q kind a) f v r s (w, e, x, one, joined, is) (w', e', x', one', joined', same) =
-      let k = one_pass set a f v x x' one one' in
-      let (l, m) = one_join (values_behind kind x).1 (values_behind kind x).0 e e' w w' joined (rw k joined') in
-      is ∙ rw (k, l, m) refl ∙ sym same
-  one_pass set (leave n kind) f v r s (w, nothing, is) (w', nothing', same) =
-      let k = single.void n set.parts w w' nothing nothing' in
-      is ∙ rw k refl ∙ sym same
+  one_value : (base : ℕ) (e : Expr) (z : ℤ) (wanted : Bool) (v : V) (c d : Exactness) (w x : V) → ValueIs ops base e z wanted v c w
+      → ValueIs ops base e z wanted v d x → (c ≡ d) × (w ≡ x)
+  one_value base e z wanted v c d w x a b = one_made (value_moves (ops.dims v) base wanted e z) v c d w x a b
+
+  one_match : (base : ℕ) (e : Expr) (labels : List CaseLabel) (v : V) (c d : Exactness) (w x : V) → MatchesNone ops base e labels v c w
+      → MatchesNone ops base e labels v d x → (c ≡ d) × (w ≡ x)
+  one_match base e [] v c d w x (a, b) (k, l) = (b ∙ sym l, a ∙ sym k)
+  one_match base e (Case z ∷ labels) v c d w x (m, a, b, one, rest, is) (n, k, l, two, others, same) =
+      let (y, i) = one_value base e z false v a k m n one two in
+      let (p, q) = one_match base e labels m b l w x rest (subst (λ (t : V). MatchesNone ops base e labels t l x) (sym i) others) in
+      (is ∙ rw (y, p) refl ∙ sym same, q)
+  one_match base e (Default ∷ labels) v c d w x a b = one_match base e labels v c d w x a b
+
+  one_enter : (base : ℕ) (e : Expr) (l : CaseLabel) (v other : V) (c d : Exactness) (w x : V) → Enters ops base e l v other c w
+      → Enters ops base e l v other d x → (c ≡ d) × (w ≡ x)
+  one_enter base e (Case z) v other c d w x a b = one_value base e z true v c d w x a b
+  one_enter base e Default v other c d w x (a, b) (k, l) = (b ∙ sym l, a ∙ sym k)
+
+  one_running : (o : Option V) (u : V) (c d : Exactness) (w x : V) → JoinsRunning ops o u c w → JoinsRunning ops o u d x → (c ≡ d) × (w ≡ x)
+  one_running None u c d w x (a, b) (k, l) = (b ∙ sym l, a ∙ sym k)
+  one_running (Some running) u c d w x a b = single.joined running u c d w x a b
+
+  one_out : (has : Bool) (o : Option V) (other : V) (c d : Exactness) (w x : V) → ComesOut ops has o other c w → ComesOut ops has o other d x
+      → (c ≡ d) × (w ≡ x)
+  one_out has None other c d w x (a, b) (k, l) = (b ∙ sym l, a ∙ sym k)
+  one_out true (Some running) other c d w x (a, b) (k, l) = (b ∙ sym l, a ∙ sym k)
+  one_out false (Some running) other c d w x a b = single.joined running other c d w x a b
+
+  one_start : (live cap : ℕ) (o : Option V) (w x : V) → RunsFrom ops live cap o w → RunsFrom ops live cap o x → w ≡ x
+  one_start live cap None w x a b = single.void live cap w x a b
+  one_start live cap (Some running) w x a b = a ∙ sym b
+
+  mutual
+    pub one_pass : (set : Plan) (g : Node) → IsOne (Pass V H ops set g)
+    one_pass set empty f v r s is same = is ∙ sym same
+    one_pass set (point q) f v r s is same = is ∙ sym same
+    one_pass set (act q op) f v r s (w, e, a, is) (x, d, b, same) =
+        let (y, z) = one_made (moves_of (ops.dims v) op) v e d w x a b in is ∙ rw (y, z) refl ∙ sym same
+    one_pass set (check q base c) f v r s (u, w, d, e, off, on, is) (x, y, i, j, off', on', same) =
+        let (k, l) = one_left base c false v d i u x off off' in
+        let (m, n) = one_left base c true v e j w y on on' in
+        is ∙ rw (k, l, m, n) refl ∙ sym same
+    one_pass set (seq a b) f v r s (i, j, one, two, is) (k, l, one', two', same) =
+        let y = one_pass set a f v i k one one' in
+        let z = one_pass set b i.flag i.normal j l two (rw y two') in
+        is ∙ rw (y, z) refl ∙ sym same
+    one_pass set (choose q base c a b) f v r s (on, off, w, d, e, i, x, y, when, one, else, two, joined, is)
+        (on', off', w', d', e', i', x', y', when', one', else', two', joined', same) =
+        let (k, l) = one_left base c true v d d' on on' when when' in
+        let m = one_pass set a (noted q d f) on x x' one (rw (k, l) one') in
+        let (n, o) = one_left base c false v e e' off off' else else' in
+        let p = one_pass set b (noted q e x.flag) off y y' two (rw (n, o, m) two') in
+        let (t, u) = single.joined x.normal y.normal i i' w w' joined (rw (m, p) joined') in
+        is ∙ rw (m, p, t, u) refl ∙ sym same
+    one_pass set (iterate q base c a) f v r s (h, later, u, top, out, x, y, e, started, grown, narrowed, off, is)
+        (h', later', u', top', out', x', y', e', started', grown', narrowed', off', same) =
+        let k = single.started v (loop_rows set.widening (ops.dims v) base c a) h h' started started' in
+        let body = Pass V H ops set a in
+        let (l, m) = one_growth q base c body (one_pass set a) set.widening set.delay f h later later' u u' x x' grown (rw k grown') in
+        let (n, o) = one_narrowing q base c body (one_pass set a) set.narrow v u x top top' y y' narrowed (rw (l, m) narrowed') in
+        let (p, t) = one_left base c false top e e' out out' off (rw n off') in
+        is ∙ rw (o, p, t) refl ∙ sym same
+    one_pass set (catch q kind a) f v r s (w, e, x, one, joined, is) (w', e', x', one', joined', same) =
+        let k = one_pass set a f v x x' one one' in
+        let (l, m) = one_join (values_behind kind x).1 (values_behind kind x).0 e e' w w' joined (rw k joined') in
+        is ∙ rw (k, l, m) refl ∙ sym same
+    one_pass set (leave n kind) f v r s (w, nothing, is) (w', nothing', same) =
+        let k = single.void n set.parts w w' nothing nothing' in
+        is ∙ rw k refl ∙ sym same
+    one_pass set (select q base e arms) f v r s (other, x, none, pass) (other', x', none', pass') =
+        let (k, l) = one_match base e (entries_of arms) v x x' other other' none none' in
+        one_arms set q base e _ v other arms (noted q x f) None r s pass (rw (k, l) pass')
+
+    one_arms : (set : Plan) (q base : ℕ) (e : Expr) (d : Bool) (v other : V) (arms : Arms) (f : Option ℕ) (o : Option V) (r s : Result V)
+        → ArmsPass V H ops set q base e d v other arms f o r
+        → ArmsPass V H ops set q base e d v other arms f o s → r ≡ s
+    one_arms set q base e d v other no_arms f o r s (w, x, out, is) (w', x', out', same) =
+        let (k, l) = one_out d o other x x' w w' out out' in is ∙ rw (k, l) refl ∙ sym same
+    one_arms set q base e d v other (entry n arms) f o r s (u, w, x, y, enters, joins, rest) (u', w', x', y', enters', joins', rest') =
+        let (k, l) = one_enter base e n v other x x' u u' enters enters' in
+        let (i, j) = one_running o u y y' w w' joins (rw l joins') in
+        one_arms set q base e d v other arms (noted q y (noted q x f)) (Some w) r s rest (rw (k, i, j) rest')
+    one_arms set q base e d v other (arm a arms) f o r s (w, i, j, from, one, rest, is) (w', i', j', from', one', rest', same) =
+        let z = one_start (ops.dims v) set.parts o w w' from from' in
+        let y = one_pass set a f w i i' one (rw z one') in
+        let n = one_arms set q base e d v other arms i.flag (Some i.normal) j j' rest (rw y rest') in
+        is ∙ rw (y, n) refl ∙ sym same
 
   pub one_iteration : (set : Plan) (P : Program) (g : Node) (r s : Result V) → Iteration ops set P g r → Iteration ops set P g s → r ≡ s
   one_iteration set P g r s (none, first, e, universal, values, pass) (none', first', e', universal', values', pass') =

@@ -4,14 +4,15 @@ use Rattle.std.proofs.lemmas.Option.{same_Some, none-some}
 use Rattle.lra_base.specs.declared.number_types.NumberType.{NumberType}
 use Rattle.lra_program.specs.declared.receivers.Receiver.{Receiver}
 use Rattle.lra_program.specs.Receivers.{variable_at, behind_result}
-use Rattle.lra_program.specs.Program.{Call, Rvalue, Stmt, BlockItems, Function, Program}
+use Rattle.lra_program.specs.Program.{Call, Rvalue, Stmt, Cases, BlockItems, Function, Program}
 use Rattle.lra_program.specs.Step.{Back}
 use Rattle.lra_program.specs.Value.{index_of}
 use Rattle.lra_program.specs.Sites.{Site, sites_of}
-use Rattle.lra_operations.specs.Graph.{Node}
-use Rattle.lra_operations.specs.Inlined.{Spot, move, at_point, within, into_callee, Inl}
+use Rattle.lra_operations.specs.Graph.{Node, Arms}
+use Rattle.lra_operations.specs.Inlined.{Spot, move, at_point, within, among_cases, into_callee, Inl, InlCases}
 use Rattle.lra_operations.specs.Inlined.{InlAll, Declares, Loops, Gives, as_nothing, as_block, as_absent, as_assign, as_call, as_if, as_loop, as_for, as_break}
-use Rattle.lra_operations.specs.Inlined.{as_continue, as_return, as_return_value, as_return_call, as_end, as_end_value, as_end_call, as_assert, as_assume, as_none, as_declaration, as_statement}
+use Rattle.lra_operations.specs.Inlined.{as_continue, as_return, as_return_value, as_return_call, as_end, as_end_value, as_end_call, as_assert, as_assume}
+use Rattle.lra_operations.specs.Inlined.{as_switch, as_no_cases, as_labelled, as_stated, as_none, as_declaration, as_statement}
 use Rattle.lra_operations.specs.Inlined.{as_fresh, as_given, is_loop, as_value, as_result}
 use Rattle.lra_operations.specs.Agree.{IsGraph}
 
@@ -50,8 +51,8 @@ module _ (P : Program) (T : List Site) where
         let (x, y, v) = one_list (ap (λ (u : Spot). at_point u (suc u.next)) z) d e in
         let (w, o) = one_loop (moved _ _ _ _ _ _ z y (ap (λ (u : Spot). u.next) z)) v k l in
         rw (z, x, w, o) (refl, refl)
-    one_statement z (as_break i k d) (as_break j l e) = rw (same_Some _ _ (sym i ∙ ap (λ (u : Spot). u.frame.loop) z ∙ j), z) (refl, refl)
-    one_statement z (as_continue i k d) (as_continue j l e) = rw (same_Some _ _ (sym i ∙ ap (λ (u : Spot). u.frame.loop) z ∙ j), z) (refl, refl)
+    one_statement z (as_break i k d) (as_break j l e) = rw (same_Some _ _ (sym i ∙ ap (λ (u : Spot). u.frame.breaks) z ∙ j), z) (refl, refl)
+    one_statement z (as_continue i k d) (as_continue j l e) = rw (same_Some _ _ (sym i ∙ ap (λ (u : Spot). u.frame.continues) z ∙ j), z) (refl, refl)
     one_statement z (as_return i k d) (as_return j l e) = rw (same_Some _ _ (sym i ∙ ap (λ (u : Spot). u.frame.back) z ∙ j), z) (refl, refl)
     one_statement z (as_return_value i k d) (as_return_value j l e) = rw (same_Some _ _ (sym i ∙ ap (λ (u : Spot). u.frame.back) z ∙ j), z) (refl, refl)
     one_statement z (as_return_call i k d u) (as_return_call j l e v) =
@@ -63,6 +64,7 @@ module _ (P : Program) (T : List Site) where
     one_statement z (as_end_call i d u) (as_end_call j e v) = let (x, y) = one_value z (ap (λ (u : Spot). suc u.next) z) refl u v in rw (z, x, y) (refl, refl)
     one_statement z (as_assert i) (as_assert j) = rw z (refl, refl)
     one_statement z (as_assume i) (as_assume j) = rw z (refl, refl)
+    one_statement z (as_switch i d) (as_switch j e) = let (x, y) = one_cases (ap (λ (u : Spot). among_cases u (suc u.next)) z) d e in rw (z, x, y) (refl, refl)
     -- a loop is no other statement, and what has a call to go back to isn't main
     one_statement z (as_nothing d) (as_loop e) = elim e [ ]
     one_statement z (as_block d k) (as_loop e) = elim e [ ]
@@ -81,6 +83,7 @@ module _ (P : Program) (T : List Site) where
     one_statement z (as_end_call d k l) (as_loop e) = elim e [ ]
     one_statement z (as_assert d) (as_loop e) = elim e [ ]
     one_statement z (as_assume d) (as_loop e) = elim e [ ]
+    one_statement z (as_switch d k) (as_loop e) = elim e [ ]
     one_statement z (as_loop e) (as_nothing d) = elim e [ ]
     one_statement z (as_loop e) (as_block d k) = elim e [ ]
     one_statement z (as_loop e) as_absent = elim e [ ]
@@ -98,6 +101,7 @@ module _ (P : Program) (T : List Site) where
     one_statement z (as_loop e) (as_end_call d k l) = elim e [ ]
     one_statement z (as_loop e) (as_assert d) = elim e [ ]
     one_statement z (as_loop e) (as_assume d) = elim e [ ]
+    one_statement z (as_loop e) (as_switch d k) = elim e [ ]
     one_statement z (as_return i k d) (as_end j e) = absurd (none-some _ (sym j ∙ ap (λ (u : Spot). u.frame.back) (sym z) ∙ i))
     one_statement z (as_end j e) (as_return i k d) = absurd (none-some _ (sym j ∙ ap (λ (u : Spot). u.frame.back) z ∙ i))
     one_statement z (as_return_value i k d) (as_end_value j e) = absurd (none-some _ (sym j ∙ ap (λ (u : Spot). u.frame.back) (sym z) ∙ i))
@@ -115,6 +119,14 @@ module _ (P : Program) (T : List Site) where
         let (x, y) = one_statement z d e in
         let (v, n, w) = one_list (moved _ _ _ _ _ _ z (ap (λ (u : Spot). u.live) z) y) k l in
         rw (x, v, n, w) (refl, refl, refl)
+
+    one_cases : {s t : Spot} {cs : Cases} {g h : Arms} {q r : ℕ} → s ≡ t → InlCases P T s cs g q → InlCases P T t cs h r → (g ≡ h) × (q ≡ r)
+    one_cases z as_no_cases as_no_cases = rw z (refl, refl)
+    one_cases z (as_labelled d) (as_labelled e) = let (x, y) = one_cases z d e in rw (x, y) (refl, refl)
+    one_cases z (as_stated d k) (as_stated e l) =
+        let (x, y) = one_statement z d e in
+        let (v, w) = one_cases (moved _ _ _ _ _ _ z (ap (λ (u : Spot). u.live) z) y) k l in
+        rw (x, v, w) (refl, refl)
 
     one_declarator : {s t : Spot} {i j : ℕ} {o : NumberType} {e : Option Rvalue} {g h : Node} {q r : ℕ} → s ≡ t → i ≡ j → Declares P T s i o e g q → Declares P T t j o e h r → Same g h q r
     one_declarator z n as_fresh as_fresh = rw (z, n) (refl, refl)

@@ -1,20 +1,24 @@
 -- From an iteration by some operations to one by others, where each answer of the first that matters is one of the second.
-use Rattle.std.proofs.Common.{◌≡◌, ℕ, zero, suc, ◌-◌, List, [], ◌∷◌, Option, Bool, true, false, refl, subst}
+use Rattle.std.proofs.Common.{◌≡◌, ℕ, zero, suc, ℤ, ◌-◌, List, [], ◌∷◌, Option, None, Some, Bool, true, false, refl, subst}
 use Rattle.lra_sys.specs.Listed.{Listed}
 use Rattle.lra_linear.specs.declared.ConKind.{ConKind}
 use Rattle.lra_domain.specs.Actions.{Action}
 use Rattle.lra_domain.specs.declared.Mode.{Mode}
 use Rattle.lra_domain.specs.declared.Exactness.{Exactness}
-use Rattle.lra_program.specs.Program.{Cond}
-use Rattle.lra_operations.specs.Graph.{Exit, broken, continued, returned, Node, empty, point, act, check, seq, choose, iterate, catch, leave}
+use Rattle.lra_base.specs.declared.case_labels.CaseLabel.{CaseLabel}
+use Rattle.lra_base.specs.declared.case_labels.CaseLabel.TheVariants.{Case, Default}
+use Rattle.lra_program.specs.Program.{Expr, Cond}
+use Rattle.lra_operations.specs.Graph.{Exit, broken, continued, returned, Node, empty, point, act, check, seq, choose, iterate, catch, leave, select, Arms}
+use Rattle.lra_operations.specs.Graph.{no_arms, entry, arm, entries_of}
 use Rattle.lra_flow.specs.Plan.{Plan, Widening, mode_at}
 use Rattle.lra_domain.specs.Meaning.{worse}
 use Rattle.lra_flow.specs.Operations.{Operations}
 use Rattle.lra_domain.specs.Moves.{Moves, stay, make, first_then, join_of}
 use Rattle.lra_flow.specs.Moves.{AreMade}
-use Rattle.lra_flow.specs.MovesOf.{guard, moves_of}
+use Rattle.lra_flow.specs.MovesOf.{guard, value_moves, moves_of}
 use Rattle.lra_flow.specs.Thresholds.{loop_rows}
-use Rattle.lra_flow.specs.Pass.{Result, noted, jumps, values_behind, behind, AreJoined, Leaves, Through, GoesRound, GoesFrom, Grows, Narrows, Pass}
+use Rattle.lra_flow.specs.Pass.{Result, noted, jumps, values_behind, behind, AreJoined, Leaves, Through, GoesRound, GoesFrom, Grows, Narrows, Pass, ArmsPass}
+use Rattle.lra_flow.specs.Pass.{ValueIs, MatchesNone, Enters, JoinsRunning, ComesOut, RunsFrom}
 
 -- the answers that matter: with this exactness, with this flag
 pub record Matters (Keeps : Exactness → Type 0) (Fine : Option ℕ → Type 0) : Type 0 where
@@ -99,35 +103,121 @@ module _ (V H : Type 0) (a b : Operations V H) (Keeps : Exactness → Type 0) (F
         let p = matters.before q e s.flag i.0 in
         (p.1, (next, t, e, moves.joined first s.normal e next p.0 joined, i.1, j.1))
 
-  pub passes : (set : Plan) (g : Node) (f : Option ℕ) (v : V) (r : Result V) → Fine r.flag → Pass V H a set g f v r → Fine f × Pass V H (aligned a b) set g f v r
-  passes set empty f v r k is = (subst (λ (x : Result V). Fine x.flag) is k, is)
-  passes set (point q) f v r k is = (subst (λ (x : Result V). Fine x.flag) is k, is)
-  passes set (act q op) f v r k (w, e, h, is) =
-      let p = matters.before q e f (subst (λ (x : Result V). Fine x.flag) is k) in
-      (p.1, (w, e, made (moves_of (a.dims v) op) v e w p.0 h, is))
-  passes set (check q base c) f v r k (u, w, d, e, off, on, is) =
-      let p = matters.before q e (noted q d f) (subst (λ (x : Result V). Fine x.flag) is k) in
-      let o = matters.before q d f p.1 in
-      (o.1, (u, w, d, e, leaves base c false v d u o.0 off, leaves base c true v e w p.0 on, is))
-  passes set (seq x y) f v r k (s, t, one, two, is) =
-      let j = passes set y s.flag s.normal t (subst (λ (z : Result V). Fine z.flag) is k) two in
-      let i = passes set x f v s j.0 one in
-      (i.0, (s, t, i.1, j.1, is))
-  passes set (choose q base c x y) f v r k (on, off, w, d, e, i, s, t, yes_on, one, no_on, two, joined, is) =
-      let p = matters.before q i t.flag (subst (λ (z : Result V). Fine z.flag) is k) in
-      let j = passes set y (noted q e s.flag) off t p.1 two in
-      let o = matters.before q e s.flag j.0 in
-      let l = passes set x (noted q d f) on s o.1 one in
-      let n = matters.before q d f l.0 in
-      (n.1, (on, off, w, d, e, i, s, t, leaves base c true v d on n.0 yes_on, l.1, leaves base c false v e off o.0 no_on, j.1, moves.joined s.normal t.normal i w p.0 joined, is))
-  passes set (iterate q base c x) f v r k (h, later, u, top, out, s, t, e, started, grown, narrowed, off, is) =
-      let p = matters.before q e t.flag (subst (λ (z : Result V). Fine z.flag) is k) in
-      let n = narrows q base c (Pass V H a set x) (Pass V H (aligned a b) set x) (passes set x) set.narrow v u s top t p.1 narrowed in
-      let j = grows q base c (Pass V H a set x) (Pass V H (aligned a b) set x) (passes set x) set.widening set.delay f h later u s n.0 grown in
-      (j.0, (h, later, u, top, out, s, t, e, moves.started v (loop_rows set.widening (a.dims v) base c x) h started, j.1, n.1, leaves base c false top e out p.0 off, is))
-  passes set (catch q kind x) f v r k (w, e, s, one, joined, is) =
-      let p = matters.before q e s.flag (subst Fine (behind_flag kind s w (noted q e s.flag)) (subst (λ (z : Result V). Fine z.flag) is k)) in
-      let i = passes set x f v s p.1 one in
-      (i.0, (w, e, s, i.1, joins (values_behind kind s).0 (values_behind kind s).1 e w p.0 joined, is))
-  passes set (leave n kind) f v r k (w, nothing, is) =
-      (subst Fine (jump_flag kind v w f) (subst (λ (z : Result V). Fine z.flag) is k), (w, moves.void n set.parts w nothing, is))
+  values : (base : ℕ) (e : Expr) (z : ℤ) (wanted : Bool) (v : V) (x : Exactness) (w : V) → Keeps x → ValueIs a base e z wanted v x w
+      → ValueIs (aligned a b) base e z wanted v x w
+  values base e z wanted v x w k h = made (value_moves (a.dims v) base wanted e z) v x w k h
+
+  matches : (base : ℕ) (e : Expr) (labels : List CaseLabel) (v : V) (x : Exactness) (w : V) → Keeps x → MatchesNone a base e labels v x w
+      → MatchesNone (aligned a b) base e labels v x w
+  matches base e [] v x w k h = h
+  matches base e (Case z ∷ labels) v x w k (m, c, d, one, rest, is) =
+      let p = matters.parts c d (subst Keeps is k) in
+      (m, c, d, values base e z false v c m p.0 one, matches base e labels m d w p.1 rest, is)
+  matches base e (Default ∷ labels) v x w k h = matches base e labels v x w k h
+
+  enters : (base : ℕ) (e : Expr) (l : CaseLabel) (v other : V) (x : Exactness) (w : V) → Keeps x → Enters a base e l v other x w
+      → Enters (aligned a b) base e l v other x w
+  enters base e (Case z) v other x w k h = values base e z true v x w k h
+  enters base e Default v other x w k h = h
+
+  runs_on : (o : Option V) (u : V) (x : Exactness) (w : V) → Keeps x → JoinsRunning a o u x w → JoinsRunning (aligned a b) o u x w
+  runs_on None u x w k h = h
+  runs_on (Some running) u x w k h = moves.joined running u x w k h
+
+  comes_out : (d : Bool) (o : Option V) (other : V) (x : Exactness) (w : V) → Keeps x → ComesOut a d o other x w → ComesOut (aligned a b) d o other x w
+  comes_out d None other x w k h = h
+  comes_out true (Some running) other x w k h = h
+  comes_out false (Some running) other x w k h = moves.joined running other x w k h
+
+  runs_from : (live cap : ℕ) (o : Option V) (w : V) → RunsFrom a live cap o w → RunsFrom (aligned a b) live cap o w
+  runs_from live cap None w h = moves.void live cap w h
+  runs_from live cap (Some running) w h = h
+
+  mutual
+    pub passes : (set : Plan) (g : Node) (f : Option ℕ) (v : V) (r : Result V) → Fine r.flag → Pass V H a set g f v r
+        → Fine f × Pass V H (aligned a b) set g f v r
+    passes set empty f v r k is = (subst (λ (x : Result V). Fine x.flag) is k, is)
+    passes set (point q) f v r k is = (subst (λ (x : Result V). Fine x.flag) is k, is)
+    passes set (act q op) f v r k (w, e, h, is) =
+        let p = matters.before q e f (subst (λ (x : Result V). Fine x.flag) is k) in
+        (p.1, (w, e, made (moves_of (a.dims v) op) v e w p.0 h, is))
+    passes set (check q base c) f v r k (u, w, d, e, off, on, is) =
+        let p = matters.before q e (noted q d f) (subst (λ (x : Result V). Fine x.flag) is k) in
+        let o = matters.before q d f p.1 in
+        (o.1, (u, w, d, e, leaves base c false v d u o.0 off, leaves base c true v e w p.0 on, is))
+    passes set (seq x y) f v r k (s, t, one, two, is) =
+        let j = passes set y s.flag s.normal t (subst (λ (z : Result V). Fine z.flag) is k) two in
+        let i = passes set x f v s j.0 one in
+        (i.0, (s, t, i.1, j.1, is))
+    passes set (choose q base c x y) f v r k (on, off, w, d, e, i, s, t, yes_on, one, no_on, two, joined, is) =
+        let p = matters.before q i t.flag (subst (λ (z : Result V). Fine z.flag) is k) in
+        let j = passes set y (noted q e s.flag) off t p.1 two in
+        let o = matters.before q e s.flag j.0 in
+        let l = passes set x (noted q d f) on s o.1 one in
+        let n = matters.before q d f l.0 in (
+          n.1,
+          (
+            on,
+            off,
+            w,
+            d,
+            e,
+            i,
+            s,
+            t,
+            leaves base c true v d on n.0 yes_on,
+            l.1,
+            leaves base c false v e off o.0 no_on,
+            j.1,
+            moves.joined s.normal t.normal
+                i w p.0 joined,
+            is,
+          ),
+        )
+    passes set (iterate q base c x) f v r k (h, later, u, top, out, s, t, e, started, grown, narrowed, off, is) =
+        let p = matters.before q e t.flag (subst (λ (z : Result V). Fine z.flag) is k) in
+        let n = narrows q base c (Pass V H a set x) (Pass V H (aligned a b) set x) (passes set x) set.narrow v u s top t p.1 narrowed in
+        let j = grows q base c (Pass V H a set x) (Pass V H (aligned a b) set x) (passes set x) set.widening set.delay f h later u s n.0 grown in (
+          j.0,
+          (
+            h,
+            later,
+            u,
+            top,
+            out,
+            s,
+            t,
+            e,
+            moves.started v (loop_rows set.widening (a.dims v) base c x) h started,
+            j.1,
+            n.1,
+            leaves base c false top e out
+                p.0 off,
+            is,
+          ),
+        )
+    passes set (catch q kind x) f v r k (w, e, s, one, joined, is) =
+        let p = matters.before q e s.flag (subst Fine (behind_flag kind s w (noted q e s.flag)) (subst (λ (z : Result V). Fine z.flag) is k)) in
+        let i = passes set x f v s p.1 one in
+        (i.0, (w, e, s, i.1, joins (values_behind kind s).0 (values_behind kind s).1 e w p.0 joined, is))
+    passes set (leave n kind) f v r k (w, nothing, is) =
+        (subst Fine (jump_flag kind v w f) (subst (λ (z : Result V). Fine z.flag) is k), (w, moves.void n set.parts w nothing, is))
+    passes set (select q base e arms) f v r k (other, x, none, pass) =
+        let i = arms_pass set q base e _ v other arms (noted q x f) None r k pass in
+        let p = matters.before q x f i.0 in
+        (p.1, (other, x, matches base e (entries_of arms) v x other p.0 none, i.1))
+
+    arms_pass : (set : Plan) (q base : ℕ) (e : Expr) (d : Bool) (v other : V) (arms : Arms) (f : Option ℕ) (o : Option V) (r : Result V) → Fine r.flag
+        → ArmsPass V H a set q base e d v other arms f o r → Fine f × ArmsPass V H (aligned a b) set q base e d v other arms f o r
+    arms_pass set q base e d v other no_arms f o r k (w, x, out, is) =
+        let p = matters.before q x f (subst (λ (z : Result V). Fine z.flag) is k) in
+        (p.1, (w, x, comes_out d o other x w p.0 out, is))
+    arms_pass set q base e d v other (entry l arms) f o r k (u, w, x, y, entered, joined, rest) =
+        let i = arms_pass set q base e d v other arms (noted q y (noted q x f)) (Some w) r k rest in
+        let p = matters.before q y (noted q x f) i.0 in
+        let n = matters.before q x f p.1 in
+        (n.1, (u, w, x, y, enters base e l v other x u n.0 entered, runs_on o u y w p.0 joined, i.1))
+    arms_pass set q base e d v other (arm g arms) f o r k (w, s, t, from, one, rest, is) =
+        let j = arms_pass set q base e d v other arms s.flag (Some s.normal) t (subst (λ (z : Result V). Fine z.flag) is k) rest in
+        let i = passes set g f w s j.0 one in
+        (i.0, (w, s, t, runs_from (a.dims v) set.parts o w from, i.1, j.1, is))

@@ -5,6 +5,7 @@ pub mod Seen
 pub mod Plan
 pub mod Operations
 pub mod Moves
+pub mod Live
 pub mod Room
 pub mod MovesOf
 pub mod Given

@@ -5,14 +5,14 @@
 -- comparison tests, where its difference is linear, and in the two cases, where one side is a division and the other
 -- one linear; `&&` is the one behind the other; `||` joins what the left side leaves with what the right side leaves
 -- where the left one is false.
-use Rattle.std.specs.Prelude.{ℕ, zero, suc, ◌-◌, pos, negsuc, neg_ℤ, ◌-ℤ◌, List, [], ◌∷◌, Bool, true, false, not}
+use Rattle.std.specs.Prelude.{ℕ, zero, suc, ◌-◌, ℤ, pos, negsuc, neg_ℤ, ◌-ℤ◌, List, [], ◌∷◌, Bool, true, false, not}
 use Rattle.std.specs.Prelude.{Option, None, Some, replicate, slice_set}
 use Rattle.lra_linear.specs.declared.ConKind.TheVariants.{Ge, Eq}
 use Rattle.lra_base.specs.declared.number_types.NumberType.{NumberType}
 use Rattle.lra_base.specs.declared.number_types.NumberType.TheVariants.{Int, Long}
 use Rattle.lra_base.specs.NumberTypes.{least_of, greatest_of}
 use Rattle.lra_base.specs.Operators.{Comparison, below, at_most, above, at_least, equal, differs}
-use Rattle.lra_program.specs.Program.{literal, Cond, compare, nonzero, opposite, both_of, either_of}
+use Rattle.lra_program.specs.Program.{Expr, literal, Cond, compare, nonzero, opposite, both_of, either_of}
 use Rattle.lra_program.specs.declared.program.GlobalVariable.{GlobalVariable}
 use Rattle.lra_program.specs.declared.receivers.Target.{Target}
 use Rattle.lra_program.specs.Value.{Argument}
@@ -27,7 +27,7 @@ use Rattle.lra_flow.specs.Linear.{comparison_test}
 use Rattle.lra_flow.specs.declared.seen.Division.{Division}
 use Rattle.lra_flow.specs.declared.seen.Seen.{Seen}
 use Rattle.lra_flow.specs.declared.seen.Seen.TheVariants.{Linear, Divided, Unseen}
-use Rattle.lra_flow.specs.Seen.{behind_form, remainder_form, left_over, seen_of, difference_seen}
+use Rattle.lra_flow.specs.Seen.{behind_form, remainder_form, left_over, seen_of, subtracted, difference_seen}
 use Rattle.lra_domain.specs.Moves.{Moves, stay, make, first_then, join_of}
 
 -- divisions -------------------------------------------------------------------------------------------------------
@@ -112,6 +112,15 @@ guard live base false (both_of a b) =
 guard live base true (either_of a b) =
     join_of (guard live base true a) (first_then (guard live base false a) (guard live base true b))
 guard live base false (either_of a b) = first_then (guard live base false a) (guard live base false b)
+
+-- what is seen has this value or, where it is not wanted, another one: the comparison with a literal
+abbrev pub number_moves : ℕ → Bool → Seen → ℤ → Moves
+number_moves live wanted s z =
+    comparison_moves live (comparison_as wanted equal) (subtracted s (Linear (linear.constant_form live z)))
+
+-- the expression has it
+abbrev pub value_moves : ℕ → ℕ → Bool → Expr → ℤ → Moves
+value_moves live base wanted e z = number_moves live wanted (seen_of live base e) z
 
 -- types -----------------------------------------------------------------------------------------------------------
 

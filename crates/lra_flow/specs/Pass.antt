@@ -1,18 +1,22 @@
 -- The iteration over a program whose calls are written out: one case for each form of its tree.
 -- What is counted here are values at points, values with which the tree is left, and the first point with a flagged
 -- operation.
-use Rattle.std.specs.Prelude.{◌≡◌, ℕ, zero, suc, ◌-◌, List, [], ◌∷◌, ◌++◌, Option, None, Some, Bool, true, false}
+use Rattle.std.specs.Prelude.{◌≡◌, ℕ, zero, suc, ◌-◌, ℤ, List, [], ◌∷◌, ◌++◌, Option, None, Some, Bool, true, false}
+use Rattle.std.specs.List.{list_any}
+use Rattle.lra_base.specs.declared.case_labels.CaseLabel.{CaseLabel}
+use Rattle.lra_base.specs.declared.case_labels.CaseLabel.TheVariants.{Case, Default}
+use Rattle.lra_base.specs.CaseLabels.{are_alike}
 use Rattle.lra_domain.specs.declared.Exactness.{Exactness}
 use Rattle.lra_domain.specs.declared.Exactness.TheVariants.{Exact, Flagged}
-use Rattle.lra_program.specs.Program.{Cond}
+use Rattle.lra_program.specs.Program.{Expr, Cond}
 use Rattle.lra_program.specs.Step.{Op}
 use Rattle.lra_operations.specs.Graph.{Exit, broken, continued, returned, Node, empty, point, act, check, seq, choose}
-use Rattle.lra_operations.specs.Graph.{iterate, catch, leave}
+use Rattle.lra_operations.specs.Graph.{iterate, catch, leave, select, Arms, no_arms, entry, arm, entries_of}
 use Rattle.lra_flow.specs.Plan.{Plan, Widening, mode_at}
 use Rattle.lra_flow.specs.Operations.{Operations}
 use Rattle.lra_domain.specs.Meaning.{worse}
 use Rattle.lra_flow.specs.Moves.{AreMade}
-use Rattle.lra_flow.specs.MovesOf.{guard, moves_of}
+use Rattle.lra_flow.specs.MovesOf.{guard, value_moves, moves_of}
 use Rattle.lra_flow.specs.Thresholds.{loop_rows}
 
 -- what is found on the way
@@ -117,6 +121,38 @@ Leaves ops base c wanted v e w = AreMade ops (guard (ops.dims v) base wanted c) 
 abbrev pub Changes : {V H : Type 0} → Operations V H → Op → V → Exactness → V → Type 0
 Changes ops op v e w = AreMade ops (moves_of (ops.dims v) op) v e w
 
+-- from v, where the expression has the value z, wanted so or not, w
+abbrev pub ValueIs : {V H : Type 0} → Operations V H → ℕ → Expr → ℤ → Bool → V → Exactness → V → Type 0
+ValueIs ops base e z wanted v x w = AreMade ops (value_moves (ops.dims v) base wanted e z) v x w
+
+-- where the expression has none of these labels' values: `e != z` for one after the other
+abbrev pub MatchesNone : {V H : Type 0} → Operations V H → ℕ → Expr → List CaseLabel → V → Exactness → V → Type 0
+MatchesNone ops base e [] v x w = (w ≡ v) × (x ≡ Exact)
+MatchesNone {V} ops base e (Case z ∷ labels) v x w = (m : V) × (c d : Exactness) × ValueIs ops base e z false v c m ×
+    MatchesNone ops base e labels m d w × (x ≡ worse c d)
+MatchesNone ops base e (Default ∷ labels) v x w = MatchesNone ops base e labels v x w
+
+-- what comes in at a label, from v and from the value `other` of no match
+abbrev pub Enters : {V H : Type 0} → Operations V H → ℕ → Expr → CaseLabel → V → V → Exactness → V → Type 0
+Enters ops base e (Case z) v other x w = ValueIs ops base e z true v x w
+Enters ops base e Default v other x w = (w ≡ other) × (x ≡ Exact)
+
+-- joined to what runs there, where something does: before the first label nothing does
+abbrev pub JoinsRunning : {V H : Type 0} → Operations V H → Option V → V → Exactness → V → Type 0
+JoinsRunning ops None u x w = (w ≡ u) × (x ≡ Exact)
+JoinsRunning ops (Some running) u x w = ops.joined running u x w
+
+-- behind the last arm: what runs there; where no label is `default`, what has no match joins it
+abbrev pub ComesOut : {V H : Type 0} → Operations V H → Bool → Option V → V → Exactness → V → Type 0
+ComesOut ops has_default None other x w = (w ≡ other) × (x ≡ Exact)
+ComesOut ops true (Some running) other x w = (w ≡ running) × (x ≡ Exact)
+ComesOut ops false (Some running) other x w = ops.joined running other x w
+
+-- what an arm is passed from; before the first label no run comes
+abbrev pub RunsFrom : {V H : Type 0} → Operations V H → ℕ → ℕ → Option V → V → Type 0
+RunsFrom ops live cap None w = ops.void live cap w
+RunsFrom ops live cap (Some running) w = w ≡ running
+
 -- from the first flagged point so far and a value to a result
 abbrev pub Through : Type 0 → Type 1
 Through V = Option ℕ → V → Result V → Type 0
@@ -151,32 +187,50 @@ module _ (V H : Type 0) (ops : Operations V H) where
         (next : V) × (t : Result V) × (e : Exactness)
         × ops.joined first s.normal e next × GoesRound (noted q e s.flag) next t × Narrows more first next t v r
 
-abbrev pub Pass : (V H : Type 0) → Operations V H → Plan → Node → Through V
-Pass V H ops set empty f v r = r ≡ goes_on [] v f
-Pass V H ops set (point q) f v r = r ≡ goes_on (value q v ∷ []) v f
-Pass V H ops set (act q op) f v r = (w : V) × (e : Exactness) × Changes ops op v e w ×
-    (r ≡ goes_on [] w (noted q e f))
--- where the condition is false, and then where it is true
-Pass V H ops set (check q base c) f v r =
-    (u w : V) × (d e : Exactness) × Leaves ops base c false v d u × Leaves ops base c true v e w
-    × (r ≡ goes_on (failing q u ∷ []) w (noted q e (noted q d f)))
-Pass V H ops set (seq a b) f v r =
-    (s t : Result V) × Pass V H ops set a f v s × Pass V H ops set b s.flag s.normal t ×
-    (r ≡ in_turn s t t.normal t.flag)
-Pass V H ops set (choose q base c a b) f v r =
-    (on off w : V) × (d e i : Exactness) × (s t : Result V)
-    × Leaves ops base c true v d on × Pass V H ops set a (noted q d f) on s
-    × Leaves ops base c false v e off × Pass V H ops set b (noted q e s.flag) off t
-    × ops.joined s.normal t.normal i w × (r ≡ in_turn s t w (noted q i t.flag))
-Pass V H ops set (iterate q base c a) f v r =
-    (h : H) × (later : List H) × (u top out : V) × (s t : Result V) × (e : Exactness)
-    × ops.started v (loop_rows set.widening (ops.dims v) base c a) h
-    × Grows V H ops q base c (Pass V H ops set a) set.widening set.delay f h later u s
-    × Narrows V H ops q base c (Pass V H ops set a) set.narrow v u s top t
-    × Leaves ops base c false top e out × (r ≡ record t { normal = out; flag = noted q e t.flag })
-Pass V H ops set (catch q k a) f v r =
-    (w : V) × (e : Exactness) × (s : Result V)
-    × Pass V H ops set a f v s × AreJoined ops (values_behind k s).0 (values_behind k s).1 e w
-    × (r ≡ behind k s w (noted q e s.flag))
--- the value that jumps may be cut already; the one that goes on has the dimensions of where the jump stands
-Pass V H ops set (leave n k) f v r = (w : V) × ops.void n set.parts w × (r ≡ jumps k v w f)
+abbrev mutual
+  pub Pass : (V H : Type 0) → Operations V H → Plan → Node → Through V
+  Pass V H ops set empty f v r = r ≡ goes_on [] v f
+  Pass V H ops set (point q) f v r = r ≡ goes_on (value q v ∷ []) v f
+  Pass V H ops set (act q op) f v r = (w : V) × (e : Exactness) × Changes ops op v e w ×
+      (r ≡ goes_on [] w (noted q e f))
+  -- where the condition is false, and then where it is true
+  Pass V H ops set (check q base c) f v r =
+      (u w : V) × (d e : Exactness) × Leaves ops base c false v d u × Leaves ops base c true v e w
+      × (r ≡ goes_on (failing q u ∷ []) w (noted q e (noted q d f)))
+  Pass V H ops set (seq a b) f v r =
+      (s t : Result V) × Pass V H ops set a f v s × Pass V H ops set b s.flag s.normal t ×
+      (r ≡ in_turn s t t.normal t.flag)
+  Pass V H ops set (choose q base c a b) f v r =
+      (on off w : V) × (d e i : Exactness) × (s t : Result V)
+      × Leaves ops base c true v d on × Pass V H ops set a (noted q d f) on s
+      × Leaves ops base c false v e off × Pass V H ops set b (noted q e s.flag) off t
+      × ops.joined s.normal t.normal i w × (r ≡ in_turn s t w (noted q i t.flag))
+  Pass V H ops set (iterate q base c a) f v r =
+      (h : H) × (later : List H) × (u top out : V) × (s t : Result V) × (e : Exactness)
+      × ops.started v (loop_rows set.widening (ops.dims v) base c a) h
+      × Grows V H ops q base c (Pass V H ops set a) set.widening set.delay f h later u s
+      × Narrows V H ops q base c (Pass V H ops set a) set.narrow v u s top t
+      × Leaves ops base c false top e out × (r ≡ record t { normal = out; flag = noted q e t.flag })
+  Pass V H ops set (catch q k a) f v r =
+      (w : V) × (e : Exactness) × (s : Result V)
+      × Pass V H ops set a f v s × AreJoined ops (values_behind k s).0 (values_behind k s).1 e w
+      × (r ≡ behind k s w (noted q e s.flag))
+  -- the value that jumps may be cut already; the one that goes on has the dimensions of where the jump stands
+  Pass V H ops set (leave n k) f v r = (w : V) × ops.void n set.parts w × (r ≡ jumps k v w f)
+  -- first the value of no match, then the arms; all that isn't an arm's own belongs to the point q
+  Pass V H ops set (select q base e arms) f v r =
+      (other : V) × (x : Exactness) × MatchesNone ops base e (entries_of arms) v x other ×
+      ArmsPass V H ops set q base e (list_any (are_alike Default) (entries_of arms)) v other arms (noted q x f) None r
+
+  -- of a `select` from v, with what runs before these arms
+  pub ArmsPass : (V H : Type 0) → Operations V H → Plan → ℕ → ℕ → Expr → Bool → V → V → Arms → Option ℕ → Option V →
+      Result V → Type 0
+  ArmsPass V H ops set q base e has_default v other no_arms f running r =
+      (w : V) × (x : Exactness) × ComesOut ops has_default running other x w × (r ≡ goes_on [] w (noted q x f))
+  ArmsPass V H ops set q base e has_default v other (entry l arms) f running r =
+      (u w : V) × (x y : Exactness) × Enters ops base e l v other x u × JoinsRunning ops running u y w
+      × ArmsPass V H ops set q base e has_default v other arms (noted q y (noted q x f)) (Some w) r
+  ArmsPass V H ops set q base e has_default v other (arm a arms) f running r =
+      (w : V) × (s t : Result V) × RunsFrom ops (ops.dims v) set.parts running w × Pass V H ops set a f w s
+      × ArmsPass V H ops set q base e has_default v other arms s.flag (Some s.normal) t
+      × (r ≡ in_turn s t t.normal t.flag)

@@ -11,7 +11,8 @@ use Rattle.lra_linear.specs.declared.ConKind.{ConKind}
 use Rattle.lra_base.specs.declared.number_types.NumberType.TheVariants.{Int}
 use Rattle.lra_program.specs.Program.{literal, Cond, compare, nonzero, opposite, both_of, either_of}
 use Rattle.lra_program.specs.Step.{Op, append, give, give_any, push, keep, test}
-use Rattle.lra_operations.specs.Graph.{Node, empty, point, act, check, seq, choose, iterate, catch, leave}
+use Rattle.lra_operations.specs.Graph.{Node, empty, point, act, check, seq, choose, iterate, catch, leave, select}
+use Rattle.lra_operations.specs.Graph.{Arms, no_arms, entry, arm}
 use Rattle.lra_lin.specs.Form.{Form}
 use Rattle.lra_flow.specs.Linear.{difference_form, variable_form}
 use Rattle.lra_flow.specs.Given.{given_rows, inequalities, row_of}
@@ -50,17 +51,26 @@ op_rows live (test base c wanted) = condition_rows live base c
 
 -- around each condition of a tree, in text order, of those in calls that are written out too; the loop, of whose
 -- variables so many live, lies around it. A loop's step stands before its body in the text, and behind it in the tree
-abbrev pub rows_in : ℕ → Node → List (List ℤ)
-rows_in live empty = []
-rows_in live (point q) = []
-rows_in live (act q op) = op_rows live op
-rows_in live (check q base c) = condition_rows live base c
-rows_in live (seq a b) = rows_in live a ++ rows_in live b
-rows_in live (choose q base c a b) = condition_rows live base c ++ (rows_in live a ++ rows_in live b)
-rows_in live (iterate q base c (seq body step)) = condition_rows live base c ++ (rows_in live step ++ rows_in live body)
-rows_in live (iterate q base c a) = condition_rows live base c ++ rows_in live a
-rows_in live (catch q k a) = rows_in live a
-rows_in live (leave n k) = []
+abbrev mutual
+  pub rows_in : ℕ → Node → List (List ℤ)
+  rows_in live empty = []
+  rows_in live (point q) = []
+  rows_in live (act q op) = op_rows live op
+  rows_in live (check q base c) = condition_rows live base c
+  rows_in live (seq a b) = rows_in live a ++ rows_in live b
+  rows_in live (choose q base c a b) = condition_rows live base c ++ (rows_in live a ++ rows_in live b)
+  rows_in live (iterate q base c (seq body step)) =
+      condition_rows live base c ++ (rows_in live step ++ rows_in live body)
+  rows_in live (iterate q base c a) = condition_rows live base c ++ rows_in live a
+  rows_in live (catch q k a) = rows_in live a
+  rows_in live (leave n k) = []
+  -- a value that is looked for is no condition
+  rows_in live (select q base e arms) = rows_in_arms live arms
+
+  pub rows_in_arms : ℕ → Arms → List (List ℤ)
+  rows_in_arms live no_arms = []
+  rows_in_arms live (entry l arms) = rows_in_arms live arms
+  rows_in_arms live (arm a arms) = rows_in live a ++ rows_in_arms live arms
 
 -- of what a loop does in a round: its step, then its body
 abbrev pub round_rows : ℕ → Node → List (List ℤ)
