@@ -135,6 +135,7 @@ iterate_rows live q base c (graph.choose p b d x y) = refl
 iterate_rows live q base c (graph.iterate p b d x) = refl
 iterate_rows live q base c (graph.catch p k x) = refl
 iterate_rows live q base c (graph.leave n k) = refl
+iterate_rows live q base c (graph.select p b e arms) = refl
 
 -- ---- constants
 -- one variable more

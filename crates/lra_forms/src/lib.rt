@@ -15,5 +15,5 @@ pub use forms::{
     apply_operator, constant_of, form_of_expression, form_of_one, has_no_variable, multiple_of,
 };
 pub use given::given_of;
-pub use seen::{see, see_difference};
+pub use seen::{see, see_difference, subtract_number};
 pub use thresholds::thresholds_of;

@@ -4,7 +4,7 @@ ghost use Rattle.std.specs.Prelude.{◌≡◌, ◌<◌, ◌^◌, ◌&&◌, pos, 
 ghost use Rattle.lra_base.specs.OperatorViews.{operator_view};
 ghost use Rattle.lra_program.specs.ProgramViews.{chained, expr_view, operation_view};
 ghost use Rattle.lra_lin.specs.Form.{opposite_form};
-ghost use Rattle.lra_flow.specs.Linear.{fitting, is_constant, form_of};
+ghost use Rattle.lra_flow.specs.Linear.{fitting, is_constant, constant_form, form_of};
 ghost use Rattle.lra_forms.specs.Forms as forms;
 ghost use Rattle.lra_flow.specs.Seen.{extended, behind_form, one_more, division, share_form, share_of};
 ghost use Rattle.lra_flow.specs.Seen.{seen_from, seen_of};
@@ -321,4 +321,19 @@ pub fn see_difference(
     let one = see(alloc, live, base, left)?;
     let other = see(alloc, live, base, right)?;
     subtract(alloc, &one, &other)
+}
+
+/// What is seen of a value minus a number.
+pub fn subtract_number(
+    alloc: Global,
+    live: usize,
+    seen: &Seen,
+    number: &i64,
+) -> Result<Seen, AllocError>
+    requires { live < 2 ^ 62 }
+    ensures { IfOk result (λ s. s ≡ subtracted seen.now (Linear (constant_form live number.now))) }
+{
+    let form = constant_of(alloc, live, number)?;
+    let right = Seen::Linear(form);
+    subtract(alloc, seen, &right)
 }

@@ -5,12 +5,15 @@ ghost use Rattle.std.specs.Cmp.Lexicographic.{pointwise};
 ghost use Rattle.std.specs.List.{filter};
 ghost use Rattle.std.specs.Ordering.{int_eq};
 ghost use Rattle.lra_linear.specs.Range.{InRange};
-ghost use Rattle.lra_operations.specs.GraphViews.{node_view, op_view, row};
+ghost use Rattle.lra_sys.specs.Listed.{Listed};
+ghost use Rattle.lra_linear.specs.declared.ConKind.{ConKind};
+ghost use Rattle.lra_operations.specs.Graph.{Arms};
+ghost use Rattle.lra_operations.specs.GraphViews.{node_view, op_view, row, arm_view, arms_of};
 ghost use Rattle.lra_program.specs.ProgramViews.{all_of, cond_view, expr_view};
 ghost use Rattle.lra_flow.specs.Given.{inequalities, row_of};
 ghost use Rattle.lra_flow.specs.Linear.{difference_form, variable_form};
 ghost use Rattle.lra_flow.specs.Thresholds.{condition_rows, is_among, has_small_numbers, op_rows, round_rows, row_against};
-ghost use Rattle.lra_flow.specs.Thresholds.{rows_around, rows_at, rows_in, rows_once, threshold_rows};
+ghost use Rattle.lra_flow.specs.Thresholds.{rows_around, rows_at, rows_in, rows_in_arms, rows_once, threshold_rows};
 ghost use Rattle.lra_forms.specs.Given.{HasMore};
 ghost use Rattle.lra_forms.specs.Thresholds.{HasTaken};
 
@@ -20,7 +23,7 @@ use crate::given::push_negated;
 use lra_base::NumberType;
 use lra_lin::LinExpr;
 use lra_linear::ConKind;
-use lra_operations::{Node, Op};
+use lra_operations::{Arm, Node, Op};
 use lra_program::{Cond, Expr};
 use lra_row::Row;
 use lra_sys::ConSys;
@@ -268,7 +271,36 @@ fn take_tree(alloc: Global, node: &Node, rows: &mut ConSys) -> Result<(), AllocE
             take_round(alloc, body, rows)
         }
         Node::Catch(_, _, body) => take_tree(alloc, body, rows),
+        Node::Select(_, _, _, arms) => take_arms(alloc, arms.as_slice(), rows),
         _ => Ok(()),
+    }
+}
+
+/// Those of a `switch`: its labels have none.
+#[cycle(tree)]
+fn take_arms(alloc: Global, arms: &[Arm], rows: &mut ConSys) -> Result<(), AllocError>
+    requires { rows.old.dims < 2 ^ 62 }
+    ensures { OnOk result (HasTaken rows.old rows.new (rows_in_arms rows.old.dims (arms_of
+        (map arm_view arms.now)))) }
+{
+    'arms: for arm in arms {
+        take_arm(alloc, arm, rows)?;
+    }
+    Ok(())
+}
+
+/// Those of one arm, before those of the arms behind it.
+#[cycle(tree)]
+fn take_arm(alloc: Global, arm: &Arm, rows: &mut ConSys) -> Result<(), AllocError>
+    requires { rows.old.dims < 2 ^ 62 }
+    ensures dims { OnOk result (rows.new.dims ≡ rows.old.dims) }
+    ensures taken { (behind : Arms) (all : Listed ConKind) → OnOk result (HasTaken rows.new all
+        (rows_in_arms rows.new.dims behind) → HasTaken rows.old all
+        (rows_in_arms rows.old.dims (arm_view arm.now behind))) }
+{
+    match arm {
+        Arm::Entry(_) => Ok(()),
+        Arm::Tree(tree) => take_tree(alloc, tree, rows),
     }
 }
 

@@ -1,11 +1,13 @@
 -- Goals of the functions that call each other around `take_tree`: what each kind of tree gives, trees that stand in a row, and a row's trees.
 use Rattle.std.proofs.Common.{rules, ◌≡◌, ◌∙◌, ◌++◌, ◌∷◌, ap, arith, map}
 use Rattle.lra_operations.specs.Graph as graph
-use Rattle.lra_operations.specs.GraphViews.{exit_view, node_view, op_view, row}
-use Rattle.lra_program.specs.ProgramViews.{cond_view}
+use Rattle.lra_operations.specs.GraphViews.{exit_view, node_view, op_view, row, arm_view, arms_of}
+use Rattle.lra_program.specs.ProgramViews.{cond_view, expr_view}
 use Rattle.lra_flow.specs.Thresholds.{condition_rows, round_rows, rows_in}
-use Rattle.lra_forms.proofs.TreeSizes.{tree_among}
-use Rattle.lra_forms.proofs.TreeViews.{act_view, catch_view, check_view, choose_view, iterate_view, last_taken, row_ends, seq_view, taken_as, taken_seen, two_rounds}
+use Rattle.lra_forms.proofs.TreeSizes.{arm_among, tree_among}
+use Rattle.lra_forms.proofs.TreeViews.{act_view, catch_view, check_view, choose_view, iterate_view, last_taken, row_ends, select_view, seq_view, taken_as}
+use Rattle.lra_forms.proofs.TreeViews.{taken_seen}
+use Rattle.lra_forms.proofs.TreeViews.{arms_taken, entry_taken, none_taken, one_arm_taken, taken_dims, tree_taken, two_rounds}
 use Rattle.lra_forms.proofs.ThresholdSteps.{iterate_rows, trees_taken}
 use Rattle.lra_forms.proofs.thresholds.+tree.Goals as goal
 
@@ -83,3 +85,37 @@ take_round-returns-in_ok-take_trees-in-Some t c =
     let first = rw c.deref-in-Some.ensures at c.in_ok-take_trees-in-Some.ensures in
     two_rounds c.take_tree.result c.args.rows.now c.take_trees.new.rows c.take_tree.new.rows c.args.body.now c.in-Seq.trees c.in-Seq.last c.in-Some.inner.now c.in-Some.step.now
     c.in-Seq.is two first c.take_tree.ensures
+
+pub take_tree-returns-in-Select : goal.take_tree-returns-in-Select
+take_tree-returns-in-Select t c =
+    let inner = rw c.as_slice-in-Select.ensures.value at c.take_arms.ensures in
+    taken_seen c.take_arms.result c.args.rows.now c.take_arms.new.rows c.args.rows.now.dims (node_view c.args.node.now)
+    (graph.select c.in-Select.field-0 c.in-Select.field-1 (expr_view c.in-Select.field-2) (arms_of (map arm_view c.in-Select.arms.items)))
+    (ap node_view c.in-Select.is ∙ select_view c.in-Select.field-0 c.in-Select.field-1 c.in-Select.field-2 c.in-Select.arms) inner
+
+pub take_arms-arms-init : goal.take_arms-arms-init
+take_arms-arms-init t c = none_taken c.args.rows.now c.args.arms.now
+
+pub take_arms-take_arm-requires : goal.take_arms-take_arm-requires
+take_arms-take_arm-requires t c =
+    let smaller = arm_among c.args.arms.now c.arms.arm-index c.arm-item.result c.arms-test.true c.arm-item.is in
+    (omega (arith, c.decreases, smaller), (let same = c.arms.invariant.dims in let few = c.requires in omega (arith, same, few)))
+
+pub take_arms-arms-preserved : goal.take_arms-arms-preserved
+take_arms-arms-preserved t c =
+    one_arm_taken c.args.rows.now c.arms.rows c.take_arm.new.rows c.args.arms.now c.arms.arm-index c.arm-item.result c.arms-test.true c.arm-item.is
+    c.arms.invariant
+    c.in_ok-take_arm.ensures.dims c.in_ok-take_arm.ensures.taken
+
+pub take_arms-returns : goal.take_arms-returns
+take_arms-returns t c = arms_taken c.args.rows.now c.arms.rows c.args.arms.now c.arms.arm-index (omega (arith, c.arms-test.false)) c.arms.invariant
+
+pub take_arm-returns-in-Entry-clause-taken : goal.take_arm-returns-in-Entry-clause-taken
+take_arm-returns-in-Entry-clause-taken t c behind all taken = entry_taken c.args.rows.now all c.args.arm.now c.in-Entry.field-0 behind c.in-Entry.is taken
+
+pub take_arm-returns-in-Tree-clause-dims : goal.take_arm-returns-in-Tree-clause-dims
+take_arm-returns-in-Tree-clause-dims t c = taken_dims c.take_tree.result c.args.rows.now c.take_tree.new.rows _ c.take_tree.ensures
+
+pub take_arm-returns-in-Tree-clause-taken : goal.take_arm-returns-in-Tree-clause-taken
+take_arm-returns-in-Tree-clause-taken t c behind all =
+    tree_taken c.take_tree.result c.args.rows.now c.take_tree.new.rows all c.args.arm.now c.in-Tree.tree behind c.in-Tree.is c.take_tree.ensures

@@ -1,9 +1,10 @@
-use Rattle.std.proofs.Common.{map, suc, take}
+use Rattle.std.proofs.Common.{drop, map, suc, take}
 use Rattle.std.specs.List.{flat_map}
 use Rattle.lra_operations.specs.GraphViews.{node_view}
 use Rattle.lra_flow.specs.Thresholds.{rows_in}
 use Rattle.lra_forms.specs.Thresholds.{HasTaken}
-use Rattle.lra_forms.proofs.TreeSizes.{tree_size, trees_size}
+use Rattle.lra_forms.proofs.TreeSizes.{arm_size, arms_size, tree_size, trees_size}
+use Rattle.lra_forms.proofs.TreeViews.{IsTakenFrom}
 use Rattle.lra_forms.proofs.thresholds.+tree.Given as goal
 
 abbrev pub decreases-take_tree : goal.decreases-take_tree
@@ -18,3 +19,13 @@ decreases-take_round l = suc (tree_size l.body.now)
 -- the rows of the trees so far
 abbrev pub invariant-take_trees-trees : goal.invariant-take_trees-trees
 invariant-take_trees-trees l = HasTaken l.fn.rows l.rows (flat_map (rows_in l.fn.rows.dims) (map node_view (take l.tree-index l.trees)))
+
+abbrev pub decreases-take_arms : goal.decreases-take_arms
+decreases-take_arms l = arms_size l.arms.now
+
+abbrev pub decreases-take_arm : goal.decreases-take_arm
+decreases-take_arm l = arm_size l.arm.now
+
+-- the rows of the arms so far
+abbrev pub invariant-take_arms-arms : goal.invariant-take_arms-arms
+invariant-take_arms-arms l = IsTakenFrom l.fn.rows l.rows l.arms (drop l.arm-index l.arms)
