@@ -16,7 +16,7 @@ use Rattle.lra_forms.proofs.GivenSteps.{test_wide}
 use Rattle.lra_flow.specs.declared.seen.Division.{Division}
 use Rattle.lra_flow.specs.declared.seen.Seen.{Seen}
 use Rattle.lra_flow.specs.declared.seen.Seen.TheVariants.{Linear, Divided, Unseen}
-use Rattle.lra_flow.specs.Seen.{Divides, SeenFits, seen_of, difference_seen}
+use Rattle.lra_flow.specs.Seen.{Divides, SeenFits, seen_of, subtracted, difference_seen}
 use Rattle.lra_flow.specs.Room.{most_live}
 use Rattle.lra_flow.specs.Operations.{dropping}
 use Rattle.lra_domain.specs.Meaning.{worse}
@@ -29,7 +29,7 @@ use Rattle.lra_flow.specs.MovesOf.{tested, in_turn, in_case, first_case, second_
 use Rattle.std.specs.Prelude.{ℤ, pos, negsuc, neg_ℤ, ◌-ℤ◌, replicate, slice_set}
 use Rattle.std.proofs.lemmas.List.{length-replicate}
 use Rattle.lra_flow.proofs.FormLemmas.{set_length}
-use Rattle.lra_flow.proofs.DivisionLemmas.{constant_length, extended_length, opposite_length, room, seen_fits, subtracted_fits}
+use Rattle.lra_flow.proofs.DivisionLemmas.{constant_form_wide, constant_length, extended_length, opposite_length, room, seen_fits, subtracted_fits}
 use Rattle.lra_change.specs.Changes.{Does, Stays}
 
 -- one change alone
@@ -120,6 +120,12 @@ pub difference_fits : (live n base : ℕ) (a b : Expr) (s : Seen) → live ≡ n
 difference_fits live n base a b s same is =
     let fits = subtracted_fits (seen_of n base a) (seen_of n base b) n (seen_fits n base a) (seen_fits n base b) in
     subst (λ (r : Seen). SeenFits r n) (sym (is ∙ ap (λ (k : ℕ). difference_seen k base a b) same)) fits
+
+-- and what is seen of a value minus a number
+pub number_fits : (live n : ℕ) (s d : Seen) (z : ℤ) → live ≡ n → SeenFits s n → d ≡ subtracted s (Linear (constant_form live z)) → SeenFits d n
+number_fits live n s d z same fits is =
+    let wide = subtracted_fits s (Linear (constant_form n z)) n fits (constant_form_wide n z).width in
+    subst (λ (r : Seen). SeenFits r n) (sym (is ∙ ap (λ (k : ℕ). subtracted s (Linear (constant_form k z))) same)) wide
 
 -- a test of a form that is as wide keeps the dimensions
 pub test_stays : (op : Comparison) (d : Form) (t : Test) (n : ℕ) → length d.coefficients ≡ n + 2 → comparison_test (comparison_view op) d ≡ Some t

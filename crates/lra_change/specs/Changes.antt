@@ -1,5 +1,5 @@
 -- Changes of values, in the derivation with drops.
-use Rattle.std.specs.Prelude.{◌≡◌, ℕ, suc, ◌+◌, ◌-◌, ◌<◌, ◌≤◌, ⊤, length, Option, None, Some}
+use Rattle.std.specs.Prelude.{◌≡◌, ℕ, ◌+◌, ◌<◌, ◌≤◌, ⊤, length, Option, None, Some}
 use Rattle.lra_domain.specs.Actions.{Action, dims_after}
 use Rattle.lra_domain.specs.Changes.{CanBeMade}
 use Rattle.lra_domain.specs.declared.Exactness.{Exactness}
@@ -23,15 +23,6 @@ ChangesTo m op v e w = Changes (dropping m) op v e w
 -- an action that can be made of a value of so many dimensions, and leaves as many
 abbrev pub Stays : Action → ℕ → Type 0
 Stays step n = CanBeMade step n × (dims_after step n ≡ n)
-
--- how many variables live behind the change of a store with so many
-abbrev pub dims_behind : Op → ℕ → ℕ
-dims_behind (append t) n = suc n
-dims_behind (give base x e) n = n
-dims_behind (give_any x) n = n
-dims_behind (push base given) n = n + length given
-dims_behind (keep k) n = n - (n - k)
-dims_behind (test base c wanted) n = n
 
 -- the place, where there is one, is that of one of so many variables
 abbrev pub PlaceFits : Option Target → ℕ → Type 0

@@ -8,7 +8,8 @@ ghost use Rattle.lra_flow.specs.Room.{most_live};
 ghost use Rattle.lra_flow.specs.Seen.{seen_of};
 ghost use Rattle.lra_flow.specs.declared.seen.Seen.TheVariants.{Unseen};
 ghost use Rattle.lra_flow.specs.MovesOf.{within_type, set_to, set_target, append_set, push_all, drop_last};
-ghost use Rattle.lra_change.specs.Changes.{Does, ChangesTo, OpFits, dims_behind};
+ghost use Rattle.lra_flow.specs.Live.{dims_behind};
+ghost use Rattle.lra_change.specs.Changes.{Does, ChangesTo, OpFits};
 
 use crate::cases::assign_in_cases;
 use crate::conditions::leave;

@@ -10,12 +10,14 @@ ghost use Rattle.lra_flow.specs.Room.{most_live};
 ghost use Rattle.lra_flow.specs.Operations.{dropping};
 ghost use Rattle.lra_flow.specs.Moves.{Takes};
 ghost use Rattle.lra_flow.specs.MovesOf.{test_moves, case_moves, seen_moves, split_moves, comparison_moves};
+ghost use Rattle.lra_flow.specs.MovesOf.{number_moves};
+ghost use Rattle.lra_change.specs.Changes.{Does};
 
 use crate::cases::change_in_cases;
 use lra_base::Comparison;
 use lra_domain::{Change, Domain, Exactness, worse};
 use lra_flow::{Division, Seen};
-use lra_forms::{see_difference, test_of};
+use lra_forms::{comparison_where, see_difference, subtract_number, test_of};
 use lra_lin::LinExpr;
 use lra_program::Expr;
 use std::alloc::{AllocError, Global};
@@ -151,6 +153,27 @@ fn leave_seen<D: Domain>(
     }
 }
 
+/// The same; all of the value where nothing is seen of the difference.
+fn leave_difference<D: Domain>(
+    alloc: Global,
+    op: Comparison,
+    seen: &Seen,
+    value: &mut D,
+    before: Exactness,
+) -> Result<Exactness, AllocError>
+    requires few { D.meaning.dims value.old ≤ most_live }
+    requires width { SeenFits seen.now (D.meaning.dims value.old) }
+    ensures leaves { IfOk result (λ e. Takes (dropping D.meaning)
+        (comparison_moves (D.meaning.dims value.old) (comparison_view op) seen.now)
+        value.old before value.new e) }
+    ensures dims { OnOk result (D.meaning.dims value.new ≡ D.meaning.dims value.old) }
+{
+    match seen {
+        Seen::Unseen => Ok(before),
+        _ => leave_seen(alloc, op, seen, value, before),
+    }
+}
+
 /// In what a condition is read: the allocator of what is built for it, and where the variables of its call begin.
 #[derive(Clone, Copy)]
 pub struct Surroundings {
@@ -158,7 +181,7 @@ pub struct Surroundings {
     pub base: usize,
 }
 
-/// What a comparison leaves of the value; all of it where nothing is seen of the difference.
+/// What a comparison leaves of the value.
 pub fn leave_comparison<D: Domain>(
     around: Surroundings,
     op: Comparison,
@@ -176,8 +199,25 @@ pub fn leave_comparison<D: Domain>(
     ensures dims { OnOk result (D.meaning.dims value.new ≡ D.meaning.dims value.old) }
 {
     let seen = see_difference(around.alloc, value.dims(), around.base, left, right)?;
-    match &seen {
-        Seen::Unseen => Ok(before),
-        _ => leave_seen(around.alloc, op, &seen, value, before),
-    }
+    leave_difference(around.alloc, op, &seen, value, before)
+}
+
+/// What is left of the value where an expression has this number or, where it is not wanted, another one, by what is
+/// seen of the expression.
+pub fn leave_number<D: Domain>(
+    alloc: Global,
+    seen: &Seen,
+    number: &i64,
+    wanted: bool,
+    value: &mut D,
+) -> Result<Exactness, AllocError>
+    requires few { D.meaning.dims value.old ≤ most_live }
+    requires width { SeenFits seen.now (D.meaning.dims value.old) }
+    ensures leaves { IfOk result (λ e. Does D.meaning
+        (number_moves (D.meaning.dims value.old) wanted seen.now number.now) value.old e value.new) }
+    ensures dims { OnOk result (D.meaning.dims value.new ≡ D.meaning.dims value.old) }
+{
+    let op = comparison_where(Comparison::Equal, wanted);
+    let difference = subtract_number(alloc, value.dims(), seen, number)?;
+    leave_difference(alloc, op, &difference, value, Exactness::Exact)
 }

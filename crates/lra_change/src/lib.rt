@@ -10,6 +10,7 @@ mod sides;
 mod types;
 
 pub use changes::change;
+pub use comparisons::leave_number;
 pub use conditions::leave;
 pub use globals::append_globals;
 pub use sides::{Kept, Sides, split};
