@@ -1,14 +1,15 @@
 -- A pass from the same value again: only the first flagged point can differ, and that is told by what was flagged before.
-use Rattle.std.proofs.Common.{◌≡◌, ℕ, zero, suc, ◌-◌, true, List, [], ◌∷◌, Option, Some, None, refl, sym, ap, subst, ◌∙◌}
+use Rattle.std.proofs.Common.{◌≡◌, ℕ, zero, suc, ◌-◌, Bool, true, List, [], ◌∷◌, Option, Some, None, refl, sym, ap, subst, ◌∙◌}
 use Rattle.lra_domain.specs.declared.Exactness.{Exactness}
 use Rattle.lra_domain.specs.Meaning.{Meaning}
-use Rattle.lra_program.specs.Program.{Cond}
+use Rattle.lra_program.specs.Program.{Expr, Cond}
 use Rattle.lra_operations.specs.Graph.{Exit, broken, continued, returned, Node, empty, point, act, check, seq, choose, iterate, catch, leave}
+use Rattle.lra_operations.specs.Graph.{select, Arms, no_arms, entry, arm}
 use Rattle.lra_flow.specs.Plan.{Plan, Widening}
 use Rattle.lra_flow.specs.Operations.{Operations, dropping}
-use Rattle.lra_flow.specs.Pass.{AreJoined, Leaves, Result, noted, jumps, values_behind, behind, Through, GoesRound, Grows, Narrows, Pass}
+use Rattle.lra_flow.specs.Pass.{AreJoined, Leaves, Result, noted, jumps, values_behind, behind, Through, GoesRound, Grows, Narrows, Pass, ArmsPass}
 use Rattle.lra_flow.proofs.Transfer.{Matters, Transfers, passes}
-use Rattle.lra_iter.specs.Fits.{live_after}
+use Rattle.lra_flow.specs.Live.{live_after}
 use Rattle.lra_iter.specs.declared.outcome.Turn.{Turn}
 use Rattle.lra_iter.specs.Outcome.{seen, AreKept, EntersWith, IsEntered, IsKept, IsPassed, IsTurned, JumpsFit}
 use Rattle.lra_iter.specs.declared.outcome.Entered as entered
@@ -51,53 +52,78 @@ module _ (V H : Type 0) (ops : Operations V H) (set : Plan) (p : ℕ) where
     narrows_again (suc more) first u s v r (next, t, e, joined, turn, rest) =
         (next, flagged_at p t, e, joined, round_again (noted q e s.flag) next t turn, narrows_again more first next t v r rest)
 
-  -- under a flagged point
-  pub passed_again : (g : Node) (f : Option ℕ) (v : V) (r : Result V) → Pass V H ops set g f v r → Pass V H ops set g (Some p) v (flagged_at p r)
-  passed_again empty f v r is = ap (flagged_at p) is
-  passed_again (point q) f v r is = ap (flagged_at p) is
-  passed_again (act q op) f v r (w, e, done, is) = (w, e, done, ap (flagged_at p) is)
-  passed_again (check q base c) f v r (u, w, d, e, off, on, is) = (u, w, d, e, off, on, ap (flagged_at p) is)
-  passed_again (seq a b) f v r (s, t, one, two, is) = (flagged_at p s, flagged_at p t, passed_again a f v s one, passed_again b s.flag s.normal t two, ap (flagged_at p) is)
-  passed_again (choose q base c a b) f v r (on, off, w, d, e, i, s, t, holds, one, fails, two, joined, is) = (
-    on,
-    off,
-    w,
-    d,
-    e,
-    i,
-    flagged_at p s,
-    flagged_at p t,
-    holds,
-    passed_again a (noted q d f) on s one,
-    fails,
-    passed_again b (noted q e s.flag) off t two,
-    joined,
-    ap (flagged_at p) is,
-  )
-  passed_again (iterate q base c a) f v r (h, later, u, top, out, s, t, e, started, grown, narrowed, off, is) = (
-    h,
-    later,
-    u,
-    top,
-    out,
-    flagged_at p s,
-    flagged_at p t,
-    e,
-    started,
-    grows_again q base c (Pass V H ops set a) (passed_again a) set.widening set.delay f h later u s grown,
-    narrows_again q base c (Pass V H ops set a) (passed_again a) set.narrow v u s top t narrowed,
-    off,
-    ap (flagged_at p) is,
-  )
-  passed_again (catch q k a) f v r (w, e, s, one, joined, is) = (
-    w,
-    e,
-    flagged_at p s,
-    passed_again a f v s one,
-    subst (λ (x : V × List V). AreJoined ops x.0 x.1 e w) (caught_again p k s) joined,
-    ap (flagged_at p) is ∙ behind_again p k s w (noted q e s.flag),
-  )
-  passed_again (leave n k) f v r (w, nothing, is) = (w, nothing, ap (flagged_at p) is ∙ jump_again p k v w f)
+  mutual
+    -- under a flagged point
+    pub passed_again : (g : Node) (f : Option ℕ) (v : V) (r : Result V) → Pass V H ops set g f v r → Pass V H ops set g (Some p) v (flagged_at p r)
+    passed_again empty f v r is = ap (flagged_at p) is
+    passed_again (point q) f v r is = ap (flagged_at p) is
+    passed_again (act q op) f v r (w, e, done, is) = (w, e, done, ap (flagged_at p) is)
+    passed_again (check q base c) f v r (u, w, d, e, off, on, is) = (u, w, d, e, off, on, ap (flagged_at p) is)
+    passed_again (seq a b) f v r (s, t, one, two, is) = (
+      flagged_at p s,
+      flagged_at p t,
+      passed_again a f v s one,
+      passed_again b s.flag s.normal t two,
+      ap
+          (flagged_at p) is,
+    )
+    passed_again (choose q base c a b) f v r (on, off, w, d, e, i, s, t, holds, one, fails, two, joined, is) = (
+      on,
+      off,
+      w,
+      d,
+      e,
+      i,
+      flagged_at p s,
+      flagged_at p t,
+      holds,
+      passed_again a (noted q d f) on s one,
+      fails,
+      passed_again b (noted q e s.flag) off t two,
+      joined,
+      ap (flagged_at p) is,
+    )
+    passed_again (iterate q base c a) f v r (h, later, u, top, out, s, t, e, started, grown, narrowed, off, is) = (
+      h,
+      later,
+      u,
+      top,
+      out,
+      flagged_at p s,
+      flagged_at p t,
+      e,
+      started,
+      grows_again q base c (Pass V H ops set a) (passed_again a) set.widening set.delay f h later u s grown,
+      narrows_again q base c (Pass V H ops set a) (passed_again a) set.narrow v u s top t narrowed,
+      off,
+      ap (flagged_at p) is,
+    )
+    passed_again (catch q k a) f v r (w, e, s, one, joined, is) = (
+      w,
+      e,
+      flagged_at p s,
+      passed_again a f v s one,
+      subst (λ (x : V × List V). AreJoined ops x.0 x.1 e w) (caught_again p k s) joined,
+      ap (flagged_at p) is ∙ behind_again p k s w (noted q e s.flag),
+    )
+    passed_again (leave n k) f v r (w, nothing, is) = (w, nothing, ap (flagged_at p) is ∙ jump_again p k v w f)
+    passed_again (select q base e arms) f v r (other, x, none, pass) = (other, x, none, arms_again q base e _ v other arms (noted q x f) None r pass)
+
+    arms_again : (q base : ℕ) (e : Expr) (d : Bool) (v other : V) (arms : Arms) (f : Option ℕ) (running : Option V) (r : Result V)
+        → ArmsPass V H ops set q base e d v other arms f running r → ArmsPass V H ops set q base e d v other arms (Some p) running (flagged_at p r)
+    arms_again q base e d v other no_arms f running r (w, x, out, is) = (w, x, out, ap (flagged_at p) is)
+    arms_again q base e d v other (entry l arms) f running r (u, w, x, y, enters, joins, rest) =
+        (u, w, x, y, enters, joins, arms_again q base e d v other arms (noted q y (noted q x f)) (Some w) r rest)
+    arms_again q base e d v other (arm a arms) f running r (w, s, t, from, one, rest, is) = (
+      w,
+      flagged_at p s,
+      flagged_at p t,
+      from,
+      passed_again a f w s one,
+      arms_again q base e d v other arms s.flag (Some s.normal) t rest,
+      ap (flagged_at p)
+          is,
+    )
 
 -- no flag, none before
 pub none_noted : (q : ℕ) (e : Exactness) (f : Option ℕ) → noted q e f ≡ None → f ≡ None

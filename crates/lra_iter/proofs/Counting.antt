@@ -6,14 +6,15 @@ use Rattle.std.specs.List.{Contains}
 use Rattle.std.proofs.lemmas.Bool.{cases_eq}
 use Rattle.std.proofs.lemmas.Bool.Decides.{nat_tests}
 use Rattle.lra_linear.proofs.Membership.{contains_none, contains_head, contains_tail, contains_cases}
-use Rattle.lra_program.specs.Program.{Cond, Program}
+use Rattle.lra_program.specs.Program.{Expr, Cond, Program}
 use Rattle.lra_operations.specs.Graph.{Exit, broken, continued, returned, Node, empty, point, act, check, seq, choose, iterate, catch, leave}
+use Rattle.lra_operations.specs.Graph.{select, Arms, no_arms, entry, arm}
 use Rattle.lra_program.specs.Sites.{Site, sites_of}
 use Rattle.lra_flow.specs.Plan.{Plan, Widening}
 use Rattle.lra_flow.specs.Operations.{Operations}
-use Rattle.lra_flow.specs.Pass.{Entry, value, failing, Result, noted, jumps, behind, Through, GoesRound, Grows, Narrows, Pass}
+use Rattle.lra_flow.specs.Pass.{Entry, value, failing, Result, noted, jumps, behind, Through, GoesRound, Grows, Narrows, Pass, ArmsPass}
 use Rattle.lra_flow.specs.Analysis.{Iteration}
-use Rattle.lra_iter.specs.Numbers.{one_if, values_in, checks_in, asserts_of, IsNumbered}
+use Rattle.lra_iter.specs.Numbers.{one_if, values_in, values_in_arms, checks_in, checks_in_arms, asserts_of, IsNumbered}
 use Rattle.lra_iter.specs.Counts.{values_at, failing_at, AreCounted}
 
 pub one_same : (q : ℕ) → one_if q q ≡ 1
@@ -72,26 +73,45 @@ module _ (V H : Type 0) (ops : Operations V H) (k : ℕ) where
     narrows_found zero first u s v r (same, is) found = subst (λ (y : Result V). Found k y.entries (one_if q k + n) d) (sym is) found
     narrows_found (suc more) first u s v r (next, t, e, joined, turn, rest) found = narrows_found more first next t v r rest (round_found (noted q e s.flag) next t turn)
 
-  pub pass_found : (set : Plan) (g : Node) (f : Option ℕ) (v : V) (r : Result V) → Pass V H ops set g f v r → Found k r.entries (values_in g k) (checks_in g k)
-  pass_found set empty f v r is = subst (λ (y : Result V). Found k y.entries 0 0) (sym is) (record { values = refl; checks = refl })
-  pass_found set (point q) f v r is = subst (λ (y : Result V). Found k y.entries (one_if q k) 0) (sym is) (record { values = omega arith; checks = refl })
-  pass_found set (act q op) f v r (w, e, done, is) = subst (λ (y : Result V). Found k y.entries 0 0) (sym is) (record { values = refl; checks = refl })
-  pass_found set (check q base c) f v r (u, w, d, e, off, on, is) = subst (λ (y : Result V). Found k y.entries 0 (one_if q k)) (sym is) (record { values = refl; checks = omega arith })
-  pass_found set (seq a b) f v r (x, y, one, two, is) =
-      subst (λ (z : Result V). Found k z.entries (values_in a k + values_in b k) (checks_in a k + checks_in b k)) (sym is)
-      (both_found k x.entries y.entries (values_in a k) (checks_in a k) (values_in b k) (checks_in b k) (pass_found set a f v x one) (pass_found set b x.flag x.normal y two))
-  pass_found set (choose q base c a b) f v r (on, off, w, d, e, i, x, y, is_on, one, is_off, two, joined, is) =
-      subst (λ (z : Result V). Found k z.entries (values_in a k + values_in b k) (checks_in a k + checks_in b k)) (sym is)
-      (both_found k x.entries y.entries (values_in a k) (checks_in a k) (values_in b k) (checks_in b k) (pass_found set a (noted q d f) on x one) (pass_found set b (noted q e x.flag) off y two))
-  pass_found set (iterate q base c a) f v r (h, later, u, top, out, x, y, e, started, grown, narrowed, off, is) =
-      let g = grows_found q base c (Pass V H ops set a) (values_in a k) (checks_in a k) (pass_found set a) set.widening set.delay f h later u x grown in
-      let n = narrows_found q base c (Pass V H ops set a) (values_in a k) (checks_in a k) (pass_found set a) set.narrow v u x top y narrowed g in
-      subst (λ (z : Result V). Found k z.entries (one_if q k + values_in a k) (checks_in a k)) (sym is) (record { values = n.values; checks = n.checks })
-  pass_found set (catch q j a) f v r (w, e, x, one, joined, is) =
-      subst (λ (z : Result V). Found k z.entries (values_in a k) (checks_in a k)) (sym is)
-      (subst (λ (zs : List (Entry V)). Found k zs (values_in a k) (checks_in a k)) (sym (behind_entries j x w (noted q e x.flag))) (pass_found set a f v x one))
-  pass_found set (leave n j) f v r (w, nothing, is) =
-      subst (λ (z : Result V). Found k z.entries 0 0) (sym is) (subst (λ (zs : List (Entry V)). Found k zs 0 0) (sym (jump_entries j v w f)) (record { values = refl; checks = refl }))
+  mutual
+    pub pass_found : (set : Plan) (g : Node) (f : Option ℕ) (v : V) (r : Result V) → Pass V H ops set g f v r
+        → Found k r.entries (values_in g k) (checks_in g k)
+    pass_found set empty f v r is = subst (λ (y : Result V). Found k y.entries 0 0) (sym is) (record { values = refl; checks = refl })
+    pass_found set (point q) f v r is = subst (λ (y : Result V). Found k y.entries (one_if q k) 0) (sym is) (record { values = omega arith; checks = refl })
+    pass_found set (act q op) f v r (w, e, done, is) = subst (λ (y : Result V). Found k y.entries 0 0) (sym is) (record { values = refl; checks = refl })
+    pass_found set (check q base c) f v r (u, w, d, e, off, on, is) = subst (λ (y : Result V). Found k y.entries 0 (one_if q k)) (sym is)
+        (record { values = refl; checks = omega arith })
+    pass_found set (seq a b) f v r (x, y, one, two, is) =
+        subst (λ (z : Result V). Found k z.entries (values_in a k + values_in b k) (checks_in a k + checks_in b k)) (sym is)
+        (both_found k x.entries y.entries (values_in a k) (checks_in a k) (values_in b k) (checks_in b k) (pass_found set a f v x one)
+        (pass_found set b x.flag x.normal y two))
+    pass_found set (choose q base c a b) f v r (on, off, w, d, e, i, x, y, is_on, one, is_off, two, joined, is) =
+        subst (λ (z : Result V). Found k z.entries (values_in a k + values_in b k) (checks_in a k + checks_in b k)) (sym is)
+        (both_found k x.entries y.entries (values_in a k) (checks_in a k) (values_in b k) (checks_in b k) (pass_found set a (noted q d f) on x one)
+        (pass_found set b (noted q e x.flag) off y two))
+    pass_found set (iterate q base c a) f v r (h, later, u, top, out, x, y, e, started, grown, narrowed, off, is) =
+        let g = grows_found q base c (Pass V H ops set a) (values_in a k) (checks_in a k) (pass_found set a) set.widening set.delay f h later u x grown in
+        let n = narrows_found q base c (Pass V H ops set a) (values_in a k) (checks_in a k) (pass_found set a) set.narrow v u x top y narrowed g in
+        subst (λ (z : Result V). Found k z.entries (one_if q k + values_in a k) (checks_in a k)) (sym is) (record { values = n.values; checks = n.checks })
+    pass_found set (catch q j a) f v r (w, e, x, one, joined, is) =
+        subst (λ (z : Result V). Found k z.entries (values_in a k) (checks_in a k)) (sym is)
+        (subst (λ (zs : List (Entry V)). Found k zs (values_in a k) (checks_in a k)) (sym (behind_entries j x w (noted q e x.flag)))
+        (pass_found set a f v x one))
+    pass_found set (leave n j) f v r (w, nothing, is) =
+        subst (λ (z : Result V). Found k z.entries 0 0) (sym is)
+        (subst (λ (zs : List (Entry V)). Found k zs 0 0) (sym (jump_entries j v w f)) (record { values = refl; checks = refl }))
+    pass_found set (select q base e arms) f v r (other, x, none, pass) = arms_found set q base e _ v other arms (noted q x f) None r pass
+
+    arms_found : (set : Plan) (q base : ℕ) (e : Expr) (d : Bool) (v other : V) (arms : Arms) (f : Option ℕ) (running : Option V) (r : Result V)
+        → ArmsPass V H ops set q base e d v other arms f running r → Found k r.entries (values_in_arms arms k) (checks_in_arms arms k)
+    arms_found set q base e d v other no_arms f running r (w, x, out, is) = subst (λ (y : Result V). Found k y.entries 0 0) (sym is)
+        (record { values = refl; checks = refl })
+    arms_found set q base e d v other (entry l arms) f running r (u, w, x, y, enters, joins, rest) =
+        arms_found set q base e d v other arms (noted q y (noted q x f)) (Some w) r rest
+    arms_found set q base e d v other (arm a arms) f running r (w, x, y, from, one, rest, is) =
+        subst (λ (z : Result V). Found k z.entries (values_in a k + values_in_arms arms k) (checks_in a k + checks_in_arms arms k)) (sym is)
+        (both_found k x.entries y.entries (values_in a k) (checks_in a k) (values_in_arms arms k) (checks_in_arms arms k) (pass_found set a f w x one)
+        (arms_found set q base e d v other arms x.flag (Some x.normal) y rest))
 
   pub iteration_found : (set : Plan) (P : Program) (g : Node) (r : Result V) → Iteration ops set P g r → Found k r.entries (values_in g k) (checks_in g k)
   iteration_found set P g r (none, first, e, universal, values, pass) = pass_found set g (noted 0 e None) first r pass

@@ -12,7 +12,7 @@ use Rattle.lra_flow.specs.Operations.{dropping}
 use Rattle.lra_flow.specs.Pass.{Entry, Result, goes_on, in_turn, jumps, noted, Pass}
 use Rattle.lra_iter.specs.declared.outcome.Entry as entry
 use Rattle.lra_iter.specs.declared.outcome.Outcome.{Outcome}
-use Rattle.lra_iter.specs.Fits.{live_after}
+use Rattle.lra_flow.specs.Live.{live_after}
 use Rattle.lra_iter.specs.Flat.{Follows}
 use Rattle.lra_iter.specs.Outcome.{ended, entry_view, seen, IsPassed}
 use Rattle.lra_iter.proofs.PassRows.{same_lists}

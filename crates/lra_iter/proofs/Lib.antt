@@ -16,6 +16,8 @@ mod LeafSteps
 mod RowLeaves
 mod TurnSteps
 mod LoopPlaces
+mod Selecting
+mod SelectSteps
 mod BoxedPlaces
 mod Joining
 -- The written iteration has one solution.

@@ -21,7 +21,8 @@ use Rattle.lra_iter.specs.declared.places.GrowingPlace.{GrowingPlace}
 use Rattle.lra_iter.specs.declared.places.Narrowing.{Narrowing}
 use Rattle.lra_iter.specs.declared.places.NarrowingPlace.{NarrowingPlace}
 use Rattle.lra_iter.specs.declared.shapes.Loop.{Loop}
-use Rattle.lra_iter.specs.Fits.{live_after, TreeFits}
+use Rattle.lra_flow.specs.Live.{live_after}
+use Rattle.lra_iter.specs.Fits.{TreeFits}
 use Rattle.lra_iter.specs.Heads.{IsValued, GrowsBy}
 use Rattle.lra_iter.specs.Memory.{AreRecalled, MayRecall, Remembers, StaysKept}
 use Rattle.lra_iter.specs.Outcome.{headed, seen, AreKept, IsEntered, IsKept, IsPassed, IsTurned, LeavesWith}

@@ -12,7 +12,8 @@ use Rattle.lra_operations.specs.Graph as graph
 use Rattle.lra_flow.specs.Room.{most_live}
 use Rattle.lra_flow.specs.Plan.{Plan}
 use Rattle.lra_flow.specs.Pass.{Entry, Result, goes_on, in_turn}
-use Rattle.lra_iter.specs.Fits.{live_after, TreeFits}
+use Rattle.lra_flow.specs.Live.{live_after}
+use Rattle.lra_iter.specs.Fits.{TreeFits}
 use Rattle.lra_iter.specs.declared.outcome.Found.{Found}
 use Rattle.lra_iter.specs.declared.outcome.Outcome.{Outcome}
 use Rattle.lra_iter.specs.Outcome.{ended, JumpsFit, IsPassed}

@@ -10,19 +10,23 @@ use Rattle.lra_domain.specs.declared.Exactness.{Exactness}
 use Rattle.lra_program.specs.declared.program.Cond as declared_cond
 use Rattle.lra_operations.specs.declared.graph.Exit as declared_exit
 use Rattle.lra_operations.specs.declared.graph.Op as declared_op
-use Rattle.lra_operations.specs.declared.graph.Node.{Node, Empty, Point, Act, Check, Seq, Choose, Iterate, Catch, Leave, the_lemmas}
-use Rattle.lra_program.specs.ProgramViews.{cond_view}
-use Rattle.lra_operations.specs.GraphViews.{exit_view, node_view, row}
+use Rattle.lra_operations.specs.declared.graph.Node.{Node, Empty, Point, Act, Check, Seq, Choose, Iterate, Catch, Leave, Select, the_lemmas}
+use Rattle.lra_operations.specs.declared.graph.Arm.{Arm}
+use Rattle.lra_operations.specs.declared.graph.Arm.TheVariants.{Tree as TreeArm}
+use Rattle.lra_program.specs.declared.program.Expr as declared_expr
+use Rattle.lra_program.specs.ProgramViews.{cond_view, expr_view}
+use Rattle.lra_operations.specs.GraphViews.{exit_view, node_view, row, arm_view, arms_of}
 use Rattle.lra_program.specs.Program.{Cond}
 use Rattle.lra_operations.specs.Graph.{Exit, broken, continued, returned}
 use Rattle.lra_operations.specs.Graph as graph
 use Rattle.lra_flow.specs.Plan.{Plan}
 use Rattle.lra_flow.specs.Operations.{dropping}
 use Rattle.lra_flow.specs.Pass.{Leaves, jumps_of, Entry, Result, noted, goes_on, jumps, in_turn, behind, Pass, Narrows}
-use Rattle.lra_iter.specs.Fits.{live_after, JumpsWith, TreeFits}
+use Rattle.lra_flow.specs.Live.{live_after}
+use Rattle.lra_iter.specs.Fits.{JumpsWith, TreeFits}
 use Rattle.lra_iter.specs.Outcome.{headed, AllHave, AreMet, Catches, JumpsFit, HasGrown, IsPassed, LeavesWith}
-use Rattle.lra_iter.specs.Steps.{node_steps, row_steps}
-use Rattle.lra_forms.proofs.TreeViews.{catch_view, choose_view, iterate_view, seq_view}
+use Rattle.lra_iter.specs.Steps.{arm_steps, arms_steps, node_steps, row_steps}
+use Rattle.lra_forms.proofs.TreeViews.{catch_view, choose_view, iterate_view, select_view, seq_view}
 
 -- how many steps a pass of each takes
 pub empty_steps : (n : ℕ) → node_steps n Empty ≡ 1
@@ -65,7 +69,24 @@ catch_steps : (n q : ℕ) (k : declared_exit.Exit) (a : Box Node Global) →
     node_steps n (Catch q k a) ≡ 2 + node_steps n a.value
 catch_steps n q k a = search (rules, the_lemmas)
 
+select_sum : (n q base : ℕ) (e : declared_expr.Expr) (arms : Vec Arm Global)
+    → node_steps n (Select q base e arms) ≡ 2 + sum_by suc (map (arm_steps n) arms.items)
+select_sum n q base e arms = search (rules, the_lemmas)
+
+select_steps : (n q base : ℕ) (e : declared_expr.Expr) (arms : Vec Arm Global) → node_steps n (Select q base e arms) ≡ 2 + arms_steps n arms.items
+select_steps n q base e arms = select_sum n q base e arms ∙ ap (λ k. 2 + k) (each_step (arm_steps n) arms.items)
+
+pub tree_steps_of : (n : ℕ) (g : Node) → arm_steps n (TreeArm g) ≡ suc (node_steps n g)
+tree_steps_of n g = search (rules, the_lemmas)
+
 -- the same of a tree that is one of these forms, by the trees in it
+module _ (g : Node) (xs : List Arm) (arms : Vec Arm Global) (q base : ℕ) (e : declared_expr.Expr) (one : xs ≡ arms.items) (is : g ≡ Select q base e arms) where
+  pub select_shown : node_view g ≡ graph.select q base (expr_view e) (arms_of (map arm_view xs))
+  select_shown = ap node_view is ∙ select_view q base e arms ∙ ap (λ (z : List Arm). graph.select q base (expr_view e) (arms_of (map arm_view z))) (sym one)
+
+  pub select_taken : (n : ℕ) → node_steps n g ≡ 2 + arms_steps n xs
+  select_taken n = ap (node_steps n) is ∙ select_steps n q base e arms ∙ ap (λ (z : List Arm). 2 + arms_steps n z) (sym one)
+
 module _ (g y : Node) (xs : List Node) (gs : Vec Node Global) (last : Box Node Global) (one : xs ≡ gs.items) (two : y ≡ last.value) (is : g ≡ Seq gs last) where
   pub seq_shown : node_view g ≡ row (map node_view xs) (node_view y)
   seq_shown = ap node_view is ∙ seq_view gs last ∙ ap (λ (z : List Node). row (map node_view z) (node_view last.value)) (sym one) ∙ ap (λ z. row (map node_view xs) (node_view z)) (sym two)
@@ -104,7 +125,7 @@ one_element : {X : Type 0} (v u : X) → Contains (v ∷ []) u → u ≡ v
 one_element v u (zero, below, is) = sym is
 one_element v u (suc k, below, is) = absurd (omega arith)
 
-in_both : {X : Type 0} (P Q : X → Type 0) (xs ys : List X) (u : X) → (Contains xs u → P u) → (Contains ys u → Q u) → Contains (xs ++ ys) u → P u ⊎ Q u
+pub in_both : {X : Type 0} (P Q : X → Type 0) (xs ys : List X) (u : X) → (Contains xs u → P u) → (Contains ys u → Q u) → Contains (xs ++ ys) u → P u ⊎ Q u
 in_both P Q xs ys u p q h = elim (Contains-append_cases xs ys u h) [ inl x ↦ inl (p x) | inr y ↦ inr (q y) ]
 
 module _ {V H : Type 0} (m : Meaning V H) where

@@ -1,5 +1,6 @@
 -- The value that an iteration has at a point has a dimension for each variable that lives there.
-use Rattle.std.proofs.Common.{◌≡◌, ℕ, zero, suc, ◌+◌, ◌-◌, ◌++◌, List, [], ◌∷◌, length, Option, Some, None, Bool, true, false, inl, inr, refl, sym, ap, ◌∙◌, subst, arith}
+use Rattle.std.proofs.Common.{◌≡◌, ℕ, ℤ, zero, suc, ◌+◌, ◌-◌, ◌++◌, List, [], ◌∷◌, length, Option, Some, None, Bool, true, false, inl, inr, refl, sym, ap, ◌∙◌}
+use Rattle.std.proofs.Common.{subst, arith}
 use Rattle.std.specs.Prelude.{not, slice_get}
 use Rattle.std.specs.List.{AllByRecursion, Contains}
 use Rattle.lra_linear.proofs.Membership.{contains_none, contains_cases}
@@ -13,31 +14,35 @@ use Rattle.lra_domain.specs.declared.Exactness.{Exactness}
 use Rattle.lra_domain.specs.Meaning.{Meaning}
 use Rattle.lra_domain.specs.Laws.{Laws}
 use Rattle.lra_base.specs.Operators.{Comparison, below, at_most, above, at_least, equal, differs}
-use Rattle.lra_program.specs.Program.{Cond, Program, literal, compare, nonzero, opposite, both_of, either_of}
+use Rattle.lra_program.specs.Program.{Expr, Cond, Program, literal, compare, nonzero, opposite, both_of, either_of}
 use Rattle.lra_flow.specs.Linear as linear
 use Rattle.lra_lin.specs.declared.test.Test.{Test}
 use Rattle.lra_flow.specs.Linear.{comparison_test}
 use Rattle.lra_flow.specs.declared.seen.Division.{Division}
 use Rattle.lra_flow.specs.declared.seen.Seen.{Seen}
 use Rattle.lra_flow.specs.declared.seen.Seen.TheVariants.{Linear, Divided, Unseen}
-use Rattle.lra_flow.specs.Seen.{seen_of, difference_seen}
+use Rattle.lra_flow.specs.Seen.{seen_of, subtracted, difference_seen}
 use Rattle.lra_domain.specs.Moves.{Moves, stay, make, first_then, join_of, dims_moved}
 use Rattle.lra_flow.specs.Moves.{AreMade}
 use Rattle.lra_program.specs.Step as step
 use Rattle.lra_program.specs.Step.{Op, append, give, give_any, keep, test}
 use Rattle.lra_operations.specs.Graph.{Exit, broken, continued, returned, Node, empty, point, act, check, seq, choose, iterate, catch, leave}
+use Rattle.lra_operations.specs.Graph.{select, Arms, no_arms, entry, arm, entries_of}
 use Rattle.lra_program.specs.Sites.{Site}
 use Rattle.lra_flow.specs.Plan.{Plan, Widening}
 use Rattle.lra_flow.specs.Operations.{dropping}
 use Rattle.lra_flow.specs.MovesOf.{within_type, set_to, append_set, set_target, push_all, drop_last, moves_of, first_values, tested, test_moves, case_moves}
-use Rattle.lra_flow.specs.MovesOf.{seen_moves, split_moves, comparison_moves, comparison_as, guard}
+use Rattle.lra_flow.specs.MovesOf.{seen_moves, split_moves, comparison_moves, comparison_as, guard, value_moves}
 use Rattle.lra_flow.specs.Pass.{AreJoined, Leaves, Entry, value, failing, Result, noted, jumps, first_of_call, values_behind, behind, Through, Changes, GoesRound, Grows, Narrows, Pass}
+use Rattle.lra_flow.specs.Pass.{ArmsPass, ValueIs, MatchesNone, Enters, JoinsRunning, ComesOut, RunsFrom}
+use Rattle.lra_base.specs.declared.case_labels.CaseLabel.{CaseLabel}
+use Rattle.lra_base.specs.declared.case_labels.CaseLabel.TheVariants.{Case, Default}
+use Rattle.lra_iter.specs.Open.{RunHas}
 use Rattle.lra_flow.specs.Analysis.{Derivation, Solves}
 use Rattle.lra_flow.proofs.Caps.{all_both}
-use Rattle.lra_change.specs.Changes.{dims_behind}
+use Rattle.lra_flow.specs.Live.{dims_behind, live_after}
 use Rattle.lra_change.proofs.ChangeSteps.{cases_dims, set_dims}
-use Rattle.lra_iter.specs.Fits.{live_after}
-use Rattle.lra_iter.specs.Lives.{LiveAt, PointsHave, AreWide}
+use Rattle.lra_iter.specs.Lives.{LiveAt, ArmsHave, PointsHave, AreWide}
 
 -- operations ---------------------------------------------------------------------------------------------------------
 
@@ -143,6 +148,39 @@ module _ (V H : Type 0) (m : Meaning V H) where
   caught_dims continued r e w is = joined_dims r.normal r.continues e w is
   caught_dims returned r e w is = returned_dims r.returns r.normal e w is
 
+  -- a `switch`
+  value_dims : (base : ℕ) (e : Expr) (z : ℤ) (wanted : Bool) (v : V) (x : Exactness) (w : V) → ValueIs (dropping m) base e z wanted v x w → m.dims w ≡ m.dims v
+  value_dims base e z wanted v x w is =
+      let n = m.dims v in
+      made_dims (value_moves n base wanted e z) v x w is ∙
+      comparison_after n (comparison_as wanted equal) (subtracted (seen_of n base e) (Linear (linear.constant_form n z))) n
+
+  none_dims : (base : ℕ) (e : Expr) (labels : List CaseLabel) (v : V) (x : Exactness) (w : V) → MatchesNone (dropping m) base e labels v x w
+      → m.dims w ≡ m.dims v
+  none_dims base e [] v x w (same, exact) = ap (λ (u : V). m.dims u) same
+  none_dims base e (Case z ∷ labels) v x w (u, c, d, one, rest, worst) = none_dims base e labels u d w rest ∙ value_dims base e z false v c u one
+  none_dims base e (Default ∷ labels) v x w rest = none_dims base e labels v x w rest
+
+  enters_dims : (base : ℕ) (e : Expr) (l : CaseLabel) (v other : V) (x : Exactness) (w : V) → Enters (dropping m) base e l v other x w
+      → m.dims other ≡ m.dims v → m.dims w ≡ m.dims v
+  enters_dims base e (Case z) v other x w is wide = value_dims base e z true v x w is
+  enters_dims base e Default v other x w (same, exact) wide = ap (λ (u : V). m.dims u) same ∙ wide
+
+  joins_dims : (o : Option V) (u : V) (x : Exactness) (w : V) (n : ℕ) → JoinsRunning (dropping m) o u x w → RunHas m n o → m.dims u ≡ n → m.dims w ≡ n
+  joins_dims None u x w n (same, exact) runs wide = ap (λ (y : V). m.dims y) same ∙ wide
+  joins_dims (Some running) u x w n joined runs wide = joined.2 ∙ runs
+
+  out_dims : (d : Bool) (o : Option V) (other : V) (x : Exactness) (w : V) (n : ℕ) → ComesOut (dropping m) d o other x w → RunHas m n o → m.dims other ≡ n
+      → m.dims w ≡ n
+  out_dims true None other x w n (same, exact) runs wide = ap (λ (y : V). m.dims y) same ∙ wide
+  out_dims false None other x w n (same, exact) runs wide = ap (λ (y : V). m.dims y) same ∙ wide
+  out_dims true (Some running) other x w n (same, exact) runs wide = ap (λ (y : V). m.dims y) same ∙ runs
+  out_dims false (Some running) other x w n joined runs wide = joined.2 ∙ runs
+
+  from_dims : Laws m → (n cap : ℕ) (o : Option V) (w : V) → RunsFrom (dropping m) n cap o w → RunHas m n o → m.dims w ≡ n
+  from_dims laws n cap None w nothing runs = laws.void_dims n cap w nothing.0
+  from_dims laws n cap (Some running) w same runs = ap (λ (y : V). m.dims y) same ∙ runs
+
   -- passes -----------------------------------------------------------------------------------------------------------
 
   module _ (T : List Site) where
@@ -197,29 +235,48 @@ module _ (V H : Type 0) (m : Meaning V H) where
           narrows_wide more first next t v r rest k (record { top = top; result = round_wide (noted q e s.flag) next t turn top })
 
     module _ (laws : Laws m) (set : Plan) where
-      pass_wide : (g : Node) (f : Option ℕ) (v : V) (r : Result V) (n : ℕ) → Pass V H (dropping m) set g f v r → m.dims v ≡ n → PointsHave T g n → Wide (live_after g n) r
-      pass_wide empty f v r n is h p = wide_is n r _ is (record { normal = h; entries = tt })
-      pass_wide (point q) f v r n is h p = wide_is n r _ is (record { normal = h; entries = (live_same q n (m.dims v) h p, tt) })
-      pass_wide (act q op) f v r n (w, e, done, is) h p = wide_is (dims_behind op n) r _ is (record { normal = changes_dims op v e w done ∙ ap (dims_behind op) h; entries = tt })
-      pass_wide (check q base c) f v r n (u, w, d, e, off, on, is) h p = wide_is n r _ is (record { normal = leaves_dims base c true v e w on ∙ h; entries = (tt, tt) })
-      pass_wide (seq a b) f v r n (s, t, one, two, is) h p =
-          let x = pass_wide a f v s n one h p.0 in
-          let y = pass_wide b s.flag s.normal t (live_after a n) two x.normal p.1 in
-          wide_is (live_after b (live_after a n)) r _ is (record { normal = y.normal; entries = all_both EntryHas s.entries t.entries x.entries y.entries })
-      pass_wide (choose q base c a b) f v r n (on, off, w, d, e, i, s, t, is_on, one, is_off, two, joined, is) h p =
-          let x = pass_wide a (noted q d f) on s n one (leaves_dims base c true v d on is_on ∙ h) p.0 in
-          let y = pass_wide b (noted q e s.flag) off t n two (leaves_dims base c false v e off is_off ∙ h) p.1 in
-          wide_is (live_after a n) r _ is (record { normal = joined.2 ∙ x.normal; entries = all_both EntryHas s.entries t.entries x.entries y.entries })
-      pass_wide (iterate q base c a) f v r n (k, later, u, top, out, s, t, e, started, grown, narrowed, off, is) h p =
-          let inside : (f' : Option ℕ) (v' : V) (r' : Result V) → Pass V H (dropping m) set a f' v' r' → m.dims v' ≡ n → Wide n r' =
-          λ f' v' r' turn d. subst (λ (j : ℕ). Wide j r') p.2 (pass_wide a f' v' r' n turn d p.1) in
-          let x = grows_wide q base c (Pass V H (dropping m) set a) n p.0 inside set.widening set.delay f k later u s grown (started.1 ∙ h) in
-          let y = narrows_wide q base c (Pass V H (dropping m) set a) n p.0 inside set.narrow v u s top t narrowed h x in
-          wide_is n r _ is (record { normal = leaves_dims base c false top e out off ∙ y.top; entries = y.result.entries })
-      pass_wide (catch q k a) f v r n (w, e, s, one, joined, is) h p =
-          let x = pass_wide a f v s n one h p in
-          wide_is (live_after a n) r _ is (behind_wide k s w (noted q e s.flag) (live_after a n) (caught_dims k s e w joined ∙ x.normal) x.entries)
-      pass_wide (leave l k) f v r n (w, nothing, is) h p = wide_is l r _ is (jump_wide k v w f l (laws.void_dims l set.parts w nothing.0))
+      mutual
+        pass_wide : (g : Node) (f : Option ℕ) (v : V) (r : Result V) (n : ℕ) → Pass V H (dropping m) set g f v r → m.dims v ≡ n → PointsHave T g n
+            → Wide (live_after g n) r
+        pass_wide empty f v r n is h p = wide_is n r _ is (record { normal = h; entries = tt })
+        pass_wide (point q) f v r n is h p = wide_is n r _ is (record { normal = h; entries = (live_same q n (m.dims v) h p, tt) })
+        pass_wide (act q op) f v r n (w, e, done, is) h p = wide_is (dims_behind op n) r _ is
+            (record { normal = changes_dims op v e w done ∙ ap (dims_behind op) h; entries = tt })
+        pass_wide (check q base c) f v r n (u, w, d, e, off, on, is) h p = wide_is n r _ is
+            (record { normal = leaves_dims base c true v e w on ∙ h; entries = (tt, tt) })
+        pass_wide (seq a b) f v r n (s, t, one, two, is) h p =
+            let x = pass_wide a f v s n one h p.0 in
+            let y = pass_wide b s.flag s.normal t (live_after a n) two x.normal p.1 in
+            wide_is (live_after b (live_after a n)) r _ is (record { normal = y.normal; entries = all_both EntryHas s.entries t.entries x.entries y.entries })
+        pass_wide (choose q base c a b) f v r n (on, off, w, d, e, i, s, t, is_on, one, is_off, two, joined, is) h p =
+            let x = pass_wide a (noted q d f) on s n one (leaves_dims base c true v d on is_on ∙ h) p.0 in
+            let y = pass_wide b (noted q e s.flag) off t n two (leaves_dims base c false v e off is_off ∙ h) p.1 in
+            wide_is (live_after a n) r _ is (record { normal = joined.2 ∙ x.normal; entries = all_both EntryHas s.entries t.entries x.entries y.entries })
+        pass_wide (iterate q base c a) f v r n (k, later, u, top, out, s, t, e, started, grown, narrowed, off, is) h p =
+            let inside : (f' : Option ℕ) (v' : V) (r' : Result V) → Pass V H (dropping m) set a f' v' r' → m.dims v' ≡ n → Wide n r' =
+            λ f' v' r' turn d. subst (λ (j : ℕ). Wide j r') p.2 (pass_wide a f' v' r' n turn d p.1) in
+            let x = grows_wide q base c (Pass V H (dropping m) set a) n p.0 inside set.widening set.delay f k later u s grown (started.1 ∙ h) in
+            let y = narrows_wide q base c (Pass V H (dropping m) set a) n p.0 inside set.narrow v u s top t narrowed h x in
+            wide_is n r _ is (record { normal = leaves_dims base c false top e out off ∙ y.top; entries = y.result.entries })
+        pass_wide (catch q k a) f v r n (w, e, s, one, joined, is) h p =
+            let x = pass_wide a f v s n one h p in
+            wide_is (live_after a n) r _ is (behind_wide k s w (noted q e s.flag) (live_after a n) (caught_dims k s e w joined ∙ x.normal) x.entries)
+        pass_wide (leave l k) f v r n (w, nothing, is) h p = wide_is l r _ is (jump_wide k v w f l (laws.void_dims l set.parts w nothing.0))
+        pass_wide (select q base e arms) f v r n (other, x, none, pass) h p =
+            arms_wide q base e _ v other arms (noted q x f) None r n pass h (none_dims base e (entries_of arms) v x other none ∙ h) tt p
+
+        arms_wide : (q base : ℕ) (e : Expr) (d : Bool) (v other : V) (arms : Arms) (f : Option ℕ) (o : Option V) (r : Result V) (n : ℕ)
+            → ArmsPass V H (dropping m) set q base e d v other arms f o r → m.dims v ≡ n → m.dims other ≡ n → RunHas m n o → ArmsHave T arms n → Wide n r
+        arms_wide q base e d v other no_arms f o r n (w, x, out, is) h k runs p = wide_is n r _ is
+            (record { normal = out_dims d o other x w n out runs k; entries = tt })
+        arms_wide q base e d v other (entry l arms) f o r n (u, w, x, y, enters, joins, rest) h k runs p =
+            arms_wide q base e d v other arms (noted q y (noted q x f)) (Some w) r n rest h k
+            (joins_dims o u y w n joins runs (enters_dims base e l v other x u enters (k ∙ sym h) ∙ h)) p
+        arms_wide q base e d v other (arm a arms) f o r n (w, s, t, from, one, rest, is) h k runs p =
+            let wide = from_dims laws n set.parts o w (subst (λ (i : ℕ). RunsFrom (dropping m) i set.parts o w) h from) runs in
+            let x : Wide n s = subst (λ (i : ℕ). Wide i s) p.1 (pass_wide a f w s n one wide p.0) in
+            let y = arms_wide q base e d v other arms s.flag (Some s.normal) t n rest h k x.normal p.2 in
+            wide_is n r _ is (record { normal = y.normal; entries = all_both EntryHas s.entries t.entries x.entries y.entries })
 
     entry_has : (xs : List (Entry V)) (q : ℕ) (v : V) → AllByRecursion EntryHas xs → Contains xs (value q v) → LiveAt T q (m.dims v)
     entry_has [] q v h there = absurd (contains_none (value q v) there)

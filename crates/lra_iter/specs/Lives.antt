@@ -1,25 +1,33 @@
 -- How many variables live at the points of a tree, and values with a dimension for each of them.
 use Rattle.std.specs.Prelude.{◌≡◌, ℕ, List, Some, slice_get}
 use Rattle.lra_domain.specs.Meaning.{Meaning}
-use Rattle.lra_operations.specs.Graph.{Node, empty, point, act, check, seq, choose, iterate, catch, leave}
+use Rattle.lra_operations.specs.Graph.{Node, empty, point, act, check, seq, choose, iterate, catch, leave, select}
+use Rattle.lra_operations.specs.Graph.{Arms, no_arms, entry, arm}
 use Rattle.lra_program.specs.Sites.{Site}
-use Rattle.lra_iter.specs.Fits.{live_after}
+use Rattle.lra_flow.specs.Live.{live_after}
 
 -- a point of this number has so many live variables
 abbrev pub LiveAt : List Site → ℕ → ℕ → Type 0
 LiveAt T q n = (s : Site) → slice_get T q ≡ Some s → n ≡ s.live
 
--- begun with n variables, the tree comes to each of its points with as many as live there
-abbrev pub PointsHave : List Site → Node → ℕ → Type 0
-PointsHave T empty n = Unit {0}
-PointsHave T (point q) n = LiveAt T q n
-PointsHave T (act q op) n = Unit {0}
-PointsHave T (check q base c) n = Unit {0}
-PointsHave T (seq a b) n = PointsHave T a n × PointsHave T b (live_after a n)
-PointsHave T (choose q base c a b) n = PointsHave T a n × PointsHave T b n
-PointsHave T (iterate q base c a) n = LiveAt T q n × PointsHave T a n × (live_after a n ≡ n)
-PointsHave T (catch q k a) n = PointsHave T a n
-PointsHave T (leave m k) n = Unit {0}
+abbrev mutual
+  -- begun with n variables, the tree comes to each of its points with as many as live there
+  pub PointsHave : List Site → Node → ℕ → Type 0
+  PointsHave T empty n = Unit {0}
+  PointsHave T (point q) n = LiveAt T q n
+  PointsHave T (act q op) n = Unit {0}
+  PointsHave T (check q base c) n = Unit {0}
+  PointsHave T (seq a b) n = PointsHave T a n × PointsHave T b (live_after a n)
+  PointsHave T (choose q base c a b) n = PointsHave T a n × PointsHave T b n
+  PointsHave T (iterate q base c a) n = LiveAt T q n × PointsHave T a n × (live_after a n ≡ n)
+  PointsHave T (catch q k a) n = PointsHave T a n
+  PointsHave T (leave m k) n = Unit {0}
+  PointsHave T (select q base e arms) n = ArmsHave T arms n
+
+  pub ArmsHave : List Site → Arms → ℕ → Type 0
+  ArmsHave T no_arms n = Unit {0}
+  ArmsHave T (entry l arms) n = ArmsHave T arms n
+  ArmsHave T (arm a arms) n = PointsHave T a n × (live_after a n ≡ n) × ArmsHave T arms n
 
 -- each value has a dimension for each variable that lives at its point
 abbrev pub AreWide : {V H : Type 0} → Meaning V H → List Site → List V → Type 0

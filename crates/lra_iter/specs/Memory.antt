@@ -2,24 +2,32 @@
 use Rattle.std.specs.Prelude.{◌≡◌, ℕ, Option, None, Some, ⊤}
 use Rattle.std.specs.List.{All}
 use Rattle.lra_domain.specs.Meaning.{Meaning}
-use Rattle.lra_operations.specs.Graph.{Node, empty, point, act, check, seq, choose, iterate, catch, leave}
+use Rattle.lra_operations.specs.Graph.{Node, empty, point, act, check, seq, choose, iterate, catch, leave, select}
+use Rattle.lra_operations.specs.Graph.{Arms, no_arms, entry, arm}
 use Rattle.lra_flow.specs.Plan.{Plan}
 use Rattle.lra_iter.specs.declared.memory.KeptLoop.{KeptLoop}
 use Rattle.lra_iter.specs.declared.memory.Memory.{Memory}
 use Rattle.lra_iter.specs.declared.outcome.Outcome.{Outcome}
 use Rattle.lra_iter.specs.Outcome.{seen, IsKept, IsPassed}
 
--- each loop of the tree is the one that has its number among these
-abbrev pub HasLoops : (ℕ → Node) → Node → Type 0
-HasLoops loops empty = ⊤
-HasLoops loops (point q) = ⊤
-HasLoops loops (act q op) = ⊤
-HasLoops loops (check q base c) = ⊤
-HasLoops loops (seq a b) = HasLoops loops a × HasLoops loops b
-HasLoops loops (choose q base c a b) = HasLoops loops a × HasLoops loops b
-HasLoops loops (iterate q base c a) = (loops q ≡ iterate q base c a) × HasLoops loops a
-HasLoops loops (catch q k a) = HasLoops loops a
-HasLoops loops (leave n k) = ⊤
+abbrev mutual
+  -- each loop of the tree is the one that has its number among these
+  pub HasLoops : (ℕ → Node) → Node → Type 0
+  HasLoops loops empty = ⊤
+  HasLoops loops (point q) = ⊤
+  HasLoops loops (act q op) = ⊤
+  HasLoops loops (check q base c) = ⊤
+  HasLoops loops (seq a b) = HasLoops loops a × HasLoops loops b
+  HasLoops loops (choose q base c a b) = HasLoops loops a × HasLoops loops b
+  HasLoops loops (iterate q base c a) = (loops q ≡ iterate q base c a) × HasLoops loops a
+  HasLoops loops (catch q k a) = HasLoops loops a
+  HasLoops loops (leave n k) = ⊤
+  HasLoops loops (select q base e arms) = ArmsHaveLoops loops arms
+
+  pub ArmsHaveLoops : (ℕ → Node) → Arms → Type 0
+  ArmsHaveLoops loops no_arms = ⊤
+  ArmsHaveLoops loops (entry l arms) = ArmsHaveLoops loops arms
+  ArmsHaveLoops loops (arm a arms) = HasLoops loops a × ArmsHaveLoops loops arms
 
 -- a loop's last pass may be given again
 abbrev pub IsRecalled : {V H : Type 0} → Meaning V H → Plan → (ℕ → Node) → Option ℕ → KeptLoop V → Type 0

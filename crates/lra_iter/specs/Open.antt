@@ -1,22 +1,28 @@
 -- What is owed where a pass is under way along a list of open places: in each of them a tree is under way, and with
 -- that the pass of the place's own tree is to be made.
-use Rattle.std.specs.Prelude.{◌≡◌, ℕ, ◌≤◌, true, false, List, [], ◌∷◌, map, Option}
-use Rattle.std.specs.Prelude.{None}
+use Rattle.std.specs.Prelude.{◌≡◌, ℕ, ◌≤◌, Bool, true, false, List, [], ◌∷◌, map, Option, None, Some, ⊤}
+use Rattle.std.specs.List.{Contains}
+use Rattle.lra_base.specs.declared.case_labels.CaseLabel.{CaseLabel}
 use Rattle.lra_domain.specs.declared.Exactness.{Exactness}
-use Rattle.lra_domain.specs.Meaning.{Meaning}
+use Rattle.lra_domain.specs.Meaning.{Meaning, worse}
 use Rattle.lra_domain.specs.Rank.{RankFits}
-use Rattle.lra_program.specs.Program.{Cond}
-use Rattle.lra_program.specs.ProgramViews.{cond_view}
-use Rattle.lra_operations.specs.Graph.{Node, seq, choose, iterate, catch}
-use Rattle.lra_operations.specs.GraphViews.{exit_view, node_view, row}
+use Rattle.lra_program.specs.Program.{Expr, Cond}
+use Rattle.lra_program.specs.ProgramViews.{cond_view, expr_view}
+use Rattle.lra_operations.specs.Graph.{Exit, Node, seq, choose, iterate, catch, Arms, arm}
+use Rattle.lra_operations.specs.GraphViews.{exit_view, node_view, row, arm_view, arms_of}
 use Rattle.lra_flow.specs.Room.{most_live}
 use Rattle.lra_flow.specs.Plan.{Plan}
 use Rattle.lra_flow.specs.Operations.{dropping}
-use Rattle.lra_flow.specs.Pass.{Leaves, Result, noted, in_turn, Pass, Grows, Narrows}
+use Rattle.lra_flow.specs.Seen.{seen_of}
+use Rattle.lra_flow.specs.Pass.{Leaves, Result, noted, in_turn, jumps_of, Pass, Grows, Narrows}
+use Rattle.lra_flow.specs.Pass.{ArmsPass, MatchesNone, Enters, JoinsRunning, ComesOut, RunsFrom}
+use Rattle.lra_change.specs.declared.sides.Kept.{Kept}
 use Rattle.lra_iter.specs.declared.heads.Growing.{Growing}
 use Rattle.lra_iter.specs.declared.memory.Memory.{Memory}
 use Rattle.lra_iter.specs.declared.outcome.Found.{Found}
 use Rattle.lra_iter.specs.declared.outcome.HeadTurn.{HeadTurn}
+use Rattle.lra_iter.specs.declared.outcome.Outcome.{Outcome}
+use Rattle.lra_iter.specs.declared.outcome.Running.{Running}
 use Rattle.lra_iter.specs.declared.outcome.Turn.{Turn}
 use Rattle.lra_iter.specs.declared.places.BranchPlace.{BranchPlace}
 use Rattle.lra_iter.specs.declared.places.ChoicePlace.{ChoicePlace}
@@ -28,14 +34,16 @@ use Rattle.lra_iter.specs.declared.places.Next as next
 use Rattle.lra_iter.specs.declared.places.Next.TheVariants.{Passed, Opens, Again}
 use Rattle.lra_iter.specs.declared.places.Place as place
 use Rattle.lra_iter.specs.declared.places.Place.TheVariants.{Row, Last, Choice, Branch, Growing as GrowingAt}
-use Rattle.lra_iter.specs.declared.places.Place.TheVariants.{Narrowing as NarrowingAt, Catch}
+use Rattle.lra_iter.specs.declared.places.Place.TheVariants.{Narrowing as NarrowingAt, Catch, Select}
 use Rattle.lra_iter.specs.declared.places.RowPlace.{RowPlace}
+use Rattle.lra_iter.specs.declared.places.SelectPlace.{SelectPlace}
+use Rattle.lra_iter.specs.declared.places.Selecting.{Selecting}
 use Rattle.lra_iter.specs.declared.places.Step as step
 use Rattle.lra_iter.specs.declared.places.Step.TheVariants.{Ended, Goes}
 use Rattle.lra_iter.specs.declared.shapes.Loop.{Loop}
-use Rattle.lra_iter.specs.Fits.{TreeFits}
+use Rattle.lra_iter.specs.Fits.{ArmsFit, ArmsJumpWith, TreeFits}
 use Rattle.lra_iter.specs.Heads.{IsValued}
-use Rattle.lra_iter.specs.Memory.{HasLoops, MayRecall, Remembers, StaysKept}
+use Rattle.lra_iter.specs.Memory.{ArmsHaveLoops, HasLoops, MayRecall, Remembers, StaysKept}
 use Rattle.lra_iter.specs.Outcome.{ended, headed, seen, AreKept, HasGrown, IsKept, IsPassed, IsTurned}
 use Rattle.lra_iter.specs.Outcome.{JumpsFit, NarrowsTo}
 
@@ -90,6 +98,68 @@ pub record NarrowLoop {V H : Type 0} (m : Meaning V H) (set : Plan) (q base : �
   pub stays : StaysKept m set a round.flag old last.flag memory
   pub narrows : (v : V) (r : Result V) → Narrows V H (dropping m) q base c (Pass V H (dropping m) set a) left first top
       (headed q top last) v r → NarrowsTo m set q base c a first start (headed q start round) v r
+
+-- where something runs in a `switch`, it has so many dimensions
+abbrev pub RunHas : {V H : Type 0} → Meaning V H → ℕ → Option V → Type 0
+RunHas m n None = ⊤
+RunHas m n (Some v) = m.dims v ≡ n
+
+-- each value with which arms are left by a jump has as many dimensions as live there
+abbrev pub ArmJumpsFit : {V H : Type 0} → Meaning V H → Arms → ℕ → Result V → Type 0
+ArmJumpsFit {V} m arms n r = (k : Exit) (u : V) → Contains (jumps_of k r) u → ArmsJumpWith arms n k (m.dims u)
+
+-- the arms of a `switch` at point q: whatever those that are left find, from what runs there, comes behind what was
+-- found so far, as a pass of the whole
+pub record SelectLoop {V H : Type 0} (m : Meaning V H) (set : Plan) (g : Node) (f : Option ℕ) (v : V) (q base : ℕ)
+    (e : Expr) (has_default : Bool) (other : V) (arms : Arms) (found : Found V) (running : Option V)
+    (so_far : Option ℕ) (old memory : Memory V) : Type 0 where
+  pub few : m.dims v ≤ most_live
+  pub other_dims : m.dims other ≡ m.dims v
+  pub running_dims : RunHas m (m.dims v) running
+  pub fits : ArmsFit arms (m.dims v)
+  pub stays : (loops : ℕ → Node) → HasLoops loops g → MayRecall m set loops f old → ArmsHaveLoops loops arms ×
+      MayRecall m set loops so_far memory
+  pub passes : (t : Result V) → ArmsPass V H (dropping m) set q base e has_default v other arms so_far running t →
+      m.dims t.normal ≡ m.dims v → ArmJumpsFit m arms (m.dims v) t →
+      IsPassed m set g f v (in_turn (ended found v so_far) t t.normal t.flag)
+
+-- behind what led to v with this exactness, what is left of it where none of the labels is the expression's value
+abbrev pub NoneSoFar : {V H : Type 0} → Meaning V H → ℕ → Expr → List CaseLabel → V → Exactness → V → Exactness → Type 0
+NoneSoFar m base e labels v before w all = (x : Exactness) × MatchesNone (dropping m) base e labels v x w ×
+    (all ≡ worse before x)
+
+-- what came in at a label joins what ran before
+pub record JoinsAt {V H : Type 0} (m : Meaning V H) (q : ℕ) (entered : Kept V) (old new : Running V) : Type 0 where
+  pub runs : V
+  pub exactness : Exactness
+  pub joins : JoinsRunning (dropping m) old.normal entered.value exactness runs
+  pub normal : new.normal ≡ Some runs
+  pub flag : new.flag ≡ noted q exactness (noted q entered.exactness old.flag)
+  pub found : new.found ≡ old.found
+  pub dims : m.dims runs ≡ m.dims entered.value
+
+-- what comes in at a label from v, joined to what ran there before
+pub record EntersAt {V H : Type 0} (m : Meaning V H) (q base : ℕ) (e : Expr) (l : CaseLabel) (v other : V)
+    (old new : Running V) : Type 0 where
+  pub entered : V
+  pub runs : V
+  pub entered_exactness : Exactness
+  pub joined_exactness : Exactness
+  pub enters : Enters (dropping m) base e l v other entered_exactness entered
+  pub joins : JoinsRunning (dropping m) old.normal entered joined_exactness runs
+  pub normal : new.normal ≡ Some runs
+  pub flag : new.flag ≡ noted q joined_exactness (noted q entered_exactness old.flag)
+  pub found : new.found ≡ old.found
+  pub dims : m.dims runs ≡ m.dims v
+
+-- what comes out behind the last arm
+pub record ComesOutAt {V H : Type 0} (m : Meaning V H) (q : ℕ) (has_default : Bool) (other : V) (old : Running V)
+    (r : Outcome V) : Type 0 where
+  pub exactness : Exactness
+  pub out : ComesOut (dropping m) has_default old.normal other exactness r.normal
+  pub flag : r.flag ≡ noted q exactness old.flag
+  pub found : r.found ≡ old.found
+  pub dims : m.dims r.normal ≡ m.dims other
 
 module _ {V H : Type 0} (m : Meaning V H) (set : Plan) where
   -- the pass can be made
@@ -210,6 +280,26 @@ module _ {V H : Type 0} (m : Meaning V H) (set : Plan) where
     pub waiting : IsWaiting n.narrowing whole flag part.memory
     pub entered : HasEntered n.narrowing.the_loop n.narrowing.top flag n.entered part
 
+  -- what is known of a `switch` while its arms are gone through
+  pub record IsSelecting (s : Selecting V) (whole : Due V) : Type 0 where
+    pub plan : s.selection.plan.now ≡ set
+    pub from : s.from ≡ whole.value
+    pub seen : s.seen ≡ seen_of (m.dims whole.value) s.selection.base (expr_view s.selection.value.now)
+
+  -- it goes on along these arms
+  abbrev pub SelectsOn : Selecting V → Due V → Arms → Found V → Option V → Option ℕ → Memory V → Type 0
+  SelectsOn s whole arms found running flag memory = SelectLoop m set whole.tree whole.flag whole.value s.selection.point
+      s.selection.base (expr_view s.selection.value.now) s.has_default s.other arms found running flag whole.memory memory
+
+  -- the tree of an arm is under way
+  pub record IsSelect (p : SelectPlace V) (whole part : Due V) : Type 0 where
+    pub here : IsSelecting p.selecting whole
+    pub running : Option V
+    pub from : RunsFrom (dropping m) (m.dims whole.value) set.parts running part.value
+    pub dims : m.dims part.value ≡ m.dims whole.value
+    pub loop : SelectsOn p.selecting whole (arm part.tree (arms_of (map arm_view p.behind.now)))
+        p.found running part.flag part.memory
+
   -- in the place the part is under way, and with that the whole is to be made: one case for each kind of place
   abbrev pub IsOpen : place.Place V H → Due V → Due V → Type 0
   IsOpen (Row r) whole part = IsRow r whole part
@@ -221,6 +311,7 @@ module _ {V H : Type 0} (m : Meaning V H) (set : Plan) where
   IsOpen (NarrowingAt n) whole part = IsNarrowing n.value whole part
   IsOpen (Catch q k) whole part = (whole.tree ≡ catch q (exit_view k) part.tree) × (part.value ≡ whole.value) ×
       (part.flag ≡ whole.flag) × (part.memory ≡ whole.memory)
+  IsOpen (Select s) whole part = IsSelect s.value whole part
 
   -- the places from the outermost on: what each has under way is what the next one owes; the innermost has this
   abbrev pub AreOpen : List (place.Place V H) → Due V → Due V → Type 0

@@ -5,6 +5,7 @@ use Rattle.lra_iter.specs.declared.outcome.Entry as entry
 use Rattle.lra_iter.specs.declared.outcome.Entry.TheVariants.{Value, Failing}
 use Rattle.lra_iter.specs.declared.outcome.Found.{Found}
 use Rattle.lra_iter.specs.declared.outcome.Outcome.{Outcome}
+use Rattle.lra_iter.specs.declared.outcome.Running.{Running}
 use Rattle.lra_iter.specs.declared.outcome.Turn.{Turn}
 use Rattle.lra_iter.specs.declared.outcome.Entered.{Entered}
 use Rattle.lra_iter.specs.declared.outcome.Entered.TheVariants.{Again, Anew}
@@ -14,7 +15,8 @@ use Rattle.lra_program.specs.Program.{Cond}
 use Rattle.lra_operations.specs.Graph.{Exit, Node}
 use Rattle.lra_flow.specs.Plan.{Plan}
 use Rattle.lra_flow.specs.Thresholds.{loop_rows}
-use Rattle.lra_iter.specs.Fits.{live_after, JumpsWith}
+use Rattle.lra_flow.specs.Live.{live_after}
+use Rattle.lra_iter.specs.Fits.{JumpsWith}
 use Rattle.lra_flow.specs.Operations.{dropping}
 use Rattle.lra_flow.specs.Pass.{Entry, value, failing, Result, noted, in_turn, jumps_of, values_behind, behind}
 use Rattle.lra_flow.specs.Pass.{AreJoined, Leaves, GoesRound, Grows, Narrows, Pass}
@@ -36,6 +38,10 @@ ended x v f = record {
 
 abbrev pub seen : {V : Type 0} → Outcome V → Result V
 seen r = ended r.found r.normal r.flag
+
+-- what a tree gave, as it runs on in a `switch`
+abbrev pub running_on : {V : Type 0} → Outcome V → Running V
+running_on r = record { found = r.found; normal = Some r.normal; flag = r.flag }
 
 -- the value at a loop's point comes before what its body found
 abbrev pub headed : {V : Type 0} → ℕ → V → Result V → Result V

@@ -1,15 +1,15 @@
 -- Trees of operations by what stands in them, and how many steps these take.
 use Rattle.std.specs.Prelude.{◌≡◌, ℕ, suc, ◌+◌, ◌*◌, map}
-use Rattle.lra_program.specs.ProgramViews.{cond_view}
+use Rattle.lra_program.specs.ProgramViews.{cond_view, expr_view}
 use Rattle.lra_operations.specs.declared.graph.Node.{Node}
-use Rattle.lra_operations.specs.GraphViews.{exit_view, op_view, node_view, row}
+use Rattle.lra_operations.specs.GraphViews.{exit_view, op_view, node_view, row, arm_view, arms_of}
 use Rattle.lra_operations.specs.Graph as graph
 use Rattle.lra_flow.specs.Plan.{Plan}
 use Rattle.lra_iter.specs.declared.shapes.Leaf as leaf
 use Rattle.lra_iter.specs.declared.shapes.Leaf.TheVariants.{Empty, Point, Act, Check, Leave}
 use Rattle.lra_iter.specs.declared.shapes.Shape.{Shape}
-use Rattle.lra_iter.specs.declared.shapes.Shape.TheVariants.{Leaf, Row, Choice, Loop, Catch}
-use Rattle.lra_iter.specs.Steps.{node_steps, row_steps}
+use Rattle.lra_iter.specs.declared.shapes.Shape.TheVariants.{Leaf, Row, Choice, Loop, Catch, Select}
+use Rattle.lra_iter.specs.Steps.{arms_steps, node_steps, row_steps}
 
 abbrev pub leaf_view : leaf.Leaf → graph.Node
 leaf_view Empty = graph.empty
@@ -31,3 +31,6 @@ IsShape set g (Loop l) = (node_view g ≡ graph.iterate l.point l.base (cond_vie
     × ((n : ℕ) → node_steps n g ≡ 2 + n * suc (node_steps n l.body.now)) × (l.plan.now ≡ set)
 IsShape set g (Catch k) = (node_view g ≡ graph.catch k.point (exit_view k.exit) (node_view k.body.now))
     × ((n : ℕ) → node_steps n g ≡ 2 + node_steps n k.body.now)
+IsShape set g (Select s) = (node_view g ≡ graph.select s.point s.base (expr_view s.value.now)
+    (arms_of (map arm_view s.arms.now))) × ((n : ℕ) → node_steps n g ≡ 2 + arms_steps n s.arms.now)
+    × (s.plan.now ≡ set)

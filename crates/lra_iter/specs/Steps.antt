@@ -4,13 +4,15 @@ use Rattle.std.specs.List.{sum_by}
 use Rattle.lra_domain.specs.declared.Rank.{Rank}
 use Rattle.lra_domain.specs.Meaning.{Meaning}
 use Rattle.lra_operations.specs.declared.graph.Node.{Node}
-use Rattle.lra_operations.specs.declared.graph.Node.TheFolds.{fold-Node}
-use Rattle.lra_operations.specs.declared.graph.Node.TheOpen.{Node-F}
+use Rattle.lra_operations.specs.declared.graph.Arm.{Arm}
+use Rattle.lra_operations.specs.declared.graph.Arm.TheFolds.{fold-Arm, fold-Node}
+use Rattle.lra_operations.specs.declared.graph.Arm.TheOpen.{Arm-F, Node-F}
 use Rattle.lra_flow.specs.Plan.{Plan}
 use Rattle.lra_iter.specs.declared.places.Next as next
 use Rattle.lra_iter.specs.declared.places.Next.TheVariants.{Passed, Opens, Again}
 use Rattle.lra_iter.specs.declared.places.Place as place
 use Rattle.lra_iter.specs.declared.places.Place.TheVariants.{Row, Last, Choice, Branch, Growing, Narrowing, Catch}
+use Rattle.lra_iter.specs.declared.places.Place.TheVariants.{Select}
 use Rattle.lra_iter.specs.declared.places.Step as step
 use Rattle.lra_iter.specs.declared.places.Step.TheVariants.{Ended, Goes}
 use Rattle.lra_iter.specs.declared.shapes.Loop.{Loop}
@@ -24,8 +26,13 @@ rounds_left b left r = left * (b * (b * (b * b))) + (((r.first * b + r.second) *
 abbrev pub most_rounds : ℕ → Plan → ℕ
 most_rounds b set = set.narrow + suc set.delay * (b * (b * (b * b)))
 
+-- of the tree of an arm; a label is entered on the way
+abbrev pub arm_step : Arm-F ℕ ℕ → ℕ
+arm_step (Arm-F.Entry l) = 0
+arm_step (Arm-F.Tree g) = suc g
+
 -- of a pass of the tree, where no loop is turned more than n times
-abbrev pub steps_step : ℕ → Node-F ℕ → ℕ
+abbrev pub steps_step : ℕ → Node-F ℕ ℕ → ℕ
 steps_step n Node-F.Empty = 1
 steps_step n (Node-F.Point q) = 1
 steps_step n (Node-F.Act q o) = 1
@@ -35,9 +42,17 @@ steps_step n (Node-F.Choose q base c a b) = 3 + (a.value + b.value)
 steps_step n (Node-F.Iterate q base c a) = 2 + n * suc a.value
 steps_step n (Node-F.Catch q k a) = 2 + a.value
 steps_step n (Node-F.Leave m k) = 1
+steps_step n (Node-F.Select q base e arms) = 2 + sum_by suc arms.items
 
 abbrev pub node_steps : ℕ → Node → ℕ
-node_steps n = fold-Node ℕ (steps_step n)
+node_steps n = fold-Node ℕ ℕ arm_step (steps_step n)
+
+abbrev pub arm_steps : ℕ → Arm → ℕ
+arm_steps n = fold-Arm ℕ ℕ arm_step (steps_step n)
+
+-- of the arms of a `switch`
+abbrev pub arms_steps : ℕ → List Arm → ℕ
+arms_steps n arms = sum_by (λ a. suc (arm_steps n a)) arms
 
 -- of trees one after the other, and then the last
 abbrev pub row_steps : ℕ → List Node → Node → ℕ
@@ -61,6 +76,7 @@ module _ {V H : Type 0} (m : Meaning V H) (b : ℕ) (set : Plan) where
       turns_left g.value.the_loop (set.narrow + rounds_left b g.value.growing.left (m.rank g.value.growing.head))
   place_left (Narrowing n) = turns_left n.value.narrowing.the_loop n.value.narrowing.left
   place_left (Catch q k) = 1
+  place_left (Select s) = 1 + arms_steps (most_rounds b set) s.value.behind.now
 
   abbrev pub next_left : next.Next V H → ℕ
   next_left (Passed r) = 0

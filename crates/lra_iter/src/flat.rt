@@ -59,6 +59,7 @@ fn leaf_of<'a>(plan: &'a Plan, node: &'a Node) -> Leaf<'a>
         Shape::Choice(_) => unreachable!(),
         Shape::Loop(_) => unreachable!(),
         Shape::Catch(_) => unreachable!(),
+        Shape::Select(_) => unreachable!(),
     }
 }
 

@@ -13,6 +13,7 @@ mod pass;
 mod places;
 mod plan;
 mod rows;
+mod selections;
 mod shapes;
 mod solution;
 mod tables;

@@ -1,13 +1,13 @@
 //! What a pass over a tree of operations gives.
 
-ghost use Rattle.std.specs.Prelude.{◌≡◌, ℕ, true, [], Option, IfOk, OnOk};
+ghost use Rattle.std.specs.Prelude.{◌≡◌, ℕ, true, [], Option, None, IfOk, OnOk};
 ghost use Rattle.lra_operations.specs.Graph.{broken, continued, returned, Node};
 ghost use Rattle.lra_operations.specs.GraphViews.{exit_view};
 ghost use Rattle.lra_flow.specs.Plan.{Plan};
 ghost use Rattle.lra_flow.specs.Operations.{dropping};
 ghost use Rattle.lra_flow.specs.Pass.{AreJoined, noted, goes_on, in_turn, jumps, behind};
 ghost use Rattle.lra_iter.specs.Outcome.{entry_view, ended, seen, AllHave, AreGiven, AreInTurn, AreKept};
-ghost use Rattle.lra_iter.specs.Outcome.{EntersWith};
+ghost use Rattle.lra_iter.specs.Outcome.{running_on, EntersWith};
 
 use lra_domain::{Domain, Exactness, worse};
 use lra_operations::Exit;
@@ -48,6 +48,15 @@ impl<D: Drop> Drop for Found<D> {
 pub struct Outcome<D> {
     pub found: Found<D>,
     pub normal: D,
+    pub flag: Option<usize>,
+}
+
+/// What is found of a `switch` so far: on the way, the value that runs in its arms, where one does, and the first
+/// flagged point.
+#[derive(Drop)]
+pub struct Running<D> {
+    pub found: Found<D>,
+    pub normal: Option<D>,
     pub flag: Option<usize>,
 }
 
@@ -285,6 +294,37 @@ impl<D: Drop> Outcome<D> {
             Exit::Returned => self.found.returns.push(value)?,
         }
         Ok(())
+    }
+}
+
+impl<D: Drop> Running<D> {
+    /// Nothing runs yet.
+    pub fn nothing(alloc: Global, flag: Option<usize>) -> Running<D>
+        ensures found { (v : D) (f : Option ℕ) → ended result.found v f ≡ goes_on [] v f }
+        ensures normal { result.normal ≡ None }
+        ensures flag { result.flag ≡ flag }
+    {
+        Running {
+            found: Found::nothing(alloc),
+            normal: None,
+            flag,
+        }
+    }
+
+    /// What a tree gave runs on.
+    pub fn after(outcome: Outcome<D>) -> Running<D>
+        ensures { result ≡ running_on outcome }
+    {
+        let Outcome {
+            found,
+            normal,
+            flag,
+        } = outcome;
+        Running {
+            found,
+            normal: Some(normal),
+            flag,
+        }
     }
 }
 

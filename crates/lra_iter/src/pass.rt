@@ -20,6 +20,7 @@ use crate::outcome::Outcome;
 use crate::places::{Entering, Next, Place, Places, Step};
 use crate::plan::Plan;
 use crate::rows::{go_on_row, open_row};
+use crate::selections::{go_on_selection, open_selection};
 use crate::shapes::Shape;
 use lra_domain::Domain;
 use lra_operations::Node;
@@ -58,6 +59,7 @@ fn open_tree<'a, D: Domain>(
         Shape::Row(row) => open_row(alloc, row, value, flag),
         Shape::Choice(choice) => open_choice(alloc, choice, value, flag),
         Shape::Loop(the_loop) => open_loop(alloc, memory, the_loop, value, flag),
+        Shape::Select(selection) => open_selection(alloc, selection, value, flag),
         Shape::Catch(catch) => {
             let node = catch.body;
             let place = Place::Catch(catch.point, catch.exit);
@@ -95,6 +97,7 @@ fn go_on<'a, D: Domain>(
             go_on_narrowing(alloc, memory, Box::into_inner(narrowing), outcome)
         }
         Place::Catch(point, exit) => passed(catch_jumps(alloc, point, exit, outcome)),
+        Place::Select(place) => go_on_selection(alloc, Box::into_inner(place), outcome),
     }
 }
 

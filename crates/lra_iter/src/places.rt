@@ -9,9 +9,10 @@ ghost use Rattle.lra_iter.specs.declared.places.Place.TheVariants.{Narrowing as 
 
 use crate::heads::Growing;
 use crate::outcome::{Found, Outcome};
-use crate::shapes::{Choice, Loop, Row};
+use crate::shapes::{Choice, Loop, Row, Selection};
 use lra_change::Kept;
-use lra_operations::{Exit, Node};
+use lra_flow::Seen;
+use lra_operations::{Arm, Exit, Node};
 use std::alloc::{AllocError, Global};
 
 /// A tree that is to be passed: from this value, with the first flagged point so far.
@@ -69,6 +70,25 @@ pub struct NarrowingPlace<'a, D> {
     pub entered: D,
 }
 
+/// A `switch` whose arms are gone through: what is seen of its value, whether a label is `default`, the value that came
+/// to it, and what is left of that where no label matches.
+#[derive(Drop)]
+pub struct Selecting<'a, D> {
+    pub selection: Selection<'a>,
+    pub seen: Seen,
+    pub has_default: bool,
+    pub from: D,
+    pub other: D,
+}
+
+/// A `switch` in which the tree of an arm is under way, the arms behind it, and what was found before it.
+#[derive(Drop)]
+pub struct SelectPlace<'a, D> {
+    pub selecting: Selecting<'a, D>,
+    pub behind: &'a [Arm],
+    pub found: Found<D>,
+}
+
 /// A place where a tree is under way, and what is still to be done there. What few of them have and is large is boxed,
 /// since places and what comes next are moved at each step.
 #[derive(Drop)]
@@ -82,6 +102,7 @@ pub enum Place<'a, D, H> {
     Narrowing(Box<NarrowingPlace<'a, D>>),
     /// Jumps of this kind come out at this point.
     Catch(usize, Exit),
+    Select(Box<SelectPlace<'a, D>>),
 }
 
 /// What comes next.

@@ -4,8 +4,8 @@ ghost use Rattle.lra_flow.specs.Plan.{Plan};
 ghost use Rattle.lra_iter.specs.Shapes.{IsShape};
 
 use crate::plan::Plan;
-use lra_operations::{Exit, Node, Op};
-use lra_program::Cond;
+use lra_operations::{Arm, Exit, Node, Op};
+use lra_program::{Cond, Expr};
 
 /// A tree with no tree in it.
 #[derive(Clone, Copy)]
@@ -54,6 +54,16 @@ pub struct Catch<'a> {
     pub body: &'a Node,
 }
 
+/// A `switch`: its value and its arms, and how it is passed.
+#[derive(Clone, Copy)]
+pub struct Selection<'a> {
+    pub plan: &'a Plan,
+    pub point: usize,
+    pub base: usize,
+    pub value: &'a Expr,
+    pub arms: &'a [Arm],
+}
+
 /// A tree by the trees in it.
 #[derive(Clone, Copy)]
 pub enum Shape<'a> {
@@ -62,6 +72,7 @@ pub enum Shape<'a> {
     Choice(Choice<'a>),
     Loop(Loop<'a>),
     Catch(Catch<'a>),
+    Select(Selection<'a>),
 }
 
 impl<'a> Shape<'a> {
@@ -73,9 +84,7 @@ impl<'a> Shape<'a> {
             Node::Empty => Shape::Leaf(Leaf::Empty),
             Node::Point(point) => Shape::Leaf(Leaf::Point(*point)),
             Node::Act(point, op) => Shape::Leaf(Leaf::Act(*point, op)),
-            Node::Check(point, base, condition) => {
-                Shape::Leaf(Leaf::Check(*point, *base, condition))
-            }
+            Node::Check(point, base, test) => Shape::Leaf(Leaf::Check(*point, *base, test)),
             Node::Seq(trees, last) => Shape::Row(Row {
                 plan,
                 trees: trees.as_slice(),
@@ -102,6 +111,13 @@ impl<'a> Shape<'a> {
                 body,
             }),
             Node::Leave(live, exit) => Shape::Leaf(Leaf::Leave(*live, *exit)),
+            Node::Select(point, base, value, arms) => Shape::Select(Selection {
+                plan,
+                point: *point,
+                base: *base,
+                value,
+                arms: arms.as_slice(),
+            }),
         }
     }
 }

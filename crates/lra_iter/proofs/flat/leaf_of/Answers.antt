@@ -13,3 +13,6 @@ unreachable-requires-in-Loop c = other_takes _ _ (c.requires 0) (c.in-Loop.ensur
 
 pub unreachable-requires-in-Catch : goal.unreachable-requires-in-Catch
 unreachable-requires-in-Catch c = other_takes _ _ (c.requires 0) (c.in-Catch.ensures.1 0)
+
+pub unreachable-requires-in-Select : goal.unreachable-requires-in-Select
+unreachable-requires-in-Select c = other_takes _ _ (c.requires 0) (c.in-Select.ensures.1 0)

@@ -5,11 +5,12 @@ use Rattle.std.proofs.lemmas.Result.{IfOk-weaker}
 use Rattle.lra_operations.specs.GraphViews.{exit_view}
 use Rattle.lra_iter.specs.declared.places.GrowingPlace.{GrowingPlace}
 use Rattle.lra_iter.specs.declared.places.NarrowingPlace.{NarrowingPlace}
-use Rattle.lra_iter.specs.Open.{IsBranch, IsGrowing, IsMade, IsNarrowing, IsOpen}
+use Rattle.lra_iter.specs.Open.{IsBranch, IsGrowing, IsMade, IsNarrowing, IsOpen, IsSelect}
 use Rattle.lra_iter.specs.Outcome.{seen, AreInTurn, AreMet, Catches}
 use Rattle.lra_iter.specs.Steps.{next_left, place_left, rounds_left, turns_left}
 use Rattle.lra_iter.proofs.OpenPlaces.{branches_made, branches_meet, catch_made, jumps_have, last_made}
 use Rattle.lra_iter.proofs.PassSteps.{if_both}
+use Rattle.lra_iter.proofs.SelectSteps.{place_falls}
 use Rattle.lra_iter.proofs.TurnSteps.{ends_less}
 use Rattle.lra_iter.proofs.pass.go_on.Goals as goal
 
@@ -173,3 +174,34 @@ returns-in-Catch-clause-falls g c set whole part owed =
     let m = g.D.Domain.meaning in
     ends_less m set c.passed-in-Catch.result (2 ^ 64) (place_left m (2 ^ 64) set c.args.place)
     (subst (λ p. 0 < place_left m (2 ^ 64) set p) (sym c.in-Catch.is) (omega arith)) (c.passed-in-Catch.ensures.ends (2 ^ 64) set)
+
+-- `switch`es ----------------------------------------------------------------------------------------------------------
+
+pub go_on_selection-requires : goal.go_on_selection-requires
+go_on_selection-requires g c =
+    let m = g.D.Domain.meaning in
+    let given = c.requires in
+    let here = subst (λ p. IsOpen m given.0 p given.1 given.2) c.in-Select.is given.4 in (
+      given.0,
+      given.1,
+      given.2,
+      c.args.memory.now,
+      given.6,
+      given.3,
+      subst (λ x. IsSelect m given.0 x given.1 given.2) (sym c.into_inner-in-Select.ensures) here,
+      given.5,
+    )
+
+pub returns-in-Select-clause-leads : goal.returns-in-Select-clause-leads
+returns-in-Select-clause-leads g c set whole part may owed made =
+    let m = g.D.Domain.meaning in
+    let here = subst (λ p. IsOpen m set p whole part) c.in-Select.is owed in
+    c.go_on_selection.ensures.leads set whole part c.args.memory.now may
+    (subst (λ x. IsSelect m set x whole part) (sym c.into_inner-in-Select.ensures) here) made
+
+pub returns-in-Select-clause-falls : goal.returns-in-Select-clause-falls
+returns-in-Select-clause-falls g c set whole part owed =
+    let m = g.D.Domain.meaning in
+    subst (λ p. IfOk c.go_on_selection.result (λ n. next_left m (2 ^ 64) set n < place_left m (2 ^ 64) set p)) (sym c.in-Select.is)
+    (place_falls m set c.go_on_selection.result (2 ^ 64) c.into_inner-in-Select.result c.in-Select.place c.into_inner-in-Select.ensures
+    (c.go_on_selection.ensures.falls (2 ^ 64) set))

@@ -3,7 +3,7 @@ use Rattle.std.proofs.Common.{◌<◌, ◌≤◌, ◌^◌, refl, sym, subst, ari
 use Rattle.std.specs.Prelude.{IfOk}
 use Rattle.lra_flow.specs.Plan.{Plan}
 use Rattle.lra_iter.specs.declared.shapes.Shape.{Shape}
-use Rattle.lra_iter.specs.declared.shapes.Shape.TheVariants.{Leaf, Row, Choice, Loop, Catch}
+use Rattle.lra_iter.specs.declared.shapes.Shape.TheVariants.{Leaf, Row, Choice, Loop, Catch, Select}
 use Rattle.lra_iter.specs.Fits.{TreeFits}
 use Rattle.std.proofs.lemmas.Result.{IfOk-weaker}
 use Rattle.lra_iter.specs.Open.{due, IsMade, MayBePassed}
@@ -12,6 +12,7 @@ use Rattle.lra_iter.specs.Shapes.{leaf_view, IsShape}
 use Rattle.lra_iter.specs.Steps.{most_rounds, next_left, tree_steps}
 use Rattle.lra_iter.proofs.OpenPlaces.{catch_leads, leaf_made}
 use Rattle.lra_iter.proofs.RowLeaves.{row_less}
+use Rattle.lra_iter.proofs.SelectSteps.{arms_less}
 use Rattle.lra_iter.proofs.TurnSteps.{choice_less, ends_less}
 use Rattle.lra_iter.proofs.pass.open_tree.Goals as goal
 
@@ -160,3 +161,38 @@ returns-in-Catch-clause-falls g c =
     subst (λ (x : Shape). IsShape c.args.plan.now tree.node.now x) c.in-Catch.is c.of.ensures in
     let all = shape.1 (most_rounds (2 ^ 64) c.args.plan.now) in
     omega (arith, all)
+
+-- a `switch` ----------------------------------------------------------------------------------------------------------
+
+pub open_selection-requires : goal.open_selection-requires
+open_selection-requires g c =
+    let tree = c.args.tree in
+    let shape : IsShape c.args.plan.now tree.node.now (Select c.in-Select.selection) =
+    subst (λ (x : Shape). IsShape c.args.plan.now tree.node.now x) c.in-Select.is c.of.ensures in
+    record {
+      parts = subst (λ (s : Plan). 1 ≤ s.parts) (sym shape.2) c.requires.parts;
+      way = (
+        due tree c.args.memory.now,
+        subst (λ (s : Plan). MayBePassed g.D.Domain.meaning s (due tree c.args.memory.now)) (sym shape.2) c.requires.may,
+        shape.0,
+        refl,
+        refl,
+      );
+    }
+
+pub returns-in-Select-clause-leads : goal.returns-in-Select-clause-leads
+returns-in-Select-clause-leads g c =
+    let tree = c.args.tree in
+    let shape : IsShape c.args.plan.now tree.node.now (Select c.in-Select.selection) =
+    subst (λ (x : Shape). IsShape c.args.plan.now tree.node.now x) c.in-Select.is c.of.ensures in
+    c.open_selection.ensures.leads c.args.plan.now (due tree c.args.memory.now) shape.2 shape.0 refl refl c.requires.may
+
+pub returns-in-Select-clause-falls : goal.returns-in-Select-clause-falls
+returns-in-Select-clause-falls g c =
+    let m = g.D.Domain.meaning in
+    let set = c.args.plan.now in
+    let tree = c.args.tree in
+    let shape : IsShape set tree.node.now (Select c.in-Select.selection) =
+    subst (λ (x : Shape). IsShape set tree.node.now x) c.in-Select.is c.of.ensures in
+    arms_less m set c.open_selection.result (2 ^ 64) _ (tree_steps m (2 ^ 64) set tree.node.now)
+    (shape.1 (most_rounds (2 ^ 64) set)) (c.open_selection.ensures.falls (2 ^ 64) set)

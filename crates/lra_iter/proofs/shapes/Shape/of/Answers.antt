@@ -5,7 +5,7 @@ use Rattle.lra_iter.specs.Steps.{node_steps}
 use Rattle.lra_forms.proofs.TreeViews.{act_view, check_view, empty_view, leave_view, point_view}
 use Rattle.lra_iter.proofs.PassSteps.{empty_steps, point_steps}
 use Rattle.lra_iter.proofs.PassSteps.{act_steps, check_steps, leave_steps, seq_shown, seq_taken, choose_shown, choose_taken}
-use Rattle.lra_iter.proofs.PassSteps.{iterate_shown, iterate_taken, catch_shown, catch_taken}
+use Rattle.lra_iter.proofs.PassSteps.{iterate_shown, iterate_taken, catch_shown, catch_taken, select_shown, select_taken}
 use Rattle.lra_iter.proofs.shapes.Shape.of.Goals as goal
 
 pub returns-in-Empty : goal.returns-in-Empty
@@ -23,7 +23,7 @@ returns-in-Act c =
 pub returns-in-Check : goal.returns-in-Check
 returns-in-Check c =
     let k = c.in-Check in
-    (ap node_view k.is ∙ check_view k.point k.base k.condition, λ n. ap (node_steps n) k.is ∙ check_steps n k.point k.base k.condition)
+    (ap node_view k.is ∙ check_view k.point k.base k.test, λ n. ap (node_steps n) k.is ∙ check_steps n k.point k.base k.test)
 
 pub returns-in-Seq : goal.returns-in-Seq
 returns-in-Seq c =
@@ -68,3 +68,13 @@ returns-in-Catch c =
 pub returns-in-Leave : goal.returns-in-Leave
 returns-in-Leave c =
     (ap node_view c.in-Leave.is ∙ leave_view c.in-Leave.live c.in-Leave.exit, λ n. ap (node_steps n) c.in-Leave.is ∙ leave_steps n c.in-Leave.live c.in-Leave.exit)
+
+pub returns-in-Select : goal.returns-in-Select
+returns-in-Select c =
+    let n = c.args.node.now in
+    let k = c.in-Select in
+    let xs = c.as_slice-in-Select.result.now in (
+      select_shown n xs k.arms k.point k.base k.value c.as_slice-in-Select.ensures.value k.is,
+      select_taken n xs k.arms k.point k.base k.value c.as_slice-in-Select.ensures.value k.is,
+      refl,
+    )
