@@ -13,13 +13,21 @@ use Rattle.lra_linear.proofs.Membership.{contains_head}
 use Rattle.lra_domain.specs.Meaning.{Meaning}
 use Rattle.lra_base.specs.declared.number_types.NumberType.{NumberType}
 use Rattle.lra_program.specs.declared.program.Cond.{Cond}
-use Rattle.lra_program.specs.Overflow.{op_computes}
-use Rattle.lra_program.specs.ProgramViews.{cond_view}
-use Rattle.lra_program.specs.Step.{Op, test}
-use Rattle.lra_operations.specs.Asked.{Asked, asked_of, asked_in, fresh_behind, fresh_of}
+use Rattle.lra_program.specs.Overflow.{given_computes, op_computes}
+use Rattle.lra_program.specs.Program as program
+use Rattle.lra_program.specs.declared.receivers.Receiver.{Receiver}
+use Rattle.lra_program.specs.declared.program.Expr.{Expr}
+use Rattle.lra_program.specs.Receivers.{nobody}
+use Rattle.lra_program.specs.ProgramViews.{cond_view, expr_view}
+use Rattle.lra_program.specs.Step.{Op, give, test}
+use Rattle.lra_base.specs.declared.case_labels.CaseLabel.{CaseLabel}
+use Rattle.lra_operations.specs.Asked.{Asked, asked_of, asked_in, asked_in_arms, fresh_behind, fresh_of}
 use Rattle.lra_operations.specs.Graph.{Node, empty, point, act, check, seq, choose, iterate, catch, leave}
-use Rattle.lra_operations.specs.GraphViews.{exit_view, node_view, op_view, row}
-use Rattle.lra_operations.specs.Sizes.{sizes, whole_size}
+use Rattle.lra_operations.specs.Graph.{select, Arms, no_arms, entry, arm}
+use Rattle.lra_operations.specs.GraphViews.{exit_view, node_view, op_view, row, ArmPart, arm_view, arms_of}
+use Rattle.lra_operations.specs.Sizes.{sizes, whole_size, arm_sizes, arms_size}
+use Rattle.lra_operations.specs.declared.graph.Arm.{Arm}
+use Rattle.lra_operations.specs.declared.graph.Arm.TheVariants.{Entry, Tree}
 use Rattle.lra_operations.specs.declared.graph.Exit as declared_exit
 use Rattle.lra_operations.specs.declared.graph.Node as declared
 use Rattle.lra_operations.specs.declared.graph.Op as declared_op
@@ -27,8 +35,10 @@ use Rattle.lra_operations.specs.declared.graph.Node.{the_lemmas as node_lemmas}
 use Rattle.lra_operations.specs.declared.graph.Node.TheVariants as at
 use Rattle.lra_fits.specs.declared.operations.Verdict.{Verdict}
 use Rattle.lra_fits.specs.declared.trees.Due.{Due}
-use Rattle.lra_forms.proofs.TreeViews.{act_view, catch_view, check_view, choose_view, empty_view, iterate_view, leave_view, point_view, seq_view}
-use Rattle.lra_fits.specs.Due.{due_view, due_before, all_due, apart_before, due_size, all_left, fresh_at, own_asked, own_of, IsOnWay, IsOpened}
+use Rattle.lra_forms.proofs.TreeViews.{act_view, catch_view, check_view, choose_view, empty_view, entry_view, iterate_view, leave_view, point_view, select_view}
+use Rattle.lra_forms.proofs.TreeViews.{seq_view}
+use Rattle.lra_forms.proofs.TreeViews.{tree_view}
+use Rattle.lra_fits.specs.Due.{due_view, due_before, all_due, apart_before, due_size, all_left, fresh_at, own_asked, own_of, trees_of, IsOnWay, IsOpened}
 use Rattle.lra_fits.specs.Judged.{AreBelow, Fills, JudgesAsked}
 use Rattle.lra_fits.proofs.TableSteps.{none_fills, one_fills, then_fills}
 
@@ -45,6 +55,10 @@ pub asked_inside : (n q : ℕ) (fresh : Option NumberType) (op : Op) → op_comp
 asked_inside n q fresh op e below =
     let a : Asked = record { point = q; fresh = fresh; op = op } in
     below a (subst (λ (xs : List Asked). Contains xs a) (sym (asked_one q fresh op e)) (contains_head a []))
+
+-- what is looked for goes to nobody
+pub computed : (x : Receiver) (b : Bool) (e : program.Expr) → x ≡ nobody → b ≡ given_computes x e → given_computes nobody e ≡ b
+computed x b e is same = sym (same ∙ ap (λ (y : Receiver). given_computes y e) is)
 
 module _ {V H : Type 0} (m : Meaning V H) (values : List V) (q : ℕ) (fresh : Option NumberType) (op : Op) where
   pub asked_fills : (v : V) (j : Verdict) (t u : List (Option Verdict)) → op_computes op ≡ true → slice_get values q ≡ Some v → JudgesAsked m fresh op v j
@@ -104,6 +118,10 @@ own_catch q k a fresh = search (rules, node_lemmas)
 own_leave : (n : ℕ) (k : declared_exit.Exit) (fresh : Option NumberType) → own_of fresh (at.Leave n k) ≡ ([], None)
 own_leave n k fresh = search (rules, node_lemmas)
 
+own_select : (q base : ℕ) (e : Expr) (arms : Vec Arm Global) (fresh : Option NumberType)
+    → own_of fresh (at.Select q base e arms) ≡ (asked_of q None (give base nobody (expr_view e)), None)
+own_select q base e arms fresh = search (rules, node_lemmas)
+
 module _ (fresh : Option NumberType) (n : declared.Node) where
   asks_as : (k : declared.Node) (xs : List Asked) (later : Option NumberType) → n ≡ k → own_of fresh k ≡ (xs, later) → own_asked fresh n ≡ xs
   asks_as k xs later is own = ap (own_asked fresh) is ∙ ap (λ (x : List Asked × Option NumberType). x.0) own
@@ -121,6 +139,10 @@ module _ (fresh : Option NumberType) (n : declared.Node) where
   pub asks_iterate : (q base : ℕ) (c : Cond) (a : Box declared.Node Global) → n ≡ at.Iterate q base c a
       → own_asked fresh n ≡ asked_of q None (test base (cond_view c) true)
   asks_iterate q base c a is = asks_as (at.Iterate q base c a) (asked_of q None (test base (cond_view c) true)) None is (own_iterate q base c a fresh)
+
+  pub asks_select : (q base : ℕ) (e : Expr) (arms : Vec Arm Global) → n ≡ at.Select q base e arms
+      → own_asked fresh n ≡ asked_of q None (give base nobody (expr_view e))
+  asks_select q base e arms is = asks_as (at.Select q base e arms) (asked_of q None (give base nobody (expr_view e))) None is (own_select q base e arms fresh)
 
   pub empty_asks : n ≡ at.Empty → own_asked fresh n ≡ []
   empty_asks is = asks_as at.Empty [] fresh is (own_empty fresh)
@@ -167,6 +189,15 @@ module _ (fresh : Option NumberType) (n : declared.Node) where
 
   pub leave_new : (m : ℕ) (k : declared_exit.Exit) → n ≡ at.Leave m k → None ≡ fresh_at fresh n
   leave_new m k is = new_as (at.Leave m k) [] None is (own_leave m k fresh)
+
+  pub select_new : (q base : ℕ) (e : Expr) (arms : Vec Arm Global) → n ≡ at.Select q base e arms → None ≡ fresh_at fresh n
+  select_new q base e arms is = new_as (at.Select q base e arms) (asked_of q None (give base nobody (expr_view e))) None is (own_select q base e arms fresh)
+
+-- the trees in arms ask what the arms ask
+asked_arms : (fresh : Option NumberType) (arms : Arms) → asked_in fresh (trees_of arms) ≡ asked_in_arms fresh arms
+asked_arms fresh no_arms = refl
+asked_arms fresh (entry l arms) = asked_arms fresh arms
+asked_arms fresh (arm a arms) = ap (λ (xs : List Asked). asked_in fresh a ++ xs) (asked_arms (fresh_behind fresh a) arms)
 
 -- behind it the others are due
 opens : (n : declared.Node) (g : Node) (own : Option NumberType → List Asked × Option NumberType) (old new : List Due) → node_view n ≡ g
@@ -224,6 +255,16 @@ module _ (old : List Due) where
     catch_opened q k a e = opens (at.Catch q k a) (catch q (exit_view k) (node_view a.value)) (λ fresh. ([], None)) old new (catch_view q k a) (own_catch q k a)
         (λ fresh. ap (asked_in None) (sym e))
 
+    select_opened : (q base : ℕ) (e : Expr) (arms : Vec Arm Global) → all_due new ≡ apart_before (trees_of (arms_of (map arm_view arms.items))) (all_due old)
+        → IsOpened (at.Select q base e arms) old new
+    select_opened q base e arms is =
+        let own = asked_of q None (give base nobody (expr_view e)) in
+        let all = arms_of (map arm_view arms.items) in
+        opens (at.Select q base e arms) (select q base (expr_view e) all) (λ fresh. (own, None)) old new (select_view q base e arms) (own_select q base e arms)
+        (λ fresh. append_assoc own (asked_in_arms None all) (asked_in None (all_due old))
+        ∙ ap (λ (xs : List Asked). own ++ (xs ++ asked_in None (all_due old))) (sym (asked_arms None all))
+        ∙ ap (λ (h : Node). own ++ asked_in None h) (sym is))
+
 -- the way ----------------------------------------------------------------------------------------------------------------
 
 -- what is asked among others
@@ -252,6 +293,35 @@ pub last_asks : (fresh : Option NumberType) (v r : Node) (ts : List declared.Nod
     → asked_in fresh (seq v r) ≡ asked_in fresh (seq (node_view l) r)
 last_asks fresh v r ts l view is =
     ap (λ (w : Node). asked_in fresh (seq w r)) (view ∙ ap (λ (ys : List declared.Node). row (map node_view ys) (node_view l)) is)
+
+-- arms: the first of them
+pub no_arms_ask : (fresh : Option NumberType) (r : Node) (arms : List Arm) → arms ≡ []
+    → asked_in fresh (seq (trees_of (arms_of (map arm_view arms))) r) ≡ asked_in fresh r
+no_arms_ask fresh r arms is = ap (λ (xs : List Arm). asked_in fresh (seq (trees_of (arms_of (map arm_view xs))) r)) is
+
+arms_seen : (arms behind : List Arm) (a : Arm) → arms ≡ a ∷ behind → arms_of (map arm_view arms) ≡ arm_view a (arms_of (map arm_view behind))
+arms_seen arms behind a is = ap (λ (xs : List Arm). arms_of (map arm_view xs)) is
+
+pub entry_asks : (fresh : Option NumberType) (r h : Node) (arms behind : List Arm) (a : Arm) (l : CaseLabel) → arms ≡ a ∷ behind → a ≡ Entry l
+    → h ≡ seq (trees_of (arms_of (map arm_view behind))) r → asked_in fresh (seq (trees_of (arms_of (map arm_view arms))) r) ≡ asked_in fresh h
+entry_asks fresh r h arms behind a l is entry_is due =
+    let all = arms_of (map arm_view behind) in
+    let seen : arms_of (map arm_view arms) ≡ entry l all =
+    arms_seen arms behind a is ∙ ap (λ (x : Arm). arm_view x all) entry_is ∙ ap (λ (f : ArmPart). f all) (entry_view l) in
+    ap (λ (x : Arms). asked_in fresh (seq (trees_of x) r)) seen ∙ ap (asked_in fresh) (sym due)
+
+pub tree_asks : (fresh : Option NumberType) (r h : Node) (arms behind : List Arm) (a : Arm) (n : declared.Node) → arms ≡ a ∷ behind → a ≡ Tree n
+    → h ≡ seq (trees_of (arms_of (map arm_view behind))) r → asked_in fresh (seq (trees_of (arms_of (map arm_view arms))) r) ≡ asked_in fresh
+    (seq (node_view n) h)
+tree_asks fresh r h arms behind a n is tree_is due =
+    let all = arms_of (map arm_view behind) in
+    let f = node_view n in
+    let g = trees_of all in
+    let seen : arms_of (map arm_view arms) ≡ arm f all =
+    arms_seen arms behind a is ∙ ap (λ (x : Arm). arm_view x all) tree_is ∙ ap (λ (p : ArmPart). p all) (tree_view n) in
+    ap (λ (x : Arms). asked_in fresh (seq (trees_of x) r)) seen
+    ∙ append_assoc (asked_in fresh f) (asked_in (fresh_behind fresh f) g) (asked_in (fresh_behind (fresh_behind fresh f) g) r)
+    ∙ ap (λ (w : Node). asked_in fresh (seq f w)) (sym due)
 
 module _ {V H : Type 0} (m : Meaning V H) (values : List V) where
   pub way_by : (n : declared.Node) (fresh later : Option NumberType) (old new : List Due) (t u : List (Option Verdict)) → IsOpened n old new
@@ -284,6 +354,11 @@ module _ {V H : Type 0} (m : Meaning V H) (values : List V) where
 
   pub apart_way : (fresh : Option NumberType) (v h : Node) (t : List (Option Verdict)) → v ≡ point 0 → IsOnWay m values fresh (seq v h) None h t t
   apart_way fresh v h t e = record { done = []; is = ap (λ (w : Node). asked_in fresh (seq w h)) e; fills = none_fills m values t }
+
+  -- nothing is asked of a label
+  pub same_way : (fresh : Option NumberType) (f h : Node) (t : List (Option Verdict)) → asked_in fresh f ≡ asked_in fresh h
+      → IsOnWay m values fresh f fresh h t t
+  same_way fresh f h t e = record { done = []; is = e; fills = none_fills m values t }
 
   -- the whole is due
   pub way_first : (g : Node) (ds es : List Due) (d : Due) (t : List (Option Verdict)) → es ≡ ds ++ d ∷ [] → ds ≡ [] → due_view d ≡ g
@@ -342,6 +417,12 @@ iterate_size q base c a = search (rules, node_lemmas)
 catch_size : (q : ℕ) (k : declared_exit.Exit) (a : Box declared.Node Global) → whole_size (at.Catch q k a) ≡ 2 + whole_size a.value
 catch_size q k a = search (rules, node_lemmas)
 
+select_size : (q base : ℕ) (e : Expr) (arms : Vec Arm Global) → whole_size (at.Select q base e arms) ≡ 2 + arms_size (map arm_sizes arms.items)
+select_size q base e arms = search (rules, node_lemmas)
+
+tree_arm_size : (n : declared.Node) → arm_sizes (Tree n) ≡ sizes n
+tree_arm_size n = search (rules, node_lemmas)
+
 -- a tree with none in it
 empty_size : whole_size at.Empty ≡ 1
 empty_size = search (rules, node_lemmas)
@@ -389,6 +470,35 @@ row_falls r new between left size w ts xs x e is d h =
         → between ≡ left + 1 + 2 * (sum_by whole_size xs + w) → new < between + 2 * whole_size x → new < left + size
     more e sum d less = omega (arith, e, sum, d, less)
 
+-- along arms
+pub none_falls : (left : ℕ) (size : ℕ) → left < left + (1 + 2 * size)
+none_falls left size = omega arith
+
+pub entry_falls : (new left : ℕ) (arms behind : List Arm) (a : Arm) → arms ≡ a ∷ behind → new ≡ left + 1 + 2 * arms_size (map arm_sizes behind)
+    → new < left + (1 + 2 * arms_size (map arm_sizes arms))
+entry_falls new left arms behind a is e =
+    let all = ap (λ (xs : List Arm). arms_size (map arm_sizes xs)) is in
+    omega (arith, all, e)
+
+pub tree_falls : {T E : Type 0} (r : outcome.Result T E) (new between left : ℕ) (arms behind : List Arm) (a : Arm) (n : declared.Node) → arms ≡ a ∷ behind
+    → a ≡ Tree n
+    → between ≡ left + 1 + 2 * arms_size (map arm_sizes behind) → OnOk r (new < between + 2 * whole_size n)
+    → OnOk r (new < left + (1 + 2 * arms_size (map arm_sizes arms)))
+tree_falls r new between left arms behind a n is tree_is e h =
+    let all = ap (λ (xs : List Arm). arms_size (map arm_sizes xs)) is in
+    let own = ap (λ (x : Arm). (arm_sizes x).0) tree_is ∙ ap (λ (p : ℕ × ℕ). p.0) (tree_arm_size n) in
+    on_ok_weaker {P = new < between + 2 * whole_size n} {Q = new < left + (1 + 2 * arms_size (map arm_sizes arms))} r
+    (λ less. omega (arith, all, own, e, less)) h
+
+-- arms, and behind them a point
+pub selection_due : {T E : Type 0} (r : outcome.Result T E) (old between new g : Node) → between ≡ seq (point 0) old → OnOk r (new ≡ seq g between)
+    → OnOk r (new ≡ apart_before g old)
+selection_due r old between new g e h = on_ok_weaker {P = new ≡ seq g between} {Q = new ≡ apart_before g old} r (λ is. is ∙ ap (seq g) e) h
+
+pub selection_left : {T E : Type 0} (r : outcome.Result T E) (left between new size : ℕ) → between ≡ left + 1 → OnOk r (new ≡ between + 1 + 2 * size)
+    → OnOk r (new ≡ left + 2 + 2 * size)
+selection_left r left between new size e h = on_ok_weaker {P = new ≡ between + 1 + 2 * size} {Q = new ≡ left + 2 + 2 * size} r (λ is. omega (arith, e, is)) h
+
 pub fewer_left : (ds es fs : List Due) (d : Due) → es ≡ ds ++ d ∷ [] → all_left fs < all_left ds + due_size d → all_left fs < all_left es
 fewer_left ds es fs d e less = let sum = left_push ds es d e in omega (arith, sum, less)
 
@@ -433,6 +543,14 @@ module _ {T E : Type 0} (r : outcome.Result T E) (n : declared.Node) (old new : 
 
     pub catch_falls : OnOk r (all_left new ≡ all_left old + 1 + 2 * whole_size a.value) → OnOk r (all_left new < all_left old + 2 * whole_size n)
     catch_falls = seen_falls (at.Catch q k a) (2 + whole_size a.value) _ is (catch_size q k a) (omega arith)
+
+  module _ (q base : ℕ) (e : Expr) (arms : Vec Arm Global) (is : n ≡ at.Select q base e arms) where
+    pub select_opens : OnOk r (all_due new ≡ apart_before (trees_of (arms_of (map arm_view arms.items))) (all_due old)) → OnOk r (IsOpened n old new)
+    select_opens = seen_opened (at.Select q base e arms) _ is (select_opened old new q base e arms)
+
+    pub select_falls : OnOk r (all_left new ≡ all_left old + 2 + 2 * arms_size (map arm_sizes arms.items))
+        → OnOk r (all_left new < all_left old + 2 * whole_size n)
+    select_falls = seen_falls (at.Select q base e arms) (2 + arms_size (map arm_sizes arms.items)) _ is (select_size q base e arms) (omega arith)
 
 -- a tree with none in it
 module _ (n : declared.Node) (left : List Due) where

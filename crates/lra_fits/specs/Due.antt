@@ -3,24 +3,32 @@ use Rattle.std.specs.Prelude.{◌≡◌, ℕ, ◌+◌, ◌*◌, List, [], ◌∷
 use Rattle.std.specs.List.{sum_by}
 use Rattle.lra_base.specs.declared.number_types.NumberType.{NumberType}
 use Rattle.lra_domain.specs.Meaning.{Meaning}
-use Rattle.lra_program.specs.ProgramViews.{cond_view}
-use Rattle.lra_program.specs.Step.{test}
+use Rattle.lra_program.specs.ProgramViews.{cond_view, expr_view}
+use Rattle.lra_program.specs.Receivers.{nobody}
+use Rattle.lra_program.specs.Step.{give, test}
 use Rattle.lra_operations.specs.Asked.{Asked, asked_in, asked_of, fresh_of}
-use Rattle.lra_operations.specs.Graph.{Node, empty, point, seq}
-use Rattle.lra_operations.specs.GraphViews.{node_view, op_view, row}
-use Rattle.lra_operations.specs.Sizes.{whole_size}
+use Rattle.lra_operations.specs.Graph.{Node, empty, point, seq, Arms, no_arms, entry, arm}
+use Rattle.lra_operations.specs.GraphViews.{node_view, op_view, row, arm_view, arms_of}
+use Rattle.lra_operations.specs.Sizes.{whole_size, arm_sizes, arms_size}
 use Rattle.lra_operations.specs.declared.graph.Node as declared
-use Rattle.lra_operations.specs.declared.graph.Node.TheFolds.{fold-Node}
-use Rattle.lra_operations.specs.declared.graph.Node.TheOpen.{Node-F}
+use Rattle.lra_operations.specs.declared.graph.Arm.TheFolds.{fold-Node}
+use Rattle.lra_operations.specs.declared.graph.Arm.TheOpen.{Arm-F, Node-F}
 use Rattle.lra_fits.specs.declared.operations.Verdict.{Verdict}
 use Rattle.lra_fits.specs.declared.trees.Due.{Due}
-use Rattle.lra_fits.specs.declared.trees.Due.TheVariants.{Tree, Row, Apart}
+use Rattle.lra_fits.specs.declared.trees.Due.TheVariants.{Tree, Row, Arms as ArmsDue, Apart}
 use Rattle.lra_fits.specs.Judged.{Fills}
+
+-- the trees in arms, one after the other
+abbrev pub trees_of : Arms → Node
+trees_of no_arms = empty
+trees_of (entry l arms) = trees_of arms
+trees_of (arm a arms) = seq a (trees_of arms)
 
 -- as a tree: behind a point no variable is new
 abbrev pub due_view : Due → Node
 due_view (Tree n) = node_view n.now
 due_view (Row trees last) = row (map node_view trees.now) (node_view last.now)
+due_view (ArmsDue arms) = trees_of (arms_of (map arm_view arms.now))
 due_view Apart = point 0
 
 -- all of them as one tree, the last of the list first, and this tree behind them
@@ -35,8 +43,16 @@ all_due ds = due_before empty ds
 abbrev pub apart_before : Node → Node → Node
 apart_before g h = seq g (seq (point 0) h)
 
+-- what is asked, and the type of the variable that is new then
+abbrev pub Own : Type 0
+Own = List Asked × Option NumberType
+
+-- an arm asks nothing itself
+abbrev pub own_arm : Arm-F Own Own → Own
+own_arm a = ([], None)
+
 -- what a tree asks itself, and what is new behind that: the trees in it come then
-abbrev pub own_step : Option NumberType → Node-F (List Asked × Option NumberType) → List Asked × Option NumberType
+abbrev pub own_step : Option NumberType → Node-F Own Own → Own
 own_step fresh Node-F.Empty = ([], fresh)
 own_step fresh (Node-F.Point q) = ([], None)
 own_step fresh (Node-F.Act q o) = (asked_of q fresh (op_view o), fresh_of (op_view o))
@@ -46,9 +62,10 @@ own_step fresh (Node-F.Choose q base c a b) = (asked_of q None (test base (cond_
 own_step fresh (Node-F.Iterate q base c a) = (asked_of q None (test base (cond_view c) true), None)
 own_step fresh (Node-F.Catch q k a) = ([], None)
 own_step fresh (Node-F.Leave n k) = ([], None)
+own_step fresh (Node-F.Select q base e arms) = (asked_of q None (give base nobody (expr_view e)), None)
 
-abbrev pub own_of : Option NumberType → declared.Node → List Asked × Option NumberType
-own_of fresh = fold-Node (List Asked × Option NumberType) (own_step fresh)
+abbrev pub own_of : Option NumberType → declared.Node → Own
+own_of fresh = fold-Node Own Own own_arm (own_step fresh)
 
 abbrev pub own_asked : Option NumberType → declared.Node → List Asked
 own_asked fresh n = (own_of fresh n).0
@@ -65,6 +82,7 @@ IsOpened n old new = (fresh : Option NumberType) → asked_in fresh (seq (node_v
 abbrev pub due_size : Due → ℕ
 due_size (Tree n) = 2 * whole_size n.now
 due_size (Row trees last) = 1 + (2 * sum_by whole_size trees.now + 2 * whole_size last.now)
+due_size (ArmsDue arms) = 1 + 2 * arms_size (map arm_sizes arms.now)
 due_size Apart = 1
 
 abbrev pub all_left : List Due → ℕ

@@ -71,7 +71,7 @@ fn some_computes(conditions: &[Cond]) -> bool
 }
 
 /// Whether something is computed where a value is given to the receiver.
-fn giving_computes(receiver: Receiver, e: &Expr) -> bool
+pub fn giving_computes(receiver: Receiver, e: &Expr) -> bool
     ensures { result ≡ given_computes receiver (expr_view e.now) }
 {
     expression_computes(e) || receiver.converts(type_of(e))

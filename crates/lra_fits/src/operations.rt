@@ -2,8 +2,9 @@
 
 ghost use Rattle.std.specs.Prelude.{◌≡◌, ◌≤◌, ◌<◌, None, true, IfOk};
 ghost use Rattle.std.specs.List.{list_all};
-ghost use Rattle.lra_program.specs.Step.{test};
-ghost use Rattle.lra_program.specs.ProgramViews.{cond_view};
+ghost use Rattle.lra_program.specs.Step.{give, test};
+ghost use Rattle.lra_program.specs.Receivers.{nobody};
+ghost use Rattle.lra_program.specs.ProgramViews.{cond_view, expr_view};
 ghost use Rattle.lra_operations.specs.GraphViews.{op_view};
 ghost use Rattle.lra_flow.specs.Room.{most_live};
 ghost use Rattle.lra_fits.specs.Judged.{IsOpJudged, IsSettled, JudgesAsked};
@@ -14,7 +15,7 @@ use lra_base::NumberType;
 use lra_change::change;
 use lra_domain::{Domain, Exactness, worse};
 use lra_operations::Op;
-use lra_program::Cond;
+use lra_program::{Cond, Expr, Receiver};
 use std::alloc::{AllocError, Global};
 
 /// Whether all fits that an operation computes, and whether what had to be made for the answer is exact.
@@ -100,6 +101,25 @@ pub fn judge_operation<D: Domain>(
             settle(alloc, op, &behind, exactness)
         }
     }
+}
+
+/// Whether the value fits that a `switch` looks for.
+pub fn judge_value<D: Domain>(
+    alloc: Global,
+    base: usize,
+    e: &Expr,
+    value: &D,
+) -> Result<Verdict, AllocError>
+    requires { D.meaning.dims value.now ≤ most_live }
+    ensures { IfOk result (λ j. JudgesAsked D.meaning None
+        (give base nobody (expr_view e.now)) value.now j) }
+{
+    let mut answers = Vec::new(alloc);
+    judge_given(alloc, base, value, Receiver::nobody(), e, &mut answers)?;
+    Ok(Verdict {
+        fits: all_fit(answers.as_slice()),
+        exactness: Exactness::Exact,
+    })
 }
 
 /// Whether a condition fits.

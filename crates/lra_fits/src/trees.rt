@@ -2,23 +2,24 @@
 
 ghost use Rattle.std.specs.Prelude.{◌≡◌, ◌<◌, ◌+◌, ◌*◌, None, Some, true, length, map, slice_set, All, IfOk, OnOk};
 ghost use Rattle.std.specs.List.{sum_by};
-ghost use Rattle.lra_program.specs.Step.{test};
-ghost use Rattle.lra_program.specs.ProgramViews.{cond_view};
+ghost use Rattle.lra_program.specs.Step.{give, test};
+ghost use Rattle.lra_program.specs.Receivers.{nobody};
+ghost use Rattle.lra_program.specs.ProgramViews.{cond_view, expr_view};
 ghost use Rattle.lra_operations.specs.Asked.{asked_in, asked_of, fresh_of};
 ghost use Rattle.lra_operations.specs.Graph.{seq};
-ghost use Rattle.lra_operations.specs.GraphViews.{node_view, op_view, row};
-ghost use Rattle.lra_operations.specs.Sizes.{whole_size};
+ghost use Rattle.lra_operations.specs.GraphViews.{node_view, op_view, row, arm_view, arms_of};
+ghost use Rattle.lra_operations.specs.Sizes.{whole_size, arm_sizes, arms_size};
 ghost use Rattle.lra_flow.specs.Room.{most_live};
 ghost use Rattle.lra_fits.specs.Due.{all_due, all_left, apart_before, due_size, due_view, fresh_at};
-ghost use Rattle.lra_fits.specs.Due.{own_asked, IsOnWay, IsOpened};
+ghost use Rattle.lra_fits.specs.Due.{own_asked, trees_of, IsOnWay, IsOpened};
 ghost use Rattle.lra_fits.specs.Judged.{AreBelow, Fills};
 
-use crate::computes::{condition_computes, operation_computes};
-use crate::operations::{Verdict, judge_operation, judge_test};
+use crate::computes::{condition_computes, giving_computes, operation_computes};
+use crate::operations::{Verdict, judge_operation, judge_test, judge_value};
 use lra_base::NumberType;
 use lra_domain::Domain;
-use lra_operations::{Node, Op};
-use lra_program::Cond;
+use lra_operations::{Arm, Node, Op};
+use lra_program::{Cond, Expr, Receiver};
 use std::alloc::{AllocError, Global};
 
 /// The point has this verdict from now on.
@@ -84,6 +85,29 @@ fn judge_choice<D: Domain>(
     Ok(())
 }
 
+/// The verdict on the value that a `switch` looks for, where it is asked.
+fn judge_selection<D: Domain>(
+    alloc: Global,
+    values: &[D],
+    point: usize,
+    base: usize,
+    value: &Expr,
+    table: &mut Vec<Option<Verdict>>,
+) -> Result<(), AllocError>
+    requires few { All (λ v. D.meaning.dims v < most_live) values.now }
+    requires long { length table.old.items ≡ length values.now }
+    requires below { AreBelow (length values.now) (asked_of point None
+        (give base nobody (expr_view value.now))) }
+    ensures { OnOk result (Fills D.meaning values.now (asked_of point None
+        (give base nobody (expr_view value.now))) table.old.items table.new.items) }
+{
+    if giving_computes(Receiver::nobody(), value) {
+        let verdict = judge_value(alloc, base, value, &values[point])?;
+        fill(table, point, verdict);
+    }
+    Ok(())
+}
+
 /// What is still to be judged. The judging goes along the tree by a list of these, and not by calls, so a tree may be
 /// as deep as memory allows.
 #[derive(Clone, Copy)]
@@ -91,6 +115,8 @@ pub enum Due<'a> {
     Tree(&'a Node),
     /// The trees one after the other, and then the last.
     Row(&'a [Node], &'a Node),
+    /// The trees in arms one after the other.
+    Arms(&'a [Arm]),
     /// Nothing: behind it no variable is new.
     Apart,
 }
@@ -137,6 +163,28 @@ fn push_row<'a>(
     Ok(())
 }
 
+/// The trees in arms are due before the others.
+fn push_arms<'a>(left: &mut Vec<Due<'a>>, arms: &'a [Arm]) -> Result<(), AllocError>
+    ensures is { OnOk result (all_due left.new.items ≡
+        seq (trees_of (arms_of (map arm_view arms.now))) (all_due left.old.items)) }
+    ensures size { OnOk result (all_left left.new.items ≡
+        all_left left.old.items + 1 + 2 * arms_size (map arm_sizes arms.now)) }
+{
+    left.push(Due::Arms(arms))?;
+    Ok(())
+}
+
+/// Those of a `switch`, behind which no variable is new.
+fn push_selection<'a>(left: &mut Vec<Due<'a>>, arms: &'a [Arm]) -> Result<(), AllocError>
+    ensures is { OnOk result (all_due left.new.items ≡
+        apart_before (trees_of (arms_of (map arm_view arms.now))) (all_due left.old.items)) }
+    ensures size { OnOk result (all_left left.new.items ≡
+        all_left left.old.items + 2 + 2 * arms_size (map arm_sizes arms.now)) }
+{
+    left.push(Due::Apart)?;
+    push_arms(left, arms)
+}
+
 /// The trees in a tree are due before the others.
 fn open_node<'a>(left: &mut Vec<Due<'a>>, node: &'a Node) -> Result<(), AllocError>
     ensures is { OnOk result (IsOpened node.now left.old.items left.new.items) }
@@ -148,6 +196,7 @@ fn open_node<'a>(left: &mut Vec<Due<'a>>, node: &'a Node) -> Result<(), AllocErr
         Node::Choose(_, _, _, on_true, on_false) => push_both(left, on_true, on_false),
         Node::Iterate(_, _, _, body) => push_apart(left, body),
         Node::Catch(_, _, body) => push_apart(left, body),
+        Node::Select(_, _, _, arms) => push_selection(left, arms.as_slice()),
         Node::Empty => Ok(()),
         Node::Point(_) => Ok(()),
         Node::Act(_, _) => Ok(()),
@@ -170,6 +219,7 @@ fn fresh_at(fresh: Option<NumberType>, node: &Node) -> Option<NumberType>
         Node::Iterate(_, _, _, _) => None,
         Node::Catch(_, _, _) => None,
         Node::Leave(_, _) => None,
+        Node::Select(_, _, _, _) => None,
     }
 }
 
@@ -197,6 +247,9 @@ fn judge_own<D: Domain>(
         }
         Node::Iterate(point, base, condition, _) => {
             judge_choice(alloc, values, *point, *base, condition, table)
+        }
+        Node::Select(point, base, value, _) => {
+            judge_selection(alloc, values, *point, *base, value, table)
         }
         Node::Empty => Ok(()),
         Node::Point(_) => Ok(()),
@@ -230,6 +283,36 @@ fn judge_node<'a, D: Domain>(
     Ok(fresh_at(fresh, node))
 }
 
+/// The first of the arms: what its tree does itself is judged, and the trees in it and the other arms are due before
+/// the others.
+fn judge_arms<'a, D: Domain>(
+    alloc: Global,
+    values: &[D],
+    fresh: Option<NumberType>,
+    arms: &'a [Arm],
+    left: &mut Vec<Due<'a>>,
+    table: &mut Vec<Option<Verdict>>,
+) -> Result<Option<NumberType>, AllocError>
+    requires few { All (λ v. D.meaning.dims v < most_live) values.now }
+    requires long { length table.old.items ≡ length values.now }
+    requires below { AreBelow (length values.now) (asked_in fresh
+        (seq (trees_of (arms_of (map arm_view arms.now))) (all_due left.old.items))) }
+    ensures way { IfOk result (λ later. IsOnWay D.meaning values.now fresh
+        (seq (trees_of (arms_of (map arm_view arms.now))) (all_due left.old.items)) later
+        (all_due left.new.items) table.old.items table.new.items) }
+    ensures falls { OnOk result (all_left left.new.items <
+        all_left left.old.items + (1 + 2 * arms_size (map arm_sizes arms.now))) }
+{
+    let Some((arm, behind)) = arms.split_first() else {
+        return Ok(fresh);
+    };
+    push_arms(left, behind)?;
+    match arm {
+        Arm::Entry(_) => Ok(fresh),
+        Arm::Tree(node) => judge_node(alloc, values, fresh, node, left, table),
+    }
+}
+
 /// A step: what is due is opened; the type of that which is new behind.
 fn judge_next<'a, D: Domain>(
     alloc: Global,
@@ -251,6 +334,7 @@ fn judge_next<'a, D: Domain>(
     match due {
         Due::Apart => Ok(None),
         Due::Tree(node) => judge_node(alloc, values, fresh, node, left, table),
+        Due::Arms(arms) => judge_arms(alloc, values, fresh, arms, left, table),
         Due::Row(trees, last) => match trees.split_first() {
             None => judge_node(alloc, values, fresh, last, left, table),
             Some((first, behind)) => {

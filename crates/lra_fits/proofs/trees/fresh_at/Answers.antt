@@ -1,6 +1,6 @@
 -- Goals of `fresh_at`: the type of the variable that is new behind what a tree does itself.
 use Rattle.std.proofs.Common.{◌∙◌}
-use Rattle.lra_fits.proofs.TreeSteps.{act_new, catch_new, check_new, choose_new, empty_new, iterate_new, leave_new, point_new, seq_new}
+use Rattle.lra_fits.proofs.TreeSteps.{act_new, catch_new, check_new, choose_new, empty_new, iterate_new, leave_new, point_new, select_new, seq_new}
 use Rattle.lra_fits.proofs.trees.fresh_at.Goals as goal
 
 pub returns-in-Empty : goal.returns-in-Empty
@@ -31,3 +31,6 @@ returns-in-Leave c = leave_new c.args.fresh c.args.node.now c.in-Leave.field-0 c
 
 pub returns-in-Act : goal.returns-in-Act
 returns-in-Act c = c.fresh_of.ensures ∙ act_new c.args.fresh c.args.node.now c.in-Act.field-0 c.in-Act.op c.in-Act.is
+
+pub returns-in-Select : goal.returns-in-Select
+returns-in-Select c = select_new c.args.fresh c.args.node.now c.in-Select.field-0 c.in-Select.field-1 c.in-Select.field-2 c.in-Select.field-3 c.in-Select.is

@@ -71,3 +71,12 @@ returns-in_ok-push_row-in-Some-clause-falls g c =
     (whole_size c.in-Row.last.now) c.in-Row.trees.now c.in-Some.behind.now c.in-Some.first.now (ap due_size c.in-Row.is) two
     c.in_ok-push_row-in-Some.ensures.size
     c.judge_node-in-Some.ensures.falls
+
+pub judge_arms-requires-clause-below : goal.judge_arms-requires-clause-below
+judge_arms-requires-clause-below g c = rw c.in-Arms.is at c.requires.below
+
+pub returns-in-Arms-clause-way : goal.returns-in-Arms-clause-way
+returns-in-Arms-clause-way g c = rw c.in-Arms.is c.judge_arms.ensures.way
+
+pub returns-in-Arms-clause-falls : goal.returns-in-Arms-clause-falls
+returns-in-Arms-clause-falls g c = rw c.in-Arms.is c.judge_arms.ensures.falls

@@ -1,6 +1,6 @@
 -- Goals of `judge_own`: what a tree does itself is judged.
 use Rattle.std.proofs.Common.{length}
-use Rattle.lra_fits.proofs.TreeSteps.{asks_act, asks_check, asks_choose, asks_iterate, asks_none, below_as, fills_as}
+use Rattle.lra_fits.proofs.TreeSteps.{asks_act, asks_check, asks_choose, asks_iterate, asks_none, asks_select, below_as, fills_as}
 use Rattle.lra_fits.proofs.TreeSteps.{empty_asks, point_asks, seq_asks, catch_asks, leave_asks}
 use Rattle.lra_fits.proofs.trees.judge_own.Goals as goal
 
@@ -60,3 +60,11 @@ returns-in-Catch g c = asks_none g.D.Domain.meaning c.args.values.now c.args.tab
 pub returns-in-Leave : goal.returns-in-Leave
 returns-in-Leave g c = asks_none g.D.Domain.meaning c.args.values.now c.args.table.now.items _
     (leave_asks c.args.fresh c.args.node.now c.in-Leave.field-0 c.in-Leave.field-1 c.in-Leave.is)
+
+pub judge_selection-requires-clause-below : goal.judge_selection-requires-clause-below
+judge_selection-requires-clause-below g c = below_as (length c.args.values.now) _ _
+    (asks_select c.args.fresh c.args.node.now c.in-Select.point c.in-Select.base c.in-Select.value c.in-Select.field-3 c.in-Select.is) c.requires.below
+
+pub returns-in-Select : goal.returns-in-Select
+returns-in-Select g c = fills_as g.D.Domain.meaning c.args.values.now c.judge_selection.result _ _ c.args.table.now.items c.judge_selection.new.table.items
+    (asks_select c.args.fresh c.args.node.now c.in-Select.point c.in-Select.base c.in-Select.value c.in-Select.field-3 c.in-Select.is) c.judge_selection.ensures

@@ -1,5 +1,6 @@
 -- Goals of `open_node`: the trees in a tree are due before the others.
 use Rattle.lra_fits.proofs.TreeSteps.{seq_opens, seq_falls, choose_opens, choose_falls, iterate_opens, iterate_falls, catch_opens, catch_falls}
+use Rattle.lra_fits.proofs.TreeSteps.{select_opens, select_falls}
 use Rattle.lra_fits.proofs.TreeSteps.{empty_rests, point_rests, act_rests, check_rests, leave_rests}
 use Rattle.lra_fits.proofs.trees.open_node.Goals as goal
 
@@ -72,3 +73,13 @@ returns-in-Leave-clause-is c = (leave_rests c.args.node.now c.args.left.now.item
 
 pub returns-in-Leave-clause-falls : goal.returns-in-Leave-clause-falls
 returns-in-Leave-clause-falls c = (leave_rests c.args.node.now c.args.left.now.items c.in-Leave.field-0 c.in-Leave.field-1 c.in-Leave.is).1
+
+pub returns-in-Select-clause-is : goal.returns-in-Select-clause-is
+returns-in-Select-clause-is c = select_opens c.push_selection.result c.args.node.now c.args.left.now.items c.push_selection.new.left.items
+    c.in-Select.field-0 c.in-Select.field-1 c.in-Select.field-2 c.in-Select.arms c.in-Select.is
+    (rw c.as_slice-in-Select.ensures.value at c.push_selection.ensures.is)
+
+pub returns-in-Select-clause-falls : goal.returns-in-Select-clause-falls
+returns-in-Select-clause-falls c = select_falls c.push_selection.result c.args.node.now c.args.left.now.items c.push_selection.new.left.items
+    c.in-Select.field-0 c.in-Select.field-1 c.in-Select.field-2 c.in-Select.arms c.in-Select.is
+    (rw c.as_slice-in-Select.ensures.value at c.push_selection.ensures.size)
