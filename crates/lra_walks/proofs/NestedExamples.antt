@@ -1,6 +1,6 @@
 -- The iteration over boxes on nested loops with a `break` and a `return`:
 -- int main(void){ long a=0, b=0; while(a<5){ b=0; while(1){ if(b>=3) break; if(input()) return 0; b=b+1; } a=a+1; } assert(a==5); }
-use Rattle.std.proofs.Common.{◌≡◌, ℕ, pos, negsuc, List, [], ◌∷◌, ◌++◌, Option, None, Some, false, refl, arith, lit<}
+use Rattle.std.proofs.Common.{◌≡◌, ℕ, ◌≤◌, pos, negsuc, List, [], ◌∷◌, ◌++◌, Option, None, Some, false, refl, arith, lit<}
 use Rattle.std.specs.List.{Contains}
 use Rattle.std.proofs.lemmas.Int.{ints}
 use Rattle.lra_lin.specs.Form.{Form}
@@ -575,6 +575,9 @@ declared_b = seq (point 1) (seq (act 1 (append Long)) (act 1 (give 0 (variable_a
 abbrev nested_tree : Node
 nested_tree = seq (seq declared (seq declared_b (seq outer_loop (seq (seq (point 13) (check 13 0 (compare equal a_is (literal Int 5)))) empty)))) (point 14)
 
+both_live : 2 ≤ 2
+both_live = omega arith
+
 -- the tree is that of the program
 nested_graph : IsGraph nested nested_tree
 nested_graph = record {
@@ -588,7 +591,7 @@ nested_graph = record {
       (as_statement (as_assign refl as_value)
       (as_statement (as_loop (is_loop refl as_absent
       (as_block
-      (as_statement (as_if refl (as_break refl (omega arith) refl) as_absent)
+      (as_statement (as_if refl (as_break refl both_live refl) as_absent)
       (as_statement (as_if refl (as_end_value refl refl) as_absent)
       (as_statement (as_assign refl as_value) as_none))) refl)))
       (as_statement (as_assign refl as_value) as_none))) refl)))
