@@ -12,16 +12,18 @@ use Rattle.lra_domain.specs.Meaning.{Meaning}
 use Rattle.lra_domain.specs.declared.Exactness.{Exactness}
 use Rattle.lra_domain.specs.declared.Exactness.TheVariants.{Exact, Flagged}
 use Rattle.lra_base.specs.declared.number_types.NumberType.{NumberType}
-use Rattle.lra_program.specs.Step.{Op, test}
+use Rattle.lra_program.specs.Step.{Op, give, test}
+use Rattle.lra_program.specs.Receivers.{nobody}
 use Rattle.lra_program.specs.Overflow.{op_computes}
 use Rattle.lra_program.specs.Sites.{Site}
 use Rattle.lra_operations.specs.Graph.{Node, empty, point, act, check, seq, choose, iterate, catch, leave}
-use Rattle.lra_operations.specs.Asked.{Asked, asked_of, asked_in, fresh_behind}
+use Rattle.lra_operations.specs.Graph.{select, Arms, no_arms, entry, arm}
+use Rattle.lra_operations.specs.Asked.{Asked, asked_of, asked_in, asked_in_arms, fresh_behind}
 use Rattle.lra_report.specs.Listing.{computes_at}
 use Rattle.lra_flow.specs.Operations.{Operations}
 use Rattle.lra_flow.specs.Pass.{noted}
 use Rattle.lra_flow.specs.Fits.{Judgement, fitting_of, first_flagged, Judges, JudgesIf}
-use Rattle.lra_iter.specs.Numbers.{AreBelow}
+use Rattle.lra_iter.specs.Numbers.{ArmsAreBelow, AreBelow}
 use Rattle.lra_listing.specs.Given.{AreVerdictsOn, IsComputing}
 use Rattle.lra_source.proofs.FitsHold.{found_of}
 use Rattle.lra_source.proofs.Handing.{image_of}
@@ -40,26 +42,40 @@ one_below n q fresh op low a h = by (op_computes op) h
         [ inl same ↦ subst (λ (x : Asked). x.point < n) same low | inr none ↦ absurd (contains_none a none) ]
     by false there = absurd (contains_none a there)
 
-pub asked_below : (n : ℕ) (g : Node) (fresh : Option NumberType) → AreBelow n g → (a : Asked) → Contains (asked_in fresh g) a → a.point < n
-asked_below n empty fresh low a h = absurd (contains_none a h)
-asked_below n (point q) fresh low a h = absurd (contains_none a h)
-asked_below n (act q op) fresh low a h = one_below n q fresh op low a h
-asked_below n (check q base c) fresh low a h = one_below n q None (test base c true) low a h
-asked_below n (seq x y) fresh low a h = elim (Contains-append_cases (asked_in fresh x) (asked_in (fresh_behind fresh x) y) a h) [
-  | inl one ↦ asked_below n x fresh low.0 a one
-  | inr two ↦ asked_below n y (fresh_behind fresh x) low.1 a two
-]
-asked_below n (choose q base c x y) fresh low a h = elim (Contains-append_cases (asked_of q None (test base c true) ++ asked_in None x) (asked_in None y) a h) [
-  | inl two ↦ elim (Contains-append_cases (asked_of q None (test base c true)) (asked_in None x) a two)
-      [ inl one ↦ one_below n q None (test base c true) low.0 a one | inr on ↦ asked_below n x None low.1 a on ]
-  | inr off ↦ asked_below n y None low.2 a off
-]
-asked_below n (iterate q base c x) fresh low a h = elim (Contains-append_cases (asked_of q None (test base c true)) (asked_in None x) a h) [
-  | inl one ↦ one_below n q None (test base c true) low.0 a one
-  | inr on ↦ asked_below n x None low.1 a on
-]
-asked_below n (catch q k x) fresh low a h = asked_below n x None low.1 a h
-asked_below n (leave k j) fresh low a h = absurd (contains_none a h)
+mutual
+  pub asked_below : (n : ℕ) (g : Node) (fresh : Option NumberType) → AreBelow n g → (a : Asked) → Contains (asked_in fresh g) a → a.point < n
+  asked_below n empty fresh low a h = absurd (contains_none a h)
+  asked_below n (point q) fresh low a h = absurd (contains_none a h)
+  asked_below n (act q op) fresh low a h = one_below n q fresh op low a h
+  asked_below n (check q base c) fresh low a h = one_below n q None (test base c true) low a h
+  asked_below n (seq x y) fresh low a h = elim (Contains-append_cases (asked_in fresh x) (asked_in (fresh_behind fresh x) y) a h) [
+    | inl one ↦ asked_below n x fresh low.0 a one
+    | inr two ↦ asked_below n y (fresh_behind fresh x) low.1 a two
+  ]
+  asked_below n (choose q base c x y) fresh low a h = elim (Contains-append_cases (asked_of q None (test base c true) ++ asked_in None x) (asked_in None y) a
+      h) [
+        | inl two ↦ elim (Contains-append_cases (asked_of q None (test base c true)) (asked_in None x) a two)
+            [ inl one ↦ one_below n q None (test base c true) low.0 a one | inr on ↦ asked_below n x None low.1 a on ]
+        | inr off ↦ asked_below n y None low.2 a off
+      ]
+  asked_below n (iterate q base c x) fresh low a h = elim (Contains-append_cases (asked_of q None (test base c true)) (asked_in None x) a h) [
+    | inl one ↦ one_below n q None (test base c true) low.0 a one
+    | inr on ↦ asked_below n x None low.1 a on
+  ]
+  asked_below n (catch q k x) fresh low a h = asked_below n x None low.1 a h
+  asked_below n (leave k j) fresh low a h = absurd (contains_none a h)
+  asked_below n (select q base e arms) fresh low a h = elim (Contains-append_cases (asked_of q None (give base nobody e)) (asked_in_arms None arms) a h) [
+    | inl one ↦ one_below n q None (give base nobody e) low.0 a one
+    | inr on ↦ arms_below n arms None low.1 a on
+  ]
+
+  arms_below : (n : ℕ) (arms : Arms) (fresh : Option NumberType) → ArmsAreBelow n arms → (a : Asked) → Contains (asked_in_arms fresh arms) a → a.point < n
+  arms_below n no_arms fresh low a h = absurd (contains_none a h)
+  arms_below n (entry l arms) fresh low a h = arms_below n arms fresh low a h
+  arms_below n (arm x arms) fresh low a h = elim (Contains-append_cases (asked_in fresh x) (asked_in_arms (fresh_behind fresh x) arms) a h) [
+    | inl one ↦ asked_below n x fresh low.0 a one
+    | inr two ↦ arms_below n arms (fresh_behind fresh x) low.1 a two
+  ]
 
 -- a tree computes where it asks, and asks where it computes
 computes_there : (asked : List Asked) (a : Asked) → Contains asked a → IsTrue (list_any (λ (x : Asked). nat_eq x.point a.point) asked)

@@ -1,11 +1,12 @@
 -- The tree of a well-formed program whose points have few variables fits the iteration.
-use Rattle.std.proofs.Common.{◌≡◌, ◌≢◌, ℕ, zero, suc, ◌+◌, ◌-◌, ◌≤◌, ◌<◌, List, [], ◌∷◌, length, Option, Some, None, Bool, true, false, inl, inr, refl, sym, ap}
+use Rattle.std.proofs.Common.{◌≡◌, ◌≢◌, ℕ, zero, suc, ◌+◌, ◌-◌, ◌≤◌, ◌<◌, List, [], ◌∷◌, length, Option, Some, None, Bool, true, inl, inr, refl, sym, ap}
 use Rattle.std.proofs.Common.{◌∙◌, subst, arith}
 use Rattle.std.specs.Prelude.{slice_get}
 use Rattle.std.specs.List.{AllByRecursion, Contains}
 use Rattle.std.proofs.lemmas.Option.{none-some, same_Some}
 use Rattle.lra_linear.proofs.Membership.{contains_none, contains_cases}
-use Rattle.lra_program.specs.Program.{Slot, global, local, Expr, Cond, Rvalue, Stmt, BlockItems, Program}
+use Rattle.lra_program.specs.Program.{Slot, global, local, Expr, Cond, Rvalue, Stmt, Cases, BlockItems, Program}
+use Rattle.lra_base.specs.declared.case_labels.CaseLabel.{CaseLabel}
 use Rattle.lra_base.specs.Limits.{greatest_live}
 use Rattle.lra_base.specs.declared.number_types.NumberType.{NumberType}
 use Rattle.lra_program.specs.declared.receivers.Target.{Target}
@@ -14,22 +15,27 @@ use Rattle.lra_program.specs.Receivers.{variable_at, behind_result}
 use Rattle.lra_program.specs.Value.{index_of, Argument}
 use Rattle.lra_program.specs.Step.{Op, append, give, give_any, push, keep, test, Back, arguments_for}
 use Rattle.lra_operations.specs.Graph.{Exit, broken, continued, returned, Node, empty, point, act, check, seq, choose, catch, leave}
+use Rattle.lra_operations.specs.Graph.{Arms, no_arms, entry, arm}
 use Rattle.lra_program.specs.Sites.{Site, sites_of}
 use Rattle.lra_program.specs.Sites as sites
 use Rattle.lra_operations.specs.Inlined.{Frame, Spot, callee, Inl, InlAll, Declares, Loops, Gives, as_nothing, as_block, as_absent, as_assign, as_call, as_if, as_loop, as_for, as_break, as_continue}
 use Rattle.lra_operations.specs.Inlined.{as_return, as_return_value, as_return_call, as_end, as_end_value, as_end_call, as_assert, as_assume, as_none, as_declaration, as_statement, as_fresh, as_given}
 use Rattle.lra_operations.specs.Inlined.{is_loop, as_value, as_result, loop_node, call_node, return_node, main_frame}
+use Rattle.lra_operations.specs.Inlined.{InlCases, as_switch, as_no_cases, as_labelled, as_stated, switch_node}
 use Rattle.lra_operations.specs.Agree.{IsGraph}
-use Rattle.lra_program.specs.WellFormed.{IsLive, IsGoodRvalue, IsGoodGiven, IsGoodStmt, AreGoodItems, IsGoodFunction, IsWellFormed}
-use Rattle.lra_change.specs.Changes.{dims_behind, PlaceFits, OpFits}
+use Rattle.lra_program.specs.WellFormed.{IsLive, IsGoodRvalue, IsGoodGiven, IsGoodStmt, AreGoodCases, AreGoodItems, IsGoodFunction, IsWellFormed}
+use Rattle.lra_program.specs.WellFormed.{Jumps, no_jumps, in_loop as in_loop_jumps, in_switch}
+use Rattle.lra_graph.proofs.Lengths.{grows_all}
+use Rattle.lra_flow.specs.Live.{dims_behind, live_after}
+use Rattle.lra_change.specs.Changes.{PlaceFits, OpFits}
 use Rattle.lra_program.proofs.GivenArguments.{given_width}
-use Rattle.lra_iter.specs.Fits.{live_after, JumpsWith, TreeFits}
+use Rattle.lra_iter.specs.Fits.{ArmsFit, ArmsJumpWith, JumpsWith, TreeFits}
 use Rattle.lra_flow.specs.Room.{most_live}
 
 -- how many live where a jump leads
 abbrev JumpFits : Frame → Exit → ℕ → Type 0
-JumpFits f broken m = f.loop ≡ Some m
-JumpFits f continued m = f.loop ≡ Some m
+JumpFits f broken m = f.breaks ≡ Some m
+JumpFits f continued m = f.continues ≡ Some m
 JumpFits f returned m = (b : Back) → f.back ≡ Some b → m ≡ b.length
 
 -- begun with n variables the tree fits, and ends with n' of them
@@ -97,16 +103,22 @@ place_more : (x : Option Target) (n m : ℕ) → n ≤ m → PlaceFits x n → P
 place_more None n m h p = tt
 place_more (Some x) n m h p = omega arith
 
-break_jump : (f : Frame) (m : ℕ) → f.loop ≡ Some m → (k : Exit) (m' : ℕ) → (k ≡ broken) × (m' ≡ m) → JumpFits f k m'
+break_jump : (f : Frame) (m : ℕ) → f.breaks ≡ Some m → (k : Exit) (m' : ℕ) → (k ≡ broken) × (m' ≡ m) → JumpFits f k m'
 break_jump f m i broken m' j = rw j.1 i
-break_jump f m i continued m' j = rw j.1 i
+break_jump f m i continued m' j = let wrong : ⊥ = continued_broken j.0 in absurd wrong
+  where
+    continued_broken : continued ≡ broken → ⊥
+    continued_broken e = cc
 break_jump f m i returned m' j = let wrong : ⊥ = returned_broken j.0 in absurd wrong
   where
     returned_broken : returned ≡ broken → ⊥
     returned_broken e = cc
 
-continue_jump : (f : Frame) (m : ℕ) → f.loop ≡ Some m → (k : Exit) (m' : ℕ) → (k ≡ continued) × (m' ≡ m) → JumpFits f k m'
-continue_jump f m i broken m' j = rw j.1 i
+continue_jump : (f : Frame) (m : ℕ) → f.continues ≡ Some m → (k : Exit) (m' : ℕ) → (k ≡ continued) × (m' ≡ m) → JumpFits f k m'
+continue_jump f m i broken m' j = let wrong : ⊥ = broken_continued j.0 in absurd wrong
+  where
+    broken_continued : broken ≡ continued → ⊥
+    broken_continued e = cc
 continue_jump f m i continued m' j = rw j.1 i
 continue_jump f m i returned m' j = let wrong : ⊥ = returned_continued j.0 in absurd wrong
   where
@@ -124,10 +136,10 @@ back_jump f m i broken m' j = absurd (broken_returned j.0)
 back_jump f m i continued m' j = absurd (continued_returned j.0)
 back_jump f m i returned m' j = λ b e. j.1 ∙ i b e
 
-break_fit : {f : Frame} {m n : ℕ} → Few n → f.loop ≡ Some m → Fit f m n (leave n broken)
+break_fit : {f : Frame} {m n : ℕ} → Few n → f.breaks ≡ Some m → Fit f m n (leave n broken)
 break_fit {f = f} {m = m} {n = n} few i = record { fits = few_is_small n few; behind = refl; jumps = break_jump f m i }
 
-continue_fit : {f : Frame} {m n : ℕ} → Few n → f.loop ≡ Some m → Fit f m n (leave n continued)
+continue_fit : {f : Frame} {m n : ℕ} → Few n → f.continues ≡ Some m → Fit f m n (leave n continued)
 continue_fit {f = f} {m = m} {n = n} few i = record { fits = few_is_small n few; behind = refl; jumps = continue_jump f m i }
 
 return_fit : {f : Frame} {n : ℕ} (b : Back) → Few n → f.back ≡ Some b → Fit f b.length n (leave n returned)
@@ -155,7 +167,7 @@ choose_fit q base c a b x y = record {
 }
 
 abbrev in_loop : Frame → Option ℕ → Frame
-in_loop f l = record f { loop = l }
+in_loop f l = record f { breaks = l; continues = l }
 
 -- of a loop that begins with n variables, its body g and its step
 module _ (f : Frame) (n : ℕ) (g step : Node) (few : Few n) (x : Fit (in_loop f (Some n)) n n g) (y : Fit (in_loop f None) n n step) where
@@ -183,9 +195,37 @@ module _ (f : Frame) (n : ℕ) (g step : Node) (few : Few n) (x : Fit (in_loop f
     jumps = λ k m j. outer_jump q k m j.0 j.1;
   }
 
+-- the arms of a `switch` at which n variables live
+record FitArms (f : Frame) (n : ℕ) (arms : Arms) : Type 0 where
+  fits : ArmsFit arms n
+  jumps : (k : Exit) (m : ℕ) → ArmsJumpWith arms n k m → JumpFits f k m
+
+abbrev in_a_switch : Frame → ℕ → Frame
+in_a_switch f n = record f { breaks = Some n }
+
+no_arms_fit : (f : Frame) (n : ℕ) → FitArms f n no_arms
+no_arms_fit f n = record { fits = tt; jumps = λ k m j. absurd j }
+
+entry_fit : (f : Frame) (n : ℕ) (l : CaseLabel) (arms : Arms) → FitArms f n arms → FitArms f n (entry l arms)
+entry_fit f n l arms x = record { fits = x.fits; jumps = x.jumps }
+
+arm_fit : (f : Frame) (n : ℕ) (g : Node) (arms : Arms) → Fit f n n g → FitArms f n arms → FitArms f n (arm g arms)
+arm_fit f n g arms x y = record {
+  fits = (x.fits, x.behind, y.fits);
+  jumps = λ k m j. elim j [ inl l ↦ x.jumps k m l | inr r ↦ y.jumps k m r ];
+}
+
+switch_fit : (f : Frame) (n q base : ℕ) (e : Expr) (arms : Arms) → FitArms (in_a_switch f n) n arms → Fit f n n (switch_node q base e arms)
+switch_fit f n q base e arms x = record { fits = (x.fits, λ m j. sym (same_Some n m (x.jumps broken m j))); behind = refl; jumps = λ k m j. outer k m j.0 j.1 }
+  where
+    outer : (k : Exit) (m : ℕ) → k ≢ broken → ArmsJumpWith arms n k m → JumpFits f k m
+    outer broken m d j = absurd (d refl)
+    outer continued m d j = x.jumps continued m j
+    outer returned m d j = x.jumps returned m j
+
 -- of a call whose body is g
 module _ (f : Frame) (n r : ℕ) (x : Receiver) (es : List Argument) (params : ℕ) (g : Node) (f' : Frame) (n' : ℕ) (i : length es ≡ params)
-    (no_loop : f'.loop ≡ None)
+    (no_breaks : f'.breaks ≡ None) (no_continues : f'.continues ≡ None)
     (j : f'.back ≡ Some (record { receiver = x; here = f.here; length = n })) (low : n + params ≤ n') (few : Few n') (place : PlaceFits x.target n)
     (y : Fit f' (n + params) n' g) where
   abbrev inner : Node
@@ -197,8 +237,8 @@ module _ (f : Frame) (n r : ℕ) (x : Receiver) (es : List Argument) (params : �
       (seq_fit _ _ (omega arith) (any_fit r x (place_more x.target n (n + params) (omega arith) place)) (keep_fit r n (omega arith)))))
 
   caught_jump : (k : Exit) (m : ℕ) → k ≢ returned → JumpFits f' k m → JumpFits f k m
-  caught_jump broken m d z = absurd (none-some m (sym no_loop ∙ z))
-  caught_jump continued m d z = absurd (none-some m (sym no_loop ∙ z))
+  caught_jump broken m d z = absurd (none-some m (sym no_breaks ∙ z))
+  caught_jump continued m d z = absurd (none-some m (sym no_continues ∙ z))
   caught_jump returned m d z = absurd (d refl)
 
   catch_fit : (q : ℕ) → Fit f (n + params) n (catch q returned inner)
@@ -236,13 +276,11 @@ standing_place P f n own (local k) t st live = let w = st.within in omega arith
 one_more : (P : Program) (f : Frame) (n own : ℕ) → Standing P f n own → Standing P f (suc n) (suc own)
 one_more P f n own st = record { globals = (let g = st.globals in omega arith); within = (let w = st.within in omega arith); target = st.target }
 
+in_switch_too : (P : Program) (f : Frame) (n own m : ℕ) → Standing P f n own → Standing P (in_a_switch f m) n own
+in_switch_too P f n own m st = record { globals = st.globals; within = st.within; target = st.target }
+
 other_loop : (P : Program) (f : Frame) (n own : ℕ) (l : Option ℕ) → Standing P f n own → Standing P (in_loop f l) n own
 other_loop P f n own l st = record { globals = st.globals; within = st.within; target = st.target }
-
-low_all : {P : Program} {T : List Site} {spot : Spot} {s : BlockItems} {g : Node} {n q : ℕ} → InlAll P T spot s g n q → spot.live ≤ n
-low_all as_none = omega arith
-low_all (as_declaration i j e) = let rest = low_all e in omega arith
-low_all (as_statement d e) = low_all e
 
 own_low : {P : Program} {T : List Site} {spot : Spot} {s : BlockItems} {g : Node} {n q : ℕ} (base own : ℕ) → InlAll P T spot s g n q → base + own ≤ spot.live → base + sites.live_behind own s ≤ n
 own_low base own as_none w = w
@@ -266,11 +304,12 @@ module _ (P : Program) (T : List Site) (few : AllFew T) (well : IsWellFormed P) 
   }
 
   mutual
-    fit_one : {spot : Spot} {s : Stmt} {g : Node} {q : ℕ} → Inl P T spot s g q → (l : Bool) (own : ℕ) → Standing P spot.frame spot.live own → Few spot.live → IsGoodStmt P l own s →
+    fit_one : {spot : Spot} {s : Stmt} {g : Node} {q : ℕ} → Inl P T spot s g q → (l : Jumps) (own : ℕ) → Standing P spot.frame spot.live own → Few spot.live
+        → IsGoodStmt P l own s →
         Fit spot.frame spot.live spot.live g
     fit_one (as_nothing {s = spot} i) l own st fw good = point_fit spot.next
     fit_one (as_block {s = spot} {n = n'} {q = q'} d i) l own st fw good =
-        let fw' : Few n' = few q' _ i in seq_fit _ _ fw' (fit_all d l own st fw' good) (seq_fit _ _ fw' (point_fit q') (keep_fit q' spot.live (low_all d)))
+        let fw' : Few n' = few q' _ i in seq_fit _ _ fw' (fit_all d l own st fw' good) (seq_fit _ _ fw' (point_fit q') (keep_fit q' spot.live (grows_all d)))
     fit_one as_absent l own st fw good = empty_fit
     fit_one (as_assign {s = spot} {at = at} {x = x} i d) l own st fw good =
         seq_fit _ _ fw (point_fit spot.next) (fit_gives d at own st fw (standing_place P spot.frame spot.live own x.slot x.number_type st good.0) good.1)
@@ -280,9 +319,10 @@ module _ (P : Program) (T : List Site) (few : AllFew T) (well : IsWellFormed P) 
     fit_one (as_loop d) l own st fw good = fit_loop d l own st good
     fit_one (as_for {s = spot} {init = init} {n = n'} d e) l own st fw good =
         let fw' : Few n' = loop_few e in
-        let low : spot.live ≤ n' = low_all d in
-        seq_fit _ _ fw' (fit_all d false own st fw' good.0)
-        (seq_fit _ _ fw' (fit_loop e false (sites.live_behind own init) (behind_init spot.frame spot.live n' own init st low (own_low spot.frame.here.base own d st.within)) (good.1, good.2, good.3))
+        let low : spot.live ≤ n' = grows_all d in
+        seq_fit _ _ fw' (fit_all d no_jumps own st fw' good.0)
+        (seq_fit _ _ fw' (fit_loop e no_jumps (sites.live_behind own init)
+        (behind_init spot.frame spot.live n' own init st low (own_low spot.frame.here.base own d st.within)) (good.1, good.2, good.3))
         (keep_fit spot.next spot.live low))
     fit_one (as_break {s = spot} {m = m} i k j) l own st fw good = seq_fit _ _ fw (point_fit spot.next) (seq_fit _ _ (omega arith) (keep_fit spot.next m k) (break_fit fw i))
     fit_one (as_continue {s = spot} {m = m} i k j) l own st fw good = seq_fit _ _ fw (point_fit spot.next) (seq_fit _ _ (omega arith) (keep_fit spot.next m k) (continue_fit fw i))
@@ -301,17 +341,30 @@ module _ (P : Program) (T : List Site) (few : AllFew T) (well : IsWellFormed P) 
     fit_one (as_end_call {s = spot} {at = at} i j d) l own st fw good = seq_fit _ _ fw (point_fit spot.next) (seq_fit _ _ fw (fit_gives d at own st fw tt good) (end_fit fw i))
     fit_one (as_assert {s = spot} {c = c} i) l own st fw good = seq_fit _ _ fw (point_fit spot.next) (check_fit spot.next spot.frame.here.base c)
     fit_one (as_assume {s = spot} {c = c} i) l own st fw good = seq_fit _ _ fw (point_fit spot.next) (test_fit spot.next spot.frame.here.base c true)
+    fit_one (as_switch {s = spot} {e = e} {arms = arms} i d) l own st fw good =
+        seq_fit _ _ fw (point_fit spot.next)
+        (switch_fit spot.frame spot.live spot.next spot.frame.here.base e arms
+        (fit_cases d (in_switch l) own (in_switch_too P spot.frame spot.live own spot.live st) fw good.1))
 
-    fit_all : {spot : Spot} {s : BlockItems} {g : Node} {n q : ℕ} → InlAll P T spot s g n q → (l : Bool) (own : ℕ) → Standing P spot.frame spot.live own → Few n → AreGoodItems P l own s →
+    fit_cases : {spot : Spot} {cs : Cases} {arms : Arms} {q : ℕ} → InlCases P T spot cs arms q → (l : Jumps) (own : ℕ) → Standing P spot.frame spot.live own
+        → Few spot.live →
+        AreGoodCases P l own cs → FitArms spot.frame spot.live arms
+    fit_cases (as_no_cases {s = spot}) l own st fw good = no_arms_fit spot.frame spot.live
+    fit_cases (as_labelled {s = spot} {l = k} {arms = arms} d) l own st fw good = entry_fit spot.frame spot.live k arms (fit_cases d l own st fw good)
+    fit_cases (as_stated {s = spot} {g = g} {arms = arms} d e) l own st fw good =
+        arm_fit spot.frame spot.live g arms (fit_one d l own st fw good.0) (fit_cases e l own st fw good.1)
+
+    fit_all : {spot : Spot} {s : BlockItems} {g : Node} {n q : ℕ} → InlAll P T spot s g n q → (l : Jumps) (own : ℕ) → Standing P spot.frame spot.live own
+        → Few n → AreGoodItems P l own s →
         Fit spot.frame spot.live n g
     fit_all as_none l own st fw good = empty_fit
     fit_all (as_declaration {s = spot} {d = d} {n = n'} i j e) l own st fw good =
-        let low : suc spot.live ≤ n' = low_all e in
+        let low : suc spot.live ≤ n' = grows_all e in
         let more : Few (suc spot.live) = omega arith in
         let now : Few spot.live = omega arith in
         seq_fit _ _ more (seq_fit _ _ now (point_fit spot.next) (fit_declares j d.label own st more good.0)) (fit_all e l (suc own) (one_more P spot.frame spot.live own st) fw good.1)
     fit_all (as_statement {s = spot} {n = n'} d e) l own st fw good =
-        let low : spot.live ≤ n' = low_all e in
+        let low : spot.live ≤ n' = grows_all e in
         let now : Few spot.live = omega arith in
         seq_fit _ _ now (fit_one d l own st now good.0) (fit_all e l own st fw good.1)
 
@@ -324,12 +377,13 @@ module _ (P : Program) (T : List Site) (few : AllFew T) (well : IsWellFormed P) 
         seq_fit _ _ fw (append_fit spot.next t fw) (fit_gives d at (suc own) (one_more P spot.frame spot.live own st) fw
         (let last : spot.live < suc spot.live = omega arith in last) good)
 
-    fit_loop : {spot : Spot} {r : ℕ} {s : Stmt} {g : Node} {q : ℕ} → Loops P T spot r s g q → (l : Bool) (own : ℕ) → Standing P spot.frame spot.live own → IsGoodStmt P l own s →
+    fit_loop : {spot : Spot} {r : ℕ} {s : Stmt} {g : Node} {q : ℕ} → Loops P T spot r s g q → (l : Jumps) (own : ℕ) → Standing P spot.frame spot.live own
+        → IsGoodStmt P l own s →
         Fit spot.frame spot.live spot.live g
     fit_loop (is_loop {s = spot} {c = c} {g = g} {h = h} i d e) l own st good =
         let fw : Few spot.live = few spot.next _ i in
-        loop_fit spot.frame spot.live g h fw (fit_one e true own (other_loop P spot.frame spot.live own (Some spot.live) st) fw good.1)
-        (fit_one d false own (other_loop P spot.frame spot.live own None st) fw good.2) spot.next spot.frame.here.base c
+        loop_fit spot.frame spot.live g h fw (fit_one e in_loop_jumps own (other_loop P spot.frame spot.live own (Some spot.live) st) fw good.1)
+        (fit_one d no_jumps own (other_loop P spot.frame spot.live own None st) fw good.2) spot.next spot.frame.here.base c
 
     fit_gives : {spot : Spot} {r : ℕ} {x : Receiver} {e : Rvalue} {g : Node} {q : ℕ} → Gives P T spot r x e g q → (at own : ℕ) → Standing P spot.frame
         spot.live own → Few spot.live →
@@ -341,8 +395,8 @@ module _ (P : Program) (T : List Site) (few : AllFew T) (well : IsWellFormed P) 
         let y = behind_result fn.result_type x in
         let params = length fn.parameters in
         call_fit spot.frame spot.live r' y (arguments_for fn.parameters c.arguments) params g (callee spot.frame spot.live y c) n'
-        (given_width fn.parameters c.arguments j) refl refl (low_all d) fw' place
-        (fit_all d false params (in_callee spot.frame spot.live own params y (callee spot.frame spot.live y c) st place refl refl) fw'
+        (given_width fn.parameters c.arguments j) refl refl refl (grows_all d) fw' place
+        (fit_all d no_jumps params (in_callee spot.frame spot.live own params y (callee spot.frame spot.live y c) st place refl refl) fw'
         (all_at (IsGoodFunction P) P.functions c.function fn well.functions i)) spot.next
 
 contains_at : {A : Type 0} (P : A → Type 0) (xs : List A) (x : A) → AllByRecursion P xs → Contains xs x → P x
@@ -354,16 +408,16 @@ pub tree_fits : (P : Program) (g : Node) → IsWellFormed P → AllFew (sites_of
 tree_fits P g well few graph =
     let n = length P.globals in
     let fw : Few graph.live = few graph.last _ graph.ends in
-    let low : n ≤ graph.live = low_all graph.inlined in
+    let low : n ≤ graph.live = grows_all graph.inlined in
     let st : Standing P (main_frame P) n 0 = record { globals = omega arith; within = omega arith; target = λ b e. absurd (none-some b e) } in
-    let good : AreGoodItems P false 0 P.main.body = subst (λ (k : ℕ). AreGoodItems P false k P.main.body) (ap length well.alone)
+    let good : AreGoodItems P no_jumps 0 P.main.body = subst (λ (k : ℕ). AreGoodItems P no_jumps k P.main.body) (ap length well.alone)
     (contains_at (IsGoodFunction P) P.functions P.main well.functions well.main) in
-    let body : Fit (main_frame P) n graph.live graph.body = fit_all P (sites_of P) few well graph.inlined false 0 st fw good in
+    let body : Fit (main_frame P) n graph.live graph.body = fit_all P (sites_of P) few well graph.inlined no_jumps 0 st fw good in
     subst (λ (h : Node). TreeFits h n) (sym graph.parts) (seq_fit {f = main_frame P} graph.body (point graph.last) fw body (point_fit graph.last)).fits
 
 -- no more globals than variables may live
 pub few_globals : (P : Program) (g : Node) → AllFew (sites_of P) → IsGraph P g → length P.globals ≤ greatest_live
 few_globals P g few graph =
     let fw : Few graph.live = few graph.last _ graph.ends in
-    let low : length P.globals ≤ graph.live = low_all graph.inlined in
+    let low : length P.globals ≤ graph.live = grows_all graph.inlined in
     omega (arith, fw, low)

@@ -4,20 +4,21 @@ use Rattle.std.specs.Prelude.{⊤}
 use Rattle.std.proofs.lemmas.Option.{slice_get_within}
 use Rattle.lra_domain.specs.declared.Exactness.{Exactness}
 use Rattle.lra_domain.specs.declared.Exactness.TheVariants.{Exact, Flagged}
-use Rattle.lra_program.specs.Program.{Cond, Rvalue, Stmt, BlockItems, Program}
+use Rattle.lra_program.specs.Program.{Expr, Cond, Rvalue, Stmt, Cases, BlockItems, Program}
 use Rattle.lra_base.specs.declared.number_types.NumberType.{NumberType}
 use Rattle.lra_program.specs.declared.receivers.Receiver.{Receiver}
 use Rattle.lra_operations.specs.Graph.{Exit, broken, continued, returned, Node, empty, point, act, check, seq, choose, iterate, catch, leave}
+use Rattle.lra_operations.specs.Graph.{select, Arms, no_arms, entry, arm}
 use Rattle.lra_program.specs.Sites.{Site, sites_of}
 use Rattle.lra_operations.specs.Inlined.{Spot, move, HasSite, Inl, InlAll, Declares, Loops, Gives, as_nothing, as_block, as_absent, as_assign, as_call, as_if, as_loop, as_for, as_break, as_continue}
 use Rattle.lra_operations.specs.Inlined.{as_return, as_return_value, as_return_call, as_end, as_end_value, as_end_call, as_assert, as_assume, as_none, as_declaration, as_statement, as_fresh, as_given}
-use Rattle.lra_operations.specs.Inlined.{is_loop, as_value, as_result}
+use Rattle.lra_operations.specs.Inlined.{is_loop, as_value, as_result, InlCases, as_switch, as_no_cases, as_labelled, as_stated}
 use Rattle.lra_operations.specs.Agree.{IsGraph}
 use Rattle.lra_flow.specs.Plan.{Plan, Widening}
 use Rattle.lra_flow.specs.Operations.{Operations}
-use Rattle.lra_flow.specs.Pass.{Result, noted, jumps, behind, Through, GoesRound, Grows, Narrows, Pass}
+use Rattle.lra_flow.specs.Pass.{Result, noted, jumps, behind, Through, GoesRound, Grows, Narrows, Pass, ArmsPass}
 use Rattle.lra_flow.specs.Analysis.{Iteration}
-use Rattle.lra_iter.specs.Numbers.{AreBelow}
+use Rattle.lra_iter.specs.Numbers.{ArmsAreBelow, AreBelow}
 
 -- the first flagged point, where there is one, is below n
 abbrev pub IsBelow : ℕ → Option ℕ → Type 0
@@ -57,6 +58,12 @@ module _ (P : Program) (T : List Site) where
     below_one (as_end_call {s = spot} {at = at} i j d) = (tt, (below_gives d (site_below spot at _ j), tt))
     below_one (as_assert {s = spot} {at = at} i) = (tt, site_below spot at _ i)
     below_one (as_assume {s = spot} {at = at} i) = (tt, site_below spot at _ i)
+    below_one (as_switch {s = spot} {at = at} i d) = let l = site_below spot at _ i in (tt, (l, (l, below_cases d)))
+
+    below_cases : {spot : Spot} {cs : Cases} {arms : Arms} {q : ℕ} → InlCases P T spot cs arms q → ArmsAreBelow (length T) arms
+    below_cases as_no_cases = tt
+    below_cases (as_labelled d) = below_cases d
+    below_cases (as_stated d e) = (below_one d, below_cases e)
 
     below_all : {spot : Spot} {s : BlockItems} {g : Node} {n q : ℕ} → InlAll P T spot s g n q → Below g
     below_all as_none = tt
@@ -117,23 +124,35 @@ module _ (V H : Type 0) (ops : Operations V H) (n : ℕ) where
     narrows_below (suc more) first u s v r (next, t, e, joined, turn, rest) b =
         narrows_below more first next t v r rest (round_below (noted q e s.flag) next t turn (noted_below n q e s.flag l b))
 
-  pub pass_below : (set : Plan) (g : Node) (f : Option ℕ) (v : V) (r : Result V) → Pass V H ops set g f v r → AreBelow n g → IsBelow n f → IsBelow n r.flag
-  pass_below set empty f v r is a b = result_is r _ is b
-  pass_below set (point q) f v r is a b = result_is r _ is b
-  pass_below set (act q op) f v r (w, e, done, is) a b = result_is r _ is (noted_below n q e f a b)
-  pass_below set (check q base c) f v r (u, w, d, e, off, on, is) a b = result_is r _ is (noted_below n q e (noted q d f) a (noted_below n q d f a b))
-  pass_below set (seq x y) f v r (s, t, one, two, is) a b =
-      result_is r _ is (pass_below set y s.flag s.normal t two a.1 (pass_below set x f v s one a.0 b))
-  pass_below set (choose q base c x y) f v r (on, off, w, d, e, i, s, t, is_on, one, is_off, two, joined, is) a b =
-      result_is r _ is (noted_below n q i t.flag a.0 (pass_below set y (noted q e s.flag) off t two a.2
-      (noted_below n q e s.flag a.0 (pass_below set x (noted q d f) on s one a.1 (noted_below n q d f a.0 b)))))
-  pass_below set (iterate q base c x) f v r (h, later, u, top, out, s, t, e, started, grown, narrowed, off, is) a b =
-      let g = grows_below q base c (Pass V H ops set x) a.0 (λ f' v' r' p k. pass_below set x f' v' r' p a.1 k) set.widening set.delay f h later u s grown b in
-      let m = narrows_below q base c (Pass V H ops set x) a.0 (λ f' v' r' p k. pass_below set x f' v' r' p a.1 k) set.narrow v u s top t narrowed g in
-      result_is r _ is (noted_below n q e t.flag a.0 m)
-  pass_below set (catch q j x) f v r (w, e, s, one, joined, is) a b =
-      result_is r _ is (flag_is _ (noted q e s.flag) (behind_flag j s w (noted q e s.flag)) (noted_below n q e s.flag a.0 (pass_below set x f v s one a.1 b)))
-  pass_below set (leave m j) f v r (w, nothing, is) a b = result_is r _ is (flag_is _ f (jump_flag j v w f) b)
+  mutual
+    pub pass_below : (set : Plan) (g : Node) (f : Option ℕ) (v : V) (r : Result V) → Pass V H ops set g f v r → AreBelow n g → IsBelow n f → IsBelow n r.flag
+    pass_below set empty f v r is a b = result_is r _ is b
+    pass_below set (point q) f v r is a b = result_is r _ is b
+    pass_below set (act q op) f v r (w, e, done, is) a b = result_is r _ is (noted_below n q e f a b)
+    pass_below set (check q base c) f v r (u, w, d, e, off, on, is) a b = result_is r _ is (noted_below n q e (noted q d f) a (noted_below n q d f a b))
+    pass_below set (seq x y) f v r (s, t, one, two, is) a b =
+        result_is r _ is (pass_below set y s.flag s.normal t two a.1 (pass_below set x f v s one a.0 b))
+    pass_below set (choose q base c x y) f v r (on, off, w, d, e, i, s, t, is_on, one, is_off, two, joined, is) a b =
+        result_is r _ is (noted_below n q i t.flag a.0 (pass_below set y (noted q e s.flag) off t two a.2
+        (noted_below n q e s.flag a.0 (pass_below set x (noted q d f) on s one a.1 (noted_below n q d f a.0 b)))))
+    pass_below set (iterate q base c x) f v r (h, later, u, top, out, s, t, e, started, grown, narrowed, off, is) a b =
+        let g = grows_below q base c (Pass V H ops set x) a.0 (λ f' v' r' p k. pass_below set x f' v' r' p a.1 k) set.widening set.delay f h later u s grown b
+        in
+        let m = narrows_below q base c (Pass V H ops set x) a.0 (λ f' v' r' p k. pass_below set x f' v' r' p a.1 k) set.narrow v u s top t narrowed g in
+        result_is r _ is (noted_below n q e t.flag a.0 m)
+    pass_below set (catch q j x) f v r (w, e, s, one, joined, is) a b =
+        result_is r _ is (flag_is _ (noted q e s.flag) (behind_flag j s w (noted q e s.flag)) (noted_below n q e s.flag a.0 (pass_below set x f v s one a.1 b)))
+    pass_below set (leave m j) f v r (w, nothing, is) a b = result_is r _ is (flag_is _ f (jump_flag j v w f) b)
+    pass_below set (select q base e arms) f v r (other, x, none, pass) a b = arms_below set q base e _ v other arms (noted q x f) None r pass a.0 a.1
+        (noted_below n q x f a.0 b)
+
+    arms_below : (set : Plan) (q base : ℕ) (e : Expr) (d : Bool) (v other : V) (arms : Arms) (f : Option ℕ) (o : Option V) (r : Result V)
+        → ArmsPass V H ops set q base e d v other arms f o r → q < n → ArmsAreBelow n arms → IsBelow n f → IsBelow n r.flag
+    arms_below set q base e d v other no_arms f o r (w, x, out, is) l a b = result_is r _ is (noted_below n q x f l b)
+    arms_below set q base e d v other (entry k arms) f o r (u, w, x, y, enters, joins, rest) l a b =
+        arms_below set q base e d v other arms (noted q y (noted q x f)) (Some w) r rest l a (noted_below n q y (noted q x f) l (noted_below n q x f l b))
+    arms_below set q base e d v other (arm g arms) f o r (w, s, t, from, one, rest, is) l a b =
+        result_is r _ is (arms_below set q base e d v other arms s.flag (Some s.normal) t rest l a.1 (pass_below set g f w s one a.0 b))
 
   pub iteration_below : (set : Plan) (P : Program) (g : Node) (r : Result V) → 0 < n → AreBelow n g → Iteration ops set P g r → IsBelow n r.flag
   iteration_below set P g r low below (none, first, e, universal, values, pass) = pass_below set g (noted 0 e None) first r pass below (noted_below n 0 e None low tt)

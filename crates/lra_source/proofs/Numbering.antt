@@ -3,18 +3,18 @@ use Rattle.std.proofs.Common.{◌≡◌, ℕ, zero, suc, ◌+◌, ◌≤◌, ◌
 use Rattle.std.specs.Prelude.{slice_get, cond}
 use Rattle.std.proofs.lemmas.Bool.{cases_lt}
 use Rattle.std.proofs.lemmas.Option.{none-some, slice_get_within}
-use Rattle.lra_program.specs.Program.{Rvalue, Stmt, BlockItems, Program}
+use Rattle.lra_program.specs.Program.{Rvalue, Stmt, Cases, BlockItems, Program}
 use Rattle.lra_base.specs.declared.number_types.NumberType.{NumberType}
 use Rattle.lra_program.specs.declared.receivers.Receiver.{Receiver}
 use Rattle.lra_program.specs.Receivers.{behind_result}
-use Rattle.lra_operations.specs.Graph.{Node, seq, point}
+use Rattle.lra_operations.specs.Graph.{Node, Arms, seq, point}
 use Rattle.lra_program.specs.Sites.{Site, sites_of}
 use Rattle.lra_operations.specs.Inlined.{Spot, spot_of, move, callee, Has, HasSite, Inl, InlAll, Declares, Loops, Gives, as_nothing, as_block, as_absent, as_assign, as_call, as_if, as_loop, as_for}
-use Rattle.lra_operations.specs.Inlined.{as_break}
+use Rattle.lra_operations.specs.Inlined.{as_break, InlCases, as_switch, as_no_cases, as_labelled, as_stated}
 use Rattle.lra_operations.specs.Inlined.{as_continue, as_return, as_return_value, as_return_call, as_end, as_end_value, as_end_call, as_assert, as_assume, as_none, as_declaration, as_statement}
 use Rattle.lra_operations.specs.Inlined.{as_fresh, as_given, is_loop, as_value, as_result, main_spot}
 use Rattle.lra_operations.specs.Agree.{IsGraph}
-use Rattle.lra_iter.specs.Numbers.{one_if, values_in, checks_in, asserts_of, IsNumbered}
+use Rattle.lra_iter.specs.Numbers.{one_if, values_in, values_in_arms, checks_in, checks_in_arms, asserts_of, IsNumbered}
 use Rattle.lra_iter.proofs.Counting.{one_same, one_other}
 
 -- c is w for a number k from a on that is below b, and 0 for another
@@ -124,6 +124,15 @@ module _ (T : List Site) (k : ℕ) where
       in_one (as_end_call {s = spot} {at = at} {g = g} {q = q'} i j d) = point_then spot.next q' (values_in g k) (checks_in g k) _ _ (plain spot at j) (in_gives d) (omega arith) (omega arith)
       in_one (as_assert {s = spot} {at = at} i) = same (one_if spot.next k) (one_if spot.next k) _ _ spot.next (suc spot.next) (asserted spot at i) (omega arith) (omega arith)
       in_one (as_assume {s = spot} {at = at} i) = same (one_if spot.next k) 0 _ _ spot.next (suc spot.next) (plain spot at i) (omega arith) (omega arith)
+      in_one (as_switch {s = spot} {at = at} {arms = arms} {q = q'} i d) =
+          point_then spot.next q' (values_in_arms arms k) (checks_in_arms arms k) _ _ (plain spot at i) (in_cases d) refl (omega arith)
+
+      in_cases : {spot : Spot} {cs : Cases} {arms : Arms} {q : ℕ} → InlCases P T spot cs arms q
+          → Numbers (values_in_arms arms k) (checks_in_arms arms k) spot.next q
+      in_cases (as_no_cases {s = spot}) = none spot.next
+      in_cases (as_labelled d) = in_cases d
+      in_cases (as_stated {s = spot} {g = g} {arms = arms} {r = r} {q = q'} d e) =
+          then (values_in g k) (checks_in g k) (values_in_arms arms k) (checks_in_arms arms k) _ _ spot.next r q' (in_one d) (in_cases e) refl refl
 
       in_all : {spot : Spot} {s : BlockItems} {g : Node} {n q : ℕ} → InlAll P T spot s g n q → In g spot.next q
       in_all (as_none {s = spot}) = none spot.next

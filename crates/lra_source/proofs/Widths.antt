@@ -1,23 +1,22 @@
 -- A program's tree comes to each point with as many variables as live there.
 use Rattle.std.proofs.Common.{◌≡◌, ℕ, suc, ◌+◌, ◌-◌, ◌≤◌, List, length, Option, Bool, true, refl, sym, ap, ◌∙◌, subst, arith}
 use Rattle.std.proofs.lemmas.Option.{same_Some}
-use Rattle.lra_program.specs.Program.{Cond, Rvalue, Stmt, BlockItems, Program}
+use Rattle.lra_program.specs.Program.{Cond, Rvalue, Stmt, Cases, BlockItems, Program}
 use Rattle.lra_program.specs.Step as step
 use Rattle.lra_program.specs.Step.{Op, append, give, give_any, keep, test, arguments_for}
 use Rattle.lra_base.specs.declared.number_types.NumberType.{NumberType}
 use Rattle.lra_program.specs.declared.receivers.Receiver.{Receiver}
 use Rattle.lra_program.specs.Receivers.{behind_result}
 use Rattle.lra_program.proofs.GivenArguments.{given_width}
-use Rattle.lra_operations.specs.Graph.{Exit, broken, continued, returned, Node, point, act, seq, catch, leave}
+use Rattle.lra_operations.specs.Graph.{Exit, broken, continued, returned, Node, Arms, point, act, seq, catch, leave}
 use Rattle.lra_program.specs.Sites.{Site, sites_of}
 use Rattle.lra_operations.specs.Inlined.{Spot, spot_of, move, callee, HasSite, Inl, InlAll, Declares, Loops, Gives, as_nothing, as_block, as_absent, as_assign, as_call, as_if, as_loop, as_for}
-use Rattle.lra_operations.specs.Inlined.{as_break}
+use Rattle.lra_operations.specs.Inlined.{as_break, InlCases, as_switch, as_no_cases, as_labelled, as_stated}
 use Rattle.lra_operations.specs.Inlined.{as_continue, as_return, as_return_value, as_return_call, as_end, as_end_value, as_end_call, as_assert, as_assume, as_none, as_declaration, as_statement}
 use Rattle.lra_operations.specs.Inlined.{as_fresh, as_given, is_loop, as_value, as_result, loop_node, return_node, main_spot}
 use Rattle.lra_operations.specs.Agree.{IsGraph}
-use Rattle.lra_change.specs.Changes.{dims_behind}
-use Rattle.lra_iter.specs.Fits.{live_after}
-use Rattle.lra_iter.specs.Lives.{LiveAt, PointsHave}
+use Rattle.lra_flow.specs.Live.{dims_behind, live_after}
+use Rattle.lra_iter.specs.Lives.{ArmsHave, LiveAt, PointsHave}
 
 -- trees --------------------------------------------------------------------------------------------------------------
 
@@ -93,6 +92,13 @@ module _ (T : List Site) where
       lives_one (as_end_call {s = spot} {at = at} i j d) = then_lives _ _ (at_point spot.next (live_at T spot at _ j)) (then_lives _ _ (lives_gives d) (leaves spot.live returned))
       lives_one (as_assert {s = spot} {at = at} i) = then_lives _ _ (at_point spot.next (live_at T spot at _ i)) (record { points = tt; behind = refl })
       lives_one (as_assume {s = spot} {at = at} {c = c} i) = then_lives _ _ (at_point spot.next (live_at T spot at _ i)) (acts spot.next (test spot.frame.here.base c true) refl)
+      lives_one (as_switch {s = spot} {at = at} i d) = then_lives _ _ (at_point spot.next (live_at T spot at _ i))
+          (record { points = lives_cases d; behind = refl })
+
+      lives_cases : {spot : Spot} {cs : Cases} {arms : Arms} {q : ℕ} → InlCases P T spot cs arms q → ArmsHave T arms spot.live
+      lives_cases as_no_cases = tt
+      lives_cases (as_labelled d) = lives_cases d
+      lives_cases (as_stated {s = spot} {g = g} d e) = let x : Lives T spot.live spot.live g = lives_one d in (x.points, x.behind, lives_cases e)
 
       lives_all : {spot : Spot} {s : BlockItems} {g : Node} {n q : ℕ} → InlAll P T spot s g n q → Lives T spot.live n g
       lives_all as_none = record { points = tt; behind = refl }

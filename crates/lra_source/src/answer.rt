@@ -72,7 +72,8 @@ fn report_front<D: Show>(
     requires graph { HasGraph (tree_view front.now.tree) (node_view front.now.graph.tree)
         (map site_view front.now.graph.sites.items) }
     requires labels { front.now.resolution.labels.labels ≡ labels_of (tree_view front.now.tree) }
-    requires program { program_view front.now.resolution.program ≡ resolve (tree_view front.now.tree) }
+    requires program { program_view front.now.resolution.program ≡
+        resolve (tree_view front.now.tree) }
     ensures { IfOk result (λ r. IsToldOf D.meaning D.shown options front.now.constants.items
         (tree_view front.now.tree) (report_of r)) }
 {
@@ -131,7 +132,8 @@ fn analyse_parts<D: Show + Plain>(
     requires named { options.domain ≡ D.named }
     requires bound { length bytes.now + 1 < 2 ^ 32 }
     ensures answered { IfOk result (λ r. AloneOrSets options.parts
-        (λ V H m shown. IsAnsweredOver m shown options bytes.now (report_of r)) _ _ D.meaning D.shown) }
+        (λ V H m shown. IsAnsweredOver m shown options bytes.now (report_of r)) _ _ D.meaning
+        D.shown) }
     ensures refused { IfRefused result (λ r. Refuse Spells bytes.now r.cause r.place) }
 {
     if options.parts > 1 {
