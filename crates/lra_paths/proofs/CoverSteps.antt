@@ -8,7 +8,7 @@ use Rattle.lra_linear.proofs.Membership.{contains_none, contains_cases, filter_h
 use Rattle.lra_domain.specs.Actions.{Action}
 use Rattle.lra_domain.specs.Moves.{SomeLeads}
 use Rattle.lra_program.specs.Program.{Program}
-use Rattle.lra_program.specs.Step.{State, Op, Config}
+use Rattle.lra_program.specs.Step.{State, Config}
 use Rattle.lra_program.specs.Run.{start, begun, Point, IsOn, Reaches, At, Fails, IsFailing}
 use Rattle.lra_program.specs.Sites.{Site, sites_of}
 use Rattle.lra_program.specs.Trails.{Met, passes, Trail, Alone, Walks, Piece}
@@ -17,7 +17,7 @@ use Rattle.lra_operations.specs.Graph.{Node}
 use Rattle.lra_operations.specs.Trails.{to_point, to_failure, stopped}
 use Rattle.lra_operations.specs.Agree.{point_of}
 use Rattle.lra_operations.specs.TrailsAgree.{point_at, point_or_none, TreeGoes}
-use Rattle.lra_paths.specs.Ways.{Goal, comes_to, denies, Way, Segment, enter, inside}
+use Rattle.lra_paths.specs.Ways.{Step, Goal, comes_to, denies, Way, Segment, enter, inside}
 use Rattle.lra_paths.specs.Sides.{written}
 use Rattle.lra_paths.specs.Paths.{same_goal, live_of, live_at, from_start, first_ways, next_segments, leading}
 use Rattle.lra_paths.specs.Covers.{HasGone, along_first, along_next, PathsCover, AreKept, HoldInAllRuns}
@@ -42,13 +42,13 @@ goal_self : (goal : Goal) → same_goal goal goal ≡ true
 goal_self (comes_to q) = same_self q
 goal_self (denies q) = same_self q
 
-first_leads : (P : Program) (g : Node) (ops : List Op) (goal : Goal) (s t : List ℤ) → Contains (enter g) (record { ops = ops; goal = goal }) → SomeLeads
+first_leads : (P : Program) (g : Node) (ops : List Step) (goal : Goal) (s t : List ℤ) → Contains (enter g) (record { ops = ops; goal = goal }) → SomeLeads
     (from_start P ops) s t → SomeLeads (leading P g 0 goal) s t
 first_leads P g ops goal s t k led =
     one_leads (λ (way : Way). from_start P way.ops) (first_ways g goal) (record { ops = ops; goal = goal }) s t
     (filter_has (λ (way : Way). same_goal way.goal goal) (enter g) (record { ops = ops; goal = goal }) k (goal_self goal)) led
 
-next_leads : (P : Program) (g : Node) (p : ℕ) (ops : List Op) (goal : Goal) (s t : List ℤ) → Contains (inside g)
+next_leads : (P : Program) (g : Node) (p : ℕ) (ops : List Step) (goal : Goal) (s t : List ℤ) → Contains (inside g)
     (record { source = p; way = record { ops = ops; goal = goal } })
     → SomeLeads (written (live_at P p) ops) s t → SomeLeads (leading P g (suc p) goal) s t
 next_leads P g p ops goal s t k led =

@@ -11,10 +11,9 @@ use Rattle.lra_domain.specs.Actions.{Action}
 use Rattle.lra_domain.specs.Moves.{Moves, stay, first_then}
 use Rattle.lra_program.specs.declared.program.GlobalVariable.{GlobalVariable}
 use Rattle.lra_program.specs.Sites.{Site}
-use Rattle.lra_program.specs.Step.{Op}
 use Rattle.lra_operations.specs.Graph.{Node}
 use Rattle.lra_flow.specs.MovesOf.{first_values}
-use Rattle.lra_paths.specs.Ways.{Goal, each_then, enter, inside, Way, Segment}
+use Rattle.lra_paths.specs.Ways.{Step, Goal, each_then, enter, inside, Way, Segment}
 use Rattle.lra_paths.specs.Sides.{sides, written}
 use Rattle.lra_paths.specs.Paths.{live_of, same_goal, started, leading_in, greatest_paths, AreFewFrom, HasTooManyIn}
 use Rattle.lra_paths.specs.Stretches.{AreWays, entered, met, Stretch, stretch, End, leaves, meets}
@@ -49,9 +48,9 @@ picked_both : (a b : Bool) (x y : List (List Action)) → x ≡ y → cond a (co
 picked_both true b x y same = picked b x y same
 picked_both false b x y same = refl
 
-module _ (before : Moves) (live : ℕ) (goal : Goal) (writes : List Op → List (List Action))
-    (same : (ops : List Op) → each_then (sides before) (sides (way_moves live ops)) ≡ writes ops) where
-  from_start_at : (p : Option ℕ) (ops : List Op) (e : End) → departing before live None goal (stretch p ops e)
+module _ (before : Moves) (live : ℕ) (goal : Goal) (writes : List Step → List (List Action))
+    (same : (ops : List Step) → each_then (sides before) (sides (way_moves live ops)) ≡ writes ops) where
+  from_start_at : (p : Option ℕ) (ops : List Step) (e : End) → departing before live None goal (stretch p ops e)
       ≡ flat_map (λ way. cond (same_goal way.goal goal) (writes way.ops) []) (entered (stretch p ops e))
   from_start_at None ops (leaves h) = refl
   from_start_at None ops (meets g) = picked (same_goal g goal) (each_then (sides before) (sides (way_moves live ops))) (writes ops) (same ops)
@@ -67,7 +66,7 @@ module _ (before : Moves) (live : ℕ) (goal : Goal) (writes : List Op → List 
       ∙ sym (flat_flat (λ way. cond (same_goal way.goal goal) (writes way.ops) []) entered ss)
       ∙ sym (flat_filter (λ way. same_goal way.goal goal) (λ way. writes way.ops) (flat_map entered ss))
 
-  from_point_at : (q : ℕ) (p : Option ℕ) (ops : List Op) (e : End) → departing before live (Some q) goal (stretch p ops e) ≡ flat_map
+  from_point_at : (q : ℕ) (p : Option ℕ) (ops : List Step) (e : End) → departing before live (Some q) goal (stretch p ops e) ≡ flat_map
       (λ segment. cond (nat_eq segment.source q && same_goal segment.way.goal goal) (writes segment.way.ops) []) (met (stretch p ops e))
   from_point_at q None ops e = refl
   from_point_at q (Some p) ops (leaves h) = both_same (nat_eq p q) []
@@ -126,7 +125,7 @@ adds_none s paths is none = record {
 }
 
 -- one way more
-pub adds_one : (s t : Source) (fs : List Entry) (goal : declared.Goal) (before way place live : ℕ) (ops : List Op) → IsSource s
+pub adds_one : (s t : Source) (fs : List Entry) (goal : declared.Goal) (before way place live : ℕ) (ops : List Step) → IsSource s
     → before < length s.entries.items → Grows s.entries.items fs → Has fs way (way_moves live ops) → IsTable t.entries.items → Grows fs t.entries.items
     → Has t.entries.items place (first_then (moves_at fs before) (moves_at fs way)) → t.ways.items ≡ s.ways.items ++ record { goal = goal; place = place } ∷ []
     → Adds s t (λ g. ending (moves_at s.entries.items before) live g ops (meets (goal_view goal)))

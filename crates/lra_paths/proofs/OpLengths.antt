@@ -10,7 +10,7 @@ use Rattle.lra_program.specs.Value.{draw, value_of, Drawn}
 use Rattle.lra_program.specs.Step.{State, scene_at, Op, append, give, give_any, push, keep, run_op, drawn_for, put, receive, kept_if}
 use Rattle.lra_program.specs.Step as step
 use Rattle.lra_graph.proofs.Lengths.{length_append, length_push, length_test}
-use Rattle.lra_change.specs.Changes.{dims_behind}
+use Rattle.lra_flow.specs.Live.{dims_behind}
 
 -- where a step ends, it ends with as many variables
 abbrev AsLong : State → Option State → Type 0

@@ -8,17 +8,24 @@ use Rattle.std.proofs.lemmas.Bool.{cases_lt, eqb-true}
 use Rattle.std.proofs.lemmas.List.Elements.{All-nil, All-cons, All-head, All-tail, All-append, All-map, All-weaker}
 use Rattle.lra_base.specs.declared.number_types.NumberType.{NumberType}
 use Rattle.lra_program.specs.declared.receivers.Receiver.{Receiver}
-use Rattle.lra_program.specs.Program.{Cond, Rvalue, Stmt, BlockItems, Program}
+use Rattle.lra_program.specs.Program.{Expr, Cond, Rvalue, Stmt, Cases, BlockItems, Program}
 use Rattle.lra_program.specs.Step.{Op, test}
 use Rattle.lra_program.specs.Sites.{Site, sites_of}
-use Rattle.lra_operations.specs.Graph.{Exit, normal, Node, empty, point, act, check, seq, choose, iterate, catch, leave}
+use Rattle.lra_base.specs.declared.case_labels.CaseLabel.{CaseLabel}
+use Rattle.lra_operations.specs.Graph.{Exit, normal, Node, empty, point, act, check, seq, choose, iterate, catch, leave, select}
+use Rattle.lra_operations.specs.Graph.{Arms, no_arms, entry, arm}
+use Rattle.lra_operations.proofs.ArmRows.{arms_row}
 use Rattle.lra_operations.specs.Agree.{IsGraph}
-use Rattle.lra_operations.specs.Inlined.{Spot, Inl, InlAll, Declares, Loops, Gives, as_nothing, as_block, as_absent, as_assign, as_call, as_if, as_loop, as_for}
+use Rattle.lra_operations.specs.Inlined.{Spot, Inl, InlAll, InlCases, Declares, Loops, Gives}
+use Rattle.lra_operations.specs.Inlined.{as_nothing, as_block, as_absent, as_assign, as_call, as_if, as_loop, as_for}
 use Rattle.lra_operations.specs.Inlined.{as_break, as_continue, as_return, as_return_value, as_return_call, as_end, as_end_value, as_end_call, as_assert}
+use Rattle.lra_operations.specs.Inlined.{as_switch, as_no_cases, as_labelled, as_stated}
 use Rattle.lra_operations.specs.Inlined.{as_assume, as_none, as_declaration, as_statement, as_fresh, as_given, is_loop, as_value, as_result}
+use Rattle.lra_paths.specs.Ways.{Step, does, goes_in, led_way, enter_arms, enter_labels}
 use Rattle.lra_paths.specs.Ways.{Goal, comes_to, denies, Way, Segment, then_way, segment_by, tested_way, into_body, out_of_body, segment_to, through, enter}
 use Rattle.lra_paths.specs.Ways.{outs, inside}
 use Rattle.lra_paths.specs.Ways.{Suffix, then_ways, segments_by}
+use Rattle.lra_paths.proofs.LabelLaws.{enter_row, inside_row}
 use Rattle.lra_paths.specs.Sides.{written}
 use Rattle.lra_paths.specs.Paths.{same_goal, started, live_at, leading, path_by, paths_between, denials_of}
 
@@ -104,7 +111,7 @@ own_leave n k = record { first = All-nil EndsAtPoint; next = All-nil EndsAtOwn }
 own_check : (q base : ℕ) (c : Cond) → AreOwn (seq (point q) (check q base c))
 own_check q base c = record {
   first = All-cons EndsAtPoint (record { ops = []; goal = comes_to q }) [] tt (All-nil EndsAtPoint);
-  next = All-cons EndsAtOwn (record { source = q; way = record { ops = test base c false ∷ []; goal = denies q } }) [] refl (All-nil EndsAtOwn);
+  next = All-cons EndsAtOwn (record { source = q; way = record { ops = does (test base c false) ∷ []; goal = denies q } }) [] refl (All-nil EndsAtOwn);
 }
 
 own_seq : (a b : Node) → AreOwn a → AreOwn b → AreOwn (seq a b)
@@ -144,6 +151,27 @@ own_iterate q base c a x =
 own_catch : (q : ℕ) (k : Exit) (a : Node) → AreOwn a → AreOwn (catch q k a)
 own_catch q k a x = record { first = x.first; next = x.next }
 
+-- arms: of their trees in a row, and from their labels
+record ArmsOwn (arms : Arms) : Type 0 where
+  row : AreOwn (arms_row arms)
+  labels : (go : CaseLabel → Step) → All EndsAtPoint (enter_labels go arms)
+
+own_no_arms : ArmsOwn no_arms
+own_no_arms = record { row = own_empty; labels = λ go. All-nil EndsAtPoint }
+
+own_entry : (l : CaseLabel) (arms : Arms) → ArmsOwn arms → ArmsOwn (entry l arms)
+own_entry l arms x = record {
+  row = x.row;
+  labels = λ go. All-append EndsAtPoint (map (led_way (go l)) (enter_arms arms)) (enter_labels go arms)
+      (all_made EndsAtPoint EndsAtPoint (led_way (go l)) (λ way h. h) (enter_arms arms) (subst (All EndsAtPoint) (enter_row arms) x.row.first)) (x.labels go);
+}
+
+own_arm : (a : Node) (arms : Arms) → AreOwn a → ArmsOwn arms → ArmsOwn (arm a arms)
+own_arm a arms x y = record { row = own_seq a (arms_row arms) x y.row; labels = y.labels }
+
+own_select : (q base : ℕ) (e : Expr) (arms : Arms) → ArmsOwn arms → AreOwn (select q base e arms)
+own_select q base e arms x = record { first = x.labels (goes_in base e arms); next = subst (All EndsAtOwn) (inside_row arms) x.row.next }
+
 -- trees of programs -------------------------------------------------------------------------------------------------------
 
 mutual
@@ -166,6 +194,12 @@ mutual
   own_one (as_end_call i j d) = own_seq _ _ (own_point _) (own_seq _ _ (own_gives d) (own_leave _ _))
   own_one (as_assert i) = own_check _ _ _
   own_one (as_assume i) = own_seq _ _ (own_point _) (own_act _ _)
+  own_one (as_switch i d) = own_seq _ _ (own_point _) (own_catch _ _ _ (own_select _ _ _ _ (own_cases d)))
+
+  own_cases : {P : Program} {T : List Site} {spot : Spot} {cs : Cases} {arms : Arms} {q : ℕ} → InlCases P T spot cs arms q → ArmsOwn arms
+  own_cases as_no_cases = own_no_arms
+  own_cases (as_labelled d) = own_entry _ _ (own_cases d)
+  own_cases (as_stated d e) = own_arm _ _ (own_one d) (own_cases e)
 
   own_all : {P : Program} {T : List Site} {spot : Spot} {s : BlockItems} {g : Node} {n q : ℕ} → InlAll P T spot s g n q → AreOwn g
   own_all as_none = own_empty

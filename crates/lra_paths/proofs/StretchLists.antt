@@ -1,6 +1,8 @@
 -- Steps of loops over stretches: what is seen of the lists that they make.
-use Rattle.std.proofs.Common.{◌≡◌, ℕ, ◌+◌, ◌<◌, List, [], ◌∷◌, ◌++◌, map, filter, length, take, get_or, Bool, true, false, not, cond, refl, sym, ap, ◌∙◌}
+use Rattle.std.proofs.Common.{◌≡◌, ℕ, ◌+◌, ◌<◌, List, [], ◌∷◌, ◌++◌, map, filter, length, take, get_or, Bool, true, false, not, cond, refl, sym, ap, ◌∙◌, subst}
 use Rattle.std.proofs.Common.{append_assoc, append-nil}
+use Rattle.std.specs.Prelude as outcome
+use Rattle.std.specs.Prelude.{OnOk}
 use Rattle.std.proofs.lemmas.List.{map-append, take_more}
 use Rattle.std.proofs.lemmas.List.Elements.{filter-append}
 use Rattle.std.proofs.lemmas.Grind.{flat_map-append}
@@ -82,3 +84,24 @@ seen_append xs ys zs e = ap seen e ∙ map-append stretch_view xs ys
 
 pub seen_push : (xs ys : List D) (x : D) → ys ≡ xs ++ x ∷ [] → seen ys ≡ seen xs ++ stretch_view x ∷ []
 seen_push xs ys x e = ap seen e ∙ seen_more xs x
+
+-- those of a kind, each made into another, behind all
+module _ (k : Kind) (f : Stretch → Stretch) where
+  pub if_so : {T E : Type 0} (r : outcome.Result T E) (b : Bool) (v : Stretch) (old new : List Stretch) → b ≡ is_of k v → b ≡ true
+      → OnOk r (new ≡ old ++ f v ∷ []) → OnOk r (new ≡ old ++ map f (those k (v ∷ [])))
+  if_so r b v old new is so led = subst (λ c. OnOk r (new ≡ old ++ map f (cond c (v ∷ []) []))) (sym so ∙ is) led
+
+  pub if_not : (b : Bool) (v : Stretch) (old : List Stretch) → b ≡ is_of k v → b ≡ false → old ≡ old ++ map f (those k (v ∷ []))
+  if_not b v old is so = subst (λ c. old ≡ old ++ map f (cond c (v ∷ []) [])) (sym so ∙ is) (none_yet old)
+
+  pub one_picked : (before old new : List Stretch) (xs : List D) (i : ℕ) (x : D) → i < length xs → x ≡ get_or xs i x
+      → new ≡ old ++ map f (those k (stretch_view x ∷ [])) → old ≡ before ++ map f (those k (seen (take i xs)))
+      → new ≡ before ++ map f (those k (seen (take (i + 1) xs)))
+  one_picked before old new xs i x inside is en eo =
+      let front = those k (seen (take i xs)) in
+      let last = those k (stretch_view x ∷ []) in
+      let upto : those k (seen (take (i + 1) xs)) ≡ front ++ last =
+      ap (λ z. those k (seen z)) (take_more xs i x inside ∙ ap (λ z. take i xs ++ z ∷ []) (sym is))
+      ∙ ap (those k) (seen_more (take i xs) x) ∙ filter-append (λ s. is_of k s) (seen (take i xs)) (stretch_view x ∷ []) in
+      en ∙ ap (λ u. u ++ map f last) eo ∙ append_assoc before (map f front) (map f last)
+      ∙ ap (λ u. before ++ u) (sym (map-append f front last) ∙ ap (map f) (sym upto))

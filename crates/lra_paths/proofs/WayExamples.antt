@@ -1,5 +1,5 @@
 -- Ways of small trees, and what they are written out as. Which slip an example would catch stands beside it.
-use Rattle.std.proofs.Common.{◌≡◌, ℤ, pos, negsuc, [], ◌∷◌, true, false, refl}
+use Rattle.std.proofs.Common.{◌≡◌, ℤ, pos, negsuc, List, [], ◌∷◌, true, false, refl}
 use Rattle.lra_linear.specs.declared.ConKind.TheVariants.{Ge, Eq}
 use Rattle.lra_base.specs.declared.number_types.NumberType.TheVariants.{Long}
 use Rattle.lra_base.specs.Operators.{below, differs}
@@ -10,7 +10,10 @@ use Rattle.lra_operations.specs.Graph.{broken, continued, normal, Node, empty, p
 use Rattle.lra_domain.specs.Actions.{Action}
 use Rattle.lra_domain.specs.Actions as action
 use Rattle.lra_domain.specs.Moves.{make, first_then, join_of, cases}
-use Rattle.lra_paths.specs.Ways.{comes_to, denies, through, enter, outs, inside}
+use Rattle.lra_base.specs.declared.case_labels.CaseLabel.{CaseLabel}
+use Rattle.lra_base.specs.declared.case_labels.CaseLabel.TheVariants.{Case, Default}
+use Rattle.lra_operations.specs.Graph.{select, no_arms, entry, arm}
+use Rattle.lra_paths.specs.Ways.{Step, does, goes, comes_to, denies, through, enter, outs, inside}
 use Rattle.lra_paths.specs.Sides.{sides, written}
 
 abbrev x : Expr
@@ -32,7 +35,7 @@ two_points = seq (point 0) (seq (act 0 drop_all) (point 1))
 two_first : enter two_points ≡ record { ops = []; goal = comes_to 0 } ∷ []
 two_first = refl
 
-two_next : inside two_points ≡ record { source = 0; way = record { ops = drop_all ∷ []; goal = comes_to 1 } } ∷ []
+two_next : inside two_points ≡ record { source = 0; way = record { ops = does drop_all ∷ []; goal = comes_to 1 } } ∷ []
 two_next = refl
 
 -- a loop: into its body, back to its point, and out of it; catches a way past the loop's point
@@ -42,27 +45,27 @@ a_loop = iterate 0 0 is_so (seq (point 1) (act 1 drop_all))
 no_way_past : through a_loop normal ≡ []
 no_way_past = refl
 
-loop_next : inside a_loop ≡ record { source = 0; way = record { ops = test 0 is_so true ∷ []; goal = comes_to 1 } }
-    ∷ record { source = 1; way = record { ops = drop_all ∷ []; goal = comes_to 0 } } ∷ []
+loop_next : inside a_loop ≡ record { source = 0; way = record { ops = does (test 0 is_so true) ∷ []; goal = comes_to 1 } }
+    ∷ record { source = 1; way = record { ops = does drop_all ∷ []; goal = comes_to 0 } } ∷ []
 loop_next = refl
 
-loop_outs : outs a_loop normal ≡ record { source = 0; ops = test 0 is_so false ∷ [] } ∷ []
+loop_outs : outs a_loop normal ≡ record { source = 0; ops = does (test 0 is_so false) ∷ [] } ∷ []
 loop_outs = refl
 
 -- `continue` goes to the step, and with it to the loop's point: catches a step that is skipped
 abbrev with_step : Node
 with_step = iterate 0 0 is_so (seq (catch 0 continued (seq (point 1) (leave 1 continued))) (act 0 drop_more))
 
-step_next : inside with_step ≡ record { source = 0; way = record { ops = test 0 is_so true ∷ []; goal = comes_to 1 } }
-    ∷ record { source = 1; way = record { ops = drop_more ∷ []; goal = comes_to 0 } } ∷ []
+step_next : inside with_step ≡ record { source = 0; way = record { ops = does (test 0 is_so true) ∷ []; goal = comes_to 1 } }
+    ∷ record { source = 1; way = record { ops = does drop_more ∷ []; goal = comes_to 0 } } ∷ []
 step_next = refl
 
 -- `break` goes behind the loop, and on
 abbrev broken_off : Node
 broken_off = seq (catch 0 broken (iterate 0 0 is_so (seq (point 1) (leave 1 broken)))) (point 2)
 
-broken_next : inside broken_off ≡ record { source = 0; way = record { ops = test 0 is_so true ∷ []; goal = comes_to 1 } }
-    ∷ record { source = 0; way = record { ops = test 0 is_so false ∷ []; goal = comes_to 2 } }
+broken_next : inside broken_off ≡ record { source = 0; way = record { ops = does (test 0 is_so true) ∷ []; goal = comes_to 1 } }
+    ∷ record { source = 0; way = record { ops = does (test 0 is_so false) ∷ []; goal = comes_to 2 } }
     ∷ record { source = 1; way = record { ops = []; goal = comes_to 2 } } ∷ []
 broken_next = refl
 
@@ -70,13 +73,44 @@ broken_next = refl
 abbrev asserted : Node
 asserted = seq (point 0) (seq (check 0 0 is_so) (point 1))
 
-asserted_next : inside asserted ≡ record { source = 0; way = record { ops = test 0 is_so false ∷ []; goal = denies 0 } }
-    ∷ record { source = 0; way = record { ops = test 0 is_so true ∷ []; goal = comes_to 1 } } ∷ []
+asserted_next : inside asserted ≡ record { source = 0; way = record { ops = does (test 0 is_so false) ∷ []; goal = denies 0 } }
+    ∷ record { source = 0; way = record { ops = does (test 0 is_so true) ∷ []; goal = comes_to 1 } } ∷ []
 asserted_next = refl
 
 -- a branch without a point is passed at once, on its own side
-branch_through : through (choose 0 0 is_so empty (act 0 drop_all)) normal ≡ (test 0 is_so true ∷ []) ∷ (test 0 is_so false ∷ drop_all ∷ []) ∷ []
+branch_through : through (choose 0 0 is_so empty (act 0 drop_all)) normal
+    ≡ (does (test 0 is_so true) ∷ []) ∷ (does (test 0 is_so false) ∷ does drop_all ∷ []) ∷ []
 branch_through = refl
+
+-- switch(x){ case 1: case 2: x=0; default: ; } : two labels lead to the first statement, behind which the last one stands
+abbrev its_labels : List CaseLabel
+its_labels = Case (pos 1) ∷ Case (pos 2) ∷ Default ∷ []
+
+abbrev a_switch : Node
+a_switch = seq (point 1) (catch 1 broken (select 1 0 x
+    (entry (Case (pos 1)) (entry (Case (pos 2)) (arm (seq (point 2) (act 2 drop_all)) (entry Default (arm (point 3) no_arms)))))))
+
+abbrev to_label : CaseLabel → Step
+to_label l = goes 0 x its_labels l
+
+-- catches a way from a label past the statement behind it, one for all labels of it, and a fall through that is lost
+switch_next : inside a_switch ≡ record { source = 1; way = record { ops = to_label (Case (pos 1)) ∷ []; goal = comes_to 2 } }
+    ∷ record { source = 1; way = record { ops = to_label (Case (pos 2)) ∷ []; goal = comes_to 2 } }
+    ∷ record { source = 1; way = record { ops = to_label Default ∷ []; goal = comes_to 3 } }
+    ∷ record { source = 2; way = record { ops = does drop_all ∷ []; goal = comes_to 3 } } ∷ []
+switch_next = refl
+
+-- past all labels there is a way only where none of them is `default`
+past_default : through (select 1 0 x (entry Default (arm (point 3) no_arms))) normal ≡ []
+past_default = refl
+
+past_labels : through (select 1 0 x (entry (Case (pos 1)) (arm (point 2) no_arms))) normal ≡ (goes 0 x (Case (pos 1) ∷ []) Default ∷ []) ∷ []
+past_labels = refl
+
+-- behind the last label nothing stands: its way goes past the whole, before that of no label
+last_label : through (select 1 0 x (entry (Case (pos 1)) no_arms)) normal
+    ≡ (goes 0 x (Case (pos 1) ∷ []) (Case (pos 1)) ∷ []) ∷ (goes 0 x (Case (pos 1) ∷ []) Default ∷ []) ∷ []
+last_label = refl
 
 -- sides ------------------------------------------------------------------------------------------------------------------
 
@@ -107,14 +141,26 @@ abbrev at_least_0 : ℤ → ℤ → Action
 at_least_0 k z = action.test Ge (record { constant = k; coefficients = z ∷ [] })
 
 -- x != 2: below first, and both sides are there
-two_sides : written 1 (test 0 (compare differs x (literal Long 2)) true ∷ []) ≡ (at_least_0 (pos 1) (negsuc 0) ∷ []) ∷ (at_least_0 (negsuc 2) (pos 1) ∷ []) ∷ []
+two_sides : written 1 (does (test 0 (compare differs x (literal Long 2)) true) ∷ [])
+    ≡ (at_least_0 (pos 1) (negsuc 0) ∷ []) ∷ (at_least_0 (negsuc 2) (pos 1) ∷ []) ∷ []
 two_sides = refl
 
 -- where it isn't so, it is equal
-one_side : written 1 (test 0 (compare differs x (literal Long 2)) false ∷ []) ≡
+one_side : written 1 (does (test 0 (compare differs x (literal Long 2)) false) ∷ []) ≡
     (action.test Eq (record { constant = negsuc 1; coefficients = pos 1 ∷ [] }) ∷ []) ∷ []
 one_side = refl
 
 -- what isn't linear tests nothing
-no_test : written 1 (test 0 (compare below x input) true ∷ []) ≡ [] ∷ []
+no_test : written 1 (does (test 0 (compare below x input) true) ∷ []) ≡ [] ∷ []
 no_test = refl
+
+-- x is the label's value: catches the `!=` of labels that stand before it
+label_side : written 1 (to_label (Case (pos 2)) ∷ []) ≡ (action.test Eq (record { constant = negsuc 1; coefficients = pos 1 ∷ [] }) ∷ []) ∷ []
+label_side = refl
+
+-- x is neither 1 nor 2, the sides of the last label being the outer ones; the second side, x > 1 and x < 2, and the third, x < 1
+-- and x > 2, have no point: catches the other order, and labels that are left out
+no_label : written 1 (to_label Default ∷ []) ≡ (at_least_0 (pos 0) (negsuc 0) ∷ at_least_0 (pos 1) (negsuc 0) ∷ [])
+    ∷ (at_least_0 (negsuc 1) (pos 1) ∷ at_least_0 (pos 1) (negsuc 0) ∷ []) ∷ (at_least_0 (pos 0) (negsuc 0) ∷ at_least_0 (negsuc 2) (pos 1) ∷ [])
+    ∷ (at_least_0 (negsuc 1) (pos 1) ∷ at_least_0 (negsuc 2) (pos 1) ∷ []) ∷ []
+no_label = refl

@@ -3,14 +3,12 @@ use Rattle.std.proofs.Common.{◌≡◌, ℕ, List, [], ◌∷◌, ◌++◌, ◌
 use Rattle.std.proofs.lemmas.List.{map_more, take_all}
 use Rattle.lra_domain.specs.Actions.{Action}
 use Rattle.lra_domain.specs.Moves.{Moves, stay, first_then}
-use Rattle.lra_flow.specs.MovesOf.{moves_of}
 use Rattle.lra_flow.specs.declared.seen.Seen.{Seen}
 use Rattle.lra_flow.specs.Seen.{SeenFits, seen_of}
 use Rattle.lra_flow.proofs.DivisionLemmas.{seen_fits}
 use Rattle.lra_program.specs.Program.{Expr}
-use Rattle.lra_change.specs.Changes.{dims_behind}
-use Rattle.lra_program.specs.Step.{Op}
-use Rattle.lra_paths.specs.Ways.{each_then}
+use Rattle.lra_paths.specs.StepMoves.{dims_behind_step, step_moves}
+use Rattle.lra_paths.specs.Ways.{Step, each_then}
 use Rattle.lra_paths.specs.Sides.{sides, written}
 use Rattle.lra_paths.specs.StretchViews.{move_view}
 use Rattle.lra_paths.specs.Tables.{Grows, Has, moves_at}
@@ -25,22 +23,22 @@ nil_then : (ys : List (List Action)) → each_then ([] ∷ []) ys ≡ ys
 nil_then [] = refl
 nil_then (y ∷ ys) = ap (λ w. y ∷ w) (nil_then ys)
 
-on_sides : (p : Moves) (live : ℕ) (ops : List Op) → sides (way_on p live ops) ≡ each_then (sides p) (written live ops)
+on_sides : (p : Moves) (live : ℕ) (ops : List Step) → sides (way_on p live ops) ≡ each_then (sides p) (written live ops)
 on_sides p live [] = sym (each_then_nil (sides p))
-on_sides p live (op ∷ ops) = on_sides (first_then p (moves_of live op)) (dims_behind op live) ops
-    ∙ sym (each_then_assoc (sides p) (sides (moves_of live op)) (written (dims_behind op live) ops))
+on_sides p live (step ∷ ops) = on_sides (first_then p (step_moves live step)) (dims_behind_step step live) ops
+    ∙ sym (each_then_assoc (sides p) (sides (step_moves live step)) (written (dims_behind_step step live) ops))
 
-pub way_sides : (live : ℕ) (ops : List Op) → sides (way_moves live ops) ≡ written live ops
+pub way_sides : (live : ℕ) (ops : List Step) → sides (way_moves live ops) ≡ written live ops
 way_sides live ops = on_sides stay live ops ∙ nil_then (written live ops)
 
-pub on_more : (p : Moves) (live : ℕ) (ops : List Op) (op : Op) → way_on p live (ops ++ op ∷ [])
-    ≡ first_then (way_on p live ops) (moves_of (live_behind live ops) op)
-on_more p live [] op = refl
-on_more p live (o ∷ ops) op = on_more (first_then p (moves_of live o)) (dims_behind o live) ops op
+pub on_more : (p : Moves) (live : ℕ) (ops : List Step) (step : Step) → way_on p live (ops ++ step ∷ [])
+    ≡ first_then (way_on p live ops) (step_moves (live_behind live ops) step)
+on_more p live [] step = refl
+on_more p live (o ∷ ops) step = on_more (first_then p (step_moves live o)) (dims_behind_step o live) ops step
 
-pub behind_more : (live : ℕ) (ops : List Op) (op : Op) → live_behind live (ops ++ op ∷ []) ≡ dims_behind op (live_behind live ops)
-behind_more live [] op = refl
-behind_more live (o ∷ ops) op = behind_more (dims_behind o live) ops op
+pub behind_more : (live : ℕ) (ops : List Step) (step : Step) → live_behind live (ops ++ step ∷ []) ≡ dims_behind_step step (live_behind live ops)
+behind_more live [] step = refl
+behind_more live (o ∷ ops) step = behind_more (dims_behind_step o live) ops step
 
 -- what is seen of an expression fits
 pub seen_so : (live base : ℕ) (e : Expr) (s : Seen) → s ≡ seen_of live base e → SeenFits s live
@@ -51,19 +49,19 @@ module _ (live : ℕ) (xs : List Move) (i : ℕ) (x : Move) (less : i < length x
   taken : map move_view (take (i + 1) xs) ≡ map move_view (take i xs) ++ move_view x ∷ []
   taken = map_more move_view xs i x less ∙ ap (λ (d : Move). map move_view (take i xs) ++ move_view d ∷ []) (sym is)
 
-  pub alive_on : (n m : ℕ) → n ≡ live_behind live (map move_view (take i xs)) → m ≡ dims_behind (move_view x) n
+  pub alive_on : (n m : ℕ) → n ≡ live_behind live (map move_view (take i xs)) → m ≡ dims_behind_step (move_view x) n
       → m ≡ live_behind live (map move_view (take (i + 1) xs))
   alive_on n m so_far next =
-      next ∙ ap (dims_behind (move_view x)) so_far ∙ sym (behind_more live (map move_view (take i xs)) (move_view x)) ∙ ap (live_behind live) (sym taken)
+      next ∙ ap (dims_behind_step (move_view x)) so_far ∙ sym (behind_more live (map move_view (take i xs)) (move_view x)) ∙ ap (live_behind live) (sym taken)
 
   pub way_more : (es fs gs : List Entry) (place next new n : ℕ) → n ≡ live_behind live (map move_view (take i xs))
       → Has es place (way_moves live (map move_view (take i xs))) → Grows es fs
-      → Has fs next (moves_of n (move_view x)) → Has gs new (first_then (moves_at fs place) (moves_at fs next))
+      → Has fs next (step_moves n (move_view x)) → Has gs new (first_then (moves_at fs place) (moves_at fs next))
       → Has gs new (way_moves live (map move_view (take (i + 1) xs)))
   way_more es fs gs place next new n same has grows more led =
-      let there = subst (λ k. Has fs next (moves_of k (move_view x))) same more in
+      let there = subst (λ k. Has fs next (step_moves k (move_view x))) same more in
       let both = then_has fs gs new place next (way_moves live (map move_view (take i xs)))
-      (moves_of (live_behind live (map move_view (take i xs))) (move_view x)) (grows place (way_moves live (map move_view (take i xs))) has) there led in
+      (step_moves (live_behind live (map move_view (take i xs))) (move_view x)) (grows place (way_moves live (map move_view (take i xs))) has) there led in
       subst (λ p. Has gs new p) (sym (ap (way_moves live) taken ∙ on_more stay live (map move_view (take i xs)) (move_view x))) both
 
 pub way_whole : (es : List Entry) (place live : ℕ) (xs : List Move) (i : ℕ) → length xs ≤ i → Has es place (way_moves live (map move_view (take i xs)))

@@ -3,27 +3,27 @@ use Rattle.std.specs.Prelude.{◌≡◌, ℕ, suc, ℤ, List, [], ◌∷◌, Boo
 use Rattle.lra_domain.specs.Moves.{SomeLeads}
 use Rattle.lra_program.specs.Program.{Program}
 use Rattle.lra_program.specs.WellFormed.{IsWellFormed}
-use Rattle.lra_program.specs.Step.{State, Op, Config}
+use Rattle.lra_program.specs.Step.{State, Config}
 use Rattle.lra_program.specs.Run.{start, Point, IsOn, Reaches, At, Fails, IsFailing}
 use Rattle.lra_program.specs.Sites.{Site, sites_of}
 use Rattle.lra_program.specs.Trails.{Met, passes, Trail, Alone, Walks, Piece}
 use Rattle.lra_operations.specs.Graph.{normal, jump, Node}
 use Rattle.lra_operations.specs.Trails.{by_jump, to_point, to_failure, Outcome, to_end, stopped, Goes}
 use Rattle.lra_operations.specs.Agree.{IsGraph, point_of}
-use Rattle.lra_paths.specs.Ways.{Goal, comes_to, denies, through, enter, outs, inside, RunsOps}
+use Rattle.lra_paths.specs.Ways.{Step, Goal, comes_to, denies, through, enter, outs, inside, RunsOps}
 use Rattle.lra_paths.specs.Paths.{live_at, leading}
 
 -- trees ------------------------------------------------------------------------------------------------------------
 
 -- the operations are those of a way from the tree's start so far, past no point
-abbrev pub IsFirst : Node → Outcome → List Op → Type 0
+abbrev pub IsFirst : Node → Outcome → List Step → Type 0
 IsFirst g to_end ops = Contains (through g normal) ops
 IsFirst g (stopped (by_jump j)) ops = Contains (through g (jump j)) ops
 IsFirst g (stopped (to_point q)) ops = Contains (enter g) (record { ops = ops; goal = comes_to q })
 IsFirst g (stopped (to_failure q)) ops = Contains (enter g) (record { ops = ops; goal = denies q })
 
 -- those of a way from the point in it so far, past no further point
-abbrev pub IsNext : ℕ → Node → Outcome → List Op → Type 0
+abbrev pub IsNext : ℕ → Node → Outcome → List Step → Type 0
 IsNext p g to_end ops = Contains (outs g normal) (record { source = p; ops = ops })
 IsNext p g (stopped (by_jump j)) ops = Contains (outs g (jump j)) (record { source = p; ops = ops })
 IsNext p g (stopped (to_point q)) ops =
@@ -32,7 +32,7 @@ IsNext p g (stopped (to_failure q)) ops =
     Contains (inside g) (record { source = p; way = record { ops = ops; goal = denies q } })
 
 -- the operations lead from the one state to the other; an assertion that is false leaves the store as it was
-abbrev pub LeadsSo : Outcome → List Op → State → State → Type 0
+abbrev pub LeadsSo : Outcome → List Step → State → State → Type 0
 LeadsSo to_end ops s t = RunsOps ops s t
 LeadsSo (stopped (by_jump j)) ops s t = RunsOps ops s t
 LeadsSo (stopped (to_point q)) ops s t = RunsOps ops s t
@@ -41,9 +41,9 @@ LeadsSo (stopped (to_failure q)) ops s t = (u : State) × RunsOps ops s u × (u.
 -- the run has met no point, and has gone along a way from the tree's start; or along one from the point that it met
 -- last, to which the tree comes on what was met before
 pub data HasGone {A : Type 0} (name : ℕ → A) (g : Node) (a : Trail A) (u : Outcome) (b : Trail A) : Type 0 where
-  along_first : (ops : List Op) → b.met ≡ a.met → IsFirst g u ops → LeadsSo u ops a.state b.state →
+  along_first : (ops : List Step) → b.met ≡ a.met → IsFirst g u ops → LeadsSo u ops a.state b.state →
       HasGone name g a u b
-  along_next : (p : ℕ) (m : State) (before : List (Met A)) (ops : List Op) → b.met ≡ passes (name p) m ∷ before →
+  along_next : (p : ℕ) (m : State) (before : List (Met A)) (ops : List Step) → b.met ≡ passes (name p) m ∷ before →
       Goes name Alone g a (stopped (to_point p)) (record { state = m; met = before }) →
       IsNext p g u ops → LeadsSo u ops m b.state → HasGone name g a u b
 

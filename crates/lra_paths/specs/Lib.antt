@@ -3,6 +3,7 @@ pub mod Ways
 pub mod Stretches
 pub mod StretchViews
 pub mod Tasks
+pub mod StepMoves
 pub mod Sides
 pub mod Paths
 pub mod FewPaths
@@ -12,4 +13,5 @@ pub mod Tables
 pub mod TableSides
 pub mod Conditions
 pub mod WayMoves
+pub mod Labels
 pub mod Sources

@@ -6,11 +6,10 @@ use Rattle.std.specs.List.{flat_map, filter, range_with_len}
 use Rattle.lra_domain.specs.Actions.{Action}
 use Rattle.lra_program.specs.Program.{Program}
 use Rattle.lra_program.specs.declared.program.GlobalVariable.{GlobalVariable}
-use Rattle.lra_program.specs.Step.{Op}
 use Rattle.lra_program.specs.Sites.{Site, sites_of}
 use Rattle.lra_operations.specs.Graph.{Node}
 use Rattle.lra_flow.specs.MovesOf.{first_values}
-use Rattle.lra_paths.specs.Ways.{Goal, comes_to, denies, Way, Segment, each_then, enter, inside}
+use Rattle.lra_paths.specs.Ways.{Step, Goal, comes_to, denies, Way, Segment, each_then, enter, inside}
 use Rattle.lra_paths.specs.Sides.{sides, written}
 
 abbrev pub same_goal : Goal → Goal → Bool
@@ -28,10 +27,10 @@ abbrev pub live_at : Program → ℕ → ℕ
 live_at P q = live_of (slice_get (sites_of P) q)
 
 -- from the start: the globals come to their first values, and then what is done on the way
-abbrev pub started : List GlobalVariable → List Op → List (List Action)
+abbrev pub started : List GlobalVariable → List Step → List (List Action)
 started globals ops = each_then (sides (first_values 0 globals)) (written (length globals) ops)
 
-abbrev pub from_start : Program → List Op → List (List Action)
+abbrev pub from_start : Program → List Step → List (List Action)
 from_start P ops = started P.globals ops
 
 -- the ways from the source to the goal

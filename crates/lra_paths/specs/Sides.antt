@@ -5,12 +5,11 @@ use Rattle.lra_domain.specs.Actions.{Action}
 use Rattle.lra_domain.specs.Moves.{Moves, stay, make, first_then, join_of, MayLead, SomeLeads, cases}
 use Rattle.lra_domain.specs.declared.Exactness.{Exactness}
 use Rattle.lra_domain.specs.declared.Exactness.TheVariants.{Exact}
-use Rattle.lra_program.specs.Step.{State, Op}
+use Rattle.lra_program.specs.Step.{State}
 use Rattle.lra_flow.specs.Moves.{AreMade}
-use Rattle.lra_flow.specs.MovesOf.{moves_of}
 use Rattle.lra_flow.specs.Operations.{Operations}
-use Rattle.lra_change.specs.Changes.{dims_behind}
-use Rattle.lra_paths.specs.Ways.{each_then, RunsOps}
+use Rattle.lra_paths.specs.Ways.{Step, each_then, RunsOps}
+use Rattle.lra_paths.specs.StepMoves.{step_moves, dims_behind_step}
 
 -- of one behind the other the sides of the later are the outer ones; a join's stand one behind the other
 abbrev pub sides : Moves → List (List Action)
@@ -20,9 +19,9 @@ sides (first_then a b) = each_then (sides a) (sides b)
 sides (join_of a b) = sides a ++ sides b
 
 -- the operations of a way, where so many variables live at its beginning
-abbrev pub written : ℕ → List Op → List (List Action)
+abbrev pub written : ℕ → List Step → List (List Action)
 written live [] = [] ∷ []
-written live (op ∷ ops) = each_then (sides (moves_of live op)) (written (dims_behind op live) ops)
+written live (step ∷ ops) = each_then (sides (step_moves live step)) (written (dims_behind_step step live) ops)
 
 -- the operations of an iteration whose values are lists of paths: an action is done at the end of each path, and a join
 -- has the paths of the one and then those of the other; there are no heads of loops
@@ -55,5 +54,5 @@ SidesLead = (p : Moves) (s t : List ℤ) → MayLead p s t ↔ SomeLeads (sides 
 -- operations lead a state to another one only where one of their lists of actions may lead the one's store to the
 -- other's
 abbrev pub WrittenLead : Type 0
-WrittenLead = (ops : List Op) (s t : State) → RunsOps ops s t →
+WrittenLead = (ops : List Step) (s t : State) → RunsOps ops s t →
     SomeLeads (written (length s.store) ops) s.store t.store

@@ -6,9 +6,8 @@ use Rattle.lra_domain.specs.Actions.{Action}
 use Rattle.lra_domain.specs.Moves.{Moves, stay, first_then}
 use Rattle.lra_program.specs.declared.program.GlobalVariable.{GlobalVariable}
 use Rattle.lra_program.specs.Sites.{Site}
-use Rattle.lra_program.specs.Step.{Op}
 use Rattle.lra_flow.specs.MovesOf.{first_values}
-use Rattle.lra_paths.specs.Ways.{Goal}
+use Rattle.lra_paths.specs.Ways.{Step, Goal}
 use Rattle.lra_paths.specs.Sides.{sides}
 use Rattle.lra_paths.specs.Paths.{greatest_paths, live_of, same_goal}
 use Rattle.lra_paths.specs.Stretches.{End, leaves, meets, Stretch}
@@ -49,7 +48,7 @@ same_point (Some p) None = false
 same_point (Some p) (Some q) = nat_eq p q
 
 -- what is done first, and then these operations, where a goal is met that is this one
-abbrev pub ending : Moves → ℕ → Goal → List Op → End → List (List Action)
+abbrev pub ending : Moves → ℕ → Goal → List Step → End → List (List Action)
 ending before live goal ops (leaves h) = []
 ending before live goal ops (meets g) = cond (same_goal g goal) (sides (first_then before (way_moves live ops))) []
 

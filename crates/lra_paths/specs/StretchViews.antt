@@ -1,9 +1,10 @@
 -- The stretches, their moves and ends, that values of the code's types stand for.
 use Rattle.std.specs.Prelude.{List, map}
-use Rattle.lra_program.specs.ProgramViews.{cond_view}
+use Rattle.lra_base.specs.declared.case_labels.CaseLabel.{CaseLabel}
+use Rattle.lra_program.specs.ProgramViews.{cond_view, expr_view}
 use Rattle.lra_program.specs.Step as step
 use Rattle.lra_operations.specs.Graph as graph
-use Rattle.lra_operations.specs.GraphViews.{exit_view, op_view}
+use Rattle.lra_operations.specs.GraphViews.{arm_view, arms_of, exit_view, op_view}
 use Rattle.lra_paths.specs.Ways as ways
 use Rattle.lra_paths.specs.Stretches as stretches
 use Rattle.lra_paths.specs.declared.stretches.End.{End}
@@ -16,11 +17,20 @@ use Rattle.lra_paths.specs.declared.stretches.Kind.{Kind}
 use Rattle.lra_paths.specs.declared.stretches.Kind.TheVariants as kind
 use Rattle.lra_paths.specs.declared.stretches.Move.{Move}
 use Rattle.lra_paths.specs.declared.stretches.Move.TheVariants as move
+use Rattle.lra_paths.specs.declared.stretches.Selection.{Selection}
 use Rattle.lra_paths.specs.declared.stretches.Stretch.{Stretch}
 
-abbrev pub move_view : Move → step.Op
-move_view (move.Change op) = op_view op.now
-move_view (move.Test base c wanted) = step.test base (cond_view c.now) wanted
+-- the arms of a `switch`, and the value that goes to this one of its labels
+abbrev pub arms_seen : Selection → graph.Arms
+arms_seen s = arms_of (map arm_view s.arms.now)
+
+abbrev pub selection_view : Selection → CaseLabel → ways.Step
+selection_view s l = ways.goes_in s.base (expr_view s.value.now) (arms_seen s) l
+
+abbrev pub move_view : Move → ways.Step
+move_view (move.Change op) = ways.does (op_view op.now)
+move_view (move.Test base c wanted) = ways.does (step.test base (cond_view c.now) wanted)
+move_view (move.Select s l) = selection_view s l
 
 abbrev pub goal_view : Goal → ways.Goal
 goal_view (goal.ComesTo q) = ways.comes_to q

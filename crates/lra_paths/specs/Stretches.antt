@@ -2,12 +2,17 @@
 -- it is left or a goal is met.
 use Rattle.std.specs.Prelude.{◌≡◌, ℕ, List, [], ◌∷◌, ◌++◌, map, Bool, true, false, not, if◌then◌else◌}
 use Rattle.std.specs.Prelude.{Option, None, Some}
-use Rattle.std.specs.List.{flat_map, filter}
+use Rattle.std.specs.List.{flat_map, filter, list_any}
+use Rattle.lra_base.specs.declared.case_labels.CaseLabel.{CaseLabel}
+use Rattle.lra_base.specs.declared.case_labels.CaseLabel.TheVariants.{Default}
+use Rattle.lra_base.specs.CaseLabels.{are_alike}
 use Rattle.lra_program.specs.Program.{Cond}
-use Rattle.lra_program.specs.Step.{Op, test}
+use Rattle.lra_program.specs.Step.{test}
 use Rattle.lra_operations.specs.Graph.{Exit, How, normal, jump, Node, empty, point, act}
-use Rattle.lra_operations.specs.Graph.{check, seq, choose, iterate, catch, leave}
-use Rattle.lra_paths.specs.Ways.{Goal, comes_to, denies, Way, Segment, Suffix, same_exit, through, enter, outs, inside}
+use Rattle.lra_operations.specs.Graph.{check, seq, choose, iterate, catch, leave, select}
+use Rattle.lra_operations.specs.Graph.{Arms, no_arms, entry, arm, entries_of}
+use Rattle.lra_paths.specs.Ways.{Step, does, Goal, comes_to, denies, Way, Segment, Suffix, same_exit, goes_in}
+use Rattle.lra_paths.specs.Ways.{through, enter, outs, inside}
 
 -- where a stretch ends: the tree is left so, or a goal is met
 pub data End : Type 0 where
@@ -17,10 +22,10 @@ pub data End : Type 0 where
 -- from the tree's start where there is no source, else from this point in it
 pub record Stretch : Type 0 where
   pub source : Option ℕ
-  pub ops : List Op
+  pub ops : List Step
   pub end : End
 
-abbrev pub stretch : Option ℕ → List Op → End → Stretch
+abbrev pub stretch : Option ℕ → List Step → End → Stretch
 stretch p ops e = record { source = p; ops = ops; end = e }
 
 -- kinds ------------------------------------------------------------------------------------------------------------
@@ -67,16 +72,16 @@ abbrev pub sequenced : List Stretch → List Stretch → List Stretch
 sequenced xs ys = others (leaving normal) xs ++
     all_joined (those (leaving normal) xs) (those starting ys) ++ others starting ys
 
--- behind a test, where it begins at the tree's start
-abbrev pub prefixed_by : Op → Option ℕ → List Op → End → Stretch
-prefixed_by op None ops e = stretch None (op ∷ ops) e
-prefixed_by op (Some p) ops e = stretch (Some p) ops e
+-- behind this, where it begins at the tree's start
+abbrev pub prefixed_by : Step → Option ℕ → List Step → End → Stretch
+prefixed_by step None ops e = stretch None (step ∷ ops) e
+prefixed_by step (Some p) ops e = stretch (Some p) ops e
 
-abbrev pub prefixed : Op → Stretch → Stretch
-prefixed op s = prefixed_by op s.source s.ops s.end
+abbrev pub prefixed : Step → Stretch → Stretch
+prefixed step s = prefixed_by step s.source s.ops s.end
 
 abbrev pub chosen : ℕ → Cond → List Stretch → List Stretch → List Stretch
-chosen base c xs ys = map (prefixed (test base c true)) xs ++ map (prefixed (test base c false)) ys
+chosen base c xs ys = map (prefixed (does (test base c true))) xs ++ map (prefixed (does (test base c false))) ys
 
 -- in a loop the body is entered from the loop's point, and its end is that point
 abbrev pub source_or : ℕ → Option ℕ → ℕ
@@ -88,8 +93,8 @@ back_to q (leaves normal) = meets (comes_to q)
 back_to q (leaves (jump k)) = leaves (jump k)
 back_to q (meets goal) = meets goal
 
-abbrev pub turned : ℕ → Op → Stretch → Stretch
-turned q op s = stretch (Some (source_or q s.source)) (prefixed op s).ops (back_to q s.end)
+abbrev pub turned : ℕ → Step → Stretch → Stretch
+turned q step s = stretch (Some (source_or q s.source)) (prefixed step s).ops (back_to q s.end)
 
 -- those of the body: into it, through it, out of it at its end, all others
 abbrev pub body_order : List Stretch → List Stretch
@@ -98,10 +103,11 @@ body_order ss = others (leaving normal) (those starting ss) ++ those (leaving no
 
 -- to the loop's point, and from there past the loop
 abbrev pub at_loop : ℕ → ℕ → Cond → List Stretch
-at_loop q base c = stretch None [] (meets (comes_to q)) ∷ stretch (Some q) (test base c false ∷ []) (leaves normal) ∷ []
+at_loop q base c =
+    stretch None [] (meets (comes_to q)) ∷ stretch (Some q) (does (test base c false) ∷ []) (leaves normal) ∷ []
 
 abbrev pub looped : ℕ → ℕ → Cond → List Stretch → List Stretch
-looped q base c ss = at_loop q base c ++ map (turned q (test base c true)) (body_order ss)
+looped q base c ss = at_loop q base c ++ map (turned q (does (test base c true))) (body_order ss)
 
 -- jumps of this kind come out behind the tree
 abbrev pub ended : Stretch → Stretch
@@ -110,36 +116,68 @@ ended s = stretch s.source s.ops (leaves normal)
 abbrev pub caught : Exit → List Stretch → List Stretch
 caught k ss = others (leaving (jump k)) ss ++ map ended (those (leaving (jump k)) ss)
 
-abbrev pub stretches : Node → List Stretch
-stretches empty = stretch None [] (leaves normal) ∷ []
-stretches (point q) = stretch None [] (meets (comes_to q)) ∷ stretch (Some q) [] (leaves normal) ∷ []
-stretches (act q op) = stretch None (op ∷ []) (leaves normal) ∷ []
-stretches (check q base c) =
-    stretch None (test base c true ∷ []) (leaves normal) ∷ stretch None (test base c false ∷ []) (meets (denies q)) ∷ []
-stretches (seq a b) = sequenced (stretches a) (stretches b)
-stretches (choose q base c a b) = chosen base c (stretches a) (stretches b)
-stretches (iterate q base c a) = looped q base c (stretches a)
-stretches (catch q k a) = caught k (stretches a)
-stretches (leave n k) = stretch None [] (leaves (jump k)) ∷ []
+-- in a tree with nothing to do
+abbrev pub nothing_done : List Stretch
+nothing_done = stretch None [] (leaves normal) ∷ []
+
+-- past all labels of a `switch`, where none of them is `default`
+abbrev pub past_all : (CaseLabel → Step) → Bool → List Stretch
+past_all go true = []
+past_all go false = stretch None (go Default ∷ []) (leaves normal) ∷ []
+
+-- from a label those that begin the trees behind it, before those from the later ones
+abbrev pub labelled : Step → List Stretch → List Stretch → List Stretch
+labelled step row later = map (prefixed step) (those starting row) ++ later
+
+-- those from the labels, and of those of the trees that don't begin at their start
+abbrev pub selected : List Stretch → List Stretch → List Stretch
+selected row from_labels = from_labels ++ others starting row
+
+abbrev mutual
+  pub stretches : Node → List Stretch
+  stretches empty = nothing_done
+  stretches (point q) = stretch None [] (meets (comes_to q)) ∷ stretch (Some q) [] (leaves normal) ∷ []
+  stretches (act q op) = stretch None (does op ∷ []) (leaves normal) ∷ []
+  stretches (check q base c) = stretch None (does (test base c true) ∷ []) (leaves normal)
+      ∷ stretch None (does (test base c false) ∷ []) (meets (denies q)) ∷ []
+  stretches (seq a b) = sequenced (stretches a) (stretches b)
+  stretches (choose q base c a b) = chosen base c (stretches a) (stretches b)
+  stretches (iterate q base c a) = looped q base c (stretches a)
+  stretches (catch q k a) = caught k (stretches a)
+  stretches (leave n k) = stretch None [] (leaves (jump k)) ∷ []
+  stretches (select q base e arms) = selected (stretches_of arms) (from_labels (goes_in base e arms)
+      (past_all (goes_in base e arms) (list_any (are_alike Default) (entries_of arms))) arms)
+
+  -- of the trees of the arms, one after the other
+  pub stretches_of : Arms → List Stretch
+  stretches_of no_arms = nothing_done
+  stretches_of (entry l arms) = stretches_of arms
+  stretches_of (arm a arms) = sequenced (stretches a) (stretches_of arms)
+
+  -- from the labels, and then past all of them
+  pub from_labels : (CaseLabel → Step) → List Stretch → Arms → List Stretch
+  from_labels go past no_arms = past
+  from_labels go past (entry l arms) = labelled (go l) (stretches_of arms) (from_labels go past arms)
+  from_labels go past (arm a arms) = from_labels go past arms
 
 -- ways -------------------------------------------------------------------------------------------------------------
 
 -- what each end, and each source, gives
-abbrev pub ways_at : List Op → End → List Way
+abbrev pub ways_at : List Step → End → List Way
 ways_at ops (leaves k) = []
 ways_at ops (meets goal) = record { ops = ops; goal = goal } ∷ []
 
-abbrev pub suffixes_at : Option ℕ → List Op → List Suffix
+abbrev pub suffixes_at : Option ℕ → List Step → List Suffix
 suffixes_at None ops = []
 suffixes_at (Some p) ops = record { source = p; ops = ops } ∷ []
 
-abbrev pub segments_at : Option ℕ → List Op → End → List Segment
+abbrev pub segments_at : Option ℕ → List Step → End → List Segment
 segments_at None ops e = []
 segments_at (Some p) ops (leaves k) = []
 segments_at (Some p) ops (meets goal) = record { source = p; way = record { ops = ops; goal = goal } } ∷ []
 
 -- a stretch as one of each kind of ways
-abbrev pub passed : How → Stretch → List (List Op)
+abbrev pub passed : How → Stretch → List (List Step)
 passed h s = if starts s.source then (if leaves_so h s.end then s.ops ∷ [] else []) else []
 
 abbrev pub entered : Stretch → List Way

@@ -1,19 +1,18 @@
 -- The moves of a way: its changes of the program, one behind the other.
 use Rattle.std.specs.Prelude.{ℕ, List, [], ◌∷◌}
-use Rattle.lra_program.specs.Step.{Op}
 use Rattle.lra_domain.specs.Moves.{Moves, stay, first_then}
-use Rattle.lra_flow.specs.MovesOf.{moves_of}
-use Rattle.lra_change.specs.Changes.{dims_behind}
+use Rattle.lra_paths.specs.Ways.{Step}
+use Rattle.lra_paths.specs.StepMoves.{step_moves, dims_behind_step}
 
 -- behind these moves, where so many variables live
-abbrev pub way_on : Moves → ℕ → List Op → Moves
+abbrev pub way_on : Moves → ℕ → List Step → Moves
 way_on p live [] = p
-way_on p live (op ∷ ops) = way_on (first_then p (moves_of live op)) (dims_behind op live) ops
+way_on p live (step ∷ ops) = way_on (first_then p (step_moves live step)) (dims_behind_step step live) ops
 
-abbrev pub way_moves : ℕ → List Op → Moves
+abbrev pub way_moves : ℕ → List Step → Moves
 way_moves live ops = way_on stay live ops
 
 -- how many variables live behind all of them
-abbrev pub live_behind : ℕ → List Op → ℕ
+abbrev pub live_behind : ℕ → List Step → ℕ
 live_behind live [] = live
-live_behind live (op ∷ ops) = live_behind (dims_behind op live) ops
+live_behind live (step ∷ ops) = live_behind (dims_behind_step step live) ops

@@ -3,7 +3,7 @@
 ghost use Rattle.std.specs.Prelude.{◌≡◌, ◌<◌, ◌^◌, ◌-◌, ◌+◌, pos, suc, length, map, replicate, slice_set};
 ghost use Rattle.std.specs.Prelude.{Some, IfOk, OnOk};
 ghost use Rattle.lra_base.specs.declared.number_types.NumberType.TheVariants.{Int};
-ghost use Rattle.lra_change.specs.Changes.{dims_behind};
+ghost use Rattle.lra_flow.specs.Live.{dims_behind};
 ghost use Rattle.lra_domain.specs.Moves.{first_then, make};
 ghost use Rattle.lra_flow.specs.MovesOf.{append_set, drop_last, first_values, guard, moves_of, push_all};
 ghost use Rattle.lra_flow.specs.MovesOf.{set_target, set_to, above_least, below_greatest, within_type};
@@ -13,6 +13,7 @@ ghost use Rattle.lra_flow.specs.declared.seen.Seen.TheVariants.{Linear, Unseen};
 ghost use Rattle.lra_domain.specs.Actions.{embed, test};
 ghost use Rattle.lra_linear.specs.declared.ConKind.TheVariants.{Ge};
 ghost use Rattle.lra_operations.specs.GraphViews.{op_view};
+ghost use Rattle.lra_paths.specs.StepMoves.{dims_behind_step, step_moves};
 ghost use Rattle.lra_paths.specs.StretchViews.{move_view};
 ghost use Rattle.lra_paths.specs.Tables.{Grows, Has, IsTable, moves_at};
 ghost use Rattle.lra_paths.specs.WayMoves.{way_moves};
@@ -20,6 +21,7 @@ ghost use Rattle.lra_program.specs.ProgramViews.{argument_view, cond_view, expr_
 
 use crate::conditions::{Frame, push_cases};
 use crate::guards::push_guards;
+use crate::selections::push_selection;
 use crate::stretches::Move;
 use crate::tables::{Entry, push_first_then, push_make, push_stay};
 use lra_base::NumberType;
@@ -466,12 +468,16 @@ fn push_move(
     ensures table { OnOk result (IsTable entries.new.items) }
     ensures grows { OnOk result (Grows entries.old.items entries.new.items) }
     ensures has { IfOk result (λ i. Has entries.new.items i
-        (moves_of live (move_view step.entry))) }
+        (step_moves live (move_view step.entry))) }
 {
     match step {
         Move::Change(op) => push_op(alloc, live, op, entries),
         Move::Test(base, condition, wanted) => {
             push_guard(Frame { alloc, live, base }, condition, wanted, entries)
+        }
+        Move::Select(selection, label) => {
+            ensure_room(live)?;
+            push_selection(alloc, live, selection, &label, entries)
         }
     }
 }
@@ -499,11 +505,11 @@ fn live_behind_op(live: usize, op: &Op) -> Result<usize, AllocError>
 
 /// How many variables live behind what is done.
 fn live_behind_move(live: usize, step: Move) -> Result<usize, AllocError>
-    ensures { IfOk result (λ n. n ≡ dims_behind (move_view step.entry) live) }
+    ensures { IfOk result (λ n. n ≡ dims_behind_step (move_view step.entry) live) }
 {
     match step {
         Move::Change(op) => live_behind_op(live, op),
-        Move::Test(_, _, _) => Ok(live),
+        Move::Test(_, _, _) | Move::Select(_, _) => Ok(live),
     }
 }
 

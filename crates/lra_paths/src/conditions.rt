@@ -192,7 +192,7 @@ fn push_differs(
 }
 
 /// A comparison of which nothing is seen does nothing.
-fn push_comparison(
+pub fn push_comparison(
     alloc: Global,
     entries: &mut Vec<Entry>,
     live: usize,

@@ -10,6 +10,7 @@ mod conditions;
 mod guards;
 mod laws;
 mod paths;
+mod selections;
 mod sources;
 mod stretches;
 mod tables;
@@ -25,7 +26,7 @@ pub use laws::{
 };
 pub use paths::{Paths, PathsFailure, find_paths};
 pub use sources::{Source, SourceWay};
-pub use stretches::{End, Goal, How, Move, Stretch};
+pub use stretches::{End, Goal, How, Move, Selection, Stretch};
 pub use tables::{
     Entry, GREATEST_PATHS, Shape, push_first_then, push_join, push_make, push_stay, sides_at,
     write_sides,

@@ -10,15 +10,26 @@ ghost use Rattle.lra_paths.specs.Stretches.{all_joined, body_order, leaves_so, o
 ghost use Rattle.lra_paths.specs.StretchViews.{end_view, how_view, kind_view, move_view, seen, stretch_view};
 ghost use Rattle.lra_paths.specs.Ways.{same_exit};
 
-use lra_operations::{Exit, Op};
-use lra_program::Cond;
+use lra_base::CaseLabel;
+use lra_operations::{Arm, Exit, Op};
+use lra_program::{Cond, Expr};
 use std::alloc::{AllocError, Global};
 
-/// What is done on a way: a least change, or nothing where the condition has this value.
+/// The value of a `switch` and its arms; the base is where the variables of its call begin.
+#[derive(Clone, Copy)]
+pub struct Selection<'g> {
+    pub base: usize,
+    pub value: &'g Expr,
+    pub arms: &'g [Arm],
+}
+
+/// What is done on a way: a least change, nothing where the condition has this value, or a value is computed that goes
+/// to this label.
 #[derive(Clone, Copy)]
 pub enum Move<'g> {
     Change(&'g Op),
     Test(usize, &'g Cond, bool),
+    Select(Selection<'g>, CaseLabel),
 }
 
 /// Where a way leads: to a point, or to where the assertion at a point is false.
@@ -276,6 +287,98 @@ pub fn choose<'g>(
     let mut all = Vec::new(alloc);
     push_prefixed(Move::Test(base, condition, true), on_true, &mut all)?;
     push_prefixed(Move::Test(base, condition, false), on_false, &mut all)?;
+    Ok(all)
+}
+
+// switches ----------------------------------------------------------------------------------------
+
+/// Behind a move, which the stretch stays without.
+fn push_led<'g>(
+    alloc: Global,
+    first: Move<'g>,
+    stretch: &Stretch<'g>,
+    all: &mut Vec<Stretch<'g>>,
+) -> Result<(), AllocError>
+    ensures { OnOk result (seen all.new.items ≡ seen all.old.items
+        ++ ways.prefixed (move_view first.entry) (stretch_view stretch.now) ∷ []) }
+{
+    let mut moves = Vec::new(alloc);
+    moves.extend_from_slice(stretch.moves.as_slice())?;
+    let copy = Stretch {
+        source: stretch.source,
+        moves,
+        end: stretch.end,
+    };
+    let led = prefix(first, copy)?;
+    all.push(led)?;
+    Ok(())
+}
+
+/// Behind the move, where it begins at the start.
+fn push_if_starting<'g>(
+    alloc: Global,
+    first: Move<'g>,
+    stretch: &Stretch<'g>,
+    all: &mut Vec<Stretch<'g>>,
+) -> Result<(), AllocError>
+    ensures { OnOk result (seen all.new.items ≡ seen all.old.items ++ map
+        (λ s. ways.prefixed (move_view first.entry) s) (those ways.starting (stretch_view stretch.now ∷ []))) }
+{
+    if is_of(Kind::Starting, stretch) {
+        push_led(alloc, first, stretch, all)
+    } else {
+        Ok(())
+    }
+}
+
+/// Behind the move come those that begin at the start.
+fn push_entering<'g>(
+    alloc: Global,
+    first: Move<'g>,
+    row: &[Stretch<'g>],
+    all: &mut Vec<Stretch<'g>>,
+) -> Result<(), AllocError>
+    ensures { OnOk result (seen all.new.items ≡ seen all.old.items
+        ++ map (λ s. ways.prefixed (move_view first.entry) s) (those ways.starting (seen row.now))) }
+{
+    'row: for stretch in row {
+        push_if_starting(alloc, first, stretch, all)?;
+    }
+    Ok(())
+}
+
+/// From a label those that begin the trees behind it, before those from the later ones.
+pub fn enter_row<'g>(
+    alloc: Global,
+    first: Move<'g>,
+    row: &[Stretch<'g>],
+    later: Vec<Stretch<'g>>,
+) -> Result<Vec<Stretch<'g>>, AllocError>
+    ensures { IfOk result (λ v. seen v.items ≡
+        ways.labelled (move_view first.entry) (seen row.now) (seen later.entry.items)) }
+{
+    let mut all = Vec::new(alloc);
+    let mut rest = later;
+    push_entering(alloc, first, row, &mut all)?;
+    all.append(&mut rest)?;
+    Ok(all)
+}
+
+/// The ways of a `switch`: those from its labels, and those that begin in its trees.
+pub fn select<'g>(
+    alloc: Global,
+    row: Vec<Stretch<'g>>,
+    from_labels: Vec<Stretch<'g>>,
+) -> Result<Vec<Stretch<'g>>, AllocError>
+    ensures { IfOk result (λ v. seen v.items ≡
+        ways.selected (seen row.entry.items) (seen from_labels.entry.items)) }
+{
+    let Parted {
+        those: _,
+        others: mut later,
+    } = part(alloc, row, Kind::Starting)?;
+    let mut all = from_labels;
+    all.append(&mut later)?;
     Ok(all)
 }
 

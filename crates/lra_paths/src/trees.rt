@@ -1,20 +1,26 @@
 //! The ways of a tree, from its leaves up. The tree is gone along by a list of what is due, and not by calls, so it may
 //! be as deep as memory allows.
 
-ghost use Rattle.std.specs.Prelude.{◌≡◌, ◌<◌, ◌+◌, [], ◌∷◌, IfOk, OnOk, List, None, map, option_to_list};
+ghost use Rattle.std.specs.Prelude.{◌≡◌, ◌<◌, ◌+◌, ◌||◌, [], ◌∷◌, IfOk, OnOk, List, None, map, option_to_list};
+ghost use Rattle.std.specs.List.{list_any};
+ghost use Rattle.lra_base.specs.declared.case_labels.CaseLabel.TheVariants.{Default};
+ghost use Rattle.lra_base.specs.CaseLabels.{are_alike};
 ghost use Rattle.lra_program.specs.ProgramViews.{cond_view};
 ghost use Rattle.lra_operations.specs.Graph as graph;
-ghost use Rattle.lra_operations.specs.GraphViews.{exit_view, node_view};
+ghost use Rattle.lra_operations.specs.GraphViews.{arm_view, arms_of, exit_view, node_view};
+ghost use Rattle.lra_paths.specs.Labels.{label_at, labels_in};
 ghost use Rattle.lra_paths.specs.Tasks.{all_left, below, task_size, effect, row_on, row_size, run, stack, steps_of};
-ghost use Rattle.lra_paths.specs.Tasks.{top};
+ghost use Rattle.lra_paths.specs.Tasks.{arm_steps, arms_on, arms_size, labelled_last, top};
 ghost use Rattle.lra_paths.specs.Stretches as ways;
-ghost use Rattle.lra_paths.specs.Stretches.{AreWays, stretch, stretches};
-ghost use Rattle.lra_paths.specs.StretchViews.{end_view, move_view, seen};
+ghost use Rattle.lra_paths.specs.Stretches.{AreWays, nothing_done, past_all, stretch, stretches};
+ghost use Rattle.lra_paths.specs.StretchViews.{arms_seen, end_view, move_view, seen, selection_view};
 
 use crate::stretches::{
-    End, Goal, How, Move, Stretch, catch_jumps, choose, go_round, push_short, sequence,
+    End, Goal, How, Move, Selection, Stretch, catch_jumps, choose, enter_row, go_round, push_short,
+    select, sequence,
 };
-use lra_operations::{Exit, Node};
+use lra_base::CaseLabel;
+use lra_operations::{Arm, Exit, Node};
 use lra_program::Cond;
 use std::alloc::{AllocError, Global};
 
@@ -33,6 +39,13 @@ pub enum Task<'g> {
     Round(usize, usize, &'g Cond),
     /// Jumps of this kind come out behind the tree of the last ways.
     Catch(Exit),
+    /// The trees of these arms stand before that of the last ways, and ways from their labels before those from later
+    /// labels, which are there below.
+    Behind(Selection<'g>, &'g [Arm]),
+    /// This move leads to where the last ways begin, before the ways from later labels.
+    Label(Move<'g>),
+    /// The last ways are those of the trees of a `switch`, those before them the ways from its labels.
+    Select,
 }
 
 // the ways that are there -------------------------------------------------------------------------
@@ -172,6 +185,32 @@ fn catch_last<'g>(
     put_last(done, whole)
 }
 
+/// The last ways stay, and their beginnings are behind the label.
+fn label_last<'g>(
+    alloc: Global,
+    first: Move<'g>,
+    done: &mut Vec<Vec<Stretch<'g>>>,
+) -> Result<(), AllocError>
+    ensures { OnOk result (stack done.new.items ≡
+        labelled_last (move_view first.entry) (stack done.old.items)) }
+{
+    let row = take_last(alloc, done);
+    let later = take_last(alloc, done);
+    let all = enter_row(alloc, first, row.as_slice(), later)?;
+    put_last(done, all)?;
+    put_last(done, row)
+}
+
+fn select_last<'g>(alloc: Global, done: &mut Vec<Vec<Stretch<'g>>>) -> Result<(), AllocError>
+    ensures { OnOk result (stack done.new.items ≡ ways.selected (top (stack done.old.items))
+        (top (below (stack done.old.items))) ∷ below (below (stack done.old.items))) }
+{
+    let row = take_last(alloc, done);
+    let from_labels = take_last(alloc, done);
+    let whole = select(alloc, row, from_labels)?;
+    put_last(done, whole)
+}
+
 // what is due -------------------------------------------------------------------------------------
 
 /// This is due before the others.
@@ -235,6 +274,113 @@ fn open_choice<'g>(
     push_task(left, Task::Tree(on_false))
 }
 
+fn names_default(label: CaseLabel) -> bool
+    ensures { result ≡ are_alike Default label }
+{
+    match label {
+        CaseLabel::Case(_) => false,
+        CaseLabel::Default => true,
+    }
+}
+
+/// Whether the arm is the label `default`.
+fn is_default(arm: &Arm) -> bool
+    ensures { result ≡ list_any (are_alike Default) (label_at arm.now) }
+{
+    match arm {
+        Arm::Entry(label) => names_default(*label),
+        Arm::Tree(_) => false,
+    }
+}
+
+/// Whether one of the labels is `default`.
+fn any_default(arms: &[Arm]) -> bool
+    ensures { result ≡ list_any (are_alike Default) (labels_in arms.now) }
+{
+    let mut left = arms;
+    'arms: while let Some((arm, behind)) = left.split_first() {
+        if is_default(arm) {
+            return true;
+        }
+        left = behind;
+    }
+    false
+}
+
+/// The way past all labels comes last, if there is one.
+fn put_past<'g>(
+    alloc: Global,
+    selection: Selection<'g>,
+    done: &mut Vec<Vec<Stretch<'g>>>,
+) -> Result<(), AllocError>
+    ensures { OnOk result (stack done.new.items ≡ past_all (selection_view selection.entry)
+        (list_any (are_alike Default) (labels_in selection.entry.arms.now)) ∷ stack done.old.items) }
+{
+    if any_default(selection.arms) {
+        put_last(done, Vec::new(alloc))
+    } else {
+        let past = Move::Select(selection, CaseLabel::Default);
+        put_short(alloc, Some(past), End::Leaves(How::Normal), done)
+    }
+}
+
+/// An arm is due, before those behind it.
+fn push_arm<'g>(
+    selection: Selection<'g>,
+    arm: &'g Arm,
+    left: &mut Vec<Task<'g>>,
+) -> Result<(), AllocError>
+    ensures runs { OnOk result ((s : List (List ways.Stretch)) → run left.new.items s ≡
+        run left.old.items (arms_on (selection_view selection.entry) (arm_view arm.now graph.no_arms) s)) }
+    ensures size { OnOk result (all_left left.new.items ≡ all_left left.old.items + (1 + arm_steps arm.now)) }
+{
+    match arm {
+        Arm::Entry(label) => push_task(left, Task::Label(Move::Select(selection, *label))),
+        Arm::Tree(tree) => push_both(left, tree, Task::Sequence),
+    }
+}
+
+/// The arms of a `switch`, the last of them first: each stands before those behind it.
+fn open_arms<'g>(
+    selection: Selection<'g>,
+    arms: &'g [Arm],
+    left: &mut Vec<Task<'g>>,
+) -> Result<(), AllocError>
+    ensures runs { OnOk result ((s : List (List ways.Stretch)) → run left.new.items s ≡ run left.old.items
+        (arms_on (selection_view selection.entry) (arms_of (map arm_view arms.now)) s)) }
+    ensures falls { OnOk result (all_left left.new.items <
+        all_left left.old.items + arms_size arms.now) }
+{
+    match arms.split_last() {
+        None => Ok(()),
+        Some((last, before)) => {
+            push_task(left, Task::Behind(selection, before))?;
+            push_arm(selection, last, left)
+        }
+    }
+}
+
+/// The arms of a `switch` are due; behind the last of them there is nothing to do, and no label is left.
+fn open_selection<'g>(
+    alloc: Global,
+    selection: Selection<'g>,
+    left: &mut Vec<Task<'g>>,
+    done: &mut Vec<Vec<Stretch<'g>>>,
+) -> Result<(), AllocError>
+    ensures runs { OnOk result (run left.new.items (stack done.new.items)
+        ≡ run left.old.items (ways.selected (ways.stretches_of (arms_seen selection.entry))
+        (ways.from_labels (selection_view selection.entry) (past_all (selection_view selection.entry)
+        (list_any (are_alike Default) (labels_in selection.entry.arms.now))) (arms_seen selection.entry)) ∷
+        stack done.old.items)) }
+    ensures size { OnOk result (all_left left.new.items ≡
+        all_left left.old.items + (1 + arms_size selection.entry.arms.now)) }
+{
+    put_past(alloc, selection, done)?;
+    put_short(alloc, None, End::Leaves(How::Normal), done)?;
+    push_task(left, Task::Select)?;
+    push_task(left, Task::Behind(selection, selection.arms))
+}
+
 /// The ways of a tree with no tree in it come last.
 fn put_leaf<'g>(
     alloc: Global,
@@ -281,6 +427,14 @@ fn open_node<'g>(
             push_both(left, body, Task::Round(*point, *base, condition))
         }
         Node::Catch(_, exit, body) => push_both(left, body, Task::Catch(*exit)),
+        Node::Select(_, base, value, arms) => {
+            let selection = Selection {
+                base: *base,
+                value,
+                arms: arms.as_slice(),
+            };
+            open_selection(alloc, selection, left, done)
+        }
         _ => put_leaf(alloc, node, done),
     }
 }
@@ -304,6 +458,9 @@ fn do_next<'g>(
         Task::Choice(base, condition) => choose_last(alloc, base, condition, done),
         Task::Round(point, base, condition) => go_round_last(alloc, point, base, condition, done),
         Task::Catch(exit) => catch_last(alloc, exit, done),
+        Task::Behind(selection, arms) => open_arms(selection, arms, left),
+        Task::Label(first) => label_last(alloc, first, done),
+        Task::Select => select_last(alloc, done),
     }
 }
 

@@ -1,0 +1,24 @@
+-- Goals of `any_default`: whether one of the labels is `default`.
+use Rattle.std.proofs.Common.{rules, ◌≡◌, ◌∷◌, ◌∙◌, Bool, ap, sym}
+use Rattle.std.specs.Prelude.{◌||◌}
+use Rattle.std.proofs.lemmas.List.{nil_from_length}
+use Rattle.lra_paths.specs.Labels.{labels_in}
+use Rattle.lra_paths.proofs.ArmSteps.{default_first, has_default}
+use Rattle.lra_paths.proofs.trees.any_default.Goals as goal
+
+pub returns-then-is_default : goal.returns-then-is_default
+returns-then-is_default c =
+    let first : c.arms.left.now ≡ c.in-Some.arm.now ∷ c.in-Some.behind.now = search rules in
+    sym (c.arms.invariant ∙ default_first c.arms.left.now c.in-Some.behind.now c.in-Some.arm.now c.is_default.result first c.is_default.ensures
+    ∙ ap (λ (b : Bool). b || has_default (labels_in c.in-Some.behind.now)) c.if-is_default.true)
+
+pub arms-preserved : goal.arms-preserved
+arms-preserved c =
+    let first : c.arms.left.now ≡ c.in-Some.arm.now ∷ c.in-Some.behind.now = search rules in
+    c.arms.invariant ∙ default_first c.arms.left.now c.in-Some.behind.now c.in-Some.arm.now c.is_default.result first c.is_default.ensures
+    ∙ ap (λ (b : Bool). b || has_default (labels_in c.in-Some.behind.now)) c.if-is_default.false
+
+pub returns : goal.returns
+returns c =
+    let none = nil_from_length c.arms.left.now c.in_default.ensures.cases in
+    sym (c.arms.invariant ∙ ap (λ xs. has_default (labels_in xs)) none)

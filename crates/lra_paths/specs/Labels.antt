@@ -1,0 +1,28 @@
+-- Where the moves of a value that goes to a label stand in a table.
+use Rattle.std.specs.Prelude.{◌≡◌, ℕ, List, ◌++◌, map}
+use Rattle.lra_base.specs.declared.case_labels.CaseLabel.{CaseLabel}
+use Rattle.lra_operations.specs.Graph.{no_arms, entries_of}
+use Rattle.lra_operations.specs.GraphViews.{arm_view, arms_of}
+use Rattle.lra_operations.specs.declared.graph.Arm.{Arm}
+use Rattle.lra_flow.specs.declared.seen.Seen.{Seen}
+use Rattle.lra_paths.specs.StepMoves.{unmatched_moves}
+use Rattle.lra_paths.specs.Tables.{Has}
+use Rattle.lra_paths.specs.declared.tables.Entry.{Entry}
+
+-- the labels among the arms
+abbrev pub labels_in : List Arm → List CaseLabel
+labels_in arms = entries_of (arms_of (map arm_view arms))
+
+-- the label that the arm is, if it is one
+abbrev pub label_at : Arm → List CaseLabel
+label_at a = entries_of (arm_view a no_arms)
+
+-- one arm more, in front of whichever labels the later ones are
+abbrev pub PutsLabel : List Entry → List Entry → ℕ → Seen → Arm → ℕ → ℕ → Type 0
+PutsLabel es fs live s a later place = (labels : List CaseLabel) → Has es later (unmatched_moves live s labels) →
+    Has fs place (unmatched_moves live s (label_at a ++ labels))
+
+-- the labels behind those that are left are passed
+abbrev pub ArePassed : List Entry → ℕ → Seen → List Arm → List Arm → ℕ → Type 0
+ArePassed es live s arms left place = (labels : List CaseLabel) × (labels_in arms ≡ labels_in left ++ labels) ×
+    Has es place (unmatched_moves live s labels)
