@@ -28,6 +28,10 @@ pub mod WritePoints
 pub mod WritePaths
 pub mod WriteCertificate
 pub mod JudgedBothWays
+-- A text is that of one certificate.
+pub mod OneText
+pub mod OneProgram
+pub mod OneCertificate
 pub mod VerifySteps
 pub mod Deserved
 -- Worked examples.

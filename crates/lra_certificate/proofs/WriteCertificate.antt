@@ -33,11 +33,11 @@ use Rattle.lra_certificate.proofs.WritePoints.{IsOther, states_read}
 use Rattle.lra_certificate.proofs.WritePaths.{IsAlive, edge_from, paths_read, denials_read, end_read}
 
 -- ---- assertions
-assert_from : (q : ℕ) → AreFrom 32 (assert_text q)
+pub assert_from : (q : ℕ) → AreFrom 32 (assert_text q)
 assert_from q = from_joined 32 (codes "assert ") (decimal (suc q)) (text_from 32 (codes "assert ") refl) (from_lower 32 48 (decimal (suc q)) (omega arith)
     (decimal_from (suc q)))
 
-assert_same : (p q : ℕ) → p < 10 ^ 63 → q < 10 ^ 63 → assert_text p ≡ assert_text q → p ≡ q
+pub assert_same : (p q : ℕ) → p < 10 ^ 63 → q < 10 ^ 63 → assert_text p ≡ assert_text q → p ≡ q
 assert_same p q hp hq e =
     let d : decimal (suc p) ≡ decimal (suc q) = ap (λ (x : List ℕ). drop 7 x) e in
     let n : suc p ≡ suc q = sym (decimal_is_IsNumeral_wide (suc p) (omega (arith, hp))).1 ∙ ap (λ (x : List ℕ). digits_value 10 x) d ∙
@@ -65,7 +65,7 @@ and_false false b e = refl
 abbrev pub listing : List Listed → List ℕ
 listing ones = flat_map listed_text ones ++ end_text
 
-listed_shape : (one : Listed) (ones : List Listed) → listing (one ∷ ones) ≡ text_line (assert_text one.number) ++
+pub listed_shape : (one : Listed) (ones : List Listed) → listing (one ∷ ones) ≡ text_line (assert_text one.number) ++
     (flat_map evidence_text one.evidence ++ listing
     ones)
 listed_shape one ones =
@@ -78,11 +78,11 @@ listing_first one ones =
     listing ones)
     (assert_from one.number)
 
-listing_alive : (ones : List Listed) → IsAlive (listing ones)
+pub listing_alive : (ones : List Listed) → IsAlive (listing ones)
 listing_alive [] = ap is_dead_line end_first
 listing_alive (one ∷ ones) = ap is_dead_line (listing_first one ones)
 
-listing_other : (ones : List Listed) → IsOther (listing ones)
+pub listing_other : (ones : List Listed) → IsOther (listing ones)
 listing_other [] = ap is_row_line end_first
 listing_other (one ∷ ones) = ap is_row_line (listing_first one ones)
 
@@ -195,7 +195,7 @@ module _ (P : Program) (g : Node) (states : List State) (fit : (p : ℕ) → Are
           }) e)))
 
 -- ---- the whole behind the head
-edges_other : (paths : List Path) (ls : List Evidence) (rest : List ℕ) → IsOther rest → IsOther (edges_text paths ls ++ rest)
+pub edges_other : (paths : List Path) (ls : List Evidence) (rest : List ℕ) → IsOther rest → IsOther (edges_text paths ls ++ rest)
 edges_other [] ls rest k = k
 edges_other (path ∷ paths) [] rest k = k
 edges_other (path ∷ paths) (l ∷ ls) rest k =
@@ -204,13 +204,18 @@ edges_other (path ∷ paths) (l ∷ ls) rest k =
     append_assoc (text_line (edge_text path)) (evidence_text l) (edges_text paths ls ++ rest)) ∙
     ap is_row_line (line_first (edge_text path) (evidence_text l ++ (edges_text paths ls ++ rest)) (edge_from path))
 
+pub body_shape : (paths : List Path) (c : Certificate) → body_text paths c ≡ states_text 1 c.states ++ (edges_text paths c.paths ++ listing c.asserted)
+body_shape paths c =
+    append_assoc (states_text 1 c.states ++ edges_text paths c.paths) (flat_map listed_text c.asserted) end_text ∙
+    append_assoc (states_text 1 c.states) (edges_text paths c.paths) (flat_map listed_text c.asserted ++ end_text)
+
 pub judged_written : (P : Program) (g : Node) (c : Certificate) → Meets P g c → length (sites_of P) < 10 ^ 63 →
     judged P g (body_text (paths_of P g) c) ≡ Ok (length (sites_of P), length c.asserted)
 judged_written P g c h small =
     let E = edges_text (paths_of P g) c.paths in
     let fit = sources_fit P c.states h.states in
     let s = states_read 1 (sites_of P) c.states (E ++ listing c.asserted) (lines_left (body_text (paths_of P g) c)) h.states
-    (edges_other (paths_of P g) c.paths (listing c.asserted) (listing_other c.asserted)) (ap pieces_of shape) in
+    (edges_other (paths_of P g) c.paths (listing c.asserted) (listing_other c.asserted)) (ap pieces_of (body_shape (paths_of P g) c)) in
     let p = paths_read P g c.states fit (paths_of P g) c.paths h.paths h.numbers (listing c.asserted) (listing_alive c.asserted) s.0 s.2 in
     let w = listed_read P g c.states fit (denials_denied P g c.states) small 0 (sites_of P) c.asserted p.0 (omega arith)
     (λ i s e. subst (λ (k : ℕ). slice_get (sites_of P) k ≡ Some s) (omega arith) e)
@@ -222,11 +227,6 @@ judged_written P g c h small =
     ap (λ (j : Judged (ℕ × Left)). then_judged j (λ x. counted (length (sites_of P)) x)) w.1 ∙
     ap (λ (j : Judged Left). then_judged j (λ m. let y : Judged (ℕ × ℕ) = Ok (length (sites_of P), length c.asserted) in y)) z.1
   where
-    shape : body_text (paths_of P g) c ≡ states_text 1 c.states ++ (edges_text (paths_of P g) c.paths ++ listing c.asserted)
-    shape =
-        append_assoc (states_text 1 c.states ++ edges_text (paths_of P g) c.paths) (flat_map listed_text c.asserted) end_text ∙
-        append_assoc (states_text 1 c.states) (edges_text (paths_of P g) c.paths) (flat_map listed_text c.asserted ++ end_text)
-
     from_zero : (ones : List Listed) → AllByRecursion (λ one. 0 ≤ one.number) ones
     from_zero [] = tt
     from_zero (one ∷ ones) = (omega arith, from_zero ones)

@@ -53,9 +53,15 @@ Read j rest = (m : Left) × (j ≡ Ok m) × (m.pieces ≡ pieces_of rest)
 abbrev pub IsAlive : List ℕ → Type 0
 IsAlive rest = is_dead_line (line_on (pieces_of rest)) ≡ false
 
-multipliers_from_32 : (word : List ℕ) (m : Multipliers) → AreFrom 32 word → AreNumbers m → AreFrom 32 (multipliers_text word m)
+pub multipliers_from_32 : (word : List ℕ) (m : Multipliers) → AreFrom 32 word → AreNumbers m → AreFrom 32 (multipliers_text word m)
 multipliers_from_32 word m w h = from_joined 32 word (numbers_text (m.divisor ∷ m.constant ∷ m.factors)) w (numbers_from (m.divisor ∷ m.constant ∷ m.factors)
     (h.0, (h.1, h.2)))
+
+pub by_from : AreFrom 32 (codes "by")
+by_from = text_from 32 (codes "by") refl
+
+dead_from : AreFrom 32 (codes "dead")
+dead_from = text_from 32 (codes "dead") refl
 
 module _ (live : ℕ) (rows : List Given) (path : Path) (fit : AllByRecursion (IsPointRow live) rows) where
   abbrev a : Along
@@ -85,12 +91,6 @@ module _ (live : ℕ) (rows : List Given) (path : Path) (fit : AllByRecursion (I
       line_read word w32 (λ (w : Walked). Ok (nothing_left a)) m numbers w (nothing_left a) walks refl
       (one_answer (premises_of a w) (nothing_left a) m (checked (premises_of a w) (nothing_left a) m) yes (dead_exact live rows path fit w walks m) shown)
       (signed_many (premises_of a w) m.factors shown.1.factors) rest l shape
-
-  by_from : AreFrom 32 (codes "by")
-  by_from = text_from 32 (codes "by") refl
-
-  dead_from : AreFrom 32 (codes "dead")
-  dead_from = text_from 32 (codes "dead") refl
 
   claim_read : (claim : List ℤ) (m : Multipliers) → IsShown a claim m → AreNumbers m → (rest : List ℕ) (l : Left) →
       l.pieces ≡ pieces_of (text_line (multipliers_text (codes "by") m) ++ rest) → Read (judged_line a (codes "by") (claim_of a claim) l) rest
@@ -153,15 +153,14 @@ pub from_read : (live : ℕ) (path : Path) (source target : State) (evidence : E
 from_read live path None target evidence fit h n rest k l shape = (l, refl, shape ∙ ap (λ (x : Evidence). pieces_of (evidence_text x ++ rest)) h)
 from_read live path (Some rows) target evidence fit h n rest k l shape = lines_read live rows path fit target evidence h n rest k l shape
 
-denied_read : (live : ℕ) (path : Path) (source : State) (evidence : Evidence) → AreRows live source → MeetsFrom live path source None evidence →
+pub denied_read : (live : ℕ) (path : Path) (source : State) (evidence : Evidence) → AreRows live source → MeetsFrom live path source None evidence →
     ShowsNoClaim evidence →
     IsWritable evidence →
     (rest : List ℕ) (l : Left) → l.pieces ≡ pieces_of (evidence_text evidence ++ rest) → Read (denied_from live path source l) rest
 denied_read live path None evidence fit h d n rest l shape = (l, refl, shape ∙ ap (λ (x : Evidence). pieces_of (evidence_text x ++ rest)) h)
 denied_read live path (Some rows) none fit h d n rest l shape = absurd h
 denied_read live path (Some rows) (by ms) fit h d n rest l shape = absurd d
-denied_read live path (Some rows) (dead m) fit h d n rest l shape = nothing_read live rows path fit (codes "dead") (dead_from live rows path fit) m h n rest
-    l shape
+denied_read live path (Some rows) (dead m) fit h d n rest l shape = nothing_read live rows path fit (codes "dead") dead_from m h n rest l shape
 
 -- ---- all paths
 pub edge_from : (path : Path) → AreFrom 32 (edge_text path)
@@ -172,16 +171,16 @@ edge_from path =
     (from_lower 32 48 (decimal path.source) (omega arith) (decimal_from path.source))) (text_from 32 (codes " ") refl))
     (from_lower 32 48 (decimal (goal_number path.goal)) (omega arith) (decimal_from (goal_number path.goal)))
 
-module _ (P : Program) (g : Node) (states : List State) (fit : (p : ℕ) → AreRows (live_from P p) (state_from states p)) where
-  edges_alive : (paths : List Path) (ls : List Evidence) (rest : List ℕ) → IsAlive rest → IsAlive (edges_text paths ls ++ rest)
-  edges_alive [] ls rest k = k
-  edges_alive (path ∷ paths) [] rest k = k
-  edges_alive (path ∷ paths) (l ∷ ls) rest k =
-      ap (λ (x : List ℕ). is_dead_line (line_on (pieces_of x)))
-      (append_assoc (text_line (edge_text path) ++ evidence_text l) (edges_text paths ls) rest ∙
-      append_assoc (text_line (edge_text path)) (evidence_text l) (edges_text paths ls ++ rest)) ∙
-      ap is_dead_line (line_first (edge_text path) (evidence_text l ++ (edges_text paths ls ++ rest)) (edge_from path))
+pub edges_alive : (paths : List Path) (ls : List Evidence) (rest : List ℕ) → IsAlive rest → IsAlive (edges_text paths ls ++ rest)
+edges_alive [] ls rest k = k
+edges_alive (path ∷ paths) [] rest k = k
+edges_alive (path ∷ paths) (l ∷ ls) rest k =
+    ap (λ (x : List ℕ). is_dead_line (line_on (pieces_of x)))
+    (append_assoc (text_line (edge_text path) ++ evidence_text l) (edges_text paths ls) rest ∙
+    append_assoc (text_line (edge_text path)) (evidence_text l) (edges_text paths ls ++ rest)) ∙
+    ap is_dead_line (line_first (edge_text path) (evidence_text l ++ (edges_text paths ls ++ rest)) (edge_from path))
 
+module _ (P : Program) (g : Node) (states : List State) (fit : (p : ℕ) → AreRows (live_from P p) (state_from states p)) where
   path_read : (path : Path) (evidence : Evidence) → MeetsPath P g states path evidence → IsWritable evidence → (rest : List ℕ) → IsAlive rest → (l : Left) →
       l.pieces ≡ pieces_of (text_line (edge_text path) ++ (evidence_text evidence ++ rest)) → Read (judged_path P g states path l) rest
   path_read path evidence h n rest k l shape =

@@ -113,7 +113,7 @@ numbers_end : (zs : List ℤ) (d : ℕ) → 0 < length (numbers_text zs) → is_
 numbers_end [] d h = absurd (omega (arith, h))
 numbers_end (z ∷ zs) d h = refl
 
-spaced_read : (zs : List ℤ) → AllByRecursion InRange zs → spaced_numbers (words_of (numbers_text zs)) ≡ Some zs
+pub spaced_read : (zs : List ℤ) → AllByRecursion InRange zs → spaced_numbers (words_of (numbers_text zs)) ≡ Some zs
 spaced_read [] h = refl
 spaced_read (z ∷ zs) h =
     word_read (signed_decimal z) (numbers_text zs) (signed_from z h.0) (numbers_end zs) ∙

@@ -75,6 +75,10 @@ CertificatesKeep = (P : Program) (g : Node) (c : Certificate) → Meets P g c �
 abbrev pub CertificatesHold : Type 0
 CertificatesHold = (bytes : List ℕ) (x : IsCertificate bytes) → RowsHold (program_of x.program) x.certificate
 
+-- a text is that of at most one certificate that meets its program
+abbrev pub OneCertificate : Type 0
+OneCertificate = (bytes : List ℕ) (x y : IsCertificate bytes) → x.certificate ≡ y.certificate
+
 -- answers ----------------------------------------------------------------------------------------------------------
 
 abbrev pub greatest_certificate : ℕ

@@ -1,6 +1,6 @@
 //! Laws: each of these does nothing, and its contract is the theorem.
 
-ghost use Rattle.lra_certificate.specs.Claims.{CertificatesHold, CertificatesKeep, JudgedExactly};
+ghost use Rattle.lra_certificate.specs.Claims.{CertificatesHold, CertificatesKeep, JudgedExactly, OneCertificate};
 
 /// What a certificate that meets its program says of stores is kept along all paths, and where that holds in all runs
 /// its rows do, nothing comes to its empty points, and none of its listed assertions is false.
@@ -18,4 +18,9 @@ pub fn certificates_hold()
 /// numbers.
 pub fn judged_exactly()
     ensures { JudgedExactly }
+{}
+
+/// A text is that of at most one certificate that meets its program.
+pub fn one_certificate()
+    ensures { OneCertificate }
 {}

@@ -20,6 +20,6 @@ mod verifying;
 mod walks;
 mod ways;
 
-pub use laws::{certificates_hold, certificates_keep, judged_exactly};
+pub use laws::{certificates_hold, certificates_keep, judged_exactly, one_certificate};
 pub use refusals::{LineFault, VerifyError, VerifyRefusal};
 pub use verifying::{GREATEST_CERTIFICATE, verify};

@@ -33,7 +33,8 @@ impl Ways<'_> {
         requires ways { AreWays self.now }
         requires point { point < length self.now.sites.now }
         ensures rows { rows_of result ≡ state_to (states_in self.now) (comes_to point) }
-        ensures dims { IfSome result (λ r. r.now.dims ≡ live_of (slice_get (sites_in self.now) point)) }
+        ensures dims { IfSome result (λ r. r.now.dims ≡
+            live_of (slice_get (sites_in self.now) point)) }
     {
         self.states[point].as_ref()
     }

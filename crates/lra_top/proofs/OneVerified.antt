@@ -5,39 +5,18 @@ use Rattle.std.proofs.lemmas.Option.{same_Some, none-some}
 use Rattle.lra_base.specs.declared.refusals.Cause.{Cause}
 use Rattle.lra_base.specs.declared.refusals.Place.{Place}
 use Rattle.lra_tree.specs.Grammar.{Spells}
-use Rattle.lra_meaning.specs.Refuse.{Refuse, Accepts}
-use Rattle.lra_meaning.specs.Resolve.{resolve}
+use Rattle.lra_meaning.specs.Refuse.{Refuse}
 use Rattle.lra_program.specs.Program.{Program}
 use Rattle.lra_program.specs.Sites.{sites_of}
-use Rattle.lra_operations.specs.Agree.{IsGraph}
 use Rattle.lra_operations.specs.Graph.{Node}
-use Rattle.lra_flow.proofs.OneTree.{one_tree}
 use Rattle.lra_front.proofs.EachAnswer.{each_answer}
-use Rattle.lra_front.proofs.StageSteps as stages
 use Rattle.lra_paths.specs.Paths.{AreFewPaths, HasTooMany}
 use Rattle.lra_paths.proofs.ManyPaths.{not_both}
 use Rattle.lra_certificate.specs.Judged.{Judged, Head, too_long, bad_line, judged, head_of}
 use Rattle.lra_certificate.specs.Claims.{IsProgram, program_of, VerifyAnswer, verified, source_refused, paths_refused, line_refused, Deserves, HasHead}
 use Rattle.lra_certificate.specs.Claims.{greatest_certificate}
 use Rattle.lra_certificate.proofs.JudgedBothWays.{judged_exactly}
-
--- programs -----------------------------------------------------------------------
-
-pub accepted_of : (source : List ℕ) (x : IsProgram source) → Accepts Spells source x.tree
-accepted_of source x = stages.accepted source x.tree x.read x.graph.names x.graph.straight x.graph.within
-
-same_program : (source : List ℕ) (x y : IsProgram source) → program_of x ≡ program_of y
-same_program source x y = ap resolve ((each_answer source).0 x.tree y.tree (accepted_of source x) (accepted_of source y))
-
-same_operations : (source : List ℕ) (x y : IsProgram source) → x.operations ≡ y.operations
-same_operations source x y =
-    let graph : IsGraph (program_of y) x.operations = subst (λ P. IsGraph P x.operations) (same_program source x y) x.graph.is_graph in
-    one_tree (program_of y) x.operations y.operations graph y.graph.is_graph
-
--- what is said of a program with its operations is said of the same with these
-as_said : (S : Program → Node → Type 0) (source : List ℕ) (x y : IsProgram source) → S (program_of y) y.operations → S (program_of x) x.operations
-as_said S source x y h =
-    subst (λ g. S (program_of x) g) (sym (same_operations source x y)) (subst (λ P. S P y.operations) (sym (same_program source x y)) h)
+use Rattle.lra_certificate.proofs.OneProgram.{accepted_of, as_said}
 
 -- the least source from which too many paths lead
 one_source : (P : Program) (g : Node) (p q : ℕ) → HasTooMany P g p → HasTooMany P g q → p ≡ q

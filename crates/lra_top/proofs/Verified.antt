@@ -18,7 +18,7 @@ use Rattle.lra_words.specs.declared.chosen.PlainCommand.TheVariants.{Verify}
 use Rattle.lra_top.specs.CertificateAnswer.{DeservesCertificate, answer_text, answer_status, verified_text}
 use Rattle.lra_top.specs.Run.{IsInput, Writes}
 use Rattle.lra_top.specs.Headline.{IsVerifiedInAllRuns, WritesVerified}
-use Rattle.lra_top.proofs.OneVerified.{accepted_of}
+use Rattle.lra_certificate.proofs.OneProgram.{accepted_of}
 use Rattle.lra_top.proofs.Ways.{asked_input}
 use Rattle.lra_answers.specs.declared.status.Status.{Status}
 use Rattle.lra_answers.specs.declared.status.Status.TheVariants.{Proved}

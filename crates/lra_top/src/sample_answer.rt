@@ -25,8 +25,10 @@ fn answer_summary(
     report: &Report,
 ) -> Result<Answer, AllocError>
     requires { source.now ≡ sample_source seed size }
-    ensures text { IfOk result (λ a. a.text.items ≡ summary_text seed size (view.report_of report.now)) }
-    ensures status { IfOk result (λ a. a.status ≡ report_status (unknown_count (view.report_of report.now).verdicts)) }
+    ensures text { IfOk result (λ a. a.text.items ≡
+        summary_text seed size (view.report_of report.now)) }
+    ensures status { IfOk result (λ a. a.status ≡
+        report_status (unknown_count (view.report_of report.now).verdicts)) }
 {
     let status = status_of(report);
     Ok(Answer {

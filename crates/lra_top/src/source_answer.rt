@@ -27,7 +27,8 @@ pub(crate) fn status_of(report: &Report) -> Status
 
 /// A report as it is written, a row for each output.
 fn write_report(alloc: Global, format: Format, report: &Report) -> Result<Vec<u8>, AllocError>
-    ensures { IfOk result (λ bytes. bytes.items ≡ written_report format (view.report_of report.now)) }
+    ensures { IfOk result (λ bytes. bytes.items ≡
+        written_report format (view.report_of report.now)) }
 {
     match format {
         Format::Lines => Ok(text(alloc, report)?.into_bytes()),
@@ -37,8 +38,10 @@ fn write_report(alloc: Global, format: Format, report: &Report) -> Result<Vec<u8
 
 /// A report as it is written, and its status.
 fn answer_report(alloc: Global, format: Format, report: &Report) -> Result<Answer, AllocError>
-    ensures text { IfOk result (λ a. a.text.items ≡ written_report format (view.report_of report.now)) }
-    ensures status { IfOk result (λ a. a.status ≡ report_status (unknown_count (view.report_of report.now).verdicts)) }
+    ensures text { IfOk result (λ a. a.text.items ≡
+        written_report format (view.report_of report.now)) }
+    ensures status { IfOk result (λ a. a.status ≡
+        report_status (unknown_count (view.report_of report.now).verdicts)) }
 {
     let status = status_of(report);
     Ok(Answer {
@@ -57,7 +60,8 @@ pub fn answer_source(
 ) -> Result<Answer, AllocError>
     requires parts { 1 ≤ options.parts }
     requires bound { length bytes.now + 1 < 2 ^ 32 }
-    ensures { IfOk result (λ a. DeservesSource options (written_report format) bytes.now a.text.items a.status) }
+    ensures { IfOk result (λ a. DeservesSource options (written_report format) bytes.now a.text.items
+        a.status) }
 {
     match analyse_source(alloc, options, bytes) {
         Ok(report) => answer_report(alloc, format, &report),
