@@ -15,7 +15,7 @@ use Rattle.lra_duality.specs.declared.inclusion.Inclusion.{Inclusion}
 use Rattle.lra_duality.specs.declared.inclusion.Inclusion.TheVariants as inclusion
 use Rattle.lra_duality.specs.declared.maximum.Maximum.{Maximum}
 use Rattle.lra_duality.specs.declared.maximum.Maximum.TheVariants as maximum
-use Rattle.lra_duality.proofs.MaximumLemmas.{never_both}
+use Rattle.lra_duality.proofs.MaximumLemmas.{difference, in_order, never_both}
 use Rattle.lra_calc.specs.Views.{IsPlacedInclusion, IsPlacedMaximum}
 use Rattle.lra_calc.proofs.MakingLemmas.{all_tail}
 
@@ -108,12 +108,6 @@ none_first P Q list i e f = empty f.earlier f.member f.later (sym e ∙ f.is)
     empty [] x ys e = cc
     empty (p ∷ xs) x ys e = cc
 
-apart : (a b : ℤ) → pos 0 ≤ℤ (b +ℤ neg_ℤ a) → a ≤ℤ b
-apart a b h = omega (arith, ints, h)
-
-difference : (a b : ℤ) → a ≤ℤ b → pos 0 ≤ℤ (b +ℤ neg_ℤ a)
-difference a b h = omega (arith, ints, h)
-
 -- a point has the value f / e, which is n / d and at most m / c
 cross : (f e n d m c : ℤ) → pos 0 <ℤ e → pos 0 <ℤ d → f *ℤ d ≡ n *ℤ e → (f *ℤ c) ≤ℤ (m *ℤ e) → (n *ℤ c) ≤ℤ (m *ℤ d)
 cross f (pos zero) n d m c above positive value most = absurd (omega (arith, ints, above))
@@ -125,7 +119,7 @@ cross f (pos (suc e)) n d m c above positive value most =
     ring ((v m ⊗ v k ⊕ ⊖ (v f ⊗ v c)) ⊗ v d) (v m ⊗ v k ⊗ v d ⊕ ⊖ (v f ⊗ v d ⊗ v c)) (omega arith)
     ∙ ap (λ (z : ℤ). ((m *ℤ k) *ℤ d) +ℤ neg_ℤ (z *ℤ c)) value
     ∙ ring (v m ⊗ v k ⊗ v d ⊕ ⊖ (v n ⊗ v k ⊗ v c)) (v k ⊗ (v m ⊗ v d ⊕ ⊖ (v n ⊗ v c))) (omega arith) in
-    apart (n *ℤ c) (m *ℤ d) (divide_nonnegative (suc e) ((m *ℤ d) +ℤ neg_ℤ (n *ℤ c)) (omega arith) (subst (λ (z : ℤ). pos 0 ≤ℤ z) same here))
+    in_order (n *ℤ c) (m *ℤ d) (divide_nonnegative (suc e) ((m *ℤ d) +ℤ neg_ℤ (n *ℤ c)) (omega arith) (subst (λ (z : ℤ). pos 0 ≤ℤ z) same here))
 
 both_ways : (a b : ℤ) → a ≤ℤ b → b ≤ℤ a → a ≡ b
 both_ways a b h k = omega (arith, ints, h, k)

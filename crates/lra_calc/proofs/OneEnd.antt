@@ -17,12 +17,12 @@ use Rattle.lra_calc.specs.ShownSets.{include_text, is_wide_inclusion, maximise_t
 use Rattle.lra_calc.specs.Script.{Fault, Session, flagged_by, Unless, WithSet, wrong_row, wrong_generator, wrong_coordinate, wrong_width, Made, IsMade, WidenedBy, Widens, MadeBy, Answer, Answers}
 use Rattle.lra_calc.specs.Script.{shown, held, AnswerTo}
 use Rattle.lra_calc.specs.Script.{made_as, printed_by, behind}
-use Rattle.lra_calc.specs.Script.{AfterLine, AfterForm, End, GoesOn, Performs, SkipsOr, CarriesOut, stopped, last_session, IsUnflagged, AgreesWith}
+use Rattle.lra_calc.specs.Script.{AfterLine, AfterForm, End, GoesOn, Performs, CarriesOut, stopped, last_session, IsUnflagged, AgreesWith}
 use Rattle.lra_linear.specs.Widening as widening
 use Rattle.lra_linear.specs.OperationStrain.{StandardStrains, LimitedStrains}
 use Rattle.lra_duality.specs.declared.inclusion.Inclusion.{Inclusion}
 use Rattle.lra_duality.specs.declared.inclusion.Inclusion.TheVariants as inclusion
-use Rattle.lra_calc.proofs.OneRefusal.{AlikeResults, agrees_by, alike_by, alike_refl, line_alike_by, WideningsAgree}
+use Rattle.lra_calc.proofs.OneRefusal.{AlikeResults, agrees_by, alike_by, alike_refl, line_alike_by, skip_alike, skip_told, WideningsAgree}
 use Rattle.lra_calc.proofs.OneAnswer.{one_inclusion, one_maximum}
 
 -- flagged, by some line
@@ -58,10 +58,6 @@ form_keeps : (number : ℕ) (s t : Session) (form : Option Line) → AfterForm n
 form_keeps number s t None h k = absurd (cc)
 form_keeps number s t (Some line) h k = line_keeps number s t line h k
 
-either : (b : Bool) (A B C : Type 0) → (A → C) → (B → C) → SkipsOr b A B → C
-either true A B C f g h = f h
-either false A B C f g h = g h
-
 -- what stands behind the line, or that it is refused
 abbrev Goes : ℕ → Option Session → Result Session Fault → (Option Session → Type 0) → End → Type 0
 Goes number s r Later end = ((v : Session) × (r ≡ Ok v) × Later (Some v)) ⊎ ((f : Fault) × (r ≡ Err f) × (end ≡ Err (stopped number s f)))
@@ -77,7 +73,7 @@ flagged_last s None e k u = cc
 stays : (all : List (List ℕ)) (number : ℕ) (s : Session) (end : End) → IsFlagged s → CarriesOut number (Some s) all end → IsUnflagged (last_session end) → ⊥
 stays [] number s end k h u = flagged_last s (last_session end) (ap last_session h) k u
 stays (line ∷ rest) number s end k h u =
-    either (is_skipped line) (CarriesOut (number + 1) (Some s) rest end) (Performs number (Some s) line (λ v. CarriesOut (number + 1) v rest end) end) ⊥
+    skip_told (is_skipped line) (CarriesOut (number + 1) (Some s) rest end) (Performs number (Some s) line (λ v. CarriesOut (number + 1) v rest end) end) ⊥
     (λ x. stays rest (number + 1) s end k x u)
     (λ x. elim (goes number (Some s) x.result (λ v. CarriesOut (number + 1) v rest end) end x.goes_on) [
       | inl go ↦ stays rest (number + 1) go.0 end (form_keeps number s go.0 (line_of (words line)) (subst (AfterForm number (Some s) (line_of (words line))) go.1 x.after) k) go.2 u
@@ -225,10 +221,6 @@ form_agrees number None (Some line) r q h k = alike_by r q _ _ h k (alike_refl _
 form_agrees number (Some s) (Some line) r q h k = line_alike_by number s s line r q (record { dims = refl; names = λ name. refl }) (λ f g x y e d. widenings_agree s x y) h k
 
 -- ---- one end
-both_either : (b : Bool) (A B C D E : Type 0) → (A → C → E) → (B → D → E) → SkipsOr b A B → SkipsOr b C D → E
-both_either true A B C D E f g h k = f h k
-both_either false A B C D E f g h k = g h k
-
 same_fault : (r q : Result Session Fault) (f g : Fault) → r ≡ Err f → q ≡ Err g → AlikeResults r q → f ≡ g
 same_fault r q f g e d a = subst (λ (x : Result Session Fault). AlikeResults (Err f) x) d (subst (λ (x : Result Session Fault). AlikeResults x q) e a)
 
@@ -264,7 +256,7 @@ one_end [] number s e f h k clear_e clear_f = h ∙ sym k
 one_end (line ∷ rest) number s e f h k clear_e clear_f =
     let later_e : Option Session → Type 0 = λ v. CarriesOut (number + 1) v rest e in
     let later_f : Option Session → Type 0 = λ v. CarriesOut (number + 1) v rest f in
-    both_either (is_skipped line) (CarriesOut (number + 1) s rest e) (Performs number s line later_e e)
+    skip_alike (is_skipped line) (CarriesOut (number + 1) s rest e) (Performs number s line later_e e)
     (CarriesOut (number + 1) s rest f) (Performs number s line later_f f) (e ≡ f)
     (λ x y. one_end rest (number + 1) s e f x y clear_e clear_f)
     (λ x y. one_step (line_of (words line)) number s e f later_e later_f x.result y.result x.after y.after

@@ -196,7 +196,7 @@ go_on_alike number s t (Err f1) (Ok v) P Q e f a later h k = absurd a
 go_on_alike number s t (Err f1) (Err g) P Q e f a later h k =
     agrees_by (ended e) (ended f) _ _ (ap ended h) (ap ended k) (ap (λ (x : Fault). AtLine (record { number = number; fault = x })) a)
 
-skip_alike : (b : Bool) (A B C D E : Type 0) → (A → C → E) → (B → D → E) → SkipsOr b A B → SkipsOr b C D → E
+pub skip_alike : (b : Bool) (A B C D E : Type 0) → (A → C → E) → (B → D → E) → SkipsOr b A B → SkipsOr b C D → E
 skip_alike true A B C D E later here h k = later h k
 skip_alike false A B C D E later here h k = here h k
 
@@ -321,7 +321,7 @@ end_here : (number : ℕ) (s : Option Session) (r : Result Session Fault) (P : O
 end_here number s (Ok t) P e told later h = later (Some t) h
 end_here number s (Err f) P e told later h = subst IsToldEnd (sym h) told
 
-skip_told : (b : Bool) (A B C : Type 0) → (A → C) → (B → C) → SkipsOr b A B → C
+pub skip_told : (b : Bool) (A B C : Type 0) → (A → C) → (B → C) → SkipsOr b A B → C
 skip_told true A B C later here h = later h
 skip_told false A B C later here h = here h
 
