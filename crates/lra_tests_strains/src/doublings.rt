@@ -43,9 +43,24 @@ static OVER_POLYHEDRA: [(Pieces, &str); 5] = [
     (LOOP_PAST, "\nflagged at point 129\n"),
 ];
 
+/// A test that no store passes, behind which the entries of an octagon would double six times a variable.
+const EMPTY: Pieces = (
+    "int main(void){ long v1=0,v2=0,v3=0,v4=0,v5=0,v6=0,v7=0,v8=0,v9=0,v10=0,v11=0,v12=0",
+    "",
+    0,
+    ",v13=0,v14=0,v15=0,v16=0,v17=0,v18=0,v19=0,v20=0,v21=0,v22=0,v23=0,v24=0; if(v1<0) ; }",
+);
+
+/// Lines of reports over octagons.
+static OVER_OCTAGONS: [(Pieces, &str); 2] = [
+    (EMPTY, "\nflagged 0\n"),
+    (EMPTY, "point 26 main 1:167\n  unreachable\n"),
+];
+
 #[test]
 fn doublings(rt: HostRuntime) {
     are_proved(&rt, rt.alloc(), BOXES, &OVER_BOXES);
+    are_proved(&rt, rt.alloc(), "lra analyse --domain oct", &OVER_OCTAGONS);
     are_proved(&rt, rt.alloc(), "lra analyse", &OVER_POLYHEDRA);
 }
 
