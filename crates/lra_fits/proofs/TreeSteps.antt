@@ -35,9 +35,9 @@ use Rattle.lra_operations.specs.declared.graph.Node.{the_lemmas as node_lemmas}
 use Rattle.lra_operations.specs.declared.graph.Node.TheVariants as at
 use Rattle.lra_fits.specs.declared.operations.Verdict.{Verdict}
 use Rattle.lra_fits.specs.declared.trees.Due.{Due}
-use Rattle.lra_forms.proofs.TreeViews.{act_view, catch_view, check_view, choose_view, empty_view, entry_view, iterate_view, leave_view, point_view, select_view}
+use Rattle.lra_forms.proofs.TreeViews.{act_view, catch_view, check_view, choose_view, empty_view, iterate_view, leave_view, point_view, select_view}
 use Rattle.lra_forms.proofs.TreeViews.{seq_view}
-use Rattle.lra_forms.proofs.TreeViews.{tree_view}
+use Rattle.lra_operations.proofs.ArmViews.{entry_view, tree_view}
 use Rattle.lra_fits.specs.Due.{due_view, due_before, all_due, apart_before, due_size, all_left, fresh_at, own_asked, own_of, trees_of, IsOnWay, IsOpened}
 use Rattle.lra_fits.specs.Judged.{AreBelow, Fills, JudgesAsked}
 use Rattle.lra_fits.proofs.TableSteps.{none_fills, one_fills, then_fills}

@@ -13,6 +13,7 @@ use Rattle.lra_operations.specs.declared.graph.Arm.{Arm}
 use Rattle.lra_operations.specs.declared.graph.Arm.TheVariants.{Entry, Tree}
 use Rattle.lra_base.specs.declared.case_labels.CaseLabel.{CaseLabel}
 use Rattle.lra_operations.specs.Graph as graph
+use Rattle.lra_operations.proofs.ArmViews.{entry_view, tree_view}
 use Rattle.lra_operations.specs.GraphViews.{exit_view, node_view, op_view, row, ArmPart, arm_view, arms_of}
 use Rattle.lra_program.specs.declared.program.Expr.{Expr}
 use Rattle.lra_program.specs.declared.program.Cond.{Cond}
@@ -51,12 +52,6 @@ leave_view n k = search (rules, the_lemmas)
 pub select_view : (q base : ℕ) (e : Expr) (arms : Vec Arm Global)
     → node_view (Select q base e arms) ≡ graph.select q base (expr_view e) (arms_of (map arm_view arms.items))
 select_view q base e arms = search (rules, the_lemmas)
-
-pub entry_view : (l : CaseLabel) → arm_view (Entry l) ≡ graph.entry l
-entry_view l = search (rules, the_lemmas)
-
-pub tree_view : (g : Node) → arm_view (Tree g) ≡ graph.arm (node_view g)
-tree_view g = search (rules, the_lemmas)
 
 -- rows of a tree as it is seen
 pub taken_seen : {T E : Type 0} (r : outcome_or.Result T E) (s t : Listed ConKind) (n : ℕ) (g h : graph.Node) → g ≡ h → OnOk r (HasTaken s t (rows_in n h))

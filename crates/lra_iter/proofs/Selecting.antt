@@ -2,7 +2,7 @@
 -- find, and what comes out behind the last arm.
 use Rattle.std.proofs.Common.{Bor, Box, Global, ◌≡◌, ◌≤◌, ℕ, ℤ, List, [], ◌∷◌, map, Option, None, Some, Bool, true, false}
 use Rattle.std.proofs.Common.{refl, sym, ap, subst, ◌∙◌, append-nil}
-use Rattle.std.specs.Prelude.{◌||◌, IfOk}
+use Rattle.std.specs.Prelude.{IfOk}
 use Rattle.std.specs.Prelude as outcome_or
 use Rattle.std.specs.List.{Contains, list_any}
 use Rattle.lra_base.specs.CaseLabels.{are_alike}
@@ -18,6 +18,7 @@ use Rattle.lra_operations.specs.declared.graph.Arm.TheVariants.{Entry, Tree}
 use Rattle.lra_operations.specs.declared.graph.Node as node
 use Rattle.lra_operations.specs.Graph.{Exit, broken, continued, returned, Node, Arms, no_arms, entry, arm, select, entries_of}
 use Rattle.lra_operations.specs.GraphViews.{ArmPart, node_view, arm_view, arms_of}
+use Rattle.lra_operations.proofs.ArmViews.{arms_first, arms_none, entry_first, entry_seen, tree_first, tree_seen}
 use Rattle.lra_flow.specs.Room.{most_live}
 use Rattle.lra_flow.specs.Plan.{Plan}
 use Rattle.lra_flow.specs.Operations.{dropping}
@@ -30,7 +31,6 @@ use Rattle.lra_flow.proofs.Takes.{worse_exact, worse_worse}
 use Rattle.lra_flow.proofs.DivisionLemmas.{seen_fits}
 use Rattle.lra_change.specs.Changes.{Does}
 use Rattle.lra_change.specs.declared.sides.Kept.{Kept}
-use Rattle.lra_forms.proofs.TreeViews.{entry_view, tree_view}
 use Rattle.lra_iter.specs.declared.memory.Memory.{Memory}
 use Rattle.lra_iter.specs.declared.outcome.Found.{Found}
 use Rattle.lra_iter.specs.declared.outcome.Outcome.{Outcome}
@@ -47,44 +47,6 @@ use Rattle.lra_iter.proofs.Again.{none_noted}
 use Rattle.lra_iter.proofs.KeptLoops.{Later, later_noted, recall_later}
 use Rattle.lra_iter.proofs.PassRows.{same_lists, turns}
 use Rattle.lra_iter.proofs.PassSteps.{going_on_fits, in_both}
-
--- arms as they are seen -----------------------------------------------------------------------------------------------
-
-pub entry_seen : (a : Arm) (l : CaseLabel) (h : Arms) → a ≡ Entry l → arm_view a h ≡ entry l h
-entry_seen a l h is = ap (λ (x : Arm). arm_view x h) is ∙ ap (λ (f : ArmPart). f h) (entry_view l)
-
-pub tree_seen : (a : Arm) (g : node.Node) (h : Arms) → a ≡ Tree g → arm_view a h ≡ arm (node_view g) h
-tree_seen a g h is = ap (λ (x : Arm). arm_view x h) is ∙ ap (λ (f : ArmPart). f h) (tree_view g)
-
--- the first, and those behind it
-pub arms_first : (arms behind : List Arm) (a : Arm) → arms ≡ a ∷ behind → arms_of (map arm_view arms) ≡ arm_view a (arms_of (map arm_view behind))
-arms_first arms behind a is = ap (λ (xs : List Arm). arms_of (map arm_view xs)) is
-
-pub entry_first : (arms behind : List Arm) (a : Arm) (l : CaseLabel) → arms ≡ a ∷ behind → a ≡ Entry l
-    → arms_of (map arm_view arms) ≡ entry l (arms_of (map arm_view behind))
-entry_first arms behind a l is here = arms_first arms behind a is ∙ entry_seen a l (arms_of (map arm_view behind)) here
-
-pub tree_first : (arms behind : List Arm) (a : Arm) (g : node.Node) → arms ≡ a ∷ behind → a ≡ Tree g
-    → arms_of (map arm_view arms) ≡ arm (node_view g) (arms_of (map arm_view behind))
-tree_first arms behind a g is here = arms_first arms behind a is ∙ tree_seen a g (arms_of (map arm_view behind)) here
-
-pub arms_none : (arms : List Arm) → arms ≡ [] → arms_of (map arm_view arms) ≡ no_arms
-arms_none arms is = ap (λ (xs : List Arm). arms_of (map arm_view xs)) is
-
--- whether a label is `default` ----------------------------------------------------------------------------------------
-
-abbrev pub default_in : Arms → Bool
-default_in h = list_any (are_alike Default) (entries_of h)
-
-pub entry_default : (a : Arm) (l : CaseLabel) (b : Bool) (h : Arms) → a ≡ Entry l → b ≡ are_alike Default l → default_in (arm_view a h) ≡ (b || default_in h)
-entry_default a l b h is same = ap default_in (entry_seen a l h is) ∙ ap (λ (c : Bool). c || default_in h) (sym same)
-
-pub tree_default : (a : Arm) (g : node.Node) (h : Arms) → a ≡ Tree g → default_in (arm_view a h) ≡ (false || default_in h)
-tree_default a g h is = ap default_in (tree_seen a g h is)
-
-pub default_first : (arms behind : List Arm) (a : Arm) (b : Bool) → arms ≡ a ∷ behind → ((h : Arms) → default_in (arm_view a h) ≡ (b || default_in h))
-    → default_in (arms_of (map arm_view arms)) ≡ (b || default_in (arms_of (map arm_view behind)))
-default_first arms behind a b is first = ap default_in (arms_first arms behind a is) ∙ first (arms_of (map arm_view behind))
 
 -- no match ------------------------------------------------------------------------------------------------------------
 

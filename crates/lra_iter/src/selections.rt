@@ -1,11 +1,8 @@
 //! `switch`es: the value of no match, then the arms in text order. A label's entry is made from the value at the
 //! `switch`, and joins what runs there.
 
-ghost use Rattle.std.specs.Prelude.{◌≡◌, ◌≤◌, ◌+◌, ◌||◌, ◌∷◌, ℕ, true, map, List, IfOk, OnOk};
-ghost use Rattle.std.specs.List.{list_any};
+ghost use Rattle.std.specs.Prelude.{◌≡◌, ◌≤◌, ◌+◌, ◌∷◌, ℕ, true, map, List, IfOk, OnOk};
 ghost use Rattle.lra_base.specs.declared.case_labels.CaseLabel.{CaseLabel};
-ghost use Rattle.lra_base.specs.declared.case_labels.CaseLabel.TheVariants.{Default};
-ghost use Rattle.lra_base.specs.CaseLabels.{are_alike};
 ghost use Rattle.lra_domain.specs.declared.Exactness.{Exactness};
 ghost use Rattle.lra_program.specs.Program.{Expr};
 ghost use Rattle.lra_program.specs.ProgramViews.{expr_view};
@@ -32,45 +29,10 @@ use lra_change::{Kept, leave_number};
 use lra_domain::{Domain, Exactness, worse};
 use lra_flow::Seen;
 use lra_forms::see;
-use lra_operations::{Arm, Node};
+use lra_operations::{Arm, Node, any_default};
 use std::alloc::{AllocError, Global};
 
 // no match ------------------------------------------------------------------------------------------------------------
-
-fn names_default(label: &CaseLabel) -> bool
-    ensures { result ≡ are_alike Default label.now }
-{
-    match label {
-        CaseLabel::Case(_) => false,
-        CaseLabel::Default => true,
-    }
-}
-
-/// Whether the arm is the label `default`.
-fn is_default(arm: &Arm) -> bool
-    ensures { (behind : Arms) → list_any (are_alike Default) (entries_of
-        (arm_view arm.now behind)) ≡
-        (result || list_any (are_alike Default) (entries_of behind)) }
-{
-    match arm {
-        Arm::Entry(label) => names_default(label),
-        Arm::Tree(_) => false,
-    }
-}
-
-/// Whether one of the labels is `default`.
-fn any_default(arms: &[Arm]) -> bool
-    ensures { result ≡ list_any (are_alike Default) (entries_of (arms_of (map arm_view arms.now))) }
-{
-    let mut left = arms;
-    'arms: while let Some((arm, behind)) = left.split_first() {
-        if is_default(arm) {
-            return true;
-        }
-        left = behind;
-    }
-    false
-}
 
 /// What is left of the value where the label doesn't name what is seen, behind what led to it; all of it for `default`.
 fn leave_label<D: Domain>(

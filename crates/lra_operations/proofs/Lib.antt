@@ -4,5 +4,6 @@ mod DistinctExamples
 pub mod SizeLaws
 pub mod TrailLaws
 pub mod TrailUses
+pub mod ArmViews
 pub mod ArmRows
 mod TrailExamples

@@ -3,7 +3,9 @@
 //! Most of the crate is definitions: `specs/` is to be read from top to bottom, in the order of `specs/Lib.antt`.
 #![tactic(auto)]
 
+mod arms;
 pub mod forms;
 mod graph;
 
+pub use arms::any_default;
 pub use graph::{Arm, Exit, Graph, Node, Op, Path, Site};

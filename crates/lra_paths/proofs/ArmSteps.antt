@@ -1,16 +1,12 @@
 -- Arms of a `switch`: each is a label or a tree; the labels among them.
-use Rattle.std.proofs.Common.{◌≡◌, Bool, true, false, List, [], ◌∷◌, ◌++◌, map, refl, sym, ap, ◌∙◌, subst, append_assoc}
-use Rattle.std.specs.Prelude.{◌||◌}
-use Rattle.std.specs.List.{list_any}
+use Rattle.std.proofs.Common.{◌≡◌, List, [], ◌∷◌, ◌++◌, map, refl, sym, ap, ◌∙◌, subst, append_assoc}
 use Rattle.lra_base.specs.declared.case_labels.CaseLabel.{CaseLabel}
-use Rattle.lra_base.specs.declared.case_labels.CaseLabel.TheVariants.{Default}
-use Rattle.lra_base.specs.CaseLabels.{are_alike}
 use Rattle.lra_operations.specs.Graph.{Arms, no_arms, entries_of}
 use Rattle.lra_operations.specs.GraphViews.{ArmPart, arm_view, arms_before, arms_of}
 use Rattle.lra_operations.specs.declared.graph.Arm.{Arm, Arm-F, out-Arm, roll-Arm, roll-out-Arm}
 use Rattle.lra_operations.specs.declared.graph.Arm.TheVariants.{Entry, Tree}
 use Rattle.lra_operations.specs.declared.graph.Node.{Node}
-use Rattle.lra_forms.proofs.TreeViews.{entry_view, tree_view}
+use Rattle.lra_operations.proofs.ArmViews.{entry_view, tree_view}
 use Rattle.lra_paths.specs.Labels.{label_at, labels_in}
 
 -- arms -------------------------------------------------------------------------------------------------------------------
@@ -56,30 +52,3 @@ labels_more (b ∷ xs) a =
 
 pub labels_last : (xs ys : List Arm) (a : Arm) → xs ≡ ys ++ a ∷ [] → labels_in xs ≡ labels_in ys ++ label_at a
 labels_last xs ys a is = ap labels_in is ∙ labels_more ys a
-
--- whether one of them is `default`
-abbrev pub has_default : List CaseLabel → Bool
-has_default ls = list_any (are_alike Default) ls
-
-or_not : (b : Bool) → b ≡ (b || false)
-or_not true = refl
-or_not false = refl
-
-pub default_entry : (a : Arm) (l : CaseLabel) (b : Bool) → a ≡ Entry l → b ≡ are_alike Default l → b ≡ has_default (label_at a)
-default_entry a l b is same = same ∙ or_not (are_alike Default l) ∙ sym (ap has_default (label_of_entry a l is))
-
-pub default_tree : (a : Arm) (g : Node) → a ≡ Tree g → false ≡ has_default (label_at a)
-default_tree a g is = sym (ap has_default (label_of_tree a g is))
-
-any_more : (ks ls : List CaseLabel) → has_default (ks ++ ls) ≡ (has_default ks || has_default ls)
-any_more [] ls = refl
-any_more (k ∷ ks) ls = ap (λ b. are_alike Default k || b) (any_more ks ls) ∙ sym (or_assoc (are_alike Default k) (has_default ks) (has_default ls))
-  where
-    or_assoc : (a b c : Bool) → ((a || b) || c) ≡ (a || (b || c))
-    or_assoc true b c = refl
-    or_assoc false b c = refl
-
-pub default_first : (xs ys : List Arm) (a : Arm) (b : Bool) → xs ≡ a ∷ ys → b ≡ has_default (label_at a)
-    → has_default (labels_in xs) ≡ (b || has_default (labels_in ys))
-default_first xs ys a b is same =
-    ap has_default (labels_first xs ys a is) ∙ any_more (label_at a) (labels_in ys) ∙ sym (ap (λ c. c || has_default (labels_in ys)) same)

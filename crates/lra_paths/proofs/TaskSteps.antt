@@ -22,7 +22,8 @@ use Rattle.lra_operations.specs.declared.graph.Node as declared
 use Rattle.lra_operations.specs.declared.graph.Op as declared_op
 use Rattle.lra_operations.specs.declared.graph.Node.{the_lemmas as node_lemmas, Node-F, out-Node, roll-Node, roll-out-Node}
 use Rattle.lra_operations.specs.declared.graph.Node.TheVariants as at
-use Rattle.lra_forms.proofs.TreeViews.{entry_view, select_view, seq_view, tree_view}
+use Rattle.lra_operations.proofs.ArmViews.{entry_view, tree_view}
+use Rattle.lra_forms.proofs.TreeViews.{select_view, seq_view}
 use Rattle.lra_paths.specs.Labels.{labels_in}
 use Rattle.lra_paths.specs.Ways.{Step, goes_in}
 use Rattle.lra_paths.specs.Stretches.{AreWays, Stretch, from_labels, labelled, nothing_done, past_all, selected, sequenced, stretches, stretches_of}

@@ -20,7 +20,7 @@ use crate::stretches::{
     select, sequence,
 };
 use lra_base::CaseLabel;
-use lra_operations::{Arm, Exit, Node};
+use lra_operations::{Arm, Exit, Node, any_default};
 use lra_program::Cond;
 use std::alloc::{AllocError, Global};
 
@@ -272,39 +272,6 @@ fn open_choice<'g>(
 {
     push_both(left, on_true, Task::Choice(base, condition))?;
     push_task(left, Task::Tree(on_false))
-}
-
-fn names_default(label: CaseLabel) -> bool
-    ensures { result ≡ are_alike Default label }
-{
-    match label {
-        CaseLabel::Case(_) => false,
-        CaseLabel::Default => true,
-    }
-}
-
-/// Whether the arm is the label `default`.
-fn is_default(arm: &Arm) -> bool
-    ensures { result ≡ list_any (are_alike Default) (label_at arm.now) }
-{
-    match arm {
-        Arm::Entry(label) => names_default(*label),
-        Arm::Tree(_) => false,
-    }
-}
-
-/// Whether one of the labels is `default`.
-fn any_default(arms: &[Arm]) -> bool
-    ensures { result ≡ list_any (are_alike Default) (labels_in arms.now) }
-{
-    let mut left = arms;
-    'arms: while let Some((arm, behind)) = left.split_first() {
-        if is_default(arm) {
-            return true;
-        }
-        left = behind;
-    }
-    false
 }
 
 /// The way past all labels comes last, if there is one.

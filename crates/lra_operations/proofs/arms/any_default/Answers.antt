@@ -3,8 +3,8 @@ use Rattle.std.proofs.Common.{rules, ◌≡◌, ◌∷◌, ◌∙◌, Bool, map,
 use Rattle.std.specs.Prelude.{◌||◌}
 use Rattle.std.proofs.lemmas.List.{nil_from_length}
 use Rattle.lra_operations.specs.GraphViews.{arm_view, arms_of}
-use Rattle.lra_iter.proofs.Selecting.{arms_none, default_in, default_first}
-use Rattle.lra_iter.proofs.selections.any_default.Goals as goal
+use Rattle.lra_operations.proofs.ArmViews.{arms_none, default_in, default_first}
+use Rattle.lra_operations.proofs.arms.any_default.Goals as goal
 
 pub returns-then-is_default : goal.returns-then-is_default
 returns-then-is_default c =
