@@ -8,7 +8,7 @@ ghost use Rattle.lra_lex.specs.Front.{found_mark};
 use lra_tree::Mark;
 
 /// Every operator, and every reserved word that the grammar names.
-const MARKS: [Mark; 42] = [
+const MARKS: [Mark; 46] = [
     Mark::Plus,
     Mark::Minus,
     Mark::Star,
@@ -37,11 +37,14 @@ const MARKS: [Mark; 42] = [
     Mark::CloseBrace,
     Mark::Semicolon,
     Mark::Comma,
+    Mark::Colon,
     Mark::Assert,
     Mark::Assume,
     Mark::Input,
     Mark::Break,
+    Mark::Case,
     Mark::Continue,
+    Mark::Default,
     Mark::Else,
     Mark::Extern,
     Mark::For,
@@ -49,17 +52,16 @@ const MARKS: [Mark; 42] = [
     Mark::Int,
     Mark::Long,
     Mark::Return,
+    Mark::Switch,
     Mark::Void,
     Mark::While,
 ];
 
 /// The keywords of C that the grammar doesn't name.
-const FURTHER_WORDS: [&[u8]; 33] = [
+const FURTHER_WORDS: [&[u8]; 30] = [
     b"auto",
-    b"case",
     b"char",
     b"const",
-    b"default",
     b"do",
     b"double",
     b"enum",
@@ -73,7 +75,6 @@ const FURTHER_WORDS: [&[u8]; 33] = [
     b"sizeof",
     b"static",
     b"struct",
-    b"switch",
     b"typedef",
     b"union",
     b"unsigned",
@@ -123,11 +124,14 @@ pub fn spelling_of(mark: Mark) -> &'static [u8]
         Mark::CloseBrace => b"}",
         Mark::Semicolon => b";",
         Mark::Comma => b",",
+        Mark::Colon => b":",
         Mark::Assert => b"assert",
         Mark::Assume => b"assume",
         Mark::Input => b"input",
         Mark::Break => b"break",
+        Mark::Case => b"case",
         Mark::Continue => b"continue",
+        Mark::Default => b"default",
         Mark::Else => b"else",
         Mark::Extern => b"extern",
         Mark::For => b"for",
@@ -135,6 +139,7 @@ pub fn spelling_of(mark: Mark) -> &'static [u8]
         Mark::Int => b"int",
         Mark::Long => b"long",
         Mark::Return => b"return",
+        Mark::Switch => b"switch",
         Mark::Void => b"void",
         Mark::While => b"while",
     }

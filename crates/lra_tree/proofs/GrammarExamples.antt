@@ -1,13 +1,15 @@
 -- Trees and their tokens, and levels. Which slip an example would catch stands beside it.
-use Rattle.std.proofs.Common.{ℕ, [], ◌∷◌, refl}
+use Rattle.std.proofs.Common.{ℕ, negsuc, [], ◌∷◌, refl, arith, inr}
 use Rattle.std.specs.Prelude.{codes, None}
 use Rattle.lra_base.specs.declared.number_types.NumberType.TheVariants.{Int}
 use Rattle.lra_tree.specs.declared.tokens.Kind.{Kind}
 use Rattle.lra_tree.specs.declared.tokens.Kind.TheVariants.{Name, Number, Mark as MarkOf}
 use Rattle.lra_tree.specs.declared.tokens.Mark.{Mark}
 use Rattle.lra_tree.specs.declared.tokens.Mark.TheVariants as mark
+use Rattle.lra_tree.specs.declared.trees.PlacedLabel.{PlacedLabel}
+use Rattle.lra_base.specs.declared.case_labels.CaseLabel.TheVariants.{Case}
 use Rattle.lra_base.specs.Operators.{below}
-use Rattle.lra_tree.specs.Trees.{group, value, compare, group_of, CondTree, no_init, StmtTree, nothing, if_only, if_else, while, for}
+use Rattle.lra_tree.specs.Trees.{group, value, compare, group_of, CondTree, no_init, StmtTree, nothing, if_only, if_else, while, for, switch, no_cases, labelled, stated}
 use Rattle.lra_tree.specs.Texts.{Piece, Pieces}
 use Rattle.lra_tree.specs.Grammar.{IsTest, IsStmt}
 use Rattle.lra_tree.proofs.TreeSamples.{at, name_at, x_at, alone, number, use_of, tested}
@@ -77,3 +79,54 @@ not_a_condition l z s = s.1
 grouped_condition : IsTest 1 (group_of (tested (compare (use_of (x_at 2)) below (number 1))))
     (marked mark.OpenParen 1 2 ∷ piece (Name (codes "x")) 2 0 ∷ marked mark.Less 3 0 ∷ piece (Number Int 1) 4 0 ∷ marked mark.CloseParen 5 0 ∷ [])
 grouped_condition = ((_, _, refl, (at 1, refl), (_, _, refl, (_, _, refl, refl, (_, _, refl, (at 3, refl), (at 4, refl))), (at 5, refl))), tt)
+
+-- the braces of a `switch` ---------------------------------------------------------------------------------------------
+
+abbrev minus_one : PlacedLabel
+minus_one = record { label = Case (negsuc 0); place = at 17 }
+
+-- switch(1){case -1:;}
+-- the brace opens level 2; neither the sign nor the statement opens one
+one_case : IsStmt 0 1 (switch (at 1) (number 1) (labelled minus_one (stated (nothing (at 19)) no_cases)))
+    (marked mark.Switch 1 0 ∷ marked mark.OpenParen 7 0 ∷ piece (Number Int 1) 8 0 ∷ marked mark.CloseParen 9 0
+    ∷ marked mark.OpenBrace 10 2 ∷ marked mark.Case 11 0 ∷ marked mark.Minus 16 0 ∷ piece (Number Int 1) 17 0
+    ∷ marked mark.Colon 18 0 ∷ marked mark.Semicolon 19 0 ∷ marked mark.CloseBrace 20 0 ∷ [])
+one_case = (
+  _,
+  _,
+  refl,
+  refl,
+  (
+    _,
+    _,
+    refl,
+    (_, _, refl, (at 7, refl), (_, _, refl, (at 8, refl), (at 9, refl))),
+    (
+      _,
+      _,
+      refl,
+      (at 10, refl),
+      (
+        _,
+        _,
+        refl,
+        (
+          _,
+          _,
+          refl,
+          (_, _, refl, (_, _, refl, (at 11, refl), (Int, 1, omega arith, inr (refl, (_, _, refl, (at 16, refl), refl)))), (at 18, refl)),
+          (_, _, refl, refl, refl),
+        ),
+        (at 20, refl),
+      ),
+    ),
+  ),
+)
+
+-- catches a statement before the first label: no text has that tree
+no_statement_first : (o l : ℕ) (z : Pieces) → IsStmt o l (switch (at 1) (number 1) (stated (nothing (at 11)) no_cases)) z → ⊥
+no_statement_first o l z (x, y, e, word, (p, q, f, given, (r, s, g, opening, (t, u, h, none, closing)))) = none
+
+-- and a label that no statement follows
+no_label_last : (o l : ℕ) (z : Pieces) → IsStmt o l (switch (at 1) (number 1) (labelled minus_one no_cases)) z → ⊥
+no_label_last o l z (x, y, e, word, (p, q, f, given, (r, s, g, opening, (t, u, h, (v, w, i, label, none), closing)))) = none

@@ -1,17 +1,22 @@
 -- The grammar (after ISO/IEC 9899:2011, 6.5, 6.7, 6.8, 6.9): which tokens a tree has, one case for each production.
 -- l is the level of nesting at which a part stands, o the level that its first token opens. A function's body is level
--- 1; a block, a branch of an `if`, a loop's body, a grouping parenthesis and a unary operator open one more, from their
--- first to their last token.
-use Rattle.std.specs.Prelude.{◌≡◌, ℕ, ◌+◌, ◌⊎◌, pos, neg_ℤ, List, [], ◌∷◌, Option, Some}
+-- 1; a block, the braces of a `switch`, a branch of an `if`, a loop's body, a grouping parenthesis and a unary operator
+-- open one more, from their first to their last token.
+use Rattle.std.specs.Prelude.{◌≡◌, ℕ, ◌+◌, ◌≤◌, ◌⊎◌, pos, neg_ℤ, List, [], ◌∷◌, Option, Some}
 use Rattle.std.specs.Prelude.{None, ⊤}
 use Rattle.lra_base.specs.declared.number_types.NumberType.{NumberType}
 use Rattle.lra_base.specs.declared.number_types.NumberType.TheVariants.{Int, Long}
+use Rattle.lra_base.specs.declared.refusals.Place.{Place}
+use Rattle.lra_base.specs.declared.case_labels.CaseLabel.{CaseLabel}
+use Rattle.lra_base.specs.declared.case_labels.CaseLabel.TheVariants.{Case, Default}
 use Rattle.lra_tree.specs.declared.tokens.Mark.{Mark}
 use Rattle.lra_tree.specs.declared.tokens.Mark.TheVariants as mark
 use Rattle.lra_tree.specs.declared.trees.Identifier.{Identifier}
 use Rattle.lra_tree.specs.declared.trees.Parameter.{Parameter}
 use Rattle.lra_tree.specs.declared.trees.SignedLiteral.{SignedLiteral}
+use Rattle.lra_tree.specs.declared.trees.PlacedLabel.{PlacedLabel}
 use Rattle.lra_base.specs.Operators as operators
+use Rattle.lra_tree.specs.Lexeme.{greatest_literal}
 use Rattle.lra_tree.specs.Trees.{UnaryTree, negated, positive, literal, variable, input, group, TermTree, unary, times}
 use Rattle.lra_tree.specs.Trees.{over, modulo, ExprTree, term, plus, minus, NegationTree, opposite_again}
 use Rattle.lra_tree.specs.Trees.{value_of_unary, group_opposed, TestTree, opposite, value, compare, group_of}
@@ -19,9 +24,9 @@ use Rattle.lra_tree.specs.Trees.{ConjunctionTree, test, and, CondTree, conjuncti
 use Rattle.lra_tree.specs.Trees.{expression, result, StepTree, increment, decrement, AssignTree, set, update, after}
 use Rattle.lra_tree.specs.Trees.{before, DeclaratorTree, DeclarationTree, InitTree, no_init, declared, assigned}
 use Rattle.lra_tree.specs.Trees.{StmtTree, block, nothing, assign, call, if_only, if_else, while, for, break, continue}
-use Rattle.lra_tree.specs.Trees.{return, assert, assume, switch, ItemsTree, no_items, declaration, statement}
-use Rattle.lra_tree.specs.Trees.{FunctionTree, GlobalTree, GlobalsTree, PartTree, prototype, globals, function}
-use Rattle.lra_tree.specs.Trees.{FileTree}
+use Rattle.lra_tree.specs.Trees.{return, assert, assume, switch, CasesTree, no_cases, labelled, stated, ItemsTree}
+use Rattle.lra_tree.specs.Trees.{no_items, declaration, statement, FunctionTree, GlobalTree, GlobalsTree, PartTree}
+use Rattle.lra_tree.specs.Trees.{prototype, globals, function, FileTree}
 use Rattle.lra_tree.specs.Texts.{Texts, ◌⋅◌, ◌∣◌, empty, opens, mark, opens_at, name, number, number_at}
 use Rattle.lra_tree.specs.Texts.{end_at, separated}
 
@@ -140,7 +145,24 @@ IsDeclarator l d = name d.name 0 ⋅ IsGiven l d.rvalue
 abbrev pub IsDeclaration : ℕ → DeclarationTree → Texts
 IsDeclaration l d = IsType d.number_type ⋅ separated (IsDeclarator l) (d.first ∷ d.rest) ⋅ mark mark.Semicolon
 
+-- a literal of any type, with or without a sign; as no literal is greater, it has 64 bits with a sign too
+abbrev pub IsSigned : SignedLiteral → Texts
+IsSigned v z = (t : NumberType) × (n : ℕ) × (n ≤ greatest_literal) × (((v.value ≡ pos n) × number_at t n v.place z) ⊎
+    ((v.value ≡ neg_ℤ (pos n)) × (mark mark.Minus ⋅ number_at t n v.place) z))
+
 -- statements -------------------------------------------------------------------------------------------------------
+
+-- `case` and a literal, whose sign opens no level, or `default`
+abbrev pub IsCase : CaseLabel → Place → Texts
+IsCase (Case v) at = mark mark.Case ⋅ IsSigned (record { value = v; place = at })
+IsCase Default at = opens_at mark.Default at 0
+
+abbrev pub IsLabel : PlacedLabel → Texts
+IsLabel l = IsCase l.label l.place ⋅ mark mark.Colon
+
+-- what a `switch` looks for
+abbrev pub IsSwitched : ℕ → ExprTree → Texts
+IsSwitched l e = mark mark.OpenParen ⋅ IsExpr l e ⋅ mark mark.CloseParen
 
 -- it ends in an `if` without `else`, which would take an `else` behind it
 abbrev pub TakesElse : StmtTree → Type 0
@@ -171,6 +193,15 @@ abbrev pub IsReturned : ℕ → Option RvalueTree → Texts
 IsReturned l None = empty
 IsReturned l (Some e) = IsRvalue l e
 
+-- among other statements at level l: a block opens a level, another statement opens none
+abbrev pub opened_by : StmtTree → ℕ → ℕ
+opened_by (block items end) l = l + 1
+opened_by t l = 0
+
+abbrev pub level_of : StmtTree → ℕ → ℕ
+level_of (block items end) l = l + 1
+level_of t l = l
+
 abbrev mutual
   pub IsStmt : ℕ → ℕ → StmtTree → Texts
   IsStmt o l (block items end) = opens mark.OpenBrace o ⋅ AreItems l items ⋅ opens_at mark.CloseBrace end 0
@@ -189,16 +220,32 @@ abbrev mutual
   IsStmt o l (return at e) = opens_at mark.Return at o ⋅ IsReturned l e ⋅ mark mark.Semicolon
   IsStmt o l (assert at c) = opens_at mark.Assert at o ⋅ InParens l c ⋅ mark mark.Semicolon
   IsStmt o l (assume at c) = opens_at mark.Assume at o ⋅ InParens l c ⋅ mark mark.Semicolon
-  -- no text has one
-  IsStmt o l (switch at e cs) = λ z. ⊥
+  IsStmt o l (switch at e cs) = opens_at mark.Switch at o ⋅ IsSwitched l e ⋅ opens mark.OpenBrace (l + 1) ⋅
+      AreCases (l + 1) cs ⋅ mark mark.CloseBrace
 
-  -- a block among the items opens a level, another statement there opens none
+  -- the labels and statements of a `switch`: none, or a label first; behind a label a label or a statement; a
+  -- declaration is none
+  pub AreCases : ℕ → CasesTree → Texts
+  AreCases l no_cases = empty
+  AreCases l (labelled b cs) = IsLabel b ⋅ AreLabelled l cs
+  AreCases l (stated t cs) = λ z. ⊥
+
+  -- behind a label
+  pub AreLabelled : ℕ → CasesTree → Texts
+  AreLabelled l no_cases = λ z. ⊥
+  AreLabelled l (labelled b cs) = IsLabel b ⋅ AreLabelled l cs
+  AreLabelled l (stated t cs) = IsStmt (opened_by t l) (level_of t l) t ⋅ AreStated l cs
+
+  -- behind a statement
+  pub AreStated : ℕ → CasesTree → Texts
+  AreStated l no_cases = empty
+  AreStated l (labelled b cs) = IsLabel b ⋅ AreLabelled l cs
+  AreStated l (stated t cs) = IsStmt (opened_by t l) (level_of t l) t ⋅ AreStated l cs
+
   pub AreItems : ℕ → ItemsTree → Texts
   AreItems l no_items = empty
   AreItems l (declaration d items) = IsDeclaration l d ⋅ AreItems l items
-  AreItems l (statement (block inside end) items) = (opens mark.OpenBrace (l + 1) ⋅ AreItems (l + 1) inside ⋅
-      opens_at mark.CloseBrace end 0) ⋅ AreItems l items
-  AreItems l (statement t items) = IsStmt 0 l t ⋅ AreItems l items
+  AreItems l (statement t items) = IsStmt (opened_by t l) (level_of t l) t ⋅ AreItems l items
 
 -- the whole --------------------------------------------------------------------------------------------------------
 
@@ -218,11 +265,6 @@ abbrev pub IsFunction : FunctionTree → Texts
 IsFunction f =
     IsHead f.result_type f.name ⋅ mark mark.OpenParen ⋅ AreParameters f.parameters ⋅ mark mark.CloseParen
     ⋅ opens mark.OpenBrace 1 ⋅ AreItems 1 f.body ⋅ opens_at mark.CloseBrace f.end 0
-
--- a literal of any type, with or without a sign
-abbrev pub IsSigned : SignedLiteral → Texts
-IsSigned v z = (t : NumberType) × (n : ℕ) × (((v.value ≡ pos n) × number_at t n v.place z) ⊎
-    ((v.value ≡ neg_ℤ (pos n)) × (mark mark.Minus ⋅ number_at t n v.place) z))
 
 abbrev pub IsGlobal : GlobalTree → Texts
 IsGlobal g = name g.name 0 ⋅ IsFirstValue g.value

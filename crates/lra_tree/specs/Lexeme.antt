@@ -66,11 +66,14 @@ mark_text mark.OpenBrace = codes "{"
 mark_text mark.CloseBrace = codes "}"
 mark_text mark.Semicolon = codes ";"
 mark_text mark.Comma = codes ","
+mark_text mark.Colon = codes ":"
 mark_text mark.Assert = codes "assert"
 mark_text mark.Assume = codes "assume"
 mark_text mark.Input = codes "input"
 mark_text mark.Break = codes "break"
+mark_text mark.Case = codes "case"
 mark_text mark.Continue = codes "continue"
+mark_text mark.Default = codes "default"
 mark_text mark.Else = codes "else"
 mark_text mark.Extern = codes "extern"
 mark_text mark.For = codes "for"
@@ -78,22 +81,23 @@ mark_text mark.If = codes "if"
 mark_text mark.Int = codes "int"
 mark_text mark.Long = codes "long"
 mark_text mark.Return = codes "return"
+mark_text mark.Switch = codes "switch"
 mark_text mark.Void = codes "void"
 mark_text mark.While = codes "while"
 
 -- the reserved words that the grammar names
 abbrev pub named_words : List (List ℕ)
-named_words = codes "assert" ∷ codes "assume" ∷ codes "break" ∷ codes "continue" ∷ codes "else" ∷ codes "extern" ∷
-    codes "for" ∷ codes "if"
-    ∷ codes "input" ∷ codes "int" ∷ codes "long" ∷ codes "return" ∷ codes "void" ∷ codes "while" ∷ []
+named_words = codes "assert" ∷ codes "assume" ∷ codes "break" ∷ codes "case" ∷ codes "continue" ∷ codes "default" ∷
+    codes "else" ∷ codes "extern" ∷ codes "for" ∷ codes "if"
+    ∷ codes "input" ∷ codes "int" ∷ codes "long" ∷ codes "return" ∷ codes "switch" ∷ codes "void" ∷ codes "while" ∷ []
 
 -- the other keywords of C
 abbrev pub further_words : List (List ℕ)
 further_words = codes "auto" ∷
-    codes "case" ∷ codes "char" ∷ codes "const" ∷ codes "default" ∷ codes "do" ∷ codes "double" ∷ codes "enum"
+    codes "char" ∷ codes "const" ∷ codes "do" ∷ codes "double" ∷ codes "enum"
     ∷ codes "float" ∷ codes "goto" ∷ codes "inline" ∷ codes "register" ∷ codes "restrict" ∷ codes "short" ∷
     codes "signed" ∷ codes "sizeof"
-    ∷ codes "static" ∷ codes "struct" ∷ codes "switch" ∷ codes "typedef" ∷ codes "union" ∷ codes "unsigned" ∷
+    ∷ codes "static" ∷ codes "struct" ∷ codes "typedef" ∷ codes "union" ∷ codes "unsigned" ∷
     codes "volatile"
     ∷ codes "_Alignas" ∷ codes "_Alignof" ∷ codes "_Atomic" ∷ codes "_Bool" ∷ codes "_Complex" ∷ codes "_Generic" ∷
     codes "_Imaginary"

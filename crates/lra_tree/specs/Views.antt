@@ -29,9 +29,12 @@ use Rattle.lra_tree.specs.declared.trees.Declarator.{Declarator}
 use Rattle.lra_tree.specs.declared.trees.Declaration.{Declaration}
 use Rattle.lra_tree.specs.declared.trees.Init.{Init}
 use Rattle.lra_tree.specs.declared.trees.Init.TheVariants as init
-use Rattle.lra_tree.specs.declared.trees.BlockItem.TheFolds.{fold-BlockItem, fold-Stmt, fold-Block}
-use Rattle.lra_tree.specs.declared.trees.BlockItem.TheOpen.{BlockItem-F, Stmt-F, Block-F}
+use Rattle.lra_tree.specs.declared.trees.BlockItem.TheFolds.{fold-BlockItem, fold-CaseItem, fold-Stmt, fold-Block}
+use Rattle.lra_tree.specs.declared.trees.BlockItem.TheFolds.{fold-Cases}
+use Rattle.lra_tree.specs.declared.trees.BlockItem.TheOpen.{BlockItem-F, CaseItem-F, Stmt-F, Block-F, Cases-F}
 use Rattle.lra_tree.specs.declared.trees.BlockItem.{BlockItem}
+use Rattle.lra_tree.specs.declared.trees.CaseItem.{CaseItem}
+use Rattle.lra_tree.specs.declared.trees.Cases.{Cases}
 use Rattle.lra_tree.specs.declared.trees.Stmt.{Stmt}
 use Rattle.lra_tree.specs.declared.trees.Block.{Block}
 use Rattle.lra_tree.specs.declared.trees.Function.{Function}
@@ -190,22 +193,39 @@ init_view init.Nothing = tree.no_init
 init_view (init.Declaration d) = tree.declared (declaration_view d)
 init_view (init.Assign a) = tree.assigned (assign_view a)
 
--- statements: an item of a block is what it puts before the items behind it -----------------------------------------
+-- statements: an item of a block or of a `switch` is what it puts before those behind it ------------------------------
 
-abbrev pub items_of : List (tree.ItemsTree → tree.ItemsTree) → tree.ItemsTree
+abbrev pub ItemPart : Type 0
+ItemPart = tree.ItemsTree → tree.ItemsTree
+
+abbrev pub items_of : List ItemPart → tree.ItemsTree
 items_of [] = tree.no_items
 items_of (f ∷ fs) = f (items_of fs)
 
-abbrev pub item_step : BlockItem-F (tree.ItemsTree → tree.ItemsTree) tree.StmtTree (tree.ItemsTree × Place) →
-    tree.ItemsTree → tree.ItemsTree
+abbrev pub CasePart : Type 0
+CasePart = tree.CasesTree → tree.CasesTree
+
+abbrev pub cases_of : List CasePart → tree.CasesTree
+cases_of [] = tree.no_cases
+cases_of (f ∷ fs) = f (cases_of fs)
+
+abbrev pub item_step : BlockItem-F ItemPart CasePart tree.StmtTree (tree.ItemsTree × Place) tree.CasesTree → ItemPart
 item_step (BlockItem-F.Declaration d) = tree.declaration (declaration_view d)
 item_step (BlockItem-F.Statement s) = tree.statement s
 
-abbrev pub block_step : Block-F (tree.ItemsTree → tree.ItemsTree) tree.StmtTree (tree.ItemsTree × Place) →
+abbrev pub case_step : CaseItem-F ItemPart CasePart tree.StmtTree (tree.ItemsTree × Place) tree.CasesTree → CasePart
+case_step (CaseItem-F.Label l) = tree.labelled l
+case_step (CaseItem-F.Stated s) = tree.stated s
+
+abbrev pub block_step : Block-F ItemPart CasePart tree.StmtTree (tree.ItemsTree × Place) tree.CasesTree →
     tree.ItemsTree × Place
 block_step b = (items_of b.items.items, b.end)
 
-abbrev pub stmt_step : Stmt-F (tree.ItemsTree → tree.ItemsTree) tree.StmtTree (tree.ItemsTree × Place) → tree.StmtTree
+abbrev pub cases_step : Cases-F ItemPart CasePart tree.StmtTree (tree.ItemsTree × Place) tree.CasesTree →
+    tree.CasesTree
+cases_step c = cases_of c.items.items
+
+abbrev pub stmt_step : Stmt-F ItemPart CasePart tree.StmtTree (tree.ItemsTree × Place) tree.CasesTree → tree.StmtTree
 stmt_step (Stmt-F.Block b) = tree.block b.0 b.1
 stmt_step (Stmt-F.Nothing at) = tree.nothing at
 stmt_step (Stmt-F.Assign a) = tree.assign (assign_view a)
@@ -220,18 +240,27 @@ stmt_step (Stmt-F.Continue at) = tree.continue at
 stmt_step (Stmt-F.Return at e) = tree.return at (option_map rvalue_view e)
 stmt_step (Stmt-F.Assert at c) = tree.assert at (cond_view c)
 stmt_step (Stmt-F.Assume at c) = tree.assume at (cond_view c)
+stmt_step (Stmt-F.Switch at e cs) = tree.switch at (expr_view e) cs
 
-abbrev pub item_view : BlockItem → tree.ItemsTree → tree.ItemsTree
-item_view = fold-BlockItem (tree.ItemsTree → tree.ItemsTree) tree.StmtTree
-    (tree.ItemsTree × Place) item_step stmt_step block_step
+abbrev pub item_view : BlockItem → ItemPart
+item_view = fold-BlockItem ItemPart CasePart tree.StmtTree (tree.ItemsTree × Place) tree.CasesTree
+    item_step case_step stmt_step block_step cases_step
+
+abbrev pub case_view : CaseItem → CasePart
+case_view = fold-CaseItem ItemPart CasePart tree.StmtTree (tree.ItemsTree × Place) tree.CasesTree
+    item_step case_step stmt_step block_step cases_step
 
 abbrev pub stmt_view : Stmt → tree.StmtTree
-stmt_view = fold-Stmt (tree.ItemsTree → tree.ItemsTree) tree.StmtTree
-    (tree.ItemsTree × Place) item_step stmt_step block_step
+stmt_view = fold-Stmt ItemPart CasePart tree.StmtTree (tree.ItemsTree × Place) tree.CasesTree
+    item_step case_step stmt_step block_step cases_step
 
 abbrev pub block_view : Block → tree.ItemsTree × Place
-block_view = fold-Block (tree.ItemsTree → tree.ItemsTree) tree.StmtTree
-    (tree.ItemsTree × Place) item_step stmt_step block_step
+block_view = fold-Block ItemPart CasePart tree.StmtTree (tree.ItemsTree × Place) tree.CasesTree
+    item_step case_step stmt_step block_step cases_step
+
+abbrev pub cases_view : Cases → tree.CasesTree
+cases_view = fold-Cases ItemPart CasePart tree.StmtTree (tree.ItemsTree × Place) tree.CasesTree
+    item_step case_step stmt_step block_step cases_step
 
 -- the whole --------------------------------------------------------------------------------------------------------
 

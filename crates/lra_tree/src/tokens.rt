@@ -65,11 +65,15 @@ pub enum Mark {
     Semicolon,
     /// `,`
     Comma,
+    /// `:`
+    Colon,
     Assert,
     Assume,
     Input,
     Break,
+    Case,
     Continue,
+    Default,
     Else,
     Extern,
     For,
@@ -77,6 +81,7 @@ pub enum Mark {
     Int,
     Long,
     Return,
+    Switch,
     Void,
     While,
 }

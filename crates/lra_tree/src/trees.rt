@@ -7,6 +7,7 @@ ghost use Rattle.lra_tree.specs.Trees.{ExprTree, value, test, conjunction};
 ghost use Rattle.lra_tree.specs.Branches.{size_left};
 ghost use Rattle.lra_tree.specs.declared.trees.Stmt.{size-Stmt};
 ghost use Rattle.lra_tree.specs.declared.trees.BlockItem.{size-BlockItem};
+ghost use Rattle.lra_tree.specs.declared.trees.CaseItem.{size-CaseItem};
 ghost use Rattle.lra_tree.specs.Views.{all_tests, any_conjunction, expr_view, test_view, conjunction_view, cond_view};
 
 use crate::tokens::Word;
@@ -376,6 +377,7 @@ pub enum Stmt {
     Return(Place, Option<Rvalue>),
     Assert(Place, Cond),
     Assume(Place, Cond),
+    Switch(Place, Expr, Cases),
 }
 
 impl Drop for Stmt {
@@ -405,6 +407,7 @@ impl Stmt {
             Stmt::Return(_, _) => Branches::Nothing,
             Stmt::Assert(_, _) => Branches::Nothing,
             Stmt::Assume(_, _) => Branches::Nothing,
+            Stmt::Switch(_, _, cases) => Branches::Cases(cases),
         }
     }
 }
@@ -413,6 +416,7 @@ impl Stmt {
 enum Branches {
     Nothing,
     Items(Block),
+    Cases(Cases),
     One(Box<Stmt>),
     Two(Box<Stmt>, Box<Stmt>),
 }
@@ -425,6 +429,7 @@ impl Drop for Branches {
             match self {
                 Branches::Nothing => return,
                 Branches::Items(_block) => return,
+                Branches::Cases(_cases) => return,
                 Branches::One(branch) => self = open_branch(branch),
                 Branches::Two(branch, other) => {
                     let _first = open_branch(branch);
@@ -481,6 +486,46 @@ impl Drop for Block {
     #[cycle(statement_drop)]
     fn drop(self) {
         let Block { items: _, end: _ } = self;
+    }
+}
+
+/// A label of a `switch`, or a statement among them.
+#[cycle(statement)]
+pub enum CaseItem {
+    Label(PlacedLabel),
+    Stated(Stmt),
+}
+
+impl Drop for CaseItem {
+    #[cycle(statement_drop)]
+    fn drop(self) {
+        let _branches = self.into_branches();
+    }
+}
+
+impl CaseItem {
+    /// The statements directly in the statement that this is; all else of it is dropped.
+    #[inline(never)]
+    fn into_branches(self) -> Branches
+        ensures { size_left result < size-CaseItem self }
+    {
+        match self {
+            CaseItem::Label(_) => Branches::Nothing,
+            CaseItem::Stated(stmt) => stmt.into_branches(),
+        }
+    }
+}
+
+/// What a `switch` has between its braces: labels and statements in text order, all in one list.
+#[cycle(statement)]
+pub struct Cases {
+    pub items: Vec<CaseItem>,
+}
+
+impl Drop for Cases {
+    #[cycle(statement_drop)]
+    fn drop(self) {
+        let Cases { items: _ } = self;
     }
 }
 
