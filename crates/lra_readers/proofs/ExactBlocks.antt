@@ -1,9 +1,8 @@
--- The readers of blocks, branches and their levels are exact.
-use Rattle.std.proofs.Common.{◌≡◌, ℕ, ◌+◌, zero, suc, ◌≤◌, ◌<◌, Bool, true, false, ◌||◌, ◌⊎◌, List, [], ◌∷◌, ◌++◌, Option, Some, None, refl, sym, ap, subst, ◌∙◌, arith, inl, inr, option_map}
+-- The readers of blocks are exact.
+use Rattle.std.proofs.Common.{◌≡◌, ℕ, ◌+◌, ◌≤◌, Bool, true, false, ◌||◌, ◌⊎◌, List, [], ◌∷◌, ◌++◌, Option, Some, None, refl, sym, ap, subst, ◌∙◌, arith, inl, inr, option_map}
 use Rattle.std.specs.Bool.{⊤}
 use Rattle.std.proofs.lemmas.List.{append-nil}
 use Rattle.lra_base.specs.declared.refusals.Place.{Place}
-use Rattle.lra_base.specs.declared.refusals.Cause.TheVariants.{TooDeep}
 use Rattle.lra_tree.specs.declared.tokens.Mark.{Mark}
 use Rattle.lra_tree.specs.declared.tokens.Mark.TheVariants as mark
 use Rattle.lra_tree.specs.declared.tokens.Kind.{Kind}
@@ -12,27 +11,26 @@ use Rattle.lra_tree.specs.declared.tokens.Token.{Token}
 use Rattle.lra_tree.specs.declared.trees.Identifier.{Identifier}
 use Rattle.lra_tree.specs.declared.trees.Step.{Step}
 use Rattle.lra_tree.specs.declared.trees.Step.TheVariants as step
-use Rattle.lra_tree.specs.Texts.{Piece, Pieces, Texts, ◌⋅◌, opens, opens_at}
+use Rattle.lra_tree.specs.Texts.{Pieces, Texts, ◌⋅◌, opens, opens_at}
 use Rattle.lra_tree.specs.Trees.{StmtTree, block, nothing, assign, call, if_only, if_else, while, for, break, continue, return, assert, assume, increment, after, before, no_init, ItemsTree, no_items}
-use Rattle.lra_tree.specs.Trees.{switch, declaration, statement}
+use Rattle.lra_tree.specs.Trees.{switch, no_cases, declaration, statement}
 use Rattle.lra_tree.specs.Views.{step_view}
-use Rattle.lra_tree.specs.Grammar.{IsAssign, IsDeclaration, IsStmt, AreItems}
-use Rattle.lra_readers.specs.Tests.{is_mark}
-use Rattle.lra_readers.specs.Reading.{Parse, stop, map_read, identifier_of, has, one_of}
-use Rattle.lra_readers.specs.Statements.{begins_type, next_step, step_marks, StmtMark, at_nothing, at_if, at_while, at_for, at_break, at_continue, at_return, at_assert, at_assume, stmt_marks, stmt_mark}
+use Rattle.lra_tree.specs.Grammar.{IsDeclaration, opened_by, level_of, IsStmt, AreItems}
+use Rattle.lra_readers.specs.Tests.{is_mark, begins_label}
+use Rattle.lra_readers.specs.Reading.{Parse, identifier_of, has, one_of}
+use Rattle.lra_readers.specs.Statements.{begins_type, next_step, step_marks, StmtMark, at_nothing, at_if, at_while, at_for, at_break, at_continue, at_return, at_assert, at_assume, at_switch, stmt_marks, stmt_mark}
 use Rattle.lra_readers.specs.Statements.{begins_stmt}
-use Rattle.lra_readers.specs.Statements.{ItemTree, declared, stated, items_from, begins_item, stated_of, item_of, items_of, body_of, block_from, too_deep, levels, branch_at, block_at, simple_at}
-use Rattle.lra_readers.specs.Statements.{items_at}
+use Rattle.lra_readers.specs.Statements.{ItemTree, declared, stated, items_from, begins_item, stated_of, item_of, items_of, body_of}
 use Rattle.lra_readers.proofs.Marks.{is_mark_some}
 use Rattle.lra_readers.proofs.Exact.{Exact, Any, Free, Both, test, first_or, then}
-use Rattle.lra_readers.proofs.Forms.{rename, widen, retell, entry, mapped, branch, exact_stop, exact_deep}
+use Rattle.lra_readers.proofs.Forms.{rename, widen, retell, entry, mapped, branch}
 use Rattle.lra_readers.proofs.Tokens.{IsInner, exact_expect_at, some_place, some_name}
-use Rattle.lra_readers.proofs.Chain.{regroup, Items, AfterLast, all_last, exact_list}
+use Rattle.lra_readers.proofs.Chain.{Items, AfterLast, all_last, exact_list}
 use Rattle.lra_readers.proofs.Parts.{token, exact_behind, table_mark}
-use Rattle.lra_readers.proofs.ExactExpressions.{Of, first_opened, opened_over}
+use Rattle.lra_readers.proofs.ExactExpressions.{Of, first_opened, some_expr}
 use Rattle.lra_readers.proofs.ExactConditions.{some_cond}
-use Rattle.lra_readers.proofs.ExactAssignments.{mark_of_step, from_assign, placed_first, assign_no_mark, declaration_first, exact_declaration}
-use Rattle.lra_readers.proofs.ExactStatements.{AfterStmt, IsBlock, SimpleText, mark_of_stmt, SimpleAt, from_simple, exact_simple}
+use Rattle.lra_readers.proofs.ExactAssignments.{mark_of_step, placed_first, assign_no_mark, declaration_first, exact_declaration}
+use Rattle.lra_readers.proofs.ExactStatements.{AfterStmt, IsBlock, SimpleText, mark_of_stmt, SimpleAt, from_simple}
 
 -- how a statement begins ------------------------------------------------------------------------------------------
 
@@ -48,6 +46,7 @@ simple_first o l (Some at_continue) t z i (at, f, (x, y, e, s, r)) P marks names
 simple_first o l (Some at_return) t z i (at, (x, y, e, s, r)) P marks names steps = placed_first P mark.Return at o x y z i e s (marks at_return at)
 simple_first o l (Some at_assert) t z i (at, (x, y, e, s, r)) P marks names steps = placed_first P mark.Assert at o x y z i e s (marks at_assert at)
 simple_first o l (Some at_assume) t z i (at, (x, y, e, s, r)) P marks names steps = placed_first P mark.Assume at o x y z i e s (marks at_assume at)
+simple_first o l (Some at_switch) t z i (at, (x, y, e, s, r)) P marks names steps = placed_first P mark.Switch at o x y z i e s (marks at_switch at)
 simple_first o l None t z i (inl (x, (u, v, e, s, r))) P marks names steps = subst (λ (w : Pieces). P (first_or w i)) (sym (e ∙ ap (λ (w : Pieces). w ++ v) s)) (names x)
 simple_first o l None t z i (inr ((a, f, (x, y, e, s, r)), k)) P marks names steps = assign_no_mark o l a x y z i e s P names steps
 
@@ -68,10 +67,10 @@ is_block (assert at c) = inr (λ b. b)
 is_block (assume at c) = inr (λ b. b)
 is_block (switch at e cs) = inr (λ b. b)
 
-abbrev BlockText : ℕ → ℕ → StmtTree → Texts
+abbrev pub BlockText : ℕ → ℕ → StmtTree → Texts
 BlockText o l t z = IsStmt o l t z × IsBlock t
 
-block_first : (o l : ℕ) (t : StmtTree) (z : Pieces) (i : Option Token) → BlockText o l t z → (P : Option Token → Type 0) → ((at : Place) → P (Some (token mark.OpenBrace at))) → P (first_or z i)
+pub block_first : (o l : ℕ) (t : StmtTree) (z : Pieces) (i : Option Token) → BlockText o l t z → (P : Option Token → Type 0) → ((at : Place) → P (Some (token mark.OpenBrace at))) → P (first_or z i)
 block_first o l (block is end) z i ((x, y, e, s, r), b) P f = first_opened P mark.OpenBrace o x y z i e s f
 block_first o l (nothing at) z i s P f = absurd s.1
 block_first o l (assign a) z i s P f = absurd s.1
@@ -97,7 +96,7 @@ pub record Begins (P : Option Token → Type 0) : Type 0 where
 simple_begins : (P : Option Token → Type 0) → Begins P → (o l : ℕ) (t : StmtTree) (z : Pieces) (i : Option Token) → SimpleText o l t z → P (first_or z i)
 simple_begins P h o l t z i s = let k = from_simple o l t z s in simple_first o l k.0 t z i k.1 P h.marks h.names h.steps
 
-stmt_begins : (P : Option Token → Type 0) → Begins P → (o l : ℕ) (t : StmtTree) (z : Pieces) (i : Option Token) → IsStmt o l t z → P (first_or z i)
+pub stmt_begins : (P : Option Token → Type 0) → Begins P → (o l : ℕ) (t : StmtTree) (z : Pieces) (i : Option Token) → IsStmt o l t z → P (first_or z i)
 stmt_begins P h o l t z i s = elim (is_block t) [
   | inl b ↦ block_first o l t z i (s, b) P h.braces
   | inr b ↦ simple_begins P h o l t z i (s, b)
@@ -113,6 +112,7 @@ stmt_self at_continue at = refl
 stmt_self at_return at = refl
 stmt_self at_assert at = refl
 stmt_self at_assume at = refl
+stmt_self at_switch at = refl
 
 begin_marks : (m : StmtMark) (at : Place) → begins_stmt (Some (token (mark_of_stmt m) at)) ≡ true
 begin_marks at_nothing at = refl
@@ -124,12 +124,13 @@ begin_marks at_continue at = refl
 begin_marks at_return at = refl
 begin_marks at_assert at = refl
 begin_marks at_assume at = refl
+begin_marks at_switch at = refl
 
 begin_steps : (s : Step) (at : Place) → begins_stmt (Some (token (mark_of_step s) at)) ≡ true
 begin_steps step.Increment at = refl
 begin_steps step.Decrement at = refl
 
-all_begin : Begins (λ o. begins_stmt o ≡ true)
+pub all_begin : Begins (λ o. begins_stmt o ≡ true)
 all_begin = record { braces = λ at. refl; marks = begin_marks; names = λ x. refl; steps = begin_steps }
 
 not_brace_marks : (m : StmtMark) (at : Place) → is_mark mark.OpenBrace (Some (token (mark_of_stmt m) at)) ≡ false
@@ -142,6 +143,7 @@ not_brace_marks at_continue at = refl
 not_brace_marks at_return at = refl
 not_brace_marks at_assert at = refl
 not_brace_marks at_assume at = refl
+not_brace_marks at_switch at = refl
 
 no_type_marks : (m : StmtMark) (at : Place) → begins_type (Some (token (mark_of_stmt m) at)) ≡ false
 no_type_marks at_nothing at = refl
@@ -153,6 +155,7 @@ no_type_marks at_continue at = refl
 no_type_marks at_return at = refl
 no_type_marks at_assert at = refl
 no_type_marks at_assume at = refl
+no_type_marks at_switch at = refl
 
 no_type_steps : (s : Step) (at : Place) → begins_type (Some (token (mark_of_step s) at)) ≡ false
 no_type_steps step.Increment at = refl
@@ -161,6 +164,25 @@ no_type_steps step.Decrement at = refl
 not_brace_steps : (s : Step) (at : Place) → is_mark mark.OpenBrace (Some (token (mark_of_step s) at)) ≡ false
 not_brace_steps step.Increment at = refl
 not_brace_steps step.Decrement at = refl
+
+no_label_marks : (m : StmtMark) (at : Place) → begins_label (Some (token (mark_of_stmt m) at)) ≡ false
+no_label_marks at_nothing at = refl
+no_label_marks at_if at = refl
+no_label_marks at_while at = refl
+no_label_marks at_for at = refl
+no_label_marks at_break at = refl
+no_label_marks at_continue at = refl
+no_label_marks at_return at = refl
+no_label_marks at_assert at = refl
+no_label_marks at_assume at = refl
+no_label_marks at_switch at = refl
+
+no_label_steps : (s : Step) (at : Place) → begins_label (Some (token (mark_of_step s) at)) ≡ false
+no_label_steps step.Increment at = refl
+no_label_steps step.Decrement at = refl
+
+no_label : Begins (λ o. begins_label o ≡ false)
+no_label = record { braces = λ at. refl; marks = no_label_marks; names = λ x. refl; steps = no_label_steps }
 
 no_type : Begins (λ o. begins_type o ≡ false)
 no_type = record { braces = λ at. refl; marks = no_type_marks; names = λ x. refl; steps = no_type_steps }
@@ -201,6 +223,11 @@ start_mark o at_continue at = (continue at, _, (_, _, refl, refl, (some_place, r
 start_mark o at_return at = (return at None, _, (_, _, refl, refl, (_, _, refl, refl, (some_place, refl))))
 start_mark o at_assert at = (assert at (some_cond o).0, _, (_, _, refl, refl, (_, _, refl, (_, _, refl, (some_place, refl), (_, _, refl, (some_cond o).2, (some_place, refl))), (some_place, refl))))
 start_mark o at_assume at = (assume at (some_cond o).0, _, (_, _, refl, refl, (_, _, refl, (_, _, refl, (some_place, refl), (_, _, refl, (some_cond o).2, (some_place, refl))), (some_place, refl))))
+start_mark o at_switch at = (
+  switch at (some_expr o).0 no_cases,
+  _,
+  (_, _, refl, refl, (_, _, refl, (_, _, refl, (some_place, refl), (_, _, refl, (some_expr o).2, (some_place, refl))), (_, _, refl, (some_place, refl), (_, _, refl, refl, (some_place, refl))))),
+)
 
 start_step : (o : ℕ) (s : Step) (at : Place) → Starts o (token (mark_of_step s) at)
 start_step o s at = (assign (before at (step_view s) some_name), _, (_, _, refl, (_, _, refl, refl, refl), (some_place, refl)))
@@ -237,13 +264,13 @@ no_start t a b c d e =
     let f : begins_stmt (Some t) ≡ false = rw (a, b, c', d) refl in
     cc
 
-starts : (o : ℕ) (t : Token) → begins_stmt (Some t) ≡ true → Starts o t
+pub starts : (o : ℕ) (t : Token) → begins_stmt (Some t) ≡ true → Starts o t
 starts o t e = elim (test (is_mark mark.OpenBrace (Some t))) [
   | inl on ↦ subst (Starts o) (sym (is_mark_some mark.OpenBrace t on)) (start_brace o t.place)
   | inr off ↦ elim (test (has (stmt_mark (Some t)))) [
     | inl on ↦
         let m = some_of (stmt_mark (Some t)) on in
-        let k = the_token mark_of_stmt t m.0 (table_mark mark_of_stmt stmt_marks (refl, (refl, (refl, (refl, (refl, (refl, (refl, (refl, (refl, tt))))))))) (Some t) m.0 m.1) in
+        let k = the_token mark_of_stmt t m.0 (table_mark mark_of_stmt stmt_marks (refl, (refl, (refl, (refl, (refl, (refl, (refl, (refl, (refl, (refl, tt)))))))))) (Some t) m.0 m.1) in
         subst (Starts o) (sym k.1) (start_mark o m.0 k.0)
     | inr off' ↦ elim (test (has (one_of step_marks (Some t)))) [
       | inl on ↦
@@ -262,59 +289,25 @@ starts o t e = elim (test (is_mark mark.OpenBrace (Some t))) [
 
 -- a statement among items
 abbrev pub StatedText : ℕ → StmtTree → Texts
-StatedText l (block is end) = IsStmt (l + 1) (l + 1) (block is end)
-StatedText l t = IsStmt 0 l t
+StatedText l t = IsStmt (opened_by t l) (level_of t l) t
 
 abbrev pub ItemText : ℕ → ItemTree → Texts
 ItemText l (declared d) z = IsDeclaration l d z
 ItemText l (stated t) z = StatedText l t z
 
-stated_in : (l : ℕ) (t : StmtTree) (items : ItemsTree) (z : Pieces) → (StatedText l t ⋅ AreItems l items) z → AreItems l (statement t items) z
-stated_in l (block is end) items z h = h
-stated_in l (nothing at) items z h = h
-stated_in l (assign a) items z h = h
-stated_in l (call c) items z h = h
-stated_in l (if_only at c t) items z h = h
-stated_in l (if_else at c t e) items z h = h
-stated_in l (while at c b) items z h = h
-stated_in l (for at i c e b) items z h = h
-stated_in l (break at) items z h = h
-stated_in l (continue at) items z h = h
-stated_in l (return at e) items z h = h
-stated_in l (assert at c) items z h = h
-stated_in l (assume at c) items z h = h
-stated_in l (switch at e cs) items z h = h
-
-stated_out : (l : ℕ) (t : StmtTree) (items : ItemsTree) (z : Pieces) → AreItems l (statement t items) z → (StatedText l t ⋅ AreItems l items) z
-stated_out l (block is end) items z h = h
-stated_out l (nothing at) items z h = h
-stated_out l (assign a) items z h = h
-stated_out l (call c) items z h = h
-stated_out l (if_only at c t) items z h = h
-stated_out l (if_else at c t e) items z h = h
-stated_out l (while at c b) items z h = h
-stated_out l (for at i c e b) items z h = h
-stated_out l (break at) items z h = h
-stated_out l (continue at) items z h = h
-stated_out l (return at e) items z h = h
-stated_out l (assert at c) items z h = h
-stated_out l (assume at c) items z h = h
-stated_out l (switch at e cs) items z h = h
-
 pub to_items : (l : ℕ) (is : List ItemTree) (z : Pieces) → Items (ItemText l) is z → AreItems l (items_from is) z
 to_items l [] z e = e
 to_items l (declared d ∷ is) z (x, y, e, s, r) = (x, y, e, s, to_items l is y r)
-to_items l (stated t ∷ is) z (x, y, e, s, r) = stated_in l t (items_from is) z (x, y, e, s, to_items l is y r)
+to_items l (stated t ∷ is) z (x, y, e, s, r) = (x, y, e, s, to_items l is y r)
 
 pub from_items : (l : ℕ) (items : ItemsTree) (z : Pieces) → AreItems l items z → (is : List ItemTree) × (items_from is ≡ items) × Items (ItemText l) is z
 from_items l no_items z e = ([], refl, e)
 from_items l (declaration d items) z (x, y, e, s, r) =
     let k = from_items l items y r in
     (declared d ∷ k.0, ap (λ (i : ItemsTree). declaration d i) k.1, (x, y, e, s, k.2))
-from_items l (statement t items) z h =
-    let o = stated_out l t items z h in
-    let k = from_items l items o.1 o.4 in
-    (stated t ∷ k.0, ap (λ (i : ItemsTree). statement t i) k.1, (o.0, o.1, o.2, o.3, k.2))
+from_items l (statement t items) z (x, y, e, s, r) =
+    let k = from_items l items y r in
+    (stated t ∷ k.0, ap (λ (i : ItemsTree). statement t i) k.1, (x, y, e, s, k.2))
 
 abbrev pub AfterItem : ItemTree → Option Token → Type 0
 AfterItem (declared d) o = ⊤
@@ -322,7 +315,7 @@ AfterItem (stated t) o = AfterStmt t o
 
 -- a block with its level, or another statement ------------------------------------------------------------------------
 
-exact_stated : {n o l : ℕ} {simple inner : Parse StmtTree} {T : StmtTree → Texts} → Exact n IsInner inner (λ k. ⊤ × (is_mark mark.OpenBrace k ≡ true)) T T AfterStmt →
+pub exact_stated : {n o l : ℕ} {simple inner : Parse StmtTree} {T : StmtTree → Texts} → Exact n IsInner inner (λ k. ⊤ × (is_mark mark.OpenBrace k ≡ true)) T T AfterStmt →
     ((t : StmtTree) (z : Pieces) (k : Option Token) → T t z → is_mark mark.OpenBrace (first_or z k) ≡ true)
     → Exact n IsInner simple Any (SimpleText o l) (SimpleText o l) AfterStmt
     → Exact n IsInner (stated_of simple inner) Any (λ t z. T t z ⊎ SimpleText o l t z) (λ t z. T t z ⊎ SimpleText o l t z) AfterStmt
@@ -378,33 +371,32 @@ from_stated l (assert at c) z s = inr (s, (λ b. b))
 from_stated l (assume at c) z s = inr (s, (λ b. b))
 from_stated l (switch at e cs) z s = inr (s, (λ b. b))
 
-either_stmt : (o l : ℕ) (t : StmtTree) (z : Pieces) → BlockText o l t z ⊎ SimpleText o l t z → IsStmt o l t z
+pub either_stmt : (o l : ℕ) (t : StmtTree) (z : Pieces) → BlockText o l t z ⊎ SimpleText o l t z → IsStmt o l t z
 either_stmt o l t z (inl s) = s.0
 either_stmt o l t z (inr s) = s.0
 
-stmt_either : (o l : ℕ) (t : StmtTree) (z : Pieces) → IsStmt o l t z → BlockText o l t z ⊎ SimpleText o l t z
+pub stmt_either : (o l : ℕ) (t : StmtTree) (z : Pieces) → IsStmt o l t z → BlockText o l t z ⊎ SimpleText o l t z
 stmt_either o l t z s = elim (is_block t) [ inl b ↦ inl (s, b) | inr b ↦ inr (s, b) ]
 
-or_left : (a b : Bool) → a ≡ true → (a || b) ≡ true
+pub or_left : (a b : Bool) → a ≡ true → (a || b) ≡ true
 or_left a b e = rw e refl
 
-or_right : (a b : Bool) → b ≡ true → (a || b) ≡ true
+pub or_right : (a b : Bool) → b ≡ true → (a || b) ≡ true
 or_right true b e = refl
 or_right false b e = e
 
-item_stmt : (l : ℕ) (t : StmtTree) (z : Pieces) (k : Option Token) → BlockText (l + 1) (l + 1) t z ⊎ SimpleText 0 l t z → begins_item (first_or z k) ≡ true
-item_stmt l t z k (inl s) = or_left (begins_stmt (first_or z k)) _ (stmt_begins (λ o. begins_stmt o ≡ true) all_begin (l + 1) (l + 1) t z k s.0)
-item_stmt l t z k (inr s) = or_left (begins_stmt (first_or z k)) _ (stmt_begins (λ o. begins_stmt o ≡ true) all_begin 0 l t z k s.0)
+pub stated_first : (l : ℕ) (t : StmtTree) (z : Pieces) (k : Option Token) → StatedText l t z → begins_stmt (first_or z k) ≡ true
+stated_first l t z k s = stmt_begins (λ o. begins_stmt o ≡ true) all_begin (opened_by t l) (level_of t l) t z k s
 
 item_first : (l : ℕ) (i : ItemTree) (z : Pieces) (k : Option Token) → ItemText l i z → begins_item (first_or z k) ≡ true
 item_first l (declared d) z k s = or_right (begins_stmt (first_or z k)) _ (declaration_first l d z k s)
-item_first l (stated t) z k s = item_stmt l t z k (from_stated l t z s)
+item_first l (stated t) z k s = or_left (begins_stmt (first_or z k)) _ (stated_first l t z k s)
 
 stated_no_type : (l : ℕ) (t : StmtTree) (z : Pieces) (k : Option Token) → StatedText l t z → begins_type (first_or z k) ≡ false
-stated_no_type l t z k s = elim (from_stated l t z s) [
-  | inl b ↦ stmt_begins (λ o. begins_type o ≡ false) no_type (l + 1) (l + 1) t z k b.0
-  | inr b ↦ stmt_begins (λ o. begins_type o ≡ false) no_type 0 l t z k b.0
-]
+stated_no_type l t z k s = stmt_begins (λ o. begins_type o ≡ false) no_type (opened_by t l) (level_of t l) t z k s
+
+pub stated_no_label : (l : ℕ) (t : StmtTree) (z : Pieces) (k : Option Token) → StatedText l t z → begins_label (first_or z k) ≡ false
+stated_no_label l t z k s = stmt_begins (λ o. begins_label o ≡ false) no_label (opened_by t l) (level_of t l) t z k s
 
 -- no item begins with `else`
 not_else : (o : Option Token) → begins_item o ≡ true → is_mark mark.Else o ≡ false
@@ -444,15 +436,18 @@ item_sides l (stated t) z s = inr (t, refl, s)
 module _ (n d l : ℕ) (simple inner : Parse StmtTree) (h : d + l ≡ n) (I : Exact n IsInner inner (λ k. ⊤ × (is_mark mark.OpenBrace k ≡ true)) (BlockText (l + 1) (l + 1))
     (BlockText (l + 1) (l + 1)) AfterStmt)
     (S : Exact n IsInner simple Any (SimpleText 0 l) (SimpleText 0 l) AfterStmt) where
+  pub exact_statement : Exact n IsInner (stated_of simple inner) Any (StatedText l) (StatedText l) AfterStmt
+  exact_statement =
+      let stmts = exact_stated {o = 0} {l = l} I (λ t z k s. block_first (l + 1) (l + 1) t z k s (λ i. is_mark mark.OpenBrace i ≡ true) (λ at. refl)) S in
+      retell stmts (StatedText l) (λ t z s. to_stated l t z s) (λ t z s. from_stated l t z s)
+
   exact_item : Exact n IsInner (item_of d simple inner) Any (ItemText l) (ItemText l) AfterItem
   exact_item =
       let D = entry (mapped (exact_declaration n d l h) declared AfterItem (λ i o f. tt) (λ i o f. tt)) (λ k. ⊤ × (begins_type k ≡ true)) (λ k i. tt) in
-      let stmts = exact_stated {o = 0} {l = l} I (λ t z k s. block_first (l + 1) (l + 1) t z k s (λ i. is_mark mark.OpenBrace i ≡ true) (λ at. refl)) S in
-      let T = retell stmts (λ t z. StatedText l t z) (λ t z s. to_stated l t z s) (λ t z s. from_stated l t z s) in
-      let T' = mapped T stated AfterItem (λ t o f. f) (λ t o f. f) in
+      let T = mapped exact_statement stated AfterItem (λ t o f. f) (λ t o f. f) in
       let W = ItemText l in
       let b = branch begins_type (widen D W (λ i z s. subst (λ (c : ItemTree). W c z) s.1 s.2))
-      (entry (widen T' W (λ i z s. subst (λ (c : ItemTree). W c z) s.1 s.2)) (λ k. ⊤ × (begins_type k ≡ false)) (λ k i. tt))
+      (entry (widen T W (λ i z s. subst (λ (c : ItemTree). W c z) s.1 s.2)) (λ k. ⊤ × (begins_type k ≡ false)) (λ k i. tt))
       (λ i z k s f. declaration_first l s.0 z k s.2)
       (λ i z k s f. stated_no_type l s.0 z k s.2) in
       rename b W (λ i z s. elim s [ inl k ↦ subst (λ (c : ItemTree). W c z) k.1 k.2 | inr k ↦ subst (λ (c : ItemTree). W c z) k.1 k.2 ]) (λ i z s. item_sides l i z s)
@@ -472,103 +467,3 @@ module _ (n d l : ℕ) (simple inner : Parse StmtTree) (h : d + l ≡ n) (I : Ex
       (λ is b x y s r. (is, (x, y, refl, s, r))) in
       let whole = exact_behind mark.OpenBrace o low inside ((no_items, some_place), _, ([], ([], _, refl, refl, (some_place, refl, refl)))) in
       retell whole (BodyText o l) (λ b z s. to_body o l b z s) (λ b z s. from_body o l b z s)
-
--- levels -----------------------------------------------------------------------------------------------------------
-
-abbrev AtBrace : Option Token → Type 0
-AtBrace k = is_mark mark.OpenBrace k ≡ true
-
--- a statement's first token opens its level
-abbrev Opened : ℕ → Pieces → Type 0
-Opened o z = (t : Piece) × (w : Pieces) × (z ≡ t ∷ w) × (t.1 ≡ o)
-
-abbrev Over : {A : Type 0} → ℕ → (A → Texts) → Token → Type 0
-Over {A} n S t = (a : A) × (o : ℕ) × (w : Pieces) × S a ((t, o) ∷ w) × (n < o)
-
-to_block : (o l : ℕ) (t : StmtTree) (z : Pieces) → Of block_from (BodyText o l) t z → BlockText o l t z
-to_block o l t z (b, f, s) = subst (λ (c : StmtTree). BlockText o l c z) f (s, tt)
-
-from_block : (o l : ℕ) (t : StmtTree) (z : Pieces) → BlockText o l t z → Of block_from (BodyText o l) t z
-from_block o l (block is end) z (s, b) = ((is, end), refl, s)
-from_block o l (nothing at) z s = absurd s.1
-from_block o l (assign a) z s = absurd s.1
-from_block o l (call c) z s = absurd s.1
-from_block o l (if_only at c t) z s = absurd s.1
-from_block o l (if_else at c t e) z s = absurd s.1
-from_block o l (while at c b) z s = absurd s.1
-from_block o l (for at i c e b) z s = absurd s.1
-from_block o l (break at) z s = absurd s.1
-from_block o l (continue at) z s = absurd s.1
-from_block o l (return at e) z s = absurd s.1
-from_block o l (assert at c) z s = absurd s.1
-from_block o l (assume at c) z s = absurd s.1
-from_block o l (switch at e cs) z s = absurd s.1
-
-placed_over : (n o : ℕ) (m : Mark) (at : Place) (x y z : Pieces) → n < o → z ≡ x ++ y → opens_at m at o x → (t : Piece) × (w : Pieces) × (z ≡ t ∷ w) × (n < t.1)
-placed_over n o m at x y z h e s = ((token m at, o), y, e ∙ ap (λ (v : Pieces). v ++ y) s, h)
-
-assign_over : (n o l : ℕ) (a : _) (x y z : Pieces) → n < o → z ≡ x ++ y → IsAssign o l a x → (t : Piece) × (w : Pieces) × (z ≡ t ∷ w) × (n < t.1)
-assign_over n o l a x y z h e s = elim (from_assign o l a x s) [
-  | inl (j, (u, v, f, m, r)) ↦ (_, v ++ y, e ∙ regroup x y u v f ∙ ap (λ (w : Pieces). w ++ (v ++ y)) m, h)
-  | inr (i, (u, v, f, m, r)) ↦ (_, v ++ y, e ∙ regroup x y u v f ∙ ap (λ (w : Pieces). w ++ (v ++ y)) m, h)
-]
-
-stmt_over : (n o l : ℕ) (t : StmtTree) (z : Pieces) → n < o → IsStmt o l t z → (p : Piece) × (w : Pieces) × (z ≡ p ∷ w) × (n < p.1)
-stmt_over n o l (block is end) z h (x, y, e, s, r) = opened_over n o mark.OpenBrace x y z h e s
-stmt_over n o l (nothing at) z h s = placed_over n o mark.Semicolon at z [] z h (sym (append-nil z)) s
-stmt_over n o l (assign a) z h (x, y, e, s, r) = assign_over n o l a x y z h e s
-stmt_over n o l (call c) z h (x, y, e, (p, q, f, m, r), t) = (_, q ++ y, e ∙ regroup x y p q f ∙ ap (λ (w : Pieces). w ++ (q ++ y)) m, h)
-stmt_over n o l (if_only at c t) z h (x, y, e, s, r) = placed_over n o mark.If at x y z h e s
-stmt_over n o l (if_else at c t d) z h ((x, y, e, s, r), k) = placed_over n o mark.If at x y z h e s
-stmt_over n o l (while at c b) z h (x, y, f, s, r) = placed_over n o mark.While at x y z h f s
-stmt_over n o l (for at i c e b) z h (x, y, f, s, r) = placed_over n o mark.For at x y z h f s
-stmt_over n o l (break at) z h (x, y, f, s, r) = placed_over n o mark.Break at x y z h f s
-stmt_over n o l (continue at) z h (x, y, f, s, r) = placed_over n o mark.Continue at x y z h f s
-stmt_over n o l (return at e) z h (x, y, f, s, r) = placed_over n o mark.Return at x y z h f s
-stmt_over n o l (assert at c) z h (x, y, e, s, r) = placed_over n o mark.Assert at x y z h e s
-stmt_over n o l (assume at c) z h (x, y, e, s, r) = placed_over n o mark.Assume at x y z h e s
-stmt_over n o l (switch at e cs) z h s = absurd s
-
-exact_too_deep : (n o : ℕ) → n < o → Exact n IsInner too_deep Any (IsStmt o o) (IsStmt o o) AfterStmt
-exact_too_deep n o h =
-    let deep = exact_deep n IsInner (λ k. ⊤ × (begins_stmt k ≡ true)) (IsStmt o o) (IsStmt o o) AfterStmt (λ t z s. stmt_over n o o t z h s)
-    (λ t i. let s = starts o t i.1 in (s.0, o, s.1, s.2, h)) (λ i. let e = i.1 in cc) in
-    let none = exact_stop {n = n} {Q = IsInner} (λ k. ⊤ × (begins_stmt k ≡ false)) (IsStmt o o) AfterStmt (nothing some_place) ((token mark.Semicolon some_place, o) ∷ []) refl in
-    let b = branch begins_stmt deep none (λ t z k s f. stmt_begins (λ i. begins_stmt i ≡ true) all_begin o o t z k s) (λ t z k s f. absurd s) in
-    rename b (IsStmt o o) (λ t z s. elim s [ inl k ↦ k | inr k ↦ absurd k ]) (λ t z s. inl s)
-
-exact_deep_block : (n o : ℕ) → n < o → Exact n IsInner (λ T. stop TooDeep T) AtBrace (BodyText o o) (BodyText o o) Free
-exact_deep_block n o h = exact_deep n IsInner AtBrace (BodyText o o) (BodyText o o) Free
-    (λ b z s. opened_over n o mark.OpenBrace s.0 s.1 z h s.2 s.3)
-    (λ t i. subst (Over n (BodyText o o)) (sym (is_mark_some mark.OpenBrace t i)) ((no_items, some_place), o, _, (_, _, refl, (t.place, refl), (_, _, refl, refl, refl)), h))
-    (λ i. cc)
-
-abbrev pub AreExact : ℕ → ℕ → ℕ → Type 0
-AreExact n d l = Exact n IsInner (branch_at d) Any (IsStmt (l + 1) (l + 1)) (IsStmt (l + 1) (l + 1)) AfterStmt ×
-    Exact n IsInner (block_at d) AtBrace (BodyText (l + 1) (l + 1)) (BodyText (l + 1) (l + 1)) Free
-
-exact_block_stmt : (n d l : ℕ) → Exact n IsInner (block_at d) AtBrace (BodyText (l + 1) (l + 1)) (BodyText (l + 1) (l + 1)) Free
-    → Exact n IsInner (map_read block_from (block_at d)) (λ k. ⊤ × (is_mark mark.OpenBrace k ≡ true)) (BlockText (l + 1) (l + 1)) (BlockText (l + 1) (l + 1)) AfterStmt
-exact_block_stmt n d l B =
-    entry (retell (mapped B block_from AfterStmt (λ b k f t. absurd t) (λ b k f. tt)) (BlockText (l + 1) (l + 1)) (λ t z s. to_block (l + 1) (l + 1) t z s) (λ t z s. from_block (l + 1) (l + 1) t z s))
-    (λ k. ⊤ × (is_mark mark.OpenBrace k ≡ true)) (λ k i. i.1)
-
-pub exact_levels : (n d l : ℕ) → d + l ≡ n → AreExact n d l
-unfolding levels
-exact_levels n zero l h = (exact_too_deep n (l + 1) (omega arith), exact_deep_block n (l + 1) (omega arith))
-exact_levels n (suc d) l h =
-    let k : d + (l + 1) ≡ n = omega arith in
-    let low : l + 1 ≤ n = omega arith in
-    let inner = exact_levels n d (l + 1) k in
-    let simple = λ (o : ℕ) (j : o ≤ n). exact_simple n d (l + 1) o k j (branch_at d) inner.0 in
-    let B = exact_body n d (l + 1) (simple_at d) (map_read block_from (block_at d)) k (exact_block_stmt n d (l + 1) inner.1) (simple 0 (omega arith)) (l + 1) low in
-    let blocks = entry B AtBrace (λ k i. tt) in
-    let T = exact_stated {o = l + 1} {l = l + 1} (exact_block_stmt n (suc d) l blocks) (λ t z k s. block_first (l + 1) (l + 1) t z k s (λ i. is_mark mark.OpenBrace i ≡ true) (λ at. refl))
-    (simple (l + 1) low) in
-    (retell T (IsStmt (l + 1) (l + 1)) (λ t z s. either_stmt (l + 1) (l + 1) t z s) (λ t z s. stmt_either (l + 1) (l + 1) t z s), blocks)
-
--- the body of a function, at its level
-pub exact_function_body : (n d : ℕ) → d + 1 ≡ n → Exact n IsInner (body_of (items_at d)) Any (BodyText 1 1) (BodyText 1 1) Free
-exact_function_body n d h =
-    let inner = exact_levels n d 1 h in
-    exact_body n d 1 (simple_at d) (map_read block_from (block_at d)) h (exact_block_stmt n d 1 inner.1) (exact_simple n d 1 0 h (omega arith) (branch_at d) inner.0) 1 (omega arith)

@@ -22,7 +22,8 @@ use Rattle.lra_readers.proofs.Tokens.{IsInner, exact_expect, some_place}
 use Rattle.lra_readers.proofs.Chain.{regroup, Items, AfterLast, all_last, exact_list}
 use Rattle.lra_readers.proofs.Parts.{exact_behind}
 use Rattle.lra_readers.proofs.ExactExpressions.{Of, first_opened}
-use Rattle.lra_readers.proofs.ExactBlocks.{BodyText, exact_function_body}
+use Rattle.lra_readers.proofs.ExactBlocks.{BodyText}
+use Rattle.lra_readers.proofs.ExactLevels.{exact_function_body}
 use Rattle.lra_readers.proofs.ExactLeads.{head_of, LeadText, exact_lead, lead_first, lead_head, head_lead, lead_outer, outer_lead}
 use Rattle.lra_readers.proofs.ExactGlobals.{GlobalsText, exact_globals, globals_no_open, globals_out, globals_in}
 use Rattle.lra_readers.proofs.Named.{some_names}

@@ -1,6 +1,5 @@
 -- The reader of globals is exact.
 use Rattle.std.proofs.Common.{◌≡◌, ℕ, true, false, ◌⊎◌, List, [], ◌∷◌, ◌++◌, Option, Some, None, refl, sym, ap, subst, ◌∙◌, append_assoc, arith, inl, inr}
-use Rattle.std.specs.Prelude.{ℤ, pos, neg_ℤ}
 use Rattle.std.specs.Bool.{⊤}
 use Rattle.lra_base.specs.declared.number_types.NumberType.{NumberType}
 use Rattle.lra_base.specs.declared.number_types.NumberType.TheVariants.{Int}
@@ -13,54 +12,16 @@ use Rattle.lra_tree.specs.Texts.{Pieces, Texts, ◌⋅◌, opens, mark as spells
 use Rattle.lra_tree.specs.Trees.{GlobalTree, GlobalsTree, PartTree, globals}
 use Rattle.lra_tree.specs.Grammar.{IsType, IsSigned, IsGlobal, AreGlobals}
 use Rattle.lra_readers.specs.Tests.{is_mark}
-use Rattle.lra_readers.specs.Reading.{Literal}
-use Rattle.lra_readers.specs.Files.{positive, negative, signed_at, with_value, without_value, value_at, global_at, globals_of, globals_at}
+use Rattle.lra_readers.specs.Statements.{positive}
+use Rattle.lra_readers.specs.Files.{with_value, without_value, value_at, global_at, globals_of, globals_at}
 use Rattle.lra_readers.proofs.Exact.{Exact, Any, Free, Both, first_or, then}
 use Rattle.lra_readers.proofs.Forms.{widen, retell, entry, mapped, branch, exact_done}
-use Rattle.lra_readers.proofs.Tokens.{IsInner, exact_name, LiteralText, exact_literal, some_literal, some_name}
+use Rattle.lra_readers.proofs.Tokens.{IsInner, exact_name, some_literal, some_name}
 use Rattle.lra_readers.proofs.Chain.{regroup, all_last}
 use Rattle.lra_readers.proofs.Parts.{token, exact_behind, exact_ended}
 use Rattle.lra_readers.proofs.ExactExpressions.{Of, first_opened}
+use Rattle.lra_readers.proofs.ExactLabels.{exact_signed}
 use Rattle.lra_readers.proofs.ExactLists.{exact_commas_from}
-
--- literals with signs ----------------------------------------------------------------------------------------------
-
-abbrev NegativeText : SignedLiteral → Texts
-NegativeText v = opens mark.Minus 0 ⋅ Of negative LiteralText v
-
-abbrev PositiveText : SignedLiteral → Texts
-PositiveText v z = Of positive LiteralText v z
-
-abbrev EitherSign : SignedLiteral → Texts
-EitherSign v z = NegativeText v z ⊎ PositiveText v z
-
-to_signed : (v : SignedLiteral) (z : Pieces) → EitherSign v z → IsSigned v z
-to_signed v z (inl (x, y, e, s, (l, f, t))) = subst (λ (c : SignedLiteral). IsSigned c z) f (l.number_type, l.value, inr (refl, (x, y, e, s, t)))
-to_signed v z (inr (l, f, t)) = subst (λ (c : SignedLiteral). IsSigned c z) f (l.number_type, l.value, inl (refl, t))
-
-signed_same : (v : SignedLiteral) (i : ℤ) → v.value ≡ i → record { value = i; place = v.place } ≡ v
-signed_same v i e = ap (λ (j : ℤ). record { value = j; place = v.place }) (sym e)
-
-abbrev literal_at : NumberType → ℕ → Place → Literal
-literal_at t n at = record { number_type = t; value = n; place = at }
-
-from_signed : (v : SignedLiteral) (z : Pieces) → IsSigned v z → EitherSign v z
-from_signed v z (t, n, inl (f, s)) = inr (literal_at t n v.place, signed_same v (pos n) f, s)
-from_signed v z (t, n, inr (f, (x, y, e, s, r))) = inl (x, y, e, s, (literal_at t n v.place, signed_same v (neg_ℤ (pos n)) f, r))
-
-no_minus : (v : SignedLiteral) (z : Pieces) (o : Option Token) → PositiveText v z → is_mark mark.Minus (first_or z o) ≡ false
-no_minus v z o (l, f, e) = rw e refl
-
-exact_signed : (n : ℕ) → Exact n IsInner signed_at Any IsSigned IsSigned Free
-exact_signed n =
-    let behind_sign = exact_behind mark.Minus 0 (omega arith) (mapped (exact_literal n) negative Free (λ i o f. tt) (λ i o f. tt)) (negative some_literal, _, (some_literal, refl, refl)) in
-    let without = mapped (exact_literal n) positive Free (λ i o f. tt) (λ i o f. tt) in
-    let b = branch (is_mark mark.Minus)
-    (entry (widen behind_sign EitherSign (λ v z s. inl s)) (λ o. ⊤ × (is_mark mark.Minus o ≡ true)) (λ o i. tt))
-    (entry (widen without EitherSign (λ v z s. inr s)) (λ o. ⊤ × (is_mark mark.Minus o ≡ false)) (λ o i. tt))
-    (λ v z o s f. first_opened (λ i. is_mark mark.Minus i ≡ true) mark.Minus 0 s.0 s.1 z o s.2 s.3 (λ at. refl))
-    (λ v z o s f. no_minus v z o s) in
-    retell b IsSigned to_signed from_signed
 
 -- first values -----------------------------------------------------------------------------------------------------
 
@@ -81,7 +42,7 @@ no_value x g z o e f h = rw f (let k : AfterGlobal (without_value x) o = subst (
 pub exact_value : (n : ℕ) (x : Identifier) → Exact n IsInner (value_at x) Any (ValueText x) (ValueText x) AfterGlobal
 exact_value n x =
     let some = exact_behind mark.Assign 0 (omega arith) (mapped (exact_signed n) (with_value x) AfterGlobal (λ v o f. tt) (λ v o f. tt))
-    (with_value x (positive some_literal), _, (positive some_literal, refl, (Int, 0, inl (refl, refl)))) in
+    (with_value x (positive some_literal), _, (positive some_literal, refl, (Int, 0, omega arith, inl (refl, refl)))) in
     branch (is_mark mark.Assign) (entry (widen some (ValueText x) (λ g z s. inl s)) (λ o. ⊤ × (is_mark mark.Assign o ≡ true)) (λ o i. tt))
     (widen (exact_done n IsInner (without_value x) (λ o. ⊤ × (is_mark mark.Assign o ≡ false)) (λ g z. (g ≡ without_value x) × (z ≡ [])) AfterGlobal (λ o i. i.1)) (ValueText x) (λ g z s. inr s))
     (λ g z o s f. first_opened (λ i. is_mark mark.Assign i ≡ true) mark.Assign 0 s.0 s.1 z o s.2 s.3 (λ at. refl))

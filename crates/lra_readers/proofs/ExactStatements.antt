@@ -11,19 +11,19 @@ use Rattle.lra_tree.specs.declared.trees.Step.{Step}
 use Rattle.lra_tree.specs.declared.trees.Step.TheVariants as step
 use Rattle.lra_tree.specs.Texts.{Pieces, Texts, ◌⋅◌, opens, mark as spells, opens_at, name}
 use Rattle.lra_tree.specs.Trees.{CondTree, CallTree, AssignTree, increment, after, InitTree, StmtTree, block, nothing, assign, call, if_only, if_else, while, for, break, continue, return, assert}
-use Rattle.lra_tree.specs.Trees.{assume, switch}
-use Rattle.lra_tree.specs.Grammar.{InParens, IsRvalue, IsAssign, TakesElse, IsStmt}
+use Rattle.lra_tree.specs.Trees.{assume, switch, CasesTree, no_cases}
+use Rattle.lra_tree.specs.Grammar.{InParens, IsRvalue, IsAssign, TakesElse, IsSwitched, IsStmt, AreCases}
 use Rattle.lra_readers.specs.Tests.{is_mark}
 use Rattle.lra_readers.specs.Reading.{Parse, seq, next_name, has}
-use Rattle.lra_readers.specs.Expressions.{in_parens, cond_at}
-use Rattle.lra_readers.specs.Statements.{StmtMark, at_nothing, at_if, at_while, at_for, at_break, at_continue, at_return, at_assert, at_assume, stmt_mark, else_part, read_if, read_while, for_of}
-use Rattle.lra_readers.specs.Statements.{read_for, read_jump, read_return, read_check, named_rest, read_assigned, simple_form, simple_of}
+use Rattle.lra_readers.specs.Expressions.{in_parens, expr_at, cond_at}
+use Rattle.lra_readers.specs.Statements.{StmtMark, at_nothing, at_if, at_while, at_for, at_break, at_continue, at_return, at_assert, at_assume, at_switch, stmt_mark, else_part, read_if, read_while, for_of}
+use Rattle.lra_readers.specs.Statements.{read_for, read_jump, read_return, read_check, read_switch, named_rest, read_assigned, simple_form, simple_of}
 use Rattle.lra_readers.proofs.Exact.{Exact, Any, Free, Both, first_or, then}
 use Rattle.lra_readers.proofs.Forms.{rename, widen, entry, given as given_fact, mapped, choose, branch, where_told, exact_done}
 use Rattle.lra_readers.proofs.Tokens.{IsInner, exact_expect_at, exact_name, some_place}
 use Rattle.lra_readers.proofs.Chain.{regroup}
 use Rattle.lra_readers.proofs.Parts.{token, exact_behind, exact_ended}
-use Rattle.lra_readers.proofs.ExactExpressions.{Of, first_opened}
+use Rattle.lra_readers.proofs.ExactExpressions.{Of, first_opened, at_close, some_expr, exact_expr}
 use Rattle.lra_readers.proofs.ExactConditions.{some_cond, exact_cond, exact_parens}
 use Rattle.lra_readers.proofs.ExactRvalues.{CallText, exact_call_rest, call_out, call_in}
 use Rattle.lra_readers.proofs.ExactAssignments.{mark_of_step, RestText, rest_assign, rest_no_open, BeforeText, NamedText, from_assign, exact_assign_rest, exact_assign, placed_first, assign_no_mark}
@@ -64,6 +64,7 @@ mark_of_stmt at_continue = mark.Continue
 mark_of_stmt at_return = mark.Return
 mark_of_stmt at_assert = mark.Assert
 mark_of_stmt at_assume = mark.Assume
+mark_of_stmt at_switch = mark.Switch
 
 abbrev pub BranchText : ℕ → StmtTree → Texts
 BranchText l t = IsStmt (l + 1) (l + 1) t
@@ -92,6 +93,13 @@ ReturnText o l b z = Both (λ at z. opens_at mark.Return at o z) (λ at b. Of (r
 abbrev pub CheckText : ℕ → ℕ → Mark → (Place → CondTree → StmtTree) → StmtTree → Texts
 CheckText o l m make b z = Both (λ at z. opens_at m at o z) (λ at b. Of (make at) (λ c. InParens l c ⋅ spells mark.Semicolon) b) b z
 
+-- the braces of a `switch`, which open a level, with what they hold
+abbrev pub BracesText : ℕ → ℕ → CasesTree → Texts
+BracesText o l cs = opens mark.OpenBrace o ⋅ AreCases l cs ⋅ spells mark.CloseBrace
+
+abbrev pub SwitchText : ℕ → ℕ → StmtTree → Texts
+SwitchText o l b z = Both (λ at z. opens_at mark.Switch at o z) (λ at b z. Both (IsSwitched l) (λ e b. Of (switch at e) (BracesText (l + 1) (l + 1)) b) b z) b z
+
 -- behind a name that a statement begins with
 abbrev NamedRest : ℕ → Identifier → StmtTree → Texts
 NamedRest l x b z = Of call (λ c. CallText l x c ⋅ spells mark.Semicolon) b z ⊎ Of assign (λ a. RestText l x a ⋅ spells mark.Semicolon) b z
@@ -114,6 +122,7 @@ SimpleAt o l (Some at_continue) b = JumpText o mark.Continue continue b
 SimpleAt o l (Some at_return) b = ReturnText o l b
 SimpleAt o l (Some at_assert) b = CheckText o l mark.Assert assert b
 SimpleAt o l (Some at_assume) b = CheckText o l mark.Assume assume b
+SimpleAt o l (Some at_switch) b = SwitchText o l b
 SimpleAt o l None b = λ z. NamedStmt o l b z ⊎ SteppedStmt o l b z
 
 if_simple : (o l : ℕ) (at : Place) (c : CondTree) (t b : StmtTree) (x y u v p q z : Pieces) → z ≡ x ++ y → opens_at mark.If at o x → y ≡ u ++ v → InParens l c u → v ≡ p ++ q → BranchText l t p →
@@ -157,6 +166,7 @@ to_simple o l (Some at_continue) b z s = jump_simple o l mark.Continue continue 
 to_simple o l (Some at_return) b z s = return_simple o l b z s
 to_simple o l (Some at_assert) b z (at, (x, y, e, s, (c, f, t))) = subst (λ (d : StmtTree). SimpleText o l d z) f ((x, y, e, s, t), (λ d. d))
 to_simple o l (Some at_assume) b z (at, (x, y, e, s, (c, f, t))) = subst (λ (d : StmtTree). SimpleText o l d z) f ((x, y, e, s, t), (λ d. d))
+to_simple o l (Some at_switch) b z (at, (x, y, e, s, (v, (u, w, f, h, (cs, g, r))))) = subst (λ (d : StmtTree). SimpleText o l d z) g ((x, y, e, s, (u, w, f, h, r)), (λ d. d))
 to_simple o l None b z (inl s) = named_simple o l b z s
 to_simple o l None b z (inr s) = assign_simple o l b z s.0
 
@@ -187,7 +197,7 @@ from_simple o l (continue at) z ((x, y, e, s, t), n) = (Some at_continue, (at, r
 from_simple o l (return at a) z ((x, y, e, s, (u, v, f, r, t)), n) = (Some at_return, (at, (x, y, e, s, (a, refl, (u, v, f, from_returned l a u r, t)))))
 from_simple o l (assert at c) z ((x, y, e, s, t), n) = (Some at_assert, (at, (x, y, e, s, (c, refl, t))))
 from_simple o l (assume at c) z ((x, y, e, s, t), n) = (Some at_assume, (at, (x, y, e, s, (c, refl, t))))
-from_simple o l (switch at e cs) z (s, n) = absurd s
+from_simple o l (switch at v cs) z ((x, y, e, s, (u, w, f, h, r)), n) = (Some at_switch, (at, (x, y, e, s, (v, (u, w, f, h, (cs, refl, r))))))
 
 some_none : {A : Type 0} {a : A} → (let o : Option A = Some a in o) ≡ None → ⊥
 some_none e = cc
@@ -210,6 +220,7 @@ simple_begins o l (Some at_continue) b z i (at, f, (x, y, e, s, t)) = placed_fir
 simple_begins o l (Some at_return) b z i (at, (x, y, e, s, t)) = placed_first (λ j. stmt_mark j ≡ Some at_return) mark.Return at o x y z i e s refl
 simple_begins o l (Some at_assert) b z i (at, (x, y, e, s, t)) = placed_first (λ j. stmt_mark j ≡ Some at_assert) mark.Assert at o x y z i e s refl
 simple_begins o l (Some at_assume) b z i (at, (x, y, e, s, t)) = placed_first (λ j. stmt_mark j ≡ Some at_assume) mark.Assume at o x y z i e s refl
+simple_begins o l (Some at_switch) b z i (at, (x, y, e, s, t)) = placed_first (λ j. stmt_mark j ≡ Some at_switch) mark.Switch at o x y z i e s refl
 simple_begins o l None b z i (inl (x, (u, v, e, s, r))) = rw (e, s) refl
 simple_begins o l None b z i (inr ((a, f, (x, y, e, s, t)), k)) = assign_no_mark o l a x y z i e s (λ j. stmt_mark j ≡ None) (λ n. refl) step_stmt
 
@@ -228,7 +239,8 @@ assign_again o l a x y z k e s f = ap (λ (i : Option Token). has (next_name i))
 some_stmt : (o l : ℕ) → (t : StmtTree) × (x : Pieces) × IsStmt o l t x
 some_stmt o l = (nothing some_place, _, refl)
 
-module _ (n d l o : ℕ) (h : d + l ≡ n) (low : o ≤ n) (branches : Parse StmtTree) (B : Exact n IsInner branches Any (BranchText l) (BranchText l) AfterStmt) where
+module _ (n d l o : ℕ) (h : d + l ≡ n) (low : o ≤ n) (branches : Parse StmtTree) (B : Exact n IsInner branches Any (BranchText l) (BranchText l) AfterStmt)
+    (cases : Parse CasesTree) (C : Exact n IsInner cases Any (BracesText (l + 1) (l + 1)) (BracesText (l + 1) (l + 1)) Free) where
   conds : Exact n IsInner (in_parens (cond_at d)) Any (InParens l) (InParens l) Free
   conds = exact_parens n l 0 (cond_at d) (omega arith) (exact_cond n d l h)
 
@@ -332,6 +344,25 @@ module _ (n d l o : ℕ) (h : d + l ≡ n) (low : o ≤ n) (branches : Parse Stm
       (λ at z v. (make at c.0, _, (at, (z, _, refl, v, (c.0, refl, (_, _, refl, (_, _, refl, (some_place, refl), (_, _, refl, c.2, (some_place, refl))), (some_place, refl)))))))
       (λ at b x y s r. (at, (x, y, refl, s, r)))
 
+  values : Exact n IsInner (in_parens (expr_at d)) Any (IsSwitched l) (IsSwitched l) Free
+  values =
+      let e = some_expr l in
+      exact_behind mark.OpenParen 0 (omega arith) (exact_ended mark.CloseParen (exact_expr n d l h) at_close) (e.0, _, (_, _, refl, e.2, (some_place, refl)))
+
+  exact_switch : Exact n IsInner (read_switch d cases) Any (SwitchText o l) (SwitchText o l) AfterStmt
+  exact_switch =
+      let e = some_expr l in
+      let some : (cs : CasesTree) × (x : Pieces) × BracesText (l + 1) (l + 1) cs x = (no_cases, _, (_, _, refl, (some_place, refl), (_, _, refl, refl, (some_place, refl)))) in
+      let inner = λ (at : Place). then values (λ v. mapped C (switch at v) AfterStmt (λ cs k f t. absurd t) (λ cs k f. tt))
+      (λ b z. Both (IsSwitched l) (λ v b. Of (switch at v) (BracesText (l + 1) (l + 1)) b) b z)
+      (λ v b y k s f. tt)
+      (λ v z w. (switch at v some.0, _, (v, (z, _, refl, w, (some.0, refl, some.2)))))
+      (λ v b x y s r. (v, (x, y, refl, s, r))) in
+      then (exact_expect_at n mark.Switch o low) inner (SwitchText o l)
+      (λ at b y k s f. tt)
+      (λ at z v. (switch at e.0 some.0, _, (at, (z, _, refl, v, (e.0, (_, _, refl, (_, _, refl, (some_place, refl), (_, _, refl, e.2, (some_place, refl))), (some.0, refl, some.2)))))))
+      (λ at b x y s r. (at, (x, y, refl, s, r)))
+
   exact_named : (x : Identifier) → Exact n IsInner (named_rest d x) Any (NamedRest l x) (NamedRest l x) AfterStmt
   exact_named x =
       let calls = mapped (exact_ended mark.Semicolon (exact_call_rest n d l h x) (λ c at. tt)) call AfterStmt (λ c k f t. absurd t) (λ c k f. tt) in
@@ -358,7 +389,7 @@ module _ (n d l o : ℕ) (h : d + l ≡ n) (low : o ≤ n) (branches : Parse Stm
   abbrev SimpleKey : Option StmtMark → Option Token → Type 0
   SimpleKey k i = (stmt_mark i ≡ k) × Any i
 
-  each_simple : (k : Option StmtMark) → Exact n IsInner (simple_form d branches k) (SimpleKey k) (SimpleAt o l k) (SimpleText o l) AfterStmt
+  each_simple : (k : Option StmtMark) → Exact n IsInner (simple_form d branches cases k) (SimpleKey k) (SimpleAt o l k) (SimpleText o l) AfterStmt
   each_simple (Some at_nothing) = entry (widen (mapped (exact_expect_at n mark.Semicolon o low) nothing AfterStmt (λ at k f t. absurd t) (λ at k f. tt)) (SimpleText o l)
       (λ b z s. to_simple o l (Some at_nothing) b z s)) (SimpleKey (Some at_nothing)) (λ k i. tt)
   each_simple (Some at_if) = entry (widen exact_if (SimpleText o l) (λ b z s. to_simple o l (Some at_if) b z s)) (SimpleKey (Some at_if)) (λ k i. tt)
@@ -370,7 +401,8 @@ module _ (n d l o : ℕ) (h : d + l ≡ n) (low : o ≤ n) (branches : Parse Stm
   each_simple (Some at_return) = entry (widen exact_return (SimpleText o l) (λ b z s. return_simple o l b z s)) (SimpleKey (Some at_return)) (λ k i. tt)
   each_simple (Some at_assert) = entry (widen (exact_check mark.Assert assert (λ at c t. t)) (SimpleText o l) (λ b z s. to_simple o l (Some at_assert) b z s)) (SimpleKey (Some at_assert)) (λ k i. tt)
   each_simple (Some at_assume) = entry (widen (exact_check mark.Assume assume (λ at c t. t)) (SimpleText o l) (λ b z s. to_simple o l (Some at_assume) b z s)) (SimpleKey (Some at_assume)) (λ k i. tt)
+  each_simple (Some at_switch) = entry (widen exact_switch (SimpleText o l) (λ b z s. to_simple o l (Some at_switch) b z s)) (SimpleKey (Some at_switch)) (λ k i. tt)
   each_simple None = entry exact_assigned (SimpleKey None) (λ k i. tt)
 
-  pub exact_simple : Exact n IsInner (simple_of d branches) Any (SimpleText o l) (SimpleText o l) AfterStmt
+  pub exact_simple : Exact n IsInner (simple_of d branches cases) Any (SimpleText o l) (SimpleText o l) AfterStmt
   exact_simple = rename (choose stmt_mark each_simple (λ k b z i s f. simple_begins o l k b z i s)) (SimpleText o l) (λ b z s. to_simple o l s.0 b z s.1) (λ b z s. from_simple o l b z s)

@@ -1,5 +1,5 @@
 -- Exact readers of single tokens.
-use Rattle.std.proofs.Common.{◌≡◌, ℕ, ◌≤◌, Bool, true, false, cond, List, [], ◌∷◌, Option, Some, None, Ok, refl, sym, ap, subst, ◌∙◌, arith, inl, inr}
+use Rattle.std.proofs.Common.{◌≡◌, ℕ, ◌≤◌, Bool, true, false, cond, List, [], ◌∷◌, Option, Some, None, Ok, refl, sym, ap, subst, ◌∙◌, arith, inl, inr, nat_le, le-leb, leb-true}
 use Rattle.lra_base.specs.declared.number_types.NumberType.TheVariants.{Int}
 use Rattle.lra_base.specs.declared.refusals.Place.{Place}
 use Rattle.lra_base.specs.declared.refusals.Cause.TheVariants.{Syntax}
@@ -8,9 +8,10 @@ use Rattle.lra_tree.specs.declared.tokens.Kind.{Kind}
 use Rattle.lra_tree.specs.declared.tokens.Kind.TheVariants.{Name, Number, Mark as MarkOf, Reserved, Unclosed, End}
 use Rattle.lra_tree.specs.declared.tokens.Token.{Token}
 use Rattle.lra_tree.specs.declared.trees.Identifier.{Identifier}
+use Rattle.lra_tree.specs.Lexeme.{greatest_literal}
 use Rattle.lra_tree.specs.Texts.{Texts, opens, opens_at, mark, name, number_at}
 use Rattle.lra_readers.specs.Tests.{first, is_mark}
-use Rattle.lra_readers.specs.Reading.{Text, stop, tail, expect, expect_at, place_of, take_by, taken, next_name, identifier_of, Literal, next_literal, literal_of, one_of}
+use Rattle.lra_readers.specs.Reading.{Text, stop, tail, expect, expect_at, place_of, take_by, taken, next_name, identifier_of, Literal, next_literal, literal_of, small_of, next_small, one_of}
 use Rattle.lra_readers.proofs.Marks.{is_mark_some, is_mark_self}
 use Rattle.lra_readers.proofs.Exact.{Exact, Any, Free, test}
 use Rattle.lra_readers.proofs.Forms.{retell, same_where, exact_take}
@@ -126,6 +127,31 @@ exact_literal n =
     retell t LiteralText
     (λ l z s. let k = literal_is s.0.kind s.0.place l s.2 in s.1 ∙ ap (λ (t : Token). (t, 0) ∷ []) (token_is s.0 (Number l.number_type l.value) l.place k.0 k.1))
     (λ l z s. (record { kind = Number l.number_type l.value; place = l.place }, s, refl))
+
+small_is : (m : Option Literal) (l : Literal) → small_of m ≡ Some l → (m ≡ Some l) × (l.value ≤ greatest_literal)
+small_is None l e = absurd cc
+small_is (Some k) l e = elim (test (nat_le k.value greatest_literal)) [
+  | inl on ↦
+      let f : (let o : Option Literal = Some k in o) ≡ Some l = rw on at e in
+      let same : k ≡ l = cc in
+      (f, subst (λ (i : Literal). i.value ≤ greatest_literal) same (leb-true k.value greatest_literal on))
+  | inr off ↦ let f : (let o : Option Literal = None in o) ≡ Some l = rw off at e in absurd cc
+]
+
+abbrev pub SmallText : Literal → Texts
+SmallText l z = LiteralText l z × (l.value ≤ greatest_literal)
+
+pub exact_small : (n : ℕ) → Exact n IsInner (take_by next_small) Any SmallText SmallText Free
+exact_small n =
+    let is = λ (t : Token) (l : Literal) (e : next_small (Some t) ≡ Some l). literal_is t.kind t.place l (small_is (literal_of t.kind t.place) l e).0 in
+    let t = exact_take n IsInner next_small 0 (omega arith) refl
+    (λ t l e. λ f. let k = (is t l e).0 in let g : Number l.number_type l.value ≡ End = sym k ∙ f in cc)
+    some_literal (record { kind = Number Int 0; place = some_place }) refl in
+    retell t SmallText
+    (λ l z s.
+    let k = is s.0 l s.2 in
+    (s.1 ∙ ap (λ (t : Token). (t, 0) ∷ []) (token_is s.0 (Number l.number_type l.value) l.place k.0 k.1), (small_is (literal_of s.0.kind s.0.place) l s.2).1))
+    (λ l z s. (record { kind = Number l.number_type l.value; place = l.place }, s.0, rw (le-leb l.value greatest_literal s.1) refl))
 
 -- tables of operators ----------------------------------------------------------------------------------------------
 

@@ -1,5 +1,5 @@
 -- The reader of a whole file, and the shape of the lists of tokens that are read.
-use Rattle.std.specs.Prelude.{◌≡◌, ◌≢◌, ℕ, pos, neg_ℤ, ⊤, Bool, true, false, cond, List, [], IsTrue}
+use Rattle.std.specs.Prelude.{◌≡◌, ◌≢◌, ℕ, pos, ⊤, Bool, true, false, cond, List, [], IsTrue}
 use Rattle.std.specs.Prelude.{◌∷◌, ◌++◌, Option, Some, None, option_map, Result, Ok, Err}
 use Rattle.std.specs.List.{AllByRecursion}
 use Rattle.lra_base.specs.declared.number_types.NumberType.{NumberType}
@@ -18,12 +18,11 @@ use Rattle.lra_tree.specs.Trees.{ItemsTree, FunctionTree, GlobalTree, PartTree, 
 use Rattle.lra_readers.specs.declared.lead.Lead.{Lead}
 use Rattle.lra_readers.specs.declared.lead.Lead.TheVariants as lead
 use Rattle.lra_readers.specs.Tests.{first, is_mark}
-use Rattle.lra_readers.specs.Reading.{Parse, stop, seq, map_read, done_with, expect, take_by, next_name, Literal}
-use Rattle.lra_readers.specs.Reading.{next_literal}
+use Rattle.lra_readers.specs.Reading.{Parse, stop, seq, map_read, done_with, expect, take_by, next_name}
 use Rattle.lra_readers.specs.Reading.{has}
 use Rattle.lra_readers.specs.Reading.{one_of, list_of}
 use Rattle.lra_readers.specs.Expressions.{behind, ended}
-use Rattle.lra_readers.specs.Statements.{commas_from, commas, listed, type_words, body_of, items_at}
+use Rattle.lra_readers.specs.Statements.{commas_from, commas, listed, type_words, signed_at, body_of, items_at}
 
 -- the last token, and no other, is the end
 pub record EndsOnce (tokens : List Token) : Type 0 where
@@ -154,17 +153,6 @@ abbrev pub signature_at : ℕ → Option Heading → Parse PartTree
 signature_at d h = behind mark.OpenParen (seq parameters_at (λ ps. ending d (signature_of h ps)))
 
 -- globals -----------------------------------------------------------------------------------------------------------
-
-abbrev pub positive : Literal → SignedLiteral
-positive l = record { value = pos l.value; place = l.place }
-
-abbrev pub negative : Literal → SignedLiteral
-negative l = record { value = neg_ℤ (pos l.value); place = l.place }
-
--- a literal of any type, with or without a sign
-abbrev pub signed_at : Parse SignedLiteral
-signed_at T = cond (is_mark mark.Minus (first T)) (behind mark.Minus (map_read negative (take_by next_literal)) T)
-    (map_read positive (take_by next_literal) T)
 
 abbrev pub with_value : Identifier → SignedLiteral → GlobalTree
 with_value x v = record { name = x; value = Some v }

@@ -1,5 +1,5 @@
 -- Readers: functions from a text of tokens to a value and the text behind it, or to the fault at which reading stops.
-use Rattle.std.specs.Prelude.{◌≡◌, ℕ, zero, suc, Bool, true, false, cond, drop, List, [], ◌∷◌, ◌++◌, length, Option}
+use Rattle.std.specs.Prelude.{◌≡◌, ℕ, zero, suc, nat_le, Bool, true, false, cond, drop, List, [], ◌∷◌, ◌++◌, length, Option}
 use Rattle.std.specs.Prelude.{Some, None, Result, Ok, Err, ⊤}
 use Rattle.lra_base.specs.declared.refusals.Place.{Place}
 use Rattle.lra_base.specs.declared.refusals.Cause.{Cause}
@@ -9,6 +9,7 @@ use Rattle.lra_tree.specs.declared.tokens.Token.{Token}
 use Rattle.lra_tree.specs.declared.tokens.Kind.{Kind}
 use Rattle.lra_tree.specs.declared.tokens.Kind.TheVariants.{Name, Number, Mark as MarkOf, Reserved, Unclosed, End}
 use Rattle.lra_tree.specs.declared.trees.Identifier.{Identifier}
+use Rattle.lra_tree.specs.Lexeme.{greatest_literal}
 use Rattle.lra_readers.specs.declared.reading.Fault.{Fault}
 pub use Rattle.lra_readers.specs.declared.reading.Literal.{Literal}
 use Rattle.lra_readers.specs.declared.reading.Stopped.{Stopped}
@@ -92,6 +93,14 @@ literal_of End at = None
 abbrev pub next_literal : Option Token → Option Literal
 next_literal None = None
 next_literal (Some t) = literal_of t.kind t.place
+
+-- a literal that has 64 bits with a sign too, as each of a source
+abbrev pub small_of : Option Literal → Option Literal
+small_of None = None
+small_of (Some l) = cond (nat_le l.value greatest_literal) (Some l) None
+
+abbrev pub next_small : Option Token → Option Literal
+next_small o = small_of (next_literal o)
 
 -- what the next token has, or a syntax fault there
 abbrev pub taken : {A : Type 0} → Option A → Parse A

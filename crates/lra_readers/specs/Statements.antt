@@ -1,14 +1,17 @@
 -- Readers of calls, assignments, declarations and statements. d levels of nesting are left.
 use Rattle.std.specs.Prelude.{ℕ, zero, suc, Bool, true, cond, ◌||◌, List, [], ◌∷◌, Option, Some, None, Ok}
-use Rattle.std.specs.Prelude.{option_map}
+use Rattle.std.specs.Prelude.{option_map, pos, neg_ℤ}
 use Rattle.lra_base.specs.declared.number_types.NumberType.{NumberType}
 use Rattle.lra_base.specs.declared.number_types.NumberType.TheVariants.{Int, Long}
 use Rattle.lra_base.specs.declared.refusals.Place.{Place}
 use Rattle.lra_base.specs.declared.refusals.Cause.TheVariants.{Syntax, TooDeep}
+use Rattle.lra_base.specs.declared.case_labels.CaseLabel.TheVariants.{Case, Default}
 use Rattle.lra_tree.specs.declared.tokens.Mark.{Mark}
 use Rattle.lra_tree.specs.declared.tokens.Mark.TheVariants as mark
 use Rattle.lra_tree.specs.declared.tokens.Token.{Token}
 use Rattle.lra_tree.specs.declared.trees.Identifier.{Identifier}
+use Rattle.lra_tree.specs.declared.trees.PlacedLabel.{PlacedLabel}
+use Rattle.lra_tree.specs.declared.trees.SignedLiteral.{SignedLiteral}
 use Rattle.lra_base.specs.declared.operators.Operator.{Operator}
 use Rattle.lra_base.specs.declared.operators.Operator.TheVariants as operator
 use Rattle.lra_tree.specs.declared.trees.Step.{Step}
@@ -17,12 +20,13 @@ use Rattle.lra_tree.specs.Trees.{UnaryTree, variable, unary, ExprTree, term, Con
 use Rattle.lra_tree.specs.Trees.{result, AssignTree, set, update, after, before, DeclaratorTree, DeclarationTree}
 use Rattle.lra_tree.specs.Trees.{InitTree, no_init, assigned, declared as declared_first, StmtTree, block, nothing}
 use Rattle.lra_tree.specs.Trees.{assign, call, if_only, if_else, while, for, break, continue, return, assert, assume}
-use Rattle.lra_tree.specs.Trees.{ItemsTree, no_items, declaration, statement}
+use Rattle.lra_tree.specs.Trees.{switch, CasesTree, no_cases, labelled, stated as stated_case, ItemsTree, no_items}
+use Rattle.lra_tree.specs.Trees.{declaration, statement}
 use Rattle.lra_base.specs.OperatorViews.{operator_view}
 use Rattle.lra_tree.specs.Views.{step_view}
-use Rattle.lra_readers.specs.Tests.{first, is_mark}
+use Rattle.lra_readers.specs.Tests.{first, is_mark, begins_label}
 use Rattle.lra_readers.specs.Reading.{Text, Parse, stop, seq, map_read, done_with, tail, expect, expect_at, place_of}
-use Rattle.lra_readers.specs.Reading.{take_by, next_name, has, one_of, list_of}
+use Rattle.lra_readers.specs.Reading.{take_by, next_name, Literal, next_small, has, one_of, list_of}
 use Rattle.lra_readers.specs.Expressions.{behind, ended, in_parens, factors, summands, unary_at, expr_at, cond_at}
 
 -- the text behind the mark, if it is there
@@ -124,6 +128,36 @@ declaration_of t ds = record { number_type = t; first = ds.0; rest = ds.1 }
 abbrev pub declaration_at : ℕ → Parse DeclarationTree
 declaration_at d = seq type_words (λ t. ended mark.Semicolon (map_read (declaration_of t) (commas (declarator_at d))))
 
+-- labels of a `switch` ---------------------------------------------------------------------------------------------
+
+abbrev pub positive : Literal → SignedLiteral
+positive l = record { value = pos l.value; place = l.place }
+
+abbrev pub negative : Literal → SignedLiteral
+negative l = record { value = neg_ℤ (pos l.value); place = l.place }
+
+-- a literal of any type, with or without a sign
+abbrev pub signed_at : Parse SignedLiteral
+signed_at T = cond (is_mark mark.Minus (first T)) (behind mark.Minus (map_read negative (take_by next_small)) T)
+    (map_read positive (take_by next_small) T)
+
+abbrev pub case_of : SignedLiteral → PlacedLabel
+case_of v = record { label = Case v.value; place = v.place }
+
+abbrev pub default_of : Place → PlacedLabel
+default_of at = record { label = Default; place = at }
+
+-- what a label has before its colon
+abbrev pub case_at : Parse PlacedLabel
+case_at T = cond (is_mark mark.Case (first T)) (behind mark.Case (map_read case_of signed_at) T)
+    (map_read default_of (expect_at mark.Default) T)
+
+abbrev pub label_at : Parse PlacedLabel
+label_at = ended mark.Colon case_at
+
+abbrev pub labels_at : Parse (List PlacedLabel)
+labels_at = list_of begins_label label_at
+
 -- statements -------------------------------------------------------------------------------------------------------
 
 -- the marks that begin a statement that is no block, no assignment and no call
@@ -137,11 +171,13 @@ pub data StmtMark : Type 0 where
   at_return : StmtMark
   at_assert : StmtMark
   at_assume : StmtMark
+  at_switch : StmtMark
 
 abbrev pub stmt_marks : List (Mark × StmtMark)
 stmt_marks = (mark.Semicolon, at_nothing) ∷ (mark.If, at_if) ∷ (mark.While, at_while) ∷ (mark.For, at_for) ∷
     (mark.Break, at_break)
-    ∷ (mark.Continue, at_continue) ∷ (mark.Return, at_return) ∷ (mark.Assert, at_assert) ∷ (mark.Assume, at_assume) ∷ []
+    ∷ (mark.Continue, at_continue) ∷ (mark.Return, at_return) ∷ (mark.Assert, at_assert) ∷ (mark.Assume, at_assume) ∷
+    (mark.Switch, at_switch) ∷ []
 
 abbrev pub stmt_mark : Option Token → Option StmtMark
 stmt_mark o = one_of stmt_marks o
@@ -201,6 +237,11 @@ read_return d = seq (expect_at mark.Return) (λ at. map_read (return at) (up_to 
 abbrev pub read_check : ℕ → Mark → (Place → CondTree → StmtTree) → Parse StmtTree
 read_check d m make = seq (expect_at m) (λ at. map_read (make at) (ended mark.Semicolon (in_parens (cond_at d))))
 
+-- a `switch`; cases reads its braces
+abbrev pub read_switch : ℕ → Parse CasesTree → Parse StmtTree
+read_switch d cases = seq (expect_at mark.Switch) (λ at. seq (in_parens (expr_at d))
+    (λ e. map_read (switch at e) cases))
+
 abbrev pub read_nothing : Parse StmtTree
 read_nothing = map_read nothing (expect_at mark.Semicolon)
 
@@ -214,21 +255,22 @@ abbrev pub read_assigned : ℕ → Parse StmtTree
 read_assigned d T = cond (has (next_name (first T))) (seq (take_by next_name) (named_rest d) T)
     (map_read assign (ended mark.Semicolon (assign_at d)) T)
 
--- the forms of a statement that is no block; branch reads a branch
-abbrev pub simple_form : ℕ → Parse StmtTree → Option StmtMark → Parse StmtTree
-simple_form d branch (Some at_nothing) = read_nothing
-simple_form d branch (Some at_if) = read_if d branch
-simple_form d branch (Some at_while) = read_while d branch
-simple_form d branch (Some at_for) = read_for d branch
-simple_form d branch (Some at_break) = read_jump mark.Break break
-simple_form d branch (Some at_continue) = read_jump mark.Continue continue
-simple_form d branch (Some at_return) = read_return d
-simple_form d branch (Some at_assert) = read_check d mark.Assert assert
-simple_form d branch (Some at_assume) = read_check d mark.Assume assume
-simple_form d branch None = read_assigned d
+-- the forms of a statement that is no block; branch reads a branch, cases the braces of a `switch`
+abbrev pub simple_form : ℕ → Parse StmtTree → Parse CasesTree → Option StmtMark → Parse StmtTree
+simple_form d branch cases (Some at_nothing) = read_nothing
+simple_form d branch cases (Some at_if) = read_if d branch
+simple_form d branch cases (Some at_while) = read_while d branch
+simple_form d branch cases (Some at_for) = read_for d branch
+simple_form d branch cases (Some at_break) = read_jump mark.Break break
+simple_form d branch cases (Some at_continue) = read_jump mark.Continue continue
+simple_form d branch cases (Some at_return) = read_return d
+simple_form d branch cases (Some at_assert) = read_check d mark.Assert assert
+simple_form d branch cases (Some at_assume) = read_check d mark.Assume assume
+simple_form d branch cases (Some at_switch) = read_switch d cases
+simple_form d branch cases None = read_assigned d
 
-abbrev pub simple_of : ℕ → Parse StmtTree → Parse StmtTree
-simple_of d branch T = simple_form d branch (stmt_mark (first T)) T
+abbrev pub simple_of : ℕ → Parse StmtTree → Parse CasesTree → Parse StmtTree
+simple_of d branch cases T = simple_form d branch cases (stmt_mark (first T)) T
 
 -- an item of a block
 pub data ItemTree : Type 0 where
@@ -264,17 +306,56 @@ body_of items = behind mark.OpenBrace (seq items (λ is. map_read (λ end. (item
 abbrev pub block_from : ItemsTree × Place → StmtTree
 block_from b = block b.0 b.1
 
+-- a statement of a `switch`, behind its labels
+abbrev pub LabelledTree : Type 0
+LabelledTree = List PlacedLabel × StmtTree
+
+abbrev pub with_labels : List PlacedLabel → CasesTree → CasesTree
+with_labels [] cs = cs
+with_labels (b ∷ bs) cs = labelled b (with_labels bs cs)
+
+abbrev pub cases_from : List LabelledTree → CasesTree
+cases_from [] = no_cases
+cases_from (c ∷ cs) = with_labels c.0 (stated_case c.1 (cases_from cs))
+
+abbrev pub begins_case : Option Token → Bool
+begins_case o = begins_label o || begins_stmt o
+
+abbrev pub labelled_of : Parse StmtTree → Parse StmtTree → Parse LabelledTree
+labelled_of simple inner = seq labels_at (λ bs. map_read (λ t. (bs, t)) (stated_of simple inner))
+
+abbrev pub add_label : PlacedLabel → LabelledTree → LabelledTree
+add_label b c = (b ∷ c.0, c.1)
+
+-- the first of them has a label
+abbrev pub first_labelled : Parse StmtTree → Parse StmtTree → Parse LabelledTree
+first_labelled simple inner = seq label_at (λ b. map_read (add_label b) (labelled_of simple inner))
+
+abbrev pub some_cases : Parse StmtTree → Parse StmtTree → Parse (List LabelledTree)
+some_cases simple inner = seq (first_labelled simple inner)
+    (λ c. map_read (λ cs. c ∷ cs) (list_of begins_case (labelled_of simple inner)))
+
+abbrev pub cases_of : Parse StmtTree → Parse StmtTree → Parse (List LabelledTree)
+cases_of simple inner T = cond (begins_label (first T)) (some_cases simple inner T) (done_with [] T)
+
+abbrev pub braces_of : Parse (List LabelledTree) → Parse CasesTree
+braces_of cases = behind mark.OpenBrace (map_read cases_from (ended mark.CloseBrace cases))
+
 -- no level is left
 abbrev pub too_deep : Parse StmtTree
 too_deep T = cond (begins_stmt (first T)) (stop TooDeep T) (stop Syntax T)
 
--- a branch, and a block's items with its braces, each opening one of d levels
-unfoldable pub levels : ℕ → Parse StmtTree × Parse (ItemsTree × Place)
-levels zero = (too_deep, (λ T. stop TooDeep T))
+abbrev pub braces_too_deep : Parse CasesTree
+braces_too_deep T = cond (is_mark mark.OpenBrace (first T)) (stop TooDeep T) (stop Syntax T)
+
+-- a branch, a block's items with its braces, and the braces of a `switch`, each opening one of d levels
+unfoldable pub levels : ℕ → Parse StmtTree × Parse (ItemsTree × Place) × Parse CasesTree
+levels zero = (too_deep, (λ T. stop TooDeep T), braces_too_deep)
 levels (suc d) = (
-  stated_of (simple_of d (levels d).0) (map_read block_from
-      (body_of (items_of d (simple_of d (levels d).0) (map_read block_from (levels d).1)))),
-  body_of (items_of d (simple_of d (levels d).0) (map_read block_from (levels d).1)),
+  stated_of (simple_of d (levels d).0 (levels d).2) (map_read block_from
+      (body_of (items_of d (simple_of d (levels d).0 (levels d).2) (map_read block_from (levels d).1)))),
+  body_of (items_of d (simple_of d (levels d).0 (levels d).2) (map_read block_from (levels d).1)),
+  braces_of (cases_of (simple_of d (levels d).0 (levels d).2) (map_read block_from (levels d).1)),
 )
 
 abbrev pub branch_at : ℕ → Parse StmtTree
@@ -283,11 +364,20 @@ branch_at d = (levels d).0
 abbrev pub block_at : ℕ → Parse (ItemsTree × Place)
 block_at d = (levels d).1
 
+abbrev pub braces_at : ℕ → Parse CasesTree
+braces_at d = (levels d).2
+
 abbrev pub simple_at : ℕ → Parse StmtTree
-simple_at d = simple_of d (branch_at d)
+simple_at d = simple_of d (branch_at d) (braces_at d)
+
+abbrev pub stated_at : ℕ → Parse StmtTree
+stated_at d = stated_of (simple_at d) (map_read block_from (block_at d))
 
 abbrev pub item_at : ℕ → Parse ItemTree
 item_at d = item_of d (simple_at d) (map_read block_from (block_at d))
 
 abbrev pub items_at : ℕ → Parse (List ItemTree)
 items_at d = list_of begins_item (item_at d)
+
+abbrev pub cases_at : ℕ → Parse (List LabelledTree)
+cases_at d = cases_of (simple_at d) (map_read block_from (block_at d))

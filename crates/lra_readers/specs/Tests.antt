@@ -36,20 +36,24 @@ mark_number mark.OpenBrace = 24
 mark_number mark.CloseBrace = 25
 mark_number mark.Semicolon = 26
 mark_number mark.Comma = 27
-mark_number mark.Assert = 28
-mark_number mark.Assume = 29
-mark_number mark.Input = 30
-mark_number mark.Break = 31
-mark_number mark.Continue = 32
-mark_number mark.Else = 33
-mark_number mark.Extern = 34
-mark_number mark.For = 35
-mark_number mark.If = 36
-mark_number mark.Int = 37
-mark_number mark.Long = 38
-mark_number mark.Return = 39
-mark_number mark.Void = 40
-mark_number mark.While = 41
+mark_number mark.Colon = 28
+mark_number mark.Assert = 29
+mark_number mark.Assume = 30
+mark_number mark.Input = 31
+mark_number mark.Break = 32
+mark_number mark.Case = 33
+mark_number mark.Continue = 34
+mark_number mark.Default = 35
+mark_number mark.Else = 36
+mark_number mark.Extern = 37
+mark_number mark.For = 38
+mark_number mark.If = 39
+mark_number mark.Int = 40
+mark_number mark.Long = 41
+mark_number mark.Return = 42
+mark_number mark.Switch = 43
+mark_number mark.Void = 44
+mark_number mark.While = 45
 
 abbrev pub is_kind : Mark → Kind → Bool
 is_kind m (Name word) = false
@@ -73,3 +77,7 @@ is_loop o = is_mark mark.While o || is_mark mark.For o
 
 abbrev pub is_jump : Option Token → Bool
 is_jump o = is_mark mark.Break o || is_mark mark.Continue o || is_mark mark.Return o
+
+-- the words with which labels of a `switch` begin
+abbrev pub begins_label : Option Token → Bool
+begins_label o = is_mark mark.Case o || is_mark mark.Default o

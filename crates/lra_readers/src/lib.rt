@@ -14,8 +14,8 @@ mod reading;
 
 pub use lead::Lead;
 pub use reading::{
-    Fault, Literal, Stopped, expect, expect_at, next_is, next_is_name, next_literal, push_boxed,
-    read_name, stop, tail,
+    Fault, Literal, Stopped, expect, expect_at, next_is, next_is_name, next_literal, next_small,
+    push_boxed, read_name, stop, tail,
 };
 
 /// A law of the language: no text has two trees, and no list of tokens has two first faults, or a fault and a tree.

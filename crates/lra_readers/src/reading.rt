@@ -1,8 +1,8 @@
 //! Tests of the next token, single tokens, and faults.
 
-ghost use Rattle.std.specs.Prelude.{◌≡◌, ℕ, ◌<◌, ◌≤◌, [], ◌∷◌, ◌++◌, length, IfOk};
+ghost use Rattle.std.specs.Prelude.{◌≡◌, ℕ, ◌<◌, ◌≤◌, [], ◌∷◌, ◌++◌, length, IfOk, IfSome};
 ghost use Rattle.lra_readers.specs.Tests.{is_mark, first};
-ghost use Rattle.lra_readers.specs.Reading.{Gives, expect, expect_at, has, next_name, next_literal, tail, take_by};
+ghost use Rattle.lra_readers.specs.Reading.{Gives, expect, expect_at, has, next_name, next_literal, next_small, tail, take_by};
 
 use lra_base::{Cause, NumberType, Place};
 use lra_tree::{Identifier, Kind, Mark, Token};
@@ -121,6 +121,22 @@ pub fn next_literal(rest: &[Token]) -> Option<Literal>
             }),
             _ => None,
         },
+        None => None,
+    }
+}
+
+/// The next token, if it is a literal that has 64 bits with a sign too, as each of a source.
+pub fn next_small(rest: &[Token]) -> Option<Literal>
+    ensures value { result ≡ next_small (first rest.now) }
+    ensures limit { IfSome result (λ l. l.value < 9223372036854775808) }
+{
+    match next_literal(rest) {
+        Some(literal) => {
+            if literal.value <= 9223372036854775807 {
+                return Some(literal);
+            }
+            None
+        }
         None => None,
     }
 }
