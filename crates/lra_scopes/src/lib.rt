@@ -14,6 +14,7 @@ mod variables;
 pub use calls::{resolve_assign, resolve_call, resolve_given};
 pub use conditions::resolve_cond;
 pub use errors::refuse;
+pub use expressions::resolve_expr;
 pub use names::Names;
 pub use scopes::Scope;
 pub use signatures::{Functions, Signature};

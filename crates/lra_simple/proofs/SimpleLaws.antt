@@ -9,6 +9,9 @@ use Rattle.lra_tree.specs.declared.trees.Stmt as code
 use Rattle.lra_tree.specs.declared.trees.Block.{Block}
 use Rattle.lra_tree.specs.declared.trees.Init.{Init}
 use Rattle.lra_tree.specs.declared.trees.Cond.{Cond}
+use Rattle.lra_tree.specs.declared.trees.Expr.{Expr}
+use Rattle.lra_tree.specs.declared.trees.CaseItem.{CaseItem}
+use Rattle.lra_tree.specs.declared.trees.Cases.{Cases}
 use Rattle.lra_tree.specs.declared.trees.Assign.{Assign}
 use Rattle.lra_tree.specs.declared.trees.Call.{Call}
 use Rattle.lra_tree.specs.declared.trees.Rvalue.{Rvalue}
@@ -24,7 +27,7 @@ use Rattle.lra_scopes.specs.Outcome.{TellsOf}
 use Rattle.lra_simple.specs.Labelling.{LabelsSoFar, Adds}
 use Rattle.lra_simple.specs.Resolved.{Resolves}
 use Rattle.lra_simple.specs.Statements.{IsSimple}
-use Rattle.lra_simple.proofs.StatementLaws.{block_is, nothing_is, assign_is, call_is, break_is, continue_is, return_is, assert_is, assume_is, if_is, if_else_is, while_is, for_is}
+use Rattle.lra_simple.proofs.StatementLaws.{block_is, nothing_is, assign_is, call_is, break_is, continue_is, return_is, assert_is, assume_is, if_is, if_else_is, while_is, for_is, switch_is}
 
 simple_as : (t u : StmtTree) → t ≡ u → IsSimple u → IsSimple t
 simple_as t u e h = subst IsSimple (sym e) h
@@ -35,8 +38,9 @@ module _ (s : Stmt)
     (g : (at : Place) (c : Cond) (b : Box Stmt Global) → s ≡ code.If at c b → ⊥)
     (h : (at : Place) (c : Cond) (b e : Box Stmt Global) → s ≡ code.IfElse at c b e → ⊥)
     (i : (at : Place) (c : Cond) (b : Box Stmt Global) → s ≡ code.While at c b → ⊥)
-    (j : (at : Place) (i : Init) (c : Option Cond) (e : Option Assign) (b : Box Stmt Global) → s ≡ code.For at i c e b → ⊥) where
-  opened_is_simple : (o : Stmt-F BlockItem Stmt Block) → s ≡ roll-Stmt o → IsSimple (stmt_view s)
+    (j : (at : Place) (i : Init) (c : Option Cond) (e : Option Assign) (b : Box Stmt Global) → s ≡ code.For at i c e b → ⊥)
+    (k : (at : Place) (e : Expr) (cs : Cases) → s ≡ code.Switch at e cs → ⊥) where
+  opened_is_simple : (o : Stmt-F BlockItem CaseItem Stmt Block Cases) → s ≡ roll-Stmt o → IsSimple (stmt_view s)
   unfolding roll-Stmt denote.Hole.Carrier.roll
   opened_is_simple (Stmt-F.Nothing at) e = simple_as _ _ (nothing_is s at e) (tt {0})
   opened_is_simple (Stmt-F.Assign a) e = simple_as _ _ (assign_is s a e) (tt {0})
@@ -51,6 +55,7 @@ module _ (s : Stmt)
   opened_is_simple (Stmt-F.IfElse at c b x) e = absurd (h at c b x e)
   opened_is_simple (Stmt-F.While at c b) e = absurd (i at c b e)
   opened_is_simple (Stmt-F.For at x c y b) e = absurd (j at x c y b e)
+  opened_is_simple (Stmt-F.Switch at v cs) e = absurd (k at v cs e)
 
   pub rest_is_simple : IsSimple (stmt_view s)
   rest_is_simple = opened_is_simple (out-Stmt s) (sym (roll-out-Stmt s))
@@ -60,7 +65,7 @@ module _ (s : Stmt) (simple : IsSimple (stmt_view s))
     (i : (at : Place) → s ≡ code.Break at → ⊥) (j : (at : Place) → s ≡ code.Continue at → ⊥)
     (k : (at : Place) (e : Option Rvalue) → s ≡ code.Return at e → ⊥)
     (l : (at : Place) (c : Cond) → s ≡ code.Assert at c → ⊥) (m : (at : Place) (c : Cond) → s ≡ code.Assume at c → ⊥) where
-  opened_is_other : (o : Stmt-F BlockItem Stmt Block) → s ≡ roll-Stmt o → ⊥
+  opened_is_other : (o : Stmt-F BlockItem CaseItem Stmt Block Cases) → s ≡ roll-Stmt o → ⊥
   unfolding roll-Stmt denote.Hole.Carrier.roll
   opened_is_other (Stmt-F.Nothing at) e = f at e
   opened_is_other (Stmt-F.Assign a) e = g a e
@@ -75,6 +80,7 @@ module _ (s : Stmt) (simple : IsSimple (stmt_view s))
   opened_is_other (Stmt-F.IfElse at c b x) e = subst IsSimple (if_else_is s at c b x b.value x.value e refl refl) simple
   opened_is_other (Stmt-F.While at c b) e = subst IsSimple (while_is s at c b b.value e refl) simple
   opened_is_other (Stmt-F.For at x c y b) e = subst IsSimple (for_is s at x c y b b.value e refl) simple
+  opened_is_other (Stmt-F.Switch at v cs) e = subst IsSimple (switch_is s at v cs e) simple
 
   pub no_other : ⊥
   no_other = opened_is_other (out-Stmt s) (sym (roll-out-Stmt s))

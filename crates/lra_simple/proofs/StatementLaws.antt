@@ -9,7 +9,7 @@ use Rattle.std.proofs.Math.Seq.{take-length}
 use Rattle.std.proofs.Math.Nat.{le-max_left, le-max_right}
 use Rattle.lra_base.specs.declared.refusals.Place.{Place}
 use Rattle.lra_tree.specs.Trees.{CondTree, AssignTree, DeclaratorTree, DeclarationTree, InitTree, no_init, declared, assigned, StmtTree, block, if_only, while, if_else, for, ItemsTree}
-use Rattle.lra_tree.specs.Trees.{declaration, statement, FunctionTree, nothing, assign, call, break, continue, return, assert, assume}
+use Rattle.lra_tree.specs.Trees.{declaration, statement, FunctionTree, nothing, assign, call, break, continue, return, assert, assume, switch}
 use Rattle.lra_program.specs.declared.program.BlockItem.{BlockItem, the_lemmas}
 use Rattle.lra_program.specs.declared.program.BlockItem as program_item
 use Rattle.lra_program.specs.declared.program.Stmt.{Stmt as ProgramStmt}
@@ -23,10 +23,12 @@ use Rattle.lra_tree.specs.declared.trees.Init.TheVariants as code_init
 use Rattle.lra_tree.specs.declared.trees.Stmt.{Stmt, the_lemmas as stmt_lemmas}
 use Rattle.lra_tree.specs.declared.trees.Stmt as code_stmt
 use Rattle.lra_tree.specs.declared.trees.Cond.{Cond}
+use Rattle.lra_tree.specs.declared.trees.Expr.{Expr}
+use Rattle.lra_tree.specs.declared.trees.Cases.{Cases}
 use Rattle.lra_tree.specs.declared.trees.Assign.{Assign}
 use Rattle.lra_tree.specs.declared.trees.Call.{Call}
 use Rattle.lra_tree.specs.declared.trees.Rvalue.{Rvalue}
-use Rattle.lra_tree.specs.Views.{items_of, item_view, block_view, init_view, declaration_view, declarator_view, stmt_view, cond_view, assign_view, call_view, rvalue_view}
+use Rattle.lra_tree.specs.Views.{items_of, item_view, block_view, init_view, declaration_view, declarator_view, stmt_view, cases_view, expr_view, cond_view, assign_view, call_view, rvalue_view}
 use Rattle.lra_program.specs.Program as program
 use Rattle.lra_program.specs.ProgramViews as view
 use Rattle.lra_meaning.specs.Scope.{Entry, Scope, with_local, declarator_entry, with_declarators, inner, for_scope}
@@ -182,6 +184,9 @@ pub for_is : (stmt : Stmt) (at : Place) (i : Init) (c : Option Cond) (e : Option
 for_is stmt at i c e b t is same =
     let v : stmt_view (code_stmt.For at i c e b) ≡ for at (init_view i) (option_map cond_view c) (option_map assign_view e) (stmt_view b.value) = search (rules, stmt_lemmas) in
     rw (is, v, same)
+
+pub switch_is : (stmt : Stmt) (at : Place) (e : Expr) (cs : Cases) → stmt ≡ code_stmt.Switch at e cs → stmt_view stmt ≡ switch at (expr_view e) (cases_view cs)
+switch_is stmt at e cs is = let v : stmt_view (code_stmt.Switch at e cs) ≡ switch at (expr_view e) (cases_view cs) = search (rules, stmt_lemmas) in rw (is, v)
 
 -- what is told of a result, where a call is handed on
 pub kept_so : {T : Type 0} {P : Type 0} (r : Result T SourceError) → P → OnOk r P

@@ -2,3 +2,4 @@ pub mod Labelling
 pub mod Statements
 pub mod LoopHeads
 pub mod Resolved
+pub mod Cases

@@ -11,12 +11,12 @@ use Rattle.lra_meaning.specs.Scope.{Scope, is_declared, with_local, declarator_e
 use Rattle.lra_meaning.specs.NameFaults as faults
 use Rattle.lra_program.specs.Program as program
 
--- among the functions of these parts, in a function with a result or not, in a loop or not
+-- among the functions of these parts, in a function with a result or not, in loops and `switch`es or not
 abbrev pub around_of : Around → faults.Around
 around_of a = record {
   functions = functions_at a.functions.now;
   has_result = a.has_result;
-  jumps = record { breaks = a.in_loop; continues = a.in_loop };
+  jumps = record { breaks = a.breaks; continues = a.continues };
 }
 
 -- of one declarator of a type
@@ -44,7 +44,7 @@ abbrev pub followed : List (program.BlockItems → program.BlockItems) → progr
 followed [] items = items
 followed (f ∷ fs) items = f (followed fs items)
 
--- a choice, a loop, a `for`, a `return`, a `break` and a `continue`, whose own names are words of the code
+-- a choice, a loop, a `for`, a `return`, a `break`, a `continue` and a `switch`, whose own names are words of the code
 abbrev pub choice : ℕ → program.Cond → program.Stmt → program.Stmt → program.Stmt
 choice n c t e = program.if n c t e
 
@@ -62,3 +62,6 @@ break_of n = program.break n
 
 abbrev pub continue_of : ℕ → program.Stmt
 continue_of n = program.continue n
+
+abbrev pub switch_of : ℕ → program.Expr → program.Cases → program.Stmt
+switch_of n e cs = program.switch n e cs

@@ -1,7 +1,7 @@
 //! Where a statement stands.
 
 ghost use Rattle.std.specs.Prelude.{◌≡◌};
-ghost use Rattle.lra_meaning.specs.NameFaults.{in_a_loop};
+ghost use Rattle.lra_meaning.specs.NameFaults.{in_a_loop, in_a_switch};
 ghost use Rattle.lra_simple.specs.Statements.{around_of};
 
 use lra_scopes::Functions;
@@ -14,7 +14,10 @@ pub struct Around<'a> {
     pub functions: &'a Functions<'a>,
     /// Whether the function has a result; `void` has none.
     pub has_result: bool,
-    pub in_loop: bool,
+    /// Whether a loop or a `switch` stands around it, which a `break` leaves.
+    pub breaks: bool,
+    /// Whether a loop stands around it.
+    pub continues: bool,
 }
 
 impl<'a> Around<'a> {
@@ -26,7 +29,21 @@ impl<'a> Around<'a> {
             alloc: self.alloc,
             functions: self.functions,
             has_result: self.has_result,
-            in_loop: true,
+            breaks: true,
+            continues: true,
+        }
+    }
+
+    /// Where the statements of a `switch` stand that stands here.
+    pub fn in_a_switch(&self) -> Around<'a>
+        ensures { around_of result ≡ in_a_switch (around_of self.now) }
+    {
+        Around {
+            alloc: self.alloc,
+            functions: self.functions,
+            has_result: self.has_result,
+            breaks: true,
+            continues: self.continues,
         }
     }
 }

@@ -4,14 +4,18 @@
 
 mod around;
 mod called;
+mod cases;
 mod declarations;
 mod heads;
 mod kinds;
 mod labelling;
 mod simple;
+mod switches;
 
 pub use around::Around;
+pub use cases::CaseList;
 pub use declarations::add_declaration;
 pub use heads::{Asked, Head, LoopHead, Rounds, block_of, resolve_head, resolve_loop_head};
 pub use kinds::resolve_simple;
 pub use labelling::Labelling;
+pub use switches::{SwitchHead, resolve_switch_head};

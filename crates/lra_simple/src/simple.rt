@@ -76,36 +76,32 @@ pub fn resolve_call_alone(
     Ok(lra_program::Stmt::Call(label, call))
 }
 
-/// The label of a `break` or a `continue`, which stand in loops.
-fn take_jump_label(
-    in_loop: bool,
-    labels: &mut Labelling,
-    place: Place,
-) -> Result<usize, SourceError>
-    ensures told { TellsOf (fault_if (not in_loop) Misplaced place) result }
+/// The label of a `break` or a `continue`, which have to stand in what they leave or go on with.
+fn take_jump_label(inside: bool, labels: &mut Labelling, place: Place) -> Result<usize, SourceError>
+    ensures told { TellsOf (fault_if (not inside) Misplaced place) result }
     ensures label { IfOk result (λ n. n ≡ labels.old.next) }
     ensures counted { OnOk result (labels.new.next ≡ suc labels.old.next) }
     ensures adds { OnOk result (Adds labels.old labels.new (plain_label place labels.old.live ∷ [])) }
 {
-    if in_loop {
+    if inside {
         labels.add(place, None)
     } else {
         refuse(Cause::Misplaced, place)
     }
 }
 
-/// A `break`, in a loop or not.
+/// A `break`, in a loop or `switch` or not.
 pub fn resolve_break(
     around: &Around<'_>,
     labels: &mut Labelling,
     place: Place,
 ) -> Result<lra_program::Stmt, SourceError>
-    ensures told { TellsOf (fault_if (not around.now.in_loop) Misplaced place) result }
+    ensures told { TellsOf (fault_if (not around.now.breaks) Misplaced place) result }
     ensures found { IfOk result (λ s. stmt_view s ≡ break_of labels.old.next) }
     ensures counted { OnOk result (labels.new.next ≡ suc labels.old.next) }
     ensures adds { OnOk result (Adds labels.old labels.new (plain_label place labels.old.live ∷ [])) }
 {
-    let label = take_jump_label(around.in_loop, labels, place)?;
+    let label = take_jump_label(around.breaks, labels, place)?;
     Ok(lra_program::Stmt::Break(label))
 }
 
@@ -115,12 +111,12 @@ pub fn resolve_continue(
     labels: &mut Labelling,
     place: Place,
 ) -> Result<lra_program::Stmt, SourceError>
-    ensures told { TellsOf (fault_if (not around.now.in_loop) Misplaced place) result }
+    ensures told { TellsOf (fault_if (not around.now.continues) Misplaced place) result }
     ensures found { IfOk result (λ s. stmt_view s ≡ continue_of labels.old.next) }
     ensures counted { OnOk result (labels.new.next ≡ suc labels.old.next) }
     ensures adds { OnOk result (Adds labels.old labels.new (plain_label place labels.old.live ∷ [])) }
 {
-    let label = take_jump_label(around.in_loop, labels, place)?;
+    let label = take_jump_label(around.continues, labels, place)?;
     Ok(lra_program::Stmt::Continue(label))
 }
 
