@@ -89,7 +89,8 @@ fn resolve_function(
         alloc,
         functions,
         has_result: function.result_type.is_some(),
-        in_loop: false,
+        breaks: false,
+        continues: false,
     };
     let body = resolve_items(&around, scope, labels, &function.body)?;
     let end = labels.add(function.body.end, None)?;

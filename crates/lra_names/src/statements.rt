@@ -1,26 +1,26 @@
 //! Statements, each under its label.
 
-ghost use Rattle.std.specs.Prelude.{◌≡◌, ◌+◌, map, option_copied, IfOk, OnOk, IfErr};
-ghost use Rattle.lra_tree.specs.Trees.{ItemsTree, block as tree_block};
-ghost use Rattle.lra_tree.specs.Views.{stmt_view, block_view, item_view};
-ghost use Rattle.lra_program.specs.ProgramViews.{items_view, item_view as program_item_view};
+ghost use Rattle.std.specs.Prelude.{◌≡◌, ◌+◌, option_copied, IfOk, OnOk};
+ghost use Rattle.lra_tree.specs.Trees.{block as tree_block, switch as tree_switch};
+ghost use Rattle.lra_tree.specs.Views.{stmt_view, block_view, expr_view, cases_view};
+ghost use Rattle.lra_program.specs.ProgramViews.{items_view};
 ghost use Rattle.lra_meaning.specs.NameFaults.{items_faults};
 ghost use Rattle.lra_meaning.specs.Resolve.{resolve_items, items_count};
 ghost use Rattle.lra_scopes.specs.Calls.{functions_at};
 ghost use Rattle.lra_scopes.specs.Scopes.{Extends};
-ghost use Rattle.lra_simple.specs.Labelling.{Fills, Follows};
-ghost use Rattle.lra_simple.specs.Statements.{around_of, followed};
+ghost use Rattle.lra_simple.specs.Labelling.{Fills};
+ghost use Rattle.lra_simple.specs.Statements.{around_of};
 ghost use Rattle.lra_simple.specs.LoopHeads.{choice_of, loop_tree};
-ghost use Rattle.lra_scopes.specs.Outcome.{Tells, TellsOf};
+ghost use Rattle.lra_scopes.specs.Outcome.{TellsOf};
 ghost use Rattle.lra_simple.specs.Resolved.{Resolves};
 
-use lra_base::SourceError;
+use lra_base::{Place, SourceError};
 use lra_scopes::Scope;
 use lra_simple::{
-    Around, Asked, Labelling, Rounds, add_declaration, block_of, resolve_head, resolve_loop_head,
-    resolve_simple,
+    Around, Asked, CaseList, Labelling, Rounds, add_declaration, block_of, resolve_head,
+    resolve_loop_head, resolve_simple, resolve_switch_head,
 };
-use lra_tree::{Block, BlockItem, Stmt};
+use lra_tree::{Block, BlockItem, CaseItem, Cases, Expr, Stmt};
 
 #[cycle(statement)]
 fn resolve_stmt(
@@ -48,6 +48,9 @@ fn resolve_stmt(
         Stmt::For(place, init, test, step, body) => {
             let rounds = Rounds::For(place, init, test, step);
             resolve_loop(around, scope, labels, &rounds, body)
+        }
+        Stmt::Switch(place, value, cases) => {
+            resolve_switch(around, scope, labels, *place, value, cases)
         }
         _ => resolve_simple(around, scope, labels, stmt),
     }
@@ -99,6 +102,37 @@ fn resolve_loop(
     head.into_loop(around.alloc, body)
 }
 
+/// A `switch`, whose labels aren't labelled themselves: they have no points.
+///
+/// `DuplicateCase` at a label that is like one before it.
+#[cycle(statement)]
+fn resolve_switch(
+    around: &Around<'_>,
+    scope: &mut Scope,
+    labels: &mut Labelling,
+    place: Place,
+    value: &Expr,
+    cases: &Cases,
+) -> Result<lra_program::Stmt, SourceError>
+    ensures { Resolves (around_of around.now) scope.old labels.old
+        (tree_switch place (expr_view value.now) (cases_view cases.now))
+        result scope.new labels.new }
+{
+    let head = resolve_switch_head(around.alloc, scope, labels, place, value)?;
+    let inside = around.in_a_switch();
+    let mut list = CaseList::new(around.alloc);
+    'cases: for item in &cases.items {
+        match item {
+            CaseItem::Label(label) => list.add_label(label)?,
+            CaseItem::Stated(stmt) => {
+                let stmt = resolve_stmt(&inside, scope, labels, stmt)?;
+                list.add_statement(stmt)?;
+            }
+        }
+    }
+    Ok(head.into_switch(list.into_items()))
+}
+
 #[cycle(statement)]
 fn resolve_block(
     around: &Around<'_>,
@@ -141,43 +175,15 @@ pub fn resolve_items(
 {
     let mut items = Vec::new(around.alloc);
     'items: for item in &block.items {
-        add_item(around, scope, labels, item, &mut items)?;
+        match item {
+            BlockItem::Declaration(declaration) => {
+                add_declaration(around.functions, scope, labels, declaration, &mut items)?;
+            }
+            BlockItem::Statement(stmt) => {
+                let stmt = resolve_stmt(around, scope, labels, stmt)?;
+                items.push(lra_program::BlockItem::Statement(stmt))?;
+            }
+        }
     }
     Ok(block_of(items))
-}
-
-/// Resolves an item of a block into further items.
-#[cycle(statement)]
-#[tactic(auto, using(lra_simple::proofs::StatementLaws::item_rules))]
-fn add_item(
-    around: &Around<'_>,
-    scope: &mut Scope,
-    labels: &mut Labelling,
-    item: &BlockItem,
-    items: &mut Vec<lra_program::BlockItem>,
-) -> Result<(), SourceError>
-    ensures told { IfErr result (λ e. (rest : ItemsTree)
-        → Tells (items_faults (around_of around.now) scope.old (item_view item.now rest)) e) }
-    ensures clean { OnOk result ((rest : ItemsTree) → items_faults (around_of around.now) scope.old
-        (item_view item.now rest) ≡ items_faults (around_of around.now) scope.new rest) }
-    ensures found { OnOk result ((rest : ItemsTree) → followed (map program_item_view items.old.items)
-        (resolve_items (functions_at around.now.functions.now) scope.old labels.old.next (item_view item.now rest))
-        ≡ followed (map program_item_view items.new.items)
-        (resolve_items (functions_at around.now.functions.now) scope.new labels.new.next rest)) }
-    ensures extended { OnOk result (Extends scope.old scope.new) }
-    ensures counted { OnOk result ((rest : ItemsTree) → labels.new.next + items_count rest ≡ labels.old.next
-        + items_count (item_view item.now rest)) }
-    ensures follows { OnOk result (Follows labels.old labels.new (item_view item.now)) }
-{
-    match item {
-        BlockItem::Declaration(declaration) => {
-            add_declaration(around.functions, scope, labels, declaration, items)?;
-            Ok(())
-        }
-        BlockItem::Statement(stmt) => {
-            let stmt = resolve_stmt(around, scope, labels, stmt)?;
-            items.push(lra_program::BlockItem::Statement(stmt))?;
-            Ok(())
-        }
-    }
 }

@@ -1,50 +1,43 @@
--- Goals of the functions that call each other around `statement`: `add_item`, `resolve_items`, `resolve_stmt`,
--- `resolve_block`, `resolve_choice`, `resolve_loop`.
-use Rattle.std.proofs.Common.{List, [], ◌∷◌, ◌+◌, subst, map, drop, refl, ap, sym, ◌∙◌, arith, Option, option_map, option_copied, Bor}
+-- Goals of the functions that call each other around `statement`: `resolve_items`, `resolve_stmt`, `resolve_block`,
+-- `resolve_choice`, `resolve_loop`, `resolve_switch`.
+use Rattle.std.proofs.Common.{List, [], ◌∷◌, ◌+◌, subst, map, drop, refl, ap, sym, ◌∙◌, arith, Option, option_map, option_copied, Bor, Vec, Global}
 use Rattle.lra_tree.specs.Trees.{ItemsTree, StmtTree}
 use Rattle.lra_program.specs.declared.program.BlockItem.{BlockItem as ProgramItem}
+use Rattle.lra_program.specs.declared.program.CaseItem.{CaseItem as ProgramCase}
 use Rattle.lra_tree.specs.declared.trees.BlockItem.{BlockItem}
+use Rattle.lra_tree.specs.declared.trees.CaseItem.{CaseItem}
 use Rattle.lra_tree.specs.declared.trees.Stmt.{Stmt}
-use Rattle.lra_tree.specs.Views.{items_of, item_view, block_view, declarator_view, cond_view, stmt_view}
+use Rattle.lra_tree.specs.Views.{items_of, item_view, block_view, cond_view, stmt_view, expr_view, cases_of, case_view, cases_view}
 use Rattle.lra_program.specs.ProgramViews.{item_view as program_item_view, stmt_view as program_stmt_view}
+use Rattle.lra_program.specs.ProgramViews.{expr_view as program_expr_view, case_view as program_case_view, cases_of as program_cases_of}
 use Rattle.lra_meaning.specs.NameFaults.{Around, items_faults}
 use Rattle.lra_meaning.specs.Resolve.{resolve_stmt, resolve_items, items_count}
 use Rattle.lra_scopes.specs.Calls.{functions_at}
-use Rattle.lra_simple.specs.Statements.{around_of, followed}
+use Rattle.lra_simple.specs.Statements.{around_of, followed, switch_of}
 use Rattle.lra_simple.specs.LoopHeads.{rounds_view, loop_around}
-use Rattle.lra_scopes.proofs.Telling.{tells_front, tells_behind, exit_tells, exit_tells_all, rest_tells}
+use Rattle.lra_scopes.proofs.Telling.{tells_front, tells_behind, exit_tells, rest_tells}
 use Rattle.lra_scopes.proofs.Loops.{parts_step, first_told, second_told, both_clean, made_told, found_so, wanting_told}
 use Rattle.std.proofs.lemmas.List.{at_drop_all}
-use Rattle.lra_simple.proofs.StatementLaws.{extends_self, extends_then, extends_declared, declaration_counted, statement_found, block_items, block_end, kept_so, block_is, absent_is, choice_found}
-use Rattle.lra_simple.proofs.StatementLaws.{if_is, if_else_is, while_is, for_is}
+use Rattle.lra_simple.proofs.StatementLaws.{extends_self, extends_then, block_items, block_end, kept_so, block_is, absent_is, choice_found}
+use Rattle.lra_simple.proofs.StatementLaws.{if_is, if_else_is, while_is, for_is, switch_is}
 use Rattle.lra_names.proofs.LoopLaws.{faults_of_loop, meaning_of_loop, count_of_loop, loops, without, with_other, count_without, count_with, labelled_without, labelled_with, front_told, other_told}
 use Rattle.lra_names.proofs.LoopLaws.{clean_without, clean_with, loop_left, block_found, block_left, block_counted, refused}
 use Rattle.lra_simple.proofs.SimpleLaws.{rest_is_simple}
 use Rattle.lra_base.specs.declared.refusals.Place.{Place}
 use Rattle.lra_tree.specs.Labels.{plain_label}
 use Rattle.lra_simple.specs.Labelling.{Adds}
-use Rattle.lra_simple.proofs.LabellingLaws.{declaration_follows, statement_follows, reaches_none, reaches_step, reaches_all, blocks}
-use Rattle.lra_names.proofs.ItemLaws.{declaration_clean, declaration_found, declaration_told, kept_extends, statement_clean, statement_told}
+use Rattle.lra_simple.proofs.LabellingLaws.{reaches_none, reaches_step, reaches_all, blocks}
+use Rattle.lra_names.proofs.CaseLaws.{all_cases, selects_none, selects_label, selects_stated, label_told, stated_told, value_told, switch_told, switch_found}
+use Rattle.lra_names.proofs.ItemLaws.{Passes, passes_declaration, passes_statement, declaration_told, statement_told}
 use Rattle.lra_names.proofs.statements.+statement.Goals as goal
+use Rattle.lra_names.proofs.statements.+statement.Goals.{resolve_items-in-Declaration+in_ok-add_declaration-in-Declaration}
+use Rattle.lra_names.proofs.statements.+statement.Goals.{resolve_items-in-Statement+in_ok-stmt-in-Statement+in_ok-push-in-Statement}
+use Rattle.lra_names.proofs.statements.+statement.Goals.{resolve_switch-in-Label+in_ok-add_label-in-Label}
+use Rattle.lra_names.proofs.statements.+statement.Goals.{resolve_switch-in-Stated+in_ok-stmt-in-Stated+in_ok-add_statement-in-Stated}
 
 -- the second branch of a choice
 abbrev other_of : Option (Bor Stmt) → Option StmtTree
 other_of o = option_map stmt_view (option_copied o)
-
-pub add_item-returns-in_ok-add_declaration-in-Declaration-clause-extended : goal.add_item-returns-in_ok-add_declaration-in-Declaration-clause-extended
-add_item-returns-in_ok-add_declaration-in-Declaration-clause-extended t c =
-    rw c.in_ok-add_declaration-in-Declaration.ensures.declared
-    (extends_declared c.args.scope.now c.in-Declaration.declaration.number_type (declarator_view c.in-Declaration.declaration.first ∷ map declarator_view c.in-Declaration.declaration.rest.items))
-
-pub add_item-returns-in_ok-add_declaration-in-Declaration-clause-counted : goal.add_item-returns-in_ok-add_declaration-in-Declaration-clause-counted
-add_item-returns-in_ok-add_declaration-in-Declaration-clause-counted t c =
-    declaration_counted c.args.item.now c.in-Declaration.declaration c.args.labels.now.next c.add_declaration.new.labels.next c.in-Declaration.is c.in_ok-add_declaration-in-Declaration.ensures.counted
-
-pub add_item-returns-in_ok-push-in-Statement-clause-found : goal.add_item-returns-in_ok-push-in-Statement-clause-found
-add_item-returns-in_ok-push-in-Statement-clause-found t c =
-    statement_found (functions_at c.args.around.now.functions.now) c.args.scope.now c.resolve_stmt.new.scope c.args.labels.now.next c.resolve_stmt.new.labels.next c.args.item.now c.in-Statement.stmt
-    c.in_ok-stmt-in-Statement.stmt c.args.items.now.items c.push.new.self.items c.in-Statement.is c.in_ok-push-in-Statement.ensures.items
-    c.in_ok-stmt-in-Statement.ensures.found c.in_ok-stmt-in-Statement.ensures.kept c.in_ok-stmt-in-Statement.ensures.counted
 
 pub resolve_items-items-init : goal.resolve_items-items-init
 resolve_items-items-init t c =
@@ -64,32 +57,66 @@ resolve_items-items-preserved t c =
     let A = around_of c.args.around.now in
     let xs = c.deref-item-items.result.now in
     let left = items_of (map item_view (drop (c.items.item-index + 1) xs)) in
+    let item = c.item-item.result in
+    let joined = c.match-item in
+    let one : Passes A item c.items.scope joined.scope c.items.labels joined.labels c.items.items.items joined.items.items = elim joined.branch [
+      | resolve_items-in-Declaration+in_ok-add_declaration-in-Declaration w ↦ rw (w.items-is, w.scope-is, w.labels-is)
+          (passes_declaration A item c.items.scope w.add_declaration.new.scope c.items.labels w.add_declaration.new.labels
+          c.items.items.items w.add_declaration.new.items.items
+          w.in-Declaration.declaration w.in-Declaration.is w.in_ok-add_declaration-in-Declaration.ensures.told
+          w.in_ok-add_declaration-in-Declaration.ensures.found
+          w.in_ok-add_declaration-in-Declaration.ensures.declared
+          w.in_ok-add_declaration-in-Declaration.ensures.counted w.in_ok-add_declaration-in-Declaration.ensures.labelled)
+      | resolve_items-in-Statement+in_ok-stmt-in-Statement+in_ok-push-in-Statement w ↦ rw (w.items-is, w.scope-is, w.labels-is)
+          (passes_statement A item c.items.scope w.resolve_stmt.new.scope c.items.labels w.resolve_stmt.new.labels c.items.items.items w.push.new.self.items
+          w.in-Statement.stmt w.in_ok-stmt-in-Statement.stmt w.in-Statement.is w.in_ok-stmt-in-Statement.ensures.told w.in_ok-stmt-in-Statement.ensures.found
+          w.in_ok-stmt-in-Statement.ensures.kept w.in_ok-stmt-in-Statement.ensures.counted
+          w.in_ok-stmt-in-Statement.ensures.adds w.in_ok-push-in-Statement.ensures.items)
+    ] in
     record {
       clean = c.items.invariant.clean
-          ∙ parts_step (λ (fs : List (ItemsTree → ItemsTree)). items_faults A c.items.scope (items_of fs)) item_view xs c.items.item-index c.item-item.result c.items-test.true c.item-item.is
-          ∙ c.in_ok-add_item.ensures.clean left;
+          ∙ parts_step (λ (fs : List (ItemsTree → ItemsTree)). items_faults A c.items.scope (items_of fs))
+          item_view xs c.items.item-index item c.items-test.true c.item-item.is
+          ∙ one.clean left;
       found = c.items.invariant.found
-          ∙ parts_step (λ (fs : List (ItemsTree → ItemsTree)). followed (map program_item_view c.items.items.items) (resolve_items F c.items.scope c.items.labels.next (items_of fs))) item_view
-          xs c.items.item-index c.item-item.result c.items-test.true c.item-item.is
-          ∙ c.in_ok-add_item.ensures.found left;
-      extended = extends_then _ _ _ c.items.invariant.extended c.in_ok-add_item.ensures.extended;
-      counted = c.in_ok-add_item.ensures.counted left
-          ∙ sym (parts_step (λ (fs : List (ItemsTree → ItemsTree)). c.items.labels.next + items_count (items_of fs)) item_view xs c.items.item-index c.item-item.result c.items-test.true
-          c.item-item.is)
+          ∙ parts_step (λ (fs : List (ItemsTree → ItemsTree)).
+          followed (map program_item_view c.items.items.items) (resolve_items F c.items.scope c.items.labels.next (items_of fs)))
+          item_view xs c.items.item-index item c.items-test.true c.item-item.is
+          ∙ one.found left;
+      extended = extends_then _ _ _ c.items.invariant.extended one.extended;
+      counted = one.counted left
+          ∙ sym (parts_step (λ (fs : List (ItemsTree → ItemsTree)). c.items.labels.next + items_count (items_of fs))
+          item_view xs c.items.item-index item c.items-test.true c.item-item.is)
           ∙ c.items.invariant.counted;
-      reaches = reaches_step c.args.labels.now c.items.labels c.add_item.new.labels (items_of (map item_view xs)) (items_of (map item_view (drop c.items.item-index xs))) left
-          (item_view c.item-item.result) (parts_step items_of item_view xs c.items.item-index c.item-item.result c.items-test.true c.item-item.is)
-          c.items.invariant.reaches c.in_ok-add_item.ensures.follows;
+      reaches = reaches_step c.args.labels.now c.items.labels joined.labels (items_of (map item_view xs))
+          (items_of (map item_view (drop c.items.item-index xs))) left
+          (item_view item) (parts_step items_of item_view xs c.items.item-index item c.items-test.true c.item-item.is) c.items.invariant.reaches one.follows;
     }
 
-pub resolve_items-returns-in_err-add_item-clause-told : goal.resolve_items-returns-in_err-add_item-clause-told
-resolve_items-returns-in_err-add_item-clause-told t c =
+pub resolve_items-returns-in_err-add_declaration-in-Declaration-clause-told : goal.resolve_items-returns-in_err-add_declaration-in-Declaration-clause-told
+resolve_items-returns-in_err-add_declaration-in-Declaration-clause-told t c =
     let A = around_of c.args.around.now in
+    let xs = c.deref-item-items.result.now in
+    let item = c.item-item.result in
     exit_tells _ c.from_residual.result _ c.from_residual.ensures.1
-    (rest_tells (λ (fs : List (ItemsTree → ItemsTree)). items_faults A c.items.scope (items_of fs)) item_view c.deref-item-items.result.now c.items.item-index
-    c.item-item.result _ _ c.items-test.true c.item-item.is
-    (ap (items_faults A c.args.scope.now) (block_items c.args.block.now c.deref-item-items.result.now c.deref-item-items.ensures.value) ∙ c.items.invariant.clean)
-    (λ (rest : List (ItemsTree → ItemsTree)). c.in_err-add_item.ensures.told (items_of rest)))
+    (rest_tells (λ (fs : List (ItemsTree → ItemsTree)). items_faults A c.items.scope (items_of fs)) item_view xs c.items.item-index
+    item _ _ c.items-test.true c.item-item.is
+    (ap (items_faults A c.args.scope.now) (block_items c.args.block.now xs c.deref-item-items.ensures.value) ∙ c.items.invariant.clean)
+    (λ (rest : List (ItemsTree → ItemsTree)).
+    declaration_told A c.items.scope item c.in-Declaration.declaration _ c.in-Declaration.is
+    c.in_err-add_declaration-in-Declaration.ensures.told (items_of rest)))
+
+pub resolve_items-returns-in_err-stmt-in-Statement-clause-told : goal.resolve_items-returns-in_err-stmt-in-Statement-clause-told
+resolve_items-returns-in_err-stmt-in-Statement-clause-told t c =
+    let A = around_of c.args.around.now in
+    let xs = c.deref-item-items.result.now in
+    let item = c.item-item.result in
+    exit_tells _ c.from_residual-in_err-stmt-in-Statement.result _ c.from_residual-in_err-stmt-in-Statement.ensures.1
+    (rest_tells (λ (fs : List (ItemsTree → ItemsTree)). items_faults A c.items.scope (items_of fs)) item_view xs c.items.item-index
+    item _ _ c.items-test.true c.item-item.is
+    (ap (items_faults A c.args.scope.now) (block_items c.args.block.now xs c.deref-item-items.ensures.value) ∙ c.items.invariant.clean)
+    (λ (rest : List (ItemsTree → ItemsTree)).
+    statement_told A c.items.scope item c.in-Statement.stmt _ c.in-Statement.is c.in_err-stmt-in-Statement.ensures.told (items_of rest)))
 
 pub resolve_items-returns-clause-told : goal.resolve_items-returns-clause-told
 resolve_items-returns-clause-told t c =
@@ -120,18 +147,9 @@ resolve_items-returns-clause-fills t c =
     (at_drop_all (λ (ys : List BlockItem). items_of (map item_view ys)) xs c.items.item-index c.items-test.false)
     (block_items c.args.block.now xs c.deref-item-items.ensures.value) c.items.invariant.reaches
 
-pub add_item-returns-in_ok-add_declaration-in-Declaration-clause-follows : goal.add_item-returns-in_ok-add_declaration-in-Declaration-clause-follows
-add_item-returns-in_ok-add_declaration-in-Declaration-clause-follows t c =
-    declaration_follows c.args.labels.now c.add_declaration.new.labels c.args.item.now c.in-Declaration.declaration c.in-Declaration.is
-    c.in_ok-add_declaration-in-Declaration.ensures.labelled
-
-pub add_item-returns-in_ok-push-in-Statement-clause-follows : goal.add_item-returns-in_ok-push-in-Statement-clause-follows
-add_item-returns-in_ok-push-in-Statement-clause-follows t c =
-    statement_follows c.args.labels.now c.resolve_stmt.new.labels c.args.item.now c.in-Statement.stmt c.in-Statement.is c.in_ok-stmt-in-Statement.ensures.adds
-
 pub resolve_stmt-resolve_simple-requires : goal.resolve_stmt-resolve_simple-requires
 resolve_stmt-resolve_simple-requires t c = record {
-  simple = rest_is_simple c.args.stmt.now c.in_default.not-Block c.in_default.not-If c.in_default.not-IfElse c.in_default.not-While c.in_default.not-For;
+  simple = rest_is_simple c.args.stmt.now c.in_default.not-Block c.in_default.not-If c.in_default.not-IfElse c.in_default.not-While c.in_default.not-For c.in_default.not-Switch;
 }
 
 pub resolve_stmt-returns-in-Block : goal.resolve_stmt-returns-in-Block
@@ -156,6 +174,10 @@ pub resolve_stmt-returns-in-For : goal.resolve_stmt-returns-in-For
 resolve_stmt-returns-in-For t c =
     rw (for_is c.args.stmt.now c.in-For.place c.in-For.init c.in-For.test c.in-For.step c.in-For.body c.deref-in-For.result.now c.in-For.is c.deref-in-For.ensures)
     c.resolve_loop-in-For.ensures
+
+pub resolve_stmt-returns-in-Switch : goal.resolve_stmt-returns-in-Switch
+resolve_stmt-returns-in-Switch t c =
+    rw (switch_is c.args.stmt.now c.in-Switch.place c.in-Switch.value c.in-Switch.cases c.in-Switch.is) c.resolve_switch.ensures
 
 pub resolve_stmt-returns-in_default : goal.resolve_stmt-returns-in_default
 resolve_stmt-returns-in_default t c = c.resolve_simple.ensures
@@ -293,35 +315,89 @@ resolve_block-returns t c =
           c.live_count-live.ensures c.keep_oldest.ensures.live c.keep_oldest.ensures.labels;
     }
 
-pub add_item-returns-in_err-add_declaration-in-Declaration-clause-told : goal.add_item-returns-in_err-add_declaration-in-Declaration-clause-told
-add_item-returns-in_err-add_declaration-in-Declaration-clause-told t c =
+pub resolve_switch-cases-init : goal.resolve_switch-cases-init
+resolve_switch-cases-init t c =
+    let all = cases_of (map case_view c.deref-item-items.result.now) in
+    selects_none (around_of c.in_a_switch-inside.result) c.args.scope.now c.resolve_switch_head.new.labels all
+    c.new-list.result c.new-list.ensures.unseen c.new-list.ensures.items
+
+pub resolve_switch-cases-preserved : goal.resolve_switch-cases-preserved
+resolve_switch-cases-preserved t c =
+    let xs = c.deref-item-items.result.now in
+    let all = cases_of (map case_view xs) in
+    let left = cases_of (map case_view (drop c.cases.item-index xs)) in
+    let rest = cases_of (map case_view (drop (c.cases.item-index + 1) xs)) in
+    let A = around_of c.in_a_switch-inside.result in
+    let is = parts_step cases_of case_view xs c.cases.item-index c.item-item.result c.cases-test.true c.item-item.is in
+    let start = c.resolve_switch_head.new.labels in
+    elim c.match-item.branch [
+      | resolve_switch-in-Label+in_ok-add_label-in-Label w ↦ rw (w.list-is, w.scope-is, w.labels-is)
+          (selects_label A c.args.scope.now start all left rest c.cases.list c.cases.scope c.cases.labels c.item-item.result is
+          c.cases.invariant w.in-Label.label w.in-Label.is w.add_label.new.self
+          w.in_ok-add_label-in-Label.ensures.told w.in_ok-add_label-in-Label.ensures.seen w.in_ok-add_label-in-Label.ensures.items)
+      | resolve_switch-in-Stated+in_ok-stmt-in-Stated+in_ok-add_statement-in-Stated w ↦ rw (w.list-is, w.scope-is, w.labels-is)
+          (selects_stated A c.args.scope.now start all left rest c.cases.list c.cases.scope c.cases.labels c.item-item.result is
+          c.cases.invariant w.in-Stated.stmt w.in-Stated.is w.add_statement.new.self w.resolve_stmt.new.scope
+          w.resolve_stmt.new.labels w.in_ok-stmt-in-Stated.stmt w.in_ok-stmt-in-Stated.ensures.told w.in_ok-stmt-in-Stated.ensures.found
+          w.in_ok-stmt-in-Stated.ensures.kept w.in_ok-stmt-in-Stated.ensures.counted w.in_ok-stmt-in-Stated.ensures.adds
+          w.in_ok-add_statement-in-Stated.ensures.seen w.in_ok-add_statement-in-Stated.ensures.items)
+    ]
+
+pub resolve_switch-returns-in_err-head : goal.resolve_switch-returns-in_err-head
+resolve_switch-returns-in_err-head t c =
     let A = around_of c.args.around.now in
-    let item = c.args.item.now in
-    exit_tells_all (λ (rest : ItemsTree). items_faults A c.args.scope.now (item_view item rest)) c.from_residual.result _ c.from_residual.ensures.1
-    (declaration_told A c.args.scope.now item c.in-Declaration.declaration _ c.in-Declaration.is c.in_err-add_declaration-in-Declaration.ensures.told)
+    let value = expr_view c.args.value.now in
+    refused c.from_residual.result _ c.from_residual.ensures.1
+    (exit_tells _ c.from_residual.result _ c.from_residual.ensures.1
+    (value_told A c.args.scope.now c.args.labels.now c.args.place value (cases_view c.args.cases.now) _ c.in_err-head.ensures.told))
 
-pub add_item-returns-in_err-stmt-in-Statement-clause-told : goal.add_item-returns-in_err-stmt-in-Statement-clause-told
-add_item-returns-in_err-stmt-in-Statement-clause-told t c =
-    let A = around_of c.args.around.now in
-    let item = c.args.item.now in
-    exit_tells_all (λ (rest : ItemsTree). items_faults A c.args.scope.now (item_view item rest)) c.from_residual-in_err-stmt-in-Statement.result _
-    c.from_residual-in_err-stmt-in-Statement.ensures.1 (statement_told A c.args.scope.now item c.in-Statement.stmt _ c.in-Statement.is c.in_err-stmt-in-Statement.ensures.told)
+pub resolve_switch-returns-in_err-add_label-in-Label : goal.resolve_switch-returns-in_err-add_label-in-Label
+resolve_switch-returns-in_err-add_label-in-Label t c =
+    let xs = c.deref-item-items.result.now in
+    let all = cases_of (map case_view xs) in
+    let left = cases_of (map case_view (drop c.cases.item-index xs)) in
+    let rest = cases_of (map case_view (drop (c.cases.item-index + 1) xs)) in
+    let A = around_of c.in_a_switch-inside.result in
+    let is = parts_step cases_of case_view xs c.cases.item-index c.item-item.result c.cases-test.true c.item-item.is in
+    let value = expr_view c.args.value.now in
+    refused c.from_residual-in_err-add_label-in-Label.result _ c.from_residual-in_err-add_label-in-Label.ensures.1
+    (exit_tells _ c.from_residual-in_err-add_label-in-Label.result _ c.from_residual-in_err-add_label-in-Label.ensures.1
+    (switch_told (around_of c.args.around.now) c.args.scope.now c.args.labels.now c.args.place value
+    (cases_view c.args.cases.now) A all _ c.in_a_switch-inside.ensures
+    (all_cases c.args.cases.now xs c.deref-item-items.ensures.value) c.in_ok-head.ensures.told
+    (label_told A c.args.scope.now c.resolve_switch_head.new.labels all left rest c.cases.list c.cases.scope c.cases.labels
+    c.item-item.result is c.cases.invariant c.in-Label.label c.in-Label.is _ c.in_err-add_label-in-Label.ensures.told)))
 
-pub add_item-returns-in_ok-add_declaration-in-Declaration-clause-clean : goal.add_item-returns-in_ok-add_declaration-in-Declaration-clause-clean
-add_item-returns-in_ok-add_declaration-in-Declaration-clause-clean t c =
-    let more = c.in_ok-add_declaration-in-Declaration.ensures in
-    declaration_clean (around_of c.args.around.now) c.args.scope.now c.args.item.now c.in-Declaration.declaration c.add_declaration.new.scope c.in-Declaration.is more.told more.declared
+pub resolve_switch-returns-in_err-stmt-in-Stated : goal.resolve_switch-returns-in_err-stmt-in-Stated
+resolve_switch-returns-in_err-stmt-in-Stated t c =
+    let xs = c.deref-item-items.result.now in
+    let all = cases_of (map case_view xs) in
+    let left = cases_of (map case_view (drop c.cases.item-index xs)) in
+    let rest = cases_of (map case_view (drop (c.cases.item-index + 1) xs)) in
+    let A = around_of c.in_a_switch-inside.result in
+    let is = parts_step cases_of case_view xs c.cases.item-index c.item-item.result c.cases-test.true c.item-item.is in
+    let value = expr_view c.args.value.now in
+    refused c.from_residual-in_err-stmt-in-Stated.result _ c.from_residual-in_err-stmt-in-Stated.ensures.1
+    (exit_tells _ c.from_residual-in_err-stmt-in-Stated.result _ c.from_residual-in_err-stmt-in-Stated.ensures.1
+    (switch_told (around_of c.args.around.now) c.args.scope.now c.args.labels.now c.args.place value
+    (cases_view c.args.cases.now) A all _ c.in_a_switch-inside.ensures
+    (all_cases c.args.cases.now xs c.deref-item-items.ensures.value) c.in_ok-head.ensures.told
+    (stated_told A c.args.scope.now c.resolve_switch_head.new.labels all left rest c.cases.list c.cases.scope c.cases.labels
+    c.item-item.result is c.cases.invariant c.in-Stated.stmt c.in-Stated.is _ c.in_err-stmt-in-Stated.ensures.told)))
 
-pub add_item-returns-in_ok-add_declaration-in-Declaration-clause-found : goal.add_item-returns-in_ok-add_declaration-in-Declaration-clause-found
-add_item-returns-in_ok-add_declaration-in-Declaration-clause-found t c =
-    let more = c.in_ok-add_declaration-in-Declaration.ensures in
-    declaration_found (functions_at c.args.around.now.functions.now) c.args.scope.now c.add_declaration.new.scope c.args.labels.now.next c.add_declaration.new.labels.next c.args.item.now
-    c.in-Declaration.declaration (map program_item_view c.args.items.now.items) (map program_item_view c.add_declaration.new.items.items) c.in-Declaration.is more.found more.declared more.counted
-
-pub add_item-returns-in_ok-push-in-Statement-clause-clean : goal.add_item-returns-in_ok-push-in-Statement-clause-clean
-add_item-returns-in_ok-push-in-Statement-clause-clean t c =
-    statement_clean (around_of c.args.around.now) c.args.scope.now c.args.item.now c.in-Statement.stmt c.resolve_stmt.new.scope c.in-Statement.is c.in_ok-stmt-in-Statement.ensures.told
-    c.in_ok-stmt-in-Statement.ensures.kept
-
-pub add_item-returns-in_ok-push-in-Statement-clause-extended : goal.add_item-returns-in_ok-push-in-Statement-clause-extended
-add_item-returns-in_ok-push-in-Statement-clause-extended t c = kept_extends c.args.scope.now c.resolve_stmt.new.scope c.in_ok-stmt-in-Statement.ensures.kept
+pub resolve_switch-returns : goal.resolve_switch-returns
+resolve_switch-returns t c =
+    let xs = c.deref-item-items.result.now in
+    let all = cases_of (map case_view xs) in
+    let left = cases_of (map case_view (drop c.cases.item-index xs)) in
+    let A = around_of c.in_a_switch-inside.result in
+    let head = c.in_ok-head.head in
+    let told = c.in_ok-head.ensures in
+    let made = λ (v : Vec ProgramCase Global). switch_of head.label (program_expr_view head.value) (program_cases_of (map program_case_view v.items)) in
+    switch_found (around_of c.args.around.now) c.args.scope.now c.args.labels.now c.args.place
+    (expr_view c.args.value.now) (cases_view c.args.cases.now) A c.resolve_switch_head.new.labels c.cases.labels all left
+    c.cases.list c.cases.scope c.into_switch.result head.label (program_expr_view head.value)
+    c.in_a_switch-inside.ensures (all_cases c.args.cases.now xs c.deref-item-items.ensures.value)
+    (at_drop_all (λ (ys : List CaseItem). cases_of (map case_view ys)) xs c.cases.item-index c.cases-test.false)
+    c.cases.invariant told.told told.label told.found told.counted told.adds
+    (c.into_switch.ensures ∙ ap made c.into_items.ensures)

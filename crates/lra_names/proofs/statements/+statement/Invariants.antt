@@ -4,8 +4,8 @@ use Rattle.std.proofs.Common.{◌≡◌, ℕ, ◌+◌, ◌*◌, max, map, drop, 
 use Rattle.lra_tree.specs.declared.trees.Stmt.{Stmt}
 use Rattle.lra_tree.proofs.trees.Stmt.TheLaws.{the_size}
 use Rattle.lra_tree.proofs.trees.Block.TheLaws.{the_size as block_size}
-use Rattle.lra_tree.proofs.trees.BlockItem.TheLaws.{the_size as item_size}
-use Rattle.lra_tree.specs.Views.{items_of, item_view}
+use Rattle.lra_tree.proofs.trees.Cases.TheLaws.{the_size as cases_size}
+use Rattle.lra_tree.specs.Views.{items_of, item_view, cases_of, case_view}
 use Rattle.lra_program.specs.ProgramViews.{item_view as program_item_view}
 use Rattle.lra_meaning.specs.NameFaults.{items_faults}
 use Rattle.lra_meaning.specs.Resolve.{resolve_items, items_count}
@@ -13,6 +13,7 @@ use Rattle.lra_scopes.specs.Calls.{functions_at}
 use Rattle.lra_scopes.specs.Scopes.{Extends}
 use Rattle.lra_simple.specs.Statements.{around_of, followed}
 use Rattle.lra_simple.proofs.LabellingLaws.{LeadsOn}
+use Rattle.lra_names.proofs.CaseLaws.{Selects}
 use Rattle.lra_names.proofs.statements.+statement.Given as goal
 
 abbrev pub invariant-resolve_items-items : goal.invariant-resolve_items-items
@@ -25,9 +26,6 @@ invariant-resolve_items-items l = record {
   counted : l.labels.next + items_count (items_of (map item_view (drop l.item-index l.item-items))) ≡ l.fn.labels.next + items_count (items_of (map item_view l.item-items));
   reaches : LeadsOn l.fn.labels l.labels (items_of (map item_view l.item-items)) (items_of (map item_view (drop l.item-index l.item-items)));
 }
-
-abbrev pub decreases-add_item : goal.decreases-add_item
-decreases-add_item l = 2 * item_size l.item.now
 
 abbrev pub decreases-resolve_stmt : goal.decreases-resolve_stmt
 decreases-resolve_stmt l = 2 * the_size l.stmt.now
@@ -48,3 +46,11 @@ decreases-resolve_block l = 2 * block_size l.block.now + 1
 
 abbrev pub decreases-resolve_items : goal.decreases-resolve_items
 decreases-resolve_items l = 2 * block_size l.block.now
+
+abbrev pub decreases-resolve_switch : goal.decreases-resolve_switch
+decreases-resolve_switch l = 2 * cases_size l.cases.now + 1
+
+abbrev pub invariant-resolve_switch-cases : goal.invariant-resolve_switch-cases
+invariant-resolve_switch-cases l =
+    let left = cases_of (map case_view (drop l.item-index l.item-items)) in
+    Selects (around_of l.inside) l.fn.scope l.initial.labels (cases_of (map case_view l.item-items)) left l.list l.scope l.labels
