@@ -1,5 +1,5 @@
 -- Readers of parts and files as the code takes them.
-use Rattle.std.proofs.Common.{◌≡◌, ℕ, ◌<◌, true, false, List, [], ◌∷◌, ◌++◌, length, Ok, Err, refl, sym, ap, subst, arith}
+use Rattle.std.proofs.Common.{◌≡◌, ℕ, true, false, List, Ok, Err, refl, sym, ap, subst}
 use Rattle.lra_base.specs.declared.refusals.Place.{Place}
 use Rattle.lra_tree.specs.declared.tokens.Mark.{Mark}
 use Rattle.lra_tree.specs.Trees.{PartTree}
@@ -7,47 +7,30 @@ use Rattle.lra_readers.specs.declared.reading.Fault.{Fault}
 use Rattle.lra_readers.specs.declared.reading.Stopped.{Stopped}
 use Rattle.lra_readers.specs.declared.reading.Stopped.TheVariants as stopped
 use Rattle.lra_readers.specs.Tests.{first}
-use Rattle.lra_readers.specs.Reading.{Text, Read, Parse, map_read, expect, take_by, list_step, GivesErr}
+use Rattle.lra_readers.specs.Reading.{Text, Read, Parse, map_read, expect, take_by, GivesErr}
 use Rattle.lra_readers.specs.Expressions.{ended}
 use Rattle.lra_readers.specs.Files.{part_at, begins_part, parts_at, next_end, file_of, file_at}
 use Rattle.lra_readers.proofs.Exact.{bind_ok, ok_is}
-use Rattle.lra_phrases.proofs.Turning.{Left, turn_on, turn_err, turn_off, expect_err}
+use Rattle.lra_phrases.proofs.Turning.{ListLeft, list_err, list_end, expect_err}
 
 -- the loop of a file -------------------------------------------------------------------------------------------------
 
 module _ (d : ℕ) where
-  abbrev part_step : List PartTree → Parse (List PartTree)
-  part_step = list_step (part_at d)
-
   -- the loop from here on gives the result
   abbrev pub PartsLeft : List PartTree → Text → Read (List PartTree) → Type 0
-  PartsLeft ps T result = Left begins_part part_step ps T result
+  PartsLeft ps T result = ListLeft begins_part refl (part_at d) ps T result
 
-  pub parts_start : (ps : List PartTree) (S : Text) → ps ≡ [] → PartsLeft ps S (parts_at d S)
-  parts_start ps S e = subst (λ (rs : List PartTree). PartsLeft rs S (parts_at d S)) (sym e) (length S, omega arith, refl)
-
-  pub part_turn : (ps qs : List PartTree) (p : PartTree) (T R : Text) (result : Read (List PartTree)) → qs ≡ ps ++ p ∷ [] → PartsLeft ps T result → true ≡ begins_part (first T)
-      → part_at d T ≡ Ok (p, R) → length R < length T → PartsLeft qs R result
-  part_turn ps qs p T R result e l on g less =
-      let s : part_step ps T ≡ Ok (ps ++ p ∷ [], R) = rw g refl in
-      subst (λ (rs : List PartTree). PartsLeft rs R result) (sym e) (turn_on begins_part part_step ps (ps ++ p ∷ []) T R result l (sym on) s less)
-
-  some_part : (T : Text) → true ≡ begins_part (first T) → 0 < length T
-  some_part [] e = absurd cc
-  some_part (t ∷ T) e = omega arith
-
-  part_err : (ps : List PartTree) (T : Text) (f : Fault) (result : Read (List PartTree)) → PartsLeft ps T result → true ≡ begins_part (first T) → part_at d T ≡ Err f → result ≡ Err f
-  part_err ps T f result l on g =
-      let s : part_step ps T ≡ Err f = rw g refl in
-      turn_err begins_part part_step ps T f result l (sym on) (some_part T on) s
+  parts_err : (ps : List PartTree) (S T : Text) (f : Fault) → PartsLeft ps T (parts_at d S) → true ≡ begins_part (first T) → part_at d T ≡ Err f
+      → parts_at d S ≡ Err f
+  parts_err ps S T f l on g = list_err begins_part refl (part_at d) ps T f (parts_at d S) l on g
 
   -- the exit by `?` in a turn
   pub file_exit : (ps : List PartTree) (S T : Text) (e : Stopped) → PartsLeft ps T (parts_at d S) → true ≡ begins_part (first T) → GivesErr e (part_at d T) → GivesErr e (file_at d S)
   file_exit ps S T stopped.Memory l on g = tt
-  file_exit ps S T (stopped.Fault f) l on g = rw (part_err ps T f (parts_at d S) l on g) refl
+  file_exit ps S T (stopped.Fault f) l on g = rw (parts_err ps S T f l on g) refl
 
   parts_end : (ps : List PartTree) (S T : Text) → PartsLeft ps T (parts_at d S) → false ≡ begins_part (first T) → parts_at d S ≡ Ok (ps, T)
-  parts_end ps S T l off = turn_off begins_part part_step ps T (parts_at d S) l (sym off)
+  parts_end ps S T l off = list_end begins_part refl (part_at d) ps T (parts_at d S) l off
 
   -- the exit at the end
   pub end_exit : (ps : List PartTree) (S T : Text) (e : Stopped) → PartsLeft ps T (parts_at d S) → false ≡ begins_part (first T) → GivesErr e (take_by next_end T) → GivesErr e (file_at d S)

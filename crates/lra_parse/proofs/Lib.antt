@@ -1,3 +1,4 @@
 pub mod Stated
+pub mod Braces
 pub mod Headed
 pub mod Goes

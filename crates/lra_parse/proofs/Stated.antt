@@ -1,5 +1,6 @@
 -- Readers of statements as the code takes them.
-use Rattle.std.proofs.Common.{◌≡◌, ℕ, zero, suc, ◌-◌, ◌<◌, Bool, true, false, cond, List, [], ◌∷◌, ◌++◌, length, map, Ok, Err, refl, sym, ap, ◌∙◌, arith, rules}
+use Rattle.std.proofs.Common.{◌≡◌, ℕ, zero, suc, ◌-◌, ◌<◌, Bool, true, false, cond, List, [], ◌∷◌, ◌++◌, length, map, Ok, Err, refl, sym, ap, subst, ◌∙◌}
+use Rattle.std.proofs.Common.{arith, rules}
 use Rattle.std.proofs.lemmas.List.{map_push}
 use Rattle.lra_base.specs.declared.refusals.Place.{Place}
 use Rattle.lra_base.specs.declared.refusals.Cause.TheVariants.{TooDeep}
@@ -8,19 +9,23 @@ use Rattle.lra_tree.specs.declared.trees.Declaration.{Declaration}
 use Rattle.lra_tree.specs.declared.trees.BlockItem.{BlockItem, the_lemmas, Declaration as DeclarationItem, Statement as StatementItem}
 use Rattle.lra_tree.specs.declared.trees.Stmt.{Stmt, Block as BlockStmt}
 use Rattle.lra_tree.specs.declared.trees.Block.{Block}
-use Rattle.lra_tree.specs.declared.trees.BlockItem.TheOpen.{Block-F}
-use Rattle.lra_tree.specs.declared.trees.BlockItem.TheViews.{roll-Block}
-use Rattle.lra_tree.specs.declared.trees.BlockItem.TheFolds.{fold-roll-Block}
-use Rattle.lra_tree.specs.Trees.{DeclarationTree, StmtTree, ItemsTree, no_items, declaration, statement}
+use Rattle.lra_tree.specs.declared.trees.CaseItem.{CaseItem, Label as LabelItem, Stated as StatedItem}
+use Rattle.lra_tree.specs.declared.trees.Cases.{Cases}
+use Rattle.lra_tree.specs.declared.trees.PlacedLabel.{PlacedLabel}
+use Rattle.lra_tree.specs.declared.trees.BlockItem.TheOpen.{Block-F, Cases-F}
+use Rattle.lra_tree.specs.declared.trees.BlockItem.TheViews.{roll-Block, roll-Cases}
+use Rattle.lra_tree.specs.declared.trees.BlockItem.TheFolds.{fold-roll-Block, fold-roll-Cases}
+use Rattle.lra_tree.specs.Trees.{DeclarationTree, StmtTree, CasesTree, labelled, stated as stated_case, ItemsTree, no_items, declaration, statement}
 use Rattle.lra_tree.specs.Views as views
-use Rattle.lra_tree.specs.Views.{declaration_view, stmt_view, item_view, block_view, item_step, stmt_step, block_step}
+use Rattle.lra_tree.specs.Views.{ItemPart, CasePart, declaration_view, stmt_view, item_view, case_view, block_view, cases_view, item_step, case_step}
+use Rattle.lra_tree.specs.Views.{stmt_step, block_step, cases_step}
 use Rattle.lra_readers.specs.declared.reading.Fault.{Fault}
 use Rattle.lra_readers.specs.declared.reading.Stopped.{Stopped}
 use Rattle.lra_readers.specs.declared.reading.Stopped.TheVariants as stopped
 use Rattle.lra_readers.specs.Tests.{first, is_mark}
 use Rattle.lra_readers.specs.Reading.{Text, Read, Parse, stop, ◌>>=◌, map_read, expect, expect_at, list_step, GivesErr}
 use Rattle.lra_readers.specs.Statements.{declaration_at, ItemTree, declared, stated, put, items_from, begins_type, begins_item, stated_of, body_of, block_from, too_deep, levels, branch_at, block_at, simple_at}
-use Rattle.lra_readers.specs.Statements.{item_at, items_at}
+use Rattle.lra_readers.specs.Statements.{stated_at, item_at, items_at}
 use Rattle.lra_phrases.proofs.Turning.{Left, turn_on, turn_err, turn_off}
 
 pub branch_zero : (d : ℕ) (T : Text) → d ≡ 0 → branch_at d T ≡ too_deep T
@@ -36,6 +41,9 @@ branch_some (suc d) T h = let e : d ≡ suc d - 1 = omega arith in ap (λ (k : �
 pub branch_block : (d : ℕ) (T R : Text) (b : ItemsTree × Place) → (d ≡ 0 → ⊥) → true ≡ is_mark mark.OpenBrace (first T) → block_at d T ≡ Ok (b, R) → branch_at d T ≡ Ok (block_from b, R)
 branch_block d T R b h on g = branch_some d T h ∙ rw (sym on) (rw g refl)
 
+pub branch_simple : (d : ℕ) (T : Text) → (d ≡ 0 → ⊥) → false ≡ is_mark mark.OpenBrace (first T) → branch_at d T ≡ simple_at (d - 1) T
+branch_simple d T h off = branch_some d T h ∙ rw (sym off) refl
+
 pub block_zero : (d : ℕ) (T : Text) → d ≡ 0 → block_at d T ≡ stop TooDeep T
 unfolding levels
 block_zero zero T h = refl
@@ -45,6 +53,13 @@ pub block_some : (d : ℕ) (T : Text) → (d ≡ 0 → ⊥) → block_at d T ≡
 unfolding levels
 block_some zero T h = absurd (h refl)
 block_some (suc d) T h = let e : d ≡ suc d - 1 = omega arith in ap (λ (k : ℕ). body_of (items_at k) T) e
+
+some_levels : ◌≡◌ {A = ℕ} 64 0 → ⊥
+some_levels h = absurd (omega (arith, h))
+
+-- a function's body opens the first level
+pub body_is : (T : Text) → body_of (items_at 63) T ≡ block_at 64 T
+body_is T = sym (block_some 64 T some_levels)
 
 pub ruleset branch_rules = (branch_zero, branch_some)
 
@@ -71,19 +86,22 @@ item_declared d T e =
     on_side (begins_type (first T)) (map_read declared (declaration_at d) T) (map_read stated (stated_of (simple_at d) (map_read block_from (block_at d))) T) e in
     ap (λ (r : Read ItemTree). r >>= (λ x. Ok (put x.0, x.1))) side ∙ twice (declaration_at d T) declared put
 
-pub item_block : (d : ℕ) (T : Text) → false ≡ begins_type (first T) → true ≡ is_mark mark.OpenBrace (first T) →
-    map_read put (item_at d) T ≡ map_read (λ (b : ItemsTree × Place) (t : ItemsTree). statement (block_from b) t) (block_at d) T
-item_block d T e f = rw (sym e, sym f) (thrice (block_at d T) block_from stated put)
+pub item_stated : (d : ℕ) (T : Text)
+    → false ≡ begins_type (first T) → map_read put (item_at d) T ≡ map_read (λ (x : StmtTree) (t : ItemsTree). statement x t) (stated_at d) T
+item_stated d T e = rw (sym e) (twice (stated_at d T) stated put)
 
-pub item_simple : (d : ℕ) (T : Text) → false ≡ begins_type (first T) → false ≡ is_mark mark.OpenBrace (first T) →
-    map_read put (item_at d) T ≡ map_read (λ (x : StmtTree) (t : ItemsTree). statement x t) (simple_at d) T
-item_simple d T e f = rw (sym e, sym f) (twice (simple_at d T) stated put)
+pub ruleset item_rules = (item_declared, item_stated)
 
-pub ruleset item_rules = (item_declared, item_block, item_simple)
-
-pub item_other : (d : ℕ) (T R : Text) (t : StmtTree) → false ≡ begins_type (first T) → false ≡ is_mark mark.OpenBrace (first T) → simple_at d T ≡ Ok (t, R)
+pub item_other : (d : ℕ) (T R : Text) (t : StmtTree) → false ≡ begins_type (first T) → stated_at d T ≡ Ok (t, R)
     → map_read put (item_at d) T ≡ Ok ((λ (items : ItemsTree). statement t items), R)
-item_other d T R t e f g = item_simple d T e f ∙ rw g refl
+item_other d T R t e g = item_stated d T e ∙ rw g refl
+
+pub stated_block : (d : ℕ) (T R : Text) (b : ItemsTree × Place) → true ≡ is_mark mark.OpenBrace (first T) → block_at d T ≡ Ok (b, R)
+    → stated_at d T ≡ Ok (block_from b, R)
+stated_block d T R b on g = rw (sym on) (rw g refl)
+
+pub stated_simple : (d : ℕ) (T : Text) → false ≡ is_mark mark.OpenBrace (first T) → stated_at d T ≡ simple_at d T
+stated_simple d T off = rw (sym off) refl
 
 pub declaration_item : (x : Declaration) → item_view (DeclarationItem x) ≡ (λ (t : ItemsTree). declaration (declaration_view x) t)
 declaration_item x = search (rules, the_lemmas)
@@ -94,8 +112,17 @@ statement_item x = search (rules, the_lemmas)
 pub block_stmt : (b : Block) → stmt_view (BlockStmt b) ≡ block_from (block_view b)
 block_stmt b = search (rules, the_lemmas)
 
-pub body_view : (x : Block-F BlockItem Stmt Block) → block_view (roll-Block x) ≡ (views.items_of (map item_view x.items.items), x.end)
-body_view = fold-roll-Block (ItemsTree → ItemsTree) StmtTree (ItemsTree × Place) item_step stmt_step block_step
+pub body_view : (x : Block-F BlockItem CaseItem Stmt Block Cases) → block_view (roll-Block x) ≡ (views.items_of (map item_view x.items.items), x.end)
+body_view = fold-roll-Block ItemPart CasePart StmtTree (ItemsTree × Place) CasesTree item_step case_step stmt_step block_step cases_step
+
+pub braces_view : (x : Cases-F BlockItem CaseItem Stmt Block Cases) → cases_view (roll-Cases x) ≡ views.cases_of (map case_view x.items.items)
+braces_view = fold-roll-Cases ItemPart CasePart StmtTree (ItemsTree × Place) CasesTree item_step case_step stmt_step block_step cases_step
+
+pub label_part : (b : PlacedLabel) → case_view (LabelItem b) ≡ labelled b
+label_part b = search (rules, the_lemmas)
+
+pub stated_part : (x : Stmt) → case_view (StatedItem x) ≡ stated_case (stmt_view x)
+stated_part x = search (rules, the_lemmas)
 
 -- branches ---------------------------------------------------------------------------------------------------------
 
@@ -187,14 +214,28 @@ module _ (d : ℕ) where
   nonempty (t ∷ T) e = omega arith
 
   -- the exit by `?` in a turn
-  pub body_exit : (items : List BlockItem) (S M T : Text) (e : Stopped) → expect mark.OpenBrace (tt {0}) S ≡ Ok (tt {0}, M) → State items T (items_at d M) → true ≡ begins_item (first T)
+  body_exit : (items : List BlockItem) (S M T : Text) (e : Stopped) → expect mark.OpenBrace (tt {0}) S ≡ Ok (tt {0}, M) → State items T (items_at d M)
+      → true ≡ begins_item (first T)
       → GivesErr e (map_read put (item_at d) T) → GivesErr e (body_of (items_at d) S)
   body_exit items S M T stopped.Memory o l on g = tt
   body_exit items S M T (stopped.Fault f) o l on g = rw (o, state_err items T f (items_at d M) l on (nonempty T on) g) refl
 
   -- the end
-  pub body_closes : (items : List BlockItem) (S M T : Text) → expect mark.OpenBrace (tt {0}) S ≡ Ok (tt {0}, M) → State items T (items_at d M) → false ≡ begins_item (first T)
+  body_closes : (items : List BlockItem) (S M T : Text) → expect mark.OpenBrace (tt {0}) S ≡ Ok (tt {0}, M) → State items T (items_at d M)
+      → false ≡ begins_item (first T)
       → body_of (items_at d) S ≡ map_read (λ (end : Place). (views.items_of (map item_view items), end)) (expect_at mark.CloseBrace) T
   body_closes items S M T o l off =
       let s = state_end items T (items_at d M) l off in
       rw (o, s.2) (ap (λ (i : ItemsTree). map_read (λ (end : Place). (i, end)) (expect_at mark.CloseBrace) T) (sym (same_items (map item_view items) s.0 s.1)))
+
+  -- and of a block that has one level more
+  pub block_exit : (e : ℕ) (items : List BlockItem) (S M T : Text) (stopped : Stopped) → (e ≡ 0 → ⊥) → d ≡ e - 1
+      → expect mark.OpenBrace (tt {0}) S ≡ Ok (tt {0}, M) → State items T (items_at d M)
+      → true ≡ begins_item (first T) → GivesErr stopped (map_read put (item_at d) T) → GivesErr stopped (block_at e S)
+  block_exit e items S M T stopped some is o l on g = subst (GivesErr stopped) (ap (λ (k : ℕ). body_of (items_at k) S) is
+      ∙ sym (block_some e S some)) (body_exit items S M T stopped o l on g)
+
+  pub block_closes : (e : ℕ) (items : List BlockItem) (S M T : Text) → (e ≡ 0 → ⊥) → d ≡ e - 1 → expect mark.OpenBrace (tt {0}) S ≡ Ok (tt {0}, M)
+      → State items T (items_at d M) → false ≡ begins_item (first T)
+      → block_at e S ≡ map_read (λ (end : Place). (views.items_of (map item_view items), end)) (expect_at mark.CloseBrace) T
+  block_closes e items S M T some is o l off = block_some e S some ∙ ap (λ (k : ℕ). body_of (items_at k) S) (sym is) ∙ body_closes items S M T o l off

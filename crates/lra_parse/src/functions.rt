@@ -6,7 +6,7 @@ ghost use Rattle.lra_readers.specs.declared.lead.Lead.TheVariants as lead;
 ghost use Rattle.lra_readers.specs.Tests.{first};
 ghost use Rattle.lra_readers.specs.Reading.{Gives, map_read, take_by, has};
 ghost use Rattle.lra_readers.specs.Statements.{commas, listed};
-ghost use Rattle.lra_readers.specs.Files.{AreSmall, next_end, next_built_in, named, lead_behind, at_type};
+ghost use Rattle.lra_readers.specs.Files.{next_end, next_built_in, named, lead_behind, at_type};
 ghost use Rattle.lra_readers.specs.Files.{at_void};
 ghost use Rattle.lra_readers.specs.Files.{lead_form, plain_lead, read_lead, ends_parameter, name_or_none, parameter_at};
 ghost use Rattle.lra_readers.specs.Files.{parameters_at, all_named, signature_of, function_of, ending, signature_at};
@@ -23,7 +23,6 @@ use std::alloc::{AllocError, Global};
 
 /// The part, behind what it begins with.
 fn read_rest(alloc: Global, lead: Lead, rest: &[Token]) -> Result<(Item, &[Token]), Stopped>
-    requires { AreSmall rest.now }
     ensures shorter { IfOk result (λ r. length r.1.now < length rest.now) }
     ensures gives { Gives (λ r. (part_view r.0, r.1.now)) result (rest_at 63 lead rest.now) }
 {
@@ -299,7 +298,7 @@ fn read_ending(
     match signature {
         Some(signature) => {
             if next_is(rest, Mark::OpenBrace) {
-                let (body, after) = read_body(alloc, rest, 63)?;
+                let (body, after) = read_body(alloc, rest)?;
                 return Ok((Item::Function(signature.into_function(body)), after));
             }
             let after = expect(rest, Mark::Semicolon)?;
@@ -335,7 +334,6 @@ fn read_typed(
     name: Identifier,
     rest: &[Token],
 ) -> Result<(Item, &[Token]), Stopped>
-    requires { AreSmall rest.now }
     ensures shorter { IfOk result (λ r. length r.1.now < length rest.now) }
     ensures gives { Gives (λ r. (part_view r.0, r.1.now)) result
         (rest_at 63 (lead.Typed number_type name) rest.now) }
@@ -350,7 +348,6 @@ fn read_typed(
 
 /// A function, a prototype or globals.
 fn read_part(alloc: Global, rest: &[Token]) -> Result<(Item, &[Token]), Stopped>
-    requires { AreSmall rest.now }
     ensures shorter { IfOk result (λ r. length r.1.now < length rest.now) }
     ensures gives { Gives (λ r. (part_view r.0, r.1.now)) result (part_at 63 rest.now) }
 {
@@ -390,7 +387,6 @@ fn read_end(rest: &[Token]) -> Result<(Place, &[Token]), Stopped>
 
 /// Parts, and the end.
 pub fn read_file(alloc: Global, rest: &[Token]) -> Result<(Tree, &[Token]), Stopped>
-    requires { AreSmall rest.now }
     ensures { Gives (λ r. (tree_view r.0, r.1.now)) result (file_at 63 rest.now) }
 {
     let mut left = rest;

@@ -1,62 +1,20 @@
 //! Globals.
 
-ghost use Rattle.std.specs.Prelude.{◌≡◌, ◌<◌, ◌≤◌, length, IfOk};
+ghost use Rattle.std.specs.Prelude.{◌<◌, ◌≤◌, length, IfOk};
 ghost use Rattle.lra_tree.specs.Views.{global_view, globals_view, part_view};
 ghost use Rattle.lra_tree.specs.Trees.{globals};
 ghost use Rattle.lra_readers.specs.Reading.{Gives, map_read};
 ghost use Rattle.lra_readers.specs.Statements.{commas_from};
-ghost use Rattle.lra_readers.specs.Files.{AreSmall, negative, positive, signed_at, value_at, global_at, globals_of, globals_at};
+ghost use Rattle.lra_readers.specs.Files.{value_at, global_at, globals_of, globals_at};
 
-use lra_base::{Cause, NumberType};
-use lra_readers::{Literal, Stopped, expect, next_is, next_literal, read_name, stop, tail};
-use lra_tree::{Global as Variable, Globals, Identifier, Item, Mark, SignedLiteral, Token};
+use crate::labels::read_signed;
+use lra_base::NumberType;
+use lra_readers::{Stopped, expect, next_is, read_name, tail};
+use lra_tree::{Global as Variable, Globals, Identifier, Item, Mark, Token};
 use std::alloc::Global;
-
-/// A literal of 63 bits without a sign.
-fn positive(literal: Literal) -> SignedLiteral
-    requires { literal.value < 9223372036854775808 }
-    ensures { result ≡ positive literal }
-{
-    SignedLiteral {
-        value: literal.value as i64,
-        place: literal.place,
-    }
-}
-
-/// A literal of 63 bits behind a sign.
-fn negative(literal: Literal) -> SignedLiteral
-    requires { literal.value < 9223372036854775808 }
-    ensures { result ≡ negative literal }
-{
-    SignedLiteral {
-        value: -(literal.value as i64),
-        place: literal.place,
-    }
-}
-
-/// A literal, with or without a sign.
-#[tactic(auto, using(lra_readers::proofs::Small::small_limit))]
-fn read_signed(rest: &[Token]) -> Result<(SignedLiteral, &[Token]), Stopped>
-    requires { AreSmall rest.now }
-    ensures shorter { IfOk result (λ r. length r.1.now ≤ length rest.now) }
-    ensures gives { Gives (λ r. (r.0, r.1.now)) result (signed_at rest.now) }
-{
-    if next_is(rest, Mark::Minus) {
-        let behind = expect(rest, Mark::Minus)?;
-        return match next_literal(behind) {
-            Some(literal) => Ok((negative(literal), tail(behind))),
-            None => stop(Cause::Syntax, behind),
-        };
-    }
-    match next_literal(rest) {
-        Some(literal) => Ok((positive(literal), tail(rest))),
-        None => stop(Cause::Syntax, rest),
-    }
-}
 
 /// What a global gets, behind its name.
 fn read_value(name: Identifier, rest: &[Token]) -> Result<(Variable, &[Token]), Stopped>
-    requires { AreSmall rest.now }
     ensures shorter { IfOk result (λ r. length r.1.now ≤ length rest.now) }
     ensures gives { Gives (λ r. (global_view r.0, r.1.now)) result (value_at name rest.now) }
 {
@@ -71,7 +29,6 @@ fn read_value(name: Identifier, rest: &[Token]) -> Result<(Variable, &[Token]), 
 
 /// A global: its name, and what it gets.
 fn read_global(alloc: Global, rest: &[Token]) -> Result<(Variable, &[Token]), Stopped>
-    requires { AreSmall rest.now }
     ensures shorter { IfOk result (λ r. length r.1.now ≤ length rest.now) }
     ensures gives { Gives (λ r. (global_view r.0, r.1.now)) result (global_at rest.now) }
 {
@@ -87,7 +44,6 @@ fn read_many(
     name: Identifier,
     rest: &[Token],
 ) -> Result<(Globals, &[Token]), Stopped>
-    requires { AreSmall rest.now }
     ensures shorter { IfOk result (λ r. length r.1.now ≤ length rest.now) }
     ensures gives { Gives (λ r. (globals (globals_view r.0), r.1.now)) result
         (map_read (globals_of number_type) (commas_from (value_at name) global_at) rest.now) }
@@ -116,7 +72,6 @@ pub fn read_globals(
     name: Identifier,
     rest: &[Token],
 ) -> Result<(Item, &[Token]), Stopped>
-    requires { AreSmall rest.now }
     ensures shorter { IfOk result (λ r. length r.1.now < length rest.now) }
     ensures gives { Gives (λ r. (part_view r.0, r.1.now)) result (globals_at number_type name rest.now) }
 {

@@ -6,6 +6,7 @@
 mod functions;
 mod globals;
 mod heads;
+mod labels;
 mod loops;
 mod parser;
 mod statements;

@@ -1,17 +1,23 @@
 //! Statements. A function reads where `depth` levels of nesting are left.
 
-ghost use Rattle.std.specs.Prelude.{◌≡◌, ◌<◌, ◌≤◌, false, length, map, IfOk};
-ghost use Rattle.lra_tree.specs.Views.{stmt_view, item_view, items_of, block_view};
+ghost use Rattle.std.specs.Prelude.{◌≡◌, ◌<◌, ◌≤◌, [], ◌++◌, false, length, map, IfOk, OnOk, Err};
+ghost use Rattle.lra_tree.specs.Views.{stmt_view, item_view, items_of, block_view, case_view, cases_of, cases_view};
 ghost use Rattle.lra_tree.specs.Trees.{assert, assume};
-ghost use Rattle.lra_tree.specs.declared.tokens.Mark.TheVariants.{Assert, Assume, CloseBrace, If, While, For};
+ghost use Rattle.lra_tree.specs.declared.tokens.Mark.TheVariants.{Assert, Assume, CloseBrace, If, While, For, Switch};
 ghost use Rattle.lra_readers.specs.Tests.{first, is_mark};
-ghost use Rattle.lra_readers.specs.Reading.{Gives, expect_at, map_read, has};
-ghost use Rattle.lra_readers.specs.Statements.{stmt_mark, begins_stmt, begins_item, read_nothing, named_rest};
-ghost use Rattle.lra_readers.specs.Statements.{read_assigned, read_check, block_from, declaration_at, declared, stated};
-ghost use Rattle.lra_readers.specs.Statements.{simple_at, branch_at, block_at, item_at, items_at, body_of, put};
+ghost use Rattle.lra_readers.specs.Reading.{Gives, expect, expect_at, map_read, has};
+ghost use Rattle.lra_readers.specs.Statements.{stmt_mark, begins_stmt, begins_item, begins_case, read_nothing};
+ghost use Rattle.lra_readers.specs.Statements.{named_rest, read_assigned, read_check, block_from, declaration_at};
+ghost use Rattle.lra_readers.specs.Statements.{declared, stated, simple_at, branch_at, block_at, braces_at, stated_at};
+ghost use Rattle.lra_readers.specs.Statements.{item_at, items_at, body_of, put};
 ghost use Rattle.lra_parse.specs.Begun.{GoesOn, rest_of};
+ghost use Rattle.lra_parse.specs.Cases.{label_parts, parts_of, first_part, fault_at_braces};
 
-use crate::heads::{Begun, add_branch, begin_for, begin_if, begin_while, begin_whole, read_parens};
+use crate::heads::{
+    Begun, add_branch, add_cases, begin_for, begin_if, begin_switch, begin_while, begin_whole,
+    read_parens,
+};
+use crate::labels::{begins_label, read_label, read_labels};
 use crate::loops::{begins_jump, begins_loop, read_break, read_continue, read_return};
 use lra_base::Cause;
 use lra_phrases::{
@@ -20,7 +26,7 @@ use lra_phrases::{
 use lra_readers::{
     Stopped, expect, expect_at, next_is, next_is_name, push_boxed, read_name, stop, tail,
 };
-use lra_tree::{Block, BlockItem, Identifier, Mark, Stmt, Token};
+use lra_tree::{Block, BlockItem, CaseItem, Cases, Identifier, Mark, PlacedLabel, Stmt, Token};
 use std::alloc::{AllocError, Global};
 
 // Whether the next token is a mark that begins a statement which is no block, no assignment and no call.
@@ -42,7 +48,10 @@ fn begins_simple(rest: &[Token]) -> bool
     if next_is(rest, Mark::Assert) {
         return true;
     }
-    next_is(rest, Mark::Assume)
+    if next_is(rest, Mark::Assume) {
+        return true;
+    }
+    next_is(rest, Mark::Switch)
 }
 
 // Whether the next token begins a statement.
@@ -141,6 +150,7 @@ fn read_leaf(alloc: Global, rest: &[Token], depth: usize) -> Result<(Stmt, &[Tok
     requires no_if { false ≡ is_mark If (first rest.now) }
     requires no_while { false ≡ is_mark While (first rest.now) }
     requires no_for { false ≡ is_mark For (first rest.now) }
+    requires no_switch { false ≡ is_mark Switch (first rest.now) }
     ensures shorter { IfOk result (λ r. length r.1.now < length rest.now) }
     ensures gives { Gives (λ r. (stmt_view r.0, r.1.now)) result (simple_at depth rest.now) }
 {
@@ -165,11 +175,11 @@ fn read_leaf(alloc: Global, rest: &[Token], depth: usize) -> Result<(Stmt, &[Tok
     read_assigned(alloc, rest, depth)
 }
 
-/// A statement that is no block: whole, or up to its branch.
+/// A statement that is no block: whole, or up to its branch or its braces.
 #[inline(never)]
 fn begin_simple(alloc: Global, rest: &[Token], depth: usize) -> Result<(Begun, &[Token]), Stopped>
     ensures shorter { IfOk result (λ r. length r.1.now < length rest.now) }
-    ensures gives { GoesOn (λ r. rest_of (branch_at depth) r.0 r.1.now) result (simple_at depth rest.now) }
+    ensures gives { GoesOn (λ r. rest_of depth r.0 r.1.now) result (simple_at depth rest.now) }
 {
     if next_is(rest, Mark::If) {
         return begin_if(alloc, rest, depth);
@@ -179,6 +189,9 @@ fn begin_simple(alloc: Global, rest: &[Token], depth: usize) -> Result<(Begun, &
     }
     if next_is(rest, Mark::For) {
         return begin_for(alloc, rest, depth);
+    }
+    if next_is(rest, Mark::Switch) {
+        return begin_switch(alloc, rest, depth);
     }
     let (stmt, after) = read_leaf(alloc, rest, depth)?;
     let begun = begin_whole(alloc, stmt)?;
@@ -228,6 +241,78 @@ fn read_declared(
     Ok((item, after))
 }
 
+/// Whether the next token begins a label or a statement.
+fn begins_case(rest: &[Token]) -> bool
+    ensures { result ≡ begins_case (first rest.now) }
+{
+    if begins_label(rest) {
+        return true;
+    }
+    begins_stmt(rest)
+}
+
+/// The labels, behind the other items.
+fn push_labels(items: &mut Vec<CaseItem>, labels: Vec<PlacedLabel>) -> Result<(), AllocError>
+    ensures { OnOk result (map case_view items.new.items
+        ≡ map case_view items.old.items ++ label_parts labels.items []) }
+{
+    'each: for label in labels {
+        items.push(CaseItem::Label(label))?;
+    }
+    Ok(())
+}
+
+/// The labels and the statement behind them, behind the other items.
+#[inline(never)]
+fn push_labelled(
+    items: &mut Vec<CaseItem>,
+    labels: Vec<PlacedLabel>,
+    stmt: Box<Stmt>,
+) -> Result<(), AllocError>
+    ensures { OnOk result (map case_view items.new.items
+        ≡ map case_view items.old.items ++ parts_of (labels.items, stmt_view stmt.value)) }
+{
+    push_labels(items, labels)?;
+    items.push(CaseItem::Stated(Box::into_inner(stmt)))?;
+    Ok(())
+}
+
+/// The first label of a `switch`, if there is one, as the first of its items.
+#[inline(never)]
+fn begin_cases(alloc: Global, rest: &[Token]) -> Result<(Vec<CaseItem>, &[Token]), Stopped>
+    ensures shorter { IfOk result (λ r. length r.1.now ≤ length rest.now) }
+    ensures gives { Gives (λ r. (map case_view r.0.items, r.1.now)) result (first_part rest.now) }
+{
+    let mut items = Vec::new(alloc);
+    if begins_label(rest) {
+        let (label, behind) = read_label(rest)?;
+        items.push(CaseItem::Label(label))?;
+        return Ok((items, behind));
+    }
+    Ok((items, rest))
+}
+
+/// What the braces of a `switch` hold, whose last one comes next.
+fn close_cases(items: Vec<CaseItem>, rest: &[Token]) -> Result<(Cases, &[Token]), Stopped>
+    ensures shorter { IfOk result (λ r. length r.1.now < length rest.now) }
+    ensures gives { Gives (λ r. (cases_view r.0, r.1.now)) result
+        (expect CloseBrace (cases_of (map case_view items.items)) rest.now) }
+{
+    let after = expect(rest, Mark::CloseBrace)?;
+    Ok((Cases { items }, after))
+}
+
+/// The fault where no level is left for braces.
+#[tactic(auto, using(crate::proofs::Braces::fault_rules))]
+fn stop_at_braces<T>(rest: &[Token]) -> Result<T, Stopped>
+    ensures { result ≡ Err (Stopped.Fault (fault_at_braces rest.now)) }
+{
+    if next_is(rest, Mark::OpenBrace) {
+        return stop(Cause::TooDeep, rest);
+    }
+    stop(Cause::Syntax, rest)
+}
+
 /// A branch, whose first token opens a level.
 #[cycle(statement)]
 #[tactic(auto, using(crate::proofs::Stated::branch_rules))]
@@ -250,23 +335,11 @@ fn read_branch(
         let stmt = box_block(alloc, block)?;
         return Ok((stmt, after));
     }
-    read_simple(alloc, rest, depth - 1)
+    let (begun, behind) = begin_simple(alloc, rest, depth - 1)?;
+    finish(alloc, begun, behind, depth - 1)
 }
 
-/// A block inside a function, whose brace opens a level.
-#[cycle(statement)]
-#[tactic(auto, using(crate::proofs::Stated::block_rules))]
-fn read_block(alloc: Global, rest: &[Token], depth: usize) -> Result<(Block, &[Token]), Stopped>
-    ensures shorter { IfOk result (λ r. length r.1.now < length rest.now) }
-    ensures gives { Gives (λ r. (block_view r.0, r.1.now)) result (block_at depth rest.now) }
-{
-    if depth == 0 {
-        return stop(Cause::TooDeep, rest);
-    }
-    read_body(alloc, rest, depth - 1)
-}
-
-/// The rest of a statement that is begun: its branches.
+/// The rest of a statement that is begun: its branches, or its braces.
 #[cycle(statement)]
 fn finish(
     alloc: Global,
@@ -275,7 +348,7 @@ fn finish(
     depth: usize,
 ) -> Result<(Box<Stmt>, &[Token]), Stopped>
     ensures shorter { IfOk result (λ r. length r.1.now ≤ length rest.now) }
-    ensures gives { Gives (λ r. (stmt_view r.0.value, r.1.now)) result (rest_of (branch_at depth) begun rest.now) }
+    ensures gives { Gives (λ r. (stmt_view r.0.value, r.1.now)) result (rest_of depth begun rest.now) }
 {
     match begun {
         Begun::Whole(stmt) => Ok((stmt, rest)),
@@ -284,19 +357,52 @@ fn finish(
             let (next, after) = add_branch(alloc, head, branch, behind)?;
             finish(alloc, next, after, depth)
         }
+        Begun::UpToBraces(head) => {
+            let (cases, end) = read_braces(alloc, rest, depth)?;
+            let whole = add_cases(alloc, head, cases)?;
+            Ok((whole, end))
+        }
     }
 }
 
-/// A statement that is no block.
+/// The braces of a `switch`, which open a level.
 #[cycle(statement)]
-fn read_simple(
+#[tactic(auto, using(crate::proofs::Braces::braces_rules))]
+fn read_braces(alloc: Global, rest: &[Token], depth: usize) -> Result<(Cases, &[Token]), Stopped>
+    ensures shorter { IfOk result (λ r. length r.1.now < length rest.now) }
+    ensures gives { Gives (λ r. (cases_view r.0, r.1.now)) result (braces_at depth rest.now) }
+{
+    if depth == 0 {
+        return stop_at_braces(rest);
+    }
+    let behind = expect(rest, Mark::OpenBrace)?;
+    let mut more = begins_label(behind);
+    let (mut items, mut left) = begin_cases(alloc, behind)?;
+    'cases: while more {
+        let (labels, at) = read_labels(alloc, left)?;
+        let (stmt, after) = read_stated(alloc, at, depth - 1)?;
+        push_labelled(&mut items, labels, stmt)?;
+        left = after;
+        more = begins_case(left);
+    }
+    close_cases(items, left)
+}
+
+/// A statement among others.
+#[cycle(statement)]
+fn read_stated(
     alloc: Global,
     rest: &[Token],
     depth: usize,
 ) -> Result<(Box<Stmt>, &[Token]), Stopped>
     ensures shorter { IfOk result (λ r. length r.1.now < length rest.now) }
-    ensures gives { Gives (λ r. (stmt_view r.0.value, r.1.now)) result (simple_at depth rest.now) }
+    ensures gives { Gives (λ r. (stmt_view r.0.value, r.1.now)) result (stated_at depth rest.now) }
 {
+    if next_is(rest, Mark::OpenBrace) {
+        let (block, behind) = read_block(alloc, rest, depth)?;
+        let stmt = box_block(alloc, block)?;
+        return Ok((stmt, behind));
+    }
     let (begun, behind) = begin_simple(alloc, rest, depth)?;
     finish(alloc, begun, behind, depth)
 }
@@ -315,29 +421,35 @@ fn read_item(
     if next_is_type(rest) {
         return read_declared(alloc, rest, depth);
     }
-    if next_is(rest, Mark::OpenBrace) {
-        let (block, behind) = read_block(alloc, rest, depth)?;
-        let stmt = box_block(alloc, block)?;
-        let item = box_item(alloc, stmt)?;
-        return Ok((item, behind));
-    }
-    let (stmt, left) = read_simple(alloc, rest, depth)?;
+    let (stmt, left) = read_stated(alloc, rest, depth)?;
     let item = box_item(alloc, stmt)?;
     Ok((item, left))
 }
 
-/// Items with the braces round them.
+/// A block inside a function, whose brace opens a level: items with the braces round them.
 #[cycle(statement)]
-pub fn read_body(alloc: Global, rest: &[Token], depth: usize) -> Result<(Block, &[Token]), Stopped>
+#[tactic(auto, using(crate::proofs::Stated::block_rules))]
+fn read_block(alloc: Global, rest: &[Token], depth: usize) -> Result<(Block, &[Token]), Stopped>
     ensures shorter { IfOk result (λ r. length r.1.now < length rest.now) }
-    ensures gives { Gives (λ r. (block_view r.0, r.1.now)) result (body_of (items_at depth) rest.now) }
+    ensures gives { Gives (λ r. (block_view r.0, r.1.now)) result (block_at depth rest.now) }
 {
+    if depth == 0 {
+        return stop(Cause::TooDeep, rest);
+    }
     let mut left = expect(rest, Mark::OpenBrace)?;
     let mut items = Vec::new(alloc);
     'items: while begins_item(left) {
-        let (item, after) = read_item(alloc, left, depth)?;
+        let (item, after) = read_item(alloc, left, depth - 1)?;
         push_boxed(&mut items, item)?;
         left = after;
     }
     read_close(items, left)
+}
+
+/// The body of a function, whose brace opens the first level.
+pub fn read_body(alloc: Global, rest: &[Token]) -> Result<(Block, &[Token]), Stopped>
+    ensures shorter { IfOk result (λ r. length r.1.now < length rest.now) }
+    ensures gives { Gives (λ r. (block_view r.0, r.1.now)) result (body_of (items_at 63) rest.now) }
+{
+    read_block(alloc, rest, 64)
 }

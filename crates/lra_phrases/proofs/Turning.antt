@@ -44,6 +44,12 @@ pub ok_shorter : {X : Type 0} (result : Result (X × Bor Text) Stopped) (T S : T
 ok_shorter (Ok x) T S less h = omega (arith, h)
 ok_shorter (Err e) T S less h = tt
 
+-- and one from which nothing more has to be taken
+pub ok_less : {X : Type 0} (result : Result (X × Bor Text) Stopped) (T S : Text) → length T < length S
+    → IfOk result (λ r. length r.1.now ≤ length T) → IfOk result (λ r. length r.1.now < length S)
+ok_less (Ok x) T S less h = omega (arith, h)
+ok_less (Err e) T S less h = tt
+
 pub gives_same : {X Y : Type 0} (view : X → Y × Text) (result : Result X Stopped) (a b : Read Y) → b ≡ a → Gives view result a → Gives view result b
 gives_same view result a b e g = subst (λ r. Gives view result r) (sym e) g
 
@@ -189,6 +195,40 @@ up_to_exit m p T M a (stopped.Fault f) off g h = rw (sym off, g) (expect_err m (
 pub up_to_first : {A : Type 0} (m : Mark) (p : Parse A) (T : Text) (e : Stopped) → false ≡ is_mark m (first T) → GivesErr e (p T) → GivesErr e (up_to m p T)
 up_to_first m p T stopped.Memory off g = tt
 up_to_first m p T (stopped.Fault f) off g = rw (sym off, g) refl
+
+-- lists: items one behind the other, as long as the next token passes the test
+module _ {I : Type 0} (more : Option Token → Bool) (at_end : more None ≡ false) (p : Parse I) where
+  -- the list from here on gives the result
+  abbrev pub ListLeft : List I → Text → Read (List I) → Type 0
+  ListLeft is T result = Left more (list_step p) is T result
+
+  pub list_start : (is : List I) (S : Text) → is ≡ [] → ListLeft is S (list_of more p S)
+  list_start is S e = subst (λ (js : List I). ListLeft js S (list_of more p S)) (sym e) (length S, omega arith, refl)
+
+  pub list_turn : (is js : List I) (i : I) (T R : Text) (result : Read (List I)) → js ≡ is ++ i ∷ [] → ListLeft is T result → true ≡ more (first T)
+      → p T ≡ Ok (i, R) → length R < length T
+      → ListLeft js R result
+  list_turn is js i T R result e l on g less =
+      let s : list_step p is T ≡ Ok (is ++ i ∷ [], R) = rw g refl in
+      subst (λ (ks : List I). ListLeft ks R result) (sym e) (turn_on more (list_step p) is (is ++ i ∷ []) T R result l (sym on) s less)
+
+  some_text : (T : Text) → true ≡ more (first T) → 0 < length T
+  some_text [] e = let never : true ≡ false = e ∙ at_end in absurd cc
+  some_text (t ∷ T) e = omega arith
+
+  pub list_err : (is : List I) (T : Text) (f : Fault) (result : Read (List I)) → ListLeft is T result → true ≡ more (first T) → p T ≡ Err f → result ≡ Err f
+  list_err is T f result l on g =
+      let s : list_step p is T ≡ Err f = rw g refl in
+      turn_err more (list_step p) is T f result l (sym on) (some_text T on) s
+
+  -- the exit by `?` in a turn
+  pub list_exit : (is : List I) (T : Text) (e : Stopped) (result : Read (List I)) → ListLeft is T result → true ≡ more (first T) → GivesErr e (p T)
+      → GivesErr e result
+  list_exit is T stopped.Memory result l on g = tt
+  list_exit is T (stopped.Fault f) result l on g = list_err is T f result l on g
+
+  pub list_end : (is : List I) (T : Text) (result : Read (List I)) → ListLeft is T result → false ≡ more (first T) → result ≡ Ok (is, T)
+  list_end is T result l off = turn_off more (list_step p) is T result l (sym off)
 
 -- lists: a turn behind a mark
 module _ {I : Type 0} (m : Mark) (p : Parse I) where

@@ -13,3 +13,4 @@ pub use assignments::{
 };
 pub use calls::{read_call, read_rvalue};
 pub use conditions::read_cond;
+pub use expressions::read_expr;

@@ -8,8 +8,8 @@ use Rattle.lra_tree.specs.Views.{tree_view}
 use Rattle.lra_tree.specs.Faults.{IsTree}
 use Rattle.lra_tree.specs.Grammar.{Spells}
 use Rattle.lra_meaning.specs.Refuse.{Refuse}
-use Rattle.lra_readers.specs.Files.{EndsOnce, AreSmall}
-use Rattle.lra_readers.proofs.Ended.{lexed_end, lexed_small}
+use Rattle.lra_readers.specs.Files.{EndsOnce}
+use Rattle.lra_readers.proofs.Ended.{lexed_end}
 use Rattle.lra_front.proofs.ReadSteps.{long_refused, exit_lexed, exit_parsed, has_constants, has_tree}
 use Rattle.lra_front.proofs.reading.read_text.Goals as goal
 
@@ -23,13 +23,11 @@ pub returns-then-bytes-gt-GREATEST_LENGTH-clause-refused : goal.returns-then-byt
 returns-then-bytes-gt-GREATEST_LENGTH-clause-refused c =
     subst (λ (p : Place). Refuse Spells c.args.bytes.now TooLong p) (sym c.place_behind-place.ensures) (long_refused c.args.bytes.now 65536 refl c.if-bytes-gt-GREATEST_LENGTH.true)
 
-pub parse-requires-clause-ends : goal.parse-requires-clause-ends
-parse-requires-clause-ends c =
-    subst EndsOnce (sym c.deref.ensures.value) (lexed_end c.args.bytes.now c.in_ok-tokens.tokens.items c.in_ok-tokens.ensures.found)
-
-pub parse-requires-clause-small : goal.parse-requires-clause-small
-parse-requires-clause-small c =
-    subst AreSmall (sym c.deref.ensures.value) (lexed_small c.args.bytes.now c.in_ok-tokens.tokens.items c.in_ok-tokens.ensures.found)
+pub parse-requires : goal.parse-requires
+parse-requires c = record {
+  ends =
+      subst EndsOnce (sym c.deref.ensures.value) (lexed_end c.args.bytes.now c.in_ok-tokens.tokens.items c.in_ok-tokens.ensures.found);
+}
 
 pub returns-in_err-tokens-clause-refused : goal.returns-in_err-tokens-clause-refused
 returns-in_err-tokens-clause-refused c =

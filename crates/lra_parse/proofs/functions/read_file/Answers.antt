@@ -1,25 +1,23 @@
 -- Goals of `read_file`: parts, and the end.
-use Rattle.std.proofs.Common.{List, ap, map}
+use Rattle.std.proofs.Common.{List, refl, ap, map}
 use Rattle.std.proofs.lemmas.Result.{err_from_is_err_and}
 use Rattle.lra_tree.specs.Trees.{PartTree}
 use Rattle.lra_tree.specs.Views.{part_view}
-use Rattle.lra_readers.specs.Files.{parts_at}
-use Rattle.lra_phrases.proofs.Turning.{list_grown}
-use Rattle.lra_parse.proofs.Headed.{parts_start, part_turn, file_exit, end_exit, file_gives}
-use Rattle.lra_readers.proofs.Small.{small_part}
+use Rattle.lra_readers.specs.Files.{begins_part, part_at, parts_at}
+use Rattle.lra_phrases.proofs.Turning.{list_grown, list_start, list_turn}
+use Rattle.lra_parse.proofs.Headed.{file_exit, end_exit, file_gives}
 use Rattle.lra_parse.proofs.functions.read_file.Goals as goal
 
 pub parts-init : goal.parts-init
 parts-init c = record {
-  small = c.requires;
-  read = parts_start 63 (map part_view c.new-items.result.items) c.args.rest.now (ap (map part_view) c.new-items.ensures.items);
+  read = list_start begins_part refl (part_at 63) (map part_view c.new-items.result.items) c.args.rest.now (ap (map part_view) c.new-items.ensures.items);
 }
 
 pub parts-preserved : goal.parts-preserved
 parts-preserved c = record {
-  small = small_part c.parts.left.now c.in_ok-item.after.now (part_view c.in_ok-item.item) c.in_ok-item.ensures.gives c.parts.invariant.small;
   read =
-      part_turn 63 (map part_view c.parts.items.items) (map part_view c.push.new.self.items) (part_view c.in_ok-item.item) c.parts.left.now c.in_ok-item.after.now (parts_at 63 c.args.rest.now)
+      list_turn begins_part refl (part_at 63) (map part_view c.parts.items.items) (map part_view c.push.new.self.items) (part_view c.in_ok-item.item)
+      c.parts.left.now c.in_ok-item.after.now (parts_at 63 c.args.rest.now)
       (list_grown (λ (l : List PartTree). l) part_view c.parts.items.items c.push.new.self.items c.in_ok-item.item c.in_ok-push.ensures.items)
       c.parts.invariant.read c.parts-test.ensures c.in_ok-item.ensures.gives c.in_ok-item.ensures.shorter;
 }

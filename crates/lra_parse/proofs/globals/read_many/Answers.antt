@@ -9,24 +9,17 @@ use Rattle.lra_readers.specs.Reading.{list_step}
 use Rattle.lra_readers.specs.Expressions.{behind}
 use Rattle.lra_readers.specs.Files.{value_at, global_at, globals_of}
 use Rattle.lra_phrases.proofs.Turning.{turns_start, turn_off, list_grown, comma_turn, comma_exit, from_gives, from_exit}
-use Rattle.lra_readers.proofs.Small.{small_tail, small_value, small_global}
 use Rattle.lra_parse.proofs.globals.read_many.Goals as goal
 
 pub globals-init : goal.globals-init
 globals-init c = record {
   room = c.in_ok-first.ensures.shorter;
-  small = small_value c.args.name c.args.rest.now c.in_ok-first.left.now (global_view c.in_ok-first.first) c.in_ok-first.ensures.gives c.requires;
   same = turns_start (is_mark mark.Comma) (list_step (behind mark.Comma global_at)) (map global_view) c.new-globals.result.items [] c.in_ok-first.left.now c.new-globals.ensures.items refl;
 }
-
-pub read_global-requires : goal.read_global-requires
-read_global-requires c = small_tail c.globals.left.now c.tail.result.now c.tail.ensures.value c.globals.invariant.small
 
 pub globals-preserved : goal.globals-preserved
 globals-preserved c = record {
   room = omega (arith, c.in_ok-global.ensures.shorter, c.tail.ensures.shorter, c.globals.invariant.room);
-  small = small_global c.tail.result.now c.in_ok-global.after.now (global_view c.in_ok-global.global) c.in_ok-global.ensures.gives
-      (small_tail c.globals.left.now c.tail.result.now c.tail.ensures.value c.globals.invariant.small);
   same = comma_turn mark.Comma global_at (map global_view c.globals.globals.items) (map global_view c.push.new.self.items)
       (global_view c.in_ok-global.global) c.globals.left.now c.tail.result.now c.in_ok-global.after.now _
       (list_grown (λ (l : List GlobalTree). l) global_view c.globals.globals.items c.push.new.self.items c.in_ok-global.global c.in_ok-push.ensures.items)
