@@ -13,9 +13,9 @@ use Rattle.lra_tree.specs.Tokens as lexical
 use Rattle.lra_tree.specs.Texts.{Piece, Pieces, plain, Texts, ◌⋅◌, further, separated}
 use Rattle.lra_tree.specs.Texts as text
 use Rattle.lra_tree.specs.Grammar.{IsUnary, IsTerm, IsExpr, IsNegation, IsTest, IsConjunction, IsCond, InParens, IsCall, IsRvalue, IsAssign, IsGiven, IsDeclarator, IsDeclaration, IsInit, IsForTest}
-use Rattle.lra_tree.specs.Grammar.{IsForStep, IsReturned, IsStmt, AreItems, IsPart, AreParts, Spells}
+use Rattle.lra_tree.specs.Grammar.{IsForStep, IsReturned, opened_by, level_of, IsStmt, AreCases, AreLabelled, AreStated, AreItems, IsPart, AreParts, Spells}
 use Rattle.lra_formed.specs.Literals.{IsSmallUnary, IsSmallTerm, IsSmallExpr, IsSmallNegation, IsSmallTest, IsSmallConjunction, IsSmallCond, IsSmallCall, IsSmallRvalue, IsSmallGiven, IsSmallAssign}
-use Rattle.lra_formed.specs.Literals.{IsSmallDeclarator, IsSmallDeclaration, IsSmallInit, IsSmallForTest, IsSmallStep, IsSmallStmt, AreSmallItems, IsSmallPart, HasSmallLiterals}
+use Rattle.lra_formed.specs.Literals.{IsSmallDeclarator, IsSmallDeclaration, IsSmallInit, IsSmallForTest, IsSmallStep, IsSmallStmt, AreSmallCases, AreSmallItems, IsSmallPart, HasSmallLiterals}
 
 -- tokens -----------------------------------------------------------------------------------------------------------
 
@@ -153,11 +153,6 @@ small_step : (l : ℕ) (a : Option tree.AssignTree) (z : Pieces) → IsForStep l
 small_step l None z s h = tt
 small_step l (Some a) z s h = small_assign 0 l a z s h
 
--- a statement among the items of a block opens some level
-item_parts : (l : ℕ) (t : tree.StmtTree) (items : tree.ItemsTree) (z : Pieces) → AreItems l (tree.statement t items) z → (o : ℕ) × (k : ℕ) × ((IsStmt o k t ⋅ AreItems l items) z)
-item_parts l (tree.block inside end) items z s = (l + 1, l + 1, s)
-item_parts l _ items z s = (0, l, s)
-
 mutual
   small_stmt : (o l : ℕ) (t : tree.StmtTree) (z : Pieces) → IsStmt o l t z → AreSmall z → IsSmallStmt t
   small_stmt o l (tree.block items end) z (x, y, e, opening, (x2, y2, e2, s, closing)) h = small_items l items x2 s (front x2 y2 y e2 (back x y z e h))
@@ -189,15 +184,30 @@ mutual
   small_stmt o l (tree.return at a) z (x, y, e, word, (x2, y2, e2, s, closing)) h = small_returned l a x2 s (front x2 y2 y e2 (back x y z e h))
   small_stmt o l (tree.assert at c) z (x, y, e, word, (x2, y2, e2, s, closing)) h = small_in_parens l c x2 s (front x2 y2 y e2 (back x y z e h))
   small_stmt o l (tree.assume at c) z (x, y, e, word, (x2, y2, e2, s, closing)) h = small_in_parens l c x2 s (front x2 y2 y e2 (back x y z e h))
-  small_stmt o l (tree.switch at e cs) z s h = absurd s
+  small_stmt o l (tree.switch at v cs) z (x, y, e, word, (x2, y2, e2, (x3, y3, e3, paren, (x4, y4, e4, s, close)), (x5, y5, e5, opening, (x6, y6, e6, r, closing)))) h =
+      let later = back x y z e h in
+      (small_expr l v x4 s (front x4 y4 y3 e4 (back x3 y3 x2 e3 (front x2 y2 y e2 later))), small_cases (l + 1) cs x6 r (front x6 y6 y5 e6 (back x5 y5 y2 e5 (back x2 y2 y e2 later))))
+
+  small_cases : (l : ℕ) (cs : tree.CasesTree) (z : Pieces) → AreCases l cs z → AreSmall z → AreSmallCases cs
+  small_cases l tree.no_cases z s h = tt
+  small_cases l (tree.labelled b cs) z (x, y, e, s, r) h = small_labelled l cs y r (back x y z e h)
+  small_cases l (tree.stated t cs) z s h = absurd s
+
+  small_labelled : (l : ℕ) (cs : tree.CasesTree) (z : Pieces) → AreLabelled l cs z → AreSmall z → AreSmallCases cs
+  small_labelled l tree.no_cases z s h = absurd s
+  small_labelled l (tree.labelled b cs) z (x, y, e, s, r) h = small_labelled l cs y r (back x y z e h)
+  small_labelled l (tree.stated t cs) z (x, y, e, s, r) h = (small_stmt (opened_by t l) (level_of t l) t x s (front x y z e h), small_stated l cs y r (back x y z e h))
+
+  small_stated : (l : ℕ) (cs : tree.CasesTree) (z : Pieces) → AreStated l cs z → AreSmall z → AreSmallCases cs
+  small_stated l tree.no_cases z s h = tt
+  small_stated l (tree.labelled b cs) z (x, y, e, s, r) h = small_labelled l cs y r (back x y z e h)
+  small_stated l (tree.stated t cs) z (x, y, e, s, r) h = (small_stmt (opened_by t l) (level_of t l) t x s (front x y z e h), small_stated l cs y r (back x y z e h))
 
   small_items : (l : ℕ) (items : tree.ItemsTree) (z : Pieces) → AreItems l items z → AreSmall z → AreSmallItems items
   small_items l tree.no_items z s h = tt
   small_items l (tree.declaration d items) z (x, y, e, s, r) h = (small_declaration l d x s (front x y z e h), small_items l items y r (back x y z e h))
-  small_items l (tree.statement t items) z s h =
-      let parts = item_parts l t items z s in
-      let both = parts.2 in
-      (small_stmt parts.0 parts.1 t both.0 both.3 (front both.0 both.1 z both.2 h), small_items l items both.1 both.4 (back both.0 both.1 z both.2 h))
+  small_items l (tree.statement t items) z (x, y, e, s, r) h =
+      (small_stmt (opened_by t l) (level_of t l) t x s (front x y z e h), small_items l items y r (back x y z e h))
 
 -- the whole --------------------------------------------------------------------------------------------------------
 

@@ -1,18 +1,23 @@
 -- The names that a tree declares are words among the tokens of its text, and each has a token of its own there: so of the variables that
 -- live at a label.
-use Rattle.std.proofs.Common.{◌≡◌, ℕ, ◌+◌, ◌≤◌, ◌<◌, true, List, [], ◌∷◌, ◌++◌, length, map, refl, ap, sym, ◌∙◌, subst, arith, length-append, append_assoc, append-nil, Option, Some, None}
+use Rattle.std.proofs.Common.{◌≡◌, ℕ, ◌+◌, ◌≤◌, ◌<◌, true, List, [], ◌∷◌, ◌++◌, length, map, refl, ap, sym, ◌∙◌, subst, arith, length-append, append_assoc}
+use Rattle.std.proofs.Common.{append-nil, Option, Some, None}
 use Rattle.std.specs.List.{AllByRecursion, flat_map}
 use Rattle.lra_base.specs.declared.refusals.Place.{Place}
 use Rattle.lra_tree.specs.declared.trees.Identifier.{Identifier}
 use Rattle.lra_tree.specs.declared.trees.Parameter.{Parameter}
 use Rattle.lra_tree.specs.Lexeme.{is_name_word}
 use Rattle.lra_tree.specs.Texts.{Piece, Pieces, Texts, ◌⋅◌, name, further, separated}
-use Rattle.lra_tree.specs.Trees.{AssignTree, DeclaratorTree, DeclarationTree, InitTree, no_init, declared, assigned, StmtTree, block, nothing, assign, call, if_only, if_else, while, for, break}
-use Rattle.lra_tree.specs.Trees.{continue, return, assert, assume, switch, ItemsTree, no_items, declaration, statement, FunctionTree, GlobalTree, GlobalsTree, PartTree, prototype, globals, function}
-use Rattle.lra_tree.specs.Grammar.{IsDeclarator, IsDeclaration, IsInit, IsStmt, AreItems, IsParameter, AreParameters, IsFunction, IsGlobal, AreGlobals, AreParts}
+use Rattle.lra_tree.specs.Trees.{AssignTree, DeclaratorTree, DeclarationTree, InitTree, no_init, declared, assigned, StmtTree, block, nothing, assign, call}
+use Rattle.lra_tree.specs.Trees.{if_only, if_else, while, for, break}
+use Rattle.lra_tree.specs.Trees.{continue, return, assert, assume, switch, CasesTree, no_cases, labelled, stated, ItemsTree, no_items, declaration, statement}
+use Rattle.lra_tree.specs.Trees.{FunctionTree, GlobalTree, GlobalsTree, PartTree, prototype, globals, function}
+use Rattle.lra_tree.specs.Grammar.{IsDeclarator, IsDeclaration, IsInit, opened_by, level_of, IsStmt, AreCases, AreLabelled, AreStated, AreItems, IsParameter}
+use Rattle.lra_tree.specs.Grammar.{AreParameters, IsFunction, IsGlobal, AreGlobals, AreParts}
 use Rattle.lra_tree.specs.Functions.{functions_in}
 use Rattle.lra_meaning.specs.NameFaults.{global_names}
-use Rattle.lra_tree.specs.Labels.{Labelled, with_names, declarator_labels, init_labels, live_in_for, step_labels, stmt_labels, items_labels, function_labels}
+use Rattle.lra_tree.specs.Labels.{Labelled, with_names, declarator_labels, init_labels, live_in_for, step_labels, stmt_labels, cases_labels, items_labels}
+use Rattle.lra_tree.specs.Labels.{function_labels}
 use Rattle.lra_meaning.specs.LiveNames.{globals_named}
 use Rattle.lra_report.proofs.Every.{every_append, every_front, every_back}
 use Rattle.lra_report.proofs.TokenWords.{HasWord}
@@ -82,8 +87,11 @@ declared_room : (most : ℕ) (live : List (List ℕ)) (w : List ℕ) (x y : Piec
 declared_room most live w x y d h =
     let own = d (every_front IsNamed x y h.2) in
     let n = h.1 in
-    let some = own.1 in
-    (every_append (λ n. is_name_word n ≡ true) live (w ∷ []) h.0 (own.0, tt), omega (arith, n, some, length-append x y, length-append live (w ∷ [])), every_back IsNamed x y h.2)
+    let some = own.1 in (
+      every_append (λ n. is_name_word n ≡ true) live (w ∷ []) h.0 (own.0, tt),
+      omega (arith, n, some, length-append x y, length-append live (w ∷ [])),
+      every_back IsNamed x y h.2,
+    )
 
 -- items with commas between them, each of which declares a name
 module _ {A : Type 0} (R : A → Texts) (word : A → List ℕ) (declares : (a : A) (x : Pieces) → R a x → Declares (word a) x) (most : ℕ) where
@@ -94,7 +102,8 @@ module _ {A : Type 0} (R : A → Texts) (word : A → List ℕ) (declares : (a :
       let behind = further_room (live ++ word a ∷ []) many q y rest (declared_room most live (word a) p (q ++ y) (declares a p is) here) in
       subst (λ (l : List (List ℕ)). HasRoom most l y) (append_assoc live (word a ∷ []) (map word many)) behind
 
-  separated_room : (live : List (List ℕ)) (many : List A) (x y : Pieces) → separated R many x → HasRoom most live (x ++ y) → HasRoom most (live ++ map word many) y
+  separated_room : (live : List (List ℕ)) (many : List A) (x y : Pieces) → separated R many x → HasRoom most live (x ++ y) → HasRoom most
+      (live ++ map word many) y
   separated_room live [] x y e h = subst (λ (l : List (List ℕ)). HasRoom most l y) (sym (append-nil live)) (room_last most live (x ++ y) x y refl h)
   separated_room live (a ∷ many) x y (p, q, e, is, rest) h =
       let here = room_parts most live x y p q e h in
@@ -106,7 +115,8 @@ module _ {A : Type 0} (R : A → Texts) (word : A → List ℕ) (declares : (a :
 few_front : (most : ℕ) (live more : List (List ℕ)) → AreFew most (live ++ more) → AreFew most live
 few_front most live more h = let n = h.1 in (every_front (λ n. is_name_word n ≡ true) live more h.0, omega (arith, n, length-append live more))
 
-declarators_few : (most : ℕ) (live : List (List ℕ)) (ds : List DeclaratorTree) → AreFew most (with_names live ds) → AllByRecursion (AreFewAt most) (declarator_labels live ds)
+declarators_few : (most : ℕ) (live : List (List ℕ)) (ds : List DeclaratorTree) → AreFew most (with_names live ds) → AllByRecursion (AreFewAt most)
+    (declarator_labels live ds)
 declarators_few most live [] h = tt
 declarators_few most live (d ∷ ds) h =
     let further = map (λ (x : DeclaratorTree). x.name.word) ds in
@@ -115,24 +125,28 @@ declarators_few most live (d ∷ ds) h =
       declarators_few most (live ++ d.name.word ∷ []) ds behind,
     )
 
-declaration_room : (most l : ℕ) (d : DeclarationTree) (live : List (List ℕ)) (x y : Pieces) → IsDeclaration l d x → HasRoom most live (x ++ y) → HasRoom most (with_names live (d.first ∷ d.rest)) y
+declaration_room : (most l : ℕ) (d : DeclarationTree) (live : List (List ℕ)) (x y : Pieces) → IsDeclaration l d x → HasRoom most live (x ++ y) → HasRoom most
+    (with_names live (d.first ∷ d.rest)) y
 declaration_room most l d live x y (t, z, e, type, (s, m, e', are, semicolon)) h =
     let here = room_parts most live z y s m e' (room_behind most live x y t z e h) in
-    let behind = separated_room (IsDeclarator l) (λ (v : DeclaratorTree). v.name.word) (λ v p is. first_declares v.name.word p is.0 is.1 is.2 (name_declares v.name 0 is.0 is.3)) most live
+    let behind = separated_room (IsDeclarator l) (λ (v : DeclaratorTree). v.name.word)
+    (λ v p is. first_declares v.name.word p is.0 is.1 is.2 (name_declares v.name 0 is.0 is.3)) most live
     (d.first ∷ d.rest) s (m ++ y) are here in
     room_last most (with_names live (d.first ∷ d.rest)) (m ++ y) m y refl behind
 
 declaration_few : (most l : ℕ) (d : DeclarationTree) (live : List (List ℕ)) (x y : Pieces) → IsDeclaration l d x → HasRoom most live (x ++ y) →
     AllByRecursion (AreFewAt most) (declarator_labels live (d.first ∷ d.rest))
 declaration_few most l d live x y is h =
-    let names = with_names live (d.first ∷ d.rest) in declarators_few most live (d.first ∷ d.rest) (room_few most names y (declaration_room most l d live x y is h))
+    let names = with_names live (d.first ∷ d.rest) in declarators_few most live (d.first ∷ d.rest)
+    (room_few most names y (declaration_room most l d live x y is h))
 
 init_room : (most l : ℕ) (i : InitTree) (live : List (List ℕ)) (x y : Pieces) → IsInit l i x → HasRoom most live (x ++ y) → HasRoom most (live_in_for live i) y
 init_room most l no_init live x y is h = room_last most live (x ++ y) x y refl h
 init_room most l (declared d) live x y is h = declaration_room most l d live x y is h
 init_room most l (assigned a) live x y is h = room_last most live (x ++ y) x y refl h
 
-init_few : (most l : ℕ) (i : InitTree) (live : List (List ℕ)) (x y : Pieces) → IsInit l i x → HasRoom most live (x ++ y) → AllByRecursion (AreFewAt most) (init_labels live i)
+init_few : (most l : ℕ) (i : InitTree) (live : List (List ℕ)) (x y : Pieces) → IsInit l i x → HasRoom most live (x ++ y) → AllByRecursion (AreFewAt most)
+    (init_labels live i)
 init_few most l no_init live x y is h = tt
 init_few most l (declared d) live x y is h = declaration_few most l d live x y is h
 init_few most l (assigned a) live x y is h = let few = room_few most live (x ++ y) h in ((few, few), tt)
@@ -144,12 +158,9 @@ step_few most (Some a) live few = ((few, few), tt)
 -- statements ---------------------------------------------------------------------
 
 -- an item's text and those of the items behind it
-item_text : (l : ℕ) (t : StmtTree) (items : ItemsTree) (z : Pieces) → AreItems l (statement t items) z → (o : ℕ) × (m : ℕ) × (IsStmt o m t ⋅ AreItems l items) z
-item_text l (block inside end) items z h = (l + 1, l + 1, h)
-item_text l t items z h = (0, l, h)
-
 mutual
-  stmt_few : (most o l : ℕ) (t : StmtTree) (live : List (List ℕ)) (z : Pieces) → IsStmt o l t z → HasRoom most live z → AllByRecursion (AreFewAt most) (stmt_labels live t)
+  stmt_few : (most o l : ℕ) (t : StmtTree) (live : List (List ℕ)) (z : Pieces) → IsStmt o l t z → HasRoom most live z → AllByRecursion (AreFewAt most)
+      (stmt_labels live t)
   stmt_few most o l (block items end) live z (a, b, e, brace, (c, d, e', are, close)) h =
       items_few most l items end live c are (room_first most live b c d e' (room_last most live z a b e h))
   stmt_few most o l (nothing at) live z is h = let few = room_few most live z h in ((few, few), tt)
@@ -169,7 +180,19 @@ mutual
   stmt_few most o l (while at c t) live z (a, b, e, word, (p, q, e', test, is)) h =
       let few = room_few most live z h in
       ((few, few), stmt_few most (l + 1) (l + 1) t live q is (room_last most live b p q e' (room_last most live z a b e h)))
-  stmt_few most o l (for at i c step t) live z (a, b, e, word, (p, q, e1, paren, (x, y, e2, init, (r, s, e3, test, (f, g, e4, semicolon, (j, k, e5, again, (v, w, e6, close, is))))))) h =
+  stmt_few most o l (for at i c step t) live z (
+    a,
+    b,
+    e,
+    word,
+    (
+      p,
+      q,
+      e1,
+      paren,
+      (x, y, e2, init, (r, s, e3, test, (f, g, e4, semicolon, (j, k, e5, again, (v, w, e6, close, is))))),
+    ),
+  ) h =
       let start = subst (HasRoom most live) e2 (room_last most live b p q e1 (room_last most live z a b e h)) in
       let inside = live_in_for live i in
       let room = init_room most l i live x y init start in
@@ -177,7 +200,8 @@ mutual
       let body = room_last most inside k v w e6 (room_last most inside g j k e5 (room_last most inside s f g e4 (room_last most inside y r s e3 room))) in (
         (few, few),
         every_append (AreFewAt most) (init_labels live i ++ step_labels inside step) (stmt_labels inside t)
-            (every_append (AreFewAt most) (init_labels live i) (step_labels inside step) (init_few most l i live x y init start) (step_few most step inside few))
+            (every_append (AreFewAt most) (init_labels live i) (step_labels inside step) (init_few most l i live x y init start)
+            (step_few most step inside few))
             (stmt_few most (l + 1) (l + 1) t inside w is body),
       )
   stmt_few most o l (break at) live z is h = let few = room_few most live z h in ((few, few), tt)
@@ -185,7 +209,34 @@ mutual
   stmt_few most o l (return at r) live z is h = let few = room_few most live z h in ((few, few), tt)
   stmt_few most o l (assert at c) live z is h = let few = room_few most live z h in ((few, few), tt)
   stmt_few most o l (assume at c) live z is h = let few = room_few most live z h in ((few, few), tt)
-  stmt_few most o l (switch at e cs) live z is h = absurd is
+  stmt_few most o l (switch at v cs) live z (a, b, e, word, (p, q, e1, value, (x, y, e2, opening, (r, s, e3, is, close)))) h =
+      let few = room_few most live z h in
+      let inside = room_last most live q x y e2 (room_last most live b p q e1 (room_last most live z a b e h)) in
+      ((few, few), cases_few most (l + 1) cs live r is (room_first most live y r s e3 inside))
+
+  cases_few : (most l : ℕ) (cs : CasesTree) (live : List (List ℕ)) (z : Pieces) → AreCases l cs z → HasRoom most live z → AllByRecursion (AreFewAt most)
+      (cases_labels live cs)
+  cases_few most l no_cases live z is h = tt
+  cases_few most l (labelled b cs) live z (x, y, e, label, is) h = labelled_few most l cs live y is (room_last most live z x y e h)
+  cases_few most l (stated t cs) live z is h = absurd is
+
+  labelled_few : (most l : ℕ) (cs : CasesTree) (live : List (List ℕ)) (z : Pieces) → AreLabelled l cs z → HasRoom most live z → AllByRecursion (AreFewAt most)
+      (cases_labels live cs)
+  labelled_few most l no_cases live z is h = absurd is
+  labelled_few most l (labelled b cs) live z (x, y, e, label, is) h = labelled_few most l cs live y is (room_last most live z x y e h)
+  labelled_few most l (stated t cs) live z (x, y, e, is, are) h =
+      every_append (AreFewAt most) (stmt_labels live t) (cases_labels live cs)
+      (stmt_few most (opened_by t l) (level_of t l) t live x is (room_first most live z x y e h))
+      (stated_few most l cs live y are (room_last most live z x y e h))
+
+  stated_few : (most l : ℕ) (cs : CasesTree) (live : List (List ℕ)) (z : Pieces) → AreStated l cs z → HasRoom most live z → AllByRecursion (AreFewAt most)
+      (cases_labels live cs)
+  stated_few most l no_cases live z is h = tt
+  stated_few most l (labelled b cs) live z (x, y, e, label, is) h = labelled_few most l cs live y is (room_last most live z x y e h)
+  stated_few most l (stated t cs) live z (x, y, e, is, are) h =
+      every_append (AreFewAt most) (stmt_labels live t) (cases_labels live cs)
+      (stmt_few most (opened_by t l) (level_of t l) t live x is (room_first most live z x y e h))
+      (stated_few most l cs live y are (room_last most live z x y e h))
 
   items_few : (most l : ℕ) (items : ItemsTree) (end : Place) (live : List (List ℕ)) (z : Pieces) → AreItems l items z → HasRoom most live z →
       AllByRecursion (AreFewAt most) (items_labels live items end)
@@ -195,17 +246,19 @@ mutual
       let here = subst (HasRoom most live) e h in
       every_append (AreFewAt most) (declarator_labels live (d.first ∷ d.rest)) (items_labels more items end) (declaration_few most l d live x y is here)
       (items_few most l items end more y are (declaration_room most l d live x y is here))
-  items_few most l (statement t items) end live z h room =
-      let (o, m, (x, y, e, is, are)) = item_text l t items z h in
-      every_append (AreFewAt most) (stmt_labels live t) (items_labels live items end) (stmt_few most o m t live x is (room_first most live z x y e room))
+  items_few most l (statement t items) end live z (x, y, e, is, are) room =
+      every_append (AreFewAt most) (stmt_labels live t) (items_labels live items end)
+      (stmt_few most (opened_by t l) (level_of t l) t live x is (room_first most live z x y e room))
       (items_few most l items end live y are (room_last most live z x y e room))
 
 -- functions and globals ----------------------------------------------------------
 
-parameters_room : (most : ℕ) (ps : List Parameter) (x y : Pieces) → AreParameters ps x → HasRoom most [] (x ++ y) → HasRoom most (map (λ (p : Parameter). p.name.word) ps) y
+parameters_room : (most : ℕ) (ps : List Parameter) (x y : Pieces) → AreParameters ps x → HasRoom most [] (x ++ y) → HasRoom most
+    (map (λ (p : Parameter). p.name.word) ps) y
 parameters_room most [] x y are h = room_last most [] (x ++ y) x y refl h
 parameters_room most (p ∷ ps) x y are h =
-    separated_room IsParameter (λ (q : Parameter). q.name.word) (λ q z is. last_declares q.name.word z is.0 is.1 is.2 (name_declares q.name 0 is.1 is.4)) most [] (p ∷ ps) x y are h
+    separated_room IsParameter (λ (q : Parameter). q.name.word) (λ q z is. last_declares q.name.word z is.0 is.1 is.2 (name_declares q.name 0 is.1 is.4)) most
+    [] (p ∷ ps) x y are h
 
 function_few : (most : ℕ) (f : FunctionTree) (z : Pieces) → IsFunction f z → HasRoom most [] z → AllByRecursion (AreFewAt most) (function_labels f)
 function_few most f z (a, b, e, head, (c, d, e1, paren, (p, q, e2, are, (r, s, e3, close, (t, u, e4, opening, (v, w, e5, items, end)))))) h =
@@ -215,7 +268,8 @@ function_few most f z (a, b, e, head, (c, d, e1, paren, (p, q, e2, are, (r, s, e
     items_few most 1 f.body f.end names v items (room_first most names u v w e5 (room_last most names s t u e4 (room_last most names q r s e3 room)))
 
 -- at each label of the parts
-pub labels_few : (most : ℕ) (ps : List PartTree) (z : Pieces) → AreParts ps z → HasRoom most [] z → AllByRecursion (AreFewAt most) (flat_map function_labels (functions_in ps))
+pub labels_few : (most : ℕ) (ps : List PartTree) (z : Pieces) → AreParts ps z → HasRoom most [] z → AllByRecursion (AreFewAt most)
+    (flat_map function_labels (functions_in ps))
 labels_few most [] z are h = tt
 labels_few most (prototype ∷ ps) z (x, y, e, is, are) h = labels_few most ps y are (room_last most [] z x y e h)
 labels_few most (globals g ∷ ps) z (x, y, e, is, are) h = labels_few most ps y are (room_last most [] z x y e h)
@@ -223,17 +277,21 @@ labels_few most (function f ∷ ps) z (x, y, e, is, are) h =
     every_append (AreFewAt most) (function_labels f) (flat_map function_labels (functions_in ps)) (function_few most f x is (room_first most [] z x y e h))
     (labels_few most ps y are (room_last most [] z x y e h))
 
-globals_room : (most : ℕ) (g : GlobalsTree) (live : List (List ℕ)) (x y : Pieces) → AreGlobals g x → HasRoom most live (x ++ y) → HasRoom most (live ++ global_names (g.first ∷ g.rest)) y
+globals_room : (most : ℕ) (g : GlobalsTree) (live : List (List ℕ)) (x y : Pieces) → AreGlobals g x → HasRoom most live (x ++ y) → HasRoom most
+    (live ++ global_names (g.first ∷ g.rest)) y
 globals_room most g live x y (t, z, e, type, (s, m, e', are, semicolon)) h =
     let here = room_parts most live z y s m e' (room_behind most live x y t z e h) in
-    let behind = separated_room IsGlobal (λ (v : GlobalTree). v.name.word) (λ v p is. first_declares v.name.word p is.0 is.1 is.2 (name_declares v.name 0 is.0 is.3)) most live (g.first ∷ g.rest) s
+    let behind = separated_room IsGlobal (λ (v : GlobalTree). v.name.word)
+    (λ v p is. first_declares v.name.word p is.0 is.1 is.2 (name_declares v.name 0 is.0 is.3)) most live (g.first ∷ g.rest) s
     (m ++ y) are here in
     room_last most (live ++ global_names (g.first ∷ g.rest)) (m ++ y) m y refl behind
 
-pub globals_few : (most : ℕ) (ps : List PartTree) (live : List (List ℕ)) (z : Pieces) → AreParts ps z → HasRoom most live z → AreFew most (live ++ globals_named ps)
+pub globals_few : (most : ℕ) (ps : List PartTree) (live : List (List ℕ)) (z : Pieces) → AreParts ps z → HasRoom most live z → AreFew most
+    (live ++ globals_named ps)
 globals_few most [] live z are h = subst (AreFew most) (sym (append-nil live)) (room_few most live z h)
 globals_few most (prototype ∷ ps) live z (x, y, e, is, are) h = globals_few most ps live y are (room_last most live z x y e h)
 globals_few most (globals g ∷ ps) live z (x, y, e, is, are) h =
     let names = global_names (g.first ∷ g.rest) in
-    subst (AreFew most) (append_assoc live names (globals_named ps)) (globals_few most ps (live ++ names) y are (globals_room most g live x y is (subst (HasRoom most live) e h)))
+    subst (AreFew most) (append_assoc live names (globals_named ps)) (globals_few most ps (live ++ names) y are
+    (globals_room most g live x y is (subst (HasRoom most live) e h)))
 globals_few most (function f ∷ ps) live z (x, y, e, is, are) h = globals_few most ps live y are (room_last most live z x y e h)
