@@ -8,16 +8,7 @@ pub mod CertificatesHold
 pub mod LineSteps
 pub mod NumberSteps
 pub mod NumberText
-pub mod Told
-pub mod WalkSteps
-pub mod WalkChanges
-pub mod TrackSteps
-pub mod ShowSteps
-pub mod PointSteps
-pub mod EdgeSteps
-pub mod ListedSteps
-pub mod EndSteps
-pub mod HeadSteps
+pub mod RowLines
 -- What is read has the text of a certificate, and what is written is read again.
 pub mod ReadText
 pub mod ReadPaths
@@ -32,7 +23,5 @@ pub mod JudgedBothWays
 pub mod OneText
 pub mod OneProgram
 pub mod OneCertificate
-pub mod VerifySteps
-pub mod Deserved
 -- Worked examples.
 mod CertificateExamples

@@ -13,7 +13,7 @@ use Rattle.std.proofs.lemmas.Option.{same_Some, none-some}
 use Rattle.std.proofs.lemmas.Slice.Eq.{bytes_eq-Decides, starts_is}
 use Rattle.lra_certificate.specs.CertificateText.{text_line}
 use Rattle.lra_certificate.specs.Judged.{line_on, behind_line, is_line}
-use Rattle.lra_certificate.specs.LineViews.{is_feed, pieces_at, number_at, left_at, IsLineAt}
+use Rattle.lra_certificate.specs.Lines.{is_feed, pieces_at, number_at, left_at, IsLineAt}
 
 some_parts : (parts : List (List ℕ)) (line : List ℕ) → 0 < length parts → line_on (line ∷ parts) ≡ Some line
 some_parts [] line h = absurd (omega (arith, h))

@@ -24,7 +24,7 @@ use Rattle.lra_certificate.specs.CertificateText.{end_text, head_text, states_te
 use Rattle.lra_certificate.specs.Judged.{Left, Judged, then_judged, line_on, behind_line, is_line, State, judged_paths, judged_denials}
 use Rattle.lra_certificate.specs.Judged.{one_more, judged_listed, counted}
 use Rattle.lra_certificate.specs.Judged.{lines_left, judged, Head, has_feed, headed, head_of, is_dead_line, numbers_behind}
-use Rattle.lra_certificate.specs.PointViews.{is_row_line}
+use Rattle.lra_certificate.specs.Lines.{is_row_line}
 use Rattle.lra_certificate.proofs.ReadPaths.{AreRows}
 use Rattle.lra_certificate.proofs.SourceRows.{sources_fit, denials_denied}
 use Rattle.lra_certificate.proofs.WriteText.{AreFrom, text_from, from_lower, from_joined, decimal_from, clean, numbers_read, pieces_of, line_pieces}

@@ -11,10 +11,9 @@ use Rattle.lra_certificate.specs.Certificates.{IsPointRow, IsState, AreStates}
 use Rattle.lra_certificate.specs.CertificateText.{text_line, numbers_text, relation_text, row_text, point_text, state_text, states_text}
 use Rattle.lra_certificate.specs.Judged.{Left, Judged, then_judged, line_on, behind_line, is_line, takes, with_row, row_before, judged_rows, State}
 use Rattle.lra_certificate.specs.Judged.{some_rows, judged_state, state_before, judged_states}
-use Rattle.lra_certificate.specs.LineViews.{HasNoFeed}
-use Rattle.lra_certificate.specs.PointViews.{is_row_line}
+use Rattle.lra_certificate.specs.Lines.{HasNoFeed, is_row_line}
 use Rattle.lra_certificate.proofs.ReadText.{rows_text}
-use Rattle.lra_certificate.proofs.Told.{rows_on, rows_end}
+use Rattle.lra_certificate.proofs.RowLines.{rows_on, rows_end}
 use Rattle.lra_certificate.proofs.WriteText.{AreFrom, text_from, from_lower, from_joined, decimal_from, numbers_from, row_read, pieces_of, line_pieces}
 use Rattle.lra_certificate.proofs.WriteText.{line_first, is_itself, takes_it, clean}
 

@@ -5,9 +5,9 @@ use Rattle.std.proofs.lemmas.Grind.{common_steps}
 use Rattle.lra_program.specs.Sites.{sites_of}
 use Rattle.lra_certificate.specs.Claims.{VerifyAnswer, verified, source_refused, paths_refused, line_refused, Deserves, IsCertificate, program_of}
 use Rattle.lra_certificate.specs.Claims.{greatest_certificate}
-use Rattle.lra_certificate.specs.RefusalViews.{refusal_view}
-use Rattle.lra_certificate.specs.declared.refusals.VerifyRefusal.{VerifyRefusal}
-use Rattle.lra_certificate.specs.declared.refusals.VerifyRefusal.TheVariants.{Source, Paths, Line}
+use Rattle.lra_verify.specs.RefusalViews.{refusal_view}
+use Rattle.lra_lines.specs.declared.refusals.VerifyRefusal.{VerifyRefusal}
+use Rattle.lra_lines.specs.declared.refusals.VerifyRefusal.TheVariants.{Source, Paths, Line}
 use Rattle.lra_answers.specs.Statuses.{Ends, refused}
 use Rattle.lra_answers.proofs.Answering.{IsAnswering, small_as, past_as}
 use Rattle.lra_top.specs.CertificateAnswer.{DeservesCertificate, EachCertificateAnswer, CallsCertificate, certificate_statuses, answer_text, answer_status, verified_text}

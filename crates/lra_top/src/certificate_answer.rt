@@ -2,12 +2,12 @@
 ghost use Rattle.std.specs.Prelude.{◌≡◌, ◌++◌, codes, IfOk, OnOk, string_bytes};
 ghost use Rattle.std.specs.Fmt.{decimal};
 ghost use Rattle.lra_show.specs.Texts.{text_line};
-ghost use Rattle.lra_certificate.specs.RefusalViews.{refusal_view};
+ghost use Rattle.lra_verify.specs.RefusalViews.{refusal_view};
 ghost use Rattle.lra_top.specs.CertificateAnswer.{DeservesCertificate, answer_text, verified_text};
 
 use lra_answers::{Answer, Status};
-use lra_certificate::{VerifyError, VerifyRefusal, verify};
 use lra_report::refusal_text;
+use lra_verify::{VerifyError, VerifyRefusal, verify};
 use std::alloc::{AllocError, Global};
 use std::fmt::Write;
 

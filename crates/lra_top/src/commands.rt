@@ -9,7 +9,7 @@ use crate::script_answer::answer_script;
 use crate::source_answer::answer_source;
 use lra_answers::Answer;
 use lra_base::GREATEST_LENGTH;
-use lra_certificate::GREATEST_CERTIFICATE;
+use lra_verify::GREATEST_CERTIFICATE;
 use lra_words::{Command, PlainCommand};
 use std::alloc::{AllocError, Global};
 

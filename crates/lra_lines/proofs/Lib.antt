@@ -1,0 +1,5 @@
+pub mod Told
+pub mod WalkSteps
+pub mod WalkChanges
+pub mod TrackSteps
+pub mod ShowSteps

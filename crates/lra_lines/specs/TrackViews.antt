@@ -1,0 +1,89 @@
+-- Paths as the code judges their lines.
+use Rattle.std.specs.Prelude.{◌≡◌, ◌<◌, ◌+◌, ◌-◌, ◌++◌, ◌^◌, ℕ, suc, ℤ, List, [], map, codes, if◌then◌else◌}
+use Rattle.std.specs.Prelude.{length, Result, Ok, Err, Option, None, Some, option_map, MatchOption, IfSome}
+use Rattle.std.specs.Borrow.{Bor}
+use Rattle.std.specs.List.{All}
+use Rattle.lra_linear.specs.declared.Excess.{Excess}
+use Rattle.lra_linear.specs.declared.ConKind.{ConKind}
+use Rattle.lra_linear.specs.Cones.{with_row}
+use Rattle.lra_linear.specs.Descriptions.{Given}
+use Rattle.lra_linear.specs.Polyhedra.{falsity}
+use Rattle.lra_sys.specs.Listed.{Listed, constraints}
+use Rattle.lra_domain.specs.Actions.{Action}
+use Rattle.lra_multipliers.specs.Symbols.{Walked, composed, walk_of, width_of, tests_in}
+use Rattle.lra_multipliers.specs.Multipliers.{Multipliers, Answer, wide, checked}
+use Rattle.lra_certificate.specs.Certificates.{padded}
+use Rattle.lra_certificate.specs.Judged.{Left, Judged, State, then_judged, by_answer, is_dead_line, line_on}
+use Rattle.lra_certificate.specs.Lines.{in_turn}
+use Rattle.lra_lines.specs.ShownViews.{multipliers_on}
+use Rattle.lra_lines.specs.declared.tracks.Grounds.{Grounds}
+use Rattle.lra_lines.specs.declared.tracks.Track.{Track}
+use Rattle.lra_row.specs.declared.row.Row.{Row}
+
+-- all forms are rows over the symbols, as the premises are
+pub record AreGrounds (g : Grounds) : Type 0 where
+  pub forms : All (λ f. length f ≡ suc g.premises.dims) g.forms.items
+  pub small : g.premises.dims < 2 ^ 61
+
+abbrev pub row_of : Option (Bor Row) → Option (List ℤ)
+row_of claim = option_map (λ r. r.now) claim
+
+abbrev pub rows_of : Option (Bor (Listed ConKind)) → State
+rows_of target = option_map (λ r. constraints r.now) target
+
+-- the claim over the symbols: a row over the variables, or that nothing is left
+abbrev pub claimed : Option (List ℤ) → ℕ → List (List ℤ) → Result (List ℤ) Excess
+claimed None width forms = Ok (falsity (width - 1))
+claimed (Some row) width forms = composed width row forms
+
+-- of a claim that may have passed
+abbrev pub answered : List Given → Result (List ℤ) Excess → Multipliers → Answer
+answered premises (Err e) m = wide
+answered premises (Ok row) m = checked premises row m
+
+-- the grounds of a path from a source with so many variables and these rows
+pub record AreGroundsOf (live : ℕ) (rows : List Given) (steps : List Action) (g : Grounds) : Type 0 where
+  pub walk : Walked
+  pub walks : walk_of live steps ≡ Ok walk
+  pub width : suc g.premises.dims ≡ width_of live steps
+  pub premises : constraints g.premises ≡ map (padded (width_of live steps)) rows ++ walk.tests
+  pub forms : g.forms.items ≡ walk.forms
+
+pub record IsTrack (live : ℕ) (rows : List Given) (steps : List Action) (t : Track) : Type 0 where
+  pub count : t.count ≡ length rows + tests_in steps
+  pub grounds : MatchOption t.grounds ((e : Excess) × (walk_of live steps ≡ Err e)) (AreGroundsOf live rows steps)
+
+-- its lines have a factor for each of its premises
+pub record AreCounted (count : ℕ) (g : Grounds) : Type 0 where
+  pub are : AreGrounds g
+  pub many : length g.premises.rows ≡ count
+
+pub record IsWhole (t : Track) : Type 0 where
+  pub few : t.count < 2 ^ 62
+  pub grounds : IfSome t.grounds (AreCounted t.count)
+
+-- the answer to a line, and the line
+abbrev pub answer_by : Option Grounds → Option (List ℤ) → Multipliers → Answer
+answer_by None claim m = wide
+answer_by (Some g) claim m =
+    answered (constraints g.premises) (claimed claim (suc g.premises.dims) g.forms.items) m
+
+abbrev pub shown_by : Track → Option (List ℤ) → Left → Multipliers × Left → Judged Left
+shown_by t claim l x = by_answer l.number x.1 (answer_by t.grounds claim x.0)
+
+abbrev pub line_by : Track → List ℕ → Option (List ℤ) → Left → Judged Left
+line_by t word claim l = then_judged (multipliers_on word t.count l) (shown_by t claim l)
+
+-- the claims of a row, of all rows, and of a target
+abbrev pub claim_by : Track → List ℤ → Left → Judged Left
+claim_by t row l = line_by t (codes "by") (Some row) l
+
+abbrev pub row_by : Track → Given → Left → Judged Left
+row_by t g l = in_turn (claim_by t) (with_row g.equal g.row []) l
+
+abbrev pub target_by : Track → State → Left → Judged Left
+target_by t None l = line_by t (codes "by") None l
+target_by t (Some rows) l = in_turn (row_by t) rows l
+
+abbrev pub lines_by : Track → State → Left → Judged Left
+lines_by t target l = if is_dead_line (line_on l.pieces) then line_by t (codes "dead") None l else target_by t target l

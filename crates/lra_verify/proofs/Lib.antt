@@ -1,0 +1,7 @@
+pub mod PointSteps
+pub mod EdgeSteps
+pub mod ListedSteps
+pub mod EndSteps
+pub mod HeadSteps
+pub mod VerifySteps
+pub mod Deserved

@@ -1,0 +1,12 @@
+use Rattle.std.proofs.Common.{◌≡◌, ◌≤◌, ◌-◌, length}
+use Rattle.std.specs.List.{range_with_len}
+use Rattle.lra_verify.specs.EdgeViews.{denial_by, denials_by}
+use Rattle.lra_certificate.specs.Lines.{in_turn, left_at}
+use Rattle.lra_verify.proofs.ways.Ways.take_denials.Given as goal
+
+abbrev pub invariant-loop-source : goal.invariant-loop-source
+invariant-loop-source l = record {
+  so_far : in_turn (denial_by l.self l.point) (range_with_len l.source (length l.self.sources.now - l.source)) (left_at l.bytes l.next) ≡
+      denials_by l.self l.point (left_at l.bytes l.at);
+  within : l.next ≤ length l.bytes;
+}

@@ -1,0 +1,31 @@
+-- Rows and points of a certificate as the code reads them.
+use Rattle.std.specs.Prelude.{◌≡◌, ℕ, List, map, Option, Some, None, slice_get}
+use Rattle.lra_linear.specs.Descriptions.{Given}
+use Rattle.lra_sys.specs.Listed.{Listed, constraints}
+use Rattle.lra_linear.specs.declared.ConKind.{ConKind}
+use Rattle.lra_program.specs.Sites.{Site}
+use Rattle.lra_paths.specs.Paths.{live_of}
+use Rattle.lra_certificate.specs.Judged.{Left, State}
+use Rattle.lra_certificate.specs.Lines.{left_at}
+use Rattle.lra_verify.specs.declared.points.PointRows.{PointRows}
+use Rattle.lra_verify.specs.declared.points.Point.{Point}
+use Rattle.lra_verify.specs.declared.points.Points.{Points}
+
+-- the rows, and what is left behind them
+abbrev pub rows_view : List ℕ → PointRows → List Given × Left
+rows_view bytes r = (constraints r.rows, left_at bytes r.behind)
+
+abbrev pub state_view : Option (Listed ConKind) → State
+state_view None = None
+state_view (Some rows) = Some (constraints rows)
+
+abbrev pub point_view : List ℕ → Point → State × Left
+point_view bytes p = (state_view p.state, left_at bytes p.behind)
+
+abbrev pub points_view : List ℕ → Points → List State × Left
+points_view bytes p = (map state_view p.states.items, left_at bytes p.behind)
+
+-- rows of a point have its variables
+abbrev pub HaveDims : List Site → List (Option (Listed ConKind)) → Type 0
+HaveDims sites states = (q : ℕ) (rows : Listed ConKind) → slice_get states q ≡ Some (Some rows) →
+    rows.dims ≡ live_of (slice_get sites q)

@@ -1,0 +1,129 @@
+//! Paths from one source to one point, with what is said of both.
+
+ghost use Rattle.std.specs.Prelude.{◌≡◌, ◌≤◌, ◌<◌, ◌++◌, ◌^◌, length, codes, string_bytes, Some, IfOk, IfSome};
+ghost use Rattle.std.specs.Fmt.{decimal};
+ghost use Rattle.lra_sys.specs.Listed.{constraints};
+ghost use Rattle.lra_paths.specs.TableSides.{all_done, lists_done};
+ghost use Rattle.lra_verify.specs.EdgeViews.{dead_by, path_of};
+ghost use Rattle.lra_certificate.specs.Lines.{in_turn, left_at};
+ghost use Rattle.lra_lines.specs.LineViews.{IsToldAs};
+
+use lra_domain::Change;
+use lra_lines::{Track, VerifyError, take_line};
+use lra_sys::ConSys;
+use std::alloc::{AllocError, Global};
+
+/// A source and a point, with the rows that are said of them; none where nothing comes there.
+#[derive(Clone, Copy)]
+pub struct Edge<'a> {
+    pub source: usize,
+    pub point: usize,
+    pub from: Option<&'a ConSys>,
+    pub to: Option<&'a ConSys>,
+}
+
+/// The text of the line that begins a path.
+fn edge_text(alloc: Global, source: usize, number: usize) -> Result<String, AllocError>
+    ensures { IfOk result (λ text. string_bytes text ≡
+        codes "edge " ++ (decimal source ++ (codes " " ++ decimal number))) }
+{
+    format!(in alloc; "edge {source} {number}")
+}
+
+/// Where the next line begins behind a path: its own line, and what is said of it, unless nothing comes to its source.
+fn take_path(
+    alloc: Global,
+    bytes: &[u8],
+    at: usize,
+    edge: &Edge<'_>,
+    path: &[&Change],
+) -> Result<usize, VerifyError>
+    requires short { length bytes.now < 2 ^ 31 }
+    requires place { at ≤ length bytes.now }
+    requires point { edge.now.point < 2 ^ 31 }
+    requires live { IfSome edge.now.from (λ r. r.now.dims < 2 ^ 31) }
+    ensures told { IsToldAs (left_at bytes.now)
+        (path_of edge.now (all_done path.now) (left_at bytes.now at)) result }
+    ensures within { IfOk result (λ next. next ≤ length bytes.now) }
+{
+    let text = edge_text(alloc, edge.source, edge.point + 1)?;
+    let next = take_line(bytes, at, text.as_bytes())?;
+    match edge.from {
+        None => Ok(next),
+        Some(rows) => {
+            let track = Track::of(alloc, rows, path)?;
+            track.show_target(alloc, bytes, next, edge.to)
+        }
+    }
+}
+
+/// Where the next line begins behind the paths, in order.
+pub fn take_paths(
+    alloc: Global,
+    bytes: &[u8],
+    at: usize,
+    edge: &Edge<'_>,
+    paths: &[Vec<&Change>],
+) -> Result<usize, VerifyError>
+    requires short { length bytes.now < 2 ^ 31 }
+    requires place { at ≤ length bytes.now }
+    requires point { edge.now.point < 2 ^ 31 }
+    requires live { IfSome edge.now.from (λ r. r.now.dims < 2 ^ 31) }
+    ensures told { IsToldAs (left_at bytes.now)
+        (in_turn (path_of edge.now) (lists_done paths.now) (left_at bytes.now at)) result }
+    ensures within { IfOk result (λ next. next ≤ length bytes.now) }
+{
+    let mut next = at;
+    for path in paths.iter() {
+        match take_path(alloc, bytes, next, edge, path.as_slice()) {
+            Ok(behind) => next = behind,
+            Err(error) => return Err(error),
+        }
+    }
+    Ok(next)
+}
+
+/// Where the next line begins behind a path along which nothing goes.
+fn take_dead(
+    alloc: Global,
+    bytes: &[u8],
+    at: usize,
+    rows: &ConSys,
+    path: &[&Change],
+) -> Result<usize, VerifyError>
+    requires short { length bytes.now < 2 ^ 31 }
+    requires place { at ≤ length bytes.now }
+    requires live { rows.now.dims < 2 ^ 31 }
+    ensures told { IsToldAs (left_at bytes.now) (dead_by rows.now.dims (Some (constraints rows.now))
+        (all_done path.now) (left_at bytes.now at)) result }
+    ensures within { IfOk result (λ next. next ≤ length bytes.now) }
+{
+    let track = Track::of(alloc, rows, path)?;
+    track.show_dead(alloc, bytes, at)
+}
+
+/// Where the next line begins behind the paths along which nothing goes, in order.
+pub fn take_all_dead(
+    alloc: Global,
+    bytes: &[u8],
+    at: usize,
+    rows: &ConSys,
+    paths: &[Vec<&Change>],
+) -> Result<usize, VerifyError>
+    requires short { length bytes.now < 2 ^ 31 }
+    requires place { at ≤ length bytes.now }
+    requires live { rows.now.dims < 2 ^ 31 }
+    ensures told { IsToldAs (left_at bytes.now) (in_turn
+        (dead_by rows.now.dims (Some (constraints rows.now))) (lists_done paths.now)
+        (left_at bytes.now at)) result }
+    ensures within { IfOk result (λ next. next ≤ length bytes.now) }
+{
+    let mut next = at;
+    for path in paths.iter() {
+        match take_dead(alloc, bytes, next, rows, path.as_slice()) {
+            Ok(behind) => next = behind,
+            Err(error) => return Err(error),
+        }
+    }
+    Ok(next)
+}
