@@ -29,6 +29,8 @@ mod samples;
 #[cfg(test)]
 mod scripts;
 #[cfg(test)]
+mod switches;
+#[cfg(test)]
 mod thresholds;
 #[cfg(test)]
 mod types;

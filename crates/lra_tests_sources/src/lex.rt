@@ -16,25 +16,25 @@ static MARKS: [(&[u8], &str); 17] = [
             Greater@1:24 AtLeast@1:26 And@1:29 Or@1:32 Not@1:35 End@1:36",
     ),
     (
-        b"++ -- += -= *= /= %= ( ) { } ; ,",
+        b"++ -- += -= *= /= %= ( ) { } ; , :",
         "Increment@1:1 Decrement@1:4 PlusAssign@1:7 MinusAssign@1:10 StarAssign@1:13 SlashAssign@1:16 \
             PercentAssign@1:19 OpenParen@1:22 CloseParen@1:24 OpenBrace@1:26 CloseBrace@1:28 Semicolon@1:30 Comma@1:32 \
-            End@1:33",
+            Colon@1:34 End@1:35",
     ),
     (
-        b"assert assume input break continue else extern for if int long return void while",
-        "Assert@1:1 Assume@1:8 Input@1:15 Break@1:21 Continue@1:27 Else@1:36 Extern@1:41 For@1:48 If@1:52 Int@1:55 \
-            Long@1:59 Return@1:64 Void@1:71 While@1:76 End@1:81",
+        b"assert assume input break case continue default else extern for if int long return switch void while",
+        "Assert@1:1 Assume@1:8 Input@1:15 Break@1:21 Case@1:27 Continue@1:32 Default@1:41 Else@1:49 Extern@1:54 \
+            For@1:61 If@1:65 Int@1:68 Long@1:72 Return@1:77 Switch@1:84 Void@1:91 While@1:96 End@1:101",
     ),
     (
-        b"auto case char const default do double enum float goto inline register restrict short signed sizeof static \
-            struct switch typedef union unsigned volatile _Alignas _Alignof _Atomic _Bool _Complex _Generic _Imaginary \
-            _Noreturn _Static_assert _Thread_local",
-        "Reserved@1:1 Reserved@1:6 Reserved@1:11 Reserved@1:16 Reserved@1:22 Reserved@1:30 Reserved@1:33 Reserved@1:40 \
-            Reserved@1:45 Reserved@1:51 Reserved@1:56 Reserved@1:63 Reserved@1:72 Reserved@1:81 Reserved@1:87 \
-            Reserved@1:94 Reserved@1:101 Reserved@1:108 Reserved@1:115 Reserved@1:122 Reserved@1:130 Reserved@1:136 \
-            Reserved@1:145 Reserved@1:154 Reserved@1:163 Reserved@1:172 Reserved@1:180 Reserved@1:186 Reserved@1:195 \
-            Reserved@1:204 Reserved@1:215 Reserved@1:225 Reserved@1:240 End@1:253",
+        b"auto char const do double enum float goto inline register restrict short signed sizeof static struct \
+            typedef union unsigned volatile _Alignas _Alignof _Atomic _Bool _Complex _Generic _Imaginary _Noreturn \
+            _Static_assert _Thread_local",
+        "Reserved@1:1 Reserved@1:6 Reserved@1:11 Reserved@1:17 Reserved@1:20 Reserved@1:27 Reserved@1:32 \
+            Reserved@1:38 Reserved@1:43 Reserved@1:50 Reserved@1:59 Reserved@1:68 Reserved@1:74 Reserved@1:81 \
+            Reserved@1:88 Reserved@1:95 Reserved@1:102 Reserved@1:110 Reserved@1:116 Reserved@1:125 Reserved@1:134 \
+            Reserved@1:143 Reserved@1:152 Reserved@1:160 Reserved@1:166 Reserved@1:175 Reserved@1:184 Reserved@1:195 \
+            Reserved@1:205 Reserved@1:220 End@1:233",
     ),
     (
         b"x _y9 longer intx",

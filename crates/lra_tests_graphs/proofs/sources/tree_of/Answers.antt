@@ -1,18 +1,16 @@
 -- Goals of `tree_of`: the tree of a source.
 use Rattle.std.proofs.Common.{sym, subst}
 use Rattle.lra_tree.specs.Views.{tree_view}
-use Rattle.lra_readers.specs.Files.{EndsOnce, AreSmall}
-use Rattle.lra_readers.proofs.Ended.{lexed_end, lexed_small}
+use Rattle.lra_readers.specs.Files.{EndsOnce}
+use Rattle.lra_readers.proofs.Ended.{lexed_end}
 use Rattle.lra_tests_graphs.proofs.Reading.{read_small}
 use Rattle.lra_tests_graphs.proofs.sources.tree_of.Goals as goal
 
-pub parse-requires-clause-ends : goal.parse-requires-clause-ends
-parse-requires-clause-ends c =
-    subst EndsOnce (sym c.deref.ensures.value) (lexed_end c.as_bytes-bytes.result.now c.in_ok-tokens.tokens.items c.in_ok-tokens.ensures.found)
-
-pub parse-requires-clause-small : goal.parse-requires-clause-small
-parse-requires-clause-small c =
-    subst AreSmall (sym c.deref.ensures.value) (lexed_small c.as_bytes-bytes.result.now c.in_ok-tokens.tokens.items c.in_ok-tokens.ensures.found)
+pub parse-requires : goal.parse-requires
+parse-requires c = record {
+  ends =
+      subst EndsOnce (sym c.deref.ensures.value) (lexed_end c.as_bytes-bytes.result.now c.in_ok-tokens.tokens.items c.in_ok-tokens.ensures.found);
+}
 
 pub returns : goal.returns
 returns c =
