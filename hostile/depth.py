@@ -86,6 +86,12 @@ for operator in ('||', '&&'):
             case(f'20,000 operands of {operator} in {head[:-5]}, {words}', words,
                  f'int main(void){{ long x; {head % operands} }}', status, holds=['\nflagged 0\n'], limit=LIMIT)
 
+# labels of one `switch`, before one statement: as many as a source has room for
+labels = ''.join(f'case {number}:' for number in range(6000))
+for words in WAYS:
+    case(f'6,000 labels, {words}', words, f'int main(void){{ long x=input(),y=0; switch(x){{ {labels} y=1; }} assert(y<=1); }}',
+         0, holds=['\nflagged 0\n', 'verdicts proved 1 '], limit=LIMIT)
+
 # jumps out of one loop: their values are joined one by one
 jumps = 'if(input()) break; ' * 1000
 answered('1,000 breaks out of one loop', f'int main(void){{ while(input()){{ {jumps}}} }}', 2003)

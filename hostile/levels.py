@@ -12,7 +12,8 @@ IF_BLOCK = ('if(input()){ ', 2, '}', -1)
 MIXED = ('while(input()) if(input()) { for(;input();) ', 4, '}', 1)
 COUNTING = ('for(x=1;x<3;x=x+1) ', 3, '', 1)
 DECLARED = ('{ long v; ', 2, '}', 1)
-SINGLE = {'while': WHILE, 'if': IF, 'for': FOR, 'blocks': BLOCK, 'else': ELSE}
+SWITCH = ('switch(input()){ case 1: ', 1, '}', -9)
+SINGLE = {'while': WHILE, 'if': IF, 'for': FOR, 'blocks': BLOCK, 'else': ELSE, 'switch': SWITCH}
 
 
 def nested(level, depth, inside=';'):
