@@ -1,4 +1,1 @@
-pub mod Stated
-pub mod Braces
 pub mod Headed
-pub mod Goes

@@ -14,10 +14,10 @@ ghost use Rattle.lra_readers.specs.Files.{rest_at, part_at, begins_part, file_at
 ghost use Rattle.lra_parse.specs.Heads.{signature_view};
 
 use crate::globals::read_globals;
-use crate::statements::read_body;
 use lra_base::{Cause, NumberType, Place};
 use lra_phrases::read_type;
 use lra_readers::{Lead, Stopped, expect, next_is, next_is_name, read_name, stop, tail};
+use lra_statements::read_body;
 use lra_tree::{Block, Function, Identifier, Item, Kind, Mark, Parameter, Parameters, Token, Tree};
 use std::alloc::{AllocError, Global};
 

@@ -7,8 +7,8 @@ ghost use Rattle.lra_readers.specs.Reading.{Gives, map_read};
 ghost use Rattle.lra_readers.specs.Statements.{commas_from};
 ghost use Rattle.lra_readers.specs.Files.{value_at, global_at, globals_of, globals_at};
 
-use crate::labels::read_signed;
 use lra_base::NumberType;
+use lra_heads::read_signed;
 use lra_readers::{Stopped, expect, next_is, read_name, tail};
 use lra_tree::{Global as Variable, Globals, Identifier, Item, Mark, Token};
 use std::alloc::Global;

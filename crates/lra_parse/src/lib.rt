@@ -1,14 +1,10 @@
-//! The tree of a list of tokens: statements, blocks, functions, globals and whole sources.
+//! The tree of a list of tokens: functions, globals and whole sources.
 //!
 //! Each function computes a reader of `lra_readers`, which has what the reader is and that it is exact.
 #![tactic(auto)]
 
 mod functions;
 mod globals;
-mod heads;
-mod labels;
-mod loops;
 mod parser;
-mod statements;
 
 pub use parser::parse;
