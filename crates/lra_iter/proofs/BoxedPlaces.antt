@@ -6,18 +6,18 @@ use Rattle.std.proofs.Math.Nat.{suc-mul}
 use Rattle.std.proofs.lemmas.Result.{IfOk-weaker}
 use Rattle.lra_flow.specs.Plan.{Plan}
 use Rattle.lra_domain.specs.Meaning.{Meaning}
-use Rattle.lra_iter.specs.declared.memory.Memory.{Memory}
-use Rattle.lra_iter.specs.declared.outcome.Outcome.{Outcome}
-use Rattle.lra_iter.specs.declared.places.Entering.{Entering}
-use Rattle.lra_iter.specs.declared.places.GrowingPlace.{GrowingPlace}
-use Rattle.lra_iter.specs.declared.places.NarrowingPlace.{NarrowingPlace}
-use Rattle.lra_iter.specs.declared.places.Next as next
-use Rattle.lra_iter.specs.declared.places.Next.TheVariants.{Opens, Again}
-use Rattle.lra_iter.specs.declared.places.Place as place
-use Rattle.lra_iter.specs.declared.places.Place.TheVariants.{Growing, Narrowing}
-use Rattle.lra_iter.specs.Open.{Due, due, IsGrowing, IsMade, IsNarrowing, IsOpen, Leads, MayBePassed}
-use Rattle.lra_iter.specs.Outcome.{seen}
-use Rattle.lra_iter.specs.Steps.{next_left, place_left, rounds_left, tree_steps, turns_left}
+use Rattle.lra_outcomes.specs.declared.memory.Memory.{Memory}
+use Rattle.lra_outcomes.specs.declared.outcome.Outcome.{Outcome}
+use Rattle.lra_places.specs.declared.places.Entering.{Entering}
+use Rattle.lra_places.specs.declared.places.GrowingPlace.{GrowingPlace}
+use Rattle.lra_places.specs.declared.places.NarrowingPlace.{NarrowingPlace}
+use Rattle.lra_places.specs.declared.places.Next as next
+use Rattle.lra_places.specs.declared.places.Next.TheVariants.{Opens, Again}
+use Rattle.lra_places.specs.declared.places.Place as place
+use Rattle.lra_places.specs.declared.places.Place.TheVariants.{Growing, Narrowing}
+use Rattle.lra_places.specs.Open.{Due, due, IsGrowing, IsMade, IsNarrowing, IsOpen, Leads, MayBePassed}
+use Rattle.lra_outcomes.specs.Outcome.{seen}
+use Rattle.lra_places.specs.StepsLeft.{next_left, place_left, rounds_left, tree_steps, turns_left}
 
 -- one round, and those that are left behind it
 round_more : (k t : ℕ) → (1 + k * suc t) + t < 1 + suc k * suc t

@@ -2,7 +2,7 @@
 use Rattle.std.proofs.Common.{◌≡◌, ℕ, zero, suc, ◌+◌, ◌≤◌, ◌<◌, List, [], ◌∷◌, ◌++◌, length, map, take, get_or, Option, Some, None, Bool, refl, sym, ap, ◌∙◌, subst, arith, append_assoc}
 use Rattle.std.specs.Prelude.{◌↔◌, IsTrue, slice_get, slice_set}
 use Rattle.std.specs.List.{Contains}
-use Rattle.std.proofs.lemmas.List.{map-append, take_more}
+use Rattle.std.proofs.lemmas.List.{map-append}
 use Rattle.std.proofs.lemmas.List.Elements.{Contains-append_left, Contains-push}
 use Rattle.std.proofs.lemmas.Option.{none-some, same_Some, slice_get-get_or}
 use Rattle.std.specs.Iterator.{Yields}
@@ -14,9 +14,9 @@ use Rattle.lra_domain.specs.Meaning.{Meaning}
 use Rattle.lra_flow.specs.Pass.{value, failing}
 use Rattle.lra_flow.specs.Pass as pass
 use Rattle.lra_flow.specs.Analysis.{IsUnreachable}
-use Rattle.lra_iter.specs.declared.outcome.Entry.{Entry}
-use Rattle.lra_iter.specs.declared.outcome.Entry.TheVariants.{Value, Failing}
-use Rattle.lra_iter.specs.Outcome.{entry_view}
+use Rattle.lra_outcomes.specs.declared.outcome.Entry.{Entry}
+use Rattle.lra_outcomes.specs.declared.outcome.Entry.TheVariants.{Value, Failing}
+use Rattle.lra_outcomes.specs.Outcome.{entry_view}
 use Rattle.lra_iter.specs.Counts.{values_at, failing_at, AreApart}
 use Rattle.lra_iter.specs.Tables.{AreTabled, filled_from}
 use Rattle.lra_iter.proofs.Tabled.{Next, next_in, few_before, few_checks_before, value_inside, failing_inside, value_tabled, failing_tabled}
@@ -81,12 +81,6 @@ module _ {V : Type 0} (n : ℕ) (all front : List (Entry V)) (x : Entry V) (apar
         let few : failing_at p (seen_front ++ failing p v ∷ []) ≤ 1 = subst (λ (e : Entry V). failing_at p (seen_front ++ entry_view e ∷ []) ≤ 1) is one in
         subst (λ (es : List (pass.Entry V)). AreTabled m n es values (slice_set verdicts p (Some proved))) (seen_more (Failing p v) is)
         (failing_tabled m n seen_front values verdicts tabled p (failing_place p v is) v proved few so)
-
--- one copy more
-pub copied_more : {X : Type 0} (xs ys : List X) (i : ℕ) (x y : X) → ys ≡ take i xs → i < length xs → x ≡ get_or xs i x → y ≡ x
-    → ys ++ y ∷ [] ≡ take (i + 1) xs
-copied_more {X} xs ys i x y so_far below at same = ap (λ (zs : List X). zs ++ y ∷ []) so_far
-    ∙ ap (λ (z : X). take i xs ++ z ∷ []) (same ∙ at) ∙ sym (take_more xs i x below)
 
 -- one place more
 pub filled_some : {A : Type 0} (n : ℕ) (t : List (Option A)) (k : ℕ) (x : A) → slice_get t k ≡ Some (Some x) → filled_from n (take (suc k) t) ≡ filled_from n (take k t) ++ (n + k, x) ∷ []

@@ -1,25 +1,13 @@
 mod PassLoops
-pub mod Counting
+mod LoopPlaces
+mod TurnSteps
+mod BoxedPlaces
 mod Tabled
 mod Filling
+pub mod Counting
 mod Solving
 pub mod Covering
 pub mod Widths
-mod PassSteps
-mod PassRows
-mod Again
-mod KeptLoops
 mod LoopNumbers
-mod OpenPlaces
-mod FlatRows
-mod LeafSteps
-mod RowLeaves
-mod TurnSteps
-mod LoopPlaces
-mod Selecting
-mod SelectSteps
-mod BoxedPlaces
-mod Joining
 -- The written iteration has one solution.
 pub mod OneSolution
-mod GivenLoops

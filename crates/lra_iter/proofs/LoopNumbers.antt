@@ -6,7 +6,7 @@ use Rattle.lra_operations.specs.Graph.{Node, empty, point, act, check, seq, choo
 use Rattle.lra_operations.specs.Graph.{select, Arms, no_arms, entry, arm}
 use Rattle.lra_program.specs.Sites.{Site}
 use Rattle.lra_iter.specs.Numbers.{one_if, values_in, values_in_arms, IsNumbered}
-use Rattle.lra_iter.specs.Memory.{ArmsHaveLoops, HasLoops}
+use Rattle.lra_outcomes.specs.Memory.{ArmsHaveLoops, HasLoops}
 use Rattle.lra_iter.proofs.Counting.{one_same}
 
 abbrev mutual

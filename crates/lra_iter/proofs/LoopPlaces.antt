@@ -11,28 +11,28 @@ use Rattle.lra_flow.specs.Plan.{Plan, mode_at}
 use Rattle.lra_flow.specs.Thresholds.{loop_rows}
 use Rattle.lra_flow.specs.Operations.{dropping}
 use Rattle.lra_flow.specs.Pass.{noted}
-use Rattle.lra_iter.specs.declared.heads.Growing.{Growing}
-use Rattle.lra_iter.specs.declared.memory.Memory.{Memory}
-use Rattle.lra_iter.specs.declared.outcome.Entered.TheVariants.{Again as again, Anew}
-use Rattle.lra_iter.specs.declared.outcome.HeadTurn.{HeadTurn}
-use Rattle.lra_iter.specs.declared.outcome.Outcome.{Outcome}
-use Rattle.lra_iter.specs.declared.outcome.Turn.{Turn}
-use Rattle.lra_iter.specs.declared.places.GrowingPlace.{GrowingPlace}
-use Rattle.lra_iter.specs.declared.places.Narrowing.{Narrowing}
-use Rattle.lra_iter.specs.declared.places.NarrowingPlace.{NarrowingPlace}
-use Rattle.lra_iter.specs.declared.shapes.Loop.{Loop}
+use Rattle.lra_outcomes.specs.declared.heads.Growing.{Growing}
+use Rattle.lra_outcomes.specs.declared.memory.Memory.{Memory}
+use Rattle.lra_outcomes.specs.declared.outcome.Entered.TheVariants.{Again as again, Anew}
+use Rattle.lra_outcomes.specs.declared.outcome.HeadTurn.{HeadTurn}
+use Rattle.lra_outcomes.specs.declared.outcome.Outcome.{Outcome}
+use Rattle.lra_outcomes.specs.declared.outcome.Turn.{Turn}
+use Rattle.lra_places.specs.declared.places.GrowingPlace.{GrowingPlace}
+use Rattle.lra_places.specs.declared.places.Narrowing.{Narrowing}
+use Rattle.lra_places.specs.declared.places.NarrowingPlace.{NarrowingPlace}
+use Rattle.lra_outcomes.specs.declared.shapes.Loop.{Loop}
 use Rattle.lra_flow.specs.Live.{live_after}
-use Rattle.lra_iter.specs.Fits.{TreeFits}
-use Rattle.lra_iter.specs.Heads.{IsValued, GrowsBy}
-use Rattle.lra_iter.specs.Memory.{AreRecalled, MayRecall, Remembers, StaysKept}
-use Rattle.lra_iter.specs.Outcome.{headed, seen, AreKept, IsEntered, IsKept, IsPassed, IsTurned, LeavesWith}
-use Rattle.lra_iter.specs.Open.{Due, HasEntered, IsGrowing, IsHead, IsLoopDue, IsMade, IsNarrowed}
-use Rattle.lra_iter.specs.Open.{IsNarrowing, IsWaiting, MayBePassed, NarrowLoop}
-use Rattle.lra_iter.proofs.Again.{all_noted, kept_noted, passed_kept, turned}
-use Rattle.lra_iter.proofs.KeptLoops.{later_noted, recalled_passed, remembers_body, remembers_later, remembers_on}
-use Rattle.lra_iter.proofs.KeptLoops.{stays_begun, stays_both, stays_passed, stays_recalled, stays_since, stays_then}
+use Rattle.lra_outcomes.specs.Fits.{TreeFits}
+use Rattle.lra_outcomes.specs.Heads.{IsValued, GrowsBy}
+use Rattle.lra_outcomes.specs.Memory.{AreRecalled, MayRecall, Remembers, StaysKept}
+use Rattle.lra_outcomes.specs.Outcome.{headed, seen, AreKept, IsEntered, IsKept, IsPassed, IsTurned, LeavesWith}
+use Rattle.lra_places.specs.Open.{Due, HasEntered, IsGrowing, IsHead, IsLoopDue, IsMade, IsNarrowed}
+use Rattle.lra_places.specs.Open.{IsNarrowing, IsWaiting, MayBePassed, NarrowLoop}
+use Rattle.lra_outcomes.proofs.Again.{all_noted, kept_noted, passed_kept, turned}
+use Rattle.lra_outcomes.proofs.KeptLoops.{later_noted, recalled_passed, remembers_body, remembers_later, remembers_on}
+use Rattle.lra_outcomes.proofs.KeptLoops.{stays_begun, stays_both, stays_passed, stays_recalled, stays_since, stays_then}
 use Rattle.lra_iter.proofs.PassLoops.{head_next, head_stable, head_starts, head_wide, narrow_ends, narrow_next, narrow_starts}
-use Rattle.lra_iter.proofs.PassSteps.{loop_passed}
+use Rattle.lra_outcomes.proofs.PassSteps.{loop_passed}
 
 -- the loop's body is next
 abbrev at : {V : Type 0} → Loop → V → Option ℕ → Memory V → Due V

@@ -15,13 +15,13 @@ use Rattle.lra_flow.specs.Plan.{Plan, Widening, standard, limited, by_thresholds
 use Rattle.lra_flow.specs.Operations.{Operations, dropping}
 use Rattle.lra_flow.specs.Thresholds.{loop_rows}
 use Rattle.lra_flow.specs.Pass.{AreJoined, Result, noted, first_of_call, Pass, GoesRound, Grows, Narrows}
-use Rattle.lra_iter.specs.declared.outcome.Turn.{Turn}
-use Rattle.lra_iter.specs.declared.heads.Growing.{Growing}
-use Rattle.lra_iter.specs.declared.memory.Memory.{Memory}
-use Rattle.lra_iter.specs.Heads.{IsValued, GrowsBy}
-use Rattle.lra_iter.specs.Memory.{StaysKept}
-use Rattle.lra_iter.specs.Open.{GrowLoop, HeadLoop, NarrowLoop}
-use Rattle.lra_iter.specs.Outcome.{headed, seen, AllHave, AreKept, HasGrown, IsKept, IsTurned, JumpsFit, NarrowsTo}
+use Rattle.lra_outcomes.specs.declared.outcome.Turn.{Turn}
+use Rattle.lra_outcomes.specs.declared.heads.Growing.{Growing}
+use Rattle.lra_outcomes.specs.declared.memory.Memory.{Memory}
+use Rattle.lra_outcomes.specs.Heads.{IsValued, GrowsBy}
+use Rattle.lra_outcomes.specs.Memory.{StaysKept}
+use Rattle.lra_places.specs.Open.{GrowLoop, HeadLoop, NarrowLoop}
+use Rattle.lra_outcomes.specs.Outcome.{headed, seen, AllHave, AreKept, HasGrown, IsKept, IsTurned, JumpsFit, NarrowsTo}
 
 module _ {V H : Type 0} (m : Meaning V H) (set : Plan) (q base : ℕ) (c : Cond) (a : graph.Node) where
   -- a head begins

@@ -12,13 +12,13 @@ use Rattle.lra_domain.specs.declared.Rank.{Rank}
 use Rattle.lra_domain.specs.declared.Mode.TheVariants.{Join}
 use Rattle.lra_domain.specs.Meaning.{Meaning}
 use Rattle.lra_domain.specs.Rank.{RankFits, RankBelow}
-use Rattle.lra_iter.specs.declared.outcome.Outcome.{Outcome}
-use Rattle.lra_iter.specs.declared.places.Entering.{Entering}
-use Rattle.lra_iter.specs.declared.places.Next as next
-use Rattle.lra_iter.specs.declared.places.Next.TheVariants.{Passed, Opens, Again}
-use Rattle.lra_iter.specs.declared.places.Place as place
-use Rattle.lra_iter.specs.declared.shapes.Loop.{Loop}
-use Rattle.lra_iter.specs.Steps.{all_left, most_rounds, next_left, place_left, rounds_left, tree_steps, turns_left}
+use Rattle.lra_outcomes.specs.declared.outcome.Outcome.{Outcome}
+use Rattle.lra_places.specs.declared.places.Entering.{Entering}
+use Rattle.lra_places.specs.declared.places.Next as next
+use Rattle.lra_places.specs.declared.places.Next.TheVariants.{Passed, Opens, Again}
+use Rattle.lra_places.specs.declared.places.Place as place
+use Rattle.lra_outcomes.specs.declared.shapes.Loop.{Loop}
+use Rattle.lra_places.specs.StepsLeft.{all_left, most_rounds, next_left, place_left, rounds_left, tree_steps, turns_left}
 use Rattle.lra_iter.proofs.PassLoops.{grow_falls}
 
 same : (n : ℕ) → n ≤ n

@@ -37,7 +37,7 @@ use Rattle.lra_flow.specs.Pass.{AreJoined, Leaves, Entry, value, failing, Result
 use Rattle.lra_flow.specs.Pass.{ArmsPass, ValueIs, MatchesNone, Enters, JoinsRunning, ComesOut, RunsFrom}
 use Rattle.lra_base.specs.declared.case_labels.CaseLabel.{CaseLabel}
 use Rattle.lra_base.specs.declared.case_labels.CaseLabel.TheVariants.{Case, Default}
-use Rattle.lra_iter.specs.Open.{RunHas}
+use Rattle.lra_places.specs.Open.{RunHas}
 use Rattle.lra_flow.specs.Analysis.{Derivation, Solves}
 use Rattle.lra_flow.proofs.Caps.{all_both}
 use Rattle.lra_flow.specs.Live.{dims_behind, live_after}

@@ -1,14 +1,6 @@
-pub mod Outcome
-pub mod Memory
-pub mod Fits
 pub mod Lives
 pub mod Numbers
 pub mod Counts
 pub mod Tables
 pub mod Solved
 pub mod Sound
-pub mod Shapes
-pub mod Heads
-pub mod Open
-pub mod Steps
-pub mod Flat

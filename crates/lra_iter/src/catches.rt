@@ -4,11 +4,11 @@ ghost use Rattle.std.specs.Prelude.{◌≡◌, IfOk};
 ghost use Rattle.lra_operations.specs.Graph.{broken, continued, returned};
 ghost use Rattle.lra_operations.specs.GraphViews.{exit_view};
 ghost use Rattle.lra_flow.specs.Pass.{jumps_of};
-ghost use Rattle.lra_iter.specs.Outcome.{seen, AllHave, Catches};
+ghost use Rattle.lra_outcomes.specs.Outcome.{seen, AllHave, Catches};
 
-use crate::outcome::{Outcome, join_all, note};
 use lra_domain::Domain;
 use lra_operations::Exit;
+use lra_outcomes::{Outcome, join_all, note};
 use std::alloc::{AllocError, Global};
 
 /// `break` comes out here.

@@ -2,21 +2,10 @@
 #![tactic(auto)]
 
 mod catches;
-mod choices;
-mod flat;
-mod heads;
-mod leaves;
 mod loops;
-mod memory;
-mod outcome;
 mod pass;
-mod places;
-mod plan;
-mod rows;
-mod selections;
-mod shapes;
 mod solution;
 mod tables;
 
-pub use plan::Plan;
+pub use lra_outcomes::Plan;
 pub use solution::{Solution, analyse};

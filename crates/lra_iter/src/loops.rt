@@ -9,19 +9,19 @@ ghost use Rattle.lra_program.specs.ProgramViews.{cond_view};
 ghost use Rattle.lra_operations.specs.GraphViews.{node_view};
 ghost use Rattle.lra_flow.specs.Operations.{dropping};
 ghost use Rattle.lra_flow.specs.Pass.{noted};
-ghost use Rattle.lra_iter.specs.Outcome.{ended, headed, seen, AreKept, IsEntered, IsKept, LeavesWith};
-ghost use Rattle.lra_iter.specs.Memory.{MayRecall};
-ghost use Rattle.lra_iter.specs.Open.{Due, IsMade, Leads, MayBePassed, IsGrowing, IsHead};
-ghost use Rattle.lra_iter.specs.Open.{IsLoopDue, IsNarrowed, IsNarrowing, IsWaiting};
-ghost use Rattle.lra_iter.specs.Steps.{next_left, most_rounds, rounds_left, tree_steps, turns_left};
+ghost use Rattle.lra_outcomes.specs.Outcome.{ended, headed, seen, AreKept, IsEntered, IsKept, LeavesWith};
+ghost use Rattle.lra_outcomes.specs.Memory.{MayRecall};
+ghost use Rattle.lra_places.specs.Open.{Due, IsMade, Leads, MayBePassed, IsGrowing, IsHead};
+ghost use Rattle.lra_places.specs.Open.{IsLoopDue, IsNarrowed, IsNarrowing, IsWaiting};
+ghost use Rattle.lra_places.specs.StepsLeft.{next_left, most_rounds, rounds_left, tree_steps, turns_left};
 
-use crate::heads::{Growing, grow_by, start};
-use crate::memory::Memory;
-use crate::outcome::{Entered, Entry, Found, HeadTurn, Outcome, Turn, enter_with, note};
-use crate::places::{Entering, GrowingPlace, Narrowing, NarrowingPlace, Next};
-use crate::shapes::Loop;
 use lra_change::leave;
 use lra_domain::{Domain, Exactness};
+use lra_outcomes::{
+    Entered, Entry, Found, Growing, HeadTurn, Loop, Memory, Outcome, Turn, enter_with, grow_by,
+    note, start,
+};
+use lra_places::{Entering, GrowingPlace, Narrowing, NarrowingPlace, Next};
 use std::alloc::{AllocError, Global};
 
 /// The first value joined with what a round left, and the first flagged point so far.

@@ -4,40 +4,23 @@ ghost use Rattle.std.specs.Prelude.{◌≡◌, ◌≤◌, ◌<◌, ◌^◌, ◌+
 ghost use Rattle.lra_flow.specs.Room.{most_live};
 ghost use Rattle.lra_flow.specs.Plan.{Plan};
 ghost use Rattle.lra_operations.specs.GraphViews.{node_view};
-ghost use Rattle.lra_iter.specs.Fits.{TreeFits};
-ghost use Rattle.lra_iter.specs.Outcome.{seen, IsPassed};
-ghost use Rattle.lra_iter.specs.Memory.{Remembers, StaysKept};
-ghost use Rattle.lra_iter.specs.declared.places.Step.TheVariants.{Goes};
-ghost use Rattle.lra_iter.specs.Open.{Due, due, AreUnderWay, IsMade, IsOpen, Leads, MayBePassed, Reaches};
-ghost use Rattle.lra_iter.specs.Steps.{all_left, next_left, place_left, tree_steps, TakesFewer};
+ghost use Rattle.lra_outcomes.specs.Fits.{TreeFits};
+ghost use Rattle.lra_outcomes.specs.Outcome.{seen, IsPassed};
+ghost use Rattle.lra_outcomes.specs.Memory.{Remembers, StaysKept};
+ghost use Rattle.lra_places.specs.declared.places.Step.TheVariants.{Goes};
+ghost use Rattle.lra_places.specs.Open.{Due, due, AreUnderWay, IsMade, IsOpen, Leads, MayBePassed, Reaches};
+ghost use Rattle.lra_places.specs.StepsLeft.{all_left, next_left, place_left, tree_steps, TakesFewer};
 
 use crate::catches::catch_jumps;
-use crate::choices::{go_on_choice, meet_again, open_choice};
-use crate::leaves::pass_leaf;
 use crate::loops::{go_on_growing, go_on_narrowing, open_loop};
-use crate::memory::Memory;
-use crate::outcome::Outcome;
-use crate::places::{Entering, Next, Place, Places, Step};
-use crate::plan::Plan;
-use crate::rows::{go_on_row, open_row};
-use crate::selections::{go_on_selection, open_selection};
-use crate::shapes::Shape;
 use lra_domain::Domain;
 use lra_operations::Node;
+use lra_outcomes::{Memory, Outcome, Plan, Shape, pass_leaf};
+use lra_places::{
+    Entering, Next, Place, Places, Step, go_on_choice, go_on_row, go_on_selection, meet_again,
+    open_choice, open_row, open_selection, passed,
+};
 use std::alloc::{AllocError, Global};
-
-/// The tree is passed, with what its pass gave.
-fn passed<'a, D: Domain>(
-    given: Result<Outcome<D>, AllocError>,
-) -> Result<Next<'a, D, D::Head>, AllocError>
-    ensures leads { (set : Plan) (whole : Due D) (memory : Memory D) →
-        IfOk given (λ r. IsMade D.meaning set whole (seen r) memory) →
-        IfOk result (λ next. Leads D.meaning set whole next memory) }
-    ensures ends { (b : ℕ) (set : Plan) → IfOk result (λ next. next_left D.meaning b set next ≡ 0) }
-{
-    let outcome = given?;
-    Ok(Next::Passed(outcome))
-}
 
 /// The first step into a tree: a tree with none in it is passed, and of any other a place opens.
 fn open_tree<'a, D: Domain>(

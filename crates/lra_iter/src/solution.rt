@@ -12,22 +12,20 @@ ghost use Rattle.lra_flow.specs.Analysis.{Solves};
 ghost use Rattle.lra_flow.specs.MovesOf.{first_values};
 ghost use Rattle.lra_flow.specs.Pass.{noted};
 ghost use Rattle.lra_change.specs.Changes.{Does};
-ghost use Rattle.lra_iter.specs.Fits.{TreeFits};
+ghost use Rattle.lra_outcomes.specs.Fits.{TreeFits};
 ghost use Rattle.lra_iter.specs.Lives.{PointsHave, AreWide};
-ghost use Rattle.lra_iter.specs.Outcome.{seen};
+ghost use Rattle.lra_outcomes.specs.Outcome.{seen};
 ghost use Rattle.lra_iter.specs.Numbers.{IsNumbered};
 ghost use Rattle.lra_iter.specs.Counts.{AreCounted};
 ghost use Rattle.lra_iter.specs.Solved.{IsSolved};
 ghost use Rattle.lra_iter.specs.Sound.{HoldsInTree};
 
-use crate::memory::Memory;
-use crate::outcome::{Outcome, note};
 use crate::pass::pass;
-use crate::plan::Plan;
 use crate::tables::{number_held, tables_of, take_held};
 use lra_change::append_globals;
 use lra_domain::Domain;
 use lra_operations::{Graph, Site};
+use lra_outcomes::{Memory, Outcome, Plan, note};
 use lra_program::GlobalVariable;
 use std::alloc::{AllocError, Global};
 

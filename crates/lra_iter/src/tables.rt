@@ -2,12 +2,12 @@
 
 ghost use Rattle.std.specs.Prelude.{◌≡◌, ◌<◌, length, map, replicate, flat_map, slice_set, None, Some, IfOk};
 ghost use Rattle.std.specs.Option.{option_to_list};
-ghost use Rattle.lra_iter.specs.Outcome.{entry_view};
+ghost use Rattle.lra_outcomes.specs.Outcome.{entry_view};
 ghost use Rattle.lra_iter.specs.Counts.{AreApart};
 ghost use Rattle.lra_iter.specs.Tables.{AreTabled, filled_from};
 
-use crate::outcome::Entry;
 use lra_domain::Domain;
+use lra_outcomes::Entry;
 use std::alloc::{AllocError, Global};
 
 /// At the numbers of the points the values, and whether an assertion is proved.

@@ -29,7 +29,7 @@ use Rattle.lra_graph.proofs.Lengths.{grows_all}
 use Rattle.lra_flow.specs.Live.{dims_behind, live_after}
 use Rattle.lra_change.specs.Changes.{PlaceFits, OpFits}
 use Rattle.lra_program.proofs.GivenArguments.{given_width}
-use Rattle.lra_iter.specs.Fits.{ArmsFit, ArmsJumpWith, JumpsWith, TreeFits}
+use Rattle.lra_outcomes.specs.Fits.{ArmsFit, ArmsJumpWith, JumpsWith, TreeFits}
 use Rattle.lra_flow.specs.Room.{most_live}
 
 -- how many live where a jump leads

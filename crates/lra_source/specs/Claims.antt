@@ -13,7 +13,7 @@ use Rattle.lra_program.specs.WellFormed.{IsWellFormed}
 use Rattle.lra_tree.specs.Grammar.{Spells}
 use Rattle.lra_meaning.specs.Refuse.{Accepts}
 use Rattle.lra_report.specs.Listing.{Lists, IsReportOf}
-use Rattle.lra_iter.specs.Fits.{TreeFits}
+use Rattle.lra_outcomes.specs.Fits.{TreeFits}
 use Rattle.lra_iter.specs.Numbers.{AreBelow, IsNumbered}
 use Rattle.lra_domain.specs.Meaning.{Meaning}
 use Rattle.lra_front.specs.Claims.{AreFew}

@@ -10,7 +10,7 @@ use Rattle.lra_operations.specs.GraphViews.{site_view}
 use Rattle.lra_operations.specs.Asked.{Asked, asked_in}
 use Rattle.lra_program.specs.Sites.{Site}
 use Rattle.lra_flow.specs.Room.{most_live}
-use Rattle.lra_iter.specs.Fits.{TreeFits}
+use Rattle.lra_outcomes.specs.Fits.{TreeFits}
 use Rattle.lra_iter.specs.Lives.{PointsHave, AreWide}
 use Rattle.lra_iter.specs.Numbers.{one_if, values_in, checks_in, asserts_of, IsNumbered}
 use Rattle.lra_iter.proofs.Counting.{one_other}

@@ -5,7 +5,7 @@ ghost use Rattle.std.specs.Prelude.{◌≡◌, map, IfOk};
 ghost use Rattle.lra_operations.specs.Graph as graph;
 ghost use Rattle.lra_program.specs.ProgramViews.{cond_view};
 ghost use Rattle.lra_operations.specs.GraphViews.{op_view, node_view, site_view};
-ghost use Rattle.lra_iter.specs.Fits.{TreeFits};
+ghost use Rattle.lra_outcomes.specs.Fits.{TreeFits};
 ghost use Rattle.lra_iter.specs.Numbers.{IsNumbered};
 ghost use Rattle.lra_walks.specs.Sample.{sample_asserts};
 

@@ -3,7 +3,7 @@ use Rattle.std.proofs.Common.{ap, ◌∙◌}
 use Rattle.lra_operations.specs.Graph.{continued}
 use Rattle.lra_flow.specs.Operations.{dropping}
 use Rattle.lra_flow.specs.Pass.{AreJoined, behind}
-use Rattle.lra_iter.specs.Outcome.{seen}
+use Rattle.lra_outcomes.specs.Outcome.{seen}
 use Rattle.lra_iter.proofs.catches.catch_continues.Goals as goal
 
 pub returns-clause-caught : goal.returns-clause-caught

@@ -3,7 +3,7 @@ use Rattle.std.proofs.Common.{rules, ◌≡◌, ◌++◌, ◌∷◌, [], ap, ◌
 use Rattle.lra_operations.specs.Graph.{returned}
 use Rattle.lra_flow.specs.Operations.{dropping}
 use Rattle.lra_flow.specs.Pass.{behind}
-use Rattle.lra_iter.specs.Outcome.{seen, AllHave}
+use Rattle.lra_outcomes.specs.Outcome.{seen, AllHave}
 use Rattle.lra_iter.proofs.PassLoops.{returns_have, returns_joined}
 use Rattle.lra_iter.proofs.catches.catch_returns.Goals as goal
 

@@ -1,7 +1,7 @@
 -- Goals of `finish`: the loop is left with the value at its head and its last round, and may be kept.
 use Rattle.lra_program.specs.ProgramViews.{cond_view}
-use Rattle.lra_iter.specs.Outcome.{seen}
-use Rattle.lra_iter.proofs.KeptLoops.{recall_later, left_later}
+use Rattle.lra_outcomes.specs.Outcome.{seen}
+use Rattle.lra_outcomes.proofs.KeptLoops.{recall_later, left_later}
 use Rattle.lra_iter.proofs.loops.finish.Goals as goal
 
 pub returns-clause-keeps : goal.returns-clause-keeps

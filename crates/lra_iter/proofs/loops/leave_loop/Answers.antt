@@ -5,7 +5,7 @@ use Rattle.lra_program.specs.ProgramViews.{cond_view}
 use Rattle.lra_flow.specs.MovesOf.{guard}
 use Rattle.lra_flow.specs.Operations.{dropping}
 use Rattle.lra_flow.proofs.Takes.{takes_made}
-use Rattle.lra_iter.specs.Outcome.{headed, seen}
+use Rattle.lra_outcomes.specs.Outcome.{headed, seen}
 use Rattle.lra_iter.proofs.loops.leave_loop.Goals as goal
 
 pub returns-clause-left : goal.returns-clause-left

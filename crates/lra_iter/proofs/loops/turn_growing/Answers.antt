@@ -2,10 +2,10 @@
 use Rattle.std.proofs.Common.{refl, subst}
 use Rattle.lra_program.specs.ProgramViews.{cond_view}
 use Rattle.lra_operations.specs.GraphViews.{node_view}
-use Rattle.lra_iter.specs.declared.heads.Growing.{Growing}
-use Rattle.lra_iter.specs.declared.places.GrowingPlace.{GrowingPlace}
-use Rattle.lra_iter.specs.declared.shapes.Loop.{Loop}
-use Rattle.lra_iter.specs.Outcome.{IsEntered}
+use Rattle.lra_outcomes.specs.declared.heads.Growing.{Growing}
+use Rattle.lra_places.specs.declared.places.GrowingPlace.{GrowingPlace}
+use Rattle.lra_outcomes.specs.declared.shapes.Loop.{Loop}
+use Rattle.lra_outcomes.specs.Outcome.{IsEntered}
 use Rattle.lra_iter.proofs.LoopPlaces.{growing_few, growing_kept, growing_again, growing_opens}
 use Rattle.lra_iter.proofs.BoxedPlaces.{growing_again_less, growing_leads, growing_less, growing_made}
 use Rattle.lra_iter.proofs.loops.turn_growing.Goals as goal

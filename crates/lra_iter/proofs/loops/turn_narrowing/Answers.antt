@@ -2,7 +2,7 @@
 use Rattle.std.proofs.Common.{refl, subst}
 use Rattle.lra_program.specs.ProgramViews.{cond_view}
 use Rattle.lra_operations.specs.GraphViews.{node_view}
-use Rattle.lra_iter.specs.Outcome.{IsEntered}
+use Rattle.lra_outcomes.specs.Outcome.{IsEntered}
 use Rattle.lra_iter.proofs.LoopPlaces.{waiting_few, waiting_kept, narrowing_again, narrowing_opens}
 use Rattle.lra_iter.proofs.BoxedPlaces.{narrowing_again_less, narrowing_leads, narrowing_less, narrowing_made}
 use Rattle.lra_iter.proofs.loops.turn_narrowing.Goals as goal

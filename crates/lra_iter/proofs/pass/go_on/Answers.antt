@@ -3,14 +3,14 @@ use Rattle.std.proofs.Common.{◌≡◌, ◌+◌, ◌<◌, ◌^◌, sym, subst, 
 use Rattle.std.specs.Prelude.{IfOk}
 use Rattle.std.proofs.lemmas.Result.{IfOk-weaker}
 use Rattle.lra_operations.specs.GraphViews.{exit_view}
-use Rattle.lra_iter.specs.declared.places.GrowingPlace.{GrowingPlace}
-use Rattle.lra_iter.specs.declared.places.NarrowingPlace.{NarrowingPlace}
-use Rattle.lra_iter.specs.Open.{IsBranch, IsGrowing, IsMade, IsNarrowing, IsOpen, IsSelect}
-use Rattle.lra_iter.specs.Outcome.{seen, AreInTurn, AreMet, Catches}
-use Rattle.lra_iter.specs.Steps.{next_left, place_left, rounds_left, turns_left}
-use Rattle.lra_iter.proofs.OpenPlaces.{branches_made, branches_meet, catch_made, jumps_have, last_made}
-use Rattle.lra_iter.proofs.PassSteps.{if_both}
-use Rattle.lra_iter.proofs.SelectSteps.{place_falls}
+use Rattle.lra_places.specs.declared.places.GrowingPlace.{GrowingPlace}
+use Rattle.lra_places.specs.declared.places.NarrowingPlace.{NarrowingPlace}
+use Rattle.lra_places.specs.Open.{IsBranch, IsGrowing, IsMade, IsNarrowing, IsOpen, IsSelect}
+use Rattle.lra_outcomes.specs.Outcome.{seen, AreInTurn, AreMet, Catches}
+use Rattle.lra_places.specs.StepsLeft.{next_left, place_left, rounds_left, turns_left}
+use Rattle.lra_places.proofs.OpenPlaces.{branches_made, branches_meet, catch_made, jumps_have, last_made}
+use Rattle.lra_outcomes.proofs.PassSteps.{if_both}
+use Rattle.lra_places.proofs.SelectSteps.{place_falls}
 use Rattle.lra_iter.proofs.TurnSteps.{ends_less}
 use Rattle.lra_iter.proofs.pass.go_on.Goals as goal
 

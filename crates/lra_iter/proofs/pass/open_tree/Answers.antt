@@ -2,17 +2,17 @@
 use Rattle.std.proofs.Common.{◌<◌, ◌≤◌, ◌^◌, refl, sym, subst, arith}
 use Rattle.std.specs.Prelude.{IfOk}
 use Rattle.lra_flow.specs.Plan.{Plan}
-use Rattle.lra_iter.specs.declared.shapes.Shape.{Shape}
-use Rattle.lra_iter.specs.declared.shapes.Shape.TheVariants.{Leaf, Row, Choice, Loop, Catch, Select}
-use Rattle.lra_iter.specs.Fits.{TreeFits}
+use Rattle.lra_outcomes.specs.declared.shapes.Shape.{Shape}
+use Rattle.lra_outcomes.specs.declared.shapes.Shape.TheVariants.{Leaf, Row, Choice, Loop, Catch, Select}
+use Rattle.lra_outcomes.specs.Fits.{TreeFits}
 use Rattle.std.proofs.lemmas.Result.{IfOk-weaker}
-use Rattle.lra_iter.specs.Open.{due, IsMade, MayBePassed}
-use Rattle.lra_iter.specs.Outcome.{seen, IsPassed}
-use Rattle.lra_iter.specs.Shapes.{leaf_view, IsShape}
-use Rattle.lra_iter.specs.Steps.{most_rounds, next_left, tree_steps}
-use Rattle.lra_iter.proofs.OpenPlaces.{catch_leads, leaf_made}
-use Rattle.lra_iter.proofs.RowLeaves.{row_less}
-use Rattle.lra_iter.proofs.SelectSteps.{arms_less}
+use Rattle.lra_places.specs.Open.{due, IsMade, MayBePassed}
+use Rattle.lra_outcomes.specs.Outcome.{seen, IsPassed}
+use Rattle.lra_outcomes.specs.Shapes.{leaf_view, IsShape}
+use Rattle.lra_places.specs.StepsLeft.{most_rounds, next_left, tree_steps}
+use Rattle.lra_places.proofs.OpenPlaces.{catch_leads, leaf_made}
+use Rattle.lra_places.proofs.RowLeaves.{row_less}
+use Rattle.lra_places.proofs.SelectSteps.{arms_less}
 use Rattle.lra_iter.proofs.TurnSteps.{choice_less, ends_less}
 use Rattle.lra_iter.proofs.pass.open_tree.Goals as goal
 

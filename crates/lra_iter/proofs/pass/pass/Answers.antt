@@ -1,9 +1,9 @@
 -- Goals of `pass`: the pass over a tree, step by step.
 use Rattle.std.proofs.Common.{◌^◌, subst}
 use Rattle.lra_operations.specs.GraphViews.{node_view}
-use Rattle.lra_iter.specs.Open.{Due, Reaches}
-use Rattle.lra_iter.specs.Steps.{all_left, TakesFewer}
-use Rattle.lra_iter.proofs.OpenPlaces.{begins}
+use Rattle.lra_places.specs.Open.{Due, Reaches}
+use Rattle.lra_places.specs.StepsLeft.{all_left, TakesFewer}
+use Rattle.lra_places.proofs.OpenPlaces.{begins}
 use Rattle.lra_iter.proofs.pass.pass.Goals as goal
 
 pub open_tree-requires : goal.open_tree-requires

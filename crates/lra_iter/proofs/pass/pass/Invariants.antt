@@ -1,7 +1,7 @@
 use Rattle.std.proofs.Common.{◌^◌}
 use Rattle.lra_operations.specs.GraphViews.{node_view}
-use Rattle.lra_iter.specs.Open.{AreUnderWay}
-use Rattle.lra_iter.specs.Steps.{all_left}
+use Rattle.lra_places.specs.Open.{AreUnderWay}
+use Rattle.lra_places.specs.StepsLeft.{all_left}
 use Rattle.lra_iter.proofs.pass.pass.Given as goal
 
 abbrev pub invariant-steps : goal.invariant-steps

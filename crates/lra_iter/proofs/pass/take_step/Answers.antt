@@ -1,9 +1,9 @@
 -- Goals of `take_step`: one step of a pass.
 use Rattle.std.proofs.Common.{◌≡◌, ◌<◌, ◌^◌, ◌++◌, ◌∷◌, [], subst, sym}
-use Rattle.lra_iter.specs.declared.places.Next.TheVariants.{Again, Opens}
-use Rattle.lra_iter.specs.Open.{due, IsOpen, Leads, Reaches}
-use Rattle.lra_iter.specs.Steps.{all_left, next_left, place_left, tree_steps, TakesFewer}
-use Rattle.lra_iter.proofs.OpenPlaces.{all_made, leads_on, popped, pushed, steps_both, steps_on, went_on}
+use Rattle.lra_places.specs.declared.places.Next.TheVariants.{Again, Opens}
+use Rattle.lra_places.specs.Open.{due, IsOpen, Leads, Reaches}
+use Rattle.lra_places.specs.StepsLeft.{all_left, next_left, place_left, tree_steps, TakesFewer}
+use Rattle.lra_places.proofs.OpenPlaces.{all_made, leads_on, popped, pushed, steps_both, steps_on, went_on}
 use Rattle.lra_iter.proofs.TurnSteps.{again_less, popped_less, pushed_less}
 use Rattle.lra_iter.proofs.pass.take_step.Goals as goal
 

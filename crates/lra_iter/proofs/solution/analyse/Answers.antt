@@ -5,8 +5,8 @@ use Rattle.std.specs.List.{All}
 use Rattle.std.proofs.lemmas.List.Elements.{All-nil}
 use Rattle.lra_operations.specs.GraphViews.{node_view, site_view}
 use Rattle.lra_flow.specs.Operations.{dropping}
-use Rattle.lra_iter.specs.Outcome.{seen}
-use Rattle.lra_iter.specs.Memory.{IsRecalled}
+use Rattle.lra_outcomes.specs.Outcome.{seen}
+use Rattle.lra_outcomes.specs.Memory.{IsRecalled}
 use Rattle.lra_iter.proofs.LoopNumbers.{numbered_loops}
 use Rattle.lra_iter.proofs.Counting.{pass_counted}
 use Rattle.lra_iter.proofs.Solving.{solved, derived_from}

@@ -2,8 +2,8 @@
 use Rattle.std.proofs.Common.{◌<◌, arith, ◌∙◌, List, map, subst}
 use Rattle.lra_iter.proofs.Filling.{vec_all, vec_next, value_place, failing_place, value_filled, failing_filled}
 use Rattle.lra_iter.proofs.Tabled.{none_tabled}
-use Rattle.lra_iter.specs.declared.outcome.Entry.{Entry}
-use Rattle.lra_iter.specs.Outcome.{entry_view}
+use Rattle.lra_outcomes.specs.declared.outcome.Entry.{Entry}
+use Rattle.lra_outcomes.specs.Outcome.{entry_view}
 use Rattle.lra_iter.specs.Tables.{AreTabled}
 use Rattle.lra_iter.proofs.tables.tables_of.Goals as goal
 

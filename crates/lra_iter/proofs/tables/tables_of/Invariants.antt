@@ -1,5 +1,5 @@
 use Rattle.std.proofs.Common.{map}
-use Rattle.lra_iter.specs.Outcome.{entry_view}
+use Rattle.lra_outcomes.specs.Outcome.{entry_view}
 use Rattle.lra_iter.specs.Tables.{AreTabled}
 use Rattle.lra_iter.proofs.tables.tables_of.Given as goal
 

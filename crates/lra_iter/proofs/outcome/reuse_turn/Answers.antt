@@ -1,9 +1,0 @@
--- Goals of `reuse_turn`: the kept turn of a loop's body, where the same value enters it again.
-use Rattle.std.proofs.Common.{rules, ◌≡◌}
-use Rattle.lra_iter.proofs.Again.{same_given}
-use Rattle.lra_iter.proofs.outcome.reuse_turn.Goals as goal
-
-pub returns : goal.returns
-returns g c plan body kept =
-    let same : c.in-Some.turn.entered ≡ c.args.on.now = search rules in
-    same_given g.D.Domain.meaning plan body c.args.flag c.args.on.now c.args.kept c.in-Some.turn c.in-Some.is same kept

@@ -1,0 +1,9 @@
+pub mod PassSteps
+pub mod PassRows
+pub mod Again
+pub mod KeptLoops
+mod Joining
+mod Copying
+mod LeafSteps
+mod FlatRows
+mod GivenLoops

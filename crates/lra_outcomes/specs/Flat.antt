@@ -1,0 +1,42 @@
+-- Trees that are passed where they stand: what they are, and what was found before them with what their pass finds.
+use Rattle.std.specs.Prelude.{◌≡◌, ℕ, List, [], ◌∷◌, map, Option, ⊤}
+use Rattle.lra_domain.specs.Meaning.{Meaning}
+use Rattle.lra_operations.specs.declared.graph.Node.{Node}
+use Rattle.lra_operations.specs.GraphViews.{node_view, row}
+use Rattle.lra_operations.specs.Graph as graph
+use Rattle.lra_flow.specs.Plan.{Plan}
+use Rattle.lra_flow.specs.Pass.{Result, in_turn}
+use Rattle.lra_outcomes.specs.declared.flat.Flat as flat
+use Rattle.lra_outcomes.specs.declared.flat.Flat.TheVariants.{Leaf, Row}
+use Rattle.lra_outcomes.specs.declared.outcome.Outcome.{Outcome}
+use Rattle.lra_outcomes.specs.declared.shapes.Row as shape
+use Rattle.lra_outcomes.specs.Outcome.{ended, seen, IsPassed}
+use Rattle.lra_outcomes.specs.Shapes.{leaf_view}
+use Rattle.lra_outcomes.specs.Steps.{node_steps}
+
+-- no tree stands in it: its pass is one step
+abbrev pub IsLeaf : Node → Type 0
+IsLeaf g = (n : ℕ) → node_steps n g ≡ 1
+
+abbrev pub AllLeaves : List Node → Type 0
+AllLeaves [] = ⊤
+AllLeaves (g ∷ gs) = IsLeaf g × AllLeaves gs
+
+-- in a row
+abbrev pub HasLeaves : shape.Row → Type 0
+HasLeaves r = AllLeaves r.trees.now × IsLeaf r.last.now
+
+-- in a flat tree: one row at most lies over them
+abbrev pub AreLeaves : flat.Flat → Type 0
+AreLeaves (Leaf x) = ⊤
+AreLeaves (Row r) = HasLeaves r
+
+abbrev pub flat_view : flat.Flat → graph.Node
+flat_view (Leaf x) = leaf_view x
+flat_view (Row r) = row (map node_view r.trees.now) (node_view r.last.now)
+
+-- what was found so far, and then by a pass of this tree
+abbrev pub Follows : {V H : Type 0} → Meaning V H → Plan → graph.Node → Outcome V → Outcome V → Type 0
+Follows {V} m set g so_far r = (t : Result V) × IsPassed m set g so_far.flag so_far.normal t ×
+    ((v : V) (f : Option ℕ) → ended r.found v f ≡ in_turn (seen so_far) t v f) × (r.normal ≡ t.normal) ×
+    (r.flag ≡ t.flag)

@@ -1,0 +1,133 @@
+//! The pass over trees with no tree in them.
+
+ghost use Rattle.std.specs.Prelude.{◌≡◌, ◌≤◌, IfOk, OnOk};
+ghost use Rattle.lra_operations.specs.Graph.{act, check, leave, point as point_node};
+ghost use Rattle.lra_program.specs.ProgramViews.{cond_view};
+ghost use Rattle.lra_operations.specs.GraphViews.{exit_view, op_view};
+ghost use Rattle.lra_flow.specs.Room.{most_live};
+ghost use Rattle.lra_flow.specs.Plan.{Plan};
+ghost use Rattle.lra_change.specs.Changes.{OpFits};
+ghost use Rattle.lra_outcomes.specs.Fits.{TreeFits};
+ghost use Rattle.lra_outcomes.specs.Flat.{Follows};
+ghost use Rattle.lra_outcomes.specs.Outcome.{seen, IsPassed};
+ghost use Rattle.lra_outcomes.specs.Shapes.{leaf_view};
+
+use crate::outcome::{Entry, Outcome, note};
+use crate::plan::Plan;
+use crate::shapes::Leaf;
+use lra_change::{Kept, change, split};
+use lra_domain::{Domain, Exactness};
+use lra_operations::{Exit, Op};
+use lra_program::Cond;
+use std::alloc::{AllocError, Global};
+
+/// A point: its value is found.
+fn pass_point<D: Domain>(
+    alloc: Global,
+    point: usize,
+    so_far: &mut Outcome<D>,
+) -> Result<(), AllocError>
+    ensures { (plan : Plan) → OnOk result (Follows D.meaning plan (point_node point) so_far.old so_far.new) }
+{
+    let value = so_far.normal.copy(alloc)?;
+    so_far.found.entries.push(Entry::Value(point, value))?;
+    Ok(())
+}
+
+/// A least change.
+fn pass_act<D: Domain>(
+    alloc: Global,
+    point: usize,
+    op: &Op,
+    so_far: &mut Outcome<D>,
+) -> Result<(), AllocError>
+    requires few { D.meaning.dims so_far.old.normal ≤ most_live }
+    requires fits { OpFits (op_view op.now) (D.meaning.dims so_far.old.normal) }
+    ensures { (plan : Plan) → OnOk result (Follows D.meaning plan (act point (op_view op.now)) so_far.old
+        so_far.new) }
+{
+    let exactness = change(alloc, op, &mut so_far.normal)?;
+    so_far.flag = note(point, exactness, so_far.flag);
+    Ok(())
+}
+
+/// An assertion: where its condition is false, and then where it is true.
+fn pass_check<D: Domain>(
+    alloc: Global,
+    point: usize,
+    base: usize,
+    condition: &Cond,
+    so_far: &mut Outcome<D>,
+) -> Result<(), AllocError>
+    requires { D.meaning.dims so_far.old.normal ≤ most_live }
+    ensures { (plan : Plan) → OnOk result (Follows D.meaning plan
+        (check point base (cond_view condition.now)) so_far.old so_far.new) }
+{
+    let from = Kept {
+        value: so_far.normal.copy(alloc)?,
+        exactness: Exactness::Exact,
+    };
+    let sides = split(alloc, base, condition, from)?;
+    let on = sides.on;
+    let off = sides.off;
+    so_far.found.entries.push(Entry::Failing(point, off.value))?;
+    so_far.normal = on.value;
+    so_far.flag = note(point, on.exactness, note(point, off.exactness, so_far.flag));
+    Ok(())
+}
+
+/// A jump: it takes the value.
+fn pass_leave<D: Domain>(
+    alloc: Global,
+    plan: &Plan,
+    live: usize,
+    exit: Exit,
+    so_far: &mut Outcome<D>,
+) -> Result<(), AllocError>
+    requires parts { 1 ≤ plan.now.parts }
+    requires few { live ≤ most_live }
+    ensures { OnOk result (Follows D.meaning plan.now (leave live (exit_view exit)) so_far.old so_far.new) }
+{
+    let nothing = D::empty(alloc, live, plan.parts())?;
+    so_far.jump(exit, nothing)?;
+    Ok(())
+}
+
+/// What the pass of a tree with no tree in it finds comes behind what was found before it.
+pub fn pass_on<D: Domain>(
+    alloc: Global,
+    plan: &Plan,
+    leaf: &Leaf<'_>,
+    so_far: &mut Outcome<D>,
+) -> Result<(), AllocError>
+    requires parts { 1 ≤ plan.now.parts }
+    requires few { D.meaning.dims so_far.old.normal ≤ most_live }
+    requires fits { TreeFits (leaf_view leaf.now) (D.meaning.dims so_far.old.normal) }
+    ensures { OnOk result (Follows D.meaning plan.now (leaf_view leaf.now) so_far.old so_far.new) }
+{
+    match leaf {
+        Leaf::Empty => Ok(()),
+        Leaf::Point(point) => pass_point(alloc, *point, so_far),
+        Leaf::Act(point, op) => pass_act(alloc, *point, op, so_far),
+        Leaf::Check(point, base, condition) => pass_check(alloc, *point, *base, condition, so_far),
+        Leaf::Leave(live, exit) => pass_leave(alloc, plan, *live, *exit, so_far),
+    }
+}
+
+/// The pass over a tree with no tree in it.
+pub fn pass_leaf<D: Domain>(
+    alloc: Global,
+    plan: &Plan,
+    leaf: &Leaf<'_>,
+    value: D,
+    flag: Option<usize>,
+) -> Result<Outcome<D>, AllocError>
+    requires parts { 1 ≤ plan.now.parts }
+    requires few { D.meaning.dims value ≤ most_live }
+    requires fits { TreeFits (leaf_view leaf.now) (D.meaning.dims value) }
+    ensures { IfOk result (λ r. IsPassed D.meaning plan.now (leaf_view leaf.now) flag value (seen r)) }
+{
+    let mut outcome = Outcome::nothing_yet(alloc, value, flag);
+    pass_on(alloc, plan, leaf, &mut outcome)?;
+    Ok(outcome)
+}

@@ -1,0 +1,21 @@
+//! What a pass over a program's tree of operations gives and keeps: outcomes, turns of loops, heads while they grow. And
+//! the trees that are passed where they stand.
+#![tactic(auto)]
+
+mod flat;
+mod heads;
+mod leaves;
+mod memory;
+mod outcome;
+mod plan;
+mod shapes;
+
+pub use flat::Flat;
+pub use heads::{Growing, grow_by, start};
+pub use leaves::pass_leaf;
+pub use memory::{KeptLoop, Memory};
+pub use outcome::{
+    Entered, Entry, Found, HeadTurn, Outcome, Running, Turn, enter_with, join_all, note,
+};
+pub use plan::Plan;
+pub use shapes::{Catch, Choice, Leaf, Loop, Row, Selection, Shape};

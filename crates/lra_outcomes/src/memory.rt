@@ -1,0 +1,150 @@
+//! What is kept of loops that stand inside others.
+
+ghost use Rattle.std.specs.Prelude.{◌≡◌, ◌<◌, ℕ, [], Option, Some, length, slice_index_or, IfOk, OnOk};
+ghost use Rattle.lra_operations.specs.Graph.{Node};
+ghost use Rattle.lra_flow.specs.Plan.{Plan};
+ghost use Rattle.lra_outcomes.specs.declared.memory.KeptLoop.{KeptLoop};
+ghost use Rattle.lra_outcomes.specs.Outcome.{seen, IsKept};
+ghost use Rattle.lra_outcomes.specs.Memory.{IsRecalled, AreRecalled, MayRecall};
+
+use crate::outcome::Outcome;
+use lra_domain::Domain;
+use std::alloc::{AllocError, Global};
+
+/// A loop's last pass: the number of its point, its first value, and what it gave.
+pub struct KeptLoop<D> {
+    pub point: usize,
+    pub first: D,
+    pub outcome: Outcome<D>,
+}
+
+impl<D: Drop> Drop for KeptLoop<D> {
+    fn drop(self) {
+        let KeptLoop {
+            point: _,
+            first: _,
+            outcome: _,
+        } = self;
+    }
+}
+
+/// The last passes of loops that stand inside one that is under way, and how many are under way.
+pub struct Memory<D> {
+    pub kept: Vec<KeptLoop<D>>,
+    pub depth: usize,
+}
+
+impl<D: Drop> Drop for Memory<D> {
+    fn drop(self) {
+        let Memory { kept: _, depth: _ } = self;
+    }
+}
+
+/// Where the loop of this point is among the kept ones.
+fn find_kept<D: Drop>(kept: &[KeptLoop<D>], point: usize) -> Option<usize>
+    ensures inside { (place : ℕ) → result ≡ Some place → place < length kept.now }
+    ensures point { (place : ℕ) (none : KeptLoop D) → result ≡ Some place →
+        (slice_index_or kept.now place none).point ≡ point }
+{
+    'kept: for (place, one) in kept.iter().enumerate() {
+        if one.point == point {
+            return Some(place);
+        }
+    }
+    None
+}
+
+impl<D: Drop> Memory<D> {
+    /// No loop is under way.
+    pub fn nothing(alloc: Global) -> Memory<D>
+        ensures { result.kept.items ≡ [] }
+    {
+        Memory {
+            kept: Vec::new(alloc),
+            depth: 0,
+        }
+    }
+}
+
+impl<D: Domain> Memory<D> {
+    /// This pass takes the place of the same loop's last one.
+    fn keep(&mut self, one: KeptLoop<D>) -> Result<(), AllocError>
+        ensures { (plan : Plan) (loops : ℕ → Node) (f : Option ℕ) →
+            MayRecall D.meaning plan loops f self.old → IsRecalled D.meaning plan loops f one →
+            OnOk result (MayRecall D.meaning plan loops f self.new) }
+    {
+        match find_kept(&self.kept, one.point) {
+            Some(place) => self.kept[place] = one,
+            None => self.kept.push(one)?,
+        }
+        Ok(())
+    }
+
+    /// What the loop of this point gave, where it began with the same value: passed anew it would give the same, but
+    /// for what is flagged so far.
+    fn recall(
+        &self,
+        alloc: Global,
+        point: usize,
+        first: &D,
+        flag: Option<usize>,
+    ) -> Result<Option<Outcome<D>>, AllocError>
+        ensures { (plan : Plan) (loops : ℕ → Node) → MayRecall D.meaning plan loops flag self.now →
+            IfOk result (λ r. AreRecalled D.meaning plan (loops point) flag first.now r) }
+    {
+        let Some(place) = find_kept(&self.kept, point) else {
+            return Ok(None);
+        };
+        let one = &self.kept[place];
+        if !one.first.same(first) {
+            return Ok(None);
+        }
+        let outcome = one.outcome.copy(alloc, flag)?;
+        Ok(Some(outcome))
+    }
+
+    /// What is kept of this loop, where it began with the same value; else it is under way from now on.
+    pub fn begin(
+        &mut self,
+        alloc: Global,
+        point: usize,
+        first: &D,
+        flag: Option<usize>,
+    ) -> Result<Option<Outcome<D>>, AllocError>
+        ensures given { (plan : Plan) (loops : ℕ → Node) → MayRecall D.meaning plan loops flag self.old →
+            IfOk result (λ r. AreRecalled D.meaning plan (loops point) flag first.now r) }
+        ensures kept { self.new.kept ≡ self.old.kept }
+    {
+        let given = self.recall(alloc, point, first, flag)?;
+        if given.is_none() {
+            self.depth = self.depth.saturating_add(1);
+        }
+        Ok(given)
+    }
+
+    /// The loop of this point is left: what it gave is kept if it stands inside another, and else nothing is.
+    pub fn end(
+        &mut self,
+        alloc: Global,
+        point: usize,
+        first: D,
+        outcome: &Outcome<D>,
+    ) -> Result<(), AllocError>
+        ensures { (plan : Plan) (loops : ℕ → Node) →
+            MayRecall D.meaning plan loops outcome.now.flag self.old →
+            IsKept D.meaning plan (loops point) outcome.now.flag first (seen outcome.now) →
+            OnOk result (MayRecall D.meaning plan loops outcome.now.flag self.new) }
+    {
+        self.depth = self.depth.saturating_sub(1);
+        if self.depth == 0 {
+            self.kept = Vec::new(alloc);
+            return Ok(());
+        }
+        let outcome = outcome.copy(alloc, outcome.flag)?;
+        self.keep(KeptLoop {
+            point,
+            first,
+            outcome,
+        })
+    }
+}

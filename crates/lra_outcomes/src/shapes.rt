@@ -1,0 +1,123 @@
+//! Trees of operations by what stands in them.
+
+ghost use Rattle.lra_flow.specs.Plan.{Plan};
+ghost use Rattle.lra_outcomes.specs.Shapes.{IsShape};
+
+use crate::plan::Plan;
+use lra_operations::{Arm, Exit, Node, Op};
+use lra_program::{Cond, Expr};
+
+/// A tree with no tree in it.
+#[derive(Clone, Copy)]
+pub enum Leaf<'a> {
+    Empty,
+    Point(usize),
+    Act(usize, &'a Op),
+    Check(usize, usize, &'a Cond),
+    Leave(usize, Exit),
+}
+
+/// Trees one after the other, and then the last, and how they are passed.
+#[derive(Clone, Copy)]
+pub struct Row<'a> {
+    pub plan: &'a Plan,
+    pub trees: &'a [Node],
+    pub last: &'a Node,
+}
+
+/// A choice, and how it is passed.
+#[derive(Clone, Copy)]
+pub struct Choice<'a> {
+    pub plan: &'a Plan,
+    pub point: usize,
+    pub base: usize,
+    pub condition: &'a Cond,
+    pub yes: &'a Node,
+    pub no: &'a Node,
+}
+
+/// A loop, and how it is passed.
+#[derive(Clone, Copy)]
+pub struct Loop<'a> {
+    pub plan: &'a Plan,
+    pub point: usize,
+    pub base: usize,
+    pub condition: &'a Cond,
+    pub body: &'a Node,
+}
+
+/// A tree whose jumps of this kind come out at this point.
+#[derive(Clone, Copy)]
+pub struct Catch<'a> {
+    pub point: usize,
+    pub exit: Exit,
+    pub body: &'a Node,
+}
+
+/// A `switch`: its value and its arms, and how it is passed.
+#[derive(Clone, Copy)]
+pub struct Selection<'a> {
+    pub plan: &'a Plan,
+    pub point: usize,
+    pub base: usize,
+    pub value: &'a Expr,
+    pub arms: &'a [Arm],
+}
+
+/// A tree by the trees in it.
+#[derive(Clone, Copy)]
+pub enum Shape<'a> {
+    Leaf(Leaf<'a>),
+    Row(Row<'a>),
+    Choice(Choice<'a>),
+    Loop(Loop<'a>),
+    Catch(Catch<'a>),
+    Select(Selection<'a>),
+}
+
+impl<'a> Shape<'a> {
+    /// The shape of the tree, which is passed by this plan.
+    pub fn of(plan: &'a Plan, node: &'a Node) -> Shape<'a>
+        ensures { IsShape plan.now node.now result }
+    {
+        match node {
+            Node::Empty => Shape::Leaf(Leaf::Empty),
+            Node::Point(point) => Shape::Leaf(Leaf::Point(*point)),
+            Node::Act(point, op) => Shape::Leaf(Leaf::Act(*point, op)),
+            Node::Check(point, base, test) => Shape::Leaf(Leaf::Check(*point, *base, test)),
+            Node::Seq(trees, last) => Shape::Row(Row {
+                plan,
+                trees: trees.as_slice(),
+                last,
+            }),
+            Node::Choose(point, base, condition, yes, no) => Shape::Choice(Choice {
+                plan,
+                point: *point,
+                base: *base,
+                condition,
+                yes,
+                no,
+            }),
+            Node::Iterate(point, base, condition, body) => Shape::Loop(Loop {
+                plan,
+                point: *point,
+                base: *base,
+                condition,
+                body,
+            }),
+            Node::Catch(point, exit, body) => Shape::Catch(Catch {
+                point: *point,
+                exit: *exit,
+                body,
+            }),
+            Node::Leave(live, exit) => Shape::Leaf(Leaf::Leave(*live, *exit)),
+            Node::Select(point, base, value, arms) => Shape::Select(Selection {
+                plan,
+                point: *point,
+                base: *base,
+                value,
+                arms: arms.as_slice(),
+            }),
+        }
+    }
+}

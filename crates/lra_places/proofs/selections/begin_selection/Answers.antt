@@ -1,0 +1,40 @@
+-- Goals of `begin_selection`: what is seen of the value, and what no label matches.
+use Rattle.std.proofs.Common.{◌≡◌, ◌∙◌, ap, arith, map, refl}
+use Rattle.lra_operations.specs.GraphViews.{arm_view, arms_of}
+use Rattle.lra_program.specs.ProgramViews.{expr_view}
+use Rattle.lra_flow.specs.Seen.{seen_of}
+use Rattle.lra_places.specs.declared.places.Selecting.{Selecting}
+use Rattle.lra_places.proofs.SelectPlaces.{begun_selecting, seen_wide, selection_begins}
+use Rattle.lra_places.proofs.selections.begin_selection.Goals as goal
+
+pub see-requires : goal.see-requires
+see-requires g c =
+    let few = c.requires in
+    let same = c.dims.ensures in
+    omega (arith, few, same)
+
+pub match_none-requires-clause-width : goal.match_none-requires-clause-width
+match_none-requires-clause-width g c =
+    seen_wide g.D.Domain.meaning c.args.selection.plan.now c.in_ok-seen.seen c.args.value c.args.value c.dims.result c.args.selection.base
+    (expr_view c.args.selection.value.now) c.in_ok-seen.ensures c.dims.ensures refl
+
+pub returns : goal.returns
+returns g c set whole plan is first flagged may =
+    let m = g.D.Domain.meaning in
+    let base = c.args.selection.base in
+    let e = expr_view c.args.selection.value.now in
+    let none = c.in_ok-none.none in
+    let s : Selecting g.row.D.Denot = record {
+      selection = c.args.selection;
+      seen = c.in_ok-seen.seen;
+      has_default = c.any_default.result;
+      from = c.args.value;
+      other = none.value;
+    } in
+    let begun = c.nothing.ensures in
+    let same : c.in_ok-seen.seen ≡ seen_of (m.dims c.args.value) base e = c.in_ok-seen.ensures ∙ ap (λ n. seen_of n base e) c.dims.ensures in (
+      begun_selecting m set s whole c.args.value c.dims.result plan refl first c.in_ok-seen.ensures c.dims.ensures,
+      selection_begins m set s whole (arms_of (map arm_view c.args.selection.arms.now)) c.args.value c.args.flag none.exactness c.nothing.result is first flagged
+          may (c.in_ok-none.ensures.leaves base e same) c.in_ok-none.ensures.dims c.any_default.ensures begun.found begun.normal
+          (begun.flag ∙ c.note-flagged.ensures),
+    )

@@ -1,0 +1,14 @@
+use Rattle.std.proofs.Common.{ℕ, ◌≤◌, length}
+use Rattle.lra_flow.specs.Plan.{Plan}
+use Rattle.lra_outcomes.specs.Steps.{arms_steps}
+use Rattle.lra_places.proofs.SelectPlaces.{OwesArms}
+use Rattle.lra_places.proofs.selections.next_of_arms.Given as goal
+
+abbrev pub invariant-arms : goal.invariant-arms
+invariant-arms g l = record {
+  owes : (set : Plan) → OwesArms g.D.Domain.meaning set l.selecting l.fn.arms l.left l.fn.so_far l.running;
+  steps : (n : ℕ) → arms_steps n l.left ≤ arms_steps n l.fn.arms;
+}
+
+abbrev pub decreases-arms : goal.decreases-arms
+decreases-arms g l = length l.left

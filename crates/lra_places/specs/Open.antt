@@ -1,0 +1,339 @@
+-- What is owed where a pass is under way along a list of open places: in each of them a tree is under way, and with
+-- that the pass of the place's own tree is to be made.
+use Rattle.std.specs.Prelude.{◌≡◌, ℕ, ◌≤◌, Bool, true, false, List, [], ◌∷◌, map, Option, None, Some, ⊤}
+use Rattle.std.specs.List.{Contains}
+use Rattle.lra_base.specs.declared.case_labels.CaseLabel.{CaseLabel}
+use Rattle.lra_domain.specs.declared.Exactness.{Exactness}
+use Rattle.lra_domain.specs.Meaning.{Meaning, worse}
+use Rattle.lra_domain.specs.Rank.{RankFits}
+use Rattle.lra_program.specs.Program.{Expr, Cond}
+use Rattle.lra_program.specs.ProgramViews.{cond_view, expr_view}
+use Rattle.lra_operations.specs.Graph.{Exit, Node, seq, choose, iterate, catch, Arms, arm}
+use Rattle.lra_operations.specs.GraphViews.{exit_view, node_view, row, arm_view, arms_of}
+use Rattle.lra_flow.specs.Room.{most_live}
+use Rattle.lra_flow.specs.Plan.{Plan}
+use Rattle.lra_flow.specs.Operations.{dropping}
+use Rattle.lra_flow.specs.Seen.{seen_of}
+use Rattle.lra_flow.specs.Pass.{Leaves, Result, noted, in_turn, jumps_of, Pass, Grows, Narrows}
+use Rattle.lra_flow.specs.Pass.{ArmsPass, MatchesNone, Enters, JoinsRunning, ComesOut, RunsFrom}
+use Rattle.lra_change.specs.declared.sides.Kept.{Kept}
+use Rattle.lra_outcomes.specs.declared.heads.Growing.{Growing}
+use Rattle.lra_outcomes.specs.declared.memory.Memory.{Memory}
+use Rattle.lra_outcomes.specs.declared.outcome.Found.{Found}
+use Rattle.lra_outcomes.specs.declared.outcome.HeadTurn.{HeadTurn}
+use Rattle.lra_outcomes.specs.declared.outcome.Outcome.{Outcome}
+use Rattle.lra_outcomes.specs.declared.outcome.Running.{Running}
+use Rattle.lra_outcomes.specs.declared.outcome.Turn.{Turn}
+use Rattle.lra_places.specs.declared.places.BranchPlace.{BranchPlace}
+use Rattle.lra_places.specs.declared.places.ChoicePlace.{ChoicePlace}
+use Rattle.lra_places.specs.declared.places.Entering.{Entering}
+use Rattle.lra_places.specs.declared.places.GrowingPlace.{GrowingPlace}
+use Rattle.lra_places.specs.declared.places.Narrowing.{Narrowing}
+use Rattle.lra_places.specs.declared.places.NarrowingPlace.{NarrowingPlace}
+use Rattle.lra_places.specs.declared.places.Next as next
+use Rattle.lra_places.specs.declared.places.Next.TheVariants.{Passed, Opens, Again}
+use Rattle.lra_places.specs.declared.places.Place as place
+use Rattle.lra_places.specs.declared.places.Place.TheVariants.{Row, Last, Choice, Branch, Growing as GrowingAt}
+use Rattle.lra_places.specs.declared.places.Place.TheVariants.{Narrowing as NarrowingAt, Catch, Select}
+use Rattle.lra_places.specs.declared.places.RowPlace.{RowPlace}
+use Rattle.lra_places.specs.declared.places.SelectPlace.{SelectPlace}
+use Rattle.lra_places.specs.declared.places.Selecting.{Selecting}
+use Rattle.lra_places.specs.declared.places.Step as step
+use Rattle.lra_places.specs.declared.places.Step.TheVariants.{Ended, Goes}
+use Rattle.lra_outcomes.specs.declared.shapes.Loop.{Loop}
+use Rattle.lra_outcomes.specs.Fits.{ArmsFit, ArmsJumpWith, TreeFits}
+use Rattle.lra_outcomes.specs.Heads.{IsValued}
+use Rattle.lra_outcomes.specs.Memory.{ArmsHaveLoops, HasLoops, MayRecall, Remembers, StaysKept}
+use Rattle.lra_outcomes.specs.Outcome.{ended, headed, seen, AreKept, HasGrown, IsKept, IsPassed, IsTurned}
+use Rattle.lra_outcomes.specs.Outcome.{JumpsFit, NarrowsTo}
+
+-- a pass that is due: of this tree, from this value, behind what is flagged so far and with what is kept
+pub record Due (V : Type 0) : Type 0 where
+  pub tree : Node
+  pub value : V
+  pub flag : Option ℕ
+  pub memory : Memory V
+
+abbrev pub due : {V : Type 0} → Entering V → Memory V → Due V
+due e memory = record { tree = node_view e.node.now; value = e.value; flag = e.flag; memory = memory }
+
+-- trees one after the other: what stands behind what was found so far fits, and whatever its pass finds comes behind,
+-- as a pass of the whole
+pub record RowLoop {V H : Type 0} (m : Meaning V H) (set : Plan) (g : Node) (f : Option ℕ) (v : V)
+    (rest : Node) (found : Found V) (behind : V) (so_far : Option ℕ) (old memory : Memory V) : Type 0 where
+  pub few : m.dims behind ≤ most_live
+  pub fits : TreeFits rest (m.dims behind)
+  pub stays : (loops : ℕ → Node) → HasLoops loops g → MayRecall m set loops f old → HasLoops loops rest ×
+      MayRecall m set loops so_far memory
+  pub passes : (t : Result V) → IsPassed m set rest so_far behind t →
+      IsPassed m set g f v (in_turn (ended found behind so_far) t t.normal t.flag)
+
+-- the head grew from the first value: however it grows on, it is a growth of that; the last turn may be given again
+pub record GrowLoop {V H : Type 0} (m : Meaning V H) (set : Plan) (q base : ℕ) (c : Cond) (a : Node)
+    (first : V) (f : Option ℕ) (left : ℕ) (so_far : Option ℕ) (head : H)
+    (turn : Option (Turn V)) (old memory : Memory V) : Type 0 where
+  pub dims : m.head_dims head ≡ m.dims first
+  pub fits : RankFits (m.rank head)
+  pub kept : AreKept m set a so_far turn
+  pub stays : StaysKept m set a f old so_far memory
+  pub grows : (later : List H) (v : V) (r : Result V) →
+      Grows V H (dropping m) q base c (Pass V H (dropping m) set a) set.widening left so_far head later v r →
+      HasGrown m set q base c a first f v r
+
+-- so it did up to this head, whose value is there
+pub record HeadLoop {V H : Type 0} (m : Meaning V H) (set : Plan) (q base : ℕ) (c : Cond) (a : Node)
+    (first : V) (f : Option ℕ) (growing : Growing V H) (turn : Option (Turn V)) (old memory : Memory V) : Type 0 where
+  pub so_far : Option ℕ
+  pub valued : IsValued m q so_far growing.head growing.value growing.flag
+  pub loop : GrowLoop m set q base c a first f growing.left so_far growing.head turn old memory
+
+-- what is narrowed on is a narrowing from the round with which the head was stable; `entered` came into the body last
+pub record NarrowLoop {V H : Type 0} (m : Meaning V H) (set : Plan) (q base : ℕ) (c : Cond) (a : Node)
+    (first start : V) (round : Result V) (left : ℕ) (top entered : V) (last : Result V)
+    (old memory : Memory V) : Type 0 where
+  pub dims : m.dims top ≡ m.dims first
+  pub behind : m.dims last.normal ≡ m.dims first
+  pub jumps : JumpsFit m a (m.dims first) last
+  pub kept : IsKept m set a last.flag entered last
+  pub stays : StaysKept m set a round.flag old last.flag memory
+  pub narrows : (v : V) (r : Result V) → Narrows V H (dropping m) q base c (Pass V H (dropping m) set a) left first top
+      (headed q top last) v r → NarrowsTo m set q base c a first start (headed q start round) v r
+
+-- where something runs in a `switch`, it has so many dimensions
+abbrev pub RunHas : {V H : Type 0} → Meaning V H → ℕ → Option V → Type 0
+RunHas m n None = ⊤
+RunHas m n (Some v) = m.dims v ≡ n
+
+-- each value with which arms are left by a jump has as many dimensions as live there
+abbrev pub ArmJumpsFit : {V H : Type 0} → Meaning V H → Arms → ℕ → Result V → Type 0
+ArmJumpsFit {V} m arms n r = (k : Exit) (u : V) → Contains (jumps_of k r) u → ArmsJumpWith arms n k (m.dims u)
+
+-- the arms of a `switch` at point q: whatever those that are left find, from what runs there, comes behind what was
+-- found so far, as a pass of the whole
+pub record SelectLoop {V H : Type 0} (m : Meaning V H) (set : Plan) (g : Node) (f : Option ℕ) (v : V) (q base : ℕ)
+    (e : Expr) (has_default : Bool) (other : V) (arms : Arms) (found : Found V) (running : Option V)
+    (so_far : Option ℕ) (old memory : Memory V) : Type 0 where
+  pub few : m.dims v ≤ most_live
+  pub other_dims : m.dims other ≡ m.dims v
+  pub running_dims : RunHas m (m.dims v) running
+  pub fits : ArmsFit arms (m.dims v)
+  pub stays : (loops : ℕ → Node) → HasLoops loops g → MayRecall m set loops f old → ArmsHaveLoops loops arms ×
+      MayRecall m set loops so_far memory
+  pub passes : (t : Result V) → ArmsPass V H (dropping m) set q base e has_default v other arms so_far running t →
+      m.dims t.normal ≡ m.dims v → ArmJumpsFit m arms (m.dims v) t →
+      IsPassed m set g f v (in_turn (ended found v so_far) t t.normal t.flag)
+
+-- behind what led to v with this exactness, what is left of it where none of the labels is the expression's value
+abbrev pub NoneSoFar : {V H : Type 0} → Meaning V H → ℕ → Expr → List CaseLabel → V → Exactness → V → Exactness → Type 0
+NoneSoFar m base e labels v before w all = (x : Exactness) × MatchesNone (dropping m) base e labels v x w ×
+    (all ≡ worse before x)
+
+-- what came in at a label joins what ran before
+pub record JoinsAt {V H : Type 0} (m : Meaning V H) (q : ℕ) (entered : Kept V) (old new : Running V) : Type 0 where
+  pub runs : V
+  pub exactness : Exactness
+  pub joins : JoinsRunning (dropping m) old.normal entered.value exactness runs
+  pub normal : new.normal ≡ Some runs
+  pub flag : new.flag ≡ noted q exactness (noted q entered.exactness old.flag)
+  pub found : new.found ≡ old.found
+  pub dims : m.dims runs ≡ m.dims entered.value
+
+-- what comes in at a label from v, joined to what ran there before
+pub record EntersAt {V H : Type 0} (m : Meaning V H) (q base : ℕ) (e : Expr) (l : CaseLabel) (v other : V)
+    (old new : Running V) : Type 0 where
+  pub entered : V
+  pub runs : V
+  pub entered_exactness : Exactness
+  pub joined_exactness : Exactness
+  pub enters : Enters (dropping m) base e l v other entered_exactness entered
+  pub joins : JoinsRunning (dropping m) old.normal entered joined_exactness runs
+  pub normal : new.normal ≡ Some runs
+  pub flag : new.flag ≡ noted q joined_exactness (noted q entered_exactness old.flag)
+  pub found : new.found ≡ old.found
+  pub dims : m.dims runs ≡ m.dims v
+
+-- what comes out behind the last arm
+pub record ComesOutAt {V H : Type 0} (m : Meaning V H) (q : ℕ) (has_default : Bool) (other : V) (old : Running V)
+    (r : Outcome V) : Type 0 where
+  pub exactness : Exactness
+  pub out : ComesOut (dropping m) has_default old.normal other exactness r.normal
+  pub flag : r.flag ≡ noted q exactness old.flag
+  pub found : r.found ≡ old.found
+  pub dims : m.dims r.normal ≡ m.dims other
+
+module _ {V H : Type 0} (m : Meaning V H) (set : Plan) where
+  -- the pass can be made
+  pub record MayBePassed (d : Due V) : Type 0 where
+    pub few : m.dims d.value ≤ most_live
+    pub fits : TreeFits d.tree (m.dims d.value)
+    pub remembers : Remembers m set d.tree d.flag d.memory
+
+  -- it is made, with this result; this is kept then
+  pub record IsMade (d : Due V) (r : Result V) (memory : Memory V) : Type 0 where
+    pub passed : IsPassed m set d.tree d.flag d.value r
+    pub stays : StaysKept m set d.tree d.flag d.memory r.flag memory
+
+  -- a row of trees of which one is under way
+  pub record IsRow (r : RowPlace V) (whole part : Due V) : Type 0 where
+    pub plan : r.behind.plan.now ≡ set
+    pub loop : RowLoop m set whole.tree whole.flag whole.value
+        (seq part.tree (row (map node_view r.behind.trees.now) (node_view r.behind.last.now)))
+        r.found part.value part.flag whole.memory part.memory
+
+  -- a choice whose first branch is under way: what is left for the second
+  pub record IsChoice (k : ChoicePlace V) (whole part : Due V) : Type 0 where
+    pub plan : k.choice.plan.now ≡ set
+    pub is : whole.tree ≡ choose k.choice.point k.choice.base (cond_view k.choice.condition.now) part.tree
+        (node_view k.choice.no.now)
+    pub exactness : Exactness
+    pub on : Leaves (dropping m) k.choice.base (cond_view k.choice.condition.now) true whole.value exactness part.value
+    pub on_dims : m.dims part.value ≡ m.dims whole.value
+    pub flagged : part.flag ≡ noted k.choice.point exactness whole.flag
+    pub off : Leaves (dropping m) k.choice.base (cond_view k.choice.condition.now) false whole.value k.off.exactness
+        k.off.value
+    pub off_dims : m.dims k.off.value ≡ m.dims whole.value
+    pub kept : part.memory ≡ whole.memory
+
+  -- a choice whose second branch is under way: the first one's pass is made
+  pub record IsBranch (b : BranchPlace V) (whole part : Due V) : Type 0 where
+    pub base : ℕ
+    pub condition : Cond
+    pub first : Due V
+    pub is : whole.tree ≡ choose b.point base condition first.tree part.tree
+    pub kept : first.memory ≡ whole.memory
+    pub on_exactness : Exactness
+    pub on : Leaves (dropping m) base condition true whole.value on_exactness first.value
+    pub on_dims : m.dims first.value ≡ m.dims whole.value
+    pub on_flagged : first.flag ≡ noted b.point on_exactness whole.flag
+    pub made : IsMade first (seen b.first) part.memory
+    pub off_exactness : Exactness
+    pub off : Leaves (dropping m) base condition false whole.value off_exactness part.value
+    pub off_dims : m.dims part.value ≡ m.dims whole.value
+    pub off_flagged : part.flag ≡ noted b.point off_exactness b.first.flag
+
+  -- a loop of the whole's tree, from the whole's value; it is under way from `begun` on
+  pub record IsLoop (l : Loop) (whole : Due V) (first : V) (begun : Memory V) : Type 0 where
+    pub plan : l.plan.now ≡ set
+    pub is : whole.tree ≡ iterate l.point l.base (cond_view l.condition.now) (node_view l.body.now)
+    pub first_is : first ≡ whole.value
+    pub kept : begun.kept ≡ whole.memory.kept
+
+  -- a loop that is due
+  pub record IsLoopDue (l : Loop) (whole : Due V) (first : V) (flag : Option ℕ) (memory : Memory V) : Type 0 where
+    pub plan : l.plan.now ≡ set
+    pub is : whole.tree ≡ iterate l.point l.base (cond_view l.condition.now) (node_view l.body.now)
+    pub first_is : whole.value ≡ first
+    pub flagged : whole.flag ≡ flag
+    pub kept : whole.memory ≡ memory
+    pub may : MayBePassed whole
+
+  -- what entered a loop's body, from a value at its head and what was flagged then
+  pub record HasEntered (l : Loop) (top : V) (flag : Option ℕ) (entered : V) (part : Due V) : Type 0 where
+    pub body : part.tree ≡ node_view l.body.now
+    pub exactness : Exactness
+    pub on : Leaves (dropping m) l.base (cond_view l.condition.now) true top exactness part.value
+    pub flagged : part.flag ≡ noted l.point exactness flag
+    pub dims : m.dims part.value ≡ m.dims top
+    pub same : entered ≡ part.value
+
+  -- a head that grows, before a round: the last turn may be given again
+  pub record IsHead (l : Loop) (whole : Due V) (first : V) (growing : Growing V H) (turn : Option (Turn V))
+      (memory : Memory V) : Type 0 where
+    pub begun : Memory V
+    pub loop : IsLoop l whole first begun
+    pub head : HeadLoop m set l.point l.base (cond_view l.condition.now) (node_view l.body.now) whole.value whole.flag
+        growing turn begun memory
+
+  pub record IsGrowing (g : GrowingPlace V H) (whole part : Due V) : Type 0 where
+    pub head : IsHead g.the_loop whole g.first g.growing None part.memory
+    pub entered : HasEntered g.the_loop g.growing.value g.growing.flag g.entered part
+
+  -- a stable head, narrowed so far: so many rounds are left behind this turn
+  pub record IsNarrowed (l : Loop) (whole : Due V) (first : V) (last : HeadTurn V) (left : ℕ) (memory : Memory V)
+      : Type 0 where
+    pub begun : Memory V
+    pub loop : IsLoop l whole first begun
+    pub start : V
+    pub round : Result V
+    pub grown : HasGrown m set l.point l.base (cond_view l.condition.now) (node_view l.body.now) whole.value whole.flag
+        start (headed l.point start round)
+    pub between : Memory V
+    pub grown_stays : StaysKept m set (node_view l.body.now) whole.flag begun round.flag between
+    pub narrowed : NarrowLoop m set l.point l.base (cond_view l.condition.now) (node_view l.body.now) whole.value start
+        round left last.value last.turn.entered (seen last.turn.outcome) between memory
+
+  -- a round of narrowing that is next: with whatever turn it ends, it is narrowed that far
+  pub record IsWaiting (n : Narrowing V) (whole : Due V) (flag : Option ℕ) (memory : Memory V) : Type 0 where
+    pub begun : Memory V
+    pub loop : IsLoop n.the_loop whole n.first begun
+    pub dims : m.dims n.top ≡ m.dims whole.value
+    pub remembers : Remembers m set (node_view n.the_loop.body.now) flag memory
+    pub narrows : (turn : Turn V) (new : Memory V) →
+        IsTurned m set n.the_loop.point n.the_loop.base (cond_view n.the_loop.condition.now)
+        (node_view n.the_loop.body.now) flag n.top turn
+        → StaysKept m set (node_view n.the_loop.body.now) flag memory turn.outcome.flag new
+        → IsNarrowed n.the_loop whole n.first (record { value = n.top; turn = turn }) n.left new
+
+  -- it is under way
+  pub record IsNarrowing (n : NarrowingPlace V) (whole part : Due V) : Type 0 where
+    pub flag : Option ℕ
+    pub waiting : IsWaiting n.narrowing whole flag part.memory
+    pub entered : HasEntered n.narrowing.the_loop n.narrowing.top flag n.entered part
+
+  -- what is known of a `switch` while its arms are gone through
+  pub record IsSelecting (s : Selecting V) (whole : Due V) : Type 0 where
+    pub plan : s.selection.plan.now ≡ set
+    pub from : s.from ≡ whole.value
+    pub seen : s.seen ≡ seen_of (m.dims whole.value) s.selection.base (expr_view s.selection.value.now)
+
+  -- it goes on along these arms
+  abbrev pub SelectsOn : Selecting V → Due V → Arms → Found V → Option V → Option ℕ → Memory V → Type 0
+  SelectsOn s whole arms found running flag memory = SelectLoop m set whole.tree whole.flag whole.value
+      s.selection.point s.selection.base (expr_view s.selection.value.now) s.has_default s.other arms found running
+      flag whole.memory memory
+
+  -- the tree of an arm is under way
+  pub record IsSelect (p : SelectPlace V) (whole part : Due V) : Type 0 where
+    pub here : IsSelecting p.selecting whole
+    pub running : Option V
+    pub from : RunsFrom (dropping m) (m.dims whole.value) set.parts running part.value
+    pub dims : m.dims part.value ≡ m.dims whole.value
+    pub loop : SelectsOn p.selecting whole (arm part.tree (arms_of (map arm_view p.behind.now)))
+        p.found running part.flag part.memory
+
+  -- in the place the part is under way, and with that the whole is to be made: one case for each kind of place
+  abbrev pub IsOpen : place.Place V H → Due V → Due V → Type 0
+  IsOpen (Row r) whole part = IsRow r whole part
+  IsOpen (Last x) whole part = RowLoop m set whole.tree whole.flag whole.value part.tree x part.value part.flag
+      whole.memory part.memory
+  IsOpen (Choice k) whole part = IsChoice k whole part
+  IsOpen (Branch b) whole part = IsBranch b.value whole part
+  IsOpen (GrowingAt g) whole part = IsGrowing g.value whole part
+  IsOpen (NarrowingAt n) whole part = IsNarrowing n.value whole part
+  IsOpen (Catch q k) whole part = (whole.tree ≡ catch q (exit_view k) part.tree) × (part.value ≡ whole.value) ×
+      (part.flag ≡ whole.flag) × (part.memory ≡ whole.memory)
+  IsOpen (Select s) whole part = IsSelect s.value whole part
+
+  -- the places from the outermost on: what each has under way is what the next one owes; the innermost has this
+  abbrev pub AreOpen : List (place.Place V H) → Due V → Due V → Type 0
+  AreOpen [] whole part = part ≡ whole
+  AreOpen (p ∷ ps) whole part = (inner : Due V) × MayBePassed whole × IsOpen p whole inner × AreOpen ps inner part
+
+  -- what a step towards the whole leads to, with what is kept then
+  abbrev pub Leads : Due V → next.Next V H → Memory V → Type 0
+  Leads whole (Passed r) memory = IsMade whole (seen r) memory
+  Leads whole (Opens p tree) memory = IsOpen p whole (due tree memory) × MayBePassed (due tree memory)
+  Leads whole (Again p r) memory = (part : Due V) × IsOpen p.value whole part × IsMade part (seen r) memory
+
+  -- the loop: places are open, and what comes next leads to what the innermost has under way
+  pub record AreUnderWay (places : List (place.Place V H)) (whole : Due V) (n : next.Next V H) (memory : Memory V)
+      : Type 0 where
+    pub part : Due V
+    pub begun : MayBePassed part
+    pub owed : AreOpen places whole part
+    pub leads : Leads part n memory
+
+  -- what a step leads to
+  abbrev pub Reaches : List (place.Place V H) → Due V → step.Step V H → Memory V → Type 0
+  Reaches places whole (Ended r) memory = IsMade whole (seen r) memory
+  Reaches places whole (Goes n) memory = AreUnderWay places whole n memory

@@ -1,0 +1,16 @@
+//! The places where a pass over a tree of operations is under way, what is owed there, and what comes next in rows,
+//! choices and `switch`es.
+#![tactic(auto)]
+
+mod choices;
+mod places;
+mod rows;
+mod selections;
+
+pub use choices::{go_on_choice, meet_again, open_choice};
+pub use places::{
+    BranchPlace, ChoicePlace, Entering, GrowingPlace, Narrowing, NarrowingPlace, Next, Place,
+    Places, RowPlace, SelectPlace, Selecting, Step, passed,
+};
+pub use rows::{go_on_row, open_row};
+pub use selections::{go_on_selection, open_selection};

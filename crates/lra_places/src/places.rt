@@ -1,0 +1,229 @@
+//! Where a pass is under way: the open places, from the outermost to the innermost, and what comes next. The pass goes
+//! along the tree by a list of these, and not by calls, so a tree may be as deep as memory allows.
+
+ghost use Rattle.std.specs.Prelude.{◌≡◌, ◌++◌, ◌∷◌, [], ℕ, None, option_to_list, Box, IfOk, OnOk};
+ghost use Rattle.std.specs.Global.{Global};
+ghost use Rattle.lra_places.specs.declared.places.Next.TheVariants.{Again, Opens};
+ghost use Rattle.lra_places.specs.declared.places.Place.TheVariants.{Growing as growing_place};
+ghost use Rattle.lra_places.specs.declared.places.Place.TheVariants.{Narrowing as narrowing_place};
+ghost use Rattle.lra_flow.specs.Plan.{Plan};
+ghost use Rattle.lra_outcomes.specs.declared.memory.Memory.{Memory};
+ghost use Rattle.lra_outcomes.specs.Outcome.{seen};
+ghost use Rattle.lra_places.specs.Open.{Due, IsMade, Leads};
+ghost use Rattle.lra_places.specs.StepsLeft.{next_left};
+
+use lra_change::Kept;
+use lra_domain::Domain;
+use lra_flow::Seen;
+use lra_operations::{Arm, Exit, Node};
+use lra_outcomes::{Choice, Found, Growing, Loop, Outcome, Row, Selection};
+use std::alloc::{AllocError, Global};
+
+/// A tree that is to be passed: from this value, with the first flagged point so far.
+#[derive(Drop)]
+pub struct Entering<'a, D> {
+    pub node: &'a Node,
+    pub value: D,
+    pub flag: Option<usize>,
+}
+
+/// The trees behind one that is under way, and what those before it found.
+#[derive(Drop)]
+pub struct RowPlace<'a, D> {
+    pub behind: Row<'a>,
+    pub found: Found<D>,
+}
+
+/// A choice whose first branch is under way, and what its condition leaves for the second.
+#[derive(Drop)]
+pub struct ChoicePlace<'a, D> {
+    pub choice: Choice<'a>,
+    pub off: Kept<D>,
+}
+
+/// The point of a choice whose second branch is under way, and what the first one gave.
+#[derive(Drop)]
+pub struct BranchPlace<D> {
+    pub point: usize,
+    pub first: Outcome<D>,
+}
+
+/// A loop whose head grows and whose body is under way: its first value, its head, and what entered the body.
+#[derive(Drop)]
+pub struct GrowingPlace<'a, D, H> {
+    pub the_loop: Loop<'a>,
+    pub first: D,
+    pub growing: Growing<D, H>,
+    pub entered: D,
+}
+
+/// A loop that is narrowed: its first value, the value at its head, and how many rounds are left behind the one from
+/// that value.
+#[derive(Drop)]
+pub struct Narrowing<'a, D> {
+    pub the_loop: Loop<'a>,
+    pub first: D,
+    pub top: D,
+    pub left: u32,
+}
+
+/// A loop that is narrowed and whose body is under way, and what entered the body.
+#[derive(Drop)]
+pub struct NarrowingPlace<'a, D> {
+    pub narrowing: Narrowing<'a, D>,
+    pub entered: D,
+}
+
+/// A `switch` whose arms are gone through: what is seen of its value, whether a label is `default`, the value that came
+/// to it, and what is left of that where no label matches.
+#[derive(Drop)]
+pub struct Selecting<'a, D> {
+    pub selection: Selection<'a>,
+    pub seen: Seen,
+    pub has_default: bool,
+    pub from: D,
+    pub other: D,
+}
+
+/// A `switch` in which the tree of an arm is under way, the arms behind it, and what was found before it.
+#[derive(Drop)]
+pub struct SelectPlace<'a, D> {
+    pub selecting: Selecting<'a, D>,
+    pub behind: &'a [Arm],
+    pub found: Found<D>,
+}
+
+/// A place where a tree is under way, and what is still to be done there. What few of them have and is large is boxed,
+/// since places and what comes next are moved at each step.
+#[derive(Drop)]
+pub enum Place<'a, D, H> {
+    Row(RowPlace<'a, D>),
+    /// The last of trees one after the other is under way; this was found before it.
+    Last(Found<D>),
+    Choice(ChoicePlace<'a, D>),
+    Branch(Box<BranchPlace<D>>),
+    Growing(Box<GrowingPlace<'a, D, H>>),
+    Narrowing(Box<NarrowingPlace<'a, D>>),
+    /// Jumps of this kind come out at this point.
+    Catch(usize, Exit),
+    Select(Box<SelectPlace<'a, D>>),
+}
+
+/// What comes next.
+#[derive(Drop)]
+pub enum Next<'a, D, H> {
+    /// The tree is passed.
+    Passed(Outcome<D>),
+    /// A place opens, and this tree in it is to be passed.
+    Opens(Place<'a, D, H>, Entering<'a, D>),
+    /// A place opens for a tree that was passed from the same value before: it gives this again.
+    Again(Box<Place<'a, D, H>>, Outcome<D>),
+}
+
+/// What a step leads to: the whole tree is passed, or this comes next.
+#[derive(Drop)]
+pub enum Step<'a, D, H> {
+    Ended(Outcome<D>),
+    Goes(Next<'a, D, H>),
+}
+
+impl<'a, D: Drop, H: Drop> GrowingPlace<'a, D, H> {
+    /// The place opens, and this tree in it is to be passed.
+    pub fn opens(self, alloc: Global, tree: Entering<'a, D>) -> Result<Next<'a, D, H>, AllocError>
+        ensures { IfOk result (λ n. (b : Box (GrowingPlace D H) Global) × (n ≡ Opens (growing_place b) tree.entry) ×
+            (b.value ≡ self.entry)) }
+    {
+        let place = Box::new(alloc, self)?;
+        Ok(Next::Opens(Place::Growing(place), tree))
+    }
+
+    /// This place opens, for a tree that gives this again.
+    pub fn again(self, alloc: Global, outcome: Outcome<D>) -> Result<Next<'a, D, H>, AllocError>
+        ensures { IfOk result (λ n. (b : Box (GrowingPlace D H) Global) × (p : Box (Place D H) Global) ×
+            (n ≡ Again p outcome) × (p.value ≡ growing_place b) × (b.value ≡ self.entry)) }
+    {
+        let place = Box::new(alloc, self)?;
+        let boxed = Box::new(alloc, Place::Growing(place))?;
+        Ok(Next::Again(boxed, outcome))
+    }
+}
+
+impl<'a, D: Drop> NarrowingPlace<'a, D> {
+    /// The place opens, and this tree in it is to be passed.
+    pub fn opens<H: Drop>(
+        self,
+        alloc: Global,
+        tree: Entering<'a, D>,
+    ) -> Result<Next<'a, D, H>, AllocError>
+        ensures { IfOk result (λ n. (b : Box (NarrowingPlace D) Global) × (n ≡ Opens (narrowing_place b) tree.entry) ×
+            (b.value ≡ self.entry)) }
+    {
+        let place = Box::new(alloc, self)?;
+        Ok(Next::Opens(Place::Narrowing(place), tree))
+    }
+
+    /// This place opens, for a tree that gives this again.
+    pub fn again<H: Drop>(
+        self,
+        alloc: Global,
+        outcome: Outcome<D>,
+    ) -> Result<Next<'a, D, H>, AllocError>
+        ensures { IfOk result (λ n. (b : Box (NarrowingPlace D) Global) × (p : Box (Place D H) Global) ×
+            (n ≡ Again p outcome) × (p.value ≡ narrowing_place b) × (b.value ≡ self.entry)) }
+    {
+        let place = Box::new(alloc, self)?;
+        let boxed = Box::new(alloc, Place::Narrowing(place))?;
+        Ok(Next::Again(boxed, outcome))
+    }
+}
+
+/// The open places, from the outermost to the innermost.
+pub struct Places<'a, D, H> {
+    pub open: Vec<Place<'a, D, H>>,
+}
+
+impl<'a, D: Drop, H: Drop> Drop for Places<'a, D, H> {
+    fn drop(self) {
+        let Places { open: _ } = self;
+    }
+}
+
+impl<'a, D: Drop, H: Drop> Places<'a, D, H> {
+    /// None is open.
+    pub fn none(alloc: Global) -> Places<'a, D, H>
+        ensures { result.open.items ≡ [] }
+    {
+        Places {
+            open: Vec::new(alloc),
+        }
+    }
+
+    /// This one opens in the innermost.
+    pub fn push(&mut self, place: Place<'a, D, H>) -> Result<(), AllocError>
+        ensures { OnOk result (self.new.open.items ≡ self.old.open.items ++ place.entry ∷ []) }
+    {
+        self.open.push(place)?;
+        Ok(())
+    }
+
+    /// The innermost one is left, if one is open.
+    pub fn pop(&mut self) -> Option<Place<'a, D, H>>
+        ensures left { self.old.open.items ≡ self.new.open.items ++ option_to_list result }
+        ensures none { result ≡ None → self.old.open.items ≡ [] }
+    {
+        self.open.pop()
+    }
+}
+
+/// The tree is passed, with what its pass gave.
+pub fn passed<'a, D: Domain>(
+    given: Result<Outcome<D>, AllocError>,
+) -> Result<Next<'a, D, D::Head>, AllocError>
+    ensures leads { (set : Plan) (whole : Due D) (memory : Memory D) →
+        IfOk given (λ r. IsMade D.meaning set whole (seen r) memory) →
+        IfOk result (λ next. Leads D.meaning set whole next memory) }
+    ensures ends { (b : ℕ) (set : Plan) → IfOk result (λ next. next_left D.meaning b set next ≡ 0) }
+{
+    let outcome = given?;
+    Ok(Next::Passed(outcome))
+}

@@ -1,0 +1,144 @@
+//! Trees one after the other.
+
+ghost use Rattle.std.specs.Prelude.{◌≡◌, ◌<◌, ◌≤◌, ◌∷◌, [], ℕ, List, map, IfOk};
+ghost use Rattle.lra_flow.specs.Room.{most_live};
+ghost use Rattle.lra_flow.specs.Plan.{Plan};
+ghost use Rattle.lra_operations.specs.declared.graph.Node.{Node};
+ghost use Rattle.lra_operations.specs.GraphViews.{node_view, row};
+ghost use Rattle.lra_outcomes.specs.declared.memory.Memory.{Memory};
+ghost use Rattle.lra_places.specs.declared.places.Place.TheVariants.{Row as row_place};
+ghost use Rattle.lra_outcomes.specs.Fits.{TreeFits};
+ghost use Rattle.lra_outcomes.specs.Outcome.{seen};
+ghost use Rattle.lra_places.specs.Open.{Due, IsMade, IsRow, Leads, MayBePassed, RowLoop};
+ghost use Rattle.lra_places.specs.StepsLeft.{most_rounds, next_left, place_left};
+ghost use Rattle.lra_outcomes.specs.Steps.{row_steps};
+
+use crate::places::{Entering, Next, Place, RowPlace};
+use lra_domain::Domain;
+use lra_operations::Node;
+use lra_outcomes::{Flat, Outcome, Plan, Row};
+use std::alloc::{AllocError, Global};
+
+/// The first of the trees behind which these stand is next: what was found before it stays at its place.
+fn open_first<'a, D: Domain>(
+    behind: Row<'a>,
+    node: &'a Node,
+    so_far: Outcome<D>,
+) -> Next<'a, D, D::Head>
+    ensures leads { (set : Plan) (whole : Due D) (memory : Memory D) (gs : List Node) →
+        behind.entry.plan.now ≡ set → gs ≡ node.now ∷ behind.entry.trees.now →
+        MayBePassed D.meaning set whole → RowLoop D.meaning set whole.tree whole.flag whole.value
+        (row (map node_view gs) (node_view behind.entry.last.now)) so_far.found
+        so_far.normal so_far.flag whole.memory memory → Leads D.meaning set whole result memory }
+    ensures steps { (b : ℕ) (set : Plan) (gs : List Node) → gs ≡ node.now ∷ behind.entry.trees.now →
+        next_left D.meaning b set result ≡ row_steps (most_rounds b set) gs behind.entry.last.now }
+{
+    let Outcome {
+        found,
+        normal: value,
+        flag,
+    } = so_far;
+    let place = Place::Row(RowPlace { behind, found });
+    Next::Opens(place, Entering { node, value, flag })
+}
+
+/// The last of the trees is passed, or next.
+fn next_of_last<'a, D: Domain>(
+    alloc: Global,
+    plan: &'a Plan,
+    node: &'a Node,
+    mut so_far: Outcome<D>,
+) -> Result<Next<'a, D, D::Head>, AllocError>
+    requires parts { 1 ≤ plan.now.parts }
+    requires few { D.meaning.dims so_far.normal ≤ most_live }
+    requires fits { TreeFits (node_view node.now) (D.meaning.dims so_far.normal) }
+    ensures leads { (set : Plan) (whole : Due D) (memory : Memory D) → plan.now ≡ set →
+        MayBePassed D.meaning set whole → RowLoop D.meaning set whole.tree whole.flag whole.value
+        (node_view node.now) so_far.found so_far.normal so_far.flag whole.memory memory →
+        IfOk result (λ next. Leads D.meaning set whole next memory) }
+    ensures falls { (b : ℕ) (set : Plan) → IfOk result (λ next. next_left D.meaning b set next
+        ≤ row_steps (most_rounds b set) [] node.now) }
+{
+    if let Some(flat) = Flat::of(plan, node) {
+        flat.pass_on(alloc, plan, &mut so_far)?;
+        return Ok(Next::Passed(so_far));
+    }
+    let Outcome {
+        found,
+        normal: value,
+        flag,
+    } = so_far;
+    Ok(Next::Opens(Place::Last(found), Entering { node, value, flag }))
+}
+
+/// Flat trees are passed, up to the first that isn't flat: that one is next.
+fn next_of_row<'a, D: Domain>(
+    alloc: Global,
+    the_row: Row<'a>,
+    mut so_far: Outcome<D>,
+) -> Result<Next<'a, D, D::Head>, AllocError>
+    requires parts { 1 ≤ the_row.plan.now.parts }
+    requires way { (whole : Due D) × (memory : Memory D) × MayBePassed D.meaning the_row.plan.now whole ×
+        RowLoop D.meaning the_row.plan.now whole.tree whole.flag whole.value
+        (row (map node_view the_row.trees.now) (node_view the_row.last.now)) so_far.found so_far.normal so_far.flag
+        whole.memory memory }
+    ensures leads { (set : Plan) (whole : Due D) (memory : Memory D) → the_row.entry.plan.now ≡ set →
+        MayBePassed D.meaning set whole → RowLoop D.meaning set whole.tree whole.flag whole.value
+        (row (map node_view the_row.entry.trees.now) (node_view the_row.entry.last.now)) so_far.found
+        so_far.normal so_far.flag whole.memory memory → IfOk result (λ next. Leads D.meaning set whole next memory) }
+    ensures falls { (b : ℕ) (set : Plan) → IfOk result (λ next. next_left D.meaning b set next
+        ≤ row_steps (most_rounds b set) the_row.entry.trees.now the_row.entry.last.now) }
+{
+    let Row { plan, trees, last } = the_row;
+    let mut left = trees;
+    'leaves: while let Some((node, behind)) = left.split_first() {
+        let Some(flat) = Flat::of(plan, node) else {
+            let trees = behind;
+            return Ok(open_first(Row { plan, trees, last }, node, so_far));
+        };
+        flat.pass_on(alloc, plan, &mut so_far)?;
+        left = behind;
+    }
+    next_of_last(alloc, plan, last, so_far)
+}
+
+/// The first of the trees that isn't flat is next, behind those before it.
+pub fn open_row<'a, D: Domain>(
+    alloc: Global,
+    the_row: Row<'a>,
+    value: D,
+    flag: Option<usize>,
+) -> Result<Next<'a, D, D::Head>, AllocError>
+    requires parts { 1 ≤ the_row.plan.now.parts }
+    requires way { (whole : Due D) × MayBePassed D.meaning the_row.plan.now whole ×
+        (whole.tree ≡ row (map node_view the_row.trees.now) (node_view the_row.last.now)) ×
+        (whole.value ≡ value) × (whole.flag ≡ flag) }
+    ensures leads { (set : Plan) (whole : Due D) → the_row.entry.plan.now ≡ set →
+        whole.tree ≡ row (map node_view the_row.entry.trees.now) (node_view the_row.entry.last.now) →
+        whole.value ≡ value → whole.flag ≡ flag → MayBePassed D.meaning set whole →
+        IfOk result (λ next. Leads D.meaning set whole next whole.memory) }
+    ensures falls { (b : ℕ) (set : Plan) → IfOk result (λ next. next_left D.meaning b set next
+        ≤ row_steps (most_rounds b set) the_row.entry.trees.now the_row.entry.last.now) }
+{
+    next_of_row(alloc, the_row, Outcome::nothing_yet(alloc, value, flag))
+}
+
+/// What the tree under way found comes behind what was found before it, and the next one begins with its end.
+pub fn go_on_row<'a, D: Domain>(
+    alloc: Global,
+    place: RowPlace<'a, D>,
+    outcome: Outcome<D>,
+) -> Result<Next<'a, D, D::Head>, AllocError>
+    requires { (set : Plan) × (whole : Due D) × (part : Due D) × (memory : Memory D) × (1 ≤ set.parts) ×
+        MayBePassed D.meaning set whole × IsRow D.meaning set place whole part ×
+        IsMade D.meaning set part (seen outcome) memory }
+    ensures leads { (set : Plan) (whole part : Due D) (memory : Memory D) → MayBePassed D.meaning set whole →
+        IsRow D.meaning set place.entry whole part → IsMade D.meaning set part (seen outcome) memory →
+        IfOk result (λ next. Leads D.meaning set whole next memory) }
+    ensures falls { (b : ℕ) (set : Plan) → IfOk result (λ next. next_left D.meaning b set next
+        < place_left D.meaning b set (row_place place.entry)) }
+{
+    let RowPlace { behind, found } = place;
+    let so_far = found.follow_with(outcome)?;
+    next_of_row(alloc, behind, so_far)
+}
