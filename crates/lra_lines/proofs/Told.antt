@@ -1,6 +1,6 @@
 -- What the code tells of lines, passed on from one part to the whole.
 use Rattle.std.proofs.Common.{◌≡◌, ◌+◌, ◌++◌, ℕ, suc, true, false, List, [], ◌∷◌, length, refl, ap, sym, ◌∙◌, subst, append_assoc}
-use Rattle.std.proofs.Common.{append-nil, length-append, ℤ, Option, Some, None, Ok, Err}
+use Rattle.std.proofs.Common.{append-nil, ℤ, Option, Some, None, Ok, Err}
 use Rattle.lra_linear.specs.Descriptions.{Given}
 use Rattle.lra_linear.specs.Kinds.{is_equality}
 use Rattle.lra_linear.specs.declared.ConKind.{ConKind}
@@ -96,12 +96,6 @@ rows_more_by live bytes at old new row kind whole so_far n r k line l h e =
     ap (λ (gs : List Given). rows_after gs (judged_rows live (number_at bytes (at + length line + 1)) (pieces_at bytes (at + length line + 1))))
     (constraints_pushed old new row kind n r k) ∙
     rows_more live bytes at (constraints old) whole so_far line (record { row = row; equal = is_equality kind }) l h e
-
-pub kinds_more : (old new : Listed ConKind) (row : List ℤ) (kind : ConKind) → length old.kinds ≡ length old.rows → new.rows ≡ old.rows ++ row ∷ [] →
-    new.kinds ≡ old.kinds ++ kind ∷ [] → length new.kinds ≡ length new.rows
-kinds_more old new row kind n r k =
-    ap (λ (x : List ConKind). length x) k ∙ length-append old.kinds (kind ∷ []) ∙ ap (λ (j : ℕ). j + 1) n ∙ sym (length-append old.rows (row ∷ [])) ∙
-    ap (λ (x : List (List ℤ)). length x) (sym r)
 
 -- ---- the points
 abbrev pub states_after : List State → Judged (List State × Left) → Judged (List State × Left)

@@ -3,3 +3,4 @@ pub mod CheckSteps
 pub mod CheckLoops
 pub mod CheckAnswers
 pub mod ShownRows
+pub mod ListedKinds

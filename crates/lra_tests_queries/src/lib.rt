@@ -12,6 +12,8 @@ mod minima;
 #[cfg(test)]
 mod moves;
 #[cfg(test)]
+mod multiples;
+#[cfg(test)]
 mod relations;
 #[cfg(test)]
 mod shapes;

@@ -3,7 +3,7 @@ use Rattle.std.proofs.Common.{arith, ◌≡◌, ◌+◌, ◌-◌, ◌++◌, ℕ,
 use Rattle.lra_linear.specs.Vectors.{zeros}
 use Rattle.lra_certificate.specs.Certificates.{padded}
 use Rattle.lra_lines.proofs.TrackSteps.{padded_pushed, padded_length, all_constraints}
-use Rattle.lra_lines.proofs.Told.{kinds_more}
+use Rattle.lra_multipliers.proofs.ListedKinds.{kinds_pushed}
 use Rattle.lra_lines.proofs.tracks.pad_rows.Goals as goal
 
 pub loop-place-preserved : goal.loop-place-preserved
@@ -16,7 +16,7 @@ loop-place-preserved c =
           c.at-kind.ensures.row c.at-kind.ensures.kind c.loop-place.invariant.kinds c.in_ok-push.ensures.rows c.in_ok-push.ensures.kinds (suc c.args.dims)
           is c.loop-place.invariant.so_far;
       dims = c.push.ensures.dims ∙ c.loop-place.invariant.dims;
-      kinds = kinds_more c.loop-place.wide c.push.new.self c.in_ok-row.row c.at-kind.result.1 c.loop-place.invariant.kinds c.in_ok-push.ensures.rows
+      kinds = kinds_pushed c.loop-place.wide c.push.new.self c.in_ok-row.row c.at-kind.result.1 c.loop-place.invariant.kinds c.in_ok-push.ensures.rows
           c.in_ok-push.ensures.kinds;
     }
 

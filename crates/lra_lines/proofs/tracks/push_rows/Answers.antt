@@ -3,7 +3,7 @@ use Rattle.std.proofs.Common.{◌++◌, List, arith, ap, refl, ◌∙◌}
 use Rattle.lra_linear.specs.Descriptions.{Given}
 use Rattle.lra_sys.specs.Listed.{constraints}
 use Rattle.lra_lines.proofs.TrackSteps.{row_pushed, all_constraints}
-use Rattle.lra_lines.proofs.Told.{kinds_more}
+use Rattle.lra_multipliers.proofs.ListedKinds.{kinds_pushed}
 use Rattle.lra_lines.proofs.tracks.push_rows.Goals as goal
 
 pub loop-place-preserved : goal.loop-place-preserved
@@ -12,7 +12,7 @@ loop-place-preserved c = record {
       c.at-kind.ensures.row c.at-kind.ensures.kind c.loop-place.invariant.kinds c.in_ok-push_copy.ensures.rows c.in_ok-push_copy.ensures.kinds
       (constraints c.args.all.now) refl c.loop-place.invariant.so_far;
   dims = c.push_copy.ensures.dims ∙ c.loop-place.invariant.dims;
-  kinds = kinds_more c.loop-place.all c.push_copy.new.self c.at-kind.result.0.now c.at-kind.result.1 c.loop-place.invariant.kinds
+  kinds = kinds_pushed c.loop-place.all c.push_copy.new.self c.at-kind.result.0.now c.at-kind.result.1 c.loop-place.invariant.kinds
       c.in_ok-push_copy.ensures.rows c.in_ok-push_copy.ensures.kinds;
 }
 

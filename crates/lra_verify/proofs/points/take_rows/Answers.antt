@@ -4,7 +4,8 @@ use Rattle.std.specs.Prelude.{option_map}
 use Rattle.lra_script.specs.Views.{constraint_of}
 use Rattle.lra_certificate.specs.Judged.{row_in, judged_rows}
 use Rattle.lra_certificate.specs.Lines.{number_at, pieces_at}
-use Rattle.lra_lines.proofs.Told.{rows_more_by, kinds_more}
+use Rattle.lra_multipliers.proofs.ListedKinds.{kinds_pushed}
+use Rattle.lra_lines.proofs.Told.{rows_more_by}
 use Rattle.lra_verify.proofs.points.take_rows.Goals as goal
 
 pub rows-preserved : goal.rows-preserved
@@ -18,7 +19,7 @@ rows-preserved c =
           c.rows.invariant.same
           c.in_ok-push_copy-in-Some-2.ensures.rows c.in_ok-push_copy-in-Some-2.ensures.kinds c.in-Some.line.now c.in-Some.ensures.0 c.in-Some.ensures.1 read;
       within = omega (arith, w);
-      same = kinds_more c.rows.rows c.push_copy.new.self c.in-Some-2.constraint.row c.in-Some-2.constraint.kind c.rows.invariant.same
+      same = kinds_pushed c.rows.rows c.push_copy.new.self c.in-Some-2.constraint.row c.in-Some-2.constraint.kind c.rows.invariant.same
           c.in_ok-push_copy-in-Some-2.ensures.rows c.in_ok-push_copy-in-Some-2.ensures.kinds;
       dims = c.push_copy.ensures.dims ∙ c.rows.invariant.dims;
     }

@@ -1,0 +1,6 @@
+-- The points of the polyhedron of all multipliers, claims that have some, and how its rows are listed and converted.
+pub mod ShownPoints
+pub mod ShownClaims
+pub mod ListedRows
+pub mod FirstPoints
+pub mod FarkasExamples

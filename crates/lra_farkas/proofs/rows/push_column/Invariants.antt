@@ -1,0 +1,11 @@
+use Rattle.std.proofs.Common.{◌≡◌, ◌++◌, map, take}
+use Rattle.std.specs.List.{All}
+use Rattle.lra_linear.specs.Range.{InRange}
+use Rattle.lra_linear.specs.Vectors.{entry}
+use Rattle.lra_farkas.proofs.rows.push_column.Given as goal
+
+abbrev pub invariant-loop-row : goal.invariant-loop-row
+invariant-loop-row l = record {
+  numbers : l.numbers.items ≡ l.initial.numbers.items ++ map (λ r. entry r l.column) (take l.row-index l.rows);
+  in_range : All InRange l.numbers.items;
+}

@@ -1,0 +1,4 @@
+-- In the order in which they are to be read.
+pub mod MultiplierRows
+pub mod FirstMultipliers
+pub mod RowsByKinds

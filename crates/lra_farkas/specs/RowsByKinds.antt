@@ -1,0 +1,23 @@
+-- The rows of the polyhedron of all multipliers as they are made of a list's rows and kinds, and what converting
+-- them tells.
+use Rattle.std.specs.Prelude.{ℕ, suc, List, [], ◌∷◌, cond}
+use Rattle.lra_linear.specs.Descriptions.{Con, Given}
+use Rattle.lra_linear.specs.Kinds.{is_equality}
+use Rattle.lra_linear.specs.OperationStrain.{FromRowsStrains}
+use Rattle.lra_linear.specs.Points.{IsEmptySet}
+use Rattle.lra_linear.specs.Strain.{Loss}
+use Rattle.lra_linear.specs.declared.ConKind.{ConKind}
+use Rattle.lra_farkas.specs.declared.first.MultipliersFailure.{MultipliersFailure}
+use Rattle.lra_farkas.specs.declared.first.MultipliersFailure.TheVariants.{NotImplied, Strained, Memory}
+
+-- the columns of the inequalities among these kinds
+abbrev pub columns_by_kinds : ℕ → List ConKind → List ℕ
+columns_by_kinds column [] = []
+columns_by_kinds column (k ∷ ks) =
+    cond (is_equality k) (columns_by_kinds (suc column) ks) (column ∷ columns_by_kinds (suc column) ks)
+
+-- why rows have no first point
+abbrev pub HasNoFirst : ℕ → List Given → MultipliersFailure → Type 0
+HasNoFirst n rows NotImplied = IsEmptySet n (Con rows)
+HasNoFirst n rows Strained = (loss : Loss) × FromRowsStrains n rows loss
+HasNoFirst n rows Memory = Unit {0}

@@ -1,0 +1,111 @@
+//! The first multipliers that show a claim.
+
+ghost use Rattle.std.specs.Prelude.{◌≡◌, ◌<◌, suc, length, IfOk, IfErr, Some, slice_get};
+ghost use Rattle.lra_linear.specs.Descriptions.{Con, generator};
+ghost use Rattle.lra_linear.specs.Points.{IsEmptySet};
+ghost use Rattle.lra_linear.specs.Polyhedra.{IsPolyhedronOf};
+ghost use Rattle.lra_sys.specs.Listed.{constraints};
+ghost use Rattle.lra_multipliers.specs.Multipliers.{IsAnswer, yes};
+ghost use Rattle.lra_multipliers.specs.MultiplierViews.{multipliers_view};
+ghost use Rattle.lra_farkas.specs.MultiplierRows.{point_of};
+ghost use Rattle.lra_farkas.specs.FirstMultipliers.{AreFirst, AreInRange, IsFailure};
+ghost use Rattle.lra_farkas.specs.RowsByKinds.{HasNoFirst};
+
+use crate::rows::list_rows;
+use lra_multipliers::{Answer, Multipliers, check};
+use lra_poly::Poly;
+use lra_row::Row;
+use lra_sys::ConSys;
+use std::alloc::{AllocError, Global};
+
+/// Why there are no multipliers.
+#[derive(Clone, Copy, Debug, PartialEq, Eq)]
+pub enum MultipliersFailure {
+    /// No multipliers show the claim.
+    NotImplied,
+    /// Converting the rows of the polyhedron of all multipliers strains, or a number passes as the first are checked.
+    Strained,
+    Memory,
+}
+
+impl From<AllocError> for MultipliersFailure {
+    ghost use Rattle.std.specs.Prelude.{◌≡◌};
+    ghost use Rattle.lra_farkas.specs.declared.first.MultipliersFailure.TheVariants.{Memory};
+
+    ghost from_gives = { λ _ e. e ≡ Memory };
+
+    fn from(_failed: AllocError) -> MultipliersFailure {
+        MultipliersFailure::Memory
+    }
+}
+
+/// The polyhedron of the rows, which has a point.
+fn convert(alloc: Global, rows: &ConSys) -> Result<Poly, MultipliersFailure>
+    ensures is { IfOk result (IsPolyhedronOf rows.now.dims (Con (constraints rows.now))) }
+    ensures some { IfOk result (λ p. ¬ (IsEmptySet p.dims (Con p.rows))) }
+    ensures failure { IfErr result (HasNoFirst rows.now.dims (constraints rows.now)) }
+{
+    let (made, outcome) = Poly::from_rows(alloc, rows)?;
+    if made.is_empty() {
+        return Err(MultipliersFailure::NotImplied);
+    }
+    if !outcome.is_exact() {
+        return Err(MultipliersFailure::Strained);
+    }
+    Ok(made)
+}
+
+/// The first generator of a polyhedron with a point, as multipliers.
+fn first_multipliers(alloc: Global, all: &Poly) -> Result<Multipliers, AllocError>
+    requires some { ¬ (IsEmptySet all.now.dims (Con all.now.rows)) }
+    requires dims { 0 < all.now.dims }
+    ensures first { IfOk result (λ m. slice_get all.now.generators 0 ≡
+        Some (generator (point_of (multipliers_view m)))) }
+    ensures numbers { IfOk result (λ m. AreInRange (multipliers_view m)) }
+{
+    let (point, _kind) = all.generators().at(0);
+    let (_, factors) = point.entries().split_at(2);
+    let factors = Vec::from_slice(alloc, factors)?;
+    let made = Multipliers::new(alloc, point.get(0), point.get(1), factors)?;
+    Ok(made)
+}
+
+/// The first generator of the polyhedron of all multipliers that show the claim by the premises.
+fn find_first(
+    alloc: Global,
+    premises: &ConSys,
+    claim: &Row,
+) -> Result<Multipliers, MultipliersFailure>
+    requires width { length claim.now ≡ suc premises.now.dims }
+    ensures first { IfOk result (λ m.
+        AreFirst (constraints premises.now) claim.now (multipliers_view m)) }
+    ensures numbers { IfOk result (λ m. AreInRange (multipliers_view m)) }
+    ensures failure { IfErr result (IsFailure (constraints premises.now) claim.now) }
+{
+    let rows = list_rows(alloc, premises, claim)?;
+    let all = convert(alloc, &rows)?;
+    let first = first_multipliers(alloc, &all)?;
+    Ok(first)
+}
+
+/// The first multipliers that show the claim by the premises: the first generator of the polyhedron of all that do.
+pub fn multipliers(
+    alloc: Global,
+    premises: &ConSys,
+    claim: &Row,
+) -> Result<Multipliers, MultipliersFailure>
+    requires width { length claim.now ≡ suc premises.now.dims }
+    ensures first { IfOk result (λ m.
+        AreFirst (constraints premises.now) claim.now (multipliers_view m)) }
+    ensures numbers { IfOk result (λ m. AreInRange (multipliers_view m)) }
+    ensures shows { IfOk result (λ m.
+        IsAnswer (constraints premises.now) claim.now (multipliers_view m) yes) }
+    ensures failure { IfErr result (IsFailure (constraints premises.now) claim.now) }
+{
+    let (_rows, _kinds) = (premises.rows(), premises.kinds());
+    let first = find_first(alloc, premises, claim)?;
+    match check(premises, claim, &first) {
+        Answer::Wide => Err(MultipliersFailure::Strained),
+        Answer::Yes | Answer::No => Ok(first),
+    }
+}

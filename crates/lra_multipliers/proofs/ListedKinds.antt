@@ -1,0 +1,10 @@
+-- A list of rows has as many kinds.
+use Rattle.std.proofs.Common.{◌≡◌, ◌+◌, ◌++◌, ℕ, ℤ, List, [], ◌∷◌, length, ap, sym, ◌∙◌, length-append}
+use Rattle.lra_linear.specs.declared.ConKind.{ConKind}
+use Rattle.lra_sys.specs.Listed.{Listed}
+
+pub kinds_pushed : (old new : Listed ConKind) (row : List ℤ) (kind : ConKind) → length old.kinds ≡ length old.rows → new.rows ≡ old.rows ++ row ∷ [] →
+    new.kinds ≡ old.kinds ++ kind ∷ [] → length new.kinds ≡ length new.rows
+kinds_pushed old new row kind n r k =
+    ap (λ (x : List ConKind). length x) k ∙ length-append old.kinds (kind ∷ []) ∙ ap (λ (j : ℕ). j + 1) n ∙ sym (length-append old.rows (row ∷ [])) ∙
+    ap (λ (x : List (List ℤ)). length x) (sym r)
