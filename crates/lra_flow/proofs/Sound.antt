@@ -28,12 +28,12 @@ use Rattle.lra_flow.specs.Pass.{Entry, value, failing, Result, noted, jumps_of, 
 use Rattle.lra_flow.specs.Pass.{ArmsPass, MatchesNone, Enters, JoinsRunning, ComesOut}
 use Rattle.lra_flow.proofs.Covers.{ChangesKeep, ValuesKeep, Covers, ArmsCover, Has, HeadHas, covered_has, stays_has}
 
-left_jump : {V : Type 0} (k : Exit) (r s : Result V) (v : V) (f : Option ℕ) (u : V) → Contains (jumps_of k r) u → Contains (jumps_of k (in_turn r s v f)) u
+pub left_jump : {V : Type 0} (k : Exit) (r s : Result V) (v : V) (f : Option ℕ) (u : V) → Contains (jumps_of k r) u → Contains (jumps_of k (in_turn r s v f)) u
 left_jump broken r s v f u h = Contains-append_left r.breaks s.breaks u h
 left_jump continued r s v f u h = Contains-append_left r.continues s.continues u h
 left_jump returned r s v f u h = Contains-append_left r.returns s.returns u h
 
-right_jump : {V : Type 0} (k : Exit) (r s : Result V) (v : V) (f : Option ℕ) (u : V) → Contains (jumps_of k s) u → Contains (jumps_of k (in_turn r s v f)) u
+pub right_jump : {V : Type 0} (k : Exit) (r s : Result V) (v : V) (f : Option ℕ) (u : V) → Contains (jumps_of k s) u → Contains (jumps_of k (in_turn r s v f)) u
 right_jump broken r s v f u h = Contains-append_right r.breaks s.breaks u h
 right_jump continued r s v f u h = Contains-append_right r.continues s.continues u h
 right_jump returned r s v f u h = Contains-append_right r.returns s.returns u h
@@ -44,12 +44,12 @@ jumps_same broken z x out f u h = h
 jumps_same continued z x out f u h = h
 jumps_same returned z x out f u h = h
 
-jump_there : {V : Type 0} (k : Exit) (v nothing : V) (f : Option ℕ) → Contains (jumps_of k (jumps k v nothing f)) v
+pub jump_there : {V : Type 0} (k : Exit) (v nothing : V) (f : Option ℕ) → Contains (jumps_of k (jumps k v nothing f)) v
 jump_there broken v nothing f = contains_head v []
 jump_there continued v nothing f = contains_head v []
 jump_there returned v nothing f = contains_head v []
 
-behind_normal : {V : Type 0} (k : Exit) (r : Result V) (v : V) (f : Option ℕ) → (behind k r v f).normal ≡ v
+pub behind_normal : {V : Type 0} (k : Exit) (r : Result V) (v : V) (f : Option ℕ) → (behind k r v f).normal ≡ v
 behind_normal broken r v f = refl
 behind_normal continued r v f = refl
 behind_normal returned r v f = refl

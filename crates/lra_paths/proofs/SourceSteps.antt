@@ -53,7 +53,7 @@ under n count is less = elim (cases_lt n 1025) [
   | inr many ↦ let same = capped_many n many in absurd (omega (arith, is, same, less))
 ]
 
-alike : (a b : Goal) → same_goal a b ≡ true → a ≡ b
+pub alike : (a b : Goal) → same_goal a b ≡ true → a ≡ b
 alike (comes_to p) (comes_to q) same = ap comes_to (eqb-true p q same)
 alike (comes_to p) (denies q) same = absurd (let no : false ≡ true = same in cc)
 alike (denies p) (comes_to q) same = absurd (let no : false ≡ true = same in cc)
