@@ -3,3 +3,4 @@ pub mod SideSteps
 mod ChainSteps
 pub mod ChangeSteps
 mod GlobalSteps
+pub mod OperationWidths

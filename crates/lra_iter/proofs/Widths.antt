@@ -1,135 +1,30 @@
 -- The value that an iteration has at a point has a dimension for each variable that lives there.
-use Rattle.std.proofs.Common.{◌≡◌, ℕ, ℤ, zero, suc, ◌+◌, ◌-◌, ◌++◌, List, [], ◌∷◌, length, Option, Some, None, Bool, true, false, inl, inr, refl, sym, ap, ◌∙◌}
-use Rattle.std.proofs.Common.{subst, arith}
-use Rattle.std.specs.Prelude.{not, slice_get}
+use Rattle.std.proofs.Common.{◌≡◌, ℕ, zero, suc, ◌-◌, ◌++◌, List, [], ◌∷◌, length, Option, Some, None, Bool, true, false, inl, inr, sym, ap, ◌∙◌}
+use Rattle.std.proofs.Common.{subst}
+use Rattle.std.specs.Prelude.{slice_get}
 use Rattle.std.specs.List.{AllByRecursion, Contains}
 use Rattle.lra_linear.proofs.Membership.{contains_none, contains_cases}
-use Rattle.lra_base.specs.declared.number_types.NumberType.{NumberType}
-use Rattle.lra_base.specs.declared.number_types.NumberType.TheVariants.{Int, Long}
-use Rattle.lra_program.specs.declared.program.GlobalVariable.{GlobalVariable}
-use Rattle.lra_program.specs.declared.receivers.Target.{Target}
-use Rattle.lra_program.specs.Value.{Argument}
-use Rattle.lra_domain.specs.Actions.{embed}
 use Rattle.lra_domain.specs.declared.Exactness.{Exactness}
 use Rattle.lra_domain.specs.Meaning.{Meaning}
 use Rattle.lra_domain.specs.Laws.{Laws}
-use Rattle.lra_base.specs.Operators.{Comparison, below, at_most, above, at_least, equal, differs}
-use Rattle.lra_program.specs.Program.{Expr, Cond, Program, literal, compare, nonzero, opposite, both_of, either_of}
-use Rattle.lra_flow.specs.Linear as linear
-use Rattle.lra_lin.specs.declared.test.Test.{Test}
-use Rattle.lra_flow.specs.Linear.{comparison_test}
-use Rattle.lra_flow.specs.declared.seen.Division.{Division}
-use Rattle.lra_flow.specs.declared.seen.Seen.{Seen}
-use Rattle.lra_flow.specs.declared.seen.Seen.TheVariants.{Linear, Divided, Unseen}
-use Rattle.lra_flow.specs.Seen.{seen_of, subtracted, difference_seen}
-use Rattle.lra_domain.specs.Moves.{Moves, stay, make, first_then, join_of, dims_moved}
-use Rattle.lra_flow.specs.Moves.{AreMade}
-use Rattle.lra_program.specs.Step as step
-use Rattle.lra_program.specs.Step.{Op, append, give, give_any, keep, test}
+use Rattle.lra_program.specs.Program.{Expr, Cond, Program}
 use Rattle.lra_operations.specs.Graph.{Exit, broken, continued, returned, Node, empty, point, act, check, seq, choose, iterate, catch, leave}
 use Rattle.lra_operations.specs.Graph.{select, Arms, no_arms, entry, arm, entries_of}
 use Rattle.lra_program.specs.Sites.{Site}
 use Rattle.lra_flow.specs.Plan.{Plan, Widening}
 use Rattle.lra_flow.specs.Operations.{dropping}
-use Rattle.lra_flow.specs.MovesOf.{within_type, set_to, append_set, set_target, push_all, drop_last, moves_of, first_values, tested, test_moves, case_moves}
-use Rattle.lra_flow.specs.MovesOf.{seen_moves, split_moves, comparison_moves, comparison_as, guard, value_moves}
-use Rattle.lra_flow.specs.Pass.{AreJoined, Leaves, Entry, value, failing, Result, noted, jumps, first_of_call, values_behind, behind, Through, Changes, GoesRound, Grows, Narrows, Pass}
-use Rattle.lra_flow.specs.Pass.{ArmsPass, ValueIs, MatchesNone, Enters, JoinsRunning, ComesOut, RunsFrom}
+use Rattle.lra_flow.specs.Pass.{AreJoined, Entry, value, failing, Result, noted, jumps, first_of_call, values_behind, behind, Through, GoesRound, Grows, Narrows, Pass}
+use Rattle.lra_flow.specs.Pass.{ArmsPass, MatchesNone, Enters, JoinsRunning, ComesOut, RunsFrom}
 use Rattle.lra_base.specs.declared.case_labels.CaseLabel.{CaseLabel}
 use Rattle.lra_base.specs.declared.case_labels.CaseLabel.TheVariants.{Case, Default}
 use Rattle.lra_places.specs.Open.{RunHas}
 use Rattle.lra_flow.specs.Analysis.{Derivation, Solves}
 use Rattle.lra_flow.proofs.Caps.{all_both}
 use Rattle.lra_flow.specs.Live.{dims_behind, live_after}
-use Rattle.lra_change.proofs.ChangeSteps.{cases_dims, set_dims}
+use Rattle.lra_change.proofs.OperationWidths.{leaves_dims, changes_dims, value_dims, globals_dims}
 use Rattle.lra_iter.specs.Lives.{LiveAt, ArmsHave, PointsHave, AreWide}
 
--- operations ---------------------------------------------------------------------------------------------------------
-
--- the tests behind an `int` change none
-within_after : (t : NumberType) (live x : ℕ) (p : Moves) (n k : ℕ) → dims_moved p n ≡ k → dims_moved (within_type t live x p) n ≡ k
-within_after Long live x p n k e = e
-within_after Int live x p n k e = e
-
-push_after : (live base : ℕ) (given : List Argument) (n : ℕ) → dims_moved (push_all live base given) n ≡ n + length given
-push_after live base [] n = omega arith
-push_after live base (a ∷ rest) n =
-    let w = seen_of (suc live) base a.value in
-    ap (dims_moved (push_all (suc live) base rest))
-    (within_after a.number_type (suc live) live (append_set live w) n (n + 1) (set_dims (suc live) live w (n + 1))) ∙
-    push_after (suc live) base rest (n + 1) ∙ omega arith
-
-target_after : (live : ℕ) (o : Option Target) (w : Seen) (n : ℕ) → dims_moved (set_target live o w) n ≡ n
-target_after live None w n = refl
-target_after live (Some t) w n = within_after t.number_type live t.place (set_to live t.place w) n n (set_dims live t.place w n)
-
-drop_after : (k n : ℕ) → dims_moved (drop_last k) n ≡ n - k
-drop_after zero n = omega arith
-drop_after (suc k) n = refl
-
-test_after : (o : Option Test) (n : ℕ) → dims_moved (test_moves o) n ≡ n
-test_after None n = refl
-test_after (Some t) n = refl
-
-case_after : (live : ℕ) (c : Division) (o : Option Test) (n : ℕ) → dims_moved (case_moves live c o) n ≡ n
-case_after live c None n = refl
-case_after live c (Some t) n = cases_dims live c (tested t) n refl
-
-seen_after : (live : ℕ) (op : Comparison) (w : Seen) (n : ℕ) → dims_moved (seen_moves live op w) n ≡ n
-seen_after live op (Linear d) n = test_after (comparison_test op d) n
-seen_after live op (Divided c d) n = case_after live c (comparison_test op d) n
-seen_after live op Unseen n = refl
-
-split_after : (live : ℕ) (op : Comparison) (w : Seen) (n : ℕ) → dims_moved (split_moves live op w) n ≡ n
-split_after live differs w n = seen_after live below w n
-split_after live below w n = seen_after live below w n
-split_after live at_most w n = seen_after live at_most w n
-split_after live above w n = seen_after live above w n
-split_after live at_least w n = seen_after live at_least w n
-split_after live equal w n = seen_after live equal w n
-
-comparison_after : (live : ℕ) (op : Comparison) (w : Seen) (n : ℕ) → dims_moved (comparison_moves live op w) n ≡ n
-comparison_after live op (Linear d) n = split_after live op (Linear d) n
-comparison_after live op (Divided c d) n = split_after live op (Divided c d) n
-comparison_after live op Unseen n = refl
-
-guard_after : (live base : ℕ) (wanted : Bool) (c : Cond) (n : ℕ) → dims_moved (guard live base wanted c) n ≡ n
-guard_after live base wanted (compare op a b) n = comparison_after live (comparison_as wanted op) (difference_seen live base a b) n
-guard_after live base wanted (nonzero e) n = comparison_after live (comparison_as wanted differs) (difference_seen live base e (literal Int 0)) n
-guard_after live base wanted (opposite c) n = guard_after live base (not wanted) c n
-guard_after live base true (both_of a b) n = ap (dims_moved (guard live base true b)) (guard_after live base true a n) ∙ guard_after live base true b n
-guard_after live base false (both_of a b) n = guard_after live base false a n
-guard_after live base true (either_of a b) n = guard_after live base true a n
-guard_after live base false (either_of a b) n = ap (dims_moved (guard live base false b)) (guard_after live base false a n) ∙ guard_after live base false b n
-
-first_after : (gs : List GlobalVariable) (live n : ℕ) → dims_moved (first_values live gs) n ≡ n + length gs
-first_after [] live n = omega arith
-first_after (g ∷ gs) live n =
-    ap (dims_moved (first_values (suc live) gs))
-    (within_after g.number_type (suc live) live (append_set live (Linear (linear.constant_form (suc live) g.value))) n (n + 1) refl) ∙
-    first_after gs (suc live) (n + 1) ∙ omega arith
-
 module _ (V H : Type 0) (m : Meaning V H) where
-  made_dims : (p : Moves) (v : V) (e : Exactness) (w : V) → AreMade (dropping m) p v e w → m.dims w ≡ dims_moved p (m.dims v)
-  made_dims stay v e w (same, exact) = ap (λ (x : V). m.dims x) same
-  made_dims (make step) v e w made = made.1
-  made_dims (first_then p q) v e w (x, c, d, one, two, worst) = made_dims q x d w two ∙ ap (dims_moved q) (made_dims p v c x one)
-  made_dims (join_of p q) v e w (x, y, c, d, i, one, two, joined, worst) = joined.2 ∙ made_dims p v c x one
-
-  leaves_dims : (base : ℕ) (c : Cond) (wanted : Bool) (v : V) (e : Exactness) (w : V) → Leaves (dropping m) base c wanted v e w → m.dims w ≡ m.dims v
-  leaves_dims base c wanted v e w is = made_dims (guard (m.dims v) base wanted c) v e w is ∙ guard_after (m.dims v) base wanted c (m.dims v)
-
-  op_after : (op : Op) (n : ℕ) → dims_moved (moves_of n op) n ≡ dims_behind op n
-  op_after (append t) n = within_after t (suc n) n (make (embed 1)) n (suc n) (omega arith)
-  op_after (give base x y) n = target_after n x.target (seen_of n base y) n
-  op_after (give_any x) n = target_after n x.target Unseen n
-  op_after (step.push base given) n = push_after n base given n
-  op_after (keep k) n = drop_after (n - k) n
-  op_after (test base c wanted) n = guard_after n base wanted c n
-
-  changes_dims : (op : Op) (v : V) (e : Exactness) (w : V) → Changes (dropping m) op v e w → m.dims w ≡ dims_behind op (m.dims v)
-  changes_dims op v e w is = made_dims (moves_of (m.dims v) op) v e w is ∙ op_after op (m.dims v)
-
   joined_dims : (v : V) (us : List V) (e : Exactness) (w : V) → AreJoined (dropping m) v us e w → m.dims w ≡ m.dims v
   joined_dims v [] e w (same, exact) = ap (λ (x : V). m.dims x) same
   joined_dims v (u ∷ us) e w (x, c, d, one, rest, worst) = joined_dims x us d w rest ∙ one.2
@@ -149,21 +44,15 @@ module _ (V H : Type 0) (m : Meaning V H) where
   caught_dims returned r e w is = returned_dims r.returns r.normal e w is
 
   -- a `switch`
-  value_dims : (base : ℕ) (e : Expr) (z : ℤ) (wanted : Bool) (v : V) (x : Exactness) (w : V) → ValueIs (dropping m) base e z wanted v x w → m.dims w ≡ m.dims v
-  value_dims base e z wanted v x w is =
-      let n = m.dims v in
-      made_dims (value_moves n base wanted e z) v x w is ∙
-      comparison_after n (comparison_as wanted equal) (subtracted (seen_of n base e) (Linear (linear.constant_form n z))) n
-
   none_dims : (base : ℕ) (e : Expr) (labels : List CaseLabel) (v : V) (x : Exactness) (w : V) → MatchesNone (dropping m) base e labels v x w
       → m.dims w ≡ m.dims v
   none_dims base e [] v x w (same, exact) = ap (λ (u : V). m.dims u) same
-  none_dims base e (Case z ∷ labels) v x w (u, c, d, one, rest, worst) = none_dims base e labels u d w rest ∙ value_dims base e z false v c u one
+  none_dims base e (Case z ∷ labels) v x w (u, c, d, one, rest, worst) = none_dims base e labels u d w rest ∙ value_dims V H m base e z false v c u one
   none_dims base e (Default ∷ labels) v x w rest = none_dims base e labels v x w rest
 
   enters_dims : (base : ℕ) (e : Expr) (l : CaseLabel) (v other : V) (x : Exactness) (w : V) → Enters (dropping m) base e l v other x w
       → m.dims other ≡ m.dims v → m.dims w ≡ m.dims v
-  enters_dims base e (Case z) v other x w is wide = value_dims base e z true v x w is
+  enters_dims base e (Case z) v other x w is wide = value_dims V H m base e z true v x w is
   enters_dims base e Default v other x w (same, exact) wide = ap (λ (u : V). m.dims u) same ∙ wide
 
   joins_dims : (o : Option V) (u : V) (x : Exactness) (w : V) (n : ℕ) → JoinsRunning (dropping m) o u x w → RunHas m n o → m.dims u ≡ n → m.dims w ≡ n
@@ -213,7 +102,7 @@ module _ (V H : Type 0) (m : Meaning V H) where
     module _ (q base : ℕ) (c : Cond) (body : Through V) (n : ℕ) (here : LiveAt T q n) (inside : (f : Option ℕ) (v : V) (r : Result V) → body f v r → m.dims v ≡ n → Wide n r) where
       round_wide : (f : Option ℕ) (v : V) (r : Result V) → GoesRound V H (dropping m) q base c body f v r → m.dims v ≡ n → Wide n r
       round_wide f v r (w, e, s, on, turn, is) h =
-          let x : Wide n s = inside (noted q e f) w s turn (leaves_dims base c true v e w on ∙ h) in
+          let x : Wide n s = inside (noted q e f) w s turn (leaves_dims V H m base c true v e w on ∙ h) in
           wide_is n r _ is (record { normal = x.normal; entries = (live_same q n (m.dims v) h here, x.entries) })
 
       -- the value and the result of the last round
@@ -241,23 +130,23 @@ module _ (V H : Type 0) (m : Meaning V H) where
         pass_wide empty f v r n is h p = wide_is n r _ is (record { normal = h; entries = tt })
         pass_wide (point q) f v r n is h p = wide_is n r _ is (record { normal = h; entries = (live_same q n (m.dims v) h p, tt) })
         pass_wide (act q op) f v r n (w, e, done, is) h p = wide_is (dims_behind op n) r _ is
-            (record { normal = changes_dims op v e w done ∙ ap (dims_behind op) h; entries = tt })
+            (record { normal = changes_dims V H m op v e w done ∙ ap (dims_behind op) h; entries = tt })
         pass_wide (check q base c) f v r n (u, w, d, e, off, on, is) h p = wide_is n r _ is
-            (record { normal = leaves_dims base c true v e w on ∙ h; entries = (tt, tt) })
+            (record { normal = leaves_dims V H m base c true v e w on ∙ h; entries = (tt, tt) })
         pass_wide (seq a b) f v r n (s, t, one, two, is) h p =
             let x = pass_wide a f v s n one h p.0 in
             let y = pass_wide b s.flag s.normal t (live_after a n) two x.normal p.1 in
             wide_is (live_after b (live_after a n)) r _ is (record { normal = y.normal; entries = all_both EntryHas s.entries t.entries x.entries y.entries })
         pass_wide (choose q base c a b) f v r n (on, off, w, d, e, i, s, t, is_on, one, is_off, two, joined, is) h p =
-            let x = pass_wide a (noted q d f) on s n one (leaves_dims base c true v d on is_on ∙ h) p.0 in
-            let y = pass_wide b (noted q e s.flag) off t n two (leaves_dims base c false v e off is_off ∙ h) p.1 in
+            let x = pass_wide a (noted q d f) on s n one (leaves_dims V H m base c true v d on is_on ∙ h) p.0 in
+            let y = pass_wide b (noted q e s.flag) off t n two (leaves_dims V H m base c false v e off is_off ∙ h) p.1 in
             wide_is (live_after a n) r _ is (record { normal = joined.2 ∙ x.normal; entries = all_both EntryHas s.entries t.entries x.entries y.entries })
         pass_wide (iterate q base c a) f v r n (k, later, u, top, out, s, t, e, started, grown, narrowed, off, is) h p =
             let inside : (f' : Option ℕ) (v' : V) (r' : Result V) → Pass V H (dropping m) set a f' v' r' → m.dims v' ≡ n → Wide n r' =
             λ f' v' r' turn d. subst (λ (j : ℕ). Wide j r') p.2 (pass_wide a f' v' r' n turn d p.1) in
             let x = grows_wide q base c (Pass V H (dropping m) set a) n p.0 inside set.widening set.delay f k later u s grown (started.1 ∙ h) in
             let y = narrows_wide q base c (Pass V H (dropping m) set a) n p.0 inside set.narrow v u s top t narrowed h x in
-            wide_is n r _ is (record { normal = leaves_dims base c false top e out off ∙ y.top; entries = y.result.entries })
+            wide_is n r _ is (record { normal = leaves_dims V H m base c false top e out off ∙ y.top; entries = y.result.entries })
         pass_wide (catch q k a) f v r n (w, e, s, one, joined, is) h p =
             let x = pass_wide a f v s n one h p in
             wide_is (live_after a n) r _ is (behind_wide k s w (noted q e s.flag) (live_after a n) (caught_dims k s e w joined ∙ x.normal) x.entries)
@@ -288,8 +177,7 @@ pub values_wide : {V H : Type 0} (m : Meaning V H) → Laws m → (T : List Site
     → (q : ℕ) (v : V) (s : Site) → Contains r.entries (value q v) → slice_get T q ≡ Some s → m.dims v ≡ s.live
 values_wide {V} {H} m laws T plan P g r lives (none, first, e, universal, begun, pass) q v s found there =
     let n = length P.globals in
-    let begins : m.dims first ≡ n = made_dims V H m (first_values 0 P.globals) none e first begun ∙ first_after P.globals 0 (m.dims none) ∙
-    (let zero_dims = laws.universal_dims 0 plan.parts none universal.0 in omega (arith, zero_dims)) in
+    let begins : m.dims first ≡ n = globals_dims V H m P.globals none e first begun (laws.universal_dims 0 plan.parts none universal.0) in
     let wide = pass_wide V H m T laws plan g (noted 0 e None) first r n pass begins lives in
     entry_has V H m T r.entries q v wide.entries found s there
 
