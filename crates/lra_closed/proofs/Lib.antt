@@ -1,0 +1,20 @@
+-- What lists have that are made of others.
+mod Members
+-- Moves and changes keep points.
+mod Changes
+-- Ways one behind the other.
+mod WaysOn
+-- The parts of a tree one behind the other.
+mod Parts
+mod Sequences
+-- Loops, and the arms of a `switch`.
+mod Loops
+mod Arms
+-- Trees, and programs.
+mod Trees
+pub mod Programs
+-- The two kinds of points.
+pub mod Stores
+pub mod RationalPoints
+-- Worked examples.
+mod PointExamples

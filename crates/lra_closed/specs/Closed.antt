@@ -1,0 +1,87 @@
+-- Values that are closed along paths: whatever a path leads to, from a point of its source's value, is a point of its
+-- target's value, and no path leads to where a proved assertion is false.
+use Rattle.std.specs.Prelude.{◌≡◌, ℕ, suc, List, Bool, true, Option, Some, slice_get, Contains}
+use Rattle.lra_domain.specs.Actions.{Action}
+use Rattle.lra_domain.specs.Meaning.{Meaning}
+use Rattle.lra_program.specs.Program.{Program}
+use Rattle.lra_program.specs.Sites.{Site, sites_of}
+use Rattle.lra_operations.specs.Graph.{How, normal, jump, Node}
+use Rattle.lra_flow.specs.Plan.{Plan}
+use Rattle.lra_flow.specs.Pass.{value, failing, Result, jumps_of}
+use Rattle.lra_flow.specs.Analysis.{Derivation, Solves}
+use Rattle.lra_paths.specs.Ways.{Step, Goal, comes_to, denies, Way, Segment, Suffix, through, enter, outs, inside}
+use Rattle.lra_paths.specs.Sides.{written}
+use Rattle.lra_paths.specs.WayMoves.{live_behind}
+use Rattle.lra_paths.specs.Paths.{leading}
+use Rattle.lra_closed.specs.Points.{PointsOf, LeadsBy}
+
+-- programs: what is reported of an iteration ----------------------------------------------------------------------
+
+-- at a point its value has it; where an assertion is false, that assertion isn't proved
+abbrev pub IsAtGoal : {V H X : Type 0} → PointsOf V H X → List V → List (ℕ × Bool) → Goal → X → Type 0
+IsAtGoal {V} o values verdicts (comes_to q) y = (w : V) × (slice_get values q ≡ Some w) × o.on w y
+IsAtGoal o values verdicts (denies q) y = ¬ Contains verdicts (q, true)
+
+-- the start has the number 0, the points those from 1 on
+pub record AreClosed {V H X : Type 0} (o : PointsOf V H X) (P : Program) (g : Node) (values : List V)
+    (verdicts : List (ℕ × Bool)) : Type 0 where
+  -- from the start
+  pub first : (goal : Goal) (actions : List Action) → Contains (leading P g 0 goal) actions → (x y : X) → o.bare x →
+      LeadsBy o actions x y → IsAtGoal o values verdicts goal y
+  -- from a point
+  pub next : (p : ℕ) (s : Site) (v : V) (goal : Goal) (actions : List Action) → slice_get (sites_of P) p ≡ Some s →
+      slice_get values p ≡ Some v → Contains (leading P g (suc p) goal) actions → (x y : X) → o.on v x →
+      LeadsBy o actions x y → IsAtGoal o values verdicts goal y
+
+-- each value has a dimension for each variable that lives at its point
+abbrev pub AreWide : {V H : Type 0} → Meaning V H → Program → List V → Type 0
+AreWide {V} m P values = (p : ℕ) (v : V) → slice_get values p ≡ Some v → (s : Site) →
+    slice_get (sites_of P) p ≡ Some s → m.dims v ≡ s.live
+
+-- no assertion has two values where it is false
+abbrev pub FailOnce : {V : Type 0} → Result V → Type 0
+FailOnce {V} r = (q : ℕ) (u w : V) → Contains r.entries (failing q u) → Contains r.entries (failing q w) → u ≡ w
+
+-- Of an iteration that isn't narrowed, flagged or not. Narrowed once, a loop's value is the join of what came in first
+-- with what one round left, and where its body isn't monotone, as one with a loop, another round may lead out of that.
+abbrev pub ValuesAreClosed : {V H X : Type 0} → Meaning V H → PointsOf V H X → Type 0
+ValuesAreClosed {V} m o = (set : Plan) (P : Program) (g : Node) (r : Result V) (values : List V)
+    (verdicts : List (ℕ × Bool)) (flagged : Option ℕ) → set.narrow ≡ 0 → Derivation m set P g r →
+    Solves m r values verdicts flagged → AreWide m P values → FailOnce r → AreClosed o P g values verdicts
+
+-- trees: a pass --------------------------------------------------------------------------------------------------
+
+-- the second value has a dimension for each variable that lives behind the way, and all points to which the way leads
+-- from those of the first
+pub record Keeps {V H X : Type 0} (m : Meaning V H) (o : PointsOf V H X) (v : V) (ops : List Step) (w : V)
+    : Type 0 where
+  pub dims : m.dims w ≡ live_behind (m.dims v) ops
+  pub points : (actions : List Action) (x y : X) → Contains (written (m.dims v) ops) actions → o.on v x →
+      LeadsBy o actions x y → o.on w y
+
+-- one of these values does
+abbrev pub KeptBy : {V H X : Type 0} → Meaning V H → PointsOf V H X → V → List Step → (V → Type 0) → Type 0
+KeptBy {V} m o v ops among = (w : V) × among w × Keeps m o v ops w
+
+-- so it is from the value at the point of this number
+abbrev pub KeptFrom : {V H X : Type 0} → Meaning V H → PointsOf V H X → Result V → ℕ → List Step → (V → Type 0) →
+    Type 0
+KeptFrom {V} m o r q ops among = (v : V) × Contains r.entries (value q v) × KeptBy m o v ops among
+
+-- the tree is left so with the value
+abbrev pub IsLeft : {V : Type 0} → Result V → How → V → Type 0
+IsLeft r normal v = v ≡ r.normal
+IsLeft r (jump j) v = Contains (jumps_of j r) v
+
+-- the value is one at the point, or where the assertion there is false
+abbrev pub IsMet : {V : Type 0} → Result V → Goal → V → Type 0
+IsMet r (comes_to q) v = Contains r.entries (value q v)
+IsMet r (denies q) v = Contains r.entries (failing q v)
+
+-- from this value through the tree, with this result
+pub record IsClosed {V H X : Type 0} (m : Meaning V H) (o : PointsOf V H X) (g : Node) (v : V) (r : Result V)
+    : Type 0 where
+  pub passes : (h : How) (ops : List Step) → Contains (through g h) ops → KeptBy m o v ops (IsLeft r h)
+  pub enters : (way : Way) → Contains (enter g) way → KeptBy m o v way.ops (IsMet r way.goal)
+  pub leaves : (h : How) (out : Suffix) → Contains (outs g h) out → KeptFrom m o r out.source out.ops (IsLeft r h)
+  pub goes : (s : Segment) → Contains (inside g) s → KeptFrom m o r s.source s.way.ops (IsMet r s.way.goal)

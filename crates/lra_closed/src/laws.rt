@@ -1,0 +1,18 @@
+//! Laws: each of these does nothing, and its contract is the theorem.
+
+ghost use Rattle.lra_polydom.specs.Meaning.{polyhedron_meaning};
+ghost use Rattle.lra_closed.specs.Closed.{ValuesAreClosed};
+ghost use Rattle.lra_closed.specs.RationalPoints.{rational_points};
+ghost use Rattle.lra_closed.specs.Stores.{stores};
+
+use lra_domain::Domain;
+
+/// The polyhedra of an iteration that isn't narrowed, flagged or not, are closed along paths at rational points.
+pub fn polyhedra_are_closed()
+    ensures { ValuesAreClosed polyhedron_meaning rational_points }
+{}
+
+/// Over any domain, what such an iteration finds is closed along paths at stores.
+pub fn stores_are_closed<D: Domain>()
+    ensures { ValuesAreClosed D.meaning (stores D.meaning) }
+{}
