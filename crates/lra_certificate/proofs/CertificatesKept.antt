@@ -19,7 +19,7 @@ use Rattle.lra_linear.proofs.Ring.{ring, v, ◌⊕◌, ◌⊗◌}
 use Rattle.lra_program.specs.Program.{Program}
 use Rattle.lra_program.specs.Sites.{Site, sites_of}
 use Rattle.lra_operations.specs.Graph.{Node}
-use Rattle.lra_paths.specs.Ways.{Goal, comes_to, denies}
+use Rattle.lra_ways.specs.Ways.{Goal, comes_to, denies}
 use Rattle.lra_paths.specs.Covers.{HoldInAllRuns}
 use Rattle.lra_paths.specs.Paths.{Path, path_by, live_of, live_at, leading, paths_between, paths_of, denials_of, sources_of, points_of}
 use Rattle.lra_multipliers.specs.Symbols.{Walked, symbols, new_symbols, width_of, walk_of}
@@ -30,7 +30,7 @@ use Rattle.lra_certificate.specs.Certificates.{MeetsPaths}
 use Rattle.lra_certificate.specs.Certificates.{MeetsListed, IsPointRow, IsState, AreStates, Meets}
 use Rattle.lra_certificate.specs.Claims.{HoldsAt, RowsHold, Says, PathsKeepRows}
 use Rattle.lra_paths.specs.Covers.{IsGoalOf}
-use Rattle.lra_paths.proofs.Lists.{flat_map_has}
+use Rattle.lra_ways.proofs.Lists.{flat_map_has}
 use Rattle.lra_multipliers.proofs.ShownRows.{shown_holds}
 use Rattle.lra_certificate.proofs.WalkedRows.{values, composed_value, GoesOn, symbols_values, symbols_behind, symbols_width, Stands, goes_on}
 

@@ -3,7 +3,7 @@ use Rattle.std.specs.Prelude.{ℕ, suc, ℤ, Bool, true, false, List, [], ◌∷
 use Rattle.std.specs.List.{flat_map}
 use Rattle.std.specs.Fmt.{decimal, signed_decimal}
 use Rattle.lra_linear.specs.Descriptions.{Given}
-use Rattle.lra_paths.specs.Ways.{Goal, comes_to, denies}
+use Rattle.lra_ways.specs.Ways.{Goal, comes_to, denies}
 use Rattle.lra_paths.specs.Paths.{Path}
 use Rattle.lra_multipliers.specs.Multipliers.{Multipliers}
 use Rattle.lra_certificate.specs.Certificates.{Evidence, none, dead, by, Listed, Certificate}

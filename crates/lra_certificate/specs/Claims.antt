@@ -16,7 +16,7 @@ use Rattle.lra_operations.specs.Graph.{Node}
 use Rattle.lra_operations.specs.Agree.{point_of}
 use Rattle.lra_front.specs.Stages.{HasTree, HasGraph}
 use Rattle.lra_domain.specs.Moves.{SomeLeads}
-use Rattle.lra_paths.specs.Ways.{Goal, comes_to, denies}
+use Rattle.lra_ways.specs.Ways.{Goal, comes_to, denies}
 use Rattle.lra_paths.specs.Paths.{live_at, leading, paths_of, AreFewPaths, HasTooMany}
 use Rattle.lra_paths.specs.Covers.{IsGoalOf, HoldInAllRuns}
 use Rattle.std.specs.Prelude.{pos, ◌∷◌, Contains}

@@ -15,8 +15,8 @@ use Rattle.lra_flow.specs.MovesOf.{value_moves}
 use Rattle.lra_flow.specs.Pass.{Result, goes_on, in_turn, MatchesNone, Enters, JoinsRunning, ComesOut}
 use Rattle.lra_flow.proofs.Sound.{right_jump}
 use Rattle.lra_change.proofs.OperationWidths.{value_dims}
-use Rattle.lra_paths.specs.Ways.{Step, goes, Way, Segment, Suffix, through, enter, outs, inside, led, led_way}
-use Rattle.lra_paths.specs.Ways.{through_arms, through_labels, enter_arms, enter_labels, outs_arms, inside_arms}
+use Rattle.lra_ways.specs.Ways.{Step, goes, Way, Segment, Suffix, through, enter, outs, inside, led, led_way}
+use Rattle.lra_ways.specs.Ways.{through_arms, through_labels, enter_arms, enter_labels, outs_arms, inside_arms}
 use Rattle.lra_closed.specs.Points.{PointsOf, KeepPoints}
 use Rattle.lra_closed.specs.Closed.{Keeps, KeptBy, KeptFrom, IsLeft, IsMet, IsClosed}
 use Rattle.lra_closed.proofs.Members.{one_from}

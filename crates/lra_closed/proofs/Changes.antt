@@ -15,8 +15,8 @@ use Rattle.lra_flow.specs.MovesOf.{value_moves, number_moves}
 use Rattle.lra_flow.specs.Seen.{seen_of}
 use Rattle.lra_flow.specs.Pass.{MatchesNone}
 use Rattle.lra_change.proofs.OperationWidths.{value_dims}
-use Rattle.lra_paths.specs.Sides.{sides}
-use Rattle.lra_paths.specs.StepMoves.{unmatched_moves}
+use Rattle.lra_sides.specs.Sides.{sides}
+use Rattle.lra_sides.specs.StepMoves.{unmatched_moves}
 use Rattle.lra_closed.specs.Points.{PointsOf, LeadsBy, KeepPoints}
 use Rattle.lra_closed.proofs.Members.{one_from, pairs_from}
 

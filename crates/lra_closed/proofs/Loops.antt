@@ -10,7 +10,7 @@ use Rattle.lra_operations.specs.Graph.{Exit, broken, continued, returned, How, n
 use Rattle.lra_flow.specs.Plan.{Plan, Widening, mode_at}
 use Rattle.lra_flow.specs.Operations.{dropping}
 use Rattle.lra_flow.specs.Pass.{value, Result, noted, jumps_of, Grows, Pass}
-use Rattle.lra_paths.specs.Ways.{Step, does, comes_to, Way, Segment, Suffix, through, enter, outs, inside, into_body, out_of_body, segment_to}
+use Rattle.lra_ways.specs.Ways.{Step, does, comes_to, Way, Segment, Suffix, through, enter, outs, inside, into_body, out_of_body, segment_to}
 use Rattle.lra_closed.specs.Points.{PointsOf, KeepPoints}
 use Rattle.lra_closed.specs.Closed.{Keeps, KeptBy, KeptFrom, IsLeft, IsMet, IsClosed}
 use Rattle.lra_closed.proofs.Members.{one_from}

@@ -4,8 +4,8 @@ use Rattle.std.specs.List.{Contains}
 use Rattle.std.proofs.lemmas.List.Elements.{Contains-append_left, Contains-append_right}
 use Rattle.lra_domain.specs.Meaning.{Meaning}
 use Rattle.lra_flow.specs.Pass.{Entry, value, failing, Result, in_turn}
-use Rattle.lra_paths.specs.Ways.{Step, Goal, comes_to, denies, Way, Segment, Suffix, each_then, then_way, then_ways, then_out, then_outs}
-use Rattle.lra_paths.specs.Ways.{segment_by, segments_by}
+use Rattle.lra_ways.specs.Ways.{Step, Goal, comes_to, denies, Way, Segment, Suffix, each_then, then_way, then_ways, then_out, then_outs}
+use Rattle.lra_ways.specs.Ways.{segment_by, segments_by}
 use Rattle.lra_closed.specs.Points.{PointsOf}
 use Rattle.lra_closed.specs.Closed.{Keeps, KeptBy, KeptFrom, IsMet}
 use Rattle.lra_closed.proofs.Members.{pairs_from}

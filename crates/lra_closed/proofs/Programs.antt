@@ -15,8 +15,8 @@ use Rattle.lra_flow.specs.MovesOf.{first_values}
 use Rattle.lra_flow.specs.Pass.{Result, noted}
 use Rattle.lra_flow.specs.Analysis.{Solves}
 use Rattle.lra_change.proofs.OperationWidths.{globals_dims}
-use Rattle.lra_paths.specs.Ways.{Goal, comes_to, denies, Way, Segment, enter, inside}
-use Rattle.lra_paths.specs.Sides.{sides, written}
+use Rattle.lra_ways.specs.Ways.{Goal, comes_to, denies, Way, Segment, enter, inside}
+use Rattle.lra_sides.specs.Sides.{sides, written}
 use Rattle.lra_paths.specs.Paths.{same_goal, live_of, started, first_ways, next_segments, leading}
 use Rattle.lra_paths.proofs.SourceSteps.{alike}
 use Rattle.lra_closed.specs.Points.{PointsOf, LeadsBy, KeepPoints}

@@ -6,7 +6,7 @@ use Rattle.lra_domain.specs.Meaning.{Meaning}
 use Rattle.lra_operations.specs.Graph.{How, normal, jump, Node}
 use Rattle.lra_flow.specs.Pass.{Result, in_turn}
 use Rattle.lra_flow.proofs.Sound.{left_jump, right_jump}
-use Rattle.lra_paths.specs.Ways.{Step, Way, Segment, Suffix, through, enter, outs, inside, each_then, then_ways, then_outs, segments_by}
+use Rattle.lra_ways.specs.Ways.{Step, Way, Segment, Suffix, through, enter, outs, inside, each_then, then_ways, then_outs, segments_by}
 use Rattle.lra_closed.specs.Points.{PointsOf}
 use Rattle.lra_closed.specs.Closed.{KeptBy, KeptFrom, IsLeft, IsMet, IsClosed}
 use Rattle.lra_closed.proofs.Parts.{left_part, right_part, among_more, met_more, from_more, from_met}

@@ -20,8 +20,8 @@ use Rattle.lra_flow.specs.Operations.{dropping}
 use Rattle.lra_flow.specs.Pass.{Entry, value, failing, Result, noted, jumps_of, goes_on, jumps, in_turn, first_of_call, values_behind, behind}
 use Rattle.lra_flow.specs.Pass.{AreJoined, Leaves, Enters, RunsFrom, Narrows, Pass, ArmsPass}
 use Rattle.lra_flow.proofs.Sound.{left_jump, right_jump, jump_there, behind_normal}
-use Rattle.lra_paths.specs.Ways.{Step, does, comes_to, denies, Way, Segment, Suffix, same_exit, through, enter, outs, inside, tested, tested_way}
-use Rattle.lra_paths.specs.Ways.{goes_in, past_labels, through_labels}
+use Rattle.lra_ways.specs.Ways.{Step, does, comes_to, denies, Way, Segment, Suffix, same_exit, through, enter, outs, inside, tested, tested_way}
+use Rattle.lra_ways.specs.Ways.{goes_in, past_labels, through_labels}
 use Rattle.lra_closed.specs.Points.{PointsOf, KeepPoints}
 use Rattle.lra_closed.specs.Closed.{Keeps, KeptBy, KeptFrom, IsLeft, IsMet, IsClosed}
 use Rattle.lra_closed.proofs.Members.{one_from}

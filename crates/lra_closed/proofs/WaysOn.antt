@@ -11,11 +11,11 @@ use Rattle.lra_flow.specs.Operations.{dropping}
 use Rattle.lra_flow.specs.MovesOf.{guard, moves_of}
 use Rattle.lra_flow.specs.Pass.{Changes, Leaves}
 use Rattle.lra_change.proofs.OperationWidths.{changes_dims, leaves_dims}
-use Rattle.lra_paths.specs.Ways.{Step, does}
-use Rattle.lra_paths.specs.StepMoves.{step_moves, dims_behind_step}
-use Rattle.lra_paths.specs.Sides.{sides, written}
-use Rattle.lra_paths.specs.WayMoves.{live_behind}
-use Rattle.lra_paths.proofs.Lists.{each_then_has}
+use Rattle.lra_ways.specs.Ways.{Step, does}
+use Rattle.lra_sides.specs.StepMoves.{step_moves, dims_behind_step}
+use Rattle.lra_sides.specs.Sides.{sides, written}
+use Rattle.lra_sides.specs.WayMoves.{live_behind}
+use Rattle.lra_ways.proofs.Lists.{each_then_has}
 use Rattle.lra_closed.specs.Points.{PointsOf, LeadsBy, KeepPoints}
 use Rattle.lra_closed.specs.Closed.{Keeps, KeptBy}
 use Rattle.lra_closed.proofs.Members.{one_from, pairs_from}

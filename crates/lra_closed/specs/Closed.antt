@@ -9,9 +9,9 @@ use Rattle.lra_operations.specs.Graph.{How, normal, jump, Node}
 use Rattle.lra_flow.specs.Plan.{Plan}
 use Rattle.lra_flow.specs.Pass.{value, failing, Result, jumps_of}
 use Rattle.lra_flow.specs.Analysis.{Derivation, Solves}
-use Rattle.lra_paths.specs.Ways.{Step, Goal, comes_to, denies, Way, Segment, Suffix, through, enter, outs, inside}
-use Rattle.lra_paths.specs.Sides.{written}
-use Rattle.lra_paths.specs.WayMoves.{live_behind}
+use Rattle.lra_ways.specs.Ways.{Step, Goal, comes_to, denies, Way, Segment, Suffix, through, enter, outs, inside}
+use Rattle.lra_sides.specs.Sides.{written}
+use Rattle.lra_sides.specs.WayMoves.{live_behind}
 use Rattle.lra_paths.specs.Paths.{leading}
 use Rattle.lra_closed.specs.Points.{PointsOf, LeadsBy}
 

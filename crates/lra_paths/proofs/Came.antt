@@ -17,15 +17,14 @@ use Rattle.lra_operations.specs.Graph.{Exit, broken, continued, returned, normal
 use Rattle.lra_operations.specs.Graph.{select, Arms, no_arms, entry, arm, entries_of}
 use Rattle.lra_operations.specs.Trails.{Stop, by_jump, to_point, to_failure, IsPoint, Outcome, to_end, stopped, Goes, Tests, TrailRounds}
 use Rattle.lra_operations.proofs.ArmRows.{arms_row, row_behind, row_of_behind, behind_of_row}
-use Rattle.lra_paths.specs.Ways.{Step, does, Goal, comes_to, denies, Way, Segment, Suffix, same_exit, each_then, then_way, then_out, segment_by}
-use Rattle.lra_paths.specs.Ways.{segment_to, tested_way}
-use Rattle.lra_paths.specs.Ways.{into_body}
-use Rattle.lra_paths.specs.Ways.{out_of_body, through, enter, outs, inside, RunsOps, RunsStep}
-use Rattle.lra_paths.specs.Ways.{goes_in, led, led_way, past_labels, through_arms, through_labels, enter_arms, enter_labels}
-use Rattle.lra_paths.specs.Ways as ways
+use Rattle.lra_ways.specs.Ways.{Step, does, Goal, comes_to, denies, Way, Segment, Suffix, same_exit, each_then, then_way, then_out, segment_by}
+use Rattle.lra_ways.specs.Ways.{segment_to, tested_way, into_body}
+use Rattle.lra_ways.specs.Ways.{out_of_body, through, enter, outs, inside, RunsOps, RunsStep}
+use Rattle.lra_ways.specs.Ways.{goes_in, led, led_way, past_labels, through_arms, through_labels, enter_arms, enter_labels}
+use Rattle.lra_ways.specs.Ways as ways
 use Rattle.lra_paths.specs.Covers.{IsFirst, IsNext, LeadsSo, HasGone, along_first, along_next}
-use Rattle.lra_paths.proofs.LabelLaws.{alike_are, goal_out, through_row, enter_row, outs_row, inside_row, none_behind}
-use Rattle.lra_paths.proofs.Lists.{pairs_have, each_then_has}
+use Rattle.lra_ways.proofs.LabelLaws.{alike_are, goal_out, through_row, enter_row, outs_row, inside_row, none_behind}
+use Rattle.lra_ways.proofs.Lists.{pairs_have, each_then_has}
 
 -- states -----------------------------------------------------------------------------------------------------------------
 

@@ -17,14 +17,15 @@ use Rattle.lra_operations.specs.Graph.{Node}
 use Rattle.lra_operations.specs.Trails.{to_point, to_failure, stopped}
 use Rattle.lra_operations.specs.Agree.{point_of}
 use Rattle.lra_operations.specs.TrailsAgree.{point_at, point_or_none, TreeGoes}
-use Rattle.lra_paths.specs.Ways.{Step, Goal, comes_to, denies, Way, Segment, enter, inside}
-use Rattle.lra_paths.specs.Sides.{written}
+use Rattle.lra_ways.specs.Ways.{Step, Goal, comes_to, denies, Way, Segment, enter, inside}
+use Rattle.lra_sides.specs.Sides.{written}
 use Rattle.lra_paths.specs.Paths.{same_goal, live_of, live_at, from_start, first_ways, next_segments, leading}
 use Rattle.lra_paths.specs.Covers.{HasGone, along_first, along_next, PathsCover, AreKept, HoldInAllRuns}
 use Rattle.lra_paths.proofs.Came.{came}
 use Rattle.lra_paths.proofs.FollowedRuns.{FollowsRuns}
-use Rattle.lra_paths.proofs.SideSteps.{some_left, some_right}
-use Rattle.lra_paths.proofs.WrittenSteps.{written_from, start_leads}
+use Rattle.lra_sides.proofs.SideSteps.{some_left, some_right}
+use Rattle.lra_sides.proofs.WrittenSteps.{written_from}
+use Rattle.lra_paths.proofs.StartSteps.{start_leads}
 
 -- members ----------------------------------------------------------------------------------------------------------------
 

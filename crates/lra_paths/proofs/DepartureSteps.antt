@@ -13,25 +13,25 @@ use Rattle.lra_program.specs.declared.program.GlobalVariable.{GlobalVariable}
 use Rattle.lra_program.specs.Sites.{Site}
 use Rattle.lra_operations.specs.Graph.{Node}
 use Rattle.lra_flow.specs.MovesOf.{first_values}
-use Rattle.lra_paths.specs.Ways.{Step, Goal, each_then, enter, inside, Way, Segment}
-use Rattle.lra_paths.specs.Sides.{sides, written}
-use Rattle.lra_paths.specs.Paths.{live_of, same_goal, started, leading_in, greatest_paths, AreFewFrom, HasTooManyIn}
-use Rattle.lra_paths.specs.Stretches.{AreWays, entered, met, Stretch, stretch, End, leaves, meets}
+use Rattle.lra_ways.specs.Ways.{Step, Goal, each_then, enter, inside, Way, Segment}
+use Rattle.lra_sides.specs.Sides.{sides, written, greatest_paths}
+use Rattle.lra_paths.specs.Paths.{live_of, same_goal, started, leading_in, AreFewFrom, HasTooManyIn}
+use Rattle.lra_ways.specs.Stretches.{AreWays, entered, met, Stretch, stretch, End, leaves, meets}
 use Rattle.lra_paths.specs.Sources.{ArePlaced, all_departing, departing, ending, to_goal, to_goal_by, first_from, live_from, point_from, same_point}
 use Rattle.lra_paths.specs.Sources.{AreFewTo, AreManyTo, IsDeparture, IsSource, Adds}
-use Rattle.lra_paths.specs.StretchViews.{goal_view, seen, stretch_view}
-use Rattle.lra_paths.specs.Tables.{IsTable, Has, Grows, moves_at}
-use Rattle.lra_paths.specs.WayMoves.{way_moves}
+use Rattle.lra_ways.specs.StretchViews.{goal_view, seen, stretch_view}
+use Rattle.lra_sides.specs.Tables.{IsTable, Has, Grows, moves_at}
+use Rattle.lra_sides.specs.WayMoves.{way_moves}
 use Rattle.lra_paths.specs.declared.paths.Departure.{Departure}
 use Rattle.lra_paths.specs.declared.sources.SourceWay.{SourceWay}
-use Rattle.lra_paths.specs.declared.stretches.Goal as declared
-use Rattle.lra_paths.specs.declared.stretches.Stretch as declared_stretch
+use Rattle.lra_ways.specs.declared.stretches.Goal as declared
+use Rattle.lra_ways.specs.declared.stretches.Stretch as declared_stretch
 use Rattle.lra_paths.specs.declared.sources.Source.{Source}
-use Rattle.lra_paths.specs.declared.tables.Entry.{Entry}
-use Rattle.lra_paths.proofs.FlatSteps.{flat_same, flat_filter, flat_flat, both_same}
-use Rattle.lra_paths.proofs.TableSteps.{has_at, within}
-use Rattle.lra_paths.proofs.GuardSteps.{still_in, still_at, grows_on}
-use Rattle.lra_paths.proofs.WayMoveSteps.{way_sides}
+use Rattle.lra_sides.specs.declared.tables.Entry.{Entry}
+use Rattle.lra_ways.proofs.FlatSteps.{flat_same, flat_filter, flat_flat, both_same}
+use Rattle.lra_sides.proofs.TableSteps.{has_at, within}
+use Rattle.lra_sides.proofs.GuardSteps.{still_in, still_at, grows_on}
+use Rattle.lra_sides.proofs.WayMoveSteps.{way_sides}
 
 -- one list ---------------------------------------------------------------------------------------------------------------
 

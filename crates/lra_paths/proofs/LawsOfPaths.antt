@@ -5,7 +5,7 @@ use Rattle.lra_program.specs.Program.{Program}
 use Rattle.lra_program.specs.WellFormed.{IsWellFormed}
 use Rattle.lra_operations.specs.Graph.{Node}
 use Rattle.lra_operations.specs.Agree.{IsGraph}
-use Rattle.lra_paths.specs.Ways.{Goal}
+use Rattle.lra_ways.specs.Ways.{Goal}
 use Rattle.lra_program.specs.Trails.{Trail, Alone}
 use Rattle.lra_operations.specs.Trails.{Outcome, Goes}
 use Rattle.lra_paths.proofs.Came.{came}

@@ -21,12 +21,11 @@ use Rattle.lra_operations.specs.Inlined.{as_nothing, as_block, as_absent, as_ass
 use Rattle.lra_operations.specs.Inlined.{as_break, as_continue, as_return, as_return_value, as_return_call, as_end, as_end_value, as_end_call, as_assert}
 use Rattle.lra_operations.specs.Inlined.{as_switch, as_no_cases, as_labelled, as_stated}
 use Rattle.lra_operations.specs.Inlined.{as_assume, as_none, as_declaration, as_statement, as_fresh, as_given, is_loop, as_value, as_result}
-use Rattle.lra_paths.specs.Ways.{Step, does, goes_in, led_way, enter_arms, enter_labels}
-use Rattle.lra_paths.specs.Ways.{Goal, comes_to, denies, Way, Segment, then_way, segment_by, tested_way, into_body, out_of_body, segment_to, through, enter}
-use Rattle.lra_paths.specs.Ways.{outs, inside}
-use Rattle.lra_paths.specs.Ways.{Suffix, then_ways, segments_by}
-use Rattle.lra_paths.proofs.LabelLaws.{enter_row, inside_row}
-use Rattle.lra_paths.specs.Sides.{written}
+use Rattle.lra_ways.specs.Ways.{Step, does, goes_in, led_way, enter_arms, enter_labels}
+use Rattle.lra_ways.specs.Ways.{Goal, comes_to, denies, Way, Segment, then_way, segment_by, tested_way, into_body, out_of_body, segment_to, through, enter}
+use Rattle.lra_ways.specs.Ways.{outs, inside, Suffix, then_ways, segments_by}
+use Rattle.lra_ways.proofs.LabelLaws.{enter_row, inside_row}
+use Rattle.lra_sides.specs.Sides.{written}
 use Rattle.lra_paths.specs.Paths.{same_goal, started, live_at, leading, path_by, paths_between, denials_of}
 
 -- lists ------------------------------------------------------------------------------------------------------------------

@@ -7,15 +7,15 @@ use Rattle.std.proofs.Math.Seq.{take-suc}
 use Rattle.std.proofs.lemmas.Grind.{flat_map-append}
 use Rattle.std.proofs.lemmas.List.Folds.{length-flat_map-take}
 use Rattle.lra_domain.specs.Actions.{Action}
-use Rattle.lra_paths.specs.Ways.{Goal, comes_to, denies}
-use Rattle.lra_paths.specs.Sides.{sides}
-use Rattle.lra_paths.specs.Paths.{greatest_paths, same_goal}
+use Rattle.lra_ways.specs.Ways.{Goal, comes_to, denies}
+use Rattle.lra_sides.specs.Sides.{sides, greatest_paths}
+use Rattle.lra_paths.specs.Paths.{same_goal}
 use Rattle.lra_paths.specs.Sources.{AreFewFor, AreFewTo, to_goal, to_goal_by}
-use Rattle.lra_paths.specs.StretchViews.{goal_view}
-use Rattle.lra_paths.specs.Tables.{capped, moves_at}
+use Rattle.lra_ways.specs.StretchViews.{goal_view}
+use Rattle.lra_sides.specs.Tables.{capped, moves_at}
 use Rattle.lra_paths.specs.declared.sources.SourceWay.{SourceWay}
-use Rattle.lra_paths.specs.declared.tables.Entry.{Entry}
-use Rattle.lra_paths.proofs.TableSteps.{capped_few, capped_many, capped_plus}
+use Rattle.lra_sides.specs.declared.tables.Entry.{Entry}
+use Rattle.lra_sides.proofs.TableSteps.{capped_few, capped_many, capped_plus}
 
 module _ (es : List Entry) (goal : Goal) (ways : List SourceWay) (i : ℕ) (d : SourceWay) (inside : i < length ways) where
   pub few_at : (n : ℕ) → length (to_goal es ways goal) ≤ n → length (to_goal_by es goal (get_or ways i d)) ≤ n

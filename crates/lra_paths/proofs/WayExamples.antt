@@ -13,8 +13,8 @@ use Rattle.lra_domain.specs.Moves.{make, first_then, join_of, cases}
 use Rattle.lra_base.specs.declared.case_labels.CaseLabel.{CaseLabel}
 use Rattle.lra_base.specs.declared.case_labels.CaseLabel.TheVariants.{Case, Default}
 use Rattle.lra_operations.specs.Graph.{select, no_arms, entry, arm}
-use Rattle.lra_paths.specs.Ways.{Step, does, goes, comes_to, denies, through, enter, outs, inside}
-use Rattle.lra_paths.specs.Sides.{sides, written}
+use Rattle.lra_ways.specs.Ways.{Step, does, goes, comes_to, denies, through, enter, outs, inside}
+use Rattle.lra_sides.specs.Sides.{sides, written}
 
 abbrev x : Expr
 x = read (long_variable (local 0))

@@ -10,7 +10,7 @@ use Rattle.lra_program.specs.Trails.{Met, passes, Trail, Alone, Walks, Piece}
 use Rattle.lra_operations.specs.Graph.{normal, jump, Node}
 use Rattle.lra_operations.specs.Trails.{by_jump, to_point, to_failure, Outcome, to_end, stopped, Goes}
 use Rattle.lra_operations.specs.Agree.{IsGraph, point_of}
-use Rattle.lra_paths.specs.Ways.{Step, Goal, comes_to, denies, through, enter, outs, inside, RunsOps}
+use Rattle.lra_ways.specs.Ways.{Step, Goal, comes_to, denies, through, enter, outs, inside, RunsOps}
 use Rattle.lra_paths.specs.Paths.{live_at, leading}
 
 -- trees ------------------------------------------------------------------------------------------------------------

@@ -4,7 +4,7 @@ use Rattle.lra_program.specs.Program.{Program}
 use Rattle.lra_program.specs.Sites.{sites_of}
 use Rattle.lra_operations.specs.Graph.{Node}
 use Rattle.lra_operations.specs.Agree.{IsGraph}
-use Rattle.lra_paths.specs.Ways.{denies}
+use Rattle.lra_ways.specs.Ways.{denies}
 use Rattle.lra_paths.specs.Paths.{paths_between, denials_of}
 
 -- so those that are counted at their source are all that there are

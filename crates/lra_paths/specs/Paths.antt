@@ -9,8 +9,8 @@ use Rattle.lra_program.specs.declared.program.GlobalVariable.{GlobalVariable}
 use Rattle.lra_program.specs.Sites.{Site, sites_of}
 use Rattle.lra_operations.specs.Graph.{Node}
 use Rattle.lra_flow.specs.MovesOf.{first_values}
-use Rattle.lra_paths.specs.Ways.{Step, Goal, comes_to, denies, Way, Segment, each_then, enter, inside}
-use Rattle.lra_paths.specs.Sides.{sides, written}
+use Rattle.lra_ways.specs.Ways.{Step, Goal, comes_to, denies, Way, Segment, each_then, enter, inside}
+use Rattle.lra_sides.specs.Sides.{sides, written, greatest_paths}
 
 abbrev pub same_goal : Goal → Goal → Bool
 same_goal (comes_to p) (comes_to q) = nat_eq p q
@@ -75,9 +75,6 @@ paths_of P g = flat_map (λ p. flat_map (λ q. paths_between P g p (comes_to q))
 -- to where the assertion at the point is false
 abbrev pub denials_of : Program → Node → ℕ → List Path
 denials_of P g q = flat_map (λ p. paths_between P g p (denies q)) (sources_of P)
-
-abbrev pub greatest_paths : ℕ
-greatest_paths = 1024
 
 -- no more of them lead from the source to one goal
 abbrev pub AreFewFrom : List GlobalVariable → List Site → Node → ℕ → Type 0

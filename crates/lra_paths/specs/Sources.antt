@@ -7,17 +7,17 @@ use Rattle.lra_domain.specs.Moves.{Moves, stay, first_then}
 use Rattle.lra_program.specs.declared.program.GlobalVariable.{GlobalVariable}
 use Rattle.lra_program.specs.Sites.{Site}
 use Rattle.lra_flow.specs.MovesOf.{first_values}
-use Rattle.lra_paths.specs.Ways.{Step, Goal}
-use Rattle.lra_paths.specs.Sides.{sides}
-use Rattle.lra_paths.specs.Paths.{greatest_paths, live_of, same_goal}
-use Rattle.lra_paths.specs.Stretches.{End, leaves, meets, Stretch}
-use Rattle.lra_paths.specs.StretchViews.{goal_view}
-use Rattle.lra_paths.specs.Tables.{Has, IsTable, Grows, moves_at}
-use Rattle.lra_paths.specs.WayMoves.{way_moves}
+use Rattle.lra_ways.specs.Ways.{Step, Goal}
+use Rattle.lra_sides.specs.Sides.{sides, greatest_paths}
+use Rattle.lra_paths.specs.Paths.{live_of, same_goal}
+use Rattle.lra_ways.specs.Stretches.{End, leaves, meets, Stretch}
+use Rattle.lra_ways.specs.StretchViews.{goal_view}
+use Rattle.lra_sides.specs.Tables.{Has, IsTable, Grows, moves_at}
+use Rattle.lra_sides.specs.WayMoves.{way_moves}
 use Rattle.lra_paths.specs.declared.paths.Departure.{Departure}
 use Rattle.lra_paths.specs.declared.sources.SourceWay.{SourceWay}
 use Rattle.lra_paths.specs.declared.sources.Source.{Source}
-use Rattle.lra_paths.specs.declared.tables.Entry.{Entry}
+use Rattle.lra_sides.specs.declared.tables.Entry.{Entry}
 
 -- the paths of a way, where it has this goal
 abbrev pub to_goal_by : List Entry → Goal → SourceWay → List (List Action)

@@ -8,20 +8,18 @@ ghost use Rattle.lra_paths.specs.Paths.{AreFewIn, HasTooManyIn, leading_in, live
 ghost use Rattle.lra_paths.specs.Sources as sources;
 ghost use Rattle.lra_paths.specs.Sources.{Adds, IsDeparture, IsSource, all_departing, departing, ending};
 ghost use Rattle.lra_paths.specs.Sources.{same_point, to_goal};
-ghost use Rattle.lra_paths.specs.Stretches as ways;
-ghost use Rattle.lra_paths.specs.Stretches.{AreWays};
-ghost use Rattle.lra_paths.specs.StretchViews.{end_view, goal_view, move_view, seen, stretch_view};
-ghost use Rattle.lra_paths.specs.Tables.{IsTable, moves_at};
-ghost use Rattle.lra_paths.specs.Ways as trees;
+ghost use Rattle.lra_ways.specs.Stretches as ways;
+ghost use Rattle.lra_ways.specs.Stretches.{AreWays};
+ghost use Rattle.lra_ways.specs.StretchViews.{end_view, goal_view, move_view, seen, stretch_view};
+ghost use Rattle.lra_sides.specs.Tables.{IsTable, moves_at};
+ghost use Rattle.lra_ways.specs.Ways as trees;
 ghost use Rattle.lra_paths.specs.declared.paths.PathsFailure.TheVariants.{TooMany};
 
-use crate::changes::{push_globals, push_way};
 use crate::sources::{Source, SourceWay};
-use crate::stretches::{End, Goal, Move, Stretch};
-use crate::tables::{Entry, push_first_then, push_stay};
-use crate::trees::ways_of;
 use lra_operations::{Graph, Site};
 use lra_program::GlobalVariable;
+use lra_sides::{Entry, push_first_then, push_globals, push_stay, push_way};
+use lra_ways::{End, Goal, Move, Stretch, ways_of};
 use std::alloc::{AllocError, Global};
 
 /// The globals and the points of a program, and all its ways.

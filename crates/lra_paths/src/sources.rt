@@ -1,16 +1,16 @@
 //! The paths from one source, written out for one goal at a time.
 
 ghost use Rattle.std.specs.Prelude.{[], ◌≡◌, ◌≤◌, ◌++◌, length, cond, true, false, OnOk, IfOk};
-ghost use Rattle.lra_paths.specs.Paths.{greatest_paths, same_goal};
-ghost use Rattle.lra_paths.specs.Sides.{sides};
+ghost use Rattle.lra_sides.specs.Sides.{greatest_paths, sides};
+ghost use Rattle.lra_paths.specs.Paths.{same_goal};
 ghost use Rattle.lra_paths.specs.Sources.{AreFewTo, AreManyTo, to_goal};
-ghost use Rattle.lra_paths.specs.StretchViews.{goal_view};
-ghost use Rattle.lra_paths.specs.TableSides.{lists_done};
-ghost use Rattle.lra_paths.specs.Tables.{IsTable, capped, count_of, moves_at};
+ghost use Rattle.lra_ways.specs.StretchViews.{goal_view};
+ghost use Rattle.lra_sides.specs.TableSides.{lists_done};
+ghost use Rattle.lra_sides.specs.Tables.{IsTable, capped, count_of, moves_at};
 
-use crate::stretches::Goal;
-use crate::tables::{Entry, GREATEST_PATHS, add_capped, sides_at, write_sides};
 use lra_domain::Change;
+use lra_sides::{Entry, GREATEST_PATHS, add_capped, sides_at, write_sides};
+use lra_ways::Goal;
 use std::alloc::{AllocError, Global};
 
 /// A way from the source: its goal, and where its moves stand in the source's table.

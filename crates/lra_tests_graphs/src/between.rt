@@ -1,11 +1,12 @@
 //! Paths of programs from point to point, as they are counted and written.
 
-ghost use Rattle.lra_paths.specs.Tables.{IsTable};
+ghost use Rattle.lra_sides.specs.Tables.{IsTable};
 
 use crate::sources::{program_of, tree_of};
 use lra_base::SourceError;
 use lra_graph::build;
-use lra_paths::{Goal, PathsFailure, Source, find_paths};
+use lra_paths::{PathsFailure, Source, find_paths};
+use lra_ways::Goal;
 use std::alloc::{AllocError, Global};
 
 /// What paths are looked for: how many lead from the source of this number to the goal; the least source with too many;

@@ -19,9 +19,10 @@ use Rattle.lra_front.specs.Claims.{IsAccepted}
 use Rattle.lra_front.specs.Stages.{HasTree}
 use Rattle.lra_front.proofs.SomeAnswer.{some_answer}
 use Rattle.lra_front.proofs.StageSteps.{well}
-use Rattle.lra_paths.specs.Ways.{Goal, comes_to, denies, Way, Segment, enter, inside}
-use Rattle.lra_paths.specs.Sides.{written}
-use Rattle.lra_paths.specs.Paths.{same_goal, live_at, started, leading, greatest_paths, AreFewFrom, AreFewPaths, HasTooMany}
+use Rattle.lra_ways.specs.Ways.{Goal, comes_to, denies, Way, Segment, enter, inside}
+use Rattle.lra_sides.specs.Sides.{written}
+use Rattle.lra_paths.specs.Paths.{same_goal, live_at, started, leading, AreFewFrom, AreFewPaths, HasTooMany}
+use Rattle.lra_sides.specs.Sides.{greatest_paths}
 use Rattle.lra_certificate.specs.Judged.{Judged, Head, too_long, bad_line, judged, head_of}
 use Rattle.lra_certificate.specs.Claims.{IsProgram, program_of, VerifyAnswer, verified, source_refused, paths_refused, line_refused, Deserves, HasHead}
 use Rattle.lra_certificate.specs.Claims.{greatest_certificate, EachVerified}

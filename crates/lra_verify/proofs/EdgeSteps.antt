@@ -13,11 +13,11 @@ use Rattle.lra_linear.specs.declared.ConKind.{ConKind}
 use Rattle.lra_linear.specs.declared.Excess.{Excess}
 use Rattle.lra_linear.specs.Descriptions.{Given}
 use Rattle.lra_sys.specs.Listed.{Listed, constraints}
-use Rattle.lra_paths.specs.Ways.{Goal, comes_to, denies}
+use Rattle.lra_ways.specs.Ways.{Goal, comes_to, denies}
 use Rattle.lra_paths.specs.Paths.{Path, path_by}
 use Rattle.lra_paths.specs.Sources.{to_goal}
 use Rattle.lra_paths.specs.declared.sources.Source.{Source}
-use Rattle.lra_paths.specs.TableSides.{all_done, lists_done}
+use Rattle.lra_sides.specs.TableSides.{all_done, lists_done}
 use Rattle.lra_multipliers.specs.Symbols.{Walked, walk_of, tests_in}
 use Rattle.lra_multipliers.specs.Multipliers.{Multipliers}
 use Rattle.lra_certificate.specs.Certificates.{Along, nothing_left, state_from, state_to}

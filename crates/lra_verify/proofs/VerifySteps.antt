@@ -10,7 +10,7 @@ use Rattle.std.proofs.lemmas.Bool.Decides.{leb_tells}
 use Rattle.std.proofs.lemmas.Option.{slice_get-get_or, slice_get-map}
 use Rattle.lra_front.specs.Claims.{AreFew}
 use Rattle.lra_operations.specs.declared.graph.Site as declared
-use Rattle.lra_paths.proofs.TableSteps.{get_left, get_seam}
+use Rattle.lra_sides.proofs.TableSteps.{get_left, get_seam}
 use Rattle.lra_domain.specs.Actions.{Action}
 use Rattle.lra_linear.specs.declared.ConKind.{ConKind}
 use Rattle.lra_linear.specs.Kinds.{is_equality}
@@ -20,10 +20,11 @@ use Rattle.lra_program.specs.Program.{Program}
 use Rattle.lra_program.specs.Sites.{Site, sites_of}
 use Rattle.lra_operations.specs.Graph.{Node}
 use Rattle.lra_operations.specs.GraphViews.{site_view}
-use Rattle.lra_paths.specs.Ways.{Goal, comes_to, denies}
-use Rattle.lra_paths.specs.Paths.{Path, path_by, paths_between, paths_of, denials_of, sources_of, points_of, leading, leading_in, greatest_paths}
+use Rattle.lra_ways.specs.Ways.{Goal, comes_to, denies}
+use Rattle.lra_paths.specs.Paths.{Path, path_by, paths_between, paths_of, denials_of, sources_of, points_of, leading, leading_in}
+use Rattle.lra_sides.specs.Sides.{greatest_paths}
 use Rattle.lra_paths.specs.Paths.{AreFewIn, AreFewPaths, HasTooManyIn, HasTooMany}
-use Rattle.lra_paths.specs.Tables.{IsTable}
+use Rattle.lra_sides.specs.Tables.{IsTable}
 use Rattle.lra_paths.specs.Sources.{to_goal, AreFewTo}
 use Rattle.lra_paths.specs.declared.sources.Source.{Source}
 use Rattle.lra_program.specs.declared.program.GlobalVariable.{GlobalVariable}

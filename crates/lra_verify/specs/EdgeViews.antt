@@ -8,10 +8,10 @@ use Rattle.lra_sys.specs.Listed.{Listed, constraints}
 use Rattle.lra_domain.specs.Actions.{Action}
 use Rattle.lra_program.specs.Sites.{Site}
 use Rattle.lra_operations.specs.GraphViews.{site_view}
-use Rattle.lra_paths.specs.Ways.{Goal, comes_to, denies}
+use Rattle.lra_ways.specs.Ways.{Goal, comes_to, denies}
 use Rattle.lra_paths.specs.Paths.{Path, path_by, live_of}
 use Rattle.lra_paths.specs.Sources.{to_goal, AreFewTo}
-use Rattle.lra_paths.specs.Tables.{IsTable}
+use Rattle.lra_sides.specs.Tables.{IsTable}
 use Rattle.lra_paths.specs.declared.sources.Source.{Source}
 use Rattle.lra_certificate.specs.Certificates.{state_from, state_to}
 use Rattle.lra_certificate.specs.CertificateText.{edge_text, assert_text}

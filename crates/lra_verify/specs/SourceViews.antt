@@ -3,10 +3,10 @@ use Rattle.std.specs.Prelude.{◌≡◌, ◌<◌, ℕ, suc, List, length, slice_
 use Rattle.std.specs.List.{All}
 use Rattle.lra_program.specs.Program.{Program}
 use Rattle.lra_operations.specs.Graph.{Node}
-use Rattle.lra_paths.specs.Ways.{Goal}
+use Rattle.lra_ways.specs.Ways.{Goal}
 use Rattle.lra_paths.specs.Paths.{leading, AreFewPaths, HasTooMany}
 use Rattle.lra_paths.specs.Sources.{AreFewTo}
-use Rattle.lra_paths.specs.Tables.{IsTable}
+use Rattle.lra_sides.specs.Tables.{IsTable}
 use Rattle.lra_paths.specs.declared.sources.Source.{Source}
 use Rattle.lra_lines.specs.declared.refusals.VerifyError.{VerifyError}
 use Rattle.lra_lines.specs.declared.refusals.VerifyError.TheVariants as of_error

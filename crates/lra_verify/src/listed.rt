@@ -10,7 +10,7 @@ ghost use Rattle.lra_lines.specs.LineViews.{IsToldAs};
 use crate::edges::take_all_dead;
 use crate::ways::Ways;
 use lra_lines::{VerifyError, behind_text};
-use lra_paths::Goal;
+use lra_ways::Goal;
 use std::alloc::{AllocError, Global};
 
 /// How many assertions are listed, and where the next line begins.

@@ -1,9 +1,9 @@
 -- Goals of `push_source_way`: what is done before stands where it was, and the way's moves stand behind all others.
 use Rattle.std.proofs.Common.{map}
-use Rattle.lra_paths.specs.StretchViews.{move_view}
-use Rattle.lra_paths.specs.WayMoves.{way_moves}
-use Rattle.lra_paths.proofs.TableSteps.{within}
-use Rattle.lra_paths.proofs.GuardSteps.{still_in}
+use Rattle.lra_ways.specs.StretchViews.{move_view}
+use Rattle.lra_sides.specs.WayMoves.{way_moves}
+use Rattle.lra_sides.proofs.TableSteps.{within}
+use Rattle.lra_sides.proofs.GuardSteps.{still_in}
 use Rattle.lra_paths.proofs.DepartureSteps.{adds_one}
 use Rattle.lra_paths.proofs.paths.push_source_way.Goals as goal
 

@@ -4,7 +4,7 @@ use Rattle.std.specs.List.{All}
 use Rattle.std.proofs.lemmas.List.Elements.{All-append, All-cons, All-nil}
 use Rattle.lra_operations.specs.GraphViews.{site_view}
 use Rattle.lra_paths.specs.Paths.{leading_in}
-use Rattle.lra_paths.specs.Tables.{IsTable}
+use Rattle.lra_sides.specs.Tables.{IsTable}
 use Rattle.lra_paths.specs.declared.sources.Source.{Source}
 use Rattle.lra_verify.specs.EdgeViews.{led_from}
 use Rattle.lra_verify.proofs.VerifySteps.{leads_pushed}

@@ -3,10 +3,10 @@ use Rattle.std.specs.List.{All}
 use Rattle.lra_operations.specs.Graph.{Node}
 use Rattle.lra_operations.specs.GraphViews.{site_view}
 use Rattle.lra_paths.specs.Paths.{leading_in}
-use Rattle.lra_paths.specs.Stretches.{AreWays}
-use Rattle.lra_paths.specs.StretchViews.{seen}
-use Rattle.lra_paths.specs.Tables.{IsTable}
-use Rattle.lra_paths.specs.Ways.{Goal}
+use Rattle.lra_ways.specs.Stretches.{AreWays}
+use Rattle.lra_ways.specs.StretchViews.{seen}
+use Rattle.lra_sides.specs.Tables.{IsTable}
+use Rattle.lra_ways.specs.Ways.{Goal}
 use Rattle.lra_verify.specs.EdgeViews.{led_from}
 use Rattle.lra_verify.proofs.verifying.all_sources.Given as goal
 

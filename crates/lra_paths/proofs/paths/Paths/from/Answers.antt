@@ -2,7 +2,7 @@
 use Rattle.std.proofs.Common.{map}
 use Rattle.lra_operations.specs.GraphViews.{site_view}
 use Rattle.lra_paths.specs.Sources.{first_from}
-use Rattle.lra_paths.proofs.TableSteps.{within}
+use Rattle.lra_sides.proofs.TableSteps.{within}
 use Rattle.lra_paths.proofs.DepartureSteps.{from_leads}
 use Rattle.lra_paths.proofs.paths.Paths.from.Goals as goal
 

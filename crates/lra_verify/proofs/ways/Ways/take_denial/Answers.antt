@@ -2,9 +2,9 @@
 use Rattle.std.proofs.Common.{Some, length, ap, sym, ◌∙◌, refl, arith}
 use Rattle.std.proofs.lemmas.Option.{slice_get_read}
 use Rattle.lra_sys.specs.Listed.{constraints}
-use Rattle.lra_paths.specs.Ways.{denies}
+use Rattle.lra_ways.specs.Ways.{denies}
 use Rattle.lra_paths.specs.Sources.{to_goal}
-use Rattle.lra_paths.specs.TableSides.{lists_done}
+use Rattle.lra_sides.specs.TableSides.{lists_done}
 use Rattle.lra_paths.specs.declared.sources.Source.{Source}
 use Rattle.lra_certificate.specs.Lines.{in_turn, left_at}
 use Rattle.lra_verify.specs.EdgeViews.{dead_by, denial_by}

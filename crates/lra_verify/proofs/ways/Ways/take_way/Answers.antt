@@ -1,9 +1,9 @@
 -- Goals of `take_way`: the paths from a source to a point.
 use Rattle.std.proofs.Common.{length, ap, sym, ◌∙◌, refl, arith}
 use Rattle.std.proofs.lemmas.Option.{slice_get_read}
-use Rattle.lra_paths.specs.Ways.{comes_to}
+use Rattle.lra_ways.specs.Ways.{comes_to}
 use Rattle.lra_paths.specs.Sources.{to_goal}
-use Rattle.lra_paths.specs.TableSides.{lists_done}
+use Rattle.lra_sides.specs.TableSides.{lists_done}
 use Rattle.lra_paths.specs.declared.sources.Source.{Source}
 use Rattle.lra_certificate.specs.Lines.{in_turn, left_at}
 use Rattle.lra_verify.specs.EdgeViews.{path_of, way_by}

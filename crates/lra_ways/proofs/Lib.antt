@@ -1,0 +1,8 @@
+pub mod Lists
+pub mod LabelLaws
+-- Ways of trees in one list, from the leaves up.
+pub mod FlatSteps
+pub mod StretchSteps
+pub mod StretchLists
+pub mod ArmSteps
+pub mod TaskSteps
