@@ -22,8 +22,8 @@ use Rattle.lra_readers.specs.Files.{EndsOnce, file_at}
 use Rattle.lra_readers.proofs.Answered.{tree_found, stops_at}
 use Rattle.lra_readers.proofs.Ended.{lexed_end}
 use Rattle.lra_calls.proofs.Deciding.{each_recursion}
-use Rattle.lra_graph.proofs.Agreement.{graphs_agree}
-use Rattle.lra_graph.proofs.DistinctSites.{distinct_sites}
+use Rattle.lra_agreement.proofs.Agreement.{graphs_agree}
+use Rattle.lra_agreement.proofs.DistinctSites.{distinct_sites}
 use Rattle.lra_graph.proofs.Existing.{has_graph}
 use Rattle.lra_front.specs.Stages.{HasTree}
 use Rattle.lra_front.specs.Claims.{HasRefusal, IsAccepted, EachAnswer}

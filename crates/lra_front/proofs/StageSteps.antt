@@ -20,10 +20,10 @@ use Rattle.lra_program.specs.WellFormed.{IsWellFormed}
 use Rattle.lra_tree.specs.Grammar.{Spells}
 use Rattle.lra_meaning.specs.Refuse.{limit_fault, RefusesTree, bad_name, recursive, past_limit, Accepts}
 use Rattle.lra_scopes.specs.Outcome.{first_fault, Tells}
-use Rattle.lra_graph.specs.declared.points.Limit.{Limit}
-use Rattle.lra_graph.specs.declared.points.GraphError.{GraphError}
-use Rattle.lra_graph.specs.declared.points.GraphError.TheVariants.{Passed}
-use Rattle.lra_graph.specs.Limits.{refusal_of, OnError}
+use Rattle.lra_opening.specs.declared.points.Limit.{Limit}
+use Rattle.lra_opening.specs.declared.points.GraphError.{GraphError}
+use Rattle.lra_opening.specs.declared.points.GraphError.TheVariants.{Passed}
+use Rattle.lra_opening.specs.Limits.{refusal_of, OnError}
 use Rattle.lra_formed.proofs.Spelled.{spelled_are_small}
 use Rattle.lra_formed.proofs.Whole.{well_formed}
 use Rattle.lra_base.specs.declared.error.SourceError.{SourceError}

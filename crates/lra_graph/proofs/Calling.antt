@@ -9,20 +9,20 @@ use Rattle.lra_program.specs.Step.{arguments_for}
 use Rattle.lra_operations.specs.Graph.{Node}
 use Rattle.lra_program.specs.Sites.{Site, plain_site, live_behind, items_events, function_events, call_events}
 use Rattle.lra_operations.specs.Inlined.{call_node}
-use Rattle.lra_graph.specs.declared.points.Limit.{Limit}
-use Rattle.lra_graph.specs.declared.points.Limit.TheVariants.{Calls}
-use Rattle.lra_graph.specs.declared.frame.Frame.{Frame}
-use Rattle.lra_graph.specs.Limits.{Progress, passed, stopped, walk}
+use Rattle.lra_opening.specs.declared.points.Limit.{Limit}
+use Rattle.lra_opening.specs.declared.points.Limit.TheVariants.{Calls}
+use Rattle.lra_opening.specs.declared.frame.Frame.{Frame}
+use Rattle.lra_opening.specs.Limits.{Progress, passed, stopped, walk}
+use Rattle.lra_opening.specs.Building.{inside, callee_frame, CallStands, ItemsStand, WritesItems, WritesRvalue, WritesBody}
+use Rattle.lra_opening.specs.declared.places.CalledFrom.{CalledFrom}
+use Rattle.lra_opening.specs.declared.places.Place.TheVariants as place
+use Rattle.lra_opening.specs.Open.{due, all_items, a_call, IsOpen}
+use Rattle.lra_opening.specs.Steps.{items_steps, body_steps, call_steps}
+use Rattle.lra_opening.proofs.Walking.{walk_then, walk_stop}
+use Rattle.lra_opening.proofs.Writing.{Pointed, result_written}
+use Rattle.lra_opening.proofs.Standing.{callee_stands}
 use Rattle.lra_program.specs.WellFormed.{IsWellFormed}
-use Rattle.lra_graph.specs.Building.{inside, callee_frame, CallStands, ItemsStand, WritesItems, WritesRvalue, WritesBody}
 use Rattle.lra_program.specs.ProgramViews.{call_view}
-use Rattle.lra_graph.specs.declared.places.CalledFrom.{CalledFrom}
-use Rattle.lra_graph.specs.declared.places.Place.TheVariants as place
-use Rattle.lra_graph.specs.Open.{due, all_items, a_call, IsOpen}
-use Rattle.lra_graph.specs.Steps.{items_steps, body_steps, call_steps}
-use Rattle.lra_graph.proofs.Walking.{walk_then, walk_stop}
-use Rattle.lra_graph.proofs.Writing.{Pointed, result_written}
-use Rattle.lra_graph.proofs.Standing.{callee_stands}
 
 pub one_less : (n : ℕ) → (n ≡ 0 → ⊥) → n ≡ suc (n - 1)
 one_less n some = omega (arith, some)

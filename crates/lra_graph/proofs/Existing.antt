@@ -16,19 +16,19 @@ use Rattle.lra_operations.specs.Inlined.{return_node, call_node, loop_node, swit
 use Rattle.lra_operations.specs.Agree.{IsGraph}
 use Rattle.lra_program.specs.WellFormed.{IsWellFormed}
 use Rattle.lra_meaning.specs.Refuse.{greatest_live, greatest_points, limit_fault}
-use Rattle.lra_graph.specs.declared.points.Limit.TheVariants.{Variables, Points, Calls}
-use Rattle.lra_graph.specs.declared.frame.Frame.{Frame}
-use Rattle.lra_graph.specs.Limits.{Progress, passed, stopped, walk}
-use Rattle.lra_graph.specs.Building.{inside, StmtStands, CasesStand, ItemsStand, GivenStands, CallStands, cases_frame, WritesStmt, WritesCases, WritesItems, WritesRvalue, WritesDeclared}
-use Rattle.lra_graph.proofs.Walking.{not_passed, passed_same, chosen_then, chosen_passed}
-use Rattle.lra_graph.proofs.Writing.{absent_written, nothing_written, block_written, assign_written, call_written, if_written, rounds_written, loop_written, break_written, continue_written}
-use Rattle.lra_graph.proofs.Writing.{assert_written, assume_written, for_written, return_written, return_any_written, return_value_written, return_call_written, end_any_written, end_value_written}
-use Rattle.lra_graph.proofs.Writing.{no_cases_written, labelled_written, stated_written, switch_written}
-use Rattle.lra_graph.proofs.Writing.{WritesReturn, end_call_written, none_written, statement_written, declaration_written, fresh_written, given_written, value_written}
+use Rattle.lra_opening.specs.declared.points.Limit.TheVariants.{Variables, Points, Calls}
+use Rattle.lra_opening.specs.declared.frame.Frame.{Frame}
+use Rattle.lra_opening.specs.Limits.{Progress, passed, stopped, walk}
+use Rattle.lra_opening.specs.Building.{inside, StmtStands, CasesStand, ItemsStand, GivenStands, CallStands, cases_frame, WritesStmt, WritesCases, WritesItems, WritesRvalue, WritesDeclared}
+use Rattle.lra_opening.proofs.Walking.{not_passed, passed_same, chosen_then, chosen_passed}
+use Rattle.lra_opening.proofs.Writing.{absent_written, nothing_written, block_written, assign_written, call_written, if_written, rounds_written, loop_written, break_written, continue_written}
+use Rattle.lra_opening.proofs.Writing.{assert_written, assume_written, for_written, return_written, return_any_written, return_value_written, return_call_written, end_any_written, end_value_written}
+use Rattle.lra_opening.proofs.Writing.{no_cases_written, labelled_written, stated_written, switch_written}
+use Rattle.lra_opening.proofs.Writing.{WritesReturn, end_call_written, none_written, statement_written, declaration_written, fresh_written, given_written, value_written}
+use Rattle.lra_opening.proofs.Standing.{block_stands, assign_stands, call_stands, true_stands, false_stands, return_stands, first_stands, others_stand, result_stands, declared_stands, behind_stand}
+use Rattle.lra_opening.proofs.Standing.{switch_stands, labelled_stand, first_case_stands, other_cases_stand}
+use Rattle.lra_opening.proofs.Standing.{body_stands, step_stands, init_stands, for_again, callee_stands, main_stands, the_callee, break_stands, continue_stands}
 use Rattle.lra_graph.proofs.Calling.{no_call_more, invoked}
-use Rattle.lra_graph.proofs.Standing.{block_stands, assign_stands, call_stands, true_stands, false_stands, return_stands, first_stands, others_stand, result_stands, declared_stands, behind_stand}
-use Rattle.lra_graph.proofs.Standing.{switch_stands, labelled_stand, first_case_stands, other_cases_stand}
-use Rattle.lra_graph.proofs.Standing.{body_stands, step_stands, init_stands, for_again, callee_stands, main_stands, the_callee, break_stands, continue_stands}
 use Rattle.lra_graph.proofs.Totals.{fault_in, walk_fault, first_frame, events_are, whole_graph}
 
 -- what passes, passes up to each place

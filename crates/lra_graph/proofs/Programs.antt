@@ -12,13 +12,13 @@ use Rattle.lra_program.specs.declared.program.Function.{Function}
 use Rattle.lra_program.specs.declared.program.Program.{Program}
 use Rattle.lra_program.specs.ProgramViews.{expr_view, call_view, item_view, items_of, function_view, function_or, program_view}
 use Rattle.lra_program.specs.WellFormed.{items_numbers, function_numbers, IsWellFormed}
-use Rattle.lra_graph.proofs.DistinctLists.{IsIn, in_right, in_piece, in_range}
-use Rattle.lra_graph.proofs.DistinctSites.{main_at}
-use Rattle.lra_graph.specs.declared.frame.Frame.{Frame}
-use Rattle.lra_graph.specs.Building.{callee_frame, CallStands}
+use Rattle.lra_agreement.proofs.DistinctLists.{IsIn, in_right, in_piece, in_range}
+use Rattle.lra_agreement.proofs.DistinctSites.{main_at}
+use Rattle.lra_opening.specs.declared.frame.Frame.{Frame}
+use Rattle.lra_opening.specs.Building.{callee_frame, CallStands}
+use Rattle.lra_opening.proofs.Shown.{shown_items}
+use Rattle.lra_opening.proofs.Standing.{the_callee}
 use Rattle.lra_graph.proofs.Calling.{IsCallee}
-use Rattle.lra_graph.proofs.Shown.{shown_items}
-use Rattle.lra_graph.proofs.Standing.{the_callee}
 use Rattle.lra_graph.proofs.Totals.{first_frame}
 use Rattle.lra_program.specs.declared.receivers.Receiver.{Receiver}
 use Rattle.lra_program.specs.Receivers.{nobody, behind_result}

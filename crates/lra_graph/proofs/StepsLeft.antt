@@ -3,11 +3,11 @@ use Rattle.std.proofs.Common.{◌≡◌, ◌+◌, ◌<◌, List, [], ◌∷◌, 
 use Rattle.std.specs.List.{sum_by}
 use Rattle.std.proofs.lemmas.List.Sums.{sum_by_push}
 use Rattle.lra_program.specs.Program.{Program}
-use Rattle.lra_graph.specs.declared.places.Open.{Open}
-use Rattle.lra_graph.specs.declared.places.Written as written
-use Rattle.lra_graph.specs.declared.places.Next as next_type
-use Rattle.lra_graph.specs.declared.places.Next.TheVariants as next
-use Rattle.lra_graph.specs.Steps.{place_left, next_left, all_left}
+use Rattle.lra_opening.specs.declared.places.Open.{Open}
+use Rattle.lra_opening.specs.declared.places.Written as written
+use Rattle.lra_opening.specs.declared.places.Next as next_type
+use Rattle.lra_opening.specs.declared.places.Next.TheVariants as next
+use Rattle.lra_opening.specs.Steps.{place_left, next_left, all_left}
 
 pub fewer_left : (P : Program) (os os' : List Open) (o : Open) (k k' : next_type.Next) (w : written.Written) → os ≡ os' ++ o ∷ [] → k ≡ next.Written w → next_left P k' < place_left P o
     → all_left P os' k' < all_left P os k

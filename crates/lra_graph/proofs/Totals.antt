@@ -15,13 +15,13 @@ use Rattle.lra_operations.specs.Inlined.{move, Has, InlAll, main_frame, main_spo
 use Rattle.lra_operations.specs.Agree.{IsGraph}
 use Rattle.lra_program.specs.WellFormed.{IsWellFormed}
 use Rattle.lra_meaning.specs.Refuse.{greatest_live, greatest_points, limit_fault}
-use Rattle.lra_graph.specs.declared.points.Limit.{Limit}
-use Rattle.lra_graph.specs.declared.points.Limit.TheVariants.{Variables, Points, Calls}
-use Rattle.lra_graph.specs.declared.frame.Frame.{Frame}
-use Rattle.lra_graph.specs.Limits.{Progress, passed, stopped, walk, refusal_of}
-use Rattle.lra_graph.specs.Building.{inside, WritesItems, IsFrame}
-use Rattle.lra_graph.proofs.Walking.{walk_then, walk_stop, chosen, chosen_passed, point_there, one_longer, begins_same, passed_same, not_passed}
-use Rattle.lra_graph.proofs.Writing.{Pointed, pointed_begins}
+use Rattle.lra_opening.specs.declared.points.Limit.{Limit}
+use Rattle.lra_opening.specs.declared.points.Limit.TheVariants.{Variables, Points, Calls}
+use Rattle.lra_opening.specs.declared.frame.Frame.{Frame}
+use Rattle.lra_opening.specs.Limits.{Progress, passed, stopped, walk, refusal_of}
+use Rattle.lra_opening.specs.Building.{inside, WritesItems, IsFrame}
+use Rattle.lra_opening.proofs.Walking.{walk_then, walk_stop, chosen, chosen_passed, point_there, one_longer, begins_same, passed_same, not_passed}
+use Rattle.lra_opening.proofs.Writing.{Pointed, pointed_begins}
 
 pub walk_sites : (S : List Site) (es : List Event) (U : List Site) → walk S es ≡ passed U → U ≡ S ++ sites_in es
 walk_sites S [] U e = sym (passed_same S U e) ∙ sym (append-nil S)

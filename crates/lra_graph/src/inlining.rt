@@ -2,12 +2,8 @@
 //! is called twice has its points twice, under two paths.
 
 mod calls;
-mod cases;
 mod going_on;
-mod lone;
-mod opening;
 mod parts;
-mod returns;
 mod whole;
 
 ghost use Rattle.std.specs.Prelude.{◌≡◌, ◌<◌, [], ◌∷◌, ◌++◌, map, IfOk};
@@ -15,15 +11,13 @@ ghost use Rattle.lra_program.specs.Sites.{live_behind};
 ghost use Rattle.lra_program.specs.WellFormed.{IsWellFormed};
 ghost use Rattle.lra_program.specs.ProgramViews.{item_view, items_of};
 ghost use Rattle.lra_operations.specs.GraphViews.{node_view};
-ghost use Rattle.lra_graph.specs.Limits.{OnLimit};
-ghost use Rattle.lra_graph.specs.Inlining.{points_in, program_of, program_around, ItemsStand, AreItems, StopsItems};
-ghost use Rattle.lra_graph.specs.Open.{Due, due, part_view, IsWritten, Leads, StandsAs, Stops, StopsAs};
-ghost use Rattle.lra_graph.specs.Steps.{next_left, work_steps};
+ghost use Rattle.lra_opening.specs.Limits.{OnLimit};
+ghost use Rattle.lra_opening.specs.Inlining.{points_in, program_of, program_around, ItemsStand, AreItems, StopsItems};
+ghost use Rattle.lra_opening.specs.Open.{Due, due, part_view, IsWritten, Leads, StandsAs, Stops, StopsAs};
+ghost use Rattle.lra_opening.specs.Steps.{next_left, work_steps};
 
-use crate::frame::{Around, Frame, Source};
-use crate::places::{Next, Open, Part, Written};
-use crate::points::GraphError;
 use going_on::go_on;
+use lra_opening::{Around, Frame, GraphError, Next, Open, Part, Source, Written};
 use lra_operations::{Path, Site};
 use lra_program::BlockItem;
 use parts::open_part;

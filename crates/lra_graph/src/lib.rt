@@ -1,46 +1,14 @@
 //! The graph of a program: its calls written out as a tree of operations.
 //!
+//! The writing goes along a list of open places; `lra_opening` has them, and the first step into each statement.
+//!
 //! The definitions stand in `lra_program` and `lra_operations`: the runs of a program, trees of operations with their
-//! runs, and which tree stands for which program. Here it is proved that the two agree, and `build` makes the tree.
+//! runs, and which tree stands for which program. That the two agree is proved in `lra_agreement`.
 #![tactic(auto)]
 
-mod frame;
 mod inlining;
-mod places;
-mod points;
 mod refused;
 
-ghost use Rattle.lra_operations.specs.Agree.{GraphsAgree};
-ghost use Rattle.lra_operations.specs.TrailsAgree.{GraphsHaveTrails};
-ghost use Rattle.lra_operations.specs.Asked.{GraphsAskWell};
-ghost use Rattle.lra_graph.specs.Agreement.{WellFormedAreDistinct, WellFormedAgree, WellFormedHaveTrails, WellFormedAskWell};
-
 pub use inlining::build;
-pub use points::{GraphError, Limit};
+pub use lra_opening::{GraphError, Limit};
 pub use refused::refusal;
-
-/// A program's tree and its runs come to the same points with the same stores, and fail the same assertions.
-///
-/// Does nothing: its contract is the theorem.
-pub fn graphs_agree()
-    ensures theorem { GraphsAgree }
-    ensures distinct { WellFormedAreDistinct }
-    ensures well_formed { WellFormedAgree }
-{}
-
-/// On the way to each point and each failure, a program's tree and its runs pass the same points in the same states.
-///
-/// Does nothing: its contract is the theorem.
-pub fn trails_agree()
-    ensures theorem { GraphsHaveTrails }
-    ensures well_formed { WellFormedHaveTrails }
-{}
-
-/// A program's tree asks of each operation that can stop a run by a number, once at its point: where a run stops so,
-/// the tree asks of that operation there.
-///
-/// Does nothing: its contract is the theorem.
-pub fn graphs_ask_well()
-    ensures theorem { GraphsAskWell }
-    ensures well_formed { WellFormedAskWell }
-{}

@@ -2,11 +2,11 @@
 
 ghost use Rattle.std.specs.Prelude.{◌≡◌};
 ghost use Rattle.lra_tree.specs.Labels.{label_at, called_place};
-ghost use Rattle.lra_graph.specs.Limits.{refusal_of};
+ghost use Rattle.lra_opening.specs.Limits.{refusal_of};
 
-use crate::points::Limit;
 use lra_base::{Cause, Place, Refusal};
 use lra_meaning::Labels;
+use lra_opening::Limit;
 
 /// Where a source begins.
 const START: Place = Place { line: 1, column: 1 };

@@ -11,9 +11,9 @@ use Rattle.lra_operations.specs.Graph.{Node}
 use Rattle.lra_operations.specs.Trails.{to_point}
 use Rattle.lra_operations.specs.Agree.{AreDistinct, IsGraph}
 use Rattle.lra_operations.specs.TrailsAgree.{TreeGoes, TrailsAgree}
-use Rattle.lra_graph.proofs.Agreement.{graphs_have_trails}
-use Rattle.lra_graph.proofs.DistinctSites.{distinct_sites}
-use Rattle.lra_graph.proofs.Performed.{performed}
+use Rattle.lra_agreement.proofs.Agreement.{graphs_have_trails}
+use Rattle.lra_agreement.proofs.DistinctSites.{distinct_sites}
+use Rattle.lra_agreement.proofs.Performed.{performed}
 
 -- the tree comes to the points of the program's runs, on their trails; no two points are the same
 pub record FollowsRuns (P : Program) (g : Node) : Type 0 where

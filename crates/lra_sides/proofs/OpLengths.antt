@@ -9,7 +9,7 @@ use Rattle.lra_program.specs.Receivers.{accepts}
 use Rattle.lra_program.specs.Value.{draw, value_of, Drawn}
 use Rattle.lra_program.specs.Step.{State, scene_at, Op, append, give, give_any, push, keep, run_op, drawn_for, put, receive, kept_if}
 use Rattle.lra_program.specs.Step as step
-use Rattle.lra_graph.proofs.Lengths.{length_append, length_push, length_test}
+use Rattle.lra_agreement.proofs.Lengths.{length_append, length_push, length_test}
 use Rattle.lra_flow.specs.Live.{dims_behind}
 
 -- where a step ends, it ends with as many variables

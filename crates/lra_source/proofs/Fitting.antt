@@ -25,7 +25,7 @@ use Rattle.lra_operations.specs.Inlined.{InlCases, as_switch, as_no_cases, as_la
 use Rattle.lra_operations.specs.Agree.{IsGraph}
 use Rattle.lra_program.specs.WellFormed.{IsLive, IsGoodRvalue, IsGoodGiven, IsGoodStmt, AreGoodCases, AreGoodItems, IsGoodFunction, IsWellFormed}
 use Rattle.lra_program.specs.WellFormed.{Jumps, no_jumps, in_loop as in_loop_jumps, in_switch}
-use Rattle.lra_graph.proofs.Lengths.{grows_all}
+use Rattle.lra_agreement.proofs.Lengths.{grows_all}
 use Rattle.lra_flow.specs.Live.{dims_behind, live_after}
 use Rattle.lra_change.specs.Changes.{PlaceFits, OpFits}
 use Rattle.lra_program.proofs.GivenArguments.{given_width}

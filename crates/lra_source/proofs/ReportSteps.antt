@@ -44,8 +44,8 @@ use Rattle.lra_flow.specs.Fits.{JudgesIf}
 use Rattle.lra_flow.proofs.OneJudgement.{judged_written, judged_strained}
 use Rattle.lra_flow.proofs.OneTree.{one_tree}
 use Rattle.lra_fits.specs.Judged.{AreBelow}
-use Rattle.lra_graph.proofs.Asked.{graphs_ask_well}
-use Rattle.lra_graph.proofs.DistinctSites.{distinct_sites}
+use Rattle.lra_agreement.proofs.Asked.{graphs_ask_well}
+use Rattle.lra_agreement.proofs.DistinctSites.{distinct_sites}
 use Rattle.lra_source.proofs.Flags.{graph_below}
 use Rattle.lra_source.proofs.FitsHanded.{asked_below, fitting_on, flagged_below, site_there, unflagged_before}
 use Rattle.lra_source.proofs.Handing.{as_many, value_dims, states_as_many, of_assertions, of_all, states_canonical, states_wide, flag_there}

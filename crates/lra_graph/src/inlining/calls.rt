@@ -3,14 +3,13 @@
 ghost use Rattle.std.specs.Prelude.{◌≡◌, ◌≢◌, ◌+◌, ◌≤◌, ◌∷◌, length, Some, slice_get, IfOk};
 ghost use Rattle.lra_base.specs.Limits.{greatest_live};
 ghost use Rattle.lra_program.specs.ProgramViews.{call_view, function_view, program_view};
-ghost use Rattle.lra_graph.specs.Limits.{OnLimit};
-ghost use Rattle.lra_graph.specs.Building as building;
-ghost use Rattle.lra_graph.specs.Building.{callee_frame};
-ghost use Rattle.lra_graph.specs.declared.frame.Frame.{Frame};
-ghost use Rattle.lra_graph.specs.Inlining.{CallStands, IsCall, StopsAnywhere, StopsBehind};
+ghost use Rattle.lra_opening.specs.Limits.{OnLimit};
+ghost use Rattle.lra_opening.specs.Building as building;
+ghost use Rattle.lra_opening.specs.Building.{callee_frame};
+ghost use Rattle.lra_opening.specs.declared.frame.Frame.{Frame};
+ghost use Rattle.lra_opening.specs.Inlining.{CallStands, IsCall, StopsAnywhere, StopsBehind};
 
-use crate::frame::{Around, Caller, Frame};
-use crate::points::{GraphError, Limit, add_point, finish};
+use lra_opening::{Around, Caller, Frame, GraphError, Limit, add_point, finish};
 use lra_operations::forms::{CallPlace, enclose_call};
 use lra_operations::{Node, Path, Site};
 use lra_program::{Call, Function, Program, Receiver};

@@ -3,21 +3,18 @@
 ghost use Rattle.std.specs.Prelude.{◌<◌, ℕ, List, IfOk};
 ghost use Rattle.lra_program.specs.Program as resolved;
 ghost use Rattle.lra_program.specs.Sites as points;
-ghost use Rattle.lra_graph.specs.Limits.{OnLimit};
-ghost use Rattle.lra_graph.specs.Inlining.{points_in, program_of};
-ghost use Rattle.lra_graph.specs.Open.{Due, IsBehind, Leads, Stops};
-ghost use Rattle.lra_graph.specs.Steps.{next_left, kind_left, place_left};
-ghost use Rattle.lra_graph.specs.declared.places.Place.TheVariants as place;
+ghost use Rattle.lra_opening.specs.Limits.{OnLimit};
+ghost use Rattle.lra_opening.specs.Inlining.{points_in, program_of};
+ghost use Rattle.lra_opening.specs.Open.{Due, IsBehind, Leads, Stops};
+ghost use Rattle.lra_opening.specs.Steps.{next_left, kind_left, place_left};
+ghost use Rattle.lra_opening.specs.declared.places.Place.TheVariants as place;
 
 use super::calls::end_call;
-use super::cases::go_on_cases;
 use super::parts::next_item;
-use super::returns::leave_call;
-use crate::frame::{Around, Frame, Source};
-use crate::places::{
-    Branches, CalledFrom, Forked, ItemRow, Next, Open, Part, Place, Written, close,
+use lra_opening::{
+    Around, Branches, CalledFrom, Forked, Frame, GraphError, ItemRow, Next, Open, Part, Place,
+    Source, Written, add_point, close, go_on_cases, leave_call,
 };
-use crate::points::{GraphError, add_point};
 use lra_operations::forms::{
     add_part, choice, close_block, declare, enclose_for, put_point, rounds,
 };

@@ -8,17 +8,17 @@ ghost use Rattle.lra_program.specs.Sites.{call_events};
 ghost use Rattle.lra_program.specs.WellFormed.{IsWellFormed};
 ghost use Rattle.lra_program.specs.ProgramViews.{call_view, item_view, items_of};
 ghost use Rattle.lra_operations.specs.GraphViews.{node_view};
-ghost use Rattle.lra_graph.specs.Building as building;
-ghost use Rattle.lra_graph.specs.Limits.{OnLimit, walk, stopped};
-ghost use Rattle.lra_graph.specs.Inlining.{points_in, program_of};
-ghost use Rattle.lra_graph.specs.Open.{a_call, all_items, due, part_view, ItemsLoop, Leads, StandsAs, StopsAs};
-ghost use Rattle.lra_graph.specs.Steps.{next_left, work_steps};
+ghost use Rattle.lra_opening.specs.Building as building;
+ghost use Rattle.lra_opening.specs.Limits.{OnLimit, walk, stopped};
+ghost use Rattle.lra_opening.specs.Inlining.{points_in, program_of};
+ghost use Rattle.lra_opening.specs.Open.{a_call, all_items, due, part_view, ItemsLoop, Leads, StandsAs, StopsAs};
+ghost use Rattle.lra_opening.specs.Steps.{next_left, work_steps};
 
 use super::calls::{callee, enter_call};
-use super::opening::{open_declaration, open_rounds, open_stmt};
-use crate::frame::{Around, Caller, Frame, Source};
-use crate::places::{CalledFrom, ItemRow, Next, Open, Part, Place, close};
-use crate::points::GraphError;
+use lra_opening::{
+    Around, CalledFrom, Caller, Frame, GraphError, ItemRow, Next, Open, Part, Place, Source, close,
+    open_declaration, open_rounds, open_stmt,
+};
 use lra_operations::forms::put_in_a_row;
 use lra_operations::{Node, Path, Site};
 use lra_program::{BlockItem, Call};

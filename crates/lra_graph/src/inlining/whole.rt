@@ -9,11 +9,10 @@ ghost use Rattle.lra_program.specs.Sites.{events_of, sites_of};
 ghost use Rattle.lra_program.specs.WellFormed.{IsWellFormed};
 ghost use Rattle.lra_program.specs.ProgramViews.{program_view};
 ghost use Rattle.lra_operations.specs.GraphViews.{node_view, site_view};
-ghost use Rattle.lra_graph.specs.Limits.{OnLimit, refusal_of};
+ghost use Rattle.lra_opening.specs.Limits.{OnLimit, refusal_of};
 
 use super::inline_items;
-use crate::frame::{Around, Frame};
-use crate::points::{GREATEST_CALLS, GraphError, add_point};
+use lra_opening::{Around, Frame, GREATEST_CALLS, GraphError, add_point};
 use lra_operations::forms::put_in_turn;
 use lra_operations::{Graph, Node, Path};
 use lra_program::{Program, Receiver};

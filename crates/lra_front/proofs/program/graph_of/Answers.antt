@@ -7,7 +7,7 @@ use Rattle.lra_program.specs.ProgramViews.{program_view}
 use Rattle.lra_operations.specs.GraphViews.{node_view, site_view}
 use Rattle.lra_program.specs.Sites.{events_of}
 use Rattle.lra_meaning.specs.Refuse.{limit_fault}
-use Rattle.lra_graph.specs.Limits.{refusal_of}
+use Rattle.lra_opening.specs.Limits.{refusal_of}
 use Rattle.lra_front.proofs.StageSteps.{has_graph, limit_passed, limit_refused}
 use Rattle.lra_front.proofs.program.graph_of.Goals as goal
 

@@ -3,9 +3,9 @@ use Rattle.std.proofs.Common.{◌≡◌, map}
 use Rattle.lra_program.specs.Sites.{live_behind}
 use Rattle.lra_program.specs.ProgramViews.{item_view, items_of}
 use Rattle.lra_operations.specs.GraphViews.{node_view}
-use Rattle.lra_graph.specs.Inlining.{points_in, program_around, StopsItems, AreItems}
-use Rattle.lra_graph.specs.Open.{due, all_items, Stops, IsWritten}
-use Rattle.lra_graph.proofs.Stopping.{ok_through, limit_through}
+use Rattle.lra_opening.specs.Inlining.{points_in, program_around, StopsItems, AreItems}
+use Rattle.lra_opening.specs.Open.{due, all_items, Stops, IsWritten}
+use Rattle.lra_opening.proofs.Stopping.{ok_through, limit_through}
 use Rattle.lra_graph.proofs.inlining.inline_items.Goals as goal
 
 pub returns-clause-last : goal.returns-clause-last

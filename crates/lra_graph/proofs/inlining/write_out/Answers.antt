@@ -1,11 +1,11 @@
 -- Goals of `write_out`: what comes next leads to what the innermost place has under way.
 use Rattle.std.proofs.Common.{refl, sym, ◌∙◌}
 use Rattle.std.proofs.lemmas.List.{nil_from_length}
-use Rattle.lra_graph.specs.Inlining.{points_in, program_of}
-use Rattle.lra_graph.specs.Open.{part_view, Stops, StopsAs}
-use Rattle.lra_graph.proofs.OpenPlaces.{all_stopped, part_stands, one_more, part_stopped, behind, all_written}
+use Rattle.lra_opening.specs.Inlining.{points_in, program_of}
+use Rattle.lra_opening.specs.Open.{part_view, Stops, StopsAs}
+use Rattle.lra_opening.proofs.OpenPlaces.{all_stopped, part_stands, one_more, part_stopped, behind, all_written}
+use Rattle.lra_opening.proofs.Stopping.{err_stopped}
 use Rattle.lra_graph.proofs.StepsLeft.{fewer_left}
-use Rattle.lra_graph.proofs.Stopping.{err_stopped}
 use Rattle.lra_graph.proofs.inlining.write_out.Goals as goal
 
 pub places-init : goal.places-init

@@ -1,7 +1,7 @@
 -- Places are open, and what comes next leads to what the innermost has under way; each step leaves fewer to be taken.
-use Rattle.lra_graph.specs.Inlining.{points_in, program_of}
-use Rattle.lra_graph.specs.Open.{Due, Leads, AreUnderWay}
-use Rattle.lra_graph.specs.Steps.{all_left}
+use Rattle.lra_opening.specs.Inlining.{points_in, program_of}
+use Rattle.lra_opening.specs.Open.{Due, Leads, AreUnderWay}
+use Rattle.lra_opening.specs.Steps.{all_left}
 use Rattle.lra_graph.proofs.inlining.write_out.Given as goal
 
 abbrev pub invariant-places : goal.invariant-places

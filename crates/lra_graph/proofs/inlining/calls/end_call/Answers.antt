@@ -3,9 +3,9 @@ use Rattle.std.proofs.Common.{◌∷◌, [], ◌≡◌}
 use Rattle.lra_program.specs.Sites.{plain_site}
 use Rattle.lra_program.specs.ProgramViews.{call_view, function_view}
 use Rattle.lra_operations.specs.GraphViews.{node_view}
-use Rattle.lra_graph.specs.Limits.{walk, stopped}
-use Rattle.lra_graph.specs.Inlining.{points_in, program_around, StopsBehind}
-use Rattle.lra_graph.proofs.Stopping.{err_stopped, made_ok, made_limit}
+use Rattle.lra_opening.specs.Limits.{walk, stopped}
+use Rattle.lra_opening.specs.Inlining.{points_in, program_around, StopsBehind}
+use Rattle.lra_opening.proofs.Stopping.{err_stopped, made_ok, made_limit}
 use Rattle.lra_graph.proofs.Calling.{end_stopped, end_written}
 use Rattle.lra_graph.proofs.Programs.{called_fits, called_few}
 use Rattle.lra_graph.proofs.inlining.calls.end_call.Goals as goal

@@ -2,8 +2,8 @@
 use Rattle.std.proofs.Common.{◌∙◌, ap, sym, arith}
 use Rattle.std.proofs.lemmas.List.{length-map}
 use Rattle.lra_program.specs.ProgramViews.{expr_view, call_view}
-use Rattle.lra_graph.specs.Building.{callee_frame}
-use Rattle.lra_graph.specs.Inlining.{program_around}
+use Rattle.lra_opening.specs.Building.{callee_frame}
+use Rattle.lra_opening.specs.Inlining.{program_around}
 use Rattle.lra_graph.proofs.Calling.{no_call_more}
 use Rattle.lra_graph.proofs.Programs.{arguments_fit}
 use Rattle.lra_graph.proofs.inlining.calls.enter_call.Goals as goal

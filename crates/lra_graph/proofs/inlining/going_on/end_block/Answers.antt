@@ -2,11 +2,11 @@
 use Rattle.std.proofs.Common.{[], ◌∷◌, ◌≡◌}
 use Rattle.lra_program.specs.Sites.{plain_site}
 use Rattle.lra_operations.specs.GraphViews.{node_view}
-use Rattle.lra_graph.specs.Limits.{walk, stopped}
-use Rattle.lra_graph.specs.Inlining.{points_in}
-use Rattle.lra_graph.specs.Open.{Stops}
-use Rattle.lra_graph.proofs.OpenPlaces.{block_closes, block_stops, closed_ok}
-use Rattle.lra_graph.proofs.Stopping.{err_stopped}
+use Rattle.lra_opening.specs.Limits.{walk, stopped}
+use Rattle.lra_opening.specs.Inlining.{points_in}
+use Rattle.lra_opening.specs.Open.{Stops}
+use Rattle.lra_opening.proofs.OpenPlaces.{block_closes, block_stops, closed_ok}
+use Rattle.lra_opening.proofs.Stopping.{err_stopped}
 use Rattle.lra_graph.proofs.inlining.going_on.end_block.Goals as goal
 
 pub returns-in_err-point-clause-limit : goal.returns-in_err-point-clause-limit

@@ -2,10 +2,10 @@
 use Rattle.std.proofs.Common.{◌∷◌, ap, sym, ◌∙◌}
 use Rattle.lra_program.specs.ProgramViews.{program_view}
 use Rattle.lra_operations.specs.GraphViews.{node_view}
-use Rattle.lra_graph.specs.Inlining.{points_in}
-use Rattle.lra_graph.specs.Open.{Stops}
-use Rattle.lra_graph.proofs.OpenPlaces.{callee_few, callee_stands, callee_within, callee_closes, callee_stops}
-use Rattle.lra_graph.proofs.Stopping.{err_stopped}
+use Rattle.lra_opening.specs.Inlining.{points_in}
+use Rattle.lra_opening.specs.Open.{Stops}
+use Rattle.lra_opening.proofs.OpenPlaces.{callee_few, callee_stands, callee_within, callee_closes, callee_stops}
+use Rattle.lra_opening.proofs.Stopping.{err_stopped}
 use Rattle.lra_graph.proofs.inlining.going_on.end_callee.Goals as goal
 
 pub end_call-requires : goal.end_call-requires

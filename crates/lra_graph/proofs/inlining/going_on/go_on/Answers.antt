@@ -4,10 +4,10 @@ use Rattle.lra_program.specs.Step.{keep}
 use Rattle.lra_program.specs.ProgramViews.{program_view}
 use Rattle.lra_operations.specs.Graph.{point, act, seq}
 use Rattle.lra_operations.specs.GraphViews.{node_view}
-use Rattle.lra_graph.specs.declared.frame.Frame.{Frame}
-use Rattle.lra_graph.specs.Building.{call_left}
-use Rattle.lra_graph.specs.Inlining.{points_in}
-use Rattle.lra_graph.proofs.OpenPlaces.{opened, rounds_next, closed, closed_ok}
+use Rattle.lra_opening.specs.declared.frame.Frame.{Frame}
+use Rattle.lra_opening.specs.Building.{call_left}
+use Rattle.lra_opening.specs.Inlining.{points_in}
+use Rattle.lra_opening.proofs.OpenPlaces.{opened, rounds_next, closed, closed_ok}
 use Rattle.lra_graph.proofs.inlining.going_on.go_on.Goals as goal
 
 pub returns-in-Items-clause-leads : goal.returns-in-Items-clause-leads

@@ -3,8 +3,8 @@ use Rattle.lra_program.specs.ProgramViews.{cond_view}
 use Rattle.lra_operations.specs.Graph.{point, seq, choose}
 use Rattle.lra_operations.specs.Inlined.{loop_node}
 use Rattle.lra_operations.specs.GraphViews.{node_view}
-use Rattle.lra_graph.specs.declared.frame.Frame.{Frame}
-use Rattle.lra_graph.proofs.OpenPlaces.{forked_seen, false_next, body_next, closed, closed_ok}
+use Rattle.lra_opening.specs.declared.frame.Frame.{Frame}
+use Rattle.lra_opening.proofs.OpenPlaces.{forked_seen, false_next, body_next, closed, closed_ok}
 use Rattle.lra_graph.proofs.inlining.going_on.go_on_forked.Goals as goal
 
 pub returns-in-OnTrue-clause-leads : goal.returns-in-OnTrue-clause-leads

@@ -1,5 +1,5 @@
 -- Goals of `go_on_items`: behind one of some items.
-use Rattle.lra_graph.proofs.OpenPlaces.{row_next}
+use Rattle.lra_opening.proofs.OpenPlaces.{row_next}
 use Rattle.lra_graph.proofs.inlining.going_on.go_on_items.Goals as goal
 
 pub returns-clause-leads : goal.returns-clause-leads

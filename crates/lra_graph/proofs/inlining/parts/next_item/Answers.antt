@@ -3,9 +3,9 @@ use Rattle.std.proofs.Common.{rules, ◌≡◌, [], ◌∷◌, map, refl, ap, �
 use Rattle.std.proofs.lemmas.List.{nil_from_length}
 use Rattle.lra_program.specs.Program.{no_more, declaration, statement}
 use Rattle.lra_program.specs.ProgramViews.{declarator_view, stmt_view, item_view, items_of}
-use Rattle.lra_graph.proofs.ItemRows.{items_last, items_end, declaration_next, statement_next}
-use Rattle.lra_graph.proofs.OpenPlaces.{closed_ok}
-use Rattle.lra_graph.proofs.Shown.{shown_declaration, shown_statement}
+use Rattle.lra_opening.proofs.ItemRows.{items_last, items_end, declaration_next, statement_next}
+use Rattle.lra_opening.proofs.OpenPlaces.{closed_ok}
+use Rattle.lra_opening.proofs.Shown.{shown_declaration, shown_statement}
 use Rattle.lra_graph.proofs.inlining.parts.next_item.Goals as goal
 
 pub returns-in_default-clause-leads : goal.returns-in_default-clause-leads

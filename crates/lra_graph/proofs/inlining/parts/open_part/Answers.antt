@@ -1,10 +1,10 @@
 -- Goals of `open_part`: the first step into whichever part it is.
 use Rattle.std.proofs.Common.{map}
 use Rattle.lra_program.specs.ProgramViews.{item_view, items_of, program_view}
-use Rattle.lra_graph.specs.Inlining.{points_in}
-use Rattle.lra_graph.proofs.ItemRows.{items_begin}
-use Rattle.lra_graph.proofs.Opening.{rounds_open}
-use Rattle.lra_graph.proofs.Stopping.{ok_through, limit_through}
+use Rattle.lra_opening.specs.Inlining.{points_in}
+use Rattle.lra_opening.proofs.ItemRows.{items_begin}
+use Rattle.lra_opening.proofs.FirstSteps.{rounds_open}
+use Rattle.lra_opening.proofs.Stopping.{ok_through, limit_through}
 use Rattle.lra_graph.proofs.inlining.parts.open_part.Goals as goal
 
 pub returns-in-Stmt-clause-leads : goal.returns-in-Stmt-clause-leads

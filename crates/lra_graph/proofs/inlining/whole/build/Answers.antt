@@ -7,14 +7,14 @@ use Rattle.lra_meaning.specs.Refuse.{limit_fault}
 use Rattle.lra_program.specs.Sites.{plain_site, items_events, call_events, events_of}
 use Rattle.lra_program.specs.ProgramViews.{item_view, items_of, program_view}
 use Rattle.lra_operations.specs.GraphViews.{node_view, site_view}
-use Rattle.lra_graph.specs.Limits.{walk, stopped, refusal_of}
-use Rattle.lra_graph.proofs.Agreement.{graphs_agree}
-use Rattle.lra_graph.proofs.DistinctSites.{distinct_sites}
-use Rattle.lra_graph.proofs.Items.{items_stand_as}
+use Rattle.lra_agreement.proofs.Agreement.{graphs_agree}
+use Rattle.lra_agreement.proofs.DistinctSites.{distinct_sites}
+use Rattle.lra_opening.specs.Limits.{walk, stopped, refusal_of}
+use Rattle.lra_opening.proofs.Items.{items_stand_as}
+use Rattle.lra_opening.proofs.Shown.{shown_point}
+use Rattle.lra_opening.proofs.Standing.{main_stands}
+use Rattle.lra_opening.proofs.Stopping.{limit_to}
 use Rattle.lra_graph.proofs.Programs.{main_below, main_read, begun_at, frame_first, main_body, main_end, main_receives}
-use Rattle.lra_graph.proofs.Shown.{shown_point}
-use Rattle.lra_graph.proofs.Standing.{main_stands}
-use Rattle.lra_graph.proofs.Stopping.{limit_to}
 use Rattle.lra_graph.proofs.Totals.{made_graph, made_sites, made_few, made_within, refused_in_items, refused_at_end}
 use Rattle.lra_graph.proofs.inlining.whole.build.Goals as goal
 

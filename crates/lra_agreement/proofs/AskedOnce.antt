@@ -1,0 +1,234 @@
+-- A tree asks at each point once at most: what a part's tree asks stands at the part's own points.
+use Rattle.std.proofs.Common.{◌≡◌, ℕ, zero, suc, ◌<◌, ◌≤◌, List, [], ◌∷◌, ◌++◌, Option, Some, None, Bool, true, false, ◌⊎◌, inl, inr, refl, sym, ap, ◌∙◌}
+use Rattle.std.proofs.Common.{slice_get, arith}
+use Rattle.std.specs.Prelude.{if◌then◌else◌}
+use Rattle.std.proofs.lemmas.Option.{same_Some, none-some}
+use Rattle.lra_base.specs.declared.number_types.NumberType.{NumberType}
+use Rattle.lra_program.specs.declared.receivers.Receiver.{Receiver}
+use Rattle.lra_program.specs.Receivers.{nobody}
+use Rattle.lra_program.specs.Program.{Rvalue, Stmt, Cases, BlockItems, Program}
+use Rattle.lra_program.specs.Step.{Op, append, give, push, test, behind_main}
+use Rattle.lra_program.specs.Overflow.{op_computes}
+use Rattle.lra_program.specs.Sites.{Site}
+use Rattle.lra_operations.specs.Graph.{Node, Arms}
+use Rattle.lra_operations.specs.Agree.{IsGraph}
+use Rattle.lra_operations.specs.Asked.{Asked, asked_of, asked_in, asked_in_arms, fresh_behind, AreAskedOnce}
+use Rattle.lra_operations.specs.Inlined.{Spot, Inl, InlAll, Declares, Loops, Gives, as_nothing, as_block, as_absent, as_assign, as_call, as_if, as_loop, as_for}
+use Rattle.lra_operations.specs.Inlined.{as_break, as_continue}
+use Rattle.lra_operations.specs.Inlined.{as_return, as_return_value, as_return_call, as_end, as_end_value, as_end_call, as_assert, as_assume, as_switch, as_no_cases, as_labelled, as_stated, InlCases, as_none}
+use Rattle.lra_operations.specs.Inlined.{as_declaration, as_statement, as_fresh, as_given}
+use Rattle.lra_operations.specs.Inlined.{is_loop, as_value, as_result}
+use Rattle.lra_agreement.proofs.Shapes.{given}
+use Rattle.lra_agreement.proofs.DistinctLists.{IsIn, AllDiffer, in_either, differ_join, one_place}
+
+abbrev points_of : List Asked → List ℕ
+points_of [] = []
+points_of (x ∷ xs) = x.point ∷ points_of xs
+
+points_append : (xs ys : List Asked) → points_of (xs ++ ys) ≡ points_of xs ++ points_of ys
+points_append [] ys = refl
+points_append (x ∷ xs) ys = ap (λ qs. x.point ∷ qs) (points_append xs ys)
+
+point_at : (xs : List Asked) (i : ℕ) (x : Asked) → slice_get xs i ≡ Some x → slice_get (points_of xs) i ≡ Some x.point
+point_at [] i x e = absurd (none-some x e)
+point_at (y ∷ xs) zero x e = ap (λ (z : Asked). Some z.point) (same_Some y x e)
+point_at (y ∷ xs) (suc i) x e = point_at xs i x e
+
+-- from here to there, or the one of its own before them
+abbrev LiesIn : Option ℕ → ℕ → ℕ → ℕ → Type 0
+LiesIn own low high q = (own ≡ Some q) ⊎ ((low ≤ q) × (q < high))
+
+-- what is asked at points that differ
+pub record Once (own : Option ℕ) (low high : ℕ) (xs : List Asked) : Type 0 where
+  pub up : low ≤ high
+  pub before : (q : ℕ) → own ≡ Some q → q < low
+  pub differ : AllDiffer (points_of xs)
+  pub among : (q : ℕ) → IsIn q (points_of xs) → LiesIn own low high q
+
+once_none : (low high : ℕ) → low ≤ high → Once None low high []
+once_none low high up = record { up = up; before = λ q e. absurd (none-some q e); differ = tt; among = λ q i. absurd i }
+
+once_if : (b : Bool) (low : ℕ) (x : Asked) → x.point < low → Once (Some x.point) low low (if b then x ∷ [] else [])
+once_if true low x less = record {
+  up = omega arith;
+  before = λ q e. let same = same_Some x.point q e in omega arith;
+  differ = (λ i. i, tt);
+  among = λ q i. elim i [ inl e ↦ inl (ap Some (sym e)) | inr j ↦ absurd j ];
+}
+once_if false low x less = record { up = omega arith; before = λ q e. let same = same_Some x.point q e in omega arith; differ = tt; among = λ q i. absurd i }
+
+once_op : (q low : ℕ) (fresh : Option NumberType) (op : Op) → q < low → Once (Some q) low low (asked_of q fresh op)
+once_op q low fresh op less = once_if (op_computes op) low (record { point = q; fresh = fresh; op = op }) less
+
+-- the own one is the first of all
+once_from : (q low high : ℕ) (xs : List Asked) → Once (Some q) low high xs → Once None q high xs
+once_from q low high xs x = let less = x.before q refl in record {
+  up = omega arith;
+  before = λ p e. absurd (none-some p e);
+  differ = x.differ;
+  among = λ p i. by p (x.among p i);
+}
+  where
+    by : (p : ℕ) → LiesIn (Some q) low high p → LiesIn None q high p
+    by p (inl e) = let less = x.before q refl in let same = same_Some q p e in inr (omega arith, omega arith)
+    by p (inr h) = let less = x.before q refl in inr (omega (arith, h), h.1)
+
+-- those of one part, and then those of another
+once_join : (own one two : Option ℕ) (low high l h l' h' : ℕ) (xs ys : List Asked) → low ≤ high → ((q : ℕ) → own ≡ Some q → q < low) → Once one l h xs → Once
+    two l' h' ys
+    → ((q : ℕ) → LiesIn one l h q → LiesIn own low high q) → ((q : ℕ) → LiesIn two l' h' q → LiesIn own low high q) →
+    ((q : ℕ) → LiesIn one l h q → LiesIn two l' h' q → ⊥)
+    → Once own low high (xs ++ ys)
+once_join own one two low high l h l' h' xs ys up before x y left right apart = record {
+  up = up;
+  before = before;
+  differ = rw (points_append xs ys) (differ_join (points_of xs) (points_of ys) x.differ y.differ (λ q i j. apart q (x.among q i) (y.among q j)));
+  among = rw (points_append xs ys) (λ q i. elim (in_either q (points_of xs) (points_of ys) i) [ inl j ↦ left q (x.among q j) | inr j ↦ right q (y.among q j) ]);
+}
+
+-- whose points lie behind
+once_both : (own : Option ℕ) (low mid high : ℕ) (xs ys : List Asked) → Once own low mid xs → Once None mid high ys → Once own low high (xs ++ ys)
+once_both own low mid high xs ys x y = once_join own own None low high low mid mid high xs ys (omega arith) x.before x y left right apart
+  where
+    left : (q : ℕ) → LiesIn own low mid q → LiesIn own low high q
+    left q (inl e) = inl e
+    left q (inr r) = let last = y.up in inr (r.0, omega (arith, r))
+
+    right : (q : ℕ) → LiesIn None mid high q → LiesIn own low high q
+    right q (inl e) = absurd (none-some q e)
+    right q (inr r) = let first = x.up in inr (omega (arith, r), r.1)
+
+    apart : (q : ℕ) → LiesIn own low mid q → LiesIn None mid high q → ⊥
+    apart q i (inl e) = absurd (none-some q e)
+    apart q (inl e) (inr r) = let less = x.before q e in let first = x.up in absurd (omega (arith, r))
+    apart q (inr i) (inr r) = absurd (omega (arith, i, r))
+
+-- before
+once_swapped : (low mid high : ℕ) (xs ys : List Asked) → Once None mid high xs → Once None low mid ys → Once None low high (xs ++ ys)
+once_swapped low mid high xs ys x y = once_join None None None low high mid high low mid xs ys (omega arith) (λ p e. absurd (none-some p e)) x y left right
+    apart
+  where
+    left : (q : ℕ) → LiesIn None mid high q → LiesIn None low high q
+    left q (inl e) = absurd (none-some q e)
+    left q (inr r) = let first = y.up in inr (omega (arith, r), r.1)
+
+    right : (q : ℕ) → LiesIn None low mid q → LiesIn None low high q
+    right q (inl e) = absurd (none-some q e)
+    right q (inr r) = let last = x.up in inr (r.0, omega (arith, r))
+
+    apart : (q : ℕ) → LiesIn None mid high q → LiesIn None low mid q → ⊥
+    apart q (inl e) j = absurd (none-some q e)
+    apart q (inr i) (inl e) = absurd (none-some q e)
+    apart q (inr i) (inr j) = absurd (omega (arith, i, j))
+
+-- behind, but for the own one before all
+once_around : (own low mid high : ℕ) (xs ys : List Asked) → own < low → Once None low mid xs → Once (Some own) mid high ys → Once None own high (xs ++ ys)
+once_around own low mid high xs ys less x y = once_join None None (Some own) own high low mid mid high xs ys (omega arith) (λ p e. absurd (none-some p e)) x y
+    left right apart
+  where
+    left : (q : ℕ) → LiesIn None low mid q → LiesIn None own high q
+    left q (inl e) = absurd (none-some q e)
+    left q (inr r) = let last = y.up in inr (omega (arith, r), omega (arith, r))
+
+    right : (q : ℕ) → LiesIn (Some own) mid high q → LiesIn None own high q
+    right q (inl e) = let same = same_Some own q e in let first = x.up in let last = y.up in inr (omega arith, omega arith)
+    right q (inr r) = let first = x.up in inr (omega (arith, r), r.1)
+
+    apart : (q : ℕ) → LiesIn None low mid q → LiesIn (Some own) mid high q → ⊥
+    apart q (inl e) j = absurd (none-some q e)
+    apart q (inr i) (inl e) = let same = same_Some own q e in absurd (omega (arith, i))
+    apart q (inr i) (inr j) = absurd (omega (arith, i, j))
+
+-- nothing is asked behind
+once_end : (own : Option ℕ) (low mid high : ℕ) (xs : List Asked) → mid ≤ high → Once own low mid xs → Once own low high (xs ++ [])
+once_end own low mid high xs up x = once_both own low mid high xs [] x (once_none mid high up)
+
+-- an operation at the statement's own point, and nothing else
+once_alone : (q : ℕ) (op : Op) → Once None q (suc q) (asked_of q None op)
+once_alone q op = once_from q (suc q) (suc q) (asked_of q None op) (once_op q (suc q) None op (omega arith))
+
+mutual
+  once_one : {P : Program} {T : List Site} {spot : Spot} {s : Stmt} {g : Node} {q : ℕ} → Inl P T spot s g q → (fresh : Option NumberType) → Once None spot.next
+      q (asked_in fresh g)
+  once_one (as_nothing {s = spot} i) fresh = once_none spot.next (suc spot.next) (omega arith)
+  once_one (as_block {s = spot} {g = g} {q = q'} d i) fresh = once_end None spot.next q' (suc q') (asked_in fresh g) (omega arith) (once_all d fresh)
+  once_one (as_absent {s = spot}) fresh = once_none spot.next spot.next (omega arith)
+  once_one (as_assign {s = spot} {g = g} {q = q'} i d) fresh = once_from spot.next (suc spot.next) q' (asked_in None g) (once_gives d (omega arith) None)
+  once_one (as_call {s = spot} {g = g} {q = q'} i d) fresh = once_from spot.next (suc spot.next) q' (asked_in None g) (once_gives d (omega arith) None)
+  once_one (as_if {s = spot} {c = c} {g = g} {h = h} {r = r} {q = q'} i d e) fresh =
+      let own : List Asked = asked_of spot.next None (test spot.frame.here.base c true) in
+      once_from spot.next (suc spot.next) q' (own ++ asked_in None g ++ asked_in None h)
+      (once_both (Some spot.next) (suc spot.next) r q' (own ++ asked_in None g) (asked_in None h)
+      (once_both (Some spot.next) (suc spot.next) (suc spot.next) r own (asked_in None g)
+      (once_op spot.next (suc spot.next) None (test spot.frame.here.base c true) (omega arith)) (once_one d None))
+      (once_one e None))
+  once_one (as_loop {s = spot} {g = g} {q = q'} d) fresh = once_from spot.next (suc spot.next) q' (asked_in fresh g) (once_loops d (omega arith) fresh)
+  once_one (as_for {s = spot} {g = g} {h = h} {r = r} {q = q'} d e) fresh =
+      let init = once_all d fresh in
+      let less : spot.next < r = omega (arith, init.up) in
+      once_around spot.next (suc spot.next) r q' (asked_in fresh g) (asked_in (fresh_behind fresh g) h ++ []) (omega arith) init
+      (once_end (Some spot.next) r q' q' (asked_in (fresh_behind fresh g) h) (omega arith) (once_loops e less (fresh_behind fresh g)))
+  once_one (as_break {s = spot} i k j) fresh = once_none spot.next (suc spot.next) (omega arith)
+  once_one (as_continue {s = spot} i k j) fresh = once_none spot.next (suc spot.next) (omega arith)
+  once_one (as_return {s = spot} i k j) fresh = once_none spot.next (suc spot.next) (omega arith)
+  once_one (as_return_value {s = spot} {e = e} {b = b} i k j) fresh =
+      once_end None spot.next (suc spot.next) (suc spot.next) _ (omega arith) (once_alone spot.next (give spot.frame.here.base b.receiver e))
+  once_one (as_return_call {s = spot} {g = g} {q = q'} i k j d) fresh =
+      once_end None spot.next q' q' (asked_in None g) (omega arith) (once_from spot.next (suc spot.next) q' (asked_in None g) (once_gives d (omega arith) None))
+  once_one (as_end {s = spot} i j) fresh = once_none spot.next (suc spot.next) (omega arith)
+  once_one {P = P} (as_end_value {s = spot} {e = e} i j) fresh =
+      once_end None spot.next (suc spot.next) (suc spot.next) _ (omega arith) (once_alone spot.next (give spot.frame.here.base (behind_main P) e))
+  once_one (as_end_call {s = spot} {g = g} {q = q'} i j d) fresh =
+      once_end None spot.next q' q' (asked_in None g) (omega arith) (once_from spot.next (suc spot.next) q' (asked_in None g) (once_gives d (omega arith) None))
+  once_one (as_assert {s = spot} {c = c} i) fresh = once_alone spot.next (test spot.frame.here.base c true)
+  once_one (as_assume {s = spot} {c = c} i) fresh = once_alone spot.next (test spot.frame.here.base c true)
+  once_one (as_switch {s = spot} {e = e} {arms = arms} {q = q'} i d) fresh =
+      let own : List Asked = asked_of spot.next None (give spot.frame.here.base nobody e) in
+      once_from spot.next (suc spot.next) q' (own ++ asked_in_arms None arms)
+      (once_both (Some spot.next) (suc spot.next) (suc spot.next) q' own (asked_in_arms None arms)
+      (once_op spot.next (suc spot.next) None (give spot.frame.here.base nobody e) (omega arith)) (once_cases d None))
+
+  once_cases : {P : Program} {T : List Site} {spot : Spot} {cs : Cases} {arms : Arms} {q : ℕ} → InlCases P T spot cs arms q → (fresh : Option NumberType)
+      → Once None spot.next q (asked_in_arms fresh arms)
+  once_cases (as_no_cases {s = spot}) fresh = once_none spot.next spot.next (omega arith)
+  once_cases (as_labelled d) fresh = once_cases d fresh
+  once_cases (as_stated {s = spot} {g = g} {arms = arms} {r = r} {q = q'} d e) fresh =
+      once_both None spot.next r q' (asked_in fresh g) (asked_in_arms (fresh_behind fresh g) arms) (once_one d fresh) (once_cases e (fresh_behind fresh g))
+
+  once_all : {P : Program} {T : List Site} {spot : Spot} {b : BlockItems} {g : Node} {n q : ℕ} → InlAll P T spot b g n q → (fresh : Option NumberType) → Once
+      None spot.next q (asked_in fresh g)
+  once_all (as_none {s = spot}) fresh = once_none spot.next spot.next (omega arith)
+  once_all (as_declaration {s = spot} {g = g} {h = h} {r = r} {q = q'} i j e) fresh =
+      once_both None spot.next r q' (asked_in None g) (asked_in (fresh_behind None g) h)
+      (once_from spot.next (suc spot.next) r (asked_in None g) (once_declares j (omega arith) None))
+      (once_all e (fresh_behind None g))
+  once_all (as_statement {s = spot} {g = g} {h = h} {r = r} {q = q'} d e) fresh =
+      once_both None spot.next r q' (asked_in fresh g) (asked_in (fresh_behind fresh g) h) (once_one d fresh) (once_all e (fresh_behind fresh g))
+
+  once_declares : {P : Program} {T : List Site} {spot : Spot} {r : ℕ} {t : NumberType} {o : Option Rvalue} {g : Node} {q : ℕ} → Declares P T spot r t o g q →
+      spot.next < r → (fresh : Option NumberType)
+      → Once (Some spot.next) r q (asked_in fresh g)
+  once_declares (as_fresh {s = spot} {r = r} {t = t}) less fresh = once_op spot.next r fresh (append t) less
+  once_declares (as_given {s = spot} {t = t} d) less fresh = once_gives d less (Some t)
+
+  once_loops : {P : Program} {T : List Site} {spot : Spot} {r : ℕ} {s : Stmt} {g : Node} {q : ℕ} → Loops P T spot r s g q → spot.next < r →
+      (fresh : Option NumberType) → Once (Some spot.next) r q (asked_in fresh g)
+  once_loops (is_loop {s = spot} {r = r} {c = c} {g = g} {h = h} {m = m} {q = q'} i d e) less fresh =
+      once_both (Some spot.next) r r q' (asked_of spot.next None (test spot.frame.here.base c true)) (asked_in None g ++ asked_in None h)
+      (once_op spot.next r None (test spot.frame.here.base c true) less)
+      (once_swapped r m q' (asked_in None g) (asked_in None h) (once_one e None) (once_one d None))
+
+  once_gives : {P : Program} {T : List Site} {spot : Spot} {r : ℕ} {x : Receiver} {e : Rvalue} {g : Node} {q : ℕ} → Gives P T spot r x e g q → spot.next < r →
+      (fresh : Option NumberType)
+      → Once (Some spot.next) r q (asked_in fresh g)
+  once_gives (as_value {s = spot} {r = r} {x = x} {e = e}) less fresh = once_op spot.next r fresh (give spot.frame.here.base x e) less
+  once_gives (as_result {s = spot} {r = r} {c = c} {fn = fn} {g = g} {q = q'} found i d has) less fresh =
+      once_both (Some spot.next) r r (suc q') (asked_of spot.next fresh (push spot.frame.here.base (given fn c))) (asked_in None g ++ [])
+      (once_op spot.next r fresh (push spot.frame.here.base (given fn c)) less)
+      (once_end None r q' (suc q') (asked_in None g) (omega arith) (once_all d None))
+
+pub asked_once : (P : Program) (g : Node) → IsGraph P g → AreAskedOnce g
+asked_once P g is i j a b x y same =
+    let differ : AllDiffer (points_of (asked_in None g)) = rw is.parts (once_end None 0 is.last is.last (asked_in None is.body) (omega arith)
+    (once_all is.inlined None)).differ in
+    one_place (points_of (asked_in None g)) i j a.point differ (point_at (asked_in None g) i a x) (point_at (asked_in None g) j b y ∙ ap Some (sym same))

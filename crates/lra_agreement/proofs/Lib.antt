@@ -1,0 +1,24 @@
+-- What runs of trees are made of, and how long stores are.
+pub mod Shapes
+mod Selecting
+pub mod Lengths
+-- Runs of programs against runs of trees, from programs to trees and back.
+pub mod Landing
+pub mod Asking
+pub mod Split
+pub mod Does
+-- Whole programs.
+pub mod Reached
+pub mod Performed
+pub mod Agreement
+pub mod Pieces
+-- Points are distinct.
+pub mod DistinctLists
+pub mod DistinctSites
+-- What a tree asks.
+pub mod AskedOnce
+pub mod Asked
+-- Trees of sources.
+mod GraphExamples
+-- And what they ask.
+mod AskedExamples

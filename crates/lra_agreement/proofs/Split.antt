@@ -1,0 +1,854 @@
+-- A run that comes to a point, cut at the statement on top: the point is inside, or the statement ends or jumps before.
+use Rattle.std.proofs.Common.{◌≡◌, ◌≢◌, ℕ, ℤ, zero, suc, ◌+◌, ◌<◌, ◌≤◌, List, [], ◌∷◌, ◌++◌, length, Option, Some, None, Bool, true, false, ◌⊎◌, inl, inr, refl}
+use Rattle.std.proofs.Common.{sym, ap, ◌∙◌, subst, slice_get, arith}
+use Rattle.std.proofs.lemmas.Option.{same_Some, none-some}
+use Rattle.std.specs.Prelude.{cond}
+use Rattle.lra_program.specs.Program.{Cond, Call, Rvalue, value, result, Declarator, Stmt, absent, nothing, block, assign, call, if, loop, for, break, continue, return, assert, assume, BlockItems}
+use Rattle.lra_base.specs.declared.case_labels.CaseLabel.{CaseLabel}
+use Rattle.lra_base.specs.CaseLabels.{are_alike, goal_of}
+use Rattle.lra_program.specs.Program.{Expr, switch, Cases, no_cases, labelled, stated, labels_of}
+use Rattle.lra_program.specs.Step.{cases as cases_item, end_switch, behind_label, chosen, do_switch}
+use Rattle.lra_program.specs.Value.{Drawn, value_of}
+use Rattle.lra_operations.proofs.ArmRows.{arms_row, row_behind, behind_of_row}
+use Rattle.lra_agreement.proofs.Selecting.{entries_are}
+use Rattle.lra_program.specs.Program.{no_more, declaration, statement, Function, Program}
+use Rattle.lra_program.specs.Value.{index_of, truth_of}
+use Rattle.lra_program.specs.Step.{State, Op, append, give, give_any, push, keep, test, run_op, run_any, Here, Back, Item, run, declare, all, end_of, turn, cut, mark, leave_call, Config, to_outside, to_turn}
+use Rattle.lra_base.specs.declared.number_types.NumberType.{NumberType}
+use Rattle.lra_program.specs.declared.receivers.Receiver.{Receiver}
+use Rattle.lra_program.specs.Receivers.{variable_at, nobody}
+use Rattle.lra_program.specs.Step.{scene_at, to_mark, behind_main, receiver_of, go, enter, do_rvalue, do_leave, do_break, do_continue, do_declare, next}
+use Rattle.lra_program.specs.Step.{next_at}
+use Rattle.lra_program.specs.Run.{label_on, Point, IsFailing}
+use Rattle.lra_program.specs.Trails.{Met, passes, Trail, met_on, Becomes, Walks}
+use Rattle.lra_program.specs.Overflow.{OpOverflows, IsOverflowing}
+use Rattle.lra_operations.specs.Graph.{Exit, broken, continued, returned, Node, point, act, check, seq, choose, leave, Arms, no_arms}
+use Rattle.lra_operations.specs.Trails.{Stop, by_jump, to_point, to_failure, Outcome, to_end, stopped, Goes, ArmsGo, Finds, Tests, Performs, Passes}
+use Rattle.lra_operations.specs.TrailsAgree.{KeepsWidth, point_at, point_or_none}
+use Rattle.lra_program.specs.Sites.{Site}
+use Rattle.lra_operations.specs.Asked.{asked_of, asked_in}
+use Rattle.lra_operations.specs.Inlined.{Frame, Spot, move, at_point, within, into_callee, Has, HasSite, callee, Inl, InlAll, Declares, Loops, Gives, as_nothing, as_block, as_absent, as_assign}
+use Rattle.lra_operations.specs.Inlined.{as_call, as_if, as_loop, as_for, as_break}
+use Rattle.lra_operations.specs.Inlined.{as_continue, as_return, as_return_value, as_return_call, as_end, as_end_value, as_end_call, as_assert, as_assume, as_switch, as_no_cases, as_labelled, as_stated, InlCases, among_cases, switch_node, as_none, as_declaration, as_statement}
+use Rattle.lra_operations.specs.Inlined.{as_fresh, as_given, is_loop, as_value, as_result, loop_node, call_node, return_node}
+use Rattle.lra_program.proofs.GivenArguments.{given_width}
+use Rattle.lra_agreement.proofs.Shapes.{inner, given, width, call_ends, Round, EndsBodyRound, loop_join, loop_at, loop_done, loop_broken, loop_left, EndsLoop}
+use Rattle.lra_agreement.proofs.Shapes.{loop_first, jump_join}
+use Rattle.lra_agreement.proofs.Lengths.{Length, length_declarator, length_one, length_all, length_test, length_push, length_append, tests_length, mid_length, round_length}
+use Rattle.lra_agreement.proofs.Asking.{Asks, AsksAs, asks_left, asks_own, asks_given, asks_declared, asks_first, asks_second, asks_true, asks_false, asks_body}
+use Rattle.lra_agreement.proofs.Asking.{asks_selected, asks_value, asks_step, asks_callee, asks_callee_end}
+use Rattle.lra_agreement.proofs.Landing.{config, land, land_skip, Matches, matches_skip, outside_some, turn_some, mark_some, mark_none, go_some, go_on_some, go_by_some, lands_broken, lands_continued, lands_returned}
+
+returned_broken : by_jump returned ≡ by_jump broken → ⊥
+returned_broken e = cc
+
+returned_continued : by_jump returned ≡ by_jump continued → ⊥
+returned_continued e = cc
+
+broken_continued : by_jump broken ≡ by_jump continued → ⊥
+broken_continued e = cc
+
+abbrev pub trail : State → List (Met Point) → Trail Point
+trail s xs = record { state = s; met = xs }
+
+module _ (may : State → State → Type 0) (P : Program) (T : List Site) where
+  -- what the tree has to show where the program stands at the point of this number
+  abbrev pub Shows : (c : Config) (zs : List (Met Point)) (p number : ℕ) → Stop → Trail Point → Type 0
+  Shows c zs p number (by_jump j) b = ⊥
+  Shows c zs p number (to_point q) b = (q ≡ number) × (b ≡ trail c.state zs)
+  Shows c zs p number (to_failure q) b = (q ≡ number) × may c.state b.state × IsFailing c.items c.here b.state × (b.met ≡ passes (record { path = c.here.path; label = p }) c.state ∷ zs)
+
+  -- the tree comes to a point of the configuration's path, with this label, and its state and trail; it fails there,
+  -- where the configuration does, and asks there what stops by a number
+  pub record Hit (c : Config) (zs : List (Met Point)) (p : ℕ) (g : Node) (a : Trail Point) : Type 0 where
+    pub number : ℕ
+    pub asserts : Bool
+    pub site : slice_get T number ≡ Some (record { path = c.here.path; label = p; live = length c.state.store; asserts = asserts })
+    pub leads : (z : Stop) (b : Trail Point) → Shows c zs p number z b → Goes (point_at T) may g a (stopped z) b
+    pub asks : (fresh : Option NumberType) → IsOverflowing P c.items c.here c.state → Asks (asked_in fresh g) number c.state
+
+  no_jump : (c : Config) (zs : List (Met Point)) (p number : ℕ) (z : Stop) (b : Trail Point) → Shows c zs p number z b → (j : Exit) → z ≢ by_jump j
+  no_jump c zs p number (by_jump k) b x j e = x
+  no_jump c zs p number (to_point q) b x j e = cc
+  no_jump c zs p number (to_failure q) b x j e = cc
+
+  -- what is so of all that comes to a point is so of the whole
+  pub hit_as : (c : Config) (zs : List (Met Point)) (p : ℕ) (g h : Node) (a b : Trail Point)
+      → ((z : Stop) (d : Trail Point) → ((j : Exit) → z ≢ by_jump j) → Goes (point_at T) may g a (stopped z) d → Goes (point_at T) may h b (stopped z) d) →
+      AsksAs g h → Hit c zs p g a → Hit c zs p h b
+  hit_as c zs p g h a b f asked x = record {
+    number = x.number;
+    asserts = x.asserts;
+    site = x.site;
+    leads = λ z d shows. f z d (no_jump c zs p x.number z d shows) (x.leads z d shows);
+    asks = λ fresh over. asked fresh x.number c.state (λ before. x.asks before over);
+  }
+
+  pub named : (spot : Spot) (at : ℕ) (asserts : Bool) → HasSite T spot at asserts → point_at T spot.next ≡ record { path = spot.frame.here.path; label = at }
+  named spot at asserts has = ap point_or_none has
+
+  pub hit_there : (c : Config) (zs : List (Met Point)) (p : ℕ) (spot : Spot) (at : ℕ) (asserts : Bool) (is : List Item) (a : Trail Point) (g : Node) → label_on c.items ≡ Some p
+      → HasSite T spot at asserts → length a.state.store ≡ spot.live → label_on is ≡ Some at → Goes (point_at T) may g a (stopped (to_point spot.next)) a
+      → ((b : Trail Point) → Passes (point_at T) may spot.next a b → IsFailing is spot.frame.here b.state → Goes (point_at T) may g a (stopped (to_failure spot.next)) b)
+      → (IsOverflowing P is spot.frame.here a.state → (fresh : Option NumberType) → Asks (asked_in fresh g) spot.next a.state)
+      → (config is spot.frame.here a.state ≡ c) × (a.met ≡ zs) → Hit c zs p g a
+  hit_there c zs p spot at asserts is a g on has l lab x y asked (e, f) = subst (λ ys. Hit c ys p g a) f
+      (subst (λ (d : Config). label_on d.items ≡ Some p → Hit d a.met p g a) e (λ o. record {
+        number = spot.next;
+        asserts = asserts;
+        site = rw (l, ← same_Some _ _ (sym lab ∙ o)) has;
+        leads = shown (same_Some _ _ (sym lab ∙ o));
+        asks = λ fresh over. asked over fresh;
+      }) on)
+    where
+      shown : at ≡ p → (z : Stop) (b : Trail Point) → Shows (config is spot.frame.here a.state) a.met p spot.next z b → Goes (point_at T) may g a (stopped z) b
+      shown o (by_jump j) b v = absurd v
+      shown o (to_point q) b (i, j) = rw (i, j) x
+      shown o (to_failure q) b (i, m, v, j) =
+          let same : passes (record { path = spot.frame.here.path; label = p }) a.state ≡ passes (point_at T spot.next) a.state =
+          ap (λ l. let r : Point = record { path = spot.frame.here.path; label = l } in passes r a.state) (sym o) ∙ ap (λ r. passes r a.state) (sym (named spot at asserts has)) in
+          rw i (y b (m, j ∙ ap (λ w. w ∷ a.met) same) v)
+
+  pub hit_seq : (c : Config) (zs : List (Met Point)) (p : ℕ) (g h : Node) (a : Trail Point) → Hit c zs p g a → Hit c zs p (seq g h) a
+  hit_seq c zs p g h a x = hit_as c zs p g (seq g h) a a (λ z d n y. inl y) (asks_first g h) x
+
+  pub hit_then : (c : Config) (zs : List (Met Point)) (p : ℕ) (g h : Node) (a m : Trail Point) → Goes (point_at T) may g a to_end m → Hit c zs p h m → Hit c zs p (seq g h) a
+  hit_then c zs p g h a m e x = hit_as c zs p h (seq g h) m a (λ z d n y. inr (m, e, y)) (asks_second g h) x
+
+pub not_there : (c d : Config) (p : ℕ) → label_on c.items ≡ Some p → label_on d.items ≡ None → d ≡ c → ⊥
+not_there c d p on lab e = none-some p (sym lab ∙ (ap (λ (x : Config). label_on x.items) e ∙ on))
+
+module _ (may : State → State → Type 0) (keeps : KeepsWidth may) (P : Program) (T : List Site) (c : Config) (zs : List (Met Point)) (p : ℕ) (on : label_on c.items ≡ Some p) where
+  abbrev G : Node → Trail Point → Outcome → Trail Point → Type 0
+  G = Goes (point_at T) may
+
+  abbrev W : ℕ → Config → List (Met Point) → Type 0
+  W n d xs = Walks may P n d xs c zs
+
+  abbrev H : Node → Trail Point → Type 0
+  H g a = Hit may P T c zs p g a
+
+  hit_of : (g h : Node) (a b : Trail Point) → ((z : Stop) (d : Trail Point) → ((j : Exit) → z ≢ by_jump j) → G g a (stopped z) d → G h b (stopped z) d) →
+      AsksAs g h → H g a → H h b
+  hit_of g h a b f asked x = hit_as may P T c zs p g h a b f asked x
+
+  here : (spot : Spot) (at : ℕ) (asserts : Bool) (is : List Item) (a : Trail Point) (g : Node) → HasSite T spot at asserts → length a.state.store ≡ spot.live → label_on is ≡ Some at
+      → G g a (stopped (to_point spot.next)) a → ((b : Trail Point) → Passes (point_at T) may spot.next a b → IsFailing is spot.frame.here b.state → G g a (stopped (to_failure spot.next)) b)
+      → (IsOverflowing P is spot.frame.here a.state → (fresh : Option NumberType) → Asks (asked_in fresh g) spot.next a.state)
+      → W zero (config is spot.frame.here a.state) a.met → H g a
+  here spot at asserts is a g has l lab x y asked e = hit_there may P T c zs p spot at asserts is a g on has l lab x y asked e
+
+  len_one : {spot : Spot} {s : Stmt} {g : Node} {q : ℕ} → Inl P T spot s g q → Length (point_at T) may keeps spot.frame spot.live spot.live g
+  len_one d = length_one (point_at T) may keeps d
+
+  len_all : {spot : Spot} {s : BlockItems} {g : Node} {n q : ℕ} → InlAll P T spot s g n q → Length (point_at T) may keeps spot.frame spot.live n g
+  len_all d = length_all (point_at T) may keeps d
+
+  -- what n steps to c make of the tree that stands for the items above k
+  pub data Splits (h : Here) (k : List Item) (n : ℕ) (g : Node) (a : Trail Point) : Type 0 where
+    hits : Hit may P T c zs p g a → Splits h k n g a
+    ended : (j : ℕ) (m : Trail Point) → j < n → Goes (point_at T) may g a to_end m → Walks may P j (config k h m.state) m.met c zs → Splits h k n g a
+    jumped : (j : ℕ) (kind : Exit) (m : Trail Point) (d : Config) → j < n → Goes (point_at T) may g a (stopped (by_jump kind)) m → land kind h k m.state ≡ Some d → Walks may P j d m.met c zs
+        → Splits h k n g a
+
+  splits_more : (h : Here) (k : List Item) (n n' : ℕ) (g : Node) (a : Trail Point) → n ≤ n' → Splits h k n g a → Splits h k n' g a
+  splits_more h k n n' g a l (hits x) = hits x
+  splits_more h k n n' g a l (ended j m i e r) = ended j m (omega arith) e r
+  splits_more h k n n' g a l (jumped j kind m d i e b r) = jumped j kind m d (omega arith) e b r
+
+  -- one tree after another; the items of the second stand above k
+  splits_seq : (h : Here) (k k' : List Item) (n : ℕ) (f g : Node) (a : Trail Point) → ((j : Exit) (m : State) → land j h k' m ≡ land j h k m) → Splits h k' n f a
+      → ((j : ℕ) (m : Trail Point) → j < n → G f a to_end m → W j (config k' h m.state) m.met → Splits h k j g m) → Splits h k n (seq f g) a
+  splits_seq h k k' n f g a skip (hits x) then = hits (hit_seq may P T c zs p f g a x)
+  splits_seq h k k' n f g a skip (jumped j kind m d i e l r) then = jumped j kind m d i (inl e) (sym (skip kind m.state) ∙ l) r
+  splits_seq h k k' n f g a skip (ended j m i e r) then = after (then j m i e r)
+    where
+      after : Splits h k j g m → Splits h k n (seq f g) a
+      after (hits x) = hits (hit_then may P T c zs p f g a m e x)
+      after (ended j' m' i' e' r') = ended j' m' (omega arith) (m, e, e') r'
+      after (jumped j' kind m' d i' e' l r') = jumped j' kind m' d (omega arith) (inr (m, e, e')) l r'
+
+  -- a step from an item with a point
+  pub record Enters (is : List Item) (spot : Spot) (j : ℕ) (a : Trail Point) : Type 0 where
+    pub past : Trail Point
+    pub goal : Config
+    pub passed : Passes (point_at T) may spot.next a past
+    pub long : length past.state.store ≡ spot.live
+    pub step : next_at P is spot.frame.here past.state ≡ Some goal
+    pub rest : Walks may P j goal past.met c zs
+
+  pub enters : (is : List Item) (spot : Spot) (at : ℕ) (asserts : Bool) (j : ℕ) (a : Trail Point) → HasSite T spot at asserts → length a.state.store ≡ spot.live → label_on is ≡ Some at
+      → W (suc j) (config is spot.frame.here a.state) a.met → Enters is spot j a
+  enters is spot at asserts j a has l lab (s, e, b, x, r) =
+      let m : may a.state s = subst (λ o. Becomes may o a.state s) lab b in
+      let same : met_on (label_on is) spot.frame.here.path a.state a.met ≡ passes (point_at T spot.next) a.state ∷ a.met =
+      ap (λ o. met_on o spot.frame.here.path a.state a.met) lab ∙ ap (λ r. passes r a.state ∷ a.met) (sym (named may P T spot at asserts has)) in
+      record {
+        past = trail s (passes (point_at T spot.next) a.state ∷ a.met);
+        goal = e;
+        passed = (m, refl);
+        long = keeps a.state s m ∙ l;
+        step = x;
+        rest = subst (λ ys. W j e ys) same r;
+      }
+
+  -- from an item without
+  pub plain : (d : Config) (xs : List (Met Point)) (n : ℕ) → label_on d.items ≡ None → W n d xs → (j : ℕ) × (e : Config) × (n ≡ suc j) × (next P d ≡ Some e) × W j e xs
+  plain d xs zero lab r = absurd (not_there c d p on lab r.0)
+  plain d xs (suc j) lab (s, e, b, x, r) =
+      (j, e, refl, subst (λ t. next_at P d.items d.here t ≡ Some e) (subst (λ o. Becomes may o d.state s) lab b) x, subst (λ o. W j e (met_on o d.here.path d.state xs)) lab r)
+
+  past : (d e : Config) (xs : List (Met Point)) (n : ℕ) → label_on d.items ≡ None → next P d ≡ Some e → W n d xs → (j : ℕ) × (n ≡ suc j) × W j e xs
+  past d e xs n lab x r = let y = plain d xs n lab r in (y.0, y.2, rw (same_Some e y.1 (sym x ∙ y.3)) y.4)
+
+  -- an item with a point of its own, which fails where the tree behind the point does, and stops by a number where that asks
+  splits_point : (spot : Spot) (at : ℕ) (asserts : Bool) (i : Item) (g : Node) (k : List Item) (a : Trail Point) (count : ℕ) → HasSite T spot at asserts → length a.state.store ≡ spot.live →
+      label_on (i ∷ k) ≡ Some at
+      → ((b : Trail Point) → IsFailing (i ∷ k) spot.frame.here b.state → G g b (stopped (to_failure spot.next)) b)
+      → (IsOverflowing P (i ∷ k) spot.frame.here a.state → Asks (asked_in None g) spot.next a.state) → W count (config (i ∷ k) spot.frame.here a.state) a.met
+      → ((j : ℕ) (b : Trail Point) (e : Config) → suc j ≡ count → length b.state.store ≡ spot.live → next_at P (i ∷ k) spot.frame.here b.state ≡ Some e → W j e b.met
+      → Splits spot.frame.here k count g b)
+      → Splits spot.frame.here k count (seq (point spot.next) g) a
+  splits_point spot at asserts i g k a zero has l lab fails asked r inner =
+      hits (here spot at asserts (i ∷ k) a (seq (point spot.next) g) has l lab (inl (refl, refl)) (λ b m v. inr (b, m, fails b v)) (λ over fresh. asked over) r)
+  splits_point spot at asserts i g k a (suc j) has l lab fails asked r inner =
+      let x = enters (i ∷ k) spot at asserts j a has l lab r in
+      after x.past x.passed (inner j x.past x.goal refl x.long x.step x.rest)
+    where
+      after : (b : Trail Point) → Passes (point_at T) may spot.next a b → Splits spot.frame.here k (suc j) g b → Splits spot.frame.here k (suc j) (seq (point spot.next) g) a
+      after b m (hits y) = hits (hit_then may P T c zs p (point spot.next) g a b m y)
+      after b m (ended j' m' i y z) = ended j' m' i (b, m, y) z
+      after b m (jumped j' kind m' d i y l z) = jumped j' kind m' d i (inr (b, m, y)) l z
+
+  splits_act : (q : ℕ) (op : Op) (h : Here) (k : List Item) (a : Trail Point) (j : ℕ) (e : Config) → go k h (run_op op a.state) ≡ Some e → W j e a.met → Splits h k (suc j) (act q op) a
+  splits_act q op h k a j e x r = let y = go_some k h (run_op op a.state) e x in ended j (trail y.0 a.met) (omega arith) (y.1, refl) (rw y.2 r)
+
+  pub record Tail (r : ℕ) (h : Here) (n : ℕ) (x : Receiver) (params : ℕ) (k : List Item) (count : ℕ) (a : Trail Point) : Type 0 where
+    pub left : ℕ
+    pub over : Trail Point
+    pub cut : Trail Point
+    pub set : Trail Point
+    pub final : Trail Point
+    pub fewer : suc left < count
+    pub passed : Passes (point_at T) may r a over
+    pub cuts : Performs (keep (n + params)) over cut
+    pub sets : Performs (give_any x) cut set
+    pub backs : Performs (keep n) set final
+    pub rest : Walks may P left (config k h final.state) final.met c zs
+
+  abbrev call_items : Function → ℕ → Receiver → Here → List Item → List Item
+  call_items fn n x h k = end_of fn.end (n + width fn) ∷ mark (record { receiver = x; here = h; length = n }) ∷ k
+
+  -- runs of fewer steps are cut so
+  pub record Below (fuel : ℕ) : Type 0 where
+    pub one : (spot : Spot) (s : Stmt) (g : Node) (q : ℕ) → Inl P T spot s g q → (k : List Item) (a : Trail Point) (count : ℕ) → Matches spot.frame k → length a.state.store ≡ spot.live → count < fuel
+        → Walks may P count (config (run s ∷ k) spot.frame.here a.state) a.met c zs → Splits spot.frame.here k count g a
+    pub every : (spot : Spot) (s : BlockItems) (g : Node) (n q : ℕ) → InlAll P T spot s g n q → (k : List Item) (a : Trail Point) (count : ℕ) → Matches spot.frame k →
+        length a.state.store ≡ spot.live → count < fuel
+        → Walks may P count (config (all s ∷ k) spot.frame.here a.state) a.met c zs → Splits spot.frame.here k count g a
+    pub among : (spot : Spot) (cs : Cases) (arms : Arms) (q : ℕ) → InlCases P T spot cs arms q → (k : List Item) (a : Trail Point) (count : ℕ)
+        → Matches spot.frame k →
+        length a.state.store ≡ spot.live → count < fuel
+        → Walks may P count (config (cases_item cs ∷ k) spot.frame.here a.state) a.met c zs → Splits spot.frame.here k count (arms_row arms) a
+    pub loops : (spot : Spot) (r : ℕ) (s : Stmt) (g : Node) (q : ℕ) → Loops P T spot r s g q → (k : List Item) (a : Trail Point) (count : ℕ) → Matches spot.frame k →
+        length a.state.store ≡ spot.live → count < fuel
+        → Walks may P count (config (run s ∷ k) spot.frame.here a.state) a.met c zs → Splits spot.frame.here k count g a
+
+  module _ (fuel : ℕ) (below : Below fuel) where
+    -- what a callee's body leaves: its end, and the call's
+    call_tail : (spot : Spot) (n : ℕ) (h : Here) (x : Receiver) (end params : ℕ) (k : List Item) (count : ℕ) (a : Trail Point) → Has T spot end → length
+        a.state.store ≡ spot.live
+        → W count (config (end_of end (n + params) ∷ mark (record { receiver = x; here = h; length = n }) ∷ k) spot.frame.here a.state) a.met
+        → H (point spot.next) a ⊎ Tail spot.next h n x params k count a
+    call_tail spot n h x end params k zero a has l e = inl (here spot end false
+        (end_of end (n + params) ∷ mark (record { receiver = x; here = h; length = n }) ∷ k) a (point spot.next)
+        has l refl (refl, refl) (λ b m v. absurd v) (λ over fresh. absurd over) e)
+    call_tail spot n h x end params k (suc i) a has l r =
+        let y = enters (end_of end (n + params) ∷ mark (record { receiver = x; here = h; length = n }) ∷ k) spot end false i a has l refl r in
+        let cutting = go_some (mark (record { receiver = x; here = h; length = n }) ∷ k) spot.frame.here (run_op (keep (n + params)) y.past.state) y.goal
+        y.step in
+        marked y.past y.passed cutting.0 cutting.1 (rw cutting.2 y.rest)
+      where
+        marked : (b : Trail Point) → Passes (point_at T) may spot.next a b → (short : State) → run_op (keep (n + params)) b.state ≡ Some short
+            → W i (config (mark (record { receiver = x; here = h; length = n }) ∷ k) spot.frame.here short) b.met → H (point spot.next) a ⊎ Tail spot.next h n
+            x params k (suc i) a
+        marked b m short o rest =
+            let v = plain (config (mark (record { receiver = x; here = h; length = n }) ∷ k) spot.frame.here short) b.met i refl rest in
+            let few = v.2 in
+            let setting = go_on_some (run_any x short) (λ t. go k h (run_op (keep n) t)) v.1 v.3 in
+            let back = go_some k h (run_op (keep n) setting.0) v.1 setting.2 in
+            inr (record {
+              left = v.0;
+              over = b;
+              cut = trail short b.met;
+              set = trail setting.0 b.met;
+              final = trail back.0 b.met;
+              fewer = omega (arith, few);
+              passed = m;
+              cuts = (o, refl);
+              sets = (setting.1, refl);
+              backs = (back.1, refl);
+              rest = rw back.2 v.4;
+            })
+
+    abbrev tree_of_call : Spot → ℕ → Receiver → Call → Function → Node → Node
+    tree_of_call spot r x b fn g = call_node spot.next r spot.frame.here.base spot.live (inner fn x) (given fn b) (width fn) g
+
+    abbrev tree_of_loop : Spot → Cond → Node → Node → Node
+    tree_of_loop spot b g h = loop_node spot.next spot.frame.here.base b g h
+
+    splits_call : (spot : Spot) (r : ℕ) (x : Receiver) (b : Call) (fn : Function) (g : Node) (n' r' : ℕ) (k : List Item) (a : Trail Point) (j : ℕ) (e : Config)
+        → length b.arguments ≡ length fn.parameters → InlAll P T (into_callee spot (inner fn x) b (width fn) r) fn.body g n' r' → Has T
+        (move (into_callee spot (inner fn x) b (width fn) r) n' r') fn.end
+        → length a.state.store ≡ spot.live → j < fuel → enter (Some fn) b x k spot.frame.here a.state ≡ Some e → W j e a.met
+        → Splits spot.frame.here k (suc j) (call_node spot.next r' spot.frame.here.base spot.live (inner fn x) (given fn b) (width fn) g) a
+    splits_call spot r x b fn g n' r' k a j e i d has l less y rest =
+        let y' : go (all fn.body ∷ call_items fn spot.live (inner fn x) spot.frame.here k) (callee spot.frame spot.live (inner fn x) b).here
+        (run_op (push spot.frame.here.base (given fn b)) a.state) ≡ Some e = rw (← l) y in
+        let entering = go_some (all fn.body ∷ call_items fn spot.live (inner fn x) spot.frame.here k) (callee spot.frame spot.live (inner fn x) b).here
+        (run_op (push spot.frame.here.base (given fn b)) a.state) e y' in
+        inside (trail entering.0 a.met) (entering.1, refl) (rw entering.2 rest)
+      where
+        ended_inside : (u : Trail Point) → Performs (push spot.frame.here.base (given fn b)) a u → (i : ℕ) (m : Trail Point) → i < j → G g u to_end m
+            → H (point r') m ⊎ Tail r' spot.frame.here spot.live (inner fn x) (width fn) k i m → Splits spot.frame.here k (suc j)
+            (tree_of_call spot r' x b fn g) a
+        ended_inside u o i m z v (inl h) = hits (hit_of (point r') (tree_of_call spot r' x b fn g) m a (λ s d n w. inr (u, o, (n returned, inr (m, v, inl w))))
+            (asks_callee_end spot r' (inner fn x) (given fn b) (width fn) g) h)
+        ended_inside u o i m z v (inr t) = let few = t.fewer in ended t.left t.final (omega arith)
+            (call_ends (point_at T) may spot r' (inner fn x) (given fn b) (width fn) g a u t.final o
+            (record { before = m; past = t.over; cut = t.cut; set = t.set; body = v; passed = t.passed; cuts = t.cuts; sets = t.sets; back = t.backs })) t.rest
+
+        long : (u : Trail Point) → Performs (push spot.frame.here.base (given fn b)) a u → length u.state.store ≡ spot.live + width fn
+        long u o = length_push spot.frame.here.base (given fn b) a.state u.state o.0 ∙ rw (l, given_width fn.parameters b.arguments i) refl
+
+        after : (u : Trail Point) → Performs (push spot.frame.here.base (given fn b)) a u → Splits (callee spot.frame spot.live (inner fn x) b).here
+            (call_items fn spot.live (inner fn x) spot.frame.here k) j g u
+            → Splits spot.frame.here k (suc j) (tree_of_call spot r' x b fn g) a
+        after u o (hits h) = hits (hit_of g (tree_of_call spot r' x b fn g) u a (λ s d n w. inr (u, o, (n returned, inl w)))
+            (asks_callee spot r' (inner fn x) (given fn b) (width fn) g) h)
+        after u o (jumped i' broken m d' z v l' t) = absurd (none-some d' l')
+        after u o (jumped i' continued m d' z v l' t) = absurd (none-some d' l')
+        after u o (jumped i' returned m d' z v l' t) = ended i' m (omega arith) (u, o, inr (inl v)) (rw (same_Some (config k spot.frame.here m.state) d' l') t)
+        after u o (ended i' m z v t) = ended_inside u o i' m z v (call_tail (move (into_callee spot (inner fn x) b (width fn) r) n' r') spot.live
+            spot.frame.here (inner fn x) fn.end (width fn) k i' m has
+            ((len_all d).ends u m to_end (long u o) v) t)
+
+        inside : (u : Trail Point) → Performs (push spot.frame.here.base (given fn b)) a u →
+            W j (config (all fn.body ∷ call_items fn spot.live (inner fn x) spot.frame.here k) (callee spot.frame spot.live (inner fn x) b).here u.state) a.met
+            →
+            Splits spot.frame.here k (suc j) (tree_of_call spot r' x b fn g) a
+        inside u o t = after u o (below.every (into_callee spot (inner fn x) b (width fn) r) fn.body g n' r' d
+            (call_items fn spot.live (inner fn x) spot.frame.here k) u j
+            (record { breaks = λ m z. absurd (none-some m z); continues = λ m z. absurd (none-some m z); backs = refl }) (long u o) less (rw o.1 t))
+
+    splits_gives : (spot : Spot) (r : ℕ) (x : Receiver) (v : Rvalue) (g : Node) (q : ℕ) (k : List Item) (a : Trail Point) (j : ℕ) (e : Config) → Gives P T spot
+        r x v g q
+        → length a.state.store ≡ spot.live → j < fuel → do_rvalue P x v k spot.frame.here a.state ≡ Some e → W j e a.met → Splits spot.frame.here k (suc j) g a
+    splits_gives _ _ _ _ _ _ k a j e (as_value {s = spot} {x = x} {e = v}) l less y rest = splits_act spot.next (give spot.frame.here.base x v) spot.frame.here k a j e y rest
+    splits_gives _ _ _ _ _ _ k a j e (as_result {s = spot} {r = r} {x = x} {c = b} {fn = fn} {g = g'} {n = n'} {q = r'} found i d has) l less y rest =
+        let y' : enter (Some fn) b x k spot.frame.here a.state ≡ Some e = subst (λ o. enter o b x k spot.frame.here a.state ≡ Some e) found y in
+        splits_call spot r x b fn g' n' r' k a j e i d has l less y' rest
+
+    splits_loop : (spot : Spot) (r at : ℕ) (b : Cond) (s step : Stmt) (g h : Node) (r' q' : ℕ) → Has T spot at
+        → Inl P T (within spot None r) step h r' → Inl P T (within spot (Some spot.live) r') s g q' → (k : List Item) (a : Trail Point) (count : ℕ) → Matches spot.frame k
+        → length a.state.store ≡ spot.live → count < suc fuel
+        → W count (config (run (loop at b s step) ∷ k) spot.frame.here a.state) a.met → Splits spot.frame.here k count (loop_node spot.next spot.frame.here.base b g h) a
+    splits_loop spot r at b s step g h r' q' has d e k a zero m l less t =
+        hits (here spot at false (run (loop at b s step) ∷ k) a (loop_node spot.next spot.frame.here.base b g h) has l refl
+        (loop_join (point_at T) may spot.next spot.frame.here.base b g h a 0 a _ a refl (loop_at refl))
+        (λ b m v. absurd v)
+        (λ over fresh. asks_left (asked_of spot.next None (test spot.frame.here.base b true)) (asked_in None g ++ asked_in None h) spot.next a.state
+        (asks_own spot.next (test spot.frame.here.base b true) a.state over)) t)
+    splits_loop spot r at b s step g h r' q' has d e k a (suc j) m l less t =
+        let x = enters (run (loop at b s step) ∷ k) spot at false j a has l refl t in
+        elim (go_by_some (run s ∷ turn step (loop at b s step) (length x.past.state.store) ∷ k) k spot.frame.here x.past.state
+        (truth_of b (scene_at spot.frame.here.base x.past.state) x.past.state.draws) x.goal x.step) [
+          | inl z ↦ round (trail z.0 x.past.met) (x.past, x.passed, (z.1, refl))
+              (subst (λ w. W j (config (run s ∷ turn step (loop at b s step) w ∷ k) spot.frame.here z.0) x.past.met) x.long (rw z.2 x.rest))
+          | inr z ↦ ended j (trail z.0 x.past.met) (omega arith) (last to_end (trail z.0 x.past.met) (loop_done (x.past, x.passed, (z.1, refl)))) (rw z.2 x.rest)
+        ]
+      where
+        last : (u : Outcome) (v : Trail Point) → EndsLoop (point_at T) may spot.next spot.frame.here.base b g h a v u → G (tree_of_loop spot b g h) a u v
+        last u v x = loop_join (point_at T) may spot.next spot.frame.here.base b g h a 0 a u v refl x
+
+        -- the loop again, behind a whole round
+        again : (on' mid v : Trail Point) → Tests (point_at T) may spot.next spot.frame.here.base b true a on' → EndsBodyRound (point_at T) may g on' mid → G h mid to_end v → (i : ℕ) → i < j
+            → W i (config (run (loop at b s step) ∷ k) spot.frame.here v.state) v.met → Splits spot.frame.here k (suc j) (tree_of_loop spot b g h) a
+        again on' mid v o x x' i less' t = shift (below.loops spot r (loop at b s step) (tree_of_loop spot b g h) q' (is_loop has d e) k v i m long (omega arith) t)
+          where
+            whole : Round (point_at T) may spot.next spot.frame.here.base b g h a v
+            whole = (on', o, (mid, x, x'))
+
+            long : length v.state.store ≡ spot.live
+            long = round_length (point_at T) may keeps spot.frame spot.live g h (len_one e) (len_one d) spot.next spot.frame.here.base b a v l whole
+
+            shift : Splits spot.frame.here k i (tree_of_loop spot b g h) v → Splits spot.frame.here k (suc j) (tree_of_loop spot b g h) a
+            shift (hits y') = hits (hit_of (tree_of_loop spot b g h) (tree_of_loop spot b g h) v a
+                (λ z w n y. loop_first (point_at T) may spot.next spot.frame.here.base b g h a v (stopped z) w whole y) (λ fresh q u y. y fresh) y')
+            shift (ended i' m' z e' t') = ended i' m' (omega arith) (loop_first (point_at T) may spot.next spot.frame.here.base b g h a v to_end m' whole e') t'
+            shift (jumped i' kind m' d' z e' l' t') =
+                jumped i' kind m' d' (omega arith) (loop_first (point_at T) may spot.next spot.frame.here.base b g h a v (stopped (by_jump kind)) m' whole e') l' t'
+
+        -- the step, behind the body
+        stepping : (on' mid : Trail Point) → Tests (point_at T) may spot.next spot.frame.here.base b true a on' → EndsBodyRound (point_at T) may g on' mid → (i : ℕ) → i < j
+            → W i (config (turn step (loop at b s step) spot.live ∷ k) spot.frame.here mid.state) mid.met → Splits spot.frame.here k (suc j) (tree_of_loop spot b g h) a
+        stepping on' mid o x i less' t =
+            let moved = past (config (turn step (loop at b s step) spot.live ∷ k) spot.frame.here mid.state) (config (run step ∷ run (loop at b s step) ∷ k) spot.frame.here mid.state) mid.met i
+            refl refl t in
+            let few = moved.1 in
+            cases moved.0 (omega (arith, few)) (below.one (within spot None r) step h r' d (run (loop at b s step) ∷ k) mid moved.0
+            (record { breaks = λ w z. absurd (none-some w z); continues = λ w z. absurd (none-some w z); backs = m.backs })
+            long (omega (arith, few)) moved.2)
+          where
+            long : length mid.state.store ≡ spot.live
+            long = mid_length (point_at T) may keeps spot.frame spot.live g h (len_one e) (len_one d) on' mid (tests_length (point_at T) may keeps spot.next spot.frame.here.base b true a on' o ∙ l) x
+
+            cases : (i' : ℕ) → i' < j → Splits spot.frame.here (run (loop at b s step) ∷ k) i' h mid → Splits spot.frame.here k (suc j) (tree_of_loop spot b g h) a
+            cases i' less'' (hits y') = hits (hit_of h (tree_of_loop spot b g h) mid a (λ z w n y. (n broken, (0, a, refl, inr (on', o, inr (mid, x, y)))))
+                (asks_step spot.next spot.frame.here.base b g h) y')
+            cases i' less'' (ended i'' v z e' t') = again on' mid v o x e' i'' (omega arith) t'
+            cases i' less'' (jumped i'' broken v d' z e' l' t') = absurd (none-some _ ((len_one d).ends mid v (stopped (by_jump broken)) long e').1)
+            cases i' less'' (jumped i'' continued v d' z e' l' t') = absurd (none-some _ ((len_one d).ends mid v (stopped (by_jump continued)) long e').1)
+            cases i' less'' (jumped i'' returned v d' z e' l' t') = jumped i'' returned v d' (omega arith)
+                (last (stopped (by_jump returned)) v (loop_left on' (by_jump returned) o (inr (mid, x, e')) returned_broken)) l' t'
+
+        round : (on' : Trail Point) → Tests (point_at T) may spot.next spot.frame.here.base b true a on' →
+            W j (config (run s ∷ turn step (loop at b s step) spot.live ∷ k) spot.frame.here on'.state) on'.met
+            → Splits spot.frame.here k (suc j) (tree_of_loop spot b g h) a
+        round on' o t = cases (below.one (within spot (Some spot.live) r') s g q' e (turn step (loop at b s step) spot.live ∷ k) on' j
+            (record { breaks = λ w z. z; continues = λ w z. z; backs = m.backs })
+            (tests_length (point_at T) may keeps spot.next spot.frame.here.base b true a on' o ∙ l) (omega arith) t)
+          where
+            cases : Splits spot.frame.here (turn step (loop at b s step) spot.live ∷ k) j g on' → Splits spot.frame.here k (suc j) (tree_of_loop spot b g h) a
+            cases (hits y') = hits (hit_of g (tree_of_loop spot b g h) on' a (λ z w n y. (n broken, (0, a, refl, inr (on', o, inl (n continued, y)))))
+                (asks_body spot.next spot.frame.here.base b g h) y')
+            cases (ended i m' z x t') = stepping on' m' o (inl x) i z t'
+            cases (jumped i broken m' d' z x l' t') = ended i m' (omega arith) (last to_end m' (loop_broken on' o (inl (broken_continued, x))))
+                (rw (same_Some (config k spot.frame.here m'.state) d' l') t')
+            cases (jumped i continued m' d' z x l' t') = stepping on' m' o (inr x) i z (rw (same_Some (config (turn step (loop at b s step) spot.live ∷ k) spot.frame.here m'.state) d' l') t')
+            cases (jumped i returned m' d' z x l' t') = jumped i returned m' d' (omega arith)
+                (last (stopped (by_jump returned)) m' (loop_left on' (by_jump returned) o (inl (returned_continued, x)) returned_broken)) l' t'
+
+    skip_one : (h : Here) (i : Item) (k : List Item) → to_outside (i ∷ k) ≡ to_outside k → to_turn (i ∷ k) ≡ to_turn k → to_mark (i ∷ k) ≡ to_mark k
+        → (j : Exit) (m : State) → land j h (i ∷ k) m ≡ land j h k m
+    skip_one h i k d e e' j m = land_skip j h i k m d e e'
+
+    -- a block's end
+    end_tail : (spot : Spot) (n at : ℕ) (k : List Item) (a : Trail Point) (count : ℕ) → Has T spot at → length a.state.store ≡ spot.live →
+        W count (config (end_of at n ∷ k) spot.frame.here a.state) a.met
+        → Splits spot.frame.here k count (seq (point spot.next) (act spot.next (keep n))) a
+    end_tail spot n at k a count has l t = splits_point spot at false (end_of at n) (act spot.next (keep n)) k a count has l refl (λ b v. absurd v)
+        (λ over. absurd over) t
+        (λ j b e j' l' y w. splits_more spot.frame.here k (suc j) count (act spot.next (keep n)) b (omega arith) (splits_act spot.next (keep n) spot.frame.here k b j e y w))
+
+    -- the end of a `for`
+    cut_tail : (h : Here) (n q : ℕ) (k : List Item) (a : Trail Point) (count : ℕ) → W count (config (cut n ∷ k) h a.state) a.met → Splits h k count (act q (keep n)) a
+    cut_tail h n q k a count t =
+        let x = plain (config (cut n ∷ k) h a.state) a.met count refl t in
+        splits_more h k (suc x.0) count (act q (keep n)) a (omega arith) (splits_act q (keep n) h k a x.0 x.1 x.3 x.4)
+
+    after_act : (q : ℕ) (op : Op) (g : Node) (h : Here) (k : List Item) (n : ℕ) (a b : Trail Point) → Performs op a b → Splits h k n g b → Splits h k n (seq (act q op) g) a
+    after_act q op g h k n a b o (hits x) = hits (hit_then may P T c zs p (act q op) g a b o x)
+    after_act q op g h k n a b o (ended j m i e r) = ended j m i (b, o, e) r
+    after_act q op g h k n a b o (jumped j kind m d i e l r) = jumped j kind m d i (inr (b, o, e)) l r
+
+    choose_on : (q base : ℕ) (b : Cond) (g g' : Node) (h : Here) (k : List Item) (n : ℕ) (a t : Trail Point) → Performs (test base b true) a t → Splits h k n g t →
+        Splits h k n (choose q base b g g') a
+    choose_on q base b g g' h k n a t o (hits x) = hits (hit_of g (choose q base b g g') t a (λ z w m y. inl (t, o, y)) (asks_true q base b g g') x)
+    choose_on q base b g g' h k n a t o (ended j m i e r) = ended j m i (inl (t, o, e)) r
+    choose_on q base b g g' h k n a t o (jumped j kind m d i e l r) = jumped j kind m d i (inl (t, o, e)) l r
+
+    choose_off : (q base : ℕ) (b : Cond) (g g' : Node) (h : Here) (k : List Item) (n : ℕ) (a t : Trail Point) → Performs (test base b false) a t → Splits h k n g' t →
+        Splits h k n (choose q base b g g') a
+    choose_off q base b g g' h k n a t o (hits x) = hits (hit_of g' (choose q base b g g') t a (λ z w m y. inr (t, o, y)) (asks_false q base b g g') x)
+    choose_off q base b g g' h k n a t o (ended j m i e r) = ended j m i (inr (t, o, e)) r
+    choose_off q base b g g' h k n a t o (jumped j kind m d i e l r) = jumped j kind m d i (inr (t, o, e)) l r
+
+    splits_break : (f : Frame) (q m live : ℕ) (k : List Item) (a : Trail Point) (j : ℕ) (e : Config) → f.breaks ≡ Some m → Matches f k
+        → do_break (to_outside k) f.here a.state ≡ Some e → W j e a.met
+        → Splits f.here k (suc j) (seq (act q (keep m)) (leave live broken)) a
+    splits_break f q m live k a j e i mm y t =
+        let turning = outside_some (to_outside k) m (mm.breaks m i) in
+        let y' : go turning.0.rest f.here (run_op (keep turning.0.length) a.state) ≡ Some e = subst (λ o. do_break o f.here a.state ≡ Some e) turning.1 y in
+        let x = go_some turning.0.rest f.here (run_op (keep turning.0.length) a.state) e y' in
+        let o : run_op (keep m) a.state ≡ Some x.0 = subst (λ w. run_op (keep w) a.state ≡ Some x.0) turning.2 x.1 in
+        jumped j broken (trail x.0 a.met) e (omega arith) (jump_join (point_at T) may q (keep m) live broken a (trail x.0 a.met) (o, refl))
+        (lands_broken (to_outside k) turning.0 f.here x.0 e turning.1 x.2) t
+
+    splits_continue : (f : Frame) (q m live : ℕ) (k : List Item) (a : Trail Point) (j : ℕ) (e : Config) → f.continues ≡ Some m → Matches f k
+        → do_continue (to_turn k) f.here a.state ≡ Some e → W j e a.met
+        → Splits f.here k (suc j) (seq (act q (keep m)) (leave live continued)) a
+    splits_continue f q m live k a j e i mm y t =
+        let turning = turn_some (to_turn k) m (mm.continues m i) in
+        let r : List Item = turn turning.0.step turning.0.again turning.0.length ∷ turning.0.rest in
+        let y' : go r f.here (run_op (keep turning.0.length) a.state) ≡ Some e = subst (λ o. do_continue o f.here a.state ≡ Some e) turning.1 y in
+        let x = go_some r f.here (run_op (keep turning.0.length) a.state) e y' in
+        let o : run_op (keep m) a.state ≡ Some x.0 = subst (λ w. run_op (keep w) a.state ≡ Some x.0) turning.2 x.1 in
+        jumped j continued (trail x.0 a.met) e (omega arith) (jump_join (point_at T) may q (keep m) live continued a (trail x.0 a.met) (o, refl))
+        (lands_continued (to_turn k) turning.0 f.here x.0 e turning.1 x.2) t
+
+    -- back to the caller, from a state that a change may have made
+    splits_leave : (f : Frame) (q live : ℕ) (b : Back) (k : List Item) (xs : List (Met Point)) (o : Option State) (j : ℕ) (e : Config) → f.back ≡ Some b → Matches f k → do_leave (to_mark k) o ≡ Some e
+        → W j e xs
+        → (u : State) × (o ≡ Some u) × Splits f.here k (suc j) (seq (act q (keep b.length)) (leave live returned)) (trail u xs)
+    splits_leave f q live b k xs o j e i mm y t =
+        let marked = mark_some (to_mark k) b (mm.backs ∙ i) in
+        let y' : do_leave (Some (record { back = b; rest = marked.0 })) o ≡ Some e = subst (λ w. do_leave w o ≡ Some e) marked.1 y in
+        let x = go_on_some o (λ t. go marked.0 b.here (run_op (keep b.length) t)) e y' in
+        let z = go_some marked.0 b.here (run_op (keep b.length) x.0) e x.2 in (
+          x.0,
+          x.1,
+          jumped j returned (trail z.0 xs) e (omega arith) (jump_join (point_at T) may q (keep b.length) live returned (trail x.0 xs) (trail z.0 xs) (z.1, refl))
+              (lands_returned (to_mark k) (record { back = b; rest = marked.0 }) z.0 e marked.1 z.2) t,
+        )
+
+    splits_return : (f : Frame) (q live : ℕ) (op : Op) (b : Back) (k : List Item) (a : Trail Point) (j : ℕ) (e : Config) → f.back ≡ Some b → Matches f k
+        → do_leave (to_mark k) (run_op op a.state) ≡ Some e → W j e a.met → Splits f.here k (suc j) (return_node q op b.length live) a
+    splits_return f q live op b k a j e i mm y t =
+        let x = splits_leave f q live b k a.met (run_op op a.state) j e i mm y t in
+        after_act q op (seq (act q (keep b.length)) (leave live returned)) f.here k (suc j) a (trail x.0 a.met) (x.1, refl) x.2
+
+    -- a return behind a call that gave its value
+    leave_tail : (f : Frame) (q live : ℕ) (b : Back) (k : List Item) (a : Trail Point) (count : ℕ) → f.back ≡ Some b → Matches f k → W count (config (leave_call ∷ k) f.here a.state) a.met
+        → Splits f.here k count (seq (act q (keep b.length)) (leave live returned)) a
+    leave_tail f q live b k a count i mm t =
+        let v = plain (config (leave_call ∷ k) f.here a.state) a.met count refl t in
+        let few = v.2 in
+        let x = splits_leave f q live b k a.met (Some a.state) v.0 v.1 i mm v.3 v.4 in
+        splits_more f.here k (suc v.0) count (seq (act q (keep b.length)) (leave live returned)) a (omega (arith, few))
+        (subst (λ u. Splits f.here k (suc v.0) (seq (act q (keep b.length)) (leave live returned)) (trail u a.met)) (sym (same_Some a.state x.0 x.1)) x.2)
+
+    receiver_is : (f : Frame) (k : List Item) (b : Back) → f.back ≡ Some b → Matches f k → receiver_of P (to_mark k) ≡ b.receiver
+    receiver_is f k b i mm = let marked = mark_some (to_mark k) b (mm.backs ∙ i) in rw marked.1 refl
+
+    no_mark : (f : Frame) (k : List Item) → f.back ≡ None → Matches f k → to_mark k ≡ None
+    no_mark f k i mm = mark_none (to_mark k) (mm.backs ∙ i)
+
+    land_two : (h : Here) (i i' : Item) (k : List Item) → to_outside (i ∷ i' ∷ k) ≡ to_outside (i' ∷ k) → to_turn (i ∷ i' ∷ k) ≡ to_turn (i' ∷ k)
+        → to_mark (i ∷ i' ∷ k) ≡ to_mark (i' ∷ k)
+        → to_outside (i' ∷ k) ≡ to_outside k → to_turn (i' ∷ k) ≡ to_turn k →
+        to_mark (i' ∷ k) ≡ to_mark k
+        → (j : Exit) (m : State) → land j h (i ∷ i' ∷ k) m ≡ land j h k m
+    land_two h i i' k o a b p d e j m = land_skip j h i (i' ∷ k) m o a b ∙ land_skip j h i' k m p d e
+
+    splits_for : (spot : Spot) (at : ℕ) (init : BlockItems) (b : Cond) (s step : Stmt) (g h : Node) (n' r q' : ℕ) → InlAll P T (at_point spot (suc spot.next)) init g n' r →
+        Loops P T (move spot n' spot.next) r (loop at b s step) h q'
+        → (k : List Item) (a : Trail Point) (count : ℕ)
+        → Matches spot.frame k → length a.state.store ≡ spot.live → count < fuel → W count (config (all init ∷ run (loop at b s step) ∷ cut spot.live ∷ k) spot.frame.here a.state) a.met →
+        Splits spot.frame.here k count (seq g (seq h (act spot.next (keep spot.live)))) a
+    splits_for spot at init b s step g h n' r q' d e k a count m l less t =
+        splits_seq spot.frame.here k (run (loop at b s step) ∷ cut spot.live ∷ k) count g (seq h (act spot.next (keep spot.live))) a
+        (land_two spot.frame.here (run (loop at b s step)) (cut spot.live) k refl refl refl refl refl refl)
+        (below.every (at_point spot (suc spot.next)) init g n' r d (run (loop at b s step) ∷ cut spot.live ∷ k) a count
+        (matches_skip spot.frame (run (loop at b s step)) (cut spot.live ∷ k) refl refl refl
+        (matches_skip spot.frame (cut spot.live) k refl refl refl m)) l less t)
+        (λ j u i z w. splits_seq spot.frame.here k (cut spot.live ∷ k) j h (act spot.next (keep spot.live)) u
+        (skip_one spot.frame.here (cut spot.live) k refl refl refl)
+        (below.loops (move spot n' spot.next) r (loop at b s step) h q' e (cut spot.live ∷ k) u j
+        (matches_skip spot.frame (cut spot.live) k refl refl refl m) ((len_all d).ends a u to_end l z)
+        (omega arith) w)
+        (λ j' u' i' z' w'. cut_tail spot.frame.here spot.live spot.next k u' j' w'))
+
+    -- nothing follows in `main`
+    end_tail_of : (f : Frame) (k : List Item) (a : Trail Point) (count : ℕ) (g : Node) → to_mark k ≡ None → W count (config (leave_call ∷ k) f.here a.state) a.met → Splits f.here k count g a
+    end_tail_of f k a count g i t =
+        let v = plain (config (leave_call ∷ k) f.here a.state) a.met count refl t in
+        absurd (none-some v.1 (subst (λ o. do_leave o (Some a.state) ≡ Some v.1) i v.3))
+
+    of_loop : (spot : Spot) (r : ℕ) (s : Stmt) (g : Node) (q : ℕ) → Loops P T spot r s g q → (k : List Item) (a : Trail Point) (count : ℕ) → Matches spot.frame k → length a.state.store ≡ spot.live →
+        count < suc fuel
+        → W count (config (run s ∷ k) spot.frame.here a.state) a.met → Splits spot.frame.here k count g a
+    of_loop _ _ _ _ _ (is_loop {s = spot} {r = r} {at = at} {c = b} {a = s} {step = step} {g = g} {h = h} {m = r'} {q = q'} i d e) k a count m l less t =
+        splits_loop spot r at b s step g h r' q' i d e k a count m l less t
+
+    -- a declarator: the point, the new variable, and what it gets
+    splits_declare : (spot : Spot) (d : Declarator) (g : Node) (q' : ℕ) → Has T spot d.label → Declares P T spot (suc spot.next) d.number_type d.rvalue g q' →
+        (k : List Item) (a : Trail Point) (count : ℕ)
+        → length a.state.store ≡ spot.live → count < suc fuel
+        → W count (config (declare d ∷ k) spot.frame.here a.state) a.met → Splits spot.frame.here k count (seq (point spot.next) g) a
+    splits_declare spot d g q' i x k a count l less t = splits_point spot d.label false (declare d) g k a count i l refl (λ b v. absurd v)
+        (asks_declared x a.state l) t
+        (λ j b e j' l' y w. splits_more spot.frame.here k (suc j) count g b (omega arith)
+        (by_rvalue spot (suc spot.next) d.number_type d.rvalue g q' x k b j e l' (omega arith) y w))
+      where
+        by_rvalue : (spot : Spot) (r : ℕ) (t : NumberType) (o : Option Rvalue) (g : Node) (q' : ℕ) → Declares P T spot r t o g q' → (k : List Item)
+            (a : Trail Point) (j : ℕ) (e : Config) →
+            length a.state.store ≡ spot.live → j < fuel
+            → do_declare P t o k spot.frame.here a.state ≡ Some e → W j e a.met → Splits spot.frame.here k (suc j) g a
+        by_rvalue _ _ _ _ _ _ (as_fresh {s = spot} {t = t}) k a j e l less y w = splits_act spot.next (append t) spot.frame.here k a j e y w
+        by_rvalue _ _ _ _ _ _ (as_given {s = spot} {r = r} {t = t} {e = b} {g = g} {q = q'} d) k a j e l less y w =
+            let x = go_on_some (run_op (append t) a.state) (do_rvalue P (variable_at (length a.state.store) t) b k spot.frame.here) e y in
+            let y' : do_rvalue P (variable_at spot.live t) b k spot.frame.here x.0 ≡ Some e = subst
+            (λ v. do_rvalue P (variable_at v t) b k spot.frame.here x.0 ≡ Some e) l x.2 in
+            after_act spot.next (append t) g spot.frame.here k (suc j) a (trail x.0 a.met) (x.1, refl)
+            (splits_gives (move spot (suc spot.live) spot.next) r (variable_at spot.live t) b g q' k (trail x.0 a.met) j e d
+            (length_append t a.state x.0 x.1 ∙ ap suc l) less y' w)
+
+    splits_every : (spot : Spot) (b : BlockItems) (g : Node) (n q : ℕ) → InlAll P T spot b g n q → (k : List Item) (a : Trail Point) (count : ℕ) → Matches spot.frame k →
+        length a.state.store ≡ spot.live
+        → count < suc fuel
+        → W count (config (all b ∷ k) spot.frame.here a.state) a.met → Splits spot.frame.here k count g a
+    splits_every _ _ _ _ _ (as_none {s = spot}) k a count m l less t =
+        let x = past (config (all no_more ∷ k) spot.frame.here a.state) (config k spot.frame.here a.state) a.met count refl refl t in
+        ended x.0 a (omega arith) refl x.2
+    splits_every _ _ _ _ _ (as_declaration {s = spot} {d = d'} {b = b} {g = g} {h = h} {r = r} {n = n'} {q = q'} i d e) k a count m l less t =
+        let x = past (config (all (declaration d' b) ∷ k) spot.frame.here a.state) (config (declare d' ∷ all b ∷ k) spot.frame.here a.state) a.met count refl refl t in
+        let few : x.0 < count = omega arith in
+        splits_more spot.frame.here k x.0 count (seq (seq (point spot.next) g) h) a (omega arith)
+        (splits_seq spot.frame.here k (all b ∷ k) x.0 (seq (point spot.next) g) h a (skip_one spot.frame.here (all b) k refl refl refl)
+        (splits_declare spot d' g r i d (all b ∷ k) a x.0 l (omega arith) x.2)
+        (λ j u less' z w. below.every (move spot (suc spot.live) r) b h n' q' e k u j m ((length_declarator (point_at T) may keeps d).ends a u to_end l z) (omega arith) w))
+    splits_every _ _ _ _ _ (as_statement {s = spot} {a = s} {b = b} {g = g} {h = h} {r = r} {n = n'} {q = q'} d e) k a count m l less t =
+        let x = past (config (all (statement s b) ∷ k) spot.frame.here a.state) (config (run s ∷ all b ∷ k) spot.frame.here a.state) a.met count refl refl t in
+        let few : x.0 < count = omega arith in
+        splits_more spot.frame.here k x.0 count (seq g h) a (omega arith)
+        (splits_seq spot.frame.here k (all b ∷ k) x.0 g h a (skip_one spot.frame.here (all b) k refl refl refl)
+        (below.one spot s g r d (all b ∷ k) a x.0 (matches_skip spot.frame (all b) k refl refl refl m) l (omega arith) x.2)
+        (λ j u i z w. below.every (at_point spot r) b h n' q' e k u j m ((len_one d).ends a u to_end l z) (omega arith) w))
+
+    splits_among : (spot : Spot) (cs : Cases) (arms : Arms) (q : ℕ) → InlCases P T spot cs arms q → (k : List Item) (a : Trail Point) (count : ℕ)
+        → Matches spot.frame k →
+        length a.state.store ≡ spot.live → count < suc fuel
+        → W count (config (cases_item cs ∷ k) spot.frame.here a.state) a.met → Splits spot.frame.here k count (arms_row arms) a
+    splits_among _ _ _ _ (as_no_cases {s = spot}) k a count m l less t =
+        let x = past (config (cases_item no_cases ∷ k) spot.frame.here a.state) (config k spot.frame.here a.state) a.met count refl refl t in
+        ended x.0 a (omega arith) refl x.2
+    splits_among _ _ _ _ (as_labelled {s = spot} {l = n} {cs = cs} {arms = arms} {q = q'} d) k a count m l less t =
+        let x = past (config (cases_item (labelled n cs) ∷ k) spot.frame.here a.state)
+        (config (cases_item cs ∷ k) spot.frame.here a.state) a.met count refl refl t in
+        let few : x.0 < count = omega arith in
+        splits_more spot.frame.here k x.0 count (arms_row arms) a (omega arith) (below.among spot cs arms q' d k a x.0 m l (omega arith) x.2)
+    splits_among _ _ _ _ (as_stated {s = spot} {a = s} {cs = cs} {g = g} {arms = arms} {r = r} {q = q'} d e) k a count m l less t =
+        let x = past (config (cases_item (stated s cs) ∷ k) spot.frame.here a.state)
+        (config (run s ∷ cases_item cs ∷ k) spot.frame.here a.state) a.met count refl refl t in
+        let few : x.0 < count = omega arith in
+        splits_more spot.frame.here k x.0 count (seq g (arms_row arms)) a (omega arith)
+        (splits_seq spot.frame.here k (cases_item cs ∷ k) x.0 g (arms_row arms) a (skip_one spot.frame.here (cases_item cs) k refl refl refl)
+        (below.one spot s g r d (cases_item cs ∷ k) a x.0 (matches_skip spot.frame (cases_item cs) k refl refl refl m) l (omega arith) x.2)
+        (λ j u i z w. below.among (at_point spot r) cs arms q' e k u j m ((len_one d).ends a u to_end l z) (omega arith) w))
+
+    -- behind a label
+    abbrev SplitsCases : Spot → Cases → Node → Type 0
+    SplitsCases spot cs g = (k : List Item) (a : Trail Point) (count : ℕ) → Matches spot.frame k → length a.state.store ≡ spot.live → count < fuel
+        → W count (config (cases_item cs ∷ k) spot.frame.here a.state) a.met → Splits spot.frame.here k count g a
+
+    splits_by : (spot : Spot) (t : Bool) (cs ds : Cases) (g h : Node) → SplitsCases spot cs g → SplitsCases spot ds h
+        → SplitsCases spot (cond t cs ds) (cond t g h)
+    splits_by spot true cs ds g h x y = x
+    splits_by spot false cs ds g h x y = y
+
+    splits_behind : (spot : Spot) (cs : Cases) (arms : Arms) (q : ℕ) → InlCases P T spot cs arms q → (l : CaseLabel)
+        → SplitsCases spot (behind_label l cs) (row_behind l arms)
+    splits_behind _ _ _ _ (as_no_cases {s = spot}) l = λ k a count m n less t. below.among spot no_cases no_arms spot.next
+        (as_no_cases {s = spot}) k a count m n less t
+    splits_behind _ _ _ _ (as_labelled {s = spot} {l = n} {cs = cs} {arms = arms} {q = q'} d) l = splits_by spot (are_alike l n) cs (behind_label l cs)
+        (arms_row arms) (row_behind l arms)
+        (λ k a count m i less t. below.among spot cs arms q' d k a count m i less t) (splits_behind spot cs arms q' d l)
+    splits_behind _ _ _ _ (as_stated {s = spot} {cs = cs} {arms = arms} {r = r} {q = q'} d e) l = splits_behind (at_point spot r) cs arms q' e l
+
+    -- what a `switch` goes on to
+    pub record Chosen (k : List Item) (h : Here) (cs : Cases) (o : Drawn ℤ) (s : State) (e : Config) : Type 0 where
+      pub value : ℤ
+      pub left : List ℤ
+      pub is : o ≡ Some (value, left)
+      pub goes : config (cases_item (chosen value cs) ∷ end_switch (length s.store) ∷ k) h (record s { draws = left }) ≡ e
+
+    do_switch_some : (k : List Item) (h : Here) (cs : Cases) (o : Drawn ℤ) (s : State) (e : Config) → do_switch cs k h s o ≡ Some e → Chosen k h cs o s e
+    do_switch_some k h cs None s e x = absurd (none-some e x)
+    do_switch_some k h cs (Some (z, left)) s e x = record { value = z; left = left; is = refl; goes = same_Some _ e x }
+
+    splits_switch : (spot : Spot) (v : Expr) (cs : Cases) (arms : Arms) (q : ℕ) → InlCases P T (among_cases spot (suc spot.next)) cs arms q
+        → (k : List Item) (u : Trail Point) (j : ℕ) (e : Config)
+        → Matches spot.frame k → length u.state.store ≡ spot.live → j < fuel
+        → do_switch cs k spot.frame.here u.state (value_of v (scene_at spot.frame.here.base u.state) u.state.draws) ≡ Some e → W j e u.met
+        → Splits spot.frame.here k (suc j) (switch_node spot.next spot.frame.here.base v arms) u
+    splits_switch spot v cs arms q d k u j e m n less y w = after inside
+      where
+        x : Chosen k spot.frame.here cs (value_of v (scene_at spot.frame.here.base u.state) u.state.draws) u.state e
+        x = do_switch_some k spot.frame.here cs (value_of v (scene_at spot.frame.here.base u.state) u.state.draws) u.state e y
+
+        l : CaseLabel
+        l = goal_of x.value (labels_of cs)
+
+        drawn : Trail Point
+        drawn = trail (record u.state { draws = x.left }) u.met
+
+        found : Finds spot.frame.here.base v arms u l drawn
+        found = ((x.value, x.is, refl, ap (goal_of x.value) (sym (entries_are d))), refl)
+
+        behind : List Item
+        behind = end_switch spot.live ∷ k
+
+        at_end : (i : ℕ) (b : Trail Point) → W i (config behind spot.frame.here b.state) b.met
+            → (i' : ℕ) × (i ≡ suc i') × W i' (config k spot.frame.here b.state) b.met
+        at_end i b t = past (config behind spot.frame.here b.state) (config k spot.frame.here b.state) b.met i refl refl t
+
+        tree : Node
+        tree = switch_node spot.next spot.frame.here.base v arms
+
+        go_in : (o : Outcome) (b : Trail Point) → G (row_behind l arms) drawn o b → ArmsGo (point_at T) may l false arms drawn o b
+        go_in o b z = behind_of_row (point_at T) may l arms drawn o b z
+
+        after : Splits spot.frame.here behind j (row_behind l arms) drawn → Splits spot.frame.here k (suc j) tree u
+        after (hits h) = hits (hit_of (row_behind l arms) tree drawn u (λ z b no t. (no broken, (l, drawn, found, go_in (stopped z) b t)))
+            (asks_selected spot.next spot.frame.here.base v arms l) h)
+        after (ended i b few t r) = let z = at_end i b r in let one = z.1 in ended z.0 b (omega arith) (inl (l, drawn, found, go_in to_end b t)) z.2
+        after (jumped i broken b c' few t lands r) = ended i b (omega arith) (inr (l, drawn, found, go_in (stopped (by_jump broken)) b t))
+            (rw (same_Some (config k spot.frame.here b.state) c' lands) r)
+        after (jumped i continued b c' few t lands r) = jumped i continued b c' (omega arith)
+            ((λ z. broken_continued (sym z)), (l, drawn, found, go_in (stopped (by_jump continued)) b t)) lands r
+        after (jumped i returned b c' few t lands r) = jumped i returned b c' (omega arith)
+            (returned_broken, (l, drawn, found, go_in (stopped (by_jump returned)) b t)) lands r
+
+        inside : Splits spot.frame.here behind j (row_behind l arms) drawn
+        inside = splits_behind (among_cases spot (suc spot.next)) cs arms q d l behind drawn j
+            (record { breaks = λ w z. z; continues = m.continues; backs = m.backs }) n less
+            (subst (λ o. W j (config (cases_item (chosen x.value cs) ∷ end_switch o ∷ k) spot.frame.here (record u.state { draws = x.left })) u.met) n
+            (rw x.goes w))
+
+    -- a statement at its point, by what its step makes
+    at_its_point : (spot : Spot) (at : ℕ) (s : Stmt) (g : Node) (k : List Item) (a : Trail Point) (count : ℕ) → count < suc fuel → Has T spot at → length a.state.store ≡ spot.live →
+        label_on (run s ∷ k) ≡ Some at
+        → ((b : State) → IsFailing (run s ∷ k) spot.frame.here b → ⊥) →
+        (IsOverflowing P (run s ∷ k) spot.frame.here a.state → Asks (asked_in None g) spot.next a.state) → W count
+        (config (run s ∷ k) spot.frame.here a.state) a.met
+        → ((j : ℕ) (b : Trail Point) (e : Config) → j < fuel → length b.state.store ≡ spot.live → next_at P (run s ∷ k) spot.frame.here b.state ≡ Some e → W j e b.met → Splits spot.frame.here k
+        (suc j) g b)
+        → Splits spot.frame.here k count (seq (point spot.next) g) a
+    at_its_point spot at s g k a count less has l lab sure asked t inner = splits_point spot at false (run s) g k a count has l lab
+        (λ b v. absurd (sure b.state v)) asked t
+        (λ j b e j' l' y w. splits_more spot.frame.here k (suc j) count g b (omega arith) (inner j b e (omega arith) l' y w))
+
+    splits_one : (spot : Spot) (s : Stmt) (g : Node) (q : ℕ) → Inl P T spot s g q → (k : List Item) (a : Trail Point) (count : ℕ) → Matches spot.frame k → length a.state.store ≡ spot.live →
+        count < suc fuel
+        → W count (config (run s ∷ k) spot.frame.here a.state) a.met → Splits spot.frame.here k count g a
+    splits_one _ _ _ _ (as_nothing {s = spot} {at = at} i) k a zero m l less t = hits
+        (here spot at false (run (nothing at) ∷ k) a (point spot.next) i l refl (refl, refl) (λ b m v. absurd v) (λ over fresh. absurd over) t)
+    splits_one _ _ _ _ (as_nothing {s = spot} {at = at} i) k a (suc j) m l less t =
+        let x = enters (run (nothing at) ∷ k) spot at false j a i l refl t in
+        ended j x.past (omega arith) x.passed (rw (same_Some (config k spot.frame.here x.past.state) x.goal x.step) x.rest)
+    splits_one _ _ _ _ (as_block {s = spot} {body = body} {end = end} {g = g} {n = n'} {q = q'} d i) k a count m l less t =
+        let x = past (config (run (block body end) ∷ k) spot.frame.here a.state) (config (all body ∷ end_of end (length a.state.store) ∷ k) spot.frame.here a.state) a.met count refl refl t in
+        let t' = subst (λ w. W x.0 (config (all body ∷ end_of end w ∷ k) spot.frame.here a.state) a.met) l x.2 in
+        let few : x.0 < count = omega arith in
+        splits_more spot.frame.here k x.0 count (seq g (seq (point q') (act q' (keep spot.live)))) a (omega arith)
+        (splits_seq spot.frame.here k (end_of end spot.live ∷ k) x.0 g (seq (point q') (act q' (keep spot.live))) a
+        (skip_one spot.frame.here (end_of end spot.live) k refl refl refl)
+        (below.every spot body g n' q' d (end_of end spot.live ∷ k) a x.0 (matches_skip spot.frame (end_of end spot.live) k refl refl refl m) l
+        (omega arith) t')
+        (λ j u less' z w. end_tail (move spot n' q') spot.live end k u j i ((len_all d).ends a u to_end l z) w))
+    splits_one _ _ _ _ (as_absent {s = spot}) k a count m l less t =
+        let x = past (config (run absent ∷ k) spot.frame.here a.state) (config k spot.frame.here a.state) a.met count refl refl t in
+        ended x.0 a (omega arith) refl x.2
+    splits_one _ _ _ _ (as_assign {s = spot} {at = at} {x = x} {e = v} {g = g} {q = q'} i d) k a count m l less t = at_its_point spot at (assign at x v) g k a
+        count less i l refl (λ b v. v) (asks_given d a.state) t
+        (λ j b e less' l' y w. splits_gives spot (suc spot.next) (variable_at (index_of spot.frame.here.base x.slot) x.number_type) v g q' k b j e d l' less' y
+        w)
+    splits_one _ _ _ _ (as_call {s = spot} {at = at} {c = b} {g = g} {q = q'} i d) k a count m l less t = at_its_point spot at (call at b) g k a count less i l
+        refl (λ b v. v) (asks_given d a.state) t
+        (λ j u e less' l' y w. splits_gives spot (suc spot.next) nobody (result b) g q' k u j e d l' less' y w)
+    splits_one _ _ _ _ (as_if {s = spot} {at = at} {c = b} {a = s} {b = s'} {g = g} {h = h} {r = r} {q = q'} i d d') k a count m l less t =
+        at_its_point spot at (if at b s s') (choose spot.next spot.frame.here.base b g h) k a count less i l refl (λ b v. v)
+        (λ over. asks_left (asked_of spot.next None (test spot.frame.here.base b true) ++ asked_in None g) (asked_in None h) spot.next a.state
+        (asks_left (asked_of spot.next None (test spot.frame.here.base b true)) (asked_in None g) spot.next a.state
+        (asks_own spot.next (test spot.frame.here.base b true) a.state over))) t
+        (λ j u e less' l' y w. elim (go_by_some (run s ∷ k) (run s' ∷ k) spot.frame.here u.state (truth_of b (scene_at spot.frame.here.base u.state) u.state.draws) e y) as
+        (λ z. Splits spot.frame.here k (suc j) (choose spot.next spot.frame.here.base b g h) u) [
+          | inl z ↦ splits_more spot.frame.here k j (suc j) (choose spot.next spot.frame.here.base b g h) u (omega arith)
+              (choose_on spot.next spot.frame.here.base b g h spot.frame.here k j u (trail z.0 u.met) (z.1, refl)
+              (below.one (at_point spot (suc spot.next)) s g r d k (trail z.0 u.met) j m (length_test spot.frame.here.base b true u.state z.0 z.1 ∙ l') less' (rw z.2 w)))
+          | inr z ↦ splits_more spot.frame.here k j (suc j) (choose spot.next spot.frame.here.base b g h) u (omega arith)
+              (choose_off spot.next spot.frame.here.base b g h spot.frame.here k j u (trail z.0 u.met) (z.1, refl)
+              (below.one (at_point spot r) s' h q' d' k (trail z.0 u.met) j m (length_test spot.frame.here.base b false u.state z.0 z.1 ∙ l') less' (rw z.2 w)))
+        ])
+    splits_one _ _ _ _ (as_loop {s = spot} {a = s} {g = g} {q = q'} d) k a count m l less t = of_loop spot (suc spot.next) s g q' d k a count m l less t
+    splits_one _ _ _ _ (as_for {s = spot} {at = at} {init = init} {c = b} {a = s} {step = step} {g = g} {h = h} {n = n'} {r = r} {q = q'} d e) k a count m l less t =
+        let x = past (config (run (for at init b s step) ∷ k) spot.frame.here a.state) (config (all init ∷ run (loop at b s step) ∷ cut (length a.state.store) ∷ k) spot.frame.here a.state) a.met
+        count refl refl t in
+        splits_more spot.frame.here k x.0 count (seq g (seq h (act spot.next (keep spot.live)))) a (omega arith)
+        (splits_for spot at init b s step g h n' r q' d e k a x.0 m l (omega arith) (subst (λ w. W x.0 (config (all init ∷ run (loop at b s step) ∷ cut w ∷ k) spot.frame.here a.state) a.met) l x.2))
+    splits_one _ _ _ _ (as_break {s = spot} {at = at} {m = b} i i' has) k a count m l less t =
+        at_its_point spot at (break at) (seq (act spot.next (keep b)) (leave spot.live broken)) k a count less has l refl (λ b v. v) (λ over. absurd over) t
+        (λ j u e less' l' y w. splits_break spot.frame spot.next b spot.live k u j e i m y w)
+    splits_one _ _ _ _ (as_continue {s = spot} {at = at} {m = b} i i' has) k a count m l less t =
+        at_its_point spot at (continue at) (seq (act spot.next (keep b)) (leave spot.live continued)) k a count less has l refl (λ b v. v)
+        (λ over. absurd over) t
+        (λ j u e less' l' y w. splits_continue spot.frame spot.next b spot.live k u j e i m y w)
+    splits_one _ _ _ _ (as_return {s = spot} {at = at} {b = b} i i' has) k a count m l less t =
+        at_its_point spot at (return at None) (return_node spot.next (give_any b.receiver) b.length spot.live) k a count less has l refl (λ b v. v)
+        (λ over. absurd over) t
+        (λ j u e less' l' y w.
+        let y' : do_leave (to_mark k) (run_any b.receiver u.state) ≡ Some e = subst (λ v. do_leave (to_mark k) (run_any v u.state) ≡ Some e)
+        (receiver_is spot.frame k b i m) y in
+        splits_return spot.frame spot.next spot.live (give_any b.receiver) b k u j e i m y' w)
+    splits_one _ _ _ _ (as_return_value {s = spot} {at = at} {e = v} {b = b} i i' has) k a count m l less t =
+        at_its_point spot at (return at (Some (value v))) (return_node spot.next (give spot.frame.here.base b.receiver v) b.length spot.live) k a count less
+        has l refl (λ b v. v)
+        (λ over. asks_left (asked_of spot.next None (give spot.frame.here.base b.receiver v)) [] spot.next a.state
+        (asks_own spot.next (give spot.frame.here.base b.receiver v) a.state
+        (subst (λ x. OpOverflows (give spot.frame.here.base x v) a.state) (receiver_is spot.frame k b i m) over))) t
+        (λ j u e less' l' y w.
+        let y' : do_leave (to_mark k) (run_op (give spot.frame.here.base b.receiver v) u.state) ≡ Some e =
+        subst (λ x. do_leave (to_mark k) (run_op (give spot.frame.here.base x v) u.state) ≡ Some e) (receiver_is spot.frame k b i m) y in
+        splits_return spot.frame spot.next spot.live (give spot.frame.here.base b.receiver v) b k u j e i m y' w)
+    splits_one _ _ _ _ (as_return_call {s = spot} {at = at} {c = v} {b = b} {g = g} {q = q'} i i' has d) k a count m l less t =
+        at_its_point spot at (return at (Some (result v))) (seq g (seq (act spot.next (keep b.length)) (leave spot.live returned))) k a count less has l refl
+        (λ b v. v)
+        (λ over. asks_left (asked_in None g) [] spot.next a.state (asks_given d a.state over)) t
+        (λ j u e less' l' y w.
+        let y' : do_rvalue P b.receiver (result v) (leave_call ∷ k) spot.frame.here u.state ≡ Some e =
+        subst (λ x. do_rvalue P x (result v) (leave_call ∷ k) spot.frame.here u.state ≡ Some e) (receiver_is spot.frame k b i m) y in
+        splits_seq spot.frame.here k (leave_call ∷ k) (suc j) g (seq (act spot.next (keep b.length)) (leave spot.live returned)) u
+        (skip_one spot.frame.here leave_call k refl refl refl)
+        (splits_gives spot (suc spot.next) b.receiver (result v) g q' (leave_call ∷ k) u j e d l' less' y' w)
+        (λ j'' u' z f b'. leave_tail spot.frame spot.next spot.live b k u' j'' i m b'))
+    splits_one _ _ _ _ (as_end {s = spot} {at = at} i has) k a count m l less t = at_its_point spot at (return at None) (leave spot.live returned) k a count
+        less has l refl (λ b v. v) (λ over. absurd over) t
+        (λ j u e less' l' y w. absurd (none-some e (subst (λ o. do_leave o (run_any (receiver_of P o) u.state) ≡ Some e) (no_mark spot.frame k i m) y)))
+    splits_one _ _ _ _ (as_end_value {s = spot} {at = at} {e = v} i has) k a count m l less t =
+        at_its_point spot at (return at (Some (value v))) (seq (act spot.next (give spot.frame.here.base (behind_main P) v)) (leave spot.live returned)) k a
+        count less has l refl (λ b v. v)
+        (λ over. asks_left (asked_of spot.next None (give spot.frame.here.base (behind_main P) v)) [] spot.next a.state
+        (asks_own spot.next (give spot.frame.here.base (behind_main P) v) a.state
+        (subst (λ o. OpOverflows (give spot.frame.here.base (receiver_of P o) v) a.state) (no_mark spot.frame k i m) over))) t
+        (λ j u e less' l' y w. absurd (none-some e (subst (λ o. do_leave o (run_op (give spot.frame.here.base (receiver_of P o) v) u.state) ≡ Some e)
+        (no_mark spot.frame k i m) y)))
+    splits_one _ _ _ _ (as_end_call {s = spot} {at = at} {c = v} {g = g} {q = q'} i has d) k a count m l less t =
+        at_its_point spot at (return at (Some (result v))) (seq g (leave spot.live returned)) k a count less has l refl (λ b v. v)
+        (λ over. asks_left (asked_in None g) [] spot.next a.state (asks_given d a.state over)) t
+        (λ j u e less' l' y w.
+        let y' : do_rvalue P (behind_main P) (result v) (leave_call ∷ k) spot.frame.here u.state ≡ Some e =
+        subst (λ o. do_rvalue P (receiver_of P o) (result v) (leave_call ∷ k) spot.frame.here u.state ≡ Some e) (no_mark spot.frame k i m) y in
+        splits_seq spot.frame.here k (leave_call ∷ k) (suc j) g (leave spot.live returned) u (skip_one spot.frame.here leave_call k refl refl refl)
+        (splits_gives spot (suc spot.next) (behind_main P) (result v) g q' (leave_call ∷ k) u j e d l' less' y' w)
+        (λ j'' u' z f b'. end_tail_of spot.frame k u' j'' (leave spot.live returned) (no_mark spot.frame k i m) b'))
+    splits_one _ _ _ _ (as_assert {s = spot} {at = at} {c = b} i) k a count m l less t =
+        splits_point spot at true (run (assert at b)) (check spot.next spot.frame.here.base b) k a count i l refl (λ u v. (refl, refl, v.0, v.1))
+        (asks_own spot.next (test spot.frame.here.base b true) a.state) t
+        (λ j u e j' l' y w. let x = go_some k spot.frame.here (run_op (test spot.frame.here.base b true) u.state) e y in ended j (trail x.0 u.met) (omega arith) (x.1, refl) (rw x.2 w))
+    splits_one _ _ _ _ (as_assume {s = spot} {at = at} {c = b} i) k a count m l less t =
+        at_its_point spot at (assume at b) (act spot.next (test spot.frame.here.base b true)) k a count less i l refl (λ b v. v)
+        (asks_own spot.next (test spot.frame.here.base b true) a.state) t
+        (λ j u e less' l' y w. splits_act spot.next (test spot.frame.here.base b true) spot.frame.here k u j e y w)
+    splits_one _ _ _ _ (as_switch {s = spot} {at = at} {e = v} {cs = cs} {arms = arms} {q = q'} i d) k a count m l less t =
+        at_its_point spot at (switch at v cs) (switch_node spot.next spot.frame.here.base v arms) k a count less i l refl (λ b z. z)
+        (asks_value spot.next spot.frame.here.base v arms a.state) t
+        (λ j u e less' l' y w. splits_switch spot v cs arms q' d k u j e m l' less' y w)
+
+  nothing_below : Below zero
+  nothing_below = record {
+    one = λ spot s g q d k a count m l less t. absurd (omega arith);
+    every = λ spot s g n q d k a count m l less t. absurd (omega arith);
+    among = λ spot cs arms q d k a count m l less t. absurd (omega arith);
+    loops = λ spot r s g q d k a count m l less t. absurd (omega arith);
+  }
+
+  pub all_below : (fuel : ℕ) → Below fuel
+  all_below zero = nothing_below
+  all_below (suc fuel) = record {
+    one = splits_one fuel (all_below fuel);
+    every = splits_every fuel (all_below fuel);
+    among = splits_among fuel
+        (all_below fuel);
+    loops = of_loop fuel (all_below fuel);
+  }

@@ -1,0 +1,44 @@
+-- The items of a block, one by one: where all are stopped by one of them.
+use Rattle.std.proofs.Common.{◌≡◌, ℕ, suc, List, [], ◌∷◌, sym, subst}
+use Rattle.lra_program.specs.Program as program
+use Rattle.lra_program.specs.Program.{declaration, statement}
+use Rattle.lra_program.specs.Sites.{Site, plain_site, given_events, stmt_events, items_events}
+use Rattle.lra_opening.specs.declared.points.Limit.{Limit}
+use Rattle.lra_opening.specs.declared.frame.Frame.{Frame}
+use Rattle.lra_opening.specs.Limits.{Progress, passed, stopped, walk}
+use Rattle.lra_opening.specs.Building.{inside, ItemsStand}
+use Rattle.lra_opening.proofs.Walking.{walk_stop}
+use Rattle.lra_opening.proofs.Stopping.{second_stopped, third_stopped, middle_stopped}
+
+-- items that are known by an equation --------------------------------------------------------------------------------------
+
+pub items_stand_as : (P : program.Program) (r : Frame) (b b' : program.BlockItems) → b ≡ b' → ItemsStand P r b → ItemsStand P r b'
+items_stand_as P r b b' e x = subst (λ z. ItemsStand P r z) e x
+
+module _ (P : program.Program) (path : List ℕ) (r : Frame) (S : List Site) (all : program.BlockItems) where
+  items_stopped : (b : program.BlockItems) (w : Progress) → all ≡ b → walk S (items_events (inside P path r) path r.live b) ≡ w → walk S (items_events (inside P path r) path r.live all) ≡ w
+  items_stopped b w e h = subst (λ z. walk S (items_events (inside P path r) path r.live z) ≡ w) (sym e) h
+
+  -- behind a declarator
+  module _ (d : program.Declarator) (b : program.BlockItems) (e : all ≡ declaration d b) where
+    module _ (V : List Site) (n : ℕ) (point : walk S (plain_site path d.label r.live ∷ []) ≡ passed V) (same : n ≡ suc r.live) where
+      pub declaration_at_given : (x : Limit) → walk V (given_events (inside P path r) path n d.rvalue) ≡ stopped x → walk S (items_events (inside P path r) path r.live all) ≡ stopped x
+      declaration_at_given x h = items_stopped (declaration d b) (stopped x) e
+          (middle_stopped S V (plain_site path d.label r.live ∷ []) (given_events (inside P path r) path (suc r.live) d.rvalue) (items_events (inside P path r) path (suc r.live) b) x point
+          (subst (λ z. walk V (given_events (inside P path r) path z d.rvalue) ≡ stopped x) same h))
+
+      pub declaration_at_others : (W : List Site) (x : Limit) → walk V (given_events (inside P path r) path (suc r.live) d.rvalue) ≡ passed W
+          → walk W (items_events (inside P path r) path n b) ≡ stopped x
+          → walk S (items_events (inside P path r) path r.live all) ≡ stopped x
+      declaration_at_others W x g h = items_stopped (declaration d b) (stopped x) e
+          (third_stopped S V W (plain_site path d.label r.live ∷ []) (given_events (inside P path r) path (suc r.live) d.rvalue) (items_events (inside P path r) path (suc r.live) b) x point
+          g (subst (λ z. walk W (items_events (inside P path r) path z b) ≡ stopped x) same h))
+
+  -- behind a statement
+  module _ (s : program.Stmt) (b : program.BlockItems) (e : all ≡ statement s b) where
+    pub statement_at_first : (x : Limit) → walk S (stmt_events (inside P path r) path r.live s) ≡ stopped x → walk S (items_events (inside P path r) path r.live all) ≡ stopped x
+    statement_at_first x h = items_stopped (statement s b) (stopped x) e (walk_stop S (stmt_events (inside P path r) path r.live s) (items_events (inside P path r) path r.live b) x h)
+
+    pub statement_at_others : (V : List Site) (x : Limit) → walk S (stmt_events (inside P path r) path r.live s) ≡ passed V → walk V (items_events (inside P path r) path r.live b) ≡ stopped x
+        → walk S (items_events (inside P path r) path r.live all) ≡ stopped x
+    statement_at_others V x f h = items_stopped (statement s b) (stopped x) e (second_stopped S V (stmt_events (inside P path r) path r.live s) (items_events (inside P path r) path r.live b) x f h)

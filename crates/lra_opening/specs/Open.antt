@@ -1,0 +1,261 @@
+-- What is owed where a program is written out along a list of open places: in each of them a part is under way, and
+-- with that the place's own part is written.
+use Rattle.std.specs.Prelude.{◌≡◌, ℕ, ◌+◌, ◌≤◌, List, [], ◌∷◌, ◌++◌, map, length, Option, Some, None}
+use Rattle.lra_base.specs.Limits.{greatest_live}
+use Rattle.lra_base.specs.declared.case_labels.CaseLabel.{CaseLabel}
+use Rattle.lra_program.specs.declared.program.CaseItem.{CaseItem}
+use Rattle.lra_operations.specs.declared.graph.Arm.{Arm}
+use Rattle.lra_program.specs.Program as resolved
+use Rattle.lra_program.specs.Program.{result, Declarator, declaration, BlockItems, Program, Cond}
+use Rattle.lra_program.specs.Step.{append, keep}
+use Rattle.lra_program.specs.Sites.{Site, live_behind, plain_site, stmt_events, cases_events, items_events, call_events}
+use Rattle.lra_program.specs.ProgramViews.{expr_view, cond_view, call_view, stmt_view, declarator_view, item_view}
+use Rattle.lra_program.specs.ProgramViews.{items_of, case_view, cases_of}
+use Rattle.lra_operations.specs.Graph as graph
+use Rattle.lra_operations.specs.Graph.{Node, point, act, seq, choose, Arms}
+use Rattle.lra_operations.specs.GraphViews.{node_view, row, ArmPart, arm_view, arms_before}
+use Rattle.lra_operations.specs.Inlined.{loop_node, switch_node}
+use Rattle.lra_opening.specs.Limits.{walk, passed, stopped}
+use Rattle.lra_opening.specs.Building.{inside, call_left, ItemsStand, ItemStands, StmtStands, CasesStand, CallStands}
+use Rattle.lra_opening.specs.Building.{cases_frame, WritesStmt, WritesCases, WritesItems, WritesItem, WritesRvalue}
+use Rattle.lra_opening.specs.Building.{WritesLoop, WritesBody, StopsItem}
+use Rattle.lra_opening.specs.Inlining.{Points, points_in, program_around}
+use Rattle.lra_opening.specs.declared.points.Limit.{Limit}
+use Rattle.lra_opening.specs.declared.frame.Frame.{Frame}
+use Rattle.lra_opening.specs.declared.frame.Around.{Around}
+use Rattle.lra_opening.specs.declared.frame.Caller.{Caller}
+use Rattle.lra_opening.specs.declared.places.Part as part
+use Rattle.lra_opening.specs.declared.places.Part.TheVariants.{Stmt, Declaration, Items, Call, Rounds}
+use Rattle.lra_opening.specs.declared.places.ItemRow.{ItemRow}
+use Rattle.lra_opening.specs.declared.places.CalledFrom.{CalledFrom}
+use Rattle.lra_opening.specs.declared.places.Place as place
+use Rattle.lra_opening.specs.declared.places.CaseRow.{CaseRow}
+use Rattle.lra_opening.specs.declared.places.NextCase.{NextCase}
+use Rattle.lra_opening.specs.declared.places.Place.TheVariants.{Items as ItemsAt, Cases as CasesAt, Forked, Init}
+use Rattle.lra_opening.specs.declared.places.Place.TheVariants.{Around as AroundAt, Block, Given, Declared}
+use Rattle.lra_opening.specs.declared.places.Place.TheVariants.{Returned, Callee}
+use Rattle.lra_opening.specs.declared.places.Forked as forked
+use Rattle.lra_opening.specs.declared.places.Forked.TheVariants.{OnTrue, OnFalse, Step, Body}
+use Rattle.lra_opening.specs.declared.places.Open.{Open}
+use Rattle.lra_opening.specs.declared.places.Written as written
+use Rattle.lra_opening.specs.declared.places.Next as next
+use Rattle.lra_opening.specs.declared.places.Next.TheVariants.{Written, Opens}
+
+-- what is to be written out: a statement; a declarator with its variable; items; a call, for what calls; the rounds of
+-- a loop behind its own point, by its body and its step
+pub data Work : Type 0 where
+  a_stmt : resolved.Stmt → Work
+  a_declaration : Declarator → Work
+  all_items : BlockItems → Work
+  a_call : Caller → resolved.Call → Work
+  all_rounds : ℕ → Cond → resolved.Stmt → resolved.Stmt → Work
+
+abbrev pub part_view : part.Part → Work
+part_view (Stmt s) = a_stmt (stmt_view s.now)
+part_view (Declaration d) = a_declaration (declarator_view d.now)
+part_view (Items b) = all_items (items_of (map item_view b.now))
+part_view (Call caller c) = a_call caller (call_view c.now)
+part_view (Rounds q r) = all_rounds q (cond_view r.cond.now) (stmt_view r.body.now) (stmt_view r.step.now)
+
+-- work that is due: on this path, in this frame, behind these points
+pub record Due : Type 0 where
+  pub part : Work
+  pub path : List ℕ
+  pub frame : Frame
+  pub before : List Site
+
+abbrev pub due : Work → List ℕ → Frame → List Site → Due
+due w path r S = record { part = w; path = path; frame = r; before = S }
+
+-- the path of what is under way in a place on this path
+abbrev pub path_inside : place.Place → List ℕ → List ℕ
+path_inside (Callee from) path = from.call.now.label ∷ path
+path_inside p path = path
+
+module _ (P : Program) where
+  -- it is written out as this tree, with so many live behind it; these are the points then
+  abbrev pub WrittenAs : Work → List ℕ → Frame → List Site → Node → ℕ → List Site → Type 0
+  WrittenAs (a_stmt s) path r S g n V = WritesStmt P path r S s g V × (n ≡ r.live)
+  WrittenAs (a_declaration d) path r S g n V = WritesItem P path r S (declaration d) g n V
+  WrittenAs (all_items b) path r S g n V = WritesItems P path r S b g V × (n ≡ live_behind r.live b)
+  WrittenAs (a_call caller c) path r S g n V =
+      WritesRvalue P path r caller.point caller.receiver S (result c) g V × (n ≡ r.live)
+  WrittenAs (all_rounds q c a step) path r S g n V = WritesLoop P path r q S c a step g V
+
+  abbrev pub IsWritten : Due → Node → ℕ → List Site → Type 0
+  IsWritten d g n V = WrittenAs d.part d.path d.frame d.before g n V
+
+  -- it passes the limit
+  abbrev pub StopsAs : Work → List ℕ → Frame → List Site → Limit → Type 0
+  StopsAs (a_stmt s) path r S l = walk S (stmt_events (inside P path r) path r.live s) ≡ stopped l
+  StopsAs (a_declaration d) path r S l = StopsItem P path r S (declaration d) l
+  StopsAs (all_items b) path r S l = walk S (items_events (inside P path r) path r.live b) ≡ stopped l
+  StopsAs (a_call caller c) path r S l = walk S (call_events P r.calls_left path r.live c) ≡ stopped l
+  StopsAs (all_rounds q c a step) path r S l =
+      walk S (stmt_events (inside P path r) path r.live step ++ stmt_events (inside P path r) path r.live a) ≡ stopped l
+
+  abbrev pub Stops : Due → Limit → Type 0
+  Stops d l = StopsAs d.part d.path d.frame d.before l
+
+  -- it can be written there
+  abbrev pub StandsAs : Work → Frame → Type 0
+  StandsAs (a_stmt s) r = StmtStands P r s
+  StandsAs (a_declaration d) r = ItemStands P r (declaration d)
+  StandsAs (all_items b) r = ItemsStand P r b
+  StandsAs (a_call caller c) r = CallStands P r c × (r.live ≤ greatest_live + 1)
+  StandsAs (all_rounds q c a step) r =
+      StmtStands P (record r { breaks = Some r.live; continues = Some r.live }) a ×
+      StmtStands P (record r { breaks = None; continues = None }) step
+
+  -- places -----------------------------------------------------------------------------------------------------------
+
+  -- with the part the whole is written: its tree is of this form, and so many live behind it
+  abbrev pub Closes : Due → Due → (Node → Node) → ℕ → Type 0
+  Closes whole under form live =
+      (g : Node) (n : ℕ) (V : List Site) → IsWritten under g n V → IsWritten whole (form g) live V
+
+  -- behind the part comes another one, and with both the whole is written
+  pub record Forks (whole under : Due) (other : ℕ → List Site → Due) (form : Node → Node → Node) : Type 0 where
+    pub stands : (g : Node) (n : ℕ) (V : List Site) → IsWritten under g n V
+        → StandsAs (other n V).part (other n V).frame
+    pub writes : (g h : Node) (n k : ℕ) (V U : List Site) → IsWritten under g n V → IsWritten (other n V) h k U
+        → IsWritten whole (form g h) whole.frame.live U
+    pub stops : (g : Node) (n : ℕ) (V : List Site) (l : Limit) → IsWritten under g n V → Stops (other n V) l
+        → Stops whole l
+
+  -- behind the part comes the point of a block's end, at which all that lives behind the part lives
+  pub record Ends (whole under : Due) (end : ℕ) : Type 0 where
+    pub writes : (g : Node) (n : ℕ) (V U : List Site) → IsWritten under g n V
+        → walk V (plain_site whole.path end n ∷ []) ≡ passed U
+        → IsWritten whole (seq g (seq (point (length V)) (act (length V) (keep whole.frame.live)))) whole.frame.live U
+    pub stops : (g : Node) (n : ℕ) (V : List Site) (l : Limit) → IsWritten under g n V
+        → walk V (plain_site whole.path end n ∷ []) ≡ stopped l → Stops whole l
+
+  -- items of which these are written, and these are left: whatever is written of those comes behind them
+  pub record ItemsLoop (path : List ℕ) (r : Frame) (S : List Site) (all rest : BlockItems) (gs : List Node) (n : ℕ)
+      (V : List Site) : Type 0 where
+    pub live : live_behind n rest ≡ live_behind r.live all
+    pub stands : ItemsStand P (record r { live = n }) rest
+    pub writes : (h : Node) (U : List Site) → WritesItems P path (record r { live = n }) V rest h U
+        → WritesItems P path r S all (row gs h) U
+    pub stops : (l : Limit) → walk V (items_events (inside P path r) path n rest) ≡ stopped l
+        → walk S (items_events (inside P path r) path r.live all) ≡ stopped l
+
+  -- the item under way stands behind those that are written, and before those that are left
+  pub record IsRow (whole under : Due) (r : ItemRow) : Type 0 where
+    pub all : BlockItems
+    pub is : whole.part ≡ all_items all
+    pub writes : (g : Node) (n : ℕ) (V : List Site) → IsWritten under g n V
+        → ItemsLoop whole.path whole.frame whole.before all (items_of (map item_view r.rest.now))
+        (map node_view r.parts.items ++ g ∷ []) n V
+
+  -- a `switch` behind its point q, of which these arms are written and these cases are left: whatever is written of
+  -- those comes behind them
+  pub record SwitchLoop (path : List ℕ) (r : Frame) (S : List Site) (q at : ℕ) (e : resolved.Expr)
+      (all rest : resolved.Cases) (arms : List ArmPart) (V : List Site) : Type 0 where
+    pub stands : CasesStand P (cases_frame r) rest
+    pub writes : (h : Arms) (U : List Site) → WritesCases P path (cases_frame r) V rest h U
+        → WritesStmt P path r S (resolved.switch at e all)
+        (seq (point q) (switch_node q r.base e (arms_before arms h))) U
+    pub stops : (l : Limit) → walk V (cases_events (inside P path r) path r.live rest) ≡ stopped l
+        → walk S (stmt_events (inside P path r) path r.live (resolved.switch at e all)) ≡ stopped l
+
+  -- the statement under way stands behind what is written of the `switch`, and before what is left
+  pub record IsCaseRow (whole under : Due) (r : CaseRow) : Type 0 where
+    pub at : ℕ
+    pub all : resolved.Cases
+    pub is : whole.part ≡ a_stmt (resolved.switch at (expr_view r.value.now) all)
+    pub writes : (g : Node) (n : ℕ) (V : List Site) → IsWritten under g n V
+        → SwitchLoop whole.path whole.frame whole.before r.point at (expr_view r.value.now) all
+        (cases_of (map case_view r.rest.now)) (map arm_view r.arms.items ++ graph.arm g ∷ []) V
+
+  -- the body of the function that the call names
+  pub record IsBody (whole under : Due) (from : CalledFrom) : Type 0 where
+    pub is : whole.part ≡ a_call from.caller (call_view from.call.now)
+    pub path : from.path ≡ whole.path
+    pub stands : CallStands P whole.frame (call_view from.call.now)
+    pub few : whole.frame.live ≤ greatest_live + 1
+    pub writes : (g : Node) (n : ℕ) (V : List Site) → IsWritten under g n V
+        → WritesBody P whole.path whole.frame from.caller.receiver (call_view from.call.now) whole.before g n V
+
+  -- one case for each kind of place
+  abbrev pub ForkContinues : Due → Due → forked.Forked → Type 0
+  ForkContinues whole under (OnTrue b) = Forks whole under
+      (λ n V. due (a_stmt (stmt_view b.on_false.now)) whole.path whole.frame V)
+      (λ g h. seq (point b.point) (choose b.point whole.frame.base (cond_view b.cond.now) g h))
+  ForkContinues whole under (OnFalse q c g) = Closes whole under
+      (λ h. seq (point q) (choose q whole.frame.base (cond_view c.now) (node_view g) h)) whole.frame.live
+  ForkContinues whole under (Step q r) = Forks whole under
+      (λ n V. due (a_stmt (stmt_view r.body.now)) whole.path
+      (record whole.frame { breaks = Some whole.frame.live; continues = Some whole.frame.live }) V)
+      (λ g h. loop_node q whole.frame.base (cond_view r.cond.now) h g)
+  ForkContinues whole under (Body q c g) = Closes whole under
+      (λ h. loop_node q whole.frame.base (cond_view c.now) h (node_view g)) whole.frame.live
+
+  abbrev pub Continues : Due → Due → place.Place → Type 0
+  Continues whole under (ItemsAt r) = IsRow whole under r
+  Continues whole under (CasesAt r) = IsCaseRow whole under r
+  Continues whole under (Forked x) = ForkContinues whole under x
+  Continues whole under (Init q r) = Forks whole under
+      (λ n V. due (part_view (Rounds q r)) whole.path (record whole.frame { live = n }) V)
+      (λ g h. seq g (seq h (act q (keep whole.frame.live))))
+  Continues whole under (AroundAt q g) = Closes whole under
+      (λ h. seq (node_view g) (seq h (act q (keep whole.frame.live)))) whole.frame.live
+  Continues whole under (Block end) = Ends whole under end
+  Continues whole under (Given q) = Closes whole under (λ g. seq (point q) g) whole.frame.live
+  Continues whole under (Declared q t) = (g : Node) (n : ℕ) (V : List Site) → IsWritten under g n V
+      → IsWritten whole (seq (point q) (seq (act q (append t)) g)) n V
+  Continues whole under (Returned q) = Closes whole under
+      (λ g. seq (point q) (call_left whole.frame.back q g whole.frame.live)) whole.frame.live
+  Continues whole under (Callee from) = IsBody whole under from
+
+  -- with the part under way in the place the whole is written, and a limit that the part passes is the whole's
+  pub record IsOpen (whole under : Due) (o : Open) : Type 0 where
+    pub frame : o.frame ≡ whole.frame
+    pub path : under.path ≡ path_inside o.place whole.path
+    pub continues : Continues whole under o.place
+    pub stops : (l : Limit) → Stops under l → Stops whole l
+
+  -- the part under way at the place is written, as this
+  abbrev pub IsBehind : Due → Due → Open → written.Written → List ℕ → List Site → Type 0
+  IsBehind whole under o w path V =
+      IsOpen whole under o × IsWritten under (node_view w.node) w.live V × (path ≡ under.path)
+
+  -- the places from the outermost on
+  abbrev pub AreOpen : Due → Due → List Open → Type 0
+  AreOpen whole under [] = under ≡ whole
+  AreOpen whole under (o ∷ os) = (inner : Due) × IsOpen whole inner o × AreOpen inner under os
+
+  -- what a step towards the whole leads to, with this path and these points then
+  abbrev pub Leads : Due → next.Next → List ℕ → List Site → Type 0
+  Leads whole (Written w) path V = IsWritten whole (node_view w.node) w.live V × (path ≡ whole.path)
+  Leads whole (Opens o r p) path V = IsOpen whole (due (part_view p) path r V) o × StandsAs (part_view p) r
+
+  -- the loop: what comes next leads to what the innermost place has under way
+  abbrev pub AreUnderWay : Due → List Open → next.Next → List ℕ → List Site → Type 0
+  AreUnderWay whole places n path V = (under : Due) × AreOpen whole under places × Leads under n path V
+
+-- these labels, then the cases
+abbrev pub labelled_all : List CaseLabel → resolved.Cases → resolved.Cases
+labelled_all [] cs = cs
+labelled_all (l ∷ ls) cs = resolved.labelled l (labelled_all ls cs)
+
+-- the next statement of a `switch` and what stands behind it; none where no statement is left
+abbrev pub from_next : Option NextCase → resolved.Cases
+from_next None = resolved.no_cases
+from_next (Some x) = resolved.stated (stmt_view x.stmt.now) (cases_of (map case_view x.rest.now))
+
+-- a label, before the arms behind it
+abbrev pub entry_part : CaseLabel → ArmPart
+entry_part l = graph.entry l
+
+-- the labels before what is left are written behind the arms
+abbrev pub PassesLabels : List Arm → List Arm → List CaseItem → resolved.Cases → Type 0
+PassesLabels before after cases left =
+    (labels : List CaseLabel) × (cases_of (map case_view cases) ≡ labelled_all labels left)
+    × (map arm_view after ≡ map arm_view before ++ map entry_part labels)
+
+-- the same, by what stands around in code and the points before and behind it
+abbrev pub LeadsFrom : Around → Points → Points → Work → next.Next → Type 0
+LeadsFrom at before after w n =
+    Leads (program_around at) (due w at.path.now at.frame (points_in before)) n at.path.now (points_in after)

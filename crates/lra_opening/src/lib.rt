@@ -1,0 +1,21 @@
+//! The first step into a statement or a declarator, where a program's calls are written out as a tree of operations: it
+//! is written, or a place opens in which a part of it is. Frames, points up to a limit, and the open places.
+#![tactic(auto)]
+
+mod cases;
+mod frame;
+mod lone;
+mod opening;
+mod places;
+mod points;
+mod returns;
+
+pub use cases::go_on_cases;
+pub use frame::{Around, Caller, Frame, Repeated, Source};
+pub use opening::{open_declaration, open_rounds, open_stmt};
+pub use places::{
+    Branches, CalledFrom, CaseRow, Forked, ItemRow, Next, NextCase, Open, Part, Place, Written,
+    close,
+};
+pub use points::{GREATEST_CALLS, GraphError, Limit, add_point, finish};
+pub use returns::leave_call;
