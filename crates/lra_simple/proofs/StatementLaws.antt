@@ -207,5 +207,3 @@ pub ruleset if_else_rules = (le-max_left, le-max_right)
 pub ruleset init_rules = (count_declared, followed_end, length-map)
 
 pub ruleset items_rules = (followed_end, extends_self, extends_then, tells_front, tells_behind)
-
-pub ruleset item_rules = (extends_declared, extends_self, followed_push, length-map, tells_front, tells_behind)
