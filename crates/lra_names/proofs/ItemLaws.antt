@@ -28,8 +28,10 @@ use Rattle.lra_simple.proofs.StatementLaws.{extends_self, extends_declared, decl
 abbrev declarators : Declaration → List DeclaratorTree
 declarators d = declarator_view d.first ∷ map declarator_view d.rest.items
 
-declaration_is : (item : code_item.BlockItem) (d : Declaration) (rest : ItemsTree) → item ≡ code_item.Declaration d → item_view item rest ≡ declaration (declaration_view d) rest
-declaration_is item d rest is = let v : item_view (code_item.Declaration d) rest ≡ declaration (declaration_view d) rest = search (rules, tree_lemmas) in rw (is, v) refl
+declaration_is : (item : code_item.BlockItem) (d : Declaration) (rest : ItemsTree) → item ≡ code_item.Declaration d
+    → item_view item rest ≡ declaration (declaration_view d) rest
+declaration_is item d rest is = let v : item_view (code_item.Declaration d) rest ≡ declaration (declaration_view d) rest = search (rules, tree_lemmas) in
+    rw (is, v) refl
 
 statement_is : (item : code_item.BlockItem) (t : Stmt) (rest : ItemsTree) → item ≡ code_item.Statement t → item_view item rest ≡ statement (stmt_view t) rest
 statement_is item t rest is = let v : item_view (code_item.Statement t) rest ≡ statement (stmt_view t) rest = search (rules, tree_lemmas) in rw (is, v) refl
@@ -38,24 +40,29 @@ pub kept_extends : (s after : Scope) → after ≡ s → Extends s after
 kept_extends s after e = rw e (extends_self s)
 
 module _ (a : Around) (s : Scope) (item : code_item.BlockItem) where
-  pub statement_told : (t : Stmt) (e : SourceError) → item ≡ code_item.Statement t → Tells (stmt_faults a s (stmt_view t)) e → (rest : ItemsTree) → Tells (items_faults a s (item_view item rest)) e
+  pub statement_told : (t : Stmt) (e : SourceError) → item ≡ code_item.Statement t → Tells (stmt_faults a s (stmt_view t)) e → (rest : ItemsTree)
+      → Tells (items_faults a s (item_view item rest)) e
   statement_told t e is told rest = rw (statement_is item t rest is) (tells_front (stmt_faults a s (stmt_view t)) (items_faults a s rest) e told)
 
   pub statement_clean : (t : Stmt) (after : Scope) → item ≡ code_item.Statement t → stmt_faults a s (stmt_view t) ≡ [] → after ≡ s → (rest : ItemsTree) →
       items_faults a s (item_view item rest) ≡ items_faults a after rest
   statement_clean t after is clean kept rest = rw (statement_is item t rest is, clean, kept) refl
 
-  pub declaration_told : (d : Declaration) (e : SourceError) → item ≡ code_item.Declaration d → Tells (declarators_faults a.functions s d.number_type (declarators d)) e → (rest : ItemsTree) →
-      Tells (items_faults a s (item_view item rest)) e
+  pub declaration_told : (d : Declaration) (e : SourceError) → item ≡ code_item.Declaration d
+      → Tells (declarators_faults a.functions s d.number_type (declarators d)) e
+      → (rest : ItemsTree) → Tells (items_faults a s (item_view item rest)) e
   declaration_told d e is told rest = rw (declaration_is item d rest is) (tells_front (declarators_faults a.functions s d.number_type (declarators d)) _ e told)
 
-  pub declaration_clean : (d : Declaration) (after : Scope) → item ≡ code_item.Declaration d → declarators_faults a.functions s d.number_type (declarators d) ≡ []
+  pub declaration_clean : (d : Declaration) (after : Scope) → item ≡ code_item.Declaration d
+      → declarators_faults a.functions s d.number_type (declarators d) ≡ []
       → after ≡ with_declarators s d.number_type (declarators d) →
       (rest : ItemsTree) → items_faults a s (item_view item rest) ≡ items_faults a after rest
   declaration_clean d after is clean declared rest = rw (declaration_is item d rest is, clean, declared) refl
 
-pub declaration_found : (F : List FunctionTree) (s after : Scope) (n m : ℕ) (item : code_item.BlockItem) (d : Declaration) (old new : List (BlockItems → BlockItems)) → item ≡ code_item.Declaration d →
-    ((more : BlockItems) → followed old (resolve_declarators F s n d.number_type (declarators d) more) ≡ followed new more) → after ≡ with_declarators s d.number_type (declarators d)
+pub declaration_found : (F : List FunctionTree) (s after : Scope) (n m : ℕ) (item : code_item.BlockItem) (d : Declaration)
+    (old new : List (BlockItems → BlockItems)) → item ≡ code_item.Declaration d →
+    ((more : BlockItems) → followed old (resolve_declarators F s n d.number_type (declarators d) more) ≡ followed new more)
+    → after ≡ with_declarators s d.number_type (declarators d)
     → m ≡ n + suc (length d.rest.items) →
     (rest : ItemsTree) → followed old (resolve_items F s n (item_view item rest)) ≡ followed new (resolve_items F after m rest)
 declaration_found F s after n m item d old new is found declared counted rest =

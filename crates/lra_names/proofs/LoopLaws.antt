@@ -1,5 +1,6 @@
 -- What a loop is by its head and its body, a choice with a second branch or without one, and a block; a refused statement.
-use Rattle.std.proofs.Common.{◌≡◌, ℕ, suc, ◌+◌, List, [], ◌∷◌, ◌++◌, length, take, refl, sym, ap, ◌∙◌, append_assoc, arith, rules, Option, Some, None, subst, Result, Ok, Err}
+use Rattle.std.proofs.Common.{◌≡◌, ℕ, suc, ◌+◌, List, [], ◌∷◌, ◌++◌, length, take, refl, sym, ap, ◌∙◌, append_assoc, arith, rules, Option, Some, None, subst}
+use Rattle.std.proofs.Common.{Result, Ok, Err}
 use Rattle.std.specs.Result.{IsErrAnd}
 use Rattle.std.proofs.Math.Seq.{take-length}
 use Rattle.lra_base.specs.declared.refusals.Place.{Place}
@@ -82,7 +83,8 @@ module _ (at : Place) (c : CondTree) (t : StmtTree) where
   with_other o u is = ap (choice_tree at c t) is
 
   pub count_without : (n k m : ℕ) (o : Option StmtTree) → o ≡ None → k ≡ suc n → m ≡ k + stmt_count t → m ≡ n + stmt_count (choice_tree at c t o)
-  count_without n k m o is first own = let e : stmt_count (choice_tree at c t o) ≡ suc (stmt_count t) = ap stmt_count (without o is) in omega (arith, e, first, own)
+  count_without n k m o is first own = let e : stmt_count (choice_tree at c t o) ≡ suc (stmt_count t) = ap stmt_count (without o is) in
+      omega (arith, e, first, own)
 
   pub count_with : (n k m l : ℕ) (o : Option StmtTree) (u : StmtTree) → o ≡ Some u → k ≡ suc n → m ≡ k + stmt_count t → l ≡ m + stmt_count u
       → l ≡ n + stmt_count (choice_tree at c t o)
@@ -93,9 +95,11 @@ module _ (at : Place) (c : CondTree) (t : StmtTree) where
   pub labelled_without : (a b d : LabelsSoFar) (o : Option StmtTree) → o ≡ None → Adds a b (plain_label at a.live ∷ []) → Adds b d (stmt_labels b.live t)
       → Adds a d (stmt_labels a.live (choice_tree at c t o))
   labelled_without a b d o is own more =
-      subst (λ (x : StmtTree). Adds a d (stmt_labels a.live x)) (sym (without o is)) (adds_then a b d (plain_label at a.live ∷ []) (λ (ns : List (List ℕ)). stmt_labels ns t) own more)
+      subst (λ (x : StmtTree). Adds a d (stmt_labels a.live x)) (sym (without o is))
+      (adds_then a b d (plain_label at a.live ∷ []) (λ (ns : List (List ℕ)). stmt_labels ns t) own more)
 
-  pub labelled_with : (a b d e : LabelsSoFar) (o : Option StmtTree) (u : StmtTree) → o ≡ Some u → Adds a b (plain_label at a.live ∷ []) → Adds b d (stmt_labels b.live t)
+  pub labelled_with : (a b d e : LabelsSoFar) (o : Option StmtTree) (u : StmtTree) → o ≡ Some u → Adds a b (plain_label at a.live ∷ [])
+      → Adds b d (stmt_labels b.live t)
       → Adds d e (stmt_labels d.live u) → Adds a e (stmt_labels a.live (choice_tree at c t o))
   labelled_with a b d e o u is own more other =
       let first = adds_then a b d (plain_label at a.live ∷ []) (λ (ns : List (List ℕ)). stmt_labels ns t) own more in
@@ -124,7 +128,8 @@ module _ (at : Place) (c : CondTree) (t : StmtTree) where
 -- blocks ---------------------------------------------------------------------------------------------------------------
 
 pub block_found : (code : BlockItems) (last : ℕ) (F : List FunctionTree) (s : Scope) (n : ℕ) (items : ItemsTree) (end : Place)
-    → items_view code ≡ resolve_items F (inner s) n items → last ≡ n + items_count items → stmt_view (program_stmt.Block code last) ≡ resolve_stmt F s n (block items end)
+    → items_view code ≡ resolve_items F (inner s) n items → last ≡ n + items_count items
+    → stmt_view (program_stmt.Block code last) ≡ resolve_stmt F s n (block items end)
 block_found code last F s n items end found labelled =
     let v : stmt_view (program_stmt.Block code last) ≡ program.block (items_view code) last = search (rules, the_lemmas) in
     v ∙ ap (λ (x : program.BlockItems). program.block x last) found ∙ ap (program.block (resolve_items F (inner s) n items)) labelled

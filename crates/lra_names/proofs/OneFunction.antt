@@ -1,5 +1,5 @@
 -- One function: its parameters, then its body in their scope.
-use Rattle.std.proofs.Common.{◌≡◌, ℕ, ◌+◌, Bool, false, List, [], ◌++◌, map, refl, sym, is_some}
+use Rattle.std.proofs.Common.{◌≡◌, ℕ, ◌+◌, Bool, List, [], ◌++◌, map, refl, sym, is_some}
 use Rattle.lra_tree.specs.declared.trees.Parameter.{Parameter}
 use Rattle.lra_tree.specs.Trees.{FunctionTree}
 use Rattle.lra_program.specs.Program as program
@@ -11,7 +11,8 @@ use Rattle.lra_meaning.specs.Resolve.{items_count, resolve_function, resolve_ite
 abbrev around_body : List FunctionTree → Bool → Around
 around_body F b = record { functions = F; has_result = b; jumps = no_jumps }
 
-pub function_faults_split : (F : List FunctionTree) (outside : List Entry) (f : FunctionTree) (b : Bool) (ps : List Parameter) (s : Scope) → b ≡ is_some f.result_type
+pub function_faults_split : (F : List FunctionTree) (outside : List Entry) (f : FunctionTree) (b : Bool) (ps : List Parameter) (s : Scope)
+    → b ≡ is_some f.result_type
     → ps ≡ f.parameters → s ≡ function_scope outside ps →
     function_faults F outside f ≡ parameters_faults [] ps ++ items_faults (around_body F b) s f.body
 function_faults_split F outside f b ps s has same at = rw (has, at, same) refl

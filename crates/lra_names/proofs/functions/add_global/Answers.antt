@@ -8,14 +8,17 @@ use Rattle.lra_names.proofs.functions.add_global.Goals as goal
 
 pub returns-in_err-push-clause-told : goal.returns-in_err-push-clause-told
 returns-in_err-push-clause-told c =
-    memory_told_all (λ (rest : List GlobalTree). globals_faults c.args.number_type c.args.resolved.now.names (global_view c.args.global.now ∷ rest)) c.from_residual-in_err-push.result c.from_residual-in_err-push.ensures.1
+    memory_told_all (λ (rest : List GlobalTree). globals_faults c.args.number_type c.args.resolved.now.names (global_view c.args.global.now ∷ rest))
+    c.from_residual-in_err-push.result c.from_residual-in_err-push.ensures.1
 
 pub returns-in_err-declare_global-clause-told : goal.returns-in_err-declare_global-clause-told
 returns-in_err-declare_global-clause-told c =
-    memory_told_all (λ (rest : List GlobalTree). globals_faults c.args.number_type c.args.resolved.now.names (global_view c.args.global.now ∷ rest)) c.from_residual-in_err-declare_global.result
+    memory_told_all (λ (rest : List GlobalTree). globals_faults c.args.number_type c.args.resolved.now.names (global_view c.args.global.now ∷ rest))
+    c.from_residual-in_err-declare_global.result
     c.from_residual-in_err-declare_global.ensures.1
 
 pub returns-in_err-push-2-clause-told : goal.returns-in_err-push-2-clause-told
 returns-in_err-push-2-clause-told c =
-    memory_told_all (λ (rest : List GlobalTree). globals_faults c.args.number_type c.args.resolved.now.names (global_view c.args.global.now ∷ rest)) c.from_residual-in_err-push-2.result
+    memory_told_all (λ (rest : List GlobalTree). globals_faults c.args.number_type c.args.resolved.now.names (global_view c.args.global.now ∷ rest))
+    c.from_residual-in_err-push-2.result
     c.from_residual-in_err-push-2.ensures.1

@@ -11,8 +11,10 @@ invariant-globals l = record {
   clean : globals_faults l.globals.number_type l.fn.resolved.names (global_view l.globals.first ∷ map global_view l.globals.rest.items)
       ≡ globals_faults l.globals.number_type l.resolved.names (map global_view (drop l.global-index l.global-items));
   named : l.resolved.names ≡ l.fn.resolved.names ++ global_names (global_view l.globals.first ∷ map global_view (take l.global-index l.global-items));
-  scoped : l.resolved.scope.globals ≡ l.fn.resolved.scope.globals ++ map (global_entry l.globals.number_type) (global_view l.globals.first ∷ map global_view (take l.global-index l.global-items));
-  valued : l.resolved.globals.items ≡ l.fn.resolved.globals.items ++ map (resolve_global l.globals.number_type) (global_view l.globals.first ∷ map global_view (take l.global-index l.global-items));
+  scoped : l.resolved.scope.globals ≡ l.fn.resolved.scope.globals
+      ++ map (global_entry l.globals.number_type) (global_view l.globals.first ∷ map global_view (take l.global-index l.global-items));
+  valued : l.resolved.globals.items ≡ l.fn.resolved.globals.items
+      ++ map (resolve_global l.globals.number_type) (global_view l.globals.first ∷ map global_view (take l.global-index l.global-items));
   labels : l.resolved.labels ≡ l.fn.resolved.labels;
   functions : l.resolved.functions.items ≡ l.fn.resolved.functions.items;
 }

@@ -9,6 +9,7 @@ use Rattle.lra_names.proofs.functions.add_part.Goals as goal
 
 pub returns-in_err-add_function-in-Function-clause-told : goal.returns-in_err-add_function-in-Function-clause-told
 returns-in_err-add_function-in-Function-clause-told c =
-    exit_tells_all (λ (rest : List PartTree). parts_faults (functions_at c.args.functions.now) c.args.resolved.now.names c.args.resolved.now.scope.globals (part_view c.args.item.now ∷ rest))
+    exit_tells_all (λ (rest : List PartTree). parts_faults (functions_at c.args.functions.now) c.args.resolved.now.names c.args.resolved.now.scope.globals
+    (part_view c.args.item.now ∷ rest))
     c.from_residual-in_err-add_function-in-Function.result _ c.from_residual-in_err-add_function-in-Function.ensures.1
     (λ (rest : List PartTree). rw c.in-Function.is (c.in_err-add_function-in-Function.ensures.told rest))

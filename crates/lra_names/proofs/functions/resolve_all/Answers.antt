@@ -24,14 +24,17 @@ parts-preserved c =
           ∙ parts_step (parts_faults F r.names r.scope.globals) part_view xs c.parts.item-index c.item-item.result c.parts-test.true c.item-item.is
           ∙ c.in_ok-add_part.ensures.clean left;
       found = c.parts.invariant.found
-          ∙ parts_step (λ (ps : List PartTree). map function_view r.functions.items ++ resolve_parts F r.scope.globals r.labels.next ps) part_view xs c.parts.item-index
+          ∙ parts_step (λ (ps : List PartTree). map function_view r.functions.items ++ resolve_parts F r.scope.globals r.labels.next ps) part_view xs
+          c.parts.item-index
           c.item-item.result c.parts-test.true c.item-item.is
           ∙ c.in_ok-add_part.ensures.found left;
       valued = c.parts.invariant.valued
-          ∙ parts_step (λ (ps : List PartTree). r.globals.items ++ globals_in ps) part_view xs c.parts.item-index c.item-item.result c.parts-test.true c.item-item.is
+          ∙ parts_step (λ (ps : List PartTree). r.globals.items ++ globals_in ps) part_view xs c.parts.item-index c.item-item.result c.parts-test.true
+          c.item-item.is
           ∙ c.in_ok-add_part.ensures.valued left;
       labelled = c.in_ok-add_part.ensures.labelled left
-          ∙ sym (parts_step (λ (ps : List PartTree). r.labels.labels ++ labels_of_functions (functions_in ps)) part_view xs c.parts.item-index c.item-item.result c.parts-test.true
+          ∙ sym (parts_step (λ (ps : List PartTree). r.labels.labels ++ labels_of_functions (functions_in ps)) part_view xs c.parts.item-index
+          c.item-item.result c.parts-test.true
           c.item-item.is)
           ∙ c.parts.invariant.labelled;
     }
@@ -72,7 +75,8 @@ returns-clause-valued c =
 pub returns-clause-labelled : goal.returns-clause-labelled
 returns-clause-labelled c =
     let r = c.parts.resolved in
-    sym (parts_end (λ (ps : List PartTree). r.labels.labels ++ labels_of_functions (functions_in ps)) part_view c.parts-parts.result.now c.parts.item-index c.parts-test.false
+    sym (parts_end (λ (ps : List PartTree). r.labels.labels ++ labels_of_functions (functions_in ps)) part_view c.parts-parts.result.now c.parts.item-index
+    c.parts-test.false
     ∙ append-nil r.labels.labels)
     ∙ c.parts.invariant.labelled
     ∙ ap (λ (xs : List Item). labels_of_functions (functions_at xs)) c.parts-parts.ensures

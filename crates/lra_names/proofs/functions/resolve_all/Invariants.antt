@@ -14,7 +14,8 @@ invariant-parts l = record {
   clean : parts_faults (functions_at l.functions) [] [] (map part_view l.parts)
       ≡ parts_faults (functions_at l.functions) l.resolved.names l.resolved.scope.globals (map part_view (drop l.item-index l.parts));
   found : resolve_parts (functions_at l.functions) [] 1 (map part_view l.parts)
-      ≡ map function_view l.resolved.functions.items ++ resolve_parts (functions_at l.functions) l.resolved.scope.globals l.resolved.labels.next (map part_view (drop l.item-index l.parts));
+      ≡ map function_view l.resolved.functions.items
+      ++ resolve_parts (functions_at l.functions) l.resolved.scope.globals l.resolved.labels.next (map part_view (drop l.item-index l.parts));
   valued : globals_in (map part_view l.parts) ≡ l.resolved.globals.items ++ globals_in (map part_view (drop l.item-index l.parts));
   labelled : l.resolved.labels.labels ++ labels_of_functions (functions_in (map part_view (drop l.item-index l.parts)))
       ≡ labels_of_functions (functions_in (map part_view l.parts));

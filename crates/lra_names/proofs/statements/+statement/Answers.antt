@@ -20,7 +20,8 @@ use Rattle.lra_scopes.proofs.Loops.{parts_step, first_told, second_told, both_cl
 use Rattle.std.proofs.lemmas.List.{at_drop_all}
 use Rattle.lra_simple.proofs.StatementLaws.{extends_self, extends_then, block_items, block_end, kept_so, block_is, absent_is, choice_found}
 use Rattle.lra_simple.proofs.StatementLaws.{if_is, if_else_is, while_is, for_is, switch_is}
-use Rattle.lra_names.proofs.LoopLaws.{faults_of_loop, meaning_of_loop, count_of_loop, loops, without, with_other, count_without, count_with, labelled_without, labelled_with, front_told, other_told}
+use Rattle.lra_names.proofs.LoopLaws.{faults_of_loop, meaning_of_loop, count_of_loop, loops, without, with_other, count_without, count_with, labelled_without}
+use Rattle.lra_names.proofs.LoopLaws.{labelled_with, front_told, other_told}
 use Rattle.lra_names.proofs.LoopLaws.{clean_without, clean_with, loop_left, block_found, block_left, block_counted, refused}
 use Rattle.lra_simple.proofs.SimpleLaws.{rest_is_simple}
 use Rattle.lra_base.specs.declared.refusals.Place.{Place}
@@ -44,7 +45,8 @@ resolve_items-items-init t c =
     let F = functions_at c.args.around.now.functions.now in
     record {
       clean = refl;
-      found = ap (λ (l : List ProgramItem). followed (map program_item_view l) (resolve_items F c.args.scope.now c.args.labels.now.next (items_of (map item_view c.deref-item-items.result.now))))
+      found = ap (λ (l : List ProgramItem). followed (map program_item_view l)
+          (resolve_items F c.args.scope.now c.args.labels.now.next (items_of (map item_view c.deref-item-items.result.now))))
           (sym c.new-items.ensures.items);
       extended = extends_self c.args.scope.now;
       counted = refl;
@@ -123,20 +125,24 @@ resolve_items-returns-clause-told t c =
     let A = around_of c.args.around.now in
     ap (items_faults A c.args.scope.now) (block_items c.args.block.now c.deref-item-items.result.now c.deref-item-items.ensures.value)
     ∙ c.items.invariant.clean
-    ∙ at_drop_all (λ (ys : List BlockItem). items_faults A c.items.scope (items_of (map item_view ys))) c.deref-item-items.result.now c.items.item-index c.items-test.false
+    ∙ at_drop_all (λ (ys : List BlockItem). items_faults A c.items.scope (items_of (map item_view ys))) c.deref-item-items.result.now c.items.item-index
+    c.items-test.false
 
 pub resolve_items-returns-clause-found : goal.resolve_items-returns-clause-found
 resolve_items-returns-clause-found t c =
     let F = functions_at c.args.around.now.functions.now in
     c.block_of.ensures
-    ∙ sym (ap (resolve_items F c.args.scope.now c.args.labels.now.next) (block_items c.args.block.now c.deref-item-items.result.now c.deref-item-items.ensures.value)
+    ∙ sym (ap (resolve_items F c.args.scope.now c.args.labels.now.next)
+    (block_items c.args.block.now c.deref-item-items.result.now c.deref-item-items.ensures.value)
     ∙ c.items.invariant.found
-    ∙ at_drop_all (λ (ys : List BlockItem). followed (map program_item_view c.items.items.items) (resolve_items F c.items.scope c.items.labels.next (items_of (map item_view ys))))
+    ∙ at_drop_all (λ (ys : List BlockItem). followed (map program_item_view c.items.items.items)
+    (resolve_items F c.items.scope c.items.labels.next (items_of (map item_view ys))))
     c.deref-item-items.result.now c.items.item-index c.items-test.false)
 
 pub resolve_items-returns-clause-counted : goal.resolve_items-returns-clause-counted
 resolve_items-returns-clause-counted t c =
-    let a = at_drop_all (λ (ys : List BlockItem). items_count (items_of (map item_view ys))) c.deref-item-items.result.now c.items.item-index c.items-test.false in
+    let a = at_drop_all (λ (ys : List BlockItem). items_count (items_of (map item_view ys))) c.deref-item-items.result.now c.items.item-index
+    c.items-test.false in
     let b = ap items_count (block_items c.args.block.now c.deref-item-items.result.now c.deref-item-items.ensures.value) in
     let d = c.items.invariant.counted in omega (arith, a, b, d)
 
@@ -149,7 +155,8 @@ resolve_items-returns-clause-fills t c =
 
 pub resolve_stmt-resolve_simple-requires : goal.resolve_stmt-resolve_simple-requires
 resolve_stmt-resolve_simple-requires t c = record {
-  simple = rest_is_simple c.args.stmt.now c.in_default.not-Block c.in_default.not-If c.in_default.not-IfElse c.in_default.not-While c.in_default.not-For c.in_default.not-Switch;
+  simple = rest_is_simple c.args.stmt.now c.in_default.not-Block c.in_default.not-If c.in_default.not-IfElse c.in_default.not-While c.in_default.not-For
+      c.in_default.not-Switch;
 }
 
 pub resolve_stmt-returns-in-Block : goal.resolve_stmt-returns-in-Block
@@ -162,17 +169,20 @@ resolve_stmt-returns-in-If t c =
 
 pub resolve_stmt-returns-in-IfElse : goal.resolve_stmt-returns-in-IfElse
 resolve_stmt-returns-in-IfElse t c =
-    rw (if_else_is c.args.stmt.now c.in-IfElse.place c.in-IfElse.cond c.in-IfElse.branch c.in-IfElse.other c.deref-in-IfElse.result.now c.deref-in-IfElse-2.result.now
+    rw (if_else_is c.args.stmt.now c.in-IfElse.place c.in-IfElse.cond c.in-IfElse.branch c.in-IfElse.other c.deref-in-IfElse.result.now
+    c.deref-in-IfElse-2.result.now
     c.in-IfElse.is c.deref-in-IfElse.ensures c.deref-in-IfElse-2.ensures)
     c.resolve_choice-in-IfElse.ensures
 
 pub resolve_stmt-returns-in-While : goal.resolve_stmt-returns-in-While
 resolve_stmt-returns-in-While t c =
-    rw (while_is c.args.stmt.now c.in-While.place c.in-While.cond c.in-While.body c.deref-in-While.result.now c.in-While.is c.deref-in-While.ensures) c.resolve_loop.ensures
+    rw (while_is c.args.stmt.now c.in-While.place c.in-While.cond c.in-While.body c.deref-in-While.result.now c.in-While.is c.deref-in-While.ensures)
+    c.resolve_loop.ensures
 
 pub resolve_stmt-returns-in-For : goal.resolve_stmt-returns-in-For
 resolve_stmt-returns-in-For t c =
-    rw (for_is c.args.stmt.now c.in-For.place c.in-For.init c.in-For.test c.in-For.step c.in-For.body c.deref-in-For.result.now c.in-For.is c.deref-in-For.ensures)
+    rw (for_is c.args.stmt.now c.in-For.place c.in-For.init c.in-For.test c.in-For.step c.in-For.body c.deref-in-For.result.now c.in-For.is
+    c.deref-in-For.ensures)
     c.resolve_loop-in-For.ensures
 
 pub resolve_stmt-returns-in-Switch : goal.resolve_stmt-returns-in-Switch
@@ -186,33 +196,40 @@ pub resolve_choice-returns-in_err-head : goal.resolve_choice-returns-in_err-head
 resolve_choice-returns-in_err-head t c =
     refused c.from_residual.result _ c.from_residual.ensures.1
     (exit_tells _ c.from_residual.result _ c.from_residual.ensures.1
-    (front_told c.args.asked.now.place.now (cond_view c.args.asked.now.cond.now) (stmt_view c.args.branch.now) (around_of c.args.around.now) c.args.scope.now (other_of c.args.other) _
+    (front_told c.args.asked.now.place.now (cond_view c.args.asked.now.cond.now) (stmt_view c.args.branch.now) (around_of c.args.around.now) c.args.scope.now
+    (other_of c.args.other) _
     (tells_front _ _ _ c.in_err-head.ensures.told)))
 
 pub resolve_choice-returns-in_err-branch : goal.resolve_choice-returns-in_err-branch
 resolve_choice-returns-in_err-branch t c =
     refused c.from_residual-in_err-branch.result _ c.from_residual-in_err-branch.ensures.1
     (exit_tells _ c.from_residual-in_err-branch.result _ c.from_residual-in_err-branch.ensures.1
-    (front_told c.args.asked.now.place.now (cond_view c.args.asked.now.cond.now) (stmt_view c.args.branch.now) (around_of c.args.around.now) c.args.scope.now (other_of c.args.other) _
+    (front_told c.args.asked.now.place.now (cond_view c.args.asked.now.cond.now) (stmt_view c.args.branch.now) (around_of c.args.around.now) c.args.scope.now
+    (other_of c.args.other) _
     (tells_behind _ _ _ c.in_ok-head.ensures.told c.in_err-branch.ensures.told)))
 
 pub resolve_choice-returns-in-None : goal.resolve_choice-returns-in-None
 resolve_choice-returns-in-None t c =
     record {
       told = made_told _ c.choose.result
-          (clean_without c.args.asked.now.place.now (cond_view c.args.asked.now.cond.now) (stmt_view c.args.branch.now) (around_of c.args.around.now) c.args.scope.now (other_of c.args.other)
+          (clean_without c.args.asked.now.place.now (cond_view c.args.asked.now.cond.now) (stmt_view c.args.branch.now) (around_of c.args.around.now)
+          c.args.scope.now (other_of c.args.other)
           (ap other_of c.in-None.is) c.in_ok-head.ensures.told c.in_ok-branch.ensures.told) c.choose.ensures.memory;
       found = found_so c.choose.result program_stmt_view _ _
           (ap (resolve_stmt (functions_at c.args.around.now.functions.now) c.args.scope.now c.args.labels.now.next)
-          (sym (without c.args.asked.now.place.now (cond_view c.args.asked.now.cond.now) (stmt_view c.args.branch.now) (other_of c.args.other) (ap other_of c.in-None.is))))
-          (choice_found c.choose.result c.args.labels.now.next c.in_ok-head.head.label _ _ _ _ _ _ c.choose.ensures.found c.in_ok-head.ensures.label c.in_ok-head.ensures.found
+          (sym (without c.args.asked.now.place.now (cond_view c.args.asked.now.cond.now) (stmt_view c.args.branch.now) (other_of c.args.other)
+          (ap other_of c.in-None.is))))
+          (choice_found c.choose.result c.args.labels.now.next c.in_ok-head.head.label _ _ _ _ _ _ c.choose.ensures.found c.in_ok-head.ensures.label
+          c.in_ok-head.ensures.found
           (rw c.in_ok-head.ensures.counted at c.in_ok-branch.ensures.found) absent_is);
       kept = kept_so c.choose.result c.in_ok-branch.ensures.kept;
       counted = kept_so c.choose.result
-          (count_without c.args.asked.now.place.now (cond_view c.args.asked.now.cond.now) (stmt_view c.args.branch.now) c.args.labels.now.next _ _ (other_of c.args.other)
+          (count_without c.args.asked.now.place.now (cond_view c.args.asked.now.cond.now) (stmt_view c.args.branch.now) c.args.labels.now.next _ _
+          (other_of c.args.other)
           (ap other_of c.in-None.is) c.in_ok-head.ensures.counted c.in_ok-branch.ensures.counted);
       adds = kept_so c.choose.result
-          (labelled_without c.args.asked.now.place.now (cond_view c.args.asked.now.cond.now) (stmt_view c.args.branch.now) c.args.labels.now _ _ (other_of c.args.other)
+          (labelled_without c.args.asked.now.place.now (cond_view c.args.asked.now.cond.now) (stmt_view c.args.branch.now) c.args.labels.now _ _
+          (other_of c.args.other)
           (ap other_of c.in-None.is) c.in_ok-head.ensures.adds c.in_ok-branch.ensures.adds);
     }
 
@@ -220,7 +237,8 @@ pub resolve_choice-returns-in_err-other-in-Some : goal.resolve_choice-returns-in
 resolve_choice-returns-in_err-other-in-Some t c =
     refused c.from_residual-in_err-other-in-Some.result _ c.from_residual-in_err-other-in-Some.ensures.1
     (exit_tells _ c.from_residual-in_err-other-in-Some.result _ c.from_residual-in_err-other-in-Some.ensures.1
-    (other_told c.args.asked.now.place.now (cond_view c.args.asked.now.cond.now) (stmt_view c.args.branch.now) (around_of c.args.around.now) c.args.scope.now (other_of c.args.other)
+    (other_told c.args.asked.now.place.now (cond_view c.args.asked.now.cond.now) (stmt_view c.args.branch.now) (around_of c.args.around.now) c.args.scope.now
+    (other_of c.args.other)
     (stmt_view c.in-Some.other.now) _ (ap other_of c.in-Some.is) c.in_ok-head.ensures.told c.in_ok-branch.ensures.told
     (rw c.in_ok-branch.ensures.kept at c.in_err-other-in-Some.ensures.told)))
 
@@ -228,22 +246,28 @@ pub resolve_choice-returns-in_ok-other-in-Some : goal.resolve_choice-returns-in_
 resolve_choice-returns-in_ok-other-in-Some t c =
     record {
       told = made_told _ c.choose-in-Some.result
-          (clean_with c.args.asked.now.place.now (cond_view c.args.asked.now.cond.now) (stmt_view c.args.branch.now) (around_of c.args.around.now) c.args.scope.now (other_of c.args.other)
+          (clean_with c.args.asked.now.place.now (cond_view c.args.asked.now.cond.now) (stmt_view c.args.branch.now) (around_of c.args.around.now)
+          c.args.scope.now (other_of c.args.other)
           (stmt_view c.in-Some.other.now) (ap other_of c.in-Some.is) c.in_ok-head.ensures.told c.in_ok-branch.ensures.told
           (rw c.in_ok-branch.ensures.kept at c.in_ok-other-in-Some.ensures.told)) c.choose-in-Some.ensures.memory;
       found = found_so c.choose-in-Some.result program_stmt_view _ _
           (ap (resolve_stmt (functions_at c.args.around.now.functions.now) c.args.scope.now c.args.labels.now.next)
-          (sym (with_other c.args.asked.now.place.now (cond_view c.args.asked.now.cond.now) (stmt_view c.args.branch.now) (other_of c.args.other) (stmt_view c.in-Some.other.now)
+          (sym (with_other c.args.asked.now.place.now (cond_view c.args.asked.now.cond.now) (stmt_view c.args.branch.now) (other_of c.args.other)
+          (stmt_view c.in-Some.other.now)
           (ap other_of c.in-Some.is))))
-          (choice_found c.choose-in-Some.result c.args.labels.now.next c.in_ok-head.head.label _ _ _ _ _ _ c.choose-in-Some.ensures.found c.in_ok-head.ensures.label
+          (choice_found c.choose-in-Some.result c.args.labels.now.next c.in_ok-head.head.label _ _ _ _ _ _ c.choose-in-Some.ensures.found
+          c.in_ok-head.ensures.label
           c.in_ok-head.ensures.found (rw c.in_ok-head.ensures.counted at c.in_ok-branch.ensures.found)
           (rw (c.in_ok-branch.ensures.kept, c.in_ok-branch.ensures.counted, c.in_ok-head.ensures.counted) at c.in_ok-other-in-Some.ensures.found));
       kept = kept_so c.choose-in-Some.result (c.in_ok-other-in-Some.ensures.kept ∙ c.in_ok-branch.ensures.kept);
       counted = kept_so c.choose-in-Some.result
-          (count_with c.args.asked.now.place.now (cond_view c.args.asked.now.cond.now) (stmt_view c.args.branch.now) c.args.labels.now.next _ _ _ (other_of c.args.other)
-          (stmt_view c.in-Some.other.now) (ap other_of c.in-Some.is) c.in_ok-head.ensures.counted c.in_ok-branch.ensures.counted c.in_ok-other-in-Some.ensures.counted);
+          (count_with c.args.asked.now.place.now (cond_view c.args.asked.now.cond.now) (stmt_view c.args.branch.now) c.args.labels.now.next _ _ _
+          (other_of c.args.other)
+          (stmt_view c.in-Some.other.now) (ap other_of c.in-Some.is) c.in_ok-head.ensures.counted c.in_ok-branch.ensures.counted
+          c.in_ok-other-in-Some.ensures.counted);
       adds = kept_so c.choose-in-Some.result
-          (labelled_with c.args.asked.now.place.now (cond_view c.args.asked.now.cond.now) (stmt_view c.args.branch.now) c.args.labels.now _ _ _ (other_of c.args.other)
+          (labelled_with c.args.asked.now.place.now (cond_view c.args.asked.now.cond.now) (stmt_view c.args.branch.now) c.args.labels.now _ _ _
+          (other_of c.args.other)
           (stmt_view c.in-Some.other.now) (ap other_of c.in-Some.is) c.in_ok-head.ensures.adds c.in_ok-branch.ensures.adds c.in_ok-other-in-Some.ensures.adds);
     }
 
@@ -277,14 +301,17 @@ resolve_loop-returns t c =
           ∙ sym (meaning_of_loop F c.args.scope.now c.args.labels.now.next H (stmt_view c.args.body.now)))
           c.into_loop.ensures.found;
       kept = kept_so c.into_loop.result
-          (loop_left c.args.scope.now c.resolve_loop_head.new.scope c.resolve_stmt.new.scope c.leave.new.self (rounds_view c.args.rounds.now) c.count-count.result c.outer-outer.result
+          (loop_left c.args.scope.now c.resolve_loop_head.new.scope c.resolve_stmt.new.scope c.leave.new.self (rounds_view c.args.rounds.now)
+          c.count-count.result c.outer-outer.result
           c.in_ok-head.ensures.entered c.in_ok-body.ensures.kept c.count-count.ensures c.outer-outer.ensures c.leave.ensures);
       counted = kept_so c.into_loop.result
           (c.keep_oldest.ensures.counted ∙ (rw c.in_ok-head.ensures.counted at c.in_ok-body.ensures.counted)
           ∙ count_of_loop c.args.labels.now.next (rounds_view c.args.rounds.now) (stmt_view c.args.body.now));
       adds = kept_so c.into_loop.result
-          (loops c.args.labels.now c.resolve_loop_head.new.labels c.resolve_stmt.new.labels c.keep_oldest.new.self (rounds_view c.args.rounds.now) (stmt_view c.args.body.now)
-          c.live_count-live.result c.in_ok-head.ensures.labelled c.in_ok-head.ensures.lives c.in_ok-body.ensures.adds c.live_count-live.ensures c.keep_oldest.ensures.live
+          (loops c.args.labels.now c.resolve_loop_head.new.labels c.resolve_stmt.new.labels c.keep_oldest.new.self (rounds_view c.args.rounds.now)
+          (stmt_view c.args.body.now)
+          c.live_count-live.result c.in_ok-head.ensures.labelled c.in_ok-head.ensures.lives c.in_ok-body.ensures.adds c.live_count-live.ensures
+          c.keep_oldest.ensures.live
           c.keep_oldest.ensures.labels);
     }
 
@@ -303,15 +330,19 @@ resolve_block-returns t c =
     let items = (block_view c.args.block.now).0 in
     record {
       told = rw c.enter.ensures at c.in_ok-items.ensures.told;
-      found = block_found c.in_ok-items.items c.in_ok-end.end (functions_at c.args.around.now.functions.now) c.args.scope.now c.args.labels.now.next items (block_view c.args.block.now).1
+      found = block_found c.in_ok-items.items c.in_ok-end.end (functions_at c.args.around.now.functions.now) c.args.scope.now c.args.labels.now.next items
+          (block_view c.args.block.now).1
           (rw c.enter.ensures at c.in_ok-items.ensures.found) (c.in_ok-end.ensures.label ∙ c.in_ok-items.ensures.counted);
       kept = block_left c.args.scope.now c.enter.new.self c.resolve_items.new.scope c.leave.new.self c.count-count.result c.outer-outer.result
           c.enter.ensures c.in_ok-items.ensures.extended c.count-count.ensures c.outer-outer.ensures c.leave.ensures;
-      counted = block_counted items (block_view c.args.block.now).1 c.args.labels.now.next c.resolve_items.new.labels.next c.add.new.self.next c.keep_oldest.new.self.next
+      counted = block_counted items (block_view c.args.block.now).1 c.args.labels.now.next c.resolve_items.new.labels.next c.add.new.self.next
+          c.keep_oldest.new.self.next
           c.in_ok-items.ensures.counted c.in_ok-end.ensures.counted c.keep_oldest.ensures.counted;
-      adds = blocks c.args.labels.now c.resolve_items.new.labels c.add.new.self c.keep_oldest.new.self (block_view c.args.block.now).0 (block_view c.args.block.now).1
+      adds = blocks c.args.labels.now c.resolve_items.new.labels c.add.new.self c.keep_oldest.new.self (block_view c.args.block.now).0
+          (block_view c.args.block.now).1
           c.live_count-live.result c.in_ok-items.ensures.fills
-          (subst (λ (at : Place). Adds c.resolve_items.new.labels c.add.new.self (plain_label at c.resolve_items.new.labels.live ∷ [])) (block_end c.args.block.now) c.in_ok-end.ensures.adds)
+          (subst (λ (at : Place). Adds c.resolve_items.new.labels c.add.new.self (plain_label at c.resolve_items.new.labels.live ∷ []))
+          (block_end c.args.block.now) c.in_ok-end.ensures.adds)
           c.live_count-live.ensures c.keep_oldest.ensures.live c.keep_oldest.ensures.labels;
     }
 

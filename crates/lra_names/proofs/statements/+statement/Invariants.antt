@@ -21,9 +21,11 @@ invariant-resolve_items-items l = record {
   clean : items_faults (around_of l.around) l.fn.scope (items_of (map item_view l.item-items))
       ≡ items_faults (around_of l.around) l.scope (items_of (map item_view (drop l.item-index l.item-items)));
   found : resolve_items (functions_at l.around.functions.now) l.fn.scope l.fn.labels.next (items_of (map item_view l.item-items))
-      ≡ followed (map program_item_view l.items.items) (resolve_items (functions_at l.around.functions.now) l.scope l.labels.next (items_of (map item_view (drop l.item-index l.item-items))));
+      ≡ followed (map program_item_view l.items.items)
+      (resolve_items (functions_at l.around.functions.now) l.scope l.labels.next (items_of (map item_view (drop l.item-index l.item-items))));
   extended : Extends l.fn.scope l.scope;
-  counted : l.labels.next + items_count (items_of (map item_view (drop l.item-index l.item-items))) ≡ l.fn.labels.next + items_count (items_of (map item_view l.item-items));
+  counted : l.labels.next + items_count (items_of (map item_view (drop l.item-index l.item-items)))
+      ≡ l.fn.labels.next + items_count (items_of (map item_view l.item-items));
   reaches : LeadsOn l.fn.labels l.labels (items_of (map item_view l.item-items)) (items_of (map item_view (drop l.item-index l.item-items)));
 }
 
