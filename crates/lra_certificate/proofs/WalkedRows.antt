@@ -71,7 +71,7 @@ AreOfWidth n forms = AllByRecursion (λ f. length f ≡ n) forms
 abbrev pub values : List ℤ → List (List ℤ) → List ℤ
 values u forms = map (λ f. product f u) forms
 
-composed_from_value : (sum cs : List ℤ) (forms : List (List ℤ)) (row u : List ℤ) (n : ℕ) → length sum ≡ n → AreOfWidth n forms → composed_from sum cs forms ≡
+pub composed_from_value : (sum cs : List ℤ) (forms : List (List ℤ)) (row u : List ℤ) (n : ℕ) → length sum ≡ n → AreOfWidth n forms → composed_from sum cs forms ≡
     Ok row →
     (length row ≡ n) × (product row u ≡ product sum u +ℤ product cs (values u forms))
 composed_from_value sum [] forms row u n e w f =

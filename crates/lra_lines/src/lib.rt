@@ -14,4 +14,4 @@ mod walks;
 pub use lines::{behind_text, line_at, place_of, refuse, take_line};
 pub use numbers::numbers_behind;
 pub use refusals::{LineFault, VerifyError, VerifyRefusal};
-pub use tracks::Track;
+pub use tracks::{Grounds, Track};

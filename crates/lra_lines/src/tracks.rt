@@ -152,7 +152,7 @@ impl Grounds {
     }
 
     /// The claim over the symbols: a row over the variables, or that nothing is left.
-    fn claim(&self, alloc: Global, claim: Option<&Row>) -> Result<Row, RowError>
+    pub fn claim(&self, alloc: Global, claim: Option<&Row>) -> Result<Row, RowError>
         requires are { AreGrounds self.now }
         requires row { IfSome claim (λ r. 0 < length r.now) }
         ensures made { IfOk result (λ r.
@@ -197,7 +197,7 @@ impl Grounds {
 #[derive(Drop)]
 pub struct Track {
     count: usize,
-    grounds: Option<Grounds>,
+    pub grounds: Option<Grounds>,
 }
 
 impl Track {

@@ -13,4 +13,5 @@ mod verifying;
 mod ways;
 
 pub use lra_lines::{LineFault, VerifyError, VerifyRefusal};
-pub use verifying::{GREATEST_CERTIFICATE, verify};
+pub use verifying::{GREATEST_CERTIFICATE, all_sources, verify};
+pub use ways::Ways;

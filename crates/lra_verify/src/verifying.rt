@@ -36,7 +36,7 @@ use std::alloc::{AllocError, Global};
 pub const GREATEST_CERTIFICATE: usize = 1 << 24;
 
 /// The ways from all sources, the start first.
-fn all_sources(alloc: Global, paths: &Paths<'_>) -> Result<Vec<Source>, AllocError>
+pub fn all_sources(alloc: Global, paths: &Paths<'_>) -> Result<Vec<Source>, AllocError>
     requires { length paths.now.sites.now < 2 ^ 31 }
     ensures count { IfOk result (λ v. length v.items ≡ suc (length paths.now.sites.now)) }
     ensures tables { IfOk result (λ v. All (λ s. IsTable s.entries.items) v.items) }

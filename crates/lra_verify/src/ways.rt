@@ -31,7 +31,7 @@ pub struct Ways<'a> {
 
 impl Ways<'_> {
     /// What is said of a point.
-    fn state(&self, point: usize) -> Option<&ConSys>
+    pub fn state(&self, point: usize) -> Option<&ConSys>
         requires ways { AreWays self.now }
         requires point { point < length self.now.sites.now }
         ensures rows { rows_of result ≡ state_to (states_in self.now) (comes_to point) }
