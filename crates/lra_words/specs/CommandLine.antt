@@ -9,7 +9,7 @@ use Rattle.lra_options.specs.Domains.{domains, domain_name}
 use Rattle.lra_options.specs.OptionRows.{NumberRow, number_row, number_options, flag_row, flag_options, default_options}
 use Rattle.clap.specs.declared.builder.action.ArgAction.TheVariants.{SetTrue}
 use Rattle.lra_words.specs.declared.chosen.PlainCommand.{PlainCommand}
-use Rattle.lra_words.specs.declared.chosen.PlainCommand.TheVariants.{Calc, Verify}
+use Rattle.lra_words.specs.declared.chosen.PlainCommand.TheVariants.{Calc, Verify, Certify}
 
 -- `--name VALUE` with this parser
 abbrev pub valued : Text → ValueParser → Rule
@@ -73,9 +73,10 @@ sample = with_rule (with_rule (new_app (codes "sample")) (number_rule seed_optio
 abbrev pub plain_name : PlainCommand → Text
 plain_name Calc = codes "calc"
 plain_name Verify = codes "verify"
+plain_name Certify = codes "certify"
 
 abbrev pub plain_commands : List PlainCommand
-plain_commands = Calc ∷ Verify ∷ []
+plain_commands = Calc ∷ Verify ∷ Certify ∷ []
 
 abbrev pub plain_named : Text → Option PlainCommand
 plain_named name = find (λ c. bytes_eq name (plain_name c)) plain_commands
@@ -83,6 +84,7 @@ plain_named name = find (λ c. bytes_eq name (plain_name c)) plain_commands
 pub named_plain : (c : PlainCommand) → plain_named (plain_name c) ≡ Some c
 named_plain Calc = refl
 named_plain Verify = refl
+named_plain Certify = refl
 
 abbrev pub plain : PlainCommand → App
 plain c = new_app (plain_name c)

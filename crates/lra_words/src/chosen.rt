@@ -20,10 +20,16 @@ pub enum PlainCommand {
     Calc,
     /// Check a certificate of a source.
     Verify,
+    /// Write a certificate of a source.
+    Certify,
 }
 
 /// These commands, in the order in which the command line has them.
-pub const PLAIN_COMMANDS: [PlainCommand; 2] = [PlainCommand::Calc, PlainCommand::Verify];
+pub const PLAIN_COMMANDS: [PlainCommand; 3] = [
+    PlainCommand::Calc,
+    PlainCommand::Verify,
+    PlainCommand::Certify,
+];
 
 impl PlainCommand {
     /// Its name among the words.
@@ -33,6 +39,7 @@ impl PlainCommand {
         match self {
             PlainCommand::Calc => "calc",
             PlainCommand::Verify => "verify",
+            PlainCommand::Certify => "certify",
         }
     }
 }
