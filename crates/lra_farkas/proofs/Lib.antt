@@ -1,6 +1,8 @@
--- The points of the polyhedron of all multipliers, claims that have some, and how its rows are listed and converted.
+-- The points of the polyhedron of all multipliers, claims that have some, and how its rows are listed, ordered and
+-- converted.
 pub mod ShownPoints
 pub mod ShownClaims
 pub mod ListedRows
+pub mod KeyedRows
 pub mod FirstPoints
 pub mod FarkasExamples

@@ -102,7 +102,7 @@ signs_end dims i kinds before h =
 abbrev balances : List (List ℤ) → List ℤ → ℕ → List Given
 balances rows claim n = map (λ j. equality (balance_row rows claim j)) (range_with_len 0 n)
 
-none_listed : (start : Listed ConKind) → start.rows ≡ [] → constraints start ≡ []
+pub none_listed : (start : Listed ConKind) → start.rows ≡ [] → constraints start ≡ []
 none_listed start e = ap (λ (x : List (List ℤ)). given_by is_equality x start.kinds) e
 
 pub rows_listed : (premises start first second all : Listed ConKind) (rows : List (List ℤ)) (kinds : List ConKind) (claim : List ℤ) (n : ℕ) → start.rows ≡ [] →

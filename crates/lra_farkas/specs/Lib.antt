@@ -2,3 +2,4 @@
 pub mod MultiplierRows
 pub mod FirstMultipliers
 pub mod RowsByKinds
+pub mod KeyedRows

@@ -21,3 +21,9 @@ abbrev pub HasNoFirst : ℕ → List Given → MultipliersFailure → Type 0
 HasNoFirst n rows NotImplied = IsEmptySet n (Con rows)
 HasNoFirst n rows Strained = (loss : Loss) × FromRowsStrains n rows loss
 HasNoFirst n rows Memory = Unit {0}
+
+-- the same of rows that are converted in another order, where a strain is that order's
+abbrev pub HasNoPoint : ℕ → List Given → MultipliersFailure → Type 0
+HasNoPoint n rows NotImplied = IsEmptySet n (Con rows)
+HasNoPoint n rows Strained = Unit {0}
+HasNoPoint n rows Memory = Unit {0}

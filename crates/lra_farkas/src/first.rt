@@ -4,13 +4,15 @@ ghost use Rattle.std.specs.Prelude.{◌≡◌, ◌<◌, suc, length, IfOk, IfErr
 ghost use Rattle.lra_linear.specs.Descriptions.{Con, generator};
 ghost use Rattle.lra_linear.specs.Points.{IsEmptySet};
 ghost use Rattle.lra_linear.specs.Polyhedra.{IsPolyhedronOf};
+ghost use Rattle.lra_sys.specs.Dimensions.{too_many_dimensions};
 ghost use Rattle.lra_sys.specs.Listed.{constraints};
 ghost use Rattle.lra_multipliers.specs.Multipliers.{IsAnswer, yes};
 ghost use Rattle.lra_multipliers.specs.MultiplierViews.{multipliers_view};
 ghost use Rattle.lra_farkas.specs.MultiplierRows.{point_of};
 ghost use Rattle.lra_farkas.specs.FirstMultipliers.{AreFirst, AreInRange, IsFailure};
-ghost use Rattle.lra_farkas.specs.RowsByKinds.{HasNoFirst};
+ghost use Rattle.lra_farkas.specs.RowsByKinds.{HasNoFirst, HasNoPoint};
 
+use crate::orders::{Order, reorder};
 use crate::rows::list_rows;
 use lra_multipliers::{Answer, Multipliers, check};
 use lra_poly::Poly;
@@ -23,7 +25,8 @@ use std::alloc::{AllocError, Global};
 pub enum MultipliersFailure {
     /// No multipliers show the claim.
     NotImplied,
-    /// Converting the rows of the polyhedron of all multipliers strains, or a number passes as the first are checked.
+    /// Converting the rows of the polyhedron of all multipliers strains in each order that is tried, or a number passes
+    /// as the first are checked.
     Strained,
     Memory,
 }
@@ -55,6 +58,48 @@ fn convert(alloc: Global, rows: &ConSys) -> Result<Poly, MultipliersFailure>
     Ok(made)
 }
 
+/// The polyhedron of the rows, which has a point, as they are converted in another order.
+fn convert_reordered(alloc: Global, rows: &ConSys, order: Order) -> Result<Poly, MultipliersFailure>
+    requires small { rows.now.dims < too_many_dimensions }
+    ensures is { IfOk result (IsPolyhedronOf rows.now.dims (Con (constraints rows.now))) }
+    ensures some { IfOk result (λ p. ¬ (IsEmptySet p.dims (Con p.rows))) }
+    ensures failure { IfErr result (HasNoPoint rows.now.dims (constraints rows.now)) }
+{
+    let reordered = reorder(alloc, rows, order)?;
+    let made = convert(alloc, &reordered)?;
+    Ok(made)
+}
+
+/// The polyhedron of the rows, which has a point, by the first of the other orders that doesn't strain.
+fn convert_otherwise(alloc: Global, rows: &ConSys) -> Result<Poly, MultipliersFailure>
+    requires small { rows.now.dims < too_many_dimensions }
+    ensures is { IfOk result (IsPolyhedronOf rows.now.dims (Con (constraints rows.now))) }
+    ensures some { IfOk result (λ p. ¬ (IsEmptySet p.dims (Con p.rows))) }
+    ensures failure { IfErr result (HasNoPoint rows.now.dims (constraints rows.now)) }
+{
+    match convert_reordered(alloc, rows, Order::InequalitiesFirst) {
+        Err(MultipliersFailure::Strained) => {
+            convert_reordered(alloc, rows, Order::EqualitiesFirst)
+        }
+        Err(failure) => Err(failure),
+        Ok(made) => Ok(made),
+    }
+}
+
+/// The polyhedron of the rows, which has a point, where the order of the list strains by another order.
+fn convert_by_any(alloc: Global, rows: &ConSys) -> Result<Poly, MultipliersFailure>
+    requires small { rows.now.dims < too_many_dimensions }
+    ensures is { IfOk result (IsPolyhedronOf rows.now.dims (Con (constraints rows.now))) }
+    ensures some { IfOk result (λ p. ¬ (IsEmptySet p.dims (Con p.rows))) }
+    ensures failure { IfErr result (HasNoFirst rows.now.dims (constraints rows.now)) }
+{
+    match convert(alloc, rows) {
+        Err(MultipliersFailure::Strained) => convert_otherwise(alloc, rows),
+        Err(failure) => Err(failure),
+        Ok(made) => Ok(made),
+    }
+}
+
 /// The first generator of a polyhedron with a point, as multipliers.
 fn first_multipliers(alloc: Global, all: &Poly) -> Result<Multipliers, AllocError>
     requires some { ¬ (IsEmptySet all.now.dims (Con all.now.rows)) }
@@ -83,7 +128,7 @@ fn find_first(
     ensures failure { IfErr result (IsFailure (constraints premises.now) claim.now) }
 {
     let rows = list_rows(alloc, premises, claim)?;
-    let all = convert(alloc, &rows)?;
+    let all = convert_by_any(alloc, &rows)?;
     let first = first_multipliers(alloc, &all)?;
     Ok(first)
 }

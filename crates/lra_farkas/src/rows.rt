@@ -115,6 +115,7 @@ fn push_signs(alloc: Global, kinds: &[ConKind], rows: &mut ConSys) -> Result<(),
 /// multipliers of `1 >= 0` and of the inequalities are not below 0.
 pub fn list_rows(alloc: Global, premises: &ConSys, claim: &Row) -> Result<ConSys, AllocError>
     requires width { length claim.now ≡ suc premises.now.dims }
+    ensures small { IfOk result (λ s. s.dims < too_many_dimensions) }
     ensures dims { IfOk result (λ s. s.dims ≡ multiplier_dims (constraints premises.now)) }
     ensures rows { IfOk result (λ s. constraints s ≡
         multiplier_rows (constraints premises.now) claim.now) }

@@ -1,0 +1,18 @@
+-- Goals of `reorder`: the same rows in another order.
+use Rattle.std.proofs.Common.{◌∙◌}
+use Rattle.lra_sys.specs.Listed.{constraints}
+use Rattle.lra_farkas.proofs.KeyedRows.{sorted_widths, sorted_rows}
+use Rattle.lra_farkas.proofs.orders.reorder.Goals as goal
+
+pub unkey_rows-requires-clause-widths : goal.unkey_rows-requires-clause-widths
+unkey_rows-requires-clause-widths c =
+    sorted_widths c.args.rows.now.dims c.dims.result c.in_ok-keyed.keyed.items c.sort_by_key.new.self.items c.as_slice.result.now c.dims.ensures
+    c.as_slice.ensures.value c.in_ok-sort_by_key.ensures.permutation c.in_ok-keyed.ensures.widths
+
+pub returns-clause-dims : goal.returns-clause-dims
+returns-clause-dims c = c.in_ok-reordered.ensures.dims ∙ c.dims.ensures
+
+pub returns-clause-same : goal.returns-clause-same
+returns-clause-same c =
+    sorted_rows (constraints c.args.rows.now) (constraints c.in_ok-reordered.reordered) c.in_ok-keyed.keyed.items c.sort_by_key.new.self.items
+    c.as_slice.result.now c.in_ok-keyed.ensures.rows c.in_ok-sort_by_key.ensures.permutation c.as_slice.ensures.value c.in_ok-reordered.ensures.rows
