@@ -1,0 +1,185 @@
+-- Lines of claims, as the code finds and writes them.
+use Rattle.std.proofs.Common.{◌≡◌, inl, inr, ◌++◌, ◌∷◌, [], ℕ, ℤ, Bool, true, false, List, Option, Some, None, Result, Ok, Err, refl, ap, sym}
+use Rattle.std.proofs.Common.{◌∙◌, subst}
+use Rattle.std.proofs.Common.{IfOk, IfErr, OnOk, ◌+◌, take, drop}
+use Rattle.std.specs.Prelude.{cond, codes}
+use Rattle.std.specs.List.{Contains}
+use Rattle.std.proofs.lemmas.List.{take-append-drop}
+use Rattle.std.proofs.lemmas.List.Elements.{All-contains, Contains-append_left}
+use Rattle.lra_linear.specs.Cones.{with_row}
+use Rattle.lra_linear.specs.Descriptions.{Given, system_of}
+use Rattle.lra_linear.specs.Range.{InRange}
+use Rattle.lra_linear.specs.Vectors.{negated}
+use Rattle.lra_linear.proofs.SetOperations.{system_append_in}
+use Rattle.lra_linear.proofs.Membership.{contains_head, contains_tail}
+use Rattle.lra_sys.specs.Listed.{constraints}
+use Rattle.lra_multipliers.specs.declared.multipliers.Multipliers as made
+use Rattle.lra_multipliers.specs.MultiplierViews.{multipliers_view}
+use Rattle.lra_multipliers.specs.Multipliers.{Multipliers, yes, IsAnswer}
+use Rattle.lra_certificate.specs.Certificates.{dead, by, AreNumbers}
+use Rattle.lra_certificate.specs.CertificateText.{text_line, multipliers_text, evidence_text}
+use Rattle.lra_certificate.specs.Judged.{State}
+use Rattle.lra_lines.specs.declared.tracks.Grounds.{Grounds}
+use Rattle.lra_farkas.specs.MultiplierRows.{AreAsWide}
+use Rattle.lra_farkas.specs.FirstMultipliers.{AreFirst, AreInRange, IsFailure}
+use Rattle.lra_farkas.specs.declared.first.MultipliersFailure.{MultipliersFailure}
+use Rattle.lra_farkas.specs.declared.first.MultipliersFailure.TheVariants.{NotImplied, Strained, Memory}
+use Rattle.lra_certify.specs.declared.failures.PathFailure.{PathFailure}
+use Rattle.lra_certify.specs.Each.{Each, Stops, each_text}
+use Rattle.lra_certify.specs.GroundViews.{claim_on, IsLine, IsNotShown, LineStrains, IsLineFailure, by_line, IsClaimLine, ClaimStrained, AddsLines, SomeStrains}
+use Rattle.lra_certify.specs.GroundViews.{IsEvidence, Adds}
+use Rattle.lra_certify.specs.GroundViews.{AllHold, HoldsOn, TargetStrains, IfStrained}
+use Rattle.lra_certify.proofs.PathSteps.{strained_weaker}
+use Rattle.lra_certify.proofs.EachSteps.{adds_one, adds_both, stops_one, stops_first, stops_later}
+use Rattle.lra_certify.proofs.TextSteps.{every_number}
+
+-- ---- found
+are_numbers : (m : Multipliers) → AreInRange m → AreNumbers m
+are_numbers m h = (h.divisor, h.constant, every_number m.factors (λ x k. All-contains InRange m.factors x h.factors k))
+
+module _ (g : Grounds) (claim : Option (List ℤ)) (row : List ℤ) (is : claim_on g claim ≡ Ok row) where
+  pub line_found : (x : Result made.Multipliers MultipliersFailure) → IfOk x (λ m. AreFirst (constraints g.premises) row (multipliers_view m)) →
+      IfOk x (λ m. IsAnswer (constraints g.premises) row (multipliers_view m) yes) → IfOk x (λ m. AreInRange (multipliers_view m)) →
+      IfOk x (λ m. IsLine g claim (multipliers_view m))
+  line_found (Ok m) first shown numbers =
+      record { row = row; made = is; shown = shown; first = first; numbers = are_numbers (multipliers_view m) numbers }
+  line_found (Err e) first shown numbers = tt
+
+  failure_is : (e : MultipliersFailure) → AreAsWide (constraints g.premises) row → IsFailure (constraints g.premises) row e → IsLineFailure g claim e
+  failure_is NotImplied wide h = record { row = row; made = is; wide = wide; never = h }
+  failure_is Strained wide h = inr (row, is, h)
+  failure_is Memory wide h = tt
+
+  pub line_fails : (x : Result made.Multipliers MultipliersFailure) → AreAsWide (constraints g.premises) row →
+      IfErr x (IsFailure (constraints g.premises) row) → IfErr x (IsLineFailure g claim)
+  line_fails (Ok m) wide h = tt
+  line_fails (Err e) wide h = failure_is e wide h
+
+-- ---- the claims of a row
+pub row_claims : (equal : Bool) (row : List ℤ) (rest : List (List ℤ)) → with_row equal row rest ≡ with_row equal row [] ++ rest
+row_claims true row rest = refl
+row_claims false row rest = refl
+
+pub system_next : (g : Given) (rest here : List Given) → here ≡ g ∷ rest → system_of here ≡ with_row g.equal g.row [] ++ system_of rest
+system_next g rest here e = ap system_of e ∙ row_claims g.equal g.row (system_of rest)
+
+-- the claims of a row of the list
+pub hold_row : (g : Grounds) (all : List Given) (i : ℕ) (row : Given) → drop i all ≡ row ∷ drop (i + 1) all → AllHold g (system_of all) →
+    AllHold g (with_row row.equal row.row [])
+hold_row g all i row is h = λ claim k.
+    let rest = system_of (drop (i + 1) all) in
+    let left : Contains (system_of (drop i all)) claim =
+    subst (λ (l : List (List ℤ)). Contains l claim) (sym (system_next row (drop (i + 1) all) (drop i all) is))
+    (Contains-append_left (with_row row.equal row.row []) rest claim k) in
+    h claim (subst (λ (l : List Given). Contains (system_of l) claim) (take-append-drop i all)
+    (system_append_in (take i all) (drop i all) claim (inr left)))
+
+-- ---- written
+pub claim_added : (g : Grounds) (claim : List ℤ) (m : Multipliers) (old new : List ℕ) → IsLine g (Some claim) m →
+    new ≡ old ++ text_line (multipliers_text (codes "by") m) → AddsLines g (claim ∷ []) old new
+claim_added g claim m old new h e = adds_one (IsClaimLine g) by_line claim m old new h e
+
+pub claim_stops : (g : Grounds) (claim : List ℤ) → LineStrains g (Some claim) → SomeStrains g (claim ∷ [])
+claim_stops g claim h = (claim, stops_one (IsClaimLine g) by_line (ClaimStrained g) claim h)
+
+by_texts : (g : Grounds) (claims : List (List ℤ)) (ms : List Multipliers) → Each (IsClaimLine g) claims ms → each_text by_line claims ms ≡ evidence_text (by ms)
+by_texts g [] [] h = refl
+by_texts g [] (m ∷ ms) h = absurd h
+by_texts g (claim ∷ claims) [] h = absurd h
+by_texts g (claim ∷ claims) (m ∷ ms) h = ap (λ (t : List ℕ). by_line claim m ++ t) (by_texts g claims ms h.1)
+
+pub dead_added : (g : Grounds) (target : State) (m : Multipliers) (old new : List ℕ) → IsLine g None m →
+    new ≡ old ++ text_line (multipliers_text (codes "dead") m) → Adds (IsEvidence g target) old new
+dead_added g target m old new h e = record { evidence = dead m; is = h; text = e }
+
+pub claims_added : (g : Grounds) (rows : List Given) (old new : List ℕ) → IsNotShown g None → AddsLines g (system_of rows) old new →
+    Adds (IsEvidence g (Some rows)) old new
+claims_added g rows old new alive h = record {
+  evidence = by h.found;
+  is = (alive, h.are);
+  text = h.text ∙ ap (λ (t : List ℕ). old ++ t) (by_texts g (system_of rows) h.found h.are);
+}
+
+pub dead_stops : (g : Grounds) (target : State) → LineStrains g None → TargetStrains g target
+dead_stops g None h = h
+dead_stops g (Some rows) h = inl h
+
+-- ---- the claims of a row: of an equality two
+module _ (g : Grounds) (row : List ℤ) where
+  abbrev claims : Bool → List (List ℤ)
+  claims equal = with_row equal row []
+
+  -- behind the row itself
+  abbrev behind : Bool → List (List ℤ)
+  behind equal = cond equal (negated row ∷ []) []
+
+  claims_are : (equal : Bool) → claims equal ≡ (row ∷ []) ++ behind equal
+  claims_are true = refl
+  claims_are false = refl
+
+  pub row_holds : (equal : Bool) → AllHold g (claims equal) → HoldsOn g row
+  row_holds true h = h row (contains_head row (negated row ∷ []))
+  row_holds false h = h row (contains_head row [])
+
+  pub opposite_holds : (equal : Bool) (opposite : List ℤ) → equal ≡ true → opposite ≡ negated row → AllHold g (claims equal) → HoldsOn g opposite
+  opposite_holds true opposite e is h =
+      subst (λ (r : List ℤ). HoldsOn g r) (sym is) (h (negated row) (contains_tail row (negated row) (negated row ∷ []) (contains_head (negated row) [])))
+  opposite_holds false opposite e is h = absurd (no e)
+    where
+      no : false ≡ true → ⊥
+      no e = cc
+
+  pub one_added : (equal : Bool) (old new : List ℕ) → equal ≡ false → AddsLines g (row ∷ []) old new → AddsLines g (claims equal) old new
+  one_added equal old new e h = subst (λ (b : Bool). AddsLines g (claims b) old new) (sym e) h
+
+  pub two_added : (equal : Bool) (opposite : List ℤ) (old middle new : List ℕ) → equal ≡ true → opposite ≡ negated row → AddsLines g (row ∷ []) old middle →
+      AddsLines g (opposite ∷ []) middle new → AddsLines g (claims equal) old new
+  two_added equal opposite old middle new e is h k =
+      subst (λ (b : Bool). AddsLines g (claims b) old new) (sym e)
+      (adds_both (IsClaimLine g) by_line (row ∷ []) (negated row ∷ []) old middle new h
+      (subst (λ (r : List ℤ). AddsLines g (r ∷ []) middle new) is k))
+
+  pub row_stops : (equal : Bool) → SomeStrains g (row ∷ []) → SomeStrains g (claims equal)
+  row_stops equal (claim, h) = (
+    claim,
+    subst (λ (l : List (List ℤ)). Stops (IsClaimLine g) (ClaimStrained g) l claim) (sym (claims_are equal))
+        (stops_first (IsClaimLine g) by_line (ClaimStrained g) (row ∷ []) (behind equal) claim h),
+  )
+
+  pub opposite_stops : (equal : Bool) (opposite : List ℤ) (old middle : List ℕ) → equal ≡ true → opposite ≡ negated row → AddsLines g (row ∷ []) old middle →
+      SomeStrains g (opposite ∷ []) → SomeStrains g (claims equal)
+  opposite_stops equal opposite old middle e is h (claim, k) =
+      subst (λ (b : Bool). SomeStrains g (claims b)) (sym e) (
+        claim,
+        stops_later (IsClaimLine g) by_line (ClaimStrained g) (row ∷ []) (negated row ∷ []) claim old middle h
+            (subst (λ (r : List ℤ). Stops (IsClaimLine g) (ClaimStrained g) (r ∷ []) claim) is k),
+      )
+
+-- ---- a target's claims, as they are handed on
+module _ (g : Grounds) (target : State) (rows : List Given) (is : target ≡ Some rows) where
+  pub claims_told : {X : Type 0} (old new : List ℕ) → IsNotShown g None → (r : Result X PathFailure) → OnOk r (AddsLines g (system_of rows) old new) →
+      OnOk r (Adds (IsEvidence g target) old new)
+  claims_told old new alive (Ok x) h = subst (λ (s : State). Adds (IsEvidence g s) old new) (sym is) (claims_added g rows old new alive h)
+  claims_told old new alive (Err e) h = tt
+
+  pub claims_failed : {X : Type 0} → IsNotShown g None → (r : Result X PathFailure) → IfErr r (IfStrained (SomeStrains g (system_of rows))) →
+      IfErr r (IfStrained (TargetStrains g target))
+  claims_failed alive (Ok x) h = tt
+  claims_failed alive (Err e) h =
+      strained_weaker (SomeStrains g (system_of rows)) (TargetStrains g target) e
+      (λ x. subst (λ (s : State). TargetStrains g s) (sym is) (inr (alive, x))) h
+
+-- the second claim of an equality, as it is handed on
+module _ (g : Grounds) (row opposite : List ℤ) (equal : Bool) (e : equal ≡ true) (is : opposite ≡ negated row) (old middle : List ℕ)
+    (first : AddsLines g (row ∷ []) old middle) where
+  pub two_told : {X : Type 0} (new : List ℕ) (r : Result X PathFailure) → OnOk r (AddsLines g (opposite ∷ []) middle new) →
+      OnOk r (AddsLines g (with_row equal row []) old new)
+  two_told new (Ok x) h = two_added g row equal opposite old middle new e is first h
+  two_told new (Err f) h = tt
+
+  pub opposite_failed : {X : Type 0} (r : Result X PathFailure) → IfErr r (IfStrained (SomeStrains g (opposite ∷ []))) →
+      IfErr r (IfStrained (SomeStrains g (with_row equal row [])))
+  opposite_failed (Ok x) h = tt
+  opposite_failed (Err f) h =
+      strained_weaker (SomeStrains g (opposite ∷ [])) (SomeStrains g (with_row equal row [])) f
+      (opposite_stops g row equal opposite old middle e is first) h

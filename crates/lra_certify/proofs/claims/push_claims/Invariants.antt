@@ -1,0 +1,9 @@
+use Rattle.std.proofs.Common.{drop, string_bytes}
+use Rattle.lra_linear.specs.Descriptions.{system_of}
+use Rattle.lra_sys.specs.Listed.{constraints}
+use Rattle.lra_certify.specs.GroundViews.{LinesLeft}
+use Rattle.lra_certify.proofs.claims.push_claims.Given as goal
+
+abbrev pub invariant-loop-place : goal.invariant-loop-place
+invariant-loop-place l = LinesLeft l.grounds (system_of (drop l.place (constraints l.rows))) (system_of (constraints l.rows)) (string_bytes l.text)
+    (string_bytes l.initial.text)

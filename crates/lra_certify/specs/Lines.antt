@@ -1,0 +1,19 @@
+-- Rows of states as the code writes them.
+use Rattle.std.specs.Prelude.{ℕ, ⊤, List, Option, None, Some}
+use Rattle.std.specs.List.{flat_map, AllByRecursion}
+use Rattle.lra_linear.specs.declared.ConKind.{ConKind}
+use Rattle.lra_linear.specs.Descriptions.{Given}
+use Rattle.lra_sys.specs.Listed.{Listed, constraints}
+use Rattle.lra_certificate.specs.Certificates.{IsPointRow}
+use Rattle.lra_certificate.specs.CertificateText.{text_line, row_text}
+
+abbrev pub rows_text : List Given → List ℕ
+rows_text rows = flat_map (λ g. text_line (row_text g)) rows
+
+-- its rows have its dimensions, and numbers of the range
+abbrev pub ArePointRows : Listed ConKind → Type 0
+ArePointRows rows = AllByRecursion (IsPointRow rows.dims) (constraints rows)
+
+abbrev pub HasPointRows : Option (Listed ConKind) → Type 0
+HasPointRows None = ⊤
+HasPointRows (Some rows) = ArePointRows rows

@@ -1,0 +1,42 @@
+-- Rows that are closed along paths: from each rational point of its source's rows a path leads to points of its
+-- target's rows alone.
+use Rattle.std.specs.Prelude.{◌≤◌, ◌<◌, ℕ, ℤ, ⊤, List, length, None, Some, Contains}
+use Rattle.lra_linear.specs.Descriptions.{Con}
+use Rattle.lra_linear.specs.Points.{IsPoint}
+use Rattle.lra_domain.specs.Actions.{Action}
+use Rattle.lra_program.specs.Program.{Program}
+use Rattle.lra_program.specs.Sites.{Site, sites_of}
+use Rattle.lra_operations.specs.Graph.{Node}
+use Rattle.lra_ways.specs.Ways.{Goal, comes_to, denies}
+use Rattle.lra_paths.specs.Paths.{Path, path_by, leading}
+use Rattle.lra_certificate.specs.Certificates.{state_from, state_to}
+use Rattle.lra_certificate.specs.Judged.{State}
+use Rattle.lra_verify.specs.EdgeViews.{live_by}
+use Rattle.lra_certify.specs.PointMoves.{PointLeadsAll}
+
+-- the point meets the rows; where nothing comes no point does
+abbrev pub IsIn : State → List ℤ → Type 0
+IsIn None y = ⊥
+IsIn (Some rows) y = Con rows y
+
+-- from rows over so many variables to a target
+abbrev pub StaysFrom : ℕ → List Action → State → State → Type 0
+StaysFrom live actions None target = ⊤
+StaysFrom live actions (Some rows) target = (x y : List ℤ) → IsPoint live x → Con rows x →
+    PointLeadsAll actions x y → IsIn target y
+
+-- where a listed assertion is false nothing may come
+abbrev pub Stays : List Site → List State → Path → Type 0
+Stays sites states path = StaysFrom (live_by sites path.source) path.actions (state_from states path.source)
+    (state_to states path.goal)
+
+-- it is one of the points, or one of the assertions that are to be listed
+abbrev pub IsAsked : ℕ → List ℕ → Goal → Type 0
+IsAsked points proved (comes_to q) = q < points
+IsAsked points proved (denies q) = Contains proved q
+
+-- so it is along each path to a point, and to where a listed assertion is false
+abbrev pub PathsStay : Program → Node → List State → List ℕ → Type 0
+PathsStay P g states proved = (p : ℕ) (goal : Goal) (actions : List Action) → p ≤ length (sites_of P) →
+    IsAsked (length (sites_of P)) proved goal → Contains (leading P g p goal) actions →
+    Stays (sites_of P) states (path_by p goal actions)

@@ -1,0 +1,88 @@
+//! The lines behind the source of a certificate.
+
+ghost use Rattle.std.specs.Prelude.{◌≡◌, ◌<◌, ◌^◌, map, length, OnOk, IfOk, IfErr, string_bytes};
+ghost use Rattle.std.specs.List.{All};
+ghost use Rattle.lra_program.specs.ProgramViews.{program_view};
+ghost use Rattle.lra_program.specs.Sites.{sites_of};
+ghost use Rattle.lra_operations.specs.GraphViews.{node_view, site_view};
+ghost use Rattle.lra_paths.specs.Paths.{AreFewPaths};
+ghost use Rattle.lra_verify.specs.EdgeViews.{AreWays};
+ghost use Rattle.lra_verify.specs.PointViews.{HaveDims, state_view};
+ghost use Rattle.lra_certify.specs.Certified.{AreListable, IsCertified, IsFailure};
+ghost use Rattle.lra_certify.specs.Staying.{PathsStay};
+ghost use Rattle.lra_certify.specs.WrittenPaths.{AllStay, AllDenied, AddsBody, BodyStops, IfStopped, all_paths};
+
+use crate::edges::push_sources;
+use crate::failures::CertifyFailure;
+use crate::listed::push_listed;
+use crate::text::{push_end, push_states};
+use lra_operations::Graph;
+use lra_paths::{PathsFailure, find_paths};
+use lra_program::Program;
+use lra_sys::ConSys;
+use lra_verify::{Ways, all_sources};
+use std::alloc::Global;
+
+/// Appends all lines behind the source, with these assertions listed.
+fn push_body(
+    text: &mut String,
+    alloc: Global,
+    ways: &Ways<'_>,
+    proved: &[usize],
+) -> Result<(), CertifyFailure>
+    requires ways { AreWays ways.now }
+    requires points { All (λ q. q < length ways.now.sites.now) proved.now }
+    requires stay { AllStay ways.now (all_paths ways.now) }
+    requires denied { AllDenied ways.now proved.now }
+    ensures adds { OnOk result (AddsBody ways.now proved.now
+        (string_bytes text.old) (string_bytes text.new)) }
+    ensures failure { IfErr result (IfStopped (BodyStops ways.now proved.now)) }
+{
+    push_states(text, ways.states)?;
+    push_sources(text, alloc, ways)?;
+    push_listed(text, alloc, ways, proved)?;
+    push_end(text)?;
+    Ok(())
+}
+
+/// The lines behind the source of a certificate that has these rows at the points of the program, none where nothing
+/// comes there, and lists the assertions at these points; or the first path to which no multipliers are found.
+pub fn certify(
+    alloc: Global,
+    program: &Program,
+    graph: &Graph,
+    states: &[Option<ConSys>],
+    proved: &[usize],
+) -> Result<String, CertifyFailure>
+    requires sites { map site_view graph.now.sites.items ≡ sites_of (program_view program.now) }
+    requires many { length graph.now.sites.items < 2 ^ 31 }
+    requires live { All (λ s. s.live < 2 ^ 31) graph.now.sites.items }
+    requires states { length states.now ≡ length graph.now.sites.items }
+    requires dims { HaveDims (map site_view graph.now.sites.items) states.now }
+    requires proved { AreListable (sites_of (program_view program.now)) proved.now }
+    requires stay { PathsStay (program_view program.now) (node_view graph.now.tree)
+        (map state_view states.now) proved.now }
+    ensures certified { IfOk result (λ text. IsCertified (program_view program.now)
+        (node_view graph.now.tree) (map state_view states.now) proved.now (string_bytes text)) }
+    ensures few { OnOk result (AreFewPaths (program_view program.now) (node_view graph.now.tree)) }
+    ensures failure { IfErr result (IsFailure (program_view program.now)
+        (node_view graph.now.tree) (map state_view states.now) proved.now) }
+{
+    match find_paths(alloc, program.globals.as_slice(), graph) {
+        Ok(paths) => {
+            let sources = all_sources(alloc, &paths)?;
+            let start = ConSys::new(alloc, 0);
+            let ways = Ways {
+                sites: graph.sites.as_slice(),
+                states,
+                start: &start,
+                sources: sources.as_slice(),
+            };
+            let mut text = String::new(alloc);
+            push_body(&mut text, alloc, &ways, proved)?;
+            Ok(text)
+        }
+        Err(PathsFailure::TooMany(source)) => Err(CertifyFailure::TooMany(source)),
+        Err(PathsFailure::Memory) => Err(CertifyFailure::Memory),
+    }
+}

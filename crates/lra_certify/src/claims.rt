@@ -1,0 +1,143 @@
+//! The lines of one path: the first multipliers that show that nothing goes along it; where there are none, the first
+//! for each claim of its target.
+
+ghost use Rattle.std.specs.Prelude.{◌<◌, [], ◌∷◌, length, OnOk, IfOk, IfErr, IfSome, Some, None, string_bytes};
+ghost use Rattle.lra_linear.specs.Cones.{with_row};
+ghost use Rattle.lra_linear.specs.Descriptions.{system_of};
+ghost use Rattle.lra_linear.specs.Kinds.{is_equality};
+ghost use Rattle.lra_sys.specs.Listed.{constraints};
+ghost use Rattle.lra_multipliers.specs.MultiplierViews.{multipliers_view};
+ghost use Rattle.lra_lines.specs.TrackViews.{AreGrounds, row_of, rows_of};
+ghost use Rattle.lra_certify.specs.GroundViews.{IsLine, IsLineFailure, IsNotShown, IsEvidence, HoldsOn, AllLead};
+ghost use Rattle.lra_certify.specs.GroundViews.{AllHold, AddsLines, Adds, SomeStrains, TargetStrains, IfStrained};
+
+use crate::failures::PathFailure;
+use crate::text::push_multipliers;
+use lra_farkas::{MultipliersFailure, multipliers};
+use lra_linear::ConKind;
+use lra_lines::Grounds;
+use lra_multipliers::Multipliers;
+use lra_row::{Row, RowError};
+use lra_sys::ConSys;
+use std::alloc::Global;
+
+/// The first multipliers of a claim: a row over the variables, or that nothing is left.
+fn find_multipliers(
+    alloc: Global,
+    grounds: &Grounds,
+    claim: Option<&Row>,
+) -> Result<Multipliers, MultipliersFailure>
+    requires are { AreGrounds grounds.now }
+    requires row { IfSome claim (λ r. 0 < length r.now) }
+    ensures line { IfOk result (λ m.
+        IsLine grounds.now (row_of claim.entry) (multipliers_view m)) }
+    ensures failure { IfErr result (IsLineFailure grounds.now (row_of claim.entry)) }
+{
+    let _premises = grounds.premises.rows();
+    match grounds.claim(alloc, claim) {
+        Ok(row) => multipliers(alloc, &grounds.premises, &row),
+        Err(RowError::Excess(_)) => Err(MultipliersFailure::Strained),
+        Err(RowError::Memory) => Err(MultipliersFailure::Memory),
+    }
+}
+
+/// Appends the line of a claim that holds wherever the premises do, which aren't dead.
+fn push_claim(
+    text: &mut String,
+    alloc: Global,
+    grounds: &Grounds,
+    claim: &Row,
+) -> Result<(), PathFailure>
+    requires are { AreGrounds grounds.now }
+    requires row { 0 < length claim.now }
+    requires alive { IsNotShown grounds.now None }
+    requires holds { HoldsOn grounds.now claim.now }
+    ensures lines { OnOk result (AddsLines grounds.now (claim.now ∷ [])
+        (string_bytes text.old) (string_bytes text.new)) }
+    ensures failure { IfErr result (IfStrained (SomeStrains grounds.now (claim.now ∷ []))) }
+{
+    match find_multipliers(alloc, grounds, Some(claim)) {
+        Ok(shown) => {
+            push_multipliers(text, "by", &shown)?;
+            Ok(())
+        }
+        Err(MultipliersFailure::NotImplied) => unreachable!(),
+        Err(MultipliersFailure::Strained) => Err(PathFailure::Strained),
+        Err(MultipliersFailure::Memory) => Err(PathFailure::Memory),
+    }
+}
+
+/// Appends the lines of a row's claims: an equality has two, its row and then minus that.
+fn push_row_claims(
+    text: &mut String,
+    alloc: Global,
+    grounds: &Grounds,
+    row: &Row,
+    kind: ConKind,
+) -> Result<(), PathFailure>
+    requires are { AreGrounds grounds.now }
+    requires row { 0 < length row.now }
+    requires alive { IsNotShown grounds.now None }
+    requires holds { AllHold grounds.now (with_row (is_equality kind) row.now []) }
+    ensures lines { OnOk result (AddsLines grounds.now (with_row (is_equality kind) row.now [])
+        (string_bytes text.old) (string_bytes text.new)) }
+    ensures failure { IfErr result
+        (IfStrained (SomeStrains grounds.now (with_row (is_equality kind) row.now []))) }
+{
+    push_claim(text, alloc, grounds, row)?;
+    if kind.is_equality() {
+        let opposite = row.negate()?;
+        push_claim(text, alloc, grounds, &opposite)
+    } else {
+        Ok(())
+    }
+}
+
+/// Appends the lines of the claims of all rows.
+fn push_claims(
+    text: &mut String,
+    alloc: Global,
+    grounds: &Grounds,
+    rows: &ConSys,
+) -> Result<(), PathFailure>
+    requires are { AreGrounds grounds.now }
+    requires alive { IsNotShown grounds.now None }
+    requires holds { AllHold grounds.now (system_of (constraints rows.now)) }
+    ensures lines { OnOk result (AddsLines grounds.now (system_of (constraints rows.now))
+        (string_bytes text.old) (string_bytes text.new)) }
+    ensures failure { IfErr result
+        (IfStrained (SomeStrains grounds.now (system_of (constraints rows.now)))) }
+{
+    for place in 0..rows.len() {
+        let (row, kind) = rows.at(place);
+        push_row_claims(text, alloc, grounds, row, kind)?;
+    }
+    Ok(())
+}
+
+/// Appends what is said of a path with these grounds, all of whose points lead to the target.
+pub fn push_evidence(
+    text: &mut String,
+    alloc: Global,
+    grounds: &Grounds,
+    target: Option<&ConSys>,
+) -> Result<(), PathFailure>
+    requires are { AreGrounds grounds.now }
+    requires lead { AllLead grounds.now (rows_of target) }
+    ensures evidence { OnOk result (Adds (IsEvidence grounds.now (rows_of target.entry))
+        (string_bytes text.old) (string_bytes text.new)) }
+    ensures failure { IfErr result (IfStrained (TargetStrains grounds.now (rows_of target.entry))) }
+{
+    match find_multipliers(alloc, grounds, None) {
+        Ok(shown) => {
+            push_multipliers(text, "dead", &shown)?;
+            Ok(())
+        }
+        Err(MultipliersFailure::NotImplied) => match target {
+            None => unreachable!(),
+            Some(rows) => push_claims(text, alloc, grounds, rows),
+        },
+        Err(MultipliersFailure::Strained) => Err(PathFailure::Strained),
+        Err(MultipliersFailure::Memory) => Err(PathFailure::Memory),
+    }
+}
