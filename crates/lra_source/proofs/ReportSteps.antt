@@ -32,7 +32,7 @@ use Rattle.lra_report.specs.Spelled.{IsSpelledPart}
 use Rattle.lra_states.specs.Canonical.{AreCanonicallyShown}
 use Rattle.lra_states.specs.Shown.{AreShown}
 use Rattle.lra_front.specs.Stages.{HasGraph}
-use Rattle.lra_source.specs.Stages.{IsToldOf}
+use Rattle.lra_source.specs.Stages.{IsToldOf, TellsSolution}
 use Rattle.lra_source.proofs.Fitting.{tree_fits, few_globals}
 use Rattle.lra_source.proofs.Numbering.{numbered}
 use Rattle.std.specs.Prelude.{All, get_or}
@@ -231,3 +231,15 @@ is_told m shown o constants t g sites values verdicts flagged fitting behind sta
         let few = few_points t g sites has in
         let same : length sites ≡ length (sites_of (resolve t)) = ap length has.points in
         omega (arith, there, few, same)
+
+-- it shows these values and tells these verdicts
+pub tells_solution : {V H : Type 0} (m : Meaning V H) (shown : V → Invariant) (asked : Bool) (g : Node) (values : List V) (verdicts : List (ℕ × Bool))
+    (flagged : Option ℕ) (fitting : List (ℕ × Bool)) (behind : Option ℕ) (states : List Invariant) (r : Report)
+    → JudgesIf m (dropping m) asked g values flagged fitting behind → states ≡ map shown values → map state_of r.points ≡ states
+    → map told_of r.verdicts ≡ told_all verdicts fitting → TellsSolution shown asked values verdicts r
+tells_solution m shown asked g values verdicts flagged fitting behind states r judged are same told =
+    record { states = same ∙ are; fitting = fitting; told = told; silent = λ off. none asked off judged }
+  where
+    none : (b : Bool) → b ≡ false → JudgesIf m (dropping m) b g values flagged fitting behind → fitting ≡ []
+    none true off j = absurd (let no : true ≡ false = off in cc)
+    none false off j = j.0

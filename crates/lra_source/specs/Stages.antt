@@ -1,5 +1,5 @@
 -- What is known of a report before it is one of its source.
-use Rattle.std.specs.Prelude.{◌≡◌, ℤ, List, [], None}
+use Rattle.std.specs.Prelude.{◌≡◌, ℕ, ℤ, List, [], map, Bool, false, None}
 use Rattle.lra_tree.specs.Trees.{FileTree}
 use Rattle.lra_meaning.specs.NameFaults.{name_faults}
 use Rattle.lra_tree.specs.Labels.{labels_of}
@@ -7,8 +7,9 @@ use Rattle.lra_meaning.specs.Resolve.{resolve}
 use Rattle.lra_program.specs.Sites.{events_of}
 use Rattle.lra_operations.specs.Agree.{Agrees}
 use Rattle.lra_options.specs.declared.options.Options.{Options}
-use Rattle.lra_report.specs.Report.{Invariant, Report}
+use Rattle.lra_report.specs.Report.{Invariant, PointReport, Report}
 use Rattle.lra_report.specs.Listing.{Lists}
+use Rattle.lra_listing.specs.Given.{told_all, told_of}
 use Rattle.lra_meaning.specs.Refuse.{limit_fault}
 use Rattle.lra_tree.specs.Reach.{NotRecursive}
 use Rattle.lra_report.specs.Spelled.{IsReadable}
@@ -29,3 +30,12 @@ pub record IsToldOf {V H : Type 0} (m : Meaning V H) (shown : V → Invariant) (
   pub agrees : Agrees (resolve t) analysed.tree
   pub canonical : AreCanonical o r
   pub readable : IsReadable r
+
+-- at each point it shows the value that was found there, and on each assertion the verdict; beside these it tells what
+-- fits, and where that isn't asked for nothing
+pub record TellsSolution {V : Type 0} (shown : V → Invariant) (fits : Bool) (values : List V)
+    (verdicts : List (ℕ × Bool)) (r : Report) : Type 0 where
+  pub states : map (λ (p : PointReport). p.state) r.points ≡ map shown values
+  pub fitting : List (ℕ × Bool)
+  pub told : map told_of r.verdicts ≡ told_all verdicts fitting
+  pub silent : fits ≡ false → fitting ≡ []

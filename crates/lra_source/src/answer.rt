@@ -1,16 +1,11 @@
 //! From the bytes of a source to its report, or to its one refusal.
 
-ghost use Rattle.std.specs.Prelude.{◌≡◌, ◌≤◌, ◌<◌, ◌+◌, ◌^◌, None, length, map, All, IfOk};
+ghost use Rattle.std.specs.Prelude.{◌≡◌, ◌≤◌, ◌<◌, ◌+◌, ◌^◌, length, map, IfOk};
 ghost use Rattle.lra_base.specs.Refused.{IfRefused};
 ghost use Rattle.lra_tree.specs.Views.{tree_view};
 ghost use Rattle.lra_program.specs.ProgramViews.{program_view};
 ghost use Rattle.lra_operations.specs.GraphViews.{node_view, site_view};
-ghost use Rattle.lra_operations.specs.Asked.{asked_in};
-ghost use Rattle.lra_flow.specs.Room.{most_live};
 ghost use Rattle.lra_flow.specs.Plan.{plan_of};
-ghost use Rattle.lra_flow.specs.Operations.{dropping};
-ghost use Rattle.lra_flow.specs.Fits.{JudgesIf};
-ghost use Rattle.lra_fits.specs.Judged.{AreBelow};
 ghost use Rattle.lra_tree.specs.Labels.{labels_of};
 ghost use Rattle.lra_meaning.specs.Resolve.{resolve};
 ghost use Rattle.lra_tree.specs.Grammar.{Spells};
@@ -20,44 +15,19 @@ ghost use Rattle.lra_source.specs.Answers.{IsAnsweredOver, AloneOrSets, IsAnswer
 ghost use Rattle.lra_front.specs.Stages.{HasGraph};
 ghost use Rattle.lra_source.specs.Stages.{IsToldOf};
 
+use crate::reporting::{report_solution, solve_front};
 use lra_base::SourceError;
 use lra_box::Boxes;
-use lra_domain::{Domain as AbstractDomain, Plain};
-use lra_fits::{Fitting, judge};
+use lra_domain::Plain;
 use lra_front::{Front, read_source};
-use lra_iter::{Plan, analyse};
-use lra_listing::{Found, Outline, list};
+use lra_iter::Plan;
 use lra_oct::Octagon;
-use lra_operations::Node;
 use lra_options::{Domain, Options};
 use lra_polydom::Polyhedron;
 use lra_report::Report;
 use lra_set::PowerSet;
-use lra_states::{Show, states_of};
+use lra_states::Show;
 use std::alloc::{AllocError, Global};
-
-/// Which operations of a tree fit, where it is asked for; else nothing is told, and nothing done.
-fn judge_if<D: AbstractDomain>(
-    alloc: Global,
-    asked: bool,
-    tree: &Node,
-    values: &[D],
-    flagged: Option<usize>,
-) -> Result<Fitting, AllocError>
-    requires few { All (λ v. D.meaning.dims v < most_live) values.now }
-    requires below { AreBelow (length values.now) (asked_in None (node_view tree.now)) }
-    ensures { IfOk result (λ f. JudgesIf D.meaning (dropping D.meaning) asked (node_view tree.now)
-        values.now flagged f.verdicts.items f.flagged) }
-{
-    if asked {
-        judge(alloc, tree, values, flagged)
-    } else {
-        Ok(Fitting {
-            verdicts: Vec::new(alloc),
-            flagged,
-        })
-    }
-}
 
 /// The report of the iteration over the tree of operations of what is read of a source.
 fn report_front<D: Show>(
@@ -77,28 +47,8 @@ fn report_front<D: Show>(
     ensures { IfOk result (λ r. IsToldOf D.meaning D.shown options front.now.constants.items
         (tree_view front.now.tree) (report_of r)) }
 {
-    let globals = front.resolution.program.globals.as_slice();
-    let solution = analyse::<D>(alloc, plan, globals, &front.graph)?;
-    let fitting = judge_if(
-        alloc,
-        options.fits,
-        &front.graph.tree,
-        &solution.values,
-        solution.flagged,
-    )?;
-    let states = states_of(alloc, &solution.values)?;
-    let sites = front.graph.sites.as_slice();
-    let outline = Outline {
-        tree: &front.tree,
-        labels: &front.resolution.labels,
-        sites,
-    };
-    let found = Found {
-        assertions: &solution.verdicts,
-        fitting: &fitting.verdicts,
-        flagged: fitting.flagged,
-    };
-    let report = list(alloc, &outline, options, states, &found)?;
+    let solution = solve_front::<D>(alloc, plan, front)?;
+    let report = report_solution(alloc, options, front, &solution)?;
     Ok(report)
 }
 

@@ -1,0 +1,116 @@
+//! What an iteration finds of what is read of a source, and its report.
+
+ghost use Rattle.std.specs.Prelude.{◌≡◌, ◌≤◌, ◌<◌, None, length, map, All, IfOk};
+ghost use Rattle.lra_tree.specs.Views.{tree_view};
+ghost use Rattle.lra_tree.specs.Labels.{labels_of};
+ghost use Rattle.lra_meaning.specs.Resolve.{resolve};
+ghost use Rattle.lra_program.specs.ProgramViews.{program_view};
+ghost use Rattle.lra_operations.specs.GraphViews.{node_view, site_view};
+ghost use Rattle.lra_operations.specs.Asked.{asked_in};
+ghost use Rattle.lra_flow.specs.Room.{most_live};
+ghost use Rattle.lra_flow.specs.Plan.{plan_of};
+ghost use Rattle.lra_flow.specs.Operations.{dropping};
+ghost use Rattle.lra_flow.specs.Fits.{JudgesIf};
+ghost use Rattle.lra_fits.specs.Judged.{AreBelow};
+ghost use Rattle.lra_iter.specs.Solved.{IsSolved};
+ghost use Rattle.lra_report.specs.View.{report_of};
+ghost use Rattle.lra_front.specs.Stages.{HasGraph};
+ghost use Rattle.lra_source.specs.Stages.{IsToldOf, TellsSolution};
+
+use lra_domain::Domain as AbstractDomain;
+use lra_fits::{Fitting, judge};
+use lra_front::Front;
+use lra_iter::{Plan, Solution, analyse};
+use lra_listing::{Found, Outline, list};
+use lra_operations::Node;
+use lra_options::Options;
+use lra_report::Report;
+use lra_states::{Show, states_of};
+use std::alloc::{AllocError, Global};
+
+/// Which operations of a tree fit, where it is asked for; else nothing is told, and nothing done.
+fn judge_if<D: AbstractDomain>(
+    alloc: Global,
+    asked: bool,
+    tree: &Node,
+    values: &[D],
+    flagged: Option<usize>,
+) -> Result<Fitting, AllocError>
+    requires few { All (λ v. D.meaning.dims v < most_live) values.now }
+    requires below { AreBelow (length values.now) (asked_in None (node_view tree.now)) }
+    ensures { IfOk result (λ f. JudgesIf D.meaning (dropping D.meaning) asked (node_view tree.now)
+        values.now flagged f.verdicts.items f.flagged) }
+{
+    if asked {
+        judge(alloc, tree, values, flagged)
+    } else {
+        Ok(Fitting {
+            verdicts: Vec::new(alloc),
+            flagged,
+        })
+    }
+}
+
+/// What an iteration over a domain finds of the program that is read of a source.
+pub fn solve_front<D: AbstractDomain>(
+    alloc: Global,
+    plan: &Plan,
+    front: &Front,
+) -> Result<Solution<D>, AllocError>
+    requires parts { 1 ≤ plan.now.parts }
+    requires graph { HasGraph (tree_view front.now.tree) (node_view front.now.graph.tree)
+        (map site_view front.now.graph.sites.items) }
+    requires program { program_view front.now.resolution.program ≡
+        resolve (tree_view front.now.tree) }
+    ensures { IfOk result (λ s. IsSolved D.meaning plan.now (resolve (tree_view front.now.tree))
+        (node_view front.now.graph.tree) s.values.items s.verdicts.items s.flagged) }
+{
+    let globals = front.resolution.program.globals.as_slice();
+    let solution = analyse::<D>(alloc, plan, globals, &front.graph)?;
+    Ok(solution)
+}
+
+/// The report of what an iteration found of the program that is read of a source.
+pub fn report_solution<D: Show>(
+    alloc: Global,
+    options: Options,
+    front: &Front,
+    solution: &Solution<D>,
+) -> Result<Report, AllocError>
+    requires parts { 1 ≤ options.parts }
+    requires named { options.domain ≡ D.named }
+    requires graph { HasGraph (tree_view front.now.tree) (node_view front.now.graph.tree)
+        (map site_view front.now.graph.sites.items) }
+    requires labels { front.now.resolution.labels.labels ≡ labels_of (tree_view front.now.tree) }
+    requires program { program_view front.now.resolution.program ≡
+        resolve (tree_view front.now.tree) }
+    requires solved { IsSolved D.meaning (plan_of options front.now.constants.items)
+        (resolve (tree_view front.now.tree)) (node_view front.now.graph.tree)
+        solution.now.values.items solution.now.verdicts.items solution.now.flagged }
+    ensures told { IfOk result (λ r. IsToldOf D.meaning D.shown options front.now.constants.items
+        (tree_view front.now.tree) (report_of r)) }
+    ensures own { IfOk result (λ r. TellsSolution D.shown options.fits solution.now.values.items
+        solution.now.verdicts.items (report_of r)) }
+{
+    let fitting = judge_if(
+        alloc,
+        options.fits,
+        &front.graph.tree,
+        &solution.values,
+        solution.flagged,
+    )?;
+    let states = states_of(alloc, &solution.values)?;
+    let sites = front.graph.sites.as_slice();
+    let outline = Outline {
+        tree: &front.tree,
+        labels: &front.resolution.labels,
+        sites,
+    };
+    let found = Found {
+        assertions: &solution.verdicts,
+        fitting: &fitting.verdicts,
+        flagged: fitting.flagged,
+    };
+    let report = list(alloc, &outline, options, states, &found)?;
+    Ok(report)
+}
