@@ -27,7 +27,8 @@ pub record IsTelling (Tells : List ℕ → List ℕ → Status → Type 0) (told
 
 -- one byte past the limit ---------------------------------------------------------
 
-not_past : (bytes : List ℕ) → greatest_length < length bytes → length bytes ≤ greatest_length → ⊥
+-- an accepted source isn't past the limit
+pub not_past : (bytes : List ℕ) → greatest_length < length bytes → length bytes ≤ greatest_length → ⊥
 not_past bytes long within = omega arith
 
 longer_too_long : (bytes rest : List ℕ) → greatest_length < length bytes → Refuse Spells (bytes ++ rest) TooLong (place_behind (take greatest_length bytes))
@@ -36,7 +37,7 @@ longer_too_long bytes rest past =
     let reached : greatest_length ≤ length bytes = omega arith in
     subst (λ (front : List ℕ). Refuse Spells (bytes ++ rest) TooLong (place_behind front)) (take-append-le greatest_length bytes rest reached) (too_long longer)
 
-longer_refused : (bytes rest : List ℕ) (c : Cause) (at : Place) → greatest_length < length bytes → Refuse Spells bytes c at → Refuse Spells (bytes ++ rest) c at
+pub longer_refused : (bytes rest : List ℕ) (c : Cause) (at : Place) → greatest_length < length bytes → Refuse Spells bytes c at → Refuse Spells (bytes ++ rest) c at
 longer_refused bytes rest _ _ long (too_long past) = longer_too_long bytes rest past
 longer_refused bytes rest _ _ long (bad_token c p l e) = absurd (not_past bytes long l)
 longer_refused bytes rest _ _ long (bad_text tokens c p l lexed e) = absurd (not_past bytes long l)

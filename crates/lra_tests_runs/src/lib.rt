@@ -12,6 +12,8 @@ mod boxes;
 #[cfg(test)]
 mod certificates;
 #[cfg(test)]
+mod certified;
+#[cfg(test)]
 mod checks;
 #[cfg(test)]
 mod divisions;

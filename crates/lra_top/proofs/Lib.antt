@@ -2,6 +2,7 @@ pub mod ScriptWays
 pub mod OneVerified
 pub mod SomeVerified
 pub mod CertificateWays
+pub mod CertifyWays
 pub mod SourceWays
 pub mod SampleWays
 pub mod Rows
@@ -9,5 +10,6 @@ pub mod Reading
 pub mod Ways
 pub mod Headline
 pub mod Verified
+pub mod Certified
 pub mod Ending
 pub mod OneWritten

@@ -1,14 +1,11 @@
 -- An input that is to be a certificate deserves one answer: its head is one, and a source has one tree, one tree of operations, or one refusal.
-use Rattle.std.proofs.Common.{◌≡◌, ◌∙◌, ◌≤◌, ◌<◌, ◌⊎◌, ℕ, List, length, None, Ok, Err, ap, sym, subst, arith, inl, inr}
-use Rattle.std.proofs.lemmas.Bool.{cases_order}
+use Rattle.std.proofs.Common.{◌≡◌, ◌∙◌, ◌≤◌, ◌<◌, ℕ, List, length, None, Ok, Err, ap, sym, subst, arith, inl, inr}
 use Rattle.std.proofs.lemmas.Option.{same_Some, none-some}
 use Rattle.lra_base.specs.declared.refusals.Cause.{Cause}
 use Rattle.lra_base.specs.declared.refusals.Place.{Place}
 use Rattle.lra_tree.specs.Grammar.{Spells}
 use Rattle.lra_meaning.specs.Refuse.{Refuse}
-use Rattle.lra_program.specs.Program.{Program}
 use Rattle.lra_program.specs.Sites.{sites_of}
-use Rattle.lra_operations.specs.Graph.{Node}
 use Rattle.lra_front.proofs.EachAnswer.{each_answer}
 use Rattle.lra_paths.specs.Paths.{AreFewPaths, HasTooMany}
 use Rattle.lra_paths.proofs.ManyPaths.{not_both}
@@ -17,18 +14,7 @@ use Rattle.lra_certificate.specs.Claims.{IsProgram, program_of, VerifyAnswer, ve
 use Rattle.lra_certificate.specs.Claims.{greatest_certificate}
 use Rattle.lra_certificate.proofs.JudgedBothWays.{judged_exactly}
 use Rattle.lra_certificate.proofs.OneProgram.{accepted_of, as_said}
-
--- the least source from which too many paths lead
-one_source : (P : Program) (g : Node) (p q : ℕ) → HasTooMany P g p → HasTooMany P g q → p ≡ q
-one_source P g p q a b = by (cases_order p q)
-  where
-    beyond : (n m : ℕ) → n < m → m ≤ n → ⊥
-    beyond n m h k = omega (arith, h, k)
-
-    by : (p ≡ q) ⊎ ((p < q) ⊎ (q < p)) → p ≡ q
-    by (inl e) = e
-    by (inr (inl h)) = absurd (beyond _ _ a.many (b.first p h a.goal))
-    by (inr (inr h)) = absurd (beyond _ _ b.many (a.first q h b.goal))
+use Rattle.lra_certified.proofs.OneRefusal.{one_source}
 
 -- answers ------------------------------------------------------------------------
 

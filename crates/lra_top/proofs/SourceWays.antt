@@ -41,7 +41,7 @@ pub ruleset deserving = (deserves_report, deserves_refusal)
 
 -- the status -----------------------------------------------------------------------
 
-report_ends : (unknown : ℕ) → Ends reported (report_status unknown)
+pub report_ends : (unknown : ℕ) → Ends reported (report_status unknown)
 report_ends zero = inl refl
 report_ends (suc n) = inr (inl refl)
 

@@ -3,7 +3,7 @@ use Rattle.std.specs.Prelude.{◌≡◌, ◌⊎◌, ◌<◌, ℕ, List, [], ◌�
 use Rattle.lra_base.specs.Places.{greatest_length}
 use Rattle.lra_words.specs.declared.chosen.Command.{Command}
 use Rattle.lra_words.specs.declared.chosen.Command.TheVariants.{Analyse, Sample, Plain}
-use Rattle.lra_words.specs.declared.chosen.PlainCommand.TheVariants.{Calc, Verify}
+use Rattle.lra_words.specs.declared.chosen.PlainCommand.TheVariants.{Calc, Verify, Certify}
 use Rattle.lra_answers.specs.Statuses.{reported, refused, source_statuses}
 use Rattle.lra_answers.specs.Told.{CallsTold}
 use Rattle.lra_top.specs.SourceAnswer.{DeservesSource, written_report}
@@ -11,6 +11,7 @@ use Rattle.lra_top.specs.SampleAnswer.{DeservesSample}
 use Rattle.lra_top.specs.ScriptAnswer.{DeservesScript, CallsScript, script_statuses}
 use Rattle.lra_certificate.specs.Claims.{greatest_certificate}
 use Rattle.lra_top.specs.CertificateAnswer.{DeservesCertificate, CallsCertificate, certificate_statuses}
+use Rattle.lra_top.specs.CertifyAnswer.{DeservesCertified, CallsCertified}
 use Rattle.lra_answers.specs.declared.status.Status.{Status}
 use Rattle.lra_answers.specs.declared.status.Status.TheVariants.{Usage}
 
@@ -20,6 +21,7 @@ limit_of (Analyse options format) = Some greatest_length
 limit_of (Sample seed size) = None
 limit_of (Plain Calc) = Some greatest_length
 limit_of (Plain Verify) = Some greatest_certificate
+limit_of (Plain Certify) = Some greatest_length
 
 -- the text and the status that a command deserves, by these bytes of the input where it reads it
 abbrev pub DeservesInput : Command → List ℕ → List ℕ → Status → Type 0
@@ -28,6 +30,7 @@ DeservesInput (Analyse options format) bytes text status =
 DeservesInput (Sample seed size) bytes text status = DeservesSample seed size text status
 DeservesInput (Plain Calc) bytes text status = DeservesScript bytes text status
 DeservesInput (Plain Verify) bytes text status = DeservesCertificate bytes text status
+DeservesInput (Plain Certify) bytes text status = DeservesCertified bytes text status
 
 -- the statuses of an answer
 abbrev pub statuses_of : Command → List Status
@@ -35,6 +38,7 @@ statuses_of (Analyse options format) = source_statuses
 statuses_of (Sample seed size) = reported
 statuses_of (Plain Calc) = script_statuses
 statuses_of (Plain Verify) = certificate_statuses
+statuses_of (Plain Certify) = source_statuses
 
 -- those of an answer to these bytes
 abbrev pub CallsInput : Command → List ℕ → List Status → Type 0
@@ -42,6 +46,7 @@ CallsInput (Analyse options format) bytes among = CallsTold reported bytes among
 CallsInput (Sample seed size) bytes among = ⊥
 CallsInput (Plain Calc) bytes among = CallsScript bytes among
 CallsInput (Plain Verify) bytes among = CallsCertificate bytes among
+CallsInput (Plain Certify) bytes among = CallsCertified bytes among
 
 -- more bytes than the command takes
 abbrev pub IsTooLong : Command → List ℕ → Type 0

@@ -1,5 +1,5 @@
 -- What is claimed of the report that a call writes, and of what it says is verified.
-use Rattle.std.specs.Prelude.{◌≡◌, ℕ, suc, ℤ, List, [], length, map, Bool, false, IsTrue, Option, None, Some}
+use Rattle.std.specs.Prelude.{◌≡◌, ◌≤◌, ℕ, suc, ℤ, List, [], length, map, Bool, false, IsTrue, Option, None, Some}
 use Rattle.std.specs.Prelude.{◌∷◌, pos, option_map, slice_get, Contains}
 use Rattle.std.specs.List.{AllByRecursion}
 use Rattle.std.specs.Io.KnownBytes.{Appends}
@@ -30,10 +30,16 @@ use Rattle.lra_sample.specs.Sample.{sample_source}
 use Rattle.lra_sample.specs.Summary.{summary_text}
 use Rattle.lra_source.specs.Answers.{Over, IsAnswered}
 use Rattle.lra_certificate.specs.Certificates.{Listed, Certificate}
-use Rattle.lra_certificate.specs.Claims.{IsCertificate}
+use Rattle.lra_certificate.specs.Claims.{IsCertificate, greatest_certificate}
+use Rattle.lra_certified.specs.Settings.{certify_options}
+use Rattle.lra_certified.specs.Certified.{IsCertificateOf, IsCertificateWith}
 use Rattle.lra_states.specs.Shown.{AreShown}
 use Rattle.lra_words.specs.Chosen.{default_options}
-use Rattle.lra_top.specs.CertificateAnswer.{verified_text}
+use Rattle.lra_report.specs.ReportText.{unknown_count}
+use Rattle.lra_answers.specs.declared.status.Status.{Status}
+use Rattle.lra_answers.specs.declared.status.Status.TheVariants.{Proved}
+use Rattle.lra_top.specs.SourceAnswer.{report_status}
+use Rattle.lra_top.specs.CertificateAnswer.{verified_text, DeservesCertificate}
 use Rattle.lra_top.specs.Run.{IsInput}
 
 -- What `write` makes of a report that the input deserves under the options is written whole, and so it is with the
@@ -147,3 +153,24 @@ pub record WritesVerified (left held_old held_new : Option (List ℕ)) : Type 0 
   pub holds : IsVerifiedInAllRuns (resolve is.program.tree) is.certificate
   pub written : Appends held_old held_new
       (verified_text (length (sites_of (resolve is.program.tree))) (length is.certificate.asserted))
+
+-- The certificate of a report that the input deserves, in which nothing is narrowed, is written whole: it has the rows,
+-- the empty points and the proved assertions of that report, of which all is claimed that is claimed of reports, and the
+-- status is that report's. It is a certificate that meets its program, so it deserves to be verified where it isn't too
+-- long.
+pub record WritesCertificate (left held_old held_new : Option (List ℕ)) (status : Status) : Type 0 where
+  pub bytes : List ℕ
+  pub input : IsInput left bytes
+  pub report : Report
+  pub deserved : IsAnswered certify_options bytes report
+  pub holds : HoldsInAllRuns bytes report
+  pub written_iteration : IsWrittenUnlessFlagged certify_options bytes report
+  pub fits : TellsFits certify_options bytes report
+  pub same_points : TellsSamePoints certify_options bytes report
+  pub counted : status ≡ report_status (unknown_count report.verdicts)
+  pub text : List ℕ
+  pub certificate : IsCertificateOf bytes report text
+  pub meets : IsCertificateWith bytes certificate.states certificate.proved text
+  pub verifies : length text ≤ greatest_certificate → DeservesCertificate text
+      (verified_text (length certificate.states) (length certificate.proved)) Proved
+  pub written : Appends held_old held_new text

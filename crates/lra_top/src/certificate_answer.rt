@@ -29,7 +29,7 @@ fn verified_text(alloc: Global, points: u32, proved: u32) -> Result<String, Allo
 }
 
 /// Adds `refused paths at point N`.
-fn push_paths(text: &mut String, point: u32) -> Result<(), AllocError>
+pub(crate) fn push_paths(text: &mut String, point: usize) -> Result<(), AllocError>
     ensures { OnOk result (string_bytes text.new ≡ string_bytes text.old
         ++ text_line (codes "refused paths at point " ++ decimal point)) }
 {
@@ -51,7 +51,7 @@ fn refused_text(alloc: Global, refusal: VerifyRefusal) -> Result<String, AllocEr
     let mut text = String::new(alloc);
     match refusal {
         VerifyRefusal::Source(refusal) => return refusal_text(alloc, refusal),
-        VerifyRefusal::Paths(point) => push_paths(&mut text, point)?,
+        VerifyRefusal::Paths(point) => push_paths(&mut text, point as usize)?,
         VerifyRefusal::Line(line, fault) => push_fault(&mut text, line, fault.name())?,
     }
     Ok(text)

@@ -4,6 +4,7 @@ ghost use Rattle.lra_words.specs.Chosen.{IsWithinRanges};
 ghost use Rattle.lra_top.specs.Commands.{limit_of, DeservesInput};
 
 use crate::certificate_answer::answer_certificate;
+use crate::certify_answer::answer_certified;
 use crate::sample_answer::answer_sample;
 use crate::script_answer::answer_script;
 use crate::source_answer::answer_source;
@@ -23,6 +24,7 @@ pub fn limit_of(command: Command) -> Option<usize>
         Command::Sample { .. } => None,
         Command::Plain(PlainCommand::Calc) => Some(GREATEST_LENGTH),
         Command::Plain(PlainCommand::Verify) => Some(GREATEST_CERTIFICATE),
+        Command::Plain(PlainCommand::Certify) => Some(GREATEST_LENGTH),
     }
 }
 
@@ -37,5 +39,6 @@ pub fn answer_command(alloc: Global, command: Command, bytes: &[u8]) -> Result<A
         Command::Sample { seed, size } => answer_sample(alloc, seed, size),
         Command::Plain(PlainCommand::Calc) => answer_script(alloc, bytes),
         Command::Plain(PlainCommand::Verify) => answer_certificate(alloc, bytes),
+        Command::Plain(PlainCommand::Certify) => answer_certified(alloc, bytes),
     }
 }

@@ -1,8 +1,9 @@
 //! The one call of the analyser: from the words of a command line and the bytes of its input to the text of a report,
-//! of a sample's summary, of a script's output, of what is verified or of a refusal.
+//! of a sample's summary, of a script's output, of a certificate, of what is verified or of a refusal.
 #![tactic(auto)]
 
 mod certificate_answer;
+mod certify_answer;
 mod commands;
 mod law;
 mod sample_answer;

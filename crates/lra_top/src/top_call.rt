@@ -5,7 +5,7 @@ ghost use Rattle.std.specs.Io.KnownBytes.{Keeps};
 ghost use Rattle.lra_edge.specs.Causes.{AppendsPart, Rose};
 ghost use Rattle.lra_words.specs.declared.chosen.Command.{Command};
 ghost use Rattle.lra_words.specs.declared.chosen.Command.TheVariants.{Analyse, Sample, Plain};
-ghost use Rattle.lra_words.specs.declared.chosen.PlainCommand.TheVariants.{Verify};
+ghost use Rattle.lra_words.specs.declared.chosen.PlainCommand.TheVariants.{Certify, Verify};
 ghost use Rattle.lra_words.specs.declared.chosen.Format.{Format};
 ghost use Rattle.lra_words.specs.Chosen.{Asks, AsksNone, IsUntaken, IsWithinRanges};
 ghost use Rattle.lra_options.specs.declared.options.Options.{Options};
@@ -14,7 +14,7 @@ ghost use Rattle.lra_top.specs.SourceAnswer.{written_report};
 ghost use Rattle.lra_top.specs.Commands.{limit_of, asked_limit, CallsFor};
 ghost use Rattle.lra_top.specs.Run.{usage_text, IsAsked, IsDeserved, Writes, WritesPart, IsRead, IsCounted};
 ghost use Rattle.lra_top.specs.Headline.{WritesReport, HoldsInAllRuns, IsWrittenUnlessFlagged};
-ghost use Rattle.lra_top.specs.Headline.{TellsFits, TellsSamePoints, WritesSummary, WritesVerified};
+ghost use Rattle.lra_top.specs.Headline.{TellsFits, TellsSamePoints, WritesCertificate, WritesSummary, WritesVerified};
 ghost use Rattle.lra_top.specs.Prepared.{IsInputText, IsTaken, IsReadBy, PrepareCause, Ending};
 
 use crate::commands::{answer_command, limit_of};
@@ -150,7 +150,7 @@ fn answer_words<S: Source, K: Sink>(
 }
 
 /// Reads the words, reads the input of their command, if it reads one, and writes what it deserves: a report, a
-/// summary, an output, what is verified, or a refusal.
+/// summary, an output, a certificate, what is verified, or a refusal.
 ///
 /// `words` has the program's name first. The whole text is made before the first byte is written.
 pub fn run<S: Source, K: Sink>(
@@ -197,6 +197,10 @@ pub fn run<S: Source, K: Sink>(
     // runs of its source.
     ensures verified { Asks (map string_bytes words.now) (Plain Verify) → result ≡ Status.Proved →
         WritesVerified (S.left source.old) (K.held sink.old) (K.held sink.new) }
+    // Where they ask to certify and the status is that of a report, the certificate of a report that the input
+    // deserves, which is verified where it isn't too long.
+    ensures certified { Asks (map string_bytes words.now) (Plain Certify) → Ends reported result →
+        WritesCertificate (S.left source.old) (K.held sink.old) (K.held sink.new) result }
 
     // With which statuses what the words ask for may end: those of its answer, by what the input tells of its bytes, or
     // of a fault. (Where a flagged set is widened, both answers to a script may be right: which depends on the set.)

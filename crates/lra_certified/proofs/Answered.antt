@@ -1,0 +1,176 @@
+-- What an iteration over polyhedra that isn't narrowed hands to the lines of a certificate, and what its report and these make.
+use Rattle.std.proofs.Common.{◌≡◌, ◌∙◌, ◌<◌, ◌++◌, ◌^◌, ℕ, ℤ, Bool, false, List, String, length, map, refl, ap, sym, subst, arith}
+use Rattle.std.specs.declared.alloc.Global.{Global}
+use Rattle.std.specs.Prelude.{Option, Some, Result, Ok, Err, IfOk, IfErr, OnOk, slice_get, string_bytes}
+use Rattle.std.specs.List.{All, AllByRecursion}
+use Rattle.std.proofs.lemmas.List.{length-map}
+use Rattle.std.proofs.lemmas.Option.{slice_get_within}
+use Rattle.lra_linear.specs.Polyhedra.{Polyhedron, IsPolyhedron}
+use Rattle.lra_linear.specs.declared.ConKind.{ConKind}
+use Rattle.lra_sys.specs.Listed.{Listed}
+use Rattle.lra_tree.specs.Trees.{FileTree}
+use Rattle.lra_meaning.specs.Resolve.{resolve}
+use Rattle.lra_program.specs.Program.{Program}
+use Rattle.lra_program.specs.Sites.{Site, sites_of}
+use Rattle.lra_operations.specs.Graph.{Node}
+use Rattle.lra_operations.specs.GraphViews.{site_view}
+use Rattle.lra_operations.specs.declared.graph.Site as declared
+use Rattle.lra_flow.specs.Operations.{dropping}
+use Rattle.lra_flow.specs.Plan.{plan_of}
+use Rattle.lra_iter.specs.Solved.{IsSolved}
+use Rattle.lra_iter.proofs.Counting.{iteration_fails_once}
+use Rattle.lra_polydom.specs.Laws.{polyhedron_laws}
+use Rattle.lra_polydom.specs.Meaning.{polyhedron_meaning}
+use Rattle.lra_states.specs.Polyhedra.{shown_polyhedron}
+use Rattle.lra_report.specs.Report.{Report}
+use Rattle.lra_front.specs.Stages.{HasTree, HasGraph, HasConstants}
+use Rattle.lra_paths.specs.Paths.{AreFewPaths, live_of}
+use Rattle.lra_closed.specs.Closed.{AreClosed, AreWide, FailOnce}
+use Rattle.lra_closed.specs.RationalPoints.{rational_points}
+use Rattle.lra_closed.proofs.RationalPoints.{polyhedra_closed}
+use Rattle.lra_certificate.specs.CertificateText.{head_text}
+use Rattle.lra_certificate.specs.Claims.{IsProgram}
+use Rattle.lra_certificate.specs.Judged.{State}
+use Rattle.lra_verify.specs.PointViews.{HaveDims, state_view}
+use Rattle.lra_verify.proofs.VerifySteps.{live_few}
+use Rattle.lra_certify.specs.Certified.{AreListable, IsCertified, IsFailure}
+use Rattle.lra_certify.specs.Staying.{PathsStay}
+use Rattle.lra_certify.specs.declared.failures.CertifyFailure.{CertifyFailure}
+use Rattle.lra_certify.specs.declared.failures.CertifyFailure.TheVariants as of_paths
+use Rattle.lra_source.specs.Answers.{IsAnswered}
+use Rattle.lra_source.specs.Stages.{IsToldOf, TellsSolution}
+use Rattle.lra_source.proofs.Handing.{as_many, of_assertions, value_dims}
+use Rattle.lra_source.proofs.Numbering.{numbered}
+use Rattle.lra_source.proofs.ReportSteps.{few_points}
+use Rattle.lra_source.proofs.StageSteps.{is_answered}
+use Rattle.lra_certified.specs.Settings.{certify_options}
+use Rattle.lra_certified.specs.Taken.{state_by, dims_by, dims_in, proved_in}
+use Rattle.lra_certified.specs.Certified.{IsHanded, IsCertificateOf, IsRefusedSo, IsCounted}
+use Rattle.lra_certified.specs.Refusals.{IfRefusal, error_by}
+use Rattle.lra_certified.proofs.ClosedPaths.{at_below, paths_stay}
+use Rattle.lra_certified.proofs.Listing.{listable, shows_rows}
+use Rattle.lra_certified.proofs.TakenSteps.{taken_dims}
+use Rattle.lra_certified.proofs.Written.{stops_there, counted}
+
+-- ---- the program
+-- few variables live at each point
+pub live_small : (t : FileTree) (g : Node) (sites : List declared.Site) → HasGraph t g (map site_view sites) → All (λ s. s.live < 2 ^ 31) sites
+live_small t g sites has = live_few sites (sites_of (resolve t)) has.points has.few
+
+pub many_small : (t : FileTree) (g : Node) (sites : List declared.Site) → HasGraph t g (map site_view sites) → length sites < 2 ^ 31
+many_small t g sites has =
+    let few = few_points t g (map site_view sites) has in
+    let same = length-map sites site_view in
+    omega (arith, few, same)
+
+pub sites_are : (t : FileTree) (g : Node) (sites : List Site) (P : Program) → HasGraph t g sites → P ≡ resolve t → sites ≡ sites_of P
+sites_are t g sites P has is = has.points ∙ ap sites_of (sym is)
+
+-- ---- what the iteration hands over
+module _ (t : FileTree) (g : Node) (sites : List Site) (has : HasGraph t g sites) (constants : List ℤ) (values : List Polyhedron)
+    (verdicts : List (ℕ × Bool)) (flagged : Option ℕ)
+    (solved : IsSolved polyhedron_meaning (plan_of certify_options constants) (resolve t) g values verdicts flagged) where
+  many : length values ≡ length (sites_of (resolve t))
+  many = as_many polyhedron_meaning (plan_of certify_options constants) (resolve t) g solved.result values verdicts flagged has.is_graph solved.derived
+      solved.solves
+
+  wide : AreWide polyhedron_meaning (resolve t) values
+  wide p v there s site =
+      value_dims polyhedron_meaning (plan_of certify_options constants) (resolve t) g solved.result values verdicts flagged has.is_graph solved.derived
+      solved.solves polyhedron_laws p v s there site
+
+  once : FailOnce solved.result
+  once = iteration_fails_once (dropping polyhedron_meaning) (plan_of certify_options constants) (resolve t) g solved.result
+      (numbered (resolve t) g has.is_graph) solved.derived
+
+  closed : AreClosed rational_points (resolve t) g values verdicts
+  closed = polyhedra_closed (plan_of certify_options constants) (resolve t) g solved.result values verdicts flagged refl solved.derived solved.solves wide
+      once
+
+  as_long : (states : List (Option (Listed ConKind))) → map state_view states ≡ map state_by values → length states ≡ length values
+  as_long states same = sym (length-map states state_view) ∙ ap length same ∙ length-map values state_by
+
+  pub states_many : (states : List (Option (Listed ConKind))) → map state_view states ≡ map state_by values → length states ≡ length sites
+  states_many states same = as_long states same ∙ many ∙ sym (ap length has.points)
+
+  pub listed : AreListable (sites_of (resolve t)) (proved_in verdicts)
+  listed = listable (sites_of (resolve t)) verdicts solved.solves.in_order
+      (of_assertions polyhedron_meaning (plan_of certify_options constants) (resolve t) g solved.result values verdicts flagged has.is_graph solved.derived
+      solved.solves)
+
+  pub stay : AllByRecursion IsPolyhedron values → PathsStay (resolve t) g (map state_by values) (proved_in verdicts)
+  stay canonical = paths_stay (resolve t) g values verdicts closed wide many canonical
+
+  pub have_dims : (states : List (Option (Listed ConKind))) → map dims_in states ≡ map dims_by values → HaveDims sites states
+  have_dims states same q rows there =
+      let low = slice_get_within states q (Some rows) there in
+      let long : length states ≡ length values = sym (length-map states dims_in) ∙ ap length same ∙ length-map values dims_by in
+      let (v, value) = at_below values q (omega (arith, low, long)) in
+      let points = ap length has.points in
+      let (s, site) = at_below sites q (omega (arith, low, long, many, points)) in
+      taken_dims states values q rows v same there value
+      ∙ wide q v value s (ap (λ (l : List Site). slice_get l q) (sym has.points) ∙ site)
+      ∙ sym (ap live_of site)
+
+-- what is told of lines by states and assertions that are the same, of a program that is the same
+module _ (P Q : Program) (g : Node) (is : P ≡ Q) where
+  pub few_so : {X E : Type 0} (r : Result X E) → OnOk r (AreFewPaths P g) → OnOk r (AreFewPaths Q g)
+  few_so (Ok x) h = subst (λ (p : Program). AreFewPaths p g) is h
+  few_so (Err e) h = tt
+
+module _ (P Q : Program) (g : Node) (seen states : List State) (listed_now proved : List ℕ) (is : P ≡ Q) (of_states : seen ≡ states)
+    (of_proved : listed_now ≡ proved) where
+  same_lines : (Said : Program → List State → List ℕ → Type 0) → Said P seen listed_now → Said Q states proved
+  same_lines Said h =
+      subst (λ (p : Program). Said p states proved) is
+      (subst (λ (ss : List State). Said P ss proved) of_states (subst (λ (qs : List ℕ). Said P seen qs) of_proved h))
+
+  pub asked_so : (Said : Program → List State → List ℕ → Type 0) → Said Q states proved → Said P seen listed_now
+  asked_so Said h =
+      subst (λ (p : Program). Said p seen listed_now) (sym is)
+      (subst (λ (ss : List State). Said Q ss listed_now) (sym of_states) (subst (λ (qs : List ℕ). Said Q states qs) (sym of_proved) h))
+
+  pub written_so : {E : Type 0} (r : Result (String Global) E) → IfOk r (λ text. IsCertified P g seen listed_now (string_bytes text))
+      → IfOk r (λ text. IsCertified Q g states proved (string_bytes text))
+  written_so (Ok text) h = same_lines (λ p ss qs. IsCertified p g ss qs (string_bytes text)) h
+  written_so (Err e) h = tt
+
+  pub failed_so : {X : Type 0} (r : Result X CertifyFailure) → IfErr r (IsFailure P g seen listed_now) → IfErr r (IsFailure Q g states proved)
+  failed_so (Ok x) h = tt
+  failed_so (Err e) h = same_lines (λ p ss qs. IsFailure p g ss qs e) h
+
+-- ---- answers
+module _ (source : List ℕ) (t : FileTree) (g : Node) (sites : List Site) (read : HasTree source t) (has : HasGraph t g sites) where
+  abbrev program : IsProgram source
+  program = record { tree = t; read = read; operations = g; sites = sites; graph = has }
+
+  pub answered : (constants : List ℤ) (r : Report) → HasConstants source constants → IsToldOf polyhedron_meaning shown_polyhedron certify_options constants t r
+      → IsAnswered certify_options source r
+  answered constants r own told =
+      let a = is_answered polyhedron_meaning polyhedron_laws shown_polyhedron certify_options constants source t r read own told (omega arith) in
+      record { report = a.report; constants = a.constants; own = a.own; analysed = a.analysed; canonical = a.canonical; readable = a.readable }
+
+  module _ (values : List Polyhedron) (verdicts : List (ℕ × Bool)) (r : Report) (tells : TellsSolution shown_polyhedron false values verdicts r) where
+    abbrev handed : AreFewPaths (resolve t) g → IsHanded source r (map state_by values) (proved_in verdicts)
+    handed few = record { program = program; few = few; shows = shows_rows values verdicts r tells }
+
+    pub written : (body bytes : List ℕ) → AreFewPaths (resolve t) g → IsCertified (resolve t) g (map state_by values) (proved_in verdicts) body
+        → bytes ≡ head_text source ++ body → IsCertificateOf source r bytes
+    written body bytes few certified text =
+        record { states = map state_by values; proved = proved_in verdicts; handed = handed few; body = body; certified = certified; text = text }
+
+    pub refused : (e : CertifyFailure) → IsAnswered certify_options source r → IsFailure (resolve t) g (map state_by values) (proved_in verdicts) e
+        → IfRefusal (IsRefusedSo source) (error_by e)
+    refused (of_paths.TooMany p) answer many = (program, many)
+    refused (of_paths.Strained at) answer (few, stops) = (
+      r,
+      record { answered = answer; states = map state_by values; proved = proved_in verdicts; handed = handed few; stops = stops },
+    )
+    refused of_paths.Memory answer none = tt
+
+  pub counts : (states : List _) (proved : List ℕ) (e : CertifyFailure) → AreListable (sites_of (resolve t)) proved → IsFailure (resolve t) g states proved e
+      → IfRefusal IsCounted (error_by e)
+  counts states proved (of_paths.TooMany p) listable many = tt
+  counts states proved (of_paths.Strained at) listable (few, stops) =
+      counted at (length (sites_of (resolve t))) (let n = few_points t g sites has in let points = ap length has.points in omega (arith, n, points)) (stops_there (resolve t) g states proved at listable stops)
+  counts states proved of_paths.Memory listable none = tt

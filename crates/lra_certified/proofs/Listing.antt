@@ -1,0 +1,116 @@
+-- Verdicts as they are listed, and what a report shows of values and verdicts.
+use Rattle.std.proofs.Common.{◌≡◌, ◌∙◌, ◌<◌, ℕ, suc, Bool, true, false, List, [], ◌∷◌, cond, map, refl, ap, ap₂, sym, subst, arith}
+use Rattle.std.specs.Prelude.{Option, Some, option_map, slice_get, Contains}
+use Rattle.std.specs.List.{filter}
+use Rattle.std.proofs.lemmas.List.{append-nil}
+use Rattle.std.proofs.lemmas.Option.{slice_get-get_or}
+use Rattle.std.proofs.lemmas.Simd.{map-map}
+use Rattle.lra_linear.specs.Descriptions.{Given}
+use Rattle.lra_linear.specs.Polyhedra.{Polyhedron}
+use Rattle.lra_linear.proofs.Membership.{map_from, filter_from}
+use Rattle.lra_program.specs.Sites.{Site}
+use Rattle.lra_show.specs.Part.{Generator}
+use Rattle.lra_show.specs.Rows.{Row}
+use Rattle.lra_show.specs.ShownDescriptions.{shown_constraint, shown_generator}
+use Rattle.lra_report.specs.declared.verdict_kinds.VerdictKind.{VerdictKind}
+use Rattle.lra_report.specs.declared.verdict_kinds.VerdictKind.TheVariants.{Assertion}
+use Rattle.lra_report.specs.Report.{PointReport, Verdict, Report}
+use Rattle.lra_listing.specs.Given.{IsAssertion, told, told_of, told_all}
+use Rattle.lra_states.specs.Polyhedra.{part_if_any, shown_polyhedron}
+use Rattle.lra_source.specs.Stages.{TellsSolution}
+use Rattle.lra_certify.specs.Certified.{AscendStrictly, AreListable}
+use Rattle.lra_certified.specs.Taken.{rows_if_any, state_by, proved_in}
+use Rattle.lra_certified.specs.Certified.{rows_at, shown_rows, proved_numbers, ShowsRows}
+
+-- ---- verdicts
+abbrev InOrder : List (ℕ × Bool) → Type 0
+InOrder vs = (i j : ℕ) (a b : ℕ × Bool) → i < j → slice_get vs i ≡ Some a → slice_get vs j ≡ Some b → a.0 < b.0
+
+abbrev holds_there : ℕ × Bool → Bool
+holds_there v = v.1
+
+-- the proved ones among them
+pub proved_there : (verdicts : List (ℕ × Bool)) (q : ℕ) → Contains (proved_in verdicts) q → Contains verdicts (q, true)
+proved_there verdicts q k =
+    let (v, among, number) = map_from (λ (v : ℕ × Bool). v.0) (filter holds_there verdicts) q k in
+    let (there, holds) = filter_from holds_there verdicts v among in
+    subst (λ (n : ℕ). Contains verdicts (n, true)) number (subst (λ (b : Bool). Contains verdicts (v.0, b)) holds there)
+
+order_behind : (v : ℕ × Bool) (vs : List (ℕ × Bool)) → InOrder (v ∷ vs) → InOrder vs
+order_behind v vs order = λ i j a b low first second. order (suc i) (suc j) a b (omega (arith, low)) first second
+
+-- the first is below all others
+least : (v : ℕ × Bool) (vs : List (ℕ × Bool)) → InOrder (v ∷ vs) → (w : ℕ × Bool) → Contains vs w → v.0 < w.0
+least v vs order w (k, low, is) =
+    order 0 (suc k) v w (omega arith) refl (slice_get-get_or vs k w low ∙ ap (λ (x : ℕ × Bool). Some x) is)
+
+begins : (q : ℕ) (ps : List ℕ) → ((p : ℕ) → Contains ps p → q < p) → AscendStrictly ps → AscendStrictly (q ∷ ps)
+begins q [] low ascend = tt
+begins q (p ∷ ps) low ascend = (low p (0, omega arith, refl), ascend)
+
+ascending : (vs : List (ℕ × Bool)) → InOrder vs → AscendStrictly (proved_in vs)
+ascending [] order = tt
+ascending (v ∷ vs) order = by v.1 refl (ascending vs (order_behind v vs order))
+  where
+    Kept : Bool → Type 0
+    Kept b = AscendStrictly (map (λ (x : ℕ × Bool). x.0) (cond b (v ∷ filter holds_there vs) (filter holds_there vs)))
+
+    by : (b : Bool) → v.1 ≡ b → AscendStrictly (proved_in vs) → Kept v.1
+    by true e rest = subst Kept (sym e) (begins v.0 (proved_in vs) (λ p k. least v vs order (p, true) (proved_there vs p k)) rest)
+    by false e rest = subst Kept (sym e) rest
+
+-- they may be listed
+pub listable : (sites : List Site) (verdicts : List (ℕ × Bool)) → InOrder verdicts → ((q : ℕ) (b : Bool) → Contains verdicts (q, b) → IsAssertion sites q)
+    → AreListable sites (proved_in verdicts)
+listable sites verdicts order asserts =
+    record { ascend = ascending verdicts order; assert = λ q k. asserts q true (proved_there verdicts q k) }
+
+-- ---- what a report shows
+-- of the values
+shown_one : (gs rows : List Given) (generators : List Generator)
+    → rows_at (part_if_any gs (record { rows = map shown_constraint rows; generators = generators })) ≡ option_map (map shown_constraint) (rows_if_any gs rows)
+shown_one [] rows generators = refl
+shown_one (g ∷ gs) rows generators = refl
+
+shown_all : (values : List Polyhedron) → map rows_at (map shown_polyhedron values) ≡ map shown_rows (map state_by values)
+shown_all [] = refl
+shown_all (p ∷ ps) = ap₂ (λ (x : Option (List Row)) (xs : List (Option (List Row))). x ∷ xs) (shown_one p.generators p.rows (map shown_generator p.generators)) (shown_all ps)
+
+-- of the verdicts
+abbrev told_there : VerdictKind × ℕ × Bool → Bool
+told_there v = v.2
+
+abbrev verdict_there : Verdict → Bool
+verdict_there v = v.holds
+
+abbrev numbers_in : List (VerdictKind × ℕ × Bool) → List ℕ
+numbers_in vs = map (λ (v : VerdictKind × ℕ × Bool). v.1) (filter told_there vs)
+
+numbers_told : (vs : List Verdict) → numbers_in (map told_of vs) ≡ proved_numbers vs
+numbers_told [] = refl
+numbers_told (v ∷ vs) = by v.holds (numbers_told vs)
+  where
+    by : (b : Bool) → numbers_in (map told_of vs) ≡ proved_numbers vs
+        → map (λ (x : VerdictKind × ℕ × Bool). x.1) (cond b (told_of v ∷ filter told_there (map told_of vs)) (filter told_there (map told_of vs)))
+        ≡ map (λ (x : Verdict). x.number) (cond b (v ∷ filter verdict_there vs) (filter verdict_there vs))
+    by true e = ap (λ (ns : List ℕ). v.number ∷ ns) e
+    by false e = e
+
+numbers_proved : (vs : List (ℕ × Bool)) → numbers_in (map (told Assertion) vs) ≡ map suc (proved_in vs)
+numbers_proved [] = refl
+numbers_proved (v ∷ vs) = by v.1 (numbers_proved vs)
+  where
+    by : (b : Bool) → numbers_in (map (told Assertion) vs) ≡ map suc (proved_in vs)
+        → map (λ (x : VerdictKind × ℕ × Bool). x.1)
+        (cond b (told Assertion v ∷ filter told_there (map (told Assertion) vs)) (filter told_there (map (told Assertion) vs)))
+        ≡ map suc (map (λ (x : ℕ × Bool). x.0) (cond b (v ∷ filter holds_there vs) (filter holds_there vs)))
+    by true e = ap (λ (ns : List ℕ). suc v.0 ∷ ns) e
+    by false e = e
+
+pub shows_rows : (values : List Polyhedron) (verdicts : List (ℕ × Bool)) (r : Report) → TellsSolution shown_polyhedron false values verdicts r
+    → ShowsRows r (map state_by values) (proved_in verdicts)
+shows_rows values verdicts r tells = record {
+  rows_are = sym (map-map rows_at (λ (p : PointReport). p.state) r.points) ∙ ap (map rows_at) tells.states ∙ shown_all values;
+  proved_are = sym (numbers_told r.verdicts) ∙ ap numbers_in (tells.told ∙ ap (λ (f : List (ℕ × Bool)). told_all verdicts f) (tells.silent refl) ∙
+      append-nil (map (told Assertion) verdicts)) ∙ numbers_proved verdicts;
+}

@@ -1,0 +1,98 @@
+-- What a source deserves that is to be certified: a certificate with the rows, the empty points and the proved
+-- assertions of its report; or why it has none.
+use Rattle.std.specs.Prelude.{◌≡◌, ◌<◌, ◌^◌, ℕ, suc, ⊤, List, [], ◌∷◌, ◌++◌, map, Option, None, Some, option_map}
+use Rattle.std.specs.List.{filter}
+use Rattle.lra_tree.specs.Grammar.{Spells}
+use Rattle.lra_meaning.specs.Refuse.{Refuse}
+use Rattle.lra_show.specs.Rows.{Row}
+use Rattle.lra_show.specs.ShownDescriptions.{shown_constraint}
+use Rattle.lra_report.specs.Report.{Invariant, PointReport, Verdict, Report}
+use Rattle.lra_paths.specs.Paths.{AreFewPaths, HasTooMany}
+use Rattle.lra_certificate.specs.Judged.{State}
+use Rattle.lra_certificate.specs.CertificateText.{head_text}
+use Rattle.lra_certificate.specs.Certificates.{Listed}
+use Rattle.lra_certificate.specs.Claims.{IsProgram, program_of, IsCertificate}
+use Rattle.lra_certify.specs.declared.failures.StrainedAt.{StrainedAt}
+use Rattle.lra_certify.specs.declared.failures.StrainedAt.TheVariants.{Edge, Assertion}
+use Rattle.lra_certify.specs.Certified.{IsCertified, StopsAt}
+use Rattle.lra_source.specs.Answers.{IsAnswered}
+use Rattle.lra_certified.specs.declared.refusals.CertifyRefusal.{CertifyRefusal}
+use Rattle.lra_certified.specs.declared.refusals.CertifyRefusal.TheVariants.{Source, Paths, Strained}
+use Rattle.lra_certified.specs.Settings.{certify_options}
+
+-- what a report shows ----------------------------------------------------------------------------------------------
+
+-- the rows of a point; none where no run comes there
+abbrev pub rows_at : Invariant → Option (List Row)
+rows_at [] = None
+rows_at (part ∷ parts) = Some part.rows
+
+abbrev pub shown_rows : State → Option (List Row)
+shown_rows state = option_map (map shown_constraint) state
+
+-- the numbers of the points of what is proved
+abbrev pub proved_numbers : List Verdict → List ℕ
+proved_numbers verdicts = map (λ (v : Verdict). v.number) (filter (λ (v : Verdict). v.holds) verdicts)
+
+-- the report shows these rows at its points, and as proved the assertions at these points, which it numbers from 1
+pub record ShowsRows (r : Report) (states : List State) (proved : List ℕ) : Type 0 where
+  pub rows_are : map (λ (p : PointReport). rows_at p.state) r.points ≡ map shown_rows states
+  pub proved_are : proved_numbers r.verdicts ≡ map suc proved
+
+-- certificates -----------------------------------------------------------------------------------------------------
+
+-- what a report of an accepted source hands to its certificate
+pub record IsHanded (source : List ℕ) (r : Report) (states : List State) (proved : List ℕ) : Type 0 where
+  pub program : IsProgram source
+  pub few : AreFewPaths (program_of program) program.operations
+  pub shows : ShowsRows r states proved
+
+-- the text of a certificate of the source that has the rows, the empty points and the proved assertions of this report,
+-- and the first multipliers in each line
+pub record IsCertificateOf (source : List ℕ) (r : Report) (bytes : List ℕ) : Type 0 where
+  pub states : List State
+  pub proved : List ℕ
+  pub handed : IsHanded source r states proved
+  pub body : List ℕ
+  pub certified : IsCertified (program_of handed.program) handed.program.operations states proved body
+  pub text : bytes ≡ head_text source ++ body
+
+-- so it is a certificate of that source, which meets its program, with these rows and listed assertions
+pub record IsCertificateWith (source : List ℕ) (states : List State) (proved bytes : List ℕ) : Type 0 where
+  pub is : IsCertificate bytes
+  pub source_is : is.certificate.source ≡ source
+  pub states_are : is.certificate.states ≡ states
+  pub listed_are : map (λ (one : Listed). one.number) is.certificate.asserted ≡ proved
+
+abbrev pub CertifiedAreCertificates : Type 0
+CertifiedAreCertificates = (source : List ℕ) (r : Report) (bytes : List ℕ) → (c : IsCertificateOf source r bytes) →
+    IsCertificateWith source c.states c.proved bytes
+
+-- refusals ---------------------------------------------------------------------------------------------------------
+
+-- with the rows and the proved assertions of this report a path strains
+pub record IsStrainedAt (source : List ℕ) (r : Report) (at : StrainedAt) : Type 0 where
+  pub answered : IsAnswered certify_options source r
+  pub states : List State
+  pub proved : List ℕ
+  pub handed : IsHanded source r states proved
+  pub stops : StopsAt (program_of handed.program) handed.program.operations states proved at
+
+-- its own refusal; too many paths from the source of this number; or strain with a report that it deserves
+abbrev pub IsRefusedSo : List ℕ → CertifyRefusal → Type 0
+IsRefusedSo source (Source r) = Refuse Spells source r.cause r.place
+IsRefusedSo source (Paths p) = (x : IsProgram source) × HasTooMany (program_of x) x.operations p
+IsRefusedSo source (Strained at) = (r : Report) × IsStrainedAt source r at
+
+-- where too many paths lead from a source, that is the one refusal of it, and it has no certificate
+abbrev pub ManyAreRefused : Type 0
+ManyAreRefused = (source : List ℕ) (x : IsProgram source) (p : ℕ) → HasTooMany (program_of x) x.operations p →
+    ((r : Report) (bytes : List ℕ) → IsCertificateOf source r bytes → ⊥)
+    × ((refusal : CertifyRefusal) → IsRefusedSo source refusal → refusal ≡ Paths p)
+
+-- a path that strains leads to a point that a number of 31 bits counts
+abbrev pub IsCounted : CertifyRefusal → Type 0
+IsCounted (Source r) = ⊤
+IsCounted (Paths p) = ⊤
+IsCounted (Strained (Edge p q)) = q < 2 ^ 31
+IsCounted (Strained (Assertion q)) = q < 2 ^ 31

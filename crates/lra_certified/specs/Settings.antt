@@ -1,0 +1,16 @@
+-- How a source is analysed that is to be certified.
+use Rattle.std.specs.Prelude.{true, false}
+use Rattle.lra_options.specs.declared.options.Domain.TheVariants.{Poly}
+use Rattle.lra_options.specs.declared.options.Options.{Options}
+
+-- over polyhedra, one for each point; heads aren't narrowed, so what is found is closed along paths
+abbrev pub certify_options : Options
+certify_options = record {
+  domain = Poly;
+  parts = 1;
+  delay = 1;
+  narrow = 0;
+  limited = true;
+  thresholds = false;
+  fits = false;
+}

@@ -1,0 +1,27 @@
+-- What is taken of an analysis into a certificate: the rows of each value, none where it has no point, and the points of
+-- the assertions that are proved.
+use Rattle.std.specs.Prelude.{ℕ, Bool, List, [], ◌∷◌, map, Option, None, Some, option_map}
+use Rattle.std.specs.List.{filter}
+use Rattle.lra_linear.specs.Descriptions.{Given}
+use Rattle.lra_linear.specs.Polyhedra.{Polyhedron}
+use Rattle.lra_linear.specs.declared.ConKind.{ConKind}
+use Rattle.lra_sys.specs.Listed.{Listed}
+use Rattle.lra_certificate.specs.Judged.{State}
+
+-- the rows where there is a generator
+abbrev pub rows_if_any : List Given → List Given → State
+rows_if_any [] rows = None
+rows_if_any (g ∷ gs) rows = Some rows
+
+abbrev pub state_by : Polyhedron → State
+state_by p = rows_if_any p.generators p.rows
+
+-- how many dimensions they have
+abbrev pub dims_by : Polyhedron → Option ℕ
+dims_by p = option_map (λ rows. p.dims) (state_by p)
+
+abbrev pub dims_in : Option (Listed ConKind) → Option ℕ
+dims_in state = option_map (λ rows. rows.dims) state
+
+abbrev pub proved_in : List (ℕ × Bool) → List ℕ
+proved_in verdicts = map (λ v. v.0) (filter (λ v. v.1) verdicts)

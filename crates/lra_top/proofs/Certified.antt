@@ -1,0 +1,83 @@
+-- From what a source deserves that is to be certified to what is claimed of its certificate.
+use Rattle.std.proofs.Common.{◌≡◌, ◌∙◌, ◌≤◌, ℕ, suc, List, [], ◌∷◌, length, refl, ap, sym, inl, inr}
+use Rattle.std.specs.Prelude.{Option}
+use Rattle.std.specs.Io.KnownBytes.{Appends}
+use Rattle.std.proofs.lemmas.List.{length-map}
+use Rattle.lra_program.specs.Sites.{Site, sites_of}
+use Rattle.lra_certificate.specs.Certificates.{Listed, AreStates}
+use Rattle.lra_certificate.specs.Claims.{program_of, verified, greatest_certificate}
+use Rattle.lra_certificate.specs.Judged.{State}
+use Rattle.lra_certified.specs.Settings.{certify_options}
+use Rattle.lra_certified.specs.Certified.{IsCertificateWith}
+use Rattle.lra_certified.proofs.Written.{certificates}
+use Rattle.lra_words.specs.Chosen.{Asks}
+use Rattle.lra_words.specs.declared.chosen.Command.TheVariants.{Plain}
+use Rattle.lra_words.specs.declared.chosen.PlainCommand.TheVariants.{Certify}
+use Rattle.lra_answers.specs.Statuses.{Ends, reported}
+use Rattle.lra_top.specs.CertificateAnswer.{verified_text, DeservesCertificate}
+use Rattle.lra_top.specs.CertifyAnswer.{IsCertified, DeservesCertified}
+use Rattle.lra_top.specs.Run.{IsInput, Writes}
+use Rattle.lra_top.specs.Headline.{WritesCertificate}
+use Rattle.lra_top.proofs.Headline.{holds, is_written, same_points, tells_fits}
+use Rattle.lra_top.proofs.Ways.{asked_input}
+use Rattle.lra_answers.specs.declared.status.Status.{Status}
+use Rattle.lra_answers.specs.declared.status.Status.TheVariants.{Proved, Refused}
+
+-- a state for each point
+states_many : (sites : List Site) (states : List State) → AreStates sites states → length states ≡ length sites
+states_many [] [] are = refl
+states_many [] (s ∷ ss) are = absurd are
+states_many (site ∷ sites) [] are = absurd are
+states_many (site ∷ sites) (s ∷ ss) are = ap suc (states_many sites ss are.1)
+
+-- it is verified, where it isn't too long
+accepted : (source : List ℕ) (states : List State) (proved text : List ℕ) → IsCertificateWith source states proved text → length text ≤ greatest_certificate
+    → DeservesCertificate text (verified_text (length states) (length proved)) Proved
+accepted source states proved text c short = record {
+  answer = verified (length states) (length proved);
+  deserved = record {
+    short = short;
+    is = c.is;
+    points_are = ap length (sym c.states_are) ∙ states_many (sites_of (program_of c.is.program)) c.is.certificate.states c.is.meets.states;
+    proved_are = ap length (sym c.listed_are) ∙ length-map c.is.certificate.asserted (λ (one : Listed). one.number);
+  };
+  written = refl;
+  ends = refl;
+}
+
+of_certified : (left held_old held_new : Option (List ℕ)) (bytes text : List ℕ) (status : Status) → IsInput left bytes → IsCertified bytes text status
+    → Appends held_old held_new text → WritesCertificate left held_old held_new status
+of_certified left held_old held_new bytes text status input d written =
+    let meets = certificates bytes d.report text d.certificate in
+    record {
+      bytes = bytes;
+      input = input;
+      report = d.report;
+      deserved = d.answered;
+      holds = holds certify_options bytes d.report d.answered;
+      written_iteration = is_written certify_options bytes d.report d.answered;
+      fits = tells_fits certify_options bytes d.report d.answered;
+      same_points = same_points certify_options bytes d.report d.answered;
+      counted = d.counted;
+      text = text;
+      certificate = d.certificate;
+      meets = meets;
+      verifies = accepted bytes d.certificate.states d.certificate.proved text meets;
+      written = written;
+    }
+
+not_refused : (status : Status) → status ≡ Refused → Ends reported status → ⊥
+not_refused status is (inl proved) = cc
+not_refused status is (inr (inl unknown)) = cc
+not_refused status is (inr (inr none)) = none
+
+of_answer : (left held_old held_new : Option (List ℕ)) (bytes text : List ℕ) (status : Status) → IsInput left bytes → Ends reported status
+    → DeservesCertified bytes text status → Appends held_old held_new text → WritesCertificate left held_old held_new status
+of_answer left held_old held_new bytes text status input ends (inl (d, is)) written = absurd (not_refused status is ends)
+of_answer left held_old held_new bytes text status input ends (inr d) written = of_certified left held_old held_new bytes text status input d written
+
+pub writes_certificate : (words : List (List ℕ)) (left held_old held_new : Option (List ℕ)) (status : Status) → Asks words (Plain Certify)
+    → Ends reported status → Writes words left held_old held_new status → WritesCertificate left held_old held_new status
+writes_certificate words left held_old held_new status asks ends w =
+    of_answer left held_old held_new w.deserved.bytes w.text status w.deserved.input ends
+    (asked_input words left w.text status (Plain Certify) asks w.deserved) w.written
