@@ -1,10 +1,11 @@
 #!/usr/bin/env python3
 """Certificates: every front of one, inputs at the limit and past it, long lines and many of them, conditions with as many sides as are
-taken and with one more, numbers at the ends of their range.
+taken and with one more, numbers at the ends of their range; and certificates that are written: wide, deep, with many points.
 
     hostile/certificates.py [PROGRAM]
 """
-from trial import case, ended
+from levels import IF, SINGLE, stacked
+from trial import answer, case, ended, tell
 
 MOST = 2 ** 24
 GREATEST = 2 ** 127 - 1
@@ -21,6 +22,19 @@ def verified(name, text, points, proved, limit=1.0):
 
 def refused(name, text, told, limit=1.0):
     case(name, 'verify', text, 2, whole=f'refused {told}\n', limit=limit)
+
+
+def certified(name, source, points, limit=1.0):
+    """A certificate is written, and verified."""
+    ended_with, text, seconds = answer('certify', source)
+    agrees = ended_with == 0 and text.startswith(headed(source)) and text.endswith('\nend\n')
+    tell(f'{name} certified ({seconds:.2f} s)', agrees and seconds <= limit, (ended_with, text[:100], f'limit {limit} s'))
+    verified(name, text, points, text.count('\nassert '), limit)
+
+
+def uncertified(name, source, told, limit=1.0):
+    """None is written."""
+    case(f'{name} uncertified', 'certify', source, 2, whole=f'refused {told}\n', limit=limit)
 
 
 def assumed(condition):
@@ -82,5 +96,28 @@ for count, condition in ((1024, '||'.join(f'a<{k}' for k in range(1024))), (1024
 for condition in ('||'.join(f'a<{k}' for k in range(1025)), '&&'.join(f'a!={k}' for k in range(11)),
                   '&&'.join(f'a!={k}' for k in range(5000)), '&&'.join(['(a<0||a>9)'] * 5000)):
     refused(f'too many paths of {condition[:20]}..', assumed(condition), 'paths at point 2')
+
+# certificates written: wide, deep, with many points, with as many paths as are taken, and more
+NAMES = [f'v{k}' for k in range(32)]
+certified('32 variables of any value', f'int main(void){{ long {",".join(NAMES)}; }}', 33)
+certified('32 variables set to numbers', f'int main(void){{ long {",".join(f"{name}=1" for name in NAMES)}; }}', 33)
+certified('12 ints of any value', f'int main(void){{ int {",".join(NAMES[:12])}; }}', 13)
+certified('2,048 points', f'int main(void){{ {";" * 2047} }}', 2048)
+for word, level in SINGLE.items():
+    if level[1] == 1:
+        certified(f'32 functions of 62 {word}', stacked(level, 62, 32), 2048, limit=5.0)
+certified('32 functions of 60 if, each with a variable', stacked(IF, 60, 32, begins='long v; '), 2016, limit=2.0)
+for count, condition in ((50, '||'.join(f'a<{k}' for k in range(50))), (1024, '&&'.join(f'a!={k}' for k in range(10))),
+                         (1024, '&&'.join(['(a<0||a>9)'] * 10)), (1, '!(' * 30 + 'a<0' + ')' * 30)):
+    certified(f'{count} paths of {condition[:20]}..', f'int main(void){{ long a; assume({condition}); }}', 3)
+for condition in ('||'.join(f'a<{k}' for k in range(1025)), '&&'.join(f'a!={k}' for k in range(11)), '||'.join(['a'] * 20000)):
+    uncertified(f'{condition[:20]}..', f'int main(void){{ long a; assume({condition}); }}', 'paths at point 2')
+labels = ''.join(f'case {number}:' for number in range(6000))
+uncertified('6,000 labels', f'int main(void){{ long x; switch(x){{ {labels} x=1; }} }}', 'paths at point 2')
+uncertified('a source of 16 MB', ' ' * MOST, '1 TooLong at 1:65537')
+uncertified('large numbers in rows that are combined', 'int main(void){ long x=input(), y=input(); assume(x+y==-3); '
+            'assert(-36028797018963977*x-1099511627859*y==-1099511627827); }', 'strained at edge 4 5')
+certified('numbers at the ends of 64 bits', 'int main(void){ long x, y; assume(9223372036854775807*x>=9223372036854775805*y && '
+          '9223372036854775803*y>=9*x); }', 4)
 
 ended()

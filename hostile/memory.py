@@ -55,6 +55,10 @@ RUNS = [
     ('verify', 'certificate bytes 48\nint main(void){ long x; x = 3; assert(x >= 3); }\npoint 1\npoint 2\npoint 3\n'
      '  = -3 1\npoint 4\n  = -3 1\nedge 0 1\nedge 1 2\nedge 2 3\nby 1 0\nby 1 0\nedge 3 4\nby 1 0 1 0\nby 1 0 -1 0\n'
      'assert 3\ndead 1 0 1 1\nend\n', 0, ['verified points 4 proved 1\n']),
+    ('certify', 'int main(void){ long x; x = 3; assert(x >= 3); }', 0, [
+        'certificate bytes 48\nint main(void){ long x; x = 3; assert(x >= 3); }\npoint 1\npoint 2\npoint 3\n  = -3 1\n'
+        'point 4\n  = -3 1\nedge 0 1\nedge 1 2\nedge 2 3\nby 1 0\nby 1 0\nedge 3 4\nby 1 0 1 0\nby 1 0 -1 0\n'
+        'assert 3\ndead 1 0 1 1\nend\n']),
     ('analyse --domain cube', '', 3, ['refused usage\n']),
 ]
 
