@@ -5,6 +5,7 @@ use Rattle.lra_base.specs.declared.refusals.Cause.TheVariants.{TooLong, BadByte,
 use Rattle.lra_base.specs.declared.refusals.Cause.TheVariants.{UnknownName, DuplicateName, BadCall, Misplaced}
 use Rattle.lra_base.specs.declared.refusals.Cause.TheVariants.{Recursive}
 use Rattle.lra_base.specs.declared.refusals.Cause.TheVariants.{TooManyVariables, TooManyPoints, DuplicateCase}
+use Rattle.lra_base.specs.declared.refusals.Cause.TheVariants.{BadLength, NotArray}
 
 abbrev pub cause_number : Cause → ℕ
 cause_number TooLong = 1
@@ -21,6 +22,8 @@ cause_number Recursive = 11
 cause_number TooManyVariables = 12
 cause_number TooManyPoints = 13
 cause_number DuplicateCase = 14
+cause_number BadLength = 15
+cause_number NotArray = 16
 
 abbrev pub cause_name : Cause → List ℕ
 cause_name TooLong = codes "TooLong"
@@ -37,3 +40,5 @@ cause_name Recursive = codes "Recursive"
 cause_name TooManyVariables = codes "TooManyVariables"
 cause_name TooManyPoints = codes "TooManyPoints"
 cause_name DuplicateCase = codes "DuplicateCase"
+cause_name BadLength = codes "BadLength"
+cause_name NotArray = codes "NotArray"

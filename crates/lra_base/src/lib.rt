@@ -11,7 +11,7 @@ mod refusals;
 
 pub use case_labels::CaseLabel;
 pub use error::SourceError;
-pub use limits::GREATEST_LIVE;
+pub use limits::{GREATEST_ELEMENTS, GREATEST_LIVE, is_length};
 pub use number_types::NumberType;
 pub use operators::{Comparison, Operator};
 pub use places::{GREATEST_LENGTH, place_behind};

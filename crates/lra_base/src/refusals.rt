@@ -38,6 +38,10 @@ pub enum Cause {
     TooManyPoints,
     /// A value, or `default`, a second time in one `switch`.
     DuplicateCase,
+    /// An array without elements, or with more than `GREATEST_ELEMENTS`.
+    BadLength,
+    /// An array's name without an index, or a variable's with one.
+    NotArray,
 }
 
 impl Cause {
@@ -63,6 +67,8 @@ impl Cause {
             Cause::TooManyVariables => 12,
             Cause::TooManyPoints => 13,
             Cause::DuplicateCase => 14,
+            Cause::BadLength => 15,
+            Cause::NotArray => 16,
         }
     }
 
@@ -85,6 +91,8 @@ impl Cause {
             Cause::TooManyVariables => "TooManyVariables",
             Cause::TooManyPoints => "TooManyPoints",
             Cause::DuplicateCase => "DuplicateCase",
+            Cause::BadLength => "BadLength",
+            Cause::NotArray => "NotArray",
         }
     }
 }
