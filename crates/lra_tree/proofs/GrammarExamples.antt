@@ -1,7 +1,7 @@
 -- Trees and their tokens, and levels. Which slip an example would catch stands beside it.
 use Rattle.std.proofs.Common.{ℕ, negsuc, [], ◌∷◌, refl, arith, inr}
 use Rattle.std.specs.Prelude.{codes, None}
-use Rattle.lra_base.specs.declared.number_types.NumberType.TheVariants.{Int}
+use Rattle.lra_base.specs.declared.number_types.NumberType.TheVariants.{Int, Long}
 use Rattle.lra_tree.specs.declared.tokens.Kind.{Kind}
 use Rattle.lra_tree.specs.declared.tokens.Kind.TheVariants.{Name, Number, Mark as MarkOf}
 use Rattle.lra_tree.specs.declared.tokens.Mark.{Mark}
@@ -9,9 +9,10 @@ use Rattle.lra_tree.specs.declared.tokens.Mark.TheVariants as mark
 use Rattle.lra_tree.specs.declared.trees.PlacedLabel.{PlacedLabel}
 use Rattle.lra_base.specs.declared.case_labels.CaseLabel.TheVariants.{Case}
 use Rattle.lra_base.specs.Operators.{below}
-use Rattle.lra_tree.specs.Trees.{group, value, compare, group_of, CondTree, no_init, StmtTree, nothing, if_only, if_else, while, for, switch, no_cases, labelled, stated}
+use Rattle.lra_tree.specs.Trees.{element, expression, set_element, array, group, value, compare, group_of, CondTree, no_init, StmtTree, nothing, if_only}
+use Rattle.lra_tree.specs.Trees.{if_else, while, for, switch, no_cases, labelled, stated}
 use Rattle.lra_tree.specs.Texts.{Piece, Pieces}
-use Rattle.lra_tree.specs.Grammar.{IsTest, IsStmt}
+use Rattle.lra_tree.specs.Grammar.{IsUnary, IsTest, IsAssign, IsDeclarator, IsStmt}
 use Rattle.lra_tree.proofs.TreeSamples.{at, name_at, x_at, alone, number, use_of, tested}
 
 abbrev piece : Kind → ℕ → ℕ → Piece
@@ -79,6 +80,53 @@ not_a_condition l z s = s.1
 grouped_condition : IsTest 1 (group_of (tested (compare (use_of (x_at 2)) below (number 1))))
     (marked mark.OpenParen 1 2 ∷ piece (Name (codes "x")) 2 0 ∷ marked mark.Less 3 0 ∷ piece (Number Int 1) 4 0 ∷ marked mark.CloseParen 5 0 ∷ [])
 grouped_condition = ((_, _, refl, (at 1, refl), (_, _, refl, (_, _, refl, refl, (_, _, refl, (at 3, refl), (at 4, refl))), (at 5, refl))), tt)
+
+-- elements of arrays -------------------------------------------------------------------------------------------------
+
+abbrev named_x : ℕ → ℕ → Piece
+named_x c level = piece (Name (codes "x")) c level
+
+-- x[x[1]]
+-- catches brackets of indexes that open no level, in which any depth could stand
+nested_index : IsUnary 1 (element (x_at 1) (alone (element (x_at 3) (number 1))))
+    (named_x 1 0 ∷ marked mark.OpenBracket 2 2 ∷ named_x 3 0 ∷ marked mark.OpenBracket 4 3 ∷ piece (Number Int 1) 5 0
+    ∷ marked mark.CloseBracket 6 0 ∷ marked mark.CloseBracket 7 0 ∷ [])
+nested_index = (
+  _,
+  _,
+  refl,
+  refl,
+  (
+    _,
+    _,
+    refl,
+    (at 2, refl),
+    (_, _, refl, (_, _, refl, refl, (_, _, refl, (at 4, refl), (_, _, refl, (at 5, refl), (at 6, refl)))), (at 7, refl)),
+  ),
+)
+
+-- x[1]=2 in a branch, whose level the name opens
+element_set : IsAssign 2 2 (set_element (x_at 1) (number 1) (expression (number 2)))
+    (named_x 1 2 ∷ marked mark.OpenBracket 2 3 ∷ piece (Number Int 1) 3 0 ∷ marked mark.CloseBracket 4 0
+    ∷ marked mark.Assign 5 0 ∷ piece (Number Int 2) 6 0 ∷ [])
+element_set = (
+  _,
+  _,
+  refl,
+  refl,
+  (
+    _,
+    _,
+    refl,
+    (_, _, refl, (at 2, refl), (_, _, refl, (at 3, refl), (at 4, refl))),
+    (_, _, refl, (at 5, refl), (at 6, refl)),
+  ),
+)
+
+-- x[3l] in a declaration: catches the bracket of a length that opens a level, and a length that has to be an `int`
+array_declared : IsDeclarator 1 (record { name = x_at 1; shape = array (record { value = 3; place = at 3 }) })
+    (named_x 1 0 ∷ marked mark.OpenBracket 2 0 ∷ piece (Number Long 3) 3 0 ∷ marked mark.CloseBracket 5 0 ∷ [])
+array_declared = (_, _, refl, refl, (_, _, refl, (at 2, refl), (_, _, refl, (Long, refl), (at 5, refl))))
 
 -- the braces of a `switch` ---------------------------------------------------------------------------------------------
 

@@ -5,9 +5,9 @@ use Rattle.lra_base.specs.declared.number_types.NumberType.TheVariants.{Int, Lon
 use Rattle.lra_tree.specs.declared.trees.Identifier.{Identifier}
 use Rattle.lra_tree.specs.declared.trees.Parameter.{Parameter}
 use Rattle.lra_base.specs.Operators.{below, at_least, equal}
-use Rattle.lra_tree.specs.Trees.{UnaryTree, literal, variable, unary, ExprTree, term, plus, TestTree, compare, conjunction, test, CondTree, CallTree, RvalueTree, expression, result, set}
-use Rattle.lra_tree.specs.Trees.{DeclarationTree, declared, block, nothing, assign, if_only, for, break, continue, return, assert, ItemsTree, no_items, declaration, statement, FunctionTree, function}
-use Rattle.lra_tree.specs.Trees.{FileTree}
+use Rattle.lra_tree.specs.Trees.{UnaryTree, literal, variable, unary, ExprTree, term, plus, TestTree, compare, conjunction, test, CondTree, CallTree}
+use Rattle.lra_tree.specs.Trees.{RvalueTree, expression, result, set, scalar, DeclarationTree, declared, block, nothing, assign, if_only, for, break, continue}
+use Rattle.lra_tree.specs.Trees.{return, assert, ItemsTree, no_items, declaration, statement, FunctionTree, function, FileTree}
 
 -- of the first line
 abbrev pub at : ℕ → Place
@@ -35,7 +35,7 @@ abbrev pub call_of : Identifier → List ExprTree → CallTree
 call_of f es = record { name = f; arguments = es }
 
 abbrev pub declared_as : Identifier → Option RvalueTree → DeclarationTree
-declared_as x e = record { number_type = Long; first = record { name = x; rvalue = e }; rest = [] }
+declared_as x e = record { number_type = Long; first = record { name = x; shape = scalar e }; rest = [] }
 
 abbrev pub long_parameter : Identifier → Parameter
 long_parameter x = record { number_type = Long; name = x }

@@ -1,7 +1,7 @@
 -- The grammar (after ISO/IEC 9899:2011, 6.5, 6.7, 6.8, 6.9): which tokens a tree has, one case for each production.
 -- l is the level of nesting at which a part stands, o the level that its first token opens. A function's body is level
--- 1; a block, the braces of a `switch`, a branch of an `if`, a loop's body, a grouping parenthesis and a unary operator
--- open one more, from their first to their last token.
+-- 1; a block, the braces of a `switch`, a branch of an `if`, a loop's body, a grouping parenthesis, the bracket of an
+-- index and a unary operator open one more, from their first to their last token. The bracket of a length opens none.
 use Rattle.std.specs.Prelude.{◌≡◌, ℕ, ◌+◌, ◌≤◌, ◌⊎◌, pos, neg_ℤ, List, [], ◌∷◌, Option, Some}
 use Rattle.std.specs.Prelude.{None, ⊤}
 use Rattle.lra_base.specs.declared.number_types.NumberType.{NumberType}
@@ -15,23 +15,29 @@ use Rattle.lra_tree.specs.declared.trees.Identifier.{Identifier}
 use Rattle.lra_tree.specs.declared.trees.Parameter.{Parameter}
 use Rattle.lra_tree.specs.declared.trees.SignedLiteral.{SignedLiteral}
 use Rattle.lra_tree.specs.declared.trees.PlacedLabel.{PlacedLabel}
+use Rattle.lra_tree.specs.declared.trees.ArrayLength.{ArrayLength}
 use Rattle.lra_base.specs.Operators as operators
 use Rattle.lra_tree.specs.Lexeme.{greatest_literal}
-use Rattle.lra_tree.specs.Trees.{UnaryTree, negated, positive, literal, variable, input, group, TermTree, unary, times}
-use Rattle.lra_tree.specs.Trees.{over, modulo, ExprTree, term, plus, minus, NegationTree, opposite_again}
+use Rattle.lra_tree.specs.Trees.{UnaryTree, negated, positive, literal, variable, input, group, element, TermTree}
+use Rattle.lra_tree.specs.Trees.{unary, times, over, modulo, ExprTree, term, plus, minus, NegationTree, opposite_again}
 use Rattle.lra_tree.specs.Trees.{value_of_unary, group_opposed, TestTree, opposite, value, compare, group_of}
 use Rattle.lra_tree.specs.Trees.{ConjunctionTree, test, and, CondTree, conjunction, or, CallTree, RvalueTree}
-use Rattle.lra_tree.specs.Trees.{expression, result, StepTree, increment, decrement, AssignTree, set, update, after}
-use Rattle.lra_tree.specs.Trees.{before, DeclaratorTree, DeclarationTree, InitTree, no_init, declared, assigned}
-use Rattle.lra_tree.specs.Trees.{StmtTree, block, nothing, assign, call, if_only, if_else, while, for, break, continue}
-use Rattle.lra_tree.specs.Trees.{return, assert, assume, switch, CasesTree, no_cases, labelled, stated, ItemsTree}
-use Rattle.lra_tree.specs.Trees.{no_items, declaration, statement, FunctionTree, GlobalTree, GlobalsTree, PartTree}
-use Rattle.lra_tree.specs.Trees.{prototype, globals, function, FileTree}
+use Rattle.lra_tree.specs.Trees.{expression, result, StepTree, increment, decrement, AssignTree, set, set_element}
+use Rattle.lra_tree.specs.Trees.{update, after, before, ShapeTree, scalar, array, DeclaratorTree, DeclarationTree}
+use Rattle.lra_tree.specs.Trees.{InitTree, no_init, declared, assigned, StmtTree, block, nothing, assign, call}
+use Rattle.lra_tree.specs.Trees.{if_only, if_else, while, for, break, continue, return, assert, assume, switch}
+use Rattle.lra_tree.specs.Trees.{CasesTree, no_cases, labelled, stated, ItemsTree, no_items, declaration, statement}
+use Rattle.lra_tree.specs.Trees.{FunctionTree, GlobalTree, GlobalsTree, PartTree, prototype, globals, function}
+use Rattle.lra_tree.specs.Trees.{FileTree}
 use Rattle.lra_tree.specs.Texts.{Texts, ◌⋅◌, ◌∣◌, empty, opens, mark, opens_at, name, number, number_at}
 use Rattle.lra_tree.specs.Texts.{end_at, separated}
 
 -- expressions ------------------------------------------------------------------------------------------------------
 -- In the productions of unaries, whose first token may open a level, o is not needed: a name or a literal opens none.
+
+-- an index in its brackets, which open the next level; R is to be the index on that level
+abbrev pub in_brackets : ℕ → Texts → Texts
+in_brackets l R = opens mark.OpenBracket (l + 1) ⋅ R ⋅ mark mark.CloseBracket
 
 abbrev mutual
   pub IsUnary : ℕ → UnaryTree → Texts
@@ -41,6 +47,7 @@ abbrev mutual
   IsUnary l (variable x) = name x 0
   IsUnary l input = mark mark.Input ⋅ mark mark.OpenParen ⋅ mark mark.CloseParen
   IsUnary l (group e) = opens mark.OpenParen (l + 1) ⋅ IsExpr (l + 1) e ⋅ mark mark.CloseParen
+  IsUnary l (element x e) = name x 0 ⋅ in_brackets l (IsExpr (l + 1) e)
 
   pub IsTerm : ℕ → TermTree → Texts
   IsTerm l (unary u) = IsUnary l u
@@ -121,6 +128,7 @@ step_mark decrement = mark.Decrement
 
 abbrev pub IsAssign : ℕ → ℕ → AssignTree → Texts
 IsAssign o l (set x e) = name x o ⋅ mark mark.Assign ⋅ IsRvalue l e
+IsAssign o l (set_element x i e) = name x o ⋅ in_brackets l (IsExpr (l + 1) i) ⋅ mark mark.Assign ⋅ IsRvalue l e
 IsAssign o l (update x op e) = name x o ⋅ mark (update_mark op) ⋅ IsExpr l e
 IsAssign o l (after x s) = name x o ⋅ mark (step_mark s)
 IsAssign o l (before at s x) = opens_at (step_mark s) at o ⋅ name x 0
@@ -139,8 +147,21 @@ abbrev pub IsGiven : ℕ → Option RvalueTree → Texts
 IsGiven l None = empty
 IsGiven l (Some e) = mark mark.Assign ⋅ IsRvalue l e
 
+-- a literal of any type
+abbrev pub IsCount : ArrayLength → Texts
+IsCount n z = (t : NumberType) × number_at t n.value n.place z
+
+-- in brackets that open no level
+abbrev pub IsLength : ArrayLength → Texts
+IsLength n = mark mark.OpenBracket ⋅ IsCount n ⋅ mark mark.CloseBracket
+
+-- behind a name: a scalar's value, where it has one, or an array's length
+abbrev pub IsShape : {A : Type 0} → (Option A → Texts) → ShapeTree A → Texts
+IsShape R (scalar e) = R e
+IsShape R (array n) = IsLength n
+
 abbrev pub IsDeclarator : ℕ → DeclaratorTree → Texts
-IsDeclarator l d = name d.name 0 ⋅ IsGiven l d.rvalue
+IsDeclarator l d = name d.name 0 ⋅ IsShape (IsGiven l) d.shape
 
 abbrev pub IsDeclaration : ℕ → DeclarationTree → Texts
 IsDeclaration l d = IsType d.number_type ⋅ separated (IsDeclarator l) (d.first ∷ d.rest) ⋅ mark mark.Semicolon
@@ -267,7 +288,7 @@ IsFunction f =
     ⋅ opens mark.OpenBrace 1 ⋅ AreItems 1 f.body ⋅ opens_at mark.CloseBrace f.end 0
 
 abbrev pub IsGlobal : GlobalTree → Texts
-IsGlobal g = name g.name 0 ⋅ IsFirstValue g.value
+IsGlobal g = name g.name 0 ⋅ IsShape IsFirstValue g.shape
   where
     IsFirstValue : Option SignedLiteral → Texts
     IsFirstValue None = empty

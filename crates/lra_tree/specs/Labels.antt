@@ -6,11 +6,11 @@ use Rattle.lra_base.specs.declared.refusals.Place.{Place}
 use Rattle.lra_base.specs.TextOrder.{for_order}
 use Rattle.lra_tree.specs.declared.trees.Identifier.{Identifier}
 use Rattle.lra_tree.specs.declared.trees.Parameter.{Parameter}
-use Rattle.lra_tree.specs.Trees.{RvalueTree, expression, result, AssignTree, set, update, after, before, DeclaratorTree}
-use Rattle.lra_tree.specs.Trees.{InitTree, no_init, declared, assigned, StmtTree, block, nothing, assign, call, if_only}
-use Rattle.lra_tree.specs.Trees.{if_else, while, for, break, continue, return, assert, assume, switch, CasesTree}
-use Rattle.lra_tree.specs.Trees.{no_cases, labelled, stated, ItemsTree, no_items, declaration, statement}
-use Rattle.lra_tree.specs.Trees.{FunctionTree, FileTree}
+use Rattle.lra_tree.specs.Trees.{RvalueTree, expression, result, AssignTree, set, set_element, update, after, before}
+use Rattle.lra_tree.specs.Trees.{ShapeTree, scalar, array, DeclaratorTree, InitTree, no_init, declared, assigned}
+use Rattle.lra_tree.specs.Trees.{StmtTree, block, nothing, assign, call, if_only, if_else, while, for, break, continue}
+use Rattle.lra_tree.specs.Trees.{return, assert, assume, switch, CasesTree, no_cases, labelled, stated, ItemsTree}
+use Rattle.lra_tree.specs.Trees.{no_items, declaration, statement, FunctionTree, FileTree}
 use Rattle.lra_tree.specs.Functions.{functions_of}
 
 -- a statement, declarator or end of a block, which a label stands for
@@ -18,7 +18,7 @@ pub record Labelled : Type 0 where
   pub place : Place
   -- the called name, where it holds a call
   pub called : Option Identifier
-  -- the function's variables that live at the point, oldest first
+  -- the function's scalars that live at the point, oldest first
   pub live : List (List ℕ)
   -- and those that live while its call runs
   pub live_in_call : List (List ℕ)
@@ -38,28 +38,43 @@ abbrev pub called_of : Option RvalueTree → Option Identifier
 called_of None = None
 called_of (Some e) = called_in e
 
+-- an array calls nothing
+abbrev pub called_for : ShapeTree RvalueTree → Option Identifier
+called_for (scalar e) = called_of e
+called_for (array n) = None
+
 -- an assignment's first token
 abbrev pub assign_place : AssignTree → Place
 assign_place (set x e) = x.place
+assign_place (set_element x i e) = x.place
 assign_place (update x op e) = x.place
 assign_place (after x s) = x.place
 assign_place (before at s x) = at
 
 abbrev pub called_by : AssignTree → Option Identifier
 called_by (set x e) = called_in e
+called_by (set_element x i e) = called_in e
 called_by (update x op e) = None
 called_by (after x s) = None
 called_by (before at s x) = None
 
-abbrev pub with_names : List (List ℕ) → List DeclaratorTree → List (List ℕ)
-with_names live ds = live ++ map (λ (d : DeclaratorTree). d.name.word) ds
+-- an array is no scalar, and doesn't live among them
+abbrev pub name_in : {A : Type 0} → List ℕ → ShapeTree A → List (List ℕ)
+name_in name (scalar e) = name ∷ []
+name_in name (array n) = []
 
--- a declarator's variable lives behind its point, and so in its call
+abbrev pub names_of : DeclaratorTree → List (List ℕ)
+names_of d = name_in d.name.word d.shape
+
+abbrev pub with_names : List (List ℕ) → List DeclaratorTree → List (List ℕ)
+with_names live ds = live ++ flat_map names_of ds
+
+-- a declarator's scalar lives behind its point, and so in its call
 abbrev pub declarator_labels : List (List ℕ) → List DeclaratorTree → List Labelled
 declarator_labels live [] = []
 declarator_labels live (d ∷ ds) =
-    let more = live ++ d.name.word ∷ [] in
-    record { place = d.name.place; called = called_of d.rvalue; live = live; live_in_call = more } ∷
+    let more = live ++ names_of d in
+    record { place = d.name.place; called = called_for d.shape; live = live; live_in_call = more } ∷
     declarator_labels more ds
 
 abbrev pub assign_label : List (List ℕ) → AssignTree → Labelled

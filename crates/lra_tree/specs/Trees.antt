@@ -7,9 +7,10 @@ use Rattle.lra_tree.specs.declared.trees.Identifier.{Identifier}
 use Rattle.lra_tree.specs.declared.trees.Parameter.{Parameter}
 use Rattle.lra_tree.specs.declared.trees.SignedLiteral.{SignedLiteral}
 use Rattle.lra_tree.specs.declared.trees.PlacedLabel.{PlacedLabel}
+use Rattle.lra_tree.specs.declared.trees.ArrayLength.{ArrayLength}
 use Rattle.lra_base.specs.Operators.{Operator, Comparison}
 
--- expressions (ISO/IEC 9899:2011, 6.5.1, 6.5.3, 6.5.5, 6.5.6)
+-- expressions (ISO/IEC 9899:2011, 6.5.1, 6.5.2.1, 6.5.3, 6.5.5, 6.5.6)
 mutual
   pub data UnaryTree : Type 0 where
     negated : UnaryTree → UnaryTree
@@ -18,6 +19,8 @@ mutual
     variable : Identifier → UnaryTree
     input : UnaryTree
     group : ExprTree → UnaryTree
+    -- an array's name, and the index
+    element : Identifier → ExprTree → UnaryTree
 
   pub data TermTree : Type 0 where
     unary : UnaryTree → TermTree
@@ -68,14 +71,21 @@ pub data StepTree : Type 0 where
 -- assignments (6.5.2.4, 6.5.3.1, 6.5.16)
 pub data AssignTree : Type 0 where
   set : Identifier → RvalueTree → AssignTree
+  -- an array's name, the index, and what the element gets
+  set_element : Identifier → ExprTree → RvalueTree → AssignTree
   update : Identifier → Operator → ExprTree → AssignTree
   after : Identifier → StepTree → AssignTree
   -- with the place of `++` or `--`
   before : Place → StepTree → Identifier → AssignTree
 
+-- what a name is declared as: a scalar, with a value where it has one, or an array, which has none
+pub data ShapeTree (A : Type 0) : Type 0 where
+  scalar : Option A → ShapeTree A
+  array : ArrayLength → ShapeTree A
+
 pub record DeclaratorTree : Type 0 where
   pub name : Identifier
-  pub rvalue : Option RvalueTree
+  pub shape : ShapeTree RvalueTree
 
 -- one declarator at least
 pub record DeclarationTree : Type 0 where
@@ -128,10 +138,10 @@ pub record FunctionTree : Type 0 where
   -- the place of its `}`
   pub end : Place
 
--- a global variable and its signed literal
+-- a global variable; a scalar's value is a signed literal
 pub record GlobalTree : Type 0 where
   pub name : Identifier
-  pub value : Option SignedLiteral
+  pub shape : ShapeTree SignedLiteral
 
 pub record GlobalsTree : Type 0 where
   pub number_type : NumberType

@@ -25,6 +25,8 @@ use Rattle.lra_tree.specs.declared.trees.Step.{Step}
 use Rattle.lra_tree.specs.declared.trees.Step.TheVariants as step
 use Rattle.lra_tree.specs.declared.trees.Assign.{Assign}
 use Rattle.lra_tree.specs.declared.trees.Assign.TheVariants as assign
+use Rattle.lra_tree.specs.declared.trees.Shape.{Shape}
+use Rattle.lra_tree.specs.declared.trees.Shape.TheVariants as shape
 use Rattle.lra_tree.specs.declared.trees.Declarator.{Declarator}
 use Rattle.lra_tree.specs.declared.trees.Declaration.{Declaration}
 use Rattle.lra_tree.specs.declared.trees.Init.{Init}
@@ -76,6 +78,7 @@ unary_step (Unary-F.Literal t n) = tree.literal t n
 unary_step (Unary-F.Variable x) = tree.variable x
 unary_step Unary-F.Input = tree.input
 unary_step (Unary-F.Group e) = tree.group e.value
+unary_step (Unary-F.Element x e) = tree.element x e.value
 
 abbrev pub factor_step : Factor-F tree.UnaryTree tree.ExprTree (FactorOperator × tree.UnaryTree)
     (SumOperator × tree.TermTree) tree.TermTree → FactorOperator × tree.UnaryTree
@@ -174,12 +177,18 @@ rvalue_view (rvalue.Result c) = tree.result (call_view c)
 
 abbrev pub assign_view : Assign → tree.AssignTree
 assign_view (assign.Set x e) = tree.set x (rvalue_view e)
+assign_view (assign.SetElement x i e) = tree.set_element x (expr_view i) (rvalue_view e)
 assign_view (assign.Update x op e) = tree.update x (operator_view op) (expr_view e)
 assign_view (assign.After x s) = tree.after x (step_view s)
 assign_view (assign.Before at s x) = tree.before at (step_view s) x
 
+-- by what a value stands for
+abbrev pub shape_view : {A B : Type 0} → (A → B) → Shape A → tree.ShapeTree B
+shape_view f (shape.Scalar e) = tree.scalar (option_map f e)
+shape_view f (shape.Array n) = tree.array n
+
 abbrev pub declarator_view : Declarator → tree.DeclaratorTree
-declarator_view d = record { name = d.name; rvalue = option_map rvalue_view d.rvalue }
+declarator_view d = record { name = d.name; shape = shape_view rvalue_view d.shape }
 
 abbrev pub declaration_view : Declaration → tree.DeclarationTree
 declaration_view d = record {
@@ -276,7 +285,7 @@ function_view f =
     }
 
 abbrev pub global_view : Global → tree.GlobalTree
-global_view g = record { name = g.name; value = g.value }
+global_view g = record { name = g.name; shape = shape_view (λ v. v) g.shape }
 
 abbrev pub globals_view : Globals → tree.GlobalsTree
 globals_view g = record {

@@ -9,8 +9,8 @@ mod trees;
 
 pub use tokens::{Kind, Mark, Token, Word};
 pub use trees::{
-    Arguments, Assign, Block, BlockItem, Call, CaseItem, Cases, Cond, Conjunction, Declaration,
-    Declarator, Expr, Factor, FactorOperator, Function, Global, Globals, Identifier, Init, Item,
-    Negation, Parameter, Parameters, PlacedLabel, Rvalue, SignedLiteral, Step, Stmt, SumOperator,
-    Summand, Term, Test, Tree, Unary,
+    Arguments, ArrayLength, Assign, Block, BlockItem, Call, CaseItem, Cases, Cond, Conjunction,
+    Declaration, Declarator, Expr, Factor, FactorOperator, Function, Global, Globals, Identifier,
+    Init, Item, Negation, Parameter, Parameters, PlacedLabel, Rvalue, Shape, SignedLiteral, Step,
+    Stmt, SumOperator, Summand, Term, Test, Tree, Unary,
 };

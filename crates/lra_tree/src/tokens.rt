@@ -61,6 +61,10 @@ pub enum Mark {
     OpenBrace,
     /// `}`
     CloseBrace,
+    /// `[`
+    OpenBracket,
+    /// `]`
+    CloseBracket,
     /// `;`
     Semicolon,
     /// `,`

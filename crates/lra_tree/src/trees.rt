@@ -38,7 +38,7 @@ impl Identifier {
     }
 }
 
-/// A sign, a literal, a variable, `input()`, or an expression in parentheses.
+/// A sign, a literal, a variable, `input()`, an expression in parentheses, or an array's element.
 #[cycle(expression)]
 pub enum Unary {
     Negated(Box<Unary>),
@@ -47,6 +47,8 @@ pub enum Unary {
     Variable(Identifier),
     Input,
     Group(Box<Expr>),
+    /// The array's name, and the index.
+    Element(Identifier, Box<Expr>),
 }
 
 impl Drop for Unary {
@@ -59,6 +61,7 @@ impl Drop for Unary {
             Unary::Variable(_) => {}
             Unary::Input => {}
             Unary::Group(_) => {}
+            Unary::Element(_, _) => {}
         }
     }
 }
@@ -296,6 +299,8 @@ pub enum Step {
 pub enum Assign {
     /// `x = rvalue`
     Set(Identifier, Rvalue),
+    /// `x[index] = rvalue`
+    SetElement(Identifier, Expr, Rvalue),
     /// `x op= e`
     Update(Identifier, Operator, Expr),
     /// `x++`
@@ -308,6 +313,7 @@ impl Drop for Assign {
     fn drop(self) {
         match self {
             Assign::Set(_, _) => {}
+            Assign::SetElement(_, _, _) => {}
             Assign::Update(_, _, _) => {}
             Assign::After(_, _) => {}
             Assign::Before(_, _, _) => {}
@@ -315,15 +321,38 @@ impl Drop for Assign {
     }
 }
 
-/// A variable that is declared, and what it gets, if anything.
+/// How many elements an array has, and the place of the literal that says so.
+#[derive(Clone, Copy, PartialEq, Eq, Debug)]
+pub struct ArrayLength {
+    pub value: u64,
+    pub place: Place,
+}
+
+/// What a name is declared as.
+pub enum Shape<T> {
+    /// A scalar, with a value where it has one.
+    Scalar(Option<T>),
+    Array(ArrayLength),
+}
+
+impl<T: Drop> Drop for Shape<T> {
+    fn drop(self) {
+        match self {
+            Shape::Scalar(_) => {}
+            Shape::Array(_) => {}
+        }
+    }
+}
+
+/// A variable or an array that is declared.
 pub struct Declarator {
     pub name: Identifier,
-    pub rvalue: Option<Rvalue>,
+    pub shape: Shape<Rvalue>,
 }
 
 impl Drop for Declarator {
     fn drop(self) {
-        let Declarator { name: _, rvalue: _ } = self;
+        let Declarator { name: _, shape: _ } = self;
     }
 }
 
@@ -590,20 +619,20 @@ pub struct PlacedLabel {
     pub place: Place,
 }
 
-/// A global variable.
+/// A global variable or array.
 pub struct Global {
     pub name: Identifier,
-    /// Its first value.
-    pub value: Option<SignedLiteral>,
+    /// A scalar's first value, where it has one.
+    pub shape: Shape<SignedLiteral>,
 }
 
 impl Drop for Global {
     fn drop(self) {
-        let Global { name: _, value: _ } = self;
+        let Global { name: _, shape: _ } = self;
     }
 }
 
-/// The type and the global variables of one declaration; there is one variable at least.
+/// The type of one declaration, and the global variables and arrays that it declares; there is one at least.
 pub struct Globals {
     pub number_type: NumberType,
     pub first: Global,
