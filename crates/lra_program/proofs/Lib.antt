@@ -3,9 +3,11 @@ mod ValueExamples
 pub mod RunExamples
 pub mod TrailLaws
 pub mod SwitchExamples
+mod ArrayExamples
 mod TrailExamples
 mod WellFormedExamples
 mod ProgramViewExamples
 mod TypeExamples
 pub mod GivenArguments
 pub mod TypeLaws
+pub mod AccessLaws

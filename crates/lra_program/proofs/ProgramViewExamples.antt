@@ -1,6 +1,8 @@
 -- Values of the types of programs, and what they stand for.
 use Rattle.std.proofs.Common.{◌≡◌, ℕ, ◌∷◌, [], map, refl, rules, Box, Vec, Global}
-use Rattle.lra_program.specs.declared.program.Expr.{Expr, Negate, Chain, the_lemmas as expr_lemmas}
+use Rattle.lra_program.specs.declared.program.Expr.{Expr, Negate, Chain, Element, the_lemmas as expr_lemmas}
+use Rattle.lra_base.specs.declared.refusals.Place.{Place}
+use Rattle.lra_program.specs.declared.arrays.Array.{Array}
 use Rattle.lra_program.specs.declared.program.Operation.{Operation}
 use Rattle.lra_program.specs.declared.program.Cond.{Cond, All, the_lemmas as cond_lemmas}
 use Rattle.lra_program.specs.declared.program.Stmt.{Stmt, Block, Loop, Switch, the_lemmas as stmt_lemmas}
@@ -17,6 +19,9 @@ negate_view e = search (rules, expr_lemmas)
 -- a chain is its first operand and the further ones, from the left
 chain_view : (e : Box Expr Global) (os : Vec Operation Global) → expr_view (Chain e os) ≡ chained (expr_view e.value) (map operation_view os.items)
 chain_view e os = search (rules, expr_lemmas)
+
+element_view : (a : Array) (at : Place) (e : Box Expr Global) → expr_view (Element a at e) ≡ program.element a at (expr_view e.value)
+element_view a at e = search (rules, expr_lemmas)
 
 -- and of conditions from the right
 all_view : (c : Box Cond Global) (cs : Vec Cond Global) → cond_view (All c cs) ≡ all_of (cond_view c.value) (map cond_view cs.items)

@@ -30,7 +30,7 @@ abbrev pub long_variable : Slot → Variable
 long_variable s = record { slot = s; number_type = Long }
 
 abbrev pub main_alone : BlockItems → ℕ → Program
-main_alone body end = record { globals = []; functions = []; main = record { result_type = Some Int; parameters = []; body = body; end = end } }
+main_alone body end = record { globals = []; arrays = []; functions = []; main = record { result_type = Some Int; parameters = []; body = body; end = end } }
 
 abbrev fresh : ℕ → Declarator
 fresh at = record { label = at; number_type = Long; rvalue = None }
@@ -129,6 +129,7 @@ inc = record { result_type = Some Long; parameters = Long ∷ []; body = stateme
 abbrev pub called_twice : Program
 called_twice = record {
   globals = [];
+  arrays = [];
   functions = inc ∷ [];
   main = record {
     result_type = Some Int;
@@ -148,6 +149,7 @@ called_twice_run = refl
 abbrev pub counted : Program
 counted = record {
   globals = record { number_type = Long; value = pos 2 } ∷ [];
+  arrays = [];
   functions = record { result_type = None; parameters = []; body = statement (assign 1 (long_variable (global 0)) (value (binary plus (read (long_variable (global 0))) (literal Int 1)))) no_more; end = 2 } ∷ [];
   main = record {
     result_type = Some Int;
@@ -167,6 +169,7 @@ counted_run = refl
 abbrev handed_on : Program
 handed_on = record {
   globals = [];
+  arrays = [];
   functions = record { result_type = Some Long; parameters = []; body = statement (return 1 (Some (result (record { label = 1; function = 1; arguments = [] })))) no_more; end = 2 }
       ∷ record { result_type = Some Long; parameters = []; body = no_more; end = 3 } ∷ [];
   main = record { result_type = Some Int; parameters = []; body = declaration (record { label = 4; number_type = Long; rvalue = Some (result (record { label = 4; function = 0; arguments = [] })) }) no_more; end = 5 };
@@ -179,6 +182,7 @@ handed_on_run = refl
 abbrev bare_return : Program
 bare_return = record {
   globals = [];
+  arrays = [];
   functions = record { result_type = Some Long; parameters = []; body = statement (return 1 None) no_more; end = 2 } ∷ [];
   main = record { result_type = Some Int; parameters = []; body = declaration (record { label = 3; number_type = Long; rvalue = Some (result (record { label = 3; function = 0; arguments = [] })) }) no_more; end = 4 };
 }
@@ -235,7 +239,7 @@ assumed_run : (visited assumed (pos 9 ∷ pos 0 ∷ []) ≡ ([], 1, []) ∷ ([],
 assumed_run = (refl, refl)
 
 abbrev with_items : List Item → Here → List ℤ → List ℤ → Config
-with_items items here store draws = record { items = items; here = here; state = record { store = store; draws = draws } }
+with_items items here store draws = record { items = items; here = here; state = record { store = store; arrays = []; waiting = []; draws = draws } }
 
 -- `continue` in a block of a loop's body: the round's end is on top, whose next items are the step and the loop; the block's variable is gone
 behind_continue : (P : Program) (step again : Stmt) (rest : BlockItems) (k : List Item) (h : Here) (x y : ℤ) (draws : List ℤ)

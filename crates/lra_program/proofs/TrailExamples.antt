@@ -6,7 +6,7 @@ use Rattle.lra_program.specs.Trails.{passes, Alone, Arrives, Denies}
 use Rattle.lra_program.proofs.RunExamples.{one_variable, failing}
 
 abbrev state_of : List ℤ → List ℤ → State
-state_of store draws = record { store = store; draws = draws }
+state_of store draws = record { store = store; arrays = []; waiting = []; draws = draws }
 
 abbrev point_of_main : ℕ → Point
 point_of_main label = record { path = []; label = label }

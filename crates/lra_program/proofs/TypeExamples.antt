@@ -11,11 +11,11 @@ use Rattle.lra_program.specs.Step.{append, give, give_any, run_op, arguments_for
 use Rattle.lra_program.specs.Overflow.{op_computes, CondOverflows}
 
 abbrev nowhere : Scene
-nowhere = record { base = 0; store = [] }
+nowhere = record { base = 0; store = []; arrays = [] }
 
 -- an `int` x that is the greatest one, and a `long` y that is 7
 abbrev scene : Scene
-scene = record { base = 0; store = pos 2147483647 ∷ pos 7 ∷ [] }
+scene = record { base = 0; store = pos 2147483647 ∷ pos 7 ∷ []; arrays = [] }
 
 abbrev x : Expr
 x = read (record { slot = local 0; number_type = Int })
@@ -49,7 +49,7 @@ sign_of_a_long = refl
 
 -- the least `int`, its sign, its quotient and its remainder by -1; catches the limits of 64 bits
 least_scene : Scene
-least_scene = record { base = 0; store = negsuc 2147483647 ∷ [] }
+least_scene = record { base = 0; store = negsuc 2147483647 ∷ []; arrays = [] }
 
 sign_overflows : value_of (negate x) least_scene [] ≡ None
 unfolding least_scene
@@ -64,7 +64,7 @@ unfolding least_scene
 remainder_overflows = refl
 
 -- a variable that holds what its type doesn't have stops whoever reads it
-typed_read : value_of x (record { base = 0; store = pos 2147483648 ∷ [] }) [] ≡ None
+typed_read : value_of x (record { base = 0; store = pos 2147483648 ∷ []; arrays = [] }) [] ≡ None
 typed_read = refl
 
 -- ways: int half(long x), called for a `long`, for an `int`, for nobody; long f(int a), called for an `int`
@@ -82,15 +82,15 @@ no_conversion : converts_to Int (variable_at 0 Int) ≡ false
 no_conversion = refl
 
 -- steps: a draw for an `int`; one for a call's target has to be one of all types on the way; without a target none is
-short_draw : run_op (append Int) (record { store = []; draws = pos 2147483648 ∷ [] }) ≡ None
+short_draw : run_op (append Int) (record { store = []; arrays = []; waiting = []; draws = pos 2147483648 ∷ [] }) ≡ None
 short_draw = refl
 
 result_draw : run_op (give_any (behind_result (Some Int) (variable_at 0 Long)))
-    (record { store = pos 0 ∷ []; draws = pos 2147483648 ∷ [] }) ≡ None
+    (record { store = pos 0 ∷ []; arrays = []; waiting = []; draws = pos 2147483648 ∷ [] }) ≡ None
 result_draw = refl
 
-no_draw : run_op (give_any (behind_result (Some Int) nobody)) (record { store = []; draws = [] }) ≡
-    Some (record { store = []; draws = [] })
+no_draw : run_op (give_any (behind_result (Some Int) nobody)) (record { store = []; arrays = []; waiting = []; draws = [] }) ≡
+    Some (record { store = []; arrays = []; waiting = []; draws = [] })
 no_draw = refl
 
 -- f(input(), input()) with `int` first: the second draw isn't taken where the first doesn't fit

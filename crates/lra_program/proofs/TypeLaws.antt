@@ -6,14 +6,15 @@ use Rattle.lra_base.specs.declared.number_types.NumberType.TheVariants.{Int, Lon
 use Rattle.lra_base.specs.NumberTypes.{fits, wider}
 use Rattle.lra_base.proofs.TypeLimits.{int_is_long}
 use Rattle.lra_base.specs.Operators.{Operator, plus, minus, times, over, modulo}
-use Rattle.lra_program.specs.Program.{Expr, literal, read, input, negate, binary, type_of, Cond, compare, nonzero, opposite, both_of, either_of}
+use Rattle.lra_program.specs.Program.{Expr, literal, read, input, negate, binary, element, type_of, Cond, compare, nonzero, opposite, both_of, either_of}
+use Rattle.lra_program.specs.Arrays.{elements_of, place_among}
 use Rattle.lra_program.specs.Value.{◌>>=◌, number, is_zero, apply, index_of, Scene, draw, value_of, ValuesHaveTypes, Argument}
 use Rattle.lra_program.specs.declared.receivers.Way.{Way}
 use Rattle.lra_program.specs.declared.receivers.Way.TheVariants.{Wide, Short, Shortened}
 use Rattle.lra_program.specs.declared.receivers.Target.{Target}
 use Rattle.lra_program.specs.declared.receivers.Receiver.{Receiver}
-use Rattle.lra_program.specs.Receivers.{lets_through, converts, parameter_of, is_shorter, shortens, converts_to, target_accepts, accepts}
-use Rattle.lra_program.specs.Step.{scene_at, append, give, give_any, push, keep, test}
+use Rattle.lra_program.specs.Receivers.{waiting_in, lets_through, converts, parameter_of, is_shorter, shortens, converts_to, target_accepts, accepts}
+use Rattle.lra_program.specs.Step.{scene_at, append, fill, give, give_element, give_any, push, push_for, keep, test}
 use Rattle.lra_program.specs.Overflow.{ExprOverflows, EitherOverflows, CondOverflows, GivenOverflows, ArgumentsOverflow}
 use Rattle.lra_program.specs.Overflow.{expr_computes, cond_computes, given_computes, arguments_compute, OverflowingCompute}
 
@@ -73,6 +74,14 @@ value_has_its_type (binary op a b) s draws r is =
     let (q, there_too, on_too) = bind_some (value_of b s p.1) (λ q. apply (wider (type_of a) (type_of b)) op p.0 q.0 >>= λ z. Some (z, q.1)) r on in
     let (z, got, to) = bind_some (apply (wider (type_of a) (type_of b)) op p.0 q.0) (λ z. Some (z, q.1)) r on_too in
     subst (λ (x : ℤ). fits t x ≡ true) (first_of_pair z q.1 r to) (apply_fits t op p.0 q.0 z got)
+value_has_its_type (element a at e) s draws r is =
+    let (q, there, on) = bind_some (value_of e s draws)
+    (λ q. place_among a.length q.0 >>= λ k. slice_get (elements_of a.declared s.arrays) k >>= λ y. number a.number_type y >>= λ z. Some (z, q.1)) r is in
+    let (k, inside, on_too) = bind_some (place_among a.length q.0)
+    (λ k. slice_get (elements_of a.declared s.arrays) k >>= λ y. number a.number_type y >>= λ z. Some (z, q.1)) r on in
+    let (y, held, last) = bind_some (slice_get (elements_of a.declared s.arrays) k) (λ y. number a.number_type y >>= λ z. Some (z, q.1)) r on_too in
+    let (z, got, to) = bind_some (number a.number_type y) (λ z. Some (z, q.1)) r last in
+    subst (λ (x : ℤ). fits a.number_type x ≡ true) {x = z} {y = r.0} (first_of_pair z q.1 r to) (number_fits a.number_type y z got)
 
 pub values_have_types : ValuesHaveTypes
 values_have_types e s draws left z is = value_has_its_type e s draws (z, left) is
@@ -138,6 +147,7 @@ expr_computing (read v) s draws h = absurd h
 expr_computing input s draws h = absurd h
 expr_computing (negate e) s draws h = refl
 expr_computing (binary op a b) s draws h = refl
+expr_computing (element a at e) s draws h = expr_computing e s draws h
 
 either_computing : (a b : Expr) (s : Scene) (draws : List ℤ) → EitherOverflows a b s draws → (expr_computes a || expr_computes b) ≡ true
 either_computing a b s draws (inl h) = or_left (expr_computes a) (expr_computes b) (expr_computing a s draws h)
@@ -172,7 +182,16 @@ arguments_computing (a ∷ rest) s draws (inr (r, is, inr (z, got, h))) =
 pub overflowing_compute : OverflowingCompute
 overflowing_compute (append t) s h = absurd h
 overflowing_compute (give base x e) s h = given_computing x e (scene_at base s) s.draws h
+overflowing_compute (fill a) s h = absurd h
+overflowing_compute (give_element base x e) s (inl h) =
+    or_left (expr_computes x.index) (given_computes (waiting_in x.array) e) (expr_computing x.index (scene_at base s) s.draws h)
+overflowing_compute (give_element base x e) s (inr (m, aimed, h)) =
+    or_right (expr_computes x.index) (given_computes (waiting_in x.array) e) (given_computing (waiting_in x.array) e (scene_at base m) m.draws h)
 overflowing_compute (give_any x) s h = absurd h
 overflowing_compute (push base given) s h = arguments_computing given (scene_at base s) s.draws h
+overflowing_compute (push_for base x given) s (inl h) =
+    or_left (expr_computes x.index) (arguments_compute given) (expr_computing x.index (scene_at base s) s.draws h)
+overflowing_compute (push_for base x given) s (inr (m, aimed, h)) =
+    or_right (expr_computes x.index) (arguments_compute given) (arguments_computing given (scene_at base m) m.draws h)
 overflowing_compute (keep n) s h = absurd h
 overflowing_compute (test base c wanted) s h = cond_computing c (scene_at base s) s.draws h

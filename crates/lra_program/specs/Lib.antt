@@ -1,12 +1,15 @@
 -- In the order in which they are to be read.
 pub mod Program
+pub mod Arrays
 pub mod Value
 pub mod ProgramViews
 pub mod Receivers
 pub mod Step
 pub mod Run
 pub mod Trails
+pub mod Asks
 pub mod Overflow
+pub mod Accesses
 -- Points, and programs that sources mean.
 pub mod Sites
 pub mod Assertions

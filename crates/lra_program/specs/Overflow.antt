@@ -1,21 +1,18 @@
 -- Where a run stops by a number: an operator has no value though its operands have, or a type on a value's way doesn't
--- have it. A run that ends because no draw is left, because a draw isn't one of its variable's type, or at a false
--- condition doesn't stop by a number.
-use Rattle.std.specs.Prelude.{◌≡◌, ◌⊎◌, ℤ, pos, ◌-ℤ◌, List, [], ◌∷◌, length, Option, None, Some, Bool, true}
-use Rattle.std.specs.Prelude.{false, ◌||◌, slice_get, IsTrue}
-use Rattle.lra_base.specs.declared.number_types.NumberType.{NumberType}
+-- have it. A run that ends because no draw is left, because a draw isn't one of its variable's type, at an index
+-- outside its array, or at a false condition doesn't stop by a number.
+use Rattle.std.specs.Prelude.{◌≡◌, ◌⊎◌, ℕ, ℤ, pos, ◌-ℤ◌, List, [], ◌∷◌, None, Some, Bool, true, false, ◌||◌}
+use Rattle.std.specs.Prelude.{IsTrue}
 use Rattle.lra_base.specs.NumberTypes.{wider}
-use Rattle.lra_program.specs.Program.{Expr, literal, read, input, negate, binary, type_of, Cond, compare, nonzero}
-use Rattle.lra_program.specs.Program.{opposite, both_of, either_of, Call, Rvalue, value, result, Stmt, absent, nothing}
-use Rattle.lra_program.specs.Program.{block, assign, call, if, loop, for, break, continue, return, assert, assume}
-use Rattle.lra_program.specs.Program.{switch, Function, Program}
-use Rattle.lra_program.specs.Value.{number, apply, index_of, Scene, value_of, Argument, truth_of}
+use Rattle.lra_program.specs.Program.{Expr, literal, read, input, negate, binary, element, type_of, Element, Cond}
+use Rattle.lra_program.specs.Program.{compare, nonzero, opposite, both_of, either_of, Program}
+use Rattle.lra_program.specs.Value.{number, apply, Scene, value_of, Argument, truth_of}
 use Rattle.lra_program.specs.declared.receivers.Receiver.{Receiver}
-use Rattle.lra_program.specs.Receivers.{variable_at, parameter_of, converts_to, accepts}
-use Rattle.lra_program.specs.Step.{State, scene_at, Op, append, give, give_any, push, keep, test, run_op, Here, Item}
-use Rattle.lra_program.specs.Step.{run, declare, all, end_of, turn, cases, end_switch, cut, mark, leave_call, Config}
-use Rattle.lra_program.specs.Step.{to_mark, receiver_of, arguments_for}
+use Rattle.lra_program.specs.Receivers.{waiting_in, parameter_of, converts_to, accepts}
+use Rattle.lra_program.specs.Step.{State, scene_at, Op, append, fill, give, give_element, give_any, push, push_for}
+use Rattle.lra_program.specs.Step.{keep, test, aim, Here, Item, Config}
 use Rattle.lra_program.specs.Run.{Point, IsOn, Reaches}
+use Rattle.lra_program.specs.Asks.{TopAsks}
 
 -- expressions and conditions, in the order in which they are computed -----------------------------------------------
 
@@ -28,6 +25,7 @@ ExprOverflows (negate e) s draws = ExprOverflows e s draws ⊎
 ExprOverflows (binary op a b) s draws = ExprOverflows a s draws ⊎
     ((r : ℤ × List ℤ) × (value_of a s draws ≡ Some r) × (ExprOverflows b s r.1 ⊎
     ((q : ℤ × List ℤ) × (value_of b s r.1 ≡ Some q) × (apply (wider (type_of a) (type_of b)) op r.0 q.0 ≡ None))))
+ExprOverflows (element a at e) s draws = ExprOverflows e s draws
 
 -- a second expression is computed with the draws that the first one leaves
 abbrev pub EitherOverflows : Expr → Expr → Scene → List ℤ → Type 0
@@ -63,6 +61,7 @@ expr_computes (read v) = false
 expr_computes input = false
 expr_computes (negate e) = true
 expr_computes (binary op a b) = true
+expr_computes (element a at e) = expr_computes e
 
 abbrev pub cond_computes : Cond → Bool
 cond_computes (compare op a b) = expr_computes a || expr_computes b
@@ -81,19 +80,32 @@ arguments_compute (a ∷ rest) = given_computes (parameter_of a.number_type) a.v
 
 abbrev pub op_computes : Op → Bool
 op_computes (append t) = false
+op_computes (fill a) = false
 op_computes (give base x e) = given_computes x e
+op_computes (give_element base x e) = expr_computes x.index || given_computes (waiting_in x.array) e
 op_computes (give_any x) = false
 op_computes (push base given) = arguments_compute given
+op_computes (push_for base x given) = expr_computes x.index || arguments_compute given
 op_computes (keep n) = false
 op_computes (test base c wanted) = cond_computes c
 
 -- least changes -----------------------------------------------------------------------------------------------------
 
+-- the element's index does, or what is done behind it
+abbrev pub AimedOverflows : ℕ → Element → (State → Type 0) → State → Type 0
+AimedOverflows base x Behind s = ExprOverflows x.index (scene_at base s) s.draws ⊎
+    ((m : State) × (aim base x s ≡ Some m) × Behind m)
+
 abbrev pub OpOverflows : Op → State → Type 0
 OpOverflows (append t) s = ⊥
+OpOverflows (fill a) s = ⊥
 OpOverflows (give base x e) s = GivenOverflows x e (scene_at base s) s.draws
+OpOverflows (give_element base x e) s =
+    AimedOverflows base x (λ m. GivenOverflows (waiting_in x.array) e (scene_at base m) m.draws) s
 OpOverflows (give_any x) s = ⊥
 OpOverflows (push base given) s = ArgumentsOverflow given (scene_at base s) s.draws
+OpOverflows (push_for base x given) s =
+    AimedOverflows base x (λ m. ArgumentsOverflow given (scene_at base m) m.draws) s
 OpOverflows (keep n) s = ⊥
 OpOverflows (test base c wanted) s = CondOverflows c (scene_at base s) s.draws
 
@@ -103,55 +115,9 @@ OverflowingCompute = (op : Op) (s : State) → OpOverflows op s → IsTrue (op_c
 
 -- runs --------------------------------------------------------------------------------------------------------------
 
--- what a call gives to its callee's parameters
-abbrev pub CallOverflows : Program → Call → Here → State → Type 0
-CallOverflows P c h s = (f : Function) × (slice_get P.functions c.function ≡ Some f) ×
-    OpOverflows (push h.base (arguments_for f.parameters c.arguments)) s
-
-abbrev pub RvalueOverflows : Program → Receiver → Rvalue → Here → State → Type 0
-RvalueOverflows P x (value e) h s = OpOverflows (give h.base x e) s
-RvalueOverflows P x (result c) h s = CallOverflows P c h s
-
-abbrev pub ReturnOverflows : Program → Option Rvalue → List Item → Here → State → Type 0
-ReturnOverflows P None k h s = ⊥
-ReturnOverflows P (Some e) k h s = RvalueOverflows P (receiver_of P (to_mark k)) e h s
-
--- behind the new variable
-abbrev pub DeclaredOverflows : Program → NumberType → Option Rvalue → Here → State → Type 0
-DeclaredOverflows P t None h s = ⊥
-DeclaredOverflows P t (Some e) h s = (m : State) × (run_op (append t) s ≡ Some m) ×
-    RvalueOverflows P (variable_at (length s.store) t) e h m
-
-abbrev pub StmtOverflows : Program → Stmt → List Item → Here → State → Type 0
-StmtOverflows P absent k h s = ⊥
-StmtOverflows P (nothing at) k h s = ⊥
-StmtOverflows P (block body end) k h s = ⊥
-StmtOverflows P (assign at x e) k h s =
-    RvalueOverflows P (variable_at (index_of h.base x.slot) x.number_type) e h s
-StmtOverflows P (call at c) k h s = CallOverflows P c h s
-StmtOverflows P (if at c a b) k h s = OpOverflows (test h.base c true) s
-StmtOverflows P (loop at c a step) k h s = OpOverflows (test h.base c true) s
-StmtOverflows P (for at init c a step) k h s = ⊥
-StmtOverflows P (break at) k h s = ⊥
-StmtOverflows P (continue at) k h s = ⊥
-StmtOverflows P (return at e) k h s = ReturnOverflows P e k h s
-StmtOverflows P (assert at c) k h s = OpOverflows (test h.base c true) s
-StmtOverflows P (assume at c) k h s = OpOverflows (test h.base c true) s
-StmtOverflows P (switch at e cs) k h s = ExprOverflows e (scene_at h.base s) s.draws
-
 -- what is on top stops by a number
 abbrev pub IsOverflowing : Program → List Item → Here → State → Type 0
-IsOverflowing P [] h s = ⊥
-IsOverflowing P (run a ∷ k) h s = StmtOverflows P a k h s
-IsOverflowing P (declare d ∷ k) h s = DeclaredOverflows P d.number_type d.rvalue h s
-IsOverflowing P (all a ∷ k) h s = ⊥
-IsOverflowing P (end_of at n ∷ k) h s = ⊥
-IsOverflowing P (turn step again n ∷ k) h s = ⊥
-IsOverflowing P (cases cs ∷ k) h s = ⊥
-IsOverflowing P (end_switch n ∷ k) h s = ⊥
-IsOverflowing P (cut n ∷ k) h s = ⊥
-IsOverflowing P (mark b ∷ k) h s = ⊥
-IsOverflowing P (leave_call ∷ k) h s = ⊥
+IsOverflowing P k h s = TopAsks OpOverflows P k h s
 
 -- some run with the point on top stops there by a number
 abbrev pub Overflows : Program → Point → Type 0

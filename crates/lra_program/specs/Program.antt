@@ -1,10 +1,13 @@
--- A program whose names are resolved: a variable is a place in the store, a function a place in a list.
+-- A program whose names are resolved: a variable is a place in the store, an array the place of its declaration, and a
+-- function a place in a list.
 -- Statements, declarators and the ends of blocks carry labels: the n-th of them in text order has the label n, from 1.
 use Rattle.std.specs.Prelude.{ℕ, List, [], ◌∷◌, Option}
 use Rattle.lra_base.specs.declared.number_types.NumberType.{NumberType}
 use Rattle.lra_base.specs.declared.number_types.NumberType.TheVariants.{Long}
 use Rattle.lra_base.specs.NumberTypes.{wider}
 use Rattle.lra_base.specs.declared.case_labels.CaseLabel.{CaseLabel}
+use Rattle.lra_base.specs.declared.refusals.Place.{Place}
+use Rattle.lra_program.specs.declared.arrays.Array.{Array}
 use Rattle.lra_program.specs.declared.program.GlobalVariable.{GlobalVariable}
 use Rattle.lra_base.specs.Operators.{Operator, Comparison}
 
@@ -25,6 +28,8 @@ pub data Expr : Type 0 where
   input : Expr
   negate : Expr → Expr
   binary : Operator → Expr → Expr → Expr
+  -- an array, the place where it is named, and the index
+  element : Array → Place → Expr → Expr
 
 -- the type of its value (ISO/IEC 9899:2011, 6.3.1.8): in `a + b + c` the first `+` has that of a and b alone
 abbrev pub type_of : Expr → NumberType
@@ -33,6 +38,16 @@ type_of (read v) = v.number_type
 type_of input = Long
 type_of (negate e) = type_of e
 type_of (binary op a b) = wider (type_of a) (type_of b)
+type_of (element a at e) = a.number_type
+
+-- an element, and the place where its array is named
+pub record Element : Type 0 where
+  pub array : Array
+  pub place : Place
+  pub index : Expr
+
+abbrev pub read_of : Element → Expr
+read_of x = element x.array x.place x.index
 
 -- a comparison; an expression that isn't 0; `!`, `&&`, `||`
 pub data Cond : Type 0 where
@@ -68,6 +83,8 @@ mutual
     -- its items, and the label of its `}`
     block : BlockItems → ℕ → Stmt
     assign : ℕ → Variable → Rvalue → Stmt
+    -- an element gets a value
+    write : ℕ → Element → Rvalue → Stmt
     call : ℕ → Call → Stmt
     -- the branch where the condition is true, and the one where it is false
     if : ℕ → Cond → Stmt → Stmt → Stmt
@@ -92,6 +109,8 @@ mutual
   pub data BlockItems : Type 0 where
     no_more : BlockItems
     declaration : Declarator → BlockItems → BlockItems
+    -- `NAME[length]`: the label of the declarator, and its array
+    array : ℕ → Array → BlockItems → BlockItems
     statement : Stmt → BlockItems → BlockItems
 
 -- its labels alone
@@ -108,8 +127,9 @@ pub record Function : Type 0 where
   pub body : BlockItems
   pub end : ℕ
 
--- the global variables with their first values, the functions that can be called, and `main`
+-- the global variables with their first values, the global arrays, the functions that can be called, and `main`
 pub record Program : Type 0 where
   pub globals : List GlobalVariable
+  pub arrays : List Array
   pub functions : List Function
   pub main : Function

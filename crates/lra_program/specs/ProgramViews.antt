@@ -4,6 +4,7 @@ use Rattle.std.specs.Prelude.{List, [], ◌∷◌, map, option_map, Option, Some
 use Rattle.lra_program.specs.declared.program.Slot.{Slot}
 use Rattle.lra_program.specs.declared.program.Slot.TheVariants as slot
 use Rattle.lra_program.specs.declared.program.Variable.{Variable}
+use Rattle.lra_program.specs.declared.program.Element.{Element}
 use Rattle.lra_program.specs.declared.program.Expr.{Expr}
 use Rattle.lra_program.specs.declared.program.Operation.{Operation}
 use Rattle.lra_program.specs.declared.program.Expr.TheFolds.{fold-Expr, fold-Operation}
@@ -49,6 +50,7 @@ expr_step (Expr-F.Read v) = program.read (variable_view v)
 expr_step Expr-F.Input = program.input
 expr_step (Expr-F.Negate e) = program.negate e.value
 expr_step (Expr-F.Chain e os) = chained e.value os.items
+expr_step (Expr-F.Element a at e) = program.element a at e.value
 
 abbrev pub operation_step : Operation-F program.Expr (operators.Operator × program.Expr)
     → operators.Operator × program.Expr
@@ -59,6 +61,9 @@ expr_view = fold-Expr program.Expr (operators.Operator × program.Expr) expr_ste
 
 abbrev pub operation_view : Operation → operators.Operator × program.Expr
 operation_view = fold-Operation program.Expr (operators.Operator × program.Expr) expr_step operation_step
+
+abbrev pub element_view : Element → program.Element
+element_view x = record { array = x.array; place = x.place; index = expr_view x.index }
 
 -- conditions: a chain nests to the right -----------------------------------------------------------------------------
 
@@ -121,6 +126,7 @@ case_step (CaseItem-F.Stated s) = program.stated s
 
 abbrev pub item_step : BlockItem-F ItemPart CasePart program.Stmt program.BlockItems → ItemPart
 item_step (BlockItem-F.Declaration d) = program.declaration (declarator_view d)
+item_step (BlockItem-F.Array at a) = program.array at a
 item_step (BlockItem-F.Statement s) = program.statement s
 
 abbrev pub items_step : BlockItems-F ItemPart CasePart program.Stmt program.BlockItems → program.BlockItems
@@ -131,6 +137,7 @@ stmt_step Stmt-F.Absent = program.absent
 stmt_step (Stmt-F.Nothing at) = program.nothing at
 stmt_step (Stmt-F.Block b end) = program.block b end
 stmt_step (Stmt-F.Assign at x e) = program.assign at (variable_view x) (rvalue_view e)
+stmt_step (Stmt-F.Write at x e) = program.write at (element_view x) (rvalue_view e)
 stmt_step (Stmt-F.Call at c) = program.call at (call_view c)
 stmt_step (Stmt-F.If at c a b) = program.if at (cond_view c) a.value b.value
 stmt_step (Stmt-F.Loop at c a step) = program.loop at (cond_view c) a.value step.value
@@ -174,6 +181,7 @@ program_view p =
     let functions = map function_view p.functions.items in
     record {
       globals = p.globals.items;
+      arrays = p.arrays.items;
       functions = functions;
       main = function_or (slice_get functions p.main);
     }

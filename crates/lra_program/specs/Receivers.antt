@@ -1,5 +1,5 @@
--- What a value meets on its way to a variable: the types of the functions that pass it on as their result, and the
--- variable's own. A number of 64 bits that one of them doesn't have ends the run (in C, ISO/IEC 9899:2011, 6.3.1.3, the
+-- What a value meets on its way to a variable or an element: the types of the functions that pass it on as their result,
+-- and its own. A number of 64 bits that one of them doesn't have ends the run (in C, ISO/IEC 9899:2011, 6.3.1.3, the
 -- compiler says what becomes of it).
 use Rattle.std.specs.Prelude.{ℕ, ℤ, Bool, true, false, ◌&&◌, ◌||◌, Option, None, Some}
 use Rattle.lra_base.specs.declared.number_types.NumberType.{NumberType}
@@ -7,8 +7,10 @@ use Rattle.lra_base.specs.declared.number_types.NumberType.TheVariants.{Int, Lon
 use Rattle.lra_base.specs.NumberTypes.{fits}
 use Rattle.lra_program.specs.declared.receivers.Way.{Way}
 use Rattle.lra_program.specs.declared.receivers.Way.TheVariants.{Wide, Short, Shortened}
+use Rattle.lra_program.specs.declared.receivers.Cell.TheVariants.{Variable, Waiting}
 use Rattle.lra_program.specs.declared.receivers.Target.{Target}
 use Rattle.lra_program.specs.declared.receivers.Receiver.{Receiver}
+use Rattle.lra_program.specs.declared.arrays.Array.{Array}
 
 -- a further type stands before those of the way, which are told as far as they matter
 abbrev pub through : NumberType → Way → Way
@@ -40,8 +42,15 @@ converts t Shortened = true
 -- the variable at the place
 abbrev pub variable_at : ℕ → NumberType → Receiver
 variable_at place t = record {
-  target = Some (record { place = place; number_type = t });
+  target = Some (record { cell = Variable place; number_type = t });
   way = through t Wide;
+}
+
+-- the array's element at the newest index that waits
+abbrev pub waiting_in : Array → Receiver
+waiting_in a = record {
+  target = Some (record { cell = Waiting a.declared; number_type = a.number_type });
+  way = through a.number_type Wide;
 }
 
 -- a call whose result nobody asks for

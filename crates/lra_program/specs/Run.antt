@@ -1,11 +1,14 @@
 -- Runs: lists of configurations, each following the one before, from main's start with any draws of 64 bits.
-use Rattle.std.specs.Prelude.{◌≡◌, ℕ, zero, suc, ℤ, List, [], ◌∷◌, length, map, Option, Some, None, false, IsTrue}
+use Rattle.std.specs.Prelude.{◌≡◌, ℕ, zero, suc, ℤ, pos, List, [], ◌∷◌, length, map, replicate, Option, Some, None}
+use Rattle.std.specs.Prelude.{false, IsTrue}
 use Rattle.std.specs.List.{AllByRecursion}
-use Rattle.lra_program.specs.Program.{Stmt, absent, nothing, block, assign, call, if, loop, for, break, continue}
-use Rattle.lra_program.specs.Program.{return, assert, assume, switch, Program}
+use Rattle.lra_program.specs.Program.{Stmt, absent, nothing, block, assign, write, call, if, loop, for, break}
+use Rattle.lra_program.specs.Program.{continue, return, assert, assume, switch, Program}
+use Rattle.lra_base.specs.declared.refusals.Place.{Place}
+use Rattle.lra_program.specs.declared.arrays.Array.{Array}
 use Rattle.lra_program.specs.declared.program.GlobalVariable.{GlobalVariable}
 use Rattle.lra_program.specs.Value.{is_word}
-use Rattle.lra_program.specs.Step.{State, test, run_op, Here, Item, run, declare, all, end_of, turn}
+use Rattle.lra_program.specs.Step.{State, test, run_op, Here, Item, run, declare, declare_array, all, end_of, turn}
 use Rattle.lra_program.specs.Step.{cases, end_switch, cut, mark, leave_call, Config, next}
 
 -- so many steps lead from the one to the other
@@ -13,16 +16,24 @@ abbrev pub Steps : Program → ℕ → Config → Config → Type 0
 Steps P zero c d = c ≡ d
 Steps P (suc n) c d = (e : Config) × (next P c ≡ Some e) × Steps P n e d
 
--- where a run begins: the globals at their first values, and its draws
-abbrev pub begun : List GlobalVariable → List ℤ → State
-begun globals draws = record { store = map (λ (g : GlobalVariable). g.value) globals; draws = draws }
+abbrev pub zeros : Array → Place × List ℤ
+zeros a = (a.declared, replicate a.length (pos 0))
+
+-- where a run begins: the global variables at their first values, the global arrays with zeros, and its draws
+abbrev pub begun : Program → List ℤ → State
+begun P draws = record {
+  store = map (λ (g : GlobalVariable). g.value) P.globals;
+  arrays = map zeros P.arrays;
+  waiting = [];
+  draws = draws;
+}
 
 -- main's body, from there
 abbrev pub start : Program → List ℤ → Config
 start P draws = record {
   items = all P.main.body ∷ end_of P.main.end (length P.globals) ∷ [];
   here = record { path = []; base = length P.globals };
-  state = begun P.globals draws;
+  state = begun P draws;
 }
 
 -- the label of the point on top, where there is one
@@ -31,6 +42,7 @@ label_of absent = None
 label_of (nothing at) = Some at
 label_of (block body end) = None
 label_of (assign at x e) = Some at
+label_of (write at x e) = Some at
 label_of (call at c) = Some at
 label_of (if at c a b) = Some at
 label_of (loop at c a step) = Some at
@@ -46,6 +58,7 @@ abbrev pub label_on : List Item → Option ℕ
 label_on [] = None
 label_on (run s ∷ k) = label_of s
 label_on (declare d ∷ k) = Some d.label
+label_on (declare_array at a ∷ k) = Some at
 label_on (all s ∷ k) = None
 label_on (end_of at n ∷ k) = Some at
 label_on (turn step again n ∷ k) = None

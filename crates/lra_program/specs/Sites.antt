@@ -3,9 +3,10 @@
 use Rattle.std.specs.Prelude.{ℕ, zero, suc, ◌+◌, Bool, true, false, List, [], ◌∷◌, ◌++◌, length, Option, Some, None}
 use Rattle.std.specs.Prelude.{slice_get}
 use Rattle.lra_base.specs.TextOrder.{for_order}
-use Rattle.lra_program.specs.Program.{Call, Rvalue, value, result, Stmt, absent, nothing, block, assign, call, if, loop}
-use Rattle.lra_program.specs.Program.{for, break, continue, return, assert, assume, switch, Cases, no_cases, labelled}
-use Rattle.lra_program.specs.Program.{stated, BlockItems, no_more, declaration, statement, Function, Program}
+use Rattle.lra_program.specs.Program.{Call, Rvalue, value, result, Stmt, absent, nothing, block, assign, write, call}
+use Rattle.lra_program.specs.Program.{if, loop, for, break, continue, return, assert, assume, switch, Cases, no_cases}
+use Rattle.lra_program.specs.Program.{labelled, stated, BlockItems, no_more, declaration, array, statement, Function}
+use Rattle.lra_program.specs.Program.{Program}
 
 -- a point: its calls, the innermost first, its label, how many variables live there, and whether it is an assertion
 pub record Site : Type 0 where
@@ -25,10 +26,11 @@ greatest_calls = 32
 abbrev pub plain_site : List ℕ → ℕ → ℕ → Event
 plain_site path at live = comes (record { path = path; label = at; live = live; asserts = false })
 
--- how many variables live behind some items
+-- how many variables live behind some items; an array is none
 abbrev pub live_behind : ℕ → BlockItems → ℕ
 live_behind live no_more = live
 live_behind live (declaration d items) = live_behind (suc live) items
+live_behind live (array at a items) = live_behind live items
 live_behind live (statement s items) = live_behind live items
 
 -- a call's points, on a path with so many live variables
@@ -47,6 +49,7 @@ module _ (inside : List ℕ → ℕ → Call → List Event) (path : List ℕ) w
     stmt_events live (nothing at) = plain_site path at live ∷ []
     stmt_events live (block items end) = items_events live items ++ plain_site path end (live_behind live items) ∷ []
     stmt_events live (assign at x e) = plain_site path at live ∷ rvalue_events live e
+    stmt_events live (write at x e) = plain_site path at live ∷ rvalue_events live e
     stmt_events live (call at c) = plain_site path at live ∷ inside path live c
     stmt_events live (if at c a b) = plain_site path at live ∷ stmt_events live a ++ stmt_events live b
     stmt_events live (loop at c a step) = for_order (plain_site path at live) [] (stmt_events live step)
@@ -71,6 +74,7 @@ module _ (inside : List ℕ → ℕ → Call → List Event) (path : List ℕ) w
     items_events live no_more = []
     items_events live (declaration d items) = plain_site path d.label live ∷ given_events (suc live) d.rvalue ++
         items_events (suc live) items
+    items_events live (array at a items) = plain_site path at live ∷ items_events live items
     items_events live (statement s items) = stmt_events live s ++ items_events live items
 
 -- a function's points: its body's and that of its end

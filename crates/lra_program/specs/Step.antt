@@ -2,45 +2,68 @@
 -- and exactly one case applies to it. The step is a function, since a state holds the draws that are left.
 use Rattle.std.specs.Prelude.{ℕ, ◌+◌, ℤ, List, [], ◌∷◌, ◌++◌, length, take, Option, Some, None, Bool, true, false}
 use Rattle.std.specs.Prelude.{slice_get, slice_set, cond}
-use Rattle.lra_program.specs.Program.{Expr, Cond, Call, Rvalue, value, result, Declarator, Stmt, absent, nothing, block}
-use Rattle.lra_program.specs.Program.{assign, call, if, loop, for, break, continue, return, assert, assume, switch}
-use Rattle.lra_program.specs.Program.{Cases, no_cases, labelled, stated, labels_of, BlockItems, no_more, declaration}
-use Rattle.lra_program.specs.Program.{statement, Function, Program}
+use Rattle.lra_program.specs.Program.{Expr, Element, Cond, Call, Rvalue, value, result, Declarator, Stmt, absent}
+use Rattle.lra_program.specs.Program.{nothing, block, assign, write, call, if, loop, for, break, continue, return}
+use Rattle.lra_program.specs.Program.{assert, assume, switch, Cases, no_cases, labelled, stated, labels_of, BlockItems}
+use Rattle.lra_program.specs.Program.{no_more, declaration, array, statement, Function, Program}
 use Rattle.lra_base.specs.declared.case_labels.CaseLabel.{CaseLabel}
 use Rattle.lra_base.specs.CaseLabels.{are_alike, goal_of}
 use Rattle.lra_base.specs.declared.number_types.NumberType.{NumberType}
+use Rattle.lra_base.specs.declared.refusals.Place.{Place}
+use Rattle.lra_program.specs.declared.arrays.Array.{Array}
+use Rattle.lra_program.specs.declared.receivers.Cell.{Cell}
+use Rattle.lra_program.specs.declared.receivers.Cell.TheVariants.{Variable, Waiting}
 use Rattle.lra_program.specs.declared.receivers.Target.{Target}
 use Rattle.lra_program.specs.declared.receivers.Receiver.{Receiver}
-use Rattle.lra_program.specs.Receivers.{variable_at, nobody, behind_result, accepts}
-use Rattle.lra_program.specs.Value.{◌>>=◌, number, index_of, Scene, Drawn, draw, value_of, Argument, values_of}
-use Rattle.lra_program.specs.Value.{truth_of}
+use Rattle.lra_program.specs.Receivers.{variable_at, waiting_in, nobody, behind_result, accepts}
+use Rattle.lra_program.specs.Arrays.{Contents, place_among, with_element}
+use Rattle.lra_program.specs.Value.{◌>>=◌, number, index_of, Scene, Drawn, draw, draws_of, value_of, Argument}
+use Rattle.lra_program.specs.Value.{values_of, truth_of}
 
--- the variables, oldest first, and the draws that are left
+-- the variables, oldest first; what the arrays hold; the indexes that wait for what their elements get, newest first;
+-- and the draws that are left
 pub record State : Type 0 where
   pub store : List ℤ
+  pub arrays : Contents
+  pub waiting : List ℕ
   pub draws : List ℤ
 
 -- what a call reads in the state, whose own variables begin there
 abbrev pub scene_at : ℕ → State → Scene
-scene_at base s = record { base = base; store = s.store }
+scene_at base s = record { base = base; store = s.store; arrays = s.arrays }
 
 -- the least changes of a state, of which all steps are made; a number is a place in the store, or a length
 pub data Op : Type 0 where
   -- a new variable of this type, which gets a draw
   append : NumberType → Op
+  -- the array's elements, which get draws
+  fill : Array → Op
   -- the receiver gets the value; `base` is where the call's own variables begin
   give : ℕ → Receiver → Expr → Op
   give_any : Receiver → Op
+  -- an element gets the value; its index is computed first
+  give_element : ℕ → Element → Expr → Op
   -- the arguments' values, as new variables
   push : ℕ → List Argument → Op
+  -- an element's index is computed, and waits; then the arguments' values
+  push_for : ℕ → Element → List Argument → Op
   -- only the oldest so many variables stay
   keep : ℕ → Op
   -- nothing, where the condition is so
   test : ℕ → Cond → Bool → Op
 
-abbrev pub put : Option Target → ℤ → List ℤ → List ℤ
-put None z store = store
-put (Some t) z store = slice_set store t.place z
+-- to the element at the first of these indexes, which waits no more
+abbrev pub put_waiting : Place → ℤ → List ℕ → State → State
+put_waiting p z [] s = s
+put_waiting p z (k ∷ ks) s = record s { arrays = with_element p k z s.arrays; waiting = ks }
+
+abbrev pub put_in : Cell → ℤ → State → State
+put_in (Variable k) z s = record s { store = slice_set s.store k z }
+put_in (Waiting p) z s = put_waiting p z s.waiting s
+
+abbrev pub put : Option Target → ℤ → State → State
+put None z s = s
+put (Some t) z s = put_in t.cell z s
 
 -- the state, where the one is as the other
 abbrev pub kept_if : Bool → Bool → State → Option State
@@ -52,7 +75,7 @@ kept_if false true s = None
 -- none where a type on the value's way doesn't have it
 abbrev pub receive : Receiver → State → Drawn ℤ → Option State
 receive x s None = None
-receive x s (Some r) = kept_if true (accepts x r.0) (record s { store = put x.target r.0 s.store; draws = r.1 })
+receive x s (Some r) = kept_if true (accepts x r.0) (put x.target r.0 (record s { draws = r.1 }))
 
 abbrev pub pushed : State → Drawn (List ℤ) → Option State
 pushed s None = None
@@ -70,12 +93,25 @@ drawn_for (Some t) x s = receive x s (draw s.draws)
 abbrev pub run_any : Receiver → State → Option State
 run_any x s = drawn_for x.target x s
 
+abbrev pub filled : Array → State → Drawn (List ℤ) → Option State
+filled a s None = None
+filled a s (Some r) = Some (record s { arrays = (a.declared, r.0) ∷ s.arrays; draws = r.1 })
+
+-- the element's index, where its array has it, waits
+abbrev pub aim : ℕ → Element → State → Option State
+aim base x s = value_of x.index (scene_at base s) s.draws >>= λ r. place_among x.array.length r.0 >>= λ k.
+    Some (record s { waiting = k ∷ s.waiting; draws = r.1 })
+
 abbrev pub run_op : Op → State → Option State
 run_op (append t) s = draw s.draws >>= λ r. number t r.0 >>= λ z.
     Some (record s { store = s.store ++ z ∷ []; draws = r.1 })
+run_op (fill a) s = filled a s (draws_of a.number_type a.length s.draws)
 run_op (give base x e) s = receive x s (value_of e (scene_at base s) s.draws)
 run_op (give_any x) s = run_any x s
+run_op (give_element base x e) s =
+    aim base x s >>= λ m. receive (waiting_in x.array) m (value_of e (scene_at base m) m.draws)
 run_op (push base given) s = pushed s (values_of given (scene_at base s) s.draws)
+run_op (push_for base x given) s = aim base x s >>= λ m. pushed m (values_of given (scene_at base m) m.draws)
 run_op (keep n) s = Some (record s { store = take n s.store })
 run_op (test base c wanted) s = tested wanted s (truth_of c (scene_at base s) s.draws)
 
@@ -93,6 +129,7 @@ pub record Back : Type 0 where
 pub data Item : Type 0 where
   run : Stmt → Item
   declare : Declarator → Item
+  declare_array : ℕ → Array → Item
   all : BlockItems → Item
   -- a block's end, and how long the store was before the block
   end_of : ℕ → ℕ → Item
@@ -122,6 +159,7 @@ abbrev pub to_outside : List Item → Option Outside
 to_outside [] = None
 to_outside (run s ∷ k) = to_outside k
 to_outside (declare d ∷ k) = to_outside k
+to_outside (declare_array at a ∷ k) = to_outside k
 to_outside (all s ∷ k) = to_outside k
 to_outside (end_of at n ∷ k) = to_outside k
 to_outside (turn step again n ∷ k) = Some (record { length = n; rest = k })
@@ -142,6 +180,7 @@ abbrev pub to_turn : List Item → Option Turn
 to_turn [] = None
 to_turn (run s ∷ k) = to_turn k
 to_turn (declare d ∷ k) = to_turn k
+to_turn (declare_array at a ∷ k) = to_turn k
 to_turn (all s ∷ k) = to_turn k
 to_turn (end_of at n ∷ k) = to_turn k
 to_turn (turn step again n ∷ k) = Some (record { step = step; again = again; length = n; rest = k })
@@ -160,6 +199,7 @@ abbrev pub to_mark : List Item → Option Called
 to_mark [] = None
 to_mark (run s ∷ k) = to_mark k
 to_mark (declare d ∷ k) = to_mark k
+to_mark (declare_array at a ∷ k) = to_mark k
 to_mark (all s ∷ k) = to_mark k
 to_mark (end_of at n ∷ k) = to_mark k
 to_mark (turn step again n ∷ k) = to_mark k
@@ -198,17 +238,27 @@ arguments_for (t ∷ ts) [] = []
 arguments_for (t ∷ ts) (e ∷ es) = record { number_type = t; value = e } ∷ arguments_for ts es
 
 -- arguments are evaluated and appended; then the callee's body, its end and its mark
-abbrev pub enter : Option Function → Call → Receiver → List Item → Here → State → Option Config
-enter None c x k h s = None
-enter (Some f) c x k h s =
+abbrev pub enter_by : (List Argument → Op) → Option Function → Call → Receiver → List Item → Here → State →
+    Option Config
+enter_by gives None c x k h s = None
+enter_by gives (Some f) c x k h s =
     go (all f.body ∷ end_of f.end (length s.store + length f.parameters) ∷
     mark (record { receiver = behind_result f.result_type x; here = h; length = length s.store }) ∷ k)
     (record { path = c.label ∷ h.path; base = length s.store })
-    (run_op (push h.base (arguments_for f.parameters c.arguments)) s)
+    (run_op (gives (arguments_for f.parameters c.arguments)) s)
+
+abbrev pub enter : Option Function → Call → Receiver → List Item → Here → State → Option Config
+enter f c x k h s = enter_by (push h.base) f c x k h s
 
 abbrev pub do_rvalue : Program → Receiver → Rvalue → List Item → Here → State → Option Config
 do_rvalue P x (value e) k h s = go k h (run_op (give h.base x e) s)
 do_rvalue P x (result c) k h s = enter (slice_get P.functions c.function) c x k h s
+
+-- the element's index, then what it gets
+abbrev pub do_write : Program → Element → Rvalue → List Item → Here → State → Option Config
+do_write P x (value e) k h s = go k h (run_op (give_element h.base x e) s)
+do_write P x (result c) k h s =
+    enter_by (push_for h.base x) (slice_get P.functions c.function) c (waiting_in x.array) k h s
 
 abbrev pub go_on : Option State → (State → Option Config) → Option Config
 go_on None f = None
@@ -251,6 +301,7 @@ do_stmt P absent k h s = go k h (Some s)
 do_stmt P (nothing at) k h s = go k h (Some s)
 do_stmt P (block body end) k h s = go (all body ∷ end_of end (length s.store) ∷ k) h (Some s)
 do_stmt P (assign at x e) k h s = do_rvalue P (variable_at (index_of h.base x.slot) x.number_type) e k h s
+do_stmt P (write at x e) k h s = do_write P x e k h s
 do_stmt P (call at c) k h s = do_rvalue P nobody (result c) k h s
 do_stmt P (if at c a b) k h s = go_by (run a ∷ k) (run b ∷ k) h s (truth_of c (scene_at h.base s) s.draws)
 do_stmt P (loop at c a step) k h s = go_by (run a ∷ turn step (loop at c a step) (length s.store) ∷ k) k h s
@@ -271,6 +322,7 @@ do_declare P t (Some e) k h s = go_on (run_op (append t) s) (do_rvalue P (variab
 abbrev pub do_all : BlockItems → List Item → Here → State → Option Config
 do_all no_more k h s = go k h (Some s)
 do_all (declaration d b) k h s = go (declare d ∷ all b ∷ k) h (Some s)
+do_all (array at a b) k h s = go (declare_array at a ∷ all b ∷ k) h (Some s)
 do_all (statement a b) k h s = go (run a ∷ all b ∷ k) h (Some s)
 
 -- the statements behind a label run one after the other, past further labels
@@ -283,6 +335,7 @@ abbrev pub next_at : Program → List Item → Here → State → Option Config
 next_at P [] h s = None
 next_at P (run a ∷ k) h s = do_stmt P a k h s
 next_at P (declare d ∷ k) h s = do_declare P d.number_type d.rvalue k h s
+next_at P (declare_array at a ∷ k) h s = go k h (run_op (fill a) s)
 next_at P (all a ∷ k) h s = do_all a k h s
 next_at P (end_of at n ∷ k) h s = go k h (run_op (keep n) s)
 next_at P (turn step again n ∷ k) h s = go (run step ∷ run again ∷ k) h (Some s)

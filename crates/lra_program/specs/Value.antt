@@ -1,17 +1,19 @@
 -- The value of an expression, a number of its type, and of a condition, with the draws that are left; none where the
 -- run stops: at a number that doesn't fit the type in which it is computed, at a divisor 0, at that type's least number
--- divided by -1 (also for `%`), at an argument that doesn't fit its parameter, and where a draw is needed and none is
--- left (ISO/IEC 9899:2011, 6.5; overflow, undefined there, ends the run here).
+-- divided by -1 (also for `%`), at an argument that doesn't fit its parameter, at an index outside its array, and where
+-- a draw is needed and none is left (ISO/IEC 9899:2011, 6.5; overflow and an index outside, undefined there, end the run
+-- here).
 use Rattle.std.specs.Prelude.{◌≡◌, ℕ, zero, suc, ℤ, pos, negsuc, ◌+ℤ◌, ◌-ℤ◌, ◌*ℤ◌, ◌+◌, List, [], ◌∷◌, Option, Some}
 use Rattle.std.specs.Prelude.{None, Bool, true, false, not, if◌then◌else◌, slice_get, int_div, int_rem, int_lt, int_le}
 use Rattle.std.specs.Prelude.{IsTrue}
 use Rattle.lra_base.specs.declared.number_types.NumberType.{NumberType}
 use Rattle.lra_base.specs.declared.number_types.NumberType.TheVariants.{Long}
 use Rattle.lra_base.specs.NumberTypes.{fits, wider}
-use Rattle.lra_program.specs.Program.{Slot, global, local, Expr, literal, read, input, negate, binary, type_of, Cond}
-use Rattle.lra_program.specs.Program.{compare, nonzero, opposite, both_of, either_of}
+use Rattle.lra_program.specs.Program.{Slot, global, local, Expr, literal, read, input, negate, binary, element}
+use Rattle.lra_program.specs.Program.{type_of, Cond, compare, nonzero, opposite, both_of, either_of}
 use Rattle.lra_base.specs.Operators.{Operator, plus, minus, times, over, modulo, Comparison, below, at_most, above}
 use Rattle.lra_base.specs.Operators.{at_least, equal, differs}
+use Rattle.lra_program.specs.Arrays.{Contents, elements_of, place_among}
 
 -- go on with what is there
 infixl 10 ◌>>=◌
@@ -57,10 +59,11 @@ abbrev pub index_of : ℕ → Slot → ℕ
 index_of base (global k) = k
 index_of base (local k) = base + k
 
--- what an expression is read in: where the call's own variables begin, and the store
+-- what an expression is read in: where the call's own variables begin, the store, and what the arrays hold
 pub record Scene : Type 0 where
   pub base : ℕ
   pub store : List ℤ
+  pub arrays : Contents
 
 -- a result and the draws behind it
 abbrev pub Drawn : Type 0 → Type 0
@@ -71,8 +74,13 @@ abbrev pub draw : List ℤ → Drawn ℤ
 draw [] = None
 draw (d ∷ ds) = number Long d >>= λ z. Some (z, ds)
 
--- Operands from left to right. What a variable holds is asked, too: where it is no number of the variable's type, there
--- is no value.
+-- so many draws, each a number of the type
+abbrev pub draws_of : NumberType → ℕ → List ℤ → Drawn (List ℤ)
+draws_of t zero draws = Some ([], draws)
+draws_of t (suc n) draws = draw draws >>= λ r. number t r.0 >>= λ z. draws_of t n r.1 >>= λ q. Some (z ∷ q.0, q.1)
+
+-- Operands from left to right. What a variable or an element holds is asked, too: where it is no number of the
+-- variable's or the array's type, there is no value.
 abbrev pub value_of : Expr → Scene → List ℤ → Drawn ℤ
 value_of (literal t n) s draws = number t (pos n) >>= λ z. Some (z, draws)
 value_of (read v) s draws =
@@ -81,6 +89,8 @@ value_of input s draws = draw draws
 value_of (negate e) s draws = value_of e s draws >>= λ r. number (type_of e) (pos 0 -ℤ r.0) >>= λ z. Some (z, r.1)
 value_of (binary op a b) s draws = value_of a s draws >>= λ r. value_of b s r.1 >>= λ q.
     apply (wider (type_of a) (type_of b)) op r.0 q.0 >>= λ z. Some (z, q.1)
+value_of (element a at e) s draws = value_of e s draws >>= λ r. place_among a.length r.0 >>= λ k.
+    slice_get (elements_of a.declared s.arrays) k >>= λ y. number a.number_type y >>= λ z. Some (z, r.1)
 
 -- a value, where there is one, is a number of its expression's type
 abbrev pub ValuesHaveTypes : Type 0

@@ -1,16 +1,16 @@
 -- Well-formed programs: what holds of the program that a source without faults means. A program made by hand may have a
 -- number that its type doesn't have, one label twice, a variable that isn't there, or a call without a callee; its runs
 -- are told all the same, and stop or go on as they may. Whether a variable has the type that it is read with isn't
--- asked here: the steps ask it where they read one.
-use Rattle.std.specs.Prelude.{◌≡◌, ℕ, suc, ◌<◌, pos, Bool, true, false, List, [], ◌∷◌, ◌++◌, length, Option, Some, None}
-use Rattle.std.specs.Prelude.{slice_get, IsTrue, ⊤}
+-- asked here, nor whether an array is there: the steps ask it where they read one.
+use Rattle.std.specs.Prelude.{◌≡◌, ℕ, suc, ◌<◌, pos, Bool, true, false, List, [], ◌∷◌, ◌++◌, length, Option, Some}
+use Rattle.std.specs.Prelude.{None, slice_get, IsTrue, ⊤}
 use Rattle.std.specs.List.{AllByRecursion, Contains, flat_map, range_with_len}
 use Rattle.lra_base.specs.TextOrder.{for_order}
-use Rattle.lra_program.specs.Program.{Slot, global, local, Expr, literal, read, input, negate, binary, Cond, compare}
-use Rattle.lra_program.specs.Program.{nonzero, opposite, both_of, either_of, Call, Rvalue, value, result, Stmt, absent}
-use Rattle.lra_program.specs.Program.{nothing, block, assign, call, if, loop, for, break, continue, return, assert}
-use Rattle.lra_program.specs.Program.{assume, switch, Cases, no_cases, labelled, stated, BlockItems, no_more}
-use Rattle.lra_program.specs.Program.{declaration, statement, Function, Program}
+use Rattle.lra_program.specs.Program.{Slot, global, local, Expr, literal, read, input, negate, binary, element, Cond}
+use Rattle.lra_program.specs.Program.{compare, nonzero, opposite, both_of, either_of, Call, Rvalue, value, result}
+use Rattle.lra_program.specs.Program.{Stmt, absent, nothing, block, assign, write, call, if, loop, for, break}
+use Rattle.lra_program.specs.Program.{continue, return, assert, assume, switch, Cases, no_cases, labelled, stated}
+use Rattle.lra_program.specs.Program.{BlockItems, no_more, declaration, array, statement, Function, Program}
 use Rattle.lra_program.specs.declared.program.GlobalVariable.{GlobalVariable}
 use Rattle.lra_base.specs.NumberTypes.{fits}
 use Rattle.lra_program.specs.Sites.{live_behind}
@@ -24,6 +24,7 @@ abbrev mutual
   stmt_numbers (nothing at) = at ∷ []
   stmt_numbers (block items end) = items_numbers items ++ end ∷ []
   stmt_numbers (assign at x e) = at ∷ []
+  stmt_numbers (write at x e) = at ∷ []
   stmt_numbers (call at c) = at ∷ []
   stmt_numbers (if at c a b) = at ∷ stmt_numbers a ++ stmt_numbers b
   stmt_numbers (loop at c a step) = for_order at [] (stmt_numbers step) (stmt_numbers a)
@@ -43,6 +44,7 @@ abbrev mutual
   pub items_numbers : BlockItems → List ℕ
   items_numbers no_more = []
   items_numbers (declaration d items) = d.label ∷ items_numbers items
+  items_numbers (array at a items) = at ∷ items_numbers items
   items_numbers (statement s items) = stmt_numbers s ++ items_numbers items
 
 abbrev pub function_numbers : Function → List ℕ
@@ -81,6 +83,7 @@ module _ (P : Program) where
   IsGoodExpr live input = ⊤
   IsGoodExpr live (negate e) = IsGoodExpr live e
   IsGoodExpr live (binary op a b) = IsGoodExpr live a × IsGoodExpr live b
+  IsGoodExpr live (element a at e) = IsGoodExpr live e
 
   abbrev pub IsGoodCond : ℕ → Cond → Type 0
   IsGoodCond live (compare op a b) = IsGoodExpr live a × IsGoodExpr live b
@@ -112,6 +115,7 @@ module _ (P : Program) where
     IsGoodStmt j live (nothing at) = ⊤
     IsGoodStmt j live (block items end) = AreGoodItems j live items
     IsGoodStmt j live (assign at x e) = IsLive live x.slot × IsGoodRvalue at live e
+    IsGoodStmt j live (write at x e) = IsGoodExpr live x.index × IsGoodRvalue at live e
     IsGoodStmt j live (call at c) = IsGoodCall at live c
     IsGoodStmt j live (if at c a b) = IsGoodCond live c × IsGoodStmt j live a × IsGoodStmt j live b
     IsGoodStmt j live (loop at c a step) = IsGoodCond live c × IsGoodStmt in_loop live a × IsGoodStmt no_jumps live step
@@ -136,6 +140,7 @@ module _ (P : Program) where
     AreGoodItems j live no_more = ⊤
     AreGoodItems j live (declaration d items) = IsGoodGiven d.label (suc live) d.rvalue ×
         AreGoodItems j (suc live) items
+    AreGoodItems j live (array at a items) = AreGoodItems j live items
     AreGoodItems j live (statement s items) = IsGoodStmt j live s × AreGoodItems j live items
 
   abbrev pub IsGoodFunction : Function → Type 0

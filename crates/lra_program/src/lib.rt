@@ -3,11 +3,13 @@
 //! Most of the crate is definitions: `specs/` is to be read from top to bottom, in the order of `specs/Lib.antt`.
 #![tactic(auto)]
 
+mod arrays;
 mod program;
 mod receivers;
 
+pub use arrays::Array;
 pub use program::{
-    Argument, BlockItem, BlockItems, Call, CaseItem, Cond, Declarator, Expr, Function,
+    Argument, BlockItem, BlockItems, Call, CaseItem, Cond, Declarator, Element, Expr, Function,
     GlobalVariable, Operation, Program, Rvalue, Slot, Stmt, Variable, pair_arguments,
 };
-pub use receivers::{Receiver, Target, Way};
+pub use receivers::{Cell, Receiver, Target, Way};

@@ -3,10 +3,11 @@
 //! ends of blocks from 1.
 
 ghost use Rattle.std.specs.Prelude.{◌≡◌, ◌∷◌, [], map, IfOk};
-ghost use Rattle.lra_program.specs.ProgramViews.{expr_view, operation_view, cond_view, argument_view};
+ghost use Rattle.lra_program.specs.ProgramViews.{expr_view, element_view, operation_view, cond_view, argument_view};
 ghost use Rattle.lra_program.specs.Step.{arguments_for};
 
-use lra_base::{CaseLabel, Comparison, NumberType, Operator};
+use crate::arrays::Array;
+use lra_base::{CaseLabel, Comparison, NumberType, Operator, Place};
 use std::alloc::{AllocError, Global};
 
 /// A variable of the whole program, or of the call that runs, by its place from the oldest on.
@@ -34,6 +35,8 @@ pub enum Expr {
     Negate(Box<Expr>),
     /// From the left.
     Chain(Box<Expr>, Vec<Operation>),
+    /// An array, the place where it is named, and the index.
+    Element(Array, Place, Box<Expr>),
 }
 
 impl Drop for Expr {
@@ -45,6 +48,7 @@ impl Drop for Expr {
             Expr::Input => {}
             Expr::Negate(_) => {}
             Expr::Chain(_, _) => {}
+            Expr::Element(_, _, _) => {}
         }
     }
 }
@@ -62,6 +66,23 @@ impl Drop for Operation {
         let Operation {
             operator: _,
             operand: _,
+        } = self;
+    }
+}
+
+/// An element, and the place where its array is named.
+pub struct Element {
+    pub array: Array,
+    pub place: Place,
+    pub index: Expr,
+}
+
+impl Drop for Element {
+    fn drop(self) {
+        let Element {
+            array: _,
+            place: _,
+            index: _,
         } = self;
     }
 }
@@ -149,6 +170,8 @@ pub enum Stmt {
     /// A block's items, and the label of its `}`.
     Block(BlockItems, usize),
     Assign(usize, Variable, Rvalue),
+    /// An element gets a value.
+    Write(usize, Element, Rvalue),
     Call(usize, Call),
     /// The branch where the condition is true, and the one where it is false.
     If(usize, Cond, Box<Stmt>, Box<Stmt>),
@@ -179,6 +202,7 @@ impl Drop for Stmt {
             Stmt::Nothing(_) => {}
             Stmt::Block(_, _) => {}
             Stmt::Assign(_, _, _) => {}
+            Stmt::Write(_, _, _) => {}
             Stmt::Call(_, _) => {}
             Stmt::If(_, _, _, _) => {}
             Stmt::Loop(_, _, _, _) => {}
@@ -220,6 +244,8 @@ impl Drop for CaseItem {
 #[cycle(resolved_statement)]
 pub enum BlockItem {
     Declaration(Declarator),
+    /// A declarator's label, and its array.
+    Array(usize, Array),
     Statement(Stmt),
 }
 
@@ -228,6 +254,7 @@ impl Drop for BlockItem {
     fn drop(self) {
         match self {
             BlockItem::Declaration(_) => {}
+            BlockItem::Array(_, _) => {}
             BlockItem::Statement(_) => {}
         }
     }
@@ -294,6 +321,8 @@ pub struct GlobalVariable {
 /// A program.
 pub struct Program {
     pub globals: Vec<GlobalVariable>,
+    /// The global arrays.
+    pub arrays: Vec<Array>,
     /// All functions in text order.
     pub functions: Vec<Function>,
     /// The place of `main` among them.
@@ -304,6 +333,7 @@ impl Drop for Program {
     fn drop(self) {
         let Program {
             globals: _,
+            arrays: _,
             functions: _,
             main: _,
         } = self;
@@ -325,6 +355,22 @@ impl Expr {
                 let first = Box::new(alloc, first.copy(alloc)?)?;
                 Expr::Chain(first, copy_operations(alloc, rest)?)
             }
+            Expr::Element(array, place, index) => {
+                Expr::Element(*array, *place, Box::new(alloc, index.copy(alloc)?)?)
+            }
+        })
+    }
+}
+
+impl Element {
+    /// A copy that stands for the same element.
+    pub fn copy(&self, alloc: Global) -> Result<Element, AllocError>
+        ensures { IfOk result (λ x. element_view x ≡ element_view self.now) }
+    {
+        Ok(Element {
+            array: self.array,
+            place: self.place,
+            index: self.index.copy(alloc)?,
         })
     }
 }

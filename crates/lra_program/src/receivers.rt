@@ -1,10 +1,11 @@
-//! What a value meets on its way to a variable.
+//! What a value meets on its way to a variable or an element.
 
 ghost use Rattle.std.specs.Prelude.{◌≡◌};
 ghost use Rattle.lra_program.specs.Receivers.{through, converts, is_shorter, shortens, converts_to};
-ghost use Rattle.lra_program.specs.Receivers.{variable_at, nobody, behind_result};
+ghost use Rattle.lra_program.specs.Receivers.{variable_at, waiting_in, nobody, behind_result};
 
-use lra_base::NumberType;
+use crate::arrays::Array;
+use lra_base::{NumberType, Place};
 
 /// The types on a way, as far as they matter.
 #[derive(Clone, Copy, PartialEq, Eq, Debug)]
@@ -49,10 +50,19 @@ impl Way {
     }
 }
 
-/// A variable by its place in the store.
+/// Where a number is kept.
+#[derive(Clone, Copy, PartialEq, Eq, Debug)]
+pub enum Cell {
+    /// The variable at this place in the store.
+    Variable(usize),
+    /// An element of the array that is declared there: the one whose index was the last to begin to wait.
+    Waiting(Place),
+}
+
+/// A variable or an element, with its type.
 #[derive(Clone, Copy, PartialEq, Eq, Debug)]
 pub struct Target {
-    pub place: usize,
+    pub cell: Cell,
     pub number_type: NumberType,
 }
 
@@ -69,8 +79,24 @@ impl Receiver {
         ensures { result ≡ variable_at place number_type }
     {
         Receiver {
-            target: Some(Target { place, number_type }),
+            target: Some(Target {
+                cell: Cell::Variable(place),
+                number_type,
+            }),
             way: Way::Wide.behind(number_type),
+        }
+    }
+
+    /// The array's element whose index waits.
+    pub fn waiting(array: Array) -> Self
+        ensures { result ≡ waiting_in array }
+    {
+        Receiver {
+            target: Some(Target {
+                cell: Cell::Waiting(array.declared),
+                number_type: array.number_type,
+            }),
+            way: Way::Wide.behind(array.number_type),
         }
     }
 
