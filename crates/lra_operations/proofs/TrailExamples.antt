@@ -11,7 +11,7 @@ use Rattle.lra_operations.specs.Graph.{broken, Node, point, act, seq, iterate, c
 use Rattle.lra_operations.specs.Trails.{to_point, to_failure, to_end, stopped, Goes}
 
 abbrev x_is : ℤ → State
-x_is z = record { store = z ∷ []; draws = [] }
+x_is z = record { store = z ∷ []; arrays = []; waiting = []; draws = [] }
 
 abbrev starts : State → Trail ℕ
 starts s = record { state = s; met = [] }

@@ -23,12 +23,12 @@ pub record IsGraph (P : Program) (g : Node) : Type 0 where
 abbrev pub Reached : Program → Node → ℕ → List ℤ → Type 0
 Reached P g number store =
     (draws : List ℤ) × AllByRecursion (λ z. IsTrue (is_word z)) draws × (t : State) ×
-    Comes g (begun P.globals draws) number t × (t.store ≡ store)
+    Comes g (begun P draws) number t × (t.store ≡ store)
 
 -- it fails the assertion of this number
 abbrev pub Failed : Program → Node → ℕ → Type 0
 Failed P g number = (draws : List ℤ) × AllByRecursion (λ z. IsTrue (is_word z)) draws ×
-    FailsAt g (begun P.globals draws) number
+    FailsAt g (begun P draws) number
 
 -- the point with this number
 abbrev pub point_of : Site → Point

@@ -55,7 +55,7 @@ entries_of (arm a arms) = entries_of arms
 -- the expression's value, where it has one, goes to this label; the second state is behind its draws
 abbrev pub Selects : ℕ → Expr → Arms → State → CaseLabel → State → Type 0
 Selects base e arms s l t = (z : ℤ) × (value_of e (scene_at base s) s.draws ≡ Some (z, t.draws)) ×
-    (t.store ≡ s.store) × (l ≡ goal_of z (entries_of arms))
+    (t ≡ record s { draws = t.draws }) × (l ≡ goal_of z (entries_of arms))
 
 -- n rounds lead from the first state to the second
 abbrev pub Rounds : (State → State → Type 0) → ℕ → State → State → Type 0

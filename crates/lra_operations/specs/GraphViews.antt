@@ -12,7 +12,7 @@ use Rattle.lra_operations.specs.declared.graph.Site.{Site}
 use Rattle.lra_program.specs.Step as step
 use Rattle.lra_operations.specs.Graph as graph
 use Rattle.lra_program.specs.Sites as sites
-use Rattle.lra_program.specs.ProgramViews.{expr_view, argument_view, cond_view}
+use Rattle.lra_program.specs.ProgramViews.{expr_view, element_view, argument_view, cond_view}
 
 abbrev pub exit_view : Exit → graph.Exit
 exit_view exit.Broken = graph.broken
@@ -21,9 +21,12 @@ exit_view exit.Returned = graph.returned
 
 abbrev pub op_view : Op → step.Op
 op_view (op.Append t) = step.append t
+op_view (op.Fill a) = step.fill a
 op_view (op.Give base x e) = step.give base x (expr_view e)
+op_view (op.GiveElement base x e) = step.give_element base (element_view x) (expr_view e)
 op_view (op.GiveAny x) = step.give_any x
 op_view (op.Push base given) = step.push base (map argument_view given.items)
+op_view (op.PushFor base x given) = step.push_for base (element_view x) (map argument_view given.items)
 op_view (op.Keep n) = step.keep n
 op_view (op.Test base c wanted) = step.test base (cond_view c) wanted
 

@@ -3,17 +3,19 @@
 -- T is the list of the program's points in the order of their numbers.
 use Rattle.std.specs.Prelude.{◌≡◌, ℕ, suc, ◌+◌, ◌≤◌, Bool, true, false, List, ◌∷◌, length, Option, Some, None}
 use Rattle.std.specs.Prelude.{slice_get, []}
-use Rattle.lra_program.specs.Program.{Variable, Expr, Cond, Call, Rvalue, value, result, Declarator, Stmt, absent}
-use Rattle.lra_program.specs.Program.{nothing, block, assign, call, if, loop, for, break, continue, return, assert}
-use Rattle.lra_program.specs.Program.{assume, switch, Cases, no_cases, labelled, stated, BlockItems, no_more}
-use Rattle.lra_program.specs.Program.{declaration, statement, Function, Program}
+use Rattle.lra_program.specs.Program.{Variable, Expr, Element, Cond, Call, Rvalue, value, result, Declarator, Stmt}
+use Rattle.lra_program.specs.Program.{absent, nothing, block, assign, write, call, if, loop, for, break, continue}
+use Rattle.lra_program.specs.Program.{return, assert, assume, switch, Cases, no_cases, labelled, stated, BlockItems}
+use Rattle.lra_program.specs.Program.{no_more, declaration, array, statement, Function, Program}
+use Rattle.lra_program.specs.declared.arrays.Array.{Array}
 use Rattle.lra_base.specs.declared.case_labels.CaseLabel.{CaseLabel}
 use Rattle.lra_program.specs.Value.{index_of}
 use Rattle.lra_base.specs.declared.number_types.NumberType.{NumberType}
 use Rattle.lra_program.specs.declared.receivers.Receiver.{Receiver}
-use Rattle.lra_program.specs.Receivers.{variable_at, nobody, behind_result}
+use Rattle.lra_program.specs.Receivers.{variable_at, waiting_in, nobody, behind_result}
 use Rattle.lra_program.specs.Value.{Argument}
-use Rattle.lra_program.specs.Step.{Op, append, give, give_any, push, keep, test, Here, Back, arguments_for, behind_main}
+use Rattle.lra_program.specs.Step.{Op, append, fill, give, give_element, give_any, push, push_for, keep, test, Here}
+use Rattle.lra_program.specs.Step.{Back, arguments_for, behind_main}
 use Rattle.lra_operations.specs.Graph.{broken, continued, returned, Node, empty, point, act, check, seq, choose}
 use Rattle.lra_operations.specs.Graph.{iterate, catch, leave, select, Arms, no_arms, entry, arm}
 use Rattle.lra_program.specs.Sites.{Site}
@@ -43,12 +45,15 @@ loop_node q base c a step = catch q broken (iterate q base c (seq (catch q conti
 abbrev pub switch_node : ℕ → ℕ → Expr → Arms → Node
 switch_node q base e arms = catch q broken (select q base e arms)
 
--- the call's own point is q, and r that of its body's end; there the body's variables go, the receiver gets a draw, and
--- the parameters go
-abbrev pub call_node : ℕ → ℕ → ℕ → ℕ → Receiver → List Argument → ℕ → Node → Node
-call_node q r base n x given params g =
-    seq (act q (push base given)) (catch q returned (seq g
+-- the call's own point is q, where the operation gives its arguments, and r that of its body's end; there the body's
+-- variables go, the receiver gets a draw, and the parameters go
+abbrev pub callee_node : ℕ → ℕ → ℕ → Receiver → Op → ℕ → Node → Node
+callee_node q r n x gives params g =
+    seq (act q gives) (catch q returned (seq g
     (seq (point r) (seq (act r (keep (n + params))) (seq (act r (give_any x)) (act r (keep n)))))))
+
+abbrev pub call_node : ℕ → ℕ → ℕ → ℕ → Receiver → List Argument → ℕ → Node → Node
+call_node q r base n x given params g = callee_node q r n x (push base given) params g
 
 -- where so many variables live, the receiver gets the value, and the store is cut to the caller's n
 abbrev pub return_node : ℕ → Op → ℕ → ℕ → Node
@@ -101,6 +106,12 @@ mutual
     as_assign : {s : Spot} {at : ℕ} {x : Variable} {e : Rvalue} {g : Node} {q : ℕ} → Has T s at →
         Gives P T s (suc s.next) (variable_at (index_of s.frame.here.base x.slot) x.number_type) e g q
         → Inl P T s (assign at x e) (seq (point s.next) g) q
+    as_write : {s : Spot} {at : ℕ} {x : Element} {e : Expr} → Has T s at
+        → Inl P T s (write at x (value e)) (seq (point s.next) (act s.next (give_element s.frame.here.base x e)))
+        (suc s.next)
+    as_write_call : {s : Spot} {at : ℕ} {x : Element} {c : Call} {g : Node} {q : ℕ} → Has T s at →
+        Calls P T s (suc s.next) (waiting_in x.array) (push_for s.frame.here.base x) c g q
+        → Inl P T s (write at x (result c)) (seq (point s.next) g) q
     as_call : {s : Spot} {at : ℕ} {c : Call} {g : Node} {q : ℕ} → Has T s at →
         Gives P T s (suc s.next) nobody (result c) g q
         → Inl P T s (call at c) (seq (point s.next) g) q
@@ -158,6 +169,9 @@ mutual
         Has T s d.label → Declares P T s (suc s.next) d.number_type d.rvalue g r →
         InlAll P T (move s (suc s.live) r) b h n q
         → InlAll P T s (declaration d b) (seq (seq (point s.next) g) h) n q
+    as_array : {s : Spot} {at : ℕ} {a : Array} {b : BlockItems} {h : Node} {n q : ℕ} →
+        Has T s at → InlAll P T (at_point s (suc s.next)) b h n q
+        → InlAll P T s (array at a b) (seq (seq (point s.next) (act s.next (fill a))) h) n q
     as_statement : {s : Spot} {a : Stmt} {b : BlockItems} {g h : Node} {r n q : ℕ} →
         Inl P T s a g r → InlAll P T (at_point s r) b h n q
         → InlAll P T s (statement a b) (seq g h) n q
@@ -179,12 +193,19 @@ mutual
   pub data Gives (P : Program) (T : List Site) : Spot → ℕ → Receiver → Rvalue → Node → ℕ → Type 0 where
     as_value : {s : Spot} {r : ℕ} {x : Receiver} {e : Expr} →
         Gives P T s r x (value e) (act s.next (give s.frame.here.base x e)) r
-    as_result : {s : Spot} {r : ℕ} {x : Receiver} {c : Call} {fn : Function} {g : Node} {n q : ℕ}
-        → slice_get P.functions c.function ≡ Some fn → length c.arguments ≡ length fn.parameters
-        → InlAll P T (into_callee s (behind_result fn.result_type x) c (length fn.parameters) r) fn.body g n q
-        → Has T (move (into_callee s (behind_result fn.result_type x) c (length fn.parameters) r) n q) fn.end
-        → Gives P T s r x (result c) (call_node s.next q s.frame.here.base s.live (behind_result fn.result_type x)
-        (arguments_for fn.parameters c.arguments) (length fn.parameters) g) (suc q)
+    as_result : {s : Spot} {r : ℕ} {x : Receiver} {c : Call} {g : Node} {q : ℕ} →
+        Calls P T s r x (push s.frame.here.base) c g q → Gives P T s r x (result c) g q
+
+  -- a call at the statement's point, by an operation that gives the arguments
+  pub data Calls (P : Program) (T : List Site) : Spot → ℕ → Receiver → (List Argument → Op) → Call → Node → ℕ → Type 0
+    where
+      is_call : {s : Spot} {r : ℕ} {x : Receiver} {gives : List Argument → Op} {c : Call} {fn : Function} {g : Node}
+          {n q : ℕ}
+          → slice_get P.functions c.function ≡ Some fn → length c.arguments ≡ length fn.parameters
+          → InlAll P T (into_callee s (behind_result fn.result_type x) c (length fn.parameters) r) fn.body g n q
+          → Has T (move (into_callee s (behind_result fn.result_type x) c (length fn.parameters) r) n q) fn.end
+          → Calls P T s r x gives c (callee_node s.next q s.live (behind_result fn.result_type x)
+          (gives (arguments_for fn.parameters c.arguments)) (length fn.parameters) g) (suc q)
 
 abbrev pub main_frame : Program → Frame
 main_frame P = record {

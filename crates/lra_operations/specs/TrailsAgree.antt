@@ -26,7 +26,7 @@ module _ (may : State → State → Type 0) (P : Program) (g : Node) where
   -- the tree of the program, begun with these draws, goes so far on this trail
   abbrev pub TreeGoes : List ℤ → Stop → Trail Point → Type 0
   TreeGoes draws z a =
-      Goes (point_at (sites_of P)) may g (record { state = begun P.globals draws; met = [] }) (stopped z) a
+      Goes (point_at (sites_of P)) may g (record { state = begun P draws; met = [] }) (stopped z) a
 
   pub record TrailsAgree : Type 0 where
     -- a run comes to the point on the trail exactly where the tree does

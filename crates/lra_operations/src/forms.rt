@@ -4,13 +4,13 @@ ghost use Rattle.std.specs.Prelude.{◌≡◌, ◌+◌, ◌<◌, ◌^◌, ◌++�
 ghost use Rattle.lra_program.specs.Step as step;
 ghost use Rattle.lra_program.specs.Step.{arguments_for};
 ghost use Rattle.lra_operations.specs.Graph as graph;
-ghost use Rattle.lra_operations.specs.Inlined.{loop_node, switch_node, call_node, return_node};
-ghost use Rattle.lra_program.specs.ProgramViews.{expr_view, cond_view};
+ghost use Rattle.lra_operations.specs.Inlined.{loop_node, switch_node, callee_node, call_node, return_node};
+ghost use Rattle.lra_program.specs.ProgramViews.{expr_view, element_view, cond_view};
 ghost use Rattle.lra_operations.specs.GraphViews.{op_view, exit_view, node_view, row, arm_view, arms_of};
 
 use crate::{Arm, Exit, Node, Op};
 use lra_base::NumberType;
-use lra_program::{Cond, Expr, Receiver, pair_arguments};
+use lra_program::{Cond, Element, Expr, Receiver, pair_arguments};
 use std::alloc::{AllocError, Global};
 
 /// The one, then the other.
@@ -228,6 +228,24 @@ pub struct CallPlace {
     pub receiver: Receiver,
 }
 
+/// A called function with so many parameters and this body, whose arguments the operation gives.
+fn enclose_callee(
+    alloc: Global,
+    place: CallPlace,
+    gives: Op,
+    parameters: usize,
+    body: Node,
+) -> Result<Node, AllocError>
+    requires { place.live + parameters < 2 ^ 64 }
+    ensures { IfOk result (λ g. node_view g
+        ≡ callee_node place.point place.end place.live place.receiver (op_view gives) parameters (node_view body)) }
+{
+    let end = call_end(alloc, place.end, place.live, parameters, place.receiver)?;
+    let whole = put_in_turn(alloc, body, end)?;
+    let inside = catch_exit(alloc, place.point, Exit::Returned, whole)?;
+    put_act(alloc, place.point, gives, inside)
+}
+
 /// A call of a function with parameters of these types and this body.
 pub fn enclose_call(
     alloc: Global,
@@ -241,15 +259,28 @@ pub fn enclose_call(
         ≡ call_node place.point place.end place.base place.live place.receiver
         (arguments_for parameters.now (map expr_view arguments.now)) (length parameters.now) (node_view body)) }
 {
-    let end = call_end(
-        alloc,
-        place.end,
-        place.live,
-        parameters.len(),
-        place.receiver,
-    )?;
-    let whole = put_in_turn(alloc, body, end)?;
-    let inside = catch_exit(alloc, place.point, Exit::Returned, whole)?;
     let arguments = pair_arguments(alloc, parameters, arguments)?;
-    put_act(alloc, place.point, Op::Push(place.base, arguments), inside)
+    let gives = Op::Push(place.base, arguments);
+    enclose_callee(alloc, place, gives, parameters.len(), body)
+}
+
+/// The same where the result is for the element, which the receiver is.
+pub fn enclose_call_for(
+    alloc: Global,
+    place: CallPlace,
+    element: &Element,
+    parameters: &[NumberType],
+    arguments: &[Expr],
+    body: Node,
+) -> Result<Node, AllocError>
+    requires { place.live + length parameters.now < 2 ^ 64 }
+    ensures { IfOk result (λ g. node_view g
+        ≡ callee_node place.point place.end place.live place.receiver (step.push_for place.base
+        (element_view element.now) (arguments_for parameters.now (map expr_view arguments.now)))
+        (length parameters.now) (node_view body)) }
+{
+    let element = element.copy(alloc)?;
+    let arguments = pair_arguments(alloc, parameters, arguments)?;
+    let gives = Op::PushFor(place.base, element, arguments);
+    enclose_callee(alloc, place, gives, parameters.len(), body)
 }

@@ -5,7 +5,7 @@ ghost use Rattle.lra_operations.specs.Sizes.{whole_size, hung_size};
 ghost use Rattle.lra_operations.specs.declared.graph.Arm.TheVariants as arm;
 
 use lra_base::{CaseLabel, NumberType};
-use lra_program::{Argument, Cond, Expr, Receiver};
+use lra_program::{Argument, Array, Cond, Element, Expr, Receiver};
 use std::alloc::{AllocError, Global};
 use std::marker::Model;
 use std::mem;
@@ -18,17 +18,23 @@ pub enum Exit {
     Returned,
 }
 
-/// A least change of the store: a number is a place in it, or its length. The first number of `Give`, `Push` and `Test`
-/// is where the variables of the call that runs begin.
+/// A least change of the state: a number is a place in the store, or its length. The first number before an element, an
+/// expression, arguments or a condition is where the variables of the call that runs begin.
 pub enum Op {
     /// A new variable of this type, of any value.
     Append(NumberType),
+    /// The array's elements get any values.
+    Fill(Array),
     /// The receiver gets the value.
     Give(usize, Receiver, Expr),
+    /// The element gets the value; its index is computed first.
+    GiveElement(usize, Element, Expr),
     /// The receiver gets any value.
     GiveAny(Receiver),
     /// The arguments' values, as new variables.
     Push(usize, Vec<Argument>),
+    /// The element's index is computed, and waits for a call's result; then the arguments' values, as new variables.
+    PushFor(usize, Element, Vec<Argument>),
     /// Only the oldest so many variables stay.
     Keep(usize),
     /// Nothing, where the condition has this value.
@@ -39,9 +45,12 @@ impl Drop for Op {
     fn drop(self) {
         match self {
             Op::Append(_) => {}
+            Op::Fill(_) => {}
             Op::Give(_, _, _) => {}
+            Op::GiveElement(_, _, _) => {}
             Op::GiveAny(_) => {}
             Op::Push(_, _) => {}
+            Op::PushFor(_, _, _) => {}
             Op::Keep(_) => {}
             Op::Test(_, _, _) => {}
         }
