@@ -3,12 +3,13 @@ use Rattle.std.proofs.Common.{◌≡◌, ℕ, suc, List, [], ◌∷◌, ◌++◌
 use Rattle.lra_base.specs.declared.refusals.Place.{Place}
 use Rattle.lra_tree.specs.Trees.{AssignTree, DeclaratorTree, InitTree, no_init, declared, assigned, StmtTree, block, nothing, assign, call, if_only, if_else, while, for, break, continue, return}
 use Rattle.lra_tree.specs.Trees.{assert, assume, switch, CasesTree, no_cases, labelled, stated, ItemsTree, no_items, declaration, statement}
-use Rattle.lra_tree.specs.Labels.{Labelled, with_names, declarator_labels, init_labels, step_labels, stmt_labels, cases_labels, items_labels, live_in_for}
+use Rattle.lra_tree.specs.Labels.{Labelled, names_of, with_names, declarator_labels, init_labels, step_labels, stmt_labels, cases_labels, items_labels}
+use Rattle.lra_tree.specs.Labels.{live_in_for}
 use Rattle.lra_meaning.specs.Resolve.{stmt_count, items_count, init_count, step_count}
 
 pub count_declarators : (live : List (List ℕ)) (ds : List DeclaratorTree) → length (declarator_labels live ds) ≡ length ds
 count_declarators live [] = refl
-count_declarators live (d ∷ ds) = ap suc (count_declarators (live ++ d.name.word ∷ []) ds)
+count_declarators live (d ∷ ds) = ap suc (count_declarators (live ++ names_of d) ds)
 
 pub count_init : (live : List (List ℕ)) (i : InitTree) → length (init_labels live i) ≡ init_count i
 count_init live no_init = refl

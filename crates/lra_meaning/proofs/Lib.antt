@@ -5,6 +5,7 @@ pub mod NameLists
 pub mod FoundLabels
 -- Worked examples: what the names of sources mean, and which sources are refused.
 pub mod NameExamples
+mod ArrayNameExamples
 mod SwitchNameExamples
 mod ShownNamesExamples
 mod SourceRunExamples

@@ -10,9 +10,10 @@ use Rattle.lra_base.specs.declared.refusals.Cause.{Cause}
 use Rattle.lra_base.specs.declared.refusals.Cause.TheVariants.{BadLiteral, NoMain, UnknownName, DuplicateName, BadCall, Misplaced, Recursive}
 use Rattle.lra_program.specs.Program as program
 use Rattle.lra_base.specs.Operators as operators
-use Rattle.lra_tree.specs.Trees.{value, compare, conjunction, test, and, or, expression, result, set, after, increment, declared, block, nothing, assign, call, for, break, return, no_items}
-use Rattle.lra_tree.specs.Trees.{declaration, statement, globals, function, FileTree, FunctionTree, GlobalTree}
+use Rattle.lra_tree.specs.Trees.{value, compare, conjunction, test, and, or, expression, result, set, after, increment, declared, block, nothing, assign, call}
+use Rattle.lra_tree.specs.Trees.{for, break, return, no_items, scalar, declaration, statement, globals, function, FileTree, FunctionTree, GlobalTree}
 use Rattle.lra_tree.specs.Labels.{labels_of}
+use Rattle.lra_meaning.specs.Scope as scope
 use Rattle.lra_meaning.specs.NameFaults.{name_faults}
 use Rattle.lra_meaning.specs.Resolve.{resolve, resolve_cond}
 use Rattle.lra_tree.specs.Reach.{calls_of, ReachesByCalls, there, by_call, IsRecursive, IsFirstRecursive, NotRecursive}
@@ -67,7 +68,7 @@ one_for_places : (map (λ l. l.place.column) (labels_of one_for) ≡ 17 ∷ 26 �
 one_for_places = (refl, refl)
 
 -- a*b+c is (a*b)+c and a-b-c is (a-b)-c, while a&&b&&c is a&&(b&&c) and a||b||c is a||(b||c)
-chain : resolve_cond (record { globals = record { name = codes "x"; number_type = Long } ∷ []; locals = []; outer = 0 })
+chain : resolve_cond (record { globals = record { name = codes "x"; meaning = scope.scalar Long } ∷ []; locals = []; outer = 0 })
     (or (or (conjunction (test (value (use_of (x_at 1))))) (and (and (test (value (number 1))) (value (number 2))) (value (number 3)))) (test (value (number 4))))
     ≡ program.either_of (program.nonzero (program.read (run.long_variable (program.global 0))))
     (program.either_of (program.both_of (program.nonzero (program.literal Int 1)) (program.both_of (program.nonzero (program.literal Int 2)) (program.nonzero (program.literal Int 3))))
@@ -128,7 +129,7 @@ parameter_again = refl
 
 -- long x; void x(void){} int main(void){} : functions and globals share a scope
 global_and_function : name_faults (record {
-  parts = globals (record { number_type = Long; first = record { name = x_at 6; value = None }; rest = [] })
+  parts = globals (record { number_type = Long; first = record { name = x_at 6; shape = scalar None }; rest = [] })
       ∷ function (void_of (codes "x") 14 [] no_items 22) ∷ function (main_function 28 no_items 39) ∷
       [];
   end = at 40;
@@ -137,7 +138,7 @@ global_and_function = refl
 
 -- the first values of globals: the literal's place, behind its sign; a name's fault stands before its literal's
 abbrev int_global : Identifier → ℤ → ℕ → GlobalTree
-int_global x z c = record { name = x; value = Some (record { value = z; place = at c }) }
+int_global x z c = record { name = x; shape = scalar (Some (record { value = z; place = at c })) }
 
 abbrev with_globals : NumberType → List GlobalTree → FileTree
 with_globals t [] = main_of no_items 40
@@ -157,14 +158,14 @@ below_least : name_faults (with_globals Int (int_global (name_at (codes "g") 5) 
 below_least = refl
 
 -- int g, g=2147483648; : both faults, the name's first
-name_before_literal : name_faults (with_globals Int (record { name = name_at (codes "g") 5; value = None } ∷ int_global (name_at (codes "g") 8) (pos 2147483648) 10 ∷ [])) ≡
+name_before_literal : name_faults (with_globals Int (record { name = name_at (codes "g") 5; shape = scalar None } ∷ int_global (name_at (codes "g") 8) (pos 2147483648) 10 ∷ [])) ≡
     fault DuplicateName 8 ∷ fault BadLiteral 10 ∷ []
 name_before_literal = refl
 
 -- int main(void){ f(); x=1; } void f(void){} long x; : a function may be defined behind its call, a global must stand before its use
 later : name_faults (record {
   parts = function (main_function 5 (statement (call (call_of (name_at (codes "f") 17) [])) (statement (assign (set (x_at 22) (expression (number 1)))) no_items)) 27)
-      ∷ function (void_of (codes "f") 34 [] no_items 42) ∷ globals (record { number_type = Long; first = record { name = x_at 49; value = None }; rest = [] }) ∷ [];
+      ∷ function (void_of (codes "f") 34 [] no_items 42) ∷ globals (record { number_type = Long; first = record { name = x_at 49; shape = scalar None }; rest = [] }) ∷ [];
   end = at 51;
 }) ≡ fault UnknownName 22 ∷ []
 later = refl

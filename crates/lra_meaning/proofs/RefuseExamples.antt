@@ -11,7 +11,8 @@ use Rattle.lra_tree.specs.Lexeme.{IsOpen, unclosed, comment}
 use Rattle.lra_tree.specs.declared.tokens.Kind.{Kind}
 use Rattle.lra_base.specs.Places.{place_behind, place_from, greatest_length}
 use Rattle.lra_tree.specs.Tokens.{is_blank, blank, line_comment, block_comment, skipped_line, NoGap, token}
-use Rattle.lra_tree.specs.Trees.{DeclaratorTree, nothing, call, ItemsTree, no_items, declaration, statement, PartTree, function, FileTree, for, declared, expression}
+use Rattle.lra_tree.specs.Trees.{scalar, DeclaratorTree, nothing, call, ItemsTree, no_items, declaration, statement, PartTree, function, FileTree, for}
+use Rattle.lra_tree.specs.Trees.{declared, expression}
 use Rattle.lra_tree.specs.Labels.{labels_of}
 use Rattle.lra_meaning.specs.Resolve.{resolve}
 use Rattle.lra_program.specs.Sites.{events_of}
@@ -33,11 +34,11 @@ limits t = limit_fault (labels_of t) 0 (events_of (resolve t))
 -- so many variables, the last named last
 abbrev variables : ℕ → List DeclaratorTree
 variables zero = []
-variables (suc n) = record { name = name_at (118 ∷ n ∷ []) 22; rvalue = None } ∷ variables n
+variables (suc n) = record { name = name_at (118 ∷ n ∷ []) 22; shape = scalar None } ∷ variables n
 
 -- int main(void){ long v1,..,v33;} : all live at the `}`
 abbrev with_variables : ℕ → FileTree
-with_variables n = main_of (declaration (record { number_type = Long; first = record { name = name_at (codes "v") 22; rvalue = None }; rest = variables n }) no_items) 145
+with_variables n = main_of (declaration (record { number_type = Long; first = record { name = name_at (codes "v") 22; shape = scalar None }; rest = variables n }) no_items) 145
 
 too_many_variables : limits (with_variables 32) ≡ Some (record { cause = TooManyVariables; place = at 145 })
 too_many_variables = refl
@@ -47,7 +48,7 @@ variables_enough = refl
 
 -- int main(void){ long v1,..,vN; for(long i=0;;) ; }
 abbrev with_for : ℕ → FileTree
-with_for n = main_of (declaration (record { number_type = Long; first = record { name = name_at (codes "v") 22; rvalue = None }; rest = variables n })
+with_for n = main_of (declaration (record { number_type = Long; first = record { name = name_at (codes "v") 22; shape = scalar None }; rest = variables n })
     (statement (for (at 146) (declared (declared_as (name_at (codes "i") 155) (Some (expression (number_of 0))))) None None (nothing (at 162))) no_items)) 164
 
 -- i is the 33rd: the first point where it lives is that of the word `for`, which comes before its declarator's
@@ -62,7 +63,7 @@ abbrev with_callee : ℕ → FileTree
 with_callee n = record {
   parts = function (void_of (codes "f") 6 (long_parameter (name_at (codes "d") 13) ∷ []) (statement (nothing (at 16)) no_items) 17)
       ∷ function (main_function 23
-      (declaration (record { number_type = Long; first = record { name = name_at (codes "v") 40; rvalue = None }; rest = variables n })
+      (declaration (record { number_type = Long; first = record { name = name_at (codes "v") 40; shape = scalar None }; rest = variables n })
       (statement (call (call_of (name_at (codes "f") 164) (number_of 0 ∷ []))) no_items)) 170)
       ∷ [];
   end = at 171;

@@ -1,41 +1,56 @@
 -- All faults of names in a source, in text order; at one token the lower number comes first (ISO/IEC 9899:2011, 6.2.1,
 -- 6.5.2.2, 6.7, 6.8.4.2, 6.8.6, 6.9).
-use Rattle.std.specs.Prelude.{ℕ, Bool, true, false, not, if◌then◌else◌, ◌||◌, ◌&&◌, nat_eq, List, [], ◌∷◌, ◌++◌, length}
-use Rattle.std.specs.Prelude.{Option, Some, None, bytes_eq, map, is_none, is_some}
+use Rattle.std.specs.Prelude.{ℕ, Bool, true, false, not, if◌then◌else◌, ◌||◌, ◌&&◌, nat_eq, List, [], ◌∷◌, ◌++◌}
+use Rattle.std.specs.Prelude.{length, Option, Some, None, bytes_eq, map, is_none, is_some}
 use Rattle.std.specs.List.{list_any, flat_map}
 use Rattle.lra_base.specs.declared.number_types.NumberType.{NumberType}
 use Rattle.lra_base.specs.declared.refusals.Place.{Place}
 use Rattle.lra_base.specs.declared.refusals.Refusal.{Refusal}
 use Rattle.lra_base.specs.declared.refusals.Cause.{Cause}
 use Rattle.lra_base.specs.declared.refusals.Cause.TheVariants.{BadLiteral, NoMain, UnknownName, DuplicateName, BadCall}
-use Rattle.lra_base.specs.declared.refusals.Cause.TheVariants.{Misplaced, DuplicateCase}
+use Rattle.lra_base.specs.declared.refusals.Cause.TheVariants.{Misplaced, DuplicateCase, BadLength, NotArray}
 use Rattle.lra_base.specs.declared.case_labels.CaseLabel.{CaseLabel}
 use Rattle.lra_base.specs.CaseLabels.{are_alike}
 use Rattle.lra_base.specs.NumberTypes.{fits}
+use Rattle.lra_base.specs.Limits.{is_length}
 use Rattle.lra_tree.specs.declared.trees.SignedLiteral.{SignedLiteral}
+use Rattle.lra_tree.specs.declared.trees.ArrayLength.{ArrayLength}
 use Rattle.lra_tree.specs.declared.trees.Identifier.{Identifier}
 use Rattle.lra_tree.specs.declared.trees.Parameter.{Parameter}
-use Rattle.lra_tree.specs.Trees.{UnaryTree, negated, positive, literal, variable, input, group, TermTree, unary, times}
-use Rattle.lra_tree.specs.Trees.{over, modulo, ExprTree, term, plus, minus, NegationTree, opposite_again}
+use Rattle.lra_tree.specs.Trees.{UnaryTree, negated, positive, literal, variable, input, group, element, TermTree}
+use Rattle.lra_tree.specs.Trees.{unary, times, over, modulo, ExprTree, term, plus, minus, NegationTree, opposite_again}
 use Rattle.lra_tree.specs.Trees.{value_of_unary, group_opposed, TestTree, opposite, value, compare, group_of}
 use Rattle.lra_tree.specs.Trees.{ConjunctionTree, test, and, CondTree, conjunction, or, CallTree, RvalueTree}
-use Rattle.lra_tree.specs.Trees.{expression, result, AssignTree, set, update, after, before, DeclaratorTree, InitTree}
-use Rattle.lra_tree.specs.Trees.{no_init, declared, assigned, StmtTree, block, nothing, assign, call, if_only, if_else}
-use Rattle.lra_tree.specs.Trees.{while, for, break, continue, return, assert, assume, switch, CasesTree, no_cases}
-use Rattle.lra_tree.specs.Trees.{labelled, stated, ItemsTree, no_items, declaration, statement, FunctionTree}
-use Rattle.lra_tree.specs.Trees.{GlobalTree, PartTree, prototype, globals, function, FileTree}
+use Rattle.lra_tree.specs.Trees.{expression, result, AssignTree, set, set_element, update, after, before, ShapeTree}
+use Rattle.lra_tree.specs.Trees.{scalar, array, DeclaratorTree, InitTree, no_init, declared, assigned, StmtTree, block}
+use Rattle.lra_tree.specs.Trees.{nothing, assign, call, if_only, if_else, while, for, break, continue, return, assert}
+use Rattle.lra_tree.specs.Trees.{assume, switch, CasesTree, no_cases, labelled, stated, ItemsTree, no_items}
+use Rattle.lra_tree.specs.Trees.{declaration, statement, FunctionTree, GlobalTree, PartTree, prototype, globals}
+use Rattle.lra_tree.specs.Trees.{function, FileTree}
 use Rattle.lra_program.specs.WellFormed.{Jumps, no_jumps, in_loop, in_switch}
-use Rattle.lra_meaning.specs.Scope.{Entry, Scope, slot_of, is_declared, with_local, declarator_entry, global_entries}
-use Rattle.lra_meaning.specs.Scope.{with_declarators, inner, for_scope, function_scope}
+use Rattle.lra_meaning.specs.Scope.{Entry, Scope, Found, found_of, is_array, is_declared, with_local, declarator_entry}
+use Rattle.lra_meaning.specs.Scope.{global_entries, with_declarators, inner, for_scope, function_scope}
 use Rattle.lra_tree.specs.Functions.{functions_of, function_named, is_main}
 
 abbrev pub fault_if : Bool → Cause → Place → List Refusal
 fault_if b c at = if b then record { cause = c; place = at } ∷ [] else []
 
--- expressions and conditions: each variable is in scope -------------------------------------------------------------
+-- expressions and conditions: each name is in scope, an array stands with an index, and nothing else with one --------
+
+abbrev pub scalar_faults : Option Found → Place → List Refusal
+scalar_faults None at = record { cause = UnknownName; place = at } ∷ []
+scalar_faults (Some f) at = fault_if (is_array f.meaning) NotArray at
+
+abbrev pub array_faults : Option Found → Place → List Refusal
+array_faults None at = record { cause = UnknownName; place = at } ∷ []
+array_faults (Some f) at = fault_if (not (is_array f.meaning)) NotArray at
 
 abbrev pub use_faults : Scope → Identifier → List Refusal
-use_faults s x = fault_if (is_none (slot_of s x.word)) UnknownName x.place
+use_faults s x = scalar_faults (found_of s x.word) x.place
+
+-- of a name with an index
+abbrev pub named_faults : Scope → Identifier → List Refusal
+named_faults s x = array_faults (found_of s x.word) x.place
 
 abbrev mutual
   pub unary_faults : Scope → UnaryTree → List Refusal
@@ -45,6 +60,7 @@ abbrev mutual
   unary_faults s (variable x) = use_faults s x
   unary_faults s input = []
   unary_faults s (group e) = expr_faults s e
+  unary_faults s (element x e) = named_faults s x ++ expr_faults s e
 
   pub term_faults : Scope → TermTree → List Refusal
   term_faults s (unary u) = unary_faults s u
@@ -95,6 +111,7 @@ rvalue_faults F s (result c) = call_faults F s c true
 
 abbrev pub assign_faults : List FunctionTree → Scope → AssignTree → List Refusal
 assign_faults F s (set x e) = use_faults s x ++ rvalue_faults F s e
+assign_faults F s (set_element x i e) = named_faults s x ++ expr_faults s i ++ rvalue_faults F s e
 assign_faults F s (update x op e) = use_faults s x ++ expr_faults s e
 assign_faults F s (after x step) = use_faults s x
 assign_faults F s (before at step x) = use_faults s x
@@ -105,12 +122,20 @@ abbrev pub given_faults : List FunctionTree → Scope → Option RvalueTree → 
 given_faults F s None = []
 given_faults F s (Some e) = rvalue_faults F s e
 
+abbrev pub length_faults : ArrayLength → List Refusal
+length_faults n = fault_if (not (is_length n.value)) BadLength n.place
+
+-- of a scalar's value, where it has one, or of an array's length
+abbrev pub shape_faults : {A : Type 0} → (Option A → List Refusal) → ShapeTree A → List Refusal
+shape_faults of_value (scalar e) = of_value e
+shape_faults of_value (array n) = length_faults n
+
 -- of one type
 abbrev pub declarators_faults : List FunctionTree → Scope → NumberType → List DeclaratorTree → List Refusal
 declarators_faults F s t [] = []
 declarators_faults F s t (d ∷ ds) =
     let inside = with_local s (declarator_entry t d) in
-    fault_if (is_declared s d.name.word) DuplicateName d.name.place ++ given_faults F inside d.rvalue ++
+    fault_if (is_declared s d.name.word) DuplicateName d.name.place ++ shape_faults (given_faults F inside) d.shape ++
     declarators_faults F inside t ds
 
 abbrev pub init_faults : List FunctionTree → Scope → InitTree → List Refusal
@@ -202,7 +227,7 @@ first_value_faults t (Some v) = fault_if (not (fits t v.value)) BadLiteral v.pla
 abbrev pub globals_faults : NumberType → List (List ℕ) → List GlobalTree → List Refusal
 globals_faults t names [] = []
 globals_faults t names (g ∷ gs) = fault_if (is_taken g.name.word names) DuplicateName g.name.place ++
-    first_value_faults t g.value ++ globals_faults t (names ++ g.name.word ∷ []) gs
+    shape_faults (first_value_faults t) g.shape ++ globals_faults t (names ++ g.name.word ∷ []) gs
 
 abbrev pub global_names : List GlobalTree → List (List ℕ)
 global_names gs = map (λ (g : GlobalTree). g.name.word) gs

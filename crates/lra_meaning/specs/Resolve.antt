@@ -1,38 +1,56 @@
 -- The program that a source without faults means: names are turned into places in the store and in the list of
--- functions (ISO/IEC 9899:2011, 6.2.1), and labels are given in text order. A call has the label of its statement or
--- declarator.
+-- functions, and into arrays (ISO/IEC 9899:2011, 6.2.1), and labels are given in text order. A call has the label of
+-- its statement or declarator.
 -- All functions of the source can be called, `main` among them.
-use Rattle.std.specs.Prelude.{ℕ, suc, ◌+◌, ℤ, pos, List, [], ◌∷◌, ◌++◌, length, map, Option, Some, None}
-use Rattle.std.specs.Prelude.{cond}
+use Rattle.std.specs.Prelude.{ℕ, suc, ◌+◌, ℤ, pos, List, [], ◌∷◌, ◌++◌, length, map, Option, Some, None, cond}
+use Rattle.std.specs.Prelude.{flat_map}
 use Rattle.lra_base.specs.declared.number_types.NumberType.{NumberType}
-use Rattle.lra_base.specs.declared.number_types.NumberType.TheVariants.{Int}
+use Rattle.lra_base.specs.declared.number_types.NumberType.TheVariants.{Int, Long}
 use Rattle.lra_tree.specs.declared.trees.SignedLiteral.{SignedLiteral}
 use Rattle.lra_tree.specs.declared.trees.Parameter.{Parameter}
+use Rattle.lra_program.specs.declared.arrays.Array.{Array}
 use Rattle.lra_program.specs.declared.program.GlobalVariable.{GlobalVariable}
 use Rattle.lra_tree.specs.declared.trees.Identifier.{Identifier}
 use Rattle.lra_tree.specs.Trees as tree
-use Rattle.lra_program.specs.Program.{Slot, global, Variable, Expr, literal, read, input, negate, binary, Cond, compare}
-use Rattle.lra_program.specs.Program.{nonzero}
-use Rattle.lra_program.specs.Program.{opposite, both_of, either_of, Call, Rvalue, value, result, Stmt, absent, nothing}
-use Rattle.lra_program.specs.Program.{block, assign, call, if, loop, for, break, continue, return, assert, assume}
-use Rattle.lra_program.specs.Program.{switch, Cases, no_cases, labelled, stated, BlockItems, no_more, declaration}
-use Rattle.lra_program.specs.Program.{statement, Function, Program}
+use Rattle.lra_program.specs.Program.{global, Variable, Expr, literal, read, input, negate, binary, element, Element}
+use Rattle.lra_program.specs.Program.{Cond, compare, nonzero, opposite, both_of, either_of, Call, Rvalue, value}
+use Rattle.lra_program.specs.Program.{result, Stmt, absent, nothing, block, assign, write, call, if, loop, for, break}
+use Rattle.lra_program.specs.Program.{continue, return, assert, assume, switch, Cases, no_cases, labelled, stated}
+use Rattle.lra_program.specs.Program.{BlockItems, no_more, declaration, array, statement, Function, Program}
 use Rattle.lra_base.specs.Operators.{Operator, plus, minus, times, over, modulo}
-use Rattle.lra_meaning.specs.Scope.{Entry, Scope, slot_of, type_at, with_local, declarator_entry, global_entries}
-use Rattle.lra_meaning.specs.Scope.{with_declarators, inner, for_scope, function_scope}
+use Rattle.lra_meaning.specs.Scope as scope
+use Rattle.lra_meaning.specs.Scope.{Entry, Scope, Meaning, Found, found_of, with_local, array_of, declarator_entry}
+use Rattle.lra_meaning.specs.Scope.{global_entries, with_declarators, inner, for_scope, function_scope}
 use Rattle.lra_tree.specs.Functions.{functions_of, is_named, is_main}
 use Rattle.lra_tree.specs.Labels.{init_labels, step_labels, stmt_labels}
 
 -- names: what is said of one that isn't in scope is of no use, since such a source is refused ------------------------
 
-abbrev pub slot_or : Option Slot → Slot
-slot_or None = global 0
-slot_or (Some v) = v
+abbrev pub type_of_scalar : Meaning → NumberType
+type_of_scalar (scope.scalar t) = t
+type_of_scalar (scope.array a) = Long
+
+abbrev pub variable_or : Option Found → Variable
+variable_or None = record { slot = global 0; number_type = Long }
+variable_or (Some f) = record { slot = f.slot; number_type = type_of_scalar f.meaning }
 
 abbrev pub variable : Scope → Identifier → Variable
-variable s x =
-    let slot = slot_or (slot_of s x.word) in
-    record { slot = slot; number_type = type_at s slot }
+variable s x = variable_or (found_of s x.word)
+
+-- nothing is an array of this name
+abbrev pub no_array : Identifier → Array
+no_array x = record { declared = x.place; length = 0; number_type = Long }
+
+abbrev pub array_in : Array → Meaning → Array
+array_in none (scope.scalar t) = none
+array_in none (scope.array a) = a
+
+abbrev pub array_or : Array → Option Found → Array
+array_or none None = none
+array_or none (Some f) = array_in none f.meaning
+
+abbrev pub array_named : Scope → Identifier → Array
+array_named s x = array_or (no_array x) (found_of s x.word)
 
 -- the place of the first function of this name
 abbrev pub function_place : List tree.FunctionTree → List ℕ → ℕ
@@ -49,6 +67,7 @@ abbrev mutual
   resolve_unary s (tree.variable x) = read (variable s x)
   resolve_unary s tree.input = input
   resolve_unary s (tree.group e) = resolve_expr s e
+  resolve_unary s (tree.element x e) = element (array_named s x) x.place (resolve_expr s e)
 
   pub resolve_term : Scope → tree.TermTree → Expr
   resolve_term s (tree.unary u) = resolve_unary s u
@@ -112,8 +131,12 @@ abbrev pub step_operator : tree.StepTree → Operator
 step_operator tree.increment = plus
 step_operator tree.decrement = minus
 
+abbrev pub resolve_element : Scope → Identifier → tree.ExprTree → Element
+resolve_element s x e = record { array = array_named s x; place = x.place; index = resolve_expr s e }
+
 abbrev pub resolve_assign : List tree.FunctionTree → Scope → ℕ → tree.AssignTree → Stmt
 resolve_assign F s n (tree.set x e) = assign n (variable s x) (resolve_rvalue F s n e)
+resolve_assign F s n (tree.set_element x i e) = write n (resolve_element s x i) (resolve_rvalue F s n e)
 resolve_assign F s n (tree.update x op e) = assign n (variable s x)
     (value (binary op (read (variable s x)) (resolve_expr s e)))
 resolve_assign F s n (tree.after x step) = assign n (variable s x)
@@ -123,13 +146,19 @@ resolve_assign F s n (tree.before at step x) = assign n (variable s x)
 
 -- declarations of one type: n is the first label, and the items behind follow -----------------------------------------
 
+-- a name that is declared with this label and type
+abbrev pub resolve_declared : List tree.FunctionTree → Scope → ℕ → NumberType → Identifier →
+    tree.ShapeTree tree.RvalueTree → BlockItems → BlockItems
+resolve_declared F s n t x (tree.scalar e) items =
+    declaration (record { label = n; number_type = t; rvalue = resolve_given F s n e }) items
+resolve_declared F s n t x (tree.array c) items = array n (array_of t x c) items
+
 abbrev pub resolve_declarators : List tree.FunctionTree → Scope → ℕ → NumberType → List tree.DeclaratorTree →
     BlockItems → BlockItems
 resolve_declarators F s n t [] items = items
 resolve_declarators F s n t (d ∷ ds) items =
     let inside = with_local s (declarator_entry t d) in
-    declaration (record { label = n; number_type = t; rvalue = resolve_given F inside n d.rvalue })
-    (resolve_declarators F inside (suc n) t ds items)
+    resolve_declared F inside n t d.name d.shape (resolve_declarators F inside (suc n) t ds items)
 
 abbrev pub resolve_init : List tree.FunctionTree → Scope → ℕ → tree.InitTree → BlockItems
 resolve_init F s n tree.no_init = no_more
@@ -217,14 +246,28 @@ abbrev pub value_or_zero : Option SignedLiteral → ℤ
 value_or_zero None = pos 0
 value_or_zero (Some v) = v.value
 
-abbrev pub resolve_global : NumberType → tree.GlobalTree → GlobalVariable
-resolve_global t g = record { number_type = t; value = value_or_zero g.value }
+-- the variable, or the array, that a global of this type is
+abbrev pub variables_by : NumberType → tree.ShapeTree SignedLiteral → List GlobalVariable
+variables_by t (tree.scalar v) = record { number_type = t; value = value_or_zero v } ∷ []
+variables_by t (tree.array n) = []
+
+abbrev pub arrays_by : NumberType → Identifier → tree.ShapeTree SignedLiteral → List Array
+arrays_by t x (tree.scalar v) = []
+arrays_by t x (tree.array n) = array_of t x n ∷ []
 
 abbrev pub globals_in : List tree.PartTree → List GlobalVariable
 globals_in [] = []
 globals_in (tree.prototype ∷ ps) = globals_in ps
-globals_in (tree.globals g ∷ ps) = map (resolve_global g.number_type) (g.first ∷ g.rest) ++ globals_in ps
+globals_in (tree.globals g ∷ ps) =
+    flat_map (λ (x : tree.GlobalTree). variables_by g.number_type x.shape) (g.first ∷ g.rest) ++ globals_in ps
 globals_in (tree.function f ∷ ps) = globals_in ps
+
+abbrev pub arrays_in : List tree.PartTree → List Array
+arrays_in [] = []
+arrays_in (tree.prototype ∷ ps) = arrays_in ps
+arrays_in (tree.globals g ∷ ps) =
+    flat_map (λ (x : tree.GlobalTree). arrays_by g.number_type x.name x.shape) (g.first ∷ g.rest) ++ arrays_in ps
+arrays_in (tree.function f ∷ ps) = arrays_in ps
 
 -- the functions behind some globals, from the label n on
 abbrev pub resolve_parts : List tree.FunctionTree → List Entry → ℕ → List tree.PartTree → List Function
@@ -246,6 +289,7 @@ main_of (f ∷ fs) (g ∷ gs) = cond (is_main f) g (main_of fs gs)
 abbrev pub resolve : tree.FileTree → Program
 resolve t = record {
   globals = globals_in t.parts;
+  arrays = arrays_in t.parts;
   functions = resolved_functions t;
   main = main_of (functions_of t) (resolved_functions t);
 }

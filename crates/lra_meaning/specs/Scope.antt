@@ -1,25 +1,33 @@
--- Scopes (ISO/IEC 9899:2011, 6.2.1): which variable a name means.
-use Rattle.std.specs.Prelude.{ℕ, suc, Bool, if◌then◌else◌, List, [], ◌∷◌, ◌++◌, length, drop, bytes_eq, Option, Some}
-use Rattle.std.specs.Prelude.{None, map, slice_get}
+-- Scopes (ISO/IEC 9899:2011, 6.2.1): which variable or array a name means.
+use Rattle.std.specs.Prelude.{ℕ, suc, ◌+◌, Bool, true, false, if◌then◌else◌, List, [], ◌∷◌, ◌++◌, length, take, drop}
+use Rattle.std.specs.Prelude.{bytes_eq, Option, Some, None, map, option_map, slice_get}
 use Rattle.std.specs.List.{list_any}
 use Rattle.lra_base.specs.declared.number_types.NumberType.{NumberType}
-use Rattle.lra_base.specs.declared.number_types.NumberType.TheVariants.{Long}
+use Rattle.lra_tree.specs.declared.trees.ArrayLength.{ArrayLength}
+use Rattle.lra_tree.specs.declared.trees.Identifier.{Identifier}
 use Rattle.lra_tree.specs.declared.trees.Parameter.{Parameter}
+use Rattle.lra_program.specs.declared.arrays.Array.{Array}
 use Rattle.lra_program.specs.Program.{Slot, global, local}
+use Rattle.lra_tree.specs.Trees as tree
 use Rattle.lra_tree.specs.Trees.{DeclaratorTree, InitTree, no_init, declared, assigned, GlobalTree, GlobalsTree}
 
--- a variable: its name and its type
+-- what a name means: a scalar of this type, or an array
+pub data Meaning : Type 0 where
+  scalar : NumberType → Meaning
+  array : Array → Meaning
+
+-- a variable or an array: its name, and what it means
 pub record Entry : Type 0 where
   pub name : List ℕ
-  pub number_type : NumberType
+  pub meaning : Meaning
 
 abbrev pub names_in : List Entry → List (List ℕ)
 names_in es = map (λ (e : Entry). e.name) es
 
--- the variables that can be named, oldest first
+-- what can be named, oldest first
 pub record Scope : Type 0 where
   pub globals : List Entry
-  -- the parameters and the variables of the blocks around
+  -- the parameters and what the blocks around declare
   pub locals : List Entry
   -- how many of the locals the scopes around this one declare
   pub outer : ℕ
@@ -32,42 +40,67 @@ newest_from k found name (x ∷ xs) = newest_from (suc k) (if bytes_eq x name th
 abbrev pub newest : List ℕ → List (List ℕ) → Option ℕ
 newest name xs = newest_from 0 None name xs
 
+-- how many variables are among these; arrays are none
+abbrev pub width_of : Meaning → ℕ
+width_of (scalar t) = 1
+width_of (array a) = 0
+
+abbrev pub width_of_all : List Entry → ℕ
+width_of_all [] = 0
+width_of_all (e ∷ es) = width_of e.meaning + width_of_all es
+
+-- what a name means, and a variable's place in the store, behind the variables before it; the slot of an array
+-- means nothing
+pub record Found : Type 0 where
+  pub slot : Slot
+  pub meaning : Meaning
+
+abbrev pub found_at : (ℕ → Slot) → List Entry → Option ℕ → Option Found
+found_at slot es None = None
+found_at slot es (Some k) =
+    option_map (λ (e : Entry). record { slot = slot (width_of_all (take k es)); meaning = e.meaning }) (slice_get es k)
+
+abbrev pub found_among : (ℕ → Slot) → List Entry → List ℕ → Option Found
+found_among slot es name = found_at slot es (newest name (names_in es))
+
 -- a local hides a global of its name
-abbrev pub slot_in : Option ℕ → Option ℕ → Option Slot
-slot_in (Some k) g = Some (local k)
-slot_in None (Some k) = Some (global k)
-slot_in None None = None
+abbrev pub found_in : Option Found → Option Found → Option Found
+found_in (Some f) g = Some f
+found_in None g = g
 
--- the variable that the name means: the newest one
-abbrev pub slot_of : Scope → List ℕ → Option Slot
-slot_of s name = slot_in (newest name (names_in s.locals)) (newest name (names_in s.globals))
+-- what the name means: the newest one
+abbrev pub found_of : Scope → List ℕ → Option Found
+found_of s name = found_in (found_among local s.locals name) (found_among global s.globals name)
 
--- the type of the variable there; which one is told where there is none is of no use
-abbrev pub type_or_none : Option Entry → NumberType
-type_or_none None = Long
-type_or_none (Some e) = e.number_type
-
-abbrev pub type_at : Scope → Slot → NumberType
-type_at s (global k) = type_or_none (slice_get s.globals k)
-type_at s (local k) = type_or_none (slice_get s.locals k)
+abbrev pub is_array : Meaning → Bool
+is_array (scalar t) = false
+is_array (array a) = true
 
 -- whether this scope has declared the name
 abbrev pub is_declared : Scope → List ℕ → Bool
 is_declared s name = list_any (bytes_eq name) (drop s.outer (names_in s.locals))
 
--- with a further variable
+-- with a further variable or array
 abbrev pub with_local : Scope → Entry → Scope
 with_local s e = record s { locals = s.locals ++ e ∷ [] }
 
+-- the array that the name is declared as, of this type
+abbrev pub array_of : NumberType → Identifier → ArrayLength → Array
+array_of t x n = record { declared = x.place; length = n.value; number_type = t }
+
+abbrev pub meaning_of : {A : Type 0} → NumberType → Identifier → tree.ShapeTree A → Meaning
+meaning_of t x (tree.scalar e) = scalar t
+meaning_of t x (tree.array n) = array (array_of t x n)
+
 -- what a declarator, a parameter and a global declare
 abbrev pub declarator_entry : NumberType → DeclaratorTree → Entry
-declarator_entry t d = record { name = d.name.word; number_type = t }
+declarator_entry t d = record { name = d.name.word; meaning = meaning_of t d.name d.shape }
 
 abbrev pub parameter_entry : Parameter → Entry
-parameter_entry p = record { name = p.name.word; number_type = p.number_type }
+parameter_entry p = record { name = p.name.word; meaning = scalar p.number_type }
 
 abbrev pub global_entry : NumberType → GlobalTree → Entry
-global_entry t g = record { name = g.name.word; number_type = t }
+global_entry t g = record { name = g.name.word; meaning = meaning_of t g.name g.shape }
 
 abbrev pub global_entries : GlobalsTree → List Entry
 global_entries g = map (global_entry g.number_type) (g.first ∷ g.rest)
