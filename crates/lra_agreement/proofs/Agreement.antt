@@ -13,6 +13,7 @@ use Rattle.lra_program.specs.Sites.{Site, sites_of}
 use Rattle.lra_operations.specs.Agree.{IsGraph, Reached, Failed, point_of, AreDistinct, GraphsAgree}
 use Rattle.lra_operations.specs.TrailsAgree.{KeepsWidth, point_at, point_or_none, TreeGoes, TrailsAgree, GraphsHaveTrails}
 use Rattle.lra_operations.proofs.TrailLaws as trees
+use Rattle.lra_agreement.proofs.Asking.{overflows}
 use Rattle.lra_agreement.proofs.Split.{trail}
 use Rattle.lra_agreement.proofs.Reached.{reached}
 use Rattle.lra_agreement.proofs.Performed.{performed, failed}
@@ -32,14 +33,14 @@ not_empty e = cc
 module _ (may : State → State → Type 0) (keeps : KeepsWidth may) (P : Program) (g : Node) (distinct : AreDistinct (sites_of P)) (is : IsGraph P g) where
   to_tree : (number : ℕ) (s : Site) (draws : List ℤ) (a : Trail Point) → slice_get (sites_of P) number ≡ Some s → Arrives may P draws (point_of s) a → TreeGoes may P g draws (to_point number) a
   to_tree number s draws a at (n, c, w, on, same) =
-      let hit = reached may keeps P g is c a.met (point_of s) draws n w on in
+      let hit = reached may keeps overflows P g is c a.met (point_of s) draws n w on in
       let here = distinct hit.number number _ s hit.site at on.path refl in
       subst (λ t. TreeGoes may P g draws (to_point number) (trail t a.met)) same
       (subst (λ q. TreeGoes may P g draws (to_point q) (trail c.state a.met)) here (hit.leads (to_point hit.number) (trail c.state a.met) (refl, refl)))
 
   to_false : (number : ℕ) (s : Site) (draws : List ℤ) (a : Trail Point) → slice_get (sites_of P) number ≡ Some s → Denies may P draws (point_of s) a → TreeGoes may P g draws (to_failure number) a
   to_false number s draws a at (n, c, xs, w, on, becomes, fails, met) =
-      let hit = reached may keeps P g is c xs (point_of s) draws n w on in
+      let hit = reached may keeps overflows P g is c xs (point_of s) draws n w on in
       let here = distinct hit.number number _ s hit.site at on.path refl in
       let same = ap (λ (x : List ℕ). let p : Point = record { path = x; label = s.label } in passes p c.state ∷ xs) (sym on.path) in
       subst (λ q. TreeGoes may P g draws (to_failure q) a) here (hit.leads (to_failure hit.number) a (refl, becomes, fails, met ∙ same))
@@ -77,7 +78,7 @@ module _ (may : State → State → Type 0) (keeps : KeepsWidth may) (P : Progra
 
   nowhere_else : (p : Point) (draws : List ℤ) (a : Trail Point) → Arrives may P draws p a → (number : ℕ) × (s : Site) × (slice_get (sites_of P) number ≡ Some s) × (p ≡ point_of s)
   nowhere_else p draws a (n, c, w, on, same) =
-      let hit = reached may keeps P g is c a.met p draws n w on in
+      let hit = reached may keeps overflows P g is c a.met p draws n w on in
       (hit.number, _, hit.site, ap (λ (x : List ℕ). let q : Point = record { path = x; label = p.label } in q) (sym on.path))
 
   -- what is met was a point of the tree, on what was met before it
@@ -138,7 +139,7 @@ module _ (P : Program) (g : Node) (trails : TrailsAgree Alone P g) where
   name = point_at (sites_of P)
 
   abbrev from : List ℤ → Trail Point
-  from draws = trail (begun P.globals draws) []
+  from draws = trail (begun P draws) []
 
   reached_where_at : (number : ℕ) (s : Site) (store : List ℤ) → slice_get (sites_of P) number ≡ Some s → At P (point_of s) store → Reached P g number store
   reached_where_at number s store at (c, r, on, same) =

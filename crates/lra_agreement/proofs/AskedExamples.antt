@@ -1,13 +1,14 @@
 -- What trees ask. Which slip each would catch stands beside it.
-use Rattle.std.proofs.Common.{◌≡◌, pos, [], ◌∷◌, Some, None, true, refl, inl, inr, map}
+use Rattle.std.proofs.Common.{◌≡◌, ℤ, pos, [], ◌∷◌, Some, None, true, refl, inl, inr, map}
 use Rattle.lra_base.specs.declared.number_types.NumberType.TheVariants.{Int}
 use Rattle.lra_base.specs.Operators.{plus}
 use Rattle.lra_program.specs.Program.{Expr, literal, binary, Cond, nonzero}
 use Rattle.lra_program.specs.Receivers.{variable_at}
-use Rattle.lra_program.specs.Step.{State, Op, append, give, test}
+use Rattle.lra_program.specs.Step.{State, Op, append, give, push_for, test, run_op}
+use Rattle.lra_program.specs.Accesses.{OpStrays}
 use Rattle.lra_operations.specs.Graph.{empty, point, act, seq, choose}
-use Rattle.lra_operations.specs.Asked.{Asked, asked_in, AskedOverflows}
-use Rattle.lra_agreement.proofs.GraphExamples.{called_twice_graph}
+use Rattle.lra_operations.specs.Asked.{Asked, asked_in, accessed_in, AskedOverflows}
+use Rattle.lra_agreement.proofs.GraphExamples.{called_twice_graph, element_called_graph, two_elements, aimed}
 
 abbrev sum_too_great : Expr
 sum_too_great = binary plus (literal Int 2147483647) (literal Int 1)
@@ -23,8 +24,9 @@ new_variable_asks : asked_in None (seq (point 0) (seq (act 0 (append Int)) (act 
 new_variable_asks = refl
 
 -- with 5 for the new variable it overflows, on top of an empty store
-new_variable_overflows : (s : State) → s ≡ record { store = []; draws = pos 5 ∷ [] } → AskedOverflows asked_behind_new s
-new_variable_overflows s e = rw e (record { store = pos 5 ∷ []; draws = [] }, refl, inl (inr ((pos 2147483647, []), refl, inr ((pos 1, []), refl, refl))))
+new_variable_overflows : (s : State) → s ≡ record { store = []; arrays = []; waiting = []; draws = pos 5 ∷ [] } → AskedOverflows asked_behind_new s
+new_variable_overflows s e = rw e
+    (record { store = pos 5 ∷ []; arrays = []; waiting = []; draws = [] }, refl, inl (inr ((pos 2147483647, []), refl, inr ((pos 1, []), refl, refl))))
 
 -- int x; x = 2147483647 + 1: catches a variable that is new at the points behind it
 old_variable_asks : asked_in None (seq (seq (point 0) (act 0 (append Int))) (seq (point 1) (act 1 sum_given))) ≡ record
@@ -42,3 +44,19 @@ condition_asks = refl
 called_twice_asks : map (λ (a : Asked). a.point) (asked_in None called_twice_graph.0) ≡ 1 ∷ 5 ∷ []
 unfolding called_twice_graph
 called_twice_asks = refl
+
+-- accesses: both of `a[a[0]]=f()` are those of the call's operation, and of nothing else; no number can stop it
+element_called_accesses : (accessed_in None element_called_graph.0 ≡ record { point = 1; fresh = None; op = push_for 0 aimed [] } ∷ [])
+    × (asked_in None element_called_graph.0 ≡ [])
+unfolding element_called_graph
+element_called_accesses = (refl, refl)
+
+-- with 2 at the index 0 the second of them is outside, and with 1 none is: catches accesses that are counted from the outside in
+abbrev holding : ℤ → State
+holding z = record { store = []; arrays = (two_elements.declared, z ∷ pos 0 ∷ []) ∷ []; waiting = []; draws = [] }
+
+outside : OpStrays (push_for 0 aimed []) (holding (pos 2)) 1
+outside = inl (inr ((pos 2, []), refl, refl, refl))
+
+inside : run_op (push_for 0 aimed []) (holding (pos 1)) ≡ Some (record (holding (pos 1)) { waiting = 1 ∷ [] })
+inside = refl

@@ -1,142 +1,201 @@
--- What a tree asks at a point where a run stops by a number: the operation of which it stops.
-use Rattle.std.proofs.Common.{◌≡◌, ℕ, List, [], ◌∷◌, ◌++◌, length, Option, Some, None, Bool, true, false, inl, refl, sym, ◌∙◌, subst, IsTrue, arith}
-use Rattle.std.specs.Prelude.{if◌then◌else◌, cond}
+-- What a tree asks at a point where something holds of what is on top of a run: it holds of an operation there.
+use Rattle.std.proofs.Common.{◌≡◌, ℕ, ◌<◌, List, [], ◌∷◌, ◌++◌, length, Option, Some, None, Bool, true, false, refl, sym, ap, ◌∙◌, subst, IsTrue, arith}
+use Rattle.std.specs.Prelude.{if◌then◌else◌, cond, nat_lt}
 use Rattle.std.specs.List.{Contains}
+use Rattle.std.proofs.lemmas.Bool.Decides.{nat_tests}
 use Rattle.std.proofs.lemmas.List.Elements.{Contains-append_left, Contains-append_right}
 use Rattle.std.proofs.lemmas.Option.{same_Some}
 use Rattle.lra_base.specs.declared.number_types.NumberType.{NumberType}
 use Rattle.lra_program.specs.declared.receivers.Receiver.{Receiver}
 use Rattle.lra_program.specs.Receivers.{variable_at, nobody}
-use Rattle.lra_program.specs.Program.{Expr, Cond, Rvalue, Function, Program}
+use Rattle.lra_program.specs.Program.{Expr, Cond, Call, Rvalue, Function, Program}
 use Rattle.lra_program.specs.Value.{Argument}
-use Rattle.lra_program.specs.Step.{State, scene_at, Op, give, push, test, arguments_for}
-use Rattle.lra_program.specs.Overflow.{op_computes, ExprOverflows, OpOverflows, RvalueOverflows, DeclaredOverflows}
+use Rattle.lra_program.specs.Step.{State, Op, append, give, test, arguments_for}
+use Rattle.lra_program.specs.Asks.{CallAsks, RvalueAsks, DeclaredAsks}
+use Rattle.lra_program.specs.Overflow.{op_computes, OpOverflows}
+use Rattle.lra_program.specs.Accesses.{op_accesses, op_accesses_any, OpStrays}
 use Rattle.lra_program.proofs.TypeLaws.{overflowing_compute}
+use Rattle.lra_program.proofs.AccessLaws.{straying_end}
 use Rattle.lra_program.specs.Sites.{Site}
-use Rattle.lra_operations.specs.Graph.{Node, point, seq, choose, Arms, no_arms, entry, arm}
+use Rattle.lra_operations.specs.Graph.{returned, Node, point, act, seq, choose, catch, Arms, no_arms, entry, arm}
 use Rattle.lra_base.specs.declared.case_labels.CaseLabel.{CaseLabel}
 use Rattle.lra_base.specs.CaseLabels.{are_alike}
-use Rattle.lra_operations.proofs.ArmRows.{arms_row, row_behind, asked_in_row}
-use Rattle.lra_operations.specs.Asked.{Asked, asked_of, asked_in, asked_in_arms, fresh_behind, FreshOverflows, AskedOverflows}
-use Rattle.lra_operations.specs.Inlined.{Spot, Declares, Gives, as_fresh, as_given, as_value, as_result, loop_node, switch_node, call_node}
-use Rattle.lra_agreement.proofs.Shapes.{given}
+use Rattle.lra_operations.proofs.ArmRows.{arms_row, row_behind}
+use Rattle.lra_operations.specs.Asked.{Asked, asking_of, asking_in, asking_in_arms, fresh_behind, FreshMeets, AskedMeets}
+use Rattle.lra_operations.specs.Inlined.{Spot, Declares, Gives, Calls, as_fresh, as_given, as_value, as_result, is_call, loop_node, switch_node, callee_node}
+use Rattle.lra_agreement.proofs.Shapes.{given, tail_node}
 
--- one of these operations is at the point, and stops by a number where the point is on top in this state
-pub record Asks (xs : List Asked) (number : ℕ) (s : State) : Type 0 where
-  pub asked : Asked
-  pub among : Contains xs asked
-  pub there : asked.point ≡ number
-  pub stops : AskedOverflows asked s
+-- a question about operations, and of which it is asked: it holds of those alone
+pub record Question : Type 1 where
+  pub asks : Op → Bool
+  pub holds : Op → State → Type 0
+  pub asked : (op : Op) (s : State) → holds op s → IsTrue (asks op)
 
-pub asks_left : (xs ys : List Asked) (number : ℕ) (s : State) → Asks xs number s → Asks (xs ++ ys) number s
-asks_left xs ys number s x = record { asked = x.asked; among = Contains-append_left xs ys x.asked x.among; there = x.there; stops = x.stops }
+-- that a number isn't one of its type, and that the n-th access is outside its array
+abbrev pub overflows : Question
+overflows = record { asks = op_computes; holds = OpOverflows; asked = overflowing_compute }
 
-pub asks_right : (xs ys : List Asked) (number : ℕ) (s : State) → Asks ys number s → Asks (xs ++ ys) number s
-asks_right xs ys number s x = record { asked = x.asked; among = Contains-append_right xs ys x.asked x.among; there = x.there; stops = x.stops }
+one_at_least : (n k : ℕ) → n < k → IsTrue (nat_lt 0 k)
+one_at_least n k less = grind (arith, nat_tests)
 
-has_one : (b : Bool) (x : Asked) → IsTrue b → Contains (if b then x ∷ [] else []) x
-has_one true x t = (0, omega arith, refl)
-has_one false x t = absurd cc
+pub straying_accesses : (n : ℕ) (op : Op) (s : State) → OpStrays op s n → IsTrue (op_accesses_any op)
+straying_accesses n op s h = one_at_least n (length (op_accesses op)) (straying_end op s n h).0
 
--- an operation that stops by a number computes, so it is asked
-pub asks_op : (q : ℕ) (fresh : Option NumberType) (op : Op) (s m : State) → OpOverflows op m → FreshOverflows fresh op s → Asks (asked_of q fresh op) q s
-asks_op q fresh op s m over stops = record {
-  asked = record { point = q; fresh = fresh; op = op };
-  among = has_one (op_computes op) (record { point = q; fresh = fresh; op = op }) (overflowing_compute op m over);
-  there = refl;
-  stops = stops;
-}
+abbrev pub strays : ℕ → Question
+strays n = record { asks = op_accesses_any; holds = λ op s. OpStrays op s n; asked = straying_accesses n }
 
--- at a statement's own point
-pub asks_own : (q : ℕ) (op : Op) (s : State) → OpOverflows op s → Asks (asked_of q None op) q s
-asks_own q op s over = asks_op q None op s s over over
+module _ (Q : Question) where
+  -- one of these operations is at the point, and it holds of it where the point is on top in this state
+  pub record Asks (xs : List Asked) (number : ℕ) (s : State) : Type 0 where
+    pub asked : Asked
+    pub among : Contains xs asked
+    pub there : asked.point ≡ number
+    pub holds : AskedMeets Q.holds asked s
 
--- where the points of the one tree are asked, whatever is new before them, they are in the other
-abbrev pub AsksAs : Node → Node → Type 0
-AsksAs g h = (fresh : Option NumberType) (q : ℕ) (s : State) → ((before : Option NumberType) → Asks (asked_in before g) q s) → Asks (asked_in fresh h) q s
+  abbrev pub own : ℕ → Option NumberType → Op → List Asked
+  own q fresh op = asking_of Q.asks q fresh op
 
-pub asks_first : (g h : Node) → AsksAs g (seq g h)
-asks_first g h fresh q s x = asks_left (asked_in fresh g) (asked_in (fresh_behind fresh g) h) q s (x fresh)
+  abbrev pub all_in : Option NumberType → Node → List Asked
+  all_in fresh g = asking_in Q.asks fresh g
 
-pub asks_second : (g h : Node) → AsksAs h (seq g h)
-asks_second g h fresh q s x = asks_right (asked_in fresh g) (asked_in (fresh_behind fresh g) h) q s (x (fresh_behind fresh g))
+  abbrev pub all_in_arms : Option NumberType → Arms → List Asked
+  all_in_arms fresh arms = asking_in_arms Q.asks fresh arms
 
-module _ (n base : ℕ) (c : Cond) (g h : Node) where
-  abbrev tested : List Asked
-  tested = asked_of n None (test base c true)
+  pub asks_left : (xs ys : List Asked) (number : ℕ) (s : State) → Asks xs number s → Asks (xs ++ ys) number s
+  asks_left xs ys number s x = record { asked = x.asked; among = Contains-append_left xs ys x.asked x.among; there = x.there; holds = x.holds }
 
-  pub asks_true : AsksAs g (choose n base c g h)
-  asks_true fresh q s x = asks_left (tested ++ asked_in None g) (asked_in None h) q s (asks_right tested (asked_in None g) q s (x None))
+  pub asks_right : (xs ys : List Asked) (number : ℕ) (s : State) → Asks ys number s → Asks (xs ++ ys) number s
+  asks_right xs ys number s x = record { asked = x.asked; among = Contains-append_right xs ys x.asked x.among; there = x.there; holds = x.holds }
 
-  pub asks_false : AsksAs h (choose n base c g h)
-  asks_false fresh q s x = asks_right (tested ++ asked_in None g) (asked_in None h) q s (x None)
+  has_one : (b : Bool) (x : Asked) → IsTrue b → Contains (if b then x ∷ [] else []) x
+  has_one true x t = (0, omega arith, refl)
+  has_one false x t = absurd cc
 
-  -- a loop's body, and its step
-  pub asks_body : AsksAs g (loop_node n base c g h)
-  asks_body fresh q s x = asks_right tested (asked_in None g ++ asked_in None h) q s (asks_left (asked_in None g) (asked_in None h) q s (x None))
+  -- an operation of which it holds is asked
+  pub asks_op : (q : ℕ) (fresh : Option NumberType) (op : Op) (s m : State) → Q.holds op m → FreshMeets Q.holds fresh op s → Asks (own q fresh op) q s
+  asks_op q fresh op s m over holds = record {
+    asked = record { point = q; fresh = fresh; op = op };
+    among = has_one (Q.asks op) (record { point = q; fresh = fresh; op = op }) (Q.asked op m over);
+    there = refl;
+    holds = holds;
+  }
 
-  pub asks_step : AsksAs h (loop_node n base c g h)
-  asks_step fresh q s x = asks_right tested (asked_in None g ++ asked_in None h) q s (asks_right (asked_in None g) (asked_in None h) q s (x None))
+  -- at a statement's own point
+  pub asks_own : (q : ℕ) (op : Op) (s : State) → Q.holds op s → Asks (own q None op) q s
+  asks_own q op s over = asks_op q None op s s over over
 
--- a `switch`: the arms behind a label
-asks_entered : (l : CaseLabel) (arms : Arms) (t : Bool) (fresh : Option NumberType) (q : ℕ) (s : State)
-    → (((before : Option NumberType) → Asks (asked_in before (row_behind l arms)) q s) → Asks (asked_in_arms fresh arms) q s)
-    → ((before : Option NumberType) → Asks (asked_in before (cond t (arms_row arms) (row_behind l arms))) q s) → Asks (asked_in_arms fresh arms) q s
-asks_entered l arms true fresh q s each x = subst (λ xs. Asks xs q s) (asked_in_row fresh arms) (x fresh)
-asks_entered l arms false fresh q s each x = each x
+  -- where the points of the one tree are asked, whatever is new before them, they are in the other
+  abbrev pub AsksAs : Node → Node → Type 0
+  AsksAs g h = (fresh : Option NumberType) (q : ℕ) (s : State) → ((before : Option NumberType) → Asks (all_in before g) q s) → Asks (all_in fresh h) q s
 
-asks_behind : (l : CaseLabel) (arms : Arms) (fresh : Option NumberType) (q : ℕ) (s : State)
-    → ((before : Option NumberType) → Asks (asked_in before (row_behind l arms)) q s)
-    → Asks (asked_in_arms fresh arms) q s
-asks_behind l no_arms fresh q s x = x fresh
-asks_behind l (entry k arms) fresh q s x = asks_entered l arms (are_alike l k) fresh q s (asks_behind l arms fresh q s) x
-asks_behind l (arm a arms) fresh q s x = asks_right (asked_in fresh a) (asked_in_arms (fresh_behind fresh a) arms) q s
-    (asks_behind l arms (fresh_behind fresh a) q s x)
+  pub asks_first : (g h : Node) → AsksAs g (seq g h)
+  asks_first g h fresh q s x = asks_left (all_in fresh g) (all_in (fresh_behind fresh g) h) q s (x fresh)
 
-pub asks_selected : (n base : ℕ) (e : Expr) (arms : Arms) (l : CaseLabel) → AsksAs (row_behind l arms) (switch_node n base e arms)
-asks_selected n base e arms l fresh q s x = asks_right (asked_of n None (give base nobody e)) (asked_in_arms None arms) q s (asks_behind l arms None q s x)
+  pub asks_second : (g h : Node) → AsksAs h (seq g h)
+  asks_second g h fresh q s x = asks_right (all_in fresh g) (all_in (fresh_behind fresh g) h) q s (x (fresh_behind fresh g))
 
--- and its own value
-pub asks_value : (n base : ℕ) (e : Expr) (arms : Arms) (s : State) → ExprOverflows e (scene_at base s) s.draws
-    → Asks (asked_in None (switch_node n base e arms)) n s
-asks_value n base e arms s over = asks_left (asked_of n None (give base nobody e)) (asked_in_arms None arms) n s (asks_own n (give base nobody e) s (inl over))
+  -- where no variable is new
+  pub asks_front : (g h : Node) (q : ℕ) (s : State) → Asks (all_in None g) q s → Asks (all_in None (seq g h)) q s
+  asks_front g h q s x = asks_left (all_in None g) (all_in (fresh_behind None g) h) q s x
 
--- a called function's body, and its end
-module _ (spot : Spot) (r : ℕ) (x : Receiver) (es : List Argument) (params : ℕ) (g : Node) where
-  abbrev call_tree : Node
-  call_tree = call_node spot.next r spot.frame.here.base spot.live x es params g
+  module _ (n base : ℕ) (c : Cond) (g h : Node) where
+    abbrev tested : List Asked
+    tested = own n None (test base c true)
 
-  abbrev pushed : Option NumberType → List Asked
-  pushed fresh = asked_of spot.next fresh (push spot.frame.here.base es)
+    pub asks_true : AsksAs g (choose n base c g h)
+    asks_true fresh q s x = asks_left (tested ++ all_in None g) (all_in None h) q s (asks_right tested (all_in None g) q s (x None))
 
-  pub asks_callee : AsksAs g call_tree
-  asks_callee fresh q s y = asks_right (pushed fresh) (asked_in None g ++ []) q s (asks_left (asked_in None g) [] q s (y None))
+    pub asks_false : AsksAs h (choose n base c g h)
+    asks_false fresh q s x = asks_right (tested ++ all_in None g) (all_in None h) q s (x None)
 
-  pub asks_callee_end : AsksAs (point r) call_tree
-  asks_callee_end fresh q s y = asks_right (pushed fresh) (asked_in None g ++ []) q s (asks_right (asked_in None g) [] q s (y None))
+    -- a loop's body, and its step
+    pub asks_body : AsksAs g (loop_node n base c g h)
+    asks_body fresh q s x = asks_right tested (all_in None g ++ all_in None h) q s (asks_left (all_in None g) (all_in None h) q s (x None))
 
-module _ {P : Program} {T : List Site} where
-  -- what a receiver gets, in the state m that the one on top becomes by a new variable, where one is made
-  pub asks_gives : {spot : Spot} {r : ℕ} {x : Receiver} {v : Rvalue} {g : Node} {q : ℕ} → Gives P T spot r x v g q → (fresh : Option NumberType) (s m : State)
-      → ((op : Op) → OpOverflows op m → FreshOverflows fresh op s) → RvalueOverflows P x v spot.frame.here m → Asks (asked_in fresh g) spot.next s
-  asks_gives (as_value {s = spot} {x = x} {e = e}) fresh s m behind over = asks_op spot.next fresh (give spot.frame.here.base x e) s m over
-      (behind (give spot.frame.here.base x e) over)
-  asks_gives (as_result {s = spot} {c = c} {fn = fn} {g = g} found i d has) fresh s m behind over =
-      let op : Op = push spot.frame.here.base (given fn c) in
-      let here : OpOverflows op m = subst (λ (f : Function). OpOverflows (push spot.frame.here.base (arguments_for f.parameters c.arguments)) m)
-      (same_Some over.0 fn (sym over.1 ∙ found)) over.2 in
-      asks_left (asked_of spot.next fresh op) (asked_in None g ++ []) spot.next s (asks_op spot.next fresh op s m here (behind op here))
+    pub asks_step : AsksAs h (loop_node n base c g h)
+    asks_step fresh q s x = asks_right tested (all_in None g ++ all_in None h) q s (asks_right (all_in None g) (all_in None h) q s (x None))
 
-  -- at the point of what gets the value
-  pub asks_given : {spot : Spot} {r : ℕ} {x : Receiver} {v : Rvalue} {g : Node} {q : ℕ} → Gives P T spot r x v g q → (s : State) → RvalueOverflows P x v
-      spot.frame.here s
-      → Asks (asked_in None g) spot.next s
-  asks_given d s over = asks_gives d None s s (λ op o. o) over
+    -- and the condition
+    pub asks_condition : (s : State) → Q.holds (test base c true) s → Asks (all_in None (choose n base c g h)) n s
+    asks_condition s over = asks_left (tested ++ all_in None g) (all_in None h) n s
+        (asks_left tested (all_in None g) n s (asks_own n (test base c true) s over))
 
-  -- of a declarator
-  pub asks_declared : {spot : Spot} {r : ℕ} {t : NumberType} {o : Option Rvalue} {g : Node} {q : ℕ} → Declares P T spot r t o g q → (s : State) → length
-      s.store ≡ spot.live
-      → DeclaredOverflows P t o spot.frame.here s → Asks (asked_in None g) spot.next s
-  asks_declared (as_fresh {s = spot}) s l over = absurd over
-  asks_declared (as_given {s = spot} {t = t} {e = e} d) s l (m, made, over) =
-      asks_gives d (Some t) s m (λ op o. (m, made, o)) (subst (λ k. RvalueOverflows P (variable_at k t) e spot.frame.here m) l over)
+    pub asks_loop : (fresh : Option NumberType) (s : State) → Q.holds (test base c true) s → Asks (all_in fresh (loop_node n base c g h)) n s
+    asks_loop fresh s over = asks_left tested (all_in None g ++ all_in None h) n s (asks_own n (test base c true) s over)
+
+  -- the arms of a `switch` ask what their row does
+  asking_row : (fresh : Option NumberType) (arms : Arms) → all_in fresh (arms_row arms) ≡ all_in_arms fresh arms
+  asking_row fresh no_arms = refl
+  asking_row fresh (entry l arms) = asking_row fresh arms
+  asking_row fresh (arm a arms) = ap (λ xs. all_in fresh a ++ xs) (asking_row (fresh_behind fresh a) arms)
+
+  -- those behind a label
+  asks_entered : (l : CaseLabel) (arms : Arms) (t : Bool) (fresh : Option NumberType) (q : ℕ) (s : State)
+      → (((before : Option NumberType) → Asks (all_in before (row_behind l arms)) q s) → Asks (all_in_arms fresh arms) q s)
+      → ((before : Option NumberType) → Asks (all_in before (cond t (arms_row arms) (row_behind l arms))) q s) → Asks (all_in_arms fresh arms) q s
+  asks_entered l arms true fresh q s each x = subst (λ xs. Asks xs q s) (asking_row fresh arms) (x fresh)
+  asks_entered l arms false fresh q s each x = each x
+
+  asks_behind : (l : CaseLabel) (arms : Arms) (fresh : Option NumberType) (q : ℕ) (s : State)
+      → ((before : Option NumberType) → Asks (all_in before (row_behind l arms)) q s)
+      → Asks (all_in_arms fresh arms) q s
+  asks_behind l no_arms fresh q s x = x fresh
+  asks_behind l (entry k arms) fresh q s x = asks_entered l arms (are_alike l k) fresh q s (asks_behind l arms fresh q s) x
+  asks_behind l (arm a arms) fresh q s x = asks_right (all_in fresh a) (all_in_arms (fresh_behind fresh a) arms) q s
+      (asks_behind l arms (fresh_behind fresh a) q s x)
+
+  pub asks_selected : (n base : ℕ) (e : Expr) (arms : Arms) (l : CaseLabel) → AsksAs (row_behind l arms) (switch_node n base e arms)
+  asks_selected n base e arms l fresh q s x = asks_right (own n None (give base nobody e)) (all_in_arms None arms) q s (asks_behind l arms None q s x)
+
+  -- and its own value
+  pub asks_value : (n base : ℕ) (e : Expr) (arms : Arms) (s : State) → Q.holds (give base nobody e) s → Asks (all_in None (switch_node n base e arms)) n s
+  asks_value n base e arms s over = asks_left (own n None (give base nobody e)) (all_in_arms None arms) n s (asks_own n (give base nobody e) s over)
+
+  -- a called function's body, and its end; the operation gives the arguments
+  module _ (spot : Spot) (r : ℕ) (x : Receiver) (op : Op) (params : ℕ) (g : Node) where
+    abbrev call_tree : Node
+    call_tree = callee_node spot.next r spot.live x op params g
+
+    abbrev tail : Node
+    tail = tail_node r spot.live x params
+
+    abbrev behind_op : Node
+    behind_op = catch spot.next returned (seq g tail)
+
+    pub asks_callee : AsksAs g call_tree
+    asks_callee fresh q s y = asks_second (act spot.next op) behind_op fresh q s (λ before. asks_first g tail None q s y)
+
+    pub asks_callee_end : AsksAs (point r) call_tree
+    asks_callee_end fresh q s y = asks_second (act spot.next op) behind_op fresh q s
+        (λ before. asks_second g tail None q s (λ again. asks_left [] _ q s (y again)))
+
+  module _ {P : Program} {T : List Site} where
+    -- what a call's operation does in the state m that the one on top becomes by a new variable, where one is made
+    pub asks_calls : {spot : Spot} {r : ℕ} {x : Receiver} {gives : List Argument → Op} {c : Call} {g : Node} {q : ℕ} → Calls P T spot r x gives c g q
+        → (fresh : Option NumberType) (s m : State) → ((op : Op) → Q.holds op m → FreshMeets Q.holds fresh op s) → CallAsks Q.holds P gives c m
+        → Asks (all_in fresh g) spot.next s
+    asks_calls (is_call {s = spot} {r = r} {x = x} {gives = gives} {c = c} {fn = fn} {g = g} {q = q'} found i d has) fresh s m behind over =
+        let op : Op = gives (given fn c) in
+        let here : Q.holds op m = subst (λ (f : Function). Q.holds (gives (arguments_for f.parameters c.arguments)) m)
+        (same_Some over.0 fn (sym over.1 ∙ found)) over.2 in
+        asks_left (own spot.next fresh op) _ spot.next s (asks_op spot.next fresh op s m here (behind op here))
+
+    -- what a receiver gets
+    pub asks_gives : {spot : Spot} {r : ℕ} {x : Receiver} {v : Rvalue} {g : Node} {q : ℕ} → Gives P T spot r x v g q → (fresh : Option NumberType) (s m : State)
+        → ((op : Op) → Q.holds op m → FreshMeets Q.holds fresh op s) → RvalueAsks Q.holds P x v spot.frame.here m → Asks (all_in fresh g) spot.next s
+    asks_gives (as_value {s = spot} {x = x} {e = e}) fresh s m behind over = asks_op spot.next fresh (give spot.frame.here.base x e) s m over
+        (behind (give spot.frame.here.base x e) over)
+    asks_gives (as_result d) fresh s m behind over = asks_calls d fresh s m behind over
+
+    -- at the point of what gets the value
+    pub asks_given : {spot : Spot} {r : ℕ} {x : Receiver} {v : Rvalue} {g : Node} {q : ℕ} → Gives P T spot r x v g q → (s : State)
+        → RvalueAsks Q.holds P x v spot.frame.here s → Asks (all_in None g) spot.next s
+    asks_given d s over = asks_gives d None s s (λ op o. o) over
+
+    -- of a declarator
+    pub asks_declared : {spot : Spot} {r : ℕ} {t : NumberType} {o : Option Rvalue} {g : Node} {q : ℕ} → Declares P T spot r t o g q → (s : State)
+        → length s.store ≡ spot.live → DeclaredAsks Q.holds P t o spot.frame.here s → Asks (all_in None g) spot.next s
+    asks_declared (as_fresh {s = spot}) s l over = absurd over
+    asks_declared (as_given {s = spot} {t = t} {e = e} {g = g} d) s l (m, made, over) =
+        asks_right (own spot.next None (append t)) (all_in (Some t) g) spot.next s
+        (asks_gives d (Some t) s m (λ op o. (m, made, o)) (subst (λ k. RvalueAsks Q.holds P (variable_at k t) e spot.frame.here m) l over))

@@ -3,8 +3,9 @@
 use Rattle.std.proofs.Common.{◌≡◌, ℕ, zero, suc, ◌+◌, List, [], ◌∷◌, ◌++◌, length, Option, Some, None, slice_get, inl, inr, refl, sym, ap, ◌∙◌, subst, append_assoc}
 use Rattle.std.specs.List.{AllByRecursion}
 use Rattle.std.proofs.lemmas.Option.{same_Some, none-some, slice_get-get_or}
-use Rattle.lra_program.specs.Program.{Call, Rvalue, value, result, Stmt, absent, nothing, block, assign, call, if, loop, for, break, continue, return, assert, assume, BlockItems, no_more, declaration}
-use Rattle.lra_program.specs.Program.{statement, switch, Cases, no_cases, labelled, stated, Function, Program}
+use Rattle.lra_program.specs.Program.{Call, Rvalue, value, result, Stmt, absent, nothing, block, assign, write, call, if, loop, for, break, continue, return}
+use Rattle.lra_program.specs.Program.{assert, assume, BlockItems, no_more, declaration, array, statement, switch, Cases, no_cases, labelled, stated, Function}
+use Rattle.lra_program.specs.Program.{Program}
 use Rattle.lra_program.specs.Sites.{Site, Event, comes, one_call_more, live_behind, rvalue_events, given_events, stmt_events, cases_events, items_events, function_events, call_events, events_of, sites_in, sites_of}
 use Rattle.lra_program.specs.Sites.{greatest_calls}
 use Rattle.lra_operations.specs.Agree.{AreDistinct}
@@ -99,6 +100,8 @@ module _ (P : Program) where
       spread_stmt b here live (block items end) good d = rw keys_append (spread_join path (items_numbers items) (end ∷ []) (keys_in (items_events inside path live items)) ((end ∷ path) ∷ [])
           (differ_apart (items_numbers items) (end ∷ []) d) (spread_items b here live items good (differ_left (items_numbers items) (end ∷ []) d)) (spread_alone end path))
       spread_stmt b here live (assign at x e) good d = let y = spread_rvalue at here live e good.1 in spread_point at path y.0 (keys_in (rvalue_events inside path live e)) y.1
+      spread_stmt b here live (write at x e) good d = let y = spread_rvalue at here live e good.1 in spread_point at path y.0
+          (keys_in (rvalue_events inside path live e)) y.1
       spread_stmt b here live (call at c) good d = let y = calls path live at here c good in spread_point at path y.0 (keys_in (inside path live c)) y.1
       spread_stmt b here live (if at c s t) good d = rw keys_append
           (spread_parts at path (stmt_numbers s) (stmt_numbers t) (keys_in (stmt_events inside path live s)) (keys_in (stmt_events inside path live t)) d
@@ -148,6 +151,10 @@ module _ (P : Program) where
           rw keys_append (spread_join path (e.label ∷ []) (items_numbers items) ((e.label ∷ path) ∷ keys_in (given_events inside path (suc live) e.rvalue))
           (keys_in (items_events inside path (suc live) items)) (head_apart e.label (items_numbers items) d.0)
           (spread_point e.label path y.0 (keys_in (given_events inside path (suc live) e.rvalue)) y.1) (spread_items b (suc here) (suc live) items good.1 d.1))
+      spread_items b here live (array at a items) good d =
+          spread_join path (at ∷ []) (items_numbers items) ((at ∷ path) ∷ []) (keys_in (items_events inside path live items))
+          (head_apart at (items_numbers items) d.0)
+          (spread_alone at path) (spread_items b here live items good d.1)
       spread_items b here live (statement s items) good d = rw keys_append
           (spread_join path (stmt_numbers s) (items_numbers items) (keys_in (stmt_events inside path live s)) (keys_in (items_events inside path live items))
           (differ_apart (stmt_numbers s) (items_numbers items) d) (spread_stmt b here live s good.0 (differ_left (stmt_numbers s) (items_numbers items) d))

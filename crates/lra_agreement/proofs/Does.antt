@@ -3,17 +3,19 @@ use Rattle.std.proofs.Common.{◌≡◌, ◌≢◌, ℕ, zero, suc, ◌+◌, ◌
 use Rattle.std.proofs.Common.{slice_get}
 use Rattle.std.specs.Prelude.{cond}
 use Rattle.std.proofs.lemmas.Option.{same_Some, none-some}
-use Rattle.lra_program.specs.Program.{Expr, Cond, Call, Rvalue, value, result, Declarator, Stmt, absent, nothing, block, assign, call, if, loop, for, break, continue, return, assert, assume}
+use Rattle.lra_program.specs.Program.{Expr, Cond, Call, Rvalue, value, result, Declarator, Stmt, absent, nothing, block, assign, write, call, if, loop, for}
+use Rattle.lra_program.specs.Program.{break, continue, return, assert, assume}
 use Rattle.lra_base.specs.declared.case_labels.CaseLabel.{CaseLabel}
 use Rattle.lra_base.specs.CaseLabels.{are_alike}
 use Rattle.lra_program.specs.Program.{switch, Cases, no_cases, labelled, stated, labels_of}
-use Rattle.lra_program.specs.Program.{BlockItems, no_more, declaration, statement, Function, Program}
-use Rattle.lra_program.specs.Value.{Drawn, index_of, truth_of}
+use Rattle.lra_program.specs.Program.{BlockItems, no_more, declaration, array, statement, Function, Program}
+use Rattle.lra_program.specs.Value.{Drawn, index_of, Argument, truth_of}
 use Rattle.lra_program.specs.declared.receivers.Receiver.{Receiver}
 use Rattle.lra_program.specs.Receivers.{variable_at, nobody}
-use Rattle.lra_program.specs.Step.{State, Op, append, give, give_any, push, keep, test, run_op, run_any, tested, Here, Back, Item, run, declare, all, end_of, turn, cut, mark, leave_call, Config, Outside, Turn}
-use Rattle.lra_program.specs.Step.{scene_at, to_outside, to_turn, Called, to_mark, behind_main, receiver_of, go, go_by, go_on, enter, do_rvalue, do_leave, do_break}
-use Rattle.lra_program.specs.Step.{cases, end_switch, behind_label, do_continue, do_stmt, do_declare, next, next_at}
+use Rattle.lra_program.specs.Step.{State, Op, append, fill, give, give_element, give_any, keep, test, run_op, run_any, tested, Here, Back, Item, run, declare}
+use Rattle.lra_program.specs.Step.{declare_array, all, end_of, turn, cut, mark, leave_call, Config, Outside, Turn, scene_at, to_outside, to_turn, Called}
+use Rattle.lra_program.specs.Step.{to_mark, behind_main, receiver_of, go, go_by, go_on, enter_by, do_rvalue, do_write, do_leave, do_break, cases, end_switch}
+use Rattle.lra_program.specs.Step.{behind_label, do_continue, do_stmt, do_declare, next, next_at}
 use Rattle.lra_program.specs.Run.{label_on, Point, IsFailing}
 use Rattle.lra_program.specs.Trails.{Met, passes, Trail, met_on, Becomes, Walks}
 use Rattle.lra_program.proofs.TrailLaws.{walk_on}
@@ -21,18 +23,18 @@ use Rattle.lra_operations.specs.Graph.{Exit, broken, continued, returned, Node, 
 use Rattle.lra_operations.specs.Trails.{Stop, by_jump, to_point, to_failure, Outcome, to_end, stopped, Goes, ArmsGo, Finds, Tests, TrailRounds, Performs, Passes}
 use Rattle.lra_operations.specs.TrailsAgree.{KeepsWidth, point_at, point_or_none}
 use Rattle.lra_program.specs.Sites.{Site}
-use Rattle.lra_operations.specs.Inlined.{Frame, Spot, spot_of, move, Has, HasSite, callee, Inl, InlAll, Declares, Loops, Gives, as_nothing, as_block, as_absent, as_assign, as_call, as_if, as_loop}
-use Rattle.lra_operations.specs.Inlined.{as_for, as_break}
-use Rattle.lra_operations.specs.Inlined.{as_continue, as_return, as_return_value, as_return_call, as_end, as_end_value, as_end_call, as_assert, as_assume, as_switch, as_no_cases, as_labelled, as_stated, InlCases, switch_node, as_none, as_declaration, as_statement}
-use Rattle.lra_operations.specs.Inlined.{as_fresh, as_given, is_loop, as_value, as_result, loop_node, call_node, return_node}
-use Rattle.lra_program.proofs.GivenArguments.{given_width}
+use Rattle.lra_operations.specs.Inlined.{Frame, Spot, spot_of, move, Has, HasSite, callee, Inl, InlAll, Declares, Loops, Gives, Calls, as_nothing, as_block}
+use Rattle.lra_operations.specs.Inlined.{as_absent, as_assign, as_write, as_write_call, as_call, as_if, as_loop, as_for, as_break, as_continue, as_return}
+use Rattle.lra_operations.specs.Inlined.{as_return_value, as_return_call, as_end, as_end_value, as_end_call, as_assert, as_assume, as_switch, as_no_cases}
+use Rattle.lra_operations.specs.Inlined.{as_labelled, as_stated, InlCases, switch_node, as_none, as_declaration, as_array, as_statement, as_fresh, as_given}
+use Rattle.lra_operations.specs.Inlined.{is_loop, as_value, as_result, is_call, loop_node, callee_node, return_node}
 use Rattle.lra_operations.proofs.ArmRows.{arms_row, row_behind, row_of_behind}
 use Rattle.lra_agreement.proofs.Selecting.{entries_are}
 use Rattle.lra_agreement.proofs.Shapes.{inner, given, width, seq_inv, act_inv, leave_inv, point_seq, act_seq, jump_inv, EndsBody, GoesCall, call_returned}
 use Rattle.lra_agreement.proofs.Shapes.{call_ended, call_stopped, call_at_end, call_inv, Round}
 use Rattle.lra_agreement.proofs.Shapes.{EndsBodyRound, LeavesRound, EndsLoop, loop_done, loop_at, loop_broken, loop_left, loop_inv}
-use Rattle.lra_agreement.proofs.Lengths.{LengthAt, Length, length_one, length_all, length_declarator, length_loop, length_test}
-use Rattle.lra_agreement.proofs.Lengths.{length_push, length_append, grows_all, tests_length, in_loop, mid_length, rounds_length}
+use Rattle.lra_agreement.proofs.Lengths.{Adds, AddsEach, adds_given, LengthAt, Length, length_one, length_all, length_declarator, length_array, length_loop}
+use Rattle.lra_agreement.proofs.Lengths.{length_test, length_push, length_push_for, length_append, grows_all, tests_length, in_loop, mid_length, rounds_length}
 use Rattle.lra_agreement.proofs.Landing.{config, land, land_skip, Matches, matches_skip, mark_none, outside_length, turn_length, back_of, land_broken, land_continued, land_returned}
 
 go_is : (k : List Item) (h : Here) (o : Option State) (t : State) → o ≡ Some t → go k h o ≡ Some (config k h t)
@@ -182,10 +184,17 @@ module _ (may : State → State → Type 0) (keeps : KeepsWidth may) (P : Progra
   pub record Follows (f : Frame) (n : ℕ) (i : Item) (g : Node) : Type 0 where
     pub runs : (k : List Item) (a : Trail Point) (u : Outcome) (b : Trail Point) → Matches f k → length a.state.store ≡ n → G g a u b → Pends f.here (i ∷ k) k u a b
 
-  -- and of what a variable gets
-  pub record GivesDoes (f : Frame) (n : ℕ) (x : Receiver) (v : Rvalue) (g : Node) : Type 0 where
+  -- and of a step, from any state and above any items
+  pub record StepDoes (f : Frame) (n : ℕ) (step : List Item → State → Option Config) (g : Node) : Type 0 where
     pub runs : (k : List Item) (a : Trail Point) (u : Outcome) (b : Trail Point) → length a.state.store ≡ n → G g a u b
-        → (e : Config) × (do_rvalue P x v k f.here a.state ≡ Some e) × Fulfils f.here k u b e a.met
+        → (e : Config) × (step k a.state ≡ Some e) × Fulfils f.here k u b e a.met
+
+  -- as what a variable gets, and a call whose arguments an operation gives
+  abbrev pub GivesDoes : Frame → ℕ → Receiver → Rvalue → Node → Type 0
+  GivesDoes f n x v g = StepDoes f n (λ k s. do_rvalue P x v k f.here s) g
+
+  abbrev pub CallDoes : Frame → ℕ → Receiver → (List Argument → Op) → Call → Node → Type 0
+  CallDoes f n x gives c g = StepDoes f n (λ k s. enter_by gives (slice_get P.functions c.function) c x k f.here s) g
 
   -- an item without a point does what its step does
   does_plain : (f : Frame) (n : ℕ) (i : Item) (g : Node) → ((k : List Item) → label_on (i ∷ k) ≡ None) → Follows f n i g → Does f n i g
@@ -327,25 +336,25 @@ module _ (may : State → State → Type 0) (keeps : KeepsWidth may) (P : Progra
         rw z.0 (config k spot.frame.here b.state, go_is k spot.frame.here (run_op (give spot.frame.here.base x v) a.state) b.state z.1.0, (0, (refl, sym z.1.1)));
   }
 
-  -- a statement that only gives a variable its value
-  follows_rvalue : (spot : Spot) (i : Stmt) (x : Receiver) (v : Rvalue) (g : Node)
-      → ((k : List Item) (s : State) → length s.store ≡ spot.live → do_stmt P i k spot.frame.here s ≡ do_rvalue P x v k spot.frame.here s)
-      → GivesDoes spot.frame spot.live x v g → Follows spot.frame spot.live (run i) g
-  follows_rvalue spot i x v g same y = record {
-    runs = λ k a u b m l z. let r = y.runs k a u b l z in pends spot.frame.here (run i ∷ k) k u a b r.0 (same k a.state l ∙ r.1) r.2;
+  -- a statement that takes this step
+  follows_step : (spot : Spot) (i : Stmt) (step : List Item → State → Option Config) (g : Node)
+      → ((k : List Item) (s : State) → do_stmt P i k spot.frame.here s ≡ step k s)
+      → StepDoes spot.frame spot.live step g → Follows spot.frame spot.live (run i) g
+  follows_step spot i step g same y = record {
+    runs = λ k a u b m l z. let r = y.runs k a u b l z in pends spot.frame.here (run i ∷ k) k u a b r.0 (same k a.state ∙ r.1) r.2;
   }
 
   abbrev call_behind : Spot → Function → Receiver → List Item → List Item
   call_behind spot fn x k = end_of fn.end (spot.live + width fn) ∷ mark (record { receiver = inner fn x; here = spot.frame.here; length = spot.live }) ∷ k
 
-  does_call : (spot : Spot) (r' : ℕ) (x : Receiver) (c : Call) (fn : Function) (g : Node) (n' : ℕ) → slice_get P.functions c.function ≡ Some fn → length
-      c.arguments ≡ length fn.parameters
+  does_call : (spot : Spot) (r' : ℕ) (x : Receiver) (gives : List Argument → Op) (c : Call) (fn : Function) (g : Node) (n' : ℕ)
+      → slice_get P.functions c.function ≡ Some fn → Adds (gives (given fn c)) (width fn)
       → Length (point_at T) may keeps (callee spot.frame spot.live (inner fn x) c) (spot.live + width fn) n' g → spot.live + width fn ≤ n' →
       Has T (spot_of (callee spot.frame spot.live (inner fn x) c) n' r') fn.end
       → Does (callee spot.frame spot.live (inner fn x) c) (spot.live + width fn) (all fn.body) g
-      → GivesDoes spot.frame spot.live x (result c) (call_node spot.next r' spot.frame.here.base spot.live (inner fn x) (given fn c) (width fn) g)
-  does_call spot r' x c fn g n' found i len up has y = record {
-    runs = λ k a u b l z. let w = call_inv (point_at T) may spot r' (inner fn x) (given fn c) (width fn) g a u b z in (
+      → CallDoes spot.frame spot.live x gives c (callee_node spot.next r' spot.live (inner fn x) (gives (given fn c)) (width fn) g)
+  does_call spot r' x gives c fn g n' found adds len up has y = record {
+    runs = λ k a u b l z. let w = call_inv (point_at T) may spot r' (inner fn x) (gives (given fn c)) (width fn) g a u b z in (
       config (all fn.body ∷ call_behind spot fn x k) (callee spot.frame spot.live (inner fn x) c).here w.0.state,
       enters k a w.0 l w.1,
       moved k u b a w.0
@@ -353,21 +362,21 @@ module _ (may : State → State → Type 0) (keeps : KeepsWidth may) (P : Progra
     );
   }
     where
-      long : (a w : Trail Point) → length a.state.store ≡ spot.live → Performs (push spot.frame.here.base (given fn c)) a w → length w.state.store ≡ spot.live
+      long : (a w : Trail Point) → length a.state.store ≡ spot.live → Performs (gives (given fn c)) a w → length w.state.store ≡ spot.live
           + width fn
-      long a w l o = length_push spot.frame.here.base (given fn c) a.state w.state o.0 ∙ rw (l, given_width fn.parameters c.arguments i) refl
+      long a w l o = adds a.state w.state o.0 ∙ ap (λ n. n + width fn) l
 
       matches : (k : List Item) → Matches (callee spot.frame spot.live (inner fn x) c)
           (end_of fn.end (spot.live + width fn) ∷ mark (record { receiver = inner fn x; here = spot.frame.here; length = spot.live }) ∷ k)
       matches k = record { breaks = λ m z. absurd (none-some m z); continues = λ m z. absurd (none-some m z); backs = refl }
 
-      enters : (k : List Item) (a w : Trail Point) → length a.state.store ≡ spot.live → Performs (push spot.frame.here.base (given fn c)) a w
-          → do_rvalue P x (result c) k spot.frame.here a.state ≡ Some (config (all fn.body ∷ call_behind spot fn x k)
+      enters : (k : List Item) (a w : Trail Point) → length a.state.store ≡ spot.live → Performs (gives (given fn c)) a w
+          → enter_by gives (slice_get P.functions c.function) c x k spot.frame.here a.state ≡ Some (config (all fn.body ∷ call_behind spot fn x k)
           (callee spot.frame spot.live (inner fn x) c).here w.state)
-      enters k a w l o = subst (λ v. enter v c x k spot.frame.here a.state ≡ Some
+      enters k a w l o = subst (λ v. enter_by gives v c x k spot.frame.here a.state ≡ Some
           (config (all fn.body ∷ call_behind spot fn x k) (callee spot.frame spot.live (inner fn x) c).here w.state)) (sym found)
           (rw l (go_is (all fn.body ∷ call_behind spot fn x k) (callee spot.frame spot.live (inner fn x) c).here
-          (run_op (push spot.frame.here.base (given fn c)) a.state) w.state o.0))
+          (run_op (gives (given fn c)) a.state) w.state o.0))
 
       moved : (k : List Item) (u : Outcome) (b a w : Trail Point) → w.met ≡ a.met →
           Fulfils spot.frame.here k u b (config (all fn.body ∷ call_behind spot fn x k) (callee spot.frame spot.live (inner fn x) c).here w.state) w.met
@@ -405,7 +414,7 @@ module _ (may : State → State → Type 0) (keeps : KeepsWidth may) (P : Progra
           (met_same (config marked there z.cut.state) (config k spot.frame.here b.state) z.past.met z.past.met b.met (z.back.1 ∙ (z.sets.1 ∙ z.cuts.1)) three))
 
       by : (k : List Item) (w : Trail Point) (u : Outcome) (b : Trail Point) → length w.state.store ≡ spot.live + width fn → GoesCall (point_at T) may spot r'
-          (inner fn x) (given fn c) (width fn) g w b u
+          (inner fn x) (width fn) g w b u
           → Fulfils spot.frame.here k u b (config (all fn.body ∷ call_behind spot fn x k) (callee spot.frame spot.live (inner fn x) c).here w.state) w.met
       by k w _ b l (call_returned z) = y.runs (call_behind spot fn x k) w (stopped (by_jump returned)) b (matches k) l z (config k spot.frame.here b.state) refl
       by k w _ b l (call_ended z) = through_end k w b z l
@@ -696,7 +705,8 @@ module _ (may : State → State → Type 0) (keeps : KeepsWidth may) (P : Progra
     -- the step to what is chosen
     switch_step : (k : List Item) (a m : Trail Point) (l : CaseLabel) → length a.state.store ≡ spot.live → Finds spot.frame.here.base e arms a l m
         → next_at P (run (switch at e cs) ∷ k) spot.frame.here a.state ≡ Some (chosen_config k l m.state)
-    switch_step k a m l n ((z, got, store, is), met) = rw (got, n, is, same, ← store) refl
+    switch_step k a m l n ((z, got, state, is), met) =
+        subst (λ s. next_at P (run (switch at e cs) ∷ k) spot.frame.here a.state ≡ Some (chosen_config k l s)) (sym state) (rw (got, n, is, same) refl)
 
     follows_switch : Follows spot.frame spot.live (run (switch at e cs)) (switch_node spot.next spot.frame.here.base e arms)
     follows_switch = record { runs = λ k a u b m l x. by k a u b m l x }
@@ -705,7 +715,7 @@ module _ (may : State → State → Type 0) (keeps : KeepsWidth may) (P : Progra
             → Finds spot.frame.here.base e arms a l w
             → ArmsGo (point_at T) may l false arms w u b → Fulfils spot.frame.here (above_end k) u b (chosen_config k l w.state) a.met
         found k a w b l u m n f x = subst (λ xs. Fulfils spot.frame.here (above_end k) u b (chosen_config k l w.state) xs) f.1
-            ((inside l).runs (above_end k) w u b (among k m) (ap length f.0.2 ∙ n) (row_of_behind (point_at T) may l arms w u b x))
+            ((inside l).runs (above_end k) w u b (among k m) (ap (λ (x : State). length x.store) f.0.2 ∙ n) (row_of_behind (point_at T) may l arms w u b x))
 
         -- past the end of the `switch`
         past_end : (k : List Item) (b : Trail Point) (c : Config) (xs : List (Met Point)) → RunsTo c xs (config (above_end k) spot.frame.here b.state) b.met
@@ -749,9 +759,16 @@ module _ (may : State → State → Type 0) (keeps : KeepsWidth may) (P : Progra
         (λ k s l. rw l refl) (λ k. refl) (λ k. refl) (λ k. refl) (length_all (point_at T) may keeps d) (does_all d) (does_end (move spot n' q') spot.live end i)
     does_one (as_absent {s = spot}) = does_plain spot.frame spot.live (run absent) empty (λ k. refl) (follows_empty spot.frame spot.live (run absent) (λ k s. refl))
     does_one (as_assign {s = spot} {at = at} {x = x} {e = e} {g = g} i d) = does_point spot at (run (assign at x e)) g i (λ k. refl)
-        (follows_rvalue spot (assign at x e) (variable_at (index_of spot.frame.here.base x.slot) x.number_type) e g (λ k s l. refl) (does_gives d))
+        (follows_step spot (assign at x e) (λ k s. do_rvalue P (variable_at (index_of spot.frame.here.base x.slot) x.number_type) e k spot.frame.here s) g
+        (λ k s. refl) (does_gives d))
+    does_one (as_write {s = spot} {at = at} {x = x} {e = e} i) = does_point spot at (run (write at x (value e)))
+        (act spot.next (give_element spot.frame.here.base x e)) i (λ k. refl)
+        (follows_act spot.frame spot.live spot.next (give_element spot.frame.here.base x e) (run (write at x (value e))) (λ k s. refl))
+    does_one (as_write_call {s = spot} {at = at} {x = x} {c = c} {g = g} i d) = does_point spot at (run (write at x (result c))) g i (λ k. refl)
+        (follows_step spot (write at x (result c)) (λ k s. do_write P x (result c) k spot.frame.here s) g (λ k s. refl)
+        (does_calls d (λ es s t o. length_push_for spot.frame.here.base x es s t o)))
     does_one (as_call {s = spot} {at = at} {c = c} {g = g} i d) = does_point spot at (run (call at c)) g i (λ k. refl)
-        (follows_rvalue spot (call at c) nobody (result c) g (λ k s l. refl) (does_gives d))
+        (follows_step spot (call at c) (λ k s. do_rvalue P nobody (result c) k spot.frame.here s) g (λ k s. refl) (does_gives d))
     does_one (as_if {s = spot} {at = at} {c = c} {a = s} {b = s'} {g = g} {h = h} i d e) =
         does_point spot at (run (if at c s s')) (choose spot.next spot.frame.here.base c g h) i (λ k. refl)
         (follows_if spot at c s s' g h (does_one d) (does_one e))
@@ -811,6 +828,11 @@ module _ (may : State → State → Type 0) (keeps : KeepsWidth may) (P : Progra
         does_two spot.frame spot.live (suc spot.live) (all (declaration d b)) (declare d) (all b) (seq (point spot.next) g) h (λ k. refl) (λ k s l. refl) (λ k. refl)
         (λ k. refl) (λ k. refl) (length_declarator (point_at T) may keeps j)
         (does_point spot d.label (declare d) g i (λ k. refl) (does_declares d j refl)) (does_all e)
+    does_all (as_array {s = spot} {at = at} {a = a} {b = b} {h = h} i e) =
+        does_two spot.frame spot.live spot.live (all (array at a b)) (declare_array at a) (all b) (seq (point spot.next) (act spot.next (fill a))) h (λ k. refl)
+        (λ k s l. refl) (λ k. refl) (λ k. refl) (λ k. refl) (length_array (point_at T) may keeps spot.frame spot.live spot.next a)
+        (does_point spot at (declare_array at a) (act spot.next (fill a)) i (λ k. refl)
+        (follows_act spot.frame spot.live spot.next (fill a) (declare_array at a) (λ k s. refl))) (does_all e)
     does_all (as_statement {s = spot} {a = s} {b = b} {g = g} {h = h} d e) =
         does_two spot.frame spot.live spot.live (all (statement s b)) (run s) (all b) g h (λ k. refl) (λ k s l. refl) (λ k. refl) (λ k. refl) (λ k. refl)
         (length_one (point_at T) may keeps d)
@@ -828,5 +850,9 @@ module _ (may : State → State → Type 0) (keeps : KeepsWidth may) (P : Progra
 
     pub does_gives : {spot : Spot} {r : ℕ} {x : Receiver} {e : Rvalue} {g : Node} {q : ℕ} → Gives P T spot r x e g q → GivesDoes spot.frame spot.live x e g
     does_gives (as_value {s = spot} {x = x} {e = e}) = follows_give spot x e
-    does_gives (as_result {s = spot} {x = x} {c = c} {fn = fn} {g = g} {n = n'} {q = r'} i j d k) =
-        does_call spot r' x c fn g n' i j (length_all (point_at T) may keeps d) (grows_all d) k (does_all d)
+    does_gives (as_result {s = spot} d) = does_calls d (λ es s t o. length_push spot.frame.here.base es s t o)
+
+    pub does_calls : {spot : Spot} {r : ℕ} {x : Receiver} {gives : List Argument → Op} {c : Call} {g : Node} {q : ℕ} → Calls P T spot r x gives c g q
+        → AddsEach gives → CallDoes spot.frame spot.live x gives c g
+    does_calls (is_call {s = spot} {x = x} {gives = gives} {c = c} {fn = fn} {g = g} {n = n'} {q = r'} i j d k) adds =
+        does_call spot r' x gives c fn g n' i (adds_given gives fn c adds j) (length_all (point_at T) may keeps d) (grows_all d) k (does_all d)

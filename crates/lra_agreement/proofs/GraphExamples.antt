@@ -1,27 +1,35 @@
 -- Trees of operations of sources, derived case by case.
-use Rattle.std.proofs.Common.{ℕ, pos, ◌≤◌, [], ◌∷◌, Some, None, refl, arith}
+use Rattle.std.proofs.Common.{◌≡◌, ℕ, pos, ◌≤◌, [], ◌∷◌, Some, None, refl, arith}
 use Rattle.std.specs.Prelude.{codes}
 use Rattle.lra_meaning.specs.Resolve.{resolve}
 use Rattle.lra_program.specs.Sites.{sites_of}
 use Rattle.lra_operations.specs.Graph.{Node, broken, continued, returned, empty, point, act, seq, choose, catch, leave, no_arms, entry, arm}
-use Rattle.lra_program.specs.Step.{append, give, give_any, push, keep}
+use Rattle.lra_program.specs.Step.{append, fill, give, give_any, push, push_for, keep}
 use Rattle.lra_base.specs.declared.number_types.NumberType.TheVariants.{Int, Long}
 use Rattle.lra_base.specs.declared.case_labels.CaseLabel.TheVariants.{Case, Default}
 use Rattle.lra_program.specs.Value.{Argument}
-use Rattle.lra_program.specs.Receivers.{variable_at}
+use Rattle.lra_program.specs.declared.arrays.Array.{Array}
+use Rattle.lra_program.specs.declared.receivers.Receiver.{Receiver}
+use Rattle.lra_program.specs.Receivers.{variable_at, waiting_in, behind_result}
+use Rattle.lra_program.specs.Program.{Element}
 use Rattle.lra_operations.specs.Inlined.{InlAll, loop_node, switch_node, as_absent, as_block, as_if, as_loop, is_loop, as_break}
 use Rattle.lra_operations.specs.Inlined.{as_continue, as_switch, as_no_cases, as_labelled, as_stated, as_declaration, as_fresh, as_given, as_assign}
-use Rattle.lra_operations.specs.Inlined.{as_assert, as_return_value, as_none, as_statement, as_value, as_result, main_spot}
+use Rattle.lra_operations.specs.Inlined.{as_assert, as_return_value, as_none, as_array, as_statement, as_value, as_result, is_call, as_write_call, main_spot}
 use Rattle.lra_program.specs.Program as program
 use Rattle.lra_tree.specs.Trees.{FileTree, function, statement, declaration, no_items, if_only, return, value, expression, result}
+use Rattle.lra_tree.specs.Trees.{set_element, element, array, assign}
+use Rattle.lra_tree.specs.declared.trees.Identifier.{Identifier}
 use Rattle.lra_tree.specs.Trees.{block, while, break, continue, switch, no_cases, labelled, stated}
-use Rattle.lra_tree.proofs.TreeSamples.{at, x_at, name_at, number, use_of, tested, call_of, declared_as, long_parameter, function_of, main_function, main_of}
+use Rattle.lra_tree.proofs.TreeSamples.{at, x_at, name_at, number, alone, use_of, tested, call_of, declared_as, long_parameter, function_of, main_function, main_of}
 use Rattle.lra_tree.proofs.TreeSamples.{called_twice}
 use Rattle.lra_program.proofs.RunExamples as run
 
 -- the length to which a store is cut is at most that from which it is cut
 pub one_of_two : 1 ≤ 2
 one_of_two = omega arith
+
+pub none_of_none : 0 ≤ 0
+none_of_none = omega arith
 
 two_of_two : 2 ≤ 2
 two_of_two = omega arith
@@ -32,12 +40,12 @@ unfoldable pub called_twice_graph : (g : Node) × InlAll (resolve called_twice) 
 called_twice_graph = (
   _,
   as_declaration refl
-      (as_given (as_result {fn = run.inc} refl refl
+      (as_given (as_result (is_call {fn = run.inc} refl refl
       (as_statement (as_assign refl as_value)
-      (as_statement (as_return_value refl one_of_two refl) as_none)) refl))
-      (as_statement (as_assign refl (as_result {fn = run.inc} refl refl
+      (as_statement (as_return_value refl one_of_two refl) as_none)) refl)))
+      (as_statement (as_assign refl (as_result (is_call {fn = run.inc} refl refl
       (as_statement (as_assign refl as_value)
-      (as_statement (as_return_value refl one_of_two refl) as_none)) refl))
+      (as_statement (as_return_value refl one_of_two refl) as_none)) refl)))
       (as_statement (as_assert refl) as_none)),
 )
 
@@ -68,9 +76,9 @@ two_returns_graph : InlAll (resolve two_returns) (sites_of (resolve two_returns)
     (seq (point 4) (seq (act 4 (keep 2)) (seq (act 4 (give_any (variable_at 0 Long))) (act 4 (keep 1)))))))))) empty) 1 5
 two_returns_graph =
     as_declaration refl
-    (as_given (as_result {fn = (record { result_type = Some Long; parameters = Long ∷ []; body = _; end = 4 })} refl refl
+    (as_given (as_result (is_call {fn = (record { result_type = Some Long; parameters = Long ∷ []; body = _; end = 4 })} refl refl
     (as_statement (as_if refl (as_return_value refl one_of_two refl) as_absent)
-    (as_statement (as_return_value refl one_of_two refl) as_none)) refl))
+    (as_statement (as_return_value refl one_of_two refl) as_none)) refl)))
     as_none
 
 -- int main(void){ long x; while(x){ long y; switch(x){ case 1: continue; default: break; } } }
@@ -96,3 +104,40 @@ jumps_apart_graph =
     (as_declaration refl as_fresh (as_statement (as_switch refl
     (as_labelled (as_stated (as_continue refl one_of_two refl) (as_labelled (as_stated (as_break refl two_of_two refl) as_no_cases))))) as_none)) refl)))
     as_none)
+
+-- long f(void){ return 1; } int main(void){ long a[2]; a[a[0]]=f(); }
+abbrev a_at : ℕ → Identifier
+a_at c = name_at (codes "a") c
+
+abbrev element_called : FileTree
+element_called = record {
+  parts = function (function_of (codes "f") 6 [] (statement (return (at 15) (Some (expression (number 1)))) no_items) 25)
+      ∷ function (main_function 31
+      (declaration (record { number_type = Long; first = record { name = a_at 48; shape = array (record { value = 2; place = at 50 }) }; rest = [] })
+      (statement (assign (set_element (a_at 54) (alone (element (a_at 56) (number 0))) (result (call_of (name_at (codes "f") 62) [])))) no_items)) 67)
+      ∷ [];
+  end = at 68;
+}
+
+abbrev pub two_elements : Array
+two_elements = record { declared = at 48; length = 2; number_type = Long }
+
+abbrev pub aimed : Element
+aimed = record { array = two_elements; place = at 54; index = program.element two_elements (at 56) (program.literal Int 0) }
+
+abbrev element_receiver : Receiver
+element_receiver = behind_result (Some Long) (waiting_in two_elements)
+
+-- the index is computed where the call gives its arguments, and the element gets what the return gives: catches a receiver that is nobody
+unfoldable pub element_called_graph : (g : Node) × InlAll (resolve element_called) (sites_of (resolve element_called)) (main_spot (resolve element_called))
+    (resolve element_called).main.body g 0 4
+    × (g ≡ seq (seq (point 0) (act 0 (fill two_elements))) (seq (seq (point 1) (seq (act 1 (push_for 0 aimed []))
+    (catch 1 returned (seq (seq (seq (point 2) (seq (act 2 (give 0 element_receiver (program.literal Int 1))) (seq (act 2 (keep 0)) (leave 0 returned)))) empty)
+    (seq (point 3) (seq (act 3 (keep 0)) (seq (act 3 (give_any element_receiver)) (act 3 (keep 0))))))))) empty))
+element_called_graph = (
+  _,
+  as_array refl
+      (as_statement (as_write_call refl (is_call {fn = (record { result_type = Some Long; parameters = []; body = _; end = 2 })} refl refl
+      (as_statement (as_return_value refl none_of_none refl) as_none) refl)) as_none),
+  refl,
+)

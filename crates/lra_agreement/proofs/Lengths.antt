@@ -4,16 +4,21 @@ use Rattle.std.proofs.lemmas.Option.{same_Some, none-some}
 use Rattle.std.proofs.lemmas.List.{length-map, length-set, length-take-le}
 use Rattle.lra_base.specs.declared.case_labels.CaseLabel.{CaseLabel}
 use Rattle.lra_base.specs.CaseLabels.{are_alike}
-use Rattle.lra_program.specs.Program.{Expr, Cond, Rvalue, Stmt, Cases, BlockItems, Program}
+use Rattle.lra_program.specs.Program.{Expr, Element, Cond, Call, Rvalue, Stmt, Cases, BlockItems, Function, Program}
 use Rattle.lra_base.specs.declared.number_types.NumberType.{NumberType}
+use Rattle.lra_base.specs.declared.refusals.Place.{Place}
+use Rattle.lra_program.specs.declared.arrays.Array.{Array}
+use Rattle.lra_program.specs.Arrays.{place_among}
+use Rattle.lra_program.specs.declared.receivers.Cell.{Cell}
+use Rattle.lra_program.specs.declared.receivers.Cell.TheVariants.{Variable, Waiting}
 use Rattle.lra_program.specs.declared.receivers.Target.{Target}
 use Rattle.lra_program.specs.declared.receivers.Receiver.{Receiver}
-use Rattle.lra_program.specs.Receivers.{accepts}
-use Rattle.lra_program.specs.Value.{◌>>=◌, number, draw, Scene, Argument, value_of, values_of, truth_of, Drawn}
+use Rattle.lra_program.specs.Receivers.{waiting_in, accepts}
+use Rattle.lra_program.specs.Value.{◌>>=◌, number, draw, draws_of, Scene, Argument, value_of, values_of, truth_of, Drawn}
 use Rattle.lra_program.proofs.TypeLaws.{bind_some}
 use Rattle.lra_program.proofs.GivenArguments.{given_width}
-use Rattle.lra_program.specs.Step.{State, scene_at, Op, append, give, give_any, push, keep, test, run_op, run_any, drawn_for, put, receive, pushed, kept_if}
-use Rattle.lra_program.specs.Step.{tested, Back}
+use Rattle.lra_program.specs.Step.{State, scene_at, Op, append, fill, give, give_element, give_any, push, push_for, keep, test, run_op, run_any, drawn_for}
+use Rattle.lra_program.specs.Step.{put_waiting, put_in, put, receive, pushed, kept_if, filled, aim, tested, Back}
 use Rattle.lra_program.specs.declared.program.GlobalVariable.{GlobalVariable}
 use Rattle.lra_program.specs.Run.{Point, begun}
 use Rattle.lra_program.specs.Trails.{Trail}
@@ -21,43 +26,50 @@ use Rattle.lra_operations.specs.Graph.{Exit, broken, continued, returned, Node, 
 use Rattle.lra_operations.specs.Trails.{Stop, by_jump, to_point, to_failure, Outcome, to_end, stopped, Goes, ArmsGo, Finds, Tests, TrailRounds}
 use Rattle.lra_operations.specs.TrailsAgree.{KeepsWidth}
 use Rattle.lra_program.specs.Sites.{Site}
-use Rattle.lra_operations.specs.Inlined.{Frame, Spot, callee, Inl, InlCases, InlAll, Declares, Loops, Gives, as_nothing, as_block, as_absent, as_assign, as_call, as_if, as_loop, as_for, as_break, as_continue}
-use Rattle.lra_operations.specs.Inlined.{as_return, as_return_value, as_return_call, as_end, as_end_value, as_end_call, as_assert, as_assume, as_none, as_declaration, as_statement, as_fresh, as_given}
-use Rattle.lra_operations.specs.Inlined.{is_loop, as_value, as_result, as_switch, as_no_cases, as_labelled, as_stated, loop_node, switch_node, call_node, return_node}
+use Rattle.lra_operations.specs.Inlined.{Frame, Spot, callee, Inl, InlCases, InlAll, Declares, Loops, Gives, Calls, as_nothing, as_block, as_absent, as_assign}
+use Rattle.lra_operations.specs.Inlined.{as_write, as_write_call, as_call, as_if, as_loop, as_for, as_break, as_continue, as_return, as_return_value}
+use Rattle.lra_operations.specs.Inlined.{as_return_call, as_end, as_end_value, as_end_call, as_assert, as_assume, as_none, as_declaration, as_array}
+use Rattle.lra_operations.specs.Inlined.{as_statement, as_fresh, as_given, is_loop, as_value, as_result, is_call, as_switch, as_no_cases, as_labelled}
+use Rattle.lra_operations.specs.Inlined.{as_stated, loop_node, switch_node, callee_node, return_node}
 use Rattle.lra_agreement.proofs.Shapes.{seq_inv, act_inv, leave_inv, EndsBody, GoesCall, call_returned, call_ended, call_stopped, call_at_end}
 use Rattle.lra_agreement.proofs.Shapes.{inner, given, width, call_inv, Round, EndsBodyRound, LeavesRound, EndsLoop, loop_done, loop_at, loop_broken, loop_left}
 use Rattle.lra_agreement.proofs.Shapes.{loop_inv}
 
 -- a run begins with one variable for each global
-pub begun_length : (globals : List GlobalVariable) (draws : List ℤ) → length (begun globals draws).store ≡ length globals
-begun_length globals draws = length-map globals (λ (x : GlobalVariable). x.value)
-
-length_put : (x : Option Target) (z : ℤ) (store : List ℤ) → length (put x z store) ≡ length store
-length_put None z store = refl
-length_put (Some x) z store = length-set store x.place z
-
-length_received : (b : Bool) (x : Receiver) (s : State) (z : ℤ) (ds : List ℤ) (t : State) → kept_if true b
-    (record s { store = put x.target z s.store; draws = ds }) ≡ Some t
-    → length t.store ≡ length s.store
-length_received true x s z ds t e = rw (← same_Some _ t e) (length_put x.target z s.store)
-length_received false x s z ds t e = absurd (none-some t e)
-
-length_given : (x : Receiver) (s : State) (v : Drawn ℤ) (t : State) → receive x s v ≡ Some t → length t.store ≡ length s.store
-length_given x s None t e = absurd (none-some t e)
-length_given x s (Some r) t e = length_received (accepts x r.0) x s r.0 r.1 t e
-
-length_any : (x : Receiver) (s t : State) → run_any x s ≡ Some t → length t.store ≡ length s.store
-length_any x s t e = by x.target e
-  where
-    by : (o : Option Target) → drawn_for o x s ≡ Some t → length t.store ≡ length s.store
-    by None e = rw (← same_Some s t e) refl
-    by (Some y) e = length_given x s (draw s.draws) t e
+pub begun_length : (P : Program) (draws : List ℤ) → length (begun P draws).store ≡ length P.globals
+begun_length P draws = length-map P.globals (λ (x : GlobalVariable). x.value)
 
 length_kept_if : (b d : Bool) (s t : State) → kept_if b d s ≡ Some t → t ≡ s
 length_kept_if true true s t e = sym (same_Some s t e)
 length_kept_if false false s t e = sym (same_Some s t e)
 length_kept_if true false s t e = absurd (none-some t e)
 length_kept_if false true s t e = absurd (none-some t e)
+
+-- what an element gets leaves the store as it is
+store_waiting : (p : Place) (z : ℤ) (ks : List ℕ) (s : State) → (put_waiting p z ks s).store ≡ s.store
+store_waiting p z [] s = refl
+store_waiting p z (k ∷ ks) s = refl
+
+length_put_in : (c : Cell) (z : ℤ) (s : State) → length (put_in c z s).store ≡ length s.store
+length_put_in (Variable k) z s = length-set s.store k z
+length_put_in (Waiting p) z s = ap length (store_waiting p z s.waiting s)
+
+length_put : (x : Option Target) (z : ℤ) (s : State) → length (put x z s).store ≡ length s.store
+length_put None z s = refl
+length_put (Some x) z s = length_put_in x.cell z s
+
+pub length_given : (x : Receiver) (s : State) (v : Drawn ℤ) (t : State) → receive x s v ≡ Some t → length t.store ≡ length s.store
+length_given x s None t e = absurd (none-some t e)
+length_given x s (Some r) t e =
+    let there : State = record s { draws = r.1 } in
+    ap (λ (u : State). length u.store) (length_kept_if true (accepts x r.0) (put x.target r.0 there) t e) ∙ length_put x.target r.0 there
+
+pub length_any : (x : Receiver) (s t : State) → run_any x s ≡ Some t → length t.store ≡ length s.store
+length_any x s t e = by x.target e
+  where
+    by : (o : Option Target) → drawn_for o x s ≡ Some t → length t.store ≡ length s.store
+    by None e = rw (← same_Some s t e) refl
+    by (Some y) e = length_given x s (draw s.draws) t e
 
 store_tested : (b : Bool) (s : State) (v : Drawn Bool) (t : State) → tested b s v ≡ Some t → t.store ≡ s.store
 store_tested b s None t e = absurd (none-some t e)
@@ -94,6 +106,45 @@ length_append x s t e =
     let (z, fit, made) = bind_some (number x r.0) (λ z. Some (record s { store = s.store ++ z ∷ []; draws = r.1 })) t to in
     rw (← same_Some _ t made, length-append) (omega arith)
 
+length_filled : (a : Array) (s : State) (v : Drawn (List ℤ)) (t : State) → filled a s v ≡ Some t → length t.store ≡ length s.store
+length_filled a s None t e = absurd (none-some t e)
+length_filled a s (Some r) t e = rw (← same_Some _ t e) refl
+
+pub length_fill : (a : Array) (s t : State) → run_op (fill a) s ≡ Some t → length t.store ≡ length s.store
+length_fill a s t e = length_filled a s (draws_of a.number_type a.length s.draws) t e
+
+-- an index that waits leaves the store as it is
+pub length_aim : (base : ℕ) (x : Element) (s m : State) → aim base x s ≡ Some m → length m.store ≡ length s.store
+length_aim base x s m e =
+    let (r, got, to) = bind_some (value_of x.index (scene_at base s) s.draws)
+    (λ r. place_among x.array.length r.0 >>= λ k. Some (record s { waiting = k ∷ s.waiting; draws = r.1 })) m e in
+    let (k, inside, made) = bind_some (place_among x.array.length r.0) (λ k. Some (record s { waiting = k ∷ s.waiting; draws = r.1 })) m to in
+    rw (← same_Some _ m made) refl
+
+pub length_give_element : (base : ℕ) (x : Element) (e : Expr) (s t : State) → run_op (give_element base x e) s ≡ Some t → length t.store ≡ length s.store
+length_give_element base x e s t is =
+    let (m, aimed, to) = bind_some (aim base x s) (λ m. receive (waiting_in x.array) m (value_of e (scene_at base m) m.draws)) t is in
+    length_given (waiting_in x.array) m (value_of e (scene_at base m) m.draws) t to ∙ length_aim base x s m aimed
+
+pub length_push_for : (base : ℕ) (x : Element) (es : List Argument) (s t : State) → run_op (push_for base x es) s ≡ Some t
+    → length t.store ≡ length s.store + length es
+length_push_for base x es s t e =
+    let (m, aimed, to) = bind_some (aim base x s) (λ m. pushed m (values_of es (scene_at base m) m.draws)) t e in
+    length_pushed m (length es) (values_of es (scene_at base m) m.draws) t (length_values es (scene_at base m) m.draws) to
+    ∙ ap (λ n. n + length es) (length_aim base x s m aimed)
+
+-- an operation by which so many variables are new
+abbrev pub Adds : Op → ℕ → Type 0
+Adds op n = (s t : State) → run_op op s ≡ Some t → length t.store ≡ length s.store + n
+
+-- one that gives arguments: each is a new variable
+abbrev pub AddsEach : (List Argument → Op) → Type 0
+AddsEach gives = (es : List Argument) → Adds (gives es) (length es)
+
+pub adds_given : (gives : List Argument → Op) (fn : Function) (c : Call) → AddsEach gives → length c.arguments ≡ length fn.parameters
+    → Adds (gives (given fn c)) (width fn)
+adds_given gives fn c adds i s t e = adds (given fn c) s t e ∙ ap (λ n. length s.store + n) (given_width fn.parameters c.arguments i)
+
 -- where a jump leads, the store is as long as it was there
 abbrev pub JumpLength : Frame → Exit → State → Type 0
 JumpLength f broken t = (m : ℕ) × (f.breaks ≡ Some m) × (length t.store ≡ m)
@@ -113,6 +164,7 @@ back_length f b t e l b' e' = rw l (ap (λ (c : Back). c.length) (same_Some b b'
 pub grows_all : {P : Program} {T : List Site} {spot : Spot} {s : BlockItems} {g : Node} {n q : ℕ} → InlAll P T spot s g n q → spot.live ≤ n
 grows_all as_none = omega arith
 grows_all (as_declaration i j e) = let rest = grows_all e in omega arith
+grows_all (as_array i e) = grows_all e
 grows_all (as_statement d e) = grows_all e
 
 abbrev pub in_loop : Frame → Option ℕ → Frame
@@ -163,6 +215,12 @@ module _ (name : ℕ → Point) (may : State → State → Type 0) (keeps : Keep
 
   give_length : {f : Frame} {n : ℕ} (q base : ℕ) (x : Receiver) (a : Expr) → Length f n n (act q (give base x a))
   give_length q base x a = act_length q (give base x a) (λ s t l e. length_given x s (value_of a (scene_at base s) s.draws) t e ∙ l)
+
+  fill_length : {f : Frame} {n : ℕ} (q : ℕ) (a : Array) → Length f n n (act q (fill a))
+  fill_length q a = act_length q (fill a) (λ s t l e. length_fill a s t e ∙ l)
+
+  give_element_length : {f : Frame} {n : ℕ} (q base : ℕ) (x : Element) (a : Expr) → Length f n n (act q (give_element base x a))
+  give_element_length q base x a = act_length q (give_element base x a) (λ s t l e. length_give_element base x a s t e ∙ l)
 
   any_length : {f : Frame} {n : ℕ} (q : ℕ) (x : Receiver) → Length f n n (act q (give_any x))
   any_length q x = act_length q (give_any x) (λ s t l e. length_any x s t e ∙ l)
@@ -244,7 +302,7 @@ module _ (name : ℕ → Point) (may : State → State → Type 0) (keeps : Keep
     }
 
   -- of a call whose body is g
-  module _ (spot : Spot) (r : ℕ) (x : Receiver) (es : List Argument) (params : ℕ) (g : Node) (f' : Frame) (n' : ℕ) (i : length es ≡ params)
+  module _ (spot : Spot) (r : ℕ) (x : Receiver) (op : Op) (params : ℕ) (g : Node) (f' : Frame) (n' : ℕ) (adds : Adds op params)
       (no_break : f'.breaks ≡ None) (no_continue : f'.continues ≡ None)
       (j : f'.back ≡ Some (record { receiver = x; here = spot.frame.here; length = spot.live })) (d : spot.live + params ≤ n')
       (y : Length f' (spot.live + params) n' g) where
@@ -263,17 +321,18 @@ module _ (name : ℕ → Point) (may : State → State → Type 0) (keeps : Keep
     stop_length (to_point p) u t z w = tt
     stop_length (to_failure p) u t z w = tt
 
-    call_outcome : (w t : Trail Point) (u : Outcome) → length w.state.store ≡ spot.live + params → GoesCall name may spot r x es params g w t u → LengthAt spot.frame spot.live u t.state
+    call_outcome : (w t : Trail Point) (u : Outcome) → length w.state.store ≡ spot.live + params → GoesCall name may spot r x params g w t u
+        → LengthAt spot.frame spot.live u t.state
     call_outcome w t _ l (call_returned b) = y.ends w t (stopped (by_jump returned)) l b _ j
     call_outcome w t _ l (call_ended b) = end_of_body w t l b
     call_outcome w t _ l (call_stopped z d b) = stop_length z w t d (y.ends w t (stopped z) l b)
     call_outcome w t _ l (call_at_end b) = tt
 
-    call_length : Length spot.frame spot.live spot.live (call_node spot.next r spot.frame.here.base spot.live x es params g)
+    call_length : Length spot.frame spot.live spot.live (callee_node spot.next r spot.live x op params g)
     call_length = record {
       ends = λ s t u l e.
-          let c = call_inv name may spot r x es params g s u t e in
-          call_outcome c.0 t u (length_push spot.frame.here.base es s.state c.0.state c.1.0 ∙ rw (l, i) refl) c.2;
+          let c = call_inv name may spot r x op params g s u t e in
+          call_outcome c.0 t u (adds s.state c.0.state c.1.0 ∙ ap (λ n. n + params) l) c.2;
     }
 
   -- of a `switch`, by what its arms leave: `break` comes out behind it
@@ -281,7 +340,7 @@ module _ (name : ℕ → Point) (may : State → State → Type 0) (keeps : Keep
       → ArmsGo name may l false arms s u t → LengthAt (record spot.frame { breaks = Some spot.live }) spot.live u t.state) where
     selected_length : (l : CaseLabel) (s m : Trail Point) → Finds spot.frame.here.base e arms s l m → length s.state.store ≡ spot.live
         → length m.state.store ≡ spot.live
-    selected_length l s m (found, met) k = ap length found.2 ∙ k
+    selected_length l s m (found, met) k = ap (λ (x : State). length x.store) found.2 ∙ k
 
     switch_outcome : (s t : Trail Point) (u : Outcome) → length s.state.store ≡ spot.live
         → Goes name may (switch_node spot.next spot.frame.here.base e arms) s u t → LengthAt spot.frame spot.live u t.state
@@ -298,12 +357,19 @@ module _ (name : ℕ → Point) (may : State → State → Type 0) (keeps : Keep
   empty_length f n s t to_end l e = rw e l
   empty_length f n s t (stopped z) l e = absurd e
 
+  -- an array's declarator: its elements are no variables
+  pub length_array : (f : Frame) (n q : ℕ) (a : Array) → Length f n n (seq (point q) (act q (fill a)))
+  length_array f n q a = seq_length _ _ (point_length q) (fill_length q a)
+
   mutual
     pub length_one : {P : Program} {T : List Site} {spot : Spot} {s : Stmt} {g : Node} {q : ℕ} → Inl P T spot s g q → Length spot.frame spot.live spot.live g
     length_one (as_nothing {s = spot} i) = point_length spot.next
     length_one (as_block {s = spot} {q = q'} d i) = seq_length _ _ (length_all d) (seq_length _ _ (point_length q') (keep_length q' spot.live (grows_all d)))
     length_one (as_absent {s = spot}) = record { ends = λ s t u l e. empty_length spot.frame spot.live s t u l e }
     length_one (as_assign {s = spot} i d) = seq_length _ _ (point_length spot.next) (length_gives d)
+    length_one (as_write {s = spot} {x = x} {e = e} i) = seq_length _ _ (point_length spot.next) (give_element_length spot.next spot.frame.here.base x e)
+    length_one (as_write_call {s = spot} {x = x} i d) = seq_length _ _ (point_length spot.next)
+        (length_calls d (λ es s t e. length_push_for spot.frame.here.base x es s t e))
     length_one (as_call {s = spot} i d) = seq_length _ _ (point_length spot.next) (length_gives d)
     length_one (as_if {s = spot} {c = c} {g = g} {h = h} i d e) = seq_length _ _ (point_length spot.next) (choose_length spot.next spot.frame.here.base c g h (length_one d) (length_one e))
     length_one (as_loop d) = length_loop d
@@ -341,6 +407,7 @@ module _ (name : ℕ → Point) (may : State → State → Type 0) (keeps : Keep
     pub length_all : {P : Program} {T : List Site} {spot : Spot} {s : BlockItems} {g : Node} {n q : ℕ} → InlAll P T spot s g n q → Length spot.frame spot.live n g
     length_all (as_none {s = spot}) = record { ends = λ s t u l e. empty_length spot.frame spot.live s t u l e }
     length_all (as_declaration {s = spot} i j e) = seq_length _ _ (seq_length _ _ (point_length spot.next) (length_declares j)) (length_all e)
+    length_all (as_array {s = spot} {a = a} i e) = seq_length _ _ (length_array spot.frame spot.live spot.next a) (length_all e)
     length_all (as_statement d e) = seq_length _ _ (length_one d) (length_all e)
 
     pub length_declares : {P : Program} {T : List Site} {spot : Spot} {r : ℕ} {t : NumberType} {e : Option Rvalue} {g : Node} {q : ℕ} → Declares P T spot r t e
@@ -354,8 +421,12 @@ module _ (name : ℕ → Point) (may : State → State → Type 0) (keeps : Keep
     pub length_gives : {P : Program} {T : List Site} {spot : Spot} {r : ℕ} {x : Receiver} {e : Rvalue} {g : Node} {q : ℕ} → Gives P T spot r x e g q → Length
         spot.frame spot.live spot.live g
     length_gives (as_value {s = spot} {x = x} {e = e}) = give_length spot.next spot.frame.here.base x e
-    length_gives (as_result {s = spot} {x = x} {c = c} {fn = fn} {g = g} {n = n'} {q = r'} i j d k) =
-        call_length spot r' (inner fn x) (given fn c) (width fn) g (callee spot.frame spot.live (inner fn x) c) n' (given_width fn.parameters c.arguments j)
+    length_gives (as_result {s = spot} d) = length_calls d (λ es s t e. length_push spot.frame.here.base es s t e)
+
+    pub length_calls : {P : Program} {T : List Site} {spot : Spot} {r : ℕ} {x : Receiver} {gives : List Argument → Op} {c : Call} {g : Node} {q : ℕ}
+        → Calls P T spot r x gives c g q → AddsEach gives → Length spot.frame spot.live spot.live g
+    length_calls (is_call {s = spot} {x = x} {gives = gives} {c = c} {fn = fn} {g = g} {n = n'} {q = r'} i j d k) adds =
+        call_length spot r' (inner fn x) (gives (given fn c)) (width fn) g (callee spot.frame spot.live (inner fn x) c) n' (adds_given gives fn c adds j)
         refl refl refl (grows_all d) (length_all d)
 
   -- a declarator's point, and what follows it

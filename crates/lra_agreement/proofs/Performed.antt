@@ -37,10 +37,12 @@ module _ (may : State → State → Type 0) (keeps : KeepsWidth may) where
     fulfils a (to_failure q) b l (inr (m, e, x)) = absurd x.0
 
   module _ (P : Program) (g : Node) (is : IsGraph P g) (draws : List ℤ) where
-    pub performed : (q : ℕ) (b : Trail Point) → Goes (point_at (sites_of P)) may g (trail (begun P.globals draws) []) (stopped (to_point q)) b → Stands may keeps P (sites_of P) (start P draws) [] q b
-    performed q b x = fulfils P (sites_of P) is.body is.last is.live is.inlined is.ends (trail (begun P.globals draws) []) (to_point q) b
-        (begun_length P.globals draws) (rw is.parts at x)
+    pub performed : (q : ℕ) (b : Trail Point) → Goes (point_at (sites_of P)) may g (trail (begun P draws) []) (stopped (to_point q)) b
+        → Stands may keeps P (sites_of P) (start P draws) [] q b
+    performed q b x = fulfils P (sites_of P) is.body is.last is.live is.inlined is.ends (trail (begun P draws) []) (to_point q) b
+        (begun_length P draws) (rw is.parts at x)
 
-    pub failed : (q : ℕ) (b : Trail Point) → Goes (point_at (sites_of P)) may g (trail (begun P.globals draws) []) (stopped (to_failure q)) b → Denied may keeps P (sites_of P) (start P draws) [] q b
-    failed q b x = fulfils P (sites_of P) is.body is.last is.live is.inlined is.ends (trail (begun P.globals draws) []) (to_failure q) b
-        (begun_length P.globals draws) (rw is.parts at x)
+    pub failed : (q : ℕ) (b : Trail Point) → Goes (point_at (sites_of P)) may g (trail (begun P draws) []) (stopped (to_failure q)) b
+        → Denied may keeps P (sites_of P) (start P draws) [] q b
+    failed q b x = fulfils P (sites_of P) is.body is.last is.live is.inlined is.ends (trail (begun P draws) []) (to_failure q) b
+        (begun_length P draws) (rw is.parts at x)

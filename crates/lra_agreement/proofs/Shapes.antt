@@ -4,12 +4,12 @@ use Rattle.lra_program.specs.Program.{Cond, Call, Function}
 use Rattle.lra_program.specs.Value.{Argument}
 use Rattle.lra_program.specs.declared.receivers.Receiver.{Receiver}
 use Rattle.lra_program.specs.Receivers.{behind_result}
-use Rattle.lra_program.specs.Step.{State, Op, push, keep, give_any, arguments_for}
+use Rattle.lra_program.specs.Step.{State, Op, keep, give_any, arguments_for}
 use Rattle.lra_program.specs.Run.{Point}
 use Rattle.lra_program.specs.Trails.{Trail}
 use Rattle.lra_operations.specs.Graph.{Exit, broken, continued, returned, Node, point, act, seq, catch, leave}
 use Rattle.lra_operations.specs.Trails.{Stop, by_jump, to_point, to_failure, Outcome, to_end, stopped, Goes, Tests, TrailRounds, Performs, Passes}
-use Rattle.lra_operations.specs.Inlined.{Spot, loop_node, call_node}
+use Rattle.lra_operations.specs.Inlined.{Spot, loop_node, callee_node}
 
 -- a call's receiver, as the called function's body has it, what it gives, and to how many parameters
 abbrev pub inner : Function → Receiver → Receiver
@@ -86,18 +86,20 @@ module _ (name : ℕ → Point) (may : State → State → Type 0) where
     pub back : Performs (keep n) set t
 
   -- of a call at the spot; r is the point of the callee's end
-  pub data GoesCall (spot : Spot) (r : ℕ) (x : Receiver) (es : List Argument) (params : ℕ) (g : Node) (w : Trail Point) (t : Trail Point) : Outcome → Type 0
+  pub data GoesCall (spot : Spot) (r : ℕ) (x : Receiver) (params : ℕ) (g : Node) (w : Trail Point) (t : Trail Point) : Outcome → Type 0
     where
-      call_returned : G g w (stopped (by_jump returned)) t → GoesCall spot r x es params g w t to_end
-      call_ended : EndsBody r spot.live x params g w t → GoesCall spot r x es params g w t to_end
-      call_stopped : (z : Stop) → z ≢ by_jump returned → G g w (stopped z) t → GoesCall spot r x es params g w t (stopped z)
-      call_at_end : G g w to_end t → GoesCall spot r x es params g w t (stopped (to_point r))
+      call_returned : G g w (stopped (by_jump returned)) t → GoesCall spot r x params g w t to_end
+      call_ended : EndsBody r spot.live x params g w t → GoesCall spot r x params g w t to_end
+      call_stopped : (z : Stop) → z ≢ by_jump returned → G g w (stopped z) t → GoesCall spot r x params g w t (stopped z)
+      call_at_end : G g w to_end t → GoesCall spot r x params g w t (stopped (to_point r))
 
-  module _ (spot : Spot) (r : ℕ) (x : Receiver) (es : List Argument) (params : ℕ) (g : Node) where
+  -- the operation gives the arguments
+  module _ (spot : Spot) (r : ℕ) (x : Receiver) (op : Op) (params : ℕ) (g : Node) where
     abbrev call_tree : Node
-    call_tree = call_node spot.next r spot.frame.here.base spot.live x es params g
+    call_tree = callee_node spot.next r spot.live x op params g
 
-    tail_stop : (w m t : Trail Point) (z : Stop) → G g w to_end m → G (tail_node r spot.live x params) m (stopped z) t → GoesCall spot r x es params g w t (stopped z)
+    tail_stop : (w m t : Trail Point) (z : Stop) → G g w to_end m → G (tail_node r spot.live x params) m (stopped z) t
+        → GoesCall spot r x params g w t (stopped z)
     tail_stop w m t (by_jump j) b (inl e) = absurd e.0
     tail_stop w m t (to_point p) b (inl (e, i)) = rw e (call_at_end (rw i b))
     tail_stop w m t (to_failure p) b (inl e) = absurd e.0
@@ -111,7 +113,8 @@ module _ (name : ℕ → Point) (may : State → State → Type 0) where
     no_tail_jump m j t (inr (m', f, inr (m'', h, inl i))) = i
     no_tail_jump m j t (inr (m', f, inr (m'', h, inr (m''', i, k)))) = k
 
-    pub call_inv : (s : Trail Point) (u : Outcome) (t : Trail Point) → G call_tree s u t → (w : Trail Point) × Performs (push spot.frame.here.base es) s w × GoesCall spot r x es params g w t u
+    pub call_inv : (s : Trail Point) (u : Outcome) (t : Trail Point) → G call_tree s u t
+        → (w : Trail Point) × Performs op s w × GoesCall spot r x params g w t u
     call_inv s to_end t (w, e, inl (m, b, (p, f, (a, ea, (d, eb, ec))))) =
         (w, e, call_ended (record { before = m; past = p; cut = a; set = d; body = b; passed = f; cuts = ea; sets = eb; back = ec }))
     call_inv s to_end t (w, e, inr (inl b)) = (w, e, call_returned b)
@@ -120,7 +123,7 @@ module _ (name : ℕ → Point) (may : State → State → Type 0) where
     call_inv s (stopped z) t (inr (w, e, (d, inl b))) = (w, e, call_stopped z d b)
     call_inv s (stopped z) t (inr (w, e, (d, inr (m, b, c)))) = (w, e, tail_stop w m t z b c)
 
-    pub call_ends : (s w t : Trail Point) → Performs (push spot.frame.here.base es) s w → EndsBody r spot.live x params g w t → G call_tree s to_end t
+    pub call_ends : (s w t : Trail Point) → Performs op s w → EndsBody r spot.live x params g w t → G call_tree s to_end t
     call_ends s w t e b = (w, e, inl (b.before, b.body, (b.past, b.passed, (b.cut, b.cuts, (b.set, b.sets, b.back)))))
 
   -- one round of a loop

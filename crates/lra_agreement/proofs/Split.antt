@@ -1,9 +1,10 @@
 -- A run that comes to a point, cut at the statement on top: the point is inside, or the statement ends or jumps before.
-use Rattle.std.proofs.Common.{◌≡◌, ◌≢◌, ℕ, ℤ, zero, suc, ◌+◌, ◌<◌, ◌≤◌, List, [], ◌∷◌, ◌++◌, length, Option, Some, None, Bool, true, false, ◌⊎◌, inl, inr, refl}
+use Rattle.std.proofs.Common.{◌≡◌, ◌≢◌, ℕ, ℤ, zero, suc, ◌+◌, ◌<◌, ◌≤◌, List, ◌∷◌, length, Option, Some, None, Bool, true, false, ◌⊎◌, inl, inr, refl}
 use Rattle.std.proofs.Common.{sym, ap, ◌∙◌, subst, slice_get, arith}
 use Rattle.std.proofs.lemmas.Option.{same_Some, none-some}
 use Rattle.std.specs.Prelude.{cond}
-use Rattle.lra_program.specs.Program.{Cond, Call, Rvalue, value, result, Declarator, Stmt, absent, nothing, block, assign, call, if, loop, for, break, continue, return, assert, assume, BlockItems}
+use Rattle.lra_program.specs.Program.{Cond, Call, Rvalue, value, result, Declarator, Stmt, absent, nothing, block, assign, write, call, if, loop, for, break}
+use Rattle.lra_program.specs.Program.{continue, return, assert, assume, BlockItems}
 use Rattle.lra_base.specs.declared.case_labels.CaseLabel.{CaseLabel}
 use Rattle.lra_base.specs.CaseLabels.{are_alike, goal_of}
 use Rattle.lra_program.specs.Program.{Expr, switch, Cases, no_cases, labelled, stated, labels_of}
@@ -11,32 +12,35 @@ use Rattle.lra_program.specs.Step.{cases as cases_item, end_switch, behind_label
 use Rattle.lra_program.specs.Value.{Drawn, value_of}
 use Rattle.lra_operations.proofs.ArmRows.{arms_row, row_behind, behind_of_row}
 use Rattle.lra_agreement.proofs.Selecting.{entries_are}
-use Rattle.lra_program.specs.Program.{no_more, declaration, statement, Function, Program}
-use Rattle.lra_program.specs.Value.{index_of, truth_of}
-use Rattle.lra_program.specs.Step.{State, Op, append, give, give_any, push, keep, test, run_op, run_any, Here, Back, Item, run, declare, all, end_of, turn, cut, mark, leave_call, Config, to_outside, to_turn}
+use Rattle.lra_program.specs.Program.{no_more, declaration, array, statement, Function, Program}
+use Rattle.lra_program.specs.Value.{index_of, Argument, truth_of}
+use Rattle.lra_program.specs.declared.arrays.Array.{Array}
+use Rattle.lra_program.specs.Step.{State, Op, append, fill, give, give_element, give_any, push, push_for, keep, test, run_op, run_any, Here, Back, Item, run}
+use Rattle.lra_program.specs.Step.{declare, declare_array, all, end_of, turn, cut, mark, leave_call, Config, to_outside, to_turn}
 use Rattle.lra_base.specs.declared.number_types.NumberType.{NumberType}
 use Rattle.lra_program.specs.declared.receivers.Receiver.{Receiver}
-use Rattle.lra_program.specs.Receivers.{variable_at, nobody}
-use Rattle.lra_program.specs.Step.{scene_at, to_mark, behind_main, receiver_of, go, enter, do_rvalue, do_leave, do_break, do_continue, do_declare, next}
+use Rattle.lra_program.specs.Receivers.{variable_at, waiting_in, nobody}
+use Rattle.lra_program.specs.Step.{scene_at, to_mark, behind_main, receiver_of, go, enter_by, do_rvalue, do_leave, do_break, do_continue, do_declare, next}
 use Rattle.lra_program.specs.Step.{next_at}
 use Rattle.lra_program.specs.Run.{label_on, Point, IsFailing}
 use Rattle.lra_program.specs.Trails.{Met, passes, Trail, met_on, Becomes, Walks}
-use Rattle.lra_program.specs.Overflow.{OpOverflows, IsOverflowing}
+use Rattle.lra_program.specs.Asks.{TopAsks}
 use Rattle.lra_operations.specs.Graph.{Exit, broken, continued, returned, Node, point, act, check, seq, choose, leave, Arms, no_arms}
 use Rattle.lra_operations.specs.Trails.{Stop, by_jump, to_point, to_failure, Outcome, to_end, stopped, Goes, ArmsGo, Finds, Tests, Performs, Passes}
 use Rattle.lra_operations.specs.TrailsAgree.{KeepsWidth, point_at, point_or_none}
 use Rattle.lra_program.specs.Sites.{Site}
-use Rattle.lra_operations.specs.Asked.{asked_of, asked_in}
-use Rattle.lra_operations.specs.Inlined.{Frame, Spot, move, at_point, within, into_callee, Has, HasSite, callee, Inl, InlAll, Declares, Loops, Gives, as_nothing, as_block, as_absent, as_assign}
-use Rattle.lra_operations.specs.Inlined.{as_call, as_if, as_loop, as_for, as_break}
-use Rattle.lra_operations.specs.Inlined.{as_continue, as_return, as_return_value, as_return_call, as_end, as_end_value, as_end_call, as_assert, as_assume, as_switch, as_no_cases, as_labelled, as_stated, InlCases, among_cases, switch_node, as_none, as_declaration, as_statement}
-use Rattle.lra_operations.specs.Inlined.{as_fresh, as_given, is_loop, as_value, as_result, loop_node, call_node, return_node}
-use Rattle.lra_program.proofs.GivenArguments.{given_width}
+use Rattle.lra_operations.specs.Inlined.{Frame, Spot, move, at_point, within, into_callee, Has, HasSite, callee, Inl, InlAll, Declares, Loops, Gives, Calls}
+use Rattle.lra_operations.specs.Inlined.{as_nothing, as_block, as_absent, as_assign, as_call, as_if, as_loop, as_for, as_break, as_continue, as_return}
+use Rattle.lra_operations.specs.Inlined.{as_return_value, as_return_call, as_end, as_end_value, as_end_call, as_assert, as_assume, as_switch, as_no_cases}
+use Rattle.lra_operations.specs.Inlined.{as_labelled, as_stated, InlCases, among_cases, switch_node, as_none, as_declaration, as_statement, as_fresh, as_given}
+use Rattle.lra_operations.specs.Inlined.{is_loop, as_value, as_result, is_call, as_array, as_write, as_write_call, loop_node, callee_node, return_node}
 use Rattle.lra_agreement.proofs.Shapes.{inner, given, width, call_ends, Round, EndsBodyRound, loop_join, loop_at, loop_done, loop_broken, loop_left, EndsLoop}
 use Rattle.lra_agreement.proofs.Shapes.{loop_first, jump_join}
-use Rattle.lra_agreement.proofs.Lengths.{Length, length_declarator, length_one, length_all, length_test, length_push, length_append, tests_length, mid_length, round_length}
-use Rattle.lra_agreement.proofs.Asking.{Asks, AsksAs, asks_left, asks_own, asks_given, asks_declared, asks_first, asks_second, asks_true, asks_false, asks_body}
-use Rattle.lra_agreement.proofs.Asking.{asks_selected, asks_value, asks_step, asks_callee, asks_callee_end}
+use Rattle.lra_agreement.proofs.Lengths.{Adds, AddsEach, adds_given, Length, length_declarator, length_array, length_one, length_all, length_test, length_push}
+use Rattle.lra_agreement.proofs.Lengths.{length_push_for, length_append, tests_length, mid_length, round_length}
+use Rattle.lra_agreement.proofs.Asking.{Question, Asks, AsksAs, all_in, asks_front, asks_own, asks_calls, asks_given, asks_declared, asks_first, asks_second}
+use Rattle.lra_agreement.proofs.Asking.{asks_true, asks_false, asks_body, asks_condition, asks_loop, asks_selected, asks_value, asks_step, asks_callee}
+use Rattle.lra_agreement.proofs.Asking.{asks_callee_end}
 use Rattle.lra_agreement.proofs.Landing.{config, land, land_skip, Matches, matches_skip, outside_some, turn_some, mark_some, mark_none, go_some, go_on_some, go_by_some, lands_broken, lands_continued, lands_returned}
 
 returned_broken : by_jump returned ≡ by_jump broken → ⊥
@@ -51,7 +55,7 @@ broken_continued e = cc
 abbrev pub trail : State → List (Met Point) → Trail Point
 trail s xs = record { state = s; met = xs }
 
-module _ (may : State → State → Type 0) (P : Program) (T : List Site) where
+module _ (may : State → State → Type 0) (Q : Question) (P : Program) (T : List Site) where
   -- what the tree has to show where the program stands at the point of this number
   abbrev pub Shows : (c : Config) (zs : List (Met Point)) (p number : ℕ) → Stop → Trail Point → Type 0
   Shows c zs p number (by_jump j) b = ⊥
@@ -65,7 +69,7 @@ module _ (may : State → State → Type 0) (P : Program) (T : List Site) where
     pub asserts : Bool
     pub site : slice_get T number ≡ Some (record { path = c.here.path; label = p; live = length c.state.store; asserts = asserts })
     pub leads : (z : Stop) (b : Trail Point) → Shows c zs p number z b → Goes (point_at T) may g a (stopped z) b
-    pub asks : (fresh : Option NumberType) → IsOverflowing P c.items c.here c.state → Asks (asked_in fresh g) number c.state
+    pub asks : (fresh : Option NumberType) → TopAsks Q.holds P c.items c.here c.state → Asks Q (all_in Q fresh g) number c.state
 
   no_jump : (c : Config) (zs : List (Met Point)) (p number : ℕ) (z : Stop) (b : Trail Point) → Shows c zs p number z b → (j : Exit) → z ≢ by_jump j
   no_jump c zs p number (by_jump k) b x j e = x
@@ -75,7 +79,7 @@ module _ (may : State → State → Type 0) (P : Program) (T : List Site) where
   -- what is so of all that comes to a point is so of the whole
   pub hit_as : (c : Config) (zs : List (Met Point)) (p : ℕ) (g h : Node) (a b : Trail Point)
       → ((z : Stop) (d : Trail Point) → ((j : Exit) → z ≢ by_jump j) → Goes (point_at T) may g a (stopped z) d → Goes (point_at T) may h b (stopped z) d) →
-      AsksAs g h → Hit c zs p g a → Hit c zs p h b
+      AsksAs Q g h → Hit c zs p g a → Hit c zs p h b
   hit_as c zs p g h a b f asked x = record {
     number = x.number;
     asserts = x.asserts;
@@ -90,7 +94,7 @@ module _ (may : State → State → Type 0) (P : Program) (T : List Site) where
   pub hit_there : (c : Config) (zs : List (Met Point)) (p : ℕ) (spot : Spot) (at : ℕ) (asserts : Bool) (is : List Item) (a : Trail Point) (g : Node) → label_on c.items ≡ Some p
       → HasSite T spot at asserts → length a.state.store ≡ spot.live → label_on is ≡ Some at → Goes (point_at T) may g a (stopped (to_point spot.next)) a
       → ((b : Trail Point) → Passes (point_at T) may spot.next a b → IsFailing is spot.frame.here b.state → Goes (point_at T) may g a (stopped (to_failure spot.next)) b)
-      → (IsOverflowing P is spot.frame.here a.state → (fresh : Option NumberType) → Asks (asked_in fresh g) spot.next a.state)
+      → (TopAsks Q.holds P is spot.frame.here a.state → (fresh : Option NumberType) → Asks Q (all_in Q fresh g) spot.next a.state)
       → (config is spot.frame.here a.state ≡ c) × (a.met ≡ zs) → Hit c zs p g a
   hit_there c zs p spot at asserts is a g on has l lab x y asked (e, f) = subst (λ ys. Hit c ys p g a) f
       (subst (λ (d : Config). label_on d.items ≡ Some p → Hit d a.met p g a) e (λ o. record {
@@ -110,15 +114,16 @@ module _ (may : State → State → Type 0) (P : Program) (T : List Site) where
           rw i (y b (m, j ∙ ap (λ w. w ∷ a.met) same) v)
 
   pub hit_seq : (c : Config) (zs : List (Met Point)) (p : ℕ) (g h : Node) (a : Trail Point) → Hit c zs p g a → Hit c zs p (seq g h) a
-  hit_seq c zs p g h a x = hit_as c zs p g (seq g h) a a (λ z d n y. inl y) (asks_first g h) x
+  hit_seq c zs p g h a x = hit_as c zs p g (seq g h) a a (λ z d n y. inl y) (asks_first Q g h) x
 
   pub hit_then : (c : Config) (zs : List (Met Point)) (p : ℕ) (g h : Node) (a m : Trail Point) → Goes (point_at T) may g a to_end m → Hit c zs p h m → Hit c zs p (seq g h) a
-  hit_then c zs p g h a m e x = hit_as c zs p h (seq g h) m a (λ z d n y. inr (m, e, y)) (asks_second g h) x
+  hit_then c zs p g h a m e x = hit_as c zs p h (seq g h) m a (λ z d n y. inr (m, e, y)) (asks_second Q g h) x
 
 pub not_there : (c d : Config) (p : ℕ) → label_on c.items ≡ Some p → label_on d.items ≡ None → d ≡ c → ⊥
 not_there c d p on lab e = none-some p (sym lab ∙ (ap (λ (x : Config). label_on x.items) e ∙ on))
 
-module _ (may : State → State → Type 0) (keeps : KeepsWidth may) (P : Program) (T : List Site) (c : Config) (zs : List (Met Point)) (p : ℕ) (on : label_on c.items ≡ Some p) where
+module _ (may : State → State → Type 0) (keeps : KeepsWidth may) (Q : Question) (P : Program) (T : List Site) (c : Config) (zs : List (Met Point)) (p : ℕ)
+    (on : label_on c.items ≡ Some p) where
   abbrev G : Node → Trail Point → Outcome → Trail Point → Type 0
   G = Goes (point_at T) may
 
@@ -126,17 +131,17 @@ module _ (may : State → State → Type 0) (keeps : KeepsWidth may) (P : Progra
   W n d xs = Walks may P n d xs c zs
 
   abbrev H : Node → Trail Point → Type 0
-  H g a = Hit may P T c zs p g a
+  H g a = Hit may Q P T c zs p g a
 
   hit_of : (g h : Node) (a b : Trail Point) → ((z : Stop) (d : Trail Point) → ((j : Exit) → z ≢ by_jump j) → G g a (stopped z) d → G h b (stopped z) d) →
-      AsksAs g h → H g a → H h b
-  hit_of g h a b f asked x = hit_as may P T c zs p g h a b f asked x
+      AsksAs Q g h → H g a → H h b
+  hit_of g h a b f asked x = hit_as may Q P T c zs p g h a b f asked x
 
   here : (spot : Spot) (at : ℕ) (asserts : Bool) (is : List Item) (a : Trail Point) (g : Node) → HasSite T spot at asserts → length a.state.store ≡ spot.live → label_on is ≡ Some at
       → G g a (stopped (to_point spot.next)) a → ((b : Trail Point) → Passes (point_at T) may spot.next a b → IsFailing is spot.frame.here b.state → G g a (stopped (to_failure spot.next)) b)
-      → (IsOverflowing P is spot.frame.here a.state → (fresh : Option NumberType) → Asks (asked_in fresh g) spot.next a.state)
+      → (TopAsks Q.holds P is spot.frame.here a.state → (fresh : Option NumberType) → Asks Q (all_in Q fresh g) spot.next a.state)
       → W zero (config is spot.frame.here a.state) a.met → H g a
-  here spot at asserts is a g has l lab x y asked e = hit_there may P T c zs p spot at asserts is a g on has l lab x y asked e
+  here spot at asserts is a g has l lab x y asked e = hit_there may Q P T c zs p spot at asserts is a g on has l lab x y asked e
 
   len_one : {spot : Spot} {s : Stmt} {g : Node} {q : ℕ} → Inl P T spot s g q → Length (point_at T) may keeps spot.frame spot.live spot.live g
   len_one d = length_one (point_at T) may keeps d
@@ -146,7 +151,7 @@ module _ (may : State → State → Type 0) (keeps : KeepsWidth may) (P : Progra
 
   -- what n steps to c make of the tree that stands for the items above k
   pub data Splits (h : Here) (k : List Item) (n : ℕ) (g : Node) (a : Trail Point) : Type 0 where
-    hits : Hit may P T c zs p g a → Splits h k n g a
+    hits : Hit may Q P T c zs p g a → Splits h k n g a
     ended : (j : ℕ) (m : Trail Point) → j < n → Goes (point_at T) may g a to_end m → Walks may P j (config k h m.state) m.met c zs → Splits h k n g a
     jumped : (j : ℕ) (kind : Exit) (m : Trail Point) (d : Config) → j < n → Goes (point_at T) may g a (stopped (by_jump kind)) m → land kind h k m.state ≡ Some d → Walks may P j d m.met c zs
         → Splits h k n g a
@@ -159,12 +164,12 @@ module _ (may : State → State → Type 0) (keeps : KeepsWidth may) (P : Progra
   -- one tree after another; the items of the second stand above k
   splits_seq : (h : Here) (k k' : List Item) (n : ℕ) (f g : Node) (a : Trail Point) → ((j : Exit) (m : State) → land j h k' m ≡ land j h k m) → Splits h k' n f a
       → ((j : ℕ) (m : Trail Point) → j < n → G f a to_end m → W j (config k' h m.state) m.met → Splits h k j g m) → Splits h k n (seq f g) a
-  splits_seq h k k' n f g a skip (hits x) then = hits (hit_seq may P T c zs p f g a x)
+  splits_seq h k k' n f g a skip (hits x) then = hits (hit_seq may Q P T c zs p f g a x)
   splits_seq h k k' n f g a skip (jumped j kind m d i e l r) then = jumped j kind m d i (inl e) (sym (skip kind m.state) ∙ l) r
   splits_seq h k k' n f g a skip (ended j m i e r) then = after (then j m i e r)
     where
       after : Splits h k j g m → Splits h k n (seq f g) a
-      after (hits x) = hits (hit_then may P T c zs p f g a m e x)
+      after (hits x) = hits (hit_then may Q P T c zs p f g a m e x)
       after (ended j' m' i' e' r') = ended j' m' (omega arith) (m, e, e') r'
       after (jumped j' kind m' d i' e' l r') = jumped j' kind m' d (omega arith) (inr (m, e, e')) l r'
 
@@ -182,7 +187,7 @@ module _ (may : State → State → Type 0) (keeps : KeepsWidth may) (P : Progra
   enters is spot at asserts j a has l lab (s, e, b, x, r) =
       let m : may a.state s = subst (λ o. Becomes may o a.state s) lab b in
       let same : met_on (label_on is) spot.frame.here.path a.state a.met ≡ passes (point_at T spot.next) a.state ∷ a.met =
-      ap (λ o. met_on o spot.frame.here.path a.state a.met) lab ∙ ap (λ r. passes r a.state ∷ a.met) (sym (named may P T spot at asserts has)) in
+      ap (λ o. met_on o spot.frame.here.path a.state a.met) lab ∙ ap (λ r. passes r a.state ∷ a.met) (sym (named may Q P T spot at asserts has)) in
       record {
         past = trail s (passes (point_at T spot.next) a.state ∷ a.met);
         goal = e;
@@ -205,7 +210,8 @@ module _ (may : State → State → Type 0) (keeps : KeepsWidth may) (P : Progra
   splits_point : (spot : Spot) (at : ℕ) (asserts : Bool) (i : Item) (g : Node) (k : List Item) (a : Trail Point) (count : ℕ) → HasSite T spot at asserts → length a.state.store ≡ spot.live →
       label_on (i ∷ k) ≡ Some at
       → ((b : Trail Point) → IsFailing (i ∷ k) spot.frame.here b.state → G g b (stopped (to_failure spot.next)) b)
-      → (IsOverflowing P (i ∷ k) spot.frame.here a.state → Asks (asked_in None g) spot.next a.state) → W count (config (i ∷ k) spot.frame.here a.state) a.met
+      → (TopAsks Q.holds P (i ∷ k) spot.frame.here a.state → Asks Q (all_in Q None g) spot.next a.state)
+      → W count (config (i ∷ k) spot.frame.here a.state) a.met
       → ((j : ℕ) (b : Trail Point) (e : Config) → suc j ≡ count → length b.state.store ≡ spot.live → next_at P (i ∷ k) spot.frame.here b.state ≡ Some e → W j e b.met
       → Splits spot.frame.here k count g b)
       → Splits spot.frame.here k count (seq (point spot.next) g) a
@@ -216,7 +222,7 @@ module _ (may : State → State → Type 0) (keeps : KeepsWidth may) (P : Progra
       after x.past x.passed (inner j x.past x.goal refl x.long x.step x.rest)
     where
       after : (b : Trail Point) → Passes (point_at T) may spot.next a b → Splits spot.frame.here k (suc j) g b → Splits spot.frame.here k (suc j) (seq (point spot.next) g) a
-      after b m (hits y) = hits (hit_then may P T c zs p (point spot.next) g a b m y)
+      after b m (hits y) = hits (hit_then may Q P T c zs p (point spot.next) g a b m y)
       after b m (ended j' m' i y z) = ended j' m' i (b, m, y) z
       after b m (jumped j' kind m' d i y l z) = jumped j' kind m' d i (inr (b, m, y)) l z
 
@@ -291,41 +297,43 @@ module _ (may : State → State → Type 0) (keeps : KeepsWidth may) (P : Progra
               rest = rw back.2 v.4;
             })
 
-    abbrev tree_of_call : Spot → ℕ → Receiver → Call → Function → Node → Node
-    tree_of_call spot r x b fn g = call_node spot.next r spot.frame.here.base spot.live (inner fn x) (given fn b) (width fn) g
+    abbrev tree_of_call : Spot → ℕ → Receiver → (List Argument → Op) → Call → Function → Node → Node
+    tree_of_call spot r x gives b fn g = callee_node spot.next r spot.live (inner fn x) (gives (given fn b)) (width fn) g
 
     abbrev tree_of_loop : Spot → Cond → Node → Node → Node
     tree_of_loop spot b g h = loop_node spot.next spot.frame.here.base b g h
 
-    splits_call : (spot : Spot) (r : ℕ) (x : Receiver) (b : Call) (fn : Function) (g : Node) (n' r' : ℕ) (k : List Item) (a : Trail Point) (j : ℕ) (e : Config)
-        → length b.arguments ≡ length fn.parameters → InlAll P T (into_callee spot (inner fn x) b (width fn) r) fn.body g n' r' → Has T
+    splits_call : (spot : Spot) (r : ℕ) (x : Receiver) (gives : List Argument → Op) (b : Call) (fn : Function) (g : Node) (n' r' : ℕ) (k : List Item)
+        (a : Trail Point) (j : ℕ) (e : Config)
+        → Adds (gives (given fn b)) (width fn) → InlAll P T (into_callee spot (inner fn x) b (width fn) r) fn.body g n' r' → Has T
         (move (into_callee spot (inner fn x) b (width fn) r) n' r') fn.end
-        → length a.state.store ≡ spot.live → j < fuel → enter (Some fn) b x k spot.frame.here a.state ≡ Some e → W j e a.met
-        → Splits spot.frame.here k (suc j) (call_node spot.next r' spot.frame.here.base spot.live (inner fn x) (given fn b) (width fn) g) a
-    splits_call spot r x b fn g n' r' k a j e i d has l less y rest =
+        → length a.state.store ≡ spot.live → j < fuel → enter_by gives (Some fn) b x k spot.frame.here a.state ≡ Some e → W j e a.met
+        → Splits spot.frame.here k (suc j) (tree_of_call spot r' x gives b fn g) a
+    splits_call spot r x gives b fn g n' r' k a j e adds d has l less y rest =
         let y' : go (all fn.body ∷ call_items fn spot.live (inner fn x) spot.frame.here k) (callee spot.frame spot.live (inner fn x) b).here
-        (run_op (push spot.frame.here.base (given fn b)) a.state) ≡ Some e = rw (← l) y in
+        (run_op (gives (given fn b)) a.state) ≡ Some e = rw (← l) y in
         let entering = go_some (all fn.body ∷ call_items fn spot.live (inner fn x) spot.frame.here k) (callee spot.frame spot.live (inner fn x) b).here
-        (run_op (push spot.frame.here.base (given fn b)) a.state) e y' in
+        (run_op (gives (given fn b)) a.state) e y' in
         inside (trail entering.0 a.met) (entering.1, refl) (rw entering.2 rest)
       where
-        ended_inside : (u : Trail Point) → Performs (push spot.frame.here.base (given fn b)) a u → (i : ℕ) (m : Trail Point) → i < j → G g u to_end m
+        ended_inside : (u : Trail Point) → Performs (gives (given fn b)) a u → (i : ℕ) (m : Trail Point) → i < j → G g u to_end m
             → H (point r') m ⊎ Tail r' spot.frame.here spot.live (inner fn x) (width fn) k i m → Splits spot.frame.here k (suc j)
-            (tree_of_call spot r' x b fn g) a
-        ended_inside u o i m z v (inl h) = hits (hit_of (point r') (tree_of_call spot r' x b fn g) m a (λ s d n w. inr (u, o, (n returned, inr (m, v, inl w))))
-            (asks_callee_end spot r' (inner fn x) (given fn b) (width fn) g) h)
+            (tree_of_call spot r' x gives b fn g) a
+        ended_inside u o i m z v (inl h) = hits
+            (hit_of (point r') (tree_of_call spot r' x gives b fn g) m a (λ s d n w. inr (u, o, (n returned, inr (m, v, inl w))))
+            (asks_callee_end Q spot r' (inner fn x) (gives (given fn b)) (width fn) g) h)
         ended_inside u o i m z v (inr t) = let few = t.fewer in ended t.left t.final (omega arith)
-            (call_ends (point_at T) may spot r' (inner fn x) (given fn b) (width fn) g a u t.final o
+            (call_ends (point_at T) may spot r' (inner fn x) (gives (given fn b)) (width fn) g a u t.final o
             (record { before = m; past = t.over; cut = t.cut; set = t.set; body = v; passed = t.passed; cuts = t.cuts; sets = t.sets; back = t.backs })) t.rest
 
-        long : (u : Trail Point) → Performs (push spot.frame.here.base (given fn b)) a u → length u.state.store ≡ spot.live + width fn
-        long u o = length_push spot.frame.here.base (given fn b) a.state u.state o.0 ∙ rw (l, given_width fn.parameters b.arguments i) refl
+        long : (u : Trail Point) → Performs (gives (given fn b)) a u → length u.state.store ≡ spot.live + width fn
+        long u o = adds a.state u.state o.0 ∙ ap (λ n. n + width fn) l
 
-        after : (u : Trail Point) → Performs (push spot.frame.here.base (given fn b)) a u → Splits (callee spot.frame spot.live (inner fn x) b).here
+        after : (u : Trail Point) → Performs (gives (given fn b)) a u → Splits (callee spot.frame spot.live (inner fn x) b).here
             (call_items fn spot.live (inner fn x) spot.frame.here k) j g u
-            → Splits spot.frame.here k (suc j) (tree_of_call spot r' x b fn g) a
-        after u o (hits h) = hits (hit_of g (tree_of_call spot r' x b fn g) u a (λ s d n w. inr (u, o, (n returned, inl w)))
-            (asks_callee spot r' (inner fn x) (given fn b) (width fn) g) h)
+            → Splits spot.frame.here k (suc j) (tree_of_call spot r' x gives b fn g) a
+        after u o (hits h) = hits (hit_of g (tree_of_call spot r' x gives b fn g) u a (λ s d n w. inr (u, o, (n returned, inl w)))
+            (asks_callee Q spot r' (inner fn x) (gives (given fn b)) (width fn) g) h)
         after u o (jumped i' broken m d' z v l' t) = absurd (none-some d' l')
         after u o (jumped i' continued m d' z v l' t) = absurd (none-some d' l')
         after u o (jumped i' returned m d' z v l' t) = ended i' m (omega arith) (u, o, inr (inl v)) (rw (same_Some (config k spot.frame.here m.state) d' l') t)
@@ -333,21 +341,30 @@ module _ (may : State → State → Type 0) (keeps : KeepsWidth may) (P : Progra
             spot.frame.here (inner fn x) fn.end (width fn) k i' m has
             ((len_all d).ends u m to_end (long u o) v) t)
 
-        inside : (u : Trail Point) → Performs (push spot.frame.here.base (given fn b)) a u →
+        inside : (u : Trail Point) → Performs (gives (given fn b)) a u →
             W j (config (all fn.body ∷ call_items fn spot.live (inner fn x) spot.frame.here k) (callee spot.frame spot.live (inner fn x) b).here u.state) a.met
             →
-            Splits spot.frame.here k (suc j) (tree_of_call spot r' x b fn g) a
+            Splits spot.frame.here k (suc j) (tree_of_call spot r' x gives b fn g) a
         inside u o t = after u o (below.every (into_callee spot (inner fn x) b (width fn) r) fn.body g n' r' d
             (call_items fn spot.live (inner fn x) spot.frame.here k) u j
             (record { breaks = λ m z. absurd (none-some m z); continues = λ m z. absurd (none-some m z); backs = refl }) (long u o) less (rw o.1 t))
+
+    splits_calls : (spot : Spot) (r : ℕ) (x : Receiver) (gives : List Argument → Op) (b : Call) (g : Node) (q : ℕ) (k : List Item) (a : Trail Point) (j : ℕ)
+        (e : Config) → Calls P T spot r x gives b g q → AddsEach gives
+        → length a.state.store ≡ spot.live → j < fuel → enter_by gives (slice_get P.functions b.function) b x k spot.frame.here a.state ≡ Some e → W j e a.met
+        → Splits spot.frame.here k (suc j) g a
+    splits_calls _ _ _ _ _ _ _ k a j e (is_call {s = spot} {r = r} {x = x} {gives = gives} {c = b} {fn = fn} {g = g'} {n = n'} {q = r'} found i d has) adds l
+        less y rest =
+        let y' : enter_by gives (Some fn) b x k spot.frame.here a.state ≡ Some e = subst
+        (λ o. enter_by gives o b x k spot.frame.here a.state ≡ Some e) found y in
+        splits_call spot r x gives b fn g' n' r' k a j e (adds_given gives fn b adds i) d has l less y' rest
 
     splits_gives : (spot : Spot) (r : ℕ) (x : Receiver) (v : Rvalue) (g : Node) (q : ℕ) (k : List Item) (a : Trail Point) (j : ℕ) (e : Config) → Gives P T spot
         r x v g q
         → length a.state.store ≡ spot.live → j < fuel → do_rvalue P x v k spot.frame.here a.state ≡ Some e → W j e a.met → Splits spot.frame.here k (suc j) g a
     splits_gives _ _ _ _ _ _ k a j e (as_value {s = spot} {x = x} {e = v}) l less y rest = splits_act spot.next (give spot.frame.here.base x v) spot.frame.here k a j e y rest
-    splits_gives _ _ _ _ _ _ k a j e (as_result {s = spot} {r = r} {x = x} {c = b} {fn = fn} {g = g'} {n = n'} {q = r'} found i d has) l less y rest =
-        let y' : enter (Some fn) b x k spot.frame.here a.state ≡ Some e = subst (λ o. enter o b x k spot.frame.here a.state ≡ Some e) found y in
-        splits_call spot r x b fn g' n' r' k a j e i d has l less y' rest
+    splits_gives _ _ _ _ _ _ k a j e (as_result {s = spot} {r = r} {x = x} {c = b} {g = g} {q = q'} d) l less y rest =
+        splits_calls spot r x (push spot.frame.here.base) b g q' k a j e d (λ es s t o. length_push spot.frame.here.base es s t o) l less y rest
 
     splits_loop : (spot : Spot) (r at : ℕ) (b : Cond) (s step : Stmt) (g h : Node) (r' q' : ℕ) → Has T spot at
         → Inl P T (within spot None r) step h r' → Inl P T (within spot (Some spot.live) r') s g q' → (k : List Item) (a : Trail Point) (count : ℕ) → Matches spot.frame k
@@ -357,8 +374,7 @@ module _ (may : State → State → Type 0) (keeps : KeepsWidth may) (P : Progra
         hits (here spot at false (run (loop at b s step) ∷ k) a (loop_node spot.next spot.frame.here.base b g h) has l refl
         (loop_join (point_at T) may spot.next spot.frame.here.base b g h a 0 a _ a refl (loop_at refl))
         (λ b m v. absurd v)
-        (λ over fresh. asks_left (asked_of spot.next None (test spot.frame.here.base b true)) (asked_in None g ++ asked_in None h) spot.next a.state
-        (asks_own spot.next (test spot.frame.here.base b true) a.state over)) t)
+        (λ over fresh. asks_loop Q spot.next spot.frame.here.base b g h fresh a.state over) t)
     splits_loop spot r at b s step g h r' q' has d e k a (suc j) m l less t =
         let x = enters (run (loop at b s step) ∷ k) spot at false j a has l refl t in
         elim (go_by_some (run s ∷ turn step (loop at b s step) (length x.past.state.store) ∷ k) k spot.frame.here x.past.state
@@ -405,7 +421,7 @@ module _ (may : State → State → Type 0) (keeps : KeepsWidth may) (P : Progra
 
             cases : (i' : ℕ) → i' < j → Splits spot.frame.here (run (loop at b s step) ∷ k) i' h mid → Splits spot.frame.here k (suc j) (tree_of_loop spot b g h) a
             cases i' less'' (hits y') = hits (hit_of h (tree_of_loop spot b g h) mid a (λ z w n y. (n broken, (0, a, refl, inr (on', o, inr (mid, x, y)))))
-                (asks_step spot.next spot.frame.here.base b g h) y')
+                (asks_step Q spot.next spot.frame.here.base b g h) y')
             cases i' less'' (ended i'' v z e' t') = again on' mid v o x e' i'' (omega arith) t'
             cases i' less'' (jumped i'' broken v d' z e' l' t') = absurd (none-some _ ((len_one d).ends mid v (stopped (by_jump broken)) long e').1)
             cases i' less'' (jumped i'' continued v d' z e' l' t') = absurd (none-some _ ((len_one d).ends mid v (stopped (by_jump continued)) long e').1)
@@ -421,7 +437,7 @@ module _ (may : State → State → Type 0) (keeps : KeepsWidth may) (P : Progra
           where
             cases : Splits spot.frame.here (turn step (loop at b s step) spot.live ∷ k) j g on' → Splits spot.frame.here k (suc j) (tree_of_loop spot b g h) a
             cases (hits y') = hits (hit_of g (tree_of_loop spot b g h) on' a (λ z w n y. (n broken, (0, a, refl, inr (on', o, inl (n continued, y)))))
-                (asks_body spot.next spot.frame.here.base b g h) y')
+                (asks_body Q spot.next spot.frame.here.base b g h) y')
             cases (ended i m' z x t') = stepping on' m' o (inl x) i z t'
             cases (jumped i broken m' d' z x l' t') = ended i m' (omega arith) (last to_end m' (loop_broken on' o (inl (broken_continued, x))))
                 (rw (same_Some (config k spot.frame.here m'.state) d' l') t')
@@ -448,19 +464,19 @@ module _ (may : State → State → Type 0) (keeps : KeepsWidth may) (P : Progra
         splits_more h k (suc x.0) count (act q (keep n)) a (omega arith) (splits_act q (keep n) h k a x.0 x.1 x.3 x.4)
 
     after_act : (q : ℕ) (op : Op) (g : Node) (h : Here) (k : List Item) (n : ℕ) (a b : Trail Point) → Performs op a b → Splits h k n g b → Splits h k n (seq (act q op) g) a
-    after_act q op g h k n a b o (hits x) = hits (hit_then may P T c zs p (act q op) g a b o x)
+    after_act q op g h k n a b o (hits x) = hits (hit_then may Q P T c zs p (act q op) g a b o x)
     after_act q op g h k n a b o (ended j m i e r) = ended j m i (b, o, e) r
     after_act q op g h k n a b o (jumped j kind m d i e l r) = jumped j kind m d i (inr (b, o, e)) l r
 
     choose_on : (q base : ℕ) (b : Cond) (g g' : Node) (h : Here) (k : List Item) (n : ℕ) (a t : Trail Point) → Performs (test base b true) a t → Splits h k n g t →
         Splits h k n (choose q base b g g') a
-    choose_on q base b g g' h k n a t o (hits x) = hits (hit_of g (choose q base b g g') t a (λ z w m y. inl (t, o, y)) (asks_true q base b g g') x)
+    choose_on q base b g g' h k n a t o (hits x) = hits (hit_of g (choose q base b g g') t a (λ z w m y. inl (t, o, y)) (asks_true Q q base b g g') x)
     choose_on q base b g g' h k n a t o (ended j m i e r) = ended j m i (inl (t, o, e)) r
     choose_on q base b g g' h k n a t o (jumped j kind m d i e l r) = jumped j kind m d i (inl (t, o, e)) l r
 
     choose_off : (q base : ℕ) (b : Cond) (g g' : Node) (h : Here) (k : List Item) (n : ℕ) (a t : Trail Point) → Performs (test base b false) a t → Splits h k n g' t →
         Splits h k n (choose q base b g g') a
-    choose_off q base b g g' h k n a t o (hits x) = hits (hit_of g' (choose q base b g g') t a (λ z w m y. inr (t, o, y)) (asks_false q base b g g') x)
+    choose_off q base b g g' h k n a t o (hits x) = hits (hit_of g' (choose q base b g g') t a (λ z w m y. inr (t, o, y)) (asks_false Q q base b g g') x)
     choose_off q base b g g' h k n a t o (ended j m i e r) = ended j m i (inr (t, o, e)) r
     choose_off q base b g g' h k n a t o (jumped j kind m d i e l r) = jumped j kind m d i (inr (t, o, e)) l r
 
@@ -561,13 +577,22 @@ module _ (may : State → State → Type 0) (keeps : KeepsWidth may) (P : Progra
     of_loop _ _ _ _ _ (is_loop {s = spot} {r = r} {at = at} {c = b} {a = s} {step = step} {g = g} {h = h} {m = r'} {q = q'} i d e) k a count m l less t =
         splits_loop spot r at b s step g h r' q' i d e k a count m l less t
 
+    -- an array's declarator: the point, and its elements
+    splits_fill : (spot : Spot) (at : ℕ) (z : Array) (k : List Item) (a : Trail Point) (count : ℕ) → Has T spot at → length a.state.store ≡ spot.live
+        → W count (config (declare_array at z ∷ k) spot.frame.here a.state) a.met
+        → Splits spot.frame.here k count (seq (point spot.next) (act spot.next (fill z))) a
+    splits_fill spot at z k a count has l t = splits_point spot at false (declare_array at z) (act spot.next (fill z)) k a count has l refl (λ b v. absurd v)
+        (λ over. absurd over) t
+        (λ j b e j' l' y w. splits_more spot.frame.here k (suc j) count (act spot.next (fill z)) b (omega arith)
+        (splits_act spot.next (fill z) spot.frame.here k b j e y w))
+
     -- a declarator: the point, the new variable, and what it gets
     splits_declare : (spot : Spot) (d : Declarator) (g : Node) (q' : ℕ) → Has T spot d.label → Declares P T spot (suc spot.next) d.number_type d.rvalue g q' →
         (k : List Item) (a : Trail Point) (count : ℕ)
         → length a.state.store ≡ spot.live → count < suc fuel
         → W count (config (declare d ∷ k) spot.frame.here a.state) a.met → Splits spot.frame.here k count (seq (point spot.next) g) a
     splits_declare spot d g q' i x k a count l less t = splits_point spot d.label false (declare d) g k a count i l refl (λ b v. absurd v)
-        (asks_declared x a.state l) t
+        (asks_declared Q x a.state l) t
         (λ j b e j' l' y w. splits_more spot.frame.here k (suc j) count g b (omega arith)
         (by_rvalue spot (suc spot.next) d.number_type d.rvalue g q' x k b j e l' (omega arith) y w))
       where
@@ -598,6 +623,16 @@ module _ (may : State → State → Type 0) (keeps : KeepsWidth may) (P : Progra
         (splits_seq spot.frame.here k (all b ∷ k) x.0 (seq (point spot.next) g) h a (skip_one spot.frame.here (all b) k refl refl refl)
         (splits_declare spot d' g r i d (all b ∷ k) a x.0 l (omega arith) x.2)
         (λ j u less' z w. below.every (move spot (suc spot.live) r) b h n' q' e k u j m ((length_declarator (point_at T) may keeps d).ends a u to_end l z) (omega arith) w))
+    splits_every _ _ _ _ _ (as_array {s = spot} {at = at} {a = z} {b = b} {h = h} {n = n'} {q = q'} i e) k a count m l less t =
+        let x = past (config (all (array at z b) ∷ k) spot.frame.here a.state)
+        (config (declare_array at z ∷ all b ∷ k) spot.frame.here a.state) a.met count refl refl t in
+        let few : x.0 < count = omega arith in
+        splits_more spot.frame.here k x.0 count (seq (seq (point spot.next) (act spot.next (fill z))) h) a (omega arith)
+        (splits_seq spot.frame.here k (all b ∷ k) x.0 (seq (point spot.next) (act spot.next (fill z))) h a (skip_one spot.frame.here (all b) k refl refl refl)
+        (splits_fill spot at z (all b ∷ k) a x.0 i l x.2)
+        (λ j u less' y w. below.every (at_point spot (suc spot.next)) b h n' q' e k u j m
+        ((length_array (point_at T) may keeps spot.frame spot.live spot.next z).ends a u to_end l y)
+        (omega arith) w))
     splits_every _ _ _ _ _ (as_statement {s = spot} {a = s} {b = b} {g = g} {h = h} {r = r} {n = n'} {q = q'} d e) k a count m l less t =
         let x = past (config (all (statement s b) ∷ k) spot.frame.here a.state) (config (run s ∷ all b ∷ k) spot.frame.here a.state) a.met count refl refl t in
         let few : x.0 < count = omega arith in
@@ -691,7 +726,7 @@ module _ (may : State → State → Type 0) (keeps : KeepsWidth may) (P : Progra
 
         after : Splits spot.frame.here behind j (row_behind l arms) drawn → Splits spot.frame.here k (suc j) tree u
         after (hits h) = hits (hit_of (row_behind l arms) tree drawn u (λ z b no t. (no broken, (l, drawn, found, go_in (stopped z) b t)))
-            (asks_selected spot.next spot.frame.here.base v arms l) h)
+            (asks_selected Q spot.next spot.frame.here.base v arms l) h)
         after (ended i b few t r) = let z = at_end i b r in let one = z.1 in ended z.0 b (omega arith) (inl (l, drawn, found, go_in to_end b t)) z.2
         after (jumped i broken b c' few t lands r) = ended i b (omega arith) (inr (l, drawn, found, go_in (stopped (by_jump broken)) b t))
             (rw (same_Some (config k spot.frame.here b.state) c' lands) r)
@@ -710,7 +745,7 @@ module _ (may : State → State → Type 0) (keeps : KeepsWidth may) (P : Progra
     at_its_point : (spot : Spot) (at : ℕ) (s : Stmt) (g : Node) (k : List Item) (a : Trail Point) (count : ℕ) → count < suc fuel → Has T spot at → length a.state.store ≡ spot.live →
         label_on (run s ∷ k) ≡ Some at
         → ((b : State) → IsFailing (run s ∷ k) spot.frame.here b → ⊥) →
-        (IsOverflowing P (run s ∷ k) spot.frame.here a.state → Asks (asked_in None g) spot.next a.state) → W count
+        (TopAsks Q.holds P (run s ∷ k) spot.frame.here a.state → Asks Q (all_in Q None g) spot.next a.state) → W count
         (config (run s ∷ k) spot.frame.here a.state) a.met
         → ((j : ℕ) (b : Trail Point) (e : Config) → j < fuel → length b.state.store ≡ spot.live → next_at P (run s ∷ k) spot.frame.here b.state ≡ Some e → W j e b.met → Splits spot.frame.here k
         (suc j) g b)
@@ -741,17 +776,24 @@ module _ (may : State → State → Type 0) (keeps : KeepsWidth may) (P : Progra
         let x = past (config (run absent ∷ k) spot.frame.here a.state) (config k spot.frame.here a.state) a.met count refl refl t in
         ended x.0 a (omega arith) refl x.2
     splits_one _ _ _ _ (as_assign {s = spot} {at = at} {x = x} {e = v} {g = g} {q = q'} i d) k a count m l less t = at_its_point spot at (assign at x v) g k a
-        count less i l refl (λ b v. v) (asks_given d a.state) t
+        count less i l refl (λ b v. v) (asks_given Q d a.state) t
         (λ j b e less' l' y w. splits_gives spot (suc spot.next) (variable_at (index_of spot.frame.here.base x.slot) x.number_type) v g q' k b j e d l' less' y
         w)
+    splits_one _ _ _ _ (as_write {s = spot} {at = at} {x = x} {e = v} i) k a count m l less t =
+        at_its_point spot at (write at x (value v)) (act spot.next (give_element spot.frame.here.base x v)) k a count less i l refl (λ b z. z)
+        (asks_own Q spot.next (give_element spot.frame.here.base x v) a.state) t
+        (λ j u e less' l' y w. splits_act spot.next (give_element spot.frame.here.base x v) spot.frame.here k u j e y w)
+    splits_one _ _ _ _ (as_write_call {s = spot} {at = at} {x = x} {c = b} {g = g} {q = q'} i d) k a count m l less t =
+        at_its_point spot at (write at x (result b)) g k a count less i l refl (λ b z. z)
+        (λ over. asks_calls Q d None a.state a.state (λ op o. o) over) t
+        (λ j u e less' l' y w. splits_calls spot (suc spot.next) (waiting_in x.array) (push_for spot.frame.here.base x) b g q' k u j e d
+        (λ es s t o. length_push_for spot.frame.here.base x es s t o) l' less' y w)
     splits_one _ _ _ _ (as_call {s = spot} {at = at} {c = b} {g = g} {q = q'} i d) k a count m l less t = at_its_point spot at (call at b) g k a count less i l
-        refl (λ b v. v) (asks_given d a.state) t
+        refl (λ b v. v) (asks_given Q d a.state) t
         (λ j u e less' l' y w. splits_gives spot (suc spot.next) nobody (result b) g q' k u j e d l' less' y w)
     splits_one _ _ _ _ (as_if {s = spot} {at = at} {c = b} {a = s} {b = s'} {g = g} {h = h} {r = r} {q = q'} i d d') k a count m l less t =
         at_its_point spot at (if at b s s') (choose spot.next spot.frame.here.base b g h) k a count less i l refl (λ b v. v)
-        (λ over. asks_left (asked_of spot.next None (test spot.frame.here.base b true) ++ asked_in None g) (asked_in None h) spot.next a.state
-        (asks_left (asked_of spot.next None (test spot.frame.here.base b true)) (asked_in None g) spot.next a.state
-        (asks_own spot.next (test spot.frame.here.base b true) a.state over))) t
+        (asks_condition Q spot.next spot.frame.here.base b g h a.state) t
         (λ j u e less' l' y w. elim (go_by_some (run s ∷ k) (run s' ∷ k) spot.frame.here u.state (truth_of b (scene_at spot.frame.here.base u.state) u.state.draws) e y) as
         (λ z. Splits spot.frame.here k (suc j) (choose spot.next spot.frame.here.base b g h) u) [
           | inl z ↦ splits_more spot.frame.here k j (suc j) (choose spot.next spot.frame.here.base b g h) u (omega arith)
@@ -784,9 +826,10 @@ module _ (may : State → State → Type 0) (keeps : KeepsWidth may) (P : Progra
     splits_one _ _ _ _ (as_return_value {s = spot} {at = at} {e = v} {b = b} i i' has) k a count m l less t =
         at_its_point spot at (return at (Some (value v))) (return_node spot.next (give spot.frame.here.base b.receiver v) b.length spot.live) k a count less
         has l refl (λ b v. v)
-        (λ over. asks_left (asked_of spot.next None (give spot.frame.here.base b.receiver v)) [] spot.next a.state
-        (asks_own spot.next (give spot.frame.here.base b.receiver v) a.state
-        (subst (λ x. OpOverflows (give spot.frame.here.base x v) a.state) (receiver_is spot.frame k b i m) over))) t
+        (λ over. asks_front Q (act spot.next (give spot.frame.here.base b.receiver v))
+        (seq (act spot.next (keep b.length)) (leave spot.live returned)) spot.next
+        a.state (asks_own Q spot.next (give spot.frame.here.base b.receiver v) a.state
+        (subst (λ x. Q.holds (give spot.frame.here.base x v) a.state) (receiver_is spot.frame k b i m) over))) t
         (λ j u e less' l' y w.
         let y' : do_leave (to_mark k) (run_op (give spot.frame.here.base b.receiver v) u.state) ≡ Some e =
         subst (λ x. do_leave (to_mark k) (run_op (give spot.frame.here.base x v) u.state) ≡ Some e) (receiver_is spot.frame k b i m) y in
@@ -794,7 +837,7 @@ module _ (may : State → State → Type 0) (keeps : KeepsWidth may) (P : Progra
     splits_one _ _ _ _ (as_return_call {s = spot} {at = at} {c = v} {b = b} {g = g} {q = q'} i i' has d) k a count m l less t =
         at_its_point spot at (return at (Some (result v))) (seq g (seq (act spot.next (keep b.length)) (leave spot.live returned))) k a count less has l refl
         (λ b v. v)
-        (λ over. asks_left (asked_in None g) [] spot.next a.state (asks_given d a.state over)) t
+        (λ over. asks_front Q g (seq (act spot.next (keep b.length)) (leave spot.live returned)) spot.next a.state (asks_given Q d a.state over)) t
         (λ j u e less' l' y w.
         let y' : do_rvalue P b.receiver (result v) (leave_call ∷ k) spot.frame.here u.state ≡ Some e =
         subst (λ x. do_rvalue P x (result v) (leave_call ∷ k) spot.frame.here u.state ≡ Some e) (receiver_is spot.frame k b i m) y in
@@ -808,14 +851,14 @@ module _ (may : State → State → Type 0) (keeps : KeepsWidth may) (P : Progra
     splits_one _ _ _ _ (as_end_value {s = spot} {at = at} {e = v} i has) k a count m l less t =
         at_its_point spot at (return at (Some (value v))) (seq (act spot.next (give spot.frame.here.base (behind_main P) v)) (leave spot.live returned)) k a
         count less has l refl (λ b v. v)
-        (λ over. asks_left (asked_of spot.next None (give spot.frame.here.base (behind_main P) v)) [] spot.next a.state
-        (asks_own spot.next (give spot.frame.here.base (behind_main P) v) a.state
-        (subst (λ o. OpOverflows (give spot.frame.here.base (receiver_of P o) v) a.state) (no_mark spot.frame k i m) over))) t
+        (λ over. asks_front Q (act spot.next (give spot.frame.here.base (behind_main P) v)) (leave spot.live returned) spot.next a.state
+        (asks_own Q spot.next (give spot.frame.here.base (behind_main P) v) a.state
+        (subst (λ o. Q.holds (give spot.frame.here.base (receiver_of P o) v) a.state) (no_mark spot.frame k i m) over))) t
         (λ j u e less' l' y w. absurd (none-some e (subst (λ o. do_leave o (run_op (give spot.frame.here.base (receiver_of P o) v) u.state) ≡ Some e)
         (no_mark spot.frame k i m) y)))
     splits_one _ _ _ _ (as_end_call {s = spot} {at = at} {c = v} {g = g} {q = q'} i has d) k a count m l less t =
         at_its_point spot at (return at (Some (result v))) (seq g (leave spot.live returned)) k a count less has l refl (λ b v. v)
-        (λ over. asks_left (asked_in None g) [] spot.next a.state (asks_given d a.state over)) t
+        (λ over. asks_front Q g (leave spot.live returned) spot.next a.state (asks_given Q d a.state over)) t
         (λ j u e less' l' y w.
         let y' : do_rvalue P (behind_main P) (result v) (leave_call ∷ k) spot.frame.here u.state ≡ Some e =
         subst (λ o. do_rvalue P (receiver_of P o) (result v) (leave_call ∷ k) spot.frame.here u.state ≡ Some e) (no_mark spot.frame k i m) y in
@@ -824,15 +867,15 @@ module _ (may : State → State → Type 0) (keeps : KeepsWidth may) (P : Progra
         (λ j'' u' z f b'. end_tail_of spot.frame k u' j'' (leave spot.live returned) (no_mark spot.frame k i m) b'))
     splits_one _ _ _ _ (as_assert {s = spot} {at = at} {c = b} i) k a count m l less t =
         splits_point spot at true (run (assert at b)) (check spot.next spot.frame.here.base b) k a count i l refl (λ u v. (refl, refl, v.0, v.1))
-        (asks_own spot.next (test spot.frame.here.base b true) a.state) t
+        (asks_own Q spot.next (test spot.frame.here.base b true) a.state) t
         (λ j u e j' l' y w. let x = go_some k spot.frame.here (run_op (test spot.frame.here.base b true) u.state) e y in ended j (trail x.0 u.met) (omega arith) (x.1, refl) (rw x.2 w))
     splits_one _ _ _ _ (as_assume {s = spot} {at = at} {c = b} i) k a count m l less t =
         at_its_point spot at (assume at b) (act spot.next (test spot.frame.here.base b true)) k a count less i l refl (λ b v. v)
-        (asks_own spot.next (test spot.frame.here.base b true) a.state) t
+        (asks_own Q spot.next (test spot.frame.here.base b true) a.state) t
         (λ j u e less' l' y w. splits_act spot.next (test spot.frame.here.base b true) spot.frame.here k u j e y w)
     splits_one _ _ _ _ (as_switch {s = spot} {at = at} {e = v} {cs = cs} {arms = arms} {q = q'} i d) k a count m l less t =
         at_its_point spot at (switch at v cs) (switch_node spot.next spot.frame.here.base v arms) k a count less i l refl (λ b z. z)
-        (asks_value spot.next spot.frame.here.base v arms a.state) t
+        (asks_value Q spot.next spot.frame.here.base v arms a.state) t
         (λ j u e less' l' y w. splits_switch spot v cs arms q' d k u j e m l' less' y w)
 
   nothing_below : Below zero

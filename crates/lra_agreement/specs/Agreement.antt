@@ -4,7 +4,7 @@ use Rattle.lra_operations.specs.Graph.{Node}
 use Rattle.lra_program.specs.Sites.{sites_of}
 use Rattle.lra_operations.specs.Agree.{IsGraph, AreDistinct, Agrees}
 use Rattle.lra_operations.specs.TrailsAgree.{TrailsAgree}
-use Rattle.lra_operations.specs.Asked.{AsksWell}
+use Rattle.lra_operations.specs.Asked.{AsksWell, AccessesWell}
 use Rattle.lra_program.specs.Trails.{Alone}
 use Rattle.lra_program.specs.WellFormed.{IsWellFormed}
 
@@ -23,3 +23,7 @@ WellFormedHaveTrails = (P : Program) (g : Node) → IsWellFormed P → IsGraph P
 -- and asks well
 abbrev pub WellFormedAskWell : Type 0
 WellFormedAskWell = (P : Program) (g : Node) → IsWellFormed P → IsGraph P g → AsksWell P g
+
+-- and tells where an access is outside its array
+abbrev pub WellFormedAccessWell : Type 0
+WellFormedAccessWell = (P : Program) (g : Node) → IsWellFormed P → IsGraph P g → AccessesWell P g

@@ -7,8 +7,9 @@
 
 ghost use Rattle.lra_operations.specs.Agree.{GraphsAgree};
 ghost use Rattle.lra_operations.specs.TrailsAgree.{GraphsHaveTrails};
-ghost use Rattle.lra_operations.specs.Asked.{GraphsAskWell};
-ghost use Rattle.lra_agreement.specs.Agreement.{WellFormedAreDistinct, WellFormedAgree, WellFormedHaveTrails, WellFormedAskWell};
+ghost use Rattle.lra_operations.specs.Asked.{GraphsAskWell, GraphsAccessWell};
+ghost use Rattle.lra_agreement.specs.Agreement.{WellFormedAreDistinct, WellFormedAgree, WellFormedHaveTrails};
+ghost use Rattle.lra_agreement.specs.Agreement.{WellFormedAskWell, WellFormedAccessWell};
 
 /// A program's tree and its runs come to the same points with the same stores, and fail the same assertions.
 ///
@@ -34,4 +35,13 @@ pub fn trails_agree()
 pub fn graphs_ask_well()
     ensures theorem { GraphsAskWell }
     ensures well_formed { WellFormedAskWell }
+{}
+
+/// A program's tree has each operation that accesses arrays once at its point: where a run's n-th access at a point is
+/// outside its array, the n-th of that operation there is.
+///
+/// Does nothing: its contract is the theorem.
+pub fn graphs_access_well()
+    ensures theorem { GraphsAccessWell }
+    ensures well_formed { WellFormedAccessWell }
 {}
