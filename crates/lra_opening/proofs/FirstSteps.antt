@@ -1,32 +1,39 @@
 -- The first step into a form leads to the whole: where a place opens, with what is written of the part in it the whole is
 -- written, and the limit that the part passes is the whole's.
-use Rattle.std.proofs.Common.{◌≡◌, ℕ, suc, ◌≤◌, List, [], ◌∷◌, length, Some, None, false, refl, sym, ◌∙◌, subst, arith}
+use Rattle.std.proofs.Common.{◌≡◌, ℕ, suc, ◌≤◌, List, [], ◌∷◌, length, Some, None, false, refl, sym, ◌∙◌, subst, arith, Bor}
 use Rattle.lra_base.specs.Limits.{greatest_live}
 use Rattle.lra_program.specs.Program as program
-use Rattle.lra_program.specs.Program.{Variable, Expr, value, result, assign, call, if, block, return, BlockItems, Program}
+use Rattle.lra_program.specs.Program.{Variable, Expr, value, result, assign, write, call, if, block, return, BlockItems, Program}
 use Rattle.lra_program.specs.Value.{index_of}
-use Rattle.lra_program.specs.Step.{append, give}
+use Rattle.lra_program.specs.Step.{append, give, push_for}
 use Rattle.lra_program.specs.declared.receivers.Receiver.{Receiver}
-use Rattle.lra_program.specs.Receivers.{variable_at, nobody}
+use Rattle.lra_program.specs.Receivers.{variable_at, waiting_in, nobody}
 use Rattle.lra_program.specs.Sites.{Site, Event, plain_site, live_behind, stmt_events, items_events}
 use Rattle.lra_program.specs.declared.program.Stmt.{Stmt}
-use Rattle.lra_program.specs.ProgramViews.{cond_view, stmt_view}
+use Rattle.lra_program.specs.declared.program.Element.{Element}
+use Rattle.lra_program.specs.ProgramViews.{element_view, cond_view, stmt_view}
 use Rattle.lra_operations.specs.Graph.{Node, point, act, seq}
 use Rattle.lra_opening.specs.declared.frame.Frame.{Frame}
 use Rattle.lra_opening.specs.declared.frame.Repeated.{Repeated}
+use Rattle.lra_opening.specs.declared.frame.Caller.{Caller}
 use Rattle.lra_opening.specs.declared.places.Branches.{Branches}
 use Rattle.lra_opening.specs.declared.places.Place.TheVariants as place
 use Rattle.lra_opening.specs.declared.places.Forked.TheVariants as forked
 use Rattle.lra_opening.specs.Limits.{walk, stopped}
-use Rattle.lra_opening.specs.Building.{inside, StmtStands, ItemsStand, ItemStands, GivenStands, WritesStmt, WritesRvalue, WritesItem}
-use Rattle.lra_opening.specs.Inlining.{loop_of, for_of}
+use Rattle.lra_opening.specs.Building.{inside, StmtStands, ItemsStand, ItemStands, GivenStands, WritesStmt, WritesRvalue, WritesCall, WritesItem}
+use Rattle.lra_opening.specs.Inlining.{body_of, step_of, loop_of, for_of}
 use Rattle.lra_opening.specs.Open.{due, a_stmt, a_declaration, all_items, a_call, all_rounds, IsOpen, StandsAs}
 use Rattle.lra_opening.proofs.Walking.{walk_stop}
-use Rattle.lra_opening.proofs.Writing.{Pointed, site, block_written, assign_written, call_written, if_written}
-use Rattle.lra_opening.proofs.Writing.{rounds_written, loop_written, for_written, call_returned, fresh_written, given_written, value_written}
+use Rattle.lra_opening.proofs.Writing.{Pointed, site, block_written, assign_written, write_called, call_written, if_written}
+use Rattle.lra_opening.proofs.Writing.{rounds_written, loop_written, for_written, call_returned, fresh_written, given_written, value_written, result_given}
 use Rattle.lra_opening.proofs.Stopping.{second_stopped, third_stopped, middle_stopped, for_at_begin, for_at_round}
-use Rattle.lra_opening.proofs.Standing.{block_stands, assign_stands, call_stands, true_stands, false_stands, return_stands, body_stands, step_stands, init_stands, for_again, result_stands}
+use Rattle.lra_opening.proofs.Standing.{block_stands, assign_stands, write_stands, call_stands, true_stands, false_stands, return_stands}
+use Rattle.lra_opening.proofs.Standing.{body_stands, step_stands, init_stands, for_again, result_stands}
 use Rattle.lra_opening.proofs.ItemRows.{declared_item, given_stops, given_item_stands}
+
+-- a caller whose call's value is for no element
+abbrev alone : ℕ → Receiver → Caller
+alone q y = record { point = q; receiver = y; element = None }
 
 module _ (P : Program) (path : List ℕ) (r : Frame) (S : List Site) where
   abbrev on : program.Stmt → List Event
@@ -76,13 +83,13 @@ module _ (P : Program) (path : List ℕ) (r : Frame) (S : List Site) where
         )
 
     pub loop_opens : (x : Repeated) → StmtStands P r (loop_of at x)
-        → IsOpen P (due (a_stmt (loop_of at x)) path r S) (due (a_stmt (stmt_view x.step.now)) path (record r { breaks = None; continues = None }) V)
+        → IsOpen P (due (a_stmt (loop_of at x)) path r S) (due (a_stmt (step_of x)) path (record r { breaks = None; continues = None }) V)
         (record { frame = r; place = place.Forked (forked.Step q x) })
-        × StmtStands P (record r { breaks = None; continues = None }) (stmt_view x.step.now)
+        × StmtStands P (record r { breaks = None; continues = None }) (step_of x)
     loop_opens x s =
         let c = cond_view x.cond.now in
-        let a = stmt_view x.body.now in
-        let t = stmt_view x.step.now in (
+        let a = body_of x in
+        let t = step_of x in (
           record {
             frame = refl;
             path = refl;
@@ -99,16 +106,16 @@ module _ (P : Program) (path : List ℕ) (r : Frame) (S : List Site) where
     -- the value that a call gives
     pub assign_opens : (x : Variable) (c : program.Call) (k : ℕ) (y : Receiver) → k ≡ index_of r.base x.slot → y ≡ variable_at k x.number_type → StmtStands P r
         (assign at x (result c)) → r.live ≤ greatest_live
-        → IsOpen P (due (a_stmt (assign at x (result c))) path r S) (due (a_call (record { point = q; receiver = y }) c) path r V)
+        → IsOpen P (due (a_stmt (assign at x (result c))) path r S) (due (a_call (alone q y) c) path r V)
         (record { frame = r; place = place.Given q })
-        × StandsAs P (a_call (record { point = q; receiver = y }) c) r
+        × StandsAs P (a_call (alone q y) c) r
     assign_opens x c k y is gets s few = (
       record {
         frame = refl;
         path = refl;
         continues = λ g n U w. (
           assign_written P path r S V U q at k x (result c) g _ number pointed is
-              (subst (λ z. WritesRvalue P path r q z V (result c) g U) gets w.0) refl,
+              (subst (λ z. WritesRvalue P path r q z V (result c) g U) gets (result_given P path r V U q y c g w.0)) refl,
           refl,
         );
         stops = λ l h. second_stopped S V (own at) (inside P path r path r.live c) l pointed h;
@@ -122,16 +129,38 @@ module _ (P : Program) (path : List ℕ) (r : Frame) (S : List Site) where
     value_assigned x e k y is gets h g a b = assign_written P path r S V V q at k x (value e) h g number pointed is
         (subst (λ z. WritesRvalue P path r q z V (value e) h V) gets (value_written P path r V q y e h a)) b
 
+    -- an element's value that a call gives; its index waits
+    pub write_opens : (x : Bor Element) (c : program.Call) (y : Receiver) → y ≡ waiting_in x.now.array
+        → StmtStands P r (write at (element_view x.now) (result c))
+        → r.live ≤ greatest_live
+        → IsOpen P (due (a_stmt (write at (element_view x.now) (result c))) path r S)
+        (due (a_call (record { point = q; receiver = y; element = Some x }) c) path r V) (record { frame = r; place = place.Given q })
+        × StandsAs P (a_call (record { point = q; receiver = y; element = Some x }) c) r
+    write_opens x c y gets s few = (
+      record {
+        frame = refl;
+        path = refl;
+        continues = λ g n U w. (
+          write_called P path r S V U q at (element_view x.now) c g _ number pointed
+              (subst (λ z. WritesCall P path r q z (push_for r.base (element_view x.now)) V c g U) gets w.0) refl,
+          refl,
+        );
+        stops = λ l h. second_stopped S V (own at) (inside P path r path r.live c) l pointed h;
+      },
+      (result_stands P r c (write_stands P r at (element_view x.now) (result c) s), omega (arith, few)),
+    )
+
     pub call_opens : (c : program.Call) (y : Receiver) → y ≡ nobody → StmtStands P r (call at c) → r.live ≤ greatest_live
-        → IsOpen P (due (a_stmt (call at c)) path r S) (due (a_call (record { point = q; receiver = y }) c) path r V)
+        → IsOpen P (due (a_stmt (call at c)) path r S) (due (a_call (alone q y) c) path r V)
         (record { frame = r; place = place.Given q })
-        × StandsAs P (a_call (record { point = q; receiver = y }) c) r
+        × StandsAs P (a_call (alone q y) c) r
     call_opens c y gets s few = (
       record {
         frame = refl;
         path = refl;
         continues = λ g n U w. (
-          call_written P path r S V U q at c g _ number pointed (subst (λ z. WritesRvalue P path r q z V (result c) g U) gets w.0) refl,
+          call_written P path r S V U q at c g _ number pointed
+              (subst (λ z. WritesRvalue P path r q z V (result c) g U) gets (result_given P path r V U q y c g w.0)) refl,
           refl,
         );
         stops = λ l h. second_stopped S V (own at) (inside P path r path r.live c) l pointed h;
@@ -140,14 +169,14 @@ module _ (P : Program) (path : List ℕ) (r : Frame) (S : List Site) where
     )
 
     pub return_opens : (c : program.Call) → StmtStands P r (return at (Some (result c))) → r.live ≤ greatest_live
-        → IsOpen P (due (a_stmt (return at (Some (result c)))) path r S) (due (a_call (record { point = q; receiver = r.receiver }) c) path r V)
+        → IsOpen P (due (a_stmt (return at (Some (result c)))) path r S) (due (a_call (alone q r.receiver) c) path r V)
         (record { frame = r; place = place.Returned q })
-        × StandsAs P (a_call (record { point = q; receiver = r.receiver }) c) r
+        × StandsAs P (a_call (alone q r.receiver) c) r
     return_opens c s few = (
       record {
         frame = refl;
         path = refl;
-        continues = λ g n U w. (call_returned P path r V q s.back_low S at _ number pointed U c g w.0 refl, refl);
+        continues = λ g n U w. (call_returned P path r V q s.back_low S at _ number pointed U c g (result_given P path r V U q r.receiver c g w.0) refl, refl);
         stops = λ l h. second_stopped S V (own at) (inside P path r path r.live c) l pointed h;
       },
       (result_stands P r c (return_stands P r at (Some (result c)) s), omega (arith, few)),
@@ -173,9 +202,9 @@ module _ (P : Program) (path : List ℕ) (r : Frame) (S : List Site) where
       length S → Pointed S (site P path r d.label r.live false) V → n ≡ suc r.live
       → d.rvalue ≡ Some (result c)
       → ItemStands P r (program.declaration d) → r.live ≤ greatest_live
-      → IsOpen P (due (a_declaration d) path r S) (due (a_call (record { point = q; receiver = y }) c) path (record r { live = n }) V)
+      → IsOpen P (due (a_declaration d) path r S) (due (a_call (alone q y) c) path (record r { live = n }) V)
       (record { frame = r; place = place.Declared q d.number_type })
-      × StandsAs P (a_call (record { point = q; receiver = y }) c) (record r { live = n })
+      × StandsAs P (a_call (alone q y) c) (record r { live = n })
   declaration_opens d V q n c y gets number pointed same given s few = (
     record {
       frame = refl;
@@ -183,7 +212,8 @@ module _ (P : Program) (path : List ℕ) (r : Frame) (S : List Site) where
       continues = λ g m U w. subst (λ z. WritesItem P path r S (program.declaration d) (seq (point q) (seq (act q (append d.number_type)) g)) z U) (sym w.1)
           (declared_item P path r S d V U q n (seq (act q (append d.number_type)) g) _ number same pointed
           (rw given (given_written P path r V U q n d.number_type (result c) g _ same
-          (subst (λ z. WritesRvalue P path (record r { live = n }) q z V (result c) g U) gets w.0) refl)) refl);
+          (subst (λ z. WritesRvalue P path (record r { live = n }) q z V (result c) g U) gets
+          (result_given P path (record r { live = n }) V U q y c g w.0)) refl)) refl);
       stops = λ l h. given_stops P path r S d V n pointed same l (rw given h);
     },
     (result_stands P (record r { live = n }) c (subst (λ z. GivenStands P (record r { live = n }) z) given (given_item_stands P path r S d n same s)), omega (arith, few, same)),
@@ -194,8 +224,8 @@ module _ (P : Program) (path : List ℕ) (r : Frame) (S : List Site) where
       → IsOpen P (due (a_stmt (for_of at b x)) path r S) (due (all_items b) path r V) (record { frame = r; place = place.Init q x }) × ItemsStand P r b
   for_opens b x V at q n number same pointed s =
       let c = cond_view x.cond.now in
-      let a = stmt_view x.body.now in
-      let t = stmt_view x.step.now in (
+      let a = body_of x in
+      let t = step_of x in (
         record {
           frame = refl;
           path = refl;
@@ -213,15 +243,15 @@ module _ (P : Program) (path : List ℕ) (r : Frame) (S : List Site) where
       )
 
   -- the rounds of a loop
-  pub rounds_open : (q : ℕ) (x : Repeated) → StandsAs P (all_rounds q (cond_view x.cond.now) (stmt_view x.body.now) (stmt_view x.step.now)) r
-      → IsOpen P (due (all_rounds q (cond_view x.cond.now) (stmt_view x.body.now) (stmt_view x.step.now)) path r S)
-      (due (a_stmt (stmt_view x.step.now)) path (record r { breaks = None; continues = None }) S)
+  pub rounds_open : (q : ℕ) (x : Repeated) → StandsAs P (all_rounds q (cond_view x.cond.now) (body_of x) (step_of x)) r
+      → IsOpen P (due (all_rounds q (cond_view x.cond.now) (body_of x) (step_of x)) path r S)
+      (due (a_stmt (step_of x)) path (record r { breaks = None; continues = None }) S)
       (record { frame = r; place = place.Forked (forked.Step q x) })
-      × StmtStands P (record r { breaks = None; continues = None }) (stmt_view x.step.now)
+      × StmtStands P (record r { breaks = None; continues = None }) (step_of x)
   rounds_open q x s =
       let c = cond_view x.cond.now in
-      let a = stmt_view x.body.now in
-      let t = stmt_view x.step.now in (
+      let a = body_of x in
+      let t = step_of x in (
         record {
           frame = refl;
           path = refl;

@@ -1,9 +1,11 @@
 -- Items one after the other: what each of them does to those behind it, and what is written of all of them so far.
 use Rattle.std.proofs.Common.{◌≡◌, ℕ, suc, List, [], ◌∷◌, ◌++◌, length, map, false, refl, sym, ap, ◌∙◌, subst}
 use Rattle.lra_program.specs.Program as program
-use Rattle.lra_program.specs.Program.{no_more, declaration, statement}
-use Rattle.lra_operations.specs.Graph.{Node, empty, seq, point}
-use Rattle.lra_program.specs.Sites.{Site, live_behind, stmt_events, given_events, items_events}
+use Rattle.lra_program.specs.Program.{no_more, declaration, array, statement}
+use Rattle.lra_program.specs.declared.arrays.Array.{Array}
+use Rattle.lra_program.specs.Step.{fill}
+use Rattle.lra_operations.specs.Graph.{Node, empty, seq, point, act}
+use Rattle.lra_program.specs.Sites.{Site, plain_site, live_behind, stmt_events, given_events, items_events}
 use Rattle.lra_operations.specs.declared.graph.Node as code_node
 use Rattle.lra_program.specs.ProgramViews.{item_view, items_of}
 use Rattle.lra_operations.specs.GraphViews.{node_view, row}
@@ -13,10 +15,10 @@ use Rattle.lra_opening.specs.declared.places.ItemRow.{ItemRow}
 use Rattle.lra_opening.specs.declared.places.Place.TheVariants as place
 use Rattle.lra_opening.specs.Limits.{walk, stopped}
 use Rattle.lra_opening.specs.Building.{inside, StmtStands, GivenStands, ItemsStand, ItemStands, WritesStmt, WritesDeclared, WritesItems, WritesItem, StopsItem}
-use Rattle.lra_opening.specs.Open.{due, a_stmt, a_declaration, all_items, ItemsLoop, IsOpen}
-use Rattle.lra_opening.proofs.Writing.{Pointed, site, none_written, statement_written, declaration_written}
-use Rattle.lra_opening.proofs.Standing.{first_stands, others_stand, declared_stands, behind_stand}
-use Rattle.lra_opening.proofs.Items.{declaration_at_given, declaration_at_others, statement_at_first, statement_at_others}
+use Rattle.lra_opening.specs.Open.{Work, due, a_stmt, a_declaration, an_array, all_items, ItemsLoop, IsOpen, IsWritten, Stops}
+use Rattle.lra_opening.proofs.Writing.{Pointed, site, none_written, statement_written, array_written, declaration_written}
+use Rattle.lra_opening.proofs.Standing.{first_stands, others_stand, array_stands, declared_stands, behind_stand}
+use Rattle.lra_opening.proofs.Items.{declaration_at_given, declaration_at_others, array_at_point, array_at_others, statement_at_first, statement_at_others}
 
 -- one part more
 row_last : (gs : List Node) (g h : Node) → row (gs ++ g ∷ []) h ≡ row gs (seq g h)
@@ -44,6 +46,20 @@ module _ (P : program.Program) (path : List ℕ) (r : Frame) (S : List Site) whe
 
     pub given_item_stands : (n : ℕ) → n ≡ suc r.live → ItemStands P r (declaration d) → GivenStands P (record r { live = n }) d.rvalue
     given_item_stands n same (b, s) = declared_stands P r n d b same s
+
+  module _ (at : ℕ) (a : Array) where
+    pub filled_item : (V : List Site) (q : ℕ) (h g : Node) → q ≡ length S → Pointed S (site P path r at r.live false) V → h ≡ act q (fill a)
+        → g ≡ seq (point q) h
+        → WritesItem P path r S (array at a) g r.live V
+    filled_item V q h g number pointed form whole = record {
+      live = λ b. refl;
+      stands = λ b s. array_stands P r at a b s;
+      writes = λ b k U w. array_written P path r S V U q at a b h g k (seq g k) number pointed w form whole refl;
+      stops = λ b x w. array_at_others P path r S (array at a b) at a b refl V x pointed w;
+    }
+
+    pub array_stops : (x : Limit) → walk S (plain_site path at r.live ∷ []) ≡ stopped x → StopsItem P path r S (array at a) x
+    array_stops x h b = array_at_point P path r S (array at a b) at a b refl x h
 
   module _ (a : program.Stmt) where
     stated_item : (V : List Site) (g : Node) → WritesStmt P path r S a g V → WritesItem P path r S (statement a) g r.live V
@@ -99,31 +115,38 @@ module _ (P : program.Program) (path : List ℕ) (r : Frame) (S : List Site) (al
     abbrev here : Frame
     here = record r { live = n }
 
-    pub declaration_next : (d : program.Declarator) → rest ≡ declaration d others
-        → IsOpen P (due (all_items all) path r S) (due (a_declaration d) path here V) (record { frame = r; place = place.Items x }) × ItemStands P here (declaration d)
-    declaration_next d is = (
-      record {
-        frame = refl;
-        path = refl;
-        continues = record { all = all; is = refl; writes = λ g m U w. items_step rest (map node_view x.parts.items) n V loop (declaration d) others is g m U w };
-        stops = λ l h. item_stopped rest (map node_view x.parts.items) n V loop (declaration d) others is l h;
-      },
-      item_stands rest (map node_view x.parts.items) n V loop (declaration d) others is,
-    )
-
-    pub statement_next : (s : program.Stmt) → rest ≡ statement s others
-        → IsOpen P (due (all_items all) path r S) (due (a_stmt s) path here V) (record { frame = r; place = place.Items x }) × StmtStands P here s
-    statement_next s is = (
+    -- by what is owed for the item, and for what is under way
+    item_next : (item : Item) (w : Work) → ((g : Node) (m : ℕ) (U : List Site) → IsWritten P (due w path here V) g m U → WritesItem P path here V item g m U)
+        → ((l : Limit) → Stops P (due w path here V) l → StopsItem P path here V item l) → rest ≡ item others
+        → IsOpen P (due (all_items all) path r S) (due w path here V) (record { frame = r; place = place.Items x }) × ItemStands P here item
+    item_next item w written stops is = (
       record {
         frame = refl;
         path = refl;
         continues = record {
           all = all;
           is = refl;
-          writes = λ g m U w. items_step rest (map node_view x.parts.items) n V loop (statement s) others is g m U
-              (subst (λ z. WritesItem P path here V (statement s) g z U) (sym w.1) (stated_item P path here V s U g w.0));
+          writes = λ g m U y. items_step rest (map node_view x.parts.items) n V loop item others is g m U (written g m U y);
         };
-        stops = λ l h. item_stopped rest (map node_view x.parts.items) n V loop (statement s) others is l (stated_stops P path here V s l h);
+        stops = λ l h. item_stopped rest (map node_view x.parts.items) n V loop item others is l (stops l h);
       },
-      stated_item_stands P path here V s (item_stands rest (map node_view x.parts.items) n V loop (statement s) others is),
+      item_stands rest (map node_view x.parts.items) n V loop item others is,
     )
+
+    pub declaration_next : (d : program.Declarator) → rest ≡ declaration d others
+        → IsOpen P (due (all_items all) path r S) (due (a_declaration d) path here V) (record { frame = r; place = place.Items x })
+        × ItemStands P here (declaration d)
+    declaration_next d is = item_next (declaration d) (a_declaration d) (λ g m U w. w) (λ l h. h) is
+
+    pub array_next : (at : ℕ) (a : Array) → rest ≡ array at a others
+        → IsOpen P (due (all_items all) path r S) (due (an_array at a) path here V) (record { frame = r; place = place.Items x })
+        × ItemStands P here (array at a)
+    array_next at a is = item_next (array at a) (an_array at a) (λ g m U w. w) (λ l h. h) is
+
+    pub statement_next : (s : program.Stmt) → rest ≡ statement s others
+        → IsOpen P (due (all_items all) path r S) (due (a_stmt s) path here V) (record { frame = r; place = place.Items x }) × StmtStands P here s
+    statement_next s is =
+        let (o, stands) = item_next (statement s) (a_stmt s)
+        (λ g m U w. subst (λ z. WritesItem P path here V (statement s) g z U) (sym w.1) (stated_item P path here V s U g w.0))
+        (λ l h. stated_stops P path here V s l h) is in
+        (o, stated_item_stands P path here V s stands)

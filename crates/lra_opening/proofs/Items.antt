@@ -1,8 +1,9 @@
 -- The items of a block, one by one: where all are stopped by one of them.
 use Rattle.std.proofs.Common.{◌≡◌, ℕ, suc, List, [], ◌∷◌, sym, subst}
 use Rattle.lra_program.specs.Program as program
-use Rattle.lra_program.specs.Program.{declaration, statement}
-use Rattle.lra_program.specs.Sites.{Site, plain_site, given_events, stmt_events, items_events}
+use Rattle.lra_program.specs.declared.arrays.Array.{Array}
+use Rattle.lra_program.specs.Program.{declaration, array, statement}
+use Rattle.lra_program.specs.Sites.{Site, Event, plain_site, given_events, stmt_events, items_events}
 use Rattle.lra_opening.specs.declared.points.Limit.{Limit}
 use Rattle.lra_opening.specs.declared.frame.Frame.{Frame}
 use Rattle.lra_opening.specs.Limits.{Progress, passed, stopped, walk}
@@ -33,6 +34,18 @@ module _ (P : program.Program) (path : List ℕ) (r : Frame) (S : List Site) (al
       declaration_at_others W x g h = items_stopped (declaration d b) (stopped x) e
           (third_stopped S V W (plain_site path d.label r.live ∷ []) (given_events (inside P path r) path (suc r.live) d.rvalue) (items_events (inside P path r) path (suc r.live) b) x point
           g (subst (λ z. walk W (items_events (inside P path r) path z b) ≡ stopped x) same h))
+
+  -- behind an array's declarator
+  module _ (at : ℕ) (a : Array) (b : program.BlockItems) (e : all ≡ array at a b) where
+    abbrev own : List Event
+    own = plain_site path at r.live ∷ []
+
+    pub array_at_point : (x : Limit) → walk S own ≡ stopped x → walk S (items_events (inside P path r) path r.live all) ≡ stopped x
+    array_at_point x h = items_stopped (array at a b) (stopped x) e (walk_stop S own (items_events (inside P path r) path r.live b) x h)
+
+    pub array_at_others : (V : List Site) (x : Limit) → walk S own ≡ passed V → walk V (items_events (inside P path r) path r.live b) ≡ stopped x
+        → walk S (items_events (inside P path r) path r.live all) ≡ stopped x
+    array_at_others V x f h = items_stopped (array at a b) (stopped x) e (second_stopped S V own (items_events (inside P path r) path r.live b) x f h)
 
   -- behind a statement
   module _ (s : program.Stmt) (b : program.BlockItems) (e : all ≡ statement s b) where

@@ -3,18 +3,20 @@ use Rattle.std.proofs.Common.{◌≡◌, ℕ, suc, ◌+◌, ◌<◌, ◌≤◌, 
 use Rattle.std.proofs.lemmas.List.{drop_all}
 use Rattle.lra_base.specs.Limits.{greatest_live}
 use Rattle.lra_program.specs.Program as program
-use Rattle.lra_program.specs.Program.{no_more, declaration, statement}
+use Rattle.lra_program.specs.Program.{no_more, declaration, array, statement}
 use Rattle.lra_program.specs.Sites.{live_behind}
+use Rattle.lra_program.specs.declared.arrays.Array.{Array}
 use Rattle.lra_program.specs.declared.program.Declarator.{Declarator}
 use Rattle.lra_program.specs.declared.program.Stmt.{Stmt}
 use Rattle.lra_program.specs.declared.program.BlockItem.{BlockItem}
 use Rattle.lra_program.specs.declared.program.BlockItem as code_item
 use Rattle.lra_program.specs.ProgramViews.{item_view, items_of}
-use Rattle.lra_opening.proofs.Shown.{shown_declaration, shown_statement}
+use Rattle.lra_opening.proofs.Shown.{shown_declaration, shown_array, shown_statement}
 
 pub live_low : (n : ℕ) (b : program.BlockItems) → n ≤ live_behind n b
 live_low n no_more = omega arith
 live_low n (declaration d b) = let h = live_low (suc n) b in omega arith
+live_low n (array at a b) = live_low n b
 live_low n (statement s b) = live_low n b
 
 abbrev pub behind_items : ℕ → List BlockItem → ℕ
@@ -30,6 +32,10 @@ declared_behind items i n n' x d l e f same = rw (items_at items i x l e, f, sho
 pub stated_behind : (items : List BlockItem) (i n : ℕ) (x : BlockItem) (s : Stmt) → i < length items → x ≡ get_or items i x → x ≡ code_item.Statement s
     → behind_items n (drop (i + 1) items) ≡ behind_items n (drop i items)
 stated_behind items i n x s l e f = rw (items_at items i x l e, f, shown_statement s (items_of (map item_view (drop (i + 1) items)))) refl
+
+pub filled_behind : (items : List BlockItem) (i n : ℕ) (x : BlockItem) (at : ℕ) (a : Array) → i < length items → x ≡ get_or items i x
+    → x ≡ code_item.Array at a → behind_items n (drop (i + 1) items) ≡ behind_items n (drop i items)
+filled_behind items i n x at a l e f = rw (items_at items i x l e, f, shown_array at a (items_of (map item_view (drop (i + 1) items)))) refl
 
 -- where the number no longer fits
 pub beyond : (items : List BlockItem) (i n whole : ℕ) (x : BlockItem) (d : Declarator) → i < length items → x ≡ get_or items i x → x ≡ code_item.Declaration d

@@ -9,7 +9,7 @@ use Rattle.lra_program.specs.declared.program.BlockItems.{BlockItems}
 use Rattle.lra_program.specs.declared.program.Cond.{Cond}
 use Rattle.lra_program.specs.ProgramViews.{stmt_view}
 use Rattle.lra_opening.specs.Inlining.{IsLone}
-use Rattle.lra_opening.proofs.Shown.{shown_block, shown_assign, shown_call, shown_if, shown_loop, shown_for, shown_return, shown_switch}
+use Rattle.lra_opening.proofs.Shown.{shown_block, shown_assign, shown_write, shown_call, shown_if, shown_loop, shown_for, shown_return, shown_switch}
 
 module _ (s : Stmt) (c : Stmt) (t : program.Stmt) (e : s ≡ c) (f : stmt_view c ≡ t) where
   not_lone : IsLone (stmt_view s) → IsLone t
@@ -28,6 +28,7 @@ module _ (s : Stmt) (lone : IsLone (stmt_view s))
   opened_is_other (Stmt-F.Nothing at) e = no_nothing at e
   opened_is_other (Stmt-F.Block b end) e = not_lone s _ _ e (shown_block b end) lone
   opened_is_other (Stmt-F.Assign at x a) e = not_lone s _ _ e (shown_assign at x a) lone
+  opened_is_other (Stmt-F.Write at x a) e = not_lone s _ _ e (shown_write at x a) lone
   opened_is_other (Stmt-F.Call at c) e = not_lone s _ _ e (shown_call at c) lone
   opened_is_other (Stmt-F.If at c a b) e = not_lone s _ _ e (shown_if at c a b) lone
   opened_is_other (Stmt-F.Loop at c a b) e = not_lone s _ _ e (shown_loop at c a b) lone

@@ -2,7 +2,7 @@
 use Rattle.std.proofs.Common.{◌≡◌, ℕ, ◌+◌, ◌≤◌, Some, List, [], ◌∷◌, ◌++◌, map, length, Result, Ok, Err, IfOk, refl, sym, ap, ◌∙◌, subst}
 use Rattle.std.proofs.lemmas.List.{map-append}
 use Rattle.lra_base.specs.Limits.{greatest_live}
-use Rattle.lra_program.specs.Program.{Program, BlockItems, result, switch, Cases}
+use Rattle.lra_program.specs.Program.{Program, BlockItems, switch, Cases}
 use Rattle.lra_program.specs.Step.{keep}
 use Rattle.lra_program.specs.Sites.{Site, plain_site, call_events}
 use Rattle.lra_program.specs.ProgramViews.{expr_view, call_view, item_view, items_of, case_view, cases_of}
@@ -29,7 +29,8 @@ use Rattle.lra_opening.specs.declared.places.Place.TheVariants as place
 use Rattle.lra_opening.specs.declared.places.Forked as forked_type
 use Rattle.lra_opening.specs.declared.places.Forked.TheVariants as forked
 use Rattle.lra_opening.specs.Limits.{walk, passed, stopped}
-use Rattle.lra_opening.specs.Building.{CallStands, WritesBody, WritesRvalue}
+use Rattle.lra_opening.specs.Building.{StmtStands, CallStands, WritesBody}
+use Rattle.lra_opening.specs.Inlining.{body_of, WritesCallOf}
 use Rattle.lra_opening.proofs.Shown.{shown_tree}
 use Rattle.lra_opening.specs.Open.{Due, due, a_stmt, all_items, part_view, Closes, Forks, ItemsLoop, SwitchLoop, IsOpen, IsWritten, AreOpen, AreUnderWay, Leads, Stops, StopsAs, StandsAs}
 
@@ -73,8 +74,9 @@ module _ (P : Program) where
 
     pub body_next : (q : ℕ) (x : Repeated) (g : code.Node) → IsOpen P whole under (record { frame = f; place = place.Forked (forked.Step q x) })
         → IsWritten P under (node_view g) n V → path ≡ under.path
-        → Leads P whole (next.Opens (record { frame = f; place = place.Forked (forked.Body q x.cond g) })
-        (record f { breaks = Some f.live; continues = Some f.live }) (part.Stmt x.body)) path V
+        → IsOpen P whole (due (a_stmt (body_of x)) path (record f { breaks = Some f.live; continues = Some f.live }) V)
+        (record { frame = f; place = place.Forked (forked.Body q x.cond g) })
+        × StmtStands P (record f { breaks = Some f.live; continues = Some f.live }) (body_of x)
     body_next q x g o w e = rw (e ∙ o.path, o.frame) (
       record {
         frame = refl;
@@ -172,16 +174,16 @@ module _ (P : Program) where
       body_there = subst (λ z. WritesBody P z f from.caller.receiver (call_view from.call.now) whole.before g n V) (sym o.continues.path)
           (subst (λ z. WritesBody P whole.path z from.caller.receiver (call_view from.call.now) whole.before g n V) (sym o.frame) (o.continues.writes g n V w))
 
-      whole_call : (h : Node) (U : List Site) → WritesRvalue P from.path f from.caller.point from.caller.receiver whole.before (result (call_view from.call.now)) h U → IsWritten P whole h f.live U
+      whole_call : (h : Node) (U : List Site) → WritesCallOf P from.path f from.caller whole.before (call_view from.call.now) h U → IsWritten P whole h f.live U
       whole_call h U y = rw o.continues.is (
-        subst (λ z. WritesRvalue P z whole.frame from.caller.point from.caller.receiver whole.before (result (call_view from.call.now)) h U) o.continues.path
-            (subst (λ z. WritesRvalue P from.path z from.caller.point from.caller.receiver whole.before (result (call_view from.call.now)) h U) o.frame y),
+        subst (λ z. WritesCallOf P z whole.frame from.caller whole.before (call_view from.call.now) h U) o.continues.path
+            (subst (λ z. WritesCallOf P from.path z from.caller whole.before (call_view from.call.now) h U) o.frame y),
         ap (λ z. z.live) o.frame,
       )
 
       pub callee_closes : (x : code.Node) (p : List ℕ) (U : List Site) → p ≡ from.path
           → ((S : List Site) → WritesBody P from.path f from.caller.receiver (call_view from.call.now) S g n V
-          → WritesRvalue P from.path f from.caller.point from.caller.receiver S (result (call_view from.call.now)) (node_view x) U)
+          → WritesCallOf P from.path f from.caller S (call_view from.call.now) (node_view x) U)
           → Leads P whole (next.Written (record { node = x; live = f.live })) p U
       callee_closes x p U back h = (whole_call (node_view x) U (h whole.before body_there), back ∙ o.continues.path)
 

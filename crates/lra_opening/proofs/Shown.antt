@@ -2,7 +2,9 @@
 use Rattle.std.proofs.Common.{◌≡◌, ℕ, map, Option, Some, ap, ◌∙◌, rules, Box, Vec, Global}
 use Rattle.lra_program.specs.Program as program
 use Rattle.lra_operations.specs.Graph as graph
+use Rattle.lra_program.specs.declared.arrays.Array.{Array}
 use Rattle.lra_program.specs.declared.program.Variable.{Variable}
+use Rattle.lra_program.specs.declared.program.Element.{Element}
 use Rattle.lra_program.specs.declared.program.Cond.{Cond}
 use Rattle.lra_program.specs.declared.program.Rvalue.{Rvalue}
 use Rattle.lra_program.specs.declared.program.Rvalue.TheVariants as code_rvalue
@@ -21,7 +23,8 @@ use Rattle.lra_operations.specs.declared.graph.Op.{Op}
 use Rattle.lra_operations.specs.declared.graph.Node.{the_lemmas as node_lemmas}
 use Rattle.lra_operations.specs.declared.graph.Node as code_node
 use Rattle.lra_operations.specs.declared.graph.Arm as code_arm
-use Rattle.lra_program.specs.ProgramViews.{variable_view, expr_view, cond_view, call_view, rvalue_view, given_view, declarator_view, stmt_view, item_view, items_of, items_view, case_view, cases_of}
+use Rattle.lra_program.specs.ProgramViews.{variable_view, expr_view, element_view, cond_view, call_view, rvalue_view, given_view, declarator_view}
+use Rattle.lra_program.specs.ProgramViews.{stmt_view, item_view, items_of, items_view, case_view, cases_of}
 use Rattle.lra_operations.specs.GraphViews.{op_view, node_view, arm_view}
 use Rattle.lra_opening.specs.Open.{entry_part}
 
@@ -49,6 +52,9 @@ shown_items b = search (rules, items_lemmas)
 pub shown_declaration : (d : Declarator) (rest : program.BlockItems) → item_view (code_item.Declaration d) rest ≡ program.declaration (declarator_view d) rest
 shown_declaration d rest = search (rules, item_lemmas)
 
+pub shown_array : (at : ℕ) (a : Array) (rest : program.BlockItems) → item_view (code_item.Array at a) rest ≡ program.array at a rest
+shown_array at a rest = search (rules, item_lemmas)
+
 pub shown_statement : (s : Stmt) (rest : program.BlockItems) → item_view (code_item.Statement s) rest ≡ program.statement (stmt_view s) rest
 shown_statement s rest = search (rules, item_lemmas)
 
@@ -63,6 +69,9 @@ shown_block b at = search (rules, stmt_lemmas)
 
 pub shown_assign : (at : ℕ) (x : Variable) (e : Rvalue) → stmt_view (code.Assign at x e) ≡ program.assign at (variable_view x) (rvalue_view e)
 shown_assign at x e = search (rules, stmt_lemmas)
+
+pub shown_write : (at : ℕ) (x : Element) (e : Rvalue) → stmt_view (code.Write at x e) ≡ program.write at (element_view x) (rvalue_view e)
+shown_write at x e = search (rules, stmt_lemmas)
 
 pub shown_call : (at : ℕ) (c : Call) → stmt_view (code.Call at c) ≡ program.call at (call_view c)
 shown_call at c = search (rules, stmt_lemmas)

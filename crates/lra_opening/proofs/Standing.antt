@@ -1,9 +1,11 @@
 -- Where a part of a well-formed program stands, its own parts stand.
 use Rattle.std.proofs.Common.{◌≡◌, ℕ, suc, ◌+◌, ◌≤◌, length, Option, Some, None, true, false, slice_get, refl, sym, ap, ◌∙◌, arith}
 use Rattle.std.proofs.lemmas.Option.{none-some, same_Some}
-use Rattle.lra_program.specs.Program.{Variable, Cond, Call, Rvalue, result, Declarator, Stmt, block, assign, call, if, loop, for, break, continue, return, BlockItems, no_more, declaration}
+use Rattle.lra_program.specs.Program.{Variable, Element, Cond, Call, Rvalue, result, Declarator, Stmt, block, assign, write, call, if, loop, for}
+use Rattle.lra_program.specs.Program.{break, continue, return, BlockItems, no_more, declaration, array}
 use Rattle.lra_program.specs.Program.{statement, switch, Cases, labelled, stated, Expr, Function, Program}
 use Rattle.lra_base.specs.declared.case_labels.CaseLabel.{CaseLabel}
+use Rattle.lra_program.specs.declared.arrays.Array.{Array}
 use Rattle.lra_program.specs.Sites.{live_behind}
 use Rattle.lra_program.specs.WellFormed.{Jumps, no_jumps, in_loop, in_switch, IsWellFormed}
 use Rattle.lra_agreement.proofs.DistinctSites.{all_at, main_at}
@@ -28,6 +30,7 @@ stands_as r X Y f x = record {
 both_live : (base own live : ℕ) (b : BlockItems) → base + own ≤ live → base + live_behind own b ≤ live_behind live b
 both_live base own live no_more l = l
 both_live base own live (declaration d b) l = both_live base (suc own) (suc live) b (omega arith)
+both_live base own live (array at a b) l = both_live base own live b l
 both_live base own live (statement s b) l = both_live base own live b l
 
 module _ (P : Program) (r : Frame) where
@@ -36,6 +39,9 @@ module _ (P : Program) (r : Frame) where
 
   pub assign_stands : (at : ℕ) (v : Variable) (e : Rvalue) → StmtStands P r (assign at v e) → GivenStands P r (Some e)
   assign_stands at v e x = stands_as r _ _ (λ b n g. (at, g.1)) x
+
+  pub write_stands : (at : ℕ) (x : Element) (e : Rvalue) → StmtStands P r (write at x e) → GivenStands P r (Some e)
+  write_stands at x e s = stands_as r _ _ (λ b n g. (at, g.1)) s
 
   pub call_stands : (at : ℕ) (c : Call) → StmtStands P r (call at c) → CallStands P r c
   call_stands at c x = stands_as r _ _ (λ b n g. (at, g)) x
@@ -54,6 +60,9 @@ module _ (P : Program) (r : Frame) where
 
   pub others_stand : (s : Stmt) (b : BlockItems) → ItemsStand P r (statement s b) → ItemsStand P r b
   others_stand s b x = stands_as r _ _ (λ l n g. g.1) x
+
+  pub array_stands : (at : ℕ) (a : Array) (b : BlockItems) → ItemsStand P r (array at a b) → ItemsStand P r b
+  array_stands at a b x = stands_as r _ _ (λ l n g. g) x
 
   pub result_stands : (c : Call) → GivenStands P r (Some (result c)) → CallStands P r c
   result_stands c x = stands_as r _ _ (λ l n g. g) x

@@ -1,27 +1,30 @@
 -- Each form of a statement, written out behind the points before it.
 use Rattle.std.proofs.Common.{◌≡◌, ℕ, suc, ◌+◌, ◌≤◌, List, [], ◌∷◌, ◌++◌, length, Option, Some, None, Bool, true, false, slice_get, refl, sym, ap, ◌∙◌, subst, append_assoc}
 use Rattle.std.proofs.lemmas.Option.{none-some, same_Some}
-use Rattle.lra_program.specs.Program.{Variable, Expr, Cond, Call, Rvalue, value, result, Declarator, Stmt, absent, nothing, block, assign, call, if, loop, for}
-use Rattle.lra_program.specs.Program.{break, continue, return, assert, assume, switch, Cases, no_cases, labelled, stated}
+use Rattle.lra_program.specs.Program.{Variable, Expr, Element, Cond, Call, Rvalue, value, result, Declarator, Stmt, absent, nothing, block, assign, write}
+use Rattle.lra_program.specs.Program.{call, if, loop, for, break, continue, return, assert, assume, switch, Cases, no_cases, labelled, stated}
 use Rattle.lra_base.specs.declared.case_labels.CaseLabel.{CaseLabel}
-use Rattle.lra_program.specs.Program.{BlockItems, no_more, declaration, statement, Function, Program}
-use Rattle.lra_program.specs.Value.{index_of}
+use Rattle.lra_program.specs.Program.{BlockItems, no_more, declaration, array, statement, Function, Program}
+use Rattle.lra_program.specs.declared.arrays.Array.{Array}
+use Rattle.lra_program.specs.Value.{Argument, index_of}
 use Rattle.lra_program.specs.Step as step
-use Rattle.lra_program.specs.Step.{append, give, give_any, keep, test, arguments_for, behind_main}
+use Rattle.lra_program.specs.Step.{Op, append, fill, give, give_element, give_any, push, push_for, keep, test, arguments_for, behind_main}
 use Rattle.lra_base.specs.declared.number_types.NumberType.{NumberType}
 use Rattle.lra_program.specs.declared.receivers.Receiver.{Receiver}
-use Rattle.lra_program.specs.Receivers.{variable_at, nobody, behind_result}
+use Rattle.lra_program.specs.Receivers.{variable_at, waiting_in, nobody, behind_result}
 use Rattle.lra_operations.specs.Graph.{Exit, broken, continued, returned, Node, empty, point, act, check, seq, choose, leave, Arms, no_arms, entry, arm}
 use Rattle.lra_program.specs.Sites.{Site, comes, plain_site, live_behind, rvalue_events, given_events, stmt_events, cases_events, items_events, function_events, call_events}
 use Rattle.lra_operations.specs.Inlined as inlined
-use Rattle.lra_operations.specs.Inlined.{spot_of, Has, HasSite, callee, Inl, InlCases, InlAll, Declares, Loops, Gives, as_nothing, as_block, as_absent, as_assign, as_call, as_if, as_loop}
+use Rattle.lra_operations.specs.Inlined.{spot_of, Has, HasSite, callee, Inl, InlCases, InlAll, Declares, Loops, Gives, Calls, as_nothing, as_block, as_absent}
+use Rattle.lra_operations.specs.Inlined.{as_assign, as_write, as_write_call, as_call, as_if, as_loop}
 use Rattle.lra_operations.specs.Inlined.{as_for, as_break, as_continue, as_switch, as_no_cases, as_labelled, as_stated, switch_node}
-use Rattle.lra_operations.specs.Inlined.{as_return, as_return_value, as_return_call, as_end, as_end_value, as_end_call, as_assert, as_assume, as_none, as_declaration, as_statement, as_fresh, as_given}
-use Rattle.lra_operations.specs.Inlined.{is_loop, as_value, as_result, loop_node, call_node, return_node}
+use Rattle.lra_operations.specs.Inlined.{as_return, as_return_value, as_return_call, as_end, as_end_value, as_end_call, as_assert}
+use Rattle.lra_operations.specs.Inlined.{as_assume, as_none, as_declaration, as_array, as_statement, as_fresh, as_given}
+use Rattle.lra_operations.specs.Inlined.{is_loop, as_value, as_result, is_call, loop_node, callee_node, return_node}
 use Rattle.lra_opening.specs.declared.frame.Frame.{Frame}
 use Rattle.lra_opening.specs.Limits.{walk, passed}
 use Rattle.lra_opening.specs.Building.{any_left, value_left, call_left, back_length, receiver_behind, IsFrame, Begins, inside, WritesStmt, WritesItems}
-use Rattle.lra_opening.specs.Building.{WritesRvalue, WritesLoop, WritesDeclared, Writes}
+use Rattle.lra_opening.specs.Building.{WritesRvalue, WritesCall, WritesLoop, WritesDeclared, Writes}
 use Rattle.lra_opening.specs.Building.{cases_frame, WritesCases, length_left, LeavesLoop}
 use Rattle.lra_opening.proofs.Walking.{walk_then, begins_walk, point_there, one_longer}
 
@@ -123,6 +126,42 @@ module _ (P : Program) (path : List ℕ) (r : Frame) where
         (variable_at (index_of f.here.base x.slot) x.number_type) s h (length U) i
         (one_longer S V (site at N false) e) (ap (λ z. variable_at z x.number_type) (j ∙ ap (λ z. index_of z x.slot) (sym is.base))) (y.placed T f b is) in
         rw (a, i) (as_assign (has_point S V T f at N false e b' is) y');
+  }
+
+  -- an element that gets a value, and one whose value a call gives
+  pub write_written : (S U : List Site) (q at : ℕ) (x : Element) (e : Expr) (h g : Node) → q ≡ length S → Pointed S (site at N false) U
+      → h ≡ act q (give_element r.base x e) → g ≡ seq (point q) h → WritesStmt P path r S (write at x (value e)) g U
+  write_written S U q at x e h g i pointed a a' = record {
+    walked = pointed;
+    placed = λ T f b is.
+        rw (a', a, i, ← is.base, one_longer S U (site at N false) pointed) (as_write (has_point S U T f at N false pointed b is));
+  }
+
+  calls_as : (T : List Site) (f : inlined.Frame) (n k k' m m' : ℕ) (x : Receiver) (gives gives' : List Argument → Op) (c : Call) (h : Node) (u : ℕ) → k ≡ k'
+      → m ≡ m' → gives ≡ gives' → Calls P T (spot_of f n k) m x gives c h u → Calls P T (spot_of f n k') m' x gives' c h u
+  calls_as T f n k k' m m' x gives gives' c h u a b d y = subst (λ z. Calls P T (spot_of f n k') m' x z c h u) d
+      (subst (λ z. Calls P T (spot_of f n k') z x gives c h u) b (subst (λ z. Calls P T (spot_of f n z) m x gives c h u) a y))
+
+  pub write_called : (S V U : List Site) (q at : ℕ) (x : Element) (c : Call) (h g : Node) → q ≡ length S → Pointed S (site at N false) V
+      → WritesCall P path r q (waiting_in x.array) (push_for r.base x) V c h U
+      → g ≡ seq (point q) h → WritesStmt P path r S (write at x (result c)) g U
+  write_called S V U q at x c h g i e y a = record {
+    walked = walk_then S (plain_site path at N ∷ []) (inside P path r path N c) V (passed U) e y.walked;
+    placed = λ T f b is.
+        let b' = begins_join V U T (begins_walk V (inside P path r path N c) U y.walked) b in
+        let y' = calls_as T f N q (length S) (length V) (suc (length S)) (waiting_in x.array) (push_for r.base x) (push_for f.here.base x) c h (length U) i
+        (one_longer S V (site at N false) e) (ap (λ z. push_for z x) (sym is.base)) (y.placed T f b is) in
+        rw (a, i) (as_write_call (has_point S V T f at N false e b' is) y');
+  }
+
+  -- a call whose arguments are given alone gives a receiver its value
+  pub result_given : (S U : List Site) (q : ℕ) (x : Receiver) (c : Call) (g : Node) → WritesCall P path r q x (push r.base) S c g U
+      → WritesRvalue P path r q x S (result c) g U
+  result_given S U q x c g y = record {
+    walked = y.walked;
+    placed = λ T f b is. as_result
+        (calls_as T f N q q (length S) (length S) x (push r.base) (push f.here.base) c g (length U) refl refl
+        (ap (λ z. push z) (sym is.base)) (y.placed T f b is));
   }
 
   pub call_written : (S V U : List Site) (q at : ℕ) (c : Call) (h g : Node) → q ≡ length S → Pointed S (site at N false) V → WritesRvalue P path r q nobody V
@@ -396,6 +435,18 @@ module _ (P : Program) (path : List ℕ) (r : Frame) where
             (y'.placed T f bs (with_live (suc N) is)));
       }
 
+  pub array_written : (S V U : List Site) (q at : ℕ) (x : Array) (b : BlockItems) (h j k g : Node) → q ≡ length S → Pointed S (site at N false) V
+      → WritesItems P path r V b k U → h ≡ act q (fill x) → j ≡ seq (point q) h → g ≡ seq j k → WritesItems P path r S (array at x b) g U
+  array_written S V U q at x b h j k g i e y a a' a'' =
+      let rest = items_events (inside P path r) path N b in
+      record {
+        walked = walk_then S (plain_site path at N ∷ []) rest V (passed U) e y.walked;
+        placed = λ T f bs is.
+            let bs' = begins_join V U T (begins_walk V rest U y.walked) bs in
+            let y' = subst (λ z. InlAll P T (spot_of f N z) b k (live_behind N b) (length U)) (one_longer S V (site at N false) e) (y.placed T f bs is) in
+            rw (a'', a', a, i) (as_array (has_point S V T f at N false e bs' is) y');
+      }
+
   pub fresh_written : (S : List Site) (q : ℕ) (t : NumberType) (g : Node) → g ≡ act q (append t) → WritesDeclared P path r q S t None g S
   fresh_written S q t g a = record { walked = refl; placed = λ T f b is. rw a as_fresh }
 
@@ -410,7 +461,8 @@ module _ (P : Program) (path : List ℕ) (r : Frame) where
   value_written S q x e g a = record { walked = refl; placed = λ T f b is. rw (a, ← is.base) as_value }
 
   -- a call that may still be made
-  pub result_written : (S V U : List Site) (q k n more : ℕ) (x : Receiver) (c : Call) (fn : Function) (h g : Node) → r.calls_left ≡ suc more → slice_get
+  pub result_written : (S V U : List Site) (q k n more : ℕ) (x : Receiver) (gives : List Argument → Op) (c : Call) (fn : Function) (h g : Node)
+      → r.calls_left ≡ suc more → slice_get
       P.functions c.function ≡ Some fn
       → length c.arguments ≡ length fn.parameters
       → WritesItems P (c.label ∷ path) (record {
@@ -426,9 +478,9 @@ module _ (P : Program) (path : List ℕ) (r : Frame) where
       fn.body h V
       → n ≡ live_behind (N + length fn.parameters) fn.body → k ≡ length V → Pointed V
       (record { path = c.label ∷ path; label = fn.end; live = n; asserts = false }) U
-      → g ≡ call_node q k r.base N (behind_result fn.result_type x) (arguments_for fn.parameters c.arguments) (length fn.parameters) h → WritesRvalue P path r
-      q x S (result c) g U
-  result_written S V U q k n more x c fn h g left found wide y same i e a =
+      → g ≡ callee_node q k N (behind_result fn.result_type x) (gives (arguments_for fn.parameters c.arguments)) (length fn.parameters) h
+      → WritesCall P path r q x gives S c g U
+  result_written S V U q k n more x gives c fn h g left found wide y same i e a =
       let m = live_behind (N + length fn.parameters) fn.body in
       let last : Site = record { path = c.label ∷ path; label = fn.end; live = m; asserts = false } in
       let e' : Pointed V last U = subst (λ z. Pointed V (record { path = c.label ∷ path; label = fn.end; live = z; asserts = false }) U) same e in
@@ -448,8 +500,8 @@ module _ (P : Program) (path : List ℕ) (r : Frame) where
               back = Some r.live;
             }) (callee f N (behind_result fn.result_type x) c) = record
             { path = ap (λ z. c.label ∷ z) is.path; base = refl; breaks = refl; continues = refl; receiver = refl; back = refl } in
-            rw (a, i, ← is.base, one_longer V U last e')
-            (as_result {s = spot_of f N q} found wide (y.placed T (callee f N (behind_result fn.result_type x) c)
+            rw (a, i, one_longer V U last e')
+            (is_call {s = spot_of f N q} found wide (y.placed T (callee f N (behind_result fn.result_type x) c)
             (begins_join V U T (pointed_begins V U last e') b) is')
             (rw is.path (point_there V U T last e' b)));
       }

@@ -5,7 +5,8 @@ use Rattle.std.specs.Prelude.{slice_get}
 use Rattle.lra_program.specs.Program.{Expr, Cond, Call, Rvalue, Stmt, loop, break, continue, return, Cases, BlockItems}
 use Rattle.lra_program.specs.Program.{Function, Program}
 use Rattle.lra_program.specs.Step as step
-use Rattle.lra_program.specs.Step.{give, give_any, keep, behind_main}
+use Rattle.lra_program.specs.Step.{Op, give, give_any, keep, behind_main}
+use Rattle.lra_program.specs.Value.{Argument}
 use Rattle.lra_base.specs.declared.number_types.NumberType.{NumberType}
 use Rattle.lra_program.specs.declared.receivers.Receiver.{Receiver}
 use Rattle.lra_program.specs.Receivers.{behind_result}
@@ -129,6 +130,11 @@ module _ (P : Program) (path : List ℕ) (r : Frame) where
   abbrev pub WritesRvalue : ℕ → Receiver → List Site → Rvalue → Node → List Site → Type 0
   WritesRvalue q x S e g U = Writes P path r (rvalue_events inside path r.live e) S U
       (λ T f. inlined.Gives P T (inlined.spot_of f r.live q) (length S) x e g (length U))
+
+  -- a call for the receiver, at the point q, whose arguments an operation gives
+  abbrev pub WritesCall : ℕ → Receiver → (List Argument → Op) → List Site → Call → Node → List Site → Type 0
+  WritesCall q x gives S c g U = Writes P path r (inside path r.live c) S U
+      (λ T f. inlined.Calls P T (inlined.spot_of f r.live q) (length S) x gives c g (length U))
 
   -- a loop behind its own point q
   abbrev pub WritesLoop : ℕ → List Site → Cond → Stmt → Stmt → Node → List Site → Type 0

@@ -1,22 +1,27 @@
 -- What is owed for a part, by what stands around it in code, and by the points before it and behind it.
-use Rattle.std.specs.Prelude.{◌≡◌, ℕ, List, [], ◌∷◌, map, true, ⊤, Vec}
+use Rattle.std.specs.Prelude.{◌≡◌, ℕ, List, [], ◌∷◌, map, true, ⊤, Vec, Option, Some, None, option_map}
 use Rattle.std.specs.declared.alloc.Global.{Global}
 use Rattle.lra_operations.specs.declared.graph.Node as code
 use Rattle.lra_operations.specs.declared.graph.Site as code_site
 use Rattle.lra_program.specs.declared.receivers.Receiver.{Receiver}
+use Rattle.lra_program.specs.Step.{Op, push, push_for}
+use Rattle.lra_program.specs.Value.{Argument}
 use Rattle.lra_program.specs.declared.program.Expr as code_expr
 use Rattle.lra_program.specs.declared.program.CaseItem as code_case
-use Rattle.lra_program.specs.Program.{Call, Stmt, block, assign, call, if, loop, for, return, switch}
-use Rattle.lra_program.specs.Program.{result, BlockItems, Program}
-use Rattle.lra_operations.specs.Graph.{Exit}
+use Rattle.lra_program.specs.Program.{Call, Element, Stmt, block, assign, write, call, if, loop, for, return, switch}
+use Rattle.lra_program.specs.Program.{BlockItems, Program}
+use Rattle.lra_operations.specs.Graph.{Exit, Node}
 use Rattle.lra_program.specs.Sites.{Site, Event, comes, plain_site, stmt_events}
 use Rattle.lra_program.specs.Sites.{items_events, call_events}
-use Rattle.lra_program.specs.ProgramViews.{expr_view, cond_view, stmt_view, case_view, cases_of, program_view}
+use Rattle.lra_program.specs.ProgramViews.{expr_view, element_view, cond_view, stmt_view, case_view, cases_of}
+use Rattle.lra_program.specs.ProgramViews.{program_view}
 use Rattle.lra_operations.specs.GraphViews.{node_view, site_view}
 use Rattle.lra_opening.specs.Limits.{walk, passed, stopped}
 use Rattle.lra_opening.specs.Building as building
 use Rattle.lra_opening.specs.declared.points.Limit.{Limit}
 use Rattle.lra_opening.specs.declared.frame.Around.{Around}
+use Rattle.lra_opening.specs.declared.frame.Caller.{Caller}
+use Rattle.lra_opening.specs.declared.frame.Frame.{Frame}
 use Rattle.lra_opening.specs.declared.frame.Repeated.{Repeated}
 use Rattle.lra_opening.specs.declared.frame.Source.{Source}
 
@@ -30,11 +35,17 @@ abbrev pub program_of : Source → Program
 program_of source = program_view source.program.now
 
 -- loops, by what they repeat
+abbrev pub body_of : Repeated → Stmt
+body_of r = stmt_view r.body.now.value
+
+abbrev pub step_of : Repeated → Stmt
+step_of r = stmt_view r.step.now.value
+
 abbrev pub loop_of : ℕ → Repeated → Stmt
-loop_of at r = loop at (cond_view r.cond.now) (stmt_view r.body.now) (stmt_view r.step.now)
+loop_of at r = loop at (cond_view r.cond.now) (body_of r) (step_of r)
 
 abbrev pub for_of : ℕ → BlockItems → Repeated → Stmt
-for_of at init r = for at init (cond_view r.cond.now) (stmt_view r.body.now) (stmt_view r.step.now)
+for_of at init r = for at init (cond_view r.cond.now) (body_of r) (step_of r)
 
 -- a `switch`, by its expression and its cases
 abbrev pub switch_of : ℕ → code_expr.Expr → List code_case.CaseItem → Stmt
@@ -53,6 +64,7 @@ IsSimple s = ⊤
 abbrev pub IsLone : Stmt → Type 0
 IsLone (block items end) = ⊥
 IsLone (assign label x e) = ⊥
+IsLone (write label x e) = ⊥
 IsLone (call label c) = ⊥
 IsLone (if label c a b) = ⊥
 IsLone (loop label c a step) = ⊥
@@ -60,6 +72,19 @@ IsLone (for label init c a step) = ⊥
 IsLone (return label e) = ⊥
 IsLone (switch label e cs) = ⊥
 IsLone s = ⊤
+
+-- what gives a call's arguments: behind the index of the element that the value is for, where it is for one
+abbrev pub gives_for : ℕ → Option Element → List Argument → Op
+gives_for base None = push base
+gives_for base (Some x) = push_for base x
+
+abbrev pub gives_of : ℕ → Caller → List Argument → Op
+gives_of base caller = gives_for base (option_map (λ x. element_view x.now) caller.element)
+
+-- the call, as this caller makes it
+abbrev pub WritesCallOf : Program → List ℕ → Frame → Caller → List Site → Call → Node → List Site → Type 0
+WritesCallOf P path r caller S c g U =
+    building.WritesCall P path r caller.point caller.receiver (gives_of r.base caller) S c g U
 
 module _ (at : Around) where
   abbrev pub program_around : Program
@@ -143,8 +168,9 @@ module _ (at : Around) where
           building.WritesItems program_around at.path.now at.frame (points_in before) b (node_view g) (points_in after)
 
       -- g is the call's tree, where h is its callee's body, wherever that begins
-      abbrev pub IsCall : ℕ → Receiver → Call → code.Node → ℕ → code.Node → Type 0
-      IsCall q x c h n g =
+      abbrev pub IsCall : Caller → Call → code.Node → ℕ → code.Node → Type 0
+      IsCall caller c h n g =
           (S : List Site)
-          → building.WritesBody program_around at.path.now at.frame x c S (node_view h) n (points_in before)
-          → building.WritesRvalue program_around at.path.now at.frame q x S (result c) (node_view g) (points_in after)
+          → building.WritesBody program_around at.path.now at.frame caller.receiver c S (node_view h) n
+          (points_in before)
+          → WritesCallOf program_around at.path.now at.frame caller S c (node_view g) (points_in after)

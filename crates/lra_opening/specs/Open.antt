@@ -6,7 +6,8 @@ use Rattle.lra_base.specs.declared.case_labels.CaseLabel.{CaseLabel}
 use Rattle.lra_program.specs.declared.program.CaseItem.{CaseItem}
 use Rattle.lra_operations.specs.declared.graph.Arm.{Arm}
 use Rattle.lra_program.specs.Program as resolved
-use Rattle.lra_program.specs.Program.{result, Declarator, declaration, BlockItems, Program, Cond}
+use Rattle.lra_program.specs.Program.{Declarator, declaration, array, BlockItems, Program, Cond}
+use Rattle.lra_program.specs.declared.arrays.Array as arrays
 use Rattle.lra_program.specs.Step.{append, keep}
 use Rattle.lra_program.specs.Sites.{Site, live_behind, plain_site, stmt_events, cases_events, items_events, call_events}
 use Rattle.lra_program.specs.ProgramViews.{expr_view, cond_view, call_view, stmt_view, declarator_view, item_view}
@@ -17,15 +18,15 @@ use Rattle.lra_operations.specs.GraphViews.{node_view, row, ArmPart, arm_view, a
 use Rattle.lra_operations.specs.Inlined.{loop_node, switch_node}
 use Rattle.lra_opening.specs.Limits.{walk, passed, stopped}
 use Rattle.lra_opening.specs.Building.{inside, call_left, ItemsStand, ItemStands, StmtStands, CasesStand, CallStands}
-use Rattle.lra_opening.specs.Building.{cases_frame, WritesStmt, WritesCases, WritesItems, WritesItem, WritesRvalue}
+use Rattle.lra_opening.specs.Building.{cases_frame, WritesStmt, WritesCases, WritesItems, WritesItem}
 use Rattle.lra_opening.specs.Building.{WritesLoop, WritesBody, StopsItem}
-use Rattle.lra_opening.specs.Inlining.{Points, points_in, program_around}
+use Rattle.lra_opening.specs.Inlining.{Points, points_in, body_of, step_of, program_around, WritesCallOf}
 use Rattle.lra_opening.specs.declared.points.Limit.{Limit}
 use Rattle.lra_opening.specs.declared.frame.Frame.{Frame}
 use Rattle.lra_opening.specs.declared.frame.Around.{Around}
 use Rattle.lra_opening.specs.declared.frame.Caller.{Caller}
 use Rattle.lra_opening.specs.declared.places.Part as part
-use Rattle.lra_opening.specs.declared.places.Part.TheVariants.{Stmt, Declaration, Items, Call, Rounds}
+use Rattle.lra_opening.specs.declared.places.Part.TheVariants.{Stmt, Declaration, Array, Items, Call, Rounds}
 use Rattle.lra_opening.specs.declared.places.ItemRow.{ItemRow}
 use Rattle.lra_opening.specs.declared.places.CalledFrom.{CalledFrom}
 use Rattle.lra_opening.specs.declared.places.Place as place
@@ -41,11 +42,12 @@ use Rattle.lra_opening.specs.declared.places.Written as written
 use Rattle.lra_opening.specs.declared.places.Next as next
 use Rattle.lra_opening.specs.declared.places.Next.TheVariants.{Written, Opens}
 
--- what is to be written out: a statement; a declarator with its variable; items; a call, for what calls; the rounds of
--- a loop behind its own point, by its body and its step
+-- what is to be written out: a statement; a declarator with its variable; one of an array, by its label; items; a call,
+-- for what calls; the rounds of a loop behind its own point, by its body and its step
 pub data Work : Type 0 where
   a_stmt : resolved.Stmt → Work
   a_declaration : Declarator → Work
+  an_array : ℕ → arrays.Array → Work
   all_items : BlockItems → Work
   a_call : Caller → resolved.Call → Work
   all_rounds : ℕ → Cond → resolved.Stmt → resolved.Stmt → Work
@@ -53,9 +55,10 @@ pub data Work : Type 0 where
 abbrev pub part_view : part.Part → Work
 part_view (Stmt s) = a_stmt (stmt_view s.now)
 part_view (Declaration d) = a_declaration (declarator_view d.now)
+part_view (Array at a) = an_array at a
 part_view (Items b) = all_items (items_of (map item_view b.now))
 part_view (Call caller c) = a_call caller (call_view c.now)
-part_view (Rounds q r) = all_rounds q (cond_view r.cond.now) (stmt_view r.body.now) (stmt_view r.step.now)
+part_view (Rounds q r) = all_rounds q (cond_view r.cond.now) (body_of r) (step_of r)
 
 -- work that is due: on this path, in this frame, behind these points
 pub record Due : Type 0 where
@@ -77,9 +80,9 @@ module _ (P : Program) where
   abbrev pub WrittenAs : Work → List ℕ → Frame → List Site → Node → ℕ → List Site → Type 0
   WrittenAs (a_stmt s) path r S g n V = WritesStmt P path r S s g V × (n ≡ r.live)
   WrittenAs (a_declaration d) path r S g n V = WritesItem P path r S (declaration d) g n V
+  WrittenAs (an_array at a) path r S g n V = WritesItem P path r S (array at a) g n V
   WrittenAs (all_items b) path r S g n V = WritesItems P path r S b g V × (n ≡ live_behind r.live b)
-  WrittenAs (a_call caller c) path r S g n V =
-      WritesRvalue P path r caller.point caller.receiver S (result c) g V × (n ≡ r.live)
+  WrittenAs (a_call caller c) path r S g n V = WritesCallOf P path r caller S c g V × (n ≡ r.live)
   WrittenAs (all_rounds q c a step) path r S g n V = WritesLoop P path r q S c a step g V
 
   abbrev pub IsWritten : Due → Node → ℕ → List Site → Type 0
@@ -89,6 +92,7 @@ module _ (P : Program) where
   abbrev pub StopsAs : Work → List ℕ → Frame → List Site → Limit → Type 0
   StopsAs (a_stmt s) path r S l = walk S (stmt_events (inside P path r) path r.live s) ≡ stopped l
   StopsAs (a_declaration d) path r S l = StopsItem P path r S (declaration d) l
+  StopsAs (an_array at a) path r S l = StopsItem P path r S (array at a) l
   StopsAs (all_items b) path r S l = walk S (items_events (inside P path r) path r.live b) ≡ stopped l
   StopsAs (a_call caller c) path r S l = walk S (call_events P r.calls_left path r.live c) ≡ stopped l
   StopsAs (all_rounds q c a step) path r S l =
@@ -101,6 +105,7 @@ module _ (P : Program) where
   abbrev pub StandsAs : Work → Frame → Type 0
   StandsAs (a_stmt s) r = StmtStands P r s
   StandsAs (a_declaration d) r = ItemStands P r (declaration d)
+  StandsAs (an_array at a) r = ItemStands P r (array at a)
   StandsAs (all_items b) r = ItemsStand P r b
   StandsAs (a_call caller c) r = CallStands P r c × (r.live ≤ greatest_live + 1)
   StandsAs (all_rounds q c a step) r =
@@ -186,7 +191,7 @@ module _ (P : Program) where
   ForkContinues whole under (OnFalse q c g) = Closes whole under
       (λ h. seq (point q) (choose q whole.frame.base (cond_view c.now) (node_view g) h)) whole.frame.live
   ForkContinues whole under (Step q r) = Forks whole under
-      (λ n V. due (a_stmt (stmt_view r.body.now)) whole.path
+      (λ n V. due (a_stmt (body_of r)) whole.path
       (record whole.frame { breaks = Some whole.frame.live; continues = Some whole.frame.live }) V)
       (λ g h. loop_node q whole.frame.base (cond_view r.cond.now) h g)
   ForkContinues whole under (Body q c g) = Closes whole under

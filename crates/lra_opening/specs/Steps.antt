@@ -1,9 +1,10 @@
 -- How many steps the writing out may still take: so it ends. Calls are counted as they are written out.
 use Rattle.std.specs.Prelude.{◌<◌, ℕ, zero, suc, ◌+◌, List, map, Option, Some, None, slice_get}
 use Rattle.std.specs.List.{sum_by}
-use Rattle.lra_program.specs.Program.{Call, Rvalue, value, result, Stmt, absent, nothing, block, assign, call}
+use Rattle.lra_program.specs.Program.{Call, Rvalue, value, result, Stmt, absent, nothing, block, assign, write, call}
 use Rattle.lra_program.specs.Program.{if, loop, for, break, continue, return, assert, assume, switch, Cases, no_cases}
-use Rattle.lra_program.specs.Program.{labelled, stated, BlockItems, no_more, declaration, statement, Function, Program}
+use Rattle.lra_program.specs.Program.{labelled, stated, BlockItems, no_more, declaration, array, statement, Function}
+use Rattle.lra_program.specs.Program.{Program}
 use Rattle.lra_program.specs.ProgramViews.{stmt_view, item_view, items_of, case_view, cases_of}
 use Rattle.lra_program.specs.declared.program.CaseItem.{CaseItem}
 use Rattle.lra_opening.specs.declared.frame.Frame.{Frame}
@@ -15,8 +16,8 @@ use Rattle.lra_opening.specs.declared.places.Forked.TheVariants.{OnTrue, Step}
 use Rattle.lra_opening.specs.declared.places.Open.{Open}
 use Rattle.lra_opening.specs.declared.places.Next as next
 use Rattle.lra_opening.specs.declared.places.Next.TheVariants.{Written, Opens}
-use Rattle.lra_opening.specs.Inlining.{program_around}
-use Rattle.lra_opening.specs.Open.{Work, a_stmt, a_declaration, all_items, a_call, all_rounds, part_view}
+use Rattle.lra_opening.specs.Inlining.{body_of, program_around}
+use Rattle.lra_opening.specs.Open.{Work, a_stmt, a_declaration, an_array, all_items, a_call, all_rounds, part_view}
 
 -- of parts, by what their calls take
 module _ (called : Call → ℕ) where
@@ -34,6 +35,7 @@ module _ (called : Call → ℕ) where
     stmt_steps (nothing at) = 1
     stmt_steps (block items end) = 3 + items_steps items
     stmt_steps (assign at x e) = 1 + rvalue_steps e
+    stmt_steps (write at x e) = 1 + rvalue_steps e
     stmt_steps (call at c) = 2 + called c
     stmt_steps (if at c a b) = 3 + (stmt_steps a + stmt_steps b)
     stmt_steps (loop at c a step) = 3 + (stmt_steps a + stmt_steps step)
@@ -54,6 +56,7 @@ module _ (called : Call → ℕ) where
     pub items_steps : BlockItems → ℕ
     items_steps no_more = 1
     items_steps (declaration d items) = 2 + (given_steps d.rvalue + items_steps items)
+    items_steps (array at a items) = 2 + items_steps items
     items_steps (statement a items) = 1 + (stmt_steps a + items_steps items)
 
 abbrev pub body_steps : (Call → ℕ) → Option Function → ℕ
@@ -69,6 +72,7 @@ module _ (P : Program) where
   abbrev pub work_steps : Frame → Work → ℕ
   work_steps r (a_stmt s) = stmt_steps (call_steps P r.calls_left) s
   work_steps r (a_declaration d) = 1 + given_steps (call_steps P r.calls_left) d.rvalue
+  work_steps r (an_array at a) = 1
   work_steps r (all_items b) = 1 + items_steps (call_steps P r.calls_left) b
   work_steps r (a_call caller c) = call_steps P r.calls_left c
   work_steps r (all_rounds q c a step) =
@@ -83,7 +87,7 @@ module _ (P : Program) where
   kind_left r (ItemsAt row) = work_steps r (all_items (items_of (map item_view row.rest.now)))
   kind_left r (CasesAt row) = cases_left r row.rest.now
   kind_left r (Forked (OnTrue b)) = 2 + work_steps r (a_stmt (stmt_view b.on_false.now))
-  kind_left r (Forked (Step q x)) = 2 + work_steps r (a_stmt (stmt_view x.body.now))
+  kind_left r (Forked (Step q x)) = 2 + work_steps r (a_stmt (body_of x))
   kind_left r (Init q x) = 2 + work_steps r (part_view (Rounds q x))
   kind_left r p = 1
 

@@ -5,7 +5,7 @@ ghost use Rattle.lra_operations.specs.GraphViews.{exit_view};
 ghost use Rattle.lra_opening.specs.Building.{length_left};
 
 use lra_operations::{Exit, Path};
-use lra_program::{Cond, Program, Receiver, Stmt};
+use lra_program::{Cond, Element, Program, Receiver, Stmt};
 use std::alloc::Global;
 
 /// Where a statement stands.
@@ -59,15 +59,18 @@ pub struct Source<'a> {
 
 /// What calls: its point, and what gets the value.
 #[derive(Clone, Copy)]
-pub struct Caller {
+pub struct Caller<'a> {
     pub point: usize,
     pub receiver: Receiver,
+    /// The element that the value is for: its index is computed before the arguments.
+    pub element: Option<&'a Element>,
 }
 
-/// What a loop repeats: its body, then its step, while its condition is true.
+/// What a loop repeats: its body, then its step, while its condition is true. The two are reached by their boxes, since
+/// what a type reaches through references alone is bounded.
 #[derive(Clone, Copy)]
 pub struct Repeated<'a> {
     pub cond: &'a Cond,
-    pub body: &'a Stmt,
-    pub step: &'a Stmt,
+    pub body: &'a Box<Stmt>,
+    pub step: &'a Box<Stmt>,
 }

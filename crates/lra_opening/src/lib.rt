@@ -2,6 +2,7 @@
 //! is written, or a place opens in which a part of it is. Frames, points up to a limit, and the open places.
 #![tactic(auto)]
 
+mod arrays;
 mod cases;
 mod frame;
 mod lone;
@@ -10,6 +11,7 @@ mod places;
 mod points;
 mod returns;
 
+pub use arrays::open_array;
 pub use cases::go_on_cases;
 pub use frame::{Around, Caller, Frame, Repeated, Source};
 pub use opening::{open_declaration, open_rounds, open_stmt};

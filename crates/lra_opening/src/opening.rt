@@ -1,7 +1,9 @@
 //! The first step into a statement or a declarator: it is written, or a place opens in which a part of it is.
 
 ghost use Rattle.std.specs.Prelude.{◌≡◌, ◌<◌, ◌+◌, ◌^◌, ℕ, map, IfOk, MatchOption};
+ghost use Rattle.std.specs.Borrow.{Bor};
 ghost use Rattle.lra_program.specs.Program as resolved;
+ghost use Rattle.lra_program.specs.declared.program.Stmt as code;
 ghost use Rattle.lra_program.specs.Sites.{live_behind};
 ghost use Rattle.lra_program.specs.Value.{index_of};
 ghost use Rattle.lra_program.specs.ProgramViews.{slot_view, variable_view, cond_view, call_view, rvalue_view, stmt_view};
@@ -17,6 +19,7 @@ ghost use Rattle.lra_opening.specs.declared.places.Part.TheVariants as part;
 ghost use Rattle.lra_opening.specs.declared.places.Place.TheVariants as place;
 ghost use Rattle.lra_opening.specs.declared.places.Forked.TheVariants as forked;
 
+use crate::arrays::open_write;
 use crate::cases::next_case;
 use crate::frame::{Around, Caller, Frame, Repeated};
 use crate::lone::{inline_lone, open_point};
@@ -52,6 +55,7 @@ fn live_inside(live: usize, items: &[BlockItem]) -> Option<usize>
                 Some(more) => inside = more,
                 None => return None,
             },
+            BlockItem::Array(_, _) => {}
             BlockItem::Statement(_) => {}
         }
     }
@@ -101,8 +105,10 @@ fn open_if<'a>(
 
 /// The rounds of a loop behind its own point. Its step's points come before those of its body.
 pub fn open_rounds<'a>(frame: Frame, point: usize, repeated: Repeated<'a>) -> Next<'a>
-    ensures { result ≡ next.Opens (record { frame = frame; place = place.Forked (forked.Step point repeated.entry) })
-        (record frame { breaks = None; continues = None }) (part.Stmt repeated.entry.step) }
+    ensures { (step : Bor code.Stmt) × (step.now ≡ repeated.entry.step.now.value) × (result
+        ≡ next.Opens
+        (record { frame = frame; place = place.Forked (forked.Step point repeated.entry) })
+        (record frame { breaks = None; continues = None }) (part.Stmt step)) }
 {
     let place = Place::Forked(Forked::Step(point, repeated));
     let outside = Frame {
@@ -211,8 +217,12 @@ fn open_assign<'a>(
         }
         Rvalue::Result(call) => {
             let place = Place::Given(point);
-            let part = Part::Call(Caller { point, receiver }, call);
-            Ok(Next::Opens(Open { frame, place }, frame, part))
+            let caller = Caller {
+                point,
+                receiver,
+                element: None,
+            };
+            Ok(Next::Opens(Open { frame, place }, frame, Part::Call(caller, call)))
         }
     }
 }
@@ -233,8 +243,12 @@ fn open_call_statement<'a>(
     let frame = here.frame;
     let point = open_point(here, label, sites)?;
     let place = Place::Given(point);
-    let receiver = Receiver::nobody();
-    let part = Part::Call(Caller { point, receiver }, call);
+    let caller = Caller {
+        point,
+        receiver: Receiver::nobody(),
+        element: None,
+    };
+    let part = Part::Call(caller, call);
     Ok(Next::Opens(Open { frame, place }, frame, part))
 }
 
@@ -254,6 +268,7 @@ fn open_simple<'a>(
         Stmt::Assign(label, variable, rvalue) => {
             open_assign(here, *label, *variable, rvalue, sites)
         }
+        Stmt::Write(label, element, rvalue) => open_write(here, *label, element, rvalue, sites),
         Stmt::Call(label, call) => open_call_statement(here, *label, call, sites),
         Stmt::Return(label, rvalue) => open_return(here, *label, rvalue, sites),
         _ => {
@@ -332,7 +347,12 @@ pub fn open_declaration<'a>(
         Some(Rvalue::Result(call)) => {
             let place = Place::Declared(point, number_type);
             let behind_it = Frame { live, ..frame };
-            let part = Part::Call(Caller { point, receiver }, call);
+            let caller = Caller {
+                point,
+                receiver,
+                element: None,
+            };
+            let part = Part::Call(caller, call);
             Ok(Next::Opens(Open { frame, place }, behind_it, part))
         }
     }

@@ -9,7 +9,7 @@ use crate::frame::{Caller, Frame, Repeated};
 use crate::points::GraphError;
 use lra_base::NumberType;
 use lra_operations::{Arm, Node, Path};
-use lra_program::{BlockItem, Call, CaseItem, Cond, Declarator, Expr, Stmt};
+use lra_program::{Array, BlockItem, Call, CaseItem, Cond, Declarator, Expr, Stmt};
 use std::alloc::AllocError;
 
 /// What is to be written out.
@@ -17,8 +17,10 @@ use std::alloc::AllocError;
 pub enum Part<'a> {
     Stmt(&'a Stmt),
     Declaration(&'a Declarator),
+    /// A declarator's label, and its array.
+    Array(usize, Array),
     Items(&'a [BlockItem]),
-    Call(Caller, &'a Call),
+    Call(Caller<'a>, &'a Call),
     /// A loop behind its own point.
     Rounds(usize, Repeated<'a>),
 }
@@ -66,7 +68,7 @@ pub struct Branches<'a> {
 #[derive(Drop)]
 pub struct CalledFrom<'a> {
     pub path: Path,
-    pub caller: Caller,
+    pub caller: Caller<'a>,
     pub call: &'a Call,
 }
 

@@ -129,8 +129,12 @@ fn return_call<'a>(
     let frame = here.frame;
     let point = open_point(here, label, sites)?;
     let place = Place::Returned(point);
-    let receiver = frame.receiver;
-    let part = Part::Call(Caller { point, receiver }, call);
+    let caller = Caller {
+        point,
+        receiver: frame.receiver,
+        element: None,
+    };
+    let part = Part::Call(caller, call);
     Ok(Next::Opens(Open { frame, place }, frame, part))
 }
 

@@ -8,4 +8,4 @@ pub returns-clause-leads : goal.returns-clause-leads
 returns-clause-leads c =
     let here = c.args.here.now in
     call_opens (program_around here) here.path.now here.frame (points_in c.args.sites.now) (points_in c.open_point.new.sites) c.args.label c.in_ok-point.point c.in_ok-point.ensures.number
-    c.in_ok-point.ensures.walked (call_view c.args.call.now) c.nobody-receiver.result c.nobody-receiver.ensures c.requires c.in_ok-point.ensures.few
+    c.in_ok-point.ensures.walked (call_view c.args.call.now) c.nobody.result c.nobody.ensures c.requires c.in_ok-point.ensures.few

@@ -6,5 +6,7 @@ use Rattle.lra_opening.proofs.opening.open_loop.Goals as goal
 pub returns-clause-leads : goal.returns-clause-leads
 returns-clause-leads c =
     let here = c.args.here.now in
-    rw c.open_rounds.ensures (loop_opens (program_around here) here.path.now here.frame (points_in c.args.sites.now) (points_in c.open_point.new.sites) c.args.label c.in_ok-point.point
+    let (step, is, rounds) = c.open_rounds.ensures in
+    rw (rounds, is) (loop_opens (program_around here) here.path.now here.frame (points_in c.args.sites.now) (points_in c.open_point.new.sites)
+    c.args.label c.in_ok-point.point
     c.in_ok-point.ensures.number c.in_ok-point.ensures.walked c.args.repeated.now c.requires)
