@@ -2,18 +2,19 @@
 use Rattle.std.proofs.Common.{◌≡◌, ◌≢◌, ℕ, suc, ◌+◌, ◌-◌, ◌<◌, ◌≤◌, List, [], ◌∷◌, length, Some, None, false, slice_get, refl, sym, ap, ◌∙◌, subst, arith}
 use Rattle.std.proofs.lemmas.Option.{same_Some}
 use Rattle.lra_base.specs.Limits.{greatest_live}
-use Rattle.lra_program.specs.Program.{Call, result, BlockItems, Function, Program}
+use Rattle.lra_program.specs.Program.{Call, BlockItems, Function, Program}
 use Rattle.lra_program.specs.declared.receivers.Receiver.{Receiver}
 use Rattle.lra_program.specs.Receivers.{behind_result}
-use Rattle.lra_program.specs.Step.{arguments_for}
+use Rattle.lra_program.specs.Step.{Op, arguments_for}
+use Rattle.lra_program.specs.Value.{Argument}
 use Rattle.lra_operations.specs.Graph.{Node}
 use Rattle.lra_program.specs.Sites.{Site, plain_site, live_behind, items_events, function_events, call_events}
-use Rattle.lra_operations.specs.Inlined.{call_node}
+use Rattle.lra_operations.specs.Inlined.{callee_node}
 use Rattle.lra_opening.specs.declared.points.Limit.{Limit}
 use Rattle.lra_opening.specs.declared.points.Limit.TheVariants.{Calls}
 use Rattle.lra_opening.specs.declared.frame.Frame.{Frame}
 use Rattle.lra_opening.specs.Limits.{Progress, passed, stopped, walk}
-use Rattle.lra_opening.specs.Building.{inside, callee_frame, CallStands, ItemsStand, WritesItems, WritesRvalue, WritesBody}
+use Rattle.lra_opening.specs.Building.{inside, callee_frame, CallStands, ItemsStand, WritesItems, WritesCall, WritesBody}
 use Rattle.lra_opening.specs.declared.places.CalledFrom.{CalledFrom}
 use Rattle.lra_opening.specs.declared.places.Place.TheVariants as place
 use Rattle.lra_opening.specs.Open.{due, all_items, a_call, IsOpen}
@@ -73,19 +74,20 @@ module _ (P : Program) (path : List ℕ) (r : Frame) (S : List Site) (c : Call) 
     back = Some r.live;
   }
 
-  pub invoked : (V U : List Site) (q e n : ℕ) (h g : Node) → length c.arguments ≡ length fn.parameters → WritesItems P p (inner k) S b h V → n ≡ live_behind
+  pub invoked : (V U : List Site) (q e n : ℕ) (gives : List Argument → Op) (h g : Node) → length c.arguments ≡ length fn.parameters
+      → WritesItems P p (inner k) S b h V → n ≡ live_behind
       (r.live + k) b → e ≡ length V
       → Pointed V (record { path = p; label = fn.end; live = n; asserts = false }) U
-      → g ≡ call_node q e r.base r.live (behind_result fn.result_type x) (arguments_for fn.parameters c.arguments) k h → WritesRvalue P path r q x S (result c)
-      g U
-  invoked V U q e n h g fits y same i pointed a =
+      → g ≡ callee_node q e r.live (behind_result fn.result_type x) (gives (arguments_for fn.parameters c.arguments)) k h
+      → WritesCall P path r q x gives S c g U
+  invoked V U q e n gives h g fits y same i pointed a =
       let y' = subst (λ z. WritesItems P (c.label ∷ path) (inner (length fn.parameters)) S z h V) body
       (subst (λ z. WritesItems P (c.label ∷ path) (inner z) S b h V) wide (subst (λ z. WritesItems P z (inner k) S b h V) within y)) in
       let pointed' : Pointed V (record { path = c.label ∷ path; label = fn.end; live = n; asserts = false }) U = subst
       (λ z. Pointed V (record { path = z; label = fn.end; live = n; asserts = false }) U) within pointed in
-      let a' : g ≡ call_node q e r.base r.live (behind_result fn.result_type x) (arguments_for fn.parameters c.arguments) (length fn.parameters) h =
-      subst (λ z. g ≡ call_node q e r.base r.live (behind_result fn.result_type x) (arguments_for fn.parameters c.arguments) z h) wide a in
-      result_written P path r S V U q e n less x c fn h g left found fits y' (lives_as n same) i pointed' a'
+      let a' : g ≡ callee_node q e r.live (behind_result fn.result_type x) (gives (arguments_for fn.parameters c.arguments)) (length fn.parameters) h =
+      subst (λ z. g ≡ callee_node q e r.live (behind_result fn.result_type x) (gives (arguments_for fn.parameters c.arguments)) z h) wide a in
+      result_written P path r S V U q e n less x gives c fn h g left found fits y' (lives_as n same) i pointed' a'
 
 -- into a callee's body fewer steps are left
 body_falls : (P : Program) (left : ℕ) (c : Call) (fn : Function) (b : BlockItems) → left ≢ 0 → slice_get P.functions c.function ≡ Some fn → b ≡ fn.body
@@ -161,14 +163,15 @@ module _ (P : Program) (path : List ℕ) (r : Frame) (x : Receiver) (c : Call) (
         (one_less r.calls_left w.some_left) w.found refl refl refl V n l w.last
         w.written.walked (end_seen (stopped l) e)
 
-    pub end_written : (U : List Site) (q e : ℕ) (g : Node) → length c.arguments ≡ length fn.parameters → e ≡ length V → walk V (plain_site p fn.end n ∷ []) ≡
+    pub end_written : (U : List Site) (q e : ℕ) (gives : List Argument → Op) (g : Node) → length c.arguments ≡ length fn.parameters
+        → e ≡ length V → walk V (plain_site p fn.end n ∷ []) ≡
         passed U
-        → g ≡ call_node q e r.base r.live (behind_result fn.result_type x) (arguments_for fn.parameters c.arguments) (length fn.parameters) h → WritesRvalue P
-        path r q x S (result c) g U
-    end_written U q e g fits i pointed a =
+        → g ≡ callee_node q e r.live (behind_result fn.result_type x) (gives (arguments_for fn.parameters c.arguments)) (length fn.parameters) h
+        → WritesCall P path r q x gives S c g U
+    end_written U q e gives g fits i pointed a =
         let params = ap (λ (z : Function). length z.parameters) same in
         invoked P path r S c w.fn (r.calls_left - 1) x (c.label ∷ path) (length w.fn.parameters) w.fn.body (one_less r.calls_left w.some_left) w.found refl
-        refl refl V U q e n h g (fits ∙ params)
+        refl refl V U q e n gives h g (fits ∙ params)
         w.written w.last i (end_seen (passed U) pointed)
-        (subst (λ (z : Function). g ≡ call_node q e r.base r.live (behind_result z.result_type x) (arguments_for z.parameters c.arguments)
+        (subst (λ (z : Function). g ≡ callee_node q e r.live (behind_result z.result_type x) (gives (arguments_for z.parameters c.arguments))
         (length z.parameters) h) same a)

@@ -2,30 +2,36 @@
 use Rattle.std.proofs.Common.{◌≡◌, ℕ, zero, suc, ◌+◌, ◌≤◌, List, [], ◌∷◌, ◌++◌, length, Option, Some, None, refl, sym, ap, ◌∙◌, subst, arith}
 use Rattle.std.specs.Prelude.{nat_lt}
 use Rattle.std.proofs.lemmas.Option.{none-some}
-use Rattle.lra_program.specs.Program.{Call, Rvalue, value, result, Stmt, absent, nothing, block, assign, call, if, loop, for, break, continue, return, assert, assume, BlockItems, no_more, declaration}
-use Rattle.lra_program.specs.Program.{statement, switch, Cases, no_cases, labelled, stated, Program}
-use Rattle.lra_program.specs.Value.{index_of}
-use Rattle.lra_program.specs.Step.{append, give, give_any, keep, arguments_for}
+use Rattle.lra_program.specs.Program.{Call, Rvalue, value, result, Stmt, absent, nothing, block, assign, write, call, if, loop, for}
+use Rattle.lra_program.specs.Program.{break, continue, return, assert}
+use Rattle.lra_program.specs.Program.{assume, BlockItems, no_more, declaration, array, statement, switch, Cases, no_cases, labelled, stated, Program}
+use Rattle.lra_program.specs.Value.{Argument, index_of}
+use Rattle.lra_program.specs.Step.{Op, append, give, give_any, push, push_for, keep, arguments_for}
 use Rattle.lra_base.specs.declared.number_types.NumberType.{NumberType}
 use Rattle.lra_program.specs.declared.receivers.Receiver.{Receiver}
-use Rattle.lra_program.specs.Receivers.{variable_at, nobody, behind_result}
+use Rattle.lra_program.specs.Receivers.{variable_at, waiting_in, nobody, behind_result}
 use Rattle.lra_operations.specs.Graph.{returned, Node, empty, point, act, seq, choose, leave, Arms, no_arms, entry, arm}
 use Rattle.lra_tree.specs.Labels.{Labelled}
 use Rattle.lra_program.specs.Sites.{Site, Event, comes, one_call_more, plain_site, live_behind, rvalue_events, given_events, stmt_events, cases_events, items_events, function_events, call_events, events_of}
-use Rattle.lra_operations.specs.Inlined.{return_node, call_node, loop_node, switch_node}
+use Rattle.lra_operations.specs.Inlined.{return_node, callee_node, loop_node, switch_node}
 use Rattle.lra_operations.specs.Agree.{IsGraph}
 use Rattle.lra_program.specs.WellFormed.{IsWellFormed}
 use Rattle.lra_meaning.specs.Refuse.{greatest_live, greatest_points, limit_fault}
 use Rattle.lra_opening.specs.declared.points.Limit.TheVariants.{Variables, Points, Calls}
 use Rattle.lra_opening.specs.declared.frame.Frame.{Frame}
 use Rattle.lra_opening.specs.Limits.{Progress, passed, stopped, walk}
-use Rattle.lra_opening.specs.Building.{inside, StmtStands, CasesStand, ItemsStand, GivenStands, CallStands, cases_frame, WritesStmt, WritesCases, WritesItems, WritesRvalue, WritesDeclared}
+use Rattle.lra_opening.specs.Building.{inside, StmtStands, CasesStand, ItemsStand, GivenStands, CallStands, cases_frame, WritesStmt}
+use Rattle.lra_opening.specs.Building.{WritesCases, WritesItems, WritesRvalue, WritesCall, WritesDeclared}
 use Rattle.lra_opening.proofs.Walking.{not_passed, passed_same, chosen_then, chosen_passed}
-use Rattle.lra_opening.proofs.Writing.{absent_written, nothing_written, block_written, assign_written, call_written, if_written, rounds_written, loop_written, break_written, continue_written}
+use Rattle.lra_opening.proofs.Writing.{absent_written, nothing_written, block_written, assign_written, write_written, write_called, call_written}
+use Rattle.lra_opening.proofs.Writing.{if_written, rounds_written, loop_written, break_written, continue_written}
 use Rattle.lra_opening.proofs.Writing.{assert_written, assume_written, for_written, return_written, return_any_written, return_value_written, return_call_written, end_any_written, end_value_written}
 use Rattle.lra_opening.proofs.Writing.{no_cases_written, labelled_written, stated_written, switch_written}
-use Rattle.lra_opening.proofs.Writing.{WritesReturn, end_call_written, none_written, statement_written, declaration_written, fresh_written, given_written, value_written}
-use Rattle.lra_opening.proofs.Standing.{block_stands, assign_stands, call_stands, true_stands, false_stands, return_stands, first_stands, others_stand, result_stands, declared_stands, behind_stand}
+use Rattle.lra_opening.proofs.Writing.{WritesReturn, end_call_written, none_written, statement_written, declaration_written}
+use Rattle.lra_opening.proofs.Writing.{array_written, fresh_written, given_written, value_written, result_given}
+use Rattle.lra_opening.proofs.Standing.{block_stands, assign_stands, write_stands, call_stands, true_stands, false_stands, return_stands}
+use Rattle.lra_opening.proofs.Standing.{first_stands, others_stand, array_stands, result_stands}
+use Rattle.lra_opening.proofs.Standing.{declared_stands, behind_stand}
 use Rattle.lra_opening.proofs.Standing.{switch_stands, labelled_stand, first_case_stands, other_cases_stand}
 use Rattle.lra_opening.proofs.Standing.{body_stands, step_stands, init_stands, for_again, callee_stands, main_stands, the_callee, break_stands, continue_stands}
 use Rattle.lra_graph.proofs.Calling.{no_call_more, invoked}
@@ -51,18 +57,24 @@ module _ (P : Program) where
   abbrev HasRvalue : List ℕ → Frame → ℕ → Receiver → List Site → List Site → Rvalue → Type 0
   HasRvalue path r q x S U e = (g : Node) × WritesRvalue P path r q x S e g U
 
-  -- calls that may make so many calls more are written out
+  -- calls that may make so many calls more are written out, whatever gives their arguments
   abbrev HaveCalls : ℕ → Type 0
-  HaveCalls more = (c : Call) (path : List ℕ) (r : Frame) (q : ℕ) (x : Receiver) (S U : List Site) → r.calls_left ≡ more → CallStands P r c
-      → walk S (inside P path r path r.live c) ≡ passed U → HasRvalue path r q x S U (result c)
+  HaveCalls more = (c : Call) (path : List ℕ) (r : Frame) (q : ℕ) (x : Receiver) (gives : List Argument → Op) (S U : List Site) → r.calls_left ≡ more
+      → CallStands P r c → walk S (inside P path r path r.live c) ≡ passed U → (g : Node) × WritesCall P path r q x gives S c g U
 
   module _ (more : ℕ) (calls : HaveCalls more) where
+    resulting : (c : Call) (path : List ℕ) (r : Frame) (q : ℕ) (x : Receiver) (S U : List Site) → r.calls_left ≡ more → CallStands P r c
+        → walk S (inside P path r path r.live c) ≡ passed U → HasRvalue path r q x S U (result c)
+    resulting c path r q x S U left stands w =
+        let (g, y) = calls c path r q x (push r.base) S U left stands w in
+        (g, result_given P path r S U q x c g y)
+
     rvalue : (e : Rvalue) (path : List ℕ) (r : Frame) (q : ℕ) (x : Receiver) (S U : List Site) → r.calls_left ≡ more → GivenStands P r (Some e)
         → walk S (rvalue_events (inside P path r) path r.live e) ≡ passed U → HasRvalue path r q x S U e
     rvalue (value e) path r q x S U left stands w =
         let g = act q (give r.base x e) in
         (g, subst (λ V. WritesRvalue P path r q x S (value e) g V) (passed_same S U w) (value_written P path r S q x e g refl))
-    rvalue (result c) path r q x S U left stands w = calls c path r q x S U left (result_stands P r c stands) w
+    rvalue (result c) path r q x S U left stands w = resulting c path r q x S U left (result_stands P r c stands) w
 
     given : (t : NumberType) (o : Option Rvalue) (path : List ℕ) (r : Frame) (q : ℕ) (S U : List Site) → r.calls_left ≡ more → GivenStands P
         (record r { live = suc r.live }) o
@@ -90,7 +102,7 @@ module _ (P : Program) where
         let g = return_node q (give r.base r.receiver e) n r.live in
         (g, subst (λ V. WritesReturn P path r q S (Some (value e)) g V) (passed_same S U w) (return_value_written P path r S q n back low e g refl))
     returned_to (Some (result c)) n path r q S U back low left stands w =
-        let (h, y) = calls c path r q r.receiver S U left (result_stands P r c stands) w in
+        let (h, y) = resulting c path r q r.receiver S U left (result_stands P r c stands) w in
         let k = seq (act q (keep n)) (leave r.live returned) in
         (seq h k, return_call_written P path r S q n back low U c h k (seq h k) y refl refl)
 
@@ -104,7 +116,7 @@ module _ (P : Program) where
         let g = seq (act q (give r.base r.receiver e)) (leave r.live returned) in
         (g, subst (λ V. WritesReturn P path r q S (Some (value e)) g V) (passed_same S U w) (end_value_written P path r S q back e g refl))
     returned_out (Some (result c)) path r q S U back left stands w =
-        let (h, y) = calls c path r q r.receiver S U left (result_stands P r c stands) w in
+        let (h, y) = resulting c path r q r.receiver S U left (result_stands P r c stands) w in
         let g = seq h (leave r.live returned) in
         (g, end_call_written P path r S q back U c h g y refl)
 
@@ -130,9 +142,16 @@ module _ (P : Program) where
           let (h, y) = rvalue e path r (length S) (variable_at (index_of r.base v.slot) v.number_type) V U left (assign_stands P r at v e stands) f in
           let g = seq (point (length S)) h in
           (g, assign_written P path r S V U (length S) at (index_of r.base v.slot) v e h g refl a refl y refl)
+      stmt (write at x (value e)) path r S U left stands w = (_, write_written P path r S U (length S) at x e _ _ refl w refl refl)
+      stmt (write at x (result c)) path r S U left stands w =
+          let (V, a, f) = walk_parts S (plain_site path at r.live ∷ []) (inside P path r path r.live c) U w in
+          let (h, y) = calls c path r (length S) (waiting_in x.array) (push_for r.base x) V U left
+          (result_stands P r c (write_stands P r at x (result c) stands)) f in
+          let g = seq (point (length S)) h in
+          (g, write_called P path r S V U (length S) at x c h g refl a y refl)
       stmt (call at c) path r S U left stands w =
           let (V, a, f) = walk_parts S (plain_site path at r.live ∷ []) (inside P path r path r.live c) U w in
-          let (h, y) = calls c path r (length S) nobody V U left (call_stands P r at c stands) f in
+          let (h, y) = resulting c path r (length S) nobody V U left (call_stands P r at c stands) f in
           let g = seq (point (length S)) h in
           (g, call_written P path r S V U (length S) at c h g refl a y refl)
       stmt (if at c s t) path r S U left stands w =
@@ -210,6 +229,10 @@ module _ (P : Program) where
           let (k, y) = items b path (record r { live = suc r.live }) W U left (behind_stand P r (suc r.live) d b refl stands) i in
           let first = seq (point (length S)) h in
           (seq first k, declaration_written P path r S V W U (length S) (suc r.live) d b h first k (seq first k) refl refl a x y refl refl)
+      items (array at a b) path r S U left stands w =
+          let (V, e, i) = walk_parts S (plain_site path at r.live ∷ []) (items_events (inside P path r) path r.live b) U w in
+          let (k, y) = items b path r V U left (array_stands P r at a b stands) i in
+          (_, array_written P path r S V U (length S) at a b _ _ k _ refl e y refl refl refl)
       items (statement s b) path r S U left stands w =
           let (V, a, e) = walk_parts S (stmt_events (inside P path r) path r.live s) (items_events (inside P path r) path r.live b) U w in
           let (h, x) = stmt s path r S V left (first_stands P r s b stands) a in
@@ -218,8 +241,8 @@ module _ (P : Program) where
 
   module _ (well : IsWellFormed P) where
     have_calls : (more : ℕ) → HaveCalls more
-    have_calls zero c path r q x S U left stands w = absurd (not_passed (Calls c.label) U (sym (no_call_more P path r.calls_left r.live S c left) ∙ w))
-    have_calls (suc more) c path r q x S U left stands w =
+    have_calls zero c path r q x gives S U left stands w = absurd (not_passed (Calls c.label) U (sym (no_call_more P path r.calls_left r.live S c left) ∙ w))
+    have_calls (suc more) c path r q x gives S U left stands w =
         let (fn, found, fits) = the_callee P r c stands in
         let n = live_behind (r.live + length fn.parameters) fn.body in
         let here : walk S (call_events P (suc more) path r.live c) ≡ passed U = subst (λ z. walk S (call_events P z path r.live c) ≡ passed U) left w in
@@ -239,9 +262,10 @@ module _ (P : Program) where
         } in
         let (h, y) = items more (have_calls more) fn.body (c.label ∷ path) frame S V refl
         (callee_stands P r r.live more (r.live + length fn.parameters) (behind_result fn.result_type x) c fn well stands found refl refl) a in
-        let g = call_node q (length V) r.base r.live (behind_result fn.result_type x) (arguments_for fn.parameters c.arguments) (length fn.parameters) h in (
+        let g = callee_node q (length V) r.live (behind_result fn.result_type x) (gives (arguments_for fn.parameters c.arguments)) (length fn.parameters) h in (
           g,
-          invoked P path r S c fn more x (c.label ∷ path) (length fn.parameters) fn.body left found refl refl refl V U q (length V) n h g fits y refl refl e
+          invoked P path r S c fn more x (c.label ∷ path) (length fn.parameters) fn.body left found refl refl refl V U q (length V) n gives h g fits y
+              refl refl e
               refl,
         )
 

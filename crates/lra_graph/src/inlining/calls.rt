@@ -10,7 +10,7 @@ ghost use Rattle.lra_opening.specs.declared.frame.Frame.{Frame};
 ghost use Rattle.lra_opening.specs.Inlining.{CallStands, IsCall, StopsAnywhere, StopsBehind};
 
 use lra_opening::{Around, Caller, Frame, GraphError, Limit, add_point, finish};
-use lra_operations::forms::{CallPlace, enclose_call};
+use lra_operations::forms::{CallPlace, enclose_call, enclose_call_for};
 use lra_operations::{Node, Path, Site};
 use lra_program::{Call, Function, Program, Receiver};
 
@@ -59,7 +59,7 @@ pub fn enter_call(
 pub fn end_call(
     around: &Around<'_>,
     path: &Path,
-    caller: Caller,
+    caller: Caller<'_>,
     call: &Call,
     body: (Node, usize),
     sites: &mut Vec<Site>,
@@ -67,9 +67,9 @@ pub fn end_call(
     requires few { around.now.frame.live ≤ greatest_live + 1 }
     requires stands { CallStands around.now (call_view call.now) }
     requires within { path.now ≡ call.now.label ∷ around.now.path.now }
-    ensures written { IfOk result (IsCall around.now sites.old sites.new caller.point
-        caller.receiver (call_view call.now) body.0 body.1) }
-    ensures limit { OnLimit result (StopsBehind around.now sites.old caller.receiver
+    ensures written { IfOk result (IsCall around.now sites.old sites.new caller.entry
+        (call_view call.now) body.0 body.1) }
+    ensures limit { OnLimit result (StopsBehind around.now sites.old caller.entry.receiver
         (call_view call.now) body.0 body.1) }
 {
     let (inside, last) = body;
@@ -82,11 +82,14 @@ pub fn end_call(
         live: around.frame.live,
         receiver: caller.receiver.behind_result(function.result_type),
     };
-    finish(enclose_call(
-        around.alloc,
-        place,
-        &function.parameters,
-        &call.arguments,
-        inside,
-    ))
+    let alloc = around.alloc;
+    let types = &function.parameters;
+    let arguments = &call.arguments;
+    match caller.element {
+        None => finish(enclose_call(alloc, place, types, arguments, inside)),
+        Some(element) => {
+            let whole = enclose_call_for(alloc, place, element, types, arguments, inside);
+            finish(whole)
+        }
+    }
 }

@@ -17,7 +17,7 @@ ghost use Rattle.lra_opening.specs.Steps.{next_left, work_steps};
 use super::calls::{callee, enter_call};
 use lra_opening::{
     Around, CalledFrom, Caller, Frame, GraphError, ItemRow, Next, Open, Part, Place, Source, close,
-    open_declaration, open_rounds, open_stmt,
+    open_array, open_declaration, open_rounds, open_stmt,
 };
 use lra_operations::forms::put_in_a_row;
 use lra_operations::{Node, Path, Site};
@@ -54,6 +54,10 @@ pub fn next_item<'a>(
             let part = Part::Declaration(declarator);
             Ok(Next::Opens(Open { frame, place }, inside, part))
         }
+        BlockItem::Array(label, array) => {
+            let part = Part::Array(*label, *array);
+            Ok(Next::Opens(Open { frame, place }, inside, part))
+        }
         BlockItem::Statement(stmt) => {
             Ok(Next::Opens(Open { frame, place }, inside, Part::Stmt(stmt)))
         }
@@ -65,19 +69,19 @@ fn open_call<'a>(
     source: Source<'a>,
     path: &mut Path,
     frame: Frame,
-    caller: Caller,
+    caller: Caller<'a>,
     call: &'a Call,
 ) -> Result<Next<'a>, GraphError>
     requires well { IsWellFormed (program_of source) }
     requires stands { building.CallStands (program_of source) frame (call_view call.now) }
     requires few { frame.live ≤ greatest_live + 1 }
     ensures leads { IfOk result (λ next. (S : List points.Site) → Leads (program_of source.entry)
-        (due (a_call caller (call_view call.now)) path.old frame S) next path.new S) }
+        (due (a_call caller.entry (call_view call.now)) path.old frame S) next path.new S) }
     ensures limit { OnLimit result (λ l. (S : List points.Site)
         → walk S (call_events (program_of source.entry) frame.calls_left path.old frame.live
         (call_view call.now)) ≡ stopped l) }
     ensures falls { IfOk result (λ next. next_left (program_of source.entry) next
-        < work_steps (program_of source.entry) frame (a_call caller (call_view call.now))) }
+        < work_steps (program_of source.entry) frame (a_call caller.entry (call_view call.now))) }
 {
     let here = Around {
         alloc: source.alloc,
@@ -124,6 +128,7 @@ pub fn open_part<'a>(
     match part {
         Part::Stmt(stmt) => open_stmt(&here, stmt, sites),
         Part::Declaration(declarator) => open_declaration(&here, declarator, sites),
+        Part::Array(label, array) => open_array(&here, label, array, sites),
         Part::Items(items) => {
             let parts = Vec::new(source.alloc);
             next_item(source.alloc, frame, parts, items, frame.live)

@@ -2,6 +2,7 @@
 
 ghost use Rattle.std.specs.Prelude.{◌≡◌, ◌≤◌, ℕ, List, map, slice_get, IfOk, None, Some};
 ghost use Rattle.lra_operations.specs.Agree.{IsGraph, Agrees};
+ghost use Rattle.lra_operations.specs.Asked.{AccessesWell};
 ghost use Rattle.lra_tree.specs.Labels.{Labelled};
 ghost use Rattle.lra_meaning.specs.Refuse.{greatest_live, limit_fault};
 ghost use Rattle.lra_program.specs.Sites as points;
@@ -23,6 +24,8 @@ pub fn build(alloc: Global, program: &Program) -> Result<Graph, GraphError>
     requires { IsWellFormed (program_view program.now) }
     ensures graph { IfOk result (λ g. IsGraph (program_view program.now) (node_view g.tree)) }
     ensures agrees { IfOk result (λ g. Agrees (program_view program.now) (node_view g.tree)) }
+    ensures accesses { IfOk result (λ g. AccessesWell (program_view program.now)
+        (node_view g.tree)) }
     ensures sites { IfOk result (λ g. map site_view g.sites.items ≡ sites_of (program_view program.now)) }
     ensures few { IfOk result (λ _. (q : ℕ) (s : points.Site)
         → slice_get (sites_of (program_view program.now)) q ≡ Some s → s.live ≤ greatest_live) }

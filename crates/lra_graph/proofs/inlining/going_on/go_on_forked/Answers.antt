@@ -17,7 +17,7 @@ pub returns-in-Step-clause-leads : goal.returns-in-Step-clause-leads
 returns-in-Step-clause-leads c = λ P whole under path V b.
     let f = c.args.frame in
     let k = forked_seen P whole under f _ _ c.in-Step.is b.0 in
-    body_next P whole under f path c.args.part.live V c.in-Step.point c.in-Step.repeated c.args.part.node k b.1 b.2
+    rw c.deref.ensures (body_next P whole under f path c.args.part.live V c.in-Step.point c.in-Step.repeated c.args.part.node k b.1 b.2)
 
 pub returns-in-OnFalse-clause-leads : goal.returns-in-OnFalse-clause-leads
 returns-in-OnFalse-clause-leads c = λ P whole under path V b.

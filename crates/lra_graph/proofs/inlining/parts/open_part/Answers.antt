@@ -13,6 +13,9 @@ returns-in-Stmt-clause-leads c = rw c.in-Stmt.is c.open_stmt.ensures.leads
 pub returns-in-Declaration-clause-leads : goal.returns-in-Declaration-clause-leads
 returns-in-Declaration-clause-leads c = rw c.in-Declaration.is c.open_declaration.ensures.leads
 
+pub returns-in-Array-clause-leads : goal.returns-in-Array-clause-leads
+returns-in-Array-clause-leads c = rw c.in-Array.is c.open_array.ensures.leads
+
 pub returns-in-Items-clause-leads : goal.returns-in-Items-clause-leads
 returns-in-Items-clause-leads c =
     let P = program_view c.args.source.program.now in
@@ -33,8 +36,10 @@ pub returns-in-Call-clause-limit : goal.returns-in-Call-clause-limit
 returns-in-Call-clause-limit c = rw c.in-Call.is (limit_through c.open_call.result _ _ (λ l h. h (points_in c.args.sites.now)) c.open_call.ensures.limit)
 
 pub returns-in-Rounds-clause-leads : goal.returns-in-Rounds-clause-leads
-returns-in-Rounds-clause-leads c = rw (c.in-Rounds.is, c.open_rounds.ensures)
-    (rounds_open (program_view c.args.source.program.now) c.args.path.now c.args.frame (points_in c.args.sites.now) c.in-Rounds.point c.in-Rounds.repeated (rw c.in-Rounds.is at c.requires.stands))
+returns-in-Rounds-clause-leads c =
+    let (step, is, rounds) = c.open_rounds.ensures in
+    rw (c.in-Rounds.is, rounds, is) (rounds_open (program_view c.args.source.program.now) c.args.path.now c.args.frame (points_in c.args.sites.now)
+    c.in-Rounds.point c.in-Rounds.repeated (rw c.in-Rounds.is at c.requires.stands))
 
 pub returns-in-Items-clause-falls : goal.returns-in-Items-clause-falls
 returns-in-Items-clause-falls c = rw c.in-Items.is (c.next_item.ensures.falls (program_view c.args.source.program.now))

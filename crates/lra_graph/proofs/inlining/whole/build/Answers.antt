@@ -8,6 +8,7 @@ use Rattle.lra_program.specs.Sites.{plain_site, items_events, call_events, event
 use Rattle.lra_program.specs.ProgramViews.{item_view, items_of, program_view}
 use Rattle.lra_operations.specs.GraphViews.{node_view, site_view}
 use Rattle.lra_agreement.proofs.Agreement.{graphs_agree}
+use Rattle.lra_agreement.proofs.Asked.{graphs_access_well}
 use Rattle.lra_agreement.proofs.DistinctSites.{distinct_sites}
 use Rattle.lra_opening.specs.Limits.{walk, stopped, refusal_of}
 use Rattle.lra_opening.proofs.Items.{items_stand_as}
@@ -74,19 +75,14 @@ returns-clause-graph c = made_graph (program_view c.args.program.now) c.requires
     (node_view c.in_ok-tree.tree) c.in_ok-end.ensures.number (c.in_ok-tree.ensures ∙ ap (λ z. seq (node_view c.in_ok-body.body.node) z) (shown_point c.in_ok-end.end))
 
 pub returns-clause-agrees : goal.returns-clause-agrees
-returns-clause-agrees c = graphs_agree (program_view c.args.program.now) (node_view c.in_ok-tree.tree) (distinct_sites (program_view c.args.program.now) c.requires)
-    (made_graph (program_view c.args.program.now) c.requires c.empty-path.result
-    (begun_at c.len-globals.result c.behind_result.result) (map site_view c.new-sites.result.items)
-    (items_of (map item_view c.deref.result.now)) c.index-main.result.now.end c.empty-path.ensures (frame_first c.args.program.now c.len-globals.result c.behind_result.result c.len-globals.ensures
-    (main_receives c.args.program.now c.index-main.result.now (main_read c.args.program.now c.index-main.result.now c.requires c.index-main.ensures)
-    c.nobody.result c.behind_result.result c.nobody.ensures c.behind_result.ensures))
-    (ap (λ z. map site_view z) c.new-sites.ensures.items)
-    (main_body c.args.program.now c.index-main.result.now (main_read c.args.program.now c.index-main.result.now c.requires c.index-main.ensures)
-    ∙ sym (ap (λ z. items_of (map item_view z)) c.deref.ensures.value))
-    (main_end c.args.program.now c.index-main.result.now (main_read c.args.program.now c.index-main.result.now c.requires c.index-main.ensures)) (map site_view c.inline_items.new.sites.items)
-    (map site_view c.add_point.new.sites.items) c.in_ok-body.body.live c.in_ok-end.end (node_view c.in_ok-body.body.node)
-    c.in_ok-body.ensures.last c.in_ok-body.ensures.written c.in_ok-end.ensures.walked
-    (node_view c.in_ok-tree.tree) c.in_ok-end.ensures.number (c.in_ok-tree.ensures ∙ ap (λ z. seq (node_view c.in_ok-body.body.node) z) (shown_point c.in_ok-end.end)))
+returns-clause-agrees c =
+    let P = program_view c.args.program.now in
+    graphs_agree P (node_view c.in_ok-tree.tree) (distinct_sites P c.requires) (returns-clause-graph c)
+
+pub returns-clause-accesses : goal.returns-clause-accesses
+returns-clause-accesses c =
+    let P = program_view c.args.program.now in
+    graphs_access_well P (node_view c.in_ok-tree.tree) (distinct_sites P c.requires) (returns-clause-graph c)
 
 pub returns-clause-sites : goal.returns-clause-sites
 returns-clause-sites c = made_sites (program_view c.args.program.now) c.requires c.empty-path.result
