@@ -8,7 +8,7 @@ ghost use Rattle.lra_lex.specs.Front.{found_mark};
 use lra_tree::Mark;
 
 /// Every operator, and every reserved word that the grammar names.
-const MARKS: [Mark; 46] = [
+const MARKS: [Mark; 48] = [
     Mark::Plus,
     Mark::Minus,
     Mark::Star,
@@ -35,6 +35,8 @@ const MARKS: [Mark; 46] = [
     Mark::CloseParen,
     Mark::OpenBrace,
     Mark::CloseBrace,
+    Mark::OpenBracket,
+    Mark::CloseBracket,
     Mark::Semicolon,
     Mark::Comma,
     Mark::Colon,
@@ -122,6 +124,8 @@ pub fn spelling_of(mark: Mark) -> &'static [u8]
         Mark::CloseParen => b")",
         Mark::OpenBrace => b"{",
         Mark::CloseBrace => b"}",
+        Mark::OpenBracket => b"[",
+        Mark::CloseBracket => b"]",
         Mark::Semicolon => b";",
         Mark::Comma => b",",
         Mark::Colon => b":",
