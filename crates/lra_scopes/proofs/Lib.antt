@@ -11,6 +11,5 @@ pub mod CallLaws
 pub mod NameLaws
 -- Variables with their types.
 pub mod VariableLaws
-pub mod FoundLaws
 -- Functions by their names.
 pub mod SignatureLaws

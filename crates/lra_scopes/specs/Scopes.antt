@@ -1,16 +1,16 @@
--- How the variables that can be named change along a block.
+-- How what can be named changes along a block.
 use Rattle.std.specs.Prelude.{◌≡◌, ℕ, List, ◌++◌, take}
 use Rattle.lra_meaning.specs.Scope.{Entry, Scope}
 
--- with further variables
+-- with further scalars and arrays
 abbrev pub with_more : Scope → List Entry → Scope
 with_more s more = record s { locals = s.locals ++ more }
 
--- further variables in the same scope
+-- further ones in the same scope
 pub record Extends (s t : Scope) : Type 0 where
   pub more : List Entry
   pub is : t ≡ with_more s more
 
--- the oldest so many variables, in a scope that `outer` of them lie outside
+-- the oldest so many, in a scope that `outer` of them lie outside
 abbrev pub left_to : ℕ → ℕ → Scope → Scope
 left_to locals outer s = record s { locals = take locals s.locals; outer = outer }

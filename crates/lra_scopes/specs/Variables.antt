@@ -1,10 +1,21 @@
--- Variables, by their names and their types.
-use Rattle.std.specs.Prelude.{ℕ, List, [], ◌∷◌}
-use Rattle.lra_base.specs.declared.number_types.NumberType.{NumberType}
-use Rattle.lra_meaning.specs.Scope.{Entry}
+-- Scalars and arrays, by their names and what these mean.
+use Rattle.std.specs.Prelude.{◌≡◌, ◌+◌, ℕ, List, [], ◌∷◌, ⊤}
+use Rattle.lra_program.specs.Program.{Slot}
+use Rattle.lra_meaning.specs.Scope.{Entry, Found, width_of}
+use Rattle.lra_scopes.specs.declared.variables.Placed.{Placed}
+use Rattle.lra_scopes.specs.Meanings.{meaning_view}
 
--- a type for each name
-abbrev pub entries_of : List (List ℕ) → List NumberType → List Entry
-entries_of [] ts = []
+-- a meaning for each name
+abbrev pub entries_of : List (List ℕ) → List Placed → List Entry
+entries_of [] ps = []
 entries_of (x ∷ xs) [] = []
-entries_of (x ∷ xs) (t ∷ ts) = record { name = x; number_type = t } ∷ entries_of xs ts
+entries_of (x ∷ xs) (p ∷ ps) = record { name = x; meaning = meaning_view p.meaning } ∷ entries_of xs ps
+
+-- behind so many scalars, each has the number of those before it
+abbrev pub AreCounted : ℕ → List Placed → Type 0
+AreCounted n [] = ⊤
+AreCounted n (p ∷ ps) = (p.scalars ≡ n) × AreCounted (n + width_of (meaning_view p.meaning)) ps
+
+-- what is found, where these are locals or globals
+abbrev pub placed_view : (ℕ → Slot) → Placed → Found
+placed_view slot p = record { slot = slot p.scalars; meaning = meaning_view p.meaning }

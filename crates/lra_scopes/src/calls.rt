@@ -17,7 +17,7 @@ ghost use Rattle.lra_scopes.specs.Calls.{functions_at, argument_faults, resolve_
 ghost use Rattle.lra_scopes.specs.Outcome.{TellsOf};
 
 use crate::errors::refuse;
-use crate::expressions::{resolve_expr, resolve_variable};
+use crate::expressions::{resolve_element, resolve_expr, resolve_variable};
 use crate::scopes::Scope;
 use crate::signatures::{Functions, Signature};
 use lra_base::{Cause, NumberType, Operator, SourceError};
@@ -98,8 +98,9 @@ pub fn resolve_call(
 
 /// What is written into a variable or returned: a value, or the result of a call, which stands under the label.
 ///
-/// Refused at the first fault: `UnknownName` where a variable or the called function isn't known, `BadCall` where that
-/// has another number of parameters or no result. `Memory` where memory runs out.
+/// Refused at the first fault: `UnknownName` where a name isn't known, `NotArray` where an array stands for a scalar or
+/// a scalar for an array, `BadCall` where the called function has another number of parameters or no result. `Memory`
+/// where memory runs out.
 pub fn resolve_rvalue(
     alloc: Global,
     functions: &Functions<'_>,
@@ -249,8 +250,8 @@ fn resolve_increment(
 
 /// An assignment under its label: `x += e` and `x++` read `x` first.
 ///
-/// Refused at the first fault, that of `x` before those of the rvalue, with the causes of `resolve_rvalue`. `Memory`
-/// where memory runs out.
+/// Refused at the first fault, that of `x` before those of its index and of the rvalue, with the causes of
+/// `resolve_rvalue`. `Memory` where memory runs out.
 pub fn resolve_assign(
     alloc: Global,
     functions: &Functions<'_>,
@@ -264,6 +265,11 @@ pub fn resolve_assign(
 {
     match assign {
         Assign::Set(x, rvalue) => resolve_set(alloc, functions, scope, label, x, rvalue),
+        Assign::SetElement(x, index, rvalue) => {
+            let element = resolve_element(alloc, scope, x, index)?;
+            let rvalue = resolve_rvalue(alloc, functions, scope, label, rvalue)?;
+            Ok(lra_program::Stmt::Write(label, element, rvalue))
+        }
         Assign::Update(x, operator, expr) => {
             resolve_update(alloc, scope, label, x, *operator, expr)
         }

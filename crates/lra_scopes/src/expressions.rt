@@ -1,30 +1,52 @@
-//! Expressions: each variable is a place in the store.
+//! Expressions: each scalar is a place in the store, and each array is told by its declaration.
 
-ghost use Rattle.std.specs.Prelude.{◌≡◌, map, IfOk, IfErr, flat_map};
+ghost use Rattle.std.specs.Prelude.{◌≡◌, ◌++◌, map, IfOk, IfErr, flat_map};
 ghost use Rattle.lra_base.specs.OperatorViews.{operator_view};
 ghost use Rattle.lra_tree.specs.Views.{unary_view, term_view, factor_view, summand_view, expr_view as tree_expr_view};
-ghost use Rattle.lra_program.specs.ProgramViews.{variable_view, expr_view, operation_view, chained};
-ghost use Rattle.lra_meaning.specs.NameFaults.{use_faults, unary_faults, term_faults, expr_faults};
-ghost use Rattle.lra_meaning.specs.Resolve.{variable, resolve_unary, resolve_term, resolve_expr};
+ghost use Rattle.lra_program.specs.ProgramViews.{variable_view, expr_view, element_view, operation_view, chained};
+ghost use Rattle.lra_meaning.specs.NameFaults.{use_faults, named_faults, unary_faults, term_faults, expr_faults};
+ghost use Rattle.lra_meaning.specs.Resolve.{variable, array_named, resolve_unary, resolve_term, resolve_expr};
+ghost use Rattle.lra_meaning.specs.Resolve.{resolve_element};
 ghost use Rattle.lra_scopes.specs.Chains.{factor_operator, sum_operator, factor_faults, resolve_factor, summand_faults};
 ghost use Rattle.lra_scopes.specs.Chains.{resolve_summand};
 ghost use Rattle.lra_scopes.specs.Outcome.{TellsOf};
 
 use crate::errors::refuse;
+use crate::meanings::Meaning;
 use crate::scopes::Scope;
 use lra_base::{Cause, Operator, SourceError};
-use lra_program::{Operation, Variable};
+use lra_program::{Array, Element, Operation, Variable};
 use lra_tree::{Expr, Factor, FactorOperator, Identifier, SumOperator, Summand, Term, Unary};
 use std::alloc::Global;
 
-/// The variable that a name means, with its type; `UnknownName` where none is in scope.
-#[tactic(auto, using(crate::proofs::FoundLaws::variable_found))]
+/// The scalar that a name means, with its type; `UnknownName` where nothing in scope has the name, `NotArray` where an
+/// array has it.
 pub fn resolve_variable(scope: &Scope, x: &Identifier) -> Result<Variable, SourceError>
     ensures told { TellsOf (use_faults scope.now x.now) result }
     ensures found { IfOk result (λ v. variable_view v ≡ variable scope.now x.now) }
 {
     match scope.find(&x.word) {
-        Some(variable) => Ok(variable),
+        Some(found) => match found.meaning {
+            Meaning::Scalar(number_type) => Ok(Variable {
+                slot: found.slot,
+                number_type,
+            }),
+            Meaning::Array(_) => refuse(Cause::NotArray, x.place),
+        },
+        None => refuse(Cause::UnknownName, x.place),
+    }
+}
+
+/// The array that a name means; `UnknownName` where nothing in scope has the name, `NotArray` where a scalar has it.
+fn resolve_array(scope: &Scope, x: &Identifier) -> Result<Array, SourceError>
+    ensures told { TellsOf (named_faults scope.now x.now) result }
+    ensures found { IfOk result (λ a. a ≡ array_named scope.now x.now) }
+{
+    match scope.find(&x.word) {
+        Some(found) => match found.meaning {
+            Meaning::Scalar(_) => refuse(Cause::NotArray, x.place),
+            Meaning::Array(array) => Ok(array),
+        },
         None => refuse(Cause::UnknownName, x.place),
     }
 }
@@ -66,7 +88,7 @@ fn sum_operator(operator: SumOperator) -> Operator
 
 /// An operand with the signs before it; a plus sign changes nothing.
 ///
-/// `UnknownName` at the first variable that isn't known, `Memory` where memory runs out.
+/// `UnknownName` or `NotArray` at the first name at fault, `Memory` where memory runs out.
 #[cycle(expression)]
 pub fn resolve_unary(
     alloc: Global,
@@ -89,6 +111,12 @@ pub fn resolve_unary(
         }
         Unary::Input => Ok(lra_program::Expr::Input),
         Unary::Group(inner) => resolve_expr(alloc, scope, inner),
+        Unary::Element(x, index) => {
+            let array = resolve_array(scope, x)?;
+            let index = resolve_expr(alloc, scope, index)?;
+            let index = Box::new(alloc, index)?;
+            Ok(lra_program::Expr::Element(array, x.place, index))
+        }
     }
 }
 
@@ -133,7 +161,7 @@ fn resolve_term(alloc: Global, scope: &Scope, term: &Term) -> Result<lra_program
 
 /// A sum of products, from the left.
 ///
-/// `UnknownName` at the first variable that isn't known, `Memory` where memory runs out.
+/// `UnknownName` or `NotArray` at the first name at fault, `Memory` where memory runs out.
 #[cycle(expression)]
 #[tactic(auto, using(crate::proofs::ChainLaws::expr_rules))]
 pub fn resolve_expr(
@@ -151,4 +179,28 @@ pub fn resolve_expr(
         rest.push(operation)?;
     }
     join_operands(alloc, first, rest)
+}
+
+/// An element: the array's name, then the index.
+///
+/// `UnknownName` or `NotArray` at the first name at fault, `Memory` where memory runs out.
+#[tactic(auto, using(crate::proofs::Telling::telling_rules))]
+pub fn resolve_element(
+    alloc: Global,
+    scope: &Scope,
+    x: &Identifier,
+    index: &Expr,
+) -> Result<Element, SourceError>
+    ensures told { TellsOf (named_faults scope.now x.now
+        ++ expr_faults scope.now (tree_expr_view index.now)) result }
+    ensures found { IfOk result (λ e. element_view e
+        ≡ resolve_element scope.now x.now (tree_expr_view index.now)) }
+{
+    let array = resolve_array(scope, x)?;
+    let index = resolve_expr(alloc, scope, index)?;
+    Ok(Element {
+        array,
+        place: x.place,
+        index,
+    })
 }

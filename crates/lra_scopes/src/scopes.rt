@@ -1,18 +1,18 @@
-//! Scopes: the variables that can be named, oldest first.
+//! Scopes: the scalars and arrays that can be named, oldest first.
 
-ghost use Rattle.std.specs.Prelude.{◌≡◌, ◌∷◌, ◌++◌, [], length, option_map, IfOk, IfSome};
-ghost use Rattle.lra_meaning.specs.Scope.{slot_of, type_at, is_declared, with_local, inner};
-ghost use Rattle.lra_program.specs.ProgramViews.{slot_view};
+ghost use Rattle.std.specs.Prelude.{◌≡◌, ◌∷◌, ◌++◌, [], length, option_map, IfOk};
+ghost use Rattle.lra_meaning.specs.Scope.{found_of, is_declared, with_local, inner};
+ghost use Rattle.lra_scopes.specs.Meanings.{meaning_view, found_view};
 ghost use Rattle.lra_scopes.specs.Scopes.{left_to};
 
+use crate::meanings::{Found, Meaning};
 use crate::variables::Variables;
-use lra_base::NumberType;
-use lra_program::{Slot, Variable};
+use lra_program::Slot;
 use lra_tree::Word;
 use std::alloc::{AllocError, Global};
 use std::marker::Model;
 
-/// The variables that can be named, oldest first.
+/// The scalars and arrays that can be named, oldest first.
 pub struct Scope {
     globals: Variables,
     locals: Variables,
@@ -39,37 +39,36 @@ impl Model for Scope {
 }
 
 impl Scope {
-    /// The variable that the name means, with its type.
-    pub fn find(&self, name: &Word) -> Option<Variable>
-        ensures found { option_map (λ v. slot_view v.slot) result ≡ slot_of self.now name.now }
-        ensures typed { IfSome result (λ v. v.number_type ≡ type_at self.now (slot_view v.slot)) }
+    /// What the name means.
+    pub fn find(&self, name: &Word) -> Option<Found>
+        ensures { option_map found_view result ≡ found_of self.now name.now }
     {
-        match self.locals.newest(name) {
-            Some(place) => Some(Variable {
-                slot: Slot::Local(place),
-                number_type: self.locals.type_at(place),
+        match self.locals.find(name) {
+            Some(placed) => Some(Found {
+                slot: Slot::Local(placed.scalars),
+                meaning: placed.meaning,
             }),
-            None => match self.globals.newest(name) {
-                Some(place) => Some(Variable {
-                    slot: Slot::Global(place),
-                    number_type: self.globals.type_at(place),
+            None => match self.globals.find(name) {
+                Some(placed) => Some(Found {
+                    slot: Slot::Global(placed.scalars),
+                    meaning: placed.meaning,
                 }),
                 None => None,
             },
         }
     }
 
-    /// Declares a further variable.
+    /// Declares a further scalar or array.
     pub fn declare(
         &mut self,
         alloc: Global,
         name: &Word,
-        number_type: NumberType,
+        meaning: Meaning,
     ) -> Result<(), AllocError>
         ensures { IfOk result (λ _. self.new ≡
-            with_local self.old (record { name = name.now; number_type = number_type })) }
+            with_local self.old (record { name = name.now; meaning = meaning_view meaning })) }
     {
-        self.locals.push(alloc, name, number_type)
+        self.locals.push(alloc, name, meaning)
     }
 
     /// Whether this scope has declared the name.
@@ -119,20 +118,21 @@ impl Scope {
         }
     }
 
-    /// Declares a further global variable.
+    /// Declares a further global scalar or array.
     pub fn declare_global(
         &mut self,
         alloc: Global,
         name: &Word,
-        number_type: NumberType,
+        meaning: Meaning,
     ) -> Result<(), AllocError>
         ensures { IfOk result (λ _. self.new ≡ record {
-          globals = self.old.globals ++ record { name = name.now; number_type = number_type } ∷ [];
+          globals = self.old.globals
+              ++ record { name = name.now; meaning = meaning_view meaning } ∷ [];
           locals = self.old.locals;
           outer = self.old.outer;
         }) }
     {
-        self.globals.push(alloc, name, number_type)
+        self.globals.push(alloc, name, meaning)
     }
 
     /// Begins a function: no local is declared.

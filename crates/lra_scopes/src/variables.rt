@@ -1,48 +1,62 @@
-//! Variables in the order of their declarations, each with its type.
+//! Scalars and arrays in the order of their declarations, each with what its name means.
 
-ghost use Rattle.std.specs.Prelude.{◌≡◌, ◌++◌, ◌∷◌, [], length, take, drop, slice_get, bytes_eq, IfOk};
+ghost use Rattle.std.specs.Prelude.{◌≡◌, ◌++◌, ◌∷◌, [], ℕ, length, take, drop, bytes_eq, option_map, IfOk};
 ghost use Rattle.std.specs.List.{list_any};
-ghost use Rattle.lra_meaning.specs.Scope.{names_in, newest, type_or_none};
+ghost use Rattle.lra_program.specs.Program.{Slot};
+ghost use Rattle.lra_meaning.specs.Scope.{names_in, found_among, width_of_all};
+ghost use Rattle.lra_scopes.specs.Meanings.{meaning_view};
+ghost use Rattle.lra_scopes.specs.Variables.{placed_view};
 
+use crate::meanings::Meaning;
 use crate::names::Names;
-use lra_base::NumberType;
 use lra_tree::Word;
 use std::alloc::{AllocError, Global};
 use std::marker::Model;
 
-/// Variables in the order of their declarations, each found by its name.
+/// What a name means, and how many scalars are declared before it.
+#[derive(Clone, Copy)]
+pub struct Placed {
+    pub scalars: usize,
+    pub meaning: Meaning,
+}
+
+/// Scalars and arrays in the order of their declarations, each found by its name.
 pub struct Variables {
     names: Names,
     /// One for each name.
-    types: Vec<NumberType>,
+    placed: Vec<Placed>,
 }
 
 impl Drop for Variables {
     fn drop(self) {
-        let Variables { names: _, types: _ } = self;
+        let Variables {
+            names: _,
+            placed: _,
+        } = self;
     }
 }
 
 impl Model for Variables {
     ghost use Rattle.std.specs.Prelude.{◌≡◌, length, List};
     ghost use Rattle.lra_meaning.specs.Scope.{Entry};
-    ghost use Rattle.lra_scopes.specs.Variables.{entries_of};
+    ghost use Rattle.lra_scopes.specs.Variables.{entries_of, AreCounted};
 
     ghost Value = { List Entry };
 
-    ghost view = { λ v. entries_of v.names v.types.items };
+    ghost view = { λ v. entries_of v.names v.placed.items };
 
-    ghost invariant = { λ v. length v.types.items ≡ length v.names };
+    ghost invariant = { λ v. (length v.placed.items ≡ length v.names)
+        × AreCounted 0 v.placed.items };
 }
 
 impl Variables {
-    /// No variables yet.
+    /// None yet.
     pub fn new(alloc: Global) -> Variables
         ensures { result ≡ [] }
     {
         Variables {
             names: Names::new(alloc),
-            types: Vec::new(alloc),
+            placed: Vec::new(alloc),
         }
     }
 
@@ -53,20 +67,24 @@ impl Variables {
         self.names.len()
     }
 
-    /// The place of the newest of this name.
-    pub fn newest(&self, name: &Word) -> Option<usize>
-        ensures { result ≡ newest name.now (names_in self.now) }
+    /// What the newest of this name means, and how many scalars are before it.
+    pub fn find(&self, name: &Word) -> Option<Placed>
+        ensures { (slot : ℕ → Slot) → option_map (placed_view slot) result
+            ≡ found_among slot self.now name.now }
     {
-        self.names.newest(name)
+        match self.names.newest(name) {
+            Some(place) => self.placed.get(place).copied(),
+            None => None,
+        }
     }
 
-    /// The type of the one at the place; that of another is of no use.
-    pub fn type_at(&self, place: usize) -> NumberType
-        ensures { result ≡ type_or_none (slice_get self.now place) }
+    /// How many of them are scalars.
+    fn count_scalars(&self) -> usize
+        ensures { result ≡ width_of_all self.now }
     {
-        match self.types.get(place) {
-            Some(number_type) => *number_type,
-            None => NumberType::Long,
+        match self.placed.last() {
+            Some(last) => last.scalars + last.meaning.width(),
+            None => 0,
         }
     }
 
@@ -77,18 +95,15 @@ impl Variables {
         self.names.has_behind(count, name)
     }
 
-    /// One more variable. It hides the older ones of its name.
-    pub fn push(
-        &mut self,
-        alloc: Global,
-        name: &Word,
-        number_type: NumberType,
-    ) -> Result<(), AllocError>
-        ensures { IfOk result (λ _. self.new ≡ self.old ++ record { name = name.now; number_type = number_type } ∷ []) }
+    /// One more. It hides the older ones of its name.
+    pub fn push(&mut self, alloc: Global, name: &Word, meaning: Meaning) -> Result<(), AllocError>
+        ensures { IfOk result (λ _. self.new
+            ≡ self.old ++ record { name = name.now; meaning = meaning_view meaning } ∷ []) }
     {
-        self.types.reserve(1)?;
+        let scalars = self.count_scalars();
+        self.placed.reserve(1)?;
         self.names.push(alloc, name)?;
-        self.types.push(number_type).unwrap();
+        self.placed.push(Placed { scalars, meaning }).unwrap();
         Ok(())
     }
 
@@ -97,6 +112,6 @@ impl Variables {
         ensures { self.new ≡ take count self.old }
     {
         self.names.truncate(count);
-        self.types.truncate(count);
+        self.placed.truncate(count);
     }
 }

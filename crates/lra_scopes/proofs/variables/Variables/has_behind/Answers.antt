@@ -8,4 +8,4 @@ use Rattle.lra_scopes.proofs.variables.Variables.has_behind.Goals as goal
 pub returns : goal.returns
 returns c = c.has_behind.ensures
     ∙ ap (λ (xs : List (List ℕ)). list_any (bytes_eq c.args.name.now) (drop c.args.count xs))
-    (sym (entries_named c.self.inside.names c.self.inside.types.items c.self.invariant) ∙ ap names_in c.self.view_is)
+    (sym (entries_named c.self.inside.names c.self.inside.placed.items c.self.invariant.0) ∙ ap names_in c.self.view_is)

@@ -4,4 +4,4 @@ use Rattle.lra_scopes.proofs.VariableLaws.{entries_length}
 use Rattle.lra_scopes.proofs.variables.Variables.len.Goals as goal
 
 pub returns : goal.returns
-returns c = c.len.ensures ∙ sym (entries_length c.self.inside.names c.self.inside.types.items c.self.invariant) ∙ ap length c.self.view_is
+returns c = c.len.ensures ∙ sym (entries_length c.self.inside.names c.self.inside.placed.items c.self.invariant.0) ∙ ap length c.self.view_is
