@@ -1,16 +1,14 @@
 -- Declarators one by one.
-use Rattle.std.proofs.Common.{◌≡◌, ℕ, suc, List, [], ◌∷◌, ◌++◌, map, refl, sym, ap, rules}
+use Rattle.std.proofs.Common.{◌≡◌, ℕ, suc, List, [], ◌∷◌, ◌++◌, map, refl, sym, ap, ◌∙◌}
 use Rattle.std.proofs.lemmas.List.{map-append}
 use Rattle.lra_base.specs.declared.number_types.NumberType.{NumberType}
-use Rattle.lra_program.specs.declared.program.Declarator.{Declarator}
-use Rattle.lra_program.specs.declared.program.BlockItem.{BlockItem, the_lemmas}
-use Rattle.lra_program.specs.declared.program.BlockItem as code_item
-use Rattle.lra_program.specs.ProgramViews.{declarator_view, item_view}
+use Rattle.lra_program.specs.declared.program.BlockItem.{BlockItem}
+use Rattle.lra_program.specs.ProgramViews.{item_view}
 use Rattle.lra_tree.specs.Trees.{FunctionTree, DeclaratorTree}
 use Rattle.lra_program.specs.Program as program
 use Rattle.lra_meaning.specs.Scope.{Scope, with_local, declarator_entry}
 use Rattle.lra_meaning.specs.NameFaults.{declarators_faults}
-use Rattle.lra_meaning.specs.Resolve.{resolve_given, resolve_declarators}
+use Rattle.lra_meaning.specs.Resolve.{resolve_declared, resolve_declarators}
 use Rattle.lra_simple.specs.Statements.{declarator_faults, followed}
 use Rattle.lra_scopes.proofs.Telling.{tells_front, tells_behind}
 
@@ -23,14 +21,13 @@ pub declarators_split : (F : List FunctionTree) (s : Scope) (t : NumberType) (d 
     → declarators_faults F s t (d ∷ ds) ≡ declarator_faults F s t d ++ declarators_faults F (with_local s (declarator_entry t d)) t ds
 declarators_split F s t d ds = refl
 
-pub declarator_found : (F : List FunctionTree) (s s' : Scope) (n n' : ℕ) (t : NumberType) (d : DeclaratorTree) (r : Declarator) (old new : List BlockItem)
-    → new ≡ old ++ code_item.Declaration r ∷ [] → declarator_view r ≡ record { label = n; number_type = t; rvalue = resolve_given F (with_local s (declarator_entry t d)) n d.rvalue }
+pub declarator_found : (F : List FunctionTree) (s s' : Scope) (n n' : ℕ) (t : NumberType) (d : DeclaratorTree) (r : BlockItem) (old new : List BlockItem)
+    → new ≡ old ++ r ∷ [] → ((items : program.BlockItems) → item_view r items ≡ resolve_declared F (with_local s (declarator_entry t d)) n t d.name d.shape items)
     → s' ≡ with_local s (declarator_entry t d) → n' ≡ suc n → (rest : List DeclaratorTree) (more : program.BlockItems)
     → followed (map item_view old) (resolve_declarators F s n t (d ∷ rest) more) ≡ followed (map item_view new) (resolve_declarators F s' n' t rest more)
 declarator_found F s s' n n' t d r old new is e scope next rest more =
-    let v : item_view (code_item.Declaration r) ≡ program.declaration (declarator_view r) = search (rules, the_lemmas) in
-    rw (is, map-append item_view old (code_item.Declaration r ∷ []), v, e, scope, next)
-    (sym (followed_push (map item_view old) (program.declaration (record { label = n; number_type = t; rvalue = resolve_given F (with_local s (declarator_entry t d)) n d.rvalue }))
-    (resolve_declarators F (with_local s (declarator_entry t d)) (suc n) t rest more)))
+    let behind = resolve_declarators F (with_local s (declarator_entry t d)) (suc n) t rest more in
+    rw (is, map-append item_view old (r ∷ []), scope, next)
+    (ap (followed (map item_view old)) (sym (e behind)) ∙ sym (followed_push (map item_view old) (item_view r) behind))
 
 pub ruleset declarator_rules = (followed_push, declarators_split, tells_front, tells_behind)

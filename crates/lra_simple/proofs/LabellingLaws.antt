@@ -1,6 +1,8 @@
 -- What parts of a source add to its labels, one behind the other.
 use Rattle.std.proofs.Common.{◌≡◌, ℕ, suc, ◌+◌, ◌<◌, List, [], ◌∷◌, ◌++◌, length, map, take, get_or, refl, sym, ap, ◌∙◌, append_assoc, append-nil, subst, arith, Option, rules}
-use Rattle.std.proofs.lemmas.List.{map-append, map_more, take-append-le}
+use Rattle.std.specs.List.{flat_map}
+use Rattle.std.proofs.lemmas.Grind.{flat_map-append}
+use Rattle.std.proofs.lemmas.List.{map_more, take-append-le}
 use Rattle.std.proofs.Math.Seq.{take-length}
 use Rattle.lra_base.specs.declared.refusals.Place.{Place}
 use Rattle.lra_tree.specs.declared.trees.BlockItem.{BlockItem, the_lemmas}
@@ -9,7 +11,7 @@ use Rattle.lra_tree.specs.declared.trees.Declaration.{Declaration}
 use Rattle.lra_tree.specs.declared.trees.Stmt.{Stmt}
 use Rattle.lra_tree.specs.Views.{item_view, declaration_view, stmt_view}
 use Rattle.lra_tree.specs.Trees.{AssignTree, DeclaratorTree, InitTree, no_init, declared, assigned, ItemsTree, no_items, declaration, statement, FunctionTree}
-use Rattle.lra_tree.specs.Labels.{Labelled, plain_label, with_names, called_of, declarator_labels, init_labels, step_labels, stmt_labels, items_labels, live_in_for}
+use Rattle.lra_tree.specs.Labels.{Labelled, plain_label, names_of, with_names, called_for, declarator_labels, init_labels, step_labels, stmt_labels, items_labels, live_in_for}
 use Rattle.lra_meaning.specs.LabelTable.{with_live}
 use Rattle.lra_simple.specs.Labelling.{LabelsSoFar, Adds, Declares, Extends, Follows, Fills, for_front}
 
@@ -27,21 +29,21 @@ adds_then a b c xs F x y = record {
 
 -- declarators ----------------------------------------------------------------------------------------------------------
 
-names_of_more : (live : List (List ℕ)) (d : DeclaratorTree) (ds : List DeclaratorTree) → with_names (live ++ d.name.word ∷ []) ds ≡ with_names live (d ∷ ds)
-names_of_more live d ds = append_assoc live (d.name.word ∷ []) (map (λ (x : DeclaratorTree). x.name.word) ds)
+names_of_more : (live : List (List ℕ)) (d : DeclaratorTree) (ds : List DeclaratorTree) → with_names (live ++ names_of d) ds ≡ with_names live (d ∷ ds)
+names_of_more live d ds = append_assoc live (names_of d) (flat_map names_of ds)
 
 labels_of_last : (live : List (List ℕ)) (ds : List DeclaratorTree) (d : DeclaratorTree)
     → declarator_labels live (ds ++ d ∷ []) ≡ declarator_labels live ds ++ declarator_labels (with_names live ds) (d ∷ [])
 labels_of_last live [] d = ap (λ (x : List (List ℕ)). declarator_labels x (d ∷ [])) (sym (append-nil live))
 labels_of_last live (x ∷ xs) d =
-    let more : List (List ℕ) = live ++ x.name.word ∷ [] in
-    ap (λ (ls : List Labelled). record { place = x.name.place; called = called_of x.rvalue; live = live; live_in_call = more } ∷ ls)
+    let more : List (List ℕ) = live ++ names_of x in
+    ap (λ (ls : List Labelled). record { place = x.name.place; called = called_for x.shape; live = live; live_in_call = more } ∷ ls)
     (labels_of_last more xs d ∙ ap (λ (ns : List (List ℕ)). declarator_labels more xs ++ declarator_labels ns (d ∷ [])) (names_of_more live x xs))
 
 names_of_last : (live : List (List ℕ)) (ds : List DeclaratorTree) (d : DeclaratorTree) → with_names live (ds ++ d ∷ []) ≡ with_names (with_names live ds) (d ∷ [])
 names_of_last live ds d =
-    ap (λ (x : List (List ℕ)). live ++ x) (map-append (λ (x : DeclaratorTree). x.name.word) ds (d ∷ []))
-    ∙ sym (append_assoc live (map (λ (x : DeclaratorTree). x.name.word) ds) (d.name.word ∷ []))
+    ap (λ (x : List (List ℕ)). live ++ x) (flat_map-append names_of ds (d ∷ []))
+    ∙ sym (append_assoc live (flat_map names_of ds) (flat_map names_of (d ∷ [])))
 
 pub declares_last : (a b c : LabelsSoFar) (ds : List DeclaratorTree) (d : DeclaratorTree) → Declares a b ds → Declares b c (d ∷ []) → Declares a c (ds ++ d ∷ [])
 declares_last a b c ds d x y = record {
@@ -91,7 +93,7 @@ left_of_front live more = take-append-le (length live) live more (omega arith) �
 
 pub left_of_for : (live : List (List ℕ)) (i : InitTree) → take (length live) (live_in_for live i) ≡ live
 left_of_for live no_init = take-length live
-left_of_for live (declared d) = left_of_front live (map (λ (x : DeclaratorTree). x.name.word) (d.first ∷ d.rest))
+left_of_for live (declared d) = left_of_front live (flat_map names_of (d.first ∷ d.rest))
 left_of_for live (assigned a) = take-length live
 
 -- items ----------------------------------------------------------------------------------------------------------------
@@ -115,7 +117,7 @@ declaration_follows a b item d is h =
       labels = λ rest end. ap (λ (ls : List Labelled). ls ++ items_labels b.live rest end) h.labels ∙ append_assoc a.labels (declarator_labels a.live ds) (items_labels b.live rest end)
           ∙ ap (λ (ns : List (List ℕ)). a.labels ++ (declarator_labels a.live ds ++ items_labels ns rest end)) h.live
           ∙ ap (λ (items : ItemsTree). a.labels ++ items_labels a.live items end) (sym (view rest));
-      live = record { more = map (λ (x : DeclaratorTree). x.name.word) ds; is = h.live };
+      live = record { more = flat_map names_of ds; is = h.live };
     }
 
 pub statement_follows : (a b : LabelsSoFar) (item : BlockItem) (t : Stmt) → item ≡ code_item.Statement t → Adds a b (stmt_labels a.live (stmt_view t)) → Follows a b (item_view item)

@@ -7,7 +7,7 @@ use Rattle.lra_tree.specs.Labels.{Labelled, plain_label, with_names, declarator_
 use Rattle.lra_tree.specs.Labels.{items_labels, live_in_for, function_labels}
 
 pub record LabelsSoFar : Type 0 where
-  -- the function's variables that live now, oldest first
+  -- the function's scalars that live now, oldest first
   pub live : List (List ℕ)
   pub labels : List Labelled
   -- the label that comes next
@@ -18,12 +18,12 @@ pub record Adds (old new : LabelsSoFar) (more : List Labelled) : Type 0 where
   pub labels : new.labels ≡ old.labels ++ more
   pub live : new.live ≡ old.live
 
--- the labels of declarators, whose variables live from then on
+-- the labels of declarators, whose scalars live from then on
 pub record Declares (old new : LabelsSoFar) (ds : List DeclaratorTree) : Type 0 where
   pub labels : new.labels ≡ old.labels ++ declarator_labels old.live ds
   pub live : new.live ≡ with_names old.live ds
 
--- further variables
+-- further scalars
 pub record Extends (old new : List (List ℕ)) : Type 0 where
   pub more : List (List ℕ)
   pub is : new ≡ old ++ more

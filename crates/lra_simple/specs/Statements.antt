@@ -4,10 +4,12 @@ use Rattle.lra_base.specs.declared.number_types.NumberType.{NumberType}
 use Rattle.lra_base.specs.declared.refusals.Place.{Place}
 use Rattle.lra_base.specs.declared.refusals.Refusal.{Refusal}
 use Rattle.lra_base.specs.declared.refusals.Cause.TheVariants.{DuplicateName}
+use Rattle.lra_tree.specs.declared.trees.ArrayLength.{ArrayLength}
+use Rattle.lra_tree.specs.declared.trees.Identifier.{Identifier}
 use Rattle.lra_tree.specs.Trees.{FunctionTree, DeclaratorTree, CondTree, StmtTree, block, if_only, if_else, while, for, switch}
 use Rattle.lra_simple.specs.declared.around.Around.{Around}
 use Rattle.lra_scopes.specs.Calls.{functions_at}
-use Rattle.lra_meaning.specs.Scope.{Scope, is_declared, with_local, declarator_entry}
+use Rattle.lra_meaning.specs.Scope.{Scope, scalar, array, is_declared, with_local, array_of, declarator_entry}
 use Rattle.lra_meaning.specs.NameFaults as faults
 use Rattle.lra_program.specs.Program as program
 
@@ -19,10 +21,17 @@ around_of a = record {
   jumps = record { breaks = a.breaks; continues = a.continues };
 }
 
+-- with a scalar, and with an array, of a type
+abbrev pub with_scalar : Scope → NumberType → Identifier → Scope
+with_scalar s t x = with_local s (record { name = x.word; meaning = scalar t })
+
+abbrev pub with_array : Scope → NumberType → Identifier → ArrayLength → Scope
+with_array s t x n = with_local s (record { name = x.word; meaning = array (array_of t x n) })
+
 -- of one declarator of a type
 abbrev pub declarator_faults : List FunctionTree → Scope → NumberType → DeclaratorTree → List Refusal
 declarator_faults F s t d = faults.fault_if (is_declared s d.name.word) DuplicateName d.name.place
-    ++ faults.given_faults F (with_local s (declarator_entry t d)) d.rvalue
+    ++ faults.shape_faults (faults.given_faults F (with_local s (declarator_entry t d))) d.shape
 
 -- a choice, with a second branch or without one
 abbrev pub choice_tree : Place → CondTree → StmtTree → Option StmtTree → StmtTree

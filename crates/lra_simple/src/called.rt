@@ -14,6 +14,7 @@ pub fn place_of_assign(assign: &Assign) -> Place
 {
     match assign {
         Assign::Set(x, _) => x.place,
+        Assign::SetElement(x, _, _) => x.place,
         Assign::Update(x, _, _) => x.place,
         Assign::After(x, _) => x.place,
         Assign::Before(place, _, _) => *place,
@@ -52,6 +53,7 @@ pub fn copy_assigned_callee(
 {
     match assign {
         Assign::Set(_, rvalue) => copy_callee(alloc, rvalue),
+        Assign::SetElement(_, _, rvalue) => copy_callee(alloc, rvalue),
         Assign::Update(_, _, _) => Ok(None),
         Assign::After(_, _) => Ok(None),
         Assign::Before(_, _, _) => Ok(None),

@@ -1,27 +1,101 @@
-//! Declarations: a variable is in scope from its own declarator's name on.
+//! Declarations: a scalar or an array is in scope from its own declarator's name on.
 
 ghost use Rattle.std.specs.Prelude.{◌≡◌, ◌+◌, ◌∷◌, [], ℕ, suc, List, map, length, option_map, IfOk, OnOk, IfErr};
-ghost use Rattle.lra_program.specs.Program.{BlockItems};
-ghost use Rattle.lra_tree.specs.Trees.{DeclaratorTree};
+ghost use Rattle.lra_program.specs.Program.{BlockItems, declaration as declaration_item, array as array_item};
+ghost use Rattle.lra_tree.specs.Trees.{DeclaratorTree, scalar as scalar_shape, array as array_shape};
 ghost use Rattle.lra_tree.specs.Views.{rvalue_view, declarator_view};
-ghost use Rattle.lra_program.specs.ProgramViews.{declarator_view as program_declarator_view, item_view};
-ghost use Rattle.lra_meaning.specs.Scope.{with_local, declarator_entry, with_declarators};
-ghost use Rattle.lra_meaning.specs.NameFaults.{declarators_faults};
-ghost use Rattle.lra_meaning.specs.Resolve.{resolve_given, resolve_declarators};
+ghost use Rattle.lra_program.specs.ProgramViews.{item_view};
+ghost use Rattle.lra_meaning.specs.Scope.{with_local, array_of, declarator_entry, with_declarators};
+ghost use Rattle.lra_meaning.specs.NameFaults.{given_faults, length_faults, declarators_faults};
+ghost use Rattle.lra_meaning.specs.Resolve.{resolve_given, resolve_declared, resolve_declarators};
 ghost use Rattle.lra_scopes.specs.Calls.{functions_at};
 ghost use Rattle.lra_simple.specs.Labelling.{Declares};
-ghost use Rattle.lra_simple.specs.Statements.{declarator_faults, followed};
+ghost use Rattle.lra_simple.specs.Statements.{with_scalar, with_array, declarator_faults, followed};
 ghost use Rattle.lra_scopes.specs.Outcome.{Tells, TellsOf};
 
 use crate::called::copy_given_callee;
 use crate::labelling::Labelling;
 use lra_base::{Cause, NumberType, SourceError};
-use lra_scopes::{Functions, Scope, refuse, resolve_given};
-use lra_tree::{Declaration, Declarator};
+use lra_program::BlockItem;
+use lra_scopes::{Functions, Meaning, Scope, build_array, refuse, resolve_given};
+use lra_tree::{ArrayLength, Declaration, Declarator, Identifier, Rvalue, Shape};
 use std::alloc::Global;
 
-/// Declares the variable, and resolves what it gets.
+/// A name with the type of its declaration.
+#[derive(Clone, Copy)]
+struct Typed<'a> {
+    name: &'a Identifier,
+    number_type: NumberType,
+}
+
+/// Declares the scalar, and resolves what it gets.
 #[tactic(auto, using(lra_scopes::proofs::Telling::telling_rules))]
+fn resolve_scalar(
+    alloc: Global,
+    functions: &Functions<'_>,
+    scope: &mut Scope,
+    labels: &mut Labelling,
+    typed: &Typed<'_>,
+    given: &Option<Rvalue>,
+) -> Result<BlockItem, SourceError>
+    ensures told { TellsOf (given_faults (functions_at functions.now)
+        (with_scalar scope.old typed.now.number_type typed.now.name.now)
+        (option_map rvalue_view given.now)) result }
+    ensures found { IfOk result (λ i. item_view i ≡ declaration_item (record {
+      label = labels.old.next;
+      number_type = typed.now.number_type;
+      rvalue = resolve_given (functions_at functions.now)
+          (with_scalar scope.old typed.now.number_type typed.now.name.now) labels.old.next
+          (option_map rvalue_view given.now);
+    })) }
+    ensures declared { OnOk result (scope.new ≡
+        with_scalar scope.old typed.now.number_type typed.now.name.now) }
+    ensures counted { OnOk result (labels.new.next ≡ suc labels.old.next) }
+    ensures labelled { OnOk result (Declares labels.old labels.new (record {
+      name = typed.now.name.now;
+      shape = scalar_shape (option_map rvalue_view given.now);
+    } ∷ [])) }
+{
+    let Typed { name, number_type } = *typed;
+    scope.declare(alloc, &name.word, Meaning::Scalar(number_type))?;
+    let called = copy_given_callee(alloc, given)?;
+    let label = labels.add_declarator(alloc, name, called)?;
+    let rvalue = resolve_given(alloc, functions, scope, label, given)?;
+    Ok(BlockItem::Declaration(lra_program::Declarator {
+        label,
+        number_type,
+        rvalue,
+    }))
+}
+
+/// Declares the array.
+#[tactic(auto, using(lra_scopes::proofs::Telling::telling_rules))]
+fn resolve_array(
+    alloc: Global,
+    scope: &mut Scope,
+    labels: &mut Labelling,
+    typed: &Typed<'_>,
+    length: ArrayLength,
+) -> Result<BlockItem, SourceError>
+    ensures told { TellsOf (length_faults length) result }
+    ensures found { IfOk result (λ i. item_view i ≡ array_item labels.old.next
+        (array_of typed.now.number_type typed.now.name.now length)) }
+    ensures declared { OnOk result (scope.new ≡
+        with_array scope.old typed.now.number_type typed.now.name.now length) }
+    ensures counted { OnOk result (labels.new.next ≡ suc labels.old.next) }
+    ensures labelled { OnOk result (Declares labels.old labels.new (record {
+      name = typed.now.name.now;
+      shape = array_shape length;
+    } ∷ [])) }
+{
+    let Typed { name, number_type } = *typed;
+    let array = build_array(number_type, name, length)?;
+    scope.declare(alloc, &name.word, Meaning::Array(array))?;
+    let label = labels.add(name.place, None)?;
+    Ok(BlockItem::Array(label, array))
+}
+
+/// Declares the scalar and resolves what it gets, or declares the array.
 fn resolve_declarator(
     alloc: Global,
     functions: &Functions<'_>,
@@ -29,34 +103,27 @@ fn resolve_declarator(
     labels: &mut Labelling,
     number_type: NumberType,
     declarator: &Declarator,
-) -> Result<lra_program::Declarator, SourceError>
+) -> Result<BlockItem, SourceError>
     ensures told { TellsOf (declarator_faults (functions_at functions.now) scope.old number_type
         (declarator_view declarator.now)) result }
-    ensures found { IfOk result (λ d. program_declarator_view d
-        ≡ record {
-          label = labels.old.next;
-          number_type = number_type;
-          rvalue = resolve_given (functions_at functions.now)
-              (with_local scope.old (declarator_entry number_type (declarator_view declarator.now))) labels.old.next
-              (option_map rvalue_view declarator.now.rvalue);
-        }) }
+    ensures found { IfOk result (λ i. (more : BlockItems) → item_view i more
+        ≡ resolve_declared (functions_at functions.now)
+        (with_local scope.old (declarator_entry number_type (declarator_view declarator.now)))
+        labels.old.next number_type declarator.now.name (declarator_view declarator.now).shape more) }
     ensures declared { OnOk result (scope.new ≡
         with_local scope.old (declarator_entry number_type (declarator_view declarator.now))) }
     ensures counted { OnOk result (labels.new.next ≡ suc labels.old.next) }
     ensures labelled { OnOk result (Declares labels.old labels.new (declarator_view declarator.now ∷ [])) }
 {
-    if scope.is_declared(&declarator.name.word) {
-        return refuse(Cause::DuplicateName, declarator.name.place);
+    let name = &declarator.name;
+    if scope.is_declared(&name.word) {
+        return refuse(Cause::DuplicateName, name.place);
     }
-    scope.declare(alloc, &declarator.name.word, number_type)?;
-    let called = copy_given_callee(alloc, &declarator.rvalue)?;
-    let label = labels.add_declarator(alloc, &declarator.name, called)?;
-    let rvalue = resolve_given(alloc, functions, scope, label, &declarator.rvalue)?;
-    Ok(lra_program::Declarator {
-        label,
-        number_type,
-        rvalue,
-    })
+    let typed = Typed { name, number_type };
+    match &declarator.shape {
+        Shape::Scalar(given) => resolve_scalar(alloc, functions, scope, labels, &typed, given),
+        Shape::Array(length) => resolve_array(alloc, scope, labels, &typed, *length),
+    }
 }
 
 /// Resolves a declarator of this type into a further item.
@@ -67,7 +134,7 @@ fn add_declarator(
     labels: &mut Labelling,
     number_type: NumberType,
     declarator: &Declarator,
-    items: &mut Vec<lra_program::BlockItem>,
+    items: &mut Vec<BlockItem>,
 ) -> Result<(), SourceError>
     ensures told { IfErr result (λ e. (rest : List DeclaratorTree)
         → Tells (declarators_faults (functions_at functions.now) scope.old number_type
@@ -87,7 +154,7 @@ fn add_declarator(
 {
     let alloc = *items.allocator();
     let resolved = resolve_declarator(alloc, functions, scope, labels, number_type, declarator)?;
-    items.push(lra_program::BlockItem::Declaration(resolved))?;
+    items.push(resolved)?;
     Ok(())
 }
 
@@ -97,7 +164,7 @@ pub fn add_declaration(
     scope: &mut Scope,
     labels: &mut Labelling,
     declaration: &Declaration,
-    items: &mut Vec<lra_program::BlockItem>,
+    items: &mut Vec<BlockItem>,
 ) -> Result<(), SourceError>
     ensures told { TellsOf (declarators_faults (functions_at functions.now) scope.old declaration.now.number_type
         (declarator_view declaration.now.first ∷ map declarator_view declaration.now.rest.items)) result }

@@ -11,7 +11,7 @@ use lra_tree::{Identifier, Word};
 use std::alloc::Global;
 use std::marker::Model;
 
-/// The labels so far, and the variables of the function that live now.
+/// The labels so far, and the scalars of the function that live now.
 pub struct Labelling {
     table: Labels,
     /// The number of the list of the names that live now.
@@ -70,7 +70,7 @@ impl Labelling {
         Ok(self.table.len())
     }
 
-    /// Declares a variable without a label: a parameter. Gives [`SourceError::Memory`] only.
+    /// Declares a scalar without a label: a parameter. Gives [`SourceError::Memory`] only.
     pub fn declare(&mut self, alloc: Global, name: &Word) -> Result<(), SourceError>
         ensures live { OnOk result (self.new.live ≡ self.old.live ++ name.now ∷ []) }
         ensures labels { OnOk result (self.new.labels ≡ self.old.labels) }
@@ -88,7 +88,7 @@ impl Labelling {
         }
     }
 
-    /// The next label, for a declarator: its variable lives behind it, and so in its call. Gives
+    /// The next label, for a declarator: its scalar lives behind it, and so in its call. Gives
     /// [`SourceError::Memory`] only.
     pub fn add_declarator(
         &mut self,
@@ -136,7 +136,7 @@ impl Labelling {
         self.count
     }
 
-    /// The newest variable lives no longer.
+    /// The newest scalar lives no longer.
     fn forget(&mut self)
         ensures live { self.new.live ≡ take (length self.old.live - 1) self.old.live }
         ensures labels { self.new.labels ≡ self.old.labels }
@@ -146,7 +146,7 @@ impl Labelling {
         self.count = self.count.saturating_sub(1);
     }
 
-    /// Only the oldest `count` variables live on.
+    /// Only the oldest `count` scalars live on.
     pub fn keep_oldest(&mut self, count: usize)
         ensures live { self.new.live ≡ take count self.old.live }
         ensures labels { self.new.labels ≡ self.old.labels }
