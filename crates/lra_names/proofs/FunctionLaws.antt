@@ -9,7 +9,7 @@ use Rattle.lra_tree.specs.Trees.{FunctionTree, GlobalTree}
 use Rattle.lra_program.specs.Program as program
 use Rattle.lra_program.specs.ProgramViews.{function_or}
 use Rattle.lra_tree.specs.Functions.{is_main}
-use Rattle.lra_meaning.specs.NameFaults.{is_taken, first_value_faults, globals_faults}
+use Rattle.lra_meaning.specs.NameFaults.{is_taken, first_value_faults, shape_faults, globals_faults}
 use Rattle.lra_meaning.specs.Resolve.{main_of}
 use Rattle.lra_names.specs.Mains.{main_place}
 use Rattle.lra_scopes.specs.Outcome.{Tells}
@@ -33,12 +33,13 @@ main_at (f ∷ fs) (g ∷ gs) e = main_case (is_main f) (list_any is_main fs) g 
 
 pub ruleset function_rules = (tells_front, tells_behind)
 
--- a first value that its type doesn't have is told behind a name that isn't taken
-pub literal_told : (t : NumberType) (names : List (List ℕ)) (g : GlobalTree) (rest : List GlobalTree) (e : SourceError) → is_taken g.name.word names ≡ false
-    → Tells (first_value_faults t g.value) e → Tells (globals_faults t names (g ∷ rest)) e
-literal_told t names g rest e free told = rw free (tells_front (first_value_faults t g.value) (globals_faults t (names ++ g.name.word ∷ []) rest) e told)
+-- a first value that its type doesn't have, and a length that no array has, are told behind a name that isn't taken
+pub shape_told : (t : NumberType) (names : List (List ℕ)) (g : GlobalTree) (rest : List GlobalTree) (e : SourceError) → is_taken g.name.word names ≡ false
+    → Tells (shape_faults (first_value_faults t) g.shape) e → Tells (globals_faults t names (g ∷ rest)) e
+shape_told t names g rest e free told =
+    rw free (tells_front (shape_faults (first_value_faults t) g.shape) (globals_faults t (names ++ g.name.word ∷ []) rest) e told)
 
-pub ruleset global_rules = (tells_front, tells_behind, literal_told)
+pub ruleset global_rules = (tells_front, tells_behind, shape_told)
 
 pub ruleset part_rules = (append_assoc, map-append, tells_front, tells_behind)
 

@@ -1,19 +1,20 @@
-//! Functions, global variables, and the whole source.
+//! Functions, global variables and arrays, and the whole source.
 
 ghost use Rattle.std.specs.Prelude.{◌≡◌, ◌+◌, ◌++◌, ◌∷◌, [], ℕ, List, suc, true, false, map, length, IfOk, OnOk, IfErr};
 ghost use Rattle.std.specs.Prelude.{MatchOption};
-ghost use Rattle.std.specs.List.{list_any};
+ghost use Rattle.std.specs.List.{flat_map, list_any};
 ghost use Rattle.lra_tree.specs.Trees.{GlobalTree, PartTree, function as part_function};
 ghost use Rattle.lra_tree.specs.Views.{global_view, globals_view, function_view as tree_function_view, part_view};
 ghost use Rattle.lra_tree.specs.Views.{tree_view};
 ghost use Rattle.lra_program.specs.ProgramViews.{function_view, program_view};
-ghost use Rattle.lra_meaning.specs.Scope.{function_scope, global_entry, global_entries};
+ghost use Rattle.lra_meaning.specs.Scope.{function_scope, meaning_of, global_entry, global_entries};
 ghost use Rattle.lra_tree.specs.Functions.{is_main, functions_in};
-ghost use Rattle.lra_meaning.specs.NameFaults.{parameters_faults, function_faults, first_value_faults, globals_faults};
-ghost use Rattle.lra_meaning.specs.NameFaults.{global_names, parts_faults, name_faults};
-ghost use Rattle.lra_meaning.specs.Resolve.{resolve_function, value_or_zero, resolve_global, globals_in};
-ghost use Rattle.lra_meaning.specs.Resolve.{resolve_parts, items_count, resolve};
+ghost use Rattle.lra_meaning.specs.NameFaults.{parameters_faults, function_faults, first_value_faults, shape_faults};
+ghost use Rattle.lra_meaning.specs.NameFaults.{globals_faults, global_names, parts_faults, name_faults};
+ghost use Rattle.lra_meaning.specs.Resolve.{resolve_function, value_or_zero, variables_by, arrays_by, globals_in};
+ghost use Rattle.lra_meaning.specs.Resolve.{arrays_in, resolve_parts, items_count, resolve};
 ghost use Rattle.lra_scopes.specs.Calls.{functions_at};
+ghost use Rattle.lra_scopes.specs.Meanings.{meaning_view};
 ghost use Rattle.lra_tree.specs.Labels.{function_labels, labels_of};
 ghost use Rattle.lra_simple.specs.Labelling.{labels_of_functions};
 ghost use Rattle.lra_names.specs.Mains.{main_place};
@@ -22,10 +23,10 @@ ghost use Rattle.lra_scopes.specs.Outcome.{Tells, TellsOf};
 use crate::statements::resolve_items;
 use lra_base::{Cause, NumberType, SourceError};
 use lra_meaning::Labels;
-use lra_program::{GlobalVariable, Program};
-use lra_scopes::{Functions, Names, Scope, refuse};
+use lra_program::{Array, GlobalVariable, Program};
+use lra_scopes::{Functions, Meaning, Names, Scope, build_array, refuse};
 use lra_simple::{Around, Labelling};
-use lra_tree::{Function, Globals, Item, Parameter, SignedLiteral, Tree};
+use lra_tree::{Function, Globals, Item, Parameter, Shape, SignedLiteral, Tree};
 use std::alloc::{AllocError, Global};
 
 /// Begins a function's scope with its parameters.
@@ -47,7 +48,8 @@ fn declare_parameters(
         if scope.is_declared(&parameter.name.word) {
             return refuse(Cause::DuplicateName, parameter.name.place);
         }
-        scope.declare(alloc, &parameter.name.word, parameter.number_type)?;
+        let meaning = Meaning::Scalar(parameter.number_type);
+        scope.declare(alloc, &parameter.name.word, meaning)?;
         labels.declare(alloc, &parameter.name.word)?;
     }
     Ok(())
@@ -110,6 +112,7 @@ pub struct Resolved {
     scope: Scope,
     labels: Labelling,
     globals: Vec<GlobalVariable>,
+    arrays: Vec<Array>,
     functions: Vec<lra_program::Function>,
 }
 
@@ -130,6 +133,36 @@ fn first_value(number_type: NumberType, value: Option<SignedLiteral>) -> Result<
     }
 }
 
+/// Adds the variable or the array that a global of this type is; gives what its name means.
+fn add_shape(
+    globals: &mut Vec<GlobalVariable>,
+    arrays: &mut Vec<Array>,
+    number_type: NumberType,
+    global: &lra_tree::Global,
+) -> Result<Meaning, SourceError>
+    ensures told { TellsOf (shape_faults (first_value_faults number_type)
+        (global_view global.now).shape) result }
+    ensures found { IfOk result (λ m. meaning_view m
+        ≡ meaning_of number_type global.now.name (global_view global.now).shape) }
+    ensures valued { OnOk result (globals.new.items
+        ≡ globals.old.items ++ variables_by number_type (global_view global.now).shape) }
+    ensures arrayed { OnOk result (arrays.new.items ≡ arrays.old.items
+        ++ arrays_by number_type global.now.name (global_view global.now).shape) }
+{
+    match &global.shape {
+        Shape::Scalar(value) => {
+            let value = first_value(number_type, *value)?;
+            globals.push(GlobalVariable { number_type, value })?;
+            Ok(Meaning::Scalar(number_type))
+        }
+        Shape::Array(length) => {
+            let array = build_array(number_type, &global.name, *length)?;
+            arrays.push(array)?;
+            Ok(Meaning::Array(array))
+        }
+    }
+}
+
 #[tactic(auto, using(crate::proofs::FunctionLaws::global_rules))]
 fn add_global(
     alloc: Global,
@@ -146,21 +179,25 @@ fn add_global(
     ensures scoped { OnOk result (resolved.new.scope.globals ≡ resolved.old.scope.globals
         ++ global_entry number_type (global_view global.now) ∷ []) }
     ensures valued { OnOk result (resolved.new.globals.items ≡ resolved.old.globals.items
-        ++ resolve_global number_type (global_view global.now) ∷ []) }
+        ++ variables_by number_type (global_view global.now).shape) }
+    ensures arrayed { OnOk result (resolved.new.arrays.items ≡ resolved.old.arrays.items
+        ++ arrays_by number_type global.now.name (global_view global.now).shape) }
     ensures labels { OnOk result (resolved.new.labels ≡ resolved.old.labels) }
     ensures functions { OnOk result (resolved.new.functions.items ≡ resolved.old.functions.items) }
 {
     if resolved.names.has_behind(0, &global.name.word) {
         return refuse(Cause::DuplicateName, global.name.place);
     }
-    let value = first_value(number_type, global.value)?;
+    let meaning = add_shape(
+        &mut resolved.globals,
+        &mut resolved.arrays,
+        number_type,
+        global,
+    )?;
     resolved.names.push(alloc, &global.name.word)?;
     resolved
         .scope
-        .declare_global(alloc, &global.name.word, number_type)?;
-    resolved
-        .globals
-        .push(GlobalVariable { number_type, value })?;
+        .declare_global(alloc, &global.name.word, meaning)?;
     Ok(())
 }
 
@@ -172,7 +209,10 @@ fn add_globals(alloc: Global, resolved: &mut Resolved, globals: &Globals) -> Res
     ensures scoped { OnOk result (resolved.new.scope.globals ≡ resolved.old.scope.globals
         ++ global_entries (globals_view globals.now)) }
     ensures valued { OnOk result (resolved.new.globals.items ≡ resolved.old.globals.items
-        ++ map (resolve_global globals.now.number_type)
+        ++ flat_map (λ g. variables_by globals.now.number_type g.shape)
+        (global_view globals.now.first ∷ map global_view globals.now.rest.items)) }
+    ensures arrayed { OnOk result (resolved.new.arrays.items ≡ resolved.old.arrays.items
+        ++ flat_map (λ g. arrays_by globals.now.number_type g.name g.shape)
         (global_view globals.now.first ∷ map global_view globals.now.rest.items)) }
     ensures labels { OnOk result (resolved.new.labels ≡ resolved.old.labels) }
     ensures functions { OnOk result (resolved.new.functions.items ≡ resolved.old.functions.items) }
@@ -206,6 +246,7 @@ fn add_function(
         ++ labels_of_functions (functions_in rest) ≡ resolved.old.labels.labels
         ++ labels_of_functions (functions_in (part_function (tree_function_view function.now) ∷ rest))) }
     ensures valued { OnOk result (resolved.new.globals.items ≡ resolved.old.globals.items) }
+    ensures arrayed { OnOk result (resolved.new.arrays.items ≡ resolved.old.arrays.items) }
 {
     if resolved.names.has_behind(0, &function.name.word) {
         return refuse(Cause::DuplicateName, function.name.place);
@@ -245,6 +286,8 @@ fn add_part(
         ++ labels_of_functions (functions_in (part_view item.now ∷ rest))) }
     ensures valued { OnOk result ((rest : List PartTree) → resolved.old.globals.items
         ++ globals_in (part_view item.now ∷ rest) ≡ resolved.new.globals.items ++ globals_in rest) }
+    ensures arrayed { OnOk result ((rest : List PartTree) → resolved.old.arrays.items
+        ++ arrays_in (part_view item.now ∷ rest) ≡ resolved.new.arrays.items ++ arrays_in rest) }
 {
     match item {
         Item::Prototype => Ok(()),
@@ -292,6 +335,7 @@ fn resolve_all(alloc: Global, functions: &Functions<'_>) -> Result<Resolved, Sou
     ensures found { IfOk result (λ r. map function_view r.functions.items
         ≡ resolve_parts (functions_at functions.now) [] 1 (map part_view functions.now)) }
     ensures valued { IfOk result (λ r. r.globals.items ≡ globals_in (map part_view functions.now)) }
+    ensures arrayed { IfOk result (λ r. r.arrays.items ≡ arrays_in (map part_view functions.now)) }
     ensures labelled { IfOk result (λ r. r.labels.labels ≡ labels_of_functions (functions_at functions.now)) }
 {
     let mut resolved = Resolved {
@@ -299,6 +343,7 @@ fn resolve_all(alloc: Global, functions: &Functions<'_>) -> Result<Resolved, Sou
         scope: Scope::outermost(alloc),
         labels: Labelling::new(alloc),
         globals: Vec::new(alloc),
+        arrays: Vec::new(alloc),
         functions: Vec::new(alloc),
     };
     let parts = functions.parts();
@@ -339,6 +384,7 @@ pub fn resolve(alloc: Global, tree: &Tree) -> Result<Resolution, SourceError>
         Some(main) => Ok(Resolution {
             program: Program {
                 globals: resolved.globals,
+                arrays: resolved.arrays,
                 functions: resolved.functions,
                 main,
             },

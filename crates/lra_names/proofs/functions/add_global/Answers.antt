@@ -16,9 +16,3 @@ returns-in_err-declare_global-clause-told c =
     memory_told_all (λ (rest : List GlobalTree). globals_faults c.args.number_type c.args.resolved.now.names (global_view c.args.global.now ∷ rest))
     c.from_residual-in_err-declare_global.result
     c.from_residual-in_err-declare_global.ensures.1
-
-pub returns-in_err-push-2-clause-told : goal.returns-in_err-push-2-clause-told
-returns-in_err-push-2-clause-told c =
-    memory_told_all (λ (rest : List GlobalTree). globals_faults c.args.number_type c.args.resolved.now.names (global_view c.args.global.now ∷ rest))
-    c.from_residual-in_err-push-2.result
-    c.from_residual-in_err-push-2.ensures.1

@@ -1,9 +1,11 @@
 -- The first globals are there; the faults of those that are left are those of all.
 use Rattle.std.proofs.Common.{◌≡◌, ◌∷◌, ◌++◌, map, take, drop}
+use Rattle.std.specs.List.{flat_map}
+use Rattle.lra_tree.specs.Trees.{GlobalTree}
 use Rattle.lra_tree.specs.Views.{global_view}
 use Rattle.lra_meaning.specs.NameFaults.{globals_faults, global_names}
 use Rattle.lra_meaning.specs.Scope.{global_entry}
-use Rattle.lra_meaning.specs.Resolve.{resolve_global}
+use Rattle.lra_meaning.specs.Resolve.{variables_by, arrays_by}
 use Rattle.lra_names.proofs.functions.add_globals.Given as goal
 
 abbrev pub invariant-globals : goal.invariant-globals
@@ -14,7 +16,11 @@ invariant-globals l = record {
   scoped : l.resolved.scope.globals ≡ l.fn.resolved.scope.globals
       ++ map (global_entry l.globals.number_type) (global_view l.globals.first ∷ map global_view (take l.global-index l.global-items));
   valued : l.resolved.globals.items ≡ l.fn.resolved.globals.items
-      ++ map (resolve_global l.globals.number_type) (global_view l.globals.first ∷ map global_view (take l.global-index l.global-items));
+      ++ flat_map (λ (g : GlobalTree). variables_by l.globals.number_type g.shape)
+      (global_view l.globals.first ∷ map global_view (take l.global-index l.global-items));
+  arrayed : l.resolved.arrays.items ≡ l.fn.resolved.arrays.items
+      ++ flat_map (λ (g : GlobalTree). arrays_by l.globals.number_type g.name g.shape)
+      (global_view l.globals.first ∷ map global_view (take l.global-index l.global-items));
   labels : l.resolved.labels ≡ l.fn.resolved.labels;
   functions : l.resolved.functions.items ≡ l.fn.resolved.functions.items;
 }

@@ -5,7 +5,7 @@ use Rattle.lra_tree.specs.Trees.{PartTree}
 use Rattle.lra_tree.specs.Views.{part_view}
 use Rattle.lra_program.specs.ProgramViews.{function_view}
 use Rattle.lra_meaning.specs.NameFaults.{parts_faults}
-use Rattle.lra_meaning.specs.Resolve.{globals_in, resolve_parts}
+use Rattle.lra_meaning.specs.Resolve.{globals_in, arrays_in, resolve_parts}
 use Rattle.lra_tree.specs.Functions.{functions_in}
 use Rattle.lra_scopes.specs.Calls.{functions_at}
 use Rattle.lra_simple.specs.Labelling.{labels_of_functions}
@@ -32,6 +32,10 @@ parts-preserved c =
           ∙ parts_step (λ (ps : List PartTree). r.globals.items ++ globals_in ps) part_view xs c.parts.item-index c.item-item.result c.parts-test.true
           c.item-item.is
           ∙ c.in_ok-add_part.ensures.valued left;
+      arrayed = c.parts.invariant.arrayed
+          ∙ parts_step (λ (ps : List PartTree). r.arrays.items ++ arrays_in ps) part_view xs c.parts.item-index c.item-item.result c.parts-test.true
+          c.item-item.is
+          ∙ c.in_ok-add_part.ensures.arrayed left;
       labelled = c.in_ok-add_part.ensures.labelled left
           ∙ sym (parts_step (λ (ps : List PartTree). r.labels.labels ++ labels_of_functions (functions_in ps)) part_view xs c.parts.item-index
           c.item-item.result c.parts-test.true
@@ -71,6 +75,14 @@ returns-clause-valued c =
     ∙ c.parts.invariant.valued
     ∙ parts_end (λ (ps : List PartTree). r.globals.items ++ globals_in ps) part_view c.parts-parts.result.now c.parts.item-index c.parts-test.false
     ∙ append-nil r.globals.items)
+
+pub returns-clause-arrayed : goal.returns-clause-arrayed
+returns-clause-arrayed c =
+    let r = c.parts.resolved in
+    sym (ap (λ (xs : List Item). arrays_in (map part_view xs)) (sym c.parts-parts.ensures)
+    ∙ c.parts.invariant.arrayed
+    ∙ parts_end (λ (ps : List PartTree). r.arrays.items ++ arrays_in ps) part_view c.parts-parts.result.now c.parts.item-index c.parts-test.false
+    ∙ append-nil r.arrays.items)
 
 pub returns-clause-labelled : goal.returns-clause-labelled
 returns-clause-labelled c =

@@ -3,7 +3,7 @@ use Rattle.std.proofs.Common.{◌≡◌, [], ◌++◌, map, drop}
 use Rattle.lra_tree.specs.Views.{part_view}
 use Rattle.lra_program.specs.ProgramViews.{function_view}
 use Rattle.lra_meaning.specs.NameFaults.{parts_faults}
-use Rattle.lra_meaning.specs.Resolve.{globals_in, resolve_parts}
+use Rattle.lra_meaning.specs.Resolve.{globals_in, arrays_in, resolve_parts}
 use Rattle.lra_tree.specs.Functions.{functions_in}
 use Rattle.lra_scopes.specs.Calls.{functions_at}
 use Rattle.lra_simple.specs.Labelling.{labels_of_functions}
@@ -17,6 +17,7 @@ invariant-parts l = record {
       ≡ map function_view l.resolved.functions.items
       ++ resolve_parts (functions_at l.functions) l.resolved.scope.globals l.resolved.labels.next (map part_view (drop l.item-index l.parts));
   valued : globals_in (map part_view l.parts) ≡ l.resolved.globals.items ++ globals_in (map part_view (drop l.item-index l.parts));
+  arrayed : arrays_in (map part_view l.parts) ≡ l.resolved.arrays.items ++ arrays_in (map part_view (drop l.item-index l.parts));
   labelled : l.resolved.labels.labels ++ labels_of_functions (functions_in (map part_view (drop l.item-index l.parts)))
       ≡ labels_of_functions (functions_in (map part_view l.parts));
 }
