@@ -1,6 +1,7 @@
 -- The readers of assignments and declarations are exact.
 use Rattle.std.proofs.Common.{◌≡◌, ℕ, ◌+◌, ◌≤◌, Bool, true, false, cond, ◌⊎◌, List, [], ◌∷◌, ◌++◌, Option, Some, None, Ok, Err, refl, sym, ap, subst, ◌∙◌, arith, inl, inr, option_map}
 use Rattle.std.specs.Bool.{⊤}
+use Rattle.std.proofs.lemmas.List.{append-nil}
 use Rattle.lra_base.specs.declared.number_types.NumberType.{NumberType}
 use Rattle.lra_base.specs.declared.number_types.NumberType.TheVariants.{Int, Long}
 use Rattle.lra_base.specs.declared.refusals.Place.{Place}
@@ -16,23 +17,27 @@ use Rattle.lra_tree.specs.declared.trees.Step.{Step}
 use Rattle.lra_tree.specs.declared.trees.Step.TheVariants as step
 use Rattle.lra_base.specs.Operators as operators
 use Rattle.lra_tree.specs.Texts.{Pieces, Texts, ◌⋅◌, ◌∣◌, empty, opens, mark as spells, opens_at, name, separated}
-use Rattle.lra_tree.specs.Trees.{RvalueTree, expression, result, StepTree, increment, decrement, AssignTree, set, update, after, before, DeclaratorTree, DeclarationTree}
+use Rattle.lra_tree.specs.Trees.{RvalueTree, expression, result, StepTree, increment, decrement, AssignTree, set, set_element, update, after, before, ShapeTree}
+use Rattle.lra_tree.specs.Trees.{scalar, array, DeclaratorTree, DeclarationTree}
 use Rattle.lra_base.specs.OperatorViews.{operator_view}
 use Rattle.lra_tree.specs.Views.{step_view}
-use Rattle.lra_tree.specs.Grammar.{IsExpr, IsRvalue, update_mark, step_mark, IsAssign, IsType, IsDeclarator, IsDeclaration}
+use Rattle.lra_tree.specs.Grammar.{IsExpr, IsRvalue, update_mark, step_mark, IsAssign, IsType, IsGiven, IsShape, IsDeclarator, IsDeclaration}
 use Rattle.lra_readers.specs.Tests.{first, is_mark}
 use Rattle.lra_readers.specs.Reading.{Text, Read, Parse, stop, ◌>>=◌, seq, map_read, tail, expect, take_by, has, one_of}
-use Rattle.lra_readers.specs.Statements.{skip, update_operators, update_operator, step_marks, next_step, assign_rest, assign_at, begins_type, type_words, declared_value, declarator_at, declaration_of}
+use Rattle.lra_readers.specs.Statements.{skip, update_operators, update_operator, step_marks, next_step, variable_rest, element_rest, assign_rest, assign_at}
+use Rattle.lra_readers.specs.Statements.{begins_type, type_words}
+use Rattle.lra_readers.specs.Statements.{declarator_of, declarator_rest, declarator_at, declaration_of}
 use Rattle.lra_readers.specs.Statements.{commas, declaration_at}
-use Rattle.lra_readers.specs.Expressions.{ended}
+use Rattle.lra_readers.specs.Expressions.{ended, index_at}
 use Rattle.lra_readers.proofs.Marks.{is_mark_some}
 use Rattle.lra_readers.proofs.Exact.{Exact, Any, Free, Both, first_or, then}
-use Rattle.lra_readers.proofs.Forms.{widen, retell, entry, mapped, branch, same_where, exact_done, exact_take}
+use Rattle.lra_readers.proofs.Forms.{widen, retell, entry, mapped, branch, same_where, exact_take}
 use Rattle.lra_readers.proofs.Tokens.{IsInner, table_is, exact_name, exact_operator, some_place, some_name}
 use Rattle.lra_readers.proofs.Chain.{regroup, joined_left, joined_right, AfterLast}
 use Rattle.lra_readers.proofs.Parts.{token, exact_behind, exact_ended}
-use Rattle.lra_readers.proofs.ExactExpressions.{AfterExpr, some_expr, Of, first_opened, exact_expr}
+use Rattle.lra_readers.proofs.ExactExpressions.{AfterExpr, after_expr, some_expr, Of, IndexText, AtIndex, first_opened, exact_expr, exact_index}
 use Rattle.lra_readers.proofs.ExactLists.{exact_skip, AfterCommas, exact_commas}
+use Rattle.lra_readers.proofs.ExactShapes.{AfterShape, GivenText, exact_shape}
 use Rattle.lra_readers.proofs.ExactRvalues.{AfterRvalue, some_rvalue, exact_rvalue}
 
 -- operators --------------------------------------------------------------------------------------------------------
@@ -91,6 +96,7 @@ exact_step n o low =
 
 abbrev pub AfterAssign : AssignTree → Option Token → Type 0
 AfterAssign (set x e) o = AfterRvalue e o
+AfterAssign (set_element x i e) o = AfterRvalue e o
 AfterAssign (update x op e) o = AfterExpr e o
 AfterAssign (after x s) o = ⊤
 AfterAssign (before at s x) o = ⊤
@@ -104,9 +110,16 @@ UpdateText l x b z = Both (λ op z. spells (mark_of_update op) z) (λ op b. Of (
 abbrev AfterText : Identifier → AssignTree → Texts
 AfterText x b z = Of (λ (s : Step × Place). after x (step_view s.0)) (StepText 0) b z
 
+abbrev ElementText : ℕ → Identifier → AssignTree → Texts
+ElementText l x b z = Both (IndexText l) (λ i b. opens mark.Assign 0 ⋅ Of (set_element x i) (IsRvalue l) b) b z
+
+-- behind the name of a variable
+abbrev VariableText : ℕ → Identifier → AssignTree → Texts
+VariableText l x b z = SetText l x b z ⊎ (UpdateText l x b z ⊎ AfterText x b z)
+
 -- behind the name
 abbrev pub RestText : ℕ → Identifier → AssignTree → Texts
-RestText l x b z = SetText l x b z ⊎ (UpdateText l x b z ⊎ AfterText x b z)
+RestText l x b z = ElementText l x b z ⊎ VariableText l x b z
 
 update_begins : (l : ℕ) (x : Identifier) (b : AssignTree) (z : Pieces) (o : Option Token) → UpdateText l x b z → has (update_operator (first_or z o)) ≡ true
 update_begins l x b z o (op, (u, v, e, s, r)) = first_opened (λ i. has (update_operator i) ≡ true) (mark_of_update op) 0 u v z o e s (λ at. rw (update_self op at) refl)
@@ -131,8 +144,8 @@ step_no_update x b z o (s, f, e) = rw e (step_not s.0 s.1).0
 step_no_set : (x : Identifier) (b : AssignTree) (z : Pieces) (o : Option Token) → AfterText x b z → is_mark mark.Assign (first_or z o) ≡ false
 step_no_set x b z o (s, f, e) = rw e (step_not s.0 s.1).1
 
-pub exact_assign_rest : (n d l : ℕ) → d + l ≡ n → (x : Identifier) → Exact n IsInner (assign_rest d x) Any (RestText l x) (RestText l x) AfterAssign
-exact_assign_rest n d l h x =
+exact_variable_rest : (n d l : ℕ) → d + l ≡ n → (x : Identifier) → Exact n IsInner (variable_rest d x) Any (VariableText l x) (VariableText l x) AfterAssign
+exact_variable_rest n d l h x =
     let sets = exact_behind mark.Assign 0 (omega arith) (mapped (exact_rvalue n d l h) (set x) AfterAssign (λ e o f. f) (λ e o f. f))
     (set x (some_rvalue l).0, (some_rvalue l).1, ((some_rvalue l).0, refl, (some_rvalue l).2)) in
     let updates = then (exact_update n) (λ op. mapped (exact_expr n d l h) (update x (operator_view op)) AfterAssign (λ e o f. f) (λ e o f. f)) (UpdateText l x)
@@ -144,8 +157,8 @@ exact_assign_rest n d l h x =
     (entry (widen updates (λ b z. UpdateText l x b z ⊎ AfterText x b z) (λ b z s. inl s)) (λ o. (⊤ × (is_mark mark.Assign o ≡ false)) × (has (update_operator o) ≡ true)) (λ o i. tt))
     (entry (widen steps (λ b z. UpdateText l x b z ⊎ AfterText x b z) (λ b z s. inr s)) (λ o. (⊤ × (is_mark mark.Assign o ≡ false)) × (has (update_operator o) ≡ false)) (λ o i. tt))
     (λ b z o s f. update_begins l x b z o s) (λ b z o s f. step_no_update x b z o s) in
-    branch (is_mark mark.Assign) (entry (widen sets (RestText l x) (λ b z s. inl s)) (λ o. ⊤ × (is_mark mark.Assign o ≡ true)) (λ o i. tt))
-    (widen b1 (RestText l x) (λ b z s. inr s))
+    branch (is_mark mark.Assign) (entry (widen sets (VariableText l x) (λ b z s. inl s)) (λ o. ⊤ × (is_mark mark.Assign o ≡ true)) (λ o i. tt))
+    (widen b1 (VariableText l x) (λ b z s. inr s))
     (λ b z o s f. first_opened (λ i. is_mark mark.Assign i ≡ true) mark.Assign 0 s.0 s.1 z o s.2 s.3 (λ at. refl))
     (λ b z o s f. elim s [ inl u ↦ update_no_set l x b z o u | inr u ↦ step_no_set x b z o u ])
 
@@ -160,12 +173,61 @@ step_no_open : (s : Step) (at : Place) → is_mark mark.OpenParen (Some (token (
 step_no_open step.Increment at = refl
 step_no_open step.Decrement at = refl
 
+-- what holds of each mark behind the name of a variable holds of the first token
+variable_first : (P : Option Token → Type 0) → ((at : Place) → P (Some (token mark.Assign at))) →
+    ((op : Operator) (at : Place) → P (Some (token (mark_of_update op) at))) →
+    ((s : Step) (at : Place) → P (Some (token (mark_of_step s) at)))
+    → (l : ℕ) (x : Identifier) (b : AssignTree) (u v z : Pieces) (o : Option Token) → z ≡ u ++ v → VariableText l x b u → P (first_or z o)
+variable_first P sets updates steps l x b u v z o e (inl (p, q, f, m, r)) = first_opened P mark.Assign 0 p (q ++ v) z o (e ∙ regroup u v p q f) m sets
+variable_first P sets updates steps l x b u v z o e (inr (inl (op, (p, q, f, m, r)))) = first_opened P (mark_of_update op) 0 p (q ++ v) z o
+    (e ∙ regroup u v p q f) m (updates op)
+variable_first P sets updates steps l x b u v z o e (inr (inr (s, g, f))) = rw (e, f) (steps s.0 s.1)
+
+-- what holds of an opening bracket holds of the first token of an index
+element_first : (P : Option Token → Type 0) → ((at : Place) → P (Some (token mark.OpenBracket at))) →
+    (l : ℕ) (x : Identifier) (b : AssignTree) (u v z : Pieces) (o : Option Token) →
+    z ≡ u ++ v → ElementText l x b u → P (first_or z o)
+element_first P h l x b u v z o e (i, (p, q, f, (c, d, g, m, t), r)) =
+    first_opened P mark.OpenBracket (l + 1) c (d ++ (q ++ v)) z o (e ∙ regroup u v p q f ∙ regroup p (q ++ v) c d g) m h
+
 -- no parenthesis comes behind the name
 pub rest_no_open : (l : ℕ) (x : Identifier) (b : AssignTree) (u v z : Pieces) (o : Option Token) → z ≡ u ++ v → RestText l x b u → is_mark mark.OpenParen (first_or z o) ≡ false
-rest_no_open l x b u v z o e (inl (p, q, f, m, r)) = first_opened (λ i. is_mark mark.OpenParen i ≡ false) mark.Assign 0 p (q ++ v) z o (e ∙ regroup u v p q f) m (λ at. refl)
-rest_no_open l x b u v z o e (inr (inl (op, (p, q, f, m, r)))) = first_opened (λ i. is_mark mark.OpenParen i ≡ false) (mark_of_update op) 0 p (q ++ v) z o (e ∙ regroup u v p q f) m
-    (λ at. update_no_open op at)
-rest_no_open l x b u v z o e (inr (inr (s, g, f))) = rw (e, f) (step_no_open s.0 s.1)
+rest_no_open l x b u v z o e (inl s) = element_first (λ i. is_mark mark.OpenParen i ≡ false) (λ at. refl) l x b u v z o e s
+rest_no_open l x b u v z o e (inr s) = variable_first (λ i. is_mark mark.OpenParen i ≡ false) (λ at. refl) update_no_open step_no_open l x b u v z o e s
+
+update_no_bracket : (op : Operator) (at : Place) → is_mark mark.OpenBracket (Some (token (mark_of_update op) at)) ≡ false
+update_no_bracket operator.Plus at = refl
+update_no_bracket operator.Minus at = refl
+update_no_bracket operator.Times at = refl
+update_no_bracket operator.Over at = refl
+update_no_bracket operator.Modulo at = refl
+
+step_no_bracket : (s : Step) (at : Place) → is_mark mark.OpenBracket (Some (token (mark_of_step s) at)) ≡ false
+step_no_bracket step.Increment at = refl
+step_no_bracket step.Decrement at = refl
+
+exact_element_rest : (n d l : ℕ) → d + l ≡ n → (x : Identifier) →
+    Exact n IsInner (seq (index_at d) (element_rest d x)) AtIndex (ElementText l x) (ElementText l x) AfterAssign
+exact_element_rest n d l h x =
+    let some = some_rvalue l in
+    then (exact_index n d l h)
+    (λ i. exact_behind mark.Assign 0 (omega arith) (mapped (exact_rvalue n d l h) (set_element x i) AfterAssign (λ e o f. f) (λ e o f. f))
+    (set_element x i some.0, some.1, (some.0, refl, some.2)))
+    (ElementText l x)
+    (λ i b y o s f. tt)
+    (λ i z v. (
+      set_element x i some.0,
+      (token mark.Assign some_place, 0) ∷ some.1,
+      (i, (z, _, refl, v, ((token mark.Assign some_place, 0) ∷ [], some.1, refl, (some_place, refl), (some.0, refl, some.2)))),
+    ))
+    (λ i b u v s r. (i, (u, v, refl, s, r)))
+
+pub exact_assign_rest : (n d l : ℕ) → d + l ≡ n → (x : Identifier) → Exact n IsInner (assign_rest d x) Any (RestText l x) (RestText l x) AfterAssign
+exact_assign_rest n d l h x =
+    branch (is_mark mark.OpenBracket) (widen (exact_element_rest n d l h x) (RestText l x) (λ b z s. inl s))
+    (entry (widen (exact_variable_rest n d l h x) (RestText l x) (λ b z s. inr s)) (λ o. ⊤ × (is_mark mark.OpenBracket o ≡ false)) (λ o i. tt))
+    (λ b z o s f. element_first (λ i. is_mark mark.OpenBracket i ≡ true) (λ at. refl) l x b z [] z o (sym (append-nil z)) s)
+    (λ b z o s f. variable_first (λ i. is_mark mark.OpenBracket i ≡ false) (λ at. refl) update_no_bracket step_no_bracket l x b z [] z o (sym (append-nil z)) s)
 
 abbrev pub BeforeText : ℕ → AssignTree → Texts
 BeforeText o b z = Both (StepText o) (λ s b. Of (before s.1 (step_view s.0)) (λ x. name x 0) b) b z
@@ -174,22 +236,53 @@ abbrev pub NamedText : ℕ → ℕ → AssignTree → Texts
 NamedText o l b z = Both (λ x. name x o) (RestText l) b z
 
 pub rest_assign : (o l : ℕ) (x : Identifier) (b : AssignTree) (u v z : Pieces) → z ≡ u ++ v → name x o u → RestText l x b v → IsAssign o l b z
-rest_assign o l x b u v z e s (inl (p, q, f, m, (a, g, t))) = subst (λ (c : AssignTree). IsAssign o l c z) g (u, v, e, s, (p, q, f, m, t))
-rest_assign o l x b u v z e s (inr (inl (op, (p, q, f, m, (a, g, t))))) = subst (λ (c : AssignTree). IsAssign o l c z) g (u, v, e, s, (p, q, f, m, t))
-rest_assign o l x b u v z e s (inr (inr (k, g, t))) = subst (λ (c : AssignTree). IsAssign o l c z) g (u, v, e, s, (k.1, t))
+rest_assign o l x b u v z e s (inl (i, (p, q, f, m, (c, d, k, w, (a, g, t))))) = subst (λ (c : AssignTree). IsAssign o l c z) g
+    (u, v, e, s, (p, q, f, m, (c, d, k, w, t)))
+rest_assign o l x b u v z e s (inr (inl (p, q, f, m, (a, g, t)))) = subst (λ (c : AssignTree). IsAssign o l c z) g (u, v, e, s, (p, q, f, m, t))
+rest_assign o l x b u v z e s (inr (inr (inl (op, (p, q, f, m, (a, g, t)))))) = subst (λ (c : AssignTree). IsAssign o l c z) g (u, v, e, s, (p, q, f, m, t))
+rest_assign o l x b u v z e s (inr (inr (inr (k, g, t)))) = subst (λ (c : AssignTree). IsAssign o l c z) g (u, v, e, s, (k.1, t))
 
 pub to_assign : (o l : ℕ) (b : AssignTree) (z : Pieces) → BeforeText o b z ⊎ NamedText o l b z → IsAssign o l b z
 to_assign o l b z (inl (s, (u, v, e, m, (x, g, t)))) = subst (λ (c : AssignTree). IsAssign o l c z) g (u, v, e, m, t)
 to_assign o l b z (inr (x, (u, v, e, s, r))) = rest_assign o l x b u v z e s r
 
 pub from_assign : (o l : ℕ) (b : AssignTree) (z : Pieces) → IsAssign o l b z → BeforeText o b z ⊎ NamedText o l b z
-from_assign o l (set x a) z (u, v, e, s, (p, q, f, m, t)) = inr (x, (u, v, e, s, inl (p, q, f, m, (a, refl, t))))
+from_assign o l (set x a) z (u, v, e, s, (p, q, f, m, t)) = inr (x, (u, v, e, s, inr (inl (p, q, f, m, (a, refl, t)))))
+from_assign o l (set_element x i a) z (u, v, e, s, (p, q, f, m, (c, d, k, w, t))) = inr (x, (u, v, e, s, inl (i, (p, q, f, m, (c, d, k, w, (a, refl, t))))))
 from_assign o l (update x op a) z (u, v, e, s, (p, q, f, m, t)) =
     let c = operator_of op in
-    inr (x, (u, v, e, s, inr (inl (c.0, (p, q, f, subst (λ (i : operators.Operator). spells (update_mark i) p) (sym c.1) m, (a, ap (λ (i : operators.Operator). update x i a) c.1, t))))))
+    inr (
+      x,
+      (
+        u,
+        v,
+        e,
+        s,
+        inr (inr (inl (
+          c.0,
+          (
+            p,
+            q,
+            f,
+            subst (λ (i : operators.Operator). spells (update_mark i) p) (sym c.1) m,
+            (a, ap (λ (i : operators.Operator). update x i a) c.1, t),
+          ),
+        ))),
+      ),
+    )
 from_assign o l (after x s) z (u, v, e, m, (at, t)) =
     let c = step_of s in
-    inr (x, (u, v, e, m, inr (inr ((c.0, at), ap (λ (i : StepTree). after x i) c.1, subst (λ (i : StepTree). opens_at (step_mark i) at 0 v) (sym c.1) t))))
+    inr (
+      x,
+      (
+        u,
+        v,
+        e,
+        m,
+        inr (inr (inr
+            ((c.0, at), ap (λ (i : StepTree). after x i) c.1, subst (λ (i : StepTree). opens_at (step_mark i) at 0 v) (sym c.1) t))),
+      ),
+    )
 from_assign o l (before at s x) z (u, v, e, m, t) =
     let c = step_of s in
     inl ((c.0, at), (u, v, e, subst (λ (i : StepTree). opens_at (step_mark i) at o u) (sym c.1) m, (x, ap (λ (i : StepTree). before at i x) c.1, t)))
@@ -211,7 +304,7 @@ exact_assign n d l o h low =
     (λ s b u v t r. (s, (u, v, refl, t, r))) in
     let named = then (exact_name n o low) (exact_assign_rest n d l h) (NamedText o l)
     (λ x b y k s f. tt)
-    (λ x z v. (after x increment, _, (x, (z, _, refl, v, inr (inr ((step.Increment, some_place), refl, refl))))))
+    (λ x z v. (after x increment, _, (x, (z, _, refl, v, inr (inr (inr ((step.Increment, some_place), refl, refl)))))))
     (λ x b u v s r. (x, (u, v, refl, s, r))) in
     let t = branch (λ k. has (next_step k)) (entry (widen befores (λ b z. BeforeText o b z ⊎ NamedText o l b z) (λ b z s. inl s)) (λ k. ⊤ × (has (next_step k) ≡ true)) (λ k i. tt))
     (entry (widen named (λ b z. BeforeText o b z ⊎ NamedText o l b z) (λ b z s. inr s)) (λ k. ⊤ × (has (next_step k) ≡ false)) (λ k i. tt))
@@ -231,16 +324,20 @@ assign_no_mark o l a x y z k e s P named stepped = elim (from_assign o l a x s) 
 ]
 
 pub assign_stops : (a : AssignTree) (at : Place) → AfterAssign a (Some (token mark.Semicolon at))
-assign_stops (set x (expression e)) at = (((tt, refl), refl), (λ i. refl))
+assign_stops (set x (expression e)) at = (after_expr e _ refl refl refl, (λ i. refl))
 assign_stops (set x (result c)) at = tt
-assign_stops (update x op e) at = ((tt, refl), refl)
+assign_stops (set_element x i (expression e)) at = (after_expr e _ refl refl refl, (λ i. refl))
+assign_stops (set_element x i (result c)) at = tt
+assign_stops (update x op e) at = after_expr e _ refl refl refl
 assign_stops (after x s) at = tt
 assign_stops (before p s x) at = tt
 
 pub assign_closes : (a : AssignTree) (at : Place) → AfterAssign a (Some (token mark.CloseParen at))
-assign_closes (set x (expression e)) at = (((tt, refl), refl), (λ i. refl))
+assign_closes (set x (expression e)) at = (after_expr e _ refl refl refl, (λ i. refl))
 assign_closes (set x (result c)) at = tt
-assign_closes (update x op e) at = ((tt, refl), refl)
+assign_closes (set_element x i (expression e)) at = (after_expr e _ refl refl refl, (λ i. refl))
+assign_closes (set_element x i (result c)) at = tt
+assign_closes (update x op e) at = after_expr e _ refl refl refl
 assign_closes (after x s) at = tt
 assign_closes (before p s x) at = tt
 
@@ -327,50 +424,40 @@ exact_type {n} {A} {F = F} p S each every no_int no_long =
     sides_same (is_mark mark.Int (first T)) _ _ _ _ (valued (is_mark mark.Int (first T)) T p) (twice (expect mark.Long (tt {0}) T) rest p))) in
     retell whole (TypedText S) (λ b z s. to_typed S b z s) (λ b z s. from_typed S b z s)
 
-abbrev AfterGiven : Option RvalueTree → Option Token → Type 0
-AfterGiven None o = is_mark mark.Assign o ≡ false
-AfterGiven (Some e) o = AfterRvalue e o
-
 abbrev AfterDeclarator : DeclaratorTree → Option Token → Type 0
-AfterDeclarator d o = AfterGiven d.rvalue o
+AfterDeclarator d o = AfterShape AfterRvalue d.shape o
 
-abbrev with_rvalue : Identifier → RvalueTree → DeclaratorTree
-with_rvalue x e = record { name = x; rvalue = Some e }
+given_out : (l : ℕ) (m : Option RvalueTree) (z : Pieces) → GivenText (IsRvalue l) m z → IsGiven l m z
+given_out l m z (inl (u, v, e, s, (a, f, t))) = subst (λ (c : Option RvalueTree). IsGiven l c z) f (u, v, e, s, t)
+given_out l m z (inr (e, f)) = subst (λ (c : Option RvalueTree). IsGiven l c z) (sym e) f
 
-abbrev alone_name : Identifier → DeclaratorTree
-alone_name x = record { name = x; rvalue = None }
+given_in : (l : ℕ) (m : Option RvalueTree) (z : Pieces) → IsGiven l m z → GivenText (IsRvalue l) m z
+given_in l None z s = inr (refl, s)
+given_in l (Some a) z (u, v, e, s, t) = inl (u, v, e, s, (a, refl, t))
 
-abbrev GivenText : ℕ → Identifier → DeclaratorTree → Texts
-GivenText l x b z = (opens mark.Assign 0 ⋅ Of (with_rvalue x) (IsRvalue l) b) z ⊎ ((b ≡ alone_name x) × (z ≡ []))
+-- behind the name
+abbrev ShapedText : ℕ → Identifier → DeclaratorTree → Texts
+ShapedText l x b = Of (declarator_of x) (IsShape (IsGiven l)) b
 
-not_given : (x : Identifier) (b : DeclaratorTree) (z : Pieces) (o : Option Token) → b ≡ alone_name x → z ≡ [] → (z ≡ [] → AfterDeclarator b o) → is_mark mark.Assign (first_or z o) ≡ false
-not_given x b z o e f h = rw f (let g : AfterDeclarator (alone_name x) o = subst (λ (c : DeclaratorTree). AfterDeclarator c o) e (h f) in g)
+exact_declarator_rest : (n d l : ℕ) → d + l ≡ n → (x : Identifier) → Exact n IsInner (declarator_rest d x) Any (ShapedText l x) (ShapedText l x) AfterDeclarator
+exact_declarator_rest n d l h x = mapped (exact_shape (exact_rvalue n d l h) (some_rvalue l) (IsGiven l) (given_out l) (given_in l)) (declarator_of x)
+    AfterDeclarator (λ s o f. f) (λ s o f. f)
 
-exact_given : (n d l : ℕ) → d + l ≡ n → (x : Identifier) → Exact n IsInner (declared_value d x) Any (GivenText l x) (GivenText l x) AfterDeclarator
-exact_given n d l h x =
-    let some = exact_behind mark.Assign 0 (omega arith) (mapped (exact_rvalue n d l h) (with_rvalue x) AfterDeclarator (λ e o f. f) (λ e o f. f))
-    (with_rvalue x (some_rvalue l).0, (some_rvalue l).1, ((some_rvalue l).0, refl, (some_rvalue l).2)) in
-    branch (is_mark mark.Assign) (entry (widen some (GivenText l x) (λ b z s. inl s)) (λ o. ⊤ × (is_mark mark.Assign o ≡ true)) (λ o i. tt))
-    (widen (exact_done n IsInner (alone_name x) (λ o. ⊤ × (is_mark mark.Assign o ≡ false)) (λ b z. (b ≡ alone_name x) × (z ≡ [])) AfterDeclarator (λ o i. i.1)) (GivenText l x) (λ b z s. inr s))
-    (λ b z o s f. first_opened (λ i. is_mark mark.Assign i ≡ true) mark.Assign 0 s.0 s.1 z o s.2 s.3 (λ at. refl))
-    (λ b z o s f. not_given x b z o s.0 s.1 f)
+to_declarator : (l : ℕ) (b : DeclaratorTree) (z : Pieces) → Both (λ x. name x 0) (ShapedText l) b z → IsDeclarator l b z
+to_declarator l b z (x, (u, v, e, s, (k, g, t))) = subst (λ (c : DeclaratorTree). IsDeclarator l c z) g (u, v, e, s, t)
 
-to_declarator : (l : ℕ) (b : DeclaratorTree) (z : Pieces) → Both (λ x. name x 0) (GivenText l) b z → IsDeclarator l b z
-to_declarator l b z (x, (u, v, e, s, inl (p, q, f, m, (a, g, t)))) = subst (λ (c : DeclaratorTree). IsDeclarator l c z) g (u, v, e, s, (p, q, f, m, t))
-to_declarator l b z (x, (u, v, e, s, inr (g, f))) = subst (λ (c : DeclaratorTree). IsDeclarator l c z) (sym g) (u, v, e, s, f)
-
-from_given : (l : ℕ) (x : Identifier) (m : Option RvalueTree) (z : Pieces) → IsDeclarator l (record { name = x; rvalue = m }) z → Both (λ x. name x 0) (GivenText l) (record { name = x; rvalue = m }) z
-from_given l x None z (u, v, e, s, t) = (x, (u, v, e, s, inr (refl, t)))
-from_given l x (Some a) z (u, v, e, s, (p, q, f, m, t)) = (x, (u, v, e, s, inl (p, q, f, m, (a, refl, t))))
+from_declarator : (l : ℕ) (b : DeclaratorTree) (z : Pieces) → IsDeclarator l b z → Both (λ x. name x 0) (ShapedText l) b z
+from_declarator l b z (u, v, e, s, t) = (b.name, (u, v, e, s, (b.shape, refl, t)))
 
 some_declarator : (l : ℕ) → (d : DeclaratorTree) × (x : Pieces) × IsDeclarator l d x
-some_declarator l = (alone_name some_name, _, (_, _, refl, refl, refl))
+some_declarator l = (declarator_of some_name (scalar None), _, (_, _, refl, refl, refl))
 
 exact_declarator : (n d l : ℕ) → d + l ≡ n → Exact n IsInner (declarator_at d) Any (IsDeclarator l) (IsDeclarator l) AfterDeclarator
 exact_declarator n d l h =
-    let t = then (exact_name n 0 (omega arith)) (exact_given n d l h) (λ b z. Both (λ x. name x 0) (GivenText l) b z)
-    (λ x b y o s f. tt) (λ x z v. (alone_name x, [], (x, (z, [], refl, v, inr (refl, refl))))) (λ x b u v s r. (x, (u, v, refl, s, r))) in
-    retell t (IsDeclarator l) (λ b z s. to_declarator l b z s) (λ b z s. from_given l b.name b.rvalue z s)
+    let t = then (exact_name n 0 (omega arith)) (exact_declarator_rest n d l h) (λ b z. Both (λ x. name x 0) (ShapedText l) b z)
+    (λ x b y o s f. tt) (λ x z v. (declarator_of x (scalar None), [], (x, (z, [], refl, v, (scalar None, refl, refl)))))
+    (λ x b u v s r. (x, (u, v, refl, s, r))) in
+    retell t (IsDeclarator l) (λ b z s. to_declarator l b z s) (λ b z s. from_declarator l b z s)
 
 abbrev Declared : ℕ → NumberType → DeclarationTree → Texts
 Declared l k b = Of (declaration_of k) (λ ds. separated (IsDeclarator l) (ds.0 ∷ ds.1)) b
@@ -384,13 +471,15 @@ to_declaration l b z (k, (x, y, e, s, (u, v, f, (ds, g, t), m))) = subst (λ (c 
 from_declaration : (l : ℕ) (b : DeclarationTree) (z : Pieces) → IsDeclaration l b z → TypedText (DeclaredEnd l) b z
 from_declaration l b z (x, y, e, s, (u, v, f, t, m)) = (b.number_type, (x, y, e, s, (u, v, f, ((b.first, b.rest), refl, t), m)))
 
-given_stops : (m : Option RvalueTree) (at : Place) → AfterGiven m (Some (token mark.Semicolon at)) × AfterGiven m (Some (token mark.Comma at))
-given_stops None at = (refl, refl)
-given_stops (Some (expression e)) at = ((((tt, refl), refl), (λ i. refl)), (((tt, refl), refl), (λ i. refl)))
-given_stops (Some (result c)) at = (tt, tt)
+shape_stops : (s : ShapeTree RvalueTree) (at : Place) → AfterShape AfterRvalue s (Some (token mark.Semicolon at)) × AfterShape AfterRvalue s
+    (Some (token mark.Comma at))
+shape_stops (array n) at = (tt, tt)
+shape_stops (scalar None) at = ((refl, refl), (refl, refl))
+shape_stops (scalar (Some (expression e))) at = ((after_expr e _ refl refl refl, (λ i. refl)), (after_expr e _ refl refl refl, (λ i. refl)))
+shape_stops (scalar (Some (result c))) at = (tt, tt)
 
 last_stops : (ds : List DeclaratorTree) (d : DeclaratorTree) (at : Place) → AfterLast AfterDeclarator (AfterDeclarator d) ds (Some (token mark.Semicolon at))
-last_stops [] d at = (given_stops d.rvalue at).0
+last_stops [] d at = (shape_stops d.shape at).0
 last_stops (e ∷ ds) d at = last_stops ds e at
 
 declared_begins : (l : ℕ) (m : Mark) (b : DeclarationTree) (x : Pieces) (o : Option Token) → DeclaredEnd l Long b x → is_mark m (first_or x o) ≡ false
@@ -401,7 +490,7 @@ declaration_first l d z k (x, y, e, s, t) = type_first d.number_type x y z k (λ
 
 pub exact_declaration : (n d l : ℕ) → d + l ≡ n → Exact n IsInner (declaration_at d) Any (IsDeclaration l) (IsDeclaration l) Free
 exact_declaration n d l h =
-    let list = exact_commas (exact_declarator n d l h) (some_declarator l) (λ a at. (given_stops a.rvalue at).1) in
+    let list = exact_commas (exact_declarator n d l h) (some_declarator l) (λ a at. (shape_stops a.shape at).1) in
     let made = λ (k : NumberType). mapped list (declaration_of k) (λ b o. AfterCommas AfterDeclarator (b.first, b.rest) o) (λ i o f. f) (λ i o f. f) in
     let whole = λ (k : NumberType). exact_ended mark.Semicolon (made k) (λ b at. (last_stops b.rest b.first at, refl)) in
     let some = some_declarator l in

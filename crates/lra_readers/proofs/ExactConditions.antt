@@ -11,11 +11,12 @@ use Rattle.lra_base.specs.declared.operators.Comparison.{Comparison}
 use Rattle.lra_base.specs.declared.operators.Comparison.TheVariants as comparison
 use Rattle.lra_base.specs.Operators as operators
 use Rattle.lra_tree.specs.Texts.{Piece, Pieces, Texts, ◌⋅◌, opens, mark as spells}
-use Rattle.lra_tree.specs.Trees.{UnaryTree, negated, positive, literal, variable, input, group, TermTree, unary, ExprTree, term, NegationTree, opposite_again, value_of_unary, group_opposed, TestTree}
+use Rattle.lra_tree.specs.Trees.{UnaryTree, negated, positive, literal, variable, input, group, element, TermTree, unary, ExprTree, term, NegationTree}
+use Rattle.lra_tree.specs.Trees.{opposite_again, value_of_unary, group_opposed, TestTree}
 use Rattle.lra_tree.specs.Trees.{opposite, value, compare, group_of, ConjunctionTree, test as one_test, and, CondTree, conjunction, or}
 use Rattle.lra_base.specs.OperatorViews.{comparison_view}
 use Rattle.lra_tree.specs.Grammar.{IsUnary, IsTerm, IsExpr, comparison_mark, IsStrict, IsNegation, IsTest, IsConjunction, IsCond}
-use Rattle.lra_readers.specs.Tests.{first}
+use Rattle.lra_readers.specs.Tests.{first, is_mark}
 use Rattle.lra_readers.specs.Reading.{Parse, stop, seq, has}
 use Rattle.lra_readers.specs.Expressions.{factor_operator, sum_operator, comparisons, next_comparison, next_and, next_or, in_parens, summands, expr_of, unary_at, compared, from_unary, alone}
 use Rattle.lra_readers.specs.Expressions.{after_alone, after_group, negation_of, TestMark, at_not, at_open, test_marks, test_mark, test_form, negation_form, conjunction_of, cond_of, tests, test_at}
@@ -26,7 +27,8 @@ use Rattle.lra_readers.proofs.Tokens.{IsInner, exact_operator, some_place, some_
 use Rattle.lra_readers.proofs.Turns.{none}
 use Rattle.lra_readers.proofs.Chain.{regroup, IsFollow, IsOperator, Split, split_more, split_start, exact_chain}
 use Rattle.lra_readers.proofs.Parts.{token, exact_behind, exact_ended, table_mark, by_table}
-use Rattle.lra_readers.proofs.ExactExpressions.{AfterTerm, AfterExpr, some_expr, TermSteps, ExprSteps, expr_follows, whole_term, whole_expr, split_term, split_expr, exact_factors, exact_summands}
+use Rattle.lra_readers.proofs.ExactExpressions.{AfterUnary, AfterTerm, AfterExpr, after_unary, after_expr, some_expr, TermSteps, ExprSteps, expr_follows}
+use Rattle.lra_readers.proofs.ExactExpressions.{whole_term, whole_expr, split_term, split_expr, exact_factors, exact_summands}
 use Rattle.lra_readers.proofs.ExactExpressions.{exact_expr_of, Of, first_opened, opened_over, exact_unary}
 
 -- operators --------------------------------------------------------------------------------------------------------
@@ -51,12 +53,12 @@ comparison_is n = record {
 
 -- it goes on no expression
 after_comparison : (k : Comparison) (e : ExprTree) (at : Place) → AfterExpr e (Some (token (mark_of_comparison k) at))
-after_comparison comparison.Below e at = ((tt, refl), refl)
-after_comparison comparison.AtMost e at = ((tt, refl), refl)
-after_comparison comparison.Above e at = ((tt, refl), refl)
-after_comparison comparison.AtLeast e at = ((tt, refl), refl)
-after_comparison comparison.Equal e at = ((tt, refl), refl)
-after_comparison comparison.Differs e at = ((tt, refl), refl)
+after_comparison comparison.Below e at = after_expr e _ refl refl refl
+after_comparison comparison.AtMost e at = after_expr e _ refl refl refl
+after_comparison comparison.Above e at = after_expr e _ refl refl refl
+after_comparison comparison.AtLeast e at = after_expr e _ refl refl refl
+after_comparison comparison.Equal e at = after_expr e _ refl refl refl
+after_comparison comparison.Differs e at = after_expr e _ refl refl refl
 
 comparison_of : (op : operators.Comparison) → (k : Comparison) × (comparison_view k ≡ op)
 comparison_of operators.below = (comparison.Below, refl)
@@ -80,8 +82,13 @@ or_is n = record { exact = exact_operator n or_mark ((mark.Or, tt {0}) ∷ []) (
 
 -- what may follow --------------------------------------------------------------------------------------------------
 
+abbrev AfterNegation : NegationTree → Option Token → Type 0
+AfterNegation (opposite_again a) o = AfterNegation a o
+AfterNegation (value_of_unary u) o = AfterUnary u o
+AfterNegation (group_opposed c) o = ⊤
+
 abbrev pub AfterTest : TestTree → Option Token → Type 0
-AfterTest (opposite a) o = ⊤
+AfterTest (opposite a) o = AfterNegation a o
 AfterTest (value e) o = AfterExpr e o × (has (next_comparison o) ≡ false)
 AfterTest (compare a op b) o = AfterExpr b o
 AfterTest (group_of c) o = ⊤
@@ -101,6 +108,7 @@ unary_begun l (literal t i) z s = (_, [], s.1)
 unary_begun l (variable x) z s = (_, [], s)
 unary_begun l input z (x, y, e, s, t) = begun_by mark.Input 0 x y z e s
 unary_begun l (group e) z (x, y, f, s, t) = begun_by mark.OpenParen (l + 1) x y z f s
+unary_begun l (element i e) z (x, y, f, s, t) = (_, y, f ∙ ap (λ (v : Pieces). v ++ y) s)
 
 begun_front : (x y z : Pieces) → z ≡ x ++ y → Begun x → Begun z
 begun_front x y z e b = (b.0, b.1 ++ y, e ∙ ap (λ (v : Pieces). v ++ y) b.2)
@@ -142,7 +150,7 @@ FromTerm l t b z = Both (λ e x. ExprSteps l e (term t) x) (Compared l) b z
 abbrev FromUnary : ℕ → UnaryTree → TestTree → Texts
 FromUnary l a b z = Both (λ t x. TermSteps l t (unary a) x) (FromTerm l) b z
 
-module _ (n l : ℕ) (u : Parse UnaryTree) (U : Exact n IsInner u Any (IsUnary l) (IsUnary l) Free) where
+module _ (n l : ℕ) (u : Parse UnaryTree) (U : Exact n IsInner u Any (IsUnary l) (IsUnary l) AfterUnary) where
   exact_compared : (e : ExprTree) → Exact n IsInner (compared u e) (AfterExpr e) (Compared l e) (Compared l e) AfterTest
   exact_compared e =
       let k = then ((comparison_is n).exact) (λ k. mapped (exact_expr_of n l u U) (compare e (comparison_view k)) AfterTest (λ i o f. f) (λ i o f. f)) (Compared l e)
@@ -168,7 +176,7 @@ module _ (n l : ℕ) (u : Parse UnaryTree) (U : Exact n IsInner u Any (IsUnary l
       let r : AfterTerm t (first_or u (first_or v o)) = expr_follows n l (term t) e u (first_or v o) s (λ i. compared_follows l e b v o k (λ i'. g (f ∙ ap (λ (k : Pieces). k ++ v) i ∙ i'))) in
       subst (AfterTerm t) (sym (ap (λ (k : Pieces). first_or k o) f ∙ first_or-both u v o)) r
 
-  exact_from_unary : (a : UnaryTree) → Exact n IsInner (from_unary u a) Any (FromUnary l a) (FromUnary l a) AfterTest
+  exact_from_unary : (a : UnaryTree) → Exact n IsInner (from_unary u a) (AfterUnary a) (FromUnary l a) (FromUnary l a) AfterTest
   exact_from_unary a = then (exact_factors n l u U (unary a)) exact_from_term (FromUnary l a)
       (λ t b y o s f. term_follows t b y o s f) (λ t z v. (value (term t), [], (t, (z, [], refl, v, (term t, ([], [], refl, none, inr (refl, refl))))))) (λ t b x y s k. (t, (x, y, refl, s, k)))
 
@@ -233,6 +241,7 @@ IsGroup (positive u) = ⊥
 IsGroup (literal t i) = ⊥
 IsGroup (variable x) = ⊥
 IsGroup input = ⊥
+IsGroup (element x e) = ⊥
 
 -- a unary that is no group begins with no `!` and no `(`
 unary_key : (l : ℕ) (a : UnaryTree) (v w z : Pieces) → z ≡ v ++ w → IsUnary l a v → (IsGroup a → ⊥) → test_mark (first_or z None) ≡ None
@@ -242,6 +251,7 @@ unary_key l (literal t i) v w z e s g = rw (e, s.1) refl
 unary_key l (variable i) v w z e s g = rw (e, s) refl
 unary_key l input v w z e (x, y, f, s, t) g = first_opened (λ i. test_mark i ≡ None) mark.Input 0 x (y ++ w) z None (e ∙ regroup v w x y f) s (λ at. refl)
 unary_key l (group i) v w z e s g = absurd (g tt)
+unary_key l (element i a) v w z e (x, y, f, s, t) g = rw (e, f, s) refl
 
 by_unary : (l : ℕ) (b : TestTree) (z : Pieces) → Plain l b z → (a : UnaryTree) → (IsUnary l a ⋅ FromUnary l a b) z → (k : Option TestMark) × TestAt l k b z
 by_unary l b z p (group e) (v, w, f, h, k) = (Some at_open, (conjunction (one_test (value e)), (v, w, f, h, k)))
@@ -250,6 +260,7 @@ by_unary l b z p (positive u) (v, w, f, h, k) = (None, (p, unary_key l (positive
 by_unary l b z p (literal t i) (v, w, f, h, k) = (None, (p, unary_key l (literal t i) v w z f h (λ g. g)))
 by_unary l b z p (variable x) (v, w, f, h, k) = (None, (p, unary_key l (variable x) v w z f h (λ g. g)))
 by_unary l b z p input (v, w, f, h, k) = (None, (p, unary_key l input v w z f h (λ g. g)))
+by_unary l b z p (element x e) (v, w, f, h, k) = (None, (p, unary_key l (element x e) v w z f h (λ g. g)))
 
 by_leads : (l : ℕ) (b : TestTree) (z : Pieces) → Plain l b z → (k : Option TestMark) × TestAt l k b z
 by_leads l b z p = let a = leads l b z p in by_unary l b z p a.0 a.1
@@ -287,7 +298,7 @@ test_begins l None b z o (p, i) = ap test_mark (begun_first z o (plain_begun l b
 abbrev At : Option TestMark → Option Token → Type 0
 At k o = (test_mark o ≡ k) × Any o
 
-module _ (n l : ℕ) (u : Parse UnaryTree) (U : Exact n IsInner u Any (IsUnary l) (IsUnary l) Free) where
+module _ (n l : ℕ) (u : Parse UnaryTree) (U : Exact n IsInner u Any (IsUnary l) (IsUnary l) AfterUnary) where
   exact_after_alone : (c : CondTree) (m : Option ExprTree) → Exact n IsInner (after_alone u c m) Any (AfterAlone l c m) (AfterAlone l c m) AfterTest
   exact_after_alone c (Some e) = exact_from_unary n l u U (group e)
   exact_after_alone c None = exact_done n IsInner (group_of c) Any (AfterAlone l c None) AfterTest (λ o h. tt)
@@ -333,6 +344,15 @@ strict_negated (conjunction (one_test (group_of c))) s = refl
 strict_negated (conjunction (and c t)) s = refl
 strict_negated (or c d) s = refl
 
+-- a parenthesis ends in no name
+after_group_negation : (c : CondTree) (o : Option Token) → AfterNegation (negation_of c) o
+after_group_negation (conjunction (one_test (value e))) o = tt
+after_group_negation (conjunction (one_test (opposite a))) o = tt
+after_group_negation (conjunction (one_test (compare a op c))) o = tt
+after_group_negation (conjunction (one_test (group_of c))) o = tt
+after_group_negation (conjunction (and c t)) o = tt
+after_group_negation (or c d) o = tt
+
 to_negation : (l : ℕ) (k : Option TestMark) (b : NegationTree) (z : Pieces) → NegationAt l k b z → IsNegation l b z
 to_negation l (Some at_not) b z (x, y, e, s, (a, f, t)) = subst (λ (c : NegationTree). IsNegation l c z) f (x, y, e, s, t)
 to_negation l (Some at_open) b z (c, f, h) = subst (λ (a : NegationTree). IsNegation l a z) f (group_negated l c z h)
@@ -346,6 +366,7 @@ from_negation l (value_of_unary (positive u)) z h = (None, ((_, refl, h), unary_
 from_negation l (value_of_unary (literal t i)) z h = (None, ((_, refl, h), unary_key l (literal t i) z [] z (sym (append-nil z)) h (λ g. g)))
 from_negation l (value_of_unary (variable x)) z h = (None, ((_, refl, h), unary_key l (variable x) z [] z (sym (append-nil z)) h (λ g. g)))
 from_negation l (value_of_unary input) z h = (None, ((_, refl, h), unary_key l input z [] z (sym (append-nil z)) h (λ g. g)))
+from_negation l (value_of_unary (element x e)) z h = (None, ((_, refl, h), unary_key l (element x e) z [] z (sym (append-nil z)) h (λ g. g)))
 from_negation l (group_opposed c) z h = (Some at_open, (c, strict_negated c h.1, h.0))
 
 negation_begins : (l : ℕ) (k : Option TestMark) (b : NegationTree) (z : Pieces) (o : Option Token) → NegationAt l k b z → test_mark (first_or z o) ≡ k
@@ -353,17 +374,18 @@ negation_begins l (Some at_not) b z o (x, y, e, s, t) = first_opened (λ i. test
 negation_begins l (Some at_open) b z o (c, f, h) = grouped_begins l c z [] z o (sym (append-nil z)) h
 negation_begins l None b z o ((a, f, h), i) = ap test_mark (begun_first z o (unary_begun l a z h)) ∙ i
 
-module _ (n l : ℕ) (u : Parse UnaryTree) (U : Exact n IsInner u Any (IsUnary l) (IsUnary l) Free) (opposed grouped : Parse NegationTree)
-    (N : Exact n IsInner opposed (At (Some at_not)) (NegationAt l (Some at_not)) (IsNegation l) Free)
-    (G : Exact n IsInner grouped (At (Some at_open)) (NegationAt l (Some at_open)) (IsNegation l) Free) where
-  each_negation : (k : Option TestMark) → Exact n IsInner (negation_form u opposed grouped k) (At k) (NegationAt l k) (IsNegation l) Free
+module _ (n l : ℕ) (u : Parse UnaryTree) (U : Exact n IsInner u Any (IsUnary l) (IsUnary l) AfterUnary) (opposed grouped : Parse NegationTree)
+    (N : Exact n IsInner opposed (At (Some at_not)) (NegationAt l (Some at_not)) (IsNegation l) AfterNegation)
+    (G : Exact n IsInner grouped (At (Some at_open)) (NegationAt l (Some at_open)) (IsNegation l) AfterNegation) where
+  each_negation : (k : Option TestMark) → Exact n IsInner (negation_form u opposed grouped k) (At k) (NegationAt l k) (IsNegation l) AfterNegation
   each_negation (Some at_not) = N
   each_negation (Some at_open) = G
   each_negation None =
-      where_told (widen (mapped U value_of_unary Free (λ a o f. tt) (λ a o f. tt)) (IsNegation l) (λ b z s. subst (λ (c : NegationTree). IsNegation l c z) s.1 s.2)) test_mark None
+      where_told (widen (mapped U value_of_unary AfterNegation (λ a o f. f) (λ a o f. f)) (IsNegation l)
+      (λ b z s. subst (λ (c : NegationTree). IsNegation l c z) s.1 s.2)) test_mark None
       (λ b z s. begun_long z (unary_begun l s.0 z s.2))
 
-  exact_negation_form : Exact n IsInner (λ T. negation_form u opposed grouped (test_mark (first T)) T) Any (IsNegation l) (IsNegation l) Free
+  exact_negation_form : Exact n IsInner (λ T. negation_form u opposed grouped (test_mark (first T)) T) Any (IsNegation l) (IsNegation l) AfterNegation
   exact_negation_form = rename (choose test_mark each_negation (λ k b z o s f. negation_begins l k b z o s)) (IsNegation l) (λ b z s. to_negation l s.0 b z s.1) (λ b z s. from_negation l b z s)
 
 -- chains -----------------------------------------------------------------------------------------------------------
@@ -382,26 +404,34 @@ LastConjunction (or d c) o = AfterConjunction c o
 abbrev pub AfterCond : CondTree → Option Token → Type 0
 AfterCond c o = LastConjunction c o × (has (next_or o) ≡ false)
 
+after_negation : (a : NegationTree) (o : Option Token) → is_mark mark.OpenBracket o ≡ false → AfterNegation a o
+after_negation (opposite_again a) o h = after_negation a o h
+after_negation (value_of_unary u) o h = after_unary u o h
+after_negation (group_opposed c) o h = tt
+
 -- a token that goes on no test may follow each
-test_then : (a : TestTree) (o : Option Token) → has (factor_operator o) ≡ false → has (sum_operator o) ≡ false → has (next_comparison o) ≡ false → AfterTest a o
-test_then (opposite a) o s p q = tt
-test_then (value e) o s p q = (((tt, s), p), q)
-test_then (compare a op b) o s p q = ((tt, s), p)
-test_then (group_of c) o s p q = tt
+test_then : (a : TestTree) (o : Option Token) → is_mark mark.OpenBracket o ≡ false → has (factor_operator o) ≡ false → has (sum_operator o) ≡ false →
+    has (next_comparison o) ≡ false → AfterTest a o
+test_then (opposite a) o h s p q = after_negation a o h
+test_then (value e) o h s p q = (after_expr e o h s p, q)
+test_then (compare a op b) o h s p q = after_expr b o h s p
+test_then (group_of c) o h s p q = tt
 
-last_test : (c : ConjunctionTree) (o : Option Token) → has (factor_operator o) ≡ false → has (sum_operator o) ≡ false → has (next_comparison o) ≡ false → LastTest c o
-last_test (one_test a) o s p q = test_then a o s p q
-last_test (and c a) o s p q = test_then a o s p q
+last_test : (c : ConjunctionTree) (o : Option Token) → is_mark mark.OpenBracket o ≡ false → has (factor_operator o) ≡ false → has (sum_operator o) ≡ false →
+    has (next_comparison o) ≡ false → LastTest c o
+last_test (one_test a) o h s p q = test_then a o h s p q
+last_test (and c a) o h s p q = test_then a o h s p q
 
-last_conjunction : (c : CondTree) (o : Option Token) → has (factor_operator o) ≡ false → has (sum_operator o) ≡ false → has (next_comparison o) ≡ false → has (next_and o) ≡ false → LastConjunction c o
-last_conjunction (conjunction a) o s p q r = (last_test a o s p q, r)
-last_conjunction (or c a) o s p q r = (last_test a o s p q, r)
+last_conjunction : (c : CondTree) (o : Option Token) → is_mark mark.OpenBracket o ≡ false → has (factor_operator o) ≡ false → has (sum_operator o) ≡ false →
+    has (next_comparison o) ≡ false → has (next_and o) ≡ false → LastConjunction c o
+last_conjunction (conjunction a) o h s p q r = (last_test a o h s p q, r)
+last_conjunction (or c a) o h s p q r = (last_test a o h s p q, r)
 
 pub cond_closes : (c : CondTree) (at : Place) → AfterCond c (Some (token mark.CloseParen at))
-cond_closes c at = (last_conjunction c _ refl refl refl refl, refl)
+cond_closes c at = (last_conjunction c _ refl refl refl refl refl, refl)
 
 pub cond_stops : (c : CondTree) (at : Place) → AfterCond c (Some (token mark.Semicolon at))
-cond_stops c at = (last_conjunction c _ refl refl refl refl, refl)
+cond_stops c at = (last_conjunction c _ refl refl refl refl refl, refl)
 
 conjunction_follow : IsFollow next_and one_test (λ (c : ConjunctionTree) (k : Unit {0}) (t : TestTree). and c t) AfterTest LastTest
 conjunction_follow = record {
@@ -409,7 +439,8 @@ conjunction_follow = record {
   start_in = λ i o f. f;
   grow_out = λ a k i o f. f;
   grow_in = λ a k i o f. f;
-  allowed = λ a o e. by_table and_mark ((mark.And, tt {0}) ∷ []) (refl, tt) (λ o. LastTest a o) (λ k at. last_test a (Some (token mark.And at)) refl refl refl) o e;
+  allowed = λ a o e. by_table and_mark ((mark.And, tt {0}) ∷ []) (refl, tt) (λ o. LastTest a o)
+      (λ k at. last_test a (Some (token mark.And at)) refl refl refl refl) o e;
 }
 
 cond_follow : IsFollow next_or conjunction (λ (c : CondTree) (k : Unit {0}) (d : ConjunctionTree). or c d) AfterConjunction LastConjunction
@@ -418,7 +449,8 @@ cond_follow = record {
   start_in = λ i o f. f;
   grow_out = λ a k i o f. f;
   grow_in = λ a k i o f. f;
-  allowed = λ a o e. by_table or_mark ((mark.Or, tt {0}) ∷ []) (refl, tt) (λ o. LastConjunction a o) (λ k at. last_conjunction a (Some (token mark.Or at)) refl refl refl refl) o e;
+  allowed = λ a o e. by_table or_mark ((mark.Or, tt {0}) ∷ []) (refl, tt) (λ o. LastConjunction a o)
+      (λ k at. last_conjunction a (Some (token mark.Or at)) refl refl refl refl refl) o e;
 }
 
 split_conjunction : (l : ℕ) (c : ConjunctionTree) (z : Pieces) → IsConjunction l c z → Split and_mark one_test (λ c k t. and c t) (IsTest l) c z
@@ -490,7 +522,8 @@ exact_parens n l o p low P = exact_behind mark.OpenParen o low (exact_ended mark
 
 -- the readers of tests and of negations
 abbrev AreExact : ℕ → ℕ → ℕ → Type 0
-AreExact n d l = Exact n IsInner (test_at d) Any (IsTest l) (IsTest l) AfterTest × Exact n IsInner (negation_at d) Any (IsNegation l) (IsNegation l) Free
+AreExact n d l = Exact n IsInner (test_at d) Any (IsTest l) (IsTest l) AfterTest × Exact n IsInner (negation_at d) Any (IsNegation l) (IsNegation l)
+    AfterNegation
 
 exact_tests : (n d l : ℕ) → d + l ≡ n → AreExact n d l
 unfolding tests
@@ -501,8 +534,10 @@ exact_tests n zero l h =
           (exact_deep n IsInner (At (Some at_not)) (TestAt l (Some at_not)) (IsTest l) AfterTest (over_test n l at_not deep) (some_over_test n l at_not deep) (none_over at_not))
           (exact_deep n IsInner (At (Some at_open)) (TestAt l (Some at_open)) (IsTest l) AfterTest (over_test n l at_open deep) (some_over_test n l at_open deep) (none_over at_open)),
       exact_negation_form n l (unary_at zero) U (stop TooDeep) (stop TooDeep)
-          (exact_deep n IsInner (At (Some at_not)) (NegationAt l (Some at_not)) (IsNegation l) Free (over_negation n l at_not deep) (some_over_negation n l at_not deep) (none_over at_not))
-          (exact_deep n IsInner (At (Some at_open)) (NegationAt l (Some at_open)) (IsNegation l) Free (over_negation n l at_open deep) (some_over_negation n l at_open deep) (none_over at_open)),
+          (exact_deep n IsInner (At (Some at_not)) (NegationAt l (Some at_not)) (IsNegation l) AfterNegation (over_negation n l at_not deep)
+          (some_over_negation n l at_not deep) (none_over at_not))
+          (exact_deep n IsInner (At (Some at_open)) (NegationAt l (Some at_open)) (IsNegation l) AfterNegation (over_negation n l at_open deep)
+          (some_over_negation n l at_open deep) (none_over at_open)),
     )
 exact_tests n (suc d) l h =
     let low : l + 1 ≤ n = omega arith in
@@ -511,13 +546,16 @@ exact_tests n (suc d) l h =
     let G = exact_parens n (l + 1) (l + 1) (cond_of (test_at d)) low (exact_cond_of n (l + 1) (test_at d) inner.0) in
     let some : (a : NegationTree) × (x : Pieces) × IsNegation (l + 1) a x = (value_of_unary (variable some_name), _, refl) in (
       exact_test_form n l (unary_at (suc d)) U _ _
-          (entry (widen (exact_behind mark.Not (l + 1) low (mapped inner.1 opposite AfterTest (λ a o f. tt) (λ a o f. tt)) (opposite some.0, some.1, (some.0, refl, some.2))) (IsTest l)
+          (entry (widen (exact_behind mark.Not (l + 1) low (mapped inner.1 opposite AfterTest (λ a o f. f) (λ a o f. f))
+          (opposite some.0, some.1, (some.0, refl, some.2))) (IsTest l)
           (λ b z s. to_test l (Some at_not) b z s)) (At (Some at_not)) (λ o i. tt))
           (entry (widen (exact_grouped n l (unary_at (suc d)) U (cond_of (test_at d)) G) (IsTest l) (λ b z s. to_test l (Some at_open) b z s)) (At (Some at_open)) (λ o i. tt)),
       exact_negation_form n l (unary_at (suc d)) U _ _
-          (entry (widen (exact_behind mark.Not (l + 1) low (mapped inner.1 opposite_again Free (λ a o f. tt) (λ a o f. tt)) (opposite_again some.0, some.1, (some.0, refl, some.2))) (IsNegation l)
+          (entry (widen (exact_behind mark.Not (l + 1) low (mapped inner.1 opposite_again AfterNegation (λ a o f. f) (λ a o f. f))
+          (opposite_again some.0, some.1, (some.0, refl, some.2))) (IsNegation l)
           (λ b z s. to_negation l (Some at_not) b z s)) (At (Some at_not)) (λ o i. tt))
-          (entry (widen (mapped G negation_of Free (λ a o f. tt) (λ a o f. tt)) (IsNegation l) (λ b z s. to_negation l (Some at_open) b z s)) (At (Some at_open)) (λ o i. tt)),
+          (entry (widen (mapped G negation_of AfterNegation (λ c o f. after_group_negation c o) (λ c o f. tt)) (IsNegation l)
+          (λ b z s. to_negation l (Some at_open) b z s)) (At (Some at_open)) (λ o i. tt)),
     )
 
 pub exact_cond : (n d l : ℕ) → d + l ≡ n → Exact n IsInner (cond_at d) Any (IsCond l) (IsCond l) AfterCond

@@ -377,7 +377,11 @@ module _ (n d l o : ℕ) (h : d + l ≡ n) (low : o ≤ n) (branches : Parse Stm
   exact_assigned =
       let named = then (exact_name n o low) exact_named (NamedStmt o l)
       (λ x b y k s f. tt)
-      (λ x z v. (assign (after x increment), _, (x, (z, _, refl, v, inr (after x increment, refl, (_, _, refl, inr (inr ((step.Increment, some_place), refl, refl)), (some_place, refl)))))))
+      (λ x z v. (
+        assign (after x increment),
+        _,
+        (x, (z, _, refl, v, inr (after x increment, refl, (_, _, refl, inr (inr (inr ((step.Increment, some_place), refl, refl))), (some_place, refl))))),
+      ))
       (λ x b u v s r. (x, (u, v, refl, s, r))) in
       let assigns = mapped (exact_ended mark.Semicolon (exact_assign n d l o h low) assign_stops) assign AfterStmt (λ a k f t. absurd t) (λ a k f. tt) in
       let stepped = where_told assigns (λ k. has (next_name k)) false (λ b z s. assign_long o l s.0 s.2.0 s.2.1 z s.2.2 s.2.3) in

@@ -8,7 +8,7 @@ use Rattle.lra_tree.specs.declared.tokens.Kind.TheVariants.{Number}
 use Rattle.lra_tree.specs.declared.trees.SignedLiteral.{SignedLiteral}
 use Rattle.lra_tree.specs.Faults.{IsTree, IsTextFault}
 use Rattle.lra_tree.specs.Grammar.{Spells}
-use Rattle.lra_tree.specs.Trees.{no_items, globals, function, FileTree}
+use Rattle.lra_tree.specs.Trees.{no_items, scalar, globals, function, FileTree}
 use Rattle.lra_readers.specs.Reading.{Text, loop}
 use Rattle.lra_readers.specs.Expressions.{unary_at, tests}
 use Rattle.lra_readers.specs.Statements.{levels}
@@ -29,7 +29,12 @@ minus_five = record { value = negsuc 4; place = in_line 11 }
 
 abbrev two_tree : FileTree
 two_tree = record {
-  parts = globals (record { number_type = Long; first = record { name = named_at (codes "g") 6; value = None }; rest = record { name = named_at (codes "h") 8; value = Some minus_five } ∷ [] })
+  parts = globals (record {
+    number_type = Long;
+    first = record { name = named_at (codes "g") 6; shape = scalar None };
+    rest = record
+        { name = named_at (codes "h") 8; shape = scalar (Some minus_five) } ∷ [];
+  })
       ∷ function (record { result_type = Some Int; name = named_at (codes "main") 17; parameters = []; body = no_items; end = in_line 24 }) ∷ [];
   end = in_line 25;
 }
@@ -48,7 +53,7 @@ short = mark_token mark.Int 1 ∷ word_at (codes "g") 5 ∷ mark_token mark.Semi
 
 abbrev short_tree : FileTree
 short_tree = record {
-  parts = globals (record { number_type = Int; first = record { name = named_at (codes "g") 5; value = None }; rest = [] })
+  parts = globals (record { number_type = Int; first = record { name = named_at (codes "g") 5; shape = scalar None }; rest = [] })
       ∷ function (record { result_type = Some Int; name = named_at (codes "main") 11; parameters = []; body = no_items; end = in_line 18 }) ∷ [];
   end = in_line 19;
 }

@@ -8,6 +8,7 @@ pub mod Parts
 pub mod ExactExpressions
 pub mod ExactConditions
 pub mod ExactLists
+pub mod ExactShapes
 pub mod ExactRvalues
 pub mod ExactAssignments
 pub mod ExactHeads
@@ -31,3 +32,4 @@ pub mod CallExamples
 pub mod FunctionExamples
 pub mod PrototypeExamples
 pub mod GlobalExamples
+pub mod ElementExamples

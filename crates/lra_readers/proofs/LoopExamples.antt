@@ -9,7 +9,8 @@ use Rattle.lra_base.specs.Operators.{below}
 use Rattle.lra_tree.specs.Faults.{IsTree, IsTextFault}
 use Rattle.lra_tree.specs.Grammar.{Spells}
 use Rattle.lra_tree.specs.Trees.{literal, unary, ExprTree, term, value, conjunction, test, CondTree, expression, DeclarationTree, no_init, declared, StmtTree, block, nothing, if_only, if_else, while}
-use Rattle.lra_tree.specs.Trees.{for, break, return, ItemsTree, no_items, declaration, statement, function, FileTree, variable, compare, set, increment, before, assigned, continue}
+use Rattle.lra_tree.specs.Trees.{scalar, for, break, return, ItemsTree, no_items, declaration, statement, function, FileTree, variable, compare, set, increment}
+use Rattle.lra_tree.specs.Trees.{before, assigned, continue}
 use Rattle.lra_readers.specs.Reading.{Text, loop}
 use Rattle.lra_readers.specs.Expressions.{unary_at, tests}
 use Rattle.lra_readers.specs.Statements.{levels}
@@ -139,7 +140,7 @@ inner = main_head (mark_token mark.For 17 ∷ mark_token mark.OpenParen 20 ∷ m
     ∷ mark_token mark.CloseBrace 51 ∷ mark_token mark.CloseBrace 53 ∷ [])
 
 abbrev one_name : List ℕ → ℕ → DeclarationTree
-one_name word column = record { number_type = Long; first = record { name = record { word = word; place = in_line column }; rvalue = None }; rest = [] }
+one_name word column = record { number_type = Long; first = record { name = record { word = word; place = in_line column }; shape = scalar None }; rest = [] }
 
 abbrev inner_tree : FileTree
 inner_tree = main_of (statement (for (in_line 17) (declared (one_name (codes "i") 26)) None None

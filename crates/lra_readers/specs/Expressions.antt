@@ -4,19 +4,22 @@ use Rattle.lra_base.specs.declared.refusals.Cause.TheVariants.{TooDeep}
 use Rattle.lra_tree.specs.declared.tokens.Mark.{Mark}
 use Rattle.lra_tree.specs.declared.tokens.Mark.TheVariants as mark
 use Rattle.lra_tree.specs.declared.tokens.Token.{Token}
+use Rattle.lra_tree.specs.declared.trees.Identifier.{Identifier}
 use Rattle.lra_tree.specs.declared.trees.FactorOperator.{FactorOperator}
 use Rattle.lra_tree.specs.declared.trees.FactorOperator.TheVariants as factor
 use Rattle.lra_tree.specs.declared.trees.SumOperator.{SumOperator}
 use Rattle.lra_tree.specs.declared.trees.SumOperator.TheVariants as sum
 use Rattle.lra_base.specs.declared.operators.Comparison.{Comparison}
 use Rattle.lra_base.specs.declared.operators.Comparison.TheVariants as comparison
-use Rattle.lra_tree.specs.Trees.{UnaryTree, negated, positive, literal, variable, input, group, TermTree, unary}
-use Rattle.lra_tree.specs.Trees.{ExprTree, term, NegationTree, opposite_again, value_of_unary, group_opposed, TestTree}
+use Rattle.lra_tree.specs.Trees.{UnaryTree, negated, positive, literal, variable, input, group}
+use Rattle.lra_tree.specs.Trees.{element, TermTree}
+use Rattle.lra_tree.specs.Trees.{unary, ExprTree, term, NegationTree, opposite_again}
+use Rattle.lra_tree.specs.Trees.{value_of_unary, group_opposed, TestTree}
 use Rattle.lra_tree.specs.Trees.{opposite, value, compare, group_of, ConjunctionTree, test, and, CondTree, conjunction}
 use Rattle.lra_tree.specs.Trees.{or}
 use Rattle.lra_tree.specs.Views.{further_factor, further_term}
 use Rattle.lra_base.specs.OperatorViews.{comparison_view}
-use Rattle.lra_readers.specs.Tests.{first}
+use Rattle.lra_readers.specs.Tests.{first, is_mark}
 use Rattle.lra_readers.specs.Reading.{Parse, stop, seq, map_read, done_with, expect, take_by, next_name, Literal}
 use Rattle.lra_readers.specs.Reading.{next_literal}
 use Rattle.lra_readers.specs.Reading.{has}
@@ -63,6 +66,9 @@ ended m p = seq p (λ a. expect m a)
 abbrev pub in_parens : {A : Type 0} → Parse A → Parse A
 in_parens p = behind mark.OpenParen (ended mark.CloseParen p)
 
+abbrev pub in_brackets : {A : Type 0} → Parse A → Parse A
+in_brackets p = behind mark.OpenBracket (ended mark.CloseBracket p)
+
 -- expressions ------------------------------------------------------------------------------------------------------
 
 abbrev pub factors : Parse UnaryTree → TermTree → Parse TermTree
@@ -96,28 +102,36 @@ literal_tree l = literal l.number_type l.value
 abbrev pub read_literal : Parse UnaryTree
 read_literal = map_read literal_tree (take_by next_literal)
 
-abbrev pub read_variable : Parse UnaryTree
-read_variable = map_read variable (take_by next_name)
+-- behind a name: an element, or else the variable; index reads an index with its brackets
+abbrev pub named_unary : Parse ExprTree → Identifier → Parse UnaryTree
+named_unary index x T = cond (is_mark mark.OpenBracket (first T)) (map_read (element x) index T)
+    (done_with (variable x) T)
+
+abbrev pub read_named : Parse ExprTree → Parse UnaryTree
+read_named index = seq (take_by next_name) (named_unary index)
 
 abbrev pub read_input : Parse UnaryTree
 read_input = behind mark.Input (behind mark.OpenParen (expect mark.CloseParen input))
 
-abbrev pub atom : Parse UnaryTree
-atom T = cond (has (next_literal (first T))) (read_literal T) (read_variable T)
+abbrev pub atom : Parse ExprTree → Parse UnaryTree
+atom index T = cond (has (next_literal (first T))) (read_literal T) (read_named index T)
 
 -- the forms of a unary
-abbrev pub unary_form : Parse UnaryTree → Parse UnaryTree → Parse UnaryTree → Option UnaryMark → Parse UnaryTree
-unary_form minus plus grouped (Some at_minus) = minus
-unary_form minus plus grouped (Some at_plus) = plus
-unary_form minus plus grouped (Some at_group) = grouped
-unary_form minus plus grouped (Some at_input) = read_input
-unary_form minus plus grouped None = atom
+abbrev pub unary_form : Parse UnaryTree → Parse UnaryTree → Parse UnaryTree → Parse ExprTree →
+    Option UnaryMark → Parse UnaryTree
+unary_form minus plus grouped index (Some at_minus) = minus
+unary_form minus plus grouped index (Some at_plus) = plus
+unary_form minus plus grouped index (Some at_group) = grouped
+unary_form minus plus grouped index (Some at_input) = read_input
+unary_form minus plus grouped index None = atom index
 
 unfoldable pub unary_at : ℕ → Parse UnaryTree
-unary_at zero T = unary_form (stop TooDeep) (stop TooDeep) (stop TooDeep) (unary_mark (first T)) T
+unary_at zero T =
+    unary_form (stop TooDeep) (stop TooDeep) (stop TooDeep) (stop TooDeep) (unary_mark (first T)) T
 unary_at (suc d) T =
     unary_form (behind mark.Minus (map_read negated (unary_at d))) (behind mark.Plus (map_read positive (unary_at d)))
     (map_read group (in_parens (expr_of (unary_at d))))
+    (in_brackets (expr_of (unary_at d)))
     (unary_mark (first T)) T
 
 abbrev pub expr_at : ℕ → Parse ExprTree
@@ -225,6 +239,11 @@ positive_at (suc d) T = behind mark.Plus (map_read positive (unary_at d)) T
 abbrev pub grouped_at : ℕ → Parse UnaryTree
 grouped_at zero T = stop TooDeep T
 grouped_at (suc d) T = map_read group (in_parens (expr_at d)) T
+
+-- an index with its brackets
+abbrev pub index_at : ℕ → Parse ExprTree
+index_at zero T = stop TooDeep T
+index_at (suc d) T = in_brackets (expr_at d) T
 
 abbrev pub opposed_at : ℕ → Parse NegationTree
 opposed_at zero T = stop TooDeep T

@@ -14,7 +14,8 @@ use Rattle.lra_tree.specs.declared.tokens.Token.{Token}
 use Rattle.lra_tree.specs.declared.trees.Identifier.{Identifier}
 use Rattle.lra_tree.specs.declared.trees.Parameter.{Parameter}
 use Rattle.lra_tree.specs.declared.trees.SignedLiteral.{SignedLiteral}
-use Rattle.lra_tree.specs.Trees.{ItemsTree, FunctionTree, GlobalTree, PartTree, prototype, globals, function, FileTree}
+use Rattle.lra_tree.specs.Trees.{ItemsTree, FunctionTree, ShapeTree, GlobalTree, PartTree}
+use Rattle.lra_tree.specs.Trees.{prototype, globals, function, FileTree}
 use Rattle.lra_readers.specs.declared.lead.Lead.{Lead}
 use Rattle.lra_readers.specs.declared.lead.Lead.TheVariants as lead
 use Rattle.lra_readers.specs.Tests.{first, is_mark}
@@ -22,7 +23,9 @@ use Rattle.lra_readers.specs.Reading.{Parse, stop, seq, map_read, done_with, exp
 use Rattle.lra_readers.specs.Reading.{has}
 use Rattle.lra_readers.specs.Reading.{one_of, list_of}
 use Rattle.lra_readers.specs.Expressions.{behind, ended}
-use Rattle.lra_readers.specs.Statements.{commas_from, commas, listed, type_words, signed_at, body_of, items_at}
+use Rattle.lra_readers.specs.Statements.{commas_from, commas, listed, type_words, shape_at}
+use Rattle.lra_readers.specs.Statements.{signed_at, body_of}
+use Rattle.lra_readers.specs.Statements.{items_at}
 
 -- the last token, and no other, is the end
 pub record EndsOnce (tokens : List Token) : Type 0 where
@@ -154,26 +157,23 @@ signature_at d h = behind mark.OpenParen (seq parameters_at (λ ps. ending d (si
 
 -- globals -----------------------------------------------------------------------------------------------------------
 
-abbrev pub with_value : Identifier → SignedLiteral → GlobalTree
-with_value x v = record { name = x; value = Some v }
-
-abbrev pub without_value : Identifier → GlobalTree
-without_value x = record { name = x; value = None }
+abbrev pub global_of : Identifier → ShapeTree SignedLiteral → GlobalTree
+global_of x s = record { name = x; shape = s }
 
 -- behind the name of a global
-abbrev pub value_at : Identifier → Parse GlobalTree
-value_at x T = cond (is_mark mark.Assign (first T)) (behind mark.Assign (map_read (with_value x) signed_at) T)
-    (done_with (without_value x) T)
+abbrev pub global_rest : Identifier → Parse GlobalTree
+global_rest x = map_read (global_of x) (shape_at signed_at)
 
 abbrev pub global_at : Parse GlobalTree
-global_at = seq (take_by next_name) value_at
+global_at = seq (take_by next_name) global_rest
 
 abbrev pub globals_of : NumberType → GlobalTree × List GlobalTree → PartTree
 globals_of t gs = globals (record { number_type = t; first = gs.0; rest = gs.1 })
 
 -- behind their type and the name of the first
 abbrev pub globals_at : NumberType → Identifier → Parse PartTree
-globals_at t x = map_read (globals_of t) (ended mark.Semicolon (commas_from (value_at x) global_at))
+globals_at t x = map_read (globals_of t)
+    (ended mark.Semicolon (commas_from (global_rest x) global_at))
 
 -- parts -------------------------------------------------------------------------------------------------------------
 

@@ -11,13 +11,16 @@ use Rattle.lra_tree.specs.declared.tokens.Mark.TheVariants as mark
 use Rattle.lra_tree.specs.declared.tokens.Token.{Token}
 use Rattle.lra_tree.specs.declared.trees.Identifier.{Identifier}
 use Rattle.lra_tree.specs.declared.trees.PlacedLabel.{PlacedLabel}
+use Rattle.lra_tree.specs.declared.trees.ArrayLength.{ArrayLength}
 use Rattle.lra_tree.specs.declared.trees.SignedLiteral.{SignedLiteral}
 use Rattle.lra_base.specs.declared.operators.Operator.{Operator}
 use Rattle.lra_base.specs.declared.operators.Operator.TheVariants as operator
 use Rattle.lra_tree.specs.declared.trees.Step.{Step}
 use Rattle.lra_tree.specs.declared.trees.Step.TheVariants as step
-use Rattle.lra_tree.specs.Trees.{UnaryTree, variable, unary, ExprTree, term, CondTree, CallTree, RvalueTree, expression}
-use Rattle.lra_tree.specs.Trees.{result, AssignTree, set, update, after, before, DeclaratorTree, DeclarationTree}
+use Rattle.lra_tree.specs.Trees.{UnaryTree, unary, ExprTree, term, CondTree, CallTree, RvalueTree}
+use Rattle.lra_tree.specs.Trees.{expression}
+use Rattle.lra_tree.specs.Trees.{result, AssignTree, set, set_element, update, after, before}
+use Rattle.lra_tree.specs.Trees.{ShapeTree, scalar, array, DeclaratorTree, DeclarationTree}
 use Rattle.lra_tree.specs.Trees.{InitTree, no_init, assigned, declared as declared_first, StmtTree, block, nothing}
 use Rattle.lra_tree.specs.Trees.{assign, call, if_only, if_else, while, for, break, continue, return, assert, assume}
 use Rattle.lra_tree.specs.Trees.{switch, CasesTree, no_cases, labelled, stated as stated_case, ItemsTree, no_items}
@@ -26,8 +29,11 @@ use Rattle.lra_base.specs.OperatorViews.{operator_view}
 use Rattle.lra_tree.specs.Views.{step_view}
 use Rattle.lra_readers.specs.Tests.{first, is_mark, begins_label}
 use Rattle.lra_readers.specs.Reading.{Text, Parse, stop, seq, map_read, done_with, tail, expect, expect_at, place_of}
-use Rattle.lra_readers.specs.Reading.{take_by, next_name, Literal, next_small, has, one_of, list_of}
-use Rattle.lra_readers.specs.Expressions.{behind, ended, in_parens, factors, summands, unary_at, expr_at, cond_at}
+use Rattle.lra_readers.specs.Reading.{take_by, next_name, Literal, next_literal, next_small, has}
+use Rattle.lra_readers.specs.Reading.{one_of, list_of}
+use Rattle.lra_readers.specs.Expressions.{behind, ended, in_parens, in_brackets, factors, summands}
+use Rattle.lra_readers.specs.Expressions.{unary_at}
+use Rattle.lra_readers.specs.Expressions.{named_unary, expr_at, index_at, cond_at}
 
 -- the text behind the mark, if it is there
 abbrev pub skip : Mark → Text → Text
@@ -64,7 +70,7 @@ rvalue_from d a = seq (factors (unary_at d) (unary a)) (λ t. map_read expressio
 -- behind a name
 abbrev pub rvalue_rest : ℕ → Identifier → Parse RvalueTree
 rvalue_rest d x T = cond (is_mark mark.OpenParen (first T)) (map_read result (call_rest d x) T)
-    (rvalue_from d (variable x) T)
+    (seq (named_unary (index_at d) x) (rvalue_from d) T)
 
 abbrev pub rvalue_at : ℕ → Parse RvalueTree
 rvalue_at d T = cond (has (next_name (first T))) (seq (take_by next_name) (rvalue_rest d) T)
@@ -87,13 +93,23 @@ step_marks = (mark.Increment, step.Increment) ∷ (mark.Decrement, step.Decremen
 abbrev pub next_step : Option Token → Option (Step × Place)
 next_step o = option_map (λ s. (s, place_of o)) (one_of step_marks o)
 
--- behind the name of the variable
-abbrev pub assign_rest : ℕ → Identifier → Parse AssignTree
-assign_rest d x T =
+-- behind the name of a variable
+abbrev pub variable_rest : ℕ → Identifier → Parse AssignTree
+variable_rest d x T =
     cond (is_mark mark.Assign (first T)) (behind mark.Assign (map_read (set x) (rvalue_at d)) T)
     (cond (has (update_operator (first T))) (seq (take_by update_operator)
     (λ op. map_read (update x (operator_view op)) (expr_at d)) T)
     (map_read (λ s. after x (step_view s.0)) (take_by next_step) T))
+
+-- behind an element
+abbrev pub element_rest : ℕ → Identifier → ExprTree → Parse AssignTree
+element_rest d x i = behind mark.Assign (map_read (set_element x i) (rvalue_at d))
+
+-- behind a name
+abbrev pub assign_rest : ℕ → Identifier → Parse AssignTree
+assign_rest d x T = cond (is_mark mark.OpenBracket (first T))
+    (seq (index_at d) (element_rest d x) T)
+    (variable_rest d x T)
 
 abbrev pub step_first : Parse AssignTree
 step_first = seq (take_by next_step) (λ s. map_read (before s.1 (step_view s.0)) (take_by next_name))
@@ -112,15 +128,31 @@ abbrev pub type_words : Parse NumberType
 type_words T = cond (is_mark mark.Int (first T)) (expect mark.Int Int T)
     (seq (expect mark.Long (tt {0})) (λ _ T. Ok (Long, skip mark.Int (skip mark.Long T))) T)
 
--- behind the name of the variable
-abbrev pub declared_value : ℕ → Identifier → Parse DeclaratorTree
-declared_value d x T =
-    cond (is_mark mark.Assign (first T)) (behind mark.Assign
-    (map_read (λ e. record { name = x; rvalue = Some e }) (rvalue_at d)) T)
-    (done_with (record { name = x; rvalue = None }) T)
+abbrev pub length_of : Literal → ArrayLength
+length_of l = record { value = l.value; place = l.place }
+
+-- a literal of any type in brackets
+abbrev pub length_at : Parse ArrayLength
+length_at = in_brackets (map_read length_of (take_by next_literal))
+
+-- what a scalar gets behind `=`, or nothing
+abbrev pub given_at : {A : Type 0} → Parse A → Parse (Option A)
+given_at p T = cond (is_mark mark.Assign (first T)) (behind mark.Assign (map_read Some p) T)
+    (done_with None T)
+
+-- behind a name that is declared; p reads a value
+abbrev pub shape_at : {A : Type 0} → Parse A → Parse (ShapeTree A)
+shape_at p T = cond (is_mark mark.OpenBracket (first T)) (map_read array length_at T)
+    (map_read scalar (given_at p) T)
+
+abbrev pub declarator_of : Identifier → ShapeTree RvalueTree → DeclaratorTree
+declarator_of x s = record { name = x; shape = s }
+
+abbrev pub declarator_rest : ℕ → Identifier → Parse DeclaratorTree
+declarator_rest d x = map_read (declarator_of x) (shape_at (rvalue_at d))
 
 abbrev pub declarator_at : ℕ → Parse DeclaratorTree
-declarator_at d = seq (take_by next_name) (declared_value d)
+declarator_at d = seq (take_by next_name) (declarator_rest d)
 
 abbrev pub declaration_of : NumberType → DeclaratorTree × List DeclaratorTree → DeclarationTree
 declaration_of t ds = record { number_type = t; first = ds.0; rest = ds.1 }
