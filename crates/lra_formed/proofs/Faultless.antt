@@ -1,19 +1,23 @@
 -- A name that isn't at fault means a variable that lives, and a call that isn't at fault a function that is there.
-use Rattle.std.proofs.Common.{◌≡◌, ℕ, suc, ◌+◌, ◌≤◌, ◌<◌, List, [], ◌∷◌, ◌++◌, length, Option, Some, None, Bool, true, false, not, ◌||◌, nat_eq, refl, arith, length-append}
-use Rattle.std.specs.Prelude.{bytes_eq, if◌then◌else◌, is_none, ◌&&◌}
+-- Arrays are no variables: a scope has as many of these as it is wide.
+use Rattle.std.proofs.Common.{◌≡◌, ℕ, suc, ◌+◌, zero, ◌≤◌, ◌<◌, List, [], ◌∷◌, ◌++◌, length, take, Option, Some, None, Bool, true, false, not, ◌||◌, nat_eq}
+use Rattle.std.proofs.Common.{refl, ap, ◌∙◌, subst, arith}
+use Rattle.std.specs.Prelude.{is_none, ◌&&◌, option_map, slice_get}
+use Rattle.std.specs.List.{AllByRecursion}
 use Rattle.std.proofs.lemmas.Bool.{eqb-true}
-use Rattle.std.proofs.lemmas.List.{length-map}
 use Rattle.std.proofs.lemmas.Option.{same_Some, none-some}
 use Rattle.lra_base.specs.declared.refusals.Place.{Place}
 use Rattle.lra_base.specs.declared.refusals.Cause.{Cause}
-use Rattle.lra_base.specs.declared.refusals.Cause.TheVariants.{UnknownName}
+use Rattle.lra_base.specs.declared.refusals.Cause.TheVariants.{NotArray}
 use Rattle.lra_tree.specs.declared.trees.Identifier.{Identifier}
 use Rattle.lra_tree.specs.Trees.{FunctionTree}
-use Rattle.lra_program.specs.Program.{Program}
-use Rattle.lra_meaning.specs.Scope.{Entry, names_in, Scope, newest_from, newest, slot_in, with_local, inner}
-use Rattle.lra_meaning.specs.NameFaults.{fault_if, use_faults, called_faults}
-use Rattle.lra_meaning.specs.Resolve.{slot_or, variable}
+use Rattle.lra_program.specs.Program.{Slot, global, local, Program}
+use Rattle.lra_meaning.specs.Scope.{Meaning, scalar, array, Entry, names_in, Scope, newest, width_of, width_of_all, Found, found_at, found_among, found_in, found_of}
+use Rattle.lra_meaning.specs.Scope.{is_array, with_local, inner}
+use Rattle.lra_meaning.specs.NameFaults.{fault_if, scalar_faults, use_faults, called_faults}
+use Rattle.lra_meaning.specs.Resolve.{variable_or, variable}
 use Rattle.lra_program.specs.WellFormed.{IsLive}
+use Rattle.lra_formed.proofs.Declared.{wider, wider_is}
 
 -- lists without faults ---------------------------------------------------------------------------------------------
 
@@ -25,6 +29,9 @@ pub none_right : {A : Type 0} (xs ys : List A) → xs ++ ys ≡ [] → ys ≡ []
 none_right [] ys e = e
 none_right (x ∷ xs) ys e = absurd cc
 
+pub none_both : {A : Type 0} (xs ys : List A) → xs ++ ys ≡ [] → (xs ≡ []) × (ys ≡ [])
+none_both xs ys e = (none_left xs ys e, none_right xs ys e)
+
 pub none_if : (b : Bool) (c : Cause) (at : Place) → fault_if b c at ≡ [] → b ≡ false
 none_if true c at e = absurd cc
 none_if false c at e = refl
@@ -33,40 +40,85 @@ pub is_not : (b : Bool) → not b ≡ false → b ≡ true
 is_not true e = refl
 is_not false e = absurd cc
 
+pub at_place : {A : Type 0} (Q : A → Type 0) (xs : List A) (k : ℕ) (x : A) → AllByRecursion Q xs → slice_get xs k ≡ Some x → Q x
+at_place Q [] k x h e = absurd (none-some x e)
+at_place Q (y ∷ xs) zero x h e = subst Q (same_Some y x e) h.0
+at_place Q (y ∷ xs) (suc k) x h e = at_place Q xs k x h.1 e
+
 -- variables --------------------------------------------------------------------------------------------------------
 
--- the program has the scope's globals, and so many locals live
-pub record Sees (P : Program) (live : ℕ) (s : Scope) : Type 0 where
-  pub globals : length s.globals ≤ length P.globals
-  pub locals : length s.locals ≡ live
+pub width-append : (es fs : List Entry) → width_of_all (es ++ fs) ≡ width_of_all es + width_of_all fs
+width-append [] fs = omega arith
+width-append (e ∷ es) fs = let h = width-append es fs in omega arith
 
-pub sees_local : (P : Program) (live : ℕ) (s : Scope) (x : Entry) → Sees P live s → Sees P (suc live) (with_local s x)
-sees_local P live s x h = record { globals = h.globals; locals = let n = length-append s.locals (x ∷ []) in omega (arith, h.locals) }
+-- the program has the scope's global variables, and so many local ones live
+pub record Sees (P : Program) (live : ℕ) (s : Scope) : Type 0 where
+  pub globals : width_of_all s.globals ≤ length P.globals
+  pub locals : width_of_all s.locals ≡ live
+
+pub sees_local : (P : Program) (live : ℕ) (s : Scope) (x : Entry) → Sees P live s → Sees P (wider x.meaning live) (with_local s x)
+sees_local P live s x h =
+    let n = width-append s.locals (x ∷ []) in
+    let w = wider_is x.meaning live in record { globals = h.globals; locals = omega (arith, h.locals) }
 
 pub sees_inner : (P : Program) (live : ℕ) (s : Scope) → Sees P live s → Sees P live (inner s)
 sees_inner P live s h = record { globals = h.globals; locals = h.locals }
 
-found_here : (b : Bool) (k : ℕ) (found : Option ℕ) → ((i : ℕ) → found ≡ Some i → i < k) → (i : ℕ) → (if b then Some k else found) ≡ Some i → i < suc k
-found_here true k found h i e = let same : k ≡ i = same_Some k i e in omega arith
-found_here false k found h i e = let low = h i e in omega arith
+scalar_width : (x e : Entry) → x ≡ e → is_array e.meaning ≡ false → width_of x.meaning ≡ 1
+scalar_width x e same h = scalar_is_one x.meaning (ap (λ (y : Entry). is_array y.meaning) same ∙ h)
+  where
+    scalar_is_one : (m : Meaning) → is_array m ≡ false → width_of m ≡ 1
+    scalar_is_one (scalar t) e = refl
+    scalar_is_one (array a) e = absurd cc
 
-newest_low : (name : List ℕ) (xs : List (List ℕ)) (k : ℕ) (found : Option ℕ) (j : ℕ) → ((i : ℕ) → found ≡ Some i → i < k) → newest_from k found name xs ≡ Some j → j < k + length xs
-newest_low name [] k found j h e = let low = h j e in omega arith
-newest_low name (x ∷ xs) k found j h e =
-    let low = newest_low name xs (suc k) (if bytes_eq x name then Some k else found) j (found_here (bytes_eq x name) k found h) e in omega arith
+-- before a variable stand fewer than there are
+fewer_before : (es : List Entry) (k : ℕ) (e : Entry) → slice_get es k ≡ Some e → is_array e.meaning ≡ false → width_of_all (take k es) < width_of_all es
+fewer_before [] k e at h = absurd (none-some e at)
+fewer_before (x ∷ es) zero e at h = let one = scalar_width x e (same_Some x e at) h in omega arith
+fewer_before (x ∷ es) (suc k) e at h = let later = fewer_before es k e at h in omega arith
 
-slot_lives : (P : Program) (live : ℕ) (l g : Option ℕ) (at : Place) → ((j : ℕ) → l ≡ Some j → j < live) → ((j : ℕ) → g ≡ Some j → j < length P.globals)
-    → fault_if (is_none (slot_in l g)) UnknownName at ≡ [] → IsLive P live (slot_or (slot_in l g))
-slot_lives P live (Some k) g at h i e = h k refl
-slot_lives P live None (Some k) at h i e = i k refl
-slot_lives P live None None at h i e = absurd cc
+-- what holds of each entry holds of what is found
+module _ (Q : Found → Type 0) where
+  abbrev pub Each : Option Found → Type 0
+  Each o = (f : Found) → o ≡ Some f → Q f
 
-pub variable_lives : (P : Program) (live : ℕ) (s : Scope) (x : Identifier) → Sees P live s → use_faults s x ≡ [] → IsLive P live (variable s x).slot
-variable_lives P live s x h e =
-    let count = λ (es : List Entry). length-map es (λ (e : Entry). e.name) in
-    slot_lives P live (newest x.word (names_in s.locals)) (newest x.word (names_in s.globals)) x.place
-    (λ j f. let low = newest_low x.word (names_in s.locals) 0 None j (λ i n. absurd (none-some i n)) f in omega (arith, h.locals, count s.locals))
-    (λ j f. let low = newest_low x.word (names_in s.globals) 0 None j (λ i n. absurd (none-some i n)) f in omega (arith, h.globals, count s.globals)) e
+  module _ (slot : ℕ → Slot) (es : List Entry) where
+    abbrev found : ℕ → Entry → Found
+    found k e = record { slot = slot (width_of_all (take k es)); meaning = e.meaning }
+
+    abbrev pub EachEntry : Type 0
+    EachEntry = (k : ℕ) (e : Entry) → slice_get es k ≡ Some e → Q (found k e)
+
+    each_entry : (k : ℕ) (o : Option Entry) → ((e : Entry) → o ≡ Some e → Q (found k e)) → Each (option_map (found k) o)
+    each_entry k None each f e = absurd (none-some f e)
+    each_entry k (Some x) each f e = subst Q (same_Some (found k x) f e) (each x refl)
+
+    each_place : EachEntry → (o : Option ℕ) → Each (found_at slot es o)
+    each_place each None f e = absurd (none-some f e)
+    each_place each (Some k) f e = each_entry k (slice_get es k) (each k) f e
+
+  each_newest : (l g : Option Found) → Each l → Each g → Each (found_in l g)
+  each_newest (Some f) g one other = one
+  each_newest None g one other = other
+
+  pub each_found : (s : Scope) (name : List ℕ) → EachEntry local s.locals → EachEntry global s.globals → Each (found_of s name)
+  each_found s name locals globals =
+      each_newest (found_among local s.locals name) (found_among global s.globals name) (each_place local s.locals locals (newest name (names_in s.locals)))
+      (each_place global s.globals globals (newest name (names_in s.globals)))
+
+module _ (P : Program) (live : ℕ) where
+  abbrev Lives : Found → Type 0
+  Lives f = is_array f.meaning ≡ false → IsLive P live f.slot
+
+  scalar_lives : (o : Option Found) (at : Place) → Each Lives o → scalar_faults o at ≡ [] → IsLive P live (variable_or o).slot
+  scalar_lives None at lives e = absurd cc
+  scalar_lives (Some f) at lives e = lives f refl (none_if (is_array f.meaning) NotArray at e)
+
+  pub variable_lives : (s : Scope) (x : Identifier) → Sees P live s → use_faults s x ≡ [] → IsLive P live (variable s x).slot
+  variable_lives s x h e =
+      scalar_lives (found_of s x.word) x.place
+      (each_found Lives s x.word (λ k y at is_scalar. let low = fewer_before s.locals k y at is_scalar in omega (arith, low, h.locals))
+      (λ k y at is_scalar. let low = fewer_before s.globals k y at is_scalar in omega (arith, low, h.globals))) e
 
 -- calls ------------------------------------------------------------------------------------------------------------
 

@@ -1,25 +1,30 @@
 -- What a tree means is good, where nothing of it is at fault and its literals are small.
-use Rattle.std.proofs.Common.{◌≡◌, ℕ, suc, ◌+◌, List, [], ◌∷◌, ◌++◌, length, map, Option, Some, None, Bool, true, false, not, refl, sym, ◌∙◌}
+use Rattle.std.proofs.Common.{◌≡◌, ℕ, suc, ◌+◌, List, [], ◌∷◌, ◌++◌, length, map, Option, Some, None, Bool, true, false, not, refl, sym, subst, ◌∙◌}
 use Rattle.std.specs.Prelude.{⊤, slice_get}
 use Rattle.std.specs.List.{AllByRecursion, flat_map}
 use Rattle.std.proofs.lemmas.List.{length-map}
 use Rattle.lra_base.specs.declared.number_types.NumberType.{NumberType}
 use Rattle.lra_base.specs.declared.refusals.Place.{Place}
+use Rattle.lra_tree.specs.declared.trees.Identifier.{Identifier}
 use Rattle.lra_tree.specs.Trees as tree
 use Rattle.lra_program.specs.Program.{Cond, BlockItems, no_more, Function, Program}
 use Rattle.lra_program.specs.Sites.{live_behind}
-use Rattle.lra_meaning.specs.Scope.{Scope, with_local, declarator_entry, with_declarators, inner, for_scope}
+use Rattle.lra_meaning.specs.Scope.{Scope, meaning_of, with_local, declarator_entry, with_declarators, inner, for_scope}
 use Rattle.lra_tree.specs.Functions.{function_named}
-use Rattle.lra_meaning.specs.NameFaults.{use_faults, unary_faults, term_faults, expr_faults, negation_faults, test_faults, conjunction_faults, cond_faults, called_faults, call_faults, rvalue_faults}
-use Rattle.lra_meaning.specs.NameFaults.{assign_faults, given_faults, declarators_faults, init_faults, test_of_for_faults, step_faults, Around, return_faults, stmt_faults, cases_faults, items_faults}
+use Rattle.lra_meaning.specs.NameFaults.{use_faults, named_faults, unary_faults, term_faults, expr_faults, negation_faults, test_faults, conjunction_faults}
+use Rattle.lra_meaning.specs.NameFaults.{cond_faults, called_faults, call_faults, rvalue_faults}
+use Rattle.lra_meaning.specs.NameFaults.{assign_faults, given_faults, shape_faults, declarators_faults, init_faults, test_of_for_faults, step_faults, Around}
+use Rattle.lra_meaning.specs.NameFaults.{return_faults, stmt_faults, cases_faults, items_faults}
 use Rattle.lra_meaning.specs.Resolve.{function_place, resolve_unary, resolve_term, resolve_expr, resolve_negation, resolve_test, all_of, any_of, resolve_cond, resolve_call, resolve_rvalue}
-use Rattle.lra_meaning.specs.Resolve.{resolve_given, resolve_assign, resolve_declarators, resolve_init, resolve_for_test, resolve_step, init_count, step_count, stmt_count, declarator_count}
+use Rattle.lra_meaning.specs.Resolve.{resolve_given, resolve_assign, resolve_declared, resolve_declarators, resolve_init, resolve_for_test, resolve_step}
+use Rattle.lra_meaning.specs.Resolve.{init_count, step_count, stmt_count, declarator_count}
 use Rattle.lra_meaning.specs.Resolve.{resolve_stmt, resolve_cases, resolve_items}
 use Rattle.lra_program.specs.WellFormed.{IsGoodExpr, IsGoodCond, IsGoodCall, IsGoodRvalue, IsGoodGiven, IsGoodStmt, AreGoodCases, AreGoodItems, Jumps, no_jumps, in_loop, in_switch}
 use Rattle.lra_formed.specs.Literals.{IsSmallUnary, IsSmallTerm, IsSmallExpr, IsSmallNegation, IsSmallTest, IsSmallConjunction, IsSmallCond, IsSmallCall, IsSmallRvalue, IsSmallGiven, IsSmallAssign}
-use Rattle.lra_formed.specs.Literals.{IsSmallDeclarator, IsSmallInit, IsSmallForTest, IsSmallStep, IsSmallStmt, AreSmallCases, AreSmallItems}
+use Rattle.lra_formed.specs.Literals.{IsSmallShape, IsSmallDeclarator, IsSmallInit, IsSmallForTest, IsSmallStep, IsSmallStmt, AreSmallCases, AreSmallItems}
 use Rattle.lra_base.specs.declared.case_labels.CaseLabel.{CaseLabel}
 use Rattle.lra_formed.proofs.Faultless.{none_left, none_right, none_if, is_not, Sees, sees_local, sees_inner, variable_lives, called_is}
+use Rattle.lra_formed.proofs.Declared.{wider, behind_declared}
 
 module _ (P : Program) where
   module _ (live : ℕ) (s : Scope) (sees : Sees P live s) where
@@ -31,6 +36,7 @@ module _ (P : Program) where
       good_unary (tree.variable x) small e = variable_lives P live s x sees e
       good_unary tree.input small e = tt
       good_unary (tree.group x) small e = good_expr x small e
+      good_unary (tree.element x i) small e = good_expr i small (none_right (named_faults s x) (expr_faults s i) e)
 
       good_term : (t : tree.TermTree) → IsSmallTerm t → term_faults s t ≡ [] → IsGoodExpr P live (resolve_term s t)
       good_term (tree.unary u) small e = good_unary u small e
@@ -117,11 +123,22 @@ module _ (P : Program) where
     good_assign : (b : Jumps) (at live : ℕ) (s : Scope) (a : tree.AssignTree) → Sees P live s → IsSmallAssign a → assign_faults F s a ≡ [] → IsGoodStmt P b live (resolve_assign F s at a)
     good_assign b at live s (tree.set x e) sees small none =
         (variable_lives P live s x sees (none_left (use_faults s x) (rvalue_faults F s e) none), good_rvalue at live s e sees small (none_right (use_faults s x) (rvalue_faults F s e) none))
+    good_assign b at live s (tree.set_element x i e) sees small none =
+        let front = none_left (named_faults s x ++ expr_faults s i) (rvalue_faults F s e) none in (
+          good_expr live s sees i small.0 (none_right (named_faults s x) (expr_faults s i) front),
+          good_rvalue at live s e sees small.1 (none_right (named_faults s x ++ expr_faults s i) (rvalue_faults F s e) none),
+        )
     good_assign b at live s (tree.update x op e) sees small none =
         let lives = variable_lives P live s x sees (none_left (use_faults s x) (expr_faults s e) none) in
         (lives, (lives, good_expr live s sees e small (none_right (use_faults s x) (expr_faults s e) none)))
     good_assign b at live s (tree.after x step) sees small none = let lives = variable_lives P live s x sees none in (lives, (lives, refl))
     good_assign b at live s (tree.before p step x) sees small none = let lives = variable_lives P live s x sees none in (lives, (lives, refl))
+
+    good_declared : (b : Jumps) (n live : ℕ) (s : Scope) (t : NumberType) (x : Identifier) (shape : tree.ShapeTree tree.RvalueTree) (items : BlockItems)
+        → Sees P (wider (meaning_of t x shape) live) s → IsSmallShape shape → shape_faults (given_faults F s) shape ≡ []
+        → AreGoodItems P b (wider (meaning_of t x shape) live) items → AreGoodItems P b live (resolve_declared F s n t x shape items)
+    good_declared b n live s t x (tree.scalar e) items sees small none good = (good_given n (suc live) s e sees small none, good)
+    good_declared b n live s t x (tree.array c) items sees small none good = good
 
     -- declarators, and the items behind them
     good_declarators : (b : Jumps) (n live : ℕ) (s : Scope) (t : NumberType) (ds : List tree.DeclaratorTree) (rest : BlockItems) → Sees P live s → AllByRecursion IsSmallDeclarator ds
@@ -131,15 +148,20 @@ module _ (P : Program) where
     good_declarators b n live s t (d ∷ ds) rest sees small e good =
         let u = with_local s (declarator_entry t d) in
         let after = sees_local P live s (declarator_entry t d) sees in
-        let front = none_left _ (declarators_faults F u t ds) e in (
-          good_given n (suc live) u d.rvalue after small.0 (none_right _ (given_faults F u d.rvalue) front),
-          good_declarators b (suc n) (suc live) u t ds rest after small.1 (none_right _ (declarators_faults F u t ds) e) good,
-        )
+        let more = wider (meaning_of t d.name d.shape) live in
+        let front = none_left _ (declarators_faults F u t ds) e in
+        good_declared b n live u t d.name d.shape (resolve_declarators F u (suc n) t ds rest) after small.0
+        (none_right _ (shape_faults (given_faults F u) d.shape) front)
+        (good_declarators b (suc n) more u t ds rest after small.1 (none_right _ (declarators_faults F u t ds) e) good)
 
     sees_declarators : (n live : ℕ) (s : Scope) (t : NumberType) (ds : List tree.DeclaratorTree) → Sees P live s
         → Sees P (live_behind live (resolve_declarators F s n t ds no_more)) (with_declarators s t ds)
     sees_declarators n live s t [] sees = sees
-    sees_declarators n live s t (d ∷ ds) sees = sees_declarators (suc n) (suc live) (with_local s (declarator_entry t d)) t ds (sees_local P live s (declarator_entry t d) sees)
+    sees_declarators n live s t (d ∷ ds) sees =
+        let u = with_local s (declarator_entry t d) in
+        let more = wider (meaning_of t d.name d.shape) live in
+        subst (λ (i : ℕ). Sees P i (with_declarators u t ds)) (sym (behind_declared F n live u t d.name d.shape (resolve_declarators F u (suc n) t ds no_more)))
+        (sees_declarators (suc n) more u t ds (sees_local P live s (declarator_entry t d) sees))
 
     -- how a `for` begins
     good_init : (n live : ℕ) (s : Scope) (i : tree.InitTree) → Sees P live s → IsSmallInit i → init_faults F s i ≡ [] → AreGoodItems P no_jumps live (resolve_init F s n i)

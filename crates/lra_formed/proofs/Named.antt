@@ -3,24 +3,28 @@ use Rattle.std.proofs.Common.{◌≡◌, ℕ, zero, suc, ◌+◌, List, [], ◌�
 use Rattle.std.specs.Prelude.{⊤, slice_get}
 use Rattle.std.specs.List.{AllByRecursion, flat_map}
 use Rattle.std.proofs.lemmas.List.{length-map}
-use Rattle.std.proofs.lemmas.Option.{same_Some, none-some}
 use Rattle.lra_base.specs.declared.number_types.NumberType.{NumberType}
 use Rattle.lra_base.specs.declared.refusals.Place.{Place}
 use Rattle.lra_tree.specs.declared.trees.Parameter.{Parameter}
+use Rattle.lra_tree.specs.declared.trees.Identifier.{Identifier}
 use Rattle.lra_tree.specs.Trees as tree
 use Rattle.lra_program.specs.Program.{Call, BlockItems, no_more, Function, Program}
-use Rattle.lra_meaning.specs.Scope.{Entry, Scope, with_local, declarator_entry, with_declarators, inner, for_scope, function_scope}
+use Rattle.lra_meaning.specs.Scope.{Entry, Scope, meaning_of, with_local, declarator_entry, with_declarators, inner, for_scope, function_scope}
 use Rattle.lra_tree.specs.Functions.{functions_in, functions_of, is_main}
-use Rattle.lra_meaning.specs.NameFaults.{global_names}
-use Rattle.lra_tree.specs.Labels.{Labelled, plain_label, label_with, called_of, assign_label, with_names, declarator_labels, init_labels, step_labels, stmt_labels, cases_labels, items_labels, live_in_for}
-use Rattle.lra_tree.specs.Labels.{function_labels, labels_of, label_at}
-use Rattle.lra_meaning.specs.Resolve.{resolve_call, resolve_rvalue, resolve_given, resolve_assign, resolve_declarators, resolve_init, resolve_step, init_count, step_count, stmt_count, items_count}
-use Rattle.lra_meaning.specs.Resolve.{declarator_count, resolve_stmt, resolve_cases, resolve_items, resolve_function, resolve_global, globals_in, resolve_parts, main_of, resolve}
+use Rattle.lra_tree.specs.Labels.{Labelled, plain_label, label_with, called_of, called_for, assign_label, name_in, names_of, with_names, declarator_labels}
+use Rattle.lra_tree.specs.Labels.{init_labels, step_labels, stmt_labels}
+use Rattle.lra_tree.specs.Labels.{cases_labels, items_labels, live_in_for, function_labels, labels_of, label_at}
+use Rattle.lra_meaning.specs.Resolve.{resolve_call, resolve_rvalue, resolve_given, resolve_assign, resolve_declared, resolve_declarators, resolve_init}
+use Rattle.lra_meaning.specs.Resolve.{resolve_step, init_count, step_count, stmt_count}
+use Rattle.lra_meaning.specs.Resolve.{items_count, declarator_count, resolve_stmt, resolve_cases, resolve_items, resolve_function, variables_by, globals_in}
+use Rattle.lra_meaning.specs.Resolve.{resolve_parts, main_of, resolve}
 use Rattle.lra_program.specs.Sites.{Site, Event, comes, one_call_more, greatest_calls, plain_site, live_behind, rvalue_events, given_events, stmt_events, cases_events, items_events, function_events, call_events}
 use Rattle.lra_program.specs.Sites.{sites_in, sites_of}
 use Rattle.lra_meaning.specs.ShownNames.{shown_names}
 use Rattle.lra_meaning.specs.LiveNames.{globals_named, live_in_call_at, live_at, names_outside, live_names}
 use Rattle.lra_meaning.proofs.LabelCounts.{count_stmt, count_declarators, count_items, count_step, count_init}
+use Rattle.lra_formed.proofs.Faultless.{at_place}
+use Rattle.lra_formed.proofs.Declared.{wider, wider_is, name_width, behind_declared, names_width, variables_width}
 
 -- labels one after the other ------------------------------------------------------------------------------------------
 
@@ -64,22 +68,21 @@ each_then Q [] ys h k = k
 each_then Q (comes s ∷ xs) ys h k = (h.0, each_then Q xs ys h.1 k)
 each_then Q (one_call_more at ∷ xs) ys h k = each_then Q xs ys h k
 
-at_place : (Q : Site → Type 0) (xs : List Site) (q : ℕ) (s : Site) → AllByRecursion Q xs → slice_get xs q ≡ Some s → Q s
-at_place Q [] q s h e = absurd (none-some s e)
-at_place Q (x ∷ xs) zero s h e = subst Q (same_Some x s e) h.0
-at_place Q (x ∷ xs) (suc q) s h e = at_place Q xs q s h.1 e
-
-count_names : (names : List (List ℕ)) (ds : List tree.DeclaratorTree) → length (with_names names ds) ≡ length names + length ds
-count_names names ds =
-    let a = length-append names (map (λ (d : tree.DeclaratorTree). d.name.word) ds) in
-    let b = length-map ds (λ (d : tree.DeclaratorTree). d.name.word) in omega arith
+count_names : (names : List (List ℕ)) (ds : List tree.DeclaratorTree) → length (with_names names ds) ≡ length names + length (flat_map names_of ds)
+count_names names ds = length-append names (flat_map names_of ds)
 
 -- how many variables live behind declarators
-behind_declarators : (F : List tree.FunctionTree) (n live more : ℕ) (s : Scope) (t : NumberType) (ds : List tree.DeclaratorTree) (rest : BlockItems) → live + length ds ≡ more
-    → live_behind live (resolve_declarators F s n t ds rest) ≡ live_behind more rest
+behind_declarators : (F : List tree.FunctionTree) (n live more : ℕ) (s : Scope) (t : NumberType) (ds : List tree.DeclaratorTree) (rest : BlockItems)
+    → live + length (flat_map names_of ds) ≡ more → live_behind live (resolve_declarators F s n t ds rest) ≡ live_behind more rest
 behind_declarators F n live more s t [] rest e = let same : live ≡ more = omega (arith, e) in ap (λ (i : ℕ). live_behind i rest) same
 behind_declarators F n live more s t (d ∷ ds) rest e =
-    let same : suc live + length ds ≡ more = omega (arith, e) in behind_declarators F (suc n) (suc live) more (with_local s (declarator_entry t d)) t ds rest same
+    let u = with_local s (declarator_entry t d) in
+    let more_live = wider (meaning_of t d.name d.shape) live in
+    let w = wider_is (meaning_of t d.name d.shape) live in
+    let a = length-append (names_of d) (flat_map names_of ds) in
+    let b = name_width t d.name d.shape in
+    let same : more_live + length (flat_map names_of ds) ≡ more = omega (arith, e) in
+    behind_declared F n live u t d.name d.shape (resolve_declarators F u (suc n) t ds rest) ∙ behind_declarators F (suc n) more_live more u t ds rest same
 
 -- a point with the globals' names, the callers' and those of its label ----------------------------------------------------
 
@@ -123,33 +126,50 @@ module _ (outside : List (List ℕ)) (ls : List Labelled) where
     assign_has : (n live : ℕ) (s : Scope) (a : tree.AssignTree) (names : List (List ℕ)) → width_of path + length names ≡ live → label_at ls n ≡ Some (assign_label names a)
         → EachPoint HasAsMany (stmt_events inside path live (resolve_assign F s n a))
     assign_has n live s (tree.set x e) names h at = (point_has n live false (assign_label names (tree.set x e)) h at, rvalue_has n live s e (assign_label names (tree.set x e)) h at)
+    assign_has n live s (tree.set_element x i e) names h at =
+        (point_has n live false (assign_label names (tree.set_element x i e)) h at, rvalue_has n live s e (assign_label names (tree.set_element x i e)) h at)
     assign_has n live s (tree.update x op e) names h at = (point_has n live false (assign_label names (tree.update x op e)) h at, tt)
     assign_has n live s (tree.after x step) names h at = (point_has n live false (assign_label names (tree.after x step)) h at, tt)
     assign_has n live s (tree.before p step x) names h at = (point_has n live false (assign_label names (tree.before p step x)) h at, tt)
 
+    declared_has : (n live : ℕ) (s : Scope) (t : NumberType) (x : Identifier) (shape : tree.ShapeTree tree.RvalueTree) (rest : BlockItems) (l : Labelled)
+        → width_of path + length l.live ≡ live → width_of path + length l.live_in_call ≡ wider (meaning_of t x shape) live → label_at ls n ≡ Some l
+        → EachPoint HasAsMany (items_events inside path (wider (meaning_of t x shape) live) rest)
+        → EachPoint HasAsMany (items_events inside path live (resolve_declared F s n t x shape rest))
+    declared_has n live s t x (tree.scalar e) rest l h j at back = (
+      point_has n live false l h at,
+      each_then HasAsMany (given_events inside path (suc live) (resolve_given F s n e)) (items_events inside path (suc live) rest)
+          (given_has n (suc live) s e l j at) back,
+    )
+    declared_has n live s t x (tree.array c) rest l h j at back = (point_has n live false l h at, back)
+
     -- declarators, and the items behind them
     declarators_have : (n live more : ℕ) (s : Scope) (t : NumberType) (ds : List tree.DeclaratorTree) (rest : BlockItems) (names : List (List ℕ)) → width_of path + length names ≡ live
-        → live + length ds ≡ more
+        → live + length (flat_map names_of ds) ≡ more
         → StandFrom ls n (declarator_labels names ds) → EachPoint HasAsMany (items_events inside path more rest) →
         EachPoint HasAsMany (items_events inside path live (resolve_declarators F s n t ds rest))
     declarators_have n live more s t [] rest names h e stand back = let same : more ≡ live = omega (arith, e) in subst (λ (i : ℕ). EachPoint HasAsMany (items_events inside path i rest)) same back
     declarators_have n live more s t (d ∷ ds) rest names h e stand back =
         let u = with_local s (declarator_entry t d) in
-        let longer = names ++ d.name.word ∷ [] in
-        let l : Labelled = record { place = d.name.place; called = called_of d.rvalue; live = names; live_in_call = longer } in
-        let k = length-append names (d.name.word ∷ []) in
-        let j : width_of path + length longer ≡ suc live = omega (arith, h) in
-        let same : suc live + length ds ≡ more = omega (arith, e) in (
-          point_has n live false l h stand.0,
-          each_then HasAsMany (given_events inside path (suc live) (resolve_given F u n d.rvalue)) (items_events inside path (suc live) (resolve_declarators F u (suc n) t ds rest))
-              (given_has n (suc live) u d.rvalue l j stand.0) (declarators_have (suc n) (suc live) more u t ds rest longer j same stand.1 back),
-        )
+        let longer = names ++ names_of d in
+        let more_live = wider (meaning_of t d.name d.shape) live in
+        let w = wider_is (meaning_of t d.name d.shape) live in
+        let l : Labelled = record { place = d.name.place; called = called_for d.shape; live = names; live_in_call = longer } in
+        let k = length-append names (names_of d) in
+        let a = length-append (names_of d) (flat_map names_of ds) in
+        let b = name_width t d.name d.shape in
+        let j : width_of path + length longer ≡ more_live = omega (arith, h) in
+        let same : more_live + length (flat_map names_of ds) ≡ more = omega (arith, e) in
+        declared_has n live u t d.name d.shape (resolve_declarators F u (suc n) t ds rest) l h j stand.0
+        (declarators_have (suc n) more_live more u t ds rest longer j same stand.1 back)
 
     -- how a `for` begins
     init_has : (n live : ℕ) (s : Scope) (i : tree.InitTree) (names : List (List ℕ)) → width_of path + length names ≡ live → StandFrom ls n (init_labels names i)
         → EachPoint HasAsMany (items_events inside path live (resolve_init F s n i))
     init_has n live s tree.no_init names h stand = tt
-    init_has n live s (tree.declared d) names h stand = declarators_have n live (live + length (d.first ∷ d.rest)) (inner s) d.number_type (d.first ∷ d.rest) no_more names h refl stand tt
+    init_has n live s (tree.declared d) names h stand =
+        let ds = d.first ∷ d.rest in
+        declarators_have n live (live + length (flat_map names_of ds)) (inner s) d.number_type ds no_more names h refl stand tt
     init_has n live s (tree.assigned a) names h stand = each_then HasAsMany (stmt_events inside path live (resolve_assign F s n a)) [] (assign_has n live s a names h stand.0) tt
 
     behind_init : (n live : ℕ) (s : Scope) (i : tree.InitTree) (names : List (List ℕ)) → width_of path + length names ≡ live →
@@ -157,11 +177,12 @@ module _ (outside : List (List ℕ)) (ls : List Labelled) where
     behind_init n live s tree.no_init names h = h
     behind_init n live s (tree.declared d) names h =
         let ds = d.first ∷ d.rest in
-        let more = live + length ds in
+        let more = live + length (flat_map names_of ds) in
         let a = count_names names ds in
         let b : width_of path + length (with_names names ds) ≡ more = omega (arith, h) in
         b ∙ sym (behind_declarators F n live more (inner s) d.number_type ds no_more refl)
     behind_init n live s (tree.assigned (tree.set x e)) names h = h
+    behind_init n live s (tree.assigned (tree.set_element x i e)) names h = h
     behind_init n live s (tree.assigned (tree.update x op e)) names h = h
     behind_init n live s (tree.assigned (tree.after x step)) names h = h
     behind_init n live s (tree.assigned (tree.before p step x)) names h = h
@@ -253,7 +274,7 @@ module _ (outside : List (List ℕ)) (ls : List Labelled) where
           let ds = d.first ∷ d.rest in
           let t = with_declarators s d.number_type ds in
           let k = n + declarator_count d in
-          let more = live + length ds in
+          let more = live + length (flat_map names_of ds) in
           let longer = with_names names ds in
           let rest = resolve_items F t k items in
           let front = declarator_labels names ds in
@@ -353,10 +374,10 @@ globals_as_many [] = refl
 globals_as_many (tree.prototype ∷ ps) = globals_as_many ps
 globals_as_many (tree.globals g ∷ ps) =
     let gs = g.first ∷ g.rest in
-    let a = length-append (global_names gs) (globals_named ps) in
-    let b = length-map gs (λ (x : tree.GlobalTree). x.name.word) in
-    let c = length-append (map (resolve_global g.number_type) gs) (globals_in ps) in
-    let d = length-map gs (resolve_global g.number_type) in
+    let a = length-append (flat_map (λ (x : tree.GlobalTree). name_in x.name.word x.shape) gs) (globals_named ps) in
+    let b = names_width g.number_type gs in
+    let c = length-append (flat_map (λ (x : tree.GlobalTree). variables_by g.number_type x.shape) gs) (globals_in ps) in
+    let d = variables_width g.number_type gs in
     let e = globals_as_many ps in omega arith
 globals_as_many (tree.function f ∷ ps) = globals_as_many ps
 

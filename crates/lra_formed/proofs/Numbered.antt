@@ -11,6 +11,7 @@ use Rattle.lra_meaning.specs.Resolve.{resolve_assign, resolve_declarators, resol
 use Rattle.lra_meaning.specs.Resolve.{resolve_function, resolve_parts}
 use Rattle.lra_program.specs.WellFormed.{stmt_numbers, cases_numbers, items_numbers, function_numbers}
 use Rattle.lra_meaning.proofs.LabelCounts.{count_stmt, count_declarators, count_items, count_step}
+use Rattle.lra_formed.proofs.Declared.{declared_numbers}
 
 -- numbers one after the other ----------------------------------------------------------------------------------------
 
@@ -63,6 +64,7 @@ one_more n = omega arith
 module _ (F : List tree.FunctionTree) where
   assign_run : (n : ℕ) (s : Scope) (a : tree.AssignTree) → IsRun n (stmt_numbers (resolve_assign F s n a)) (suc n)
   assign_run n s (tree.set x e) = run_one n
+  assign_run n s (tree.set_element x i e) = run_one n
   assign_run n s (tree.update x op e) = run_one n
   assign_run n s (tree.after x step) = run_one n
   assign_run n s (tree.before at step x) = run_one n
@@ -71,7 +73,9 @@ module _ (F : List tree.FunctionTree) where
       IsRun n (items_numbers (resolve_declarators F s n t ds rest)) m
   declarators_run n m s t [] rest r = subst (λ (i : ℕ). IsRun i (items_numbers rest) m) (omega arith) r
   declarators_run n m s t (d ∷ ds) rest r =
-      (refl, declarators_run (suc n) m (with_local s (declarator_entry t d)) t ds rest (subst (λ (i : ℕ). IsRun i (items_numbers rest) m) (omega arith) r))
+      let u = with_local s (declarator_entry t d) in
+      subst (λ (ns : List ℕ). IsRun n ns m) (sym (declared_numbers F n u t d.name d.shape (resolve_declarators F u (suc n) t ds rest)))
+      (refl, declarators_run (suc n) m u t ds rest (subst (λ (i : ℕ). IsRun i (items_numbers rest) m) (omega arith) r))
 
   init_run : (n : ℕ) (s : Scope) (i : tree.InitTree) → IsRun n (items_numbers (resolve_init F s n i)) (n + init_count i)
   init_run n s tree.no_init = omega arith

@@ -4,10 +4,10 @@ use Rattle.std.proofs.Common.{◌≡◌, ℕ, true, List, [], ◌∷◌, ◌++�
 use Rattle.std.specs.Prelude.{◌≤◌}
 use Rattle.lra_base.specs.declared.refusals.Place.{Place}
 use Rattle.lra_base.specs.declared.refusals.Cause.{Cause}
-use Rattle.lra_base.specs.declared.refusals.Cause.TheVariants.{UnknownName, DuplicateName, Misplaced, BadCall, Recursive}
+use Rattle.lra_base.specs.declared.refusals.Cause.TheVariants.{UnknownName, DuplicateName, Misplaced, BadCall, Recursive, NotArray}
 use Rattle.lra_tree.specs.declared.tokens.Mark.TheVariants as mark
 use Rattle.lra_tree.specs.declared.trees.Identifier.{Identifier}
-use Rattle.lra_tree.specs.Trees.{no_items, declaration, statement, FileTree, assign, break, set, expression}
+use Rattle.lra_tree.specs.Trees.{no_items, declaration, statement, FileTree, assign, break, set, set_element, expression}
 use Rattle.lra_base.specs.Places.{greatest_length}
 use Rattle.lra_tree.specs.Tokens.{tokens_of, end_token}
 use Rattle.lra_tree.specs.Grammar.{Spells}
@@ -134,6 +134,26 @@ unfolding greatest_length
 duplicate_name_refused =
     refused (codes "int main(void){ long x; long x; }") declares_twice duplicate_tree DuplicateName (at 30) refl refl (omega arith) refl duplicate_read
     (bad_name (record { cause = DuplicateName; place = at 30 }) [] refl)
+
+abbrev indexes_scalar : List Item
+indexes_scalar =
+    main_head (space ∷ sign mark.Long ∷ space ∷ word_of (codes "x") ∷ sign mark.Semicolon ∷ space ∷ word_of (codes "x") ∷ sign mark.OpenBracket ∷ one
+    ∷ sign mark.CloseBracket ∷ sign mark.Assign ∷ one ∷ sign mark.Semicolon ∷ space ∷ sign mark.CloseBrace ∷ [])
+
+abbrev indexed_tree : FileTree
+indexed_tree =
+    main_of (declaration (declared_as (x_at 22) None) (statement (assign (set_element (x_at 25) (number 1) (expression (number 1)))) no_items)) 33
+
+indexed_read : file_at 63 (all_tokens (codes "int main(void){ long x; x[1]=1; }") indexes_scalar) ≡ Ok (indexed_tree, [])
+unfolding loop unary_at tests levels
+indexed_read = refl
+
+-- the name, not its bracket
+not_array_refused : Refuse Spells (codes "int main(void){ long x; x[1]=1; }") NotArray (at 25)
+unfolding greatest_length
+not_array_refused =
+    refused (codes "int main(void){ long x; x[1]=1; }") indexes_scalar indexed_tree NotArray (at 25) refl refl (omega arith) refl indexed_read
+    (bad_name (record { cause = NotArray; place = at 25 }) [] refl)
 
 -- calls ------------------------------------------------------------------------------------------------------------
 

@@ -12,10 +12,13 @@ use Rattle.lra_readers.proofs.Ended.{lexed_small}
 use Rattle.lra_tree.specs.Tokens as lexical
 use Rattle.lra_tree.specs.Texts.{Piece, Pieces, plain, Texts, ◌⋅◌, further, separated}
 use Rattle.lra_tree.specs.Texts as text
-use Rattle.lra_tree.specs.Grammar.{IsUnary, IsTerm, IsExpr, IsNegation, IsTest, IsConjunction, IsCond, InParens, IsCall, IsRvalue, IsAssign, IsGiven, IsDeclarator, IsDeclaration, IsInit, IsForTest}
-use Rattle.lra_tree.specs.Grammar.{IsForStep, IsReturned, opened_by, level_of, IsStmt, AreCases, AreLabelled, AreStated, AreItems, IsPart, AreParts, Spells}
+use Rattle.lra_tree.specs.Grammar.{IsUnary, IsTerm, IsExpr, IsNegation, IsTest, IsConjunction, IsCond, InParens, IsCall, IsRvalue, IsAssign, IsGiven, IsShape}
+use Rattle.lra_tree.specs.Grammar.{IsDeclarator, IsDeclaration, IsInit}
+use Rattle.lra_tree.specs.Grammar.{in_brackets, IsForTest, IsForStep, IsReturned, opened_by, level_of, IsStmt, AreCases, AreLabelled, AreStated, AreItems}
+use Rattle.lra_tree.specs.Grammar.{IsPart, AreParts, Spells}
 use Rattle.lra_formed.specs.Literals.{IsSmallUnary, IsSmallTerm, IsSmallExpr, IsSmallNegation, IsSmallTest, IsSmallConjunction, IsSmallCond, IsSmallCall, IsSmallRvalue, IsSmallGiven, IsSmallAssign}
-use Rattle.lra_formed.specs.Literals.{IsSmallDeclarator, IsSmallDeclaration, IsSmallInit, IsSmallForTest, IsSmallStep, IsSmallStmt, AreSmallCases, AreSmallItems, IsSmallPart, HasSmallLiterals}
+use Rattle.lra_formed.specs.Literals.{IsSmallShape, IsSmallDeclarator, IsSmallDeclaration, IsSmallInit, IsSmallForTest, IsSmallStep, IsSmallStmt, AreSmallCases}
+use Rattle.lra_formed.specs.Literals.{AreSmallItems, IsSmallPart, HasSmallLiterals}
 
 -- tokens -----------------------------------------------------------------------------------------------------------
 
@@ -62,6 +65,10 @@ small_separated R Q each (a ∷ items) z (x, y, e, s, more) h = (each a x s (fro
 
 -- expressions ------------------------------------------------------------------------------------------------------
 
+-- what stands in brackets
+inside : (l : ℕ) (R : Texts) (z : Pieces) → in_brackets l R z → AreSmall z → (x : Pieces) × R x × AreSmall x
+inside l R z (x, y, e, opening, (x2, y2, e2, s, closing)) h = (x2, s, front x2 y2 y e2 (back x y z e h))
+
 mutual
   small_unary : (l : ℕ) (u : tree.UnaryTree) (z : Pieces) → IsUnary l u z → AreSmall z → IsSmallUnary u
   small_unary l (tree.negated u) z (x, y, e, sign, s) h = small_unary (l + 1) u y s (back x y z e h)
@@ -70,6 +77,8 @@ mutual
   small_unary l (tree.variable v) z s h = tt
   small_unary l tree.input z s h = tt
   small_unary l (tree.group a) z (x, y, e, opening, (x2, y2, e2, s, closing)) h = small_expr (l + 1) a x2 s (front x2 y2 y e2 (back x y z e h))
+  small_unary l (tree.element v i) z (x, y, e, named, s) h =
+      let index = inside l (IsExpr (l + 1) i) y s (back x y z e h) in small_expr (l + 1) i index.0 index.1 index.2
 
   small_term : (l : ℕ) (t : tree.TermTree) (z : Pieces) → IsTerm l t z → AreSmall z → IsSmallTerm t
   small_term l (tree.unary u) z s h = small_unary l u z s h
@@ -119,6 +128,10 @@ small_rvalue l (tree.result c) z s h = small_call 0 l c z s h
 
 small_assign : (o l : ℕ) (a : tree.AssignTree) (z : Pieces) → IsAssign o l a z → AreSmall z → IsSmallAssign a
 small_assign o l (tree.set v a) z (x, y, e, target, (x2, y2, e2, sign, s)) h = small_rvalue l a y2 s (back x2 y2 y e2 (back x y z e h))
+small_assign o l (tree.set_element v i a) z (x, y, e, target, (x2, y2, e2, s, (x3, y3, e3, sign, r))) h =
+    let later = back x y z e h in
+    let index = inside l (IsExpr (l + 1) i) x2 s (front x2 y2 y e2 later) in
+    (small_expr (l + 1) i index.0 index.1 index.2, small_rvalue l a y3 r (back x3 y3 y2 e3 (back x2 y2 y e2 later)))
 small_assign o l (tree.update v op a) z (x, y, e, target, (x2, y2, e2, sign, s)) h = small_expr l a y2 s (back x2 y2 y e2 (back x y z e h))
 small_assign o l (tree.after v step) z s h = tt
 small_assign o l (tree.before at step v) z s h = tt
@@ -131,8 +144,12 @@ small_returned : (l : ℕ) (a : Option tree.RvalueTree) (z : Pieces) → IsRetur
 small_returned l None z s h = tt
 small_returned l (Some a) z s h = small_rvalue l a z s h
 
+small_shape : (l : ℕ) (d : tree.ShapeTree tree.RvalueTree) (z : Pieces) → IsShape (IsGiven l) d z → AreSmall z → IsSmallShape d
+small_shape l (tree.scalar a) z s h = small_given l a z s h
+small_shape l (tree.array n) z s h = tt
+
 small_declarator : (l : ℕ) (d : tree.DeclaratorTree) (z : Pieces) → IsDeclarator l d z → AreSmall z → IsSmallDeclarator d
-small_declarator l d z (x, y, e, declared, s) h = small_given l d.rvalue y s (back x y z e h)
+small_declarator l d z (x, y, e, declared, s) h = small_shape l d.shape y s (back x y z e h)
 
 small_declaration : (l : ℕ) (d : tree.DeclarationTree) (z : Pieces) → IsDeclaration l d z → AreSmall z → IsSmallDeclaration d
 small_declaration l d z (x, y, e, type, (x2, y2, e2, s, closing)) h = small_separated (IsDeclarator l) IsSmallDeclarator (small_declarator l) (d.first ∷ d.rest) x2 s

@@ -1,7 +1,7 @@
 -- The program of a source whose literals are small and whose names have no faults is well-formed.
 use Rattle.std.proofs.Common.{◌≡◌, ℕ, suc, ◌+◌, ◌≤◌, List, [], ◌∷◌, ◌++◌, length, map, Option, Some, None, Bool, true, false, not, nat_eq, cond, refl, sym, subst, ap, ◌∙◌, arith, length-append}
 use Rattle.std.specs.Prelude.{IsTrue, is_some, slice_get, codes, if◌then◌else◌, ◌||◌}
-use Rattle.std.specs.List.{AllByRecursion, Contains, list_any}
+use Rattle.std.specs.List.{AllByRecursion, Contains, list_any, flat_map}
 use Rattle.std.proofs.lemmas.Bool.{eqb-true}
 use Rattle.std.proofs.lemmas.List.{length-map}
 use Rattle.std.proofs.lemmas.Option.{same_Some, none-some}
@@ -13,13 +13,16 @@ use Rattle.lra_tree.specs.declared.trees.SignedLiteral.{SignedLiteral}
 use Rattle.lra_tree.specs.Trees as tree
 use Rattle.lra_program.specs.Program.{Function, Program}
 use Rattle.lra_program.specs.declared.program.GlobalVariable.{GlobalVariable}
-use Rattle.lra_meaning.specs.Scope.{Entry, parameter_entry, global_entry, global_entries, function_scope}
+use Rattle.lra_meaning.specs.Scope.{Entry, width_of_all, parameter_entry, global_entries, function_scope}
 use Rattle.lra_tree.specs.Functions.{functions_in, functions_of, is_named, is_main, function_named}
-use Rattle.lra_meaning.specs.NameFaults.{parameters_faults, function_faults, first_value_faults, globals_faults, global_names, parts_faults, name_faults}
-use Rattle.lra_meaning.specs.Resolve.{function_place, items_count, resolve_items, resolve_function, value_or_zero, resolve_global, globals_in, resolve_parts, main_of, resolve}
+use Rattle.lra_meaning.specs.NameFaults.{parameters_faults, function_faults, shape_faults, first_value_faults, globals_faults, global_names, parts_faults}
+use Rattle.lra_meaning.specs.NameFaults.{name_faults}
+use Rattle.lra_meaning.specs.Resolve.{function_place, items_count, resolve_items, resolve_function, value_or_zero, variables_by, globals_in, resolve_parts}
+use Rattle.lra_meaning.specs.Resolve.{main_of, resolve}
 use Rattle.lra_program.specs.WellFormed.{AreGoodItems, IsGoodFunction, IsWellFormed}
 use Rattle.lra_formed.specs.Literals.{IsSmallPart, HasSmallLiterals}
-use Rattle.lra_formed.proofs.Faultless.{none_left, none_right, none_if, is_not}
+use Rattle.lra_formed.proofs.Faultless.{none_left, none_right, none_if, is_not, width-append}
+use Rattle.lra_formed.proofs.Declared.{variables_width}
 use Rattle.lra_formed.proofs.Good.{AreCallees, good_items}
 use Rattle.lra_program.specs.WellFormed.{no_jumps}
 use Rattle.lra_formed.proofs.Numbered.{parts_run, run_is_range}
@@ -34,13 +37,22 @@ first_fits Int None e = refl
 first_fits Long None e = refl
 first_fits t (Some v) e = is_not (fits t v.value) (none_if (not (fits t v.value)) _ v.place e)
 
+has_then : (t : NumberType) (shape : tree.ShapeTree SignedLiteral) (more rest : List GlobalVariable) → shape_faults (first_value_faults t) shape ≡ []
+    → AllByRecursion HasItsType (more ++ rest) → AllByRecursion HasItsType ((variables_by t shape ++ more) ++ rest)
+has_then t (tree.scalar v) more rest e h = (first_fits t v e, h)
+has_then t (tree.array n) more rest e h = h
+
+abbrev variables_of : NumberType → tree.GlobalTree → List GlobalVariable
+variables_of t g = variables_by t g.shape
+
 have_then : (t : NumberType) (names : List (List ℕ)) (gs : List tree.GlobalTree) (rest : List GlobalVariable) → globals_faults t names gs ≡ [] → AllByRecursion HasItsType rest →
-    AllByRecursion HasItsType (map (resolve_global t) gs ++ rest)
+    AllByRecursion HasItsType (flat_map (variables_of t) gs ++ rest)
 have_then t names [] rest e h = h
 have_then t names (g ∷ gs) rest e h =
     let later = globals_faults t (names ++ g.name.word ∷ []) gs in
     let front = none_left _ later e in
-    (first_fits t g.value (none_right _ (first_value_faults t g.value) front), have_then t (names ++ g.name.word ∷ []) gs rest (none_right _ later e) h)
+    has_then t g.shape (flat_map (variables_of t) gs) rest (none_right _ (shape_faults (first_value_faults t) g.shape) front)
+    (have_then t (names ++ g.name.word ∷ []) gs rest (none_right _ later e) h)
 
 globals_have_types : (F : List tree.FunctionTree) (names : List (List ℕ)) (outside : List Entry) (ps : List tree.PartTree) → parts_faults F names outside ps ≡ [] →
     AllByRecursion HasItsType (globals_in ps)
@@ -62,27 +74,31 @@ parameter_type p = p.number_type
 types_length : (ps : List Parameter) → length (map parameter_type ps) ≡ length ps
 types_length ps = length-map ps parameter_type
 
+parameters_width : (ps : List Parameter) → width_of_all (map parameter_entry ps) ≡ length ps
+parameters_width [] = refl
+parameters_width (p ∷ ps) = let e = parameters_width ps in omega arith
+
 module _ (P : Program) (F : List tree.FunctionTree) (callees : AreCallees P F) where
-  good_function : (n : ℕ) (outside : List Entry) (f : tree.FunctionTree) → length outside ≤ length P.globals → IsSmallPart (tree.function f) → function_faults F outside f ≡ [] →
-      IsGoodFunction P (resolve_function F outside n f)
+  good_function : (n : ℕ) (outside : List Entry) (f : tree.FunctionTree) → width_of_all outside ≤ length P.globals → IsSmallPart (tree.function f)
+      → function_faults F outside f ≡ [] → IsGoodFunction P (resolve_function F outside n f)
   good_function n outside f few small e =
       let s = function_scope outside f.parameters in
       let body = resolve_items F s n f.body in
       subst (λ (k : ℕ). AreGoodItems P no_jumps k body) (sym (types_length f.parameters)) (good_items P F callees (is_some f.result_type) no_jumps n (length f.parameters) (function_scope outside f.parameters) f.body
-      (record { globals = few; locals = length-map f.parameters parameter_entry }) small (none_right (parameters_faults [] f.parameters) _ e))
+      (record { globals = few; locals = parameters_width f.parameters }) small (none_right (parameters_faults [] f.parameters) _ e))
 
-  good_functions : (n : ℕ) (names : List (List ℕ)) (outside : List Entry) (ps : List tree.PartTree) → length outside + length (globals_in ps) ≤ length P.globals → AllByRecursion IsSmallPart ps
-      → parts_faults F names outside ps ≡ [] → AllByRecursion (IsGoodFunction P) (resolve_parts F outside n ps)
+  good_functions : (n : ℕ) (names : List (List ℕ)) (outside : List Entry) (ps : List tree.PartTree)
+      → width_of_all outside + length (globals_in ps) ≤ length P.globals → AllByRecursion IsSmallPart ps → parts_faults F names outside ps ≡ []
+      → AllByRecursion (IsGoodFunction P) (resolve_parts F outside n ps)
   good_functions n names outside [] few small e = tt
   good_functions n names outside (tree.prototype ∷ ps) few small e = good_functions n names outside ps few small.1 e
   good_functions n names outside (tree.globals g ∷ ps) few small e =
       let gs = g.first ∷ g.rest in
       let more = global_names gs in
       let new = global_entries g in
-      let a = length-append outside new in
-      let b = length-map gs (global_entry g.number_type) in
-      let c = length-append (map (resolve_global g.number_type) gs) (globals_in ps) in
-      let d = length-map gs (resolve_global g.number_type) in
+      let a = width-append outside new in
+      let b = variables_width g.number_type gs in
+      let c = length-append (flat_map (variables_of g.number_type) gs) (globals_in ps) in
       good_functions n (names ++ more) (outside ++ new) ps (omega (arith, few)) small.1 (none_right (globals_faults g.number_type names gs) (parts_faults F (names ++ more) (outside ++ new) ps) e)
   good_functions n names outside (tree.function f ∷ ps) few small e =
       let later = parts_faults F (names ++ f.name.word ∷ []) outside ps in

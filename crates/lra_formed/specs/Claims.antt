@@ -1,4 +1,4 @@
--- Which programs are well-formed, and that points have a name for each variable.
+-- Which programs are well-formed and have their arrays, and that points have a name for each variable.
 use Rattle.std.specs.Prelude.{◌≡◌, ℕ, List, [], length, Some, slice_get}
 use Rattle.lra_tree.specs.declared.tokens.Token.{Token}
 use Rattle.lra_tree.specs.Trees.{FileTree}
@@ -12,6 +12,7 @@ use Rattle.lra_program.specs.Sites.{Site, sites_of}
 use Rattle.lra_meaning.specs.ShownNames.{shown_names}
 use Rattle.lra_meaning.specs.LiveNames.{globals_named, live_names}
 use Rattle.lra_formed.specs.Literals.{HasSmallLiterals}
+use Rattle.lra_formed.specs.Known.{HasArrays}
 
 -- the program of a tree whose literals are small and whose names have no faults is well-formed
 abbrev pub FaultlessAreWellFormed : Type 0
@@ -26,6 +27,10 @@ LiteralsAreSmall L = (source : List ℕ) (tokens : List Token) (t : FileTree) �
 abbrev pub ReadAreWellFormed : Language → Type 0
 ReadAreWellFormed L = (source : List ℕ) (tokens : List Token) (t : FileTree) → Lex source tokens → IsTree L tokens t →
     name_faults t ≡ [] → IsWellFormed (resolve t)
+
+-- and each array that it names is there
+abbrev pub FaultlessHaveArrays : Type 0
+FaultlessHaveArrays = (t : FileTree) → name_faults t ≡ [] → HasArrays (resolve t)
 
 -- at each point of a source as many names are printed as variables live there
 abbrev pub NamesAreAsMany : Type 0

@@ -1,16 +1,15 @@
 -- Trees whose literals in expressions are numbers of their types.
 use Rattle.std.specs.Prelude.{Option, Some, None, pos, IsTrue, ⊤, ◌∷◌}
 use Rattle.std.specs.List.{AllByRecursion}
-use Rattle.lra_tree.specs.Trees.{UnaryTree, negated, positive, literal, variable, input, group, TermTree, unary, times}
-use Rattle.lra_tree.specs.Trees.{over, modulo, ExprTree, term, plus, minus, NegationTree, opposite_again}
+use Rattle.lra_tree.specs.Trees.{UnaryTree, negated, positive, literal, variable, input, group, element, TermTree}
+use Rattle.lra_tree.specs.Trees.{unary, times, over, modulo, ExprTree, term, plus, minus, NegationTree, opposite_again}
 use Rattle.lra_tree.specs.Trees.{value_of_unary, group_opposed, TestTree, opposite, value, compare, group_of}
 use Rattle.lra_tree.specs.Trees.{ConjunctionTree, test, and, CondTree, conjunction, or, CallTree, RvalueTree}
-use Rattle.lra_tree.specs.Trees.{expression, result, AssignTree, set, update, after, before, DeclaratorTree}
-use Rattle.lra_tree.specs.Trees.{DeclarationTree, InitTree, no_init, declared, assigned, StmtTree, block, nothing}
-use Rattle.lra_tree.specs.Trees.{assign, call, if_only, if_else, while, for, break, continue, return, assert, assume}
-use Rattle.lra_tree.specs.Trees.{switch, CasesTree, no_cases, labelled, stated}
-use Rattle.lra_tree.specs.Trees.{ItemsTree, no_items, declaration, statement, PartTree, prototype, globals}
-use Rattle.lra_tree.specs.Trees.{function, FileTree}
+use Rattle.lra_tree.specs.Trees.{expression, result, AssignTree, set, set_element, update, after, before, ShapeTree}
+use Rattle.lra_tree.specs.Trees.{scalar, array, DeclaratorTree, DeclarationTree, InitTree, no_init, declared, assigned}
+use Rattle.lra_tree.specs.Trees.{StmtTree, block, nothing, assign, call, if_only, if_else, while, for, break, continue}
+use Rattle.lra_tree.specs.Trees.{return, assert, assume, switch, CasesTree, no_cases, labelled, stated, ItemsTree}
+use Rattle.lra_tree.specs.Trees.{no_items, declaration, statement, PartTree, prototype, globals, function, FileTree}
 use Rattle.lra_base.specs.NumberTypes.{fits}
 
 -- expressions ------------------------------------------------------------------------------------------------------
@@ -23,6 +22,7 @@ abbrev mutual
   IsSmallUnary (variable x) = ⊤
   IsSmallUnary input = ⊤
   IsSmallUnary (group e) = IsSmallExpr e
+  IsSmallUnary (element x e) = IsSmallExpr e
 
   pub IsSmallTerm : TermTree → Type 0
   IsSmallTerm (unary u) = IsSmallUnary u
@@ -72,12 +72,18 @@ IsSmallGiven (Some e) = IsSmallRvalue e
 
 abbrev pub IsSmallAssign : AssignTree → Type 0
 IsSmallAssign (set x e) = IsSmallRvalue e
+IsSmallAssign (set_element x i e) = IsSmallExpr i × IsSmallRvalue e
 IsSmallAssign (update x op e) = IsSmallExpr e
 IsSmallAssign (after x s) = ⊤
 IsSmallAssign (before at s x) = ⊤
 
+-- how many elements an array has is no expression
+abbrev pub IsSmallShape : ShapeTree RvalueTree → Type 0
+IsSmallShape (scalar e) = IsSmallGiven e
+IsSmallShape (array n) = ⊤
+
 abbrev pub IsSmallDeclarator : DeclaratorTree → Type 0
-IsSmallDeclarator d = IsSmallGiven d.rvalue
+IsSmallDeclarator d = IsSmallShape d.shape
 
 abbrev pub IsSmallDeclaration : DeclarationTree → Type 0
 IsSmallDeclaration d = AllByRecursion IsSmallDeclarator (d.first ∷ d.rest)

@@ -2,8 +2,8 @@
 
 ghost use Rattle.lra_tree.specs.Grammar.{Spells};
 ghost use Rattle.lra_meaning.specs.Refuse.{AcceptedAreWellFormed};
-ghost use Rattle.lra_formed.specs.Claims.{FaultlessAreWellFormed, LiteralsAreSmall, ReadAreWellFormed, NamesAreAsMany};
-ghost use Rattle.lra_formed.specs.Claims.{ShownNamesAreAsMany};
+ghost use Rattle.lra_formed.specs.Claims.{FaultlessAreWellFormed, LiteralsAreSmall, ReadAreWellFormed};
+ghost use Rattle.lra_formed.specs.Claims.{FaultlessHaveArrays, NamesAreAsMany, ShownNamesAreAsMany};
 
 /// The program of a source without faults of names is well-formed.
 pub fn faultless_are_well_formed()
@@ -11,6 +11,11 @@ pub fn faultless_are_well_formed()
     ensures literals { LiteralsAreSmall Spells }
     ensures read { ReadAreWellFormed Spells }
     ensures accepted { AcceptedAreWellFormed }
+{}
+
+/// In the program of a source without faults of names each array that is named is there.
+pub fn arrays_are_there()
+    ensures { FaultlessHaveArrays }
 {}
 
 /// At each point of a source as many names are printed as variables live there.

@@ -1,4 +1,5 @@
-//! Programs of sources without faults of names are well-formed, and their points have a name for each variable.
+//! Programs of sources without faults of names are well-formed and have the arrays that they name, and their points have
+//! a name for each variable.
 //!
 //! The definitions stand in `lra_tree` (the grammar), `lra_meaning` (the faults of names, the program that a tree
 //! means) and `lra_program` (well-formed programs).
@@ -6,4 +7,4 @@
 
 mod laws;
 
-pub use laws::{faultless_are_well_formed, names_are_as_many};
+pub use laws::{arrays_are_there, faultless_are_well_formed, names_are_as_many};

@@ -1,0 +1,28 @@
+-- Items whose arrays are there, and items whose arrays aren't. Which slip an example would catch stands beside it.
+use Rattle.std.proofs.Common.{[], arith, refl}
+use Rattle.std.specs.List.{Contains}
+use Rattle.lra_base.specs.declared.number_types.NumberType.TheVariants.{Int, Long}
+use Rattle.lra_tree.proofs.TreeSamples.{at}
+use Rattle.lra_program.specs.declared.arrays.Array.{Array}
+use Rattle.lra_program.specs.Program.{literal, value, Stmt, block, write, no_more, array, statement}
+use Rattle.lra_formed.specs.Known.{ItemsKnow}
+
+abbrev two_longs : Array
+two_longs = record { declared = at 22; length = 2; number_type = Long }
+
+abbrev first_written : Stmt
+first_written = write 3 (record { array = two_longs; place = at 36; index = literal Int 0 }) (value (literal Int 1))
+
+none_known : (a : Array) → Contains [] a → ⊥
+none_known a (k, low, is) = omega (arith, low)
+
+declared_before : ItemsKnow [] (array 1 two_longs (statement first_written no_more))
+declared_before = (((0, omega arith, refl), tt, tt), tt)
+
+-- catches a declarator that counts before its place
+declared_behind : ItemsKnow [] (statement first_written (array 1 two_longs no_more)) → ⊥
+declared_behind h = none_known two_longs h.0.0
+
+-- catches a block that isn't left
+declared_inside : ItemsKnow [] (statement (block (array 1 two_longs no_more) 2) (statement first_written no_more)) → ⊥
+declared_inside h = none_known two_longs h.1.0.0
