@@ -15,7 +15,7 @@ use Rattle.lra_readers.specs.Tests.{first, is_mark}
 use Rattle.lra_readers.specs.Reading.{Text, Read, Parse, stop, seq, loop, expect, Gives, GivesErr, has, map_read, tail, turns, chain, chain_step, list_step, list_of}
 use Rattle.lra_readers.specs.Statements.{commas_from, commas, up_to}
 use Rattle.lra_tree.specs.declared.tokens.Mark.TheVariants as mark
-use Rattle.lra_readers.specs.Expressions.{behind, in_parens}
+use Rattle.lra_readers.specs.Expressions.{behind, ended, in_parens}
 use Rattle.lra_readers.proofs.Exact.{test, ok_is}
 
 module _ {A : Type 0} (more : Option Token → Bool) (step : A → Parse A) where
@@ -176,15 +176,32 @@ pub commas_first : {I B : Type 0} (p : Parse I) (f : I × List I → B) (T : Tex
 commas_first p f T stopped.Memory g = tt
 commas_first p f T (stopped.Fault d) g = rw g refl
 
+-- between two marks
+module _ {A : Type 0} (m k : Mark) (p : Parse A) where
+  pub between_give : (T U R S : Text) (a : A) → expect m (tt {0}) T ≡ Ok (tt {0}, U) → p U ≡ Ok (a, R)
+      → expect k (tt {0}) R ≡ Ok (tt {0}, S) → behind m (ended k p) T ≡ Ok (a, S)
+  between_give T U R S a o g c = rw (o, g) (expect_value k (tt {0}) a R S c)
+
+  pub between_first : (T : Text) (s : Stopped) → GivesErr s (expect m (tt {0}) T) → GivesErr s (behind m (ended k p) T)
+  between_first T s g = seq_exit (expect m (tt {0})) (λ _. ended k p) T s g
+
+  pub between_part : (T U : Text) (s : Stopped) → expect m (tt {0}) T ≡ Ok (tt {0}, U) → GivesErr s (p U)
+      → GivesErr s (behind m (ended k p) T)
+  between_part T U s o g = seq_then (expect m (tt {0})) (λ _. ended k p) T U (tt {0}) s o (seq_exit p (λ a. expect k a) U s g)
+
+  pub between_exit : (T U R : Text) (a : A) (s : Stopped) → expect m (tt {0}) T ≡ Ok (tt {0}, U) → p U ≡ Ok (a, R)
+      → GivesErr s (expect k (tt {0}) R) → GivesErr s (behind m (ended k p) T)
+  between_exit T U R a stopped.Memory o g c = tt
+  between_exit T U R a (stopped.Fault f) o g c = rw (o, g) (expect_err k (tt {0}) a R f c)
+
 -- parentheses
 module _ {A : Type 0} (p : Parse A) where
   pub parens_give : (T U R S : Text) (a : A) → expect mark.OpenParen (tt {0}) T ≡ Ok (tt {0}, U) → p U ≡ Ok (a, R) → expect mark.CloseParen (tt {0}) R ≡ Ok (tt {0}, S) → in_parens p T ≡ Ok (a, S)
-  parens_give T U R S a o g c = rw (o, g) (expect_value mark.CloseParen (tt {0}) a R S c)
+  parens_give = between_give mark.OpenParen mark.CloseParen p
 
   pub parens_exit : (T U R : Text) (a : A) (s : Stopped) → expect mark.OpenParen (tt {0}) T ≡ Ok (tt {0}, U) → p U ≡ Ok (a, R) → GivesErr s (expect mark.CloseParen (tt {0}) R)
       → GivesErr s (in_parens p T)
-  parens_exit T U R a stopped.Memory o g c = tt
-  parens_exit T U R a (stopped.Fault f) o g c = rw (o, g) (expect_err mark.CloseParen (tt {0}) a R f c)
+  parens_exit = between_exit mark.OpenParen mark.CloseParen p
 
 -- the exit by `?` where the mark doesn't come behind a part
 pub up_to_exit : {A : Type 0} (m : Mark) (p : Parse A) (T M : Text) (a : A) (e : Stopped) → false ≡ is_mark m (first T) → p T ≡ Ok (a, M) → GivesErr e (expect m (tt {0}) M) → GivesErr e (up_to m p T)

@@ -1,5 +1,5 @@
 -- Readers with levels, one level unfolded.
-use Rattle.std.proofs.Common.{◌≡◌, ℕ, zero, suc, ◌-◌, true, false, List, [], ◌∷◌, Option, Some, None, Ok, Err, refl, sym, subst, ap, ◌∙◌, arith}
+use Rattle.std.proofs.Common.{◌≡◌, ℕ, zero, suc, ◌-◌, true, false, List, [], ◌∷◌, Option, Some, None, Ok, Err, refl, sym, ap, ◌∙◌, arith}
 use Rattle.lra_base.specs.declared.refusals.Cause.TheVariants.{TooDeep}
 use Rattle.lra_tree.specs.declared.tokens.Mark.TheVariants as mark
 use Rattle.lra_base.specs.declared.refusals.Place.{Place}
@@ -8,20 +8,22 @@ use Rattle.lra_tree.specs.declared.tokens.Kind.{Kind}
 use Rattle.lra_tree.specs.declared.tokens.Kind.TheVariants.{Name, Number, Mark as MarkOf, Reserved, Unclosed, End}
 use Rattle.lra_tree.specs.declared.tokens.Token.{Token}
 use Rattle.lra_tree.specs.declared.trees.Identifier.{Identifier}
-use Rattle.lra_tree.specs.Trees.{UnaryTree, negated, positive, group, variable, ExprTree, NegationTree, opposite, opposite_again, value_of_unary, CondTree, result}
+use Rattle.lra_tree.specs.Trees.{UnaryTree, negated, positive, group, variable, element, ExprTree}
+use Rattle.lra_tree.specs.Trees.{NegationTree, opposite, opposite_again, value_of_unary, CondTree, result}
 use Rattle.lra_readers.specs.Tests.{first, is_mark, is_kind}
 use Rattle.lra_readers.specs.Reading.{Text, Read, Parse, stop, ◌>>=◌, seq, map_read, tail, expect, take_by, taken, next_name, next_literal, literal_of, identifier_of, one_of, GivesErr}
 use Rattle.lra_readers.specs.declared.reading.Literal.{Literal}
 use Rattle.lra_readers.specs.Expressions.{behind, in_parens, unary_marks, unary_mark, unary_form, unary_at, expr_at, negated_at, positive_at, grouped_at, literal_tree, read_input, TestMark, at_not, at_open}
+use Rattle.lra_readers.specs.Expressions.{in_brackets, named_unary, index_at}
 use Rattle.lra_readers.specs.Expressions.{test_mark, test_form, compared, alone, from_unary}
 use Rattle.lra_readers.specs.declared.reading.Stopped.{Stopped}
 use Rattle.lra_readers.specs.declared.reading.Stopped.TheVariants as stopped
 use Rattle.lra_readers.specs.Expressions.{negation_form, tests, test_at, negation_at, cond_at, opposed_at, closed_at, after_group, negation_of}
 use Rattle.lra_readers.proofs.Exact.{ok_is}
-use Rattle.lra_readers.specs.Statements.{call_rest, rvalue_at, rvalue_from, rvalue_rest, declared_value}
-use Rattle.lra_phrases.proofs.Turning.{expect_value, on_side, off_side}
+use Rattle.lra_readers.specs.Statements.{call_rest, rvalue_from, rvalue_rest}
+use Rattle.lra_phrases.proofs.Turning.{expect_value, on_side, off_side, err_same, seq_exit, seq_handed, map_exit}
 
-pub unary_is : (d : ℕ) (T : Text) → unary_at d T ≡ unary_form (negated_at d) (positive_at d) (grouped_at d) (unary_mark (first T)) T
+pub unary_is : (d : ℕ) (T : Text) → unary_at d T ≡ unary_form (negated_at d) (positive_at d) (grouped_at d) (index_at d) (unary_mark (first T)) T
 unfolding unary_at
 unary_is zero T = refl
 unary_is (suc d) T = refl
@@ -107,13 +109,37 @@ taken_name : (o : Option Identifier) (T R : Text) (x : Identifier) → taken o T
 taken_name None T R x e = absurd cc
 taken_name (Some y) T R x e = let f : (y, tail T) ≡ (x, R) = ok_is (y, tail T) (x, R) e in ap (λ (r : Identifier × Text). Some r.0) f
 
-pub variable_gives : (d : ℕ) (T R : Text) (x : Identifier) → take_by next_name T ≡ Ok (x, R) → unary_at d T ≡ Ok (variable x, R)
-variable_gives d [] R x e = absurd cc
-variable_gives d (t ∷ T) R x e =
+pub named_gives : (d : ℕ) (T R : Text) (x : Identifier) → take_by next_name T ≡ Ok (x, R) → unary_at d T ≡ named_unary (index_at d) x R
+named_gives d [] R x e = absurd cc
+named_gives d (t ∷ T) R x e =
     let name : identifier_of t.kind t.place ≡ Some x = taken_name (identifier_of t.kind t.place) (t ∷ T) R x e in
     let none : unary_mark (Some t) ≡ None = no_table unary_marks (Some t) (λ m. name_mark t.kind t.place x m name) in
     let other : literal_of t.kind t.place ≡ None = name_literal t.kind t.place x name in
     rw (unary_is d (t ∷ T), none, other) (rw e refl)
+
+-- behind a name that is read
+pub element_is : (d : ℕ) (x : Identifier) (T : Text) → true ≡ is_mark mark.OpenBracket (first T)
+    → named_unary (index_at d) x T ≡ map_read (element x) (index_at d) T
+element_is d x T on = on_side (is_mark mark.OpenBracket (first T)) _ _ on
+
+pub element_gives : (d : ℕ) (x : Identifier) (T R : Text) (i : ExprTree) → true ≡ is_mark mark.OpenBracket (first T)
+    → index_at d T ≡ Ok (i, R) → named_unary (index_at d) x T ≡ Ok (element x i, R)
+element_gives d x T R i on e = element_is d x T on ∙ rw e refl
+
+pub element_exit : (d : ℕ) (x : Identifier) (T : Text) (s : Stopped) → true ≡ is_mark mark.OpenBracket (first T)
+    → GivesErr s (index_at d T) → GivesErr s (named_unary (index_at d) x T)
+element_exit d x T s on g = err_same s _ _ (element_is d x T on) (map_exit (element x) (index_at d) T s g)
+
+pub variable_gives : (d : ℕ) (x : Identifier) (T : Text) → false ≡ is_mark mark.OpenBracket (first T)
+    → named_unary (index_at d) x T ≡ Ok (variable x, T)
+variable_gives d x T off = off_side (is_mark mark.OpenBracket (first T)) _ _ off
+
+pub index_zero : (d : ℕ) (T : Text) → d ≡ 0 → index_at d T ≡ stop TooDeep T
+index_zero d T h = rw h refl
+
+pub index_some : (d : ℕ) (T : Text) → (d ≡ 0 → ⊥) → index_at d T ≡ in_brackets (expr_at (d - 1)) T
+index_some zero T h = absurd (h refl)
+index_some (suc d) T h = let e : d ≡ suc d - 1 = omega arith in ap (λ (k : ℕ). in_brackets (expr_at k) T) e
 
 pub grouped_gives : (d : ℕ) (T U R R' : Text) (e : ExprTree) → (d ≡ 0 → ⊥) → expect mark.OpenParen (tt {0}) T ≡ Ok (tt {0}, U) → expr_at (d - 1) U ≡ Ok (e, R) →
     expect mark.CloseParen (tt {0}) R ≡ Ok (tt {0}, R') → grouped_at d T ≡ Ok (group e, R')
@@ -234,14 +260,14 @@ operand_exit d T (stopped.Fault f) e o g = negation_is d T ∙ rw (sym e, sym o)
 -- behind a name ------------------------------------------------------------------------------------------------------
 
 pub call_is : (d : ℕ) (x : Identifier) (T : Text) → true ≡ is_mark mark.OpenParen (first T) → rvalue_rest d x T ≡ map_read result (call_rest d x) T
-call_is d x T e = on_side (is_mark mark.OpenParen (first T)) (map_read result (call_rest d x) T) (rvalue_from d (variable x) T) e
+call_is d x T e = on_side (is_mark mark.OpenParen (first T)) _ _ e
 
-pub no_call_is : (d : ℕ) (x : Identifier) (T : Text) (a : UnaryTree) → false ≡ is_mark mark.OpenParen (first T) → a ≡ variable x → rvalue_rest d x T ≡ rvalue_from d a T
-no_call_is d x T a e v =
-    off_side (is_mark mark.OpenParen (first T)) (map_read result (call_rest d x) T) (rvalue_from d (variable x) T) e ∙ ap (λ (k : UnaryTree). rvalue_from d k T) (sym v)
+module _ (d : ℕ) (x : Identifier) (T : Text) (off : false ≡ is_mark mark.OpenParen (first T)) where
+  no_call : rvalue_rest d x T ≡ seq (named_unary (index_at d) x) (rvalue_from d) T
+  no_call = off_side (is_mark mark.OpenParen (first T)) _ _ off
 
--- behind the mark of an assignment, where what the variable gets stops
-pub declared_exit : (d : ℕ) (x : Identifier) (T U : Text) (s : Stopped) → true ≡ is_mark mark.Assign (first T) → U ≡ tail T → GivesErr s (rvalue_at d U) → GivesErr s (declared_value d x T)
-declared_exit d x T U stopped.Memory on u g = tt
-declared_exit d x T U (stopped.Fault f) on u g =
-    let e : rvalue_at d (tail T) ≡ Err f = subst (λ (W : Text). rvalue_at d W ≡ Err f) u g in rw (sym on) (rw e refl)
+  pub no_call_is : (U : Text) (a : UnaryTree) → named_unary (index_at d) x T ≡ Ok (a, U) → rvalue_rest d x T ≡ rvalue_from d a U
+  no_call_is U a e = no_call ∙ seq_handed (named_unary (index_at d) x) (rvalue_from d) T U a e
+
+  pub no_call_exit : (s : Stopped) → GivesErr s (named_unary (index_at d) x T) → GivesErr s (rvalue_rest d x T)
+  no_call_exit s g = err_same s _ _ no_call (seq_exit (named_unary (index_at d) x) (rvalue_from d) T s g)

@@ -2,7 +2,7 @@
 use Rattle.std.proofs.Common.{◌≡◌, ℕ, ◌≤◌, List, [], ◌∷◌, ◌++◌, length, map, Result, Ok, Err, IfOk, rules, refl, sym, subst, Bor, Box, Global}
 use Rattle.std.specs.Prelude.{MatchResult}
 use Rattle.lra_base.specs.declared.number_types.NumberType.{NumberType}
-use Rattle.lra_tree.specs.declared.trees.Unary.{Unary, Literal, Variable, Group, the_lemmas}
+use Rattle.lra_tree.specs.declared.trees.Unary.{Unary, Literal, Variable, Group, Element, the_lemmas}
 use Rattle.lra_tree.specs.declared.trees.Factor.{Factor}
 use Rattle.lra_tree.specs.declared.trees.Term.{Term}
 use Rattle.lra_tree.specs.declared.trees.Summand.{Summand}
@@ -35,6 +35,9 @@ variable_is x = search (rules, the_lemmas)
 
 pub group_is : (e : Box Expr Global) → unary_view (Group e) ≡ tree.group (expr_view e.value)
 group_is e = search (rules, the_lemmas)
+
+pub element_is : (x : Identifier) (e : Box Expr Global) → unary_view (Element x e) ≡ tree.element x (expr_view e.value)
+element_is x e = search (rules, the_lemmas)
 
 pub factor_is : (x : Factor-F Unary Expr Factor Summand Term) → factor_view (roll-Factor x) ≡ (x.operator, unary_view x.unary)
 factor_is = fold-roll-Factor tree.UnaryTree tree.ExprTree (FactorOperator × tree.UnaryTree) (SumOperator × tree.TermTree) tree.TermTree unary_step expr_step factor_step summand_step term_step

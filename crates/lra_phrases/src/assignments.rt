@@ -1,18 +1,21 @@
 //! Assignments and declarations. A function reads where `depth` levels of nesting are left.
 
 ghost use Rattle.std.specs.Prelude.{◌≡◌, ◌<◌, ◌≤◌, length, IfOk};
-ghost use Rattle.lra_tree.specs.Views.{assign_view, declarator_view, declaration_view};
+ghost use Rattle.lra_tree.specs.Views.{rvalue_view, assign_view, shape_view, declarator_view, declaration_view};
 ghost use Rattle.lra_readers.specs.Tests.{first};
-ghost use Rattle.lra_readers.specs.Reading.{Gives, map_read};
-ghost use Rattle.lra_readers.specs.Statements.{skip, commas, update_operator, next_step, assign_rest, step_first};
-ghost use Rattle.lra_readers.specs.Statements.{assign_at, begins_type, type_words, declarator_at, declaration_of};
-ghost use Rattle.lra_readers.specs.Statements.{declaration_at};
+ghost use Rattle.lra_readers.specs.Reading.{Gives, seq, map_read};
+ghost use Rattle.lra_readers.specs.Expressions.{index_at};
+ghost use Rattle.lra_readers.specs.Statements.{skip, commas, update_operator, next_step, variable_rest, element_rest};
+ghost use Rattle.lra_readers.specs.Statements.{assign_rest, step_first, assign_at, begins_type, type_words, length_at};
+ghost use Rattle.lra_readers.specs.Statements.{rvalue_at, shape_at, declarator_at, declaration_of, declaration_at};
 
 use crate::calls::read_rvalue;
-use crate::expressions::read_expr;
+use crate::expressions::{read_expr, read_index};
 use lra_base::{Cause, NumberType, Operator, Place};
-use lra_readers::{Stopped, expect, next_is, read_name, stop, tail};
-use lra_tree::{Assign, Declaration, Declarator, Identifier, Mark, Step, Token};
+use lra_readers::{Stopped, expect, next_is, next_literal, read_name, stop, tail};
+use lra_tree::{
+    ArrayLength, Assign, Declaration, Declarator, Identifier, Mark, Rvalue, Shape, Step, Token,
+};
 use std::alloc::Global;
 
 /// The operator of `x op= e`, if it is the next token.
@@ -73,15 +76,33 @@ fn read_step_first(alloc: Global, rest: &[Token]) -> Result<(Assign, &[Token]), 
     }
 }
 
-/// The assignment to a variable whose name was read.
-pub fn read_assign_rest(
+/// The assignment to an element of the array whose name was read.
+fn read_element_rest(
     alloc: Global,
     name: Identifier,
     rest: &[Token],
     depth: usize,
 ) -> Result<(Assign, &[Token]), Stopped>
     ensures shorter { IfOk result (λ r. length r.1.now < length rest.now) }
-    ensures gives { Gives (λ r. (assign_view r.0, r.1.now)) result (assign_rest depth name rest.now) }
+    ensures gives { Gives (λ r. (assign_view r.0, r.1.now)) result
+        (seq (index_at depth) (element_rest depth name) rest.now) }
+{
+    let (index, behind) = read_index(alloc, rest, depth)?;
+    let opened = expect(behind, Mark::Assign)?;
+    let (rvalue, after) = read_rvalue(alloc, opened, depth)?;
+    Ok((Assign::SetElement(name, index, rvalue), after))
+}
+
+/// The assignment to a variable whose name was read.
+fn read_variable_rest(
+    alloc: Global,
+    name: Identifier,
+    rest: &[Token],
+    depth: usize,
+) -> Result<(Assign, &[Token]), Stopped>
+    ensures shorter { IfOk result (λ r. length r.1.now < length rest.now) }
+    ensures gives { Gives (λ r. (assign_view r.0, r.1.now)) result
+        (variable_rest depth name rest.now) }
 {
     if next_is(rest, Mark::Assign) {
         let (rvalue, after) = read_rvalue(alloc, tail(rest), depth)?;
@@ -97,6 +118,23 @@ pub fn read_assign_rest(
             None => stop(Cause::Syntax, rest),
         },
     }
+}
+
+/// The assignment to what begins with the name that was read.
+pub fn read_assign_rest(
+    alloc: Global,
+    name: Identifier,
+    rest: &[Token],
+    depth: usize,
+) -> Result<(Assign, &[Token]), Stopped>
+    ensures shorter { IfOk result (λ r. length r.1.now < length rest.now) }
+    ensures gives { Gives (λ r. (assign_view r.0, r.1.now)) result
+        (assign_rest depth name rest.now) }
+{
+    if next_is(rest, Mark::OpenBracket) {
+        return read_element_rest(alloc, name, rest, depth);
+    }
+    read_variable_rest(alloc, name, rest, depth)
 }
 
 /// An assignment, without a semicolon.
@@ -139,7 +177,45 @@ pub fn read_type(rest: &[Token]) -> Result<(NumberType, &[Token]), Stopped>
     Ok((NumberType::Long, skip(skip(word, Mark::Long), Mark::Int)))
 }
 
-/// A name, and what the variable gets.
+/// How many elements an array has: a literal in brackets.
+pub fn read_length(rest: &[Token]) -> Result<(ArrayLength, &[Token]), Stopped>
+    ensures shorter { IfOk result (λ r. length r.1.now ≤ length rest.now) }
+    ensures gives { Gives (λ r. (r.0, r.1.now)) result (length_at rest.now) }
+{
+    let opened = expect(rest, Mark::OpenBracket)?;
+    match next_literal(opened) {
+        Some(literal) => {
+            let closed = expect(tail(opened), Mark::CloseBracket)?;
+            let value = literal.value;
+            let place = literal.place;
+            Ok((ArrayLength { value, place }, closed))
+        }
+        None => stop(Cause::Syntax, opened),
+    }
+}
+
+/// What a name is declared as.
+fn read_shape(
+    alloc: Global,
+    rest: &[Token],
+    depth: usize,
+) -> Result<(Shape<Rvalue>, &[Token]), Stopped>
+    ensures shorter { IfOk result (λ r. length r.1.now ≤ length rest.now) }
+    ensures gives { Gives (λ r. (shape_view rvalue_view r.0, r.1.now)) result
+        (shape_at (rvalue_at depth) rest.now) }
+{
+    if next_is(rest, Mark::OpenBracket) {
+        let (elements, closed) = read_length(rest)?;
+        return Ok((Shape::Array(elements), closed));
+    }
+    if next_is(rest, Mark::Assign) {
+        let (rvalue, after) = read_rvalue(alloc, tail(rest), depth)?;
+        return Ok((Shape::Scalar(Some(rvalue)), after));
+    }
+    Ok((Shape::Scalar(None), rest))
+}
+
+/// A name, and what it is declared as.
 fn read_declarator(
     alloc: Global,
     rest: &[Token],
@@ -149,12 +225,8 @@ fn read_declarator(
     ensures gives { Gives (λ r. (declarator_view r.0, r.1.now)) result (declarator_at depth rest.now) }
 {
     let (name, behind) = read_name(alloc, rest)?;
-    if next_is(behind, Mark::Assign) {
-        let (rvalue, after) = read_rvalue(alloc, tail(behind), depth)?;
-        let rvalue = Some(rvalue);
-        return Ok((Declarator { name, rvalue }, after));
-    }
-    Ok((Declarator { name, rvalue: None }, behind))
+    let (shape, after) = read_shape(alloc, behind, depth)?;
+    Ok((Declarator { name, shape }, after))
 }
 
 /// Declarators of this type with commas between them.

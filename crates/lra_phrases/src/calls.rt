@@ -6,9 +6,9 @@ ghost use Rattle.lra_readers.specs.Reading.{Gives, map_read};
 ghost use Rattle.lra_readers.specs.Expressions.{expr_at};
 ghost use Rattle.lra_readers.specs.Statements.{commas, listed, arguments_at, call_rest, rvalue_rest, rvalue_at};
 
-use crate::expressions::{read_expr, read_factors, read_summands};
+use crate::expressions::{read_expr, read_factors, read_named, read_summands};
 use lra_readers::{Stopped, expect, next_is, next_is_name, read_name, tail};
-use lra_tree::{Arguments, Call, Expr, Identifier, Mark, Rvalue, Token, Unary};
+use lra_tree::{Arguments, Call, Expr, Identifier, Mark, Rvalue, Token};
 use std::alloc::{AllocError, Global};
 
 /// The list of this expression.
@@ -84,7 +84,8 @@ fn read_rvalue_rest(
         let (call, closed) = read_call(alloc, name, rest, depth)?;
         return Ok((Rvalue::Result(call), closed));
     }
-    let (term, behind) = read_factors(alloc, Unary::Variable(name), rest, depth)?;
+    let (unary, named) = read_named(alloc, name, rest, depth)?;
+    let (term, behind) = read_factors(alloc, unary, named, depth)?;
     let (expr, after) = read_summands(alloc, term, behind, depth)?;
     Ok((Rvalue::Value(expr), after))
 }

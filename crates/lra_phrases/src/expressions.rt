@@ -7,10 +7,13 @@ ghost use Rattle.lra_readers.specs.Tests.{first};
 ghost use Rattle.lra_readers.specs.Reading.{Gives};
 ghost use Rattle.lra_readers.specs.Expressions.{factor_operator, sum_operator, unary_at, negated_at, positive_at};
 ghost use Rattle.lra_readers.specs.Expressions.{grouped_at, read_input, factors, term_of, summands, expr_at};
+ghost use Rattle.lra_readers.specs.Expressions.{named_unary, index_at};
 
 use lra_base::Cause;
 use lra_readers::{Stopped, expect, next_is, next_literal, read_name, stop, tail};
-use lra_tree::{Expr, Factor, FactorOperator, Mark, SumOperator, Summand, Term, Token, Unary};
+use lra_tree::{
+    Expr, Factor, FactorOperator, Identifier, Mark, SumOperator, Summand, Term, Token, Unary,
+};
 use std::alloc::Global;
 
 /// `*`, `/` or `%`, if it is the next token.
@@ -52,7 +55,7 @@ fn read_input(rest: &[Token]) -> Result<(Unary, &[Token]), Stopped>
     Ok((Unary::Input, closed))
 }
 
-/// A unary: a sign and a unary, a literal, a variable, `input()`, or an expression in parentheses.
+/// A unary: a sign and a unary, a literal, a variable, an element, `input()`, or an expression in parentheses.
 #[cycle(expression)]
 pub fn read_unary(alloc: Global, rest: &[Token], depth: usize) -> Result<(Unary, &[Token]), Stopped>
     ensures shorter { IfOk result (λ r. length r.1.now ≤ length rest.now) }
@@ -75,7 +78,41 @@ pub fn read_unary(alloc: Global, rest: &[Token], depth: usize) -> Result<(Unary,
         return Ok((unary, tail(rest)));
     }
     let (name, after) = read_name(alloc, rest)?;
-    Ok((Unary::Variable(name), after))
+    read_named(alloc, name, after, depth)
+}
+
+/// The element or the variable whose name was read.
+#[cycle(expression)]
+pub fn read_named(
+    alloc: Global,
+    name: Identifier,
+    rest: &[Token],
+    depth: usize,
+) -> Result<(Unary, &[Token]), Stopped>
+    ensures shorter { IfOk result (λ r. length r.1.now ≤ length rest.now) }
+    ensures gives { Gives (λ r. (unary_view r.0, r.1.now)) result
+        (named_unary (index_at depth) name rest.now) }
+{
+    if next_is(rest, Mark::OpenBracket) {
+        let (index, closed) = read_index(alloc, rest, depth)?;
+        return Ok((Unary::Element(name, Box::new(alloc, index)?), closed));
+    }
+    Ok((Unary::Variable(name), rest))
+}
+
+/// An index, with its brackets.
+#[cycle(expression)]
+pub fn read_index(alloc: Global, rest: &[Token], depth: usize) -> Result<(Expr, &[Token]), Stopped>
+    ensures shorter { IfOk result (λ r. length r.1.now ≤ length rest.now) }
+    ensures gives { Gives (λ r. (expr_view r.0, r.1.now)) result (index_at depth rest.now) }
+{
+    if depth == 0 {
+        return stop(Cause::TooDeep, rest);
+    }
+    let opened = expect(rest, Mark::OpenBracket)?;
+    let (expr, after) = read_expr(alloc, opened, depth - 1)?;
+    let closed = expect(after, Mark::CloseBracket)?;
+    Ok((expr, closed))
 }
 
 #[cycle(expression)]

@@ -9,7 +9,8 @@ mod conditions;
 mod expressions;
 
 pub use assignments::{
-    next_is_type, next_step, read_assign, read_assign_rest, read_declaration, read_type,
+    next_is_type, next_step, read_assign, read_assign_rest, read_declaration, read_length,
+    read_type,
 };
 pub use calls::{read_call, read_rvalue};
 pub use conditions::read_cond;

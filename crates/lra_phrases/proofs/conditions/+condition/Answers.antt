@@ -6,13 +6,13 @@ use Rattle.lra_tree.specs.declared.tokens.Mark.TheVariants as mark
 use Rattle.lra_tree.specs.declared.trees.Test.{Test}
 use Rattle.lra_tree.specs.declared.trees.Conjunction.{Conjunction}
 use Rattle.lra_tree.specs.Trees.{NegationTree, opposite_again, TestTree, test, ConjunctionTree, and, CondTree, conjunction, or}
-use Rattle.lra_tree.specs.Views.{all_tests, any_conjunction, test_view, negation_view, conjunction_view, cond_view, unary_view, expr_view}
+use Rattle.lra_tree.specs.Views.{all_tests, any_conjunction, test_view, negation_view, conjunction_view, cond_view, unary_view}
 use Rattle.lra_base.specs.declared.refusals.Cause.TheVariants.{TooDeep}
 use Rattle.lra_readers.specs.Tests.{first}
 use Rattle.lra_readers.specs.Reading.{expect, chain_rest}
 use Rattle.lra_readers.specs.Expressions.{ended, next_and, next_or, test_at, negation_at, negation_of, conjunction_at, cond_at}
 use Rattle.lra_phrases.proofs.Turning.{exit_gives, gives_same, stop_gives, err_same, seq_exit, seq_then, parens_give, parens_exit, chain_start, grown_turn, list_grown, chain_exit, chain_end}
-use Rattle.lra_phrases.proofs.Viewed.{operand_is, opposite_is, conjunction_is, cond_is, and_push, or_push, negation_handed, negation_shorter}
+use Rattle.lra_phrases.proofs.Viewed.{operand_is, and_push, or_push, negation_handed, negation_shorter}
 use Rattle.lra_phrases.proofs.Unfolded.{one_on, one_off, opposite_gives, again_gives, strict_gives, operand_gives, opposed_exit, closed_exit, group_gives, value_gives, again_exit}
 use Rattle.lra_phrases.proofs.Unfolded.{strict_exit, operand_exit, opposed_zero, opposed_some, opposed_handed, closed_zero, closed_some}
 use Rattle.lra_phrases.proofs.conditions.+condition.Goals as goal

@@ -1,5 +1,5 @@
--- Goals of the functions that call each other around `expression`: `read_unary`, `read_group`, `read_factors`,
--- `read_summands`.
+-- Goals of the functions that call each other around `expression`: `read_unary`, `read_named`, `read_index`, `read_group`,
+-- `read_factors`, `read_summands`.
 use Rattle.std.proofs.Common.{◌-◌, List, Ok, refl, sym, ap, ◌∙◌, arith, map}
 use Rattle.std.proofs.lemmas.Result.{err_from_is_err_and}
 use Rattle.lra_base.specs.declared.refusals.Cause.TheVariants.{TooDeep}
@@ -8,13 +8,15 @@ use Rattle.lra_tree.specs.declared.trees.Unary.{Unary, Literal}
 use Rattle.lra_tree.specs.declared.trees.Expr.{Expr}
 use Rattle.lra_tree.specs.declared.trees.Factor.{Factor}
 use Rattle.lra_tree.specs.declared.trees.Summand.{Summand}
-use Rattle.lra_tree.specs.Trees.{UnaryTree, TermTree, ExprTree, unary, term, group, negated, positive}
+use Rattle.lra_tree.specs.Trees.{UnaryTree, TermTree, ExprTree, unary, term, group, element, negated, positive}
 use Rattle.lra_tree.specs.Views.{unary_view, term_view, expr_view, factor_view, summand_view, product, sum_of, further_factor, further_term}
 use Rattle.lra_readers.specs.Reading.{Text, has, tail, chain_step, expect, map_read}
 use Rattle.lra_readers.specs.Expressions.{factor_operator, sum_operator, unary_at, expr_at, factors, term_of, summands, ended, in_parens}
 use Rattle.lra_phrases.proofs.Turning.{exit_gives, gives_same, stop_gives, err_same, seq_exit, seq_then, seq_handed, map_exit, parens_exit, turns_start, pushed_turn, chain_exit, chain_end}
-use Rattle.lra_phrases.proofs.Viewed.{literal_is, variable_is, group_is, factor_is, term_is, summand_is, expr_is, product_push, sum_push}
-use Rattle.lra_phrases.proofs.Unfolded.{literal_gives, variable_gives, grouped_gives, minus_is, plus_is, open_is, input_is, name_exit, negated_zero}
+use Rattle.lra_phrases.proofs.Turning.{between_give, between_first, between_part, between_exit}
+use Rattle.lra_phrases.proofs.Viewed.{literal_is, variable_is, group_is, element_is, factor_is, term_is, summand_is, expr_is, product_push, sum_push}
+use Rattle.lra_phrases.proofs.Unfolded.{literal_gives, named_gives, element_gives, element_exit, variable_gives, index_zero, index_some}
+use Rattle.lra_phrases.proofs.Unfolded.{grouped_gives, minus_is, plus_is, open_is, input_is, name_exit, negated_zero}
 use Rattle.lra_phrases.proofs.Unfolded.{negated_some, positive_zero, positive_some, grouped_zero, grouped_some}
 use Rattle.lra_phrases.proofs.expressions.+expression.Goals as goal
 
@@ -24,8 +26,9 @@ read_unary-returns-in-Some-clause-gives t c = literal_gives c.args.depth c.args.
     ap (λ (R : Text). Ok (unary_view (Literal c.in-Some.literal.number_type c.in-Some.literal.value), R)) (sym c.tail.ensures.value)
 
 pub read_unary-returns-clause-gives : goal.read_unary-returns-clause-gives
-read_unary-returns-clause-gives t c = variable_gives c.args.depth c.args.rest.now c.in_ok-name.after.now c.in_ok-name.name c.in_ok-name.ensures.gives ∙
-    ap (λ (u : UnaryTree). Ok (u, c.in_ok-name.after.now)) (sym (variable_is c.in_ok-name.name))
+read_unary-returns-clause-gives t c =
+    gives_same _ c.read_named.result _ _
+    (named_gives c.args.depth c.args.rest.now c.in_ok-name.after.now c.in_ok-name.name c.in_ok-name.ensures.gives) c.read_named.ensures.gives
 
 pub read_unary-returns-then-next_is-clause-gives : goal.read_unary-returns-then-next_is-clause-gives
 read_unary-returns-then-next_is-clause-gives t c =
@@ -54,6 +57,53 @@ read_group-returns-clause-gives t c =
     grouped_gives c.args.depth c.args.rest.now c.in_ok-opened.opened.now c.in_ok-expr.after.now c.in_ok-closed.closed.now
     (expr_view c.in_ok-expr.expr) c.if-depth-eq0.false c.in_ok-opened.ensures.gives c.in_ok-expr.ensures.gives c.in_ok-closed.ensures.gives
     ∙ ap (λ (u : UnaryTree). Ok (u, c.in_ok-closed.closed.now)) (sym (group_is c.in_ok-new.field-0 ∙ ap (λ (e : Expr). group (expr_view e)) c.in_ok-new.ensures.ok))
+
+pub read_named-returns-then-next_is-clause-gives : goal.read_named-returns-then-next_is-clause-gives
+read_named-returns-then-next_is-clause-gives t c =
+    element_gives c.args.depth c.args.name c.args.rest.now c.in_ok-index.closed.now (expr_view c.in_ok-index.index) c.if-next_is.ensures
+    c.in_ok-index.ensures.gives
+    ∙ ap (λ (u : UnaryTree). Ok (u, c.in_ok-index.closed.now))
+    (sym (element_is c.args.name c.in_ok-new.field-0 ∙ ap (λ (e : Expr). element c.args.name (expr_view e)) c.in_ok-new.ensures.ok))
+
+pub read_named-returns-clause-gives : goal.read_named-returns-clause-gives
+read_named-returns-clause-gives t c =
+    variable_gives c.args.depth c.args.name c.args.rest.now c.if-next_is.ensures
+    ∙ ap (λ (u : UnaryTree). Ok (u, c.args.rest.now)) (sym (variable_is c.args.name))
+
+pub read_named-returns-in_err-index-clause-gives : goal.read_named-returns-in_err-index-clause-gives
+read_named-returns-in_err-index-clause-gives t c =
+    exit_gives _ c.from_residual.result _ _ c.from_residual.ensures.1
+    (element_exit c.args.depth c.args.name c.args.rest.now c.in_err-index.field-0.0 c.if-next_is.ensures c.in_err-index.ensures.gives)
+
+pub read_index-returns-then-depth-eq0-clause-gives : goal.read_index-returns-then-depth-eq0-clause-gives
+read_index-returns-then-depth-eq0-clause-gives t c =
+    stop_gives _ c.stop.result TooDeep c.args.rest.now _ (index_zero c.args.depth c.args.rest.now c.if-depth-eq0.true) c.stop.ensures
+
+pub read_index-returns-in_err-opened-clause-gives : goal.read_index-returns-in_err-opened-clause-gives
+read_index-returns-in_err-opened-clause-gives t c =
+    exit_gives _ c.from_residual.result _ _ c.from_residual.ensures.1
+    (err_same _ _ _ (index_some c.args.depth c.args.rest.now c.if-depth-eq0.false)
+    (between_first mark.OpenBracket mark.CloseBracket (expr_at (c.args.depth - 1)) c.args.rest.now c.in_err-opened.field-0.0 c.in_err-opened.ensures.gives))
+
+pub read_index-returns-in_err-expr-clause-gives : goal.read_index-returns-in_err-expr-clause-gives
+read_index-returns-in_err-expr-clause-gives t c =
+    exit_gives _ c.from_residual-in_err-expr.result _ _ c.from_residual-in_err-expr.ensures.1
+    (err_same _ _ _ (index_some c.args.depth c.args.rest.now c.if-depth-eq0.false)
+    (between_part mark.OpenBracket mark.CloseBracket (expr_at (c.args.depth - 1)) c.args.rest.now c.in_ok-opened.opened.now
+    c.in_err-expr.field-0.0 c.in_ok-opened.ensures.gives c.in_err-expr.ensures.gives))
+
+pub read_index-returns-in_err-closed-clause-gives : goal.read_index-returns-in_err-closed-clause-gives
+read_index-returns-in_err-closed-clause-gives t c =
+    exit_gives _ c.from_residual-in_err-closed.result _ _ c.from_residual-in_err-closed.ensures.1
+    (err_same _ _ _ (index_some c.args.depth c.args.rest.now c.if-depth-eq0.false)
+    (between_exit mark.OpenBracket mark.CloseBracket (expr_at (c.args.depth - 1)) c.args.rest.now c.in_ok-opened.opened.now c.in_ok-expr.after.now
+    (expr_view c.in_ok-expr.expr) c.in_err-closed.field-0.0 c.in_ok-opened.ensures.gives c.in_ok-expr.ensures.gives c.in_err-closed.ensures.gives))
+
+pub read_index-returns-clause-gives : goal.read_index-returns-clause-gives
+read_index-returns-clause-gives t c =
+    index_some c.args.depth c.args.rest.now c.if-depth-eq0.false ∙
+    between_give mark.OpenBracket mark.CloseBracket (expr_at (c.args.depth - 1)) c.args.rest.now c.in_ok-opened.opened.now c.in_ok-expr.after.now
+    c.in_ok-closed.closed.now (expr_view c.in_ok-expr.expr) c.in_ok-opened.ensures.gives c.in_ok-expr.ensures.gives c.in_ok-closed.ensures.gives
 
 pub read_factors-factors-init : goal.read_factors-factors-init
 read_factors-factors-init t c = record {

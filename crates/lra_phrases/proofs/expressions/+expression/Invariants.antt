@@ -6,28 +6,34 @@ use Rattle.lra_readers.specs.Expressions.{factor_operator, sum_operator, unary_a
 use Rattle.lra_phrases.proofs.expressions.+expression.Given as goal
 
 abbrev pub decreases-read_expr : goal.decreases-read_expr
-decreases-read_expr l = 6 * l.depth + 5
+decreases-read_expr l = 7 * l.depth + 6
 
 abbrev pub decreases-read_summands : goal.decreases-read_summands
-decreases-read_summands l = 6 * l.depth + 4
+decreases-read_summands l = 7 * l.depth + 5
 
 abbrev pub decreases-read_term : goal.decreases-read_term
-decreases-read_term l = 6 * l.depth + 3
+decreases-read_term l = 7 * l.depth + 4
 
 abbrev pub decreases-read_factors : goal.decreases-read_factors
-decreases-read_factors l = 6 * l.depth + 2
+decreases-read_factors l = 7 * l.depth + 3
 
 abbrev pub decreases-read_unary : goal.decreases-read_unary
-decreases-read_unary l = 6 * l.depth + 1
+decreases-read_unary l = 7 * l.depth + 2
 
 abbrev pub decreases-read_negated : goal.decreases-read_negated
-decreases-read_negated l = 6 * l.depth
+decreases-read_negated l = 7 * l.depth
 
 abbrev pub decreases-read_positive : goal.decreases-read_positive
-decreases-read_positive l = 6 * l.depth
+decreases-read_positive l = 7 * l.depth
+
+abbrev pub decreases-read_named : goal.decreases-read_named
+decreases-read_named l = 7 * l.depth + 1
+
+abbrev pub decreases-read_index : goal.decreases-read_index
+decreases-read_index l = 7 * l.depth
 
 abbrev pub decreases-read_group : goal.decreases-read_group
-decreases-read_group l = 6 * l.depth
+decreases-read_group l = 7 * l.depth
 
 abbrev pub invariant-read_factors-factors : goal.invariant-read_factors-factors
 invariant-read_factors-factors l = record {
