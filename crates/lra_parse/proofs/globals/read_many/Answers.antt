@@ -7,7 +7,7 @@ use Rattle.lra_tree.specs.Views.{global_view}
 use Rattle.lra_readers.specs.Tests.{is_mark}
 use Rattle.lra_readers.specs.Reading.{list_step}
 use Rattle.lra_readers.specs.Expressions.{behind}
-use Rattle.lra_readers.specs.Files.{value_at, global_at, globals_of}
+use Rattle.lra_readers.specs.Files.{global_rest, global_at, globals_of}
 use Rattle.lra_phrases.proofs.Turning.{turns_start, turn_off, list_grown, comma_turn, comma_exit, from_gives, from_exit}
 use Rattle.lra_parse.proofs.globals.read_many.Goals as goal
 
@@ -27,14 +27,14 @@ globals-preserved c = record {
 }
 
 pub returns-clause-gives : goal.returns-clause-gives
-returns-clause-gives c = from_gives (value_at c.args.name) global_at (globals_of c.args.number_type) (global_view c.in_ok-first.first)
+returns-clause-gives c = from_gives (global_rest c.args.name) global_at (globals_of c.args.number_type) (global_view c.in_ok-first.first)
     (map global_view c.globals.globals.items) c.args.rest.now c.in_ok-first.left.now c.globals.left.now c.in_ok-first.ensures.gives
     (turn_off (is_mark mark.Comma) (list_step (behind mark.Comma global_at)) (map global_view c.globals.globals.items) c.globals.left.now _ c.globals.invariant.same (sym c.globals-test.ensures))
 
 pub returns-in_err-global-clause-gives : goal.returns-in_err-global-clause-gives
 returns-in_err-global-clause-gives c =
     let p = err_from_is_err_and c.from_residual-in_err-global.result c.from_residual-in_err-global.ensures.1 in
-    rw (p.1, p.2) (from_exit (value_at c.args.name) global_at (globals_of c.args.number_type)
+    rw (p.1, p.2) (from_exit (global_rest c.args.name) global_at (globals_of c.args.number_type)
     (global_view c.in_ok-first.first) c.args.rest.now c.in_ok-first.left.now c.in_err-global.field-0.0 c.in_ok-first.ensures.gives
     (comma_exit mark.Comma global_at (map global_view c.globals.globals.items) c.globals.left.now c.tail.result.now c.in_err-global.field-0.0 _ c.globals.invariant.same c.globals-test.ensures
     c.tail.ensures.value c.in_err-global.ensures.gives))
