@@ -1,6 +1,6 @@
 -- The names that a tree declares are words among the tokens of its text, and each has a token of its own there: so of the variables that
 -- live at a label.
-use Rattle.std.proofs.Common.{◌≡◌, ℕ, ◌+◌, ◌≤◌, ◌<◌, true, List, [], ◌∷◌, ◌++◌, length, map, refl, ap, sym, ◌∙◌, subst, arith, length-append, append_assoc}
+use Rattle.std.proofs.Common.{◌≡◌, ℕ, ◌+◌, ◌≤◌, true, List, [], ◌∷◌, ◌++◌, length, map, refl, ap, sym, ◌∙◌, subst, arith, length-append, append_assoc}
 use Rattle.std.proofs.Common.{append-nil, Option, Some, None}
 use Rattle.std.specs.List.{AllByRecursion, flat_map}
 use Rattle.lra_base.specs.declared.refusals.Place.{Place}
@@ -9,16 +9,15 @@ use Rattle.lra_tree.specs.declared.trees.Parameter.{Parameter}
 use Rattle.lra_tree.specs.Lexeme.{is_name_word}
 use Rattle.lra_tree.specs.Texts.{Piece, Pieces, Texts, ◌⋅◌, name, further, separated}
 use Rattle.lra_tree.specs.Trees.{AssignTree, DeclaratorTree, DeclarationTree, InitTree, no_init, declared, assigned, StmtTree, block, nothing, assign, call}
-use Rattle.lra_tree.specs.Trees.{if_only, if_else, while, for, break}
+use Rattle.lra_tree.specs.Trees.{ShapeTree, scalar, array, if_only, if_else, while, for, break}
 use Rattle.lra_tree.specs.Trees.{continue, return, assert, assume, switch, CasesTree, no_cases, labelled, stated, ItemsTree, no_items, declaration, statement}
 use Rattle.lra_tree.specs.Trees.{FunctionTree, GlobalTree, GlobalsTree, PartTree, prototype, globals, function}
 use Rattle.lra_tree.specs.Grammar.{IsDeclarator, IsDeclaration, IsInit, opened_by, level_of, IsStmt, AreCases, AreLabelled, AreStated, AreItems, IsParameter}
 use Rattle.lra_tree.specs.Grammar.{AreParameters, IsFunction, IsGlobal, AreGlobals, AreParts}
 use Rattle.lra_tree.specs.Functions.{functions_in}
-use Rattle.lra_meaning.specs.NameFaults.{global_names}
-use Rattle.lra_tree.specs.Labels.{Labelled, with_names, declarator_labels, init_labels, live_in_for, step_labels, stmt_labels, cases_labels, items_labels}
+use Rattle.lra_tree.specs.Labels.{Labelled, name_in, names_of, with_names, declarator_labels, init_labels, live_in_for, step_labels, stmt_labels, cases_labels, items_labels}
 use Rattle.lra_tree.specs.Labels.{function_labels}
-use Rattle.lra_meaning.specs.LiveNames.{globals_named}
+use Rattle.lra_meaning.specs.LiveNames.{live_name, globals_named}
 use Rattle.lra_report.proofs.Every.{every_append, every_front, every_back}
 use Rattle.lra_report.proofs.TokenWords.{HasWord}
 
@@ -62,53 +61,59 @@ room_behind most live x y a b e h = room_last most live (a ++ (b ++ y)) a (b ++ 
 
 -- lists of declared names --------------------------------------------------------
 
--- the name that x declares is a word, and stands among the pieces
-abbrev Declares : List ℕ → Pieces → Type 0
-Declares w x = AllByRecursion IsNamed x → (is_name_word w ≡ true) × (0 < length x)
+-- the names that x declares are words, and no more than its pieces
+abbrev Declares : List (List ℕ) → Pieces → Type 0
+Declares ws x = AllByRecursion IsNamed x → AllByRecursion (λ n. is_name_word n ≡ true) ws × (length ws ≤ length x)
 
-name_declares : (x : Identifier) (o : ℕ) (z : Pieces) → name x o z → Declares x.word z
-name_declares x o z e h = let n = ap (λ (y : Pieces). length y) e in ((subst (AllByRecursion IsNamed) e h).0, omega (arith, n))
+name_declares : (x : Identifier) (o : ℕ) (z : Pieces) → name x o z → Declares (x.word ∷ []) z
+name_declares x o z e h = let n = ap (λ (y : Pieces). length y) e in (((subst (AllByRecursion IsNamed) e h).0, tt), omega (arith, n))
 
-first_declares : (w : List ℕ) (z a b : Pieces) → z ≡ a ++ b → Declares w a → Declares w z
-first_declares w z a b e d h =
+first_declares : (ws : List (List ℕ)) (z a b : Pieces) → z ≡ a ++ b → Declares ws a → Declares ws z
+first_declares ws z a b e d h =
     let own = d (every_front IsNamed a b (subst (AllByRecursion IsNamed) e h)) in
     let some = own.1 in
     let n = ap (λ (y : Pieces). length y) e in
     (own.0, omega (arith, some, n, length-append a b))
 
-last_declares : (w : List ℕ) (z a b : Pieces) → z ≡ a ++ b → Declares w b → Declares w z
-last_declares w z a b e d h =
+last_declares : (ws : List (List ℕ)) (z a b : Pieces) → z ≡ a ++ b → Declares ws b → Declares ws z
+last_declares ws z a b e d h =
     let own = d (every_back IsNamed a b (subst (AllByRecursion IsNamed) e h)) in
     let some = own.1 in
     let n = ap (λ (y : Pieces). length y) e in
     (own.0, omega (arith, some, n, length-append a b))
 
-declared_room : (most : ℕ) (live : List (List ℕ)) (w : List ℕ) (x y : Pieces) → Declares w x → HasRoom most live (x ++ y) → HasRoom most (live ++ w ∷ []) y
-declared_room most live w x y d h =
+-- behind its name, a scalar declares that, an array nothing
+shape_declares : {A : Type 0} (x : Identifier) (shape : ShapeTree A) (z a b : Pieces) → z ≡ a ++ b → name x 0 a → Declares (name_in x.word shape) z
+shape_declares x (scalar v) z a b e is h = first_declares (x.word ∷ []) z a b e (name_declares x 0 a is) h
+shape_declares x (array n) z a b e is h = (tt, omega arith)
+
+declared_room : (most : ℕ) (live ws : List (List ℕ)) (x y : Pieces) → Declares ws x → HasRoom most live (x ++ y) → HasRoom most (live ++ ws) y
+declared_room most live ws x y d h =
     let own = d (every_front IsNamed x y h.2) in
     let n = h.1 in
     let some = own.1 in (
-      every_append (λ n. is_name_word n ≡ true) live (w ∷ []) h.0 (own.0, tt),
-      omega (arith, n, some, length-append x y, length-append live (w ∷ [])),
+      every_append (λ n. is_name_word n ≡ true) live ws h.0 own.0,
+      omega (arith, n, some, length-append x y, length-append live ws),
       every_back IsNamed x y h.2,
     )
 
--- items with commas between them, each of which declares a name
-module _ {A : Type 0} (R : A → Texts) (word : A → List ℕ) (declares : (a : A) (x : Pieces) → R a x → Declares (word a) x) (most : ℕ) where
-  further_room : (live : List (List ℕ)) (many : List A) (x y : Pieces) → further R many x → HasRoom most live (x ++ y) → HasRoom most (live ++ map word many) y
+-- items with commas between them, each of which declares names
+module _ {A : Type 0} (R : A → Texts) (words : A → List (List ℕ)) (declares : (a : A) (x : Pieces) → R a x → Declares (words a) x) (most : ℕ) where
+  further_room : (live : List (List ℕ)) (many : List A) (x y : Pieces) → further R many x → HasRoom most live (x ++ y) → HasRoom most
+      (live ++ flat_map words many) y
   further_room live [] x y e h = subst (λ (l : List (List ℕ)). HasRoom most l y) (sym (append-nil live)) (room_last most live (x ++ y) x y refl h)
   further_room live (a ∷ many) x y (c, z, e, comma, (p, q, e', is, rest)) h =
       let here = room_parts most live z y p q e' (room_behind most live x y c z e h) in
-      let behind = further_room (live ++ word a ∷ []) many q y rest (declared_room most live (word a) p (q ++ y) (declares a p is) here) in
-      subst (λ (l : List (List ℕ)). HasRoom most l y) (append_assoc live (word a ∷ []) (map word many)) behind
+      let behind = further_room (live ++ words a) many q y rest (declared_room most live (words a) p (q ++ y) (declares a p is) here) in
+      subst (λ (l : List (List ℕ)). HasRoom most l y) (append_assoc live (words a) (flat_map words many)) behind
 
   separated_room : (live : List (List ℕ)) (many : List A) (x y : Pieces) → separated R many x → HasRoom most live (x ++ y) → HasRoom most
-      (live ++ map word many) y
+      (live ++ flat_map words many) y
   separated_room live [] x y e h = subst (λ (l : List (List ℕ)). HasRoom most l y) (sym (append-nil live)) (room_last most live (x ++ y) x y refl h)
   separated_room live (a ∷ many) x y (p, q, e, is, rest) h =
       let here = room_parts most live x y p q e h in
-      let behind = further_room (live ++ word a ∷ []) many q y rest (declared_room most live (word a) p (q ++ y) (declares a p is) here) in
-      subst (λ (l : List (List ℕ)). HasRoom most l y) (append_assoc live (word a ∷ []) (map word many)) behind
+      let behind = further_room (live ++ words a) many q y rest (declared_room most live (words a) p (q ++ y) (declares a p is) here) in
+      subst (λ (l : List (List ℕ)). HasRoom most l y) (append_assoc live (words a) (flat_map words many)) behind
 
 -- declarations -------------------------------------------------------------------
 
@@ -119,18 +124,17 @@ declarators_few : (most : ℕ) (live : List (List ℕ)) (ds : List DeclaratorTre
     (declarator_labels live ds)
 declarators_few most live [] h = tt
 declarators_few most live (d ∷ ds) h =
-    let further = map (λ (x : DeclaratorTree). x.name.word) ds in
-    let behind = subst (AreFew most) (sym (append_assoc live (d.name.word ∷ []) further)) h in (
-      (few_front most live (d.name.word ∷ further) h, few_front most (live ++ d.name.word ∷ []) further behind),
-      declarators_few most (live ++ d.name.word ∷ []) ds behind,
+    let further = flat_map names_of ds in
+    let behind = subst (AreFew most) (sym (append_assoc live (names_of d) further)) h in (
+      (few_front most live (names_of d ++ further) h, few_front most (live ++ names_of d) further behind),
+      declarators_few most (live ++ names_of d) ds behind,
     )
 
 declaration_room : (most l : ℕ) (d : DeclarationTree) (live : List (List ℕ)) (x y : Pieces) → IsDeclaration l d x → HasRoom most live (x ++ y) → HasRoom most
     (with_names live (d.first ∷ d.rest)) y
 declaration_room most l d live x y (t, z, e, type, (s, m, e', are, semicolon)) h =
     let here = room_parts most live z y s m e' (room_behind most live x y t z e h) in
-    let behind = separated_room (IsDeclarator l) (λ (v : DeclaratorTree). v.name.word)
-    (λ v p is. first_declares v.name.word p is.0 is.1 is.2 (name_declares v.name 0 is.0 is.3)) most live
+    let behind = separated_room (IsDeclarator l) names_of (λ v p is. shape_declares v.name v.shape p is.0 is.1 is.2 is.3) most live
     (d.first ∷ d.rest) s (m ++ y) are here in
     room_last most (with_names live (d.first ∷ d.rest)) (m ++ y) m y refl behind
 
@@ -253,12 +257,17 @@ mutual
 
 -- functions and globals ----------------------------------------------------------
 
+each_one : (ps : List Parameter) → flat_map (λ (p : Parameter). p.name.word ∷ []) ps ≡ map (λ (p : Parameter). p.name.word) ps
+each_one [] = refl
+each_one (p ∷ ps) = ap (λ (l : List (List ℕ)). p.name.word ∷ l) (each_one ps)
+
 parameters_room : (most : ℕ) (ps : List Parameter) (x y : Pieces) → AreParameters ps x → HasRoom most [] (x ++ y) → HasRoom most
     (map (λ (p : Parameter). p.name.word) ps) y
 parameters_room most [] x y are h = room_last most [] (x ++ y) x y refl h
 parameters_room most (p ∷ ps) x y are h =
-    separated_room IsParameter (λ (q : Parameter). q.name.word) (λ q z is. last_declares q.name.word z is.0 is.1 is.2 (name_declares q.name 0 is.1 is.4)) most
-    [] (p ∷ ps) x y are h
+    subst (λ (l : List (List ℕ)). HasRoom most l y) (each_one (p ∷ ps))
+    (separated_room IsParameter (λ (q : Parameter). q.name.word ∷ [])
+    (λ q z is. last_declares (q.name.word ∷ []) z is.0 is.1 is.2 (name_declares q.name 0 is.1 is.4)) most [] (p ∷ ps) x y are h)
 
 function_few : (most : ℕ) (f : FunctionTree) (z : Pieces) → IsFunction f z → HasRoom most [] z → AllByRecursion (AreFewAt most) (function_labels f)
 function_few most f z (a, b, e, head, (c, d, e1, paren, (p, q, e2, are, (r, s, e3, close, (t, u, e4, opening, (v, w, e5, items, end)))))) h =
@@ -278,20 +287,19 @@ labels_few most (function f ∷ ps) z (x, y, e, is, are) h =
     (labels_few most ps y are (room_last most [] z x y e h))
 
 globals_room : (most : ℕ) (g : GlobalsTree) (live : List (List ℕ)) (x y : Pieces) → AreGlobals g x → HasRoom most live (x ++ y) → HasRoom most
-    (live ++ global_names (g.first ∷ g.rest)) y
+    (live ++ flat_map live_name (g.first ∷ g.rest)) y
 globals_room most g live x y (t, z, e, type, (s, m, e', are, semicolon)) h =
     let here = room_parts most live z y s m e' (room_behind most live x y t z e h) in
-    let behind = separated_room IsGlobal (λ (v : GlobalTree). v.name.word)
-    (λ v p is. first_declares v.name.word p is.0 is.1 is.2 (name_declares v.name 0 is.0 is.3)) most live (g.first ∷ g.rest) s
+    let behind = separated_room IsGlobal live_name (λ v p is. shape_declares v.name v.shape p is.0 is.1 is.2 is.3) most live (g.first ∷ g.rest) s
     (m ++ y) are here in
-    room_last most (live ++ global_names (g.first ∷ g.rest)) (m ++ y) m y refl behind
+    room_last most (live ++ flat_map live_name (g.first ∷ g.rest)) (m ++ y) m y refl behind
 
 pub globals_few : (most : ℕ) (ps : List PartTree) (live : List (List ℕ)) (z : Pieces) → AreParts ps z → HasRoom most live z → AreFew most
     (live ++ globals_named ps)
 globals_few most [] live z are h = subst (AreFew most) (sym (append-nil live)) (room_few most live z h)
 globals_few most (prototype ∷ ps) live z (x, y, e, is, are) h = globals_few most ps live y are (room_last most live z x y e h)
 globals_few most (globals g ∷ ps) live z (x, y, e, is, are) h =
-    let names = global_names (g.first ∷ g.rest) in
+    let names = flat_map live_name (g.first ∷ g.rest) in
     subst (AreFew most) (append_assoc live names (globals_named ps)) (globals_few most ps (live ++ names) y are
     (globals_room most g live x y is (subst (HasRoom most live) e h)))
 globals_few most (function f ∷ ps) live z (x, y, e, is, are) h = globals_few most ps live y are (room_last most live z x y e h)

@@ -3,7 +3,7 @@ use Rattle.std.proofs.Common.{ℕ, zero, suc, ◌+◌, ◌≤◌, List, [], ◌�
 use Rattle.std.specs.Prelude.{⊤}
 use Rattle.std.specs.List.{AllByRecursion}
 use Rattle.lra_program.specs.Program.{Call, Rvalue, value, result, Stmt, absent, nothing, block, assign, call, if, loop, for, break, continue, return, assert, assume, BlockItems, no_more, declaration}
-use Rattle.lra_program.specs.Program.{switch, Cases, no_cases, labelled, stated, statement, Function, Program}
+use Rattle.lra_program.specs.Program.{array, write, switch, Cases, no_cases, labelled, stated, statement, Function, Program}
 use Rattle.lra_program.specs.Sites.{Site, Event, comes, one_call_more, greatest_calls, plain_site, live_behind, rvalue_events, given_events, stmt_events, cases_events, items_events, function_events}
 use Rattle.lra_program.specs.Sites.{call_events, events_of, sites_in, sites_of}
 use Rattle.lra_report.proofs.Every.{every_append}
@@ -29,6 +29,7 @@ module _ (inside : List ℕ → ℕ → Call → List Event) (path : List ℕ) (
     stmt_shallow live (block items end) =
         every_append IsShallow (items_events inside path live items) (plain_site path end (live_behind live items) ∷ []) (items_shallow live items) (here, tt)
     stmt_shallow live (assign at x e) = (here, rvalue_shallow live e)
+    stmt_shallow live (write at x e) = (here, rvalue_shallow live e)
     stmt_shallow live (call at c) = (here, deeper live c)
     stmt_shallow live (if at c a b) = (here, every_append IsShallow (stmt_events inside path live a) (stmt_events inside path live b) (stmt_shallow live a) (stmt_shallow live b))
     stmt_shallow live (loop at c a step) = (here, every_append IsShallow (stmt_events inside path live step) (stmt_events inside path live a) (stmt_shallow live step) (stmt_shallow live a))
@@ -56,6 +57,7 @@ module _ (inside : List ℕ → ℕ → Call → List Event) (path : List ℕ) (
     items_shallow live no_more = tt
     items_shallow live (declaration d items) =
         (here, every_append IsShallow (given_events inside path (suc live) d.rvalue) (items_events inside path (suc live) items) (given_shallow (suc live) d.rvalue) (items_shallow (suc live) items))
+    items_shallow live (array at a items) = (here, items_shallow live items)
     items_shallow live (statement t items) =
         every_append IsShallow (stmt_events inside path live t) (items_events inside path live items) (stmt_shallow live t) (items_shallow live items)
 
