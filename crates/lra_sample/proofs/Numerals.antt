@@ -5,14 +5,15 @@ use Rattle.std.proofs.lemmas.Bool.{cases_lt, or_right}
 use Rattle.std.proofs.lemmas.Fmt.{decimal_digit, decimal_step}
 use Rattle.std.specs.Fmt.{decimal}
 use Rattle.std.specs.List.{list_all}
-use Rattle.std.specs.Prelude.{codes, is_none, nat_le}
+use Rattle.std.specs.Prelude.{codes, nat_le, Some}
 use Rattle.std.proofs.lemmas.Bool.Decides.{nat_tests}
 use Rattle.lra_base.specs.declared.number_types.NumberType.TheVariants.{Int, Long}
 use Rattle.lra_tree.specs.declared.tokens.Kind.TheVariants.{Name, Number}
 use Rattle.lra_tree.specs.Lexeme.{is_between, is_digit, is_word_byte, is_letter, digit_value, number_behind}
 use Rattle.lra_tree.specs.Lexeme.{decimal_base, octal, greatest_literal, greatest_int_literal, literal_type, number_word, word, name, number}
 use Rattle.lra_tree.proofs.LongestByTest.{is_lexeme, begins_gap}
-use Rattle.lra_meaning.specs.Scope.{Entry, Scope, slot_of}
+use Rattle.lra_meaning.specs.Scope.{Entry, Scope, found_of, scalar}
+use Rattle.lra_program.specs.Program.{Slot, local}
 use Rattle.lra_tree.specs.Faults.{greatest_level}
 use Rattle.lra_tree.proofs.Lexemes.{IsGood, IsRead, as_read}
 
@@ -242,7 +243,7 @@ numeral n l = elim (cases_lt n 10) [ inl small ↦ one_of n small | inr large �
 -- variables ----------------------------------------------------------------------------------------------------------
 
 abbrev long_entry : List ℕ → Entry
-long_entry w = record { name = w; number_type = Long }
+long_entry w = record { name = w; meaning = scalar Long }
 
 -- the four of a sample source
 abbrev pub four : Scope
@@ -254,13 +255,14 @@ four = record {
 
 pub record IsVariable (x : ℕ) : Type 0 where
   pub good : IsGood 118 (x ∷ []) (Name (118 ∷ x ∷ []))
-  pub known : is_none (slot_of four (118 ∷ x ∷ [])) ≡ false
+  pub slot : Slot
+  pub known : found_of four (118 ∷ x ∷ []) ≡ Some (record { slot = slot; meaning = scalar Long })
 
 pub variable : (n : ℕ) → n < 4 → IsVariable (48 + n)
-variable zero l = record { good = record { lexeme = word refl; spells = name refl refl refl; gapless = refl }; known = refl }
-variable (suc zero) l = record { good = record { lexeme = word refl; spells = name refl refl refl; gapless = refl }; known = refl }
-variable (suc (suc zero)) l = record { good = record { lexeme = word refl; spells = name refl refl refl; gapless = refl }; known = refl }
-variable (suc (suc (suc zero))) l = record { good = record { lexeme = word refl; spells = name refl refl refl; gapless = refl }; known = refl }
+variable zero l = record { good = record { lexeme = word refl; spells = name refl refl refl; gapless = refl }; slot = local 0; known = refl }
+variable (suc zero) l = record { good = record { lexeme = word refl; spells = name refl refl refl; gapless = refl }; slot = local 1; known = refl }
+variable (suc (suc zero)) l = record { good = record { lexeme = word refl; spells = name refl refl refl; gapless = refl }; slot = local 2; known = refl }
+variable (suc (suc (suc zero))) l = record { good = record { lexeme = word refl; spells = name refl refl refl; gapless = refl }; slot = local 3; known = refl }
 variable (suc (suc (suc (suc n)))) l = absurd (omega (arith, l))
 
 pub is_name : {x o : ℕ} {cs : List ℕ} → IsVariable x → (c : ℕ) → is_word_byte c ≡ false →

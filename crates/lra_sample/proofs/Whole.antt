@@ -12,7 +12,7 @@ use Rattle.lra_tree.specs.declared.tokens.Token.{Token}
 use Rattle.lra_tree.specs.Lexeme.{word, name}
 use Rattle.lra_base.specs.Places.{place_behind}
 use Rattle.lra_tree.specs.Tokens.{tokens_of, end_token, Lex}
-use Rattle.lra_tree.specs.Trees.{compare, expression, ItemsTree, no_items, declaration, statement, assert, FunctionTree}
+use Rattle.lra_tree.specs.Trees.{compare, expression, scalar, ItemsTree, no_items, declaration, statement, assert, FunctionTree}
 use Rattle.lra_tree.specs.Trees.{function, FileTree}
 use Rattle.lra_tree.specs.Texts.{Pieces}
 use Rattle.lra_tree.specs.Grammar.{AreItems, IsFunction, Spells}
@@ -130,7 +130,7 @@ abbrev pub declared_tree : ℕ → Place → ItemsTree → ItemsTree
 declared_tree x at rest = declaration (record {
   number_type = Long;
   first = record
-      { name = var x at; rvalue = Some (expression (number 0)) };
+      { name = var x at; shape = scalar (Some (expression (number 0))) };
   rest = [];
 }) rest
 
