@@ -12,7 +12,7 @@ use Rattle.lra_lin.proofs.FormLemmas.{product_negated}
 use Rattle.lra_base.specs.declared.number_types.NumberType.{NumberType}
 use Rattle.lra_base.specs.NumberTypes.{wider}
 use Rattle.lra_base.specs.Operators.{Operator, plus, minus, times, over, modulo}
-use Rattle.lra_program.specs.Program.{Expr, literal, read, input, negate, binary, type_of}
+use Rattle.lra_program.specs.Program.{Expr, literal, read, input, negate, binary, element, type_of}
 use Rattle.lra_program.specs.Value.{◌>>=◌, number, is_zero, Scene, quotient, apply, value_of}
 use Rattle.lra_program.proofs.TypeLaws.{bind_some}
 use Rattle.lra_domain.specs.Actions.{Action, assign, Leads}
@@ -424,6 +424,7 @@ share_fits n base (literal t i) p is = cc
 share_fits n base (read x) p is = cc
 share_fits n base input p is = cc
 share_fits n base (negate e) p is = cc
+share_fits n base (element a at e) p is = cc
 share_fits n base (binary op a b) p is =
     let k = share_parts n base op a b p is in (
       record {
@@ -441,6 +442,7 @@ share_right s (literal t n) p draws left z is ran = cc
 share_right s (read x) p draws left z is ran = cc
 share_right s input p draws left z is ran = cc
 share_right s (negate e) p draws left z is ran = cc
+share_right s (element a at e) p draws left z is ran = cc
 share_right s (binary op a b) p draws left z is ran =
     let k = share_parts (length s.store) s.base op a b p is in
     let t = wider (type_of a) (type_of b) in

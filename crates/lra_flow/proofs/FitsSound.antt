@@ -18,14 +18,15 @@ use Rattle.lra_base.specs.declared.number_types.NumberType.{NumberType}
 use Rattle.lra_base.specs.declared.number_types.NumberType.TheVariants.{Int, Long}
 use Rattle.lra_base.specs.NumberTypes.{fits, wider}
 use Rattle.lra_base.proofs.TypeLimits.{limits_of, fits_between, int_is_long, fits_long, fits_wider}
-use Rattle.lra_program.specs.Program.{Expr, literal, read, input, negate, binary, type_of, Cond, compare, nonzero, opposite, both_of, either_of}
+use Rattle.lra_program.specs.Program.{Expr, literal, read, input, negate, binary, element, type_of, Element, Cond, compare, nonzero, opposite, both_of}
+use Rattle.lra_program.specs.Program.{either_of}
 use Rattle.lra_program.specs.Value.{◌>>=◌, number, is_zero, quotient, apply, Scene, value_of, truth_of, Argument}
 use Rattle.lra_program.specs.declared.receivers.Way.{Way}
 use Rattle.lra_program.specs.declared.receivers.Way.TheVariants.{Wide, Short, Shortened}
 use Rattle.lra_program.specs.declared.receivers.Target.{Target}
 use Rattle.lra_program.specs.declared.receivers.Receiver.{Receiver}
-use Rattle.lra_program.specs.Receivers.{lets_through, parameter_of, converts_to, target_accepts, accepts}
-use Rattle.lra_program.specs.Step.{State, scene_at, Op, append, give, give_any, push, keep, test}
+use Rattle.lra_program.specs.Receivers.{waiting_in, lets_through, parameter_of, converts_to, target_accepts, accepts}
+use Rattle.lra_program.specs.Step.{State, scene_at, Op, append, fill, give, give_element, give_any, push, push_for, keep, test, aim}
 use Rattle.lra_program.specs.Overflow.{ExprOverflows, EitherOverflows, CondOverflows, GivenOverflows, ArgumentsOverflow, OpOverflows}
 use Rattle.lra_program.proofs.TypeLaws.{bind_some, value_has_its_type, refused_converts}
 use Rattle.lra_operations.specs.Asked.{FreshOverflows}
@@ -38,6 +39,7 @@ use Rattle.lra_flow.specs.Fits.{Declares, FittingNeverOverflow}
 use Rattle.lra_flow.proofs.FormLemmas.{form_wide, constant_value, negated_value, exact_forms, forms_are_right}
 use Rattle.lra_flow.proofs.CondKeeping.{cond_leads}
 use Rattle.lra_flow.proofs.Covers.{Has}
+use Rattle.lra_flow.proofs.Keeping.{aim_keeps}
 use Rattle.lra_flow.proofs.Keeps.{moves_keep, changes_keep}
 
 -- numbers of a type ----------------------------------------------------------------------------------------------------
@@ -250,6 +252,7 @@ module _ {V H : Type 0} (m : Meaning V H) (laws : Laws m) (s : Scene) where
         operator_goes t op a b draws r q ran ran_too (fits_wider (type_of a) (type_of b) r.0 (value_has_its_type a s draws r ran))
         (answered (OperatorFits m v t op (form_of (m.dims v) s.base (binary op a b)) (form_of (m.dims v) s.base b)) c answer
         (last_so c (split_so bs (xs ++ ys) (c ∷ []) is all).1)) stop
+    expr_goes (element a at e) bs draws judged all stops = expr_goes e bs draws judged all stops
 
     -- nor the conversion behind it
     conversion_goes : (b : Bool) (e : Expr) (ys : List Bool) (draws : List ℤ) (r : ℤ × List ℤ) → ConversionJudged m v s.base b e ys → AllSo ys → value_of e s
@@ -308,12 +311,25 @@ module _ {V H : Type 0} (m : Meaning V H) (laws : Laws m) (s : Scene) where
 -- operations -------------------------------------------------------------------------------------------------------------
 
 module _ {V H : Type 0} (m : Meaning V H) (laws : Laws m) where
+  -- behind an element's index
+  still_held : (base : ℕ) (x : Element) (v : V) (s n : State) → Has m v s.store → aim base x s ≡ Some n → Has m v n.store
+  still_held base x v s n held aimed = subst (λ (xs : List ℤ). Has m v xs) (sym (aim_keeps base x s n aimed)) held
+
   op_goes : (op : Op) (v : V) (bs : List Bool) (e : Exactness) (s : State) → Has m v s.store → OpJudged m (dropping m) op v bs e → AllSo bs → OpOverflows op s
       → ⊥
   op_goes (append t) v bs e s held judged all stops = stops
+  op_goes (fill a) v bs e s held judged all stops = stops
   op_goes (give base x a) v bs e s held judged all stops = receiver_goes m laws (scene_at base s) v held x a bs s.draws judged.0 all stops
+  op_goes (give_element base x a) v bs e s held ((xs, ys, first, later, is), exact) all (inl stops) =
+      expr_goes m laws (scene_at base s) v held x.index xs s.draws first (split_so bs xs ys is all).0 stops
+  op_goes (give_element base x a) v bs e s held ((xs, ys, first, later, is), exact) all (inr (n, aimed, stops)) =
+      receiver_goes m laws (scene_at base n) v (still_held base x v s n held aimed) (waiting_in x.array) a ys n.draws later (split_so bs xs ys is all).1 stops
   op_goes (give_any x) v bs e s held judged all stops = stops
   op_goes (push base given) v bs e s held judged all stops = arguments_go m laws (scene_at base s) v held given bs s.draws judged.0 all stops
+  op_goes (push_for base x given) v bs e s held ((xs, ys, first, later, is), exact) all (inl stops) =
+      expr_goes m laws (scene_at base s) v held x.index xs s.draws first (split_so bs xs ys is all).0 stops
+  op_goes (push_for base x given) v bs e s held ((xs, ys, first, later, is), exact) all (inr (n, aimed, stops)) =
+      arguments_go m laws (scene_at base n) v (still_held base x v s n held aimed) given ys n.draws later (split_so bs xs ys is all).1 stops
   op_goes (keep n) v bs e s held judged all stops = stops
   op_goes (test base c wanted) v bs e s held judged all stops = cond_goes m laws (scene_at base s) c v bs e s.draws held judged all stops
 

@@ -14,7 +14,7 @@ use Rattle.lra_linear.proofs.Ring.{ring, v, ⊖, ◌⊕◌, ◌⊗◌}
 use Rattle.lra_base.specs.Operators.{Operator, plus, minus, times, over, modulo, Comparison, below, at_most, above, at_least, equal, differs}
 use Rattle.lra_base.specs.declared.number_types.NumberType.{NumberType}
 use Rattle.lra_base.specs.NumberTypes.{fits, wider}
-use Rattle.lra_program.specs.Program.{Expr, literal, read, input, negate, binary, type_of, compare}
+use Rattle.lra_program.specs.Program.{Expr, literal, read, input, negate, binary, element, type_of, compare}
 use Rattle.lra_program.proofs.TypeLaws.{bind_some}
 use Rattle.lra_program.specs.Value.{◌>>=◌, number, is_word, is_zero, index_of, Scene, apply, compares, value_of, truth_of}
 use Rattle.lra_flow.specs.Linear.{fitting, entrywise, combined, scaled, is_constant, operator_form, constant_form, live_form, variable_form, form_of, form_in, exactly, OperatorFormsAreExact, FormsAreRight, TestHolds, negated_form, less_one}
@@ -195,6 +195,7 @@ form_wide live base (binary op a b) f is =
     let (g, of, to) = bind_some (form_of live base a) (λ x. form_of live base b >>= λ y. operator_form op x y) f is in
     let (h, of_too, result) = bind_some (form_of live base b) (λ y. operator_form op g y) f to in
     operator_wide live op g h f result (form_wide live base a g of) (form_wide live base b h of_too)
+form_wide live base (element a at e) f is = cc
 
 -- values ---------------------------------------------------------------------------------------------------------------
 
@@ -293,6 +294,7 @@ forms_are_right s (binary op a b) f draws left z is ran =
     let same : y ≡ z = some_first y z q.1 left end in
     operator_value op g h f s.store r.0 q.0 (form_wide (length s.store) s.base a g of) (form_wide (length s.store) s.base b h of_too) result
     (forms_are_right s a g draws r.1 r.0 of got) (forms_are_right s b h r.1 q.1 q.0 of_too got_too) ∙ exactly_is t op g h f r.0 q.0 y result fit ∙ same
+forms_are_right s (element a at e) f draws left z is ran = cc
 
 -- tests ----------------------------------------------------------------------------------------------------------------
 

@@ -10,12 +10,18 @@ use Rattle.lra_base.specs.NumberTypes.{fits, wider, least_of}
 use Rattle.lra_base.proofs.TypeLimits.{limits_of}
 use Rattle.lra_program.specs.declared.program.GlobalVariable.{GlobalVariable}
 use Rattle.lra_program.specs.WellFormed.{AreGoodGlobals}
+use Rattle.lra_program.specs.declared.receivers.Cell.{Cell}
+use Rattle.lra_program.specs.declared.receivers.Cell.TheVariants.{Variable, Waiting}
 use Rattle.lra_program.specs.declared.receivers.Target.{Target}
 use Rattle.lra_program.specs.declared.receivers.Receiver.{Receiver}
-use Rattle.lra_program.specs.Receivers.{lets_through, target_accepts, accepts}
-use Rattle.lra_program.specs.Program.{Expr, literal, read, input, negate, binary, type_of, Cond}
-use Rattle.lra_program.specs.Value.{◌>>=◌, number, index_of, Scene, apply, Argument, Drawn, draw, value_of, values_of, truth_of}
-use Rattle.lra_program.specs.Step.{State, Op, append, give, give_any, push, keep, put, receive, kept_if, drawn_for, pushed, scene_at, run_op}
+use Rattle.lra_program.specs.Receivers.{waiting_in, lets_through, target_accepts, accepts}
+use Rattle.lra_base.specs.declared.refusals.Place.{Place}
+use Rattle.lra_program.specs.Arrays.{elements_of, place_among}
+use Rattle.lra_program.specs.declared.arrays.Array.{Array}
+use Rattle.lra_program.specs.Program.{Expr, literal, read, input, negate, binary, element, type_of, Element, Cond}
+use Rattle.lra_program.specs.Value.{◌>>=◌, number, index_of, Scene, apply, Argument, Drawn, draw, draws_of, value_of, values_of, truth_of}
+use Rattle.lra_program.specs.Step.{State, Op, append, fill, give, give_element, give_any, push, push_for, keep, put, put_in, put_waiting, receive, kept_if}
+use Rattle.lra_program.specs.Step.{drawn_for, pushed, filled, aim, scene_at, run_op}
 use Rattle.lra_program.proofs.TypeLaws.{bind_some, number_fits}
 use Rattle.lra_program.specs.Step as step
 use Rattle.lra_flow.specs.Linear as linear
@@ -23,7 +29,8 @@ use Rattle.lra_flow.specs.declared.seen.Seen.{Seen}
 use Rattle.lra_flow.specs.declared.seen.Seen.TheVariants.{Linear, Unseen}
 use Rattle.lra_flow.specs.Seen.{seen_of}
 use Rattle.lra_domain.specs.Moves.{Moves, make, MayLead}
-use Rattle.lra_flow.specs.MovesOf.{above_least, below_greatest, within_type, set_to, append_set, push_all, set_target, drop_last, moves_of, first_values, guard}
+use Rattle.lra_flow.specs.MovesOf.{above_least, below_greatest, within_type, set_to, append_set, push_all, set_target, drop_last, moves_of}
+use Rattle.lra_flow.specs.MovesOf.{set_cell, first_values, guard}
 use Rattle.lra_linear.proofs.Ring.{ring, v, ◌⊗◌}
 use Rattle.std.proofs.lemmas.Bool.{and_parts}
 use Rattle.std.proofs.lemmas.Int.{ints}
@@ -62,6 +69,11 @@ value_longer (binary op a b) s more draws r is =
     let (q, got_too, last) = bind_some (value_of b s p.1) (λ q. apply t op p.0 q.0 >>= λ z. Some (z, q.1)) r to in
     then_is (value_of a (longer s more) draws) (λ p. value_of b (longer s more) p.1 >>= λ q. apply t op p.0 q.0 >>= λ z. Some (z, q.1)) p (Some r) (value_longer a s more draws p got)
     (then_is (value_of b (longer s more) p.1) (λ q. apply t op p.0 q.0 >>= λ z. Some (z, q.1)) q (Some r) (value_longer b s more p.1 q got_too) last)
+value_longer (element a at e) s more draws r is =
+    let found : ℤ × List ℤ → Drawn ℤ = λ p. place_among a.length p.0 >>= λ k.
+    slice_get (elements_of a.declared s.arrays) k >>= λ y. number a.number_type y >>= λ z. Some (z, p.1) in
+    let (p, got, to) = bind_some (value_of e s draws) found r is in
+    then_is (value_of e (longer s more) draws) found p (Some r) (value_longer e s more draws p got) to
 
 -- a state that is there
 pub some_is : {A : Type 0} (x y : A) → Some x ≡ Some y → x ≡ y
@@ -171,29 +183,41 @@ record Received (x : Receiver) (s t : State) (o : Drawn ℤ) : Type 0 where
   drawn : ℤ × List ℤ
   is : o ≡ Some drawn
   accepted : target_accepts x.target drawn.0 ≡ true
-  stored : put x.target drawn.0 s.store ≡ t.store
+  stored : (put x.target drawn.0 (record s { draws = drawn.1 })).store ≡ t.store
 
 received : (x : Receiver) (s t : State) (o : Drawn ℤ) → receive x s o ≡ Some t → Received x s t o
 received x s t None e = cc
 received x s t (Some r) e = by (accepts x r.0) refl e
   where
-    by : (b : Bool) → accepts x r.0 ≡ b → kept_if true b (record s { store = put x.target r.0 s.store; draws = r.1 }) ≡ Some t → Received x s t (Some r)
+    by : (b : Bool) → accepts x r.0 ≡ b → kept_if true b (put x.target r.0 (record s { draws = r.1 })) ≡ Some t → Received x s t (Some r)
     by true ok h = record {
       drawn = r;
       is = refl;
       accepted = (and_parts (lets_through x.way r.0) (target_accepts x.target r.0) ok).1;
-      stored = store_is (record s { store = put x.target r.0 s.store; draws = r.1 }) t h;
+      stored = store_is (put x.target r.0 (record s { draws = r.1 })) t h;
     }
     by false ok h = cc
 
+-- what an element gets changes no variable
+waiting_keeps : (p : Place) (z : ℤ) (ks : List ℕ) (s : State) → (put_waiting p z ks s).store ≡ s.store
+waiting_keeps p z [] s = refl
+waiting_keeps p z (k ∷ ks) s = refl
+
+-- a variable gets a number of its type
+cell_leads : (t : NumberType) (c : Cell) (w : Seen) (s : State) (z : ℤ) → fits t z ≡ true
+    → ((x : ℕ) → MayLead (set_to (length s.store) x w) s.store (slice_set s.store x z))
+    → MayLead (set_cell (length s.store) t c w) s.store (put_in c z s).store
+cell_leads t (Variable x) w s z ok led =
+    within_type_keeps t (set_to (length s.store) x w) (length s.store) s.store (slice_set s.store x z) x z
+    (sym (set_length s.store x z)) (get_set s.store x z) ok (led x)
+cell_leads t (Waiting p) w s z ok led = waiting_keeps p z s.waiting s
+
 -- the target, where there is one, gets a number of its type
-target_leads : (o : Option Target) (w : Seen) (store : List ℤ) (z : ℤ) → target_accepts o z ≡ true
-    → ((x : ℕ) → MayLead (set_to (length store) x w) store (slice_set store x z))
-    → MayLead (set_target (length store) o w) store (put o z store)
-target_leads None w store z ok led = refl
-target_leads (Some t) w store z ok led =
-    within_type_keeps t.number_type (set_to (length store) t.place w) (length store) store (slice_set store t.place z) t.place z
-    (sym (set_length store t.place z)) (get_set store t.place z) ok (led t.place)
+target_leads : (o : Option Target) (w : Seen) (s : State) (z : ℤ) → target_accepts o z ≡ true
+    → ((x : ℕ) → MayLead (set_to (length s.store) x w) s.store (slice_set s.store x z))
+    → MayLead (set_target (length s.store) o w) s.store (put o z s).store
+target_leads None w s z ok led = refl
+target_leads (Some t) w s z ok led = cell_leads t.number_type t.cell w s z ok led
 
 given_leads : (base : ℕ) (x : Receiver) (e : Expr) (s t : State) → receive x s (value_of e (scene_at base s) s.draws) ≡ Some t
     → MayLead (set_target (length s.store) x.target (seen_of (length s.store) base e)) s.store t.store
@@ -201,16 +225,18 @@ given_leads base x e s t is =
     let r = received x s t (value_of e (scene_at base s) s.draws) is in
     let w = seen_of (length s.store) base e in
     subst (λ (xs : List ℤ). MayLead (set_target (length s.store) x.target w) s.store xs) r.stored
-    (target_leads x.target w s.store r.drawn.0 r.accepted (λ k. set_leads (scene_at base s) k e s.draws r.drawn.1 r.drawn.0 r.is))
+    (target_leads x.target w (record s { draws = r.drawn.1 }) r.drawn.0 r.accepted (λ k. set_leads (scene_at base s) k e s.draws r.drawn.1 r.drawn.0 r.is))
 
 any_leads : (o : Option Target) (x : Receiver) (s t : State) → x.target ≡ o → drawn_for o x s ≡ Some t
     → MayLead (set_target (length s.store) o Unseen) s.store t.store
 any_leads None x s t same is = sym (store_is s t is)
 any_leads (Some y) x s t same is =
     let r = received x s t (draw s.draws) is in
-    let stored : put (Some y) r.drawn.0 s.store ≡ t.store = subst (λ (o : Option Target). put o r.drawn.0 s.store ≡ t.store) same r.stored in
+    let left : State = record s { draws = r.drawn.1 } in
+    let stored : (put (Some y) r.drawn.0 left).store ≡ t.store = subst (λ (o : Option Target). (put o r.drawn.0 left).store ≡ t.store) same r.stored in
     subst (λ (xs : List ℤ). MayLead (set_target (length s.store) (Some y) Unseen) s.store xs) stored
-    (target_leads (Some y) Unseen s.store r.drawn.0 (subst (λ (o : Option Target). target_accepts o r.drawn.0 ≡ true) same r.accepted) (λ k. (r.drawn.0, refl)))
+    (target_leads (Some y) Unseen left r.drawn.0 (subst (λ (o : Option Target). target_accepts o r.drawn.0 ≡ true) same r.accepted)
+    (λ k. (r.drawn.0, refl)))
 
 pushed_leads : (base : ℕ) (given : List Argument) (s t : State) (o : Drawn (List ℤ)) → values_of given (scene_at base s) s.draws ≡ o → pushed s o ≡ Some t
     → MayLead (push_all (length s.store) base given) s.store t.store
@@ -247,6 +273,18 @@ test_leads base c false s t (Some (false, left)) ran is = tested_leads base c fa
 test_leads base c true s t (Some (false, left)) ran is = cc
 test_leads base c false s t (Some (true, left)) ran is = cc
 
+-- nor do an array's new elements, or an index that waits from now on
+filled_keeps : (a : Array) (s t : State) (o : Drawn (List ℤ)) → filled a s o ≡ Some t → t.store ≡ s.store
+filled_keeps a s t None is = cc
+filled_keeps a s t (Some r) is = sym (store_is (record s { arrays = (a.declared, r.0) ∷ s.arrays; draws = r.1 }) t is)
+
+pub aim_keeps : (base : ℕ) (x : Element) (s t : State) → aim base x s ≡ Some t → t.store ≡ s.store
+aim_keeps base x s t is =
+    let waits : ℤ × List ℤ → ℕ → State = λ r k. record s { waiting = k ∷ s.waiting; draws = r.1 } in
+    let (r, got, on) = bind_some (value_of x.index (scene_at base s) s.draws) (λ r. place_among x.array.length r.0 >>= λ k. Some (waits r k)) t is in
+    let (k, there, to) = bind_some (place_among x.array.length r.0) (λ k. Some (waits r k)) t on in
+    sym (store_is (waits r k) t to)
+
 -- the moves of a least change lead where it leads
 pub op_leads : (op : Op) (s t : State) → run_op op s ≡ Some t → MayLead (moves_of (length s.store) op) s.store t.store
 op_leads (append x) s t is =
@@ -255,9 +293,17 @@ op_leads (append x) s t is =
     let next = s.store ++ z ∷ [] in
     subst (λ (xs : List ℤ). MayLead (moves_of (length s.store) (append x)) s.store xs) (store_is (record s { store = next; draws = r.1 }) t to)
     (within_type_keeps x (make (embed 1)) (suc (length s.store)) s.store next (length s.store) z (last_long s.store z) (inl (get_last s.store z)) (number_fits x r.0 z held) (z ∷ [], refl, refl))
+op_leads (fill a) s t is = filled_keeps a s t (draws_of a.number_type a.length s.draws) is
 op_leads (give base x e) s t is = given_leads base x e s t is
+op_leads (give_element base x e) s t is =
+    let (m, aimed, on) = bind_some (aim base x s) (λ m. receive (waiting_in x.array) m (value_of e (scene_at base m) m.draws)) t is in
+    given_leads base (waiting_in x.array) e m t on ∙ aim_keeps base x s m aimed
 op_leads (give_any x) s t is = any_leads x.target x s t refl is
 op_leads (push base given) s t is = pushed_leads base given s t (values_of given (scene_at base s) s.draws) refl is
+op_leads (push_for base x given) s t is =
+    let (m, aimed, on) = bind_some (aim base x s) (λ m. pushed m (values_of given (scene_at base m) m.draws)) t is in
+    subst (λ (xs : List ℤ). MayLead (push_all (length xs) base given) xs t.store) (aim_keeps base x s m aimed)
+    (pushed_leads base given m t (values_of given (scene_at base m) m.draws) refl on)
 op_leads (keep n) s t is =
     subst (λ (xs : List ℤ). MayLead (drop_last (length s.store - n)) s.store xs) (store_is (record s { store = take n s.store }) t is)
     (dropped_leads s.store n (length s.store - n) refl)

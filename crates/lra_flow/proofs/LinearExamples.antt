@@ -50,7 +50,7 @@ greater_test = refl
 
 -- x < y at -2^63 and 2^63 - 1, whose difference has no value: the comparison is true, and its test passes; catches a test of the difference's value
 abbrev at_ends : Scene
-at_ends = record { base = 0; store = negsuc 9223372036854775807 ∷ pos 9223372036854775807 ∷ [] }
+at_ends = record { base = 0; store = negsuc 9223372036854775807 ∷ pos 9223372036854775807 ∷ []; arrays = [] }
 
 test_past_words : (truth_of (compare below x y) at_ends [] ≡ Some (true, [])) × (value_of (binary minus x y) at_ends [] ≡ None)
     × TestHolds (record { expr = form (negsuc 0) (negsuc 0 ∷ pos 1 ∷ []); kind = Ge }) at_ends.store

@@ -14,10 +14,12 @@ use Rattle.lra_base.specs.declared.number_types.NumberType.TheVariants.{Int, Lon
 use Rattle.lra_base.specs.declared.number_types.NumberType.{NumberType}
 use Rattle.lra_linear.specs.declared.ConKind.TheVariants.{Ge}
 use Rattle.lra_program.specs.declared.program.GlobalVariable.{GlobalVariable}
+use Rattle.lra_program.specs.declared.receivers.Cell.{Cell}
+use Rattle.lra_program.specs.declared.receivers.Cell.TheVariants.{Variable, Waiting}
 use Rattle.lra_program.specs.declared.receivers.Target.{Target}
 use Rattle.lra_program.specs.Value.{Argument}
 use Rattle.lra_program.specs.Program.{Expr, literal, Cond, compare, nonzero, opposite, both_of, either_of}
-use Rattle.lra_program.specs.Step.{Op, append, give, give_any, push, keep, test}
+use Rattle.lra_program.specs.Step.{Op, append, fill, give, give_element, give_any, push, push_for, keep, test}
 use Rattle.lra_flow.specs.Linear as linear
 use Rattle.lra_flow.specs.Linear.{comparison_test, difference_form}
 use Rattle.lra_flow.specs.declared.seen.Division.{Division}
@@ -30,7 +32,8 @@ use Rattle.lra_flow.proofs.Takes.{worse_exact, worse_worse, stay_takes, then_tak
 use Rattle.lra_domain.specs.Moves.{Moves, stay, make, first_then, join_of}
 use Rattle.lra_flow.specs.Moves.{AreMade, Takes}
 use Rattle.lra_flow.specs.MovesOf.{opposite_comparison, comparison_as, tested, first_case, second_case, in_case, in_cases, test_moves, case_moves, seen_moves}
-use Rattle.lra_flow.specs.MovesOf.{split_moves, comparison_moves, guard, above_least, below_greatest, within_type, set_to, append_set, push_all, set_target}
+use Rattle.lra_flow.specs.MovesOf.{split_moves, comparison_moves, guard, above_least, below_greatest, within_type, set_to, append_set, push_all, set_cell}
+use Rattle.lra_flow.specs.MovesOf.{set_target}
 use Rattle.lra_flow.specs.MovesOf.{drop_last, first_values}
 use Rattle.lra_flow.specs.Pass.{Leaves, Changes}
 
@@ -67,15 +70,22 @@ abbrev pub last_dropped : ℕ → List Step
 last_dropped zero = []
 last_dropped (suc k) = act (remove_last (suc k)) ∷ []
 
+abbrev pub cell_steps : ℕ → NumberType → Cell → Seen → List Step
+cell_steps live t (Variable x) w = within_steps t live x (set_step live x w ∷ [])
+cell_steps live t (Waiting p) w = []
+
 abbrev pub target_steps : ℕ → Option Target → Seen → List Step
 target_steps live None w = []
-target_steps live (Some t) w = within_steps t.number_type live t.place (set_step live t.place w ∷ [])
+target_steps live (Some t) w = cell_steps live t.number_type t.cell w
 
 abbrev pub steps_of : ℕ → Op → List Step
 steps_of live (append t) = within_steps t (suc live) live (act (embed 1) ∷ [])
+steps_of live (fill a) = []
 steps_of live (give base x e) = target_steps live x.target (seen_of live base e)
+steps_of live (give_element base x e) = []
 steps_of live (give_any x) = target_steps live x.target Unseen
 steps_of live (push base given) = all_pushed live base given
+steps_of live (push_for base x given) = all_pushed live base given
 steps_of live (keep n) = last_dropped (live - n)
 steps_of live (test base c wanted) = []
 
@@ -301,10 +311,13 @@ module _ (V H : Type 0) (ops : Operations V H) where
       then_agree (within_type a.number_type (suc live) live (append_set live f)) (push_all (suc live) base rest) (within_steps a.number_type (suc live) live (set_last live f))
       (all_pushed (suc live) base rest) (within_agree a.number_type (suc live) live (append_set live f) (set_last live f) (set_agrees live f)) (push_agrees (suc live) base rest) v e w
 
+  cell_agrees : (live : ℕ) (t : NumberType) (c : Cell) (s : Seen) → Agree (set_cell live t c s) (cell_steps live t c s)
+  cell_agrees live t (Variable x) s v e w = within_agree t live x (set_to live x s) (set_step live x s ∷ []) (set_made live x s) v e w
+  cell_agrees live t (Waiting p) s v e w = (λ h. h, λ h. h)
+
   target_agrees : (live : ℕ) (o : Option Target) (s : Seen) → Agree (set_target live o s) (target_steps live o s)
   target_agrees live None s v e w = (λ h. h, λ h. h)
-  target_agrees live (Some t) s v e w =
-      within_agree t.number_type live t.place (set_to live t.place s) (set_step live t.place s ∷ []) (set_made live t.place s) v e w
+  target_agrees live (Some t) s v e w = cell_agrees live t.number_type t.cell s v e w
 
   pub first_agrees : (live : ℕ) (gs : List GlobalVariable) → Agree (first_values live gs) (values_first live gs)
   first_agrees live [] v e w = (λ h. h, λ h. h)
@@ -433,9 +446,12 @@ module _ (V H : Type 0) (ops : Operations V H) where
   pub changes_agree : (op : Op) (v : V) (e : Exactness) (w : V) → Changes ops op v e w ↔ DoesChange V H ops op v e w
   changes_agree (append t) v e w =
       within_agree V H ops t (suc (ops.dims v)) (ops.dims v) (make (embed 1)) (act (embed 1) ∷ []) (one_made V H ops (embed 1)) v e w
+  changes_agree (fill a) v e w = (λ h. h, λ h. h)
   changes_agree (give base x y) v e w = target_agrees V H ops (ops.dims v) x.target (seen_of (ops.dims v) base y) v e w
+  changes_agree (give_element base x y) v e w = (λ h. h, λ h. h)
   changes_agree (give_any x) v e w = target_agrees V H ops (ops.dims v) x.target Unseen v e w
   changes_agree (push base given) v e w = push_agrees V H ops (ops.dims v) base given v e w
+  changes_agree (push_for base x given) v e w = push_agrees V H ops (ops.dims v) base given v e w
   changes_agree (keep n) v e w = drop_agrees V H ops (ops.dims v - n) v e w
   changes_agree (test base c wanted) v e w = leaves_agree base c wanted v e w
 

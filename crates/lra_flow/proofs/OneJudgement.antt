@@ -11,10 +11,10 @@ use Rattle.lra_domain.specs.declared.Exactness.{Exactness}
 use Rattle.lra_domain.specs.declared.Exactness.TheVariants.{Exact}
 use Rattle.lra_base.specs.declared.number_types.NumberType.{NumberType}
 use Rattle.lra_program.specs.declared.receivers.Receiver.{Receiver}
-use Rattle.lra_program.specs.Receivers.{parameter_of, converts_to}
-use Rattle.lra_program.specs.Program.{Expr, literal, read, input, negate, binary, type_of, Cond, compare, nonzero, opposite, both_of, either_of}
+use Rattle.lra_program.specs.Receivers.{waiting_in, parameter_of, converts_to}
+use Rattle.lra_program.specs.Program.{Expr, literal, read, input, negate, binary, element, type_of, Cond, compare, nonzero, opposite, both_of, either_of}
 use Rattle.lra_program.specs.Value.{Argument}
-use Rattle.lra_program.specs.Step.{Op, append, give, give_any, push, keep, test}
+use Rattle.lra_program.specs.Step.{Op, append, fill, give, give_element, give_any, push, push_for, keep, test}
 use Rattle.lra_operations.specs.Asked.{Asked}
 use Rattle.lra_operations.specs.Graph.{Node}
 use Rattle.lra_flow.specs.Operations.{Operations, defined, dropping, straining}
@@ -47,6 +47,7 @@ module _ {V H : Type 0} (m : Meaning V H) where
         is ∙ rw (one_expr e xs ys one two, one_answer v _ b c so too) refl ∙ sym same
     one_expr (binary op e f) bs cs (xs, us, b, one, two, so, is) (ys, ws, c, first, second, too, same) =
         is ∙ rw (one_expr e xs ys one first, one_expr f us ws two second, one_answer v _ b c so too) refl ∙ sym same
+    one_expr (element a at e) bs cs x y = one_expr e bs cs x y
 
     one_conversion : (k : Bool) (e : Expr) (bs cs : List Bool) → ConversionJudged m v base k e bs → ConversionJudged m v base k e cs → bs ≡ cs
     one_conversion false e bs cs x y = x ∙ sym y
@@ -78,9 +79,14 @@ module _ {V H : Type 0} (m : Meaning V H) where
 
     one_op : (op : Op) (v : V) (bs cs : List Bool) (e f : Exactness) → OpJudged m ops op v bs e → OpJudged m ops op v cs f → bs ≡ cs
     one_op (append t) v bs cs e f x y = x.0 ∙ sym y.0
+    one_op (fill a) v bs cs e f x y = x.0 ∙ sym y.0
     one_op (give base x a) v bs cs e f k l = one_given v base x a bs cs k.0 l.0
+    one_op (give_element base x a) v bs cs e f ((xs, us, one, two, is), exact) ((ys, ws, first, second, same), also) =
+        is ∙ rw (one_expr v base x.index xs ys one first, one_given v base (waiting_in x.array) a us ws two second) refl ∙ sym same
     one_op (give_any x) v bs cs e f k l = k.0 ∙ sym l.0
     one_op (push base given) v bs cs e f k l = one_arguments v base given bs cs k.0 l.0
+    one_op (push_for base x given) v bs cs e f ((xs, us, one, two, is), exact) ((ys, ws, first, second, same), also) =
+        is ∙ rw (one_expr v base x.index xs ys one first, one_arguments v base given us ws two second) refl ∙ sym same
     one_op (keep n) v bs cs e f x y = x.0 ∙ sym y.0
     one_op (test base c wanted) v bs cs e f x y = one_cond base c v bs cs e f x y
 
@@ -121,9 +127,12 @@ module _ {V H : Type 0} (m : Meaning V H) (b : Operations V H) (Keeps : Exactnes
 
   op_moved : (op : Op) (v : V) (bs : List Bool) (e : Exactness) → Keeps e → OpJudged m (dropping m) op v bs e → OpJudged m b op v bs e
   op_moved (append t) v bs e k h = h
+  op_moved (fill a) v bs e k h = h
   op_moved (give base x a) v bs e k h = h
+  op_moved (give_element base x a) v bs e k h = h
   op_moved (give_any x) v bs e k h = h
   op_moved (push base given) v bs e k h = h
+  op_moved (push_for base x given) v bs e k h = h
   op_moved (keep n) v bs e k h = h
   op_moved (test base c wanted) v bs e k h = cond_moved base c v bs e k h
 

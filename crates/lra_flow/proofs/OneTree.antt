@@ -5,15 +5,16 @@ use Rattle.lra_base.specs.declared.number_types.NumberType.{NumberType}
 use Rattle.lra_program.specs.declared.receivers.Receiver.{Receiver}
 use Rattle.lra_program.specs.Receivers.{variable_at, behind_result}
 use Rattle.lra_program.specs.Program.{Call, Rvalue, Stmt, Cases, BlockItems, Function, Program}
-use Rattle.lra_program.specs.Step.{Back}
-use Rattle.lra_program.specs.Value.{index_of}
+use Rattle.lra_program.specs.Step.{Back, Op, push, push_for}
+use Rattle.lra_program.specs.Value.{Argument, index_of}
 use Rattle.lra_program.specs.Sites.{Site, sites_of}
 use Rattle.lra_operations.specs.Graph.{Node, Arms}
 use Rattle.lra_operations.specs.Inlined.{Spot, move, at_point, within, among_cases, into_callee, Inl, InlCases}
-use Rattle.lra_operations.specs.Inlined.{InlAll, Declares, Loops, Gives, as_nothing, as_block, as_absent, as_assign, as_call, as_if, as_loop, as_for, as_break}
+use Rattle.lra_operations.specs.Inlined.{InlAll, Declares, Loops, Gives, Calls, as_nothing, as_block, as_absent, as_assign, as_write, as_write_call, as_call}
+use Rattle.lra_operations.specs.Inlined.{as_if, as_loop, as_for, as_break}
 use Rattle.lra_operations.specs.Inlined.{as_continue, as_return, as_return_value, as_return_call, as_end, as_end_value, as_end_call, as_assert, as_assume}
-use Rattle.lra_operations.specs.Inlined.{as_switch, as_no_cases, as_labelled, as_stated, as_none, as_declaration, as_statement}
-use Rattle.lra_operations.specs.Inlined.{as_fresh, as_given, is_loop, as_value, as_result}
+use Rattle.lra_operations.specs.Inlined.{as_switch, as_no_cases, as_labelled, as_stated, as_none, as_declaration, as_array, as_statement}
+use Rattle.lra_operations.specs.Inlined.{as_fresh, as_given, is_loop, as_value, as_result, is_call}
 use Rattle.lra_operations.specs.Agree.{IsGraph}
 
 -- the same tree, and the same number behind it
@@ -41,6 +42,9 @@ module _ (P : Program) (T : List Site) where
     one_statement z as_absent as_absent = rw z (refl, refl)
     one_statement z (as_assign {s = s} {x = x} i d) (as_assign {s = t} j e) =
         let (k, l) = one_value z (ap (λ (u : Spot). suc u.next) z) (ap (λ (u : Spot). variable_at (index_of u.frame.here.base x.slot) x.number_type) z) d e in rw (z, k, l) (refl, refl)
+    one_statement z (as_write i) (as_write j) = rw z (refl, refl)
+    one_statement z (as_write_call {s = s} {x = x} i d) (as_write_call {s = t} j e) =
+        let (k, l) = one_call z (ap (λ (u : Spot). suc u.next) z) refl (ap (λ (u : Spot). push_for u.frame.here.base x) z) d e in rw (z, k, l) (refl, refl)
     one_statement z (as_call i d) (as_call j e) = let (k, l) = one_value z (ap (λ (u : Spot). suc u.next) z) refl d e in rw (z, k, l) (refl, refl)
     one_statement z (as_if {s = s} i d k) (as_if {s = t} j e l) =
         let (x, y) = one_statement (ap (λ (u : Spot). at_point u (suc u.next)) z) d e in
@@ -70,6 +74,8 @@ module _ (P : Program) (T : List Site) where
     one_statement z (as_block d k) (as_loop e) = elim e [ ]
     one_statement z as_absent (as_loop e) = elim e [ ]
     one_statement z (as_assign d k) (as_loop e) = elim e [ ]
+    one_statement z (as_write d) (as_loop e) = elim e [ ]
+    one_statement z (as_write_call d k) (as_loop e) = elim e [ ]
     one_statement z (as_call d k) (as_loop e) = elim e [ ]
     one_statement z (as_if d k l) (as_loop e) = elim e [ ]
     one_statement z (as_for d k) (as_loop e) = elim e [ ]
@@ -88,6 +94,8 @@ module _ (P : Program) (T : List Site) where
     one_statement z (as_loop e) (as_block d k) = elim e [ ]
     one_statement z (as_loop e) as_absent = elim e [ ]
     one_statement z (as_loop e) (as_assign d k) = elim e [ ]
+    one_statement z (as_loop e) (as_write d) = elim e [ ]
+    one_statement z (as_loop e) (as_write_call d k) = elim e [ ]
     one_statement z (as_loop e) (as_call d k) = elim e [ ]
     one_statement z (as_loop e) (as_if d k l) = elim e [ ]
     one_statement z (as_loop e) (as_for d k) = elim e [ ]
@@ -115,6 +123,9 @@ module _ (P : Program) (T : List Site) where
         let (x, y) = one_declarator z (ap (λ (u : Spot). suc u.next) z) d e in
         let (v, n, w) = one_list (moved _ _ _ _ _ _ z (ap (λ (u : Spot). suc u.live) z) y) k l in
         rw (z, x, v, n, w) (refl, refl, refl)
+    one_list z (as_array i k) (as_array j l) =
+        let (v, n, w) = one_list (ap (λ (u : Spot). at_point u (suc u.next)) z) k l in
+        rw (z, v, n, w) (refl, refl, refl)
     one_list z (as_statement d k) (as_statement e l) =
         let (x, y) = one_statement z d e in
         let (v, n, w) = one_list (moved _ _ _ _ _ _ z (ap (λ (u : Spot). u.live) z) y) k l in
@@ -142,10 +153,14 @@ module _ (P : Program) (T : List Site) where
 
     one_value : {s t : Spot} {i j : ℕ} {x y : Receiver} {e : Rvalue} {g h : Node} {q r : ℕ} → s ≡ t → i ≡ j → x ≡ y → Gives P T s i x e g q → Gives P T t j y e h r → Same g h q r
     one_value z n k as_value as_value = rw (z, n, k) (refl, refl)
-    one_value z n k (as_result {s = s} {r = i} {x = x} {c = c} {fn = fn} f a d l) (as_result {s = t} {r = j} {x = y} {fn = fn'} {g = g'} {n = n'} {q = q'} f' a' e l') =
+    one_value z n k (as_result d) (as_result e) = one_call z n k (ap (λ (u : Spot). push u.frame.here.base) z) d e
+
+    one_call : {s t : Spot} {i j : ℕ} {x y : Receiver} {gives others : List Argument → Op} {c : Call} {g h : Node} {q r : ℕ} → s ≡ t → i ≡ j → x ≡ y
+        → gives ≡ others → Calls P T s i x gives c g q → Calls P T t j y others c h r → Same g h q r
+    one_call z n k p (is_call {s = s} {r = i} {x = x} {c = c} {fn = fn} f a d l) (is_call {s = t} {r = j} {x = y} {fn = fn'} {g = g'} {n = n'} {q = q'} f' a' e l') =
         let m : fn ≡ fn' = same_Some _ _ (sym f ∙ f') in
         let (o, v, w) = one_list (called s t x y i j c fn fn' z k n m) d (subst (λ (u : Function). InlAll P T (into_callee t (behind_result fn'.result_type y) c (length fn'.parameters) j) u.body g' n' q') (sym m) e) in
-        rw (z, k, m, o, w) (refl, refl)
+        rw (z, k, p, m, o, w) (refl, refl)
 
 pub one_tree : (P : Program) (g h : Node) → IsGraph P g → IsGraph P h → g ≡ h
 one_tree P g h a b =

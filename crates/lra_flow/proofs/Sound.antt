@@ -1,6 +1,6 @@
 -- A pass with drops covers the runs of its tree, where each least change keeps its stores.
 use Rattle.std.proofs.Common.{◌≡◌, ◌≢◌, inl, inr, ℕ, zero, suc, ◌-◌, ◌++◌, ℤ, List, [], ◌∷◌, Option, None, Some, Bool, true, false, refl, subst, sym, ◌∙◌}
-use Rattle.std.proofs.Common.{arith}
+use Rattle.std.proofs.Common.{ap, arith}
 use Rattle.std.specs.List.{Contains}
 use Rattle.std.proofs.lemmas.List.Elements.{Contains-append_left, Contains-append_right}
 use Rattle.lra_linear.proofs.Membership.{contains_cases, contains_head, contains_tail}
@@ -393,8 +393,8 @@ module _ (V H : Type 0) (m : Meaning V H) (laws : Laws m) (keeps : ChangesKeep m
         let labels = entries_of arms in
         let d = list_any (are_alike Default) labels in
         let inside : (l : CaseLabel) (t : State) → Selects base e arms s l t → ArmsCover m l false arms t r =
-        λ l t (z, got, store, is). arms_cover set q base e d v other arms (noted q x f) None r pass l false t tt
-        (subst (λ (st : List ℤ). Waits base e d v other l false labels st) (sym store)
+        λ l t (z, got, same, is). arms_cover set q base e d v other arms (noted q x f) None r pass l false t tt
+        (subst (λ (st : List ℤ). Waits base e d v other l false labels st) (sym (ap (λ (x : State). x.store) same))
         (subst (λ (y : CaseLabel). Waits base e d v other y false labels s.store) (sym is) (
           λ n y u enters alike. enters_has base e s z t.draws got labels n v other x y u none k enters alike,
           λ never. out_has base e s z t.draws got labels v other x none k never,

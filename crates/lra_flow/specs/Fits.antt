@@ -1,6 +1,6 @@
 -- Which operations can't stop a run by a number, as the values at the points tell it. An operation is asked whether all
--- that it computes fits: each operator and each sign, in the order in which they are computed, and each conversion from
--- 64 bits to 32. Each is asked of the value that its operation has: the right side of `&&` and `||` of what the left
+-- that it computes fits: each operator and each sign, in the order in which they are computed, an element's index before
+-- what the element gets, and each conversion from 64 bits to 32. Each is asked of the value that its operation has: the right side of `&&` and `||` of what the left
 -- side leaves to it.
 use Rattle.std.specs.Prelude.{◌≡◌, ◌≢◌, ◌↔◌, ◌⊎◌, ◌<◌, ◌++◌, ℕ, ℤ, pos, negsuc, List, [], ◌∷◌, map, Option, None, Some}
 use Rattle.std.specs.Prelude.{Bool, true, false, IsTrue, Contains, slice_get}
@@ -14,11 +14,11 @@ use Rattle.lra_base.specs.declared.number_types.NumberType.TheVariants.{Int}
 use Rattle.lra_base.specs.NumberTypes.{fits, wider}
 use Rattle.lra_base.specs.Operators.{Operator, plus, minus, times, over, modulo}
 use Rattle.lra_program.specs.declared.receivers.Receiver.{Receiver}
-use Rattle.lra_program.specs.Receivers.{parameter_of, converts_to}
-use Rattle.lra_program.specs.Program.{Expr, literal, read, input, negate, binary, type_of, Cond, compare, nonzero}
-use Rattle.lra_program.specs.Program.{opposite, both_of, either_of}
+use Rattle.lra_program.specs.Receivers.{waiting_in, parameter_of, converts_to}
+use Rattle.lra_program.specs.Program.{Expr, literal, read, input, negate, binary, element, type_of, Cond, compare}
+use Rattle.lra_program.specs.Program.{nonzero, opposite, both_of, either_of}
 use Rattle.lra_program.specs.Value.{Argument}
-use Rattle.lra_program.specs.Step.{State, Op, append, give, give_any, push, keep, test}
+use Rattle.lra_program.specs.Step.{State, Op, append, fill, give, give_element, give_any, push, push_for, keep, test}
 use Rattle.lra_operations.specs.Graph.{Node}
 use Rattle.lra_operations.specs.Asked.{Asked, asked_in, AskedOverflows}
 use Rattle.lra_flow.specs.Linear.{is_constant, form_of}
@@ -80,6 +80,7 @@ module _ {V H : Type 0} (m : Meaning V H) where
     ExprJudged (binary op a b) bs = (xs ys : List Bool) × (c : Bool) × ExprJudged a xs × ExprJudged b ys ×
         Answers v c (OperatorFits v (wider (type_of a) (type_of b)) op (form_of (m.dims v) base (binary op a b))
         (form_of (m.dims v) base b)) × (bs ≡ (xs ++ ys) ++ c ∷ [])
+    ExprJudged (element a at e) bs = ExprJudged e bs
 
     -- and on the conversion of its value, where there is one
     abbrev pub ConversionJudged : Bool → Expr → List Bool → Type 0
@@ -95,6 +96,10 @@ module _ {V H : Type 0} (m : Meaning V H) where
     ArgumentsJudged [] bs = bs ≡ []
     ArgumentsJudged (a ∷ rest) bs = (xs ys : List Bool) × GivenJudged (parameter_of a.number_type) a.value xs ×
         ArgumentsJudged rest ys × (bs ≡ xs ++ ys)
+
+    -- an element's index, and what is computed behind it
+    abbrev pub IndexJudged : Expr → (List Bool → Type 0) → List Bool → Type 0
+    IndexJudged e behind bs = (xs ys : List Bool) × ExprJudged e xs × behind ys × (bs ≡ xs ++ ys)
 
   -- operations; what a left side leaves may be flagged ----------------------------------------------------------------
 
@@ -113,9 +118,13 @@ module _ {V H : Type 0} (m : Meaning V H) where
 
     abbrev pub OpJudged : Op → V → List Bool → Exactness → Type 0
     OpJudged (append t) v bs e = (bs ≡ []) × (e ≡ Exact)
+    OpJudged (fill a) v bs e = (bs ≡ []) × (e ≡ Exact)
     OpJudged (give base x a) v bs e = GivenJudged v base x a bs × (e ≡ Exact)
+    OpJudged (give_element base x a) v bs e =
+        IndexJudged v base x.index (GivenJudged v base (waiting_in x.array) a) bs × (e ≡ Exact)
     OpJudged (give_any x) v bs e = (bs ≡ []) × (e ≡ Exact)
     OpJudged (push base given) v bs e = ArgumentsJudged v base given bs × (e ≡ Exact)
+    OpJudged (push_for base x given) v bs e = IndexJudged v base x.index (ArgumentsJudged v base given) bs × (e ≡ Exact)
     OpJudged (keep n) v bs e = (bs ≡ []) × (e ≡ Exact)
     OpJudged (test base c wanted) v bs e = CondJudged base c v bs e
 

@@ -8,7 +8,7 @@ use Rattle.lra_lin.specs.Form.{Form, form_value, opposite_form, HoldsAt}
 use Rattle.lra_lin.specs.declared.test.Test.{Test}
 use Rattle.lra_base.specs.Operators.{Operator, plus, minus, times, over, modulo, Comparison, below, at_most, above}
 use Rattle.lra_base.specs.Operators.{at_least, equal, differs}
-use Rattle.lra_program.specs.Program.{Expr, literal, read, input, negate, binary, compare}
+use Rattle.lra_program.specs.Program.{Expr, literal, read, input, negate, binary, element, compare}
 use Rattle.lra_program.specs.Value.{◌>>=◌, is_word, is_zero, index_of, Scene, value_of, truth_of}
 
 -- the form, where the constant and all coefficients have 64 bits
@@ -57,13 +57,14 @@ abbrev pub live_form : ℕ → ℕ → Option Form
 live_form live place = if nat_lt place live then Some (variable_form live place) else None
 
 -- with so many live variables, of which the call's own come behind the first `base`; none where the expression isn't
--- linear
+-- linear: an element of an array has none
 abbrev pub form_of : ℕ → ℕ → Expr → Option Form
 form_of live base (literal t n) = fitting (constant_form live (pos n))
 form_of live base (read v) = live_form live (index_of base v.slot)
 form_of live base input = None
 form_of live base (negate e) = form_of live base e >>= λ f. scaled (negsuc 0) f
 form_of live base (binary op a b) = form_of live base a >>= λ f. form_of live base b >>= λ g. operator_form op f g
+form_of live base (element a at e) = None
 
 -- What an operator's form has as its value, whatever fits: the exact sum, difference or product. The form of `a / b`
 -- and `a % b` isn't there.

@@ -1,6 +1,7 @@
 -- The moves of a program's least changes and of its conditions, over so many live variables. An assignment of a linear
 -- form assigns, that of a division does so in two cases, where what is divided is at least 0 and where it is below 0,
--- and joins them; any other one forgets. Behind each that an `int` gets, and behind its declaration, stand the tests
+-- and joins them; any other one forgets. Of what arrays hold nothing is told, so an element that is read forgets, and
+-- one that gets a value changes nothing. Behind each that an `int` gets, and behind its declaration, stand the tests
 -- that it lies within 32 bits. Conditions (Cousot and Halbwachs 1978): `!` is pushed to the comparisons; a
 -- comparison tests, where its difference is linear, and in the two cases, where one side is a division and the other
 -- one linear; `&&` is the one behind the other; `||` joins what the left side leaves with what the right side leaves
@@ -14,9 +15,11 @@ use Rattle.lra_base.specs.NumberTypes.{least_of, greatest_of}
 use Rattle.lra_base.specs.Operators.{Comparison, below, at_most, above, at_least, equal, differs}
 use Rattle.lra_program.specs.Program.{Expr, literal, Cond, compare, nonzero, opposite, both_of, either_of}
 use Rattle.lra_program.specs.declared.program.GlobalVariable.{GlobalVariable}
+use Rattle.lra_program.specs.declared.receivers.Cell.{Cell}
+use Rattle.lra_program.specs.declared.receivers.Cell.TheVariants.{Variable, Waiting}
 use Rattle.lra_program.specs.declared.receivers.Target.{Target}
 use Rattle.lra_program.specs.Value.{Argument}
-use Rattle.lra_program.specs.Step.{Op, append, give, give_any, push, keep}
+use Rattle.lra_program.specs.Step.{Op, append, fill, give, give_element, give_any, push, push_for, keep}
 use Rattle.lra_program.specs.Step as step
 use Rattle.lra_lin.specs.Form.{Form}
 use Rattle.lra_lin.specs.declared.test.Test.{Test}
@@ -160,10 +163,15 @@ push_all live base (a ∷ rest) = first_then
     (within_type a.number_type (suc live) live (append_set live (seen_of (suc live) base a.value)))
     (push_all (suc live) base rest)
 
+-- the variable of this type is set so; nothing is told of an element
+abbrev pub set_cell : ℕ → NumberType → Cell → Seen → Moves
+set_cell live t (Variable x) v = within_type t live x (set_to live x v)
+set_cell live t (Waiting p) v = stay
+
 -- the target, where there is one, is set so
 abbrev pub set_target : ℕ → Option Target → Seen → Moves
 set_target live None v = stay
-set_target live (Some t) v = within_type t.number_type live t.place (set_to live t.place v)
+set_target live (Some t) v = set_cell live t.number_type t.cell v
 
 -- so many of the newest variables go; where none goes there is nothing to do
 abbrev pub drop_last : ℕ → Moves
@@ -172,9 +180,12 @@ drop_last (suc k) = make (remove_last (suc k))
 
 abbrev pub moves_of : ℕ → Op → Moves
 moves_of live (append t) = within_type t (suc live) live (make (embed 1))
+moves_of live (fill a) = stay
 moves_of live (give base x e) = set_target live x.target (seen_of live base e)
+moves_of live (give_element base x e) = stay
 moves_of live (give_any x) = set_target live x.target Unseen
 moves_of live (push base given) = push_all live base given
+moves_of live (push_for base x given) = push_all live base given
 moves_of live (keep n) = drop_last (live - n)
 moves_of live (step.test base c wanted) = guard live base wanted c
 

@@ -6,7 +6,7 @@ use Rattle.std.specs.Prelude.{◌≡◌, ◌≤ℤ◌, ⊤, ℕ, ◌+◌, ℤ, p
 use Rattle.std.specs.Prelude.{List, [], ◌∷◌, ◌++◌, length, Option, Some, None, int_le, int_div, int_rem}
 use Rattle.lra_lin.specs.Form.{Form, form_value, opposite_form}
 use Rattle.lra_base.specs.Operators.{Operator, plus, minus, times, over, modulo}
-use Rattle.lra_program.specs.Program.{Expr, literal, read, input, negate, binary}
+use Rattle.lra_program.specs.Program.{Expr, literal, read, input, negate, binary, element}
 use Rattle.lra_program.specs.Value.{◌>>=◌, Scene, value_of}
 use Rattle.lra_flow.specs.declared.seen.Division.{Division}
 use Rattle.lra_flow.specs.declared.seen.Seen.{Seen}
@@ -68,6 +68,7 @@ share_of live base (literal t n) = None
 share_of live base (read v) = None
 share_of live base input = None
 share_of live base (negate e) = None
+share_of live base (element a at e) = None
 
 -- what is seen ------------------------------------------------------------------------------------------------------
 

@@ -10,7 +10,7 @@ use Rattle.lra_sys.specs.Listed.{Listed}
 use Rattle.lra_linear.specs.declared.ConKind.{ConKind}
 use Rattle.lra_base.specs.declared.number_types.NumberType.TheVariants.{Int}
 use Rattle.lra_program.specs.Program.{literal, Cond, compare, nonzero, opposite, both_of, either_of}
-use Rattle.lra_program.specs.Step.{Op, append, give, give_any, push, keep, test}
+use Rattle.lra_program.specs.Step.{Op, append, fill, give, give_element, give_any, push, push_for, keep, test}
 use Rattle.lra_operations.specs.Graph.{Node, empty, point, act, check, seq, choose, iterate, catch, leave, select}
 use Rattle.lra_operations.specs.Graph.{Arms, no_arms, entry, arm}
 use Rattle.lra_lin.specs.Form.{Form}
@@ -43,9 +43,12 @@ condition_rows live base (either_of a b) = condition_rows live base a ++ conditi
 -- of the changes a test has a condition, that of an `assume`
 abbrev pub op_rows : ℕ → Op → List (List ℤ)
 op_rows live (append t) = []
+op_rows live (fill a) = []
 op_rows live (give base x e) = []
+op_rows live (give_element base x e) = []
 op_rows live (give_any x) = []
 op_rows live (push base es) = []
+op_rows live (push_for base x es) = []
 op_rows live (keep n) = []
 op_rows live (test base c wanted) = condition_rows live base c
 
