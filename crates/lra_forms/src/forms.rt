@@ -285,7 +285,7 @@ pub fn form_of_expression(
     match e {
         Expr::Literal(_, number) => literal_of(alloc, live, *number),
         Expr::Read(variable) => variable_of(alloc, live, base, variable.slot),
-        Expr::Input => Ok(None),
+        Expr::Input | Expr::Element(_, _, _) => Ok(None),
         Expr::Negate(inner) => match form_of_expression(alloc, live, base, inner)? {
             None => Ok(None),
             Some(form) => multiple_of(alloc, -1, &form),

@@ -165,7 +165,11 @@ fn see_share(alloc: Global, live: usize, base: usize, e: &Expr) -> Result<Seen, 
     ensures { IfOk result (λ s. s ≡ seen_from None (share_of live base (expr_view e.now))) }
 {
     match e {
-        Expr::Literal(_, _) | Expr::Read(_) | Expr::Input | Expr::Negate(_) => Ok(Seen::Unseen),
+        Expr::Literal(_, _)
+        | Expr::Read(_)
+        | Expr::Input
+        | Expr::Negate(_)
+        | Expr::Element(_, _, _) => Ok(Seen::Unseen),
         Expr::Chain(first, operations) => {
             see_last_share(alloc, live, base, first, operations.as_slice())
         }
