@@ -7,6 +7,9 @@ use Rattle.lra_domain.specs.declared.Exactness.{Exactness}
 use Rattle.lra_domain.specs.declared.Exactness.TheVariants.{Exact}
 use Rattle.lra_domain.specs.Parts.{CapsWithin}
 use Rattle.lra_domain.specs.Meaning.{Meaning, Meets}
+use Rattle.lra_program.specs.declared.receivers.Cell.{Cell}
+use Rattle.lra_program.specs.declared.receivers.Cell.TheVariants.{Variable}
+use Rattle.lra_program.specs.declared.receivers.Target.{Target}
 use Rattle.lra_program.specs.Program.{Expr}
 use Rattle.lra_flow.specs.Linear.{constant_form, comparison_test}
 use Rattle.lra_lin.specs.declared.test.Test.{Test}
@@ -26,11 +29,12 @@ use Rattle.lra_domain.specs.Actions.{test}
 use Rattle.lra_linear.specs.declared.ConKind.TheVariants.{Ge}
 use Rattle.lra_domain.specs.Moves.{Moves, stay, make, dims_moved}
 use Rattle.lra_flow.specs.MovesOf.{tested, in_turn, in_case, first_case, second_case, in_cases, above_least, below_greatest, within_type, set_to, append_set}
+use Rattle.lra_flow.specs.MovesOf.{set_cell, set_target}
 use Rattle.std.specs.Prelude.{ℤ, pos, negsuc, neg_ℤ, ◌-ℤ◌, replicate, slice_set}
 use Rattle.std.proofs.lemmas.List.{length-replicate}
 use Rattle.lra_flow.proofs.FormLemmas.{set_length}
 use Rattle.lra_flow.proofs.DivisionLemmas.{constant_form_wide, constant_length, extended_length, opposite_length, room, seen_fits, subtracted_fits}
-use Rattle.lra_change.specs.Changes.{Does, Stays}
+use Rattle.lra_change.specs.Changes.{Does, Stays, CellFits}
 
 -- one change alone
 pub done_one : {V H : Type 0} (m : Meaning V H) (step : Action) (v : V) (e : Exactness) (w : V) → Meets m step v e w → m.dims w ≡ dims_after step (m.dims v) → CapsWithin (m.capped v) (m.capped w)
@@ -136,6 +140,14 @@ test_stays op d t n wide is = (test_wide op d t (sym is) ∙ wide, refl)
 pub set_as : {V H : Type 0} (m : Meaning V H) (live x : ℕ) (s t : Seen) (v : V) (e : Exactness) (w : V) → t ≡ s → Does m (set_to live x t) v e w
     → Does m (set_to live x s) v e w
 set_as m live x s t v e w is made = subst (λ (r : Seen). Does m (set_to live x r) v e w) is made
+
+-- a target's variable, or its element
+pub variable_below : (c : Cell) (x n : ℕ) → c ≡ Variable x → CellFits c n → x < n
+variable_below c x n is fits = subst (λ (k : Cell). CellFits k n) is fits
+
+pub cell_as : {V H : Type 0} (m : Meaning V H) (live : ℕ) (t : Target) (c : Cell) (s : Seen) (v : V) (e : Exactness) (w : V) → t.cell ≡ c
+    → Does m (set_cell live t.number_type c s) v e w → Does m (set_target live (Some t) s) v e w
+cell_as m live t c s v e w is made = subst (λ (k : Cell). Does m (set_cell live t.number_type k s) v e w) (sym is) made
 
 -- a new variable and its value
 pub done_append : {V H : Type 0} (m : Meaning V H) (base : ℕ) (e : Expr) (v x w : V) (c d : Exactness) → Meets m (embed 1) v c x → m.dims x ≡ m.dims v + 1

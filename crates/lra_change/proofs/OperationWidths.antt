@@ -5,11 +5,13 @@ use Rattle.lra_base.specs.declared.number_types.NumberType.{NumberType}
 use Rattle.lra_base.specs.declared.number_types.NumberType.TheVariants.{Int, Long}
 use Rattle.lra_base.specs.Operators.{Comparison, below, at_most, above, at_least, equal, differs}
 use Rattle.lra_program.specs.declared.program.GlobalVariable.{GlobalVariable}
+use Rattle.lra_program.specs.declared.receivers.Cell.{Cell}
+use Rattle.lra_program.specs.declared.receivers.Cell.TheVariants.{Variable, Waiting}
 use Rattle.lra_program.specs.declared.receivers.Target.{Target}
 use Rattle.lra_program.specs.Value.{Argument}
 use Rattle.lra_program.specs.Program.{Expr, Cond, literal, compare, nonzero, opposite, both_of, either_of}
 use Rattle.lra_program.specs.Step as step
-use Rattle.lra_program.specs.Step.{Op, append, give, give_any, keep, test}
+use Rattle.lra_program.specs.Step.{Op, append, fill, give, give_element, give_any, push_for, keep, test}
 use Rattle.lra_domain.specs.Actions.{embed}
 use Rattle.lra_domain.specs.declared.Exactness.{Exactness}
 use Rattle.lra_domain.specs.Meaning.{Meaning}
@@ -24,7 +26,7 @@ use Rattle.lra_flow.specs.Seen.{seen_of, subtracted, difference_seen}
 use Rattle.lra_flow.specs.Operations.{dropping}
 use Rattle.lra_flow.specs.Moves.{AreMade}
 use Rattle.lra_flow.specs.MovesOf.{within_type, set_to, append_set, set_target, push_all, drop_last, moves_of, first_values, tested, test_moves, case_moves}
-use Rattle.lra_flow.specs.MovesOf.{seen_moves, split_moves, comparison_moves, comparison_as, guard, value_moves}
+use Rattle.lra_flow.specs.MovesOf.{set_cell, seen_moves, split_moves, comparison_moves, comparison_as, guard, value_moves}
 use Rattle.lra_flow.specs.Pass.{Changes, Leaves, ValueIs}
 use Rattle.lra_flow.specs.Live.{dims_behind}
 use Rattle.lra_change.proofs.ChangeSteps.{cases_dims, set_dims}
@@ -44,9 +46,13 @@ push_after live base (a ∷ rest) n =
     (within_after a.number_type (suc live) live (append_set live w) n (n + 1) (set_dims (suc live) live w (n + 1))) ∙
     push_after (suc live) base rest (n + 1) ∙ omega arith
 
+cell_after : (live : ℕ) (t : NumberType) (c : Cell) (w : Seen) (n : ℕ) → dims_moved (set_cell live t c w) n ≡ n
+cell_after live t (Variable x) w n = within_after t live x (set_to live x w) n n (set_dims live x w n)
+cell_after live t (Waiting p) w n = refl
+
 pub target_after : (live : ℕ) (o : Option Target) (w : Seen) (n : ℕ) → dims_moved (set_target live o w) n ≡ n
 target_after live None w n = refl
-target_after live (Some t) w n = within_after t.number_type live t.place (set_to live t.place w) n n (set_dims live t.place w n)
+target_after live (Some t) w n = cell_after live t.number_type t.cell w n
 
 pub drop_after : (k n : ℕ) → dims_moved (drop_last k) n ≡ n - k
 drop_after zero n = omega arith
@@ -96,9 +102,12 @@ first_after (g ∷ gs) live n =
 
 pub op_after : (op : Op) (n : ℕ) → dims_moved (moves_of n op) n ≡ dims_behind op n
 op_after (append t) n = within_after t (suc n) n (make (embed 1)) n (suc n) (omega arith)
+op_after (fill a) n = refl
 op_after (give base x y) n = target_after n x.target (seen_of n base y) n
+op_after (give_element base x y) n = refl
 op_after (give_any x) n = target_after n x.target Unseen n
 op_after (step.push base given) n = push_after n base given n
+op_after (push_for base x given) n = push_after n base given n
 op_after (keep k) n = drop_after (n - k) n
 op_after (test base c wanted) n = guard_after n base wanted c n
 

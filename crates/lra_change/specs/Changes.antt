@@ -4,7 +4,9 @@ use Rattle.lra_domain.specs.Actions.{Action, dims_after}
 use Rattle.lra_domain.specs.Changes.{CanBeMade}
 use Rattle.lra_domain.specs.declared.Exactness.{Exactness}
 use Rattle.lra_domain.specs.Meaning.{Meaning}
-use Rattle.lra_program.specs.Step.{Op, append, give, give_any, push, keep, test}
+use Rattle.lra_program.specs.Step.{Op, append, fill, give, give_element, give_any, push, push_for, keep, test}
+use Rattle.lra_program.specs.declared.receivers.Cell.{Cell}
+use Rattle.lra_program.specs.declared.receivers.Cell.TheVariants.{Variable, Waiting}
 use Rattle.lra_program.specs.declared.receivers.Target.{Target}
 use Rattle.lra_flow.specs.Operations.{dropping}
 use Rattle.lra_domain.specs.Moves.{Moves}
@@ -24,16 +26,23 @@ ChangesTo m op v e w = Changes (dropping m) op v e w
 abbrev pub Stays : Action → ℕ → Type 0
 Stays step n = CanBeMade step n × (dims_after step n ≡ n)
 
--- the place, where there is one, is that of one of so many variables
+-- where a variable is set, it is one of so many
+abbrev pub CellFits : Cell → ℕ → Type 0
+CellFits (Variable x) n = x < n
+CellFits (Waiting p) n = ⊤
+
 abbrev pub PlaceFits : Option Target → ℕ → Type 0
 PlaceFits None n = ⊤
-PlaceFits (Some t) n = t.place < n
+PlaceFits (Some t) n = CellFits t.cell n
 
 -- the change can be made of a store of so many variables, and leaves no more than may live
 abbrev pub OpFits : Op → ℕ → Type 0
 OpFits (append t) n = n < most_live
+OpFits (fill a) n = ⊤
 OpFits (give base x e) n = PlaceFits x.target n
+OpFits (give_element base x e) n = ⊤
 OpFits (give_any x) n = PlaceFits x.target n
 OpFits (push base given) n = n + length given ≤ most_live
+OpFits (push_for base x given) n = n + length given ≤ most_live
 OpFits (keep k) n = ⊤
 OpFits (test base c wanted) n = ⊤

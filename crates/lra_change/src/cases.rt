@@ -4,7 +4,7 @@ ghost use Rattle.std.specs.Prelude.{◌≡◌, ◌≤◌, ◌<◌, ◌+◌, leng
 ghost use Rattle.lra_domain.specs.Actions.{assign};
 ghost use Rattle.lra_domain.specs.Changes.{action_of, actions_of, AllCanBeMade, dims_behind};
 ghost use Rattle.lra_flow.specs.Room.{most_live};
-ghost use Rattle.lra_flow.specs.MovesOf.{in_turn, in_case, in_cases};
+ghost use Rattle.lra_flow.specs.MovesOf.{in_turn, first_case, second_case, in_case, in_cases};
 ghost use Rattle.lra_flow.specs.Seen.{Divides};
 ghost use Rattle.lra_change.specs.Changes.{Does, Stays};
 
@@ -50,6 +50,44 @@ fn change_in_case<D: Domain>(
     Ok(worse(one, worse(two, three)))
 }
 
+/// The change in the division's first case.
+fn change_in_first_case<D: Domain>(
+    alloc: Global,
+    division: &Division,
+    step: &Change,
+    value: &mut D,
+) -> Result<Exactness, AllocError>
+    requires few { D.meaning.dims value.old ≤ most_live }
+    requires divides { Divides division.now (D.meaning.dims value.old) }
+    requires stays { Stays (action_of step.now) (D.meaning.dims value.old + 2) }
+    ensures changes { IfOk result (λ a. Does D.meaning
+        (in_case (first_case (D.meaning.dims value.old) division.now) (action_of step.now))
+        value.old a value.new) }
+    ensures dims { OnOk result (D.meaning.dims value.new ≡ D.meaning.dims value.old) }
+{
+    let begun = first_case(alloc, value.dims(), division)?;
+    change_in_case(begun.as_slice(), step, value)
+}
+
+/// The change in its second one.
+fn change_in_second_case<D: Domain>(
+    alloc: Global,
+    division: &Division,
+    step: &Change,
+    value: &mut D,
+) -> Result<Exactness, AllocError>
+    requires few { D.meaning.dims value.old ≤ most_live }
+    requires divides { Divides division.now (D.meaning.dims value.old) }
+    requires stays { Stays (action_of step.now) (D.meaning.dims value.old + 2) }
+    ensures changes { IfOk result (λ a. Does D.meaning
+        (in_case (second_case (D.meaning.dims value.old) division.now) (action_of step.now))
+        value.old a value.new) }
+    ensures dims { OnOk result (D.meaning.dims value.new ≡ D.meaning.dims value.old) }
+{
+    let begun = second_case(alloc, value.dims(), division)?;
+    change_in_case(begun.as_slice(), step, value)
+}
+
 /// The change in both cases of the division, joined in order.
 pub fn change_in_cases<D: Domain>(
     alloc: Global,
@@ -65,12 +103,9 @@ pub fn change_in_cases<D: Domain>(
         value.old a value.new) }
     ensures dims { OnOk result (D.meaning.dims value.new ≡ D.meaning.dims value.old) }
 {
-    let live = value.dims();
-    let first = first_case(alloc, live, division)?;
-    let second = second_case(alloc, live, division)?;
     let mut other = value.copy(alloc)?;
-    let one = change_in_case(first.as_slice(), step, value)?;
-    let two = change_in_case(second.as_slice(), step, &mut other)?;
+    let one = change_in_first_case(alloc, division, step, value)?;
+    let two = change_in_second_case(alloc, division, step, &mut other)?;
     let joined = value.join(&other)?;
     Ok(worse(worse(one, two), joined))
 }

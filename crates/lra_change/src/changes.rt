@@ -9,7 +9,7 @@ ghost use Rattle.lra_flow.specs.Seen.{seen_of};
 ghost use Rattle.lra_flow.specs.declared.seen.Seen.TheVariants.{Unseen};
 ghost use Rattle.lra_flow.specs.MovesOf.{within_type, set_to, set_target, append_set, push_all, drop_last};
 ghost use Rattle.lra_flow.specs.Live.{dims_behind};
-ghost use Rattle.lra_change.specs.Changes.{Does, ChangesTo, OpFits};
+ghost use Rattle.lra_change.specs.Changes.{Does, ChangesTo, CellFits, OpFits};
 
 use crate::cases::assign_in_cases;
 use crate::conditions::leave;
@@ -19,7 +19,7 @@ use lra_domain::{Domain, Exactness, worse};
 use lra_flow::Seen;
 use lra_forms::see;
 use lra_operations::Op;
-use lra_program::{Argument, Expr, Target};
+use lra_program::{Argument, Cell, Expr, Target};
 use std::alloc::{AllocError, Global};
 
 /// The variable at the place gets the expression's value, as far as it is seen: that of its form; that of a division,
@@ -125,24 +125,29 @@ fn append_any<D: Domain>(
     Ok(held)
 }
 
-/// The target gets any value of its type.
+/// The target gets any value of its type: nothing is told of an element.
 fn give_any_value<D: Domain>(
     alloc: Global,
     target: Target,
     value: &mut D,
 ) -> Result<Exactness, AllocError>
     requires few { D.meaning.dims value.old ≤ most_live }
-    requires place { target.place < D.meaning.dims value.old }
+    requires place { CellFits target.cell (D.meaning.dims value.old) }
     ensures gives { IfOk result (λ a. Does D.meaning
         (set_target (D.meaning.dims value.old) (Some target) Unseen) value.old a value.new) }
     ensures dims { OnOk result (D.meaning.dims value.new ≡ D.meaning.dims value.old) }
 {
-    let exactness = value.forget(target.place)?;
-    let held = hold_type(alloc, target.number_type, target.place, value, exactness)?;
-    Ok(held)
+    match target.cell {
+        Cell::Waiting(_) => Ok(Exactness::Exact),
+        Cell::Variable(place) => {
+            let exactness = value.forget(place)?;
+            let held = hold_type(alloc, target.number_type, place, value, exactness)?;
+            Ok(held)
+        }
+    }
 }
 
-/// The target gets the expression's value, which is one of its type.
+/// The target gets the expression's value, which is one of its type: nothing is told of an element.
 fn give<D: Domain>(
     alloc: Global,
     base: usize,
@@ -151,14 +156,19 @@ fn give<D: Domain>(
     value: &mut D,
 ) -> Result<Exactness, AllocError>
     requires few { D.meaning.dims value.old ≤ most_live }
-    requires place { target.place < D.meaning.dims value.old }
+    requires place { CellFits target.cell (D.meaning.dims value.old) }
     ensures gives { IfOk result (λ a. Does D.meaning (set_target (D.meaning.dims value.old) (Some target)
         (seen_of (D.meaning.dims value.old) base (expr_view e.now))) value.old a value.new) }
     ensures dims { OnOk result (D.meaning.dims value.new ≡ D.meaning.dims value.old) }
 {
-    let exactness = set(alloc, base, target.place, e, value)?;
-    let held = hold_type(alloc, target.number_type, target.place, value, exactness)?;
-    Ok(held)
+    match target.cell {
+        Cell::Waiting(_) => Ok(Exactness::Exact),
+        Cell::Variable(place) => {
+            let exactness = set(alloc, base, place, e, value)?;
+            let held = hold_type(alloc, target.number_type, place, value, exactness)?;
+            Ok(held)
+        }
+    }
 }
 
 /// What the least change of the program does to the value.
@@ -170,6 +180,7 @@ pub fn change<D: Domain>(alloc: Global, op: &Op, value: &mut D) -> Result<Exactn
 {
     match op {
         Op::Append(number_type) => append_any(alloc, *number_type, value),
+        Op::Fill(_) | Op::GiveElement(_, _, _) => Ok(Exactness::Exact),
         Op::Give(base, receiver, e) => match receiver.target {
             None => Ok(Exactness::Exact),
             Some(target) => give(alloc, *base, target, e, value),
@@ -179,6 +190,7 @@ pub fn change<D: Domain>(alloc: Global, op: &Op, value: &mut D) -> Result<Exactn
             Some(target) => give_any_value(alloc, target, value),
         },
         Op::Push(base, arguments) => push_all_of(alloc, *base, arguments, value),
+        Op::PushFor(base, _, arguments) => push_all_of(alloc, *base, arguments, value),
         Op::Keep(n) => keep(*n, value),
         Op::Test(base, condition, wanted) => {
             leave(alloc, *base, condition, *wanted, value, Exactness::Exact)
