@@ -215,7 +215,7 @@ abbrev mutual
 abbrev pub RunsStep : Step → State → State → Type 0
 RunsStep (does op) s t = run_op op s ≡ Some t
 RunsStep (goes base e labels l) s t = (z : ℤ) × (value_of e (scene_at base s) s.draws ≡ Some (z, t.draws)) ×
-    (t.store ≡ s.store) × (l ≡ goal_of z labels)
+    (t ≡ record s { draws = t.draws }) × (l ≡ goal_of z labels)
 
 -- and all of it
 abbrev pub RunsOps : List Step → State → State → Type 0
