@@ -34,7 +34,7 @@ unequal z y e = by (compares equal z y) refl
 
 pub step_length : (step : Step) (s t : State) → RunsStep step s t → length t.store ≡ dims_behind_step step (length s.store)
 step_length (does op) s t o = op_length op s t o
-step_length (goes base e labels l) s t (z, got, same, is) = ap length same
+step_length (goes base e labels l) s t (z, got, same, is) = ap (λ (u : State). length u.store) same
 
 module _ (base : ℕ) (e : Expr) (s : State) (z : ℤ) (left : List ℤ) (got : value_of e (scene_at base s) s.draws ≡ Some (z, left)) where
   -- where no label names the value
@@ -55,5 +55,5 @@ pub step_leads : (step : Step) (s t : State) → RunsStep step s t → MayLead (
 step_leads (does op) s t o = op_leads op s t o
 step_leads (goes base e labels l) s t (z, got, same, is) =
     let led = label_leads base e s z t.draws got labels (list_any (are_alike (Case z)) labels) refl in
-    subst (λ store. MayLead (label_moves (length s.store) (seen_of (length s.store) base e) labels l) s.store store) (sym same)
+    subst (λ store. MayLead (label_moves (length s.store) (seen_of (length s.store) base e) labels l) s.store store) (sym (ap (λ (u : State). u.store) same))
     (subst (λ k. MayLead (label_moves (length s.store) (seen_of (length s.store) base e) labels k) s.store s.store) (sym is) led)

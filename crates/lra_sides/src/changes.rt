@@ -30,7 +30,7 @@ use lra_forms::{constant_of, form_of_one, see};
 use lra_lin::Test;
 use lra_linear::ConKind;
 use lra_operations::Op;
-use lra_program::{Argument, Cond, Expr, GlobalVariable, Target};
+use lra_program::{Argument, Cell, Cond, Expr, GlobalVariable, Target};
 use lra_ways::Move;
 use std::alloc::{AllocError, Global};
 
@@ -109,7 +109,8 @@ fn push_bounds(frame: Frame, place: usize, entries: &mut Vec<Entry>) -> Result<u
 /// The moves at the place `before`, and then, of an `int`, that the variable lies within 32 bits.
 fn push_within(
     frame: Frame,
-    target: Target,
+    place: usize,
+    number_type: NumberType,
     before: usize,
     entries: &mut Vec<Entry>,
 ) -> Result<usize, AllocError>
@@ -118,19 +119,19 @@ fn push_within(
     requires before { before < length entries.old.items }
     ensures table { OnOk result (IsTable entries.new.items) }
     ensures grows { OnOk result (Grows entries.old.items entries.new.items) }
-    ensures has { IfOk result (λ i. Has entries.new.items i (within_type target.number_type
-        frame.live target.place (moves_at entries.old.items before))) }
+    ensures has { IfOk result (λ i. Has entries.new.items i (within_type number_type
+        frame.live place (moves_at entries.old.items before))) }
 {
-    match target.number_type {
+    match number_type {
         NumberType::Long => Ok(before),
         NumberType::Int => {
-            let bounds = push_bounds(frame, target.place, entries)?;
+            let bounds = push_bounds(frame, place, entries)?;
             push_first_then(entries, before, bounds)
         }
     }
 }
 
-/// The target gets the value that is seen, or any, of its type.
+/// The target, where it is a variable, gets the value that is seen, or any, of its type.
 fn push_target(
     frame: Frame,
     target: Target,
@@ -145,8 +146,13 @@ fn push_target(
     ensures has { IfOk result (λ i. Has entries.new.items i
         (set_target frame.live (Some target) seen.now)) }
 {
-    let set = push_set(frame, target.place, seen, entries)?;
-    push_within(frame, target, set, entries)
+    match target.cell {
+        Cell::Waiting(_) => push_stay(entries),
+        Cell::Variable(place) => {
+            let set = push_set(frame, place, seen, entries)?;
+            push_within(frame, place, target.number_type, set, entries)
+        }
+    }
 }
 
 // new variables -----------------------------------------------------------------------------------
@@ -174,21 +180,22 @@ fn push_appended(
 /// A variable more, which comes last and gets the value that is seen, of its type.
 fn push_new(
     frame: Frame,
-    target: Target,
+    place: usize,
+    number_type: NumberType,
     seen: &Seen,
     entries: &mut Vec<Entry>,
 ) -> Result<usize, AllocError>
     requires table { IsTable entries.old.items }
     requires few { frame.live < 2 ^ 62 - 2 }
-    requires last { frame.live ≡ suc target.place }
+    requires last { frame.live ≡ suc place }
     requires width { SeenFits seen.now frame.live }
     ensures table { OnOk result (IsTable entries.new.items) }
     ensures grows { OnOk result (Grows entries.old.items entries.new.items) }
-    ensures has { IfOk result (λ i. Has entries.new.items i (within_type target.number_type
-        (suc target.place) target.place (append_set target.place seen.now))) }
+    ensures has { IfOk result (λ i. Has entries.new.items i (within_type number_type
+        (suc place) place (append_set place seen.now))) }
 {
-    let appended = push_appended(frame, target.place, seen, entries)?;
-    push_within(frame, target, appended, entries)
+    let appended = push_appended(frame, place, seen, entries)?;
+    push_within(frame, place, number_type, appended, entries)
 }
 
 /// So many variables live behind a new one; where forms over them have no room, nothing can be made.
@@ -226,7 +233,8 @@ fn push_argument(
     let number_type = argument.number_type;
     push_new(
         Frame { alloc, live, base },
-        Target { place, number_type },
+        place,
+        number_type,
         &seen,
         entries,
     )
@@ -279,12 +287,7 @@ fn push_global(
         live,
         base: 0,
     };
-    push_new(
-        frame,
-        Target { place, number_type },
-        &Seen::Linear(form),
-        entries,
-    )
+    push_new(frame, place, number_type, &Seen::Linear(form), entries)
 }
 
 /// The global variables behind so many, each with its first value.
@@ -353,7 +356,8 @@ fn push_any(
     let made = push_make(entries, Change::Embed(1))?;
     push_within(
         Frame { alloc, live, base },
-        Target { place, number_type },
+        place,
+        number_type,
         made,
         entries,
     )
@@ -447,9 +451,14 @@ fn push_op(
     let frame = |base| Frame { alloc, live, base };
     match op {
         Op::Append(number_type) => push_any(frame(0), *number_type, entries),
+        Op::Fill(_) => push_stay(entries),
         Op::Give(base, receiver, e) => push_give(frame(*base), receiver.target, e, entries),
+        Op::GiveElement(_, _, _) => push_stay(entries),
         Op::GiveAny(receiver) => push_give_any(frame(0), receiver.target, entries),
         Op::Push(base, arguments) => push_arguments(frame(*base), arguments.as_slice(), entries),
+        Op::PushFor(base, _, arguments) => {
+            push_arguments(frame(*base), arguments.as_slice(), entries)
+        }
         Op::Keep(n) => push_keep(live, *n, entries),
         Op::Test(base, condition, wanted) => push_guard(frame(*base), condition, *wanted, entries),
     }
@@ -498,8 +507,10 @@ fn live_behind_op(live: usize, op: &Op) -> Result<usize, AllocError>
     match op {
         Op::Append(_) => sum_of(live, 1),
         Op::Push(_, arguments) => sum_of(live, arguments.len()),
+        Op::PushFor(_, _, arguments) => sum_of(live, arguments.len()),
         Op::Keep(n) => Ok(live - live.saturating_sub(*n)),
-        Op::Give(_, _, _) | Op::GiveAny(_) | Op::Test(_, _, _) => Ok(live),
+        Op::Fill(_) | Op::Give(_, _, _) | Op::GiveElement(_, _, _) => Ok(live),
+        Op::GiveAny(_) | Op::Test(_, _, _) => Ok(live),
     }
 }
 

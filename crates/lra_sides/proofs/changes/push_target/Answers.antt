@@ -3,4 +3,4 @@ use Rattle.lra_sides.proofs.TableSteps.{within}
 use Rattle.lra_sides.proofs.changes.push_target.Goals as goal
 
 pub push_within-requires-clause-before : goal.push_within-requires-clause-before
-push_within-requires-clause-before c = within c.push_set.new.entries.items c.in_ok-set.set _ c.in_ok-set.ensures.has
+push_within-requires-clause-before c = within c.push_set.new.entries.items c.in_ok-set-in-Variable.set _ c.in_ok-set-in-Variable.ensures.has
