@@ -110,7 +110,7 @@ module _ (P : Program) (g : Node) (has : FollowsRuns P g) where
 
   -- from the start ---------------------------------------------------------------------------------------------------
 
-  from_nothing : (draws : List ℤ) (q : ℕ) (a : Trail Point) → a.met ≡ [] → HasGone (point_at T) g (record { state = begun P.globals draws; met = [] })
+  from_nothing : (draws : List ℤ) (q : ℕ) (a : Trail Point) → a.met ≡ [] → HasGone (point_at T) g (record { state = begun P draws; met = [] })
       (stopped (to_point q)) a
       → SomeLeads (leading P g 0 (comes_to q)) [] a.state.store
   from_nothing draws q a e (along_first ops same first leads) = first_leads P g ops (comes_to q) [] a.state.store first
@@ -121,14 +121,14 @@ module _ (P : Program) (g : Node) (has : FollowsRuns P g) where
       → SomeLeads (leading P g 0 (comes_to q)) [] d.state.store
   starts draws n d q s at w on =
       let a : Trail Point = record { state = d.state; met = [] } in
-      from_nothing draws q a refl (came (point_at T) g (record { state = begun P.globals draws; met = [] }) (stopped (to_point q)) a
+      from_nothing draws q a refl (came (point_at T) g (record { state = begun P draws; met = [] }) (stopped (to_point q)) a
       ((has.trails.comes q s draws a at).0 (n, d, w, on, refl)))
 
   -- from the point that was met last ---------------------------------------------------------------------------------
 
   from_last : (draws : List ℤ) (p q : ℕ) (r : Site) (m : State) (before : List (Met Point)) (a : Trail Point) → slice_get T p ≡ Some r → a.met ≡ passes
       (point_of r) m ∷ before
-      → HasGone (point_at T) g (record { state = begun P.globals draws; met = [] }) (stopped (to_point q)) a → SomeLeads (leading P g (suc p) (comes_to q))
+      → HasGone (point_at T) g (record { state = begun P draws; met = [] }) (stopped (to_point q)) a → SomeLeads (leading P g (suc p) (comes_to q))
       m.store a.state.store
   from_last draws p q r m before a at e (along_first ops same first leads) = absurd (nothing (passes (point_of r) m) before (sym same ∙ e))
   from_last draws p q r m before a at e (along_next p1 m1 before1 ops met there next leads) =
@@ -148,14 +148,14 @@ module _ (P : Program) (g : Node) (has : FollowsRuns P g) where
       let a : Trail Point = record { state = d.state; met = passes (point_of r) c.state ∷ xs } in
       let all = walk_on Alone P run.length n (start P run.draws) c d [] xs (passes (point_of r) c.state ∷ xs) w (piece xs) in
       from_last run.draws p q r c.state xs a at refl
-      (came (point_at T) g (record { state = begun P.globals run.draws; met = [] }) (stopped (to_point q)) a
+      (came (point_at T) g (record { state = begun P run.draws; met = [] }) (stopped (to_point q)) a
       ((has.trails.comes q s run.draws a there).0 (all.0, d, all.1, on_next, refl)))
 
   -- where an assertion is false ---------------------------------------------------------------------------------------
 
   from_denied : (draws : List ℤ) (q : ℕ) (s : Site) (m : State) (before : List (Met Point)) (a : Trail Point) → slice_get T q ≡ Some s → a.met ≡ passes
       (point_of s) m ∷ before
-      → HasGone (point_at T) g (record { state = begun P.globals draws; met = [] }) (stopped (to_failure q)) a → SomeLeads (leading P g (suc q) (denies q))
+      → HasGone (point_at T) g (record { state = begun P draws; met = [] }) (stopped (to_failure q)) a → SomeLeads (leading P g (suc q) (denies q))
       m.store a.state.store
   from_denied draws q s m before a at e (along_first ops same first leads) = absurd (nothing (passes (point_of s) m) before (sym same ∙ e))
   from_denied draws q s m before a at e (along_next p1 m1 before1 ops met there next (u, leads, store)) =
@@ -182,7 +182,7 @@ module _ (P : Program) (g : Node) (has : FollowsRuns P g) where
   denied c q s at run on false_there =
       let (xs, x) = failing c q s run at on false_there in
       let a : Trail Point = record { state = c.state; met = passes (point_of s) c.state ∷ xs } in
-      from_denied run.draws q s c.state xs a at refl (came (point_at T) g (record { state = begun P.globals run.draws; met = [] }) (stopped (to_failure q)) a x)
+      from_denied run.draws q s c.state xs a at refl (came (point_at T) g (record { state = begun P run.draws; met = [] }) (stopped (to_failure q)) a x)
 
   pub paths_cover : PathsCover P g
   paths_cover = record { starts = starts; goes = goes; denied = denied }
@@ -194,11 +194,11 @@ module _ (P : Program) (g : Node) (has : FollowsRuns P g) where
     kept_on : (xs : List (Met Point)) (draws : List ℤ) (q : ℕ) (a : Trail Point) → a.met ≡ xs → TreeGoes Alone P g draws (to_point q) a → holds (comes_to q)
         a.state.store
     kept_on [] draws q a e x = k.first (comes_to q) a.state.store (has.points q draws a x) (from_nothing draws q a e
-        (came (point_at T) g (record { state = begun P.globals draws; met = [] }) (stopped (to_point q)) a x))
-    kept_on (y ∷ xs) draws q a e x = by (came (point_at T) g (record { state = begun P.globals draws; met = [] }) (stopped (to_point q)) a x)
+        (came (point_at T) g (record { state = begun P draws; met = [] }) (stopped (to_point q)) a x))
+    kept_on (y ∷ xs) draws q a e x = by (came (point_at T) g (record { state = begun P draws; met = [] }) (stopped (to_point q)) a x)
         (λ p b f z. kept_on xs draws p b f z)
       where
-        by : HasGone (point_at T) g (record { state = begun P.globals draws; met = [] }) (stopped (to_point q)) a
+        by : HasGone (point_at T) g (record { state = begun P draws; met = [] }) (stopped (to_point q)) a
             → ((p : ℕ) (b : Trail Point) → b.met ≡ xs → TreeGoes Alone P g draws (to_point p) b → holds (comes_to p) b.state.store) → holds (comes_to q)
             a.state.store
         by (along_first ops same first leads) before = absurd (nothing y xs (sym same ∙ e))
@@ -210,7 +210,7 @@ module _ (P : Program) (g : Node) (has : FollowsRuns P g) where
             (next_leads P g p ops (comes_to q) m.store a.state.store next (written_from ops (live_at P p) m a.state (wide p s draws m earlier at there) leads))
 
     kept_denied : (draws : List ℤ) (q : ℕ) (r : Site) (a : Trail Point) → slice_get T q ≡ Some r
-        → HasGone (point_at T) g (record { state = begun P.globals draws; met = [] }) (stopped (to_failure q)) a
+        → HasGone (point_at T) g (record { state = begun P draws; met = [] }) (stopped (to_failure q)) a
         → (store : List ℤ) × holds (denies q) store
     kept_denied draws q r a is (along_first ops same first (u, leads, store)) =
         (u.store, k.first (denies q) u.store (r, is) (first_leads P g ops (denies q) [] u.store first (start_leads P has.globals ops draws u leads)))
@@ -232,7 +232,7 @@ module _ (P : Program) (g : Node) (has : FollowsRuns P g) where
     fails q s at (c, run, on, false_there) =
         let (xs, x) = failing c q s run at on false_there in
         let a : Trail Point = record { state = c.state; met = passes (point_of s) c.state ∷ xs } in
-        kept_denied run.draws q s a at (came (point_at T) g (record { state = begun P.globals run.draws; met = [] }) (stopped (to_failure q)) a x)
+        kept_denied run.draws q s a at (came (point_at T) g (record { state = begun P run.draws; met = [] }) (stopped (to_failure q)) a x)
 
     pub kept : HoldInAllRuns P holds
     kept = record { comes = comes; fails = fails }

@@ -8,7 +8,8 @@ use Rattle.std.proofs.lemmas.Bool.{cases_lt, eqb-true}
 use Rattle.std.proofs.lemmas.List.Elements.{All-nil, All-cons, All-head, All-tail, All-append, All-map, All-weaker}
 use Rattle.lra_base.specs.declared.number_types.NumberType.{NumberType}
 use Rattle.lra_program.specs.declared.receivers.Receiver.{Receiver}
-use Rattle.lra_program.specs.Program.{Expr, Cond, Rvalue, Stmt, Cases, BlockItems, Program}
+use Rattle.lra_program.specs.Program.{Expr, Cond, Call, Rvalue, Stmt, Cases, BlockItems, Program}
+use Rattle.lra_program.specs.Value.{Argument}
 use Rattle.lra_program.specs.Step.{Op, test}
 use Rattle.lra_program.specs.Sites.{Site, sites_of}
 use Rattle.lra_base.specs.declared.case_labels.CaseLabel.{CaseLabel}
@@ -16,11 +17,11 @@ use Rattle.lra_operations.specs.Graph.{Exit, normal, Node, empty, point, act, ch
 use Rattle.lra_operations.specs.Graph.{Arms, no_arms, entry, arm}
 use Rattle.lra_operations.proofs.ArmRows.{arms_row}
 use Rattle.lra_operations.specs.Agree.{IsGraph}
-use Rattle.lra_operations.specs.Inlined.{Spot, Inl, InlAll, InlCases, Declares, Loops, Gives}
-use Rattle.lra_operations.specs.Inlined.{as_nothing, as_block, as_absent, as_assign, as_call, as_if, as_loop, as_for}
+use Rattle.lra_operations.specs.Inlined.{Spot, Inl, InlAll, InlCases, Declares, Loops, Gives, Calls}
+use Rattle.lra_operations.specs.Inlined.{as_nothing, as_block, as_absent, as_assign, as_write, as_write_call, as_call, as_if, as_loop, as_for}
 use Rattle.lra_operations.specs.Inlined.{as_break, as_continue, as_return, as_return_value, as_return_call, as_end, as_end_value, as_end_call, as_assert}
 use Rattle.lra_operations.specs.Inlined.{as_switch, as_no_cases, as_labelled, as_stated}
-use Rattle.lra_operations.specs.Inlined.{as_assume, as_none, as_declaration, as_statement, as_fresh, as_given, is_loop, as_value, as_result}
+use Rattle.lra_operations.specs.Inlined.{as_assume, as_none, as_declaration, as_array, as_statement, as_fresh, as_given, is_loop, as_value, as_result, is_call}
 use Rattle.lra_ways.specs.Ways.{Step, does, goes_in, led_way, enter_arms, enter_labels}
 use Rattle.lra_ways.specs.Ways.{Goal, comes_to, denies, Way, Segment, then_way, segment_by, tested_way, into_body, out_of_body, segment_to, through, enter}
 use Rattle.lra_ways.specs.Ways.{outs, inside, Suffix, then_ways, segments_by}
@@ -179,6 +180,8 @@ mutual
   own_one (as_block d i) = own_seq _ _ (own_all d) (own_seq _ _ (own_point _) (own_act _ _))
   own_one as_absent = own_empty
   own_one (as_assign i d) = own_seq _ _ (own_point _) (own_gives d)
+  own_one (as_write i) = own_seq _ _ (own_point _) (own_act _ _)
+  own_one (as_write_call i d) = own_seq _ _ (own_point _) (own_call d)
   own_one (as_call i d) = own_seq _ _ (own_point _) (own_gives d)
   own_one (as_if i d e) = own_seq _ _ (own_point _) (own_choose _ _ _ _ _ (own_one d) (own_one e))
   own_one (as_loop d) = own_loop d
@@ -203,6 +206,7 @@ mutual
   own_all : {P : Program} {T : List Site} {spot : Spot} {s : BlockItems} {g : Node} {n q : ℕ} → InlAll P T spot s g n q → AreOwn g
   own_all as_none = own_empty
   own_all (as_declaration i j e) = own_seq _ _ (own_seq _ _ (own_point _) (own_declares j)) (own_all e)
+  own_all (as_array i e) = own_seq _ _ (own_seq _ _ (own_point _) (own_act _ _)) (own_all e)
   own_all (as_statement d e) = own_seq _ _ (own_one d) (own_all e)
 
   own_declares : {P : Program} {T : List Site} {spot : Spot} {r : ℕ} {t : NumberType} {e : Option Rvalue} {g : Node} {q : ℕ} → Declares P T spot r t e g q →
@@ -215,7 +219,11 @@ mutual
 
   own_gives : {P : Program} {T : List Site} {spot : Spot} {r : ℕ} {x : Receiver} {e : Rvalue} {g : Node} {q : ℕ} → Gives P T spot r x e g q → AreOwn g
   own_gives as_value = own_act _ _
-  own_gives (as_result i j d k) = own_seq _ _ (own_act _ _) (own_catch _ _ _ (own_seq _ _ (own_all d) (own_seq _ _ (own_point _)
+  own_gives (as_result d) = own_call d
+
+  own_call : {P : Program} {T : List Site} {spot : Spot} {r : ℕ} {x : Receiver} {gives : List Argument → Op} {c : Call} {g : Node} {q : ℕ} →
+      Calls P T spot r x gives c g q → AreOwn g
+  own_call (is_call i j d k) = own_seq _ _ (own_act _ _) (own_catch _ _ _ (own_seq _ _ (own_all d) (own_seq _ _ (own_point _)
       (own_seq _ _ (own_act _ _) (own_seq _ _ (own_act _ _) (own_act _ _))))))
 
 own_graph : (P : Program) (g : Node) → IsGraph P g → AreOwn g

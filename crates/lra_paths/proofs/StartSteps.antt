@@ -16,10 +16,10 @@ use Rattle.lra_sides.proofs.SideSteps.{sides_lead, then_leads}
 use Rattle.lra_sides.proofs.WrittenSteps.{written_from}
 
 -- from the start, where the globals come to their first values
-pub start_leads : (P : Program) → AreGoodGlobals P.globals → (ops : List Step) (draws : List ℤ) (t : State) → RunsOps ops (begun P.globals draws) t → SomeLeads
+pub start_leads : (P : Program) → AreGoodGlobals P.globals → (ops : List Step) (draws : List ℤ) (t : State) → RunsOps ops (begun P draws) t → SomeLeads
     (from_start P ops) [] t.store
 start_leads P good ops draws t r =
     let values : List ℤ = map (λ (g : GlobalVariable). g.value) P.globals in
     let one = (sides_lead (first_values 0 P.globals) [] values).0 (first_lead P.globals good []) in
     then_leads [] t.store (sides (first_values 0 P.globals)) (written (length P.globals) ops) values one
-    (written_from ops (length P.globals) (begun P.globals draws) t (length-map P.globals (λ (g : GlobalVariable). g.value)) r)
+    (written_from ops (length P.globals) (begun P draws) t (length-map P.globals (λ (g : GlobalVariable). g.value)) r)
