@@ -2,7 +2,7 @@
 use Rattle.std.proofs.Common.{◌≡◌, ◌∙◌, ◌+◌, ◌<◌, ◌≤◌, ℕ, List, [], ◌∷◌, ◌++◌, Option, Some, None, Bool, true, false}
 use Rattle.std.proofs.Common.{length, map, take, get_or, rules, Box, Global}
 use Rattle.std.proofs.Common.{refl, sym, ap, subst, append_assoc, append-nil, negsuc}
-use Rattle.std.specs.Prelude.{Result, Ok, Err, IfOk}
+use Rattle.std.specs.Prelude.{Result, Ok, Err, IfOk, OnOk}
 use Rattle.std.proofs.lemmas.List.{map_more, take_all}
 use Rattle.lra_lin.specs.Form.{Form}
 use Rattle.lra_domain.specs.Meaning.{Meaning}
@@ -17,12 +17,14 @@ use Rattle.lra_program.specs.declared.receivers.Receiver.{Receiver}
 use Rattle.lra_program.specs.Receivers.{parameter_of, converts_to}
 use Rattle.lra_program.specs.declared.program.Variable.{Variable}
 use Rattle.lra_program.specs.declared.program.Expr as declared
-use Rattle.lra_program.specs.declared.program.Expr.{Literal, Read, Input, Negate, the_lemmas}
-use Rattle.lra_program.specs.Program.{Expr, literal, read, input, negate, binary, type_of}
+use Rattle.lra_program.specs.declared.program.Expr.{Literal, Read, Input, Negate, Element, the_lemmas}
+use Rattle.lra_base.specs.declared.refusals.Place.{Place}
+use Rattle.lra_program.specs.declared.arrays.Array.{Array}
+use Rattle.lra_program.specs.Program.{Expr, literal, read, input, negate, binary, element, type_of}
 use Rattle.lra_program.specs.ProgramViews.{argument_view, chained, expr_view, operation_view, variable_view}
 use Rattle.lra_program.specs.Value.{Argument}
 use Rattle.lra_flow.specs.Linear.{form_of}
-use Rattle.lra_flow.specs.Fits.{LiesIn, OperatorFits, Answers, ExprJudged, ConversionJudged, GivenJudged, ArgumentsJudged}
+use Rattle.lra_flow.specs.Fits.{LiesIn, OperatorFits, Answers, ExprJudged, ConversionJudged, GivenJudged, ArgumentsJudged, IndexJudged}
 use Rattle.lra_flow.proofs.FormLemmas.{form_wide, operator_wide, scaled_wide}
 use Rattle.lra_forms.proofs.FormSteps.{operation_is}
 use Rattle.lra_forms.proofs.SeenSteps.{chained_last}
@@ -60,6 +62,9 @@ input_view = search (rules, the_lemmas)
 
 pub negate_view : (e : Box declared.Expr Global) → expr_view (Negate e) ≡ negate (expr_view e.value)
 negate_view e = search (rules, the_lemmas)
+
+pub element_seen : (a : Array) (p : Place) (e : Box declared.Expr Global) → expr_view (Element a p e) ≡ element a p (expr_view e.value)
+element_seen a p e = search (rules, the_lemmas)
 
 -- an operation more at the end of a chain
 chained_more : (e : Expr) (os : List Operation) (i : ℕ) (o : Operation) → i < length os → o ≡ get_or os i o
@@ -141,6 +146,22 @@ module _ {V H : Type 0} (m : Meaning V H) (v : V) (base : ℕ) where
       → IfOk R (λ c. IsComputed m v base x old c new)
   chain_behind (Ok c) x e os old now new first is one told = subst (λ (y : Expr). IsComputed m v base y old c new) (sym is) (told e old one)
   chain_behind (Err k) x e os old now new first is one told = tt
+
+  -- an element has no form, whatever its index has
+  pub element_behind : (x e : Expr) (a : Array) (p : Place) (old new : List Bool) (inner : Computed) → x ≡ element a p e
+      → IsComputed m v base e old inner new → IsComputed m v base x old (record { number_type = a.number_type; form = None }) new
+  element_behind x e a p old new inner is one =
+      subst (λ (y : Expr). IsComputed m v base y old (record { number_type = a.number_type; form = None }) new) (sym is)
+      (record { answers = one.answers; number_type = refl; form = refl })
+
+  -- what is computed behind an index
+  pub behind_index : {T E : Type 0} (R : Result T E) (e : Expr) (behind : List Bool → Type 0) (old now new : List Bool) (c : Computed)
+      → IsComputed m v base e old c now → OnOk R (HasAnswers behind now new) → OnOk R (HasAnswers (IndexJudged m v base e behind) old new)
+  behind_index (Ok r) e behind old now new c one told =
+      let (xs, first, there) = one.answers in
+      let (ys, later, is) = told in
+      (xs ++ ys, (xs, ys, first, later, refl), is ∙ ap (λ (zs : List Bool). zs ++ ys) there ∙ append_assoc old xs ys)
+  behind_index (Err k) e behind old now new c one told = tt
 
   -- a chain of which the first operand is computed, as far as these operations
   abbrev pub ChainComputed : Computed → List Bool → List (Operator × Expr) → Computed → List Bool → Type 0

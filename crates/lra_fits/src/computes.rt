@@ -29,6 +29,7 @@ pub fn type_of(e: &Expr) -> NumberType
             }
             number_type
         }
+        Expr::Element(array, _, _) => array.number_type,
     }
 }
 
@@ -40,6 +41,7 @@ fn expression_computes(e: &Expr) -> bool
         Expr::Literal(_, _) | Expr::Read(_) | Expr::Input => false,
         Expr::Negate(_) => true,
         Expr::Chain(first, operations) => !operations.is_empty() || expression_computes(first),
+        Expr::Element(_, _, index) => expression_computes(index),
     }
 }
 
@@ -103,9 +105,16 @@ pub fn operation_computes(op: &Op) -> bool
     ensures { result ≡ op_computes (op_view op.now) }
 {
     match op {
-        Op::Append(_) | Op::GiveAny(_) | Op::Keep(_) => false,
+        Op::Append(_) | Op::Fill(_) | Op::GiveAny(_) | Op::Keep(_) => false,
         Op::Give(_, receiver, e) => giving_computes(*receiver, e),
+        Op::GiveElement(_, element, e) => {
+            let receiver = Receiver::waiting(element.array);
+            expression_computes(&element.index) || giving_computes(receiver, e)
+        }
         Op::Push(_, arguments) => arguments_compute(arguments),
+        Op::PushFor(_, element, arguments) => {
+            expression_computes(&element.index) || arguments_compute(arguments)
+        }
         Op::Test(_, condition, _) => condition_computes(condition),
     }
 }

@@ -6,7 +6,8 @@ ghost use Rattle.lra_program.specs.Program.{Expr as ProgramExpr, negate, binary}
 ghost use Rattle.lra_program.specs.ProgramViews.{argument_view, chained, expr_view, operation_view};
 ghost use Rattle.lra_base.specs.OperatorViews.{operator_view};
 ghost use Rattle.lra_flow.specs.Linear.{form_of};
-ghost use Rattle.lra_flow.specs.Fits.{GivenJudged, ArgumentsJudged};
+ghost use Rattle.lra_program.specs.Receivers.{waiting_in};
+ghost use Rattle.lra_flow.specs.Fits.{GivenJudged, ArgumentsJudged, IndexJudged};
 ghost use Rattle.lra_fits.specs.Judged.{IsWide, IsComputed, HasAnswers};
 
 use crate::answers::{combine, form_fits, negate, operator_fits};
@@ -15,7 +16,7 @@ use lra_base::{NumberType, Operator};
 use lra_domain::Domain;
 use lra_forms::form_of_expression;
 use lra_lin::LinExpr;
-use lra_program::{Argument, Expr, Operation, Receiver};
+use lra_program::{Argument, Element, Expr, Operation, Receiver};
 use std::alloc::{AllocError, Global};
 
 /// What is known of an expression whose answers are given: its type and its form.
@@ -119,6 +120,13 @@ pub fn judge_expression<D: Domain>(
             let computed = judge_expression(alloc, base, value, first, answers)?;
             judge_chain(alloc, base, value, computed, operations.as_slice(), answers)
         }
+        Expr::Element(array, _, index) => {
+            let _index = judge_expression(alloc, base, value, index, answers)?;
+            Ok(Computed {
+                number_type: array.number_type,
+                form: None,
+            })
+        }
     }
 }
 
@@ -187,4 +195,43 @@ pub fn judge_arguments<D: Domain>(
         judge_given(alloc, base, value, receiver, &argument.value, answers)?;
     }
     Ok(())
+}
+
+/// Those on an element's index, then those on the value that the element gets.
+pub fn judge_element<D: Domain>(
+    alloc: Global,
+    base: usize,
+    value: &D,
+    element: &Element,
+    e: &Expr,
+    answers: &mut Vec<bool>,
+) -> Result<(), AllocError>
+    requires { D.meaning.dims value.now < 2 ^ 62 }
+    ensures { OnOk result (HasAnswers
+        (IndexJudged D.meaning value.now base (expr_view element.now.index)
+        (GivenJudged D.meaning value.now base (waiting_in element.now.array) (expr_view e.now)))
+        answers.old.items answers.new.items) }
+{
+    let _index = judge_expression(alloc, base, value, &element.index, answers)?;
+    let receiver = Receiver::waiting(element.array);
+    judge_given(alloc, base, value, receiver, e, answers)
+}
+
+/// Those on an element's index, then those on the arguments of a call whose result the element gets.
+pub fn judge_arguments_for<D: Domain>(
+    alloc: Global,
+    base: usize,
+    value: &D,
+    element: &Element,
+    arguments: &[Argument],
+    answers: &mut Vec<bool>,
+) -> Result<(), AllocError>
+    requires { D.meaning.dims value.now < 2 ^ 62 }
+    ensures { OnOk result (HasAnswers
+        (IndexJudged D.meaning value.now base (expr_view element.now.index)
+        (ArgumentsJudged D.meaning value.now base (map argument_view arguments.now)))
+        answers.old.items answers.new.items) }
+{
+    let _index = judge_expression(alloc, base, value, &element.index, answers)?;
+    judge_arguments(alloc, base, value, arguments, answers)
 }

@@ -10,7 +10,7 @@ ghost use Rattle.lra_flow.specs.Room.{most_live};
 ghost use Rattle.lra_fits.specs.Judged.{IsOpJudged, IsSettled, JudgesAsked};
 
 use crate::conditions::{Surroundings, judge_condition};
-use crate::expressions::{judge_arguments, judge_given};
+use crate::expressions::{judge_arguments, judge_arguments_for, judge_element, judge_given};
 use lra_base::NumberType;
 use lra_change::change;
 use lra_domain::{Domain, Exactness, worse};
@@ -49,13 +49,22 @@ fn answer_operation<D: Domain>(
         value.now answers.old.items e answers.new.items) }
 {
     match op {
-        Op::Append(_) | Op::GiveAny(_) | Op::Keep(_) => Ok(Exactness::Exact),
+        Op::Append(_) | Op::Fill(_) | Op::GiveAny(_) | Op::Keep(_) => Ok(Exactness::Exact),
         Op::Give(base, receiver, e) => {
             judge_given(alloc, *base, value, *receiver, e, answers)?;
             Ok(Exactness::Exact)
         }
+        Op::GiveElement(base, element, e) => {
+            judge_element(alloc, *base, value, element, e, answers)?;
+            Ok(Exactness::Exact)
+        }
         Op::Push(base, arguments) => {
             judge_arguments(alloc, *base, value, arguments.as_slice(), answers)?;
+            Ok(Exactness::Exact)
+        }
+        Op::PushFor(base, element, arguments) => {
+            let arguments = arguments.as_slice();
+            judge_arguments_for(alloc, *base, value, element, arguments, answers)?;
             Ok(Exactness::Exact)
         }
         Op::Test(base, condition, _) => {

@@ -4,11 +4,11 @@ use Rattle.lra_base.specs.declared.number_types.NumberType.TheVariants.{Long}
 use Rattle.lra_program.specs.declared.program.Operation.{Operation}
 use Rattle.lra_program.specs.declared.program.Expr as declared
 use Rattle.lra_program.specs.declared.program.Expr.{the_lemmas}
-use Rattle.lra_program.specs.Program.{literal, read, input, negate}
+use Rattle.lra_program.specs.Program.{literal, read, input, negate, element}
 use Rattle.lra_program.specs.ProgramViews.{chained, expr_view, operation_view, variable_view}
 use Rattle.lra_fits.proofs.ComputesSteps.{chain_view}
-use Rattle.lra_fits.proofs.ExpressionSteps.{literal_view, read_view, input_view, negate_view, form_is_wide, leaf_computed, sign_behind, chain_behind}
-use Rattle.lra_fits.proofs.ExpressionSteps.{chain_computed, chain_whole}
+use Rattle.lra_fits.proofs.ExpressionSteps.{literal_view, read_view, input_view, negate_view, element_seen, form_is_wide, leaf_computed, sign_behind}
+use Rattle.lra_fits.proofs.ExpressionSteps.{chain_behind, element_behind, chain_computed, chain_whole}
 use Rattle.lra_fits.proofs.expressions.+judge.Goals as goal
 
 pub judge_chain-operations-init : goal.judge_chain-operations-init
@@ -85,3 +85,13 @@ judge_expression-returns-in_ok-computed-in-Chain g t c =
     chain_behind g.D.Domain.meaning c.args.value.now c.args.base c.judge_chain.result (expr_view c.args.e.now) (expr_view first) (map operation_view os)
     c.args.answers.now.items c.judge_expression-in-Chain.new.answers.items c.judge_chain.new.answers.items c.in_ok-computed-in-Chain.computed is
     c.in_ok-computed-in-Chain.ensures c.judge_chain.ensures
+
+pub judge_expression-returns-in_ok-_index-in-Element : goal.judge_expression-returns-in_ok-_index-in-Element
+judge_expression-returns-in_ok-_index-in-Element g t c =
+    let a = c.in-Element.array in
+    let p = c.in-Element.field-1 in
+    let is : expr_view c.args.e.now ≡ element a p (expr_view c.deref-in-Element.result.now) =
+    ap expr_view c.in-Element.is ∙ element_seen a p c.in-Element.index ∙
+    ap (λ (e : declared.Expr). element a p (expr_view e)) (sym c.deref-in-Element.ensures) in
+    element_behind g.D.Domain.meaning c.args.value.now c.args.base (expr_view c.args.e.now) (expr_view c.deref-in-Element.result.now) a p
+    c.args.answers.now.items c.judge_expression-in-Element.new.answers.items c.in_ok-_index-in-Element._index is c.in_ok-_index-in-Element.ensures
