@@ -6,7 +6,7 @@ use Rattle.std.proofs.lemmas.Option.{same_Some}
 use Rattle.lra_domain.specs.Meaning.{Meaning}
 use Rattle.lra_domain.specs.Laws.{Laws}
 use Rattle.lra_domain.specs.declared.Exactness.{Exactness}
-use Rattle.lra_program.specs.declared.program.GlobalVariable.{GlobalVariable}
+use Rattle.lra_program.specs.Program.{Program}
 use Rattle.lra_program.specs.WellFormed.{AreGoodGlobals}
 use Rattle.lra_program.specs.Step.{State}
 use Rattle.lra_program.specs.Run.{begun}
@@ -30,26 +30,26 @@ use Rattle.lra_iter.proofs.Counting.{one_failing, asserts_few}
 module _ {V H : Type 0} (m : Meaning V H) where
   module _ (laws : Laws m) where
     -- from the globals on, whatever is drawn, a pass has the stores of the tree's runs
-    pub begun_covers : (set : Plan) (globals : List GlobalVariable) → AreGoodGlobals globals → (tree : Node) (whole first : V) (e : Exactness) (r : Result V) → m.universal 0 set.parts whole × m.formed whole →
-        AreMade (dropping m) (first_values 0 globals) whole e first
-        → Pass V H (dropping m) set tree (noted 0 e None) first r → (draws : List ℤ) → Covers m tree (begun globals draws) r
-    begun_covers set globals good tree whole first e r universal done pass draws =
+    pub begun_covers : (set : Plan) (P : Program) → AreGoodGlobals P.globals → (tree : Node) (whole first : V) (e : Exactness) (r : Result V) → m.universal 0 set.parts whole × m.formed whole →
+        AreMade (dropping m) (first_values 0 P.globals) whole e first
+        → Pass V H (dropping m) set tree (noted 0 e None) first r → (draws : List ℤ) → Covers m tree (begun P draws) r
+    begun_covers set P good tree whole first e r universal done pass draws =
         let all = laws.universal_stores 0 set.parts whole universal.1 universal.0 [] refl in
-        let has = moves_keep V H m laws (first_values 0 globals) whole e first done [] (begun globals draws).store (universal.1, all) (first_lead globals good []) in
-        pass_covers m laws set tree (noted 0 e None) first r pass (begun globals draws) has
+        let has = moves_keep V H m laws (first_values 0 P.globals) whole e first done [] (begun P draws).store (universal.1, all) (first_lead P.globals good []) in
+        pass_covers m laws set tree (noted 0 e None) first r pass (begun P draws) has
 
     -- so values and verdicts hold in them
-    pub covered_holds : (globals : List GlobalVariable) (tree : Node) (r : Result V) (T : List Site) (values : List V) (verdicts : List (ℕ × Bool)) (flagged : Option ℕ) →
-        ((draws : List ℤ) → Covers m tree (begun globals draws) r)
-        → AreCounted T r.entries → Solves m r values verdicts flagged → HoldsInTree m globals tree values verdicts
-    covered_holds globals tree r T values verdicts flagged covers counted solves = record { stores = stores; proved = proved; unreached = unreached }
+    pub covered_holds : (P : Program) (tree : Node) (r : Result V) (T : List Site) (values : List V) (verdicts : List (ℕ × Bool)) (flagged : Option ℕ) →
+        ((draws : List ℤ) → Covers m tree (begun P draws) r)
+        → AreCounted T r.entries → Solves m r values verdicts flagged → HoldsInTree m P tree values verdicts
+    covered_holds P tree r T values verdicts flagged covers counted solves = record { stores = stores; proved = proved; unreached = unreached }
       where
-        stores : (q : ℕ) (draws : List ℤ) (t : State) → Comes tree (begun globals draws) q t → (v : V) × (slice_get values q ≡ Some v) × m.has v t.store × (m.dims v ≡ length t.store)
+        stores : (q : ℕ) (draws : List ℤ) (t : State) → Comes tree (begun P draws) q t → (v : V) × (slice_get values q ≡ Some v) × m.has v t.store × (m.dims v ≡ length t.store)
         stores q draws t comes =
             let (v, found, has) = (covers draws).comes q t comes in
             (v, (solves.is_value q v).1 found, has.1, sym (laws.sized v t.store has.0 has.1))
 
-        proved : (q : ℕ) (draws : List ℤ) → Contains verdicts (q, true) → FailsAt tree (begun globals draws) q → ⊥
+        proved : (q : ℕ) (draws : List ℤ) → Contains verdicts (q, true) → FailsAt tree (begun P draws) q → ⊥
         proved q draws listed fails =
             let (v, t, found, has) = (covers draws).fails q fails in
             let (u, seen, so) = solves.is_verdict q true listed in
@@ -57,7 +57,7 @@ module _ {V H : Type 0} (m : Meaning V H) where
             let own = subst (λ (x : V). Has m x t.store) (one_failing V q v u r.entries few found seen) has in
             laws.partless u own.0 (so.0 refl) t.store own.1
 
-        unreached : (q : ℕ) (v : V) (draws : List ℤ) (t : State) → slice_get values q ≡ Some v → IsUnreachable m v → Comes tree (begun globals draws) q t → ⊥
+        unreached : (q : ℕ) (v : V) (draws : List ℤ) (t : State) → slice_get values q ≡ Some v → IsUnreachable m v → Comes tree (begun P draws) q t → ⊥
         unreached q v draws t there is comes =
             let (w, found, has) = (covers draws).comes q t comes in
             let own = subst (λ (x : V). Has m x t.store) (sym (same_Some v w (sym there ∙ (solves.is_value q w).1 found))) has in

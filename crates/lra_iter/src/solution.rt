@@ -93,8 +93,8 @@ pub fn analyse<D: Domain>(
     requires numbered { IsNumbered (map site_view graph.now.sites.items) (node_view graph.now.tree) }
     ensures solved { IfOk result (λ s. (P : Program) → P.globals ≡ globals.now →
         IsSolved D.meaning plan.now P (node_view graph.now.tree) s.values.items s.verdicts.items s.flagged) }
-    ensures sound { IfOk result (λ s. HoldsInTree D.meaning globals.now
-        (node_view graph.now.tree) s.values.items s.verdicts.items) }
+    ensures sound { IfOk result (λ s. (P : Program) → P.globals ≡ globals.now →
+        HoldsInTree D.meaning P (node_view graph.now.tree) s.values.items s.verdicts.items) }
     ensures wide { IfOk result (λ s. PointsHave (map site_view graph.now.sites.items) (node_view graph.now.tree)
         (length globals.now) → AreWide D.meaning (map site_view graph.now.sites.items) s.values.items) }
     ensures points { IfOk result (λ s. length s.values.items ≡ length graph.now.sites.items) }

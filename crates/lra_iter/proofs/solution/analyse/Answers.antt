@@ -1,8 +1,10 @@
 -- Goals of `analyse`: the iteration over a program's tree of operations, from its global variables at their first
 -- values.
-use Rattle.std.proofs.Common.{length, map, sym, subst}
+use Rattle.std.proofs.Common.{List, length, map, sym, subst}
 use Rattle.std.specs.List.{All}
 use Rattle.std.proofs.lemmas.List.Elements.{All-nil}
+use Rattle.lra_program.specs.declared.program.GlobalVariable.{GlobalVariable}
+use Rattle.lra_program.specs.WellFormed.{AreGoodGlobals}
 use Rattle.lra_operations.specs.GraphViews.{node_view, site_view}
 use Rattle.lra_flow.specs.Operations.{dropping}
 use Rattle.lra_outcomes.specs.Outcome.{seen}
@@ -42,7 +44,7 @@ returns-clause-solved g c P same =
     solved m g.met.D.Domain.laws c.args.plan.now P (node_view graph.tree) result solution.values.items solution.verdicts.items solution.flagged derived c.in_ok-solution.ensures.solves
 
 pub returns-clause-sound : goal.returns-clause-sound
-returns-clause-sound g c =
+returns-clause-sound g c P same =
     let m = g.D.Domain.meaning in
     let graph = c.args.graph.now in
     let result = seen c.in_ok-outcome.outcome in
@@ -51,9 +53,11 @@ returns-clause-sound g c =
     let pass = rw begun.4 at c.in_ok-outcome.ensures.passed.pass in
     let counted = pass_counted (dropping m) (map site_view graph.sites.items) c.args.plan.now
     (node_view graph.tree) c.in_ok-value.flag c.in_ok-value.value result c.requires.numbered c.in_ok-outcome.ensures.passed.pass in
-    covered_holds m g.met.D.Domain.laws c.args.globals.now (node_view graph.tree) result (map site_view graph.sites.items) solution.values.items solution.verdicts.items solution.flagged
-    (begun_covers m g.met.D.Domain.laws c.args.plan.now c.args.globals.now c.requires.globals (node_view graph.tree) begun.0 c.in_ok-value.value begun.1 result
-    begun.2 begun.3 pass)
+    let derived = derived_from m c.args.plan.now P (node_view graph.tree) c.args.globals.now begun.0 c.in_ok-value.value begun.1 result same
+    begun.2 begun.3 pass in
+    let good = subst (λ (zs : List GlobalVariable). AreGoodGlobals zs) (sym same) c.requires.globals in
+    covered_holds m g.met.D.Domain.laws P (node_view graph.tree) result (map site_view graph.sites.items) solution.values.items solution.verdicts.items solution.flagged
+    (begun_covers m g.met.D.Domain.laws c.args.plan.now P good (node_view graph.tree) derived.0 derived.1 derived.2 result derived.3 derived.4 derived.5)
     counted c.in_ok-solution.ensures.solves
 
 pub returns-clause-wide : goal.returns-clause-wide
