@@ -12,7 +12,7 @@ use Rattle.lra_program.specs.Program.{local, literal, read, input, nonzero, Call
 use Rattle.lra_program.specs.Program as program
 use Rattle.lra_program.specs.Step.{Op, append, give, give_any, keep}
 use Rattle.lra_operations.specs.Graph.{returned, Node, empty, point, act, seq, choose}
-use Rattle.lra_operations.specs.Inlined.{as_declaration, as_given, as_result, as_statement, as_none, as_if, as_absent, as_assign, as_value, as_return_value, call_node, return_node}
+use Rattle.lra_operations.specs.Inlined.{as_declaration, as_given, as_result, is_call, as_statement, as_none, as_if, as_absent, as_assign, as_value, as_return_value, call_node, return_node}
 use Rattle.lra_operations.specs.Agree.{IsGraph}
 use Rattle.lra_box.specs.declared.interval.Interval.{Interval}
 use Rattle.lra_box.specs.declared.interval.Side.TheVariants.{Low, High}
@@ -42,6 +42,7 @@ f_alone = record {
 abbrev calling : Program
 calling = record {
   globals = [];
+  arrays = [];
   functions = f_alone ∷ [];
   main = record {
     result_type = Some Int;
@@ -84,10 +85,10 @@ calling_graph = record {
   last = 6;
   live = 1;
   inlined = as_declaration refl
-      (as_given (as_result {fn = f_alone} refl refl
+      (as_given (as_result (is_call {fn = f_alone} refl refl
       (as_statement (as_if refl (as_return_value refl (omega arith) refl) as_absent)
       (as_statement (as_assign refl as_value)
-      (as_statement (as_return_value refl (omega arith) refl) as_none))) refl))
+      (as_statement (as_return_value refl (omega arith) refl) as_none))) refl)))
       as_none;
   ends = refl;
   all = refl;

@@ -54,6 +54,7 @@ is_small = compare below i (literal Int 10)
 abbrev counting : Program
 counting = record {
   globals = [];
+  arrays = [];
   functions = [];
   main = record {
     result_type = Some Int;
@@ -187,7 +188,7 @@ narrowing set = (
 abbrev entries : Interval → Interval → Interval → List (Entry Content)
 entries head inside end = value 0 (record { dims = 0; bounds = Some [] }) ∷ value 1 (one head) ∷ value 2 (one inside) ∷ value 3 (one end) ∷ []
 
-abbrev whole : Interval → Interval → Interval → Result Content
+abbrev whole : (head inside end : Interval) → Result Content
 whole head inside end = goes_on (entries head inside end) (one end) None
 
 -- the loop is narrowed to 0..10, and left with 10

@@ -559,6 +559,7 @@ outer_block = program.block (program.statement (program.assign 4 (long_variable 
 abbrev nested : program.Program
 nested = record {
   globals = [];
+  arrays = [];
   functions = [];
   main = record {
     result_type = Some Int;

@@ -1,8 +1,8 @@
 -- The tree of the worked example has each of its points once.
-use Rattle.std.proofs.Common.{◌≡◌, ℕ, zero, suc, ◌<◌, ◌≤◌, List, [], ◌∷◌, length, map, Option, Some, None, Bool, cond, refl, sym, ap, ◌∙◌, subst, arith}
+use Rattle.std.proofs.Common.{◌≡◌, ℕ, zero, suc, ◌<◌, ◌≤◌, List, [], ◌∷◌, length, map, Option, Some, None, Bool, cond, inl, inr, refl, sym, ap, ◌∙◌, subst, arith}
 use Rattle.std.specs.Prelude.{slice_get, option_map}
 use Rattle.std.proofs.lemmas.List.{length-map}
-use Rattle.std.proofs.lemmas.Option.{none-some, slice_get-map, slice_get_within}
+use Rattle.std.proofs.lemmas.Option.{none-some, slice_get-map, slice_get_cases, slice_get_within}
 use Rattle.lra_base.specs.declared.number_types.NumberType.{NumberType}
 use Rattle.lra_program.specs.Receivers.{variable_at}
 use Rattle.lra_program.specs.Program.{Expr, Cond}
@@ -19,10 +19,8 @@ abbrev pub sample_tree : NumberType → Expr → Cond → Cond → Cond → Node
 sample_tree t e c d f =
     seq (point 0) (seq (act 0 (append t)) (seq (act 0 (give 0 (variable_at 0 t) e)) (seq (seq (point 1) (choose 1 0 c (seq (point 2) (check 2 0 d)) (seq (point 3) (check 3 0 f)))) (point 4))))
 
-past : {A : Type 0} (xs : List A) (k : ℕ) → slice_get xs k ≡ None → length xs ≤ k
-past [] k e = omega arith
-past (x ∷ xs) zero e = absurd (none-some x (sym e))
-past (x ∷ xs) (suc k) e = let h = past xs k e in omega (arith, h)
+past : (sites : List Site) (k : ℕ) → slice_get sites k ≡ None → length sites ≤ k
+past sites k none = elim (slice_get_cases sites k).1 [ inl found ↦ absurd (none-some found.0 (sym none ∙ found.2)) | inr behind ↦ behind.0 ]
 
 flag_count : Option Bool → ℕ
 flag_count None = 0
