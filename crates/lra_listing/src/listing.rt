@@ -1,6 +1,6 @@
 //! The report of what an analysis found.
 
-ghost use Rattle.std.specs.Prelude.{◌≡◌, ◌++◌, ◌∷◌, ◌<◌, ◌^◌, ℕ, suc, length, map, Some, option_map, IfOk};
+ghost use Rattle.std.specs.Prelude.{◌≡◌, ◌++◌, ◌∷◌, ◌<◌, ◌^◌, ℕ, suc, length, map, flat_map, Some, option_map, IfOk};
 ghost use Rattle.std.specs.Prelude.{string_bytes, List, All};
 ghost use Rattle.lra_operations.specs.Agree.{IsGraph};
 ghost use Rattle.lra_operations.specs.Graph.{Node};
@@ -10,10 +10,9 @@ ghost use Rattle.lra_tree.specs.Views.{tree_view, part_view, global_view};
 ghost use Rattle.lra_tree.specs.Labels.{label_at, labels_of};
 ghost use Rattle.lra_meaning.specs.Resolve.{resolve};
 ghost use Rattle.lra_program.specs.Sites.{sites_of};
-ghost use Rattle.lra_meaning.specs.NameFaults.{global_names};
 ghost use Rattle.lra_meaning.specs.ShownNames.{shown_names};
 ghost use Rattle.lra_report.specs.ReportText.{path_text};
-ghost use Rattle.lra_meaning.specs.LiveNames.{globals_named, names_outside, live_names};
+ghost use Rattle.lra_meaning.specs.LiveNames.{live_name, globals_named, names_outside, live_names};
 ghost use Rattle.lra_report.specs.declared.verdict_kinds.VerdictKind.TheVariants.{Assertion, Fit};
 ghost use Rattle.lra_report.specs.Listing.{call_at, called_at, calls_on, listed_point, listed_verdict, AreListed};
 ghost use Rattle.lra_report.specs.Listing.{Lists, judged_place, subject};
@@ -29,7 +28,7 @@ use lra_report::{
     CallPlace, Part, Point, PointReport, Report, Verdict, VerdictKind, names_at, path_text,
 };
 use lra_show::Names;
-use lra_tree::{Global as Variable, Identifier, Item, Tree, Word};
+use lra_tree::{Global as Variable, Identifier, Item, Shape, Tree, Word};
 use std::alloc::{AllocError, Global};
 
 /// Adds names.
@@ -221,12 +220,22 @@ pub fn list_verdict(
     })
 }
 
+/// Adds the name of a global variable; an array isn't among those that live.
+fn push_variable(global: &Variable, names: &mut Names) -> Result<(), AllocError>
+    ensures { IfOk result (λ _. names.new ≡ names.old ++ live_name (global_view global.now)) }
+{
+    match &global.shape {
+        Shape::Scalar(_) => names.push(global.name.word.as_str()),
+        Shape::Array(_) => Ok(()),
+    }
+}
+
 /// Adds the names of global variables.
 fn push_variables(globals: &[Variable], names: &mut Names) -> Result<(), AllocError>
-    ensures { IfOk result (λ _. names.new ≡ names.old ++ global_names (map global_view globals.now)) }
+    ensures { IfOk result (λ _. names.new ≡ names.old ++ flat_map live_name (map global_view globals.now)) }
 {
     'globals: for global in globals {
-        names.push(global.name.word.as_str())?;
+        push_variable(global, names)?;
     }
     Ok(())
 }
@@ -239,7 +248,7 @@ fn push_globals(item: &Item, names: &mut Names) -> Result<(), AllocError>
     match item {
         Item::Prototype => Ok(()),
         Item::Globals(globals) => {
-            names.push(globals.first.name.word.as_str())?;
+            push_variable(&globals.first, names)?;
             push_variables(&globals.rest, names)
         }
         Item::Function(_) => Ok(()),

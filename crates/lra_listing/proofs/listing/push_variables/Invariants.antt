@@ -1,8 +1,9 @@
 -- So far the first names are there.
 use Rattle.std.proofs.Common.{◌≡◌, ◌++◌, map, take}
+use Rattle.std.specs.List.{flat_map}
 use Rattle.lra_tree.specs.Views.{global_view}
-use Rattle.lra_meaning.specs.NameFaults.{global_names}
+use Rattle.lra_meaning.specs.LiveNames.{live_name}
 use Rattle.lra_listing.proofs.listing.push_variables.Given as goal
 
 abbrev pub invariant-globals : goal.invariant-globals
-invariant-globals l = l.names ≡ l.fn.names ++ global_names (map global_view (take l.global-index l.globals))
+invariant-globals l = l.names ≡ l.fn.names ++ flat_map live_name (map global_view (take l.global-index l.globals))
