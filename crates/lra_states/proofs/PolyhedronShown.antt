@@ -73,9 +73,9 @@ members equal P (r ∷ rows) (q ∷ kinds) h g k = elim (contains_cases (let x :
   | inr d ↦ members equal P rows kinds (All-tail P r rows h) g d
 ]
 
-pub each_number : (zs : List ℤ) → All InRange zs → AllByRecursion InRange zs
-each_number [] h = tt
-each_number (z ∷ zs) h = (All-head InRange z zs h, each_number zs (All-tail InRange z zs h))
+pub each_of : {A : Type 0} (P : A → Type 0) (xs : List A) → All P xs → AllByRecursion P xs
+each_of P [] h = tt
+each_of P (x ∷ xs) h = (All-head P x xs h, each_of P xs (All-tail P x xs h))
 
 -- ---- widths
 row_wide : (n : ℕ) (row : List ℤ) (k : ConKind) → length row ≡ suc n → length (report_row row k).coefficients ≡ n
@@ -312,10 +312,10 @@ module _ (rows : Listed ConKind) (gens : Listed GenKind) (is : IsPolyhedron (pol
     (wide_rows : All (λ (r : List ℤ). length r ≡ suc rows.dims) rows.rows) (wide_generators : All (λ (r : List ℤ). length r ≡ suc gens.dims) gens.rows)
     (small_rows : All (All InRange) rows.rows) (small_generators : All (All InRange) gens.rows) where
   rows_small : AreSmall (constraints rows)
-  rows_small = members is_equality (AllByRecursion InRange) rows.rows rows.kinds (λ k d h. each_number _ (small_rows k d h))
+  rows_small = members is_equality (AllByRecursion InRange) rows.rows rows.kinds (λ k d h. each_of InRange _ (small_rows k d h))
 
   generators_small : AreSmall (generators gens)
-  generators_small = members is_line (AllByRecursion InRange) gens.rows gens.kinds (λ k d h. each_number _ (small_generators k d h))
+  generators_small = members is_line (AllByRecursion InRange) gens.rows gens.kinds (λ k d h. each_of InRange _ (small_generators k d h))
 
   pub told_so : (state : Invariant) → state ≡ shown_polyhedron (polyhedron_of rows gens) → TellsPolyhedron (polyhedron_of rows gens) state
   told_so state e =
