@@ -5,29 +5,31 @@ use Rattle.std.specs.Prelude.{slice_get}
 use Rattle.std.specs.List.{AllByRecursion, Contains}
 use Rattle.std.proofs.lemmas.Option.{none-some, same_Some}
 use Rattle.lra_linear.proofs.Membership.{contains_none, contains_cases}
-use Rattle.lra_program.specs.Program.{Slot, global, local, Expr, Cond, Rvalue, Stmt, Cases, BlockItems, Program}
+use Rattle.lra_program.specs.Program.{Slot, global, local, Expr, Cond, Call, Rvalue, Stmt, Cases, BlockItems, Program}
 use Rattle.lra_base.specs.declared.case_labels.CaseLabel.{CaseLabel}
 use Rattle.lra_base.specs.Limits.{greatest_live}
 use Rattle.lra_base.specs.declared.number_types.NumberType.{NumberType}
+use Rattle.lra_program.specs.declared.receivers.Cell.{Cell}
+use Rattle.lra_program.specs.declared.receivers.Cell.TheVariants.{Variable, Waiting}
 use Rattle.lra_program.specs.declared.receivers.Target.{Target}
 use Rattle.lra_program.specs.declared.receivers.Receiver.{Receiver}
 use Rattle.lra_program.specs.Receivers.{variable_at, behind_result}
 use Rattle.lra_program.specs.Value.{index_of, Argument}
-use Rattle.lra_program.specs.Step.{Op, append, give, give_any, push, keep, test, Back, arguments_for}
+use Rattle.lra_program.specs.Step.{Op, append, give, fill, give_element, give_any, keep, test, Back, arguments_for}
 use Rattle.lra_operations.specs.Graph.{Exit, broken, continued, returned, Node, empty, point, act, check, seq, choose, catch, leave}
 use Rattle.lra_operations.specs.Graph.{Arms, no_arms, entry, arm}
 use Rattle.lra_program.specs.Sites.{Site, sites_of}
 use Rattle.lra_program.specs.Sites as sites
-use Rattle.lra_operations.specs.Inlined.{Frame, Spot, callee, Inl, InlAll, Declares, Loops, Gives, as_nothing, as_block, as_absent, as_assign, as_call, as_if, as_loop, as_for, as_break, as_continue}
-use Rattle.lra_operations.specs.Inlined.{as_return, as_return_value, as_return_call, as_end, as_end_value, as_end_call, as_assert, as_assume, as_none, as_declaration, as_statement, as_fresh, as_given}
-use Rattle.lra_operations.specs.Inlined.{is_loop, as_value, as_result, loop_node, call_node, return_node, main_frame}
+use Rattle.lra_operations.specs.Inlined.{Frame, Spot, callee, Inl, InlAll, Declares, Loops, Gives, Calls, as_nothing, as_block, as_absent, as_assign, as_call, as_if, as_loop, as_for, as_break, as_continue}
+use Rattle.lra_operations.specs.Inlined.{as_array, as_write, as_write_call, as_return, as_return_value, as_return_call, as_end, as_end_value, as_end_call, as_assert, as_assume, as_none, as_declaration, as_statement, as_fresh, as_given}
+use Rattle.lra_operations.specs.Inlined.{is_loop, as_value, as_result, is_call, callee_node, loop_node, return_node, main_frame}
 use Rattle.lra_operations.specs.Inlined.{InlCases, as_switch, as_no_cases, as_labelled, as_stated, switch_node}
 use Rattle.lra_operations.specs.Agree.{IsGraph}
 use Rattle.lra_program.specs.WellFormed.{IsLive, IsGoodRvalue, IsGoodGiven, IsGoodStmt, AreGoodCases, AreGoodItems, IsGoodFunction, IsWellFormed}
 use Rattle.lra_program.specs.WellFormed.{Jumps, no_jumps, in_loop as in_loop_jumps, in_switch}
 use Rattle.lra_agreement.proofs.Lengths.{grows_all}
 use Rattle.lra_flow.specs.Live.{dims_behind, live_after}
-use Rattle.lra_change.specs.Changes.{PlaceFits, OpFits}
+use Rattle.lra_change.specs.Changes.{CellFits, PlaceFits, OpFits}
 use Rattle.lra_program.proofs.GivenArguments.{given_width}
 use Rattle.lra_outcomes.specs.Fits.{ArmsFit, ArmsJumpWith, JumpsWith, TreeFits}
 use Rattle.lra_flow.specs.Room.{most_live}
@@ -99,9 +101,13 @@ any_fit q x h = act_fit q (give_any x) h refl
 test_fit : {f : Frame} {n : ℕ} (q base : ℕ) (c : Cond) (b : Bool) → Fit f n n (act q (test base c b))
 test_fit q base c b = act_fit q (test base c b) tt refl
 
+cell_more : (c : Cell) (n m : ℕ) → n ≤ m → CellFits c n → CellFits c m
+cell_more (Variable k) n m h p = omega arith
+cell_more (Waiting at) n m h p = tt
+
 place_more : (x : Option Target) (n m : ℕ) → n ≤ m → PlaceFits x n → PlaceFits x m
 place_more None n m h p = tt
-place_more (Some x) n m h p = omega arith
+place_more (Some x) n m h p = cell_more x.cell n m h p
 
 break_jump : (f : Frame) (m : ℕ) → f.breaks ≡ Some m → (k : Exit) (m' : ℕ) → (k ≡ broken) × (m' ≡ m) → JumpFits f k m'
 break_jump f m i broken m' j = rw j.1 i
@@ -223,8 +229,12 @@ switch_fit f n q base e arms x = record { fits = (x.fits, λ m j. sym (same_Some
     outer continued m d j = x.jumps continued m j
     outer returned m d j = x.jumps returned m j
 
+-- an operation that gives arguments fits where so many more variables may live, which it adds
+abbrev AddsFitting : (List Argument → Op) → Type 0
+AddsFitting gives = (es : List Argument) (n : ℕ) → n + length es ≤ most_live → OpFits (gives es) n × (dims_behind (gives es) n ≡ n + length es)
+
 -- of a call whose body is g
-module _ (f : Frame) (n r : ℕ) (x : Receiver) (es : List Argument) (params : ℕ) (g : Node) (f' : Frame) (n' : ℕ) (i : length es ≡ params)
+module _ (f : Frame) (n r : ℕ) (x : Receiver) (gives : List Argument → Op) (es : List Argument) (adds : AddsFitting gives) (params : ℕ) (g : Node) (f' : Frame) (n' : ℕ) (i : length es ≡ params)
     (no_breaks : f'.breaks ≡ None) (no_continues : f'.continues ≡ None)
     (j : f'.back ≡ Some (record { receiver = x; here = f.here; length = n })) (low : n + params ≤ n') (few : Few n') (place : PlaceFits x.target n)
     (y : Fit f' (n + params) n' g) where
@@ -251,11 +261,14 @@ module _ (f : Frame) (n r : ℕ) (x : Receiver) (es : List Argument) (params : �
   few_params : Few (n + params)
   few_params = omega arith
 
-  push_fits : n + length es ≤ most_live
-  push_fits = rw i (few_is_small (n + params) few_params)
+  given_fit : (q : ℕ) → Fit f n (n + params) (act q (gives es))
+  given_fit q =
+      let room : n + length es ≤ most_live = rw i (few_is_small (n + params) few_params) in
+      let (fits, is) = adds es n room in
+      act_fit q (gives es) fits (is ∙ ap (λ (k : ℕ). n + k) i)
 
-  call_fit : (q : ℕ) → Fit f n n (call_node q r f.here.base n x es params g)
-  call_fit q = seq_fit _ _ few_params (act_fit q (push f.here.base es) push_fits (ap (λ (k : ℕ). n + k) i)) (catch_fit q)
+  call_fit : (q : ℕ) → Fit f n n (callee_node q r n x (gives es) params g)
+  call_fit q = seq_fit _ _ few_params (given_fit q) (catch_fit q)
 
 all_at : {A : Type 0} (P : A → Type 0) (xs : List A) (k : ℕ) (x : A) → AllByRecursion P xs → slice_get xs k ≡ Some x → P x
 all_at P [] k x h e = absurd (none-some x e)
@@ -285,6 +298,7 @@ other_loop P f n own l st = record { globals = st.globals; within = st.within; t
 own_low : {P : Program} {T : List Site} {spot : Spot} {s : BlockItems} {g : Node} {n q : ℕ} (base own : ℕ) → InlAll P T spot s g n q → base + own ≤ spot.live → base + sites.live_behind own s ≤ n
 own_low base own as_none w = w
 own_low base own (as_declaration i j e) w = own_low base (suc own) e (omega arith)
+own_low base own (as_array i e) w = own_low base own e w
 own_low base own (as_statement d e) w = own_low base own e w
 
 module _ (P : Program) (T : List Site) (few : AllFew T) (well : IsWellFormed P) where
@@ -313,6 +327,10 @@ module _ (P : Program) (T : List Site) (few : AllFew T) (well : IsWellFormed P) 
     fit_one as_absent l own st fw good = empty_fit
     fit_one (as_assign {s = spot} {at = at} {x = x} i d) l own st fw good =
         seq_fit _ _ fw (point_fit spot.next) (fit_gives d at own st fw (standing_place P spot.frame spot.live own x.slot x.number_type st good.0) good.1)
+    fit_one (as_write {s = spot} {x = x} {e = e} i) l own st fw good =
+        seq_fit _ _ fw (point_fit spot.next) (act_fit spot.next (give_element spot.frame.here.base x e) tt refl)
+    fit_one (as_write_call {s = spot} {at = at} i d) l own st fw good =
+        seq_fit _ _ fw (point_fit spot.next) (fit_calls d (λ es n room. (room, refl)) own st fw tt)
     fit_one (as_call {s = spot} {at = at} i d) l own st fw good = seq_fit _ _ fw (point_fit spot.next) (fit_gives d at own st fw tt good)
     fit_one (as_if {s = spot} {c = c} {g = g} {h = h} i d e) l own st fw good =
         seq_fit _ _ fw (point_fit spot.next) (choose_fit spot.next spot.frame.here.base c g h (fit_one d l own st fw good.1) (fit_one e l own st fw good.2))
@@ -363,6 +381,10 @@ module _ (P : Program) (T : List Site) (few : AllFew T) (well : IsWellFormed P) 
         let more : Few (suc spot.live) = omega arith in
         let now : Few spot.live = omega arith in
         seq_fit _ _ more (seq_fit _ _ now (point_fit spot.next) (fit_declares j d.label own st more good.0)) (fit_all e l (suc own) (one_more P spot.frame spot.live own st) fw good.1)
+    fit_all (as_array {s = spot} {a = a} {n = n'} i e) l own st fw good =
+        let low : spot.live ≤ n' = grows_all e in
+        let now : Few spot.live = omega arith in
+        seq_fit _ _ now (seq_fit _ _ now (point_fit spot.next) (act_fit spot.next (fill a) tt refl)) (fit_all e l own st fw good)
     fit_all (as_statement {s = spot} {n = n'} d e) l own st fw good =
         let low : spot.live ≤ n' = grows_all e in
         let now : Few spot.live = omega arith in
@@ -390,11 +412,16 @@ module _ (P : Program) (T : List Site) (few : AllFew T) (well : IsWellFormed P) 
         PlaceFits x.target spot.live →
         IsGoodRvalue P at own e → Fit spot.frame spot.live spot.live g
     fit_gives (as_value {s = spot} {x = x} {e = e}) at own st fw place good = give_fit spot.next spot.frame.here.base x e place
-    fit_gives (as_result {s = spot} {x = x} {c = c} {fn = fn} {g = g} {n = n'} {q = r'} i j d k) at own st fw place good =
+    fit_gives (as_result d) at own st fw place good = fit_calls d (λ es n room. (room, refl)) own st fw place
+
+    fit_calls : {spot : Spot} {r : ℕ} {x : Receiver} {gives : List Argument → Op} {c : Call} {g : Node} {q : ℕ} → Calls P T spot r x gives c g q →
+        AddsFitting gives → (own : ℕ) → Standing P spot.frame spot.live own → Few spot.live → PlaceFits x.target spot.live →
+        Fit spot.frame spot.live spot.live g
+    fit_calls (is_call {s = spot} {x = x} {gives = gives} {c = c} {fn = fn} {g = g} {n = n'} {q = r'} i j d k) adds own st fw place =
         let fw' : Few n' = few r' _ k in
         let y = behind_result fn.result_type x in
         let params = length fn.parameters in
-        call_fit spot.frame spot.live r' y (arguments_for fn.parameters c.arguments) params g (callee spot.frame spot.live y c) n'
+        call_fit spot.frame spot.live r' y gives (arguments_for fn.parameters c.arguments) adds params g (callee spot.frame spot.live y c) n'
         (given_width fn.parameters c.arguments j) refl refl refl (grows_all d) fw' place
         (fit_all d no_jumps params (in_callee spot.frame spot.live own params y (callee spot.frame spot.live y c) st place refl refl) fw'
         (all_at (IsGoodFunction P) P.functions c.function fn well.functions i)) spot.next

@@ -4,15 +4,17 @@ use Rattle.std.specs.Prelude.{⊤}
 use Rattle.std.proofs.lemmas.Option.{slice_get_within}
 use Rattle.lra_domain.specs.declared.Exactness.{Exactness}
 use Rattle.lra_domain.specs.declared.Exactness.TheVariants.{Exact, Flagged}
-use Rattle.lra_program.specs.Program.{Expr, Cond, Rvalue, Stmt, Cases, BlockItems, Program}
+use Rattle.lra_program.specs.Program.{Expr, Cond, Call, Rvalue, Stmt, Cases, BlockItems, Program}
 use Rattle.lra_base.specs.declared.number_types.NumberType.{NumberType}
 use Rattle.lra_program.specs.declared.receivers.Receiver.{Receiver}
+use Rattle.lra_program.specs.Step.{Op}
+use Rattle.lra_program.specs.Value.{Argument}
 use Rattle.lra_operations.specs.Graph.{Exit, broken, continued, returned, Node, empty, point, act, check, seq, choose, iterate, catch, leave}
 use Rattle.lra_operations.specs.Graph.{select, Arms, no_arms, entry, arm}
 use Rattle.lra_program.specs.Sites.{Site, sites_of}
 use Rattle.lra_operations.specs.Inlined.{Spot, move, HasSite, Inl, InlAll, Declares, Loops, Gives, as_nothing, as_block, as_absent, as_assign, as_call, as_if, as_loop, as_for, as_break, as_continue}
 use Rattle.lra_operations.specs.Inlined.{as_return, as_return_value, as_return_call, as_end, as_end_value, as_end_call, as_assert, as_assume, as_none, as_declaration, as_statement, as_fresh, as_given}
-use Rattle.lra_operations.specs.Inlined.{is_loop, as_value, as_result, InlCases, as_switch, as_no_cases, as_labelled, as_stated}
+use Rattle.lra_operations.specs.Inlined.{is_loop, as_value, as_result, is_call, Calls, as_array, as_write, as_write_call, InlCases, as_switch, as_no_cases, as_labelled, as_stated}
 use Rattle.lra_operations.specs.Agree.{IsGraph}
 use Rattle.lra_flow.specs.Plan.{Plan, Widening}
 use Rattle.lra_flow.specs.Operations.{Operations}
@@ -44,6 +46,8 @@ module _ (P : Program) (T : List Site) where
     below_one (as_block {s = spot} {end = end} {n = n'} {q = q'} d i) = (below_all d, (tt, site_below (move spot n' q') end _ i))
     below_one as_absent = tt
     below_one (as_assign {s = spot} {at = at} i d) = (tt, below_gives d (site_below spot at _ i))
+    below_one (as_write {s = spot} {at = at} i) = (tt, site_below spot at _ i)
+    below_one (as_write_call {s = spot} {at = at} i d) = (tt, below_calls d (site_below spot at _ i))
     below_one (as_call {s = spot} {at = at} i d) = (tt, below_gives d (site_below spot at _ i))
     below_one (as_if {s = spot} {at = at} i d e) = (tt, (site_below spot at _ i, below_one d, below_one e))
     below_one (as_loop d) = (below_loop d).1
@@ -68,6 +72,7 @@ module _ (P : Program) (T : List Site) where
     below_all : {spot : Spot} {s : BlockItems} {g : Node} {n q : ℕ} → InlAll P T spot s g n q → Below g
     below_all as_none = tt
     below_all (as_declaration {s = spot} i j e) = ((tt, below_declares j (site_below spot _ _ i)), below_all e)
+    below_all (as_array {s = spot} {at = at} i e) = ((tt, site_below spot at _ i), below_all e)
     below_all (as_statement d e) = (below_one d, below_all e)
 
     below_declares : {spot : Spot} {r : ℕ} {t : NumberType} {e : Option Rvalue} {g : Node} {q : ℕ} → Declares P T spot r t e g q → spot.next < length T → Below
@@ -80,7 +85,11 @@ module _ (P : Program) (T : List Site) where
 
     below_gives : {spot : Spot} {r : ℕ} {x : Receiver} {e : Rvalue} {g : Node} {q : ℕ} → Gives P T spot r x e g q → spot.next < length T → Below g
     below_gives as_value l = l
-    below_gives (as_result {q = r'} i j d h) l = let m = slice_get_within T r' _ h in (l, (l, (below_all d, (tt, (m, (m, m))))))
+    below_gives (as_result d) l = below_calls d l
+
+    below_calls : {spot : Spot} {r : ℕ} {x : Receiver} {gives : List Argument → Op} {c : Call} {g : Node} {q : ℕ} → Calls P T spot r x gives c g q →
+        spot.next < length T → Below g
+    below_calls (is_call {q = r'} i j d h) l = let m = slice_get_within T r' _ h in (l, (l, (below_all d, (tt, (m, (m, m))))))
 
 pub graph_below : (P : Program) (g : Node) → IsGraph P g → AreBelow (length (sites_of P)) g
 graph_below P g graph = subst (λ (h : Node). AreBelow (length (sites_of P)) h) (sym graph.parts) (below_all P (sites_of P) graph.inlined, tt)

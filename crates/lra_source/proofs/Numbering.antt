@@ -3,16 +3,18 @@ use Rattle.std.proofs.Common.{◌≡◌, ℕ, zero, suc, ◌+◌, ◌≤◌, ◌
 use Rattle.std.specs.Prelude.{slice_get, cond}
 use Rattle.std.proofs.lemmas.Bool.{cases_lt}
 use Rattle.std.proofs.lemmas.Option.{none-some, slice_get_within}
-use Rattle.lra_program.specs.Program.{Rvalue, Stmt, Cases, BlockItems, Program}
+use Rattle.lra_program.specs.Program.{Call, Rvalue, Stmt, Cases, BlockItems, Program}
 use Rattle.lra_base.specs.declared.number_types.NumberType.{NumberType}
 use Rattle.lra_program.specs.declared.receivers.Receiver.{Receiver}
 use Rattle.lra_program.specs.Receivers.{behind_result}
+use Rattle.lra_program.specs.Step.{Op}
+use Rattle.lra_program.specs.Value.{Argument}
 use Rattle.lra_operations.specs.Graph.{Node, Arms, seq, point}
 use Rattle.lra_program.specs.Sites.{Site, sites_of}
 use Rattle.lra_operations.specs.Inlined.{Spot, spot_of, move, callee, Has, HasSite, Inl, InlAll, Declares, Loops, Gives, as_nothing, as_block, as_absent, as_assign, as_call, as_if, as_loop, as_for}
 use Rattle.lra_operations.specs.Inlined.{as_break, InlCases, as_switch, as_no_cases, as_labelled, as_stated}
 use Rattle.lra_operations.specs.Inlined.{as_continue, as_return, as_return_value, as_return_call, as_end, as_end_value, as_end_call, as_assert, as_assume, as_none, as_declaration, as_statement}
-use Rattle.lra_operations.specs.Inlined.{as_fresh, as_given, is_loop, as_value, as_result, main_spot}
+use Rattle.lra_operations.specs.Inlined.{as_fresh, as_given, is_loop, as_value, as_result, is_call, Calls, as_array, as_write, as_write_call, main_spot}
 use Rattle.lra_operations.specs.Agree.{IsGraph}
 use Rattle.lra_iter.specs.Numbers.{one_if, values_in, values_in_arms, checks_in, checks_in_arms, asserts_of, IsNumbered}
 use Rattle.lra_iter.proofs.Counting.{one_same, one_other}
@@ -105,6 +107,8 @@ module _ (T : List Site) (k : ℕ) where
           (omega arith) (omega arith)
       in_one (as_absent {s = spot}) = none spot.next
       in_one (as_assign {s = spot} {at = at} {g = g} {q = q'} i d) = point_then spot.next q' (values_in g k) (checks_in g k) _ _ (plain spot at i) (in_gives d) refl (omega arith)
+      in_one (as_write {s = spot} {at = at} i) = same (one_if spot.next k) 0 _ _ spot.next (suc spot.next) (plain spot at i) (omega arith) (omega arith)
+      in_one (as_write_call {s = spot} {at = at} {g = g} {q = q'} i d) = point_then spot.next q' (values_in g k) (checks_in g k) _ _ (plain spot at i) (in_calls d) refl (omega arith)
       in_one (as_call {s = spot} {at = at} {g = g} {q = q'} i d) = point_then spot.next q' (values_in g k) (checks_in g k) _ _ (plain spot at i) (in_gives d) refl (omega arith)
       in_one (as_if {s = spot} {at = at} {g = g} {h = h} {r = r} {q = q'} i d e) =
           point_then spot.next q' (values_in g k + values_in h k) (checks_in g k + checks_in h k) _ _ (plain spot at i)
@@ -139,6 +143,8 @@ module _ (T : List Site) (k : ℕ) where
       in_all (as_declaration {s = spot} {d = d} {g = g} {h = h} {r = r} {q = q'} i j e) =
           point_then spot.next q' (values_in g k + values_in h k) (checks_in g k + checks_in h k) _ _ (plain spot d.label i)
           (then (values_in g k) (checks_in g k) (values_in h k) (checks_in h k) _ _ (suc spot.next) r q' (in_declares j) (in_all e) refl refl) (omega arith) (omega arith)
+      in_all (as_array {s = spot} {at = at} {h = h} {q = q'} i e) =
+          point_then spot.next q' (values_in h k) (checks_in h k) _ _ (plain spot at i) (in_all e) (omega arith) (omega arith)
       in_all (as_statement {s = spot} {g = g} {h = h} {r = r} {q = q'} d e) = then (values_in g k) (checks_in g k) (values_in h k) (checks_in h k) _ _ spot.next r q' (in_one d) (in_all e) refl refl
 
       in_declares : {spot : Spot} {r : ℕ} {t : NumberType} {e : Option Rvalue} {g : Node} {q : ℕ} → Declares P T spot r t e g q → In g r q
@@ -155,7 +161,10 @@ module _ (T : List Site) (k : ℕ) where
 
       in_gives : {spot : Spot} {r : ℕ} {x : Receiver} {e : Rvalue} {g : Node} {q : ℕ} → Gives P T spot r x e g q → In g r q
       in_gives (as_value {r = r}) = none r
-      in_gives (as_result {s = spot} {r = r} {x = x} {c = c} {fn = fn} {g = g} {n = n'} {q = r'} i j d l) =
+      in_gives (as_result d) = in_calls d
+
+      in_calls : {spot : Spot} {r : ℕ} {x : Receiver} {gives : List Argument → Op} {c : Call} {g : Node} {q : ℕ} → Calls P T spot r x gives c g q → In g r q
+      in_calls (is_call {s = spot} {r = r} {x = x} {c = c} {fn = fn} {g = g} {n = n'} {q = r'} i j d l) =
           then (values_in g k) (checks_in g k) (one_if r' k) 0 _ _ r r' (suc r') (in_all d) (plain (spot_of (callee spot.frame spot.live (behind_result fn.result_type x) c) n' r') fn.end l) (omega arith) (omega arith)
 
 past_none : {A : Type 0} (xs : List A) (k : ℕ) → slice_get xs k ≡ None → length xs ≤ k

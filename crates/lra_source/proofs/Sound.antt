@@ -28,8 +28,8 @@ use Rattle.lra_iter.proofs.Covering.{begun_covers}
 module _ (V H : Type 0) (m : Meaning V H) where
   module _ (laws : Laws m) (set : Plan) (P : Program) (good : AreGoodGlobals P.globals) (g : Node) (r : Result V) where
     -- from the globals on, whatever is drawn, the iteration has the stores of the tree's runs
-    pub derivation_covers : Derivation m set P g r → (draws : List ℤ) → Covers m g (begun P.globals draws) r
-    derivation_covers (none, first, e, universal, values, pass) draws = begun_covers m laws set P.globals good g none first e r universal values pass draws
+    pub derivation_covers : Derivation m set P g r → (draws : List ℤ) → Covers m g (begun P draws) r
+    derivation_covers (none, first, e, universal, values, pass) draws = begun_covers m laws set P good g none first e r universal values pass draws
 
     module _ (derived : Derivation m set P g r) (agrees : Agrees P g) (values : List V) (verdicts : List (ℕ × Bool)) (flagged : Option ℕ) (solves : Solves m r values verdicts flagged) where
       -- where a run comes to a point, the value there has its store

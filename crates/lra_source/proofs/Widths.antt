@@ -1,19 +1,20 @@
 -- A program's tree comes to each point with as many variables as live there.
 use Rattle.std.proofs.Common.{◌≡◌, ℕ, suc, ◌+◌, ◌-◌, ◌≤◌, List, length, Option, Bool, true, refl, sym, ap, ◌∙◌, subst, arith}
 use Rattle.std.proofs.lemmas.Option.{same_Some}
-use Rattle.lra_program.specs.Program.{Cond, Rvalue, Stmt, Cases, BlockItems, Program}
+use Rattle.lra_program.specs.Program.{Cond, Call, Rvalue, Stmt, Cases, BlockItems, Program}
 use Rattle.lra_program.specs.Step as step
 use Rattle.lra_program.specs.Step.{Op, append, give, give_any, keep, test, arguments_for}
 use Rattle.lra_base.specs.declared.number_types.NumberType.{NumberType}
 use Rattle.lra_program.specs.declared.receivers.Receiver.{Receiver}
 use Rattle.lra_program.specs.Receivers.{behind_result}
+use Rattle.lra_program.specs.Value.{Argument}
 use Rattle.lra_program.proofs.GivenArguments.{given_width}
 use Rattle.lra_operations.specs.Graph.{Exit, broken, continued, returned, Node, Arms, point, act, seq, catch, leave}
 use Rattle.lra_program.specs.Sites.{Site, sites_of}
 use Rattle.lra_operations.specs.Inlined.{Spot, spot_of, move, callee, HasSite, Inl, InlAll, Declares, Loops, Gives, as_nothing, as_block, as_absent, as_assign, as_call, as_if, as_loop, as_for}
 use Rattle.lra_operations.specs.Inlined.{as_break, InlCases, as_switch, as_no_cases, as_labelled, as_stated}
 use Rattle.lra_operations.specs.Inlined.{as_continue, as_return, as_return_value, as_return_call, as_end, as_end_value, as_end_call, as_assert, as_assume, as_none, as_declaration, as_statement}
-use Rattle.lra_operations.specs.Inlined.{as_fresh, as_given, is_loop, as_value, as_result, loop_node, return_node, main_spot}
+use Rattle.lra_operations.specs.Inlined.{as_fresh, as_given, is_loop, as_value, as_result, is_call, Calls, as_array, as_write, as_write_call, loop_node, return_node, main_spot}
 use Rattle.lra_operations.specs.Agree.{IsGraph}
 use Rattle.lra_flow.specs.Live.{dims_behind, live_after}
 use Rattle.lra_iter.specs.Lives.{ArmsHave, LiveAt, PointsHave}
@@ -61,6 +62,7 @@ module _ (T : List Site) where
   low_all : {P : Program} {spot : Spot} {s : BlockItems} {g : Node} {n q : ℕ} → InlAll P T spot s g n q → spot.live ≤ n
   low_all as_none = omega arith
   low_all (as_declaration i j e) = let rest = low_all e in omega arith
+  low_all (as_array i e) = low_all e
   low_all (as_statement d e) = low_all e
 
   module _ (P : Program) where
@@ -71,6 +73,9 @@ module _ (T : List Site) where
           (then_lives _ _ (at_point q' (live_at T (move spot n' q') end _ i)) (keeps q' spot.live (low_all d)))
       lives_one as_absent = record { points = tt; behind = refl }
       lives_one (as_assign {s = spot} {at = at} i d) = then_lives _ _ (at_point spot.next (live_at T spot at _ i)) (lives_gives d)
+      lives_one (as_write {s = spot} {at = at} {x = x} {e = e} i) = then_lives _ _ (at_point spot.next (live_at T spot at _ i))
+          (acts spot.next (step.give_element spot.frame.here.base x e) refl)
+      lives_one (as_write_call {s = spot} {at = at} i d) = then_lives _ _ (at_point spot.next (live_at T spot at _ i)) (lives_calls d (λ es n. refl))
       lives_one (as_call {s = spot} {at = at} i d) = then_lives _ _ (at_point spot.next (live_at T spot at _ i)) (lives_gives d)
       lives_one (as_if {s = spot} {at = at} {g = g} {h = h} i d e) =
           let x : Lives T spot.live spot.live g = lives_one d in
@@ -103,6 +108,8 @@ module _ (T : List Site) where
       lives_all : {spot : Spot} {s : BlockItems} {g : Node} {n q : ℕ} → InlAll P T spot s g n q → Lives T spot.live n g
       lives_all as_none = record { points = tt; behind = refl }
       lives_all (as_declaration {s = spot} {d = d} i j e) = then_lives _ _ (then_lives _ _ (at_point spot.next (live_at T spot d.label _ i)) (lives_declares j)) (lives_all e)
+      lives_all (as_array {s = spot} {at = at} {a = a} i e) =
+          then_lives _ _ (then_lives _ _ (at_point spot.next (live_at T spot at _ i)) (acts spot.next (step.fill a) refl)) (lives_all e)
       lives_all (as_statement d e) = then_lives _ _ (lives_one d) (lives_all e)
 
       lives_declares : {spot : Spot} {r : ℕ} {t : NumberType} {e : Option Rvalue} {g : Node} {q : ℕ} → Declares P T spot r t e g q → Lives T spot.live
@@ -115,7 +122,11 @@ module _ (T : List Site) where
 
       lives_gives : {spot : Spot} {r : ℕ} {x : Receiver} {e : Rvalue} {g : Node} {q : ℕ} → Gives P T spot r x e g q → Lives T spot.live spot.live g
       lives_gives (as_value {s = spot} {x = x} {e = e}) = acts spot.next (give spot.frame.here.base x e) refl
-      lives_gives (as_result {s = spot} {x = x} {c = c} {fn = fn} {g = g} {n = n'} {q = r'} i j d k) =
+      lives_gives (as_result d) = lives_calls d (λ es n. refl)
+
+      lives_calls : {spot : Spot} {r : ℕ} {x : Receiver} {gives : List Argument → Op} {c : Call} {g : Node} {q : ℕ} → Calls P T spot r x gives c g q →
+          ((es : List Argument) (n : ℕ) → dims_behind (gives es) n ≡ n + length es) → Lives T spot.live spot.live g
+      lives_calls (is_call {s = spot} {x = x} {gives = gives} {c = c} {fn = fn} {g = g} {n = n'} {q = r'} i j d k) adds =
           let y = behind_result fn.result_type x in
           let given = arguments_for fn.parameters c.arguments in
           let params = length fn.parameters in
@@ -125,7 +136,7 @@ module _ (T : List Site) where
           then_lives _ _ (lives_all d) (then_lives _ _ (at_point r' (live_at T (spot_of (callee spot.frame spot.live y c) n' r') fn.end _ k))
           (then_lives _ _ (keeps r' (spot.live + params) low)
           (then_lives _ _ (acts r' (give_any y) refl) (keeps r' spot.live (omega arith))))) in
-          then_lives _ _ (acts spot.next (step.push spot.frame.here.base given) (ap (λ (k : ℕ). spot.live + k) (given_width fn.parameters c.arguments j)))
+          then_lives _ _ (acts spot.next (gives given) (adds given spot.live ∙ ap (λ (k : ℕ). spot.live + k) (given_width fn.parameters c.arguments j)))
           (record { points = inner.points; behind = inner.behind })
 
 pub graph_lives : (P : Program) (g : Node) → IsGraph P g → PointsHave (sites_of P) g (length P.globals)
