@@ -4,7 +4,7 @@ use crate::sources::{program_of, tree_of};
 use lra_base::{NumberType, SourceError};
 use lra_graph::{GraphError, Limit, build};
 use lra_operations::{Node, Op, Site};
-use lra_program::Expr;
+use lra_program::{Cell, Expr};
 use std::alloc::{AllocError, Global};
 
 const SMALL: &str = "int main(void){long x; x=2; if(x) assert(x);}";
@@ -45,7 +45,8 @@ fn is_small(tree: &Node) -> Option<bool> {
         Node::Act(1, Op::Give(0, receiver, Expr::Literal(NumberType::Int, 2))) => {
             matches!(
                 &receiver.target,
-                Some(target) if target.place == 0 && target.number_type == NumberType::Long
+                Some(target) if target.cell == Cell::Variable(0)
+                    && target.number_type == NumberType::Long
             )
         }
         _ => false,
