@@ -185,6 +185,7 @@ fn is_found(alloc: Global, source: &[Line], expected: Option<Place>) -> Result<b
     };
     let program = Program {
         globals: Vec::new(alloc),
+        arrays: Vec::new(alloc),
         functions,
         main: 0,
     };

@@ -5,7 +5,8 @@ use lra_names::resolve;
 use lra_program::{BlockItem as ProgramItem, Program, Slot, Stmt as ProgramStmt, Variable};
 use lra_tree::{
     Arguments, Assign, Block, BlockItem, Call, Declaration, Declarator, Function, Global, Globals,
-    Identifier, Init, Item, Parameter, Parameters, Rvalue, SignedLiteral, Step, Stmt, Tree, Word,
+    Identifier, Init, Item, Parameter, Parameters, Rvalue, Shape, SignedLiteral, Step, Stmt, Tree,
+    Word,
 };
 use std::alloc::{AllocError, Global as Allocator};
 use std::process::Abort;
@@ -82,7 +83,7 @@ fn call(alloc: Allocator, line: u32, column: u32) -> Result<Call, AllocError> {
 fn declarator(alloc: Allocator, line: u32, column: u32) -> Result<Declarator, AllocError> {
     Ok(Declarator {
         name: identifier(alloc, "x", line, column)?,
-        rvalue: None,
+        shape: Shape::Scalar(None),
     })
 }
 
@@ -170,7 +171,7 @@ fn result_type(has_result: bool) -> Option<NumberType> {
 fn global(alloc: Allocator, line: u32, value: Option<SignedLiteral>) -> Result<Item, AllocError> {
     let first = Global {
         name: identifier(alloc, "x", line, NAME)?,
-        value,
+        shape: Shape::Scalar(value),
     };
     Ok(Item::Globals(Globals {
         number_type: NumberType::Int,
