@@ -8,6 +8,8 @@
 #[cfg(test)]
 mod answers;
 #[cfg(test)]
+mod arrays;
+#[cfg(test)]
 mod boxes;
 #[cfg(test)]
 mod certificates;
