@@ -13,15 +13,15 @@ use Rattle.lra_program.specs.Value.{◌>>=◌, number, is_zero, apply, compares,
 use Rattle.lra_program.specs.Step.{State, scene_at, Op, append, fill, give, give_element, give_any, push, push_for, keep, test, receive, pushed, tested, aim}
 use Rattle.lra_program.specs.Step.{run_op}
 use Rattle.lra_program.specs.Accesses.{expr_accesses, cond_accesses, arguments_accesses, aim_accesses, op_accesses, IsBehind, ExprStrays, CondStrays}
-use Rattle.lra_program.specs.Accesses.{ArgumentsStray, OpStrays, IsOutside, StrayingAccess, StrayingEnd}
+use Rattle.lra_program.specs.Accesses.{ArgumentsStray, AimedStrays, OpStrays, IsOutside, StrayingAccess, StrayingEnd}
 
 -- one of its accesses ------------------------------------------------------------------------------------------------
 
 -- the n-th of them is outside in this scene
-abbrev HasOutside : List Element → Scene → ℕ → Type 0
+abbrev pub HasOutside : List Element → Scene → ℕ → Type 0
 HasOutside xs s n = (x : Element) × (slice_get xs n ≡ Some x) × IsOutside s x
 
-get_left : (xs ys : List Element) (n : ℕ) (x : Element) → slice_get xs n ≡ Some x → slice_get (xs ++ ys) n ≡ Some x
+pub get_left : {A : Type 0} (xs ys : List A) (n : ℕ) (x : A) → slice_get xs n ≡ Some x → slice_get (xs ++ ys) n ≡ Some x
 get_left [] ys n x e = absurd cc
 get_left (y ∷ xs) ys zero x e = e
 get_left (y ∷ xs) ys (suc n) x e = get_left xs ys n x e
@@ -32,20 +32,20 @@ none_more m = omega arith
 one_more : (n m : ℕ) → suc n + m ≡ suc (n + m)
 one_more n m = omega arith
 
-get_right : (xs ys : List Element) (m : ℕ) → slice_get (xs ++ ys) (length xs + m) ≡ slice_get ys m
+pub get_right : {A : Type 0} (xs ys : List A) (m : ℕ) → slice_get (xs ++ ys) (length xs + m) ≡ slice_get ys m
 get_right [] ys m = ap (slice_get ys) (none_more m)
 get_right (x ∷ xs) ys m = ap (slice_get (x ∷ xs ++ ys)) (one_more (length xs) m) ∙ get_right xs ys m
 
-left_of : (xs ys : List Element) (s : Scene) (n : ℕ) → HasOutside xs s n → HasOutside (xs ++ ys) s n
+pub left_of : (xs ys : List Element) (s : Scene) (n : ℕ) → HasOutside xs s n → HasOutside (xs ++ ys) s n
 left_of xs ys s n (x, e, h) = (x, get_left xs ys n x e, h)
 
-right_of : (xs ys : List Element) (s : Scene) (m n : ℕ) → IsBehind xs m n → HasOutside ys s m → HasOutside (xs ++ ys) s n
+pub right_of : (xs ys : List Element) (s : Scene) (m n : ℕ) → IsBehind xs m n → HasOutside ys s m → HasOutside (xs ++ ys) s n
 right_of xs ys s m n b (x, e, h) = (x, ap (slice_get (xs ++ ys)) b ∙ get_right xs ys m ∙ e, h)
 
 abbrev itself : Array → Place → Expr → Element
 itself a at e = record { array = a; place = at; index = e }
 
-expr_outside : (e : Expr) (s : Scene) (draws : List ℤ) (n : ℕ) → ExprStrays e s draws n → HasOutside (expr_accesses e) s n
+pub expr_outside : (e : Expr) (s : Scene) (draws : List ℤ) (n : ℕ) → ExprStrays e s draws n → HasOutside (expr_accesses e) s n
 expr_outside (literal t k) s draws n h = absurd h
 expr_outside (read v) s draws n h = absurd h
 expr_outside input s draws n h = absurd h
@@ -58,7 +58,7 @@ expr_outside (element a at e) s draws n (inl h) =
 expr_outside (element a at e) s draws n (inr (r, behind, is, outside)) =
     right_of (expr_accesses e) (itself a at e ∷ []) s 0 n behind (itself a at e, refl, (draws, r, is, outside))
 
-cond_outside : (c : Cond) (s : Scene) (draws : List ℤ) (n : ℕ) → CondStrays c s draws n → HasOutside (cond_accesses c) s n
+pub cond_outside : (c : Cond) (s : Scene) (draws : List ℤ) (n : ℕ) → CondStrays c s draws n → HasOutside (cond_accesses c) s n
 cond_outside (compare op a b) s draws n (inl h) = left_of (expr_accesses a) (expr_accesses b) s n (expr_outside a s draws n h)
 cond_outside (compare op a b) s draws n (inr (m, behind, r, is, h)) =
     right_of (expr_accesses a) (expr_accesses b) s m n behind (expr_outside b s r.1 m h)
@@ -71,7 +71,7 @@ cond_outside (either_of c d) s draws n (inl h) = left_of (cond_accesses c) (cond
 cond_outside (either_of c d) s draws n (inr (m, behind, left, is, h)) =
     right_of (cond_accesses c) (cond_accesses d) s m n behind (cond_outside d s left m h)
 
-arguments_outside : (given : List Argument) (s : Scene) (draws : List ℤ) (n : ℕ) → ArgumentsStray given s draws n →
+pub arguments_outside : (given : List Argument) (s : Scene) (draws : List ℤ) (n : ℕ) → ArgumentsStray given s draws n →
     HasOutside (arguments_accesses given) s n
 arguments_outside [] s draws n h = absurd h
 arguments_outside (a ∷ rest) s draws n (inl h) =
@@ -99,6 +99,14 @@ behind_aim : (xs : List Element) (m base : ℕ) (x : Element) (s t : State) → 
 behind_aim xs m base x s t e h =
     subst (λ (c : Scene). HasOutside xs c m) (sym (aimed_scene base x.array.length (value_of x.index (scene_at base s) s.draws) s t e)) h
 
+pub aimed_outside : (base : ℕ) (x : Element) (xs : List Element) (Behind : State → ℕ → Type 0) →
+    ((t : State) (m : ℕ) → Behind t m → HasOutside xs (scene_at base t) m) → (s : State) (n : ℕ) → AimedStrays base x Behind s n →
+    HasOutside (aim_accesses x ++ xs) (scene_at base s) n
+aimed_outside base x xs Behind later s n (inl h) =
+    left_of (aim_accesses x) xs (scene_at base s) n (expr_outside (read_of x) (scene_at base s) s.draws n h)
+aimed_outside base x xs Behind later s n (inr (m, behind, t, is, h)) =
+    right_of (aim_accesses x) xs (scene_at base s) m n behind (behind_aim xs m base x s t is (later t m h))
+
 abbrev OpOutside : Op → State → ℕ → Type 0
 OpOutside op s n = (x : Element) × (slice_get (op_accesses op) n ≡ Some x) × (base : ℕ) × IsOutside (scene_at base s) x
 
@@ -110,18 +118,14 @@ op_outside : (op : Op) (s : State) (n : ℕ) → OpStrays op s n → OpOutside o
 op_outside (append t) s n h = absurd h
 op_outside (fill a) s n h = absurd h
 op_outside (give base x e) s n h = based (expr_accesses e) base s n (expr_outside e (scene_at base s) s.draws n h)
-op_outside (give_element base x e) s n (inl h) = based (aim_accesses x ++ expr_accesses e) base s n
-    (left_of (aim_accesses x) (expr_accesses e) (scene_at base s) n (expr_outside (read_of x) (scene_at base s) s.draws n h))
-op_outside (give_element base x e) s n (inr (m, behind, t, is, h)) = based (aim_accesses x ++ expr_accesses e) base s n
-    (right_of (aim_accesses x) (expr_accesses e) (scene_at base s) m n behind
-    (behind_aim (expr_accesses e) m base x s t is (expr_outside e (scene_at base t) t.draws m h)))
+op_outside (give_element base x e) s n h = based (aim_accesses x ++ expr_accesses e) base s n
+    (aimed_outside base x (expr_accesses e) (λ t m. ExprStrays e (scene_at base t) t.draws m)
+    (λ t m. expr_outside e (scene_at base t) t.draws m) s n h)
 op_outside (give_any x) s n h = absurd h
 op_outside (push base given) s n h = based (arguments_accesses given) base s n (arguments_outside given (scene_at base s) s.draws n h)
-op_outside (push_for base x given) s n (inl h) = based (aim_accesses x ++ arguments_accesses given) base s n
-    (left_of (aim_accesses x) (arguments_accesses given) (scene_at base s) n (expr_outside (read_of x) (scene_at base s) s.draws n h))
-op_outside (push_for base x given) s n (inr (m, behind, t, is, h)) = based (aim_accesses x ++ arguments_accesses given) base s n
-    (right_of (aim_accesses x) (arguments_accesses given) (scene_at base s) m n behind
-    (behind_aim (arguments_accesses given) m base x s t is (arguments_outside given (scene_at base t) t.draws m h)))
+op_outside (push_for base x given) s n h = based (aim_accesses x ++ arguments_accesses given) base s n
+    (aimed_outside base x (arguments_accesses given) (λ t m. ArgumentsStray given (scene_at base t) t.draws m)
+    (λ t m. arguments_outside given (scene_at base t) t.draws m) s n h)
 op_outside (keep k) s n h = absurd h
 op_outside (test base c wanted) s n h = based (cond_accesses c) base s n (cond_outside c (scene_at base s) s.draws n h)
 
