@@ -31,6 +31,11 @@ def literal(word: str) -> int | None:
     return int(found[1], base) if base != 8 or set(found[1]) <= set('01234567') else None
 
 
+def literal_type(word: str, value: int) -> str:
+    """The type of a literal with this value."""
+    return 'long' if word[-1] in 'lL' or value > 2**31 - 1 else 'int'
+
+
 def quotient(left: int, right: int) -> int:
     """C's quotient, towards 0."""
     if right == 0:

@@ -3,7 +3,7 @@ proved; `docs/CERTIFICATES.md` tells it under Paths."""
 from collections.abc import Iterable
 from dataclasses import dataclass
 
-from looking.programs import And, Binary, Compared, Condition, Expression, Input, Literal, Negated, Not, Read
+from looking.programs import And, Binary, Compared, Condition, Element, Expression, Input, Literal, Negated, Not, Read
 from looking.reports import Fault
 
 # A constant, then a coefficient for each live variable.
@@ -136,7 +136,7 @@ class Scope:
                 raise Fault(f'no variable {read.name} is in scope')
             place = self.places[read.name] + 1
             return tuple(int(place == column) for column in range(self.live + 1))
-        if isinstance(read, Input):
+        if isinstance(read, (Input, Element)):
             return None
         if isinstance(read, Negated):
             inner = self.form(read.operand)

@@ -29,6 +29,7 @@ from looking.programs import (
     Chosen,
     Condition,
     Declared,
+    DeclaredArray,
     Jump,
     Label,
     Loop,
@@ -39,6 +40,7 @@ from looking.programs import (
     Switch,
     Value,
     Variable,
+    Written,
 )
 from looking.reports import Fault
 
@@ -198,7 +200,7 @@ class Writer:
         if not isinstance(done, Asked) or done.word != 'assert':
             ends = self.point(done.at, ends)
         match done:
-            case Nothing():
+            case Nothing() | DeclaredArray():
                 return ends
             case Declared():
                 return self.declared(done, ends)
@@ -206,6 +208,8 @@ class Writer:
                 if done.name not in self.scope:
                     raise Fault(f'no variable {done.name} is in scope')
                 return self.gives(self.scope[done.name], done.value, ends)
+            case Written():
+                return self.gives(None, done.value, ends)
             case Called():
                 return self.gives(None, done.call, ends)
             case Chosen():

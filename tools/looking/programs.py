@@ -2,7 +2,7 @@
 `lra` refuses nothing is claimed."""
 from dataclasses import dataclass
 
-from looking.conditions import literal
+from looking.conditions import literal, literal_type
 from looking.reports import Fault
 from looking.sources import Source, decode
 
@@ -14,6 +14,7 @@ TYPES = ('int', 'long')
 @dataclass(frozen=True, eq=False)
 class Literal:
     value: int
+    type: str
 
 
 @dataclass(frozen=True, eq=False)
@@ -21,6 +22,15 @@ class Read:
     """A variable's value."""
 
     name: str
+
+
+@dataclass(frozen=True, eq=False)
+class Element:
+    """An array's element, with the offset of the array's name."""
+
+    at: int
+    name: str
+    index: 'Expression'
 
 
 @dataclass(frozen=True, eq=False)
@@ -40,7 +50,7 @@ class Binary:
     right: 'Expression'
 
 
-Expression = Literal | Read | Input | Negated | Binary
+Expression = Literal | Read | Element | Input | Negated | Binary
 
 
 @dataclass(frozen=True, eq=False)
@@ -72,6 +82,9 @@ Condition = Compared | Not | And | Or
 
 @dataclass(frozen=True)
 class Call:
+    """With the offset of the called name."""
+
+    at: int
     name: str
     arguments: tuple[Expression, ...]
 
@@ -101,9 +114,31 @@ class Declared:
 
 
 @dataclass(frozen=True)
+class Array:
+    type: str
+    name: str
+    length: int
+
+
+@dataclass(frozen=True)
+class DeclaredArray:
+    at: int
+    array: Array
+
+
+@dataclass(frozen=True)
 class Assigned:
     at: int
     name: str
+    value: Value
+
+
+@dataclass(frozen=True)
+class Written:
+    """An element gets a value."""
+
+    at: int
+    element: Element
     value: Value
 
 
@@ -172,7 +207,19 @@ class Switch:
 
 
 Statement = (
-    Nothing | Block | Declared | Assigned | Called | Chosen | Loop | Jump | Return | Asked | Switch
+    Nothing
+    | Block
+    | Declared
+    | DeclaredArray
+    | Assigned
+    | Written
+    | Called
+    | Chosen
+    | Loop
+    | Jump
+    | Return
+    | Asked
+    | Switch
 )
 
 
@@ -184,15 +231,19 @@ class Variable:
 
 @dataclass(frozen=True)
 class Function:
+    """The type of its result, or `void`."""
+
+    result: str
     parameters: tuple[Variable, ...]
     body: Block
 
 
 @dataclass(frozen=True)
 class Program:
-    """The globals with their first values, and the functions by their names."""
+    """The globals with their first values, the global arrays, and the functions by their names."""
 
     variables: tuple[tuple[Variable, int], ...]
+    arrays: tuple[Array, ...]
     functions: dict[str, Function]
 
 
@@ -254,28 +305,42 @@ class Reader:
 
     def program(self) -> Program:
         variables: list[tuple[Variable, int]] = []
+        arrays: list[Array] = []
         functions: dict[str, Function] = {}
         while self.word():
             self.is_next('extern')
             kind = 'void' if self.is_next('void') else self.take_type()
             if self.word(1) == '(':
-                self.function(functions)
+                self.function(kind, functions)
             else:
-                self.first_values(kind, variables)
+                self.first_values(kind, variables, arrays)
         if 'main' not in functions:
             raise self.fault()
-        return Program(tuple(variables), functions)
+        return Program(tuple(variables), tuple(arrays), functions)
 
-    def first_values(self, kind: str, variables: list[tuple[Variable, int]]) -> None:
+    def first_values(self, kind: str, variables: list[tuple[Variable, int]], arrays: list[Array]) -> None:
         """The globals of one declaration."""
         while True:
-            variable = Variable(kind, self.take_name())
-            variables.append((variable, self.take_number() if self.is_next('=') else 0))
+            name = self.take_name()
+            if self.word() == '[':
+                arrays.append(Array(kind, name, self.length()))
+            else:
+                variables.append((Variable(kind, name), self.take_number() if self.is_next('=') else 0))
             if not self.is_next(','):
                 break
         self.take(';')
 
-    def function(self, functions: dict[str, Function]) -> None:
+    def length(self) -> int:
+        """An array's, with its brackets."""
+        self.take('[')
+        value = literal(self.word())
+        if value is None:
+            raise self.fault()
+        self.at += 1
+        self.take(']')
+        return value
+
+    def function(self, kind: str, functions: dict[str, Function]) -> None:
         """A function, or a prototype, which means nothing."""
         name = self.take_name()
         self.take('(')
@@ -283,12 +348,12 @@ class Reader:
         if self.word() == 'void' and self.word(1) == ')':
             self.take('void')
         while not self.is_next(')'):
-            kind = self.take_type()
-            parameters.append(Variable(kind, self.take_name() if self.word() not in (',', ')') else ''))
+            own = self.take_type()
+            parameters.append(Variable(own, self.take_name() if self.word() not in (',', ')') else ''))
             if self.word() != ')':
                 self.take(',')
         if not self.is_next(';'):
-            functions[name] = Function(tuple(parameters), self.block())
+            functions[name] = Function(kind, tuple(parameters), self.block())
 
     def block(self) -> Block:
         self.take('{')
@@ -309,7 +374,10 @@ class Reader:
         declared: list[Statement] = []
         while True:
             at, name = self.offset(), self.take_name()
-            declared.append(Declared(at, kind, name, self.value() if self.is_next('=') else None))
+            if self.word() == '[':
+                declared.append(DeclaredArray(at, Array(kind, name, self.length())))
+            else:
+                declared.append(Declared(at, kind, name, self.value() if self.is_next('=') else None))
             if not self.is_next(','):
                 return declared
 
@@ -319,17 +387,28 @@ class Reader:
         return self.expression()
 
     def call(self) -> Call:
-        name = self.take_name()
+        at, name = self.offset(), self.take_name()
         self.take('(')
         arguments: list[Expression] = []
         while not self.is_next(')'):
             arguments.append(self.expression())
             if self.word() != ')':
                 self.take(',')
-        return Call(name, tuple(arguments))
+        return Call(at, name, tuple(arguments))
 
-    def assignment(self) -> Assigned:
-        at, one = self.offset(), Literal(1)
+    def element(self) -> Element:
+        at, name = self.offset(), self.take_name()
+        self.take('[')
+        index = self.expression()
+        self.take(']')
+        return Element(at, name, index)
+
+    def assignment(self) -> Assigned | Written:
+        at, one = self.offset(), Literal(1, 'int')
+        if self.word(1) == '[':
+            element = self.element()
+            self.take('=')
+            return Written(at, element, self.value())
         for sign in ('++', '--'):
             if self.is_next(sign):
                 name = self.take_name()
@@ -396,7 +475,7 @@ class Reader:
         elif self.word() != ';':
             begin = [self.assignment()]
         self.take(';')
-        condition = Compared('!=', Literal(1), Literal(0)) if self.word() == ';' else self.condition()
+        condition = self.truth(Literal(1, 'int')) if self.word() == ';' else self.condition()
         self.take(';')
         step = None if self.word() == ')' else self.assignment()
         self.take(')')
@@ -433,7 +512,7 @@ class Reader:
     @staticmethod
     def truth(read: Expression | Condition) -> Condition:
         """What is read as a condition; a bare expression is one that isn't 0."""
-        return read if isinstance(read, Condition) else Compared('!=', read, Literal(0))
+        return read if isinstance(read, Condition) else Compared('!=', read, Literal(0, 'int'))
 
     def either(self) -> Expression | Condition:
         left = self.both()
@@ -480,8 +559,8 @@ class Reader:
             return Input()
         if (value := literal(self.word())) is not None:
             self.at += 1
-            return Literal(value)
-        return Read(self.take_name())
+            return Literal(value, literal_type(self.words[self.at - 1], value))
+        return self.element() if self.word(1) == '[' else Read(self.take_name())
 
 
 def read_program(source: Source) -> Program:
