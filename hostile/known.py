@@ -1,0 +1,115 @@
+"""What `runs.py` is tried on: reports, what would be wrong of them, and runs whose end is known. Written by hand."""
+
+HEAD = 'analysis box parts 1 delay 1 narrow 1 limited no\nflagged 0\n'
+FITS = HEAD.replace('limited no', 'limited no fits yes')
+
+# Each with a name, a program, its report, and what in the report becomes something else, which is then wrong.
+REPORTS = [
+    ('a loop', 'int main(void){ long x=0; while(x<3) x=x+1; assert(x==3); }',
+     HEAD + 'point 1 main 1:22\n  row true\npoint 2 main 1:27\n  row x >= 0\n  row x <= 3\n'
+     'point 3 main 1:38\n  row x >= 0\n  row x <= 2\npoint 4 main 1:45\n  row x = 3\n'
+     'point 5 main 1:59\n  row x = 3\nassert 4 main 1:45 proved\nverdicts proved 1 unknown 0\n', [
+         ('  row x <= 3\n', '  row x <= 2\n'),
+         ('  row x <= 2\n', '  row x <= 1\n'),
+         ('  row x >= 0\n  row x <= 2', '  row x >= 1\n  row x <= 2'),
+         ('point 4 main 1:45\n  row x = 3', 'point 4 main 1:45\n  row x = 4'),
+         ('1:59\n  row x = 3', '1:59\n  unreachable'),
+         ('1:59\n  row x = 3', '1:59\n  row y = 3'),
+         ('1:59\n  row x = 3', '1:60\n  row x = 3'),
+         ('1:59\n  row x = 3', '1:59\n  row 2*x = 3'),
+         ('  row true', '  unreachable')]),
+    ('relations', 'int main(void){ long x=input(), y=x; assume(y<9); y=y+1; }',
+     HEAD.replace('box', 'oct') + 'point 1 main 1:22\n  row true\npoint 2 main 1:33\n  row true\n'
+     'point 3 main 1:38\n  row x - y = 0\npoint 4 main 1:51\n  row x - y = 0\n  row y <= 8\n'
+     'point 5 main 1:58\n  row x - y = -1\n  row y <= 9\nverdicts proved 0 unknown 0\n', [
+         ('3 main 1:38\n  row x - y = 0', '3 main 1:38\n  row x + y = 0'),
+         ('row x - y = -1', 'row x - y = 1'),
+         ('row x - y = -1', 'row x - y >= 0'),
+         ('row y <= 8', 'row y <= 5'),
+         ('row y <= 8', 'row y >= 8')]),
+    ('an assertion', 'int main(void){ long x=input(); assert(x!=0); }',
+     HEAD + 'point 1 main 1:22\n  row true\npoint 2 main 1:33\n  row true\npoint 3 main 1:47\n  row true\n'
+     'assert 2 main 1:33 unknown\nverdicts proved 0 unknown 1\n', [
+         ('unknown\nv', 'proved\nv'),
+         ('assert 2 main 1:33 unknown\n', ''),
+         ('assert 2 main', 'assert 3 main')]),
+    ('what fits', 'int main(void){ int x=2147483647; if(input()) x=x+1; }',
+     FITS + 'point 1 main 1:21\n  row true\npoint 2 main 1:35\n  row x = 2147483647\n'
+     'point 3 main 1:47\n  row x = 2147483647\npoint 4 main 1:54\n  row x = 2147483647\n'
+     'fit 3 main 1:47 may overflow\nverdicts proved 0 unknown 0\n', [
+         ('may overflow', 'fits'),
+         ('fit 3 main 1:47 may overflow\n', ''),
+         ('1:54\n  row x = 2147483647', '1:54\n  row x = 2147483646')]),
+    ('accesses', 'int main(void){ long a[2], i; for(i=0;i<3;i=i+1) a[i]=i; }',
+     HEAD + 'point 1 main 1:22\n  row true\npoint 2 main 1:28\n  row true\n'
+     'point 3 main 1:31\n  row i >= 0\n  row i <= 3\npoint 4 main 1:35\n  row true\n'
+     'point 5 main 1:43\n  row i >= 0\n  row i <= 2\npoint 6 main 1:50\n  row i >= 0\n  row i <= 2\n'
+     'point 7 main 1:58\n  row i = 3\naccess 6 main 1:50 unknown\nverdicts proved 0 unknown 1\n', [
+         ('unknown\nv', 'in bounds\nv'),
+         ('1:50 unknown', '1:52 unknown'),
+         ('access 6', 'access 5'),
+         ('6 main 1:50\n  row i >= 0\n  row i <= 2', '6 main 1:50\n  row i >= 0\n  row i <= 1')]),
+    ('parts', 'int main(void){ long x=0; if(input()) x=5; }',
+     HEAD.replace('parts 1', 'parts 2') + 'point 1 main 1:22\n  row true\npoint 2 main 1:27\n  row x = 0\n'
+     'point 3 main 1:39\n  row x = 0\npoint 4 main 1:44\n  row x = 5\n  or\n  row x = 0\n'
+     'verdicts proved 0 unknown 0\n', [
+         ('  or\n  row x = 0\n', ''),
+         ('  row x = 5\n  or\n', ''),
+         ('  or\n', ''),
+         ('row x = 5', 'row x = 4')]),
+    ('calls', 'long inc(long x){ x=x+1; return x; } int main(void){ long x=inc(1); x=inc(x); assert(x==3); }',
+     HEAD + 'point 1 main 1:59\n  row true\npoint 2 main/inc@1:61 1:19\n  row x = 1\n'
+     'point 3 main/inc@1:61 1:26\n  row x = 2\npoint 4 main/inc@1:61 1:36\n  unreachable\n'
+     'point 5 main 1:69\n  row x = 2\npoint 6 main/inc@1:71 1:19\n  row x~1 = 2\n  row x = 2\n'
+     'point 7 main/inc@1:71 1:26\n  row x~1 = 2\n  row x = 3\npoint 8 main/inc@1:71 1:36\n  unreachable\n'
+     'point 9 main 1:79\n  row x = 3\npoint 10 main 1:93\n  row x = 3\nassert 9 main 1:79 proved\n'
+     'verdicts proved 1 unknown 0\n', [
+         ('point 2 main/inc@1:61 1:19\n  row x = 1', 'point 2 main/inc@1:61 1:19\n  row x~1 = 1'),
+         ('  row x~1 = 2\n  row x = 3', '  row x~1 = 3\n  row x = 2'),
+         ('7 main/inc@1:71', '7 main/inc@1:61'),
+         ('5 main 1:69\n  row x = 2', '5 main 1:69\n  row x = 1')]),
+    ('what hides', 'int main(void){ long x=1; { long x=2; x=x+1; } { int x[1]; x[0]=7; } }',
+     HEAD + 'point 1 main 1:22\n  row true\npoint 2 main 1:34\n  row x = 1\n'
+     'point 3 main 1:39\n  row x~1 = 1\n  row x = 2\npoint 4 main 1:46\n  row x~1 = 1\n  row x = 3\n'
+     'point 5 main 1:54\n  row x = 1\npoint 6 main 1:60\n  row x = 1\npoint 7 main 1:68\n  row x = 1\n'
+     'point 8 main 1:70\n  row x = 1\naccess 6 main 1:60 in bounds\nverdicts proved 1 unknown 0\n', [
+         ('  row x~1 = 1\n  row x = 3', '  row x~1 = 3\n  row x = 1'),
+         ('6 main 1:60\n  row x = 1', '6 main 1:60\n  row x~1 = 1'),
+         ('7 main 1:68\n  row x = 1', '7 main 1:68\n  row x = 7'),
+         ('1:46', '1:45')]),
+]
+
+# Programs of whose runs each ends so; where all assertions hold, at their last statement.
+ENDS = [
+    ('int main(void){ assert(-7/2==-3 && -7%2==-1 && 7/-2==-3 && 7%-2==1); }', 'end'),
+    ('int main(void){ long a=input(); assume(a>5 && a<-5); }', 'assumption'),
+    ('int main(void){ assert(1); assert(2<1); }', 'assertion'),
+    ('int main(void){ assert(65536L*65536==4294967296); assert(65536*65536>0); }', 'number'),
+    ('int main(void){ long c=1; int a=2147483647, b=1; assert(a+c==2147483648); c=a+b+c; }', 'number'),
+    ('int main(void){ int x=2147483647; x++; }', 'number'),
+    ('int main(void){ long x=-9223372036854775807-1; assert(x%2==0); x=x%-1; }', 'number'),
+    ('int main(void){ long x=-9223372036854775807-1; x=-x; }', 'number'),
+    ('int main(void){ int x=0; if(x!=0 && 1/x>0 || x==0) x=1; assert(x==1); x=1/(x-1); }', 'number'),
+    ('int main(void){ int x=2147483648; }', 'number'),
+    ('int half(long x){ return x/2; } int main(void){ long y=half(6); assert(y==3); y=half(4294967296); }', 'number'),
+    ('void f(int a, int b){} int main(void){ f(1, 2); f(2147483648, 1/0); }', 'number'),
+    ('long k; long f(void){ k=k+1; return k; } int g(void){ return f(); } '
+     'int main(void){ long x=g(); x=g(); assert(x==2); }', 'end'),
+    ('int main(void){ long a[3], i; for(i=0; i<3; i++) a[i]=7+i; assert(a[a[0]-6]==8); i=a[3]; }', 'index'),
+    ('int main(void){ long a[1]; a[-1]=1/0; }', 'index'),
+    ('int main(void){ long a[1]; a[0-1]=1; }', 'index'),
+    ('int main(void){ int a[2]; a[1]=3; a[0]=a[1]; assert(a[0]==3); a[1]=2147483648; }', 'number'),
+    ('long i; long a[2]; long f(void){ i=1; return 5; } '
+     'int main(void){ a[i]=f(); assert(a[0]==5 && a[1]==0 && i==1); }', 'end'),
+    ('int a[2]; int main(void){ long x=1; { long x[2]; x[0]=4; } assert(x==1 && a[0]==0 && a[1]==0); }', 'end'),
+    ('int main(void){ long x=1, y=0; switch(x){ case 1: y=1; case 2: y=y+2; break; default: y=9; } assert(y==3); '
+     'switch(7){ case 1: y=0; default: y=5; case 2: y=y+1; } assert(y==6); switch(y){ case 9: y=1; } assert(y==6); }',
+     'end'),
+    ('int main(void){ long s=0; for(int i=0; i<9; i++){ if(i%2) continue; switch(i){ case 6: break; default: s+=i; } '
+     'if(i==8) break; } assert(s==14); }', 'end'),
+    ('int g=3; int main(void){ while(1){ { long x=g; if(x==0) return 0; } --g; } assert(0); }', 'end'),
+    ('int f(void){ } int main(void){ int x=1; f(); assert(x==1); x=f(); assume(x==7); assert(x==7); }', 'assumption'),
+    ('int main(void){ return 2147483648; }', 'number'),
+    ('int main(void){ assert(0x1F==31 && 017==15 && 10ll==10 && !(1<1) && (2)); }', 'end'),
+    ('int main(void){ while(1) ; }', 'cut'),
+]

@@ -1,0 +1,361 @@
+"""Runs of a program, as docs/DEFINITIONS.md tells them. Written from that page and docs/LANGUAGE.md, not from `lra`.
+
+A run stands on a point before each statement but a block, before each declarator, before each test of a loop and at
+each `}` of a block. What watches it is told of each point to which it comes, of each access of an array, and how it
+ends.
+"""
+import os
+import sys
+from collections.abc import Callable
+from dataclasses import dataclass
+from functools import lru_cache
+
+sys.path.append(os.path.join(os.path.dirname(os.path.realpath(__file__)), '../tools'))
+
+from looking.paths import printed  # noqa: E402
+from looking.programs import (  # noqa: E402
+    And,
+    Asked,
+    Assigned,
+    Block,
+    Call,
+    Called,
+    Chosen,
+    Compared,
+    Declared,
+    DeclaredArray,
+    Element,
+    Input,
+    Jump,
+    Label,
+    Literal,
+    Loop,
+    Negated,
+    Not,
+    Nothing,
+    Read,
+    Return,
+    Switch,
+    Written,
+)
+
+LEAST = {'int': -(2**31), 'long': -(2**63)}
+# How a run ends: behind its last statement, at a false condition, at a number that its type doesn't have or that has
+# no value, at an index outside its array; and where it is cut off.
+END, FAILED, ASSUMED, NUMBER, INDEX, CUT = 'end', 'assertion', 'assumption', 'number', 'index', 'cut'
+COMPARES = {
+    '<': lambda left, right: left < right,
+    '<=': lambda left, right: left <= right,
+    '>': lambda left, right: left > right,
+    '>=': lambda left, right: left >= right,
+    '==': lambda left, right: left == right,
+    '!=': lambda left, right: left != right,
+}
+names_of = lru_cache(maxsize=4096)(lambda names: printed(list(names)))
+
+
+class Ended(Exception):
+    """The run ends before its last statement."""
+
+    def __init__(self, how):
+        super().__init__(how)
+        self.how = how
+
+
+def fits(kind, number):
+    """Whether the type has the number."""
+    return LEAST[kind] <= number < -LEAST[kind]
+
+
+def checked(kind, number):
+    if not fits(kind, number):
+        raise Ended(NUMBER)
+    return number
+
+
+def quotient(left, right):
+    """Towards 0."""
+    return abs(left) // abs(right) * (1 if (left < 0) == (right < 0) else -1)
+
+
+def computed(kind, operator, left, right):
+    """In this type."""
+    if operator in '/%' and right == 0:
+        raise Ended(NUMBER)
+    if operator == '+':
+        return checked(kind, left + right)
+    if operator == '-':
+        return checked(kind, left - right)
+    if operator == '*':
+        return checked(kind, left * right)
+    whole = checked(kind, quotient(left, right))
+    return whole if operator == '/' else left - whole * right
+
+
+@dataclass(eq=False)
+class Cell:
+    """A variable that lives."""
+
+    name: str
+    kind: str
+    value: int
+
+
+@dataclass(eq=False)
+class Cells:
+    """An array's elements."""
+
+    kind: str
+    values: list[int]
+
+
+@dataclass(frozen=True)
+class Receiver:
+    """What a value is given to, and the types on its way there; nothing where nobody asks for it."""
+
+    kinds: tuple[str, ...]
+    put: Callable[[int], None] | None = None
+
+    def behind(self, result):
+        """A function's result goes there."""
+        return self if result == 'void' else Receiver((result, *self.kinds), self.put)
+
+    def give(self, number):
+        for kind in self.kinds:
+            checked(kind, number)
+        if self.put:
+            self.put(number)
+
+
+NOBODY = Receiver(())
+
+
+def into(cell):
+    """A variable's receiver."""
+    return Receiver((cell.kind,), lambda number: setattr(cell, 'value', number))
+
+
+class Run:
+    """One run of a program. `draw` gives a number of a type; what watches the run has `come(path, at, names, values)`,
+    `access(path, on, at, is_inside)` and `ended(path, on, how)`: a path of calls, and offsets in the source."""
+
+    def __init__(self, source, program, draw, watcher, most_points=2000):
+        self.source = source
+        self.program = program
+        self.draw = draw
+        self.watcher = watcher
+        self.left = most_points
+        self.store = []
+        self.scope = {}
+        self.globals = {}
+        self.path = 'main'
+        self.on = 0
+        self.receiver = NOBODY
+
+    def run(self):
+        """From the start to the end, and how it ends."""
+        main = self.program.functions['main']
+        try:
+            for variable, value in self.program.variables:
+                self.globals[variable.name] = self.appear(variable.name, variable.type, value)
+            for array in self.program.arrays:
+                self.globals[array.name] = Cells(array.type, [0] * array.length)
+            self.scope = dict(self.globals)
+            self.receiver = NOBODY.behind(main.result)
+            self.body(main.body)
+            how = END
+        except Ended as ended:
+            how = ended.how
+        self.watcher.ended(self.path, self.on, how)
+        return how
+
+    def come(self, at):
+        """The point is on top."""
+        self.on = at
+        if self.left == 0:
+            raise Ended(CUT)
+        self.left -= 1
+        names = names_of(tuple(cell.name for cell in self.store))
+        self.watcher.come(self.path, at, names, [cell.value for cell in self.store])
+
+    def appear(self, name, kind, value):
+        """A new variable."""
+        cell = Cell(name, kind, value)
+        self.store.append(cell)
+        return cell
+
+    # expressions: values with their types ---------------------------------------------------------------------------
+
+    def value(self, read):
+        match read:
+            case Literal():
+                return read.value, read.type
+            case Read():
+                return self.scope[read.name].value, self.scope[read.name].kind
+            case Element():
+                cells, place = self.place(read)
+                return cells.values[place], cells.kind
+            case Input():
+                return self.draw('long'), 'long'
+            case Negated():
+                number, kind = self.value(read.operand)
+                return checked(kind, -number), kind
+        left, one = self.value(read.left)
+        right, other = self.value(read.right)
+        kind = 'long' if 'long' in (one, other) else 'int'
+        return computed(kind, read.operator, left, right), kind
+
+    def place(self, element):
+        """An element's array and index, which lies inside."""
+        index, _ = self.value(element.index)
+        cells = self.scope[element.name]
+        is_inside = 0 <= index < len(cells.values)
+        self.watcher.access(self.path, self.on, element.at, is_inside)
+        if not is_inside:
+            raise Ended(INDEX)
+        return cells, index
+
+    def holds(self, condition):
+        match condition:
+            case Compared():
+                left, right = self.value(condition.left)[0], self.value(condition.right)[0]
+                return COMPARES[condition.sign](left, right)
+            case Not():
+                return not self.holds(condition.operand)
+            case And():
+                return self.holds(condition.left) and self.holds(condition.right)
+        return self.holds(condition.left) or self.holds(condition.right)
+
+    # statements: each says how it is left, '' where the run goes on behind it -----------------------------------------
+
+    def statement(self, done):
+        match done:
+            case Block():
+                return self.block(done)
+            case Loop():
+                return self.loop(done)
+        self.come(done.at)
+        match done:
+            case Declared():
+                cell = self.appear(done.name, done.type, self.draw(done.type))
+                self.scope[done.name] = cell
+                self.gives(into(cell), done.value)
+            case DeclaredArray():
+                array = done.array
+                self.scope[array.name] = Cells(array.type, [self.draw(array.type) for _ in range(array.length)])
+            case Assigned():
+                self.gives(into(self.scope[done.name]), done.value)
+            case Written():
+                self.written(done)
+            case Called():
+                self.call(done.call, NOBODY)
+            case Chosen():
+                way = done.so if self.holds(done.condition) else done.otherwise
+                return self.statement(way) if way else ''
+            case Jump():
+                return done.word
+            case Return():
+                return self.returned(done)
+            case Asked():
+                self.asked(done)
+            case Switch():
+                return self.switch(done)
+        return ''
+
+    def asked(self, done):
+        if not self.holds(done.condition):
+            raise Ended(FAILED if done.word == 'assert' else ASSUMED)
+
+    def gives(self, receiver, value):
+        """The receiver gets the value, where there is one."""
+        if isinstance(value, Call):
+            self.call(value, receiver)
+        elif value:
+            receiver.give(self.value(value)[0])
+
+    def written(self, done):
+        """The index comes first, and waits for the value."""
+        cells, place = self.place(done.element)
+        self.gives(Receiver((cells.kind,), lambda number: cells.values.__setitem__(place, number)), done.value)
+
+    def items(self, items):
+        for item in items:
+            left = self.statement(item)
+            if left:
+                return left
+        return ''
+
+    def block(self, body):
+        """A scope of its own; at its end its variables still live."""
+        scope, live = self.scope, len(self.store)
+        self.scope = dict(scope)
+        left = self.body(body)
+        self.scope = scope
+        del self.store[live:]
+        return left
+
+    def body(self, body):
+        left = self.items(body.items)
+        if not left:
+            self.come(body.end)
+        return left
+
+    def loop(self, done):
+        """A `for` with its beginning, or a `while`."""
+        scope, before = self.scope, len(self.store)
+        self.scope = dict(scope)
+        self.items(done.begin)
+        live, left = len(self.store), ''
+        while not left:
+            self.come(done.at)
+            if not self.holds(done.condition):
+                break
+            left = self.statement(done.body)
+            del self.store[live:]
+            if left in ('', 'continue'):
+                left = self.statement(done.step) if done.step else ''
+        self.scope = scope
+        del self.store[before:]
+        return left if left == 'return' else ''
+
+    def switch(self, done):
+        """Behind the label that names the value, else behind `default`."""
+        number, live = self.value(done.value)[0], len(self.store)
+        labels = [part.value if isinstance(part, Label) else () for part in done.parts]
+        goal = number if number in labels else None
+        if goal not in labels:
+            return ''
+        left = self.items(part for part in done.parts[labels.index(goal) :] if not isinstance(part, Label))
+        del self.store[live:]
+        return '' if left == 'break' else left
+
+    # calls ----------------------------------------------------------------------------------------------------------
+
+    def call(self, call, receiver):
+        """The callee's body, with the arguments' values in its parameters; then the caller goes on where it stood."""
+        function = self.program.functions[call.name]
+        numbers = [
+            checked(own.type, self.value(given)[0]) for own, given in zip(function.parameters, call.arguments)
+        ]
+        before = self.scope, self.path, self.receiver
+        live, (line, column) = len(self.store), self.source.place(call.at)
+        self.scope, self.path = dict(self.globals), f'{self.path}/{call.name}@{line}:{column}'
+        self.receiver = receiver.behind(function.result)
+        for own, number in zip(function.parameters, numbers):
+            self.scope[own.name] = self.appear(own.name, own.type, number)
+        if not self.body(function.body):
+            self.give_any()
+        self.scope, self.path, self.receiver = before
+        del self.store[live:]
+
+    def returned(self, done):
+        if done.value:
+            self.gives(self.receiver, done.value)
+        else:
+            self.give_any()
+        return 'return'
+
+    def give_any(self):
+        """The receiver gets a draw that all types on its way have."""
+        if self.receiver.put:
+            self.receiver.give(self.draw('int' if 'int' in self.receiver.kinds else 'long'))
