@@ -1,9 +1,16 @@
 #!/usr/bin/env python3
 """Arrays: indexes within one another up to the limit and past it, many of them side by side, long arrays, many arrays.
 
-    hostile/arrays.py [PROGRAM]
+    hostile/arrays.py [PROGRAM [large]]
+
+`large` runs the last row, too, whose report has hundreds of megabytes. Wants `cc` for the rows before it.
 """
-from trial import case, ended, refused
+import sys
+from itertools import islice, product
+from string import ascii_letters, digits
+
+from memory import refuse_each
+from trial import case, ended, refused, streamed, tell
 
 BOX = 'analyse --domain box'
 GIVEN = 'int main(void){ long a[2], x; '
@@ -13,6 +20,13 @@ BEGUN = len(GIVEN)
 def nest(depth):
     """An element whose index is an element, so deep."""
     return 'a[' * depth + '0' + ']' * depth
+
+
+def short_names(count):
+    """So many names, the shortest there are."""
+    words = (''.join((first, *rest)) for length in range(3) for first in ascii_letters + '_'
+             for rest in product(ascii_letters + digits + '_', repeat=length))
+    return islice((word for word in words if word not in ('if', 'do', 'for', 'int')), count)
 
 
 # 63 indexes within one another, and the bracket past them, in an expression, a target and a condition
@@ -44,12 +58,37 @@ case('a thousand long arrays, global', BOX, f'long {LONG}; int main(void){{ a999
 case('a thousand long arrays in main', BOX, f'int main(void){{ long {LONG}; a999[0]=1; }}', 0)
 
 # many arrays; none of them lives, and each in a function is a point
-GLOBAL = ','.join(f'b{k}[1]' for k in range(7300))
-case('7,300 global arrays', BOX, f'long {GLOBAL}; int main(void){{ b7299[0]=b0[0]; }}', 0)
+NAMES = list(short_names(9500))
+GLOBAL = ','.join(f'{name}[1]' for name in NAMES)
+MANY = f'long {GLOBAL}; int main(void){{{NAMES[-1]}[0]={NAMES[0]}[0];}}'
+case('9,500 global arrays', BOX, MANY, 0, limit=5.0)
+refused('9,500 global arrays, and the first one again', f'long {GLOBAL},{NAMES[0]}[1];',
+        f'refused 8 DuplicateName at 1:{len(f"long {GLOBAL},") + 1}', limit=5.0)
+refused('9,500 global arrays, and a name that none has', f'long {GLOBAL}; int main(void){{____[0]=1;}}',
+        f'refused 7 UnknownName at 1:{len(f"long {GLOBAL}; int main(void){{") + 1}', limit=5.0)
 LOCAL = ','.join(f'b{k}[1]' for k in range(2047))
 case('2,047 arrays in main', BOX, f'int main(void){{ int {LOCAL}; }}', 0, limit=2.0)
 refused('2,048 arrays in main', f'int main(void){{ int {LOCAL},b[1]; }}',
         f'refused 13 TooManyPoints at 1:{len(f"int main(void){{ int {LOCAL},b[1]; }}")}')
 HIDDEN = 'long a[1]; int main(void){ ' + '{ long a[1]; a[0]=1; ' * 62 + '}' * 62 + ' }'
 case('62 arrays that hide each other', BOX, HIDDEN, 0)
+
+# each allocation of one run refused, and a hundred of those of large ones
+COPY = 'long a[3]; long f(long k){ a[k]=7; return k; } int main(void){ long i=1; a[i]=f(i+1); i=a[i]; assert(i==1); }'
+refuse_each('analyse --domain box --fits', COPY, 1, ['\npoint 3 main/f@1:79 1:28\n  row i = 1\n  row k = 2\n'], 5000)
+for words, source in [(BOX, GIVEN + 'x=' + '+'.join(['a[0]'] * 13000) + '; }'),
+                      ('analyse', GIVEN + 'x=' + '+'.join([nest(60)] * 333) + '; }'), (BOX, MANY)]:
+    refuse_each(words, source, 0, [], 0)
+
+
+def large():
+    """12,000 accesses in a function that is called 680 times: a line for each, or want of memory and nothing written."""
+    source = 'long a[1],x;void f(void){x=' + '+'.join(['a[0]'] * 12000) + ';}int main(void){' + 'f();' * 680 + '}'
+    status, size, last = streamed(BOX, source)
+    tell(f'12,000 accesses 680 times ({size} bytes, status {status})',
+         status == 6 and not size or status == 0 and last.endswith(b' unknown 0\n'), (status, last))
+
+
+if 'large' in sys.argv[2:]:
+    large()
 ended()

@@ -6,11 +6,10 @@ reports.
 
 `large` runs the last row, too, whose report has 1.4 GB.
 """
-import subprocess
 import sys
 
 from levels import ELSE, FOR, IF, IF_BLOCK, WHILE, nested, points_of, stacked
-from trial import PROGRAM, answer, bounded, case, ended, refused, tell
+from trial import answer, case, ended, refused, streamed, tell
 
 WAYS = [f'analyse --domain {domain} --fits' for domain in ('box', 'oct', 'poly')]
 BOX = WAYS[0]
@@ -89,14 +88,7 @@ tell(f'2,048 points with 8 ints ({seconds:.2f} s, {len(text)} bytes)',
 def large():
     """The same with 12 of them: a report of 1.4 GB, or want of memory and nothing written."""
     source = MANY.replace('h; ', 'h,i,j,k,l; ').replace('assume(a*b);', '', 4)
-    run = subprocess.Popen([PROGRAM, 'analyse', '--fits', '--json'], stdin=subprocess.PIPE, stdout=subprocess.PIPE,
-                           preexec_fn=bounded)
-    run.stdin.write(source.encode())
-    run.stdin.close()
-    size, last = 0, b''
-    while part := run.stdout.read(1 << 20):
-        size, last = size + len(part), (last + part)[-40:]
-    status = run.wait()
+    status, size, last = streamed('analyse --fits --json', source)
     tell(f'2,048 points with 12 ints ({size} bytes, status {status})',
          status == 6 and not size or status == 0 and last.endswith(ENDS.encode()), (status, last))
 

@@ -70,8 +70,8 @@ def count_allocations(words, source):
     return int(run.stderr.split()[0])
 
 
-def refuse_each(words, source, status, told):
-    """Refuses each allocation in turn, and prints the line of the run."""
+def refuse_each(words, source, status, told, most=None):
+    """Refuses each allocation in turn, and prints the line of the run; of more than `most` a hundred, spread over all."""
     name = f'{words}: {source[:40]!r}'
     ended_with, text, _ = answer(words, source)
     if ended_with != status or not all(part in text for part in told):
@@ -79,7 +79,8 @@ def refuse_each(words, source, status, told):
         return
     count = count_allocations(words, source)
     empty, same, others = 0, 0, []
-    for number in range(1, count + 1):
+    every = most is None or count <= most
+    for number in range(1, count + 1) if every else (1 + k * (count - 1) // 99 for k in range(100)):
         seen = answer(words, source, {'LD_PRELOAD': LIBRARY, 'REFUSED': str(number)})[:2]
         if seen == (6, ''):
             empty += 1

@@ -39,6 +39,17 @@ def answer(words, source, added=None):
     return run.returncode, run.stdout.decode(), spent() - before
 
 
+def streamed(words, source):
+    """Of a run whose text is too long to be kept: the status, how many bytes there are, and the last of them."""
+    run = subprocess.Popen([PROGRAM] + words.split(), stdin=subprocess.PIPE, stdout=subprocess.PIPE, preexec_fn=bounded)
+    run.stdin.write(source.encode())
+    run.stdin.close()
+    size, last = 0, b''
+    while part := run.stdout.read(1 << 20):
+        size, last = size + len(part), (last + part)[-40:]
+    return run.wait(), size, last
+
+
 def tell(name, agrees, seen):
     """Prints the case's line, with what was seen where it disagrees."""
     global disagreed
