@@ -19,9 +19,11 @@ class Drawing:
         return low + int(self.random() * (high - low + 1))
 
     def one_of(self, *choices):
+        """One of these."""
         return choices[self.number(0, len(choices) - 1)]
 
     def happens(self, percent):
+        """Whether it happens, so many times of a hundred."""
         return self.number(1, 100) <= percent
 
 
@@ -99,6 +101,7 @@ class Writer(Drawing):
         return self.one_of(*found)
 
     def array(self):
+        """Some array; none where there is none."""
         found = [own for own in self.visible() if own.length]
         return self.one_of(*found) if found else None
 
@@ -114,6 +117,7 @@ class Writer(Drawing):
     # expressions --------------------------------------------------------------------------------------------------
 
     def expression(self, depth=2):
+        """Operators up to this depth."""
         part = self.number(1, 100)
         if depth == 0 or part <= 45:
             return self.leaf()
@@ -124,12 +128,14 @@ class Writer(Drawing):
         return self.product(depth - 1)
 
     def product(self, depth):
+        """A product, a quotient or a remainder, mostly by a small number."""
         left = self.leaf() if depth == 0 else f'({self.expression(depth - 1)})'
         operator = self.one_of('*', '/', '%')
         right = self.leaf() if self.happens(20) else f'{self.number(1, 5)}'
         return f'{left} {operator} {right}'
 
     def leaf(self):
+        """An operand."""
         part = self.number(1, 100)
         if part <= 30:
             return self.literal()
@@ -140,6 +146,7 @@ class Writer(Drawing):
         return 'input()'
 
     def literal(self):
+        """Mostly small, of either type."""
         part = self.number(1, 100)
         if part <= 85:
             return str(self.number(0, 12))
@@ -167,6 +174,7 @@ class Writer(Drawing):
         return f'{array.name}[{before}{name}{behind}]'
 
     def condition(self, depth=1):
+        """Comparisons, and what is made of them."""
         part = self.number(1, 100)
         if depth and part <= 25:
             return f'{self.condition(0)} {self.one_of("&&", "||")} {self.condition(0)}'
@@ -187,6 +195,7 @@ class Writer(Drawing):
     # statements ---------------------------------------------------------------------------------------------------
 
     def line(self, text):
+        """A line, as deep as it stands."""
         self.lines.append('  ' * self.depth + text)
 
     def block(self, head, count, declares=True):
@@ -202,6 +211,7 @@ class Writer(Drawing):
         self.line('}')
 
     def statements(self, count):
+        """So many."""
         for _ in range(count):
             self.statement()
 
@@ -216,10 +226,11 @@ class Writer(Drawing):
         name = self.fresh('x')
         self.scopes[-1].append(Name(name, kind))
         value = self.literal() if self.happens(75) else self.expression(1)
-        value = self.one_of('input()', f'-{value}') if self.happens(15) else value
+        value = self.one_of('input()', f'-{self.literal()}') if self.happens(15) else value
         self.line(f'{kind} {name};' if self.happens(15) else f'{kind} {name} = {value};')
 
     def statement(self):
+        """One of all kinds."""
         part = self.number(1, 100)
         deep = self.depth > 3
         if part <= 40 or (deep and part <= 70):
@@ -244,6 +255,7 @@ class Writer(Drawing):
             self.block('', self.number(1, 2))
 
     def assignment(self):
+        """Of a variable or an element."""
         part = self.number(1, 100)
         element = self.element() if part <= 30 else None
         name = self.variable(writable=True).name
@@ -264,9 +276,11 @@ class Writer(Drawing):
         return self.call_of(self.one_of(*found))
 
     def call_of(self, function):
+        """A call with its arguments."""
         return f'{function.name}({", ".join(self.expression(1) for _ in function.parameters)})'
 
     def call(self):
+        """A call that stands alone, or gives a variable its result."""
         if not self.functions:
             return self.assignment()
         function = self.one_of(*self.functions)
@@ -295,6 +309,7 @@ class Writer(Drawing):
         self.scopes.pop()
 
     def choice(self):
+        """An `if`, with an `else` or without."""
         self.block(f'if ({self.condition()}) ', self.number(1, 2))
         if self.happens(50):
             self.block('else ', self.number(1, 2))
@@ -318,6 +333,7 @@ class Writer(Drawing):
         self.loops -= 1
 
     def switch(self):
+        """Labels in order, some of which fall through."""
         self.line(f'switch ({self.expression(1)}) {{')
         self.switches += 1
         values = [str(value) for value in range(-1, self.number(1, 4))]
@@ -358,6 +374,7 @@ class Writer(Drawing):
         self.functions.append(Signature(self.result, name, parameters))
 
     def program(self):
+        """Globals, functions, and `main`."""
         self.line(f'{self.one_of("int", "long")} g = {self.one_of("0", "3", "-1", "10")};')
         self.scopes[0].append(Name('g', self.lines[-1].split()[0]))
         if self.happens(70):

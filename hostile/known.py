@@ -20,13 +20,13 @@ REPORTS = [
          ('  row true', '  unreachable')]),
     ('relations', 'int main(void){ long x=input(), y=x; assume(y<9); y=y+1; }',
      HEAD.replace('box', 'oct') + 'point 1 main 1:22\n  row true\npoint 2 main 1:33\n  row true\n'
-     'point 3 main 1:38\n  row x - y = 0\npoint 4 main 1:51\n  row x - y = 0\n  row y <= 8\n'
-     'point 5 main 1:58\n  row x - y = -1\n  row y <= 9\nverdicts proved 0 unknown 0\n', [
+     'point 3 main 1:38\n  row x - y = 0\npoint 4 main 1:51\n  row x - y = 0\n  row x <= 8\n  row y <= 8\n'
+     'point 5 main 1:58\n  row x - y = -1\n  row x <= 8\n  row y <= 9\nverdicts proved 0 unknown 0\n', [
          ('3 main 1:38\n  row x - y = 0', '3 main 1:38\n  row x + y = 0'),
          ('row x - y = -1', 'row x - y = 1'),
          ('row x - y = -1', 'row x - y >= 0'),
          ('row y <= 8', 'row y <= 5'),
-         ('row y <= 8', 'row y >= 8')]),
+         ('  row y <= 8', '  row y >= 8')]),
     ('an assertion', 'int main(void){ long x=input(); assert(x!=0); }',
      HEAD + 'point 1 main 1:22\n  row true\npoint 2 main 1:33\n  row true\npoint 3 main 1:47\n  row true\n'
      'assert 2 main 1:33 unknown\nverdicts proved 0 unknown 1\n', [

@@ -68,6 +68,7 @@ def fits(kind, number):
 
 
 def checked(kind, number):
+    """The number, where the type has it; else the run ends."""
     if not fits(kind, number):
         raise Ended(NUMBER)
     return number
@@ -121,6 +122,7 @@ class Receiver:
         return self if result == 'void' else Receiver((result, *self.kinds), self.put)
 
     def give(self, number):
+        """Each type on the way has to have the number."""
         for kind in self.kinds:
             checked(kind, number)
         if self.put:
@@ -187,6 +189,7 @@ class Run:
     # expressions: values with their types ---------------------------------------------------------------------------
 
     def value(self, read):
+        """Its value and its type."""
         match read:
             case Literal():
                 return read.value, read.type
@@ -216,6 +219,7 @@ class Run:
         return cells, index
 
     def holds(self, condition):
+        """Whether the condition is true; `&&` and `||` stop early."""
         match condition:
             case Compared():
                 left, right = self.value(condition.left)[0], self.value(condition.right)[0]
@@ -229,6 +233,7 @@ class Run:
     # statements: each says how it is left, '' where the run goes on behind it -----------------------------------------
 
     def statement(self, done):
+        """Makes one statement, a declarator among them."""
         match done:
             case Block():
                 return self.block(done)
@@ -263,6 +268,7 @@ class Run:
         return ''
 
     def asked(self, done):
+        """An assertion or an assumption."""
         if not self.holds(done.condition):
             raise Ended(FAILED if done.word == 'assert' else ASSUMED)
 
@@ -279,6 +285,7 @@ class Run:
         self.gives(Receiver((cells.kind,), lambda number: cells.values.__setitem__(place, number)), done.value)
 
     def items(self, items):
+        """One behind the other, until one is left."""
         for item in items:
             left = self.statement(item)
             if left:
@@ -295,6 +302,7 @@ class Run:
         return left
 
     def body(self, body):
+        """The items of a block, and its end."""
         left = self.items(body.items)
         if not left:
             self.come(body.end)
@@ -349,6 +357,7 @@ class Run:
         del self.store[live:]
 
     def returned(self, done):
+        """The value, or any, goes to who asked for it."""
         if done.value:
             self.gives(self.receiver, done.value)
         else:

@@ -49,6 +49,7 @@ class Point:
     parts: list = field(default_factory=lambda: [[]])
 
     def holds(self, state):
+        """Whether all rows of some part hold."""
         return any(all(row.holds(state) for row in part) for part in self.parts)
 
 
@@ -192,11 +193,13 @@ def drawn(first, count):
 
 
 def read(name):
+    """A source from a file."""
     with open(name, 'rb') as file:
         return Source(name, file.read())
 
 
 def command():
+    """Tries what is known, then compares the programs; the exit status."""
     words = argparse.ArgumentParser(description=__doc__, formatter_class=argparse.RawDescriptionHelpFormatter)
     words.add_argument('program', metavar='PROGRAM', nargs='?', default=PROGRAM)
     words.add_argument('files', metavar='FILE', nargs='*')
