@@ -8,8 +8,10 @@ from looking.multipliers import Against, Premise, Shown, Sum, Walk, show
 from looking.paths import Path, Paths, Place
 from looking.reports import Fault
 from looking.rows import ROW_TEXT, read_row
-from looking.sources import Source
+from looking.sources import Source, decode
 
+# A whole certificate begins with its source, of so many bytes.
+HEAD = re.compile(rb'certificate bytes (0|[1-9]\d{0,9})\n')
 POINT = re.compile(r'point ([1-9]\d*)(?: (?P<more>\S.*))?', re.ASCII)
 LISTED = re.compile(r'assert ([1-9]\d*)', re.ASCII)
 NUMBERS = re.compile(r'  (?P<sign>>=|=)(?P<numbers>(?: -?\d+)+)', re.ASCII)
@@ -204,6 +206,13 @@ class Certifier:
         return Fault(f'{at}: point {path.goal}: {said}, {begun}{self.told(path.source, against)}')
 
 
-def certificate_text(source: Source, paths: Paths, rows: str) -> bytes:
-    """The certificate of these rows."""
-    return Certifier(source, paths, read_rows(rows, paths.places)).text()
+def behind_source(data: bytes) -> bytes:
+    """What a certificate has behind its source, from where `verify` counts its lines; other texts are whole."""
+    head = HEAD.match(data)
+    return data[head.end() + int(head[1]) + 1 :] if head else data
+
+
+def certificate_text(source: Source, paths: Paths, data: bytes) -> bytes:
+    """The certificate of the rows in these bytes."""
+    rows = read_rows(decode(behind_source(data)), paths.places)
+    return Certifier(source, paths, rows).text()

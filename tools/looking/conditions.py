@@ -19,7 +19,8 @@ LEAST, GREATEST = -(2**63), 2**63 - 1
 
 
 class Untold(Exception):
-    """What this evaluation can't tell: an `input()`, a name without a value, a number past 64 bits, a zero divisor."""
+    """What this evaluation can't tell: an `input()`, an element, a name without a value, a number past 64 bits, a zero
+    divisor."""
 
 
 def literal(word: str) -> int | None:
@@ -95,7 +96,7 @@ class Reader:
             return value
         if (number := literal(word)) is not None:
             return self.in_range(number)
-        if word not in self.state or self.word() == '(':
+        if word not in self.state or self.word() in ('(', '['):
             raise Untold
         return self.state[word]
 

@@ -24,10 +24,12 @@ class Asked:
 
 def asked_in(source: Source, offset: int) -> Asked:
     """Those of the statement at this offset."""
-    words = list(dict.fromkeys(source.statement(offset).split(' ')[1:]))
-    literals = [found for word in words if (found := conditions.literal(word)) is not None]
+    words = source.statement(offset).split(' ')[1:]
+    followed = zip(words, words[1:] + [''])
+    names = [word for word, behind in followed if word.isidentifier() and word != 'input' and behind != '[']
+    literals = [found for word in dict.fromkeys(words) if (found := conditions.literal(word)) is not None]
     near = [number + step for literal in literals for number in (literal, -literal) for step in (0, 1, -1)]
-    return Asked([word for word in words if word.isidentifier() and word != 'input'], list(dict.fromkeys(near)))
+    return Asked(list(dict.fromkeys(names)), list(dict.fromkeys(near)))
 
 
 def moved(point: Generator, along: dict[str, Fraction], factor: Fraction | int) -> State:

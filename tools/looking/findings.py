@@ -19,13 +19,16 @@ REFUSALS = {
     'Syntax': 'no source begins with the tokens up to this one',
     'TooDeep': 'this token opens level 65',
     'NoMain': 'no main without parameters is defined',
-    'UnknownName': 'no such variable is in scope, or no such function is defined',
+    'UnknownName': 'no variable or array of that name is in scope, or no function of that name is defined',
     'DuplicateName': 'the name is declared twice',
     'BadCall': 'the number of arguments differs, or a result is used that there is not',
     'Misplaced': 'not in a loop',
     'Recursive': "the call's callee reaches the function that holds the call",
     'TooManyVariables': 'more than 32 variables live here',
     'TooManyPoints': 'there are more than 2,048 points, or 32 calls on a path',
+    'DuplicateCase': 'the value, or default, stands in this switch a second time',
+    'BadLength': 'the array has no element, or more than 1,048,576',
+    'NotArray': "an array's name without an index, or a variable's with one",
 }
 
 

@@ -120,23 +120,47 @@ class Divided:
 Seen = Form | Divided | None
 
 
+# What each name means that is in scope: the place of a variable, or an array, which has none.
+Meanings = dict[str, int | None]
+
+
 @dataclass(frozen=True)
 class Scope:
-    """The places of the variables that have a name, among so many that live."""
+    """What the names mean, where so many variables live."""
 
-    places: dict[str, int]
+    meanings: Meanings
     live: int
+
+    def meaning(self, name: str) -> int | None:
+        """That of a name, which has to be in scope."""
+        if name not in self.meanings:
+            raise Fault(f'no variable or array {name} is in scope')
+        return self.meanings[name]
+
+    def place(self, name: str) -> int:
+        """The place of the variable with this name."""
+        place = self.meaning(name)
+        if place is None:
+            raise Fault(f'{name} is an array, and stands without an index')
+        return place
+
+    def look_at(self, element: Element) -> None:
+        """That there is such an element: nothing else is known of it."""
+        if self.meaning(element.name) is not None:
+            raise Fault(f'{element.name} is no array, and stands with an index')
+        self.form(element.index)
 
     def form(self, read: Expression) -> Form | None:
         """The linear form of an expression, where it has one."""
         if isinstance(read, Literal):
             return fitting(constant(self.live, read.value))
         if isinstance(read, Read):
-            if read.name not in self.places:
-                raise Fault(f'no variable {read.name} is in scope')
-            place = self.places[read.name] + 1
+            place = self.place(read.name) + 1
             return tuple(int(place == column) for column in range(self.live + 1))
-        if isinstance(read, (Input, Element)):
+        if isinstance(read, Input):
+            return None
+        if isinstance(read, Element):
+            self.look_at(read)
             return None
         if isinstance(read, Negated):
             inner = self.form(read.operand)

@@ -7,6 +7,7 @@ from dataclasses import dataclass, field, replace
 from looking.moves import (
     MOST_PATHS,
     Action,
+    Meanings,
     Scope,
     Seen,
     Sides,
@@ -48,14 +49,21 @@ MOST_POINTS = 2048
 
 
 @dataclass(frozen=True)
+class Denied:
+    """What is asserted, over what the names mean there."""
+
+    condition: Condition
+    scope: Scope
+
+
+@dataclass(frozen=True)
 class Place:
     """A point: its offset, the names of the variables that live there as reports print them, and what fails where an
     assertion is false there."""
 
     at: int
     names: tuple[str, ...]
-    denied: Condition | None
-    scope: Scope
+    denied: Denied | None
 
 
 @dataclass(frozen=True)
@@ -121,7 +129,8 @@ class Writer:
         self.places: list[Place | None] = []
         self.links: dict[tuple[int, int], Sides] = {}
         self.variables: list[Variable] = []
-        self.scope: dict[str, int] = {}
+        self.scope: Meanings = dict.fromkeys(array.name for array in program.arrays)
+        self.globals = self.scope
         self.frame = Frame()
 
     @property
@@ -129,18 +138,19 @@ class Writer:
         return len(self.variables)
 
     def here(self) -> Scope:
-        return Scope(dict(self.scope), self.live)
+        """What the names mean now: `scope` is never changed, but replaced."""
+        return Scope(self.scope, self.live)
 
     def appear(self, variable: Variable) -> int:
         """A new variable, by its place."""
-        self.scope[variable.name] = self.live
+        self.scope = {**self.scope, variable.name: self.live}
         self.variables.append(variable)
         return self.live - 1
 
     @contextmanager
     def inner(self) -> Iterator[int]:
         """A scope of its own: with what lived before it."""
-        live, scope = self.live, dict(self.scope)
+        live, scope = self.live, self.scope
         yield live
         del self.variables[live:]
         self.scope = scope
@@ -161,7 +171,7 @@ class Writer:
     def come(self, number: int, at: int, ends: Ends, denied: Condition | None = None) -> Ends:
         """These come to the point of this number, and go on from there."""
         names = printed([variable.name for variable in self.variables])
-        self.places[number - 1] = Place(at, names, denied, self.here())
+        self.places[number - 1] = Place(at, names, Denied(denied, self.here()) if denied is not None else None)
         self.link(number, ends)
         return [(number, [()])]
 
@@ -181,6 +191,7 @@ class Writer:
         for variable, value in self.program.variables:
             place = self.appear(variable)
             begun = then(begun, pushed(variable.type, place, constant(place + 1, value)))
+        self.globals = self.scope
         body = self.program.functions['main'].body
         ends = self.items(body, [(0, begun)])
         self.point(body.end, ends)
@@ -200,15 +211,17 @@ class Writer:
         if not isinstance(done, Asked) or done.word != 'assert':
             ends = self.point(done.at, ends)
         match done:
-            case Nothing() | DeclaredArray():
+            case Nothing():
                 return ends
             case Declared():
                 return self.declared(done, ends)
+            case DeclaredArray():
+                self.scope = {**self.scope, done.array.name: None}
+                return ends
             case Assigned():
-                if done.name not in self.scope:
-                    raise Fault(f'no variable {done.name} is in scope')
-                return self.gives(self.scope[done.name], done.value, ends)
+                return self.gives(self.here().place(done.name), done.value, ends)
             case Written():
+                self.here().look_at(done.element)
                 return self.gives(None, done.value, ends)
             case Called():
                 return self.gives(None, done.call, ends)
@@ -237,7 +250,8 @@ class Writer:
         """The receiver's variable, where there is one, gets the value."""
         if isinstance(value, Call):
             return self.call(receiver, value, ends)
-        return ends if receiver is None else onward(ends, self.set_to(receiver, self.here().seen(value)))
+        seen = self.here().seen(value)
+        return ends if receiver is None else onward(ends, self.set_to(receiver, seen))
 
     def set_to(self, receiver: int, seen: Seen) -> Sides:
         return given(self.variables[receiver].type, receiver, self.live, seen)
@@ -252,8 +266,8 @@ class Writer:
             seen = Scope(scope, self.live + 1).seen(argument)
             ends = onward(ends, pushed(parameter.type, self.live, seen))
             self.variables.append(parameter)
-        self.scope = {variable.name: place for place, (variable, _) in enumerate(self.program.variables)}
-        self.scope |= {parameter.name: live + place for place, parameter in enumerate(function.parameters)}
+        own = {parameter.name: live + place for place, parameter in enumerate(function.parameters)}
+        self.scope = {**self.globals, **own}
         returns = Exit(live)
         with self.framed(Frame(returns=returns, receiver=receiver)):
             ends = self.body(function.body, ends)
@@ -362,7 +376,7 @@ class Paths:
         place = self.places[number - 1]
         assert place.denied is not None
         try:
-            sides = place.scope.sides(place.denied, False)
+            sides = place.denied.scope.sides(place.denied.condition, False)
         except TooMany:
             raise too_many(number) from None
         return [Path(number, number, actions) for actions in sides]

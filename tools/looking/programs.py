@@ -9,6 +9,7 @@ from looking.sources import Source, decode
 COMPARISONS = ('<', '<=', '>', '>=', '==', '!=')
 ASSIGNMENTS = ('+=', '-=', '*=', '/=', '%=')
 TYPES = ('int', 'long')
+MOST_ELEMENTS = 1_048_576
 
 
 @dataclass(frozen=True, eq=False)
@@ -264,9 +265,10 @@ class Reader:
         tokens = self.source.tokens
         return tokens[self.at].start if self.at < len(tokens) else len(self.source.data)
 
-    def fault(self) -> Fault:
+    def fault(self, said: str = "this isn't the analysed language") -> Fault:
+        """What is wrong with the next word."""
         line, column = self.source.place(self.offset())
-        return Fault(f"{self.source.name}:{line}:{column}: this isn't the analysed language")
+        return Fault(f'{self.source.name}:{line}:{column}: {said}')
 
     def is_next(self, *words: str) -> bool:
         """Whether one of these words comes next; then it is read."""
@@ -336,6 +338,8 @@ class Reader:
         value = literal(self.word())
         if value is None:
             raise self.fault()
+        if not 1 <= value <= MOST_ELEMENTS:
+            raise self.fault(f'an array has 1 to {MOST_ELEMENTS:,} elements')
         self.at += 1
         self.take(']')
         return value
