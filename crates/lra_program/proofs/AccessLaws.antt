@@ -1,6 +1,5 @@
 -- An access that is evaluated outside its array is that one of the operation's accesses, and ends the run.
 use Rattle.std.proofs.Common.{◌≡◌, ℕ, zero, suc, ◌+◌, ℤ, List, [], ◌∷◌, ◌++◌, length, Option, Some, None, true, false, inl, inr, refl, ap, sym, subst, ◌∙◌, arith}
-use Rattle.std.proofs.lemmas.Option.{slice_get_within}
 use Rattle.std.specs.Prelude.{pos, ◌-ℤ◌, slice_get, not, if◌then◌else◌}
 use Rattle.lra_base.specs.declared.refusals.Place.{Place}
 use Rattle.lra_base.specs.NumberTypes.{wider}
@@ -10,10 +9,9 @@ use Rattle.lra_program.specs.Program.{both_of, either_of}
 use Rattle.lra_program.specs.Arrays.{elements_of, place_among}
 use Rattle.lra_program.specs.Receivers.{waiting_in}
 use Rattle.lra_program.specs.Value.{◌>>=◌, number, is_zero, apply, compares, Scene, value_of, Argument, values_of, truth_of}
-use Rattle.lra_program.specs.Step.{State, scene_at, Op, append, fill, give, give_element, give_any, push, push_for, keep, test, receive, pushed, tested, aim}
-use Rattle.lra_program.specs.Step.{run_op}
-use Rattle.lra_program.specs.Accesses.{expr_accesses, cond_accesses, arguments_accesses, aim_accesses, op_accesses, IsBehind, ExprStrays, CondStrays}
-use Rattle.lra_program.specs.Accesses.{ArgumentsStray, AimedStrays, OpStrays, IsOutside, StrayingAccess, StrayingEnd}
+use Rattle.lra_program.specs.Step.{State, scene_at, append, fill, give, give_element, give_any, push, push_for, keep, test, receive, pushed, tested, aim}
+use Rattle.lra_program.specs.Accesses.{expr_accesses, cond_accesses, arguments_accesses, aim_accesses, IsBehind, ExprStrays, CondStrays}
+use Rattle.lra_program.specs.Accesses.{ArgumentsStray, AimedStrays, IsOutside, StrayingAccess, StrayingEnd}
 
 -- one of its accesses ------------------------------------------------------------------------------------------------
 
@@ -107,30 +105,18 @@ aimed_outside base x xs Behind later s n (inl h) =
 aimed_outside base x xs Behind later s n (inr (m, behind, t, is, h)) =
     right_of (aim_accesses x) xs (scene_at base s) m n behind (behind_aim xs m base x s t is (later t m h))
 
-abbrev OpOutside : Op → State → ℕ → Type 0
-OpOutside op s n = (x : Element) × (slice_get (op_accesses op) n ≡ Some x) × (base : ℕ) × IsOutside (scene_at base s) x
-
-based : (xs : List Element) (base : ℕ) (s : State) (n : ℕ) → HasOutside xs (scene_at base s) n →
-    (x : Element) × (slice_get xs n ≡ Some x) × (base : ℕ) × IsOutside (scene_at base s) x
-based xs base s n (x, e, h) = (x, e, base, h)
-
-op_outside : (op : Op) (s : State) (n : ℕ) → OpStrays op s n → OpOutside op s n
-op_outside (append t) s n h = absurd h
-op_outside (fill a) s n h = absurd h
-op_outside (give base x e) s n h = based (expr_accesses e) base s n (expr_outside e (scene_at base s) s.draws n h)
-op_outside (give_element base x e) s n h = based (aim_accesses x ++ expr_accesses e) base s n
-    (aimed_outside base x (expr_accesses e) (λ t m. ExprStrays e (scene_at base t) t.draws m)
-    (λ t m. expr_outside e (scene_at base t) t.draws m) s n h)
-op_outside (give_any x) s n h = absurd h
-op_outside (push base given) s n h = based (arguments_accesses given) base s n (arguments_outside given (scene_at base s) s.draws n h)
-op_outside (push_for base x given) s n h = based (aim_accesses x ++ arguments_accesses given) base s n
-    (aimed_outside base x (arguments_accesses given) (λ t m. ArgumentsStray given (scene_at base t) t.draws m)
-    (λ t m. arguments_outside given (scene_at base t) t.draws m) s n h)
-op_outside (keep k) s n h = absurd h
-op_outside (test base c wanted) s n h = based (cond_accesses c) base s n (cond_outside c (scene_at base s) s.draws n h)
-
 pub straying_access : StrayingAccess
-straying_access op s n h = op_outside op s n h
+straying_access (append t) s n h = absurd h
+straying_access (fill a) s n h = absurd h
+straying_access (give base x e) s n h = expr_outside e (scene_at base s) s.draws n h
+straying_access (give_element base x e) s n h = aimed_outside base x (expr_accesses e) (λ t m. ExprStrays e (scene_at base t) t.draws m)
+    (λ t m. expr_outside e (scene_at base t) t.draws m) s n h
+straying_access (give_any x) s n h = absurd h
+straying_access (push base given) s n h = arguments_outside given (scene_at base s) s.draws n h
+straying_access (push_for base x given) s n h = aimed_outside base x (arguments_accesses given) (λ t m. ArgumentsStray given (scene_at base t) t.draws m)
+    (λ t m. arguments_outside given (scene_at base t) t.draws m) s n h
+straying_access (keep k) s n h = absurd h
+straying_access (test base c wanted) s n h = cond_outside c (scene_at base s) s.draws n h
 
 -- the run ends -------------------------------------------------------------------------------------------------------
 
@@ -198,25 +184,21 @@ aim_ends base x s n (inr (r, behind, is, outside)) =
     (λ r. place_among x.array.length r.0 >>= λ k. Some (record s { waiting = k ∷ s.waiting; draws = r.1 })) is
     (none_first (place_among x.array.length r.0) (λ k. Some (record s { waiting = k ∷ s.waiting; draws = r.1 })) outside)
 
-op_ends : (op : Op) (s : State) (n : ℕ) → OpStrays op s n → run_op op s ≡ None
-op_ends (append t) s n h = absurd h
-op_ends (fill a) s n h = absurd h
-op_ends (give base x e) s n h = ap (receive x s) (expr_ends e (scene_at base s) s.draws n h)
-op_ends (give_element base x e) s n (inl h) =
+pub straying_end : StrayingEnd
+straying_end (append t) s n h = absurd h
+straying_end (fill a) s n h = absurd h
+straying_end (give base x e) s n h = ap (receive x s) (expr_ends e (scene_at base s) s.draws n h)
+straying_end (give_element base x e) s n (inl h) =
     none_first (aim base x s) (λ m. receive (waiting_in x.array) m (value_of e (scene_at base m) m.draws)) (aim_ends base x s n h)
-op_ends (give_element base x e) s n (inr (m, behind, t, is, h)) =
+straying_end (give_element base x e) s n (inr (m, behind, t, is, h)) =
     none_behind (aim base x s) t (λ m. receive (waiting_in x.array) m (value_of e (scene_at base m) m.draws)) is
     (ap (receive (waiting_in x.array) t) (expr_ends e (scene_at base t) t.draws m h))
-op_ends (give_any x) s n h = absurd h
-op_ends (push base given) s n h = ap (pushed s) (arguments_end given (scene_at base s) s.draws n h)
-op_ends (push_for base x given) s n (inl h) =
+straying_end (give_any x) s n h = absurd h
+straying_end (push base given) s n h = ap (pushed s) (arguments_end given (scene_at base s) s.draws n h)
+straying_end (push_for base x given) s n (inl h) =
     none_first (aim base x s) (λ m. pushed m (values_of given (scene_at base m) m.draws)) (aim_ends base x s n h)
-op_ends (push_for base x given) s n (inr (m, behind, t, is, h)) =
+straying_end (push_for base x given) s n (inr (m, behind, t, is, h)) =
     none_behind (aim base x s) t (λ m. pushed m (values_of given (scene_at base m) m.draws)) is
     (ap (pushed t) (arguments_end given (scene_at base t) t.draws m h))
-op_ends (keep k) s n h = absurd h
-op_ends (test base c wanted) s n h = ap (tested wanted s) (cond_ends c (scene_at base s) s.draws n h)
-
-pub straying_end : StrayingEnd
-straying_end op s n h = let (x, at, base, outside) = op_outside op s n h in
-    (slice_get_within (op_accesses op) n x at, op_ends op s n h)
+straying_end (keep k) s n h = absurd h
+straying_end (test base c wanted) s n h = ap (tested wanted s) (cond_ends c (scene_at base s) s.draws n h)

@@ -4,14 +4,14 @@ use Rattle.lra_base.specs.declared.refusals.Place.{Place}
 use Rattle.lra_base.specs.declared.number_types.NumberType.TheVariants.{Int, Long}
 use Rattle.lra_base.specs.Operators.{plus, minus, below, above, equal}
 use Rattle.lra_program.specs.declared.arrays.Array.{Array}
-use Rattle.lra_program.specs.Program.{global, local, Variable, Expr, literal, read, input, binary, negate, element, Element, compare, both_of, either_of, value, result, absent}
-use Rattle.lra_program.specs.Program.{block, assign, write, loop, return, assert, switch, no_cases, no_more, declaration, array, statement, Program}
+use Rattle.lra_program.specs.Program.{global, local, Variable, Expr, literal, read, input, binary, negate, element, Element, compare, nonzero, opposite}
+use Rattle.lra_program.specs.Program.{both_of, either_of, value, result, absent, block, assign, write, loop, return, assert, switch, no_cases, no_more, declaration, array, statement, Program}
 use Rattle.lra_program.specs.Value.{Scene, value_of}
 use Rattle.lra_program.specs.Receivers.{nobody}
-use Rattle.lra_program.specs.Step.{State, Op, fill, give, give_element, push_for, test, run_op, Here, declare, run}
+use Rattle.lra_program.specs.Step.{State, scene_at, Op, fill, give, give_element, push, push_for, test, run_op, Here, declare, run}
 use Rattle.lra_program.specs.Run.{Point}
 use Rattle.lra_program.specs.Overflow.{op_computes}
-use Rattle.lra_program.specs.Accesses.{expr_accesses, op_accesses, OpStrays, IsStraying, Strays}
+use Rattle.lra_program.specs.Accesses.{expr_accesses, op_accesses, ExprStrays, CondStrays, OpStrays, IsStraying, Strays}
 use Rattle.lra_program.proofs.RunExamples.{visited, main_alone, long_variable}
 
 abbrev at : ℕ → Place
@@ -214,3 +214,37 @@ selected_strays = inr ((pos 1, []), refl, refl, refl)
 -- `return b[1];` of `main`
 returned_strays : IsStraying outside 0 (run (return 2 (Some (value (element single (at 53) (number 1))))) ∷ []) here (holding (pos 7 ∷ []))
 returned_strays = inr ((pos 1, []), refl, refl, refl)
+
+-- `b[1]` within a sign, on either side of an operator, in an index, on the right of a comparison, as a condition, within `!`, on the left of
+-- `&&` and `||`, and in an argument: catches an access that is evaluated and not told
+abbrev outside_one : Expr
+outside_one = element single (at 53) (number 1)
+
+abbrev there : Scene
+there = scene_at 0 (holding (pos 7 ∷ []))
+
+alone : ExprStrays outside_one there [] 0
+alone = inr ((pos 1, []), refl, refl, refl)
+
+within_others : ExprStrays (negate outside_one) there [] 0
+    × ExprStrays (binary plus outside_one (number 1)) there [] 0
+    × ExprStrays (binary plus (number 1) outside_one) there [] 0
+    × ExprStrays (element single (at 40) outside_one) there [] 0
+    × CondStrays (compare above (number 0) outside_one) there [] 0
+    × CondStrays (nonzero outside_one) there [] 0
+    × CondStrays (opposite (nonzero outside_one)) there [] 0
+    × CondStrays (both_of (nonzero outside_one) (nonzero (number 1))) there [] 0
+    × CondStrays (either_of (nonzero outside_one) (nonzero (number 1))) there [] 0
+    × OpStrays (push 0 (record { number_type = Long; value = outside_one } ∷ [])) (holding (pos 7 ∷ [])) 0
+within_others = (
+  alone,
+  inl alone,
+  inr (0, refl, (pos 1, []), refl, alone),
+  inl alone,
+  inr (0, refl, (pos 0, []), refl, alone),
+  alone,
+  alone,
+  inl alone,
+  inl alone,
+  inl alone,
+)

@@ -11,3 +11,4 @@ mod TypeExamples
 pub mod GivenArguments
 pub mod TypeLaws
 pub mod AccessLaws
+pub mod AskLaws

@@ -1,16 +1,16 @@
 -- The accesses of arrays, and where a run ends by an index outside its array. Among what an item computes they are
 -- numbered from 0 in the order in which they are evaluated: operands from left to right, an element's index before the
 -- element, and an element that gets a value before what it gets.
-use Rattle.std.specs.Prelude.{◌≡◌, ◌⊎◌, ℕ, ◌+◌, ◌<◌, ℤ, List, [], ◌∷◌, ◌++◌, length, Bool, None, Some, true, false}
+use Rattle.std.specs.Prelude.{◌≡◌, ◌⊎◌, ℕ, ◌+◌, ℤ, List, [], ◌∷◌, ◌++◌, length, Bool, None, Some, true, false}
 use Rattle.std.specs.Prelude.{nat_lt, slice_get}
 use Rattle.lra_program.specs.Program.{Expr, literal, read, input, negate, binary, element, Element, read_of, Cond}
 use Rattle.lra_program.specs.Program.{compare, nonzero, opposite, both_of, either_of, Program}
 use Rattle.lra_program.specs.Arrays.{place_among}
 use Rattle.lra_program.specs.Value.{number, Scene, value_of, Argument, truth_of}
 use Rattle.lra_program.specs.Step.{State, scene_at, Op, append, fill, give, give_element, give_any, push, push_for}
-use Rattle.lra_program.specs.Step.{keep, test, aim, run_op, Here, Item, Config}
+use Rattle.lra_program.specs.Step.{keep, test, aim, Here, Item, Config}
 use Rattle.lra_program.specs.Run.{Point, IsOn, Reaches}
-use Rattle.lra_program.specs.Asks.{TopAsks}
+use Rattle.lra_program.specs.Asks.{TopAsks, Ends}
 
 -- in their order -----------------------------------------------------------------------------------------------------
 
@@ -48,6 +48,7 @@ op_accesses (push_for base x given) = aim_accesses x ++ arguments_accesses given
 op_accesses (keep n) = []
 op_accesses (test base c wanted) = cond_accesses c
 
+-- whether it has any
 abbrev pub op_accesses_any : Op → Bool
 op_accesses_any op = nat_lt 0 (length (op_accesses op))
 
@@ -112,14 +113,23 @@ abbrev pub IsOutside : Scene → Element → Type 0
 IsOutside s x = (draws : List ℤ) × (r : ℤ × List ℤ) × (value_of x.index s draws ≡ Some r) ×
     (place_among x.array.length r.0 ≡ None)
 
--- the operation has more than n accesses; the n-th is outside, in the store and the arrays as they are
+-- where the variables of the call that evaluates its accesses begin; where it has none, any number would do
+abbrev pub base_of : Op → ℕ
+base_of (give base x e) = base
+base_of (give_element base x e) = base
+base_of (push base given) = base
+base_of (push_for base x given) = base
+base_of (test base c wanted) = base
+base_of op = 0
+
+-- the operation has an n-th access, and that is outside, in the store and the arrays as they are
 abbrev pub StrayingAccess : Type 0
 StrayingAccess = (op : Op) (s : State) (n : ℕ) → OpStrays op s n → (x : Element) ×
-    (slice_get (op_accesses op) n ≡ Some x) × (base : ℕ) × IsOutside (scene_at base s) x
+    (slice_get (op_accesses op) n ≡ Some x) × IsOutside (scene_at (base_of op) s) x
 
--- the operation has more than n accesses, and the run ends there
+-- and the run ends there
 abbrev pub StrayingEnd : Type 0
-StrayingEnd = (op : Op) (s : State) (n : ℕ) → OpStrays op s n → (n < length (op_accesses op)) × (run_op op s ≡ None)
+StrayingEnd = (op : Op) (s : State) (n : ℕ) → OpStrays op s n → Ends op s
 
 -- runs ---------------------------------------------------------------------------------------------------------------
 

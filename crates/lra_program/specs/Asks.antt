@@ -1,6 +1,6 @@
--- By which operation a run goes on where an item is on top, so far as it may compute something or read an element:
--- what is asked of it, and of the state before it.
-use Rattle.std.specs.Prelude.{◌≡◌, List, [], ◌∷◌, length, Option, None, Some, true, slice_get}
+-- By which operation a run goes on where an item is on top, so far as it may compute something or access an array:
+-- what is asked of it, and of the state before it; and that a run that ends there ends by it.
+use Rattle.std.specs.Prelude.{◌≡◌, ◌⊎◌, List, [], ◌∷◌, length, Option, None, Some, true, slice_get, ⊤}
 use Rattle.lra_base.specs.declared.number_types.NumberType.{NumberType}
 use Rattle.lra_program.specs.Program.{Element, Call, Rvalue, value, result, Stmt, absent, nothing, block, assign}
 use Rattle.lra_program.specs.Program.{write, call, if, loop, for, break, continue, return, assert, assume, switch}
@@ -8,9 +8,10 @@ use Rattle.lra_program.specs.Program.{Function, Program}
 use Rattle.lra_program.specs.Value.{index_of, Argument}
 use Rattle.lra_program.specs.declared.receivers.Receiver.{Receiver}
 use Rattle.lra_program.specs.Receivers.{variable_at, nobody}
-use Rattle.lra_program.specs.Step.{State, Op, append, give, give_element, push, push_for, test, run_op, Here, Item}
-use Rattle.lra_program.specs.Step.{run, declare, declare_array, all, end_of, turn, cases, end_switch, cut, mark}
-use Rattle.lra_program.specs.Step.{leave_call, to_mark, receiver_of, arguments_for}
+use Rattle.lra_program.specs.Step.{State, Op, append, fill, give, give_element, push, push_for, test, run_op, Here}
+use Rattle.lra_program.specs.Step.{Item, run, declare, declare_array, all, end_of, turn, cases, end_switch, cut, mark}
+use Rattle.lra_program.specs.Step.{leave_call, to_outside, to_turn, to_mark, receiver_of, run_any, arguments_for}
+use Rattle.lra_program.specs.Step.{next_at}
 
 module _ (Q : Op → State → Type 0) (P : Program) where
   -- of what a call gives to its callee's parameters
@@ -68,3 +69,45 @@ module _ (Q : Op → State → Type 0) (P : Program) where
   TopAsks (cut n ∷ k) h s = ⊥
   TopAsks (mark b ∷ k) h s = ⊥
   TopAsks (leave_call ∷ k) h s = ⊥
+
+-- where a run ends ---------------------------------------------------------------------------------------------------
+
+abbrev pub Ends : Op → State → Type 0
+Ends op s = run_op op s ≡ None
+
+-- the function that is called isn't there
+abbrev pub LacksCallee : Program → Rvalue → Type 0
+LacksCallee P (value e) = ⊥
+LacksCallee P (result c) = slice_get P.functions c.function ≡ None
+
+-- there is no draw for a value that isn't given, or none of its type; or `main` returns
+abbrev pub ReturnEnds : Program → Option Rvalue → List Item → State → Type 0
+ReturnEnds P None k s = (run_any (receiver_of P (to_mark k)) s ≡ None) ⊎ (to_mark k ≡ None)
+ReturnEnds P (Some (value e)) k s = to_mark k ≡ None
+ReturnEnds P (Some (result c)) k s = LacksCallee P (result c)
+
+-- there is no draw for the new variable, or none of its type
+abbrev pub DeclaredEnds : Program → NumberType → Option Rvalue → State → Type 0
+DeclaredEnds P t None s = Ends (append t) s
+DeclaredEnds P t (Some e) s = Ends (append t) s ⊎ LacksCallee P e
+
+-- a run may end by something of which nothing is asked: nothing is left to do, a draw or a callee isn't there, `main`
+-- returns, or there is nothing to leave
+abbrev pub EndsUnasked : Program → List Item → State → Type 0
+EndsUnasked P [] s = ⊤
+EndsUnasked P (run (assign at x e) ∷ k) s = LacksCallee P e
+EndsUnasked P (run (write at x e) ∷ k) s = LacksCallee P e
+EndsUnasked P (run (call at c) ∷ k) s = LacksCallee P (result c)
+EndsUnasked P (run (break at) ∷ k) s = to_outside k ≡ None
+EndsUnasked P (run (continue at) ∷ k) s = to_turn k ≡ None
+EndsUnasked P (run (return at e) ∷ k) s = ReturnEnds P e k s
+EndsUnasked P (declare d ∷ k) s = DeclaredEnds P d.number_type d.rvalue s
+EndsUnasked P (declare_array at a ∷ k) s = Ends (fill a) s
+EndsUnasked P (mark b ∷ k) s = run_any b.receiver s ≡ None
+EndsUnasked P (leave_call ∷ k) s = to_mark k ≡ None
+EndsUnasked P k s = ⊥
+
+-- else, where no step follows, the operation that is asked ends the run
+abbrev pub EndsAreAsked : Type 0
+EndsAreAsked = (P : Program) (k : List Item) (h : Here) (s : State) → next_at P k h s ≡ None →
+    TopAsks Ends P k h s ⊎ EndsUnasked P k s
