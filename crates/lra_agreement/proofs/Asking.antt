@@ -4,7 +4,7 @@ use Rattle.std.specs.Prelude.{if◌then◌else◌, cond, nat_lt}
 use Rattle.std.specs.List.{Contains}
 use Rattle.std.proofs.lemmas.Bool.Decides.{nat_tests}
 use Rattle.std.proofs.lemmas.List.Elements.{Contains-append_left, Contains-append_right}
-use Rattle.std.proofs.lemmas.Option.{same_Some}
+use Rattle.std.proofs.lemmas.Option.{same_Some, slice_get_within}
 use Rattle.lra_base.specs.declared.number_types.NumberType.{NumberType}
 use Rattle.lra_program.specs.declared.receivers.Receiver.{Receiver}
 use Rattle.lra_program.specs.Receivers.{variable_at, nobody}
@@ -15,7 +15,7 @@ use Rattle.lra_program.specs.Asks.{CallAsks, RvalueAsks, DeclaredAsks}
 use Rattle.lra_program.specs.Overflow.{op_computes, OpOverflows}
 use Rattle.lra_program.specs.Accesses.{op_accesses, op_accesses_any, OpStrays}
 use Rattle.lra_program.proofs.TypeLaws.{overflowing_compute}
-use Rattle.lra_program.proofs.AccessLaws.{straying_end}
+use Rattle.lra_program.proofs.AccessLaws.{straying_access}
 use Rattle.lra_program.specs.Sites.{Site}
 use Rattle.lra_operations.specs.Graph.{returned, Node, point, act, seq, choose, catch, Arms, no_arms, entry, arm}
 use Rattle.lra_base.specs.declared.case_labels.CaseLabel.{CaseLabel}
@@ -39,7 +39,8 @@ one_at_least : (n k : ℕ) → n < k → IsTrue (nat_lt 0 k)
 one_at_least n k less = grind (arith, nat_tests)
 
 pub straying_accesses : (n : ℕ) (op : Op) (s : State) → OpStrays op s n → IsTrue (op_accesses_any op)
-straying_accesses n op s h = one_at_least n (length (op_accesses op)) (straying_end op s n h).0
+straying_accesses n op s h = let (x, at, outside) = straying_access op s n h in
+    one_at_least n (length (op_accesses op)) (slice_get_within (op_accesses op) n x at)
 
 abbrev pub strays : ℕ → Question
 strays n = record { asks = op_accesses_any; holds = λ op s. OpStrays op s n; asked = straying_accesses n }

@@ -37,8 +37,8 @@ pub fn graphs_ask_well()
     ensures well_formed { WellFormedAskWell }
 {}
 
-/// A program's tree has each operation that accesses arrays once at its point: where a run's n-th access at a point is
-/// outside its array, the n-th of that operation there is.
+/// A program's tree has at each point at most one operation that accesses arrays: where a run's n-th access at a point
+/// is outside its array, the n-th of that operation is.
 ///
 /// Does nothing: its contract is the theorem.
 pub fn graphs_access_well()
