@@ -9,13 +9,14 @@ use Rattle.lra_base.specs.declared.number_types.NumberType.TheVariants.{Int, Lon
 use Rattle.lra_program.specs.Program.{Expr, literal, input, negate, binary}
 use Rattle.lra_program.specs.Receivers.{variable_at, behind_result, nobody, converts_to}
 use Rattle.lra_flow.specs.Linear.{constant_form}
-use Rattle.lra_flow.specs.Fits.{Judgement, first_flagged, IsDivisor, LiesIn, Answers, ExprJudged, GivenJudged}
+use Rattle.lra_flow.specs.Judging.{Finding, first_flagged, Answers}
+use Rattle.lra_flow.specs.Fits.{IsDivisor, LiesIn, ExprJudged, GivenJudged}
 
 -- flags ----------------------------------------------------------------------------------------------------------------
 
-abbrev some_judgements : List Judgement
-some_judgements = record { point = 3; fits = true; exactness = Exact } ∷ record { point = 5; fits = false; exactness = Flagged } ∷ record
-    { point = 7; fits = true; exactness = Flagged } ∷ []
+abbrev some_judgements : List (Finding Bool)
+some_judgements = record { point = 3; answer = true; exactness = Exact } ∷ record { point = 5; answer = false; exactness = Flagged } ∷ record
+    { point = 7; answer = true; exactness = Flagged } ∷ []
 
 -- the first of those that are judged; none where the iteration has one
 first_of_three : first_flagged None some_judgements ≡ Some 5

@@ -34,8 +34,9 @@ use Rattle.lra_flow.specs.Linear.{scaled, operator_form, form_of, form_in, exact
 use Rattle.lra_flow.specs.Operations.{dropping}
 use Rattle.lra_flow.specs.MovesOf.{guard}
 use Rattle.lra_flow.specs.Pass.{Leaves}
-use Rattle.lra_flow.specs.Fits.{LiesIn, IsDivisor, OperatorFits, Answers, ExprJudged, ConversionJudged, GivenJudged, ArgumentsJudged, CondJudged, OpJudged}
-use Rattle.lra_flow.specs.Fits.{Declares, FittingNeverOverflow}
+use Rattle.lra_flow.specs.Judging.{Answers, Declares}
+use Rattle.lra_flow.specs.Fits.{LiesIn, IsDivisor, OperatorFits, ExprJudged, ConversionJudged, GivenJudged, ArgumentsJudged, CondJudged, OpJudged}
+use Rattle.lra_flow.specs.Fits.{FittingNeverOverflow}
 use Rattle.lra_flow.proofs.FormLemmas.{form_wide, constant_value, negated_value, exact_forms, forms_are_right}
 use Rattle.lra_flow.proofs.CondKeeping.{cond_leads}
 use Rattle.lra_flow.proofs.Covers.{Has}
@@ -282,7 +283,7 @@ module _ {V H : Type 0} (m : Meaning V H) (laws : Laws m) (s : Scene) where
   -- conditions -----------------------------------------------------------------------------------------------------------
 
   -- what a left side leaves has the store at which it is so
-  left_behind : (c : Cond) (wanted : Bool) (v w : V) (e : Exactness) (draws left : List ℤ) → Has m v s.store → Leaves (dropping m) s.base c wanted v e w →
+  pub left_behind : (c : Cond) (wanted : Bool) (v w : V) (e : Exactness) (draws left : List ℤ) → Has m v s.store → Leaves (dropping m) s.base c wanted v e w →
       truth_of c s draws ≡ Some (wanted, left) → Has m w s.store
   left_behind c wanted v w e draws left held leaves ran =
       moves_keep V H m laws (guard (m.dims v) s.base wanted c) v e w leaves s.store s.store held
@@ -333,7 +334,7 @@ module _ {V H : Type 0} (m : Meaning V H) (laws : Laws m) where
   op_goes (keep n) v bs e s held judged all stops = stops
   op_goes (test base c wanted) v bs e s held judged all stops = cond_goes m laws (scene_at base s) c v bs e s.draws held judged all stops
 
-  asked_goes : (fresh : Option NumberType) (op : Op) (v w : V) (bs : List Bool) (c d : Exactness) (s : State) → Has m v s.store → Declares m (dropping m) fresh
+  asked_goes : (fresh : Option NumberType) (op : Op) (v w : V) (bs : List Bool) (c d : Exactness) (s : State) → Has m v s.store → Declares (dropping m) fresh
       v c w
       → OpJudged m (dropping m) op w bs d → AllSo bs → FreshOverflows fresh op s → ⊥
   asked_goes None op v w bs c d s held (same, exact) judged all stops = op_goes op w bs d s (subst (λ (x : V). Has m x s.store) (sym same) held) judged all
@@ -342,7 +343,7 @@ module _ {V H : Type 0} (m : Meaning V H) (laws : Laws m) where
       judged all stops
 
   pub fitting_never_overflows : FittingNeverOverflow m
-  fitting_never_overflows values a e v s at formed has (u, w, bs, c, d, found, made, judged, all, flags) stops =
+  fitting_never_overflows values a e v s at formed has (u, w, c, d, found, made, (bs, judged, all), flags) stops =
       let same : v ≡ u = same_Some v u (sym at ∙ found) in
       let held : Has m u s.store = subst (λ (x : V). Has m x s.store) same (formed, has) in
       asked_goes a.fresh a.op u w bs c d s held made judged (sym all) stops

@@ -17,7 +17,7 @@ use Rattle.lra_base.specs.NumberTypes.{fits, wider}
 use Rattle.lra_program.specs.Program.{Expr, literal, read, input, negate, binary, element, type_of, compare}
 use Rattle.lra_program.proofs.TypeLaws.{bind_some}
 use Rattle.lra_program.specs.Value.{◌>>=◌, number, is_word, is_zero, index_of, Scene, apply, compares, value_of, truth_of}
-use Rattle.lra_flow.specs.Linear.{fitting, entrywise, combined, scaled, is_constant, operator_form, constant_form, live_form, variable_form, form_of, form_in, exactly, OperatorFormsAreExact, FormsAreRight, TestHolds, negated_form, less_one}
+use Rattle.lra_flow.specs.Linear.{fitting, entrywise, combined, scaled, is_constant, operator_form, constant_form, live_form, variable_form, form_of, form_in, exactly, OperatorFormsAreExact, FormsAreRight, TestHolds, negated_form, less_by, less_one}
 use Rattle.lra_flow.specs.Linear.{at_least_zero, comparison_test, difference_in, TestsAreRight, DiffersIsRight}
 
 -- of two pairs that are there
@@ -298,27 +298,27 @@ forms_are_right s (element a at e) f draws left z is ran = cc
 
 -- tests ----------------------------------------------------------------------------------------------------------------
 
-opposite_value : (d f : Form) (store : List ℤ) → fitting (opposite_form d) ≡ Some f → form_value f store ≡ (pos 0 -ℤ form_value d store) -ℤ pos 1
+pub opposite_value : (d f : Form) (store : List ℤ) → fitting (opposite_form d) ≡ Some f → form_value f store ≡ (pos 0 -ℤ form_value d store) -ℤ pos 1
 opposite_value d f store e =
     let p = product d.coefficients store in
     value_same (opposite_form d) f store (fitting_same (opposite_form d) f e) ∙ ap (λ (y : ℤ). (neg_ℤ d.constant +ℤ negsuc 0) +ℤ y) (product_negated d.coefficients store) ∙
     (let last : (neg_ℤ d.constant +ℤ negsuc 0) +ℤ neg_ℤ p ≡ (pos 0 -ℤ (d.constant +ℤ p)) -ℤ pos 1 = omega (arith, ints) in last)
 
-less_one_value : (d f : Form) (store : List ℤ) → less_one d ≡ Some f → form_value f store ≡ form_value d store -ℤ pos 1
-less_one_value d f store e =
+pub less_by_value : (n : ℕ) (d f : Form) (store : List ℤ) → less_by n d ≡ Some f → form_value f store ≡ form_value d store -ℤ pos n
+less_by_value n d f store e =
     let p = product d.coefficients store in
-    value_same _ f store (fitting_same (record { constant = d.constant -ℤ pos 1; coefficients = d.coefficients }) f e) ∙
-    (let last : (d.constant -ℤ pos 1) +ℤ p ≡ (d.constant +ℤ p) -ℤ pos 1 = omega (arith, ints) in last)
+    value_same _ f store (fitting_same (record { constant = d.constant -ℤ pos n; coefficients = d.coefficients }) f e) ∙
+    (let last : (d.constant -ℤ pos n) +ℤ p ≡ (d.constant +ℤ p) -ℤ pos n = omega (arith, ints) in last)
 
 -- the inequality of a form
-abbrev inequality_of : Form → Test
+abbrev pub inequality_of : Form → Test
 inequality_of f = record { expr = f; kind = Ge }
 
-from_form : (o : Option Form) (t : Test) → at_least_zero o ≡ Some t → (f : Form) × (o ≡ Some f) × (inequality_of f ≡ t)
+pub from_form : (o : Option Form) (t : Test) → at_least_zero o ≡ Some t → (f : Form) × (o ≡ Some f) × (inequality_of f ≡ t)
 from_form None t e = cc
 from_form (Some f) t e = (f, refl, cc)
 
-passes_same : (f : Form) (t : Test) (store : List ℤ) (z : ℤ) → inequality_of f ≡ t → form_value f store ≡ z → (pos 0 ≤ℤ z) ↔ TestHolds t store
+pub passes_same : (f : Form) (t : Test) (store : List ℤ) (z : ℤ) → inequality_of f ≡ t → form_value f store ≡ z → (pos 0 ≤ℤ z) ↔ TestHolds t store
 passes_same f t store z e is =
     (λ h. subst (λ (x : Test). TestHolds x store) e (subst (λ (y : ℤ). pos 0 ≤ℤ y) (sym is) h), λ h. subst (λ (y : ℤ). pos 0 ≤ℤ y) is (subst (λ (x : Test). TestHolds x store) (sym e) h))
 
@@ -357,7 +357,7 @@ test_is_right at_most d t store x y e is =
     both_ways (le_decides x y (form_value d store) e) (passes_same f t store _ same less)
 test_is_right above d t store x y e is =
     let (f, of, same) = from_form (less_one d) t is in
-    both_ways (gt_decides x y (form_value d store) e) (passes_same f t store _ same (less_one_value d f store of))
+    both_ways (gt_decides x y (form_value d store) e) (passes_same f t store _ same (less_by_value 1 d f store of))
 test_is_right at_least d t store x y e is =
     let (f, of, same) = from_form (Some d) t is in
     let it : d ≡ f = cc in

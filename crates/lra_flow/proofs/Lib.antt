@@ -12,6 +12,8 @@ pub mod Sound
 pub mod Keeps
 -- What is judged to fit doesn't stop a run by a number.
 pub mod FitsSound
+-- What is judged to be inside doesn't stray.
+pub mod AccessesSound
 -- The values of a derivation have no more parts than the options say.
 pub mod Caps
 -- Single definitions on small operands.
@@ -21,11 +23,14 @@ mod MovesExamples
 mod DivisionExamples
 mod ThresholdExamples
 mod FitsExamples
+mod AccessesExamples
 -- What moves do behind others.
 pub mod Takes
 -- Moves say what lists of actions and conditions said apart.
 mod MovesAgree
 pub mod OneTree
 pub mod OneIteration
--- The same values tell one thing of what fits.
+-- The same values tell one thing of what is judged: of any, of what fits, of accesses.
+pub mod OneJudging
 pub mod OneJudgement
+pub mod OneAccess

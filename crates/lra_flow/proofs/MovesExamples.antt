@@ -2,7 +2,7 @@
 use Rattle.std.proofs.Common.{◌≡◌, ℤ, pos, negsuc, [], ◌∷◌, true, false, refl, inr}
 use Rattle.lra_program.proofs.RunExamples.{long_variable}
 use Rattle.lra_program.specs.Program.{local, Expr, literal, read, input, negate, binary, compare, nonzero, opposite, both_of, either_of}
-use Rattle.lra_base.specs.declared.number_types.NumberType.TheVariants.{Int, Long}
+use Rattle.lra_base.specs.declared.number_types.NumberType.TheVariants.{Int}
 use Rattle.lra_base.specs.Operators.{modulo, below, equal, differs}
 use Rattle.lra_linear.specs.declared.ConKind.TheVariants.{Ge, Eq}
 use Rattle.lra_domain.specs.Actions.{Action, test, embed, forget}

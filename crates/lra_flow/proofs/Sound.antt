@@ -21,7 +21,7 @@ use Rattle.std.proofs.lemmas.Int.{ints}
 use Rattle.std.specs.List.{list_any}
 use Rattle.std.specs.Prelude.{◌||◌, if◌then◌else◌}
 use Rattle.lra_operations.specs.Graph.{Exit, broken, continued, returned, normal, Node, empty, point, act, check, seq, choose, iterate, catch, leave, Rounds, Ends}
-use Rattle.lra_operations.specs.Graph.{select, Arms, no_arms, entry, arm, entries_of, Selects, ArmsEnd}
+use Rattle.lra_operations.specs.Graph.{select, Arms, no_arms, entry, arm, entries_of, Selects}
 use Rattle.lra_flow.specs.Plan.{Plan, Widening, mode_at}
 use Rattle.lra_flow.specs.Operations.{dropping}
 use Rattle.lra_flow.specs.Pass.{Entry, value, failing, Result, noted, jumps_of, first_of_call, values_behind, in_turn, behind, jumps, AreJoined, GoesRound, Grows, Narrows, Pass}

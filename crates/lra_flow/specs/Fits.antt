@@ -1,12 +1,11 @@
 -- Which operations can't stop a run by a number, as the values at the points tell it. An operation is asked whether all
 -- that it computes fits: each operator and each sign, in the order in which they are computed, an element's index before
--- what the element gets, and each conversion from 64 bits to 32. Each is asked of the value that its operation has: the right side of `&&` and `||` of what the left
--- side leaves to it.
-use Rattle.std.specs.Prelude.{◌≡◌, ◌≢◌, ◌↔◌, ◌⊎◌, ◌<◌, ◌++◌, ℕ, ℤ, pos, negsuc, List, [], ◌∷◌, map, Option, None, Some}
-use Rattle.std.specs.Prelude.{Bool, true, false, IsTrue, Contains, slice_get}
+-- what the element gets, and each conversion from 64 bits to 32. Each is asked of the value that its operation has.
+use Rattle.std.specs.Prelude.{◌≡◌, ◌≢◌, ◌++◌, ℕ, ℤ, pos, negsuc, List, [], ◌∷◌, Option, None, Some, Bool, true, false}
+use Rattle.std.specs.Prelude.{IsTrue, slice_get}
 use Rattle.std.specs.List.{list_all}
 use Rattle.lra_lin.specs.Form.{Form}
-use Rattle.lra_domain.specs.Meaning.{Meaning, worse}
+use Rattle.lra_domain.specs.Meaning.{Meaning}
 use Rattle.lra_domain.specs.declared.Exactness.{Exactness}
 use Rattle.lra_domain.specs.declared.Exactness.TheVariants.{Exact}
 use Rattle.lra_base.specs.declared.number_types.NumberType.{NumberType}
@@ -15,32 +14,14 @@ use Rattle.lra_base.specs.NumberTypes.{fits, wider}
 use Rattle.lra_base.specs.Operators.{Operator, plus, minus, times, over, modulo}
 use Rattle.lra_program.specs.declared.receivers.Receiver.{Receiver}
 use Rattle.lra_program.specs.Receivers.{waiting_in, parameter_of, converts_to}
-use Rattle.lra_program.specs.Program.{Expr, literal, read, input, negate, binary, element, type_of, Cond, compare}
-use Rattle.lra_program.specs.Program.{nonzero, opposite, both_of, either_of}
+use Rattle.lra_program.specs.Program.{Expr, literal, read, input, negate, binary, element, type_of, Cond}
 use Rattle.lra_program.specs.Value.{Argument}
 use Rattle.lra_program.specs.Step.{State, Op, append, fill, give, give_element, give_any, push, push_for, keep, test}
 use Rattle.lra_operations.specs.Graph.{Node}
 use Rattle.lra_operations.specs.Asked.{Asked, asked_in, AskedOverflows}
 use Rattle.lra_flow.specs.Linear.{is_constant, form_of}
 use Rattle.lra_flow.specs.Operations.{Operations, dropping}
-use Rattle.lra_flow.specs.Pass.{noted, Leaves, Changes}
-use Rattle.lra_flow.specs.Analysis.{IsUnreachable}
-
--- what is found of an operation that is asked: its point, whether all fits that it computes, and whether what had to be
--- made for the answer is exact
-pub record Judgement : Type 0 where
-  pub point : ℕ
-  pub fits : Bool
-  pub exactness : Exactness
-
--- a judgement without its flag
-abbrev pub fitting_of : Judgement → ℕ × Bool
-fitting_of j = (j.point, j.fits)
-
--- the first flagged point, behind what is flagged so far
-abbrev pub first_flagged : Option ℕ → List Judgement → Option ℕ
-first_flagged f [] = f
-first_flagged f (j ∷ js) = first_flagged (noted j.point j.exactness f) js
+use Rattle.lra_flow.specs.Judging.{Answers, CondTold, AskedTold, Finds}
 
 -- a constant by which each number of a type can be divided
 abbrev pub IsDivisor : Option Form → Type 0
@@ -64,10 +45,6 @@ module _ {V H : Type 0} (m : Meaning V H) where
     OperatorFits t over f g = IsDivisor g
     OperatorFits t modulo f g = IsDivisor g
 
-    -- an answer: it is so, or no run comes here
-    abbrev pub Answers : Bool → Type 0 → Type 0
-    Answers b so = IsTrue b ↔ (IsUnreachable m v ⊎ so)
-
   -- all that is computed of it, where the call's own variables begin at `base`
   module _ (v : V) (base : ℕ) where
     -- the answers on an expression
@@ -76,16 +53,16 @@ module _ {V H : Type 0} (m : Meaning V H) where
     ExprJudged (read x) bs = bs ≡ []
     ExprJudged input bs = bs ≡ []
     ExprJudged (negate e) bs = (xs : List Bool) × (b : Bool) × ExprJudged e xs ×
-        Answers v b (LiesIn v (type_of e) (form_of (m.dims v) base (negate e))) × (bs ≡ xs ++ b ∷ [])
+        Answers m v b (LiesIn v (type_of e) (form_of (m.dims v) base (negate e))) × (bs ≡ xs ++ b ∷ [])
     ExprJudged (binary op a b) bs = (xs ys : List Bool) × (c : Bool) × ExprJudged a xs × ExprJudged b ys ×
-        Answers v c (OperatorFits v (wider (type_of a) (type_of b)) op (form_of (m.dims v) base (binary op a b))
+        Answers m v c (OperatorFits v (wider (type_of a) (type_of b)) op (form_of (m.dims v) base (binary op a b))
         (form_of (m.dims v) base b)) × (bs ≡ (xs ++ ys) ++ c ∷ [])
     ExprJudged (element a at e) bs = ExprJudged e bs
 
     -- and on the conversion of its value, where there is one
     abbrev pub ConversionJudged : Bool → Expr → List Bool → Type 0
     ConversionJudged false e bs = bs ≡ []
-    ConversionJudged true e bs = (b : Bool) × Answers v b (LiesIn v Int (form_of (m.dims v) base e)) × (bs ≡ b ∷ [])
+    ConversionJudged true e bs = (b : Bool) × Answers m v b (LiesIn v Int (form_of (m.dims v) base e)) × (bs ≡ b ∷ [])
 
     abbrev pub GivenJudged : Receiver → Expr → List Bool → Type 0
     GivenJudged x e bs = (xs ys : List Bool) × ExprJudged e xs × ConversionJudged (converts_to (type_of e) x) e ys ×
@@ -101,20 +78,19 @@ module _ {V H : Type 0} (m : Meaning V H) where
     abbrev pub IndexJudged : Expr → (List Bool → Type 0) → List Bool → Type 0
     IndexJudged e behind bs = (xs ys : List Bool) × ExprJudged e xs × behind ys × (bs ≡ xs ++ ys)
 
+  -- both sides of a comparison, and what is compared with 0
+  abbrev pub BothJudged : ℕ → Expr → Expr → V → List Bool → Exactness → Type 0
+  BothJudged base a b v bs e = (xs ys : List Bool) × ExprJudged v base a xs × ExprJudged v base b ys ×
+      (bs ≡ xs ++ ys) × (e ≡ Exact)
+
+  abbrev pub OneJudged : ℕ → Expr → V → List Bool → Exactness → Type 0
+  OneJudged base a v bs e = ExprJudged v base a bs × (e ≡ Exact)
+
   -- operations; what a left side leaves may be flagged ----------------------------------------------------------------
 
   module _ (ops : Operations V H) where
     abbrev pub CondJudged : ℕ → Cond → V → List Bool → Exactness → Type 0
-    CondJudged base (compare op a b) v bs e = (xs ys : List Bool) × ExprJudged v base a xs × ExprJudged v base b ys ×
-        (bs ≡ xs ++ ys) × (e ≡ Exact)
-    CondJudged base (nonzero a) v bs e = ExprJudged v base a bs × (e ≡ Exact)
-    CondJudged base (opposite c) v bs e = CondJudged base c v bs e
-    CondJudged base (both_of c d) v bs e = (xs ys : List Bool) × (w : V) × (f g h : Exactness) ×
-        CondJudged base c v xs f × Leaves ops base c true v g w × CondJudged base d w ys h × (bs ≡ xs ++ ys) ×
-        (e ≡ worse (worse f g) h)
-    CondJudged base (either_of c d) v bs e = (xs ys : List Bool) × (w : V) × (f g h : Exactness) ×
-        CondJudged base c v xs f × Leaves ops base c false v g w × CondJudged base d w ys h × (bs ≡ xs ++ ys) ×
-        (e ≡ worse (worse f g) h)
+    CondJudged base c v bs e = CondTold ops BothJudged OneJudged base c v bs e
 
     abbrev pub OpJudged : Op → V → List Bool → Exactness → Type 0
     OpJudged (append t) v bs e = (bs ≡ []) × (e ≡ Exact)
@@ -128,33 +104,17 @@ module _ {V H : Type 0} (m : Meaning V H) where
     OpJudged (keep n) v bs e = (bs ≡ []) × (e ≡ Exact)
     OpJudged (test base c wanted) v bs e = CondJudged base c v bs e
 
-    -- behind the new variable, where there is one
-    abbrev pub Declares : Option NumberType → V → Exactness → V → Type 0
-    Declares None v e w = (w ≡ v) × (e ≡ Exact)
-    Declares (Some t) v e w = Changes ops (append t) v e w
+    -- whether all fits that an operation computes
+    abbrev pub OpFits : Op → V → Bool → Exactness → Type 0
+    OpFits op v b e = (bs : List Bool) × OpJudged op v bs e × (b ≡ list_all (λ x. x) bs)
 
-    -- whether all fits that an operation computes, by the values at the points
+    -- by the values at the points
     abbrev pub AskedJudged : List V → Asked → Bool → Exactness → Type 0
-    AskedJudged values a b e = (v w : V) × (bs : List Bool) × (c d : Exactness) × (slice_get values a.point ≡ Some v) ×
-        Declares a.fresh v c w × OpJudged a.op w bs d × (b ≡ list_all (λ x. x) bs) × (e ≡ worse c d)
+    AskedJudged values a b e = AskedTold ops OpFits values a b e
 
-    -- the judgement is on one of these
-    abbrev pub IsOnOneOf : List Asked → List V → Judgement → Type 0
-    IsOnOneOf asked values j = (a : Asked) × Contains asked a × (a.point ≡ j.point) ×
-        AskedJudged values a j.fits j.exactness
-
-    -- all of a tree: what is found at the points where it asks, in the order of their numbers; flags come behind all of
-    -- the iteration's
-    pub record Judges (g : Node) (values : List V) (flagged : Option ℕ) (fitting : List (ℕ × Bool))
-        (behind : Option ℕ) : Type 0 where
-      pub found : List Judgement
-      pub is_asked : (j : Judgement) → Contains found j → IsOnOneOf (asked_in None g) values j
-      pub has_asked : (a : Asked) → Contains (asked_in None g) a → (j : Judgement) × Contains found j ×
-          (j.point ≡ a.point)
-      pub in_order : (i k : ℕ) (j l : Judgement) → i < k → slice_get found i ≡ Some j → slice_get found k ≡ Some l →
-          j.point < l.point
-      pub told : fitting ≡ map fitting_of found
-      pub flags : behind ≡ first_flagged flagged found
+    -- all of a tree: what is found at the points where it computes; flags come behind all of the iteration's
+    abbrev pub Judges : Node → List V → Option ℕ → List (ℕ × Bool) → Option ℕ → Type 0
+    Judges g values flagged fitting behind = Finds ops OpFits (asked_in None g) values flagged fitting behind
 
     -- where it is asked for; else nothing is told, and nothing done
     abbrev pub JudgesIf : Bool → Node → List V → Option ℕ → List (ℕ × Bool) → Option ℕ → Type 0

@@ -13,4 +13,7 @@ pub mod Thresholds
 pub mod Pass
 pub mod Analysis
 -- What can stop a run by a number.
+pub mod Judging
 pub mod Fits
+-- Which accesses of arrays can stray.
+pub mod Accesses

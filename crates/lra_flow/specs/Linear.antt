@@ -99,9 +99,12 @@ abbrev pub at_least_zero : Option Form → Option Test
 at_least_zero None = None
 at_least_zero (Some f) = Some (record { expr = f; kind = Ge })
 
--- d - 1, -d
+-- d - n, d - 1, -d
+abbrev pub less_by : ℕ → Form → Option Form
+less_by n d = fitting (record d { constant = d.constant -ℤ pos n })
+
 abbrev pub less_one : Form → Option Form
-less_one d = fitting (record d { constant = d.constant -ℤ pos 1 })
+less_one d = less_by 1 d
 
 abbrev pub negated_form : Form → Option Form
 negated_form d = scaled (negsuc 0) d
