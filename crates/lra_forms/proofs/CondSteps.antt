@@ -8,7 +8,7 @@ use Rattle.lra_program.specs.Program.{Expr, binary, Cond}
 use Rattle.lra_program.specs.declared.program.Cond as declared_cond
 use Rattle.lra_program.specs.declared.program.Cond.{All, Any, the_lemmas}
 use Rattle.lra_program.specs.ProgramViews.{all_of, any_of, cond_view}
-use Rattle.lra_flow.specs.Linear.{entrywise, combined, fitting, constant_form, less_one, form_of, difference_form}
+use Rattle.lra_flow.specs.Linear.{entrywise, combined, fitting, constant_form, less_by, form_of, difference_form}
 use Rattle.lra_domain.specs.Moves.{Moves, first_then, join_of}
 use Rattle.lra_flow.specs.MovesOf.{guard}
 use Rattle.lra_flow.proofs.FormLemmas.{form_wide}
@@ -22,10 +22,11 @@ minus_zeros [] = refl
 minus_zeros (c ∷ cs) = let e : c -ℤ pos 0 ≡ c = omega (arith, ints) in ap (λ (x : ℤ). x ∷ entrywise (λ x y. x -ℤ y) cs (replicate (length cs) (pos 0))) e ∙
     ap (λ (xs : List ℤ). c ∷ xs) (minus_zeros cs)
 
--- d - 1
-pub less_one_is : (d one : Form) (o : Option Form) → one ≡ constant_form (length d.coefficients) (pos 1) → o ≡ combined (λ x y. x -ℤ y) d one → o ≡ less_one d
-less_one_is d one o is h =
-    h ∙ ap (combined (λ x y. x -ℤ y) d) is ∙ ap (λ (cs : List ℤ). fitting (record { constant = d.constant -ℤ pos 1; coefficients = cs })) (minus_zeros d.coefficients)
+-- d - n
+pub less_by_is : (n : ℕ) (d constant : Form) (o : Option Form) → constant ≡ constant_form (length d.coefficients) (pos n) → o ≡ combined (λ x y. x -ℤ y) d constant
+    → o ≡ less_by n d
+less_by_is n d constant o is h =
+    h ∙ ap (combined (λ x y. x -ℤ y) d) is ∙ ap (λ (cs : List ℤ). fitting (record { constant = d.constant -ℤ pos n; coefficients = cs })) (minus_zeros d.coefficients)
 
 -- differences -------------------------------------------------------------------------------------------------------------
 

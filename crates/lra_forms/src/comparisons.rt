@@ -3,7 +3,7 @@
 ghost use Rattle.std.specs.Prelude.{◌≡◌, ◌<◌, ◌^◌, length, IfOk};
 ghost use Rattle.lra_base.specs.OperatorViews.{comparison_view};
 ghost use Rattle.lra_program.specs.ProgramViews.{expr_view};
-ghost use Rattle.lra_flow.specs.Linear.{difference_form, comparison_test, less_one, at_least_zero};
+ghost use Rattle.lra_flow.specs.Linear.{difference_form, comparison_test, less_by, at_least_zero};
 ghost use Rattle.lra_flow.specs.MovesOf.{comparison_as, opposite_comparison};
 
 use crate::forms::{constant_of, form_of_expression, multiple_of, sum_of_forms};
@@ -13,13 +13,13 @@ use lra_linear::ConKind;
 use lra_program::Expr;
 use std::alloc::{AllocError, Global};
 
-/// The form minus one, where all its numbers have 64 bits.
-fn less_one_of(alloc: Global, d: &LinExpr) -> Result<Option<LinExpr>, AllocError>
+/// The form minus a number, where all its numbers have 64 bits.
+pub fn less_by(alloc: Global, d: &LinExpr, number: u32) -> Result<Option<LinExpr>, AllocError>
     requires { length d.now.coefficients < 2 ^ 62 }
-    ensures { IfOk result (λ o. o ≡ less_one d.now) }
+    ensures { IfOk result (λ o. o ≡ less_by number d.now) }
 {
-    let one = constant_of(alloc, d.coefficients().len(), &1)?;
-    let form = sum_of_forms(alloc, true, d, &one)?;
+    let constant = constant_of(alloc, d.coefficients().len(), &(number as i64))?;
+    let form = sum_of_forms(alloc, true, d, &constant)?;
     Ok(form)
 }
 
@@ -51,7 +51,7 @@ pub fn test_of(alloc: Global, op: Comparison, d: &LinExpr) -> Result<Option<Test
             Ok(at_least_zero_of(form))
         }
         Comparison::Above => {
-            let form = less_one_of(alloc, d)?;
+            let form = less_by(alloc, d, 1)?;
             Ok(at_least_zero_of(form))
         }
         Comparison::AtLeast => Ok(Some(Test {

@@ -10,7 +10,7 @@ mod seen;
 mod thresholds;
 
 pub use cases::{first_case, second_case};
-pub use comparisons::{comparison_where, difference_of, opposite_of, test_of};
+pub use comparisons::{comparison_where, difference_of, less_by, opposite_of, test_of};
 pub use forms::{
     apply_operator, constant_of, form_of_expression, form_of_one, has_no_variable, multiple_of,
 };
