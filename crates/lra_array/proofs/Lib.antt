@@ -1,0 +1,2 @@
+mod ListedSteps
+mod BoundSteps
