@@ -24,7 +24,8 @@ use Rattle.lra_program.specs.Program.{Expr, literal, read, input, negate, binary
 use Rattle.lra_program.specs.ProgramViews.{argument_view, chained, expr_view, operation_view, variable_view}
 use Rattle.lra_program.specs.Value.{Argument}
 use Rattle.lra_flow.specs.Linear.{form_of}
-use Rattle.lra_flow.specs.Fits.{LiesIn, OperatorFits, Answers, ExprJudged, ConversionJudged, GivenJudged, ArgumentsJudged, IndexJudged}
+use Rattle.lra_flow.specs.Judging.{Answers}
+use Rattle.lra_flow.specs.Fits.{LiesIn, OperatorFits, ExprJudged, ConversionJudged, GivenJudged, ArgumentsJudged, IndexJudged}
 use Rattle.lra_flow.proofs.FormLemmas.{form_wide, operator_wide, scaled_wide}
 use Rattle.lra_forms.proofs.FormSteps.{operation_is}
 use Rattle.lra_forms.proofs.SeenSteps.{chained_last}

@@ -2,4 +2,3 @@ mod ConditionSteps
 pub mod ComputesSteps
 pub mod ExpressionSteps
 pub mod TableSteps
-pub mod TreeSteps

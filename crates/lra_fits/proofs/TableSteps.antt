@@ -1,27 +1,37 @@
 -- What is written into a table of verdicts, and what the whole table tells.
 use Rattle.std.proofs.Common.{◌≡◌, ◌≢◌, ◌∙◌, ℕ, zero, suc, ◌+◌, ◌<◌, ◌≤◌, List, [], ◌∷◌, ◌++◌, length}
-use Rattle.std.proofs.Common.{map, take, get_or, Bool, Option, Some, None, refl, sym, ap, subst, inl, inr, arith}
-use Rattle.std.specs.Prelude.{◌⊎◌, slice_get, slice_set, replicate, Contains}
+use Rattle.std.proofs.Common.{map, take, get_or, Bool, true, false, Option, Some, None, refl, sym, ap, subst, inl, inr, arith}
+use Rattle.std.specs.Prelude.{◌⊎◌, slice_get, slice_set, replicate, Contains, if◌then◌else◌}
 use Rattle.std.proofs.lemmas.Bool.{cases_eq}
-use Rattle.std.proofs.lemmas.List.{length-set, map-append}
-use Rattle.std.proofs.lemmas.List.Elements.{Contains-append_left, Contains-append_right, Contains-append_cases}
-use Rattle.std.proofs.lemmas.Option.{none-some, same_Some, slice_get-get_or}
-use Rattle.lra_linear.proofs.Membership.{contains_none, contains_head, contains_tail, contains_cases}
-use Rattle.lra_domain.specs.Meaning.{Meaning}
-use Rattle.lra_operations.specs.Asked.{Asked, asked_in}
+use Rattle.std.proofs.lemmas.List.{length-replicate, length-set, map-append, map_more, take_all}
+use Rattle.std.proofs.lemmas.List.Elements.{Contains-append_left, Contains-append_right, Contains-append_cases, Contains-get_or, filter-append}
+use Rattle.std.proofs.lemmas.Option.{none-some, same_Some}
+use Rattle.lra_linear.proofs.Membership.{contains_none, contains_head, contains_tail, contains_cases, filter_has, map_has}
+use Rattle.lra_domain.specs.declared.Exactness.{Exactness}
+use Rattle.lra_program.specs.Step.{Op}
+use Rattle.lra_operations.specs.Asked.{Asked, asking_in}
 use Rattle.lra_operations.specs.Graph.{Node}
-use Rattle.lra_flow.specs.Fits.{Judgement, fitting_of, first_flagged, AskedJudged, IsOnOneOf, Judges}
-use Rattle.lra_flow.specs.Operations.{dropping}
+use Rattle.lra_doings.specs.Doings.{done_in, done_view}
+use Rattle.lra_doings.specs.declared.doings.Done.{Done}
+use Rattle.lra_doings.proofs.Filtered.{asking_filtered}
+use Rattle.lra_flow.specs.Judging.{AskedTold, Finding, Finds, answer_of, first_flagged, IsFoundOn}
+use Rattle.lra_flow.specs.Operations.{Operations}
 use Rattle.lra_flow.specs.Pass.{noted}
-use Rattle.lra_fits.specs.declared.operations.Verdict.{Verdict}
-use Rattle.lra_fits.specs.Judged.{Fills, Holds, judgement_of, judgements_from}
+use Rattle.lra_fits.specs.declared.questions.Verdict.{Verdict}
+use Rattle.lra_fits.specs.Judged.{AreBelow, Fills, Holds, IsAnswered, asked_by, finding_of, findings_from}
 
 -- places -----------------------------------------------------------------------------------------------------------------
 
 module _ {A : Type 0} where
-  pub replicate_push : (n : ℕ) (x : A) → replicate n x ++ x ∷ [] ≡ replicate (suc n) x
+  replicate_push : (n : ℕ) (x : A) → replicate n x ++ x ∷ [] ≡ replicate (suc n) x
   replicate_push zero x = refl
   replicate_push (suc n) x = ap (λ (xs : List A). x ∷ xs) (replicate_push n x)
+
+  -- one place more that holds the same
+  pub one_more_place : (n : ℕ) (x : A) (t u : List A) → t ≡ replicate n x → u ≡ t ++ x ∷ [] → u ≡ replicate (n + 1) x
+  one_more_place n x t u all more =
+      let one : suc n ≡ n + 1 = omega arith in
+      more ∙ ap (λ (xs : List A). xs ++ x ∷ []) all ∙ replicate_push n x ∙ ap (λ (k : ℕ). replicate k x) one
 
   none_held : (n q : ℕ) (x : A) → slice_get (replicate n (let o : Option A = None in o)) q ≡ Some (Some x) → ⊥
   none_held zero q x e = none-some (Some x) e
@@ -42,8 +52,8 @@ module _ {A : Type 0} where
 
 -- what is written --------------------------------------------------------------------------------------------------------
 
-module _ {V H : Type 0} (m : Meaning V H) (values : List V) where
-  pub none_fills : (t : List (Option Verdict)) → Fills m values [] t t
+module _ {V H A : Type 0} (ops : Operations V H) (Told : Op → V → A → Exactness → Type 0) (values : List V) where
+  pub none_fills : (t : List (Option (Verdict A))) → Fills ops Told values [] t t
   none_fills t = record {
     long = refl;
     is_asked = λ q j h. inl h;
@@ -51,8 +61,8 @@ module _ {V H : Type 0} (m : Meaning V H) (values : List V) where
     keeps = λ q j h. (j, h);
   }
 
-  pub one_fills : (a : Asked) (j : Verdict) (t : List (Option Verdict)) → a.point < length t → AskedJudged m (dropping m) values a j.fits j.exactness
-      → Fills m values (a ∷ []) t (slice_set t a.point (Some j))
+  pub one_fills : (a : Asked) (j : Verdict A) (t : List (Option (Verdict A))) → a.point < length t → AskedTold ops Told values a j.answer j.exactness
+      → Fills ops Told values (a ∷ []) t (slice_set t a.point (Some j))
   one_fills a j t inside judged = record {
     long = length-set t a.point (Some j);
     is_asked = there;
@@ -69,15 +79,15 @@ module _ {V H : Type 0} (m : Meaning V H) (values : List V) where
       here : Holds (slice_set t a.point (Some j)) a.point j
       here = here_set t a.point (Some j) inside
 
-      there : (q : ℕ) (k : Verdict) → Holds (slice_set t a.point (Some j)) q k → Holds t q k ⊎ IsOnOneOf m (dropping m) (a ∷ []) values (judgement_of q k)
+      there : (q : ℕ) (k : Verdict A) → Holds (slice_set t a.point (Some j)) q k → Holds t q k ⊎ IsFoundOn ops Told (a ∷ []) values (finding_of q k)
       there q k h = elim (cases_eq a.point q) [
         | inl same ↦ (let at : Holds (slice_set t a.point (Some j)) a.point k = subst (λ (p : ℕ). Holds (slice_set t a.point (Some j)) p k) (sym same) h in
             let is : j ≡ k = same_Some j k (same_Some (Some j) (Some k) (sym here ∙ at)) in
-            inr (a, contains_head a [], same, subst (λ (x : Verdict). AskedJudged m (dropping m) values a x.fits x.exactness) is judged))
+            inr (a, contains_head a [], same, subst (λ (x : Verdict A). AskedTold ops Told values a x.answer x.exactness) is judged))
         | inr other ↦ inl (sym (elsewhere_set t a.point q (Some j) other) ∙ h)
       ]
 
-  pub then_fills : (xs ys : List Asked) (t u w : List (Option Verdict)) → Fills m values xs t u → Fills m values ys u w → Fills m values (xs ++ ys) t w
+  pub then_fills : (xs ys : List Asked) (t u w : List (Option (Verdict A))) → Fills ops Told values xs t u → Fills ops Told values ys u w → Fills ops Told values (xs ++ ys) t w
   then_fills xs ys t u w first second = record {
     long = second.long ∙ first.long;
     is_asked = λ q j h. elim (second.is_asked q j h) [
@@ -94,138 +104,208 @@ module _ {V H : Type 0} (m : Meaning V H) (values : List V) where
     keeps = λ q j h. (let k = first.keeps q j h in second.keeps q k.0 k.1);
   }
 
+  -- behind those of which it is asked among what is done before
+  module _ (asks : Op → Bool) (xs : List Asked) (a : Asked) where
+    abbrev asked_here : List Asked
+    asked_here = asked_by asks (a ∷ [])
+
+    apart : asked_by asks (xs ++ a ∷ []) ≡ asked_by asks xs ++ asked_here
+    apart = filter-append (λ (b : Asked). asks b.op) xs (a ∷ [])
+
+    here_asked : (b : Bool) → asks a.op ≡ b → asked_here ≡ (if b then a ∷ [] else [])
+    here_asked b is = ap (λ (c : Bool). if c then a ∷ [] else []) is
+
+    fills_behind : (here : List Asked) (old t u : List (Option (Verdict A))) → asked_here ≡ here → Fills ops Told values (asked_by asks xs) old t
+        → Fills ops Told values here t u → Fills ops Told values (asked_by asks (xs ++ a ∷ [])) old u
+    fills_behind here old t u is before one = subst (λ (ys : List Asked). Fills ops Told values ys old u)
+        (sym (apart ∙ ap (λ (ys : List Asked). asked_by asks xs ++ ys) is)) (then_fills (asked_by asks xs) here old t u before one)
+
+    pub unasked_fills : (old t : List (Option (Verdict A))) → asks a.op ≡ false → Fills ops Told values (asked_by asks xs) old t
+        → Fills ops Told values (asked_by asks (xs ++ a ∷ [])) old t
+    unasked_fills old t is before = fills_behind [] old t t (here_asked false is) before (none_fills t)
+
+    pub asked_fills : (old t u : List (Option (Verdict A))) (v : V) (j : Verdict A) → asks a.op ≡ true → Fills ops Told values (asked_by asks xs) old t
+        → slice_get values a.point ≡ Some v → IsAnswered ops Told a v j.answer j.exactness → a.point < length t → u ≡ slice_set t a.point (Some j)
+        → Fills ops Told values (asked_by asks (xs ++ a ∷ [])) old u
+    asked_fills old t u v j is before there (w, c, d, declared, told, worst) inside written =
+        fills_behind (a ∷ []) old t u (here_asked true is) before
+        (subst (Fills ops Told values (a ∷ []) t) (sym written) (one_fills a j t inside (v, w, c, d, there, declared, told, worst)))
+
+-- each of which it is asked has a value
+pub asked_inside : (asks : Op → Bool) (n : ℕ) (xs : List Asked) (a : Asked) → Contains xs a → asks a.op ≡ true → AreBelow n (asked_by asks xs) → a.point < n
+asked_inside asks n xs a there is below = below a (filter_has (λ (b : Asked). asks b.op) xs a there is)
+
 -- what a table tells -----------------------------------------------------------------------------------------------------
 
-judgement_here : (n : ℕ) (o : Option Verdict) (j : Verdict) → o ≡ Some j → judgements_from n (o ∷ []) ≡ judgement_of n j ∷ []
-judgement_here n o j e = ap (λ (p : Option Verdict). judgements_from n (p ∷ [])) e
+module _ {A : Type 0} where
+  -- one place more
+  some_told : (n : ℕ) (t : List (Option (Verdict A))) (j : Verdict A)
+      → findings_from n (t ++ Some j ∷ []) ≡ findings_from n t ++ finding_of (n + length t) j ∷ []
+  some_told n [] j =
+      let at : n ≡ n + 0 = omega arith in
+      ap (λ (p : ℕ). finding_of p j ∷ []) at
+  some_told n (None ∷ t) j =
+      let at : suc n + length t ≡ n + suc (length t) = omega arith in
+      some_told (suc n) t j ∙ ap (λ (p : ℕ). findings_from (suc n) t ++ finding_of p j ∷ []) at
+  some_told n (Some i ∷ t) j =
+      let at : suc n + length t ≡ n + suc (length t) = omega arith in
+      ap (λ (js : List (Finding A)). finding_of n i ∷ js)
+      (some_told (suc n) t j ∙ ap (λ (p : ℕ). findings_from (suc n) t ++ finding_of p j ∷ []) at)
 
--- one place more
-some_told : (n : ℕ) (t : List (Option Verdict)) (k : ℕ) (j : Verdict) → Holds t k j
-    → judgements_from n (take (suc k) t) ≡ judgements_from n (take k t) ++ judgement_of (n + k) j ∷ []
-some_told n [] k j e = absurd (none-some (Some j) e)
-some_told n (o ∷ t) zero j e =
-    let at : n ≡ n + 0 = omega arith in
-    judgement_here n o j (same_Some o (Some j) e) ∙ ap (λ (p : ℕ). judgement_of p j ∷ []) at
-some_told n (None ∷ t) (suc k) j e =
-    let at : suc n + k ≡ n + suc k = omega arith in
-    some_told (suc n) t k j e ∙ ap (λ (p : ℕ). judgements_from (suc n) (take k t) ++ judgement_of p j ∷ []) at
-some_told n (Some i ∷ t) (suc k) j e =
-    let at : suc n + k ≡ n + suc k = omega arith in
-    ap (λ (js : List Judgement). judgement_of n i ∷ js)
-    (some_told (suc n) t k j e ∙ ap (λ (p : ℕ). judgements_from (suc n) (take k t) ++ judgement_of p j ∷ []) at)
+  none_told : (n : ℕ) (t : List (Option (Verdict A))) → findings_from n (t ++ None ∷ []) ≡ findings_from n t
+  none_told n [] = refl
+  none_told n (None ∷ t) = none_told (suc n) t
+  none_told n (Some i ∷ t) = ap (λ (js : List (Finding A)). finding_of n i ∷ js) (none_told (suc n) t)
 
-none_told : (n : ℕ) (t : List (Option Verdict)) (k : ℕ) → slice_get t k ≡ Some None → judgements_from n (take (suc k) t) ≡ judgements_from n (take k t)
-none_told n [] k e = absurd (none-some (let o : Option Verdict = None in o) e)
-none_told n (o ∷ t) zero e = ap (λ (p : Option Verdict). judgements_from n (p ∷ [])) (same_Some o None e)
-none_told n (None ∷ t) (suc k) e = none_told (suc n) t k e
-none_told n (Some i ∷ t) (suc k) e = ap (λ (js : List Judgement). judgement_of n i ∷ js) (none_told (suc n) t k e)
+  flagged_more : (f : Option ℕ) (js : List (Finding A)) (j : Finding A) → first_flagged f (js ++ j ∷ []) ≡ noted j.point j.exactness (first_flagged f js)
+  flagged_more f [] j = refl
+  flagged_more f (i ∷ js) j = flagged_more (noted i.point i.exactness f) js j
 
-flagged_more : (f : Option ℕ) (js : List Judgement) (j : Judgement) → first_flagged f (js ++ j ∷ []) ≡ noted j.point j.exactness (first_flagged f js)
-flagged_more f [] j = refl
-flagged_more f (i ∷ js) j = flagged_more (noted i.point i.exactness f) js j
+  module _ (t : List (Option (Verdict A))) (o : Option (Verdict A)) (k : ℕ) where
+    one_told : (j : Verdict A) → o ≡ Some j → k ≡ length t → findings_from 0 (t ++ o ∷ []) ≡ findings_from 0 t ++ finding_of k j ∷ []
+    one_told j is count =
+        let at : 0 + length t ≡ k = omega (arith, count) in
+        ap (λ (p : Option (Verdict A)). findings_from 0 (t ++ p ∷ [])) is ∙ some_told 0 t j
+        ∙ ap (λ (p : ℕ). findings_from 0 t ++ finding_of p j ∷ []) at
 
-module _ (t : List (Option Verdict)) (k : ℕ) (inside : k < length t) where
-  -- what the places so far tell
-  abbrev pub told : ℕ → List Judgement
-  told n = judgements_from 0 (take n t)
+    nothing_told : o ≡ None → findings_from 0 (t ++ o ∷ []) ≡ findings_from 0 t
+    nothing_told is = ap (λ (p : Option (Verdict A)). findings_from 0 (t ++ p ∷ [])) is ∙ none_told 0 t
 
-  one_told : (j : Verdict) → get_or t k None ≡ Some j → told (k + 1) ≡ told k ++ judgement_of k j ∷ []
-  one_told j is =
-      let one : k + 1 ≡ suc k = omega arith in
-      let at : 0 + k ≡ k = omega arith in
-      ap told one ∙ some_told 0 t k j (slice_get-get_or t k None inside ∙ ap (λ (o : Option Verdict). Some o) is)
-      ∙ ap (λ (p : ℕ). told k ++ judgement_of p j ∷ []) at
+    pub answers_some : (xs ys : List (ℕ × A)) (j : Verdict A) → o ≡ Some j → k ≡ length t → xs ≡ map answer_of (findings_from 0 t)
+        → ys ≡ xs ++ (k, j.answer) ∷ [] → ys ≡ map answer_of (findings_from 0 (t ++ o ∷ []))
+    answers_some xs ys j is count so_far more =
+        more ∙ ap (λ (zs : List (ℕ × A)). zs ++ (k, j.answer) ∷ []) so_far ∙ sym (map-append answer_of (findings_from 0 t) (finding_of k j ∷ []))
+        ∙ ap (map answer_of) (sym (one_told j is count))
 
-  nothing_told : get_or t k None ≡ None → told (k + 1) ≡ told k
-  nothing_told is =
-      let one : k + 1 ≡ suc k = omega arith in
-      ap told one ∙ none_told 0 t k (slice_get-get_or t k None inside ∙ ap (λ (o : Option Verdict). Some o) is)
+    pub answers_none : (xs : List (ℕ × A)) → o ≡ None → xs ≡ map answer_of (findings_from 0 t) → xs ≡ map answer_of (findings_from 0 (t ++ o ∷ []))
+    answers_none xs is so_far = so_far ∙ ap (map answer_of) (sym (nothing_told is))
 
-  pub fitting_some : (xs : List (ℕ × Bool)) (j : Verdict) → get_or t k None ≡ Some j → xs ≡ map fitting_of (told k)
-      → xs ++ (k, j.fits) ∷ [] ≡ map fitting_of (told (k + 1))
-  fitting_some xs j is so_far =
-      ap (λ (ys : List (ℕ × Bool)). ys ++ (k, j.fits) ∷ []) so_far ∙ sym (map-append fitting_of (told k) (judgement_of k j ∷ []))
-      ∙ ap (map fitting_of) (sym (one_told j is))
+    pub flag_some : (f b : Option ℕ) (j : Verdict A) → o ≡ Some j → k ≡ length t → b ≡ first_flagged f (findings_from 0 t)
+        → noted k j.exactness b ≡ first_flagged f (findings_from 0 (t ++ o ∷ []))
+    flag_some f b j is count so_far =
+        ap (noted k j.exactness) so_far ∙ sym (flagged_more f (findings_from 0 t) (finding_of k j)) ∙ ap (first_flagged f) (sym (one_told j is count))
 
-  pub fitting_none : (xs : List (ℕ × Bool)) → get_or t k None ≡ None → xs ≡ map fitting_of (told k) → xs ≡ map fitting_of (told (k + 1))
-  fitting_none xs is so_far = so_far ∙ ap (map fitting_of) (sym (nothing_told is))
-
-  pub flag_some : (f b : Option ℕ) (j : Verdict) → get_or t k None ≡ Some j → b ≡ first_flagged f (told k)
-      → noted k j.exactness b ≡ first_flagged f (told (k + 1))
-  flag_some f b j is so_far =
-      ap (noted k j.exactness) so_far ∙ sym (flagged_more f (told k) (judgement_of k j)) ∙ ap (first_flagged f) (sym (one_told j is))
-
-  pub flag_none : (f b : Option ℕ) → get_or t k None ≡ None → b ≡ first_flagged f (told k) → b ≡ first_flagged f (told (k + 1))
-  flag_none f b is so_far = so_far ∙ ap (first_flagged f) (sym (nothing_told is))
+    pub flag_none : (f b : Option ℕ) → o ≡ None → b ≡ first_flagged f (findings_from 0 t) → b ≡ first_flagged f (findings_from 0 (t ++ o ∷ []))
+    flag_none f b is so_far = so_far ∙ ap (first_flagged f) (sym (nothing_told is))
 
 -- the whole table --------------------------------------------------------------------------------------------------------
 
 -- what is told is held
-told_held : (n : ℕ) (t : List (Option Verdict)) (j : Judgement) → Contains (judgements_from n t) j
-    → (k : ℕ) × (v : Verdict) × Holds t k v × (judgement_of (n + k) v ≡ j)
+told_held : {A : Type 0} (n : ℕ) (t : List (Option (Verdict A))) (j : Finding A) → Contains (findings_from n t) j
+    → (k : ℕ) × (v : Verdict A) × Holds t k v × (finding_of (n + k) v ≡ j)
 told_held n [] j h = absurd (contains_none j h)
 told_held n (None ∷ t) j h =
     let (k, v, holds, is) = told_held (suc n) t j h in
     let at : n + suc k ≡ suc n + k = omega arith in
-    (suc k, v, holds, ap (λ (p : ℕ). judgement_of p v) at ∙ is)
-told_held n (Some i ∷ t) j h = elim (contains_cases (judgement_of n i) j (judgements_from (suc n) t) h) [
-  | inl is ↦ (let at : n + 0 ≡ n = omega arith in (0, i, refl, ap (λ (p : ℕ). judgement_of p i) at ∙ is))
+    (suc k, v, holds, ap (λ (p : ℕ). finding_of p v) at ∙ is)
+told_held n (Some i ∷ t) j h = elim (contains_cases (finding_of n i) j (findings_from (suc n) t) h) [
+  | inl is ↦ (let at : n + 0 ≡ n = omega arith in (0, i, refl, ap (λ (p : ℕ). finding_of p i) at ∙ is))
   | inr later ↦ (let (k, v, holds, is) = told_held (suc n) t j later in
       let at : n + suc k ≡ suc n + k = omega arith in
-      (suc k, v, holds, ap (λ (p : ℕ). judgement_of p v) at ∙ is))
+      (suc k, v, holds, ap (λ (p : ℕ). finding_of p v) at ∙ is))
 ]
 
 -- what is held is told
-held_told : (n : ℕ) (t : List (Option Verdict)) (k : ℕ) (v : Verdict) → Holds t k v → Contains (judgements_from n t) (judgement_of (n + k) v)
+held_told : {A : Type 0} (n : ℕ) (t : List (Option (Verdict A))) (k : ℕ) (v : Verdict A) → Holds t k v → Contains (findings_from n t) (finding_of (n + k) v)
 held_told n [] k v h = absurd (none-some (Some v) h)
 held_told n (None ∷ t) zero v h = absurd (none-some v (same_Some None (Some v) h))
 held_told n (None ∷ t) (suc k) v h =
     let at : suc n + k ≡ n + suc k = omega arith in
-    subst (λ (p : ℕ). Contains (judgements_from (suc n) t) (judgement_of p v)) at (held_told (suc n) t k v h)
+    subst (λ (p : ℕ). Contains (findings_from (suc n) t) (finding_of p v)) at (held_told (suc n) t k v h)
 held_told n (Some i ∷ t) zero v h =
     let at : n ≡ n + 0 = omega arith in
-    let is : judgement_of n i ≡ judgement_of (n + 0) v = ap (judgement_of n) (same_Some i v (same_Some (Some i) (Some v) h))
-    ∙ ap (λ (p : ℕ). judgement_of p v) at in
-    subst (Contains (judgement_of n i ∷ judgements_from (suc n) t)) is (contains_head (judgement_of n i) (judgements_from (suc n) t))
+    let is : finding_of n i ≡ finding_of (n + 0) v = ap (finding_of n) (same_Some i v (same_Some (Some i) (Some v) h))
+    ∙ ap (λ (p : ℕ). finding_of p v) at in
+    subst (Contains (finding_of n i ∷ findings_from (suc n) t)) is (contains_head (finding_of n i) (findings_from (suc n) t))
 held_told n (Some i ∷ t) (suc k) v h =
     let at : suc n + k ≡ n + suc k = omega arith in
-    contains_tail (judgement_of n i) (judgement_of (n + suc k) v) (judgements_from (suc n) t)
-    (subst (λ (p : ℕ). Contains (judgements_from (suc n) t) (judgement_of p v)) at (held_told (suc n) t k v h))
+    contains_tail (finding_of n i) (finding_of (n + suc k) v) (findings_from (suc n) t)
+    (subst (λ (p : ℕ). Contains (findings_from (suc n) t) (finding_of p v)) at (held_told (suc n) t k v h))
 
 -- in the order of the points
-at_least : (n : ℕ) (t : List (Option Verdict)) (i : ℕ) (j : Judgement) → slice_get (judgements_from n t) i ≡ Some j → n ≤ j.point
+at_least : {A : Type 0} (n : ℕ) (t : List (Option (Verdict A))) (i : ℕ) (j : Finding A) → slice_get (findings_from n t) i ≡ Some j → n ≤ j.point
 at_least n [] i j e = absurd (none-some j e)
 at_least n (None ∷ t) i j e = let later = at_least (suc n) t i j e in omega (arith, later)
-at_least n (Some v ∷ t) zero j e = let is : n ≡ j.point = ap (λ (k : Judgement). k.point) (same_Some (judgement_of n v) j e) in omega (arith, is)
+at_least {A} n (Some v ∷ t) zero j e = let is : n ≡ j.point = ap (λ (k : Finding A). k.point) (same_Some (finding_of n v) j e) in omega (arith, is)
 at_least n (Some v ∷ t) (suc i) j e = let later = at_least (suc n) t i j e in omega (arith, later)
 
-ordered : (n : ℕ) (t : List (Option Verdict)) (i k : ℕ) (j l : Judgement) → i < k → slice_get (judgements_from n t) i ≡ Some j
-    → slice_get (judgements_from n t) k ≡ Some l → j.point < l.point
+ordered : {A : Type 0} (n : ℕ) (t : List (Option (Verdict A))) (i k : ℕ) (j l : Finding A) → i < k → slice_get (findings_from n t) i ≡ Some j
+    → slice_get (findings_from n t) k ≡ Some l → j.point < l.point
 ordered n [] i k j l less e d = absurd (none-some j e)
 ordered n (None ∷ t) i k j l less e d = ordered (suc n) t i k j l less e d
 ordered n (Some v ∷ t) i zero j l less e d = absurd (omega (arith, less))
-ordered n (Some v ∷ t) zero (suc k) j l less e d =
-    let is : n ≡ j.point = ap (λ (x : Judgement). x.point) (same_Some (judgement_of n v) j e) in
+ordered {A} n (Some v ∷ t) zero (suc k) j l less e d =
+    let is : n ≡ j.point = ap (λ (x : Finding A). x.point) (same_Some (finding_of n v) j e) in
     let later = at_least (suc n) t k l d in omega (arith, is, later)
 ordered n (Some v ∷ t) (suc i) (suc k) j l less e d = ordered (suc n) t i k j l (omega (arith, less)) e d
 
-module _ {V H : Type 0} (m : Meaning V H) (values : List V) (g : Node) (n : ℕ) (t : List (Option Verdict))
-    (fills : Fills m values (asked_in None g) (replicate n None) t) where
-  on_one : (k : ℕ) (v : Verdict) → Holds t k v → IsOnOneOf m (dropping m) (asked_in None g) values (judgement_of k v)
-  on_one k v h = elim (fills.is_asked k v h) [ inl old ↦ absurd (none_held n k v old) | inr on ↦ on ]
+-- those of which it is asked among all that is done in a tree
+pub same_asked : (asks : Op → Bool) (g : Node) (xs : List Asked) → xs ≡ done_in None g → asked_by asks xs ≡ asking_in asks None g
+same_asked asks g xs is = ap (asked_by asks) is ∙ sym (asking_filtered asks None g)
 
-  pub table_judges : (flagged behind : Option ℕ) (fitting : List (ℕ × Bool)) → fitting ≡ map fitting_of (judgements_from 0 t)
-      → behind ≡ first_flagged flagged (judgements_from 0 t)
-      → Judges m (dropping m) g values flagged fitting behind
-  table_judges flagged behind fitting told flags = record {
-    found = judgements_from 0 t;
-    is_asked = λ j h. (let (k, v, holds, is) = told_held 0 t j h in
-        let at : k ≡ 0 + k = omega arith in
-        subst (IsOnOneOf m (dropping m) (asked_in None g) values) (ap (λ (p : ℕ). judgement_of p v) at ∙ is) (on_one k v holds));
-    has_asked = λ a h. (let (v, holds) = fills.has_asked a h in
-        let at : 0 + a.point ≡ a.point = omega arith in
-        (judgement_of (0 + a.point) v, held_told 0 t a.point v holds, at));
-    in_order = λ i k j l less e d. ordered 0 t i k j l less e d;
-    told = told;
-    flags = flags;
-  }
+pub below_asked : (asks : Op → Bool) (n : ℕ) (g : Node) (xs : List Asked) → xs ≡ done_in None g → AreBelow n (asking_in asks None g)
+    → AreBelow n (asked_by asks xs)
+below_asked asks n g xs is below = subst (AreBelow n) (sym (same_asked asks g xs is)) below
+
+pub empty_long : {A : Type 0} (n : ℕ) (t : List (Option (Verdict A))) → t ≡ replicate n None → length t ≡ n
+empty_long {A} n t is = ap length is ∙ length-replicate {A = Option (Verdict A)} n None
+
+module _ {V H A : Type 0} (ops : Operations V H) (Told : Op → V → A → Exactness → Type 0) (values : List V) (asks : Op → Bool) (g : Node)
+    (xs : List Asked) (n : ℕ) (none t : List (Option (Verdict A))) (all : xs ≡ done_in None g) (empty : none ≡ replicate n None)
+    (fills : Fills ops Told values (asked_by asks xs) none t) where
+  on_one : (k : ℕ) (v : Verdict A) → Holds t k v → IsFoundOn ops Told (asked_by asks xs) values (finding_of k v)
+  on_one k v h = elim (fills.is_asked k v h) [
+    | inl old ↦ absurd (none_held n k v (subst (λ (u : List (Option (Verdict A))). Holds u k v) empty old))
+    | inr on ↦ on
+  ]
+
+  pub table_finds : (flagged behind : Option ℕ) (answers : List (ℕ × A)) → answers ≡ map answer_of (findings_from 0 t)
+      → behind ≡ first_flagged flagged (findings_from 0 t) → Finds ops Told (asking_in asks None g) values flagged answers behind
+  table_finds flagged behind answers told flags =
+      let finds : Finds ops Told (asked_by asks xs) values flagged answers behind = record {
+        found = findings_from 0 t;
+        is_asked = λ j h. (let (k, v, holds, is) = told_held 0 t j h in
+            let at : k ≡ 0 + k = omega arith in
+            subst (IsFoundOn ops Told (asked_by asks xs) values) (ap (λ (p : ℕ). finding_of p v) at ∙ is) (on_one k v holds));
+        has_asked = λ a h. (let (v, holds) = fills.has_asked a h in
+            let at : 0 + a.point ≡ a.point = omega arith in
+            (finding_of (0 + a.point) v, held_told 0 t a.point v holds, at));
+        in_order = λ i k j l less e d. ordered 0 t i k j l less e d;
+        told = told;
+        flags = flags;
+      } in
+      subst (λ (ys : List Asked). Finds ops Told ys values flagged answers behind) (same_asked asks g xs all) finds
+
+-- by places of the code's list ---------------------------------------------------------------------------------------------
+
+module _ (asks : Op → Bool) (ds : List Done) (i : ℕ) (x : Done) (inside : i < length ds) (is : x ≡ get_or ds i x) where
+  abbrev pub so_far : ℕ → List Asked
+  so_far k = map done_view (take k ds)
+
+  one_more : so_far (i + 1) ≡ so_far i ++ done_view x ∷ []
+  one_more = map_more done_view ds i x inside ∙ ap (λ (y : Done). so_far i ++ done_view y ∷ []) (sym is)
+
+  there : Contains (map done_view ds) (done_view x)
+  there = map_has done_view ds x (subst (Contains ds) (sym is) (Contains-get_or ds i x inside))
+
+  pub point_inside : (n : ℕ) (b : Bool) → b ≡ asks (done_view x).op → b ≡ true → AreBelow n (asked_by asks (map done_view ds)) → x.point < n
+  point_inside n b same asked below = asked_inside asks n (map done_view ds) (done_view x) there (sym same ∙ asked) below
+
+  module _ {V H A : Type 0} (ops : Operations V H) (Told : Op → V → A → Exactness → Type 0) (values : List V) (old t : List (Option (Verdict A)))
+      (before : Fills ops Told values (asked_by asks (so_far i)) old t) where
+    pub unasked_more : (b : Bool) → b ≡ asks (done_view x).op → b ≡ false → Fills ops Told values (asked_by asks (so_far (i + 1))) old t
+    unasked_more b same unasked = subst (λ (xs : List Asked). Fills ops Told values (asked_by asks xs) old t) (sym one_more)
+        (unasked_fills ops Told values asks (so_far i) (done_view x) old t (sym same ∙ unasked) before)
+
+    pub asked_more : (u : List (Option (Verdict A))) (v : V) (j : Verdict A) (b : Bool) → b ≡ asks (done_view x).op → b ≡ true
+        → slice_get values x.point ≡ Some v → IsAnswered ops Told (done_view x) v j.answer j.exactness → x.point < length t
+        → u ≡ slice_set t x.point (Some j) → Fills ops Told values (asked_by asks (so_far (i + 1))) old u
+    asked_more u v j b same asked here answered below written =
+        subst (λ (xs : List Asked). Fills ops Told values (asked_by asks xs) old u) (sym one_more)
+        (asked_fills ops Told values asks (so_far i) (done_view x) old t u v j (sym same ∙ asked) before here answered below written)
+
+pub whole_filled : {V H A : Type 0} (ops : Operations V H) (Told : Op → V → A → Exactness → Type 0) (values : List V) (asks : Op → Bool)
+    (ds : List Done) (i : ℕ) (old t : List (Option (Verdict A))) → length ds ≤ i
+    → Fills ops Told values (asked_by asks (map done_view (take i ds))) old t → Fills ops Told values (asked_by asks (map done_view ds)) old t
+whole_filled ops Told values asks ds i old t all filled =
+    subst (λ (xs : List Done). Fills ops Told values (asked_by asks (map done_view xs)) old t) (take_all i ds all) filled

@@ -1,8 +1,7 @@
--- What is judged so far: the answers on an expression or a condition behind others, and the verdicts in a table of all
+-- What is judged so far: what is told of an expression or a condition behind others, and the verdicts in a table of all
 -- points.
 use Rattle.std.specs.Prelude.{◌≡◌, ◌<◌, ◌⊎◌, ℕ, suc, ℤ, List, [], ◌∷◌, ◌++◌, length, Option, None, Some, Bool, true}
-use Rattle.std.specs.Prelude.{false, ◌||◌, slice_get, Contains, ⊤}
-use Rattle.std.specs.List.{list_all}
+use Rattle.std.specs.Prelude.{false, ◌||◌, filter, slice_get, Contains, ⊤}
 use Rattle.lra_lin.specs.Form.{Form}
 use Rattle.lra_domain.specs.Meaning.{Meaning, worse}
 use Rattle.lra_domain.specs.declared.Exactness.{Exactness}
@@ -14,10 +13,11 @@ use Rattle.lra_program.specs.ProgramViews.{all_of, any_of}
 use Rattle.lra_program.specs.Step.{Op}
 use Rattle.lra_operations.specs.Asked.{Asked}
 use Rattle.lra_flow.specs.Linear.{form_of}
-use Rattle.lra_flow.specs.Operations.{dropping}
-use Rattle.lra_flow.specs.Fits.{Judgement, ExprJudged, CondJudged, OpJudged, Declares, IsOnOneOf}
+use Rattle.lra_flow.specs.Operations.{Operations, dropping}
+use Rattle.lra_flow.specs.Judging.{CondTold, Declares, Finding, IsFoundOn}
+use Rattle.lra_flow.specs.Fits.{ExprJudged, OpJudged}
 use Rattle.lra_fits.specs.declared.expressions.Computed.{Computed}
-use Rattle.lra_fits.specs.declared.operations.Verdict.{Verdict}
+use Rattle.lra_fits.specs.declared.questions.Verdict.{Verdict}
 
 -- a bound that is there is one of the type's numbers
 abbrev pub is_within : NumberType → Option ℤ → Bool
@@ -39,9 +39,9 @@ abbrev pub sides_of : Bool → Cond → List Cond → Cond
 sides_of true c cs = all_of c cs
 sides_of false c cs = any_of c cs
 
--- answers that came behind the others
-abbrev pub HasAnswers : (List Bool → Type 0) → List Bool → List Bool → Type 0
-HasAnswers are old new = (bs : List Bool) × are bs × (new ≡ old ++ bs)
+-- what is told came behind the others
+abbrev pub HasAnswers : {A : Type 0} → (List A → Type 0) → List A → List A → Type 0
+HasAnswers {A} are old new = (xs : List A) × are xs × (new ≡ old ++ xs)
 
 module _ {V H : Type 0} (m : Meaning V H) where
   -- the answers on the expression came behind the others, and this is its type and its form
@@ -51,21 +51,19 @@ module _ {V H : Type 0} (m : Meaning V H) where
     pub number_type : c.number_type ≡ type_of e
     pub form : c.form ≡ form_of (m.dims v) base e
 
-  -- those on a condition, and whether what was made for them is exact; on an operation
-  abbrev pub IsJudged : ℕ → Cond → V → List Bool → Exactness → List Bool → Type 0
-  IsJudged base c v old e new = HasAnswers (λ bs. CondJudged m (dropping m) base c v bs e) old new
-
+  -- those on an operation, and whether what was made for them is exact
   abbrev pub IsOpJudged : Op → V → List Bool → Exactness → List Bool → Type 0
   IsOpJudged op v old e new = HasAnswers (λ bs. OpJudged m (dropping m) op v bs e) old new
 
-  -- the verdict on an operation, behind what led to its value
-  abbrev pub IsSettled : Op → V → Exactness → Verdict → Type 0
-  IsSettled op v before j = (bs : List Bool) × (e : Exactness) × OpJudged m (dropping m) op v bs e ×
-      (j.fits ≡ list_all (λ x. x) bs) × (j.exactness ≡ worse before e)
+module _ {V H : Type 0} (ops : Operations V H) {A : Type 0} where
+  -- what is told of a condition, by what is told of its leaves
+  abbrev pub IsTold : (ℕ → Expr → Expr → V → List A → Exactness → Type 0) → (ℕ → Expr → V → List A → Exactness → Type 0) →
+      ℕ → Cond → V → List A → Exactness → List A → Type 0
+  IsTold Both One base c v old e new = HasAnswers (λ xs. CondTold ops Both One base c v xs e) old new
 
-  -- behind a new variable, where there is one
-  abbrev pub JudgesAsked : Option NumberType → Op → V → Verdict → Type 0
-  JudgesAsked fresh op v j = (w : V) × (c : Exactness) × Declares m (dropping m) fresh v c w × IsSettled op w c j
+  -- the answer for what is done at a point with this value
+  abbrev pub IsAnswered : (Op → V → A → Exactness → Type 0) → Asked → V → A → Exactness → Type 0
+  IsAnswered Told a v x e = (w : V) × (c d : Exactness) × Declares ops a.fresh v c w × Told a.op w x d × (e ≡ worse c d)
 
 -- tables -----------------------------------------------------------------------------------------------------------
 
@@ -73,24 +71,29 @@ module _ {V H : Type 0} (m : Meaning V H) where
 abbrev pub AreBelow : ℕ → List Asked → Type 0
 AreBelow n asked = (a : Asked) → Contains asked a → a.point < n
 
-abbrev pub judgement_of : ℕ → Verdict → Judgement
-judgement_of q j = record { point = q; fits = j.fits; exactness = j.exactness }
+-- those of which it is asked
+abbrev pub asked_by : (Op → Bool) → List Asked → List Asked
+asked_by asks xs = filter (λ a. asks a.op) xs
 
--- the verdicts of a table whose first place has this number
-abbrev pub judgements_from : ℕ → List (Option Verdict) → List Judgement
-judgements_from q [] = []
-judgements_from q (None ∷ places) = judgements_from (suc q) places
-judgements_from q (Some j ∷ places) = judgement_of q j ∷ judgements_from (suc q) places
+module _ {A : Type 0} where
+  abbrev pub finding_of : ℕ → Verdict A → Finding A
+  finding_of q j = record { point = q; answer = j.answer; exactness = j.exactness }
 
--- what the table holds there
-abbrev pub Holds : List (Option Verdict) → ℕ → Verdict → Type 0
-Holds table q j = slice_get table q ≡ Some (Some j)
+  -- the verdicts of a table whose first place has this number
+  abbrev pub findings_from : ℕ → List (Option (Verdict A)) → List (Finding A)
+  findings_from q [] = []
+  findings_from q (None ∷ places) = findings_from (suc q) places
+  findings_from q (Some j ∷ places) = finding_of q j ∷ findings_from (suc q) places
 
--- the table has the verdicts on these, over what it had
-pub record Fills {V H : Type 0} (m : Meaning V H) (values : List V) (asked : List Asked)
-    (old new : List (Option Verdict)) : Type 0 where
-  pub long : length new ≡ length old
-  pub is_asked : (q : ℕ) (j : Verdict) → Holds new q j →
-      Holds old q j ⊎ IsOnOneOf m (dropping m) asked values (judgement_of q j)
-  pub has_asked : (a : Asked) → Contains asked a → (j : Verdict) × Holds new a.point j
-  pub keeps : (q : ℕ) (j : Verdict) → Holds old q j → (k : Verdict) × Holds new q k
+  -- what the table holds there
+  abbrev pub Holds : List (Option (Verdict A)) → ℕ → Verdict A → Type 0
+  Holds table q j = slice_get table q ≡ Some (Some j)
+
+  -- the table has the verdicts on these, over what it had
+  pub record Fills {V H : Type 0} (ops : Operations V H) (Told : Op → V → A → Exactness → Type 0) (values : List V)
+      (asked : List Asked) (old new : List (Option (Verdict A))) : Type 0 where
+    pub long : length new ≡ length old
+    pub is_asked : (q : ℕ) (j : Verdict A) → Holds new q j →
+        Holds old q j ⊎ IsFoundOn ops Told asked values (finding_of q j)
+    pub has_asked : (a : Asked) → Contains asked a → (j : Verdict A) × Holds new a.point j
+    pub keeps : (q : ℕ) (j : Verdict A) → Holds old q j → (k : Verdict A) × Holds new q k

@@ -1,4 +1,3 @@
-pub mod Due
 pub mod Judged
 pub mod Operands
 pub mod Sides

@@ -1,14 +1,15 @@
 -- The operands of a chain of conditions, one behind the other.
 use Rattle.std.specs.Prelude.{◌≡◌, ℕ, Bool, List}
-use Rattle.lra_domain.specs.Meaning.{Meaning, worse}
+use Rattle.lra_domain.specs.Meaning.{worse}
 use Rattle.lra_domain.specs.declared.Exactness.{Exactness}
-use Rattle.lra_program.specs.Program.{Cond}
-use Rattle.lra_flow.specs.Operations.{dropping}
+use Rattle.lra_program.specs.Program.{Expr, Cond}
+use Rattle.lra_flow.specs.Operations.{Operations}
 use Rattle.lra_flow.specs.Pass.{Leaves}
-use Rattle.lra_fits.specs.Judged.{IsJudged}
+use Rattle.lra_fits.specs.Judged.{IsTold}
 
--- the answers on the operand came behind the others, and of the first value it leaves the second one
-abbrev pub IsPassed : {V H : Type 0} → Meaning V H → ℕ → Cond → Bool → V → Exactness → List Bool → V → Exactness →
-    List Bool → Type 0
-IsPassed m base c wanted v before old w after new = (f g : Exactness) × IsJudged m base c v old f new ×
-    Leaves (dropping m) base c wanted v g w × (after ≡ worse (worse before f) g)
+-- what is told of the operand came behind the others, and of the first value it leaves the second one
+abbrev pub IsPassed : {V H A : Type 0} → Operations V H → (ℕ → Expr → Expr → V → List A → Exactness → Type 0) →
+    (ℕ → Expr → V → List A → Exactness → Type 0) → ℕ → Cond → Bool → V → Exactness → List A → V → Exactness →
+    List A → Type 0
+IsPassed ops Both One base c wanted v before old w after new = (f g : Exactness) ×
+    IsTold ops Both One base c v old f new × Leaves ops base c wanted v g w × (after ≡ worse (worse before f) g)

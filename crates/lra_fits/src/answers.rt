@@ -2,7 +2,8 @@
 
 ghost use Rattle.std.specs.Prelude.{◌≡◌, ◌↔◌, IsTrue, IfOk};
 ghost use Rattle.lra_base.specs.OperatorViews.{operator_view};
-ghost use Rattle.lra_flow.specs.Fits.{IsDivisor, LiesIn, OperatorFits, Answers};
+ghost use Rattle.lra_flow.specs.Judging.{Answers};
+ghost use Rattle.lra_flow.specs.Fits.{IsDivisor, LiesIn, OperatorFits};
 ghost use Rattle.lra_fits.specs.Judged.{IsWide, is_within};
 ghost use Rattle.lra_fits.specs.Sides.{between_sides, with_other_sign};
 

@@ -1,14 +1,14 @@
-//! The answers on a condition: on the right of `&&` and `||` by what the left side leaves.
+//! What is told of a condition: on the right of `&&` and `||` by what the left side leaves.
 
-ghost use Rattle.std.specs.Prelude.{◌≡◌, ◌≤◌, map, IfOk, OnOk};
-ghost use Rattle.lra_base.specs.Operators.{Comparison};
-ghost use Rattle.lra_program.specs.Program.{compare, nonzero};
+ghost use Rattle.std.specs.Prelude.{◌≡◌, ◌≤◌, ℕ, List, map, IfOk, OnOk};
+ghost use Rattle.lra_domain.specs.declared.Exactness.{Exactness};
+ghost use Rattle.lra_program.specs.Program.{Expr as ProgramExpr};
 ghost use Rattle.lra_program.specs.ProgramViews.{cond_view, expr_view};
+ghost use Rattle.lra_flow.specs.Operations.{dropping};
 ghost use Rattle.lra_flow.specs.Room.{most_live};
-ghost use Rattle.lra_fits.specs.Judged.{IsJudged, sides_of};
+ghost use Rattle.lra_fits.specs.Judged.{HasAnswers, IsTold, sides_of};
 ghost use Rattle.lra_fits.specs.Operands.{IsPassed};
 
-use crate::expressions::judge_expression;
 use lra_change::leave;
 use lra_domain::{Domain, Exactness, worse};
 use lra_program::{Cond, Expr};
@@ -21,80 +21,83 @@ pub struct Surroundings {
     pub base: usize,
 }
 
-/// The answers on both sides of a comparison come behind the others.
-fn judge_both<D: Domain>(
-    around: Surroundings,
-    left: &Expr,
-    right: &Expr,
-    value: &D,
-    answers: &mut Vec<bool>,
-) -> Result<Exactness, AllocError>
-    requires { D.meaning.dims value.now ≤ most_live }
-    ensures { IfOk result (λ e. (op : Comparison) → IsJudged D.meaning around.base
-        (compare op (expr_view left.now) (expr_view right.now))
-        value.now answers.old.items e answers.new.items) }
-{
-    judge_expression(around.alloc, around.base, value, left, answers)?;
-    judge_expression(around.alloc, around.base, value, right, answers)?;
-    Ok(Exactness::Exact)
+/// What is told of a condition's leaves, its comparisons and what it compares with 0, by the value that each has.
+pub trait Leaf<D: Domain> {
+    /// One of what is told.
+    type Told: Drop;
+
+    /// What is told of both sides of a comparison, where the variables of its call begin there.
+    ghost both: { ℕ → ProgramExpr → ProgramExpr → D → List Self.Told → Exactness → Type 0 };
+
+    /// What is told of what is compared with 0.
+    ghost one: { ℕ → ProgramExpr → D → List Self.Told → Exactness → Type 0 };
+
+    /// What is told of both sides of a comparison comes behind the others; what had to be made for it may be flagged.
+    fn tell_both(
+        around: Surroundings,
+        left: &Expr,
+        right: &Expr,
+        value: &D,
+        told: &mut Vec<Self::Told>,
+    ) -> Result<Exactness, AllocError>
+        requires { D.meaning.dims value.now ≤ most_live }
+        ensures { IfOk result (λ e. HasAnswers
+            (λ xs. both around.base (expr_view left.now) (expr_view right.now) value.now xs e)
+            told.old.items told.new.items) };
+
+    /// What is told of what is compared with 0 comes behind the others.
+    fn tell_one(
+        around: Surroundings,
+        e: &Expr,
+        value: &D,
+        told: &mut Vec<Self::Told>,
+    ) -> Result<Exactness, AllocError>
+        requires { D.meaning.dims value.now ≤ most_live }
+        ensures { IfOk result (λ a. HasAnswers (λ xs. one around.base (expr_view e.now) value.now xs a)
+            told.old.items told.new.items) };
 }
 
-/// Those on what is compared with 0.
-fn judge_nonzero<D: Domain>(
-    around: Surroundings,
-    e: &Expr,
-    value: &D,
-    answers: &mut Vec<bool>,
-) -> Result<Exactness, AllocError>
-    requires { D.meaning.dims value.now ≤ most_live }
-    ensures { IfOk result (λ a. IsJudged D.meaning around.base (nonzero (expr_view e.now))
-        value.now answers.old.items a answers.new.items) }
-{
-    judge_expression(around.alloc, around.base, value, e, answers)?;
-    Ok(Exactness::Exact)
-}
-
-/// The answers on `condition` come behind the others; what had to be made for them may be flagged.
+/// What is told of `condition` comes behind the others; what had to be made for it may be flagged.
 #[cycle(judge)]
-pub fn judge_condition<D: Domain>(
+pub fn judge_condition<D: Domain, L: Leaf<D>>(
     around: Surroundings,
     condition: &Cond,
     value: &D,
-    answers: &mut Vec<bool>,
+    told: &mut Vec<L::Told>,
 ) -> Result<Exactness, AllocError>
     requires { D.meaning.dims value.now ≤ most_live }
-    ensures { IfOk result (λ e. IsJudged D.meaning around.base (cond_view condition.now)
-        value.now answers.old.items e answers.new.items) }
+    ensures { IfOk result (λ e. IsTold (dropping D.meaning) L.both L.one around.base
+        (cond_view condition.now) value.now told.old.items e told.new.items) }
 {
     match condition {
-        Cond::Compare(_, left, right) => judge_both(around, left, right, value, answers),
-        Cond::Nonzero(e) => judge_nonzero(around, e, value, answers),
-        Cond::Opposite(inner) => judge_condition(around, inner, value, answers),
+        Cond::Compare(_, left, right) => L::tell_both(around, left, right, value, told),
+        Cond::Nonzero(e) => L::tell_one(around, e, value, told),
+        Cond::Opposite(inner) => judge_condition::<D, L>(around, inner, value, told),
         Cond::All(first, rest) => {
-            judge_sides(around, first, rest.as_slice(), true, value, answers)
+            judge_sides::<D, L>(around, first, rest.as_slice(), true, value, told)
         }
         Cond::Any(first, rest) => {
-            judge_sides(around, first, rest.as_slice(), false, value, answers)
+            judge_sides::<D, L>(around, first, rest.as_slice(), false, value, told)
         }
     }
 }
 
-/// Those on an operand of a chain; the value is then what is left of it where the operand is as `wanted`.
+/// What is told of an operand of a chain; the value is then what is left of it where the operand is as `wanted`.
 #[cycle(judge)]
-fn pass_operand<D: Domain>(
+fn pass_operand<D: Domain, L: Leaf<D>>(
     around: Surroundings,
     operand: &Cond,
     wanted: bool,
     value: &mut D,
     before: Exactness,
-    answers: &mut Vec<bool>,
+    told: &mut Vec<L::Told>,
 ) -> Result<Exactness, AllocError>
     requires { D.meaning.dims value.old ≤ most_live }
-    ensures passed { IfOk result (λ e. IsPassed D.meaning around.base (cond_view operand.now) wanted
-        value.old before answers.old.items value.new e answers.new.items) }
+    ensures passed { IfOk result (λ e. IsPassed (dropping D.meaning) L.both L.one around.base
+        (cond_view operand.now) wanted value.old before told.old.items value.new e told.new.items) }
     ensures dims { OnOk result (D.meaning.dims value.new ≡ D.meaning.dims value.old) }
 {
-    let judged = judge_condition(around, operand, value, answers)?;
+    let judged = judge_condition::<D, L>(around, operand, value, told)?;
     leave(
         around.alloc,
         around.base,
@@ -105,28 +108,28 @@ fn pass_operand<D: Domain>(
     )
 }
 
-/// Those on a chain: each operand by what those before it leave, where they are as `wanted`.
+/// What is told of a chain: of each operand by what those before it leave, where they are as `wanted`.
 #[cycle(judge)]
-fn judge_sides<D: Domain>(
+fn judge_sides<D: Domain, L: Leaf<D>>(
     around: Surroundings,
     first: &Cond,
     rest: &[Cond],
     wanted: bool,
     from: &D,
-    answers: &mut Vec<bool>,
+    told: &mut Vec<L::Told>,
 ) -> Result<Exactness, AllocError>
     requires { D.meaning.dims from.now ≤ most_live }
-    ensures { IfOk result (λ e. IsJudged D.meaning around.base
+    ensures { IfOk result (λ e. IsTold (dropping D.meaning) L.both L.one around.base
         (sides_of wanted (cond_view first.now) (map cond_view rest.now))
-        from.now answers.old.items e answers.new.items) }
+        from.now told.old.items e told.new.items) }
 {
     let mut value = from.copy(around.alloc)?;
     let mut so_far = Exactness::Exact;
     let mut last = first;
     'rest: for next in rest {
-        so_far = pass_operand(around, last, wanted, &mut value, so_far, answers)?;
+        so_far = pass_operand::<D, L>(around, last, wanted, &mut value, so_far, told)?;
         last = next;
     }
-    let judged = judge_condition(around, last, &value, answers)?;
+    let judged = judge_condition::<D, L>(around, last, &value, told)?;
     Ok(worse(so_far, judged))
 }

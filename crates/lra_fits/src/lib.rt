@@ -1,5 +1,5 @@
-//! Which operations of a program's tree can't stop a run by a number, as the values at its points tell it, for any
-//! domain.
+//! What is asked of the operations of a program's tree, each answered by the value at its point, for any domain; and
+//! which operations can't stop a run by a number.
 #![tactic(auto)]
 
 mod answers;
@@ -8,6 +8,8 @@ mod conditions;
 mod expressions;
 mod judgements;
 mod operations;
-mod trees;
+mod questions;
 
+pub use conditions::{Leaf, Surroundings, judge_condition};
 pub use judgements::{Fitting, judge};
+pub use questions::{Found, Question, Verdict, find};

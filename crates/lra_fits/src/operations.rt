@@ -1,28 +1,58 @@
 //! Whether all fits that an operation computes: its answers taken together.
 
-ghost use Rattle.std.specs.Prelude.{◌≡◌, ◌≤◌, ◌<◌, None, true, IfOk};
+ghost use Rattle.std.specs.Prelude.{◌≡◌, ◌≤◌, IfOk};
 ghost use Rattle.std.specs.List.{list_all};
-ghost use Rattle.lra_program.specs.Step.{give, test};
-ghost use Rattle.lra_program.specs.Receivers.{nobody};
-ghost use Rattle.lra_program.specs.ProgramViews.{cond_view, expr_view};
+ghost use Rattle.lra_program.specs.Overflow.{op_computes};
 ghost use Rattle.lra_operations.specs.GraphViews.{op_view};
+ghost use Rattle.lra_doings.specs.Doings.{doing_view};
+ghost use Rattle.lra_flow.specs.Fits.{BothJudged, OneJudged, OpFits};
+ghost use Rattle.lra_flow.specs.Operations.{dropping};
 ghost use Rattle.lra_flow.specs.Room.{most_live};
-ghost use Rattle.lra_fits.specs.Judged.{IsOpJudged, IsSettled, JudgesAsked};
+ghost use Rattle.lra_fits.specs.Judged.{IsOpJudged};
 
-use crate::conditions::{Surroundings, judge_condition};
-use crate::expressions::{judge_arguments, judge_arguments_for, judge_element, judge_given};
-use lra_base::NumberType;
-use lra_change::change;
-use lra_domain::{Domain, Exactness, worse};
+use crate::computes::{condition_computes, giving_computes, operation_computes};
+use crate::conditions::{Leaf, Surroundings, judge_condition};
+use crate::expressions::{
+    judge_arguments, judge_arguments_for, judge_element, judge_expression, judge_given,
+};
+use crate::questions::{Question, Verdict};
+use lra_doings::Doing;
+use lra_domain::{Domain, Exactness};
 use lra_operations::Op;
-use lra_program::{Cond, Expr, Receiver};
+use lra_program::{Expr, Receiver};
 use std::alloc::{AllocError, Global};
 
-/// Whether all fits that an operation computes, and whether what had to be made for the answer is exact.
-#[derive(Clone, Copy, PartialEq, Eq, Debug)]
-pub struct Verdict {
-    pub fits: bool,
-    pub exactness: Exactness,
+/// Of operations it is told whether all fits that they compute: of each operator, sign and conversion whether it does.
+pub struct Fit;
+
+impl<D: Domain> Leaf<D> for Fit {
+    type Told = bool;
+
+    ghost both = { BothJudged D.meaning };
+
+    ghost one = { OneJudged D.meaning };
+
+    fn tell_both(
+        around: Surroundings,
+        left: &Expr,
+        right: &Expr,
+        value: &D,
+        told: &mut Vec<bool>,
+    ) -> Result<Exactness, AllocError> {
+        judge_expression(around.alloc, around.base, value, left, told)?;
+        judge_expression(around.alloc, around.base, value, right, told)?;
+        Ok(Exactness::Exact)
+    }
+
+    fn tell_one(
+        around: Surroundings,
+        e: &Expr,
+        value: &D,
+        told: &mut Vec<bool>,
+    ) -> Result<Exactness, AllocError> {
+        judge_expression(around.alloc, around.base, value, e, told)?;
+        Ok(Exactness::Exact)
+    }
 }
 
 /// Whether all answers are that it fits.
@@ -37,7 +67,7 @@ fn all_fit(answers: &[bool]) -> bool
     true
 }
 
-/// The answers on an operation come behind the others; what had to be made for them may be flagged.
+/// The answers on a least change come behind the others; what had to be made for them may be flagged.
 fn answer_operation<D: Domain>(
     alloc: Global,
     op: &Op,
@@ -69,84 +99,55 @@ fn answer_operation<D: Domain>(
         }
         Op::Test(base, condition, _) => {
             let around = Surroundings { alloc, base: *base };
-            judge_condition(around, condition, value, answers)
+            judge_condition::<D, Fit>(around, condition, value, answers)
         }
     }
 }
 
-/// Whether an operation fits of which this value is that at its beginning.
-fn settle<D: Domain>(
+/// The answers on what is done come behind the others.
+fn answer_doing<D: Domain>(
     alloc: Global,
-    op: &Op,
+    doing: Doing<'_>,
     value: &D,
-    before: Exactness,
-) -> Result<Verdict, AllocError>
+    answers: &mut Vec<bool>,
+) -> Result<Exactness, AllocError>
     requires { D.meaning.dims value.now ≤ most_live }
-    ensures { IfOk result (λ j. IsSettled D.meaning (op_view op.now) value.now before j) }
+    ensures { IfOk result (λ e. IsOpJudged D.meaning (doing_view doing.entry)
+        value.now answers.old.items e answers.new.items) }
 {
-    let mut answers = Vec::new(alloc);
-    let exactness = answer_operation(alloc, op, value, &mut answers)?;
-    Ok(Verdict {
-        fits: all_fit(answers.as_slice()),
-        exactness: worse(before, exactness),
-    })
-}
-
-/// Whether an operation fits, behind a new variable of this type where there is one.
-pub fn judge_operation<D: Domain>(
-    alloc: Global,
-    fresh: Option<NumberType>,
-    op: &Op,
-    value: &D,
-) -> Result<Verdict, AllocError>
-    requires { D.meaning.dims value.now < most_live }
-    ensures { IfOk result (λ j. JudgesAsked D.meaning fresh (op_view op.now) value.now j) }
-{
-    match fresh {
-        None => settle(alloc, op, value, Exactness::Exact),
-        Some(number_type) => {
-            let mut behind = value.copy(alloc)?;
-            let exactness = change(alloc, &Op::Append(number_type), &mut behind)?;
-            settle(alloc, op, &behind, exactness)
+    match doing {
+        Doing::Change(op) => answer_operation(alloc, op, value, answers),
+        Doing::Condition(base, condition) => {
+            judge_condition::<D, Fit>(Surroundings { alloc, base }, condition, value, answers)
+        }
+        Doing::Value(base, e) => {
+            judge_given(alloc, base, value, Receiver::nobody(), e, answers)?;
+            Ok(Exactness::Exact)
         }
     }
 }
 
-/// Whether the value fits that a `switch` looks for.
-pub fn judge_value<D: Domain>(
-    alloc: Global,
-    base: usize,
-    e: &Expr,
-    value: &D,
-) -> Result<Verdict, AllocError>
-    requires { D.meaning.dims value.now ≤ most_live }
-    ensures { IfOk result (λ j. JudgesAsked D.meaning None
-        (give base nobody (expr_view e.now)) value.now j) }
-{
-    let mut answers = Vec::new(alloc);
-    judge_given(alloc, base, value, Receiver::nobody(), e, &mut answers)?;
-    Ok(Verdict {
-        fits: all_fit(answers.as_slice()),
-        exactness: Exactness::Exact,
-    })
-}
+impl<D: Domain> Question<D> for Fit {
+    type Answer = bool;
 
-/// Whether a condition fits.
-pub fn judge_test<D: Domain>(
-    alloc: Global,
-    base: usize,
-    condition: &Cond,
-    value: &D,
-) -> Result<Verdict, AllocError>
-    requires { D.meaning.dims value.now ≤ most_live }
-    ensures { IfOk result (λ j. JudgesAsked D.meaning None
-        (test base (cond_view condition.now) true) value.now j) }
-{
-    let mut answers = Vec::new(alloc);
-    let around = Surroundings { alloc, base };
-    let exactness = judge_condition(around, condition, value, &mut answers)?;
-    Ok(Verdict {
-        fits: all_fit(answers.as_slice()),
-        exactness,
-    })
+    ghost asks = { op_computes };
+
+    ghost told = { OpFits D.meaning (dropping D.meaning) };
+
+    fn is_asked(_alloc: Global, doing: Doing<'_>) -> Result<bool, AllocError> {
+        Ok(match doing {
+            Doing::Change(op) => operation_computes(op),
+            Doing::Condition(_, condition) => condition_computes(condition),
+            Doing::Value(_, e) => giving_computes(Receiver::nobody(), e),
+        })
+    }
+
+    fn answer(alloc: Global, doing: Doing<'_>, value: &D) -> Result<Verdict<bool>, AllocError> {
+        let mut answers = Vec::new(alloc);
+        let exactness = answer_doing(alloc, doing, value, &mut answers)?;
+        Ok(Verdict {
+            answer: all_fit(answers.as_slice()),
+            exactness,
+        })
+    }
 }
