@@ -1,0 +1,2 @@
+mod InsideSteps
+mod ShownSteps

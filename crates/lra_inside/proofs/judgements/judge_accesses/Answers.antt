@@ -1,0 +1,15 @@
+-- Goals of `judge_accesses`: which accesses of a tree are inside.
+use Rattle.std.proofs.Common.{None}
+use Rattle.lra_operations.specs.Asked.{accessed_in}
+use Rattle.lra_operations.specs.GraphViews.{node_view}
+use Rattle.lra_flow.specs.Accesses.{OpInside}
+use Rattle.lra_flow.specs.Operations.{dropping}
+use Rattle.lra_inside.proofs.ShownSteps.{finds_shown}
+use Rattle.lra_inside.proofs.judgements.judge_accesses.Goals as goal
+
+pub returns : goal.returns
+returns g c =
+    let m = g.D.Domain.meaning in
+    finds_shown (dropping m) (λ op v js e. OpInside m (dropping m) op v js.items e) (OpInside m (dropping m)) (λ js. js.items) (λ op v js e told. told)
+    (accessed_in None (node_view c.args.tree.now)) c.args.values.now c.args.flagged c.in_ok-found.found.flagged c.in_ok-found.found.answers.items
+    c.in_ok-found.ensures
