@@ -1,11 +1,10 @@
 -- What is told to fit in whole programs, over boxes: by the values at their points, an answer at each point at which something is computed.
-use Rattle.std.proofs.Common.{◌≡◌, ◌∙◌, ◌⊎◌, ◌<◌, ℕ, zero, suc, ℤ, pos, negsuc, List, [], ◌∷◌, map, None, Some, Bool, true, false, refl, sym, ap, subst}
-use Rattle.std.proofs.Common.{inl, inr, arith, lit<}
-use Rattle.std.specs.Prelude.{◌+ℤ◌, ◌*ℤ◌, Contains, slice_get}
+use Rattle.std.proofs.Common.{◌≡◌, ◌∙◌, ◌⊎◌, ℕ, ℤ, pos, negsuc, List, [], ◌∷◌, None, Some, Bool, true, false, refl, sym, ap}
+use Rattle.std.proofs.Common.{inl, inr, lit<}
+use Rattle.std.specs.Prelude.{◌+ℤ◌, ◌*ℤ◌, slice_get}
 use Rattle.std.specs.List.{list_all}
-use Rattle.std.proofs.lemmas.Option.{same_Some, none-some}
+use Rattle.std.proofs.lemmas.Option.{same_Some}
 use Rattle.lra_linear.specs.Range.{InRange}
-use Rattle.lra_linear.proofs.Membership.{contains_none, contains_head, contains_tail, contains_cases}
 use Rattle.lra_lin.specs.Form.{Form}
 use Rattle.lra_linear.specs.declared.ConKind.TheVariants.{Ge}
 use Rattle.lra_domain.specs.Actions.{test}
@@ -34,78 +33,10 @@ use Rattle.lra_flow.specs.Moves.{AreMade}
 use Rattle.lra_flow.specs.MovesOf.{above_least, below_greatest}
 use Rattle.lra_flow.specs.Pass.{value, goes_on, Changes, Pass}
 use Rattle.lra_flow.specs.Analysis.{IsUnreachable, Written}
-use Rattle.lra_flow.specs.Fits.{Judgement, fitting_of, first_flagged, LiesIn, Answers, ExprJudged, GivenJudged, AskedJudged, IsOnOneOf, Judges, IsDivisor}
+use Rattle.lra_flow.specs.Judging.{Answers}
+use Rattle.lra_flow.specs.Fits.{LiesIn, ExprJudged, GivenJudged, AskedJudged, Judges, IsDivisor, OpFits}
+use Rattle.lra_walks.proofs.Judged.{judged}
 use Rattle.lra_walks.proofs.LoopExamples.{boxes, one, none, narrowed, next, increased}
-
--- what is asked, with its answers ------------------------------------------------------------------------------------
-
-abbrev Found : Type 0
-Found = List (Asked × Bool)
-
-abbrev operation : Asked × Bool → Asked
-operation x = x.0
-
-abbrev judgement_of : Asked × Bool → Judgement
-judgement_of x = record { point = x.0.point; fits = x.1; exactness = Exact }
-
--- each is judged so, without a flag
-abbrev AreFound : List Content → Found → Type 0
-AreFound values [] = Unit {0}
-AreFound values (x ∷ xs) = AskedJudged box_meaning boxes values x.0 x.1 Exact × AreFound values xs
-
--- their points stand in order
-abbrev AreAbove : ℕ → Found → Type 0
-AreAbove q [] = Unit {0}
-AreAbove q (x ∷ xs) = (q < x.0.point) × AreAbove q xs
-
-abbrev Ascend : Found → Type 0
-Ascend [] = Unit {0}
-Ascend (x ∷ xs) = AreAbove x.0.point xs × Ascend xs
-
-found_on : (values : List Content) (xs : Found) (j : Judgement) → AreFound values xs → Contains (map judgement_of xs) j
-    → IsOnOneOf box_meaning boxes (map operation xs) values j
-found_on values [] j are h = absurd (contains_none j h)
-found_on values (x ∷ xs) j are h = elim (contains_cases (judgement_of x) j (map judgement_of xs) h) [
-  | inl same ↦ subst (λ (k : Judgement). IsOnOneOf box_meaning boxes (map operation (x ∷ xs)) values k) same
-      (x.0, contains_head x.0 (map operation xs), refl, are.0)
-  | inr later ↦ let a = found_on values xs j are.1 later in (a.0, contains_tail x.0 a.0 (map operation xs) a.1, a.2, a.3)
-]
-
-asked_found : (xs : Found) (a : Asked) → Contains (map operation xs) a → (j : Judgement) × Contains (map judgement_of xs) j × (j.point ≡ a.point)
-asked_found [] a h = absurd (contains_none a h)
-asked_found (x ∷ xs) a h = elim (contains_cases x.0 a (map operation xs) h) [
-  | inl same ↦ (judgement_of x, contains_head (judgement_of x) (map judgement_of xs), ap (λ (b : Asked). b.point) same)
-  | inr later ↦ let r = asked_found xs a later in (r.0, contains_tail (judgement_of x) r.0 (map judgement_of xs) r.1, r.2)
-]
-
-later_above : (q : ℕ) (xs : Found) (k : ℕ) (l : Judgement) → AreAbove q xs → slice_get (map judgement_of xs) k ≡ Some l → q < l.point
-later_above q [] k l are at = absurd (none-some l at)
-later_above q (x ∷ xs) zero l are at = subst (λ (j : Judgement). q < j.point) (same_Some (judgement_of x) l at) are.0
-later_above q (x ∷ xs) (suc k) l are at = later_above q xs k l are.1 at
-
-ascends : (xs : Found) (i k : ℕ) (j l : Judgement) → Ascend xs → i < k → slice_get (map judgement_of xs) i ≡ Some j
-    → slice_get (map judgement_of xs) k ≡ Some l → j.point < l.point
-ascends [] i k j l up less a b = absurd (none-some j a)
-ascends (x ∷ xs) zero zero j l up less a b = absurd (omega (arith, less))
-ascends (x ∷ xs) zero (suc k) j l up less a b =
-    subst (λ (m : Judgement). m.point < l.point) (same_Some (judgement_of x) j a) (later_above x.0.point xs k l up.0 b)
-ascends (x ∷ xs) (suc i) zero j l up less a b = absurd (omega (arith, less))
-ascends (x ∷ xs) (suc i) (suc k) j l up less a b = ascends xs i k j l up.1 (omega (arith, less)) a b
-
-never_flagged : (xs : Found) → first_flagged None (map judgement_of xs) ≡ None
-never_flagged [] = refl
-never_flagged (x ∷ xs) = never_flagged xs
-
-judged : (g : Node) (values : List Content) (xs : Found) → asked_in None g ≡ map operation xs → AreFound values xs → Ascend xs
-    → Judges box_meaning boxes g values None (map fitting_of (map judgement_of xs)) None
-judged g values xs is are up = record {
-  found = map judgement_of xs;
-  is_asked = λ j h. subst (λ (all : List Asked). IsOnOneOf box_meaning boxes all values j) (sym is) (found_on values xs j are h);
-  has_asked = λ a h. asked_found xs a (subst (λ (all : List Asked). Contains all a) is h);
-  in_order = λ i k j l less a b. ascends xs i k j l up less a b;
-  told = refl;
-  flags = sym (never_flagged xs);
-}
 
 -- one variable x -----------------------------------------------------------------------------------------------------
 
@@ -185,7 +116,7 @@ sum_judged : (values : List Content) (q : ℕ) (l h : ℤ) (b : Bool) → slice_
     → Answers box_meaning (x_in l h) b (LiesIn box_meaning (x_in l h) Int (Some next)) → (b ≡ list_all (λ a. a) (b ∷ []))
     → AskedJudged box_meaning boxes values (asked_sum q) b Exact
 sum_judged values q l h b there answer alone =
-    (x_in l h, x_in l h, b ∷ [], Exact, Exact, there, (refl, refl), (x_given l h b answer, refl), alone, refl)
+    (x_in l h, x_in l h, Exact, Exact, there, (refl, refl), (b ∷ [], (x_given l h b answer, refl), alone), refl)
 
 -- a new variable, and one that gets any number, is an `int` behind the tests of its type
 is_int : AreMade boxes (first_then (make (test Ge (above_least Int 1 0))) (make (test Ge (below_greatest Int 1 0)))) (one open_interval) Exact ints
@@ -312,19 +243,21 @@ input_judged : AskedJudged box_meaning boxes reading_values asked_input false Ex
 input_judged = (
   none,
   ints,
-  false ∷ [],
   Exact,
   Exact,
   refl,
   declared,
-  (([], false ∷ [], refl, (false, fits_not (negsuc 2147483647) (pos 2147483647) ⊥ (λ h. h), refl), refl), refl),
-  refl,
+  (
+    false ∷ [],
+    (([], false ∷ [], refl, (false, fits_not (negsuc 2147483647) (pos 2147483647) ⊥ (λ h. h), refl), refl), refl),
+    refl,
+  ),
   refl,
 )
 
 -- neither fits: catches a conversion that isn't asked, and a sum whose values are those that the test behind it leaves
 reading_fits : Judges box_meaning boxes reading_tree reading_values None ((0, false) ∷ (1, false) ∷ []) None
-reading_fits = judged reading_tree reading_values ((asked_input, false) ∷ (asked_sum 1, false) ∷ []) refl
+reading_fits = judged (OpFits box_meaning boxes) (asked_in None reading_tree) reading_values ((asked_input, false) ∷ (asked_sum 1, false) ∷ []) refl
     (input_judged, (sum_judged reading_values 1 (negsuc 2147483647) (pos 2147483647) false refl greatest_overflows refl, tt))
     ((lit< tt, tt), (tt, tt))
 
@@ -367,33 +300,35 @@ less_judged : AskedJudged box_meaning boxes testing_values (record { point = 1; 
 less_judged = (
   ints,
   ints,
-  true ∷ [],
   Exact,
   Exact,
   refl,
   (refl, refl),
   (
-    [],
     true ∷ [],
-    x_in (negsuc 2147483647) (pos 2147483646),
-    Exact,
-    Exact,
-    Exact,
-    ([], [], refl, refl, refl, refl),
-    (refl, record { table = refl; extremes = tt }),
     (
-      true ∷ [],
       [],
-      x_sum (negsuc 2147483647) (pos 2147483646) true
-          (sum_fits (negsuc 2147483647) (pos 2147483646) (lit< tt) (lit< tt) (lit< tt) (lit< tt) refl refl),
-      refl,
+      true ∷ [],
+      x_in (negsuc 2147483647) (pos 2147483646),
+      Exact,
+      Exact,
+      Exact,
+      ([], [], refl, refl, refl, refl),
+      (refl, record { table = refl; extremes = tt }),
+      (
+        true ∷ [],
+        [],
+        x_sum (negsuc 2147483647) (pos 2147483646) true
+            (sum_fits (negsuc 2147483647) (pos 2147483646) (lit< tt) (lit< tt) (lit< tt) (lit< tt) refl refl),
+        refl,
+        refl,
+        refl,
+      ),
       refl,
       refl,
     ),
     refl,
-    refl,
   ),
-  refl,
   refl,
 )
 
@@ -402,56 +337,58 @@ divides_judged : AskedJudged box_meaning boxes testing_values (record { point = 
 divides_judged = (
   ints,
   ints,
-  false ∷ [],
   Exact,
   Exact,
   refl,
   (refl, refl),
   (
-    [],
     false ∷ [],
-    ints,
-    Exact,
-    Exact,
-    Exact,
-    ([], [], refl, refl, refl, refl),
     (
-      x_in (negsuc 2147483647) (negsuc 0),
-      x_in (pos 1) (pos 2147483647),
-      Exact,
-      Exact,
-      Exact,
-      (refl, record { table = refl; extremes = tt }),
-      (refl, record { table = refl; extremes = tt }),
-      (refl, refl),
-      refl,
-    ),
-    (
-      false ∷ [],
       [],
+      false ∷ [],
+      ints,
+      Exact,
+      Exact,
+      Exact,
+      ([], [], refl, refl, refl, refl),
       (
+        x_in (negsuc 2147483647) (negsuc 0),
+        x_in (pos 1) (pos 2147483647),
+        Exact,
+        Exact,
+        Exact,
+        (refl, record { table = refl; extremes = tt }),
+        (refl, record { table = refl; extremes = tt }),
+        (refl, refl),
+        refl,
+      ),
+      (
+        false ∷ [],
         [],
-        [],
-        false,
+        (
+          [],
+          [],
+          false,
+          refl,
+          refl,
+          fits_not (negsuc 2147483647) (pos 2147483647) (IsDivisor (Some (form (pos 0) (pos 1 ∷ []))))
+              (λ h. let wrong : false ≡ true = h.0 in cc),
+          refl,
+        ),
         refl,
         refl,
-        fits_not (negsuc 2147483647) (pos 2147483647) (IsDivisor (Some (form (pos 0) (pos 1 ∷ []))))
-            (λ h. let wrong : false ≡ true = h.0 in cc),
         refl,
       ),
       refl,
       refl,
-      refl,
     ),
     refl,
-    refl,
   ),
-  refl,
   refl,
 )
 
 testing_fits : Judges box_meaning boxes testing_tree testing_values None ((1, true) ∷ (2, true) ∷ (3, false) ∷ []) None
-testing_fits = judged testing_tree testing_values
+testing_fits = judged (OpFits box_meaning boxes) (asked_in None testing_tree) testing_values
     ((record { point = 1; fresh = None; op = step.test 0 is_less true }, true) ∷ (asked_sum 2, true)
     ∷ (record { point = 3; fresh = None; op = step.test 0 divides true }, false) ∷ [])
     refl (
@@ -494,6 +431,6 @@ counting_values = none ∷ x_in (pos 0) (pos 10) ∷ x_in (pos 0) (pos 9) ∷ x_
 
 -- one answer alone: nothing is computed by the condition, nor by what an `int` gets of an `int`
 counting_fits : Judges box_meaning boxes counting_tree counting_values None ((2, true) ∷ []) None
-counting_fits = judged counting_tree counting_values ((asked_sum 2, true) ∷ []) refl
+counting_fits = judged (OpFits box_meaning boxes) (asked_in None counting_tree) counting_values ((asked_sum 2, true) ∷ []) refl
     (sum_judged counting_values 2 (pos 0) (pos 9) true refl (sum_fits (pos 0) (pos 9) (lit< tt) (lit< tt) (lit< tt) (lit< tt) refl refl) refl, tt)
     (tt, tt)

@@ -3,7 +3,9 @@ mod LoopExamples
 mod NestedExamples
 mod CallExamples
 mod BoxExamples
+mod Judged
 mod FitsExamples
+mod AccessExamples
 -- The tree of the program that is tried.
 mod SampleTree
 -- The tree whose steps are judged.

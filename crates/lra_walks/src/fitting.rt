@@ -2,89 +2,48 @@
 
 ghost use Rattle.std.specs.Prelude.{◌≡◌, [], map, false, IfOk};
 ghost use Rattle.lra_base.specs.OperatorViews.{operator_view};
-ghost use Rattle.lra_operations.specs.GraphViews.{node_view, site_view};
-ghost use Rattle.lra_walks.specs.Steps.{steps_tree, steps_sites, stepped, plain_site};
+ghost use Rattle.lra_operations.specs.GraphViews.{node_view, op_view, site_view};
+ghost use Rattle.lra_walks.specs.Steps.{steps_tree, steps_sites, stepped};
 
+use crate::steps::{read_x, steps};
 use lra_base::{NumberType, Operator};
 use lra_box::Boxes;
 use lra_domain::Domain;
 use lra_fits::{Fitting, judge};
 use lra_iter::{Plan, analyse};
 use lra_oct::Octagon;
-use lra_operations::forms::{declare, put_in_turn, put_point};
-use lra_operations::{Graph, Node, Op, Path, Site};
-use lra_program::{Expr, Operation, Receiver, Slot, Variable};
+use lra_operations::{Graph, Op};
+use lra_program::{Expr, Operation, Receiver};
 use std::alloc::{AllocError, Global};
 
-/// The point, and there `x = x + 1` or the like.
-fn step(alloc: Global, point: usize, operator: Operator) -> Result<Node, AllocError>
-    ensures { IfOk result (λ g. node_view g ≡ stepped point (operator_view operator)) }
+/// `x = x + 1` or the like.
+fn step(alloc: Global, operator: Operator) -> Result<Op, AllocError>
+    ensures { IfOk result (λ op. op_view op ≡ stepped (operator_view operator)) }
 {
-    let variable = Expr::Read(Variable {
-        slot: Slot::Local(0),
-        number_type: NumberType::Int,
-    });
     let mut operations = Vec::new(alloc);
     operations.push(Operation {
         operator,
         operand: Expr::Literal(NumberType::Int, 1),
     })?;
-    let stepped = Expr::Chain(Box::new(alloc, variable)?, operations);
+    let stepped = Expr::Chain(Box::new(alloc, read_x())?, operations);
     let receiver = Receiver::variable(0, NumberType::Int);
-    put_point(
-        alloc,
-        point,
-        Node::Act(point, Op::Give(0, receiver, stepped)),
-    )
-}
-
-/// A point with so many variables.
-fn site(alloc: Global, live: usize) -> Site
-    ensures { site_view result ≡ plain_site live }
-{
-    Site {
-        path: Path::empty(alloc),
-        label: 1,
-        live,
-        asserts: false,
-    }
-}
-
-/// The points: none of them is an assertion.
-fn sites(alloc: Global) -> Result<Vec<Site>, AllocError>
-    ensures { IfOk result (λ sites. map site_view sites.items ≡ steps_sites) }
-{
-    let mut sites = Vec::new(alloc);
-    sites.push(site(alloc, 0))?;
-    sites.push(site(alloc, 1))?;
-    sites.push(site(alloc, 1))?;
-    sites.push(site(alloc, 1))?;
-    Ok(sites)
+    Ok(Op::Give(0, receiver, stepped))
 }
 
 /// The tree and its points.
-fn steps(alloc: Global) -> Result<Graph, AllocError>
+fn step_both_ways(alloc: Global) -> Result<Graph, AllocError>
     ensures tree { IfOk result (λ g. node_view g.tree ≡ steps_tree) }
     ensures sites { IfOk result (λ g. map site_view g.sites.items ≡ steps_sites) }
 {
-    let receiver = Receiver::variable(0, NumberType::Int);
-    let given = Node::Act(0, Op::Give(0, receiver, Expr::Input));
-    let declared = declare(alloc, 0, NumberType::Int, given)?;
-    let less = step(alloc, 2, Operator::Minus)?;
-    let behind = put_in_turn(alloc, less, Node::Point(3))?;
-    let more = step(alloc, 1, Operator::Plus)?;
-    let rest = put_in_turn(alloc, more, behind)?;
-    let tree = put_in_turn(alloc, declared, rest)?;
-    Ok(Graph {
-        tree,
-        sites: sites(alloc)?,
-    })
+    let more = step(alloc, Operator::Plus)?;
+    let less = step(alloc, Operator::Minus)?;
+    steps(alloc, more, less)
 }
 
 /// What is judged of it, by the values of its analysis over a domain.
 fn judge_steps<D: Domain>(alloc: Global) -> Result<Fitting, AllocError> {
     let plan = Plan::of(alloc, lra_options::DEFAULT_OPTIONS, &[])?;
-    let graph = steps(alloc)?;
+    let graph = step_both_ways(alloc)?;
     let solution = analyse::<D>(alloc, &plan, &[], &graph)?;
     judge(alloc, &graph.tree, &solution.values, solution.flagged)
 }

@@ -3,6 +3,10 @@
 #![tactic(auto)]
 
 #[cfg(test)]
+mod accessing;
+#[cfg(test)]
 mod fitting;
+#[cfg(test)]
+mod steps;
 #[cfg(test)]
 mod tests;

@@ -1,20 +1,24 @@
 -- Goals of `judge_steps`: the tree fits the iteration, and its values what is judged.
-use Rattle.std.proofs.Common.{length}
-use Rattle.lra_walks.proofs.StepsTree.{steps_fit, steps_numbered, as_many, steps_few, steps_below}
+use Rattle.std.proofs.Common.{length, refl, arith, ◌<◌}
+use Rattle.lra_base.specs.Operators.{plus, minus}
+use Rattle.lra_walks.specs.Steps.{stepped}
+use Rattle.lra_walks.proofs.StepsTree.{tree_fits, steps_numbered, as_many, steps_few, steps_below}
 use Rattle.lra_walks.proofs.fitting.judge_steps.Goals as goal
 
 pub analyse-requires-clause-fits : goal.analyse-requires-clause-fits
-analyse-requires-clause-fits g c = rw c.in_ok-graph.ensures.tree steps_fit
+analyse-requires-clause-fits g c =
+    let place : 0 < 1 = omega arith in
+    rw c.in_ok-graph.ensures.tree (tree_fits (stepped plus) (stepped minus) refl refl place place)
 
 pub analyse-requires-clause-numbered : goal.analyse-requires-clause-numbered
-analyse-requires-clause-numbered g c = rw (c.in_ok-graph.ensures.tree, c.in_ok-graph.ensures.sites) steps_numbered
+analyse-requires-clause-numbered g c = rw (c.in_ok-graph.ensures.tree, c.in_ok-graph.ensures.sites) (steps_numbered (stepped plus) (stepped minus))
 
 pub judge-requires-clause-few : goal.judge-requires-clause-few
 judge-requires-clause-few g c =
     let values = c.in_ok-solution.solution.values.items in
     let many = as_many c.in_ok-graph.graph.sites.items values c.in_ok-graph.ensures.sites c.in_ok-solution.ensures.points in
     let wide = rw (c.in_ok-graph.ensures.tree, c.in_ok-graph.ensures.sites) at c.in_ok-solution.ensures.wide in
-    rw c.deref.ensures.value (steps_few g.D.Domain.meaning values many wide)
+    rw c.deref.ensures.value (steps_few (stepped plus) (stepped minus) refl refl g.D.Domain.meaning values many wide)
 
 pub judge-requires-clause-below : goal.judge-requires-clause-below
 judge-requires-clause-below g c =
