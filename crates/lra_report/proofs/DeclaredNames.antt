@@ -7,11 +7,11 @@ use Rattle.lra_base.specs.declared.refusals.Place.{Place}
 use Rattle.lra_tree.specs.declared.trees.Identifier.{Identifier}
 use Rattle.lra_tree.specs.declared.trees.Parameter.{Parameter}
 use Rattle.lra_tree.specs.Lexeme.{is_name_word}
-use Rattle.lra_tree.specs.Texts.{Piece, Pieces, Texts, ◌⋅◌, name, further, separated}
+use Rattle.lra_tree.specs.Texts.{Piece, Pieces, Texts, name, further, separated}
 use Rattle.lra_tree.specs.Trees.{AssignTree, DeclaratorTree, DeclarationTree, InitTree, no_init, declared, assigned, StmtTree, block, nothing, assign, call}
 use Rattle.lra_tree.specs.Trees.{ShapeTree, scalar, array, if_only, if_else, while, for, break}
 use Rattle.lra_tree.specs.Trees.{continue, return, assert, assume, switch, CasesTree, no_cases, labelled, stated, ItemsTree, no_items, declaration, statement}
-use Rattle.lra_tree.specs.Trees.{FunctionTree, GlobalTree, GlobalsTree, PartTree, prototype, globals, function}
+use Rattle.lra_tree.specs.Trees.{FunctionTree, GlobalsTree, PartTree, prototype, globals, function}
 use Rattle.lra_tree.specs.Grammar.{IsDeclarator, IsDeclaration, IsInit, opened_by, level_of, IsStmt, AreCases, AreLabelled, AreStated, AreItems, IsParameter}
 use Rattle.lra_tree.specs.Grammar.{AreParameters, IsFunction, IsGlobal, AreGlobals, AreParts}
 use Rattle.lra_tree.specs.Functions.{functions_in}

@@ -1,13 +1,18 @@
 -- What the report of a source lists.
 use Rattle.std.proofs.Common.{◌≡◌, ℕ, [], ◌∷◌, refl}
-use Rattle.std.specs.Prelude.{codes, nat_lt}
+use Rattle.std.specs.Prelude.{codes, nat_eq, nat_lt, cond}
 use Rattle.std.specs.Fmt.{digits}
 use Rattle.lra_report.specs.Report.{PointReport}
 use Rattle.lra_tree.specs.Labels.{labels_of}
 use Rattle.lra_program.specs.Sites.{Site, sites_of}
 use Rattle.lra_meaning.specs.Resolve.{resolve}
-use Rattle.lra_operations.specs.Graph.{Node}
-use Rattle.lra_report.specs.Listing.{listed_point, computing_from, subjects, AreListed, AreJudged}
+use Rattle.lra_operations.specs.Agree.{IsGraph}
+use Rattle.lra_operations.specs.Graph.{Node, seq, point}
+use Rattle.lra_operations.specs.Inlined.{InlAll, main_spot, as_declaration, as_fresh, as_statement, as_assign, as_value, as_assert, as_none}
+use Rattle.lra_base.specs.declared.number_types.NumberType.TheVariants.{Long}
+use Rattle.lra_program.specs.Program.{Element, input}
+use Rattle.lra_report.specs.declared.verdict_kinds.VerdictKind.TheVariants.{Access}
+use Rattle.lra_report.specs.Listing.{listed_point, computing_from, Subject, subjects, accesses_from, AreListed, AreJudged}
 use Rattle.lra_meaning.specs.LiveNames.{globals_named}
 use Rattle.lra_tree.proofs.TreeSamples.{at, number, one_variable, called_twice, call_in_step}
 use Rattle.lra_report.proofs.ReportTextExamples as report
@@ -45,9 +50,41 @@ call_in_step_listed = (refl, refl, refl, refl, refl, refl, refl, refl, refl, ref
 one_variable_points : AreListed (globals_named one_variable.parts) (labels_of one_variable) 1 (sites_of (resolve one_variable)) report.one_variable.points
 one_variable_points = (refl, ((tt, tt), tt), (refl, ((tt, tt), tt), (refl, (((refl, tt), tt), tt), (refl, (((refl, tt), tt), tt), tt))))
 
--- where nothing is asked of what fits, the tree of operations tells nothing
-one_variable_judged : (g : Node) → AreJudged (labels_of one_variable) (subjects report.one_variable.options g one_variable) report.one_variable.verdicts
-one_variable_judged g = (refl, tt)
+-- its tree of operations, derived case by case
+unfoldable one_variable_body : (g : Node) × InlAll (resolve one_variable) (sites_of (resolve one_variable)) (main_spot (resolve one_variable))
+    (resolve one_variable).main.body g 1 3
+one_variable_body = (_, as_declaration refl as_fresh (as_statement (as_assign refl as_value) (as_statement (as_assert refl) as_none)))
+
+abbrev one_variable_tree : Node
+one_variable_tree = seq one_variable_body.0 (point 3)
+
+one_variable_graph : IsGraph (resolve one_variable) one_variable_tree
+one_variable_graph = record {
+  body = one_variable_body.0;
+  last = 3;
+  live = 1;
+  inlined = one_variable_body.1;
+  ends = refl;
+  all = refl;
+  parts = refl;
+}
+
+-- its one verdict is on the one assertion: no array is accessed, and nothing is asked of what fits
+one_variable_judged : AreJudged (labels_of one_variable) (subjects report.one_variable.options one_variable_tree one_variable) report.one_variable.verdicts
+unfolding one_variable_body
+one_variable_judged = (refl, tt)
+
+-- `b[1]=0; a[b[0]]=b[1];`, where a is declared at 6 and b at 12: the target's index first, then the target, then what it
+-- gets, each at its array's name. Catches accesses that are numbered through all points, or told at the declarator
+abbrev access_of : ℕ → ℕ → Element
+access_of declared c = record { array = record { declared = at declared; length = 3; number_type = Long }; place = at c; index = input }
+
+abbrev access_at : ℕ → ℕ → ℕ → Subject
+access_at number n c = record { kind = Access; number = number; site = site [] number 0; which = n; place = at c }
+
+two_arrays : accesses_from (λ q. cond (nat_eq q 1) (access_of 12 30 ∷ access_of 6 28 ∷ access_of 12 36 ∷ []) (access_of 12 20 ∷ [])) 0
+    (site [] 1 0 ∷ site [] 2 0 ∷ []) ≡ access_at 1 0 20 ∷ access_at 2 0 30 ∷ access_at 2 1 28 ∷ access_at 2 2 36 ∷ []
+two_arrays = refl
 
 -- of three points a tree computes at the second and the third
 two_compute : computing_from (λ q. nat_lt 0 q) 0 (site [] 1 0 ∷ site [] 2 1 ∷ site [] 3 1 ∷ []) ≡ (2, site [] 2 1) ∷ (3, site [] 3 1) ∷ []

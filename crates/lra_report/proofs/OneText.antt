@@ -16,7 +16,7 @@ use Rattle.lra_report.specs.ReportText.{place_text, path_text, heading_text, opt
 use Rattle.lra_meaning.specs.ShownNames.{shown_names}
 use Rattle.lra_meaning.specs.LiveNames.{live_names, globals_named}
 use Rattle.lra_options.specs.declared.options.Options.{Options}
-use Rattle.lra_report.specs.Listing.{calls_on, listed_point, Subject, subjects, judged_place, listed_verdict, AreListed, AreJudged}
+use Rattle.lra_report.specs.Listing.{calls_on, listed_point, Subject, subjects, listed_verdict, AreListed, AreJudged}
 use Rattle.lra_report.specs.Spelled.{IsReadablePart, IsReadablePoint, IsSmallFlag, AreWords, OneText}
 use Rattle.lra_report.proofs.Fronts.{first_same, rest_same, both_same}
 use Rattle.lra_report.proofs.Numbers.{IsShort, decimal_same}
@@ -93,7 +93,7 @@ verdicts_same ls [] (v ∷ vs) ws u w lv lw e = absurd lv
 verdicts_same ls (a ∷ xs) [] ws u w lv lw e = absurd lv
 verdicts_same ls (a ∷ xs) (v ∷ vs) [] u w lv lw e = absurd lw
 verdicts_same ls (a ∷ xs) (v ∷ vs) (x ∷ ws) u w lv lw e =
-    let head = heading_text (row_of a.kind).word a.number (path_text (calls_on ls a.site.path)) (judged_place ls a.kind a.site) ++ codes " " in
+    let head = heading_text (row_of a.kind).word a.number (path_text (calls_on ls a.site.path)) a.place ++ codes " " in
     let told : Bool → List ℕ = outcome_text a.kind in
     let text_v : verdict_text v ≡ text_line (head ++ told v.holds) = ap verdict_text lv.0 in
     let text_x : verdict_text x ≡ text_line (head ++ told x.holds) = ap verdict_text lw.0 in

@@ -7,7 +7,7 @@ use Rattle.lra_options.specs.declared.options.Domain.{Domain}
 use Rattle.lra_options.specs.declared.options.Domain.TheVariants.{Poly, Box}
 use Rattle.lra_options.specs.declared.options.Options.{Options}
 use Rattle.lra_options.specs.OptionRows.{default_options}
-use Rattle.lra_report.specs.declared.verdict_kinds.VerdictKind.TheVariants.{Assertion, Fit}
+use Rattle.lra_report.specs.declared.verdict_kinds.VerdictKind.TheVariants.{Assertion, Fit, Access}
 use Rattle.lra_report.specs.Report.{Place, PointReport, Verdict, Report}
 use Rattle.lra_show.specs.Part.{Generator, Part}
 use Rattle.lra_linear.specs.declared.GenKind.TheVariants.{Point, Ray, Line}
@@ -48,7 +48,7 @@ abbrev in_main : ℕ → Place → List (List ℕ) → List Part → PointReport
 in_main number place names state = record { number = number; point = record { path = []; label = number }; path = codes "main"; place = place; names = names; state = state }
 
 abbrev verdict : ℕ → Place → Bool → Verdict
-verdict number place holds = record { kind = Assertion; number = number; point = record { path = []; label = number }; path = codes "main"; place = place; holds = holds }
+verdict number place holds = record { kind = Assertion; number = number; point = record { path = []; label = number }; which = 0; path = codes "main"; place = place; holds = holds }
 
 abbrev lines : List (List ℕ) → List ℕ
 lines = flat_map text_line
@@ -124,6 +124,32 @@ fitting_text : report_text fitting ≡ lines (
     ∷ [])
 unfolding digits
 fitting_text = refl
+
+abbrev access : ℕ → ℕ → Place → Bool → Verdict
+access number which place holds = record (verdict number place holds) { kind = Access; which = which }
+
+-- int main(void){ int a[2]; a[1]=a[0]; a[2]=1; } at its end
+abbrev pub accessing : Report
+accessing = record {
+  options = defaults Box;
+  flagged = None;
+  points = in_main 4 (at 1 46) [] (rows_alone [] ∷ []) ∷ [];
+  verdicts = access 2 0 (at 1 27) true ∷ access 2 1 (at 1 32) true ∷ access 3 0 (at 1 38) false ∷ [];
+}
+
+-- catches an access that isn't counted, and one that is told by its number at the point
+accessing_text : report_text accessing ≡ lines (
+    codes "analysis box parts 1 delay 1 narrow 1 limited no"
+    ∷ codes "flagged 0"
+    ∷ codes "point 4 main 1:46"
+    ∷ codes "  row true"
+    ∷ codes "access 2 main 1:27 in bounds"
+    ∷ codes "access 2 main 1:32 in bounds"
+    ∷ codes "access 3 main 1:38 unknown"
+    ∷ codes "verdicts proved 2 unknown 1"
+    ∷ [])
+unfolding digits
+accessing_text = refl
 
 -- int main(void){}
 abbrev pub empty_main : Report

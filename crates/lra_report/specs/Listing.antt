@@ -1,14 +1,15 @@
 -- Which points and verdicts the report of a source lists: all points in the order of their numbers, from 1, each with
 -- its path, its place, the names of its live variables, and rows and generators over these; and a verdict on each of
--- what is judged, in order: on each assertion, and where it is asked for on each point at which something is computed.
+-- what is judged, in order: on each assertion, where it is asked for on each point at which something is computed, and
+-- on each access of an array, at each point in the order of evaluation.
 use Rattle.std.specs.Prelude.{◌≡◌, ℕ, suc, Bool, true, false, List, [], ◌∷◌, ◌++◌, length, map, Option, Some, None, ⊤}
-use Rattle.std.specs.Prelude.{◌<◌, ◌≤◌, cond, nat_eq}
-use Rattle.std.specs.List.{AllByRecursion, list_any}
+use Rattle.std.specs.Prelude.{◌<◌, ◌≤◌, cond, nat_eq, nat_lt}
+use Rattle.std.specs.List.{AllByRecursion, list_any, flat_map}
 use Rattle.lra_tree.specs.declared.trees.Identifier.{Identifier}
 use Rattle.lra_options.specs.declared.options.Options.{Options}
 use Rattle.lra_base.specs.declared.refusals.Place.{Place}
 use Rattle.lra_report.specs.declared.verdict_kinds.VerdictKind.{VerdictKind}
-use Rattle.lra_report.specs.declared.verdict_kinds.VerdictKind.TheVariants.{Assertion, Fit}
+use Rattle.lra_report.specs.declared.verdict_kinds.VerdictKind.TheVariants.{Assertion, Fit, Access}
 use Rattle.lra_show.specs.Part.{Generator, Part}
 use Rattle.lra_report.specs.Report.{Invariant, PointReport, Verdict, Report, IsSound}
 use Rattle.lra_show.specs.Rows.{Row}
@@ -22,9 +23,11 @@ use Rattle.lra_program.specs.Sites.{Site, sites_of}
 use Rattle.lra_tree.specs.Faults.{Language}
 use Rattle.lra_meaning.specs.Refuse.{Accepts}
 use Rattle.lra_meaning.specs.LiveNames.{globals_named, live_names}
+use Rattle.lra_program.specs.Accesses.{op_accesses}
 use Rattle.lra_program.specs.Assertions.{assertions_from}
+use Rattle.lra_program.specs.Program.{Element}
 use Rattle.lra_operations.specs.Graph.{Node}
-use Rattle.lra_operations.specs.Asked.{Asked, asked_in}
+use Rattle.lra_operations.specs.Asked.{Asked, asked_in, accessed_in}
 use Rattle.lra_operations.specs.Agree.{IsGraph}
 
 abbrev pub call_at : Option Identifier → List CallPlace
@@ -50,19 +53,24 @@ listed_point outside ls number s state = record {
   state = state;
 }
 
--- what is judged: the kind, the point and its number
+-- what is judged: the kind, the point and its number, which of the kind there, counted from 0 in the order of
+-- evaluation, and where a verdict on it is printed
 pub record Subject : Type 0 where
   pub kind : VerdictKind
   pub number : ℕ
   pub site : Site
+  pub which : ℕ
+  pub place : Place
 
-abbrev pub subject : VerdictKind → ℕ → Site → Subject
-subject kind number site = record { kind = kind; number = number; site = site }
-
--- where a verdict on it is printed
-abbrev pub judged_place : List Labelled → VerdictKind → Site → Place
-judged_place ls Assertion s = label_place (label_at ls s.label)
-judged_place ls Fit s = label_place (label_at ls s.label)
+-- of a kind of which a point has one, printed at the point's place
+abbrev pub subject : List Labelled → VerdictKind → ℕ → Site → Subject
+subject ls kind number site = record {
+  kind = kind;
+  number = number;
+  site = site;
+  which = 0;
+  place = label_place (label_at ls site.label);
+}
 
 -- but for whether it holds
 abbrev pub listed_verdict : List Labelled → Subject → Bool → Verdict
@@ -70,14 +78,15 @@ listed_verdict ls x holds = record {
   kind = x.kind;
   number = x.number;
   point = record { path = x.site.path; label = x.site.label };
+  which = x.which;
   path = path_text (calls_on ls x.site.path);
-  place = judged_place ls x.kind x.site;
+  place = x.place;
   holds = holds;
 }
 
 -- these points, each with its number, are judged by this kind
-abbrev pub subjects_of : VerdictKind → List (ℕ × Site) → List Subject
-subjects_of kind points = map (λ (p : ℕ × Site). subject kind p.0 p.1) points
+abbrev pub subjects_of : List Labelled → VerdictKind → List (ℕ × Site) → List Subject
+subjects_of ls kind points = map (λ (p : ℕ × Site). subject ls kind p.0 p.1) points
 
 -- at the point of this number, from 0, the tree of operations computes something
 abbrev pub computes_at : Node → ℕ → Bool
@@ -90,14 +99,34 @@ computing_from computes q (s ∷ ss) =
     cond (computes q) ((suc q, s) ∷ computing_from computes (suc q) ss) (computing_from computes (suc q) ss)
 
 -- what is asked whether it fits, where that is asked for
-abbrev pub fits_asked : Bool → Node → List Site → List Subject
-fits_asked true g sites = subjects_of Fit (computing_from (computes_at g) 0 sites)
-fits_asked false g sites = []
+abbrev pub fits_asked : List Labelled → Bool → Node → List Site → List Subject
+fits_asked ls true g sites = subjects_of ls Fit (computing_from (computes_at g) 0 sites)
+fits_asked ls false g sites = []
+
+-- the accesses of the operation at the point of this number, from 0
+abbrev pub accesses_at : Node → ℕ → List Element
+accesses_at g q = flat_map (λ (a : Asked). cond (nat_eq a.point q) (op_accesses a.op) []) (accessed_in None g)
+
+abbrev pub accesses_any_at : Node → ℕ → Bool
+accesses_any_at g q = nat_lt 0 (length (accesses_at g q))
+
+-- those at a point with its number, from the n-th on, each printed at its array's name
+abbrev pub access_subjects : ℕ → Site → ℕ → List Element → List Subject
+access_subjects number site n [] = []
+access_subjects number site n (x ∷ xs) =
+    record { kind = Access; number = number; site = site; which = n; place = x.place } ∷
+    access_subjects number site (suc n) xs
+
+-- those at all points, of which the first has this number from 0
+abbrev pub accesses_from : (ℕ → List Element) → ℕ → List Site → List Subject
+accesses_from at q [] = []
+accesses_from at q (s ∷ ss) = access_subjects (suc q) s 0 (at q) ++ accesses_from at (suc q) ss
 
 -- what is judged of a source's program, by its tree of operations, in order
 abbrev pub subjects : Options → Node → FileTree → List Subject
-subjects o g t = subjects_of Assertion (assertions_from 1 (sites_of (resolve t))) ++
-    fits_asked o.fits g (sites_of (resolve t))
+subjects o g t = subjects_of (labels_of t) Assertion (assertions_from 1 (sites_of (resolve t))) ++
+    (fits_asked (labels_of t) o.fits g (sites_of (resolve t)) ++
+    accesses_from (accesses_at g) 0 (sites_of (resolve t)))
 
 -- a number for each of so many variables
 abbrev pub HasWidth : ℕ → Part → Type 0
@@ -138,8 +167,8 @@ pub record AreParts (o : Options) (p : PointReport) : Type 0 where
   pub tell : AllByRecursion (Tells o.domain (length p.names)) p.state
 
 -- what is written of an accepted source of the language L under these options: all its points and what is judged of
--- them; at each point what every run meets there; no assertion that fails is proved, and no run stops by a number where
--- all is told to fit
+-- them; at each point what every run meets there; no assertion that fails is proved, no run stops by a number where
+-- all is told to fit, and none evaluates an access outside its array that is told to be in bounds
 pub record IsReportOf (L : Language) (o : Options) (source : List ℕ) (r : Report) : Type 0 where
   pub options : r.options ≡ o
   pub tree : FileTree

@@ -24,11 +24,13 @@ pub record PointReport : Type 0 where
   pub names : List (List ℕ)
   pub state : Invariant
 
--- what is judged, at which point, where that is printed, and whether no run breaks it
+-- what is judged, at which point, which of its kind there, counted from 0 in the order of evaluation, where that is
+-- printed, and whether no run breaks it
 pub record Verdict : Type 0 where
   pub kind : VerdictKind
   pub number : ℕ
   pub point : Point
+  pub which : ℕ
   pub path : List ℕ
   pub place : Place
   pub holds : Bool
@@ -51,9 +53,10 @@ Holds (part ∷ parts) store = AllByRecursion (λ r. RowHolds r store) part.rows
 abbrev pub IsInvariant : Program → PointReport → Type 0
 IsInvariant P p = (store : List ℤ) → At P p.point store → Holds p.state store
 
--- what holds is broken in no run: an assertion that is marked proved doesn't fail
+-- what holds is broken in no run: an assertion that is marked proved doesn't fail, an access that is marked in bounds
+-- isn't evaluated outside its array
 abbrev pub IsRight : Program → Verdict → Type 0
-IsRight P v = IsTrue v.holds → Breaks v.kind P v.point → ⊥
+IsRight P v = IsTrue v.holds → Breaks v.kind P v.point v.which → ⊥
 
 pub record IsSound (P : Program) (r : Report) : Type 0 where
   pub invariants : AllByRecursion (IsInvariant P) r.points

@@ -6,10 +6,11 @@ use Rattle.std.specs.List.{list_any}
 use Rattle.std.specs.Str.{bytes_eq}
 use Rattle.lra_options.specs.declared.options.Options.{Options}
 use Rattle.lra_program.specs.Program.{Program}
+use Rattle.lra_program.specs.Accesses.{Strays}
 use Rattle.lra_program.specs.Overflow.{Overflows}
 use Rattle.lra_program.specs.Run.{Point, Fails}
 use Rattle.lra_report.specs.declared.verdict_kinds.VerdictKind.{VerdictKind}
-use Rattle.lra_report.specs.declared.verdict_kinds.VerdictKind.TheVariants.{Assertion, Fit}
+use Rattle.lra_report.specs.declared.verdict_kinds.VerdictKind.TheVariants.{Assertion, Fit, Access}
 
 -- `word` begins its lines. Its outcome is `if_holds` where no run breaks it, `if_open` where that isn't known. Those
 -- that count are in the last line and in the status. `own_place`: they have a place of their own, not their point's,
@@ -57,23 +58,41 @@ fit_row = record {
   apart = refl;
 }
 
+-- an access of an array, told at the array's name; its key stands where there is one
+abbrev pub access_row : VerdictRow
+access_row = record {
+  word = codes "access";
+  if_holds = codes "in bounds";
+  if_open = codes "unknown";
+  counts = true;
+  own_place = true;
+  key = codes "accesses";
+  stands = λ options is_listed. is_listed;
+  tells = λ options. refl;
+  begins = refl;
+  apart = refl;
+}
+
 abbrev pub row_of : VerdictKind → VerdictRow
 row_of Assertion = assertion_row
 row_of Fit = fit_row
+row_of Access = access_row
 
 -- all kinds
 abbrev pub kinds : List VerdictKind
-kinds = Assertion ∷ Fit ∷ []
+kinds = Assertion ∷ Fit ∷ Access ∷ []
 
 -- none is left out: each has the key of one of these
 pub among_kinds : (kind : VerdictKind) → list_any (λ k. bytes_eq (row_of kind).key (row_of k).key) kinds ≡ true
 among_kinds Assertion = refl
 among_kinds Fit = refl
+among_kinds Access = refl
 
 abbrev pub outcome_text : VerdictKind → Bool → List ℕ
 outcome_text kind holds = if holds then (row_of kind).if_holds else (row_of kind).if_open
 
--- what no run does at a point where a verdict of the kind holds
-abbrev pub Breaks : VerdictKind → Program → Point → Type 0
-Breaks Assertion P p = Fails P p
-Breaks Fit P p = Overflows P p
+-- what no run does at a point where of the verdicts of the kind there the n-th, counted from 0, holds
+abbrev pub Breaks : VerdictKind → Program → Point → ℕ → Type 0
+Breaks Assertion P p n = Fails P p
+Breaks Fit P p n = Overflows P p
+Breaks Access P p n = Strays P p n

@@ -27,6 +27,7 @@ verdict_of v = record {
   kind = v.kind;
   number = v.number;
   point = point_of v.point;
+  which = v.which;
   path = string_bytes v.path;
   place = v.place;
   holds = v.holds;

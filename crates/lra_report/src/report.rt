@@ -46,11 +46,13 @@ impl Drop for PointReport {
     }
 }
 
-/// What is judged, at which point, where that is printed, and whether no run breaks it.
+/// What is judged, at which point, which of its kind there, counted from 0 in the order of evaluation, where that is
+/// printed, and whether no run breaks it.
 pub struct Verdict {
     pub kind: VerdictKind,
     pub number: u32,
     pub point: Point,
+    pub which: usize,
     pub path: String,
     pub place: Place,
     pub holds: bool,
@@ -62,6 +64,7 @@ impl Drop for Verdict {
             kind: _,
             number: _,
             point: _,
+            which: _,
             path: _,
             place: _,
             holds: _,

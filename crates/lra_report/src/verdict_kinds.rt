@@ -12,10 +12,16 @@ pub enum VerdictKind {
     Assertion,
     /// Whether all fits its type that is computed at the point.
     Fit,
+    /// An access of an array.
+    Access,
 }
 
 /// All kinds.
-pub const VERDICT_KINDS: [VerdictKind; 2] = [VerdictKind::Assertion, VerdictKind::Fit];
+pub const VERDICT_KINDS: [VerdictKind; 3] = [
+    VerdictKind::Assertion,
+    VerdictKind::Fit,
+    VerdictKind::Access,
+];
 
 impl VerdictKind {
     /// The word with which its lines begin.
@@ -25,6 +31,7 @@ impl VerdictKind {
         match self {
             VerdictKind::Assertion => "assert",
             VerdictKind::Fit => "fit",
+            VerdictKind::Access => "access",
         }
     }
 
@@ -37,6 +44,8 @@ impl VerdictKind {
             (VerdictKind::Assertion, false) => "unknown",
             (VerdictKind::Fit, true) => "fits",
             (VerdictKind::Fit, false) => "may overflow",
+            (VerdictKind::Access, true) => "in bounds",
+            (VerdictKind::Access, false) => "unknown",
         }
     }
 
@@ -47,6 +56,7 @@ impl VerdictKind {
         match self {
             VerdictKind::Assertion => true,
             VerdictKind::Fit => false,
+            VerdictKind::Access => true,
         }
     }
 
@@ -57,6 +67,7 @@ impl VerdictKind {
         match self {
             VerdictKind::Assertion => false,
             VerdictKind::Fit => false,
+            VerdictKind::Access => true,
         }
     }
 
@@ -67,6 +78,7 @@ impl VerdictKind {
         match self {
             VerdictKind::Assertion => "asserts",
             VerdictKind::Fit => "fits",
+            VerdictKind::Access => "accesses",
         }
     }
 
@@ -77,6 +89,7 @@ impl VerdictKind {
         match (self, options, is_listed) {
             (VerdictKind::Assertion, _, _) => true,
             (VerdictKind::Fit, options, is_listed) => is_listed || options.fits,
+            (VerdictKind::Access, _, is_listed) => is_listed,
         }
     }
 }
