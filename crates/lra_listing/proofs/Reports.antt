@@ -1,10 +1,11 @@
 -- Points and verdicts that are listed by a source's labels and sites make a report of the source.
-use Rattle.std.proofs.Common.{◌≡◌, ◌∙◌, sym, ap, subst, ◌<◌, ℕ, Bool, true, false, List, length, map}
+use Rattle.std.proofs.Common.{◌≡◌, ◌∙◌, sym, ap, subst, ◌<◌, ℕ, Bool, true, false, List, length, map, Vec, Global, arith}
 use Rattle.std.specs.Prelude.{All}
-use Rattle.std.proofs.lemmas.List.{length-map}
+use Rattle.std.proofs.lemmas.List.{get_or-map, length-map}
 use Rattle.std.proofs.lemmas.List.Elements.{All-nil}
 use Rattle.lra_tree.specs.Trees.{FileTree}
 use Rattle.lra_meaning.specs.Resolve.{resolve}
+use Rattle.lra_base.specs.declared.refusals.Place.{Place}
 use Rattle.lra_program.specs.Sites.{Site, sites_of}
 use Rattle.lra_operations.specs.declared.graph.Site as code_site
 use Rattle.lra_operations.specs.Agree.{IsGraph}
@@ -14,7 +15,8 @@ use Rattle.lra_tree.specs.Labels.{Labelled, labels_of}
 use Rattle.lra_report.specs.Report.{Report, Verdict}
 use Rattle.lra_meaning.specs.LiveNames.{globals_named}
 use Rattle.lra_report.specs.Listing.{AreJudged, AreListed, Lists, subjects}
-use Rattle.lra_listing.specs.Given.{IsAssertion, IsComputing, AreVerdicts, AreFitting}
+use Rattle.lra_listing.specs.Given.{IsAssertion, IsComputing, IsAccessing, AreVerdicts, AreFitting, AreInside}
+use Rattle.lra_listing.specs.Views.{told_view}
 use Rattle.lra_listing.proofs.Verdicts.{are_there}
 
 -- `found` is what is listed of what was found, by labels and sites
@@ -47,3 +49,12 @@ fitting_there sites true g vs are =
     are_there (IsComputing g (map site_view sites)) (map site_view sites) vs (length sites)
     (sym (length-map sites site_view)) (λ q (s, there, so). (s, there)) are
 fitting_there sites false g vs none = subst (All (λ (v : ℕ × Bool). v.0 < length sites)) (sym none) (All-nil (λ (v : ℕ × Bool). v.0 < length sites))
+
+pub inside_there : (sites : List code_site.Site) (g : Node) (vs : List (ℕ × Vec (Place × Bool) Global)) → AreInside g (map site_view sites) (map told_view vs)
+    → All (λ (v : ℕ × Vec (Place × Bool) Global). v.0 < length sites) vs
+inside_there sites g vs are k d h =
+    let there : All (λ (v : ℕ × List (Place × Bool)). v.0 < length sites) (map told_view vs) =
+    are_there (IsAccessing g (map site_view sites)) (map site_view sites) (map told_view vs) (length sites)
+    (sym (length-map sites site_view)) (λ q (s, site, so). (s, site)) are.verdicts in
+    subst (λ (v : ℕ × List (Place × Bool)). v.0 < length sites) (get_or-map told_view vs k d (told_view d) h)
+    (there k (told_view d) (let long = length-map vs told_view in omega (arith, long, h)))

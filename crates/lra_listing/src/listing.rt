@@ -15,10 +15,11 @@ ghost use Rattle.lra_report.specs.ReportText.{path_text};
 ghost use Rattle.lra_meaning.specs.LiveNames.{live_name, globals_named, names_outside, live_names};
 ghost use Rattle.lra_report.specs.declared.verdict_kinds.VerdictKind.TheVariants.{Assertion, Fit};
 ghost use Rattle.lra_report.specs.Listing.{call_at, called_at, calls_on, listed_point, listed_verdict, AreListed};
-ghost use Rattle.lra_report.specs.Listing.{Lists, judged_place, subject};
+ghost use Rattle.lra_report.specs.Listing.{Lists};
 ghost use Rattle.lra_report.specs.View.{call_place_of, point_report_of, verdict_of, report_of};
 ghost use Rattle.lra_listing.specs.Given.{AreFitting, AreInvariants, AreVerdicts, state_of, told_all, told_of};
-ghost use Rattle.lra_listing.specs.Given.{verdict_at};
+ghost use Rattle.lra_listing.specs.Given.{access_verdicts, accesses_told, verdict_at, AreInside};
+ghost use Rattle.lra_listing.specs.Views.{subject_view, told_view};
 
 use lra_base::Place;
 use lra_meaning::Labels;
@@ -189,33 +190,34 @@ pub fn list_point(
     })
 }
 
-/// Where a verdict of a kind on a point is printed.
-fn judged_place(labels: &Labels, kind: VerdictKind, site: &Site) -> Place
-    ensures { result ≡ judged_place labels.now.labels kind (site_view site.now) }
-{
-    match kind {
-        VerdictKind::Assertion | VerdictKind::Fit => labels.place(site.label),
-    }
+/// What is judged: the kind, the point and its number, which of the kind there, counted from 0 in the order of
+/// evaluation, and where a verdict on it is printed.
+#[derive(Clone, Copy)]
+pub struct Subject<'a> {
+    pub kind: VerdictKind,
+    pub number: u32,
+    pub site: &'a Site,
+    pub which: usize,
+    pub place: Place,
 }
 
 /// A verdict of the report.
 pub fn list_verdict(
     alloc: Global,
     labels: &Labels,
-    kind: VerdictKind,
-    number: u32,
-    site: &Site,
+    subject: Subject<'_>,
     holds: bool,
 ) -> Result<Verdict, AllocError>
-    ensures { IfOk result (λ v. verdict_of v ≡ listed_verdict labels.now.labels
-        (subject kind number (site_view site.now)) holds) }
+    ensures { IfOk result (λ v. verdict_of v ≡
+        listed_verdict labels.now.labels (subject_view subject.entry) holds) }
 {
     Ok(Verdict {
-        kind,
-        number,
-        point: point(alloc, site)?,
-        path: shown_path(alloc, labels, site.path.as_slice())?,
-        place: judged_place(labels, kind, site),
+        kind: subject.kind,
+        number: subject.number,
+        point: point(alloc, subject.site)?,
+        which: subject.which,
+        path: shown_path(alloc, labels, subject.site.path.as_slice())?,
+        place: subject.place,
         holds,
     })
 }
@@ -315,7 +317,68 @@ fn push_verdicts(
     'verdicts: for verdict in verdicts {
         let (index, holds) = *verdict;
         let site = &sites[index];
-        listed.push(list_verdict(alloc, labels, kind, number_of(index), site, holds)?)?;
+        let subject = Subject {
+            kind,
+            number: number_of(index),
+            site,
+            which: 0,
+            place: labels.place(site.label),
+        };
+        listed.push(list_verdict(alloc, labels, subject, holds)?)?;
+    }
+    Ok(())
+}
+
+/// Adds the verdicts on the accesses of a point.
+fn push_told(
+    alloc: Global,
+    labels: &Labels,
+    number: u32,
+    site: &Site,
+    told: &[(Place, bool)],
+    listed: &mut Vec<Verdict>,
+) -> Result<(), AllocError>
+    ensures { IfOk result (λ _. map verdict_of listed.new.items ≡ map verdict_of listed.old.items ++
+        access_verdicts labels.now.labels number (site_view site.now) 0 told.now) }
+{
+    'accesses: for (which, access) in told.iter().enumerate() {
+        let (place, is_inside) = *access;
+        let subject = Subject {
+            kind: VerdictKind::Access,
+            number,
+            site,
+            which,
+            place,
+        };
+        listed.push(list_verdict(alloc, labels, subject, is_inside)?)?;
+    }
+    Ok(())
+}
+
+/// Adds those on all accesses.
+fn push_accesses(
+    alloc: Global,
+    labels: &Labels,
+    sites: &[Site],
+    inside: &[(usize, Vec<(Place, bool)>)],
+    listed: &mut Vec<Verdict>,
+) -> Result<(), AllocError>
+    requires numbers { length sites.now < 2 ^ 32 }
+    requires there { All (λ v. v.0 < length sites.now) inside.now }
+    ensures { IfOk result (λ _. map verdict_of listed.new.items ≡ map verdict_of listed.old.items ++
+        flat_map (accesses_told labels.now.labels (map site_view sites.now)) (map told_view inside.now)) }
+{
+    'points: for point in inside {
+        let (index, told) = point;
+        let site = &sites[*index];
+        push_told(
+            alloc,
+            labels,
+            number_of(*index),
+            site,
+            told.as_slice(),
+            listed,
+        )?;
     }
     Ok(())
 }
@@ -329,12 +392,13 @@ pub struct Outline<'a> {
 }
 
 /// What an analysis found, beside its states: verdicts on assertions, and on points at which something is computed
-/// where it is asked what fits, each in order, with its point's number and whether it holds; and the first flagged
-/// point.
+/// where it is asked what fits, each in order, with its point's number and whether it holds; of points at which arrays
+/// are accessed, in order, what is told of each access; and the first flagged point.
 #[derive(Clone, Copy)]
 pub struct Found<'a> {
     pub assertions: &'a [(usize, bool)],
     pub fitting: &'a [(usize, bool)],
+    pub inside: &'a [(usize, Vec<(Place, bool)>)],
     pub flagged: Option<usize>,
 }
 
@@ -348,10 +412,13 @@ fn list_verdicts(
     requires numbers { length sites.now < 2 ^ 32 }
     requires assertions { All (λ v. v.0 < length sites.now) found.now.assertions.now }
     requires fitting { All (λ v. v.0 < length sites.now) found.now.fitting.now }
+    requires inside { All (λ v. v.0 < length sites.now) found.now.inside.now }
     ensures { IfOk result (λ vs. map verdict_of vs.items ≡
         map (verdict_at labels.now.labels (map site_view sites.now) Assertion)
         found.now.assertions.now ++
-        map (verdict_at labels.now.labels (map site_view sites.now) Fit) found.now.fitting.now) }
+        (map (verdict_at labels.now.labels (map site_view sites.now) Fit) found.now.fitting.now ++
+        flat_map (accesses_told labels.now.labels (map site_view sites.now))
+        (map told_view found.now.inside.now))) }
 {
     let mut listed = Vec::new(alloc);
     let asserted = VerdictKind::Assertion;
@@ -371,6 +438,7 @@ fn list_verdicts(
         found.fitting,
         &mut listed,
     )?;
+    push_accesses(alloc, labels, sites, found.inside, &mut listed)?;
     Ok(listed)
 }
 
@@ -391,11 +459,13 @@ pub fn list(
     requires verdicts { AreVerdicts (map site_view outline.now.sites.now) found.now.assertions.now }
     requires fitting { (g : Node) → IsGraph (resolve (tree_view outline.now.tree.now)) g →
         AreFitting options.fits g (map site_view outline.now.sites.now) found.now.fitting.now }
+    requires inside { (g : Node) → IsGraph (resolve (tree_view outline.now.tree.now)) g →
+        AreInside g (map site_view outline.now.sites.now) (map told_view found.now.inside.now) }
     requires flag { (q : ℕ) → found.now.flagged ≡ Some q → q < length outline.now.sites.now }
     ensures lists { IfOk result (λ r. Lists (tree_view outline.now.tree.now) (report_of r)) }
     ensures states { IfOk result (λ r. map state_of (report_of r).points ≡ map (λ x. x.items) states.items) }
     ensures verdicts { IfOk result (λ r. map told_of (report_of r).verdicts ≡
-        told_all found.now.assertions.now found.now.fitting.now) }
+        told_all found.now.assertions.now found.now.fitting.now (map told_view found.now.inside.now)) }
     ensures options { IfOk result (λ r. r.options ≡ options) }
     ensures flag { IfOk result (λ r. r.flagged ≡ option_map suc found.now.flagged) }
 {
