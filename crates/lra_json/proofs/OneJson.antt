@@ -32,7 +32,7 @@ use Rattle.lra_report.proofs.Outcomes.{outcome_told}
 use Rattle.lra_meaning.specs.ShownNames.{shown_names}
 use Rattle.lra_show.specs.Texts.{row_text, generator_text}
 use Rattle.lra_report.specs.Parts.{Tells}
-use Rattle.lra_report.specs.Listing.{listed_point, Subject, subjects, judged_place, listed_verdict, Lists, AreListed, AreJudged, AreParts, IsFlag}
+use Rattle.lra_report.specs.Listing.{listed_point, Subject, subjects, listed_verdict, Lists, AreListed, AreJudged, AreParts, IsFlag}
 use Rattle.lra_report.specs.Spelled.{IsSpelledRow, IsSpelledGenerator, IsReadablePart, IsReadablePoint, IsSmallFlag, AreWords}
 use Rattle.lra_report.proofs.Fronts.{AreShownNames, first_same, rest_same, both_same}
 use Rattle.lra_report.proofs.Numbers.{IsShort, decimal_same}
@@ -200,7 +200,7 @@ verdict_told : (ls : List Labelled) (x : Subject) (b c : Bool) (u v : List ℕ) 
 verdict_told ls x b c u v e = go (row_of x.kind).own_place e
   where
     at : List ℕ
-    at = place_text (judged_place ls x.kind x.site)
+    at = place_text x.place
 
     members : Bool → Bool → Members
     members own y = if own then member (codes "place") (string at) (outcome_members (listed_verdict ls x y)) else outcome_members (listed_verdict ls x y)

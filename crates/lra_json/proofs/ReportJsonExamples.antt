@@ -8,7 +8,7 @@ use Rattle.lra_report.specs.Report.{Place, PointReport}
 use Rattle.lra_show.specs.Part.{Part}
 use Rattle.lra_show.specs.Texts.{text_line}
 use Rattle.lra_options.specs.OptionRows.{default_options}
-use Rattle.lra_report.proofs.ReportTextExamples.{empty_main, fitting, rows_alone, is_zero}
+use Rattle.lra_report.proofs.ReportTextExamples.{empty_main, fitting, accessing, rows_alone, is_zero}
 use Rattle.serde_json.specs.Written.{compact_text}
 use Rattle.lra_json.specs.ReportJson.{flag_data, point_data, report_json}
 
@@ -27,6 +27,15 @@ fitting_json : report_json fitting
     ++ codes ",\"proved\":0,\"unknown\":0}")
 unfolding digits serde_json_on_literals
 fitting_json = refl
+
+-- accesses at their places; catches one among the assertions, or told without its place
+accessing_json : report_json accessing
+    ≡ text_line (codes "{\"accesses\":[{\"place\":\"1:27\",\"point\":2,\"verdict\":\"in bounds\"}"
+    ++ codes ",{\"place\":\"1:32\",\"point\":2,\"verdict\":\"in bounds\"},{\"place\":\"1:38\",\"point\":3,\"verdict\":\"unknown\"}]"
+    ++ codes ",\"analysis\":{\"delay\":1,\"domain\":\"box\",\"limited\":false,\"narrow\":1,\"parts\":1},\"asserts\":[],\"flagged\":0"
+    ++ codes ",\"points\":[{\"number\":4,\"parts\":[{\"rows\":[]}],\"path\":\"main\",\"place\":\"1:46\"}],\"proved\":2,\"unknown\":1}")
+unfolding digits serde_json_on_literals
+accessing_json = refl
 
 -- where it is asked what fits and nothing is computed
 nothing_computed : report_json (record empty_main { options = record default_options { fits = true }; points = [] })
