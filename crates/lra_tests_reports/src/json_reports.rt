@@ -98,6 +98,7 @@ fn verdict(alloc: Global, number: u32, place: Place, holds: bool) -> Result<Verd
         kind: VerdictKind::Assertion,
         number,
         point: point(alloc, number as usize),
+        which: 0,
         path: String::from_str(alloc, "main")?,
         place,
         holds,

@@ -91,6 +91,7 @@ fn report(alloc: Global, count: u32) -> Result<Report, AllocError> {
         kind: VerdictKind::Assertion,
         number: 6,
         point: point(alloc, 6),
+        which: 0,
         path: String::from_str(alloc, "main")?,
         place: Place { line: 6, column: 1 },
         holds: true,
