@@ -1,46 +1,25 @@
 -- Where all that is computed at a point is judged to fit, no run stops there by a number.
-use Rattle.std.proofs.Common.{◌≡◌, ◌∙◌, ℕ, List, length, map, Option, Some, None, Bool, true, refl, sym, ap, subst}
+use Rattle.std.proofs.Common.{◌≡◌, ◌∙◌, ℕ, List, Option, Some, Bool, true, refl, sym, ap, subst}
 use Rattle.std.specs.Prelude.{slice_get}
 use Rattle.std.specs.List.{Contains}
-use Rattle.std.proofs.lemmas.Option.{same_Some, slice_get_read}
-use Rattle.lra_linear.proofs.Membership.{map_from}
 use Rattle.lra_domain.specs.Meaning.{Meaning}
 use Rattle.lra_domain.specs.Laws.{Laws}
 use Rattle.lra_program.specs.Program.{Program}
 use Rattle.lra_program.specs.WellFormed.{AreGoodGlobals}
-use Rattle.lra_program.specs.Overflow.{Overflows}
+use Rattle.lra_program.specs.Overflow.{op_computes, OpOverflows, Overflows}
 use Rattle.lra_program.specs.Sites.{Site, sites_of}
 use Rattle.lra_operations.specs.Graph.{Node}
 use Rattle.lra_operations.specs.Agree.{point_of, Agrees}
-use Rattle.lra_operations.specs.Asked.{Asked, asked_in, AsksWell}
+use Rattle.lra_operations.specs.Asked.{Asked, AsksWell}
 use Rattle.lra_flow.specs.Plan.{Plan}
 use Rattle.lra_flow.specs.Pass.{Result}
 use Rattle.lra_flow.specs.Operations.{dropping}
 use Rattle.lra_flow.specs.Analysis.{Derivation, Solves}
-use Rattle.lra_flow.specs.Fits.{Judgement, fitting_of, AskedJudged, Judges}
+use Rattle.lra_flow.specs.Fits.{AskedJudged, Judges}
 use Rattle.lra_flow.proofs.FitsSound.{fitting_never_overflows}
 use Rattle.lra_source.specs.Soundness.{FittingIsSound}
+use Rattle.lra_source.proofs.Found.{found_of, one_asked_there}
 use Rattle.lra_source.proofs.Sound.{held_there}
-
--- at which place a member stands
-place_of : {A : Type 0} (xs : List A) (x : A) → Contains xs x → (i : ℕ) × (slice_get xs i ≡ Some x)
-place_of xs x h = (h.0, slice_get_read xs (length xs) h.0 x refl h.1 (sym h.2))
-
--- what is told is one of what was found
-pub found_of : (found : List Judgement) (q : ℕ) (b : Bool) → Contains (map fitting_of found) (q, b)
-    → (j : Judgement) × Contains found j × (j.point ≡ q) × (j.fits ≡ b)
-found_of found q b h =
-    let (j, among, is) = map_from fitting_of found (q, b) h in
-    (j, among, ap (λ (p : ℕ × Bool). p.0) is, ap (λ (p : ℕ × Bool). p.1) is)
-
--- a tree asks of one operation at a point
-pub one_asked_there : (P : Program) (g : Node) → AsksWell P g → (a b : Asked) → Contains (asked_in None g) a → Contains (asked_in None g) b → a.point ≡ b.point
-    → a ≡ b
-one_asked_there P g well a b x y same =
-    let (i, at) = place_of (asked_in None g) a x in
-    let (j, there) = place_of (asked_in None g) b y in
-    let e : i ≡ j = well.once i j a b at there same in
-    same_Some a b (sym at ∙ ap (λ (n : ℕ). slice_get (asked_in None g) n) e ∙ there)
 
 module _ (V H : Type 0) (m : Meaning V H) (laws : Laws m) (set : Plan) (P : Program) (good : AreGoodGlobals P.globals) (g : Node) (r : Result V)
     (derived : Derivation m set P g r) (agrees : Agrees P g) (values : List V) (verdicts : List (ℕ × Bool)) (flagged : Option ℕ)
@@ -53,7 +32,7 @@ module _ (V H : Type 0) (m : Meaning V H) (laws : Laws m) (set : Plan) (P : Prog
       let (j, among, at_point, fits) = found_of judges.found q so (subst (λ (xs : List (ℕ × Bool)). Contains xs (q, so)) judges.told told) in
       let (a, one, point, judged) = judges.is_asked j among in
       let (b, other, there, stops) = well.there q s c site reaches on over in
-      let same : b ≡ a = one_asked_there P g well b a other one (there ∙ sym (point ∙ at_point)) in
+      let same : b ≡ a = one_asked_there op_computes OpOverflows P g well b a other one (there ∙ sym (point ∙ at_point)) in
       let (v, found, held, long) = held_there V H m laws set P good g r derived agrees values verdicts flagged solves q s c.state.store site
       (c, reaches, on, refl) in
       let here : slice_get values b.point ≡ Some v = ap (λ (n : ℕ). slice_get values n) there ∙ found in

@@ -1,11 +1,14 @@
 -- What an iteration over a program's tree hands to whoever lists it: as many values as points, each as wide as its point, and one verdict for
 -- each assertion.
-use Rattle.std.proofs.Common.{◌≡◌, ℕ, zero, suc, ◌≤◌, ◌<◌, List, [], ◌∷◌, length, map, Option, Some, None, Bool, true, false, cond, refl, sym, ap, ◌∙◌, subst, arith}
+use Rattle.std.proofs.Common.{◌≡◌, ℕ, zero, suc, ◌≤◌, ◌<◌, List, [], ◌∷◌, length, map, Option, Some, None, Bool, true, false, cond, refl, sym, ap, ◌∙◌}
+use Rattle.std.proofs.Common.{◌+◌, subst, arith, inl, inr}
 use Rattle.std.specs.Prelude.{slice_get, IsTrue}
-use Rattle.std.specs.List.{AllByRecursion, Contains}
+use Rattle.std.specs.List.{AllByRecursion, Contains, flat_map}
 use Rattle.std.proofs.lemmas.List.{length-map}
+use Rattle.std.proofs.lemmas.List.Elements.{Contains-append_cases}
 use Rattle.std.proofs.lemmas.Option.{none-some, same_Some}
-use Rattle.lra_linear.proofs.Membership.{contains_head, contains_tail, map_from}
+use Rattle.lra_linear.proofs.Membership.{contains_cases, contains_head, contains_none, contains_tail, map_from}
+use Rattle.lra_base.specs.declared.refusals.Place.{Place}
 use Rattle.lra_domain.specs.Meaning.{Meaning}
 use Rattle.lra_domain.specs.Laws.{Laws}
 use Rattle.lra_program.specs.Program.{Program}
@@ -16,13 +19,14 @@ use Rattle.lra_options.specs.declared.options.Domain.{Domain}
 use Rattle.lra_report.specs.Report.{Invariant}
 use Rattle.lra_report.specs.Listing.{HasWidth}
 use Rattle.lra_report.specs.declared.verdict_kinds.VerdictKind.{VerdictKind}
+use Rattle.lra_report.specs.declared.verdict_kinds.VerdictKind.TheVariants.{Access}
 use Rattle.lra_flow.specs.Plan.{Plan}
 use Rattle.lra_flow.specs.Operations.{dropping}
 use Rattle.lra_flow.specs.Pass.{Result}
 use Rattle.lra_flow.specs.Analysis.{Derivation, Solves}
 use Rattle.lra_iter.specs.Numbers.{values_in, checks_in, asserts_of, IsNumbered}
 use Rattle.lra_iter.proofs.Counting.{Found, iteration_found, value_counted, failing_counted, counted_value, counted_failing}
-use Rattle.lra_listing.specs.Given.{IsAssertion, told}
+use Rattle.lra_listing.specs.Given.{IsAssertion, Told, told, told_from, told_accesses}
 use Rattle.lra_states.specs.Canonical.{AreCanonicallyShown, IsCanonicalState}
 use Rattle.lra_states.specs.Shown.{AreShown}
 use Rattle.lra_source.proofs.Numbering.{numbered}
@@ -51,15 +55,51 @@ contained (y ∷ xs) zero x e = subst (λ (z : _). Contains (y ∷ xs) z) (same_
 contained (y ∷ xs) (suc k) x e = contains_tail y x xs (contained xs k x e)
 
 -- a verdict that is told is one of its kind
-pub one_told : (own : VerdictKind) (vs : List (ℕ × Bool)) (kind : VerdictKind) (n : ℕ) (b : Bool) → Contains (map (told own) vs) (kind, n, b)
+pub one_told : (own : VerdictKind) (vs : List (ℕ × Bool)) (kind : VerdictKind) (n which : ℕ) (b : Bool) → Contains (map (told own) vs) (kind, n, which, b)
     → (q : ℕ) × (kind ≡ own) × (n ≡ suc q) × Contains vs (q, b)
-one_told own vs kind n b h =
-    let (v, among, is) = map_from (told own) vs (kind, n, b) h in (
+one_told own vs kind n which b h =
+    let (v, among, is) = map_from (told own) vs (kind, n, which, b) h in (
       v.0,
-      sym (ap (λ (z : VerdictKind × ℕ × Bool). z.0) is),
-      sym (ap (λ (z : VerdictKind × ℕ × Bool). z.1) is),
-      subst (λ (c : Bool). Contains vs (v.0, c)) (ap (λ (z : VerdictKind × ℕ × Bool). z.2) is) among,
+      sym (ap (λ (z : Told). z.0) is),
+      sym (ap (λ (z : Told). z.1) is),
+      subst (λ (c : Bool). Contains vs (v.0, c)) (ap (λ (z : Told). z.3) is) among,
     )
+
+-- one of an access is one of those at its point
+told_nth : (number first : ℕ) (js : List (Place × Bool)) (kind : VerdictKind) (n which : ℕ) (b : Bool)
+    → Contains (told_from number first js) (kind, n, which, b)
+    → (k : ℕ) × (place : Place) × (kind ≡ Access) × (n ≡ number) × (which ≡ first + k) × (slice_get js k ≡ Some (place, b))
+told_nth number first [] kind n which b h = absurd (contains_none (kind, n, which, b) h)
+told_nth number first (j ∷ js) kind n which b h =
+    elim (contains_cases (Access, number, first, j.1) (kind, n, which, b) (told_from number (suc first) js) h) [
+      | inl is ↦ (
+        0,
+        j.0,
+        sym (ap (λ (z : Told). z.0) is),
+        sym (ap (λ (z : Told). z.1) is),
+        sym (ap (λ (z : Told). z.2) is) ∙ omega arith,
+        ap (λ (z : Told). Some (j.0, z.3)) is,
+      )
+      | inr later ↦
+          let (k, place, own, same, from, there) = told_nth number (suc first) js kind n which b later in
+          (suc k, place, own, same, from ∙ omega arith, there)
+    ]
+
+pub one_access : (vs : List (ℕ × List (Place × Bool))) (kind : VerdictKind) (n which : ℕ) (b : Bool)
+    → Contains (flat_map told_accesses vs) (kind, n, which, b)
+    → (q : ℕ) × (js : List (Place × Bool)) × (place : Place) × (kind ≡ Access) × (n ≡ suc q) × Contains vs (q, js)
+    × (slice_get js which ≡ Some (place, b))
+one_access [] kind n which b h = absurd (contains_none (kind, n, which, b) h)
+one_access (v ∷ vs) kind n which b h =
+    elim (Contains-append_cases (told_accesses v) (flat_map told_accesses vs) (kind, n, which, b) h) [
+      | inl here ↦
+          let (k, place, own, same, from, there) = told_nth (suc v.0) 0 v.1 kind n which b here in
+          let whole : which ≡ k = omega (arith, from) in
+          (v.0, v.1, place, own, same, contains_head v vs, ap (slice_get v.1) whole ∙ there)
+      | inr later ↦
+          let (q, js, place, own, same, among, there) = one_access vs kind n which b later in
+          (q, js, place, own, same, contains_tail v (q, js) vs among, there)
+    ]
 
 -- assertions ---------------------------------------------------------------------------------------------------------
 

@@ -2,8 +2,11 @@ pub mod Fitting
 pub mod Sound
 pub mod Numbering
 pub mod Flags
+pub mod Found
 pub mod FitsHold
 pub mod FitsHanded
+pub mod AccessesHold
+pub mod AccessesHanded
 pub mod Reports
 pub mod StageSteps
 pub mod Widths

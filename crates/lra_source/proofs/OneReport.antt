@@ -1,8 +1,8 @@
 -- Two answers to one source without a flag are the same report.
-use Rattle.std.proofs.Common.{◌≡◌, ◌∙◌, ℕ, zero, suc, ℤ, List, [], ◌∷◌, map, Option, None, Some, Bool, true, false, arith, refl, sym, ap, subst, inl, inr}
-use Rattle.std.specs.Prelude.{option_map}
-use Rattle.std.specs.List.{Contains}
-use Rattle.std.proofs.lemmas.Option.{none-some}
+use Rattle.std.proofs.Common.{◌≡◌, ◌∙◌, ◌++◌, ℕ, zero, suc, ℤ, List, [], ◌∷◌, map, Option, None, Some, Bool, true, false, arith, refl, sym, ap, subst, inl, inr}
+use Rattle.std.specs.Prelude.{◌⊎◌, option_map, slice_get}
+use Rattle.std.specs.List.{Contains, flat_map}
+use Rattle.std.proofs.lemmas.Option.{none-some, same_Some}
 use Rattle.lra_linear.proofs.Membership.{contains_head, contains_tail, contains_none}
 use Rattle.lra_domain.specs.Laws.{SingleLaws, PlainLaws}
 use Rattle.lra_box.specs.Laws.{box_single, box_plain}
@@ -16,29 +16,37 @@ use Rattle.lra_states.specs.Sets.{shown_set}
 use Rattle.lra_meaning.specs.LiveNames.{globals_named}
 use Rattle.lra_options.specs.declared.options.Domain.{Domain}
 use Rattle.lra_options.specs.declared.options.Domain.TheVariants.{Poly, Box, Oct}
+use Rattle.lra_base.specs.declared.refusals.Place.{Place}
 use Rattle.lra_domain.specs.Meaning.{Meaning}
+use Rattle.lra_domain.specs.declared.Exactness.{Exactness}
 use Rattle.lra_tree.specs.Trees.{FileTree}
 use Rattle.lra_tree.specs.Labels.{Labelled, labels_of}
 use Rattle.lra_tree.specs.Grammar.{Spells}
 use Rattle.lra_meaning.specs.Refuse.{OneAnswer}
 use Rattle.lra_meaning.specs.Resolve.{resolve}
+use Rattle.lra_program.specs.Accesses.{op_accesses_any, OpStrays}
+use Rattle.lra_program.specs.Overflow.{op_computes, OpOverflows}
 use Rattle.lra_program.specs.Program.{Program}
+use Rattle.lra_program.specs.Step.{Op, State}
 use Rattle.lra_program.specs.Sites.{Site, sites_of}
 use Rattle.lra_options.specs.declared.options.Options.{Options}
 use Rattle.lra_report.specs.Report.{Invariant, PointReport, Report, Verdict}
 use Rattle.lra_report.specs.declared.verdict_kinds.VerdictKind.{VerdictKind}
-use Rattle.lra_report.specs.declared.verdict_kinds.VerdictKind.TheVariants.{Assertion, Fit}
+use Rattle.lra_report.specs.declared.verdict_kinds.VerdictKind.TheVariants.{Assertion, Fit, Access}
 use Rattle.lra_report.specs.Listing.{AreListed, Subject, subjects, AreJudged, Lists, listed_point, listed_verdict}
-use Rattle.lra_listing.specs.Given.{told, told_all, told_of, state_of}
+use Rattle.lra_listing.specs.Given.{Told, told, told_accesses, told_all, told_of, state_of}
 use Rattle.lra_operations.specs.Graph.{Node}
-use Rattle.lra_operations.specs.Asked.{Asked, AsksWell}
+use Rattle.lra_operations.specs.Asked.{Asked, AsksFor, AsksWell, AccessesWell, accessed_in, asking_in}
 use Rattle.lra_flow.specs.Operations.{defined, dropping}
-use Rattle.lra_flow.specs.Fits.{AskedJudged, Judges, JudgesIf}
+use Rattle.lra_flow.specs.Judging.{AskedTold, Finds}
+use Rattle.lra_flow.specs.Fits.{OpFits, JudgesIf}
+use Rattle.lra_flow.specs.Accesses.{OpInside, JudgesAccesses}
 use Rattle.lra_flow.proofs.OneIteration.{defined_single}
 use Rattle.lra_flow.proofs.OneJudgement.{one_asked}
+use Rattle.lra_flow.proofs.OneAccess.{one_asked_inside}
 use Rattle.std.proofs.lemmas.List.Elements.{Contains-append_cases}
-use Rattle.lra_source.proofs.FitsHold.{found_of, one_asked_there}
-use Rattle.lra_source.proofs.Handing.{one_told}
+use Rattle.lra_source.proofs.Found.{found_of, none_before, one_asked_there}
+use Rattle.lra_source.proofs.Handing.{one_access, one_told}
 use Rattle.lra_source.proofs.FitsHanded.{unflagged_before}
 use Rattle.lra_front.specs.Stages.{OneConstants}
 use Rattle.lra_flow.specs.Plan.{plan_of}
@@ -72,9 +80,13 @@ same_points outside ls n (t ∷ T) (p ∷ ps) (q ∷ qs) a b s =
     rest_of [] = []
     rest_of (x ∷ xs) = xs
 
--- the verdicts on the same subjects that say the same of each kind and number
+-- of each kind, number and which of its kind both say the same
+abbrev SayOne : List Told → List Told → Type 0
+SayOne vs ws = (k : VerdictKind) (n i : ℕ) (a b : Bool) → Contains vs (k, n, i, a) → Contains ws (k, n, i, b) → a ≡ b
+
+-- the verdicts on the same subjects that say the same of each of these
 same_verdicts : (ls : List Labelled) (xs : List Subject) (vs ws : List Verdict) → AreJudged ls xs vs → AreJudged ls xs ws
-    → ((k : VerdictKind) (n : ℕ) (a b : Bool) → Contains (map told_of vs) (k, n, a) → Contains (map told_of ws) (k, n, b) → a ≡ b) → vs ≡ ws
+    → SayOne (map told_of vs) (map told_of ws) → vs ≡ ws
 same_verdicts ls [] [] [] a b same = refl
 same_verdicts ls [] [] (w ∷ ws) a b same = absurd b
 same_verdicts ls [] (v ∷ vs) ws a b same = absurd a
@@ -82,94 +94,156 @@ same_verdicts ls (x ∷ xs) [] ws a b same = absurd a
 same_verdicts ls (x ∷ xs) (v ∷ vs) [] a b same = absurd b
 same_verdicts ls (x ∷ xs) (v ∷ vs) (w ∷ ws) a b same =
     let number : w.number ≡ v.number = ap (λ (u : Verdict). u.number) b.0 ∙ sym (ap (λ (u : Verdict). u.number) a.0) in
+    let which : w.which ≡ v.which = ap (λ (u : Verdict). u.which) b.0 ∙ sym (ap (λ (u : Verdict). u.which) a.0) in
     let kind : w.kind ≡ v.kind = ap (λ (u : Verdict). u.kind) b.0 ∙ sym (ap (λ (u : Verdict). u.kind) a.0) in
-    let one : v.holds ≡ w.holds = same v.kind v.number v.holds w.holds (contains_head (told_of v) (map told_of vs))
-    (subst (λ k. Contains (map told_of (w ∷ ws)) (k, v.number, w.holds)) kind
-    (subst (λ n. Contains (map told_of (w ∷ ws)) (w.kind, n, w.holds)) number (contains_head (told_of w) (map told_of ws)))) in
+    let one : v.holds ≡ w.holds = same v.kind v.number v.which v.holds w.holds (contains_head (told_of v) (map told_of vs))
+    (subst (λ k. Contains (map told_of (w ∷ ws)) (k, v.number, v.which, w.holds)) kind
+    (subst (λ n. Contains (map told_of (w ∷ ws)) (w.kind, n, v.which, w.holds)) number
+    (subst (λ i. Contains (map told_of (w ∷ ws)) (w.kind, w.number, i, w.holds)) which (contains_head (told_of w) (map told_of ws))))) in
     let head : v ≡ w = a.0 ∙ ap (listed_verdict ls x) one ∙ sym b.0 in
     let tail : vs ≡ ws = same_verdicts ls xs vs ws a.1 b.1
-    (λ k n c d i j. same k n c d (contains_tail (told_of v) (k, n, c) (map told_of vs) i) (contains_tail (told_of w) (k, n, d) (map told_of ws) j)) in
+    (λ k n i c d p q. same k n i c d (contains_tail (told_of v) (k, n, i, c) (map told_of vs) p)
+    (contains_tail (told_of w) (k, n, i, d) (map told_of ws) q)) in
     rw (head, tail) refl
 
--- of both kinds: what says the same of each says the same of both
-all_same : (vs us fs gs : List (ℕ × Bool)) → ((q : ℕ) (a b : Bool) → Contains vs (q, a) → Contains us (q, b) → a ≡ b) →
-    ((q : ℕ) (a b : Bool) → Contains fs (q, a) → Contains gs (q, b) → a ≡ b)
-    → (k : VerdictKind) (n : ℕ) (a b : Bool) → Contains (told_all vs fs) (k, n, a) → Contains (told_all us gs) (k, n, b) → a ≡ b
-all_same vs us fs gs one two k n a b i j =
-    elim (Contains-append_cases (map (told Assertion) vs) (map (told Fit) fs) (k, n, a) i) [
-      | inl x ↦
-          let (p, own, is, has) = one_told Assertion vs k n a x in
-          elim (Contains-append_cases (map (told Assertion) us) (map (told Fit) gs) (k, n, b) j) [
-            | inl y ↦ let (q, also, same, there) = one_told Assertion us k n b y in one p a b has
-                (subst (λ l. Contains us (l, b)) (equal q p n same is) there)
-            | inr y ↦ let (q, also, same, there) = one_told Fit gs k n b y in absurd (apart k own also)
-          ]
-      | inr x ↦
-          let (p, own, is, has) = one_told Fit fs k n a x in
-          elim (Contains-append_cases (map (told Assertion) us) (map (told Fit) gs) (k, n, b) j) [
-            | inl y ↦ let (q, also, same, there) = one_told Assertion us k n b y in absurd (apart k also own)
-            | inr y ↦ let (q, also, same, there) = one_told Fit gs k n b y in two p a b has (subst (λ l. Contains gs (l, b)) (equal q p n same is) there)
-          ]
-    ]
-  where
-    apart : (k : VerdictKind) → k ≡ Assertion → k ≡ Fit → ⊥
-    apart k e f = cc
+-- two lists of answers by points that give no point two
+abbrev AgreeBy : {A : Type 0} → List (ℕ × A) → List (ℕ × A) → Type 0
+AgreeBy {A} xs ys = (q : ℕ) (a b : A) → Contains xs (q, a) → Contains ys (q, b) → a ≡ b
 
-    equal : (q p n : ℕ) → n ≡ suc q → n ≡ suc p → q ≡ p
-    equal q p n e f = omega (arith, e, f)
+-- what agrees of each kind says the same of all
+module _ (vs us fs gs : List (ℕ × Bool)) (ones others : List (ℕ × List (Place × Bool)))
+    (one : AgreeBy vs us) (two : AgreeBy fs gs) (three : AgreeBy ones others) where
+  equal : (q p n : ℕ) → n ≡ suc q → n ≡ suc p → q ≡ p
+  equal q p n e f = omega (arith, e, f)
+
+  -- verdicts of one kind and one of these lists
+  same_of : (own : VerdictKind) (xs ys : List (ℕ × Bool)) → AgreeBy xs ys → (k : VerdictKind) (n i : ℕ) (a b : Bool)
+      → Contains (map (told own) xs) (k, n, i, a) → Contains (map (told own) ys) (k, n, i, b) → a ≡ b
+  same_of own xs ys agree k n i a b x y =
+      let (p, mine, is, has) = one_told own xs k n i a x in
+      let (q, also, same, there) = one_told own ys k n i b y in
+      agree p a b has (subst (λ (l : ℕ). Contains ys (l, b)) (equal q p n same is) there)
+
+  -- one access is told once
+  same_access : (k : VerdictKind) (n i : ℕ) (a b : Bool) → Contains (flat_map told_accesses ones) (k, n, i, a)
+      → Contains (flat_map told_accesses others) (k, n, i, b) → a ≡ b
+  same_access k n i a b x y =
+      let (p, js, here, mine, number, has, first) = one_access ones k n i a x in
+      let (q, ks, there, also, same, too, second) = one_access others k n i b y in
+      let lists : js ≡ ks = three p js ks has (subst (λ (l : ℕ). Contains others (l, ks)) (equal q p n same number) too) in
+      ap (λ (j : Place × Bool). j.1) (same_Some (here, a) (there, b) (sym first ∙ ap (λ (l : List (Place × Bool)). slice_get l i) lists ∙ second))
+
+  -- of which kind a verdict is told
+  abbrev Rest : List (ℕ × Bool) → List (ℕ × List (Place × Bool)) → List Told
+  Rest xs js = map (told Fit) xs ++ flat_map told_accesses js
+
+  kinds_of : (xs : List (ℕ × Bool)) (js : List (ℕ × List (Place × Bool))) (k : VerdictKind) (n i : ℕ) (b : Bool)
+      → Contains (Rest xs js) (k, n, i, b) → (k ≡ Fit) ⊎ (k ≡ Access)
+  kinds_of xs js k n i b x = elim (Contains-append_cases (map (told Fit) xs) (flat_map told_accesses js) (k, n, i, b) x)
+      [ inl y ↦ inl (one_told Fit xs k n i b y).1 | inr y ↦ inr (one_access js k n i b y).3 ]
+
+  never_rest : (k : VerdictKind) → k ≡ Assertion → (k ≡ Fit) ⊎ (k ≡ Access) → ⊥
+  never_rest k e (inl f) = cc
+  never_rest k e (inr f) = cc
+
+  never_both : (k : VerdictKind) → k ≡ Fit → k ≡ Access → ⊥
+  never_both k e f = cc
+
+  rest_same : SayOne (Rest fs ones) (Rest gs others)
+  rest_same k n i a b x y = elim (Contains-append_cases (map (told Fit) fs) (flat_map told_accesses ones) (k, n, i, a) x) [
+    | inl p ↦ elim (Contains-append_cases (map (told Fit) gs) (flat_map told_accesses others) (k, n, i, b) y) [
+      | inl q ↦ same_of Fit fs gs two k n i a b p q
+      | inr q ↦ absurd (never_both k (one_told Fit fs k n i a p).1 (one_access others k n i b q).3)
+    ]
+    | inr p ↦ elim (Contains-append_cases (map (told Fit) gs) (flat_map told_accesses others) (k, n, i, b) y) [
+      | inl q ↦ absurd (never_both k (one_told Fit gs k n i b q).1 (one_access ones k n i a p).3)
+      | inr q ↦ same_access k n i a b p q
+    ]
+  ]
+
+  all_same : SayOne (told_all vs fs ones) (told_all us gs others)
+  all_same k n i a b x y = elim (Contains-append_cases (map (told Assertion) vs) (Rest fs ones) (k, n, i, a) x) [
+    | inl p ↦ elim (Contains-append_cases (map (told Assertion) us) (Rest gs others) (k, n, i, b) y) [
+      | inl q ↦ same_of Assertion vs us one k n i a b p q
+      | inr q ↦ absurd (never_rest k (one_told Assertion vs k n i a p).1 (kinds_of gs others k n i b q))
+    ]
+    | inr p ↦ elim (Contains-append_cases (map (told Assertion) us) (Rest gs others) (k, n, i, b) y) [
+      | inl q ↦ absurd (never_rest k (one_told Assertion us k n i b q).1 (kinds_of fs ones k n i a p))
+      | inr q ↦ rest_same k n i a b p q
+    ]
+  ]
 
 -- what is judged twice of the same values is one thing
-module _ {V H : Type 0} (m : Meaning V H) (laws : SingleLaws m) (P : Program) (g : Node) (well : AsksWell P g) (values : List V) where
-  judged_once : (fs gs : List (ℕ × Bool)) (c d : Option ℕ) → Judges m (defined m) g values None fs c → Judges m (defined m) g values None gs d
-      → (q : ℕ) (a b : Bool) → Contains fs (q, a) → Contains gs (q, b) → a ≡ b
-  judged_once fs gs c d x y q a b i j =
-      let (k, among, at, fits) = found_of x.found q a (subst (λ l. Contains l (q, a)) x.told i) in
-      let (l, also, there, same) = found_of y.found q b (subst (λ l. Contains l (q, b)) y.told j) in
+module _ {V H A : Type 0} (m : Meaning V H) (asks : Op → Bool) (Q : Op → State → Type 0) (Told : Op → V → A → Exactness → Type 0)
+    (one_answer : (values : List V) (a : Asked) (x y : A) (e f : Exactness) → AskedTold (defined m) Told values a x e
+    → AskedTold (defined m) Told values a y f → x ≡ y)
+    (P : Program) (g : Node) (well : AsksFor asks Q P g) (values : List V) where
+  found_once : (xs ys : List (ℕ × A)) (c d : Option ℕ) → Finds (defined m) Told (asking_in asks None g) values None xs c
+      → Finds (defined m) Told (asking_in asks None g) values None ys d → AgreeBy xs ys
+  found_once xs ys c d x y q a b i j =
+      let (k, among, at, is) = found_of x.found q a (subst (λ (l : List (ℕ × A)). Contains l (q, a)) x.told i) in
+      let (l, also, there, same) = found_of y.found q b (subst (λ (l : List (ℕ × A)). Contains l (q, b)) y.told j) in
       let (u, one, point, judged) = x.is_asked k among in
       let (w, two, place, other) = y.is_asked l also in
-      let equal : w ≡ u = one_asked_there P g well w u two one (place ∙ there ∙ sym (point ∙ at)) in
-      let here : AskedJudged m (defined m) values u l.fits l.exactness = subst (λ (z : Asked). AskedJudged m (defined m) values z l.fits l.exactness) equal
-      other in
-      sym fits ∙ one_asked m (defined m) (defined_single m laws) values u k.fits l.fits k.exactness l.exactness judged here ∙ same
+      let equal : w ≡ u = one_asked_there asks Q P g well w u two one (place ∙ there ∙ sym (point ∙ at)) in
+      let here : AskedTold (defined m) Told values u l.answer l.exactness =
+      subst (λ (z : Asked). AskedTold (defined m) Told values z l.answer l.exactness) equal other in
+      sym is ∙ one_answer values u k.answer l.answer k.exactness l.exactness judged here ∙ same
 
-  judged_same : (b : Bool) (fs gs : List (ℕ × Bool)) → JudgesIf m (defined m) b g values None fs None → JudgesIf m (defined m) b g values None gs None
-      → (q : ℕ) (a c : Bool) → Contains fs (q, a) → Contains gs (q, c) → a ≡ c
-  judged_same true fs gs x y q a c i j = judged_once fs gs None None x y q a c i j
-  judged_same false fs gs x y q a c i j = absurd (contains_none (q, a) (subst (λ l. Contains l (q, a)) x.0 i))
+module _ {V H : Type 0} (m : Meaning V H) (laws : SingleLaws m) (P : Program) (g : Node) (values : List V) where
+  judged_same : AsksWell P g → (b : Bool) (fs gs : List (ℕ × Bool)) → JudgesIf m (defined m) b g values None fs None
+      → JudgesIf m (defined m) b g values None gs None → AgreeBy fs gs
+  judged_same well true fs gs x y = found_once m op_computes OpOverflows (OpFits m (defined m)) (one_asked m (defined m) (defined_single m laws)) P g well
+      values fs gs None None x y
+  judged_same well false fs gs x y = λ q a c i j. absurd (contains_none (q, a) (subst (λ (l : List (ℕ × Bool)). Contains l (q, a)) x.0 i))
+
+  accessed_same : AccessesWell P g → (ones others : List (ℕ × List (Place × Bool))) → JudgesAccesses m (defined m) g values None ones None
+      → JudgesAccesses m (defined m) g values None others None → AgreeBy ones others
+  accessed_same well ones others x y = found_once m op_accesses_any (λ op t. OpStrays op t 0) (OpInside m (defined m))
+      (one_asked_inside m (defined m) (defined_single m laws)) P g (well 0) values ones others None None x y
 
 one_flag : (f : Option ℕ) (told : Option ℕ) → told ≡ option_map suc f → told ≡ None → f ≡ None
 one_flag None told is none = refl
 one_flag (Some q) told is none = absurd (none-some _ (sym none ∙ is))
 
-unflagged_first : {V H : Type 0} (m : Meaning V H) {shown : V → Invariant} {o : Options} {constants : List ℤ} {P : Program} {r : Report} →
-    (x : IsAnalysed m shown o constants P r)
-    → x.behind ≡ None → x.flagged ≡ None
-unflagged_first m {o = o} x none = unflagged_before m (dropping m) o.fits x.tree x.values x.flagged x.fitting x.behind none x.judged
+-- where nothing is flagged last, nothing is before
+module _ {V H : Type 0} (m : Meaning V H) {shown : V → Invariant} {o : Options} {constants : List ℤ} {P : Program} {r : Report}
+    (x : IsAnalysed m shown o constants P r) (none : x.last ≡ None) where
+  pub unflagged_behind : x.behind ≡ None
+  unflagged_behind = none_before (dropping m) (OpInside m (dropping m)) (accessed_in None x.tree) x.values x.behind x.inside x.last x.accessed none
 
--- two reports that tell the written iteration of one program show the same states, and the same of each assertion and of
--- what fits
+  pub unflagged_first : x.flagged ≡ None
+  unflagged_first = unflagged_before m (dropping m) o.fits x.tree x.values x.flagged x.fitting x.behind unflagged_behind x.judged
+
+-- two reports that tell the written iteration of one program show the same states, and the same of each assertion, of what
+-- fits and of each access
 pub record SayTheSame (r s : Report) : Type 0 where
   pub states : map state_of r.points ≡ map state_of s.points
-  pub verdicts : (k : VerdictKind) (n : ℕ) (a b : Bool) → Contains (map told_of r.verdicts) (k, n, a) → Contains (map told_of s.verdicts) (k, n, b) → a ≡ b
+  pub verdicts : SayOne (map told_of r.verdicts) (map told_of s.verdicts)
 
 pub one_analysis : {V H : Type 0} (m : Meaning V H) → SingleLaws m → (shown : V → Invariant) (o : Options) (constants : List ℤ) (P : Program) (r s : Report) → IsAnalysed m shown o constants P r
     → IsAnalysed m shown o constants P s
     → r.flagged ≡ None → s.flagged ≡ None → SayTheSame r s
-one_analysis m laws shown o constants P r s a b e f =
+one_analysis {V} m laws shown o constants P r s a b e f =
     let plan = plan_of o constants in
     let tree : b.tree ≡ a.tree = one_tree P b.tree a.tree b.is_graph a.is_graph in
-    let first : Written m plan P a.tree a.result = a.written (unflagged_first m a (one_flag a.behind r.flagged a.flag e)) in
-    let second : Written m plan P a.tree b.result = subst (λ (g : Node). Written m plan P g b.result) tree
-    (b.written (unflagged_first m b (one_flag b.behind s.flagged b.flag f))) in
+    let first_none = one_flag a.last r.flagged a.flag e in
+    let second_none = one_flag b.last s.flagged b.flag f in
+    let first : Written m plan P a.tree a.result = a.written (unflagged_first m a first_none) in
+    let second : Written m plan P a.tree b.result = subst (λ (g : Node). Written m plan P g b.result) tree (b.written (unflagged_first m b second_none)) in
     let one = one_solution m laws plan P a.tree a.result b.result a.values b.values a.verdicts b.verdicts a.flagged b.flagged (numbered P a.tree a.is_graph) first second a.solves b.solves in
+    let fits : AgreeBy a.fitting b.fitting = judged_same m laws P a.tree a.values a.asks o.fits a.fitting b.fitting
+    (a.judged_written (unflagged_behind m a first_none))
+    (subst (λ (vs : List V). JudgesIf m (defined m) o.fits a.tree vs None b.fitting None) (sym one.0)
+    (subst (λ (g : Node). JudgesIf m (defined m) o.fits g b.values None b.fitting None) tree (b.judged_written (unflagged_behind m b second_none)))) in
+    let accesses : AgreeBy a.inside b.inside = accessed_same m laws P a.tree a.values a.accesses a.inside b.inside (a.accessed_written first_none)
+    (subst (λ (vs : List V). JudgesAccesses m (defined m) a.tree vs None b.inside None) (sym one.0)
+    (subst (λ (g : Node). JudgesAccesses m (defined m) g b.values None b.inside None) tree (b.accessed_written second_none))) in
     record {
       states = a.states ∙ ap (map shown) one.0 ∙ sym b.states;
-      verdicts = λ k n c d i j.
-          all_same a.verdicts b.verdicts a.fitting b.fitting one.1 (judged_same m laws P a.tree a.asks a.values o.fits a.fitting b.fitting
-          (a.judged_written (one_flag a.behind r.flagged a.flag e))
-          (subst (λ (vs : _). JudgesIf m (defined m) o.fits a.tree vs None b.fitting None) (sym one.0)
-          (subst (λ (g : Node). JudgesIf m (defined m) o.fits g b.values None b.fitting None) tree (b.judged_written (one_flag b.behind s.flagged b.flag f)))))
-          k n c d (subst (λ l. Contains l (k, n, c)) a.proved i) (subst (λ l. Contains l (k, n, d)) b.proved j);
+      verdicts = λ k n i c d x y.
+          all_same a.verdicts b.verdicts a.fitting b.fitting a.inside b.inside one.1 fits accesses k n i c d
+          (subst (λ (l : List Told). Contains l (k, n, i, c)) a.proved x) (subst (λ (l : List Told). Contains l (k, n, i, d)) b.proved y);
     }
 
 -- what follows of two things that are said of each domain with one value of each definition follows of those that are said

@@ -1,13 +1,17 @@
 -- From the tree of operations of a source to its report: what the iteration and the listing ask, and what they give.
 use Rattle.lra_program.specs.declared.program.GlobalVariable.{GlobalVariable}
 use Rattle.lra_program.specs.WellFormed.{AreGoodGlobals}
-use Rattle.std.proofs.Common.{◌≡◌, ◌≤◌, ◌<◌, ◌+◌, ℕ, suc, ℤ, List, [], ◌∷◌, length, map, Bool, true, false, Option, Some, None, refl, sym, ap, ◌∙◌, subst}
+use Rattle.std.proofs.Common.{◌≡◌, ◌≤◌, ◌<◌, ◌+◌, ℕ, suc, ℤ, List, [], ◌∷◌, length, map, Bool, true, false, Option, Some, None, refl, sym, ap, ap₂, ◌∙◌, subst}
 use Rattle.std.proofs.Common.{arith}
 use Rattle.std.specs.Prelude.{option_map, nat_lt, if◌then◌else◌, slice_get}
 use Rattle.std.specs.List.{AllByRecursion}
 use Rattle.std.proofs.lemmas.Bool.Decides.{nat_tests}
+use Rattle.lra_base.specs.declared.refusals.Place.{Place}
 use Rattle.lra_base.specs.declared.refusals.Refusal.{Refusal}
+use Rattle.lra_program.specs.Accesses.{op_accesses_any}
+use Rattle.lra_program.specs.Overflow.{op_computes}
 use Rattle.lra_program.specs.Program.{Program}
+use Rattle.lra_program.specs.Step.{Op}
 use Rattle.lra_program.specs.declared.program.Program as declared
 use Rattle.lra_program.specs.ProgramViews.{program_view}
 use Rattle.lra_tree.specs.Trees.{FileTree}
@@ -26,8 +30,9 @@ use Rattle.lra_flow.specs.Room.{most_live}
 use Rattle.lra_flow.specs.Plan.{Plan, plan_of}
 use Rattle.lra_outcomes.specs.Fits.{TreeFits}
 use Rattle.lra_iter.specs.Numbers.{IsNumbered}
+use Rattle.lra_iter.specs.Numbers as numbers
 use Rattle.lra_iter.specs.Solved.{IsSolved}
-use Rattle.lra_listing.specs.Given.{AreInvariants, AreVerdicts, AreFitting, state_of, told_of, told_all}
+use Rattle.lra_listing.specs.Given.{AreInvariants, AreVerdicts, AreFitting, AreInside, Told, state_of, told_of, told_all}
 use Rattle.lra_report.specs.Spelled.{IsSpelledPart}
 use Rattle.lra_states.specs.Canonical.{AreCanonicallyShown}
 use Rattle.lra_states.specs.Shown.{AreShown}
@@ -38,16 +43,20 @@ use Rattle.lra_source.proofs.Numbering.{numbered}
 use Rattle.std.specs.Prelude.{All, get_or}
 use Rattle.std.proofs.lemmas.Option.{slice_get-get_or}
 use Rattle.lra_operations.specs.Agree.{IsGraph}
-use Rattle.lra_operations.specs.Asked.{asked_in}
+use Rattle.lra_operations.specs.Asked.{AccessesWell, accessed_in, asked_in, asking_in}
 use Rattle.lra_flow.specs.Operations.{defined, dropping, straining}
-use Rattle.lra_flow.specs.Fits.{JudgesIf}
+use Rattle.lra_flow.specs.Fits.{OpFits, JudgesIf}
+use Rattle.lra_flow.specs.Accesses.{OpInside, JudgesAccesses}
 use Rattle.lra_flow.proofs.OneJudgement.{judged_written, judged_strained}
+use Rattle.lra_flow.proofs.OneAccess.{accesses_written, accesses_strained}
 use Rattle.lra_flow.proofs.OneTree.{one_tree}
 use Rattle.lra_fits.specs.Judged.{AreBelow}
-use Rattle.lra_agreement.proofs.Asked.{graphs_ask_well}
+use Rattle.lra_agreement.proofs.Asked.{graphs_access_well, graphs_ask_well}
 use Rattle.lra_agreement.proofs.DistinctSites.{distinct_sites}
 use Rattle.lra_source.proofs.Flags.{graph_below}
-use Rattle.lra_source.proofs.FitsHanded.{asked_below, fitting_on, flagged_below, site_there, unflagged_before}
+use Rattle.lra_source.proofs.Found.{asked_one, flagged_below, none_before, site_there}
+use Rattle.lra_source.proofs.FitsHanded.{fitting_on, unflagged_before}
+use Rattle.lra_source.proofs.AccessesHanded.{inside_on}
 use Rattle.lra_source.proofs.Handing.{as_many, value_dims, states_as_many, of_assertions, of_all, states_canonical, states_wide, flag_there}
 use Rattle.lra_source.proofs.Readable.{canonical, readable}
 
@@ -117,6 +126,9 @@ canonical_there {V} dims shown domain named values listed is same are =
 
 -- what the listing asks ----------------------------------------------------------------------------------------------
 
+accesses_well : (t : FileTree) (g : Node) (sites : List Site) → HasGraph t g sites → AccessesWell (resolve t) g
+accesses_well t g sites has = graphs_access_well (resolve t) g (distinct_sites (resolve t) has.well) has.is_graph
+
 module _ {V H : Type 0} (m : Meaning V H) (t : FileTree) (g : Node) (sites : List Site) (has : HasGraph t g sites) (plan : Plan)
     (values : List V) (verdicts : List (ℕ × Bool)) (flagged : Option ℕ) (solved : IsSolved m plan (resolve t) g values verdicts flagged) where
   pub states_handed : Laws m → (domain : Domain) (shown : V → Invariant) → AreShown m domain shown values
@@ -150,9 +162,15 @@ module _ {V H : Type 0} (m : Meaning V H) (t : FileTree) (g : Node) (sites : Lis
       let few = has.few k s site in
       omega (arith, dims, few)
 
+  below_handed : (asks : Op → Bool) → AreBelow (length values) (asking_in asks None g)
+  below_handed asks a h = subst (λ (n : ℕ). a.point < n) (sym values_as_many)
+      (asked_one asks (length (sites_of (resolve t))) g None (graph_below (resolve t) g has.is_graph) a h).0
+
   pub asked_handed : AreBelow (length values) (asked_in None g)
-  asked_handed a h = subst (λ (n : ℕ). a.point < n) (sym values_as_many)
-      (asked_below (length (sites_of (resolve t))) g None (graph_below (resolve t) g has.is_graph) a h)
+  asked_handed = below_handed op_computes
+
+  pub accessed_handed : AreBelow (length values) (accessed_in None g)
+  accessed_handed = below_handed op_accesses_any
 
   -- what the listing asks of what is judged, by whichever tree: there is one
   pub fitting_handed : (b : Bool) (fitting : List (ℕ × Bool)) (behind : Option ℕ) → JudgesIf m (dropping m) b g values flagged fitting behind
@@ -166,20 +184,35 @@ module _ {V H : Type 0} (m : Meaning V H) (t : FileTree) (g : Node) (sites : Lis
 
   pub behind_handed : (b : Bool) (fitting : List (ℕ × Bool)) (behind : Option ℕ) → JudgesIf m (dropping m) b g values flagged fitting behind
       → (q : ℕ) → behind ≡ Some q → q < length (sites_of (resolve t))
-  behind_handed true fitting behind j q is =
-      flagged_below m (dropping m) g values flagged fitting behind (length (sites_of (resolve t))) values_as_many j flag_handed q is
+  behind_handed true fitting behind j q is = flagged_below (dropping m) (OpFits m (dropping m)) (asked_in None g) values flagged fitting behind j
+      (length (sites_of (resolve t))) values_as_many flag_handed q is
   behind_handed false fitting behind none q is = flag_handed q (sym none.1 ∙ is)
+
+  pub inside_handed : (inside : List (ℕ × List (Place × Bool))) (behind last : Option ℕ) → JudgesAccesses m (dropping m) g values behind inside last
+      → (h : Node) → IsGraph (resolve t) h → AreInside h sites inside
+  inside_handed inside behind last j h also =
+      subst (λ (k : Node). AreInside k sites inside) (one_tree (resolve t) g h has.is_graph also)
+      (inside_on m (dropping m) g values behind inside last (accesses_well t g sites has 0).once sites (values_as_many ∙ sym (ap length has.points))
+      (subst (λ (T : List Site). numbers.AreBelow (length T) g) (sym has.points) (graph_below (resolve t) g has.is_graph)) j)
+
+  pub last_handed : (b : Bool) (fitting : List (ℕ × Bool)) (inside : List (ℕ × List (Place × Bool))) (behind last : Option ℕ)
+      → JudgesIf m (dropping m) b g values flagged fitting behind → JudgesAccesses m (dropping m) g values behind inside last
+      → (q : ℕ) → last ≡ Some q → q < length (sites_of (resolve t))
+  last_handed b fitting inside behind last judged j q is =
+      flagged_below (dropping m) (OpInside m (dropping m)) (accessed_in None g) values behind inside last j (length (sites_of (resolve t))) values_as_many
+      (behind_handed b fitting behind judged) q is
 
 -- the report ---------------------------------------------------------------------------------------------------------
 
 pub is_told : {V H : Type 0} (m : Meaning V H) (shown : V → Invariant) (o : Options) (constants : List ℤ) (t : FileTree) (g : Node) (sites : List Site)
-    (values : List V) (verdicts : List (ℕ × Bool)) (flagged : Option ℕ) (fitting : List (ℕ × Bool)) (behind : Option ℕ) (states : List Invariant) (r : Report)
+    (values : List V) (verdicts : List (ℕ × Bool)) (flagged : Option ℕ) (fitting : List (ℕ × Bool)) (behind : Option ℕ)
+    (inside : List (ℕ × List (Place × Bool))) (last : Option ℕ) (states : List Invariant) (r : Report)
     → HasGraph t g sites → IsSolved m (plan_of o constants) (resolve t) g values verdicts flagged → JudgesIf m (dropping m) o.fits g values flagged fitting
-    behind → states ≡ map shown values → AreShown m o.domain shown values
+    behind → JudgesAccesses m (dropping m) g values behind inside last → states ≡ map shown values → AreShown m o.domain shown values
     → AllByRecursion (AllByRecursion IsSpelledPart) states → Laws m → AreCanonicallyShown o.domain m.dims shown values → r.options ≡ o → Lists t r → map state_of r.points ≡ states
-    → map told_of r.verdicts ≡ told_all verdicts fitting → r.flagged ≡ option_map suc behind → IsToldOf m shown o constants t r
-is_told m shown o constants t g sites values verdicts flagged fitting behind states r has solved judging are are_shown spelled laws lists_shown options lists
-    same judged flag = record {
+    → map told_of r.verdicts ≡ told_all verdicts fitting inside → r.flagged ≡ option_map suc last → IsToldOf m shown o constants t r
+is_told m shown o constants t g sites values verdicts flagged fitting behind inside last states r has solved judging accessing are are_shown spelled laws
+    lists_shown options lists same judged flag = record {
       names = has.names;
       straight = has.straight;
       within = has.within;
@@ -190,6 +223,7 @@ is_told m shown o constants t g sites values verdicts flagged fitting behind sta
         tree = g;
         is_graph = has.is_graph;
         asks = graphs_ask_well (resolve t) g (distinct_sites (resolve t) has.well) has.is_graph;
+        accesses = accesses_well t g sites has;
         result = solved.result;
         values = values;
         verdicts = verdicts;
@@ -208,6 +242,14 @@ is_told m shown o constants t g sites values verdicts flagged fitting behind sta
             subst (λ (f : Option ℕ). JudgesIf m (straining m) o.fits g values f fitting (Some q)) none
             (subst (λ (f : Option ℕ). JudgesIf m (straining m) o.fits g values flagged fitting f) some
             (judged_strained m laws o.fits g values flagged fitting behind judging));
+        inside = inside;
+        last = last;
+        accessed = accessing;
+        accessed_written = λ none. accessed_if none;
+        accessed_strained = λ q none some.
+            subst (λ (f : Option ℕ). JudgesAccesses m (straining m) g values f inside (Some q)) none
+            (subst (λ (f : Option ℕ). JudgesAccesses m (straining m) g values behind inside f) some
+            (accesses_strained m laws g values behind inside last accessing));
         proved = judged;
         flag = flag;
       };
@@ -215,7 +257,7 @@ is_told m shown o constants t g sites values verdicts flagged fitting behind sta
       canonical = canonical o t r lists (λ k s state there got.
           states_canonical m (plan_of o constants) (resolve t) g solved.result values verdicts flagged has.is_graph solved.derived solved.solves
           shown laws o.domain lists_shown k s state there (ap (λ (l : List Invariant). slice_get l k) (sym (same ∙ are)) ∙ got));
-      readable = readable t r behind lists (subst (AllByRecursion (AllByRecursion IsSpelledPart)) (sym same) spelled) flag low;
+      readable = readable t r last lists (subst (AllByRecursion (AllByRecursion IsSpelledPart)) (sym same) spelled) flag low;
     }
   where
     written_if : behind ≡ None → JudgesIf m (defined m) o.fits g values None fitting None
@@ -225,20 +267,33 @@ is_told m shown o constants t g sites values verdicts flagged fitting behind sta
         subst (λ (f : Option ℕ). JudgesIf m (defined m) o.fits g values None fitting f) none
         (subst (λ (f : Option ℕ). JudgesIf m (defined m) o.fits g values f fitting behind) first judged_so)
 
-    low : (q : ℕ) → behind ≡ Some q → q < 2048
+    accessed_if : last ≡ None → JudgesAccesses m (defined m) g values None inside None
+    accessed_if none =
+        let accessed_so = accesses_written m laws g values behind inside last none accessing in
+        let first : behind ≡ None = none_before (dropping m) (OpInside m (dropping m)) (accessed_in None g) values behind inside last accessing none in
+        subst (λ (f : Option ℕ). JudgesAccesses m (defined m) g values None inside f) none
+        (subst (λ (f : Option ℕ). JudgesAccesses m (defined m) g values f inside last) first accessed_so)
+
+    low : (q : ℕ) → last ≡ Some q → q < 2048
     low q is =
-        let there = behind_handed m t g sites has (plan_of o constants) values verdicts flagged solved o.fits fitting behind judging q is in
+        let there = last_handed m t g sites has (plan_of o constants) values verdicts flagged solved o.fits fitting inside behind last judging accessing q is in
         let few = few_points t g sites has in
         let same : length sites ≡ length (sites_of (resolve t)) = ap length has.points in
         omega (arith, there, few, same)
 
+-- verdicts that are told as they were handed on
+pub told_so : (told : List Told) (vs us fs gs : List (ℕ × Bool)) (ones others : List (ℕ × List (Place × Bool))) → told ≡ told_all vs fs ones
+    → vs ≡ us → fs ≡ gs → ones ≡ others → told ≡ told_all us gs others
+told_so told vs us fs gs ones others is one two three =
+    is ∙ ap (λ (l : List (ℕ × Bool)). told_all l fs ones) one ∙ ap₂ (λ (l : List (ℕ × Bool)) (k : List (ℕ × List (Place × Bool))). told_all us l k) two three
+
 -- it shows these values and tells these verdicts
 pub tells_solution : {V H : Type 0} (m : Meaning V H) (shown : V → Invariant) (asked : Bool) (g : Node) (values : List V) (verdicts : List (ℕ × Bool))
-    (flagged : Option ℕ) (fitting : List (ℕ × Bool)) (behind : Option ℕ) (states : List Invariant) (r : Report)
+    (flagged : Option ℕ) (fitting : List (ℕ × Bool)) (behind : Option ℕ) (inside : List (ℕ × List (Place × Bool))) (states : List Invariant) (r : Report)
     → JudgesIf m (dropping m) asked g values flagged fitting behind → states ≡ map shown values → map state_of r.points ≡ states
-    → map told_of r.verdicts ≡ told_all verdicts fitting → TellsSolution shown asked values verdicts r
-tells_solution m shown asked g values verdicts flagged fitting behind states r judged are same told =
-    record { states = same ∙ are; fitting = fitting; told = told; silent = λ off. none asked off judged }
+    → map told_of r.verdicts ≡ told_all verdicts fitting inside → TellsSolution shown asked values verdicts r
+tells_solution m shown asked g values verdicts flagged fitting behind inside states r judged are same told =
+    record { states = same ∙ are; fitting = fitting; inside = inside; told = told; silent = λ off. none asked off judged }
   where
     none : (b : Bool) → b ≡ false → JudgesIf m (dropping m) b g values flagged fitting behind → fitting ≡ []
     none true off j = absurd (let no : true ≡ false = off in cc)

@@ -1,18 +1,21 @@
 -- A report that lists a program's points, tells what the iteration found, and shows values as they are, is right, and is a report of its source.
 use Rattle.std.proofs.Common.{◌≡◌, ℕ, zero, suc, ℤ, ◌≤◌, ◌<◌, List, [], ◌∷◌, length, Option, Some, None, Bool, true, false, ◌++◌, map, inl, inr, refl, sym}
 use Rattle.std.proofs.Common.{ap, ◌∙◌, subst, arith}
-use Rattle.std.specs.Prelude.{◌⊎◌, slice_get, option_map, IsTrue}
-use Rattle.std.specs.List.{AllByRecursion, Contains}
+use Rattle.std.specs.Prelude.{slice_get, option_map, IsTrue}
+use Rattle.std.specs.List.{AllByRecursion, Contains, flat_map}
 use Rattle.std.proofs.lemmas.Option.{none-some, same_Some, slice_get-map}
 use Rattle.std.proofs.lemmas.List.Elements.{Contains-append_cases}
 use Rattle.lra_linear.proofs.Membership.{contains_none}
 use Rattle.lra_tree.specs.Trees.{FileTree}
 use Rattle.lra_tree.specs.Grammar.{Spells}
+use Rattle.lra_base.specs.declared.refusals.Place.{Place}
+use Rattle.lra_program.specs.Accesses.{Strays}
 use Rattle.lra_program.specs.Overflow.{Overflows}
 use Rattle.lra_program.specs.Run.{At, Fails}
 use Rattle.lra_meaning.specs.Resolve.{resolve}
 use Rattle.lra_program.specs.Sites.{Site, sites_of}
 use Rattle.lra_operations.specs.Agree.{point_of, Agrees}
+use Rattle.lra_operations.specs.Asked.{asked_in, accessed_in}
 use Rattle.lra_tree.specs.Labels.{Labelled, labels_of}
 use Rattle.lra_options.specs.declared.options.Domain.{Domain}
 use Rattle.lra_options.specs.declared.options.Options.{Options}
@@ -22,26 +25,29 @@ use Rattle.lra_meaning.specs.Refuse.{Accepts}
 use Rattle.lra_report.specs.declared.verdict_kinds.VerdictKind.{VerdictKind}
 use Rattle.lra_report.specs.declared.verdict_kinds.VerdictKind.TheVariants.{Assertion, Fit}
 use Rattle.lra_report.specs.VerdictKinds.{Breaks}
-use Rattle.lra_report.specs.Listing.{AreListed, Subject, subject, subjects_of, fits_asked, computes_at, computing_from, subjects, Lists, IsFlag, AreParts}
-use Rattle.lra_report.specs.Listing.{IsReportOf}
+use Rattle.lra_report.specs.Listing.{AreListed, Subject, subject, subjects_of, fits_asked, computes_at, computing_from, accesses_at, accesses_from, subjects}
+use Rattle.lra_report.specs.Listing.{Lists, IsFlag, AreParts, IsReportOf}
 use Rattle.lra_program.specs.Assertions.{assertions_from}
 use Rattle.lra_meaning.specs.LiveNames.{globals_named}
 use Rattle.lra_flow.specs.Plan.{plan_of}
 use Rattle.lra_flow.specs.Operations.{dropping}
-use Rattle.lra_flow.specs.Fits.{JudgesIf}
+use Rattle.lra_flow.specs.Fits.{OpFits, JudgesIf}
+use Rattle.lra_flow.specs.Accesses.{OpInside}
 use Rattle.lra_domain.specs.Meaning.{Meaning}
 use Rattle.lra_domain.specs.Laws.{Laws}
 use Rattle.lra_flow.proofs.Caps.{solved_capped}
-use Rattle.lra_listing.specs.Given.{told, told_all, told_of}
+use Rattle.lra_listing.specs.Given.{Told, told, told_accesses, told_all, told_of}
 use Rattle.lra_source.specs.Analysed.{IsAnalysed}
 use Rattle.lra_source.proofs.Numbering.{numbered}
 use Rattle.lra_iter.proofs.Counting.{iteration_fails_once}
 use Rattle.lra_source.proofs.Flags.{IsBelow, graph_below, iteration_below}
 use Rattle.lra_formed.proofs.Named.{shown_as_many}
-use Rattle.lra_source.proofs.Handing.{as_many, contained, one_told, value_dims}
-use Rattle.lra_source.proofs.FitsHanded.{flagged_below}
-use Rattle.lra_source.proofs.Sound.{value_there, proved_holds, IsListed, listed_all, IsOn, judged_all, assertion_site, computing_site}
+use Rattle.lra_source.proofs.Handing.{as_many, contained, one_access, one_told, value_dims}
+use Rattle.lra_source.proofs.Found.{flagged_below}
+use Rattle.lra_source.proofs.Sound.{value_there, proved_holds, IsListed, listed_all, IsOn, judged_all}
+use Rattle.lra_source.proofs.Sound.{SiteAt, assertion_site, computing_site, access_site, get_either}
 use Rattle.lra_source.proofs.FitsHold.{fitting_holds}
+use Rattle.lra_source.proofs.AccessesHold.{inside_holds}
 
 -- lists --------------------------------------------------------------------------------------------------------------
 
@@ -65,12 +71,6 @@ slice_get_of_map : {A B : Type 0} (f : A → B) (xs : List A) (k : ℕ) (y : B) 
 slice_get_of_map f [] k y there = absurd (none-some y there)
 slice_get_of_map f (x ∷ xs) zero y there = (x, refl, sym (same_Some (f x) y there))
 slice_get_of_map f (x ∷ xs) (suc k) y there = slice_get_of_map f xs k y there
-
--- in the one list or in the other
-get_either : {A : Type 0} (xs ys : List A) (k : ℕ) (x : A) → slice_get (xs ++ ys) k ≡ Some x → (slice_get xs k ≡ Some x) ⊎ ((j : ℕ) × (slice_get ys j ≡ Some x))
-get_either [] ys k x there = inr (k, there)
-get_either (y ∷ xs) ys zero x there = inl there
-get_either (y ∷ xs) ys (suc k) x there = get_either xs ys k x there
 
 listed_length : (outside : List (List ℕ)) (ls : List Labelled) (number : ℕ) (ss : List Site) (ps : List PointReport) → AreListed outside ls number ss ps → length ps ≡ length ss
 listed_length o ls n [] [] l = refl
@@ -115,57 +115,86 @@ module _ {V H : Type 0} (m : Meaning V H) (laws : Laws m) (shown : V → Invaria
           x.fitting x.behind judges q s so site found holds over
       by false none = contains_none (q, so) (subst (λ (fs : List (ℕ × Bool)). Contains fs (q, so)) none.0 found)
 
-  -- each verdict is told of one that was found, of its kind and number
-  told_there : (k : ℕ) (v : Verdict) → slice_get r.verdicts k ≡ Some v → Contains (told_all x.verdicts x.fitting) (told_of v)
-  told_there k v listed = subst (λ (ts : List (VerdictKind × ℕ × Bool)). Contains ts (told_of v)) x.proved
+  -- on an access
+  accessed : (q : ℕ) (s : Site) (js : List (Place × Bool)) (n : ℕ) (place : Place) → slice_get (sites_of (resolve t)) q ≡ Some s → Contains x.inside (q, js)
+      → slice_get js n ≡ Some (place, true) → Strays (resolve t) (point_of s) n → ⊥
+  accessed q s js n place site found inner strays =
+      inside_holds V H m laws (plan_of settings constants) (resolve t) x.globals x.tree x.result x.derived agrees x.values x.verdicts x.flagged x.solves
+      x.accesses x.inside x.behind x.last x.accessed q s js n place site found inner strays
+
+  -- each verdict is told of one that was found, of its kind, its number and which of its kind it is
+  told_there : (k : ℕ) (v : Verdict) → slice_get r.verdicts k ≡ Some v → Contains (told_all x.verdicts x.fitting x.inside) (told_of v)
+  told_there k v listed = subst (λ (ts : List Told). Contains ts (told_of v)) x.proved
       (contained (map told_of r.verdicts) k (told_of v) (slice_get-map told_of r.verdicts k ∙ ap (option_map told_of) listed))
 
-  right_of : (kind : VerdictKind) (q : ℕ) (s : Site) (so : Bool) → slice_get (sites_of (resolve t)) q ≡ Some s → Contains (told_all x.verdicts x.fitting)
-      (kind, suc q, so) → IsTrue so
-      → Breaks kind (resolve t) (point_of s) → ⊥
-  right_of kind q s so site told_so holds breaks = elim (Contains-append_cases (map (told Assertion) x.verdicts) (map (told Fit) x.fitting) (kind, suc q, so)
-      told_so) [
+  less : (p q : ℕ) → suc q ≡ suc p → p ≡ q
+  less p q e = omega (arith, e)
+
+  right_beside : (kind : VerdictKind) (q : ℕ) (s : Site) (n : ℕ) (so : Bool) → slice_get (sites_of (resolve t)) q ≡ Some s
+      → Contains (map (told Fit) x.fitting ++ flat_map told_accesses x.inside) (kind, suc q, n, so) → IsTrue so
+      → Breaks kind (resolve t) (point_of s) n → ⊥
+  right_beside kind q s n so site told_so holds breaks =
+      elim (Contains-append_cases (map (told Fit) x.fitting) (flat_map told_accesses x.inside) (kind, suc q, n, so) told_so) [
         | inl a ↦
-            let (p, n, here, found) = one_told Assertion x.verdicts kind (suc q) so a in
-            asserted q s so site (subst (λ (i : ℕ). Contains x.verdicts (i, so)) (less p q here) found) holds
-            (subst (λ (k : VerdictKind). Breaks k (resolve t) (point_of s)) n breaks)
-        | inr b ↦
-            let (p, n, here, found) = one_told Fit x.fitting kind (suc q) so b in
+            let (p, own, here, found) = one_told Fit x.fitting kind (suc q) n so a in
             fitting q s so site (subst (λ (i : ℕ). Contains x.fitting (i, so)) (less p q here) found) holds
-            (subst (λ (k : VerdictKind). Breaks k (resolve t) (point_of s)) n breaks)
+            (subst (λ (k : VerdictKind). Breaks k (resolve t) (point_of s) n) own breaks)
+        | inr b ↦
+            let (p, js, place, own, here, found, inner) = one_access x.inside kind (suc q) n so b in
+            accessed q s js n place site (subst (λ (i : ℕ). Contains x.inside (i, js)) (less p q here) found)
+            (inner ∙ ap (λ (c : Bool). Some (place, c)) holds)
+            (subst (λ (k : VerdictKind). Breaks k (resolve t) (point_of s) n) own breaks)
       ]
-    where
-      less : (p q : ℕ) → suc q ≡ suc p → p ≡ q
-      less p q e = omega (arith, e)
+
+  right_of : (kind : VerdictKind) (q : ℕ) (s : Site) (n : ℕ) (so : Bool) → slice_get (sites_of (resolve t)) q ≡ Some s
+      → Contains (told_all x.verdicts x.fitting x.inside) (kind, suc q, n, so) → IsTrue so
+      → Breaks kind (resolve t) (point_of s) n → ⊥
+  right_of kind q s n so site told_so holds breaks =
+      elim (Contains-append_cases (map (told Assertion) x.verdicts) (map (told Fit) x.fitting ++ flat_map told_accesses x.inside)
+      (kind, suc q, n, so) told_so) [
+        | inl a ↦
+            let (p, own, here, found) = one_told Assertion x.verdicts kind (suc q) n so a in
+            asserted q s so site (subst (λ (i : ℕ). Contains x.verdicts (i, so)) (less p q here) found) holds
+            (subst (λ (k : VerdictKind). Breaks k (resolve t) (point_of s) n) own breaks)
+        | inr b ↦ right_beside kind q s n so site b holds breaks
+      ]
 
   -- the site of a subject, by its number
-  subject_site : (k : ℕ) (s : Subject) → slice_get (subjects r.options x.tree t) k ≡ Some s → (q : ℕ) × (s.number ≡ suc q) ×
-      (slice_get (sites_of (resolve t)) q ≡ Some s.site)
-  subject_site k s there = elim (get_either (subjects_of Assertion (assertions_from 1 (sites_of (resolve t))))
-      (fits_asked r.options.fits x.tree (sites_of (resolve t))) k s there) [
+  abbrev SubjectSite : Subject → Type 0
+  SubjectSite s = (q : ℕ) × (s.number ≡ suc q) × (slice_get (sites_of (resolve t)) q ≡ Some s.site)
+
+  sited : (s : Subject) (y : ℕ × Site) → s.number ≡ y.0 → s.site ≡ y.1 → SiteAt 1 (sites_of (resolve t)) y → SubjectSite s
+  sited s y number site (q, is, there) = (q, number ∙ is ∙ omega arith, there ∙ ap (λ (u : Site). Some u) (sym site))
+
+  asked_site : (b : Bool) (j : ℕ) (s : Subject) → slice_get (fits_asked (labels_of t) b x.tree (sites_of (resolve t))) j ≡ Some s → SubjectSite s
+  asked_site true j s there =
+      let (y, found, is) = slice_get_of_map (λ (p : ℕ × Site). subject (labels_of t) Fit p.0 p.1)
+      (computing_from (computes_at x.tree) 0 (sites_of (resolve t))) j s there in
+      sited s y (ap (λ (u : Subject). u.number) is) (ap (λ (u : Subject). u.site) is) (computing_site (computes_at x.tree) 0 (sites_of (resolve t)) j y found)
+  asked_site false j s there = absurd (none-some s there)
+
+  subject_site : (k : ℕ) (s : Subject) → slice_get (subjects r.options x.tree t) k ≡ Some s → SubjectSite s
+  subject_site k s there = elim (get_either (subjects_of (labels_of t) Assertion (assertions_from 1 (sites_of (resolve t))))
+      (fits_asked (labels_of t) r.options.fits x.tree (sites_of (resolve t)) ++ accesses_from (accesses_at x.tree) 0 (sites_of (resolve t))) k s there) [
         | inl a ↦
-            let (y, found, is) = slice_get_of_map (λ (p : ℕ × Site). subject Assertion p.0 p.1) (assertions_from 1 (sites_of (resolve t))) k s a in
-            let (q, number, site) = assertion_site 1 (sites_of (resolve t)) k y found in
-            (q, ap (λ (u : Subject). u.number) is ∙ number ∙ omega arith, site ∙ ap (λ (u : Subject). Some u.site) (sym is))
-        | inr (j, b) ↦ asked_site r.options.fits j s b
+            let (y, found, is) = slice_get_of_map (λ (p : ℕ × Site). subject (labels_of t) Assertion p.0 p.1)
+            (assertions_from 1 (sites_of (resolve t))) k s a in
+            sited s y (ap (λ (u : Subject). u.number) is) (ap (λ (u : Subject). u.site) is) (assertion_site 1 (sites_of (resolve t)) k y found)
+        | inr (j, b) ↦ elim (get_either (fits_asked (labels_of t) r.options.fits x.tree (sites_of (resolve t)))
+            (accesses_from (accesses_at x.tree) 0 (sites_of (resolve t))) j s b) [
+              | inl c ↦ asked_site r.options.fits j s c
+              | inr (i, d) ↦ sited s (s.number, s.site) refl refl (access_site (accesses_at x.tree) 0 (sites_of (resolve t)) i s d)
+            ]
       ]
-    where
-      asked_site : (b : Bool) (j : ℕ) (s : Subject) → slice_get (fits_asked b x.tree (sites_of (resolve t))) j ≡ Some s → (q : ℕ) × (s.number ≡ suc q) ×
-          (slice_get (sites_of (resolve t)) q ≡ Some s.site)
-      asked_site true j s there =
-          let (y, found, is) = slice_get_of_map (λ (p : ℕ × Site). subject Fit p.0 p.1) (computing_from (computes_at x.tree) 0 (sites_of (resolve t))) j s
-          there in
-          let (q, number, site) = computing_site (computes_at x.tree) 0 (sites_of (resolve t)) j y found in
-          (q, ap (λ (u : Subject). u.number) is ∙ number ∙ omega arith, site ∙ ap (λ (u : Subject). Some u.site) (sym is))
-      asked_site false j s there = absurd (none-some s there)
 
   right : (k : ℕ) (s : Subject) (v : Verdict) → slice_get (subjects r.options x.tree t) k ≡ Some s → slice_get r.verdicts k ≡ Some v → IsOn s v → IsRight
       (resolve t) v
   right k s v there listed on holds breaks =
       let (q, number, site) = subject_site k s there in
-      right_of v.kind q s.site v.holds site (subst (λ (n : ℕ). Contains (told_all x.verdicts x.fitting) (v.kind, n, v.holds)) (on.number ∙ number)
+      right_of v.kind q s.site v.which v.holds site
+      (subst (λ (n : ℕ). Contains (told_all x.verdicts x.fitting x.inside) (v.kind, n, v.which, v.holds)) (on.number ∙ number)
       (told_there k v listed)) holds
-      (subst (λ z. Breaks v.kind (resolve t) z) on.point breaks)
+      (subst (λ z. Breaks v.kind (resolve t) z v.which) on.point breaks)
 
   pub sound : IsSound (resolve t) r
   sound = record {
@@ -178,22 +207,28 @@ module _ {V H : Type 0} (m : Meaning V H) (laws : Laws m) (shown : V → Invaria
   is_flag count (Some q) h = (omega arith, omega arith)
 
   -- what is flagged by what is judged stands at a point, too
+  option_below : (n : ℕ) (f : Option ℕ) → ((q : ℕ) → f ≡ Some q → q < n) → IsBelow n f
+  option_below n None low = tt
+  option_below n (Some q) low = low q refl
+
+  below_option : (n : ℕ) (f : Option ℕ) → IsBelow n f → (q : ℕ) → f ≡ Some q → q < n
+  below_option n f h q e = subst (λ (y : Option ℕ). IsBelow n y) e h
+
+  many_there : (n : ℕ) → n ≡ length (sites_of (resolve t)) → length x.values ≡ n
+  many_there n is =
+      as_many m (plan_of settings constants) (resolve t) x.tree x.result x.values x.verdicts x.flagged x.is_graph x.derived x.solves ∙ sym is
+
   behind_there : (n : ℕ) → n ≡ length (sites_of (resolve t)) → IsBelow n x.flagged → IsBelow n x.behind
   behind_there n is below = by settings.fits x.judged
     where
-      option_below : (f : Option ℕ) → ((q : ℕ) → f ≡ Some q → q < n) → IsBelow n f
-      option_below None low = tt
-      option_below (Some q) low = low q refl
-
-      below_option : (f : Option ℕ) → IsBelow n f → (q : ℕ) → f ≡ Some q → q < n
-      below_option f h q e = subst (λ (y : Option ℕ). IsBelow n y) e h
-
       by : (b : Bool) → JudgesIf m (dropping m) b x.tree x.values x.flagged x.fitting x.behind → IsBelow n x.behind
-      by true judges =
-          let many = as_many m (plan_of settings constants) (resolve t) x.tree x.result x.values x.verdicts x.flagged x.is_graph x.derived x.solves in
-          option_below x.behind (flagged_below m (dropping m) x.tree x.values x.flagged x.fitting x.behind n (many ∙ sym is) judges
-          (below_option x.flagged below))
+      by true judges = option_below n x.behind (flagged_below (dropping m) (OpFits m (dropping m)) (asked_in None x.tree) x.values x.flagged x.fitting x.behind
+          judges n (many_there n is) (below_option n x.flagged below))
       by false none = subst (IsBelow n) (sym none.1) below
+
+  last_there : (n : ℕ) → n ≡ length (sites_of (resolve t)) → IsBelow n x.behind → IsBelow n x.last
+  last_there n is below = option_below n x.last (flagged_below (dropping m) (OpInside m (dropping m)) (accessed_in None x.tree) x.values x.behind x.inside
+      x.last x.accessed n (many_there n is) (below_option n x.behind below))
 
   flag_there : IsFlag (length r.points) r.flagged
   flag_there =
@@ -202,7 +237,8 @@ module _ {V H : Type 0} (m : Meaning V H) (laws : Laws m) (shown : V → Invaria
       let long : length r.points ≡ length (sites_of (resolve t)) = listed_length (globals_named t.parts) (labels_of t) 1 (sites_of (resolve t)) r.points lists.points in
       let there : IsBelow (length r.points) x.flagged = subst (λ (n : ℕ). IsBelow n x.flagged) (sym long)
       (subst (λ (o : Option ℕ). IsBelow (length (sites_of (resolve t))) o) (sym x.solves.is_flagged) below) in
-      subst (λ (o : Option ℕ). IsFlag (length r.points) o) (sym x.flag) (is_flag (length r.points) x.behind (behind_there (length r.points) long there))
+      subst (λ (o : Option ℕ). IsFlag (length r.points) o) (sym x.flag)
+      (is_flag (length r.points) x.last (last_there (length r.points) long (behind_there (length r.points) long there)))
 
   -- no more parts than the value's cap, each over the variables that are named
   parts_are : (o : Options) → o.domain ≡ settings.domain → 1 ≤ settings.parts → settings.parts ≤ o.parts

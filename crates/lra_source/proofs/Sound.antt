@@ -1,11 +1,11 @@
 -- What an iteration over a program's tree says of the program's runs.
-use Rattle.std.proofs.Common.{◌≡◌, ℕ, zero, suc, ◌+◌, ◌∷◌, [], List, length, Option, Some, Bool, true, false, refl, sym, ap, ◌∙◌, subst, arith}
-use Rattle.std.specs.Prelude.{ℤ, slice_get, IsTrue, cond}
+use Rattle.std.proofs.Common.{◌≡◌, ℕ, zero, suc, ◌+◌, ◌++◌, ◌∷◌, [], List, inl, inr, length, Option, Some, Bool, true, false, refl, sym, ap, ◌∙◌, subst, arith}
+use Rattle.std.specs.Prelude.{ℤ, ◌⊎◌, slice_get, IsTrue, cond}
 use Rattle.std.specs.List.{AllByRecursion, Contains}
 use Rattle.std.proofs.lemmas.Option.{none-some, same_Some}
 use Rattle.lra_domain.specs.Meaning.{Meaning}
 use Rattle.lra_domain.specs.Laws.{Laws}
-use Rattle.lra_program.specs.Program.{Program}
+use Rattle.lra_program.specs.Program.{Element, Program}
 use Rattle.lra_program.specs.WellFormed.{AreGoodGlobals}
 use Rattle.lra_program.specs.Run.{begun, At, Fails}
 use Rattle.lra_operations.specs.Graph.{Node}
@@ -15,7 +15,7 @@ use Rattle.lra_program.specs.Sites.{Site, sites_of}
 use Rattle.lra_operations.specs.Agree.{point_of, Agrees}
 use Rattle.lra_meaning.specs.ShownNames.{shown_names}
 use Rattle.lra_meaning.specs.LiveNames.{live_names}
-use Rattle.lra_report.specs.Listing.{Subject, computing_from, AreListed, AreJudged}
+use Rattle.lra_report.specs.Listing.{Subject, access_subjects, accesses_from, computing_from, AreListed, AreJudged}
 use Rattle.lra_program.specs.Assertions.{assertions_from}
 use Rattle.lra_flow.specs.Plan.{Plan}
 use Rattle.lra_flow.specs.Pass.{failing, Result}
@@ -85,7 +85,7 @@ listed_all Q o ls n (s ∷ ss) [] l f = absurd l
 listed_all Q o ls n (s ∷ ss) (p ∷ ps) l f =
     (f 0 s p refl refl (ap (λ (x : PointReport). x.point) l.0, ap (λ (x : PointReport). x.names) l.0), listed_all Q o ls (suc n) ss ps l.2 (λ k. f (suc k)))
 
--- a verdict on what is judged, but for its path and its place
+-- a verdict on what is judged, but for its path, its place and which of its kind it is
 pub record IsOn (x : Subject) (v : Verdict) : Type 0 where
   pub kind : v.kind ≡ x.kind
   pub number : v.number ≡ x.number
@@ -106,7 +106,7 @@ judged_all Q ls (x ∷ xs) (v ∷ vs) l f = (
 )
 
 -- the place of a site, by its number
-abbrev SiteAt : ℕ → List Site → ℕ × Site → Type 0
+abbrev pub SiteAt : ℕ → List Site → ℕ × Site → Type 0
 SiteAt number ss x = (q : ℕ) × (x.0 ≡ number + q) × (slice_get ss q ≡ Some x.1)
 
 later_site : (number : ℕ) (s : Site) (ss : List Site) (x : ℕ × Site) → SiteAt (suc number) ss x → SiteAt number (s ∷ ss) x
@@ -130,3 +130,26 @@ pub computing_site : (computes : ℕ → Bool) (q : ℕ) (ss : List Site) (k : �
 computing_site computes q [] k x e = absurd (none-some x e)
 computing_site computes q (s ∷ ss) k x e = chosen_site (suc q) s ss x (computing_from computes (suc q) ss) (λ j d. computing_site computes (suc q) ss j x d)
     (computes q) k e
+
+-- in the one list or in the other
+pub get_either : {A : Type 0} (xs ys : List A) (k : ℕ) (x : A) → slice_get (xs ++ ys) k ≡ Some x
+    → (slice_get xs k ≡ Some x) ⊎ ((j : ℕ) × (slice_get ys j ≡ Some x))
+get_either [] ys k x there = inr (k, there)
+get_either (y ∷ xs) ys zero x there = inl there
+get_either (y ∷ xs) ys (suc k) x there = get_either xs ys k x there
+
+-- and with an access
+own_site : (number : ℕ) (s : Site) (n : ℕ) (xs : List Element) (k : ℕ) (x : Subject) → slice_get (access_subjects number s n xs) k ≡ Some x
+    → (x.number ≡ number) × (x.site ≡ s)
+own_site number s n [] k x e = absurd (none-some x e)
+own_site number s n (y ∷ xs) zero x e =
+    let same = sym (same_Some _ x e) in (ap (λ (u : Subject). u.number) same, ap (λ (u : Subject). u.site) same)
+own_site number s n (y ∷ xs) (suc k) x e = own_site number s (suc n) xs k x e
+
+pub access_site : (at : ℕ → List Element) (q : ℕ) (ss : List Site) (k : ℕ) (x : Subject) → slice_get (accesses_from at q ss) k ≡ Some x
+    → SiteAt (suc q) ss (x.number, x.site)
+access_site at q [] k x e = absurd (none-some x e)
+access_site at q (s ∷ ss) k x e = elim (get_either (access_subjects (suc q) s 0 (at q)) (accesses_from at (suc q) ss) k x e) [
+  | inl here ↦ let (number, site) = own_site (suc q) s 0 (at q) k x here in (0, number ∙ omega arith, ap Some (sym site))
+  | inr (j, later) ↦ later_site (suc q) s ss (x.number, x.site) (access_site at (suc q) ss j x later)
+]

@@ -1,12 +1,13 @@
 -- What a report tells of the iteration over a program: what is shown of each point's value, the verdicts, the first
 -- flagged point.
 use Rattle.std.specs.Prelude.{◌≡◌, ℕ, suc, ℤ, List, map, Bool, Option, None, Some, option_map}
+use Rattle.lra_base.specs.declared.refusals.Place.{Place}
 use Rattle.lra_domain.specs.Meaning.{Meaning}
 use Rattle.lra_program.specs.Program.{Program}
 use Rattle.lra_program.specs.WellFormed.{AreGoodGlobals}
 use Rattle.lra_operations.specs.Graph.{Node}
 use Rattle.lra_operations.specs.Agree.{IsGraph}
-use Rattle.lra_operations.specs.Asked.{AsksWell}
+use Rattle.lra_operations.specs.Asked.{AsksWell, AccessesWell}
 use Rattle.lra_report.specs.Report.{Invariant, PointReport, Report}
 use Rattle.lra_options.specs.declared.options.Options.{Options}
 use Rattle.lra_flow.specs.Plan.{plan_of}
@@ -14,6 +15,7 @@ use Rattle.lra_flow.specs.Pass.{Result}
 use Rattle.lra_flow.specs.Analysis.{Written, Derivation, Strains, Solves}
 use Rattle.lra_flow.specs.Operations.{defined, dropping, straining}
 use Rattle.lra_flow.specs.Fits.{JudgesIf}
+use Rattle.lra_flow.specs.Accesses.{JudgesAccesses}
 use Rattle.lra_listing.specs.Given.{told_all, told_of}
 use Rattle.lra_states.specs.Shown.{AreShown}
 
@@ -26,6 +28,8 @@ pub record IsAnalysed {V H : Type 0} (m : Meaning V H) (shown : V → Invariant)
   pub is_graph : IsGraph P tree
   -- which asks at each point of the operation that can stop a run there by a number
   pub asks : AsksWell P tree
+  -- and where an access can be outside its array
+  pub accesses : AccessesWell P tree
   pub result : Result V
   pub values : List V
   -- a verdict is unknown exactly where something is left of the value at which the assertion's condition is false
@@ -49,5 +53,13 @@ pub record IsAnalysed {V H : Type 0} (m : Meaning V H) (shown : V → Invariant)
   pub judged_written : behind ≡ None → JudgesIf m (defined m) settings.fits tree values None fitting None
   pub judged_strained : (q : ℕ) → flagged ≡ None → behind ≡ Some q →
       JudgesIf m (straining m) settings.fits tree values None fitting (Some q)
-  pub proved : map told_of r.verdicts ≡ told_all verdicts fitting
-  pub flag : r.flagged ≡ option_map suc behind
+  -- which accesses lie inside their arrays, and the first flag behind all that; so, too, by what the written iteration
+  -- leaves
+  pub inside : List (ℕ × List (Place × Bool))
+  pub last : Option ℕ
+  pub accessed : JudgesAccesses m (dropping m) tree values behind inside last
+  pub accessed_written : last ≡ None → JudgesAccesses m (defined m) tree values None inside None
+  pub accessed_strained : (q : ℕ) → behind ≡ None → last ≡ Some q →
+      JudgesAccesses m (straining m) tree values None inside (Some q)
+  pub proved : map told_of r.verdicts ≡ told_all verdicts fitting inside
+  pub flag : r.flagged ≡ option_map suc last

@@ -1,6 +1,7 @@
 -- Soundness, over any domain: what an iteration finds holds in all runs.
 use Rattle.std.specs.Prelude.{◌≡◌, ℕ, ℤ, List, length, Bool, true, Option, Some, slice_get}
 use Rattle.std.specs.List.{Contains}
+use Rattle.lra_base.specs.declared.refusals.Place.{Place}
 use Rattle.lra_domain.specs.Meaning.{Meaning}
 use Rattle.lra_program.specs.Program.{Program}
 use Rattle.lra_program.specs.WellFormed.{AreGoodGlobals}
@@ -12,7 +13,9 @@ use Rattle.lra_flow.specs.Plan.{Plan}
 use Rattle.lra_flow.specs.Analysis.{IsUnreachable}
 use Rattle.lra_flow.specs.Operations.{dropping}
 use Rattle.lra_flow.specs.Fits.{Judges}
-use Rattle.lra_operations.specs.Asked.{AsksWell}
+use Rattle.lra_flow.specs.Accesses.{JudgesAccesses}
+use Rattle.lra_operations.specs.Asked.{AsksWell, AccessesWell}
+use Rattle.lra_program.specs.Accesses.{Strays}
 use Rattle.lra_program.specs.Overflow.{Overflows}
 use Rattle.lra_iter.specs.Solved.{IsSolved}
 
@@ -44,3 +47,14 @@ FittingIsSound {V} m =
     → Judges m (dropping m) tree values flagged fitting behind
     → (q : ℕ) (s : Site) → slice_get (sites_of P) q ≡ Some s → Contains fitting (q, true) → Overflows P (point_of s)
     → ⊥
+
+-- where an access is judged to be inside its array by what is found, no run evaluates it outside
+abbrev pub AccessesAreSound : {V H : Type 0} → Meaning V H → Type 0
+AccessesAreSound {V} m =
+    (plan : Plan) (P : Program) (tree : Node) (values : List V) (verdicts : List (ℕ × Bool))
+    (inside : List (ℕ × List (Place × Bool))) (flagged behind last : Option ℕ)
+    → IsSolved m plan P tree values verdicts flagged → AreGoodGlobals P.globals
+    → IsGraph P tree → Agrees P tree → AccessesWell P tree
+    → JudgesAccesses m (dropping m) tree values behind inside last
+    → (q : ℕ) (s : Site) (js : List (Place × Bool)) (n : ℕ) (place : Place) → slice_get (sites_of P) q ≡ Some s
+    → Contains inside (q, js) → slice_get js n ≡ Some (place, true) → Strays P (point_of s) n → ⊥

@@ -1,5 +1,6 @@
 -- What is known of a report before it is one of its source.
 use Rattle.std.specs.Prelude.{◌≡◌, ℕ, ℤ, List, [], map, Bool, false, None}
+use Rattle.lra_base.specs.declared.refusals.Place.{Place}
 use Rattle.lra_tree.specs.Trees.{FileTree}
 use Rattle.lra_meaning.specs.NameFaults.{name_faults}
 use Rattle.lra_tree.specs.Labels.{labels_of}
@@ -32,10 +33,11 @@ pub record IsToldOf {V H : Type 0} (m : Meaning V H) (shown : V → Invariant) (
   pub readable : IsReadable r
 
 -- at each point it shows the value that was found there, and on each assertion the verdict; beside these it tells what
--- fits, and where that isn't asked for nothing
+-- fits, and where that isn't asked for nothing, and which accesses lie inside their arrays
 pub record TellsSolution {V : Type 0} (shown : V → Invariant) (fits : Bool) (values : List V)
     (verdicts : List (ℕ × Bool)) (r : Report) : Type 0 where
   pub states : map (λ (p : PointReport). p.state) r.points ≡ map shown values
   pub fitting : List (ℕ × Bool)
-  pub told : map told_of r.verdicts ≡ told_all verdicts fitting
+  pub inside : List (ℕ × List (Place × Bool))
+  pub told : map told_of r.verdicts ≡ told_all verdicts fitting inside
   pub silent : fits ≡ false → fitting ≡ []

@@ -2,7 +2,7 @@
 
 ghost use Rattle.lra_flow.specs.Linear.{FormsAreRight, TestsAreRight, DiffersIsRight};
 ghost use Rattle.lra_flow.specs.Seen.{SeenIsRight};
-ghost use Rattle.lra_source.specs.Soundness.{SolvedAreSound, FittingIsSound};
+ghost use Rattle.lra_source.specs.Soundness.{SolvedAreSound, FittingIsSound, AccessesAreSound};
 ghost use Rattle.lra_source.specs.Claims.{OneAnsweredText, TreesFit, TreesAreNumbered, AnalysedAreSound};
 ghost use Rattle.lra_source.specs.Claims.{AnalysedAreReports, OneUnflaggedReport};
 
@@ -46,6 +46,11 @@ pub fn solved_are_sound<D: Domain>()
 /// Where all that is computed at a point is judged to fit, no run stops there by a number.
 pub fn fitting_is_sound<D: Domain>()
     ensures { FittingIsSound D.meaning }
+{}
+
+/// Where an access is judged to be inside its array, no run evaluates it outside.
+pub fn accesses_are_sound<D: Domain>()
+    ensures { AccessesAreSound D.meaning }
 {}
 
 /// Linear forms have the value of their expressions wherever it exists, and so has what is seen of divisions, over the

@@ -11,7 +11,7 @@ mod reporting;
 
 pub use answer::analyse_source;
 pub use laws::{
-    analyses_are_right, fitting_is_sound, forms_are_right, one_answered_text, one_unflagged_report,
-    solved_are_sound, trees_fit,
+    accesses_are_sound, analyses_are_right, fitting_is_sound, forms_are_right, one_answered_text,
+    one_unflagged_report, solved_are_sound, trees_fit,
 };
 pub use reporting::{report_solution, solve_front};

@@ -6,13 +6,15 @@ ghost use Rattle.lra_tree.specs.Labels.{labels_of};
 ghost use Rattle.lra_meaning.specs.Resolve.{resolve};
 ghost use Rattle.lra_program.specs.ProgramViews.{program_view};
 ghost use Rattle.lra_operations.specs.GraphViews.{node_view, site_view};
-ghost use Rattle.lra_operations.specs.Asked.{asked_in};
+ghost use Rattle.lra_operations.specs.Asked.{accessed_in, asked_in};
 ghost use Rattle.lra_flow.specs.Room.{most_live};
 ghost use Rattle.lra_flow.specs.Plan.{plan_of};
 ghost use Rattle.lra_flow.specs.Operations.{dropping};
 ghost use Rattle.lra_flow.specs.Fits.{JudgesIf};
+ghost use Rattle.lra_flow.specs.Accesses.{JudgesAccesses};
 ghost use Rattle.lra_fits.specs.Judged.{AreBelow};
 ghost use Rattle.lra_iter.specs.Solved.{IsSolved};
+ghost use Rattle.lra_listing.specs.Views.{told_view};
 ghost use Rattle.lra_report.specs.View.{report_of};
 ghost use Rattle.lra_front.specs.Stages.{HasGraph};
 ghost use Rattle.lra_source.specs.Stages.{IsToldOf, TellsSolution};
@@ -20,6 +22,7 @@ ghost use Rattle.lra_source.specs.Stages.{IsToldOf, TellsSolution};
 use lra_domain::Domain as AbstractDomain;
 use lra_fits::{Fitting, judge};
 use lra_front::Front;
+use lra_inside::{Inside, judge_accesses};
 use lra_iter::{Plan, Solution, analyse};
 use lra_listing::{Found, Outline, list};
 use lra_operations::Node;
@@ -49,6 +52,38 @@ fn judge_if<D: AbstractDomain>(
             flagged,
         })
     }
+}
+
+/// What is judged of a tree's operations, beside its assertions.
+#[derive(Drop)]
+struct Judged {
+    fitting: Fitting,
+    inside: Inside,
+}
+
+/// Which operations of a tree fit, where it is asked for, and which accesses lie inside their arrays, by the values
+/// that an iteration found at the points.
+fn judge_solution<D: AbstractDomain>(
+    alloc: Global,
+    asked: bool,
+    tree: &Node,
+    solution: &Solution<D>,
+) -> Result<Judged, AllocError>
+    requires few { All (λ v. D.meaning.dims v < most_live) solution.now.values.items }
+    requires computing { AreBelow (length solution.now.values.items)
+        (asked_in None (node_view tree.now)) }
+    requires accessing { AreBelow (length solution.now.values.items)
+        (accessed_in None (node_view tree.now)) }
+    ensures fits { IfOk result (λ j. JudgesIf D.meaning (dropping D.meaning) asked
+        (node_view tree.now) solution.now.values.items solution.now.flagged
+        j.fitting.verdicts.items j.fitting.flagged) }
+    ensures accesses { IfOk result (λ j. JudgesAccesses D.meaning (dropping D.meaning)
+        (node_view tree.now) solution.now.values.items j.fitting.flagged
+        (map told_view j.inside.verdicts.items) j.inside.flagged) }
+{
+    let fitting = judge_if(alloc, asked, tree, &solution.values, solution.flagged)?;
+    let inside = judge_accesses(alloc, tree, &solution.values, fitting.flagged)?;
+    Ok(Judged { fitting, inside })
 }
 
 /// What an iteration over a domain finds of the program that is read of a source.
@@ -92,13 +127,7 @@ pub fn report_solution<D: Show>(
     ensures own { IfOk result (λ r. TellsSolution D.shown options.fits solution.now.values.items
         solution.now.verdicts.items (report_of r)) }
 {
-    let fitting = judge_if(
-        alloc,
-        options.fits,
-        &front.graph.tree,
-        &solution.values,
-        solution.flagged,
-    )?;
+    let judged = judge_solution(alloc, options.fits, &front.graph.tree, solution)?;
     let states = states_of(alloc, &solution.values)?;
     let sites = front.graph.sites.as_slice();
     let outline = Outline {
@@ -108,8 +137,9 @@ pub fn report_solution<D: Show>(
     };
     let found = Found {
         assertions: &solution.verdicts,
-        fitting: &fitting.verdicts,
-        flagged: fitting.flagged,
+        fitting: &judged.fitting.verdicts,
+        inside: &judged.inside.verdicts,
+        flagged: judged.inside.flagged,
     };
     let report = list(alloc, &outline, options, states, &found)?;
     Ok(report)

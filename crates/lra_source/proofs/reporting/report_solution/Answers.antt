@@ -1,14 +1,14 @@
 -- Goals of `report_solution`: the report of what an iteration found of the program that is read of a source.
-use Rattle.std.proofs.Common.{◌≡◌, map, length, ap, ap₂, ◌∙◌, arith}
+use Rattle.std.proofs.Common.{◌≡◌, map, length, ap, ◌∙◌, arith}
 use Rattle.std.proofs.lemmas.List.{length-map}
 use Rattle.lra_tree.specs.Views.{tree_view}
 use Rattle.lra_operations.specs.GraphViews.{node_view, site_view}
 use Rattle.lra_flow.specs.Plan.{plan_of}
 use Rattle.lra_report.specs.View.{report_of}
-use Rattle.lra_listing.specs.Given.{told_all}
+use Rattle.lra_listing.specs.Views.{told_view}
 use Rattle.lra_source.proofs.ReportSteps.{few_points, tells_solution}
 use Rattle.lra_source.proofs.ReportSteps.{canonical_there, shown_there, states_handed, verdicts_handed, few_dims}
-use Rattle.lra_source.proofs.ReportSteps.{asked_handed, fitting_handed, behind_handed, is_told}
+use Rattle.lra_source.proofs.ReportSteps.{accessed_handed, asked_handed, fitting_handed, inside_handed, last_handed, is_told, told_so}
 use Rattle.lra_source.proofs.reporting.report_solution.Goals as goal
 
 pub list-requires-clause-numbers : goal.list-requires-clause-numbers
@@ -26,53 +26,73 @@ list-requires-clause-states g c =
     c.requires.solved
     g.met.D.Domain.laws c.args.options.domain g.D.Show.shown
     (shown_there g.D.Domain.meaning g.D.Show.shown c.args.options.domain g.D.Show.named c.args.solution.now.values.items _ c.requires.named
-    c.deref-2.ensures.value c.in_ok-states.ensures.told)
-    _ (c.in_ok-states.ensures.shown ∙ ap (map _) c.deref-2.ensures.value))
+    c.deref.ensures.value c.in_ok-states.ensures.told)
+    _ (c.in_ok-states.ensures.shown ∙ ap (map _) c.deref.ensures.value))
 
 pub list-requires-clause-verdicts : goal.list-requires-clause-verdicts
 list-requires-clause-verdicts g c =
-    rw (c.as_slice-sites.ensures.value, c.deref-3.ensures.value) (verdicts_handed g.D.Domain.meaning (tree_view c.args.front.now.tree)
+    rw (c.as_slice-sites.ensures.value, c.deref-2.ensures.value) (verdicts_handed g.D.Domain.meaning (tree_view c.args.front.now.tree)
     (node_view c.args.front.now.graph.tree) (map site_view c.args.front.now.graph.sites.items) c.requires.graph
     (plan_of c.args.options c.args.front.now.constants.items)
     c.args.solution.now.values.items c.args.solution.now.verdicts.items c.args.solution.now.flagged
     c.requires.solved)
 
-pub judge_if-requires-clause-few : goal.judge_if-requires-clause-few
-judge_if-requires-clause-few g c =
-    rw c.deref.ensures.value (few_dims g.D.Domain.meaning (tree_view c.args.front.now.tree) (node_view c.args.front.now.graph.tree)
+pub judge_solution-requires-clause-few : goal.judge_solution-requires-clause-few
+judge_solution-requires-clause-few g c =
+    few_dims g.D.Domain.meaning (tree_view c.args.front.now.tree) (node_view c.args.front.now.graph.tree)
     (map site_view c.args.front.now.graph.sites.items) c.requires.graph
     (plan_of c.args.options c.args.front.now.constants.items) c.args.solution.now.values.items c.args.solution.now.verdicts.items
     c.args.solution.now.flagged
-    c.requires.solved g.met.D.Domain.laws)
+    c.requires.solved g.met.D.Domain.laws
 
-pub judge_if-requires-clause-below : goal.judge_if-requires-clause-below
-judge_if-requires-clause-below g c =
-    rw c.deref.ensures.value (asked_handed g.D.Domain.meaning (tree_view c.args.front.now.tree) (node_view c.args.front.now.graph.tree)
+pub judge_solution-requires-clause-computing : goal.judge_solution-requires-clause-computing
+judge_solution-requires-clause-computing g c =
+    asked_handed g.D.Domain.meaning (tree_view c.args.front.now.tree) (node_view c.args.front.now.graph.tree)
     (map site_view c.args.front.now.graph.sites.items) c.requires.graph
     (plan_of c.args.options c.args.front.now.constants.items) c.args.solution.now.values.items c.args.solution.now.verdicts.items
     c.args.solution.now.flagged
-    c.requires.solved)
+    c.requires.solved
+
+pub judge_solution-requires-clause-accessing : goal.judge_solution-requires-clause-accessing
+judge_solution-requires-clause-accessing g c =
+    accessed_handed g.D.Domain.meaning (tree_view c.args.front.now.tree) (node_view c.args.front.now.graph.tree)
+    (map site_view c.args.front.now.graph.sites.items) c.requires.graph
+    (plan_of c.args.options c.args.front.now.constants.items) c.args.solution.now.values.items c.args.solution.now.verdicts.items
+    c.args.solution.now.flagged
+    c.requires.solved
 
 pub list-requires-clause-graph : goal.list-requires-clause-graph
 list-requires-clause-graph g c = (node_view c.args.front.now.graph.tree, c.requires.graph.is_graph)
 
 pub list-requires-clause-fitting : goal.list-requires-clause-fitting
 list-requires-clause-fitting g c = λ h also.
-    rw (c.as_slice-sites.ensures.value, c.deref-4.ensures.value) (fitting_handed g.D.Domain.meaning (tree_view c.args.front.now.tree)
+    rw (c.as_slice-sites.ensures.value, c.deref-3.ensures.value) (fitting_handed g.D.Domain.meaning (tree_view c.args.front.now.tree)
     (node_view c.args.front.now.graph.tree)
     (map site_view c.args.front.now.graph.sites.items) c.requires.graph
     (plan_of c.args.options c.args.front.now.constants.items) c.args.solution.now.values.items c.args.solution.now.verdicts.items
     c.args.solution.now.flagged
     c.requires.solved
-    c.args.options.fits c.in_ok-fitting.fitting.verdicts.items c.in_ok-fitting.fitting.flagged (rw c.deref.ensures.value at c.in_ok-fitting.ensures) h also)
+    c.args.options.fits c.in_ok-judged.judged.fitting.verdicts.items c.in_ok-judged.judged.fitting.flagged c.in_ok-judged.ensures.fits h also)
+
+pub list-requires-clause-inside : goal.list-requires-clause-inside
+list-requires-clause-inside g c = λ h also.
+    rw (c.as_slice-sites.ensures.value, c.deref-4.ensures.value) (inside_handed g.D.Domain.meaning (tree_view c.args.front.now.tree)
+    (node_view c.args.front.now.graph.tree)
+    (map site_view c.args.front.now.graph.sites.items) c.requires.graph
+    (plan_of c.args.options c.args.front.now.constants.items) c.args.solution.now.values.items c.args.solution.now.verdicts.items
+    c.args.solution.now.flagged
+    c.requires.solved
+    (map told_view c.in_ok-judged.judged.inside.verdicts.items) c.in_ok-judged.judged.fitting.flagged c.in_ok-judged.judged.inside.flagged
+    c.in_ok-judged.ensures.accesses h also)
 
 pub list-requires-clause-flag : goal.list-requires-clause-flag
 list-requires-clause-flag g c = λ q is.
-    let low = behind_handed g.D.Domain.meaning (tree_view c.args.front.now.tree) (node_view c.args.front.now.graph.tree)
+    let low = last_handed g.D.Domain.meaning (tree_view c.args.front.now.tree) (node_view c.args.front.now.graph.tree)
     (map site_view c.args.front.now.graph.sites.items) c.requires.graph
     (plan_of c.args.options c.args.front.now.constants.items) c.args.solution.now.values.items c.args.solution.now.verdicts.items c.args.solution.now.flagged
     c.requires.solved
-    c.args.options.fits c.in_ok-fitting.fitting.verdicts.items c.in_ok-fitting.fitting.flagged (rw c.deref.ensures.value at c.in_ok-fitting.ensures) q is in
+    c.args.options.fits c.in_ok-judged.judged.fitting.verdicts.items (map told_view c.in_ok-judged.judged.inside.verdicts.items)
+    c.in_ok-judged.judged.fitting.flagged c.in_ok-judged.judged.inside.flagged c.in_ok-judged.ensures.fits c.in_ok-judged.ensures.accesses q is in
     let points = ap length c.requires.graph.points in
     let same = length-map c.args.front.now.graph.sites.items site_view in
     let slice = ap length c.as_slice-sites.ensures.value in
@@ -82,24 +102,28 @@ pub returns-clause-told : goal.returns-clause-told
 returns-clause-told g c =
     let o = c.args.options in
     let values = c.args.solution.now.values.items in
-    let shown : map (λ x. x.items) c.in_ok-states.states.items ≡ map g.D.Show.shown values = c.in_ok-states.ensures.shown ∙ ap (map _) c.deref-2.ensures.value
+    let judged = c.in_ok-judged.judged in
+    let shown : map (λ x. x.items) c.in_ok-states.states.items ≡ map g.D.Show.shown values = c.in_ok-states.ensures.shown ∙ ap (map _) c.deref.ensures.value
     in
     is_told g.D.Domain.meaning g.D.Show.shown o c.args.front.now.constants.items (tree_view c.args.front.now.tree) (node_view c.args.front.now.graph.tree) (map site_view c.args.front.now.graph.sites.items)
-    values c.args.solution.now.verdicts.items c.args.solution.now.flagged c.in_ok-fitting.fitting.verdicts.items c.in_ok-fitting.fitting.flagged
+    values c.args.solution.now.verdicts.items c.args.solution.now.flagged judged.fitting.verdicts.items judged.fitting.flagged
+    (map told_view judged.inside.verdicts.items) judged.inside.flagged
     (map (λ x. x.items) c.in_ok-states.states.items) (report_of c.in_ok-report.report) c.requires.graph
     c.requires.solved
-    (rw c.deref.ensures.value at c.in_ok-fitting.ensures) shown (shown_there g.D.Domain.meaning g.D.Show.shown o.domain g.D.Show.named values _
-    c.requires.named c.deref-2.ensures.value c.in_ok-states.ensures.told)
+    c.in_ok-judged.ensures.fits c.in_ok-judged.ensures.accesses shown
+    (shown_there g.D.Domain.meaning g.D.Show.shown o.domain g.D.Show.named values _ c.requires.named c.deref.ensures.value c.in_ok-states.ensures.told)
     c.in_ok-states.ensures.spelled g.met.D.Domain.laws
-    (canonical_there g.D.Domain.meaning.dims g.D.Show.shown o.domain g.D.Show.named values _ c.requires.named c.deref-2.ensures.value
+    (canonical_there g.D.Domain.meaning.dims g.D.Show.shown o.domain g.D.Show.named values _ c.requires.named c.deref.ensures.value
     c.in_ok-states.ensures.canonical)
     c.in_ok-report.ensures.options c.in_ok-report.ensures.lists c.in_ok-report.ensures.states
-    (c.in_ok-report.ensures.verdicts ∙ ap₂ told_all c.deref-3.ensures.value c.deref-4.ensures.value) c.in_ok-report.ensures.flag
+    (told_so _ _ _ _ _ _ _ c.in_ok-report.ensures.verdicts c.deref-2.ensures.value c.deref-3.ensures.value (ap (map told_view) c.deref-4.ensures.value))
+    c.in_ok-report.ensures.flag
 
 pub returns-clause-own : goal.returns-clause-own
 returns-clause-own g c =
     tells_solution g.D.Domain.meaning g.D.Show.shown c.args.options.fits (node_view c.args.front.now.graph.tree) c.args.solution.now.values.items
-    c.args.solution.now.verdicts.items c.args.solution.now.flagged c.in_ok-fitting.fitting.verdicts.items c.in_ok-fitting.fitting.flagged
-    (map (λ x. x.items) c.in_ok-states.states.items) (report_of c.in_ok-report.report) (rw c.deref.ensures.value at c.in_ok-fitting.ensures)
-    (c.in_ok-states.ensures.shown ∙ ap (map _) c.deref-2.ensures.value) c.in_ok-report.ensures.states
-    (c.in_ok-report.ensures.verdicts ∙ ap₂ told_all c.deref-3.ensures.value c.deref-4.ensures.value)
+    c.args.solution.now.verdicts.items c.args.solution.now.flagged c.in_ok-judged.judged.fitting.verdicts.items c.in_ok-judged.judged.fitting.flagged
+    (map told_view c.in_ok-judged.judged.inside.verdicts.items)
+    (map (λ x. x.items) c.in_ok-states.states.items) (report_of c.in_ok-report.report) c.in_ok-judged.ensures.fits
+    (c.in_ok-states.ensures.shown ∙ ap (map _) c.deref.ensures.value) c.in_ok-report.ensures.states
+    (told_so _ _ _ _ _ _ _ c.in_ok-report.ensures.verdicts c.deref-2.ensures.value c.deref-3.ensures.value (ap (map told_view) c.deref-4.ensures.value))
