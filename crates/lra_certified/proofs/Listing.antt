@@ -1,26 +1,28 @@
 -- Verdicts as they are listed, and what a report shows of values and verdicts.
-use Rattle.std.proofs.Common.{◌≡◌, ◌∙◌, ◌<◌, ℕ, suc, Bool, true, false, List, [], ◌∷◌, cond, map, refl, ap, ap₂, sym, subst, arith}
-use Rattle.std.specs.Prelude.{Option, Some, option_map, slice_get, Contains}
-use Rattle.std.specs.List.{filter}
+use Rattle.std.proofs.Common.{◌≡◌, ◌∙◌, ◌<◌, ◌++◌, ℕ, suc, Bool, true, false, List, [], ◌∷◌, cond, map, refl, ap, ap₂, sym, subst, arith}
+use Rattle.std.specs.Prelude.{Option, Some, option_map, slice_get, Contains, ◌&&◌}
+use Rattle.std.specs.List.{filter, flat_map}
 use Rattle.std.proofs.lemmas.List.{append-nil}
+use Rattle.std.proofs.lemmas.List.Elements.{filter-append}
 use Rattle.std.proofs.lemmas.Option.{slice_get-get_or}
 use Rattle.std.proofs.lemmas.Simd.{map-map}
 use Rattle.lra_linear.specs.Descriptions.{Given}
 use Rattle.lra_linear.specs.Polyhedra.{Polyhedron}
 use Rattle.lra_linear.proofs.Membership.{map_from, filter_from}
+use Rattle.lra_base.specs.declared.refusals.Place.{Place}
 use Rattle.lra_program.specs.Sites.{Site}
 use Rattle.lra_show.specs.Part.{Generator}
 use Rattle.lra_show.specs.Rows.{Row}
 use Rattle.lra_show.specs.ShownDescriptions.{shown_constraint, shown_generator}
-use Rattle.lra_report.specs.declared.verdict_kinds.VerdictKind.{VerdictKind}
 use Rattle.lra_report.specs.declared.verdict_kinds.VerdictKind.TheVariants.{Assertion}
 use Rattle.lra_report.specs.Report.{PointReport, Verdict, Report}
-use Rattle.lra_listing.specs.Given.{IsAssertion, told, told_of, told_all}
+use Rattle.lra_listing.specs.Given.{IsAssertion, Told, told, told_from, told_accesses, told_of, told_all}
 use Rattle.lra_states.specs.Polyhedra.{part_if_any, shown_polyhedron}
 use Rattle.lra_source.specs.Stages.{TellsSolution}
 use Rattle.lra_certify.specs.Certified.{AscendStrictly, AreListable}
 use Rattle.lra_certified.specs.Taken.{rows_if_any, state_by, proved_in}
-use Rattle.lra_certified.specs.Certified.{rows_at, shown_rows, proved_numbers, ShowsRows}
+use Rattle.lra_certified.specs.Assertions.{is_assertion, is_proved_assertion, proved_numbers}
+use Rattle.lra_certified.specs.Certified.{rows_at, shown_rows, ShowsRows}
 
 -- ---- verdicts
 abbrev InOrder : List (ℕ × Bool) → Type 0
@@ -77,40 +79,62 @@ shown_all [] = refl
 shown_all (p ∷ ps) = ap₂ (λ (x : Option (List Row)) (xs : List (Option (List Row))). x ∷ xs) (shown_one p.generators p.rows (map shown_generator p.generators)) (shown_all ps)
 
 -- of the verdicts
-abbrev told_there : VerdictKind × ℕ × Bool → Bool
-told_there v = v.2
+abbrev asserted_so : Told → Bool
+asserted_so v = is_assertion v.0 && v.3
 
-abbrev verdict_there : Verdict → Bool
-verdict_there v = v.holds
+abbrev numbers_in : List Told → List ℕ
+numbers_in vs = map (λ (v : Told). v.1) (filter asserted_so vs)
 
-abbrev numbers_in : List (VerdictKind × ℕ × Bool) → List ℕ
-numbers_in vs = map (λ (v : VerdictKind × ℕ × Bool). v.1) (filter told_there vs)
+-- one more of them, where it is one of these
+one_more : (b : Bool) (n : ℕ) (v : Told) (vs : List Told) (ns : List ℕ) → v.1 ≡ n → map (λ (x : Told). x.1) vs ≡ ns
+    → map (λ (x : Told). x.1) (cond b (v ∷ vs) vs) ≡ cond b (n ∷ ns) ns
+one_more true n v vs ns same e = ap₂ (λ (k : ℕ) (l : List ℕ). k ∷ l) same e
+one_more false n v vs ns same e = e
+
+split_map : {A : Type 0} (f : A → ℕ) (b : Bool) (x : A) (xs : List A) → map f (cond b (x ∷ xs) xs) ≡ cond b (f x ∷ map f xs) (map f xs)
+split_map f true x xs = refl
+split_map f false x xs = refl
 
 numbers_told : (vs : List Verdict) → numbers_in (map told_of vs) ≡ proved_numbers vs
 numbers_told [] = refl
-numbers_told (v ∷ vs) = by v.holds (numbers_told vs)
-  where
-    by : (b : Bool) → numbers_in (map told_of vs) ≡ proved_numbers vs
-        → map (λ (x : VerdictKind × ℕ × Bool). x.1) (cond b (told_of v ∷ filter told_there (map told_of vs)) (filter told_there (map told_of vs)))
-        ≡ map (λ (x : Verdict). x.number) (cond b (v ∷ filter verdict_there vs) (filter verdict_there vs))
-    by true e = ap (λ (ns : List ℕ). v.number ∷ ns) e
-    by false e = e
+numbers_told (v ∷ vs) =
+    one_more (is_proved_assertion v) v.number (told_of v) (filter asserted_so (map told_of vs)) (proved_numbers vs) refl (numbers_told vs)
+    ∙ sym (split_map (λ (x : Verdict). x.number) (is_proved_assertion v) v (filter is_proved_assertion vs))
 
 numbers_proved : (vs : List (ℕ × Bool)) → numbers_in (map (told Assertion) vs) ≡ map suc (proved_in vs)
 numbers_proved [] = refl
-numbers_proved (v ∷ vs) = by v.1 (numbers_proved vs)
+numbers_proved (v ∷ vs) =
+    one_more v.1 (suc v.0) (told Assertion v) (filter asserted_so (map (told Assertion) vs)) (map suc (proved_in vs)) refl (numbers_proved vs)
+    ∙ sym (map_split v.1 v (filter holds_there vs))
   where
-    by : (b : Bool) → numbers_in (map (told Assertion) vs) ≡ map suc (proved_in vs)
-        → map (λ (x : VerdictKind × ℕ × Bool). x.1)
-        (cond b (told Assertion v ∷ filter told_there (map (told Assertion) vs)) (filter told_there (map (told Assertion) vs)))
-        ≡ map suc (map (λ (x : ℕ × Bool). x.0) (cond b (v ∷ filter holds_there vs) (filter holds_there vs)))
-    by true e = ap (λ (ns : List ℕ). suc v.0 ∷ ns) e
-    by false e = e
+    map_split : (b : Bool) (x : ℕ × Bool) (xs : List (ℕ × Bool))
+        → map suc (map (λ (y : ℕ × Bool). y.0) (cond b (x ∷ xs) xs))
+        ≡ cond b (suc x.0 ∷ map suc (map (λ (y : ℕ × Bool). y.0) xs)) (map suc (map (λ (y : ℕ × Bool). y.0) xs))
+    map_split true x xs = refl
+    map_split false x xs = refl
+
+-- accesses are no assertions
+told_none : (number n : ℕ) (js : List (Place × Bool)) → filter asserted_so (told_from number n js) ≡ []
+told_none number n [] = refl
+told_none number n (j ∷ js) = told_none number (suc n) js
+
+accesses_none : (inside : List (ℕ × List (Place × Bool))) → filter asserted_so (flat_map told_accesses inside) ≡ []
+accesses_none [] = refl
+accesses_none (v ∷ vs) =
+    filter-append asserted_so (told_accesses v) (flat_map told_accesses vs)
+    ∙ ap₂ (λ (xs ys : List Told). xs ++ ys) (told_none (suc v.0) 0 v.1) (accesses_none vs)
+
+numbers_all : (verdicts : List (ℕ × Bool)) (inside : List (ℕ × List (Place × Bool))) → numbers_in (told_all verdicts [] inside) ≡ map suc (proved_in verdicts)
+numbers_all verdicts inside =
+    ap (map (λ (v : Told). v.1)) (filter-append asserted_so (map (told Assertion) verdicts) (flat_map told_accesses inside)
+    ∙ ap (λ (l : List Told). filter asserted_so (map (told Assertion) verdicts) ++ l) (accesses_none inside)
+    ∙ append-nil (filter asserted_so (map (told Assertion) verdicts)))
+    ∙ numbers_proved verdicts
 
 pub shows_rows : (values : List Polyhedron) (verdicts : List (ℕ × Bool)) (r : Report) → TellsSolution shown_polyhedron false values verdicts r
     → ShowsRows r (map state_by values) (proved_in verdicts)
 shows_rows values verdicts r tells = record {
   rows_are = sym (map-map rows_at (λ (p : PointReport). p.state) r.points) ∙ ap (map rows_at) tells.states ∙ shown_all values;
-  proved_are = sym (numbers_told r.verdicts) ∙ ap numbers_in (tells.told ∙ ap (λ (f : List (ℕ × Bool)). told_all verdicts f) (tells.silent refl) ∙
-      append-nil (map (told Assertion) verdicts)) ∙ numbers_proved verdicts;
+  proved_are = sym (numbers_told r.verdicts) ∙ ap numbers_in (tells.told ∙ ap (λ (f : List (ℕ × Bool)). told_all verdicts f tells.inside) (tells.silent refl))
+      ∙ numbers_all verdicts tells.inside;
 }

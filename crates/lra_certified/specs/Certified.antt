@@ -1,12 +1,11 @@
 -- What a source deserves that is to be certified: a certificate with the rows, the empty points and the proved
 -- assertions of its report; or why it has none.
 use Rattle.std.specs.Prelude.{◌≡◌, ◌<◌, ◌^◌, ℕ, suc, ⊤, List, [], ◌∷◌, ◌++◌, map, Option, None, Some, option_map}
-use Rattle.std.specs.List.{filter}
 use Rattle.lra_tree.specs.Grammar.{Spells}
 use Rattle.lra_meaning.specs.Refuse.{Refuse}
 use Rattle.lra_show.specs.Rows.{Row}
 use Rattle.lra_show.specs.ShownDescriptions.{shown_constraint}
-use Rattle.lra_report.specs.Report.{Invariant, PointReport, Verdict, Report}
+use Rattle.lra_report.specs.Report.{Invariant, PointReport, Report}
 use Rattle.lra_paths.specs.Paths.{AreFewPaths, HasTooMany}
 use Rattle.lra_certificate.specs.Judged.{State}
 use Rattle.lra_certificate.specs.CertificateText.{head_text}
@@ -19,6 +18,7 @@ use Rattle.lra_source.specs.Answers.{IsAnswered}
 use Rattle.lra_certified.specs.declared.refusals.CertifyRefusal.{CertifyRefusal}
 use Rattle.lra_certified.specs.declared.refusals.CertifyRefusal.TheVariants.{Source, Paths, Strained}
 use Rattle.lra_certified.specs.Settings.{certify_options}
+use Rattle.lra_certified.specs.Assertions.{proved_numbers}
 
 -- what a report shows ----------------------------------------------------------------------------------------------
 
@@ -29,10 +29,6 @@ rows_at (part ∷ parts) = Some part.rows
 
 abbrev pub shown_rows : State → Option (List Row)
 shown_rows state = option_map (map shown_constraint) state
-
--- the numbers of the points of what is proved
-abbrev pub proved_numbers : List Verdict → List ℕ
-proved_numbers verdicts = map (λ (v : Verdict). v.number) (filter (λ (v : Verdict). v.holds) verdicts)
 
 -- the report shows these rows at its points, and as proved the assertions at these points, which it numbers from 1
 pub record ShowsRows (r : Report) (states : List State) (proved : List ℕ) : Type 0 where

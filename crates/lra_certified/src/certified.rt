@@ -13,11 +13,12 @@ ghost use Rattle.lra_polydom.specs.Meaning.{polyhedron_meaning};
 ghost use Rattle.lra_paths.specs.Paths.{AreFewPaths};
 ghost use Rattle.lra_certificate.specs.CertificateText.{text_line, numbered_text, head_text};
 ghost use Rattle.lra_certify.specs.Certified.{IsCertified, IsFailure};
-ghost use Rattle.lra_report.specs.View.{report_of};
+ghost use Rattle.lra_report.specs.View.{report_of, verdict_of};
 ghost use Rattle.lra_front.specs.Stages.{HasGraph};
 ghost use Rattle.lra_source.specs.Answers.{IsAnswered};
 ghost use Rattle.lra_certified.specs.Settings as settings;
 ghost use Rattle.lra_certified.specs.Taken.{state_by, proved_in};
+ghost use Rattle.lra_certified.specs.Assertions.{is_unknown_assertion, unknown_assertions};
 ghost use Rattle.lra_certified.specs.Certified.{IsCertificateOf, IsCounted, IsRefusedSo};
 ghost use Rattle.lra_certified.specs.Refusals.{IfRefusal};
 
@@ -28,7 +29,7 @@ use lra_certify::{CertifyFailure, certify};
 use lra_front::{Front, read_source};
 use lra_iter::{Plan, Solution};
 use lra_polydom::Polyhedron;
-use lra_report::Report;
+use lra_report::{Report, Verdict, VerdictKind};
 use lra_source::{report_solution, solve_front};
 use std::alloc::{AllocError, Global};
 use std::fmt::Write;
@@ -38,6 +39,29 @@ use std::fmt::Write;
 pub struct Certified {
     pub report: Report,
     pub text: Vec<u8>,
+}
+
+/// Whether the verdict is on an assertion, and unknown.
+fn is_unknown(verdict: &Verdict) -> bool
+    ensures { result ≡ is_unknown_assertion (verdict_of verdict.now) }
+{
+    match verdict.kind {
+        VerdictKind::Assertion => !verdict.holds,
+        VerdictKind::Fit | VerdictKind::Access => false,
+    }
+}
+
+impl Certified {
+    /// How many of the report's assertions are unknown.
+    pub fn unknown_assertions(&self) -> usize
+        ensures { result ≡ unknown_assertions (report_of self.now.report).verdicts }
+    {
+        self.report
+            .verdicts
+            .iter()
+            .filter(|v| is_unknown(v))
+            .count()
+    }
 }
 
 /// Adds `certificate bytes B`.
