@@ -18,7 +18,7 @@ use Rattle.lra_top.specs.CertificateAnswer.{verified_text, DeservesCertificate}
 use Rattle.lra_top.specs.CertifyAnswer.{IsCertified, DeservesCertified}
 use Rattle.lra_top.specs.Run.{IsInput, Writes}
 use Rattle.lra_top.specs.Headline.{WritesCertificate}
-use Rattle.lra_top.proofs.Headline.{holds, is_written, same_points, tells_fits}
+use Rattle.lra_top.proofs.Headline.{holds, is_written, same_points, tells_accesses, tells_fits}
 use Rattle.lra_top.proofs.Ways.{asked_input}
 use Rattle.lra_answers.specs.declared.status.Status.{Status}
 use Rattle.lra_answers.specs.declared.status.Status.TheVariants.{Proved, Refused}
@@ -57,6 +57,7 @@ of_certified left held_old held_new bytes text status input d written =
       holds = holds certify_options bytes d.report d.answered;
       written_iteration = is_written certify_options bytes d.report d.answered;
       fits = tells_fits certify_options bytes d.report d.answered;
+      accesses = tells_accesses certify_options bytes d.report d.answered;
       same_points = same_points certify_options bytes d.report d.answered;
       counted = d.counted;
       text = text;

@@ -2,14 +2,13 @@
 use Rattle.std.proofs.Common.{◌≡◌, ◌<◌, ℕ, List, ◌++◌, length, sym, subst, inl, inr}
 use Rattle.std.specs.Prelude.{Some}
 use Rattle.lra_base.specs.Places.{greatest_length}
-use Rattle.lra_meaning.specs.Refuse.{too_long}
 use Rattle.lra_report.specs.Report.{Report}
-use Rattle.lra_report.specs.ReportText.{unknown_count}
 use Rattle.lra_front.proofs.EachAnswer.{each_answer}
 use Rattle.lra_source.specs.Answers.{IsAnswered}
 use Rattle.lra_certified.specs.declared.refusals.CertifyRefusal.{CertifyRefusal}
 use Rattle.lra_certified.specs.declared.refusals.CertifyRefusal.TheVariants.{Source, Paths, Strained}
 use Rattle.lra_certified.specs.Settings.{certify_options}
+use Rattle.lra_certified.specs.Assertions.{unknown_assertions}
 use Rattle.lra_certified.specs.Certified.{IsCertificateOf, IsRefusedSo}
 use Rattle.lra_certified.proofs.OneRefusal.{many_refused}
 use Rattle.lra_answers.specs.Statuses.{Ends, reported, refused, source_statuses}
@@ -24,7 +23,7 @@ use Rattle.lra_answers.specs.declared.status.Status.TheVariants.{Refused}
 -- answers ------------------------------------------------------------------------
 
 pub deserves_certificate : (bytes text : List ℕ) (r : Report) (status : Status) → IsAnswered certify_options bytes r → IsCertificateOf bytes r text
-    → status ≡ report_status (unknown_count r.verdicts) → DeservesCertified bytes text status
+    → status ≡ report_status (unknown_assertions r.verdicts) → DeservesCertified bytes text status
 deserves_certificate bytes text r status answered certificate counted =
     inr (record { report = r; answered = answered; certificate = certificate; counted = counted })
 
@@ -51,7 +50,7 @@ longer bytes rest text status long (inr d) = absurd (not_past bytes long d.answe
 
 certified_ends : (bytes text : List ℕ) (status : Status) → DeservesCertified bytes text status → Ends source_statuses status
 certified_ends bytes text status (inl (d, is)) = inl is
-certified_ends bytes text status (inr d) = inr (subst (Ends reported) (sym d.counted) (report_ends (unknown_count d.report.verdicts)))
+certified_ends bytes text status (inr d) = inr (subst (Ends reported) (sym d.counted) (report_ends (unknown_assertions d.report.verdicts)))
 
 never_certified : (bytes text : List ℕ) (status : Status) → (IsCertified bytes text status → ⊥) → DeservesCertified bytes text status → Ends refused status
 never_certified bytes text status never (inl (d, is)) = inl is

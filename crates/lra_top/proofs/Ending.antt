@@ -14,11 +14,12 @@ use Rattle.lra_answers.specs.Statuses.{Ends, reported, answered, silent, faults}
 use Rattle.lra_top.specs.SourceAnswer.{written_report}
 use Rattle.lra_top.specs.Commands.{asked_limit, CallsFor}
 use Rattle.lra_top.specs.Run.{IsAsked, IsDeserved, Writes, WritesPart, IsRead, IsCounted}
-use Rattle.lra_top.specs.Headline.{WritesReport, HoldsInAllRuns, IsWrittenUnlessFlagged, TellsFits, TellsSamePoints, WritesCertificate, WritesSummary, WritesVerified}
+use Rattle.lra_top.specs.Headline.{WritesReport, HoldsInAllRuns, IsWrittenUnlessFlagged, TellsAccesses, TellsFits, TellsSamePoints, WritesCertificate}
+use Rattle.lra_top.specs.Headline.{WritesSummary, WritesVerified}
 use Rattle.lra_top.specs.Prepared.{IsReadBy, PrepareCause, Told, IsWritten, Ending}
 use Rattle.lra_top.proofs.Reading.{read_as}
 use Rattle.lra_top.proofs.Ways.{asked_ends, answered_status, usage_status}
-use Rattle.lra_top.proofs.Headline.{holds, is_written, same_points, tells_fits, writes_report, writes_summary}
+use Rattle.lra_top.proofs.Headline.{holds, is_written, same_points, tells_accesses, tells_fits, writes_report, writes_summary}
 use Rattle.lra_top.proofs.Certified.{writes_certificate}
 use Rattle.lra_top.proofs.Verified.{writes_verified}
 use Rattle.lra_answers.specs.declared.status.Status.{Status}
@@ -165,6 +166,12 @@ module _ {words : List (List ℕ)} {t : Told} {status : Status} (e : Ending word
       → WritesReport options (written_report format) (TellsFits options) t.left t.held t.held_now
   all_fit options format asks ends =
       writes_report (TellsFits options) words t.left t.held t.held_now options format (tells_fits options) status asks ends
+      (written (reported_answered status ends))
+
+  pub all_accesses : (options : Options) (format : Format) → Asks words (Analyse options format) → Ends reported status
+      → WritesReport options (written_report format) (TellsAccesses options) t.left t.held t.held_now
+  all_accesses options format asks ends =
+      writes_report (TellsAccesses options) words t.left t.held t.held_now options format (tells_accesses options) status asks ends
       (written (reported_answered status ends))
 
   pub all_same : (options : Options) (format : Format) → Asks words (Analyse options format) → Ends reported status

@@ -3,6 +3,7 @@ use Rattle.std.proofs.Common.{◌≡◌, ◌∙◌, ℕ, suc, ℤ, List, [], ◌
 use Rattle.std.specs.Prelude.{IsTrue, Option, None, Some, option_map}
 use Rattle.std.specs.List.{AllByRecursion}
 use Rattle.std.specs.Io.KnownBytes.{Appends}
+use Rattle.lra_base.specs.declared.refusals.Place.{Place}
 use Rattle.lra_options.specs.declared.options.Domain.{Domain}
 use Rattle.lra_options.specs.declared.options.Domain.TheVariants.{Poly}
 use Rattle.lra_options.specs.declared.options.Options.{Options}
@@ -13,7 +14,7 @@ use Rattle.lra_flow.specs.Operations.{dropping}
 use Rattle.lra_flow.specs.Fits.{Judges, JudgesIf}
 use Rattle.lra_operations.specs.Graph.{Node}
 use Rattle.lra_listing.specs.Given.{told_all, told_of}
-use Rattle.lra_source.proofs.FitsHanded.{unflagged_before}
+use Rattle.lra_source.proofs.OneReport.{unflagged_behind, unflagged_first}
 use Rattle.lra_meaning.specs.Resolve.{resolve}
 use Rattle.lra_report.specs.Report.{Invariant, Holds, PointReport, Report, IsInvariant}
 use Rattle.lra_show.specs.Part.{Part}
@@ -30,8 +31,8 @@ use Rattle.lra_words.specs.declared.chosen.Command.TheVariants.{Analyse, Sample}
 use Rattle.lra_answers.specs.Statuses.{Ends, reported}
 use Rattle.lra_top.specs.SourceAnswer.{DeservesSource, written_report}
 use Rattle.lra_top.specs.Run.{IsInput, Writes}
-use Rattle.lra_top.specs.Headline.{WritesReport, IsNeverReached, HoldsInAllRuns, TellsWritten, IsWrittenUnlessFlagged, TellsFitting, TellsFits, ShowsSamePoints}
-use Rattle.lra_top.specs.Headline.{TellsSamePoints, WritesSummary}
+use Rattle.lra_top.specs.Headline.{WritesReport, IsNeverReached, HoldsInAllRuns, TellsWritten, IsWrittenUnlessFlagged, TellsAccessing}
+use Rattle.lra_top.specs.Headline.{TellsAccesses, TellsFitting, TellsFits, ShowsSamePoints, TellsSamePoints, WritesSummary}
 use Rattle.lra_top.proofs.Ways.{asked_input}
 use Rattle.lra_answers.specs.declared.status.Status.{Status}
 use Rattle.lra_answers.specs.declared.status.Status.TheVariants.{Refused}
@@ -63,8 +64,9 @@ unflagged (Some q) e = let wrong : ⊥ = cc in absurd wrong
 tells_written : {V H : Type 0} (m : Meaning V H) (shown : V → Invariant) (o : Options) (constants : List ℤ) (P : Program) (r : Report) → r.flagged ≡ None
     → IsAnalysed m shown o constants P r → TellsWritten m shown o constants P r
 tells_written m shown o constants P r free x =
-    let none_behind = unflagged x.behind (sym x.flag ∙ free) in
-    let none = unflagged_before m (dropping m) o.fits x.tree x.values x.flagged x.fitting x.behind none_behind x.judged in
+    let none_last = unflagged x.last (sym x.flag ∙ free) in
+    let none_behind = unflagged_behind m x none_last in
+    let none = unflagged_first m x none_last in
     record {
       tree = x.tree;
       is_graph = x.is_graph;
@@ -77,6 +79,8 @@ tells_written m shown o constants P r free x =
       are_shown = x.are_shown;
       fitting = x.fitting;
       judged = x.judged_written none_behind;
+      inside = x.inside;
+      accessed = x.accessed_written none_last;
       proved = x.proved;
     }
 
@@ -90,6 +94,37 @@ is_written o bytes r a = record {
       let P = resolve a.report.tree in
       let ks = a.constants in
       over_each (λ V H m shown. IsAnalysed m shown o ks P r) (λ V H m shown. TellsWritten m shown o ks P r) (λ V H m shown x. tells_written m shown o ks P r free x) o a.analysed;
+}
+
+-- accesses ------------------------------------------------------------------------
+
+abbrev tells_accessing : {V H : Type 0} (m : Meaning V H) (shown : V → Invariant) (o : Options) (constants : List ℤ) (P : Program) (r : Report)
+    → IsAnalysed m shown o constants P r → TellsAccessing m shown o P r
+tells_accessing m shown o constants P r x = record {
+  tree = x.tree;
+  is_graph = x.is_graph;
+  values = x.values;
+  states = x.states;
+  are_shown = x.are_shown;
+  verdicts = x.verdicts;
+  fitting = x.fitting;
+  behind = x.behind;
+  inside = x.inside;
+  last = x.last;
+  accessed = x.accessed;
+  told = x.proved;
+  flag = x.flag;
+}
+
+pub tells_accesses : (o : Options) (bytes : List ℕ) (r : Report) → IsAnswered o bytes r → TellsAccesses o bytes r
+tells_accesses o bytes r a = record {
+  tree = a.report.tree;
+  accepted = a.report.accepted;
+  right = a.report.sound.verdicts;
+  tells =
+      let P = resolve a.report.tree in
+      over_each (λ V H m shown. IsAnalysed m shown o a.constants P r) (λ V H m shown. TellsAccessing m shown o P r)
+      (λ V H m shown x. tells_accessing m shown o a.constants P r x) o a.analysed;
 }
 
 -- what fits -----------------------------------------------------------------------
@@ -109,22 +144,19 @@ judges_none m false g values flagged fitting behind is j = j.0
 tells_fitting : {V H : Type 0} (m : Meaning V H) (shown : V → Invariant) (o : Options) (constants : List ℤ) (P : Program) (r : Report) → IsTrue o.fits
     → IsAnalysed m shown o constants P r → TellsFitting m shown o P r
 tells_fitting m shown o constants P r asked x = record {
-  tree = x.tree;
-  is_graph = x.is_graph;
-  values = x.values;
-  states = x.states;
-  are_shown = x.are_shown;
-  verdicts = x.verdicts;
+  beside = tells_accessing m shown o constants P r x;
   flagged = x.flagged;
-  fitting = x.fitting;
-  behind = x.behind;
   judged = judges_so m o.fits x.tree x.values x.flagged x.fitting x.behind asked x.judged;
-  told = x.proved;
-  flag = x.flag;
 }
 
 abbrev Silent : Report → Type 0
-Silent r = (verdicts : List (ℕ × Bool)) × (map told_of r.verdicts ≡ told_all verdicts [])
+Silent r = (verdicts : List (ℕ × Bool)) × (inside : List (ℕ × List (Place × Bool))) × (map told_of r.verdicts ≡ told_all verdicts [] inside)
+
+silent_so : {V H : Type 0} (m : Meaning V H) (shown : V → Invariant) (o : Options) (constants : List ℤ) (P : Program) (r : Report) → o.fits ≡ false
+    → IsAnalysed m shown o constants P r → Silent r
+silent_so m shown o constants P r never x =
+    let none = judges_none m o.fits x.tree x.values x.flagged x.fitting x.behind never x.judged in
+    (x.verdicts, x.inside, x.proved ∙ ap (λ (f : List (ℕ × Bool)). told_all x.verdicts f x.inside) none)
 
 pub tells_fits : (o : Options) (bytes : List ℕ) (r : Report) → IsAnswered o bytes r → TellsFits o bytes r
 tells_fits o bytes r a = record {
@@ -137,8 +169,7 @@ tells_fits o bytes r a = record {
       (λ V H m shown x. tells_fitting m shown o a.constants P r asked x) o a.analysed;
   silent = λ never.
       over_same (Silent r) o (over_each (λ V H m shown. IsAnalysed m shown o a.constants (resolve a.report.tree) r) (λ V H m shown. Silent r)
-      (λ V H m shown x. (x.verdicts, x.proved ∙ ap (told_all x.verdicts) (judges_none m o.fits x.tree x.values x.flagged x.fitting x.behind never x.judged))) o
-      a.analysed);
+      (λ V H m shown x. silent_so m shown o a.constants (resolve a.report.tree) r never x) o a.analysed);
 }
 
 -- rows and generators -------------------------------------------------------------

@@ -3,7 +3,6 @@ use Rattle.std.specs.Prelude.{◌≡◌, ◌⊎◌, ℕ, suc, List, ◌++◌, co
 use Rattle.std.specs.Fmt.{decimal}
 use Rattle.lra_show.specs.Texts.{text_line}
 use Rattle.lra_report.specs.Report.{Report}
-use Rattle.lra_report.specs.ReportText.{unknown_count}
 use Rattle.lra_report.specs.RefusalText.{refusal_text}
 use Rattle.lra_front.specs.Claims.{HasRefusal}
 use Rattle.lra_paths.specs.Paths.{HasTooMany}
@@ -13,6 +12,7 @@ use Rattle.lra_source.specs.Answers.{IsAnswered}
 use Rattle.lra_certified.specs.declared.refusals.CertifyRefusal.{CertifyRefusal}
 use Rattle.lra_certified.specs.declared.refusals.CertifyRefusal.TheVariants.{Source, Paths, Strained}
 use Rattle.lra_certified.specs.Settings.{certify_options}
+use Rattle.lra_certified.specs.Assertions.{unknown_assertions}
 use Rattle.lra_certified.specs.Certified.{IsCertificateOf, IsRefusedSo}
 use Rattle.lra_answers.specs.Statuses.{refused}
 use Rattle.lra_answers.specs.declared.status.Status.{Status}
@@ -33,12 +33,12 @@ pub record IsCertifyRefusal (bytes text : List ℕ) : Type 0 where
   pub refused : IsRefusedSo bytes refusal
   pub written : text ≡ refused_text refusal
 
--- the text is a certificate by a report which the source deserves, and the status is the report's
+-- the text is a certificate by a report which the source deserves, and the status is that of the report's assertions
 pub record IsCertified (bytes text : List ℕ) (status : Status) : Type 0 where
   pub report : Report
   pub answered : IsAnswered certify_options bytes report
   pub certificate : IsCertificateOf bytes report text
-  pub counted : status ≡ report_status (unknown_count report.verdicts)
+  pub counted : status ≡ report_status (unknown_assertions report.verdicts)
 
 -- the text and the status that a source deserves that is to be certified
 abbrev pub DeservesCertified : List ℕ → List ℕ → Status → Type 0

@@ -3,6 +3,7 @@ use Rattle.std.specs.Prelude.{◌≡◌, ◌≤◌, ℕ, suc, ℤ, List, [], len
 use Rattle.std.specs.Prelude.{◌∷◌, pos, option_map, slice_get, Contains}
 use Rattle.std.specs.List.{AllByRecursion}
 use Rattle.std.specs.Io.KnownBytes.{Appends}
+use Rattle.lra_base.specs.declared.refusals.Place.{Place}
 use Rattle.lra_options.specs.declared.options.Domain.TheVariants.{Poly}
 use Rattle.lra_options.specs.declared.options.Options.{Options}
 use Rattle.lra_tree.specs.Trees.{FileTree}
@@ -22,6 +23,7 @@ use Rattle.lra_flow.specs.Pass.{Result}
 use Rattle.lra_flow.specs.Analysis.{Written, Solves}
 use Rattle.lra_flow.specs.Operations.{defined, dropping}
 use Rattle.lra_flow.specs.Fits.{Judges, JudgesIf}
+use Rattle.lra_flow.specs.Accesses.{JudgesAccesses}
 use Rattle.lra_report.specs.Report.{Invariant, PointReport, Report, IsRight, IsSound}
 use Rattle.lra_report.specs.Parts.{HasSamePoints}
 use Rattle.lra_report.specs.Listing.{Lists}
@@ -32,10 +34,10 @@ use Rattle.lra_source.specs.Answers.{Over, IsAnswered}
 use Rattle.lra_certificate.specs.Certificates.{Listed, Certificate}
 use Rattle.lra_certificate.specs.Claims.{IsCertificate, greatest_certificate}
 use Rattle.lra_certified.specs.Settings.{certify_options}
+use Rattle.lra_certified.specs.Assertions.{unknown_assertions}
 use Rattle.lra_certified.specs.Certified.{IsCertificateOf, IsCertificateWith}
 use Rattle.lra_states.specs.Shown.{AreShown}
 use Rattle.lra_words.specs.Chosen.{default_options}
-use Rattle.lra_report.specs.ReportText.{unknown_count}
 use Rattle.lra_answers.specs.declared.status.Status.{Status}
 use Rattle.lra_answers.specs.declared.status.Status.TheVariants.{Proved}
 use Rattle.lra_top.specs.SourceAnswer.{report_status}
@@ -58,8 +60,8 @@ abbrev pub IsNeverReached : Program → PointReport → Type 0
 IsNeverReached P p = p.state ≡ [] → (store : List ℤ) → At P p.point store → ⊥
 
 -- The report lists all points of the accepted source and what is judged of them. Each state holds whenever a run is at
--- its point, no assertion that is marked proved fails, no run stops by a number where all is told to fit, and no point
--- that is shown as unreachable is reached.
+-- its point, no assertion that is marked proved fails, no run stops by a number where all is told to fit, no access
+-- that is told to be in bounds is evaluated outside its array, and no point that is shown as unreachable is reached.
 pub record HoldsInAllRuns (bytes : List ℕ) (r : Report) : Type 0 where
   pub tree : FileTree
   pub accepted : Accepts Spells bytes tree
@@ -69,8 +71,8 @@ pub record HoldsInAllRuns (bytes : List ℕ) (r : Report) : Type 0 where
 
 -- the report tells what the written iteration finds, whose loops have these constants as thresholds where the options
 -- ask for such: at each point the state that shows its value there, whose rows
--- mean the value, on each assertion its verdict and, where it is asked for, at each point at which something is
--- computed whether all of it fits
+-- mean the value, on each assertion its verdict, where it is asked for at each point at which something is computed
+-- whether all of it fits, and of each access whether it lies inside its array
 pub record TellsWritten {V H : Type 0} (m : Meaning V H) (shown : V → Invariant) (o : Options) (constants : List ℤ)
     (P : Program) (r : Report) : Type 0 where
   pub tree : Node
@@ -84,7 +86,9 @@ pub record TellsWritten {V H : Type 0} (m : Meaning V H) (shown : V → Invarian
   pub are_shown : AreShown m o.domain shown values
   pub fitting : List (ℕ × Bool)
   pub judged : JudgesIf m (defined m) o.fits tree values None fitting None
-  pub proved : map told_of r.verdicts ≡ told_all verdicts fitting
+  pub inside : List (ℕ × List (Place × Bool))
+  pub accessed : JudgesAccesses m (defined m) tree values None inside None
+  pub proved : map told_of r.verdicts ≡ told_all verdicts fitting inside
 
 -- where nothing is flagged, every value is the written iteration's, by the source's own constants
 pub record IsWrittenUnlessFlagged (o : Options) (bytes : List ℕ) (r : Report) : Type 0 where
@@ -94,9 +98,10 @@ pub record IsWrittenUnlessFlagged (o : Options) (bytes : List ℕ) (r : Report) 
   pub own : HasConstants bytes constants
   pub tells : r.flagged ≡ None → Over o (λ V H m shown. TellsWritten m shown o constants (resolve tree) r)
 
--- Where it is asked for, a line for each point at which something is computed tells whether all of it fits by the
--- values whose states are shown: it may overflow exactly where something doesn't.
-pub record TellsFitting {V H : Type 0} (m : Meaning V H) (shown : V → Invariant) (o : Options) (P : Program)
+-- A line for each access of an array, in the order in which they are evaluated at each point, tells whether it is in
+-- bounds by the values whose states are shown: it is unknown exactly where these leave an index outside. Behind what is
+-- flagged of all else stands what is flagged of that.
+pub record TellsAccessing {V H : Type 0} (m : Meaning V H) (shown : V → Invariant) (o : Options) (P : Program)
     (r : Report) : Type 0 where
   pub tree : Node
   pub is_graph : IsGraph P tree
@@ -104,12 +109,28 @@ pub record TellsFitting {V H : Type 0} (m : Meaning V H) (shown : V → Invarian
   pub states : map (λ (p : PointReport). p.state) r.points ≡ map shown values
   pub are_shown : AreShown m o.domain shown values
   pub verdicts : List (ℕ × Bool)
-  pub flagged : Option ℕ
   pub fitting : List (ℕ × Bool)
   pub behind : Option ℕ
-  pub judged : Judges m (dropping m) tree values flagged fitting behind
-  pub told : map told_of r.verdicts ≡ told_all verdicts fitting
-  pub flag : r.flagged ≡ option_map suc behind
+  pub inside : List (ℕ × List (Place × Bool))
+  pub last : Option ℕ
+  pub accessed : JudgesAccesses m (dropping m) tree values behind inside last
+  pub told : map told_of r.verdicts ≡ told_all verdicts fitting inside
+  pub flag : r.flagged ≡ option_map suc last
+
+-- and no run evaluates an access outside its array that is told to be in bounds
+pub record TellsAccesses (o : Options) (bytes : List ℕ) (r : Report) : Type 0 where
+  pub tree : FileTree
+  pub accepted : Accepts Spells bytes tree
+  pub right : AllByRecursion (IsRight (resolve tree)) r.verdicts
+  pub tells : Over o (λ V H m shown. TellsAccessing m shown o (resolve tree) r)
+
+-- Where it is asked for, a line for each point at which something is computed tells whether all of it fits by the
+-- values whose states are shown: it may overflow exactly where something doesn't.
+pub record TellsFitting {V H : Type 0} (m : Meaning V H) (shown : V → Invariant) (o : Options) (P : Program)
+    (r : Report) : Type 0 where
+  pub beside : TellsAccessing m shown o P r
+  pub flagged : Option ℕ
+  pub judged : Judges m (dropping m) beside.tree beside.values flagged beside.fitting beside.behind
 
 -- and where all of it fits no run stops there by a number; where it isn't asked for nothing is told of it
 pub record TellsFits (o : Options) (bytes : List ℕ) (r : Report) : Type 0 where
@@ -117,7 +138,8 @@ pub record TellsFits (o : Options) (bytes : List ℕ) (r : Report) : Type 0 wher
   pub accepted : Accepts Spells bytes tree
   pub right : AllByRecursion (IsRight (resolve tree)) r.verdicts
   pub tells : IsTrue o.fits → Over o (λ V H m shown. TellsFitting m shown o (resolve tree) r)
-  pub silent : o.fits ≡ false → (verdicts : List (ℕ × Bool)) × (map told_of r.verdicts ≡ told_all verdicts [])
+  pub silent : o.fits ≡ false → (verdicts : List (ℕ × Bool)) × (inside : List (ℕ × List (Place × Bool))) ×
+      (map told_of r.verdicts ≡ told_all verdicts [] inside)
 
 abbrev pub ShowsSamePoints : PointReport → Type 0
 ShowsSamePoints p = AllByRecursion (HasSamePoints (length p.names)) p.state
@@ -156,8 +178,8 @@ pub record WritesVerified (left held_old held_new : Option (List ℕ)) : Type 0 
 
 -- The certificate of a report that the input deserves, in which nothing is narrowed, is written whole: it has the rows,
 -- the empty points and the proved assertions of that report, of which all is claimed that is claimed of reports, and the
--- status is that report's. It is a certificate that meets its program, so it deserves to be verified where it isn't too
--- long.
+-- status is that of its assertions alone. It is a certificate that meets its program, so it deserves to be verified
+-- where it isn't too long.
 pub record WritesCertificate (left held_old held_new : Option (List ℕ)) (status : Status) : Type 0 where
   pub bytes : List ℕ
   pub input : IsInput left bytes
@@ -166,8 +188,9 @@ pub record WritesCertificate (left held_old held_new : Option (List ℕ)) (statu
   pub holds : HoldsInAllRuns bytes report
   pub written_iteration : IsWrittenUnlessFlagged certify_options bytes report
   pub fits : TellsFits certify_options bytes report
+  pub accesses : TellsAccesses certify_options bytes report
   pub same_points : TellsSamePoints certify_options bytes report
-  pub counted : status ≡ report_status (unknown_count report.verdicts)
+  pub counted : status ≡ report_status (unknown_assertions report.verdicts)
   pub text : List ℕ
   pub certificate : IsCertificateOf bytes report text
   pub meets : IsCertificateWith bytes certificate.states certificate.proved text

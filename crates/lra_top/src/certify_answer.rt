@@ -6,7 +6,7 @@ ghost use Rattle.lra_certified.specs.Certified.{IsCounted};
 ghost use Rattle.lra_top.specs.CertifyAnswer.{DeservesCertified, refused_text};
 
 use crate::certificate_answer::push_paths;
-use crate::source_answer::status_of;
+use crate::source_answer::status_by;
 use lra_answers::{Answer, Status};
 use lra_certified::{Certified, CertifyError, CertifyRefusal, StrainedAt, certify_source};
 use lra_report::refusal_text;
@@ -58,8 +58,8 @@ pub fn answer_certified(alloc: Global, bytes: &[u8]) -> Result<Answer, AllocErro
 {
     match certify_source(alloc, bytes) {
         Ok(certified) => {
-            let Certified { report, text } = certified;
-            let status = status_of(&report);
+            let status = status_by(certified.unknown_assertions());
+            let Certified { report: _, text } = certified;
             Ok(Answer { text, status })
         }
         Err(CertifyError::Refused(refusal)) => Ok(Answer {

@@ -13,16 +13,23 @@ use lra_source::analyse_source;
 use lra_words::Format;
 use std::alloc::{AllocError, Global};
 
-/// The status of a report.
+/// The status of a report in which so many verdicts are unknown.
 #[tactic(auto, using(crate::proofs::SourceWays::counting))]
-pub(crate) fn status_of(report: &Report) -> Status
-    ensures { result ≡ report_status (unknown_count (view.report_of report.now).verdicts) }
+pub(crate) fn status_by(unknown: usize) -> Status
+    ensures { result ≡ report_status unknown }
 {
-    if report.unknown_count() == 0 {
+    if unknown == 0 {
         Status::Proved
     } else {
         Status::Unknown
     }
+}
+
+/// The status of a report.
+pub(crate) fn status_of(report: &Report) -> Status
+    ensures { result ≡ report_status (unknown_count (view.report_of report.now).verdicts) }
+{
+    status_by(report.unknown_count())
 }
 
 /// A report as it is written, a row for each output.

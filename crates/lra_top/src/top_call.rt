@@ -14,7 +14,8 @@ ghost use Rattle.lra_top.specs.SourceAnswer.{written_report};
 ghost use Rattle.lra_top.specs.Commands.{limit_of, asked_limit, CallsFor};
 ghost use Rattle.lra_top.specs.Run.{usage_text, IsAsked, IsDeserved, Writes, WritesPart, IsRead, IsCounted};
 ghost use Rattle.lra_top.specs.Headline.{WritesReport, HoldsInAllRuns, IsWrittenUnlessFlagged};
-ghost use Rattle.lra_top.specs.Headline.{TellsFits, TellsSamePoints, WritesCertificate, WritesSummary, WritesVerified};
+ghost use Rattle.lra_top.specs.Headline.{TellsAccesses, TellsFits, TellsSamePoints};
+ghost use Rattle.lra_top.specs.Headline.{WritesCertificate, WritesSummary, WritesVerified};
 ghost use Rattle.lra_top.specs.Prepared.{IsInputText, IsTaken, IsReadBy, PrepareCause, Ending};
 
 use crate::commands::{answer_command, limit_of};
@@ -159,52 +160,63 @@ pub fn run<S: Source, K: Sink>(
     source: &mut S,
     sink: &mut K,
 ) -> Status
-    // What is written, by status: the text that the words and the input's bytes deserve, whole; or a front of it, and
-    // not all of it; or nothing.
+    // What is written, by status: the text that the words and the input's bytes deserve, whole; or
+    // a front of it, and not all of it; or nothing.
     ensures written { Ends answered result →
-        Writes (map string_bytes words.now) (S.left source.old) (K.held sink.old) (K.held sink.new) result }
+        Writes (map string_bytes words.now) (S.left source.old) (K.held sink.old)
+        (K.held sink.new) result }
     ensures part { result ≡ Status.WriteFault →
-        WritesPart (map string_bytes words.now) (S.left source.old) (K.held sink.old) (K.held sink.new)
-        (K.spare sink.old) }
+        WritesPart (map string_bytes words.now) (S.left source.old) (K.held sink.old)
+        (K.held sink.new) (K.spare sink.old) }
     ensures nothing { Ends silent result → Keeps (K.held sink.old) (K.held sink.new) }
 
-    // Where the words ask for a report and the status is that of one, the one report that the input deserves and that
-    // is written so, in the words' format: it holds in all runs; where nothing is flagged, it tells what the written
-    // iteration finds; over polyhedra rows and generators tell the same points.
+    // Where the words ask for a report and the status is that of one, the one report that the input
+    // deserves and that is written so, in the words' format: it holds in all runs; where nothing is
+    // flagged, it tells what the written iteration finds; over polyhedra rows and generators tell
+    // the same points.
     ensures holds { (options : Options) (format : Format) →
         Asks (map string_bytes words.now) (Analyse options format) → Ends reported result →
-        WritesReport options (written_report format) HoldsInAllRuns (S.left source.old) (K.held sink.old)
-        (K.held sink.new) }
+        WritesReport options (written_report format) HoldsInAllRuns (S.left source.old)
+        (K.held sink.old) (K.held sink.new) }
     ensures is_written { (options : Options) (format : Format) →
         Asks (map string_bytes words.now) (Analyse options format) → Ends reported result →
-        WritesReport options (written_report format) (IsWrittenUnlessFlagged options) (S.left source.old)
-        (K.held sink.old) (K.held sink.new) }
-    // Where they ask which operations fit: where all that is computed at a point is told to fit, no run stops there by
-    // a number, and that is told exactly where it fits by the values at the points.
+        WritesReport options (written_report format) (IsWrittenUnlessFlagged options)
+        (S.left source.old) (K.held sink.old) (K.held sink.new) }
+    // Where they ask which operations fit: where all that is computed at a point is told to fit, no
+    // run stops there by a number, and that is told exactly where it fits by the values at the
+    // points.
     ensures fits { (options : Options) (format : Format) →
         Asks (map string_bytes words.now) (Analyse options format) → Ends reported result →
         WritesReport options (written_report format) (TellsFits options) (S.left source.old)
         (K.held sink.old) (K.held sink.new) }
+    // Of each access of an array: where it is told to be in bounds no run evaluates it outside its
+    // array, and that is told exactly where it is so by the values at the points, flagged or not.
+    ensures accesses { (options : Options) (format : Format) →
+        Asks (map string_bytes words.now) (Analyse options format) → Ends reported result →
+        WritesReport options (written_report format) (TellsAccesses options) (S.left source.old)
+        (K.held sink.old) (K.held sink.new) }
     ensures same_points { (options : Options) (format : Format) →
         Asks (map string_bytes words.now) (Analyse options format) → Ends reported result →
-        WritesReport options (written_report format) (TellsSamePoints options) (S.left source.old) (K.held sink.old)
-        (K.held sink.new) }
-    // Where they ask for a sample, what is told of a report of its source, of which all of this holds.
+        WritesReport options (written_report format) (TellsSamePoints options) (S.left source.old)
+        (K.held sink.old) (K.held sink.new) }
+    // Where they ask for a sample, what is told of a report of its source, of which all of this
+    // holds.
     ensures sampled { (seed size : ℕ) → Asks (map string_bytes words.now) (Sample seed size) → Ends reported result →
         WritesSummary seed size (K.held sink.old) (K.held sink.new) }
 
-    // Where they ask to verify and the status is that of a certificate that meets its program, what then holds in all
-    // runs of its source.
+    // Where they ask to verify and the status is that of a certificate that meets its program, what
+    // then holds in all runs of its source.
     ensures verified { Asks (map string_bytes words.now) (Plain Verify) → result ≡ Status.Proved →
         WritesVerified (S.left source.old) (K.held sink.old) (K.held sink.new) }
-    // Where they ask to certify and the status is that of a report, the certificate of a report that the input
-    // deserves, which is verified where it isn't too long.
+    // Where they ask to certify and the status is that of a report, the certificate of a report
+    // that the input deserves, which is verified where it isn't too long.
     ensures certified { Asks (map string_bytes words.now) (Plain Certify) → Ends reported result →
         WritesCertificate (S.left source.old) (K.held sink.old) (K.held sink.new) result }
 
-    // With which statuses what the words ask for may end: those of its answer, by what the input tells of its bytes, or
-    // of a fault. (Where a flagged set is widened, both answers to a script may be right: which depends on the set.)
-    // Usage: only where they ask for no command: the command line doesn't take them, or their options conflict.
+    // With which statuses what the words ask for may end: those of its answer, by what the input
+    // tells of its bytes, or of a fault. (Where a flagged set is widened, both answers to a script
+    // may be right: which depends on the set.) Usage: only where they ask for no command: the
+    // command line doesn't take them, or their options conflict.
     ensures ends { (asked : Option Command) → IsAsked (map string_bytes words.now) asked → (among : List _) →
         CallsFor asked (S.left source.old) among → Ends among result ⊎ Ends (faults (asked_limit asked)) result }
     ensures usage { result ≡ Status.Usage →
@@ -214,9 +226,10 @@ pub fn run<S: Source, K: Sink>(
         IsRead (asked_limit asked) (S.left source.old) (S.left source.new) (result ≡ Status.ReadFault)
         (result ≢ Status.ReadFault × result ≢ Status.Memory) }
 
-    // A fault is the answer only where its count rose; every other answer leaves the counts. Where nothing fails and
-    // memory isn't wanting, there is an answer, written whole: so a source without a cause of refusal gets its report,
-    // and a script that runs whole its output. A sink that surely takes each text that is deserved doesn't fail.
+    // A fault is the answer only where its count rose; every other answer leaves the counts. Where
+    // nothing fails and memory isn't wanting, there is an answer, written whole: so a source
+    // without a cause of refusal gets its report, and a script that runs whole its output. A sink
+    // that surely takes each text that is deserved doesn't fail.
     ensures read_fault { IsCounted Status.ReadFault (S.faults source.old) (S.faults source.new) result }
     ensures write_fault { IsCounted Status.WriteFault (K.faults sink.old) (K.faults sink.new) result }
     ensures complete { (Rose (S.faults source.old) (S.faults source.new) → ⊥) →

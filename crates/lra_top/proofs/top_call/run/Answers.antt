@@ -1,5 +1,5 @@
 -- Goals of `run`: each clause follows from the record that tells the whole.
-use Rattle.lra_top.proofs.Ending.{written, part, nothing, all_hold, all_written, all_fit, all_same, sampled, verified, certified}
+use Rattle.lra_top.proofs.Ending.{written, part, nothing, all_hold, all_written, all_fit, all_accesses, all_same, sampled, verified, certified}
 use Rattle.lra_top.proofs.Ending.{ends, usage, reads, read_fault, write_fault, complete, room}
 use Rattle.lra_top.proofs.top_call.run.Goals as goal
 
@@ -20,6 +20,9 @@ returns-clause-is_written g c = all_written c.answer_words.ensures
 
 pub returns-clause-fits : goal.returns-clause-fits
 returns-clause-fits g c = all_fit c.answer_words.ensures
+
+pub returns-clause-accesses : goal.returns-clause-accesses
+returns-clause-accesses g c = all_accesses c.answer_words.ensures
 
 pub returns-clause-same_points : goal.returns-clause-same_points
 returns-clause-same_points g c = all_same c.answer_words.ensures
