@@ -17,7 +17,7 @@ LISTED = re.compile(r'assert ([1-9]\d*)', re.ASCII)
 NUMBERS = re.compile(r'  (?P<sign>>=|=)(?P<numbers>(?: -?\d+)+)', re.ASCII)
 # What a report or a whole certificate has besides, and an empty line or one of the user's own.
 PASSED = re.compile(
-    r'|#.*|(?:analysis|flagged|fit|verdicts|edge|by|dead) .*|assert \d+ \S.*|  gen .*|  row true|end', re.ASCII
+    r'|#.*|(?:analysis|flagged|fit|access|verdicts|edge|by|dead) .*|assert \d+ \S.*|  gen .*|  row true|end', re.ASCII
 )
 
 

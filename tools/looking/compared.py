@@ -1,9 +1,10 @@
 """Two reports, compared. Outside of what is proved."""
 import re
+from collections import Counter
 from dataclasses import dataclass
 
 from looking.findings import Fingerprints
-from looking.reports import KINDS, STEP, Kind, Point, Report
+from looking.reports import KINDS, STEP, Kind, Point, Report, Verdict
 from looking.sources import Source
 
 Key = tuple[object, ...]
@@ -11,18 +12,29 @@ Key = tuple[object, ...]
 
 @dataclass(frozen=True)
 class Told:
-    """A point, with the words of the verdicts on it."""
+    """A point, with the verdicts on it, each by its kind and by which of that kind it is there."""
 
     point: Point
-    words: dict[Kind, str]
+    said: dict[tuple[Kind, int], Verdict]
 
     @property
     def verdict(self) -> str:
-        return ', '.join(self.words.values())
+        return ', '.join(self.word(key) for key in self.said)
 
     @property
     def where(self) -> str:
         return f'{self.point.line}:{self.point.column} {self.point.path}'
+
+    def word(self, key: tuple[Kind, int]) -> str:
+        """What is told of a verdict, and where none is."""
+        if key not in self.said:
+            return key[0].none
+        return self.said[key].word + ('' if self.point.parts else ', never reached')
+
+    def place(self, key: tuple[Kind, int]) -> str:
+        """Where a verdict is told; where none is, the point's place."""
+        own = self.said.get(key, self.point)
+        return f'{own.line}:{own.column} {self.point.path}'
 
 
 class Names:
@@ -54,10 +66,13 @@ def told_of(report: Report, names: Names | None) -> dict[Key, Told]:
         names.prepare(report)
     found = {}
     for point in report.points:
-        reached = '' if point.parts else ', never reached'
-        words = {verdict.kind: f'{verdict.word}{reached}' for verdict in report.verdicts.get(point.number, ())}
+        counts: Counter[Kind] = Counter()
+        said = {}
+        for verdict in report.said(point):
+            said[verdict.kind, counts[verdict.kind]] = verdict
+            counts[verdict.kind] += 1
         key = names.key(point) if names else (point.line, point.column, point.path)
-        found[key] = Told(point, words)
+        found[key] = Told(point, said)
     return found
 
 
@@ -70,8 +85,9 @@ def rows_of(point: Point) -> set[str]:
 
 def change_of(old: Told, new: Told, kinds: list[Kind]) -> list[str]:
     """What changed at a point, of verdicts of these kinds."""
-    said = [(old.words.get(kind, kind.none), new.words.get(kind, kind.none)) for kind in kinds]
-    lines = [f'{new.where}: {before} became {after}' for before, after in said if before != after]
+    keys = [key for key in dict.fromkeys([*new.said, *old.said]) if key[0] in kinds]
+    changed = [key for key in keys if old.word(key) != new.word(key)]
+    lines = [f'{new.place(key)}: {old.word(key)} became {new.word(key)}' for key in changed]
     if bool(old.point.parts) != bool(new.point.parts):
         return lines + [f'{new.where}: {"reached now" if new.point.parts else "never reached now"}']
     lost, won = rows_of(old.point) - rows_of(new.point), rows_of(new.point) - rows_of(old.point)

@@ -34,12 +34,22 @@ REFUSALS = {
 
 @dataclass(frozen=True)
 class Asked:
-    """A place that asks something, with its points: those at which it is known, and those at which it isn't."""
+    """A place that asks something, a statement or an element in one, with its points: those at which it is known, and
+    those at which it isn't."""
 
     kind: Kind
     offset: int
     points: tuple[Point, ...]
     open_points: tuple[Point, ...]
+
+    @property
+    def statement(self) -> Point:
+        """A point of the statement."""
+        return self.points[0]
+
+    def end(self, source: Source) -> int:
+        """The offset behind what is asked about."""
+        return (source.element_end(self.offset) if self.kind.own_place else None) or source.extent(self.offset)
 
     @property
     def is_known(self) -> bool:
@@ -92,13 +102,14 @@ class Findings:
 
 def asked_in(report: Report) -> list[Asked]:
     """The places that ask something, in text order; those of one place in the order of the kinds."""
+    said: dict[tuple[int, int], list[tuple[Point, bool]]] = {}
+    for point in report.points:
+        for verdict in report.said(point):
+            said.setdefault((verdict.offset, KINDS.index(verdict.kind)), []).append((point, verdict.is_known))
     found = []
-    for offset, points in report.places().items():
-        for kind in KINDS:
-            said = [(point, verdict) for point in points if (verdict := report.verdict(point, kind))]
-            if said:
-                own = tuple(point for point, _ in said)
-                found.append(Asked(kind, offset, own, tuple(point for point, verdict in said if not verdict.is_known)))
+    for (offset, kind), told in sorted(said.items(), key=lambda own: own[0]):
+        points = tuple(point for point, _ in told)
+        found.append(Asked(KINDS[kind], offset, points, tuple(point for point, is_known in told if not is_known)))
     return found
 
 
@@ -136,21 +147,38 @@ def find(source: Source, answer: Answer) -> Findings:
 
 
 class Fingerprints:
-    """Names for statements that survive a moved line: of the rule, the function, the words of the statement, and
-    which of equal ones it is."""
+    """Names that survive a moved line: of a statement by the rule, the function, the words of the statement, and which
+    of equal ones it is; of an element by its statement's name, its words, and which of equal ones it is there."""
 
     def __init__(self, source: Source) -> None:
         self.source = source
-        self.seen: dict[tuple[str, str, str], list[int]] = {}
+        self.seen: dict[tuple[str, ...], dict[int, int]] = {}
+        self.statements: dict[int, str] = {}
 
-    def count(self, rule: str, offset: int) -> tuple[str, str, str, int]:
-        """What names the statement here; calls have to come in text order."""
-        key = (rule, self.source.function_at(offset), self.source.statement(offset))
-        equal = self.seen.setdefault(key, [])
-        if offset not in equal:
-            equal.append(offset)
-        return (*key, equal.index(offset))
+    def numbered(self, words: tuple[str, ...], offset: int) -> tuple[str, ...]:
+        """The words, and which of equal ones stands here; calls have to come in text order."""
+        equal = self.seen.setdefault(words, {})
+        return (*words, str(equal.setdefault(offset, len(equal))))
+
+    def count(self, rule: str, offset: int) -> tuple[str, ...]:
+        """What names the statement here."""
+        return self.numbered((rule, self.source.function_at(offset), self.source.statement(offset)), offset)
 
     def text(self, rule: str, offset: int) -> str:
-        """The name as hexadecimal digits."""
-        return hashlib.sha256('\0'.join(map(str, self.count(rule, offset))).encode('utf-8', 'replace')).hexdigest()[:32]
+        """The name of a statement as hexadecimal digits."""
+        return digits_of(self.count(rule, offset))
+
+    def asked(self, asked: Asked) -> str:
+        """The name of a place that asks something, as hexadecimal digits."""
+        if not asked.kind.own_place:
+            return self.text(asked.kind.rule, asked.offset)
+        at = asked.statement.offset
+        if at not in self.statements:
+            self.statements[at] = self.text('', at)
+        words = (asked.kind.rule, self.statements[at], self.source.element(asked.offset))
+        return digits_of(self.numbered(words, asked.offset))
+
+
+def digits_of(words: tuple[str, ...]) -> str:
+    """The words as hexadecimal digits."""
+    return hashlib.sha256('\0'.join(words).encode('utf-8', 'replace')).hexdigest()[:32]

@@ -31,12 +31,15 @@ class Failed(Exception):
 @dataclass(frozen=True)
 class Kind:
     """A kind of verdict: the list that has them in a report, the option under which it stands (none: always), whether
-    they count, the words for what is known and what isn't, in a report and on a page, how both are told, and the word
-    that begins a statement that asks it: a condition, of which a state may be an example (none: any statement)."""
+    they count, and whether each has a place of its own: that of an array's element, of which a point may have several,
+    and the list stands where there is one. The words for what is known and what isn't, in a report and on a page, how
+    both are told, and the word that begins a statement that asks it: a condition, of which a state may be an example
+    (none: any statement)."""
 
     key: str
     option: str
     counts: bool
+    own_place: bool
     rule: str
     known: str
     unknown: str
@@ -52,42 +55,61 @@ class Kind:
         return not self.option or bool(analysis.get(self.option))
 
 
-# A later kind of verdict is a row here.
-KINDS = (
-    Kind(
-        'asserts',
-        '',
-        True,
-        'assert',
-        'proved',
-        'unknown',
-        'not proved',
-        'no assertion',
-        'assertion is proved',
-        "assertion isn't proved",
-        b'assert',
-        "Something is left of what is known there where the assertion's condition is false: an execution may fail it, "
-        'or more has to be known. Look at the rows that hold there; then try `--best`, or state in an `assume` what '
-        'the surroundings promise.',
-    ),
-    Kind(
-        'fits',
-        'fits',
-        False,
-        'overflow',
-        'fits',
-        'may overflow',
-        'may overflow',
-        'nothing computed',
-        'all that is computed here fits',
-        'this may overflow',
-        b'',
-        'What is known there leaves a number that its type does not have, something that is not linear, or a '
-        'divisor that is no constant other than 0 and -1: an execution may end here. Look at the rows that hold '
-        'there; then read into a `long`, state in an `assume` what the surroundings promise, and convert; or '
-        'compute in 64 bits (`1000L`).',
-    ),
+ASSERTS = Kind(
+    key='asserts',
+    option='',
+    counts=True,
+    own_place=False,
+    rule='assert',
+    known='proved',
+    unknown='unknown',
+    open='not proved',
+    none='no assertion',
+    passes='assertion is proved',
+    fails="assertion isn't proved",
+    asks=b'assert',
+    help="Something is left of what is known there where the assertion's condition is false: an execution may fail it, "
+    'or more has to be known. Look at the rows that hold there; then try `--best`, or state in an `assume` what '
+    'the surroundings promise.',
 )
+FITS = Kind(
+    key='fits',
+    option='fits',
+    counts=False,
+    own_place=False,
+    rule='overflow',
+    known='fits',
+    unknown='may overflow',
+    open='may overflow',
+    none='nothing computed',
+    passes='all that is computed here fits',
+    fails='this may overflow',
+    asks=b'',
+    help='What is known there leaves a number that its type does not have, something that is not linear, or a '
+    'divisor that is no constant other than 0 and -1: an execution may end here. Look at the rows that hold '
+    'there; then read into a `long`, state in an `assume` what the surroundings promise, and convert; or '
+    'compute in 64 bits (`1000L`).',
+)
+ACCESSES = Kind(
+    key='accesses',
+    option='',
+    counts=True,
+    own_place=True,
+    rule='bounds',
+    known='in bounds',
+    unknown='unknown',
+    open='may be outside',
+    none='no access',
+    passes='the index is inside the array',
+    fails='this index may be outside the array',
+    asks=b'',
+    help="What is known there leaves an index that the array does not have, or the index is not linear: an execution "
+    'may end here. Look at the rows that hold there; then try `--best`, test the index in an `if` before, state in an '
+    '`assume` what the surroundings promise, or give a variable what is not linear (a remainder, an element) and take '
+    'that as the index.',
+)
+# A later kind of verdict is one more.
+KINDS = (ASSERTS, FITS, ACCESSES)
 
 
 @dataclass(frozen=True)
@@ -112,10 +134,13 @@ class Point:
 
 @dataclass(frozen=True)
 class Verdict:
-    """What a report says of a point that asks something."""
+    """What a report says of a point that asks something, and where: at the point's place, or at its own."""
 
     kind: Kind
     is_known: bool
+    line: int
+    column: int
+    offset: int
 
     @property
     def word(self) -> str:
@@ -137,15 +162,20 @@ class Report:
         """All verdicts of this kind."""
         return [verdict for told in self.verdicts.values() for verdict in told if verdict.kind is kind]
 
-    def verdict(self, point: Point, kind: Kind) -> Verdict | None:
-        """The verdict of this kind on a point."""
-        return next((verdict for verdict in self.verdicts.get(point.number, ()) if verdict.kind is kind), None)
+    def said(self, point: Point) -> tuple[Verdict, ...]:
+        """The verdicts on a point."""
+        return self.verdicts.get(point.number, ())
+
+    @property
+    def counts(self) -> tuple[int, int]:
+        """How many of the verdicts that count are known, and how many aren't."""
+        counted = [verdict.is_known for kind in KINDS if kind.counts for verdict in self.all_of(kind)]
+        return counted.count(True), counted.count(False)
 
     @property
     def status(self) -> int:
         """The exit status of the run that tells it."""
-        counted = [verdict for kind in KINDS if kind.counts for verdict in self.all_of(kind)]
-        return 0 if all(verdict.is_known for verdict in counted) else 1
+        return 1 if self.counts[1] else 0
 
     @property
     def options(self) -> str:
@@ -225,17 +255,23 @@ def offset_in(source: Source, line: int, column: int) -> int:
     return offset
 
 
+def read_place(told: dict[str, Any]) -> tuple[int, int] | None:
+    """The line and the column of a place, where there is one."""
+    place = PLACE.fullmatch(told['place']) if isinstance(told.get('place'), str) else None
+    return (int(place[1]), int(place[2])) if place else None
+
+
 def read_point(told: object, number: int, domain: str, source: Source) -> Point:
     """The point with this number."""
     expect(isinstance(told, dict) and told.get('number') == number, f'no point {number}')
     assert isinstance(told, dict)
-    place = PLACE.fullmatch(told['place']) if isinstance(told.get('place'), str) else None
+    place = read_place(told)
     expect(
         place is not None and isinstance(told.get('path'), str) and isinstance(told.get('parts'), list),
         f'point {number} has no place, path or parts',
     )
     assert place is not None
-    line, column = int(place[1]), int(place[2])
+    line, column = place
     offset = offset_in(source, line, column)
     expect(source.index_at(offset) is not None, f'the report is of another source: nothing begins at {line}:{column}')
     first, *steps = told['path'].split('/')
@@ -248,32 +284,63 @@ def read_point(told: object, number: int, domain: str, source: Source) -> Point:
     return Point(number, told['path'], line, column, offset, tuple(read_part(part, domain) for part in told['parts']))
 
 
+def rows_of(told: dict[str, Any], kind: Kind) -> list[Any]:
+    """The list of a kind, where it stands."""
+    stands = kind.stands(told['analysis'])
+    listed = told.get(kind.key, None if stands and not kind.own_place else [])
+    expect(isinstance(listed, list), f'no list of {kind.key}')
+    assert isinstance(listed, list)
+    expect(not listed or stands, f'{kind.key}, and they are not asked for')
+    expect(bool(listed) or not kind.own_place or kind.key not in told, f'a list of {kind.key}, and there are none')
+    return listed
+
+
+def read_verdict(row: Any, kind: Kind, points: list[Point], source: Source) -> tuple[int, Verdict]:
+    """The verdict that a row tells, with its point's number."""
+    expect(
+        isinstance(row, dict)
+        and row.get('verdict') in (kind.known, kind.unknown)
+        and is_count(row.get('point'))
+        and 1 <= row['point'] <= len(points),
+        f'{kind.key} has a row without a point or a verdict',
+    )
+    point = points[row['point'] - 1]
+    token = source.tokens[source.index_at(point.offset) or 0]
+    expect(
+        not kind.asks or token.text == kind.asks,
+        f'the report is of another source: no {kind.rule} at {point.line}:{point.column}',
+    )
+    line, column, offset = own_place(row, point, source) if kind.own_place else (point.line, point.column, point.offset)
+    return point.number, Verdict(kind, row['verdict'] == kind.known, line, column, offset)
+
+
+def own_place(row: dict[str, Any], point: Point, source: Source) -> tuple[int, int, int]:
+    """The place of an element that the point's statement has: its line, its column, its offset."""
+    place = read_place(row)
+    expect(place is not None, f'point {point.number} has an access without a place')
+    assert place is not None
+    offset = offset_in(source, *place)
+    end = source.element_end(offset)
+    expect(
+        end is not None and point.offset <= offset and end <= source.extent(point.offset),
+        f'the report is of another source: no element of the statement at {point.line}:{point.column} begins at '
+        f'{place[0]}:{place[1]}',
+    )
+    return *place, offset
+
+
 def read_verdicts(told: dict[str, Any], points: list[Point], source: Source) -> dict[int, tuple[Verdict, ...]]:
-    """The verdicts of all kinds, by their points' numbers; those on one point in the order of the kinds."""
-    found: dict[int, tuple[Verdict, ...]] = {}
+    """The verdicts of all kinds, by their points' numbers; those on one point in the order of the kinds, each at a
+    place of its own or the only one of its kind."""
+    found: dict[int, list[Verdict]] = {}
     for kind in KINDS:
-        listed = told.get(kind.key, None if kind.stands(told['analysis']) else [])
-        expect(isinstance(listed, list), f'no list of {kind.key}')
-        assert isinstance(listed, list)
-        expect(not listed or kind.stands(told['analysis']), f'{kind.key}, and they are not asked for')
-        for row in listed:
-            expect(
-                isinstance(row, dict)
-                and row.get('verdict') in (kind.known, kind.unknown)
-                and is_count(row.get('point'))
-                and 1 <= row['point'] <= len(points),
-                f'{kind.key} has a row without a point or a verdict',
-            )
-            point = points[row['point'] - 1]
-            token = source.tokens[source.index_at(point.offset) or 0]
-            expect(
-                not kind.asks or token.text == kind.asks,
-                f'the report is of another source: no {kind.rule} at {point.line}:{point.column}',
-            )
-            said = found.get(point.number, ())
-            expect(all(verdict.kind is not kind for verdict in said), f'two rows of {kind.key} on one point')
-            found[point.number] = (*said, Verdict(kind, row['verdict'] == kind.known))
-    return found
+        places: set[tuple[int, int]] = set()
+        for row in rows_of(told, kind):
+            number, verdict = read_verdict(row, kind, points, source)
+            expect((number, verdict.offset) not in places, f'two rows of {kind.key} on one point, at one place')
+            places.add((number, verdict.offset))
+            found.setdefault(number, []).append(verdict)
+    return {number: tuple(verdicts) for number, verdicts in found.items()}
 
 
 def read_report(data: bytes, source: Source) -> Report:
@@ -298,9 +365,8 @@ def read_report(data: bytes, source: Source) -> Report:
     expect(is_count(told.get('flagged')) and told['flagged'] <= len(points), 'a report without its flag')
     verdicts = read_verdicts(told, points, source)
     report = Report(analysis, told['flagged'], points, verdicts)
-    counted = [verdict.is_known for kind in KINDS if kind.counts for verdict in report.all_of(kind)]
     expect(
-        [counted.count(True), counted.count(False)] == [told.get('proved'), told.get('unknown')],
+        report.counts == (told.get('proved'), told.get('unknown')),
         "a report whose counts aren't those of its verdicts",
     )
     return report

@@ -1,5 +1,6 @@
 """Sources as bytes: lines, tokens, the extent of a statement, columns. Outside of what is proved."""
 import bisect
+import itertools
 import re
 from dataclasses import dataclass
 from functools import cached_property
@@ -11,6 +12,7 @@ TOKEN = re.compile(
     rb'|(?P<token>[A-Za-z0-9_]+|[\xc0-\xff][\x80-\xbf]*|/\*|==|!=|<=|>=|&&|\|\||\+\+|--|[-+*/%]=|.)',
     re.DOTALL,
 )
+NAME = re.compile(rb'[A-Za-z_][A-Za-z0-9_]*')
 HEADS = (b'if', b'while', b'for', b'switch')
 
 
@@ -43,6 +45,7 @@ class Source:
         self.line_starts = [0]
         for line in self.lines[:-1]:
             self.line_starts.append(self.line_starts[-1] + len(line) + 1)
+        self._extents: dict[int, int] = {}
 
     @cached_property
     def tokens(self) -> list[Token]:
@@ -83,6 +86,12 @@ class Source:
     def extent(self, offset: int) -> int:
         """The offset behind the statement that begins here: behind the `)` of a head, else behind its `;`, before a
         `,` between declarators, or before what closes its surroundings."""
+        if offset not in self._extents:
+            self._extents[offset] = self._statement_end(offset)
+        return self._extents[offset]
+
+    def _statement_end(self, offset: int) -> int:
+        """The same, looked for."""
         first = self.index_at(offset)
         if first is None:
             return min(offset + 1, len(self.data))
@@ -99,6 +108,27 @@ class Source:
             if depth == 0 and token.text == (b')' if is_head else b';'):
                 break
         return end
+
+    def element_end(self, offset: int) -> int | None:
+        """The offset behind the array's element that begins here; none where none does."""
+        first = self.index_at(offset)
+        if first is None or not NAME.fullmatch(self.tokens[first].text):
+            return None
+        depth = 0
+        for token in itertools.islice(self.tokens, first + 1, None):
+            depth += (token.text == b'[') - (token.text == b']')
+            if depth == 0:
+                return token.end if token.text == b']' else None
+        return None
+
+    def element(self, offset: int) -> str:
+        """The element that begins here, with a blank for each gap between its words, but for those at brackets."""
+        text, behind = '', offset
+        for token in self.tokens_between(offset, self.element_end(offset) or offset):
+            is_apart = token.start > behind and token.text not in (b'[', b']') and not text.endswith('[')
+            text += f'{" " if is_apart else ""}{decode(token.text)}'
+            behind = token.end
+        return text
 
     def statement(self, offset: int) -> str:
         """The words of the statement that begins here, with one blank between them."""

@@ -4,7 +4,7 @@ from dataclasses import dataclass
 from urllib.parse import quote
 
 from looking.findings import Findings
-from looking.reports import KINDS, Refusal
+from looking.reports import FITS, Refusal
 from looking.sources import decode
 from looking.told_page import POLICY, escaped, own_file
 
@@ -34,13 +34,12 @@ class Outcome:
 
 
 def outcome_of(findings: Findings) -> Outcome:
-    """The row of one source; what may overflow is counted where it is asked for, what no run reaches in stretches of
-    statements."""
+    """The row of one source, with the counts of its last line; what may overflow is counted where it is asked for, what
+    no run reaches in stretches of statements."""
     answer, name = findings.answer, findings.source.name
     if isinstance(answer, Refusal):
         return Outcome(name, refused=f'{answer.name} at {answer.line}:{answer.column}')
-    asserted, fitting = (answer.all_of(kind) for kind in KINDS)
-    known = sum(verdict.is_known for verdict in asserted)
+    overflowing = [verdict for verdict in answer.all_of(FITS) if not verdict.is_known]
     flagged = ''
     if answer.flagged:
         point = answer.points[answer.flagged - 1]
@@ -48,9 +47,8 @@ def outcome_of(findings: Findings) -> Outcome:
     return Outcome(
         name,
         len(answer.points),
-        known,
-        len(asserted) - known,
-        sum(not verdict.is_known for verdict in fitting) if KINDS[1].stands(answer.analysis) else None,
+        *answer.counts,
+        len(overflowing) if FITS.stands(answer.analysis) else None,
         len(findings.dead),
         '',
         flagged,

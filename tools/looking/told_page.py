@@ -1,18 +1,19 @@
 """A source with what is known of it, as one page of HTML that needs nothing else. Outside of what is proved."""
+import bisect
 import html
 import os
 from collections.abc import Iterator
 from dataclasses import dataclass
 
-from looking.findings import REFUSALS, Findings
+from looking.findings import REFUSALS, Asked, Findings
 from looking.reports import KINDS, Kind, Part, Point, Refusal, Report
 from looking.rows import read_generator
 from looking.sources import Source, decode
 
 HERE = os.path.dirname(os.path.realpath(__file__))
-# The bytes of a page, and of each point the rows, and the generators, that it tells; fewer where the page would be
-# larger.
-MOST_BYTES, MOST_TOLD = 3_000_000, (64, 16, 4, 1, 0)
+# The bytes of a page, and of each point the rows, the generators, and the elements, that it tells; fewer where the page
+# would be larger. The characters of an element; the marks of more elements in a source have no titles.
+MOST_BYTES, MOST_TOLD, MOST_OF_ELEMENT, MOST_TITLES = 3_000_000, (64, 16, 4, 1, 0), 60, 2000
 MARKS = {code: 0xFFFD for code in range(32) if code != 9} | {127: 0xFFFD}
 DOMAINS = {'poly': 'polyhedra', 'box': 'boxes', 'oct': 'octagons'}
 POLICY = "default-src 'none'; style-src 'unsafe-inline'; script-src 'unsafe-inline'"
@@ -65,8 +66,13 @@ def open_of(kind: Kind) -> Verdict:
     return Verdict('unknown', '?', kind.open)
 
 
+def verdict_of(asked: Asked) -> Verdict:
+    """Whether it is known at all points of a place."""
+    return known_of(asked.kind, asked.is_reached) if asked.is_known else open_of(asked.kind)
+
+
 class Page:
-    """A page in the making; of each point it tells at most so many rows, and as many generators."""
+    """A page in the making; of each point it tells at most so many rows, and as many generators and elements."""
 
     def __init__(self, findings: Findings, most: int) -> None:
         self.findings = findings
@@ -75,6 +81,8 @@ class Page:
         self.report = findings.answer if isinstance(findings.answer, Report) else None
         self.places = self.report.places() if self.report else {}
         self.extents = self.trimmed_extents()
+        self.elements = {asked.offset: asked for asked in findings.asked if asked.kind.own_place}
+        self.element_offsets = list(self.elements)
 
     def trimmed_extents(self) -> dict[int, int]:
         """Of each place the offset behind its statement, before the next place."""
@@ -134,17 +142,26 @@ class Page:
             generators_left = max(0, generators_left - len(part.generators or ()))
         return head + '<p class="or">or</p>'.join(parts)
 
-    def verdicts(self, points: list[Point]) -> list[tuple[Kind, Verdict]]:
-        """What is said of these points of one place, for each kind that is asked there."""
+    def verdicts(self, point: Point) -> dict[tuple[Kind, Verdict], list[int]]:
+        """What is said of a point, and at which offsets."""
         assert self.report
-        is_reached = any(point.parts for point in points)
-        found = []
-        for kind in KINDS:
-            told = [verdict for point in points if (verdict := self.report.verdict(point, kind))]
-            if told:
-                is_known = all(verdict.is_known for verdict in told)
-                found.append((kind, known_of(kind, is_reached) if is_known else open_of(kind)))
+        found: dict[tuple[Kind, Verdict], list[int]] = {}
+        for verdict in self.report.said(point):
+            kind = verdict.kind
+            own = known_of(kind, bool(point.parts)) if verdict.is_known else open_of(kind)
+            found.setdefault((kind, own), []).append(verdict.offset)
         return found
+
+    def element(self, offset: int) -> str:
+        """The element that begins here, cut where it is long."""
+        text = self.source.element(offset)
+        return escaped(text if len(text) <= MOST_OF_ELEMENT else f'{text[: MOST_OF_ELEMENT - 2]}..')
+
+    def elements_text(self, offsets: list[int]) -> str:
+        """The elements that begin here."""
+        told = ''.join(f' <code>{self.element(offset)}</code>' for offset in offsets[: self.most])
+        left = len(offsets) - min(len(offsets), self.most)
+        return told + (f' <span class="more">and {left} more</span>' if left else '')
 
     def point(self, point: Point, several: bool) -> str:
         """One point: its path, its verdicts, an example, what holds."""
@@ -154,8 +171,8 @@ class Page:
             else ''
         )
         told = ''
-        for kind, verdict in self.verdicts([point]):
-            told += f'<p>{verdict.text()}</p>'
+        for (kind, verdict), offsets in self.verdicts(point).items():
+            told += f'<p>{verdict.text()}{self.elements_text(offsets) if kind.own_place else ""}</p>'
             if verdict == open_of(kind) and (found := self.findings.example(kind, point)):
                 told += f'<p class="example">{escaped(found.text)}</p>'
         head = f'<div class="point" id="p{point.number}" data-path="{escaped(point.path)}">'
@@ -183,7 +200,7 @@ class Page:
 
     def piece(self, start: int, end: int, place: int | None, line_start: int) -> str:
         """A stretch within one line."""
-        text = shown(self.source.data[start:end])
+        text = self.marked(start, end)
         if place is None:
             return text
         line, column = self.source.place(place)
@@ -192,6 +209,20 @@ class Page:
         dead = '' if any(point.parts for point in self.places[place]) else ' dead'
         own = f'id="s{line}-{column}"' if line_start <= place else 'tabindex="-1"'
         return f'<a class="at{dead}" {own} href="#a{line}-{column}">{text}</a>'
+
+    def marked(self, start: int, end: int) -> str:
+        """A stretch within one line, with a mark at each array's name behind which an index is judged."""
+        text, at, data = '', start, self.source.data
+        first = bisect.bisect_left(self.element_offsets, start)
+        last = bisect.bisect_left(self.element_offsets, end)
+        for offset in self.element_offsets[first:last]:
+            verdict = verdict_of(self.elements[offset])
+            behind = self.source.tokens[self.source.index_at(offset) or 0].end
+            title = f' title="{self.element(offset)}: {verdict.word}"' if len(self.elements) <= MOST_TITLES else ''
+            text += shown(data[at:offset])
+            text += f'<span class="access {verdict.style}"{title}>{shown(data[offset:behind])}</span>'
+            at = behind
+        return text + shown(data[at:end])
 
     def line_texts(self) -> list[str]:
         """The lines of the source, with their statements marked."""
@@ -206,19 +237,25 @@ class Page:
                 start = stop + 1 if stop < end else end
         return texts
 
+    def together(self) -> Iterator[tuple[int, Verdict, list[Asked]]]:
+        """The places that ask something, by lines and verdicts; elements of one statement in one line together."""
+        found: dict[tuple[int, Verdict, int], list[Asked]] = {}
+        for asked in self.findings.asked:
+            line = self.source.place(asked.offset)[0]
+            found.setdefault((line, verdict_of(asked), asked.statement.offset), []).append(asked)
+        for (line, verdict, _), told in found.items():
+            yield line, verdict, told
+
     def signs(self) -> dict[int, str]:
         """The verdicts of each line, behind its text; of kinds that don't count only what isn't known."""
         found: dict[int, str] = {}
         if isinstance(self.findings.answer, Refusal):
             return {self.findings.answer.line: f' {REFUSED.text()}'}
-        for offset, points in self.places.items():
-            for kind, verdict in self.verdicts(points):
-                if kind.counts or verdict == open_of(kind):
-                    line, column = points[0].line, points[0].column
-                    found[line] = (
-                        found.get(line, '')
-                        + f' <a class="sign" tabindex="-1" href="#a{line}-{column}">{verdict.text()}</a>'
-                    )
+        for line, verdict, told in self.together():
+            if told[0].kind.counts or not told[0].is_known:
+                point, text = told[0].statement, verdict.text(len(told) if len(told) > 1 else None)
+                link = f'<a class="sign" tabindex="-1" href="#a{point.line}-{point.column}">{text}</a>'
+                found[line] = f'{found.get(line, "")} {link}'
         for stretch in self.findings.dead:
             line = self.source.place(stretch.start)[0]
             if NEVER.word not in found.get(line, ''):
@@ -230,7 +267,8 @@ class Page:
         return found
 
     def gone(self) -> set[int]:
-        """The lines on which nothing is reached: of stretches that no run reaches, and of functions that nothing calls."""
+        """The lines on which nothing is reached: of stretches that no run reaches, and of functions that nothing
+        calls."""
         ends = {start: end for _, start, _, end in self.source.functions}
         found: set[int] = set()
         for stretch in self.findings.dead:
@@ -280,14 +318,12 @@ class Page:
         if self.report is None:
             return ''
         items = []
-        for asked in self.findings.open:
-            line, column = self.source.place(asked.offset)
-            items.append(
-                (
-                    asked.offset,
-                    f'<li><a class="jump" href="#a{line}-{column}">line {line}: {escaped(asked.kind.fails)}</a>',
-                )
-            )
+        for line, _, told in self.together():
+            kind, point = told[0].kind, told[0].statement
+            if not told[0].is_known:
+                said = f'line {line}: {escaped(kind.fails)}'
+                said += self.elements_text([asked.offset for asked in told]) if kind.own_place else ''
+                items.append((told[0].offset, f'<li><a class="jump" href="#a{point.line}-{point.column}">{said}</a>'))
         for stretch in self.findings.dead:
             line = self.source.place(stretch.start)[0]
             said = f'{escaped(stretch.function)} is never called' if stretch.function else 'no run comes here'
@@ -301,7 +337,7 @@ class Page:
             return ''
         articles = ''.join(self.article(offset, points) for offset, points in self.places.items())
         cut = (
-            f'<p>Of each point at most {self.most} rows and {self.most} generators stand here.</p>'
+            f'<p>Of each point at most {self.most} rows, generators and elements each stand here.</p>'
             if self.most < MOST_TOLD[0]
             else ''
         )
@@ -353,6 +389,7 @@ def size_of(report: Report, most: int) -> int:
             ]
             size += sum(map(len, told)) + 8 * len(told)
         before = point.parts
+        size += 60 * min(most, len(report.said(point)))
     return size + 500 * len(report.points)
 
 

@@ -116,9 +116,7 @@ def asked_message(findings: Findings, asked: Asked) -> str:
 def asked_result(findings: Findings, file: int, asked: Asked, fingerprint: str) -> Json:
     """The result of a place that asks something."""
     points = asked.points if asked.is_known else asked.open_points
-    where = location(
-        findings, file, asked.offset, findings.source.extent(asked.offset), [point.path for point in points]
-    )
+    where = location(findings, file, asked.offset, asked.end(findings.source), [point.path for point in points])
     rows = {'properties': {'rows': [rows_of(point) for point in points]}}
     if asked.is_known:
         message = f'{asked.kind.passes[0].upper()}{asked.kind.passes[1:]}.'
@@ -144,7 +142,7 @@ def results_of(findings: Findings, file: int, with_passes: bool) -> list[Json]:
     names = Fingerprints(findings.source)
     told = []
     for asked in findings.asked:
-        name = names.text(asked.kind.rule, asked.offset)
+        name = names.asked(asked)
         if with_passes or not asked.is_known:
             told.append((asked.offset, asked_result(findings, file, asked, name)))
     told += [
