@@ -48,6 +48,7 @@ REPORTS = [
          ('unknown\nv', 'in bounds\nv'),
          ('1:50 unknown', '1:52 unknown'),
          ('access 6', 'access 5'),
+         ('access 6 main 1:50 unknown\n', ''),
          ('6 main 1:50\n  row i >= 0\n  row i <= 2', '6 main 1:50\n  row i >= 0\n  row i <= 1')]),
     ('parts', 'int main(void){ long x=0; if(input()) x=5; }',
      HEAD.replace('parts 1', 'parts 2') + 'point 1 main 1:22\n  row true\npoint 2 main 1:27\n  row x = 0\n'

@@ -60,7 +60,7 @@ class Report:
         self.words = words
         self.points = {}
         self.verdicts = {}
-        self.listed = {'assert'}
+        self.listed = {'assert', 'access'}
         self.last = None
         for line in text.splitlines():
             self.read(line, source)
@@ -125,7 +125,7 @@ class Checker:
                 raise Wrong('its rows do not hold' if point.parts else 'it is marked unreachable')
 
     def access(self, path, on, at, is_inside):
-        """An access lies inside where it is marked so."""
+        """An access is listed, and lies inside where it is marked so."""
         for self.report in self.reports:
             self.report.expect('access', (path, on), (path, at), not is_inside)
 
