@@ -1,2 +1,3 @@
 mod Reading
 mod Given
+pub mod Silent

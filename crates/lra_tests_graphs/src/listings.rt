@@ -1,23 +1,25 @@
 //! A worked report.
 
-ghost use Rattle.std.specs.Prelude.{◌≡◌, length, map, IfOk};
+ghost use Rattle.std.specs.Prelude.{◌≡◌, ℕ, [], true, length, map, IfOk};
 ghost use Rattle.std.specs.List.{AllByRecursion};
 ghost use Rattle.lra_tree.specs.Views.{tree_view};
 ghost use Rattle.lra_tree.specs.Labels.{labels_of};
 ghost use Rattle.lra_meaning.specs.Resolve.{resolve};
 ghost use Rattle.lra_program.specs.Sites.{sites_of};
 ghost use Rattle.lra_operations.specs.Agree.{IsGraph};
-ghost use Rattle.lra_operations.specs.Graph.{Node};
-ghost use Rattle.lra_operations.specs.GraphViews.{site_view};
-ghost use Rattle.lra_report.specs.Listing.{HasWidth};
+ghost use Rattle.lra_operations.specs.Graph as graph;
+ghost use Rattle.lra_operations.specs.GraphViews.{node_view, site_view};
+ghost use Rattle.lra_report.specs.Listing.{HasWidth, accesses_at};
 ghost use Rattle.lra_listing.specs.Given.{AreInvariants, AreVerdicts};
 
 use crate::sources::{program_of, tree_of};
+use lra_array::accesses;
 use lra_base::SourceError;
+use lra_doings::list_doings;
 use lra_graph::build;
 use lra_listing::{Found, Outline, list};
 use lra_meaning::Labels;
-use lra_operations::Site;
+use lra_operations::{Node, Site};
 use lra_options::{DEFAULT_OPTIONS, Domain, Options};
 use lra_report::{Part, Report, text};
 use lra_row::Row;
@@ -86,6 +88,19 @@ fn verdicts_on(alloc: Global, sites: &[Site]) -> Result<Vec<(usize, bool)>, Allo
     Ok(verdicts)
 }
 
+/// Whether nothing in a tree accesses an array.
+fn accesses_nothing(alloc: Global, tree: &Node) -> Result<bool, AllocError>
+    ensures { IfOk result (λ none. none ≡ true → (q : ℕ) → accesses_at (node_view tree.now) q ≡ []) }
+{
+    let done = list_doings(alloc, tree)?;
+    'doings: for item in &done {
+        if !accesses(alloc, item.doing)?.is_empty() {
+            return Ok(false);
+        }
+    }
+    Ok(true)
+}
+
 /// The report of a source of five points in which no run comes to another than the second.
 #[tactic(auto, using(crate::proofs::Given::states_there, crate::proofs::Given::verdicts_there))]
 fn report_of(
@@ -97,7 +112,9 @@ fn report_of(
     requires labels { labels.now.labels ≡ labels_of (tree_view tree.now) }
     requires sites { map site_view sites.now ≡ sites_of (resolve (tree_view tree.now)) }
     requires five { length sites.now ≡ 5 }
-    requires graph { (g : Node) × IsGraph (resolve (tree_view tree.now)) g }
+    requires graph { (g : graph.Node) × IsGraph (resolve (tree_view tree.now)) g }
+    requires silent { (g : graph.Node) → IsGraph (resolve (tree_view tree.now)) g →
+        (q : ℕ) → accesses_at g q ≡ [] }
 {
     let states = states_at(alloc, sites)?;
     let verdicts = verdicts_on(alloc, sites)?;
@@ -109,6 +126,7 @@ fn report_of(
     let found = Found {
         assertions: &verdicts,
         fitting: &[],
+        inside: &[],
         flagged: Some(1),
     };
     let report = list(alloc, &outline, OPTIONS, states, &found)?;
@@ -122,7 +140,7 @@ fn writes_report(alloc: Global) -> Result<bool, SourceError> {
         return Ok(false);
     };
     let sites = graph.sites.as_slice();
-    if sites.len() != 5 {
+    if sites.len() != 5 || !accesses_nothing(alloc, &graph.tree)? {
         return Ok(false);
     }
     let report = report_of(alloc, &tree, &resolution.labels, sites)?;

@@ -3,6 +3,7 @@ use Rattle.lra_tree.specs.Views.{tree_view}
 use Rattle.lra_program.specs.ProgramViews.{program_view}
 use Rattle.lra_operations.specs.GraphViews.{node_view}
 use Rattle.lra_tests_graphs.proofs.Given.{graph_there, sites_there}
+use Rattle.lra_tests_graphs.proofs.Silent.{silent_trees}
 use Rattle.lra_tests_graphs.proofs.listings.writes_report.Goals as goal
 
 pub report_of-requires-clause-sites : goal.report_of-requires-clause-sites
@@ -14,3 +15,8 @@ pub report_of-requires-clause-graph : goal.report_of-requires-clause-graph
 report_of-requires-clause-graph c =
     graph_there (tree_view c.in_ok-tree.tree) (program_view c.in_ok-resolution.resolution.program) (node_view c.in-Ok.graph.tree) c.in-Ok.ensures.graph
     c.in_ok-resolution.ensures.program
+
+pub report_of-requires-clause-silent : goal.report_of-requires-clause-silent
+report_of-requires-clause-silent c =
+    silent_trees (tree_view c.in_ok-tree.tree) (program_view c.in_ok-resolution.resolution.program) (node_view c.in-Ok.graph.tree)
+    c.in-Ok.ensures.graph c.in_ok-resolution.ensures.program (c.in_ok-accesses_nothing.ensures c.if-not-branch.false)

@@ -1,0 +1,77 @@
+-- A tree in which nothing accesses an array.
+use Rattle.std.proofs.Common.{◌≡◌, ◌∙◌, ◌+◌, ◌<◌, ◌≤◌, ℕ, zero, suc, Bool, true, false, List, [], ◌∷◌, ◌++◌, length, map, take, get_or, refl, sym, ap, subst, cond, nat_eq}
+use Rattle.std.specs.List.{AllByRecursion, filter, flat_map}
+use Rattle.std.proofs.lemmas.List.{map_more, take_all}
+use Rattle.lra_program.specs.Accesses.{op_accesses, op_accesses_any}
+use Rattle.lra_program.specs.Program.{Element, Program}
+use Rattle.lra_operations.specs.Asked.{Asked, accessed_in}
+use Rattle.lra_operations.specs.Agree.{IsGraph}
+use Rattle.lra_operations.specs.Graph.{Node}
+use Rattle.std.proofs.Common.{None}
+use Rattle.lra_doings.specs.declared.doings.Done.{Done}
+use Rattle.lra_doings.specs.Doings.{done_view, done_in}
+use Rattle.lra_doings.proofs.Filtered.{asking_filtered}
+use Rattle.lra_array.specs.declared.listing.Access.{Access}
+use Rattle.lra_array.specs.Listed.{access_view}
+use Rattle.lra_report.specs.Listing.{accesses_at}
+use Rattle.lra_listing.specs.Given.{AreInside}
+use Rattle.lra_flow.proofs.OneTree.{one_tree}
+use Rattle.lra_linear.proofs.Membership.{contains_none}
+use Rattle.lra_tree.specs.Trees.{FileTree}
+use Rattle.lra_meaning.specs.Resolve.{resolve}
+use Rattle.lra_program.specs.Sites.{Site}
+use Rattle.std.proofs.lemmas.Option.{none-some}
+use Rattle.std.specs.Prelude.{IsTrue, nat_lt}
+
+-- each of these accesses nothing
+abbrev pub AreSilent : List Asked → Type 0
+AreSilent xs = AllByRecursion (λ (a : Asked). op_accesses a.op ≡ []) xs
+
+silent_behind : (xs : List Asked) (a : Asked) → AreSilent xs → op_accesses a.op ≡ [] → AreSilent (xs ++ a ∷ [])
+silent_behind [] a h e = (e, tt)
+silent_behind (x ∷ xs) a h e = (h.0, silent_behind xs a h.1 e)
+
+-- one more of what is done
+pub silent_more : (done : List Done) (d : Done) (n : ℕ) → AreSilent (map done_view (take n done)) → n < length done → d ≡ get_or done n d
+    → op_accesses (done_view d).op ≡ [] → AreSilent (map done_view (take (n + 1) done))
+silent_more done d n silent inside read none =
+    let more = map_more done_view done n d inside ∙ ap (λ (x : Done). map done_view (take n done) ++ done_view x ∷ []) (sym read) in
+    subst AreSilent (sym more) (silent_behind (map done_view (take n done)) (done_view d) silent none)
+
+none_left : (xs : List Asked) → AreSilent xs → filter (λ (a : Asked). op_accesses_any a.op) xs ≡ []
+none_left [] h = refl
+none_left (x ∷ xs) h = rw (h.0, none_left xs h.1) refl
+
+-- nothing of a tree accesses an array where nothing of what is done in it does
+pub silent_tree : (g : Node) (done : List Done) (n : ℕ) → map done_view done ≡ done_in None g → length done ≤ n → AreSilent (map done_view (take n done))
+    → (q : ℕ) → accesses_at g q ≡ []
+silent_tree g done n all whole silent q =
+    let every : AreSilent (done_in None g) = subst AreSilent (ap (map done_view) (take_all n done whole) ∙ all) silent in
+    ap (λ (xs : List Asked). flat_map (λ (a : Asked). cond (nat_eq a.point q) (op_accesses a.op) []) xs)
+    (asking_filtered op_accesses_any None g ∙ none_left (done_in None g) every)
+
+-- a list without an element, of which these are the views
+pub none_listed : (xs : List Access) (ys : List Element) → length xs ≡ 0 → map access_view xs ≡ ys → ys ≡ []
+none_listed [] ys none all = sym all
+none_listed (x ∷ xs) ys none all = absurd cc
+
+-- then so it is in each tree of the program
+pub silent_trees : (t : FileTree) (P : Program) (g : Node) → IsGraph P g → P ≡ resolve t → ((q : ℕ) → accesses_at g q ≡ []) → (h : Node) → IsGraph (resolve t) h
+    → (q : ℕ) → accesses_at h q ≡ []
+silent_trees t P g graph is none h other q = subst (λ (k : Node). accesses_at k q ≡ [])
+    (one_tree (resolve t) g h (subst (λ (Q : Program). IsGraph Q g) is graph) other) (none q)
+
+never_any : (xs : List Element) → xs ≡ [] → IsTrue (nat_lt 0 (length xs)) → ⊥
+never_any [] e h = let wrong : false ≡ true = h in cc
+never_any (x ∷ xs) e h = cc
+
+-- and nothing is told of accesses there
+pub none_inside : (g : Node) (sites : List Site) → ((q : ℕ) → accesses_at g q ≡ []) → AreInside g sites []
+none_inside g sites none = record {
+  verdicts = record {
+    of_these = λ q js h. absurd (contains_none (q, js) h);
+    of_all = λ q a. absurd (never_any (accesses_at g q) (none q) a.2);
+    in_order = λ i j v w l x y. absurd (none-some v x);
+  };
+  places = λ q js h. absurd (contains_none (q, js) h);
+}
