@@ -1,0 +1,39 @@
+-- What is found with drops says of what is defined: without a flag it is that, and what is flagged first strains there.
+use Rattle.std.proofs.Common.{◌≡◌, ℕ, List, Option, None}
+use Rattle.lra_domain.specs.Backward.{Retracing}
+use Rattle.lra_domain.specs.Laws.{Laws}
+use Rattle.lra_domain.specs.Meaning.{Meaning}
+use Rattle.lra_domain.specs.declared.Exactness.TheVariants.{Exact}
+use Rattle.lra_program.specs.declared.program.GlobalVariable.{GlobalVariable}
+use Rattle.lra_program.specs.Sites.{Site}
+use Rattle.lra_operations.specs.Graph.{Node}
+use Rattle.lra_flow.proofs.Unflagged.{none_flagged, any_matters, exact_ones, strained_ones}
+use Rattle.lra_back.specs.Operations.{defined, dropping, straining}
+use Rattle.lra_back.specs.Traced.{Backs, IsTraced}
+use Rattle.lra_back.proofs.Moved.{TransfersBack, backs}
+
+exact_back : {V H : Type 0} (m : Meaning V H) (b : Retracing V) → Laws m → TransfersBack (λ e. e ≡ Exact) (dropping m b) (defined m b)
+exact_back m b laws = record {
+  forward = exact_ones m laws;
+  undone = λ step v e w k h. (k, h.0.exact k);
+  met = λ u v e w k h. (k, h.0.exact k);
+}
+
+strained_back : {V H : Type 0} (m : Meaning V H) (b : Retracing V) → Laws m → TransfersBack (λ e. Unit {0}) (dropping m b) (straining m b)
+strained_back m b laws = record {
+  forward = strained_ones m laws;
+  undone = λ step v e w k h. (h.0.exact, h.0.flagged);
+  met = λ u v e w k h. (h.0.exact, h.0.flagged);
+}
+
+pub traced : {V H : Type 0} (m : Meaning V H) (b : Retracing V) → Laws m → (globals : List GlobalVariable) (sites : List Site) (g : Node) (forward : List V)
+    (f : Option ℕ) (p : ℕ) (values : List V) (flag : Option ℕ) → Backs (dropping m b) globals sites g forward f p values flag
+    → IsTraced m b globals sites g forward f p values flag
+traced {V} {H} m b laws globals sites g forward f p values flag found =
+    let exact = backs V H (dropping m b) (defined m b) (λ e. e ≡ Exact) (λ f. f ≡ None) none_flagged (exact_back m b laws) in
+    let strained = backs V H (dropping m b) (straining m b) (λ e. Unit {0}) (λ f. Unit {0}) any_matters (strained_back m b laws) in
+    record {
+      drops = found;
+      written = λ is. exact globals sites g forward f p values flag is found;
+      strained = strained globals sites g forward f p values flag tt found;
+    }

@@ -1,0 +1,17 @@
+use Rattle.std.proofs.Common.{◌≡◌, ℕ, Some, length, map, slice_get}
+use Rattle.lra_operations.specs.Graph.{Node}
+use Rattle.lra_operations.specs.GraphViews.{site_view}
+use Rattle.lra_ways.specs.Stretches.{AreWays}
+use Rattle.lra_ways.specs.StretchViews.{seen}
+use Rattle.lra_paths.specs.Paths.{AreFewIn}
+use Rattle.lra_paths.specs.declared.sources.Source.{Source}
+use Rattle.lra_back.specs.Going.{IsSourceOf}
+use Rattle.lra_back.proofs.backs.sources_of.Given as goal
+
+-- those of the points so far
+abbrev pub invariant-points : goal.invariant-points
+invariant-points l = record {
+  count : length l.sources.items ≡ l.point;
+  are : (g : Node) → AreWays (seen l.paths.ways.items) g → AreFewIn l.paths.globals.now (map site_view l.paths.sites.now) g
+      → (p : ℕ) (s : Source) → slice_get l.sources.items p ≡ Some s → IsSourceOf l.paths.globals.now (map site_view l.paths.sites.now) g p s;
+}

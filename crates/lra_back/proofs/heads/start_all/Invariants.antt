@@ -1,0 +1,8 @@
+use Rattle.std.proofs.Common.{take}
+use Rattle.lra_back.specs.Operations.{dropping}
+use Rattle.lra_back.proofs.HeadSteps.{AreFirst}
+use Rattle.lra_back.proofs.heads.start_all.Given as goal
+
+-- those of the points so far
+abbrev pub invariant-points : goal.invariant-points
+invariant-points g l = AreFirst (dropping g.D.Domain.meaning g.D.Backward.retracing) g.D.Domain.meaning (take l.value-index l.forward) l.heads.items

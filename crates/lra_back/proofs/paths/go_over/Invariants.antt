@@ -1,0 +1,10 @@
+use Rattle.lra_sides.specs.TableSides.{all_done}
+use Rattle.lra_back.specs.Operations.{dropping}
+use Rattle.lra_back.proofs.PathSteps.{IsOverFrom}
+use Rattle.lra_back.proofs.paths.go_over.Given as goal
+
+-- the changes from this one on are gone over
+abbrev pub invariant-changes : goal.invariant-changes
+invariant-changes g l = IsOverFrom (dropping g.D.Domain.meaning g.D.Backward.retracing) g.D.Domain.meaning.dims (all_done l.path)
+    (g.D.Domain.meaning.dims l.forward)
+    l.index l.fn.value l.all l.value

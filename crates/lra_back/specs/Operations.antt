@@ -1,0 +1,54 @@
+-- The operations of which going back is made: those of an iteration, what was so before an assignment or a test, and
+-- meets. Each is a relation of its operands, its exactness and its result, so that one definition serves for what is
+-- written, for what drops something where it is flagged, and for where it strains.
+use Rattle.std.specs.Prelude.{◌≡◌}
+use Rattle.lra_domain.specs.Actions.{Action, assign, forget, test, embed, remove_last}
+use Rattle.lra_domain.specs.Backward.{Retracing, GoesBack, MeetsBoth}
+use Rattle.lra_domain.specs.Meaning.{Meaning}
+use Rattle.lra_domain.specs.Parts.{CapsWithin}
+use Rattle.lra_domain.specs.declared.Exactness.{Exactness}
+use Rattle.lra_domain.specs.declared.Exactness.TheVariants.{Exact, Flagged}
+use Rattle.lra_flow.specs.Operations as forward
+use Rattle.lra_flow.specs.Operations.{Operations}
+
+pub record BackOperations (V H : Type 0) : Type 1 where
+  pub forward : Operations V H
+  -- from the value behind an assignment or a test to the one before it
+  pub undone : Action → V → Exactness → V → Type 0
+  pub met : V → V → Exactness → V → Type 0
+
+-- every operation is exact and gives its defined result
+abbrev pub defined : {V H : Type 0} → Meaning V H → Retracing V → BackOperations V H
+defined m b = record {
+  forward = forward.defined m;
+  undone = λ step v e w. (e ≡ Exact) × b.undone step v w;
+  met = λ u v e w. (e ≡ Exact) × b.met u v w;
+}
+
+-- one that strains on the operands that it has may be flagged; its result then covers the defined one, and has all
+-- stores that it must have
+abbrev pub dropping : {V H : Type 0} → Meaning V H → Retracing V → BackOperations V H
+dropping m b = record {
+  forward = forward.dropping m;
+  undone = λ step v e w. GoesBack m b step v e w × (m.dims w ≡ m.dims v) × CapsWithin (m.capped v) (m.capped w);
+  met = λ u v e w. MeetsBoth m b u v e w × (m.dims v ≡ m.dims u) × (m.dims w ≡ m.dims u) ×
+      CapsWithin (λ c. m.capped u c × m.capped v c) (m.capped w);
+}
+
+-- one that strains may be flagged, and then gives anything: so what comes before the first flag is as it is defined, and
+-- the first flagged operation strains on the operands that the definition has there
+abbrev pub straining : {V H : Type 0} → Meaning V H → Retracing V → BackOperations V H
+straining m b = record {
+  forward = forward.straining m;
+  undone = λ step v e w. (e ≡ Exact → b.undone step v w) × (e ≡ Flagged → b.undo_strains step v);
+  met = λ u v e w. (e ≡ Exact → b.met u v w) × (e ≡ Flagged → b.meet_strains u v);
+}
+
+-- from the value behind any change to the one before it: what was forgotten may have been anything, what was embedded
+-- goes, what was removed comes again with any value
+abbrev pub Undoes : {V H : Type 0} → BackOperations V H → Action → V → Exactness → V → Type 0
+Undoes ops (assign x f) v e w = ops.undone (assign x f) v e w
+Undoes ops (forget x) v e w = ops.forward.changed (forget x) v e w
+Undoes ops (test kind f) v e w = ops.undone (test kind f) v e w
+Undoes ops (embed k) v e w = ops.forward.changed (remove_last k) v e w
+Undoes ops (remove_last k) v e w = ops.forward.changed (embed k) v e w

@@ -1,0 +1,43 @@
+-- Points that need no turn: what they would take is in their heads already.
+use Rattle.std.specs.Prelude.{◌≡◌, ◌≢◌, ◌⊎◌, ℕ, List, [], length, Option, Some, Bool, true, false, slice_get}
+use Rattle.lra_domain.specs.Backward.{Retracing}
+use Rattle.lra_domain.specs.Meaning.{Meaning}
+use Rattle.lra_domain.specs.declared.Exactness.{Exactness}
+use Rattle.lra_domain.specs.declared.Mode.{Mode}
+use Rattle.lra_domain.specs.declared.Mode.TheVariants.{Widen}
+use Rattle.lra_flow.specs.Pass.{noted}
+use Rattle.lra_back.specs.Operations.{BackOperations, dropping}
+use Rattle.lra_back.specs.Rounds as rounds
+use Rattle.lra_back.specs.Going.{AreHeads, IsNextAt, task_view}
+use Rattle.lra_back.specs.declared.rounds.Going.{Going}
+use Rattle.lra_back.specs.declared.tasks.Task.{Task}
+
+-- the point's next value over these heads lies in its own where that widens, and adds no flag
+pub record IsSettled {V H : Type 0} (ops : BackOperations V H) (task : rounds.Task V) (heads : List H) (f : Option ℕ)
+    (p : ℕ) : Type 0 where
+  pub head : H
+  pub is_there : slice_get heads p ≡ Some head
+  pub exactness : Exactness
+  pub next : V
+  pub is_next : IsNextAt ops task p heads exactness next
+  pub stays : ops.forward.stays head next Widen
+  pub noted_before : noted p exactness f ≡ f
+
+-- each point that is marked is settled
+pub record AreSettled {V H : Type 0} (ops : BackOperations V H) (task : rounds.Task V) (heads : List H) (f : Option ℕ)
+    (settled : List Bool) : Type 0 where
+  pub count : length settled ≡ length task.forward
+  pub each : (p : ℕ) → slice_get settled p ≡ Some true → IsSettled ops task heads f p
+
+-- Behind a turn of the point: where its head was stable, it may be marked if the round widens; else neither it nor any
+-- point from which paths lead to it is marked.
+abbrev pub Settles : {V : Type 0} → rounds.Task V → Mode → ℕ → Bool → List Bool → List Bool → Type 0
+Settles task mode p true old new = (length new ≡ length old) × ((q : ℕ) → slice_get new q ≡ Some true →
+    (slice_get old q ≡ Some true) ⊎ ((q ≡ p) × (mode ≡ Widen)))
+Settles task mode p false old new = (length new ≡ length old) × ((q : ℕ) → slice_get new q ≡ Some true →
+    (slice_get old q ≡ Some true) × (q ≢ p) × (task.paths q p ≡ []))
+
+-- the heads are those of the task's points, and marked points are settled
+pub record IsGoing {V H : Type 0} (m : Meaning V H) (b : Retracing V) (t : Task V) (going : Going H) : Type 0 where
+  pub heads : AreHeads m t.forward.now going.heads.items
+  pub settled : AreSettled (dropping m b) (task_view t) going.heads.items going.flag going.settled.items

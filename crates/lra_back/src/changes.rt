@@ -1,0 +1,28 @@
+//! Going back over one change.
+
+ghost use Rattle.std.specs.Prelude.{◌≡◌, IfOk, OnOk};
+ghost use Rattle.lra_domain.specs.Actions.{dims_after};
+ghost use Rattle.lra_domain.specs.Changes.{CanBeMade, action_of};
+ghost use Rattle.lra_back.specs.Operations.{Undoes, dropping};
+ghost use Rattle.lra_back.specs.Going.{reversed};
+
+use lra_domain::{Backward, Change, Exactness};
+use std::alloc::AllocError;
+
+/// From the value behind the change to the one before it: what was forgotten may have been anything, what was embedded
+/// goes, what was removed comes again with any value.
+pub fn undo<D: Backward>(value: &mut D, change: &Change) -> Result<Exactness, AllocError>
+    requires { CanBeMade (reversed (action_of change.now)) (D.meaning.dims value.old) }
+    ensures undoes { IfOk result (λ e. Undoes (dropping D.meaning D.retracing)
+        (action_of change.now) value.old e value.new) }
+    ensures dims { OnOk result (D.meaning.dims value.new ≡
+        dims_after (reversed (action_of change.now)) (D.meaning.dims value.old)) }
+{
+    match change {
+        Change::Assign(place, form) => value.before_assign(*place, form),
+        Change::Forget(place) => value.forget(*place),
+        Change::Test(test) => value.before_test(test),
+        Change::Embed(count) => value.remove_last(*count),
+        Change::RemoveLast(count) => value.embed(*count),
+    }
+}

@@ -1,0 +1,72 @@
+//! Heads: one for each point, which starts with nothing and grows by the point's next values.
+
+ghost use Rattle.std.specs.Prelude.{◌≡◌, ◌≢◌, ◌≤◌, ◌<◌, ◌^◌, ℕ, true, false, Some, slice_get, IfOk, OnOk};
+ghost use Rattle.lra_domain.specs.declared.Mode.TheVariants.{Join};
+ghost use Rattle.lra_domain.specs.Rank.{RankFits};
+ghost use Rattle.lra_back.specs.Operations.{dropping};
+ghost use Rattle.lra_back.specs.Rounds.{AreStarted, StaysOrGrows, no_rows};
+ghost use Rattle.lra_back.specs.Going.{AreHeads, rank_of};
+
+use lra_domain::{Backward, Exactness, Grown, Mode};
+use lra_sys::ConSys;
+use std::alloc::{AllocError, Global};
+
+/// How a head took a value: whether it was stable, and the exactness of its growth.
+#[derive(Clone, Copy)]
+pub struct Growth {
+    pub is_stable: bool,
+    pub exactness: Exactness,
+}
+
+/// A head that starts with an empty value of so many dimensions.
+fn start<D: Backward>(alloc: Global, dims: usize) -> Result<D::Head, AllocError>
+    requires { dims ≤ 2 ^ 30 }
+    ensures starts { IfOk result (λ h. (v : D) ×
+        (dropping D.meaning D.retracing).forward.void dims 1 v ×
+        (dropping D.meaning D.retracing).forward.started v (no_rows dims) h) }
+    ensures dims { IfOk result (λ h. D.meaning.head_dims h ≡ dims) }
+    ensures fits { IfOk result (λ h. RankFits (D.meaning.rank h)) }
+{
+    let nothing = D::empty(alloc, dims, 1)?;
+    let given = ConSys::new(alloc, dims);
+    let head = D::start(alloc, &nothing, &given)?;
+    Ok(head)
+}
+
+/// The heads of all points.
+pub fn start_all<D: Backward>(alloc: Global, forward: &[D]) -> Result<Vec<D::Head>, AllocError>
+    requires { (p : ℕ) (x : D) → slice_get forward.now p ≡ Some x → D.meaning.dims x ≤ 2 ^ 30 }
+    ensures started { IfOk result (λ heads.
+        AreStarted (dropping D.meaning D.retracing) forward.now heads.items) }
+    ensures heads { IfOk result (λ heads. AreHeads D.meaning forward.now heads.items) }
+{
+    let mut heads = Vec::new(alloc);
+    'points: for value in forward {
+        let head = start::<D>(alloc, value.dims())?;
+        heads.push(head)?;
+    }
+    Ok(heads)
+}
+
+/// The head grows by the value, unless it is stable under it.
+pub fn grow<D: Backward>(head: &mut D::Head, next: &D, mode: Mode) -> Result<Growth, AllocError>
+    requires { D.meaning.dims next.now ≡ D.meaning.head_dims head.old }
+    ensures grows { IfOk result (λ g. StaysOrGrows (dropping D.meaning D.retracing)
+        mode head.old next.now g.exactness g.is_stable head.new) }
+    ensures dims { D.meaning.head_dims head.new ≡ D.meaning.head_dims head.old }
+    ensures fits { OnOk result (RankFits (D.meaning.rank head.new)) }
+    ensures stable { IfOk result (λ g. g.is_stable ≡ true → head.new ≡ head.old) }
+    ensures falls { IfOk result (λ g. g.is_stable ≡ false → mode ≢ Join →
+        rank_of D.meaning head.new < rank_of D.meaning head.old) }
+{
+    match D::grow(head, next, mode)? {
+        Grown::Stable => Ok(Growth {
+            is_stable: true,
+            exactness: Exactness::Exact,
+        }),
+        Grown::Grew(exactness) => Ok(Growth {
+            is_stable: false,
+            exactness,
+        }),
+    }
+}

@@ -1,0 +1,14 @@
+//! Going back from an assertion of a program: at each point the stores from which a run may still come to where it is
+//! false.
+#![tactic(auto)]
+
+mod backs;
+mod changes;
+mod heads;
+mod meets;
+mod paths;
+mod rounds;
+mod seeds;
+mod tasks;
+
+pub use backs::{BackFailure, Backs, back};

@@ -1,0 +1,96 @@
+//! The last heads' values, met with the forward values.
+
+ghost use Rattle.std.specs.Prelude.{◌≡◌, ◌≢◌, ℕ, true, length, Some, slice_get, IfOk};
+ghost use Rattle.lra_domain.specs.declared.Exactness.{Exactness};
+ghost use Rattle.lra_domain.specs.Meaning.{worse};
+ghost use Rattle.lra_back.specs.Operations.{dropping};
+ghost use Rattle.lra_back.specs.Rounds.{AreMet};
+ghost use Rattle.lra_back.specs.Going.{AreHeads, IsGoneOver, IsTask, task_view};
+
+use crate::heads::start_all;
+use crate::paths::Found;
+use crate::rounds::Going;
+use crate::tasks::Task;
+use lra_domain::{Backward, worse};
+use lra_outcomes::note;
+use std::alloc::{AllocError, Global};
+
+/// The values at the points, and the first flagged point.
+#[derive(Drop)]
+pub struct Met<D> {
+    pub values: Vec<D>,
+    pub flag: Option<usize>,
+}
+
+/// The head's value, met with the forward value.
+fn meet_one<D: Backward>(alloc: Global, head: &D::Head, forward: &D) -> Result<Found<D>, AllocError>
+    requires { D.meaning.head_dims head.now ≡ D.meaning.dims forward.now }
+    ensures met { IfOk result (λ r. (v : D) × (c d : Exactness) ×
+        (dropping D.meaning D.retracing).forward.valued head.now c v ×
+        (dropping D.meaning D.retracing).met v forward.now d r.value × (r.exactness ≡ worse c d)) }
+    ensures dims { IfOk result (λ r. D.meaning.dims r.value ≡ D.meaning.dims forward.now) }
+{
+    let (mut value, valued) = D::value(alloc, head)?;
+    let met = value.meet(forward)?;
+    Ok(Found {
+        value,
+        exactness: worse(valued, met),
+    })
+}
+
+/// The value of each head, met with the forward value at its point, from the first point to the last.
+pub fn meet_all<D: Backward>(
+    alloc: Global,
+    going: &Going<D::Head>,
+    forward: &[D],
+) -> Result<Met<D>, AllocError>
+    requires { AreHeads D.meaning forward.now going.now.heads.items }
+    ensures met { IfOk result (λ r. AreMet (dropping D.meaning D.retracing) 0 going.now.flag
+        going.now.heads.items forward.now r.flag r.values.items) }
+    ensures count { IfOk result (λ r. length r.values.items ≡ length forward.now) }
+    ensures dims { IfOk result (λ r. (p : ℕ) (x v : D) → slice_get forward.now p ≡ Some x →
+        slice_get r.values.items p ≡ Some v → D.meaning.dims v ≡ D.meaning.dims x) }
+{
+    let mut values = Vec::new(alloc);
+    let mut flag = going.flag;
+    'points: for (point, value) in forward.iter().enumerate() {
+        let found = meet_one(alloc, &going.heads[point], value)?;
+        flag = note(point, found.exactness, flag);
+        values.push(found.value)?;
+    }
+    Ok(Met { values, flag })
+}
+
+/// So many points, of which none is settled.
+fn none_settled(alloc: Global, count: usize) -> Result<Vec<bool>, AllocError>
+    ensures count { IfOk result (λ v. length v.items ≡ count) }
+    ensures none { IfOk result (λ v. (p : ℕ) → slice_get v.items p ≢ Some true) }
+{
+    let mut settled = Vec::new(alloc);
+    'points: for _point in 0..count {
+        settled.push(false)?;
+    }
+    Ok(settled)
+}
+
+impl<D: Backward> Task<'_, D> {
+    /// All rounds, and then the meets, from heads that start with nothing.
+    pub fn go_back(&self, flag: Option<usize>) -> Result<Met<D>, AllocError>
+        requires { IsTask D.meaning self.now }
+        ensures gone { IfOk result (λ r. IsGoneOver (dropping D.meaning D.retracing)
+            (task_view self.now) flag r.values.items r.flag) }
+        ensures count { IfOk result (λ r.
+            length r.values.items ≡ length self.now.forward.now) }
+        ensures dims { IfOk result (λ r. (p : ℕ) (x v : D) →
+            slice_get self.now.forward.now p ≡ Some x →
+            slice_get r.values.items p ≡ Some v → D.meaning.dims v ≡ D.meaning.dims x) }
+    {
+        let mut going = Going {
+            heads: start_all(self.alloc, self.forward)?,
+            flag,
+            settled: none_settled(self.alloc, self.forward.len())?,
+        };
+        self.turn_heads(&mut going)?;
+        meet_all(self.alloc, &going, self.forward)
+    }
+}

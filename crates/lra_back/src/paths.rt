@@ -1,0 +1,166 @@
+//! Going back over paths: from the head of their target to their source, from the last change of each to its first.
+
+ghost use Rattle.std.specs.Prelude.{◌≡◌, Some, IfOk, OnOk};
+ghost use Rattle.lra_domain.specs.declared.Exactness.{Exactness};
+ghost use Rattle.lra_domain.specs.Meaning.{worse};
+ghost use Rattle.lra_flow.specs.Pass.{JoinsRunning};
+ghost use Rattle.lra_sides.specs.TableSides.{all_done, lists_done};
+ghost use Rattle.lra_back.specs.Operations.{dropping};
+ghost use Rattle.lra_back.specs.GoingBack.{AllComeBack, ComesBack, ComesFromAll};
+ghost use Rattle.lra_back.specs.Going.{AllFit, ComesOver, FitHeads, Fits, IfThereHas, IsWritable, paths_from};
+
+use crate::changes::undo;
+use lra_domain::{Backward, Change, Exactness, worse};
+use lra_paths::Source;
+use lra_ways::Goal;
+use std::alloc::{AllocError, Global};
+
+/// A value, with the exactness of what led to it.
+#[derive(Drop)]
+pub struct Found<D> {
+    pub value: D,
+    pub exactness: Exactness,
+}
+
+/// What is joined so far, where something is, with the exactness of all of it.
+#[derive(Drop)]
+pub struct Joined<D> {
+    pub value: Option<D>,
+    pub exactness: Exactness,
+}
+
+/// From the value behind the path to the one before it, met with the forward value there.
+fn go_over<D: Backward>(
+    value: &mut D,
+    path: &[&Change],
+    forward: &D,
+) -> Result<Exactness, AllocError>
+    requires { Fits (all_done path.now) (D.meaning.dims forward.now) (D.meaning.dims value.old) }
+    ensures comes { IfOk result (λ e. ComesOver (dropping D.meaning D.retracing)
+        forward.now value.old (all_done path.now) e value.new) }
+    ensures dims { OnOk result (D.meaning.dims value.new ≡ D.meaning.dims forward.now) }
+{
+    let mut all = Exactness::Exact;
+    'changes: for index in (0..path.len()).rev() {
+        let one = undo(value, path[index])?;
+        all = worse(all, one);
+    }
+    let met = value.meet(forward)?;
+    Ok(worse(all, met))
+}
+
+/// What the path brings back from its target's head.
+fn come_back<D: Backward>(
+    alloc: Global,
+    target: &D::Head,
+    path: &[&Change],
+    forward: &D,
+) -> Result<Found<D>, AllocError>
+    requires { Fits (all_done path.now) (D.meaning.dims forward.now)
+        (D.meaning.head_dims target.now) }
+    ensures comes { IfOk result (λ r. ComesBack (dropping D.meaning D.retracing)
+        forward.now target.now (all_done path.now) r.exactness r.value) }
+    ensures dims { IfOk result (λ r. D.meaning.dims r.value ≡ D.meaning.dims forward.now) }
+{
+    let (mut value, valued) = D::value(alloc, target)?;
+    let gone = go_over(&mut value, path, forward)?;
+    Ok(Found {
+        value,
+        exactness: worse(valued, gone),
+    })
+}
+
+/// Joined to what came before, where something did.
+pub fn join_to<D: Backward>(so_far: Option<D>, value: D) -> Result<Found<D>, AllocError>
+    requires { IfThereHas D.meaning (D.meaning.dims value) so_far }
+    ensures joins { IfOk result (λ r. JoinsRunning (dropping D.meaning D.retracing).forward
+        so_far value r.exactness r.value) }
+    ensures dims { IfOk result (λ r. D.meaning.dims r.value ≡ D.meaning.dims value) }
+{
+    match so_far {
+        None => Ok(Found {
+            value,
+            exactness: Exactness::Exact,
+        }),
+        Some(mut all) => {
+            let exactness = all.join(&value)?;
+            Ok(Found {
+                value: all,
+                exactness,
+            })
+        }
+    }
+}
+
+/// What the path brings back comes to what is joined so far.
+fn join_path<D: Backward>(
+    alloc: Global,
+    target: &D::Head,
+    path: &[&Change],
+    forward: &D,
+    so_far: Joined<D>,
+) -> Result<Joined<D>, AllocError>
+    requires fits { Fits (all_done path.now) (D.meaning.dims forward.now)
+        (D.meaning.head_dims target.now) }
+    requires so_far { IfThereHas D.meaning (D.meaning.dims forward.now) so_far.value }
+    ensures joins { IfOk result (λ r. (u w : D) × (c d : Exactness) ×
+        ComesBack (dropping D.meaning D.retracing) forward.now target.now (all_done path.now) c u ×
+        JoinsRunning (dropping D.meaning D.retracing).forward so_far.value u d w ×
+        (r.value ≡ Some w) × (r.exactness ≡ worse so_far.exactness (worse c d))) }
+    ensures dims { IfOk result (λ r. IfThereHas D.meaning (D.meaning.dims forward.now) r.value) }
+{
+    let found = come_back(alloc, target, path, forward)?;
+    let Joined { value, exactness } = so_far;
+    let all = join_to(value, found.value)?;
+    Ok(Joined {
+        exactness: worse(exactness, worse(found.exactness, all.exactness)),
+        value: Some(all.value),
+    })
+}
+
+/// What the paths bring back comes to what is joined so far, one after the other.
+fn join_paths<D: Backward>(
+    alloc: Global,
+    target: &D::Head,
+    paths: &[Vec<&Change>],
+    forward: &D,
+    so_far: Joined<D>,
+) -> Result<Joined<D>, AllocError>
+    requires fit { AllFit (lists_done paths.now) (D.meaning.dims forward.now)
+        (D.meaning.head_dims target.now) }
+    requires so_far { IfThereHas D.meaning (D.meaning.dims forward.now) so_far.value }
+    ensures joins { IfOk result (λ r. (e : Exactness) × AllComeBack (dropping D.meaning D.retracing)
+        forward.now target.now (lists_done paths.now) so_far.value e r.value ×
+        (r.exactness ≡ worse so_far.exactness e)) }
+    ensures dims { IfOk result (λ r. IfThereHas D.meaning (D.meaning.dims forward.now) r.value) }
+{
+    let mut joined = so_far;
+    'paths: for path in paths {
+        joined = join_path(alloc, target, path.as_slice(), forward, joined)?;
+    }
+    Ok(joined)
+}
+
+/// What a source's paths bring back from the heads of all points, by the numbers of these.
+pub fn come_from_all<D: Backward>(
+    alloc: Global,
+    source: &Source,
+    heads: &[D::Head],
+    forward: &D,
+) -> Result<Joined<D>, AllocError>
+    requires writable { IsWritable source.now }
+    requires fit { FitHeads D.meaning source.now (D.meaning.dims forward.now) heads.now }
+    ensures comes { IfOk result (λ r. ComesFromAll (dropping D.meaning D.retracing)
+        (paths_from source.now) forward.now 0 heads.now None r.exactness r.value) }
+    ensures dims { IfOk result (λ r. IfThereHas D.meaning (D.meaning.dims forward.now) r.value) }
+{
+    let mut joined = Joined {
+        value: None,
+        exactness: Exactness::Exact,
+    };
+    'targets: for (point, target) in heads.iter().enumerate() {
+        let paths = source.paths_to(alloc, Goal::ComesTo(point))?;
+        joined = join_paths(alloc, target, paths.as_slice(), forward, joined)?;
+    }
+    Ok(joined)
+}

@@ -1,0 +1,105 @@
+//! Where going back begins: what an assertion's forward value leaves where its condition is false.
+
+ghost use Rattle.std.specs.Prelude.{◌≡◌, ◌≤◌, ℕ, [], ◌∷◌, map, false, Some, IfOk};
+ghost use Rattle.lra_program.specs.Program as program;
+ghost use Rattle.lra_program.specs.ProgramViews.{cond_view};
+ghost use Rattle.lra_program.specs.Step.{test};
+ghost use Rattle.lra_operations.specs.Graph.{Node};
+ghost use Rattle.lra_ways.specs.Ways.{does};
+ghost use Rattle.lra_ways.specs.Stretches.{AreWays};
+ghost use Rattle.lra_ways.specs.StretchViews.{move_view, seen, stretch_view};
+ghost use Rattle.lra_flow.specs.Pass.{Leaves};
+ghost use Rattle.lra_flow.specs.Room.{most_live};
+ghost use Rattle.lra_back.specs.Operations.{dropping};
+ghost use Rattle.lra_back.specs.Traced.{IsAsserted};
+ghost use Rattle.lra_back.specs.Going.{is_denial, condition_seen};
+
+use crate::paths::Found;
+use lra_change::leave;
+use lra_domain::{Backward, Exactness};
+use lra_operations::Op;
+use lra_program::Cond;
+use lra_ways::{End, Goal, Move, Stretch};
+use std::alloc::{AllocError, Global};
+
+/// A condition; the base is where the variables of its call begin.
+#[derive(Clone, Copy)]
+pub struct Asserted<'g> {
+    pub base: usize,
+    pub condition: &'g Cond,
+}
+
+/// Whether the stretch leads from the point to where its assertion is false.
+fn is_denial(stretch: &Stretch<'_>, point: usize) -> bool
+    ensures { result ≡ is_denial point (stretch_view stretch.now) }
+{
+    if stretch.source != Some(point) {
+        return false;
+    }
+    match stretch.end {
+        End::Leaves(_) => false,
+        End::Meets(Goal::ComesTo(_)) => false,
+        End::Meets(Goal::Denies(denied)) => denied == point,
+    }
+}
+
+/// The condition that the move tests, if it does.
+fn tested<'g>(step: Move<'g>) -> Option<Asserted<'g>>
+    ensures { (base : ℕ) (c : program.Cond) → move_view step.entry ≡ does (test base c false) →
+        condition_seen result ≡ Some (base, c) }
+{
+    match step {
+        Move::Test(base, condition, _) => Some(Asserted { base, condition }),
+        Move::Change(Op::Test(base, condition, _)) => Some(Asserted {
+            base: *base,
+            condition,
+        }),
+        _ => None,
+    }
+}
+
+/// The condition that the first of the moves tests, if it does.
+fn first_tested<'g>(moves: &[Move<'g>]) -> Option<Asserted<'g>>
+    ensures { (base : ℕ) (c : program.Cond) →
+        map move_view moves.now ≡ does (test base c false) ∷ [] →
+        condition_seen result ≡ Some (base, c) }
+{
+    match moves.first() {
+        None => None,
+        Some(step) => tested(*step),
+    }
+}
+
+/// The condition that is asserted at the point.
+pub fn find_asserted<'g>(ways: &[Stretch<'g>], point: usize) -> Option<Asserted<'g>>
+    ensures { (g : Node) (base : ℕ) (c : program.Cond) → AreWays (seen ways.now) g →
+        IsAsserted g point base c → condition_seen result ≡ Some (base, c) }
+{
+    'ways: for stretch in ways {
+        if is_denial(stretch, point) {
+            return first_tested(stretch.moves.as_slice());
+        }
+    }
+    None
+}
+
+/// What the value leaves where the condition is false.
+pub fn deny<D: Backward>(
+    alloc: Global,
+    asserted: Asserted<'_>,
+    value: &D,
+) -> Result<Found<D>, AllocError>
+    requires { D.meaning.dims value.now ≤ most_live }
+    ensures leaves { IfOk result (λ r. Leaves (dropping D.meaning D.retracing).forward
+        asserted.entry.base (cond_view asserted.entry.condition.now) false
+        value.now r.exactness r.value) }
+    ensures dims { IfOk result (λ r. D.meaning.dims r.value ≡ D.meaning.dims value.now) }
+{
+    let Asserted { base, condition } = asserted;
+    let mut seed = value.copy(alloc)?;
+    let exactness = leave(alloc, base, condition, false, &mut seed, Exactness::Exact)?;
+    Ok(Found {
+        value: seed,
+        exactness,
+    })
+}

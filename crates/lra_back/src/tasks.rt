@@ -1,0 +1,84 @@
+//! What is gone back over, and the next value of a point.
+
+ghost use Rattle.std.specs.Prelude.{◌≡◌, ◌≤◌, ◌<◌, ◌^◌, ℕ, length, Some, None, slice_get, IfOk};
+ghost use Rattle.lra_domain.specs.declared.Exactness.{Exactness};
+ghost use Rattle.lra_domain.specs.Meaning.{worse};
+ghost use Rattle.lra_flow.specs.Pass.{RunsFrom};
+ghost use Rattle.lra_back.specs.Operations.{dropping};
+ghost use Rattle.lra_back.specs.GoingBack.{JoinsSeed};
+ghost use Rattle.lra_back.specs.Rounds.{seed_at};
+ghost use Rattle.lra_back.specs.Going.{AreHeads, IfThereHas, IsNextAt, IsTask, task_view};
+
+use crate::paths::{Found, Joined, come_from_all, join_to};
+use lra_domain::{Backward, worse};
+use lra_paths::Source;
+use std::alloc::{AllocError, Global};
+
+/// What is gone back over: the paths from each point, the forward values at the points, and the assertion with the
+/// value at which it is false.
+#[derive(Drop)]
+pub struct Task<'g, D> {
+    pub alloc: Global,
+    pub sources: Vec<Source>,
+    pub forward: &'g [D],
+    pub assertion: usize,
+    pub seed: D,
+}
+
+/// What was found, or the empty value of so many dimensions where nothing was.
+fn or_empty<D: Backward>(alloc: Global, dims: usize, found: Option<D>) -> Result<D, AllocError>
+    requires few { dims ≤ 2 ^ 30 }
+    requires has { IfThereHas D.meaning dims found }
+    ensures runs { IfOk result (λ v.
+        RunsFrom (dropping D.meaning D.retracing).forward dims 1 found v) }
+    ensures dims { IfOk result (λ v. D.meaning.dims v ≡ dims) }
+{
+    match found {
+        None => D::empty(alloc, dims, 1),
+        Some(value) => Ok(value),
+    }
+}
+
+impl<D: Backward> Task<'_, D> {
+    /// At the assertion the seed comes last.
+    fn join_seed(&self, point: usize, so_far: Joined<D>) -> Result<Joined<D>, AllocError>
+        requires { point ≡ self.now.assertion →
+            IfThereHas D.meaning (D.meaning.dims self.now.seed) so_far.value }
+        ensures joins { IfOk result (λ r. (e : Exactness) ×
+            JoinsSeed (dropping D.meaning D.retracing) (seed_at (task_view self.now) point)
+            so_far.value e r.value ×
+            (r.exactness ≡ worse so_far.exactness e)) }
+        ensures dims { (n : ℕ) → IfThereHas D.meaning n so_far.value →
+            (point ≡ self.now.assertion → D.meaning.dims self.now.seed ≡ n) →
+            IfOk result (λ r. IfThereHas D.meaning n r.value) }
+    {
+        if point != self.assertion {
+            return Ok(so_far);
+        }
+        let Joined { value, exactness } = so_far;
+        let seed = self.seed.copy(self.alloc)?;
+        let all = join_to(value, seed)?;
+        Ok(Joined {
+            exactness: worse(exactness, all.exactness),
+            value: Some(all.value),
+        })
+    }
+
+    /// The next value of the point, over the heads as they are: what its paths bring back, and last the seed; where
+    /// there is none of both, it is empty.
+    pub fn next(&self, point: usize, heads: &[D::Head]) -> Result<Found<D>, AllocError>
+        requires task { IsTask D.meaning self.now }
+        requires heads { AreHeads D.meaning self.now.forward.now heads.now }
+        requires point { point < length self.now.forward.now }
+        ensures next { IfOk result (λ r. IsNextAt (dropping D.meaning D.retracing)
+            (task_view self.now) point heads.now r.exactness r.value) }
+        ensures dims { (h : D.Head) → slice_get heads.now point ≡ Some h → IfOk result (λ r.
+            D.meaning.dims r.value ≡ D.meaning.head_dims h) }
+    {
+        let forward = &self.forward[point];
+        let joined = come_from_all(self.alloc, &self.sources[point], heads, forward)?;
+        let Joined { value, exactness } = self.join_seed(point, joined)?;
+        let value = or_empty(self.alloc, forward.dims(), value)?;
+        Ok(Found { value, exactness })
+    }
+}
