@@ -1,0 +1,14 @@
+-- Going back keeps the stores of runs that fail.
+pub mod Retraced
+pub mod NextValues
+pub mod LastRound
+pub mod FoundStores
+pub mod FailingRuns
+-- Paths of trees whose operations fit.
+pub mod MadeLists
+pub mod MadeMoves
+pub mod MadeWays
+pub mod PathsMade
+-- What the trees of programs owe to going back.
+pub mod Assertions
+pub mod FirstPoints
