@@ -292,6 +292,14 @@ static SEVERAL: [(&str, Command); 15] = [
     ("lra verify --", Command::Plain(PlainCommand::Verify)),
 ];
 
+/// Lines that ask to go back from an assertion.
+static BACK: [(&str, Command); 4] = [
+    ("lra back --point 1", Command::Back { point: 1 }),
+    ("other back --point=2048", Command::Back { point: 2048 }),
+    ("lra back --point +7", Command::Back { point: 7 }),
+    ("lra back --point=007 --", Command::Back { point: 7 }),
+];
+
 /// The words of a line, between single spaces.
 fn words_of(alloc: Global, line: &str) -> Result<Vec<String>, AllocError> {
     let mut words = Vec::new(alloc);
@@ -322,6 +330,7 @@ fn commands_are_taken(rt: HostRuntime) {
     are_taken(&rt, rt.alloc(), &SEVERAL);
     are_taken(&rt, rt.alloc(), &THRESHOLDS);
     are_taken(&rt, rt.alloc(), &FITS);
+    are_taken(&rt, rt.alloc(), &BACK);
 }
 
 /// Whether the words of the line ask for no command.
@@ -459,6 +468,27 @@ static SAMPLES: [&str; 16] = [
     "lra sample --seed 1 2",
 ];
 
+/// Numbers of points out of their range, without their value, twice, or left out.
+static POINTS: [&str; 17] = [
+    "lra back",
+    "lra back --",
+    "lra back 1",
+    "lra back --point",
+    "lra back --point=",
+    "lra back --point 0",
+    "lra back --point=00",
+    "lra back --point 2049",
+    "lra back --point -1",
+    "lra back --point=1.0",
+    "lra back --point x",
+    "lra back --point 18446744073709551617",
+    "lra back --point 1 --point 1",
+    "lra back --point 1 1",
+    "lra back --point 1 --json",
+    "lra back --point 1 --domain poly",
+    "lra analyse --point 1",
+];
+
 #[test]
 fn other_lines_ask_for_nothing(rt: HostRuntime) {
     are_other(&rt, rt.alloc(), &STRAY);
@@ -467,6 +497,7 @@ fn other_lines_ask_for_nothing(rt: HostRuntime) {
     are_other(&rt, rt.alloc(), &COUNTS);
     are_other(&rt, rt.alloc(), &APART);
     are_other(&rt, rt.alloc(), &SAMPLES);
+    are_other(&rt, rt.alloc(), &POINTS);
 }
 
 #[test]

@@ -20,16 +20,17 @@ use Rattle.clap.specs.declared.builder.value_parser.ValueParser.{ValueParser}
 use Rattle.clap.specs.declared.builder.value_parser.ValueParser.TheVariants as vp
 use Rattle.clap.proofs.WalkLemmas.{both, list_any-map}
 use Rattle.lra_words.specs.Chosen.{HasInRange, IsWithinRanges, best_of, domain_at, domain_named, flag_at, format_of, gives_any, number_at, number_below}
-use Rattle.lra_words.specs.Chosen.{options_of, sample_of, truth_of}
+use Rattle.lra_words.specs.Chosen.{back_of, options_of, sample_of, truth_of}
 use Rattle.lra_words.specs.CommandLine.{plain, plain_commands, named_plain}
-use Rattle.lra_words.specs.CommandLine.{TakesDomains, best_rule, command_line, domain_rule, json_rule, flag, number_rule, seed_option, size_option}
+use Rattle.lra_words.specs.CommandLine.{TakesDomains, best_rule, command_line, domain_rule, json_rule, flag, number_rule, point_option}
+use Rattle.lra_words.specs.CommandLine.{seed_option, size_option}
 use Rattle.lra_options.specs.declared.options.NumberOption.TheVariants.{Parts, Delay, Narrow}
 use Rattle.lra_options.specs.declared.options.FlagOption.TheVariants.{Limited, Thresholds, Fits}
 use Rattle.lra_options.specs.OptionRows.{NumberRow, IsInRange, agree, best_options, number_options, number_row, flag_row, default_options}
 use Rattle.lra_options.specs.declared.options.Options.{Options}
 use Rattle.lra_words.specs.declared.chosen.Command.{Command}
 use Rattle.lra_words.specs.declared.chosen.PlainCommand.{PlainCommand}
-use Rattle.lra_words.specs.declared.chosen.Command.TheVariants.{Analyse, Plain, Sample}
+use Rattle.lra_words.specs.declared.chosen.Command.TheVariants.{Analyse, Back, Plain, Sample}
 use Rattle.lra_options.specs.declared.options.Domain.{Domain}
 use Rattle.lra_options.specs.Domains.{domains, domain_name}
 use Rattle.lra_words.proofs.Conflicts.{Gives}
@@ -159,6 +160,9 @@ sample_from : (rows : List Row) (seed size : ℕ) → number_at (codes "seed") (
     → sample_of rows ≡ Some (Sample seed size)
 sample_from rows seed size e f = rw (e, f) refl
 
+back_from : (rows : List Row) (point : ℕ) → number_at (codes "point") (2 ^ 32) rows ≡ Some point → back_of rows ≡ Some (Back point)
+back_from rows point e = rw e refl
+
 -- ---- the subcommands as a parse builds them
 
 abbrev built_rule : Rule → Rule
@@ -269,6 +273,26 @@ sample_taken parser words e =
     let size = number_of size_option (2 ^ 32) rows size_text.text (lit< tt) size_text.one size_text.passed in
     (Sample seed.0 size.0, sample_from rows seed.0 size.0 seed.1 size.1, (seed.2, size.2))
 
+back_own : (parser : ValueParser) → AllOwn (sub_at parser 2).rules (sub_at parser 2).rules
+back_own parser = ((refl, option_adds (built_rule (number_rule point_option)) refl refl), ((refl, help_adds (built_rule help_rule) refl), tt))
+
+one_given : (point : Bool) → (not point || false) ≡ false → point ≡ true
+one_given true e = refl
+one_given false e = cc
+
+back_taken : (parser : ValueParser) (words : List Text) → level_fault (sub_at parser 2) [] nothing_held words false [] ≡ []
+    → (c : Command) × (back_of (rows_after (sub_at parser 2).rules [] words) ≡ Some c) × IsWithinRanges c
+back_taken parser words e =
+    let shape = sub_at parser 2 in
+    let rows = rows_after shape.rules [] words in
+    let fit = level_rows shape refl (back_own parser) (λ i. refl) words e in
+    let checks = (level_parts shape [] words false [] e).4 in
+    let wanted = nothing_wanted false false (not (is_given (codes "point") rows) || false) checks in
+    let given = one_given (is_given (codes "point") rows) wanted.1 in
+    let point_text = value_there shape.rules rows (built_rule (number_rule point_option)) fit refl (given_there (codes "point") rows given) in
+    let point = number_of point_option (2 ^ 32) rows point_text.text (lit< tt) point_text.one point_text.passed in
+    (Back point.0, back_from rows point.0 point.1, point.2)
+
 -- ---- the whole parse
 
 -- the first of a list, or one behind it
@@ -292,7 +316,7 @@ plain_built parser c = built_leaf (inherited (with_leaf_noted (marked_built (com
 
 -- `help`
 abbrev last_sub : ValueParser → Shape
-last_sub parser = sub_at parser (2 + length plain_commands)
+last_sub parser = sub_at parser (3 + length plain_commands)
 
 -- what the subcommand gives that a walk stopped at
 abbrev GivesAt : List Text → Option Shape → Type 0
@@ -305,16 +329,20 @@ stop_gives parser takes None no_help e some = cc
 stop_gives parser takes (Some p) no_help e some =
     let test = λ (s : Shape). answers_to p.0 (label_of s) in
     let later = map (plain_built parser) plain_commands ++ last_sub parser ∷ [] in
-    first_or (GivesAt p.1) test (sub_at parser 0) (sub_at parser 1 ∷ later) analyse
-    (first_or (GivesAt p.1) test (sub_at parser 1) later sample
+    first_or (GivesAt p.1) test (sub_at parser 0) (sub_at parser 1 ∷ (sub_at parser 2 ∷ later)) analyse
+    (first_or (GivesAt p.1) test (sub_at parser 1) (sub_at parser 2 ∷ later) sample
+    (first_or (GivesAt p.1) test (sub_at parser 2) later back
     (plain_or (GivesAt p.1) test (plain_built parser) plain_commands (last_sub parser ∷ []) plain_one
-    (first_or (GivesAt p.1) test (last_sub parser) [] help (λ f h. cc)))) e some
+    (first_or (GivesAt p.1) test (last_sub parser) [] help (λ f h. cc))))) e some
   where
     analyse : answers_to p.0 (label_of (sub_at parser 0)) ≡ true → GivesAt p.1 (Some (sub_at parser 0))
     analyse named f h = analyse_taken parser takes p.1 f
 
     sample : answers_to p.0 (label_of (sub_at parser 1)) ≡ true → GivesAt p.1 (Some (sub_at parser 1))
     sample named f h = inl (sample_taken parser p.1 f)
+
+    back : answers_to p.0 (label_of (sub_at parser 2)) ≡ true → GivesAt p.1 (Some (sub_at parser 2))
+    back named f h = inl (back_taken parser p.1 f)
 
     plain_one : (c : PlainCommand) → answers_to p.0 (label_of (plain_built parser c)) ≡ true → GivesAt p.1 (Some (plain_built parser c))
     plain_one c named f h = inl (Plain c, rw (named_plain c) refl, tt)

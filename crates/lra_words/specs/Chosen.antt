@@ -17,12 +17,12 @@ use Rattle.lra_options.specs.OptionRows.{agree, best_options}
 pub use Rattle.lra_options.specs.OptionRows.{default_options}
 use Rattle.lra_options.specs.declared.options.Domain.{Domain}
 use Rattle.lra_options.specs.declared.options.Options.{Options}
-use Rattle.lra_words.specs.CommandLine.{TakesDomains, command_line, plain_named, seed_option, size_option}
+use Rattle.lra_words.specs.CommandLine.{TakesDomains, command_line, plain_named, point_option, seed_option, size_option}
 use Rattle.lra_words.specs.declared.chosen.Command.{Command}
 use Rattle.lra_words.specs.declared.chosen.PlainCommand.{PlainCommand}
 use Rattle.lra_words.specs.declared.chosen.Format.{Format}
 use Rattle.lra_words.specs.declared.chosen.Format.TheVariants.{Lines, Json}
-use Rattle.lra_words.specs.declared.chosen.Command.TheVariants.{Analyse, Sample, Plain}
+use Rattle.lra_words.specs.declared.chosen.Command.TheVariants.{Analyse, Sample, Back, Plain}
 
 -- the number that a text writes, by decimal digits after at most one plus, where it is below
 -- `limit`
@@ -113,11 +113,15 @@ sample_of rows = option_and_then (λ seed. option_map (λ size. Sample seed size
     (number_at size_option.name (2 ^ 32) rows))
     (number_at seed_option.name (2 ^ 64) rows)
 
+abbrev pub back_of : List Row → Option Command
+back_of rows = option_map (λ point. Back point) (number_at point_option.name (2 ^ 32) rows)
+
 -- the command of the subcommand's name and matches
 abbrev pub optioned_command : Text → List Row → Option Command
 optioned_command name rows =
     if bytes_eq name (codes "analyse") then analyse_of rows
-    else (if bytes_eq name (codes "sample") then sample_of rows else None)
+    else (if bytes_eq name (codes "sample") then sample_of rows
+    else (if bytes_eq name (codes "back") then back_of rows else None))
 
 abbrev pub or_optioned : Option PlainCommand → Text → List Row → Option Command
 or_optioned (Some c) name rows = Some (Plain c)
@@ -137,6 +141,7 @@ HasInRange o option = IsInRange (number_row option) (number_value option o)
 abbrev pub IsWithinRanges : Command → Type 0
 IsWithinRanges (Analyse options format) = AllByRecursion (HasInRange options) number_options
 IsWithinRanges (Sample seed size) = IsInRange seed_option seed × IsInRange size_option size
+IsWithinRanges (Back point) = IsInRange point_option point
 IsWithinRanges (Plain c) = ⊤
 
 -- an option stands beside `--best`, which stands for it

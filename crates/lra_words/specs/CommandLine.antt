@@ -34,6 +34,10 @@ seed_option = record { name = codes "seed"; least = 0; greatest = 2 ^ 64 - 1; de
 abbrev pub size_option : NumberRow
 size_option = record { name = codes "size"; least = 0; greatest = 400; default = None }
 
+-- of going back, to be given: the number of the assertion's point
+abbrev pub point_option : NumberRow
+point_option = record { name = codes "point"; least = 1; greatest = 2048; default = None }
+
 -- a number from `least` to `greatest`
 abbrev pub number : ℕ → ℕ → ValueParser
 number least greatest = vp.Unsigned least greatest
@@ -69,6 +73,9 @@ analyse parser = with_rule (with_rule (with_flags (with_numbers (with_rule (new_
 abbrev pub sample : App
 sample = with_rule (with_rule (new_app (codes "sample")) (number_rule seed_option)) (number_rule size_option)
 
+abbrev pub back : App
+back = with_rule (new_app (codes "back")) (number_rule point_option)
+
 -- commands without options of their own: their names, in the order of the command line; each is the one of its name
 abbrev pub plain_name : PlainCommand → Text
 plain_name Calc = codes "calc"
@@ -97,8 +104,8 @@ abbrev pub requiring : App → App
 requiring a = record a { top = record a.top { subcommand_required = true } }
 
 abbrev pub command_line : ValueParser → App
-command_line parser =
-    with_plain (with_subcommand (with_subcommand (requiring (new_app (codes "lra"))) (analyse parser).top) sample.top)
+command_line parser = with_plain (with_subcommand (with_subcommand
+    (with_subcommand (requiring (new_app (codes "lra"))) (analyse parser).top) sample.top) back.top)
 
 -- the parser takes the domains' names
 abbrev pub TakesDomains : ValueParser → Type 0

@@ -51,6 +51,8 @@ pub enum Command {
     Analyse { options: Options, format: Format },
     /// Make a source from a seed and a size, 0 to 400, analyse it and print a summary.
     Sample { seed: u64, size: u32 },
+    /// Analyse a source, and go back from the assertion at the point of this number, 1 to 2,048.
+    Back { point: u32 },
     /// What the command's name says alone.
     Plain(PlainCommand),
 }

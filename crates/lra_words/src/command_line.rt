@@ -8,7 +8,7 @@ ghost use Rattle.lra_options.specs.OptionRows.{number_row, flag_row};
 ghost use Rattle.clap.specs.Words.{app_of, rule_of, with_subcommand};
 ghost use Rattle.clap.specs.declared.builder.command.Command.TheViews.{out-Command};
 ghost use Rattle.lra_words.specs.CommandLine.{DeclaresAnalyse, DeclaresCommandLine, DeclaresDomain};
-ghost use Rattle.lra_words.specs.CommandLine.{defaulted, flag, number, number_rule, required, sample, valued};
+ghost use Rattle.lra_words.specs.CommandLine.{back, defaulted, flag, number, number_rule, required, sample, valued};
 ghost use Rattle.lra_words.specs.CommandLine.{with_flags, with_numbers, with_plain};
 
 use crate::chosen::PLAIN_COMMANDS;
@@ -143,6 +143,20 @@ fn add_sample<'a>(alloc: Global, app: Command<'a>) -> Result<Command<'a>, AllocE
     app.subcommand(sample_command(alloc)?)
 }
 
+fn back_command<'a>(alloc: Global) -> Result<Command<'a>, AllocError>
+    ensures app { IfOk result (λ c. app_of c ≡ back) }
+    ensures local { IfOk result (λ c. (out-Command c).has_globals ≡ false) }
+{
+    Command::new(alloc, "back").arg(required_arg(alloc, "point", between(1, 2048)))
+}
+
+/// The command line so far, and the subcommand `back`.
+fn add_back<'a>(alloc: Global, app: Command<'a>) -> Result<Command<'a>, AllocError>
+    ensures { IfOk result (λ c. app_of c ≡ with_subcommand (app_of app.entry) back.top) }
+{
+    app.subcommand(back_command(alloc)?)
+}
+
 /// The command line so far, and the commands without options.
 fn add_plain<'a>(alloc: Global, app: Command<'a>) -> Result<Command<'a>, AllocError>
     ensures { IfOk result (λ c. app_of c ≡ with_plain (app_of app.entry)) }
@@ -155,12 +169,13 @@ fn add_plain<'a>(alloc: Global, app: Command<'a>) -> Result<Command<'a>, AllocEr
     Ok(declared)
 }
 
-/// The command line with its subcommands `analyse` and `sample`, and with those without options.
+/// The command line with its subcommands `analyse`, `sample` and `back`, and with those without options.
 pub(crate) fn declare<'a>(alloc: Global) -> Result<Command<'a>, AllocError>
     ensures { IfOk result (λ c. DeclaresCommandLine (app_of c)) }
 {
     let analyse = analyse_command(alloc)?;
     let app = Command::new(alloc, "lra").subcommand_required(true);
     let app = add_sample(alloc, app.subcommand(analyse)?)?;
+    let app = add_back(alloc, app)?;
     add_plain(alloc, app)
 }

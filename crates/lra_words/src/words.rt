@@ -3,7 +3,7 @@ ghost use Rattle.std.specs.Prelude.{◌≡◌, ◌^◌, Err, IfOk, IfSome, Some,
 ghost use Rattle.clap.specs.Takes.{is_given};
 ghost use Rattle.clap.specs.Words.{found_of, kind_of, rows_of};
 ghost use Rattle.lra_words.specs.Chosen.{Asks, AsksFor, AsksNone, IsUntaken, IsWithinRanges, command_of, domain_at};
-ghost use Rattle.lra_words.specs.Chosen.{agreeing, analyse_of, best_of, chosen_options, domain_named, flag_at};
+ghost use Rattle.lra_words.specs.Chosen.{agreeing, analyse_of, back_of, best_of, chosen_options, domain_named, flag_at};
 ghost use Rattle.lra_words.specs.Chosen.{format_at, format_of, gives_any, gives_flag, gives_number, gives_settled};
 ghost use Rattle.lra_words.specs.Chosen.{number_at, optioned_command, options_of, sample_of, with_beside, with_domain};
 ghost use Rattle.lra_words.specs.Chosen.{with_flag, with_number};
@@ -245,6 +245,13 @@ fn read_sample(matches: &ArgMatches) -> Option<Command>
     Some(Command::Sample { seed, size })
 }
 
+fn read_back(matches: &ArgMatches) -> Option<Command>
+    ensures { result ≡ back_of (rows_of (found_of matches.now)) }
+{
+    let point = read_number(matches, "point")?;
+    Some(Command::Back { point })
+}
+
 fn find_plain(name: &str) -> Option<PlainCommand>
     ensures { result ≡ plain_named name.now }
 {
@@ -261,6 +268,7 @@ fn read_optioned(name: &str, matches: &ArgMatches) -> Option<Command>
     match name {
         "analyse" => read_analyse(matches),
         "sample" => read_sample(matches),
+        "back" => read_back(matches),
         _ => None,
     }
 }
