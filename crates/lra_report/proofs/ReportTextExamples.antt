@@ -15,6 +15,7 @@ use Rattle.lra_linear.specs.declared.ConKind.TheVariants.{Ge, Eq}
 use Rattle.lra_show.specs.Rows.{Row}
 use Rattle.lra_show.specs.Texts.{text_line, row_text, generator_text}
 use Rattle.lra_report.specs.ReportText.{state_text, flag_text, report_text, path_text}
+use Rattle.lra_report.specs.BackText.{back_text}
 
 abbrev at : ℕ → ℕ → Place
 at l c = record { line = l; column = c }
@@ -225,3 +226,19 @@ call_path = refl
 longer_call_path : path_text (record { name = codes "f"; place = at 3 5 } ∷ record { name = codes "g"; place = at 1 20 } ∷ []) ≡ codes "main/f@3:5/g@1:20"
 unfolding digits
 longer_call_path = refl
+
+-- what is written of going back: catches an outcome with a path and a place, and a number one off
+gone_back : back_text (record {
+  number = 5;
+  flagged = Some 2;
+  points = in_main 5 (at 1 48) (codes "x" ∷ []) [] ∷ [];
+  proved = true;
+}) ≡ lines (
+    codes "back point 5"
+    ∷ codes "flagged at point 2"
+    ∷ codes "point 5 main 1:48"
+    ∷ codes "  unreachable"
+    ∷ codes "assert 5 proved"
+    ∷ [])
+unfolding digits
+gone_back = refl

@@ -4,6 +4,7 @@ pub mod Report
 pub mod Parts
 pub mod ReportText
 pub mod RefusalText
+pub mod BackText
 -- What reports of this crate show of these.
 pub mod Rows
 pub mod View

@@ -3,10 +3,12 @@ use Rattle.std.specs.Prelude.{map, string_bytes}
 use Rattle.lra_program.specs.Run as run
 use Rattle.lra_report.specs.Report as report
 use Rattle.lra_report.specs.ReportText as written
+use Rattle.lra_report.specs.BackText as back
 use Rattle.lra_report.specs.declared.report.Point.{Point}
 use Rattle.lra_report.specs.declared.report.PointReport.{PointReport}
 use Rattle.lra_report.specs.declared.report.Verdict.{Verdict}
 use Rattle.lra_report.specs.declared.report.Report.{Report}
+use Rattle.lra_report.specs.declared.back.BackReport.{BackReport}
 use Rattle.lra_report.specs.declared.path.CallPlace.{CallPlace}
 
 abbrev pub point_of : Point → run.Point
@@ -39,6 +41,14 @@ report_of r = record {
   flagged = r.flagged;
   points = map point_report_of r.points.items;
   verdicts = map verdict_of r.verdicts.items;
+}
+
+abbrev pub back_report_of : BackReport → back.BackReport
+back_report_of r = record {
+  number = r.number;
+  flagged = r.flagged;
+  points = map point_report_of r.points.items;
+  proved = r.is_proved;
 }
 
 abbrev pub call_place_of : CallPlace → written.CallPlace

@@ -1,10 +1,11 @@
-//! Reports, and their text; the text of a refusal.
+//! Reports, and their text; what is written of going back; the text of a refusal.
 //!
 //! What a report has and claims of a program, and its text, are definitions: `specs/` is to be read from top
 //! to bottom, in the order of `specs/Lib.antt`. The views of these types are those reports; [`text`] writes
 //! that text.
 #![tactic(auto)]
 
+mod back;
 mod law;
 mod names;
 mod part;
@@ -14,6 +15,7 @@ mod report;
 mod verdict_kinds;
 mod writing;
 
+pub use back::{BackReport, back_text};
 pub use law::one_text;
 pub use names::names_at;
 pub use part::Part;

@@ -115,7 +115,11 @@ fn push_verdict(text: &mut String, verdict: &Verdict) -> Result<(), AllocError>
 }
 
 /// Appends the lines of the points.
-fn push_points(text: &mut String, alloc: Global, points: &[PointReport]) -> Result<(), AllocError>
+pub(crate) fn push_points(
+    text: &mut String,
+    alloc: Global,
+    points: &[PointReport],
+) -> Result<(), AllocError>
     ensures { OnOk result (string_bytes text.new ≡ string_bytes text.old ++
         flat_map written.point_text (map point_report_of points.now)) }
 {
