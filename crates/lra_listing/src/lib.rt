@@ -4,4 +4,4 @@
 
 mod listing;
 
-pub use listing::{Found, Outline, list};
+pub use listing::{Found, Outline, list, list_points, names_of_globals, number_of};

@@ -269,7 +269,7 @@ pub fn names_of_globals(alloc: Global, tree: &Tree) -> Result<Names, AllocError>
 }
 
 /// The number of a point in a report, where they count from 1.
-fn number_of(index: usize) -> u32
+pub fn number_of(index: usize) -> u32
     requires { suc index < 2 ^ 32 }
     ensures { result ≡ suc index }
 {
@@ -277,7 +277,7 @@ fn number_of(index: usize) -> u32
 }
 
 /// The points of the report: all of them in order, numbered from 1.
-fn list_points(
+pub fn list_points(
     alloc: Global,
     labels: &Labels,
     globals: &Names,
