@@ -1,0 +1,32 @@
+-- What is gone back over: what an analysis over polyhedra finds of a program, under the options that words have by
+-- default.
+use Rattle.std.specs.Prelude.{◌≡◌, ℕ, ℤ, List, Bool, Option, None, Some}
+use Rattle.lra_base.specs.declared.refusals.Place.{Place}
+use Rattle.lra_linear.specs.Polyhedra.{Polyhedron}
+use Rattle.lra_program.specs.Program.{Program}
+use Rattle.lra_operations.specs.Graph.{Node}
+use Rattle.lra_options.specs.OptionRows.{default_options}
+use Rattle.lra_flow.specs.Accesses.{JudgesAccesses}
+use Rattle.lra_flow.specs.Operations.{defined, dropping, straining}
+use Rattle.lra_flow.specs.Plan.{Plan, plan_of}
+use Rattle.lra_iter.specs.Solved.{IsSolved}
+use Rattle.lra_polydom.specs.Meaning.{polyhedron_meaning}
+
+-- of a program with these constants
+abbrev pub forward_plan : List ℤ → Plan
+forward_plan constants = plan_of default_options constants
+
+-- The values at the points, and the first flagged point: the flags of accesses of arrays stand behind the iteration's.
+-- What is judged of accesses isn't told; without a flag it is judged by what the written iteration leaves, and a first
+-- flag there is where that strains.
+pub record IsForward (constants : List ℤ) (P : Program) (g : Node) (values : List Polyhedron) (flagged : Option ℕ)
+    : Type 0 where
+  pub verdicts : List (ℕ × Bool)
+  pub behind : Option ℕ
+  pub solved : IsSolved polyhedron_meaning (forward_plan constants) P g values verdicts behind
+  pub inside : List (ℕ × List (Place × Bool))
+  pub accessed : JudgesAccesses polyhedron_meaning (dropping polyhedron_meaning) g values behind inside flagged
+  pub accessed_written : flagged ≡ None →
+      JudgesAccesses polyhedron_meaning (defined polyhedron_meaning) g values None inside None
+  pub accessed_strained : (q : ℕ) → behind ≡ None → flagged ≡ Some q →
+      JudgesAccesses polyhedron_meaning (straining polyhedron_meaning) g values None inside (Some q)
