@@ -67,7 +67,7 @@ of_certified left held_old held_new bytes text status input d written =
       written = written;
     }
 
-not_refused : (status : Status) → status ≡ Refused → Ends reported status → ⊥
+pub not_refused : (status : Status) → status ≡ Refused → Ends reported status → ⊥
 not_refused status is (inl proved) = cc
 not_refused status is (inr (inl unknown)) = cc
 not_refused status is (inr (inr none)) = none

@@ -1,6 +1,6 @@
 -- From what a source deserves to what is claimed of its report.
-use Rattle.std.proofs.Common.{◌≡◌, ◌∙◌, ℕ, suc, ℤ, List, [], ◌∷◌, length, map, Bool, true, false, ap, refl, sym, subst, inl, inr}
-use Rattle.std.specs.Prelude.{IsTrue, Option, None, Some, option_map}
+use Rattle.std.proofs.Common.{◌≡◌, ◌∙◌, ℕ, ℤ, List, [], ◌∷◌, length, map, Bool, true, false, ap, refl, sym, subst, inl, inr}
+use Rattle.std.specs.Prelude.{IsTrue, Option, None, Some}
 use Rattle.std.specs.List.{AllByRecursion}
 use Rattle.std.specs.Io.KnownBytes.{Appends}
 use Rattle.lra_base.specs.declared.refusals.Place.{Place}
@@ -17,9 +17,10 @@ use Rattle.lra_listing.specs.Given.{told_all, told_of}
 use Rattle.lra_source.proofs.OneReport.{unflagged_behind, unflagged_first}
 use Rattle.lra_meaning.specs.Resolve.{resolve}
 use Rattle.lra_report.specs.Report.{Invariant, Holds, PointReport, Report, IsInvariant}
-use Rattle.lra_show.specs.Part.{Part}
-use Rattle.lra_report.specs.Parts.{Tells, HasSamePoints}
+use Rattle.lra_report.specs.Parts.{Tells}
 use Rattle.lra_report.specs.Listing.{AreParts}
+use Rattle.lra_retraced.proofs.Showing.{same_parts}
+use Rattle.lra_retraced.proofs.Strained.{unflagged}
 use Rattle.lra_source.specs.Analysed.{IsAnalysed}
 use Rattle.lra_source.specs.Answers.{IsAnswered}
 use Rattle.lra_source.proofs.Sayings.{over_each, over_same}
@@ -56,10 +57,6 @@ holds o bytes r a = record {
 }
 
 -- the written iteration -----------------------------------------------------------
-
-unflagged : (o : Option ℕ) → option_map suc o ≡ None → o ≡ None
-unflagged None e = refl
-unflagged (Some q) e = let wrong : ⊥ = cc in absurd wrong
 
 tells_written : {V H : Type 0} (m : Meaning V H) (shown : V → Invariant) (o : Options) (constants : List ℤ) (P : Program) (r : Report) → r.flagged ≡ None
     → IsAnalysed m shown o constants P r → TellsWritten m shown o constants P r
@@ -174,14 +171,10 @@ tells_fits o bytes r a = record {
 
 -- rows and generators -------------------------------------------------------------
 
-same_in : (n : ℕ) (parts : List Part) → AllByRecursion (Tells Poly n) parts → AllByRecursion (HasSamePoints n) parts
-same_in n [] h = tt
-same_in n (p ∷ parts) h = (h.0.1, same_in n parts h.1)
-
 same_at : (o : Options) (ps : List PointReport) → o.domain ≡ Poly → AllByRecursion (AreParts o) ps → AllByRecursion ShowsSamePoints ps
 same_at o [] is h = tt
 same_at o (p ∷ ps) is h = (
-  same_in (length p.names) p.state (subst (λ (d : Domain). AllByRecursion (Tells d (length p.names)) p.state) is h.0.tell),
+  same_parts (length p.names) p.state (subst (λ (d : Domain). AllByRecursion (Tells d (length p.names)) p.state) is h.0.tell),
   same_at o ps is h.1,
 )
 

@@ -3,6 +3,8 @@ pub mod OneVerified
 pub mod SomeVerified
 pub mod CertificateWays
 pub mod CertifyWays
+pub mod BackWays
+pub mod OneBack
 pub mod SourceWays
 pub mod SampleWays
 pub mod Rows
@@ -11,5 +13,6 @@ pub mod Ways
 pub mod Headline
 pub mod Verified
 pub mod Certified
+pub mod Back
 pub mod Ending
 pub mod OneWritten

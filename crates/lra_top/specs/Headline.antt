@@ -26,22 +26,25 @@ use Rattle.lra_flow.specs.Fits.{Judges, JudgesIf}
 use Rattle.lra_flow.specs.Accesses.{JudgesAccesses}
 use Rattle.lra_report.specs.Report.{Invariant, PointReport, Report, IsRight, IsSound}
 use Rattle.lra_report.specs.Parts.{HasSamePoints}
+use Rattle.lra_report.specs.BackText.{BackReport, back_text}
 use Rattle.lra_report.specs.Listing.{Lists}
 use Rattle.lra_listing.specs.Given.{told_all, told_of}
 use Rattle.lra_sample.specs.Sample.{sample_source}
 use Rattle.lra_sample.specs.Summary.{summary_text}
 use Rattle.lra_source.specs.Answers.{Over, IsAnswered}
 use Rattle.lra_certificate.specs.Certificates.{Listed, Certificate}
-use Rattle.lra_certificate.specs.Claims.{IsCertificate, greatest_certificate}
+use Rattle.lra_certificate.specs.Claims.{IsCertificate, greatest_certificate, program_of}
 use Rattle.lra_certified.specs.Settings.{certify_options}
 use Rattle.lra_certified.specs.Assertions.{unknown_assertions}
 use Rattle.lra_certified.specs.Certified.{IsCertificateOf, IsCertificateWith}
+use Rattle.lra_retraced.specs.Retraced.{HoldsWhereRunsFail, IsBackOf, IsDefinedBack, IsProvedAtFirst, StrainsAt}
 use Rattle.lra_states.specs.Shown.{AreShown}
 use Rattle.lra_words.specs.Chosen.{default_options}
 use Rattle.lra_answers.specs.declared.status.Status.{Status}
 use Rattle.lra_answers.specs.declared.status.Status.TheVariants.{Proved}
 use Rattle.lra_top.specs.SourceAnswer.{report_status}
 use Rattle.lra_top.specs.CertificateAnswer.{verified_text, DeservesCertificate}
+use Rattle.lra_top.specs.BackAnswer.{back_status}
 use Rattle.lra_top.specs.Run.{IsInput}
 
 -- What `write` makes of a report that the input deserves under the options is written whole, and so it is with the
@@ -197,3 +200,27 @@ pub record WritesCertificate (left held_old held_new : Option (List ℕ)) (statu
   pub verifies : length text ≤ greatest_certificate → DeservesCertificate text
       (verified_text (length certificate.states) (length certificate.proved)) Proved
   pub written : Appends held_old held_new text
+
+-- At each point of the input's program, whose forward analysis is gone back over, what is left of the stores from which
+-- the assertion of this number may fail is written whole. A point's state holds at each store with which a run comes
+-- there that goes on to fail at the assertion, flagged or not; rows and generators tell the same points. No run fails
+-- where the assertion is proved, and the status says whether it is: exactly where the point to which paths from the start
+-- lead is shown as unreachable. Without a flag all that is shown is as it is defined, over the values of the written
+-- iteration; the number of a flag is that of a point of which an operation strains, and all before it is exact.
+pub record WritesBack (number : ℕ) (left held_old held_new : Option (List ℕ)) (status : Status) : Type 0 where
+  pub bytes : List ℕ
+  pub input : IsInput left bytes
+  pub point : ℕ
+  pub numbered : number ≡ suc point
+  pub report : BackReport
+  pub deserved : IsBackOf bytes point report
+  pub accepted : Accepts Spells bytes deserved.program.tree
+  pub holds : HoldsWhereRunsFail (program_of deserved.program) point report
+  pub first : IsProvedAtFirst (program_of deserved.program) deserved.program.operations report
+  pub is_defined : report.flagged ≡ None →
+      IsDefinedBack deserved.constants (program_of deserved.program) deserved.program.operations point report
+  pub strains : (q : ℕ) → report.flagged ≡ Some (suc q) →
+      StrainsAt deserved.constants (program_of deserved.program) deserved.program.operations point q
+  pub same_points : AllByRecursion ShowsSamePoints report.points
+  pub counted : status ≡ back_status report.proved
+  pub written : Appends held_old held_new (back_text report)

@@ -3,6 +3,7 @@ ghost use Rattle.std.specs.Prelude.{◌≡◌, ◌<◌, ◌+◌, ◌^◌, length
 ghost use Rattle.lra_words.specs.Chosen.{IsWithinRanges};
 ghost use Rattle.lra_top.specs.Commands.{limit_of, DeservesInput};
 
+use crate::back_answer::answer_back;
 use crate::certificate_answer::answer_certificate;
 use crate::certify_answer::answer_certified;
 use crate::sample_answer::answer_sample;
@@ -22,6 +23,7 @@ pub fn limit_of(command: Command) -> Option<usize>
     match command {
         Command::Analyse { .. } => Some(GREATEST_LENGTH),
         Command::Sample { .. } => None,
+        Command::Back { .. } => Some(GREATEST_LENGTH),
         Command::Plain(PlainCommand::Calc) => Some(GREATEST_LENGTH),
         Command::Plain(PlainCommand::Verify) => Some(GREATEST_CERTIFICATE),
         Command::Plain(PlainCommand::Certify) => Some(GREATEST_LENGTH),
@@ -37,6 +39,7 @@ pub fn answer_command(alloc: Global, command: Command, bytes: &[u8]) -> Result<A
     match command {
         Command::Analyse { options, format } => answer_source(alloc, options, format, bytes),
         Command::Sample { seed, size } => answer_sample(alloc, seed, size),
+        Command::Back { point } => answer_back(alloc, point, bytes),
         Command::Plain(PlainCommand::Calc) => answer_script(alloc, bytes),
         Command::Plain(PlainCommand::Verify) => answer_certificate(alloc, bytes),
         Command::Plain(PlainCommand::Certify) => answer_certified(alloc, bytes),

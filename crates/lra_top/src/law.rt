@@ -1,4 +1,6 @@
-// One text or JSON, one report; one answer for each input that is to be a certificate.
+// One text or JSON, one report; one answer for each input that is to be a certificate; one refusal of a source that is
+// to be gone back over.
+ghost use Rattle.lra_top.specs.BackAnswer.{OneBackRefusal};
 ghost use Rattle.lra_top.specs.CertificateAnswer.{EachCertificateAnswer};
 ghost use Rattle.lra_top.specs.SourceAnswer.{OneWrittenReport};
 
@@ -13,4 +15,9 @@ pub fn one_written_report()
 /// Each input that is to be a certificate deserves one text and one status.
 pub fn each_certificate_answer()
     ensures { EachCertificateAnswer }
+{}
+
+/// A source that isn't gone back over from an assertion is refused in one way.
+pub fn one_back_refusal()
+    ensures { OneBackRefusal }
 {}

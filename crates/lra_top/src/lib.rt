@@ -1,7 +1,9 @@
 //! The one call of the analyser: from the words of a command line and the bytes of its input to the text of a report,
-//! of a sample's summary, of a script's output, of a certificate, of what is verified or of a refusal.
+//! of a sample's summary, of a script's output, of a certificate, of what is verified, of what going back from an
+//! assertion leaves, or of a refusal.
 #![tactic(auto)]
 
+mod back_answer;
 mod certificate_answer;
 mod certify_answer;
 mod commands;
@@ -11,6 +13,6 @@ mod script_answer;
 mod source_answer;
 mod top_call;
 
-pub use law::{each_certificate_answer, one_written_report};
+pub use law::{each_certificate_answer, one_back_refusal, one_written_report};
 pub use lra_answers::Status;
 pub use top_call::run;

@@ -1,0 +1,49 @@
+-- From what a source deserves that is gone back over to what is claimed of its report.
+use Rattle.std.proofs.Common.{◌≡◌, ℕ, suc, List, subst, inl, inr}
+use Rattle.std.specs.Prelude.{Option}
+use Rattle.std.specs.Io.KnownBytes.{Appends}
+use Rattle.lra_certificate.proofs.OneProgram.{accepted_of}
+use Rattle.lra_retraced.proofs.Showing.{backs_same_points}
+use Rattle.lra_retraced.proofs.Sound.{backs_sound, proved_at_first}
+use Rattle.lra_retraced.proofs.Strained.{unflagged_defined, flagged_strain}
+use Rattle.lra_words.specs.Chosen.{Asks}
+use Rattle.lra_words.specs.declared.chosen.Command.TheVariants.{Back}
+use Rattle.lra_answers.specs.Statuses.{Ends, reported}
+use Rattle.lra_top.specs.BackAnswer.{DeservesBack, IsBack}
+use Rattle.lra_top.specs.Run.{IsInput, Writes}
+use Rattle.lra_top.specs.Headline.{WritesBack}
+use Rattle.lra_top.proofs.Certified.{not_refused}
+use Rattle.lra_top.proofs.Ways.{asked_input}
+use Rattle.lra_answers.specs.declared.status.Status.{Status}
+
+of_back : (number : ℕ) (left held_old held_new : Option (List ℕ)) (bytes text : List ℕ) (status : Status) (point : ℕ) → IsInput left bytes
+    → number ≡ suc point → IsBack point bytes text status → Appends held_old held_new text → WritesBack number left held_old held_new status
+of_back number left held_old held_new bytes text status point input numbered b written = record {
+  bytes = bytes;
+  input = input;
+  point = point;
+  numbered = numbered;
+  report = b.report;
+  deserved = b.deserved;
+  accepted = accepted_of bytes b.deserved.program;
+  holds = backs_sound bytes point b.report b.deserved;
+  first = proved_at_first bytes point b.report b.deserved;
+  is_defined = unflagged_defined bytes point b.report b.deserved;
+  strains = flagged_strain bytes point b.report b.deserved;
+  same_points = backs_same_points bytes point b.report b.deserved;
+  counted = b.counted;
+  written = subst (Appends held_old held_new) b.written written;
+}
+
+of_answer : (number : ℕ) (left held_old held_new : Option (List ℕ)) (bytes text : List ℕ) (status : Status) → IsInput left bytes → Ends reported status
+    → DeservesBack number bytes text status → Appends held_old held_new text → WritesBack number left held_old held_new status
+of_answer number left held_old held_new bytes text status input ends d written = elim d.answer [
+  | inl (r, is) ↦ absurd (not_refused status is ends)
+  | inr b ↦ of_back number left held_old held_new bytes text status d.point input d.numbered b written
+]
+
+pub writes_back : (number : ℕ) (words : List (List ℕ)) (left held_old held_new : Option (List ℕ)) (status : Status) → Asks words (Back number)
+    → Ends reported status → Writes words left held_old held_new status → WritesBack number left held_old held_new status
+writes_back number words left held_old held_new status asks ends w =
+    of_answer number left held_old held_new w.deserved.bytes w.text status w.deserved.input ends
+    (asked_input words left w.text status (Back number) asks w.deserved) w.written
