@@ -10,6 +10,8 @@ mod answers;
 #[cfg(test)]
 mod arrays;
 #[cfg(test)]
+mod back;
+#[cfg(test)]
 mod boxes;
 #[cfg(test)]
 mod certificates;
