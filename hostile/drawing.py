@@ -28,14 +28,23 @@ class Drawing:
 
 
 class Draws(Drawing):
-    """What a run draws: mostly small numbers, some at the ends of the type; all are kept in `drawn`."""
+    """What a run draws: mostly small numbers, some at the ends of the type; where numbers are given, half of the draws
+    are among these. All are kept in `drawn`."""
 
-    def __init__(self, seed):
+    def __init__(self, seed, numbers=()):
         super().__init__(seed)
+        self.numbers = numbers
         self.drawn = []
 
     def draw(self, kind):
         """A number of this type."""
+        given = [number for number in self.numbers if LEAST[kind] <= number < -LEAST[kind]]
+        value = self.one_of(*given) if given and self.happens(50) else self.any_of(kind)
+        self.drawn.append(value)
+        return value
+
+    def any_of(self, kind):
+        """A number of this type, of whatever size."""
         least, most = LEAST[kind], -LEAST[kind] - 1
         part = self.number(1, 100)
         if part <= 25:
@@ -53,7 +62,6 @@ class Draws(Drawing):
         else:
             value = self.number(LEAST['int'], -LEAST['int'] - 1)
             value = value if kind == 'int' else value * 2**32 + self.number(0, 2**32 - 1)
-        self.drawn.append(value)
         return value
 
 

@@ -1,4 +1,5 @@
-"""What `runs.py` is tried on: reports, what would be wrong of them, and runs whose end is known. Written by hand."""
+"""What `runs.py` is tried on: reports, what is left by going back from assertions, what would be wrong of them, and
+runs whose end is known. Written by hand."""
 
 HEAD = 'analysis box parts 1 delay 1 narrow 1 limited no\nflagged 0\n'
 FITS = HEAD.replace('limited no', 'limited no fits yes')
@@ -78,6 +79,74 @@ REPORTS = [
          ('6 main 1:60\n  row x = 1', '6 main 1:60\n  row x~1 = 1'),
          ('7 main 1:68\n  row x = 1', '7 main 1:68\n  row x = 7'),
          ('1:46', '1:45')]),
+]
+
+# Each with a name, a program of which some runs fail, all of them at the assertion of this number, what is left by going
+# back from it, and what in that becomes something else, which is then wrong.
+BACKS = [
+    ('one value', 'int main(void){ long x=input(), y; y=x+1; assert(y!=0); }', 4,
+     'back point 4\nflagged 0\npoint 1 main 1:22\n  row true\n  gen point\n'
+     'point 2 main 1:33\n  row x = -1\n  gen point x=-1\n'
+     'point 3 main 1:36\n  row x = -1\n  gen point x=-1 y=0\n  gen line x=0 y=1\n'
+     'point 4 main 1:43\n  row x = -1\n  row y = 0\n  gen point x=-1 y=0\npoint 5 main 1:57\n  unreachable\n'
+     'assert 4 unknown\n', [
+         ('  row true\n  gen point\n', '  unreachable\n'),
+         ('2 main 1:33\n  row x = -1', '2 main 1:33\n  row x = -2'),
+         ('2 main 1:33\n  row x = -1', '2 main 1:33\n  unreachable'),
+         ('3 main 1:36\n  row x = -1', '3 main 1:36\n  row y = 0'),
+         ('3 main 1:36\n  row x = -1', '3 main 1:36\n  row z = 0'),
+         ('  row y = 0\n', '  row y >= 1\n'),
+         ('  row y = 0\n', '  row 2*y = 1\n'),
+         ('1:43', '1:44'),
+         ('unknown', 'proved'),
+         ('assert 4', 'assert 3'),
+         ('back point 4', 'back point 5'),
+         ('assert 4 unknown\n', '')]),
+    ('a loop', 'int main(void){ long n=input(), s=0; while(s<n) s=s+3; assert(s!=6); }', 5,
+     'back point 5\nflagged 0\npoint 1 main 1:22\n  row true\n  gen point\n'
+     'point 2 main 1:33\n  row n <= 6\n  gen point n=6\n  gen ray n=-1\n'
+     'point 3 main 1:38\n  row n <= 6\n  row s >= 0\n  row s <= 6\n'
+     '  gen point n=6 s=0\n  gen point n=6 s=6\n  gen ray n=-1 s=0\n'
+     'point 4 main 1:49\n  row n - s >= 1\n  row n <= 6\n  row s >= 0\n  row s <= 3\n'
+     '  gen point n=1 s=0\n  gen point n=4 s=3\n  gen point n=6 s=0\n  gen point n=6 s=3\n'
+     'point 5 main 1:56\n  row s = 6\n  row n <= 6\n  gen point n=6 s=6\n  gen ray n=-1 s=0\n'
+     'point 6 main 1:70\n  unreachable\nassert 5 unknown\n', [
+         ('2 main 1:33\n  row n <= 6', '2 main 1:33\n  row n <= 3'),
+         ('  row s <= 6\n', '  row s <= 5\n'),
+         ('  row s <= 3\n', '  row s <= 2\n'),
+         ('  row n - s >= 1\n', '  row n - s >= 2\n'),
+         ('5 main 1:56\n  row s = 6', '5 main 1:56\n  row s >= 7')]),
+    ('calls', 'void f(long k){ assert(k<3); } int main(void){ long i=input(); if(i<9) f(i-1); f(0); }', 4,
+     'back point 4\nflagged 0\npoint 1 main 1:53\n  row true\n  gen point\n'
+     'point 2 main 1:64\n  row i >= 4\n  row i <= 8\n  gen point i=4\n  gen point i=8\n'
+     'point 3 main 1:72\n  row i >= 4\n  row i <= 8\n  gen point i=4\n  gen point i=8\n'
+     'point 4 main/f@1:72 1:17\n  row i - k = 1\n  row k >= 3\n  row k <= 7\n'
+     '  gen point i=4 k=3\n  gen point i=8 k=7\n'
+     'point 5 main/f@1:72 1:30\n  unreachable\npoint 6 main 1:80\n  unreachable\npoint 7 main/f@1:80 1:17\n  unreachable\n'
+     'point 8 main/f@1:80 1:30\n  unreachable\npoint 9 main 1:86\n  unreachable\nassert 4 unknown\n', [
+         ('  row i - k = 1\n', '  row i - k = -1\n'),
+         ('  row k >= 3\n', '  row k >= 5\n'),
+         ('point 4 main/f@1:72 1:17', 'point 4 main/f@1:71 1:17'),
+         ('3 main 1:72\n  row i >= 4', '3 main 1:72\n  row i >= 7')]),
+    ('what hides', 'int main(void){ long x=input(); { long x=2; x=x+1; assert(x<3); } }', 4,
+     'back point 4\nflagged 0\npoint 1 main 1:22\n  row true\n  gen point\n'
+     'point 2 main 1:40\n  row true\n  gen point x=0\n  gen line x=1\n'
+     'point 3 main 1:45\n  row x = 2\n  gen point x~1=0 x=2\n  gen line x~1=1 x=0\n'
+     'point 4 main 1:52\n  row x = 3\n  gen point x~1=0 x=3\n  gen line x~1=1 x=0\n'
+     'point 5 main 1:65\n  unreachable\npoint 6 main 1:67\n  unreachable\nassert 4 unknown\n', [
+         ('  row x = 2\n', '  row x~1 = 2\n'),
+         ('  row x = 3\n', '  row x = 2\n')]),
+    ('the beginning of a loop', 'int main(void){ for(long i=0;i<3;i=i+1) ; assert(0); }', 5,
+     'back point 5\nflagged 0\npoint 1 main 1:17\n  row i >= 0\n  row i <= 3\n  gen point i=0\n  gen point i=3\n'
+     'point 2 main 1:26\n  row true\n  gen point\n'
+     'point 3 main 1:34\n  row i >= 0\n  row i <= 2\n  gen point i=0\n  gen point i=2\n'
+     'point 4 main 1:41\n  row i >= 0\n  row i <= 2\n  gen point i=0\n  gen point i=2\n'
+     'point 5 main 1:43\n  row true\n  gen point\npoint 6 main 1:54\n  unreachable\nassert 5 unknown\n', [
+         ('2 main 1:26\n  row true\n  gen point', '2 main 1:26\n  unreachable'),
+         ('2 main 1:26\n  row true\n  gen point', '2 main 1:26\n  row i >= 0'),
+         ('  row i <= 3\n', '  row i <= 2\n'),
+         ('4 main 1:41\n  row i >= 0', '4 main 1:41\n  row i >= 1'),
+         ('unknown', 'proved')]),
 ]
 
 # Programs of whose runs each ends so; where all assertions hold, at their last statement.

@@ -1,128 +1,57 @@
 #!/usr/bin/env python3
 """Reports against runs: programs drawn from seeds are analysed, and run by an interpreter of docs/DEFINITIONS.md.
 
-    hostile/runs.py [PROGRAM] [--seed N] [--count N] [--runs N] [FILE..]
+    hostile/runs.py [PROGRAM] [--seed N] [--count N] [--runs N] [--guided] [FILE..]
 
 Whenever a run is at a point, the rows printed there have to hold; no run comes to a point that is marked unreachable,
 fails an assertion that is marked proved, ends by a number where all is marked as fitting, or has an index outside an
-array where an access is marked in bounds. The programs are those of the seeds from N on (1), so many (50), or those in
-the files; each is run so many times (20). Before, reports that are wrong are tried, which have to be noticed, and runs
-whose end is known. Says what doesn't hold, with the program and the draws of the run, and ends with 1 then. Outside of
-what is proved.
+array where an access is marked in bounds. Where a run fails, what `back` writes for that assertion has to have each of
+its stores at its point. The programs are those of the seeds from N on (1), so many (50), or those in the files; each is
+run so many times (20). Before, texts that are wrong are tried, which have to be noticed, and runs whose end is known.
+With `--guided` as many runs more are made for each assertion that polyhedra leave unknown, of whose draws half are
+numbers of the generators that `back` lists, and it is told how many of both kinds of runs fail there. Says what doesn't
+hold, with the program and the draws of the run, and ends with 1 then. Outside of what is proved.
 """
 import argparse
 import os
-import re
 import subprocess
 import sys
-from dataclasses import dataclass, field
 
 from drawing import Draws, program_of
-from known import ENDS, REPORTS
+from known import BACKS, ENDS, REPORTS
 from running import FAILED, NUMBER, Run
+from told import Back, Report, Wrong
 
 from looking.programs import read_program
-from looking.rows import ROW_TEXT, read_row
 from looking.sources import Source
 
 HERE = os.path.dirname(os.path.realpath(__file__))
 PROGRAM = os.path.join(HERE, '../crates/lra/out/lra')
 WAYS = ('--domain box --fits', '--domain oct --fits', '--fits', '--best --fits', '--domain box --parts 4 --fits')
-PLACE = r'(?P<number>\d+) (?P<path>\S+) (?P<line>\d+):(?P<column>\d+)'
-POINT = re.compile(rf'point {PLACE}')
-VERDICT = re.compile(rf'(?P<kind>assert|fit|access) {PLACE} (?P<verdict>\D+)')
-PASSED = re.compile(r'analysis .*|flagged .*|verdicts .*|  row true|  gen .*')
-KNOWN = {'assert': 'proved', 'fit': 'fits', 'access': 'in bounds'}
 # What ends a run is broken by a verdict of this kind.
 BROKEN = {FAILED: 'assert', NUMBER: 'fit'}
 
 
-class Wrong(Exception):
-    """What doesn't hold."""
-
-
-@dataclass
-class Point:
-    """Its number, and its parts with their rows; none where no run is to come there."""
-
-    number: int
-    parts: list = field(default_factory=lambda: [[]])
-
-    def holds(self, state):
-        """Whether all rows of some part hold."""
-        return any(all(row.holds(state) for row in part) for part in self.parts)
-
-
-class Report:
-    """A report, by paths of calls and offsets in the source: the points, and whether a verdict is the known one."""
-
-    def __init__(self, words, text, source):
-        self.words = words
-        self.points = {}
-        self.verdicts = {}
-        self.listed = {'assert', 'access'}
-        self.last = None
-        for line in text.splitlines():
-            self.read(line, source)
-
-    def read(self, line, source):
-        """Takes in one line."""
-        if found := POINT.fullmatch(line):
-            self.last = Point(int(found['number']))
-            self.points[found['path'], source.offset(int(found['line']), int(found['column']))] = self.last
-        elif found := VERDICT.fullmatch(line):
-            at = found['path'], source.offset(int(found['line']), int(found['column']))
-            is_known = found['verdict'] == KNOWN[found['kind']]
-            self.verdicts[(found['kind'], *at)] = int(found['number']), is_known
-            self.listed.add(found['kind'])
-        elif line == '  unreachable':
-            self.last.parts = []
-        elif line == '  or':
-            self.last.parts.append([])
-        elif line.startswith('  row ') and ROW_TEXT.fullmatch(line[6:]):
-            self.last.parts[-1].append(read_row(line[6:]))
-        elif not PASSED.fullmatch(line):
-            raise Wrong(f'a line that no report has: {line}')
-        elif line.startswith('analysis ') and ' fits yes' in line:
-            self.listed.add('fit')
-
-    def expect(self, kind, on, at, is_broken):
-        """What a run does at a point is listed there, where such lines are, and no verdict on it is broken."""
-        number, is_known = self.verdicts.get((kind, *at), (0, False))
-        if kind in self.listed and number != self.points[on].number:
-            raise Wrong(f'no line `{kind}` tells of it')
-        if is_broken and is_known:
-            raise Wrong(f'it is marked as {KNOWN[kind]}')
-
-
 class Checker:
-    """Watches a run, and holds it against reports of the program."""
+    """Watches runs, and holds them against reports of the program; what each failing run met is kept by where it
+    failed."""
 
     def __init__(self, reports):
         self.reports = reports
         self.seen = set()
         self.report = None
-        self.last = ''
-        self.checks = 0
+        self.trail = []
+        self.failing = {}
 
     def come(self, path, at, names, values):
         """The rows of the point hold."""
         state = dict(zip(names, values))
-        self.last = 'with ' + ' '.join(f'{name}={value}' for name, value in state.items())
+        self.trail.append((path, at, state))
         if (path, at, *values) in self.seen:
             return
         self.seen.add((path, at, *values))
         for self.report in self.reports:
-            point = self.report.points.get((path, at))
-            if point is None:
-                raise Wrong('the report has no such point')
-            self.checks += 1
-            try:
-                holds = point.holds(state)
-            except KeyError as name:
-                raise Wrong(f'no variable {name} lives there') from None
-            if not holds:
-                raise Wrong('its rows do not hold' if point.parts else 'it is marked unreachable')
+            self.report.point(path, at).check(state)
 
     def access(self, path, on, at, is_inside):
         """An access is listed, and lies inside where it is marked so."""
@@ -134,36 +63,100 @@ class Checker:
         for self.report in self.reports:
             if how in BROKEN:
                 self.report.expect(BROKEN[how], (path, on), (path, on), True)
+        if how == FAILED:
+            self.failing.setdefault((path, on), []).append(self.trail)
+        self.trail = []
 
 
 def told(source, checker, run, draws, wrong):
     """All that whoever looks for the fault needs."""
     line, column = source.place(run.on)
     words = checker.report.words if checker.report else ''
-    return (f'{source.name}, {words}: at {run.path} {line}:{column} {checker.last}: {wrong}\n'
+    store = ' '.join(f'{name}={value}' for name, value in checker.trail[-1][2].items()) if checker.trail else ''
+    return (f'{source.name}, {words}: at {run.path} {line}:{column} with {store}: {wrong}\n'
             f'draws {" ".join(map(str, draws.drawn))}\n{source.data.decode()}')
 
 
 def compare(source, reports, runs):
-    """Runs the program; what doesn't hold of the reports, or nothing, and how the runs ended."""
+    """Runs the program; what doesn't hold of the reports, or nothing, how the runs ended, and what failing ones met."""
     program, checker, ends = read_program(source), Checker(reports), []
-    for seed in range(runs):
-        draws = Draws(seed)
+    for draws in runs:
         run = Run(source, program, draws.draw, checker)
         try:
             ends.append(run.run())
         except Wrong as wrong:
-            return told(source, checker, run, draws, wrong), ends
-    return '', ends
+            return told(source, checker, run, draws, wrong), ends, {}
+    return '', ends, checker.failing
+
+
+def seeded(count):
+    """The draws of so many runs."""
+    return [Draws(seed) for seed in range(count)]
+
+
+def guided(count, numbers):
+    """The same, half of them numbers of this list."""
+    return [Draws(seed, numbers) for seed in range(count)]
+
+
+def answered(lra, source, words, refusal=None):
+    """What is written of a program that is taken; nothing where the text of a refusal begins so."""
+    ended = subprocess.run([lra, *words.split()], input=source.data, capture_output=True, check=False)
+    text = ended.stdout.decode()
+    if refusal and ended.returncode == 2 and text.startswith(refusal):
+        return ''
+    if ended.returncode not in (0, 1):
+        raise Wrong(f'{source.name}, {words}: status {ended.returncode}: {text}{source.data.decode()}')
+    return text
 
 
 def analysed(lra, source, words):
-    """The report of a program that is taken."""
-    ended = subprocess.run([lra, 'analyse', *words.split()], input=source.data, capture_output=True, check=False)
-    text = ended.stdout.decode()
-    if ended.returncode not in (0, 1):
-        raise Wrong(f'{source.name}, {words}: status {ended.returncode}: {text}{source.data.decode()}')
-    return Report(words, text, source)
+    """The report of a program."""
+    return Report(words, answered(lra, source, f'analyse {words}'), source)
+
+
+def gone_back(lra, source, number):
+    """What going back from an assertion of the program leaves; nothing where too many paths lead from a point."""
+    text = answered(lra, source, f'back --point {number}', 'refused paths at point ')
+    return Back(number, text, source) if text else None
+
+
+def held_back(source, back, trails):
+    """What of these runs, which fail at its assertion, the text doesn't have."""
+    for trail in trails:
+        try:
+            back.check(trail)
+        except Wrong as wrong:
+            return f'{source.name}, {back.words}: {wrong}\n{source.data.decode()}'
+    return ''
+
+
+def checked(lra, source, runs):
+    """What doesn't hold of a program's reports, and of what is left by going back from each assertion that fails."""
+    reports = [analysed(lra, source, way) for way in WAYS]
+    wrong, _, failing = compare(source, reports, seeded(runs))
+    yield wrong
+    for place, trails in failing.items():
+        back = gone_back(lra, source, reports[0].point(*place).number)
+        yield held_back(source, back, trails) if back else ''
+
+
+def counted(lra, source, runs):
+    """Of each assertion that stays unknown: how many runs fail there, by chance and with numbers of its generators."""
+    report = analysed(lra, source, '')
+    for number in report.unknown_assertions():
+        back, counts = gone_back(lra, source, number), []
+        if not back:
+            continue
+        for draws in (seeded(runs), guided(runs, back.numbers)):
+            failing = compare(source, [report], draws)[2]
+            here = [found for place, found in failing.items() if report.point(*place).number == number]
+            trails = here[0] if here else []
+            counts.append(len(trails))
+            yield held_back(source, back, trails)
+        verdict = 'proved' if back.is_proved else 'unknown'
+        print(f'{source.name}, assertion {number}, {verdict}: of {runs} runs {counts[0]} fail there, '
+              f'of {runs} guided ones {counts[1]}')
 
 
 def known_reports():
@@ -173,7 +166,27 @@ def known_reports():
         for old, new in [('', ''), *changes]:
             if report.count(old) != 1 and old:
                 yield f'{name}: `{old}` stands {report.count(old)} times in its report'
-            noticed, _ = compare(source, [Report('by hand', report.replace(old, new) if old else report, source)], 20)
+            wrong = [Report('by hand', report.replace(old, new) if old else report, source)]
+            noticed = compare(source, wrong, seeded(20))[0]
+            if bool(noticed) != bool(old):
+                yield f'{name}: `{new}` in place of `{old}` is not noticed' if old else noticed
+
+
+def known_backs():
+    """The same of what is left by going back; some runs fail, all of them there."""
+    for name, text, number, left, changes in BACKS:
+        source = Source(name, text.encode())
+        failing = compare(source, [], seeded(200))[2]
+        if len(failing) != 1:
+            yield f'{name}: runs fail at {len(failing)} points'
+        trails = [trail for found in failing.values() for trail in found]
+        for old, new in [('', ''), *changes]:
+            if left.count(old) != 1 and old:
+                yield f'{name}: `{old}` stands {left.count(old)} times in what is left'
+            try:
+                noticed = held_back(source, Back(number, left.replace(old, new) if old else left, source), trails)
+            except Wrong as wrong:
+                noticed = str(wrong)
             if bool(noticed) != bool(old):
                 yield f'{name}: `{new}` in place of `{old}` is not noticed' if old else noticed
 
@@ -182,7 +195,7 @@ def known_ends():
     """Programs whose end is known."""
     for text, wanted in ENDS:
         source = Source('a known end', text.encode())
-        _, ends = compare(source, [], 3)
+        ends = compare(source, [], seeded(3))[1]
         if set(ends) != {wanted}:
             yield f'`{text}` ends otherwise: {ends}'
 
@@ -206,13 +219,15 @@ def command():
     words.add_argument('--seed', type=int, default=1)
     words.add_argument('--count', type=int, default=50)
     words.add_argument('--runs', type=int, default=20)
+    words.add_argument('--guided', action='store_true')
     asked = words.parse_args()
-    faults = [*known_reports(), *known_ends()]
+    faults = [*known_reports(), *known_backs(), *known_ends()]
     sources = [read(name) for name in asked.files] or drawn(asked.seed, asked.count)
     for source in sources:
         try:
-            reports = [analysed(asked.program, source, way) for way in WAYS]
-            faults += filter(None, [compare(source, reports, asked.runs)[0]])
+            faults += filter(None, checked(asked.program, source, asked.runs))
+            if asked.guided:
+                faults += filter(None, counted(asked.program, source, asked.runs))
         except Wrong as wrong:
             faults.append(str(wrong))
     for fault in faults:
