@@ -69,7 +69,7 @@ left('2,048 points in a loop', 2046, ROUND, False, [FIRST + '  row x = 1\n'], li
 # as many paths as are taken, between two points and where an assertion is false, and more
 left('ten numbers left out', 3, assumed(joined('&&', 10, '!=')), False, [FIRST + '  row x >= 10\n'], limit=LIMIT)
 left('1,024 comparisons by ||', 3, assumed(joined('||', 1024, '<')), False,
-     [FIRST + '  row x >= 0\n  row x <= 1022\n'], limit=60)
+     [FIRST + '  row x >= 0\n  row x <= 1022\n'], limit=LIMIT)
 left('7,000 comparisons by &&', 3, assumed(joined('&&', 7000, '>')), False, [FIRST + '  row x >= 7000\n'],
      limit=LIMIT)
 left('30 signs within one another', 3, assumed('!(' * 30 + 'x<0' + ')' * 30 + '||x>3'), False,
@@ -102,7 +102,7 @@ left('31 variables and a parameter', 33,
      f'void f(long p){{ assert(p!=5); }} int main(void){{ long {",".join(NAMES[:31])}; f(v30+1); }}', False,
      ['  row v30 = 4\n  gen', '  row v30 = 4\n  row p = 5\n'], limit=LIMIT)
 left('12 ints', 13, f'int main(void){{ int {",".join(NAMES[:12])}; assert(v0<v11); }}', False,
-     ['  row v0 - v11 >= 0\n'], limit=60)
+     ['  row v0 - v11 >= 0\n'], limit=LIMIT)
 
 # depth: one function, and calls
 for name, level, before in (('while', WHILE, 60), ('if', IF, 60), ('for', FOR, 60), ('blocks', BLOCK, 0),
