@@ -162,7 +162,7 @@ falls (i ∷ is) (j ∷ js) e =
           | inl h ↦ inl (omega arith)
           | inr h ↦ elim rest.1 [
             | inl r ↦ inl (omega arith)
-            | inr r ↦ inr (l, h, r)
+            | inr r ↦ inr ((l, h), r)
           ]
         ]
       ],

@@ -51,7 +51,7 @@ low_left None b x h = tt
 low_left (Some a) None x h = tt
 low_left (Some a) (Some b) x h = omega (arith, ints, clamps)
 
-low_right : (a b : Option ℤ) (x : ℤ) → BoundHolds Low b x → BoundHolds Low (lesser_low a b) x
+pub low_right : (a b : Option ℤ) (x : ℤ) → BoundHolds Low b x → BoundHolds Low (lesser_low a b) x
 low_right None b x h = tt
 low_right (Some a) None x h = tt
 low_right (Some a) (Some b) x h = omega (arith, ints, clamps)
@@ -61,7 +61,7 @@ high_left None b x h = tt
 high_left (Some a) None x h = tt
 high_left (Some a) (Some b) x h = omega (arith, ints, clamps)
 
-high_right : (a b : Option ℤ) (x : ℤ) → BoundHolds High b x → BoundHolds High (greater a b) x
+pub high_right : (a b : Option ℤ) (x : ℤ) → BoundHolds High b x → BoundHolds High (greater a b) x
 high_right None b x h = tt
 high_right (Some a) None x h = tt
 high_right (Some a) (Some b) x h = omega (arith, ints, clamps)

@@ -6,6 +6,7 @@ pub mod SoundLemmas
 pub mod StepLemmas
 pub mod ExtremeLemmas
 pub mod WithinLemmas
+pub mod AdmitLemmas
 pub mod AssignLemmas
 pub mod MonotoneLemmas
 pub mod RefineLemmas

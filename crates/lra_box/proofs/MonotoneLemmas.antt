@@ -8,10 +8,10 @@ use Rattle.std.proofs.Math.Nat.{le-div_iff_mul-le}
 use Rattle.lra_box.specs.declared.interval.Interval.{Interval}
 use Rattle.lra_box.specs.declared.interval.Side.TheVariants.{High}
 use Rattle.lra_box.specs.Bounds.{crossed, times, end_product, end_sum}
-use Rattle.lra_box.specs.Tables.{LowWithin, IntervalsWithin, BoundsWithin}
+use Rattle.lra_box.specs.Tables.{LowWithin, IntervalWithin, IntervalsWithin, BoundsWithin}
 use Rattle.lra_box.specs.Refine.{raised, lowered, tightened, place_refined, refine_place, refined, some_occurs, ge_tested}
 use Rattle.lra_box.specs.Products.{mul_grows, mul_falls}
-use Rattle.lra_box.proofs.WithinLemmas.{OneWithin, set_within, at_within, crossed_within}
+use Rattle.lra_box.proofs.WithinLemmas.{set_within, at_within, crossed_within}
 use Rattle.lra_domain.specs.Bounds.{AtMost}
 
 times_up : (n : ℕ) (a b : Option ℤ) → AtMost a b → AtMost (times (pos n) a) (times (pos n) b)
@@ -24,7 +24,7 @@ times_down n a None w = tt
 times_down n None (Some b) w = absurd w
 times_down n (Some a) (Some b) w = mul_falls n b a w
 
-product_within : (c : ℤ) (i j : Interval) → OneWithin i j → AtMost (end_product High c i) (end_product High c j)
+product_within : (c : ℤ) (i j : Interval) → IntervalWithin i j → AtMost (end_product High c i) (end_product High c j)
 product_within (pos zero) i j w = omega (arith, ints)
 product_within (pos (suc n)) i j w = times_up (suc n) i.high j.high w.1
 product_within (negsuc n) i j w = times_down n i.low j.low w.0
@@ -36,7 +36,7 @@ sum_within a b (c ∷ cs) [] [] l w = l
 sum_within a b (c ∷ cs) [] (j ∷ js) l w = absurd w
 sum_within a b (c ∷ cs) (i ∷ is) [] l w = absurd w
 sum_within a b (c ∷ cs) (i ∷ is) (j ∷ js) l w =
-    both (λ p q m. sum_within (a +ℤ p) (b +ℤ q) cs is js (omega (arith, ints)) w.2) (end_product High c i) (end_product High c j) (product_within c i j (w.0, w.1))
+    both (λ p q m. sum_within (a +ℤ p) (b +ℤ q) cs is js (omega (arith, ints)) w.1) (end_product High c i) (end_product High c j) (product_within c i j w.0)
   where
     both : ((p q : ℤ) → p ≤ℤ q → AtMost (end_sum High (a +ℤ p) cs is) (end_sum High (b +ℤ q) cs js)) → (o p : Option ℤ) → AtMost o p
         → AtMost (option_and_then (λ p. end_sum High (a +ℤ p) cs is) o) (option_and_then (λ p. end_sum High (b +ℤ p) cs js) p)
@@ -85,13 +85,13 @@ lowered_in None (Some y) a w = absurd w
 lowered_in (Some x) (Some y) a w = omega (arith, ints, clamps)
 
 -- tightening only narrows
-pub tightened_in : (c : ℤ) (o : Option ℤ) (i j : Interval) → OneWithin i j → OneWithin (tightened c o i) j
+pub tightened_in : (c : ℤ) (o : Option ℤ) (i j : Interval) → IntervalWithin i j → IntervalWithin (tightened c o i) j
 tightened_in c None i j w = w
 tightened_in (pos zero) (Some m) i j w = w
 tightened_in (pos (suc n)) (Some m) i j w = (raised_in i.low j.low _ w.0, w.1)
 tightened_in (negsuc n) (Some m) i j w = (w.0, lowered_in i.high j.high _ w.1)
 
-tightened_within : (c : ℤ) (o p : Option ℤ) (i j : Interval) → AtMost o p → OneWithin i j → OneWithin (tightened c o i) (tightened c p j)
+tightened_within : (c : ℤ) (o p : Option ℤ) (i j : Interval) → AtMost o p → IntervalWithin i j → IntervalWithin (tightened c o i) (tightened c p j)
 tightened_within c o None i j h w = tightened_in c o i j w
 tightened_within c None (Some q) i j h w = absurd h
 tightened_within (pos zero) (Some m) (Some q) i j h w = w
@@ -100,12 +100,12 @@ tightened_within (pos (suc n)) (Some m) (Some q) i j h w =
     (raised_within i.low j.low (neg_ℤ (int_div_euclid m (pos (suc n)))) (neg_ℤ (int_div_euclid q (pos (suc n)))) w.0 (omega (arith, ints)), w.1)
 tightened_within (negsuc n) (Some m) (Some q) i j h w = (w.0, lowered_within i.high j.high _ _ w.1 (quotient_grows n m q h))
 
-place_within : (a : ℤ) (cs : List ℤ) (k : ℕ) (is js : List Interval) → IntervalsWithin is js → OneWithin (place_refined a cs k is) (place_refined a cs k js)
+place_within : (a : ℤ) (cs : List ℤ) (k : ℕ) (is js : List Interval) → IntervalsWithin is js → IntervalWithin (place_refined a cs k is) (place_refined a cs k js)
 place_within a cs k is js w =
     tightened_within (slice_index_or cs k (pos 0)) _ _ _ _ (sum_within a a (slice_set cs k (pos 0)) is js (omega (arith, ints)) w) (at_within is js k w)
 
 -- what a place is replaced by, or none where that is crossed
-pub put_within : (is js : List Interval) (k : ℕ) (i j : Interval) → IntervalsWithin is js → OneWithin i j
+pub put_within : (is js : List Interval) (k : ℕ) (i j : Interval) → IntervalsWithin is js → IntervalWithin i j
     → BoundsWithin (cond (crossed i) None (Some (slice_set is k i))) (cond (crossed j) None (Some (slice_set js k j)))
 put_within is js k i j w v = by_tests (crossed i) (crossed j) refl refl
   where

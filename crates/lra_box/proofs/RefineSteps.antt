@@ -9,14 +9,13 @@ use Rattle.lra_box.specs.declared.interval.Interval.{Interval}
 use Rattle.lra_box.specs.declared.interval.Side.TheVariants.{High}
 use Rattle.lra_box.specs.Bounds.{open_interval, crossed, InInterval, InBounds, EndsInRange, AllSound, SumPasses, IsBound}
 use Rattle.lra_box.specs.declared.ends.Bound.{Bound}
-use Rattle.lra_box.specs.Tables.{BoundsWithin}
+use Rattle.lra_box.specs.Tables.{BoundsWithin, IntervalWithin}
 use Rattle.lra_box.specs.Answers.{TestedTo}
 use Rattle.lra_box.specs.Refine.{tightened, others_most, place_refined, refined, RefinePasses, TightAt}
 use Rattle.lra_box.proofs.BoxLemmas.{in_set}
 use Rattle.lra_box.proofs.RefineLemmas.{place_holds, none_stays, passes_stay}
 use Rattle.lra_box.proofs.SoundLemmas.{not_crossed, set_sound}
 use Rattle.lra_box.specs.Covering.{intervals_within_refl, low_within_refl, high_within_refl, within_refl, within_trans}
-use Rattle.lra_box.proofs.WithinLemmas.{OneWithin}
 use Rattle.lra_box.proofs.MonotoneLemmas.{tightened_in, put_within, refine_place_within}
 
 -- a place tightened by a computed bound of the others
@@ -66,13 +65,13 @@ module _ (a : ℤ) (cs : List ℤ) (k : ℕ) (start is : List Interval) (i : Int
       (not_crossed i _ held, subst (λ l. InBounds (slice_set is k i) l) (set_read s k) (in_set is s k i (slice_index_or s k (pos 0)) inside held))
 
   -- the table's step lies within the code's, which may leave the place as it is
-  one_within : OneWithin (place_refined a cs k is) i
+  one_within : IntervalWithin (place_refined a cs k is) i
   one_within = rw tight.either.2 (by_either tight.either.0 tight.either.1)
     where
-      same : (j : Interval) → OneWithin j j
+      same : (j : Interval) → IntervalWithin j j
       same j = (low_within_refl j.low, high_within_refl j.high)
 
-      by_either : (o : Option ℤ) → (o ≡ None) ⊎ (o ≡ others_most a cs k is) → OneWithin (place_refined a cs k is) (tightened (slice_index_or cs k (pos 0)) o (slice_index_or is k open_interval))
+      by_either : (o : Option ℤ) → (o ≡ None) ⊎ (o ≡ others_most a cs k is) → IntervalWithin (place_refined a cs k is) (tightened (slice_index_or cs k (pos 0)) o (slice_index_or is k open_interval))
       by_either o (inl e) = rw e (tightened_in (slice_index_or cs k (pos 0)) (others_most a cs k is) (slice_index_or is k open_interval) (slice_index_or is k open_interval)
           (same (slice_index_or is k open_interval)))
       by_either o (inr e) = rw e (same (place_refined a cs k is))

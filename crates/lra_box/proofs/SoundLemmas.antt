@@ -9,9 +9,9 @@ use Rattle.lra_domain.specs.declared.Mode.TheVariants.{Join, Widen, Limited, Tig
 use Rattle.lra_domain.specs.Bounds.{greater, stable, lesser_low}
 use Rattle.lra_box.specs.declared.interval.Interval.{Interval}
 use Rattle.lra_box.specs.declared.interval.Side.TheVariants.{Low, High}
-use Rattle.lra_box.specs.Bounds.{BoundHolds, InInterval, InBounds, open_interval, crossed, crossed_ends, IsSound, AllSound}
+use Rattle.lra_box.specs.Bounds.{BoundHolds, InInterval, InBounds, open_interval, crossed, crossed_ends, EndsInRange, IsSound, AllSound}
 use Rattle.lra_box.specs.Content.{BoundsSound, seen}
-use Rattle.lra_box.specs.Tables.{has_bounds, joined_intervals, joined_bounds, widened_low, widened_intervals, widened_bounds, grown_bounds}
+use Rattle.lra_box.specs.Tables.{has_bounds, joined_interval, joined_intervals, joined_bounds, widened_low, widened_intervals, widened_bounds, grown_bounds}
 use Rattle.lra_box.proofs.BoxLemmas.{low_left, high_left}
 use Rattle.lra_box.proofs.BoundLemmas.{widen_low_old, widen_high_old}
 
@@ -75,17 +75,18 @@ high_range None b p q = tt
 high_range (Some a) None p q = tt
 high_range (Some a) (Some b) p q = grind (arith, ints, clamps)
 
+-- joined with an interval whose bounds lie in the range, a sound one stays sound
+pub interval_sound : (i j : Interval) → IsSound i → EndsInRange j → IsSound (joined_interval i j)
+interval_sound i j h k =
+    let x = some_number i h.1 in (
+      (low_range i.low j.low h.0.0 k.0, high_range i.high j.high h.0.1 k.1),
+      not_crossed (joined_interval i j) x.0 (low_left i.low j.low x.0 x.1.0, high_left i.high j.high x.0 x.1.1),
+    )
+
 joined_all_sound : (is js : List Interval) → AllSound is → AllSound js → AllSound (joined_intervals is js)
 joined_all_sound [] js h k = tt
 joined_all_sound (i ∷ is) [] h k = tt
-joined_all_sound (i ∷ is) (j ∷ js) h k =
-    let x = some_number i h.0.1 in (
-      (
-        (low_range i.low j.low h.0.0.0 k.0.0.0, high_range i.high j.high h.0.0.1 k.0.0.1),
-        not_crossed (record { low = lesser_low i.low j.low; high = greater i.high j.high }) x.0 (low_left i.low j.low x.0 x.1.0, high_left i.high j.high x.0 x.1.1),
-      ),
-      joined_all_sound is js h.1 k.1,
-    )
+joined_all_sound (i ∷ is) (j ∷ js) h k = (interval_sound i j h.0 k.0.0, joined_all_sound is js h.1 k.1)
 
 by_test : (t : Bool) (a : ℤ) → InRange a → IfSome (cond t None (Some a)) InRange
 by_test true a h = tt

@@ -6,35 +6,31 @@ use Rattle.std.proofs.lemmas.Bool.{false≢true}
 use Rattle.lra_box.specs.declared.interval.Interval.{Interval}
 use Rattle.lra_box.specs.Bounds.{open_interval, crossed, crossed_ends}
 use Rattle.lra_box.specs.Content.{BoundsFit}
-use Rattle.lra_box.specs.Tables.{joined_intervals, joined_bounds, LowWithin, IntervalsWithin, BoundsWithin}
+use Rattle.lra_box.specs.Tables.{joined_intervals, joined_bounds, LowWithin, IntervalWithin, IntervalsWithin, BoundsWithin}
 use Rattle.lra_box.specs.Covering.{low_within_refl, high_within_refl, intervals_within_refl, within_refl}
 use Rattle.lra_domain.specs.Bounds.{AtMost, greater, lesser_low}
 
--- one interval within another
-abbrev pub OneWithin : Interval → Interval → Type 0
-OneWithin i j = LowWithin i.low j.low × AtMost i.high j.high
-
-pub set_within : (is js : List Interval) (k : ℕ) (i j : Interval) → IntervalsWithin is js → OneWithin i j → IntervalsWithin (slice_set is k i) (slice_set js k j)
+pub set_within : (is js : List Interval) (k : ℕ) (i j : Interval) → IntervalsWithin is js → IntervalWithin i j → IntervalsWithin (slice_set is k i) (slice_set js k j)
 set_within [] [] k i j h w = h
 set_within [] (b ∷ js) k i j h w = absurd h
 set_within (a ∷ is) [] k i j h w = absurd h
-set_within (a ∷ is) (b ∷ js) zero i j h w = (w.0, w.1, h.2)
-set_within (a ∷ is) (b ∷ js) (suc k) i j h w = (h.0, h.1, set_within is js k i j h.2 w)
+set_within (a ∷ is) (b ∷ js) zero i j h w = (w, h.1)
+set_within (a ∷ is) (b ∷ js) (suc k) i j h w = (h.0, set_within is js k i j h.1 w)
 
-pub at_within : (is js : List Interval) (k : ℕ) → IntervalsWithin is js → OneWithin (slice_index_or is k open_interval) (slice_index_or js k open_interval)
+pub at_within : (is js : List Interval) (k : ℕ) → IntervalsWithin is js → IntervalWithin (slice_index_or is k open_interval) (slice_index_or js k open_interval)
 at_within [] [] k h = (tt, tt)
 at_within [] (b ∷ js) k h = absurd h
 at_within (a ∷ is) [] k h = absurd h
-at_within (a ∷ is) (b ∷ js) zero h = (h.0, h.1)
-at_within (a ∷ is) (b ∷ js) (suc k) h = at_within is js k h.2
+at_within (a ∷ is) (b ∷ js) zero h = h.0
+at_within (a ∷ is) (b ∷ js) (suc k) h = at_within is js k h.1
 
-pub set_one : (is : List Interval) (k : ℕ) (i : Interval) → OneWithin i (slice_index_or is k open_interval) → IntervalsWithin (slice_set is k i) is
+pub set_one : (is : List Interval) (k : ℕ) (i : Interval) → IntervalWithin i (slice_index_or is k open_interval) → IntervalsWithin (slice_set is k i) is
 set_one [] k i w = tt
-set_one (a ∷ is) zero i w = (w.0, w.1, intervals_within_refl is)
-set_one (a ∷ is) (suc k) i w = (low_within_refl a.low, high_within_refl a.high, set_one is k i w)
+set_one (a ∷ is) zero i w = (w, intervals_within_refl is)
+set_one (a ∷ is) (suc k) i w = ((low_within_refl a.low, high_within_refl a.high), set_one is k i w)
 
 -- a crossed interval crosses what lies within it
-pub crossed_within : (i j : Interval) → OneWithin i j → crossed j ≡ true → crossed i ≡ true
+pub crossed_within : (i j : Interval) → IntervalWithin i j → crossed j ≡ true → crossed i ≡ true
 crossed_within i j w h = ends i.low i.high j.low j.high w.0 w.1 h
   where
     ends : (a b c d : Option ℤ) → LowWithin a c → AtMost b d → crossed_ends c d ≡ true → crossed_ends a b ≡ true
@@ -64,9 +60,9 @@ intervals_both [] [] p q = refl
 intervals_both [] (j ∷ js) p q = absurd p
 intervals_both (i ∷ is) [] p q = absurd p
 intervals_both (i ∷ is) (j ∷ js) p q =
-    let l : i.low ≡ j.low = low_both i.low j.low p.0 q.0 in
-    let h : i.high ≡ j.high = high_both i.high j.high p.1 q.1 in
-    let t : is ≡ js = intervals_both is js p.2 q.2 in
+    let l : i.low ≡ j.low = low_both i.low j.low p.0.0 q.0.0 in
+    let h : i.high ≡ j.high = high_both i.high j.high p.0.1 q.0.1 in
+    let t : is ≡ js = intervals_both is js p.1 q.1 in
     let same : i ≡ j = one i j l h in
     rw (same, t) refl
   where
@@ -108,13 +104,13 @@ high_right (Some a) (Some b) = omega (arith, ints, clamps)
 joined_left : (is js : List Interval) → length is ≡ length js → IntervalsWithin is (joined_intervals is js)
 joined_left [] js e = tt
 joined_left (i ∷ is) [] e = absurd (omega arith)
-joined_left (i ∷ is) (j ∷ js) e = (low_left i.low j.low, high_left i.high j.high, joined_left is js (omega arith))
+joined_left (i ∷ is) (j ∷ js) e = ((low_left i.low j.low, high_left i.high j.high), joined_left is js (omega arith))
 
 joined_right : (is js : List Interval) → length is ≡ length js → IntervalsWithin js (joined_intervals is js)
 joined_right [] [] e = tt
 joined_right [] (j ∷ js) e = absurd (omega arith)
 joined_right (i ∷ is) [] e = absurd (omega arith)
-joined_right (i ∷ is) (j ∷ js) e = (low_right i.low j.low, high_right i.high j.high, joined_right is js (omega arith))
+joined_right (i ∷ is) (j ∷ js) e = ((low_right i.low j.low, high_right i.high j.high), joined_right is js (omega arith))
 
 -- the join of bounds of as many dimensions is wider than both
 pub left_within : (n : ℕ) (a b : Option (List Interval)) → BoundsFit n a → BoundsFit n b →

@@ -5,8 +5,8 @@ use Rattle.std.proofs.lemmas.Int.{ints, clamps}
 use Rattle.lra_box.specs.declared.interval.Interval.{Interval}
 use Rattle.lra_box.specs.declared.interval.Side.TheVariants.{Low, High}
 use Rattle.lra_box.specs.Bounds.{BoundHolds, InBounds, open_interval}
-use Rattle.lra_box.specs.Tables.{has_bounds, joined_intervals, joined_bounds, LowWithin}
-use Rattle.lra_box.specs.Tables.{IntervalsWithin, BoundsWithin}
+use Rattle.lra_box.specs.Tables.{has_bounds, joined_interval, joined_intervals, joined_bounds, LowWithin}
+use Rattle.lra_box.specs.Tables.{IntervalWithin, IntervalsWithin, BoundsWithin}
 use Rattle.lra_domain.specs.Bounds.{AtMost, greater, lesser_low}
 
 -- bounds that are all absent hold of every number
@@ -33,8 +33,8 @@ in_wider [] (j ∷ js) s w h = absurd w
 in_wider (i ∷ is) [] s w h = absurd w
 in_wider (i ∷ is) (j ∷ js) [] w h = absurd h
 in_wider (i ∷ is) (j ∷ js) (x ∷ xs) w h = (
-  (low_wider i.low j.low x w.0 h.0.0, high_wider i.high j.high x w.1 h.0.1),
-  in_wider is js xs w.2 h.1,
+  (low_wider i.low j.low x w.0.0 h.0.0, high_wider i.high j.high x w.0.1 h.0.1),
+  in_wider is js xs w.1 h.1,
 )
 
 -- a store of the bounds is one of wider bounds
@@ -65,7 +65,7 @@ high_within_trans (Some a) (Some b) (Some c) p q = omega (arith, ints)
 
 pub intervals_within_refl : (is : List Interval) → IntervalsWithin is is
 intervals_within_refl [] = tt
-intervals_within_refl (i ∷ is) = (low_within_refl i.low, high_within_refl i.high, intervals_within_refl is)
+intervals_within_refl (i ∷ is) = ((low_within_refl i.low, high_within_refl i.high), intervals_within_refl is)
 
 intervals_within_trans : (is js ks : List Interval) → IntervalsWithin is js → IntervalsWithin js ks →
     IntervalsWithin is ks
@@ -74,9 +74,8 @@ intervals_within_trans [] (j ∷ js) ks p q = absurd p
 intervals_within_trans (i ∷ is) [] ks p q = absurd p
 intervals_within_trans (i ∷ is) (j ∷ js) [] p q = absurd q
 intervals_within_trans (i ∷ is) (j ∷ js) (k ∷ ks) p q = (
-  low_within_trans i.low j.low k.low p.0 q.0,
-  high_within_trans i.high j.high k.high p.1 q.1,
-  intervals_within_trans is js ks p.2 q.2,
+  (low_within_trans i.low j.low k.low p.0.0 q.0.0, high_within_trans i.high j.high k.high p.0.1 q.0.1),
+  intervals_within_trans is js ks p.1 q.1,
 )
 
 pub within_refl : (a : Option (List Interval)) → BoundsWithin a a
@@ -103,6 +102,9 @@ high_least None b (Some c) p q = absurd p
 high_least (Some a) None (Some c) p q = absurd q
 high_least (Some a) (Some b) (Some c) p q = omega (arith, ints, clamps)
 
+interval_least : (i j k : Interval) → IntervalWithin i k → IntervalWithin j k → IntervalWithin (joined_interval i j) k
+interval_least i j k p q = (low_least i.low j.low k.low p.0 q.0, high_least i.high j.high k.high p.1 q.1)
+
 joined_least : (is js ks : List Interval) → IntervalsWithin is ks → IntervalsWithin js ks →
     IntervalsWithin (joined_intervals is js) ks
 joined_least [] js ks p q = p
@@ -110,7 +112,7 @@ joined_least (i ∷ is) [] [] p q = q
 joined_least (i ∷ is) [] (k ∷ ks) p q = absurd q
 joined_least (i ∷ is) (j ∷ js) [] p q = absurd p
 joined_least (i ∷ is) (j ∷ js) (k ∷ ks) p q =
-    (low_least i.low j.low k.low p.0 q.0, high_least i.high j.high k.high p.1 q.1, joined_least is js ks p.2 q.2)
+    (interval_least i j k p.0 q.0, joined_least is js ks p.1 q.1)
 
 -- what is wider than both is wider than their join
 pub least_within : (a b c : Option (List Interval)) → BoundsWithin a c → BoundsWithin b c →

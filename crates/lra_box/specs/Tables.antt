@@ -1,6 +1,6 @@
 -- The tables of boxes: what each call makes of the bounds, and when it may be flagged.
 use Rattle.std.specs.Prelude.{ℕ, ◌+◌, ◌*◌, ◌-◌, ℤ, ◌≤ℤ◌, int_lt, cond, List, [], ◌∷◌, ◌++◌, take, replicate, slice_set}
-use Rattle.std.specs.Prelude.{Option, None, Some, ◌⊎◌}
+use Rattle.std.specs.Prelude.{Option, None, Some, ◌⊎◌, slice_index_or}
 use Rattle.lra_lin.specs.Form.{Form}
 use Rattle.lra_domain.specs.Actions.{Action, assign, forget, test, embed, remove_last}
 use Rattle.lra_domain.specs.declared.Mode.{Mode}
@@ -33,11 +33,14 @@ abbrev pub AssignPasses : Form → Option (List Interval) → Type 0
 AssignPasses e None = ⊥
 AssignPasses e (Some is) = SumPasses Low e.constant e.coefficients is ⊎ SumPasses High e.constant e.coefficients is
 
+-- the lesser lower and the greater upper bound, each absent where one of the two is
+abbrev pub joined_interval : Interval → Interval → Interval
+joined_interval i j = record { low = lesser_low i.low j.low; high = greater i.high j.high }
+
 abbrev pub joined_intervals : List Interval → List Interval → List Interval
 joined_intervals [] is = []
 joined_intervals (i ∷ is) [] = []
-joined_intervals (i ∷ is) (j ∷ js) = record { low = lesser_low i.low j.low; high = greater i.high j.high } ∷
-    joined_intervals is js
+joined_intervals (i ∷ is) (j ∷ js) = joined_interval i j ∷ joined_intervals is js
 
 abbrev pub joined_bounds : Option (List Interval) → Option (List Interval) → Option (List Interval)
 joined_bounds None b = b
@@ -50,16 +53,32 @@ LowWithin a None = Unit {0}
 LowWithin None (Some b) = ⊥
 LowWithin (Some a) (Some b) = b ≤ℤ a
 
+-- each bound that the second has is there in the first too, and no wider there
+abbrev pub IntervalWithin : Interval → Interval → Type 0
+IntervalWithin i j = LowWithin i.low j.low × AtMost i.high j.high
+
 abbrev pub IntervalsWithin : List Interval → List Interval → Type 0
 IntervalsWithin [] [] = Unit {0}
 IntervalsWithin [] (j ∷ js) = ⊥
 IntervalsWithin (i ∷ is) [] = ⊥
-IntervalsWithin (i ∷ is) (j ∷ js) = LowWithin i.low j.low × AtMost i.high j.high × IntervalsWithin is js
+IntervalsWithin (i ∷ is) (j ∷ js) = IntervalWithin i j × IntervalsWithin is js
 
 abbrev pub BoundsWithin : Option (List Interval) → Option (List Interval) → Type 0
 BoundsWithin None b = Unit {0}
 BoundsWithin (Some is) None = ⊥
 BoundsWithin (Some is) (Some js) = IntervalsWithin is js
+
+-- the bounds of a place; none where the box is empty
+abbrev pub bound_at : ℕ → Option (List Interval) → Option Interval
+bound_at x None = None
+bound_at x (Some is) = Some (slice_index_or is x open_interval)
+
+-- the interval comes in at a place: the bounds there are joined with it
+abbrev pub admitting : ℕ → Interval → List Interval → List Interval
+admitting x i is = slice_set is x (joined_interval (slice_index_or is x open_interval) i)
+
+abbrev pub admitted : ℕ → Interval → Content → Content
+admitted x i b = record b { bounds = on_bounds (admitting x i) b.bounds }
 
 -- how many bounds there are
 abbrev pub finite_bounds : List Interval → ℕ

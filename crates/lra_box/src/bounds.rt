@@ -10,7 +10,7 @@ ghost use Rattle.lra_box.specs.Bounds.{form, open_interval};
 ghost use Rattle.lra_box.specs.Content.{seen, BoundsFit, BoundsSound};
 ghost use Rattle.lra_box.specs.Refine.{ge_tested, tested, RefinePasses, TestPasses};
 ghost use Rattle.lra_box.specs.Tables.{on_bounds, joined_bounds, widened_bounds, grown_bounds, BoundsWithin};
-ghost use Rattle.lra_box.specs.Tables.{rank_number};
+ghost use Rattle.lra_box.specs.Tables.{admitting, bound_at, rank_number};
 ghost use Rattle.lra_box.specs.Answers.{AssignedTo, TestedTo};
 ghost use Rattle.lra_box.specs.Ends.{BoundsTell};
 
@@ -184,6 +184,27 @@ pub fn forget_in(bounds: &mut Bounds, x: usize)
 {
     if let Some(intervals) = bounds {
         intervals[x] = Interval::OPEN;
+    }
+}
+
+/// The bounds of place `x`; none where the box is empty.
+pub fn find_bound(bounds: &Bounds, x: usize) -> Option<Interval>
+    requires { (is : List Interval) → seen bounds.now ≡ Some is → x < length is }
+    ensures { result ≡ bound_at x (seen bounds.now) }
+{
+    match bounds {
+        None => None,
+        Some(intervals) => Some(intervals[x]),
+    }
+}
+
+/// The interval comes in at place `x`.
+pub fn admit_in(bounds: &mut Bounds, x: usize, interval: &Interval)
+    requires { (is : List Interval) → seen bounds.old ≡ Some is → x < length is }
+    ensures { seen bounds.new ≡ on_bounds (admitting x interval.now) (seen bounds.old) }
+{
+    if let Some(intervals) = bounds {
+        intervals[x] = intervals[x].join(interval);
     }
 }
 

@@ -1,12 +1,18 @@
 //! Boxes as a domain.
 
-ghost use Rattle.std.specs.Prelude.{◌≡◌, ◌↔◌, ◌≤◌, ◌^◌, refl, IsTrue, ℤ, List, []};
-ghost use Rattle.lra_box.specs.Meaning.{box_meaning};
+ghost use Rattle.std.specs.Prelude.{◌≡◌, ◌↔◌, ◌≤◌, ◌<◌, ◌^◌, refl, IsTrue, ℤ, List, [], None, Some};
+ghost use Rattle.std.specs.Prelude.{slice_get, slice_set};
+ghost use Rattle.lra_box.specs.declared.interval.Interval.{Interval};
+ghost use Rattle.lra_box.specs.Bounds.{EndsInRange, InInterval};
+ghost use Rattle.lra_box.specs.Tables.{admitted, bound_at};
+ghost use Rattle.lra_box.specs.Meaning.{box_meaning, BoxHas};
 
 use crate::bounds::{
-    Bounds, assign_in, bounds_of, copy_bounds, embed_in, forget_in, grow_bounds, is_same,
-    is_within, join_bounds, rank_of, test_in, truncate_in, universe, wide_row,
+    Bounds, admit_in, assign_in, bounds_of, copy_bounds, embed_in, find_bound, forget_in,
+    grow_bounds, is_same, is_within, join_bounds, rank_of, test_in, truncate_in, universe,
+    wide_row,
 };
+use crate::interval::Interval;
 use crate::parts::system_of;
 use lra_domain::{Domain, Exactness, Grown, Included, Mode, Plain, Rank, Told};
 use lra_lin::{LinExpr, Test};
@@ -40,6 +46,31 @@ impl Model for Boxes {
     ghost view = { λ b. record { dims = b.dims; bounds = seen b.bounds } };
 
     ghost invariant = { λ b. (b.dims ≤ 2 ^ 30) × BoundsFit b.dims (seen b.bounds) × BoundsSound (seen b.bounds) };
+}
+
+impl Boxes {
+    /// The bounds of dimension `x`; none exactly where the box is empty.
+    pub fn bound(&self, x: usize) -> Option<Interval>
+        requires { x < self.now.dims }
+        ensures bound { result ≡ bound_at x self.now.bounds }
+        ensures empty { (result ≡ None) ↔ ((s : List ℤ) → ¬ BoxHas self.now s) }
+        ensures holds { (i : Interval) (s : List ℤ) (z : ℤ) → result ≡ Some i → BoxHas self.now s →
+            slice_get s x ≡ Some z → InInterval i z }
+    {
+        find_bound(&self.bounds, x)
+    }
+
+    /// Dimension `x` may also have each value of the interval; an empty box stays empty.
+    pub fn admit(&mut self, x: usize, interval: &Interval)
+        requires place { x < self.old.dims }
+        requires range { EndsInRange interval.now }
+        ensures admitted { self.new ≡ admitted x interval.now self.old }
+        ensures stores { (s : List ℤ) → BoxHas self.old s → BoxHas self.new s }
+        ensures values { (s : List ℤ) (z : ℤ) → BoxHas self.old s → InInterval interval.now z →
+            BoxHas self.new (slice_set s x z) }
+    {
+        admit_in(&mut self.bounds, x, interval);
+    }
 }
 
 impl Domain for Boxes {

@@ -4,7 +4,9 @@ ghost use Rattle.std.specs.Prelude.{◌≡◌, ◌↔◌, IsTrue, IfSome};
 ghost use Rattle.lra_linear.specs.Range.{InRange};
 ghost use Rattle.lra_box.specs.Bounds.{crossed, EndsInRange};
 ghost use Rattle.lra_box.specs.Refine.{raised, lowered, tightened};
-ghost use Rattle.lra_box.specs.Tables.{widened_low, LowWithin};
+ghost use Rattle.lra_box.specs.Tables.{joined_interval, widened_low, IntervalWithin, LowWithin};
+
+use lra_domain::bounds::{is_at_most, join_highs, join_lows};
 
 /// The whole numbers from `low` to `high`; an end without a bound is open.
 #[derive(Clone, Copy, Debug, PartialEq, Eq)]
@@ -26,6 +28,23 @@ impl Interval {
         low: None,
         high: None,
     };
+
+    /// The interval from the lesser lower to the greater upper bound; an end is open where one of the two is.
+    pub fn join(&self, other: &Interval) -> Interval
+        ensures { result ≡ joined_interval self.now other.now }
+    {
+        Interval {
+            low: join_lows(self.low, other.low),
+            high: join_highs(self.high, other.high),
+        }
+    }
+
+    /// Whether each bound that the other has is there in this one too, and no wider there.
+    pub fn within(&self, other: &Interval) -> bool
+        ensures { IsTrue result ↔ IntervalWithin self.now other.now }
+    {
+        low_within(self.low, other.low) && is_at_most(self.high, other.high)
+    }
 }
 
 pub(crate) fn widen_lows(a: Option<i128>, b: Option<i128>) -> Option<i128>

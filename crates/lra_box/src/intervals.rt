@@ -7,9 +7,9 @@ ghost use Rattle.lra_box.specs.Tables.{joined_intervals, widened_intervals, Inte
 ghost use Rattle.lra_box.specs.Answers.{AssignedTo};
 
 use crate::ends::sum_end;
-use crate::interval::{Interval, Side, low_within, widen_lows};
+use crate::interval::{Interval, Side, widen_lows};
 use lra_domain::Exactness;
-use lra_domain::bounds::{count_bound, is_at_most, join_highs, join_lows, widen_highs};
+use lra_domain::bounds::{count_bound, widen_highs};
 use std::alloc::{AllocError, Global};
 
 /// The intervals that hold both, one by one.
@@ -28,10 +28,7 @@ pub fn join_all(
         ours.split_first(),
         theirs.split_first(),
     ) {
-        all.push(Interval {
-            low: join_lows(one.low, two.low),
-            high: join_highs(one.high, two.high),
-        })?;
+        all.push(one.join(two))?;
         ours = ours_left;
         theirs = theirs_left;
     }
@@ -75,7 +72,7 @@ pub fn all_within(left: &[Interval], right: &[Interval]) -> bool
         ours.split_first(),
         theirs.split_first(),
     ) {
-        if !low_within(one.low, two.low) || !is_at_most(one.high, two.high) {
+        if !one.within(two) {
             return false;
         }
         ours = ours_left;

@@ -19,9 +19,9 @@ use Rattle.lra_box.specs.declared.interval.Interval.{Interval}
 use Rattle.lra_box.specs.declared.interval.Side.TheVariants.{Low, High}
 use Rattle.lra_box.specs.declared.ends.Bound.{Bound as End}
 use Rattle.lra_box.specs.Bounds.{form, open_interval, InInterval, EndsInRange, end_sum, SumPasses, IsBound}
-use Rattle.lra_box.specs.Tables.{IntervalsWithin}
+use Rattle.lra_box.specs.Tables.{IntervalWithin, IntervalsWithin}
 use Rattle.lra_box.specs.Covering.{intervals_within_refl}
-use Rattle.lra_box.proofs.WithinLemmas.{OneWithin, set_within}
+use Rattle.lra_box.proofs.WithinLemmas.{set_within}
 use Rattle.lra_box.proofs.BoxLemmas.{bound_holds}
 use Rattle.lra_box.specs.Sums.{end_sum_holds}
 use Rattle.lra_box.proofs.AssignLemmas.{low_covers, high_covers}
@@ -247,7 +247,7 @@ alone_holds n x i s v j place h is holds = elim (eqb_tells (j / 2) x) [
       (le_same (sym (ap (upper_of (j % 2)) (alone_other n x (j / 2) i (omega arith) e.1) ∙ open_upper (j % 2))))
 ]
 
-alone_within : (n x : ℕ) (i j : Interval) → OneWithin i j → IntervalsWithin (alone n x i) (alone n x j)
+alone_within : (n x : ℕ) (i j : Interval) → IntervalWithin i j → IntervalsWithin (alone n x i) (alone n x j)
 alone_within n x i j w = set_within (replicate n open_interval) (replicate n open_interval) x i j (intervals_within_refl (replicate n open_interval)) w
 
 pub alone_ends : (n x : ℕ) (i : Interval) (is : List Interval) → x < n → EndsInRange i → is ≡ alone n x i → (k : ℕ) → EndsInRange (slice_index_or is k open_interval)

@@ -7,11 +7,11 @@ use Rattle.lra_domain.specs.declared.Exactness.{Exactness}
 use Rattle.lra_domain.specs.declared.Exactness.TheVariants.{Exact, Flagged}
 use Rattle.lra_box.specs.declared.interval.Interval.{Interval}
 use Rattle.lra_box.specs.Bounds.{open_interval, crossed}
-use Rattle.lra_box.specs.Tables.{IntervalsWithin, BoundsWithin as IntervalBoundsWithin}
+use Rattle.lra_box.specs.Tables.{IntervalWithin, IntervalsWithin, BoundsWithin as IntervalBoundsWithin}
 use Rattle.lra_box.specs.Refine.{others_most, place_refined, refine_place, refined, some_occurs, ge_tested, RefinePasses}
 use Rattle.lra_box.specs.Covering.{within_refl, within_trans}
 use Rattle.lra_box.specs.Answers.{TestedTo as BoxTestedTo}
-use Rattle.lra_box.proofs.WithinLemmas.{OneWithin, at_within, set_one, crossed_within}
+use Rattle.lra_box.proofs.WithinLemmas.{at_within, set_one, crossed_within}
 use Rattle.lra_box.proofs.MonotoneLemmas.{tightened_in, ge_tested_within}
 use Rattle.lra_box.proofs.RefineLemmas.{none_stays, in_at}
 use Rattle.lra_box.proofs.SoundLemmas.{not_crossed}
@@ -53,7 +53,7 @@ occurs_table a cs b h = ap (λ t. cond t (refined a cs (length cs) b) (cond (int
 
 -- ---- a crossed interval stays crossed
 
-place_in : (a : ℤ) (cs : List ℤ) (k : ℕ) (js is : List Interval) → IntervalsWithin js is → OneWithin (place_refined a cs k js) (slice_index_or is k open_interval)
+place_in : (a : ℤ) (cs : List ℤ) (k : ℕ) (js is : List Interval) → IntervalsWithin js is → IntervalWithin (place_refined a cs k js) (slice_index_or is k open_interval)
 place_in a cs k js is w = tightened_in (slice_index_or cs k (pos 0)) (others_most a cs k js) (slice_index_or js k open_interval) (slice_index_or is k open_interval) (at_within js is k w)
 
 refine_in : (a : ℤ) (cs : List ℤ) (k : ℕ) (o : Option (List Interval)) (is : List Interval) → IntervalBoundsWithin o (Some is) → IntervalBoundsWithin (refine_place a cs k o) (Some is)

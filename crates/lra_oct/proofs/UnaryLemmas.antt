@@ -21,8 +21,8 @@ use Rattle.lra_dbm.proofs.PointwiseLemmas.{within_entries}
 use Rattle.lra_box.specs.declared.interval.Interval.{Interval}
 use Rattle.lra_box.specs.declared.interval.Side.TheVariants.{Low, High}
 use Rattle.lra_box.specs.Bounds.{open_interval, crossed, BoundHolds, InInterval, InBounds, EndsInRange, AllSound}
-use Rattle.lra_box.specs.Tables.{LowWithin, IntervalsWithin}
-use Rattle.lra_box.proofs.WithinLemmas.{OneWithin, at_within}
+use Rattle.lra_box.specs.Tables.{LowWithin, IntervalWithin, IntervalsWithin}
+use Rattle.lra_box.proofs.WithinLemmas.{at_within}
 use Rattle.lra_box.proofs.RefineLemmas.{in_at}
 use Rattle.lra_oct.specs.Tables.{interval, intervals_from, intervals, some_crossed, upper_of, upper, bounded}
 use Rattle.lra_domain.specs.Bounds.{AtMost}
@@ -76,9 +76,11 @@ wider_from : (m w : Entries) (k n : ℕ) → ((i j : ℕ) → m i j ⊑ w i j) �
     IntervalsWithin (intervals_from m k n) (intervals_from w k n)
 wider_from m w k zero h = tt
 wider_from m w k (suc n) h = (
-  half_lower (m (opposite (2 * k + 1)) (2 * k + 1)) (w (opposite (2 * k + 1)) (2 * k + 1))
-      (h (opposite (2 * k + 1)) (2 * k + 1)),
-  half_wider (m (opposite (2 * k)) (2 * k)) (w (opposite (2 * k)) (2 * k)) (h (opposite (2 * k)) (2 * k)),
+  (
+    half_lower (m (opposite (2 * k + 1)) (2 * k + 1)) (w (opposite (2 * k + 1)) (2 * k + 1))
+        (h (opposite (2 * k + 1)) (2 * k + 1)),
+    half_wider (m (opposite (2 * k)) (2 * k)) (w (opposite (2 * k)) (2 * k)) (h (opposite (2 * k)) (2 * k)),
+  ),
   wider_from m w (suc k) n h,
 )
 
@@ -122,7 +124,7 @@ low_wider a None h = record { at_most = tt }
 low_wider None (Some b) h = absurd h
 low_wider (Some a) (Some b) h = record { at_most = omega (arith, ints) }
 
-side_wider : (r : ℕ) (i j : Interval) → OneWithin i j → upper_of r i ⊑ upper_of r j
+side_wider : (r : ℕ) (i j : Interval) → IntervalWithin i j → upper_of r i ⊑ upper_of r j
 side_wider zero i j w = high_wider i.high j.high w.1
 side_wider (suc r) i j w = low_wider i.low j.low w.0
 

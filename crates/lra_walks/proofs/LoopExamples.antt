@@ -157,16 +157,16 @@ heads set = (
   turn (between 0 0) (between 0 0) (between 1 1),
   Exact,
   from_head set (between 0 0) (between 0 0) (between 1 1) (small (between 0 0)) (increased (between 0 0) (between_sound 0 0 (lit< tt) (lit< tt) refl)),
-  (refl, (λ h. omega (arith, ints, h.1.1)), refl),
+  (refl, (λ h. omega (arith, ints, h.1.0.1)), refl),
   (
     one (between 0 1),
     turn (between 0 1) (between 0 1) (between 1 2),
     Exact,
     from_head set (between 0 1) (between 0 1) (between 1 2) (small (between 0 1)) (increased (between 0 1) (between_sound 0 1 (lit< tt) (lit< tt) refl)),
-    (refl, (λ h. omega (arith, ints, h.1.1)), refl),
+    (refl, (λ h. omega (arith, ints, h.1.0.1)), refl),
     (
       from_head set (at_least 0) (between 0 9) (between 1 10) (small (at_least 0)) (increased (between 0 9) (between_sound 0 9 (lit< tt) (lit< tt) refl)),
-      (refl, (omega (arith, ints), tt, tt)),
+      (refl, ((omega (arith, ints), tt), tt)),
     ),
   ),
 )

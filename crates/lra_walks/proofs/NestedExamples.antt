@@ -265,18 +265,18 @@ module _ (set : Plan) (a : Interval) (sound : IsSound a) (order : crossed a ≡ 
     Exact,
     inner_from set a (between 0 0) (between 0 0) (between 1 1) None (at_three (between 0 0) None (rw order refl)) (record { table = rw order refl; extremes = tt })
         (next_is (between 0 0) (between_sound 0 0 (lit< tt) (lit< tt) refl)),
-    (refl, (λ h. omega (arith, ints, h.1.2.1)), rw (low_joined, high_joined) refl),
+    (refl, (λ h. omega (arith, ints, h.1.1.0.1)), rw (low_joined, high_joined) refl),
     (
       two a (between 0 1),
       found_from (between 0 1) None (between 0 1) (between 1 2),
       Exact,
       inner_from set a (between 0 1) (between 0 1) (between 1 2) None (at_three (between 0 1) None (rw order refl)) (record { table = rw order refl; extremes = tt })
           (next_is (between 0 1) (between_sound 0 1 (lit< tt) (lit< tt) refl)),
-      (refl, (λ h. omega (arith, ints, h.1.2.1)), rw (low_joined, high_joined, low_widened, high_widened) refl),
+      (refl, (λ h. omega (arith, ints, h.1.1.0.1)), rw (low_joined, high_joined, low_widened, high_widened) refl),
       (
         inner_from set a (at_least 0) (between 0 2) (between 1 3) (Some (a ∷ at_least 3 ∷ [])) (at_three (at_least 0) (Some (a ∷ at_least 3 ∷ [])) (rw order refl))
             (record { table = rw order refl; extremes = tt }) (next_is (between 0 2) (between_sound 0 2 (lit< tt) (lit< tt) refl)),
-        (refl, (low_within_refl a.low, high_within_refl a.high, (omega (arith, ints), tt, tt))),
+        (refl, ((low_within_refl a.low, high_within_refl a.high), ((omega (arith, ints), tt), tt))),
       ),
     ),
   )
@@ -461,18 +461,18 @@ outer_heads = (
   Exact,
   outer_from (between 0 0) (between 0 0) (between 0 0) (between 1 1) (record { table = refl; extremes = tt }) (zeroed (between 0 0) (between 0 0) sound_0_0 sound_0_0)
       (inner_loop_pass (between 0 0) sound_0_0 refl refl refl refl refl) (next_is_a (between 0 0) (between 3 3) sound_0_0 sound_3_3),
-  (refl, (λ h. omega (arith, ints, h.1.1)), refl),
+  (refl, (λ h. omega (arith, ints, h.1.0.1)), refl),
   (
     two (between 0 1) (between 0 3),
     outer_found (value 2 (two (between 0 1) (between 0 3)) ∷ []) (between 0 1) (between 0 3) (between 1 2),
     Exact,
     outer_from (between 0 1) (between 0 1) (between 0 3) (between 1 2) (record { table = refl; extremes = tt }) (zeroed (between 0 1) (between 0 3) sound_0_1 sound_0_3)
         (inner_loop_pass (between 0 1) sound_0_1 refl refl refl refl refl) (next_is_a (between 0 1) (between 3 3) sound_0_1 sound_3_3),
-    (refl, (λ h. omega (arith, ints, h.1.1)), refl),
+    (refl, (λ h. omega (arith, ints, h.1.0.1)), refl),
     (
       outer_from (at_least 0) (between 0 4) (between 0 3) (between 1 5) (record { table = refl; extremes = tt }) (zeroed (between 0 4) (between 0 3) sound_0_4 sound_0_3)
           (inner_loop_pass (between 0 4) sound_0_4 refl refl refl refl refl) (next_is_a (between 0 4) (between 3 3) sound_0_4 sound_3_3),
-      (refl, (omega (arith, ints), tt, (omega (arith, ints), omega (arith, ints), tt))),
+      (refl, ((omega (arith, ints), tt), ((omega (arith, ints), omega (arith, ints)), tt))),
     ),
   ),
 )
