@@ -5,7 +5,7 @@ use Rattle.lra_base.specs.declared.refusals.Cause.TheVariants.{TooLong, BadByte,
 use Rattle.lra_base.specs.declared.refusals.Cause.TheVariants.{UnknownName, DuplicateName, BadCall, Misplaced}
 use Rattle.lra_base.specs.declared.refusals.Cause.TheVariants.{Recursive}
 use Rattle.lra_base.specs.declared.refusals.Cause.TheVariants.{TooManyVariables, TooManyPoints, DuplicateCase}
-use Rattle.lra_base.specs.declared.refusals.Cause.TheVariants.{BadLength, NotArray}
+use Rattle.lra_base.specs.declared.refusals.Cause.TheVariants.{BadLength, NotArray, NoThreads}
 
 abbrev pub cause_number : Cause → ℕ
 cause_number TooLong = 1
@@ -24,6 +24,7 @@ cause_number TooManyPoints = 13
 cause_number DuplicateCase = 14
 cause_number BadLength = 15
 cause_number NotArray = 16
+cause_number NoThreads = 17
 
 abbrev pub cause_name : Cause → List ℕ
 cause_name TooLong = codes "TooLong"
@@ -42,3 +43,4 @@ cause_name TooManyPoints = codes "TooManyPoints"
 cause_name DuplicateCase = codes "DuplicateCase"
 cause_name BadLength = codes "BadLength"
 cause_name NotArray = codes "NotArray"
+cause_name NoThreads = codes "NoThreads"

@@ -42,6 +42,8 @@ pub enum Cause {
     BadLength,
     /// An array's name without an index, or a variable's with one.
     NotArray,
+    /// Not both of `t1` and `t2` are defined without parameters, where threads are asked for.
+    NoThreads,
 }
 
 impl Cause {
@@ -69,6 +71,7 @@ impl Cause {
             Cause::DuplicateCase => 14,
             Cause::BadLength => 15,
             Cause::NotArray => 16,
+            Cause::NoThreads => 17,
         }
     }
 
@@ -93,6 +96,7 @@ impl Cause {
             Cause::DuplicateCase => "DuplicateCase",
             Cause::BadLength => "BadLength",
             Cause::NotArray => "NotArray",
+            Cause::NoThreads => "NoThreads",
         }
     }
 }
