@@ -5,7 +5,7 @@ use Rattle.lra_base.specs.CaseLabels.{are_alike}
 use Rattle.lra_program.specs.Program.{Cond}
 use Rattle.lra_program.specs.Step.{State, run_op, test}
 use Rattle.lra_program.specs.Trails.{Met, passes, Trail, Alone}
-use Rattle.lra_operations.specs.Graph.{Exit, normal, jump, Node, empty, point, act, check, seq, choose, iterate, catch, leave, select, Arms, no_arms, entry, arm}
+use Rattle.lra_operations.specs.Graph.{Exit, normal, jump, Node, empty, aside, point, act, check, seq, choose, iterate, catch, leave, select, Arms, no_arms, entry, arm}
 use Rattle.lra_operations.specs.Graph.{Rounds, Ends, ArmsEnd, Comes, ArmsCome, FailsAt, ArmsFail}
 use Rattle.lra_operations.specs.Trails.{by_jump, to_point, to_failure, to_end, stopped, Goes, ArmsGo, Tests, TrailRounds}
 
@@ -32,6 +32,7 @@ module _ {A : Type 0} (name : ℕ → A) where
   mutual
     pub ends_of : (g : Node) (a b : Trail A) → Goes name Alone g a to_end b → Ends g a.state normal b.state
     ends_of empty a b e = ap (λ (x : Trail A). x.state) e
+    ends_of (aside here what) a b e = ap (λ (x : Trail A). x.state) e
     ends_of (point q) a b (e, i) = e
     ends_of (act q op) a b (e, i) = e
     ends_of (check q base c) a b (e, i) = e
@@ -53,6 +54,7 @@ module _ {A : Type 0} (name : ℕ → A) where
 
     pub jumps_of : (g : Node) (j : Exit) (a b : Trail A) → Goes name Alone g a (stopped (by_jump j)) b → Ends g a.state (jump j) b.state
     jumps_of empty j a b x = absurd x
+    jumps_of (aside here what) j a b x = absurd x
     jumps_of (point q) j a b (x, e) = absurd x
     jumps_of (act q op) j a b x = absurd x
     jumps_of (check q base c) j a b x = absurd x.0
@@ -77,6 +79,7 @@ module _ {A : Type 0} (name : ℕ → A) where
   mutual
     pub comes_of : (g : Node) (p : ℕ) (a b : Trail A) → Goes name Alone g a (stopped (to_point p)) b → Comes g a.state p b.state
     comes_of empty p a b x = absurd x
+    comes_of (aside here what) p a b x = absurd x
     comes_of (point q) p a b (e, i) = (e, ap (λ (x : Trail A). x.state) i)
     comes_of (act q op) p a b x = absurd x
     comes_of (check q base c) p a b x = absurd x.0
@@ -102,6 +105,7 @@ module _ {A : Type 0} (name : ℕ → A) where
   mutual
     pub fails_of : (g : Node) (p : ℕ) (a b : Trail A) → Goes name Alone g a (stopped (to_failure p)) b → FailsAt g a.state p
     fails_of empty p a b x = absurd x
+    fails_of (aside here what) p a b x = absurd x
     fails_of (point q) p a b (x, e) = absurd x
     fails_of (act q op) p a b x = absurd x
     fails_of (check q base c) p a b (e, i, t, x) = (e, t, x)
@@ -154,6 +158,7 @@ module _ {A : Type 0} (name : ℕ → A) where
   mutual
     pub goes_on : (g : Node) (a : Trail A) (t : State) → Ends g a.state normal t → (xs : List (Met A)) × Goes name Alone g a to_end (with t xs)
     goes_on empty a t e = (a.met, rw e refl)
+    goes_on (aside here what) a t e = (a.met, rw e refl)
     goes_on (point q) a t e = (passes (name q) a.state ∷ a.met, (e, refl))
     goes_on (act q op) a t e = (a.met, (e, refl))
     goes_on (check q base c) a t e = (a.met, (e, refl))
@@ -183,6 +188,7 @@ module _ {A : Type 0} (name : ℕ → A) where
 
     pub jumps_on : (g : Node) (j : Exit) (a : Trail A) (t : State) → Ends g a.state (jump j) t → (xs : List (Met A)) × Goes name Alone g a (stopped (by_jump j)) (with t xs)
     jumps_on empty j a t x = absurd x
+    jumps_on (aside here what) j a t x = absurd x
     jumps_on (point q) j a t x = absurd x
     jumps_on (act q op) j a t x = absurd x
     jumps_on (check q base c) j a t x = absurd x
@@ -216,6 +222,7 @@ module _ {A : Type 0} (name : ℕ → A) where
     pub comes_on : (g : Node) (p : ℕ) (a : Trail A) (t : State) → Comes g a.state p t
         → (xs : List (Met A)) × Goes name Alone g a (stopped (to_point p)) (with t xs)
     comes_on empty p a t x = absurd x
+    comes_on (aside here what) p a t x = absurd x
     comes_on (point q) p a t (e, i) = (a.met, (e, rw i refl))
     comes_on (act q op) p a t x = absurd x
     comes_on (check q base c) p a t x = absurd x
@@ -251,6 +258,7 @@ module _ {A : Type 0} (name : ℕ → A) where
   mutual
     pub fails_on : (g : Node) (p : ℕ) (a : Trail A) → FailsAt g a.state p → (b : Trail A) × Goes name Alone g a (stopped (to_failure p)) b
     fails_on empty p a x = absurd x
+    fails_on (aside here what) p a x = absurd x
     fails_on (point q) p a x = absurd x
     fails_on (act q op) p a x = absurd x
     fails_on (check q base c) p a (e, t, x) = (a, (e, refl, t, x))

@@ -5,7 +5,7 @@ use Rattle.lra_base.specs.CaseLabels.{are_alike}
 use Rattle.lra_program.specs.Program.{Expr, Cond}
 use Rattle.lra_program.specs.Step.{State, Op, test}
 use Rattle.lra_program.specs.Trails.{Met, passes, Trail}
-use Rattle.lra_operations.specs.Graph.{Node, empty, point, act, check, seq, choose, iterate, catch, leave, select, Arms, no_arms, entry, arm}
+use Rattle.lra_operations.specs.Graph.{Node, empty, aside, point, act, check, seq, choose, iterate, catch, leave, select, Arms, no_arms, entry, arm}
 use Rattle.lra_operations.specs.Trails.{by_jump, Outcome, to_end, stopped, Goes, ArmsGo, Finds, Tests, TrailRounds, Performs, Passes}
 
 -- points by other names ------------------------------------------------------------------------------------------------
@@ -44,7 +44,9 @@ module _ {A B : Type 0} (f : A → B) (name : ℕ → A) (may : State → State 
   mutual
     pub goes_renamed : (g : Node) (a : Trail A) (u : Outcome) (b : Trail A) → G g a u b → R g (renamed f a) u (renamed f b)
     goes_renamed empty a to_end b e = ap (renamed f) e
+    goes_renamed (aside here what) a to_end b e = ap (renamed f) e
     goes_renamed empty a (stopped z) b x = absurd x
+    goes_renamed (aside here what) a (stopped z) b x = absurd x
     goes_renamed (point q) a to_end b x = passes_renamed q a b x
     goes_renamed (point q) a (stopped z) b (i, e) = (i, ap (renamed f) e)
     goes_renamed (act q op) a to_end b (o, e) = (o, ap (map (renamed_met f)) e)
@@ -114,7 +116,9 @@ module _ {A B : Type 0} (f : A → B) (name : ℕ → A) (may : State → State 
   mutual
     pub goes_named : (g : Node) (a : Trail A) (u : Outcome) (b : Trail B) → R g (renamed f a) u b → Named g a u b
     goes_named empty a to_end b e = (a, refl, e)
+    goes_named (aside here what) a to_end b e = (a, refl, e)
     goes_named empty a (stopped z) b x = absurd x
+    goes_named (aside here what) a (stopped z) b x = absurd x
     goes_named (point q) a to_end b (m, e) =
         (record { state = b.state; met = passes (name q) a.state ∷ a.met }, (m, refl), ap (λ xs. let t : Trail B = record { state = b.state; met = xs } in t) e)
     goes_named (point q) a (stopped z) b (i, e) = (a, (i, refl), e)
@@ -229,7 +233,9 @@ module _ {A : Type 0} (name : ℕ → A) (may : State → State → Type 0) wher
   mutual
     pub goes_onward : (g : Node) (a : Trail A) (u : Outcome) (b : Trail A) → Goes name may g a u b → Onward (λ a b. Goes name may g a u b) a b
     goes_onward empty a to_end b e = stays_onward a b e
+    goes_onward (aside here what) a to_end b e = stays_onward a b e
     goes_onward empty a (stopped z) b x = absurd x
+    goes_onward (aside here what) a (stopped z) b x = absurd x
     goes_onward (point q) a to_end b (m, e) = (passes (name q) a.state ∷ [], e, λ zs. (m, refl))
     goes_onward (point q) a (stopped z) b (i, e) = onward_as (λ a b. b ≡ a) (λ a b. Goes name may (point q) a (stopped z) b) (λ a b y. (i, y)) a b
         (stays_onward a b e)

@@ -13,7 +13,7 @@ use Rattle.lra_program.specs.Overflow.{op_computes, OpOverflows}
 use Rattle.lra_program.specs.Accesses.{op_accesses_any, OpStrays}
 use Rattle.lra_program.specs.Sites.{Site, sites_of}
 use Rattle.lra_program.specs.Receivers.{nobody}
-use Rattle.lra_operations.specs.Graph.{Node, empty, point, act, check, seq, choose, iterate, catch, leave, select}
+use Rattle.lra_operations.specs.Graph.{Node, empty, aside, point, act, check, seq, choose, iterate, catch, leave, select}
 use Rattle.lra_operations.specs.Graph.{Arms, no_arms, entry, arm}
 use Rattle.lra_operations.specs.Agree.{IsGraph, point_of, AreDistinct}
 
@@ -37,6 +37,7 @@ fresh_of (test base c wanted) = None
 
 abbrev pub fresh_behind : Option NumberType → Node → Option NumberType
 fresh_behind fresh empty = fresh
+fresh_behind fresh (aside here what) = fresh
 fresh_behind fresh (point q) = None
 fresh_behind fresh (act q op) = fresh_of op
 fresh_behind fresh (check q base c) = None
@@ -56,6 +57,7 @@ module _ (asks : Op → Bool) where
     -- all of a tree; a condition is asked once, whichever side goes on
     pub asking_in : Option NumberType → Node → List Asked
     asking_in fresh empty = []
+    asking_in fresh (aside here what) = []
     asking_in fresh (point q) = []
     asking_in fresh (act q op) = asking_of q fresh op
     asking_in fresh (check q base c) = asking_of q None (test base c true)

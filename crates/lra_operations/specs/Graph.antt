@@ -2,6 +2,7 @@
 -- Points are numbered from 0 here; a report's numbers are one more.
 use Rattle.std.specs.Prelude.{◌≡◌, ◌≢◌, ℕ, zero, suc, ℤ, List, [], ◌∷◌, Some, Bool, true, false, ◌||◌, ◌⊎◌}
 use Rattle.lra_base.specs.declared.case_labels.CaseLabel.{CaseLabel}
+use Rattle.lra_operations.specs.declared.asides.Aside.{Aside}
 use Rattle.lra_base.specs.CaseLabels.{are_alike, goal_of}
 use Rattle.lra_program.specs.Program.{Expr, Cond}
 use Rattle.lra_program.specs.Value.{value_of}
@@ -24,6 +25,8 @@ mutual
   pub data Node : Type 0 where
     empty : Node
     point : ℕ → Node
+    -- what is done there beside the program's own operations: no run of the tree sees it
+    aside : ℕ → Aside → Node
     -- a least change of the state
     act : ℕ → Op → Node
     -- an assertion: a test with a verdict
@@ -66,7 +69,9 @@ abbrev mutual
   -- a run of the tree from the first state ends so, with the second
   pub Ends : Node → State → How → State → Type 0
   Ends empty s normal t = t ≡ s
+  Ends (aside here what) s normal t = t ≡ s
   Ends empty s (jump j) t = ⊥
+  Ends (aside here what) s (jump j) t = ⊥
   Ends (point q) s normal t = t ≡ s
   Ends (point q) s (jump j) t = ⊥
   Ends (act q op) s normal t = run_op op s ≡ Some t
@@ -107,6 +112,7 @@ abbrev mutual
   -- a run of the tree from the first state comes to the point with the second
   pub Comes : Node → State → ℕ → State → Type 0
   Comes empty s p t = ⊥
+  Comes (aside here what) s p t = ⊥
   Comes (point q) s p t = (p ≡ q) × (t ≡ s)
   Comes (act q op) s p t = ⊥
   Comes (check q base c) s p t = ⊥
@@ -134,6 +140,7 @@ abbrev mutual
   -- and the assertion at the point is false there
   pub FailsAt : Node → State → ℕ → Type 0
   FailsAt empty s p = ⊥
+  FailsAt (aside here what) s p = ⊥
   FailsAt (point q) s p = ⊥
   FailsAt (act q op) s p = ⊥
   FailsAt (check q base c) s p = (p ≡ q) × (t : State) × (run_op (test base c false) s ≡ Some t)

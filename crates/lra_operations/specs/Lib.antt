@@ -7,3 +7,4 @@ pub mod TrailsAgree
 pub mod Asked
 pub mod GraphViews
 pub mod Sizes
+pub mod Parts

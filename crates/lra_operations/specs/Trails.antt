@@ -6,7 +6,7 @@ use Rattle.lra_base.specs.CaseLabels.{are_alike}
 use Rattle.lra_program.specs.Program.{Expr, Cond}
 use Rattle.lra_program.specs.Step.{State, Op, run_op, test}
 use Rattle.lra_program.specs.Trails.{Trail, passes}
-use Rattle.lra_operations.specs.Graph.{Exit, Node, empty, point, act, check, seq, choose, iterate, catch, leave}
+use Rattle.lra_operations.specs.Graph.{Exit, Node, empty, aside, point, act, check, seq, choose, iterate, catch, leave}
 use Rattle.lra_operations.specs.Graph.{select, Arms, no_arms, entry, arm, Selects}
 
 -- why a run is followed no further: it leaves the tree by a jump, stands at a point, or fails the assertion there
@@ -54,7 +54,9 @@ module _ {A : Type 0} (name : ℕ → A) (may : State → State → Type 0) wher
     -- a run of the tree from the first trail goes so far, with the second
     pub Goes : Node → Trail A → Outcome → Trail A → Type 0
     Goes empty a to_end b = b ≡ a
+    Goes (aside here what) a to_end b = b ≡ a
     Goes empty a (stopped z) b = ⊥
+    Goes (aside here what) a (stopped z) b = ⊥
     Goes (point q) a to_end b = Passes q a b
     Goes (point q) a (stopped z) b = IsPoint q z × (b ≡ a)
     Goes (act q op) a to_end b = Performs op a b

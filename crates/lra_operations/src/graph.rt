@@ -2,8 +2,10 @@
 
 ghost use Rattle.std.specs.Prelude.{◌≡◌, ◌+◌, ◌<◌, ◌∷◌, [], IfOk, IfSome, MatchOption};
 ghost use Rattle.lra_operations.specs.Sizes.{whole_size, hung_size};
+ghost use Rattle.lra_operations.specs.Parts.{whole_of, whole_arm_of};
 ghost use Rattle.lra_operations.specs.declared.graph.Arm.TheVariants as arm;
 
+use crate::asides::Aside;
 use lra_base::{CaseLabel, NumberType};
 use lra_program::{Argument, Array, Cond, Element, Expr, Receiver};
 use std::alloc::{AllocError, Global};
@@ -63,6 +65,8 @@ impl Drop for Op {
 pub enum Node {
     Empty,
     Point(usize),
+    /// What is done there beside the program's own operations.
+    Aside(usize, Aside),
     Act(usize, Op),
     /// An assertion: a test with a verdict.
     Check(usize, usize, Cond),
@@ -87,6 +91,29 @@ pub enum Arm {
     Tree(Node),
 }
 
+/// What a tree is made of.
+#[derive(Drop)]
+pub enum Parts {
+    Empty,
+    Point(usize),
+    Aside(usize, Aside),
+    Act(usize, Op),
+    Check(usize, usize, Cond),
+    Seq(Vec<Node>, Box<Node>),
+    Choose(usize, usize, Cond, Box<Node>, Box<Node>),
+    Iterate(usize, usize, Cond, Box<Node>),
+    Catch(usize, Exit, Box<Node>),
+    Leave(usize, Exit),
+    Select(usize, usize, Expr, Vec<Arm>),
+}
+
+/// What an arm is made of.
+#[derive(Drop)]
+pub enum ArmParts {
+    Entry(CaseLabel),
+    Tree(Node),
+}
+
 impl Drop for Arm {
     fn drop(self) {
         match self {
@@ -97,6 +124,16 @@ impl Drop for Arm {
 }
 
 impl Arm {
+    /// The label, or the tree.
+    pub fn into_parts(self) -> ArmParts
+        ensures { whole_arm_of result ≡ self }
+    {
+        match self {
+            Arm::Entry(label) => ArmParts::Entry(label),
+            Arm::Tree(tree) => ArmParts::Tree(tree),
+        }
+    }
+
     /// The arm's tree; a label has none.
     fn into_tree(self) -> Option<Node>
         ensures { MatchOption result ((l : CaseLabel) × (self ≡ arm.Entry l))
@@ -126,6 +163,29 @@ impl Drop for Node {
 }
 
 impl Node {
+    /// The trees right in this one, and what stands beside them.
+    pub fn into_parts(self) -> Parts
+        ensures { whole_of result ≡ self }
+    {
+        match self {
+            Node::Empty => Parts::Empty,
+            Node::Point(point) => Parts::Point(point),
+            Node::Aside(point, what) => Parts::Aside(point, what),
+            Node::Act(point, op) => Parts::Act(point, op),
+            Node::Check(point, base, condition) => Parts::Check(point, base, condition),
+            Node::Seq(trees, last) => Parts::Seq(trees, last),
+            Node::Choose(point, base, condition, yes, no) => {
+                Parts::Choose(point, base, condition, yes, no)
+            }
+            Node::Iterate(point, base, condition, body) => {
+                Parts::Iterate(point, base, condition, body)
+            }
+            Node::Catch(point, exit, body) => Parts::Catch(point, exit, body),
+            Node::Leave(live, exit) => Parts::Leave(live, exit),
+            Node::Select(point, base, value, arms) => Parts::Select(point, base, value, arms),
+        }
+    }
+
     /// A tree of those in this one that is next, and what is left: the others hang before the rest, in the box of the
     /// tree that is next, or in place of the last arm. None where nothing is left.
     fn take_apart(self, rest: Node) -> Option<(Node, Node)>
@@ -159,6 +219,7 @@ impl Node {
             Node::Catch(_, _, body) => Some((Box::into_inner(body), rest)),
             Node::Empty => rest.take_next(),
             Node::Point(_) => rest.take_next(),
+            Node::Aside(_, _) => rest.take_next(),
             Node::Act(_, _) => rest.take_next(),
             Node::Check(_, _, _) => rest.take_next(),
             Node::Leave(_, _) => rest.take_next(),
@@ -194,6 +255,7 @@ impl Node {
             Node::Catch(_, _, tree) => Some((Box::into_inner(tree), Node::Empty)),
             Node::Empty => None,
             Node::Point(_) => None,
+            Node::Aside(_, _) => None,
             Node::Act(_, _) => None,
             Node::Check(_, _, _) => None,
             Node::Leave(_, _) => None,

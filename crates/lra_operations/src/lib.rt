@@ -4,8 +4,10 @@
 #![tactic(auto)]
 
 mod arms;
+mod asides;
 pub mod forms;
 mod graph;
 
 pub use arms::any_default;
-pub use graph::{Arm, Exit, Graph, Node, Op, Path, Site};
+pub use asides::Aside;
+pub use graph::{Arm, ArmParts, Exit, Graph, Node, Op, Parts, Path, Site};
