@@ -8,21 +8,24 @@ use Rattle.lra_linear.specs.declared.ConKind.{ConKind}
 use Rattle.lra_domain.specs.Actions.{Action}
 use Rattle.lra_domain.specs.declared.Mode.{Mode}
 use Rattle.lra_domain.specs.declared.Exactness.{Exactness}
+use Rattle.lra_others.specs.Others.{Others}
 use Rattle.lra_domain.specs.Meaning.{Meaning}
 use Rattle.lra_domain.specs.Laws.{Laws}
 use Rattle.lra_base.specs.declared.case_labels.CaseLabel.{CaseLabel}
 use Rattle.lra_base.specs.declared.case_labels.CaseLabel.TheVariants.{Case, Default}
 use Rattle.lra_program.specs.Program.{Expr, Cond, Program}
-use Rattle.lra_operations.specs.Graph.{Exit, broken, continued, returned, Node, empty, point, act, check, seq, choose, iterate, catch, leave, select, Arms}
+use Rattle.lra_operations.specs.declared.asides.Aside.TheVariants.{Entering, Noting}
+use Rattle.lra_operations.specs.Graph.{Exit, broken, continued, returned, Node, empty, point, aside, act, check, seq, choose, iterate, catch, leave, select, Arms}
 use Rattle.lra_operations.specs.Graph.{no_arms, entry, arm, entries_of}
 use Rattle.lra_flow.specs.Plan.{Plan, Widening}
 use Rattle.lra_flow.specs.Operations.{Operations, dropping}
 use Rattle.lra_domain.specs.Moves.{Moves, stay, make, first_then, join_of}
 use Rattle.lra_flow.specs.Moves.{AreMade}
 use Rattle.lra_flow.specs.MovesOf.{guard, value_moves, moves_of, first_values}
-use Rattle.lra_flow.specs.Pass.{Entry, value, failing, Result, noted, goes_on, jumps, in_turn, first_of_call, values_behind, behind, AreJoined, Leaves, Through}
-use Rattle.lra_flow.specs.Pass.{GoesRound, Grows, Narrows, Pass, ArmsPass, ValueIs, MatchesNone, Enters, JoinsRunning, ComesOut, RunsFrom}
+use Rattle.lra_flow.specs.Pass.{Entry, value, failing, given, Result, noted, goes_on, jumps, in_turn, first_of_call, values_behind, behind, AreJoined, Leaves, Through}
+use Rattle.lra_flow.specs.Pass.{GoesRound, Grows, Narrows, Admission, nothing_admitted, PassAmong, ArmsPassAmong, Pass, ValueIs, MatchesNone, Enters, JoinsRunning, ComesOut, RunsFrom}
 use Rattle.lra_flow.specs.Analysis.{Derivation, Solves}
+use Rattle.lra_flow.specs.Among.{admitted, IterationAmong, DerivationAmong}
 
 -- what has no operand has the property, and each operation keeps it, where this many parts are asked for
 pub record Preserves {V H : Type 0} (ops : Operations V H) (parts : ℕ) (Good : V → Type 0) (Fine : H → Type 0) : Type 0 where
@@ -60,6 +63,7 @@ module _ (V H : Type 0) (ops : Operations V H) (set : Plan) (Good : V → Type 0
   abbrev IsGood : Entry V → Type 0
   IsGood (value q v) = Good v
   IsGood (failing q v) = Good v
+  IsGood (given q x v) = Good v
 
   pub record AreGood (r : Result V) : Type 0 where
     pub normal : Good r.normal
@@ -148,55 +152,66 @@ module _ (V H : Type 0) (ops : Operations V H) (set : Plan) (Good : V → Type 0
   from_good live None w nothing h = keeps.void live w nothing
   from_good live (Some running) w same h = subst Good (sym same) h
 
-  mutual
-    pub pass_good : (tree : Node) (f : Option ℕ) (v : V) (r : Result V) → Pass V H ops set tree f v r → Good v → AreGood r
-    pass_good empty f v r is g = same_good r _ is (on_good [] v f tt g)
-    pass_good (point q) f v r is g = same_good r _ is (on_good (value q v ∷ []) v f (g, tt) g)
-    pass_good (act q op) f v r (w, e, done, is) g = same_good r _ is (on_good [] w (noted q e f) tt (made_good (moves_of (ops.dims v) op) v e w done g))
-    pass_good (check q base c) f v r (u, w, d, e, off, on, is) g =
-        same_good r _ is (on_good (failing q u ∷ []) w (noted q e (noted q d f)) (leaves_good base c false v d u off g, tt)
-        (leaves_good base c true v e w on g))
-    pass_good (seq a b) f v r (s, t, one, two, is) g =
-        let x = pass_good a f v s one g in
-        let y = pass_good b s.flag s.normal t two x.normal in
-        same_good r _ is (both_good s t t.normal t.flag x y y.normal)
-    pass_good (choose q base c a b) f v r (on, off, w, d, e, i, s, t, holds, one, fails, two, joined, is) g =
-        let x = pass_good a (noted q d f) on s one (leaves_good base c true v d on holds g) in
-        let y = pass_good b (noted q e s.flag) off t two (leaves_good base c false v e off fails g) in
-        same_good r _ is (both_good s t w (noted q i t.flag) x y (keeps.joined s.normal t.normal i w joined x.normal y.normal))
-    pass_good (iterate q base c a) f v r (h, later, u, top, out, s, t, e, started, grown, narrowed, off, is) g =
-        let x = grows_good q base c (Pass V H ops set a) (pass_good a) set.widening set.delay f h later u s grown (keeps.started v _ h started g) in
-        let y = narrows_good q base c (Pass V H ops set a) (pass_good a) set.narrow v u s top t narrowed g x.0 x.1 in
-        let z = y.1 in
-        same_good r _ is (record {
-          normal = leaves_good base c false top e out off y.0;
-          breaks = z.breaks;
-          continues = z.continues;
-          returns = z.returns;
-          entries = z.entries;
-        })
-    pass_good (catch q k a) f v r (w, e, s, one, joined, is) g =
-        let x = pass_good a f v s one g in
-        same_good r _ is (behind_good k s w (noted q e s.flag) x (caught_good k s e w joined x))
-    pass_good (leave n k) f v r (w, nothing, is) g = same_good r _ is (jump_good k v w f g (keeps.void n w nothing))
-    pass_good (select q base e arms) f v r (other, x, none, pass) g =
-        arms_good q base e _ v other arms (noted q x f) None r pass g (matches_good base e (entries_of arms) v x other none g) tt
+  -- where others act, what comes behind has the property, too
+  module _ (admission : Admission V) (admits : (v : V) (e : Exactness) (w : V) → admission v e w → Good v → Good w) where
+    mutual
+      pub pass_good_among : (tree : Node) (f : Option ℕ) (v : V) (r : Result V) → PassAmong V H ops admission set tree f v r → Good v → AreGood r
+      pass_good_among empty f v r is g = same_good r _ is (on_good [] v f tt g)
+      pass_good_among (point q) f v r is g = same_good r _ is (on_good (value q v ∷ []) v f (g, tt) g)
+      pass_good_among (aside q Entering) f v r (w, e, admitted, is) g = same_good r _ is (on_good [] w (noted q e f) tt (admits v e w admitted g))
+      pass_good_among (aside q (Noting place)) f v r is g = same_good r _ is (on_good (given q place v ∷ []) v f (g, tt) g)
+      pass_good_among (act q op) f v r (w, e, done, is) g = same_good r _ is (on_good [] w (noted q e f) tt (made_good (moves_of (ops.dims v) op) v e w done g))
+      pass_good_among (check q base c) f v r (u, w, d, e, off, on, is) g =
+          same_good r _ is (on_good (failing q u ∷ []) w (noted q e (noted q d f)) (leaves_good base c false v d u off g, tt)
+          (leaves_good base c true v e w on g))
+      pass_good_among (seq a b) f v r (s, t, one, two, is) g =
+          let x = pass_good_among a f v s one g in
+          let y = pass_good_among b s.flag s.normal t two x.normal in
+          same_good r _ is (both_good s t t.normal t.flag x y y.normal)
+      pass_good_among (choose q base c a b) f v r (on, off, w, d, e, i, s, t, holds, one, fails, two, joined, is) g =
+          let x = pass_good_among a (noted q d f) on s one (leaves_good base c true v d on holds g) in
+          let y = pass_good_among b (noted q e s.flag) off t two (leaves_good base c false v e off fails g) in
+          same_good r _ is (both_good s t w (noted q i t.flag) x y (keeps.joined s.normal t.normal i w joined x.normal y.normal))
+      pass_good_among (iterate q base c a) f v r (h, later, u, top, out, s, t, e, started, grown, narrowed, off, is) g =
+          let x = grows_good q base c (PassAmong V H ops admission set a) (pass_good_among a) set.widening set.delay f h later u s grown (keeps.started v _ h started g) in
+          let y = narrows_good q base c (PassAmong V H ops admission set a) (pass_good_among a) set.narrow v u s top t narrowed g x.0 x.1 in
+          let z = y.1 in
+          same_good r _ is (record {
+            normal = leaves_good base c false top e out off y.0;
+            breaks = z.breaks;
+            continues = z.continues;
+            returns = z.returns;
+            entries = z.entries;
+          })
+      pass_good_among (catch q k a) f v r (w, e, s, one, joined, is) g =
+          let x = pass_good_among a f v s one g in
+          same_good r _ is (behind_good k s w (noted q e s.flag) x (caught_good k s e w joined x))
+      pass_good_among (leave n k) f v r (w, nothing, is) g = same_good r _ is (jump_good k v w f g (keeps.void n w nothing))
+      pass_good_among (select q base e arms) f v r (other, x, none, pass) g =
+          arms_good_among q base e _ v other arms (noted q x f) None r pass g (matches_good base e (entries_of arms) v x other none g) tt
 
-    arms_good : (q base : ℕ) (e : Expr) (d : Bool) (v other : V) (arms : Arms) (f : Option ℕ) (o : Option V) (r : Result V)
-        → ArmsPass V H ops set q base e d v other arms f o r
-        → Good v → Good other → RunsGood o → AreGood r
-    arms_good q base e d v other no_arms f o r (w, x, out, is) g h k = same_good r _ is (on_good [] w (noted q x f) tt (out_good d o other x w out k h))
-    arms_good q base e d v other (entry l arms) f o r (u, w, x, y, enters, joins, rest) g h k =
-        arms_good q base e d v other arms (noted q y (noted q x f)) (Some w) r rest g h
-        (joins_good o u y w joins k (enters_good base e l v other x u enters g h))
-    arms_good q base e d v other (arm a arms) f o r (w, s, t, from, one, rest, is) g h k =
-        let x = pass_good a f w s one (from_good (ops.dims v) o w from k) in
-        let y = arms_good q base e d v other arms s.flag (Some s.normal) t rest g h x.normal in
-        same_good r _ is (both_good s t t.normal t.flag x y y.normal)
+      arms_good_among : (q base : ℕ) (e : Expr) (d : Bool) (v other : V) (arms : Arms) (f : Option ℕ) (o : Option V) (r : Result V)
+          → ArmsPassAmong V H ops admission set q base e d v other arms f o r
+          → Good v → Good other → RunsGood o → AreGood r
+      arms_good_among q base e d v other no_arms f o r (w, x, out, is) g h k = same_good r _ is (on_good [] w (noted q x f) tt (out_good d o other x w out k h))
+      arms_good_among q base e d v other (entry l arms) f o r (u, w, x, y, enters, joins, rest) g h k =
+          arms_good_among q base e d v other arms (noted q y (noted q x f)) (Some w) r rest g h
+          (joins_good o u y w joins k (enters_good base e l v other x u enters g h))
+      arms_good_among q base e d v other (arm a arms) f o r (w, s, t, from, one, rest, is) g h k =
+          let x = pass_good_among a f w s one (from_good (ops.dims v) o w from k) in
+          let y = arms_good_among q base e d v other arms s.flag (Some s.normal) t rest g h x.normal in
+          same_good r _ is (both_good s t t.normal t.flag x y y.normal)
+
+  pub pass_good : (tree : Node) (f : Option ℕ) (v : V) (r : Result V) → Pass V H ops set tree f v r → Good v → AreGood r
+  pass_good = pass_good_among nothing_admitted (λ v e w is g. subst Good (sym is.0) g)
 
   value_good : (xs : List (Entry V)) (q : ℕ) (v : V) → AllByRecursion IsGood xs → Contains xs (value q v) → Good v
   value_good [] q v h there = absurd (contains_none (value q v) there)
   value_good (x ∷ xs) q v h there = elim (contains_cases x (value q v) xs there) [ inl same ↦ subst IsGood same h.0 | inr later ↦ value_good xs q v h.1 later ]
+
+  given_good : (xs : List (Entry V)) (q place : ℕ) (v : V) → AllByRecursion IsGood xs → Contains xs (given q place v) → Good v
+  given_good [] q place v h there = absurd (contains_none (given q place v) there)
+  given_good (x ∷ xs) q place v h there = elim (contains_cases x (given q place v) xs there) [ inl same ↦ subst IsGood same h.0 | inr later ↦ given_good xs q place v h.1 later ]
 
 module _ {V H : Type 0} (m : Meaning V H) (laws : Laws m) (set : Plan) (some : 1 ≤ set.parts) where
   caps_kept : Preserves (dropping m) set.parts (λ v. m.capped v set.parts) (λ h. m.head_capped h set.parts)
@@ -210,14 +225,37 @@ module _ {V H : Type 0} (m : Meaning V H) (laws : Laws m) (set : Plan) (some : 1
   }
 
   -- the values that an iteration finds have the cap that the options say
-  pub solved_capped : (P : Program) (tree : Node) (r : Result V) (values : List V) (verdicts : List (ℕ × Bool)) (flagged : Option ℕ) → Derivation m set P tree r → Solves m r values verdicts flagged
-      → (v : V) → Contains values v → m.capped v set.parts
-  solved_capped P tree r values verdicts flagged (whole, first, e, universal, begun, pass) solves v there =
+  capped_entries : (admission : Admission V) → ((v : V) (e : Exactness) (w : V) → admission v e w → m.capped v set.parts → m.capped w set.parts)
+      → (P : Program) (tree : Node) (r : Result V) → IterationAmong (dropping m) admission set P tree r
+      → AllByRecursion (IsGood V H (dropping m) set (λ x. m.capped x set.parts) (λ h. m.head_capped h set.parts) caps_kept) r.entries
+  capped_entries admission admits P tree r (whole, first, e, universal, begun, pass) =
       let begins = made_good V H (dropping m) set (λ x. m.capped x set.parts) (λ h. m.head_capped h set.parts) caps_kept (first_values 0 P.globals) whole e first begun
       (laws.universal_capped 0 set.parts whole some universal.0) in
-      let all = pass_good V H (dropping m) set (λ x. m.capped x set.parts) (λ h. m.head_capped h set.parts) caps_kept tree (noted 0 e None) first r pass begins in
-      value_good V H (dropping m) set (λ x. m.capped x set.parts) (λ h. m.head_capped h set.parts) caps_kept r.entries there.0 v all.entries
+      (pass_good_among V H (dropping m) set (λ x. m.capped x set.parts) (λ h. m.head_capped h set.parts) caps_kept admission admits tree (noted 0 e None) first r pass begins).entries
+
+  capped_values : (r : Result V) (values : List V) (verdicts : List (ℕ × Bool)) (flagged : Option ℕ) → Solves m r values verdicts flagged
+      → AllByRecursion (IsGood V H (dropping m) set (λ x. m.capped x set.parts) (λ h. m.head_capped h set.parts) caps_kept) r.entries
+      → (v : V) → Contains values v → m.capped v set.parts
+  capped_values r values verdicts flagged solves all v there =
+      value_good V H (dropping m) set (λ x. m.capped x set.parts) (λ h. m.head_capped h set.parts) caps_kept r.entries there.0 v all
       ((solves.is_value there.0 v).0 (slice_get_read values (length values) there.0 v refl there.1 (sym there.2)))
+
+  pub solved_capped : (P : Program) (tree : Node) (r : Result V) (values : List V) (verdicts : List (ℕ × Bool)) (flagged : Option ℕ) → Derivation m set P tree r → Solves m r values verdicts flagged
+      → (v : V) → Contains values v → m.capped v set.parts
+  solved_capped P tree r values verdicts flagged derived solves =
+      capped_values r values verdicts flagged solves (capped_entries nothing_admitted (λ v e w is g. subst (λ (x : V). m.capped x set.parts) (sym is.0) g) P tree r derived)
+
+  -- among others, too, and so have those that are noted
+  pub solved_capped_among : (o : Others V) (P : Program) (tree : Node) (r : Result V) (values : List V) (verdicts : List (ℕ × Bool)) (flagged : Option ℕ)
+      → DerivationAmong o m set P tree r → Solves m r values verdicts flagged → (v : V) → Contains values v → m.capped v set.parts
+  solved_capped_among o P tree r values verdicts flagged derived solves =
+      capped_values r values verdicts flagged solves (capped_entries (admitted o m) (λ v e w is g. is.2 set.parts g) P tree r derived)
+
+  pub noted_capped : (o : Others V) (P : Program) (tree : Node) (r : Result V) → DerivationAmong o m set P tree r
+      → (q place : ℕ) (v : V) → Contains r.entries (given q place v) → m.capped v set.parts
+  noted_capped o P tree r derived q place v there =
+      given_good V H (dropping m) set (λ x. m.capped x set.parts) (λ h. m.head_capped h set.parts) caps_kept r.entries q place v
+      (capped_entries (admitted o m) (λ v e w is g. is.2 set.parts g) P tree r derived) there
 
 -- what a domain's operations give is held
 module _ {V H : Type 0} (m : Meaning V H) (set : Plan) where
@@ -231,10 +269,30 @@ module _ {V H : Type 0} (m : Meaning V H) (set : Plan) where
     valued = λ h e v is fine. is.0.formed;
   }
 
+  formed_entries : (admission : Admission V) → ((v : V) (e : Exactness) (w : V) → admission v e w → m.formed v → m.formed w)
+      → (P : Program) (tree : Node) (r : Result V) → IterationAmong (dropping m) admission set P tree r
+      → AllByRecursion (IsGood V H (dropping m) set m.formed m.head_formed held_kept) r.entries
+  formed_entries admission admits P tree r (whole, first, e, universal, begun, pass) =
+      let begins = made_good V H (dropping m) set m.formed m.head_formed held_kept (first_values 0 P.globals) whole e first begun universal.1 in
+      (pass_good_among V H (dropping m) set m.formed m.head_formed held_kept admission admits tree (noted 0 e None) first r pass begins).entries
+
+  formed_values : (r : Result V) (values : List V) (verdicts : List (ℕ × Bool)) (flagged : Option ℕ) → Solves m r values verdicts flagged
+      → AllByRecursion (IsGood V H (dropping m) set m.formed m.head_formed held_kept) r.entries → (v : V) → Contains values v → m.formed v
+  formed_values r values verdicts flagged solves all v there =
+      value_good V H (dropping m) set m.formed m.head_formed held_kept r.entries there.0 v all
+      ((solves.is_value there.0 v).0 (slice_get_read values (length values) there.0 v refl there.1 (sym there.2)))
+
   pub solved_formed : (P : Program) (tree : Node) (r : Result V) (values : List V) (verdicts : List (ℕ × Bool)) (flagged : Option ℕ) → Derivation m set P tree r → Solves m r values verdicts flagged
       → (v : V) → Contains values v → m.formed v
-  solved_formed P tree r values verdicts flagged (whole, first, e, universal, begun, pass) solves v there =
-      let begins = made_good V H (dropping m) set m.formed m.head_formed held_kept (first_values 0 P.globals) whole e first begun universal.1 in
-      let all = pass_good V H (dropping m) set m.formed m.head_formed held_kept tree (noted 0 e None) first r pass begins in
-      value_good V H (dropping m) set m.formed m.head_formed held_kept r.entries there.0 v all.entries
-      ((solves.is_value there.0 v).0 (slice_get_read values (length values) there.0 v refl there.1 (sym there.2)))
+  solved_formed P tree r values verdicts flagged derived solves =
+      formed_values r values verdicts flagged solves (formed_entries nothing_admitted (λ v e w is g. subst m.formed (sym is.0) g) P tree r derived)
+
+  pub solved_formed_among : (o : Others V) (P : Program) (tree : Node) (r : Result V) (values : List V) (verdicts : List (ℕ × Bool)) (flagged : Option ℕ)
+      → DerivationAmong o m set P tree r → Solves m r values verdicts flagged → (v : V) → Contains values v → m.formed v
+  solved_formed_among o P tree r values verdicts flagged derived solves =
+      formed_values r values verdicts flagged solves (formed_entries (admitted o m) (λ v e w is g. is.0.formed) P tree r derived)
+
+  pub noted_formed : (o : Others V) (P : Program) (tree : Node) (r : Result V) → DerivationAmong o m set P tree r
+      → (q place : ℕ) (v : V) → Contains r.entries (given q place v) → m.formed v
+  noted_formed o P tree r derived q place v there =
+      given_good V H (dropping m) set m.formed m.head_formed held_kept r.entries q place v (formed_entries (admitted o m) (λ v e w is g. is.0.formed) P tree r derived) there

@@ -20,7 +20,8 @@ use Rattle.std.proofs.lemmas.Bool.Decides.{Decides-int_eq}
 use Rattle.std.proofs.lemmas.Int.{ints}
 use Rattle.std.specs.List.{list_any}
 use Rattle.std.specs.Prelude.{◌||◌, if◌then◌else◌}
-use Rattle.lra_operations.specs.Graph.{Exit, broken, continued, returned, normal, Node, empty, point, act, check, seq, choose, iterate, catch, leave, Rounds, Ends}
+use Rattle.lra_operations.specs.declared.asides.Aside.TheVariants.{Entering, Noting}
+use Rattle.lra_operations.specs.Graph.{Exit, broken, continued, returned, normal, Node, empty, point, aside, act, check, seq, choose, iterate, catch, leave, Rounds, Ends}
 use Rattle.lra_operations.specs.Graph.{select, Arms, no_arms, entry, arm, entries_of, Selects}
 use Rattle.lra_flow.specs.Plan.{Plan, Widening, mode_at}
 use Rattle.lra_flow.specs.Operations.{dropping}
@@ -38,7 +39,7 @@ right_jump broken r s v f u h = Contains-append_right r.breaks s.breaks u h
 right_jump continued r s v f u h = Contains-append_right r.continues s.continues u h
 right_jump returned r s v f u h = Contains-append_right r.returns s.returns u h
 
-jumps_same : {V : Type 0} (k : Exit) (z : Result V) (x : Entry V) (out : V) (f : Option ℕ) (u : V) → Contains (jumps_of k z) u
+pub jumps_same : {V : Type 0} (k : Exit) (z : Result V) (x : Entry V) (out : V) (f : Option ℕ) (u : V) → Contains (jumps_of k z) u
     → Contains (jumps_of k (record z { entries = x ∷ z.entries; normal = out; flag = f })) u
 jumps_same broken z x out f u h = h
 jumps_same continued z x out f u h = h
@@ -54,13 +55,13 @@ behind_normal broken r v f = refl
 behind_normal continued r v f = refl
 behind_normal returned r v f = refl
 
-behind_entries : {V : Type 0} (k : Exit) (r : Result V) (v : V) (f : Option ℕ) → (behind k r v f).entries ≡ r.entries
+pub behind_entries : {V : Type 0} (k : Exit) (r : Result V) (v : V) (f : Option ℕ) → (behind k r v f).entries ≡ r.entries
 behind_entries broken r v f = refl
 behind_entries continued r v f = refl
 behind_entries returned r v f = refl
 
 -- the other jumps go on
-behind_jump : {V : Type 0} (k other : Exit) (r : Result V) (v : V) (f : Option ℕ) → other ≢ k → (u : V) → Contains (jumps_of other r) u → Contains (jumps_of other (behind k r v f)) u
+pub behind_jump : {V : Type 0} (k other : Exit) (r : Result V) (v : V) (f : Option ℕ) → other ≢ k → (u : V) → Contains (jumps_of other r) u → Contains (jumps_of other (behind k r v f)) u
 behind_jump broken broken r v f n u h = absurd (n refl)
 behind_jump broken continued r v f n u h = h
 behind_jump broken returned r v f n u h = h
@@ -94,7 +95,7 @@ module _ (V H : Type 0) (m : Meaning V H) (laws : Laws m) (keeps : ChangesKeep m
         λ u there st k. elim (contains_cases v u vs there) [ inl same ↦ r.0 st (subst (λ (z : V). Has m z st) (sym same) k) | inr later ↦ r.1 u (Contains-append_left vs (n ∷ []) u later) st k ],
       )
 
-  joined_caught : (k : Exit) (r : Result V) (e : Exactness) (w : V) → AreJoined (dropping m) (values_behind k r).0 (values_behind k r).1 e w
+  pub joined_caught : (k : Exit) (r : Result V) (e : Exactness) (w : V) → AreJoined (dropping m) (values_behind k r).0 (values_behind k r).1 e w
       → ((st : List ℤ) → Has m r.normal st → Has m w st) × ((u : V) → Contains (jumps_of k r) u → (st : List ℤ) → Has m u st → Has m w st)
   joined_caught broken r e w h = joined_all r.normal r.breaks e w h
   joined_caught continued r e w h = joined_all r.normal r.continues e w h
@@ -184,7 +185,7 @@ module _ (V H : Type 0) (m : Meaning V H) (laws : Laws m) (keeps : ChangesKeep m
         no_match labels u d w rest later (holds base e y false v c u one s z left h got (unequal z y here))
     no_match (Default ∷ labels) v x w rest none h = no_match labels v x w rest none h
 
-    enters_has : (labels : List CaseLabel) (k : CaseLabel) (v other : V) (c x : Exactness) (u : V) → MatchesNone (dropping m) base e labels v c other
+    pub enters_has : (labels : List CaseLabel) (k : CaseLabel) (v other : V) (c x : Exactness) (u : V) → MatchesNone (dropping m) base e labels v c other
         → Has m v s.store
         → Enters (dropping m) base e k v other x u → are_alike (goal_of z labels) k ≡ true → Has m u s.store
     enters_has labels k v other c x u none h enters alike = by (list_any (are_alike (Case z)) labels) k refl enters alike
@@ -197,7 +198,7 @@ module _ (V H : Type 0) (m : Meaning V H) (laws : Laws m) (keeps : ChangesKeep m
         by false Default i (same, exact) a = subst (λ (y : V). Has m y s.store) (sym same) (no_match labels v c other none i h)
 
     -- where the label isn't met at the end, no label is `default`, and there is no match
-    out_has : (labels : List CaseLabel) (v other : V) (c : Exactness) → MatchesNone (dropping m) base e labels v c other → Has m v s.store
+    pub out_has : (labels : List CaseLabel) (v other : V) (c : Exactness) → MatchesNone (dropping m) base e labels v c other → Has m v s.store
         → list_any (are_alike (goal_of z labels)) labels ≡ false
         → (list_any (are_alike Default) labels ≡ false) × Has m other s.store
     out_has labels v other c none h never = by (list_any (are_alike (Case z)) labels) refl never
@@ -215,29 +216,29 @@ module _ (V H : Type 0) (m : Meaning V H) (laws : Laws m) (keeps : ChangesKeep m
   joins_right None u y w (same, exact) st h = subst (λ (x : V). Has m x st) (sym same) h
   joins_right (Some running) u y w joined st h = covered_has m laws u w joined.0.formed joined.0.right st h
 
-  comes_running : (d : Bool) (running other : V) (x : Exactness) (w : V) → ComesOut (dropping m) d (Some running) other x w → (st : List ℤ) → Has m running st
+  pub comes_running : (d : Bool) (running other : V) (x : Exactness) (w : V) → ComesOut (dropping m) d (Some running) other x w → (st : List ℤ) → Has m running st
       → Has m w st
   comes_running true running other x w (same, exact) st h = subst (λ (y : V). Has m y st) (sym same) h
   comes_running false running other x w joined st h = covered_has m laws running w joined.0.formed joined.0.left st h
 
-  comes_other : (o : Option V) (other : V) (x : Exactness) (w : V) → ComesOut (dropping m) false o other x w → (st : List ℤ) → Has m other st → Has m w st
+  pub comes_other : (o : Option V) (other : V) (x : Exactness) (w : V) → ComesOut (dropping m) false o other x w → (st : List ℤ) → Has m other st → Has m w st
   comes_other None other x w (same, exact) st h = subst (λ (y : V). Has m y st) (sym same) h
   comes_other (Some running) other x w joined st h = covered_has m laws other w joined.0.formed joined.0.right st h
 
   -- what runs before some arms has the state, where the label was met
-  abbrev Runs : Bool → Option V → List ℤ → Type 0
+  abbrev pub Runs : Bool → Option V → List ℤ → Type 0
   Runs true None st = ⊥
   Runs true (Some u) st = Has m u st
   Runs false o st = Unit {0}
 
   -- before it is met: what comes in at it has the state, and so has what comes out where it isn't met
-  abbrev Waits : ℕ → Expr → Bool → V → V → CaseLabel → Bool → List CaseLabel → List ℤ → Type 0
+  abbrev pub Waits : ℕ → Expr → Bool → V → V → CaseLabel → Bool → List CaseLabel → List ℤ → Type 0
   Waits base e d v other l true labels st = Unit {0}
   Waits base e d v other l false labels st =
       ((k : CaseLabel) (x : Exactness) (u : V) → Enters (dropping m) base e k v other x u → are_alike l k ≡ true → Has m u st) ×
       (list_any (are_alike l) labels ≡ false → (d ≡ false) × Has m other st)
 
-  entered : (base : ℕ) (e : Expr) (d : Bool) (v other : V) (l k : CaseLabel) (labels : List CaseLabel) (st : List ℤ) (met alike : Bool) (o : Option V)
+  pub entered : (base : ℕ) (e : Expr) (d : Bool) (v other : V) (l k : CaseLabel) (labels : List CaseLabel) (st : List ℤ) (met alike : Bool) (o : Option V)
       (x y : Exactness) (u w : V) → are_alike l k ≡ alike
       → Enters (dropping m) base e k v other x u → JoinsRunning (dropping m) o u y w → Runs met o st → Waits base e d v other l met (k ∷ labels) st
       → Runs (met || alike) (Some w) st
@@ -246,7 +247,7 @@ module _ (V H : Type 0) (m : Meaning V H) (laws : Laws m) (keeps : ChangesKeep m
   entered base e d v other l k labels st false true o x y u w i enters joins runs waits = joins_right o u y w joins st (waits.0 k x u enters i)
   entered base e d v other l k labels st false false o x y u w i enters joins runs waits = tt
 
-  waits_on : (base : ℕ) (e : Expr) (d : Bool) (v other : V) (l k : CaseLabel) (labels : List CaseLabel) (st : List ℤ) (met alike : Bool) → are_alike l k ≡ alike
+  pub waits_on : (base : ℕ) (e : Expr) (d : Bool) (v other : V) (l k : CaseLabel) (labels : List CaseLabel) (st : List ℤ) (met alike : Bool) → are_alike l k ≡ alike
       → Waits base e d v other l met (k ∷ labels) st → Waits base e d v other l (met || alike) labels st
   waits_on base e d v other l k labels st true alike i waits = tt
   waits_on base e d v other l k labels st false true i waits = tt
@@ -270,6 +271,18 @@ module _ (V H : Type 0) (m : Meaning V H) (laws : Laws m) (keeps : ChangesKeep m
         subst
             (λ (z : State). Has m v z.store) (sym e.1) k,
       );
+      fails = λ p e. absurd e;
+    })
+    covers set (aside q Entering) f v r (w, x, (same, exact), is) s k = subst (λ (y : Result V). Covers m (aside q Entering) s y) (sym is) (record {
+      ends = λ t e. subst (λ (z : State). Has m w z.store) (sym e) (subst (λ (y : V). Has m y s.store) (sym same) k);
+      leaves = λ j t e. absurd e;
+      comes = λ p t e. absurd e;
+      fails = λ p e. absurd e;
+    })
+    covers set (aside q (Noting place)) f v r is s k = subst (λ (y : Result V). Covers m (aside q (Noting place)) s y) (sym is) (record {
+      ends = λ t e. subst (λ (z : State). Has m v z.store) (sym e) k;
+      leaves = λ j t e. absurd e;
+      comes = λ p t e. absurd e;
       fails = λ p e. absurd e;
     })
     covers set (act q op) f v r (w, e, done, is) s k = subst (λ (y : Result V). Covers m (act q op) s y) (sym is) (record {

@@ -8,7 +8,8 @@ use Rattle.lra_domain.specs.declared.Exactness.{Exactness}
 use Rattle.lra_base.specs.declared.case_labels.CaseLabel.{CaseLabel}
 use Rattle.lra_base.specs.declared.case_labels.CaseLabel.TheVariants.{Case, Default}
 use Rattle.lra_program.specs.Program.{Expr, Cond}
-use Rattle.lra_operations.specs.Graph.{Exit, broken, continued, returned, Node, empty, point, act, check, seq, choose, iterate, catch, leave, select, Arms}
+use Rattle.lra_operations.specs.declared.asides.Aside.TheVariants.{Entering, Noting}
+use Rattle.lra_operations.specs.Graph.{Exit, broken, continued, returned, Node, empty, point, aside, act, check, seq, choose, iterate, catch, leave, select, Arms}
 use Rattle.lra_operations.specs.Graph.{no_arms, entry, arm, entries_of}
 use Rattle.lra_flow.specs.Plan.{Plan, Widening, mode_at}
 use Rattle.lra_domain.specs.Meaning.{worse}
@@ -17,7 +18,7 @@ use Rattle.lra_domain.specs.Moves.{Moves, stay, make, first_then, join_of}
 use Rattle.lra_flow.specs.Moves.{AreMade}
 use Rattle.lra_flow.specs.MovesOf.{guard, value_moves, moves_of}
 use Rattle.lra_flow.specs.Thresholds.{loop_rows}
-use Rattle.lra_flow.specs.Pass.{Result, noted, jumps, values_behind, behind, AreJoined, Leaves, Through, GoesRound, GoesFrom, Grows, Narrows, Pass, ArmsPass}
+use Rattle.lra_flow.specs.Pass.{Result, noted, jumps, values_behind, behind, AreJoined, Leaves, Through, GoesRound, GoesFrom, Grows, Narrows, Admission, nothing_admitted, PassAmong, ArmsPassAmong, Pass}
 use Rattle.lra_flow.specs.Pass.{ValueIs, MatchesNone, Enters, JoinsRunning, ComesOut, RunsFrom}
 
 -- the answers that matter: with this exactness, with this flag
@@ -133,91 +134,100 @@ module _ (V H : Type 0) (a b : Operations V H) (Keeps : Exactness → Type 0) (F
   runs_from live cap None w h = moves.void live cap w h
   runs_from live cap (Some running) w h = h
 
-  mutual
-    pub passes : (set : Plan) (g : Node) (f : Option ℕ) (v : V) (r : Result V) → Fine r.flag → Pass V H a set g f v r
-        → Fine f × Pass V H (aligned a b) set g f v r
-    passes set empty f v r k is = (subst (λ (x : Result V). Fine x.flag) is k, is)
-    passes set (point q) f v r k is = (subst (λ (x : Result V). Fine x.flag) is k, is)
-    passes set (act q op) f v r k (w, e, h, is) =
-        let p = matters.before q e f (subst (λ (x : Result V). Fine x.flag) is k) in
-        (p.1, (w, e, made (moves_of (a.dims v) op) v e w p.0 h, is))
-    passes set (check q base c) f v r k (u, w, d, e, off, on, is) =
-        let p = matters.before q e (noted q d f) (subst (λ (x : Result V). Fine x.flag) is k) in
-        let o = matters.before q d f p.1 in
-        (o.1, (u, w, d, e, leaves base c false v d u o.0 off, leaves base c true v e w p.0 on, is))
-    passes set (seq x y) f v r k (s, t, one, two, is) =
-        let j = passes set y s.flag s.normal t (subst (λ (z : Result V). Fine z.flag) is k) two in
-        let i = passes set x f v s j.0 one in
-        (i.0, (s, t, i.1, j.1, is))
-    passes set (choose q base c x y) f v r k (on, off, w, d, e, i, s, t, yes_on, one, no_on, two, joined, is) =
-        let p = matters.before q i t.flag (subst (λ (z : Result V). Fine z.flag) is k) in
-        let j = passes set y (noted q e s.flag) off t p.1 two in
-        let o = matters.before q e s.flag j.0 in
-        let l = passes set x (noted q d f) on s o.1 one in
-        let n = matters.before q d f l.0 in (
-          n.1,
-          (
-            on,
-            off,
-            w,
-            d,
-            e,
-            i,
-            s,
-            t,
-            leaves base c true v d on n.0 yes_on,
-            l.1,
-            leaves base c false v e off o.0 no_on,
-            j.1,
-            moves.joined s.normal t.normal
-                i w p.0 joined,
-            is,
-          ),
-        )
-    passes set (iterate q base c x) f v r k (h, later, u, top, out, s, t, e, started, grown, narrowed, off, is) =
-        let p = matters.before q e t.flag (subst (λ (z : Result V). Fine z.flag) is k) in
-        let n = narrows q base c (Pass V H a set x) (Pass V H (aligned a b) set x) (passes set x) set.narrow v u s top t p.1 narrowed in
-        let j = grows q base c (Pass V H a set x) (Pass V H (aligned a b) set x) (passes set x) set.widening set.delay f h later u s n.0 grown in (
-          j.0,
-          (
-            h,
-            later,
-            u,
-            top,
-            out,
-            s,
-            t,
-            e,
-            moves.started v (loop_rows set.widening (a.dims v) base c x) h started,
-            j.1,
+  -- where others act, each answer of the first that matters is one of the second, too
+  module _ (first second : Admission V) (takes : (v : V) (e : Exactness) (w : V) → Keeps e → first v e w → second v e w) where
+    mutual
+      pub passes_among : (set : Plan) (g : Node) (f : Option ℕ) (v : V) (r : Result V) → Fine r.flag → PassAmong V H a first set g f v r
+          → Fine f × PassAmong V H (aligned a b) second set g f v r
+      passes_among set empty f v r k is = (subst (λ (x : Result V). Fine x.flag) is k, is)
+      passes_among set (point q) f v r k is = (subst (λ (x : Result V). Fine x.flag) is k, is)
+      passes_among set (aside q Entering) f v r k (w, e, h, is) =
+          let p = matters.before q e f (subst (λ (x : Result V). Fine x.flag) is k) in
+          (p.1, (w, e, takes v e w p.0 h, is))
+      passes_among set (aside q (Noting place)) f v r k is = (subst (λ (x : Result V). Fine x.flag) is k, is)
+      passes_among set (act q op) f v r k (w, e, h, is) =
+          let p = matters.before q e f (subst (λ (x : Result V). Fine x.flag) is k) in
+          (p.1, (w, e, made (moves_of (a.dims v) op) v e w p.0 h, is))
+      passes_among set (check q base c) f v r k (u, w, d, e, off, on, is) =
+          let p = matters.before q e (noted q d f) (subst (λ (x : Result V). Fine x.flag) is k) in
+          let o = matters.before q d f p.1 in
+          (o.1, (u, w, d, e, leaves base c false v d u o.0 off, leaves base c true v e w p.0 on, is))
+      passes_among set (seq x y) f v r k (s, t, one, two, is) =
+          let j = passes_among set y s.flag s.normal t (subst (λ (z : Result V). Fine z.flag) is k) two in
+          let i = passes_among set x f v s j.0 one in
+          (i.0, (s, t, i.1, j.1, is))
+      passes_among set (choose q base c x y) f v r k (on, off, w, d, e, i, s, t, yes_on, one, no_on, two, joined, is) =
+          let p = matters.before q i t.flag (subst (λ (z : Result V). Fine z.flag) is k) in
+          let j = passes_among set y (noted q e s.flag) off t p.1 two in
+          let o = matters.before q e s.flag j.0 in
+          let l = passes_among set x (noted q d f) on s o.1 one in
+          let n = matters.before q d f l.0 in (
             n.1,
-            leaves base c false top e out
-                p.0 off,
-            is,
-          ),
-        )
-    passes set (catch q kind x) f v r k (w, e, s, one, joined, is) =
-        let p = matters.before q e s.flag (subst Fine (behind_flag kind s w (noted q e s.flag)) (subst (λ (z : Result V). Fine z.flag) is k)) in
-        let i = passes set x f v s p.1 one in
-        (i.0, (w, e, s, i.1, joins (values_behind kind s).0 (values_behind kind s).1 e w p.0 joined, is))
-    passes set (leave n kind) f v r k (w, nothing, is) =
-        (subst Fine (jump_flag kind v w f) (subst (λ (z : Result V). Fine z.flag) is k), (w, moves.void n set.parts w nothing, is))
-    passes set (select q base e arms) f v r k (other, x, none, pass) =
-        let i = arms_pass set q base e _ v other arms (noted q x f) None r k pass in
-        let p = matters.before q x f i.0 in
-        (p.1, (other, x, matches base e (entries_of arms) v x other p.0 none, i.1))
+            (
+              on,
+              off,
+              w,
+              d,
+              e,
+              i,
+              s,
+              t,
+              leaves base c true v d on n.0 yes_on,
+              l.1,
+              leaves base c false v e off o.0 no_on,
+              j.1,
+              moves.joined s.normal t.normal
+                  i w p.0 joined,
+              is,
+            ),
+          )
+      passes_among set (iterate q base c x) f v r k (h, later, u, top, out, s, t, e, started, grown, narrowed, off, is) =
+          let p = matters.before q e t.flag (subst (λ (z : Result V). Fine z.flag) is k) in
+          let n = narrows q base c (PassAmong V H a first set x) (PassAmong V H (aligned a b) second set x) (passes_among set x) set.narrow v u s top t p.1 narrowed in
+          let j = grows q base c (PassAmong V H a first set x) (PassAmong V H (aligned a b) second set x) (passes_among set x) set.widening set.delay f h later u s n.0 grown in (
+            j.0,
+            (
+              h,
+              later,
+              u,
+              top,
+              out,
+              s,
+              t,
+              e,
+              moves.started v (loop_rows set.widening (a.dims v) base c x) h started,
+              j.1,
+              n.1,
+              leaves base c false top e out
+                  p.0 off,
+              is,
+            ),
+          )
+      passes_among set (catch q kind x) f v r k (w, e, s, one, joined, is) =
+          let p = matters.before q e s.flag (subst Fine (behind_flag kind s w (noted q e s.flag)) (subst (λ (z : Result V). Fine z.flag) is k)) in
+          let i = passes_among set x f v s p.1 one in
+          (i.0, (w, e, s, i.1, joins (values_behind kind s).0 (values_behind kind s).1 e w p.0 joined, is))
+      passes_among set (leave n kind) f v r k (w, nothing, is) =
+          (subst Fine (jump_flag kind v w f) (subst (λ (z : Result V). Fine z.flag) is k), (w, moves.void n set.parts w nothing, is))
+      passes_among set (select q base e arms) f v r k (other, x, none, pass) =
+          let i = arms_pass set q base e _ v other arms (noted q x f) None r k pass in
+          let p = matters.before q x f i.0 in
+          (p.1, (other, x, matches base e (entries_of arms) v x other p.0 none, i.1))
 
-    arms_pass : (set : Plan) (q base : ℕ) (e : Expr) (d : Bool) (v other : V) (arms : Arms) (f : Option ℕ) (o : Option V) (r : Result V) → Fine r.flag
-        → ArmsPass V H a set q base e d v other arms f o r → Fine f × ArmsPass V H (aligned a b) set q base e d v other arms f o r
-    arms_pass set q base e d v other no_arms f o r k (w, x, out, is) =
-        let p = matters.before q x f (subst (λ (z : Result V). Fine z.flag) is k) in
-        (p.1, (w, x, comes_out d o other x w p.0 out, is))
-    arms_pass set q base e d v other (entry l arms) f o r k (u, w, x, y, entered, joined, rest) =
-        let i = arms_pass set q base e d v other arms (noted q y (noted q x f)) (Some w) r k rest in
-        let p = matters.before q y (noted q x f) i.0 in
-        let n = matters.before q x f p.1 in
-        (n.1, (u, w, x, y, enters base e l v other x u n.0 entered, runs_on o u y w p.0 joined, i.1))
-    arms_pass set q base e d v other (arm g arms) f o r k (w, s, t, from, one, rest, is) =
-        let j = arms_pass set q base e d v other arms s.flag (Some s.normal) t (subst (λ (z : Result V). Fine z.flag) is k) rest in
-        let i = passes set g f w s j.0 one in
-        (i.0, (w, s, t, runs_from (a.dims v) set.parts o w from, i.1, j.1, is))
+      arms_pass : (set : Plan) (q base : ℕ) (e : Expr) (d : Bool) (v other : V) (arms : Arms) (f : Option ℕ) (o : Option V) (r : Result V) → Fine r.flag
+          → ArmsPassAmong V H a first set q base e d v other arms f o r → Fine f × ArmsPassAmong V H (aligned a b) second set q base e d v other arms f o r
+      arms_pass set q base e d v other no_arms f o r k (w, x, out, is) =
+          let p = matters.before q x f (subst (λ (z : Result V). Fine z.flag) is k) in
+          (p.1, (w, x, comes_out d o other x w p.0 out, is))
+      arms_pass set q base e d v other (entry l arms) f o r k (u, w, x, y, entered, joined, rest) =
+          let i = arms_pass set q base e d v other arms (noted q y (noted q x f)) (Some w) r k rest in
+          let p = matters.before q y (noted q x f) i.0 in
+          let n = matters.before q x f p.1 in
+          (n.1, (u, w, x, y, enters base e l v other x u n.0 entered, runs_on o u y w p.0 joined, i.1))
+      arms_pass set q base e d v other (arm g arms) f o r k (w, s, t, from, one, rest, is) =
+          let j = arms_pass set q base e d v other arms s.flag (Some s.normal) t (subst (λ (z : Result V). Fine z.flag) is k) rest in
+          let i = passes_among set g f w s j.0 one in
+          (i.0, (w, s, t, runs_from (a.dims v) set.parts o w from, i.1, j.1, is))
+
+  pub passes : (set : Plan) (g : Node) (f : Option ℕ) (v : V) (r : Result V) → Fine r.flag → Pass V H a set g f v r → Fine f × Pass V H (aligned a b) set g f v r
+  passes = passes_among nothing_admitted nothing_admitted (λ v e w k h. h)

@@ -12,6 +12,9 @@ pub mod Given
 pub mod Thresholds
 pub mod Pass
 pub mod Analysis
+-- The iteration among others.
+pub mod Among
+pub mod Opened
 -- What can stop a run by a number.
 pub mod Judging
 pub mod Fits

@@ -1,7 +1,7 @@
 -- How many variables live behind a least change, and behind a tree of operations.
 use Rattle.std.specs.Prelude.{ℕ, suc, ◌+◌, ◌-◌, length}
 use Rattle.lra_program.specs.Step.{Op, append, fill, give, give_element, give_any, push, push_for, keep, test}
-use Rattle.lra_operations.specs.Graph.{Node, empty, point, act, check, seq, choose, iterate, catch, leave, select}
+use Rattle.lra_operations.specs.Graph.{Node, empty, aside, point, act, check, seq, choose, iterate, catch, leave, select}
 
 -- how many variables live behind the change of a store with so many
 abbrev pub dims_behind : Op → ℕ → ℕ
@@ -18,6 +18,7 @@ dims_behind (test base c wanted) n = n
 -- so many live behind a tree at whose beginning n live
 abbrev pub live_after : Node → ℕ → ℕ
 live_after empty n = n
+live_after (aside here what) n = n
 live_after (point q) n = n
 live_after (act q op) n = dims_behind op n
 live_after (check q base c) n = n

@@ -10,7 +10,9 @@ use Rattle.lra_domain.specs.declared.Exactness.{Exactness}
 use Rattle.lra_domain.specs.declared.Exactness.TheVariants.{Exact, Flagged}
 use Rattle.lra_program.specs.Program.{Expr, Cond}
 use Rattle.lra_program.specs.Step.{Op}
-use Rattle.lra_operations.specs.Graph.{Exit, broken, continued, returned, Node, empty, point, act, check, seq, choose}
+use Rattle.lra_operations.specs.declared.asides.Aside.TheVariants.{Entering, Noting}
+use Rattle.lra_operations.specs.Graph.{Exit, broken, continued, returned, Node, empty, point, aside, act, check, seq}
+use Rattle.lra_operations.specs.Graph.{choose}
 use Rattle.lra_operations.specs.Graph.{iterate, catch, leave, select, Arms, no_arms, entry, arm, entries_of}
 use Rattle.lra_flow.specs.Plan.{Plan, Widening, mode_at}
 use Rattle.lra_flow.specs.Operations.{Operations}
@@ -25,6 +27,8 @@ pub data Entry (V : Type 0) : Type 0 where
   value : ℕ → V → Entry V
   -- the value where the assertion at the point is false
   failing : ℕ → V → Entry V
+  -- what was there when at the point of the first number the variable at this place had got a value
+  given : ℕ → ℕ → V → Entry V
 
 -- what a pass gives: its entries in the order in which they are found, the value behind the tree, the values of its
 -- jumps in text order, and the point of the first flagged operation, where there is one
@@ -187,50 +191,70 @@ module _ (V H : Type 0) (ops : Operations V H) where
         (next : V) × (t : Result V) × (e : Exactness)
         × ops.joined first s.normal e next × GoesRound (noted q e s.flag) next t × Narrows more first next t v r
 
-abbrev mutual
-  pub Pass : (V H : Type 0) → Operations V H → Plan → Node → Through V
-  Pass V H ops set empty f v r = r ≡ goes_on [] v f
-  Pass V H ops set (point q) f v r = r ≡ goes_on (value q v ∷ []) v f
-  Pass V H ops set (act q op) f v r = (w : V) × (e : Exactness) × Changes ops op v e w ×
-      (r ≡ goes_on [] w (noted q e f))
-  -- where the condition is false, and then where it is true
-  Pass V H ops set (check q base c) f v r =
-      (u w : V) × (d e : Exactness) × Leaves ops base c false v d u × Leaves ops base c true v e w
-      × (r ≡ goes_on (failing q u ∷ []) w (noted q e (noted q d f)))
-  Pass V H ops set (seq a b) f v r =
-      (s t : Result V) × Pass V H ops set a f v s × Pass V H ops set b s.flag s.normal t ×
-      (r ≡ in_turn s t t.normal t.flag)
-  Pass V H ops set (choose q base c a b) f v r =
-      (on off w : V) × (d e i : Exactness) × (s t : Result V)
-      × Leaves ops base c true v d on × Pass V H ops set a (noted q d f) on s
-      × Leaves ops base c false v e off × Pass V H ops set b (noted q e s.flag) off t
-      × ops.joined s.normal t.normal i w × (r ≡ in_turn s t w (noted q i t.flag))
-  Pass V H ops set (iterate q base c a) f v r =
-      (h : H) × (later : List H) × (u top out : V) × (s t : Result V) × (e : Exactness)
-      × ops.started v (loop_rows set.widening (ops.dims v) base c a) h
-      × Grows V H ops q base c (Pass V H ops set a) set.widening set.delay f h later u s
-      × Narrows V H ops q base c (Pass V H ops set a) set.narrow v u s top t
-      × Leaves ops base c false top e out × (r ≡ record t { normal = out; flag = noted q e t.flag })
-  Pass V H ops set (catch q k a) f v r =
-      (w : V) × (e : Exactness) × (s : Result V)
-      × Pass V H ops set a f v s × AreJoined ops (values_behind k s).0 (values_behind k s).1 e w
-      × (r ≡ behind k s w (noted q e s.flag))
-  -- the value that jumps may be cut already; the one that goes on has the dimensions of where the jump stands
-  Pass V H ops set (leave n k) f v r = (w : V) × ops.void n set.parts w × (r ≡ jumps k v w f)
-  -- first the value of no match, then the arms; all that isn't an arm's own belongs to the point q
-  Pass V H ops set (select q base e arms) f v r =
-      (other : V) × (x : Exactness) × MatchesNone ops base e (entries_of arms) v x other ×
-      ArmsPass V H ops set q base e (list_any (are_alike Default) (entries_of arms)) v other arms (noted q x f) None r
+-- what others may do is taken in: of the value before, the exactness, and the value behind
+abbrev pub Admission : Type 0 → Type 1
+Admission V = V → Exactness → V → Type 0
 
-  -- of a `select` from v, with what runs before these arms
-  pub ArmsPass : (V H : Type 0) → Operations V H → Plan → ℕ → ℕ → Expr → Bool → V → V → Arms → Option ℕ → Option V →
-      Result V → Type 0
-  ArmsPass V H ops set q base e has_default v other no_arms f running r =
-      (w : V) × (x : Exactness) × ComesOut ops has_default running other x w × (r ≡ goes_on [] w (noted q x f))
-  ArmsPass V H ops set q base e has_default v other (entry l arms) f running r =
-      (u w : V) × (x y : Exactness) × Enters ops base e l v other x u × JoinsRunning ops running u y w
-      × ArmsPass V H ops set q base e has_default v other arms (noted q y (noted q x f)) (Some w) r
-  ArmsPass V H ops set q base e has_default v other (arm a arms) f running r =
-      (w : V) × (s t : Result V) × RunsFrom ops (ops.dims v) set.parts running w × Pass V H ops set a f w s
-      × ArmsPass V H ops set q base e has_default v other arms s.flag (Some s.normal) t
-      × (r ≡ in_turn s t t.normal t.flag)
+-- nobody does anything
+abbrev pub nothing_admitted : {V : Type 0} → Admission V
+nothing_admitted v e w = (w ≡ v) × (e ≡ Exact)
+
+module _ (V H : Type 0) (ops : Operations V H) (admission : Admission V) where
+  abbrev mutual
+    pub PassAmong : Plan → Node → Through V
+    PassAmong set empty f v r = r ≡ goes_on [] v f
+    PassAmong set (point q) f v r = r ≡ goes_on (value q v ∷ []) v f
+    PassAmong set (aside q Entering) f v r = (w : V) × (e : Exactness) × admission v e w ×
+        (r ≡ goes_on [] w (noted q e f))
+    PassAmong set (aside q (Noting place)) f v r = r ≡ goes_on (given q place v ∷ []) v f
+    PassAmong set (act q op) f v r = (w : V) × (e : Exactness) × Changes ops op v e w ×
+        (r ≡ goes_on [] w (noted q e f))
+    -- where the condition is false, and then where it is true
+    PassAmong set (check q base c) f v r =
+        (u w : V) × (d e : Exactness) × Leaves ops base c false v d u × Leaves ops base c true v e w
+        × (r ≡ goes_on (failing q u ∷ []) w (noted q e (noted q d f)))
+    PassAmong set (seq a b) f v r =
+        (s t : Result V) × PassAmong set a f v s × PassAmong set b s.flag s.normal t ×
+        (r ≡ in_turn s t t.normal t.flag)
+    PassAmong set (choose q base c a b) f v r =
+        (on off w : V) × (d e i : Exactness) × (s t : Result V)
+        × Leaves ops base c true v d on × PassAmong set a (noted q d f) on s
+        × Leaves ops base c false v e off × PassAmong set b (noted q e s.flag) off t
+        × ops.joined s.normal t.normal i w × (r ≡ in_turn s t w (noted q i t.flag))
+    PassAmong set (iterate q base c a) f v r =
+        (h : H) × (later : List H) × (u top out : V) × (s t : Result V) × (e : Exactness)
+        × ops.started v (loop_rows set.widening (ops.dims v) base c a) h
+        × Grows V H ops q base c (PassAmong set a) set.widening set.delay f h later u s
+        × Narrows V H ops q base c (PassAmong set a) set.narrow v u s top t
+        × Leaves ops base c false top e out × (r ≡ record t { normal = out; flag = noted q e t.flag })
+    PassAmong set (catch q k a) f v r =
+        (w : V) × (e : Exactness) × (s : Result V)
+        × PassAmong set a f v s × AreJoined ops (values_behind k s).0 (values_behind k s).1 e w
+        × (r ≡ behind k s w (noted q e s.flag))
+    -- the value that jumps may be cut already; the one that goes on has the dimensions of where the jump stands
+    PassAmong set (leave n k) f v r = (w : V) × ops.void n set.parts w × (r ≡ jumps k v w f)
+    -- first the value of no match, then the arms; all that isn't an arm's own belongs to the point q
+    PassAmong set (select q base e arms) f v r =
+        (other : V) × (x : Exactness) × MatchesNone ops base e (entries_of arms) v x other ×
+        ArmsPassAmong set q base e (list_any (are_alike Default) (entries_of arms)) v other arms (noted q x f) None r
+
+    -- of a `select` from v, with what runs before these arms
+    pub ArmsPassAmong : Plan → ℕ → ℕ → Expr → Bool → V → V → Arms → Option ℕ → Option V →
+        Result V → Type 0
+    ArmsPassAmong set q base e has_default v other no_arms f running r =
+        (w : V) × (x : Exactness) × ComesOut ops has_default running other x w × (r ≡ goes_on [] w (noted q x f))
+    ArmsPassAmong set q base e has_default v other (entry l arms) f running r =
+        (u w : V) × (x y : Exactness) × Enters ops base e l v other x u × JoinsRunning ops running u y w
+        × ArmsPassAmong set q base e has_default v other arms (noted q y (noted q x f)) (Some w) r
+    ArmsPassAmong set q base e has_default v other (arm a arms) f running r =
+        (w : V) × (s t : Result V) × RunsFrom ops (ops.dims v) set.parts running w × PassAmong set a f w s
+        × ArmsPassAmong set q base e has_default v other arms s.flag (Some s.normal) t
+        × (r ≡ in_turn s t t.normal t.flag)
+
+-- where a program runs alone
+abbrev pub Pass : (V H : Type 0) → Operations V H → Plan → Node → Through V
+Pass V H ops = PassAmong V H ops nothing_admitted
+
+abbrev pub ArmsPass : (V H : Type 0) → Operations V H → Plan → ℕ → ℕ → Expr → Bool → V → V → Arms → Option ℕ →
+    Option V → Result V → Type 0
+ArmsPass V H ops = ArmsPassAmong V H ops nothing_admitted

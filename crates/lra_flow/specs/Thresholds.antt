@@ -11,7 +11,7 @@ use Rattle.lra_linear.specs.declared.ConKind.{ConKind}
 use Rattle.lra_base.specs.declared.number_types.NumberType.TheVariants.{Int}
 use Rattle.lra_program.specs.Program.{literal, Cond, compare, nonzero, opposite, both_of, either_of}
 use Rattle.lra_program.specs.Step.{Op, append, fill, give, give_element, give_any, push, push_for, keep, test}
-use Rattle.lra_operations.specs.Graph.{Node, empty, point, act, check, seq, choose, iterate, catch, leave, select}
+use Rattle.lra_operations.specs.Graph.{Node, empty, aside, point, act, check, seq, choose, iterate, catch, leave, select}
 use Rattle.lra_operations.specs.Graph.{Arms, no_arms, entry, arm}
 use Rattle.lra_lin.specs.Form.{Form}
 use Rattle.lra_flow.specs.Linear.{difference_form, variable_form}
@@ -57,6 +57,7 @@ op_rows live (test base c wanted) = condition_rows live base c
 abbrev mutual
   pub rows_in : ℕ → Node → List (List ℤ)
   rows_in live empty = []
+  rows_in live (aside here what) = []
   rows_in live (point q) = []
   rows_in live (act q op) = op_rows live op
   rows_in live (check q base c) = condition_rows live base c
