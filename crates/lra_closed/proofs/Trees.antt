@@ -13,11 +13,13 @@ use Rattle.lra_program.specs.Step.{Op, test}
 use Rattle.lra_domain.specs.declared.Exactness.{Exactness}
 use Rattle.lra_domain.specs.declared.Exactness.TheVariants.{Exact}
 use Rattle.lra_domain.specs.Meaning.{Meaning}
-use Rattle.lra_operations.specs.Graph.{Exit, broken, continued, returned, How, normal, jump, Node, empty, point, act, check, seq, choose, iterate, catch, leave}
+use Rattle.lra_operations.specs.declared.asides.Aside.{Aside}
+use Rattle.lra_operations.specs.declared.asides.Aside.TheVariants.{Entering, Noting}
+use Rattle.lra_operations.specs.Graph.{Exit, broken, continued, returned, How, normal, jump, Node, empty, aside, point, act, check, seq, choose, iterate, catch, leave}
 use Rattle.lra_operations.specs.Graph.{select, Arms, no_arms, entry, arm, entries_of}
 use Rattle.lra_flow.specs.Plan.{Plan}
 use Rattle.lra_flow.specs.Operations.{dropping}
-use Rattle.lra_flow.specs.Pass.{Entry, value, failing, Result, noted, jumps_of, goes_on, jumps, in_turn, first_of_call, values_behind, behind}
+use Rattle.lra_flow.specs.Pass.{Entry, value, failing, given, Result, noted, jumps_of, goes_on, jumps, in_turn, first_of_call, values_behind, behind}
 use Rattle.lra_flow.specs.Pass.{AreJoined, Leaves, Enters, RunsFrom, Narrows, Pass, ArmsPass}
 use Rattle.lra_flow.proofs.Sound.{left_jump, right_jump, jump_there, behind_normal}
 use Rattle.lra_ways.specs.Ways.{Step, does, comes_to, denies, Way, Segment, Suffix, same_exit, through, enter, outs, inside, tested, tested_way}
@@ -89,6 +91,19 @@ module _ (V H X : Type 0) (m : Meaning V H) (o : PointsOf V H X) where
     where
       passes : (h : How) (ops : List Step) → Contains (through empty h) ops → KeptBy m o v ops (IsLeft (goes_on [] v f) h)
       passes normal ops there = one_pass v v [] f [] (itself V H X m o v) ops there
+      passes (jump j) ops there = absurd (contains_none ops there)
+
+  -- what stands beside a program's operations changes no value where it runs alone
+  aside_closed : (q : ℕ) (what : Aside) (v : V) (xs : List (Entry V)) (f : Option ℕ) → IsClosed m o (aside q what) v (goes_on xs v f)
+  aside_closed q what v xs f = record {
+    passes = passes;
+    enters = λ way there. absurd (contains_none way there);
+    leaves = λ h s there. absurd (contains_none s there);
+    goes = λ s there. absurd (contains_none s there);
+  }
+    where
+      passes : (h : How) (ops : List Step) → Contains (through (aside q what) h) ops → KeptBy m o v ops (IsLeft (goes_on xs v f) h)
+      passes normal ops there = one_pass v v [] f xs (itself V H X m o v) ops there
       passes (jump j) ops there = absurd (contains_none ops there)
 
   point_closed : (q : ℕ) (v : V) (f : Option ℕ) → IsClosed m o (point q) v (goes_on (value q v ∷ []) v f)
@@ -347,6 +362,10 @@ module _ (V H X : Type 0) (m : Meaning V H) (o : PointsOf V H X) where
       mutual
         pub tree_closed : (g : Node) (f : Option ℕ) (v : V) (r : Result V) → Pass V H (dropping m) set g f v r → IsClosed m o g v r
         tree_closed empty f v r is = is_same empty v r _ is (empty_closed v f)
+        tree_closed (aside q Entering) f v r (w, e, (same, exact), is) =
+            is_same (aside q Entering) v r _ (is ∙ ap (λ (x : V). goes_on [] x (noted q e f)) same) (aside_closed q Entering v [] (noted q e f))
+        tree_closed (aside q (Noting place)) f v r is =
+            is_same (aside q (Noting place)) v r _ is (aside_closed q (Noting place) v (given q place v ∷ []) f)
         tree_closed (point q) f v r is = is_same (point q) v r _ is (point_closed q v f)
         tree_closed (act q op) f v r (w, e, done, is) =
             is_same (act q op) v r _ is (act_closed q op v w (noted q e f) (change_keeps V H X m o keep op v e w done))

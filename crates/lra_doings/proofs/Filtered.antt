@@ -5,7 +5,7 @@ use Rattle.lra_base.specs.declared.number_types.NumberType.{NumberType}
 use Rattle.lra_program.specs.Receivers.{nobody}
 use Rattle.lra_program.specs.Step.{Op, give, test}
 use Rattle.lra_operations.specs.Asked.{Asked, asking_of, asking_in, asking_in_arms, fresh_behind}
-use Rattle.lra_operations.specs.Graph.{Node, empty, point, act, check, seq, choose, iterate, catch, leave, select}
+use Rattle.lra_operations.specs.Graph.{Node, empty, aside, point, act, check, seq, choose, iterate, catch, leave, select}
 use Rattle.lra_operations.specs.Graph.{Arms, no_arms, entry, arm}
 use Rattle.lra_doings.specs.Doings.{done_of, done_in, done_in_arms}
 
@@ -22,6 +22,7 @@ module _ (asks : Op → Bool) where
   mutual
     pub asking_filtered : (fresh : Option NumberType) (g : Node) → asking_in asks fresh g ≡ filter asked (done_in fresh g)
     asking_filtered fresh empty = refl
+    asking_filtered fresh (aside here what) = refl
     asking_filtered fresh (point q) = refl
     asking_filtered fresh (act q op) = one_filtered q fresh op
     asking_filtered fresh (check q base c) = one_filtered q None (test base c true)

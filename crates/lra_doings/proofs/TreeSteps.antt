@@ -30,7 +30,7 @@ use Rattle.lra_operations.specs.declared.graph.Node.TheVariants as at
 use Rattle.lra_doings.specs.declared.trees.Due.{Due}
 use Rattle.lra_forms.proofs.TreeViews.{act_view, catch_view, check_view, choose_view, empty_view, iterate_view, leave_view, point_view, select_view}
 use Rattle.lra_forms.proofs.TreeViews.{seq_view}
-use Rattle.lra_operations.proofs.ArmViews.{entry_view, tree_view}
+use Rattle.lra_operations.proofs.ArmViews.{arms_first, entry_view, tree_view}
 use Rattle.lra_doings.specs.Due.{due_view, due_before, all_due, apart_before, due_size, all_left, fresh_at, own_done, own_of, trees_of, IsOnWay, IsOpened}
 
 -- what is due ------------------------------------------------------------------------------------------------------------
@@ -248,15 +248,12 @@ pub no_arms_ask : (fresh : Option NumberType) (r : Node) (arms : List Arm) → a
     → done_in fresh (seq (trees_of (arms_of (map arm_view arms))) r) ≡ done_in fresh r
 no_arms_ask fresh r arms is = ap (λ (xs : List Arm). done_in fresh (seq (trees_of (arms_of (map arm_view xs))) r)) is
 
-arms_seen : (arms behind : List Arm) (a : Arm) → arms ≡ a ∷ behind → arms_of (map arm_view arms) ≡ arm_view a (arms_of (map arm_view behind))
-arms_seen arms behind a is = ap (λ (xs : List Arm). arms_of (map arm_view xs)) is
-
 pub entry_asks : (fresh : Option NumberType) (r h : Node) (arms behind : List Arm) (a : Arm) (l : CaseLabel) → arms ≡ a ∷ behind → a ≡ Entry l
     → h ≡ seq (trees_of (arms_of (map arm_view behind))) r → done_in fresh (seq (trees_of (arms_of (map arm_view arms))) r) ≡ done_in fresh h
 entry_asks fresh r h arms behind a l is entry_is due =
     let all = arms_of (map arm_view behind) in
     let seen : arms_of (map arm_view arms) ≡ entry l all =
-    arms_seen arms behind a is ∙ ap (λ (x : Arm). arm_view x all) entry_is ∙ ap (λ (f : ArmPart). f all) (entry_view l) in
+    arms_first arms behind a is ∙ ap (λ (x : Arm). arm_view x all) entry_is ∙ ap (λ (f : ArmPart). f all) (entry_view l) in
     ap (λ (x : Arms). done_in fresh (seq (trees_of x) r)) seen ∙ ap (done_in fresh) (sym due)
 
 pub tree_asks : (fresh : Option NumberType) (r h : Node) (arms behind : List Arm) (a : Arm) (n : declared.Node) → arms ≡ a ∷ behind → a ≡ Tree n
@@ -267,7 +264,7 @@ tree_asks fresh r h arms behind a n is tree_is due =
     let f = node_view n in
     let g = trees_of all in
     let seen : arms_of (map arm_view arms) ≡ arm f all =
-    arms_seen arms behind a is ∙ ap (λ (x : Arm). arm_view x all) tree_is ∙ ap (λ (p : ArmPart). p all) (tree_view n) in
+    arms_first arms behind a is ∙ ap (λ (x : Arm). arm_view x all) tree_is ∙ ap (λ (p : ArmPart). p all) (tree_view n) in
     ap (λ (x : Arms). done_in fresh (seq (trees_of x) r)) seen
     ∙ append_assoc (done_in fresh f) (done_in (fresh_behind fresh f) g) (done_in (fresh_behind (fresh_behind fresh f) g) r)
     ∙ ap (λ (w : Node). done_in fresh (seq f w)) (sym due)

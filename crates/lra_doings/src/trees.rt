@@ -116,6 +116,7 @@ fn open_node<'a>(left: &mut Vec<Due<'a>>, node: &'a Node) -> Result<(), AllocErr
         Node::Select(_, _, _, arms) => push_selection(left, arms.as_slice()),
         Node::Empty => Ok(()),
         Node::Point(_) => Ok(()),
+        Node::Aside(_, _) => Ok(()),
         Node::Act(_, _) => Ok(()),
         Node::Check(_, _, _) => Ok(()),
         Node::Leave(_, _) => Ok(()),
@@ -130,6 +131,7 @@ fn fresh_at(fresh: Option<NumberType>, node: &Node) -> Option<NumberType>
         Node::Empty => fresh,
         Node::Seq(_, _) => fresh,
         Node::Act(_, op) => fresh_of(op),
+        Node::Aside(_, _) => fresh,
         Node::Point(_) => None,
         Node::Check(_, _, _) => None,
         Node::Choose(_, _, _, _, _) => None,
@@ -183,6 +185,7 @@ fn list_own<'a>(
         }
         Node::Empty => Ok(()),
         Node::Point(_) => Ok(()),
+        Node::Aside(_, _) => Ok(()),
         Node::Seq(_, _) => Ok(()),
         Node::Catch(_, _, _) => Ok(()),
         Node::Leave(_, _) => Ok(()),

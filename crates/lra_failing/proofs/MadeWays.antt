@@ -10,7 +10,8 @@ use Rattle.lra_base.specs.CaseLabels.{are_alike}
 use Rattle.lra_program.specs.Program.{Expr, Cond}
 use Rattle.lra_program.specs.Sites.{Site}
 use Rattle.lra_program.specs.Step.{Op, test}
-use Rattle.lra_operations.specs.Graph.{Exit, broken, continued, returned, How, normal, jump, Node, empty, point, act, check, seq, choose, iterate, catch}
+use Rattle.lra_operations.specs.declared.asides.Aside.{Aside}
+use Rattle.lra_operations.specs.Graph.{Exit, broken, continued, returned, How, normal, jump, Node, empty, aside, point, act, check, seq, choose, iterate, catch}
 use Rattle.lra_operations.specs.Graph.{leave, select, Arms, no_arms, entry, arm, entries_of}
 use Rattle.lra_operations.proofs.ArmRows.{arms_row}
 use Rattle.lra_flow.specs.Live.{dims_behind, live_after}
@@ -118,6 +119,18 @@ module _ (T : List Site) where
       passes : (h : How) → All (PassFits empty n h) (through empty h)
       passes normal = all_one (PassFits empty n normal) [] (n, refl, refl)
       passes (jump j) = All-nil (PassFits empty n (jump j))
+
+  fit_aside : (q : ℕ) (what : Aside) (n : ℕ) → WaysFit (aside q what) n
+  fit_aside q what n = record {
+    passes = passes;
+    enters = All-nil (WayFits n);
+    leaves = λ h. All-nil (LeftFits (aside q what) n h);
+    goes_on = All-nil SegmentFits;
+  }
+    where
+      passes : (h : How) → All (PassFits (aside q what) n h) (through (aside q what) h)
+      passes normal = all_one (PassFits (aside q what) n normal) [] (n, refl, refl)
+      passes (jump j) = All-nil (PassFits (aside q what) n (jump j))
 
   fit_point : (q n : ℕ) → LiveAt T q n → WaysFit (point q) n
   fit_point q n here = record {
@@ -447,6 +460,7 @@ module _ (T : List Site) where
   mutual
     pub tree_ways : (g : Node) (n : ℕ) → n ≤ most_live → TreeFits g n → PointsHave T g n → WaysFit g n
     tree_ways empty n few fits have = fit_empty n
+    tree_ways (aside here what) n few fits have = fit_aside here what n
     tree_ways (point q) n few fits have = fit_point q n have
     tree_ways (act q op) n few fits have = fit_act q op n few fits
     tree_ways (check q base c) n few fits have = fit_check q base c n few

@@ -127,6 +127,7 @@ then_taken s t u xs ys a b = taken_both s t u xs (ys s.dims) a (subst (λ (n : �
 -- a loop gives its condition's rows and those of a round
 pub iterate_rows : (live q base : ℕ) (c : Cond) (a : graph.Node) → rows_in live (graph.iterate q base c a) ≡ condition_rows live base c ++ round_rows live a
 iterate_rows live q base c graph.empty = refl
+iterate_rows live q base c (graph.aside here what) = refl
 iterate_rows live q base c (graph.point p) = refl
 iterate_rows live q base c (graph.act p op) = refl
 iterate_rows live q base c (graph.check p b d) = refl

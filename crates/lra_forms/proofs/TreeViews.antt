@@ -6,9 +6,10 @@ use Rattle.std.specs.List.{flat_map}
 use Rattle.std.proofs.lemmas.List.{drop_all, drop_more}
 use Rattle.lra_sys.specs.Listed.{Listed}
 use Rattle.lra_linear.specs.declared.ConKind.{ConKind}
+use Rattle.lra_operations.specs.declared.asides.Aside as aside
 use Rattle.lra_operations.specs.declared.graph.Exit.{Exit}
 use Rattle.lra_operations.specs.declared.graph.Op.{Op}
-use Rattle.lra_operations.specs.declared.graph.Node.{Node, Empty, Point, Act, Check, Seq, Choose, Iterate, Catch, Leave, Select, the_lemmas}
+use Rattle.lra_operations.specs.declared.graph.Node.{Node, Empty, Point, Aside, Act, Check, Seq, Choose, Iterate, Catch, Leave, Select, the_lemmas}
 use Rattle.lra_operations.specs.declared.graph.Arm.{Arm}
 use Rattle.lra_operations.specs.declared.graph.Arm.TheVariants.{Entry, Tree}
 use Rattle.lra_base.specs.declared.case_labels.CaseLabel.{CaseLabel}
@@ -27,6 +28,9 @@ empty_view = search (rules, the_lemmas)
 
 pub point_view : (q : ℕ) → node_view (Point q) ≡ graph.point q
 point_view q = search (rules, the_lemmas)
+
+pub aside_view : (q : ℕ) (what : aside.Aside) → node_view (Aside q what) ≡ graph.aside q what
+aside_view q what = search (rules, the_lemmas)
 
 pub act_view : (q : ℕ) (o : Op) → node_view (Act q o) ≡ graph.act q (op_view o)
 act_view q o = search (rules, the_lemmas)

@@ -13,7 +13,7 @@ use Rattle.lra_program.specs.Value.{Drawn, truth_of}
 use Rattle.lra_program.specs.Step.{State, run_op, test, tested, kept_if, scene_at}
 use Rattle.lra_program.specs.Step as step
 use Rattle.lra_program.specs.Trails.{passes, Trail, Alone}
-use Rattle.lra_operations.specs.Graph.{Exit, broken, continued, returned, normal, jump, Node, empty, point, act, check, seq, choose, iterate, catch, leave}
+use Rattle.lra_operations.specs.Graph.{Exit, broken, continued, returned, normal, jump, Node, empty, aside, point, act, check, seq, choose, iterate, catch, leave}
 use Rattle.lra_operations.specs.Graph.{select, Arms, no_arms, entry, arm, entries_of}
 use Rattle.lra_operations.specs.Trails.{Stop, by_jump, to_point, to_failure, IsPoint, Outcome, to_end, stopped, Goes, Tests, TrailRounds}
 use Rattle.lra_operations.proofs.ArmRows.{arms_row, row_behind, row_of_behind, behind_of_row}
@@ -385,6 +385,8 @@ module _ {A : Type 0} (name : ℕ → A) where
   mutual
     pub came : (g : Node) (a : Trail A) (u : Outcome) (b : Trail A) → G g a u b → HasGone name g a u b
     came empty a u b x = came_empty a u b x
+    came (aside here what) a to_end b e = along_first [] (ap (λ (t : Trail A). t.met) e) (contains_head _ []) (ap (λ (t : Trail A). t.state) e)
+    came (aside here what) a (stopped z) b x = absurd x
     came (point q) a to_end b (e, i) = along_next q a.state a.met [] i (refl, refl) (contains_head _ []) e
     came (point q) a (stopped (by_jump j)) b (i, e) = absurd i
     came (point q) a (stopped (to_failure r)) b (i, e) = absurd i

@@ -9,7 +9,8 @@ use Rattle.lra_base.specs.declared.number_types.NumberType.{NumberType}
 use Rattle.lra_program.specs.declared.receivers.Receiver.{Receiver}
 use Rattle.lra_program.specs.Step.{Op}
 use Rattle.lra_program.specs.Value.{Argument}
-use Rattle.lra_operations.specs.Graph.{Exit, broken, continued, returned, Node, empty, point, act, check, seq, choose, iterate, catch, leave}
+use Rattle.lra_operations.specs.declared.asides.Aside.TheVariants.{Entering, Noting}
+use Rattle.lra_operations.specs.Graph.{Exit, broken, continued, returned, Node, empty, aside, point, act, check, seq, choose, iterate, catch, leave}
 use Rattle.lra_operations.specs.Graph.{select, Arms, no_arms, entry, arm}
 use Rattle.lra_program.specs.Sites.{Site, sites_of}
 use Rattle.lra_operations.specs.Inlined.{Spot, move, HasSite, Inl, InlAll, Declares, Loops, Gives, as_nothing, as_block, as_absent, as_assign, as_call, as_if, as_loop, as_for, as_break, as_continue}
@@ -136,6 +137,8 @@ module _ (V H : Type 0) (ops : Operations V H) (n : ℕ) where
   mutual
     pub pass_below : (set : Plan) (g : Node) (f : Option ℕ) (v : V) (r : Result V) → Pass V H ops set g f v r → AreBelow n g → IsBelow n f → IsBelow n r.flag
     pass_below set empty f v r is a b = result_is r _ is b
+    pass_below set (aside q Entering) f v r (w, e, done, is) a b = result_is r _ is (noted_below n q e f a b)
+    pass_below set (aside q (Noting place)) f v r is a b = result_is r _ is b
     pass_below set (point q) f v r is a b = result_is r _ is b
     pass_below set (act q op) f v r (w, e, done, is) a b = result_is r _ is (noted_below n q e f a b)
     pass_below set (check q base c) f v r (u, w, d, e, off, on, is) a b = result_is r _ is (noted_below n q e (noted q d f) a (noted_below n q d f a b))

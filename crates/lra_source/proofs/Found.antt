@@ -14,7 +14,7 @@ use Rattle.lra_program.specs.Program.{Program}
 use Rattle.lra_program.specs.Receivers.{nobody}
 use Rattle.lra_program.specs.Sites.{Site}
 use Rattle.lra_program.specs.Step.{State, Op, give, test}
-use Rattle.lra_operations.specs.Graph.{Node, empty, point, act, check, seq, choose, iterate, catch, leave}
+use Rattle.lra_operations.specs.Graph.{Node, empty, aside, point, act, check, seq, choose, iterate, catch, leave}
 use Rattle.lra_operations.specs.Graph.{select, Arms, no_arms, entry, arm}
 use Rattle.lra_operations.specs.Asked.{Asked, AsksFor, asking_of, asking_in, asking_in_arms, fresh_behind}
 use Rattle.lra_flow.specs.Operations.{Operations}
@@ -70,6 +70,7 @@ module _ (asks : Op → Bool) where
     mutual
       pub asked_one : (g : Node) (fresh : Option NumberType) → AreBelow n g → (a : Asked) → Contains (asking_in asks fresh g) a → IsOneOf a
       asked_one empty fresh low a h = absurd (contains_none a h)
+      asked_one (aside here what) fresh low a h = absurd (contains_none a h)
       asked_one (point q) fresh low a h = absurd (contains_none a h)
       asked_one (act q op) fresh low a h = one_of q fresh op low a h
       asked_one (check q base c) fresh low a h = one_of q None (test base c true) low a h

@@ -7,7 +7,7 @@ use Rattle.lra_base.specs.declared.case_labels.CaseLabel.TheVariants.{Default}
 use Rattle.lra_base.specs.CaseLabels.{are_alike}
 use Rattle.lra_program.specs.Program.{Expr, Cond}
 use Rattle.lra_program.specs.Step.{Op, test}
-use Rattle.lra_operations.specs.Graph.{Exit, broken, continued, returned, How, normal, jump, Node, empty, point, act, check, seq, choose, iterate, catch, leave}
+use Rattle.lra_operations.specs.Graph.{Exit, broken, continued, returned, How, normal, jump, Node, empty, aside, point, act, check, seq, choose, iterate, catch, leave}
 use Rattle.lra_operations.specs.Graph.{select, Arms, no_arms, entry, arm, entries_of}
 use Rattle.lra_operations.proofs.ArmRows.{arms_row}
 use Rattle.lra_ways.specs.Ways.{Step, does, Goal, comes_to, Way, Segment, Suffix, same_exit, each_then}
@@ -725,6 +725,7 @@ select_ways q base e arms row labels a b =
 mutual
   pub are_ways : (g : Node) → AreWays (stretches g) g
   are_ways empty = empty_ways
+  are_ways (aside here what) = record { passes = empty_passes; enters = refl; goes = empty_goes; meets = refl }
   are_ways (point q) = record { passes = λ w. refl; enters = refl; goes = point_goes q; meets = refl }
   are_ways (act q op) = record { passes = act_passes q op; enters = refl; goes = act_goes q op; meets = refl }
   are_ways (check q base c) = record { passes = check_passes q base c; enters = refl; goes = check_goes q base c; meets = refl }

@@ -20,6 +20,7 @@ use Rattle.lra_operations.specs.declared.graph.Arm.TheVariants as armed
 use Rattle.lra_operations.specs.declared.graph.Exit as declared_exit
 use Rattle.lra_operations.specs.declared.graph.Node as declared
 use Rattle.lra_operations.specs.declared.graph.Op as declared_op
+use Rattle.lra_operations.specs.declared.asides.Aside.{Aside}
 use Rattle.lra_operations.specs.declared.graph.Node.{the_lemmas as node_lemmas, Node-F, out-Node, roll-Node, roll-out-Node}
 use Rattle.lra_operations.specs.declared.graph.Node.TheVariants as at
 use Rattle.lra_operations.proofs.ArmViews.{entry_view, tree_view}
@@ -107,6 +108,9 @@ steps_empty = search (rules, node_lemmas)
 steps_point : (q : ℕ) → steps_of (at.Point q) ≡ 1
 steps_point q = search (rules, node_lemmas)
 
+steps_aside : (q : ℕ) (what : Aside) → steps_of (at.Aside q what) ≡ 1
+steps_aside q what = search (rules, node_lemmas)
+
 steps_act : (q : ℕ) (o : declared_op.Op) → steps_of (at.Act q o) ≡ 1
 steps_act q o = search (rules, node_lemmas)
 
@@ -150,6 +154,7 @@ module _ (n : declared.Node)
   unfolding roll-Node denote.Hole.Carrier.roll
   opened_is_leaf Node-F.Empty e = ap steps_of e ∙ steps_empty
   opened_is_leaf (Node-F.Point q) e = ap steps_of e ∙ steps_point q
+  opened_is_leaf (Node-F.Aside q what) e = ap steps_of e ∙ steps_aside q what
   opened_is_leaf (Node-F.Act q o) e = ap steps_of e ∙ steps_act q o
   opened_is_leaf (Node-F.Check q base c) e = ap steps_of e ∙ steps_check q base c
   opened_is_leaf (Node-F.Seq gs b) e = absurd (no_seq gs b e)
@@ -169,6 +174,7 @@ more_steps : (n k : ℕ) → n ≡ 1 → n ≡ 2 + k → ⊥
 more_steps n k one is = omega (arith, one, is)
 
 module _ (n : declared.Node) (leaf : steps_of n ≡ 1) (no_empty : n ≡ at.Empty → ⊥) (no_point : (q : ℕ) → n ≡ at.Point q → ⊥)
+    (no_aside : (q : ℕ) (what : Aside) → n ≡ at.Aside q what → ⊥)
     (no_act : (q : ℕ) (o : declared_op.Op) → n ≡ at.Act q o → ⊥)
     (no_check : (q base : ℕ) (c : Cond) → n ≡ at.Check q base c → ⊥)
     (no_leave : (m : ℕ) (k : declared_exit.Exit) → n ≡ at.Leave m k → ⊥) where
@@ -176,6 +182,7 @@ module _ (n : declared.Node) (leaf : steps_of n ≡ 1) (no_empty : n ≡ at.Empt
   unfolding roll-Node denote.Hole.Carrier.roll
   opened_is_none Node-F.Empty e = no_empty e
   opened_is_none (Node-F.Point q) e = no_point q e
+  opened_is_none (Node-F.Aside q what) e = no_aside q what e
   opened_is_none (Node-F.Act q o) e = no_act q o e
   opened_is_none (Node-F.Check q base c) e = no_check q base c e
   opened_is_none (Node-F.Seq gs b) e = more_steps (steps_of n) _ leaf (ap steps_of e ∙ steps_seq gs b)

@@ -8,7 +8,7 @@ use Rattle.lra_base.specs.declared.case_labels.CaseLabel.TheVariants.{Default}
 use Rattle.lra_base.specs.CaseLabels.{are_alike}
 use Rattle.lra_program.specs.Program.{Cond}
 use Rattle.lra_program.specs.Step.{test}
-use Rattle.lra_operations.specs.Graph.{Exit, How, normal, jump, Node, empty, point, act}
+use Rattle.lra_operations.specs.Graph.{Exit, How, normal, jump, Node, empty, aside, point, act}
 use Rattle.lra_operations.specs.Graph.{check, seq, choose, iterate, catch, leave, select}
 use Rattle.lra_operations.specs.Graph.{Arms, no_arms, entry, arm, entries_of}
 use Rattle.lra_ways.specs.Ways.{Step, does, Goal, comes_to, denies, Way, Segment, Suffix, same_exit, goes_in}
@@ -136,6 +136,7 @@ selected row from_labels = from_labels ++ others starting row
 abbrev mutual
   pub stretches : Node → List Stretch
   stretches empty = nothing_done
+  stretches (aside here what) = nothing_done
   stretches (point q) = stretch None [] (meets (comes_to q)) ∷ stretch (Some q) [] (leaves normal) ∷ []
   stretches (act q op) = stretch None (does op ∷ []) (leaves normal) ∷ []
   stretches (check q base c) = stretch None (does (test base c true) ∷ []) (leaves normal)

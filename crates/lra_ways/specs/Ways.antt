@@ -8,7 +8,7 @@ use Rattle.lra_base.specs.CaseLabels.{are_alike, goal_of}
 use Rattle.lra_program.specs.Program.{Expr, Cond}
 use Rattle.lra_program.specs.Value.{value_of}
 use Rattle.lra_program.specs.Step.{State, scene_at, Op, run_op, test}
-use Rattle.lra_operations.specs.Graph.{Exit, broken, continued, returned, How, normal, jump, Node, empty, point, act}
+use Rattle.lra_operations.specs.Graph.{Exit, broken, continued, returned, How, normal, jump, Node, empty, aside, point, act}
 use Rattle.lra_operations.specs.Graph.{check, seq, choose, iterate, catch, leave, select}
 use Rattle.lra_operations.specs.Graph.{Arms, no_arms, entry, arm, entries_of}
 
@@ -108,7 +108,9 @@ abbrev mutual
   -- through the tree past no point, left so
   pub through : Node → How → List (List Step)
   through empty normal = [] ∷ []
+  through (aside here what) normal = [] ∷ []
   through empty (jump j) = []
+  through (aside here what) (jump j) = []
   through (point q) h = []
   through (act q op) normal = (does op ∷ []) ∷ []
   through (act q op) (jump j) = []
@@ -144,6 +146,7 @@ abbrev mutual
   -- from the tree's start to a first point, or to where an assertion before that is false
   pub enter : Node → List Way
   enter empty = []
+  enter (aside here what) = []
   enter (point q) = record { ops = []; goal = comes_to q } ∷ []
   enter (act q op) = []
   enter (check q base c) = record { ops = does (test base c false) ∷ []; goal = denies q } ∷ []
@@ -168,6 +171,7 @@ abbrev mutual
   -- from the points of the tree out of it, left so
   pub outs : Node → How → List Suffix
   outs empty h = []
+  outs (aside here what) h = []
   outs (point q) normal = record { source = q; ops = [] } ∷ []
   outs (point q) (jump j) = []
   outs (act q op) h = []
@@ -194,6 +198,7 @@ abbrev mutual
   -- from the points of the tree to the next ones
   pub inside : Node → List Segment
   inside empty = []
+  inside (aside here what) = []
   inside (point q) = []
   inside (act q op) = []
   inside (check q base c) = []

@@ -361,6 +361,7 @@ fn put_leaf<'g>(
     match node {
         Node::Empty => put_short(alloc, None, End::Leaves(How::Normal), done),
         Node::Point(point) => put_point(alloc, *point, done),
+        Node::Aside(_, _) => put_short(alloc, None, End::Leaves(How::Normal), done),
         Node::Act(_, op) => put_short(
             alloc,
             Some(Move::Change(op)),
