@@ -1,14 +1,18 @@
 -- A pass from the same value again: only the first flagged point can differ, and that is told by what was flagged before.
 use Rattle.std.proofs.Common.{◌≡◌, ℕ, zero, suc, ◌-◌, Bool, true, List, [], ◌∷◌, Option, Some, None, refl, sym, ap, subst, ◌∙◌}
 use Rattle.lra_domain.specs.declared.Exactness.{Exactness}
+use Rattle.lra_others.specs.Others.{Others}
 use Rattle.lra_domain.specs.Meaning.{Meaning}
 use Rattle.lra_program.specs.Program.{Expr, Cond}
-use Rattle.lra_operations.specs.Graph.{Exit, broken, continued, returned, Node, empty, point, act, check, seq, choose, iterate, catch, leave}
+use Rattle.lra_operations.specs.declared.asides.Aside.TheVariants.{Entering, Noting}
+use Rattle.lra_operations.specs.Graph.{Exit, broken, continued, returned, Node, empty, point, aside, act, check, seq, choose, iterate, catch, leave}
 use Rattle.lra_operations.specs.Graph.{select, Arms, no_arms, entry, arm}
 use Rattle.lra_flow.specs.Plan.{Plan, Widening}
 use Rattle.lra_flow.specs.Operations.{Operations, dropping}
-use Rattle.lra_flow.specs.Pass.{AreJoined, Leaves, Result, noted, jumps, values_behind, behind, Through, GoesRound, Grows, Narrows, Pass, ArmsPass}
-use Rattle.lra_flow.proofs.Transfer.{Matters, Transfers, passes}
+use Rattle.lra_flow.specs.Among.{admitted, DerivedPass}
+use Rattle.lra_flow.specs.Pass.{AreJoined, Leaves, Result, noted, jumps, values_behind, behind, Through, GoesRound, Grows, Narrows}
+use Rattle.lra_flow.specs.Pass.{Admission, PassAmong, ArmsPassAmong}
+use Rattle.lra_flow.proofs.Transfer.{Matters, Transfers, passes_among}
 use Rattle.lra_flow.specs.Live.{live_after}
 use Rattle.lra_outcomes.specs.declared.outcome.Turn.{Turn}
 use Rattle.lra_outcomes.specs.Outcome.{seen, AreKept, EntersWith, IsEntered, IsKept, IsPassed, IsTurned, JumpsFit}
@@ -35,7 +39,7 @@ jump_again p broken v w f = refl
 jump_again p continued v w f = refl
 jump_again p returned v w f = refl
 
-module _ (V H : Type 0) (ops : Operations V H) (set : Plan) (p : ℕ) where
+module _ (V H : Type 0) (ops : Operations V H) (admission : Admission V) (set : Plan) (p : ℕ) where
   module _ (q base : ℕ) (c : Cond) (body : Through V) (inside : (f : Option ℕ) (v : V) (r : Result V) → body f v r → body (Some p) v (flagged_at p r)) where
     round_again : (f : Option ℕ) (v : V) (r : Result V) → GoesRound V H ops q base c body f v r → GoesRound V H ops q base c body (Some p) v (flagged_at p r)
     round_again f v r (w, e, s, on, turn, is) = (w, e, flagged_at p s, on, inside (noted q e f) w s turn, ap (flagged_at p) is)
@@ -54,8 +58,11 @@ module _ (V H : Type 0) (ops : Operations V H) (set : Plan) (p : ℕ) where
 
   mutual
     -- under a flagged point
-    pub passed_again : (g : Node) (f : Option ℕ) (v : V) (r : Result V) → Pass V H ops set g f v r → Pass V H ops set g (Some p) v (flagged_at p r)
+    pub passed_again : (g : Node) (f : Option ℕ) (v : V) (r : Result V) → PassAmong V H ops admission set g f v r
+        → PassAmong V H ops admission set g (Some p) v (flagged_at p r)
     passed_again empty f v r is = ap (flagged_at p) is
+    passed_again (aside q Entering) f v r (w, e, taken, is) = (w, e, taken, ap (flagged_at p) is)
+    passed_again (aside q (Noting place)) f v r is = ap (flagged_at p) is
     passed_again (point q) f v r is = ap (flagged_at p) is
     passed_again (act q op) f v r (w, e, done, is) = (w, e, done, ap (flagged_at p) is)
     passed_again (check q base c) f v r (u, w, d, e, off, on, is) = (u, w, d, e, off, on, ap (flagged_at p) is)
@@ -93,8 +100,8 @@ module _ (V H : Type 0) (ops : Operations V H) (set : Plan) (p : ℕ) where
       flagged_at p t,
       e,
       started,
-      grows_again q base c (Pass V H ops set a) (passed_again a) set.widening set.delay f h later u s grown,
-      narrows_again q base c (Pass V H ops set a) (passed_again a) set.narrow v u s top t narrowed,
+      grows_again q base c (PassAmong V H ops admission set a) (passed_again a) set.widening set.delay f h later u s grown,
+      narrows_again q base c (PassAmong V H ops admission set a) (passed_again a) set.narrow v u s top t narrowed,
       off,
       ap (flagged_at p) is,
     )
@@ -110,7 +117,8 @@ module _ (V H : Type 0) (ops : Operations V H) (set : Plan) (p : ℕ) where
     passed_again (select q base e arms) f v r (other, x, none, pass) = (other, x, none, arms_again q base e _ v other arms (noted q x f) None r pass)
 
     arms_again : (q base : ℕ) (e : Expr) (d : Bool) (v other : V) (arms : Arms) (f : Option ℕ) (running : Option V) (r : Result V)
-        → ArmsPass V H ops set q base e d v other arms f running r → ArmsPass V H ops set q base e d v other arms (Some p) running (flagged_at p r)
+        → ArmsPassAmong V H ops admission set q base e d v other arms f running r
+        → ArmsPassAmong V H ops admission set q base e d v other arms (Some p) running (flagged_at p r)
     arms_again q base e d v other no_arms f running r (w, x, out, is) = (w, x, out, ap (flagged_at p) is)
     arms_again q base e d v other (entry l arms) f running r (u, w, x, y, enters, joins, rest) =
         (u, w, x, y, enters, joins, arms_again q base e d v other arms (noted q y (noted q x f)) (Some w) r rest)
@@ -144,53 +152,60 @@ same_ones ops = record {
   void = λ n cap v s. s;
 }
 
-pub none_before : {V H : Type 0} (ops : Operations V H) (set : Plan) (g : Node) (f : Option ℕ) (v : V) (r : Result V) → r.flag ≡ None → Pass V H ops set g f v r → f ≡ None
-none_before {V} {H} ops set g f v r none pass = (passes V H ops ops (λ e. Unit {0}) (λ f. f ≡ None) none_matters (same_ones ops) set g f v r none pass).0
+pub none_before : {V H : Type 0} (ops : Operations V H) (admission : Admission V) (set : Plan) (g : Node) (f : Option ℕ)
+    (v : V) (r : Result V) → r.flag ≡ None → PassAmong V H ops admission set g f v r → f ≡ None
+none_before {V} {H} ops admission set g f v r none pass =
+    (passes_among V H ops ops (λ e. Unit {0}) (λ f. f ≡ None) none_matters (same_ones ops) admission admission
+    (λ v e w k h. h) set g f v r none pass).0
 
 with_flag : {V : Type 0} (r : Result V) (f : Option ℕ) → r.flag ≡ f → r ≡ record r { flag = f }
 with_flag r f is = ap (λ (x : Option ℕ). record r { flag = x }) is
 
-module _ {V H : Type 0} (m : Meaning V H) (set : Plan) (g : Node) where
+module _ {V H : Type 0} (o : Others V) (m : Meaning V H) (set : Plan) (g : Node) where
   -- a kept result is that of a pass, with what is flagged so far
-  pub kept_passed : (f : Option ℕ) (v : V) (r : Result V) → IsKept m set g f v r → IsPassed m set g f v (record r { flag = f })
+  pub kept_passed : (f : Option ℕ) (v : V) (r : Result V) → IsKept o m set g f v r → IsPassed o m set g f v (record r { flag = f })
   kept_passed (Some p) v r kept =
       let done = kept.passed in
-      record { pass = passed_again V H (dropping m) set p g kept.before v r done.pass; dims = done.dims; jumps = same_jumps_fit m g (m.dims v) r _ refl refl refl done.jumps }
+      record {
+        pass = passed_again V H (dropping m) (admitted o m) set p g kept.before v r done.pass;
+        dims = done.dims;
+        jumps = same_jumps_fit m g (m.dims v) r _ refl refl refl done.jumps;
+      }
   kept_passed None v r kept =
       let none = kept.unflagged refl in
-      let begins = none_before (dropping m) set g kept.before v r none kept.passed.pass in
-      subst (λ (x : Result V). IsPassed m set g None v x) (with_flag r None none) (subst (λ (x : Option ℕ). IsPassed m set g x v r) begins kept.passed)
+      let begins = none_before (dropping m) (admitted o m) set g kept.before v r none kept.passed.pass in
+      subst (λ (x : Result V). IsPassed o m set g None v x) (with_flag r None none) (subst (λ (x : Option ℕ). IsPassed o m set g x v r) begins kept.passed)
 
   -- it stays kept behind a further operation
-  pub kept_noted : (q : ℕ) (e : Exactness) (f : Option ℕ) (v : V) (r : Result V) → IsKept m set g f v r → IsKept m set g (noted q e f) v r
+  pub kept_noted : (q : ℕ) (e : Exactness) (f : Option ℕ) (v : V) (r : Result V) → IsKept o m set g f v r → IsKept o m set g (noted q e f) v r
   kept_noted q e f v r kept = record { before = kept.before; passed = kept.passed; unflagged = λ none. kept.unflagged (none_noted q e f none) }
 
   -- a pass may be given again as long as its own flag counts
-  pub passed_kept : (f : Option ℕ) (v : V) (r : Result V) → IsPassed m set g f v r → IsKept m set g r.flag v r
+  pub passed_kept : (f : Option ℕ) (v : V) (r : Result V) → IsPassed o m set g f v r → IsKept o m set g r.flag v r
   passed_kept f v r passed = record { before = f; passed = passed; unflagged = λ none. none }
 
-  pub all_noted : (q : ℕ) (e : Exactness) (f : Option ℕ) (kept : Option (Turn V)) → AreKept m set g f kept → AreKept m set g (noted q e f) kept
+  pub all_noted : (q : ℕ) (e : Exactness) (f : Option ℕ) (kept : Option (Turn V)) → AreKept o m set g f kept → AreKept o m set g (noted q e f) kept
   all_noted q e f None kept = tt
   all_noted q e f (Some turn) kept = kept_noted q e f turn.entered (seen turn.outcome) kept
 
   -- a turn whose body was passed, now or before, from what the condition left
   pub turned : (q base : ℕ) (c : Cond) (f inside : Option ℕ) (v on : V) (e : Exactness) (turn : Turn V) → Leaves (dropping m) base c true v e on → inside ≡ noted q e f → m.dims on ≡ m.dims v
-      → live_after g (m.dims v) ≡ m.dims v → turn.entered ≡ on → IsPassed m set g inside on (seen turn.outcome) → IsTurned m set q base c g f v turn
+      → live_after g (m.dims v) ≡ m.dims v → turn.entered ≡ on → IsPassed o m set g inside on (seen turn.outcome) → IsTurned o m set q base c g f v turn
   turned q base c f inside v on e turn leaves flagged wide closed same passed = record {
-    round = (on, e, seen turn.outcome, leaves, subst (λ (x : Option ℕ). Pass V H (dropping m) set g x on (seen turn.outcome)) flagged passed.pass, refl);
+    round = (on, e, seen turn.outcome, leaves, subst (λ (x : Option ℕ). DerivedPass o m set g x on (seen turn.outcome)) flagged passed.pass, refl);
     dims = passed.dims ∙ ap (live_after g) wide ∙ closed;
     jumps = subst (λ (n : ℕ). JumpsFit m g n (seen turn.outcome)) wide passed.jumps;
-    kept = passed_kept inside turn.entered (seen turn.outcome) (subst (λ (x : V). IsPassed m set g inside x (seen turn.outcome)) (sym same) passed);
+    kept = passed_kept inside turn.entered (seen turn.outcome) (subst (λ (x : V). IsPassed o m set g inside x (seen turn.outcome)) (sym same) passed);
   }
 
   -- what enters a loop's body with what the condition left
   pub entered_with : (q base : ℕ) (c : Cond) (f inside : Option ℕ) (v on : V) (e : Exactness) (given : entered.Entered V) → Leaves (dropping m) base c true v e on
-      → inside ≡ noted q e f → m.dims on ≡ m.dims v → EntersWith m set g inside on given → IsEntered m set q base c g f v given
+      → inside ≡ noted q e f → m.dims on ≡ m.dims v → EntersWith o m set g inside on given → IsEntered o m set q base c g f v given
   entered_with q base c f inside v on e (Again turn) leaves flagged wide (same, passed) = (
     e,
     subst (λ (x : V). Leaves (dropping m) base c true v e x) (sym same) leaves,
-    subst (λ (x : Option ℕ). IsPassed m set g x turn.entered (seen turn.outcome)) flagged
-        (subst (λ (x : V). IsPassed m set g inside x (seen turn.outcome)) (sym same) passed),
+    subst (λ (x : Option ℕ). IsPassed o m set g x turn.entered (seen turn.outcome)) flagged
+        (subst (λ (x : V). IsPassed o m set g inside x (seen turn.outcome)) (sym same) passed),
     ap m.dims same ∙ wide,
   )
   entered_with q base c f inside v on e (Anew copied value flag) leaves flagged wide (one, two, three) = (
@@ -202,12 +217,13 @@ module _ {V H : Type 0} (m : Meaning V H) (set : Plan) (g : Node) where
   )
 
   -- the kept turns, with what is flagged behind the condition
-  pub kept_inside : (q : ℕ) (e : Exactness) (f inside : Option ℕ) (kept : Option (Turn V)) → inside ≡ noted q e f → AreKept m set g f kept → AreKept m set g inside kept
-  kept_inside q e f inside kept flagged before = subst (λ (x : Option ℕ). AreKept m set g x kept) (sym flagged) (all_noted q e f kept before)
+  pub kept_inside : (q : ℕ) (e : Exactness) (f inside : Option ℕ) (kept : Option (Turn V)) → inside ≡ noted q e f
+      → AreKept o m set g f kept → AreKept o m set g inside kept
+  kept_inside q e f inside kept flagged before = subst (λ (x : Option ℕ). AreKept o m set g x kept) (sym flagged) (all_noted q e f kept before)
 
   -- the kept turn, where the same value entered it
-  pub same_given : (f : Option ℕ) (on : V) (kept : Option (Turn V)) (turn : Turn V) → kept ≡ Some turn → turn.entered ≡ on → AreKept m set g f kept
-      → (turn.entered ≡ on) × IsPassed m set g f on (record (seen turn.outcome) { flag = f })
+  pub same_given : (f : Option ℕ) (on : V) (kept : Option (Turn V)) (turn : Turn V) → kept ≡ Some turn → turn.entered ≡ on → AreKept o m set g f kept
+      → (turn.entered ≡ on) × IsPassed o m set g f on (record (seen turn.outcome) { flag = f })
   same_given f on kept turn is same before =
-      let held : IsKept m set g f turn.entered (seen turn.outcome) = subst (λ (x : Option (Turn V)). AreKept m set g f x) is before in
-      (same, subst (λ (x : V). IsPassed m set g f x (record (seen turn.outcome) { flag = f })) same (kept_passed f turn.entered (seen turn.outcome) held))
+      let held : IsKept o m set g f turn.entered (seen turn.outcome) = subst (λ (x : Option (Turn V)). AreKept o m set g f x) is before in
+      (same, subst (λ (x : V). IsPassed o m set g f x (record (seen turn.outcome) { flag = f })) same (kept_passed f turn.entered (seen turn.outcome) held))

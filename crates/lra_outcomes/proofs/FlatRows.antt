@@ -2,6 +2,7 @@
 use Rattle.std.proofs.Common.{◌≡◌, ℕ, suc, ◌+◌, ◌≤◌, List, ◌∷◌, Option, refl, sym, ap, subst, ◌∙◌, arith}
 use Rattle.lra_flow.specs.Room.{most_live}
 use Rattle.lra_flow.specs.Plan.{Plan}
+use Rattle.lra_others.specs.Others.{Others}
 use Rattle.lra_domain.specs.Meaning.{Meaning}
 use Rattle.lra_operations.specs.Graph as graph
 use Rattle.lra_operations.specs.declared.graph.Node as node
@@ -26,13 +27,13 @@ choice_takes k a one more = omega (arith, one, more)
 pub other_takes : (k a : ℕ) → k ≡ 1 → k ≡ 2 + a → ⊥
 other_takes k a one more = omega (arith, one, more)
 
-module _ {V H : Type 0} (m : Meaning V H) (set : Plan) where
+module _ {V H : Type 0} (o : Others V) (m : Meaning V H) (set : Plan) where
   -- whatever a pass of the rest finds, the whole finds that, behind what was found before the row
   pub record FlatLoop (g rest : graph.Node) (begun so_far : Outcome V) : Type 0 where
     pub few : m.dims so_far.normal ≤ most_live
     pub fits : TreeFits rest (m.dims so_far.normal)
-    pub passes : (t : Result V) → IsPassed m set rest so_far.flag so_far.normal t → (s : Result V) ×
-        IsPassed m set g begun.flag begun.normal s × (s.normal ≡ t.normal) × (s.flag ≡ t.flag) ×
+    pub passes : (t : Result V) → IsPassed o m set rest so_far.flag so_far.normal t → (s : Result V) ×
+        IsPassed o m set g begun.flag begun.normal s × (s.normal ≡ t.normal) × (s.flag ≡ t.flag) ×
         ((v : V) (f : Option ℕ) → in_turn (seen begun) s v f ≡ in_turn (seen so_far) t v f)
 
   pub flat_begins : (g : graph.Node) (begun : Outcome V) → m.dims begun.normal ≤ most_live →
@@ -44,7 +45,7 @@ module _ {V H : Type 0} (m : Meaning V H) (set : Plan) where
   }
 
   pub flat_next : (g rest next others : graph.Node) (begun so_far r : Outcome V) → rest ≡ graph.seq next others →
-      Follows m set next so_far r → FlatLoop g rest begun so_far → FlatLoop g others begun r
+      Follows o m set next so_far r → FlatLoop g rest begun so_far → FlatLoop g others begun r
   flat_next g rest next others begun so_far r is followed loop =
       let p = followed.0 in
       let one = followed.1 in
@@ -56,11 +57,11 @@ module _ {V H : Type 0} (m : Meaning V H) (set : Plan) where
         fits = subst (λ (v : V). TreeFits others (m.dims v)) (sym followed.3)
             (subst (λ (n : ℕ). TreeFits others n) (sym one.dims) fits.2);
         passes = λ t two.
-            let after : IsPassed m set others p.flag p.normal t =
-            subst (λ (v : V). IsPassed m set others p.flag v t) followed.3
-            (subst (λ (f : Option ℕ). IsPassed m set others f r.normal t) followed.4 two) in
-            let both = subst (λ x. IsPassed m set x so_far.flag so_far.normal (in_turn p t t.normal t.flag)) (sym is)
-            (seq_passed m set next others so_far.flag so_far.normal p t one after) in
+            let after : IsPassed o m set others p.flag p.normal t =
+            subst (λ (v : V). IsPassed o m set others p.flag v t) followed.3
+            (subst (λ (f : Option ℕ). IsPassed o m set others f r.normal t) followed.4 two) in
+            let both = subst (λ x. IsPassed o m set x so_far.flag so_far.normal (in_turn p t t.normal t.flag)) (sym is)
+            (seq_passed o m set next others so_far.flag so_far.normal p t one after) in
             let here = loop.passes (in_turn p t t.normal t.flag) both in (
               here.0,
               here.1,
@@ -72,9 +73,9 @@ module _ {V H : Type 0} (m : Meaning V H) (set : Plan) where
             );
       }
 
-  pub flat_ends : (g rest last : graph.Node) (begun so_far r : Outcome V) → rest ≡ last → Follows m set last so_far r →
-      FlatLoop g rest begun so_far → Follows m set g begun r
+  pub flat_ends : (g rest last : graph.Node) (begun so_far r : Outcome V) → rest ≡ last → Follows o m set last so_far r →
+      FlatLoop g rest begun so_far → Follows o m set g begun r
   flat_ends g rest last begun so_far r is followed loop =
       let p = followed.0 in
-      let here = loop.passes p (subst (λ x. IsPassed m set x so_far.flag so_far.normal p) (sym is) followed.1) in
+      let here = loop.passes p (subst (λ x. IsPassed o m set x so_far.flag so_far.normal p) (sym is) followed.1) in
       (here.0, here.1, λ v f. followed.2 v f ∙ sym (here.4 v f), followed.3 ∙ sym here.2, followed.4 ∙ sym here.3)

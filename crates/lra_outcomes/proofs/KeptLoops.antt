@@ -4,11 +4,13 @@ use Rattle.std.proofs.Common.{refl, sym, ap, subst, ◌∙◌}
 use Rattle.std.specs.Prelude.{IfOk, slice_index_or, set}
 use Rattle.std.specs.Prelude as outcome_or
 use Rattle.std.specs.List.{All}
+use Rattle.lra_others.specs.Others.{Others}
 use Rattle.lra_domain.specs.Meaning.{Meaning}
 use Rattle.lra_domain.specs.declared.Exactness.{Exactness}
 use Rattle.lra_program.specs.Program.{Cond}
 use Rattle.lra_operations.specs.Graph.{Exit, broken, continued, returned, Node, choose, iterate}
 use Rattle.lra_flow.specs.Plan.{Plan}
+use Rattle.lra_flow.specs.Among.{admitted}
 use Rattle.lra_flow.specs.Operations.{dropping}
 use Rattle.lra_flow.specs.Pass.{Result, noted, behind}
 use Rattle.lra_outcomes.specs.declared.memory.KeptLoop.{KeptLoop}
@@ -25,9 +27,9 @@ Later f f' = f' ≡ None → f ≡ None
 pub later_noted : (q : ℕ) (e : Exactness) (f f' : Option ℕ) → f' ≡ noted q e f → Later f f'
 later_noted q e f f' is none = none_noted q e f (sym is ∙ none)
 
-pub passed_later : {V H : Type 0} (m : Meaning V H) (set : Plan) (g : Node) (f : Option ℕ) (v : V) (r : Result V) →
-    IsPassed m set g f v r → Later f r.flag
-passed_later m set g f v r passed none = none_before (dropping m) set g f v r none passed.pass
+pub passed_later : {V H : Type 0} (o : Others V) (m : Meaning V H) (set : Plan) (g : Node) (f : Option ℕ) (v : V) (r : Result V) →
+    IsPassed o m set g f v r → Later f r.flag
+passed_later o m set g f v r passed none = none_before (dropping m) (admitted o m) set g f v r none passed.pass
 
 behind_flag : {V : Type 0} (k : Exit) (s : Result V) (w : V) (f : Option ℕ) → (behind k s w f).flag ≡ f
 behind_flag broken s w f = refl
@@ -47,101 +49,101 @@ pub left_later : {V H : Type 0} (m : Meaning V H) (q base : ℕ) (c : Cond) (top
 left_later {V} m q base c top s r (out, e, leaves, is) =
     later_noted q e s.flag r.flag (ap (λ (x : Result V). x.flag) is)
 
-module _ {V H : Type 0} (m : Meaning V H) (set : Plan) where
+module _ {V H : Type 0} (o : Others V) (m : Meaning V H) (set : Plan) where
   pub recall_later : (loops : ℕ → Node) (f f' : Option ℕ) (memory : Memory V) → Later f f' →
-      MayRecall m set loops f memory → MayRecall m set loops f' memory
+      MayRecall o m set loops f memory → MayRecall o m set loops f' memory
   recall_later loops f f' memory later all k d below =
       let kept = all k d below in
       record { before = kept.before; passed = kept.passed; unflagged = λ none. kept.unflagged (later none) }
 
   -- the same memory, later
-  pub stays_same : (g : Node) (f f' : Option ℕ) (memory : Memory V) → Later f f' → StaysKept m set g f memory f' memory
+  pub stays_same : (g : Node) (f f' : Option ℕ) (memory : Memory V) → Later f f' → StaysKept o m set g f memory f' memory
   stays_same g f f' memory later loops has all = recall_later loops f f' memory later all
 
-  pub stays_passed : (g : Node) (f : Option ℕ) (v : V) (r : Result V) (memory : Memory V) → IsPassed m set g f v r →
-      StaysKept m set g f memory r.flag memory
-  stays_passed g f v r memory passed = stays_same g f r.flag memory (passed_later m set g f v r passed)
+  pub stays_passed : (g : Node) (f : Option ℕ) (v : V) (r : Result V) (memory : Memory V) → IsPassed o m set g f v r →
+      StaysKept o m set g f memory r.flag memory
+  stays_passed g f v r memory passed = stays_same g f r.flag memory (passed_later o m set g f v r passed)
 
   pub stays_both : (g : Node) (f f1 f2 f3 : Option ℕ) (old between new : Memory V) →
-      StaysKept m set g f old f1 between → Later f1 f2 → StaysKept m set g f2 between f3 new →
-      StaysKept m set g f old f3 new
+      StaysKept o m set g f old f1 between → Later f1 f2 → StaysKept o m set g f2 between f3 new →
+      StaysKept o m set g f old f3 new
   stays_both g f f1 f2 f3 old between new one later two loops has all =
       two loops has (recall_later loops f1 f2 between later (one loops has all))
 
-  pub stays_then : (g : Node) (f f1 f2 : Option ℕ) (old new : Memory V) → StaysKept m set g f old f1 new → Later f1 f2 →
-      StaysKept m set g f old f2 new
+  pub stays_then : (g : Node) (f f1 f2 : Option ℕ) (old new : Memory V) → StaysKept o m set g f old f1 new → Later f1 f2 →
+      StaysKept o m set g f old f2 new
   stays_then g f f1 f2 old new one later loops has all = recall_later loops f1 f2 new later (one loops has all)
 
   pub stays_since : (g : Node) (f f1 f2 : Option ℕ) (old new : Memory V) → Later f f1 →
-      StaysKept m set g f1 old f2 new → StaysKept m set g f old f2 new
+      StaysKept o m set g f1 old f2 new → StaysKept o m set g f old f2 new
   stays_since g f f1 f2 old new later one loops has all = one loops has (recall_later loops f f1 old later all)
 
-  pub remembers_later : (g : Node) (f f' : Option ℕ) (memory : Memory V) → Later f f' → Remembers m set g f memory →
-      Remembers m set g f' memory
+  pub remembers_later : (g : Node) (f f' : Option ℕ) (memory : Memory V) → Later f f' → Remembers o m set g f memory →
+      Remembers o m set g f' memory
   remembers_later g f f' memory later (loops, has, all) = (loops, has, recall_later loops f f' memory later all)
 
-  pub remembers_on : (g : Node) (f f1 f2 : Option ℕ) (old new : Memory V) → Remembers m set g f old →
-      StaysKept m set g f old f1 new → Later f1 f2 → Remembers m set g f2 new
+  pub remembers_on : (g : Node) (f f1 f2 : Option ℕ) (old new : Memory V) → Remembers o m set g f old →
+      StaysKept o m set g f old f1 new → Later f1 f2 → Remembers o m set g f2 new
   remembers_on g f f1 f2 old new (loops, has, all) stays later =
       (loops, has, recall_later loops f1 f2 new later (stays loops has all))
 
   -- a loop
   module _ (q base : ℕ) (c : Cond) (a : Node) where
     pub recalled_passed : (f : Option ℕ) (v : V) (memory : Memory V) (given : Option (Outcome V)) (r : Outcome V) →
-        Remembers m set (iterate q base c a) f memory
-        → ((loops : ℕ → Node) → MayRecall m set loops f memory → AreRecalled m set (loops q) f v given) →
-        given ≡ Some r → IsPassed m set (iterate q base c a) f v (seen r)
+        Remembers o m set (iterate q base c a) f memory
+        → ((loops : ℕ → Node) → MayRecall o m set loops f memory → AreRecalled o m set (loops q) f v given) →
+        given ≡ Some r → IsPassed o m set (iterate q base c a) f v (seen r)
     recalled_passed f v memory given r (loops, has, all) gives is =
-        let found : AreRecalled m set (loops q) f v (Some r) =
-        subst (λ (x : Option (Outcome V)). AreRecalled m set (loops q) f v x) is (gives loops all) in
-        subst (λ (g : Node). IsPassed m set g f v (seen r)) has.0 found
+        let found : AreRecalled o m set (loops q) f v (Some r) =
+        subst (λ (x : Option (Outcome V)). AreRecalled o m set (loops q) f v x) is (gives loops all) in
+        subst (λ (g : Node). IsPassed o m set g f v (seen r)) has.0 found
 
     pub remembers_body : (f : Option ℕ) (old new : Memory V) → new.kept ≡ old.kept →
-        Remembers m set (iterate q base c a) f old → Remembers m set a f new
+        Remembers o m set (iterate q base c a) f old → Remembers o m set a f new
     remembers_body f old new same (loops, has, all) = (
       loops,
       has.1,
-      subst (λ (kept : Vec (KeptLoop V) Global). All (IsRecalled m set loops f) kept.items)
+      subst (λ (kept : Vec (KeptLoop V) Global). All (IsRecalled o m set loops f) kept.items)
           (sym same) all,
     )
 
     pub stays_begun : (f f' : Option ℕ) (old begun new : Memory V) → begun.kept ≡ old.kept →
-        StaysKept m set a f begun f' new → StaysKept m set (iterate q base c a) f old f' new
+        StaysKept o m set a f begun f' new → StaysKept o m set (iterate q base c a) f old f' new
     stays_begun f f' old begun new same stays loops has all =
-        stays loops has.1 (subst (λ (kept : Vec (KeptLoop V) Global). All (IsRecalled m set loops f) kept.items)
+        stays loops has.1 (subst (λ (kept : Vec (KeptLoop V) Global). All (IsRecalled o m set loops f) kept.items)
         (sym same) all)
 
     pub stays_recalled : (f : Option ℕ) (v : V) (r : Result V) (old new : Memory V) → new.kept ≡ old.kept →
-        IsPassed m set (iterate q base c a) f v r → StaysKept m set (iterate q base c a) f old r.flag new
+        IsPassed o m set (iterate q base c a) f v r → StaysKept o m set (iterate q base c a) f old r.flag new
     stays_recalled f v r old new same passed loops has all =
-        recall_later loops f r.flag new (passed_later m set (iterate q base c a) f v r passed)
-        (subst (λ (kept : Vec (KeptLoop V) Global). All (IsRecalled m set loops f) kept.items) (sym same) all)
+        recall_later loops f r.flag new (passed_later o m set (iterate q base c a) f v r passed)
+        (subst (λ (kept : Vec (KeptLoop V) Global). All (IsRecalled o m set loops f) kept.items) (sym same) all)
 
     stays_finished : (f f1 : Option ℕ) (v : V) (r : Result V) (old between new : Memory V) →
-        StaysKept m set (iterate q base c a) f old f1 between → IsPassed m set (iterate q base c a) f v r
-        → ((loops : ℕ → Node) → MayRecall m set loops f1 between → IsKept m set (loops q) r.flag v r →
-        MayRecall m set loops r.flag new) → StaysKept m set (iterate q base c a) f old r.flag new
+        StaysKept o m set (iterate q base c a) f old f1 between → IsPassed o m set (iterate q base c a) f v r
+        → ((loops : ℕ → Node) → MayRecall o m set loops f1 between → IsKept o m set (loops q) r.flag v r →
+        MayRecall o m set loops r.flag new) → StaysKept o m set (iterate q base c a) f old r.flag new
     stays_finished f f1 v r old between new stays passed ends loops has all = ends loops (stays loops has all)
-        (subst (λ (g : Node). IsKept m set g r.flag v r) (sym has.0)
-        (passed_kept m set (iterate q base c a) f v r passed))
+        (subst (λ (g : Node). IsKept o m set g r.flag v r) (sym has.0)
+        (passed_kept o m set (iterate q base c a) f v r passed))
 
     pub finish_stays : {E : Type 0} (f f1 : Option ℕ) (v : V) (R : outcome_or.Result (Outcome V) E)
-        (old between new : Memory V) → StaysKept m set (iterate q base c a) f old f1 between
-        → IfOk R (λ r. IsPassed m set (iterate q base c a) f v (seen r))
-        → ((loops : ℕ → Node) → IfOk R (λ r. MayRecall m set loops f1 between →
-        IsKept m set (loops q) r.flag v (seen r) → MayRecall m set loops r.flag new))
-        → IfOk R (λ r. StaysKept m set (iterate q base c a) f old r.flag new)
+        (old between new : Memory V) → StaysKept o m set (iterate q base c a) f old f1 between
+        → IfOk R (λ r. IsPassed o m set (iterate q base c a) f v (seen r))
+        → ((loops : ℕ → Node) → IfOk R (λ r. MayRecall o m set loops f1 between →
+        IsKept o m set (loops q) r.flag v (seen r) → MayRecall o m set loops r.flag new))
+        → IfOk R (λ r. StaysKept o m set (iterate q base c a) f old r.flag new)
     finish_stays f f1 v (outcome_or.Ok r) old between new stays passed ends =
         stays_finished f f1 v (seen r) old between new stays passed ends
     finish_stays f f1 v (outcome_or.Err e) old between new stays passed ends = tt
 
   -- a choice
   module _ (q base : ℕ) (c : Cond) (a b : Node) (f f1 f2 f3 : Option ℕ) (old between : Memory V) where
-    pub remembers_first : Remembers m set (choose q base c a b) f old → Later f f1 → Remembers m set a f1 old
+    pub remembers_first : Remembers o m set (choose q base c a b) f old → Later f f1 → Remembers o m set a f1 old
     remembers_first (loops, has, all) later = (loops, has.0, recall_later loops f f1 old later all)
 
-    pub remembers_second : Remembers m set (choose q base c a b) f old → Later f f1 →
-        StaysKept m set a f1 old f2 between → Later f2 f3 → Remembers m set b f3 between
+    pub remembers_second : Remembers o m set (choose q base c a b) f old → Later f f1 →
+        StaysKept o m set a f1 old f2 between → Later f2 f3 → Remembers o m set b f3 between
     remembers_second (loops, has, all) later stays after = (
       loops,
       has.1,
@@ -149,26 +151,26 @@ module _ {V H : Type 0} (m : Meaning V H) (set : Plan) where
           (stays loops has.0 (recall_later loops f f1 old later all)),
     )
 
-    pub stays_choice : (f4 f5 : Option ℕ) (new : Memory V) → Later f f1 → StaysKept m set a f1 old f2 between →
-        Later f2 f3 → StaysKept m set b f3 between f4 new → Later f4 f5
-        → StaysKept m set (choose q base c a b) f old f5 new
+    pub stays_choice : (f4 f5 : Option ℕ) (new : Memory V) → Later f f1 → StaysKept o m set a f1 old f2 between →
+        Later f2 f3 → StaysKept o m set b f3 between f4 new → Later f4 f5
+        → StaysKept o m set (choose q base c a b) f old f5 new
     stays_choice f4 f5 new later one after two last loops has all =
         recall_later loops f4 f5 new last (two loops has.1
         (recall_later loops f2 f3 between after (one loops has.0 (recall_later loops f f1 old later all))))
 
   -- what is kept of the loop at this place, which began with the same value
   pub recalled : (loops : ℕ → Node) (point : ℕ) (f : Option ℕ) (kept : List (KeptLoop V)) (place : ℕ) (one : KeptLoop V)
-      (v : V) (r : Outcome V) → All (IsRecalled m set loops f) kept
+      (v : V) (r : Outcome V) → All (IsRecalled o m set loops f) kept
       → place < length kept → one ≡ slice_index_or kept place one → (slice_index_or kept place one).point ≡ point →
       one.first ≡ v
-      → seen r ≡ ended one.outcome.found one.outcome.normal f → IsPassed m set (loops point) f v (seen r)
+      → seen r ≡ ended one.outcome.found one.outcome.normal f → IsPassed o m set (loops point) f v (seen r)
   recalled loops point f kept place one v r all below at numbered same is =
-      let held : IsRecalled m set loops f one = subst (λ (x : KeptLoop V). IsRecalled m set loops f x) (sym at)
+      let held : IsRecalled o m set loops f one = subst (λ (x : KeptLoop V). IsRecalled o m set loops f x) (sym at)
       (all place one below) in
-      let passed : IsPassed m set (loops one.point) f one.first (ended one.outcome.found one.outcome.normal f) =
-      kept_passed m set (loops one.point) f one.first (seen one.outcome) held in
+      let passed : IsPassed o m set (loops one.point) f one.first (ended one.outcome.found one.outcome.normal f) =
+      kept_passed o m set (loops one.point) f one.first (seen one.outcome) held in
       let number : one.point ≡ point = ap (λ (x : KeptLoop V). x.point) at ∙ numbered in
-      subst (λ (x : Result V). IsPassed m set (loops point) f v x) (sym is)
-      (subst (λ (x : V). IsPassed m set (loops point) f x (ended one.outcome.found one.outcome.normal f)) same
-      (subst (λ (n : ℕ). IsPassed m set (loops n) f one.first (ended one.outcome.found one.outcome.normal f)) number
+      subst (λ (x : Result V). IsPassed o m set (loops point) f v x) (sym is)
+      (subst (λ (x : V). IsPassed o m set (loops point) f x (ended one.outcome.found one.outcome.normal f)) same
+      (subst (λ (n : ℕ). IsPassed o m set (loops n) f one.first (ended one.outcome.found one.outcome.normal f)) number
       passed))

@@ -3,13 +3,15 @@ use Rattle.std.proofs.Common.{Vec, Global, map, ◌≡◌, ℕ, List, [], ◌∷
 use Rattle.std.specs.Prelude.{OnOk}
 use Rattle.std.specs.Prelude as outcome_or
 use Rattle.std.proofs.lemmas.List.{append-nil, map-append}
+use Rattle.lra_others.specs.Others.{Others}
 use Rattle.lra_domain.specs.Meaning.{Meaning}
 use Rattle.lra_domain.specs.declared.Exactness.{Exactness}
 use Rattle.lra_operations.specs.Graph.{Exit, broken, continued, returned}
 use Rattle.lra_operations.specs.Graph as graph
 use Rattle.lra_flow.specs.Plan.{Plan}
+use Rattle.lra_flow.specs.Among.{DerivedPass}
 use Rattle.lra_flow.specs.Operations.{dropping}
-use Rattle.lra_flow.specs.Pass.{Entry, Result, goes_on, in_turn, jumps, noted, Pass}
+use Rattle.lra_flow.specs.Pass.{Entry, Result, goes_on, in_turn, jumps, noted}
 use Rattle.lra_outcomes.specs.declared.outcome.Entry as entry
 use Rattle.lra_outcomes.specs.declared.outcome.Outcome.{Outcome}
 use Rattle.lra_flow.specs.Live.{live_after}
@@ -39,13 +41,13 @@ jump_flag broken v w f = refl
 jump_flag continued v w f = refl
 jump_flag returned v w f = refl
 
-module _ {V H : Type 0} (m : Meaning V H) (set : Plan) (so_far : Outcome V) where
+module _ {V H : Type 0} (o : Others V) (m : Meaning V H) (set : Plan) (so_far : Outcome V) where
   -- without a jump
   pub goes_further : (g : graph.Node) (es : Vec (entry.Entry V) Global) (xs : List (Entry V)) (w : V) (f : Option ℕ) →
       map (entry_view {V = V}) es.items ≡ map (entry_view {V = V}) so_far.found.entries.items ++ xs →
-      Pass V H (dropping m) set g so_far.flag so_far.normal (goes_on xs w f) →
+      DerivedPass o m set g so_far.flag so_far.normal (goes_on xs w f) →
       m.dims w ≡ live_after g (m.dims so_far.normal) →
-      Follows m set g so_far (record { found = record so_far.found { entries = es }; normal = w; flag = f })
+      Follows o m set g so_far (record { found = record so_far.found { entries = es }; normal = w; flag = f })
   goes_further g es xs w f more pass dims = (
     goes_on xs w f,
     record { pass = pass; dims = dims; jumps = going_on_fits m g (m.dims so_far.normal) xs w f },
@@ -56,15 +58,15 @@ module _ {V H : Type 0} (m : Meaning V H) (set : Plan) (so_far : Outcome V) wher
   )
 
   -- nothing is done
-  pub goes_nowhere : (g : graph.Node) → g ≡ graph.empty → Follows m set g so_far so_far
-  goes_nowhere g is = subst (λ x. Follows m set x so_far so_far) (sym is)
+  pub goes_nowhere : (g : graph.Node) → g ≡ graph.empty → Follows o m set g so_far so_far
+  goes_nowhere g is = subst (λ x. Follows o m set x so_far so_far) (sym is)
       (goes_further graph.empty so_far.found.entries [] so_far.normal so_far.flag
       (sym (append-nil (map (entry_view {V = V}) so_far.found.entries.items))) refl refl)
 
   -- a jump
   pub jumps_further : (l : ℕ) (k : Exit) (w : V) (r : Outcome V) → (dropping m).void l set.parts w → m.dims w ≡ l →
       seen r ≡ in_turn (seen so_far) (jumps k so_far.normal w so_far.flag) w so_far.flag →
-      Follows m set (graph.leave l k) so_far r
+      Follows o m set (graph.leave l k) so_far r
   jumps_further l k w r void dims is = (
     jumps k so_far.normal w so_far.flag,
     record {
@@ -79,18 +81,18 @@ module _ {V H : Type 0} (m : Meaning V H) (set : Plan) (so_far : Outcome V) wher
 
   -- the same tree
   pub followed_given : {T E : Type 0} (g g' : graph.Node) (r : Outcome V) (R : outcome_or.Result T E) → g ≡ g' →
-      OnOk R (Follows m set g' so_far r) → OnOk R (Follows m set g so_far r)
-  followed_given g g' r R same h = subst (λ x. OnOk R (Follows m set x so_far r)) (sym same) h
+      OnOk R (Follows o m set g' so_far r) → OnOk R (Follows o m set g so_far r)
+  followed_given g g' r R same h = subst (λ x. OnOk R (Follows o m set x so_far r)) (sym same) h
 
   -- behind nothing
   pub passed_alone : (g : graph.Node) (r : Outcome V) (f : Option ℕ) (v : V) →
       ((u : V) (d : Option ℕ) → ended so_far.found u d ≡ goes_on [] u d) → so_far.normal ≡ v → so_far.flag ≡ f →
-      Follows m set g so_far r → IsPassed m set g f v (seen r)
+      Follows o m set g so_far r → IsPassed o m set g f v (seen r)
   passed_alone g r f v none value flag (t, passed, turn, normal, flagged) =
-      let from : IsPassed m set g f v t = subst (λ (x : V). IsPassed m set g f x t) value
-      (subst (λ (x : Option ℕ). IsPassed m set g x so_far.normal t) flag passed) in
+      let from : IsPassed o m set g f v t = subst (λ (x : V). IsPassed o m set g f x t) value
+      (subst (λ (x : Option ℕ). IsPassed o m set g x so_far.normal t) flag passed) in
       let is : seen r ≡ t = turn r.normal r.flag
       ∙ ap (λ (x : Result V). in_turn x t r.normal r.flag) (none so_far.normal so_far.flag)
       ∙ ap (λ (x : V). record t { normal = x; flag = r.flag }) normal
       ∙ ap (λ (x : Option ℕ). record t { flag = x }) flagged in
-      subst (λ (x : Result V). IsPassed m set g f v x) (sym is) from
+      subst (λ (x : Result V). IsPassed o m set g f v x) (sym is) from

@@ -5,12 +5,14 @@ use Rattle.std.specs.Prelude as outcome_or
 use Rattle.std.specs.List.{Contains, sum_by}
 use Rattle.std.proofs.lemmas.List.Sums.{sum_by-cons}
 use Rattle.std.proofs.lemmas.List.Elements.{Contains-append_cases}
+use Rattle.lra_others.specs.Others.{Others}
 use Rattle.lra_domain.specs.Meaning.{Meaning}
 use Rattle.lra_domain.specs.declared.Exactness.{Exactness}
 use Rattle.lra_program.specs.declared.program.Cond as declared_cond
+use Rattle.lra_operations.specs.declared.asides.Aside as declared_aside
 use Rattle.lra_operations.specs.declared.graph.Exit as declared_exit
 use Rattle.lra_operations.specs.declared.graph.Op as declared_op
-use Rattle.lra_operations.specs.declared.graph.Node.{Node, Empty, Point, Act, Check, Seq, Choose, Iterate, Catch, Leave, Select, the_lemmas}
+use Rattle.lra_operations.specs.declared.graph.Node.{Node, Empty, Point, Aside, Act, Check, Seq, Choose, Iterate, Catch, Leave, Select, the_lemmas}
 use Rattle.lra_operations.specs.declared.graph.Arm.{Arm}
 use Rattle.lra_operations.specs.declared.graph.Arm.TheVariants.{Tree as TreeArm}
 use Rattle.lra_program.specs.declared.program.Expr as declared_expr
@@ -20,8 +22,9 @@ use Rattle.lra_program.specs.Program.{Cond}
 use Rattle.lra_operations.specs.Graph.{Exit, broken, continued, returned}
 use Rattle.lra_operations.specs.Graph as graph
 use Rattle.lra_flow.specs.Plan.{Plan}
+use Rattle.lra_flow.specs.Among.{DerivedPass}
 use Rattle.lra_flow.specs.Operations.{dropping}
-use Rattle.lra_flow.specs.Pass.{Leaves, jumps_of, Entry, Result, noted, goes_on, jumps, in_turn, behind, Pass, Narrows}
+use Rattle.lra_flow.specs.Pass.{Leaves, jumps_of, Entry, Result, noted, goes_on, jumps, in_turn, behind, Narrows}
 use Rattle.lra_flow.specs.Live.{live_after}
 use Rattle.lra_outcomes.specs.Fits.{JumpsWith, TreeFits}
 use Rattle.lra_outcomes.specs.Outcome.{headed, AllHave, AreMet, Catches, JumpsFit, HasGrown, IsPassed, LeavesWith}
@@ -34,6 +37,9 @@ empty_steps n = search (rules, the_lemmas)
 
 pub point_steps : (n q : ℕ) → node_steps n (Point q) ≡ 1
 point_steps n q = search (rules, the_lemmas)
+
+pub aside_steps : (n q : ℕ) (what : declared_aside.Aside) → node_steps n (Aside q what) ≡ 2
+aside_steps n q what = search (rules, the_lemmas)
 
 pub act_steps : (n q : ℕ) (o : declared_op.Op) → node_steps n (Act q o) ≡ 1
 act_steps n q o = search (rules, the_lemmas)
@@ -181,10 +187,6 @@ module _ {V H : Type 0} (m : Meaning V H) where
   pub catch_fits : (q : ℕ) (j : Exit) (a : graph.Node) (n : ℕ) (s r : Result V) → JumpsFit m a n s → Catches m q j s r → JumpsFit m (graph.catch q j a) n r
   catch_fits q j a n s r inner (w, e, joined, is) = subst (λ (x : Result V). JumpsFit m (graph.catch q j a) n x) (sym is) (behind_fits q j a n s w (noted q e s.flag) inner)
 
-  pub catch_passes : (set : Plan) (q : ℕ) (j : Exit) (a : graph.Node) (f : Option ℕ) (v : V) (s r : Result V) → Pass V H (dropping m) set a f v s → Catches m q j s r
-      → Pass V H (dropping m) set (graph.catch q j a) f v r
-  catch_passes set q j a f v s r pass (w, e, joined, is) = (w, e, s, pass, joined, is)
-
   -- a jump
   leave_fits : (l : ℕ) (j : Exit) (n : ℕ) (v w : V) (f : Option ℕ) → m.dims v ≡ n → (k : Exit) (u : V) → Contains (jumps_of k (jumps j v w f)) u → JumpsWith (graph.leave l j) n k (m.dims u)
   leave_fits l broken n v w f is broken u h = (refl, ap m.dims (one_element v u h) ∙ is)
@@ -217,32 +219,43 @@ module _ {V H : Type 0} (m : Meaning V H) where
       → AllHave m (m.dims s.normal) (jumps_of k s)
   caught_have q k a n s fits jumps dims = all_have (m.dims s.normal) (jumps_of k s) (λ u h. fits.1 (m.dims u) (jumps k u h) ∙ sym dims)
 
+module _ {V H : Type 0} (o : Others V) (m : Meaning V H) (set : Plan) where
+  -- behind a catch
+  pub catch_passes : (q : ℕ) (j : Exit) (a : graph.Node) (f : Option ℕ) (v : V) (s r : Result V) → DerivedPass o m set a f v s → Catches m q j s r
+      → DerivedPass o m set (graph.catch q j a) f v r
+  catch_passes q j a f v s r pass (w, e, joined, is) = (w, e, s, pass, joined, is)
+
   -- a loop
-  pub loop_passed : (set : Plan) (q base : ℕ) (c : Cond) (a : graph.Node) (f : Option ℕ) (first u top : V) (s t r : Result V)
-      → HasGrown m set q base c a first f u s → Narrows V H (dropping m) q base c (Pass V H (dropping m) set a) set.narrow first u s top (headed q top t) → LeavesWith m q base c top t r
-      → m.dims top ≡ m.dims first → m.dims r.normal ≡ m.dims top → JumpsFit m a (m.dims first) t → IsPassed m set (graph.iterate q base c a) f first r
-  loop_passed set q base c a f first u top s t r (h, later, started, grows) narrows (out, e, leaves, is) dims left inner = record {
+  pub loop_passed : (q base : ℕ) (c : Cond) (a : graph.Node) (f : Option ℕ) (first u top : V) (s t r : Result V)
+      → HasGrown o m set q base c a first f u s → Narrows V H (dropping m) q base c (DerivedPass o m set a) set.narrow first u s top (headed q top t)
+      → LeavesWith m q base c top t r
+      → m.dims top ≡ m.dims first → m.dims r.normal ≡ m.dims top → JumpsFit m a (m.dims first) t → IsPassed o m set (graph.iterate q base c a) f first r
+  loop_passed q base c a f first u top s t r (h, later, started, grows) narrows (out, e, leaves, is) dims left inner = record {
     pass = (h, later, u, top, out, s, headed q top t, e, started, grows, narrows, leaves, is);
     dims = left ∙ dims;
-    jumps = subst (λ (x : Result V). JumpsFit m (graph.iterate q base c a) (m.dims first) x) (sym is) (same_jumps_fit (graph.iterate q base c a) (m.dims first) t _ refl refl refl inner);
+    jumps = subst (λ (x : Result V). JumpsFit m (graph.iterate q base c a) (m.dims first) x) (sym is)
+        (same_jumps_fit m (graph.iterate q base c a) (m.dims first) t _ refl refl refl inner);
   }
 
   -- a choice
-  pub choice_passed : (set : Plan) (q base : ℕ) (c : Cond) (a b : graph.Node) (f : Option ℕ) (v on off : V) (d e : Exactness) (s t r : Result V)
-      → Leaves (dropping m) base c true v d on → m.dims on ≡ m.dims v → IsPassed m set a (noted q d f) on s
-      → Leaves (dropping m) base c false v e off → m.dims off ≡ m.dims v → IsPassed m set b (noted q e s.flag) off t
-      → AreMet m q s t r → m.dims r.normal ≡ m.dims s.normal → IsPassed m set (graph.choose q base c a b) f v r
-  choice_passed set q base c a b f v on off d e s t r holds wide one fails wide' two (w, i, joined, is) left = record {
+  pub choice_passed : (q base : ℕ) (c : Cond) (a b : graph.Node) (f : Option ℕ) (v on off : V) (d e : Exactness) (s t r : Result V)
+      → Leaves (dropping m) base c true v d on → m.dims on ≡ m.dims v → IsPassed o m set a (noted q d f) on s
+      → Leaves (dropping m) base c false v e off → m.dims off ≡ m.dims v → IsPassed o m set b (noted q e s.flag) off t
+      → AreMet m q s t r → m.dims r.normal ≡ m.dims s.normal → IsPassed o m set (graph.choose q base c a b) f v r
+  choice_passed q base c a b f v on off d e s t r holds wide one fails wide' two (w, i, joined, is) left = record {
     pass = (on, off, w, d, e, i, s, t, holds, one.pass, fails, two.pass, joined, is);
     dims = left ∙ one.dims ∙ ap (live_after a) wide;
-    jumps = choose_fits q base c a b (m.dims v) s t r w (noted q i t.flag) is (subst (λ (n : ℕ). JumpsFit m a n s) wide one.jumps) (subst (λ (n : ℕ). JumpsFit m b n t) wide' two.jumps);
+    jumps = choose_fits m q base c a b (m.dims v) s t r w (noted q i t.flag) is
+        (subst (λ (n : ℕ). JumpsFit m a n s) wide one.jumps) (subst (λ (n : ℕ). JumpsFit m b n t) wide' two.jumps);
   }
 
   -- both ends have as many dimensions
-  pub ends_meet : (set : Plan) (q base : ℕ) (c : Cond) (a b : graph.Node) (f g : Option ℕ) (n : ℕ) (on off : V) (s t : Result V) → TreeFits (graph.choose q base c a b) n → m.dims on ≡ n
+  pub ends_meet : (q base : ℕ) (c : Cond) (a b : graph.Node) (f g : Option ℕ) (n : ℕ) (on off : V) (s t : Result V)
+      → TreeFits (graph.choose q base c a b) n → m.dims on ≡ n
       → m.dims off ≡ n
-      → IsPassed m set a f on s → IsPassed m set b g off t → m.dims s.normal ≡ m.dims t.normal
-  ends_meet set q base c a b f g n on off s t fits wide wide' one two = one.dims ∙ ap (live_after a) wide ∙ sym fits.2 ∙ ap (live_after b) (sym wide') ∙ sym two.dims
+      → IsPassed o m set a f on s → IsPassed o m set b g off t → m.dims s.normal ≡ m.dims t.normal
+  ends_meet q base c a b f g n on off s t fits wide wide' one two =
+      one.dims ∙ ap (live_after a) wide ∙ sym fits.2 ∙ ap (live_after b) (sym wide') ∙ sym two.dims
 
 -- from both that hold of a result
 pub if_both : {T E : Type 0} (R : outcome_or.Result T E) (P Q S : T → Type 0) → ((x : T) → P x → Q x → S x) → IfOk R P

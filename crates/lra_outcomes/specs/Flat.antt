@@ -1,5 +1,6 @@
 -- Trees that are passed where they stand: what they are, and what was found before them with what their pass finds.
 use Rattle.std.specs.Prelude.{◌≡◌, ℕ, List, [], ◌∷◌, map, Option, ⊤}
+use Rattle.lra_others.specs.Others.{Others}
 use Rattle.lra_domain.specs.Meaning.{Meaning}
 use Rattle.lra_operations.specs.declared.graph.Node.{Node}
 use Rattle.lra_operations.specs.GraphViews.{node_view, row}
@@ -9,14 +10,15 @@ use Rattle.lra_flow.specs.Pass.{Result, in_turn}
 use Rattle.lra_outcomes.specs.declared.flat.Flat as flat
 use Rattle.lra_outcomes.specs.declared.flat.Flat.TheVariants.{Leaf, Row}
 use Rattle.lra_outcomes.specs.declared.outcome.Outcome.{Outcome}
+use Rattle.lra_outcomes.specs.declared.shapes.Leaf as leaf
 use Rattle.lra_outcomes.specs.declared.shapes.Row as shape
 use Rattle.lra_outcomes.specs.Outcome.{ended, seen, IsPassed}
 use Rattle.lra_outcomes.specs.Shapes.{leaf_view}
 use Rattle.lra_outcomes.specs.Steps.{node_steps}
 
--- no tree stands in it: its pass is one step
+-- no tree stands in it, and others don't act there: its pass is one step, and it is seen as a leaf
 abbrev pub IsLeaf : Node → Type 0
-IsLeaf g = (n : ℕ) → node_steps n g ≡ 1
+IsLeaf g = ((n : ℕ) → node_steps n g ≡ 1) × (x : leaf.Leaf) × (node_view g ≡ leaf_view x)
 
 abbrev pub AllLeaves : List Node → Type 0
 AllLeaves [] = ⊤
@@ -36,7 +38,7 @@ flat_view (Leaf x) = leaf_view x
 flat_view (Row r) = row (map node_view r.trees.now) (node_view r.last.now)
 
 -- what was found so far, and then by a pass of this tree
-abbrev pub Follows : {V H : Type 0} → Meaning V H → Plan → graph.Node → Outcome V → Outcome V → Type 0
-Follows {V} m set g so_far r = (t : Result V) × IsPassed m set g so_far.flag so_far.normal t ×
+abbrev pub Follows : {V H : Type 0} → Others V → Meaning V H → Plan → graph.Node → Outcome V → Outcome V → Type 0
+Follows {V} o m set g so_far r = (t : Result V) × IsPassed o m set g so_far.flag so_far.normal t ×
     ((v : V) (f : Option ℕ) → ended r.found v f ≡ in_turn (seen so_far) t v f) × (r.normal ≡ t.normal) ×
     (r.flag ≡ t.flag)

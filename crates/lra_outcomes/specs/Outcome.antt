@@ -1,8 +1,9 @@
 -- What a pass in code gives, as the result of a pass.
 use Rattle.std.specs.Prelude.{◌≡◌, ℕ, true, false, List, [], ◌∷◌, map, Option, None, Some, ⊤}
+use Rattle.lra_others.specs.Others.{Others}
 use Rattle.lra_domain.specs.Meaning.{Meaning}
 use Rattle.lra_outcomes.specs.declared.outcome.Entry as entry
-use Rattle.lra_outcomes.specs.declared.outcome.Entry.TheVariants.{Value, Failing}
+use Rattle.lra_outcomes.specs.declared.outcome.Entry.TheVariants.{Value, Failing, Given}
 use Rattle.lra_outcomes.specs.declared.outcome.Found.{Found}
 use Rattle.lra_outcomes.specs.declared.outcome.Outcome.{Outcome}
 use Rattle.lra_outcomes.specs.declared.outcome.Running.{Running}
@@ -17,13 +18,15 @@ use Rattle.lra_flow.specs.Plan.{Plan}
 use Rattle.lra_flow.specs.Thresholds.{loop_rows}
 use Rattle.lra_flow.specs.Live.{live_after}
 use Rattle.lra_outcomes.specs.Fits.{JumpsWith}
+use Rattle.lra_flow.specs.Among.{DerivedPass}
 use Rattle.lra_flow.specs.Operations.{dropping}
-use Rattle.lra_flow.specs.Pass.{Entry, value, failing, Result, noted, in_turn, jumps_of, values_behind, behind}
-use Rattle.lra_flow.specs.Pass.{AreJoined, Leaves, GoesRound, Grows, Narrows, Pass}
+use Rattle.lra_flow.specs.Pass.{Entry, value, failing, given, Result, noted, in_turn, jumps_of, values_behind, behind}
+use Rattle.lra_flow.specs.Pass.{AreJoined, Leaves, GoesRound, Grows, Narrows}
 
 abbrev pub entry_view : {V : Type 0} → entry.Entry V → Entry V
 entry_view (Value q v) = value q v
 entry_view (Failing q v) = failing q v
+entry_view (Given q place v) = given q place v
 
 -- what is found on the way, with this value and flag at its end
 abbrev pub ended : {V : Type 0} → Found V → V → Option ℕ → Result V
@@ -78,59 +81,60 @@ LeavesWith {V} m q base c top s r = (out : V) × (e : Exactness) × Leaves (drop
     (r ≡ record (headed q top s) { normal = out; flag = noted q e s.flag })
 
 -- a pass over the tree, behind which, and at whose jumps, values have as many dimensions as live there
-pub record IsPassed {V H : Type 0} (m : Meaning V H) (set : Plan) (g : Node) (f : Option ℕ) (v : V)
+pub record IsPassed {V H : Type 0} (o : Others V) (m : Meaning V H) (set : Plan) (g : Node) (f : Option ℕ) (v : V)
     (r : Result V) : Type 0 where
-  pub pass : Pass V H (dropping m) set g f v r
+  pub pass : DerivedPass o m set g f v r
   pub dims : m.dims r.normal ≡ live_after g (m.dims v)
   pub jumps : JumpsFit m g (m.dims v) r
 
 -- a loop's head that starts with a value grows until it is stable, with this value and round at last
-abbrev pub HasGrown : {V H : Type 0} → Meaning V H → Plan → ℕ → ℕ → Cond → Node → V → Option ℕ → V → Result V →
-    Type 0
-HasGrown {V} {H} m set q base c a first f u s =
+abbrev pub HasGrown : {V H : Type 0} → Others V → Meaning V H → Plan → ℕ → ℕ → Cond → Node → V → Option ℕ → V →
+    Result V → Type 0
+HasGrown {V} {H} o m set q base c a first f u s =
     (h : H) × (later : List H) × (dropping m).started first (loop_rows set.widening (m.dims first) base c a) h
-    × Grows V H (dropping m) q base c (Pass V H (dropping m) set a) set.widening set.delay f h later u s
+    × Grows V H (dropping m) q base c (DerivedPass o m set a) set.widening set.delay f h later u s
 
 -- the value at a stable head and its round, narrowed as often as the plan says
-abbrev pub NarrowsTo : {V H : Type 0} → Meaning V H → Plan → ℕ → ℕ → Cond → Node → V → V → Result V → V → Result V →
-    Type 0
-NarrowsTo {V} {H} m set q base c a first u s v r =
-    Narrows V H (dropping m) q base c (Pass V H (dropping m) set a) set.narrow first u s v r
+abbrev pub NarrowsTo : {V H : Type 0} → Others V → Meaning V H → Plan → ℕ → ℕ → Cond → Node → V → V → Result V → V →
+    Result V → Type 0
+NarrowsTo {V} {H} o m set q base c a first u s v r =
+    Narrows V H (dropping m) q base c (DerivedPass o m set a) set.narrow first u s v r
 
 -- a result that may be given again for this value: that of a pass from it, whatever was flagged before that. Where
 -- nothing is flagged so far, nothing was flagged then
-pub record IsKept {V H : Type 0} (m : Meaning V H) (set : Plan) (g : Node) (f : Option ℕ) (v : V)
+pub record IsKept {V H : Type 0} (o : Others V) (m : Meaning V H) (set : Plan) (g : Node) (f : Option ℕ) (v : V)
     (r : Result V) : Type 0 where
   pub before : Option ℕ
-  pub passed : IsPassed m set g before v r
+  pub passed : IsPassed o m set g before v r
   pub unflagged : f ≡ None → r.flag ≡ None
 
 -- a kept turn of a loop's body, if there is one, may be given again
-abbrev pub AreKept : {V H : Type 0} → Meaning V H → Plan → Node → Option ℕ → Option (Turn V) → Type 0
-AreKept m set g f None = ⊤
-AreKept m set g f (Some turn) = IsKept m set g f turn.entered (seen turn.outcome)
+abbrev pub AreKept : {V H : Type 0} → Others V → Meaning V H → Plan → Node → Option ℕ → Option (Turn V) → Type 0
+AreKept o m set g f None = ⊤
+AreKept o m set g f (Some turn) = IsKept o m set g f turn.entered (seen turn.outcome)
 
 -- a turn that is given, if one is, is that of a pass from this value
-abbrev pub AreGiven : {V H : Type 0} → Meaning V H → Plan → Node → Option ℕ → V → Option (Turn V) → Type 0
-AreGiven m set g f v None = ⊤
-AreGiven m set g f v (Some turn) = (turn.entered ≡ v) × IsPassed m set g f v (seen turn.outcome)
+abbrev pub AreGiven : {V H : Type 0} → Others V → Meaning V H → Plan → Node → Option ℕ → V → Option (Turn V) → Type 0
+AreGiven o m set g f v None = ⊤
+AreGiven o m set g f v (Some turn) = (turn.entered ≡ v) × IsPassed o m set g f v (seen turn.outcome)
 
 -- what enters a body with this value: a turn that was kept, or the value
-abbrev pub EntersWith : {V H : Type 0} → Meaning V H → Plan → Node → Option ℕ → V → Entered V → Type 0
-EntersWith m set g f v (Again turn) = (turn.entered ≡ v) × IsPassed m set g f v (seen turn.outcome)
-EntersWith m set g f v (Anew entered on inside) = (entered ≡ v) × (on ≡ v) × (inside ≡ f)
+abbrev pub EntersWith : {V H : Type 0} → Others V → Meaning V H → Plan → Node → Option ℕ → V → Entered V → Type 0
+EntersWith o m set g f v (Again turn) = (turn.entered ≡ v) × IsPassed o m set g f v (seen turn.outcome)
+EntersWith o m set g f v (Anew entered on inside) = (entered ≡ v) × (on ≡ v) × (inside ≡ f)
 
 -- once round a loop from this value at its head: what entered the body, and what its pass gave
-pub record IsTurned {V H : Type 0} (m : Meaning V H) (set : Plan) (q base : ℕ) (c : Cond) (a : Node) (f : Option ℕ)
-    (v : V) (turn : Turn V) : Type 0 where
-  pub round : GoesRound V H (dropping m) q base c (Pass V H (dropping m) set a) f v (headed q v (seen turn.outcome))
+pub record IsTurned {V H : Type 0} (o : Others V) (m : Meaning V H) (set : Plan) (q base : ℕ) (c : Cond) (a : Node)
+    (f : Option ℕ) (v : V) (turn : Turn V) : Type 0 where
+  pub round : GoesRound V H (dropping m) q base c (DerivedPass o m set a) f v (headed q v (seen turn.outcome))
   pub dims : m.dims turn.outcome.normal ≡ m.dims v
   pub jumps : JumpsFit m a (m.dims v) (seen turn.outcome)
-  pub kept : IsKept m set a turn.outcome.flag turn.entered (seen turn.outcome)
+  pub kept : IsKept o m set a turn.outcome.flag turn.entered (seen turn.outcome)
 
 -- what comes into a loop's body from this value at its head: a turn that was kept, or what the condition leaves
-abbrev pub IsEntered : {V H : Type 0} → Meaning V H → Plan → ℕ → ℕ → Cond → Node → Option ℕ → V → Entered V → Type 0
-IsEntered m set q base c a f v (Again turn) = (e : Exactness) × Leaves (dropping m) base c true v e turn.entered ×
-    IsPassed m set a (noted q e f) turn.entered (seen turn.outcome) × (m.dims turn.entered ≡ m.dims v)
-IsEntered m set q base c a f v (Anew entered on inside) = (e : Exactness) × Leaves (dropping m) base c true v e on ×
+abbrev pub IsEntered : {V H : Type 0} → Others V → Meaning V H → Plan → ℕ → ℕ → Cond → Node → Option ℕ → V →
+    Entered V → Type 0
+IsEntered o m set q base c a f v (Again turn) = (e : Exactness) × Leaves (dropping m) base c true v e turn.entered ×
+    IsPassed o m set a (noted q e f) turn.entered (seen turn.outcome) × (m.dims turn.entered ≡ m.dims v)
+IsEntered o m set q base c a f v (Anew entered on inside) = (e : Exactness) × Leaves (dropping m) base c true v e on ×
     (inside ≡ noted q e f) × (m.dims on ≡ m.dims v) × (entered ≡ on)

@@ -8,7 +8,7 @@ use Rattle.lra_flow.specs.Plan.{Plan}
 use Rattle.lra_outcomes.specs.declared.shapes.Leaf as leaf
 use Rattle.lra_outcomes.specs.declared.shapes.Leaf.TheVariants.{Empty, Point, Act, Check, Leave}
 use Rattle.lra_outcomes.specs.declared.shapes.Shape.{Shape}
-use Rattle.lra_outcomes.specs.declared.shapes.Shape.TheVariants.{Leaf, Row, Choice, Loop, Catch, Select}
+use Rattle.lra_outcomes.specs.declared.shapes.Shape.TheVariants.{Leaf, Aside, Row, Choice, Loop, Catch, Select}
 use Rattle.lra_outcomes.specs.Steps.{arms_steps, node_steps, row_steps}
 
 abbrev pub leaf_view : leaf.Leaf → graph.Node
@@ -22,6 +22,7 @@ leaf_view (Leave n k) = graph.leave n (exit_view k)
 -- plan
 abbrev pub IsShape : Plan → Node → Shape → Type 0
 IsShape set g (Leaf x) = (node_view g ≡ leaf_view x) × ((n : ℕ) → node_steps n g ≡ 1)
+IsShape set g (Aside q what) = (node_view g ≡ graph.aside q what) × ((n : ℕ) → node_steps n g ≡ 2)
 IsShape set g (Row r) = (node_view g ≡ row (map node_view r.trees.now) (node_view r.last.now))
     × ((n : ℕ) → node_steps n g ≡ 1 + row_steps n r.trees.now r.last.now) × (r.plan.now ≡ set)
 IsShape set g (Choice k) = (node_view g ≡ graph.choose k.point k.base (cond_view k.condition.now)

@@ -1,8 +1,10 @@
-//! Trees that are passed where they stand: those with no tree in them, and rows of such.
+//! Trees that are passed where they stand: those with no tree in them, and rows of such. Others don't act in them, so
+//! that their pass is the same among any.
 
 ghost use Rattle.lra_flow.specs.Room.{most_live};
 ghost use Rattle.lra_flow.specs.Plan.{Plan};
 ghost use Rattle.std.specs.Prelude.{◌≡◌, ◌≤◌, true, map, IfSome, OnOk};
+ghost use Rattle.lra_others.specs.Others.{nobody};
 ghost use Rattle.lra_operations.specs.GraphViews.{node_view, row};
 ghost use Rattle.lra_outcomes.specs.Fits.{TreeFits};
 ghost use Rattle.lra_outcomes.specs.Flat.{flat_view, AreLeaves, Follows, HasLeaves, IsLeaf};
@@ -55,6 +57,7 @@ fn leaf_of<'a>(plan: &'a Plan, node: &'a Node) -> Leaf<'a>
 {
     match Shape::of(plan, node) {
         Shape::Leaf(leaf) => leaf,
+        Shape::Aside(_, _) => unreachable!(),
         Shape::Row(_) => unreachable!(),
         Shape::Choice(_) => unreachable!(),
         Shape::Loop(_) => unreachable!(),
@@ -75,7 +78,7 @@ fn pass_along<D: Domain>(
     requires fits { TreeFits (row (map node_view the_row.trees.now) (node_view the_row.last.now))
         (D.meaning.dims so_far.old.normal) }
     requires leaves { HasLeaves the_row }
-    ensures { OnOk result (Follows D.meaning plan.now
+    ensures { OnOk result (Follows nobody D.meaning plan.now
         (row (map node_view the_row.entry.trees.now) (node_view the_row.entry.last.now)) so_far.old so_far.new) }
 {
     let mut left = the_row.trees;
@@ -112,7 +115,8 @@ impl<'a> Flat<'a> {
         requires few { D.meaning.dims so_far.old.normal ≤ most_live }
         requires fits { TreeFits (flat_view self) (D.meaning.dims so_far.old.normal) }
         requires leaves { AreLeaves self }
-        ensures { OnOk result (Follows D.meaning plan.now (flat_view self.entry) so_far.old so_far.new) }
+        ensures { OnOk result (Follows nobody D.meaning plan.now (flat_view self.entry)
+            so_far.old so_far.new) }
     {
         match self {
             Flat::Leaf(leaf) => pass_on(alloc, plan, &leaf, so_far),

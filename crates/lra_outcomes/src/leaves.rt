@@ -1,6 +1,7 @@
-//! The pass over trees with no tree in them.
+//! The pass over trees with no tree in them: others don't act there, so that it is the same among any.
 
 ghost use Rattle.std.specs.Prelude.{◌≡◌, ◌≤◌, IfOk, OnOk};
+ghost use Rattle.lra_others.specs.Others.{nobody};
 ghost use Rattle.lra_operations.specs.Graph.{act, check, leave, point as point_node};
 ghost use Rattle.lra_program.specs.ProgramViews.{cond_view};
 ghost use Rattle.lra_operations.specs.GraphViews.{exit_view, op_view};
@@ -27,7 +28,8 @@ fn pass_point<D: Domain>(
     point: usize,
     so_far: &mut Outcome<D>,
 ) -> Result<(), AllocError>
-    ensures { (plan : Plan) → OnOk result (Follows D.meaning plan (point_node point) so_far.old so_far.new) }
+    ensures { (plan : Plan) → OnOk result (Follows nobody D.meaning plan (point_node point)
+        so_far.old so_far.new) }
 {
     let value = so_far.normal.copy(alloc)?;
     so_far.found.entries.push(Entry::Value(point, value))?;
@@ -43,8 +45,8 @@ fn pass_act<D: Domain>(
 ) -> Result<(), AllocError>
     requires few { D.meaning.dims so_far.old.normal ≤ most_live }
     requires fits { OpFits (op_view op.now) (D.meaning.dims so_far.old.normal) }
-    ensures { (plan : Plan) → OnOk result (Follows D.meaning plan (act point (op_view op.now)) so_far.old
-        so_far.new) }
+    ensures { (plan : Plan) → OnOk result (Follows nobody D.meaning plan
+        (act point (op_view op.now)) so_far.old so_far.new) }
 {
     let exactness = change(alloc, op, &mut so_far.normal)?;
     so_far.flag = note(point, exactness, so_far.flag);
@@ -60,7 +62,7 @@ fn pass_check<D: Domain>(
     so_far: &mut Outcome<D>,
 ) -> Result<(), AllocError>
     requires { D.meaning.dims so_far.old.normal ≤ most_live }
-    ensures { (plan : Plan) → OnOk result (Follows D.meaning plan
+    ensures { (plan : Plan) → OnOk result (Follows nobody D.meaning plan
         (check point base (cond_view condition.now)) so_far.old so_far.new) }
 {
     let from = Kept {
@@ -86,7 +88,8 @@ fn pass_leave<D: Domain>(
 ) -> Result<(), AllocError>
     requires parts { 1 ≤ plan.now.parts }
     requires few { live ≤ most_live }
-    ensures { OnOk result (Follows D.meaning plan.now (leave live (exit_view exit)) so_far.old so_far.new) }
+    ensures { OnOk result (Follows nobody D.meaning plan.now (leave live (exit_view exit))
+        so_far.old so_far.new) }
 {
     let nothing = D::empty(alloc, live, plan.parts())?;
     so_far.jump(exit, nothing)?;
@@ -103,7 +106,8 @@ pub fn pass_on<D: Domain>(
     requires parts { 1 ≤ plan.now.parts }
     requires few { D.meaning.dims so_far.old.normal ≤ most_live }
     requires fits { TreeFits (leaf_view leaf.now) (D.meaning.dims so_far.old.normal) }
-    ensures { OnOk result (Follows D.meaning plan.now (leaf_view leaf.now) so_far.old so_far.new) }
+    ensures { OnOk result (Follows nobody D.meaning plan.now (leaf_view leaf.now)
+        so_far.old so_far.new) }
 {
     match leaf {
         Leaf::Empty => Ok(()),
@@ -125,7 +129,8 @@ pub fn pass_leaf<D: Domain>(
     requires parts { 1 ≤ plan.now.parts }
     requires few { D.meaning.dims value ≤ most_live }
     requires fits { TreeFits (leaf_view leaf.now) (D.meaning.dims value) }
-    ensures { IfOk result (λ r. IsPassed D.meaning plan.now (leaf_view leaf.now) flag value (seen r)) }
+    ensures { IfOk result (λ r. IsPassed nobody D.meaning plan.now (leaf_view leaf.now) flag value
+        (seen r)) }
 {
     let mut outcome = Outcome::nothing_yet(alloc, value, flag);
     pass_on(alloc, plan, leaf, &mut outcome)?;

@@ -9,6 +9,7 @@ ghost use Rattle.lra_outcomes.specs.Memory.{IsRecalled, AreRecalled, MayRecall};
 
 use crate::outcome::Outcome;
 use lra_domain::Domain;
+use lra_others::Disturb;
 use std::alloc::{AllocError, Global};
 
 /// A loop's last pass: the number of its point, its first value, and what it gave.
@@ -68,10 +69,11 @@ impl<D: Drop> Memory<D> {
 
 impl<D: Domain> Memory<D> {
     /// This pass takes the place of the same loop's last one.
-    fn keep(&mut self, one: KeptLoop<D>) -> Result<(), AllocError>
-        ensures { (plan : Plan) (loops : ℕ → Node) (f : Option ℕ) →
-            MayRecall D.meaning plan loops f self.old → IsRecalled D.meaning plan loops f one →
-            OnOk result (MayRecall D.meaning plan loops f self.new) }
+    fn keep<F: Disturb<D>>(&mut self, one: KeptLoop<D>) -> Result<(), AllocError>
+        ensures { (others : F) (plan : Plan) (loops : ℕ → Node) (f : Option ℕ) →
+            MayRecall (F.others others) D.meaning plan loops f self.old →
+            IsRecalled (F.others others) D.meaning plan loops f one →
+            OnOk result (MayRecall (F.others others) D.meaning plan loops f self.new) }
     {
         match find_kept(&self.kept, one.point) {
             Some(place) => self.kept[place] = one,
@@ -82,15 +84,17 @@ impl<D: Domain> Memory<D> {
 
     /// What the loop of this point gave, where it began with the same value: passed anew it would give the same, but
     /// for what is flagged so far.
-    fn recall(
+    fn recall<F: Disturb<D>>(
         &self,
         alloc: Global,
         point: usize,
         first: &D,
         flag: Option<usize>,
     ) -> Result<Option<Outcome<D>>, AllocError>
-        ensures { (plan : Plan) (loops : ℕ → Node) → MayRecall D.meaning plan loops flag self.now →
-            IfOk result (λ r. AreRecalled D.meaning plan (loops point) flag first.now r) }
+        ensures { (others : F) (plan : Plan) (loops : ℕ → Node) →
+            MayRecall (F.others others) D.meaning plan loops flag self.now →
+            IfOk result (λ r. AreRecalled (F.others others) D.meaning plan (loops point) flag
+            first.now r) }
     {
         let Some(place) = find_kept(&self.kept, point) else {
             return Ok(None);
@@ -104,18 +108,20 @@ impl<D: Domain> Memory<D> {
     }
 
     /// What is kept of this loop, where it began with the same value; else it is under way from now on.
-    pub fn begin(
+    pub fn begin<F: Disturb<D>>(
         &mut self,
         alloc: Global,
         point: usize,
         first: &D,
         flag: Option<usize>,
     ) -> Result<Option<Outcome<D>>, AllocError>
-        ensures given { (plan : Plan) (loops : ℕ → Node) → MayRecall D.meaning plan loops flag self.old →
-            IfOk result (λ r. AreRecalled D.meaning plan (loops point) flag first.now r) }
+        ensures given { (others : F) (plan : Plan) (loops : ℕ → Node) →
+            MayRecall (F.others others) D.meaning plan loops flag self.old →
+            IfOk result (λ r. AreRecalled (F.others others) D.meaning plan (loops point) flag
+            first.now r) }
         ensures kept { self.new.kept ≡ self.old.kept }
     {
-        let given = self.recall(alloc, point, first, flag)?;
+        let given = self.recall::<F>(alloc, point, first, flag)?;
         if given.is_none() {
             self.depth = self.depth.saturating_add(1);
         }
@@ -123,17 +129,19 @@ impl<D: Domain> Memory<D> {
     }
 
     /// The loop of this point is left: what it gave is kept if it stands inside another, and else nothing is.
-    pub fn end(
+    pub fn end<F: Disturb<D>>(
         &mut self,
         alloc: Global,
         point: usize,
         first: D,
         outcome: &Outcome<D>,
     ) -> Result<(), AllocError>
-        ensures { (plan : Plan) (loops : ℕ → Node) →
-            MayRecall D.meaning plan loops outcome.now.flag self.old →
-            IsKept D.meaning plan (loops point) outcome.now.flag first (seen outcome.now) →
-            OnOk result (MayRecall D.meaning plan loops outcome.now.flag self.new) }
+        ensures { (others : F) (plan : Plan) (loops : ℕ → Node) →
+            MayRecall (F.others others) D.meaning plan loops outcome.now.flag self.old →
+            IsKept (F.others others) D.meaning plan (loops point) outcome.now.flag first
+            (seen outcome.now) →
+            OnOk result (MayRecall (F.others others) D.meaning plan loops outcome.now.flag
+            self.new) }
     {
         self.depth = self.depth.saturating_sub(1);
         if self.depth == 0 {
@@ -141,7 +149,7 @@ impl<D: Domain> Memory<D> {
             return Ok(());
         }
         let outcome = outcome.copy(alloc, outcome.flag)?;
-        self.keep(KeptLoop {
+        self.keep::<F>(KeptLoop {
             point,
             first,
             outcome,

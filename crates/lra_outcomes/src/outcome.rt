@@ -11,6 +11,7 @@ ghost use Rattle.lra_outcomes.specs.Outcome.{running_on, EntersWith};
 
 use lra_domain::{Domain, Exactness, worse};
 use lra_operations::Exit;
+use lra_others::Disturb;
 use std::alloc::{AllocError, Global};
 use std::mem;
 
@@ -21,6 +22,8 @@ pub enum Entry<D> {
     Value(usize, D),
     /// The value where the assertion at the point is false.
     Failing(usize, D),
+    /// What was there when the variable at this place had got a value.
+    Given(usize, usize, D),
 }
 
 /// What is found on the way: entries in the order in which they are found, and the values of the jumps in text order.
@@ -103,6 +106,10 @@ impl<D: Domain> Entry<D> {
             Entry::Failing(point, value) => {
                 let copied = value.copy(alloc)?;
                 Ok(Entry::Failing(*point, copied))
+            }
+            Entry::Given(point, place, value) => {
+                let copied = value.copy(alloc)?;
+                Ok(Entry::Given(*point, *place, copied))
             }
         }
     }
@@ -352,9 +359,14 @@ impl<D: Drop> Turn<D> {
 
 /// The kept turn of a loop's body, where the same value enters it again: passed anew it would give the same, but for
 /// what is flagged so far.
-fn reuse_turn<D: Domain>(kept: Option<Turn<D>>, on: &D, flag: Option<usize>) -> Option<Turn<D>>
-    ensures { (plan : Plan) (body : Node) → AreKept D.meaning plan body flag kept →
-        AreGiven D.meaning plan body flag on.now result }
+fn reuse_turn<D: Domain, F: Disturb<D>>(
+    kept: Option<Turn<D>>,
+    on: &D,
+    flag: Option<usize>,
+) -> Option<Turn<D>>
+    ensures { (others : F) (plan : Plan) (body : Node) →
+        AreKept (F.others others) D.meaning plan body flag kept →
+        AreGiven (F.others others) D.meaning plan body flag on.now result }
 {
     let Some(mut turn) = kept else {
         return None;
@@ -367,16 +379,17 @@ fn reuse_turn<D: Domain>(kept: Option<Turn<D>>, on: &D, flag: Option<usize>) -> 
 }
 
 /// The kept turn, where this value entered it, or else the value.
-pub fn enter_with<D: Domain>(
+pub fn enter_with<D: Domain, F: Disturb<D>>(
     alloc: Global,
     kept: Option<Turn<D>>,
     on: D,
     flag: Option<usize>,
 ) -> Result<Entered<D>, AllocError>
-    ensures { (plan : Plan) (body : Node) → AreKept D.meaning plan body flag kept →
-        IfOk result (EntersWith D.meaning plan body flag on) }
+    ensures { (others : F) (plan : Plan) (body : Node) →
+        AreKept (F.others others) D.meaning plan body flag kept →
+        IfOk result (EntersWith (F.others others) D.meaning plan body flag on) }
 {
-    match reuse_turn(kept, &on, flag) {
+    match reuse_turn::<D, F>(kept, &on, flag) {
         Some(turn) => Ok(Entered::Again(turn)),
         None => {
             let entered = on.copy(alloc)?;

@@ -2,6 +2,7 @@
 use Rattle.std.proofs.Common.{Box, Global, ◌≡◌, ◌≤◌, true, false, ℕ, List, [], ◌∷◌, ◌++◌, map, Option, Some, refl, sym, ap, subst, ◌∙◌}
 use Rattle.std.specs.Prelude.{option_to_list, IfOk, MatchResult, OnOk}
 use Rattle.std.specs.Prelude as outcome_or
+use Rattle.lra_others.specs.Others.{Others}
 use Rattle.lra_domain.specs.Meaning.{Meaning}
 use Rattle.lra_domain.specs.declared.Exactness.{Exactness}
 use Rattle.lra_domain.specs.declared.Exactness.TheVariants.{Exact}
@@ -63,64 +64,64 @@ steps_both {V} {H} {E} (outcome_or.Ok n) R O P Q is f o p =
 steps_both {V} {H} {E} (outcome_or.Err e) R O P Q is f o p =
     subst (λ (x : outcome_or.Result (step.Step V H) E). IfOk x Q) (sym is) tt
 
-module _ {V H : Type 0} (m : Meaning V H) (set : Plan) where
+module _ {V H : Type 0} (o : Others V) (m : Meaning V H) (set : Plan) where
   -- one place more, in which this is under way
   pub open_more : (ps : List (place.Place V H)) (p : place.Place V H) (whole under inner : Due V) →
-      AreOpen m set ps whole under → MayBePassed m set under → IsOpen m set p under inner →
-      AreOpen m set (ps ++ p ∷ []) whole inner
+      AreOpen o m set ps whole under → MayBePassed o m set under → IsOpen o m set p under inner →
+      AreOpen o m set (ps ++ p ∷ []) whole inner
   open_more [] p whole under inner same may owed =
-      (inner, subst (λ (d : Due V). MayBePassed m set d) same may, subst (λ (d : Due V). IsOpen m set p d inner) same owed, refl)
+      (inner, subst (λ (d : Due V). MayBePassed o m set d) same may, subst (λ (d : Due V). IsOpen o m set p d inner) same owed, refl)
   open_more (q ∷ ps) p whole under inner (later, begun, here, rest) may owed =
       (later, begun, here, open_more ps p later under inner rest may owed)
 
   -- one less
   pub open_less : (ps : List (place.Place V H)) (p : place.Place V H) (whole inner : Due V) →
-      AreOpen m set (ps ++ p ∷ []) whole inner → (under : Due V) × AreOpen m set ps whole under ×
-      MayBePassed m set under × IsOpen m set p under inner
+      AreOpen o m set (ps ++ p ∷ []) whole inner → (under : Due V) × AreOpen o m set ps whole under ×
+      MayBePassed o m set under × IsOpen o m set p under inner
   open_less [] p whole inner (later, may, owed, same) =
-      (whole, refl, may, subst (λ (d : Due V). IsOpen m set p whole d) (sym same) owed)
+      (whole, refl, may, subst (λ (d : Due V). IsOpen o m set p whole d) (sym same) owed)
   open_less (q ∷ ps) p whole inner (later, may, owed, rest) =
       let less = open_less ps p later inner rest in
       (less.0, (later, may, owed, less.1), less.2, less.3)
 
   -- the loop begins
   pub begins : (ps : List (place.Place V H)) (whole : Due V) (n : next.Next V H) (memory : Memory V) → ps ≡ [] →
-      MayBePassed m set whole → Leads m set whole n memory → AreUnderWay m set ps whole n memory
+      MayBePassed o m set whole → Leads o m set whole n memory → AreUnderWay o m set ps whole n memory
   begins ps whole n memory none may leads =
-      subst (λ (qs : List (place.Place V H)). AreUnderWay m set qs whole n memory) (sym none)
+      subst (λ (qs : List (place.Place V H)). AreUnderWay o m set qs whole n memory) (sym none)
       (record { part = whole; begun = may; owed = refl; leads = leads })
 
   -- it goes on
   pub went_on : (ps : List (place.Place V H)) (whole under : Due V) (n : next.Next V H) (new : Memory V) →
-      AreOpen m set ps whole under → MayBePassed m set under → Leads m set under n new →
-      AreUnderWay m set ps whole n new
+      AreOpen o m set ps whole under → MayBePassed o m set under → Leads o m set under n new →
+      AreUnderWay o m set ps whole n new
   went_on ps whole under n new owed may leads = record { part = under; begun = may; owed = owed; leads = leads }
 
   -- the loop, where what comes next is told by an equation
   module _ (ps : List (place.Place V H)) (whole : Due V) (n : next.Next V H) (memory : Memory V)
-      (way : AreUnderWay m set ps whole n memory) where
-    pub leads_on : (n' : next.Next V H) → n ≡ n' → Leads m set way.part n' memory
-    leads_on n' is = subst (λ (x : next.Next V H). Leads m set way.part x memory) is way.leads
+      (way : AreUnderWay o m set ps whole n memory) where
+    pub leads_on : (n' : next.Next V H) → n ≡ n' → Leads o m set way.part n' memory
+    leads_on n' is = subst (λ (x : next.Next V H). Leads o m set way.part x memory) is way.leads
 
     -- the innermost place goes on, and owes this, with what is made there
-    pub popped : (left : List (place.Place V H)) (o : Option (place.Place V H)) (p : place.Place V H) (r : Outcome V) →
-        n ≡ Passed r → ps ≡ left ++ option_to_list o → o ≡ Some p → (under : Due V) × (part : Due V) ×
-        AreOpen m set left whole under × MayBePassed m set under × IsOpen m set p under part ×
-        IsMade m set part (seen r) memory
-    popped left o p r is left_is some =
-        let all : AreOpen m set (left ++ p ∷ []) whole way.part =
-        subst (λ (x : Option (place.Place V H)). AreOpen m set (left ++ option_to_list x) whole way.part) some
-        (subst (λ (qs : List (place.Place V H)). AreOpen m set qs whole way.part) left_is way.owed) in
+    pub popped : (left : List (place.Place V H)) (last : Option (place.Place V H)) (p : place.Place V H) (r : Outcome V) →
+        n ≡ Passed r → ps ≡ left ++ option_to_list last → last ≡ Some p → (under : Due V) × (part : Due V) ×
+        AreOpen o m set left whole under × MayBePassed o m set under × IsOpen o m set p under part ×
+        IsMade o m set part (seen r) memory
+    popped left last p r is left_is some =
+        let all : AreOpen o m set (left ++ p ∷ []) whole way.part =
+        subst (λ (x : Option (place.Place V H)). AreOpen o m set (left ++ option_to_list x) whole way.part) some
+        (subst (λ (qs : List (place.Place V H)). AreOpen o m set qs whole way.part) left_is way.owed) in
         let less = open_less left p whole way.part all in
         (less.0, way.part, less.1, less.2, less.3, leads_on (Passed r) is)
 
     -- a place opens in it
     pub pushed : (p : place.Place V H) (tree : Entering V) (all : List (place.Place V H)) (n' : next.Next V H)
-        (new : Memory V) → n ≡ Opens p tree → all ≡ ps ++ p ∷ [] → Leads m set (due tree memory) n' new →
-        AreUnderWay m set all whole n' new
+        (new : Memory V) → n ≡ Opens p tree → all ≡ ps ++ p ∷ [] → Leads o m set (due tree memory) n' new →
+        AreUnderWay o m set all whole n' new
     pushed p tree all n' new is all_is leads =
         let here = leads_on (Opens p tree) is in
-        subst (λ (qs : List (place.Place V H)). AreUnderWay m set qs whole n' new) (sym all_is) (record {
+        subst (λ (qs : List (place.Place V H)). AreUnderWay o m set qs whole n' new) (sym all_is) (record {
           part = due tree memory;
           begun = here.1;
           owed = open_more ps p whole way.part (due tree memory) way.owed way.begun here.0;
@@ -128,93 +129,93 @@ module _ {V H : Type 0} (m : Meaning V H) (set : Plan) where
         })
 
     -- nothing is open any more: the whole is made
-    pub all_made : (r : Outcome V) → n ≡ Passed r → ps ≡ [] → IsMade m set whole (seen r) memory
+    pub all_made : (r : Outcome V) → n ≡ Passed r → ps ≡ [] → IsMade o m set whole (seen r) memory
     all_made r is none =
-        let same : AreOpen m set [] whole way.part =
-        subst (λ (qs : List (place.Place V H)). AreOpen m set qs whole way.part) none way.owed in
-        subst (λ (d : Due V). IsMade m set d (seen r) memory) same (leads_on (Passed r) is)
+        let same : AreOpen o m set [] whole way.part =
+        subst (λ (qs : List (place.Place V H)). AreOpen o m set qs whole way.part) none way.owed in
+        subst (λ (d : Due V). IsMade o m set d (seen r) memory) same (leads_on (Passed r) is)
 
   -- a place opens for the tree
   abbrev OpensAt : Due V → place.Place V H → node.Node → V → Option ℕ → Memory V → Type 0
   OpensAt whole p n value flag memory =
       let part : Due V = record { tree = node_view n; value = value; flag = flag; memory = memory } in
-      IsOpen m set p whole part × MayBePassed m set part
+      IsOpen o m set p whole part × MayBePassed o m set part
 
   -- trees in a row --------------------------------------------------------------------------------------------------
 
   -- the first of them is next
   pub row_opened : (gs : List node.Node) (last : node.Node) (whole : Due V) (value : V) (flag : Option ℕ)
       (begun : Outcome V) → whole.tree ≡ row (map node_view gs) (node_view last) → whole.value ≡ value →
-      whole.flag ≡ flag → MayBePassed m set whole → ((u : V) (d : Option ℕ) → ended begun.found u d ≡ goes_on [] u d) →
+      whole.flag ≡ flag → MayBePassed o m set whole → ((u : V) (d : Option ℕ) → ended begun.found u d ≡ goes_on [] u d) →
       begun.normal ≡ value → begun.flag ≡ flag →
-      RowLoop m set whole.tree whole.flag whole.value (row (map node_view gs) (node_view last)) begun.found
+      RowLoop o m set whole.tree whole.flag whole.value (row (map node_view gs) (node_view last)) begun.found
       begun.normal begun.flag whole.memory whole.memory
   row_opened gs last whole value flag begun is first flagged may none one two =
-      subst (λ (g : Node). RowLoop m set whole.tree whole.flag whole.value g begun.found begun.normal begun.flag
+      subst (λ (g : Node). RowLoop o m set whole.tree whole.flag whole.value g begun.found begun.normal begun.flag
       whole.memory whole.memory) is
-      (row_begins m set whole.tree whole.flag whole.value begun whole.memory may.few may.fits none (one ∙ sym first)
+      (row_begins o m set whole.tree whole.flag whole.value begun whole.memory may.few may.fits none (one ∙ sym first)
       (two ∙ sym flagged))
 
   -- the first of those that are left is
   pub row_leads : (r : RowPlace V) (gs : List node.Node) (n : node.Node) (value : V) (flag : Option ℕ) (whole : Due V)
-      (memory : Memory V) → r.behind.plan.now ≡ set → gs ≡ n ∷ r.behind.trees.now → MayBePassed m set whole →
-      RowLoop m set whole.tree whole.flag whole.value (row (map node_view gs) (node_view r.behind.last.now)) r.found value
+      (memory : Memory V) → r.behind.plan.now ≡ set → gs ≡ n ∷ r.behind.trees.now → MayBePassed o m set whole →
+      RowLoop o m set whole.tree whole.flag whole.value (row (map node_view gs) (node_view r.behind.last.now)) r.found value
       flag whole.memory memory → OpensAt whole (Row r) n value flag memory
   row_leads r gs n value flag whole memory plan first may loop =
       let is = row_first gs r.behind.trees.now n r.behind.last.now first in (
         record {
           plan = plan;
-          loop = subst (λ (g : Node). RowLoop m set whole.tree whole.flag whole.value g r.found value flag
+          loop = subst (λ (g : Node). RowLoop o m set whole.tree whole.flag whole.value g r.found value flag
               whole.memory memory) is loop;
         },
         record {
           few = loop.few;
-          fits = next_fits m set whole.tree whole.flag whole.value _ r.found value flag whole.memory memory loop _ _ is;
-          remembers = next_remembers m set whole.tree whole.flag whole.value _ r.found value flag whole.memory
+          fits = next_fits o m set whole.tree whole.flag whole.value _ r.found value flag whole.memory memory loop _ _ is;
+          remembers = next_remembers o m set whole.tree whole.flag whole.value _ r.found value flag whole.memory
               memory loop _ _ is may.remembers;
         },
       )
 
   -- the last is
   pub last_leads : (gs : List node.Node) (found : Found V) (n : node.Node) (value : V) (flag : Option ℕ)
-      (whole : Due V) (memory : Memory V) → gs ≡ [] → MayBePassed m set whole →
-      RowLoop m set whole.tree whole.flag whole.value (row (map node_view gs) (node_view n))
+      (whole : Due V) (memory : Memory V) → gs ≡ [] → MayBePassed o m set whole →
+      RowLoop o m set whole.tree whole.flag whole.value (row (map node_view gs) (node_view n))
       found value flag whole.memory memory → OpensAt whole (Last found) n value flag memory
   last_leads gs found n value flag whole memory none may loop =
       let is = row_last gs n none in (
-        subst (λ (g : Node). RowLoop m set whole.tree whole.flag whole.value g found value flag
+        subst (λ (g : Node). RowLoop o m set whole.tree whole.flag whole.value g found value flag
             whole.memory memory) is loop,
         record {
           few = loop.few;
-          fits = last_fits m set whole.tree whole.flag whole.value _ found value flag whole.memory memory loop _ is;
-          remembers = last_remembers m set whole.tree whole.flag whole.value _ found value flag whole.memory
+          fits = last_fits o m set whole.tree whole.flag whole.value _ found value flag whole.memory memory loop _ is;
+          remembers = last_remembers o m set whole.tree whole.flag whole.value _ found value flag whole.memory
               memory loop _ is may.remembers;
         },
       )
 
   -- behind what the tree under way found
   pub row_followed : (r : RowPlace V) (whole part : Due V) (memory : Memory V) (outcome so_far : Outcome V) →
-      IsRow m set r whole part → IsMade m set part (seen outcome) memory →
+      IsRow o m set r whole part → IsMade o m set part (seen outcome) memory →
       AreInTurn r.found outcome.found so_far.found → so_far.normal ≡ outcome.normal → so_far.flag ≡ outcome.flag →
-      RowLoop m set whole.tree whole.flag whole.value
+      RowLoop o m set whole.tree whole.flag whole.value
       (row (map node_view r.behind.trees.now) (node_view r.behind.last.now)) so_far.found so_far.normal
       so_far.flag whole.memory memory
   row_followed r whole part memory outcome so_far owed made turn one two =
-      row_next m set whole.tree whole.flag whole.value _ r.found part.value part.flag whole.memory part.memory owed.loop
+      row_next o m set whole.tree whole.flag whole.value _ r.found part.value part.flag whole.memory part.memory owed.loop
       _ _ refl (seen outcome) so_far.found so_far.normal so_far.flag memory made.stays made.passed
       (λ u d. turn part.value outcome.normal u part.flag outcome.flag d) one two
 
   -- behind what the last found
   pub last_made : (found : Found V) (whole part : Due V) (memory : Memory V) (outcome all : Outcome V) →
-      IsOpen m set (Last found) whole part → IsMade m set part (seen outcome) memory →
+      IsOpen o m set (Last found) whole part → IsMade o m set part (seen outcome) memory →
       AreInTurn found outcome.found all.found → all.normal ≡ outcome.normal → all.flag ≡ outcome.flag →
-      IsMade m set whole (seen all) memory
+      IsMade o m set whole (seen all) memory
   last_made found whole part memory outcome all loop made turn one two = record {
-    passed = row_ends m set whole.tree whole.flag whole.value _ found part.value part.flag whole.memory part.memory loop
+    passed = row_ends o m set whole.tree whole.flag whole.value _ found part.value part.flag whole.memory part.memory loop
         _ refl (seen outcome) all.found all.normal all.flag made.passed
         (λ u d. turn part.value outcome.normal u part.flag outcome.flag d) one two;
-    stays = subst (λ (f : Option ℕ). StaysKept m set whole.tree whole.flag whole.memory f memory) (sym two)
-        (row_stays m set whole.tree whole.flag whole.value _ found part.value part.flag whole.memory part.memory loop
+    stays = subst (λ (f : Option ℕ). StaysKept o m set whole.tree whole.flag whole.memory f memory) (sym two)
+        (row_stays o m set whole.tree whole.flag whole.value _ found part.value part.flag whole.memory part.memory loop
         _ refl outcome.flag memory made.stays);
   }
 
@@ -223,7 +224,7 @@ module _ {V H : Type 0} (m : Meaning V H) (set : Plan) where
   -- the first branch is next
   pub choice_leads : (k : ChoicePlace V) (n : node.Node) (value : V) (flag : Option ℕ) (whole : Due V) (e : Exactness) →
       k.choice.plan.now ≡ set → whole.tree ≡ choose k.choice.point k.choice.base (cond_view k.choice.condition.now)
-      (node_view n) (node_view k.choice.no.now) → MayBePassed m set whole →
+      (node_view n) (node_view k.choice.no.now) → MayBePassed o m set whole →
       Leaves (dropping m) k.choice.base (cond_view k.choice.condition.now) true whole.value e value →
       m.dims value ≡ m.dims whole.value → flag ≡ noted k.choice.point e whole.flag →
       Leaves (dropping m) k.choice.base (cond_view k.choice.condition.now) false whole.value k.off.exactness
@@ -244,9 +245,9 @@ module _ {V H : Type 0} (m : Meaning V H) (set : Plan) where
         record {
           few = subst (λ (k : ℕ). k ≤ most_live) (sym on_dims) may.few;
           fits = subst (λ (k : ℕ). TreeFits (node_view n) k) (sym on_dims) fits.0;
-          remembers = remembers_first m set k.choice.point k.choice.base (cond_view k.choice.condition.now)
+          remembers = remembers_first o m set k.choice.point k.choice.base (cond_view k.choice.condition.now)
               (node_view n) (node_view k.choice.no.now) whole.flag flag whole.flag whole.flag whole.memory
-              whole.memory (subst (λ (g : Node). Remembers m set g whole.flag whole.memory) is may.remembers)
+              whole.memory (subst (λ (g : Node). Remembers o m set g whole.flag whole.memory) is may.remembers)
               (later_noted k.choice.point e whole.flag flag flagged);
         },
       )
@@ -255,7 +256,7 @@ module _ {V H : Type 0} (m : Meaning V H) (set : Plan) where
   pub choice_opens : (k : shape.Choice) (sides : Sides V) (value : V) (flag inside : Option ℕ) (whole : Due V) →
       SplitsBy m k.base true (cond_view k.condition.now) (record { value = value; exactness = Exact }) sides → inside ≡ noted k.point sides.on.exactness flag →
       k.plan.now ≡ set → whole.tree ≡ choose k.point k.base (cond_view k.condition.now) (node_view k.yes.now)
-      (node_view k.no.now) → whole.value ≡ value → whole.flag ≡ flag → MayBePassed m set whole →
+      (node_view k.no.now) → whole.value ≡ value → whole.flag ≡ flag → MayBePassed o m set whole →
       OpensAt whole (Choice (record { choice = k; off = sides.off })) k.yes.now sides.on.value inside whole.memory
   choice_opens k sides value flag inside whole splits flagged plan is first before may =
       let c = cond_view k.condition.now in
@@ -271,15 +272,15 @@ module _ {V H : Type 0} (m : Meaning V H) (set : Plan) where
   -- behind it, the second
   pub branch_leads : (k : ChoicePlace V) (first : Outcome V) (b : Box (BranchPlace V) Global) (flag : Option ℕ)
       (whole part : Due V) (memory : Memory V) → b.value ≡ record { point = k.choice.point; first = first } →
-      MayBePassed m set whole → IsChoice m set k whole part → IsMade m set part (seen first) memory →
+      MayBePassed o m set whole → IsChoice o m set k whole part → IsMade o m set part (seen first) memory →
       flag ≡ noted k.choice.point k.off.exactness first.flag →
       OpensAt whole (Branch b) k.choice.no.now k.off.value flag memory
   branch_leads k first b flag whole part memory boxed may owed made flagged =
       let c = cond_view k.choice.condition.now in
       let fits = subst (λ (g : Node). TreeFits g (m.dims whole.value)) owed.is may.fits in
-      let stays : StaysKept m set part.tree part.flag whole.memory first.flag memory =
-      subst (λ (x : Memory V). StaysKept m set part.tree part.flag x first.flag memory) owed.kept made.stays in (
-        subst (λ (x : BranchPlace V). IsBranch m set x whole (record {
+      let stays : StaysKept o m set part.tree part.flag whole.memory first.flag memory =
+      subst (λ (x : Memory V). StaysKept o m set part.tree part.flag x first.flag memory) owed.kept made.stays in (
+        subst (λ (x : BranchPlace V). IsBranch o m set x whole (record {
           tree = node_view k.choice.no.now;
           value = k.off.value;
           flag = flag;
@@ -303,41 +304,41 @@ module _ {V H : Type 0} (m : Meaning V H) (set : Plan) where
         record {
           few = subst (λ (n : ℕ). n ≤ most_live) (sym owed.off_dims) may.few;
           fits = subst (λ (n : ℕ). TreeFits (node_view k.choice.no.now) n) (sym owed.off_dims) fits.1;
-          remembers = remembers_second m set k.choice.point k.choice.base c part.tree (node_view k.choice.no.now) whole.flag
+          remembers = remembers_second o m set k.choice.point k.choice.base c part.tree (node_view k.choice.no.now) whole.flag
               part.flag first.flag flag whole.memory memory
-              (subst (λ (g : Node). Remembers m set g whole.flag whole.memory) owed.is may.remembers)
+              (subst (λ (g : Node). Remembers o m set g whole.flag whole.memory) owed.is may.remembers)
               (later_noted k.choice.point owed.exactness whole.flag part.flag owed.flagged) stays
               (later_noted k.choice.point k.off.exactness first.flag flag flagged);
         },
       )
 
-  module _ (b : BranchPlace V) (whole part : Due V) (owed : IsBranch m set b whole part) (second : Outcome V)
-      (memory : Memory V) (made : IsMade m set part (seen second) memory) where
+  module _ (b : BranchPlace V) (whole part : Due V) (owed : IsBranch o m set b whole part) (second : Outcome V)
+      (memory : Memory V) (made : IsMade o m set part (seen second) memory) where
     -- both ends have as many dimensions
-    pub branches_meet : MayBePassed m set whole → m.dims b.first.normal ≡ m.dims second.normal
-    branches_meet may = ends_meet m set b.point owed.base owed.condition owed.first.tree part.tree owed.first.flag
+    pub branches_meet : MayBePassed o m set whole → m.dims b.first.normal ≡ m.dims second.normal
+    branches_meet may = ends_meet o m set b.point owed.base owed.condition owed.first.tree part.tree owed.first.flag
         part.flag (m.dims whole.value) owed.first.value part.value (seen b.first) (seen second)
         (subst (λ (g : Node). TreeFits g (m.dims whole.value)) owed.is may.fits) owed.on_dims owed.off_dims
         owed.made.passed made.passed
 
     -- and are joined
     pub branches_made : (r : Outcome V) → AreMet m b.point (seen b.first) (seen second) (seen r) →
-        m.dims r.normal ≡ m.dims b.first.normal → IsMade m set whole (seen r) memory
+        m.dims r.normal ≡ m.dims b.first.normal → IsMade o m set whole (seen r) memory
     branches_made r met dims =
-        let one = subst (λ (f : Option ℕ). IsPassed m set owed.first.tree f owed.first.value (seen b.first))
+        let one = subst (λ (f : Option ℕ). IsPassed o m set owed.first.tree f owed.first.value (seen b.first))
         owed.on_flagged owed.made.passed in
-        let two = subst (λ (f : Option ℕ). IsPassed m set part.tree f part.value (seen second))
+        let two = subst (λ (f : Option ℕ). IsPassed o m set part.tree f part.value (seen second))
         owed.off_flagged made.passed in
-        let stays : StaysKept m set owed.first.tree owed.first.flag whole.memory b.first.flag part.memory =
-        subst (λ (x : Memory V). StaysKept m set owed.first.tree owed.first.flag x b.first.flag part.memory) owed.kept
+        let stays : StaysKept o m set owed.first.tree owed.first.flag whole.memory b.first.flag part.memory =
+        subst (λ (x : Memory V). StaysKept o m set owed.first.tree owed.first.flag x b.first.flag part.memory) owed.kept
         owed.made.stays in
         record {
-          passed = subst (λ (g : Node). IsPassed m set g whole.flag whole.value (seen r)) (sym owed.is)
-              (choice_passed m set b.point owed.base owed.condition owed.first.tree part.tree whole.flag whole.value
+          passed = subst (λ (g : Node). IsPassed o m set g whole.flag whole.value (seen r)) (sym owed.is)
+              (choice_passed o m set b.point owed.base owed.condition owed.first.tree part.tree whole.flag whole.value
               owed.first.value part.value owed.on_exactness owed.off_exactness (seen b.first) (seen second) (seen r)
               owed.on owed.on_dims one owed.off owed.off_dims two met dims);
-          stays = subst (λ (g : Node). StaysKept m set g whole.flag whole.memory r.flag memory) (sym owed.is)
-              (stays_choice m set b.point owed.base owed.condition owed.first.tree part.tree whole.flag owed.first.flag
+          stays = subst (λ (g : Node). StaysKept o m set g whole.flag whole.memory r.flag memory) (sym owed.is)
+              (stays_choice o m set b.point owed.base owed.condition owed.first.tree part.tree whole.flag owed.first.flag
               b.first.flag part.flag whole.memory part.memory second.flag r.flag memory
               (later_noted b.point owed.on_exactness whole.flag owed.first.flag owed.on_flagged) stays
               (later_noted b.point owed.off_exactness b.first.flag part.flag owed.off_flagged) made.stays
@@ -349,58 +350,58 @@ module _ {V H : Type 0} (m : Meaning V H) (set : Plan) where
   -- the tree in a catch is next
   pub catch_leads : (q : ℕ) (k : exit.Exit) (n : node.Node) (value : V) (flag : Option ℕ) (whole : Due V) →
       whole.tree ≡ catch q (exit_view k) (node_view n) → value ≡ whole.value →
-      flag ≡ whole.flag → MayBePassed m set whole → OpensAt whole (Catch q k) n value flag whole.memory
+      flag ≡ whole.flag → MayBePassed o m set whole → OpensAt whole (Catch q k) n value flag whole.memory
   catch_leads q k n value flag whole is same flagged may =
       let fits = subst (λ (g : Node). TreeFits g (m.dims whole.value)) is may.fits in
-      let remembers : Remembers m set (node_view n) whole.flag whole.memory =
-      subst (λ (g : Node). Remembers m set g whole.flag whole.memory) is may.remembers in (
+      let remembers : Remembers o m set (node_view n) whole.flag whole.memory =
+      subst (λ (g : Node). Remembers o m set g whole.flag whole.memory) is may.remembers in (
         (is, same, flagged, refl),
         record {
           few = subst (λ (v : V). m.dims v ≤ most_live) (sym same) may.few;
           fits = subst (λ (v : V). TreeFits (node_view n) (m.dims v)) (sym same) fits.0;
-          remembers = subst (λ (f : Option ℕ). Remembers m set (node_view n) f whole.memory) (sym flagged)
+          remembers = subst (λ (f : Option ℕ). Remembers o m set (node_view n) f whole.memory) (sym flagged)
               remembers;
         },
       )
 
-  module _ (q : ℕ) (k : exit.Exit) (whole part : Due V) (owed : IsOpen m set (Catch q k) whole part)
-      (inner : Outcome V) (memory : Memory V) (made : IsMade m set part (seen inner) memory) where
-    caught_inside : IsPassed m set part.tree whole.flag whole.value (seen inner)
-    caught_inside = subst (λ (v : V). IsPassed m set part.tree whole.flag v (seen inner)) owed.1
-        (subst (λ (f : Option ℕ). IsPassed m set part.tree f part.value (seen inner)) owed.2 made.passed)
+  module _ (q : ℕ) (k : exit.Exit) (whole part : Due V) (owed : IsOpen o m set (Catch q k) whole part)
+      (inner : Outcome V) (memory : Memory V) (made : IsMade o m set part (seen inner) memory) where
+    caught_inside : IsPassed o m set part.tree whole.flag whole.value (seen inner)
+    caught_inside = subst (λ (v : V). IsPassed o m set part.tree whole.flag v (seen inner)) owed.1
+        (subst (λ (f : Option ℕ). IsPassed o m set part.tree f part.value (seen inner)) owed.2 made.passed)
 
-    caught_stays : StaysKept m set part.tree whole.flag whole.memory inner.flag memory
-    caught_stays = subst (λ (x : Memory V). StaysKept m set part.tree whole.flag x inner.flag memory) owed.3
-        (subst (λ (f : Option ℕ). StaysKept m set part.tree f part.memory inner.flag memory) owed.2 made.stays)
+    caught_stays : StaysKept o m set part.tree whole.flag whole.memory inner.flag memory
+    caught_stays = subst (λ (x : Memory V). StaysKept o m set part.tree whole.flag x inner.flag memory) owed.3
+        (subst (λ (f : Option ℕ). StaysKept o m set part.tree f part.memory inner.flag memory) owed.2 made.stays)
 
-    pub jumps_have : MayBePassed m set whole →
+    pub jumps_have : MayBePassed o m set whole →
         AllHave m (m.dims inner.normal) (jumps_of (exit_view k) (seen inner))
     jumps_have may = caught_have m q (exit_view k) part.tree (m.dims whole.value) (seen inner)
         (subst (λ (g : Node). TreeFits g (m.dims whole.value)) owed.0 may.fits) caught_inside.jumps caught_inside.dims
 
     pub catch_made : (r : Outcome V) → Catches m q (exit_view k) (seen inner) (seen r) →
-        m.dims r.normal ≡ m.dims inner.normal → IsMade m set whole (seen r) memory
+        m.dims r.normal ≡ m.dims inner.normal → IsMade o m set whole (seen r) memory
     catch_made r catches dims = record {
-      passed = subst (λ (g : Node). IsPassed m set g whole.flag whole.value (seen r)) (sym owed.0) (record {
-        pass = catch_passes m set q (exit_view k) part.tree whole.flag whole.value (seen inner) (seen r)
+      passed = subst (λ (g : Node). IsPassed o m set g whole.flag whole.value (seen r)) (sym owed.0) (record {
+        pass = catch_passes o m set q (exit_view k) part.tree whole.flag whole.value (seen inner) (seen r)
             caught_inside.pass catches;
         dims = dims ∙ caught_inside.dims;
         jumps = catch_fits m q (exit_view k) part.tree (m.dims whole.value) (seen inner) (seen r) caught_inside.jumps
             catches;
       });
-      stays = subst (λ (g : Node). StaysKept m set g whole.flag whole.memory r.flag memory) (sym owed.0)
-          (λ loops has all. recall_later m set loops inner.flag r.flag memory
+      stays = subst (λ (g : Node). StaysKept o m set g whole.flag whole.memory r.flag memory) (sym owed.0)
+          (λ loops has all. recall_later o m set loops inner.flag r.flag memory
           (caught_later m q (exit_view k) (seen inner) (seen r) catches) (caught_stays loops has all));
     }
 
   -- leaves ------------------------------------------------------------------------------------------------------------
 
   pub leaf_made : (whole : Due V) (g : Node) (r : Outcome V) → whole.tree ≡ g →
-      IsPassed m set g whole.flag whole.value (seen r) → IsMade m set whole (seen r) whole.memory
+      IsPassed o m set g whole.flag whole.value (seen r) → IsMade o m set whole (seen r) whole.memory
   leaf_made whole g r is here =
-      let passed : IsPassed m set whole.tree whole.flag whole.value (seen r) =
-      subst (λ (z : Node). IsPassed m set z whole.flag whole.value (seen r)) (sym is) here in
+      let passed : IsPassed o m set whole.tree whole.flag whole.value (seen r) =
+      subst (λ (z : Node). IsPassed o m set z whole.flag whole.value (seen r)) (sym is) here in
       record {
         passed = passed;
-        stays = stays_passed m set whole.tree whole.flag whole.value (seen r) whole.memory passed;
+        stays = stays_passed o m set whole.tree whole.flag whole.value (seen r) whole.memory passed;
       }

@@ -4,6 +4,7 @@ use Rattle.std.specs.Prelude.{IfOk}
 use Rattle.std.proofs.lemmas.Result.{IfOk-weaker}
 use Rattle.std.specs.Prelude as outcome_or
 use Rattle.lra_flow.specs.Plan.{Plan}
+use Rattle.lra_others.specs.Others.{Others}
 use Rattle.lra_domain.specs.Meaning.{Meaning}
 use Rattle.lra_operations.specs.declared.graph.Node as node
 use Rattle.lra_operations.specs.Graph.{Node}
@@ -25,12 +26,12 @@ use Rattle.lra_places.proofs.OpenRows.{next_fits, row_ends, row_next, row_stays}
 use Rattle.lra_outcomes.proofs.PassRows.{row_first, row_last, steps_first}
 
 -- whatever is owed where all trees are left, that much is owed where these are
-abbrev pub OwesLess : {V H : Type 0} → Meaning V H → Plan → List node.Node → List node.Node → node.Node → Outcome V →
+abbrev pub OwesLess : {V H : Type 0} → Others V → Meaning V H → Plan → List node.Node → List node.Node → node.Node → Outcome V →
     Outcome V → Type 0
-OwesLess {V} m plan gs left last begun so_far = (set : Plan) (whole : Due V) (memory : Memory V) →
-    plan ≡ set → MayBePassed m set whole →
-    RowLoop m set whole.tree whole.flag whole.value (row (map node_view gs) (node_view last)) begun.found begun.normal
-    begun.flag whole.memory memory → RowLoop m set whole.tree whole.flag whole.value
+OwesLess {V} o m plan gs left last begun so_far = (set : Plan) (whole : Due V) (memory : Memory V) →
+    plan ≡ set → MayBePassed o m set whole →
+    RowLoop o m set whole.tree whole.flag whole.value (row (map node_view gs) (node_view last)) begun.found begun.normal
+    begun.flag whole.memory memory → RowLoop o m set whole.tree whole.flag whole.value
     (row (map node_view left) (node_view last)) so_far.found so_far.normal so_far.flag whole.memory memory
 
 -- one tree less takes fewer steps
@@ -67,73 +68,76 @@ module _ {V H : Type 0} (m : Meaning V H) (set : Plan) where
   row_less R b n all is h = IfOk-weaker R (λ x. next_left m b set x ≤ n) (λ x. next_left m b set x < all)
       (λ x here. omega (arith, here, is)) h
 
-  -- the row is owed with its own plan
-  pub row_way : (r : Row) (so_far : Outcome V) (whole : Due V) (memory : Memory V) → r.plan.now ≡ set →
-      MayBePassed m set whole → RowLoop m set whole.tree whole.flag whole.value
-      (row (map node_view r.trees.now) (node_view r.last.now)) so_far.found so_far.normal so_far.flag whole.memory memory →
-      (whole : Due V) × (memory : Memory V) × MayBePassed m r.plan.now whole ×
-      RowLoop m r.plan.now whole.tree whole.flag whole.value (row (map node_view r.trees.now) (node_view r.last.now))
-      so_far.found so_far.normal so_far.flag whole.memory memory
-  row_way r so_far whole memory same may loop = (
-    whole,
-    memory,
-    subst (λ (s : Plan). MayBePassed m s whole) (sym same) may,
-    subst (λ (s : Plan). RowLoop m s whole.tree whole.flag whole.value (row (map node_view r.trees.now)
-        (node_view r.last.now)) so_far.found so_far.normal so_far.flag whole.memory memory) (sym same) loop,
-  )
+-- the row is owed with its own plan
+pub row_way : {V H F : Type 0} (among : F → Others V) (others : F) (m : Meaning V H) (set : Plan) (r : Row)
+    (so_far : Outcome V) (whole : Due V) (memory : Memory V) → r.plan.now ≡ set →
+    MayBePassed (among others) m set whole → RowLoop (among others) m set whole.tree whole.flag whole.value
+    (row (map node_view r.trees.now) (node_view r.last.now)) so_far.found so_far.normal so_far.flag whole.memory memory →
+    (others : F) × (whole : Due V) × (memory : Memory V) × MayBePassed (among others) m r.plan.now whole ×
+    RowLoop (among others) m r.plan.now whole.tree whole.flag whole.value
+    (row (map node_view r.trees.now) (node_view r.last.now)) so_far.found so_far.normal so_far.flag whole.memory memory
+row_way among others m set r so_far whole memory same may loop = (
+  others,
+  whole,
+  memory,
+  subst (λ (s : Plan). MayBePassed (among others) m s whole) (sym same) may,
+  subst (λ (s : Plan). RowLoop (among others) m s whole.tree whole.flag whole.value (row (map node_view r.trees.now)
+      (node_view r.last.now)) so_far.found so_far.normal so_far.flag whole.memory memory) (sym same) loop,
+)
 
+module _ {V H : Type 0} (o : Others V) (m : Meaning V H) (set : Plan) where
   -- the first of those that are left fits
   pub first_fits : (gs gs' : List node.Node) (n last : node.Node) (leaf : Node) (whole : Due V) (memory : Memory V)
       (so_far : Outcome V) → gs ≡ n ∷ gs' → node_view n ≡ leaf →
-      RowLoop m set whole.tree whole.flag whole.value (row (map node_view gs) (node_view last)) so_far.found so_far.normal
+      RowLoop o m set whole.tree whole.flag whole.value (row (map node_view gs) (node_view last)) so_far.found so_far.normal
       so_far.flag whole.memory memory → TreeFits leaf (m.dims so_far.normal)
   first_fits gs gs' n last leaf whole memory so_far first is loop =
       subst (λ (g : Node). TreeFits g (m.dims so_far.normal)) is
-      (next_fits m set whole.tree whole.flag whole.value _ so_far.found so_far.normal so_far.flag whole.memory memory loop
+      (next_fits o m set whole.tree whole.flag whole.value _ so_far.found so_far.normal so_far.flag whole.memory memory loop
       _ _ (row_first gs gs' n last first))
 
   -- the last alone is left
   pub row_alone : (gs : List node.Node) (last : node.Node) (whole : Due V) (memory : Memory V) (so_far : Outcome V) →
-      gs ≡ [] → RowLoop m set whole.tree whole.flag whole.value (row (map node_view gs) (node_view last)) so_far.found
-      so_far.normal so_far.flag whole.memory memory → RowLoop m set whole.tree whole.flag whole.value (node_view last)
+      gs ≡ [] → RowLoop o m set whole.tree whole.flag whole.value (row (map node_view gs) (node_view last)) so_far.found
+      so_far.normal so_far.flag whole.memory memory → RowLoop o m set whole.tree whole.flag whole.value (node_view last)
       so_far.found so_far.normal so_far.flag whole.memory memory
   row_alone gs last whole memory so_far none loop =
-      subst (λ (g : Node). RowLoop m set whole.tree whole.flag whole.value g so_far.found so_far.normal so_far.flag
+      subst (λ (g : Node). RowLoop o m set whole.tree whole.flag whole.value g so_far.found so_far.normal so_far.flag
       whole.memory memory) (row_last gs last none) loop
 
   -- it is passed by this plan
   passed_so : (plan : Plan) (n : node.Node) (g : Node) (so_far : Outcome V) (t : Result V) → plan ≡ set →
-      node_view n ≡ g → IsPassed m plan g so_far.flag so_far.normal t →
-      IsPassed m set (node_view n) so_far.flag so_far.normal t
-  passed_so plan n g so_far t same is one = subst (λ (x : Node). IsPassed m set x so_far.flag so_far.normal t) (sym is)
-      (subst (λ (s : Plan). IsPassed m s g so_far.flag so_far.normal t) same one)
+      node_view n ≡ g → IsPassed o m plan g so_far.flag so_far.normal t →
+      IsPassed o m set (node_view n) so_far.flag so_far.normal t
+  passed_so plan n g so_far t same is one = subst (λ (x : Node). IsPassed o m set x so_far.flag so_far.normal t) (sym is)
+      (subst (λ (s : Plan). IsPassed o m s g so_far.flag so_far.normal t) same one)
 
   -- what follows is the first of those that are left
   pub first_followed : (behind : Row) (gs : List node.Node) (n : node.Node) (g : Node) (whole : Due V)
       (memory : Memory V) (so_far r : Outcome V) → behind.plan.now ≡ set → gs ≡ n ∷ behind.trees.now →
-      node_view n ≡ g → Follows m behind.plan.now g so_far r →
-      RowLoop m set whole.tree whole.flag whole.value (row (map node_view gs) (node_view behind.last.now)) so_far.found
-      so_far.normal so_far.flag whole.memory memory → RowLoop m set whole.tree whole.flag whole.value
+      node_view n ≡ g → Follows o m behind.plan.now g so_far r →
+      RowLoop o m set whole.tree whole.flag whole.value (row (map node_view gs) (node_view behind.last.now)) so_far.found
+      so_far.normal so_far.flag whole.memory memory → RowLoop o m set whole.tree whole.flag whole.value
       (row (map node_view behind.trees.now) (node_view behind.last.now)) r.found r.normal r.flag whole.memory memory
   first_followed behind gs n g whole memory so_far r same first is followed loop =
       let t = followed.0 in
       let one = passed_so behind.plan.now n g so_far t same is followed.1 in
-      row_next m set whole.tree whole.flag whole.value _ so_far.found so_far.normal so_far.flag whole.memory memory loop
+      row_next o m set whole.tree whole.flag whole.value _ so_far.found so_far.normal so_far.flag whole.memory memory loop
       _ _ (row_first gs behind.trees.now n behind.last.now first) t r.found r.normal r.flag memory
-      (stays_passed m set (node_view n) so_far.flag so_far.normal t memory one) one followed.2 followed.3 followed.4
+      (stays_passed o m set (node_view n) so_far.flag so_far.normal t memory one) one followed.2 followed.3 followed.4
 
   -- it is the last
   pub last_followed : (plan : Plan) (n : node.Node) (g : Node) (whole : Due V) (memory : Memory V)
-      (so_far r : Outcome V) → plan ≡ set → node_view n ≡ g → Follows m plan g so_far r →
-      RowLoop m set whole.tree whole.flag whole.value (node_view n) so_far.found so_far.normal so_far.flag whole.memory
-      memory → IsMade m set whole (seen r) memory
+      (so_far r : Outcome V) → plan ≡ set → node_view n ≡ g → Follows o m plan g so_far r →
+      RowLoop o m set whole.tree whole.flag whole.value (node_view n) so_far.found so_far.normal so_far.flag whole.memory
+      memory → IsMade o m set whole (seen r) memory
   last_followed plan n g whole memory so_far r same is followed loop =
       let t = followed.0 in
       let one = passed_so plan n g so_far t same is followed.1 in
       record {
-        passed = row_ends m set whole.tree whole.flag whole.value _ so_far.found so_far.normal so_far.flag whole.memory
+        passed = row_ends o m set whole.tree whole.flag whole.value _ so_far.found so_far.normal so_far.flag whole.memory
             memory loop _ refl t r.found r.normal r.flag one followed.2 followed.3 followed.4;
-        stays = subst (λ (f : Option ℕ). StaysKept m set whole.tree whole.flag whole.memory f memory) (sym followed.4)
-            (row_stays m set whole.tree whole.flag whole.value _ so_far.found so_far.normal so_far.flag whole.memory
-            memory loop _ refl t.flag memory (stays_passed m set (node_view n) so_far.flag so_far.normal t memory one));
+        stays = subst (λ (f : Option ℕ). StaysKept o m set whole.tree whole.flag whole.memory f memory) (sym followed.4)
+            (row_stays o m set whole.tree whole.flag whole.value _ so_far.found so_far.normal so_far.flag whole.memory
+            memory loop _ refl t.flag memory (stays_passed o m set (node_view n) so_far.flag so_far.normal t memory one));
       }

@@ -8,6 +8,7 @@ use Rattle.std.specs.List.{Contains, list_any}
 use Rattle.lra_base.specs.CaseLabels.{are_alike}
 use Rattle.lra_base.specs.declared.case_labels.CaseLabel.{CaseLabel}
 use Rattle.lra_base.specs.declared.case_labels.CaseLabel.TheVariants.{Case, Default}
+use Rattle.lra_others.specs.Others.{Others}
 use Rattle.lra_domain.specs.Meaning.{Meaning, worse}
 use Rattle.lra_domain.specs.declared.Exactness.{Exactness}
 use Rattle.lra_domain.specs.declared.Exactness.TheVariants.{Exact}
@@ -21,12 +22,13 @@ use Rattle.lra_operations.specs.GraphViews.{node_view, arm_view, arms_of}
 use Rattle.lra_operations.proofs.ArmViews.{arms_first, arms_none, entry_first, entry_seen, tree_first, tree_seen}
 use Rattle.lra_flow.specs.Room.{most_live}
 use Rattle.lra_flow.specs.Plan.{Plan}
+use Rattle.lra_flow.specs.Among.{admitted}
 use Rattle.lra_flow.specs.Operations.{dropping}
 use Rattle.lra_flow.specs.Live.{live_after}
 use Rattle.lra_flow.specs.Seen.{SeenFits, seen_of}
 use Rattle.lra_flow.specs.declared.seen.Seen.{Seen}
 use Rattle.lra_flow.specs.MovesOf.{number_moves}
-use Rattle.lra_flow.specs.Pass.{Result, noted, goes_on, in_turn, jumps_of, ArmsPass, MatchesNone, Enters, JoinsRunning, ComesOut, RunsFrom}
+use Rattle.lra_flow.specs.Pass.{Result, noted, goes_on, in_turn, jumps_of, ArmsPassAmong, MatchesNone, Enters, JoinsRunning, ComesOut, RunsFrom}
 use Rattle.lra_flow.proofs.Takes.{worse_exact, worse_worse}
 use Rattle.lra_flow.proofs.DivisionLemmas.{seen_fits}
 use Rattle.lra_change.specs.Changes.{Does}
@@ -219,12 +221,13 @@ module _ {V H : Type 0} (m : Meaning V H) where
 nothing_behind : {V : Type 0} (x : Result V) (w : V) (f : Option ℕ) → in_turn x (goes_on [] w f) w f ≡ record x { normal = w; flag = f }
 nothing_behind x w f = same_lists w f _ _ _ _ _ _ _ _ (append-nil x.entries) (append-nil x.breaks) (append-nil x.continues) (append-nil x.returns)
 
-module _ {V H : Type 0} (m : Meaning V H) (set : Plan) (g : Node) (f : Option ℕ) (v : V) (q base : ℕ) (e : Expr) (d : Bool) (other : V) (old : Memory V) where
+module _ {V H : Type 0} (o : Others V) (m : Meaning V H) (set : Plan) (g : Node) (f : Option ℕ) (v : V) (q base : ℕ) (e : Expr) (d : Bool) (other : V)
+    (old : Memory V) where
   abbrev Loop : Arms → Found V → Option V → Option ℕ → Memory V → Type 0
-  Loop arms found running so_far memory = SelectLoop m set g f v q base e d other arms found running so_far old memory
+  Loop arms found running so_far memory = SelectLoop o m set g f v q base e d other arms found running so_far old memory
 
   abbrev PassOf : Arms → Option ℕ → Option V → Result V → Type 0
-  PassOf arms so_far running t = ArmsPass V H (dropping m) set q base e d v other arms so_far running t
+  PassOf arms so_far running t = ArmsPassAmong V H (dropping m) (admitted o m) set q base e d v other arms so_far running t
 
   pub select_begins : (arms : Arms) (x : Exactness) (begun : Running V) → g ≡ select q base e arms → m.dims v ≤ most_live → TreeFits g (m.dims v)
       → MatchesNone (dropping m) base e (entries_of arms) v x other → m.dims other ≡ m.dims v → d ≡ list_any (are_alike Default) (entries_of arms)
@@ -235,15 +238,15 @@ module _ {V H : Type 0} (m : Meaning V H) (set : Plan) (g : Node) (f : Option �
     other_dims = other_dims;
     running_dims = subst (RunHas m (m.dims v)) (sym runs) tt;
     fits = subst (λ (y : Node). TreeFits y (m.dims v)) is fits;
-    stays = λ loops has all. (subst (HasLoops loops) is has, recall_later m set loops f begun.flag old (later_noted q x f begun.flag flagged) all);
-    passes = λ t pass dims jumps. subst (λ (y : Result V). IsPassed m set g f v (in_turn y t t.normal t.flag)) (sym (nothing v begun.flag))
-        (subst (λ (y : Node). IsPassed m set y f v t) (sym is) (record {
+    stays = λ loops has all. (subst (HasLoops loops) is has, recall_later o m set loops f begun.flag old (later_noted q x f begun.flag flagged) all);
+    passes = λ t pass dims jumps. subst (λ (y : Result V). IsPassed o m set g f v (in_turn y t t.normal t.flag)) (sym (nothing v begun.flag))
+        (subst (λ (y : Node). IsPassed o m set y f v t) (sym is) (record {
           pass = (
             other,
             x,
             none,
-            subst (λ (b : Bool). ArmsPass V H (dropping m) set q base e b v other arms (noted q x f) None t) named
-                (subst (λ (o : Option V). PassOf arms (noted q x f) o t) runs (subst (λ (h : Option ℕ). PassOf arms h begun.normal t) flagged pass)),
+            subst (λ (b : Bool). ArmsPassAmong V H (dropping m) (admitted o m) set q base e b v other arms (noted q x f) None t) named
+                (subst (λ (u : Option V). PassOf arms (noted q x f) u t) runs (subst (λ (h : Option ℕ). PassOf arms h begun.normal t) flagged pass)),
           );
           dims = dims;
           jumps = jumps;
@@ -257,8 +260,8 @@ module _ {V H : Type 0} (m : Meaning V H) (set : Plan) (g : Node) (f : Option �
     other_dims = loop.other_dims;
     running_dims = subst (RunHas m (m.dims v)) (sym at.normal) at.dims;
     fits = loop.fits;
-    stays = λ loops has all. (let now = loop.stays loops has all in (now.0, recall_later m set loops one.flag two.flag memory later now.1));
-    passes = λ t pass dims jumps. subst (λ (y : Found V). IsPassed m set g f v (in_turn (ended y v two.flag) t t.normal t.flag)) (sym at.found)
+    stays = λ loops has all. (let now = loop.stays loops has all in (now.0, recall_later o m set loops one.flag two.flag memory later now.1));
+    passes = λ t pass dims jumps. subst (λ (y : Found V). IsPassed o m set g f v (in_turn (ended y v two.flag) t t.normal t.flag)) (sym at.found)
         (loop.passes t (
           at.entered,
           at.runs,
@@ -266,7 +269,7 @@ module _ {V H : Type 0} (m : Meaning V H) (set : Plan) (g : Node) (f : Option �
           at.joined_exactness,
           at.enters,
           at.joins,
-          subst (λ (o : Option V). PassOf arms (noted q at.joined_exactness (noted q at.entered_exactness one.flag)) o t) at.normal
+          subst (λ (u : Option V). PassOf arms (noted q at.joined_exactness (noted q at.entered_exactness one.flag)) u t) at.normal
               (subst (λ (h : Option ℕ). PassOf arms h two.normal t) at.flag pass),
         ) dims jumps);
   }
@@ -277,7 +280,7 @@ module _ {V H : Type 0} (m : Meaning V H) (set : Plan) (g : Node) (f : Option �
   -- the tree of an arm is next
   pub tree_remembers : (a : Node) (arms : Arms) (found : Found V) (running : Option V) (so_far : Option ℕ) (memory : Memory V)
       → Loop (arm a arms) found running so_far memory
-      → Remembers m set g f old → Remembers m set a so_far memory
+      → Remembers o m set g f old → Remembers o m set a so_far memory
   tree_remembers a arms found running so_far memory loop (loops, has, all) = let now = loop.stays loops has all in (loops, now.0.0, now.1)
 
   both_jump : (a : Node) (arms : Arms) (s t : Result V) (w : V) (h : Option ℕ) → JumpsFit m a (m.dims v) s → ArmJumpsFit m arms (m.dims v) t
@@ -298,7 +301,7 @@ module _ {V H : Type 0} (m : Meaning V H) (set : Plan) (g : Node) (f : Option �
   pub select_follows : (a : Node) (arms : Arms) (found : Found V) (running : Option V) (so_far : Option ℕ) (memory new : Memory V) (value : V)
       (outcome all : Outcome V)
       → Loop (arm a arms) found running so_far memory → RunsFrom (dropping m) (m.dims v) set.parts running value → m.dims value ≡ m.dims v
-      → IsPassed m set a so_far value (seen outcome) → StaysKept m set a so_far memory outcome.flag new → AreInTurn found outcome.found all.found
+      → IsPassed o m set a so_far value (seen outcome) → StaysKept o m set a so_far memory outcome.flag new → AreInTurn found outcome.found all.found
       → all.normal ≡ outcome.normal → all.flag ≡ outcome.flag → Loop arms all.found (Some all.normal) all.flag new
   select_follows a arms found running so_far memory new value outcome all loop from wide passed stays turn one two = record {
     few = loop.few;
@@ -306,7 +309,7 @@ module _ {V H : Type 0} (m : Meaning V H) (set : Plan) (g : Node) (f : Option �
     running_dims = ap m.dims one ∙ passed.dims ∙ ap (live_after a) wide ∙ loop.fits.1;
     fits = loop.fits.2;
     stays = λ loops has kept. (let now = loop.stays loops has kept in
-        (now.0.1, subst (λ (h : Option ℕ). MayRecall m set loops h new) (sym two) (stays loops now.0.0 now.1)));
+        (now.0.1, subst (λ (h : Option ℕ). MayRecall o m set loops h new) (sym two) (stays loops now.0.0 now.1)));
     passes = λ t pass dims jumps.
         let s = seen outcome in
         let rest : PassOf arms s.flag (Some s.normal) t =
@@ -316,108 +319,110 @@ module _ {V H : Type 0} (m : Meaning V H) (set : Plan) (g : Node) (f : Option �
         let same : in_turn (ended found v so_far) (in_turn s t t.normal t.flag) t.normal t.flag ≡ in_turn (ended all.found v all.flag) t t.normal t.flag =
         turns (ended found v so_far) s t t.normal v t.normal t.flag all.flag t.flag
         ∙ ap (λ (x : Result V). in_turn x t t.normal t.flag) (sym (turn v s.normal v so_far s.flag all.flag)) in
-        subst (λ (x : Result V). IsPassed m set g f v x) same both;
+        subst (λ (x : Result V). IsPassed o m set g f v x) same both;
   }
 
   -- behind the last arm
   pub select_ends : (one : Running V) (r : Outcome V) (memory : Memory V) → Loop no_arms one.found one.normal one.flag memory → ComesOutAt m q d other one r
-      → IsPassed m set g f v (seen r)
+      → IsPassed o m set g f v (seen r)
   select_ends one r memory loop at =
       let last : Result V = goes_on [] r.normal r.flag in
       let whole = loop.passes last (r.normal, at.exactness, at.out, ap (goes_on [] r.normal) at.flag) (at.dims ∙ loop.other_dims)
       (going_on_fits m (select q base e no_arms) (m.dims v) [] r.normal r.flag) in
       let same : in_turn (ended one.found v one.flag) last r.normal r.flag ≡ seen r =
       nothing_behind (ended one.found v one.flag) r.normal r.flag ∙ ap (λ (x : Found V). ended x r.normal r.flag) (sym at.found) in
-      subst (λ (x : Result V). IsPassed m set g f v x) same whole
+      subst (λ (x : Result V). IsPassed o m set g f v x) same whole
 
   pub select_stays : (one : Running V) (r : Outcome V) (memory : Memory V) → Loop no_arms one.found one.normal one.flag memory → ComesOutAt m q d other one r
-      → StaysKept m set g f old r.flag memory
+      → StaysKept o m set g f old r.flag memory
   select_stays one r memory loop at loops has all =
-      recall_later m set loops one.flag r.flag memory (later_noted q at.exactness one.flag r.flag at.flag) (loop.stays loops has all).1
+      recall_later o m set loops one.flag r.flag memory (later_noted q at.exactness one.flag r.flag at.flag) (loop.stays loops has all).1
 
 -- places --------------------------------------------------------------------------------------------------------------
 
-module _ {V H : Type 0} (m : Meaning V H) (set : Plan) where
+pub seen_wide : {V H : Type 0} (m : Meaning V H) (s : Seen) (v other : V) (live base : ℕ) (e : Expr) → s ≡ seen_of live base e → live ≡ m.dims v → other ≡ v
+    → SeenFits s (m.dims other)
+seen_wide m s v other live base e is here same =
+    let n : live ≡ m.dims other = here ∙ ap m.dims (sym same) in
+    subst (λ (r : Seen). SeenFits r (m.dims other)) (sym is) (subst (λ (k : ℕ). SeenFits (seen_of live base e) k) n (seen_fits live base e))
+
+module _ {V H : Type 0} (o : Others V) (m : Meaning V H) (set : Plan) where
   pub selection_begins : (s : Selecting V) (whole : Due V) (arms : Arms) (value : V) (flag : Option ℕ) (x : Exactness) (begun : Running V)
       → whole.tree ≡ select s.selection.point s.selection.base (expr_view s.selection.value.now) arms → whole.value ≡ value → whole.flag ≡ flag
-      → MayBePassed m set whole
+      → MayBePassed o m set whole
       → MatchesNone (dropping m) s.selection.base (expr_view s.selection.value.now) (entries_of arms) value x s.other → m.dims s.other ≡ m.dims value
       → s.has_default ≡ list_any (are_alike Default) (entries_of arms) → ((u : V) (h : Option ℕ) → ended begun.found u h ≡ goes_on [] u h) → begun.normal ≡ None
-      → begun.flag ≡ noted s.selection.point x flag → SelectsOn m set s whole arms begun.found begun.normal begun.flag whole.memory
+      → begun.flag ≡ noted s.selection.point x flag → SelectsOn o m set s whole arms begun.found begun.normal begun.flag whole.memory
   selection_begins s whole arms value flag x begun is first flagged may none dims named nothing runs noted_is =
       let e = expr_view s.selection.value.now in
-      select_begins m set whole.tree whole.flag whole.value s.selection.point s.selection.base e s.has_default s.other whole.memory arms x begun is may.few
+      select_begins o m set whole.tree whole.flag whole.value s.selection.point s.selection.base e s.has_default s.other whole.memory arms x begun is may.few
       may.fits
       (subst (λ (u : V). MatchesNone (dropping m) s.selection.base e (entries_of arms) u x s.other) (sym first) none) (dims ∙ ap m.dims (sym first)) named
       nothing runs
       (noted_is ∙ ap (noted s.selection.point x) (sym flagged))
 
-  pub label_entered : (s : Selecting V) (whole : Due V) (l : CaseLabel) (arms : Arms) (one two : Running V) (memory : Memory V) → IsSelecting m set s whole
-      → SelectsOn m set s whole (entry l arms) one.found one.normal one.flag memory
+  pub label_entered : (s : Selecting V) (whole : Due V) (l : CaseLabel) (arms : Arms) (one two : Running V) (memory : Memory V) → IsSelecting o m set s whole
+      → SelectsOn o m set s whole (entry l arms) one.found one.normal one.flag memory
       → EntersAt m s.selection.point s.selection.base (expr_view s.selection.value.now) l s.from s.other one two
-      → SelectsOn m set s whole arms two.found two.normal two.flag memory
+      → SelectsOn o m set s whole arms two.found two.normal two.flag memory
   label_entered s whole l arms one two memory here loop at =
       let e = expr_view s.selection.value.now in
-      select_enters m set whole.tree whole.flag whole.value s.selection.point s.selection.base e s.has_default s.other whole.memory l arms one two memory loop
+      select_enters o m set whole.tree whole.flag whole.value s.selection.point s.selection.base e s.has_default s.other whole.memory l arms one two memory loop
       (subst (λ (u : V). EntersAt m s.selection.point s.selection.base e l u s.other one two) here.from at)
 
   pub arm_leads : (s : Selecting V) (n : node.Node) (value : V) (b : Box (SelectPlace V) Global) (behind : Bor (List Arm)) (found : Found V)
       (running : Option V)
-      (flag : Option ℕ) (whole : Due V) (memory : Memory V) → b.value ≡ record { selecting = s; behind = behind; found = found } → MayBePassed m set whole
-      → IsSelecting m set s whole → SelectsOn m set s whole (arm (node_view n) (arms_of (map arm_view behind.now))) found running flag memory
+      (flag : Option ℕ) (whole : Due V) (memory : Memory V) → b.value ≡ record { selecting = s; behind = behind; found = found } → MayBePassed o m set whole
+      → IsSelecting o m set s whole → SelectsOn o m set s whole (arm (node_view n) (arms_of (map arm_view behind.now))) found running flag memory
       → RunsFrom (dropping m) (m.dims s.from) set.parts running value → m.dims value ≡ m.dims s.from
-      → (let part : Due V = record { tree = node_view n; value = value; flag = flag; memory = memory } in IsOpen m set (Select b) whole part × MayBePassed m
+      → (let part : Due V = record { tree = node_view n; value = value; flag = flag; memory = memory } in IsOpen o m set (Select b) whole part × MayBePassed o m
       set part)
   arm_leads s n value b behind found running flag whole memory boxed may here loop from wide =
       let same = ap m.dims here.from in
       let dims : m.dims value ≡ m.dims whole.value = wide ∙ same in (
-        subst (λ (x : SelectPlace V). IsSelect m set x whole (record { tree = node_view n; value = value; flag = flag; memory = memory })) (sym boxed) (record {
-          here = here;
-          running = running;
-          from = subst (λ (k : ℕ). RunsFrom (dropping m) k set.parts running value) same from;
-          dims = dims;
-          loop = loop;
-        }),
+        subst (λ (x : SelectPlace V). IsSelect o m set x whole (record { tree = node_view n; value = value; flag = flag; memory = memory }))
+            (sym boxed) (record {
+              here = here;
+              running = running;
+              from = subst (λ (k : ℕ). RunsFrom (dropping m) k set.parts running value) same from;
+              dims = dims;
+              loop = loop;
+            }),
         record {
           few = subst (λ (k : ℕ). k ≤ most_live) (sym dims) may.few;
           fits = subst (λ (k : ℕ). TreeFits (node_view n) k) (sym dims) loop.fits.0;
-          remembers = tree_remembers m set whole.tree whole.flag whole.value s.selection.point s.selection.base (expr_view s.selection.value.now) s.has_default
-              s.other whole.memory
+          remembers = tree_remembers o m set whole.tree whole.flag whole.value s.selection.point s.selection.base (expr_view s.selection.value.now)
+              s.has_default s.other whole.memory
               (node_view n) (arms_of (map arm_view behind.now)) found running flag memory loop may.remembers;
         },
       )
 
-  pub arm_followed : (p : SelectPlace V) (whole part : Due V) (memory : Memory V) (outcome all : Outcome V) → IsSelect m set p whole part
-      → IsMade m set part (seen outcome) memory
+  pub arm_followed : (p : SelectPlace V) (whole part : Due V) (memory : Memory V) (outcome all : Outcome V) → IsSelect o m set p whole part
+      → IsMade o m set part (seen outcome) memory
       → AreInTurn p.found outcome.found all.found → all.normal ≡ outcome.normal → all.flag ≡ outcome.flag
-      → SelectsOn m set p.selecting whole (arms_of (map arm_view p.behind.now)) all.found (Some all.normal) all.flag memory
+      → SelectsOn o m set p.selecting whole (arms_of (map arm_view p.behind.now)) all.found (Some all.normal) all.flag memory
   arm_followed p whole part memory outcome all owed made turn one two =
       let s = p.selecting in
-      select_follows m set whole.tree whole.flag whole.value s.selection.point s.selection.base (expr_view s.selection.value.now) s.has_default s.other
+      select_follows o m set whole.tree whole.flag whole.value s.selection.point s.selection.base (expr_view s.selection.value.now) s.has_default s.other
       whole.memory part.tree
       (arms_of (map arm_view p.behind.now)) p.found owed.running part.flag part.memory memory part.value outcome all owed.loop owed.from owed.dims made.passed
       made.stays turn one two
 
   pub selection_made : (s : Selecting V) (whole : Due V) (one : Running V) (r : Outcome V) (memory : Memory V)
-      → SelectsOn m set s whole no_arms one.found one.normal one.flag memory → ComesOutAt m s.selection.point s.has_default s.other one r
-      → IsMade m set whole (seen r) memory
+      → SelectsOn o m set s whole no_arms one.found one.normal one.flag memory → ComesOutAt m s.selection.point s.has_default s.other one r
+      → IsMade o m set whole (seen r) memory
   selection_made s whole one r memory loop at =
       let e = expr_view s.selection.value.now in record {
-        passed = select_ends m set whole.tree whole.flag whole.value s.selection.point s.selection.base e s.has_default s.other whole.memory one r memory loop
+        passed = select_ends o m set whole.tree whole.flag whole.value s.selection.point s.selection.base e s.has_default s.other whole.memory one r memory loop
             at;
-        stays = select_stays m set whole.tree whole.flag whole.value s.selection.point s.selection.base e s.has_default s.other whole.memory one r memory loop
+        stays = select_stays o m set whole.tree whole.flag whole.value s.selection.point s.selection.base e s.has_default s.other whole.memory one r memory loop
             at;
       }
 
   -- along the arms ----------------------------------------------------------------------------------------------------
 
-  pub seen_wide : (s : Seen) (v other : V) (live base : ℕ) (e : Expr) → s ≡ seen_of live base e → live ≡ m.dims v → other ≡ v → SeenFits s (m.dims other)
-  seen_wide s v other live base e is here same =
-      let n : live ≡ m.dims other = here ∙ ap m.dims (sym same) in
-      subst (λ (r : Seen). SeenFits r (m.dims other)) (sym is) (subst (λ (k : ℕ). SeenFits (seen_of live base e) k) n (seen_fits live base e))
-
   pub begun_selecting : (s : Selecting V) (whole : Due V) (value : V) (live : ℕ) → s.selection.plan.now ≡ set → s.from ≡ value → whole.value ≡ value
-      → s.seen ≡ seen_of live s.selection.base (expr_view s.selection.value.now) → live ≡ m.dims value → IsSelecting m set s whole
+      → s.seen ≡ seen_of live s.selection.base (expr_view s.selection.value.now) → live ≡ m.dims value → IsSelecting o m set s whole
   begun_selecting s whole value live plan from first is here = record {
     plan = plan;
     from = from ∙ sym first;
@@ -425,16 +430,16 @@ module _ {V H : Type 0} (m : Meaning V H) (set : Plan) where
   }
 
   -- a label is entered
-  pub label_few : (s : Selecting V) (whole : Due V) → IsSelecting m set s whole → MayBePassed m set whole → m.dims s.from ≤ most_live
+  pub label_few : (s : Selecting V) (whole : Due V) → IsSelecting o m set s whole → MayBePassed o m set whole → m.dims s.from ≤ most_live
   label_few s whole here may = subst (λ (u : V). m.dims u ≤ most_live) (sym here.from) may.few
 
-  pub label_width : (s : Selecting V) (whole : Due V) → IsSelecting m set s whole → SeenFits s.seen (m.dims s.from)
-  label_width s whole here = seen_wide s.seen whole.value s.from (m.dims whole.value) s.selection.base (expr_view s.selection.value.now) here.seen refl
+  pub label_width : (s : Selecting V) (whole : Due V) → IsSelecting o m set s whole → SeenFits s.seen (m.dims s.from)
+  label_width s whole here = seen_wide m s.seen whole.value s.from (m.dims whole.value) s.selection.base (expr_view s.selection.value.now) here.seen refl
       here.from
 
-  module _ (s : Selecting V) (whole : Due V) (here : IsSelecting m set s whole) (arms : Arms) (found : Found V) (running : Option V) (flag : Option ℕ)
+  module _ (s : Selecting V) (whole : Due V) (here : IsSelecting o m set s whole) (arms : Arms) (found : Found V) (running : Option V) (flag : Option ℕ)
       (memory : Memory V)
-      (loop : SelectsOn m set s whole arms found running flag memory) where
+      (loop : SelectsOn o m set s whole arms found running flag memory) where
     pub label_other : m.dims s.other ≡ m.dims s.from
     label_other = loop.other_dims ∙ ap m.dims (sym here.from)
 
@@ -446,9 +451,9 @@ module _ {V H : Type 0} (m : Meaning V H) (set : Plan) where
 
   -- what the first owes, the second owes along the arms that are left
   abbrev pub OwesArms : Selecting V → List Arm → List Arm → Running V → Running V → Type 0
-  OwesArms s arms left one two = (whole : Due V) (memory : Memory V) → IsSelecting m set s whole
-      → SelectsOn m set s whole (arms_of (map arm_view arms)) one.found one.normal one.flag memory
-      → SelectsOn m set s whole (arms_of (map arm_view left)) two.found two.normal two.flag memory
+  OwesArms s arms left one two = (whole : Due V) (memory : Memory V) → IsSelecting o m set s whole
+      → SelectsOn o m set s whole (arms_of (map arm_view arms)) one.found one.normal one.flag memory
+      → SelectsOn o m set s whole (arms_of (map arm_view left)) two.found two.normal two.flag memory
 
   module _ (s : Selecting V) (arms left : List Arm) (one two : Running V) (owes : OwesArms s arms left one two) where
     pub owes_next : (behind : List Arm) (a : Arm) (l : CaseLabel) (three : Running V) → left ≡ a ∷ behind → a ≡ Entry l
@@ -457,43 +462,46 @@ module _ {V H : Type 0} (m : Meaning V H) (set : Plan) where
     owes_next behind a l three is entry_is enters whole memory here loop =
         let e = expr_view s.selection.value.now in
         label_entered s whole l (arms_of (map arm_view behind)) two three memory here
-        (subst (λ (h : Arms). SelectsOn m set s whole h two.found two.normal two.flag memory) (entry_first left behind a l is entry_is)
+        (subst (λ (h : Arms). SelectsOn o m set s whole h two.found two.normal two.flag memory) (entry_first left behind a l is entry_is)
         (owes whole memory here loop))
         (enters s.selection.base e (here.seen ∙ ap (λ (u : V). seen_of (m.dims u) s.selection.base e) (sym here.from)))
 
-    module _ (whole : Due V) (memory : Memory V) (here : IsSelecting m set s whole)
-        (loop : SelectsOn m set s whole (arms_of (map arm_view arms)) one.found one.normal one.flag memory) where
+    module _ (whole : Due V) (memory : Memory V) (here : IsSelecting o m set s whole)
+        (loop : SelectsOn o m set s whole (arms_of (map arm_view arms)) one.found one.normal one.flag memory) where
       pub tree_owed : (behind : List Arm) (a : Arm) (n : node.Node) → left ≡ a ∷ behind → a ≡ Tree n
-          → SelectsOn m set s whole (arm (node_view n) (arms_of (map arm_view behind))) two.found two.normal two.flag memory
+          → SelectsOn o m set s whole (arm (node_view n) (arms_of (map arm_view behind))) two.found two.normal two.flag memory
       tree_owed behind a n is tree_is =
-          subst (λ (h : Arms). SelectsOn m set s whole h two.found two.normal two.flag memory) (tree_first left behind a n is tree_is)
+          subst (λ (h : Arms). SelectsOn o m set s whole h two.found two.normal two.flag memory) (tree_first left behind a n is tree_is)
           (owes whole memory here loop)
 
-      pub arms_ended : (r : Outcome V) → left ≡ [] → ComesOutAt m s.selection.point s.has_default s.other two r → IsMade m set whole (seen r) memory
+      pub arms_ended : (r : Outcome V) → left ≡ [] → ComesOutAt m s.selection.point s.has_default s.other two r → IsMade o m set whole (seen r) memory
       arms_ended r none at =
-          selection_made s whole two r memory (subst (λ (h : Arms). SelectsOn m set s whole h two.found two.normal two.flag memory) (arms_none left none)
+          selection_made s whole two r memory (subst (λ (h : Arms). SelectsOn o m set s whole h two.found two.normal two.flag memory) (arms_none left none)
           (owes whole memory here loop)) at
 
-  pub followed_on : (p : SelectPlace V) (whole part : Due V) (memory : Memory V) (outcome all : Outcome V) (one : Running V) → IsSelect m set p whole part
-      → IsMade m set part (seen outcome) memory → AreInTurn p.found outcome.found all.found → all.normal ≡ outcome.normal → all.flag ≡ outcome.flag
+  pub followed_on : (p : SelectPlace V) (whole part : Due V) (memory : Memory V) (outcome all : Outcome V) (one : Running V) → IsSelect o m set p whole part
+      → IsMade o m set part (seen outcome) memory → AreInTurn p.found outcome.found all.found → all.normal ≡ outcome.normal → all.flag ≡ outcome.flag
       → one ≡ running_on all
-      → SelectsOn m set p.selecting whole (arms_of (map arm_view p.behind.now)) one.found one.normal one.flag memory
+      → SelectsOn o m set p.selecting whole (arms_of (map arm_view p.behind.now)) one.found one.normal one.flag memory
   followed_on p whole part memory outcome all one owed made turn same also is =
-      subst (λ (x : Running V). SelectsOn m set p.selecting whole (arms_of (map arm_view p.behind.now)) x.found x.normal x.flag memory) (sym is)
+      subst (λ (x : Running V). SelectsOn o m set p.selecting whole (arms_of (map arm_view p.behind.now)) x.found x.normal x.flag memory) (sym is)
       (arm_followed p whole part memory outcome all owed made turn same also)
 
 -- a `switch` is owed with its own plan
-pub arms_way : {V H : Type 0} (m : Meaning V H) (set : Plan) (s : Selecting V) (arms : Arms) (one : Running V) (whole : Due V) (memory : Memory V)
-    → s.selection.plan.now ≡ set
-    → MayBePassed m set whole → IsSelecting m set s whole → SelectsOn m set s whole arms one.found one.normal one.flag memory
-    → (whole : Due V) × (memory : Memory V) × MayBePassed m s.selection.plan.now whole × IsSelecting m s.selection.plan.now s whole
-    × SelectsOn m s.selection.plan.now s whole arms one.found one.normal one.flag memory
-arms_way m set s arms one whole memory plan may here loop = (
+pub arms_way : {V H F : Type 0} (among : F → Others V) (others : F) (m : Meaning V H) (set : Plan) (s : Selecting V) (arms : Arms) (one : Running V)
+    (whole : Due V) (memory : Memory V) → s.selection.plan.now ≡ set
+    → MayBePassed (among others) m set whole → IsSelecting (among others) m set s whole
+    → SelectsOn (among others) m set s whole arms one.found one.normal one.flag memory
+    → (others : F) × (whole : Due V) × (memory : Memory V) × MayBePassed (among others) m s.selection.plan.now whole
+    × IsSelecting (among others) m s.selection.plan.now s whole
+    × SelectsOn (among others) m s.selection.plan.now s whole arms one.found one.normal one.flag memory
+arms_way among others m set s arms one whole memory plan may here loop = (
+  others,
   whole,
   memory,
-  subst (λ (p : Plan). MayBePassed m p whole) (sym plan) may,
-  subst (λ (p : Plan). IsSelecting m p s whole) (sym plan) here,
-  subst (λ (p : Plan). SelectsOn m p s whole arms one.found one.normal one.flag memory) (sym plan) loop,
+  subst (λ (p : Plan). MayBePassed (among others) m p whole) (sym plan) may,
+  subst (λ (p : Plan). IsSelecting (among others) m p s whole) (sym plan) here,
+  subst (λ (p : Plan). SelectsOn (among others) m p s whole arms one.found one.normal one.flag memory) (sym plan) loop,
 )
 
 -- what runs

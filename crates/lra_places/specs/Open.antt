@@ -4,6 +4,7 @@ use Rattle.std.specs.Prelude.{◌≡◌, ℕ, ◌≤◌, Bool, true, false, List
 use Rattle.std.specs.List.{Contains}
 use Rattle.lra_base.specs.declared.case_labels.CaseLabel.{CaseLabel}
 use Rattle.lra_domain.specs.declared.Exactness.{Exactness}
+use Rattle.lra_others.specs.Others.{Others}
 use Rattle.lra_domain.specs.Meaning.{Meaning, worse}
 use Rattle.lra_domain.specs.Rank.{RankFits}
 use Rattle.lra_program.specs.Program.{Expr, Cond}
@@ -12,10 +13,11 @@ use Rattle.lra_operations.specs.Graph.{Exit, Node, seq, choose, iterate, catch, 
 use Rattle.lra_operations.specs.GraphViews.{exit_view, node_view, row, arm_view, arms_of}
 use Rattle.lra_flow.specs.Room.{most_live}
 use Rattle.lra_flow.specs.Plan.{Plan}
+use Rattle.lra_flow.specs.Among.{admitted, DerivedPass}
 use Rattle.lra_flow.specs.Operations.{dropping}
 use Rattle.lra_flow.specs.Seen.{seen_of}
-use Rattle.lra_flow.specs.Pass.{Leaves, Result, noted, in_turn, jumps_of, Pass, Grows, Narrows}
-use Rattle.lra_flow.specs.Pass.{ArmsPass, MatchesNone, Enters, JoinsRunning, ComesOut, RunsFrom}
+use Rattle.lra_flow.specs.Pass.{Leaves, Result, noted, in_turn, jumps_of, Grows, Narrows}
+use Rattle.lra_flow.specs.Pass.{ArmsPassAmong, MatchesNone, Enters, JoinsRunning, ComesOut, RunsFrom}
 use Rattle.lra_change.specs.declared.sides.Kept.{Kept}
 use Rattle.lra_outcomes.specs.declared.heads.Growing.{Growing}
 use Rattle.lra_outcomes.specs.declared.memory.Memory.{Memory}
@@ -59,45 +61,45 @@ due e memory = record { tree = node_view e.node.now; value = e.value; flag = e.f
 
 -- trees one after the other: what stands behind what was found so far fits, and whatever its pass finds comes behind,
 -- as a pass of the whole
-pub record RowLoop {V H : Type 0} (m : Meaning V H) (set : Plan) (g : Node) (f : Option ℕ) (v : V)
+pub record RowLoop {V H : Type 0} (o : Others V) (m : Meaning V H) (set : Plan) (g : Node) (f : Option ℕ) (v : V)
     (rest : Node) (found : Found V) (behind : V) (so_far : Option ℕ) (old memory : Memory V) : Type 0 where
   pub few : m.dims behind ≤ most_live
   pub fits : TreeFits rest (m.dims behind)
-  pub stays : (loops : ℕ → Node) → HasLoops loops g → MayRecall m set loops f old → HasLoops loops rest ×
-      MayRecall m set loops so_far memory
-  pub passes : (t : Result V) → IsPassed m set rest so_far behind t →
-      IsPassed m set g f v (in_turn (ended found behind so_far) t t.normal t.flag)
+  pub stays : (loops : ℕ → Node) → HasLoops loops g → MayRecall o m set loops f old → HasLoops loops rest ×
+      MayRecall o m set loops so_far memory
+  pub passes : (t : Result V) → IsPassed o m set rest so_far behind t →
+      IsPassed o m set g f v (in_turn (ended found behind so_far) t t.normal t.flag)
 
 -- the head grew from the first value: however it grows on, it is a growth of that; the last turn may be given again
-pub record GrowLoop {V H : Type 0} (m : Meaning V H) (set : Plan) (q base : ℕ) (c : Cond) (a : Node)
+pub record GrowLoop {V H : Type 0} (o : Others V) (m : Meaning V H) (set : Plan) (q base : ℕ) (c : Cond) (a : Node)
     (first : V) (f : Option ℕ) (left : ℕ) (so_far : Option ℕ) (head : H)
     (turn : Option (Turn V)) (old memory : Memory V) : Type 0 where
   pub dims : m.head_dims head ≡ m.dims first
   pub fits : RankFits (m.rank head)
-  pub kept : AreKept m set a so_far turn
-  pub stays : StaysKept m set a f old so_far memory
+  pub kept : AreKept o m set a so_far turn
+  pub stays : StaysKept o m set a f old so_far memory
   pub grows : (later : List H) (v : V) (r : Result V) →
-      Grows V H (dropping m) q base c (Pass V H (dropping m) set a) set.widening left so_far head later v r →
-      HasGrown m set q base c a first f v r
+      Grows V H (dropping m) q base c (DerivedPass o m set a) set.widening left so_far head later v r →
+      HasGrown o m set q base c a first f v r
 
 -- so it did up to this head, whose value is there
-pub record HeadLoop {V H : Type 0} (m : Meaning V H) (set : Plan) (q base : ℕ) (c : Cond) (a : Node)
+pub record HeadLoop {V H : Type 0} (o : Others V) (m : Meaning V H) (set : Plan) (q base : ℕ) (c : Cond) (a : Node)
     (first : V) (f : Option ℕ) (growing : Growing V H) (turn : Option (Turn V)) (old memory : Memory V) : Type 0 where
   pub so_far : Option ℕ
   pub valued : IsValued m q so_far growing.head growing.value growing.flag
-  pub loop : GrowLoop m set q base c a first f growing.left so_far growing.head turn old memory
+  pub loop : GrowLoop o m set q base c a first f growing.left so_far growing.head turn old memory
 
 -- what is narrowed on is a narrowing from the round with which the head was stable; `entered` came into the body last
-pub record NarrowLoop {V H : Type 0} (m : Meaning V H) (set : Plan) (q base : ℕ) (c : Cond) (a : Node)
+pub record NarrowLoop {V H : Type 0} (o : Others V) (m : Meaning V H) (set : Plan) (q base : ℕ) (c : Cond) (a : Node)
     (first start : V) (round : Result V) (left : ℕ) (top entered : V) (last : Result V)
     (old memory : Memory V) : Type 0 where
   pub dims : m.dims top ≡ m.dims first
   pub behind : m.dims last.normal ≡ m.dims first
   pub jumps : JumpsFit m a (m.dims first) last
-  pub kept : IsKept m set a last.flag entered last
-  pub stays : StaysKept m set a round.flag old last.flag memory
-  pub narrows : (v : V) (r : Result V) → Narrows V H (dropping m) q base c (Pass V H (dropping m) set a) left first top
-      (headed q top last) v r → NarrowsTo m set q base c a first start (headed q start round) v r
+  pub kept : IsKept o m set a last.flag entered last
+  pub stays : StaysKept o m set a round.flag old last.flag memory
+  pub narrows : (v : V) (r : Result V) → Narrows V H (dropping m) q base c (DerivedPass o m set a) left first top
+      (headed q top last) v r → NarrowsTo o m set q base c a first start (headed q start round) v r
 
 -- where something runs in a `switch`, it has so many dimensions
 abbrev pub RunHas : {V H : Type 0} → Meaning V H → ℕ → Option V → Type 0
@@ -110,18 +112,19 @@ ArmJumpsFit {V} m arms n r = (k : Exit) (u : V) → Contains (jumps_of k r) u �
 
 -- the arms of a `switch` at point q: whatever those that are left find, from what runs there, comes behind what was
 -- found so far, as a pass of the whole
-pub record SelectLoop {V H : Type 0} (m : Meaning V H) (set : Plan) (g : Node) (f : Option ℕ) (v : V) (q base : ℕ)
-    (e : Expr) (has_default : Bool) (other : V) (arms : Arms) (found : Found V) (running : Option V)
+pub record SelectLoop {V H : Type 0} (o : Others V) (m : Meaning V H) (set : Plan) (g : Node) (f : Option ℕ) (v : V)
+    (q base : ℕ) (e : Expr) (has_default : Bool) (other : V) (arms : Arms) (found : Found V) (running : Option V)
     (so_far : Option ℕ) (old memory : Memory V) : Type 0 where
   pub few : m.dims v ≤ most_live
   pub other_dims : m.dims other ≡ m.dims v
   pub running_dims : RunHas m (m.dims v) running
   pub fits : ArmsFit arms (m.dims v)
-  pub stays : (loops : ℕ → Node) → HasLoops loops g → MayRecall m set loops f old → ArmsHaveLoops loops arms ×
-      MayRecall m set loops so_far memory
-  pub passes : (t : Result V) → ArmsPass V H (dropping m) set q base e has_default v other arms so_far running t →
+  pub stays : (loops : ℕ → Node) → HasLoops loops g → MayRecall o m set loops f old → ArmsHaveLoops loops arms ×
+      MayRecall o m set loops so_far memory
+  pub passes : (t : Result V) →
+      ArmsPassAmong V H (dropping m) (admitted o m) set q base e has_default v other arms so_far running t →
       m.dims t.normal ≡ m.dims v → ArmJumpsFit m arms (m.dims v) t →
-      IsPassed m set g f v (in_turn (ended found v so_far) t t.normal t.flag)
+      IsPassed o m set g f v (in_turn (ended found v so_far) t t.normal t.flag)
 
 -- behind what led to v with this exactness, what is left of it where none of the labels is the expression's value
 abbrev pub NoneSoFar : {V H : Type 0} → Meaning V H → ℕ → Expr → List CaseLabel → V → Exactness → V → Exactness → Type 0
@@ -161,22 +164,22 @@ pub record ComesOutAt {V H : Type 0} (m : Meaning V H) (q : ℕ) (has_default : 
   pub found : r.found ≡ old.found
   pub dims : m.dims r.normal ≡ m.dims other
 
-module _ {V H : Type 0} (m : Meaning V H) (set : Plan) where
+module _ {V H : Type 0} (o : Others V) (m : Meaning V H) (set : Plan) where
   -- the pass can be made
   pub record MayBePassed (d : Due V) : Type 0 where
     pub few : m.dims d.value ≤ most_live
     pub fits : TreeFits d.tree (m.dims d.value)
-    pub remembers : Remembers m set d.tree d.flag d.memory
+    pub remembers : Remembers o m set d.tree d.flag d.memory
 
   -- it is made, with this result; this is kept then
   pub record IsMade (d : Due V) (r : Result V) (memory : Memory V) : Type 0 where
-    pub passed : IsPassed m set d.tree d.flag d.value r
-    pub stays : StaysKept m set d.tree d.flag d.memory r.flag memory
+    pub passed : IsPassed o m set d.tree d.flag d.value r
+    pub stays : StaysKept o m set d.tree d.flag d.memory r.flag memory
 
   -- a row of trees of which one is under way
   pub record IsRow (r : RowPlace V) (whole part : Due V) : Type 0 where
     pub plan : r.behind.plan.now ≡ set
-    pub loop : RowLoop m set whole.tree whole.flag whole.value
+    pub loop : RowLoop o m set whole.tree whole.flag whole.value
         (seq part.tree (row (map node_view r.behind.trees.now) (node_view r.behind.last.now)))
         r.found part.value part.flag whole.memory part.memory
 
@@ -241,7 +244,7 @@ module _ {V H : Type 0} (m : Meaning V H) (set : Plan) where
       (memory : Memory V) : Type 0 where
     pub begun : Memory V
     pub loop : IsLoop l whole first begun
-    pub head : HeadLoop m set l.point l.base (cond_view l.condition.now) (node_view l.body.now) whole.value whole.flag
+    pub head : HeadLoop o m set l.point l.base (cond_view l.condition.now) (node_view l.body.now) whole.value whole.flag
         growing turn begun memory
 
   pub record IsGrowing (g : GrowingPlace V H) (whole part : Due V) : Type 0 where
@@ -255,23 +258,23 @@ module _ {V H : Type 0} (m : Meaning V H) (set : Plan) where
     pub loop : IsLoop l whole first begun
     pub start : V
     pub round : Result V
-    pub grown : HasGrown m set l.point l.base (cond_view l.condition.now) (node_view l.body.now) whole.value whole.flag
-        start (headed l.point start round)
+    pub grown : HasGrown o m set l.point l.base (cond_view l.condition.now) (node_view l.body.now) whole.value
+        whole.flag start (headed l.point start round)
     pub between : Memory V
-    pub grown_stays : StaysKept m set (node_view l.body.now) whole.flag begun round.flag between
-    pub narrowed : NarrowLoop m set l.point l.base (cond_view l.condition.now) (node_view l.body.now) whole.value start
-        round left last.value last.turn.entered (seen last.turn.outcome) between memory
+    pub grown_stays : StaysKept o m set (node_view l.body.now) whole.flag begun round.flag between
+    pub narrowed : NarrowLoop o m set l.point l.base (cond_view l.condition.now) (node_view l.body.now) whole.value
+        start round left last.value last.turn.entered (seen last.turn.outcome) between memory
 
   -- a round of narrowing that is next: with whatever turn it ends, it is narrowed that far
   pub record IsWaiting (n : Narrowing V) (whole : Due V) (flag : Option ℕ) (memory : Memory V) : Type 0 where
     pub begun : Memory V
     pub loop : IsLoop n.the_loop whole n.first begun
     pub dims : m.dims n.top ≡ m.dims whole.value
-    pub remembers : Remembers m set (node_view n.the_loop.body.now) flag memory
+    pub remembers : Remembers o m set (node_view n.the_loop.body.now) flag memory
     pub narrows : (turn : Turn V) (new : Memory V) →
-        IsTurned m set n.the_loop.point n.the_loop.base (cond_view n.the_loop.condition.now)
+        IsTurned o m set n.the_loop.point n.the_loop.base (cond_view n.the_loop.condition.now)
         (node_view n.the_loop.body.now) flag n.top turn
-        → StaysKept m set (node_view n.the_loop.body.now) flag memory turn.outcome.flag new
+        → StaysKept o m set (node_view n.the_loop.body.now) flag memory turn.outcome.flag new
         → IsNarrowed n.the_loop whole n.first (record { value = n.top; turn = turn }) n.left new
 
   -- it is under way
@@ -288,7 +291,7 @@ module _ {V H : Type 0} (m : Meaning V H) (set : Plan) where
 
   -- it goes on along these arms
   abbrev pub SelectsOn : Selecting V → Due V → Arms → Found V → Option V → Option ℕ → Memory V → Type 0
-  SelectsOn s whole arms found running flag memory = SelectLoop m set whole.tree whole.flag whole.value
+  SelectsOn s whole arms found running flag memory = SelectLoop o m set whole.tree whole.flag whole.value
       s.selection.point s.selection.base (expr_view s.selection.value.now) s.has_default s.other arms found running
       flag whole.memory memory
 
@@ -304,7 +307,7 @@ module _ {V H : Type 0} (m : Meaning V H) (set : Plan) where
   -- in the place the part is under way, and with that the whole is to be made: one case for each kind of place
   abbrev pub IsOpen : place.Place V H → Due V → Due V → Type 0
   IsOpen (Row r) whole part = IsRow r whole part
-  IsOpen (Last x) whole part = RowLoop m set whole.tree whole.flag whole.value part.tree x part.value part.flag
+  IsOpen (Last x) whole part = RowLoop o m set whole.tree whole.flag whole.value part.tree x part.value part.flag
       whole.memory part.memory
   IsOpen (Choice k) whole part = IsChoice k whole part
   IsOpen (Branch b) whole part = IsBranch b.value whole part

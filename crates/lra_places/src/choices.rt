@@ -17,6 +17,7 @@ ghost use Rattle.lra_places.specs.StepsLeft.{next_left, place_left, tree_steps};
 use crate::places::{BranchPlace, ChoicePlace, Entering, Next, Place};
 use lra_change::{Kept, Sides, split};
 use lra_domain::{Domain, Exactness};
+use lra_others::Disturb;
 use lra_outcomes::{Choice, Outcome, note};
 use std::alloc::{AllocError, Global};
 
@@ -34,17 +35,19 @@ fn sides_of<D: Domain>(alloc: Global, choice: &Choice<'_>, value: D) -> Result<S
 }
 
 /// The branch where the condition is true is next.
-pub fn open_choice<'a, D: Domain>(
+pub fn open_choice<'a, D: Domain, F: Disturb<D>>(
     alloc: Global,
     choice: Choice<'a>,
     value: D,
     flag: Option<usize>,
 ) -> Result<Next<'a, D, D::Head>, AllocError>
     requires { D.meaning.dims value ≤ most_live }
-    ensures leads { (set : Plan) (whole : Due D) → choice.entry.plan.now ≡ set →
+    ensures leads { (others : F) (set : Plan) (whole : Due D) → choice.entry.plan.now ≡ set →
         whole.tree ≡ choose choice.entry.point choice.entry.base (cond_view choice.entry.condition.now)
-        (node_view choice.entry.yes.now) (node_view choice.entry.no.now) → whole.value ≡ value → whole.flag ≡ flag →
-        MayBePassed D.meaning set whole → IfOk result (λ next. Leads D.meaning set whole next whole.memory) }
+        (node_view choice.entry.yes.now) (node_view choice.entry.no.now) →
+        whole.value ≡ value → whole.flag ≡ flag →
+        MayBePassed (F.others others) D.meaning set whole →
+        IfOk result (λ next. Leads (F.others others) D.meaning set whole next whole.memory) }
     ensures steps { (b : ℕ) (set : Plan) → IfOk result (λ next. next_left D.meaning b set next
         ≡ 2 + (tree_steps D.meaning b set choice.entry.no.now + tree_steps D.meaning b set choice.entry.yes.now)) }
 {
@@ -60,14 +63,16 @@ pub fn open_choice<'a, D: Domain>(
 }
 
 /// Behind the first branch, the one where the condition is false is next.
-pub fn go_on_choice<'a, D: Domain>(
+pub fn go_on_choice<'a, D: Domain, F: Disturb<D>>(
     alloc: Global,
     place: ChoicePlace<'a, D>,
     first: Outcome<D>,
 ) -> Result<Next<'a, D, D::Head>, AllocError>
-    ensures leads { (set : Plan) (whole part : Due D) (memory : Memory D) → MayBePassed D.meaning set whole →
-        IsChoice D.meaning set place.entry whole part → IsMade D.meaning set part (seen first) memory →
-        IfOk result (λ next. Leads D.meaning set whole next memory) }
+    ensures leads { (others : F) (set : Plan) (whole part : Due D) (memory : Memory D) →
+        MayBePassed (F.others others) D.meaning set whole →
+        IsChoice (F.others others) D.meaning set place.entry whole part →
+        IsMade (F.others others) D.meaning set part (seen first) memory →
+        IfOk result (λ next. Leads (F.others others) D.meaning set whole next memory) }
     ensures falls { (b : ℕ) (set : Plan) → IfOk result (λ next. next_left D.meaning b set next
         < place_left D.meaning b set (choice_place place.entry)) }
 {

@@ -16,6 +16,7 @@ use lra_change::Kept;
 use lra_domain::Domain;
 use lra_flow::Seen;
 use lra_operations::{Arm, Exit, Node};
+use lra_others::Disturb;
 use lra_outcomes::{Choice, Found, Growing, Loop, Outcome, Row, Selection};
 use std::alloc::{AllocError, Global};
 
@@ -216,12 +217,12 @@ impl<'a, D: Drop, H: Drop> Places<'a, D, H> {
 }
 
 /// The tree is passed, with what its pass gave.
-pub fn passed<'a, D: Domain>(
+pub fn passed<'a, D: Domain, F: Disturb<D>>(
     given: Result<Outcome<D>, AllocError>,
 ) -> Result<Next<'a, D, D::Head>, AllocError>
-    ensures leads { (set : Plan) (whole : Due D) (memory : Memory D) →
-        IfOk given (λ r. IsMade D.meaning set whole (seen r) memory) →
-        IfOk result (λ next. Leads D.meaning set whole next memory) }
+    ensures leads { (others : F) (set : Plan) (whole : Due D) (memory : Memory D) →
+        IfOk given (λ r. IsMade (F.others others) D.meaning set whole (seen r) memory) →
+        IfOk result (λ next. Leads (F.others others) D.meaning set whole next memory) }
     ensures ends { (b : ℕ) (set : Plan) → IfOk result (λ next. next_left D.meaning b set next ≡ 0) }
 {
     let outcome = given?;

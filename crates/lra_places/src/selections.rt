@@ -29,6 +29,7 @@ use lra_domain::{Domain, Exactness, worse};
 use lra_flow::Seen;
 use lra_forms::see;
 use lra_operations::{Arm, Node, any_default};
+use lra_others::Disturb;
 use lra_outcomes::{Outcome, Running, Selection, note};
 use std::alloc::{AllocError, Global};
 
@@ -261,7 +262,7 @@ fn value_of_run<D: Domain>(
 }
 
 /// The tree of an arm is next: the arms behind it, and what was found before it, stay at its place.
-fn open_arm<'a, D: Domain>(
+fn open_arm<'a, D: Domain, F: Disturb<D>>(
     alloc: Global,
     selecting: Selecting<'a, D>,
     node: &'a Node,
@@ -270,13 +271,14 @@ fn open_arm<'a, D: Domain>(
 ) -> Result<Next<'a, D, D::Head>, AllocError>
     requires parts { 1 ≤ selecting.selection.plan.now.parts }
     requires few { D.meaning.dims selecting.from ≤ most_live }
-    ensures leads { (set : Plan) (whole : Due D) (memory : Memory D) →
+    ensures leads { (others : F) (set : Plan) (whole : Due D) (memory : Memory D) →
         selecting.entry.selection.plan.now ≡ set →
-        MayBePassed D.meaning set whole → IsSelecting D.meaning set selecting.entry whole →
-        SelectsOn D.meaning set selecting.entry whole
+        MayBePassed (F.others others) D.meaning set whole →
+        IsSelecting (F.others others) D.meaning set selecting.entry whole →
+        SelectsOn (F.others others) D.meaning set selecting.entry whole
         (arm (node_view node.now) (arms_of (map arm_view behind.now)))
         so_far.found so_far.normal so_far.flag memory →
-        IfOk result (λ next. Leads D.meaning set whole next memory) }
+        IfOk result (λ next. Leads (F.others others) D.meaning set whole next memory) }
     ensures steps { (b : ℕ) (set : Plan) → IfOk result (λ next. next_left D.meaning b set next
         ≡ (1 + arms_steps (most_rounds b set) behind.now) + tree_steps D.meaning b set node.now) }
 {
@@ -358,24 +360,25 @@ fn come_out<D: Domain>(
 }
 
 /// The labels that come next are entered, then the tree behind them is next; where no arm is left, the whole is passed.
-fn next_of_arms<'a, D: Domain>(
+fn next_of_arms<'a, D: Domain, F: Disturb<D>>(
     alloc: Global,
     selecting: Selecting<'a, D>,
     arms: &'a [Arm],
     so_far: Running<D>,
 ) -> Result<Next<'a, D, D::Head>, AllocError>
     requires parts { 1 ≤ selecting.selection.plan.now.parts }
-    requires way { (whole : Due D) × (memory : Memory D) ×
-        MayBePassed D.meaning selecting.selection.plan.now whole ×
-        IsSelecting D.meaning selecting.selection.plan.now selecting whole ×
-        SelectsOn D.meaning selecting.selection.plan.now selecting whole
+    requires way { (others : F) × (whole : Due D) × (memory : Memory D) ×
+        MayBePassed (F.others others) D.meaning selecting.selection.plan.now whole ×
+        IsSelecting (F.others others) D.meaning selecting.selection.plan.now selecting whole ×
+        SelectsOn (F.others others) D.meaning selecting.selection.plan.now selecting whole
         (arms_of (map arm_view arms.now)) so_far.found so_far.normal so_far.flag memory }
-    ensures leads { (set : Plan) (whole : Due D) (memory : Memory D) →
+    ensures leads { (others : F) (set : Plan) (whole : Due D) (memory : Memory D) →
         selecting.entry.selection.plan.now ≡ set →
-        MayBePassed D.meaning set whole → IsSelecting D.meaning set selecting.entry whole →
-        SelectsOn D.meaning set selecting.entry whole (arms_of (map arm_view arms.now))
-        so_far.found so_far.normal so_far.flag memory →
-        IfOk result (λ next. Leads D.meaning set whole next memory) }
+        MayBePassed (F.others others) D.meaning set whole →
+        IsSelecting (F.others others) D.meaning set selecting.entry whole →
+        SelectsOn (F.others others) D.meaning set selecting.entry whole
+        (arms_of (map arm_view arms.now)) so_far.found so_far.normal so_far.flag memory →
+        IfOk result (λ next. Leads (F.others others) D.meaning set whole next memory) }
     ensures falls { (b : ℕ) (set : Plan) → IfOk result (λ next. next_left D.meaning b set next
         ≤ arms_steps (most_rounds b set) arms.now) }
 {
@@ -384,28 +387,31 @@ fn next_of_arms<'a, D: Domain>(
     'arms: while let Some((arm, behind)) = left.split_first() {
         match arm {
             Arm::Entry(label) => running = enter(alloc, &selecting, label, running)?,
-            Arm::Tree(node) => return open_arm(alloc, selecting, node, behind, running),
+            Arm::Tree(node) => {
+                return open_arm::<D, F>(alloc, selecting, node, behind, running);
+            }
         }
         left = behind;
     }
-    passed(come_out(selecting, running))
+    passed::<D, F>(come_out(selecting, running))
 }
 
 /// What a `switch` begins with: what is seen of the value, and what no label matches. Nothing runs in its arms yet.
-fn begin_selection<'a, D: Domain>(
+fn begin_selection<'a, D: Domain, F: Disturb<D>>(
     alloc: Global,
     selection: Selection<'a>,
     value: D,
     flag: Option<usize>,
 ) -> Result<(Selecting<'a, D>, Running<D>), AllocError>
     requires { D.meaning.dims value ≤ most_live }
-    ensures { (set : Plan) (whole : Due D) → selection.entry.plan.now ≡ set →
+    ensures { (others : F) (set : Plan) (whole : Due D) → selection.entry.plan.now ≡ set →
         whole.tree ≡ select selection.entry.point selection.entry.base
         (expr_view selection.entry.value.now)
         (arms_of (map arm_view selection.entry.arms.now)) → whole.value ≡ value →
-        whole.flag ≡ flag → MayBePassed D.meaning set whole →
-        IfOk result (λ r. IsSelecting D.meaning set r.0 whole ×
-        SelectsOn D.meaning set r.0 whole (arms_of (map arm_view selection.entry.arms.now))
+        whole.flag ≡ flag → MayBePassed (F.others others) D.meaning set whole →
+        IfOk result (λ r. IsSelecting (F.others others) D.meaning set r.0 whole ×
+        SelectsOn (F.others others) D.meaning set r.0 whole
+        (arms_of (map arm_view selection.entry.arms.now))
         r.1.found r.1.normal r.1.flag whole.memory) }
 {
     let seen = see(alloc, value.dims(), selection.base, selection.value)?;
@@ -422,45 +428,46 @@ fn begin_selection<'a, D: Domain>(
 }
 
 /// The first tree in the `switch` is next: first comes the value of no match, then the labels before that tree.
-pub fn open_selection<'a, D: Domain>(
+pub fn open_selection<'a, D: Domain, F: Disturb<D>>(
     alloc: Global,
     selection: Selection<'a>,
     value: D,
     flag: Option<usize>,
 ) -> Result<Next<'a, D, D::Head>, AllocError>
     requires parts { 1 ≤ selection.plan.now.parts }
-    requires way { (whole : Due D) × MayBePassed D.meaning selection.plan.now whole ×
+    requires way { (others : F) × (whole : Due D) ×
+        MayBePassed (F.others others) D.meaning selection.plan.now whole ×
         (whole.tree ≡ select selection.point selection.base (expr_view selection.value.now)
         (arms_of (map arm_view selection.arms.now))) × (whole.value ≡ value) × (whole.flag ≡ flag) }
-    ensures leads { (set : Plan) (whole : Due D) → selection.entry.plan.now ≡ set →
+    ensures leads { (others : F) (set : Plan) (whole : Due D) → selection.entry.plan.now ≡ set →
         whole.tree ≡ select selection.entry.point selection.entry.base
         (expr_view selection.entry.value.now)
         (arms_of (map arm_view selection.entry.arms.now)) → whole.value ≡ value →
         whole.flag ≡ flag →
-        MayBePassed D.meaning set whole →
-        IfOk result (λ next. Leads D.meaning set whole next whole.memory) }
+        MayBePassed (F.others others) D.meaning set whole →
+        IfOk result (λ next. Leads (F.others others) D.meaning set whole next whole.memory) }
     ensures falls { (b : ℕ) (set : Plan) → IfOk result (λ next. next_left D.meaning b set next
         ≤ arms_steps (most_rounds b set) selection.entry.arms.now) }
 {
-    let (selecting, so_far) = begin_selection(alloc, selection, value, flag)?;
-    next_of_arms(alloc, selecting, selection.arms, so_far)
+    let (selecting, so_far) = begin_selection::<D, F>(alloc, selection, value, flag)?;
+    next_of_arms::<D, F>(alloc, selecting, selection.arms, so_far)
 }
 
 /// What the tree of an arm gave comes behind what was found before it, and runs on in the arms behind.
-pub fn go_on_selection<'a, D: Domain>(
+pub fn go_on_selection<'a, D: Domain, F: Disturb<D>>(
     alloc: Global,
     place: SelectPlace<'a, D>,
     outcome: Outcome<D>,
 ) -> Result<Next<'a, D, D::Head>, AllocError>
-    requires { (set : Plan) × (whole : Due D) × (part : Due D) × (memory : Memory D) ×
-        (1 ≤ set.parts) ×
-        MayBePassed D.meaning set whole × IsSelect D.meaning set place whole part ×
-        IsMade D.meaning set part (seen outcome) memory }
-    ensures leads { (set : Plan) (whole part : Due D) (memory : Memory D) →
-        MayBePassed D.meaning set whole →
-        IsSelect D.meaning set place.entry whole part →
-        IsMade D.meaning set part (seen outcome) memory →
-        IfOk result (λ next. Leads D.meaning set whole next memory) }
+    requires { (others : F) × (set : Plan) × (whole : Due D) × (part : Due D) ×
+        (memory : Memory D) × (1 ≤ set.parts) × MayBePassed (F.others others) D.meaning set whole ×
+        IsSelect (F.others others) D.meaning set place whole part ×
+        IsMade (F.others others) D.meaning set part (seen outcome) memory }
+    ensures leads { (others : F) (set : Plan) (whole part : Due D) (memory : Memory D) →
+        MayBePassed (F.others others) D.meaning set whole →
+        IsSelect (F.others others) D.meaning set place.entry whole part →
+        IsMade (F.others others) D.meaning set part (seen outcome) memory →
+        IfOk result (λ next. Leads (F.others others) D.meaning set whole next memory) }
     ensures falls { (b : ℕ) (set : Plan) → IfOk result (λ next. next_left D.meaning b set next
         ≤ arms_steps (most_rounds b set) place.entry.behind.now) }
 {
@@ -470,5 +477,5 @@ pub fn go_on_selection<'a, D: Domain>(
         found,
     } = place;
     let so_far = found.follow_with(outcome)?;
-    next_of_arms(alloc, selecting, behind, Running::after(so_far))
+    next_of_arms::<D, F>(alloc, selecting, behind, Running::after(so_far))
 }

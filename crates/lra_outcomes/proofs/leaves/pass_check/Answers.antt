@@ -1,5 +1,6 @@
 -- Goals of `pass_check`: both sides of the condition.
 use Rattle.std.proofs.Common.{[], ◌∷◌, refl, subst, true, false}
+use Rattle.lra_others.specs.Others.{nobody}
 use Rattle.lra_domain.specs.declared.Exactness.{Exactness}
 use Rattle.lra_program.specs.ProgramViews.{cond_view}
 use Rattle.lra_change.specs.Sides.{SplitsBy}
@@ -26,7 +27,7 @@ returns g c plan =
     (record { value = so_far.normal; exactness = Exactness.Exact }) sides =
     subst (λ v. SplitsBy m c.args.base true condition
     (record { value = v; exactness = Exactness.Exact }) sides) c.in_ok-copy.ensures c.in_ok-sides.ensures in
-    goes_further m plan so_far (check at c.args.base condition) c.push.new.self xs on.value c.note-so_far.result
+    goes_further nobody m plan so_far (check at c.args.base condition) c.push.new.self xs on.value c.note-so_far.result
     (entry_more so_far.found.entries.items c.push.new.self.items _ _ c.in_ok-push.ensures.items refl) (
       off.value,
       on.value,

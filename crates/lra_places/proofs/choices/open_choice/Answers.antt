@@ -3,6 +3,6 @@ use Rattle.lra_places.proofs.OpenPlaces.{choice_opens}
 use Rattle.lra_places.proofs.choices.open_choice.Goals as goal
 
 pub returns-clause-leads : goal.returns-clause-leads
-returns-clause-leads g c set whole plan is first flagged may =
-    choice_opens g.D.Domain.meaning set c.args.choice c.in_ok-sides.sides c.args.value c.args.flag c.note.result whole
-    c.in_ok-sides.ensures c.note.ensures plan is first flagged may
+returns-clause-leads g c others set whole plan is first flagged may =
+    choice_opens (g.F.Disturb.others others) g.D.Domain.meaning set c.args.choice c.in_ok-sides.sides c.args.value
+    c.args.flag c.note.result whole c.in_ok-sides.ensures c.note.ensures plan is first flagged may

@@ -1,18 +1,22 @@
 -- Goals of `next_of_last`: the last of the trees is passed, or next.
 use Rattle.std.proofs.Common.{[], refl, arith}
 use Rattle.lra_outcomes.specs.Flat.{flat_view}
+use Rattle.lra_outcomes.proofs.AnyOthers.{flat_among}
 use Rattle.lra_places.proofs.OpenPlaces.{last_leads}
 use Rattle.lra_places.proofs.RowLeaves.{last_followed}
 use Rattle.lra_places.proofs.rows.next_of_last.Goals as goal
 
 pub returns-in-Some-clause-leads : goal.returns-in-Some-clause-leads
-returns-in-Some-clause-leads g c set whole memory plan may loop =
-    last_followed g.D.Domain.meaning set c.args.plan.now c.args.node.now (flat_view c.in-Some.flat) whole memory c.args.so_far
-    c.pass_on.new.so_far plan c.in-Some.ensures.0 c.in_ok-pass_on.ensures loop
+returns-in-Some-clause-leads g c others set whole memory plan may loop =
+    let o = g.F.Disturb.others others in
+    last_followed o g.D.Domain.meaning set c.args.plan.now c.args.node.now (flat_view c.in-Some.flat) whole memory
+    c.args.so_far c.pass_on.new.so_far plan c.in-Some.ensures.0
+    (flat_among o g.D.Domain.meaning c.args.plan.now c.in-Some.flat c.args.so_far c.pass_on.new.so_far
+    c.in-Some.ensures.1 c.in_ok-pass_on.ensures) loop
 
 pub returns : goal.returns
 returns g c = record {
-  leads = λ set whole memory plan may loop. last_leads g.D.Domain.meaning set [] c.args.so_far.found c.args.node.now
-      c.args.so_far.normal c.args.so_far.flag whole memory refl may loop;
+  leads = λ others set whole memory plan may loop. last_leads (g.F.Disturb.others others) g.D.Domain.meaning set []
+      c.args.so_far.found c.args.node.now c.args.so_far.normal c.args.so_far.flag whole memory refl may loop;
   falls = λ b set. omega arith;
 }

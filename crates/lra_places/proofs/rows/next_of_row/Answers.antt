@@ -4,6 +4,7 @@ use Rattle.std.proofs.lemmas.List.{nil_from_length}
 use Rattle.lra_outcomes.specs.declared.shapes.Row.{Row}
 use Rattle.lra_outcomes.specs.Flat.{flat_view}
 use Rattle.lra_places.specs.StepsLeft.{most_rounds}
+use Rattle.lra_outcomes.proofs.AnyOthers.{flat_among}
 use Rattle.lra_places.proofs.RowLeaves.{first_fits, last_falls, first_followed, row_alone, steps_less, steps_within}
 use Rattle.lra_places.proofs.rows.next_of_row.Goals as goal
 
@@ -15,8 +16,8 @@ returns-in_default-of g c =
     let all = c.leaves.left.now in
     let first : all ≡ c.in-Some.node.now ∷ c.in-Some.behind.now = search rules in
     record {
-      leads = λ set whole memory plan may loop. c.open_first.ensures.leads set whole memory all plan first may
-          (c.leaves.invariant.owes set whole memory plan may loop);
+      leads = λ others set whole memory plan may loop. c.open_first.ensures.leads others set whole memory all plan first
+          may (c.leaves.invariant.owes others set whole memory plan may loop);
       falls = λ b set. steps_within _ _ _ (c.open_first.ensures.steps b set all first)
           (c.leaves.invariant.steps (most_rounds b set));
     }
@@ -26,15 +27,15 @@ returns-in_default-of g c =
 pub pass_on-requires-clause-few : goal.pass_on-requires-clause-few
 pass_on-requires-clause-few g c =
     let way = c.requires.way in
-    (c.leaves.invariant.owes c.args.the_row.plan.now way.0 way.1 refl way.2 way.3).few
+    (c.leaves.invariant.owes way.0 c.args.the_row.plan.now way.1 way.2 refl way.3 way.4).few
 
 pub pass_on-requires-clause-fits : goal.pass_on-requires-clause-fits
 pass_on-requires-clause-fits g c =
     let way = c.requires.way in
     let first : c.leaves.left.now ≡ c.in-Some.node.now ∷ c.in-Some.behind.now = search rules in
-    first_fits g.D.Domain.meaning c.args.the_row.plan.now c.leaves.left.now c.in-Some.behind.now c.in-Some.node.now
-    c.args.the_row.last.now (flat_view c.in-Some-of.flat) way.0 way.1 c.leaves.so_far first c.in-Some-of.ensures.0
-    (c.leaves.invariant.owes c.args.the_row.plan.now way.0 way.1 refl way.2 way.3)
+    first_fits (g.F.Disturb.others way.0) g.D.Domain.meaning c.args.the_row.plan.now c.leaves.left.now
+    c.in-Some.behind.now c.in-Some.node.now c.args.the_row.last.now (flat_view c.in-Some-of.flat) way.1 way.2 c.leaves.so_far first c.in-Some-of.ensures.0
+    (c.leaves.invariant.owes way.0 c.args.the_row.plan.now way.1 way.2 refl way.3 way.4)
 
 pub leaves-preserved : goal.leaves-preserved
 leaves-preserved g c =
@@ -45,9 +46,13 @@ leaves-preserved g c =
       last = c.args.the_row.last;
     } in
     record {
-      owes = λ set whole memory plan may loop. first_followed g.D.Domain.meaning set behind c.leaves.left.now
-          c.in-Some.node.now (flat_view c.in-Some-of.flat) whole memory c.leaves.so_far c.pass_on.new.so_far plan first
-          c.in-Some-of.ensures.0 c.in_ok-pass_on.ensures (c.leaves.invariant.owes set whole memory plan may loop);
+      owes = λ others set whole memory plan may loop.
+          let o = g.F.Disturb.others others in
+          first_followed o g.D.Domain.meaning set behind c.leaves.left.now c.in-Some.node.now
+          (flat_view c.in-Some-of.flat) whole memory c.leaves.so_far c.pass_on.new.so_far plan first
+          c.in-Some-of.ensures.0 (flat_among o g.D.Domain.meaning c.args.the_row.plan.now c.in-Some-of.flat
+          c.leaves.so_far c.pass_on.new.so_far c.in-Some-of.ensures.1 c.in_ok-pass_on.ensures)
+          (c.leaves.invariant.owes others set whole memory plan may loop);
       steps = λ n. steps_less n c.args.the_row.trees.now c.leaves.left.now c.in-Some.behind.now c.in-Some.node.now
           c.args.the_row.last.now first (c.leaves.invariant.steps n);
     }
@@ -57,20 +62,21 @@ leaves-preserved g c =
 pub next_of_last-requires-clause-few : goal.next_of_last-requires-clause-few
 next_of_last-requires-clause-few g c =
     let way = c.requires.way in
-    (c.leaves.invariant.owes c.args.the_row.plan.now way.0 way.1 refl way.2 way.3).few
+    (c.leaves.invariant.owes way.0 c.args.the_row.plan.now way.1 way.2 refl way.3 way.4).few
 
 pub next_of_last-requires-clause-fits : goal.next_of_last-requires-clause-fits
 next_of_last-requires-clause-fits g c =
     let way = c.requires.way in
     let none = nil_from_length c.leaves.left.now c.in_default.ensures.cases in
-    (row_alone g.D.Domain.meaning c.args.the_row.plan.now c.leaves.left.now c.args.the_row.last.now way.0 way.1
-    c.leaves.so_far none (c.leaves.invariant.owes c.args.the_row.plan.now way.0 way.1 refl way.2 way.3)).fits
+    (row_alone (g.F.Disturb.others way.0) g.D.Domain.meaning c.args.the_row.plan.now c.leaves.left.now
+    c.args.the_row.last.now way.1 way.2 c.leaves.so_far none (c.leaves.invariant.owes way.0 c.args.the_row.plan.now way.1 way.2 refl way.3 way.4)).fits
 
 pub returns-clause-leads : goal.returns-clause-leads
-returns-clause-leads g c set whole memory plan may loop =
+returns-clause-leads g c others set whole memory plan may loop =
     let none = nil_from_length c.leaves.left.now c.in_default.ensures.cases in
-    c.next_of_last.ensures.leads set whole memory plan may (row_alone g.D.Domain.meaning set c.leaves.left.now
-    c.args.the_row.last.now whole memory c.leaves.so_far none (c.leaves.invariant.owes set whole memory plan may loop))
+    c.next_of_last.ensures.leads others set whole memory plan may
+    (row_alone (g.F.Disturb.others others) g.D.Domain.meaning set c.leaves.left.now c.args.the_row.last.now whole memory
+    c.leaves.so_far none (c.leaves.invariant.owes others set whole memory plan may loop))
 
 pub returns-clause-falls : goal.returns-clause-falls
 returns-clause-falls g c b set =

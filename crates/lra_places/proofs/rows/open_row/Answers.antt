@@ -7,16 +7,17 @@ next_of_row-requires-clause-way g c =
     let way = c.requires.way in
     let begun = c.nothing_yet.ensures in (
       way.0,
-      way.0.memory,
       way.1,
-      row_opened g.D.Domain.meaning c.args.the_row.plan.now c.args.the_row.trees.now
-          c.args.the_row.last.now way.0 c.args.value c.args.flag c.nothing_yet.result way.2 way.3 way.4 way.1 begun.found
+      way.1.memory,
+      way.2,
+      row_opened (g.F.Disturb.others way.0) g.D.Domain.meaning c.args.the_row.plan.now c.args.the_row.trees.now
+          c.args.the_row.last.now way.1 c.args.value c.args.flag c.nothing_yet.result way.3 way.4 way.5 way.2 begun.found
           begun.normal begun.flag,
     )
 
 pub returns-clause-leads : goal.returns-clause-leads
-returns-clause-leads g c set whole plan is first flagged may =
+returns-clause-leads g c others set whole plan is first flagged may =
     let begun = c.nothing_yet.ensures in
-    c.next_of_row.ensures.leads set whole whole.memory plan may
-    (row_opened g.D.Domain.meaning set c.args.the_row.trees.now c.args.the_row.last.now whole c.args.value c.args.flag
-    c.nothing_yet.result is first flagged may begun.found begun.normal begun.flag)
+    c.next_of_row.ensures.leads others set whole whole.memory plan may
+    (row_opened (g.F.Disturb.others others) g.D.Domain.meaning set c.args.the_row.trees.now c.args.the_row.last.now whole
+    c.args.value c.args.flag c.nothing_yet.result is first flagged may begun.found begun.normal begun.flag)

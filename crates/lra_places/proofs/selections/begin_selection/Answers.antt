@@ -15,11 +15,12 @@ see-requires g c =
 
 pub match_none-requires-clause-width : goal.match_none-requires-clause-width
 match_none-requires-clause-width g c =
-    seen_wide g.D.Domain.meaning c.args.selection.plan.now c.in_ok-seen.seen c.args.value c.args.value c.dims.result c.args.selection.base
+    seen_wide g.D.Domain.meaning c.in_ok-seen.seen c.args.value c.args.value c.dims.result c.args.selection.base
     (expr_view c.args.selection.value.now) c.in_ok-seen.ensures c.dims.ensures refl
 
 pub returns : goal.returns
-returns g c set whole plan is first flagged may =
+returns g c others set whole plan is first flagged may =
+    let o = g.F.Disturb.others others in
     let m = g.D.Domain.meaning in
     let base = c.args.selection.base in
     let e = expr_view c.args.selection.value.now in
@@ -33,8 +34,8 @@ returns g c set whole plan is first flagged may =
     } in
     let begun = c.nothing.ensures in
     let same : c.in_ok-seen.seen ≡ seen_of (m.dims c.args.value) base e = c.in_ok-seen.ensures ∙ ap (λ n. seen_of n base e) c.dims.ensures in (
-      begun_selecting m set s whole c.args.value c.dims.result plan refl first c.in_ok-seen.ensures c.dims.ensures,
-      selection_begins m set s whole (arms_of (map arm_view c.args.selection.arms.now)) c.args.value c.args.flag none.exactness c.nothing.result is first flagged
-          may (c.in_ok-none.ensures.leaves base e same) c.in_ok-none.ensures.dims c.any_default.ensures begun.found begun.normal
+      begun_selecting o m set s whole c.args.value c.dims.result plan refl first c.in_ok-seen.ensures c.dims.ensures,
+      selection_begins o m set s whole (arms_of (map arm_view c.args.selection.arms.now)) c.args.value c.args.flag none.exactness c.nothing.result is
+          first flagged may (c.in_ok-none.ensures.leaves base e same) c.in_ok-none.ensures.dims c.any_default.ensures begun.found begun.normal
           (begun.flag ∙ c.note-flagged.ensures),
     )

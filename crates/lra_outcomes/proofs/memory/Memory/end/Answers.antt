@@ -7,11 +7,11 @@ use Rattle.lra_outcomes.specs.Outcome.{IsKept}
 use Rattle.lra_outcomes.proofs.memory.Memory.end.Goals as goal
 
 pub returns-then-self-eq0 : goal.returns-then-self-eq0
-returns-then-self-eq0 g c plan loops all one =
-    subst (λ xs. All (IsRecalled g.D.Domain.meaning plan loops c.args.outcome.now.flag) xs) (sym c.new.ensures.items)
+returns-then-self-eq0 g c others plan loops all one =
+    subst (λ xs. All (IsRecalled (g.F.Disturb.others others) g.D.Domain.meaning plan loops c.args.outcome.now.flag) xs) (sym c.new.ensures.items)
     (λ k d below. absurd (omega (arith, below)))
 
 pub returns : goal.returns
-returns g c plan loops all one = c.keep.ensures plan loops c.args.outcome.now.flag all
-    (subst (λ (r : Result g.row.D.Denot). IsKept g.D.Domain.meaning plan (loops c.args.point) c.args.outcome.now.flag
+returns g c others plan loops all one = c.keep.ensures others plan loops c.args.outcome.now.flag all
+    (subst (λ (r : Result g.row.D.Denot). IsKept (g.F.Disturb.others others) g.D.Domain.meaning plan (loops c.args.point) c.args.outcome.now.flag
     c.args.first r) (sym c.in_ok-outcome.ensures) one)

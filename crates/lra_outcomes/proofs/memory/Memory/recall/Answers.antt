@@ -4,12 +4,13 @@ use Rattle.lra_outcomes.proofs.KeptLoops.{recalled}
 use Rattle.lra_outcomes.proofs.memory.Memory.recall.Goals as goal
 
 pub returns : goal.returns
-returns g c plan loops all =
+returns g c others plan loops all =
     let place = c.in-Some.place in
     let one = c.index-one.result.now in
     let same : c.index-one.result.now.first ≡ c.args.first.now = search rules in
     let at : c.index-one.result.now ≡ slice_index_or c.args.self.now.kept.items c.in-Some.place c.index-one.result.now = search rules in
     let below = subst (λ xs. place < length xs) c.deref.ensures.value (c.find_kept.ensures.inside place c.in-Some.is) in
     let numbered = subst (λ xs. (slice_index_or xs place one).point ≡ c.args.point) c.deref.ensures.value (c.find_kept.ensures.point place one c.in-Some.is) in
-    recalled g.D.Domain.meaning plan loops c.args.point c.args.flag c.args.self.now.kept.items place one c.args.first.now c.in_ok-outcome.outcome all below at numbered same
+    recalled (g.F.Disturb.others others) g.D.Domain.meaning plan loops c.args.point c.args.flag
+    c.args.self.now.kept.items place one c.args.first.now c.in_ok-outcome.outcome all below at numbered same
     c.in_ok-outcome.ensures

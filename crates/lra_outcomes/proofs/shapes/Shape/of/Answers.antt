@@ -2,8 +2,8 @@
 use Rattle.std.proofs.Common.{refl, ap, ◌∙◌}
 use Rattle.lra_operations.specs.GraphViews.{node_view}
 use Rattle.lra_outcomes.specs.Steps.{node_steps}
-use Rattle.lra_forms.proofs.TreeViews.{act_view, check_view, empty_view, leave_view, point_view}
-use Rattle.lra_outcomes.proofs.PassSteps.{empty_steps, point_steps}
+use Rattle.lra_forms.proofs.TreeViews.{act_view, aside_view, check_view, empty_view, leave_view, point_view}
+use Rattle.lra_outcomes.proofs.PassSteps.{aside_steps, empty_steps, point_steps}
 use Rattle.lra_outcomes.proofs.PassSteps.{act_steps, check_steps, leave_steps, seq_shown, seq_taken, choose_shown, choose_taken}
 use Rattle.lra_outcomes.proofs.PassSteps.{iterate_shown, iterate_taken, catch_shown, catch_taken, select_shown, select_taken}
 use Rattle.lra_outcomes.proofs.shapes.Shape.of.Goals as goal
@@ -15,6 +15,11 @@ returns-in-Empty c =
 pub returns-in-Point : goal.returns-in-Point
 returns-in-Point c =
     (ap node_view c.in-Point.is ∙ point_view c.in-Point.point, λ n. ap (node_steps n) c.in-Point.is ∙ point_steps n c.in-Point.point)
+
+pub returns-in-Aside : goal.returns-in-Aside
+returns-in-Aside c =
+    let k = c.in-Aside in
+    (ap node_view k.is ∙ aside_view k.point k.what, λ n. ap (node_steps n) k.is ∙ aside_steps n k.point k.what)
 
 pub returns-in-Act : goal.returns-in-Act
 returns-in-Act c =
